@@ -4,9 +4,6 @@ use Rattle.std.proofs.Common.{◌≡◌, ℕ, List, [], ◌++◌, sym, ap, ◌�
 pub two_added : (x a b : List ℕ) {p q : List ℕ} → p ≡ x ++ a → q ≡ p ++ b → q ≡ x ++ (a ++ b)
 two_added x a b first second = second ∙ ap (λ t. t ++ b) first ∙ append_assoc x a b
 
-pub three_added : (x a b c : List ℕ) {p q r : List ℕ} → p ≡ x ++ a → q ≡ p ++ b → r ≡ q ++ c → r ≡ x ++ (a ++ (b ++ c))
-three_added x a b c {p} first second third = two_added x a (b ++ c) first (two_added p b c second third)
-
 -- where nothing is left to add, what is added is all
-pub all_added : (x all left last p q : List ℕ) → left ≡ [] → p ++ left ≡ x ++ all → q ≡ p ++ last → q ≡ x ++ (all ++ last)
-all_added x all left last p q none added more = two_added x all last (sym (append-nil p) ∙ ap (λ t. p ++ t) (sym none) ∙ added) more
+pub none_left : (p left : List ℕ) {whole : List ℕ} → left ≡ [] → p ++ left ≡ whole → p ≡ whole
+none_left p left none added = sym (append-nil p) ∙ ap (λ t. p ++ t) (sym none) ∙ added

@@ -117,8 +117,8 @@ same_key one (Some text) (Some a) None p q = absurd q
 same_key one (Some text) (Some a) (Some b) p q = ap Some (one (key_rank a) (key_rank b) p.0 q.0 (sym p.1 ∙ q.1))
 
 -- the day under which a listing goes on is one
-same_day_from : (a b : Display) (v w : Window) → Alike a b → v.from ≡ w.from → v.to ≡ w.to → (start : ℤ) → day_from a v start ≡ day_from b w start
-same_day_from a b v w h from to start =
+same_day_from : {a b : Display} (v w : Window) → Alike a b → v.from ≡ w.from → v.to ≡ w.to → (start : ℤ) → day_from a v start ≡ day_from b w start
+same_day_from {a = a} v w h from to start =
     ap₂ (λ (from to : ℤ). if int_lt start to then date_at (display_clock a) (int_max start from) else pos 2_147_483_647) from to
     ∙ ap (λ (offset : ℤ). if int_lt start w.to then day_of_local (int_max start w.from +ℤ offset) else pos 2_147_483_647) (h.offset (int_max start w.from))
 
@@ -140,30 +140,27 @@ day_rank day key = record { day = day; key = key }
 same_day_rank : (a b : DayRank) → a.day ≡ b.day → a.key ≡ b.key → a ≡ b
 same_day_rank a b day key = ap₂ day_rank day key
 
--- the key under a day of a token is one
-same_day_key : OneSpelling → OneDaySpelling → (a b : Display) (v w : Window) → ((start : ℤ) → day_from a v start ≡ day_from b w start) →
-    (text : Text) (k l : DayRank)
-    → IsDayKeyBy a v text k → IsDayKeyBy b w text l → k ≡ l
-same_day_key one days a b v w from text k l (inl p) (inl q) = days k l p.0 q.0 (sym p.1 ∙ q.1)
-same_day_key one days a b v w from text k l (inl p) (inr q) = absurd (no_both k l.key (sym p.1 ∙ q.1))
-same_day_key one days a b v w from text k l (inr p) (inl q) = absurd (no_both l k.key (sym q.1 ∙ p.1))
-same_day_key one days a b v w from text k l (inr p) (inr q) =
-    let key = one k.key l.key p.0 q.0 (sym p.1 ∙ q.1) in
-    same_day_rank k l (p.2 ∙ (ap (λ (r : Rank). day_from a v r.start) key ∙ (from l.key.start ∙ sym q.2))) key
-
-same_day_after : OneSpelling → OneDaySpelling → (a b : Display) (v w : Window) → ((start : ℤ) → day_from a v start ≡ day_from b w start) →
-    (given : Option Text) (k l : Option DayKey)
-    → IsDayKeyOf a v given k → IsDayKeyOf b w given l → option_map day_key_rank k ≡ option_map day_key_rank l
-same_day_after one days a b v w from None None None p q = refl
-same_day_after one days a b v w from None None (Some l) p q = absurd q
-same_day_after one days a b v w from None (Some k) l p q = absurd p
-same_day_after one days a b v w from (Some text) None l p q = absurd p
-same_day_after one days a b v w from (Some text) (Some k) None p q = absurd q
-same_day_after one days a b v w from (Some text) (Some k) (Some l) p q = ap Some (same_day_key one days a b v w from text (day_key_rank k) (day_key_rank l) p q)
-
 -- the keys after which a listing goes on are the same
 module _ (one : OneSpelling) (days : OneDaySpelling) (entries : Entries) (a b : Display) (v w : Window) (from : (start : ℤ) →
     day_from a v start ≡ day_from b w start) where
+  -- the key under a day of a token is one
+  same_day_key : (text : Text) (k l : DayRank) → IsDayKeyBy a v text k → IsDayKeyBy b w text l → k ≡ l
+  same_day_key text k l (inl p) (inl q) = days k l p.0 q.0 (sym p.1 ∙ q.1)
+  same_day_key text k l (inl p) (inr q) = absurd (no_both k l.key (sym p.1 ∙ q.1))
+  same_day_key text k l (inr p) (inl q) = absurd (no_both l k.key (sym q.1 ∙ p.1))
+  same_day_key text k l (inr p) (inr q) =
+      let key = one k.key l.key p.0 q.0 (sym p.1 ∙ q.1) in
+      same_day_rank k l (p.2 ∙ (ap (λ (r : Rank). day_from a v r.start) key ∙ (from l.key.start ∙ sym q.2))) key
+
+  same_day_after : (given : Option Text) (k l : Option DayKey) → IsDayKeyOf a v given k → IsDayKeyOf b w given l →
+      option_map day_key_rank k ≡ option_map day_key_rank l
+  same_day_after None None None p q = refl
+  same_day_after None None (Some l) p q = absurd q
+  same_day_after None (Some k) l p q = absurd p
+  same_day_after (Some text) None l p q = absurd p
+  same_day_after (Some text) (Some k) None p q = absurd q
+  same_day_after (Some text) (Some k) (Some l) p q = ap Some (same_day_key text (day_key_rank k) (day_key_rank l) p q)
+
   same_once : (k l : Option Key) (c d : Option EveryDay) → IsAfterBy entries a v k c → IsAfterBy entries b w l d → option_map key_rank k ≡ option_map key_rank l
   same_once k l None None p q = same_key one (after_text entries) k l p.1 q.1
   same_once k l None (Some d) p q = absurd (p.0 q.0)
@@ -175,7 +172,7 @@ module _ (one : OneSpelling) (days : OneDaySpelling) (entries : Entries) (a b : 
   same_every_day k l None None p q = refl
   same_every_day k l None (Some d) p q = absurd (p.0 q.0)
   same_every_day k l (Some c) None p q = absurd (q.0 p.0)
-  same_every_day k l (Some c) (Some d) p q = ap Some (same_day_after one days a b v w from (after_text entries) c.after d.after p.2 q.2)
+  same_every_day k l (Some c) (Some d) p q = ap Some (same_day_after (after_text entries) c.after d.after p.2 q.2)
 
 -- a request was made of two formats
 no_format : (entries : Entries) (now : ℤ) (a : Request) → IsRequest entries now a
@@ -200,11 +197,11 @@ pub record Readings : Type 0 where
   pub entries : OneFormat entry_name
   pub days : OneFormat day_name
 
-same_request : Readings → (entries : Entries) (now : ℤ) (a b : Request) → IsRequest entries now a → IsRequest entries now b → SameRequest a b
-same_request one entries now a b p q =
+same_request : Readings → {entries : Entries} {now : ℤ} {a b : Request} → IsRequest entries now a → IsRequest entries now b → SameRequest a b
+same_request one {entries = entries} {now = now} {a = a} {b = b} p q =
     let zone = p.zone ∙ sym q.zone in
     let ends = same_pair _ _ _ _ (p.window ∙ (same_ends a.zone b.zone now (span_of entries) (one.display a.zone b.zone zone) ∙ sym q.window)) in
-    let from = same_day_from a.zone b.zone a.window b.window (one.display a.zone b.zone zone) ends.0 ends.1 in
+    let from = same_day_from a.window b.window (one.display a.zone b.zone zone) ends.0 ends.1 in
     record {
       folder = p.folder ∙ sym q.folder;
       zone = zone;
@@ -226,11 +223,11 @@ module _ (one : Readings) (words : List Text) (now : ℤ) where
 
   pub agree : (a b : Result Request RequestFault) → RequestOf words now a → RequestOf words now b → Agree a b
   agree (Err Memory) b p q = tt
-  agree (Ok a) (Ok b) p q = same_request one entries now a b p.1 q.1
+  agree (Ok a) (Ok b) p q = same_request one p.1 q.1
   agree (Ok a) (Err (Usage text help)) p q = absurd (taken words help p.0 q)
   agree (Ok a) (Err BadZone) p q = absurd (says a.zone.kind (p.1.zone ∙ q.1))
   agree (Ok a) (Err BadWindow) p q = absurd (no_window one.display entries now (has_window entries now a p.1) q.1)
-  agree (Ok a) (Err BadToken) p q = absurd (good_token entries a.zone a.window a.after a.every_day p.1.after q.1.token)
+  agree (Ok a) (Err BadToken) p q = absurd (good_token a.zone a.window a.after a.every_day p.1.after q.1.token)
   agree (Ok a) (Err BadFormat) p q = absurd (no_format entries now a p.1 q.1.none)
   agree (Ok a) (Err Memory) p q = tt
   agree (Err (Usage text help)) (Ok b) p q = absurd (taken words help q.0 p)
@@ -254,7 +251,7 @@ module _ (one : Readings) (words : List Text) (now : ℤ) where
   agree (Err BadWindow) (Err BadToken) p q = absurd (no_window one.display entries now q.1.window p.1)
   agree (Err BadWindow) (Err BadFormat) p q = absurd (no_window one.display entries now q.1.window p.1)
   agree (Err BadWindow) (Err Memory) p q = tt
-  agree (Err BadToken) (Ok b) p q = absurd (good_token entries b.zone b.window b.after b.every_day q.1.after p.1.token)
+  agree (Err BadToken) (Ok b) p q = absurd (good_token b.zone b.window b.after b.every_day q.1.after p.1.token)
   agree (Err BadToken) (Err (Usage text help)) p q = absurd (taken words help p.0 q)
   agree (Err BadToken) (Err BadZone) p q = absurd (says p.1.window.display.kind (p.1.window.zone ∙ q.1))
   agree (Err BadToken) (Err BadWindow) p q = absurd (no_window one.display entries now p.1.window q.1)

@@ -138,10 +138,10 @@ unread-other asked one name e = unread-one asked one name ∙ rw e (or-false (is
 -- ---- finds
 
 module _ {Z : Type 0} (finds : Z → List ℕ → FindAnswer → Z → Type 0) where
-  each-append : (before : Z) (xs : List Asked) (middle : Z) (ys : List Asked) (after : Z) → FindsEach finds before xs middle → FindsEach finds middle ys after →
-      FindsEach finds before (xs ++ ys) after
-  each-append before [] middle ys after h k = subst (λ (z : Z). FindsEach finds z ys after) h k
-  each-append before (x ∷ xs) middle ys after h k = (h.0, h.1, h.2, h.3, each-append h.1 xs middle ys after h.4 k)
+  module _ (middle : Z) (ys : List Asked) (after : Z) (k : FindsEach finds middle ys after) where
+    each-append : (before : Z) (xs : List Asked) → FindsEach finds before xs middle → FindsEach finds before (xs ++ ys) after
+    each-append before [] h = subst (λ (z : Z). FindsEach finds z ys after) h k
+    each-append before (x ∷ xs) h = (h.0, h.1, h.2, h.3, each-append h.1 xs h.4)
 
   pub none-asked : (asked : List Asked) (state : Z) → AsksAll finds asked [] state [] state
   none-asked asked state = record { each = refl; names = ap names_of (append-nil asked) }
@@ -150,28 +150,28 @@ module _ {Z : Type 0} (finds : Z → List ℕ → FindAnswer → Z → Type 0) w
       → and_names (names_of (asked ++ more)) then ≡ and_names (names_of asked) (first ++ then)
   names-then asked more first then h = ap (λ (names : List (List ℕ)). and_names names then) h ∙ sym (and_names-append (names_of asked) first then)
 
-  pub all-then-all : (asked : List Asked) (first then : List (List ℕ)) (before : Z) (more : List Asked) (middle : Z) (others : List Asked) (after : Z)
+  pub all-then-all : {asked : List Asked} {first then : List (List ℕ)} {before : Z} {more : List Asked} {middle : Z} {others : List Asked} {after : Z}
       → AsksAll finds asked first before more middle → AsksAll finds (asked ++ more) then middle others after →
       AsksAll finds asked (first ++ then) before (more ++ others) after
-  all-then-all asked first then before more middle others after h k = record {
-    each = each-append before more middle others after h.each k.each;
+  all-then-all {asked = asked} {first = first} {then = then} {before = before} {more = more} {middle = middle} {others = others} {after = after} h k = record {
+    each = each-append middle others after k.each before more h.each;
     names = ap names_of (sym (append_assoc asked more others)) ∙ (k.names ∙ names-then asked more first then h.names);
   }
 
-  pub all-then-some : (asked : List Asked) (first then : List (List ℕ)) (before : Z) (more : List Asked) (middle : Z) (others : List Asked) (after : Z)
+  pub all-then-some : {asked : List Asked} {first then : List (List ℕ)} {before : Z} {more : List Asked} {middle : Z} {others : List Asked} {after : Z}
       → AsksAll finds asked first before more middle → AsksSome finds (asked ++ more) then middle others after →
       AsksSome finds asked (first ++ then) before (more ++ others) after
-  all-then-some asked first then before more middle others after h k = record {
+  all-then-some {asked = asked} {first = first} {then = then} {before = before} {more = more} {middle = middle} {others = others} h k = record {
     last = k.last;
-    each = each-append before more middle others k.last h.each k.each;
+    each = each-append middle others k.last k.each before more h.each;
     rest = k.rest;
     names = ap (λ (all : List Asked). names_of all ++ k.rest) (sym (append_assoc asked more others)) ∙ (k.names ∙ names-then asked more first then h.names);
     ended = k.ended;
   }
 
-  pub all-some : (asked : List Asked) (wanted : List (List ℕ)) (before : Z) (more : List Asked) (after : Z) → AsksAll finds asked wanted before more after →
+  pub all-some : {asked : List Asked} {wanted : List (List ℕ)} {before : Z} {more : List Asked} {after : Z} → AsksAll finds asked wanted before more after →
       AsksSome finds asked wanted before more after
-  all-some asked wanted before more after h = record {
+  all-some {asked = asked} {more = more} {after = after} h = record {
     last = after;
     each = h.each;
     rest = [];
@@ -180,9 +180,9 @@ module _ {Z : Type 0} (finds : Z → List ℕ → FindAnswer → Z → Type 0) w
   }
 
   -- what is wanted further is left
-  pub some-front : (asked : List Asked) (first then : List (List ℕ)) (before : Z) (more : List Asked) (after : Z) →
+  pub some-front : (then : List (List ℕ)) {asked : List Asked} {first : List (List ℕ)} {before : Z} {more : List Asked} {after : Z} →
       AsksSome finds asked first before more after → AsksSome finds asked (first ++ then) before more after
-  some-front asked first then before more after h =
+  some-front then {asked = asked} {first = first} {more = more} {after = after} h =
       let further = and_names-more (and_names (names_of asked) first) then in
       record {
         last = h.last;
@@ -203,10 +203,10 @@ module _ {Z : Type 0} (finds : Z → List ℕ → FindAnswer → Z → Type 0) w
           inr (e.0, e.1 ++ further.0, ap (λ (all : List (List ℕ)). all ++ further.0) e.2, e.3)
 
   -- a name that is asked for
-  pub one-asked : (asked : List Asked) (one : Asked) (before : Z) (answer : FindAnswer) (after : Z) → list_any (bytes_eq one.0) (names_of asked) ≡ false →
+  pub one-asked : (asked : List Asked) (one : Asked) {before : Z} {answer : FindAnswer} {after : Z} → list_any (bytes_eq one.0) (names_of asked) ≡ false →
       finds before one.0 answer after → found_of answer ≡ Some one.1
       → AsksAll finds asked (one.0 ∷ []) before (one ∷ []) after
-  one-asked asked one before answer after fresh f is = record {
+  one-asked asked one {answer = answer} {after = after} fresh f is = record {
     each = (answer, after, f, is, refl);
     names = names-append asked (one ∷ []) ∙ sym (and_name-new (names_of asked) one.0 fresh);
   }
@@ -219,10 +219,10 @@ module _ {Z : Type 0} (finds : Z → List ℕ → FindAnswer → Z → Type 0) w
   is-memory (Ok (Some bytes)) e = cc
 
   -- an allocation failed in the find
-  pub one-failed : (asked : List Asked) (name : List ℕ) (before : Z) (answer : FindAnswer) (after : Z) → list_any (bytes_eq name) (names_of asked) ≡ false →
+  pub one-failed : (asked : List Asked) (name : List ℕ) {before : Z} {answer : FindAnswer} {after : Z} → list_any (bytes_eq name) (names_of asked) ≡ false →
       finds before name answer after → None ≡ found_of answer
       → AsksSome finds asked (name ∷ []) before [] after
-  one-failed asked name before answer after fresh f is = record {
+  one-failed asked name {before = before} {answer = answer} {after = after} fresh f is = record {
     last = before;
     each = refl;
     rest = name ∷ [];

@@ -73,36 +73,37 @@ module _ (id : Text) (how : Reading) (P : Text → Type 0) (takes : Rule → Boo
   joined P [] ys h k = k
   joined P (x ∷ xs) ys h k = (h.0, joined P xs ys h.1 k)
 
-  changed : (of : Text) (change : Row → List Row) (missing rows : List Row) → AllByRecursion Checked rows
-      → ((r : Row) → Checked r → bytes_eq r.id of ≡ true → AllByRecursion Checked (change r)) → AllByRecursion Checked missing
-      → AllByRecursion Checked (at_row of change missing rows)
-  changed of change missing [] h f m = m
-  changed of change missing (r ∷ rs) h f m = go (bytes_eq r.id of) refl (changed of change missing rs h.1 f m)
-    where
-      go : (t : Bool) → bytes_eq r.id of ≡ t → AllByRecursion Checked (at_row of change missing rs) →
-          AllByRecursion Checked (cond t (change r ++ rs) (r ∷ at_row of change missing rs))
-      go true t rest = joined Checked (change r) rs (f r h.0 t) h.1
-      go false t rest = (h.0, rest)
+  module _ (of : Text) where
+    module _ (change : Row → List Row) (missing : List Row) (f : (r : Row) → Checked r → bytes_eq r.id of ≡ true → AllByRecursion Checked (change r))
+        (m : AllByRecursion Checked missing) where
+      changed : (rows : List Row) → AllByRecursion Checked rows → AllByRecursion Checked (at_row of change missing rows)
+      changed [] h = m
+      changed (r ∷ rs) h = go (bytes_eq r.id of) refl (changed rs h.1)
+        where
+          go : (t : Bool) → bytes_eq r.id of ≡ t → AllByRecursion Checked (at_row of change missing rs) →
+              AllByRecursion Checked (cond t (change r ++ rs) (r ∷ at_row of change missing rs))
+          go true t rest = joined Checked (change r) rs (f r h.0 t) h.1
+          go false t rest = (h.0, rest)
 
-  added : (of : Text) (by : Reading) (s : ValueSource) (texts : List Text) (rows : List Row) → (of ≡ id → (by ≡ how) × AllByRecursion P texts)
-      → AllByRecursion Checked rows → AllByRecursion Checked (with_values of by s texts rows)
-  added of by s texts rows pass h =
-      changed of (more_values s texts) (record { id = of; values = texts; count = None; source = Some s; reading = by } ∷ []) rows h
-      (λ r c same. (
-        λ e.
-            let old = c e in
-            (old.0, joined P r.values texts old.1 (pass (sym ((bytes_eq-Decides r.id of).0 same) ∙ e)).1),
-        tt,
-      )) (pass, tt)
+    removed : (rows : List Row) → AllByRecursion Checked rows → AllByRecursion Checked (without of rows)
+    removed rows h = changed (λ _. []) [] (λ r c same. tt) tt rows h
 
-  removed : (of : Text) (rows : List Row) → AllByRecursion Checked rows → AllByRecursion Checked (without of rows)
-  removed of rows h = changed of (λ _. []) [] rows h (λ r c same. tt) tt
+    module _ (by : Reading) (s : ValueSource) where
+      added : (texts : List Text) (rows : List Row) → (of ≡ id → (by ≡ how) × AllByRecursion P texts)
+          → AllByRecursion Checked rows → AllByRecursion Checked (with_values of by s texts rows)
+      added texts rows pass h =
+          changed (more_values s texts) (record { id = of; values = texts; count = None; source = Some s; reading = by } ∷ [])
+          (λ r c same. (
+            λ e.
+                let old = c e in
+                (old.0, joined P r.values texts old.1 (pass (sym ((bytes_eq-Decides r.id of).0 same) ∙ e)).1),
+            tt,
+          )) (pass, tt) rows h
 
-  counted_row : (of : Text) (by : Reading) (s : ValueSource) (n : ℕ) (rows : List Row) → (of ≡ id → ⊥) → AllByRecursion Checked rows →
-      AllByRecursion Checked (with_count of by s n rows)
-  counted_row of by s n rows other h =
-      changed of (new_count s n) (record { id = of; values = count_text n ∷ []; count = Some n; source = Some s; reading = by } ∷ []) rows h
-      (λ r c same. (λ e. absurd (other (sym ((bytes_eq-Decides r.id of).0 same) ∙ e)), tt)) (λ e. absurd (other e), tt)
+      counted_row : (n : ℕ) (rows : List Row) → (of ≡ id → ⊥) → AllByRecursion Checked rows → AllByRecursion Checked (with_count of by s n rows)
+      counted_row n rows other h =
+          changed (new_count s n) (record { id = of; values = count_text n ∷ []; count = Some n; source = Some s; reading = by } ∷ [])
+          (λ r c same. (λ e. absurd (other (sym ((bytes_eq-Decides r.id of).0 same) ∙ e)), tt)) (λ e. absurd (other e), tt) rows h
 
   -- ---- one use of an argument
 
@@ -167,16 +168,16 @@ module _ (id : Text) (how : Reading) (P : Text → Type 0) (takes : Rule → Boo
         → AllByRecursion Checked (reacted c a texts h).rows
     reacts a texts h checked none rows = uses again a checked texts (settled c h).rows (then_none _ _ none) (settles h (first_none _ _ none) rows)
 
-    takes_option : (a : Rule) (v : Option Text) (h : Held) → is_checked a ≡ true → option_fault c again a v h ≡ [] → AllByRecursion Checked h.rows
-        → AllByRecursion Checked (option_met c a v h).0.rows
-    takes_option a (Some v) h checked none rows = reacts a (v ∷ []) h checked none rows
-    takes_option a None h checked none rows = settles h none rows
+    module _ (a : Rule) (checked : is_checked a ≡ true) where
+      takes_option : (v : Option Text) (h : Held) → option_fault c again a v h ≡ [] → AllByRecursion Checked h.rows
+          → AllByRecursion Checked (option_met c a v h).0.rows
+      takes_option (Some v) h none rows = reacts a (v ∷ []) h checked none rows
+      takes_option None h none rows = settles h none rows
 
-    takes_flag : (a : Rule) (v : Option Text) (h : Held) (k : ErrorKind) → is_checked a ≡ true → cond (is_some v) (k ∷ []) (react_fault c again a [] h) ≡ [] →
-        AllByRecursion Checked h.rows
-        → AllByRecursion Checked (flag_met c a v h).0.rows
-    takes_flag a (Some v) h k checked none rows = rows
-    takes_flag a None h k checked none rows = reacts a [] h checked none rows
+      takes_flag : (v : Option Text) (h : Held) (k : ErrorKind) → cond (is_some v) (k ∷ []) (react_fault c again a [] h) ≡ [] → AllByRecursion Checked h.rows
+          → AllByRecursion Checked (flag_met c a v h).0.rows
+      takes_flag (Some v) h k none rows = rows
+      takes_flag None h k none rows = reacts a [] h checked none rows
 
     takes_long : (o : Option Rule) (v : Option Text) (h : Held) → ((a : Rule) → o ≡ Some a → is_checked a ≡ true) → long_fault c again o v h ≡ [] →
         AllByRecursion Checked h.rows
@@ -186,20 +187,20 @@ module _ (id : Text) (how : Reading) (P : Text → Type 0) (takes : Rule → Boo
       where
         go : (b : Bool) (k : ErrorKind) → cond b (option_fault c again a v h) (cond (is_some v) (k ∷ []) (react_fault c again a [] h)) ≡ []
             → AllByRecursion Checked (cond b (option_met c a v h) (flag_met c a v h)).0.rows
-        go true k none = takes_option a v h (of a refl) none rows
-        go false k none = takes_flag a v h k (of a refl) none rows
+        go true k none = takes_option a (of a refl) v h none rows
+        go false k none = takes_flag a (of a refl) v h k none rows
 
-    takes_short : (o : Option Rule) (rest : Text) (h : Held) (more : Held → Held × Outcome) (fault : Held → Kinds) →
-        ((a : Rule) → o ≡ Some a → is_checked a ≡ true)
-        → ((x : Held) → fault x ≡ [] → AllByRecursion Checked x.rows → AllByRecursion Checked (more x).0.rows)
-        → short_fault c again o rest h fault ≡ [] → AllByRecursion Checked h.rows → AllByRecursion Checked (short_met c o rest h more).0.rows
-    takes_short None rest h more fault of after none rows = rows
-    takes_short (Some a) rest h more fault of after none rows = go (takes_values a) none
-      where
-        go : (b : Bool) → cond b (option_fault c again a (attached_value rest) h) (or_else (react_fault c again a [] h) (fault (reacted c a [] h))) ≡ []
-            → AllByRecursion Checked (cond b (option_met c a (attached_value rest) h) (more (reacted c a [] h))).0.rows
-        go true none = takes_option a (attached_value rest) h (of a refl) none rows
-        go false none = after (reacted c a [] h) (then_none _ _ none) (reacts a [] h (of a refl) (first_none _ _ none) rows)
+    module _ (rest : Text) (more : Held → Held × Outcome) (fault : Held → Kinds)
+        (after : (x : Held) → fault x ≡ [] → AllByRecursion Checked x.rows → AllByRecursion Checked (more x).0.rows) where
+      takes_short : (o : Option Rule) (h : Held) → ((a : Rule) → o ≡ Some a → is_checked a ≡ true)
+          → short_fault c again o rest h fault ≡ [] → AllByRecursion Checked h.rows → AllByRecursion Checked (short_met c o rest h more).0.rows
+      takes_short None h of none rows = rows
+      takes_short (Some a) h of none rows = go (takes_values a) none
+        where
+          go : (b : Bool) → cond b (option_fault c again a (attached_value rest) h) (or_else (react_fault c again a [] h) (fault (reacted c a [] h))) ≡ []
+              → AllByRecursion Checked (cond b (option_met c a (attached_value rest) h) (more (reacted c a [] h))).0.rows
+          go true none = takes_option a (of a refl) (attached_value rest) h none rows
+          go false none = after (reacted c a [] h) (then_none _ _ none) (reacts a [] h (of a refl) (first_none _ _ none) rows)
 
     -- that of a bundle of flags
     abbrev TakesBundle : ℕ → Type 0
@@ -216,8 +217,8 @@ module _ (id : Text) (how : Reading) (P : Text → Type 0) (takes : Rule → Boo
         go more None n none = rows
         go more (Some x) zero none =
             let rest = drop (length (encode_utf8 x)) flags in
-            takes_short (arg_by_short c x) rest h (bundle_met c k rest 0 done) (flags_fault c again k rest 0) (λ a e. found_passes is_checked _ c a all e)
-            (more rest 0 done) none rows
+            takes_short rest (bundle_met c k rest 0 done) (flags_fault c again k rest 0) (more rest 0 done) (arg_by_short c x) h
+            (λ a e. found_passes is_checked _ c a all e) none rows
         go more (Some x) (suc n) none = more (drop (length (encode_utf8 x)) flags) n so_far h none rows
 
   -- a word that is no flag changes no row
@@ -253,20 +254,20 @@ module _ (id : Text) (how : Reading) (P : Text → Type 0) (takes : Rule → Boo
         go (Some flags) none = stays_after s.rules waiting word _ _
             (takes_bundle s.rules s.args_override_self all (length flags) flags h.skip plain (record h { skip = 0 }) none rows)
 
-    takes_word : (is_trailing : Bool) (waiting : Waiting) (position : ℕ) (word : Text) (h : Held) → word_fault s names is_trailing waiting word h ≡ [] →
-        AllByRecursion Checked h.rows
-        → AllByRecursion Checked (word_met s.rules names is_trailing waiting position word h).0.rows
-    takes_word true waiting position word h none rows = rows
-    takes_word false waiting position word h none rows = go (subcommand_met names waiting word) none
-      where
-        plain_or_flag : (b : Bool) → cond b [] (flag_word_fault s.rules s.args_override_self (long_of word) word h) ≡ []
-            → AllByRecursion Checked (cond b (h, trailing position) (long_or_other s.rules waiting word (long_of word) h)).0.rows
-        plain_or_flag true none = rows
-        plain_or_flag false none = takes_flags waiting word h (long_of word) none rows
+    module _ (waiting : Waiting) (position : ℕ) (word : Text) (h : Held) (rows : AllByRecursion Checked h.rows) where
+      plain_or_flag : (b : Bool) → cond b [] (flag_word_fault s.rules s.args_override_self (long_of word) word h) ≡ []
+          → AllByRecursion Checked (cond b (h, trailing position) (long_or_other s.rules waiting word (long_of word) h)).0.rows
+      plain_or_flag true none = rows
+      plain_or_flag false none = takes_flags waiting word h (long_of word) none rows
 
-        go : (o : Option Text) → other_fault s o word h ≡ [] → AllByRecursion Checked (subcommand_or_other s.rules o waiting position word h).0.rows
-        go (Some name) none = rows
-        go None none = plain_or_flag (bytes_eq word (45 ∷ 45 ∷ [])) none
+      takes_other : (o : Option Text) → other_fault s o word h ≡ [] → AllByRecursion Checked (subcommand_or_other s.rules o waiting position word h).0.rows
+      takes_other (Some name) none = rows
+      takes_other None none = plain_or_flag (bytes_eq word (45 ∷ 45 ∷ [])) none
+
+      takes_word : (is_trailing : Bool) → word_fault s names is_trailing waiting word h ≡ []
+          → AllByRecursion Checked (word_met s.rules names is_trailing waiting position word h).0.rows
+      takes_word true none = rows
+      takes_word false none = takes_other (subcommand_met names waiting word) none
 
     takes_step : (w : Walk) (word : Text) (h : Held) (step : Step) → step_fault s w.position h step ≡ [] → AllByRecursion Checked h.rows
         → AllByRecursion Checked (after_step s.rules word w h step).held.rows
@@ -295,7 +296,7 @@ module _ (id : Text) (how : Reading) (P : Text → Type 0) (takes : Rule → Boo
             (word_met s.rules names w.is_trailing w.waiting w.position word w.held).1)) ≡ []
             → AllByRecursion Checked (walked_from s.rules names o w word).held.rows
         go (Some p) none = rows
-        go None none = takes_step w word _ _ (then_none _ _ none) (takes_word w.is_trailing w.waiting w.position word w.held (first_none _ _ none) rows)
+        go None none = takes_step w word _ _ (then_none _ _ none) (takes_word w.waiting w.position word w.held rows w.is_trailing (first_none _ _ none))
 
     walks : (words : List Text) (w : Walk) → walk_fault s names w words ≡ [] → AllByRecursion Checked w.held.rows →
         AllByRecursion Checked (fold (walked s.rules names) w words).held.rows

@@ -112,8 +112,8 @@ module _ (id : Text) (found : Text × List Row) (b : Bool) (flag : IsFlag id (So
               ((λ t. absurd (true≢false (sym t ∙ off))), (λ other. let bad : 5 ≡ 4 = ap length (sym e ∙ (sym text_is ∙ other)) in absurd (omega arith)))
 
 -- what is read of the rows of a flag
-pub flag_is : (id : Text) (entries : Entries) (rows : List Row) (b : Bool) → IsFlag id entries → Some rows ≡ option_map (λ found. found.1) entries
+pub flag_is : {id : Text} (entries : Entries) (rows : List Row) (b : Bool) → IsFlag id entries → Some rows ≡ option_map (λ found. found.1) entries
     → ReadsFlag (one_of id rows) b → IsTrue b ↔ (entries_text id entries ≡ codes "true")
-flag_is id None rows b flag here reads = cc
-flag_is id (Some found) rows b flag here reads =
+flag_is None rows b flag here reads = cc
+flag_is {id = id} (Some found) rows b flag here reads =
     found_is id found b flag (subst (λ (r : List Row). ReadsFlag (one_of id r) b) (ap (λ (o : Option (List Row)). unwrap_or o []) here) reads)

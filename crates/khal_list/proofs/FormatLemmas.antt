@@ -25,14 +25,15 @@ heads : {x y : ℕ} {xs ys : List ℕ} → x ∷ xs ≡ y ∷ ys → x ≡ y
 heads e = cc
 
 -- names before closing braces are the same, and so is what comes after them
-names_apart : (xs ys a b : List ℕ) → is_plain xs ≡ true → is_plain ys ≡ true → xs ++ 125 ∷ a ≡ ys ++ 125 ∷ b → (xs ≡ ys) × (a ≡ b)
-names_apart [] [] a b p q e = (refl, (cc))
-names_apart [] (y ∷ ys) a b p q e = absurd (not_first 125 y ys refl (cc) q)
-names_apart (x ∷ xs) [] a b p q e = absurd (not_first 125 x xs refl (cc) p)
-names_apart (x ∷ xs) (y ∷ ys) a b p q e =
-    let rest = names_apart xs ys a b (plain_tail x xs p) (plain_tail y ys q) (cc) in
-    let tail : xs ≡ ys = rest.0 in
-    ((cc), rest.1)
+module _ (a b : List ℕ) where
+  names_apart : (xs ys : List ℕ) → is_plain xs ≡ true → is_plain ys ≡ true → xs ++ 125 ∷ a ≡ ys ++ 125 ∷ b → (xs ≡ ys) × (a ≡ b)
+  names_apart [] [] p q e = (refl, (cc))
+  names_apart [] (y ∷ ys) p q e = absurd (not_first 125 y ys refl (cc) q)
+  names_apart (x ∷ xs) [] p q e = absurd (not_first 125 x xs refl (cc) p)
+  names_apart (x ∷ xs) (y ∷ ys) p q e =
+      let rest = names_apart xs ys (plain_tail x xs p) (plain_tail y ys q) (cc) in
+      let tail : xs ≡ ys = rest.0 in
+      ((cc), rest.1)
 
 -- a name and a closing brace do not begin with an opening one
 no_brace_first : (xs a b : List ℕ) → is_plain xs ≡ true → 123 ∷ a ≡ xs ++ 125 ∷ b → ⊥
@@ -65,16 +66,17 @@ closing_parts text name end is named =
 abbrev spelled : Bool → ℕ → List ℕ
 spelled brace b = if brace then b ∷ b ∷ [] else b ∷ []
 
-bytes_apart : (b c : ℕ) (s t : Bool) (x y : List ℕ) → is_brace b ≡ s → is_brace c ≡ t → spelled s b ++ x ≡ spelled t c ++ y → (b ≡ c) × (x ≡ y)
-bytes_apart b c true true x y p q e = ((cc), (cc))
-bytes_apart b c true false x y p q e = let same : b ≡ c = cc in absurd (both_ways (is_brace c) q (ap is_brace (sym same) ∙ p))
-bytes_apart b c false true x y p q e = let same : b ≡ c = cc in absurd (both_ways (is_brace b) p (ap is_brace same ∙ q))
-bytes_apart b c false false x y p q e = ((cc), (cc))
+module _ (b : ℕ) (x y : List ℕ) where
+  bytes_apart : (c : ℕ) (s t : Bool) → is_brace b ≡ s → is_brace c ≡ t → spelled s b ++ x ≡ spelled t c ++ y → (b ≡ c) × (x ≡ y)
+  bytes_apart c true true p q e = ((cc), (cc))
+  bytes_apart c true false p q e = let same : b ≡ c = cc in absurd (both_ways (is_brace c) q (ap is_brace (sym same) ∙ p))
+  bytes_apart c false true p q e = let same : b ≡ c = cc in absurd (both_ways (is_brace b) p (ap is_brace same ∙ q))
+  bytes_apart c false false p q e = ((cc), (cc))
 
-no_field : (b : ℕ) (s : Bool) (xs x y : List ℕ) → is_plain xs ≡ true → is_brace b ≡ s → spelled s b ++ x ≡ 123 ∷ (xs ++ 125 ∷ y) → ⊥
-no_field b true xs x y plain p e = let first : 123 ≡ b = cc in let after : b ∷ x ≡ xs ++ 125 ∷ y = cc in
-    no_brace_first xs x y plain (ap (λ (c : ℕ). c ∷ x) first ∙ after)
-no_field b false xs x y plain p e = let first : b ≡ 123 = cc in both_ways (is_brace b) p (ap is_brace first)
+  no_field : (s : Bool) (xs : List ℕ) → is_plain xs ≡ true → is_brace b ≡ s → spelled s b ++ x ≡ 123 ∷ (xs ++ 125 ∷ y) → ⊥
+  no_field true xs plain p e = let first : 123 ≡ b = cc in let after : b ∷ x ≡ xs ++ 125 ∷ y = cc in
+      no_brace_first xs x y plain (ap (λ (c : ℕ). c ∷ x) first ∙ after)
+  no_field false xs plain p e = let first : b ≡ 123 = cc in both_ways (is_brace b) p (ap is_brace first)
 
 -- pieces that are written alike
 abbrev pub Alike : {F : Type 0} → (F → List ℕ) → Piece F → Piece F → Type 0
@@ -89,10 +91,10 @@ module _ {F : Type 0} (name : F → List ℕ) (plain : (field : F) → is_plain 
 
   -- texts that begin with pieces are the same only where the pieces are, and what comes after them
   pub pieces_apart : (p q : Piece F) (x y : List ℕ) → written_piece name p ++ x ≡ written_piece name q ++ y → Alike name p q × (x ≡ y)
-  pieces_apart (Byte b) (Byte c) x y e = bytes_apart b c (is_brace b) (is_brace c) x y refl refl e
-  pieces_apart (Byte b) (Field g) x y e = absurd (no_field b (is_brace b) (name g) x y (plain g) refl (e ∙ behind g y))
-  pieces_apart (Field f) (Byte c) x y e = absurd (no_field c (is_brace c) (name f) y x (plain f) refl (sym e ∙ behind f x))
-  pieces_apart (Field f) (Field g) x y e = names_apart (name f) (name g) x y (plain f) (plain g) (let whole : 123 ∷ (name f ++ 125 ∷ x) ≡ 123
+  pieces_apart (Byte b) (Byte c) x y e = bytes_apart b x y c (is_brace b) (is_brace c) refl refl e
+  pieces_apart (Byte b) (Field g) x y e = absurd (no_field b x y (is_brace b) (name g) (plain g) refl (e ∙ behind g y))
+  pieces_apart (Field f) (Byte c) x y e = absurd (no_field c y x (is_brace c) (name f) (plain f) refl (sym e ∙ behind f x))
+  pieces_apart (Field f) (Field g) x y e = names_apart x y (name f) (name g) (plain f) (plain g) (let whole : 123 ∷ (name f ++ 125 ∷ x) ≡ 123
       ∷ (name g ++ 125 ∷ y) = sym (behind f x) ∙ e ∙ behind g y in (cc))
 
   pub no_pieces : (p : Piece F) (x : List ℕ) → written_piece name p ++ x ≡ [] → ⊥

@@ -1,5 +1,5 @@
 -- A front of a text that grows.
-use Rattle.std.proofs.Common.{◌≡◌, ◌+◌, ◌++◌, ℕ, List, [], take, drop, ap, ◌∙◌, arith, append_assoc}
+use Rattle.std.proofs.Common.{◌≡◌, ◌+◌, ◌++◌, ℕ, List, [], take, drop, ap, ◌∙◌, arith}
 use Rattle.std.proofs.lemmas.List.{take-append-drop, drop-take}
 use Rattle.std.proofs.lemmas.Grind.{common_steps}
 
@@ -9,10 +9,6 @@ take-more d n xs =
     let same : take d (take (d + n) xs) ≡ take d xs = grind (arith, common_steps) in
     rw (← drop-take d n xs, ← same) (take-append-drop d (take (d + n) xs))
 
--- two pieces after one another are one
-pub two-pieces : (old middle new first second : List ℕ) → middle ≡ old ++ first → new ≡ middle ++ second → new ≡ old ++ (first ++ second)
-two-pieces old middle new first second h k = k ∙ (ap (λ front. front ++ second) h ∙ append_assoc old first second)
-
 -- a piece that is added to nothing is all
-pub only-piece : (old new bytes piece : List ℕ) → old ≡ [] → new ≡ old ++ piece → bytes ≡ new → bytes ≡ piece
-only-piece old new bytes piece h k l = l ∙ (k ∙ ap (λ front. front ++ piece) h)
+pub only-piece : (piece : List ℕ) {old new bytes : List ℕ} → old ≡ [] → new ≡ old ++ piece → bytes ≡ new → bytes ≡ piece
+only-piece piece h k l = l ∙ (k ∙ ap (λ front. front ++ piece) h)

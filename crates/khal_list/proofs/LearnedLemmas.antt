@@ -70,30 +70,30 @@ module _ {Z : Type 0} (finds : Z → List ℕ → FindAnswer → Z → Type 0) w
     keeps = keeps-none asked;
   }
 
-  pub learns-then : (asked : List Asked) (first then : List (List ℕ)) (before middle after : Z) (a b : Answered)
+  pub learns-then : {asked : List Asked} {first then : List (List ℕ)} {before middle after : Z} {a b : Answered}
       → (h : Learns finds asked first before middle a) → Learns finds (asked ++ h.more) then middle after b → Learns finds asked (first ++ then) before after b
-  learns-then asked first then before middle after a b h k = record {
+  learns-then {asked = asked} {b = b} h k = record {
     more = h.more ++ k.more;
-    asks = lemma.all-then-all finds asked first then before h.more middle k.more after h.asks k.asks;
+    asks = lemma.all-then-all finds h.asks k.asks;
     knows = subst (λ (all : List Asked). Knows all b) (append_assoc asked h.more k.more) k.knows;
     keeps = keeps-then asked h.more k.more h.keeps k.keeps;
   }
 
-  pub learns-then-some : (asked : List Asked) (first then : List (List ℕ)) (before middle after : Z) (a : Answered)
+  pub learns-then-some : {asked : List Asked} {first then : List (List ℕ)} {before middle after : Z} {a : Answered}
       → (h : Learns finds asked first before middle a) → LearnsSome finds (asked ++ h.more) then middle after →
       LearnsSome finds asked (first ++ then) before after
-  learns-then-some asked first then before middle after a h k = record {
+  learns-then-some h k = record {
     more = h.more ++ k.more;
-    asks = lemma.all-then-some finds asked first then before h.more middle k.more after h.asks k.asks;
+    asks = lemma.all-then-some finds h.asks k.asks;
   }
 
   pub learns-front : (asked : List Asked) (first then : List (List ℕ)) (before after : Z) → LearnsSome finds asked first before after →
       LearnsSome finds asked (first ++ then) before after
-  learns-front asked first then before after h = record { more = h.more; asks = lemma.some-front finds asked first then before h.more after h.asks }
+  learns-front asked first then before after h = record { more = h.more; asks = lemma.some-front finds then h.asks }
 
   pub learns-some : (asked : List Asked) (wanted : List (List ℕ)) (before after : Z) (a : Answered) → Learns finds asked wanted before after a →
       LearnsSome finds asked wanted before after
-  learns-some asked wanted before after a h = record { more = h.more; asks = lemma.all-some finds asked wanted before h.more after h.asks }
+  learns-some asked wanted before after a h = record { more = h.more; asks = lemma.all-some finds h.asks }
 
   module _ (asked : List Asked) (name : List ℕ) (before after : Z) (old : Answered) (k : Knows asked old)
       (new-name : contains (slice_cmp nat_cmp) old.names name ≡ false)
@@ -102,15 +102,13 @@ module _ {Z : Type 0} (finds : Z → List ℕ → FindAnswer → Z → Type 0) w
     fresh = sym (k.names name) ∙ new-name
 
     pub fails : None ≡ found_of answer → LearnsSome finds asked (name ∷ []) before after
-    fails is = record { more = []; asks = lemma.one-failed finds asked name before answer after fresh f is }
+    fails is = record { more = []; asks = lemma.one-failed finds asked name fresh f is }
 
     module _ (found : Found) (is : Some found ≡ found_of answer) where
       pub learns-some-one : LearnsSome finds asked (name ∷ []) before after
       learns-some-one = record {
         more = (name, found) ∷ [];
-        asks =
-            lemma.all-some finds asked (name ∷ []) before ((name, found)
-            ∷ []) after (lemma.one-asked finds asked (name, found) before answer after fresh f (sym is));
+        asks = lemma.all-some finds (lemma.one-asked finds asked (name, found) fresh f (sym is));
       }
 
       pub learns-one : (new : Answered)
@@ -121,7 +119,7 @@ module _ {Z : Type 0} (finds : Z → List ℕ → FindAnswer → Z → Type 0) w
           → Learns finds asked (name ∷ []) before after new
       learns-one new files names unread = record {
         more = (name, found) ∷ [];
-        asks = lemma.one-asked finds asked (name, found) before answer after fresh f (sym is);
+        asks = lemma.one-asked finds asked (name, found) fresh f (sym is);
         knows = knows-one asked (name, found) old new files names unread k;
         keeps = keeps-one asked (name, found) fresh;
       }
@@ -143,10 +141,10 @@ module _ {Z : Type 0} (finds : Z → List ℕ → FindAnswer → Z → Type 0) (
   pub learns-next : (b : Answered) → Learns finds (asked ++ h.more) (name ∷ []) middle after b → Learns finds asked (take (i + 1) names) before after b
   learns-next b k =
       subst (λ (front : List (List ℕ)). Learns finds asked front before after b) (next-front names i name inside is)
-      (learns-then finds asked (take i names) (name ∷ []) before middle after a b h k)
+      (learns-then finds h k)
 
   pub fails-next : LearnsSome finds (asked ++ h.more) (name ∷ []) middle after → LearnsSome finds asked names before after
   fails-next k =
       subst (λ (all : List (List ℕ)). LearnsSome finds asked all before after) (front-all names i name inside is)
       (learns-front finds asked (take i names ++ name ∷ []) (drop (i + 1) names) before after
-      (learns-then-some finds asked (take i names) (name ∷ []) before middle after a h k))
+      (learns-then-some finds h k))

@@ -54,32 +54,36 @@ joined-by : (b : Bool) (limit : ℕ) (rest more : List Entry) → nat_lt limit (
 joined-by true limit rest more p f = ap (λ l. take limit rest ++ l) (f refl) ∙ take-append-drop limit rest
 joined-by false limit rest more p f = take_all limit rest (ltb-false limit (length rest) p)
 
+-- the rest of a listing, whose first entries are these, stands behind a key
+record StandsBehind (key : Option Rank) (xs rest : List Entry) : Type 0 where
+  rises : Rises entry_cmp (xs ++ rest)
+  behind : after_key key (xs ++ rest) ≡ rest
+
 -- the pages from a place in the listing on
-joined-from : (limits : List ℕ) (key : Option Rank) (xs rest : List Entry) → Rises entry_cmp (xs ++ rest) → after_key key (xs ++ rest) ≡ rest →
-    ArePositive limits → length rest ≤ total limits
+joined-from : (limits : List ℕ) {key : Option Rank} {xs : List Entry} (rest : List Entry) → StandsBehind key xs rest → ArePositive limits →
+    length rest ≤ total limits
     → joined limits key (xs ++ rest) ≡ rest
-joined-from [] key xs [] h k p l = refl
-joined-from [] key xs (y ∷ ys) h k p l = absurd (omega arith)
-joined-from (limit ∷ limits) key xs rest h k p l =
+joined-from [] [] b p l = refl
+joined-from [] (y ∷ ys) b p l = absurd (omega arith)
+joined-from (limit ∷ limits) {xs = xs} rest b p l =
     let regroup : xs ++ rest ≡ xs ++ (take limit rest ++ drop limit rest) = ap (λ l. xs ++ l) (sym (take-append-drop limit rest)) in
     let whole : xs ++ rest ≡ (xs ++ take limit rest) ++ drop limit rest = regroup ∙ sym (append_assoc xs (take limit rest) (drop limit rest)) in
-    ap (λ r. cond (nat_lt limit (length r)) (take limit r ++ joined limits (key_on (Some limit) r) (xs ++ rest)) (take limit r)) k
+    ap (λ r. cond (nat_lt limit (length r)) (take limit r ++ joined limits (key_on (Some limit) r) (xs ++ rest)) (take limit r)) b.behind
     ∙ joined-by (nat_lt limit (length rest)) limit rest (joined limits (key_on (Some limit) rest) (xs ++ rest)) refl
     (λ cut.
     let more : limit < length rest = ltb-true limit (length rest) cut in
     let some : 1 ≤ length (take limit rest) = omega (arith, length-take-le limit rest (omega arith), p.0) in
     let named : key_on (Some limit) rest ≡ last_key (take limit rest) = ap (λ b. cond b (last_key (take limit rest)) None) cut in
     let found : after_key (last_key (take limit rest)) (xs ++ rest) ≡ drop limit rest =
-    ap (after_key (last_key (take limit rest))) regroup ∙ behind-last xs (take limit rest) (drop limit rest) (subst (Rises entry_cmp) regroup h) some in
+    ap (after_key (last_key (take limit rest))) regroup ∙ behind-last xs (take limit rest) (drop limit rest) (subst (Rises entry_cmp) regroup b.rises) some in
     ap (λ next. joined limits next (xs ++ rest)) named
     ∙ (ap (joined limits (last_key (take limit rest))) whole
-    ∙ joined-from limits (last_key (take limit rest)) (xs ++ take limit rest) (drop limit rest)
-    (subst (Rises entry_cmp) whole h)
-    (ap (after_key (last_key (take limit rest))) (sym whole) ∙ found)
+    ∙ joined-from limits (drop limit rest)
+    (record { rises = subst (Rises entry_cmp) whole b.rises; behind = ap (after_key (last_key (take limit rest))) (sym whole) ∙ found })
     p.1
     (omega (arith, l, length-drop limit rest))))
 
 pub pages-join : (files : List FileSaid) (request : Request) (list : List Entry) (limits : List ℕ) → IsListingOf files request list → ArePositive limits →
     length list ≤ total limits
     → joined limits None list ≡ list
-pages-join files request list limits h p l = joined-from limits None [] list h.rises refl p l
+pages-join files request list limits h p l = joined-from limits {xs = []} list (record { rises = h.rises; behind = refl }) p l

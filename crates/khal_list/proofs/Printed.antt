@@ -73,7 +73,7 @@ module _ {style : Style} {limit : Option ℕ} {all : List OnDay} {told : Option 
     }
 
     pub printed-front : TookFront told taken (days_text style (first_of limit all))
-    printed-front = written-front told taken (days_text_after style before (first_of left coming)) (days_text style (first_of limit all)) written
+    printed-front = written-front written
 
     pub drew-none : DrewAhead (days_text style) all coming told taken
     drew-none = record {
@@ -141,8 +141,7 @@ module _ {style : Style} {limit : Option ℕ} {all : List OnDay} {told : Option 
 
         pub printed-part : (new : Option (List ℕ)) → TookFront taken new bytes → TookFront told new (days_text style (first_of limit all))
         printed-part new f =
-            written-part told taken new bytes (days_text_after style (Some e.day) (first_of lower es)) (days_text style (first_of limit all))
-            (rw next at written) f
+            written-part (days_text_after style (Some e.day) (first_of lower es)) (rw next at written) f
 
         left-lower : (l : Option ℕ) → option_map (λ n. length p.done + n) (option_map (λ n. n + 1) l) ≡ option_map (λ n. length (p.done ++ e ∷ []) + n) l
         left-lower None = refl

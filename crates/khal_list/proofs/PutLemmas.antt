@@ -78,9 +78,9 @@ front-under style (p ∷ ps) rest (e ∷ es) h = ap₂ (λ (a : OnDay) (l : List
     first : p ≡ under style p.entry
     first = head-is ∙ sym (ap (λ (q : OnDay). under style q.entry) head-is)
 
-pub drew-under : (style : Style) (old new : List Entry) (rest : List OnDay) (out out' : Option (List ℕ)) → rest ≡ map (under style) new
+pub drew-under : (style : Style) (old new : List Entry) {rest : List OnDay} {out out' : Option (List ℕ)} → rest ≡ map (under style) new
     → DrewAhead (days_text style) (map (under style) old) rest out out' → DrewAhead (text style) old new out out'
-drew-under style old new rest out out' is d = record {
+drew-under style old new {rest = rest} {out = out} {out' = out'} is d = record {
   shown = entries d.shown;
   ahead = entries d.ahead;
   part = d.part;
@@ -100,23 +100,23 @@ drew-under style old new rest out out' is d = record {
         ∙ (ap entries d.given ∙ entries-under style old)))
 
 -- what a fault leaves
-pub puts-fault : (request : Request) (coming : List OnDay →
-    Type 0) (list rest : List OnDay) (out out' : Option (List ℕ)) (r : Result (Option DayKey) RunFault) → IsErr r
+pub puts-fault : {request : Request} {coming : List OnDay → Type 0} {list rest : List OnDay} {out out' : Option (List ℕ)}
+    (r : Result (Option DayKey) RunFault) → IsErr r
     → TookFront out out' (days_text_of request list) → coming rest → DrewAhead (days_text (style_of request)) list rest out out' →
     Puts request coming list out out' r
-puts-fault request coming list rest out out' (Ok key) err front to_come drew = absurd (true≢false (sym err))
-puts-fault request coming list rest out out' (Err fault) err front to_come drew =
+puts-fault (Ok key) err front to_come drew = absurd (true≢false (sym err))
+puts-fault {rest = rest} (Err fault) err front to_come drew =
     record { text = tt; key = tt; front = front; rest = rest; to_come = to_come; drew = drew }
 
 -- what the limit leaves
-pub puts-cut : (request : Request) (coming : List OnDay → Type 0) (list rest : List OnDay) (out out' : Option (List ℕ)) (last : Option DayRank)
+pub puts-cut : {request : Request} {coming : List OnDay → Type 0} {list rest : List OnDay} {out out' : Option (List ℕ)} {last : Option DayRank}
     (r : Result (Option DayKey) RunFault)
-    → IfOk r (λ key. option_map day_key_rank key ≡ last) → Appends out out' (days_text_of request list) → last ≡ day_key_on request.limit list
+    → IfOk r (λ key. option_map day_key_rank key ≡ last) → Appends out out' (days_text_of request list) × (last ≡ day_key_on request.limit list)
     → TookFront out out' (days_text_of request list) → coming rest → DrewAhead (days_text (style_of request)) list rest out out' →
     Puts request coming list out out' r
-puts-cut request coming list rest out out' last (Ok key) is text cut front to_come drew =
-    record { text = text; key = is ∙ cut; front = tt; rest = rest; to_come = to_come; drew = drew }
-puts-cut request coming list rest out out' last (Err fault) is text cut front to_come drew =
+puts-cut {rest = rest} (Ok key) is cut front to_come drew =
+    record { text = cut.0; key = is ∙ cut.1; front = tt; rest = rest; to_come = to_come; drew = drew }
+puts-cut {rest = rest} (Err fault) is cut front to_come drew =
     record { text = tt; key = tt; front = front; rest = rest; to_come = to_come; drew = drew }
 
 -- what is written of a feed, each of whose entries stands under its own day
@@ -138,4 +138,4 @@ module _ (request : Request) (old new : List Entry) (out out' : Option (List ℕ
       key-of (Some k) = refl
 
   pub drew-once : (result : Result (Option DayKey) RunFault) → PutsOnce result → DrewAhead (text (style_of request)) old new out out'
-  drew-once result p = drew-under (style_of request) old new p.rest out out' p.to_come p.drew
+  drew-once result p = drew-under (style_of request) old new p.to_come p.drew

@@ -91,14 +91,20 @@ module _ (count : OnlyWantedCount) (asked more : List Asked) (keeps : Keeps aske
       ∙ ap (λ rest. error_line name (file_by asked a) ++ rest) (lines-kept names contents (λ n h. in-asked n (in-back n (wanted_of a) (all_wanted contents) h)))
 
 module _ {S Z : Type 0} (reads : S → ℕ → Answer → S → Type 0) (finds : Z → List ℕ → FindAnswer → Z → Type 0) where
-  reads-more : (before : S) (i : ℕ) (contents : List Contents) (after : S) (j : ℕ) (a : Contents) (answer : Answer) (last : S) →
+  -- a read of a file gave these contents
+  pub record Gave (after : S) (j : ℕ) (a : Contents) (last : S) : Type 0 where
+    pub answer : Answer
+    pub read : reads after j answer last
+    pub gives : contents_of answer ≡ Some a
+
+  reads-more : (before : S) (i : ℕ) (contents : List Contents) {after : S} {j : ℕ} {a : Contents} {last : S} →
       ReadsFrom reads before i contents after → j ≡ i + length contents
-      → reads after j answer last → contents_of answer ≡ Some a → ReadsFrom reads before i (contents ++ a ∷ []) last
-  reads-more before i [] after j a answer last h e r g =
+      → Gave after j a last → ReadsFrom reads before i (contents ++ a ∷ []) last
+  reads-more before i [] {j = j} {last = last} h e g =
       let at : j ≡ i = omega (arith, e) in
-      (answer, last, subst (λ k. reads before k answer last) at (subst (λ state. reads state j answer last) h r), g, refl)
-  reads-more before i (b ∷ contents) after j a answer last h e r g =
-      (h.0, h.1, h.2, h.3, reads-more h.1 (i + 1) contents after j a answer last h.4 (omega (arith, e)) r g)
+      (g.answer, last, subst (λ k. reads before k g.answer last) at (subst (λ state. reads state j g.answer last) h g.read), g.gives, refl)
+  reads-more before i (b ∷ contents) h e g =
+      (h.0, h.1, h.2, h.3, reads-more h.1 (i + 1) contents h.4 (omega (arith, e)) g)
 
   -- the reads of the first files, what is asked for, and what is kept of them
   pub record Done (names : List (List ℕ)) (before : S) (zones : Z) (i : ℕ) (after : S) (zones' : Z) (answered : Answered) (files : List FileSaid)
@@ -111,10 +117,10 @@ module _ {S Z : Type 0} (reads : S → ℕ → Answer → S → Type 0) (finds :
     pub knows : Knows asked answered
     pub kept : IsReading names asked contents files errors
 
-  pub done-none : (names : List (List ℕ)) (before : S) (zones : Z) (answered : Answered) (files : List FileSaid) (errors : List ℕ) → Knows [] answered →
+  pub done-none : {names : List (List ℕ)} {before : S} {zones : Z} {answered : Answered} {files : List FileSaid} {errors : List ℕ} → Knows [] answered →
       files ≡ [] → errors ≡ []
       → Done names before zones 0 before zones answered files errors
-  done-none names before zones answered files errors k f e = record {
+  done-none {names = names} k f e = record {
     contents = [];
     asked = [];
     from_first = refl;
@@ -124,22 +130,21 @@ module _ {S Z : Type 0} (reads : S → ℕ → Answer → S → Type 0) (finds :
     kept = record { files_are = f; errors_are = e ∙ sym (error_lines-none names []) };
   }
 
-  module _ (names : List (List ℕ)) (before : S) (zones : Z) (i : ℕ) (after : S) (zones' : Z) (answered : Answered) (files : List FileSaid) (errors : List ℕ)
+  module _ {names : List (List ℕ)} {before : S} {zones : Z} {i : ℕ} {after : S} {zones' : Z} {answered : Answered} {files : List FileSaid} {errors : List ℕ}
       (d : Done names before zones i after zones' answered files errors) where
-    some-more : (a : Contents) (answer : Answer) (last : S) → reads after i answer last → contents_of answer ≡ Some a → suc i ≤ length names →
-        ReadsSome reads names before (d.contents ++ a ∷ []) last
-    some-more a answer last r g h = record {
+    some-more : {a : Contents} {last : S} → Gave after i a last → suc i ≤ length names → ReadsSome reads names before (d.contents ++ a ∷ []) last
+    some-more {a = a} {last = last} g h = record {
       last = last;
-      from_first = reads-more before 0 d.contents after i a answer last d.from_first (omega (arith, d.long)) r g;
+      from_first = reads-more before 0 d.contents d.from_first (omega (arith, d.long)) g;
       ended = inl (refl, omega (arith, length-append d.contents (a ∷ []), d.long, h));
     }
 
     -- the next read, in which an allocation failed, or after which one failed
-    pub read-some : (answer : Answer) (last : S) (zones'' : Z) → reads after i answer last → suc i ≤ length names →
+    pub read-some : {answer : Answer} {last : S} {zones'' : Z} → reads after i answer last → suc i ≤ length names →
         EndsReading finds answer zones' zones'' answered
         → (contents : List Contents) × (asked : List Asked) × ReadsSome reads names before contents last
         × AsksSome finds [] (all_wanted contents) zones asked zones''
-    read-some answer last zones'' r h (EndsReading.InRead memory same) = (
+    read-some {last = last} r h (EndsReading.InRead memory same) = (
       d.contents,
       d.asked,
       record {
@@ -147,38 +152,37 @@ module _ {S Z : Type 0} (reads : S → ℕ → Answer → S → Type 0) (finds :
         from_first = d.from_first;
         ended = inr (subst (λ k. reads after k (Err Memory) last) (sym d.long) (subst (λ a. reads after i a last) memory r), omega (arith, d.long, h));
       },
-      subst (λ z. AsksSome finds [] (all_wanted d.contents) zones d.asked z) (sym same) (all-some finds [] (all_wanted d.contents) zones d.asked zones' d.asks),
+      subst (λ z. AsksSome finds [] (all_wanted d.contents) zones d.asked z) (sym same) (all-some finds d.asks),
     )
-    read-some answer last zones'' r h (EndsReading.AfterRead bytes gave learns) =
+    read-some {answer = answer} {zones'' = zones''} r h (EndsReading.AfterRead bytes gave learns) =
         let some = learns d.asked d.knows in (
           d.contents ++ Some bytes ∷ [],
           d.asked ++ some.more,
-          some-more (Some bytes) answer last r (ap contents_of gave) h,
+          some-more (record { answer = answer; read = r; gives = ap contents_of gave }) h,
           subst (λ wanted. AsksSome finds [] wanted zones (d.asked ++ some.more) zones'') (sym (all_wanted-more d.contents (Some bytes)))
-              (all-then-some finds [] (all_wanted d.contents) (wanted_names bytes) zones d.asked zones' some.more zones'' d.asks some.asks),
+              (all-then-some finds d.asks some.asks),
         )
 
     -- the next read comes to something, and nothing is kept of it
-    pub stops-after : (answer : Answer) (last : S) (zones'' : Z) (answered' : Answered) → reads after i answer last → suc i ≤ length names →
-        (file : Result FileSaid Refusal) → IsOutcome finds answer zones' zones'' answered answered' file
+    pub stops-after : {answer : Answer} {last : S} {zones'' : Z} {answered' : Answered} {file : Result FileSaid Refusal} → reads after i answer last →
+        suc i ≤ length names → IsOutcome finds answer zones' zones'' answered answered' file
         → (contents : List Contents) × (asked : List Asked) × ReadsSome reads names before contents last
         × AsksSome finds [] (all_wanted contents) zones asked zones''
-    stops-after answer last zones'' answered' r h file outcome =
+    stops-after {answer = answer} {zones'' = zones''} r h outcome =
         let learns = (outcome.settles d.asked d.knows).learns in (
           d.contents ++ outcome.given ∷ [],
           d.asked ++ learns.more,
-          some-more outcome.given answer last r outcome.some h,
+          some-more (record { answer = answer; read = r; gives = outcome.some }) h,
           subst (λ wanted. AsksSome finds [] wanted zones (d.asked ++ learns.more) zones'') (sym (all_wanted-more d.contents outcome.given))
-              (all-some finds [] (all_wanted d.contents ++ wanted_of outcome.given) zones (d.asked ++ learns.more) zones''
-              (all-then-all finds [] (all_wanted d.contents) (wanted_of outcome.given) zones d.asked zones' learns.more zones'' d.asks learns.asks)),
+              (all-some finds (all-then-all finds d.asks learns.asks)),
         )
 
-    pub done-more : OnlyWantedCount → (answer : Answer) (last : S) (zones'' : Z) (answered' : Answered) → reads after i answer last → (name : List ℕ) →
-        slice_get names i ≡ Some name
-        → (file : Result FileSaid Refusal) → IsOutcome finds answer zones' zones'' answered answered' file
-        → (files' : List FileSaid) (errors' : List ℕ) → files' ≡ files ++ events_first file [] → errors' ≡ errors ++ error_line name file
+    pub done-more : {answer : Answer} {last : S} {zones'' : Z} {answered' : Answered} {name : List ℕ} {file : Result FileSaid Refusal}
+        {files' : List FileSaid} {errors' : List ℕ} → OnlyWantedCount → reads after i answer last → slice_get names i ≡ Some name
+        → IsOutcome finds answer zones' zones'' answered answered' file
+        → files' ≡ files ++ events_first file [] → errors' ≡ errors ++ error_line name file
         → Done names before zones (i + 1) last zones'' answered' files' errors'
-    done-more count answer last zones'' answered' r name found file outcome files' errors' f e =
+    done-more {answer = answer} {zones'' = zones''} {name = name} count r found outcome f e =
         let a : Contents = outcome.given in
         let settles = outcome.settles d.asked d.knows in
         let learns = settles.learns in
@@ -188,10 +192,10 @@ module _ {S Z : Type 0} (reads : S → ℕ → Answer → S → Type 0) (finds :
         record {
           contents = d.contents ++ a ∷ [];
           asked = all;
-          from_first = reads-more before 0 d.contents after i a answer last d.from_first (omega (arith, d.long)) r outcome.some;
+          from_first = reads-more before 0 d.contents d.from_first (omega (arith, d.long)) (record { answer = answer; read = r; gives = outcome.some });
           long = omega (arith, length-append d.contents (a ∷ []), d.long);
           asks = subst (λ wanted. AsksAll finds [] wanted zones all zones'') (sym (all_wanted-more d.contents a))
-              (all-then-all finds [] (all_wanted d.contents) (wanted_of a) zones d.asked zones' learns.more zones'' d.asks learns.asks);
+              (all-then-all finds d.asks learns.asks);
           knows = learns.knows;
           kept = record {
             files_are = f ∙ (ap (λ x. files ++ events_first x []) settles.outcome_is

@@ -42,10 +42,10 @@ day_token_of zone window (Some text) (Some key) (inl p) bad = bad.no_day (day_ke
 day_token_of zone window (Some text) (Some key) (inr p) bad = bad.none (key_rank key.key, p.0, given_is text bad.text bad.stands ∙ p.1)
 
 -- what gives the keys after which a listing goes on is a token
-pub good_token : (entries : Entries) (zone : Display) (window : Window) (after : Option Key) (every_day : Option EveryDay) →
+pub good_token : {entries : Entries} (zone : Display) (window : Window) (after : Option Key) (every_day : Option EveryDay) →
     IsAfterBy entries zone window after every_day → IsNoToken entries → ⊥
-good_token entries zone window after None p bad = token_of (after_text entries) after p.1 bad.key
-good_token entries zone window after (Some every_day) p bad = day_token_of zone window (after_text entries) every_day.after p.2 (bad.day_key p.0)
+good_token {entries = entries} zone window after None p bad = token_of (after_text entries) after p.1 bad.key
+good_token {entries = entries} zone window after (Some every_day) p bad = day_token_of zone window (after_text entries) every_day.after p.2 (bad.day_key p.0)
 
 module _ (entries : Entries) (now : ℤ) where
   pub has_window : (display : Display) (window : Window) → said_by (zone_of display) ≡ display_of (zone_text entries)
@@ -58,19 +58,19 @@ module _ (entries : Entries) (now : ℤ) where
   passed_on (Ok request) fault err is h = absurd (true≢false (sym err))
   passed_on (Err other) fault err is h = subst (λ (f : RequestFault). EntriesAnswer entries now (Err f)) (sym is) h
 
-  pub no_token : {T : Type 0} (r : Result Request RequestFault) (fault : TokenFault) → IsErr r → IsErrAnd r (λ f. f ≡ token_fault fault)
+  pub no_token : {T : Type 0} (r : Result Request RequestFault) (fault : TokenFault) → IsErr r × IsErrAnd r (λ f. f ≡ token_fault fault)
       → HasWindow entries now → (IsErrOf {T = T} (Err fault) token.BadToken → IsNoToken entries) → EntriesAnswer entries now r
-  no_token {T} r fault err is window bad = passed_on r (token_fault fault) err is (answer fault bad)
+  no_token {T} r fault gives window bad = passed_on r (token_fault fault) gives.0 gives.1 (answer fault bad)
     where
       answer : (f : TokenFault) → (IsErrOf {T = T} (Err f) token.BadToken → IsNoToken entries) → EntriesAnswer entries now (Err (token_fault f))
       answer token.BadToken bad = record { window = window; token = bad refl }
       answer token.Memory bad = tt
 
-  pub no_format : {T : Type 0} (r : Result Request RequestFault) (fault : FormatFault) → IsErr r → IsErrAnd r (λ f. f ≡ format_fault fault)
+  pub no_format : {T : Type 0} (r : Result Request RequestFault) (fault : FormatFault) → IsErr r × IsErrAnd r (λ f. f ≡ format_fault fault)
       → HasWindow entries now → (¬ IsNoToken entries)
       → (IsErrOf {T = T} (Err fault) format.BadFormat → (¬ IsFormat entry_name (format_text entries)) ⊎ (¬ IsFormat day_name (day_format_text entries))) →
       EntriesAnswer entries now r
-  no_format {T} r fault err is window token bad = passed_on r (format_fault fault) err is (answer fault bad)
+  no_format {T} r fault gives window token bad = passed_on r (format_fault fault) gives.0 gives.1 (answer fault bad)
     where
       answer : (f : FormatFault) → (IsErrOf {T = T} (Err f) format.BadFormat → (¬ IsFormat entry_name (format_text entries))
           ⊎ (¬ IsFormat day_name (day_format_text entries)))

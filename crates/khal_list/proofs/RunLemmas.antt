@@ -47,21 +47,21 @@ copied-key rank None key h = ap (option_map rank) h
 copied-key rank (Some k) key h = ap (option_map rank) h
 
 -- what an agenda of these files has to come is what the request asks for
-pub asked : (files : List FileSaid) (display : Display) (request : Request) (coming : List Entry) (after : Option Rank) → display ≡ request.zone →
+pub asked : {files : List FileSaid} {display : Display} (request : Request) {coming : List Entry} {after : Option Rank} → display ≡ request.zone →
     after ≡ option_map key_rank request.after
     → (list : List Entry) × IsListing entry_cmp (IsListed files (display_clock display) request.window) list × (coming ≡ after_key after list) →
     (list : List Entry) × IsListingOf files request list × (coming ≡ asked_after request list)
-asked files display request coming after zone key whole = (
+asked {files = files} request zone key whole = (
   whole.0,
   subst (λ d. IsListing entry_cmp (IsListed files (display_clock d) request.window) whole.0) zone whole.1,
   whole.2 ∙ ap (λ k. after_key k whole.0) key,
 )
 
 -- the text of such an agenda is what the request shows once
-pub shows-once : (files : List FileSaid) (request : Request) (coming : List Entry) (token : Option (List ℕ)) →
+pub shows-once : {files : List FileSaid} (request : Request) {coming : List Entry} {token : Option (List ℕ)} →
     (list : List Entry) × IsListingOf files request list × (coming ≡ asked_after request list)
     → token ≡ option_map spelling (key_on request.limit coming) → ShowsOnce files request (listing_text request coming) token
-shows-once files request coming token whole is = record {
+shows-once request whole is = record {
   list = whole.0;
   listing = whole.1;
   shown_is = ap (listing_text request) whole.2;
@@ -69,38 +69,37 @@ shows-once files request coming token whole is = record {
 }
 
 -- a front of it
-pub part-once : (files : List FileSaid) (request : Request) (coming : List Entry) (out out' : Option (List ℕ)) →
+pub part-once : {files : List FileSaid} (request : Request) {coming : List Entry} {out out' : Option (List ℕ)} →
     (list : List Entry) × IsListingOf files request list × (coming ≡ asked_after request list)
     → TookFront out out' (listing_text request coming) → ShownInPart (ShowsOnce files request) out out'
-part-once files request coming out out' whole front =
+part-once request {coming = coming} whole front =
     inr (
       listing_text request coming,
       option_map spelling (key_on request.limit coming),
-      shows-once files request coming
-          (option_map spelling (key_on request.limit coming)) whole refl,
+      shows-once request whole refl,
       front,
     )
 
 -- the text of what is to come under each day is what the request shows under each day
-pub shows-days : (files : List FileSaid) (display : Display) (request : Request) (every_day : EveryDay) (list : List OnDay) (after : Option DayRank)
-    (token : Option (List ℕ)) → display ≡ request.zone
+pub shows-days : {files : List FileSaid} {display : Display} (request : Request) (every_day : EveryDay) {list : List OnDay} {after : Option DayRank}
+    {token : Option (List ℕ)} → display ≡ request.zone
     → after ≡ option_map day_key_rank every_day.after → IsListing on_day_cmp (IsOnDay files (display_clock display) request.window) list
     → token ≡ option_map day_spelling (day_key_on request.limit (after_day_key after list)) →
     ShowsDays files request every_day (days_text_of request (after_day_key after list)) token
-shows-days files display request every_day list after token zone key listing is = record {
+shows-days {files = files} request every_day {list = list} zone key listing is = record {
   list = list;
   listing = subst (λ d. IsListing on_day_cmp (IsOnDay files (display_clock d) request.window) list) zone listing;
   shown_is = ap (λ k. days_text_of request (after_day_key k list)) key;
   token_is = is ∙ ap (λ k. option_map day_spelling (day_key_on request.limit (after_day_key k list))) key;
 }
 
-pub part-days : (files : List FileSaid) (display : Display) (request : Request) (every_day : EveryDay) (list : List OnDay) (after : Option DayRank)
-    (out out' : Option (List ℕ)) → display ≡ request.zone
+pub part-days : {files : List FileSaid} {display : Display} (request : Request) (every_day : EveryDay) {list : List OnDay} {after : Option DayRank}
+    {out out' : Option (List ℕ)} → display ≡ request.zone
     → after ≡ option_map day_key_rank every_day.after → IsListing on_day_cmp (IsOnDay files (display_clock display) request.window) list
     → TookFront out out' (days_text_of request (after_day_key after list)) → ShownInPart (ShowsDays files request every_day) out out'
-part-days files display request every_day list after out out' zone key listing front =
+part-days request every_day {list = list} {after = after} zone key listing front =
     let token = option_map day_spelling (day_key_on request.limit (after_day_key after list)) in
-    inr (days_text_of request (after_day_key after list), token, shows-days files display request every_day list after token zone key listing refl, front)
+    inr (days_text_of request (after_day_key after list), token, shows-days request every_day zone key listing refl, front)
 
 module _ (files made : List FileSaid) (request : Request) (same : made ≡ files) where
   pub once-shows : request.every_day ≡ None → (shown : List ℕ) (token : Option (List ℕ)) → ShowsOnce made request shown token → Shows files request shown token
@@ -144,14 +143,14 @@ module _ {S Z : Type 0} (reads : S → ℕ → Answer → S → Type 0) (names :
   })
 
   -- the lines of the files were not written whole
-  pub stops-lines : (contents : List Contents) (asked : List Asked) (files : List FileSaid) (errors : List ℕ) → ReadsAll reads names before contents after
-      → AsksAll finds [] (all_wanted contents) zones asked zones' → IsReading names asked contents files errors → (given : List ℕ) → given ≡ errors
-      → (err' : Option (List ℕ)) → TookFront err err' given → Stops reads names before after finds zones zones' request out out err err'
-  stops-lines contents asked files errors read gave kept given same err' front = inl (record {
+  pub stops-lines : {contents : List Contents} {asked : List Asked} {files : List FileSaid} {errors given : List ℕ} {err' : Option (List ℕ)}
+      → ReadsAll reads names before contents after → AsksAll finds [] (all_wanted contents) zones asked zones' → IsReading names asked contents files errors
+      → given ≡ errors → TookFront err err' given → Stops reads names before after finds zones zones' request out out err err'
+  stops-lines {contents = contents} {asked = asked} {err' = err'} read gave kept same front = inl (record {
     contents = contents;
     read = record { last = after; from_first = read.from_first; ended = inl (refl, omega (arith, read.each)) };
     asked = asked;
-    gave = all-some finds [] (all_wanted contents) zones asked zones' gave;
+    gave = all-some finds gave;
     none = refl;
     lines = subst (TookFront err err') (same ∙ kept.errors_are) front;
   })
@@ -170,7 +169,7 @@ module _ {S Z : Type 0} (reads : S → ℕ → Answer → S → Type 0) (names :
     contents = contents;
     read = record { last = after; from_first = read.from_first; ended = inl (refl, omega (arith, read.each)) };
     asked = asked;
-    gave = all-some finds [] (all_wanted contents) zones asked zones' gave;
+    gave = all-some finds gave;
     none = none;
     lines = whole-front err told (error_lines names asked contents) lines;
   })

@@ -26,39 +26,39 @@ same-text : (a b : Text) → Some a ≡ Some b → a ≡ b
 same-text a b e = cc
 
 -- the key that the words name is that of the token
-key-named : OneSpelling → (given : Option Text) (key : Option Key) (rank : Rank) → IsKeyOf given key → given ≡ Some (spelling rank) → IsKey rank →
+key-named : OneSpelling → (given : Option Text) (key : Option Key) {rank : Rank} → IsKeyOf given key → given ≡ Some (spelling rank) → IsKey rank →
     option_map key_rank key ≡ Some rank
-key-named one None None rank h e k = let f : None ≡ Some (spelling rank) = e in cc
-key-named one None (Some key) rank h e k = absurd h
-key-named one (Some text) None rank h e k = absurd h
-key-named one (Some text) (Some key) rank h e k = ap Some (one (key_rank key) rank h.0 k (sym h.1 ∙ same-text text (spelling rank) e))
+key-named one None None {rank = rank} h e k = let f : None ≡ Some (spelling rank) = e in cc
+key-named one None (Some key) h e k = absurd h
+key-named one (Some text) None h e k = absurd h
+key-named one (Some text) (Some key) {rank = rank} h e k = ap Some (one (key_rank key) rank h.0 k (sym h.1 ∙ same-text text (spelling rank) e))
 
 pub token-goes-on : OneSpelling → TokenGoesOn
 token-goes-on one words now files request front o behind r once given k listing =
     let after = subst (λ e. IsAfterBy (entries_of words) request.zone request.window request.after e) once r.1.after in
-    goes-on files request front o behind listing (key-named one (after_text (entries_of words)) request.after (rank_of o) after.1 given k)
+    goes-on files request front o behind listing (key-named one (after_text (entries_of words)) request.after after.1 given k)
 
 pub day-goes-on : DayListingBehind → DayGoesOn
 day-goes-on behind-is files request every_day front p behind listing after =
     ap (λ k. after_day_key k (front ++ p ∷ behind)) after ∙ behind-is files (display_clock request.zone) request.window front p behind listing
 
 -- the key under a day that the words name is that of the token
-day-key-named : OneDaySpelling → (zone : Display) (window : Window) (given : Option Text) (key : Option DayKey) (rank : DayRank) →
-    IsDayKeyOf zone window given key
-    → given ≡ Some (day_spelling rank) → IsDayKey rank → option_map day_key_rank key ≡ Some rank
-day-key-named one zone window None None rank h e k = let f : None ≡ Some (day_spelling rank) = e in cc
-day-key-named one zone window None (Some key) rank h e k = absurd h
-day-key-named one zone window (Some text) None rank h e k = absurd h
-day-key-named one zone window (Some text) (Some key) rank (inl h) e k =
-    ap Some (one (day_key_rank key) rank h.0 k (sym h.1 ∙ same-text text (day_spelling rank) e))
-day-key-named one zone window (Some text) (Some key) rank (inr h) e k =
-    absurd (no_both rank (key_rank key.key) (sym (same-text text (day_spelling rank) e) ∙ h.1))
+module _ (one : OneDaySpelling) (zone : Display) (window : Window) where
+  day-key-named : (given : Option Text) (key : Option DayKey) {rank : DayRank} → IsDayKeyOf zone window given key
+      → given ≡ Some (day_spelling rank) → IsDayKey rank → option_map day_key_rank key ≡ Some rank
+  day-key-named None None {rank = rank} h e k = let f : None ≡ Some (day_spelling rank) = e in cc
+  day-key-named None (Some key) h e k = absurd h
+  day-key-named (Some text) None h e k = absurd h
+  day-key-named (Some text) (Some key) {rank = rank} (inl h) e k =
+      ap Some (one (day_key_rank key) rank h.0 k (sym h.1 ∙ same-text text (day_spelling rank) e))
+  day-key-named (Some text) (Some key) {rank = rank} (inr h) e k =
+      absurd (no_both rank (key_rank key.key) (sym (same-text text (day_spelling rank) e) ∙ h.1))
 
 pub day-token-goes-on : OneDaySpelling → DayListingBehind → DayTokenGoesOn
 day-token-goes-on one behind-is words now files request every_day front p behind r some given k listing =
     let after = subst (λ e. IsAfterBy (entries_of words) request.zone request.window request.after e) some r.1.after in
     day-goes-on behind-is files request every_day front p behind listing
-    (day-key-named one request.zone request.window (after_text (entries_of words)) every_day.after (day_rank_of p) after.2 given k)
+    (day-key-named one request.zone request.window (after_text (entries_of words)) every_day.after after.2 given k)
 
 splits-after : (style : Style) (before : Option ℤ) (front rest : List Entry) →
     text_after style before (front ++ rest) ≡ text_after style before front ++ text_after style (last_day style before front) rest

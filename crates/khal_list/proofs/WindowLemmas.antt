@@ -21,8 +21,8 @@ refused_second : (a b : Bool) (x y : ℤ) → (b ≡ true → ⊥) → None ≡ 
 refused_second true b x y fails = refused b x y fails
 refused_second false b x y fails = refl
 
-passed_all : (a b c : Bool) (x y : ℤ) → a ≡ true → b ≡ true → c ≡ true → Some (x, y) ≡ if_passed ((a && b) && c) x y
-passed_all a b c x y is_a is_b is_c = rw (is_a, is_b, is_c) refl
+passed_all : {a b c : Bool} (x y : ℤ) → a ≡ true → b ≡ true → c ≡ true → Some (x, y) ≡ if_passed ((a && b) && c) x y
+passed_all x y is_a is_b is_c = rw (is_a, is_b, is_c) refl
 
 true_by : (b : Bool) → (b ≡ false → ⊥) → b ≡ true
 true_by true fails = refl
@@ -49,4 +49,4 @@ between-rising zone start end early late rise =
     let b = true_by (int_le end last_end) (λ (fails : int_le end last_end ≡ false). omega (arith, signed_arith)) in
     let c = true_by (int_lt (moment_of (zone_of zone) start) (moment_of (zone_of zone) end))
     (λ (fails : int_lt (moment_of (zone_of zone) start) (moment_of (zone_of zone) end) ≡ false). omega (arith, signed_arith)) in
-    passed_all _ _ _ _ _ a b c
+    passed_all _ _ a b c

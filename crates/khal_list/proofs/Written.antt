@@ -33,9 +33,9 @@ appends-both (Some bytes) (Some more) (Some all) first second h k = k ∙ (ap (�
 pub appends-same : (told new : Option (List ℕ)) {first second : List ℕ} → first ≡ second → Appends told new first → Appends told new second
 appends-same told new same h = subst (Appends told new) same h
 
-written-more : (told middle new : Option (List ℕ)) (piece rest whole : List ℕ) → Written told middle (piece ++ rest) whole → Appends middle new piece →
-    Written told new rest whole
-written-more told middle new piece rest whole w h = record {
+written-more : {told middle : Option (List ℕ)} {whole : List ℕ} (new : Option (List ℕ)) (piece rest : List ℕ) → Written told middle (piece ++ rest) whole
+    → Appends middle new piece → Written told new rest whole
+written-more {told = told} {middle = middle} new piece rest w h = record {
   done = w.done ++ piece;
   taken = appends-both told middle new w.done piece w.taken h;
   whole_is = append_assoc w.done piece rest ∙ w.whole_is;
@@ -47,19 +47,18 @@ take-front front rest whole h = rw (← h) (grind (arith, common_steps))
 length-front : (front rest whole : List ℕ) → front ++ rest ≡ whole → length front ≤ length whole
 length-front front rest whole h = rw (← h) (omega (arith, length-append front rest))
 
-pub written-front : (told new : Option (List ℕ)) (rest whole : List ℕ) → Written told new rest whole → TookFront told new whole
-written-front told new rest whole w = record {
+pub written-front : {told new : Option (List ℕ)} {rest whole : List ℕ} → Written told new rest whole → TookFront told new whole
+written-front {told = told} {new = new} {rest = rest} {whole = whole} w = record {
   count = length w.done;
   within = length-front w.done rest whole w.whole_is;
   taken = appends-same told new (sym (take-front w.done rest whole w.whole_is)) w.taken;
 }
 
 -- a front of the next piece
-pub written-part : (told middle new : Option (List ℕ)) (piece rest whole : List ℕ) → Written told middle (piece ++ rest) whole → TookFront middle new piece →
-    TookFront told new whole
-written-part told middle new piece rest whole w f =
+pub written-part : {told middle new : Option (List ℕ)} {piece whole : List ℕ} (rest : List ℕ) → Written told middle (piece ++ rest) whole
+    → TookFront middle new piece → TookFront told new whole
+written-part {told = told} {middle = middle} {new = new} {piece = piece} {whole = whole} rest w f =
     let parted : take f.count piece ++ (drop f.count piece ++ rest) ≡ piece ++ rest =
     sym (append_assoc (take f.count piece) (drop f.count piece) rest) ∙ ap (λ p. p ++ rest) (take-append-drop f.count piece) in
     let again : Written told middle (take f.count piece ++ (drop f.count piece ++ rest)) whole = rw parted w in
-    written-front told new (drop f.count piece ++ rest) whole
-    (written-more told middle new (take f.count piece) (drop f.count piece ++ rest) whole again f.taken)
+    written-front (written-more new (take f.count piece) (drop f.count piece ++ rest) again f.taken)

@@ -13,7 +13,7 @@ use Rattle.khal_list.proofs.printing.put_entries.Goals as goal
 pub returns-in_err-day-clause-puts : goal.returns-in_err-day-clause-puts
 returns-in_err-day-clause-puts g c = λ list a.
     let p = c.loop-count.invariant.printed list a in
-    puts-fault c.args.request.now (g.D.Draws.comes c.args.draws.now c.draw.new.source) list p.0 _ _ c.from_residual.result c.from_residual.ensures.0
+    puts-fault {coming = g.D.Draws.comes c.args.draws.now c.draw.new.source} c.from_residual.result c.from_residual.ensures.0
     (printed-front p.2) (c.in_err-day.ensures.err p.0 p.1) (drew-none p.2)
 
 pub returns-in-Some-eq0-clause-puts : goal.returns-in-Some-eq0-clause-puts
@@ -22,15 +22,15 @@ returns-in-Some-eq0-clause-puts g c = λ list a.
     let d = rw c.in-Some.is at c.in_ok-day.ensures.ok p.0 p.1 in
     let e = on_day c.in-Some.day (entry_of c.in-Some.occurrence) in
     let none : c.loop-count.left ≡ Some 0 = search rules in
-    puts-cut c.args.request.now (g.D.Draws.comes c.args.draws.now c.draw.new.source) list d.0 _ _ _ c.key_of.result c.key_of.ensures.ok
-    (cut-text p.2 e d.0 d.1 none) (cut-key p.2 e d.0 d.1 none) (printed-front p.2) d.2 (drew-one p.2 e d.0 d.1)
+    puts-cut {coming = g.D.Draws.comes c.args.draws.now c.draw.new.source} c.key_of.result c.key_of.ensures.ok
+    (cut-text p.2 e d.0 d.1 none, cut-key p.2 e d.0 d.1 none) (printed-front p.2) d.2 (drew-one p.2 e d.0 d.1)
 
 pub returns-in_err-add_entry-clause-puts : goal.returns-in_err-add_entry-clause-puts
 returns-in_err-add_entry-clause-puts g c = λ list a.
     let p = c.loop-count.invariant.printed list a in
     let d = rw c.in-Some.is at c.in_ok-day.ensures.ok p.0 p.1 in
     let e = on_day c.in-Some.day (entry_of c.in-Some.occurrence) in
-    puts-fault c.args.request.now (g.D.Draws.comes c.args.draws.now c.draw.new.source) list d.0 _ _ c.from_residual-in_err-add_entry.result
+    puts-fault {coming = g.D.Draws.comes c.args.draws.now c.draw.new.source} c.from_residual-in_err-add_entry.result
     c.from_residual-in_err-add_entry.ensures.0
     (printed-front p.2) d.2 (drew-one p.2 e d.0 d.1)
 
@@ -42,11 +42,10 @@ returns-in_err-put_all-clause-puts g c = λ list a.
     let some : c.loop-count.left ≢ Some 0 = search rules in
     let fits : FitsSigned w32 c.in-Some.day = search rules in
     let kept = to_z-of_z w32 c.in-Some.day fits in
-    let bytes = only-piece c.clear.new.self.items c.add_entry.new.text.items c.deref.result.now
-    (entry_text (style_of c.args.request.now) c.loop-count.before c.in-Some.day (entry_of c.in-Some.occurrence))
+    let bytes = only-piece (entry_text (style_of c.args.request.now) c.loop-count.before c.in-Some.day (entry_of c.in-Some.occurrence))
     c.clear.ensures.items (rw kept at c.in_ok-add_entry.ensures) c.deref.ensures.value in
     let lower = fewer c.loop-count.left some in
-    puts-fault c.args.request.now (g.D.Draws.comes c.args.draws.now c.draw.new.source) list d.0 _ _ c.from_residual-in_err-put_all.result
+    puts-fault {coming = g.D.Draws.comes c.args.draws.now c.draw.new.source} c.from_residual-in_err-put_all.result
     c.from_residual-in_err-put_all.ensures.0
     (printed-part p.2 e d.0 d.1 c.in-Some.day c.deref.result.now lower.0 refl bytes lower.1 (g.O.Sink.taken c.put_all.new.sink) c.in_err-put_all.ensures.err)
     d.2 (drew-part p.2 e d.0 d.1 (g.O.Sink.taken c.put_all.new.sink) _ c.in_err-put_all.ensures.err.taken)
@@ -60,8 +59,7 @@ loop-count-preserved g c = record {
       let some : c.loop-count.left ≢ Some 0 = search rules in
       let fits : FitsSigned w32 c.in-Some.day = search rules in
       let kept = to_z-of_z w32 c.in-Some.day fits in
-      let bytes = only-piece c.clear.new.self.items c.add_entry.new.text.items c.deref.result.now
-      (entry_text (style_of c.args.request.now) c.loop-count.before c.in-Some.day (entry_of c.in-Some.occurrence))
+      let bytes = only-piece (entry_text (style_of c.args.request.now) c.loop-count.before c.in-Some.day (entry_of c.in-Some.occurrence))
       c.clear.ensures.items (rw kept at c.in_ok-add_entry.ensures) c.deref.ensures.value in (
         d.0,
         d.2,
@@ -74,5 +72,5 @@ loop-count-preserved g c = record {
 pub returns-clause-puts : goal.returns-clause-puts
 returns-clause-puts g c = λ list a.
     let p = c.loop-count.invariant.printed list a in
-    puts-fault c.args.request.now (g.D.Draws.comes c.args.draws.now c.loop-count.source) list p.0 _ _ _ refl
+    puts-fault {coming = g.D.Draws.comes c.args.draws.now c.loop-count.source} _ refl
     (printed-front p.2) p.1 (drew-none p.2)

@@ -1,7 +1,6 @@
-use Rattle.std.proofs.Common.{Some, map, ◌∙◌, ap, sym}
+use Rattle.std.proofs.Common.{Some, ◌∙◌, ap, sym}
 use Rattle.std.specs.Option.{option_map}
 use denote.Ref.{Bor}
-use Rattle.ics_calendar.specs.Event.{said_by}
 use Rattle.ics_series.specs.DayKeys.{day_key_rank}
 use Rattle.ics_series.specs.DayTokens.{day_spelling}
 use Rattle.ics_series.specs.OnDays.{after_day_key}
@@ -17,8 +16,7 @@ returns-in_err-print_days-clause-err g c =
     let after = option_map (λ (k : Bor DayKey). day_key_rank k.now) c.as_ref.result in
     let puts = c.in_err-print_days.ensures.puts (after_day_key after days.0) days.2 in
     on_err c.from_residual-in_err-print_days.result (
-    part-days (map said_by c.args.folder.now.files) c.args.folder.now.display c.args.request.now c.args.every_day.now days.0 after
-    (g.O.Sink.taken c.args.out.now) (g.O.Sink.taken c.print_days.new.out) c.requires key days.1 puts.front)
+    part-days c.args.request.now c.args.every_day.now c.requires key days.1 puts.front)
 
 pub returns-in_err-write-in-Some-clause-err : goal.returns-in_err-write-in-Some-clause-err
 returns-in_err-write-in-Some-clause-err g c =
@@ -27,8 +25,7 @@ returns-in_err-write-in-Some-clause-err g c =
     let after = option_map (λ (k : Bor DayKey). day_key_rank k.now) c.as_ref.result in
     let puts = c.in_ok-print_days.ensures.puts (after_day_key after days.0) days.2 in
     on_err c.from_residual-in_err-write-in-Some.result (
-    part-days (map said_by c.args.folder.now.files) c.args.folder.now.display c.args.request.now c.args.every_day.now days.0 after
-    (g.O.Sink.taken c.args.out.now) (g.O.Sink.taken c.print_days.new.out) c.requires key days.1
+    part-days c.args.request.now c.args.every_day.now c.requires key days.1
     (whole-front (g.O.Sink.taken c.args.out.now) (g.O.Sink.taken c.print_days.new.out) _ puts.text))
 
 pub returns-in-None-clause-ok : goal.returns-in-None-clause-ok
@@ -39,8 +36,7 @@ returns-in-None-clause-ok g c =
     let puts = c.in_ok-print_days.ensures.puts (after_day_key after days.0) days.2 in
     let token = ap (option_map day_spelling) (sym (ap (option_map day_key_rank) c.in-None.is) ∙ puts.key) in (
       _,
-      shows-days (map said_by c.args.folder.now.files) c.args.folder.now.display c.args.request.now c.args.every_day.now days.0 after _ c.requires key days.1
-          token,
+      shows-days c.args.request.now c.args.every_day.now c.requires key days.1 token,
       puts.text,
     )
 
@@ -52,7 +48,6 @@ returns-clause-ok g c =
     let puts = c.in_ok-print_days.ensures.puts (after_day_key after days.0) days.2 in
     let token = ap Some c.in_ok-write-in-Some.ensures ∙ ap (option_map day_spelling) (sym (ap (option_map day_key_rank) c.in-Some.is) ∙ puts.key) in (
       _,
-      shows-days (map said_by c.args.folder.now.files) c.args.folder.now.display c.args.request.now c.args.every_day.now days.0 after _ c.requires key days.1
-          token,
+      shows-days c.args.request.now c.args.every_day.now c.requires key days.1 token,
       puts.text,
     )

@@ -1,5 +1,3 @@
-use Rattle.std.proofs.Common.{map}
-use Rattle.ics_calendar.specs.Event.{said_by}
 use Rattle.ics_series.specs.Entry.{key_rank}
 use Rattle.khal_list.proofs.RunLemmas.{asked, copied-key, part-once, whole-front}
 use Rattle.khal_list.proofs.Written.{on_err}
@@ -7,16 +5,16 @@ use Rattle.khal_list.proofs.running.list_once.Goals as goal
 
 pub returns-in_err-print-clause-err : goal.returns-in_err-print-clause-err
 returns-in_err-print-clause-err g c =
-    let whole = asked (map said_by c.args.folder.now.files) c.args.folder.now.display c.args.request.now _ _ c.requires
+    let whole = asked c.args.request.now c.requires
     (copied-key key_rank c.as_ref.result c.args.request.now.after c.as_ref.ensures.value) c.in_ok-agenda.ensures.behind in
     on_err c.from_residual-in_err-print.result (
-    part-once (map said_by c.args.folder.now.files) c.args.request.now _ (g.O.Sink.taken c.args.out.now) (g.O.Sink.taken c.print.new.out) whole
+    part-once c.args.request.now whole
     c.in_err-print.ensures.front)
 
 pub returns-in_err-write-in-Some-clause-err : goal.returns-in_err-write-in-Some-clause-err
 returns-in_err-write-in-Some-clause-err g c =
-    let whole = asked (map said_by c.args.folder.now.files) c.args.folder.now.display c.args.request.now _ _ c.requires
+    let whole = asked c.args.request.now c.requires
     (copied-key key_rank c.as_ref.result c.args.request.now.after c.as_ref.ensures.value) c.in_ok-agenda.ensures.behind in
     on_err c.from_residual-in_err-write-in-Some.result (
-    part-once (map said_by c.args.folder.now.files) c.args.request.now _ (g.O.Sink.taken c.args.out.now) (g.O.Sink.taken c.print.new.out) whole
+    part-once c.args.request.now whole
     (whole-front (g.O.Sink.taken c.args.out.now) (g.O.Sink.taken c.print.new.out) _ c.in_ok-print.ensures.text))

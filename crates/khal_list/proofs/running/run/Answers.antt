@@ -21,9 +21,7 @@ returns-in_err-put_all-clause-stops g c =
     stops-lines g.S.Source.reads (g.S.Source.names c.args.source.now) c.args.source.now c.read_all.new.source g.Z.ZoneSource.finds c.args.zones.now
     c.read_all.new.zones c.args.request.now
     (g.O.Sink.taken c.args.out.now) (g.E.Sink.taken c.args.err.now)
-    all.0 all.1 (map said_by c.in_ok-reading.reading.files.items) c.in_ok-reading.reading.errors.items all.2 all.3 all.4 c.deref.result.now
-    c.deref.ensures.value
-    (g.E.Sink.taken c.put_all.new.sink) c.in_err-put_all.ensures.err)
+    all.2 all.3 all.4 c.deref.ensures.value c.in_err-put_all.ensures.err)
 
 pub returns-in_err-token-clause-stops : goal.returns-in_err-token-clause-stops
 returns-in_err-token-clause-stops g c =

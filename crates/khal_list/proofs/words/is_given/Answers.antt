@@ -8,5 +8,5 @@ pub returns-in-Some : goal.returns-in-Some
 returns-in-Some c =
     let read = one_text-rows (found_of c.in-Some.entries.now) c.args.id.now in
     let gives = c.get_flag.ensures in
-    flag_is c.args.id.now (subcommand_rows_of c.args.found.now) _ c.get_flag.result c.requires c.in-Some.ensures.rows
+    flag_is (subcommand_rows_of c.args.found.now) _ c.get_flag.result c.requires c.in-Some.ensures.rows
     ((λ e. gives.none (read ∙ e)), (λ e. gives.value (read ∙ e)), (λ e. gives.other (read ∙ e)))
