@@ -35,10 +35,10 @@ behind-entry (x ∷ xs) o ys h =
     let later : rank_cmp (rank_of o) (rank_of x) ≡ Greater = entry_total.antisymm o x ∙ ap ordering_reverse (before-later x o xs ys h.0) in
     ap (λ c. cond (is_lt c) (x ∷ after_key (Some (rank_of o)) (xs ++ o ∷ ys)) (after_key (Some (rank_of o)) (xs ++ o ∷ ys))) later ∙ behind-entry xs o ys h.1
 
-pub goes-on : (files : List FileSaid) (request : Request) (front : List Entry) (o : Entry) (behind : List Entry) →
+pub goes-on : {files : List FileSaid} (request : Request) (front : List Entry) (o : Entry) (behind : List Entry) →
     IsListingOf files request (front ++ o ∷ behind)
     → option_map key_rank request.after ≡ Some (rank_of o) → asked_after request (front ++ o ∷ behind) ≡ behind
-goes-on files request front o behind h e = ap (λ key. after_key key (front ++ o ∷ behind)) e ∙ behind-entry front o behind h.rises
+goes-on request front o behind h e = ap (λ key. after_key key (front ++ o ∷ behind)) e ∙ behind-entry front o behind h.rises
 
 -- what stands behind the last of some entries
 behind-last : (xs ps ys : List Entry) → Rises entry_cmp (xs ++ (ps ++ ys)) → 1 ≤ length ps → after_key (last_key ps) (xs ++ (ps ++ ys)) ≡ ys
@@ -83,7 +83,7 @@ joined-from (limit ∷ limits) {xs = xs} rest b p l =
     p.1
     (omega (arith, l, length-drop limit rest))))
 
-pub pages-join : (files : List FileSaid) (request : Request) (list : List Entry) (limits : List ℕ) → IsListingOf files request list → ArePositive limits →
+pub pages-join : {files : List FileSaid} (request : Request) (list : List Entry) (limits : List ℕ) → IsListingOf files request list → ArePositive limits →
     length list ≤ total limits
     → joined limits None list ≡ list
-pages-join files request list limits h p l = joined-from limits {xs = []} list (record { rises = h.rises; behind = refl }) p l
+pages-join request list limits h p l = joined-from limits {xs = []} list (record { rises = h.rises; behind = refl }) p l

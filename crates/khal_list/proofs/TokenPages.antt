@@ -9,8 +9,8 @@ use Rattle.ics_series.specs.Clocks.{display_clock}
 use Rattle.ics_series.specs.DayKeys.{day_key_rank, DayRank}
 use Rattle.ics_series.specs.DayLaws.{DayListingBehind}
 use Rattle.ics_series.specs.DayTokens.{day_spelling, IsDayKey, OneDaySpelling}
-use Rattle.ics_series.specs.Entry.{Entry, Rank, key_rank, rank_of}
-use Rattle.ics_series.specs.OnDays.{after_day_key, day_rank_of}
+use Rattle.ics_series.specs.Entry.{Entry, Rank, key_rank}
+use Rattle.ics_series.specs.OnDays.{after_day_key}
 use Rattle.ics_series.specs.Tokens.{OneSpelling, IsKey, spelling}
 use Rattle.ics_series.specs.declared.day_key.DayKey.{DayKey}
 use Rattle.ics_series.specs.declared.window.Window.{Window}
@@ -36,7 +36,7 @@ key-named one (Some text) (Some key) {rank = rank} h e k = ap Some (one (key_ran
 pub token-goes-on : OneSpelling → TokenGoesOn
 token-goes-on one words now files request front o behind r once given k listing =
     let after = subst (λ e. IsAfterBy (entries_of words) request.zone request.window request.after e) once r.1.after in
-    goes-on files request front o behind listing (key-named one (after_text (entries_of words)) request.after after.1 given k)
+    goes-on request front o behind listing (key-named one (after_text (entries_of words)) request.after after.1 given k)
 
 pub day-goes-on : DayListingBehind → DayGoesOn
 day-goes-on behind-is files request every_day front p behind listing after =

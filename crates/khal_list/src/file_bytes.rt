@@ -14,7 +14,9 @@ pub(crate) fn read_front<R: Files>(
     name: &str,
     most: u64,
 ) -> Result<Option<Vec<u8>>, SourceFault> {
-    let path = format!(in alloc; "{folder}/{name}").map_err(|_| SourceFault::Memory)?;
+    let Ok(path) = format!(in alloc; "{folder}/{name}") else {
+        return Err(SourceFault::Memory);
+    };
     if !is_there(rt, path.as_str())? {
         return Ok(None);
     }
@@ -44,11 +46,16 @@ fn read_some<R: Files>(
     path: &str,
     most: u64,
 ) -> Result<Option<Vec<u8>>, SourceFault> {
-    let file = File::open(rt, path).map_err(fault_of)?;
+    let file = match File::open(rt, path) {
+        Ok(file) => file,
+        Err(error) => return Err(fault_of(error)),
+    };
     let mut bytes = Vec::new(alloc);
     let mut front = file.take(most);
-    front.read_to_end(&mut bytes).map_err(fault_of)?;
-    Ok(Some(bytes))
+    match front.read_to_end(&mut bytes) {
+        Ok(_) => Ok(Some(bytes)),
+        Err(error) => Err(fault_of(error)),
+    }
 }
 
 fn fault_of(error: io::Error) -> SourceFault {

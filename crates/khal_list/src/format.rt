@@ -60,7 +60,9 @@ impl<F: Placeholder> Format<F> {
             let Some((piece, after)) = next_piece(rest) else {
                 return Err(FormatFault::BadFormat);
             };
-            pieces.push(piece).map_err(|_| FormatFault::Memory)?;
+            let Ok(()) = pieces.push(piece) else {
+                return Err(FormatFault::Memory);
+            };
             rest = after;
         }
         Ok(Format { pieces })

@@ -36,7 +36,8 @@ impl WindowText {
         if let Some(local) = local(text.as_bytes()) {
             return Some(WindowText::Local(local));
         }
-        days(text).map(WindowText::Days)
+        let number = days(text)?;
+        Some(WindowText::Days(number))
     }
 }
 
