@@ -54,28 +54,36 @@ impl Placeholder for EntryField {
 
     fn named(text: &[u8]) -> Option<EntryField> {
         if text == b"cell".as_slice() {
-            Some(EntryField::Cell)
-        } else if text == b"title".as_slice() {
-            Some(EntryField::Title)
-        } else if text == b"start-time".as_slice() {
-            Some(EntryField::StartTime)
-        } else if text == b"end-time".as_slice() {
-            Some(EntryField::EndTime)
-        } else if text == b"start-date".as_slice() {
-            Some(EntryField::StartDate)
-        } else if text == b"end-date".as_slice() {
-            Some(EntryField::EndDate)
-        } else if text == b"location".as_slice() {
-            Some(EntryField::Location)
-        } else if text == b"description".as_slice() {
-            Some(EntryField::Description)
-        } else if text == b"uid".as_slice() {
-            Some(EntryField::Uid)
-        } else if text == b"cancelled".as_slice() {
-            Some(EntryField::Cancelled)
-        } else {
-            None
+            return Some(EntryField::Cell);
         }
+        if text == b"title".as_slice() {
+            return Some(EntryField::Title);
+        }
+        if text == b"start-time".as_slice() {
+            return Some(EntryField::StartTime);
+        }
+        if text == b"end-time".as_slice() {
+            return Some(EntryField::EndTime);
+        }
+        if text == b"start-date".as_slice() {
+            return Some(EntryField::StartDate);
+        }
+        if text == b"end-date".as_slice() {
+            return Some(EntryField::EndDate);
+        }
+        if text == b"location".as_slice() {
+            return Some(EntryField::Location);
+        }
+        if text == b"description".as_slice() {
+            return Some(EntryField::Description);
+        }
+        if text == b"uid".as_slice() {
+            return Some(EntryField::Uid);
+        }
+        if text == b"cancelled".as_slice() {
+            return Some(EntryField::Cancelled);
+        }
+        None
     }
 
     ghost plain = { entry_names_plain };
