@@ -24,3 +24,46 @@ loop-at-preserved c =
       high = c.clear_to-next.ensures.high;
       earlier = c.clear_to-next.ensures.earlier;
     })
+
+pub loop-at-init : goal.loop-at-init
+loop-at-init c =
+    let seconds : SFits w64 c.args.seconds = c.ranges.seconds in
+    let after : SFits w64 c.args.after = c.ranges.after in
+    rw (to_z-of_z w64 c.args.seconds seconds, to_z-of_z w64 c.args.after after)
+    (record { low = omega (arith, ints); high = c.requires.high; earlier = c.requires.earlier })
+
+pub overflow_add-seconds : goal.overflow_add-seconds
+overflow_add-seconds c = omega (arith, ints, c.requires.bound)
+
+pub clear_to-next-requires-clause-bound : goal.clear_to-next-requires-clause-bound
+clear_to-next-requires-clause-bound c =
+    let seconds : SFits w64 c.args.seconds = c.ranges.seconds in
+    rw (to_z-of_z w64 c.args.seconds seconds) c.requires.bound
+
+pub clear_to-next-requires-clause-low : goal.clear_to-next-requires-clause-low
+clear_to-next-requires-clause-low c = omega (arith, ints, c.requires.low, c.loop-at.invariant.low)
+
+pub clear_to-next-requires-clause-skipped : goal.clear_to-next-requires-clause-skipped
+clear_to-next-requires-clause-skipped c =
+    let seconds : SFits w64 c.args.seconds = c.ranges.seconds in
+    rw (to_z-of_z w64 c.args.seconds seconds) c.requires.skipped
+
+pub overflow_add-at : goal.overflow_add-at
+overflow_add-at c = omega (arith, ints, c.requires.bound, c.requires.low, c.loop-at.invariant.low, c.loop-at.invariant.high)
+
+pub returns-then-next-at-clause-low : goal.returns-then-next-at-clause-low
+returns-then-next-at-clause-low c = omega (arith, ints, c.clear_to-next.ensures.low, c.loop-at.invariant.low)
+
+pub returns-then-next-at-clause-high : goal.returns-then-next-at-clause-high
+returns-then-next-at-clause-high c = omega (arith, ints, c.clear_to-next.ensures.high)
+
+pub returns-clause-low : goal.returns-clause-low
+returns-clause-low c = omega (arith, ints, c.loop-at.invariant.low)
+
+pub returns-clause-high : goal.returns-clause-high
+returns-clause-high c = omega (arith, ints, c.loop-at.invariant.high)
+
+pub returns-clause-earlier : goal.returns-clause-earlier
+returns-clause-earlier c =
+    let seconds : SFits w64 c.args.seconds = c.ranges.seconds in
+    simp to_z-of_z at c.loop-at.invariant.earlier

@@ -1,5 +1,6 @@
-use Rattle.std.proofs.Common.{rules, arith, SFits, w32, w64}
+use Rattle.std.proofs.Common.{rules, arith, SFits, w32, w64, inl}
 use Rattle.std.proofs.lemmas.Int.{ints, clamps, to_z-of_z}
+use Rattle.std.proofs.lemmas.List.{length-set}
 use Rattle.ics_zone.proofs.MarkLemmas.{stay_minute, marks_minute, clear_minute}
 use Rattle.ics_zone.proofs.onsets.Onsets.clear.Goals as goal
 
@@ -90,3 +91,53 @@ returns-clause-clear c = λ k contains early later.
     let most : SFits w64 c.args.most = c.ranges.most in
     let clear = simp to_z-of_z at c.loop-minute.invariant.clear in
     clear k (omega (arith, ints, early, c.requires.most, c.loop-minute-test.false)) contains later
+
+pub within-onsets-requires-clause-near : goal.within-onsets-requires-clause-near
+within-onsets-requires-clause-near c =
+    let from : SFits w64 c.args.from = c.ranges.from in
+    rw (to_z-of_z w64 c.args.from from) c.requires.near
+
+pub seconds_to-low-requires : goal.seconds_to-low-requires
+seconds_to-low-requires c =
+    let from : SFits w64 c.args.from = c.ranges.from in
+    rw (to_z-of_z w64 c.args.from from) c.requires.near
+
+pub overflow_sub-seconds : goal.overflow_sub-seconds
+overflow_sub-seconds c =
+    let to : SFits w32 c.args.self.now.offset_to = search rules in
+    omega (arith, ints, c.requires.local, c.from.ensures)
+
+pub loop-minute-init : goal.loop-minute-init
+loop-minute-init c =
+    let from : SFits w64 c.args.from = c.ranges.from in
+    let local : SFits w64 c.args.seconds = c.ranges.seconds in
+    rw (to_z-of_z w64 c.args.from from, to_z-of_z w64 c.args.seconds local) (record {
+      length = c.requires.length;
+      marks = λ k marked. inl marked;
+      clear = λ k early. absurd (omega (arith, early));
+    })
+
+pub bounds-over-minute-in-loop-minute-2 : goal.bounds-over-minute-in-loop-minute-2
+bounds-over-minute-in-loop-minute-2 c = simp length-set (omega (arith, c.loop-minute.invariant.length, c.loop-minute-test.true))
+
+pub overflow_mul-minute : goal.overflow_mul-minute
+overflow_mul-minute c = omega (arith, ints, c.loop-minute-test.true)
+
+pub overflow_add-minute : goal.overflow_add-minute
+overflow_add-minute c = let small = c.in-Some.ensures.0 in omega (arith, ints, small, c.loop-minute-test.true, c.from-in-Some.ensures)
+
+pub returns-in-Some-clause-length : goal.returns-in-Some-clause-length
+returns-in-Some-clause-length c = simp length-set c.loop-minute.invariant.length
+
+pub returns-in-Some-clause-most : goal.returns-in-Some-clause-most
+returns-in-Some-clause-most c =
+    let most : SFits w64 c.args.most = c.ranges.most in
+    omega (arith, ints, c.min.ensures.self_bound)
+
+pub returns-clause-some : goal.returns-clause-some
+returns-clause-some c =
+    let most : SFits w64 c.args.most = c.ranges.most in
+    rw (to_z-of_z w64 c.args.most most) c.requires.some
+
+pub returns-clause-most : goal.returns-clause-most
+returns-clause-most c = omega (arith, ints)

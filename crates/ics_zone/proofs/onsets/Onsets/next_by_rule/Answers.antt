@@ -1,5 +1,5 @@
-use Rattle.std.proofs.Common.{rules, SFits, w32, w64}
-use Rattle.std.proofs.lemmas.Int.{to_z-of_z}
+use Rattle.std.proofs.Common.{rules, SFits, w32, w64, arith}
+use Rattle.std.proofs.lemmas.Int.{to_z-of_z, ints}
 use Rattle.ics_zone.proofs.KeptLemmas.{next_of_rule, bound_of_rule, no_next_of_rule}
 use Rattle.ics_zone.proofs.onsets.Onsets.next_by_rule.Goals as goal
 
@@ -37,3 +37,24 @@ returns-in-None-clause-next c =
     rw (to_z-of_z w64 c.args.limit fits)
     (no_next_of_rule c.args.self.now c.in-Some.rule c.in-Some.is c.args.limit c.shown_to-end.result shown c.args.after c.shown_by-from.result past
     c.in-None.ensures)
+
+pub returns-in_default-clause-after : goal.returns-in_default-clause-after
+returns-in_default-clause-after c =
+    let limit : SFits w64 c.args.limit = c.ranges.limit in
+    rw (to_z-of_z w64 c.args.limit limit) c.requires.limit
+
+pub returns-in-None-clause-after : goal.returns-in-None-clause-after
+returns-in-None-clause-after c =
+    let limit : SFits w64 c.args.limit = c.ranges.limit in
+    rw (to_z-of_z w64 c.args.limit limit) c.requires.limit
+
+pub returns-in_default-clause-is : goal.returns-in_default-clause-is
+returns-in_default-clause-is c = λ less. absurd (omega (arith, ints, less))
+
+pub returns-in-None-clause-is : goal.returns-in-None-clause-is
+returns-in-None-clause-is c = λ less. absurd (omega (arith, ints, less))
+
+pub shown_by-from-requires : goal.shown_by-from-requires
+shown_by-from-requires c =
+    let from : SFits w32 c.args.self.now.offset_from = search rules in
+    rw (to_z-of_z w32 c.args.self.now.offset_from from) c.requires.sound.from_in

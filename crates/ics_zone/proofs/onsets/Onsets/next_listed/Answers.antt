@@ -30,3 +30,14 @@ returns-clause-next c =
     let low = next_listed c.args.self.now.listed.items c.requires.sound.in_order c.args.after c.passed-passed.result passed c.index.result.now inside
     c.index.ensures t h l in
     omega (arith, ints, clamps, least, low))
+
+pub returns-then-passed-len-clause-after : goal.returns-then-passed-len-clause-after
+returns-then-passed-len-clause-after c =
+    let limit : SFits w64 c.args.limit = c.ranges.limit in
+    rw (to_z-of_z w64 c.args.limit limit) c.requires.limit
+
+pub returns-then-passed-len-clause-is : goal.returns-then-passed-len-clause-is
+returns-then-passed-len-clause-is c = λ less. absurd (omega (arith, ints, less))
+
+pub returns-clause-bound : goal.returns-clause-bound
+returns-clause-bound c = omega (arith, ints, c.min.ensures.other_bound)

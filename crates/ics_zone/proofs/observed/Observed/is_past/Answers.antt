@@ -1,0 +1,29 @@
+use Rattle.std.proofs.Common.{rules, arith, ◌≡◌, ℤ, ◌+ℤ◌, ◌<ℤ◌, ◌≤ℤ◌, inl, inr, SFits, w32, w64, to_z, of_z}
+use Rattle.std.specs.Prelude.{MatchBool, int_lt}
+use Rattle.std.proofs.lemmas.Int.{ints, to_z-of_z}
+use Rattle.ics_zone.specs.Moments.{shown}
+use Rattle.ics_zone.specs.ZoneOffsets.{zone_offset}
+use Rattle.ics_zone.specs.Observances.{observances_said}
+use Rattle.ics_zone.proofs.Cases.{less_or_not_z, true_int_lt, false_int_lt}
+use Rattle.ics_zone.proofs.observed.Observed.is_past.Goals as goal
+
+-- what the test of two locals tells
+later_shown : (seconds shown a b : ℤ) → a ≡ seconds → b ≡ shown → MatchBool (int_lt a b) (seconds <ℤ shown) (shown ≤ℤ seconds)
+later_shown seconds shown a b x y = elim (less_or_not_z a b) [
+  | inl less ↦ rw (true_int_lt a b less) (omega (arith, ints, x, y, less))
+  | inr more ↦ rw (false_int_lt a b more) (omega (arith, ints, x, y, more))
+]
+
+pub overflow_add-result : goal.overflow_add-result
+overflow_add-result c =
+    let offset : SFits w32 c.offset.result = search rules in
+    omega (arith, ints, c.requires, c.from.ensures)
+
+pub returns : goal.returns
+returns c =
+    let moment : SFits w64 c.args.moment = c.ranges.moment in
+    let offset : SFits w32 c.offset.result = search rules in
+    let value = simp to_z-of_z at c.offset.ensures.value in
+    later_shown c.args.seconds (shown (zone_offset (observances_said c.args.self.now)) c.args.moment) (to_z w64 (of_z w64 c.args.seconds))
+    (to_z w64 (of_z w64 (to_z w64 (of_z w64 c.args.moment) +ℤ to_z w64 (of_z w64 c.from.result)))) (omega (arith, ints))
+    (omega (arith, ints, value, c.from.ensures, c.requires))
