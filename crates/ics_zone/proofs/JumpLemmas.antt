@@ -260,15 +260,15 @@ natural_less a b low less =
     omega (arith, ints, x, y)
 
 -- what a zone knows is of the observances that contracts see
-pub known_zone : (observances : List Observance) (onsets : List Onsets) (offsets : List ℤ) (held : List Steady)
-    → IsKnown (observances_said observances) onsets offsets held
-    → (zone : List Observance) → observances ≡ zone → IsKnown (observances_said zone) onsets offsets held
-known_zone observances onsets offsets held known zone is = subst (λ (z : List Observance). IsKnown (observances_said z) onsets offsets held) is known
+pub known_zone : {observances zone : List Observance} {onsets : List Onsets} {offsets : List ℤ} {held : List Steady}
+    → IsKnown (observances_said observances) onsets offsets held → observances ≡ zone → IsKnown (observances_said zone) onsets offsets held
+known_zone {onsets = onsets} {offsets = offsets} {held = held} known is =
+    subst (λ (z : List Observance). IsKnown (observances_said z) onsets offsets held) is known
 
 -- the same spans are held in another order
-pub held_moved : (zone : List ObservanceSaid) (onsets : List Onsets) (offsets : List ℤ) (was now : List Steady) → IsPermutation was now
+pub held_moved : {zone : List ObservanceSaid} {onsets : List Onsets} {offsets : List ℤ} {was now : List Steady} → IsPermutation was now
     → IsKnown zone onsets offsets was → IsKnown zone onsets offsets now
-held_moved zone onsets offsets was now moved known = record {
+held_moved {zone = zone} {was = was} {now = now} moved known = record {
   some = known.some;
   asked = known.asked;
   all_offsets = known.all_offsets;
@@ -276,13 +276,12 @@ held_moved zone onsets offsets was now moved known = record {
 }
 
 -- a span more is held, or none where memory is refused
-pub held_more : (zone : List ObservanceSaid) (onsets : List Onsets) (offsets : List ℤ) (was now : List Steady) (s : Steady) (b : Bool) →
-    now ≡ cond b (was ++ s ∷ []) was
-    → IsKnown zone onsets offsets was → IsSteady (zone_offset zone) s.from s.next s.offset → IsKnown zone onsets offsets now
-held_more zone onsets offsets was now s true is known steady = rw is (record {
+pub held_more : {zone : List ObservanceSaid} {onsets : List Onsets} {offsets : List ℤ} {was now : List Steady} (s : Steady) (b : Bool)
+    → now ≡ cond b (was ++ s ∷ []) was → IsKnown zone onsets offsets was → IsSteady (zone_offset zone) s.from s.next s.offset → IsKnown zone onsets offsets now
+held_more {zone = zone} {was = was} s true is known steady = rw is (record {
   some = known.some;
   asked = known.asked;
   all_offsets = known.all_offsets;
   spans = All-push (λ (s : Steady). IsSteady (zone_offset zone) s.from s.next s.offset) was s known.spans steady;
 })
-held_more zone onsets offsets was now s false is known steady = rw is known
+held_more s false is known steady = rw is known

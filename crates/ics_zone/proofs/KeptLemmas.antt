@@ -60,8 +60,8 @@ module _ (s : Onsets) (r : Recurrence) (contains : s.rule ≡ Some r) where
 
     -- the first after another instant
     module _ (after : ℤ) (from : ℕ) (past : IsShownBy s.offset_from after from) where
-      pub next_of_rule : (n : ℕ) → IsNextKept r from end n → (u : ℤ) → u ≡ instant_by s.offset_from n → (v : ℤ) → IsKeptAt s v → after <ℤ v → u ≤ℤ v
-      next_of_rule n found u is v h l =
+      pub next_of_rule : {u : ℤ} (n : ℕ) → IsNextKept r from end n → u ≡ instant_by s.offset_from n → (v : ℤ) → IsKeptAt s v → after <ℤ v → u ≤ℤ v
+      next_of_rule n found is v h l =
           let k = from_kept v h in
           let at = k.is in
           elim (cases_lt k.local n) [
@@ -87,15 +87,18 @@ module _ (s : Onsets) (r : Recurrence) (contains : s.rule ≡ Some r) where
             ]
           ]
 
--- the earlier of the next listed onset and the next of the rule
-pub earlier_of : (s : Onsets) (after a m : ℤ) → m ≤ℤ a → ((u : ℤ) → Contains s.listed.items u → after <ℤ u → m ≤ℤ u)
-    → ((u : ℤ) → IsKeptAt s u → after <ℤ u → a ≤ℤ u)
-    → (u : ℤ) → Has s u → after <ℤ u → m ≤ℤ u
-earlier_of s after a m e x y u (inl h) l = x u h l
-earlier_of s after a m e x y u (inr h) l = let low = y u h l in omega (arith, ints, e, low)
+-- no instant of a kind is after one instant and before another
+abbrev pub NoneSkipped : (ℤ → Type 0) → ℤ → ℤ → Type 0
+NoneSkipped P after next = (u : ℤ) → P u → after <ℤ u → next ≤ℤ u
 
-pub is_of : (s : Onsets) (limit a m : ℤ) → m ≤ℤ a → (m <ℤ a → Contains s.listed.items m) → (a <ℤ limit → IsKeptAt s a) → m <ℤ limit → Has s m
-is_of s limit a m e x y l = elim (less_or_not_z m a) [
+-- the earlier of the next listed onset and the next of the rule
+pub earlier_of : {a m : ℤ} (s : Onsets) (after : ℤ) → m ≤ℤ a → NoneSkipped (Contains s.listed.items) after m → NoneSkipped (IsKeptAt s) after a
+    → NoneSkipped (Has s) after m
+earlier_of s after e x y u (inl h) l = x u h l
+earlier_of s after e x y u (inr h) l = let low = y u h l in omega (arith, ints, e, low)
+
+pub is_of : {limit a m : ℤ} (s : Onsets) → m ≤ℤ a → (m <ℤ a → Contains s.listed.items m) → (a <ℤ limit → IsKeptAt s a) → m <ℤ limit → Has s m
+is_of {a = a} {m = m} s e x y l = elim (less_or_not_z m a) [
   | inl less ↦ inl (x less)
   | inr more ↦ (
       let same : a ≡ m = omega (arith, ints, e, more) in

@@ -48,34 +48,34 @@ module _ (p : ObservanceSaid) where
       alone s (zero, h, e) = e
       alone s (suc k, h, e) = absurd (omega arith)
 
-  pub listed_more : (xs : List Local) (i : ℕ) (x : Local) (old new : List ℤ) (t : ℤ) → i < length xs → x ≡ get_or xs i x
+  pub listed_more : {x : Local} {old new : List ℤ} {t : ℤ} (i : ℕ) → i < length p.rdates → x ≡ get_or p.rdates i x
       → t ≡ instant_by p.offset_from (number x)
-      → new ≡ old ++ t ∷ [] → IsListedTo p (take i xs) old → IsListedTo p (take (i + 1) xs) new
-  listed_more xs i x old new t inside at is then before = subst (λ (list : List ℤ). IsListedTo p (take (i + 1) xs) list) (sym then) (record {
+      → new ≡ old ++ t ∷ [] → IsListedTo p (take i p.rdates) old → IsListedTo p (take (i + 1) p.rdates) new
+  listed_more {x = x} {old = old} {t = t} i inside at is then before = subst (λ (list : List ℤ). IsListedTo p (take (i + 1) p.rdates) list) (sym then) (record {
     known = λ s h. elim (Contains-push_cases old t s h) [
       | inl early ↦ (let k = before.known s early in (k.0, (k.1.0, wider k.0 (or_cases (k.0 == number p.start) _ k.1.1))))
       | inr same ↦ (
         number x,
         (
           sym same ∙ is,
-          or_right (number x == number p.start) _ (list_any_more (λ d. number d == number x) xs i x inside
-              ∙ or_right (list_any (λ d. number d == number x) (take i xs)) _ ((Decides-eqb (number (get_or xs i x)) (number x)).1 (ap number (sym at)))),
+          or_right (number x == number p.start) _ (list_any_more (λ d. number d == number x) p.rdates i x inside
+              ∙ or_right (list_any (λ d. number d == number x) (take i p.rdates)) _ ((Decides-eqb (number (get_or p.rdates i x)) (number x)).1 (ap number (sym at)))),
         ),
       )
     ];
     complete = λ n e. elim (or_cases (n == number p.start) _ e) [
       | inl first ↦ Contains-append_left old (t ∷ []) _ (before.complete n (or_left (n == number p.start) _ first))
-      | inr listed ↦ elim (or_cases (list_any (λ d. number d == n) (take i xs)) _ (sym (list_any_more (λ d. number d == n) xs i x inside) ∙ listed)) [
+      | inr listed ↦ elim (or_cases (list_any (λ d. number d == n) (take i p.rdates)) _ (sym (list_any_more (λ d. number d == n) p.rdates i x inside) ∙ listed)) [
         | inl early ↦ Contains-append_left old (t ∷ []) _ (before.complete n (or_right (n == number p.start) _ early))
         | inr now ↦ subst (Contains (old ++ t ∷ [])) (is ∙ ap (λ (d : Local). instant_by p.offset_from (number d)) at ∙ ap (instant_by p.offset_from)
-            ((Decides-eqb (number (get_or xs i x)) n).0 now)) (Contains-push old t)
+            ((Decides-eqb (number (get_or p.rdates i x)) n).0 now)) (Contains-push old t)
       ]
     ];
   })
     where
-      wider : (n : ℕ) → ((n == number p.start) ≡ true) ⊎ (list_any (λ d. number d == n) (take i xs) ≡ true) → is_listed_in p (take (i + 1) xs) n ≡ true
+      wider : (n : ℕ) → ((n == number p.start) ≡ true) ⊎ (list_any (λ d. number d == n) (take i p.rdates) ≡ true) → is_listed_in p (take (i + 1) p.rdates) n ≡ true
       wider n (inl first) = or_left (n == number p.start) _ first
-      wider n (inr early) = or_right (n == number p.start) _ (list_any_more (λ d. number d == n) xs i x inside ∙ or_left _ (number (get_or xs i x) == n) early)
+      wider n (inr early) = or_right (n == number p.start) _ (list_any_more (λ d. number d == n) p.rdates i x inside ∙ or_left _ (number (get_or p.rdates i x) == n) early)
 
 -- a sorted list is in order
 not_less : (s t : ℤ) → is_lt (int_cmp t s) ≡ false → s ≤ℤ t
@@ -94,9 +94,9 @@ sorted_in_order list up j k d l h =
         let step = not_less (get_or list (j + m) d) (get_or list (j + m + 1) d) (up (j + m) d (omega arith)) in
         subst (λ k. get_or list j d ≤ℤ get_or list k d) (sym next) (omega (arith, ints, before, step))
 
-pub listing_of : (p : ObservanceSaid) (i : ℕ) (list sorted : List ℤ) → length p.rdates ≤ i → IsListedTo p (take i p.rdates) list → IsPermutation list sorted
+pub listing_of : {list sorted : List ℤ} (p : ObservanceSaid) (i : ℕ) → length p.rdates ≤ i → IsListedTo p (take i p.rdates) list → IsPermutation list sorted
     → IsSorted int_cmp sorted → IsListing p sorted
-listing_of p i list sorted past all moved up =
+listing_of {list = list} {sorted = sorted} p i past all moved up =
     let whole = subst (λ ys. IsListedTo p ys list) (take_all i p.rdates past) all in
     record {
       in_order = sorted_in_order sorted (λ k d h. up k d (omega arith) h);

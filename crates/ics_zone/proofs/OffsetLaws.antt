@@ -12,19 +12,19 @@ same_place s t i j (inr a) (inl b) = absurd (omega (arith, ints, a.0))
 same_place s t i j (inr a) (inr b) = omega (arith, a.1, b.1)
 
 -- one place has one observance
-same_observance : (zone : List ObservanceSaid) (i j : ℕ) (p q : ObservanceSaid) → slice_get zone i ≡ Some p → slice_get zone j ≡ Some q → i ≡ j → p ≡ q
-same_observance zone i j p q a b e = let c = rw e at a in let d : Some p ≡ Some q = sym c ∙ b in cc
+same_observance : {i j : ℕ} {p q : ObservanceSaid} (zone : List ObservanceSaid) → slice_get zone i ≡ Some p → slice_get zone j ≡ Some q → i ≡ j → p ≡ q
+same_observance {p = p} {q = q} zone a b e = let c = rw e at a in let d : Some p ≡ Some q = sym c ∙ b in cc
 
 -- the greatest onset not after t is one
 one_in_force : (zone : List ObservanceSaid) (t : ℤ) (p q : ObservanceSaid) → IsInForce zone t p → IsInForce zone t q → p ≡ q
 one_in_force zone t p q x y =
-    same_observance zone x.place y.place p q x.onset.0 y.onset.0
+    same_observance zone x.onset.0 y.onset.0
     (same_place x.since y.since x.place y.place
     (y.greatest x.place x.since p x.onset x.not_after) (x.greatest y.place y.since q y.onset y.not_after))
 
 one_before_all : (zone : List ObservanceSaid) (t : ℤ) (p q : ObservanceSaid) → IsBeforeAll zone t p → IsBeforeAll zone t q → p ≡ q
 one_before_all zone t p q x y =
-    same_observance zone x.place y.place p q x.onset.0 y.onset.0
+    same_observance zone x.onset.0 y.onset.0
     (same_place x.first y.first x.place y.place
     (x.least y.place y.first q y.onset) (y.least x.place x.first p x.onset))
 

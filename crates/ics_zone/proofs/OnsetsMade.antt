@@ -48,10 +48,10 @@ module _ (p : ObservanceSaid) (facts : IsObservanceSaid p) (s : Onsets) (from : 
   by_rule_begins : (n : ℕ) → is_by_rule p p.rule n ≡ true → is_begin p n ≡ true
   by_rule_begins n h = or_right (n == number p.start) _ (or_right (list_any (λ l. number l == n) p.rdates) (is_by_rule p p.rule n) h)
 
-  onset_kept : (o : Option RuleParts) (r : Option Recurrence) → o ≡ p.rule → r ≡ option_map (rule_from p.start) o → IfSome r (IsEnd s.until)
+  onset_kept : {o : Option RuleParts} {r : Option Recurrence} → o ≡ p.rule → r ≡ option_map (rule_from p.start) o → IfSome r (IsEnd s.until)
       → (t : ℤ) → MatchOption r ⊥ (λ r. IsKeptBy s.offset_from s.until r t) → is_onset p t ≡ true
-  onset_kept None r is made end t h = absurd (subst (λ (r : Option Recurrence). MatchOption r ⊥ (λ r. IsKeptBy s.offset_from s.until r t)) made h)
-  onset_kept (Some parts) r is made end t h =
+  onset_kept {o = None} is made end t h = absurd (subst (λ (r : Option Recurrence). MatchOption r ⊥ (λ r. IsKeptBy s.offset_from s.until r t)) made h)
+  onset_kept {o = Some parts} is made end t h =
       let k = subst (λ (r : Option Recurrence). MatchOption r ⊥ (λ r. IsKeptBy s.offset_from s.until r t)) made h in
       let ends = subst (λ (r : Option Recurrence). IfSome r (IsEnd s.until)) made end in
       let at = k.is in
@@ -63,11 +63,11 @@ module _ (p : ObservanceSaid) (facts : IsObservanceSaid p) (s : Onsets) (from : 
       (and_from (is_kept (rule_from p.start parts) k.local) _ k.kept (subst (λ (t : ℤ). is_until (until_moment (rule_from p.start parts)) t ≡ true)
       (rw (sym from) k.is) until)))
 
-  kept_or_listed : (o : Option RuleParts) (r : Option Recurrence) → o ≡ p.rule → r ≡ option_map (rule_from p.start) o → IfSome r (IsEnd s.until)
-      → (t : ℤ) (n : ℕ) → t ≡ instant_by p.offset_from n → is_by_rule p o n ≡ true
+  kept_or_listed : {o : Option RuleParts} {r : Option Recurrence} {t : ℤ} → o ≡ p.rule → r ≡ option_map (rule_from p.start) o → IfSome r (IsEnd s.until)
+      → (n : ℕ) → t ≡ instant_by p.offset_from n → is_by_rule p o n ≡ true
       → Contains s.listed.items t ⊎ MatchOption r ⊥ (λ r. IsKeptBy s.offset_from s.until r t)
-  kept_or_listed None r is made end t n at h = absurd (cc)
-  kept_or_listed (Some parts) r is made end t n at h =
+  kept_or_listed {o = None} is made end n at h = absurd (cc)
+  kept_or_listed {o = Some parts} {t = t} is made end n at h =
       let both = and_parts (is_kept (rule_from p.start parts) n) _ h in
       let ends = subst (λ (r : Option Recurrence). IfSome r (IsEnd s.until)) made end in
       elim (kept_early (rule_from p.start parts) n both.0) [
@@ -104,14 +104,14 @@ module _ (p : ObservanceSaid) (facts : IsObservanceSaid p) (s : Onsets) (from : 
     };
     from = from;
     to = to;
-    known = λ t h. elim h [ inl listed ↦ onset_listed t listed | inr kept ↦ onset_kept p.rule s.rule refl made end t kept ];
+    known = λ t h. elim h [ inl listed ↦ onset_listed t listed | inr kept ↦ onset_kept refl made end t kept ];
     complete = λ t h.
         let found = onset-local p t h in
         elim (or_cases (found.0 == number p.start) _ found.2) [
           | inl first ↦ inl (subst (Contains s.listed.items) (sym found.1) (listing.complete found.0 (or_left (found.0 == number p.start) _ first)))
           | inr other ↦ elim (or_cases (list_any (λ l. number l == found.0) p.rdates) (is_by_rule p p.rule found.0) other) [
             | inl listed ↦ inl (subst (Contains s.listed.items) (sym found.1) (listing.complete found.0 (or_right (found.0 == number p.start) _ listed)))
-            | inr kept ↦ kept_or_listed p.rule s.rule refl made end t found.0 found.1 kept
+            | inr kept ↦ kept_or_listed refl made end found.0 found.1 kept
           ]
         ];
   }

@@ -40,9 +40,9 @@ AreLessTo zone count offset t at place =
     (i : ℕ) (s : ℤ) (p : ObservanceSaid) → i < count → IsOnset zone i s p → p.offset_to ≡ offset → s ≤ℤ t → (s <ℤ at) ⊎ ((s ≡ at) × (i < place))
 
 -- the greatest onset of a window is the greatest
-pub within_is : (zone : List ObservanceSaid) (after t : ℤ) (count : ℕ) (o : Option Latest) (l : Latest) → o ≡ Some l → IsLatestWithin zone after t count o
+pub within_is : {zone : List ObservanceSaid} {t : ℤ} {count : ℕ} {o : Option Latest} {l : Latest} (after : ℤ) → o ≡ Some l → IsLatestWithin zone after t count o
     → IsLatest zone t count l
-within_is zone after t count o l e h = (subst (λ x. IsLatestWithin zone after t count x) e h).0
+within_is {zone = zone} {t = t} {count = count} after e h = (subst (λ x. IsLatestWithin zone after t count x) e h).0
 
 -- before an instant, or at it
 not_later_by : (s t : ℤ) (i j : ℕ) → s ≤ℤ t → i ≤ j → IsNotLater s i t j
@@ -235,11 +235,9 @@ module _ (zone : List ObservanceSaid) (list : List Onsets) (all : AreOnsetsOfAll
         (λ of contains same. let to = of.to in omega (arith, ints, clamps, past, none, early, more, to))
 
 -- no observance is before the first
-pub first_of : (zone : List ObservanceSaid) (list : List Onsets) → AreOnsetsOfAll zone list → (o : Onsets) → 0 < length list → o ≡ get_or list 0 o →
-    (at offset : ℤ)
-    → Has o at
-    → offset ≡ o.offset_from → IsFirst zone 0 at offset
-first_of zone list all o inside at_place at offset is from =
+pub first_of : {zone : List ObservanceSaid} {list : List Onsets} {o : Onsets} {at offset : ℤ} → AreOnsetsOfAll zone list → 0 < length list
+    → o ≡ get_or list 0 o → Has o at → offset ≡ o.offset_from → IsFirst zone 0 at offset
+first_of {zone = zone} {list = list} {o = o} {at = at} all inside at_place is from =
     let here = observance_there zone 0 (let n = all.same_length in omega (arith, n, inside)) in
     let of = onsets_at zone list all 0 o inside at_place here.0 here.1 in
     record {

@@ -8,8 +8,7 @@ loop-place-init c = λ zone all.
     let small : SFits w64 c.first-first.result = search rules in
     let offset : SFits w32 c.index-onsets-0.result.offset_from = search rules in
     rw (to_z-of_z w64 c.first-first.result small, to_z-of_z w32 c.index-onsets-0.result.offset_from offset)
-    (first_of zone c.args.onsets.now all c.index-onsets-0.result c.requires.some c.index-onsets-0.is c.first-first.result
-    c.index-onsets-0.result.offset_from c.first-first.ensures.is refl)
+    (first_of all c.requires.some c.index-onsets-0.is c.first-first.ensures.is refl)
 
 pub loop-place-preserved-then-first-at : goal.loop-place-preserved-then-first-at
 loop-place-preserved-then-first-at c = λ zone all.

@@ -7,4 +7,4 @@ pub returns-in-Some : goal.returns-in-Some
 returns-in-Some c = λ zone all.
     let moment : SFits w64 c.args.moment = c.ranges.moment in
     let found = simp to_z-of_z at c.latest_within.ensures in
-    within_is zone _ c.args.moment _ c.latest_within.result c.in-Some.latest c.in-Some.is (found zone all)
+    within_is _ c.in-Some.is (found zone all)

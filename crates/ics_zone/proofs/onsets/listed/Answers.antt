@@ -22,13 +22,10 @@ loop-rdate-preserved c =
     let is = rw c.deref-rdate-items.ensures.value at c.rdate-item.is in
     let items = simp to_z-of_z at c.in_ok-push-2.ensures.items in
     let at = simp (to_z-of_z, c.number-in-loop-rdate.ensures.value) at c.instant-in-loop-rdate.ensures in
-    listed_more (observance_said c.args.observance.now) c.args.observance.now.rdates.items c.loop-rdate.rdate-index c.rdate-item.result _ _
-    c.instant-in-loop-rdate.result
-    inside is at items c.loop-rdate.invariant
+    listed_more (observance_said c.args.observance.now) c.loop-rdate.rdate-index inside is at items c.loop-rdate.invariant
 
 pub returns : goal.returns
 returns c =
     let past = rw c.deref-rdate-items.ensures.value at c.loop-rdate-test.false in
-    listing_of (observance_said c.args.observance.now) c.loop-rdate.rdate-index c.loop-rdate.listed.items c.sort_unstable.new.self.items past
-    c.loop-rdate.invariant
+    listing_of (observance_said c.args.observance.now) c.loop-rdate.rdate-index past c.loop-rdate.invariant
     c.sort_unstable.ensures.permutation c.sort_unstable.ensures.sorted

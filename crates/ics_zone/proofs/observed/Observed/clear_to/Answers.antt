@@ -16,7 +16,7 @@ returns-clause-earlier c = λ t l.
     let small : SFits w64 c.args.after = c.ranges.after in
     let few : SFits w64 c.clear_after-clear.result = search rules in
     let known : IsKnown (observances_said c.args.self.now) c.self.inside.onsets.items c.self.inside.offsets.items c.self.inside.held.items =
-    known_zone _ _ _ _ c.self.invariant c.args.self.now c.self.view_is in
+    known_zone c.self.invariant c.self.view_is in
     let clear = rw c.deref.ensures.value at (simp to_z-of_z at c.clear_after-clear.ensures.clear) in
     earlier_before_next (observances_said c.args.self.now) (zone_facts c.args.self.now) known.some c.args.seconds c.requires.skipped
     c.args.after (c.args.after +ℤ c.clear_after-clear.result +ℤ pos 1) c.requires.earlier (clear (observances_said c.args.self.now) known.asked) t

@@ -48,7 +48,7 @@ pub returns : goal.returns
 returns c =
     let fits : SFits w64 c.args.seconds = c.ranges.seconds in
     let known : IsKnown (observances_said c.args.self.now) c.self.inside.onsets.items c.self.inside.offsets.items c.self.inside.held.items =
-    known_zone _ _ _ _ c.self.invariant c.args.self.now c.self.view_is in
+    known_zone c.self.invariant c.self.view_is in
     let found = simp (to_z-of_z, c.as_slice-offsets.ensures.value) at c.loop-offset.invariant in
     let past = rw c.as_slice-offsets.ensures.value at c.loop-offset-test.false in
     first_found (zone_offset (observances_said c.args.self.now)) c.args.seconds c.self.inside.offsets.items known.all_offsets

@@ -14,8 +14,8 @@ pub returns-then-overrides : goal.returns-then-overrides
 returns-then-overrides c =
     let fits : SFits w64 c.args.moment = c.ranges.moment in
     let small : SFits w32 c.args.offset = c.ranges.offset in
-    let known : IsKnown (observances_said c.args.self.now) c.self.inside.onsets.items c.self.inside.offsets.items c.self.inside.held.items = known_zone _ _ _ _
-    c.self.invariant c.args.self.now c.self.view_is in
+    let known : IsKnown (observances_said c.args.self.now) c.self.inside.onsets.items c.self.inside.offsets.items c.self.inside.held.items =
+    known_zone c.self.invariant c.self.view_is in
     let over = rw c.deref.ensures.value at (simp to_z-of_z at c.overrides.ensures) in
     overridden_other (observances_said c.args.self.now) (zone_facts c.args.self.now) known.some c.args.moment c.args.offset
     (over c.if-overrides.true (observances_said c.args.self.now) known.asked)

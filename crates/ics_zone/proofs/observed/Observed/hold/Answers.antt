@@ -8,7 +8,7 @@ use Rattle.ics_zone.proofs.observed.Observed.hold.Goals as goal
 
 pub invariant_of-self : goal.invariant_of-self
 invariant_of-self c =
-    held_moved _ _ _ c.push.new.self.items _ c.sort_unstable_by_key.ensures.permutation
-    (held_more _ _ _ c.self.inside.held.items c.push.new.self.items c.in-Some.steady (is_ok c.push.result) c.push.ensures.items c.self.invariant
+    held_moved c.sort_unstable_by_key.ensures.permutation
+    (held_more c.in-Some.steady (is_ok c.push.result) c.push.ensures.items c.self.invariant
     (subst (λ (z : List Observance). IsSteady (zone_offset (observances_said z)) c.in-Some.steady.from c.in-Some.steady.next c.in-Some.steady.offset)
     (sym c.self.view_is) c.in-Some.ensures))

@@ -23,7 +23,7 @@ returns-then-is_past-clause-jump c =
     let fits : SFits w64 c.args.seconds = c.ranges.seconds in
     let next : SFits w64 c.next_past-after.result = search rules in
     let known : IsKnown (observances_said c.args.self.now) c.self.inside.onsets.items c.self.inside.offsets.items c.self.inside.held.items =
-    known_zone _ _ _ _ c.self.invariant c.args.self.now c.self.view_is in
+    known_zone c.self.invariant c.self.view_is in
     let none = rw c.deref.ensures.value at (simp to_z-of_z at c.next_past-after.ensures.next) in
     let earlier = simp to_z-of_z at c.loop-after.invariant.earlier in
     let later = rw c.if-is_past.true at (simp to_z-of_z at c.is_past.ensures) in
@@ -54,7 +54,7 @@ clear_hours-after-requires-clause-earlier c =
     let fits : SFits w64 c.args.seconds = c.ranges.seconds in
     let next : SFits w64 c.next_past-after.result = search rules in
     let known : IsKnown (observances_said c.args.self.now) c.self.inside.onsets.items c.self.inside.offsets.items c.self.inside.held.items =
-    known_zone _ _ _ _ c.self.invariant c.args.self.now c.self.view_is in
+    known_zone c.self.invariant c.self.view_is in
     let none = rw c.deref.ensures.value at (simp to_z-of_z at c.next_past-after.ensures.next) in
     let earlier = simp to_z-of_z at c.loop-after.invariant.earlier in
     let not_later = rw c.if-is_past.false at (simp to_z-of_z at c.is_past.ensures) in

@@ -18,8 +18,8 @@ pub returns-in-Some : goal.returns-in-Some
 returns-in-Some c =
     let fits : SFits w64 c.args.moment = c.ranges.moment in
     let small : SFits w32 c.in-Some.latest.offset = search rules in
-    let known : IsKnown (observances_said c.args.self.now) c.self.inside.onsets.items c.self.inside.offsets.items c.self.inside.held.items = known_zone _ _ _ _
-    c.self.invariant c.args.self.now c.self.view_is in
+    let known : IsKnown (observances_said c.args.self.now) c.self.inside.onsets.items c.self.inside.offsets.items c.self.inside.held.items =
+    known_zone c.self.invariant c.self.view_is in
     let found = rw c.deref.ensures.value at (simp to_z-of_z at c.latest_of.ensures) in
     let value : c.in-Some.latest.offset ≡ zone_offset (observances_said c.args.self.now) c.args.moment =
     latest_is (observances_said c.args.self.now) (zone_facts c.args.self.now) known.some c.args.moment c.latest_of.result
@@ -31,8 +31,8 @@ pub returns-in-None : goal.returns-in-None
 returns-in-None c =
     let fits : SFits w64 c.args.moment = c.ranges.moment in
     let small : SFits w32 c.first_offset.result = search rules in
-    let known : IsKnown (observances_said c.args.self.now) c.self.inside.onsets.items c.self.inside.offsets.items c.self.inside.held.items = known_zone _ _ _ _
-    c.self.invariant c.args.self.now c.self.view_is in
+    let known : IsKnown (observances_said c.args.self.now) c.self.inside.onsets.items c.self.inside.offsets.items c.self.inside.held.items =
+    known_zone c.self.invariant c.self.view_is in
     let found = rw c.deref.ensures.value at (simp to_z-of_z at c.latest_of.ensures) in
     let first = rw c.deref-in-None.ensures.value at c.first_offset.ensures in
     let value : c.first_offset.result ≡ zone_offset (observances_said c.args.self.now) c.args.moment =

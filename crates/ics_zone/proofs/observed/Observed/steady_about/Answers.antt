@@ -20,7 +20,7 @@ returns c =
     let next : SFits w64 c.next_onset-next.result = search rules in
     let small : SFits w32 c.in_ok-latest.latest.offset = search rules in
     let known : IsKnown (observances_said c.args.self.now) c.self.inside.onsets.items c.self.inside.offsets.items c.self.inside.held.items =
-    known_zone _ _ _ _ c.self.invariant c.args.self.now c.self.view_is in
+    known_zone c.self.invariant c.self.view_is in
     let found = rw c.deref.ensures.value at (simp to_z-of_z at c.in_ok-latest.ensures) in
     let none = rw c.deref-2.ensures.value at (simp to_z-of_z at c.next_onset-next.ensures.next) in
     rw (to_z-of_z w64 c.next_onset-next.result next, to_z-of_z w64 c.in_ok-latest.latest.at at, to_z-of_z w32 c.in_ok-latest.latest.offset small)

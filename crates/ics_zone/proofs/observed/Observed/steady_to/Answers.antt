@@ -16,7 +16,7 @@ returns-clause-steady c =
     let at : SFits w64 c.in_ok-latest.latest.at = search rules in
     let small : SFits w32 c.in_ok-latest.latest.offset = search rules in
     let known : IsKnown (observances_said c.args.self.now) c.self.inside.onsets.items c.self.inside.offsets.items c.self.inside.held.items =
-    known_zone _ _ _ _ c.self.invariant c.args.self.now c.self.view_is in
+    known_zone c.self.invariant c.self.view_is in
     let found = rw c.deref.ensures.value at (simp to_z-of_z at c.in_ok-latest.ensures) in
     let next : to_z w64 (of_z w64 (to_z w64 (of_z w64 c.args.to) +ℤ pos 1)) ≡ c.args.to +ℤ pos 1 = omega (arith, ints, c.requires.0, c.requires.1) in
     rw (next, to_z-of_z w64 c.in_ok-latest.latest.at at, to_z-of_z w32 c.in_ok-latest.latest.offset small)

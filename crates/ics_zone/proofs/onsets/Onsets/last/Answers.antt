@@ -6,11 +6,11 @@ use Rattle.ics_zone.specs.OnsetSets.{IsKeptAt, Has}
 use Rattle.ics_zone.proofs.LatestLemmas.{later_of, last_of_both, last_of_first, last_of_second}
 use Rattle.ics_zone.proofs.onsets.Onsets.last.Goals as goal
 
-none_and : (s : Onsets) (t : ℤ) (first second : Option ℤ) → first ≡ None → IsLastOf (Contains s.listed.items) t first → IsLastOf (IsKeptAt s) t second
-    → IsLastOf (Has s) t second
-none_and s t (Some a) second e x y = absurd (cc)
-none_and s t None (Some b) e x y = last_of_second (Contains s.listed.items) (IsKeptAt s) t b x y
-none_and s t None None e x y = λ u h. elim h [ inl p ↦ x u p | inr p ↦ y u p ]
+none_and : {first : Option ℤ} (s : Onsets) (t : ℤ) (second : Option ℤ) → first ≡ None → IsLastOf (Contains s.listed.items) t first
+    → IsLastOf (IsKeptAt s) t second → IsLastOf (Has s) t second
+none_and {first = Some a} s t second e x y = absurd (cc)
+none_and {first = None} s t (Some b) e x y = last_of_second (Contains s.listed.items) (IsKeptAt s) t b x y
+none_and {first = None} s t None e x y = λ u h. elim h [ inl p ↦ x u p | inr p ↦ y u p ]
 
 pub returns-in-Some-Some : goal.returns-in-Some-Some
 returns-in-Some-Some c =
@@ -35,7 +35,7 @@ returns-in-Some-None c =
 pub returns-in-None-default : goal.returns-in-None-default
 returns-in-None-default c =
     let fits : SFits w64 c.args.moment = c.ranges.moment in
-    none_and c.args.self.now c.args.moment c.last_listed.result c.last_by_rule.result c.in-None-default.is-0 (simp to_z-of_z at c.last_listed.ensures)
+    none_and c.args.self.now c.args.moment c.last_by_rule.result c.in-None-default.is-0 (simp to_z-of_z at c.last_listed.ensures)
     (simp to_z-of_z at c.last_by_rule.ensures)
 
 pub returns-then-moment-first : goal.returns-then-moment-first

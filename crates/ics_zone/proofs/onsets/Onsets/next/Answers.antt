@@ -9,5 +9,5 @@ returns-clause-next c =
     let kept : SFits w64 c.next_by_rule-kept.result = search rules in
     let small : SFits w64 c.next_listed.result = search rules in
     rw (to_z-of_z w64 c.next_listed.result small)
-    (earlier_of c.args.self.now c.args.after c.next_by_rule-kept.result c.next_listed.result (simp to_z-of_z at c.next_listed.ensures.bound)
+    (earlier_of c.args.self.now c.args.after (simp to_z-of_z at c.next_listed.ensures.bound)
     (simp to_z-of_z at c.next_listed.ensures.next) (simp to_z-of_z at c.next_by_rule-kept.ensures.next))

@@ -11,7 +11,7 @@ returns-then-with_rule-clause-next c =
     let small : SFits w64 c.next_listed.result = search rules in
     rw (to_z-of_z w64 c.next_listed.result small) (λ t asked late.
     let contains : Has c.args.self.now t = elim asked [ inl l ↦ inl l | inr r ↦ inr r.1 ] in
-    earlier_of c.args.self.now c.args.after c.next_by_rule-kept.result c.next_listed.result (simp to_z-of_z at c.next_listed.ensures.bound)
+    earlier_of c.args.self.now c.args.after (simp to_z-of_z at c.next_listed.ensures.bound)
     (simp to_z-of_z at c.next_listed.ensures.next) (simp to_z-of_z at c.next_by_rule-kept.ensures.next) t contains late)
 
 pub returns-then-with_rule-clause-is : goal.returns-then-with_rule-clause-is
@@ -20,5 +20,5 @@ returns-then-with_rule-clause-is c =
     let kept : SFits w64 c.next_by_rule-kept.result = search rules in
     let small : SFits w64 c.next_listed.result = search rules in
     rw (to_z-of_z w64 c.next_listed.result small)
-    (is_of c.args.self.now c.args.limit c.next_by_rule-kept.result c.next_listed.result (simp to_z-of_z at c.next_listed.ensures.bound)
+    (is_of c.args.self.now (simp to_z-of_z at c.next_listed.ensures.bound)
     (simp to_z-of_z at c.next_listed.ensures.is) (simp to_z-of_z at c.next_by_rule-kept.ensures.is))

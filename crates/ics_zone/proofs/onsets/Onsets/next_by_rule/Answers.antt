@@ -25,7 +25,7 @@ returns-in-Some-next_kept-clause-next c =
     let small : SFits w64 c.instant.result = search rules in
     rw (to_z-of_z w64 c.instant.result small)
     (next_of_rule c.args.self.now c.in-Some.rule c.in-Some.is c.args.limit c.shown_to-end.result shown c.args.after c.shown_by-from.result past
-    c.in-Some-next_kept.kept c.in-Some-next_kept.ensures c.instant.result (simp to_z-of_z at c.instant.ensures))
+    c.in-Some-next_kept.kept c.in-Some-next_kept.ensures (simp to_z-of_z at c.instant.ensures))
 
 pub returns-in-None-clause-next : goal.returns-in-None-clause-next
 returns-in-None-clause-next c =
