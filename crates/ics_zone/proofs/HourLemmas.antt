@@ -31,18 +31,23 @@ hours_of r local here next now later n from early = elim (cases_eq (n / 3_600) (
       ∙ sym (ap (λ b. if b then keeps_time here n else keeps_time next n) (ne_eqb (n / 3_600) (local / 3_600) ne))
 ]
 
+-- a word of the minute that begins at a local: its seconds are the last of one minute of the clock and the first of the next
+pub record IsOfTwoMinutes (hours : Hours) (local here next word : ℕ) : Type 0 where
+  pub is_here : (n : ℕ) → n < 60 → contains here n ≡ keeps hours (local / 60 * 60 + n)
+  pub is_next : (n : ℕ) → n < 60 → contains next n ≡ keeps hours ((local / 60 + 1) * 60 + n)
+  pub low : (n : ℕ) → n + local % 60 < 60 → contains word n ≡ contains here (n + local % 60)
+  pub high : (n m : ℕ) → m < local % 60 → n + local % 60 ≡ m + 60 → contains word n ≡ contains next m
+
 -- a minute that begins at a local has the seconds of two minutes of the clock
-pub minute_from_both : (hours : Hours) (local here next word : ℕ) → ((n : ℕ) → n < 60 → contains here n ≡ keeps hours (local / 60 * 60 + n))
-    → ((n : ℕ) → n < 60 → contains next n ≡ keeps hours ((local / 60 + 1) * 60 + n))
-    → ((n : ℕ) → n + local % 60 < 60 → contains word n ≡ contains here (n + local % 60))
-    → ((n m : ℕ) → m < local % 60 → n + local % 60 ≡ m + 60 → contains word n ≡ contains next m) → (n : ℕ) → n < 60 → contains word n ≡ keeps hours (local + n)
-minute_from_both hours local here next word is_here is_next low high n small = elim (cases_lt (n + local % 60) 60) [
+pub minute_from_both : {hours : Hours} {local here next word : ℕ} → IsOfTwoMinutes hours local here next word
+    → (n : ℕ) → n < 60 → contains word n ≡ keeps hours (local + n)
+minute_from_both {hours = hours} {local = local} both n small = elim (cases_lt (n + local % 60) 60) [
   | inl less ↦ (
       let at : local / 60 * 60 + (n + local % 60) ≡ local + n = omega arith in
-      low n less ∙ is_here (n + local % 60) less ∙ ap (keeps hours) at)
+      both.low n less ∙ both.is_here (n + local % 60) less ∙ ap (keeps hours) at)
   | inr more ↦ (
       let at : (local / 60 + 1) * 60 + (n + local % 60 - 60) ≡ local + n = omega (arith, more) in
-      high n (n + local % 60 - 60) (omega (arith, more, small)) (omega (arith, more)) ∙ is_next (n + local % 60 - 60) (omega (arith, small))
+      both.high n (n + local % 60 - 60) (omega (arith, more, small)) (omega (arith, more)) ∙ both.is_next (n + local % 60 - 60) (omega (arith, small))
       ∙ ap (keeps hours) at)
 ]
 
@@ -60,21 +65,27 @@ pub nothing_marked : (b kept marked : Bool) → kept ≡ false → marked ≡ fa
 nothing_marked true kept marked none not = not ∙ sym none
 nothing_marked false kept marked none not = not
 
+-- a part of the word of a minute: the seconds that are kept of the first `size`, which are those before a count
+pub record IsFrontOf (hours : Hours) (local minute : ℕ) (count : ℤ) (size word part : ℕ) : Type 0 where
+  pub is_word : (n : ℕ) → n < 60 → contains word n ≡ keeps hours (local + minute * 60 + n)
+  pub is_size : (n : ℕ) → n < 60 → nat_lt n size ≡ int_lt (pos (minute * 60 + n)) count
+  pub is_part : (n : ℕ) → contains part n ≡ (nat_lt n size && contains word n)
+
 -- the words of an hour, with one minute more
-pub words_more : (hours : Hours) (local : ℕ) (count : ℤ) (marks : List ℕ) (minute size word part : ℕ) → minute < length marks
-    → ((n : ℕ) → n < 60 → contains word n ≡ keeps hours (local + minute * 60 + n)) → ((n : ℕ) → n < 60 → nat_lt n size ≡ int_lt (pos (minute * 60 + n)) count)
-    → ((n : ℕ) → contains part n ≡ (nat_lt n size && contains word n))
+pub words_more : {hours : Hours} {local minute : ℕ} {count : ℤ} {size word part : ℕ} (marks : List ℕ) → minute < length marks
+    → IsFrontOf hours local minute count size word part
     → ((k : ℕ) → k < minute * 60 → is_marked marks k ≡ (int_lt (pos k) count && keeps hours (local + k))) → (k : ℕ) → k < (minute + 1) * 60
     → is_marked (set marks minute part) k ≡ (int_lt (pos k) count && keeps hours (local + k))
-words_more hours local count marks minute size word part inside is_word is_size is_part old k early = elim (cases_eq (k / 60) minute) [
-  | inl e ↦ (
-      let here : minute * 60 + k % 60 ≡ k = omega (arith, e) in
-      let there : local + minute * 60 + k % 60 ≡ local + k = omega (arith, e) in
-      marked-set_same marks minute part k inside e ∙ is_part (k % 60) ∙ ap (λ b. b && contains word (k % 60)) (is_size (k % 60) (omega arith))
-      ∙ ap (λ b. int_lt (pos (minute * 60 + k % 60)) count && b) (is_word (k % 60) (omega arith))
-      ∙ ap (λ m. int_lt (pos m) count && keeps hours (local + minute * 60 + k % 60)) here ∙ ap (λ m. int_lt (pos k) count && keeps hours m) there)
-  | inr ne ↦ marked-set_other marks minute part k ne ∙ old k (omega (arith, ne, early))
-]
+words_more {hours = hours} {local = local} {minute = minute} {count = count} {word = word} {part = part} marks inside front old k early =
+    elim (cases_eq (k / 60) minute) [
+      | inl e ↦ (
+          let here : minute * 60 + k % 60 ≡ k = omega (arith, e) in
+          let there : local + minute * 60 + k % 60 ≡ local + k = omega (arith, e) in
+          marked-set_same marks minute part k inside e ∙ front.is_part (k % 60) ∙ ap (λ b. b && contains word (k % 60)) (front.is_size (k % 60) (omega arith))
+          ∙ ap (λ b. int_lt (pos (minute * 60 + k % 60)) count && b) (front.is_word (k % 60) (omega arith))
+          ∙ ap (λ m. int_lt (pos m) count && keeps hours (local + minute * 60 + k % 60)) here ∙ ap (λ m. int_lt (pos k) count && keeps hours m) there)
+      | inr ne ↦ marked-set_other marks minute part k ne ∙ old k (omega (arith, ne, early))
+    ]
 
 -- two hours tell of each instant of an hour whether the rule has an onset there
 pub told_by : (s : Onsets) (r : Recurrence) → s.rule ≡ Some r → (from : ℤ) (local : ℕ) → from ≡ instant_by s.offset_from local → local + 7_200 < rules_end

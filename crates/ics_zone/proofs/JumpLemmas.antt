@@ -101,24 +101,22 @@ module _ (zone : List ObservanceSaid) (facts : IsZone zone) (some : 0 < length z
 
   -- the greatest onset of all observances begins a span in which its offset holds, up to where the next may be
   pub steady_since : (t next : ℤ) → ((i : ℕ) (s : ℤ) (p : ObservanceSaid) → IsOnset zone i s p → t <ℤ s → next ≤ℤ s)
-      → (found : Option Latest) → IsLatestOf zone t (length zone) found → (e : Latest) → found ≡ Some e → IsSteady (zone_offset zone) e.at next e.offset
-  steady_since t next none None h e same u low high = absurd (cc)
-  steady_since t next none (Some f) h e same u low high =
-      let one : f ≡ e = cc in
-      rw (← one) (h.offset ∙ offset_unique zone u h.observance.offset_to (zone_offset zone u) (inl (
+      → (e : Latest) → IsLatest zone t (length zone) e → IsSteady (zone_offset zone) e.at next e.offset
+  steady_since t next none e h u low high =
+      h.offset ∙ offset_unique zone u h.observance.offset_to (zone_offset zone u) (inl (
         h.observance,
         record {
-          place = f.place;
-          since = f.at;
+          place = e.place;
+          since = e.at;
           onset = h.onset;
-          not_after = omega (arith, ints, low, ap (λ (e : Latest). e.at) one);
+          not_after = low;
           greatest = λ i s p g l. elim (less_or_not_z t s) [
             | inl late ↦ absurd (let n = none i s p g late in omega (arith, ints, n, l, high))
             | inr early ↦ h.greatest i s p (slice_get_within zone i p g.0) g early
           ];
         },
         refl,
-      )) (is_offset u))
+      )) (is_offset u)
 
   -- where a greater onset overrides all those of the observances with an offset, the zone has another
   pub overridden_other : (t offset : ℤ) → IsOverridden zone t offset → zone_offset zone t ≢ offset
@@ -232,10 +230,10 @@ module _ (zone : List ObservanceSaid) (facts : IsZone zone) (local : ℤ) where
   later_after t h = let bound = zone_offset_short zone facts t in omega (arith, ints, bound.0, bound.1)
 
 -- a local is shown once where the offset holds within a day of it
-pub shown_once : (zone : List ObservanceSaid) → IsZone zone → (local from next value : ℤ) → IsSteady (zone_offset zone) from next value
+pub shown_once : {from next value : ℤ} (zone : List ObservanceSaid) → IsZone zone → (local : ℤ) → IsSteady (zone_offset zone) from next value
     → from ≤ℤ (local -ℤ pos 86_400) → (local +ℤ pos 86_400) <ℤ next
     → IsFirstTime (zone_offset zone) local (local -ℤ value)
-shown_once zone facts local from next value steady low high =
+shown_once {value = value} zone facts local steady low high =
     let here = steady local (omega (arith, ints, low)) (omega (arith, ints, high)) in
     let bound = zone_offset_short zone facts local in
     let is = steady (local -ℤ value) (omega (arith, ints, low, here, bound.1)) (omega (arith, ints, high, here, bound.0)) in
@@ -246,11 +244,6 @@ shown_once zone facts local from next value steady low high =
           let same = steady s (omega (arith, ints, low, shows, near.1)) (omega (arith, ints, high, shows, near.0)) in
           omega (arith, ints, same, shows);
     }
-
--- a local in a gap is read with the offset before the jump
-pub gap_at_jump : (offset : ℤ → ℤ) (local past t : ℤ) → ((s : ℤ) → shown offset s ≢ local) → IsJump offset local past → t ≡ local -ℤ offset (past -ℤ pos 1)
-    → IsInGap offset local t
-gap_at_jump offset local past t skipped jump is = record { skipped = skipped; past = past; is_later = jump.is_later; first = jump.first; before = is }
 
 -- the measure of that search
 pub natural_less : (a b : ℤ) → pos 0 ≤ℤ a → a <ℤ b → natural a < natural b

@@ -59,23 +59,27 @@ module _ (p : ObservanceSaid) where
         (
           sym same ∙ is,
           or_right (number x == number p.start) _ (list_any_more (λ d. number d == number x) p.rdates i x inside
-              ∙ or_right (list_any (λ d. number d == number x) (take i p.rdates)) _ ((Decides-eqb (number (get_or p.rdates i x)) (number x)).1 (ap number (sym at)))),
+              ∙ or_right (list_any (λ d. number d == number x) (take i p.rdates)) _
+              ((Decides-eqb (number (get_or p.rdates i x)) (number x)).1 (ap number (sym at)))),
         ),
       )
     ];
     complete = λ n e. elim (or_cases (n == number p.start) _ e) [
       | inl first ↦ Contains-append_left old (t ∷ []) _ (before.complete n (or_left (n == number p.start) _ first))
-      | inr listed ↦ elim (or_cases (list_any (λ d. number d == n) (take i p.rdates)) _ (sym (list_any_more (λ d. number d == n) p.rdates i x inside) ∙ listed)) [
-        | inl early ↦ Contains-append_left old (t ∷ []) _ (before.complete n (or_right (n == number p.start) _ early))
-        | inr now ↦ subst (Contains (old ++ t ∷ [])) (is ∙ ap (λ (d : Local). instant_by p.offset_from (number d)) at ∙ ap (instant_by p.offset_from)
-            ((Decides-eqb (number (get_or p.rdates i x)) n).0 now)) (Contains-push old t)
-      ]
+      | inr listed ↦ elim (or_cases (list_any (λ d. number d == n) (take i p.rdates)) _
+          (sym (list_any_more (λ d. number d == n) p.rdates i x inside) ∙ listed)) [
+            | inl early ↦ Contains-append_left old (t ∷ []) _ (before.complete n (or_right (n == number p.start) _ early))
+            | inr now ↦ subst (Contains (old ++ t ∷ [])) (is ∙ ap (λ (d : Local). instant_by p.offset_from (number d)) at ∙ ap (instant_by p.offset_from)
+                ((Decides-eqb (number (get_or p.rdates i x)) n).0 now)) (Contains-push old t)
+          ]
     ];
   })
     where
-      wider : (n : ℕ) → ((n == number p.start) ≡ true) ⊎ (list_any (λ d. number d == n) (take i p.rdates) ≡ true) → is_listed_in p (take (i + 1) p.rdates) n ≡ true
+      wider : (n : ℕ) → ((n == number p.start) ≡ true) ⊎ (list_any (λ d. number d == n) (take i p.rdates) ≡ true)
+          → is_listed_in p (take (i + 1) p.rdates) n ≡ true
       wider n (inl first) = or_left (n == number p.start) _ first
-      wider n (inr early) = or_right (n == number p.start) _ (list_any_more (λ d. number d == n) p.rdates i x inside ∙ or_left _ (number (get_or p.rdates i x) == n) early)
+      wider n (inr early) = or_right (n == number p.start) _
+          (list_any_more (λ d. number d == n) p.rdates i x inside ∙ or_left _ (number (get_or p.rdates i x) == n) early)
 
 -- a sorted list is in order
 not_less : (s t : ℤ) → is_lt (int_cmp t s) ≡ false → s ≤ℤ t

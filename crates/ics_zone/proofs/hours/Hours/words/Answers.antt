@@ -1,7 +1,7 @@
 use Rattle.std.proofs.Common.{rules, arith, ◌+◌, pos, int_lt, SFits, w64, to_z, of_z}
 use Rattle.std.proofs.lemmas.Int.{to_z-of_z}
 use Rattle.ics_zone.specs.Hours.{keeps}
-use Rattle.ics_zone.proofs.HourLemmas.{words_more, keeps_nothing, nothing_marked}
+use Rattle.ics_zone.proofs.HourLemmas.{IsFrontOf, words_more, keeps_nothing, nothing_marked}
 use Rattle.ics_zone.proofs.MarkLemmas.{none_marked}
 use Rattle.ics_zone.proofs.hours.Hours.words.Goals as goal
 
@@ -12,12 +12,13 @@ returns-then-is_empty-2 c = λ k low.
     (none_marked 60 k)
 
 pub loop-minute-preserved : goal.loop-minute-preserved
-loop-minute-preserved c = record {
-  length = search rules;
-  words = words_more c.args.self.now c.args.local (to_z w64 (of_z w64 c.args.count)) c.loop-minute.words c.loop-minute.minute c.first_of.result
-      c.minute_from-word.result c.front.result (omega (arith, c.loop-minute.invariant.length, c.loop-minute-test.true)) c.minute_from-word.ensures
-      c.first_of.ensures.first c.front.ensures.members c.loop-minute.invariant.words;
-}
+loop-minute-preserved c =
+    let front : IsFrontOf c.args.self.now c.args.local c.loop-minute.minute (to_z w64 (of_z w64 c.args.count)) c.first_of.result c.minute_from-word.result
+    c.front.result = record { is_word = c.minute_from-word.ensures; is_size = c.first_of.ensures.first; is_part = c.front.ensures.members } in
+    record {
+      length = search rules;
+      words = words_more c.loop-minute.words (omega (arith, c.loop-minute.invariant.length, c.loop-minute-test.true)) front c.loop-minute.invariant.words;
+    }
 
 pub returns : goal.returns
 returns c = λ k low.

@@ -3,7 +3,6 @@ use Rattle.std.proofs.lemmas.Int.{ints, to_z-of_z}
 use Rattle.ics_zone.specs.ZoneOffsets.{zone_offset}
 use Rattle.ics_zone.specs.Observances.{observances_said}
 use Rattle.ics_zone.specs.ZoneBounds.{zone_short}
-use Rattle.ics_zone.proofs.JumpLemmas.{gap_at_jump}
 use Rattle.ics_zone.proofs.observed.Observed.across_gap.Goals as goal
 
 pub returns : goal.returns
@@ -14,5 +13,11 @@ returns c =
     omega (arith, ints, c.jump-past.ensures.low, c.jump-past.ensures.high, c.requires.bound) in
     let short = zone_short c.args.self.now (c.jump-past.result -ℤ pos 1) in
     let before : c.offset.result ≡ zone_offset (observances_said c.args.self.now) (c.jump-past.result -ℤ pos 1) = search (rules, at, c.offset.ensures.value) in
-    gap_at_jump (zone_offset (observances_said c.args.self.now)) c.args.seconds c.jump-past.result _ c.requires.skipped
-    (simp to_z-of_z at c.jump-past.ensures.jump) (omega (arith, ints, c.from.ensures, before, short, c.requires.bound))
+    let jump = simp to_z-of_z at c.jump-past.ensures.jump in
+    record {
+      skipped = c.requires.skipped;
+      past = c.jump-past.result;
+      is_later = jump.is_later;
+      first = jump.first;
+      before = omega (arith, ints, c.from.ensures, before, short, c.requires.bound);
+    }

@@ -26,4 +26,4 @@ returns c =
     rw (to_z-of_z w64 c.next_onset-next.result next, to_z-of_z w64 c.in_ok-latest.latest.at at, to_z-of_z w32 c.in_ok-latest.latest.offset small)
     (steady_since (observances_said c.args.self.now) (zone_facts c.args.self.now) known.some c.args.near c.next_onset-next.result
     (none (observances_said c.args.self.now) known.asked)
-    (Some c.in_ok-latest.latest) (found (observances_said c.args.self.now) known.asked) c.in_ok-latest.latest refl)
+    c.in_ok-latest.latest (found (observances_said c.args.self.now) known.asked))

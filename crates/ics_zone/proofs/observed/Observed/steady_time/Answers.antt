@@ -15,7 +15,6 @@ returns c =
     let is : to_z w64 (of_z w64 (to_z w64 (of_z w64 c.args.seconds) -ℤ to_z w64 (of_z w64 c.from.result))) ≡ c.args.seconds -ℤ c.in_ok-steady.steady.offset =
     omega (arith, ints, c.from.ensures, c.requires.bound.0, c.requires.bound.1, offset) in
     subst (IsFirstTime (zone_offset (observances_said c.args.self.now)) c.args.seconds) (sym is)
-    (shown_once (observances_said c.args.self.now) (zone_facts c.args.self.now) c.args.seconds
-    c.in_ok-steady.steady.from c.in_ok-steady.steady.next c.in_ok-steady.steady.offset c.in_ok-steady.ensures.steady
+    (shown_once (observances_said c.args.self.now) (zone_facts c.args.self.now) c.args.seconds c.in_ok-steady.ensures.steady
     (omega (arith, ints, about.0, c.requires.bound.0, c.requires.bound.1))
     (omega (arith, ints, about.1, c.requires.bound.0, c.requires.bound.1)))

@@ -22,4 +22,4 @@ returns-clause-steady c =
     rw (next, to_z-of_z w64 c.in_ok-latest.latest.at at, to_z-of_z w32 c.in_ok-latest.latest.offset small)
     (steady_since (observances_said c.args.self.now) (zone_facts c.args.self.now) known.some c.args.to (c.args.to +ℤ pos 1)
     (λ i s p h l. omega (arith, ints, l))
-    (Some c.in_ok-latest.latest) (found (observances_said c.args.self.now) known.asked) c.in_ok-latest.latest refl)
+    c.in_ok-latest.latest (found (observances_said c.args.self.now) known.asked))
