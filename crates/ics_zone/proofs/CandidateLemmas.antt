@@ -36,10 +36,10 @@ module _ (offset : ℤ → ℤ) (local : ℤ) (offsets : List ℤ) (k : ℕ) (o 
   }
 
   -- the instant of this offset need not be asked for where it is not earlier
-  pub first_early : (found : Option ℤ) → IsFirstOf offset local offsets k found → (m : ℤ) → m ≡ local -ℤ o
-      → (r : Bool) → MatchOption found (r ≡ false) (λ f. r ≡ true → f ≤ℤ m) → r ≡ true → IsFirstOf offset local offsets (k + 1) found
-  first_early None before m at r none is = absurd (not_both r is none)
-  first_early (Some t) before m at r early is = record {
+  pub first_early : {r : Bool} (found : Option ℤ) → IsFirstOf offset local offsets k found → (m : ℤ) → m ≡ local -ℤ o
+      → MatchOption found (r ≡ false) (λ f. r ≡ true → f ≤ℤ m) → r ≡ true → IsFirstOf offset local offsets (k + 1) found
+  first_early {r = r} None before m at none is = absurd (not_both r is none)
+  first_early (Some t) before m at early is = record {
     shows = before.shows;
     least = λ j d l shows. elim (below_or_at j k (omega arith)) [
       | inl less ↦ before.least j d less shows
@@ -47,16 +47,16 @@ module _ (offset : ℤ → ℤ) (local : ℤ) (offsets : List ℤ) (k : ℕ) (o 
     ];
   }
 
-  pub first_moves : (found : Option ℤ) (t m : ℤ) → IsFirstOf offset local offsets k found → t ≡ local -ℤ o → offset t ≡ o
+  pub first_moves : {t : ℤ} (found : Option ℤ) (m : ℤ) → IsFirstOf offset local offsets k found → t ≡ local -ℤ o → offset t ≡ o
       → MatchOption found (m ≡ t) (λ f. m ≡ int_min f t) → IsLeastOf offset local offsets (k + 1) m
-  first_moves None t m before is same min = record {
+  first_moves None m before is same min = record {
     shows = rw min (omega (arith, ints, is, same));
     least = λ j d l shows. elim (below_or_at j k (omega arith)) [
       | inl less ↦ absurd (before j d less shows)
       | inr at_k ↦ (let there = here j d at_k in omega (arith, ints, there, min, is))
     ];
   }
-  first_moves (Some f) t m before is same min = elim (less_or_not_z f t) [
+  first_moves {t = t} (Some f) m before is same min = elim (less_or_not_z f t) [
     | inl less ↦ (
         let one : m ≡ f = omega (arith, ints, clamps, min, less) in
         record {

@@ -52,6 +52,12 @@ not_later_is : (s t : ℤ) (i j : ℕ) → IsNotLater s i t j → s ≤ℤ t
 not_later_is s t i j (inl l) = omega (arith, ints)
 not_later_is s t i j (inr l) = omega (arith, ints, l.0)
 
+-- the last onset of the observance at a place that is not after an instant, with that place and the offset after it
+pub record IsLastOnset (k : ℕ) (o : Onsets) (t : ℤ) (e : Latest) : Type 0 where
+  pub place : e.place ≡ k
+  pub offset : e.offset ≡ o.offset_to
+  pub last : IsLast (Has o) t e.at
+
 module _ (zone : List ObservanceSaid) (list : List Onsets) (all : AreOnsetsOfAll zone list) (k : ℕ) (o : Onsets) (inside : k < length list)
     (at_place : o ≡ get_or list k o) where
   -- what is there is kept of the observance there
@@ -68,15 +74,17 @@ module _ (zone : List ObservanceSaid) (list : List Onsets) (all : AreOnsetsOfAll
     ]
 
   module _ (t : ℤ) where
-    this_one : (e : Latest) → e.place ≡ k → e.offset ≡ o.offset_to → IsLast (Has o) t e.at
+    this_one : {e : Latest} → IsLastOnset k o t e
         → ((i : ℕ) (s : ℤ) (p : ObservanceSaid) → i < k → IsOnset zone i s p → s ≤ℤ t → s ≤ℤ e.at) → IsLatest zone t (k + 1) e
-    this_one e place offset last none =
+    this_one {e = e} its none =
+        let last = its.last in
+        let place = its.place in
         let here = observance_there zone k (let n = all.same_length in omega (arith, n, inside)) in
         let of = onsets_at here.0 here.1 in
         record {
           observance = here.0;
           onset = (ap (slice_get zone) place ∙ here.1, of.known e.at last.is);
-          offset = offset ∙ of.to;
+          offset = its.offset ∙ of.to;
           before = omega (arith, place);
           not_after = last.not_after;
           greatest = λ i s p l h early. split i s p h l
@@ -96,15 +104,15 @@ module _ (zone : List ObservanceSaid) (list : List Onsets) (all : AreOnsetsOfAll
           (λ of contains same. absurd (let late = none s contains in omega (arith, ints, late, early)));
     }
 
-    pub latest_some : (old : Option Latest) (e new : Latest) → IsLatestOf zone t k old → e.place ≡ k → e.offset ≡ o.offset_to → IsLast (Has o) t e.at
+    pub latest_some : {e new : Latest} (old : Option Latest) → IsLatestOf zone t k old → IsLastOnset k o t e
         → MatchOption old (new ≡ e) (λ f. ((new ≡ e) × (f.at ≤ℤ e.at)) ⊎ ((new ≡ f) × (e.at <ℤ f.at))) → IsLatest zone t (k + 1) new
-    latest_some None e new before place offset last is =
-        rw is (this_one e place offset last (λ i s p l h early. absurd (let late = before i s p l h in omega (arith, ints, late, early))))
-    latest_some (Some f) e new before place offset last (inl is) =
+    latest_some None before its is =
+        rw is (this_one its (λ i s p l h early. absurd (let late = before i s p l h in omega (arith, ints, late, early))))
+    latest_some (Some f) before its (inl is) =
         let no_later = is.1 in
-        rw (is.0) (this_one e place offset last (λ i s p l h early.
+        rw (is.0) (this_one its (λ i s p l h early.
         let low = not_later_is s f.at i f.place (before.greatest i s p l h early) in omega (arith, ints, low, no_later)))
-    latest_some (Some f) e new before place offset last (inr is) =
+    latest_some (Some f) before its (inr is) =
         let later = is.1 in
         rw (is.0) (record {
           observance = before.observance;
@@ -113,7 +121,7 @@ module _ (zone : List ObservanceSaid) (list : List Onsets) (all : AreOnsetsOfAll
           before = let n = before.before in omega (arith, n);
           not_after = before.not_after;
           greatest = λ i s p l h early. split i s p h l (λ less. before.greatest i s p less h early)
-              (λ of contains same. inl (let low = last.last s contains early in omega (arith, ints, low, later)));
+              (λ of contains same. inl (let low = its.last.last s contains early in omega (arith, ints, low, later)));
         })
 
     -- the same after an instant, where the next are looked at from the greatest on
@@ -138,16 +146,16 @@ module _ (zone : List ObservanceSaid) (list : List Onsets) (all : AreOnsetsOfAll
         before.1,
       )
 
-      pub within_some : (old : Option Latest) (from : ℤ) → IsBegun old from → (e new : Latest) → IsLatestWithin zone after t k old → e.place ≡ k
-          → e.offset ≡ o.offset_to → IsLast (Has o) t e.at → from <ℤ e.at
+      pub within_some : {e new : Latest} (old : Option Latest) (from : ℤ) → IsBegun old from → IsLatestWithin zone after t k old → IsLastOnset k o t e
+          → from <ℤ e.at
           → MatchOption old (new ≡ e) (λ f. ((new ≡ e) × (f.at ≤ℤ e.at)) ⊎ ((new ≡ f) × (e.at <ℤ f.at)))
           → IsLatest zone t (k + 1) new × (after <ℤ new.at)
-      within_some None from begun e new before place offset last in_window is =
+      within_some None from begun before its in_window is =
           rw is (
-            this_one e place offset last (λ i s p l h early. let out = before i s p l h early in omega (arith, ints, out, in_window, begun)),
+            this_one its (λ i s p l h early. let out = before i s p l h early in omega (arith, ints, out, in_window, begun)),
             omega (arith, ints, in_window, begun),
           )
-      within_some (Some f) from begun e new before place offset last in_window is = (latest_some (Some f) e new before.0 place offset last is, later_in is)
+      within_some {e = e} {new = new} (Some f) from begun before its in_window is = (latest_some (Some f) before.0 its is, later_in is)
         where
           later_in : ((new ≡ e) × (f.at ≤ℤ e.at)) ⊎ ((new ≡ f) × (e.at <ℤ f.at)) → after <ℤ new.at
           later_in (inl w) = rw (w.0) (let a = before.1 in let b = w.1 in omega (arith, ints, a, b))
@@ -176,9 +184,9 @@ module _ (zone : List ObservanceSaid) (list : List Onsets) (all : AreOnsetsOfAll
         ])
 
   -- where its last onset is greater than all those of the observances with an offset, it overrides them
-  pub overridden_by : (t offset at : ℤ) (count : ℕ) → length list ≤ count → IsLast (Has o) t at → AreLessTo zone count offset t at k
+  pub overridden_by : {t at : ℤ} (offset : ℤ) (count : ℕ) → length list ≤ count → IsLast (Has o) t at → AreLessTo zone count offset t at k
       → IsOverridden zone t offset
-  overridden_by t offset at count past last less =
+  overridden_by {at = at} offset count past last less =
       let here = observance_there zone k (let n = all.same_length in omega (arith, n, inside)) in
       record {
         place = k;

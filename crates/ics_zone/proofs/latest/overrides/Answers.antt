@@ -40,4 +40,4 @@ returns c =
     let last = simp to_z-of_z at c.in-Some.ensures in
     λ e zone all.
     overridden_by zone c.args.onsets.now all c.args.place c.index-onsets-place.result inside c.index-onsets-place.is
-    c.args.moment c.args.offset c.in-Some.at c.loop-other.other c.loop-other-test.false last (before zone all)
+    c.args.offset c.loop-other.other c.loop-other-test.false last (before zone all)

@@ -18,7 +18,7 @@ loop-offset-preserved-then-is_by c =
     c.loop-offset-test.true (get_or_default offsets at (pos 0) offset c.loop-offset-test.true)
     c.loop-offset.first c.loop-offset.invariant
     (to_z w64 (of_z w64 (to_z w64 (of_z w64 c.args.seconds) -ℤ to_z w64 (of_z w64 c.from.result))))
-    (omega (arith, ints, item, c.from.ensures, c.requires.0, c.requires.1)) c.is_by.result c.is_by.ensures c.if-is_by.true
+    (omega (arith, ints, item, c.from.ensures, c.requires.0, c.requires.1)) c.is_by.ensures c.if-is_by.true
 
 pub loop-offset-preserved-in_default-shown_with : goal.loop-offset-preserved-in_default-shown_with
 loop-offset-preserved-in_default-shown_with c =
@@ -41,7 +41,7 @@ loop-offset-preserved c =
     c.as_slice-offsets.result.now c.loop-offset.offset-index (get_or c.as_slice-offsets.result.now c.loop-offset.offset-index (pos 0))
     c.loop-offset-test.true (get_or_default c.as_slice-offsets.result.now c.loop-offset.offset-index (pos 0)
     (get_or c.as_slice-offsets.result.now c.loop-offset.offset-index (pos 0)) c.loop-offset-test.true)
-    c.loop-offset.first c.in-Some-shown_with.moment c.earlier.result c.loop-offset.invariant is.0 is.1
+    c.loop-offset.first c.earlier.result c.loop-offset.invariant is.0 is.1
     (simp (to_z-of_z w64 c.in-Some-shown_with.moment moment) at c.earlier.ensures))
 
 pub returns : goal.returns
