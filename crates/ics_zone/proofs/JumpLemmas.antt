@@ -149,8 +149,8 @@ module _ (zone : List ObservanceSaid) (facts : IsZone zone) (some : 0 < length z
 
   module _ (local : ℤ) (skipped : (t : ℤ) → shown (zone_offset zone) t ≢ local) where
     -- under one offset the clock does not pass the local, since it would show it
-    not_crossed : (offset a s : ℤ) → ((t : ℤ) → a ≤ℤ t → t ≤ℤ s → offset ≡ zone_offset zone t) → a ≤ℤ s → (a +ℤ offset) ≤ℤ local → local ≤ℤ (s +ℤ offset) → ⊥
-    not_crossed offset a s holds up low high =
+    not_crossed : (offset a s : ℤ) → ((t : ℤ) → a ≤ℤ t → t ≤ℤ s → offset ≡ zone_offset zone t) → (a +ℤ offset) ≤ℤ local → local ≤ℤ (s +ℤ offset) → ⊥
+    not_crossed offset a s holds low high =
         let same = holds (local -ℤ offset) (omega (arith, ints, low)) (omega (arith, ints, high)) in
         skipped (local -ℤ offset) (omega (arith, ints, same))
 
@@ -168,14 +168,14 @@ module _ (zone : List ObservanceSaid) (facts : IsZone zone) (some : 0 < length z
             let here = h.2 in
             let same = holds_since s h.0 f after old (omega (arith, ints, late)) in
             let before = earlier after (omega (arith, ints)) in
-            not_crossed h.0.offset_to after s (λ t a b. holds_since s h.0 f t (omega (arith, ints, old, a)) b) (omega (arith, ints, late))
+            not_crossed h.0.offset_to after s (λ t a b. holds_since s h.0 f t (omega (arith, ints, old, a)) b)
             (omega (arith, ints, same, before)) (omega (arith, ints, here, more)))
         | inl new ↦ (
             let f = h.1 in
             let here = h.2 in
             let until = f.not_after in
             elim (less_or_not_z local (f.since +ℤ h.0.offset_to)) [
-              | inr low ↦ not_crossed h.0.offset_to f.since s (λ t a b. holds_since s h.0 f t a b) until low (omega (arith, ints, here, more))
+              | inr low ↦ not_crossed h.0.offset_to f.since s (λ t a b. holds_since s h.0 f t a b) low (omega (arith, ints, here, more))
               | inl past ↦ (
                   let over = none f.place f.since h.0 f.onset new (omega (arith, ints, until, early)) past in
                   greater_at f.since f.place over.0 over.1.1.1.0 (f.greatest over.0 f.since over.1.0 over.1.1.0 until))
@@ -185,7 +185,7 @@ module _ (zone : List ObservanceSaid) (facts : IsZone zone) (some : 0 < length z
           let here = h.2 in
           let same = holds_before s h.0 h.1 after (omega (arith, ints, late)) in
           let before = earlier after (omega (arith, ints)) in
-          not_crossed h.0.offset_from after s (λ t a b. holds_before s h.0 h.1 t b) (omega (arith, ints, late))
+          not_crossed h.0.offset_from after s (λ t a b. holds_before s h.0 h.1 t b)
           (omega (arith, ints, same, before)) (omega (arith, ints, here, more))
 
       -- the clock shows earlier locals up to the next onset that may show a later one

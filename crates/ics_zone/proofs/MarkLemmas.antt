@@ -45,6 +45,11 @@ module _ (s : Onsets) (with_rule : Bool) (from : ℤ) (was now : List ℕ) (at :
     ]
   ]
 
+-- of the first seconds from an instant: the onsets that show a later local are marked
+abbrev pub AreClearBefore : Onsets → ℤ → ℤ → List ℕ → ℕ → Type 0
+AreClearBefore s local from marks bound =
+    (k : ℕ) → k < bound → Has s (from +ℤ pos k) → local <ℤ (from +ℤ pos k +ℤ s.offset_to) → IsMarked marks k
+
 -- the marks of a minute more
 module _ (s : Onsets) (local from low : ℤ) (onsets was : List ℕ) (minute size part : ℕ) (inside : minute < length was)
     (known : (k : ℕ) → k < 3_600 → IsMarked onsets k → Has s (from +ℤ pos k))
@@ -63,36 +68,36 @@ module _ (s : Onsets) (local from low : ℤ) (onsets was : List ℕ) (minute siz
     | inr ne ↦ marked-set_other was minute (bit_or (get_or was minute 0) part) k ne ∙ m
   ]
 
-  new_mark : minute < 60 → (k : ℕ) → k / 60 ≡ minute → contains part (k % 60) ≡ true → Has s (from +ℤ pos k) × ((from +ℤ pos k +ℤ s.offset_to) ≤ℤ local)
-  new_mark small k e h =
-      let both = and_parts (nat_lt (k % 60) size) (contains (get_or onsets minute 0) (k % 60)) (sym (is_part (k % 60)) ∙ h) in
-      let here : minute * 60 + k % 60 ≡ k = omega (arith, e) in
-      let early = int_lt_true (pos (minute * 60 + k % 60)) low (sym (is_size (k % 60) (omega arith)) ∙ both.0) in
-      let not_later = down k (subst (λ m. pos m <ℤ low) here early) in
-      (known k (omega (arith, e, small)) (ap (λ m. contains (get_or onsets m 0) (k % 60)) e ∙ both.1), omega (arith, ints, not_later))
+  module _ (small : minute < 60) where
+    new_mark : (k : ℕ) → k / 60 ≡ minute → contains part (k % 60) ≡ true → Has s (from +ℤ pos k) × ((from +ℤ pos k +ℤ s.offset_to) ≤ℤ local)
+    new_mark k e h =
+        let both = and_parts (nat_lt (k % 60) size) (contains (get_or onsets minute 0) (k % 60)) (sym (is_part (k % 60)) ∙ h) in
+        let here : minute * 60 + k % 60 ≡ k = omega (arith, e) in
+        let early = int_lt_true (pos (minute * 60 + k % 60)) low (sym (is_size (k % 60) (omega arith)) ∙ both.0) in
+        let not_later = down k (subst (λ m. pos m <ℤ low) here early) in
+        (known k (omega (arith, e, small)) (ap (λ m. contains (get_or onsets m 0) (k % 60)) e ∙ both.1), omega (arith, ints, not_later))
 
-  pub marks_minute : minute < 60 → (before : List ℕ) → AreMarks s local from before was
-      → AreMarks s local from before (set was minute (bit_or (get_or was minute 0) part))
-  marks_minute small before old k m = elim (cases_eq (k / 60) minute) [
-    | inl e ↦ elim (or_cases (is_marked was k) (contains part (k % 60)) (sym (in_minute k e) ∙ m)) [
-      | inl o ↦ old k o
-      | inr n ↦ inr (new_mark small k e n)
+    pub marks_minute : (before : List ℕ) → AreMarks s local from before was
+        → AreMarks s local from before (set was minute (bit_or (get_or was minute 0) part))
+    marks_minute before old k m = elim (cases_eq (k / 60) minute) [
+      | inl e ↦ elim (or_cases (is_marked was k) (contains part (k % 60)) (sym (in_minute k e) ∙ m)) [
+        | inl o ↦ old k o
+        | inr n ↦ inr (new_mark k e n)
+      ]
+      | inr ne ↦ old k (sym (marked-set_other was minute (bit_or (get_or was minute 0) part) k ne) ∙ m)
     ]
-    | inr ne ↦ old k (sym (marked-set_other was minute (bit_or (get_or was minute 0) part) k ne) ∙ m)
-  ]
 
-  -- the first seconds of the minute are clear too
-  pub clear_minute : (now : List ℕ) (bound : ℕ) → ((k : ℕ) → IsMarked was k → IsMarked now k) → minute < 60 → bound ≤ 60
-      → ((n : ℕ) → n < bound → contains (get_or onsets minute 0) n ≡ true → contains (get_or now minute 0) n ≡ true)
-      → ((k : ℕ) → k < minute * 60 → Has s (from +ℤ pos k) → local <ℤ (from +ℤ pos k +ℤ s.offset_to) → IsMarked was k)
-      → (k : ℕ) → k < minute * 60 + bound → Has s (from +ℤ pos k) → local <ℤ (from +ℤ pos k +ℤ s.offset_to) → IsMarked now k
-  clear_minute now bound stay small most first old k early h later = elim (cases_lt k (minute * 60)) [
-    | inl less ↦ stay k (old k less h later)
-    | inr more ↦ (
-        let e : k / 60 ≡ minute = omega (arith, more, early, most) in
-        let there = ap (λ m. contains (get_or onsets m 0) (k % 60)) (sym e) ∙ complete k (omega (arith, e, small)) h in
-        ap (λ m. contains (get_or now m 0) (k % 60)) e ∙ first (k % 60) (omega (arith, e, more, early)) there)
-  ]
+    -- the first seconds of the minute are clear too
+    pub clear_minute : (now : List ℕ) (bound : ℕ) → ((k : ℕ) → IsMarked was k → IsMarked now k) → bound ≤ 60
+        → ((n : ℕ) → n < bound → contains (get_or onsets minute 0) n ≡ true → contains (get_or now minute 0) n ≡ true)
+        → AreClearBefore s local from was (minute * 60) → AreClearBefore s local from now (minute * 60 + bound)
+    clear_minute now bound stay most first old k early h later = elim (cases_lt k (minute * 60)) [
+      | inl less ↦ stay k (old k less h later)
+      | inr more ↦ (
+          let e : k / 60 ≡ minute = omega (arith, more, early, most) in
+          let there = ap (λ m. contains (get_or onsets m 0) (k % 60)) (sym e) ∙ complete k (omega (arith, e, small)) h in
+          ap (λ m. contains (get_or now m 0) (k % 60)) e ∙ first (k % 60) (omega (arith, e, more, early)) there)
+    ]
 
 -- each marked second has an onset, of an observance from a place on, that shows no later local
 abbrev pub AreOverrides : List ObservanceSaid → ℕ → ℤ → ℤ → List ℕ → Type 0

@@ -41,11 +41,11 @@ returns-in-Some-clause-clear c = λ k contains early later.
     clear_minute c.args.self.now c.args.seconds c.args.from c.seconds_to-low.result c.within-onsets.result c.loop-minute.over c.loop-minute.minute
     c.first_of.result c.front.result (omega (arith, c.loop-minute.invariant.length, c.loop-minute-test.true)) known complete
     (λ k h. let early = first k h in omega (arith, ints, early, c.requires.local, c.from.ensures)) is_size c.front.ensures.members
-    _ c.in-Some.second
+    (omega (arith, c.loop-minute-test.true)) _ c.in-Some.second
     (stay_minute c.args.self.now c.args.seconds c.args.from c.seconds_to-low.result c.within-onsets.result c.loop-minute.over c.loop-minute.minute
     c.first_of.result c.front.result (omega (arith, c.loop-minute.invariant.length, c.loop-minute-test.true)) known complete
     (λ k h. let early = first k h in omega (arith, ints, early, c.requires.local, c.from.ensures)) is_size c.front.ensures.members)
-    (omega (arith, c.loop-minute-test.true)) (omega (arith, small)) c.in-Some.ensures.1 clear k
+    (omega (arith, small)) c.in-Some.ensures.1 clear k
     (omega (arith, ints, clamps, early, small, c.min.ensures.value, c.requires.most, c.requires.some, c.loop-minute-test.true, c.from-in-Some.ensures)) contains
     later
 
@@ -71,11 +71,11 @@ loop-minute-preserved c =
           c.loop-minute.minute
           c.first_of.result c.front.result (omega (arith, c.loop-minute.invariant.length, c.loop-minute-test.true)) known complete
           (λ k h. let early = first k h in omega (arith, ints, early, c.requires.local, c.from.ensures)) is_size c.front.ensures.members
-          _ 60
+          (omega (arith, c.loop-minute-test.true)) _ 60
           (stay_minute c.args.self.now c.args.seconds c.args.from c.seconds_to-low.result c.within-onsets.result c.loop-minute.over c.loop-minute.minute
           c.first_of.result c.front.result (omega (arith, c.loop-minute.invariant.length, c.loop-minute-test.true)) known complete
           (λ k h. let early = first k h in omega (arith, ints, early, c.requires.local, c.from.ensures)) is_size c.front.ensures.members)
-          (omega (arith, c.loop-minute-test.true)) (omega arith) c.in_default.ensures clear k (omega (arith, early));
+          (omega arith) c.in_default.ensures clear k (omega (arith, early));
     })
 
 pub returns-clause-marks : goal.returns-clause-marks
