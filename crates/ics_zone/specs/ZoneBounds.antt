@@ -83,15 +83,15 @@ pub zone_offset_near : (zone : List Observance) (t : ℤ) → IsNear (zone_offse
 zone_offset_near zone t = let bound = zone_short zone t in (omega (arith, ints, bound.0), omega (arith, ints, bound.1))
 
 -- an instant of the search is near the local
-near_local : (offset : ℤ → ℤ) (local : ℤ) (b : Bool) (k : ℕ) (t : ℤ) → k < 172_801 → if_so b (near local k) ≡ Some t → IsWithin 86_400 (t -ℤ local)
-near_local offset local true k t h e = let is : near local k ≡ t = cc in (omega (arith, ints, is, h), omega (arith, ints, is, h))
-near_local offset local false k t h e = absurd (cc)
+near_local : (local : ℤ) (b : Bool) (k : ℕ) (t : ℤ) → k < 172_801 → if_so b (near local k) ≡ Some t → IsWithin 86_400 (t -ℤ local)
+near_local local true k t h e = let is : near local k ≡ t = cc in (omega (arith, ints, is, h), omega (arith, ints, is, h))
+near_local local false k t h e = absurd (cc)
 
 moment_from_near : (offset : ℤ → ℤ) (short : (t : ℤ) → IsWithin 86_399 (offset t)) (local : ℤ) (time later : Option ℤ)
     → first_time offset local ≡ time → IsNear (moment_from offset local time later -ℤ local)
 moment_from_near offset short local (Some t) later e =
     let found = first_below-contains (λ t. IsWithin 86_400 (t -ℤ local)) (λ k. if_so (int_eq (shown offset (near local k)) local) (near local k)) 172_801
-    (λ k t h g. near_local offset local (int_eq (shown offset (near local k)) local) k t h g) t e in
+    (λ k t h g. near_local local (int_eq (shown offset (near local k)) local) k t h g) t e in
     (omega (arith, ints, found.0), omega (arith, ints, found.1))
 moment_from_near offset short local None (Some past) e =
     let bound = short (past -ℤ pos 1) in
