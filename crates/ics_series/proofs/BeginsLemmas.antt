@@ -54,7 +54,8 @@ module _ {A : Type 0} (R : A → A → Ordering) (o : IsTotalOrder R) where
   cut-union e xs [] h k = cut-before e (union R xs []) (before-union e xs [] h tt)
   cut-union e xs (y ∷ ys) h k = by (R e y) refl k
     where
-      by : (c : Ordering) → R e y ≡ c → IsBefore R e (by_order c (y ∷ ys) ys (y ∷ ys)) → cut R e (union R xs (y ∷ ys)) ≡ union R xs (by_order c (y ∷ ys) ys (y ∷ ys))
+      by : (c : Ordering) → R e y ≡ c → IsBefore R e (by_order c (y ∷ ys) ys (y ∷ ys))
+          → cut R e (union R xs (y ∷ ys)) ≡ union R xs (by_order c (y ∷ ys) ys (y ∷ ys))
       by Less p k = cut-before e (union R xs (y ∷ ys)) (before-union e xs (y ∷ ys) h k)
       by Equal p k =
           ap (cut R e) (union-front y xs ys (before-tied R o y e xs (o.antisymm y e ∙ ap ordering_reverse p) h))

@@ -44,8 +44,11 @@ module _ {A B : Type 0} (h : A → Option B) where
     rises-picked (x ∷ xs) all r = by (h x) refl (rises-picked xs (λ z m. all z (inr m)) r.1)
       where
         by : (option : Option B) → h x ≡ option → Rises S (filter_map h xs) → Rises S (cons_option option (filter_map h xs))
-        by (Some y) e ih =
-            (before-all y (filter_map h xs) (λ v m. let k = picked v xs m in keeps x k.0 y v (all x (inl refl)) (all k.0 (inr k.1)) e k.2 (before-in R o x k.0 xs r.0 k.1)), ih)
+        by (Some y) e ih = (
+          before-all y (filter_map h xs) (λ v m. let k = picked v xs m in keeps x k.0 y v (all x (inl refl)) (all k.0 (inr k.1)) e k.2
+              (before-in R o x k.0 xs r.0 k.1)),
+          ih,
+        )
         by None e ih = ih
 
     -- of a listing of what P holds of, what is picked is the listing of what Q holds of

@@ -105,7 +105,8 @@ module _ (zones : FileZones) (event : Event) where
         by (gives (clocks_in zones) event rule w from) refl (found_in-is (from + 1) n s) m
       where
         by : (b : Bool) → gives (clocks_in zones) event rule w from ≡ b → (IsIn s (found_in (clocks_in zones) event rule w (from + 1) n) → IsFound (from + 1) s)
-            → IsIn s (with_put b (start_at (clocks_in zones) event (local_numbered from)) (found_in (clocks_in zones) event rule w (from + 1) n)) → IsFound from s
+            → IsIn s (with_put b (start_at (clocks_in zones) event (local_numbered from)) (found_in (clocks_in zones) event rule w (from + 1) n))
+            → IsFound from s
         by true e ih m =
             ⊎_elim (λ k. ⊎_elim (λ same. record { by = from; from_place = omega arith; given = e; is = same }) (λ f. absurd f) k) (λ k. later from s (ih k.1))
             (union-in moment_cmp moment_total s (start_at (clocks_in zones) event (local_numbered from) ∷ [])
@@ -198,14 +199,16 @@ module _ (zones : FileZones) (event : Event) where
           is ∙ sym (ap (cut moment_cmp t) is)
 
       -- the same of a list whose first is known
-      pub passed-at : (t : Start) (held : List Start) {d : Start} {new : List Start} → 0 < length held → d ≡ get_or held 0 d → new ≡ drop 1 held → Rises moment_cmp held →
+      pub passed-at : (t : Start) (held : List Start) {d : Start} {new : List Start} → 0 < length held → d ≡ get_or held 0 d → new ≡ drop 1 held
+          → Rises moment_cmp held →
           is_behind day end held ≡ false
           → moment_cmp t d ≡ Equal → to_come (clocks_in zones) event rule w new place ≡ cut moment_cmp t (to_come (clocks_in zones) event rule w held place)
       passed-at t [] l is n r b tied = absurd (omega arith)
       passed-at t (s ∷ held) l is n r b tied =
           ap (λ xs. to_come (clocks_in zones) event rule w xs place) n ∙ passed t s held r b (subst (λ x. moment_cmp t x ≡ Equal) is tied)
 
-      pub not-passed-at : (t : Start) (held : List Start) {d : Start} → 0 < length held → d ≡ get_or held 0 d → Rises moment_cmp held → is_behind day end held ≡ false
+      pub not-passed-at : (t : Start) (held : List Start) {d : Start} → 0 < length held → d ≡ get_or held 0 d → Rises moment_cmp held
+          → is_behind day end held ≡ false
           → (moment_cmp t d ≡ Equal → ⊥) → to_come (clocks_in zones) event rule w held place
           ≡ cut moment_cmp t (to_come (clocks_in zones) event rule w held place)
       not-passed-at t [] l is r b untied = absurd (omega arith)

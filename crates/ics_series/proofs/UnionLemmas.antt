@@ -17,7 +17,8 @@ module _ {A : Type 0} (R : A → A → Ordering) (o : IsTotalOrder R) where
   put-in e x [] h m = ⊎_elim inl (λ k. absurd k) m
   put-in e x (y ∷ ys) h m = by (R x y) refl (put-in e x ys h.1) m
     where
-      by : (c : Ordering) → R x y ≡ c → (IsIn e (put R x ys) → (e ≡ x) ⊎ (IsIn e ys × (R x e ≢ Equal))) → IsIn e (by_order c (x ∷ y ∷ ys) (x ∷ ys) (y ∷ put R x ys))
+      by : (c : Ordering) → R x y ≡ c → (IsIn e (put R x ys) → (e ≡ x) ⊎ (IsIn e ys × (R x e ≢ Equal)))
+          → IsIn e (by_order c (x ∷ y ∷ ys) (x ∷ ys) (y ∷ put R x ys))
           → (e ≡ x) ⊎ (IsIn e (y ∷ ys) × (R x e ≢ Equal))
       by Less p ih m =
           ⊎_elim inl
