@@ -225,108 +225,6 @@ dates-row false false true d m = refl
 dates-row false false false true m = refl
 dates-row false false false false m = refl
 
-pub at-uid : (v : Parts) (c : Component) (q : Context) (cl : Bool) (depth : ℕ) (g : Readings) →
-    flat_of (codes "UID") v q cl depth g (is_some g.event.uid) ≡ fault_of name.Uid v c q depth g
-at-uid v c context.Event cl depth g = refl
-at-uid v c _ cl depth g = refl
-
-pub at-dtstart : (v : Parts) (c : Component) (q : Context) (cl : Bool) (depth : ℕ) (g : Readings) →
-    flat_of (codes "DTSTART") v q cl depth g (start_flag q g) ≡ fault_of name.Dtstart v c q depth g
-at-dtstart v c context.Observance cl depth g = simp or-false (onset-row (stamp_of false v.value) (is_some g.observance.start))
-at-dtstart v c context.Event cl depth g = stamp-row (stamp_read v.params v.value) (fault_if Repeated (is_some g.event.start))
-at-dtstart v c _ cl depth g = refl
-
-pub at-dtend : (v : Parts) (c : Component) (q : Context) (cl : Bool) (depth : ℕ) (g : Readings) →
-    flat_of (codes "DTEND") v q cl depth g (is_some g.event.end) ≡ fault_of name.Dtend v c q depth g
-at-dtend v c context.Event cl depth g = stamp-row (stamp_read v.params v.value) (fault_if Repeated (is_some g.event.end))
-at-dtend v c _ cl depth g = refl
-
-pub at-duration : (v : Parts) (c : Component) (q : Context) (cl : Bool) (depth : ℕ) (g : Readings) →
-    flat_of (codes "DURATION") v q cl depth g (is_some g.event.duration) ≡ fault_of name.Duration v c q depth g
-at-duration v c context.Event cl depth g =
-    ap (λ t. cond (is_bad_duration (lasting_of v.value)) (Some BadDuration) (cond t (Some NumberTooLarge) (fault_if Repeated (is_some g.event.duration))))
-    (or-false (is_large_duration (lasting_of v.value) || false) ∙ or-false (is_large_duration (lasting_of v.value)))
-    ∙ duration-row (lasting_of v.value) (fault_if Repeated (is_some g.event.duration))
-at-duration v c _ cl depth g = refl
-
-pub at-rrule : (v : Parts) (c : Component) (q : Context) (cl : Bool) (depth : ℕ) (g : Readings) →
-    flat_of (codes "RRULE") v q cl depth g (rule_flag q g) ≡ fault_of name.Rrule v c q depth g
-at-rrule v c context.Event cl depth g = simp or-false (rule-row (rule_of v.value) (fault_if Repeated (is_some g.event.rule)))
-at-rrule v c context.Observance cl depth g = simp or-false (daily-row (rule_of v.value) (is_some g.observance.rule))
-at-rrule v c _ cl depth g = refl
-
-pub at-recurrence_id : (v : Parts) (c : Component) (q : Context) (cl : Bool) (depth : ℕ) (g : Readings) →
-    flat_of (codes "RECURRENCE-ID") v q cl depth g (is_some g.event.recurrence) ≡ fault_of name.RecurrenceId v c q depth g
-at-recurrence_id v c context.Event cl depth g =
-    recurrence-row (stamp_read v.params v.value) (is_some g.event.recurrence) (is_some (param_of (codes "RANGE") v.params))
-at-recurrence_id v c _ cl depth g = refl
-
-pub at-sequence : (v : Parts) (c : Component) (q : Context) (cl : Bool) (depth : ℕ) (g : Readings) →
-    flat_of (codes "SEQUENCE") v q cl depth g (is_some g.event.sequence) ≡ fault_of name.Sequence v c q depth g
-at-sequence v c context.Event cl depth g = number-row (integer_of v.value) (fault_if Repeated (is_some g.event.sequence))
-at-sequence v c _ cl depth g = refl
-
-pub at-rdate : (v : Parts) (c : Component) (q : Context) (cl : Bool) (depth : ℕ) (g : Readings) (h : Bool) →
-    flat_of (codes "RDATE") v q cl depth g h ≡ fault_of name.Rdate v c q depth g
-at-rdate v c context.Event cl depth g h = simp or-false refl
-at-rdate v c context.Observance cl depth g h =
-    let vs : List DateValue = rdates_of false v.value in
-    simp or-false (dates-row (list_any has_bad_stamp vs) (list_any has_bad_duration vs) (list_any has_far_stamp vs) (list_any has_large_duration vs)
-    (fault_if ObservanceField (list_any is_not_local vs)))
-at-rdate v c _ cl depth g h = refl
-
-pub at-exdate : (v : Parts) (c : Component) (q : Context) (cl : Bool) (depth : ℕ) (g : Readings) (h : Bool) →
-    flat_of (codes "EXDATE") v q cl depth g h ≡ fault_of name.Exdate v c q depth g
-at-exdate v c context.Event cl depth g h = simp or-false refl
-at-exdate v c _ cl depth g h = refl
-
-pub at-exrule : (v : Parts) (c : Component) (q : Context) (cl : Bool) (depth : ℕ) (g : Readings) (h : Bool) →
-    flat_of (codes "EXRULE") v q cl depth g h ≡ fault_of name.Exrule v c q depth g
-at-exrule v c context.Event cl depth g h = refl
-at-exrule v c _ cl depth g h = refl
-
-pub at-version : (v : Parts) (c : Component) (q : Context) (cl : Bool) (depth : ℕ) (g : Readings) (h : Bool) →
-    flat_of (codes "VERSION") v q cl depth g h ≡ fault_of name.Version v c q depth g
-at-version v c context.Event cl depth g h = refl
-at-version v c _ cl depth g h = refl
-
-pub at-summary : (v : Parts) (c : Component) (q : Context) (cl : Bool) (depth : ℕ) (g : Readings) (h : Bool) →
-    flat_of (codes "SUMMARY") v q cl depth g h ≡ fault_of name.Summary v c q depth g
-at-summary v c context.Event cl depth g h = refl
-at-summary v c _ cl depth g h = refl
-
-pub at-location : (v : Parts) (c : Component) (q : Context) (cl : Bool) (depth : ℕ) (g : Readings) (h : Bool) →
-    flat_of (codes "LOCATION") v q cl depth g h ≡ fault_of name.Location v c q depth g
-at-location v c context.Event cl depth g h = refl
-at-location v c _ cl depth g h = refl
-
-pub at-description : (v : Parts) (c : Component) (q : Context) (cl : Bool) (depth : ℕ) (g : Readings) (h : Bool) →
-    flat_of (codes "DESCRIPTION") v q cl depth g h ≡ fault_of name.Description v c q depth g
-at-description v c context.Event cl depth g h = refl
-at-description v c _ cl depth g h = refl
-
-pub at-status : (v : Parts) (c : Component) (q : Context) (cl : Bool) (depth : ℕ) (g : Readings) (h : Bool) →
-    flat_of (codes "STATUS") v q cl depth g h ≡ fault_of name.Status v c q depth g
-at-status v c context.Event cl depth g h = refl
-at-status v c _ cl depth g h = refl
-
-pub at-tzid : (v : Parts) (c : Component) (q : Context) (cl : Bool) (depth : ℕ) (g : Readings) →
-    flat_of (codes "TZID") v q cl depth g (is_some g.zone.name) ≡ fault_of name.Tzid v c q depth g
-at-tzid v c context.Event cl depth g = refl
-at-tzid v c _ cl depth g = refl
-
-pub at-offset_from : (v : Parts) (c : Component) (q : Context) (cl : Bool) (depth : ℕ) (g : Readings) →
-    flat_of (codes "TZOFFSETFROM") v q cl depth g (is_some g.observance.from) ≡ fault_of name.OffsetFrom v c q depth g
-at-offset_from v c context.Observance cl depth g = offset-row (offset_of v.value) (fault_if ObservanceField (is_some g.observance.from))
-at-offset_from v c context.Event cl depth g = refl
-at-offset_from v c _ cl depth g = refl
-
-pub at-offset_to : (v : Parts) (c : Component) (q : Context) (cl : Bool) (depth : ℕ) (g : Readings) →
-    flat_of (codes "TZOFFSETTO") v q cl depth g (is_some g.observance.to) ≡ fault_of name.OffsetTo v c q depth g
-at-offset_to v c context.Observance cl depth g = offset-row (offset_of v.value) (fault_if ObservanceField (is_some g.observance.to))
-at-offset_to v c context.Event cl depth g = refl
-at-offset_to v c _ cl depth g = refl
-
 -- what the END of a time zone, and that of an observance, meets
 zone-end : (none name : Bool) →
     cond (not (not none)) (Some NoObservance) (cond (not (name && true) || false) (Some ObservanceField) None)
@@ -341,69 +239,173 @@ observance-end true true false = refl
 observance-end true false c = refl
 observance-end false b c = refl
 
-pub at-end : (v : Parts) (c : Component) (q : Context) (cl : Bool) (depth : ℕ) (g : Readings) (h : Bool) →
-    (is_outside_context q ≡ false → bytes_eq (map upper v.value) (component_name c) ≡ cl) →
-    flat_of (codes "END") v q cl depth g h ≡ fault_of name.End v c q depth g
-at-end v c context.Outside true depth g h e = refl
-at-end v c context.Outside false depth g h e = refl
-at-end v c context.Zone true depth g h e = rw (e refl) (zone-end (length g.zone.observances == 0) (is_some g.zone.name))
-at-end v c context.Observance true depth g h e = rw (e refl) (observance-end (is_some g.observance.start) (is_some g.observance.from) (is_some g.observance.to))
-at-end v c _ true depth g h e = rw (e refl) refl
-at-end v c _ false depth g h e = rw (e refl) refl
+-- each name of a line, with what the pass keeps of its component
+module _ (v : Parts) (c : Component) (cl : Bool) (depth : ℕ) (g : Readings) where
+  pub at-uid : (q : Context) →
+      flat_of (codes "UID") v q cl depth g (is_some g.event.uid) ≡ fault_of name.Uid v c q depth g
+  at-uid context.Event = refl
+  at-uid _ = refl
 
-outside-begin : (b : Component) (w : List ℕ) (v : Parts) (c : Component) (cl : Bool) (depth : ℕ) (g : Readings) (h : Bool) → TellsComponent w b →
-    flat (codes "BEGIN") w v context.Outside cl (nat_le 32 depth) (is_filled g.event.uid) (is_some g.event.start) (bad_end_of g.event) false true h
-    ≡ first (outside_fault context.Outside b) (fault_if TooDeep (nat_le 32 depth))
-outside-begin component.Calendar w v c cl depth g h e = rw e refl
-outside-begin component.Event w v c cl depth g h e = rw e refl
-outside-begin component.Zone w v c cl depth g h e = rw e refl
-outside-begin component.Standard w v c cl depth g h e = rw e refl
-outside-begin component.Daylight w v c cl depth g h e = rw e refl
-outside-begin (component.Other n) w v c cl depth g h e = simp e.0.no_calendar refl
+  pub at-dtstart : (q : Context) →
+      flat_of (codes "DTSTART") v q cl depth g (start_flag q g) ≡ fault_of name.Dtstart v c q depth g
+  at-dtstart context.Observance = simp or-false (onset-row (stamp_of false v.value) (is_some g.observance.start))
+  at-dtstart context.Event = stamp-row (stamp_read v.params v.value) (fault_if Repeated (is_some g.event.start))
+  at-dtstart _ = refl
 
-pub at-begin : (v : Parts) (c : Component) (q : Context) (cl : Bool) (depth : ℕ) (g : Readings) (h : Bool) →
-    flat_of (codes "BEGIN") v q cl depth g h ≡ fault_of name.Begin v c q depth g
-at-begin v c context.Outside cl depth g h =
-    outside-begin (component_of (map upper v.value)) (map upper v.value) v c cl depth g h (tells_component (map upper v.value))
-at-begin v c _ cl depth g h = refl
+  pub at-dtend : (q : Context) →
+      flat_of (codes "DTEND") v q cl depth g (is_some g.event.end) ≡ fault_of name.Dtend v c q depth g
+  at-dtend context.Event = stamp-row (stamp_read v.params v.value) (fault_if Repeated (is_some g.event.end))
+  at-dtend _ = refl
 
-pub at-other : (u : List ℕ) (v : Parts) (c : Component) (q : Context) (cl : Bool) (depth : ℕ) (g : Readings) (h : Bool) → IsUnknown u →
-    flat_of u v q cl depth g h ≡ fault_of name.Other v c q depth g
-at-other u v c context.Outside cl depth g h n =
-    simp (
-      n.no_begin,
-      n.no_end,
-      n.no_uid,
-      n.no_dtstart,
-      n.no_dtend,
-      n.no_duration,
-      n.no_rrule,
-      n.no_recurrence_id,
-      n.no_sequence,
-      n.no_rdate,
-      n.no_exdate,
-      n.no_exrule,
-      n.no_version,
-      n.no_tzid,
-      n.no_offset_from,
-      n.no_offset_to,
-    ) refl
-at-other u v c _ cl depth g h n =
-    simp (
-      n.no_begin,
-      n.no_end,
-      n.no_uid,
-      n.no_dtstart,
-      n.no_dtend,
-      n.no_duration,
-      n.no_rrule,
-      n.no_recurrence_id,
-      n.no_sequence,
-      n.no_rdate,
-      n.no_exdate,
-      n.no_exrule,
-      n.no_version,
-      n.no_tzid,
-      n.no_offset_from,
-      n.no_offset_to,
-    ) refl
+  pub at-duration : (q : Context) →
+      flat_of (codes "DURATION") v q cl depth g (is_some g.event.duration) ≡ fault_of name.Duration v c q depth g
+  at-duration context.Event =
+      ap (λ t. cond (is_bad_duration (lasting_of v.value)) (Some BadDuration) (cond t (Some NumberTooLarge) (fault_if Repeated (is_some g.event.duration))))
+      (or-false (is_large_duration (lasting_of v.value) || false) ∙ or-false (is_large_duration (lasting_of v.value)))
+      ∙ duration-row (lasting_of v.value) (fault_if Repeated (is_some g.event.duration))
+  at-duration _ = refl
+
+  pub at-rrule : (q : Context) →
+      flat_of (codes "RRULE") v q cl depth g (rule_flag q g) ≡ fault_of name.Rrule v c q depth g
+  at-rrule context.Event = simp or-false (rule-row (rule_of v.value) (fault_if Repeated (is_some g.event.rule)))
+  at-rrule context.Observance = simp or-false (daily-row (rule_of v.value) (is_some g.observance.rule))
+  at-rrule _ = refl
+
+  pub at-recurrence_id : (q : Context) →
+      flat_of (codes "RECURRENCE-ID") v q cl depth g (is_some g.event.recurrence) ≡ fault_of name.RecurrenceId v c q depth g
+  at-recurrence_id context.Event =
+      recurrence-row (stamp_read v.params v.value) (is_some g.event.recurrence) (is_some (param_of (codes "RANGE") v.params))
+  at-recurrence_id _ = refl
+
+  pub at-sequence : (q : Context) →
+      flat_of (codes "SEQUENCE") v q cl depth g (is_some g.event.sequence) ≡ fault_of name.Sequence v c q depth g
+  at-sequence context.Event = number-row (integer_of v.value) (fault_if Repeated (is_some g.event.sequence))
+  at-sequence _ = refl
+
+  pub at-rdate : (q : Context) (h : Bool) →
+      flat_of (codes "RDATE") v q cl depth g h ≡ fault_of name.Rdate v c q depth g
+  at-rdate context.Event h = simp or-false refl
+  at-rdate context.Observance h =
+      let vs : List DateValue = rdates_of false v.value in
+      simp or-false (dates-row (list_any has_bad_stamp vs) (list_any has_bad_duration vs) (list_any has_far_stamp vs) (list_any has_large_duration vs)
+      (fault_if ObservanceField (list_any is_not_local vs)))
+  at-rdate _ h = refl
+
+  pub at-exdate : (q : Context) (h : Bool) →
+      flat_of (codes "EXDATE") v q cl depth g h ≡ fault_of name.Exdate v c q depth g
+  at-exdate context.Event h = simp or-false refl
+  at-exdate _ h = refl
+
+  pub at-exrule : (q : Context) (h : Bool) →
+      flat_of (codes "EXRULE") v q cl depth g h ≡ fault_of name.Exrule v c q depth g
+  at-exrule context.Event h = refl
+  at-exrule _ h = refl
+
+  pub at-version : (q : Context) (h : Bool) →
+      flat_of (codes "VERSION") v q cl depth g h ≡ fault_of name.Version v c q depth g
+  at-version context.Event h = refl
+  at-version _ h = refl
+
+  pub at-summary : (q : Context) (h : Bool) →
+      flat_of (codes "SUMMARY") v q cl depth g h ≡ fault_of name.Summary v c q depth g
+  at-summary context.Event h = refl
+  at-summary _ h = refl
+
+  pub at-location : (q : Context) (h : Bool) →
+      flat_of (codes "LOCATION") v q cl depth g h ≡ fault_of name.Location v c q depth g
+  at-location context.Event h = refl
+  at-location _ h = refl
+
+  pub at-description : (q : Context) (h : Bool) →
+      flat_of (codes "DESCRIPTION") v q cl depth g h ≡ fault_of name.Description v c q depth g
+  at-description context.Event h = refl
+  at-description _ h = refl
+
+  pub at-status : (q : Context) (h : Bool) →
+      flat_of (codes "STATUS") v q cl depth g h ≡ fault_of name.Status v c q depth g
+  at-status context.Event h = refl
+  at-status _ h = refl
+
+  pub at-tzid : (q : Context) →
+      flat_of (codes "TZID") v q cl depth g (is_some g.zone.name) ≡ fault_of name.Tzid v c q depth g
+  at-tzid context.Event = refl
+  at-tzid _ = refl
+
+  pub at-offset_from : (q : Context) →
+      flat_of (codes "TZOFFSETFROM") v q cl depth g (is_some g.observance.from) ≡ fault_of name.OffsetFrom v c q depth g
+  at-offset_from context.Observance = offset-row (offset_of v.value) (fault_if ObservanceField (is_some g.observance.from))
+  at-offset_from context.Event = refl
+  at-offset_from _ = refl
+
+  pub at-offset_to : (q : Context) →
+      flat_of (codes "TZOFFSETTO") v q cl depth g (is_some g.observance.to) ≡ fault_of name.OffsetTo v c q depth g
+  at-offset_to context.Observance = offset-row (offset_of v.value) (fault_if ObservanceField (is_some g.observance.to))
+  at-offset_to context.Event = refl
+  at-offset_to _ = refl
+
+  pub at-end : (q : Context) (closed : Bool) (h : Bool) →
+      (is_outside_context q ≡ false → bytes_eq (map upper v.value) (component_name c) ≡ closed) →
+      flat_of (codes "END") v q closed depth g h ≡ fault_of name.End v c q depth g
+  at-end context.Outside true h e = refl
+  at-end context.Outside false h e = refl
+  at-end context.Zone true h e = rw (e refl) (zone-end (length g.zone.observances == 0) (is_some g.zone.name))
+  at-end context.Observance true h e = rw (e refl) (observance-end (is_some g.observance.start) (is_some g.observance.from) (is_some g.observance.to))
+  at-end _ true h e = rw (e refl) refl
+  at-end _ false h e = rw (e refl) refl
+
+  outside-begin : (b : Component) (w : List ℕ) (h : Bool) → TellsComponent w b →
+      flat (codes "BEGIN") w v context.Outside cl (nat_le 32 depth) (is_filled g.event.uid) (is_some g.event.start) (bad_end_of g.event) false true h
+      ≡ first (outside_fault context.Outside b) (fault_if TooDeep (nat_le 32 depth))
+  outside-begin component.Calendar w h e = rw e refl
+  outside-begin component.Event w h e = rw e refl
+  outside-begin component.Zone w h e = rw e refl
+  outside-begin component.Standard w h e = rw e refl
+  outside-begin component.Daylight w h e = rw e refl
+  outside-begin (component.Other n) w h e = simp e.0.no_calendar refl
+
+  pub at-begin : (q : Context) (h : Bool) →
+      flat_of (codes "BEGIN") v q cl depth g h ≡ fault_of name.Begin v c q depth g
+  at-begin context.Outside h =
+      outside-begin (component_of (map upper v.value)) (map upper v.value) h (tells_component (map upper v.value))
+  at-begin _ h = refl
+
+  pub at-other : (u : List ℕ) (q : Context) (h : Bool) → IsUnknown u →
+      flat_of u v q cl depth g h ≡ fault_of name.Other v c q depth g
+  at-other u context.Outside h n =
+      simp (
+        n.no_begin,
+        n.no_end,
+        n.no_uid,
+        n.no_dtstart,
+        n.no_dtend,
+        n.no_duration,
+        n.no_rrule,
+        n.no_recurrence_id,
+        n.no_sequence,
+        n.no_rdate,
+        n.no_exdate,
+        n.no_exrule,
+        n.no_version,
+        n.no_tzid,
+        n.no_offset_from,
+        n.no_offset_to,
+      ) refl
+  at-other u _ h n =
+      simp (
+        n.no_begin,
+        n.no_end,
+        n.no_uid,
+        n.no_dtstart,
+        n.no_dtend,
+        n.no_duration,
+        n.no_rrule,
+        n.no_recurrence_id,
+        n.no_sequence,
+        n.no_rdate,
+        n.no_exdate,
+        n.no_exrule,
+        n.no_version,
+        n.no_tzid,
+        n.no_offset_from,
+        n.no_offset_to,
+      ) refl

@@ -46,29 +46,30 @@ flag name.OffsetFrom q g h = is_some g.observance.from
 flag name.OffsetTo q g h = is_some g.observance.to
 flag _ q g h = h
 
-same : (n : Name) (u : List ℕ) (v : Parts) (c : Component) (q : Context) (cl : Bool) (depth : ℕ) (g : Readings) (h : Bool) → Tells u n → flag n q g h ≡ h →
-    (is_outside_context q ≡ false → bytes_eq (map upper v.value) (component_name c) ≡ cl) → flat_of u v q cl depth g h ≡ fault_of n v c q depth g
-same name.Begin u v c q cl depth g h e f m = rw e (at-begin v c q cl depth g h)
-same name.End u v c q cl depth g h e f m = rw e (at-end v c q cl depth g h m)
-same name.Uid u v c q cl depth g h e f m = rw (e, ← f) (at-uid v c q cl depth g)
-same name.Dtstart u v c q cl depth g h e f m = rw (e, ← f) (at-dtstart v c q cl depth g)
-same name.Dtend u v c q cl depth g h e f m = rw (e, ← f) (at-dtend v c q cl depth g)
-same name.Duration u v c q cl depth g h e f m = rw (e, ← f) (at-duration v c q cl depth g)
-same name.Rrule u v c q cl depth g h e f m = rw (e, ← f) (at-rrule v c q cl depth g)
-same name.RecurrenceId u v c q cl depth g h e f m = rw (e, ← f) (at-recurrence_id v c q cl depth g)
-same name.Sequence u v c q cl depth g h e f m = rw (e, ← f) (at-sequence v c q cl depth g)
-same name.Tzid u v c q cl depth g h e f m = rw (e, ← f) (at-tzid v c q cl depth g)
-same name.OffsetFrom u v c q cl depth g h e f m = rw (e, ← f) (at-offset_from v c q cl depth g)
-same name.OffsetTo u v c q cl depth g h e f m = rw (e, ← f) (at-offset_to v c q cl depth g)
-same name.Rdate u v c q cl depth g h e f m = rw e (at-rdate v c q cl depth g h)
-same name.Exdate u v c q cl depth g h e f m = rw e (at-exdate v c q cl depth g h)
-same name.Exrule u v c q cl depth g h e f m = rw e (at-exrule v c q cl depth g h)
-same name.Version u v c q cl depth g h e f m = rw e (at-version v c q cl depth g h)
-same name.Summary u v c q cl depth g h e f m = rw e (at-summary v c q cl depth g h)
-same name.Location u v c q cl depth g h e f m = rw e (at-location v c q cl depth g h)
-same name.Description u v c q cl depth g h e f m = rw e (at-description v c q cl depth g h)
-same name.Status u v c q cl depth g h e f m = rw e (at-status v c q cl depth g h)
-same name.Other u v c q cl depth g h e f m = at-other u v c q cl depth g h e
+module _ (v : Parts) (c : Component) (q : Context) (cl : Bool) (depth : ℕ) (g : Readings) (h : Bool) where
+  same : (n : Name) (u : List ℕ) → Tells u n → flag n q g h ≡ h →
+      (is_outside_context q ≡ false → bytes_eq (map upper v.value) (component_name c) ≡ cl) → flat_of u v q cl depth g h ≡ fault_of n v c q depth g
+  same name.Begin u e f m = rw e (at-begin v c cl depth g q h)
+  same name.End u e f m = rw e (at-end v c cl depth g q cl h m)
+  same name.Uid u e f m = rw (e, ← f) (at-uid v c cl depth g q)
+  same name.Dtstart u e f m = rw (e, ← f) (at-dtstart v c cl depth g q)
+  same name.Dtend u e f m = rw (e, ← f) (at-dtend v c cl depth g q)
+  same name.Duration u e f m = rw (e, ← f) (at-duration v c cl depth g q)
+  same name.Rrule u e f m = rw (e, ← f) (at-rrule v c cl depth g q)
+  same name.RecurrenceId u e f m = rw (e, ← f) (at-recurrence_id v c cl depth g q)
+  same name.Sequence u e f m = rw (e, ← f) (at-sequence v c cl depth g q)
+  same name.Tzid u e f m = rw (e, ← f) (at-tzid v c cl depth g q)
+  same name.OffsetFrom u e f m = rw (e, ← f) (at-offset_from v c cl depth g q)
+  same name.OffsetTo u e f m = rw (e, ← f) (at-offset_to v c cl depth g q)
+  same name.Rdate u e f m = rw e (at-rdate v c cl depth g q h)
+  same name.Exdate u e f m = rw e (at-exdate v c cl depth g q h)
+  same name.Exrule u e f m = rw e (at-exrule v c cl depth g q h)
+  same name.Version u e f m = rw e (at-version v c cl depth g q h)
+  same name.Summary u e f m = rw e (at-summary v c cl depth g q h)
+  same name.Location u e f m = rw e (at-location v c cl depth g q h)
+  same name.Description u e f m = rw e (at-description v c cl depth g q h)
+  same name.Status u e f m = rw e (at-status v c cl depth g q h)
+  same name.Other u e f m = at-other v c cl depth g u q h e
 
 -- a line has the name exactly where the first such line says something
 pub has-first : {X : Type 0} (f : Placed → X) (n : List ℕ) (ls : List Placed) → is_some (option_map f (first_named n ls)) ≡ has n ls
@@ -179,12 +180,12 @@ pub least-same : (whole : List Placed) (path : List Open) (number : ℕ) (v : Pa
 least-same whole [] number v ls asked =
     let u : List ℕ = map upper v.name in
     tests-same whole u v context.Outside [] false (nat_le 32 0) (has u ls) ls asked
-    ∙ same (name_of u) u v (component.Other []) context.Outside false 0 (readings whole [] ls) (has u ls) (tells u)
+    ∙ same v (component.Other []) context.Outside false 0 (readings whole [] ls) (has u ls) (name_of u) u (tells u)
     (flag-readings whole (name_of u) context.Outside [] u ls (tells u)) (λ e. cc)
 least-same whole (c ∷ cs) number v ls asked =
     let u : List ℕ = map upper v.name in
     let cl : Bool = closes (c ∷ cs) (map upper v.value) in
     tests-same whole u v (context_of (c ∷ cs)) (c ∷ cs) cl (nat_le 32 (length (c ∷ cs))) (has u ls) ls asked
-    ∙ same (name_of u) u v (component_of c.name) (context_of (c ∷ cs)) cl (length (c ∷ cs)) (readings whole (c ∷ cs) ls) (has u ls) (tells u)
+    ∙ same v (component_of c.name) (context_of (c ∷ cs)) cl (length (c ∷ cs)) (readings whole (c ∷ cs) ls) (has u ls) (name_of u) u (tells u)
     (flag-readings whole (name_of u) (context_of (c ∷ cs)) (c ∷ cs) u ls (tells u))
     (λ e. ap (bytes_eq (map upper v.value)) (component_name-of c.name))
