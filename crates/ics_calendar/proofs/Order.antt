@@ -165,61 +165,61 @@ Ordered s lines =
     ended_from s before (placed_from path lines) ≡ open_as s whole path ++ begun s whole (placed_from path lines)
 
 -- A line that begins a component, one that ends the innermost, and any other.
-begin-step : {X : Type 0} (s : Sort X) → IsSort s → (whole : List Placed) (l : Placed) (rest : List Placed) (later : List X) → is_begin l ≡ true →
-    later ≡ open_as s whole (inside l) ++ begun s whole rest → later ≡ open_as s whole l.path ++ begun s whole (l ∷ rest)
-begin-step s i whole l rest later b e =
-    e ∙ by_test (s.stands_at (context_of (inside l))) (i.alone whole l)
-    ∙ ap (λ t. open_as s whole l.path ++ map (λ l. s.by (inside l) (lines_in l.number whole)) (cond t (l ∷ filter s.begins rest) (filter s.begins rest)))
-    (sym (i.starts l ∙ ap (λ t. t && s.stands_at (context_of (inside l))) b))
-  where
-    by_test : (t : Bool) → (t ≡ true → open_as s whole l.path ≡ []) →
-        cond t (s.by (inside l) (lines_in l.number whole) ∷ open_as s whole l.path) (open_as s whole l.path) ++ begun s whole rest
-        ≡ open_as s whole l.path ++ map (λ l. s.by (inside l) (lines_in l.number whole)) (cond t (l ∷ filter s.begins rest) (filter s.begins rest))
-    by_test true alone = rw (alone refl) refl
-    by_test false alone = refl
+module _ {X : Type 0} (s : Sort X) (i : IsSort s) (whole before : List Placed) (l : Placed) (rest : List Placed) (later : List X) where
+  begin-step : is_begin l ≡ true →
+      later ≡ open_as s whole (inside l) ++ begun s whole rest → later ≡ open_as s whole l.path ++ begun s whole (l ∷ rest)
+  begin-step b e =
+      e ∙ by_test (s.stands_at (context_of (inside l))) (i.alone whole l)
+      ∙ ap (λ t. open_as s whole l.path ++ map (λ l. s.by (inside l) (lines_in l.number whole)) (cond t (l ∷ filter s.begins rest) (filter s.begins rest)))
+      (sym (i.starts l ∙ ap (λ t. t && s.stands_at (context_of (inside l))) b))
+    where
+      by_test : (t : Bool) → (t ≡ true → open_as s whole l.path ≡ []) →
+          cond t (s.by (inside l) (lines_in l.number whole) ∷ open_as s whole l.path) (open_as s whole l.path) ++ begun s whole rest
+          ≡ open_as s whole l.path ++ map (λ l. s.by (inside l) (lines_in l.number whole)) (cond t (l ∷ filter s.begins rest) (filter s.begins rest))
+      by_test true alone = rw (alone refl) refl
+      by_test false alone = refl
 
-no-begin : {X : Type 0} (s : Sort X) → IsSort s → (whole : List Placed) (l : Placed) (rest : List Placed) → is_begin l ≡ false →
-    begun s whole (l ∷ rest) ≡ begun s whole rest
-no-begin s i whole l rest b =
-    ap (λ t. map (λ l. s.by (inside l) (lines_in l.number whole)) (cond t (l ∷ filter s.begins rest) (filter s.begins rest)))
-    (i.starts l ∙ ap (λ t. t && s.stands_at (context_of (inside l))) b)
+  no-begin : is_begin l ≡ false →
+      begun s whole (l ∷ rest) ≡ begun s whole rest
+  no-begin b =
+      ap (λ t. map (λ l. s.by (inside l) (lines_in l.number whole)) (cond t (l ∷ filter s.begins rest) (filter s.begins rest)))
+      (i.starts l ∙ ap (λ t. t && s.stands_at (context_of (inside l))) b)
 
-end-step : {X : Type 0} (s : Sort X) → IsSort s → (whole before : List Placed) (l : Placed) (c : Open) (cs : List Open) (rest : List Placed) (later : List X) →
-    l.path ≡ c ∷ cs → whole ≡ before ++ l ∷ rest →
-    lines_in c.begun rest ≡ [] → is_begin l ≡ false → is_end l ≡ true → closes l.path (component l) ≡ true → later ≡ open_as s whole cs ++ begun s whole rest →
-    ended_as s (beside before l) l ++ later ≡ open_as s whole (c ∷ cs) ++ begun s whole (l ∷ rest)
-end-step s i whole before l c cs rest later here w none b e m again =
-    let own : lines_in c.begun whole ≡ beside before l ++ l ∷ [] =
-    ap (lines_in c.begun) w
-    ∙ ap (λ p. lines_in (innermost p) (before ++ l ∷ rest)) (sym here)
-    ∙ lines_in-whole before l rest (ap (λ p. lines_in (innermost p) rest) here ∙ none) in
-    let same : s.by (c ∷ cs) (lines_in c.begun whole) ≡ s.by (c ∷ cs) (beside before l) =
-    ap (s.by (c ∷ cs)) own ∙ i.ends (c ∷ cs) (beside before l) l (end-name (property_name l.content) e) in
-    ap (λ t. cond ((t && closes l.path (component l)) && s.stands_at (context_of l.path)) (s.by l.path (beside before l) ∷ []) [] ++ later) e
-    ∙ ap (λ t. cond (t && s.stands_at (context_of l.path)) (s.by l.path (beside before l) ∷ []) [] ++ later) m
-    ∙ ap (λ p. cond (s.stands_at (context_of p)) (s.by p (beside before l) ∷ []) [] ++ later) here
-    ∙ ap (λ es. cond (s.stands_at (context_of (c ∷ cs))) (s.by (c ∷ cs) (beside before l) ∷ []) [] ++ es) again
-    ∙ ap (λ x. cond (s.stands_at (context_of (c ∷ cs))) (x ∷ []) [] ++ (open_as s whole cs ++ begun s whole rest)) (sym same)
-    ∙ by_test (s.stands_at (context_of (c ∷ cs)))
-    ∙ ap (λ es. open_as s whole (c ∷ cs) ++ es) (sym (no-begin s i whole l rest b))
-  where
-    by_test : (t : Bool) → cond t (s.by (c ∷ cs) (lines_in c.begun whole) ∷ []) [] ++ (open_as s whole cs ++ begun s whole rest)
-        ≡ cond t (s.by (c ∷ cs) (lines_in c.begun whole) ∷ open_as s whole cs) (open_as s whole cs) ++ begun s whole rest
-    by_test true = refl
-    by_test false = refl
+  end-step : (c : Open) (cs : List Open) → l.path ≡ c ∷ cs → whole ≡ before ++ l ∷ rest →
+      lines_in c.begun rest ≡ [] → is_begin l ≡ false → is_end l ≡ true → closes l.path (component l) ≡ true → later ≡ open_as s whole cs ++ begun s whole rest →
+      ended_as s (beside before l) l ++ later ≡ open_as s whole (c ∷ cs) ++ begun s whole (l ∷ rest)
+  end-step c cs here w none b e m again =
+      let own : lines_in c.begun whole ≡ beside before l ++ l ∷ [] =
+      ap (lines_in c.begun) w
+      ∙ ap (λ p. lines_in (innermost p) (before ++ l ∷ rest)) (sym here)
+      ∙ lines_in-whole before l rest (ap (λ p. lines_in (innermost p) rest) here ∙ none) in
+      let same : s.by (c ∷ cs) (lines_in c.begun whole) ≡ s.by (c ∷ cs) (beside before l) =
+      ap (s.by (c ∷ cs)) own ∙ i.ends (c ∷ cs) (beside before l) l (end-name (property_name l.content) e) in
+      ap (λ t. cond ((t && closes l.path (component l)) && s.stands_at (context_of l.path)) (s.by l.path (beside before l) ∷ []) [] ++ later) e
+      ∙ ap (λ t. cond (t && s.stands_at (context_of l.path)) (s.by l.path (beside before l) ∷ []) [] ++ later) m
+      ∙ ap (λ p. cond (s.stands_at (context_of p)) (s.by p (beside before l) ∷ []) [] ++ later) here
+      ∙ ap (λ es. cond (s.stands_at (context_of (c ∷ cs))) (s.by (c ∷ cs) (beside before l) ∷ []) [] ++ es) again
+      ∙ ap (λ x. cond (s.stands_at (context_of (c ∷ cs))) (x ∷ []) [] ++ (open_as s whole cs ++ begun s whole rest)) (sym same)
+      ∙ by_test (s.stands_at (context_of (c ∷ cs)))
+      ∙ ap (λ es. open_as s whole (c ∷ cs) ++ es) (sym (no-begin b))
+    where
+      by_test : (t : Bool) → cond t (s.by (c ∷ cs) (lines_in c.begun whole) ∷ []) [] ++ (open_as s whole cs ++ begun s whole rest)
+          ≡ cond t (s.by (c ∷ cs) (lines_in c.begun whole) ∷ open_as s whole cs) (open_as s whole cs) ++ begun s whole rest
+      by_test true = refl
+      by_test false = refl
 
-other-step : {X : Type 0} (s : Sort X) → IsSort s → (whole before : List Placed) (l : Placed) (rest : List Placed) (later : List X) → is_begin l ≡ false →
-    is_end l ≡ false →
-    later ≡ open_as s whole l.path ++ begun s whole rest → ended_as s (beside before l) l ++ later ≡ open_as s whole l.path ++ begun s whole (l ∷ rest)
-other-step s i whole before l rest later b e again =
-    ap (λ t. cond ((t && closes l.path (component l)) && s.stands_at (context_of l.path)) (s.by l.path (beside before l) ∷ []) [] ++ later) e
-    ∙ again ∙ ap (λ es. open_as s whole l.path ++ es) (sym (no-begin s i whole l rest b))
+  other-step : is_begin l ≡ false →
+      is_end l ≡ false →
+      later ≡ open_as s whole l.path ++ begun s whole rest → ended_as s (beside before l) l ++ later ≡ open_as s whole l.path ++ begun s whole (l ∷ rest)
+  other-step b e again =
+      ap (λ t. cond ((t && closes l.path (component l)) && s.stands_at (context_of l.path)) (s.by l.path (beside before l) ∷ []) [] ++ later) e
+      ∙ again ∙ ap (λ es. open_as s whole l.path ++ es) (sym (no-begin b))
 
-begin-ends-none : {X : Type 0} (s : Sort X) (before : List Placed) (l : Placed) (later : List X) → is_begin l ≡ true →
-    ended_as s (beside before l) l ++ later ≡ later
-begin-ends-none s before l later b =
-    ap (λ t. cond ((t && closes l.path (component l)) && s.stands_at (context_of l.path)) (s.by l.path (beside before l) ∷ []) [] ++ later)
-    (begin-no-end (property_name l.content) b)
+  begin-ends-none : is_begin l ≡ true →
+      ended_as s (beside before l) l ++ later ≡ later
+  begin-ends-none b =
+      ap (λ t. cond ((t && closes l.path (component l)) && s.stands_at (context_of l.path)) (s.by l.path (beside before l) ∷ []) [] ++ later)
+      (begin-no-end (property_name l.content) b)
 
 whole-more : (whole before : List Placed) (l : Placed) (rest : List Placed) → whole ≡ before ++ l ∷ rest → whole ≡ (before ++ l ∷ []) ++ rest
 whole-more whole before l rest w = w ∙ sym (append_assoc before (l ∷ []) rest)
@@ -245,8 +245,8 @@ step s k line lines again path whole before n w f i less r least first true e hb
     let falls : Falls (path_behind l) = subst (λ (p : List Open). Falls p) (sym moved) (omega (arith, i, less), f) in
     let inner : innermost (path_behind l) ≤ line.number = subst (λ (p : List Open). innermost p ≤ line.number) (sym moved) (omega arith) in
     let later = again whole (before ++ l ∷ []) (path_behind l) line.number (whole-more whole before l rest w) falls inner r (last-open before l) first in
-    begin-ends-none s before l (ended_from s (before ++ l ∷ []) rest) hb
-    ∙ begin-step s k whole l rest (ended_from s (before ++ l ∷ []) rest) hb (later ∙ ap (λ p. open_as s whole p ++ begun s whole rest) moved)
+    begin-ends-none s k whole before l rest (ended_from s (before ++ l ∷ []) rest) hb
+    ∙ begin-step s k whole before l rest (ended_from s (before ++ l ∷ []) rest) hb (later ∙ ap (λ p. open_as s whole p ++ begun s whole rest) moved)
 step s k line lines again [] whole before n w f i less r least first false true hb he =
     let l : Placed = here line [] in
     let h : (is_end l && not (is_end l && false)) ≡ false = nested (λ kind. stands kind (beside before l) l) least in
@@ -264,7 +264,7 @@ step s k line lines again (c ∷ cs) whole before n w f i less r least first fal
     let absent : Absent c.begun (path_behind l) = subst (λ (p : List Open). Absent c.begun p) (sym moved) (below c.begun cs f.1 f.0) in
     let none : lines_in c.begun rest ≡ [] = gone c.begun line.number (path_behind l) lines (omega (arith, f.0)) (omega (arith, i, less)) absent r in
     let later = again whole (before ++ l ∷ []) (path_behind l) line.number (whole-more whole before l rest w) falls inner r (last-open before l) first in
-    end-step s k whole before l c cs rest (ended_from s (before ++ l ∷ []) rest) refl w none hb he m
+    end-step s k whole before l rest (ended_from s (before ++ l ∷ []) rest) c cs refl w none hb he m
     (later ∙ ap (λ p. open_as s whole p ++ begun s whole rest) moved)
 step s k line lines again path whole before n w f i less r least first false false hb he =
     let l : Placed = here line path in
