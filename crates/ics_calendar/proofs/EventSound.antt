@@ -197,8 +197,8 @@ module _ (known : KnownZones) (table : IsTable known) where
       by_zone (Some z) f = rw f refl
       by_zone None f = let g = slice_get-get_or known.zones i (ZoneSaid.ByObservances []) below in cc
 
-  not-out : (a b : Option ℤ) (x y : ℤ) → a ≡ Some x → b ≡ Some y → cond (are_out a b) (Some BadEnd) None ≡ None → is_out x y ≡ false
-  not-out a b x y e f h =
+  not-out : (a b : Option ℤ) {x y : ℤ} → a ≡ Some x → b ≡ Some y → cond (are_out a b) (Some BadEnd) None ≡ None → is_out x y ≡ false
+  not-out a b {x} {y} e f h =
       fine-end (is_out x y) (ap (λ o. cond (are_out (Some x) o) (Some BadEnd) None) (sym f) ∙ ap (λ o. cond (are_out o b) (Some BadEnd) None) (sym e) ∙ h)
 
   abbrev time : Stamp → Option ℕ → Time
@@ -227,19 +227,19 @@ module _ (known : KnownZones) (table : IsTable known) where
           absurd (grind (arith, nat_tests, t, one))
       by_tests false false t z l h =
           out-within (moment_in known.zones (Some i) (Zoned a)) (moment_in known.zones (Some j) (Zoned b))
-          (not-out (moment_there known (named k x) a) (moment_there known (named k y) b) _ _ (local-there (named k x) a i e) (local-there (named k y) b j f) h)
+          (not-out (moment_there known (named k x) a) (moment_there known (named k y) b) (local-there (named k x) a i e) (local-there (named k y) b j f) h)
 
-  first-zoned : (k : ℕ) (x : List ℕ) (a b : Local) (i : ℕ) → known.index (named k x) ≡ Some i →
+  first-zoned : (k : ℕ) (x : List ℕ) (a b : Local) {i : ℕ} → known.index (named k x) ≡ Some i →
       IsFine known (Some (check.Ends (instant.Zoned a (named k x)) (instant.Utc b))) → Within (Zoned a) (Some i) (Utc b) None
-  first-zoned k x a b i e h =
+  first-zoned k x a b {i} e h =
       out-within (moment_in known.zones (Some i) (Zoned a)) (local_seconds b)
-      (not-out (moment_there known (named k x) a) (Some (local_seconds b)) _ _ (local-there (named k x) a i e) refl h)
+      (not-out (moment_there known (named k x) a) (Some (local_seconds b)) (local-there (named k x) a i e) refl h)
 
-  second-zoned : (k : ℕ) (y : List ℕ) (a b : Local) (j : ℕ) → known.index (named k y) ≡ Some j →
+  second-zoned : (k : ℕ) (y : List ℕ) (a b : Local) {j : ℕ} → known.index (named k y) ≡ Some j →
       IsFine known (Some (check.Ends (instant.Utc a) (instant.Zoned b (named k y)))) → Within (Utc a) None (Zoned b) (Some j)
-  second-zoned k y a b j f h =
+  second-zoned k y a b {j} f h =
       out-within (local_seconds a) (moment_in known.zones (Some j) (Zoned b))
-      (not-out (Some (local_seconds a)) (moment_there known (named k y) b) _ _ refl (local-there (named k y) b j f) h)
+      (not-out (Some (local_seconds a)) (moment_there known (named k y) b) refl (local-there (named k y) b j f) h)
 
   -- the name of a zoned stamp is known
   index-is : (used : ZoneName) → IsFine known (Some (check.Zone used)) → (i : ℕ) × (known.index used ≡ Some i)
@@ -260,8 +260,8 @@ module _ (known : KnownZones) (table : IsTable known) where
       let i = index-is (named k x) u in
       let j = index-is (named k y) v in
       rw (i.1, j.1) (both-zoned k x y a b i.0 j.0 i.1 j.1 l h)
-  within k x y (Zoned a) (Utc b) l u v h g = let i = index-is (named k x) u in rw i.1 (first-zoned k x a b i.0 i.1 h)
-  within k x y (Utc a) (Zoned b) l u v h g = let j = index-is (named k y) v in rw j.1 (second-zoned k y a b j.0 j.1 h)
+  within k x y (Zoned a) (Utc b) l u v h g = let i = index-is (named k x) u in rw i.1 (first-zoned k x a b i.1 h)
+  within k x y (Utc a) (Zoned b) l u v h g = let j = index-is (named k y) v in rw j.1 (second-zoned k y a b j.1 h)
   within k x y (Zoned a) (Date b) l u v h g = cc
   within k x y (Zoned a) (Floating b) l u v h g = cc
   within k x y (Date a) (Zoned b) l u v h g = cc
