@@ -2,6 +2,7 @@
 use Rattle.std.specs.Prelude.{ℕ, ◌-◌, Bool, true, false, ◌&&◌, ◌||◌, not, ◌==◌, nat_le, List, [], ◌∷◌, length, take, drop, map, codes, slice_index, Option}
 use Rattle.std.specs.Prelude.{Some, None, is_some, if◌then◌else◌}
 use Rattle.std.specs.List.{list_any, list_all, slice_split, before_first, after_first}
+use Rattle.std.specs.Borrow.{Bor}
 use Rattle.std.specs.Str.{bytes_eq}
 use Rattle.jiff_core.specs.declared.civil.weekday.Weekday.{Weekday}
 use Rattle.jiff_core.specs.declared.civil.weekday.Weekday.TheVariants.{Monday, Tuesday, Wednesday, Thursday, Friday, Saturday, Sunday}
@@ -28,6 +29,11 @@ pieces separator text = slice_split (λ b. b == separator) text
 -- whether the text, its letters taken in upper case, is the word
 abbrev pub is_word : List ℕ → List ℕ → Bool
 is_word text word = bytes_eq (map upper text) word
+
+-- the value beside the first word of a table that the text is
+abbrev pub by_word : {A : Type 0} → List ℕ → List (Bor (List ℕ) × A) → Option A
+by_word text [] = None
+by_word text (row ∷ rows) = if is_word text row.0.now then Some row.1 else by_word text rows
 
 -- The parts by their names. RSCALE, SKIP and any other names are refused.
 abbrev pub name_of : List ℕ → Option PartName

@@ -2,7 +2,7 @@
 ghost use Rattle.std.specs.Prelude.{◌≡◌, ◌<◌, map};
 ghost use Rattle.std.specs.Str.{bytes_eq};
 ghost use Rattle.ics_values.specs.Digits.{upper as upper_of};
-ghost use Rattle.ics_values.specs.RuleTexts.{name_of, row};
+ghost use Rattle.ics_values.specs.RuleTexts.{name_of, by_word, row};
 
 /// The parts of a rule that are lists.
 #[derive(Clone, Copy)]
@@ -69,39 +69,39 @@ pub fn is_word(text: &[u8], word: &[u8]) -> bool
     true
 }
 
+/// The value beside the first word of a table that the text is. None if the text is none of the words.
+pub fn by_word<T: Copy>(text: &[u8], table: &[(&[u8], T)]) -> Option<T>
+    ensures { result ≡ by_word text.now table.now }
+{
+    for row in table {
+        if is_word(text, row.0) {
+            return Some(row.1);
+        }
+    }
+    None
+}
+
+/// The parts by their names.
+static PART_NAMES: [(&[u8], PartName); 14] = [
+    (b"FREQ", PartName::Freq),
+    (b"UNTIL", PartName::Until),
+    (b"COUNT", PartName::Count),
+    (b"INTERVAL", PartName::Interval),
+    (b"BYSECOND", PartName::List(ListName::BySecond)),
+    (b"BYMINUTE", PartName::List(ListName::ByMinute)),
+    (b"BYHOUR", PartName::List(ListName::ByHour)),
+    (b"BYDAY", PartName::List(ListName::ByDay)),
+    (b"BYMONTHDAY", PartName::List(ListName::ByMonthDay)),
+    (b"BYYEARDAY", PartName::List(ListName::ByYearDay)),
+    (b"BYWEEKNO", PartName::List(ListName::ByWeekNo)),
+    (b"BYMONTH", PartName::List(ListName::ByMonth)),
+    (b"BYSETPOS", PartName::List(ListName::BySetPos)),
+    (b"WKST", PartName::Wkst),
+];
+
 /// The part with that name, which may be in upper or lower case. None if no part has it.
 pub fn part_name(name: &[u8]) -> Option<PartName>
     ensures { result ≡ name_of name.now }
 {
-    if is_word(name, b"FREQ") {
-        Some(PartName::Freq)
-    } else if is_word(name, b"UNTIL") {
-        Some(PartName::Until)
-    } else if is_word(name, b"COUNT") {
-        Some(PartName::Count)
-    } else if is_word(name, b"INTERVAL") {
-        Some(PartName::Interval)
-    } else if is_word(name, b"BYSECOND") {
-        Some(PartName::List(ListName::BySecond))
-    } else if is_word(name, b"BYMINUTE") {
-        Some(PartName::List(ListName::ByMinute))
-    } else if is_word(name, b"BYHOUR") {
-        Some(PartName::List(ListName::ByHour))
-    } else if is_word(name, b"BYDAY") {
-        Some(PartName::List(ListName::ByDay))
-    } else if is_word(name, b"BYMONTHDAY") {
-        Some(PartName::List(ListName::ByMonthDay))
-    } else if is_word(name, b"BYYEARDAY") {
-        Some(PartName::List(ListName::ByYearDay))
-    } else if is_word(name, b"BYWEEKNO") {
-        Some(PartName::List(ListName::ByWeekNo))
-    } else if is_word(name, b"BYMONTH") {
-        Some(PartName::List(ListName::ByMonth))
-    } else if is_word(name, b"BYSETPOS") {
-        Some(PartName::List(ListName::BySetPos))
-    } else if is_word(name, b"WKST") {
-        Some(PartName::Wkst)
-    } else {
-        None
-    }
+    by_word(name, &PART_NAMES)
 }

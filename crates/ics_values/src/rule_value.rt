@@ -9,7 +9,7 @@ ghost use Rattle.ics_values.specs.RuleDrafts.{IsAmount, IsPlace, IsDayItem};
 use crate::digits::{are_digits, number_within};
 use crate::frequency::Frequency;
 use crate::ordinals::Side;
-use crate::part_name::is_word;
+use crate::part_name::by_word;
 use crate::sign::{is_negative, unsigned};
 use crate::stamp::{Stamp, any_stamp, year_of};
 use crate::until::Until;
@@ -22,50 +22,40 @@ pub enum Amount {
     TooLarge,
 }
 
+/// Frequencies by their names.
+static FREQUENCIES: [(&[u8], Frequency); 7] = [
+    (b"SECONDLY", Frequency::Secondly),
+    (b"MINUTELY", Frequency::Minutely),
+    (b"HOURLY", Frequency::Hourly),
+    (b"DAILY", Frequency::Daily),
+    (b"WEEKLY", Frequency::Weekly),
+    (b"MONTHLY", Frequency::Monthly),
+    (b"YEARLY", Frequency::Yearly),
+];
+
+/// Weekdays by their two letters.
+static WEEKDAYS: [(&[u8], Weekday); 7] = [
+    (b"MO", Weekday::Monday),
+    (b"TU", Weekday::Tuesday),
+    (b"WE", Weekday::Wednesday),
+    (b"TH", Weekday::Thursday),
+    (b"FR", Weekday::Friday),
+    (b"SA", Weekday::Saturday),
+    (b"SU", Weekday::Sunday),
+];
+
 /// FREQ.
 pub fn read_frequency(text: &[u8]) -> Option<Frequency>
     ensures { result ≡ frequency_of text.now }
 {
-    if is_word(text, b"SECONDLY") {
-        Some(Frequency::Secondly)
-    } else if is_word(text, b"MINUTELY") {
-        Some(Frequency::Minutely)
-    } else if is_word(text, b"HOURLY") {
-        Some(Frequency::Hourly)
-    } else if is_word(text, b"DAILY") {
-        Some(Frequency::Daily)
-    } else if is_word(text, b"WEEKLY") {
-        Some(Frequency::Weekly)
-    } else if is_word(text, b"MONTHLY") {
-        Some(Frequency::Monthly)
-    } else if is_word(text, b"YEARLY") {
-        Some(Frequency::Yearly)
-    } else {
-        None
-    }
+    by_word(text, &FREQUENCIES)
 }
 
 /// A weekday by its two letters.
 pub fn read_weekday(text: &[u8]) -> Option<Weekday>
     ensures { result ≡ weekday_of text.now }
 {
-    if is_word(text, b"MO") {
-        Some(Weekday::Monday)
-    } else if is_word(text, b"TU") {
-        Some(Weekday::Tuesday)
-    } else if is_word(text, b"WE") {
-        Some(Weekday::Wednesday)
-    } else if is_word(text, b"TH") {
-        Some(Weekday::Thursday)
-    } else if is_word(text, b"FR") {
-        Some(Weekday::Friday)
-    } else if is_word(text, b"SA") {
-        Some(Weekday::Saturday)
-    } else if is_word(text, b"SU") {
-        Some(Weekday::Sunday)
-    } else {
-        None
-    }
+    by_word(text, &WEEKDAYS)
 }
 
 fn until_said(stamp: Stamp) -> Until
