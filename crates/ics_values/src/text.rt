@@ -34,12 +34,26 @@ fn first_escape(text: &[u8]) -> Option<Escape<'_>>
 fn push_escaped(out: &mut Vec<u8>, b: u8) -> Result<(), AllocError>
     ensures { IfOk result (λ _. out.new.items ≡ out.old.items ++ text_of (92 ∷ b ∷ [])) }
 {
-    match b {
-        BACKSLASH | b';' | b',' => out.push(b)?,
-        b'n' | b'N' => out.push(b'\n')?,
-        _ => out.extend_from_slice(&[BACKSLASH, b])?,
-    }
+    let meant = match b {
+        BACKSLASH | b';' | b',' => b,
+        b'n' | b'N' => b'\n',
+        _ => return out.extend_from_slice(&[BACKSLASH, b]),
+    };
+    out.push(meant)?;
     Ok(())
+}
+
+/// Appends a TEXT value without its escapes.
+fn push_text(out: &mut Vec<u8>, value: &[u8]) -> Result<(), AllocError>
+    ensures { IfOk result (λ _. out.new.items ≡ out.old.items ++ text_of value.now) }
+{
+    let mut rest = value;
+    'escapes: while let Some(escape) = first_escape(rest) {
+        out.extend_from_slice(escape.before)?;
+        push_escaped(out, escape.byte)?;
+        rest = escape.behind;
+    }
+    out.extend_from_slice(rest)
 }
 
 /// A TEXT value without its escapes (RFC 5545, section 3.3.11): `\\`, `\;` and `\,` mean their second
@@ -53,12 +67,6 @@ pub fn text_bytes(alloc: Global, value: &[u8]) -> Result<Vec<u8>, AllocError>
         return Ok(Vec::new(alloc));
     }
     let mut out = Vec::with_capacity(alloc, value.len())?;
-    let mut rest = value;
-    'escapes: while let Some(escape) = first_escape(rest) {
-        out.extend_from_slice(escape.before)?;
-        push_escaped(&mut out, escape.byte)?;
-        rest = escape.behind;
-    }
-    out.extend_from_slice(rest)?;
+    push_text(&mut out, value)?;
     Ok(out)
 }
