@@ -30,30 +30,18 @@ fn first_escape(text: &[u8]) -> Option<Escape<'_>>
     })
 }
 
-/// Appends what a backslash and the byte after it mean.
-fn push_escaped(out: &mut Vec<u8>, b: u8) -> Result<(), AllocError>
-    ensures { IfOk result (λ _. out.new.items ≡ out.old.items ++ text_of (92 ∷ b ∷ [])) }
+/// Appends the text before a backslash, and what the backslash and the byte after it mean.
+fn push_escape(out: &mut Vec<u8>, escape: Escape<'_>) -> Result<(), AllocError>
+    ensures { IfOk result (λ _. out.new.items ≡ out.old.items ++ (escape.entry.before.now ++ text_of (92 ∷ escape.entry.byte ∷ []))) }
 {
-    let meant = match b {
-        BACKSLASH | b';' | b',' => b,
+    out.extend_from_slice(escape.before)?;
+    let meant = match escape.byte {
+        BACKSLASH | b';' | b',' => escape.byte,
         b'n' | b'N' => b'\n',
-        _ => return out.extend_from_slice(&[BACKSLASH, b]),
+        byte => return out.extend_from_slice(&[BACKSLASH, byte]),
     };
     out.push(meant)?;
     Ok(())
-}
-
-/// Appends a TEXT value without its escapes.
-fn push_text(out: &mut Vec<u8>, value: &[u8]) -> Result<(), AllocError>
-    ensures { IfOk result (λ _. out.new.items ≡ out.old.items ++ text_of value.now) }
-{
-    let mut rest = value;
-    'escapes: while let Some(escape) = first_escape(rest) {
-        out.extend_from_slice(escape.before)?;
-        push_escaped(out, escape.byte)?;
-        rest = escape.behind;
-    }
-    out.extend_from_slice(rest)
 }
 
 /// A TEXT value without its escapes (RFC 5545, section 3.3.11): `\\`, `\;` and `\,` mean their second
@@ -67,6 +55,11 @@ pub fn text_bytes(alloc: Global, value: &[u8]) -> Result<Vec<u8>, AllocError>
         return Ok(Vec::new(alloc));
     }
     let mut out = Vec::with_capacity(alloc, value.len())?;
-    push_text(&mut out, value)?;
+    let mut rest = value;
+    'escapes: while let Some(escape) = first_escape(rest) {
+        push_escape(&mut out, escape)?;
+        rest = escape.behind;
+    }
+    out.extend_from_slice(rest)?;
     Ok(out)
 }
