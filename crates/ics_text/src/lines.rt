@@ -3,7 +3,7 @@ ghost use Rattle.ics_text.specs.Unfolded.{StandsIn, unfolded, begins_with_fold};
 ghost use Rattle.ics_text.specs.Reading.{BeginsFolded, Takes};
 
 use crate::fault::BadFold;
-use crate::folds::first_line;
+use crate::folds::{Found, first_line};
 use crate::logical::Logical;
 use crate::physical::{is_continued, without_mark};
 use std::alloc::{AllocError, Global};
@@ -49,24 +49,15 @@ impl<'a> Lines<'a> {
         ensures unchanged { OnErr result (self.new ≡ self.old) }
         ensures only_folded { OnErr result (BeginsFolded self.old) }
     {
-        let mut rest = self.rest;
-        let mut breaks = self.breaks;
-        while !rest.is_empty() {
-            let number = breaks + 1;
-            let found = first_line(alloc, rest)?;
-            rest = found.rest;
-            breaks += found.breaks;
-            if !found.held.bytes().is_empty() {
-                self.rest = rest;
-                self.breaks = breaks;
-                return Ok(Some(Logical {
-                    number,
-                    held: found.held,
-                }));
+        while !self.rest.is_empty() {
+            let number = self.breaks + 1;
+            let Found { held, rest, breaks } = first_line(alloc, self.rest)?;
+            self.rest = rest;
+            self.breaks += breaks;
+            if !held.bytes().is_empty() {
+                return Ok(Some(Logical { number, held }));
             }
         }
-        self.rest = rest;
-        self.breaks = breaks;
         Ok(None)
     }
 }

@@ -40,15 +40,7 @@ impl PartName {
             PartName::Until => 1,
             PartName::Count => 2,
             PartName::Interval => 3,
-            PartName::List(ListName::BySecond) => 4,
-            PartName::List(ListName::ByMinute) => 5,
-            PartName::List(ListName::ByHour) => 6,
-            PartName::List(ListName::ByDay) => 7,
-            PartName::List(ListName::ByMonthDay) => 8,
-            PartName::List(ListName::ByYearDay) => 9,
-            PartName::List(ListName::ByWeekNo) => 10,
-            PartName::List(ListName::ByMonth) => 11,
-            PartName::List(ListName::BySetPos) => 12,
+            PartName::List(list) => 4 + list as u8,
             PartName::Wkst => 13,
         }
     }

@@ -104,11 +104,9 @@ pub fn number_between(text: &[u8], low: u16, high: u16) -> Option<u16>
     if !are_digits(text) {
         return None;
     }
-    let n = number_within(text)?;
-    if u32::from(low) <= n && n <= u32::from(high) {
-        Some(n as u16)
-    } else {
-        None
+    match number_within(text) {
+        Some(n) if u32::from(low) <= n && n <= u32::from(high) => Some(n as u16),
+        _ => None,
     }
 }
 
@@ -118,11 +116,10 @@ pub fn read_place(text: &[u8], high: u16) -> Option<(Side, u16)>
     ensures first { IfSome result (λ p. 1 ≤ p.1) }
     ensures last { IfSome result (λ p. p.1 ≤ high) }
 {
-    let n = number_between(unsigned(text), 1, high)?;
-    if is_negative(text) {
-        Some((Side::Back, n))
-    } else {
-        Some((Side::Front, n))
+    match number_between(unsigned(text), 1, high) {
+        Some(n) if is_negative(text) => Some((Side::Back, n)),
+        Some(n) => Some((Side::Front, n)),
+        None => None,
     }
 }
 

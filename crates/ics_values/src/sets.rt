@@ -126,12 +126,7 @@ impl WideBitSet {
     pub(crate) fn is_empty(&self) -> bool
         ensures { result ≡ is_empty_wide self.now }
     {
-        self.words[0] == 0
-            && self.words[1] == 0
-            && self.words[2] == 0
-            && self.words[3] == 0
-            && self.words[4] == 0
-            && self.words[5] == 0
+        self.words == [0; 6]
     }
 
     /// Whether `n` is a member.
@@ -146,23 +141,15 @@ impl WideBitSet {
         ensures next { IsNextIn (contains_wide self.now) n result }
         ensures small { IfSome result (λ m. m < 384) }
     {
-        let first = n as usize / 64;
-        if first >= 6 {
-            return None;
-        }
-        let bits = BitSet {
-            bits: self.words[first],
-        };
-        if let Some(bit) = bits.next_from((n % 64) as u8) {
-            return Some(first as u16 * 64 + bit as u16);
-        }
-        for word in first + 1..6 {
+        let mut from = (n % 64) as u8;
+        for word in n as usize / 64..6 {
             let bits = BitSet {
                 bits: self.words[word],
             };
-            if let Some(bit) = bits.next_from(0) {
+            if let Some(bit) = bits.next_from(from) {
                 return Some(word as u16 * 64 + bit as u16);
             }
+            from = 0;
         }
         None
     }
