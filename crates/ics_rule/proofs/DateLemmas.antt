@@ -41,8 +41,8 @@ out_5 true true false d false h = refl
 out_5 true false c d false h = refl
 out_5 false b c d false h = refl
 
-pub all_in : (a b c d e : Bool) → a ≡ true → b ≡ true → c ≡ true → d ≡ true → e ≡ (a && b && c && d && e)
-all_in a b c d e p q r s = rw (p, q, r, s) refl
+pub all_in : {a b c d : Bool} (e : Bool) → a ≡ true → b ≡ true → c ≡ true → d ≡ true → e ≡ (a && b && c && d && e)
+all_in e p q r s = rw (p, q, r, s) refl
 
 -- an absent part lets all in
 -- a weekday that stands neither alone nor with a number is out
@@ -80,8 +80,7 @@ weekday_out q e a c = out_5 (lets q.months (month_of e)) (lets_place q.month_day
 -- where no other part speaks of the date BYDAY decides
 pub weekdays_alone : (q : EffectiveRule) (e : ℕ) → names_weekdays_alone q ≡ true → lets_date q e ≡ lets_weekday q e
 weekdays_alone q e alone = let f = four (is_empty q.months) (lists_none q.month_days) (lists_none_wide q.year_days) (lists_none q.weeks) alone in
-    sym (all_in (lets q.months (month_of e)) (lets_place q.month_days (month_day_of e) (days_in_month (pos (year_of e)) (month_of e)))
-    (lets_wide_place q.year_days (year_day_of e) (days_in_year (pos (year_of e)))) (lets_week q e) (lets_weekday q e)
+    sym (all_in (lets_weekday q e)
     (or_left (is_empty q.months) _ f.0) (or_left (lists_none q.month_days) _ f.1.0) (or_left (lists_none_wide q.year_days) _ f.1.1.0)
     (or_left (lists_none q.weeks) _ f.1.1.1))
   where
@@ -103,17 +102,21 @@ weekday_in q e day alone = weekdays_alone q e alone
 pub in_week : (d : ℕ) (b : Bool) → d < 7 → (nat_lt d 7 && b) ≡ b
 in_week d b h = let less : nat_lt d 7 ≡ true = grind (arith, nat_tests) in rw less refl
 
-named_in : (q : EffectiveRule) (e : ℕ) → q.frequency ≡ Weekly → names_weekdays_alone q ≡ true → lists_no_weekday q.weekdays ≡ false →
-    names_weekday q.weekdays (weekday_of e) ≡ lets_date q e
-named_in q e weekly alone some =
-    sym (weekdays_alone q e alone
-    ∙ ap (λ x. x || contains q.weekdays.plain (weekday_of e) || lets_numbered q.frequency q (numbers_of q.weekdays (weekday_of e)) e) some
-    ∙ ap (λ f. contains q.weekdays.plain (weekday_of e) || lets_numbered f q (numbers_of q.weekdays (weekday_of e)) e) weekly)
+-- a rule repeats weekly, of the parts of the date it has BYDAY alone, and a set is that of the weekdays that it names
+pub record NamesWeekdays (q : EffectiveRule) (set : ℕ) : Type 0 where
+  pub weekly : q.frequency ≡ Weekly
+  pub alone : names_weekdays_alone q ≡ true
+  pub some : lists_no_weekday q.weekdays ≡ false
+  pub named : (n : ℕ) → contains set n ≡ (nat_lt n 7 && names_weekday q.weekdays n)
 
-pub day_of_week : (q : EffectiveRule) (e : ℕ) {d : ℕ} (set : ℕ) {found : Bool} → q.frequency ≡ Weekly → names_weekdays_alone q ≡ true
-    → lists_no_weekday q.weekdays ≡ false
-    → d ≡ weekday_of e → d < 7 → ((n : ℕ) → contains set n ≡ (nat_lt n 7 && names_weekday q.weekdays n)) → found ≡ (nat_lt d 64 && contains set d) →
-    found ≡ lets_date q e
-day_of_week q e {d = d} set weekly alone some day small named h =
-    h ∙ in_word d (contains set d) (omega (arith, small)) ∙ named d ∙ in_week d (names_weekday q.weekdays d) small
-    ∙ ap (names_weekday q.weekdays) day ∙ named_in q e weekly alone some
+module _ {q : EffectiveRule} {set : ℕ} (names : NamesWeekdays q set) (e : ℕ) where
+  named_in : names_weekday q.weekdays (weekday_of e) ≡ lets_date q e
+  named_in =
+      sym (weekdays_alone q e names.alone
+      ∙ ap (λ x. x || contains q.weekdays.plain (weekday_of e) || lets_numbered q.frequency q (numbers_of q.weekdays (weekday_of e)) e) names.some
+      ∙ ap (λ f. contains q.weekdays.plain (weekday_of e) || lets_numbered f q (numbers_of q.weekdays (weekday_of e)) e) names.weekly)
+
+  pub day_of_week : {d : ℕ} {found : Bool} → d ≡ weekday_of e → d < 7 → found ≡ (nat_lt d 64 && contains set d) → found ≡ lets_date q e
+  day_of_week {d = d} day small h =
+      h ∙ in_word d (contains set d) (omega (arith, small)) ∙ names.named d ∙ in_week d (names_weekday q.weekdays d) small
+      ∙ ap (names_weekday q.weekdays) day ∙ named_in

@@ -21,9 +21,9 @@ use Rattle.ics_rule.proofs.RoundLemmas.{clock_alike}
 use Rattle.ics_rule.proofs.MonthDays.{day_of_run, three_parts, goes, span_month}
 
 -- where there is no next member, none is left
-pub none_from : (test : ℕ → Bool) (n : ℕ) (o : Option ℕ) → is_some o ≡ false → IsNextIn test n o → (m : ℕ) → n ≤ m → test m ≡ false
-none_from test n None e next = next
-none_from test n (Some x) e next = absurd (cc)
+pub none_from : (test : ℕ → Bool) {n : ℕ} (o : Option ℕ) → is_some o ≡ false → IsNextIn test n o → (m : ℕ) → n ≤ m → test m ≡ false
+none_from test None e next = next
+none_from test (Some x) e next = absurd (cc)
 
 -- what a rule allows, apart from the interval
 abbrev pub is_allowed : EffectiveRule → ℕ → Bool

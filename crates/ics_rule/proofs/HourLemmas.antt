@@ -1,16 +1,15 @@
 -- The locals of an hour that a rule keeps.
-use Rattle.std.proofs.Common.{◌≡◌, ℕ, suc, ◌+◌, ◌*◌, ◌<◌, ◌≤◌, ◌⊎◌, inl, inr, ◌/◌, ◌%◌, Bool, true, false, ◌&&◌, ◌==◌, nat_lt, nat_le, Some, None, Option}
+use Rattle.std.proofs.Common.{◌≡◌, ℕ, suc, ◌+◌, ◌*◌, ◌<◌, ◌≤◌, ◌⊎◌, inl, inr, ◌/◌, ◌%◌, Bool, true, false, ◌&&◌, nat_lt, nat_le, Some, None, Option}
 use Rattle.std.proofs.Common.{refl, ap, sym, subst, ◌∙◌, arith}
-use Rattle.std.proofs.lemmas.Bool.{and_from, cases_lt, or_right, eqb-true, false_from_ne_true}
+use Rattle.std.proofs.lemmas.Bool.{and_from, cases_lt, or_right}
 use Rattle.std.proofs.lemmas.Bool.Decides.{nat_tests}
-use Rattle.std.proofs.lemmas.Nat.Bits.{bit_at-zero}
 use Rattle.jiff_core.specs.Weekday.{monday_zero}
 use Rattle.ics_values.specs.declared.frequency.Frequency.{Frequency}
 use Rattle.ics_values.specs.declared.frequency.Frequency.TheVariants.{Secondly, Minutely, Hourly, Daily, Weekly, Monthly, Yearly}
 use Rattle.ics_values.specs.declared.until.Until.{Until}
 use Rattle.ics_values.specs.declared.until.Until.TheVariants as until
 use Rattle.ics_values.specs.Days.{day_index, year_of}
-use Rattle.ics_values.specs.Sets.{contains, is_empty, IsLeastFrom}
+use Rattle.ics_values.specs.Sets.{contains, is_empty}
 use Rattle.ics_values.specs.Ordinals.{lists_none_wide}
 use Rattle.ics_rule.specs.declared.kind.Kind.{Kind}
 use Rattle.ics_rule.specs.declared.kind.Kind.TheVariants.{Date, DateTime}
@@ -18,13 +17,13 @@ use Rattle.ics_rule.specs.declared.effective_rule.EffectiveRule.{EffectiveRule}
 use Rattle.ics_rule.specs.Recurrence.{Recurrence}
 use Rattle.ics_rule.specs.PeriodNumbers.{period, day_of, hour_of, minute_of, second_of, week_of, month_number, rules_end}
 use Rattle.ics_values.specs.Locals.{number}
-use Rattle.ics_rule.specs.EffectiveRules.{effective}
+use Rattle.ics_rule.specs.EffectiveRules.{effective, skips_hours}
 use Rattle.ics_rule.specs.Candidates.{lets, in_step, is_stepped, lets_date, lets_clock, period_in, is_candidate_in}
 use Rattle.ics_rule.specs.Kept.{count, is_chosen, is_placed, is_kept, is_by_until}
 use Rattle.ics_rule.specs.Searches.{is_few, is_wanted}
 use Rattle.ics_rule.specs.declared.hour.HourTimes.{HourTimes}
-use Rattle.ics_rule.specs.HoursKept.{is_finer, IsFirstTime, IsLastTime, KeepsTimes}
-use Rattle.ics_rule.specs.Next.{NoneKept, IsNextKept}
+use Rattle.ics_rule.specs.HoursKept.{KeepsEnds, KeepsTimes}
+use Rattle.ics_rule.specs.Next.{NoneKept}
 use Rattle.ics_rule.proofs.Counts.{count_mono}
 use Rattle.ics_rule.proofs.KeptLemmas.{and_true, or_true}
 use Rattle.ics_rule.proofs.NextLemmas.{kept_later}
@@ -40,7 +39,7 @@ false_or_true true = inr refl
 false_or_true false = inl refl
 
 -- the locals of a day lie in one period, but under a rule that repeats more often than daily
-same_period : (f : Frequency) (w n m : ℕ) → is_finer f ≡ false → day_of n ≡ day_of m → period f w n ≡ period f w m
+same_period : (f : Frequency) (w n m : ℕ) → skips_hours f ≡ true → day_of n ≡ day_of m → period f w n ≡ period f w m
 same_period Secondly w n m e d = absurd (cc)
 same_period Minutely w n m e d = absurd (cc)
 same_period Hourly w n m e d = absurd (cc)
@@ -73,19 +72,19 @@ module _ (q : EffectiveRule) (start : ℕ) where
       (omega (arith, more)) (and_true h).1)
 
   -- on the day of one that is chosen, without BYSETPOS, each local that the parts of the clock let in is
-  chosen_beside : is_finer q.frequency ≡ false → lists_none_wide q.positions ≡ true → (n m : ℕ) → day_of n ≡ day_of m → is_chosen q start m ≡ true
-      → lets_clock q n ≡ true → is_chosen q start n ≡ true
-  chosen_beside coarse free n m d h clock =
-      let candidate = (and_true {a = is_candidate_in q start m} h).0 in
-      let dated = (and_true {a = in_step q start m && lets_date q (day_of m)} candidate).0 in
-      let step = (and_true {a = in_step q start m} dated).0 in
-      let date = (and_true {a = in_step q start m} dated).1 in
-      let same = same_period q.frequency (monday_zero q.week_start) n m coarse d in
-      and_from (is_candidate_in q start n) (is_placed q start (lists_none_wide q.positions) n)
-      (and_from (in_step q start n && lets_date q (day_of n)) (lets_clock q n)
-      (and_from (in_step q start n) (lets_date q (day_of n))
-      (ap (is_stepped (period_in q start) q.interval) same ∙ step) (ap (lets_date q) d ∙ date)) clock)
-      (ap (λ b. is_placed q start b n) free)
+  module _ (coarse : skips_hours q.frequency ≡ true) (free : lists_none_wide q.positions ≡ true) where
+    chosen_beside : (n m : ℕ) → day_of n ≡ day_of m → is_chosen q start m ≡ true → lets_clock q n ≡ true → is_chosen q start n ≡ true
+    chosen_beside n m d h clock =
+        let candidate = (and_true {a = is_candidate_in q start m} h).0 in
+        let dated = (and_true {a = in_step q start m && lets_date q (day_of m)} candidate).0 in
+        let step = (and_true {a = in_step q start m} dated).0 in
+        let date = (and_true {a = in_step q start m} dated).1 in
+        let same = same_period q.frequency (monday_zero q.week_start) n m coarse d in
+        and_from (is_candidate_in q start n) (is_placed q start (lists_none_wide q.positions) n)
+        (and_from (in_step q start n && lets_date q (day_of n)) (lets_clock q n)
+        (and_from (in_step q start n) (lets_date q (day_of n))
+        (ap (is_stepped (period_in q start) q.interval) same ∙ step) (ap (lets_date q) d ∙ date)) clock)
+        (ap (λ b. is_placed q start b n) free)
 
 -- the parts of the clock let a kept local in
 pub kept_clock : (r : Recurrence) (n : ℕ) → number r.start < n → n < rules_end → is_kept r n ≡ true → lets_clock (effective r) n ≡ true
@@ -106,52 +105,50 @@ listed s n some let_in = elim (or_true let_in) [ inl none ↦ absurd (false_not_
 abbrev times_of : EffectiveRule → HourTimes
 times_of q = record { minutes = q.minutes; seconds = q.seconds }
 
--- an hour after the start keeps the first of its times, and nothing before it, and the last
-pub record KeepsBounds (r : Recurrence) (q : EffectiveRule) (hour first last : ℕ) : Type 0 where
+-- an hour before the end of the rules, of a rule without BYSETPOS that repeats daily or more seldom, keeps the first and the last of its times
+pub record KeepsBounds (r : Recurrence) (q : EffectiveRule) (hour : ℕ) : Type 0 where
   pub early : hour < 85_913_808
-  pub coarse : is_finer q.frequency ≡ false
+  pub coarse : skips_hours q.frequency ≡ true
   pub free : lists_none_wide q.positions ≡ true
-  pub after : number r.start < hour * 3_600 + first
-  pub first_time : IsFirstTime (times_of q) first
-  pub last_time : IsLastTime (times_of q) last
-  pub next : IsNextKept r (hour * 3_600) (hour * 3_600 + 3_600) (hour * 3_600 + first)
-  pub inside : last < 3_600
-  pub kept_last : is_kept r (hour * 3_600 + last) ≡ true
+  pub ends : KeepsEnds r hour (times_of q)
 
-module _ (r : Recurrence) (hour first last : ℕ) (bounds : KeepsBounds r (effective r) hour first last) where
+module _ (r : Recurrence) (hour : ℕ) (bounds : KeepsBounds r (effective r) hour) where
+  abbrev ends : KeepsEnds r hour (times_of (effective r))
+  ends = bounds.ends
+
   abbrev kept : ℕ
-  kept = hour * 3_600 + first
+  kept = hour * 3_600 + ends.first
 
   same_day : (n : ℕ) → n / 3_600 ≡ hour → day_of n ≡ day_of kept
-  same_day n at = let high = bounds.next.in_bound in omega (arith, at, high)
+  same_day n at = let high = ends.next.in_bound in omega (arith, at, high)
 
   same_hour : (n : ℕ) → n / 3_600 ≡ hour → hour_of kept ≡ hour_of n
   same_hour n at =
-      let high = bounds.next.in_bound in
+      let high = ends.next.in_bound in
       let e : kept / 3_600 ≡ n / 3_600 = omega (arith, at, high) in
       ap (λ h. h % 24) e
 
   -- between the two bounds each that the parts of the clock let in is kept
-  kept_between : (n : ℕ) → n / 3_600 ≡ hour → kept ≤ n → n ≤ hour * 3_600 + last → lets_clock (effective r) n ≡ true → is_kept r n ≡ true
+  kept_between : (n : ℕ) → n / 3_600 ≡ hour → kept ≤ n → n ≤ hour * 3_600 + ends.last → lets_clock (effective r) n ≡ true → is_kept r n ≡ true
   kept_between n at low high clock =
-      let early : hour * 3_600 + last < rules_end = omega (arith, bounds.early, bounds.inside) in
-      let from = and_true (sym (kept_later r kept bounds.after (omega (arith, low, high, early))) ∙ bounds.next.kept) in
-      let to = and_true (sym (kept_later r (hour * 3_600 + last) (omega (arith, bounds.after, low, high)) early) ∙ bounds.kept_last) in
+      let early : hour * 3_600 + ends.last < rules_end = omega (arith, bounds.early, ends.inside) in
+      let from = and_true (sym (kept_later r kept ends.after (omega (arith, low, high, early))) ∙ ends.next.kept) in
+      let to = and_true (sym (kept_later r (hour * 3_600 + ends.last) (omega (arith, ends.after, low, high)) early) ∙ ends.kept_last) in
       let chosen = wanted_chosen (effective r) (number r.start) r.parts.count kept from.0 in
-      kept_later r n (omega (arith, bounds.after, low)) (omega (arith, high, early))
+      kept_later r n (omega (arith, ends.after, low)) (omega (arith, high, early))
       ∙ and_from (is_wanted (effective r) (number r.start) r.parts.count n) (is_by_until r.kind r.parts.until n)
-      (wanted_up (effective r) (number r.start) r.parts.count n (hour * 3_600 + last) high to.0
+      (wanted_up (effective r) (number r.start) r.parts.count n (hour * 3_600 + ends.last) high to.0
       (chosen_beside (effective r) (number r.start) bounds.coarse bounds.free n kept (same_day n at) chosen clock))
-      (until_up r.kind r.parts.until n (hour * 3_600 + last) high to.1)
+      (until_up r.kind r.parts.until n (hour * 3_600 + ends.last) high to.1)
 
   product_kept : (n : ℕ) → n / 3_600 ≡ hour → contains (effective r).minutes (minute_of n) ≡ true → contains (effective r).seconds (second_of n) ≡ true →
       is_kept r n ≡ true
   product_kept n at minute second =
-      let low = bounds.first_time.least (minute_of n) (second_of n) minute second in
-      let high = bounds.last_time (minute_of n) (second_of n) minute second in
+      let low = ends.first_time.least (minute_of n) (second_of n) minute second in
+      let high = ends.last_time (minute_of n) (second_of n) minute second in
       let whole : n ≡ hour * 3_600 + n / 60 % 60 * 60 + n % 60 = omega (arith, at) in
       let clock = and_true {a = lets (effective r).hours (hour_of kept) && lets (effective r).minutes (minute_of kept)}
-      (kept_clock r kept bounds.after (let high = bounds.next.in_bound in omega (arith, bounds.early, high)) bounds.next.kept) in
+      (kept_clock r kept ends.after (let high = ends.next.in_bound in omega (arith, bounds.early, high)) ends.next.kept) in
       let of_hour = (and_true {a = lets (effective r).hours (hour_of kept)} clock.0).0 in
       kept_between n at (omega (arith, whole, low)) (omega (arith, whole, high))
       (and_from (lets (effective r).hours (hour_of n) && lets (effective r).minutes (minute_of n)) (lets (effective r).seconds (second_of n))
@@ -163,13 +160,13 @@ module _ (r : Recurrence) (hour first last : ℕ) (bounds : KeepsBounds r (effec
   kept_product : (n : ℕ) → n / 3_600 ≡ hour → is_kept r n ≡ true →
       (contains (effective r).minutes (minute_of n) && contains (effective r).seconds (second_of n)) ≡ true
   kept_product n at keeps = elim (cases_lt n kept) [
-    | inl before ↦ absurd (false_not_true (is_kept r n) (bounds.next.least n (omega (arith, at)) before) keeps)
+    | inl before ↦ absurd (false_not_true (is_kept r n) (ends.next.least n (omega (arith, at)) before) keeps)
     | inr from ↦ (
         let clock = and_true {a = lets (effective r).hours (hour_of n) && lets (effective r).minutes (minute_of n)}
-        (kept_clock r n (omega (arith, bounds.after, from)) (omega (arith, bounds.early, at)) keeps) in
+        (kept_clock r n (omega (arith, ends.after, from)) (omega (arith, bounds.early, at)) keeps) in
         and_from (contains (effective r).minutes (minute_of n)) (contains (effective r).seconds (second_of n))
-        (listed (effective r).minutes (minute_of n) bounds.first_time.minute (and_true {a = lets (effective r).hours (hour_of n)} clock.0).1)
-        (listed (effective r).seconds (second_of n) bounds.first_time.second clock.1))
+        (listed (effective r).minutes (minute_of n) ends.first_time.minute (and_true {a = lets (effective r).hours (hour_of n)} clock.0).1)
+        (listed (effective r).seconds (second_of n) ends.first_time.second clock.1))
   ]
 
   -- of the locals of the hour the rule keeps those that its parts list
@@ -197,32 +194,12 @@ left_out r {q = q} whole hour early after out n from to = elim (false_or_true (i
       (subst (λ (x : EffectiveRule). lets x.hours (hour % 24) ≡ true) (sym whole) (subst (λ h. lets (effective r).hours (h % 24) ≡ true) at here)))
 ]
 
--- a kept local between a place and the next is at the place
-pub kept_here : (r : Recurrence) (from n : ℕ) → IsNextKept r from (from + 1) n → is_kept r from ≡ true
-kept_here r from n next =
-    let low = next.from_place in
-    let high = next.in_bound in
-    let e : n ≡ from = omega (arith, low, high) in
-    subst (λ m. is_kept r m ≡ true) e next.kept
-
 -- the same, said of the parts that a rule holds
-pub held_times : {r : Recurrence} {q : EffectiveRule} {hour first last : ℕ} → q ≡ effective r → KeepsBounds r q hour first last →
-    KeepsTimes r hour (times_of q)
-held_times {r = r} {hour = hour} {first = first} {last = last} whole bounds = subst (λ (x : EffectiveRule). KeepsTimes r hour (times_of x)) (sym whole)
-    (keeps_times r hour first last (subst (λ (x : EffectiveRule). KeepsBounds r x hour first last) whole bounds))
+pub held_times : {r : Recurrence} {q : EffectiveRule} {hour : ℕ} → q ≡ effective r → KeepsBounds r q hour → KeepsTimes r hour (times_of q)
+held_times {r = r} {hour = hour} whole bounds = subst (λ (x : EffectiveRule). KeepsTimes r hour (times_of x)) (sym whole)
+    (keeps_times r hour (subst (λ (x : EffectiveRule). KeepsBounds r x hour) whole bounds))
 
--- some hour, minute or second is listed
-pub some_listed : (s n : ℕ) → contains s n ≡ true → is_empty s ≡ false
-some_listed s n h = false_from_ne_true (is_empty s) (λ none.
-    false_not_true (contains s n) (subst (λ x. contains x n ≡ false) (sym (eqb-true s 0 none)) (ap (λ x. x == 1) (bit_at-zero n))) h)
-
--- a member of a set is not below the first, and not above the last
-pub not_below : (s least n : ℕ) → IsLeastFrom (contains s) 0 least → contains s n ≡ true → least ≤ n
-not_below s least n is h = elim (cases_lt n least) [
-  | inl less ↦ absurd (false_not_true (contains s n) (is.least n (omega arith) less) h)
-  | inr more ↦ more
-]
-
+-- a member of a set is not above the last
 pub not_above : (s most n : ℕ) → ((k : ℕ) → most < k → contains s k ≡ false) → contains s n ≡ true → n ≤ most
 not_above s most n is h = elim (cases_lt most n) [
   | inl less ↦ absurd (false_not_true (contains s n) (is n less) h)

@@ -15,12 +15,11 @@ use Rattle.ics_values.specs.Days.{days_before_year, year_of, year_day_of, month_
 use Rattle.ics_values.proofs.DayLemmas.{Fields, days_before_year-next, days_before_year_low, year_of_is, year_under_way}
 use Rattle.ics_rule.specs.declared.effective_rule.EffectiveRule.{EffectiveRule}
 use Rattle.ics_rule.specs.declared.runs.Run.{Run}
-use Rattle.ics_rule.specs.PeriodNumbers.{period, rules_end}
-use Rattle.ics_rule.specs.RecurrencePeriods.{first_local, month_start}
+use Rattle.ics_rule.specs.RecurrencePeriods.{month_start}
 use Rattle.ics_rule.specs.Candidates.{lets, lets_place, lets_wide_place, lets_week, lets_weekday, lets_numbered, lets_date, lists, lists_nth}
 use Rattle.ics_rule.specs.Runs.{has_run, weekday_in, lists_weekday, lists_in_month, is_in_month, goes_by_months, counts_in_month, IsMonth, IsSpan}
 use Rattle.ics_rule.proofs.Months.{earlier_month, later_month, month_of_low}
-use Rattle.ics_rule.proofs.PeriodLemmas.{month_positive, month_size}
+use Rattle.ics_rule.proofs.PeriodLemmas.{month_positive, month_size, IsPeriodFrom}
 use Rattle.ics_rule.proofs.DayWalkLemmas.{fields_at}
 use Rattle.ics_rule.proofs.RunLemmas.{next_found, all_found, guard, run_facts, run_shown}
 use Rattle.ics_rule.proofs.Tests.{above, below, three}
@@ -393,25 +392,24 @@ span_month p first len w span weekday = record {
 }
 
 -- and the period that a rule's code looks at
-pub period_span : (f : Frequency) (w p : ℕ) {b e : ℕ} → period f w 0 ≤ p → b ≡ first_local f w p → e ≡ first_local f w (p + 1) → b ≤ rules_end →
-    IsSpan f p (b / 86_400) ((e + 86_399) / 86_400 - b / 86_400)
-period_span Yearly w p low eb ee reach =
+pub period_span : (f : Frequency) (w p : ℕ) {b e : ℕ} → IsPeriodFrom f w p b e → IsSpan f p (b / 86_400) ((e + 86_399) / 86_400 - b / 86_400)
+period_span Yearly w p is =
     let next = days_before_year-next p in
     let one = ap days_before_year (let same : p + 1 ≡ suc p = omega arith in same) in
     let long = days_before_year_low p in
-    (omega (arith, eb, reach, long), (omega (arith, eb), omega (arith, eb, ee, next, one)))
-period_span Monthly w zero low eb ee reach = absurd (let some = month_positive (0 / 86_400) in omega (arith, some, low))
-period_span Monthly w (suc p) {b = b} {e = e} low eb ee reach =
+    (omega (arith, is.begin, is.early, long), (omega (arith, is.begin), omega (arith, is.begin, is.end, next, one)))
+period_span Monthly w zero is = absurd (let some = month_positive (0 / 86_400) in omega (arith, some, is.some))
+period_span Monthly w (suc p) {b = b} {e = e} is =
     let back : suc p - 1 ≡ p = omega arith in
     let size = month_size p in
     let one = ap month_start (let same : suc p + 1 ≡ suc (suc p) = omega arith in same) in
     let long = days_before_year_low (p / 12) in
-    let begun : b ≡ month_start (suc p) * 86_400 = eb in
-    let ended : e ≡ month_start (suc (suc p)) * 86_400 = ee ∙ ap (λ x. x * 86_400) one in
-    let year : p / 12 ≤ 9_999 = omega (arith, rw back at begun, reach, long) in
+    let begun : b ≡ month_start (suc p) * 86_400 = is.begin in
+    let ended : e ≡ month_start (suc (suc p)) * 86_400 = is.end ∙ ap (λ x. x * 86_400) one in
+    let year : p / 12 ≤ 9_999 = omega (arith, rw back at begun, is.early, long) in
     (omega arith, (rw back year, (omega (arith, begun), rw back (omega (arith, begun, ended, size)))))
-period_span Weekly w p low eb ee reach = tt
-period_span Daily w p low eb ee reach = tt
-period_span Hourly w p low eb ee reach = tt
-period_span Minutely w p low eb ee reach = tt
-period_span Secondly w p low eb ee reach = tt
+period_span Weekly w p is = tt
+period_span Daily w p is = tt
+period_span Hourly w p is = tt
+period_span Minutely w p is = tt
+period_span Secondly w p is = tt

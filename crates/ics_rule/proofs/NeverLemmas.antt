@@ -31,20 +31,21 @@ module _ (q : EffectiveRule) (start n m : ℕ) (here : is_beside q start n m ≡
   beside_period = eqb-true (period_in q m) (period_in q n) (last_part (is_candidate_in q start m) (period_in q m == period_in q n) here)
 
 -- a period of so many seconds has no more than what passes a test of each second
-size_within : (q : EffectiveRule) (start n a u : ℕ) (test : ℕ → Bool) → ((m : ℕ) → period_in q m ≡ period_in q n → (a ≤ m) × (m < a + u))
-    → ((k : ℕ) → k < u → lets_clock q (a + k) ≡ true → test k ≡ true) → size q start n ≤ count u test
-size_within q start n a u test span clock =
-    let all = up_to (cases_lt (a + u) calendar_end) in
-    let low = count-from a u (is_beside q start n)
-    (λ m l. false_from_ne_true (is_beside q start n m) (λ here. let s = (span m (beside_period q start n m here)).0 in omega (arith, s, l))) in
-    let few = count_within u (λ k. is_beside q start n (a + k)) test (λ k l here. clock k l (beside_clock q start n (a + k) here)) in
-    omega (arith, all, low, few)
-  where
-    up_to : (a + u < calendar_end) ⊎ (calendar_end ≤ a + u) → size q start n ≤ count (a + u) (is_beside q start n)
-    up_to (inl less) = let flat = count_flat (a + u) calendar_end (is_beside q start n) (omega (arith, less))
-        (λ m l h. false_from_ne_true (is_beside q start n m) (λ here. let s = (span m (beside_period q start n m here)).1 in omega (arith, s, l))) in
-        omega (arith, flat)
-    up_to (inr more) = count_mono calendar_end (a + u) (is_beside q start n) more
+module _ (q : EffectiveRule) (start n : ℕ) where
+  size_within : (a u : ℕ) (test : ℕ → Bool) → ((m : ℕ) → period_in q m ≡ period_in q n → (a ≤ m) × (m < a + u))
+      → ((k : ℕ) → k < u → lets_clock q (a + k) ≡ true → test k ≡ true) → size q start n ≤ count u test
+  size_within a u test span clock =
+      let all = up_to (cases_lt (a + u) calendar_end) in
+      let low = count-from a u (is_beside q start n)
+      (λ m l. false_from_ne_true (is_beside q start n m) (λ here. let s = (span m (beside_period q start n m here)).0 in omega (arith, s, l))) in
+      let few = count_within u (λ k. is_beside q start n (a + k)) test (λ k l here. clock k l (beside_clock q start n (a + k) here)) in
+      omega (arith, all, low, few)
+    where
+      up_to : (a + u < calendar_end) ⊎ (calendar_end ≤ a + u) → size q start n ≤ count (a + u) (is_beside q start n)
+      up_to (inl less) = let flat = count_flat (a + u) calendar_end (is_beside q start n) (omega (arith, less))
+          (λ m l h. false_from_ne_true (is_beside q start n m) (λ here. let s = (span m (beside_period q start n m here)).1 in omega (arith, s, l))) in
+          omega (arith, flat)
+      up_to (inr more) = count_mono calendar_end (a + u) (is_beside q start n) more
 
 -- nor than each period that the rule lets in, where a period is a day or less
 pub most_in_period : (q : EffectiveRule) → 0 < seconds_of q.frequency → seconds_of q.frequency ≤ 86_400 → (start n : ℕ) → size q start n ≤ size_of_open q
@@ -57,11 +58,15 @@ most_in_period q fine unit start n =
     (lets_within q.frequency q (period_in q n * seconds_of q.frequency + k))
     (sym (clock_split q.frequency q (period_in q n * seconds_of q.frequency + k)) ∙ clock))
 
--- no place up to the size is listed
-pub never_chosen : (q : EffectiveRule) (most : ℕ) → lists_none_wide q.positions ≡ false → ((start n : ℕ) → size q start n ≤ most)
-    → ((k : ℕ) → 1 ≤ k → k ≤ most → contains_wide q.positions.front k ≡ false) → ((k : ℕ) → 1 ≤ k → k ≤ most → contains_wide q.positions.back k ≡ false)
-    → (start n : ℕ) → n < calendar_end → is_chosen q start n ≡ false
-never_chosen q most some few front back start n inside = by_candidate (is_candidate_in q start n) refl
+-- BYSETPOS lists only places that are greater than a period's size
+pub record IsPast (q : EffectiveRule) (most : ℕ) : Type 0 where
+  pub some : lists_none_wide q.positions ≡ false
+  pub few : (start n : ℕ) → size q start n ≤ most
+  pub front : (k : ℕ) → 1 ≤ k → k ≤ most → contains_wide q.positions.front k ≡ false
+  pub back : (k : ℕ) → 1 ≤ k → k ≤ most → contains_wide q.positions.back k ≡ false
+
+pub never_chosen : (q : EffectiveRule) {most : ℕ} → IsPast q most → (start n : ℕ) → n < calendar_end → is_chosen q start n ≡ false
+never_chosen q past start n inside = by_candidate (is_candidate_in q start n) refl
   where
     by_candidate : (b : Bool) → is_candidate_in q start n ≡ b → is_chosen q start n ≡ false
     by_candidate false e = ap (λ x. x && is_placed q start (lists_none_wide q.positions) n) e
@@ -69,18 +74,18 @@ never_chosen q most some few front back start n inside = by_candidate (is_candid
         let own : is_beside q start n n ≡ true = ap (λ x. x && period_in q n == period_in q n) e ∙ eq-eqb (period_in q n) (period_in q n) refl in
         let first = count_some (suc n) n (is_beside q start n) (omega arith) own in
         let within = count_mono (suc n) calendar_end (is_beside q start n) (omega (arith, inside)) in
-        let bound = few start n in
+        let bound = past.few start n in
         and_right (is_candidate_in q start n) (is_placed q start (lists_none_wide q.positions) n)
-        (ap (λ b. is_placed q start b n) some
+        (ap (λ b. is_placed q start b n) past.some
         ∙ ap (λ x. x || contains_wide q.positions.back (size q start n + 1 - rank q start n))
-        (front (rank q start n) (omega (arith, first)) (omega (arith, within, bound)))
-        ∙ back (size q start n + 1 - rank q start n) (omega (arith, within)) (omega (arith, first, within, bound)))
+        (past.front (rank q start n) (omega (arith, first)) (omega (arith, within, bound)))
+        ∙ past.back (size q start n + 1 - rank q start n) (omega (arith, within)) (omega (arith, first, within, bound)))
 
 -- so a walk finds nothing
-pub none_wanted : (q : EffectiveRule) (start : ℕ) (o : Option ℕ) (place stop : ℕ) → stop ≤ rules_end →
+pub none_wanted : (q : EffectiveRule) (start : ℕ) (o : Option ℕ) (place : ℕ) {stop : ℕ} → stop ≤ rules_end →
     ((n : ℕ) → n < calendar_end → is_chosen q start n ≡ false) → NoneWanted q start o place stop
-none_wanted q start None place stop h none n l u = none n (omega (arith, u, h))
-none_wanted q start (Some c) place stop h none n l u = ap (λ x. x && is_few q start c n) (none n (omega (arith, u, h)))
+none_wanted q start None place h none n l u = none n (omega (arith, u, h))
+none_wanted q start (Some c) place h none n l u = ap (λ x. x && is_few q start c n) (none n (omega (arith, u, h)))
 
 pub none_walked : {q : EffectiveRule} {start : ℕ} {o : Option ℕ} {cursor : Cursor} (stop : ℕ) → cursor.place < stop → IsCursorIn q start o cursor →
     IsWalked q start o stop None cursor cursor

@@ -1,19 +1,17 @@
 -- A period is the locals from its first on and before the next period's first.
-use Rattle.std.proofs.Common.{◌≡◌, ℕ, zero, suc, ◌+◌, ◌-◌, ◌*◌, ◌/◌, ◌%◌, ◌<◌, ◌≤◌, inl, inr, refl, true, sym, subst, ap, cond, arith, pos}
+use Rattle.std.proofs.Common.{◌≡◌, ℕ, zero, suc, ◌+◌, ◌-◌, ◌*◌, ◌/◌, ◌%◌, ◌<◌, ◌≤◌, inl, inr, sym, subst, ap, cond, arith, pos}
 use Rattle.std.proofs.lemmas.Bool.{cases_lt, le-ltb, lt-ltb}
 use Rattle.jiff_core.specs.declared.civil.weekday.Weekday.{Weekday}
 use Rattle.jiff_core.specs.declared.civil.weekday.Weekday.TheVariants.{Monday, Tuesday, Wednesday, Thursday, Friday, Saturday, Sunday}
 use Rattle.jiff_core.specs.Weekday.{monday_zero}
-use Rattle.jiff_core.specs.Calendar.{days_of_months, days_in_month, days_in_year}
+use Rattle.jiff_core.specs.Calendar.{days_of_months, days_in_month}
 use Rattle.jiff_core.proofs.CalendarLemmas.{days_of_months_more, days_of_months_all, days_of_months-zero, days_in_month_bounds, days_in_year_bounds}
 use Rattle.ics_values.specs.Days.{days_before_year, year_of, month_of}
 use Rattle.ics_values.proofs.DayLemmas.{year_under_way, days_before_year_low, days_before_year_mono, days_before_year-next}
 use Rattle.ics_values.specs.declared.frequency.Frequency.{Frequency}
 use Rattle.ics_values.specs.declared.frequency.Frequency.TheVariants.{Secondly, Minutely, Hourly, Daily, Weekly, Monthly, Yearly}
 use Rattle.ics_rule.specs.PeriodNumbers.{period, month_number, week_of, rules_end}
-use Rattle.ics_rule.specs.declared.effective_rule.EffectiveRule.{EffectiveRule}
-use Rattle.ics_rule.specs.Candidates.{fourth_day, period_in}
-use Rattle.ics_rule.specs.EffectiveRules.{skips_hours, skips_minutes, skips_seconds}
+use Rattle.ics_rule.specs.Candidates.{fourth_day}
 use Rattle.ics_rule.specs.RecurrencePeriods.{month_start, first_local}
 use Rattle.ics_rule.proofs.Months.{earlier_month, later_month, month_of_high}
 use Rattle.ics_values.specs.Locals.{calendar_end}
@@ -182,56 +180,13 @@ period_small Monthly w n h = let b = month_begun (month_number (n / 86_400)) (n 
 period_small Yearly w n h = let b = year_begun (year_of (n / 86_400)) (n / 86_400) (omega arith) in let l = days_before_year_low (year_of (n / 86_400)) in
     omega (arith, b, l)
 
--- how many days a period touches
-pub span_fits : (q : EffectiveRule) (p : ℕ) {first len : ℕ} → period_in q 0 ≤ p → first_local q.frequency (monday_zero q.week_start) p ≤ rules_end
-    → first ≡ first_local q.frequency (monday_zero q.week_start) p / 86_400
-    → len ≡ (first_local q.frequency (monday_zero q.week_start) (p + 1) + 86_399) / 86_400 - first_local q.frequency (monday_zero q.week_start) p / 86_400 →
-    (len ≤ 384) × (first + 384 ≤ 3_652_059)
-span_fits q p low reach ef el =
-    let s = next_first q.frequency (monday_zero q.week_start) p (week_small q.week_start) low in fits s.0 s.1 reach ef el
-  where
-    fits : {b e first len : ℕ} → b < e → e ≤ b + 366 * 86_400 → b ≤ rules_end → first ≡ b / 86_400 → len ≡ (e + 86_399) / 86_400 - b / 86_400
-        → (len ≤ 384) × (first + 384 ≤ 3_652_059)
-    fits more most reach ef el = (omega (arith, more, most, el), omega (arith, reach, ef))
+-- local b is the first of the period with a number and local e that of the next, and the rules have not ended at b
+pub record IsPeriodFrom (f : Frequency) (w p b e : ℕ) : Type 0 where
+  pub some : period f w 0 ≤ p
+  pub begin : b ≡ first_local f w p
+  pub end : e ≡ first_local f w (p + 1)
+  pub early : b ≤ rules_end
 
--- a frequency coarser than the hour is coarser than the minute and the second
-pub no_minutes : (f : Frequency) → skips_hours f ≡ true → skips_minutes f ≡ true
-no_minutes Secondly h = h
-no_minutes Minutely h = h
-no_minutes Hourly h = refl
-no_minutes Daily h = h
-no_minutes Weekly h = h
-no_minutes Monthly h = h
-no_minutes Yearly h = h
-
-pub no_seconds : (f : Frequency) → skips_hours f ≡ true → skips_seconds f ≡ true
-no_seconds Secondly h = h
-no_seconds Minutely h = refl
-no_seconds Hourly h = refl
-no_seconds Daily h = h
-no_seconds Weekly h = h
-no_seconds Monthly h = h
-no_seconds Yearly h = h
-
--- the days of a month and of a year, as a period touches them
-pub month_days : (w p len : ℕ) → period Monthly w 0 ≤ p → len ≡ days_in_month (pos ((p - 1) / 12)) ((p - 1) % 12 + 1)
-    → len ≡ (first_local Monthly w (p + 1) + 86_399) / 86_400 - first_local Monthly w p / 86_400
-month_days w zero len low e = absurd (let some = month_positive (0 / 86_400) in omega (arith, some, low))
-month_days w (suc p) len low e =
-    let back : suc p - 1 ≡ p = omega arith in
-    let size = month_size p in
-    let next = ap month_start (one_more (suc p)) in
-    let e' : len ≡ days_in_month (pos (p / 12)) (p % 12 + 1) = rw back at e in
-    omega (arith, e', size, next)
-  where
-    one_more : (p : ℕ) → p + 1 ≡ suc p
-    one_more p = omega arith
-
-pub year_days : (w p len : ℕ) → len ≡ days_in_year (pos p) → len ≡ (first_local Yearly w (p + 1) + 86_399) / 86_400 - first_local Yearly w p / 86_400
-year_days w p len e =
-    let size = days_before_year-next p in
-    let next = ap days_before_year (one_more p) in
-    omega (arith, e, size, next)
-  where
-    one_more : (p : ℕ) → p + 1 ≡ suc p
-    one_more p = omega arith
+-- a period is not empty and has at most 366 days
+pub period_fits : {f : Frequency} {w p b e : ℕ} → w < 7 → IsPeriodFrom f w p b e → (b < e) × (e ≤ b + 366 * 86_400)
+period_fits {f = f} {w = w} {p = p} small is = let s = next_first f w p small is.some in (omega (arith, s.0, is.begin, is.end), omega (arith, s.1, is.begin, is.end))

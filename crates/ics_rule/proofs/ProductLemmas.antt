@@ -13,9 +13,9 @@ use Rattle.ics_rule.specs.PeriodNumbers.{period}
 use Rattle.ics_rule.specs.EffectiveRules.{skips_hours, skips_minutes, skips_seconds}
 use Rattle.ics_rule.specs.Candidates.{lets, lets_date, lets_clock}
 use Rattle.ics_rule.specs.declared.recurrence_period.RecurrencePeriod.{RecurrencePeriod}
-use Rattle.ics_rule.specs.RecurrencePeriods.{first_local, month_start, holds, is_let_in}
-use Rattle.ics_rule.proofs.PeriodLemmas.{begun, begins}
-use Rattle.ics_rule.proofs.Tests.{iff}
+use Rattle.ics_rule.specs.RecurrencePeriods.{first_local, month_start, has_day, has_second, holds, is_let_in}
+use Rattle.ics_rule.proofs.PeriodLemmas.{begun, begins, IsPeriodFrom}
+use Rattle.ics_rule.proofs.Tests.{and_assoc, iff}
 
 abbrev day_test : ℕ → ℕ → ℕ → Bool
 day_test b e n = nat_le (b / 86_400) (n / 86_400) && nat_lt (n / 86_400 - b / 86_400) ((e + 86_399) / 86_400 - b / 86_400)
@@ -139,22 +139,12 @@ span_is f w p n = iff (span_test f (first_local f w p) (first_local f w (p + 1))
       | inr more ↦ absurd (let late = begins f w (p + 1) n more in omega (arith, e, late))
     ]))
 
-rearranged : (le lt ld fh lh fm lm fs ls : Bool) → ((le && (lt && ld)) && (((fh && lh) && (fm && lm)) && (fs && ls)))
-    ≡ (((le && lt) && (fh && fm && fs)) && (ld && (lh && lm && ls)))
-rearranged false lt ld fh lh fm lm fs ls = refl
-rearranged true false ld fh lh fm lm fs ls = refl
-rearranged true true false false lh fm lm fs ls = refl
-rearranged true true false true lh false lm fs ls = refl
-rearranged true true false true lh true lm false ls = refl
-rearranged true true false true lh true lm true ls = refl
-rearranged true true true false lh fm lm fs ls = refl
-rearranged true true true true false false lm fs ls = refl
-rearranged true true true true false true lm false ls = refl
-rearranged true true true true false true lm true ls = refl
-rearranged true true true true true false lm fs ls = refl
-rearranged true true true true true true false false ls = refl
-rearranged true true true true true true false true ls = refl
-rearranged true true true true true true true fs ls = refl
+-- two conjunctions, by their first and their second tests
+exchange : (a b c d : Bool) → ((a && b) && (c && d)) ≡ ((a && c) && (b && d))
+exchange true true c d = refl
+exchange true false true d = refl
+exchange true false false d = refl
+exchange false b c d = refl
 
 day_back : (a e : ℕ) (x : Bool) (f : ℕ → Bool) → (nat_le a e && (x && f (a + (e - a)))) ≡ (nat_le a e && (x && f e))
 day_back a e x f = elim (by_order a e) [
@@ -165,36 +155,56 @@ day_back a e x f = elim (by_order a e) [
     by_order : (a b : ℕ) → (a ≤ b) ⊎ (b < a)
     by_order a b = grind arith
 
--- the product of the days that the rule lets in, and of the readings that it lets in, holds what it lets in within the period
-pub product_is : (q : EffectiveRule) (number : ℕ) {b e : ℕ} (p : RecurrencePeriod) → b ≡ first_local q.frequency (monday_zero q.week_start) number →
-    e ≡ first_local q.frequency (monday_zero q.week_start) (number + 1)
-    → p.first_day ≡ b / 86_400
-    → ((k : ℕ) → contains_wide p.days k ≡ (nat_lt k ((e + 86_399) / 86_400 - b / 86_400) && lets_date q (b / 86_400 + k)))
-    → ((m : ℕ) → m < 24 → contains p.hours m ≡ ((skips_hours q.frequency || (m == b / 3_600 % 24)) && lets q.hours m))
-    → ((m : ℕ) → m < 60 → contains p.minutes m ≡ ((skips_minutes q.frequency || (m == b / 60 % 60)) && lets q.minutes m))
-    → ((m : ℕ) → m < 60 → contains p.seconds m ≡ ((skips_seconds q.frequency || (m == b % 60)) && lets q.seconds m))
-    → (n : ℕ) → holds p n ≡ is_let_in q number n
-product_is q number {b = b} {e = e} p eb ee first days hours minutes seconds n =
-    let hour : n % 86_400 / 60 / 60 ≡ n / 3_600 % 24 = omega arith in
-    let minute : n % 86_400 / 60 % 60 ≡ n / 60 % 60 = omega arith in
-    let second : n % 86_400 % 60 ≡ n % 60 = omega arith in
-    let d = ap (λ z. nat_le z (n / 86_400) && contains_wide p.days (n / 86_400 - z)) first
-    ∙ ap (λ z. nat_le (b / 86_400) (n / 86_400) && z) (days (n / 86_400 - b / 86_400))
-    ∙ day_back (b / 86_400) (n / 86_400) (nat_lt (n / 86_400 - b / 86_400) ((e + 86_399) / 86_400 - b / 86_400)) (lets_date q) in
-    let h = ap (contains p.hours) hour ∙ hours (n / 3_600 % 24) (omega arith) in
-    let m = ap (contains p.minutes) minute ∙ minutes (n / 60 % 60) (omega arith) in
-    let s = ap (contains p.seconds) second ∙ seconds (n % 60) (omega arith) in
-    let span = ap (λ z. span_test q.frequency z e n) eb ∙ ap (λ z. span_test q.frequency (first_local q.frequency (monday_zero q.week_start) number) z n) ee
+-- a product of the days that a rule lets in, from that of local b on and before local e, and of the readings that it lets in, if they are not b's
+pub record IsProduct (q : EffectiveRule) (b e : ℕ) (p : RecurrencePeriod) : Type 0 where
+  pub first : p.first_day ≡ b / 86_400
+  pub days : (k : ℕ) → contains_wide p.days k ≡ (nat_lt k ((e + 86_399) / 86_400 - b / 86_400) && lets_date q (b / 86_400 + k))
+  pub hours : (m : ℕ) → m < 24 → contains p.hours m ≡ ((skips_hours q.frequency || (m == b / 3_600 % 24)) && lets q.hours m)
+  pub minutes : (m : ℕ) → m < 60 → contains p.minutes m ≡ ((skips_minutes q.frequency || (m == b / 60 % 60)) && lets q.minutes m)
+  pub seconds : (m : ℕ) → m < 60 → contains p.seconds m ≡ ((skips_seconds q.frequency || (m == b % 60)) && lets q.seconds m)
+
+-- it contains what the rule lets in within the period between the two
+module _ {q : EffectiveRule} {b e : ℕ} {p : RecurrencePeriod} (is : IsProduct q b e p) (n : ℕ) where
+  day_holds : has_day p (n / 86_400) ≡ (day_test b e n && lets_date q (n / 86_400))
+  day_holds =
+      ap (λ z. nat_le z (n / 86_400) && contains_wide p.days (n / 86_400 - z)) is.first
+      ∙ ap (λ z. nat_le (b / 86_400) (n / 86_400) && z) (is.days (n / 86_400 - b / 86_400))
+      ∙ day_back (b / 86_400) (n / 86_400) (nat_lt (n / 86_400 - b / 86_400) ((e + 86_399) / 86_400 - b / 86_400)) (lets_date q)
+      ∙ sym (and_assoc (nat_le (b / 86_400) (n / 86_400)) (nat_lt (n / 86_400 - b / 86_400) ((e + 86_399) / 86_400 - b / 86_400)) (lets_date q (n / 86_400)))
+
+  hour_holds : contains p.hours (n % 86_400 / 60 / 60) ≡ ((skips_hours q.frequency || (n / 3_600 % 24 == b / 3_600 % 24)) && lets q.hours (n / 3_600 % 24))
+  hour_holds = let same : n % 86_400 / 60 / 60 ≡ n / 3_600 % 24 = omega arith in ap (contains p.hours) same ∙ is.hours (n / 3_600 % 24) (omega arith)
+
+  minute_holds : contains p.minutes (n % 86_400 / 60 % 60) ≡ ((skips_minutes q.frequency || (n / 60 % 60 == b / 60 % 60)) && lets q.minutes (n / 60 % 60))
+  minute_holds = let same : n % 86_400 / 60 % 60 ≡ n / 60 % 60 = omega arith in ap (contains p.minutes) same ∙ is.minutes (n / 60 % 60) (omega arith)
+
+  second_holds : contains p.seconds (n % 86_400 % 60) ≡ ((skips_seconds q.frequency || (n % 60 == b % 60)) && lets q.seconds (n % 60))
+  second_holds = let same : n % 86_400 % 60 ≡ n % 60 = omega arith in ap (contains p.seconds) same ∙ is.seconds (n % 60) (omega arith)
+
+  clock_holds : has_second p (n % 86_400)
+      ≡ (((skips_hours q.frequency || (n / 3_600 % 24 == b / 3_600 % 24)) && (skips_minutes q.frequency || (n / 60 % 60 == b / 60 % 60))
+      && (skips_seconds q.frequency || (n % 60 == b % 60))) && lets_clock q n)
+  clock_holds =
+      ap (λ z. (z && contains p.minutes (n % 86_400 / 60 % 60)) && contains p.seconds (n % 86_400 % 60)) hour_holds
+      ∙ ap (λ z. (((skips_hours q.frequency || (n / 3_600 % 24 == b / 3_600 % 24)) && lets q.hours (n / 3_600 % 24)) && z) && contains p.seconds (n % 86_400 % 60))
+      minute_holds
+      ∙ ap (λ z. z && contains p.seconds (n % 86_400 % 60))
+      (exchange (skips_hours q.frequency || (n / 3_600 % 24 == b / 3_600 % 24)) (lets q.hours (n / 3_600 % 24))
+      (skips_minutes q.frequency || (n / 60 % 60 == b / 60 % 60)) (lets q.minutes (n / 60 % 60)))
+      ∙ ap (λ z. (((skips_hours q.frequency || (n / 3_600 % 24 == b / 3_600 % 24)) && (skips_minutes q.frequency || (n / 60 % 60 == b / 60 % 60)))
+      && (lets q.hours (n / 3_600 % 24) && lets q.minutes (n / 60 % 60))) && z) second_holds
+      ∙ exchange ((skips_hours q.frequency || (n / 3_600 % 24 == b / 3_600 % 24)) && (skips_minutes q.frequency || (n / 60 % 60 == b / 60 % 60)))
+      (lets q.hours (n / 3_600 % 24) && lets q.minutes (n / 60 % 60)) (skips_seconds q.frequency || (n % 60 == b % 60)) (lets q.seconds (n % 60))
+
+pub product_is : (q : EffectiveRule) {number b e : ℕ} (p : RecurrencePeriod) → IsPeriodFrom q.frequency (monday_zero q.week_start) number b e
+    → IsProduct q b e p → (n : ℕ) → holds p n ≡ is_let_in q number n
+product_is q {number = number} {b = b} {e = e} p from is n =
+    let span = ap (λ z. span_test q.frequency z e n) from.begin
+    ∙ ap (λ z. span_test q.frequency (first_local q.frequency (monday_zero q.week_start) number) z n) from.end
     ∙ span_is q.frequency (monday_zero q.week_start) number n in
-    ap (λ z. z && ((contains p.hours (n % 86_400 / 60 / 60) && contains p.minutes (n % 86_400 / 60 % 60)) && contains p.seconds (n % 86_400 % 60))) d
-    ∙ four (nat_le (b / 86_400) (n / 86_400) && (nat_lt (n / 86_400 - b / 86_400) ((e + 86_399) / 86_400 - b / 86_400) && lets_date q (n / 86_400)))
-    h m s
-    ∙ rearranged (nat_le (b / 86_400) (n / 86_400)) (nat_lt (n / 86_400 - b / 86_400) ((e + 86_399) / 86_400 - b / 86_400)) (lets_date q (n / 86_400))
-    (skips_hours q.frequency || (n / 3_600 % 24 == b / 3_600 % 24)) (lets q.hours (n / 3_600 % 24))
-    (skips_minutes q.frequency || (n / 60 % 60 == b / 60 % 60)) (lets q.minutes (n / 60 % 60))
-    (skips_seconds q.frequency || (n % 60 == b % 60)) (lets q.seconds (n % 60))
+    ap (λ z. z && has_second p (n % 86_400)) (day_holds is n)
+    ∙ ap (λ z. (day_test b e n && lets_date q (n / 86_400)) && z) (clock_holds is n)
+    ∙ exchange (day_test b e n) (lets_date q (n / 86_400))
+    ((skips_hours q.frequency || (n / 3_600 % 24 == b / 3_600 % 24)) && (skips_minutes q.frequency || (n / 60 % 60 == b / 60 % 60))
+    && (skips_seconds q.frequency || (n % 60 == b % 60))) (lets_clock q n)
     ∙ ap (λ z. z && (lets_date q (n / 86_400) && lets_clock q n)) span
-  where
-    four : (d : Bool) {h m s h' m' s' : Bool} → h ≡ h' → m ≡ m' → s ≡ s' → (d && ((h && m) && s)) ≡ (d && ((h' && m') && s'))
-    four d {h = h} {m = m} {s = s} {h' = h'} {m' = m'} {s' = s'} p q r = ap (λ z. d && ((z && m) && s)) p ∙ ap (λ z. d && ((h' && z) && s)) q ∙ ap
-        (λ z. d && ((h' && m') && z)) r

@@ -1,19 +1,12 @@
 -- The locals of an hour that a rule keeps.
-use Rattle.std.specs.Prelude.{◌≡◌, ℕ, ◌≤◌, ◌+◌, ◌*◌, ◌/◌, Bool, true, false, ◌&&◌}
-use Rattle.ics_values.specs.declared.frequency.Frequency.{Frequency}
-use Rattle.ics_values.specs.declared.frequency.Frequency.TheVariants.{Secondly, Minutely, Hourly}
+use Rattle.std.specs.Prelude.{◌≡◌, ℕ, ◌<◌, ◌≤◌, ◌+◌, ◌*◌, ◌/◌, true, false, ◌&&◌}
 use Rattle.ics_values.specs.Sets.{contains, is_empty}
 use Rattle.ics_rule.specs.declared.hour.HourTimes.{HourTimes}
 use Rattle.ics_rule.specs.Recurrence.{Recurrence}
 use Rattle.ics_rule.specs.PeriodNumbers.{minute_of, second_of}
 use Rattle.ics_rule.specs.Kept.{is_kept}
-
--- a rule with this frequency repeats more often than daily
-abbrev pub is_finer : Frequency → Bool
-is_finer Secondly = true
-is_finer Minutely = true
-is_finer Hourly = true
-is_finer frequency = false
+use Rattle.ics_rule.specs.Next.{IsNextKept}
+use Rattle.ics_values.specs.Locals.{number}
 
 -- an hour has some of these times, and none earlier than second t
 pub record IsFirstTime (times : HourTimes) (t : ℕ) : Type 0 where
@@ -24,6 +17,17 @@ pub record IsFirstTime (times : HourTimes) (t : ℕ) : Type 0 where
 -- none of the times is later than second t of the hour
 abbrev pub IsLastTime : HourTimes → ℕ → Type 0
 IsLastTime times t = (m s : ℕ) → contains times.minutes m ≡ true → contains times.seconds s ≡ true → m * 60 + s ≤ t
+
+-- an hour after the start keeps the first of some times and nothing before it, and the last
+pub record KeepsEnds (r : Recurrence) (hour : ℕ) (times : HourTimes) : Type 0 where
+  pub first : ℕ
+  pub last : ℕ
+  pub after : number r.start < hour * 3_600 + first
+  pub first_time : IsFirstTime times first
+  pub last_time : IsLastTime times last
+  pub next : IsNextKept r (hour * 3_600) (hour * 3_600 + 3_600) (hour * 3_600 + first)
+  pub inside : last < 3_600
+  pub kept_last : is_kept r (hour * 3_600 + last) ≡ true
 
 -- of the locals of an hour, a rule keeps those with one of some minutes and one of some seconds
 abbrev pub KeepsTimes : Recurrence → ℕ → HourTimes → Type 0

@@ -11,7 +11,7 @@ ghost use Rattle.ics_rule.specs.Candidates.{fourth_day, lets, lets_numbered, let
 ghost use Rattle.ics_rule.specs.DateParts.{names_weekdays_alone};
 
 use crate::effective_rule::EffectiveRule;
-use crate::part::{WeekdaysPart, has_no_number};
+use crate::part::has_no_number;
 use crate::time::{lets, lets_place, lets_wide_place, lists_nth};
 use ics_values::{BitSet, Civil, Frequency, Ordinals, civil};
 use jiff_core::civil::{days_in_month, days_in_year};
@@ -45,18 +45,15 @@ fn lets_numbered(parts: &EffectiveRule, numbers: &Ordinals, fields: &Civil) -> b
     requires { (e : ℕ) × IsCivilOf fields.now e }
     ensures { (e : ℕ) → IsCivilOf fields.now e → result ≡ lets_numbered parts.now.frequency parts.now numbers.now e }
 {
-    match parts.frequency {
-        Frequency::Monthly => { lists_nth(numbers, fields.day as u16, month_length(fields) as u16) }
-        Frequency::Yearly => {
-            if !parts.weeks.is_empty() {
-                !numbers.is_empty()
-            } else if !parts.months.is_empty() {
-                lists_nth(numbers, fields.day as u16, month_length(fields) as u16)
-            } else {
-                lists_nth(numbers, fields.year_day, year_length(fields))
-            }
-        }
-        _ => !numbers.is_empty(),
+    let by_month = match parts.frequency {
+        Frequency::Monthly => true,
+        Frequency::Yearly if parts.weeks.is_empty() => !parts.months.is_empty(),
+        _ => return !numbers.is_empty(),
+    };
+    if by_month {
+        lists_nth(numbers, fields.day as u16, month_length(fields) as u16)
+    } else {
+        lists_nth(numbers, fields.year_day, year_length(fields))
     }
 }
 
@@ -67,8 +64,7 @@ fn lets_weekday(parts: &EffectiveRule, fields: &Civil) -> bool
 {
     let weekday = fields.weekday.index();
     let numbers = &parts.weekdays.list.numbered[weekday as usize];
-    parts.weekdays.is_empty()
-        || parts.weekdays.list.plain.contains(weekday)
+    (parts.weekdays.is_empty() | parts.weekdays.list.plain.contains(weekday))
         || lets_numbered(parts, numbers, fields)
 }
 
@@ -103,27 +99,11 @@ pub(crate) fn lets_fields(parts: &EffectiveRule, fields: &Civil, index: u32) -> 
     requires fields { IsCivilOf fields.now index }
     ensures { result ≡ lets_date parts.now index }
 {
-    if !lets(parts.months, fields.month) {
-        return false;
-    }
-    if !lets_place(&parts.month_days, fields.day, month_length(fields)) {
-        return false;
-    }
-    if !lets_wide_place(&parts.year_days, fields.year_day, year_length(fields)) {
-        return false;
-    }
-    if !lets_week(parts, index) {
-        return false;
-    }
-    lets_weekday(parts, fields)
-}
-
-/// Whether BYDAY is absent, or lists the weekday of a day without a number.
-fn has_weekday(weekdays: &WeekdaysPart, index: u32) -> bool
-    requires { index ≤ 3652059 }
-    ensures { result ≡ (lists_no_weekday weekdays.now || contains weekdays.now.plain (weekday_of index)) }
-{
-    weekdays.is_empty() || weekdays.list.plain.contains(((index + 5) % 7) as u8)
+    lets(parts.months, fields.month)
+        && lets_place(&parts.month_days, fields.day, month_length(fields))
+        && lets_wide_place(&parts.year_days, fields.year_day, year_length(fields))
+        && lets_week(parts, index)
+        && lets_weekday(parts, fields)
 }
 
 /// The months that BYMONTH allows.
@@ -143,8 +123,8 @@ pub(crate) fn goes_by_months(parts: &EffectiveRule) -> bool
     ensures { result ≡ goes_by_months parts.now }
 {
     parts.weeks.is_empty()
-        && parts.year_days.is_empty()
-        && !(parts.month_days.is_empty() && parts.weekdays.is_empty())
+        & parts.year_days.is_empty()
+        & !(parts.month_days.is_empty() & parts.weekdays.is_empty())
 }
 
 /// Whether no part but BYDAY restricts the date.
@@ -152,9 +132,9 @@ pub(crate) fn names_weekdays_alone(parts: &EffectiveRule) -> bool
     ensures { result ≡ names_weekdays_alone parts.now }
 {
     parts.months.is_empty()
-        && parts.month_days.is_empty()
-        && parts.year_days.is_empty()
-        && parts.weeks.is_empty()
+        & parts.month_days.is_empty()
+        & parts.year_days.is_empty()
+        & parts.weeks.is_empty()
 }
 
 /// Whether each part that restricts the date allows a day, counted from 0000-01-01.
@@ -162,11 +142,12 @@ pub(crate) fn lets_date(parts: &EffectiveRule, index: u32) -> bool
     requires { index ≤ 3652059 }
     ensures { result ≡ lets_date parts.now index }
 {
-    if has_weekday(&parts.weekdays, index) {
+    let weekday = ((index + 5) % 7) as u8;
+    if parts.weekdays.is_empty() | parts.weekdays.list.plain.contains(weekday) {
         if names_weekdays_alone(parts) {
             return true;
         }
-    } else if has_no_number(&parts.weekdays.list, ((index + 5) % 7) as u8) {
+    } else if has_no_number(&parts.weekdays.list, weekday) {
         return false;
     }
     lets_fields(parts, &civil_at(index), index)

@@ -49,11 +49,7 @@ fn add_days_of_week(parts: &EffectiveRule, first: u32, len: u16, days: &mut Wide
     requires empty { days.old ≡ none_wide }
     ensures { (k : ℕ) → contains_wide days.new k ≡ (nat_lt k len && lets_date parts.now (first + k)) }
 {
-    if parts.weekdays.is_empty() {
-        add_days_by_day(parts, first, len, days);
-        return;
-    }
-    if !names_weekdays_alone(parts) {
+    if parts.weekdays.is_empty() | !names_weekdays_alone(parts) {
         add_days_by_day(parts, first, len, days);
         return;
     }
@@ -154,7 +150,7 @@ fn leave_let_in(parts: &EffectiveRule, first: u32, len: u16, days: &mut WideBitS
     requires listed { (k : ℕ) → contains_wide days.old k ≡ (nat_lt k len && is_in_month parts.now (first + k)) }
     ensures { (k : ℕ) → contains_wide days.new k ≡ (nat_lt k len && lets_date parts.now (first + k)) }
 {
-    if parts.month_days.is_empty() || parts.weekdays.is_empty() {
+    if parts.month_days.is_empty() | parts.weekdays.is_empty() {
         return;
     }
     *days = those_let_in(parts, first, days);
@@ -217,7 +213,7 @@ fn add_days_of_year(parts: &EffectiveRule, first: u32, len: u16, days: &mut Wide
         add_tested_days(parts, first, len, days);
         return;
     }
-    if parts.months.is_empty() && parts.month_days.is_empty() {
+    if parts.months.is_empty() & parts.month_days.is_empty() {
         let run = Run {
             start: 0,
             len,

@@ -15,7 +15,7 @@ use ics_values::{BitSet, Frequency, Ordinals, Parts, Weekdays};
 fn names_no_day(parts: &Parts) -> bool
     ensures { result ≡ names_no_day parts.now }
 {
-    parts.month_days().is_empty() && parts.year_days().is_empty() && parts.weekdays().is_empty()
+    parts.month_days().is_empty() & parts.year_days().is_empty() & parts.weekdays().is_empty()
 }
 
 /// Whether the rule takes the day of the month from the start.
@@ -23,7 +23,7 @@ fn takes_month_day(parts: &Parts) -> bool
     ensures { result ≡ takes_month_day parts.now.frequency parts.now }
 {
     match parts.frequency() {
-        Frequency::Yearly | Frequency::Monthly => names_no_day(parts) && parts.weeks().is_empty(),
+        Frequency::Yearly | Frequency::Monthly => names_no_day(parts) & parts.weeks().is_empty(),
         _ => false,
     }
 }
@@ -33,7 +33,7 @@ fn takes_month(parts: &Parts) -> bool
     ensures { result ≡ takes_month parts.now.frequency parts.now }
 {
     match parts.frequency() {
-        Frequency::Yearly => takes_month_day(parts) && parts.months().is_empty(),
+        Frequency::Yearly => takes_month_day(parts) & parts.months().is_empty(),
         _ => false,
     }
 }
@@ -43,7 +43,7 @@ fn takes_weekday(parts: &Parts) -> bool
     ensures { result ≡ takes_weekday parts.now.frequency parts.now }
 {
     match parts.frequency() {
-        Frequency::Yearly => names_no_day(parts) && !parts.weeks().is_empty(),
+        Frequency::Yearly => names_no_day(parts) & !parts.weeks().is_empty(),
         Frequency::Weekly => parts.weekdays().is_empty(),
         _ => false,
     }

@@ -1,15 +1,16 @@
 //! The locals of an hour that a rule keeps.
-ghost use Rattle.std.specs.Prelude.{◌≡◌, ℕ, ◌+◌, ◌*◌, ◌<◌, ◌≤◌, ◌/◌, false, IfSome, MatchOption};
+ghost use Rattle.std.specs.Prelude.{◌≡◌, ℕ, ◌+◌, ◌*◌, ◌<◌, ◌≤◌, ◌/◌, true, false, IfSome, MatchOption};
 ghost use Rattle.ics_values.specs.Sets.{contains};
 ghost use Rattle.ics_values.specs.Locals.{number, calendar_end};
 ghost use Rattle.ics_rule.specs.Next.{NoneKept, IsNextKept};
-ghost use Rattle.ics_rule.specs.HoursKept.{is_finer, IsFirstTime, IsLastTime, KeepsTimes};
+ghost use Rattle.ics_rule.specs.HoursKept.{IsFirstTime, IsLastTime, KeepsEnds, KeepsTimes};
 ghost use Rattle.ics_rule.specs.PeriodNumbers.{rules_end};
 
 use crate::cursor::Cursor;
+use crate::effective::skips_hours;
 use crate::rule::Rule;
 use crate::time::lets;
-use ics_values::{BitSet, Frequency, Local};
+use ics_values::{BitSet, Local};
 
 /// Each of some minutes of an hour, with each of some seconds.
 #[derive(Clone, Copy)]
@@ -33,14 +34,14 @@ fn greatest(set: BitSet) -> u8
 }
 
 impl HourTimes {
-    /// The first of the times, in seconds from the start of an hour.
-    fn first(&self) -> Option<u64>
-        ensures first { IfSome result (IsFirstTime self.now) }
-        ensures small { IfSome result (λ t. t < 4096) }
+    /// Whether a number of seconds from the start of an hour is the first of the times.
+    fn begins_at(&self, second: u64) -> bool
+        ensures { result ≡ true → IsFirstTime self.now second }
     {
-        let minute = self.minutes.next_from(0)?;
-        let second = self.seconds.next_from(0)?;
-        Some(u64::from(minute) * 60 + u64::from(second))
+        match (self.minutes.next_from(0), self.seconds.next_from(0)) {
+            (Some(minute), Some(first)) => u64::from(minute) * 60 + u64::from(first) == second,
+            _ => false,
+        }
     }
 
     /// The last of the times, in seconds from the start of an hour.
@@ -50,16 +51,6 @@ impl HourTimes {
     {
         u64::from(greatest(self.minutes)) * 60 + u64::from(greatest(self.seconds))
     }
-}
-
-/// Whether a rule repeats more often than daily.
-fn is_finer(frequency: Frequency) -> bool
-    ensures { result ≡ is_finer frequency }
-{
-    matches!(
-        frequency,
-        Frequency::Secondly | Frequency::Minutely | Frequency::Hourly
-    )
 }
 
 /// The first local from a place on that the rule keeps, if it is earlier than a bound.
@@ -87,6 +78,21 @@ fn first_of_hour(rule: &Rule, start: u64, hour: u64) -> Option<u64>
     next_between(rule, start, from, from + 3_600)
 }
 
+/// Whether the rule, which keeps `kept` first in an hour, keeps the first and the last of some times, and neither is at the start or earlier.
+fn keeps_ends(rule: &Rule, start: u64, hour: u64, kept: u64, times: &HourTimes) -> bool
+    requires start { start ≡ number rule.now.start }
+    requires hour { hour < rules_end / 3_600 }
+    requires kept { IsNextKept rule.now (hour * 3_600) (hour * 3_600 + 3_600) kept }
+    ensures { result ≡ true → KeepsEnds rule.now hour times.now }
+{
+    let from = hour * 3_600;
+    let last = from + times.last();
+    start < kept
+        && times.begins_at(kept - from)
+        && last < from + 3_600
+        && next_between(rule, start, last, last + 1).is_some()
+}
+
 impl Rule {
     /// The minutes and the seconds that the rule lists, if they are the first and the last that it keeps in an hour. They are in each
     /// hour but those that the start, UNTIL or COUNT cuts, under any rule without BYSETPOS.
@@ -95,26 +101,21 @@ impl Rule {
         ensures { IfSome result (KeepsTimes self.now hour) }
     {
         let start = self.start.number();
-        let from = hour * 3_600;
         let Some(kept) = first_of_hour(self, start, hour) else {
             return Some(HourTimes {
                 minutes: BitSet::new(),
                 seconds: BitSet::new(),
             });
         };
-        if is_finer(self.whole.frequency) || !self.whole.positions.is_empty() {
-            return None;
-        }
         let times = HourTimes {
             minutes: self.whole.minutes,
             seconds: self.whole.seconds,
         };
-        let first = from + times.first()?;
-        let last = from + times.last();
-        if kept <= start || kept != first || last >= from + 3_600 {
-            return None;
+        let coarse = skips_hours(self.whole.frequency) & self.whole.positions.is_empty();
+        if coarse && keeps_ends(self, start, hour, kept, &times) {
+            Some(times)
+        } else {
+            None
         }
-        next_between(self, start, last, last + 1)?;
-        Some(times)
     }
 }

@@ -62,5 +62,5 @@ pub(crate) fn chooses_none(parts: &EffectiveRule) -> bool
         return false;
     }
     let most = size_of_open(parts);
-    is_past(&parts.positions.list.front, most) && is_past(&parts.positions.list.back, most)
+    is_past(&parts.positions.list.front, most) & is_past(&parts.positions.list.back, most)
 }

@@ -24,9 +24,9 @@ fn lets_own(parts: &EffectiveRule, n: u64) -> bool
     ensures { result ≡ lets_own parts.now.frequency parts.now n }
 {
     let frequency = parts.frequency;
-    (skips_hours(frequency) || lets(parts.hours, (n / 3_600 % 24) as u8))
-        && (skips_minutes(frequency) || lets(parts.minutes, (n / 60 % 60) as u8))
-        && (skips_seconds(frequency) || lets(parts.seconds, (n % 60) as u8))
+    (skips_hours(frequency) | lets(parts.hours, (n / 3_600 % 24) as u8))
+        && (skips_minutes(frequency) | lets(parts.minutes, (n / 60 % 60) as u8))
+        && (skips_seconds(frequency) | lets(parts.seconds, (n % 60) as u8))
 }
 
 /// How many steps from one period on and before another have an hour, minute and second that are allowed, whatever their days are.

@@ -117,7 +117,7 @@ fn named_weekdays(weekdays: &Weekdays) -> BitSet
 {
     let mut named = BitSet::new();
     for weekday in 0..7 {
-        if weekdays.plain.contains(weekday) || !has_no_number(weekdays, weekday) {
+        if weekdays.plain.contains(weekday) | !has_no_number(weekdays, weekday) {
             named.insert(weekday);
         }
     }

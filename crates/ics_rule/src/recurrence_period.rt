@@ -31,15 +31,6 @@ pub struct RecurrencePeriod {
     pub(crate) seconds: BitSet,
 }
 
-/// The days that a period touches.
-#[derive(Clone, Copy)]
-pub struct Span {
-    /// The first of them, counted from 0000-01-01.
-    first: u32,
-    /// The number of days.
-    len: u16,
-}
-
 /// The times of the locals of a period, as sets of hours, minutes and seconds.
 #[derive(Clone, Copy)]
 pub struct Clock {
@@ -131,81 +122,19 @@ pub(crate) fn clock_set(free: bool, part: BitSet, own: u8, size: u8) -> BitSet
     }
 }
 
-/// The days of the period with a number.
-fn span_of(frequency: Frequency, week_start: Weekday, number: u64) -> Span
-    requires low { period frequency (monday_zero week_start) 0 ≤ number }
-    requires reach { first_local frequency (monday_zero week_start) number ≤ rules_end }
-    ensures first { result.first ≡ first_local frequency (monday_zero week_start) number / 86400 }
-    ensures len { result.len
-        ≡ (first_local frequency (monday_zero week_start) (number + 1) + 86399) / 86400 - first_local frequency (monday_zero week_start) number / 86400 }
-{
-    match frequency {
-        Frequency::Secondly => Span {
-            first: (number / 86_400) as u32,
-            len: 1,
-        },
-        Frequency::Minutely => Span {
-            first: (number / 1_440) as u32,
-            len: 1,
-        },
-        Frequency::Hourly => Span {
-            first: (number / 24) as u32,
-            len: 1,
-        },
-        Frequency::Daily => Span {
-            first: number as u32,
-            len: 1,
-        },
-        Frequency::Weekly => {
-            let lead = 12 - week_start.index() as u64;
-            let first = (7 * number).saturating_sub(lead);
-            let end = (7 * number + 7).saturating_sub(lead);
-            Span {
-                first: first as u32,
-                len: (end - first) as u16,
-            }
-        }
-        Frequency::Monthly => {
-            let before = number.saturating_sub(1);
-            let year = before / 12;
-            let month = before % 12;
-            Span {
-                first: (days_before_year(year) + days_of_months(year, month)) as u32,
-                len: days_in_month(year as i16, month as u8 + 1) as u16,
-            }
-        }
-        Frequency::Yearly => Span {
-            first: days_before_year(number) as u32,
-            len: length_of_year(number) as u16,
-        },
-    }
-}
-
-/// The times of the period with a number: those that the parts allow, and of them its own if it is shorter than a day.
-fn clock_of(parts: &EffectiveRule, number: u64) -> Clock
-    requires reach { first_local parts.now.frequency (monday_zero parts.now.week_start) number ≤ rules_end }
+/// The times of the period that begins at a local: those that the parts allow, and of them its own if it is shorter than a day.
+fn clock_of(parts: &EffectiveRule, begin: u64) -> Clock
     ensures hours { (m : ℕ) → m < 24 → contains result.hours m
-        ≡ ((skips_hours parts.now.frequency || (m == first_local parts.now.frequency (monday_zero parts.now.week_start) number / 3600 % 24))
-        && lets parts.now.hours m) }
+        ≡ ((skips_hours parts.now.frequency || (m == begin / 3600 % 24)) && lets parts.now.hours m) }
     ensures minutes { (m : ℕ) → m < 60 → contains result.minutes m
-        ≡ ((skips_minutes parts.now.frequency || (m == first_local parts.now.frequency (monday_zero parts.now.week_start) number / 60 % 60))
-        && lets parts.now.minutes m) }
+        ≡ ((skips_minutes parts.now.frequency || (m == begin / 60 % 60)) && lets parts.now.minutes m) }
     ensures seconds { (m : ℕ) → m < 60 → contains result.seconds m
-        ≡ ((skips_seconds parts.now.frequency || (m == first_local parts.now.frequency (monday_zero parts.now.week_start) number % 60))
-        && lets parts.now.seconds m) }
+        ≡ ((skips_seconds parts.now.frequency || (m == begin % 60)) && lets parts.now.seconds m) }
     ensures hours_bound { result.hours < 2 ^ 24 }
     ensures minutes_bound { result.minutes < 2 ^ 60 }
     ensures seconds_bound { result.seconds < 2 ^ 60 }
 {
     let frequency = parts.frequency;
-    if skips_hours(frequency) {
-        return Clock {
-            hours: clock_set(true, parts.hours, 0, 24),
-            minutes: clock_set(true, parts.minutes, 0, 60),
-            seconds: clock_set(true, parts.seconds, 0, 60),
-        };
-    }
-    let begin = first_local(frequency, parts.week_start, number);
     let hour = (begin / 3_600 % 24) as u8;
     let minute = (begin / 60 % 60) as u8;
     let second = (begin % 60) as u8;
@@ -227,13 +156,16 @@ impl RecurrencePeriod {
         ensures product { IsPeriodOf parts.now result }
     {
         *steps += 1;
-        let span = span_of(parts.frequency, parts.week_start, number);
-        let clock = clock_of(parts, number);
+        let begin = first_local(parts.frequency, parts.week_start, number);
+        let end = first_local(parts.frequency, parts.week_start, number + 1);
+        let first_day = (begin / 86_400) as u32;
+        let len = ((end + 86_399) / 86_400 - begin / 86_400) as u16;
+        let clock = clock_of(parts, begin);
         let mut days = WideBitSet::new();
-        add_days_let_in(parts, number, span.first, span.len, &mut days);
+        add_days_let_in(parts, number, first_day, len, &mut days);
         RecurrencePeriod {
             number,
-            first_day: span.first,
+            first_day,
             days,
             hours: clock.hours,
             minutes: clock.minutes,
@@ -286,9 +218,12 @@ impl RecurrencePeriod {
                 return Some(day as u64 * 86_400 + second as u64);
             }
         }
-        let day = self.next_day(day + 1)?;
-        let second = next_second(self.hours, self.minutes, self.seconds, 0)?;
-        Some(day as u64 * 86_400 + second as u64)
+        if let Some(day) = self.next_day(day + 1) {
+            if let Some(second) = next_second(self.hours, self.minutes, self.seconds, 0) {
+                return Some(day as u64 * 86_400 + second as u64);
+            }
+        }
+        None
     }
 }
 
@@ -306,9 +241,10 @@ fn next_minute(hours: BitSet, minutes: BitSet, at: u32) -> Option<u32>
             return Some(hour as u32 * 60 + minute as u32);
         }
     }
-    let hour = hours.next_from(hour + 1)?;
-    let minute = minutes.next_from(0)?;
-    Some(hour as u32 * 60 + minute as u32)
+    match (hours.next_from(hour + 1), minutes.next_from(0)) {
+        (Some(hour), Some(minute)) => Some(hour as u32 * 60 + minute as u32),
+        _ => None,
+    }
 }
 
 /// The first second of a day, from a second on, in a set of hours times sets of minutes and seconds.
@@ -326,7 +262,11 @@ pub(crate) fn next_second(hours: BitSet, minutes: BitSet, seconds: BitSet, at: u
             return Some(minute * 60 + second as u32);
         }
     }
-    let minute = next_minute(hours, minutes, minute + 1)?;
-    let second = seconds.next_from(0)?;
-    Some(minute * 60 + second as u32)
+    match (
+        next_minute(hours, minutes, minute + 1),
+        seconds.next_from(0),
+    ) {
+        (Some(minute), Some(second)) => Some(minute * 60 + second as u32),
+        _ => None,
+    }
 }

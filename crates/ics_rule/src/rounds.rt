@@ -97,16 +97,10 @@ pub(crate) fn last_to_look_at(parts: &EffectiveRule, begin: u64, last: u64) -> u
 fn is_flat(parts: &EffectiveRule) -> bool
     ensures { result ≡ true → IsFlat parts.now }
 {
-    if !goes_by_months(parts) {
-        return false;
-    }
-    if !parts.weekdays.is_empty() {
-        return false;
-    }
-    if parts.month_days.back.next_from(0).is_some() {
-        return false;
-    }
-    parts.month_days.front.next_from(29).is_none()
+    goes_by_months(parts)
+        & parts.weekdays.is_empty()
+        & parts.month_days.back.next_from(0).is_none()
+        & parts.month_days.front.next_from(29).is_none()
 }
 
 /// After how many periods the number of locals that a rule chooses repeats, if that is known.

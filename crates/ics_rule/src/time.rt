@@ -11,7 +11,7 @@ pub(crate) fn lets(set: BitSet, n: u8) -> bool
     requires { n < 64 }
     ensures { result ≡ lets set n }
 {
-    set.is_empty() || set.contains(n)
+    set.is_empty() | set.contains(n)
 }
 
 /// Whether the part allows the `n`-th of `size`.
@@ -20,7 +20,7 @@ pub(crate) fn lets_place(places: &Ordinals, n: u8, size: u8) -> bool
     requires small { size < 63 }
     ensures { result ≡ lets_place places.now n size }
 {
-    places.is_empty() || places.front.contains(n) || places.back.contains(size + 1 - n)
+    places.is_empty() | places.front.contains(n) | places.back.contains(size + 1 - n)
 }
 
 /// The same for a year's days.
@@ -29,7 +29,7 @@ pub(crate) fn lets_wide_place(places: &PlacesPart, n: u16, size: u16) -> bool
     requires small { size < 383 }
     ensures { result ≡ lets_wide_place places.now n size }
 {
-    places.is_empty() || places.list.front.contains(n) || places.list.back.contains(size + 1 - n)
+    places.is_empty() || places.list.front.contains(n) | places.list.back.contains(size + 1 - n)
 }
 
 /// Whether the numbers list day `n` of `size`, counted by its weekday.
@@ -40,7 +40,7 @@ pub(crate) fn lists_nth(places: &Ordinals, n: u16, size: u16) -> bool
     ensures { result ≡ lists_nth places.now n size }
 {
     places.front.contains(((n - 1) / 7 + 1) as u8)
-        || places.back.contains(((size - n) / 7 + 1) as u8)
+        | places.back.contains(((size - n) / 7 + 1) as u8)
 }
 
 /// Whether the parts that restrict the time allow this second of a day.
@@ -49,6 +49,6 @@ pub(crate) fn lets_clock(parts: &EffectiveRule, second: u32) -> bool
     ensures { (day : ℕ) → result ≡ lets_clock parts.now (day * 86400 + second) }
 {
     lets(parts.hours, (second / 3600) as u8)
-        && lets(parts.minutes, (second / 60 % 60) as u8)
-        && lets(parts.seconds, (second % 60) as u8)
+        & lets(parts.minutes, (second / 60 % 60) as u8)
+        & lets(parts.seconds, (second % 60) as u8)
 }

@@ -1,11 +1,12 @@
-use Rattle.std.proofs.Common.{◌≡◌, ◌∙◌, ◌+◌, ◌&&◌, nat_lt, ap, sym, arith}
+use Rattle.std.proofs.Common.{◌≡◌, ◌∙◌, ◌+◌, ◌&&◌, not, nat_lt, ap, sym, arith}
+use Rattle.std.proofs.lemmas.Bool.{or_parts}
 use Rattle.ics_values.specs.Sets.{contains_wide}
 use Rattle.ics_rule.specs.Candidates.{lets_date}
 use Rattle.ics_rule.proofs.DateLemmas.{day_of_week}
 use Rattle.ics_rule.proofs.ScanLemmas.{none_has, one_more, no_more}
 use Rattle.ics_rule.proofs.days.add_days_of_week.Goals as goal
 use Rattle.ics_rule.proofs.days.add_days_of_week.Goals.{then-contains, else-contains}
-use Rattle.ics_rule.proofs.Tests.{none_yet}
+use Rattle.ics_rule.proofs.Tests.{none_yet, not_false}
 
 pub loop-k-init : goal.loop-k-init
 loop-k-init c = λ m. ap (λ ws. contains_wide ws m) c.requires.empty ∙ none_has m
@@ -13,9 +14,13 @@ loop-k-init c = λ m. ap (λ ws. contains_wide ws m) c.requires.empty ∙ none_h
 
 pub loop-k-preserved : goal.loop-k-preserved
 loop-k-preserved c = λ m.
-    let test = day_of_week c.args.parts.now (c.args.first + c.loop-k.k) c.named-named.result c.requires.frequency
-    (sym c.names_weekdays_alone.ensures ∙ c.if-not-names_weekdays_alone.false) (sym c.is_empty.ensures ∙ c.if-is_empty.false)
-    c.weekday_at.ensures.value c.weekday_at.ensures.small c.named-named.ensures c.contains.ensures in
+    let named = or_parts c.is_empty.result (not c.names_weekdays_alone.result) c.if-is_empty-names_weekdays_alone.false in
+    let test = day_of_week {q = c.args.parts.now} record {
+      weekly = c.requires.frequency;
+      alone = sym c.names_weekdays_alone.ensures ∙ not_false c.names_weekdays_alone.result named.1;
+      some = sym c.is_empty.ensures ∙ named.0;
+      named = c.named-named.ensures;
+    } (c.args.first + c.loop-k.k) c.weekday_at.ensures.value c.weekday_at.ensures.small c.contains.ensures in
     elim c.if-contains.branch [
       | then-contains w ↦ ap (λ ws. contains_wide ws m) w.days-is ∙ w.insert.ensures.members m
           ∙ one_more (λ k. lets_date c.args.parts.now (c.args.first + k)) c.loop-k.k m (contains_wide c.loop-k.days m) (sym test

@@ -1,16 +1,13 @@
-use Rattle.std.proofs.Common.{◌∙◌, ap, sym}
-use Rattle.std.proofs.lemmas.Bool.{and_from}
+use Rattle.std.proofs.Common.{◌∙◌, ◌&&◌, ap, sym}
 use Rattle.ics_values.specs.Sets.{contains_wide, is_empty}
 use Rattle.ics_values.specs.Days.{year_of}
-use Rattle.ics_values.specs.Ordinals.{lists_none}
 use Rattle.ics_rule.proofs.ScanLemmas.{none_has}
 use Rattle.ics_rule.proofs.MonthDays.{whole_year}
 use Rattle.ics_rule.proofs.days.add_days_of_year.Goals as goal
 
-pub returns-then-is_empty-2 : goal.returns-then-is_empty-2
-returns-then-is_empty-2 c = λ k. whole_year c.args.parts.now (year_of c.args.first) k
+pub returns-then-is_empty : goal.returns-then-is_empty
+returns-then-is_empty c = λ k. whole_year c.args.parts.now (year_of c.args.first) k
     (sym c.goes_by_months.ensures ∙ c.if-not-goes_by_months.false) c.requires.frequency
-    (and_from (is_empty c.args.parts.now.months) (lists_none c.args.parts.now.month_days) (sym c.is_empty.ensures ∙ c.if-is_empty.true)
-    (sym c.is_empty-then-is_empty.ensures ∙ c.if-is_empty-2.true))
+    (sym (ap (λ x. x && c.is_empty-2.result) c.is_empty.ensures ∙ ap (λ x. is_empty c.args.parts.now.months && x) c.is_empty-2.ensures) ∙ c.if-is_empty.true)
     c.requires.span.1.0 c.requires.span.1.1 c.weekday_at.ensures.value
     (ap (λ ws. contains_wide ws k) c.requires.empty ∙ none_has k) (c.add_weekdays.ensures k)

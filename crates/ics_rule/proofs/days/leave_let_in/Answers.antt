@@ -1,22 +1,19 @@
-use Rattle.std.proofs.Common.{◌∙◌, ◌+◌, ◌&&◌, nat_lt, ap, sym}
-use Rattle.std.proofs.lemmas.Bool.{or_left, or_right}
-use Rattle.ics_values.specs.Ordinals.{lists_none, lists_no_weekday}
+use Rattle.std.proofs.Common.{◌∙◌, ◌+◌, ◌&&◌, ◌||◌, nat_lt, ap, sym}
+use Rattle.std.proofs.lemmas.Bool.{or_parts}
+use Rattle.ics_values.specs.Ordinals.{lists_none}
 use Rattle.ics_rule.specs.Candidates.{lets_date}
 use Rattle.ics_rule.specs.Runs.{is_in_month}
 use Rattle.ics_rule.proofs.MonthDays.{month_exact, month_candidate, narrowed}
-use Rattle.ics_rule.proofs.days.leave_let_in.Goals.{then-is_empty-via-then-is_empty, then-is_empty-via-else-is_empty+then-is_empty-2}
 use Rattle.ics_rule.proofs.days.leave_let_in.Goals as goal
 
 pub returns-then-is_empty : goal.returns-then-is_empty
 returns-then-is_empty c = λ k. c.requires.listed k ∙ ap (λ x. nat_lt k c.args.len && x)
-    (month_exact c.args.parts.now (c.args.first + k) c.requires.months c.requires.numbers (elim c.then-is_empty.branch [
-      | then-is_empty-via-then-is_empty w ↦ or_left (lists_none c.args.parts.now.month_days) (lists_no_weekday c.args.parts.now.weekdays)
-          (sym c.is_empty.ensures ∙ w.if-is_empty.true)
-      | then-is_empty-via-else-is_empty+then-is_empty-2 w ↦ or_right (lists_none c.args.parts.now.month_days) (lists_no_weekday c.args.parts.now.weekdays)
-          (sym w.is_empty-else-is_empty.ensures ∙ w.if-is_empty-2.true)
-    ]))
+    (month_exact c.args.parts.now (c.args.first + k) c.requires.months c.requires.numbers
+    (sym (ap (λ x. x || c.is_empty-2.result) c.is_empty.ensures ∙ ap (λ x. lists_none c.args.parts.now.month_days || x) c.is_empty-2.ensures)
+    ∙ c.if-is_empty.true))
 
 pub returns : goal.returns
 returns c = λ k. c.those_let_in.ensures k ∙ ap (λ x. x && lets_date c.args.parts.now (c.args.first + k)) (c.requires.listed k)
     ∙ narrowed (nat_lt k c.args.len) (is_in_month c.args.parts.now (c.args.first + k)) (lets_date c.args.parts.now (c.args.first + k))
-    (λ h d. month_candidate c.args.parts.now (c.args.first + k) c.requires.months (sym c.is_empty.ensures ∙ c.if-is_empty.false) d)
+    (λ h d. month_candidate c.args.parts.now (c.args.first + k) c.requires.months
+    (sym c.is_empty.ensures ∙ (or_parts c.is_empty.result c.is_empty-2.result c.if-is_empty.false).0) d)

@@ -58,7 +58,7 @@ pub returns-clause-next : goal.returns-clause-next
 returns-clause-next c = counting_ends c.loop-number.invariant (omega (arith, c.period_of-last.ensures.value, c.loop-number-test.false))
 
 pub returns-then-chooses_none-clause-next : goal.returns-then-chooses_none-clause-next
-returns-then-chooses_none-clause-next c = none_wanted c.args.parts.now c.args.start (Some c.args.count) c.args.self.now.place c.args.stop c.requires.stop
+returns-then-chooses_none-clause-next c = none_wanted c.args.parts.now c.args.start (Some c.args.count) c.args.self.now.place c.requires.stop
     (c.chooses_none.ensures c.if-chooses_none.true c.args.start)
 
 pub returns-then-chooses_none-clause-walked : goal.returns-then-chooses_none-clause-walked

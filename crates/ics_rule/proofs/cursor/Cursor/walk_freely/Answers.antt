@@ -44,7 +44,7 @@ returns-clause-walked c = walk_ended c.loop-number.invariant
 
 pub returns-then-chooses_none-clause-next : goal.returns-then-chooses_none-clause-next
 returns-then-chooses_none-clause-next c =
-    none_wanted c.args.parts.now c.args.start None c.args.self.now.place c.args.stop c.requires.stop
+    none_wanted c.args.parts.now c.args.start None c.args.self.now.place c.requires.stop
     (c.chooses_none.ensures c.if-chooses_none.true c.args.start)
 
 pub returns-then-chooses_none-clause-walked : goal.returns-then-chooses_none-clause-walked

@@ -1,47 +1,68 @@
+use Rattle.std.proofs.Common.{◌<◌, ◌≤◌, ◌+◌, ◌*◌, ◌/◌, refl, arith}
 use Rattle.jiff_core.specs.Weekday.{monday_zero}
-use Rattle.std.proofs.Common.{◌∙◌, ◌+◌, ◌-◌, ◌/◌, ◌&&◌, nat_lt, refl, ap, subst, sym, arith}
-use Rattle.ics_rule.specs.Candidates.{lets_date}
-use Rattle.ics_rule.specs.RecurrencePeriods.{first_local}
-use Rattle.ics_rule.specs.Runs.{IsSpan}
-use Rattle.ics_rule.proofs.PeriodLemmas.{span_fits}
+use Rattle.ics_rule.proofs.PeriodLemmas.{IsPeriodFrom, next_first, period_fits, week_small}
 use Rattle.ics_rule.proofs.ProductLemmas.{product_is}
 use Rattle.ics_rule.proofs.MonthDays.{period_span}
 use Rattle.ics_rule.proofs.recurrence_period.RecurrencePeriod.new.Goals as goal
+use Rattle.ics_rule.proofs.recurrence_period.RecurrencePeriod.new.Goals.{After-first_local-end}
+
+pub first_local-end-requires : goal.first_local-end-requires
+first_local-end-requires c =
+    let s = next_first c.args.parts.now.frequency (monday_zero c.args.parts.now.week_start) c.args.number (week_small c.args.parts.now.week_start)
+    c.requires.low in
+    omega (arith, s.1, c.requires.reach)
+
+-- where the period begins and ends
+from : (c : After-first_local-end) → IsPeriodFrom c.args.parts.now.frequency (monday_zero c.args.parts.now.week_start) c.args.number
+    c.first_local-begin.result c.first_local-end.result
+from c = record {
+  some = c.requires.low;
+  begin = c.first_local-begin.ensures;
+  end = c.first_local-end.ensures;
+  early = omega (
+    arith,
+    c.requires.reach,
+    c.first_local-begin.ensures,
+  );
+}
+
+fits : (c : After-first_local-end) → (c.first_local-begin.result < c.first_local-end.result)
+    × (c.first_local-end.result ≤ c.first_local-begin.result + 366 * 86_400)
+fits c = period_fits (week_small c.args.parts.now.week_start) (from c)
+
+pub overflow_add-len : goal.overflow_add-len
+overflow_add-len c = let f = fits c in let early = (from c).early in omega (arith, f.1, early)
+
+pub overflow_sub-len : goal.overflow_sub-len
+overflow_sub-len c = let f = fits c in omega (arith, f.0)
+
+pub overflow_cast-len : goal.overflow_cast-len
+overflow_cast-len c = let f = fits c in omega (arith, f.1)
 
 pub add_days_let_in-requires-clause-size : goal.add_days_let_in-requires-clause-size
-add_days_let_in-requires-clause-size c =
-    (span_fits c.args.parts.now c.args.number c.requires.low c.requires.reach c.span_of-span.ensures.first c.span_of-span.ensures.len).0
-
-pub add_days_let_in-requires-clause-days : goal.add_days_let_in-requires-clause-days
-add_days_let_in-requires-clause-days c =
-    (span_fits c.args.parts.now c.args.number c.requires.low c.requires.reach c.span_of-span.ensures.first c.span_of-span.ensures.len).1
+add_days_let_in-requires-clause-size c = let f = fits (goal.at.add_days_let_in-requires-clause-size c).After-first_local-end in omega (arith, f.1)
 
 pub add_days_let_in-requires-clause-span : goal.add_days_let_in-requires-clause-span
-add_days_let_in-requires-clause-span c =
-    subst (λ first. IsSpan c.args.parts.now.frequency c.args.number first c.span_of-span.result.len) (sym c.span_of-span.ensures.first)
-    (subst (λ len. IsSpan c.args.parts.now.frequency c.args.number
-    (first_local c.args.parts.now.frequency (monday_zero c.args.parts.now.week_start) c.args.number / 86_400) len) (sym c.span_of-span.ensures.len)
-    (period_span c.args.parts.now.frequency (monday_zero c.args.parts.now.week_start) c.args.number c.requires.low refl refl c.requires.reach))
+add_days_let_in-requires-clause-span c = period_span c.args.parts.now.frequency (monday_zero c.args.parts.now.week_start) c.args.number
+    (from (goal.at.add_days_let_in-requires-clause-span c).After-first_local-end)
 
 pub returns-clause-product : goal.returns-clause-product
 returns-clause-product c = record {
-  members = product_is c.args.parts.now c.args.number
-      (record {
-        number = c.args.number;
-        first_day = c.span_of-span.result.first;
-        days = c.add_days_let_in.new.days;
-        hours = c.clock_of-clock.result.hours;
-        minutes = c.clock_of-clock.result.minutes;
-        seconds = c.clock_of-clock.result.seconds;
-      })
-      refl refl c.span_of-span.ensures.first
-      (λ k. c.add_days_let_in.ensures k ∙ ap (λ len. nat_lt k len && lets_date c.args.parts.now (c.span_of-span.result.first + k)) c.span_of-span.ensures.len
-      ∙ ap (λ first. nat_lt k ((first_local c.args.parts.now.frequency (monday_zero c.args.parts.now.week_start) (c.args.number + 1) + 86_399) / 86_400
-      - first_local c.args.parts.now.frequency (monday_zero c.args.parts.now.week_start) c.args.number / 86_400) && lets_date c.args.parts.now (first + k))
-      c.span_of-span.ensures.first)
-      c.clock_of-clock.ensures.hours c.clock_of-clock.ensures.minutes c.clock_of-clock.ensures.seconds;
-  first = (let s = span_fits c.args.parts.now c.args.number c.requires.low c.requires.reach c.span_of-span.ensures.first
-      c.span_of-span.ensures.len in omega (arith, s.1));
+  members = product_is c.args.parts.now record {
+    number = c.args.number;
+    first_day = c.first_local-begin.result / 86_400;
+    days = c.add_days_let_in.new.days;
+    hours = c.clock_of-clock.result.hours;
+    minutes = c.clock_of-clock.result.minutes;
+    seconds = c.clock_of-clock.result.seconds;
+  } (from (goal.at.returns-clause-product c).After-first_local-end) record {
+    first = refl;
+    days = c.add_days_let_in.ensures;
+    hours = c.clock_of-clock.ensures.hours;
+    minutes = c.clock_of-clock.ensures.minutes;
+    seconds = c.clock_of-clock.ensures.seconds;
+  };
+  first = omega (arith, c.requires.reach, c.first_local-begin.ensures);
   hours = c.clock_of-clock.ensures.hours_bound;
   minutes = c.clock_of-clock.ensures.minutes_bound;
   seconds = c.clock_of-clock.ensures.seconds_bound;

@@ -1,8 +1,6 @@
-use Rattle.std.proofs.Common.{◌≡◌, ◌∙◌, ℕ, ◌≤◌, ◌/◌, ◌%◌, false, sym, subst, arith}
-use Rattle.std.proofs.lemmas.Bool.{and_right}
-use Rattle.ics_values.specs.Sets.{IsNextIn}
+use Rattle.std.proofs.Common.{◌≡◌, ◌∙◌, ℕ, ◌≤◌, ◌/◌, false, sym, arith}
 use Rattle.ics_rule.specs.RecurrencePeriods.{has_day, has_second, holds}
-use Rattle.ics_rule.proofs.ScanLemmas.{next_here, next_later, none_later, block_out, block_done, second_below}
+use Rattle.ics_rule.proofs.ScanLemmas.{next_here, next_later, block_out, block_done, second_below}
 use Rattle.ics_rule.proofs.recurrence_period.RecurrencePeriod.next_from.Goals as goal
 use Rattle.ics_rule.proofs.recurrence_period.RecurrencePeriod.next_from.Goals.{Joined-has_day, then-has_day+in_default, else-has_day}
 
@@ -15,23 +13,12 @@ none_here c = elim c.if-has_day.branch [
       ∙ w.if-has_day.false)
 ]
 
-pub returns-clause-next : goal.returns-clause-next
-returns-clause-next c = next_later 86_400 (omega arith) (has_day c.args.self.now) (has_second c.args.self.now)
-    (λ t. second_below c.args.self.now.hours c.args.self.now.minutes c.args.self.now.seconds t c.requires.hours) c.args.n c.in_ok-day.day c.in_ok-second.second
-    (none_here (goal.at.returns-clause-next c).Joined-has_day) c.in_ok-day.ensures.next c.in_ok-second.ensures.next
+pub returns-in-Some-next_second-clause-next : goal.returns-in-Some-next_second-clause-next
+returns-in-Some-next_second-clause-next c = next_later 86_400 (omega arith) (has_day c.args.self.now) (has_second c.args.self.now)
+    (λ t. second_below c.args.self.now.hours c.args.self.now.minutes c.args.self.now.seconds t c.requires.hours) c.args.n c.in-Some-next_day.day c.in-Some-next_second.second
+    (none_here (goal.at.returns-in-Some-next_second-clause-next c).Joined-has_day) c.in-Some-next_day.ensures.next c.in-Some-next_second.ensures.next
 
 pub returns-in-Some-clause-next : goal.returns-in-Some-clause-next
 returns-in-Some-clause-next c = next_here 86_400 (omega arith) (has_day c.args.self.now) (has_second c.args.self.now)
     (λ t. second_below c.args.self.now.hours c.args.self.now.minutes c.args.self.now.seconds t c.requires.hours) c.args.n c.in-Some.second
     (sym c.has_day.ensures ∙ c.if-has_day.true) c.in-Some.ensures.next
-
-pub returns-in_err-day-clause-next : goal.returns-in_err-day-clause-next
-returns-in_err-day-clause-next c = subst (IsNextIn (holds c.args.self.now) c.args.n) (sym c.from_residual.ensures)
-    (none_later 86_400 (omega arith) (has_day c.args.self.now) (has_second c.args.self.now)
-    (λ t. second_below c.args.self.now.hours c.args.self.now.minutes c.args.self.now.seconds t c.requires.hours) c.args.n
-    (none_here (goal.at.returns-in_err-day-clause-next c).Joined-has_day) c.in_err-day.ensures.next)
-
-pub returns-in_err-second-clause-next : goal.returns-in_err-second-clause-next
-returns-in_err-second-clause-next c = subst (IsNextIn (holds c.args.self.now) c.args.n) (sym c.from_residual-in_err-second.ensures)
-    (λ m l. and_right (has_day c.args.self.now (m / 86_400)) (has_second c.args.self.now (m % 86_400))
-    (c.in_err-second.ensures.next (m % 86_400) (omega arith)))
