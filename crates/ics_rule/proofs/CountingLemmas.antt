@@ -103,7 +103,8 @@ module _ {q : EffectiveRule} {start c stop number : ℕ} {before now : Cursor} (
     chosen_here n e = taken_within start turned.product turned.number walk.step n ∙ within_here q start number n e
 
     moved : HasMoved q start (Some c) stop before after
-    moved = moved_on walk.moved at (λ a b s few. meets q start a b start stop number few.low (omega (arith, walk.late, walk.early)) s walk.step
+    moved = moved_on walk.moved at (λ a b s few. meets q start a b {place = start} {stop = stop}
+        record { from = few.low; some = omega (arith, walk.late, walk.early); to = s } number walk.step
         (stepped_parts (period_in q start) q.interval number walk.step).0 top)
 
     held_at : (n : ℕ) → number ≤ period_in q n → HeldBy q after.held n

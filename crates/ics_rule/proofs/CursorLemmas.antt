@@ -19,6 +19,12 @@ use Rattle.ics_rule.proofs.StepLemmas.{none_between}
 use Rattle.ics_rule.proofs.ChosenLemmas.{no_step, not_let_in}
 use Rattle.ics_values.specs.Locals.{calendar_end}
 
+-- a place from a on, and a bound after it up to b
+pub record IsWithin (a b place stop : ℕ) : Type 0 where
+  pub from : a ≤ place
+  pub some : place < stop
+  pub to : stop ≤ b
+
 -- a period that lies a multiple of the interval from the start's is met by a local of it
 module _ (q : EffectiveRule) (start a b : ℕ) where
   met_by : (p n : ℕ) → a ≤ n → n < b → period_in q n ≡ p → is_stepped (period_in q start) q.interval p ≡ true →
@@ -32,9 +38,9 @@ module _ (q : EffectiveRule) (start a b : ℕ) where
       positive n h = grind (arith, nat_tests)
 
   -- so is one from that of a place to that of a bound
-  pub meets : (place stop p : ℕ) → a ≤ place → place < stop → stop ≤ b
+  pub meets : {place stop : ℕ} → IsWithin a b place stop → (p : ℕ)
       → is_stepped (period_in q start) q.interval p ≡ true → period_in q place ≤ p → p ≤ period_in q (stop - 1) → is_met q start a b p ≡ true
-  meets place stop p la lp lb step low high = elim (cases_lt (period_in q place) p) [
+  meets {place = place} {stop = stop} within p step low high = elim (cases_lt (period_in q place) p) [
     | inl later ↦
         let none : period_in q 0 ≤ p = (let m = period_mono q.frequency (monday_zero q.week_start) 0 place (omega arith) in omega (arith, m)) in
         let end = begun q.frequency (monday_zero q.week_start) p (stop - 1) high in
@@ -43,7 +49,7 @@ module _ (q : EffectiveRule) (start a b : ℕ) where
           | inl after ↦ omega arith
           | inr before ↦ absurd (let g = begins q.frequency (monday_zero q.week_start) p place before in omega (arith, g, later))
         ]) (omega (arith, end)) (first_in q.frequency (monday_zero q.week_start) p (week_small q.week_start) none) step
-    | inr same ↦ met_by p place la (omega arith) (omega (arith, same, low)) step
+    | inr same ↦ met_by p place within.from (omega (arith, within.some, within.to)) (omega (arith, same, low)) step
   ]
 
 -- the next number that passes one of two tests that agree
@@ -288,13 +294,14 @@ within_facts q start number n h = fact (period_in q n) number (is_chosen q start
     fact a b c h = let parts = and_parts (a == b) c h in (eqb-true a b parts.0, parts.1)
 
 -- nothing is chosen between a step and the next that may be open
-pub passed_over : {q : EffectiveRule} {number next : ℕ} (start : ℕ) → 1 ≤ q.interval → is_stepped (period_in q start) q.interval number ≡ true →
-    IsNextOpen q (period_in q start) (number + q.interval) next
-    → (n : ℕ) → number < period_in q n → period_in q n < next → is_chosen q start n ≡ false
-passed_over {q = q} {number = number} start some step is_next n later u = elim (cases_lt (period_in q n) (number + q.interval)) [
-  | inl between ↦ no_step q start n (none_between q.interval some (period_in q start) number (period_in q n) step later between)
-  | inr past ↦ not_let_in q start n (is_next.none n past u)
-]
+module _ {q : EffectiveRule} (start : ℕ) (some : 1 ≤ q.interval) where
+  pub passed_over : {number next : ℕ} → is_stepped (period_in q start) q.interval number ≡ true →
+      IsNextOpen q (period_in q start) (number + q.interval) next
+      → (n : ℕ) → number < period_in q n → period_in q n < next → is_chosen q start n ≡ false
+  passed_over {number = number} step is_next n later u = elim (cases_lt (period_in q n) (number + q.interval)) [
+    | inl between ↦ no_step q start n (none_between q.interval some (period_in q start) number (period_in q n) step later between)
+    | inr past ↦ not_let_in q start n (is_next.none n past u)
+  ]
 
 -- how far a walk over the periods has come: nothing from the place on is chosen in a period before this one
 pub record IsWalk (q : EffectiveRule) (start stop number : ℕ) (before now : Cursor) : Type 0 where
@@ -367,7 +374,7 @@ module _ {q : EffectiveRule} {start stop number : ℕ} {before now : Cursor} (wa
   module _ {after : Cursor} (at : LooksAt number now after) (held : MatchOption after.held ⊥ (λ p. IsPeriodOf q p × (p.number ≡ number)))
       (top : number ≤ period_in q (stop - 1)) where
     moved : HasMoved q start None stop before after
-    moved = moved_on walk.moved at (λ a b s few. meets q start a b before.place stop number few.low walk.early s walk.step walk.low top)
+    moved = moved_on walk.moved at (λ a b s few. meets q start a b {place = before.place} {stop = stop} record { from = few.low; some = walk.early; to = s } number walk.step walk.low top)
 
     top_stop : number ≤ period_in q stop
     top_stop = let m = period_mono q.frequency (monday_zero q.week_start) (stop - 1) stop (omega arith) in omega (arith, m, top)

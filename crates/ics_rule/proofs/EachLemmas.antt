@@ -245,35 +245,43 @@ module _ (q : EffectiveRule) (start : ℕ) (fine : 0 < seconds_of q.frequency) (
   total_open : (p : ℕ) → p * u ≤ calendar_end → count (p * u) (is_chosen q start) ≡ count p is_open * chosen_in_open q
   total_open zero top = let none : 0 * u ≡ 0 = omega arith in ap (λ x. count x (is_chosen q start)) none ∙ sym (count_zero (is_chosen q start))
       ∙ (let product : 0 ≡ 0 * chosen_in_open q = omega arith in product) ∙ ap (λ x. x * chosen_in_open q) (count_zero is_open)
-  total_open (suc p) top =
-      let wide : suc p * u ≡ p * u + u = omega arith in
-      let all = ap (λ x. count x (is_chosen q start)) wide in
-      let parts = count-add (p * u) u (is_chosen q start) in
-      let before = total_open p (omega (arith, wide, top)) in
-      let more = count-suc p is_open in
-      by_open (is_open p) refl (count (suc p * u) (is_chosen q start)) (count (suc p) is_open) (count p is_open) (count u (λ k. is_chosen q start (p * u + k)))
-      (omega (arith, all, parts, before)) more (λ e. chosen_open p (omega (arith, wide, top)) e) (λ e. chosen_closed p e)
+  total_open (suc p) top = by_open (total_open p (omega (arith, wide, top))) (is_open p) refl
     where
-      by_open : (b : Bool) → is_open p ≡ b → (t n m x : ℕ) → t ≡ m * chosen_in_open q + x → n ≡ m + cond (is_open p) 1 0
-          → (is_open p ≡ true → x ≡ chosen_in_open q) → (is_open p ≡ false → x ≡ 0) → t ≡ n * chosen_in_open q
-      by_open true e t n m x et en some none =
+      wide : suc p * u ≡ p * u + u
+      wide = omega arith
+
+      -- what the period adds
+      sum : count (p * u) (is_chosen q start) ≡ count p is_open * chosen_in_open q
+          → count (suc p * u) (is_chosen q start) ≡ count p is_open * chosen_in_open q + count u (λ k. is_chosen q start (p * u + k))
+      sum before =
+          let all = ap (λ x. count x (is_chosen q start)) wide in
+          let parts = count-add (p * u) u (is_chosen q start) in
+          omega (arith, all, parts, before)
+
+      by_open : count (p * u) (is_chosen q start) ≡ count p is_open * chosen_in_open q → (b : Bool) → is_open p ≡ b
+          → count (suc p * u) (is_chosen q start) ≡ count (suc p) is_open * chosen_in_open q
+      by_open before true e =
           let one = count_one (is_open p) e in
-          let next : n ≡ m + 1 = omega (arith, en, one) in
+          let more = count-suc p is_open in
+          let next : count (suc p) is_open ≡ count p is_open + 1 = omega (arith, one, more) in
           let product = ap (λ y. y * chosen_in_open q) next in
-          let spread : (m + 1) * chosen_in_open q ≡ m * chosen_in_open q + chosen_in_open q = omega arith in
-          omega (arith, et, some e, product, spread)
-      by_open false e t n m x et en some none =
+          let spread : (count p is_open + 1) * chosen_in_open q ≡ count p is_open * chosen_in_open q + chosen_in_open q = omega arith in
+          let own = chosen_open p (omega (arith, wide, top)) e in
+          omega (arith, sum before, own, product, spread)
+      by_open before false e =
           let zero = count_none_at (is_open p) e in
-          let same : n ≡ m = omega (arith, en, zero) in
+          let more = count-suc p is_open in
+          let same : count (suc p) is_open ≡ count p is_open = omega (arith, zero, more) in
           let product = ap (λ y. y * chosen_in_open q) same in
-          omega (arith, et, none e, product)
+          let own = chosen_closed p e in
+          omega (arith, sum before, own, product)
 
   -- from one period to another
-  pub total_between : (begin target counted each number : ℕ) → each ≡ chosen_in_open q → number + count begin is_open ≡ count target is_open
+  pub total_between : {begin target counted each : ℕ} (number : ℕ) → each ≡ chosen_in_open q → number + count begin is_open ≡ count target is_open
       → target * u ≤ calendar_end → begin ≤ target
       → counted ≡ count (first_local q.frequency (monday_zero q.week_start) begin) (is_chosen q start) → counted + each * number
       ≡ count (first_local q.frequency (monday_zero q.week_start) target) (is_chosen q start)
-  total_between begin target counted each number ee en top up ec =
+  total_between {begin = begin} {target = target} {counted = counted} {each = each} number ee en top up ec =
       let low = total_open begin (let up' = mul-le-mul_right u up in omega (arith, up', top)) in
       let high = total_open target top in
       let a = ap (λ x. count x (is_chosen q start)) (first_at q.frequency (monday_zero q.week_start) begin fine unit) in
@@ -310,7 +318,7 @@ open_end {q = q} {start = start} {begin = begin} {ahead = ahead} {place = place}
       step = ap (λ x. is_stepped (period_in q start) q.interval (begin + x)) (mul_comm (ahead / q.interval) q.interval)
           ∙ step_repeats q.interval (ahead / q.interval) (period_in q start) begin (stepped_parts (period_in q start) q.interval begin step).0 ∙ step;
       top = top;
-      total = total_between q start run.fine run.unit begin (begin + ahead / q.interval * q.interval) cursor.counted each number run.size run.total
+      total = total_between q start run.fine run.unit number run.size run.total
           (omega (arith, high, own.0, run.inside)) (omega arith)
           (turned.counted.total ∙ ap (λ x. count (first_local q.frequency (monday_zero q.week_start) x) (is_chosen q start)) turned.number);
     }

@@ -39,29 +39,30 @@ abbrev allowed_to : EffectiveRule → ℕ → ℕ
 allowed_to q p = allowed_before q (first_local q.frequency (monday_zero q.week_start) p)
 
 -- steps that have as many allowed have as many chosen
-even_adds : (q : EffectiveRule) (start x y : ℕ) → IsStep q start x → IsStep q start y → x ≤ y → IsEarly q y
-    → allowed_to q (suc x) + allowed_to q y ≡ allowed_to q (suc y) + allowed_to q x
-    → chosen_to q start (suc x) + chosen_to q start y ≡ chosen_to q start (suc y) + chosen_to q start x
-even_adds q start x y sx sy order high even =
-    let fx = first_local q.frequency (monday_zero q.week_start) x in
-    let fy = first_local q.frequency (monday_zero q.week_start) y in
-    let gx = first_local q.frequency (monday_zero q.week_start) (suc x) in
-    let gy = first_local q.frequency (monday_zero q.week_start) (suc y) in
-    let low = step_low q start x sx in
-    let up = first_mono q x y (omega (arith, low, order)) order in
-    let ux = first_mono q x (suc x) (omega (arith, low)) (omega arith) in
-    let uy = first_mono q y (suc y) (omega (arith, low, order)) (omega arith) in
-    let ex : fx + (gx - fx) ≡ gx = omega (arith, ux) in
-    let ey : fy + (gy - fy) ≡ gy = omega (arith, uy) in
-    let ix : fx + 366 * 86_400 ≤ calendar_end = omega (arith, up, high) in
-    let iy : fy + 366 * 86_400 ≤ calendar_end = omega (arith, high) in
-    let one = period_adds q start x sx ix (gx - fx) ex in
-    let other = period_adds q start y sy iy (gy - fy) ey in
-    let size_x = size_adds q start x sx ix (gx - fx) ex in
-    let size_y = size_adds q start y sy iy (gy - fy) ey in
-    let same : count longest (let_at q x) ≡ count longest (let_at q y) = omega (arith, size_x, size_y, even) in
-    let chosen = ap (chosen_of q (lists_none_wide q.positions)) same in
-    omega (arith, one, other, chosen)
+module _ (q : EffectiveRule) (start : ℕ) where
+  even_adds : {x y : ℕ} → IsStep q start x → IsStep q start y → x ≤ y → IsEarly q y
+      → allowed_to q (suc x) + allowed_to q y ≡ allowed_to q (suc y) + allowed_to q x
+      → chosen_to q start (suc x) + chosen_to q start y ≡ chosen_to q start (suc y) + chosen_to q start x
+  even_adds {x = x} {y = y} sx sy order high even =
+      let fx = first_local q.frequency (monday_zero q.week_start) x in
+      let fy = first_local q.frequency (monday_zero q.week_start) y in
+      let gx = first_local q.frequency (monday_zero q.week_start) (suc x) in
+      let gy = first_local q.frequency (monday_zero q.week_start) (suc y) in
+      let low = step_low q start x sx in
+      let up = first_mono q x y (omega (arith, low, order)) order in
+      let ux = first_mono q x (suc x) (omega (arith, low)) (omega arith) in
+      let uy = first_mono q y (suc y) (omega (arith, low, order)) (omega arith) in
+      let ex : fx + (gx - fx) ≡ gx = omega (arith, ux) in
+      let ey : fy + (gy - fy) ≡ gy = omega (arith, uy) in
+      let ix : fx + 366 * 86_400 ≤ calendar_end = omega (arith, up, high) in
+      let iy : fy + 366 * 86_400 ≤ calendar_end = omega (arith, high) in
+      let one = period_adds q start x sx ix (gx - fx) ex in
+      let other = period_adds q start y sy iy (gy - fy) ey in
+      let size_x = size_adds q start x sx ix (gx - fx) ex in
+      let size_y = size_adds q start y sy iy (gy - fy) ey in
+      let same : count longest (let_at q x) ≡ count longest (let_at q y) = omega (arith, size_x, size_y, even) in
+      let chosen = ap (chosen_of q (lists_none_wide q.positions)) same in
+      omega (arith, one, other, chosen)
 
 module _ (q : EffectiveRule) (start : ℕ) (some : 1 ≤ q.interval) where
   -- from a step to the next nothing but the first period adds
@@ -96,7 +97,7 @@ module _ (q : EffectiveRule) (start : ℕ) (some : 1 ≤ q.interval) where
     step_adds x low step high =
         let one = next_step_adds x step in
         let other = next_step_adds (x + periods) (is_round x step) in
-        let even = even_adds q start x (x + periods) step (is_round x step) (omega arith) high (on x low high) in
+        let even = even_adds q start {x = x} {y = x + periods} step (is_round x step) (omega arith) high (on x low high) in
         omega (arith, one, other, even)
 
     reach : (p r : ℕ) → IsStep q start p → p ≤ r → first_local q.frequency (monday_zero q.week_start) p ≤ first_local q.frequency (monday_zero q.week_start) r
@@ -170,13 +171,14 @@ module _ (q : EffectiveRule) (start : ℕ) (some : 1 ≤ q.interval) where
     even_is most = record {
       some = positive q.interval steps some most;
       step = step_repeats q.interval steps;
-      total = λ begin rounds before one low step more high eb eo.
+      total = λ begin rounds before one are.
           let grows = count_mono (first_local q.frequency (monday_zero q.week_start) begin)
-          (first_local q.frequency (monday_zero q.week_start) (begin + periods)) (is_chosen q start) (reach begin (begin + periods) step (omega arith)) in
-          let all = all_rounds rounds begin (omega (arith, low)) step high grows in (
-            omega (arith, eb, eo, grows),
-            ap (λ b. b + rounds * (one - b)) eb ∙ ap (λ o. chosen_to q start begin + rounds * (o - chosen_to q start begin)) eo
-                ∙ all,
+          (first_local q.frequency (monday_zero q.week_start) (begin + periods)) (is_chosen q start) (reach begin (begin + periods) are.step (omega arith)) in
+          let low = are.low in
+          let all = all_rounds rounds begin (omega (arith, low)) are.step are.early grows in (
+            omega (arith, are.before_first, are.before_second, grows),
+            ap (λ b. b + rounds * (one - b)) are.before_first
+                ∙ ap (λ o. chosen_to q start begin + rounds * (o - chosen_to q start begin)) are.before_second ∙ all,
           );
     }
 
@@ -185,8 +187,7 @@ pub even_of_round : (q : EffectiveRule) (start periods seconds : ℕ) → IsRoun
 even_of_round q start periods seconds round = record {
   some = round.some;
   step = round.step;
-  total = λ begin rounds before one low step more high eb eo. rounds_total q start periods seconds round begin rounds before one low
-      (stepped_parts (period_in q start) q.interval begin step).0 more high eb eo;
+  total = λ begin rounds before one are. rounds_total q start periods seconds round are;
 }
 
 -- only months and years differ in their seconds

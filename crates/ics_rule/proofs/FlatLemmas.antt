@@ -19,6 +19,7 @@ use Rattle.ics_rule.proofs.RankLemmas.{count_flat}
 use Rattle.ics_rule.proofs.PeriodLemmas.{month_size}
 use Rattle.ics_rule.proofs.RoundLemmas.{clock_alike}
 use Rattle.ics_rule.proofs.MonthDays.{day_of_run, three_parts, goes, span_month}
+use Rattle.ics_rule.proofs.Tests.{keep_true, or_false}
 
 -- where there is no next member, none is left
 pub none_from : (test : ℕ → Bool) {n : ℕ} (o : Option ℕ) → is_some o ≡ false → IsNextIn test n o → (m : ℕ) → n ≤ m → test m ≡ false
@@ -69,16 +70,17 @@ module _ (q : EffectiveRule) (flat : IsFlat q) where
       three_parts q e flat.goes
       ∙ ap (λ x. lets q.months x && (lets_place q.month_days (month_day_of e) size && lets_weekday q e)) month
       ∙ ap (λ x. lets q.months (i % 12 + 1) && (lets_place q.month_days x size && lets_weekday q e)) day
-      ∙ ap (λ x. lets q.months (i % 12 + 1) && x) (parts (lists_none q.month_days) (lists_no_weekday q.weekdays) (contains q.month_days.front (d + 1))
-      (contains q.month_days.back (size + 1 - (d + 1))) (contains q.weekdays.plain (weekday_of e))
-      (lets_numbered q.frequency q (numbers_of q.weekdays (weekday_of e)) e) g.1.1 flat.alone (flat.back (size + 1 - (d + 1))))
+      ∙ ap (λ x. lets q.months (i % 12 + 1) && x) (parts (contains q.month_days.front (d + 1)) (contains q.weekdays.plain (weekday_of e))
+      (lets_numbered q.frequency q (numbers_of q.weekdays (weekday_of e)) e)
+      (first_false (lists_none q.month_days) (lists_no_weekday q.weekdays) g.1.1 flat.alone) flat.alone (flat.back (size + 1 - (d + 1))))
     where
-      parts : (n w f b x z : Bool) → (n && w) ≡ false → w ≡ true → b ≡ false → ((n || (f || b)) && (w || x || z)) ≡ f
-      parts true true f b x z some none out = absurd (cc)
-      parts n false f b x z some none out = absurd (cc)
-      parts false true f true x z some none out = absurd (cc)
-      parts false true true false x z some none out = refl
-      parts false true false false x z some none out = refl
+      first_false : (n w : Bool) → (n && w) ≡ false → w ≡ true → n ≡ false
+      first_false true true some none = absurd (cc)
+      first_false true false some none = absurd (cc)
+      first_false false w some none = refl
+
+      parts : {n w b : Bool} (f x z : Bool) → n ≡ false → w ≡ true → b ≡ false → ((n || (f || b)) && (w || x || z)) ≡ f
+      parts f x z some none out = rw (some, none, out) (keep_true (f || false) ∙ or_false f)
 
   allowed_is : (i k : ℕ) → i / 12 ≤ 9_999 → k < days_in_month (pos (i / 12)) (i % 12 + 1) * 86_400 → is_allowed q (month_local i + k) ≡ in_month (i % 12) k
   allowed_is i k year inside =

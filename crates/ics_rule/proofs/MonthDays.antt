@@ -22,7 +22,7 @@ use Rattle.ics_rule.proofs.Months.{earlier_month, later_month, month_of_low}
 use Rattle.ics_rule.proofs.PeriodLemmas.{month_positive, month_size, IsPeriodFrom}
 use Rattle.ics_rule.proofs.DayWalkLemmas.{fields_at}
 use Rattle.ics_rule.proofs.RunLemmas.{next_found, all_found, guard, run_facts, run_shown}
-use Rattle.ics_rule.proofs.Tests.{above, below, three}
+use Rattle.ics_rule.proofs.Tests.{above, and_assoc, below, keep_true, three}
 
 -- the month that a day of its year lies in
 module _ (r : Run) (first y m k : ℕ) (own : IsMonth r first y m) where
@@ -67,46 +67,47 @@ abbrev pub seen_months : EffectiveRule → (ℕ → Bool) → ℕ → ℕ → Bo
 seen_months q months from e =
     nat_lt (month_of e) from && (months (month_of e) && lists_in_month q (weekday_of e) (month_day_of e) (days_in_month (pos (year_of e)) (month_of e)))
 
-pub month_step : (q : EffectiveRule) {r : Run} {months : ℕ → Bool} {first y m from : ℕ} (k : ℕ) {b new : Bool} → IsMonth r first y m
-    → first ≡ days_before_year y →
-    r.start + r.len ≤ days_in_year (pos y) → IsLeastFrom months from m
-    → b ≡ (nat_lt k (days_in_year (pos y)) && seen_months q months from (first + k))
-    → new ≡ (b || (has_run r k && lists_in_month q (weekday_in r (k - r.start)) (k - r.start + 1) r.len))
-    → new ≡ (nat_lt k (days_in_year (pos y)) && seen_months q months (m + 1) (first + k))
-month_step q {r = r} {months = months} {first = first} {y = y} {m = m} {from = from} k {b = b} own start most next e more =
-    elim (cases_lt k (days_in_year (pos y))) [
-      | inl inside ↦
-          let M = month_of (first + k) in
-          let L = lists_in_month q (weekday_of (first + k)) (month_day_of (first + k)) (days_in_month (pos (year_of (first + k))) (month_of (first + k))) in
-          let old : b ≡ (nat_lt M from && (months M && L)) = e ∙ ap (λ x. x && (nat_lt M from && (months M && L))) (lt-ltb k (days_in_year (pos y)) inside) in
-          let added : (has_run r k && lists_in_month q (weekday_in r (k - r.start)) (k - r.start + 1) r.len) ≡ ((M == m) && L) =
-          guard (has_run r k) _ L (run_lists r first y m k own q) ∙ ap (λ x. x && L) (run_is_month r first y m k own start inside) in
-          more ∙ ap (λ x. x || (has_run r k && lists_in_month q (weekday_in r (k - r.start)) (k - r.start + 1) r.len)) old
-          ∙ ap (λ x. (nat_lt M from && (months M && L)) || x) added
-          ∙ gather (nat_lt M from) (months M) (M == m) L ∙ ap (λ x. x && L) (next_found months from m M next) ∙ spread (nat_lt M (m + 1)) (months M) L
-          ∙ ap (λ x. x && (nat_lt M (m + 1) && (months M && L))) (sym (lt-ltb k (days_in_year (pos y)) inside))
-      | inr past ↦
-          let out : has_run r k ≡ false = and_right (nat_le r.start k) (nat_lt (k - r.start) r.len) (le-ltb (k - r.start) r.len (omega (arith, past, most))) in
-          let none = le-ltb k (days_in_year (pos y)) past in
-          more ∙ ap (λ x. x || (has_run r k && lists_in_month q (weekday_in r (k - r.start)) (k - r.start + 1) r.len)) (e
-          ∙ ap (λ x. x && seen_months q months from (first + k)) none)
-          ∙ ap (λ x. x && lists_in_month q (weekday_in r (k - r.start)) (k - r.start + 1) r.len) out
-          ∙ sym (ap (λ x. x && seen_months q months (m + 1) (first + k)) none)
-    ]
-  where
-    gather : (a b s t : Bool) → ((a && (b && t)) || (s && t)) ≡ ((s || (a && b)) && t)
-    gather true true true true = refl
-    gather true true true false = refl
-    gather true true false true = refl
-    gather true true false false = refl
-    gather true false true t = refl
-    gather true false false t = refl
-    gather false b true t = refl
-    gather false b false t = refl
+module _ (q : EffectiveRule) (k : ℕ) where
+  pub month_step : {r : Run} {months : ℕ → Bool} {first y m from : ℕ} {b new : Bool} → IsMonth r first y m
+      → first ≡ days_before_year y →
+      r.start + r.len ≤ days_in_year (pos y) → IsLeastFrom months from m
+      → b ≡ (nat_lt k (days_in_year (pos y)) && seen_months q months from (first + k))
+      → new ≡ (b || (has_run r k && lists_in_month q (weekday_in r (k - r.start)) (k - r.start + 1) r.len))
+      → new ≡ (nat_lt k (days_in_year (pos y)) && seen_months q months (m + 1) (first + k))
+  month_step {r = r} {months = months} {first = first} {y = y} {m = m} {from = from} {b = b} own start most next e more =
+      elim (cases_lt k (days_in_year (pos y))) [
+        | inl inside ↦
+            let M = month_of (first + k) in
+            let L = lists_in_month q (weekday_of (first + k)) (month_day_of (first + k)) (days_in_month (pos (year_of (first + k))) (month_of (first + k))) in
+            let old : b ≡ (nat_lt M from && (months M && L)) = e ∙ ap (λ x. x && (nat_lt M from && (months M && L))) (lt-ltb k (days_in_year (pos y)) inside) in
+            let added : (has_run r k && lists_in_month q (weekday_in r (k - r.start)) (k - r.start + 1) r.len) ≡ ((M == m) && L) =
+            guard (has_run r k) _ L (run_lists r first y m k own q) ∙ ap (λ x. x && L) (run_is_month r first y m k own start inside) in
+            more ∙ ap (λ x. x || (has_run r k && lists_in_month q (weekday_in r (k - r.start)) (k - r.start + 1) r.len)) old
+            ∙ ap (λ x. (nat_lt M from && (months M && L)) || x) added
+            ∙ gather (nat_lt M from) (months M) (M == m) L ∙ ap (λ x. x && L) (next_found months from m M next) ∙ spread (nat_lt M (m + 1)) (months M) L
+            ∙ ap (λ x. x && (nat_lt M (m + 1) && (months M && L))) (sym (lt-ltb k (days_in_year (pos y)) inside))
+        | inr past ↦
+            let out : has_run r k ≡ false = and_right (nat_le r.start k) (nat_lt (k - r.start) r.len) (le-ltb (k - r.start) r.len (omega (arith, past, most))) in
+            let none = le-ltb k (days_in_year (pos y)) past in
+            more ∙ ap (λ x. x || (has_run r k && lists_in_month q (weekday_in r (k - r.start)) (k - r.start + 1) r.len)) (e
+            ∙ ap (λ x. x && seen_months q months from (first + k)) none)
+            ∙ ap (λ x. x && lists_in_month q (weekday_in r (k - r.start)) (k - r.start + 1) r.len) out
+            ∙ sym (ap (λ x. x && seen_months q months (m + 1) (first + k)) none)
+      ]
+    where
+      gather : (a b s t : Bool) → ((a && (b && t)) || (s && t)) ≡ ((s || (a && b)) && t)
+      gather true true true true = refl
+      gather true true true false = refl
+      gather true true false true = refl
+      gather true true false false = refl
+      gather true false true t = refl
+      gather true false false t = refl
+      gather false b true t = refl
+      gather false b false t = refl
 
-    spread : (a b t : Bool) → ((a && b) && t) ≡ (a && (b && t))
-    spread true b t = refl
-    spread false b t = refl
+      spread : (a b t : Bool) → ((a && b) && t) ≡ (a && (b && t))
+      spread true b t = refl
+      spread false b t = refl
 
 pub months_none : (q : EffectiveRule) (months : ℕ → Bool) (e : ℕ) (a : Bool) → false ≡ (a && seen_months q months 1 e)
 months_none q months e a =
@@ -180,32 +181,28 @@ pub three_parts : (q : EffectiveRule) (e : ℕ) → goes_by_months q ≡ true
     && (lets_place q.month_days (month_day_of e) (days_in_month (pos (year_of e)) (month_of e)) && lets_weekday q e))
 three_parts q e h =
     let g = goes q h in
-    drop (lets q.months (month_of e)) (lets_place q.month_days (month_day_of e) (days_in_month (pos (year_of e)) (month_of e)))
-    (lets_wide_place q.year_days (year_day_of e) (days_in_year (pos (year_of e)))) (lets_week q e) (lets_weekday q e)
+    drop (lets q.months (month_of e)) (lets_place q.month_days (month_day_of e) (days_in_month (pos (year_of e)) (month_of e))) (lets_weekday q e)
     (or_left (lists_none_wide q.year_days) _ g.1.0) (or_left (lists_none q.weeks) _ g.0)
   where
-    drop : (a b c d e : Bool) → c ≡ true → d ≡ true → (a && b && c && d && e) ≡ (a && (b && e))
-    drop true true true true e h l = refl
-    drop true false true true e h l = refl
-    drop false b true true e h l = refl
-    drop a b false d e h l = absurd (cc)
-    drop a b true false e h l = absurd (cc)
+    drop : {c d : Bool} (a b e : Bool) → c ≡ true → d ≡ true → (a && b && c && d && e) ≡ (a && (b && e))
+    drop a b e h l = rw (h, l) (ap (λ x. x && e) (keep_true ((a && b) && true) ∙ keep_true (a && b)) ∙ and_assoc a b e)
 
-numbers_in_month : (f : Frequency) (q : EffectiveRule) (p : Ordinals) (e : ℕ) → counts_in_month q f ≡ true → lists_none q.weeks ≡ true →
-    lists_none q.month_days ≡ true
-    → lets_numbered f q p e ≡ lists_nth p (month_day_of e) (days_in_month (pos (year_of e)) (month_of e))
-numbers_in_month Monthly q p e h weeks days = refl
-numbers_in_month Yearly q p e h weeks days = rw (weeks, months (is_empty q.months) (lists_none q.month_days) h days) refl
-  where
-    months : (a b : Bool) → not (a && b) ≡ true → b ≡ true → a ≡ false
-    months true true h l = absurd (cc)
-    months true false h l = absurd (cc)
-    months false b h l = refl
-numbers_in_month Weekly q p e h weeks days = absurd (cc)
-numbers_in_month Daily q p e h weeks days = absurd (cc)
-numbers_in_month Hourly q p e h weeks days = absurd (cc)
-numbers_in_month Minutely q p e h weeks days = absurd (cc)
-numbers_in_month Secondly q p e h weeks days = absurd (cc)
+module _ (q : EffectiveRule) (p : Ordinals) (e : ℕ) where
+  numbers_in_month : (f : Frequency) → counts_in_month q f ≡ true → lists_none q.weeks ≡ true →
+      lists_none q.month_days ≡ true
+      → lets_numbered f q p e ≡ lists_nth p (month_day_of e) (days_in_month (pos (year_of e)) (month_of e))
+  numbers_in_month Monthly h weeks days = refl
+  numbers_in_month Yearly h weeks days = rw (weeks, months (is_empty q.months) (lists_none q.month_days) h days) refl
+    where
+      months : (a b : Bool) → not (a && b) ≡ true → b ≡ true → a ≡ false
+      months true true h l = absurd (cc)
+      months true false h l = absurd (cc)
+      months false b h l = refl
+  numbers_in_month Weekly h weeks days = absurd (cc)
+  numbers_in_month Daily h weeks days = absurd (cc)
+  numbers_in_month Hourly h weeks days = absurd (cc)
+  numbers_in_month Minutely h weeks days = absurd (cc)
+  numbers_in_month Secondly h weeks days = absurd (cc)
 
 -- by BYMONTHDAY alone, or by BYDAY alone, they list what the rule lets in
 pub month_exact : (q : EffectiveRule) (e : ℕ) → goes_by_months q ≡ true → counts_in_month q q.frequency ≡ true →
@@ -214,51 +211,63 @@ pub month_exact : (q : EffectiveRule) (e : ℕ) → goes_by_months q ≡ true �
 month_exact q e h counts one =
     let g = goes q h in
     ap (λ x. lets q.months (month_of e) && x)
-    (cases (lists_none q.month_days) (lists_no_weekday q.weekdays) (contains q.weekdays.plain (weekday_of e)) _ _
+    (cases (lists_none q.month_days) (contains q.weekdays.plain (weekday_of e))
     (lists q.month_days (month_day_of e) (days_in_month (pos (year_of e)) (month_of e)))
-    g.1.1 one (λ days. sym (numbers_in_month q.frequency q (numbers_of q.weekdays (weekday_of e)) e counts g.0 days)))
+    (other (lists_none q.month_days) (lists_no_weekday q.weekdays) g.1.1 one)
+    (λ days. sym (numbers_in_month q (numbers_of q.weekdays (weekday_of e)) e q.frequency counts g.0 days)))
     ∙ sym (three_parts q e h)
   where
-    cases : (a b p n n' l : Bool) → (a && b) ≡ false → (a || b) ≡ true → (a ≡ true → n ≡ n') → (if a then (p || n) else l) ≡ ((a || l) && (b || p || n'))
-    cases true true p n n' l h o e = absurd (cc)
-    cases true false p n n' l h o e = ap (λ x. p || x) (e refl)
-    cases false true true n n' true h o e = refl
-    cases false true true n n' false h o e = refl
-    cases false true false n n' true h o e = refl
-    cases false true false n n' false h o e = refl
-    cases false false p n n' l h o e = absurd (cc)
+    other : (a b : Bool) → (a && b) ≡ false → (a || b) ≡ true → b ≡ not a
+    other true true h o = absurd (cc)
+    other true false h o = refl
+    other false true h o = refl
+    other false false h o = absurd (cc)
+
+    cases : (a p l : Bool) {b n n' : Bool} → b ≡ not a → (a ≡ true → n ≡ n') → (if a then (p || n) else l) ≡ ((a || l) && (b || p || n'))
+    cases true p l o e = rw o (ap (λ x. p || x) (e refl))
+    cases false p l o e = rw o (sym (keep_true l))
 
 -- else they list what it may let in
 pub month_candidate : (q : EffectiveRule) (e : ℕ) → goes_by_months q ≡ true → lists_none q.month_days ≡ false → lets_date q e ≡ true → is_in_month q e ≡ true
 month_candidate q e h some d =
-    cases (lets q.months (month_of e)) (lists_none q.month_days) (lists q.month_days (month_day_of e) (days_in_month (pos (year_of e)) (month_of e)))
-    (lets_weekday q e) _ some (sym (three_parts q e h) ∙ d)
+    cases (lets q.months (month_of e)) (lists q.month_days (month_day_of e) (days_in_month (pos (year_of e)) (month_of e))) (lets_weekday q e) _ some
+    (sym (three_parts q e h) ∙ d)
   where
-    cases : (a n l w x : Bool) → n ≡ false → (a && ((n || l) && w)) ≡ true → (a && (if n then x else l)) ≡ true
-    cases a true l w x s h = absurd (cc)
-    cases true false true w x s h = refl
-    cases true false false w x s h = absurd (cc)
-    cases false false l w x s h = absurd (cc)
+    fore : (a l w : Bool) → (a && (l && w)) ≡ true → (a && l) ≡ true
+    fore true true w h = refl
+    fore true false w h = absurd (cc)
+    fore false l w h = absurd (cc)
 
--- and a year without BYMONTH goes by BYDAY, which counts in the year
-pub year_exact : (q : EffectiveRule) (e : ℕ) {n size : ℕ} → goes_by_months q ≡ true → q.frequency ≡ Yearly
-    → (is_empty q.months && lists_none q.month_days) ≡ true →
-    year_day_of e ≡ n → days_in_year (pos (year_of e)) ≡ size
+    cases : (a l w x : Bool) {n : Bool} → n ≡ false → (a && ((n || l) && w)) ≡ true → (a && (if n then x else l)) ≡ true
+    cases a l w x s h = rw s (fore a l w (rw s at h))
+
+-- a rule that repeats yearly goes by BYDAY, which counts in the year
+pub record GoesByYears (q : EffectiveRule) : Type 0 where
+  pub goes : goes_by_months q ≡ true
+  pub yearly : q.frequency ≡ Yearly
+  pub free : (is_empty q.months && lists_none q.month_days) ≡ true
+
+pub year_exact : (q : EffectiveRule) (e : ℕ) {n size : ℕ} → GoesByYears q → year_day_of e ≡ n → days_in_year (pos (year_of e)) ≡ size
     → lists_weekday q.weekdays (weekday_of e) n size ≡ lets_date q e
-year_exact q e {n = n} {size = size} h yearly none day len =
-    let g = goes q h in
-    let parts = and_parts (is_empty q.months) (lists_none q.month_days) none in
+year_exact q e {n = n} {size = size} by day len =
+    let g = goes q by.goes in
+    let parts = and_parts (is_empty q.months) (lists_none q.month_days) by.free in
     let numbered : lets_numbered q.frequency q (numbers_of q.weekdays (weekday_of e)) e ≡ lists_nth (numbers_of q.weekdays (weekday_of e)) n size =
-    ap (λ f. lets_numbered f q (numbers_of q.weekdays (weekday_of e)) e) yearly ∙ rw (g.0, parts.0) (rw (day, len) refl) in
-    cases (is_empty q.months) (lists_none q.month_days) (lists_no_weekday q.weekdays) (contains q.weekdays.plain (weekday_of e)) _ _
-    (contains q.months (month_of e)) (lists q.month_days (month_day_of e) (days_in_month (pos (year_of e)) (month_of e)))
-    parts.0 parts.1 g.1.1 (sym numbered) ∙ sym (three_parts q e h)
+    ap (λ f. lets_numbered f q (numbers_of q.weekdays (weekday_of e)) e) by.yearly ∙ rw (g.0, parts.0) (rw (day, len) refl) in
+    let known = known_parts (is_empty q.months) (lists_none q.month_days) (lists_no_weekday q.weekdays) by.free g.1.1 in
+    ap (λ x. contains q.weekdays.plain (weekday_of e) || x) (sym numbered)
+    ∙ cases (contains q.weekdays.plain (weekday_of e)) (lets_numbered q.frequency q (numbers_of q.weekdays (weekday_of e)) e)
+    (or_left (is_empty q.months) _ known.0) (or_left (lists_none q.month_days) _ known.1.0) known.1.1
+    ∙ sym (three_parts q e by.goes)
   where
-    cases : (a d b p n n' m l : Bool) → a ≡ true → d ≡ true → (d && b) ≡ false → n ≡ n' → (p || n) ≡ ((a || m) && ((d || l) && (b || p || n')))
-    cases true true false p n n' m l h g o e = ap (λ x. p || x) e
-    cases true true true p n n' m l h g o e = absurd (cc)
-    cases true false b p n n' m l h g o e = absurd (cc)
-    cases false d b p n n' m l h g o e = absurd (cc)
+    known_parts : (a d b : Bool) → (a && d) ≡ true → (d && b) ≡ false → (a ≡ true) × ((d ≡ true) × (b ≡ false))
+    known_parts true true false h g = (refl, (refl, refl))
+    known_parts true true true h g = absurd (cc)
+    known_parts true false b h g = absurd (cc)
+    known_parts false d b h g = absurd (cc)
+
+    cases : {a d b : Bool} (p n : Bool) → a ≡ true → d ≡ true → b ≡ false → (p || n) ≡ (a && (d && (b || p || n)))
+    cases p n h g e = rw (h, g, e) refl
 
 -- what is asked of each candidate
 module _ (some f : ℕ → Bool) (from n k : ℕ) (b : Bool) where
@@ -347,36 +356,35 @@ pub year_starts : (first y : ℕ) → first ≡ days_before_year y → year_of f
 year_starts first y start = year_of_is first y (omega (arith, start)) (let next = days_before_year-next y in let some = days_in_year_bounds (pos y) in
     omega (arith, next, start, some.1))
 
-pub number_listed : (q : EffectiveRule) {first : ℕ} (y : ℕ) {len : ℕ} (k : ℕ) → first ≡ days_before_year y → len ≡ days_in_year (pos y) → nat_lt k len ≡ true →
-    lets_date q (first + k) ≡ true → lets_wide_place q.year_days (k + 1) len ≡ true
-number_listed q {first = first} y {len = len} k start size inside h =
-    let within : k < len = grind (arith, nat_tests) in
-    let place = year_place first y k start (omega (arith, within, size)) in
-    ap (lets_wide_place q.year_days (k + 1)) (size ∙ sym (ap (λ x. days_in_year (pos x)) place.0))
-    ∙ ap (λ n. lets_wide_place q.year_days n (days_in_year (pos (year_of (first + k))))) (sym place.1)
-    ∙ number_let_in q (first + k) h
+module _ (q : EffectiveRule) (y k : ℕ) where
+  pub number_listed : {first len : ℕ} → first ≡ days_before_year y → len ≡ days_in_year (pos y) → nat_lt k len ≡ true →
+      lets_date q (first + k) ≡ true → lets_wide_place q.year_days (k + 1) len ≡ true
+  number_listed {first = first} {len = len} start size inside h =
+      let within : k < len = grind (arith, nat_tests) in
+      let place = year_place first y k start (omega (arith, within, size)) in
+      ap (lets_wide_place q.year_days (k + 1)) (size ∙ sym (ap (λ x. days_in_year (pos x)) place.0))
+      ∙ ap (λ n. lets_wide_place q.year_days n (days_in_year (pos (year_of (first + k))))) (sym place.1)
+      ∙ number_let_in q (first + k) h
 
-pub whole_year : (q : EffectiveRule) {first len : ℕ} (y : ℕ) {w : ℕ} (k : ℕ) {a b : Bool} → goes_by_months q ≡ true → q.frequency ≡ Yearly →
-    (is_empty q.months && lists_none q.month_days) ≡ true
-    → first ≡ days_before_year y → len ≡ days_in_year (pos y) → w ≡ weekday_of first → a ≡ false
-    → b ≡ (a || (has_run (record { start = 0; len = len; weekday = w }) k
-    && lists_weekday q.weekdays (weekday_in (record { start = 0; len = len; weekday = w }) (k - 0)) (k - 0 + 1) len))
-    → b ≡ (nat_lt k len && lets_date q (first + k))
-whole_year q {first = first} {len = len} y {w = w} k goes yearly none start size weekday new e =
-    let r : Run = record { start = 0; len = len; weekday = w } in
-    e ∙ ap (λ x. x || (has_run r k && lists_weekday q.weekdays (weekday_in r (k - 0)) (k - 0 + 1) len)) new
-    ∙ guard (has_run r k) _ (lets_date q (first + k)) (λ h.
-    let inside = run_facts r k h in
-    let place = year_place first y k start (omega (arith, inside.1, size)) in
-    let own : weekday_in r (k - 0) ≡ weekday_of (first + k) = omega (arith, weekday) in
-    let number : k - 0 + 1 ≡ k + 1 = omega arith in
-    ap (λ d. lists_weekday q.weekdays d (k - 0 + 1) len) own
-    ∙ ap (λ n. lists_weekday q.weekdays (weekday_of (first + k)) n len) number
-    ∙ year_exact q (first + k) goes yearly none place.1 (ap (λ x. days_in_year (pos x)) place.0 ∙ sym size))
-    ∙ ap (λ x. x && lets_date q (first + k)) (run_start k len)
-  where
-    run_start : (k len : ℕ) → (nat_le 0 k && nat_lt (k - 0) len) ≡ nat_lt k len
-    run_start k len = let low : nat_le 0 k ≡ true = grind (arith, nat_tests) in let back : k - 0 ≡ k = omega arith in rw (low, back) refl
+  pub whole_year : {first len w : ℕ} {a b : Bool} → GoesByYears q → first ≡ days_before_year y → len ≡ days_in_year (pos y) → w ≡ weekday_of first → a ≡ false
+      → b ≡ (a || (has_run (record { start = 0; len = len; weekday = w }) k
+      && lists_weekday q.weekdays (weekday_in (record { start = 0; len = len; weekday = w }) (k - 0)) (k - 0 + 1) len))
+      → b ≡ (nat_lt k len && lets_date q (first + k))
+  whole_year {first = first} {len = len} {w = w} by start size weekday new e =
+      let r : Run = record { start = 0; len = len; weekday = w } in
+      e ∙ ap (λ x. x || (has_run r k && lists_weekday q.weekdays (weekday_in r (k - 0)) (k - 0 + 1) len)) new
+      ∙ guard (has_run r k) _ (lets_date q (first + k)) (λ h.
+      let inside = run_facts r k h in
+      let place = year_place first y k start (omega (arith, inside.1, size)) in
+      let own : weekday_in r (k - 0) ≡ weekday_of (first + k) = omega (arith, weekday) in
+      let number : k - 0 + 1 ≡ k + 1 = omega arith in
+      ap (λ d. lists_weekday q.weekdays d (k - 0 + 1) len) own
+      ∙ ap (λ n. lists_weekday q.weekdays (weekday_of (first + k)) n len) number
+      ∙ year_exact q (first + k) by place.1 (ap (λ x. days_in_year (pos x)) place.0 ∙ sym size))
+      ∙ ap (λ x. x && lets_date q (first + k)) (run_start k len)
+    where
+      run_start : (k len : ℕ) → (nat_le 0 k && nat_lt (k - 0) len) ≡ nat_lt k len
+      run_start k len = let low : nat_le 0 k ≡ true = grind (arith, nat_tests) in let back : k - 0 ≡ k = omega arith in rw (low, back) refl
 
 -- a month as a period
 pub span_month : (p first len w : ℕ) → IsSpan Monthly p first len → w ≡ weekday_of first →

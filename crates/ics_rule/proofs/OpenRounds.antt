@@ -48,13 +48,14 @@ module _ (q : EffectiveRule) (first periods : ℕ) (round : IsCalendarRound q pe
       ∙ own_day q.frequency q fine unit (p * seconds_of q.frequency) (146_097 * round.cycles))
 
   -- of whole rounds each has as many as the first
-  pub open_rounds : (from before rounds one rest : ℕ) → first ≤ from
-      → one + count from (is_open_period q first) ≡ count (from + periods) (is_open_period q first)
-      → rest + count (from + rounds * periods) (is_open_period q first) ≡ count before (is_open_period q first)
-      → rounds * one + rest + count from (is_open_period q first) ≡ count before (is_open_period q first)
-  open_rounds from before rounds one rest low eo er =
-      let all = count_rounds (is_open_period q first) from periods (from + rounds * periods) (λ n l h. open_again n (omega (arith, low, l))) rounds
-      (omega arith) in
-      let add = count-add from periods (is_open_period q first) in
-      let product = ap (λ x. rounds * x) (let same : one ≡ count periods (λ k. is_open_period q first (from + k)) = omega (arith, add, eo) in same) in
-      omega (arith, all, product, er)
+  module _ (from : ℕ) (low : first ≤ from) where
+    pub open_rounds : (before rounds one rest : ℕ)
+        → one + count from (is_open_period q first) ≡ count (from + periods) (is_open_period q first)
+        → rest + count (from + rounds * periods) (is_open_period q first) ≡ count before (is_open_period q first)
+        → rounds * one + rest + count from (is_open_period q first) ≡ count before (is_open_period q first)
+    open_rounds before rounds one rest eo er =
+        let all = count_rounds (is_open_period q first) from periods (from + rounds * periods) (λ n l h. open_again n (omega (arith, low, l))) rounds
+        (omega arith) in
+        let add = count-add from periods (is_open_period q first) in
+        let product = ap (λ x. rounds * x) (let same : one ≡ count periods (λ k. is_open_period q first (from + k)) = omega (arith, add, eo) in same) in
+        omega (arith, all, product, er)

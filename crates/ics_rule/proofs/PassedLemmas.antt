@@ -112,7 +112,7 @@ pub passed_on : {q : EffectiveRule} {start c number target total : ℕ} {before 
 passed_on {q = q} {start = start} {c = c} {target = target} {total = total} {before = before} {after = after} {now = now} {p = p} to is late inside e own =
     let same = own.1 in
     let moved = moved_on to.walked.moved (looks_once total after p first_fresh e same) (λ a b l few.
-    meets q start a b start (before.place + 1) target few.low (omega (arith, late)) l is.step (stepped_parts (period_in q start) q.interval target is.step).0
+    meets q start a b {place = start} {stop = before.place + 1} record { from = few.low; some = omega (arith, late); to = l } target is.step (stepped_parts (period_in q start) q.interval target is.step).0
     (top_of q before.place target is.top)) in
     record {
       own = record {
@@ -184,20 +184,34 @@ pub first_step : {q : EffectiveRule} {start begin before round : ℕ} → IsEven
 first_step {q = q} {start = start} {begin = begin} is from =
     is.step (period_in q start) begin (stepped_parts (period_in q start) q.interval begin from.step).0 ∙ from.step
 
-pub rounds_end : {q : EffectiveRule} {start begin round rounds before one place : ℕ} → IsEvenRound q start round → IsRoundsBegin q start begin before →
-    2 ≤ begin → 2 ≤ rounds → begin + rounds * round ≤ period_in q place → place < rules_end →
+pub record HasRounds (q : EffectiveRule) (start begin round rounds before place : ℕ) : Type 0 where
+  pub even : IsEvenRound q start round
+  pub from : IsRoundsBegin q start begin before
+  pub low : 2 ≤ begin
+  pub some : 2 ≤ rounds
+  pub top : begin + rounds * round ≤ period_in q place
+  pub early : place < rules_end
+
+pub rounds_end : {q : EffectiveRule} {start begin round rounds before one place : ℕ} → HasRounds q start begin round rounds before place →
     one ≡ count (first_local q.frequency (monday_zero q.week_start) (begin + round)) (is_chosen q start)
     → (before ≤ one) × IsCountedStep q start (begin + round) (begin + rounds * round) place (before + rounds * (one - before))
-rounds_end {q = q} {start = start} {begin = begin} {round = round} {rounds = rounds} {before = before} {one = one} {place = place} is from low some top high e =
-    let first = (stepped_parts (period_in q start) q.interval begin from.step).0 in
-    let reach = begun q.frequency (monday_zero q.week_start) (begin + rounds * round) place top in
-    let counts = is.total begin rounds before one low from.step (omega (arith, some)) (omega (arith, reach, high)) from.total e in (
+rounds_end {q = q} {start = start} {begin = begin} {round = round} {rounds = rounds} {before = before} {one = one} {place = place} run e =
+    let first = (stepped_parts (period_in q start) q.interval begin run.from.step).0 in
+    let reach = begun q.frequency (monday_zero q.week_start) (begin + rounds * round) place run.top in
+    let counts = run.even.total begin rounds before one record {
+      low = run.low;
+      step = run.from.step;
+      some = omega (arith, run.some);
+      early = omega (arith, reach, run.early);
+      before_first = run.from.total;
+      before_second = e;
+    } in (
       counts.0,
       record {
-        later = (let up = mul-le-mul_right {m = 2} {n = rounds} round some in omega (arith, up, is.some));
-        step = repeats_often (is_stepped (period_in q start) q.interval) (period_in q start) round (λ n h. is.step (period_in q start) n h) rounds begin first
-            ∙ from.step;
-        top = top;
+        later = (let up = mul-le-mul_right {m = 2} {n = rounds} round run.some in omega (arith, up, run.even.some));
+        step = repeats_often (is_stepped (period_in q start) q.interval) {low = period_in q start} round (λ n h. run.even.step (period_in q start) n h) rounds begin first
+            ∙ run.from.step;
+        top = run.top;
         total = counts.1;
       },
     )
@@ -220,10 +234,10 @@ pub target_in : (own begin : ℕ) {ahead : ℕ} (round : ℕ) → ahead ≡ own 
 target_in own begin {ahead = ahead} round e some = let whole = div-add-mod' ahead round in omega (arith, whole, e, some)
 
 -- a walk that finds nothing in a round finds nothing later
-pub walk_rounds_end : {q : EffectiveRule} {start stop number : ℕ} {before now : Cursor} (begin end : ℕ) → IsWalk q start stop number before now →
+pub walk_rounds_end : {q : EffectiveRule} {start stop number : ℕ} {before now : Cursor} {begin end : ℕ} → IsWalk q start stop number before now →
     stop ≤ rules_end → end < number → period_in q start ≤ begin → period_in q before.place ≤ begin
     → (end < period_in q (stop - 1) → HasRound q begin end) → IsNextWanted q start None before.place stop None
-walk_rounds_end {q = q} {start = start} {stop = stop} {number = number} {before = before} begin end walk h past low here round =
+walk_rounds_end {q = q} {start = start} {stop = stop} {number = number} {before = before} {begin = begin} {end = end} walk h past low here round =
     elim (cases_lt end (period_in q (stop - 1))) [
       | inl less ↦ by_round (round less)
       | inr more ↦ walk_ends walk (omega (arith, more, past))
@@ -233,7 +247,7 @@ walk_rounds_end {q = q} {start = start} {stop = stop} {number = number} {before 
     by_round is = λ n l u. elim (cases_lt (period_in q n) number) [
       | inl less ↦ walk.none n l less
       | inr more ↦ let far = is.far in let some = is.some in
-          none_after q start is.periods is.seconds is.round (begin + 1) (omega (arith, some)) (omega (arith, low))
+          none_after q start is.periods is.seconds is.round {begin = begin + 1} (omega (arith, some)) (omega (arith, low))
           (λ m lm um. walk.none m
           (elim (cases_lt m before.place) [
             | inl early ↦ absurd (let up = period_mono q.frequency (monday_zero q.week_start) m before.place (omega (arith, early)) in

@@ -30,19 +30,19 @@ use Rattle.ics_rule.specs.PlainReading.{is_plain_member, is_few_members, is_plai
 use Rattle.ics_rule.proofs.Counts.{count-same, count-suc, count-none, count_one}
 use Rattle.ics_rule.proofs.DateLemmas.{none_nth}
 use Rattle.ics_rule.proofs.PeriodLemmas.{week_small, period_mono}
-use Rattle.ics_rule.proofs.TableSteps.{or_assoc, only_number, only_day, only_this_weekday, both_true, chosen_where}
+use Rattle.ics_rule.proofs.TableSteps.{or_assoc, only_number, only_day, only_this_weekday, both_true, by_date, by_clock, by_subject, chosen_where}
 use Rattle.ics_rule.proofs.NthLemmas.{month_days_listed, year_days_listed, month_weekday_listed, year_weekday_listed, weeks_listed}
 use Rattle.ics_rule.proofs.Tests.{unequal, zero_of, self_test, keep_true, and_false, and_assoc}
 
 -- ---- what is extracted of DTSTART
 
 -- a part that is absent takes DTSTART's own, or all
-by_absence : (absent from t x y own : Bool) → t ≡ (from && absent) → (absent ≡ false → x ≡ y)
+by_absence : (absent from x own : Bool) {t y : Bool} → t ≡ (from && absent) → (absent ≡ false → x ≡ y)
     → (if t then own else (absent || x)) ≡ (if absent then (if from then own else true) else y)
-by_absence true true t x y own taken same = ap (λ b. if b then own else true) taken
-by_absence true false t x y own taken same = ap (λ b. if b then own else true) taken
-by_absence false true t x y own taken same = ap (λ b. if b then own else x) taken ∙ same refl
-by_absence false false t x y own taken same = ap (λ b. if b then own else x) taken ∙ same refl
+by_absence true true x own taken same = ap (λ b. if b then own else true) taken
+by_absence true false x own taken same = ap (λ b. if b then own else true) taken
+by_absence false true x own taken same = ap (λ b. if b then own else x) taken ∙ same refl
+by_absence false false x own taken same = ap (λ b. if b then own else x) taken ∙ same refl
 
 -- and a part that nothing stands in for, all
 left_open : (absent from x y : Bool) → x ≡ y → (absent || x) ≡ (if absent then (if from then true else true) else y)
@@ -171,7 +171,7 @@ clock Date {from = from} set own n same date =
     ap (λ z. lets (only z) n) (sym midnight.1) ∙ only_number true 0 own n ∙ ap (λ b. if b then (n == own) else true) (sym midnight.0 ∙ same)
 clock DateTime {takes = takes} {from = from} set own n same date =
     only_number (takes && is_empty set) set own n
-    ∙ by_absence (is_empty set) from (takes && is_empty set) (contains set n) (contains set n) (n == own) (ap (λ x. x && is_empty set) same) (λ e. refl)
+    ∙ by_absence (is_empty set) from (contains set n) (n == own) (ap (λ x. x && is_empty set) same) (λ e. refl)
 
 hour_taken : (f : Frequency) (r : Recurrence) → skips_hours f ≡ is_extracted r f ByHour
 hour_taken Yearly r = refl
@@ -206,10 +206,6 @@ midnight d s h = (omega (arith, h), (omega (arith, h), omega (arith, h)))
 
 -- ---- all parts
 
-by_part : {m m' d d' y y' w w' b b' h h' i i' s s' : Bool} → m ≡ m' → d ≡ d' → y ≡ y' → w ≡ w' → b ≡ b' → h ≡ h' → i ≡ i' → s ≡ s'
-    → ((m && d && y && w && b) && (h && i && s)) ≡ ((m' && d' && y' && w' && b') && (h' && i' && s'))
-by_part m d y w b h i s = rw (m, d, y, w, b, h, i, s) refl
-
 by_order : (a b : ℕ) → ((a < b) ⊎ (b < a)) ⊎ (a ≡ b)
 by_order a b = grind arith
 
@@ -221,8 +217,8 @@ module _ (r : Recurrence) (plain : HasPlainReading r) where
   unfolding effective
   month n =
       only_number (takes_month r.parts.frequency r.parts) r.parts.months (month_of (day_of start)) (month_of (day_of n))
-      ∙ by_absence (is_absent r ByMonth) (is_extracted r r.parts.frequency ByMonth) (takes_month r.parts.frequency r.parts)
-      (contains r.parts.months (month_of (day_of n))) (contains r.parts.months (month_of (day_of n))) (month_of (day_of n) == month_of (day_of start))
+      ∙ by_absence (is_absent r ByMonth) (is_extracted r r.parts.frequency ByMonth)
+      (contains r.parts.months (month_of (day_of n))) (month_of (day_of n) == month_of (day_of start))
       (month_taken r.parts.frequency r) (λ e. refl)
 
   month_day : (n : ℕ) → day_of n < 4_000_000
@@ -231,9 +227,9 @@ module _ (r : Recurrence) (plain : HasPlainReading r) where
   month_day n small =
       only_day (takes_month_day r.parts.frequency r.parts) r.parts.month_days (month_day_of (day_of start)) (month_day_of (day_of n))
       (days_in_month (pos (year_of (day_of n))) (month_of (day_of n)))
-      ∙ by_absence (is_absent r ByMonthDay) (is_extracted r r.parts.frequency ByMonthDay) (takes_month_day r.parts.frequency r.parts)
+      ∙ by_absence (is_absent r ByMonthDay) (is_extracted r r.parts.frequency ByMonthDay)
       (lists r.parts.month_days (month_day_of (day_of n)) (days_in_month (pos (year_of (day_of n))) (month_of (day_of n))))
-      (is_place r.parts.month_days (in_month (day_of n)) (day_of n)) (month_day_of (day_of n) == month_day_of (day_of start))
+      (month_day_of (day_of n) == month_day_of (day_of start))
       (day_taken r.parts.frequency r) (λ e. sym (month_days_listed r.parts.month_days (day_of n) small))
 
   year_day : (n : ℕ) → day_of n < 4_000_000
@@ -265,9 +261,9 @@ module _ (r : Recurrence) (plain : HasPlainReading r) where
       (λ p. lets_numbered f (effective r) p (day_of n)) (λ e. none_numbered f (effective r) (day_of n))
       ∙ ap (λ x. if takes_weekday f r.parts then (w == weekday_of (day_of start)) else x)
       (sym (or_assoc (is_absent r ByDay) (contains r.parts.weekdays.plain w) (lets_numbered f (effective r) (numbers_of r.parts.weekdays w) (day_of n))))
-      ∙ by_absence (is_absent r ByDay) (is_extracted r f ByDay) (takes_weekday f r.parts)
+      ∙ by_absence (is_absent r ByDay) (is_extracted r f ByDay)
       (contains r.parts.weekdays.plain w || lets_numbered f (effective r) (numbers_of r.parts.weekdays w) (day_of n))
-      (is_weekday r (day_of n)) (w == weekday_of (day_of start))
+      (w == weekday_of (day_of start))
       (weekday_taken f r plain.weekly plain.yearly)
       (λ e. ap (λ x. contains r.parts.weekdays.plain w || x) (numbered r (effective r) (numbers_of r.parts.weekdays w) (day_of n) small refl (months_kept e) f
       (λ unit. plain.numbers unit w)))
@@ -294,7 +290,8 @@ module _ (r : Recurrence) (plain : HasPlainReading r) where
 
   parts_apply : (n : ℕ) → n < calendar_end → (lets_date (effective r) (day_of n) && lets_clock (effective r) n) ≡ all_apply r n
   parts_apply n small =
-      by_part (month n) (month_day n (omega arith)) (year_day n (omega arith)) (week n (omega arith)) (weekday n (omega arith)) (hour n) (minute n) (second n)
+      by_subject (by_date (month n) (month_day n (omega arith)) (year_day n (omega arith)) (week n (omega arith)) (weekday n (omega arith)))
+      (by_clock (hour n) (minute n) (second n))
 
   -- the periods
   abbrev in_turn : ℕ → Bool
@@ -358,8 +355,7 @@ module _ (r : Recurrence) (plain : HasPlainReading r) where
   chosen : (n : ℕ) → start ≤ n → n < calendar_end → is_chosen (effective r) start n ≡ (frequency_applies r n && (all_apply r n && position_applies r n))
   unfolding effective
   chosen n low small =
-      chosen_where (is_candidate_in (effective r) start n) (in_turn n) (all_apply r n) (is_placed (effective r) start (lists_none_wide r.parts.positions) n)
-      (position_applies r n) (candidate n small) (placed n small)
+      chosen_where (in_turn n) (all_apply r n) (candidate n small) (placed n small)
       ∙ ap (λ x. x && (all_apply r n && position_applies r n)) (turns n low)
 
   -- DTSTART and what is later

@@ -18,9 +18,10 @@ use Rattle.ics_rule.specs.Candidates.{lets, lets_numbered, lets_date, lets_clock
 use Rattle.ics_rule.specs.DateParts.{names_weekdays_alone}
 use Rattle.ics_rule.specs.Kept.{count, is_beside, rank, size, is_placed, is_chosen}
 use Rattle.ics_rule.specs.RecurrencePeriods.{first_local}
-use Rattle.ics_rule.specs.Rounds.{seconds_of, IsRound}
+use Rattle.ics_rule.specs.Rounds.{seconds_of, AreRounds, IsRound}
 use Rattle.ics_rule.proofs.Counts.{count-same, count-add, count-from}
 use Rattle.ics_rule.proofs.RankLemmas.{count_flat}
+use Rattle.ics_rule.proofs.StepLemmas.{stepped_parts}
 use Rattle.ics_rule.proofs.PeriodLemmas.{begun, begins, is_short}
 use Rattle.ics_rule.proofs.DateLemmas.{weekdays_alone}
 use Rattle.ics_values.specs.Locals.{calendar_end}
@@ -127,10 +128,10 @@ unit_first Monthly w p j h l = absurd (omega (arith, h))
 unit_first Yearly w p j h l = absurd (omega (arith, h))
 
 -- a test that repeats after a repeats after each multiple
-pub repeats_often : (f : ℕ → Bool) (low a : ℕ) → ((n : ℕ) → low ≤ n → f (n + a) ≡ f n) → (j n : ℕ) → low ≤ n → f (n + j * a) ≡ f n
-repeats_often f low a on zero n l = ap f (let same : n + 0 * a ≡ n = omega arith in same)
-repeats_often f low a on (suc j) n l = ap f (let same : n + suc j * a ≡ n + j * a + a = omega arith in same) ∙ on (n + j * a) (omega (arith, l))
-    ∙ repeats_often f low a on j n l
+pub repeats_often : (f : ℕ → Bool) {low : ℕ} (a : ℕ) → ((n : ℕ) → low ≤ n → f (n + a) ≡ f n) → (j n : ℕ) → low ≤ n → f (n + j * a) ≡ f n
+repeats_often f a on zero n l = ap f (let same : n + 0 * a ≡ n = omega arith in same)
+repeats_often f a on (suc j) n l = ap f (let same : n + suc j * a ≡ n + j * a + a = omega arith in same) ∙ on (n + j * a) (omega (arith, l))
+    ∙ repeats_often f a on j n l
 
 pub step_repeats : (i d first p : ℕ) → first ≤ p → is_stepped first i (p + i * d) ≡ is_stepped first i p
 step_repeats i d first p l =
@@ -152,7 +153,7 @@ round_is {q = q} {seconds = seconds} {unit = unit} e fine whole some steps on = 
       ∙ ap (λ x. first_local q.frequency (monday_zero q.week_start) p + q.interval * (seconds / unit) * x) (sym e);
   let_in = λ n. ap (λ x. lets_date q (day_of (n + x)) && lets_clock q (n + x)) (mul_assoc q.interval (seconds / unit) unit
       ∙ ap (λ x. q.interval * x) (let parts = div-add-mod' seconds unit in let all : seconds / unit * unit ≡ seconds = omega (arith, parts, whole) in all))
-      ∙ repeats_often (λ n. lets_date q (day_of n) && lets_clock q n) 0 seconds (λ n l. on n) q.interval n (omega arith);
+      ∙ repeats_often (λ n. lets_date q (day_of n) && lets_clock q n) {low = 0} seconds (λ n l. on n) q.interval n (omega arith);
 }
   where
     above : (d u s : ℕ) → d * u ≡ s → 1 ≤ s → 1 ≤ d
@@ -258,11 +259,11 @@ module _ (q : EffectiveRule) (start periods seconds : ℕ) (round : IsRound q pe
           ∙ ap (λ x. lists_wide q.positions (rank q start n) x) (size_on n l some inside)
 
   -- where nothing is chosen in a round, nothing is later
-  pub none_after : (begin : ℕ) → 2 ≤ begin → period_in q start ≤ begin
+  pub none_after : {begin : ℕ} → 2 ≤ begin → period_in q start ≤ begin
       → ((n : ℕ) → first_local q.frequency (monday_zero q.week_start) begin ≤ n → n < first_local q.frequency (monday_zero q.week_start) (begin + periods) →
       is_chosen q start n ≡ false)
       → (n : ℕ) → first_local q.frequency (monday_zero q.week_start) begin ≤ n → n < rules_end → is_chosen q start n ≡ false
-  none_after begin l low none n h u =
+  none_after {begin = begin} l low none n h u =
       let a = first_local q.frequency (monday_zero q.week_start) begin in
       let on : (m : ℕ) → a ≤ m → m + seconds < rules_end → is_chosen q start (m + seconds) ≡ is_chosen q start m =
       (λ m h u. let g = begins q.frequency (monday_zero q.week_start) begin m h in chosen_on m (omega (arith, g, low)) (omega (arith, g, l)) u) in
@@ -294,22 +295,24 @@ module _ (q : EffectiveRule) (start periods seconds : ℕ) (round : IsRound q pe
       omega (arith, more, one, before, all)
 
   pub step_rounds : (first j p : ℕ) → first ≤ p → is_stepped first q.interval (p + j * periods) ≡ is_stepped first q.interval p
-  step_rounds first j p l = repeats_often (is_stepped first q.interval) first periods (λ n h. round.step first n h) j p l
+  step_rounds first j p l = repeats_often (is_stepped first q.interval) {low = first} periods (λ n h. round.step first n h) j p l
 
   -- what is chosen before the end of so many rounds, by the first
-  pub rounds_total : (begin rounds before one : ℕ) → 2 ≤ begin → period_in q start ≤ begin → 1 ≤ rounds →
-      first_local q.frequency (monday_zero q.week_start) (begin + rounds * periods) ≤ rules_end
-      → before ≡ count (first_local q.frequency (monday_zero q.week_start) begin) (is_chosen q start) →
-      one ≡ count (first_local q.frequency (monday_zero q.week_start) (begin + periods)) (is_chosen q start)
+  pub rounds_total : {begin rounds before one : ℕ} → AreRounds q start periods begin rounds before one
       → (before ≤ one) × (before + rounds * (one - before)
       ≡ count (first_local q.frequency (monday_zero q.week_start) (begin + rounds * periods)) (is_chosen q start))
-  rounds_total begin rounds before one l low some high eb eo =
+  rounds_total {begin = begin} {rounds = rounds} {before = before} {one = one} are =
+      let l = are.low in
+      let low = (stepped_parts (period_in q start) q.interval begin are.step).0 in
+      let high = are.early in
+      let eb = are.before_first in
+      let eo = are.before_second in
       let a = first_local q.frequency (monday_zero q.week_start) begin in
       let on : (n : ℕ) → a ≤ n → n + seconds < rules_end → is_chosen q start (n + seconds) ≡ is_chosen q start n =
       (λ n h u. let g = begins q.frequency (monday_zero q.week_start) begin n h in chosen_on n (omega (arith, g, low)) (omega (arith, g, l)) u) in
       let end = first_rounds rounds begin l in
       let once : 1 * seconds ≡ seconds = omega arith in
-      let up = mul-le-mul_right {m = 1} {n = rounds} seconds some in
+      let up = mul-le-mul_right {m = 1} {n = rounds} seconds are.some in
       let first = count_rounds (is_chosen q start) a seconds rules_end on 1 (omega (arith, end, up, high)) in
       let all = count_rounds (is_chosen q start) a seconds rules_end on rounds (omega (arith, end, high)) in
       let first' = ap (λ x. count x (is_chosen q start)) (round.first begin l ∙ ap (λ x. a + x) (sym once)) in

@@ -17,7 +17,7 @@ use Rattle.ics_rule.specs.Table.{Part, ByMonth, ByWeekNo, ByYearDay, ByMonthDay,
 use Rattle.ics_rule.specs.ByTable.{Instance, Instances, instance_of, start_of, is_absent, is_listed, is_clockless, lists_nth_in, has_clock, own_instance}
 use Rattle.ics_rule.specs.ByTable.{apply_cell, apply, is_instance, IsAllowed}
 use Rattle.ics_rule.proofs.TableSteps.{or_assoc, limited, passed, expanded, week_expanded, noted, given, only_number, only_day, only_this_weekday, in_order}
-use Rattle.ics_rule.proofs.TableSteps.{by_subject}
+use Rattle.ics_rule.proofs.TableSteps.{by_date, by_clock, by_subject}
 use Rattle.ics_rule.proofs.Tests.{last_part, third, self_test, keep_true, and_false}
 
 -- the rule under a frequency
@@ -200,7 +200,7 @@ module _ (r : Recurrence) where
       clock_daily set i ∙ ap (lets_clock_in i) steps
       ∙ in_order (lets_part r BySecond i) (lets_part r ByMinute i) (lets_part r ByHour i) b d y ow w m per oe om od
       ((hour_kept i).hour == (start_of r).hour) ((minute_kept i).minute == (start_of r).minute) ((second_kept i).second == (start_of r).second)
-      ∙ by_subject per month day year week weekday (hours_given dates i) (minutes_given dates i) (seconds_given dates i)
+      ∙ ap (λ x. per && x) (by_subject (by_date month day year week weekday) (by_clock (hours_given dates i) (minutes_given dates i) (seconds_given dates i)))
 
 -- ---- the date
 
@@ -240,10 +240,12 @@ module _ (rule : Recurrence) (allowed : IsAllowed (at Hourly rule)) (p n : ℕ) 
       ∙ in_order (lets_part r BySecond i) (lets_part r ByMinute i) (lets_part r ByHour i) (lets_part r ByDay i) (lets_part r ByMonthDay i)
       (lets_part r ByYearDay i) true true (lets_part r ByMonth i)
       (i.period == p) true true true true ((minute_kept r i).minute == (start_of r).minute) ((second_kept r i).second == (start_of r).second)
-      ∙ by_subject (i.period == p) (keep_true (lets_part r ByMonth i)) (keep_true (lets_part r ByMonthDay i)) refl
+      ∙ ap (λ x. (i.period == p) && x)
+      (by_subject (by_date (keep_true (lets_part r ByMonth i)) (keep_true (lets_part r ByMonthDay i)) refl
       (absent (no_week r) (is_listed r ByWeekNo i) (allowed.parts ByWeekNo refl))
-      (keep_true (lets_part r ByDay i) ∙ limited_weekday r i (allowed.numbers refl i.weekday)) (hours_limited r no_date i)
-      (minutes_given r (λ date. (allowed.dates date).1) i) (seconds_given r (λ date. (allowed.dates date).1) i)
+      (keep_true (lets_part r ByDay i) ∙ limited_weekday r i (allowed.numbers refl i.weekday)))
+      (by_clock (hours_limited r no_date i)
+      (minutes_given r (λ date. (allowed.dates date).1) i) (seconds_given r (λ date. (allowed.dates date).1) i)))
     where
       no_date : rule.kind ≡ Date → ⊥
       no_date date = let fine = (allowed.dates date).0 in cc
@@ -258,10 +260,12 @@ module _ (rule : Recurrence) (allowed : IsAllowed (at Minutely rule)) (p n : ℕ
       ∙ in_order (lets_part r BySecond i) (lets_part r ByMinute i) (lets_part r ByHour i) (lets_part r ByDay i) (lets_part r ByMonthDay i)
       (lets_part r ByYearDay i) true true (lets_part r ByMonth i)
       (i.period == p) true true true true true ((second_kept r i).second == (start_of r).second)
-      ∙ by_subject (i.period == p) (keep_true (lets_part r ByMonth i)) (keep_true (lets_part r ByMonthDay i)) refl
+      ∙ ap (λ x. (i.period == p) && x)
+      (by_subject (by_date (keep_true (lets_part r ByMonth i)) (keep_true (lets_part r ByMonthDay i)) refl
       (absent (no_week r) (is_listed r ByWeekNo i) (allowed.parts ByWeekNo refl))
-      (keep_true (lets_part r ByDay i) ∙ limited_weekday r i (allowed.numbers refl i.weekday)) (hours_limited r no_date i) (minutes_limited r no_date i)
-      (seconds_given r (λ date. (allowed.dates date).1) i)
+      (keep_true (lets_part r ByDay i) ∙ limited_weekday r i (allowed.numbers refl i.weekday)))
+      (by_clock (hours_limited r no_date i) (minutes_limited r no_date i)
+      (seconds_given r (λ date. (allowed.dates date).1) i)))
     where
       no_date : rule.kind ≡ Date → ⊥
       no_date date = let fine = (allowed.dates date).0 in cc
@@ -276,10 +280,12 @@ module _ (rule : Recurrence) (allowed : IsAllowed (at Secondly rule)) (p n : ℕ
       ∙ in_order (lets_part r BySecond i) (lets_part r ByMinute i) (lets_part r ByHour i) (lets_part r ByDay i) (lets_part r ByMonthDay i)
       (lets_part r ByYearDay i) true true (lets_part r ByMonth i)
       (i.period == p) true true true true true true
-      ∙ by_subject (i.period == p) (keep_true (lets_part r ByMonth i)) (keep_true (lets_part r ByMonthDay i)) refl
+      ∙ ap (λ x. (i.period == p) && x)
+      (by_subject (by_date (keep_true (lets_part r ByMonth i)) (keep_true (lets_part r ByMonthDay i)) refl
       (absent (no_week r) (is_listed r ByWeekNo i) (allowed.parts ByWeekNo refl))
-      (keep_true (lets_part r ByDay i) ∙ limited_weekday r i (allowed.numbers refl i.weekday)) (hours_limited r no_date i) (minutes_limited r no_date i)
-      (seconds_limited r no_date i)
+      (keep_true (lets_part r ByDay i) ∙ limited_weekday r i (allowed.numbers refl i.weekday)))
+      (by_clock (hours_limited r no_date i) (minutes_limited r no_date i)
+      (seconds_limited r no_date i)))
     where
       no_date : rule.kind ≡ Date → ⊥
       no_date date = let fine = (allowed.dates date).0 in cc

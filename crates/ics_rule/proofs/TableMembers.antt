@@ -81,9 +81,7 @@ module _ (r : Recurrence) (allowed : IsAllowed r) where
   chosen : (n : ℕ) → is_chosen (effective r) (number r.start) n ≡ (is_period r (period_of r n) && is_limited r (period_of r n) n)
   unfolding effective
   chosen n =
-      chosen_where (is_candidate_in (effective r) (number r.start) n) (is_period r (period_of r n)) (is_instance r (period_of r n) n)
-      (is_placed (effective r) (number r.start) (lists_none_wide r.parts.positions) n)
-      (is_absent r BySetPos || is_nth r.parts.positions (is_instance r (period_of r n)) n) (candidate n) (placed n)
+      chosen_where (is_period r (period_of r n)) (is_instance r (period_of r n) n) (candidate n) (placed n)
 
   pub members_by_table : (n : ℕ) → is_in_rule r n ≡ is_member r n
   unfolding is_in_rule

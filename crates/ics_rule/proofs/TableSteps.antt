@@ -107,9 +107,14 @@ in_order true true true true true true true true true true true true true false 
 in_order true true true true true true true true true true true true true true false cs = refl
 in_order true true true true true true true true true true true true true true true cs = refl
 
-pub by_subject : (per : Bool) {m m' d d' y y' w w' b b' h h' i i' s s' : Bool} → m ≡ m' → d ≡ d' → y ≡ y' → w ≡ w' → b ≡ b' → h ≡ h' → i ≡ i' → s ≡ s'
-    → (per && ((((m && d) && y) && w) && b && ((h && i) && s))) ≡ (per && ((((m' && d') && y') && w') && b' && ((h' && i') && s')))
-by_subject per m d y w b h i s = rw (m, d, y, w, b, h, i, s) refl
+pub by_date : {m m' d d' y y' w w' b b' : Bool} → m ≡ m' → d ≡ d' → y ≡ y' → w ≡ w' → b ≡ b' → (m && d && y && w && b) ≡ (m' && d' && y' && w' && b')
+by_date m d y w b = rw (m, d, y, w, b) refl
+
+pub by_clock : {h h' i i' s s' : Bool} → h ≡ h' → i ≡ i' → s ≡ s' → (h && i && s) ≡ (h' && i' && s')
+by_clock h i s = rw (h, i, s) refl
+
+pub by_subject : {a a' b b' : Bool} → a ≡ a' → b ≡ b' → (a && b) ≡ (a' && b')
+by_subject a b = rw (a, b) refl
 
 -- two numbers
 pub both_true : (a b c : Bool) → c ≡ (a && b) → c ≡ true → (a ≡ true) × (b ≡ true)
@@ -117,10 +122,7 @@ both_true true b c e h = (refl, sym e ∙ h)
 both_true false b c e h = absurd (cc)
 
 -- a test that counts only where another passes
-pub chosen_where : (c step i placed nth : Bool) → c ≡ (step && i) → (c ≡ true → placed ≡ nth) → (c && placed) ≡ (step && (i && nth))
-chosen_where true true true placed nth e h = h refl
-chosen_where false true false placed nth e h = refl
-chosen_where false false i placed nth e h = refl
-chosen_where true true false placed nth e h = absurd (cc)
-chosen_where true false i placed nth e h = absurd (cc)
-chosen_where false true true placed nth e h = absurd (cc)
+pub chosen_where : {c : Bool} (step i : Bool) {placed nth : Bool} → c ≡ (step && i) → (c ≡ true → placed ≡ nth) → (c && placed) ≡ (step && (i && nth))
+chosen_where true true {placed = placed} e h = ap (λ x. x && placed) e ∙ h e
+chosen_where true false {placed = placed} e h = ap (λ x. x && placed) e
+chosen_where false i {placed = placed} e h = ap (λ x. x && placed) e

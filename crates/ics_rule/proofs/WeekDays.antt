@@ -74,9 +74,9 @@ unfolding year_day_of
 year_day_is f y h = rw h refl
 
 -- a week of the year that is listed, by the place of its fourth day in the year
-listed_week : (q : EffectiveRule) (f y j : ℕ) → year_of f ≡ y → f ≡ days_before_year y + j → j < days_in_year (pos y) → lists_none q.weeks ≡ false
+listed_week : (q : EffectiveRule) (some : lists_none q.weeks ≡ false) {f y : ℕ} (j : ℕ) → year_of f ≡ y → f ≡ days_before_year y + j → j < days_in_year (pos y)
     → lets_place q.weeks (week_number f) (weeks_of_year f) ≡ true → may_list_week q.weeks (j / 7 + 1) ≡ true
-listed_week q f y j year place inside some h =
+listed_week q some {f = f} {y = y} j year place inside h =
     let day : year_day_of f - 1 ≡ j = (let d = year_day_is f y year in omega (arith, d, place)) in
     let bounds = days_in_year_bounds (pos y) in
     let number : week_number f ≡ j / 7 + 1 = ap (λ x. x / 7 + 1) day in
@@ -109,10 +109,19 @@ listed_week q f y j year place inside some h =
     second false false false true h l = refl
     second false false false false h l = absurd (cc)
 
-pub week_near : (q : EffectiveRule) (first len k fourth : ℕ) → first ≡ days_before_year (year_of first) → len ≡ days_in_year (pos (year_of first)) → k < len →
-    lists_none q.weeks ≡ false
-    → fourth ≡ (monday_zero q.week_start + 10 - weekday_of first) % 7 → lets_week q (first + k) ≡ true → IsFound q.weeks fourth len k
-week_near q first len k fourth start size inside some place h =
+-- a year of so many days from a first, of a rule with BYWEEKNO; the fourth day of the first whole week comes `fourth` days after the year's first
+pub record IsYearOfWeeks (q : EffectiveRule) (first len fourth : ℕ) : Type 0 where
+  pub start : first ≡ days_before_year (year_of first)
+  pub size : len ≡ days_in_year (pos (year_of first))
+  pub some : lists_none q.weeks ≡ false
+  pub place : fourth ≡ (monday_zero q.week_start + 10 - weekday_of first) % 7
+
+pub week_near : (q : EffectiveRule) {first len fourth : ℕ} (k : ℕ) → IsYearOfWeeks q first len fourth → k < len → lets_week q (first + k) ≡ true
+    → IsFound q.weeks fourth len k
+week_near q {first = first} {len = len} {fourth = fourth} k is inside h =
+    let start = is.start in
+    let size = is.size in
+    let place = is.place in
     let w = monday_zero q.week_start in
     let small : w < 7 = week_small q.week_start in
     elim (cases_lt (7 * week_of w (first + k) + w) 9) [
@@ -127,7 +136,7 @@ week_near q first len k fourth start size inside some place h =
                   let next = days_before_year-next (year_of first) in
                   let year : year_of f ≡ year_of first = year_of_is f (year_of first) (omega (arith, begun, start)) (omega (arith, there, next, start, size)) in
                   let h' = subst (λ x. lets_place q.weeks (week_number x) (weeks_of_year x) ≡ true) (fourth_late w (first + k) late) h in
-                  let listed = listed_week q f (year_of first) (f - first) year (omega (arith, begun, start)) (omega (arith, there, begun, size)) some h' in
+                  let listed = listed_week q is.some (f - first) year (omega (arith, begun, start)) (omega (arith, there, begun, size)) h' in
                   let bounds = days_in_year_bounds (pos (year_of first)) in
                   let aligned : (f - first) % 7 ≡ fourth = omega (arith, begun, place, late, small) in
                   inr (inr (

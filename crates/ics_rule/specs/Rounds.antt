@@ -63,13 +63,20 @@ pub record IsFlat (q : EffectiveRule) : Type 0 where
 abbrev pub chosen_to : EffectiveRule → ℕ → ℕ → ℕ
 chosen_to q start p = count (first_local q.frequency (monday_zero q.week_start) p) (is_chosen q start)
 
+-- rounds of so many periods from a step on end with the rules or before; so many locals are chosen before the first of them, and before the second
+pub record AreRounds (q : EffectiveRule) (start periods begin rounds before one : ℕ) : Type 0 where
+  pub low : 2 ≤ begin
+  pub step : is_stepped (period_in q start) q.interval begin ≡ true
+  pub some : 1 ≤ rounds
+  pub early : first_local q.frequency (monday_zero q.week_start) (begin + rounds * periods) ≤ rules_end
+  pub before_first : before ≡ chosen_to q start begin
+  pub before_second : one ≡ chosen_to q start (begin + periods)
+
 -- from a step on, each so many periods have as many chosen locals as the first of these rounds
 pub record IsEvenRound (q : EffectiveRule) (start periods : ℕ) : Type 0 where
   pub some : 1 ≤ periods
   pub step : (first p : ℕ) → first ≤ p → is_stepped first q.interval (p + periods) ≡ is_stepped first q.interval p
-  pub total : (begin rounds before one : ℕ) → 2 ≤ begin → is_stepped (period_in q start) q.interval begin ≡ true → 1 ≤ rounds
-      → first_local q.frequency (monday_zero q.week_start) (begin + rounds * periods) ≤ rules_end
-      → before ≡ chosen_to q start begin → one ≡ chosen_to q start (begin + periods)
+  pub total : (begin rounds before one : ℕ) → AreRounds q start periods begin rounds before one
       → (before ≤ one) × (before + rounds * (one - before) ≡ chosen_to q start (begin + rounds * periods))
 
 -- the periods from begin to end are a whole round or more, and begin is not the first of all

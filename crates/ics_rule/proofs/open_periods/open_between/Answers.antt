@@ -9,8 +9,8 @@ use Rattle.ics_rule.proofs.open_periods.open_between.Goals.{After-open_by_days-r
 -- the rounds and the rest are all of it
 all : (c : After-open_by_days-rest) → (c.args.before - c.args.from) / c.in-Some.round * c.open_by_days-one.result + c.open_by_days-rest.result
     + count c.args.from (is_open_period c.args.parts.now c.args.first) ≡ count c.args.before (is_open_period c.args.parts.now c.args.first)
-all c = open_rounds c.args.parts.now c.args.first c.in-Some.round c.in-Some.ensures.round c.requires.fine c.requires.unit c.args.from c.args.before
-    ((c.args.before - c.args.from) / c.in-Some.round) c.open_by_days-one.result c.open_by_days-rest.result c.requires.first c.open_by_days-one.ensures
+all c = open_rounds c.args.parts.now c.args.first c.in-Some.round c.in-Some.ensures.round c.requires.fine c.requires.unit c.args.from c.requires.first
+    c.args.before ((c.args.before - c.args.from) / c.in-Some.round) c.open_by_days-one.result c.open_by_days-rest.result c.open_by_days-one.ensures
     c.open_by_days-rest.ensures
 
 pub overflow_mul-result : goal.overflow_mul-result

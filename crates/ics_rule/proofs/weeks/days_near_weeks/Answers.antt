@@ -4,8 +4,18 @@ use Rattle.jiff_core.proofs.CalendarLemmas.{days_in_year_bounds}
 use Rattle.ics_values.specs.Sets.{contains_wide}
 use Rattle.ics_values.specs.Days.{year_of}
 use Rattle.ics_rule.proofs.ScanLemmas.{none_has}
-use Rattle.ics_rule.proofs.WeekDays.{cover_starts, cover_adds, cover_jumps, covered, week_near}
+use Rattle.ics_rule.proofs.WeekDays.{cover_starts, cover_adds, cover_jumps, covered, IsYearOfWeeks, week_near}
 use Rattle.ics_rule.proofs.weeks.days_near_weeks.Goals as goal
+use Rattle.ics_rule.proofs.weeks.days_near_weeks.Goals.{After-weekday_at}
+
+year : (c : After-weekday_at) → IsYearOfWeeks c.args.parts.now c.args.first c.args.len ((c.index.result + 10 - c.weekday_at.result) % 7)
+year c = record {
+  start = c.requires.first;
+  size = c.requires.size;
+  some = c.requires.some;
+  place = ap (λ x. (x + 10 - c.weekday_at.result) % 7) c.index.ensures.value
+      ∙ ap (λ x. (monday_zero c.args.parts.now.week_start + 10 - x) % 7) c.weekday_at.ensures.value;
+}
 
 pub loop-n-init : goal.loop-n-init
 loop-n-init c = let b = days_in_year_bounds (pos (year_of c.args.first)) in (
@@ -30,15 +40,11 @@ returns-then-n-gt53-clause-all c = λ k h l. covered 54 k (omega arith) h
     (cover_jumps
     (λ j low less. sym (c.listed_weeks-listed.ensures j (omega (arith, low, c.loop-n.invariant.1.0)) (omega (arith, less)))
     ∙ c.in-Some.ensures.next.least j low (omega (arith, less, c.if-n-gt53.true))) c.loop-n.invariant.0)
-    (week_near c.args.parts.now c.args.first c.args.len k _ c.requires.first c.requires.size h c.requires.some
-    (ap (λ x. (x + 10 - c.weekday_at.result) % 7) c.index.ensures.value
-    ∙ ap (λ x. (monday_zero c.args.parts.now.week_start + 10 - x) % 7) c.weekday_at.ensures.value) l)
+    (week_near c.args.parts.now k (year (goal.at.returns-then-n-gt53-clause-all c).After-weekday_at) h l)
 
 pub returns-clause-all : goal.returns-clause-all
 returns-clause-all c = λ k h l. covered 54 k (omega arith) h
     (cover_jumps
     (λ j low less. sym (c.listed_weeks-listed.ensures j (omega (arith, low, c.loop-n.invariant.1.0)) (omega (arith, less)))
     ∙ c.in_default.ensures.next j low) c.loop-n.invariant.0)
-    (week_near c.args.parts.now c.args.first c.args.len k _ c.requires.first c.requires.size h c.requires.some
-    (ap (λ x. (x + 10 - c.weekday_at.result) % 7) c.index.ensures.value
-    ∙ ap (λ x. (monday_zero c.args.parts.now.week_start + 10 - x) % 7) c.weekday_at.ensures.value) l)
+    (week_near c.args.parts.now k (year (goal.at.returns-clause-all c).After-weekday_at) h l)

@@ -8,10 +8,11 @@ use Rattle.ics_rule.proofs.NextLemmas.{next_start, none_early, kept_answer}
 use Rattle.ics_rule.proofs.CursorLemmas.{own_at}
 use Rattle.ics_rule.proofs.cursor.Cursor.next_number.Goals as goal
 
-abbrev Found : Recurrence → ℕ → ℕ → ℕ → ℕ → Option ℕ → ℕ → Type 0
-Found r start place end stop o now =
-    MatchOption o (NoneWanted (effective r) start r.parts.count place stop
-    × (now ≡ max place end)) (λ n. IsNextBefore (effective r) start r.parts.count place stop n × (now ≡ n + 1))
+module _ (r : Recurrence) (start place end stop : ℕ) where
+  abbrev Found : Option ℕ → ℕ → Type 0
+  Found o now =
+      MatchOption o (NoneWanted (effective r) start r.parts.count place stop
+      × (now ≡ max place end)) (λ n. IsNextBefore (effective r) start r.parts.count place stop n × (now ≡ n + 1))
 
 pub returns-then-start-end-clause-next : goal.returns-then-start-end-clause-next
 returns-then-start-end-clause-next c = (

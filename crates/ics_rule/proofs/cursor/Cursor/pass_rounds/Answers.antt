@@ -32,8 +32,14 @@ ends c =
     let turned = (c.turn_through.ensures.counted c.if-not-turn_through.false).turned in
     let top = target_in c.period_of.result c.counted_from-begin.result.0 c.in-Some.round c.saturating_sub-ahead.ensures
     c.if-ahead-lt2.false in
-    rounds_end (c.in-Some.ensures c.args.start) (counts_from c.requires.interval c.requires.own c.requires.first c.counted_from-begin.ensures)
-    c.if-begin-lt2.false c.if-rounds-lt2.false (omega (arith, top, c.period_of.ensures.value)) c.requires.place
+    rounds_end record {
+      even = c.in-Some.ensures c.args.start;
+      from = counts_from c.requires.interval c.requires.own c.requires.first c.counted_from-begin.ensures;
+      low = c.if-begin-lt2.false;
+      some = c.if-rounds-lt2.false;
+      top = omega (arith, top, c.period_of.ensures.value);
+      early = c.requires.place;
+    }
     (turned.counted.total ∙ ap (λ x. count (first_local c.args.parts.now.frequency (monday_zero c.args.parts.now.week_start) x)
     (is_chosen c.args.parts.now c.args.start)) turned.number)
 
