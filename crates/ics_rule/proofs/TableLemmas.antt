@@ -16,7 +16,7 @@ use Rattle.ics_rule.specs.RecurrencePeriods.{is_let_in}
 use Rattle.ics_rule.specs.Table.{Part, ByMonth, ByWeekNo, ByYearDay, ByMonthDay, ByDay, ByHour, ByMinute, BySecond, Cell, Limit, Expand}
 use Rattle.ics_rule.specs.ByTable.{Instance, Instances, instance_of, start_of, is_absent, is_listed, is_clockless, lists_nth_in, has_clock, own_instance}
 use Rattle.ics_rule.specs.ByTable.{apply_cell, apply, is_instance, IsAllowed}
-use Rattle.ics_rule.proofs.TableSteps.{or_assoc, limited, passed, expanded, week_expanded, noted, given, only_number, only_day, only_this_weekday, in_order}
+use Rattle.ics_rule.proofs.TableSteps.{or_assoc, limited, passed, expanded, week_expanded, noted, given, only_number, only_day, only_this_weekday, DateTests, ClockTests, in_order}
 use Rattle.ics_rule.proofs.TableSteps.{by_date, by_clock, by_subject}
 use Rattle.ics_rule.proofs.Tests.{last_part, third, self_test, keep_true, and_false}
 
@@ -188,19 +188,33 @@ module _ (r : Recurrence) where
     seconds_limited : (lets_part r BySecond i && true) ≡ lets (clock_part r.kind false r.parts.seconds (start_of r).second) i.second
     seconds_limited = clock_limited r.kind r.parts.seconds (start_of r).second i.second apart
 
-  -- Under DAILY and coarser: what the parts of the date let in, b to m in the order of the steps with what DTSTART gives, ow to od, and the clock.
-  whole : (dates : r.kind ≡ Date → r.start.second ≡ 0) (set : Instances) (i : Instance) (b d y ow w m per oe om od : Bool) {m' d' y' w' b' : Bool}
-      → set (hour_kept i) ≡ (b && (d && (y && (ow && (w && (m && (per && (oe && (om && (od && has_clock (start_of r) (hour_kept i)))))))))))
-      → (m && om) ≡ m' → (d && od) ≡ d' → y ≡ y' → w ≡ w' → (b && (ow && oe)) ≡ b'
-      → step Expand BySecond (step Expand ByMinute (step Expand ByHour set)) i
-      ≡ (per && ((((m' && d') && y') && w') && b' && (lets (clock_part r.kind true r.parts.hours (start_of r).hour) i.hour
-      && lets (clock_part r.kind true r.parts.minutes (start_of r).minute) i.minute
-      && lets (clock_part r.kind true r.parts.seconds (start_of r).second) i.second)))
-  whole dates set i b d y ow w m per oe om od steps month day year week weekday =
-      clock_daily set i ∙ ap (lets_clock_in i) steps
-      ∙ in_order (lets_part r BySecond i) (lets_part r ByMinute i) (lets_part r ByHour i) b d y ow w m per oe om od
-      ((hour_kept i).hour == (start_of r).hour) ((minute_kept i).minute == (start_of r).minute) ((second_kept i).second == (start_of r).second)
-      ∙ ap (λ x. per && x) (by_subject (by_date month day year week weekday) (by_clock (hours_given dates i) (minutes_given dates i) (seconds_given dates i)))
+  -- the tests of the clock, by where DTSTART gives the hour and the minute
+  abbrev clock_tests : Instance → Bool → Bool → Bool → ClockTests
+  clock_tests i hour minute second = record {
+    second = lets_part r BySecond i;
+    minute = lets_part r ByMinute i;
+    hour = lets_part r ByHour i;
+    own_hour = hour;
+    own_minute = minute;
+    own_second = second;
+  }
+
+  -- Under DAILY and coarser: what the parts of the date let in, with what DTSTART gives, and the clock.
+  module _ (dates : r.kind ≡ Date → r.start.second ≡ 0) (set : Instances) (i : Instance) (t : DateTests) where
+    whole : {m' d' y' w' b' : Bool}
+        → set (hour_kept i) ≡ (t.weekday && (t.month_day && (t.year_day && (t.week_weekday && (t.week && (t.month && (t.period && (t.own_weekday
+        && (t.own_month && (t.own_month_day && has_clock (start_of r) (hour_kept i)))))))))))
+        → (t.month && t.own_month) ≡ m' → (t.month_day && t.own_month_day) ≡ d' → t.year_day ≡ y' → t.week ≡ w'
+        → (t.weekday && (t.week_weekday && t.own_weekday)) ≡ b'
+        → step Expand BySecond (step Expand ByMinute (step Expand ByHour set)) i
+        ≡ (t.period && ((((m' && d') && y') && w') && b' && (lets (clock_part r.kind true r.parts.hours (start_of r).hour) i.hour
+        && lets (clock_part r.kind true r.parts.minutes (start_of r).minute) i.minute
+        && lets (clock_part r.kind true r.parts.seconds (start_of r).second) i.second)))
+    whole steps month day year week weekday =
+        clock_daily set i ∙ ap (lets_clock_in i) steps
+        ∙ in_order t (clock_tests i ((hour_kept i).hour == (start_of r).hour) ((minute_kept i).minute == (start_of r).minute)
+        ((second_kept i).second == (start_of r).second))
+        ∙ ap (λ x. t.period && x) (by_subject (by_date month day year week weekday) (by_clock (hours_given dates i) (minutes_given dates i) (seconds_given dates i)))
 
 -- ---- the date
 
@@ -230,6 +244,20 @@ limited_dates r i x set e =
     ∙ ap (λ z. lets_part r ByYearDay i && z) (passed (no_week r) (step r Limit ByMonth set i) ∙ limited (no_month r) (is_listed r ByMonth i) (set i)
     ∙ ap (λ z. lets_part r ByMonth i && z) e)))
 
+abbrev limited_tests : Recurrence → ℕ → Instance → DateTests
+limited_tests r p i = record {
+  weekday = lets_part r ByDay i;
+  month_day = lets_part r ByMonthDay i;
+  year_day = lets_part r ByYearDay i;
+  week_weekday = true;
+  week = true;
+  month = lets_part r ByMonth i;
+  period = i.period == p;
+  own_weekday = true;
+  own_month = true;
+  own_month_day = true;
+}
+
 module _ (rule : Recurrence) (allowed : IsAllowed (at Hourly rule)) (p n : ℕ) where
   hourly : is_instance (at Hourly rule) p n ≡ is_let_in (effective (at Hourly rule)) p n
   unfolding effective
@@ -237,9 +265,7 @@ module _ (rule : Recurrence) (allowed : IsAllowed (at Hourly rule)) (p n : ℕ) 
       let r = at Hourly rule in
       let i = instance_of r.parts n in
       clock_hourly r (set5 r p) i ∙ ap (lets_clock_in r i) (limited_dates r (minute_kept r i) (set0 r p (minute_kept r i)) (set0 r p) refl)
-      ∙ in_order (lets_part r BySecond i) (lets_part r ByMinute i) (lets_part r ByHour i) (lets_part r ByDay i) (lets_part r ByMonthDay i)
-      (lets_part r ByYearDay i) true true (lets_part r ByMonth i)
-      (i.period == p) true true true true ((minute_kept r i).minute == (start_of r).minute) ((second_kept r i).second == (start_of r).second)
+      ∙ in_order (limited_tests r p i) (clock_tests r i true ((minute_kept r i).minute == (start_of r).minute) ((second_kept r i).second == (start_of r).second))
       ∙ ap (λ x. (i.period == p) && x)
       (by_subject (by_date (keep_true (lets_part r ByMonth i)) (keep_true (lets_part r ByMonthDay i)) refl
       (absent (no_week r) (is_listed r ByWeekNo i) (allowed.parts ByWeekNo refl))
@@ -257,9 +283,7 @@ module _ (rule : Recurrence) (allowed : IsAllowed (at Minutely rule)) (p n : ℕ
       let r = at Minutely rule in
       let i = instance_of r.parts n in
       clock_minutely r (set5 r p) i ∙ ap (lets_clock_in r i) (limited_dates r (second_kept r i) (set0 r p (second_kept r i)) (set0 r p) refl)
-      ∙ in_order (lets_part r BySecond i) (lets_part r ByMinute i) (lets_part r ByHour i) (lets_part r ByDay i) (lets_part r ByMonthDay i)
-      (lets_part r ByYearDay i) true true (lets_part r ByMonth i)
-      (i.period == p) true true true true true ((second_kept r i).second == (start_of r).second)
+      ∙ in_order (limited_tests r p i) (clock_tests r i true true ((second_kept r i).second == (start_of r).second))
       ∙ ap (λ x. (i.period == p) && x)
       (by_subject (by_date (keep_true (lets_part r ByMonth i)) (keep_true (lets_part r ByMonthDay i)) refl
       (absent (no_week r) (is_listed r ByWeekNo i) (allowed.parts ByWeekNo refl))
@@ -277,9 +301,7 @@ module _ (rule : Recurrence) (allowed : IsAllowed (at Secondly rule)) (p n : ℕ
       let r = at Secondly rule in
       let i = instance_of r.parts n in
       clock_secondly r (set5 r p) i ∙ ap (lets_clock_in r i) (limited_dates r i (set0 r p i) (set0 r p) refl)
-      ∙ in_order (lets_part r BySecond i) (lets_part r ByMinute i) (lets_part r ByHour i) (lets_part r ByDay i) (lets_part r ByMonthDay i)
-      (lets_part r ByYearDay i) true true (lets_part r ByMonth i)
-      (i.period == p) true true true true true true
+      ∙ in_order (limited_tests r p i) (clock_tests r i true true true)
       ∙ ap (λ x. (i.period == p) && x)
       (by_subject (by_date (keep_true (lets_part r ByMonth i)) (keep_true (lets_part r ByMonthDay i)) refl
       (absent (no_week r) (is_listed r ByWeekNo i) (allowed.parts ByWeekNo refl))
@@ -306,8 +328,18 @@ module _ (rule : Recurrence) (allowed : IsAllowed (at Daily rule)) (p n : ℕ) w
   daily =
       let r = at Daily rule in
       let i = instance_of r.parts n in
-      whole r (λ date. (allowed.dates date).1) (set5 r p) i (lets_part r ByDay i) (lets_part r ByMonthDay i) true true true (lets_part r ByMonth i)
-      (i.period == p) true true true
+      whole r (λ date. (allowed.dates date).1) (set5 r p) i record {
+        weekday = lets_part r ByDay i;
+        month_day = lets_part r ByMonthDay i;
+        year_day = true;
+        week_weekday = true;
+        week = true;
+        month = lets_part r ByMonth i;
+        period = i.period == p;
+        own_weekday = true;
+        own_month = true;
+        own_month_day = true;
+      }
       (daily_dates (hour_kept r i))
       (keep_true (lets_part r ByMonth i)) (keep_true (lets_part r ByMonthDay i))
       (absent (no_year_day r) (is_listed r ByYearDay i) (allowed.parts ByYearDay refl))
@@ -362,8 +394,18 @@ module _ (rule : Recurrence) (allowed : IsAllowed (at Weekly rule)) (p n : ℕ) 
       let r = at Weekly rule in
       let i = instance_of r.parts n in
       let j = day_from r (no_weekday r) i in
-      whole r (λ date. (allowed.dates date).1) (set5 r p) i (lets_part r ByDay i) true true true true (lets_part r ByMonth j) (i.period == p)
-      (j.weekday == (start_of r).weekday) true true
+      whole r (λ date. (allowed.dates date).1) (set5 r p) i record {
+        weekday = lets_part r ByDay i;
+        month_day = true;
+        year_day = true;
+        week_weekday = true;
+        week = true;
+        month = lets_part r ByMonth j;
+        period = i.period == p;
+        own_weekday = j.weekday == (start_of r).weekday;
+        own_month = true;
+        own_month_day = true;
+      }
       (weekly_dates (hour_kept r i))
       (keep_true (lets_part r ByMonth j) ∙ month_kept (no_month r) (no_weekday r) (contains r.parts.months) (start_of r).month i.month)
       (absent (no_month_day r) (is_listed r ByMonthDay i) (allowed.parts ByMonthDay refl))
@@ -372,13 +414,14 @@ module _ (rule : Recurrence) (allowed : IsAllowed (at Weekly rule)) (p n : ℕ) 
       (weekly_weekday i ∙ sym (only_this_weekday (no_weekday r) r.parts.weekdays (start_of r).weekday i.weekday weekly_plain (λ e. refl)))
 
 -- MONTHLY: BYDAY keeps the day where it is absent or BYMONTHDAY is there
-monthly_day : (d y b w : Bool) (own n : ℕ) → y ≡ true → w ≡ true → (keep d own (keep (b || not d) own n) == own)
-    ≡ (if (d && y && b && w) then (n == own) else true)
-monthly_day true true true true own n p q = refl
-monthly_day true true false true own n p q = self_test own
-monthly_day false true b true own n p q = self_test own
-monthly_day d true b false own n p q = absurd (cc)
-monthly_day d false b w own n p q = absurd (cc)
+module _ (own n : ℕ) where
+  monthly_day : (d y b w : Bool) → y ≡ true → w ≡ true → (keep d own (keep (b || not d) own n) == own)
+      ≡ (if (d && y && b && w) then (n == own) else true)
+  monthly_day true true true true p q = refl
+  monthly_day true true false true p q = self_test own
+  monthly_day false true b true p q = self_test own
+  monthly_day d true b false p q = absurd (cc)
+  monthly_day d false b w p q = absurd (cc)
 
 monthly_month : (m d b : Bool) (test : ℕ → Bool) (own n : ℕ) → (m || test (back m d own (back m (b || not d) own n))) ≡ (m || test n)
 monthly_month true d b test own n = refl
@@ -388,11 +431,11 @@ monthly_month false false true test own n = refl
 monthly_month false false false test own n = refl
 
 -- where BYMONTHDAY is there, it is asked of the day as it is
-monthly_listed : (m d b : Bool) (test : ℕ → ℕ → Bool) (own_month own_day month day : ℕ)
-    → (d || test (back m (b || not d) own_month month) (keep (b || not d) own_day day)) ≡ (d || test month day)
-monthly_listed m true b test own_month own_day month day = refl
-monthly_listed m false true test own_month own_day month day = refl
-monthly_listed m false false test own_month own_day month day = refl
+module _ (test : ℕ → ℕ → Bool) (own_month own_day month day : ℕ) where
+  monthly_listed : (m d b : Bool) → (d || test (back m (b || not d) own_month month) (keep (b || not d) own_day day)) ≡ (d || test month day)
+  monthly_listed m true b = refl
+  monthly_listed m false true = refl
+  monthly_listed m false false = refl
 
 module _ (rule : Recurrence) (allowed : IsAllowed (at Monthly rule)) (p n : ℕ) where
   abbrev after_weekday : Instance → Instance
@@ -421,10 +464,11 @@ module _ (rule : Recurrence) (allowed : IsAllowed (at Monthly rule)) (p n : ℕ)
       ≡ lets_place (if takes_day then only_place (start_of rule).month_day else rule.parts.month_days) i.month_day (days_in_month (pos i.year) i.month)
   monthly_month_day i =
       let own = start_of rule in
-      ap (λ x. x && ((after_month_day i).month_day == own.month_day)) (monthly_listed (no_month rule) (no_month_day rule) (no_weekday rule)
-      (λ month day. lists rule.parts.month_days day (days_in_month (pos i.year) month)) own.month own.month_day i.month i.month_day)
+      ap (λ x. x && ((after_month_day i).month_day == own.month_day)) (monthly_listed
+      (λ month day. lists rule.parts.month_days day (days_in_month (pos i.year) month)) own.month own.month_day i.month i.month_day
+      (no_month rule) (no_month_day rule) (no_weekday rule))
       ∙ ap (λ x. lets_part rule ByMonthDay i && x)
-      (monthly_day (no_month_day rule) (no_year_day rule) (no_weekday rule) (no_week rule) own.month_day i.month_day
+      (monthly_day own.month_day i.month_day (no_month_day rule) (no_year_day rule) (no_weekday rule) (no_week rule)
       (allowed.parts ByYearDay refl) (allowed.parts ByWeekNo refl))
       ∙ given takes_day (lets_part rule ByMonthDay i) (i.month_day == own.month_day)
       (λ e. ap (λ b. b || is_listed rule ByMonthDay i) (first_true (no_month_day rule) (no_year_day rule) (no_weekday rule) (no_week rule) e))
@@ -436,9 +480,18 @@ module _ (rule : Recurrence) (allowed : IsAllowed (at Monthly rule)) (p n : ℕ)
       let r = at Monthly rule in
       let i = instance_of r.parts n in
       let j = after_month_day i in
-      whole r (λ date. (allowed.dates date).1) (set5 r p) i (lets_part r ByDay i) (lets_part r ByMonthDay (after_weekday i)) true true true
-      (lets_part r ByMonth j) (i.period == p)
-      true true (j.month_day == (start_of r).month_day)
+      whole r (λ date. (allowed.dates date).1) (set5 r p) i record {
+        weekday = lets_part r ByDay i;
+        month_day = lets_part r ByMonthDay (after_weekday i);
+        year_day = true;
+        week_weekday = true;
+        week = true;
+        month = lets_part r ByMonth j;
+        period = i.period == p;
+        own_weekday = true;
+        own_month = true;
+        own_month_day = j.month_day == (start_of r).month_day;
+      }
       (monthly_dates (hour_kept r i))
       (keep_true (lets_part r ByMonth j) ∙ monthly_month (no_month r) (no_month_day r) (no_weekday r) (contains r.parts.months) (start_of r).month i.month)
       (monthly_month_day i)
@@ -452,77 +505,79 @@ module _ (rule : Recurrence) (allowed : IsAllowed (at Monthly rule)) (p n : ℕ)
 abbrev yearly_kept : Bool → Bool → Bool → Bool
 yearly_kept d y b = b || not (y && d)
 
-abbrev yearly_back : Bool → Bool → Bool → Bool → Bool → ℕ → ℕ → ℕ
-yearly_back m d y b w own n = back m w own (back m y own (back m d own (back m (yearly_kept d y b) own n)))
+module _ (own n : ℕ) where
+  abbrev yearly_back : Bool → Bool → Bool → Bool → Bool → ℕ
+  yearly_back m d y b w = back m w own (back m y own (back m d own (back m (yearly_kept d y b) own n)))
 
-abbrev yearly_keep : Bool → Bool → Bool → ℕ → ℕ → ℕ
-yearly_keep d y b own n = keep y own (keep d own (keep (yearly_kept d y b) own n))
+  abbrev yearly_keep : Bool → Bool → Bool → ℕ
+  yearly_keep d y b = keep y own (keep d own (keep (yearly_kept d y b) own n))
 
--- beside BYMONTH the month is kept; else DTSTART gives it, and no more where a part speaks of the day
-yearly_beside : (d y b w : Bool) (own n : ℕ) → yearly_back false d y b w own n ≡ n
-yearly_beside d y b w own n =
-    same w (yearly_back false d y b true own n) ∙ same y (back false d own (back false (yearly_kept d y b) own n))
-    ∙ same d (back false (yearly_kept d y b) own n) ∙ same (yearly_kept d y b) n
-  where
-    same : (a : Bool) (x : ℕ) → back false a own x ≡ x
-    same true x = refl
-    same false x = refl
+  -- beside BYMONTH the month is kept; else DTSTART gives it, and no more where a part speaks of the day
+  yearly_beside : (d y b w : Bool) → yearly_back false d y b w ≡ n
+  yearly_beside d y b w =
+      same w (yearly_back false d y b true) ∙ same y (back false d own (back false (yearly_kept d y b) own n))
+      ∙ same d (back false (yearly_kept d y b) own n) ∙ same (yearly_kept d y b) n
+    where
+      same : (a : Bool) (x : ℕ) → back false a own x ≡ x
+      same true x = refl
+      same false x = refl
 
-yearly_open : (d y b : Bool) (own n : ℕ) → (yearly_keep d y b own n == own) ≡ (if (d && y && b) then (n == own) else true)
-yearly_open true true true own n = refl
-yearly_open true true false own n = self_test own
-yearly_open true false true own n = self_test own
-yearly_open true false false own n = self_test own
-yearly_open false true true own n = self_test own
-yearly_open false true false own n = self_test own
-yearly_open false false true own n = self_test own
-yearly_open false false false own n = self_test own
+  yearly_open : (d y b : Bool) → (yearly_keep d y b == own) ≡ (if (d && y && b) then (n == own) else true)
+  yearly_open true true true = refl
+  yearly_open true true false = self_test own
+  yearly_open true false true = self_test own
+  yearly_open true false false = self_test own
+  yearly_open false true true = self_test own
+  yearly_open false true false = self_test own
+  yearly_open false false true = self_test own
+  yearly_open false false false = self_test own
 
--- DTSTART's day of the month, where no part speaks of a day or week
-yearly_day : (d y b w : Bool) (own n : ℕ) → (keep w own (yearly_keep d y b own n) == own) ≡ (if (d && y && b && w) then (n == own) else true)
-yearly_day d y b true own n = yearly_open d y b own n ∙ ap (λ t. if t then (n == own) else true) (sym (keep_true (d && y && b)))
-yearly_day d y b false own n = self_test own ∙ ap (λ t. if t then (n == own) else true) (sym (and_false (d && y && b)))
+  -- DTSTART's day of the month, where no part speaks of a day or week
+  yearly_day : (d y b w : Bool) → (keep w own (yearly_keep d y b) == own) ≡ (if (d && y && b && w) then (n == own) else true)
+  yearly_day d y b true = yearly_open d y b ∙ ap (λ t. if t then (n == own) else true) (sym (keep_true (d && y && b)))
+  yearly_day d y b false = self_test own ∙ ap (λ t. if t then (n == own) else true) (sym (and_false (d && y && b)))
 
--- DTSTART's weekday in the weeks of BYWEEKNO, where no part speaks of a day
-yearly_own_weekday : (d y b w : Bool) (own n : ℕ) → (w || (yearly_keep d y b own n == own)) ≡ (if (d && y && b && not w) then (n == own) else true)
-yearly_own_weekday d y b true own n = ap (λ t. if t then (n == own) else true) (sym (and_false (d && y && b)))
-yearly_own_weekday d y b false own n = yearly_open d y b own n ∙ ap (λ t. if t then (n == own) else true) (sym (keep_true (d && y && b)))
+  -- DTSTART's weekday in the weeks of BYWEEKNO, where no part speaks of a day
+  yearly_own_weekday : (d y b w : Bool) → (w || (yearly_keep d y b == own)) ≡ (if (d && y && b && not w) then (n == own) else true)
+  yearly_own_weekday d y b true = ap (λ t. if t then (n == own) else true) (sym (and_false (d && y && b)))
+  yearly_own_weekday d y b false = yearly_open d y b ∙ ap (λ t. if t then (n == own) else true) (sym (keep_true (d && y && b)))
 
--- BYMONTH, and DTSTART's month where no other part speaks of the date
-yearly_month : (d y b w m : Bool) (test : ℕ → Bool) (own n : ℕ)
-    → ((m || test (yearly_back m d y b w own n)) && (keep m own (yearly_back m d y b w own n) == own))
-    ≡ ((m || test n) && (if (d && y && b && w && m) then (n == own) else true))
-yearly_month d y b w true test own n = yearly_day d y b w own n ∙ ap (λ t. if t then (n == own) else true) (sym (keep_true (d && y && b && w)))
-yearly_month d y b w false test own n =
-    ap (λ x. test (yearly_back false d y b w own n) && x) (self_test own) ∙ ap (λ x. test x && true) (yearly_beside d y b w own n)
-    ∙ ap (λ t. test n && (if t then (n == own) else true)) (sym (and_false (d && y && b && w)))
+  -- BYMONTH, and DTSTART's month where no other part speaks of the date
+  yearly_month : (d y b w m : Bool) (test : ℕ → Bool)
+      → ((m || test (yearly_back m d y b w)) && (keep m own (yearly_back m d y b w) == own))
+      ≡ ((m || test n) && (if (d && y && b && w && m) then (n == own) else true))
+  yearly_month d y b w true test = yearly_day d y b w ∙ ap (λ t. if t then (n == own) else true) (sym (keep_true (d && y && b && w)))
+  yearly_month d y b w false test =
+      ap (λ x. test (yearly_back false d y b w) && x) (self_test own) ∙ ap (λ x. test x && true) (yearly_beside d y b w)
+      ∙ ap (λ t. test n && (if t then (n == own) else true)) (sym (and_false (d && y && b && w)))
 
 -- where BYMONTHDAY is there, it is asked of the day as it is
-yearly_listed : (m d y b : Bool) (test : ℕ → ℕ → Bool) (own_month own_day month day : ℕ)
-    → (d || test (back m (yearly_kept d y b) own_month month) (keep (yearly_kept d y b) own_day day)) ≡ (d || test month day)
-yearly_listed m true y b test own_month own_day month day = refl
-yearly_listed m false true true test own_month own_day month day = refl
-yearly_listed m false true false test own_month own_day month day = refl
-yearly_listed m false false true test own_month own_day month day = refl
-yearly_listed m false false false test own_month own_day month day = refl
+module _ (test : ℕ → ℕ → Bool) (own_month own_day month day : ℕ) where
+  yearly_listed : (m d y b : Bool) → (d || test (back m (yearly_kept d y b) own_month month) (keep (yearly_kept d y b) own_day day)) ≡ (d || test month day)
+  yearly_listed m true y b = refl
+  yearly_listed m false true true = refl
+  yearly_listed m false true false = refl
+  yearly_listed m false false true = refl
+  yearly_listed m false false false = refl
 
 -- BYDAY counts in the unit of note 2
-yearly_numbers : (b w m months taken : Bool) (plain : Bool) (numbers : Ordinals) (i : Instance)
-    → (taken ≡ true → b ≡ true) → (taken ≡ false → months ≡ m) → (w ≡ false → lists_none numbers ≡ true)
-    → (b || (plain || lists_nth_in (if not w then Weekly else (if not m then Monthly else Yearly)) numbers i))
-    ≡ (b || plain || (if not w then not (lists_none numbers)
-    else (if not months then lists_nth numbers i.month_day (days_in_month (pos i.year) i.month) else lists_nth numbers i.year_day (days_in_year (pos i.year)))))
-yearly_numbers true w m months taken plain numbers i h k none = refl
-yearly_numbers false w m months true plain numbers i h k none = absurd (let e = h refl in cc)
-yearly_numbers false false m months false plain numbers i h k none = or_assoc false plain false ∙ ap (λ z. plain || z) (sym (ap not (none refl)))
-yearly_numbers false true m months false plain numbers i h k none =
-    ap (λ z. plain || lists_nth_in (if not z then Monthly else Yearly) numbers i) (sym (k refl)) ∙ counted months
-  where
-    counted : (a : Bool) → (plain || lists_nth_in (if not a then Monthly else Yearly) numbers i)
-        ≡ (plain || (if not a then lists_nth numbers i.month_day (days_in_month (pos i.year) i.month) else lists_nth numbers i.year_day
-        (days_in_year (pos i.year))))
-    counted true = refl
-    counted false = refl
+module _ (plain : Bool) (numbers : Ordinals) (i : Instance) where
+  yearly_numbers : (b w taken : Bool) {m months : Bool}
+      → (taken ≡ true → b ≡ true) → (taken ≡ false → months ≡ m) → (w ≡ false → lists_none numbers ≡ true)
+      → (b || (plain || lists_nth_in (if not w then Weekly else (if not m then Monthly else Yearly)) numbers i))
+      ≡ (b || plain || (if not w then not (lists_none numbers)
+      else (if not months then lists_nth numbers i.month_day (days_in_month (pos i.year) i.month) else lists_nth numbers i.year_day (days_in_year (pos i.year)))))
+  yearly_numbers true w taken h k none = refl
+  yearly_numbers false w true h k none = absurd (let e = h refl in cc)
+  yearly_numbers false false false h k none = or_assoc false plain false ∙ ap (λ z. plain || z) (sym (ap not (none refl)))
+  yearly_numbers false true false {months = months} h k none =
+      ap (λ z. plain || lists_nth_in (if not z then Monthly else Yearly) numbers i) (sym (k refl)) ∙ counted months
+    where
+      counted : (a : Bool) → (plain || lists_nth_in (if not a then Monthly else Yearly) numbers i)
+          ≡ (plain || (if not a then lists_nth numbers i.month_day (days_in_month (pos i.year) i.month) else lists_nth numbers i.year_day
+          (days_in_year (pos i.year))))
+      counted true = refl
+      counted false = refl
 
 week_unit : (w m : Bool) → w ≡ false → ◌≡◌ {A = Frequency} (if not w then Weekly else (if not m then Monthly else Yearly)) Weekly
 week_unit true m h = absurd (cc)
@@ -583,8 +638,8 @@ module _ (rule : Recurrence) (allowed : IsAllowed (at Yearly rule)) (p n : ℕ) 
   yearly_months : (i : Instance) → (lets_part rule ByMonth (after_week i) && ((after_month i).month == (start_of rule).month))
       ≡ lets (if takes_this_month then only (start_of rule).month else rule.parts.months) i.month
   yearly_months i =
-      yearly_month (no_month_day rule) (no_year_day rule) (no_weekday rule) (no_week rule) (no_month rule) (contains rule.parts.months) (start_of rule).month
-      i.month
+      yearly_month (start_of rule).month i.month (no_month_day rule) (no_year_day rule) (no_weekday rule) (no_week rule) (no_month rule)
+      (contains rule.parts.months)
       ∙ given takes_this_month (lets_part rule ByMonth i) (i.month == (start_of rule).month)
       (λ e. ap (λ b. b || is_listed rule ByMonth i) (last_part takes_this_day (no_month rule) e))
       ∙ sym (only_number takes_this_month rule.parts.months (start_of rule).month i.month)
@@ -593,10 +648,11 @@ module _ (rule : Recurrence) (allowed : IsAllowed (at Yearly rule)) (p n : ℕ) 
       ≡ lets_place (if takes_this_day then only_place (start_of rule).month_day else rule.parts.month_days) i.month_day (days_in_month (pos i.year) i.month)
   yearly_month_days i =
       ap (λ x. x && ((after_month i).month_day == (start_of rule).month_day))
-      (yearly_listed (no_month rule) (no_month_day rule) (no_year_day rule) (no_weekday rule)
-      (λ month day. lists rule.parts.month_days day (days_in_month (pos i.year) month)) (start_of rule).month (start_of rule).month_day i.month i.month_day)
+      (yearly_listed
+      (λ month day. lists rule.parts.month_days day (days_in_month (pos i.year) month)) (start_of rule).month (start_of rule).month_day i.month i.month_day
+      (no_month rule) (no_month_day rule) (no_year_day rule) (no_weekday rule))
       ∙ ap (λ x. lets_part rule ByMonthDay i && x)
-      (yearly_day (no_month_day rule) (no_year_day rule) (no_weekday rule) (no_week rule) (start_of rule).month_day i.month_day)
+      (yearly_day (start_of rule).month_day i.month_day (no_month_day rule) (no_year_day rule) (no_weekday rule) (no_week rule))
       ∙ given takes_this_day (lets_part rule ByMonthDay i) (i.month_day == (start_of rule).month_day)
       (λ e. ap (λ b. b || is_listed rule ByMonthDay i) (first_true (no_month_day rule) (no_year_day rule) (no_weekday rule) (no_week rule) e))
       ∙ sym (only_day takes_this_day rule.parts.month_days (start_of rule).month_day i.month_day (days_in_month (pos i.year) i.month))
@@ -613,9 +669,8 @@ module _ (rule : Recurrence) (allowed : IsAllowed (at Yearly rule)) (p n : ℕ) 
       → lets_part (at Yearly rule) ByDay i
       ≡ (no_weekday rule || contains rule.parts.weekdays.plain i.weekday || yearly_nth i (numbers_of rule.parts.weekdays i.weekday))
   yearly_days i =
-      yearly_numbers (no_weekday rule) (no_week rule) (no_month rule) (is_empty (if takes_this_month then only (start_of rule).month else rule.parts.months))
+      yearly_numbers (contains rule.parts.weekdays.plain i.weekday) (numbers_of rule.parts.weekdays i.weekday) i (no_weekday rule) (no_week rule)
       takes_this_month
-      (contains rule.parts.weekdays.plain i.weekday) (numbers_of rule.parts.weekdays i.weekday) i
       (λ e. third (no_month_day rule) (no_year_day rule) (no_weekday rule) (no_week rule) (fore_true takes_this_day (no_month rule) e))
       (months_taken takes_this_month (start_of rule).month rule.parts.months)
       (λ e. allowed.numbers (week_unit (no_week rule) (no_month rule) e) i.weekday)
@@ -626,7 +681,7 @@ module _ (rule : Recurrence) (allowed : IsAllowed (at Yearly rule)) (p n : ℕ) 
       || yearly_nth i (numbers_of (if takes_this_weekday then only_weekday (start_of rule).weekday else rule.parts.weekdays) i.weekday))
   yearly_weekdays i =
       ap (λ x. lets_part (at Yearly rule) ByDay i && x) (keep_true (no_week rule || own_weekday i)
-      ∙ yearly_own_weekday (no_month_day rule) (no_year_day rule) (no_weekday rule) (no_week rule) (start_of rule).weekday i.weekday)
+      ∙ yearly_own_weekday (start_of rule).weekday i.weekday (no_month_day rule) (no_year_day rule) (no_weekday rule) (no_week rule))
       ∙ given takes_this_weekday (lets_part (at Yearly rule) ByDay i) (i.weekday == (start_of rule).weekday)
       (λ e. ap (λ b. b || is_listed (at Yearly rule) ByDay i) (third (no_month_day rule) (no_year_day rule) (no_weekday rule) (not (no_week rule)) e))
       ∙ ap (λ x. if takes_this_weekday then (i.weekday == (start_of rule).weekday) else x) (yearly_days i)
@@ -644,9 +699,18 @@ module _ (rule : Recurrence) (allowed : IsAllowed (at Yearly rule)) (p n : ℕ) 
       let r = at Yearly rule in
       let i = instance_of r.parts n in
       let k = hour_kept r i in
-      whole r (λ date. (allowed.dates date).1) (set5 r p) i (lets_part r ByDay k) (lets_part r ByMonthDay (after_day i)) (lets_part r ByYearDay i)
-      (no_week r || own_weekday i) (lets_part r ByWeekNo i) (lets_part r ByMonth (after_week i)) (i.period == p)
-      true ((after_month i).month == (start_of r).month) ((after_month i).month_day == (start_of r).month_day)
+      whole r (λ date. (allowed.dates date).1) (set5 r p) i record {
+        weekday = lets_part r ByDay k;
+        month_day = lets_part r ByMonthDay (after_day i);
+        year_day = lets_part r ByYearDay i;
+        week_weekday = no_week r || own_weekday i;
+        week = lets_part r ByWeekNo i;
+        month = lets_part r ByMonth (after_week i);
+        period = i.period == p;
+        own_weekday = true;
+        own_month = (after_month i).month == (start_of r).month;
+        own_month_day = (after_month i).month_day == (start_of r).month_day;
+      }
       (yearly_dates k) (yearly_months i) (yearly_month_days i) refl refl (yearly_weekdays k)
 
 -- by the frequency of the rule

@@ -11,7 +11,7 @@ use Rattle.ics_rule.specs.EffectiveRules.{only_place, only_weekday}
 use Rattle.ics_rule.specs.Candidates.{lets, lets_place}
 use Rattle.ics_rule.specs.ByTable.{Instance, Instances}
 use Rattle.ics_rule.proofs.ScanLemmas.{contains-only}
-use Rattle.ics_rule.proofs.Tests.{keep_true, or_false, and_false}
+use Rattle.ics_rule.proofs.Tests.{keep_true, or_false, and_false, and_assoc}
 
 pub or_assoc : (a b c : Bool) → (a || (b || c)) ≡ (a || b || c)
 or_assoc true b c = refl
@@ -86,26 +86,103 @@ pub only_this_weekday : (t : Bool) (ws : Weekdays) (own n : ℕ) (test : Ordinal
 only_this_weekday true ws own n test h = rw (none_only own, no_number n, h refl, contains-only own n) (or_false (n == own))
 only_this_weekday false ws own n test h = refl
 
+-- what the parts of the date let in, by the instance as each finds it, and what DTSTART gives
+pub record DateTests : Type 0 where
+  pub weekday : Bool
+  pub month_day : Bool
+  pub year_day : Bool
+  pub week_weekday : Bool
+  pub week : Bool
+  pub month : Bool
+  pub period : Bool
+  pub own_weekday : Bool
+  pub own_month : Bool
+  pub own_month_day : Bool
+
+-- the same for the clock
+pub record ClockTests : Type 0 where
+  pub second : Bool
+  pub minute : Bool
+  pub hour : Bool
+  pub own_hour : Bool
+  pub own_minute : Bool
+  pub own_second : Bool
+
+-- five tests and what follows them
+five : (a b c d e x : Bool) → (a && (b && (c && (d && (e && x))))) ≡ ((a && (b && (c && (d && e)))) && x)
+five true true true true e x = refl
+five true true true false e x = refl
+five true true false d e x = refl
+five true false c d e x = refl
+five false b c d e x = refl
+
+-- the clock's three tests behind the date's
+clock_last : (s m h a b c : Bool) → (s && (m && (h && (a && (b && c))))) ≡ ((a && b) && ((s && (m && h)) && c))
+clock_last true true true a b c = sym (and_assoc a b c)
+clock_last false m h a b c = sym (and_false (a && b))
+clock_last true false h a b c = sym (and_false (a && b))
+clock_last true true false a b c = sym (and_false (a && b))
+
+clock_pairs : (s m h a b c : Bool) → ((s && (m && h)) && (a && (b && c))) ≡ (((h && a) && (m && b)) && (s && c))
+clock_pairs true true true a b c = sym (and_assoc a b c)
+clock_pairs false m h a b c = sym (and_false ((h && a) && (m && b)))
+clock_pairs true false true a b c = sym (ap (λ x. x && c) (and_false a))
+clock_pairs true false false a b c = refl
+clock_pairs true true false a b c = refl
+
+weekday_first : (b d y o w : Bool) → (b && (d && (y && (o && w)))) ≡ ((b && o) && (d && (y && w)))
+weekday_first true true true o w = refl
+weekday_first true true false o w = sym (and_false o)
+weekday_first true false y o w = sym (and_false o)
+weekday_first false d y o w = refl
+
+period_first : (m p e o d : Bool) → (m && (p && (e && (o && d)))) ≡ (p && (e && (m && (o && d))))
+period_first true p e o d = refl
+period_first false true true o d = refl
+period_first false true false o d = refl
+period_first false false e o d = refl
+
+date_first : (a d p e m : Bool) → ((a && d) && (p && (e && m))) ≡ (p && ((d && m) && (a && e)))
+date_first true d true true m = sym (keep_true (d && m))
+date_first true d true false m = and_false d ∙ sym (and_false (d && m))
+date_first true d false e m = and_false d
+date_first false d true e m = sym (and_false (d && m))
+date_first false d false e m = refl
+
+day_pairs : (d y w m o e : Bool) → ((d && (y && w)) && (m && (o && e))) ≡ ((((m && o) && (d && e)) && y) && w)
+day_pairs true true true true o e = sym (keep_true ((o && e) && true) ∙ keep_true (o && e))
+day_pairs true true true false o e = refl
+day_pairs true true false m o e = sym (and_false (((m && o) && e) && true))
+day_pairs true false w m o e = sym (ap (λ x. x && w) (and_false ((m && o) && e)))
+day_pairs false y w m o e = sym (ap (λ x. (x && y) && w) (and_false (m && o)))
+
 -- the tests in the order of the steps, and by subject
-pub in_order : (s mi h b d y ow w m per oe om od ch cmi cs : Bool)
-    → (s && (mi && (h && (b && (d && (y && (ow && (w && (m && (per && (oe && (om && (od && (ch && (cmi && cs)))))))))))))))
-    ≡ (per && (((((m && om) && (d && od)) && y) && w) && (b && (ow && oe)) && (((h && ch) && (mi && cmi)) && (s && cs))))
-in_order false mi h b d y ow w m per oe om od ch cmi cs = simp and_false refl
-in_order true false h b d y ow w m per oe om od ch cmi cs = simp and_false refl
-in_order true true false b d y ow w m per oe om od ch cmi cs = simp and_false refl
-in_order true true true false d y ow w m per oe om od ch cmi cs = simp and_false refl
-in_order true true true true false y ow w m per oe om od ch cmi cs = simp and_false refl
-in_order true true true true true false ow w m per oe om od ch cmi cs = simp and_false refl
-in_order true true true true true true false w m per oe om od ch cmi cs = simp and_false refl
-in_order true true true true true true true false m per oe om od ch cmi cs = simp and_false refl
-in_order true true true true true true true true false per oe om od ch cmi cs = simp and_false refl
-in_order true true true true true true true true true false oe om od ch cmi cs = refl
-in_order true true true true true true true true true true false om od ch cmi cs = simp and_false refl
-in_order true true true true true true true true true true true false od ch cmi cs = refl
-in_order true true true true true true true true true true true true false ch cmi cs = refl
-in_order true true true true true true true true true true true true true false cmi cs = refl
-in_order true true true true true true true true true true true true true true false cs = refl
-in_order true true true true true true true true true true true true true true true cs = refl
+pub in_order : (d : DateTests) (c : ClockTests)
+    → (c.second && (c.minute && (c.hour && (d.weekday && (d.month_day && (d.year_day && (d.week_weekday && (d.week && (d.month && (d.period
+    && (d.own_weekday && (d.own_month && (d.own_month_day && (c.own_hour && (c.own_minute && c.own_second)))))))))))))))
+    ≡ (d.period && (((((d.month && d.own_month) && (d.month_day && d.own_month_day)) && d.year_day) && d.week)
+    && (d.weekday && (d.week_weekday && d.own_weekday)) && (((c.hour && c.own_hour) && (c.minute && c.own_minute)) && (c.second && c.own_second))))
+in_order d c =
+    let clock = c.own_hour && (c.own_minute && c.own_second) in
+    let fore = d.weekday && (d.month_day && (d.year_day && (d.week_weekday && d.week))) in
+    let rest = d.month && (d.period && (d.own_weekday && (d.own_month && d.own_month_day))) in
+    let days = d.month_day && (d.year_day && d.week) in
+    let months = d.month && (d.own_month && d.own_month_day) in
+    let weekdays = d.weekday && d.week_weekday in
+    ap (λ x. c.second && (c.minute && (c.hour && (d.weekday && (d.month_day && (d.year_day && (d.week_weekday && (d.week && x))))))))
+    (five d.month d.period d.own_weekday d.own_month d.own_month_day clock)
+    ∙ ap (λ x. c.second && (c.minute && (c.hour && x))) (five d.weekday d.month_day d.year_day d.week_weekday d.week (rest && clock))
+    ∙ clock_last c.second c.minute c.hour fore rest clock
+    ∙ ap (λ x. (fore && rest) && x) (clock_pairs c.second c.minute c.hour c.own_hour c.own_minute c.own_second)
+    ∙ ap (λ x. x && (((c.hour && c.own_hour) && (c.minute && c.own_minute)) && (c.second && c.own_second)))
+    (ap (λ x. x && rest) (weekday_first d.weekday d.month_day d.year_day d.week_weekday d.week)
+    ∙ ap (λ x. (weekdays && days) && x) (period_first d.month d.period d.own_weekday d.own_month d.own_month_day)
+    ∙ date_first weekdays days d.period d.own_weekday months
+    ∙ ap (λ x. d.period && (x && (weekdays && d.own_weekday))) (day_pairs d.month_day d.year_day d.week d.month d.own_month d.own_month_day)
+    ∙ ap (λ x. d.period && (((((d.month && d.own_month) && (d.month_day && d.own_month_day)) && d.year_day) && d.week) && x))
+    (and_assoc d.weekday d.week_weekday d.own_weekday))
+    ∙ and_assoc d.period (((((d.month && d.own_month) && (d.month_day && d.own_month_day)) && d.year_day) && d.week)
+    && (d.weekday && (d.week_weekday && d.own_weekday))) (((c.hour && c.own_hour) && (c.minute && c.own_minute)) && (c.second && c.own_second))
 
 pub by_date : {m m' d d' y y' w w' b b' : Bool} → m ≡ m' → d ≡ d' → y ≡ y' → w ≡ w' → b ≡ b' → (m && d && y && w && b) ≡ (m' && d' && y' && w' && b')
 by_date m d y w b = rw (m, d, y, w, b) refl

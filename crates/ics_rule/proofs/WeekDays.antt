@@ -74,40 +74,41 @@ unfolding year_day_of
 year_day_is f y h = rw h refl
 
 -- a week of the year that is listed, by the place of its fourth day in the year
-listed_week : (q : EffectiveRule) (some : lists_none q.weeks ≡ false) {f y : ℕ} (j : ℕ) → year_of f ≡ y → f ≡ days_before_year y + j → j < days_in_year (pos y)
-    → lets_place q.weeks (week_number f) (weeks_of_year f) ≡ true → may_list_week q.weeks (j / 7 + 1) ≡ true
-listed_week q some {f = f} {y = y} j year place inside h =
-    let day : year_day_of f - 1 ≡ j = (let d = year_day_is f y year in omega (arith, d, place)) in
-    let bounds = days_in_year_bounds (pos y) in
-    let number : week_number f ≡ j / 7 + 1 = ap (λ x. x / 7 + 1) day in
-    let weeks : weeks_of_year f ≡ (days_in_year (pos y) - 1 - j % 7) / 7 + 1 = ap (λ x. (days_in_year (pos x) - 1 - (year_day_of f - 1) % 7) / 7 + 1) year
-    ∙ ap (λ x. (days_in_year (pos y) - 1 - x % 7) / 7 + 1) day in
-    let own : lets_place q.weeks (j / 7 + 1) ((days_in_year (pos y) - 1 - j % 7) / 7 + 1) ≡ true =
-    ap (λ n. lets_place q.weeks n ((days_in_year (pos y) - 1 - j % 7) / 7 + 1)) (sym number) ∙ ap (lets_place q.weeks (week_number f)) (sym weeks) ∙ h in
-    elim (cases_lt ((days_in_year (pos y) - 1 - j % 7) / 7 + 1) 53) [
-      | inl fewer ↦ let back : (days_in_year (pos y) - 1 - j % 7) / 7 + 1 + 1 - (j / 7 + 1) ≡ 53 - (j / 7 + 1) = omega (arith, fewer, bounds.0, bounds.1) in
-          first (lists_none q.weeks) (contains q.weeks.front (j / 7 + 1)) (contains q.weeks.back (53 - (j / 7 + 1))) (contains q.weeks.back (54 - (j / 7 + 1)))
-          some
-          (ap (λ x. lists_none q.weeks || (contains q.weeks.front (j / 7 + 1) || contains q.weeks.back x)) (sym back) ∙ own)
-      | inr more ↦ let back : (days_in_year (pos y) - 1 - j % 7) / 7 + 1 + 1 - (j / 7 + 1) ≡ 54 - (j / 7 + 1) = omega (arith, more, bounds.0, bounds.1) in
-          second (lists_none q.weeks) (contains q.weeks.front (j / 7 + 1)) (contains q.weeks.back (53 - (j / 7 + 1))) (contains q.weeks.back (54 - (j / 7 + 1)))
-          some
-          (ap (λ x. lists_none q.weeks || (contains q.weeks.front (j / 7 + 1) || contains q.weeks.back x)) (sym back) ∙ own)
-    ]
-  where
-    first : (n a b c : Bool) → n ≡ false → (n || (a || b)) ≡ true → (a || b || c) ≡ true
-    first true a b c h l = absurd (cc)
-    first false true b c h l = refl
-    first false false true c h l = refl
-    first false false false c h l = absurd (cc)
+module _ (q : EffectiveRule) (some : lists_none q.weeks ≡ false) where
+  listed_week : {f y : ℕ} (j : ℕ) → year_of f ≡ y → f ≡ days_before_year y + j → j < days_in_year (pos y)
+      → lets_place q.weeks (week_number f) (weeks_of_year f) ≡ true → may_list_week q.weeks (j / 7 + 1) ≡ true
+  listed_week {f = f} {y = y} j year place inside h =
+      let day : year_day_of f - 1 ≡ j = (let d = year_day_is f y year in omega (arith, d, place)) in
+      let bounds = days_in_year_bounds (pos y) in
+      let number : week_number f ≡ j / 7 + 1 = ap (λ x. x / 7 + 1) day in
+      let weeks : weeks_of_year f ≡ (days_in_year (pos y) - 1 - j % 7) / 7 + 1 = ap (λ x. (days_in_year (pos x) - 1 - (year_day_of f - 1) % 7) / 7 + 1) year
+      ∙ ap (λ x. (days_in_year (pos y) - 1 - x % 7) / 7 + 1) day in
+      let own : lets_place q.weeks (j / 7 + 1) ((days_in_year (pos y) - 1 - j % 7) / 7 + 1) ≡ true =
+      ap (λ n. lets_place q.weeks n ((days_in_year (pos y) - 1 - j % 7) / 7 + 1)) (sym number) ∙ ap (lets_place q.weeks (week_number f)) (sym weeks) ∙ h in
+      elim (cases_lt ((days_in_year (pos y) - 1 - j % 7) / 7 + 1) 53) [
+        | inl fewer ↦ let back : (days_in_year (pos y) - 1 - j % 7) / 7 + 1 + 1 - (j / 7 + 1) ≡ 53 - (j / 7 + 1) = omega (arith, fewer, bounds.0, bounds.1) in
+            first (lists_none q.weeks) (contains q.weeks.front (j / 7 + 1)) (contains q.weeks.back (53 - (j / 7 + 1))) (contains q.weeks.back (54 - (j / 7 + 1)))
+            some
+            (ap (λ x. lists_none q.weeks || (contains q.weeks.front (j / 7 + 1) || contains q.weeks.back x)) (sym back) ∙ own)
+        | inr more ↦ let back : (days_in_year (pos y) - 1 - j % 7) / 7 + 1 + 1 - (j / 7 + 1) ≡ 54 - (j / 7 + 1) = omega (arith, more, bounds.0, bounds.1) in
+            second (lists_none q.weeks) (contains q.weeks.front (j / 7 + 1)) (contains q.weeks.back (53 - (j / 7 + 1))) (contains q.weeks.back (54 - (j / 7 + 1)))
+            some
+            (ap (λ x. lists_none q.weeks || (contains q.weeks.front (j / 7 + 1) || contains q.weeks.back x)) (sym back) ∙ own)
+      ]
+    where
+      first : (n a b c : Bool) → n ≡ false → (n || (a || b)) ≡ true → (a || b || c) ≡ true
+      first true a b c h l = absurd (cc)
+      first false true b c h l = refl
+      first false false true c h l = refl
+      first false false false c h l = absurd (cc)
 
-    second : (n a b c : Bool) → n ≡ false → (n || (a || c)) ≡ true → (a || b || c) ≡ true
-    second true a b c h l = absurd (cc)
-    second false true b c h l = refl
-    second false false true true h l = refl
-    second false false true false h l = refl
-    second false false false true h l = refl
-    second false false false false h l = absurd (cc)
+      second : (n a b c : Bool) → n ≡ false → (n || (a || c)) ≡ true → (a || b || c) ≡ true
+      second true a b c h l = absurd (cc)
+      second false true b c h l = refl
+      second false false true true h l = refl
+      second false false true false h l = refl
+      second false false false true h l = refl
+      second false false false false h l = absurd (cc)
 
 -- a year of so many days from a first, of a rule with BYWEEKNO; the fourth day of the first whole week comes `fourth` days after the year's first
 pub record IsYearOfWeeks (q : EffectiveRule) (first len fourth : ℕ) : Type 0 where
