@@ -1,10 +1,8 @@
 pub mod DayLemmas
 pub mod DateLemmas
-pub mod FormLemmas
 pub mod ShapeLemmas
 pub mod SetLemmas
 pub mod PlaceLemmas
-pub mod UntilLemmas
 pub mod RuleLemmas
 pub mod SaysLemmas
 pub mod ListedLemmas
@@ -12,7 +10,6 @@ pub mod RuleSays
 pub mod AbsentLemmas
 pub mod RuleExamples
 pub mod StampLemmas
-pub mod LocalLemmas
 pub mod TextLemmas
 pub mod LawLemmas
 pub mod Examples

@@ -1,24 +1,98 @@
--- The day of a stamp.
-use Rattle.std.proofs.Common.{◌≡◌, ℕ, suc, ◌-◌, ◌≤◌, Bool, true, false, nat_le, ◌&&◌, ◌||◌, ◌==◌, List, length, refl, sym, arith, pos, ◌+◌, ◌<◌, ◌-ℤ◌}
+-- The form of a stamp's text, the day that it says, and the day of an UNTIL.
+use Rattle.std.proofs.Common.{◌≡◌, ℕ, zero, suc, Bool, true, false, ◌==◌, ◌&&◌, ◌||◌, List, [], ◌∷◌, length, take, drop, refl, arith, ◌-◌, ◌≤◌, nat_le, sym}
+use Rattle.std.proofs.Common.{pos, ◌+◌, ◌<◌, ◌-ℤ◌, cond}
 use Rattle.std.specs.Prelude.{not, Ok, Err, if◌then◌else◌}
+use Rattle.std.specs.List.{list_all}
+use Rattle.std.proofs.lemmas.Bool.{eqb-true, and_parts, leb-true}
+use Rattle.std.proofs.lemmas.List.{drop-take, take-take}
+use Rattle.ics_values.specs.Digits.{is_digit, are_digits, letter_at, number_at}
+use Rattle.ics_values.specs.Stamps.{is_date_form, is_local_form, is_utc_form, is_date_time_form, HasDate, HasTime, year_of, date_exists, day_of, local_of}
+use Rattle.ics_values.specs.Stamps.{time_exists, is_stamp_text, stamp_said, stamp_day, is_stamp_year, stamp_of, IsDayOf, IsStampDay}
 use Rattle.std.proofs.lemmas.Int.{ints}
-use Rattle.std.proofs.lemmas.Bool.{and_parts, leb-true}
 use Rattle.std.proofs.lemmas.Bool.Decides.{nat_tests}
-use Rattle.jiff_core.specs.Calendar.{days_in_year, day_of_year, IsYear}
-use Rattle.jiff_core.proofs.CalendarLemmas.{day_of_year_bound}
-use Rattle.ics_values.specs.Digits.{number_at, are_digits}
+use Rattle.jiff_core.specs.Calendar.{days_in_year, day_of_year, IsYear, IsCivilDate}
+use Rattle.jiff_core.proofs.CalendarLemmas.{day_of_year_bound, days_from_civil-day_count, day_count_bounds}
 use Rattle.ics_values.specs.Dates.{is_date, day_number, days_before_month}
-use Rattle.ics_values.specs.Stamps.{year_of, date_exists, day_of, local_of, time_exists, is_date_form, is_utc_form, is_local_form, is_date_time_form}
-use Rattle.ics_values.specs.Stamps.{is_stamp_text, stamp_said, stamp_day, is_stamp_year, stamp_of, IsDayOf, IsStampDay}
 use Rattle.ics_values.specs.Periods.{IsDateTime}
 use Rattle.ics_values.specs.declared.stamp.StampFault.TheVariants.{BadStamp, YearRange}
-use Rattle.ics_values.proofs.FormLemmas.{utc_parts, local_long}
 use Rattle.ics_values.specs.declared.stamp.Stamp.{Stamp}
 use Rattle.ics_values.specs.declared.stamp.Stamp.TheVariants.{Date, Floating, Utc, Zoned}
-use Rattle.ics_values.specs.Days.{days_before_year}
+use Rattle.ics_values.specs.Days.{days_before_year, IsDayNumber}
 use Rattle.ics_values.proofs.DayLemmas.{days_before_year-next, days_before_year_mono}
-use Rattle.ics_values.proofs.DateLemmas.{parts, days_of-months}
+use Rattle.ics_values.proofs.DateLemmas.{parts, days_of-months, day_number-days_from_civil}
 use Rattle.ics_values.proofs.LawLemmas.{is_jiffs}
+use Rattle.jiff_core.proofs.SignedLemmas.{signed_arith}
+use Rattle.ics_values.specs.RuleParts.{IsUntil}
+use Rattle.ics_values.specs.RuleTexts.{until_said}
+
+list_all-take : (p : ℕ → Bool) (xs : List ℕ) (n : ℕ) → list_all p xs ≡ true → list_all p (take n xs) ≡ true
+list_all-take p [] zero h = refl
+list_all-take p [] (suc n) h = refl
+list_all-take p (x ∷ xs) zero h = refl
+list_all-take p (x ∷ xs) (suc n) h = let parts = and_parts (p x) (list_all p xs) h in rw parts.0 (list_all-take p xs n parts.1)
+
+digits_of : (text : List ℕ) → are_digits text ≡ true → list_all is_digit text ≡ true
+digits_of text h = (and_parts (not (length text == 0)) (list_all is_digit text) h).1
+
+record LocalParts (text : List ℕ) : Type 0 where
+  pub long : length text ≡ 15
+  pub date : list_all is_digit (take 8 text) ≡ true
+  pub time : list_all is_digit (drop 9 text) ≡ true
+
+local_parts : (text : List ℕ) → is_local_form text ≡ true → LocalParts text
+local_parts text h =
+    let a = and_parts ((length text == 15) && are_digits (take 8 text) && (letter_at text 8 == 84)) (are_digits (drop 9 text)) h in
+    let b = and_parts ((length text == 15) && are_digits (take 8 text)) (letter_at text 8 == 84) a.0 in
+    let c = and_parts (length text == 15) (are_digits (take 8 text)) b.0 in
+    record { long = eqb-true (length text) 15 c.0; date = digits_of (take 8 text) c.1; time = digits_of (drop 9 text) a.1 }
+
+pub date_digits : (text : List ℕ) → is_date_form text ≡ true → HasDate text
+date_digits text h =
+    let a = and_parts (length text == 8) (are_digits text) h in
+    let long = eqb-true (length text) 8 a.0 in
+    record { long = omega (arith, long); digits = list_all-take is_digit text 8 (digits_of text a.1) }
+
+pub local_long : (text : List ℕ) → is_local_form text ≡ true → length text ≡ 15
+local_long text h = (local_parts text h).long
+
+pub local_date : (text : List ℕ) → is_local_form text ≡ true → HasDate text
+local_date text h = let p = local_parts text h in record { long = omega (arith, p.long); digits = p.date }
+
+pub local_time : (text : List ℕ) → is_local_form text ≡ true → HasTime text
+local_time text h = let p = local_parts text h in record { long = omega (arith, p.long); digits = list_all-take is_digit (drop 9 text) 6 p.time }
+
+pub utc_parts : (text : List ℕ) → is_utc_form text ≡ true → (length text ≡ 16) × (is_local_form (take 15 text) ≡ true)
+utc_parts text h =
+    let a = and_parts ((length text == 16) && is_local_form (take 15 text)) (letter_at text 15 == 90) h in
+    let b = and_parts (length text == 16) (is_local_form (take 15 text)) a.0 in
+    (eqb-true (length text) 16 b.0, b.1)
+
+pub utc_date : (text : List ℕ) → is_utc_form text ≡ true → HasDate text
+utc_date text h =
+    let u = utc_parts text h in
+    let p = local_parts (take 15 text) u.1 in
+    record { long = omega (arith, u.0); digits = rw (take-take 8 15 text (omega arith)) at p.date }
+
+pub utc_time : (text : List ℕ) → is_utc_form text ≡ true → HasTime text
+utc_time text h =
+    let u = utc_parts text h in
+    let p = local_parts (take 15 text) u.1 in
+    record { long = omega (arith, u.0); digits = rw (drop-take 9 6 text) at p.time }
+
+-- a DATE-TIME has digits for its date and for its time
+pub date_time_date : (text : List ℕ) → is_date_time_form text ≡ true → HasDate text
+date_time_date text h = by_test (is_utc_form text) refl h
+  where
+    by_test : (t : Bool) → is_utc_form text ≡ t → (t || is_local_form text) ≡ true → HasDate text
+    by_test true u h = utc_date text u
+    by_test false u h = local_date text h
+
+pub date_time_time : (text : List ℕ) → is_date_time_form text ≡ true → HasTime text
+date_time_time text h = by_test (is_utc_form text) refl h
+  where
+    by_test : (t : Bool) → is_utc_form text ≡ t → (t || is_local_form text) ≡ true → HasTime text
+    by_test true u h = utc_time text u
+    by_test false u h = local_time text h
 
 pub stamp_day-said : (zoned : Bool) (text : List ℕ) → stamp_day (stamp_said zoned text) ≡ day_of text
 stamp_day-said zoned text = by_tests (is_date_form text) (is_utc_form text) zoned
@@ -97,3 +171,24 @@ is_date_time zoned text (Date day) form said range = by_tests _ (is_stamp_year (
 is_date_time zoned text (Floating local) form said range = range
 is_date_time zoned text (Utc local) form said range = range
 is_date_time zoned text (Zoned local) form said range = range
+
+-- a date of the years to 9999 has a number of the calendar
+pub day_in : (y m d : ℕ) → y ≤ 9999 → is_date y m d ≡ true → IsDayNumber (day_number y m d)
+day_in y m d year h =
+    let p = parts y m d h in
+    let there : IsCivilDate (pos y) m d = ((omega (arith, signed_arith), omega (arith, signed_arith)), (p.month_low, p.month_high), (p.day_low, p.day_high)) in
+    let bounds = day_count_bounds (pos y) m d there in
+    let number = day_number-days_from_civil y m d h in
+    let place = days_from_civil-day_count (pos y) m d in
+    (omega (arith, signed_arith), omega (arith, signed_arith))
+
+pub until_in : (text : List ℕ) → is_stamp_text text ≡ true → year_of text ≤ 9999 → IsUntil (until_said (stamp_said false text))
+until_in text h year =
+    let day = day_in (year_of text) (number_at text 4 6) (number_at text 6 8) year (date_of-stamp text h) in
+    by_form (is_date_form text) (is_utc_form text) day
+  where
+    by_form : (d u : Bool) → IsDayNumber (day_of text) →
+        IsUntil (until_said (cond d (Date (day_of text)) (cond u (Utc (local_of text)) (Floating (local_of text)))))
+    by_form true u day = day
+    by_form false true day = day
+    by_form false false day = day

@@ -4,7 +4,7 @@ use Rattle.ics_values.specs.declared.until.Until.{Until}
 use Rattle.ics_values.specs.Stamps.{is_stamp_text, year_of}
 use Rattle.ics_values.specs.RuleParts.{IsUntil}
 use Rattle.ics_values.specs.RuleTexts.{until_said}
-use Rattle.ics_values.proofs.UntilLemmas.{until_in}
+use Rattle.ics_values.proofs.StampLemmas.{until_in}
 use Rattle.ics_values.proofs.rule_value.read_until.Goals as goal
 
 shown : (s y : Bool) {u v : Until} → s ≡ true → y ≡ true → u ≡ v → Some u ≡ cond (s && y) (Some v) None

@@ -1,5 +1,5 @@
 use Rattle.std.proofs.Common.{sym, ◌∙◌}
-use Rattle.ics_values.proofs.FormLemmas.{date_digits, date_time_date, date_time_time}
+use Rattle.ics_values.proofs.StampLemmas.{date_digits, date_time_date, date_time_time}
 use Rattle.ics_values.proofs.stamp.any_stamp.Goals as goal
 
 pub day_of-requires : goal.day_of-requires
