@@ -2,14 +2,11 @@ pub mod LineExamples
 pub mod ContentExamples
 pub mod Cuts
 pub mod Joins
-pub mod Colons
 pub mod Spelled
 pub mod Parting
 pub mod Rising
-pub mod Pieces
 pub mod BytesLemmas
 pub mod Parameters
 pub mod OneReading
 pub mod Standing
 pub mod Foldings
-pub mod ReadingLemmas

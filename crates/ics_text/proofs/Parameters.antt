@@ -1,16 +1,41 @@
 -- The search for a parameter finds the first value of the first parameter of its name.
-use Rattle.std.proofs.Common.{◌≡◌, ◌≢◌, cond, ℕ, ◌-◌, Bool, true, false, ◌==◌, ◌&&◌, List, [], ◌∷◌, ◌++◌, length, drop, map, refl, sym, ap, ◌∙◌, append_assoc}
-use Rattle.std.proofs.Common.{length-append, arith}
+use Rattle.std.proofs.Common.{◌≡◌, ◌≢◌, ℕ, ◌+◌, Bool, true, false, ◌==◌, ◌&&◌, List, [], ◌∷◌, suc, refl, sym, ap, ◌∙◌, cond, Option, Some, None, add-one, inl}
+use Rattle.std.proofs.Common.{inr, ◌-◌, ◌++◌, length, drop, map, append_assoc, length-append, arith}
+use Rattle.std.specs.Prelude.{not, option_map}
+use Rattle.std.proofs.lemmas.Bool.{eqb-true, and_parts, and_right}
+use Rattle.std.proofs.lemmas.Bool.Decides.{eqb_tells}
+use Rattle.ics_text.specs.Unfolded.{onto_first}
+use Rattle.ics_text.specs.Bytes.{dquote, comma, equals, is_name_byte, is_quoted_byte, is_plain_byte}
+use Rattle.ics_text.specs.ContentLines.{pieces, turned, Value, Param, value_text, params_text, IsValue, IsParam, IsParams, first_value, without_quotes}
+use Rattle.ics_text.specs.ContentLines.{after_name, first_of_text, value_among, param_of}
+use Rattle.ics_text.specs.Pieces.{cut_from, pieces_by}
 use Rattle.std.specs.List.{flat_map, AllByRecursion, list_all, take_while, prefix_len}
 use Rattle.std.proofs.lemmas.List.{append-nil}
-use Rattle.std.proofs.lemmas.Bool.{and_parts, and_right}
 use Rattle.std.proofs.Math.Seq.{take-append_seam, drop-append_seam}
-use Rattle.ics_text.specs.Bytes.{comma, equals, is_name_byte, is_quoted_byte, is_plain_byte}
-use Rattle.ics_text.specs.Unfolded.{onto_first}
-use Rattle.ics_text.specs.ContentLines.{Value, Param, value_text, params_text, IsValue, IsParam, IsParams, first_value, pieces, turned, without_quotes}
-use Rattle.ics_text.specs.ContentLines.{after_name, first_of_text, value_among, param_of}
 use Rattle.ics_text.proofs.BytesLemmas.{quoted-no_quote, plain-no_sign, name-no_quote, name-no_semicolon}
 use Rattle.ics_text.proofs.Parting.{prefix_len-front}
+
+onto-by : (sep b : ℕ) (bs : List ℕ) (o : Option ℕ) → onto_first b (pieces_by sep bs o) ≡ pieces_by sep (b ∷ bs) (option_map (λ n. n + 1) o)
+onto-by sep b bs None = refl
+onto-by sep b bs (Some n) = rw (add-one n, add-one (suc n)) refl
+
+no_quote : (sep b : ℕ) → sep ≢ 34 → (b == sep) ≡ true → (b == dquote) ≡ false
+no_quote sep b ne e = elim (eqb_tells b dquote) [
+  | inl h ↦ absurd (ne (sym (eqb-true b sep e) ∙ h.1))
+  | inr h ↦ h.0
+]
+
+pub cut-pieces : (sep : ℕ) (quoted : Bool) (text : List ℕ) → sep ≢ 34 → pieces sep quoted text ≡ pieces_by sep text (cut_from sep quoted text)
+cut-pieces sep quoted [] ne = refl
+cut-pieces sep quoted (b ∷ bs) ne = one quoted (b == sep) (no_quote sep b ne) (cut-pieces sep (turned quoted b) bs ne)
+  where
+    one : (quoted t : Bool) → (t ≡ true → (b == dquote) ≡ false) →
+        pieces sep (turned quoted b) bs ≡ pieces_by sep bs (cut_from sep (turned quoted b) bs) →
+        cond (t && not quoted) ([] ∷ pieces sep (turned quoted b) bs) (onto_first b (pieces sep (turned quoted b) bs))
+        ≡ pieces_by sep (b ∷ bs) (cond (t && not quoted) (Some 0) (option_map (λ n. n + 1) (cut_from sep (turned quoted b) bs)))
+    one false true f ih = rw (f refl) refl
+    one true true f ih = ap (onto_first b) ih ∙ onto-by sep b bs (cut_from sep (turned true b) bs)
+    one quoted false f ih = ap (onto_first b) ih ∙ onto-by sep b bs (cut_from sep (turned quoted b) bs)
 
 -- a text in front of the first piece
 abbrev in_front : List ℕ → List (List ℕ) → List (List ℕ)

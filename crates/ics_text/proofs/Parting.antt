@@ -1,17 +1,61 @@
--- The parts of a content line as slices.
-use Rattle.std.proofs.Common.{◌≡◌, ℕ, ◌+◌, ◌-◌, ◌<◌, ◌≤◌, Bool, true, false, List, [], ◌∷◌, ◌++◌, length, take, drop, refl, sym, ap, ◌∙◌, arith, append_assoc}
-use Rattle.std.proofs.Common.{Option, Some, None, subst, length-append, one-add}
-use Rattle.std.specs.Prelude.{option_map}
-use Rattle.std.specs.List.{list_all, prefix_len}
+-- The walk to the colon of a content line, its parts as slices, and that they are what its grammar relates.
+use Rattle.std.proofs.Common.{◌≡◌, ℕ, suc, ◌+◌, ◌<◌, Bool, true, false, List, [], ◌∷◌, drop, refl, ap, ◌∙◌, arith, cond, Option, Some, None, one-add, ◌-◌, ◌≤◌}
+use Rattle.std.proofs.Common.{◌++◌, length, take, sym, append_assoc, subst, length-append}
+use Rattle.std.specs.Prelude.{option_map, ◌↔◌}
+use Rattle.std.specs.List.{prefix_len, list_all}
+use Rattle.ics_text.specs.Bytes.{is_name_byte}
+use Rattle.ics_text.specs.ScanSteps.{colon_from}
+use Rattle.ics_text.specs.declared.scan_state.ScanState.{ScanState}
+use Rattle.ics_text.specs.declared.scan_state.ScanState.TheVariants.{Start, InName}
 use Rattle.std.proofs.lemmas.Bool.{and_parts}
 use Rattle.std.proofs.lemmas.List.{take_rest, drop-drop}
 use Rattle.std.proofs.Math.Seq.{take-append_seam, drop-append_seam}
-use Rattle.ics_text.specs.Bytes.{is_name_byte}
-use Rattle.ics_text.specs.ContentLines.{Param, params_text, IsContent, Parts, cut_at}
-use Rattle.ics_text.specs.ScanSteps.{colon_from}
-use Rattle.ics_text.specs.declared.scan_state.ScanState.TheVariants.{Start, InName}
-use Rattle.ics_text.proofs.Colons.{over_name}
+use Rattle.ics_text.specs.ContentLines.{Param, params_text, IsContent, Parts, cut_at, content_of}
 use Rattle.ics_text.proofs.Spelled.{found, comes}
+
+-- a walk from a place that has come to byte i
+abbrev pub walked : List ℕ → ScanState → ℕ → ScanState → Type 0
+walked text from i state = colon_from text from ≡ option_map (λ n. n + i) (colon_from (drop i text) state)
+
+moved_first : (i : ℕ) (o : Option ℕ) → option_map (λ n. n + 1) (option_map (λ n. n + i) o) ≡ option_map (λ n. n + suc i) o
+moved_first i None = refl
+moved_first i (Some n) = let e : n + i + 1 ≡ n + suc i = omega arith in ap Some e
+
+unmoved : (o : Option ℕ) → o ≡ option_map (λ n. n + 0) o
+unmoved None = refl
+unmoved (Some n) = let e : n ≡ n + 0 = omega arith in ap Some e
+
+-- a walk within a name comes to its end
+to_end : (bs : List ℕ) → walked bs InName (prefix_len is_name_byte bs) InName
+to_end [] = refl
+to_end (b ∷ bs) = by_test (is_name_byte b) refl (to_end bs)
+  where
+    by_test : (t : Bool) → is_name_byte b ≡ t → walked bs InName (prefix_len is_name_byte bs) InName →
+        walked (b ∷ bs) InName (cond t (1 + prefix_len is_name_byte bs) 0) InName
+    by_test true e w = rw (e, w, one-add (prefix_len is_name_byte bs))
+        (moved_first (prefix_len is_name_byte bs) (colon_from (drop (prefix_len is_name_byte bs) bs) InName))
+    by_test false e w = unmoved (colon_from (b ∷ bs) InName)
+
+-- a first byte of a name is walked over as a later one
+at_start : (b : ℕ) (bs : List ℕ) → is_name_byte b ≡ true → colon_from (b ∷ bs) Start ≡ colon_from (b ∷ bs) InName
+at_start b bs h = rw h refl
+
+-- behind a name the walk is within it
+pub over_name : (line : List ℕ) → 0 < prefix_len is_name_byte line → walked line Start (prefix_len is_name_byte line) InName
+over_name [] some = absurd (omega arith)
+over_name (b ∷ bs) some = by_test (is_name_byte b) refl some
+  where
+    by_test : (t : Bool) → is_name_byte b ≡ t → 0 < cond t (1 + prefix_len is_name_byte bs) 0 → walked (b ∷ bs) Start (prefix_len is_name_byte (b ∷ bs)) InName
+    by_test true e l = at_start b bs e ∙ to_end (b ∷ bs)
+    by_test false e l = absurd (omega arith)
+
+pub no_name : (line : List ℕ) → prefix_len is_name_byte line ≡ 0 → colon_from line Start ≡ None
+no_name [] none = refl
+no_name (b ∷ bs) none = by_test (is_name_byte b) refl none
+  where
+    by_test : (t : Bool) → is_name_byte b ≡ t → cond t (1 + prefix_len is_name_byte bs) 0 ≡ 0 → colon_from (b ∷ bs) Start ≡ None
+    by_test true e z = absurd (omega arith)
+    by_test false e z = rw e refl
 
 pub prefix_len-front : (p : ℕ → Bool) (xs : List ℕ) (y : ℕ) (ys : List ℕ) → list_all p xs ≡ true → p y ≡ false → prefix_len p (xs ++ y ∷ ys) ≡ length xs
 prefix_len-front p [] y ys h n = rw n refl
@@ -117,3 +161,22 @@ slices_behind line name behind k c =
     let after : len + (k + 1) ≡ k + len + 1 = omega arith in
     rw (take_rest behind (k + 1), c.name_is, c.behind_is, drop-drop (k + 1) len line, after)
     (ap (λ n. record { name = take len line; params = take n (drop len line); value = drop (k + len + 1) line }) between)
+
+computed : (line : List ℕ) (parts : Parts) (k : Option ℕ) → k ≡ colon_from line Start →
+    option_map (cut_at line) k ≡ Some parts → IsContent line parts.name parts.params parts.value
+computed line parts None e h = cc
+computed line parts (Some k) e h =
+    let same : cut_at line k ≡ parts = cc in
+    subst (λ (p : Parts). IsContent line p.name p.params p.value) same (is_content line k (sym e))
+
+related : (line : List ℕ) (parts : Parts) (k : Option ℕ) → k ≡ colon_from line Start →
+    IsContent line parts.name parts.params parts.value → option_map (cut_at line) k ≡ Some parts
+related line parts None e h = absurd (refuses line e parts.name parts.params parts.value h)
+related line parts (Some k) e h = let same = same_parts k (sym e) h in
+    let p = cut_at line k in
+    ap (λ (name : List ℕ). Some (record { name = name; params = p.params; value = p.value })) (sym same.0)
+    ∙ ap (λ (params : List ℕ). Some (record { name = parts.name; params = params; value = p.value })) (sym same.1)
+    ∙ ap (λ (value : List ℕ). Some (record { name = parts.name; params = parts.params; value = value })) (sym same.2)
+
+pub content-grammar : (line : List ℕ) (parts : Parts) → content_of line ≡ Some parts ↔ IsContent line parts.name parts.params parts.value
+content-grammar line parts = (computed line parts (colon_from line Start) refl, related line parts (colon_from line Start) refl)

@@ -1,7 +1,9 @@
--- What reading a file line by line gives (RFC 5545, section 3.1).
-use Rattle.std.specs.Prelude.{◌≡◌, ℕ, Bool, true, ◌==◌, List, [], ◌∷◌, Option, Some, None, if◌then◌else◌}
+-- What reading a file line by line gives, and a line in memory (RFC 5545, section 3.1).
+use Rattle.std.specs.Prelude.{◌≡◌, ℕ, Bool, true, false, ◌==◌, List, [], ◌∷◌, Option, Some, None, if◌then◌else◌}
 use Rattle.ics_text.specs.Bytes.{cr}
 use Rattle.ics_text.specs.Unfolded.{Line, physical_lines, numbered, joined, is_line}
+use Rattle.ics_text.specs.declared.logical.Held.{Held}
+use Rattle.ics_text.specs.declared.logical.Held.TheVariants.{Borrowed, Owned}
 
 -- a physical line without one CR at its end
 abbrev pub without_cr : List ℕ → List ℕ
@@ -35,3 +37,15 @@ BeginsFolded (line ∷ lines) = line.folded ≡ true
 abbrev pub Takes : List Line → Option Line → List Line → Type 0
 Takes old None new = (old ≡ []) × (new ≡ [])
 Takes old (Some line) new = old ≡ line ∷ new
+
+-- a line in memory: borrowed from the file unless it was folded
+abbrev pub held_bytes : Held → List ℕ
+held_bytes (Borrowed bytes) = bytes.now
+held_bytes (Owned bytes) = bytes.items
+
+abbrev pub held_folded : Held → Bool
+held_folded (Borrowed bytes) = false
+held_folded (Owned bytes) = true
+
+abbrev pub held_line : ℕ → Held → Line
+held_line n held = line_of n (held_bytes held) (held_folded held)

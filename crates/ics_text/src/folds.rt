@@ -1,8 +1,7 @@
 ghost use Rattle.std.specs.Prelude.{◌≡◌, ℕ, true, false, ◌+◌, ◌<◌, ◌≤◌, length, filter, IfOk, OnErr};
 ghost use Rattle.ics_text.specs.Bytes.{begins, is_blank};
 ghost use Rattle.ics_text.specs.Unfolded.{attach, is_line, lines_from};
-ghost use Rattle.ics_text.specs.Reading.{line_of, all_from, kept, BeginsFolded};
-ghost use Rattle.ics_text.specs.Held.{held_line};
+ghost use Rattle.ics_text.specs.Reading.{line_of, all_from, kept, held_line, BeginsFolded};
 
 use crate::bytes::without_first;
 use crate::logical::Held;

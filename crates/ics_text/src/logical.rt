@@ -1,5 +1,5 @@
 ghost use Rattle.std.specs.Prelude.{◌≡◌, ◌↔◌, false, IfSome, IsSome};
-ghost use Rattle.ics_text.specs.Held.{held_bytes};
+ghost use Rattle.ics_text.specs.Reading.{held_bytes};
 
 use std::marker::Model;
 
@@ -33,7 +33,7 @@ impl<'a> Model for Logical<'a> {
 
     ghost Value = { Line };
 
-    ghost use Rattle.ics_text.specs.Held.{held_line};
+    ghost use Rattle.ics_text.specs.Reading.{held_line};
 
     ghost view = { λ a. held_line a.number a.held };
 }

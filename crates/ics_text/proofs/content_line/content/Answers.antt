@@ -1,7 +1,7 @@
 use Rattle.std.proofs.Common.{◌≡◌, Some, None, sym, ap, ◌∙◌, subst, arith}
 use Rattle.std.specs.Prelude.{option_map}
 use Rattle.ics_text.specs.ContentLines.{Parts, IsContent, cut_at}
-use Rattle.ics_text.proofs.Colons.{no_name}
+use Rattle.ics_text.proofs.Parting.{no_name}
 use Rattle.ics_text.proofs.Parting.{CutBehind, reached, not_reached, slices_behind, is_content, same_parts, refuses}
 use Rattle.ics_text.proofs.content_line.content.Goals as goal
 

@@ -1,4 +1,4 @@
-use Rattle.ics_text.proofs.ReadingLemmas.{content-grammar}
+use Rattle.ics_text.proofs.Parting.{content-grammar}
 use Rattle.ics_text.proofs.laws.content_by_grammar.Goals as goal
 
 pub returns : goal.returns

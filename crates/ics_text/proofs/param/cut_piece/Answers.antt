@@ -1,7 +1,7 @@
 use Rattle.std.proofs.Common.{◌∙◌, sym, ap, false, ◌+◌}
 use Rattle.std.proofs.lemmas.List.{take_rest}
 use Rattle.ics_text.specs.Pieces.{pieces_by}
-use Rattle.ics_text.proofs.Pieces.{cut-pieces}
+use Rattle.ics_text.proofs.Parameters.{cut-pieces}
 use Rattle.ics_text.proofs.param.cut_piece.Goals as goal
 
 pub returns-in-None-clause-pieces : goal.returns-in-None-clause-pieces
