@@ -51,9 +51,6 @@ pub fn text_bytes(alloc: Global, value: &[u8]) -> Result<Vec<u8>, AllocError>
     ensures text { IfOk result (λ r. r.items ≡ text_of value.now) }
     ensures memory { OnErr result (0 < length value.now) }
 {
-    if value.is_empty() {
-        return Ok(Vec::new(alloc));
-    }
     let mut out = Vec::with_capacity(alloc, value.len())?;
     let mut rest = value;
     'escapes: while let Some(escape) = first_escape(rest) {
