@@ -1,5 +1,5 @@
 -- Worked cases, which the definitions compute.
-use Rattle.std.proofs.Common.{◌≡◌, true, false, [], ◌∷◌, ◌++◌, Some, None, Ok, Err, refl, pos, negsuc}
+use Rattle.std.proofs.Common.{◌≡◌, true, false, [], ◌∷◌, Some, None, Ok, Err, refl, pos, negsuc}
 use Rattle.std.specs.Prelude.{codes}
 use Rattle.ics_values.specs.Days.{year_of, month_of, month_day_of, year_day_of, weekday_of, day_index, days_on_literals}
 use Rattle.ics_values.specs.Dates.{date_day, day_number}
@@ -9,7 +9,6 @@ use Rattle.ics_values.specs.Durations.{duration_of, duration_shapes}
 use Rattle.ics_values.specs.Offsets.{offset_of}
 use Rattle.ics_values.specs.Periods.{period_of}
 use Rattle.ics_values.specs.Integers.{integer_of}
-use Rattle.ics_values.specs.Plain.{text_of, escaped}
 use Rattle.ics_values.specs.declared.stamp.Stamp.TheVariants.{Date, Floating, Utc, Zoned}
 use Rattle.ics_values.specs.declared.stamp.StampFault.TheVariants.{BadStamp, YearRange}
 use Rattle.ics_values.specs.declared.duration.DurationFault.TheVariants.{BadDuration, NumberTooLarge}
@@ -290,13 +289,3 @@ zeros = refl
 
 large_out_of_order : integer_of (codes "4294967296x") ≡ Err integer.NotDigits
 large_out_of_order = refl
-
--- texts
-escapes : text_of (codes "a\\,b\\\\n\\nc\\x\\") ≡ codes "a,b\\n" ++ 10 ∷ codes "c\\x\\"
-escapes = refl
-
-capital : text_of (codes "\\N\\;;") ≡ 10 ∷ codes ";;"
-capital = refl
-
-writing : escaped (codes "a,b;" ++ 10 ∷ codes "\\") ≡ codes "a\\,b\\;\\n\\\\"
-writing = refl

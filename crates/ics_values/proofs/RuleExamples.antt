@@ -8,7 +8,7 @@ use Rattle.ics_values.specs.declared.rule_text.RuleFault.TheVariants.{BadRule, N
 use Rattle.ics_values.specs.declared.until.Until.TheVariants.{Date, Local, Utc}
 use Rattle.ics_values.specs.Locals.{local_at}
 use Rattle.ics_values.specs.Sets.{none_wide}
-use Rattle.ics_values.specs.Ordinals.{no_ordinals}
+use Rattle.ics_values.specs.Ordinals.{no_ordinals, no_weekdays}
 use Rattle.ics_values.specs.RuleParts.{RuleParts, every}
 use Rattle.ics_values.specs.Rules.{rule_of}
 
@@ -241,11 +241,7 @@ bad_signed = refl
 
 weekdays : rule_of (codes "FREQ=DAILY;BYDAY=MO,tu,WE,Th,fR,SA,SU")
     ≡ Ok (record (every Daily) {
-      weekdays = record {
-        plain = 2 ^ 0 + 2 ^ 1 + 2 ^ 2 + 2 ^ 3 + 2 ^ 4 + 2 ^ 5 + 2 ^ 6;
-        numbered = no_ordinals ∷ no_ordinals
-            ∷ no_ordinals ∷ no_ordinals ∷ no_ordinals ∷ no_ordinals ∷ no_ordinals ∷ [];
-      };
+      weekdays = record no_weekdays { plain = 2 ^ 0 + 2 ^ 1 + 2 ^ 2 + 2 ^ 3 + 2 ^ 4 + 2 ^ 5 + 2 ^ 6 };
     })
 unfolding rule_of
 weekdays = refl
@@ -275,11 +271,7 @@ bad_weekday = refl
 
 friday_13 : rule_of (codes "FREQ=MONTHLY;BYDAY=FR;BYMONTHDAY=13")
     ≡ Ok (record (every Monthly) {
-      weekdays = record {
-        plain = 2 ^ 4;
-        numbered = no_ordinals ∷ no_ordinals ∷ no_ordinals ∷ no_ordinals ∷ no_ordinals
-            ∷ no_ordinals ∷ no_ordinals ∷ [];
-      };
+      weekdays = record no_weekdays { plain = 2 ^ 4 };
       month_days = record { front = 2 ^ 13; back = 0 };
     })
 unfolding rule_of
@@ -289,11 +281,7 @@ fortnightly : rule_of (codes "FREQ=WEEKLY;INTERVAL=2;COUNT=4;BYDAY=TU,SU;WKST=SU
     ≡ Ok (record (every Weekly) {
       interval = 2;
       count = Some 4;
-      weekdays = record {
-        plain = 2 ^ 1 + 2 ^ 6;
-        numbered = no_ordinals ∷ no_ordinals ∷ no_ordinals ∷ no_ordinals ∷ no_ordinals ∷ no_ordinals ∷ no_ordinals
-            ∷ [];
-      };
+      weekdays = record no_weekdays { plain = 2 ^ 1 + 2 ^ 6 };
       week_start = Sunday;
     })
 unfolding rule_of
@@ -301,11 +289,7 @@ fortnightly = refl
 
 last_workday : rule_of (codes "FREQ=MONTHLY;BYDAY=MO,TU,WE,TH,FR;BYSETPOS=-1")
     ≡ Ok (record (every Monthly) {
-      weekdays = record {
-        plain = 31;
-        numbered = no_ordinals ∷ no_ordinals ∷ no_ordinals ∷ no_ordinals ∷ no_ordinals ∷ no_ordinals
-            ∷ no_ordinals ∷ [];
-      };
+      weekdays = record no_weekdays { plain = 31 };
       positions = record { front = none_wide; back = (2 ^ 1) ∷ 0 ∷ 0 ∷ 0 ∷ 0 ∷ 0 ∷ [] };
     })
 unfolding rule_of

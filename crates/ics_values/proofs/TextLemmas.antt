@@ -1,7 +1,7 @@
 -- What the parts of a TEXT value stand for, and its escapes.
 use Rattle.std.proofs.Common.{◌≡◌, ℕ, zero, suc, ◌+◌, ◌<◌, ◌≤◌, Bool, true, false, ◌==◌, ◌&&◌, ◌||◌, List, [], ◌∷◌, ◌++◌, length, take, drop, get_or, refl}
 use Rattle.std.proofs.Common.{sym, ap, ◌∙◌, arith, inl, inr, add-one, drop-cons, length-drop}
-use Rattle.std.specs.Prelude.{if◌then◌else◌}
+use Rattle.std.specs.Prelude.{if◌then◌else◌, codes}
 use Rattle.std.proofs.lemmas.Bool.{eqb-true, false_from_ne_true}
 use Rattle.std.proofs.lemmas.Bool.Decides.{eqb_tells}
 use Rattle.std.proofs.lemmas.List.{take-append-drop}
@@ -73,3 +73,13 @@ plain_text-escaped (b ∷ bs) = by_tests (plain_text-escaped bs) (stands_for_its
     by_tests later true lf h k = rw (h, never (b == 92), h) (ap (λ t. b ∷ t) later)
     by_tests later false true h k = rw (h, k) (let e : b ≡ 10 = eqb-true b 10 k in rw e (ap (λ t. 10 ∷ t) later))
     by_tests later false false h k = rw (h, k) (rw (plain b h) (ap (λ t. b ∷ t) later))
+
+-- worked cases
+escapes : text_of (codes "a\\,b\\\\n\\nc\\x\\") ≡ codes "a,b\\n" ++ 10 ∷ codes "c\\x\\"
+escapes = refl
+
+capital : text_of (codes "\\N\\;;") ≡ 10 ∷ codes ";;"
+capital = refl
+
+writing : escaped (codes "a,b;" ++ 10 ∷ codes "\\") ≡ codes "a\\,b\\;\\n\\\\"
+writing = refl
