@@ -1,6 +1,6 @@
 //! Integers, as a property's value has them.
 ghost use Rattle.std.specs.Prelude.{◌≡◌};
-ghost use Rattle.ics_values.specs.Integers.{integer_of, without_plus};
+ghost use Rattle.ics_values.specs.Integers.{integer_of};
 ghost use Rattle.ics_values.specs.ValueFaultNames.{integer_fault_name};
 
 use crate::digits::{are_digits, number_within};
@@ -26,22 +26,12 @@ impl IntegerFault {
     }
 }
 
-/// The text without the `+` that may begin it.
-fn without_plus(text: &[u8]) -> &[u8]
-    ensures { result.now ≡ without_plus text.now }
-{
-    match text {
-        [b'+', rest @ ..] => rest,
-        _ => text,
-    }
-}
-
 /// The number that a text says: digits with or without a `+` before them (RFC 5545, section 3.3.8).
 /// `NotDigits` for any other text, and `NumberTooLarge` for a number past 4,294,967,295.
 pub fn read_integer(text: &[u8]) -> Result<u32, IntegerFault>
     ensures { result ≡ integer_of text.now }
 {
-    let digits = without_plus(text);
+    let digits = text.strip_prefix(b"+").unwrap_or(text);
     if !are_digits(digits) {
         return Err(IntegerFault::NotDigits);
     }

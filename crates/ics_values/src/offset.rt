@@ -1,7 +1,7 @@
 //! Offsets from UTC, as a property's value has them.
 ghost use Rattle.std.specs.Prelude.{◌≡◌, ◌≤◌, ◌<◌, ◌+◌, ◌*◌, ◌&&◌, true, codes, IfOk, length, nat_le};
 ghost use Rattle.jiff_core.specs.Calendar.{IsWithin};
-ghost use Rattle.ics_values.specs.Offsets.{is_offset_form, offset_seconds, offset_of};
+ghost use Rattle.ics_values.specs.Offsets.{is_offset_form, offset_of};
 
 use crate::digits::{are_digits, number_at};
 use crate::sign::{is_negative, is_sign, with_sign};
@@ -27,17 +27,6 @@ fn is_offset_form(text: &[u8]) -> bool
     (text.len() == 5 || text.len() == 7) && is_sign(text[0]) && are_digits(&text[1..])
 }
 
-fn offset_seconds(text: &[u8]) -> u32
-    requires { is_offset_form text.now ≡ true }
-    ensures { result ≡ offset_seconds text.now }
-{
-    if text.len() == 7 {
-        number_at(text, 5, 7)
-    } else {
-        0
-    }
-}
-
 /// The offset that a text says, in seconds east of UTC and less than a day either way (RFC 5545, section
 /// 3.3.14). `BadOffset` for any other text. `-0000` is read as zero.
 pub fn read_offset(text: &[u8]) -> Result<i32, BadOffset>
@@ -49,7 +38,11 @@ pub fn read_offset(text: &[u8]) -> Result<i32, BadOffset>
     }
     let hours = number_at(text, 1, 3);
     let minutes = number_at(text, 3, 5);
-    let seconds = offset_seconds(text);
+    let seconds = if text.len() == 7 {
+        number_at(text, 5, 7)
+    } else {
+        0
+    };
     if hours > 23 || minutes > 59 || seconds > 59 {
         return Err(BadOffset);
     }

@@ -48,16 +48,6 @@ struct Draft {
     too_large: bool,
 }
 
-/// The text without the `;` that may end it.
-fn without_last(text: &[u8]) -> &[u8]
-    ensures { result.now ≡ without_last text.now }
-{
-    match text {
-        [before @ .., b';'] => before,
-        _ => text,
-    }
-}
-
 /// Adds an item of a list.
 fn take_item(parts: &mut Parts, list: ListName, item: &[u8]) -> Option<()>
     ensures { Takes (item_taken list parts.old item.now) result parts.new }
@@ -165,7 +155,7 @@ fn draft_of(text: &[u8]) -> Option<Draft>
         seen: BitSet::new(),
         too_large: false,
     };
-    let mut behind = Some(without_last(text));
+    let mut behind = Some(text.strip_suffix(b";").unwrap_or(text));
     'parts: while let Some(rest) = behind {
         let (part, next) = cut(rest, b';');
         draft.take(part)?;
