@@ -1,8 +1,8 @@
 -- What two hours tell of the onsets of a rule.
-use Rattle.std.proofs.Common.{◌≡◌, ℕ, ◌+◌, ◌-◌, ◌*◌, ◌/◌, ◌%◌, ◌<◌, ◌==◌, ◌&&◌, nat_lt, inl, inr, refl, Bool, true, false, sym, subst, ap, ◌∙◌, arith, Option}
-use Rattle.std.proofs.Common.{Some, None, List, length, set, ℤ, pos, ◌+ℤ◌, ◌-ℤ◌, ◌<ℤ◌, ◌≤ℤ◌}
+use Rattle.std.proofs.Common.{◌≡◌, ℕ, ◌+◌, ◌-◌, ◌*◌, ◌/◌, ◌%◌, ◌<◌, ◌==◌, ◌&&◌, nat_lt, inl, inr, refl, Bool, true, false, sym, subst, ap, ◌∙◌, arith}
+use Rattle.std.proofs.Common.{Some, List, length, set, ℤ, pos, ◌+ℤ◌, ◌-ℤ◌, ◌<ℤ◌, ◌≤ℤ◌}
 use Rattle.std.proofs.lemmas.Bool.{true_from_ne_false, cases_lt, cases_eq, eq-eqb, ne_eqb, and_parts, and_from}
-use Rattle.std.specs.Prelude.{IfSome, if◌then◌else◌, int_lt}
+use Rattle.std.specs.Prelude.{if◌then◌else◌, int_lt}
 use Rattle.std.proofs.lemmas.Int.{ints}
 use Rattle.ics_values.specs.Sets.{contains}
 use Rattle.ics_rule.specs.Recurrence.{Recurrence}
@@ -14,7 +14,7 @@ use Rattle.ics_zone.specs.declared.onsets.Onsets.{Onsets}
 use Rattle.ics_zone.specs.Observances.{epoch, instant_by}
 use Rattle.ics_zone.specs.ZoneOffsets.{natural}
 use Rattle.ics_zone.specs.OnsetSets.{IsKeptAt}
-use Rattle.ics_zone.specs.Hours.{keeps_time, keeps, AreHoursOf, IsToldAt, IsTold, IsToldBy}
+use Rattle.ics_zone.specs.Hours.{keeps_time, keeps, AreHoursOf, IsToldAt, IsTold}
 use Rattle.ics_zone.specs.Marks.{is_marked, IsMarked}
 use Rattle.ics_zone.proofs.Cases.{not_both, int_lt_true, true_int_lt}
 use Rattle.ics_zone.proofs.KeptLemmas.{to_kept, from_kept}
@@ -88,10 +88,9 @@ words_more {hours = hours} {local = local} {minute = minute} {count = count} {wo
     ]
 
 -- two hours tell of each instant of an hour whether the rule has an onset there
-pub told_by : (s : Onsets) (r : Recurrence) → s.rule ≡ Some r → (from : ℤ) (local : ℕ) → from ≡ instant_by s.offset_from local → local + 7_200 < rules_end
-    → (o : Option Hours) → IfSome o (AreHoursOf r local) → IsToldBy s (from -ℤ pos 1) (from +ℤ pos 3_600) o
-told_by s r contains from local is early None h = tt
-told_by s r contains from local is early (Some hours) h = λ t low high.
+pub told_by : {s : Onsets} {r : Recurrence} {hours : Hours} (from : ℤ) (local : ℕ) → s.rule ≡ Some r → from ≡ instant_by s.offset_from local
+    → local + 7_200 < rules_end → AreHoursOf r local hours → IsTold s (from -ℤ pos 1) (from +ℤ pos 3_600) hours
+told_by {s = s} {r = r} from local contains is early h = λ t low high.
     let at = natural-is (t +ℤ s.offset_from +ℤ pos epoch) (omega (arith, ints, is, low)) in
     record {
       rule = r;

@@ -125,15 +125,15 @@ module _ (zone : List ObservanceSaid) (list : List Onsets) (all : AreOnsetsOfAll
         })
 
     -- the same after an instant, where the next are looked at from the greatest on
-    module _ (after : ℤ) where
-      abbrev pub IsBegun : Option Latest → ℤ → Type 0
-      IsBegun old from = MatchOption old (from ≡ after) (λ f. after <ℤ f.at → from ≡ f.at -ℤ pos 1)
+    module _ (after from : ℤ) where
+      abbrev pub IsBegun : Option Latest → Type 0
+      IsBegun old = MatchOption old (from ≡ after) (λ f. after <ℤ f.at → from ≡ f.at -ℤ pos 1)
 
-      pub within_none : (old : Option Latest) (from : ℤ) → IsBegun old from → IsLatestWithin zone after t k old
+      pub within_none : (old : Option Latest) → IsBegun old → IsLatestWithin zone after t k old
           → ((u : ℤ) → Has o u → u ≤ℤ t → u ≤ℤ from) → IsLatestWithin zone after t (k + 1) old
-      within_none None from begun before none = λ i s p l h early. split i s p h l (λ less. before i s p less h early)
+      within_none None begun before none = λ i s p l h early. split i s p h l (λ less. before i s p less h early)
           (λ of contains same. let out = none s contains early in omega (arith, ints, out, begun))
-      within_none (Some f) from begun before none = (
+      within_none (Some f) begun before none = (
         record {
           observance = before.0.observance;
           onset = before.0.onset;
@@ -146,16 +146,15 @@ module _ (zone : List ObservanceSaid) (list : List Onsets) (all : AreOnsetsOfAll
         before.1,
       )
 
-      pub within_some : {e new : Latest} (old : Option Latest) (from : ℤ) → IsBegun old from → IsLatestWithin zone after t k old → IsLastOnset k o t e
-          → from <ℤ e.at
+      pub within_some : {e new : Latest} (old : Option Latest) → IsBegun old → IsLatestWithin zone after t k old → IsLastOnset k o t e → from <ℤ e.at
           → MatchOption old (new ≡ e) (λ f. ((new ≡ e) × (f.at ≤ℤ e.at)) ⊎ ((new ≡ f) × (e.at <ℤ f.at)))
           → IsLatest zone t (k + 1) new × (after <ℤ new.at)
-      within_some None from begun before its in_window is =
+      within_some None begun before its in_window is =
           rw is (
             this_one its (λ i s p l h early. let out = before i s p l h early in omega (arith, ints, out, in_window, begun)),
             omega (arith, ints, in_window, begun),
           )
-      within_some {e = e} {new = new} (Some f) from begun before its in_window is = (latest_some (Some f) before.0 its is, later_in is)
+      within_some {e = e} {new = new} (Some f) begun before its in_window is = (latest_some (Some f) before.0 its is, later_in is)
         where
           later_in : ((new ≡ e) × (f.at ≤ℤ e.at)) ⊎ ((new ≡ f) × (e.at <ℤ f.at)) → after <ℤ new.at
           later_in (inl w) = rw (w.0) (let a = before.1 in let b = w.1 in omega (arith, ints, a, b))

@@ -6,8 +6,8 @@ use Rattle.ics_zone.proofs.latest.latest_within.Goals as goal
 pub loop-place-preserved-in_default : goal.loop-place-preserved-in_default
 loop-place-preserved-in_default c = λ zone all.
     within_none zone c.args.onsets.now all c.loop-place.place c.index-onsets-place.result c.loop-place-test.true c.index-onsets-place.is
-    (to_z w64 (of_z w64 c.args.moment)) (to_z w64 (of_z w64 c.args.after))
-    c.loop-place.latest (to_z w64 (of_z w64 c.begun-from.result)) (search rules) (c.loop-place.invariant zone all) (search rules)
+    (to_z w64 (of_z w64 c.args.moment)) (to_z w64 (of_z w64 c.args.after)) (to_z w64 (of_z w64 c.begun-from.result))
+    c.loop-place.latest (search rules) (c.loop-place.invariant zone all) (search rules)
 
 pub loop-place-preserved : goal.loop-place-preserved
 loop-place-preserved c = λ zone all.
@@ -23,6 +23,6 @@ loop-place-preserved c = λ zone all.
       last = rw (to_z-of_z w64 c.in-Some.at at) c.in-Some.ensures.last;
     } in
     within_some zone c.args.onsets.now all c.loop-place.place c.index-onsets-place.result c.loop-place-test.true c.index-onsets-place.is
-    (to_z w64 (of_z w64 c.args.moment)) (to_z w64 (of_z w64 c.args.after))
-    c.loop-place.latest (to_z w64 (of_z w64 c.begun-from.result)) (search rules) (c.loop-place.invariant zone all) its
+    (to_z w64 (of_z w64 c.args.moment)) (to_z w64 (of_z w64 c.args.after)) (to_z w64 (of_z w64 c.begun-from.result))
+    c.loop-place.latest (search rules) (c.loop-place.invariant zone all) its
     (rw (to_z-of_z w64 c.in-Some.at at) c.in-Some.ensures.after) c.later.ensures
