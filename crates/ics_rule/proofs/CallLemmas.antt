@@ -5,8 +5,7 @@ use Rattle.ics_values.specs.declared.local.Local.{Local}
 use Rattle.ics_rule.specs.declared.cursor.Cursor.{Cursor}
 use Rattle.ics_rule.specs.Recurrence.{Recurrence}
 use Rattle.ics_values.specs.Locals.{number}
-use Rattle.ics_rule.specs.EffectiveRules.{effective}
-use Rattle.ics_rule.specs.Cursors.{known_to, looks_from, period_count, steps_of, HasLooked, IsCursorOf}
+use Rattle.ics_rule.specs.Cursors.{known_to, looks_from, HasLooked, IsCursorOf}
 use Rattle.ics_rule.specs.Calls.{AreCalls, Call, FewSteps, IsAnswer}
 use Rattle.ics_rule.proofs.CursorLemmas.{few_steps}
 
@@ -25,12 +24,8 @@ module _ (r : Recurrence) (a b : ℕ) where
       let within = known_within r (number call.bound) call.answer before call.now are.0.next in
       calls_looked calls call.now now are.1 (are.0.own, are.0.looked a b (omega (arith, within, are.0.bound)) contains.1)
 
-  few : (c : Cursor) → IsCursorOf r c → HasLooked r c a b → steps_of c ≤ period_count r a b
-  unfolding period_count IsCursorOf HasLooked
-  few c own looked = few_steps (effective r) (number r.start) r.parts.count c a b own looked
-
 pub few_looks : FewSteps
 few_looks r from b first now calls set are =
     let a = looks_from r.parts.count (number r.start) from in
     let contains = calls_looked r a b calls first now are (set.own, set.looked b) in
-    few r a b now contains.0 contains.1
+    few_steps r now a b contains.0 contains.1

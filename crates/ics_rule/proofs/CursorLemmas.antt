@@ -11,13 +11,15 @@ use Rattle.ics_rule.specs.declared.cursor.Cursor.{Cursor}
 use Rattle.ics_rule.specs.Candidates.{is_stepped, period_in}
 use Rattle.ics_rule.specs.Kept.{count, is_chosen}
 use Rattle.ics_rule.specs.RecurrencePeriods.{first_local, IsPeriodOf}
-use Rattle.ics_rule.specs.Cursors.{is_met, fresh, HasBegun, HeldBy, CountedBy, IsCursorIn, HasLookedIn, looks_from}
+use Rattle.ics_rule.specs.Cursors.{is_met, fresh, HasBegun, HeldBy, CountedBy, IsCursorIn, HasLookedIn, looks_from, period_count, steps_of, IsCursorOf, HasLooked}
+use Rattle.ics_rule.specs.EffectiveRules.{effective}
+use Rattle.ics_rule.specs.Recurrence.{Recurrence}
 use Rattle.ics_rule.specs.Searches.{IsNextOpen, is_chosen_within, is_wanted, IsNextWanted, HasMoved, IsWalked, HoldsPeriodOf, LooksOrStays, LooksAt, after_look}
 use Rattle.ics_rule.proofs.PeriodLemmas.{begun, begins, first_in, period_mono, period_small, week_small}
 use Rattle.ics_rule.proofs.Counts.{count-suc, count_some, count_mono, count_most, count_one_more, count_every}
 use Rattle.ics_rule.proofs.StepLemmas.{none_between}
 use Rattle.ics_rule.proofs.ChosenLemmas.{no_step, not_let_in}
-use Rattle.ics_values.specs.Locals.{calendar_end}
+use Rattle.ics_values.specs.Locals.{calendar_end, number}
 
 -- a place from a on, and a bound after it up to b
 pub record IsWithin (a b place stop : ℕ) : Type 0 where
@@ -279,10 +281,12 @@ fresh_small : (q : EffectiveRule) (held : Option RecurrencePeriod) (n : ℕ) →
 fresh_small q None n h l = omega arith
 fresh_small q (Some p) n h l = let s = period_small q.frequency (monday_zero q.week_start) n l in omega (arith, h.1, s)
 
-pub few_steps : (q : EffectiveRule) (start : ℕ) (o : Option ℕ) (c : Cursor) (a b : ℕ) → IsCursorIn q start o c → HasLookedIn q start o c a b →
-    c.steps ≤ count calendar_end (is_met q start a b)
-few_steps q start o c a b own few = let more = count_mono (fresh c.held) calendar_end (is_met q start a b) (fresh_small q c.held c.place own.held own.inside) in
-    omega (arith, few.few, more)
+pub few_steps : (r : Recurrence) (c : Cursor) (a b : ℕ) → IsCursorOf r c → HasLooked r c a b → steps_of c ≤ period_count r a b
+unfolding period_count IsCursorOf HasLooked
+few_steps r c a b own looked =
+    let q = effective r in
+    let more = count_mono (fresh c.held) calendar_end (is_met q (number r.start) a b) (fresh_small q c.held c.place own.held own.inside) in
+    omega (arith, looked.few, more)
 
 pub within_here : (q : EffectiveRule) (start number n : ℕ) → period_in q n ≡ number → is_chosen_within q start number n ≡ is_chosen q start n
 within_here q start number n e = ap (λ x. x && is_chosen q start n) (eq-eqb (period_in q n) number e)

@@ -8,11 +8,9 @@ use Rattle.std.proofs.Common.{◌≡◌, ℕ, ◌≤◌, ℤ, ◌+ℤ◌, true, 
 use Rattle.std.proofs.lemmas.Cmp.{nat_list_cmp_total, tied_itself}
 use Rattle.std.proofs.lemmas.Int.{ints}
 use Rattle.std.proofs.lemmas.List.Sums.{sum_by-cons}
-use Rattle.ics_rule.specs.Cursors.{looks_from, period_count, steps_of, HasLooked, IsCursorOf}
-use Rattle.ics_rule.specs.EffectiveRules.{effective}
+use Rattle.ics_rule.specs.Cursors.{looks_from, period_count, steps_of}
 use Rattle.ics_values.specs.Locals.{number, midnight, whole_days}
 use Rattle.ics_rule.specs.Recurrence.{Recurrence}
-use Rattle.ics_rule.specs.declared.cursor.Cursor.{Cursor}
 use Rattle.ics_rule.proofs.CursorLemmas.{few_steps}
 use Rattle.ics_calendar.specs.declared.event.Event.{Event}
 use Rattle.ics_series.specs.declared.rule_starts.RuleStarts.{RuleStarts}
@@ -46,11 +44,6 @@ use Rattle.ics_series.proofs.PlacedLemmas.{in-append_left, in-append_right}
 use Rattle.ics_series.proofs.RuleStepLemmas.{asked-number}
 use Rattle.ics_series.proofs.UnionLemmas.{merged-in}
 
--- a cursor has looked at no more periods than hold a local of those among which it looked
-looked-few : (r : Recurrence) (cursor : Cursor) (a b : ℕ) → IsCursorOf r cursor → HasLooked r cursor a b → steps_of cursor ≤ period_count r a b
-unfolding period_count IsCursorOf HasLooked
-looked-few r cursor a b own few = few_steps (effective r) (number r.start) r.parts.count cursor a b own few
-
 looks-earlier : (o : Option ℕ) (start a place : ℕ) → a ≤ place → looks_from o start a ≤ looks_from o start place
 looks-earlier None start a place l = l
 looks-earlier (Some c) start a place l = omega arith
@@ -58,7 +51,7 @@ looks-earlier (Some c) start a place l = omega arith
 own-steps : (s : RuleStarts) → steps_of s.cursor ≤ period_count s.rule (looks_from s.rule.parts.count (number s.rule.start) (number s.from))
     (midnight_number s.asked)
 own-steps s =
-    looked-few s.rule s.cursor (looks_from s.rule.parts.count (number s.rule.start) (number s.from)) (midnight_number s.asked) s.own
+    few_steps s.rule s.cursor (looks_from s.rule.parts.count (number s.rule.start) (number s.from)) (midnight_number s.asked) s.own
     (s.looked (midnight_number s.asked) (omega arith))
 
 abbrev InOne : Entry → List (List Entry) → Type 0
