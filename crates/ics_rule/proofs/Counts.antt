@@ -35,7 +35,7 @@ pub count-up_to : (a n : ℕ) (p : ℕ → Bool) → ((m : ℕ) → a ≤ m → 
 count-up_to a n p h = omega (arith, count-add a n p, count-none n (λ k. p (a + k)) (λ k l. h (a + k) (omega arith) (omega arith)))
 
 -- a test that does not read the number
-count-all : (b : Bool) (n : ℕ) (q : ℕ → Bool) → count n (λ k. b && q k) ≡ cond b 1 0 * count n q
+pub count-all : (b : Bool) (n : ℕ) (q : ℕ → Bool) → count n (λ k. b && q k) ≡ cond b 1 0 * count n q
 unfolding count
 count-all true n q = omega arith
 count-all false n q = count-none n (λ k. false) (λ m l. refl) ∙ omega arith

@@ -2,6 +2,7 @@
 use Rattle.std.specs.Option.{is_some}
 use Rattle.std.proofs.Common.{Option, Some, None, ◌≡◌, ℕ, zero, suc, ◌+◌, ◌-◌, ◌*◌, ◌/◌, ◌%◌, ◌<◌, ◌≤◌, Bool, true, false, ◌&&◌, ◌||◌, pos, refl, ap, ◌∙◌}
 use Rattle.std.proofs.Common.{arith}
+use Rattle.std.proofs.lemmas.Bool.{and_right}
 use Rattle.jiff_core.specs.Calendar.{days_in_month}
 use Rattle.jiff_core.proofs.CalendarLemmas.{days_in_month_bounds, days_of_months-zero}
 use Rattle.ics_values.specs.Sets.{contains, IsNextIn}
@@ -98,13 +99,9 @@ module _ (q : EffectiveRule) (flat : IsFlat q) where
       let add = count-add (month_local i) (len * 86_400) (is_allowed q) in
       let same = count-same (len * 86_400) (λ k. is_allowed q (month_local i + k)) (in_month (i % 12)) (λ k l. allowed_is i k year l) in
       let most = count_flat (28 * 86_400) (len * 86_400) (in_month (i % 12)) (omega (arith, bounds.1))
-      (λ k l u. out (lets q.months (i % 12 + 1)) (contains q.month_days.front (k / 86_400 + 1)) (lets_clock q k)
-      (flat.front (k / 86_400 + 1) (omega (arith, l)))) in
+      (λ k l u. ap (λ x. x && lets_clock q k) (and_right (lets q.months (i % 12 + 1)) (contains q.month_days.front (k / 86_400 + 1))
+      (flat.front (k / 86_400 + 1) (omega (arith, l))))) in
       omega (arith, whole, add, same, most)
-    where
-      out : (a b c : Bool) → b ≡ false → ((a && b) && c) ≡ false
-      out true b c h = ap (λ x. x && c) h
-      out false b c h = refl
 
   -- the first months of a year
   abbrev months_add : ℕ → ℕ

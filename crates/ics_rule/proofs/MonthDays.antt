@@ -84,7 +84,7 @@ module _ (q : EffectiveRule) (k : ℕ) where
             guard (has_run r k) _ L (run_lists r first y m k own q) ∙ ap (λ x. x && L) (run_is_month r first y m k own start inside) in
             more ∙ ap (λ x. x || (has_run r k && lists_in_month q (weekday_in r (k - r.start)) (k - r.start + 1) r.len)) old
             ∙ ap (λ x. (nat_lt M from && (months M && L)) || x) added
-            ∙ gather (nat_lt M from) (months M) (M == m) L ∙ ap (λ x. x && L) (next_found months from m M next) ∙ spread (nat_lt M (m + 1)) (months M) L
+            ∙ gather (nat_lt M from) (months M) (M == m) L ∙ ap (λ x. x && L) (next_found months from m M next) ∙ and_assoc (nat_lt M (m + 1)) (months M) L
             ∙ ap (λ x. x && (nat_lt M (m + 1) && (months M && L))) (sym (lt-ltb k (days_in_year (pos y)) inside))
         | inr past ↦
             let out : has_run r k ≡ false = and_right (nat_le r.start k) (nat_lt (k - r.start) r.len) (le-ltb (k - r.start) r.len (omega (arith, past, most))) in
@@ -105,10 +105,6 @@ module _ (q : EffectiveRule) (k : ℕ) where
       gather false b true t = refl
       gather false b false t = refl
 
-      spread : (a b t : Bool) → ((a && b) && t) ≡ (a && (b && t))
-      spread true b t = refl
-      spread false b t = refl
-
 pub months_none : (q : EffectiveRule) (months : ℕ → Bool) (e : ℕ) (a : Bool) → false ≡ (a && seen_months q months 1 e)
 months_none q months e a =
     let none : nat_lt (month_of e) 1 ≡ false = le-ltb (month_of e) 1 (month_positive e) in
@@ -124,12 +120,12 @@ pub months_done : (q : EffectiveRule) (months : ℕ → Bool) {from : ℕ} (e : 
     → (a && seen_months q months from e) ≡ (a && is_in_month q e)
 months_done q months {from = from} e a none is =
     let L = lists_in_month q (weekday_of e) (month_day_of e) (days_in_month (pos (year_of e)) (month_of e)) in
-    ap (λ x. a && x) (sym (spread (nat_lt (month_of e) from) (months (month_of e)) L)
+    ap (λ x. a && x) (sym (and_assoc (nat_lt (month_of e) from) (months (month_of e)) L)
     ∙ ap (λ x. x && L) (all_found months from (month_of e) (none (month_of e)) ∙ is (month_of e) (month_small e)))
-  where
-    spread : (a b t : Bool) → ((a && b) && t) ≡ (a && (b && t))
-    spread true b t = refl
-    spread false b t = refl
+
+-- a run that begins with the period
+run_start : (k len : ℕ) → (nat_le 0 k && nat_lt (k - 0) len) ≡ nat_lt k len
+run_start k len = let low : nat_le 0 k ≡ true = grind (arith, nat_tests) in let back : k - 0 ≡ k = omega arith in rw (low, back) refl
 
 -- one month alone
 pub one_month : (q : EffectiveRule) {first len y m w : ℕ} (k : ℕ) {a b : Bool} → IsMonth (record { start = 0; len = len; weekday = w }) first y m →
@@ -147,9 +143,6 @@ one_month q {first = first} {len = len} {y = y} {m = m} {w = w} k own among none
     ∙ ap (λ x. x && lists_in_month q (weekday_of (first + k)) (month_day_of (first + k)) (days_in_month (pos (year_of (first + k))) (month_of (first + k))))
     (sym (ap (lets q.months) f.month ∙ among)))
     ∙ ap (λ x. x && is_in_month q (first + k)) test
-  where
-    run_start : (k len : ℕ) → (nat_le 0 k && nat_lt (k - 0) len) ≡ nat_lt k len
-    run_start k len = let low : nat_le 0 k ≡ true = grind (arith, nat_tests) in let back : k - 0 ≡ k = omega arith in rw (low, back) refl
 
 pub closed_month : (q : EffectiveRule) {first len y m w : ℕ} (k : ℕ) → IsMonth (record { start = 0; len = len; weekday = w }) first y m
     → lets q.months m ≡ false
@@ -342,7 +335,7 @@ week_let_in q e h = fourth (lets q.months (month_of e)) (lets_place q.month_days
     fourth false b c d e h = absurd (cc)
 
 -- the days of a year by their numbers
-year_day_is : (e y : ℕ) → year_of e ≡ y → year_day_of e ≡ e - days_before_year y + 1
+pub year_day_is : (e y : ℕ) → year_of e ≡ y → year_day_of e ≡ e - days_before_year y + 1
 unfolding year_day_of
 year_day_is e y h = rw h refl
 
@@ -382,9 +375,6 @@ module _ (q : EffectiveRule) (y k : ℕ) where
       ∙ ap (λ n. lists_weekday q.weekdays (weekday_of (first + k)) n len) number
       ∙ year_exact q (first + k) by place.1 (ap (λ x. days_in_year (pos x)) place.0 ∙ sym size))
       ∙ ap (λ x. x && lets_date q (first + k)) (run_start k len)
-    where
-      run_start : (k len : ℕ) → (nat_le 0 k && nat_lt (k - 0) len) ≡ nat_lt k len
-      run_start k len = let low : nat_le 0 k ≡ true = grind (arith, nat_tests) in let back : k - 0 ≡ k = omega arith in rw (low, back) refl
 
 -- a month as a period
 pub span_month : (p first len w : ℕ) → IsSpan Monthly p first len → w ≡ weekday_of first →

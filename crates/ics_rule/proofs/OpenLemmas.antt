@@ -4,7 +4,7 @@ use Rattle.std.proofs.Common.{sym, ap, ◌∙◌, arith}
 use Rattle.std.proofs.lemmas.Bool.{and_from, and_left, and_right, cases_lt, false_from_ne_true}
 use Rattle.std.proofs.lemmas.Bool.Decides.{nat_tests}
 use Rattle.std.proofs.lemmas.Nat.{div-add-mod', mod-mul-add, le-div, div_below}
-use Rattle.std.proofs.Math.Nat.{mod-lt, mul_comm, mul_assoc}
+use Rattle.std.proofs.Math.Nat.{add-mul, mod-lt, mul_comm, mul_assoc}
 use Rattle.ics_values.specs.declared.frequency.Frequency.{Frequency}
 use Rattle.ics_values.specs.declared.frequency.Frequency.TheVariants.{Secondly, Minutely, Hourly, Daily, Weekly, Monthly, Yearly}
 use Rattle.ics_values.specs.Sets.{IsLeastFrom}
@@ -19,6 +19,7 @@ use Rattle.ics_rule.proofs.Counts.{count-same, count-suc, count-add, count-none,
 use Rattle.ics_rule.proofs.RankLemmas.{count_flat}
 use Rattle.ics_rule.proofs.StepLemmas.{stepped_parts, stepped_shown, step_on, none_between}
 use Rattle.ics_rule.proofs.RoundLemmas.{step_repeats}
+use Rattle.ics_rule.proofs.Tests.{none_yet}
 
 and_true : (a b : Bool) → a ≡ true → (a && b) ≡ b
 and_true a b h = ap (λ x. x && b) h
@@ -226,13 +227,10 @@ module _ (q : EffectiveRule) (first : ℕ) (fine : 0 < seconds_of q.frequency) (
       let step = ap (λ y. is_stepped first q.interval (x + y)) order ∙ step_repeats q.interval (t * d) first x low in
       let far : (x + q.interval * t * d) * u ≡ x * u + q.interval * t * 86_400 = (
       let day = (day_seconds q.frequency fine unit).0 in
-      let spread : (x + q.interval * t * d) * u ≡ x * u + q.interval * t * d * u = add_mul x (q.interval * t * d) u in
+      let spread : (x + q.interval * t * d) * u ≡ x * u + q.interval * t * d * u = add-mul x (q.interval * t * d) u in
       spread ∙ ap (λ y. x * u + y) (mul_assoc (q.interval * t) d u ∙ ap (λ y. q.interval * t * y) day)) in
       let clock : own (x + q.interval * t * d) ≡ own x = ap (lets_own q.frequency q) far ∙ own_day q.frequency q fine unit (x * u) (q.interval * t) in
       ap (λ y. y && own (x + q.interval * t * d)) step ∙ ap (λ y. is_stepped first q.interval x && y) clock
-    where
-      add_mul : (a b c : ℕ) → (a + b) * c ≡ a * c + b * c
-      add_mul a b c = omega arith
 
   module _ (some : 1 ≤ q.interval) (from before : ℕ) (later : first < from * d) (order : from ≤ before) where
     -- the periods let in on the days with places before one
@@ -240,12 +238,8 @@ module _ (q : EffectiveRule) (first : ℕ) (fine : 0 < seconds_of q.frequency) (
     placed j p = (nat_le from (p / d) && nat_lt ((p / d - from) % q.interval) j) && is_open_period q first p
 
     pub placed_none : 0 ≡ count (before * d) (placed 0)
-    placed_none = sym (count-none (before * d) (placed 0) (λ p l. none (nat_le from (p / d)) (nat_lt ((p / d - from) % q.interval) 0)
-        (is_open_period q first p) (grind (arith, nat_tests))))
-      where
-        none : (a b c : Bool) → b ≡ false → ((a && b) && c) ≡ false
-        none true b c e = ap (λ x. x && c) e
-        none false b c e = refl
+    placed_none = sym (count-none (before * d) (placed 0) (λ p l. ap (λ x. x && is_open_period q first p)
+        (and_right (nat_le from (p / d)) (nat_lt ((p / d - from) % q.interval) 0) (none_yet ((p / d - from) % q.interval)))))
 
     -- of the days with one place each has as many
     module _ (j : ℕ) (less : j < q.interval) where
@@ -273,17 +267,14 @@ module _ (q : EffectiveRule) (first : ℕ) (fine : 0 < seconds_of q.frequency) (
               let day : p / d ≡ (from + j) + q.interval * t = (let swap = mul_comm q.interval t in omega (arith, parts.0, parts.1, days, swap)) in
               let same : p ≡ (from + j) * d + p % d + q.interval * t * d = (
               let wide = ap (λ x. x * d) day in
-              let spread : ((from + j) + q.interval * t) * d ≡ (from + j) * d + q.interval * t * d = add_mul (from + j) (q.interval * t) d in
+              let spread : ((from + j) + q.interval * t) * d ≡ (from + j) * d + q.interval * t * d = add-mul (from + j) (q.interval * t) d in
               omega (arith, whole, wide, spread)) in
-              let low : first ≤ (from + j) * d + p % d = (let spread : (from + j) * d ≡ from * d + j * d = add_mul from j d in omega (arith, later, spread)) in
+              let low : first ≤ (from + j) * d + p % d = (let spread : (from + j) * d ≡ from * d + j * d = add-mul from j d in omega (arith, later, spread)) in
               and_true (is_stepped (from + j) q.interval (p / d)) (is_open_period q first p) e
               ∙ turn (is_stepped first q.interval p) (lets_date q (p / d)) (own p)
               ∙ ap (λ x. lets_date q (p / d) && (is_stepped first q.interval x && own x)) same
               ∙ ap (λ x. lets_date q (p / d) && x) (step_later ((from + j) * d + p % d) t low)
               ∙ sym (ap (λ x. (x && lets_date q (p / d)) && (is_stepped first q.interval ((from + j) * d + p % d) && own ((from + j) * d + p % d))) e)
-            where
-              add_mul : (a b c : ℕ) → (a + b) * c ≡ a * c + b * c
-              add_mul a b c = omega arith
 
       place_count : count (before * d) (λ p. is_stepped (from + j) q.interval (p / d) && is_open_period q first p)
           ≡ count before (λ e. is_stepped (from + j) q.interval e && lets_date q e) * count d
@@ -324,7 +315,7 @@ module _ (q : EffectiveRule) (first : ℕ) (fine : 0 < seconds_of q.frequency) (
         → total + count (from * d) (is_open_period q first) ≡ count (before * d) (is_open_period q first)
     placed_all total j ej et =
         let wide : from * d + (before - from) * d ≡ before * d =
-        (let spread : (from + (before - from)) * d ≡ from * d + (before - from) * d = add_mul from (before - from) d
+        (let spread : (from + (before - from)) * d ≡ from * d + (before - from) * d = add-mul from (before - from) d
         in let back = ap (λ x. x * d) (let all : from + (before - from) ≡ before = omega (arith, order) in all) in omega (arith, spread, back)) in
         let mine = count-add (from * d) ((before - from) * d) (placed j) in
         let all = count-add (from * d) ((before - from) * d) (is_open_period q first) in
@@ -335,9 +326,6 @@ module _ (q : EffectiveRule) (first : ℕ) (fine : 0 < seconds_of q.frequency) (
         let b = ap (λ x. count x (is_open_period q first)) wide in
         omega (arith, mine, all, none, same, a, b, et)
       where
-        add_mul : (a b c : ℕ) → (a + b) * c ≡ a * c + b * c
-        add_mul a b c = omega arith
-
         positive : 1 ≤ d
         positive = (day_some q.frequency).0
 

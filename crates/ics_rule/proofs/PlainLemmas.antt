@@ -24,7 +24,7 @@ use Rattle.ics_rule.specs.Kept.{count, is_beside, rank, size, is_placed, is_chos
 use Rattle.ics_rule.specs.Table.{ByMonth, ByWeekNo, ByYearDay, ByMonthDay, ByDay, ByHour, ByMinute, BySecond}
 use Rattle.ics_rule.specs.ByTable.{is_absent, is_clockless, weekday_unit}
 use Rattle.ics_rule.specs.PlainReading.{is_place, is_wide_place, is_dayless, is_extracted, month_applies, in_year, in_month, month_day_applies}
-use Rattle.ics_rule.specs.PlainReading.{year_day_applies, with_weekday, weekday_period, is_weekday, weekday_applies, fourth_of_week, is_week, week_applies}
+use Rattle.ics_rule.specs.PlainReading.{year_day_applies, with_weekday, weekday_period, weekday_applies, fourth_of_week, is_week, week_applies}
 use Rattle.ics_rule.specs.PlainReading.{hour_applies, minute_applies, second_applies, all_apply, period_at, frequency_applies, occurs_in, position_applies}
 use Rattle.ics_rule.specs.PlainReading.{is_plain_member, is_few_members, is_plainly_kept, HasPlainReading}
 use Rattle.ics_rule.proofs.Counts.{count-same, count-suc, count-none, count_one}
@@ -59,17 +59,13 @@ month_taken Hourly r = refl
 month_taken Minutely r = refl
 month_taken Secondly r = refl
 
+kept_first : (m y b w : Bool) → (m && y && b && w) ≡ ((m && y && b && w) && m)
+kept_first true y b w = sym (keep_true (y && b && w))
+kept_first false y b w = refl
+
 day_taken : (f : Frequency) (r : Recurrence) → takes_month_day f r.parts ≡ (is_extracted r f ByMonthDay && is_absent r ByMonthDay)
 day_taken Yearly r = kept_first (is_absent r ByMonthDay) (is_absent r ByYearDay) (is_absent r ByDay) (is_absent r ByWeekNo)
-  where
-    kept_first : (m y b w : Bool) → (m && y && b && w) ≡ ((m && y && b && w) && m)
-    kept_first true y b w = sym (keep_true (y && b && w))
-    kept_first false y b w = refl
 day_taken Monthly r = kept_first (is_absent r ByMonthDay) (is_absent r ByYearDay) (is_absent r ByDay) (is_absent r ByWeekNo)
-  where
-    kept_first : (m y b w : Bool) → (m && y && b && w) ≡ ((m && y && b && w) && m)
-    kept_first true y b w = sym (keep_true (y && b && w))
-    kept_first false y b w = refl
 day_taken Weekly r = refl
 day_taken Daily r = refl
 day_taken Hourly r = refl

@@ -11,7 +11,7 @@ use Rattle.ics_rule.specs.declared.recurrence_period.RecurrencePeriod.{Recurrenc
 use Rattle.ics_rule.specs.Kept.{count, size}
 use Rattle.ics_rule.specs.RecurrencePeriods.{has_minute, has_second, has_day, holds, IsNth}
 use Rattle.ics_rule.proofs.ScanLemmas.{day_before}
-use Rattle.ics_rule.proofs.Counts.{count-same, count-add, count-from, count-up_to, count-product, count-none, count_none_at, count_one}
+use Rattle.ics_rule.proofs.Counts.{count-same, count-add, count-from, count-up_to, count-all, count-product, count-none, count_none_at, count_one}
 use Rattle.ics_values.specs.Locals.{calendar_end}
 
 -- how many pass before the t-th of block d: the blocks before it, and what passes in it
@@ -21,12 +21,8 @@ count-place d b t p q h =
     let whole = count-product d b p q in
     let block = count-same t (λ k. p ((d * b + k) / b) && q ((d * b + k) % b)) (λ k. p d && q k)
     (λ k l. ap (λ x. p x && q ((d * b + k) % b)) (div-mul-add d b k (omega arith)) ∙ ap (λ x. p d && q x) (mod-mul-add d b k (omega arith))) in
-    let own = count-held (p d) t q in
+    let own = count-all (p d) t q in
     omega (arith, parts, whole, block, own)
-  where
-    count-held : (c : Bool) (n : ℕ) (q : ℕ → Bool) → count n (λ k. c && q k) ≡ cond c 1 0 * count n q
-    count-held true n q = omega arith
-    count-held false n q = count-none n (λ k. false) (λ m l. refl) ∙ omega arith
 
 module _ (n b : ℕ) (p q : ℕ → Bool) (some : 0 < b) where
   count-at : count n (λ m. p (m / b) && q (m % b)) ≡ count (n / b) p * count b q + cond (p (n / b)) 1 0 * count (n % b) q

@@ -1,5 +1,5 @@
 -- A product holds what the rule lets in within the period.
-use Rattle.std.proofs.Common.{◌≡◌, ℕ, ◌+◌, ◌-◌, ◌*◌, ◌/◌, ◌%◌, ◌<◌, ◌≤◌, ◌⊎◌, inl, inr, Bool, true, false, ◌==◌, nat_le, nat_lt, ◌&&◌, ◌||◌, refl, sym, ap}
+use Rattle.std.proofs.Common.{◌≡◌, ℕ, ◌+◌, ◌-◌, ◌*◌, ◌/◌, ◌%◌, ◌<◌, ◌≤◌, inl, inr, Bool, true, false, ◌==◌, nat_le, nat_lt, ◌&&◌, ◌||◌, refl, sym, ap}
 use Rattle.std.proofs.Common.{◌∙◌, arith}
 use Rattle.std.proofs.lemmas.Bool.{and_parts, cases_lt, eq-eqb, eqb-true}
 use Rattle.std.proofs.lemmas.Bool.Decides.{nat_tests}
@@ -147,13 +147,10 @@ exchange true false false d = refl
 exchange false b c d = refl
 
 day_back : (a e : ℕ) (x : Bool) (f : ℕ → Bool) → (nat_le a e && (x && f (a + (e - a)))) ≡ (nat_le a e && (x && f e))
-day_back a e x f = elim (by_order a e) [
-  | inl low ↦ let same : a + (e - a) ≡ e = omega arith in ap (λ z. nat_le a e && (x && f z)) same
-  | inr high ↦ let none : nat_le a e ≡ false = grind (arith, nat_tests) in ap (λ z. z && (x && f (a + (e - a)))) none ∙ ap (λ z. z && (x && f e)) (sym none)
+day_back a e x f = elim (cases_lt e a) [
+  | inl high ↦ let none : nat_le a e ≡ false = grind (arith, nat_tests) in ap (λ z. z && (x && f (a + (e - a)))) none ∙ ap (λ z. z && (x && f e)) (sym none)
+  | inr low ↦ let same : a + (e - a) ≡ e = omega arith in ap (λ z. nat_le a e && (x && f z)) same
 ]
-  where
-    by_order : (a b : ℕ) → (a ≤ b) ⊎ (b < a)
-    by_order a b = grind arith
 
 -- a product of the days that a rule lets in, from that of local b on and before local e, and of the readings that it lets in, if they are not b's
 pub record IsProduct (q : EffectiveRule) (b e : ℕ) (p : RecurrencePeriod) : Type 0 where

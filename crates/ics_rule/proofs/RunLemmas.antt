@@ -12,7 +12,7 @@ use Rattle.ics_values.specs.Ordinals.{lists_none, numbers_of}
 use Rattle.ics_rule.specs.Candidates.{lists, lists_nth}
 use Rattle.ics_rule.specs.Runs.{has_run, weekday_in, lists_weekday}
 use Rattle.ics_rule.proofs.DateLemmas.{none_nth}
-use Rattle.ics_rule.proofs.Tests.{above, and_false, below, iff, or_false, or_swap, three}
+use Rattle.ics_rule.proofs.Tests.{above, and_false, below, iff, keep_true, or_false, or_swap, three}
 
 or_true : (a : Bool) → (a || true) ≡ true
 or_true true = refl
@@ -208,11 +208,7 @@ module _ (r : Run) (listed : ℕ → Bool) (d p from m : ℕ) (a b : Bool) (own 
 
 -- a weekday without a number has any
 pub each_listed : (a x w : Bool) {plain : Bool} (n : Bool) {new : Bool} → plain ≡ true → new ≡ (a || (x && w)) → new ≡ (a || (x && (w && (plain || n))))
-each_listed a x w n h e = e ∙ rw h (ap (λ y. a || (x && y)) (and_true w))
-  where
-    and_true : (w : Bool) → w ≡ (w && true)
-    and_true true = refl
-    and_true false = refl
+each_listed a x w n h e = e ∙ rw h (ap (λ y. a || (x && y)) (sym (keep_true w)))
 
 pub numbered_listed : (a x w : Bool) {plain : Bool} (n : Bool) {new : Bool} → plain ≡ false → new ≡ (a || (x && (w && n)))
     → new ≡ (a || (x && (w && (plain || n))))
@@ -254,12 +250,7 @@ module _ (listed : ℕ → Bool) (w : ℕ) (a x : Bool) where
   ])
 
   pub weekdays_none : a ≡ (a || (x && (nat_lt w 0 && listed w)))
-  weekdays_none = rw (le-ltb w 0 (omega arith)) (nothing a x)
-    where
-      nothing : (a x : Bool) → a ≡ (a || (x && false))
-      nothing true x = refl
-      nothing false true = refl
-      nothing false false = refl
+  weekdays_none = rw (le-ltb w 0 (omega arith)) (sym (ap (λ y. a || y) (and_false x) ∙ or_false a))
 
 -- a weekday that BYDAY does not list has no day
 pub unnamed : (w : Weekdays) (d n size : ℕ) → (contains w.plain d || not (lists_none (numbers_of w d))) ≡ false → lists_weekday w d n size ≡ false
@@ -307,12 +298,7 @@ module _ (r : Run) (listed : ℕ → Bool) (from m : ℕ) (a b : Bool) where
           ∙ next_found listed from n (m - r.start + 1) next
 
   pub day_none : a ≡ day_found 1
-  day_none = rw (le-ltb (m - r.start + 1) 1 (omega arith)) (nothing a (has_run r m))
-    where
-      nothing : (a x : Bool) → a ≡ (a || (x && false))
-      nothing true x = refl
-      nothing false true = refl
-      nothing false false = refl
+  day_none = rw (le-ltb (m - r.start + 1) 1 (omega arith)) (sym (ap (λ y. a || y) (and_false (has_run r m)) ∙ or_false a))
 
   pub day_done : (lists : ℕ → Bool) → ((n : ℕ) → from ≤ n → listed n ≡ false) → ((n : ℕ) → 1 ≤ n → listed n ≡ (nat_le n r.len && lists n)) → b ≡ day_found from
       → b ≡ (a || (has_run r m && lists (m - r.start + 1)))

@@ -1,7 +1,7 @@
 -- The next number that passes a test of its part / k and a test of its part % k.
 use Rattle.std.proofs.Common.{◌≡◌, ℕ, zero, suc, ◌+◌, ◌-◌, ◌*◌, ◌/◌, ◌%◌, ◌^◌, ◌<◌, ◌≤◌, ◌⊎◌, inl, inr, ◌≢◌, Bool, true, false, ◌==◌, ◌||◌, ◌&&◌, nat_lt}
 use Rattle.std.proofs.Common.{nat_le, get_or, pos, refl, sym, subst, ap, ◌∙◌, arith}
-use Rattle.std.proofs.lemmas.Bool.{and_from, and_left, and_parts, and_right, cases_eq, ne_eqb}
+use Rattle.std.proofs.lemmas.Bool.{and_from, and_left, and_parts, and_right, cases_eq, lt-ltb, ne_eqb}
 use Rattle.std.proofs.lemmas.Bool.Decides.{nat_tests}
 use Rattle.std.proofs.lemmas.List.{get_or_past}
 use Rattle.std.proofs.lemmas.Nat.{div-mul-add, mod-mul-add, div-add-mod', le-div}
@@ -13,7 +13,7 @@ use Rattle.ics_values.proofs.SetLemmas.{member_below}
 use Rattle.ics_rule.specs.declared.recurrence_period.RecurrencePeriod.{RecurrencePeriod}
 use Rattle.ics_rule.specs.RecurrencePeriods.{has_minute, has_time, has_day}
 use Rattle.ics_values.specs.Sets.{contains, contains_wide, none_wide, only, IsLeastFrom}
-use Rattle.ics_rule.proofs.Tests.{self_test}
+use Rattle.ics_rule.proofs.Tests.{keep_true, self_test}
 
 three : (a b : ℕ) → a ≤ b → (a ≡ b) ⊎ (a + 1 ≤ b)
 three a b h = grind arith
@@ -83,29 +83,15 @@ module _ (k : ℕ) (some : 0 < k) where
 -- the set of one number, and the empty set
 pub contains-only : (h m : ℕ) → contains (only h) m ≡ (m == h)
 contains-only h m = elim (cases_eq m h) [
-  | inl same ↦ rw same (ap (λ x. x == 1) (bit_at-pow_same h) ∙ self h)
-  | inr other ↦ ap (λ x. x == 1) (bit_at-pow_other h m other) ∙ apart m h other
+  | inl same ↦ rw same (ap (λ x. x == 1) (bit_at-pow_same h) ∙ sym (self_test h))
+  | inr other ↦ ap (λ x. x == 1) (bit_at-pow_other h m other) ∙ sym (ne_eqb m h other)
 ]
-  where
-    self : (h : ℕ) → true ≡ (h == h)
-    self h = grind (arith, nat_tests)
-
-    apart : (m h : ℕ) → m ≢ h → false ≡ (m == h)
-    apart m h o = grind (arith, nat_tests)
 
 pub own_only : (f : ℕ → Bool) (own m : ℕ) → f own ≡ true → (m == own) ≡ ((m == own) && f m)
 own_only f own m h = elim (cases_eq m own) [
-  | inl same ↦ rw same (one (own == own) (f own) h)
-  | inr other ↦ two (m == own) (f m) (ne_eqb m own other)
+  | inl same ↦ rw same (sym (ap (λ x. (own == own) && x) h ∙ keep_true (own == own)))
+  | inr other ↦ let apart = ne_eqb m own other in apart ∙ sym (and_left (m == own) (f m) apart)
 ]
-  where
-    one : (a b : Bool) → b ≡ true → a ≡ (a && b)
-    one true b h = sym h
-    one false b h = refl
-
-    two : (a b : Bool) → a ≡ false → a ≡ (a && b)
-    two true b h = absurd (cc)
-    two false b h = refl
 
 -- no number is a member of the empty set
 none_get : (i : ℕ) → get_or none_wide i 0 ≡ 0
@@ -122,20 +108,17 @@ none_has m = and_right (nat_lt m 384) (contains (get_or none_wide (m / 64) 0) (m
     ∙ ap (λ x. x == 1) (bit_at-zero (m % 64)))
 
 -- the test of one number more
+grow : (m k : ℕ) → m ≢ k → nat_lt m k ≡ nat_lt m (k + 1)
+grow m k o = grind (arith, nat_tests)
+
 pub one_more : (f : ℕ → Bool) (k m : ℕ) (b : Bool) → f k ≡ true → b ≡ (nat_lt m k && f m) → ((m == k) || b) ≡ (nat_lt m (k + 1) && f m)
 one_more f k m b h e = elim (cases_eq m k) [
   | inl same ↦ ap (λ x. (m == k) || x) e
       ∙ subst (λ x. ((x == k) || (nat_lt x k && f x)) ≡ (nat_lt x (k + 1) && f x)) (sym same)
-      (here (nat_lt k k) (self_test k) (next_test k) h)
+      (here (nat_lt k k) (self_test k) (lt-ltb k (k + 1) (omega arith)) h)
   | inr other ↦ ap (λ x. (m == k) || x) e ∙ (there (m == k) (nat_lt m k) (nat_lt m (k + 1)) (f m) (ne_eqb m k other) (grow m k other))
 ]
   where
-    next_test : (k : ℕ) → nat_lt k (k + 1) ≡ true
-    next_test k = grind (arith, nat_tests)
-
-    grow : (m k : ℕ) → m ≢ k → nat_lt m k ≡ nat_lt m (k + 1)
-    grow m k o = grind (arith, nat_tests)
-
     here : {a c d : Bool} (b : Bool) → a ≡ true → c ≡ true → d ≡ true → (a || (b && d)) ≡ (c && d)
     here b p q r = rw (p, q, r) refl
 
@@ -148,16 +131,10 @@ no_more f k m b h e = elim (cases_eq m k) [
       ∙ sym (and_right (nat_lt k (k + 1)) (f k) h))
   | inr other ↦ e ∙ ap (λ x. x && f m) (grow m k other)
 ]
-  where
-    grow : (m k : ℕ) → m ≢ k → nat_lt m k ≡ nat_lt m (k + 1)
-    grow m k o = grind (arith, nat_tests)
 
 -- what the test of one word says below 64
 pub in_word : (n : ℕ) (b : Bool) → n < 64 → (nat_lt n 64 && b) ≡ b
-in_word n b h = ap (λ x. x && b) (within n h)
-  where
-    within : (n : ℕ) → n < 64 → nat_lt n 64 ≡ true
-    within n h = grind (arith, nat_tests)
+in_word n b h = ap (λ x. x && b) (lt-ltb n 64 h)
 
 -- minutes and seconds of the product lie in the day
 pub minute_below : (hours minutes m : ℕ) → hours < 2 ^ 24 → has_minute hours minutes m ≡ true → m < 1440

@@ -17,6 +17,7 @@ use Rattle.ics_rule.specs.Candidates.{week_number, weeks_of_year, lets_place, le
 use Rattle.ics_rule.specs.Runs.{may_list_week}
 use Rattle.ics_rule.proofs.PeriodLemmas.{week_small, fourth_late}
 use Rattle.ics_rule.proofs.RunLemmas.{next_found, all_found}
+use Rattle.ics_rule.proofs.MonthDays.{year_day_is}
 use Rattle.ics_rule.proofs.Tests.{none_yet, or_swap}
 
 -- the days between two
@@ -68,10 +69,6 @@ pub record IsNear (weeks : Ordinals) (fourth k n : ℕ) : Type 0 where
 
 abbrev pub IsFound : Ordinals → ℕ → ℕ → ℕ → Type 0
 IsFound weeks fourth len k = (k < 3) ⊎ ((len ≤ k + 3) ⊎ ((n : ℕ) × IsNear weeks fourth k n))
-
-year_day_is : (f y : ℕ) → year_of f ≡ y → year_day_of f ≡ f - days_before_year y + 1
-unfolding year_day_of
-year_day_is f y h = rw h refl
 
 -- a week of the year that is listed, by the place of its fourth day in the year
 module _ (q : EffectiveRule) (some : lists_none q.weeks ≡ false) where
