@@ -1,6 +1,6 @@
 -- What a rule chooses within a period is what the product that holds the period takes.
 use Rattle.std.proofs.Common.{◌≡◌, ℕ, suc, ◌+◌, ◌⊎◌, inl, inr, ◌≢◌, Bool, true, false, ◌&&◌, ◌==◌, refl, sym, ap, ◌∙◌, arith}
-use Rattle.std.proofs.lemmas.Bool.{cases_eq, eq-eqb, ne_eqb}
+use Rattle.std.proofs.lemmas.Bool.{and_right, cases_eq, eq-eqb, ne_eqb}
 use Rattle.ics_values.specs.declared.ordinals.WideOrdinals.{WideOrdinals}
 use Rattle.ics_values.specs.Ordinals.{lists_none_wide}
 use Rattle.ics_rule.specs.declared.effective_rule.EffectiveRule.{EffectiveRule}
@@ -12,7 +12,7 @@ use Rattle.ics_rule.specs.RecurrencePeriods.{holds, is_let_in, IsPeriodOf, is_li
 use Rattle.ics_rule.specs.Searches.{is_chosen_within}
 use Rattle.ics_rule.proofs.Counts.{count-same, count-suc, count_one}
 use Rattle.ics_values.specs.Locals.{calendar_end}
-use Rattle.ics_rule.proofs.Tests.{and_false, keep_true}
+use Rattle.ics_rule.proofs.Tests.{and_assoc, and_false, keep_true}
 
 -- outside of the steps nothing is chosen
 pub no_step : (q : EffectiveRule) (start n : ℕ) → is_stepped (period_in q start) q.interval (period_in q n) ≡ false → is_chosen q start n ≡ false
@@ -23,15 +23,9 @@ pub not_let_in : (q : EffectiveRule) (start n : ℕ) →
     (is_stepped (period_in q start) q.interval (period_in q n) ≡ true → (lets_date q (day_of n) && lets_clock q n) ≡ false) → is_chosen q start n ≡ false
 not_let_in q start n none = by_step (is_stepped (period_in q start) q.interval (period_in q n)) refl
   where
-    all_out : (a b c d : Bool) → (b && c) ≡ false → (a && b && c && d) ≡ false
-    all_out false b c d h = refl
-    all_out true false c d h = refl
-    all_out true true false d h = refl
-    all_out true true true d h = absurd (cc)
-
     by_step : (b : Bool) → is_stepped (period_in q start) q.interval (period_in q n) ≡ b → is_chosen q start n ≡ false
-    by_step true e = all_out (is_stepped (period_in q start) q.interval (period_in q n)) (lets_date q (day_of n)) (lets_clock q n)
-        (is_placed q start (lists_none_wide q.positions) n) (none e)
+    by_step true e = ap (λ x. x && is_placed q start (lists_none_wide q.positions) n)
+        (and_assoc (is_stepped (period_in q start) q.interval (period_in q n)) (lets_date q (day_of n)) (lets_clock q n) ∙ and_right _ _ (none e))
     by_step false e = no_step q start n e
 
 -- the candidates of a period that lies a multiple of the interval from the start's are what the rule lets in there

@@ -1,6 +1,6 @@
 -- The tests of a date by the fields that `civil` gives.
 use Rattle.std.proofs.Common.{◌≡◌, ℕ, ◌<◌, nat_lt, ◌+◌, ◌-◌, ◌/◌, ◌%◌, Bool, true, false, not, ◌&&◌, ◌||◌, ◌==◌, if◌then◌else◌, pos, refl, sym, ap, ◌∙◌, arith}
-use Rattle.std.proofs.lemmas.Bool.{and_parts, or_left}
+use Rattle.std.proofs.lemmas.Bool.{and_parts, and_right, or_left}
 use Rattle.std.proofs.lemmas.Bool.Decides.{nat_tests}
 use Rattle.std.proofs.lemmas.Nat.Bits.{bit_at-zero}
 use Rattle.ics_values.specs.declared.frequency.Frequency.{Frequency}
@@ -14,7 +14,7 @@ use Rattle.ics_rule.specs.declared.effective_rule.EffectiveRule.{EffectiveRule}
 use Rattle.ics_values.specs.declared.fields.Civil.{Civil}
 use Rattle.ics_values.specs.Days.{year_of, year_day_of, month_of, month_day_of, weekday_of}
 use Rattle.ics_values.specs.Fields.{IsCivilOf}
-use Rattle.ics_rule.specs.Candidates.{lets, lets_place, lets_wide_place, lets_week, lists_nth, lets_numbered, lets_weekday, lets_date, fourth_day}
+use Rattle.ics_rule.specs.Candidates.{lets_place, lets_week, lists_nth, lets_numbered, lets_weekday, lets_date, fourth_day}
 use Rattle.ics_rule.specs.DateParts.{names_weekdays_alone}
 use Rattle.ics_rule.specs.NamedWeekdays.{names_weekday}
 use Rattle.ics_rule.proofs.ScanLemmas.{in_word}
@@ -28,18 +28,9 @@ lets_week-fields q e c f =
     ∙ ap (λ d. lets_place q.weeks ((d - 1) / 7 + 1) ((days_in_year (pos (year_of (fourth_day (monday_zero q.week_start) e))) - 1 - (d - 1) % 7) / 7 + 1))
     f.year_day
 
--- a conjunction fails at each of its parts
+-- a conjunction fails at its first part
 pub out_1 : (a b c d e : Bool) → a ≡ false → (a && b && c && d && e) ≡ false
-out_1 true b c d e h = absurd (cc)
-out_1 false b c d e h = refl
-
-pub out_5 : (a b c d e : Bool) → e ≡ false → (a && b && c && d && e) ≡ false
-out_5 a b c d true h = absurd (cc)
-out_5 true true true true false h = refl
-out_5 true true true false false h = refl
-out_5 true true false d false h = refl
-out_5 true false c d false h = refl
-out_5 false b c d false h = refl
+out_1 a b c d e h = rw h refl
 
 pub all_in : {a b c d : Bool} (e : Bool) → a ≡ true → b ≡ true → c ≡ true → d ≡ true → e ≡ (a && b && c && d && e)
 all_in e p q r s = rw (p, q, r, s) refl
@@ -72,8 +63,7 @@ none_numbered Secondly q p e h = ap not h
 
 pub weekday_out : (q : EffectiveRule) (e : ℕ) → (lists_no_weekday q.weekdays || contains q.weekdays.plain (weekday_of e)) ≡ false →
     lists_none (numbers_of q.weekdays (weekday_of e)) ≡ true → lets_date q e ≡ false
-weekday_out q e a c = out_5 (lets q.months (month_of e)) (lets_place q.month_days (month_day_of e) (days_in_month (pos (year_of e)) (month_of e)))
-    (lets_wide_place q.year_days (year_day_of e) (days_in_year (pos (year_of e)))) (lets_week q e) (lets_weekday q e)
+weekday_out q e a c = and_right _ (lets_weekday q e)
     (ap (λ x. x || lets_numbered q.frequency q (numbers_of q.weekdays (weekday_of e)) e) a
     ∙ none_numbered q.frequency q (numbers_of q.weekdays (weekday_of e)) e c)
 

@@ -26,7 +26,7 @@ use Rattle.ics_rule.proofs.StepLemmas.{stepped_parts}
 use Rattle.ics_rule.proofs.CountLemmas.{IsCountedStep}
 use Rattle.ics_rule.proofs.RoundLemmas.{step_repeats}
 use Rattle.ics_values.specs.Locals.{calendar_end}
-use Rattle.ics_rule.proofs.Tests.{keep_true, last_part}
+use Rattle.ics_rule.proofs.Tests.{and_assoc, keep_true, last_part}
 
 -- the clock is a period's own and what is within it
 pub clock_split : (f : Frequency) (q : EffectiveRule) (n : ℕ) → lets_clock q n ≡ (lets_own f q n && lets_within f q n)
@@ -174,12 +174,8 @@ module _ (q : EffectiveRule) (start : ℕ) (fine : 0 < seconds_of q.frequency) (
       ∙ ap (λ x. is_stepped (period_in q start) q.interval p && lets_date q (p / per_day q.frequency) && x)
       (clock_split q.frequency q (p * u + k) ∙ ap (λ x. x && lets_within q.frequency q (p * u + k)) (own_at q p k q.frequency fine unit l)
       ∙ ap (λ x. lets_own q.frequency q (p * u) && x) (within_at q p k q.frequency fine unit l))
-      ∙ turn (is_stepped (period_in q start) q.interval p) (lets_date q (p / per_day q.frequency)) (lets_own q.frequency q (p * u)) (within k)
-    where
-      turn : (a b c d : Bool) → ((a && b) && (c && d)) ≡ ((a && (b && c)) && d)
-      turn false b c d = refl
-      turn true false c d = refl
-      turn true true c d = refl
+      ∙ sym (and_assoc (is_stepped (period_in q start) q.interval p && lets_date q (p / per_day q.frequency)) (lets_own q.frequency q (p * u)) (within k))
+      ∙ ap (λ x. x && within k) (and_assoc (is_stepped (period_in q start) q.interval p) (lets_date q (p / per_day q.frequency)) (lets_own q.frequency q (p * u)))
 
   -- what stands beside a local of an is_open period
   module _ (p k : ℕ) (l : k < u) (is : is_open p ≡ true) where

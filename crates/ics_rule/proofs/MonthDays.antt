@@ -22,7 +22,7 @@ use Rattle.ics_rule.proofs.Months.{earlier_month, later_month, month_of_low}
 use Rattle.ics_rule.proofs.PeriodLemmas.{month_positive, month_size, IsPeriodFrom}
 use Rattle.ics_rule.proofs.DayWalkLemmas.{fields_at}
 use Rattle.ics_rule.proofs.RunLemmas.{next_found, all_found, guard, run_facts, run_shown}
-use Rattle.ics_rule.proofs.Tests.{above, and_assoc, below, keep_true, three}
+use Rattle.ics_rule.proofs.Tests.{above, and_assoc, below, keep_true, last_part, three}
 
 -- the month that a day of its year lies in
 module _ (r : Run) (first y m k : ℕ) (own : IsMonth r first y m) where
@@ -314,25 +314,11 @@ narrowed false some test a = refl
 
 -- what the parts of the date say apart
 pub number_let_in : (q : EffectiveRule) (e : ℕ) → lets_date q e ≡ true → lets_wide_place q.year_days (year_day_of e) (days_in_year (pos (year_of e))) ≡ true
-number_let_in q e h = third (lets q.months (month_of e)) (lets_place q.month_days (month_day_of e) (days_in_month (pos (year_of e)) (month_of e)))
-    (lets_wide_place q.year_days (year_day_of e) (days_in_year (pos (year_of e)))) (lets_week q e) (lets_weekday q e) h
-  where
-    third : (a b c d e : Bool) → (a && b && c && d && e) ≡ true → c ≡ true
-    third true true true d e h = refl
-    third true true false d e h = absurd (cc)
-    third true false c d e h = absurd (cc)
-    third false b c d e h = absurd (cc)
+number_let_in q e h = last_part _ (lets_wide_place q.year_days (year_day_of e) (days_in_year (pos (year_of e))))
+    (and_parts _ (lets_week q e) (and_parts _ (lets_weekday q e) h).0).0
 
 pub week_let_in : (q : EffectiveRule) (e : ℕ) → lets_date q e ≡ true → lets_week q e ≡ true
-week_let_in q e h = fourth (lets q.months (month_of e)) (lets_place q.month_days (month_day_of e) (days_in_month (pos (year_of e)) (month_of e)))
-    (lets_wide_place q.year_days (year_day_of e) (days_in_year (pos (year_of e)))) (lets_week q e) (lets_weekday q e) h
-  where
-    fourth : (a b c d e : Bool) → (a && b && c && d && e) ≡ true → d ≡ true
-    fourth true true true true e h = refl
-    fourth true true true false e h = absurd (cc)
-    fourth true true false d e h = absurd (cc)
-    fourth true false c d e h = absurd (cc)
-    fourth false b c d e h = absurd (cc)
+week_let_in q e h = last_part _ (lets_week q e) (and_parts _ (lets_weekday q e) h).0
 
 -- the days of a year by their numbers
 pub year_day_is : (e y : ℕ) → year_of e ≡ y → year_day_of e ≡ e - days_before_year y + 1

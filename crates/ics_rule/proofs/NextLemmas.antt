@@ -11,7 +11,7 @@ use Rattle.ics_rule.specs.Kept.{count, is_chosen, is_kept, is_in_rule, is_by_unt
 use Rattle.ics_rule.specs.Searches.{is_few, is_wanted, NoneWanted, IsNextBefore}
 use Rattle.ics_rule.specs.Next.{NoneKept, IsNextKept}
 use Rattle.ics_rule.proofs.Counts.{count-suc, count-add, count-none, count-same, count_one}
-use Rattle.ics_rule.proofs.Tests.{self_test, unequal}
+use Rattle.ics_rule.proofs.Tests.{and_false, keep_true, self_test, unequal}
 
 -- what the rule has: the start, nothing before it, and later what it chooses
 pub in_rule_start : (r : Recurrence) → is_in_rule r (number r.start) ≡ true
@@ -66,12 +66,7 @@ unfolding is_kept
 kept_later r n l e = by_count r.parts.count
   where
     free : {a b t t' : Bool} (u : Bool) → a ≡ false → b ≡ true → t ≡ t' → (a || (b && t && u && true)) ≡ (t' && u)
-    free {t' = t'} u p q s = rw (p, q, s) (last t' u)
-      where
-        last : (t u : Bool) → (false || (true && t && u && true)) ≡ (t && u)
-        last true true = refl
-        last true false = refl
-        last false u = refl
+    free {t' = t'} u p q s = rw (p, q, s) (keep_true (t' && u))
 
     counted : {a b t t' k f : Bool} (u : Bool) → a ≡ false → b ≡ true → t ≡ t' → k ≡ f → (a || (b && t && u && k)) ≡ ((t' && f) && u)
     counted {t' = t'} {f = f} u p q s w = rw (p, q, s, w) (last t' u f)
@@ -97,11 +92,7 @@ kept_earlier r n l = out (nat_lt n rules_end) (is_by_until r.kind r.parts.until 
     (unequal n (number r.start) (inl l)) (in_rule_earlier r n l)
   where
     out : {a t : Bool} (b u k : Bool) → a ≡ false → t ≡ false → (a || (b && t && u && k)) ≡ false
-    out b u k p q = rw (p, q) (last b)
-      where
-        last : (b : Bool) → (false || (b && false && u && k)) ≡ false
-        last true = refl
-        last false = refl
+    out b u k p q = rw (p, q) (ap (λ x. x && u && k) (and_false b))
 
 pub kept_start : (r : Recurrence) → is_kept r (number r.start) ≡ true
 unfolding is_kept

@@ -1,5 +1,5 @@
 -- Steps over periods that hold nothing.
-use Rattle.std.proofs.Common.{◌≡◌, ℕ, ◌+◌, ◌-◌, ◌*◌, ◌/◌, ◌%◌, ◌<◌, ◌≤◌, inl, inr, Bool, true, false, ◌||◌, ◌&&◌, ◌==◌, max, refl, sym, subst, ap, ◌∙◌, arith}
+use Rattle.std.proofs.Common.{◌≡◌, ℕ, ◌+◌, ◌-◌, ◌*◌, ◌/◌, ◌%◌, ◌<◌, ◌≤◌, inl, inr, Bool, true, false, ◌||◌, ◌&&◌, ◌==◌, max, sym, subst, ap, ◌∙◌, arith}
 use Rattle.std.proofs.lemmas.Bool.{and_right, cases_lt}
 use Rattle.jiff_core.specs.Weekday.{monday_zero}
 use Rattle.ics_values.specs.Sets.{contains, IsLeastFrom}
@@ -54,11 +54,6 @@ module _ (q : EffectiveRule) (hours minutes seconds : ℕ)
       ∙ ap (λ x. (x && contains minutes (n / 60 % 60)) && contains seconds (n % 60)) (h (n / 3_600 % 24) (omega arith))
       ∙ ap (λ x. (lets q.hours (n / 3_600 % 24) && x) && contains seconds (n % 60)) (i (n / 60 % 60) (omega arith))
       ∙ ap (λ x. (lets q.hours (n / 3_600 % 24) && lets q.minutes (n / 60 % 60)) && x) (s (n % 60) (omega arith))
-      ∙ grouped (lets q.hours (n / 3_600 % 24)) (lets q.minutes (n / 60 % 60)) (lets q.seconds (n % 60))
-    where
-      grouped : (a b c : Bool) → ((a && b) && c) ≡ (a && b && c)
-      grouped true b c = refl
-      grouped false b c = refl
 
   pub second_next : (n : ℕ) {t : ℕ} → t < 86_400 → IsLeastFrom (has_time hours minutes seconds) (n % 86_400) t → (m : ℕ) → n ≤ m → m < n / 86_400 * 86_400 + t →
       lets_clock q m ≡ false

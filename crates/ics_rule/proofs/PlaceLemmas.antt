@@ -13,7 +13,7 @@ use Rattle.ics_rule.specs.Ranks.{HasRank}
 use Rattle.ics_rule.proofs.Counts.{count-suc, count-none, count_mono, count_one_more, count_one, count_none_at}
 use Rattle.ics_rule.proofs.KeptLemmas.{and_true}
 use Rattle.ics_rule.proofs.NextLemmas.{in_rule_start, in_rule_earlier}
-use Rattle.ics_rule.proofs.Tests.{three}
+use Rattle.ics_rule.proofs.Tests.{keep_true, three}
 
 -- ---- the k-th of those that pass
 
@@ -83,15 +83,11 @@ module _ (r : Recurrence) (c : ℕ) (counted : r.parts.count ≡ Some c) (some :
             ∙ lt-ltb (count n (is_in_rule r)) c
             (let none = count-none n (is_in_rule r) (λ m l. in_rule_earlier r m (omega (arith, l, same.1))) in omega (arith, none, some)))
         | inr other ↦
-            ap (λ b. b || (is_in_rule r n && true && nat_lt (count n (is_in_rule r)) c)) other ∙ dropped (is_in_rule r n) (nat_lt (count n (is_in_rule r)) c)
+            ap (λ b. b || (is_in_rule r n && true && nat_lt (count n (is_in_rule r)) c)) other ∙ ap (λ b. b && nat_lt (count n (is_in_rule r)) c) (keep_true (is_in_rule r n))
       ])
     where
       by_start : (a b : ℕ) → (((a == b) ≡ true) × (a ≡ b)) ⊎ ((a == b) ≡ false)
       by_start a b = grind (arith, nat_tests)
-
-      dropped : (a b : Bool) → (a && true && b) ≡ (a && b)
-      dropped true b = refl
-      dropped false b = refl
 
   pub kept_number : (n : ℕ) → n ≤ rules_end → count n (is_kept r) ≡ min (count n (is_in_rule r)) c
   kept_number zero inside = unfold count in omega arith

@@ -1,7 +1,7 @@
 -- The days that are added to a set, of a run in which they have numbers.
 use Rattle.std.proofs.Common.{◌≡◌, ℕ, ◌+◌, ◌-◌, ◌*◌, ◌/◌, ◌^◌, ◌<◌, ◌≤◌, ◌⊎◌, inl, inr, Bool, true, false, not, ◌==◌, ◌||◌, ◌&&◌, nat_lt, nat_le, refl, sym}
 use Rattle.std.proofs.Common.{ap, ◌∙◌, arith}
-use Rattle.std.proofs.lemmas.Bool.{and_parts, and_right, cases_lt, eq-eqb, eqb-true, le-leb, le-ltb, lt-ltb}
+use Rattle.std.proofs.lemmas.Bool.{and_parts, and_right, cases_lt, eq-eqb, eqb-true, le-leb, le-ltb, lt-ltb, or_right}
 use Rattle.std.proofs.lemmas.Bool.Decides.{nat_tests}
 use Rattle.ics_values.specs.Sets.{contains, IsLeastFrom}
 use Rattle.ics_values.proofs.SetLemmas.{has_above}
@@ -14,24 +14,21 @@ use Rattle.ics_rule.specs.Runs.{has_run, weekday_in, lists_weekday}
 use Rattle.ics_rule.proofs.DateLemmas.{none_nth}
 use Rattle.ics_rule.proofs.Tests.{above, and_false, below, iff, keep_true, or_false, or_swap, three}
 
-or_true : (a : Bool) → (a || true) ≡ true
-or_true true = refl
-or_true false = refl
+-- of three tests of which the second fails, the third does not count
+out : (x y z : Bool) → (x && false && y) ≡ (x && false && z)
+out true y z = refl
+out false y z = refl
 
 -- the members found before a place, and the next
 pub next_found : (f : ℕ → Bool) (from k x : ℕ) → IsLeastFrom f from k → ((x == k) || (nat_lt x from && f x)) ≡ (nat_lt x (k + 1) && f x)
 next_found f from k x next = elim (three x k) [
   | inl low ↦ rw (below x k low, lt-ltb x (k + 1) (omega (arith, low))) (elim (cases_lt x from) [
     | inl seen ↦ rw (lt-ltb x from seen) refl
-    | inr new ↦ rw (next.least x new low) (none (nat_lt x from))
+    | inr new ↦ rw (next.least x new low) (and_false (nat_lt x from))
   ])
   | inr (inl here) ↦ rw (eq-eqb x k here, lt-ltb x (k + 1) (omega (arith, here))) (sym (rw (← here) at next.passes))
   | inr (inr high) ↦ rw (above x k high, le-ltb x (k + 1) (omega (arith, high)), le-ltb x from (omega (arith, high, next.low))) refl
 ]
-  where
-    none : (a : Bool) → (false || (a && false)) ≡ (true && false)
-    none true = refl
-    none false = refl
 
 -- where none is left, all are found
 pub all_found : (f : ℕ → Bool) (from x : ℕ) → (from ≤ x → f x ≡ false) → (nat_lt x from && f x) ≡ f x
@@ -106,7 +103,7 @@ module _ (r : Run) (d p m : ℕ) (a b : Bool) (own : weekday_in r p ≡ d) where
     | inr (inl here) ↦
         let begun : nat_le r.start m ≡ true = grind (arith, nat_tests) in
         let place : m - r.start ≡ p = omega (arith, here) in
-        rw (eq-eqb m (r.start + p) here, begun, place, lt-ltb p r.len inside, lt-ltb p (p + 7) (omega arith), eq-eqb (weekday_in r p) d own) (sym (or_true a))
+        rw (eq-eqb m (r.start + p) here, begun, place, lt-ltb p r.len inside, lt-ltb p (p + 7) (omega arith), eq-eqb (weekday_in r p) d own) (sym (or_right a true refl))
     | inr (inr high) ↦ rw (above m (r.start + p) high) (e ∙ others (inr (inr (omega (arith, high)))))
   ]
 
@@ -125,8 +122,7 @@ module _ (r : Run) (d p m : ℕ) (a b : Bool) (own : weekday_in r p ≡ d) where
       ]
 
       or_none : (x : Bool) {y : Bool} → y ≡ false → a ≡ (a || (x && y))
-      or_none true h = sym (ap (λ y. a || y) h ∙ or_false a)
-      or_none false h = sym (or_false a)
+      or_none x {y = y} h = sym (ap (λ z. a || z) (and_right x y h) ∙ or_false a)
 
   -- where the place is past the run, each day of it was seen
   pub weekday_done : r.len ≤ p → b ≡ found p → b ≡ (a || (has_run r m && (weekday_in r (m - r.start) == d)))
@@ -134,10 +130,6 @@ module _ (r : Run) (d p m : ℕ) (a b : Bool) (own : weekday_in r p ≡ d) where
     | inl inside ↦ rw (lt-ltb (m - r.start) p (omega (arith, inside, h))) refl
     | inr past ↦ rw (le-ltb (m - r.start) r.len past) (out (nat_le r.start m) _ _)
   ])
-    where
-      out : (x y z : Bool) → (x && false && y) ≡ (x && false && z)
-      out true y z = refl
-      out false y z = refl
 
 pub guard : (a b c : Bool) → (a ≡ true → b ≡ c) → (a && b) ≡ (a && c)
 guard true b c h = h refl
@@ -182,7 +174,7 @@ module _ (r : Run) (listed : ℕ → Bool) (d p from m : ℕ) (a b : Bool) (own 
       ∙ ap (λ y. a || (has_run r m && ((weekday_in r (m - r.start) == d) && y))) (next_found listed from n ((m - r.start) / 7 + 1) next)
     where
       merge : (x w s t z : Bool) → ((x && (w && s)) || (z || (x && (w && t)))) ≡ (z || (x && (w && (s || t))))
-      merge true true s t true = or_true s
+      merge true true s t true = or_right s true refl
       merge true true s t false = refl
       merge true false s t z = refl
       merge false w s t z = refl
@@ -282,7 +274,7 @@ module _ (r : Run) (listed : ℕ → Bool) (from m : ℕ) (a b : Bool) where
             lt-ltb (m - r.start + 1) (n + 1)
                 (omega (arith, here)),
             ap listed here ∙ next.passes,
-          ) (sym (or_true a))
+          ) (sym (or_right a true refl))
           | inr (inr high) ↦ rw (above (m - r.start + 1) n high) (ap (λ x. a || ((true && nat_lt (m - r.start) r.len) && x)) (high_step high))
         ])
   ]
@@ -310,10 +302,6 @@ module _ (r : Run) (listed : ℕ → Bool) (from m : ℕ) (a b : Bool) where
           ≡ (has_run r m && lists (m - r.start + 1))
       within (inl inside) = let in_len : nat_le (m - r.start + 1) r.len ≡ true = grind (arith, nat_tests) in rw in_len refl
       within (inr past) = rw (le-ltb (m - r.start) r.len past) (out (nat_le r.start m) _ _)
-        where
-          out : (x y z : Bool) → ((x && false) && y) ≡ ((x && false) && z)
-          out true y z = refl
-          out false y z = refl
 
 -- a listed number is one of so many
 pub listed_within : (n size : ℕ) (b : Bool) → (nat_le n size && b) ≡ true → n ≤ size

@@ -1,5 +1,6 @@
 -- The table of expansion and limits gives what the parts of a effective rule let in.
 use Rattle.std.proofs.Common.{◌≡◌, ℕ, ◌+◌, ◌*◌, ◌/◌, ◌%◌, Bool, true, false, not, ◌&&◌, ◌||◌, ◌==◌, if◌then◌else◌, pos, refl, sym, subst, ap, ◌∙◌, arith}
+use Rattle.std.proofs.lemmas.Bool.{and_parts}
 use Rattle.jiff_core.specs.Calendar.{days_in_month, days_in_year}
 use Rattle.ics_values.specs.declared.frequency.Frequency.{Frequency}
 use Rattle.ics_values.specs.declared.frequency.Frequency.TheVariants.{Secondly, Minutely, Hourly, Daily, Weekly, Monthly, Yearly}
@@ -77,10 +78,6 @@ absent a b h = sym (ap (λ x. x || b) h)
 first_true : (a b c d : Bool) → (a && b && c && d) ≡ true → a ≡ true
 first_true true b c d h = refl
 first_true false b c d h = absurd (cc)
-
-fore_true : (a b : Bool) → (a && b) ≡ true → a ≡ true
-fore_true true b h = refl
-fore_true false b h = absurd (cc)
 
 -- ---- the clock
 
@@ -671,7 +668,7 @@ module _ (rule : Recurrence) (allowed : IsAllowed (at Yearly rule)) (p n : ℕ) 
   yearly_days i =
       yearly_numbers (contains rule.parts.weekdays.plain i.weekday) (numbers_of rule.parts.weekdays i.weekday) i (no_weekday rule) (no_week rule)
       takes_this_month
-      (λ e. third (no_month_day rule) (no_year_day rule) (no_weekday rule) (no_week rule) (fore_true takes_this_day (no_month rule) e))
+      (λ e. third (no_month_day rule) (no_year_day rule) (no_weekday rule) (no_week rule) (and_parts takes_this_day (no_month rule) e).0)
       (months_taken takes_this_month (start_of rule).month rule.parts.months)
       (λ e. allowed.numbers (week_unit (no_week rule) (no_month rule) e) i.weekday)
 

@@ -18,15 +18,11 @@ use Rattle.ics_rule.specs.Runs.{may_list_week}
 use Rattle.ics_rule.proofs.PeriodLemmas.{week_small, fourth_late}
 use Rattle.ics_rule.proofs.RunLemmas.{next_found, all_found}
 use Rattle.ics_rule.proofs.MonthDays.{year_day_is}
-use Rattle.ics_rule.proofs.Tests.{none_yet, or_swap}
+use Rattle.ics_rule.proofs.Tests.{none_yet, or_false, or_swap}
 
 -- the days between two
 pub between_none : (low m : ℕ) (a : Bool) → a ≡ (a || (nat_le low m && nat_lt m low))
-between_none low m a = nothing a (nat_le low m && nat_lt m low) (let none : (nat_le low m && nat_lt m low) ≡ false = grind (arith, nat_tests) in none)
-  where
-    nothing : (a x : Bool) → x ≡ false → a ≡ (a || x)
-    nothing true x h = refl
-    nothing false x h = sym h
+between_none low m a = let none : (nat_le low m && nat_lt m low) ≡ false = grind (arith, nat_tests) in sym (ap (λ x. a || x) none ∙ or_false a)
 
 pub between_more : (low k m : ℕ) (a : Bool) {b : Bool} → low ≤ k → b ≡ (a || (nat_le low m && nat_lt m k))
     → ((m == k) || b) ≡ (a || (nat_le low m && nat_lt m (k + 1)))
@@ -220,11 +216,7 @@ seen_weeks front back from n = front n || (nat_lt (53 - n) from && back (53 - n)
 -- the same for the weeks of a year, by the places that are listed from the front and from the end
 module _ (front back : ℕ → Bool) where
   pub weeks_first : (n : ℕ) → front n ≡ seen_weeks front back 0 n
-  weeks_first n = rw (none_yet (53 - n), none_yet (54 - n)) (nothing (front n))
-    where
-      nothing : (a : Bool) → a ≡ (a || (false && back (53 - n)) || (false && back (54 - n)))
-      nothing true = refl
-      nothing false = refl
+  weeks_first n = rw (none_yet (53 - n), none_yet (54 - n)) (sym (or_false (front n || false) ∙ or_false (front n)))
 
   pub weeks_more : {from k : ℕ} (n : ℕ) {b : Bool} → 1 ≤ n → n ≤ 53 → k ≤ 53 → IsLeastFrom back from k
       → b ≡ seen_weeks front back from n → ((n == 54 - k) || ((n == 53 - k) || b)) ≡ seen_weeks front back (k + 1) n
