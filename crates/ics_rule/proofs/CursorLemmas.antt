@@ -11,7 +11,8 @@ use Rattle.ics_rule.specs.declared.cursor.Cursor.{Cursor}
 use Rattle.ics_rule.specs.Candidates.{is_stepped, period_in}
 use Rattle.ics_rule.specs.Kept.{count, is_chosen}
 use Rattle.ics_rule.specs.RecurrencePeriods.{first_local, IsPeriodOf}
-use Rattle.ics_rule.specs.Cursors.{is_met, fresh, HasBegun, HeldBy, CountedBy, IsCursorIn, HasLookedIn, looks_from, period_count, steps_of, IsCursorOf, HasLooked}
+use Rattle.ics_rule.specs.Cursors.{is_met, fresh, HasBegun, HeldBy, CountedBy, IsCursorIn, HasLookedIn, looks_from, period_count, steps_of, IsCursorOf}
+use Rattle.ics_rule.specs.Cursors.{HasLooked}
 use Rattle.ics_rule.specs.EffectiveRules.{effective}
 use Rattle.ics_rule.specs.Recurrence.{Recurrence}
 use Rattle.ics_rule.specs.Searches.{IsNextOpen, is_chosen_within, is_wanted, IsNextWanted, HasMoved, IsWalked, HoldsPeriodOf, LooksOrStays, LooksAt, after_look}
@@ -378,7 +379,8 @@ module _ {q : EffectiveRule} {start stop number : ℕ} {before now : Cursor} (wa
   module _ {after : Cursor} (at : LooksAt number now after) (held : MatchOption after.held ⊥ (λ p. IsPeriodOf q p × (p.number ≡ number)))
       (top : number ≤ period_in q (stop - 1)) where
     moved : HasMoved q start None stop before after
-    moved = moved_on walk.moved at (λ a b s few. meets q start a b {place = before.place} {stop = stop} record { from = few.low; some = walk.early; to = s } number walk.step walk.low top)
+    moved = moved_on walk.moved at (λ a b s few. meets q start a b {place = before.place} {stop = stop}
+        record { from = few.low; some = walk.early; to = s } number walk.step walk.low top)
 
     top_stop : number ≤ period_in q stop
     top_stop = let m = period_mono q.frequency (monday_zero q.week_start) (stop - 1) stop (omega arith) in omega (arith, m, top)

@@ -35,7 +35,6 @@ out_1 a b c d e h = rw h refl
 pub all_in : {a b c d : Bool} (e : Bool) → a ≡ true → b ≡ true → c ≡ true → d ≡ true → e ≡ (a && b && c && d && e)
 all_in e p q r s = rw (p, q, r, s) refl
 
--- an absent part lets all in
 -- a weekday that stands neither alone nor with a number is out
 pub none_nth : (p : Ordinals) (n size : ℕ) → lists_none p ≡ true → lists_nth p n size ≡ false
 none_nth p n size h =

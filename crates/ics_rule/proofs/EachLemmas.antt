@@ -1,7 +1,7 @@
 -- What each period of a day or less has that a rule lets in.
 use Rattle.std.proofs.Common.{◌≡◌, ℕ, zero, suc, ◌+◌, ◌-◌, ◌*◌, ◌/◌, ◌%◌, ◌<◌, ◌≤◌, Bool, true, false, not, ◌&&◌, ◌||◌, ◌==◌, refl, sym, ap, ◌∙◌}
 use Rattle.std.proofs.Common.{arith}
-use Rattle.std.proofs.lemmas.Bool.{eq-eqb, eqb-true, false_from_ne_true}
+use Rattle.std.proofs.lemmas.Bool.{and_parts, eq-eqb, eqb-true, false_from_ne_true}
 use Rattle.std.proofs.lemmas.Nat.{div-add-mod'}
 use Rattle.std.proofs.Math.Nat.{mul-le-mul_right, mul_comm}
 use Rattle.jiff_core.specs.Weekday.{monday_zero}
@@ -26,7 +26,7 @@ use Rattle.ics_rule.proofs.StepLemmas.{stepped_parts}
 use Rattle.ics_rule.proofs.CountLemmas.{IsCountedStep}
 use Rattle.ics_rule.proofs.RoundLemmas.{step_repeats}
 use Rattle.ics_values.specs.Locals.{calendar_end}
-use Rattle.ics_rule.proofs.Tests.{and_assoc, keep_true, last_part}
+use Rattle.ics_rule.proofs.Tests.{and_assoc, keep_true}
 
 -- the clock is a period's own and what is within it
 pub clock_split : (f : Frequency) (q : EffectiveRule) (n : ℕ) → lets_clock q n ≡ (lets_own f q n && lets_within f q n)
@@ -175,7 +175,8 @@ module _ (q : EffectiveRule) (start : ℕ) (fine : 0 < seconds_of q.frequency) (
       (clock_split q.frequency q (p * u + k) ∙ ap (λ x. x && lets_within q.frequency q (p * u + k)) (own_at q p k q.frequency fine unit l)
       ∙ ap (λ x. lets_own q.frequency q (p * u) && x) (within_at q p k q.frequency fine unit l))
       ∙ sym (and_assoc (is_stepped (period_in q start) q.interval p && lets_date q (p / per_day q.frequency)) (lets_own q.frequency q (p * u)) (within k))
-      ∙ ap (λ x. x && within k) (and_assoc (is_stepped (period_in q start) q.interval p) (lets_date q (p / per_day q.frequency)) (lets_own q.frequency q (p * u)))
+      ∙ ap (λ x. x && within k) (and_assoc (is_stepped (period_in q start) q.interval p) (lets_date q (p / per_day q.frequency))
+      (lets_own q.frequency q (p * u)))
 
   -- what stands beside a local of an is_open period
   module _ (p k : ℕ) (l : k < u) (is : is_open p ≡ true) where
@@ -188,7 +189,7 @@ module _ (q : EffectiveRule) (start : ℕ) (fine : 0 < seconds_of q.frequency) (
     beside_in : (m : ℕ) → is_beside q start (p * u + k) m ≡ true → (p * u ≤ m) × (m < p * u + u)
     beside_in m here =
         let same = eqb-true (period_in q m) (period_in q (p * u + k))
-        (last_part (is_candidate_in q start m) (period_in q m == period_in q (p * u + k)) here) ∙ period_of p k l in
+        (and_parts (is_candidate_in q start m) (period_in q m == period_in q (p * u + k)) here).1 ∙ period_of p k l in
         let place = in_period q.frequency (monday_zero q.week_start) m fine unit in
         let begin = ap (λ x. x * u) same in
         (omega (arith, begin, place.0), omega (arith, begin, place.1))

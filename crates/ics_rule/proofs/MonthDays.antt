@@ -18,11 +18,12 @@ use Rattle.ics_rule.specs.declared.runs.Run.{Run}
 use Rattle.ics_rule.specs.RecurrencePeriods.{month_start}
 use Rattle.ics_rule.specs.Candidates.{lets, lets_place, lets_wide_place, lets_week, lets_weekday, lets_numbered, lets_date, lists, lists_nth}
 use Rattle.ics_rule.specs.Runs.{has_run, weekday_in, lists_weekday, lists_in_month, is_in_month, goes_by_months, counts_in_month, IsMonth, IsSpan}
+use Rattle.ics_rule.proofs.LawLemmas.{year_day_is}
 use Rattle.ics_rule.proofs.Months.{earlier_month, later_month, month_of_low}
 use Rattle.ics_rule.proofs.PeriodLemmas.{month_positive, month_size, IsPeriodFrom}
 use Rattle.ics_rule.proofs.DayWalkLemmas.{fields_at}
 use Rattle.ics_rule.proofs.RunLemmas.{next_found, all_found, guard, run_facts, run_shown}
-use Rattle.ics_rule.proofs.Tests.{above, and_assoc, below, keep_true, last_part, three}
+use Rattle.ics_rule.proofs.Tests.{above, and_assoc, below, keep_true, three}
 
 -- the month that a day of its year lies in
 module _ (r : Run) (first y m k : ℕ) (own : IsMonth r first y m) where
@@ -87,7 +88,8 @@ module _ (q : EffectiveRule) (k : ℕ) where
             ∙ gather (nat_lt M from) (months M) (M == m) L ∙ ap (λ x. x && L) (next_found months from m M next) ∙ and_assoc (nat_lt M (m + 1)) (months M) L
             ∙ ap (λ x. x && (nat_lt M (m + 1) && (months M && L))) (sym (lt-ltb k (days_in_year (pos y)) inside))
         | inr past ↦
-            let out : has_run r k ≡ false = and_right (nat_le r.start k) (nat_lt (k - r.start) r.len) (le-ltb (k - r.start) r.len (omega (arith, past, most))) in
+            let out : has_run r k ≡ false = and_right (nat_le r.start k) (nat_lt (k - r.start) r.len)
+            (le-ltb (k - r.start) r.len (omega (arith, past, most))) in
             let none = le-ltb k (days_in_year (pos y)) past in
             more ∙ ap (λ x. x || (has_run r k && lists_in_month q (weekday_in r (k - r.start)) (k - r.start + 1) r.len)) (e
             ∙ ap (λ x. x && seen_months q months from (first + k)) none)
@@ -314,22 +316,18 @@ narrowed false some test a = refl
 
 -- what the parts of the date say apart
 pub number_let_in : (q : EffectiveRule) (e : ℕ) → lets_date q e ≡ true → lets_wide_place q.year_days (year_day_of e) (days_in_year (pos (year_of e))) ≡ true
-number_let_in q e h = last_part _ (lets_wide_place q.year_days (year_day_of e) (days_in_year (pos (year_of e))))
-    (and_parts _ (lets_week q e) (and_parts _ (lets_weekday q e) h).0).0
+number_let_in q e h = (and_parts _ (lets_wide_place q.year_days (year_day_of e) (days_in_year (pos (year_of e))))
+    (and_parts _ (lets_week q e) (and_parts _ (lets_weekday q e) h).0).0).1
 
 pub week_let_in : (q : EffectiveRule) (e : ℕ) → lets_date q e ≡ true → lets_week q e ≡ true
-week_let_in q e h = last_part _ (lets_week q e) (and_parts _ (lets_weekday q e) h).0
+week_let_in q e h = (and_parts _ (lets_week q e) (and_parts _ (lets_weekday q e) h).0).1
 
 -- the days of a year by their numbers
-pub year_day_is : (e y : ℕ) → year_of e ≡ y → year_day_of e ≡ e - days_before_year y + 1
-unfolding year_day_of
-year_day_is e y h = rw h refl
-
 pub year_place : (first y k : ℕ) → first ≡ days_before_year y → k < days_in_year (pos y) → (year_of (first + k) ≡ y) × (year_day_of (first + k) ≡ k + 1)
 year_place first y k start inside =
     let year : year_of (first + k) ≡ y = year_of_is (first + k) y (omega (arith, start)) (let next = days_before_year-next y in
     omega (arith, next, start, inside)) in
-    (year, (let day = year_day_is (first + k) y year in omega (arith, day, start)))
+    (year, (let day = year_day_is (first + k) in let same = ap days_before_year year in omega (arith, day, same, start)))
 
 pub year_starts : (first y : ℕ) → first ≡ days_before_year y → year_of first ≡ y
 year_starts first y start = year_of_is first y (omega (arith, start)) (let next = days_before_year-next y in let some = days_in_year_bounds (pos y) in

@@ -1,7 +1,7 @@
 -- What BYSETPOS can't list.
 use Rattle.std.proofs.Common.{◌≡◌, ℕ, suc, ◌+◌, ◌-◌, ◌*◌, ◌<◌, ◌≤◌, ◌⊎◌, inl, inr, Bool, true, false, ◌&&◌, ◌||◌, ◌==◌, Option, Some, None, refl, sym, ap, ◌∙◌}
 use Rattle.std.proofs.Common.{arith}
-use Rattle.std.proofs.lemmas.Bool.{and_right, cases_lt, eq-eqb, eqb-true, false_from_ne_true}
+use Rattle.std.proofs.lemmas.Bool.{and_parts, and_right, cases_lt, eq-eqb, eqb-true, false_from_ne_true}
 use Rattle.jiff_core.specs.Weekday.{monday_zero}
 use Rattle.ics_values.specs.Sets.{contains_wide}
 use Rattle.ics_values.specs.Ordinals.{lists_none_wide}
@@ -19,7 +19,7 @@ use Rattle.ics_rule.proofs.EachLemmas.{clock_split, in_period, within_at}
 use Rattle.ics_rule.proofs.RankLemmas.{count_flat}
 use Rattle.ics_rule.proofs.CursorLemmas.{count_within, held_mono, moved_none}
 use Rattle.ics_values.specs.Locals.{calendar_end}
-use Rattle.ics_rule.proofs.Tests.{last_part, third}
+use Rattle.ics_rule.proofs.Tests.{third}
 
 -- what stands beside n lets in the clock, and lies in its period
 module _ (q : EffectiveRule) (start n m : ℕ) (here : is_beside q start n m ≡ true) where
@@ -28,7 +28,7 @@ module _ (q : EffectiveRule) (start n m : ℕ) (here : is_beside q start n m ≡
       here
 
   beside_period : period_in q m ≡ period_in q n
-  beside_period = eqb-true (period_in q m) (period_in q n) (last_part (is_candidate_in q start m) (period_in q m == period_in q n) here)
+  beside_period = eqb-true (period_in q m) (period_in q n) (and_parts (is_candidate_in q start m) (period_in q m == period_in q n) here).1
 
 -- a period of so many seconds has no more than what passes a test of each second
 module _ (q : EffectiveRule) (start n : ℕ) where
@@ -54,9 +54,9 @@ most_in_period q fine unit start n =
     (λ m here. let place = in_period q.frequency (monday_zero q.week_start) m fine unit in let begin = ap (λ x. x * seconds_of q.frequency) here in
     (omega (arith, place.0, begin), omega (arith, place.1, begin)))
     (λ k l clock. sym (within_at q (period_in q n) k q.frequency fine unit l)
-    ∙ last_part (lets_own q.frequency q (period_in q n * seconds_of q.frequency + k))
+    ∙ (and_parts (lets_own q.frequency q (period_in q n * seconds_of q.frequency + k))
     (lets_within q.frequency q (period_in q n * seconds_of q.frequency + k))
-    (sym (clock_split q.frequency q (period_in q n * seconds_of q.frequency + k)) ∙ clock))
+    (sym (clock_split q.frequency q (period_in q n * seconds_of q.frequency + k)) ∙ clock)).1)
 
 -- BYSETPOS lists only places that are greater than a period's size
 pub record IsPast (q : EffectiveRule) (most : ℕ) : Type 0 where

@@ -112,7 +112,8 @@ pub passed_on : {q : EffectiveRule} {start c number target total : ℕ} {before 
 passed_on {q = q} {start = start} {c = c} {target = target} {total = total} {before = before} {after = after} {now = now} {p = p} to is late inside e own =
     let same = own.1 in
     let moved = moved_on to.walked.moved (looks_once total after p first_fresh e same) (λ a b l few.
-    meets q start a b {place = start} {stop = before.place + 1} record { from = few.low; some = omega (arith, late); to = l } target is.step (stepped_parts (period_in q start) q.interval target is.step).0
+    meets q start a b {place = start} {stop = before.place + 1}
+    record { from = few.low; some = omega (arith, late); to = l } target is.step (stepped_parts (period_in q start) q.interval target is.step).0
     (top_of q before.place target is.top)) in
     record {
       own = record {
@@ -209,7 +210,8 @@ rounds_end {q = q} {start = start} {begin = begin} {round = round} {rounds = rou
       counts.0,
       record {
         later = (let up = mul-le-mul_right {m = 2} {n = rounds} round run.some in omega (arith, up, run.even.some));
-        step = repeats_often (is_stepped (period_in q start) q.interval) {low = period_in q start} round (λ n h. run.even.step (period_in q start) n h) rounds begin first
+        step = repeats_often (is_stepped (period_in q start) q.interval) {low = period_in q start} round (λ n h. run.even.step (period_in q start) n h) rounds
+            begin first
             ∙ run.from.step;
         top = run.top;
         total = counts.1;

@@ -189,4 +189,5 @@ pub record IsPeriodFrom (f : Frequency) (w p b e : ℕ) : Type 0 where
 
 -- a period is not empty and has at most 366 days
 pub period_fits : {f : Frequency} {w p b e : ℕ} → w < 7 → IsPeriodFrom f w p b e → (b < e) × (e ≤ b + 366 * 86_400)
-period_fits {f = f} {w = w} {p = p} small is = let s = next_first f w p small is.some in (omega (arith, s.0, is.begin, is.end), omega (arith, s.1, is.begin, is.end))
+period_fits {f = f} {w = w} {p = p} small is = let s = next_first f w p small is.some in
+    (omega (arith, s.0, is.begin, is.end), omega (arith, s.1, is.begin, is.end))

@@ -83,7 +83,8 @@ module _ (r : Recurrence) (c : ℕ) (counted : r.parts.count ≡ Some c) (some :
             ∙ lt-ltb (count n (is_in_rule r)) c
             (let none = count-none n (is_in_rule r) (λ m l. in_rule_earlier r m (omega (arith, l, same.1))) in omega (arith, none, some)))
         | inr other ↦
-            ap (λ b. b || (is_in_rule r n && true && nat_lt (count n (is_in_rule r)) c)) other ∙ ap (λ b. b && nat_lt (count n (is_in_rule r)) c) (keep_true (is_in_rule r n))
+            ap (λ b. b || (is_in_rule r n && true && nat_lt (count n (is_in_rule r)) c)) other
+            ∙ ap (λ b. b && nat_lt (count n (is_in_rule r)) c) (keep_true (is_in_rule r n))
       ])
     where
       by_start : (a b : ℕ) → (((a == b) ≡ true) × (a ≡ b)) ⊎ ((a == b) ≡ false)

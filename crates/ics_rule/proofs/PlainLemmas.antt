@@ -1,7 +1,7 @@
 -- A rule whose DTSTART fits is its plain reading.
 use Rattle.std.proofs.Common.{◌≡◌, ◌≢◌, ℕ, suc, ◌+◌, ◌-◌, ◌*◌, ◌/◌, ◌%◌, ◌<◌, ◌≤◌, ◌⊎◌, inl, inr, Bool, true, false, not, ◌&&◌, ◌||◌, ◌==◌, nat_lt}
 use Rattle.std.proofs.Common.{if◌then◌else◌, Option, Some, None, MatchOption, pos, refl, sym, ap, ◌∙◌, arith}
-use Rattle.std.proofs.lemmas.Bool.{and_parts, le-leb, le-ltb, lt-leb, lt-ltb, cases_eq, eq-eqb, ne_eqb}
+use Rattle.std.proofs.lemmas.Bool.{and_parts, and_right, cases_eq, eq-eqb, le-leb, le-ltb, lt-leb, lt-ltb, ne_eqb}
 use Rattle.std.proofs.lemmas.Nat.Bits.{bit_at-zero}
 use Rattle.jiff_core.specs.Calendar.{days_in_month, days_in_year}
 use Rattle.jiff_core.specs.Weekday.{monday_zero}
@@ -93,13 +93,8 @@ weekday_taken Secondly r weekly yearly = refl
 
 -- beside BYDAY no month is taken
 no_month_taken : (f : Frequency) (r : Recurrence) → is_absent r ByDay ≡ false → takes_month f r.parts ≡ false
-no_month_taken Yearly r h = third_false (is_absent r ByMonthDay) (is_absent r ByYearDay) (is_absent r ByDay) (is_absent r ByWeekNo) (is_absent r ByMonth) h
-  where
-    third_false : (m y b w o : Bool) → b ≡ false → (m && y && b && w && o) ≡ false
-    third_false m y true w o h = absurd (cc)
-    third_false true true false w o h = refl
-    third_false true false false w o h = refl
-    third_false false y false w o h = refl
+no_month_taken Yearly r h = ap (λ x. x && is_absent r ByWeekNo && is_absent r ByMonth)
+    (and_right (is_absent r ByMonthDay && is_absent r ByYearDay) (is_absent r ByDay) h)
 no_month_taken Monthly r h = refl
 no_month_taken Weekly r h = refl
 no_month_taken Daily r h = refl

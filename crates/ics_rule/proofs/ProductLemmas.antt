@@ -183,7 +183,8 @@ module _ {q : EffectiveRule} {b e : ℕ} {p : RecurrencePeriod} (is : IsProduct 
       && (skips_seconds q.frequency || (n % 60 == b % 60))) && lets_clock q n)
   clock_holds =
       ap (λ z. (z && contains p.minutes (n % 86_400 / 60 % 60)) && contains p.seconds (n % 86_400 % 60)) hour_holds
-      ∙ ap (λ z. (((skips_hours q.frequency || (n / 3_600 % 24 == b / 3_600 % 24)) && lets q.hours (n / 3_600 % 24)) && z) && contains p.seconds (n % 86_400 % 60))
+      ∙ ap (λ z. (((skips_hours q.frequency || (n / 3_600 % 24 == b / 3_600 % 24)) && lets q.hours (n / 3_600 % 24)) && z)
+      && contains p.seconds (n % 86_400 % 60))
       minute_holds
       ∙ ap (λ z. z && contains p.seconds (n % 86_400 % 60))
       (exchange (skips_hours q.frequency || (n / 3_600 % 24 == b / 3_600 % 24)) (lets q.hours (n / 3_600 % 24))

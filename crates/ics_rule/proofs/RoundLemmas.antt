@@ -1,7 +1,7 @@
 -- What a rule chooses repeats after a round of periods.
 use Rattle.std.proofs.Common.{◌≡◌, ℕ, zero, suc, ◌+◌, ◌-◌, ◌*◌, ◌/◌, ◌%◌, ◌<◌, ◌≤◌, Bool, true, false, ◌&&◌, ◌||◌, ◌==◌, nat_le, refl, sym, subst, ap, ◌∙◌}
 use Rattle.std.proofs.Common.{arith}
-use Rattle.std.proofs.lemmas.Bool.{eqb-true, false_from_ne_true, le-leb, or_left}
+use Rattle.std.proofs.lemmas.Bool.{and_parts, eqb-true, false_from_ne_true, le-leb, or_left}
 use Rattle.std.proofs.lemmas.Bool.Decides.{nat_tests}
 use Rattle.std.proofs.lemmas.Nat.{div-add-mod'}
 use Rattle.std.proofs.Math.Nat.{add-mul-mod_self_right, mul_assoc, mul_comm, mul-le-mul_right, mod-lt}
@@ -25,7 +25,7 @@ use Rattle.ics_rule.proofs.StepLemmas.{stepped_parts}
 use Rattle.ics_rule.proofs.PeriodLemmas.{begun, begins, is_short}
 use Rattle.ics_rule.proofs.DateLemmas.{weekdays_alone}
 use Rattle.ics_values.specs.Locals.{calendar_end}
-use Rattle.ics_rule.proofs.Tests.{and_assoc, and_false, last_part, positive}
+use Rattle.ics_rule.proofs.Tests.{and_assoc, and_false, positive}
 
 -- under the frequencies whose periods last alike a weekday with a number stands for the weekday
 numbered_alike : (f : Frequency) (q : EffectiveRule) (p : Ordinals) (d e : ℕ) → 0 < seconds_of f → lets_numbered f q p d ≡ lets_numbered f q p e
@@ -51,12 +51,7 @@ date_free q d e alone none = all_in d ∙ sym (all_in e)
   where
     all_in : (x : ℕ) → lets_date q x ≡ true
     all_in x = weekdays_alone q x alone
-        ∙ in_1 (lists_no_weekday q.weekdays) (contains q.weekdays.plain (weekday_of x)) (lets_numbered q.frequency q (numbers_of q.weekdays (weekday_of x)) x)
-        none
-      where
-        in_1 : (a b c : Bool) → a ≡ true → (a || b || c) ≡ true
-        in_1 true b c h = refl
-        in_1 false b c h = absurd (cc)
+        ∙ ap (λ y. y || contains q.weekdays.plain (weekday_of x) || lets_numbered q.frequency q (numbers_of q.weekdays (weekday_of x)) x) none
 
 pub clock_alike : (q : EffectiveRule) (n m : ℕ) → lets q.hours (hour_of n) ≡ lets q.hours (hour_of m) →
     lets q.minutes (minute_of n) ≡ lets q.minutes (minute_of m) → lets q.seconds (second_of n) ≡ lets q.seconds (second_of m)
@@ -215,7 +210,7 @@ module _ (q : EffectiveRule) (start periods seconds : ℕ) (round : IsRound q pe
   beside_later n k l = ap (is_beside q start (n + seconds)) (let order : seconds + k ≡ k + seconds = omega arith in order) ∙ beside_on n k l
 
   beside_period : (n m : ℕ) → is_beside q start n m ≡ true → period_in q m ≡ period_in q n
-  beside_period n m h = eqb-true (period_in q m) (period_in q n) (last_part (is_candidate_in q start m) (period_in q m == period_in q n) h)
+  beside_period n m h = eqb-true (period_in q m) (period_in q n) (and_parts (is_candidate_in q start m) (period_in q m == period_in q n) h).1
 
   -- no local of the first round lies beside it
   none_earlier : (n m : ℕ) → 2 ≤ period_in q n → m < seconds → is_beside q start (n + seconds) m ≡ false

@@ -103,7 +103,8 @@ module _ (r : Run) (d p m : ℕ) (a b : Bool) (own : weekday_in r p ≡ d) where
     | inr (inl here) ↦
         let begun : nat_le r.start m ≡ true = grind (arith, nat_tests) in
         let place : m - r.start ≡ p = omega (arith, here) in
-        rw (eq-eqb m (r.start + p) here, begun, place, lt-ltb p r.len inside, lt-ltb p (p + 7) (omega arith), eq-eqb (weekday_in r p) d own) (sym (or_right a true refl))
+        rw (eq-eqb m (r.start + p) here, begun, place, lt-ltb p r.len inside, lt-ltb p (p + 7) (omega arith), eq-eqb (weekday_in r p) d own)
+        (sym (or_right a true refl))
     | inr (inr high) ↦ rw (above m (r.start + p) high) (e ∙ others (inr (inr (omega (arith, high)))))
   ]
 

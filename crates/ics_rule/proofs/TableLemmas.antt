@@ -17,9 +17,10 @@ use Rattle.ics_rule.specs.RecurrencePeriods.{is_let_in}
 use Rattle.ics_rule.specs.Table.{Part, ByMonth, ByWeekNo, ByYearDay, ByMonthDay, ByDay, ByHour, ByMinute, BySecond, Cell, Limit, Expand}
 use Rattle.ics_rule.specs.ByTable.{Instance, Instances, instance_of, start_of, is_absent, is_listed, is_clockless, lists_nth_in, has_clock, own_instance}
 use Rattle.ics_rule.specs.ByTable.{apply_cell, apply, is_instance, IsAllowed}
-use Rattle.ics_rule.proofs.TableSteps.{or_assoc, limited, passed, expanded, week_expanded, noted, given, only_number, only_day, only_this_weekday, DateTests, ClockTests, in_order}
+use Rattle.ics_rule.proofs.TableSteps.{or_assoc, limited, passed, expanded, week_expanded, noted, given, only_number, only_day, only_this_weekday, DateTests}
+use Rattle.ics_rule.proofs.TableSteps.{ClockTests, in_order}
 use Rattle.ics_rule.proofs.TableSteps.{by_date, by_clock, by_subject}
-use Rattle.ics_rule.proofs.Tests.{last_part, third, self_test, keep_true, and_false}
+use Rattle.ics_rule.proofs.Tests.{third, self_test, keep_true, and_false}
 
 -- the rule under a frequency
 abbrev at : Frequency → Recurrence → Recurrence
@@ -211,7 +212,8 @@ module _ (r : Recurrence) where
         clock_daily set i ∙ ap (lets_clock_in i) steps
         ∙ in_order t (clock_tests i ((hour_kept i).hour == (start_of r).hour) ((minute_kept i).minute == (start_of r).minute)
         ((second_kept i).second == (start_of r).second))
-        ∙ ap (λ x. t.period && x) (by_subject (by_date month day year week weekday) (by_clock (hours_given dates i) (minutes_given dates i) (seconds_given dates i)))
+        ∙ ap (λ x. t.period && x) (by_subject (by_date month day year week weekday)
+        (by_clock (hours_given dates i) (minutes_given dates i) (seconds_given dates i)))
 
 -- ---- the date
 
@@ -262,7 +264,8 @@ module _ (rule : Recurrence) (allowed : IsAllowed (at Hourly rule)) (p n : ℕ) 
       let r = at Hourly rule in
       let i = instance_of r.parts n in
       clock_hourly r (set5 r p) i ∙ ap (lets_clock_in r i) (limited_dates r (minute_kept r i) (set0 r p (minute_kept r i)) (set0 r p) refl)
-      ∙ in_order (limited_tests r p i) (clock_tests r i true ((minute_kept r i).minute == (start_of r).minute) ((second_kept r i).second == (start_of r).second))
+      ∙ in_order (limited_tests r p i) (clock_tests r i true ((minute_kept r i).minute == (start_of r).minute)
+      ((second_kept r i).second == (start_of r).second))
       ∙ ap (λ x. (i.period == p) && x)
       (by_subject (by_date (keep_true (lets_part r ByMonth i)) (keep_true (lets_part r ByMonthDay i)) refl
       (absent (no_week r) (is_listed r ByWeekNo i) (allowed.parts ByWeekNo refl))
@@ -563,7 +566,8 @@ module _ (plain : Bool) (numbers : Ordinals) (i : Instance) where
       → (taken ≡ true → b ≡ true) → (taken ≡ false → months ≡ m) → (w ≡ false → lists_none numbers ≡ true)
       → (b || (plain || lists_nth_in (if not w then Weekly else (if not m then Monthly else Yearly)) numbers i))
       ≡ (b || plain || (if not w then not (lists_none numbers)
-      else (if not months then lists_nth numbers i.month_day (days_in_month (pos i.year) i.month) else lists_nth numbers i.year_day (days_in_year (pos i.year)))))
+      else (if not months then lists_nth numbers i.month_day (days_in_month (pos i.year) i.month) else lists_nth numbers i.year_day
+      (days_in_year (pos i.year)))))
   yearly_numbers true w taken h k none = refl
   yearly_numbers false w true h k none = absurd (let e = h refl in cc)
   yearly_numbers false false false h k none = or_assoc false plain false ∙ ap (λ z. plain || z) (sym (ap not (none refl)))
@@ -638,7 +642,7 @@ module _ (rule : Recurrence) (allowed : IsAllowed (at Yearly rule)) (p n : ℕ) 
       yearly_month (start_of rule).month i.month (no_month_day rule) (no_year_day rule) (no_weekday rule) (no_week rule) (no_month rule)
       (contains rule.parts.months)
       ∙ given takes_this_month (lets_part rule ByMonth i) (i.month == (start_of rule).month)
-      (λ e. ap (λ b. b || is_listed rule ByMonth i) (last_part takes_this_day (no_month rule) e))
+      (λ e. ap (λ b. b || is_listed rule ByMonth i) (and_parts takes_this_day (no_month rule) e).1)
       ∙ sym (only_number takes_this_month rule.parts.months (start_of rule).month i.month)
 
   yearly_month_days : (i : Instance) → (lets_part rule ByMonthDay (after_day i) && ((after_month i).month_day == (start_of rule).month_day))
@@ -684,7 +688,7 @@ module _ (rule : Recurrence) (allowed : IsAllowed (at Yearly rule)) (p n : ℕ) 
       ∙ ap (λ x. if takes_this_weekday then (i.weekday == (start_of rule).weekday) else x) (yearly_days i)
       ∙ sym (only_this_weekday takes_this_weekday rule.parts.weekdays (start_of rule).weekday i.weekday (yearly_nth i)
       (λ e. ap (λ b. if b then not (lists_none no_ordinals) else nth_of_none i)
-      (last_part (no_month_day rule && no_year_day rule && no_weekday rule) (not (no_week rule)) e)))
+      (and_parts (no_month_day rule && no_year_day rule && no_weekday rule) (not (no_week rule)) e).1))
     where
       nth_of_none : Instance → Bool
       nth_of_none i = if not (is_empty (if takes_this_month then only (start_of rule).month else rule.parts.months)) then lists_nth no_ordinals i.month_day

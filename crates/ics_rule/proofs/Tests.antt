@@ -17,10 +17,6 @@ not_false false h = absurd (cc)
 pub zero_of : (s : ℕ) → (s == 0) ≡ true → s ≡ 0
 zero_of s h = grind (arith, nat_tests)
 
-pub last_part : (a b : Bool) → (a && b) ≡ true → b ≡ true
-last_part true b h = h
-last_part false b h = absurd (cc)
-
 pub positive : (a b : ℕ) → 1 ≤ a → 1 ≤ b → 1 ≤ a * b
 positive (suc a) (suc b) h l = omega arith
 positive zero b h l = absurd (omega (arith, h))

@@ -17,7 +17,7 @@ use Rattle.ics_rule.specs.Candidates.{week_number, weeks_of_year, lets_place, le
 use Rattle.ics_rule.specs.Runs.{may_list_week}
 use Rattle.ics_rule.proofs.PeriodLemmas.{week_small, fourth_late}
 use Rattle.ics_rule.proofs.RunLemmas.{next_found, all_found}
-use Rattle.ics_rule.proofs.MonthDays.{year_day_is}
+use Rattle.ics_rule.proofs.LawLemmas.{year_day_is}
 use Rattle.ics_rule.proofs.Tests.{none_yet, or_false, or_swap}
 
 -- the days between two
@@ -71,7 +71,7 @@ module _ (q : EffectiveRule) (some : lists_none q.weeks ≡ false) where
   listed_week : {f y : ℕ} (j : ℕ) → year_of f ≡ y → f ≡ days_before_year y + j → j < days_in_year (pos y)
       → lets_place q.weeks (week_number f) (weeks_of_year f) ≡ true → may_list_week q.weeks (j / 7 + 1) ≡ true
   listed_week {f = f} {y = y} j year place inside h =
-      let day : year_day_of f - 1 ≡ j = (let d = year_day_is f y year in omega (arith, d, place)) in
+      let day : year_day_of f - 1 ≡ j = (let d = year_day_is f in let same = ap days_before_year year in omega (arith, d, same, place)) in
       let bounds = days_in_year_bounds (pos y) in
       let number : week_number f ≡ j / 7 + 1 = ap (λ x. x / 7 + 1) day in
       let weeks : weeks_of_year f ≡ (days_in_year (pos y) - 1 - j % 7) / 7 + 1 = ap (λ x. (days_in_year (pos x) - 1 - (year_day_of f - 1) % 7) / 7 + 1) year
@@ -80,12 +80,12 @@ module _ (q : EffectiveRule) (some : lists_none q.weeks ≡ false) where
       ap (λ n. lets_place q.weeks n ((days_in_year (pos y) - 1 - j % 7) / 7 + 1)) (sym number) ∙ ap (lets_place q.weeks (week_number f)) (sym weeks) ∙ h in
       elim (cases_lt ((days_in_year (pos y) - 1 - j % 7) / 7 + 1) 53) [
         | inl fewer ↦ let back : (days_in_year (pos y) - 1 - j % 7) / 7 + 1 + 1 - (j / 7 + 1) ≡ 53 - (j / 7 + 1) = omega (arith, fewer, bounds.0, bounds.1) in
-            first (lists_none q.weeks) (contains q.weeks.front (j / 7 + 1)) (contains q.weeks.back (53 - (j / 7 + 1))) (contains q.weeks.back (54 - (j / 7 + 1)))
-            some
+            first (lists_none q.weeks) (contains q.weeks.front (j / 7 + 1)) (contains q.weeks.back (53 - (j / 7 + 1)))
+            (contains q.weeks.back (54 - (j / 7 + 1))) some
             (ap (λ x. lists_none q.weeks || (contains q.weeks.front (j / 7 + 1) || contains q.weeks.back x)) (sym back) ∙ own)
         | inr more ↦ let back : (days_in_year (pos y) - 1 - j % 7) / 7 + 1 + 1 - (j / 7 + 1) ≡ 54 - (j / 7 + 1) = omega (arith, more, bounds.0, bounds.1) in
-            second (lists_none q.weeks) (contains q.weeks.front (j / 7 + 1)) (contains q.weeks.back (53 - (j / 7 + 1))) (contains q.weeks.back (54 - (j / 7 + 1)))
-            some
+            second (lists_none q.weeks) (contains q.weeks.front (j / 7 + 1)) (contains q.weeks.back (53 - (j / 7 + 1)))
+            (contains q.weeks.back (54 - (j / 7 + 1))) some
             (ap (λ x. lists_none q.weeks || (contains q.weeks.front (j / 7 + 1) || contains q.weeks.back x)) (sym back) ∙ own)
       ]
     where

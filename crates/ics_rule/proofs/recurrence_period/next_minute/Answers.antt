@@ -35,4 +35,5 @@ pub returns-in-Some-Some-clause-next : goal.returns-in-Some-Some-clause-next
 returns-in-Some-Some-clause-next c = later c
 
 pub returns-in-Some-Some-clause-small : goal.returns-in-Some-Some-clause-small
-returns-in-Some-Some-clause-small c = minute_below c.args.hours c.args.minutes (c.in-Some-Some.hour * 60 + c.in-Some-Some.minute) c.requires.hours (later c).passes
+returns-in-Some-Some-clause-small c = minute_below c.args.hours c.args.minutes (c.in-Some-Some.hour * 60 + c.in-Some-Some.minute) c.requires.hours
+    (later c).passes

@@ -38,5 +38,5 @@ pub returns-in-Some-Some-clause-next : goal.returns-in-Some-Some-clause-next
 returns-in-Some-Some-clause-next c = later c
 
 pub returns-in-Some-Some-clause-small : goal.returns-in-Some-Some-clause-small
-returns-in-Some-Some-clause-small c = second_below c.args.hours c.args.minutes c.args.seconds (c.in-Some-Some.minute * 60 + c.in-Some-Some.second) c.requires.hours
-    (later c).passes
+returns-in-Some-Some-clause-small c = second_below c.args.hours c.args.minutes c.args.seconds (c.in-Some-Some.minute * 60 + c.in-Some-Some.second)
+    c.requires.hours (later c).passes

@@ -35,8 +35,8 @@ loop-number-preserved c = walk_goes_on c.loop-number.invariant c.find.ensures.lo
     c.in_default.ensures.next c.next_open_step-number.ensures
 
 pub returns-clause-next : goal.returns-clause-next
-returns-clause-next c = walk_rounds_end {begin = c.max.result} {end = c.last_to_look_at-end.result} c.loop-number.invariant c.requires.stop c.loop-number-test.false
-    (omega (arith, c.max.ensures, c.period_of-first.ensures.value)) (omega (arith, c.max.ensures, c.period_of-own.ensures.value))
+returns-clause-next c = walk_rounds_end {begin = c.max.result} {end = c.last_to_look_at-end.result} c.loop-number.invariant c.requires.stop
+    c.loop-number-test.false (omega (arith, c.max.ensures, c.period_of-first.ensures.value)) (omega (arith, c.max.ensures, c.period_of-own.ensures.value))
     (λ less. c.last_to_look_at-end.ensures.round (omega (arith, less, c.period_of-last.ensures.value)))
 
 pub returns-clause-walked : goal.returns-clause-walked

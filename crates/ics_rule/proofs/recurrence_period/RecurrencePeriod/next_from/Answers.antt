@@ -15,8 +15,9 @@ none_here c = elim c.if-has_day.branch [
 
 pub returns-in-Some-next_second-clause-next : goal.returns-in-Some-next_second-clause-next
 returns-in-Some-next_second-clause-next c = next_later 86_400 (omega arith) (has_day c.args.self.now) (has_second c.args.self.now)
-    (λ t. second_below c.args.self.now.hours c.args.self.now.minutes c.args.self.now.seconds t c.requires.hours) c.args.n c.in-Some-next_day.day c.in-Some-next_second.second
-    (none_here (goal.at.returns-in-Some-next_second-clause-next c).Joined-has_day) c.in-Some-next_day.ensures.next c.in-Some-next_second.ensures.next
+    (λ t. second_below c.args.self.now.hours c.args.self.now.minutes c.args.self.now.seconds t c.requires.hours) c.args.n c.in-Some-next_day.day
+    c.in-Some-next_second.second (none_here (goal.at.returns-in-Some-next_second-clause-next c).Joined-has_day) c.in-Some-next_day.ensures.next
+    c.in-Some-next_second.ensures.next
 
 pub returns-in-Some-clause-next : goal.returns-in-Some-clause-next
 returns-in-Some-clause-next c = next_here 86_400 (omega arith) (has_day c.args.self.now) (has_second c.args.self.now)
