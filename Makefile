@@ -41,7 +41,7 @@ check-faults: $(PROGRAM)
 # Proves the program and builds it.
 $(PROGRAM): $(SOURCES)
 	@$(MAKE) --no-print-directory kit
-	@RT=$(RT) sh scripts/prove
+	@RT=$(RT) python3 scripts/prove "$$(sh scripts/lanes)"
 	@mkdir -p bin && cp $(BUILT) $@
 
 # Seconds and peak memory over folders that a generator writes.
@@ -64,7 +64,7 @@ uninstall:
 	@rm -f $(INSTALLED_PROGRAM) $(INSTALLED_PAGE) $(INSTALLED_BASH) $(INSTALLED_ZSH) $(INSTALLED_FISH)
 
 clean:
-	@rm -rf bin bench/data crates/*/out
+	@rm -rf bin out bench/data crates/*/out
 
 kit:
 	@command -v $(RT) >/dev/null || { echo "make: '$(RT)' is not found: install the Rattle kit that the README names and put its bin folder on PATH, or run make RT=/path/to/rt" >&2; exit 1; }
