@@ -1,7 +1,7 @@
 -- Worked RDATEs, EXDATEs and RECURRENCE-IDs. What is expected comes from a separate program.
 use Rattle.std.proofs.Common.{◌≡◌, ℕ, List, [], ◌∷◌, ◌++◌, map, refl, Option, Some, None, pos}
 use Rattle.std.specs.Prelude.{codes, false}
-use Rattle.ics_values.specs.Locals.{local_at}
+use Rattle.ics_fields.specs.Locals.{local_at}
 use Rattle.ics_values.specs.declared.stamp.Stamp.{Stamp}
 use Rattle.ics_values.specs.declared.stamp.Stamp.TheVariants.{Date, Floating, Utc, Zoned}
 use Rattle.ics_calendar.specs.declared.fault.FaultKind.TheVariants.{BadStamp, Repeated, UnknownZone}

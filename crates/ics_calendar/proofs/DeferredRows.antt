@@ -3,7 +3,7 @@ use Rattle.std.proofs.Common.{◌≡◌, ℕ, List, [], ◌∷◌, ◌++◌, map
 use Rattle.std.specs.Prelude.{codes, slice_get}
 use Rattle.std.proofs.lemmas.Int.{ints}
 use Rattle.std.proofs.lemmas.Option.{slice_get_within}
-use Rattle.ics_values.specs.declared.local.Local.{Local}
+use Rattle.ics_fields.specs.declared.local.Local.{Local}
 use Rattle.ics_zone.specs.Moments.{zone_moment}
 use Rattle.ics_zone.specs.Observances.{ObservanceSaid, IsZone, IsObservanceSaid}
 use Rattle.ics_zone.specs.ZoneOffsets.{IsOffset, zone_offset}

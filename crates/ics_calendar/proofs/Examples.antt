@@ -1,10 +1,10 @@
 -- Worked files, which the definitions compute. The expected faults come from a separate program.
 use Rattle.std.proofs.Common.{◌≡◌, ℕ, List, [], ◌∷◌, ◌++◌, take, map, refl, Option, Some, None, Ok, pos}
 use Rattle.std.specs.Prelude.{codes, false, replicate}
-use Rattle.ics_values.specs.Locals.{local_at}
-use Rattle.ics_values.specs.RuleParts.{RuleParts, every}
+use Rattle.ics_fields.specs.Locals.{local_at}
+use Rattle.ics_fields.specs.RuleParts.{RuleParts, every}
 use Rattle.ics_values.specs.Rules.{rule_of}
-use Rattle.ics_values.specs.declared.frequency.Frequency.TheVariants.{Daily}
+use Rattle.ics_fields.specs.declared.frequency.Frequency.TheVariants.{Daily}
 use Rattle.ics_values.specs.declared.stamp.Stamp.TheVariants.{Utc}
 use Rattle.ics_calendar.specs.declared.fault.FaultKind.TheVariants.{BadFold, BadLine, BadNesting, BadStamp, NotCalendar, OldVersion, Repeated, TooDeep}
 use Rattle.ics_calendar.specs.declared.fault.FaultKind.TheVariants.{UnknownZone}

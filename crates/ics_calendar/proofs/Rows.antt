@@ -9,7 +9,7 @@ use Rattle.ics_values.specs.Integers.{integer_of}
 use Rattle.ics_values.specs.Offsets.{offset_of}
 use Rattle.ics_values.specs.Rules.{rule_of}
 use Rattle.ics_values.specs.Stamps.{stamp_of}
-use Rattle.ics_values.specs.RuleParts.{RuleParts}
+use Rattle.ics_fields.specs.RuleParts.{RuleParts}
 use Rattle.ics_values.specs.declared.duration.Duration.{Duration}
 use Rattle.ics_values.specs.declared.duration.DurationFault.{DurationFault}
 use Rattle.ics_values.specs.declared.duration.DurationFault.TheVariants as duration_fault

@@ -7,12 +7,12 @@ use Rattle.std.proofs.lemmas.Option.{slice_get-map, slice_get-get_or}
 use Rattle.std.proofs.lemmas.List.Elements.{All-nil, All-map, All-contains, All-from_recursion}
 use Rattle.ics_zone.specs.ZoneSaid.{ZoneSaid, said_moment, zone_said}
 use Rattle.ics_zone.specs.declared.zone.ZoneKind.{ZoneKind}
-use Rattle.ics_values.specs.declared.local.Local.{Local}
+use Rattle.ics_fields.specs.declared.local.Local.{Local}
 use Rattle.ics_calendar.specs.declared.gathered.LineCheck.{LineCheck}
 use Rattle.ics_calendar.specs.declared.deferred_check.DeferredCheck.{DeferredCheck}
 use Rattle.ics_calendar.specs.Gathered.{event_of}
 use Rattle.ics_calendar.specs.Event.{AreEventsOf}
-use Rattle.ics_values.specs.Locals.{local_seconds}
+use Rattle.ics_fields.specs.Locals.{local_seconds}
 use Rattle.ics_calendar.specs.Gathered.{known_in, first_judged, IsSoundGathered}
 use Rattle.ics_calendar.specs.GatheredSeen.{GatheredSeen}
 use Rattle.ics_calendar.specs.DeferredChecks.{KnownZones, moment_at, judged, with_files}

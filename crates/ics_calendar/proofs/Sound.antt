@@ -11,12 +11,13 @@ use Rattle.ics_text.specs.Bytes.{upper}
 use Rattle.ics_text.specs.ContentLines.{Parts}
 use Rattle.ics_values.specs.Offsets.{is_offset_form, is_offset_text, offset_hours, offset_minutes, offset_seconds, offset_size, offset_said, offset_of}
 use Rattle.ics_values.specs.Periods.{first_half, second_half, lasts}
-use Rattle.ics_values.specs.RuleParts.{RuleParts}
+use Rattle.ics_fields.specs.RuleParts.{RuleParts}
 use Rattle.ics_values.specs.RuleTexts.{pieces}
 use Rattle.ics_values.specs.Rules.{rule_of}
-use Rattle.ics_values.specs.Stamps.{stamp_of, IsStampDay}
+use Rattle.ics_values.specs.Stamps.{stamp_of}
+use Rattle.ics_fields.specs.Days.{IsStampDay}
 use Rattle.ics_values.specs.Texts.{begins, is_minus, with_sign}
-use Rattle.ics_values.specs.declared.local.Local.{Local}
+use Rattle.ics_fields.specs.declared.local.Local.{Local}
 use Rattle.ics_values.specs.declared.offset.BadOffset.{BadOffset}
 use Rattle.ics_values.specs.declared.rule_text.RuleFault.{RuleFault}
 use Rattle.ics_values.specs.declared.stamp.Stamp.{Stamp}
@@ -45,10 +46,10 @@ use Rattle.ics_calendar.specs.Zones.{local_in, onset_in, offset_in, daily_in}
 use Rattle.ics_calendar.proofs.Judged.{closed, behind, behind-is, is_begin_name, is_end_name}
 use Rattle.ics_calendar.proofs.Judged.{end_fault_at, ends, fault_on}
 use Rattle.ics_calendar.proofs.SoundValues.{day-zero, stamp-range, sound-stamp, sound-lasting, sound-rdates, sound-exdates}
-use Rattle.ics_values.specs.Locals.{local_at}
+use Rattle.ics_fields.specs.Locals.{local_at}
 use Rattle.ics_values.specs.declared.duration.Duration.{Duration}
-use Rattle.ics_values.specs.declared.frequency.Frequency.{Frequency}
-use Rattle.ics_values.specs.declared.frequency.Frequency.TheVariants as frequency
+use Rattle.ics_fields.specs.declared.frequency.Frequency.{Frequency}
+use Rattle.ics_fields.specs.declared.frequency.Frequency.TheVariants as frequency
 use Rattle.ics_zone.specs.Observances.{is_finer_than_daily, is_finer_rule, ObservanceSaid}
 use Rattle.ics_zone.specs.Years.{is_stamp_local}
 use Rattle.ics_calendar.specs.declared.fault.FaultKind.TheVariants.{NoObservance, ObservanceField, MissingUid, MissingStart, BadEnd}

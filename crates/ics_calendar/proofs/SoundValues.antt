@@ -7,7 +7,8 @@ use Rattle.ics_values.specs.Digits.{number_at}
 use Rattle.ics_values.specs.Durations.{duration_of}
 use Rattle.ics_values.specs.Periods.{first_half, second_half, lasts}
 use Rattle.ics_values.specs.RuleTexts.{pieces}
-use Rattle.ics_values.specs.Stamps.{is_date_time_form, is_stamp_text, is_stamp_year, year_of, stamp_said, stamp_of, stamp_day, IsStampDay}
+use Rattle.ics_values.specs.Stamps.{is_date_time_form, is_stamp_text, is_stamp_year, year_of, stamp_said, stamp_of, stamp_day}
+use Rattle.ics_fields.specs.Days.{IsStampDay}
 use Rattle.ics_values.specs.Texts.{begins, is_minus}
 use Rattle.ics_values.specs.declared.duration.Duration.{Duration}
 use Rattle.ics_values.specs.declared.duration.DurationFault.{DurationFault}

@@ -1,7 +1,7 @@
 -- What the reader has of an event, of a time zone and of an observance, and what each is at its END.
 -- These are the words of the code alone. No public contract cites them.
 use Rattle.std.specs.Prelude.{ℕ, false, [], None, unwrap_or, pos}
-use Rattle.ics_values.specs.Locals.{local_at}
+use Rattle.ics_fields.specs.Locals.{local_at}
 use Rattle.ics_zone.specs.Observances.{ObservanceSaid}
 use Rattle.ics_calendar.specs.declared.builder.Builder.{Builder}
 use Rattle.ics_calendar.specs.declared.builder.Builder.TheVariants as builder

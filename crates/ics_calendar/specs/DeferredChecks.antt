@@ -5,7 +5,7 @@ use Rattle.std.specs.Prelude.{length}
 use Rattle.std.specs.List.{position, position_from, list_any}
 use Rattle.std.specs.Option.{option_and_then, option_or}
 use Rattle.std.specs.Str.{bytes_eq}
-use Rattle.ics_values.specs.declared.local.Local.{Local}
+use Rattle.ics_fields.specs.declared.local.Local.{Local}
 use Rattle.ics_values.specs.declared.stamp.Stamp.{Stamp}
 use Rattle.ics_values.specs.declared.stamp.Stamp.TheVariants as stamp
 use Rattle.ics_zone.specs.ZoneSaid.{ZoneSaid, said_moment}
@@ -18,7 +18,7 @@ use Rattle.ics_calendar.specs.declared.deferred_check.DeferredCheck.{DeferredChe
 use Rattle.ics_calendar.specs.declared.deferred_check.DeferredCheck.TheVariants as check
 use Rattle.ics_calendar.specs.declared.deferred_check.ZoneName.{ZoneName}
 use Rattle.ics_calendar.specs.Event.{is_zoned}
-use Rattle.ics_values.specs.Locals.{local_seconds}
+use Rattle.ics_fields.specs.Locals.{local_seconds}
 use Rattle.ics_calendar.specs.GivenFiles.{GivenFiles, given_names, given_zones, bad_names}
 use Rattle.ics_calendar.specs.Values.{same_zone, is_out}
 

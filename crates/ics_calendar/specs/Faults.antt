@@ -6,7 +6,7 @@ use Rattle.std.specs.Str.{bytes_eq}
 use Rattle.ics_values.specs.Integers.{integer_of}
 use Rattle.ics_values.specs.Offsets.{offset_of}
 use Rattle.ics_values.specs.Plain.{text_of}
-use Rattle.ics_values.specs.RuleParts.{RuleParts}
+use Rattle.ics_fields.specs.RuleParts.{RuleParts}
 use Rattle.ics_values.specs.Rules.{rule_of}
 use Rattle.ics_values.specs.Stamps.{stamp_of}
 use Rattle.ics_values.specs.declared.duration.Duration.{Duration}

@@ -1,7 +1,7 @@
 -- What is gathered of a file, line by line, what the file is by it, and what holds of it where the first round finds nothing.
 use Rattle.std.specs.Prelude.{ℕ, List, [], ◌∷◌, ◌++◌, Option, Some, None, map, filter_map, Result, Ok, Err}
 use Rattle.std.specs.List.{All, Contains}
-use Rattle.ics_values.specs.Stamps.{IsStampDay}
+use Rattle.ics_fields.specs.Days.{IsStampDay}
 use Rattle.ics_zone.specs.ZoneSaid.{ZoneSaid}
 use Rattle.ics_calendar.specs.declared.deferred_check.DeferredCheck.{DeferredCheck}
 use Rattle.ics_calendar.specs.declared.deferred_check.DeferredCheck.TheVariants.{Ends}

@@ -1,7 +1,8 @@
 -- What holds of what has ended, where no fault stands on its lines.
 use Rattle.std.specs.Prelude.{◌≡◌, ◌≢◌, true, false, [], IfSome, List, IsTrue, Option, Some, None}
 use Rattle.std.specs.List.{All, list_all}
-use Rattle.ics_values.specs.Stamps.{stamp_day, IsStampDay}
+use Rattle.ics_values.specs.Stamps.{stamp_day}
+use Rattle.ics_fields.specs.Days.{IsStampDay}
 use Rattle.ics_values.specs.declared.stamp.Stamp.{Stamp}
 use Rattle.ics_calendar.specs.declared.date_list.DateList.{DateList}
 use Rattle.ics_calendar.specs.declared.date_list.ListedDate.{ListedDate}

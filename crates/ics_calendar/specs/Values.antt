@@ -6,7 +6,7 @@ use Rattle.std.specs.Str.{bytes_eq}
 use Rattle.ics_text.specs.Bytes.{upper}
 use Rattle.ics_text.specs.ContentLines.{param_of}
 use Rattle.ics_values.specs.Durations.{duration_of}
-use Rattle.ics_values.specs.RuleParts.{RuleParts, every}
+use Rattle.ics_fields.specs.RuleParts.{RuleParts, every}
 use Rattle.ics_values.specs.Texts.{begins, is_minus}
 use Rattle.ics_values.specs.Stamps.{stamp_of}
 use Rattle.ics_values.specs.declared.duration.Duration.{Duration}
@@ -18,14 +18,14 @@ use Rattle.ics_values.specs.declared.duration.DurationFault.{DurationFault}
 use Rattle.ics_values.specs.declared.duration.DurationFault.TheVariants as duration
 use Rattle.ics_values.specs.declared.integer.IntegerFault.{IntegerFault}
 use Rattle.ics_values.specs.declared.integer.IntegerFault.TheVariants as integer
-use Rattle.ics_values.specs.declared.frequency.Frequency.{Frequency}
-use Rattle.ics_values.specs.declared.frequency.Frequency.TheVariants.{Secondly, Minutely, Hourly, Daily}
+use Rattle.ics_fields.specs.declared.frequency.Frequency.{Frequency}
+use Rattle.ics_fields.specs.declared.frequency.Frequency.TheVariants.{Secondly, Minutely, Hourly, Daily}
 use Rattle.ics_values.specs.declared.offset.BadOffset.{BadOffset}
 use Rattle.ics_values.specs.declared.rule_text.RuleFault.{RuleFault}
 use Rattle.ics_values.specs.declared.rule_text.RuleFault.TheVariants as rule
 use Rattle.ics_calendar.specs.declared.dated.Dated.{Dated}
 use Rattle.ics_calendar.specs.Event.{longest}
-use Rattle.ics_values.specs.Locals.{local_seconds}
+use Rattle.ics_fields.specs.Locals.{local_seconds}
 
 -- the name of the zone that the parameters of a line give
 abbrev pub zone_name : List ℕ → Option (List ℕ)

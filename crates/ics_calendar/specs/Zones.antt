@@ -1,13 +1,13 @@
 -- The time zones of a file, and the one that a name stands for (RFC 5545, section 3.6.5).
 use Rattle.std.specs.Prelude.{ℕ, Bool, ◌&&◌, List, [], map, filter, filter_map, flat_map, codes, unwrap_or, Option, Some, None, option_map, Result, Ok, Err, ℤ}
 use Rattle.std.specs.Prelude.{pos, false, if◌then◌else◌}
-use Rattle.ics_values.specs.Locals.{local_at}
-use Rattle.ics_values.specs.declared.local.Local.{Local}
-use Rattle.ics_values.specs.declared.frequency.Frequency.TheVariants.{Daily}
+use Rattle.ics_fields.specs.Locals.{local_at}
+use Rattle.ics_fields.specs.declared.local.Local.{Local}
+use Rattle.ics_fields.specs.declared.frequency.Frequency.TheVariants.{Daily}
 use Rattle.ics_values.specs.declared.offset.BadOffset.{BadOffset}
 use Rattle.ics_values.specs.declared.rule_text.RuleFault.{RuleFault}
 use Rattle.ics_values.specs.Offsets.{offset_of}
-use Rattle.ics_values.specs.RuleParts.{RuleParts, every}
+use Rattle.ics_fields.specs.RuleParts.{RuleParts, every}
 use Rattle.ics_values.specs.Stamps.{stamp_of}
 use Rattle.ics_values.specs.declared.stamp.Stamp.{Stamp}
 use Rattle.ics_values.specs.declared.stamp.Stamp.TheVariants.{Floating}

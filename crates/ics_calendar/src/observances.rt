@@ -29,7 +29,7 @@ pub struct Locals {
 
 impl Model for Locals {
     ghost use Rattle.std.specs.Prelude.{List};
-    ghost use Rattle.ics_values.specs.declared.local.Local.{Local};
+    ghost use Rattle.ics_fields.specs.declared.local.Local.{Local};
 
     ghost Value = { List Local };
 

@@ -20,7 +20,7 @@ pub struct RuleValue {
 }
 
 impl Model for RuleValue {
-    ghost use Rattle.ics_values.specs.RuleParts.{RuleParts};
+    ghost use Rattle.ics_fields.specs.RuleParts.{RuleParts};
 
     ghost Value = { RuleParts };
 

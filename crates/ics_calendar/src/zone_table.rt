@@ -4,7 +4,7 @@ ghost use Rattle.std.specs.BTreeMap.{get};
 ghost use Rattle.std.specs.Cmp.Lexicographic.{slice_cmp};
 ghost use Rattle.std.specs.List.{All};
 ghost use Rattle.std.specs.Ordering.{nat_cmp};
-ghost use Rattle.ics_values.specs.Stamps.{IsStampDay};
+ghost use Rattle.ics_fields.specs.Days.{IsStampDay};
 ghost use Rattle.ics_zone.specs.ZoneSaid.{ZoneSaid, zone_said};
 ghost use Rattle.ics_calendar.specs.declared.deferred_check.ZoneName.{ZoneName};
 ghost use Rattle.ics_calendar.specs.DeferredChecks.{zone_index, moment_at, known_zones, with_files};

@@ -1,10 +1,10 @@
 -- Calls of a cursor, one after the other.
 use Rattle.std.proofs.Common.{ℕ, ◌≤◌, List, [], ◌∷◌, Option, Some, None, subst, sym, arith}
 use Rattle.std.specs.Option.{option_map}
-use Rattle.ics_values.specs.declared.local.Local.{Local}
+use Rattle.ics_fields.specs.declared.local.Local.{Local}
 use Rattle.ics_rule.specs.declared.cursor.Cursor.{Cursor}
 use Rattle.ics_rule.specs.Recurrence.{Recurrence}
-use Rattle.ics_values.specs.Locals.{number}
+use Rattle.ics_fields.specs.Locals.{number}
 use Rattle.ics_rule.specs.Cursors.{known_to, looks_from, HasLooked, IsCursorOf}
 use Rattle.ics_rule.specs.Calls.{AreCalls, Call, FewSteps, IsAnswer}
 use Rattle.ics_rule.proofs.CursorLemmas.{few_steps}

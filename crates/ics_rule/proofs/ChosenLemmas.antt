@@ -1,8 +1,8 @@
 -- What a rule chooses within a period is what the product that holds the period takes.
 use Rattle.std.proofs.Common.{◌≡◌, ℕ, suc, ◌+◌, ◌⊎◌, inl, inr, ◌≢◌, Bool, true, false, ◌&&◌, ◌==◌, refl, sym, ap, ◌∙◌, arith}
 use Rattle.std.proofs.lemmas.Bool.{and_right, cases_eq, eq-eqb, ne_eqb}
-use Rattle.ics_values.specs.declared.ordinals.WideOrdinals.{WideOrdinals}
-use Rattle.ics_values.specs.Ordinals.{lists_none_wide}
+use Rattle.ics_fields.specs.declared.ordinals.WideOrdinals.{WideOrdinals}
+use Rattle.ics_fields.specs.Ordinals.{lists_none_wide}
 use Rattle.ics_rule.specs.declared.effective_rule.EffectiveRule.{EffectiveRule}
 use Rattle.ics_rule.specs.declared.recurrence_period.RecurrencePeriod.{RecurrencePeriod}
 use Rattle.ics_rule.specs.PeriodNumbers.{day_of}
@@ -11,7 +11,7 @@ use Rattle.ics_rule.specs.Kept.{count, is_beside, rank, size, is_placed, is_chos
 use Rattle.ics_rule.specs.RecurrencePeriods.{holds, is_let_in, IsPeriodOf, is_listed, is_taken}
 use Rattle.ics_rule.specs.Searches.{is_chosen_within}
 use Rattle.ics_rule.proofs.Counts.{count-same, count-suc, count_one}
-use Rattle.ics_values.specs.Locals.{calendar_end}
+use Rattle.ics_fields.specs.Locals.{calendar_end}
 use Rattle.ics_rule.proofs.Tests.{and_assoc, and_false, keep_true}
 
 -- outside of the steps nothing is chosen

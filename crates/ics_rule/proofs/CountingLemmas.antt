@@ -4,8 +4,8 @@ use Rattle.std.proofs.Common.{refl, sym, subst, ap, ◌∙◌, arith}
 use Rattle.std.proofs.lemmas.Bool.{and_from, and_left, and_right, cases_lt}
 use Rattle.std.proofs.lemmas.Nat.{mod-mul-add}
 use Rattle.jiff_core.specs.Weekday.{monday_zero}
-use Rattle.ics_values.specs.Sets.{IsLeastFrom}
-use Rattle.ics_values.specs.Ordinals.{lists_none_wide}
+use Rattle.ics_fields.specs.Sets.{IsLeastFrom}
+use Rattle.ics_fields.specs.Ordinals.{lists_none_wide}
 use Rattle.ics_rule.specs.declared.effective_rule.EffectiveRule.{EffectiveRule}
 use Rattle.ics_rule.specs.declared.recurrence_period.RecurrencePeriod.{RecurrencePeriod}
 use Rattle.ics_rule.specs.declared.cursor.Cursor.{Cursor}

@@ -4,7 +4,7 @@ use Rattle.std.proofs.Common.{cond, refl, sym, subst, ap, ◌∙◌, arith}
 use Rattle.std.proofs.lemmas.Bool.{and_from, and_parts, cases_lt, eq-eqb, eqb-true, leb-true}
 use Rattle.std.proofs.lemmas.Bool.Decides.{nat_tests}
 use Rattle.jiff_core.specs.Weekday.{monday_zero}
-use Rattle.ics_values.specs.Sets.{IsLeastFrom, IsNextIn}
+use Rattle.ics_fields.specs.Sets.{IsLeastFrom, IsNextIn}
 use Rattle.ics_rule.specs.declared.effective_rule.EffectiveRule.{EffectiveRule}
 use Rattle.ics_rule.specs.declared.recurrence_period.RecurrencePeriod.{RecurrencePeriod}
 use Rattle.ics_rule.specs.declared.cursor.Cursor.{Cursor}
@@ -20,7 +20,7 @@ use Rattle.ics_rule.proofs.PeriodLemmas.{begun, begins, first_in, period_mono, p
 use Rattle.ics_rule.proofs.Counts.{count-suc, count_some, count_mono, count_most, count_one_more, count_every}
 use Rattle.ics_rule.proofs.StepLemmas.{none_between}
 use Rattle.ics_rule.proofs.ChosenLemmas.{no_step, not_let_in}
-use Rattle.ics_values.specs.Locals.{calendar_end, number}
+use Rattle.ics_fields.specs.Locals.{calendar_end, number}
 
 -- a place from a on, and a bound after it up to b
 pub record IsWithin (a b place stop : ℕ) : Type 0 where

@@ -4,13 +4,13 @@ use Rattle.std.proofs.Common.{◌∙◌, arith}
 use Rattle.std.proofs.lemmas.Bool.{cases_lt}
 use Rattle.jiff_core.specs.Calendar.{is_leap_year, days_in_year, days_in_month, days_of_months}
 use Rattle.jiff_core.specs.Weekday.{monday_zero}
-use Rattle.ics_values.specs.declared.frequency.Frequency.{Frequency}
-use Rattle.ics_values.specs.declared.frequency.Frequency.TheVariants.{Secondly, Minutely, Hourly, Daily, Weekly, Monthly, Yearly}
-use Rattle.ics_values.specs.declared.ordinals.Ordinals.{Ordinals}
-use Rattle.ics_values.specs.Sets.{contains, is_empty}
-use Rattle.ics_values.specs.Ordinals.{lists_none, lists_no_weekday, numbers_of}
-use Rattle.ics_values.specs.Days.{days_before_year, year_of, year_day_of, month_from, month_of, month_day_of, weekday_of}
-use Rattle.ics_values.proofs.DayLemmas.{year_under_way, year_of_is}
+use Rattle.ics_fields.specs.declared.frequency.Frequency.{Frequency}
+use Rattle.ics_fields.specs.declared.frequency.Frequency.TheVariants.{Secondly, Minutely, Hourly, Daily, Weekly, Monthly, Yearly}
+use Rattle.ics_fields.specs.declared.ordinals.Ordinals.{Ordinals}
+use Rattle.ics_fields.specs.Sets.{contains, is_empty}
+use Rattle.ics_fields.specs.Ordinals.{lists_none, lists_no_weekday, numbers_of}
+use Rattle.ics_fields.specs.Days.{days_before_year, year_of, year_day_of, month_from, month_of, month_day_of, weekday_of}
+use Rattle.ics_fields.proofs.DayLemmas.{year_under_way, year_of_is}
 use Rattle.ics_rule.specs.declared.effective_rule.EffectiveRule.{EffectiveRule}
 use Rattle.ics_rule.specs.PeriodNumbers.{week_of}
 use Rattle.ics_rule.specs.Candidates.{lets, lets_place, lets_wide_place, lists_nth, fourth_day, week_number, weeks_of_year, lets_numbered, lets_date}

@@ -3,17 +3,17 @@ use Rattle.std.proofs.Common.{◌≡◌, ℕ, ◌<◌, nat_lt, ◌+◌, ◌-◌,
 use Rattle.std.proofs.lemmas.Bool.{and_parts, and_right, or_left}
 use Rattle.std.proofs.lemmas.Bool.Decides.{nat_tests}
 use Rattle.std.proofs.lemmas.Nat.Bits.{bit_at-zero}
-use Rattle.ics_values.specs.declared.frequency.Frequency.{Frequency}
-use Rattle.ics_values.specs.declared.frequency.Frequency.TheVariants.{Secondly, Minutely, Hourly, Daily, Weekly, Monthly, Yearly}
-use Rattle.ics_values.specs.declared.ordinals.Ordinals.{Ordinals}
-use Rattle.ics_values.specs.Sets.{contains, is_empty}
-use Rattle.ics_values.specs.Ordinals.{lists_none, lists_none_wide, lists_no_weekday, numbers_of}
+use Rattle.ics_fields.specs.declared.frequency.Frequency.{Frequency}
+use Rattle.ics_fields.specs.declared.frequency.Frequency.TheVariants.{Secondly, Minutely, Hourly, Daily, Weekly, Monthly, Yearly}
+use Rattle.ics_fields.specs.declared.ordinals.Ordinals.{Ordinals}
+use Rattle.ics_fields.specs.Sets.{contains, is_empty}
+use Rattle.ics_fields.specs.Ordinals.{lists_none, lists_none_wide, lists_no_weekday, numbers_of}
 use Rattle.jiff_core.specs.Calendar.{days_in_year, days_in_month}
 use Rattle.jiff_core.specs.Weekday.{monday_zero}
 use Rattle.ics_rule.specs.declared.effective_rule.EffectiveRule.{EffectiveRule}
-use Rattle.ics_values.specs.declared.fields.Civil.{Civil}
-use Rattle.ics_values.specs.Days.{year_of, year_day_of, month_of, month_day_of, weekday_of}
-use Rattle.ics_values.specs.Fields.{IsCivilOf}
+use Rattle.ics_fields.specs.declared.fields.Civil.{Civil}
+use Rattle.ics_fields.specs.Days.{year_of, year_day_of, month_of, month_day_of, weekday_of}
+use Rattle.ics_fields.specs.Fields.{IsCivilOf}
 use Rattle.ics_rule.specs.Candidates.{lets_place, lets_week, lists_nth, lets_numbered, lets_weekday, lets_date, fourth_day}
 use Rattle.ics_rule.specs.DateParts.{names_weekdays_alone}
 use Rattle.ics_rule.specs.NamedWeekdays.{names_weekday}

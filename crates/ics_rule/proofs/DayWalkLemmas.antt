@@ -2,10 +2,10 @@
 use Rattle.std.proofs.Common.{◌≡◌, ℕ, ◌+◌, ◌-◌, ◌<◌, false, pos, ap, ◌∙◌, arith}
 use Rattle.jiff_core.specs.Calendar.{IsCivilDate, days_of_months, days_in_month}
 use Rattle.jiff_core.proofs.CalendarLemmas.{day_count-day_of_year}
-use Rattle.ics_values.specs.Days.{days_before_year, year_day_of, month_of}
-use Rattle.ics_values.specs.Fields.{IsCivilOf}
-use Rattle.ics_values.specs.declared.fields.Civil.{Civil}
-use Rattle.ics_values.proofs.DayLemmas.{fields_of, day_count_is, year_under_way, Fields}
+use Rattle.ics_fields.specs.Days.{days_before_year, year_day_of, month_of}
+use Rattle.ics_fields.specs.Fields.{IsCivilOf}
+use Rattle.ics_fields.specs.declared.fields.Civil.{Civil}
+use Rattle.ics_fields.proofs.DayLemmas.{fields_of, day_count_is, year_under_way, Fields}
 use Rattle.ics_rule.specs.declared.effective_rule.EffectiveRule.{EffectiveRule}
 use Rattle.ics_rule.specs.Candidates.{lets, lets_week, lets_weekday, lets_date}
 use Rattle.ics_rule.proofs.DateLemmas.{out_1}

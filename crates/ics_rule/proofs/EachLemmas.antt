@@ -5,9 +5,9 @@ use Rattle.std.proofs.lemmas.Bool.{and_parts, eq-eqb, eqb-true, false_from_ne_tr
 use Rattle.std.proofs.lemmas.Nat.{div-add-mod'}
 use Rattle.std.proofs.Math.Nat.{mul-le-mul_right, mul_comm}
 use Rattle.jiff_core.specs.Weekday.{monday_zero}
-use Rattle.ics_values.specs.declared.frequency.Frequency.{Frequency}
-use Rattle.ics_values.specs.declared.frequency.Frequency.TheVariants.{Secondly, Minutely, Hourly, Daily, Weekly, Monthly, Yearly}
-use Rattle.ics_values.specs.Ordinals.{lists_none_wide}
+use Rattle.ics_fields.specs.declared.frequency.Frequency.{Frequency}
+use Rattle.ics_fields.specs.declared.frequency.Frequency.TheVariants.{Secondly, Minutely, Hourly, Daily, Weekly, Monthly, Yearly}
+use Rattle.ics_fields.specs.Ordinals.{lists_none_wide}
 use Rattle.ics_rule.specs.declared.effective_rule.EffectiveRule.{EffectiveRule}
 use Rattle.ics_rule.specs.declared.recurrence_period.RecurrencePeriod.{RecurrencePeriod}
 use Rattle.ics_rule.specs.declared.cursor.Cursor.{Cursor}
@@ -25,7 +25,7 @@ use Rattle.ics_rule.proofs.RankLemmas.{count_flat, count-ranked}
 use Rattle.ics_rule.proofs.StepLemmas.{stepped_parts}
 use Rattle.ics_rule.proofs.CountLemmas.{IsCountedStep}
 use Rattle.ics_rule.proofs.RoundLemmas.{step_repeats}
-use Rattle.ics_values.specs.Locals.{calendar_end}
+use Rattle.ics_fields.specs.Locals.{calendar_end}
 use Rattle.ics_rule.proofs.Tests.{and_assoc, keep_true}
 
 -- the clock is a period's own and what is within it

@@ -2,7 +2,7 @@
 use Rattle.std.proofs.Common.{◌≡◌, ℕ, ◌+◌, ◌*◌, ◌/◌, ◌%◌, Bool, ◌&&◌, ap, ◌∙◌, arith}
 use Rattle.ics_rule.specs.declared.effective_rule.EffectiveRule.{EffectiveRule}
 use Rattle.ics_rule.specs.Recurrence.{Recurrence}
-use Rattle.ics_values.specs.Locals.{number}
+use Rattle.ics_fields.specs.Locals.{number}
 use Rattle.ics_rule.specs.EffectiveRules.{effective}
 use Rattle.ics_rule.specs.Candidates.{is_candidate, is_candidate_in, in_step, lets_date, lets_clock}
 

@@ -3,11 +3,11 @@ use Rattle.std.proofs.Common.{◌≡◌, ℕ, zero, suc, ◌+◌, ◌-◌, ◌*�
 use Rattle.std.proofs.lemmas.Bool.{cases_lt, false_from_ne_true}
 use Rattle.std.proofs.Math.Nat.{mul_comm}
 use Rattle.jiff_core.specs.Weekday.{monday_zero}
-use Rattle.ics_values.specs.declared.frequency.Frequency.{Frequency}
-use Rattle.ics_values.specs.declared.frequency.Frequency.TheVariants.{Secondly, Minutely, Hourly, Daily, Weekly, Monthly, Yearly}
-use Rattle.ics_values.specs.Days.{days_before_year}
-use Rattle.ics_values.specs.Ordinals.{lists_none_wide}
-use Rattle.ics_values.proofs.DayLemmas.{days_before_year_low}
+use Rattle.ics_fields.specs.declared.frequency.Frequency.{Frequency}
+use Rattle.ics_fields.specs.declared.frequency.Frequency.TheVariants.{Secondly, Minutely, Hourly, Daily, Weekly, Monthly, Yearly}
+use Rattle.ics_fields.specs.Days.{days_before_year}
+use Rattle.ics_fields.specs.Ordinals.{lists_none_wide}
+use Rattle.ics_fields.proofs.DayLemmas.{days_before_year_low}
 use Rattle.ics_rule.specs.declared.effective_rule.EffectiveRule.{EffectiveRule}
 use Rattle.ics_rule.specs.Candidates.{is_stepped, period_in}
 use Rattle.ics_rule.specs.Kept.{count, is_chosen}
@@ -23,7 +23,7 @@ use Rattle.ics_rule.proofs.RoundLemmas.{step_repeats, rounds_total}
 use Rattle.ics_rule.proofs.FlatLemmas.{allowed_before, month_local, month_adds, month_is, year_is}
 use Rattle.ics_rule.proofs.SizeLemmas.{let_at, longest, chosen_of, period_adds, size_adds}
 use Rattle.ics_rule.specs.PeriodNumbers.{rules_end}
-use Rattle.ics_values.specs.Locals.{calendar_end}
+use Rattle.ics_fields.specs.Locals.{calendar_end}
 use Rattle.ics_rule.proofs.Tests.{positive}
 
 -- a period is the start's or later, by a multiple of the interval

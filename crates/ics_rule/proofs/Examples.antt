@@ -1,19 +1,19 @@
 -- The definitions on worked examples.
 use Rattle.std.proofs.Common.{◌≡◌, refl, ℕ, ◌+◌, true, false, List, [], ◌∷◌, map, pos, Some}
-use Rattle.ics_values.specs.Days.{days_on_literals}
+use Rattle.ics_fields.specs.Days.{days_on_literals}
 use Rattle.ics_rule.specs.Kept.{rules_on_literals}
-use Rattle.ics_values.specs.declared.frequency.Frequency.TheVariants.{Minutely, Hourly, Daily, Weekly, Monthly, Yearly}
-use Rattle.ics_values.specs.declared.until.Until.{Until}
-use Rattle.ics_values.specs.declared.until.Until.TheVariants as until
+use Rattle.ics_fields.specs.declared.frequency.Frequency.TheVariants.{Minutely, Hourly, Daily, Weekly, Monthly, Yearly}
+use Rattle.ics_fields.specs.declared.until.Until.{Until}
+use Rattle.ics_fields.specs.declared.until.Until.TheVariants as until
 use Rattle.jiff_core.specs.declared.civil.weekday.Weekday.{Weekday}
 use Rattle.jiff_core.specs.declared.civil.weekday.Weekday.TheVariants.{Monday, Sunday}
-use Rattle.ics_values.specs.declared.local.Local.{Local}
-use Rattle.ics_values.specs.RuleParts.{every}
-use Rattle.ics_values.specs.Ordinals.{no_ordinals}
-use Rattle.ics_values.specs.Sets.{only}
+use Rattle.ics_fields.specs.declared.local.Local.{Local}
+use Rattle.ics_fields.specs.RuleParts.{every}
+use Rattle.ics_fields.specs.Ordinals.{no_ordinals}
+use Rattle.ics_fields.specs.Sets.{only}
 use Rattle.ics_rule.specs.Recurrence.{Recurrence}
 use Rattle.ics_rule.specs.declared.kind.Kind.TheVariants.{Date, DateTime}
-use Rattle.ics_values.specs.Locals.{number}
+use Rattle.ics_fields.specs.Locals.{number}
 use Rattle.ics_rule.specs.Candidates.{is_candidate}
 use Rattle.ics_rule.specs.Kept.{is_kept}
 use Rattle.ics_rule.proofs.Samples.{on_weekdays, nth_last_weekday, at, local, rule, mo, tu, fr, su}

@@ -5,9 +5,9 @@ use Rattle.std.proofs.Common.{arith}
 use Rattle.std.proofs.lemmas.Bool.{and_right}
 use Rattle.jiff_core.specs.Calendar.{days_in_month}
 use Rattle.jiff_core.proofs.CalendarLemmas.{days_in_month_bounds, days_of_months-zero}
-use Rattle.ics_values.specs.Sets.{contains, IsNextIn}
-use Rattle.ics_values.specs.Ordinals.{lists_none, lists_no_weekday, numbers_of}
-use Rattle.ics_values.specs.Days.{days_before_year, year_of, month_of, month_day_of, weekday_of}
+use Rattle.ics_fields.specs.Sets.{contains, IsNextIn}
+use Rattle.ics_fields.specs.Ordinals.{lists_none, lists_no_weekday, numbers_of}
+use Rattle.ics_fields.specs.Days.{days_before_year, year_of, month_of, month_day_of, weekday_of}
 use Rattle.ics_rule.specs.declared.effective_rule.EffectiveRule.{EffectiveRule}
 use Rattle.ics_rule.specs.declared.runs.Run.{Run}
 use Rattle.ics_rule.specs.PeriodNumbers.{day_of}

@@ -4,19 +4,19 @@ use Rattle.std.proofs.Common.{refl, ap, sym, subst, ◌∙◌, arith}
 use Rattle.std.proofs.lemmas.Bool.{and_from, cases_lt, or_right}
 use Rattle.std.proofs.lemmas.Bool.Decides.{nat_tests}
 use Rattle.jiff_core.specs.Weekday.{monday_zero}
-use Rattle.ics_values.specs.declared.frequency.Frequency.{Frequency}
-use Rattle.ics_values.specs.declared.frequency.Frequency.TheVariants.{Secondly, Minutely, Hourly, Daily, Weekly, Monthly, Yearly}
-use Rattle.ics_values.specs.declared.until.Until.{Until}
-use Rattle.ics_values.specs.declared.until.Until.TheVariants as until
-use Rattle.ics_values.specs.Days.{day_index, year_of}
-use Rattle.ics_values.specs.Sets.{contains, is_empty}
-use Rattle.ics_values.specs.Ordinals.{lists_none_wide}
+use Rattle.ics_fields.specs.declared.frequency.Frequency.{Frequency}
+use Rattle.ics_fields.specs.declared.frequency.Frequency.TheVariants.{Secondly, Minutely, Hourly, Daily, Weekly, Monthly, Yearly}
+use Rattle.ics_fields.specs.declared.until.Until.{Until}
+use Rattle.ics_fields.specs.declared.until.Until.TheVariants as until
+use Rattle.ics_fields.specs.Days.{day_index, year_of}
+use Rattle.ics_fields.specs.Sets.{contains, is_empty}
+use Rattle.ics_fields.specs.Ordinals.{lists_none_wide}
 use Rattle.ics_rule.specs.declared.kind.Kind.{Kind}
 use Rattle.ics_rule.specs.declared.kind.Kind.TheVariants.{Date, DateTime}
 use Rattle.ics_rule.specs.declared.effective_rule.EffectiveRule.{EffectiveRule}
 use Rattle.ics_rule.specs.Recurrence.{Recurrence}
 use Rattle.ics_rule.specs.PeriodNumbers.{period, day_of, hour_of, minute_of, second_of, week_of, month_number, rules_end}
-use Rattle.ics_values.specs.Locals.{number}
+use Rattle.ics_fields.specs.Locals.{number}
 use Rattle.ics_rule.specs.EffectiveRules.{effective, skips_hours}
 use Rattle.ics_rule.specs.Candidates.{lets, in_step, is_stepped, lets_date, lets_clock, period_in, is_candidate_in}
 use Rattle.ics_rule.specs.Kept.{count, is_chosen, is_placed, is_kept, is_by_until}

@@ -9,8 +9,8 @@ use Rattle.jiff_core.proofs.SignedLemmas.{signed_arith}
 use Rattle.jiff_core.proofs.CalendarLemmas.{days_from_civil-day_count, day_count-later_year, day_count-next_year, days_in_year_bounds}
 use Rattle.jiff_core.proofs.IsoWeekLemmas.{day_count-fourth, iso_year_start-day_count, iso_year_start_near, weeks_in_year-next}
 use borrow.Author.Differences.{up, down}
-use Rattle.ics_values.specs.Days.{days_before_year, year_of, weekday_of}
-use Rattle.ics_values.proofs.DayLemmas.{day_count_is, year_of_is, days_before_year-next}
+use Rattle.ics_fields.specs.Days.{days_before_year, year_of, weekday_of}
+use Rattle.ics_fields.proofs.DayLemmas.{day_count_is, year_of_is, days_before_year-next}
 use Rattle.ics_rule.specs.PeriodNumbers.{week_of}
 use Rattle.ics_rule.specs.Candidates.{fourth_day, week_number, weeks_of_year}
 use Rattle.ics_rule.specs.IsoWeeks.{IsDay}

@@ -3,11 +3,11 @@ use Rattle.std.proofs.Common.{◌≡◌, ◌≢◌, ℕ, zero, suc, ◌+◌, ◌
 use Rattle.std.proofs.lemmas.Bool.{cases_lt, le-ltb, eqb-true, ltb-true}
 use Rattle.jiff_core.specs.Calendar.{days_in_year}
 use Rattle.jiff_core.proofs.CalendarLemmas.{days_in_year_bounds}
-use Rattle.ics_values.specs.Days.{days_before_year, year_of, year_day_of}
-use Rattle.ics_values.proofs.DayLemmas.{year_under_way, year_of_is, days_before_year-next, days_before_year_mono}
+use Rattle.ics_fields.specs.Days.{days_before_year, year_of, year_day_of}
+use Rattle.ics_fields.proofs.DayLemmas.{year_under_way, year_of_is, days_before_year-next, days_before_year_mono}
 use Rattle.ics_rule.specs.Recurrence.{Recurrence}
 use Rattle.ics_rule.specs.PeriodNumbers.{week_of}
-use Rattle.ics_values.specs.Locals.{number}
+use Rattle.ics_fields.specs.Locals.{number}
 use Rattle.ics_rule.specs.Candidates.{fourth_day, week_number, weeks_of_year}
 use Rattle.ics_rule.specs.Kept.{count, is_in_rule, is_kept, is_counted}
 use Rattle.ics_rule.proofs.Counts.{count-none}

@@ -5,11 +5,11 @@ use Rattle.std.proofs.lemmas.Bool.{and_right, cases_lt, cases_eq, eq-eqb, ne_eqb
 use Rattle.std.proofs.lemmas.Bool.Decides.{nat_tests}
 use Rattle.jiff_core.specs.Calendar.{days_in_month, days_in_year, days_of_months}
 use Rattle.jiff_core.proofs.CalendarLemmas.{days_in_month_bounds, days_in_year_bounds, days_of_months_all}
-use Rattle.ics_values.specs.declared.ordinals.Ordinals.{Ordinals}
-use Rattle.ics_values.specs.declared.ordinals.WideOrdinals.{WideOrdinals}
-use Rattle.ics_values.specs.Sets.{contains, contains_wide}
-use Rattle.ics_values.specs.Days.{days_before_year, year_of, year_day_of, month_of, month_day_of, weekday_of}
-use Rattle.ics_values.proofs.DayLemmas.{days_before_year-next, year_of_is, year_under_way}
+use Rattle.ics_fields.specs.declared.ordinals.Ordinals.{Ordinals}
+use Rattle.ics_fields.specs.declared.ordinals.WideOrdinals.{WideOrdinals}
+use Rattle.ics_fields.specs.Sets.{contains, contains_wide}
+use Rattle.ics_fields.specs.Days.{days_before_year, year_of, year_day_of, month_of, month_day_of, weekday_of}
+use Rattle.ics_fields.proofs.DayLemmas.{days_before_year-next, year_of_is, year_under_way}
 use Rattle.ics_rule.specs.PeriodNumbers.{month_number, week_of}
 use Rattle.ics_rule.specs.Candidates.{lists, lists_wide, lists_nth, fourth_day, week_number, weeks_of_year}
 use Rattle.ics_rule.specs.Kept.{count}
@@ -20,7 +20,7 @@ use Rattle.ics_rule.proofs.Months.{month_of_low}
 use Rattle.ics_rule.proofs.PeriodLemmas.{month_begun, month_begins, month_size, month_positive, fourth_early, fourth_late}
 use Rattle.ics_rule.proofs.RankLemmas.{count_flat}
 use Rattle.ics_rule.proofs.LawLemmas.{year_day_is}
-use Rattle.ics_values.specs.Locals.{calendar_end}
+use Rattle.ics_fields.specs.Locals.{calendar_end}
 
 -- the days that pass are those from a on and before b
 pub record IsStretch (test : ℕ → Bool) (a b : ℕ) : Type 0 where

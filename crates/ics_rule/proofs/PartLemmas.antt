@@ -3,9 +3,9 @@ use Rattle.std.proofs.Common.{◌≡◌, ℕ, zero, suc, ◌+◌, ◌<◌, ◌�
 use Rattle.std.proofs.lemmas.Bool.{cases_Bool}
 use Rattle.std.proofs.lemmas.Bool.Decides.{nat_tests}
 use Rattle.std.proofs.lemmas.Nat.Bits.{bit_at-zero}
-use Rattle.ics_values.specs.declared.ordinals.Weekdays.{Weekdays}
-use Rattle.ics_values.specs.Sets.{contains, with_number}
-use Rattle.ics_values.proofs.SetLemmas.{contains-with_number}
+use Rattle.ics_fields.specs.declared.ordinals.Weekdays.{Weekdays}
+use Rattle.ics_fields.specs.Sets.{contains, with_number}
+use Rattle.ics_fields.proofs.SetLemmas.{contains-with_number}
 use Rattle.ics_rule.specs.NamedWeekdays.{names_weekday, named_below}
 use Rattle.ics_rule.proofs.ScanLemmas.{one_more, no_more}
 

@@ -6,15 +6,15 @@ use Rattle.jiff_core.specs.declared.civil.weekday.Weekday.TheVariants.{Monday, T
 use Rattle.jiff_core.specs.Weekday.{monday_zero}
 use Rattle.jiff_core.specs.Calendar.{days_of_months, days_in_month}
 use Rattle.jiff_core.proofs.CalendarLemmas.{days_of_months_more, days_of_months_all, days_of_months-zero, days_in_month_bounds, days_in_year_bounds}
-use Rattle.ics_values.specs.Days.{days_before_year, year_of, month_of}
-use Rattle.ics_values.proofs.DayLemmas.{year_under_way, days_before_year_low, days_before_year_mono, days_before_year-next}
-use Rattle.ics_values.specs.declared.frequency.Frequency.{Frequency}
-use Rattle.ics_values.specs.declared.frequency.Frequency.TheVariants.{Secondly, Minutely, Hourly, Daily, Weekly, Monthly, Yearly}
+use Rattle.ics_fields.specs.Days.{days_before_year, year_of, month_of}
+use Rattle.ics_fields.proofs.DayLemmas.{year_under_way, days_before_year_low, days_before_year_mono, days_before_year-next}
+use Rattle.ics_fields.specs.declared.frequency.Frequency.{Frequency}
+use Rattle.ics_fields.specs.declared.frequency.Frequency.TheVariants.{Secondly, Minutely, Hourly, Daily, Weekly, Monthly, Yearly}
 use Rattle.ics_rule.specs.PeriodNumbers.{period, month_number, week_of, rules_end}
 use Rattle.ics_rule.specs.Candidates.{fourth_day}
 use Rattle.ics_rule.specs.RecurrencePeriods.{month_start, first_local}
 use Rattle.ics_rule.proofs.Months.{earlier_month, later_month, month_of_high}
-use Rattle.ics_values.specs.Locals.{calendar_end}
+use Rattle.ics_fields.specs.Locals.{calendar_end}
 
 -- weeks start on one of seven weekdays
 pub week_small : (d : Weekday) → monday_zero d < 7

@@ -6,7 +6,7 @@ use Rattle.std.proofs.lemmas.Bool.Decides.{nat_tests}
 use Rattle.ics_rule.specs.declared.effective_rule.EffectiveRule.{EffectiveRule}
 use Rattle.ics_rule.specs.Recurrence.{Recurrence}
 use Rattle.ics_rule.specs.PeriodNumbers.{rules_end}
-use Rattle.ics_values.specs.Locals.{number, calendar_end}
+use Rattle.ics_fields.specs.Locals.{number, calendar_end}
 use Rattle.ics_rule.specs.Candidates.{is_candidate_in, period_in}
 use Rattle.ics_rule.specs.Kept.{count, is_beside, rank, size, is_in_rule, is_by_until, is_counted, is_kept}
 use Rattle.ics_rule.specs.Ranks.{HasRank}

@@ -5,18 +5,18 @@ use Rattle.std.proofs.lemmas.Bool.{and_parts, and_right, cases_eq, eq-eqb, le-le
 use Rattle.std.proofs.lemmas.Nat.Bits.{bit_at-zero}
 use Rattle.jiff_core.specs.Calendar.{days_in_month, days_in_year}
 use Rattle.jiff_core.specs.Weekday.{monday_zero}
-use Rattle.ics_values.specs.declared.frequency.Frequency.{Frequency}
-use Rattle.ics_values.specs.declared.frequency.Frequency.TheVariants.{Secondly, Minutely, Hourly, Daily, Weekly, Monthly, Yearly}
-use Rattle.ics_values.specs.declared.ordinals.Ordinals.{Ordinals}
-use Rattle.ics_values.specs.Sets.{contains, contains_wide, is_empty, only}
-use Rattle.ics_values.specs.Ordinals.{no_ordinals, lists_none, lists_none_wide, numbers_of}
-use Rattle.ics_values.specs.Days.{day_index, year_of, year_day_of, month_of, month_day_of, weekday_of}
+use Rattle.ics_fields.specs.declared.frequency.Frequency.{Frequency}
+use Rattle.ics_fields.specs.declared.frequency.Frequency.TheVariants.{Secondly, Minutely, Hourly, Daily, Weekly, Monthly, Yearly}
+use Rattle.ics_fields.specs.declared.ordinals.Ordinals.{Ordinals}
+use Rattle.ics_fields.specs.Sets.{contains, contains_wide, is_empty, only}
+use Rattle.ics_fields.specs.Ordinals.{no_ordinals, lists_none, lists_none_wide, numbers_of}
+use Rattle.ics_fields.specs.Days.{day_index, year_of, year_day_of, month_of, month_day_of, weekday_of}
 use Rattle.ics_rule.specs.declared.kind.Kind.{Kind}
 use Rattle.ics_rule.specs.declared.kind.Kind.TheVariants.{Date, DateTime}
 use Rattle.ics_rule.specs.declared.effective_rule.EffectiveRule.{EffectiveRule}
 use Rattle.ics_rule.specs.Recurrence.{Recurrence}
 use Rattle.ics_rule.specs.PeriodNumbers.{day_of, hour_of, minute_of, second_of, rules_end}
-use Rattle.ics_values.specs.Locals.{number, calendar_end}
+use Rattle.ics_fields.specs.Locals.{number, calendar_end}
 use Rattle.ics_rule.specs.EffectiveRules.{takes_month_day, takes_month, takes_weekday, skips_hours, skips_minutes, skips_seconds, clock_part, effective}
 use Rattle.ics_rule.specs.Candidates.{lets, lets_place, lets_wide_place, lists, lists_wide, lists_nth, lets_week, lets_numbered, lets_weekday, lets_date}
 use Rattle.ics_rule.specs.Candidates.{lets_clock, period_in, is_stepped, is_candidate_in, fourth_day, week_number, weeks_of_year}

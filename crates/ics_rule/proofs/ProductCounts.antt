@@ -5,14 +5,14 @@ use Rattle.std.proofs.lemmas.Bool.{and_right, cases_lt}
 use Rattle.std.proofs.lemmas.Bool.Decides.{nat_tests}
 use Rattle.std.proofs.lemmas.Nat.{div-mul-add, mod-mul-add, div-add-mod'}
 use Rattle.std.proofs.Math.Nat.{mod-lt}
-use Rattle.ics_values.specs.Sets.{contains, contains_wide, IsNextIn}
-use Rattle.ics_values.proofs.SetLemmas.{wide_past}
+use Rattle.ics_fields.specs.Sets.{contains, contains_wide, IsNextIn}
+use Rattle.ics_fields.proofs.SetLemmas.{wide_past}
 use Rattle.ics_rule.specs.declared.recurrence_period.RecurrencePeriod.{RecurrencePeriod}
 use Rattle.ics_rule.specs.Kept.{count, size}
 use Rattle.ics_rule.specs.RecurrencePeriods.{has_minute, has_second, has_day, holds, IsNth}
 use Rattle.ics_rule.proofs.ScanLemmas.{day_before}
 use Rattle.ics_rule.proofs.Counts.{count-same, count-add, count-from, count-up_to, count-all, count-product, count-none, count_none_at, count_one}
-use Rattle.ics_values.specs.Locals.{calendar_end}
+use Rattle.ics_fields.specs.Locals.{calendar_end}
 
 -- how many pass before the t-th of block d: the blocks before it, and what passes in it
 pub count-place : (d b t : ℕ) (p q : ℕ → Bool) → t ≤ b → count (d * b + t) (λ m. p (m / b) && q (m % b)) ≡ count d p * count b q + cond (p d) 1 0 * count t q

@@ -3,7 +3,7 @@ use Rattle.std.proofs.Common.{◌≡◌, ℕ, zero, suc, ◌+◌, ◌-◌, ◌*�
 use Rattle.std.proofs.lemmas.Bool.{and_from, and_right, cases_lt}
 use Rattle.std.proofs.lemmas.Nat.{div-add-mod'}
 use Rattle.std.proofs.Math.Nat.{mod-lt, mul-le-mul_right}
-use Rattle.ics_values.specs.Sets.{IsLeastFrom}
+use Rattle.ics_fields.specs.Sets.{IsLeastFrom}
 use Rattle.ics_rule.specs.Kept.{count}
 use Rattle.ics_rule.specs.RecurrencePeriods.{IsNth}
 use Rattle.ics_rule.proofs.Counts.{count-suc, count-add, count-none, count_mono, count_one_more, count_one}

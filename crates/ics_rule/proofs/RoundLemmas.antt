@@ -6,12 +6,12 @@ use Rattle.std.proofs.lemmas.Bool.Decides.{nat_tests}
 use Rattle.std.proofs.lemmas.Nat.{div-add-mod'}
 use Rattle.std.proofs.Math.Nat.{add-mul-mod_self_right, mul_assoc, mul_comm, mul-le-mul_right, mod-lt}
 use Rattle.jiff_core.specs.Weekday.{monday_zero}
-use Rattle.ics_values.specs.declared.frequency.Frequency.{Frequency}
-use Rattle.ics_values.specs.declared.frequency.Frequency.TheVariants.{Secondly, Minutely, Hourly, Daily, Weekly, Monthly, Yearly}
-use Rattle.ics_values.specs.declared.ordinals.Ordinals.{Ordinals}
-use Rattle.ics_values.specs.Sets.{contains, is_empty}
-use Rattle.ics_values.specs.Ordinals.{lists_none_wide, lists_no_weekday, numbers_of}
-use Rattle.ics_values.specs.Days.{weekday_of}
+use Rattle.ics_fields.specs.declared.frequency.Frequency.{Frequency}
+use Rattle.ics_fields.specs.declared.frequency.Frequency.TheVariants.{Secondly, Minutely, Hourly, Daily, Weekly, Monthly, Yearly}
+use Rattle.ics_fields.specs.declared.ordinals.Ordinals.{Ordinals}
+use Rattle.ics_fields.specs.Sets.{contains, is_empty}
+use Rattle.ics_fields.specs.Ordinals.{lists_none_wide, lists_no_weekday, numbers_of}
+use Rattle.ics_fields.specs.Days.{weekday_of}
 use Rattle.ics_rule.specs.declared.effective_rule.EffectiveRule.{EffectiveRule}
 use Rattle.ics_rule.specs.PeriodNumbers.{period, day_of, hour_of, minute_of, second_of, rules_end}
 use Rattle.ics_rule.specs.Candidates.{lets, lets_numbered, lets_date, lets_clock, lists_wide, is_stepped, is_candidate_in, period_in}
@@ -24,7 +24,7 @@ use Rattle.ics_rule.proofs.RankLemmas.{count_flat}
 use Rattle.ics_rule.proofs.StepLemmas.{stepped_parts}
 use Rattle.ics_rule.proofs.PeriodLemmas.{begun, begins, is_short}
 use Rattle.ics_rule.proofs.DateLemmas.{weekdays_alone}
-use Rattle.ics_values.specs.Locals.{calendar_end}
+use Rattle.ics_fields.specs.Locals.{calendar_end}
 use Rattle.ics_rule.proofs.Tests.{and_assoc, and_false, positive}
 
 -- under the frequencies whose periods last alike a weekday with a number stands for the weekday

@@ -3,12 +3,12 @@ use Rattle.std.proofs.Common.{◌≡◌, ℕ, ◌+◌, ◌-◌, ◌*◌, ◌/◌
 use Rattle.std.proofs.Common.{ap, ◌∙◌, arith}
 use Rattle.std.proofs.lemmas.Bool.{and_parts, and_right, cases_lt, eq-eqb, eqb-true, le-leb, le-ltb, lt-ltb, or_right}
 use Rattle.std.proofs.lemmas.Bool.Decides.{nat_tests}
-use Rattle.ics_values.specs.Sets.{contains, IsLeastFrom}
-use Rattle.ics_values.proofs.SetLemmas.{has_above}
+use Rattle.ics_fields.specs.Sets.{contains, IsLeastFrom}
+use Rattle.ics_fields.proofs.SetLemmas.{has_above}
 use Rattle.ics_rule.specs.declared.runs.Run.{Run}
-use Rattle.ics_values.specs.declared.ordinals.Ordinals.{Ordinals}
-use Rattle.ics_values.specs.declared.ordinals.Weekdays.{Weekdays}
-use Rattle.ics_values.specs.Ordinals.{lists_none, numbers_of}
+use Rattle.ics_fields.specs.declared.ordinals.Ordinals.{Ordinals}
+use Rattle.ics_fields.specs.declared.ordinals.Weekdays.{Weekdays}
+use Rattle.ics_fields.specs.Ordinals.{lists_none, numbers_of}
 use Rattle.ics_rule.specs.Candidates.{lists, lists_nth}
 use Rattle.ics_rule.specs.Runs.{has_run, weekday_in, lists_weekday}
 use Rattle.ics_rule.proofs.DateLemmas.{none_nth}

@@ -1,12 +1,12 @@
 -- Rules and locals to try the definitions on.
 use Rattle.std.proofs.Common.{ℕ, ◌+◌, ◌-◌, ◌*◌, ◌%◌, pos, ◌-ℤ◌, set, arith}
 use Rattle.jiff_core.specs.Calendar.{days_of_months}
-use Rattle.ics_values.specs.declared.local.Local.{Local}
-use Rattle.ics_values.specs.declared.ordinals.Weekdays.{Weekdays}
-use Rattle.ics_values.specs.RuleParts.{RuleParts}
-use Rattle.ics_values.specs.Ordinals.{no_ordinals, no_weekdays}
-use Rattle.ics_values.specs.Sets.{only}
-use Rattle.ics_values.specs.Days.{days_before_year}
+use Rattle.ics_fields.specs.declared.local.Local.{Local}
+use Rattle.ics_fields.specs.declared.ordinals.Weekdays.{Weekdays}
+use Rattle.ics_fields.specs.RuleParts.{RuleParts}
+use Rattle.ics_fields.specs.Ordinals.{no_ordinals, no_weekdays}
+use Rattle.ics_fields.specs.Sets.{only}
+use Rattle.ics_fields.specs.Days.{days_before_year}
 use Rattle.ics_rule.specs.declared.kind.Kind.{Kind}
 use Rattle.ics_rule.specs.Recurrence.{Recurrence}
 

@@ -9,10 +9,10 @@ use Rattle.std.proofs.lemmas.Nat.Bits.{bit_at-pow_other, bit_at-pow_same, bit_at
 use Rattle.std.proofs.Math.Nat.{mod-lt, mul-le-mul_right}
 use Rattle.jiff_core.specs.Calendar.{days_of_months, days_in_month}
 use Rattle.jiff_core.proofs.CalendarLemmas.{days_of_months_more}
-use Rattle.ics_values.proofs.SetLemmas.{member_below}
+use Rattle.ics_fields.proofs.SetLemmas.{member_below}
 use Rattle.ics_rule.specs.declared.recurrence_period.RecurrencePeriod.{RecurrencePeriod}
 use Rattle.ics_rule.specs.RecurrencePeriods.{has_minute, has_time, has_day}
-use Rattle.ics_values.specs.Sets.{contains, contains_wide, none_wide, only, IsLeastFrom}
+use Rattle.ics_fields.specs.Sets.{contains, contains_wide, none_wide, only, IsLeastFrom}
 use Rattle.ics_rule.proofs.Tests.{keep_true, self_test}
 
 three : (a b : ℕ) → a ≤ b → (a ≡ b) ⊎ (a + 1 ≤ b)

@@ -3,11 +3,11 @@ use Rattle.std.proofs.Common.{◌≡◌, ℕ, zero, suc, ◌+◌, ◌-◌, ◌*�
 use Rattle.std.proofs.Common.{◌∷◌, refl, sym, ap, ◌∙◌, arith}
 use Rattle.std.proofs.lemmas.Bool.{cases_lt, false_from_ne_true, leb-true}
 use Rattle.std.specs.Prelude.{filter}
-use Rattle.ics_values.specs.declared.ordinals.WideOrdinals.{WideOrdinals}
-use Rattle.ics_values.specs.Sets.{contains_wide}
+use Rattle.ics_fields.specs.declared.ordinals.WideOrdinals.{WideOrdinals}
+use Rattle.ics_fields.specs.Sets.{contains_wide}
 use Rattle.ics_rule.specs.Recurrence.{Recurrence}
 use Rattle.ics_rule.specs.PeriodNumbers.{day_of, month_number}
-use Rattle.ics_values.specs.Locals.{number, calendar_end}
+use Rattle.ics_fields.specs.Locals.{number, calendar_end}
 use Rattle.ics_rule.specs.Kept.{count}
 use Rattle.ics_rule.specs.RecurrencePeriods.{month_start}
 use Rattle.ics_rule.specs.Table.{BySetPos}

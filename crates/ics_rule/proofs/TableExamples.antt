@@ -2,13 +2,13 @@
 use Rattle.std.proofs.Common.{◌≡◌, refl, ◌∙◌, ℕ, Bool, true, ◌&&◌, ◌==◌, ◌+◌, ◌-◌, ◌*◌, ◌%◌, ◌^◌, List, [], ◌∷◌, map, arith}
 use Rattle.std.proofs.lemmas.Bool.{eqb-true}
 use Rattle.std.specs.Prelude.{filter}
-use Rattle.ics_values.specs.Days.{days_on_literals}
-use Rattle.ics_values.specs.declared.frequency.Frequency.TheVariants.{Daily, Weekly, Monthly, Yearly}
+use Rattle.ics_fields.specs.Days.{days_on_literals}
+use Rattle.ics_fields.specs.declared.frequency.Frequency.TheVariants.{Daily, Weekly, Monthly, Yearly}
 use Rattle.jiff_core.specs.declared.civil.weekday.Weekday.TheVariants.{Sunday}
-use Rattle.ics_values.specs.RuleParts.{RuleParts, every}
-use Rattle.ics_values.specs.Ordinals.{no_ordinals, no_wide_ordinals, with_wide_ordinal}
-use Rattle.ics_values.specs.declared.ordinals.Side.TheVariants.{Front, Back}
-use Rattle.ics_values.specs.Sets.{only}
+use Rattle.ics_fields.specs.RuleParts.{RuleParts, every}
+use Rattle.ics_fields.specs.Ordinals.{no_ordinals, no_wide_ordinals, with_wide_ordinal}
+use Rattle.ics_fields.specs.declared.ordinals.Side.TheVariants.{Front, Back}
+use Rattle.ics_fields.specs.Sets.{only}
 use Rattle.ics_rule.specs.declared.kind.Kind.TheVariants.{DateTime}
 use Rattle.ics_rule.specs.Recurrence.{Recurrence}
 use Rattle.ics_rule.specs.PeriodNumbers.{day_of, hour_of, minute_of, second_of, month_number}

@@ -3,10 +3,10 @@ use Rattle.std.proofs.Common.{◌≡◌, ℕ, zero, suc, ◌+◌, ◌-◌, ◌<�
 use Rattle.std.proofs.lemmas.Bool.Decides.{nat_tests}
 use Rattle.std.proofs.lemmas.Nat.{pow_pos}
 use Rattle.std.proofs.lemmas.Nat.Bits.{bit_at-zero}
-use Rattle.ics_values.specs.declared.ordinals.Ordinals.{Ordinals}
-use Rattle.ics_values.specs.declared.ordinals.Weekdays.{Weekdays}
-use Rattle.ics_values.specs.Sets.{is_empty, contains, only}
-use Rattle.ics_values.specs.Ordinals.{no_ordinals, no_weekdays, numbers_of, lists_no_weekday}
+use Rattle.ics_fields.specs.declared.ordinals.Ordinals.{Ordinals}
+use Rattle.ics_fields.specs.declared.ordinals.Weekdays.{Weekdays}
+use Rattle.ics_fields.specs.Sets.{is_empty, contains, only}
+use Rattle.ics_fields.specs.Ordinals.{no_ordinals, no_weekdays, numbers_of, lists_no_weekday}
 use Rattle.ics_rule.specs.EffectiveRules.{only_place, only_weekday}
 use Rattle.ics_rule.specs.Candidates.{lets, lets_place}
 use Rattle.ics_rule.specs.ByTable.{Instance, Instances}

@@ -6,11 +6,11 @@ use Rattle.std.proofs.lemmas.Bool.Decides.{nat_tests}
 use Rattle.jiff_core.specs.Calendar.{days_in_year}
 use Rattle.jiff_core.specs.Weekday.{monday_zero}
 use Rattle.jiff_core.proofs.CalendarLemmas.{days_in_year_bounds}
-use Rattle.ics_values.specs.declared.ordinals.Ordinals.{Ordinals}
-use Rattle.ics_values.specs.Sets.{contains, contains_wide, IsLeastFrom}
-use Rattle.ics_values.specs.Ordinals.{lists_none}
-use Rattle.ics_values.specs.Days.{days_before_year, year_of, year_day_of, weekday_of}
-use Rattle.ics_values.proofs.DayLemmas.{days_before_year-next, year_of_is}
+use Rattle.ics_fields.specs.declared.ordinals.Ordinals.{Ordinals}
+use Rattle.ics_fields.specs.Sets.{contains, contains_wide, IsLeastFrom}
+use Rattle.ics_fields.specs.Ordinals.{lists_none}
+use Rattle.ics_fields.specs.Days.{days_before_year, year_of, year_day_of, weekday_of}
+use Rattle.ics_fields.proofs.DayLemmas.{days_before_year-next, year_of_is}
 use Rattle.ics_rule.specs.declared.effective_rule.EffectiveRule.{EffectiveRule}
 use Rattle.ics_rule.specs.PeriodNumbers.{week_of}
 use Rattle.ics_rule.specs.Candidates.{week_number, weeks_of_year, lets_place, lets_week}

@@ -1,10 +1,10 @@
 -- Calls of a cursor, one after the other.
 use Rattle.std.specs.Prelude.{◌≡◌, ℕ, ◌+◌, ◌≤◌, max, List, [], ◌∷◌, Option, MatchOption}
 use Rattle.std.specs.Option.{option_map}
-use Rattle.ics_values.specs.declared.local.Local.{Local}
+use Rattle.ics_fields.specs.declared.local.Local.{Local}
 use Rattle.ics_rule.specs.declared.cursor.Cursor.{Cursor}
 use Rattle.ics_rule.specs.Recurrence.{Recurrence}
-use Rattle.ics_values.specs.Locals.{number}
+use Rattle.ics_fields.specs.Locals.{number}
 use Rattle.ics_rule.specs.Next.{IsNextKept, NoneKept}
 use Rattle.ics_rule.specs.Cursors.{known_to, looks_from, period_count, place_of, steps_of, HasLooked, IsCursorOf}
 

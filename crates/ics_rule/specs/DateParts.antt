@@ -1,7 +1,7 @@
 -- Which parts of a rule restrict the date.
 use Rattle.std.specs.Prelude.{Bool, ◌&&◌}
-use Rattle.ics_values.specs.Sets.{is_empty}
-use Rattle.ics_values.specs.Ordinals.{lists_none, lists_none_wide}
+use Rattle.ics_fields.specs.Sets.{is_empty}
+use Rattle.ics_fields.specs.Ordinals.{lists_none, lists_none_wide}
 use Rattle.ics_rule.specs.declared.effective_rule.EffectiveRule.{EffectiveRule}
 
 -- no part but BYDAY restricts the date

@@ -1,12 +1,12 @@
 -- The locals of an hour that a rule keeps.
 use Rattle.std.specs.Prelude.{◌≡◌, ℕ, ◌<◌, ◌≤◌, ◌+◌, ◌*◌, ◌/◌, true, false, ◌&&◌}
-use Rattle.ics_values.specs.Sets.{contains, is_empty}
+use Rattle.ics_fields.specs.Sets.{contains, is_empty}
 use Rattle.ics_rule.specs.declared.hour.HourTimes.{HourTimes}
 use Rattle.ics_rule.specs.Recurrence.{Recurrence}
 use Rattle.ics_rule.specs.PeriodNumbers.{minute_of, second_of}
 use Rattle.ics_rule.specs.Kept.{is_kept}
 use Rattle.ics_rule.specs.Next.{IsNextKept}
-use Rattle.ics_values.specs.Locals.{number}
+use Rattle.ics_fields.specs.Locals.{number}
 
 -- an hour has some of these times, and none earlier than second t
 pub record IsFirstTime (times : HourTimes) (t : ℕ) : Type 0 where

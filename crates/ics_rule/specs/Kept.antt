@@ -1,15 +1,15 @@
 -- Which locals a rule keeps (RFC 5545, 3.3.10).
 use Rattle.std.specs.Prelude.{ℕ, zero, suc, ◌+◌, Bool, true, false, ◌&&◌, ◌||◌, ◌==◌, nat_le, nat_lt, if◌then◌else◌, Option, Some, None, ℤ, ⊤}
-use Rattle.ics_values.specs.declared.until.Until.{Until}
-use Rattle.ics_values.specs.declared.until.Until.TheVariants as until
-use Rattle.ics_values.specs.Days.{day_index}
-use Rattle.ics_values.specs.Ordinals.{lists_none_wide}
+use Rattle.ics_fields.specs.declared.until.Until.{Until}
+use Rattle.ics_fields.specs.declared.until.Until.TheVariants as until
+use Rattle.ics_fields.specs.Days.{day_index}
+use Rattle.ics_fields.specs.Ordinals.{lists_none_wide}
 use Rattle.ics_rule.specs.declared.kind.Kind.{Kind}
 use Rattle.ics_rule.specs.declared.kind.Kind.TheVariants.{Date, DateTime}
 use Rattle.ics_rule.specs.declared.effective_rule.EffectiveRule.{EffectiveRule}
 use Rattle.ics_rule.specs.Recurrence.{Recurrence}
 use Rattle.ics_rule.specs.PeriodNumbers.{day_of, rules_end}
-use Rattle.ics_values.specs.Locals.{number, local_seconds, calendar_end}
+use Rattle.ics_fields.specs.Locals.{number, local_seconds, calendar_end}
 use Rattle.ics_rule.specs.EffectiveRules.{effective}
 use Rattle.ics_rule.specs.Candidates.{is_candidate, is_candidate_in, lists_wide, period_in}
 

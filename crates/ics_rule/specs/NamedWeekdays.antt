@@ -1,8 +1,8 @@
 -- Which weekdays BYDAY names.
 use Rattle.std.specs.Prelude.{ℕ, zero, suc, Bool, not, ◌||◌, if◌then◌else◌}
-use Rattle.ics_values.specs.declared.ordinals.Weekdays.{Weekdays}
-use Rattle.ics_values.specs.Sets.{contains, with_number}
-use Rattle.ics_values.specs.Ordinals.{lists_none, numbers_of}
+use Rattle.ics_fields.specs.declared.ordinals.Weekdays.{Weekdays}
+use Rattle.ics_fields.specs.Sets.{contains, with_number}
+use Rattle.ics_fields.specs.Ordinals.{lists_none, numbers_of}
 
 -- BYDAY names weekday d, with a number or without
 abbrev pub names_weekday : Weekdays → ℕ → Bool

@@ -1,9 +1,9 @@
 -- A local as one number, its time of day, and the periods that it is in (RFC 5545, 3.3.10).
 use Rattle.std.specs.Prelude.{ℕ, ◌+◌, ◌-◌, ◌*◌, ◌/◌, ◌%◌}
-use Rattle.ics_values.specs.declared.frequency.Frequency.{Frequency}
-use Rattle.ics_values.specs.declared.frequency.Frequency.TheVariants.{Secondly, Minutely, Hourly, Daily, Weekly, Monthly, Yearly}
-use Rattle.ics_values.specs.Days.{year_of, month_of}
-use Rattle.ics_values.specs.Locals.{year_number}
+use Rattle.ics_fields.specs.declared.frequency.Frequency.{Frequency}
+use Rattle.ics_fields.specs.declared.frequency.Frequency.TheVariants.{Secondly, Minutely, Hourly, Daily, Weekly, Monthly, Yearly}
+use Rattle.ics_fields.specs.Days.{year_of, month_of}
+use Rattle.ics_fields.specs.Locals.{year_number}
 
 -- its day, counted from 0000-01-01, and its hour, minute and second
 abbrev pub day_of : ℕ → ℕ

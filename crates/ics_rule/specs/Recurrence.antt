@@ -1,6 +1,6 @@
 -- What contracts see of a rule.
-use Rattle.ics_values.specs.declared.local.Local.{Local}
-use Rattle.ics_values.specs.RuleParts.{RuleParts}
+use Rattle.ics_fields.specs.declared.local.Local.{Local}
+use Rattle.ics_fields.specs.RuleParts.{RuleParts}
 use Rattle.ics_rule.specs.declared.kind.Kind.{Kind}
 
 -- the parts of a rule text, with the start and the kind of its event

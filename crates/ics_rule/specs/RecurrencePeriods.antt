@@ -1,17 +1,17 @@
 -- The locals of a period, and a period as a product of sets.
 use Rattle.std.specs.Prelude.{◌≡◌, ℕ, ◌+◌, ◌-◌, ◌*◌, ◌/◌, ◌%◌, ◌^◌, ◌<◌, ◌≤◌, Bool, ◌&&◌, ◌==◌, nat_le, pos, true, false, List, Option, MatchOption}
 use Rattle.jiff_core.specs.Calendar.{days_of_months}
-use Rattle.ics_values.specs.Days.{days_before_year}
-use Rattle.ics_values.specs.Sets.{contains, contains_wide, IsLeastFrom}
-use Rattle.ics_values.specs.declared.frequency.Frequency.{Frequency}
-use Rattle.ics_values.specs.declared.frequency.Frequency.TheVariants.{Secondly, Minutely, Hourly, Daily, Weekly, Monthly, Yearly}
-use Rattle.ics_values.specs.declared.ordinals.WideOrdinals.{WideOrdinals}
+use Rattle.ics_fields.specs.Days.{days_before_year}
+use Rattle.ics_fields.specs.Sets.{contains, contains_wide, IsLeastFrom}
+use Rattle.ics_fields.specs.declared.frequency.Frequency.{Frequency}
+use Rattle.ics_fields.specs.declared.frequency.Frequency.TheVariants.{Secondly, Minutely, Hourly, Daily, Weekly, Monthly, Yearly}
+use Rattle.ics_fields.specs.declared.ordinals.WideOrdinals.{WideOrdinals}
 use Rattle.ics_rule.specs.declared.effective_rule.EffectiveRule.{EffectiveRule}
 use Rattle.ics_rule.specs.declared.recurrence_period.RecurrencePeriod.{RecurrencePeriod}
 use Rattle.ics_rule.specs.PeriodNumbers.{day_of}
 use Rattle.ics_rule.specs.Candidates.{lets_date, lets_clock, lists_wide, period_in}
 use Rattle.ics_rule.specs.Kept.{count}
-use Rattle.ics_values.specs.Locals.{calendar_end}
+use Rattle.ics_fields.specs.Locals.{calendar_end}
 
 -- the first day of the month with a number
 abbrev pub month_start : ℕ → ℕ

@@ -1,7 +1,7 @@
 -- What a cursor searches for, period by period.
 use Rattle.std.specs.Prelude.{◌≡◌, ℕ, suc, ◌+◌, ◌<◌, ◌≤◌, ◌⊎◌, Bool, ◌&&◌, ◌==◌, nat_lt, Option, Some, None, MatchOption, true, false}
 use Rattle.jiff_core.specs.Weekday.{monday_zero}
-use Rattle.ics_values.specs.Sets.{IsLeastFrom}
+use Rattle.ics_fields.specs.Sets.{IsLeastFrom}
 use Rattle.ics_rule.specs.declared.effective_rule.EffectiveRule.{EffectiveRule}
 use Rattle.ics_rule.specs.declared.recurrence_period.RecurrencePeriod.{RecurrencePeriod}
 use Rattle.ics_rule.specs.declared.cursor.Cursor.{Cursor}

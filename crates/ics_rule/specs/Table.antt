@@ -1,6 +1,6 @@
 -- The table of RFC 5545, 3.3.10: which parts of a rule expand the set of its instances, and which limit it.
-use Rattle.ics_values.specs.declared.frequency.Frequency.{Frequency}
-use Rattle.ics_values.specs.declared.frequency.Frequency.TheVariants.{Secondly, Minutely, Hourly, Daily, Weekly, Monthly, Yearly}
+use Rattle.ics_fields.specs.declared.frequency.Frequency.{Frequency}
+use Rattle.ics_fields.specs.declared.frequency.Frequency.TheVariants.{Secondly, Minutely, Hourly, Daily, Weekly, Monthly, Yearly}
 
 -- the parts of a rule, in the order in which they are applied
 pub data Part : Type 0 where

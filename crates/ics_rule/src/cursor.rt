@@ -1,8 +1,8 @@
 //! A search for the locals that a rule keeps, from a place on.
 ghost use Rattle.std.specs.Prelude.{◌≡◌, ℕ, ◌<◌, ◌≤◌, ◌+◌, ◌*◌, ◌^◌, max, Some, MatchOption, IfSome, nat_lt};
 ghost use Rattle.jiff_core.specs.Weekday.{monday_zero};
-ghost use Rattle.ics_values.specs.Days.{IsDayNumber, day_index};
-ghost use Rattle.ics_values.specs.RuleParts.{IsUntil};
+ghost use Rattle.ics_fields.specs.Days.{IsDayNumber, day_index};
+ghost use Rattle.ics_fields.specs.RuleParts.{IsUntil};
 ghost use Rattle.ics_rule.specs.Kept.{is_by_until};
 ghost use Rattle.ics_rule.specs.PeriodNumbers.{rules_end};
 
@@ -10,7 +10,7 @@ use crate::effective_rule::EffectiveRule;
 use crate::kind::Kind;
 use crate::recurrence_period::RecurrencePeriod;
 use crate::rule::Rule;
-use ics_values::{Local, Until};
+use ics_fields::{Local, Until};
 
 /// 9801-01-01T00:00:00, the end of the rules.
 const RULES_END: u64 = 309_289_708_800;
@@ -56,8 +56,8 @@ pub struct Cursor {
 }
 
 impl Cursor {
-    ghost use Rattle.ics_values.specs.Sets.{IsLeastFrom};
-    ghost use Rattle.ics_values.specs.Locals.{number};
+    ghost use Rattle.ics_fields.specs.Sets.{IsLeastFrom};
+    ghost use Rattle.ics_fields.specs.Locals.{number};
     ghost use Rattle.ics_rule.specs.Recurrence.{Recurrence};
     ghost use Rattle.ics_rule.specs.EffectiveRules.{effective};
     ghost use Rattle.ics_rule.specs.Candidates.{period_in};

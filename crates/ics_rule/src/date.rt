@@ -2,10 +2,10 @@
 ghost use Rattle.std.specs.Prelude.{◌≡◌, ℕ, ◌<◌, ◌≤◌, ◌+◌, ◌*◌, ◌^◌, ◌&&◌, ◌||◌, pos};
 ghost use Rattle.jiff_core.specs.Calendar.{days_in_year, days_in_month};
 ghost use Rattle.jiff_core.specs.Weekday.{monday_zero};
-ghost use Rattle.ics_values.specs.Sets.{contains, is_empty};
-ghost use Rattle.ics_values.specs.Ordinals.{lists_no_weekday};
-ghost use Rattle.ics_values.specs.Days.{weekday_of};
-ghost use Rattle.ics_values.specs.Fields.{IsCivilOf};
+ghost use Rattle.ics_fields.specs.Sets.{contains, is_empty};
+ghost use Rattle.ics_fields.specs.Ordinals.{lists_no_weekday};
+ghost use Rattle.ics_fields.specs.Days.{weekday_of};
+ghost use Rattle.ics_fields.specs.Fields.{IsCivilOf};
 ghost use Rattle.ics_rule.specs.Runs.{goes_by_months};
 ghost use Rattle.ics_rule.specs.Candidates.{fourth_day, lets, lets_numbered, lets_weekday, lets_week, lets_date};
 ghost use Rattle.ics_rule.specs.DateParts.{names_weekdays_alone};
@@ -13,7 +13,7 @@ ghost use Rattle.ics_rule.specs.DateParts.{names_weekdays_alone};
 use crate::effective_rule::EffectiveRule;
 use crate::part::has_no_number;
 use crate::time::{lets, lets_place, lets_wide_place, lists_nth};
-use ics_values::{BitSet, Civil, Frequency, Ordinals, civil};
+use ics_fields::{BitSet, Civil, Frequency, Ordinals, civil};
 use jiff_core::civil::{days_in_month, days_in_year};
 
 /// The fields of a day, counted from 0000-01-01.

@@ -1,9 +1,9 @@
 //! The days of a period that a rule allows.
 ghost use Rattle.std.specs.Prelude.{◌≡◌, ℕ, ◌<◌, ◌≤◌, ◌+◌, ◌-◌, ◌&&◌, ◌||◌, nat_lt, pos, true};
 ghost use Rattle.jiff_core.specs.Calendar.{days_in_month, days_in_year};
-ghost use Rattle.ics_values.specs.declared.frequency.Frequency.TheVariants.{Weekly, Monthly, Yearly};
-ghost use Rattle.ics_values.specs.Sets.{contains_wide, none_wide};
-ghost use Rattle.ics_values.specs.Days.{weekday_of, year_of};
+ghost use Rattle.ics_fields.specs.declared.frequency.Frequency.TheVariants.{Weekly, Monthly, Yearly};
+ghost use Rattle.ics_fields.specs.Sets.{contains_wide, none_wide};
+ghost use Rattle.ics_fields.specs.Days.{weekday_of, year_of};
 ghost use Rattle.ics_rule.specs.Candidates.{lets_date, lets_wide_place};
 ghost use Rattle.ics_rule.specs.Runs.{IsMonth, IsSpan, is_in_month, goes_by_months, counts_in_month};
 
@@ -13,7 +13,7 @@ use crate::recurrence_period::days_before_month;
 use crate::runs::Run;
 use crate::time::{lets, lets_wide_place};
 use crate::weeks::days_near_weeks;
-use ics_values::{Frequency, WideBitSet};
+use ics_fields::{Frequency, WideBitSet};
 use jiff_core::civil::days_in_month;
 
 /// The weekday, from 0 for Monday, of a day that is counted from 0000-01-01.

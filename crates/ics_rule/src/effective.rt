@@ -1,15 +1,15 @@
 //! Taking what a rule leaves out from the start of its event (RFC 5545, 3.3.10).
 ghost use Rattle.std.specs.Prelude.{◌≡◌, ◌<◌, ◌≤◌, ◌/◌, if◌then◌else◌};
-ghost use Rattle.ics_values.specs.Sets.{only};
+ghost use Rattle.ics_fields.specs.Sets.{only};
 ghost use Rattle.ics_rule.specs.EffectiveRules.{names_no_day, takes_month_day, takes_month, takes_weekday, skips_hours, skips_minutes, skips_seconds};
 ghost use Rattle.ics_rule.specs.EffectiveRules.{clock_part, only_place, only_weekday, effective_at};
-ghost use Rattle.ics_values.specs.Locals.{calendar_end};
+ghost use Rattle.ics_fields.specs.Locals.{calendar_end};
 
 use crate::date::civil_at;
 use crate::effective_rule::EffectiveRule;
 use crate::kind::Kind;
 use crate::part::{PlacesPart, WeekdaysPart};
-use ics_values::{BitSet, Frequency, Ordinals, Parts, Weekdays};
+use ics_fields::{BitSet, Frequency, Ordinals, Parts, Weekdays};
 
 /// Whether BYYEARDAY, BYMONTHDAY and BYDAY are absent.
 fn names_no_day(parts: &Parts) -> bool

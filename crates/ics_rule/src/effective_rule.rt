@@ -1,7 +1,7 @@
 //! A rule together with what it takes from the start of its event.
 
 use crate::part::{PlacesPart, WeekdaysPart};
-use ics_values::{BitSet, Frequency, Ordinals};
+use ics_fields::{BitSet, Frequency, Ordinals};
 use jiff_core::civil::Weekday;
 
 /// The parts that say which locals a rule allows, with what the rule takes from the start of its event.

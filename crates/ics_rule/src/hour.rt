@@ -1,7 +1,7 @@
 //! The locals of an hour that a rule keeps.
 ghost use Rattle.std.specs.Prelude.{◌≡◌, ℕ, ◌+◌, ◌*◌, ◌<◌, ◌≤◌, ◌/◌, true, false, IfSome, MatchOption};
-ghost use Rattle.ics_values.specs.Sets.{contains};
-ghost use Rattle.ics_values.specs.Locals.{number, calendar_end};
+ghost use Rattle.ics_fields.specs.Sets.{contains};
+ghost use Rattle.ics_fields.specs.Locals.{number, calendar_end};
 ghost use Rattle.ics_rule.specs.Next.{NoneKept, IsNextKept};
 ghost use Rattle.ics_rule.specs.HoursKept.{IsFirstTime, IsLastTime, KeepsEnds, KeepsTimes};
 ghost use Rattle.ics_rule.specs.PeriodNumbers.{rules_end};
@@ -10,7 +10,7 @@ use crate::cursor::Cursor;
 use crate::effective::skips_hours;
 use crate::rule::Rule;
 use crate::time::lets;
-use ics_values::{BitSet, Local};
+use ics_fields::{BitSet, Local};
 
 /// Each of some minutes of an hour, with each of some seconds.
 #[derive(Clone, Copy)]

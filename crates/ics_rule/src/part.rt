@@ -1,10 +1,10 @@
 //! Parts of a rule, with answers that each look needs, computed once.
 ghost use Rattle.std.specs.Prelude.{◌≡◌, ◌<◌, ◌&&◌, ℕ, nat_lt};
-ghost use Rattle.ics_values.specs.Sets.{contains};
-ghost use Rattle.ics_values.specs.Ordinals.{lists_none, lists_none_wide, lists_no_weekday, numbers_of};
+ghost use Rattle.ics_fields.specs.Sets.{contains};
+ghost use Rattle.ics_fields.specs.Ordinals.{lists_none, lists_none_wide, lists_no_weekday, numbers_of};
 ghost use Rattle.ics_rule.specs.NamedWeekdays.{names_weekday, named_below};
 
-use ics_values::{BitSet, Weekdays, WideOrdinals};
+use ics_fields::{BitSet, Weekdays, WideOrdinals};
 use std::marker::Model;
 
 /// BYYEARDAY or BYSETPOS, and whether it is absent. Contracts see the places.
@@ -15,12 +15,12 @@ pub struct PlacesPart {
 }
 
 impl Model for PlacesPart {
-    ghost use Rattle.ics_values.specs.declared.ordinals.WideOrdinals.{WideOrdinals};
+    ghost use Rattle.ics_fields.specs.declared.ordinals.WideOrdinals.{WideOrdinals};
 
     ghost Value = { WideOrdinals };
 
     ghost use Rattle.std.specs.Prelude.{◌≡◌};
-    ghost use Rattle.ics_values.specs.Ordinals.{lists_none_wide};
+    ghost use Rattle.ics_fields.specs.Ordinals.{lists_none_wide};
 
     ghost view = { λ p. p.list };
 
@@ -57,12 +57,12 @@ pub struct WeekdaysPart {
 }
 
 impl Model for WeekdaysPart {
-    ghost use Rattle.ics_values.specs.declared.ordinals.Weekdays.{Weekdays};
+    ghost use Rattle.ics_fields.specs.declared.ordinals.Weekdays.{Weekdays};
 
     ghost Value = { Weekdays };
 
     ghost use Rattle.std.specs.Prelude.{◌≡◌};
-    ghost use Rattle.ics_values.specs.Ordinals.{lists_no_weekday};
+    ghost use Rattle.ics_fields.specs.Ordinals.{lists_no_weekday};
     ghost use Rattle.ics_rule.specs.NamedWeekdays.{named_below};
 
     ghost view = { λ p. p.list };

@@ -3,7 +3,7 @@ ghost use Rattle.std.specs.Prelude.{◌≡◌, ℕ, ◌<◌, ◌≤◌, ◌+◌,
 ghost use Rattle.ics_rule.specs.Candidates.{is_stepped, lets_date, lets_clock, period_in};
 ghost use Rattle.ics_rule.specs.Searches.{NoneLetIn, IsNextOpen};
 ghost use Rattle.ics_rule.specs.PeriodNumbers.{rules_end};
-ghost use Rattle.ics_values.specs.Locals.{calendar_end};
+ghost use Rattle.ics_fields.specs.Locals.{calendar_end};
 
 use crate::date::{civil_at, lets_date, month_length};
 use crate::effective::skips_hours;
@@ -12,7 +12,7 @@ use crate::recurrence_period::{clock_set, first_local, next_second};
 use crate::step::period_of;
 use crate::time::lets;
 use crate::walk::next_step;
-use ics_values::Frequency;
+use ics_fields::Frequency;
 
 /// How many days from one on are in a month that BYMONTH does not allow.
 pub(crate) fn days_of_closed_month(parts: &EffectiveRule, day: u32) -> u32

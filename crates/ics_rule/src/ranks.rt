@@ -1,16 +1,16 @@
 //! The members of a set by their rank, and the places that BYSETPOS lists.
 ghost use Rattle.std.specs.Prelude.{◌≡◌, ◌<◌, ◌≤◌, ◌+◌, ◌*◌, ◌/◌, ◌%◌, ◌^◌, IfSome};
-ghost use Rattle.ics_values.specs.Sets.{contains, contains_wide, IsNextIn};
-ghost use Rattle.ics_values.specs.Ordinals.{lists_none_wide};
+ghost use Rattle.ics_fields.specs.Sets.{contains, contains_wide, IsNextIn};
+ghost use Rattle.ics_fields.specs.Ordinals.{lists_none_wide};
 ghost use Rattle.ics_rule.specs.declared.effective_rule.EffectiveRule.{EffectiveRule};
 ghost use Rattle.ics_rule.specs.Kept.{count};
 ghost use Rattle.ics_rule.specs.RecurrencePeriods.{has_minute, has_second, holds, is_listed, is_taken, IsPeriodOf, IsNth, IsNextBelow, IsFirstListed};
-ghost use Rattle.ics_values.specs.Locals.{calendar_end};
+ghost use Rattle.ics_fields.specs.Locals.{calendar_end};
 
 use crate::part::PlacesPart;
 use crate::recurrence_period::RecurrencePeriod;
 use crate::sizes::members_below;
-use ics_values::{BitSet, WideBitSet, WideOrdinals};
+use ics_fields::{BitSet, WideBitSet, WideOrdinals};
 
 /// The `k`-th member of a set, from 0.
 fn nth_member(set: BitSet, k: u64) -> u8

@@ -1,20 +1,20 @@
 //! A period of a rule, as a product of sets.
 ghost use Rattle.std.specs.Prelude.{◌≡◌, ℕ, ◌<◌, ◌≤◌, ◌+◌, ◌-◌, ◌*◌, ◌/◌, ◌%◌, ◌^◌, ◌&&◌, ◌||◌, ◌==◌, pos, IfSome};
 ghost use Rattle.jiff_core.specs.Calendar.{days_of_months, days_in_month, days_in_year};
-ghost use Rattle.ics_values.specs.Days.{days_before_year};
-ghost use Rattle.ics_values.specs.Sets.{contains, IsNextIn};
+ghost use Rattle.ics_fields.specs.Days.{days_before_year};
+ghost use Rattle.ics_fields.specs.Sets.{contains, IsNextIn};
 ghost use Rattle.ics_rule.specs.PeriodNumbers.{period, rules_end};
 ghost use Rattle.ics_rule.specs.EffectiveRules.{skips_hours, skips_minutes, skips_seconds};
 ghost use Rattle.ics_rule.specs.Candidates.{lets, period_in};
 ghost use Rattle.jiff_core.specs.Weekday.{monday_zero};
 ghost use Rattle.ics_rule.specs.RecurrencePeriods.{first_local, has_minute, has_time, has_day, holds, IsPeriodOf};
-ghost use Rattle.ics_values.specs.Locals.{calendar_end};
+ghost use Rattle.ics_fields.specs.Locals.{calendar_end};
 
 use crate::days::add_days_let_in;
 use crate::effective::{skips_hours, skips_minutes, skips_seconds};
 use crate::effective_rule::EffectiveRule;
 use crate::time::lets;
-use ics_values::{BitSet, Frequency, WideBitSet};
+use ics_fields::{BitSet, Frequency, WideBitSet};
 use jiff_core::civil::{Weekday, days_in_month, days_in_year};
 
 /// The locals of a period that its rule allows: a set of days times sets of hours, minutes and seconds.

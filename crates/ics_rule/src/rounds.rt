@@ -11,7 +11,7 @@ use crate::date::{goes_by_months, names_weekdays_alone};
 use crate::effective::skips_hours;
 use crate::effective_rule::EffectiveRule;
 use crate::step::period_of;
-use ics_values::Frequency;
+use ics_fields::Frequency;
 
 /// Up to this many periods, a search does not ask first whether its rule repeats.
 const A_SHORT_SEARCH: u64 = 86_400;

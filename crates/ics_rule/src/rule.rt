@@ -1,6 +1,6 @@
 //! A rule with the event's start and kind.
 ghost use Rattle.std.specs.Prelude.{◌≡◌, ◌<◌};
-ghost use Rattle.ics_values.specs.Days.{IsDayNumber};
+ghost use Rattle.ics_fields.specs.Days.{IsDayNumber};
 
 use crate::date::lets_date;
 use crate::effective::fill;
@@ -8,7 +8,7 @@ use crate::effective_rule::EffectiveRule;
 use crate::kind::Kind;
 use crate::step::in_step;
 use crate::time::lets_clock;
-use ics_values::{Local, Moment, Parts, Until};
+use ics_fields::{Local, Moment, Parts, Until};
 use std::marker::Model;
 
 /// A recurrence rule, with the start and the kind of its event (RFC 5545, 3.3.10). What the rule leaves out is taken from the start.
@@ -26,7 +26,7 @@ impl Model for Rule {
     ghost Value = { Recurrence };
 
     ghost use Rattle.std.specs.Prelude.{◌≡◌, ◌≤◌};
-    ghost use Rattle.ics_values.specs.Days.{IsDayNumber};
+    ghost use Rattle.ics_fields.specs.Days.{IsDayNumber};
     ghost use Rattle.ics_rule.specs.EffectiveRules.{effective};
 
     ghost view = { λ r. record { parts = r.parts; start = r.start; kind = r.kind } };
@@ -40,7 +40,7 @@ impl Model for Rule {
 }
 
 impl Rule {
-    ghost use Rattle.ics_values.specs.Locals.{number, year_number};
+    ghost use Rattle.ics_fields.specs.Locals.{number, year_number};
     ghost use Rattle.ics_rule.specs.Candidates.{is_candidate};
     ghost use Rattle.ics_rule.specs.Kept.{until_moment};
 

@@ -1,12 +1,12 @@
 //! Months and years as runs of days, in which days and weekdays are numbered.
 ghost use Rattle.std.specs.Prelude.{◌≡◌, ℕ, ◌<◌, ◌≤◌, ◌+◌, ◌-◌, ◌/◌, ◌&&◌, ◌||◌, ◌==◌, nat_le};
-ghost use Rattle.ics_values.specs.Sets.{contains, contains_wide};
+ghost use Rattle.ics_fields.specs.Sets.{contains, contains_wide};
 ghost use Rattle.ics_rule.specs.Candidates.{lists, lists_nth};
 ghost use Rattle.ics_rule.specs.Runs.{has_run, weekday_in, lists_weekday, lists_in_month};
 
 use crate::effective_rule::EffectiveRule;
 use crate::part::WeekdaysPart;
-use ics_values::{BitSet, Ordinals, Weekdays, WideBitSet};
+use ics_fields::{BitSet, Ordinals, Weekdays, WideBitSet};
 
 /// A month or a year, as a run of days of a period.
 #[derive(Clone, Copy)]

@@ -1,13 +1,13 @@
 //! How many locals of a period are earlier than a given one, by the sizes of its sets.
 ghost use Rattle.std.specs.Prelude.{◌≡◌, ◌<◌, ◌≤◌, ◌+◌, ◌*◌, ◌/◌, ◌%◌, ◌^◌};
-ghost use Rattle.ics_values.specs.Sets.{contains, contains_wide};
+ghost use Rattle.ics_fields.specs.Sets.{contains, contains_wide};
 ghost use Rattle.ics_rule.specs.declared.effective_rule.EffectiveRule.{EffectiveRule};
 ghost use Rattle.ics_rule.specs.Kept.{count};
 ghost use Rattle.ics_rule.specs.RecurrencePeriods.{has_minute, has_second, has_day, holds, IsPeriodOf};
-ghost use Rattle.ics_values.specs.Locals.{calendar_end};
+ghost use Rattle.ics_fields.specs.Locals.{calendar_end};
 
 use crate::recurrence_period::RecurrencePeriod;
-use ics_values::{BitSet, WideBitSet};
+use ics_fields::{BitSet, WideBitSet};
 
 /// How many members of a set are below `n`.
 pub(crate) fn members_below(set: BitSet, n: u8) -> u64

@@ -1,11 +1,11 @@
 //! The periods that locals are in.
 ghost use Rattle.std.specs.Prelude.{◌≡◌, ◌<◌, ◌≤◌, ◌+◌, ◌*◌, ◌/◌, ◌^◌};
-ghost use Rattle.ics_values.specs.Locals.{calendar_end};
+ghost use Rattle.ics_fields.specs.Locals.{calendar_end};
 ghost use Rattle.ics_rule.specs.Candidates.{in_step, period_in};
 
 use crate::date::civil_at;
 use crate::effective_rule::EffectiveRule;
-use ics_values::Frequency;
+use ics_fields::Frequency;
 
 /// The number of the period that a local is in.
 pub(crate) fn period_of(parts: &EffectiveRule, n: u64) -> u64

@@ -4,7 +4,7 @@ ghost use Rattle.ics_rule.specs.Candidates.{lets, lets_place, lets_wide_place, l
 
 use crate::effective_rule::EffectiveRule;
 use crate::part::PlacesPart;
-use ics_values::{BitSet, Ordinals};
+use ics_fields::{BitSet, Ordinals};
 
 /// Whether a part allows `n`: it is absent or lists it.
 pub(crate) fn lets(set: BitSet, n: u8) -> bool

@@ -1,13 +1,13 @@
 //! Searching the periods of a rule without COUNT.
 ghost use Rattle.std.specs.Prelude.{◌≡◌, ◌<◌, ◌≤◌, ◌+◌, ◌*◌, ◌/◌, ◌^◌, MatchOption, IfSome, None, true};
 ghost use Rattle.jiff_core.specs.Weekday.{monday_zero};
-ghost use Rattle.ics_values.specs.Sets.{IsLeastFrom, IsNextIn};
+ghost use Rattle.ics_fields.specs.Sets.{IsLeastFrom, IsNextIn};
 ghost use Rattle.ics_rule.specs.Candidates.{is_stepped, period_in};
 ghost use Rattle.ics_rule.specs.RecurrencePeriods.{first_local, IsPeriodOf};
 ghost use Rattle.ics_rule.specs.Cursors.{IsCursorIn};
 ghost use Rattle.ics_rule.specs.Searches.{is_chosen_within, IsNextWanted, IsWalked, LooksAt};
 ghost use Rattle.ics_rule.specs.PeriodNumbers.{rules_end};
-ghost use Rattle.ics_values.specs.Locals.{calendar_end};
+ghost use Rattle.ics_fields.specs.Locals.{calendar_end};
 
 use crate::cursor::Cursor;
 use crate::effective_rule::EffectiveRule;

@@ -1,15 +1,15 @@
 //! The days of a year that are in listed weeks.
 ghost use Rattle.std.specs.Prelude.{◌≡◌, ℕ, ◌<◌, ◌≤◌, ◌+◌, ◌&&◌, ◌||◌, nat_le, nat_lt, pos, true, false};
 ghost use Rattle.jiff_core.specs.Calendar.{days_in_year};
-ghost use Rattle.ics_values.specs.Sets.{contains, contains_wide};
-ghost use Rattle.ics_values.specs.Days.{days_before_year, year_of};
-ghost use Rattle.ics_values.specs.Ordinals.{lists_none};
+ghost use Rattle.ics_fields.specs.Sets.{contains, contains_wide};
+ghost use Rattle.ics_fields.specs.Days.{days_before_year, year_of};
+ghost use Rattle.ics_fields.specs.Ordinals.{lists_none};
 ghost use Rattle.ics_rule.specs.Candidates.{lets_week};
 ghost use Rattle.ics_rule.specs.Runs.{may_list_week};
 
 use crate::days::weekday_at;
 use crate::effective_rule::EffectiveRule;
-use ics_values::{BitSet, Ordinals, WideBitSet};
+use ics_fields::{BitSet, Ordinals, WideBitSet};
 
 /// Adds the days from `low` on and before `end`.
 fn add_between(days: &mut WideBitSet, low: u16, end: u16)

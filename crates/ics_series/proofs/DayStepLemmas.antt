@@ -21,7 +21,7 @@ use Rattle.ics_series.specs.Sources.{master_of, recurring, uid_cmp, IsFrom, Recu
 use Rattle.ics_series.specs.Steps.{HasStepBound}
 use Rattle.ics_series.proofs.DayLemmas.{day-under}
 use Rattle.ics_series.proofs.MasterSumLemmas.{day-masters, searched-masters, sum-of-masters}
-use Rattle.ics_values.specs.Locals.{day_of_local}
+use Rattle.ics_fields.specs.Locals.{day_of_local}
 
 -- a bound with nothing to come is one whatever is to come
 wider : (m : Recurring) (coming : List Entry) (most : ℕ) → HasStepBound m [] most → HasStepBound m coming most

@@ -3,12 +3,12 @@ use Rattle.std.specs.Prelude.{int_lt}
 use Rattle.std.proofs.Common.{◌≡◌, ℕ, ℤ, pos, neg_ℤ, ◌+ℤ◌, ◌≤ℤ◌, [], ◌∷◌, None, Some, IfSome, Bool, true, false, cond, inl, refl, sym, subst, arith}
 use Rattle.std.proofs.lemmas.Int.{ints}
 use Rattle.std.specs.declared.cmp.Ordering.TheVariants.{Less, Greater}
-use Rattle.ics_values.specs.Days.{days_on_literals}
-use Rattle.ics_values.specs.Locals.{local_at, number}
-use Rattle.ics_values.specs.RuleParts.{RuleParts, every}
-use Rattle.ics_values.specs.declared.frequency.Frequency.TheVariants.{Daily}
-use Rattle.ics_values.specs.declared.local.Local.{Local}
-use Rattle.ics_values.specs.declared.until.Until.TheVariants as until
+use Rattle.ics_fields.specs.Days.{days_on_literals}
+use Rattle.ics_fields.specs.Locals.{local_at, number}
+use Rattle.ics_fields.specs.RuleParts.{RuleParts, every}
+use Rattle.ics_fields.specs.declared.frequency.Frequency.TheVariants.{Daily}
+use Rattle.ics_fields.specs.declared.local.Local.{Local}
+use Rattle.ics_fields.specs.declared.until.Until.TheVariants as until
 use Rattle.ics_rule.specs.Kept.{is_kept, rules_on_literals, until_moment}
 use Rattle.ics_values.specs.declared.stamp.Stamp.{Stamp}
 use Rattle.ics_values.specs.declared.stamp.Stamp.TheVariants.{Date, Floating, Utc, Zoned}

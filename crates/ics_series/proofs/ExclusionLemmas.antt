@@ -23,7 +23,7 @@ use Rattle.ics_calendar.specs.Event.{stamp_seconds}
 use Rattle.ics_series.specs.Exclusions.{excludes_by, excludes_time, is_day_in, takes_out, with_instant}
 use Rattle.ics_series.specs.FileZones.{clocks_in, is_past}
 use Rattle.ics_series.proofs.InstantLemmas.{instant-near}
-use Rattle.ics_values.specs.Locals.{whole_days}
+use Rattle.ics_fields.specs.Locals.{whole_days}
 
 -- Whether a search finds a number.
 equal-true : (a b : ℤ) → int_cmp a b ≡ Equal → int_eq a b ≡ true

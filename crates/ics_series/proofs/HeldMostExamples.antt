@@ -1,11 +1,11 @@
 -- Worked examples of the starts that an event has in five days.
 use Rattle.std.proofs.Common.{◌≡◌, ℕ, ◌+◌, ◌*◌, pos, [], ◌∷◌, None, Some, false, refl}
-use Rattle.ics_values.specs.Days.{days_on_literals}
-use Rattle.ics_values.specs.Locals.{local_at}
-use Rattle.ics_values.specs.RuleParts.{every}
-use Rattle.ics_values.specs.declared.frequency.Frequency.TheVariants.{Secondly}
+use Rattle.ics_fields.specs.Days.{days_on_literals}
+use Rattle.ics_fields.specs.Locals.{local_at}
+use Rattle.ics_fields.specs.RuleParts.{every}
+use Rattle.ics_fields.specs.declared.frequency.Frequency.TheVariants.{Secondly}
 use Rattle.ics_values.specs.declared.stamp.Stamp.TheVariants.{Utc}
-use Rattle.ics_values.specs.declared.until.Until.TheVariants as until
+use Rattle.ics_fields.specs.declared.until.Until.TheVariants as until
 use Rattle.ics_rule.specs.Kept.{count, rules_on_literals, until_moment}
 use Rattle.ics_rule.specs.Recurrence.{Recurrence}
 use Rattle.ics_calendar.specs.declared.event.Event.{Event}

@@ -5,7 +5,7 @@ use Rattle.std.proofs.Common.{inl, inr, ⊎_elim, refl, sym, ◌∙◌, ap, arit
 use Rattle.std.proofs.lemmas.Int.{ints}
 use Rattle.std.proofs.lemmas.List.Elements.{All-head, All-tail}
 use Rattle.std.proofs.lemmas.List.Sums.{sum_by-cons}
-use Rattle.ics_values.specs.Days.{IsDayNumber}
+use Rattle.ics_fields.specs.Days.{IsDayNumber}
 use Rattle.ics_rule.specs.Kept.{is_kept}
 use Rattle.ics_rule.specs.Recurrence.{Recurrence}
 use Rattle.ics_rule.proofs.Counts.{count-none}
@@ -17,7 +17,7 @@ use Rattle.ics_calendar.specs.declared.time.Time.{Time}
 use Rattle.ics_zone.proofs.Cases.{int_lt_true, int_le_true, less_or_not_z}
 use Rattle.ics_series.specs.declared.zones.FileZones.{FileZones}
 use Rattle.ics_series.specs.Clocks.{Clocks, instant}
-use Rattle.ics_values.specs.Locals.{midnight, calendar_end}
+use Rattle.ics_fields.specs.Locals.{midnight, calendar_end}
 use Rattle.ics_series.specs.HeldMost.{greatest, is_raw, is_within_days, most_in_days, raw_by, raw_by_rule, raw_in, raw_listed}
 use Rattle.ics_series.specs.RuleStarts.{lets_until, local_numbered, moment_numbered}
 use Rattle.ics_series.specs.Starts.{given_by, recurrence_of, time_at, time_of}

@@ -15,7 +15,7 @@ use Rattle.ics_series.specs.declared.start.Start.{Start}
 use Rattle.ics_series.specs.declared.window.Window.{Window}
 use Rattle.ics_series.specs.declared.zones.FileZones.{FileZones}
 use Rattle.ics_series.specs.Clocks.{Clocks}
-use Rattle.ics_values.specs.Locals.{midnight, calendar_end, whole_days}
+use Rattle.ics_fields.specs.Locals.{midnight, calendar_end, whole_days}
 use Rattle.ics_series.specs.Found.{moment_cmp, start_at}
 use Rattle.ics_series.specs.HeldMost.{greatest, is_raw, is_within_days, most_in_days, raw_by, raw_by_rule, raw_in}
 use Rattle.ics_series.specs.Listing.{IsIn}

@@ -5,10 +5,11 @@ use Rattle.std.proofs.Common.{is_some, refl, sym, ◌∙◌, ap, subst, arith}
 use Rattle.std.specs.Int.{int_max}
 use Rattle.std.proofs.lemmas.Int.{int_max_is, ints}
 use Rattle.ics_values.specs.declared.duration.Duration.{Duration}
-use Rattle.ics_values.specs.declared.local.Local.{Local}
+use Rattle.ics_fields.specs.declared.local.Local.{Local}
 use Rattle.ics_values.specs.declared.stamp.Stamp.{Stamp}
 use Rattle.ics_values.specs.declared.stamp.Stamp.TheVariants.{Date, Floating, Utc, Zoned}
-use Rattle.ics_values.specs.Stamps.{stamp_day, IsStampDay}
+use Rattle.ics_values.specs.Stamps.{stamp_day}
+use Rattle.ics_fields.specs.Days.{IsStampDay}
 use Rattle.ics_calendar.specs.declared.time.Time.{Time}
 use Rattle.ics_calendar.specs.declared.time.Length.{Length}
 use Rattle.ics_calendar.specs.declared.time.Length.TheVariants.{Open, Lasting, Until}
@@ -23,7 +24,7 @@ use Rattle.ics_zone.specs.JiffZones.{zone_of}
 use Rattle.ics_zone.specs.declared.display.Display.{Display}
 use Rattle.ics_series.specs.declared.zones.FileZones.{FileZones}
 use Rattle.ics_series.specs.Clocks.{Clock, Clocks, clock_at, clock_by, clocks_of, display_clock, instant, utc_clock, zone_clock}
-use Rattle.ics_values.specs.Locals.{local_seconds, whole_days}
+use Rattle.ics_fields.specs.Locals.{local_seconds, whole_days}
 use Rattle.ics_series.specs.Finish.{end_by, seconds_by}
 use Rattle.ics_series.specs.FileZones.{clocks_in, EndsNear}
 use Rattle.ics_series.specs.WindowBounds.{occurrence_first}

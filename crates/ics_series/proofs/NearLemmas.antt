@@ -15,7 +15,7 @@ use Rattle.ics_series.specs.declared.zones.FileZones.{FileZones}
 use Rattle.ics_series.specs.declared.window.Window.{Window}
 use Rattle.ics_series.specs.Clocks.{Clock, clock_by, day_of, instant, local_at}
 use Rattle.ics_calendar.specs.Event.{stamp_seconds}
-use Rattle.ics_values.specs.Locals.{midnight, whole_days}
+use Rattle.ics_fields.specs.Locals.{midnight, whole_days}
 use Rattle.ics_series.specs.Finish.{days_lasting, end_by, finish, later_by, seconds_by, seconds_lasting}
 use Rattle.ics_series.specs.Meeting.{entry_from}
 use Rattle.ics_series.specs.Meets.{Meets}

@@ -1,7 +1,7 @@
 -- The starts of a series's rule stay those of its own rule.
 use Rattle.std.proofs.Common.{◌≡◌, ℤ, List, Option, Some, None, sym, ◌∙◌, ap, subst}
-use Rattle.ics_values.specs.Days.{IsDayNumber}
-use Rattle.ics_values.specs.declared.local.Local.{Local}
+use Rattle.ics_fields.specs.Days.{IsDayNumber}
+use Rattle.ics_fields.specs.declared.local.Local.{Local}
 use Rattle.std.specs.Int.{int_max}
 use Rattle.std.specs.Prelude.{◌≤ℤ◌, ◌-ℤ◌}
 use Rattle.ics_calendar.specs.declared.event.Event.{Event}
@@ -9,7 +9,7 @@ use Rattle.ics_series.specs.declared.rule_starts.RuleStarts.{RuleStarts}
 use Rattle.ics_series.specs.declared.start.Start.{Start}
 use Rattle.ics_series.specs.declared.window.Window.{Window}
 use Rattle.ics_series.specs.declared.zones.FileZones.{FileZones}
-use Rattle.ics_values.specs.Locals.{local_seconds, whole_days}
+use Rattle.ics_fields.specs.Locals.{local_seconds, whole_days}
 use Rattle.ics_series.specs.SeriesStarts.{first_asked, HasOwnRule, HasSameRule}
 use Rattle.ics_series.specs.Starts.{local_of}
 use Rattle.ics_series.specs.FileZones.{clocks_in}

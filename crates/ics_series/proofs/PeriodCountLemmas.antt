@@ -7,7 +7,7 @@ use Rattle.ics_rule.specs.Candidates.{is_stepped, period_in}
 use Rattle.ics_rule.specs.Cursors.{is_met, period_count}
 use Rattle.ics_rule.specs.EffectiveRules.{effective}
 use Rattle.ics_rule.specs.Kept.{count}
-use Rattle.ics_values.specs.Locals.{number, calendar_end}
+use Rattle.ics_fields.specs.Locals.{number, calendar_end}
 use Rattle.ics_rule.specs.Recurrence.{Recurrence}
 use Rattle.ics_rule.proofs.Counts.{count-suc, count_mono}
 use Rattle.ics_rule.proofs.KeptLemmas.{and_true}

@@ -9,10 +9,10 @@ use Rattle.std.proofs.Common.{⊎_elim, refl, sym, ◌∙◌, ap, subst, length-
 use Rattle.std.proofs.lemmas.Int.{ints}
 use Rattle.std.proofs.lemmas.List.Sums.{sum_by-cons}
 use Rattle.std.proofs.lemmas.Bool.{and_from}
-use Rattle.ics_values.specs.Days.{IsDayNumber}
-use Rattle.ics_values.specs.declared.local.Local.{Local}
+use Rattle.ics_fields.specs.Days.{IsDayNumber}
+use Rattle.ics_fields.specs.declared.local.Local.{Local}
 use Rattle.ics_rule.specs.Kept.{count, is_kept}
-use Rattle.ics_values.specs.Locals.{number, calendar_end}
+use Rattle.ics_fields.specs.Locals.{number, calendar_end}
 use Rattle.ics_rule.specs.Recurrence.{Recurrence}
 use Rattle.ics_rule.proofs.Counts.{count-suc}
 use Rattle.ics_rule.proofs.KeptLemmas.{and_true}

@@ -4,10 +4,10 @@ use Rattle.std.proofs.Common.{◌≡◌, ℕ, ℤ, Bool, true, false, ◌&&◌, 
 use Rattle.std.proofs.lemmas.Int.{ints}
 use Rattle.std.specs.Ordering.{int_eq}
 use Rattle.std.proofs.lemmas.Bool.{eqb-true, eq-eqb, and_from, or_left, or_right}
-use Rattle.ics_values.specs.Days.{IsDayNumber}
-use Rattle.ics_values.specs.declared.local.Local.{Local}
+use Rattle.ics_fields.specs.Days.{IsDayNumber}
+use Rattle.ics_fields.specs.declared.local.Local.{Local}
 use Rattle.ics_rule.specs.Kept.{is_kept, until_moment}
-use Rattle.ics_values.specs.Locals.{number}
+use Rattle.ics_fields.specs.Locals.{number}
 use Rattle.ics_rule.specs.Recurrence.{Recurrence}
 use Rattle.ics_rule.proofs.KeptLemmas.{and_true, or_true}
 use Rattle.ics_rule.proofs.NextLemmas.{kept_start}

@@ -2,14 +2,14 @@
 use Rattle.std.specs.Prelude.{int_lt}
 use Rattle.std.proofs.Common.{◌≡◌, ℕ, ◌+◌, pos, ◌+ℤ◌, List, [], ◌∷◌, Option, None, Some, false, cond, refl, arith}
 use Rattle.std.proofs.lemmas.Int.{ints}
-use Rattle.ics_values.specs.Days.{days_on_literals}
-use Rattle.ics_values.specs.Locals.{local_at, number}
-use Rattle.ics_values.specs.RuleParts.{every}
-use Rattle.ics_values.specs.declared.frequency.Frequency.TheVariants.{Secondly}
-use Rattle.ics_values.specs.declared.local.Local.{Local}
+use Rattle.ics_fields.specs.Days.{days_on_literals}
+use Rattle.ics_fields.specs.Locals.{local_at, number}
+use Rattle.ics_fields.specs.RuleParts.{every}
+use Rattle.ics_fields.specs.declared.frequency.Frequency.TheVariants.{Secondly}
+use Rattle.ics_fields.specs.declared.local.Local.{Local}
 use Rattle.ics_values.specs.declared.stamp.Stamp.TheVariants.{Floating}
-use Rattle.ics_values.specs.declared.until.Until.{Until}
-use Rattle.ics_values.specs.declared.until.Until.TheVariants.{Utc}
+use Rattle.ics_fields.specs.declared.until.Until.{Until}
+use Rattle.ics_fields.specs.declared.until.Until.TheVariants.{Utc}
 use Rattle.ics_rule.specs.Kept.{rules_on_literals, until_moment}
 use Rattle.ics_rule.specs.Recurrence.{Recurrence}
 use Rattle.ics_calendar.specs.declared.event.Event.{Event}

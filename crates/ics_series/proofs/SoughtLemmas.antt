@@ -24,7 +24,7 @@ use Rattle.ics_series.proofs.InstantLemmas.{instant-near}
 use Rattle.ics_series.proofs.ListedLemmas.{in-listed}
 use Rattle.ics_series.proofs.MeetingLemmas.{less-le, meets-is_met}
 use Rattle.ics_series.proofs.NearLemmas.{meets-late}
-use Rattle.ics_values.specs.Locals.{whole_days}
+use Rattle.ics_fields.specs.Locals.{whole_days}
 
 -- From where on the rule is asked.
 earlier-most : (b : Bool) (least t : ℤ) → earlier b least t ≤ℤ least

@@ -7,11 +7,11 @@ use Rattle.std.proofs.lemmas.Int.{ints}
 use Rattle.std.proofs.lemmas.Option.{get_or_from_slice_get, slice_get_within}
 use Rattle.std.proofs.lemmas.Bool.{eqb-true, ltb-true, cases_lt}
 use mathlib.Core.HLevel.{is_prop→PathP}
-use Rattle.ics_values.specs.Days.{IsDayNumber, day_index}
-use Rattle.ics_values.specs.Locals.{local_at, number, local_seconds}
-use Rattle.ics_values.specs.Stamps.{stamp_day, IsStampDay}
-use Rattle.ics_values.specs.RuleParts.{RuleParts}
-use Rattle.ics_values.specs.declared.local.Local.{Local}
+use Rattle.ics_fields.specs.Days.{IsDayNumber, day_index, IsStampDay}
+use Rattle.ics_fields.specs.Locals.{local_at, number, local_seconds}
+use Rattle.ics_values.specs.Stamps.{stamp_day}
+use Rattle.ics_fields.specs.RuleParts.{RuleParts}
+use Rattle.ics_fields.specs.declared.local.Local.{Local}
 use Rattle.ics_values.specs.declared.stamp.Stamp.{Stamp}
 use Rattle.ics_values.specs.declared.stamp.Stamp.TheVariants.{Date, Floating, Utc, Zoned}
 use Rattle.ics_rule.specs.Kept.{is_kept}

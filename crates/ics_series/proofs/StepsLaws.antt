@@ -9,7 +9,7 @@ use Rattle.std.proofs.lemmas.Cmp.{nat_list_cmp_total, tied_itself}
 use Rattle.std.proofs.lemmas.Int.{ints}
 use Rattle.std.proofs.lemmas.List.Sums.{sum_by-cons}
 use Rattle.ics_rule.specs.Cursors.{looks_from, period_count, steps_of}
-use Rattle.ics_values.specs.Locals.{number, midnight, whole_days}
+use Rattle.ics_fields.specs.Locals.{number, midnight, whole_days}
 use Rattle.ics_rule.specs.Recurrence.{Recurrence}
 use Rattle.ics_rule.proofs.CursorLemmas.{few_steps}
 use Rattle.ics_calendar.specs.declared.event.Event.{Event}

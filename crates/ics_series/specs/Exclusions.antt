@@ -9,7 +9,7 @@ use Rattle.ics_calendar.specs.declared.time.Time.{Time}
 use Rattle.ics_series.specs.declared.window.Window.{Window}
 use Rattle.ics_series.specs.Clocks.{Clock, Clocks, clock_of, instant, local_at}
 use Rattle.ics_series.specs.Starts.{date_only}
-use Rattle.ics_values.specs.Locals.{day_of_local}
+use Rattle.ics_fields.specs.Locals.{day_of_local}
 
 -- the day that a clock shows at an instant
 abbrev pub shown_day : Clock → ℤ → ℤ

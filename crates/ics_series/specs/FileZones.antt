@@ -11,7 +11,7 @@ use Rattle.ics_series.specs.declared.window.Window.{Window}
 use Rattle.ics_series.specs.declared.zones.FileZones.{FileZones}
 use Rattle.ics_series.specs.Clocks.{Clocks, clocks_of, display_clock, instant}
 use Rattle.ics_series.specs.WindowBounds.{lasts_most}
-use Rattle.ics_values.specs.Locals.{whole_days}
+use Rattle.ics_fields.specs.Locals.{whole_days}
 
 abbrev pub clocks_in : FileZones → Clocks
 clocks_in zones = clocks_of (display_clock zones.display.now) (map zone_said zones.zones.now)

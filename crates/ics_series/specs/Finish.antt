@@ -11,7 +11,7 @@ use Rattle.ics_calendar.specs.declared.time.Length.{Length}
 use Rattle.ics_calendar.specs.declared.time.Length.TheVariants.{Open, Until, Lasting}
 use Rattle.ics_calendar.specs.declared.event.Event.{Event}
 use Rattle.ics_series.specs.Clocks.{Clock, Clocks, clock_of, instant, local_at, day_of}
-use Rattle.ics_values.specs.Locals.{midnight, whole_days}
+use Rattle.ics_fields.specs.Locals.{midnight, whole_days}
 use Rattle.ics_series.specs.Starts.{time_of}
 
 -- How many days an event that starts on a date lasts: up to its DTEND, or the whole days of its DURATION, and at least one.

@@ -7,8 +7,8 @@ use Rattle.ics_calendar.specs.declared.event.Event.{Event}
 use Rattle.ics_calendar.specs.declared.time.Rdate.{Rdate}
 use Rattle.ics_series.specs.declared.start.StartSource.{StartSource}
 use Rattle.ics_series.specs.Clocks.{Clocks, instant}
-use Rattle.ics_values.specs.Days.{days_before_year}
-use Rattle.ics_values.specs.Locals.{midnight, calendar_end}
+use Rattle.ics_fields.specs.Days.{days_before_year}
+use Rattle.ics_fields.specs.Locals.{midnight, calendar_end}
 use Rattle.ics_series.specs.RuleStarts.{lets_until, moment_numbered}
 use Rattle.ics_series.specs.Starts.{given_by, recurrence_of, time_of, GivesStart}
 

@@ -4,7 +4,7 @@ use Rattle.std.specs.Int.{int_max, int_min}
 use Rattle.std.specs.Ordering.{int_eq}
 use Rattle.ics_series.specs.declared.window.Window.{Window}
 use Rattle.ics_series.specs.After.{is_after}
-use Rattle.ics_values.specs.Locals.{midnight, day_of_local}
+use Rattle.ics_fields.specs.Locals.{midnight, day_of_local}
 use Rattle.ics_series.specs.DayKeys.{DayRank}
 use Rattle.ics_series.specs.Entry.{Rank}
 use Rattle.ics_series.specs.OnDays.{is_day_after, OnDay}

@@ -4,12 +4,12 @@ use Rattle.std.specs.Coded.{Unit-prop, Π_prop, codes}
 use Rattle.std.proofs.Props.{props}
 use Rattle.ics_rule.specs.Cursors.{CountedBy, HasLooked, IsCursorIn, IsCursorOf}
 use Rattle.ics_rule.specs.EffectiveRules.{effective}
-use Rattle.ics_values.specs.Locals.{number}
+use Rattle.ics_fields.specs.Locals.{number}
 use Rattle.ics_rule.specs.Recurrence.{Recurrence}
 use Rattle.ics_rule.specs.declared.cursor.Cursor.{Cursor}
 use Rattle.ics_rule.specs.declared.effective_rule.EffectiveRule.{EffectiveRule}
 use Rattle.ics_calendar.specs.declared.event.Event.{Event}
-use Rattle.ics_values.specs.declared.local.Local.{Local}
+use Rattle.ics_fields.specs.declared.local.Local.{Local}
 use Rattle.ics_series.specs.declared.start.Start.{Start}
 use Rattle.ics_series.specs.declared.window.Window.{Window}
 use Rattle.ics_series.specs.Clocks.{Clocks}

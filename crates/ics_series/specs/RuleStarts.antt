@@ -1,9 +1,9 @@
 -- The starts that the rule of an event gives before the end of a window, as one rising list.
 use Rattle.std.specs.Prelude.{◌≡◌, ◌≤ℤ◌, ◌<ℤ◌, ℕ, zero, suc, ◌+◌, ◌-◌, ◌≤◌, ℤ, pos, ◌-ℤ◌, ◌+ℤ◌, Bool, true, false, ◌&&◌, ◌||◌, ◌==◌, not, int_le, int_lt, List}
 use Rattle.std.specs.Prelude.{[], ◌∷◌}
-use Rattle.ics_values.specs.Days.{day_index}
-use Rattle.ics_values.specs.Locals.{local_at, number, midnight, whole_days}
-use Rattle.ics_values.specs.declared.local.Local.{Local}
+use Rattle.ics_fields.specs.Days.{day_index}
+use Rattle.ics_fields.specs.Locals.{local_at, number, midnight, whole_days}
+use Rattle.ics_fields.specs.declared.local.Local.{Local}
 use Rattle.ics_rule.specs.Cursors.{looks_from, HasLooked}
 use Rattle.ics_rule.specs.Kept.{is_kept, until_moment}
 use Rattle.ics_rule.specs.PeriodNumbers.{day_of, rules_end}

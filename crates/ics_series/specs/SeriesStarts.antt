@@ -5,10 +5,10 @@ use Rattle.std.specs.Int.{int_max, int_min}
 use Rattle.std.specs.List.{filter_map, list_any}
 use Rattle.std.specs.Option.{option_map}
 use Rattle.std.specs.Ordering.{int_eq}
-use Rattle.ics_values.specs.Days.{IsDayNumber}
-use Rattle.ics_values.specs.RuleParts.{RuleParts}
-use Rattle.ics_values.specs.declared.local.Local.{Local}
-use Rattle.ics_values.specs.Locals.{number, midnight, local_seconds, whole_days}
+use Rattle.ics_fields.specs.Days.{IsDayNumber}
+use Rattle.ics_fields.specs.RuleParts.{RuleParts}
+use Rattle.ics_fields.specs.declared.local.Local.{Local}
+use Rattle.ics_fields.specs.Locals.{number, midnight, local_seconds, whole_days}
 use Rattle.ics_rule.specs.Recurrence.{Recurrence}
 use Rattle.ics_calendar.specs.declared.event.Event.{Event}
 use Rattle.ics_calendar.specs.declared.time.Rdate.{Rdate}

@@ -1,10 +1,10 @@
 -- What gives an event its starts (RFC 5545, sections 3.3.10, 3.8.2.4, 3.8.5.2 and 3.8.5.3).
 use Rattle.std.specs.Prelude.{◌≡◌, ◌≤◌, ◌≤ℤ◌, ⊤, true, Option, None, Some, IfSome, ◌⊎◌, slice_get}
 use Rattle.std.specs.Option.{option_map}
-use Rattle.ics_values.specs.Days.{IsDayNumber}
-use Rattle.ics_values.specs.Locals.{local_at, number, local_seconds}
-use Rattle.ics_values.specs.RuleParts.{RuleParts}
-use Rattle.ics_values.specs.declared.local.Local.{Local}
+use Rattle.ics_fields.specs.Days.{IsDayNumber}
+use Rattle.ics_fields.specs.Locals.{local_at, number, local_seconds}
+use Rattle.ics_fields.specs.RuleParts.{RuleParts}
+use Rattle.ics_fields.specs.declared.local.Local.{Local}
 use Rattle.ics_values.specs.declared.stamp.Stamp.{Stamp}
 use Rattle.ics_values.specs.declared.stamp.Stamp.TheVariants.{Date, Floating, Utc, Zoned}
 use Rattle.ics_rule.specs.Kept.{is_kept, until_moment}

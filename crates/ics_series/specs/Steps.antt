@@ -1,9 +1,9 @@
 -- The locals among which a listing searches for starts by the rule of a master. Instants are taken here as their locals in UTC.
 use Rattle.std.specs.Prelude.{◌≡◌, ◌≤ℤ◌, ℕ, ◌+◌, Some, ℤ, pos, ◌+ℤ◌, ◌-ℤ◌, List, ◌⊎◌}
 use Rattle.std.specs.Int.{int_max}
-use Rattle.ics_values.specs.declared.local.Local.{Local}
+use Rattle.ics_fields.specs.declared.local.Local.{Local}
 use Rattle.ics_rule.specs.Cursors.{looks_from, period_count}
-use Rattle.ics_values.specs.Locals.{number, local_seconds, whole_days, year_number}
+use Rattle.ics_fields.specs.Locals.{number, local_seconds, whole_days, year_number}
 use Rattle.ics_rule.specs.Recurrence.{Recurrence}
 use Rattle.ics_series.specs.Entry.{Entry}
 use Rattle.ics_series.specs.Listing.{IsIn}

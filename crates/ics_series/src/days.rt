@@ -2,7 +2,7 @@
 ghost use Rattle.std.specs.Prelude.{◌≡◌, ◌⊎◌, ◌≤◌, ◌+◌, ◌-◌, ◌^◌, ◌≤ℤ◌, ◌<ℤ◌, ◌+ℤ◌, ℕ, pos, length, min};
 ghost use Rattle.std.specs.Prelude.{List, [], map, IfOk, IfSome, OnErr, OnOk, None};
 ghost use Rattle.std.specs.Option.{option_map};
-ghost use Rattle.ics_values.specs.Days.{IsDayNumber};
+ghost use Rattle.ics_fields.specs.Days.{IsDayNumber};
 ghost use Rattle.ics_calendar.specs.Event.{said_by};
 ghost use Rattle.ics_series.specs.Clocks.{display_clock};
 ghost use Rattle.ics_series.specs.DayKeys.{day_key_rank};

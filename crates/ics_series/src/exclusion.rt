@@ -5,7 +5,7 @@ ghost use Rattle.std.specs.Ordering.{int_cmp};
 ghost use Rattle.ics_series.specs.Clocks.{clock_of, instant};
 ghost use Rattle.ics_series.specs.Exclusions.{excludes, is_among, shown_day, takes_out, with_instant};
 ghost use Rattle.ics_series.specs.FileZones.{clocks_in, is_past, IsTimeOf};
-ghost use Rattle.ics_values.specs.Locals.{day_of_local};
+ghost use Rattle.ics_fields.specs.Locals.{day_of_local};
 ghost use Rattle.ics_series.specs.WindowBounds.{window_last, occurrence_first};
 
 use crate::instant::{instant, is_past};

@@ -2,7 +2,7 @@
 ghost use Rattle.std.specs.Prelude.{◌≡◌, ◌<ℤ◌, ◌≤ℤ◌, ◌+ℤ◌, ◌-ℤ◌, pos};
 ghost use Rattle.ics_calendar.specs.Event.{longest, IsLasting, IsLength, IsSpan};
 ghost use Rattle.ics_series.specs.Clocks.{clock_of, display_clock, instant, local_at};
-ghost use Rattle.ics_values.specs.Locals.{midnight, whole_days, year_seconds};
+ghost use Rattle.ics_fields.specs.Locals.{midnight, whole_days, year_seconds};
 ghost use Rattle.ics_series.specs.Finish.{end_by, finish, later_by, span_end};
 ghost use Rattle.ics_series.specs.Found.{IsStart};
 ghost use Rattle.ics_series.specs.FileZones.{clocks_in, EndsNear, HasEndIn, IsEndOf, IsOwnEvent, IsTimeOf};

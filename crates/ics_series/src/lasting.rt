@@ -1,7 +1,7 @@
 //! The length of an event.
 ghost use Rattle.std.specs.Prelude.{◌≡◌, ◌≤ℤ◌, pos};
 ghost use Rattle.ics_calendar.specs.Event.{longest, IsLength};
-ghost use Rattle.ics_values.specs.Locals.{midnight};
+ghost use Rattle.ics_fields.specs.Locals.{midnight};
 ghost use Rattle.ics_series.specs.Clocks.{day_of};
 ghost use Rattle.ics_series.specs.Finish.{days_lasting, seconds_by, seconds_lasting};
 ghost use Rattle.ics_series.specs.FileZones.{clocks_in, EndsNear, IsEndOf, IsOwnEvent, IsTimeOf};

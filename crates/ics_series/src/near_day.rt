@@ -1,6 +1,6 @@
 //! The days under which a window's occurrences are shown.
 ghost use Rattle.std.specs.Prelude.{◌≡◌, ◌≤ℤ◌, ◌<ℤ◌, ◌-ℤ◌, pos};
-ghost use Rattle.ics_values.specs.Days.{IsDayNumber};
+ghost use Rattle.ics_fields.specs.Days.{IsDayNumber};
 ghost use Rattle.ics_series.specs.Clocks.{display_clock};
 ghost use Rattle.ics_series.specs.ShownDays.{date_at};
 ghost use Rattle.ics_series.specs.NearDays.{first_near, last_near, IsNearDay};

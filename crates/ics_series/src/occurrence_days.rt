@@ -1,6 +1,6 @@
 //! The days of an occurrence in a window.
 ghost use Rattle.std.specs.Prelude.{◌≡◌, IsTrue};
-ghost use Rattle.ics_values.specs.Days.{IsDayNumber};
+ghost use Rattle.ics_fields.specs.Days.{IsDayNumber};
 ghost use Rattle.ics_series.specs.Clocks.{display_clock};
 ghost use Rattle.ics_series.specs.ShownDays.{first_day, is_on, last_day};
 ghost use Rattle.ics_series.specs.Entry.{entry_of};

@@ -1,10 +1,10 @@
 //! The starts that the rule of an event gives, read one UTC day at a time.
 ghost use Rattle.std.specs.Prelude.{◌≡◌, ◌<◌, ◌≤◌, ◌+◌, ◌<ℤ◌, ◌≤ℤ◌, ◌+ℤ◌, ◌-ℤ◌, ◌&&◌, pos, true, int_lt, Some};
 ghost use Rattle.std.specs.VecDeque.{deque_len, deque_capacity};
-ghost use Rattle.ics_values.specs.Days.{IsDayNumber};
+ghost use Rattle.ics_fields.specs.Days.{IsDayNumber};
 ghost use Rattle.ics_rule.specs.Cursors.{place_of, IsCursorOf};
 ghost use Rattle.ics_rule.specs.Kept.{is_kept};
-ghost use Rattle.ics_values.specs.Locals.{number, midnight, whole_days, year_seconds};
+ghost use Rattle.ics_fields.specs.Locals.{number, midnight, whole_days, year_seconds};
 ghost use Rattle.ics_series.specs.EventLaws.{time-prop};
 ghost use Rattle.ics_series.specs.Found.{moment_cmp, start_at};
 ghost use Rattle.ics_series.specs.Rising.{Rises, Rises-prop};

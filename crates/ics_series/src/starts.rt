@@ -1,8 +1,8 @@
 //! The starts of an event by which it can meet a window.
 ghost use Rattle.std.specs.Prelude.{◌≡◌, ◌<ℤ◌, ◌≤ℤ◌, ◌+ℤ◌, ◌-ℤ◌, None, All, IfOk};
 ghost use Rattle.std.specs.Int.{int_max};
-ghost use Rattle.ics_values.specs.Days.{IsDayNumber};
-ghost use Rattle.ics_values.specs.Locals.{midnight, local_seconds, whole_days};
+ghost use Rattle.ics_fields.specs.Days.{IsDayNumber};
+ghost use Rattle.ics_fields.specs.Locals.{midnight, local_seconds, whole_days};
 ghost use Rattle.ics_series.specs.Found.{earliest, firsts_after, is_span_met, start_at, IsStart};
 ghost use Rattle.ics_zone.specs.Observances.{is_until};
 ghost use Rattle.ics_series.specs.Starts.{time_at};

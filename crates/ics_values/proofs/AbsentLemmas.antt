@@ -8,27 +8,27 @@ use Rattle.std.proofs.lemmas.Bool.{and_parts, and_from, false≢true}
 use Rattle.std.proofs.lemmas.List.Splits.{length-slice_split}
 use Rattle.jiff_core.specs.declared.civil.weekday.Weekday.{Weekday}
 use Rattle.jiff_core.specs.Weekday.{monday_zero}
-use Rattle.ics_values.specs.declared.ordinals.Side.{Side}
-use Rattle.ics_values.specs.declared.ordinals.Side.TheVariants.{Front, Back}
-use Rattle.ics_values.specs.declared.ordinals.Ordinals.{Ordinals}
-use Rattle.ics_values.specs.declared.ordinals.WideOrdinals.{WideOrdinals}
-use Rattle.ics_values.specs.declared.frequency.Frequency.TheVariants.{Yearly}
+use Rattle.ics_fields.specs.declared.ordinals.Side.{Side}
+use Rattle.ics_fields.specs.declared.ordinals.Side.TheVariants.{Front, Back}
+use Rattle.ics_fields.specs.declared.ordinals.Ordinals.{Ordinals}
+use Rattle.ics_fields.specs.declared.ordinals.WideOrdinals.{WideOrdinals}
+use Rattle.ics_fields.specs.declared.frequency.Frequency.TheVariants.{Yearly}
 use Rattle.ics_values.specs.declared.part_name.ListName.{ListName}
 use Rattle.ics_values.specs.declared.part_name.ListName.TheVariants.{BySecond, ByMinute, ByHour, ByDay, ByMonthDay, ByYearDay, ByWeekNo, ByMonth, BySetPos}
 use Rattle.ics_values.specs.declared.part_name.PartName.TheVariants as part
 use Rattle.ics_values.specs.Digits.{number_of}
 use Rattle.ics_values.specs.Texts.{begins, is_minus, unsigned}
-use Rattle.ics_values.specs.Sets.{contains, contains_wide}
-use Rattle.ics_values.specs.Sets as sets
-use Rattle.ics_values.specs.Ordinals.{no_ordinals, lists_none, lists_none_wide, all_list_none, lists_no_weekday}
-use Rattle.ics_values.specs.RuleParts.{RuleParts, every}
+use Rattle.ics_fields.specs.Sets.{contains, contains_wide}
+use Rattle.ics_fields.specs.Sets as sets
+use Rattle.ics_fields.specs.Ordinals.{no_ordinals, lists_none, lists_none_wide, all_list_none, lists_no_weekday}
+use Rattle.ics_fields.specs.RuleParts.{RuleParts, every}
 use Rattle.ics_values.specs.RuleTexts.{Part, pieces, has_part, none_twice, are_parts, is_part, fits_list, weekday_of, day_text, number_before}
 use Rattle.ics_values.specs.Rules.{rule_said}
 use Rattle.ics_values.specs.RuleLaws.{value_of, items_of, has_place, has_wide_place, is_place, is_side, is_weekday, is_numbered, is_day, lists_nothing, Says}
 use Rattle.ics_values.proofs.SaysLemmas.{Sets, part_said, sets_seconds, sets_minutes, sets_hours, sets_months, sets_weekdays, sets_month_days, sets_weeks}
 use Rattle.ics_values.proofs.SaysLemmas.{sets_year_days, sets_positions}
 use Rattle.ics_values.proofs.RuleSays.{says, value_there, passes_day, items_fit, none_here}
-use Rattle.ics_values.proofs.SetLemmas.{has_none}
+use Rattle.ics_fields.proofs.SetLemmas.{has_none}
 
 -- a set with a member is not empty
 not_none : (s n : ℕ) → contains s n ≡ true → sets.is_empty s ≡ false

@@ -9,7 +9,7 @@ use Rattle.ics_values.specs.Dates.{is_date, months, day_number, date_day}
 use Rattle.jiff_core.specs.declared.civil.date.Date.{Date}
 use Rattle.jiff_core.specs.Date.{epoch_day}
 use Rattle.jiff_core.proofs.DateLemmas.{civil}
-use Rattle.ics_values.proofs.DayLemmas.{day_count_is}
+use Rattle.ics_fields.proofs.DayLemmas.{day_count_is}
 
 pub days_of-months : (y : ℤ) (k : ℕ) → k < 12 → sum (map (days_in_month y) (take k months)) ≡ days_of_months y k
 unfolding days_of_months

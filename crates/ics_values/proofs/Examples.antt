@@ -1,9 +1,8 @@
 -- Worked cases, which the definitions compute.
 use Rattle.std.proofs.Common.{◌≡◌, true, false, [], ◌∷◌, Some, None, Ok, Err, refl, pos, negsuc}
 use Rattle.std.specs.Prelude.{codes}
-use Rattle.ics_values.specs.Days.{year_of, month_of, month_day_of, year_day_of, weekday_of, day_index, days_on_literals}
 use Rattle.ics_values.specs.Dates.{date_day, day_number}
-use Rattle.ics_values.specs.Locals.{local_at}
+use Rattle.ics_fields.specs.Locals.{local_at}
 use Rattle.ics_values.specs.Stamps.{stamp_of}
 use Rattle.ics_values.specs.Durations.{duration_of, duration_shapes}
 use Rattle.ics_values.specs.Offsets.{offset_of}
@@ -52,26 +51,6 @@ no_month = refl
 
 no_day : date_day 2024 1 0 ≡ None
 no_day = refl
-
--- fields of a day
-year_of_leap_day : year_of (day_index (pos 19_782)) ≡ 2024
-unfolding days_on_literals
-year_of_leap_day = refl
-
-month_of_leap_day : month_of (day_index (pos 19_782)) ≡ 2
-unfolding days_on_literals
-month_of_leap_day = refl
-
-day_of_leap_day : month_day_of (day_index (pos 19_782)) ≡ 29
-unfolding days_on_literals
-day_of_leap_day = refl
-
-place_of_leap_day : year_day_of (day_index (pos 19_782)) ≡ 60
-unfolding days_on_literals
-place_of_leap_day = refl
-
-weekday_of_leap_day : weekday_of (day_index (pos 19_782)) ≡ 3
-weekday_of_leap_day = refl
 
 -- stamps
 date : stamp_of true (codes "20240105") ≡ Ok (Date (pos 19_727))

@@ -1,32 +1,13 @@
--- The order of locals, the dates of the calendar, and times of a day.
-use Rattle.std.proofs.Common.{◌≡◌, ℕ, ◌+◌, ◌*◌, ◌<◌, ◌≤◌, true, ◌&&◌, nat_le, List, min, refl, arith, pos, ◌<ℤ◌}
-use Rattle.std.specs.Ordering.{MatchOrdering, ordering_then, int_cmp, nat_cmp}
-use Rattle.std.specs.Cmp.{int_cmp_is, int_ranks, ranks}
-use Rattle.std.specs.declared.cmp.Ordering.{Ordering}
-use Rattle.std.specs.declared.cmp.Ordering.TheVariants.{Less, Equal, Greater}
+-- The dates of the calendar, and times of a day.
+use Rattle.std.proofs.Common.{◌≡◌, ℕ, ◌+◌, ◌*◌, ◌<◌, ◌≤◌, true, ◌&&◌, nat_le, List, min, arith, pos}
 use Rattle.std.proofs.Math.Nat.{mod-eq_of_lt}
 use Rattle.std.proofs.lemmas.Int.{ints}
 use Rattle.std.proofs.lemmas.Bool.Decides.{nat_tests}
 use Rattle.jiff_core.specs.Calendar.{IsDate}
 use Rattle.ics_values.specs.Digits.{number_at}
 use Rattle.ics_values.specs.Dates.{IsJiffsDate}
-use Rattle.ics_values.specs.Locals.{local_seconds}
 use Rattle.ics_values.specs.Stamps.{time_exists, second_of, local_of}
-use Rattle.ics_values.specs.declared.local.Local.{Local}
 use Rattle.ics_values.proofs.DateLemmas.{parts, is_date-parts, day_number-days_from_civil}
-
-pub by_time : (a b : Local) → ordering_then (int_cmp a.day b.day) (nat_cmp a.second b.second) ≡ int_cmp (local_seconds a) (local_seconds b)
-by_time a b = int_cmp_is (local_seconds a) (local_seconds b) _
-    (in_time (int_cmp a.day b.day) (nat_cmp a.second b.second) (int_ranks a.day b.day) (ranks a.second b.second))
-  where
-    in_time : (o p : Ordering) → MatchOrdering o (a.day <ℤ b.day) (a.day ≡ b.day) (b.day <ℤ a.day) →
-        MatchOrdering p (a.second < b.second) (a.second ≡ b.second) (b.second < a.second) →
-        MatchOrdering (ordering_then o p) (local_seconds a <ℤ local_seconds b) (local_seconds a ≡ local_seconds b) (local_seconds b <ℤ local_seconds a)
-    in_time Less p day second = omega (arith, ints)
-    in_time Greater p day second = omega (arith, ints)
-    in_time Equal Less day second = omega (arith, ints)
-    in_time Equal Equal day second = rw (day, second) refl
-    in_time Equal Greater day second = omega (arith, ints)
 
 pub is_jiffs : (y m d : ℕ) → y ≤ 9999 → IsJiffsDate y m d
 is_jiffs y m d year = record {

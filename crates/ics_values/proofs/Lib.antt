@@ -1,8 +1,5 @@
-pub mod DayLemmas
 pub mod DateLemmas
 pub mod ShapeLemmas
-pub mod SetLemmas
-pub mod PlaceLemmas
 pub mod RuleLemmas
 pub mod SaysLemmas
 pub mod ListedLemmas

@@ -7,20 +7,20 @@ use Rattle.std.proofs.Math.ListN.{length-set}
 use Rattle.std.proofs.lemmas.Bool.{and_parts, leb-true, cases_eq, ne_eqb, eq-eqb}
 use Rattle.jiff_core.specs.declared.civil.weekday.Weekday.{Weekday}
 use Rattle.jiff_core.specs.Weekday.{monday_zero}
-use Rattle.ics_values.specs.declared.ordinals.Side.{Side}
-use Rattle.ics_values.specs.declared.ordinals.Side.TheVariants.{Front, Back}
-use Rattle.ics_values.specs.declared.ordinals.Ordinals.{Ordinals}
-use Rattle.ics_values.specs.declared.ordinals.WideOrdinals.{WideOrdinals}
-use Rattle.ics_values.specs.declared.ordinals.Weekdays.{Weekdays}
+use Rattle.ics_fields.specs.declared.ordinals.Side.{Side}
+use Rattle.ics_fields.specs.declared.ordinals.Side.TheVariants.{Front, Back}
+use Rattle.ics_fields.specs.declared.ordinals.Ordinals.{Ordinals}
+use Rattle.ics_fields.specs.declared.ordinals.WideOrdinals.{WideOrdinals}
+use Rattle.ics_fields.specs.declared.ordinals.Weekdays.{Weekdays}
 use Rattle.ics_values.specs.Digits.{are_digits, number_of}
 use Rattle.ics_values.specs.Texts.{begins, is_minus, unsigned}
-use Rattle.ics_values.specs.Sets.{contains, with_number}
-use Rattle.ics_values.specs.Ordinals.{numbers_of, with_ordinal, with_wide_ordinal, with_weekday, with_numbered_weekday}
+use Rattle.ics_fields.specs.Sets.{contains, with_number}
+use Rattle.ics_fields.specs.Ordinals.{numbers_of, with_ordinal, with_wide_ordinal, with_weekday, with_numbered_weekday}
 use Rattle.ics_values.specs.RuleTexts.{is_number, is_signed, is_day_item, side_of, weekday_of, day_text, number_before}
 use Rattle.ics_values.specs.Rules.{with_day}
 use Rattle.ics_values.specs.RuleLaws.{has_place, has_wide_place, is_side, is_place, is_day, is_weekday, is_numbered}
-use Rattle.ics_values.proofs.SetLemmas.{contains-with_number, contains_wide-with_number}
-use Rattle.ics_values.proofs.PlaceLemmas.{monday_zero_small}
+use Rattle.ics_fields.proofs.SetLemmas.{contains-with_number, contains_wide-with_number}
+use Rattle.ics_fields.proofs.PlaceLemmas.{monday_zero_small}
 
 -- each item that is in order adds what it tests for, and keeps the state fine
 pub record Adds {S : Type 0} (step : S → List ℕ → S) (sees : S → Bool) (test fits : List ℕ → Bool) (Fine : S → Type 0) : Type 0 where

@@ -2,14 +2,14 @@
 use Rattle.std.specs.Prelude.{◌≡◌, ◌+◌, ◌^◌, ℕ, Bool, true, false, List, [], ◌∷◌, ◌++◌, codes, Some, Result, Ok, Err, refl, pos, neg_ℤ}
 use Rattle.std.specs.List.{list_all}
 use Rattle.jiff_core.specs.declared.civil.weekday.Weekday.TheVariants.{Sunday}
-use Rattle.ics_values.specs.declared.frequency.Frequency.TheVariants.{Secondly, Minutely, Hourly, Daily, Weekly, Monthly, Yearly}
+use Rattle.ics_fields.specs.declared.frequency.Frequency.TheVariants.{Secondly, Minutely, Hourly, Daily, Weekly, Monthly, Yearly}
 use Rattle.ics_values.specs.declared.rule_text.RuleFault.{RuleFault}
 use Rattle.ics_values.specs.declared.rule_text.RuleFault.TheVariants.{BadRule, NumberTooLarge}
-use Rattle.ics_values.specs.declared.until.Until.TheVariants.{Date, Local, Utc}
-use Rattle.ics_values.specs.Locals.{local_at}
-use Rattle.ics_values.specs.Sets.{none_wide}
-use Rattle.ics_values.specs.Ordinals.{no_ordinals, no_weekdays}
-use Rattle.ics_values.specs.RuleParts.{RuleParts, every}
+use Rattle.ics_fields.specs.declared.until.Until.TheVariants.{Date, Local, Utc}
+use Rattle.ics_fields.specs.Locals.{local_at}
+use Rattle.ics_fields.specs.Sets.{none_wide}
+use Rattle.ics_fields.specs.Ordinals.{no_ordinals, no_weekdays}
+use Rattle.ics_fields.specs.RuleParts.{RuleParts, every}
 use Rattle.ics_values.specs.Rules.{rule_of}
 
 abbrev is_bad : Result RuleParts RuleFault → Bool

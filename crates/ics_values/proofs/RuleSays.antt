@@ -7,23 +7,23 @@ use Rattle.std.proofs.lemmas.Bool.{and_parts, false≢true}
 use Rattle.jiff_core.specs.declared.civil.weekday.Weekday.{Weekday}
 use Rattle.jiff_core.specs.declared.civil.weekday.Weekday.TheVariants.{Monday, Tuesday, Wednesday, Thursday, Friday, Saturday, Sunday}
 use Rattle.jiff_core.specs.Weekday.{monday_zero}
-use Rattle.ics_values.specs.declared.frequency.Frequency.{Frequency}
-use Rattle.ics_values.specs.declared.frequency.Frequency.TheVariants.{Yearly}
+use Rattle.ics_fields.specs.declared.frequency.Frequency.{Frequency}
+use Rattle.ics_fields.specs.declared.frequency.Frequency.TheVariants.{Yearly}
 use Rattle.ics_values.specs.declared.rule_text.RuleFault.TheVariants.{BadRule, NumberTooLarge}
-use Rattle.ics_values.specs.declared.ordinals.Side.{Side}
-use Rattle.ics_values.specs.declared.ordinals.Side.TheVariants.{Front, Back}
+use Rattle.ics_fields.specs.declared.ordinals.Side.{Side}
+use Rattle.ics_fields.specs.declared.ordinals.Side.TheVariants.{Front, Back}
 use Rattle.ics_values.specs.declared.part_name.ListName.{ListName}
 use Rattle.ics_values.specs.declared.part_name.ListName.TheVariants.{BySecond, ByMinute, ByHour, ByDay, ByMonthDay, ByYearDay, ByWeekNo, ByMonth, BySetPos}
 use Rattle.ics_values.specs.declared.part_name.PartName.{PartName}
 use Rattle.ics_values.specs.declared.part_name.PartName.TheVariants as part
 use Rattle.ics_values.specs.Digits.{number_of}
-use Rattle.ics_values.specs.Ordinals.{no_ordinals, no_wide_ordinals, no_weekdays, numbers_of}
-use Rattle.ics_values.specs.RuleParts.{RuleParts, every}
+use Rattle.ics_fields.specs.Ordinals.{no_ordinals, no_wide_ordinals, no_weekdays, numbers_of}
+use Rattle.ics_fields.specs.RuleParts.{RuleParts, every}
 use Rattle.ics_values.specs.RuleTexts.{Part, pieces, row, fits, fits_list, fits_name, is_part, is_name, has_part, none_twice, are_parts, parts_of}
 use Rattle.ics_values.specs.RuleTexts.{frequency_of, weekday_of, until_of}
 use Rattle.ics_values.specs.Rules.{has_large_number, rule_said, rule_of}
 use Rattle.ics_values.specs.RuleLaws.{value_of, items_of, has_place, has_wide_place, Says}
-use Rattle.ics_values.proofs.SetLemmas.{has_none, none_wide_has}
+use Rattle.ics_fields.proofs.SetLemmas.{has_none, none_wide_has}
 use Rattle.ics_values.proofs.SaysLemmas.{Sets, part_said, sets_frequency, sets_until, sets_count, sets_interval, sets_week_start, sets_seconds, sets_minutes}
 use Rattle.ics_values.proofs.SaysLemmas.{sets_hours, sets_months, sets_weekdays, sets_month_days, sets_weeks, sets_year_days, sets_positions}
 use Rattle.ics_values.proofs.ListedLemmas.{Adds, gathered_all, number_high, adds_number, adds_place, adds_wide_place, adds_weekday, adds_numbered}

@@ -9,9 +9,9 @@ use Rattle.ics_values.specs.declared.part_name.PartName.{PartName}
 use Rattle.ics_values.specs.declared.part_name.PartName.TheVariants as part
 use Rattle.ics_values.specs.Digits.{number_of}
 use Rattle.ics_values.specs.Texts.{unsigned}
-use Rattle.ics_values.specs.Sets.{with_number}
-use Rattle.ics_values.specs.Ordinals.{with_ordinal, with_wide_ordinal}
-use Rattle.ics_values.specs.RuleParts.{RuleParts}
+use Rattle.ics_fields.specs.Sets.{with_number}
+use Rattle.ics_fields.specs.Ordinals.{with_ordinal, with_wide_ordinal}
+use Rattle.ics_fields.specs.RuleParts.{RuleParts}
 use Rattle.ics_values.specs.RuleTexts.{Part, pieces, row, is_name, same_name, has_part, none_twice, frequency_of, weekday_of, until_of, side_of, day_text}
 use Rattle.ics_values.specs.Rules.{with_item, with_value, with_named, with_part, with_day}
 use Rattle.ics_values.specs.RuleLaws.{value_of}

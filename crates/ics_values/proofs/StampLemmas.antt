@@ -7,7 +7,7 @@ use Rattle.std.proofs.lemmas.Bool.{eqb-true, and_parts, leb-true}
 use Rattle.std.proofs.lemmas.List.{drop-take, take-take}
 use Rattle.ics_values.specs.Digits.{is_digit, are_digits, letter_at, number_at}
 use Rattle.ics_values.specs.Stamps.{is_date_form, is_local_form, is_utc_form, is_date_time_form, HasDate, HasTime, year_of, date_exists, day_of, local_of}
-use Rattle.ics_values.specs.Stamps.{time_exists, is_stamp_text, stamp_said, stamp_day, is_stamp_year, stamp_of, IsDayOf, IsStampDay}
+use Rattle.ics_values.specs.Stamps.{time_exists, is_stamp_text, stamp_said, stamp_day, is_stamp_year, stamp_of, IsDayOf}
 use Rattle.std.proofs.lemmas.Int.{ints}
 use Rattle.std.proofs.lemmas.Bool.Decides.{nat_tests}
 use Rattle.jiff_core.specs.Calendar.{days_in_year, day_of_year, IsYear, IsCivilDate}
@@ -17,12 +17,12 @@ use Rattle.ics_values.specs.Periods.{IsDateTime}
 use Rattle.ics_values.specs.declared.stamp.StampFault.TheVariants.{BadStamp, YearRange}
 use Rattle.ics_values.specs.declared.stamp.Stamp.{Stamp}
 use Rattle.ics_values.specs.declared.stamp.Stamp.TheVariants.{Date, Floating, Utc, Zoned}
-use Rattle.ics_values.specs.Days.{days_before_year, IsDayNumber}
-use Rattle.ics_values.proofs.DayLemmas.{days_before_year-next, days_before_year_mono}
+use Rattle.ics_fields.specs.Days.{days_before_year, IsDayNumber, IsStampDay}
+use Rattle.ics_fields.proofs.DayLemmas.{days_before_year-next, days_before_year_mono}
 use Rattle.ics_values.proofs.DateLemmas.{parts, days_of-months, day_number-days_from_civil}
 use Rattle.ics_values.proofs.LawLemmas.{is_jiffs}
 use Rattle.jiff_core.proofs.SignedLemmas.{signed_arith}
-use Rattle.ics_values.specs.RuleParts.{IsUntil}
+use Rattle.ics_fields.specs.RuleParts.{IsUntil}
 use Rattle.ics_values.specs.RuleTexts.{until_said}
 
 list_all-take : (p : ℕ → Bool) (xs : List ℕ) (n : ℕ) → list_all p xs ≡ true → list_all p (take n xs) ≡ true

@@ -1,7 +1,7 @@
 -- Dates of the Gregorian calendar and their day numbers (RFC 5545, section 3.3.4).
 use Rattle.std.specs.Prelude.{◌≡◌, ◌↔◌, ℕ, ◌+◌, ◌-◌, Bool, true, ◌&&◌, nat_le, List, [], ◌∷◌, take, map, sum, ℤ, pos, ◌-ℤ◌, Option, Some, None, if◌then◌else◌}
 use Rattle.jiff_core.specs.Calendar.{days_in_month, days_from_civil, IsDate}
-use Rattle.ics_values.specs.Days.{days_before_year}
+use Rattle.ics_fields.specs.Days.{days_before_year}
 
 -- the calendar has this date
 abbrev pub is_date : ℕ → ℕ → ℕ → Bool

@@ -1,7 +1,8 @@
 -- The texts of periods, and what they mean (RFC 5545, section 3.3.9).
 use Rattle.std.specs.Prelude.{ℕ, Bool, ◌||◌, ◌==◌, List, Result, Ok, Err, if◌then◌else◌}
 use Rattle.std.specs.List.{before_first, after_first}
-use Rattle.ics_values.specs.Stamps.{is_date_time_form, stamp_of, IsStampDay}
+use Rattle.ics_values.specs.Stamps.{is_date_time_form, stamp_of}
+use Rattle.ics_fields.specs.Days.{IsStampDay}
 use Rattle.ics_values.specs.Texts.{begins, is_sign}
 use Rattle.ics_values.specs.Durations.{duration_of, IsDurationRange}
 use Rattle.ics_values.specs.declared.stamp.Stamp.{Stamp}

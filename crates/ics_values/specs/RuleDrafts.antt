@@ -1,11 +1,11 @@
 -- A rule's parts as they are read one after another (RFC 5545, section 3.3.10).
 use Rattle.std.specs.Prelude.{◌≡◌, ◌<◌, ◌≤◌, ℕ, Bool, true, false, ◌&&◌, not, List, [], ◌∷◌, Option, Some, None, option_and_then, length, ◌==◌, if◌then◌else◌}
 use Rattle.ics_values.specs.Digits.{number_of, greatest_number}
-use Rattle.ics_values.specs.Sets.{contains, with_number}
-use Rattle.ics_values.specs.RuleParts.{RuleParts, every}
-use Rattle.ics_values.specs.declared.frequency.Frequency.TheVariants.{Yearly}
+use Rattle.ics_fields.specs.Sets.{contains, with_number}
+use Rattle.ics_fields.specs.RuleParts.{RuleParts, every}
+use Rattle.ics_fields.specs.declared.frequency.Frequency.TheVariants.{Yearly}
 use Rattle.ics_values.specs.declared.part_name.PartName.TheVariants as part
-use Rattle.ics_values.specs.declared.ordinals.Side.{Side}
+use Rattle.ics_fields.specs.declared.ordinals.Side.{Side}
 use Rattle.ics_values.specs.declared.rule_value.Amount.{Amount}
 use Rattle.ics_values.specs.declared.rule_value.Amount.TheVariants as amount
 use Rattle.ics_values.specs.declared.rule_value.DayItem.{DayItem}

@@ -7,13 +7,13 @@ use Rattle.jiff_core.specs.declared.civil.weekday.Weekday.TheVariants.{Monday}
 use Rattle.jiff_core.specs.Weekday.{monday_zero}
 use Rattle.ics_values.specs.Digits.{number_of}
 use Rattle.ics_values.specs.Texts.{begins, is_minus, unsigned}
-use Rattle.ics_values.specs.Sets.{is_empty, contains, contains_wide}
-use Rattle.ics_values.specs.Ordinals.{lists_none, lists_none_wide, lists_no_weekday, numbers_of}
-use Rattle.ics_values.specs.RuleParts.{RuleParts}
-use Rattle.ics_values.specs.declared.ordinals.Side.{Side}
-use Rattle.ics_values.specs.declared.ordinals.Side.TheVariants.{Front, Back}
-use Rattle.ics_values.specs.declared.ordinals.Ordinals.{Ordinals}
-use Rattle.ics_values.specs.declared.ordinals.WideOrdinals.{WideOrdinals}
+use Rattle.ics_fields.specs.Sets.{is_empty, contains, contains_wide}
+use Rattle.ics_fields.specs.Ordinals.{lists_none, lists_none_wide, lists_no_weekday, numbers_of}
+use Rattle.ics_fields.specs.RuleParts.{RuleParts}
+use Rattle.ics_fields.specs.declared.ordinals.Side.{Side}
+use Rattle.ics_fields.specs.declared.ordinals.Side.TheVariants.{Front, Back}
+use Rattle.ics_fields.specs.declared.ordinals.Ordinals.{Ordinals}
+use Rattle.ics_fields.specs.declared.ordinals.WideOrdinals.{WideOrdinals}
 use Rattle.ics_values.specs.declared.part_name.ListName.{ListName}
 use Rattle.ics_values.specs.declared.part_name.ListName.TheVariants.{BySecond, ByMinute, ByHour, ByDay, ByMonthDay, ByYearDay, ByWeekNo, ByMonth, BySetPos}
 use Rattle.ics_values.specs.declared.part_name.PartName.{PartName}

@@ -11,12 +11,12 @@ use Rattle.ics_values.specs.Texts.{begins, is_minus, unsigned}
 use Rattle.ics_values.specs.Stamps.{is_stamp_text, stamp_said, year_of}
 use Rattle.ics_values.specs.declared.stamp.Stamp.{Stamp}
 use Rattle.ics_values.specs.declared.stamp.Stamp.TheVariants as stamp
-use Rattle.ics_values.specs.declared.until.Until.{Until}
-use Rattle.ics_values.specs.declared.until.Until.TheVariants as until
-use Rattle.ics_values.specs.declared.ordinals.Side.{Side}
-use Rattle.ics_values.specs.declared.ordinals.Side.TheVariants.{Front, Back}
-use Rattle.ics_values.specs.declared.frequency.Frequency.{Frequency}
-use Rattle.ics_values.specs.declared.frequency.Frequency.TheVariants.{Secondly, Minutely, Hourly, Daily, Weekly, Monthly, Yearly}
+use Rattle.ics_fields.specs.declared.until.Until.{Until}
+use Rattle.ics_fields.specs.declared.until.Until.TheVariants as until
+use Rattle.ics_fields.specs.declared.ordinals.Side.{Side}
+use Rattle.ics_fields.specs.declared.ordinals.Side.TheVariants.{Front, Back}
+use Rattle.ics_fields.specs.declared.frequency.Frequency.{Frequency}
+use Rattle.ics_fields.specs.declared.frequency.Frequency.TheVariants.{Secondly, Minutely, Hourly, Daily, Weekly, Monthly, Yearly}
 use Rattle.ics_values.specs.declared.part_name.ListName.{ListName}
 use Rattle.ics_values.specs.declared.part_name.ListName.TheVariants.{BySecond, ByMinute, ByHour, ByDay, ByMonthDay, ByYearDay, ByWeekNo, ByMonth, BySetPos}
 use Rattle.ics_values.specs.declared.part_name.PartName.{PartName}

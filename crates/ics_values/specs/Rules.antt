@@ -3,13 +3,13 @@ use Rattle.std.specs.Prelude.{ℕ, Bool, false, not, ◌==◌, nat_lt, List, len
 use Rattle.std.specs.List.{list_any}
 use Rattle.jiff_core.specs.declared.civil.weekday.Weekday.{Weekday}
 use Rattle.ics_values.specs.Digits.{number_of, greatest_number}
-use Rattle.ics_values.specs.Sets.{with_number}
-use Rattle.ics_values.specs.Ordinals.{with_ordinal, with_wide_ordinal, with_weekday, with_numbered_weekday}
-use Rattle.ics_values.specs.RuleParts.{RuleParts, every}
-use Rattle.ics_values.specs.declared.frequency.Frequency.TheVariants.{Yearly}
+use Rattle.ics_fields.specs.Sets.{with_number}
+use Rattle.ics_fields.specs.Ordinals.{with_ordinal, with_wide_ordinal, with_weekday, with_numbered_weekday}
+use Rattle.ics_fields.specs.RuleParts.{RuleParts, every}
+use Rattle.ics_fields.specs.declared.frequency.Frequency.TheVariants.{Yearly}
 use Rattle.ics_values.specs.declared.rule_text.RuleFault.{RuleFault}
 use Rattle.ics_values.specs.declared.rule_text.RuleFault.TheVariants.{BadRule, NumberTooLarge}
-use Rattle.ics_values.specs.declared.ordinals.Weekdays.{Weekdays}
+use Rattle.ics_fields.specs.declared.ordinals.Weekdays.{Weekdays}
 use Rattle.ics_values.specs.declared.part_name.ListName.{ListName}
 use Rattle.ics_values.specs.declared.part_name.ListName.TheVariants.{BySecond, ByMinute, ByHour, ByDay, ByMonthDay, ByYearDay, ByWeekNo, ByMonth, BySetPos}
 use Rattle.ics_values.specs.declared.part_name.PartName.{PartName}

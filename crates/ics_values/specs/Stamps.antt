@@ -1,12 +1,12 @@
 -- The texts of dates and times, and what they mean (RFC 5545, sections 3.3.4 and 3.3.5).
 use Rattle.std.specs.List.{list_all}
-use Rattle.std.specs.Prelude.{◌≡◌, ◌≤◌, ℕ, ◌+◌, ◌*◌, Bool, true, ◌&&◌, ◌||◌, not, ◌==◌, nat_le, List, length, take, drop, min, Result, Ok, Err, ℤ, pos, neg_ℤ}
+use Rattle.std.specs.Prelude.{◌≡◌, ◌≤◌, ℕ, ◌+◌, ◌*◌, Bool, true, ◌&&◌, ◌||◌, not, ◌==◌, nat_le, List, length, take, drop, min, Result, Ok, Err, ℤ, pos}
 use Rattle.std.specs.Prelude.{if◌then◌else◌}
-use Rattle.jiff_core.specs.Calendar.{IsBetween, IsDate, days_from_civil}
+use Rattle.jiff_core.specs.Calendar.{IsDate, days_from_civil}
 use Rattle.ics_values.specs.Digits.{is_digit, are_digits, number_at, letter_at}
 use Rattle.ics_values.specs.Dates.{is_date, day_number}
-use Rattle.ics_values.specs.Locals.{local_at}
-use Rattle.ics_values.specs.declared.local.Local.{Local}
+use Rattle.ics_fields.specs.Locals.{local_at}
+use Rattle.ics_fields.specs.declared.local.Local.{Local}
 use Rattle.ics_values.specs.declared.stamp.Stamp.{Stamp}
 use Rattle.ics_values.specs.declared.stamp.Stamp.TheVariants.{Date, Floating, Utc, Zoned}
 use Rattle.ics_values.specs.declared.stamp.StampFault.{StampFault}
@@ -83,10 +83,6 @@ stamp_day (Zoned local) = local.day
 pub record IsDayOf (text : List ℕ) (day : ℤ) : Type 0 where
   pub date : IsDate (pos (year_of text)) (pos (number_at text 4 6)) (pos (number_at text 6 8))
   pub number : day ≡ days_from_civil (pos (year_of text)) (number_at text 4 6) (number_at text 6 8)
-
--- the day numbers of the years 0001 to 9899
-abbrev pub IsStampDay : ℤ → Type 0
-IsStampDay day = IsBetween (neg_ℤ (pos 719_162)) (pos 2_896_372) day
 
 -- the first eight bytes are digits, and so are those of the time
 pub record HasDate (text : List ℕ) : Type 0 where

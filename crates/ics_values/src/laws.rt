@@ -1,21 +1,8 @@
 //! Laws of values. Each is the contract of a function that has no other purpose.
 ghost use Rattle.std.specs.Prelude.{◌≡◌, ◌≤◌, ℕ, true, List};
-ghost use Rattle.std.specs.Ordering.{int_cmp, nat_cmp, ordering_then};
 ghost use Rattle.ics_values.specs.Dates.{IsJiffsDate};
-ghost use Rattle.ics_values.specs.Locals.{local_seconds};
 ghost use Rattle.ics_values.specs.Plain.{escaped, text_of};
 ghost use Rattle.ics_values.specs.Stamps.{local_of, second_of, time_exists};
-
-use crate::local::Local;
-use std::cmp::Ordering;
-
-/// Locals are ordered by day, then by second, and this is their order in time.
-pub fn order_of_locals(a: Local, b: Local) -> Ordering
-    ensures parts { result ≡ ordering_then (int_cmp a.day b.day) (nat_cmp a.second b.second) }
-    ensures time { result ≡ int_cmp (local_seconds a) (local_seconds b) }
-{
-    a.cmp(&b)
-}
 
 /// The dates that stamps may have, and their day numbers, are those of jiff's calendar.
 pub fn dates_of_the_calendar()

@@ -2,7 +2,7 @@
 ghost use Rattle.std.specs.Prelude.{◌≡◌, List, ℕ, not, Ok};
 ghost use Rattle.ics_values.specs.declared.part_name.ListName.{ListName};
 ghost use Rattle.ics_values.specs.declared.part_name.PartName.TheVariants as part;
-ghost use Rattle.ics_values.specs.RuleParts.{RuleParts};
+ghost use Rattle.ics_fields.specs.RuleParts.{RuleParts};
 ghost use Rattle.ics_values.specs.RuleTexts.{has_part, parts_of};
 ghost use Rattle.ics_values.specs.Rules.{rule_of};
 ghost use Rattle.ics_values.specs.RuleLaws.{Says, lists_nothing};

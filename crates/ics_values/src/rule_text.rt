@@ -5,15 +5,13 @@ ghost use Rattle.ics_values.specs.RuleTexts.{without_last, pieces};
 ghost use Rattle.ics_values.specs.Rules.{rule_of};
 ghost use Rattle.ics_values.specs.RuleDrafts.{walk, item_taken, value_taken, part_taken, no_parts, is_whole, Takes};
 
-use crate::frequency::Frequency;
 use crate::halves::{cut, halves};
 use crate::part_name::{ListName, PartName, part_name};
-use crate::parts::Parts;
 use crate::rule_value::{
     Amount, number_between, read_amount, read_day_item, read_frequency, read_place, read_until,
     read_weekday,
 };
-use crate::sets::BitSet;
+use ics_fields::{BitSet, Frequency, Parts};
 use thiserror::Error;
 
 /// Why a text is not a recurrence rule.

@@ -1,18 +1,16 @@
 //! The values of a rule's parts.
 ghost use Rattle.std.specs.Prelude.{◌≡◌, ◌≤◌, false, MatchOption, IfSome, map};
 ghost use Rattle.ics_values.specs.Options.{IsWhere};
-ghost use Rattle.ics_values.specs.RuleParts.{IsUntil};
+ghost use Rattle.ics_fields.specs.RuleParts.{IsUntil};
 ghost use Rattle.ics_values.specs.RuleTexts.{frequency_of, weekday_of, until_said, until_of, is_amount, is_number, is_signed, is_day_item};
 ghost use Rattle.ics_values.specs.Digits.{number_of};
 ghost use Rattle.ics_values.specs.RuleDrafts.{IsAmount, IsPlace, IsDayItem};
 
 use crate::digits::{are_digits, number_within};
-use crate::frequency::Frequency;
-use crate::ordinals::Side;
 use crate::part_name::by_word;
 use crate::sign::{is_negative, unsigned};
 use crate::stamp::{Stamp, any_stamp, year_of};
-use crate::until::Until;
+use ics_fields::{Frequency, Side, Until};
 use jiff_core::civil::Weekday;
 
 /// COUNT or INTERVAL.

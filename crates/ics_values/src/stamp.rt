@@ -1,13 +1,14 @@
 //! Dates and times, as a property's value has them.
 ghost use Rattle.std.specs.Prelude.{◌≡◌, ◌+◌, ◌*◌, ◌<◌, ◌≤◌, true, false, IfSome, IfOk};
 ghost use Rattle.ics_values.specs.Stamps.{is_date_form, is_local_form, is_utc_form, is_date_time_form, year_of, date_exists, day_of, time_exists, second_of};
-ghost use Rattle.ics_values.specs.Stamps.{is_stamp_text, stamp_said, is_stamp_year, stamp_of, stamp_day, IsDayOf, IsStampDay, HasDate, HasTime};
+ghost use Rattle.ics_values.specs.Stamps.{is_stamp_text, stamp_said, is_stamp_year, stamp_of, stamp_day, IsDayOf, HasDate, HasTime};
+ghost use Rattle.ics_fields.specs.Days.{IsStampDay};
 ghost use Rattle.ics_values.specs.Options.{IsWhere};
 ghost use Rattle.ics_values.specs.ValueFaultNames.{stamp_fault_name};
 
 use crate::date::date_day;
 use crate::digits::{are_digits, number_at};
-use crate::local::Local;
+use ics_fields::Local;
 use thiserror::Error;
 
 /// A DATE or a DATE-TIME (RFC 5545, sections 3.3.4 and 3.3.5). Days are counted from 1970-01-01.

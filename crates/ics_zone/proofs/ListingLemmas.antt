@@ -11,8 +11,8 @@ use Rattle.std.proofs.lemmas.List.{take_all}
 use Rattle.std.proofs.lemmas.List.Elements.{Contains-append_left, Contains-push, Contains-push_cases}
 use Rattle.std.proofs.lemmas.List.Folds.{list_any_more}
 use Rattle.std.proofs.lemmas.List.Sorted.{IsPermutation-sym, Contains-permutation}
-use Rattle.ics_values.specs.declared.local.Local.{Local}
-use Rattle.ics_values.specs.Locals.{number}
+use Rattle.ics_fields.specs.declared.local.Local.{Local}
+use Rattle.ics_fields.specs.Locals.{number}
 use Rattle.ics_zone.specs.Observances.{ObservanceSaid, instant_by}
 use Rattle.ics_zone.specs.Latest.{IsInOrder}
 use Rattle.ics_zone.specs.OnsetSets.{IsListing}

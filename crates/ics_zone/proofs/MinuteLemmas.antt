@@ -3,8 +3,8 @@ use Rattle.std.proofs.Common.{◌≡◌, ◌≢◌, ℕ, ◌*◌, ◌/◌, ◌%�
 use Rattle.std.proofs.Common.{get_or-set_other, bit_or}
 use Rattle.std.proofs.lemmas.Bool.{cases_eq}
 use Rattle.std.proofs.lemmas.Bool.Decides.{nat_tests}
-use Rattle.ics_values.specs.Sets.{contains}
-use Rattle.ics_values.proofs.SetLemmas.{contains-or_bit}
+use Rattle.ics_fields.specs.Sets.{contains}
+use Rattle.ics_fields.proofs.SetLemmas.{contains-or_bit}
 use Rattle.ics_zone.specs.Marks.{is_marked}
 
 -- one minute set anew

@@ -5,8 +5,8 @@ use Rattle.std.proofs.lemmas.Bool.{or_cases}
 use Rattle.std.specs.List.{list_any}
 use Rattle.std.proofs.lemmas.Int.{ints}
 use Rattle.std.proofs.lemmas.Bool.Decides.{Decides-eqb}
-use Rattle.ics_values.specs.declared.local.Local.{Local}
-use Rattle.ics_values.specs.Locals.{number}
+use Rattle.ics_fields.specs.declared.local.Local.{Local}
+use Rattle.ics_fields.specs.Locals.{number}
 use Rattle.ics_zone.specs.Observances.{ObservanceSaid, IsZone, instant_by, is_by_rule, is_begin, is_onset}
 use Rattle.ics_zone.specs.ZoneOffsets.{IsOnset, IsOffset, zone_offset}
 use Rattle.ics_zone.specs.Moments.{IsMomentOf}

@@ -5,10 +5,10 @@ use Rattle.std.proofs.lemmas.Bool.{or_left}
 use Rattle.std.proofs.lemmas.Int.{ints}
 use Rattle.std.proofs.lemmas.Option.{slice_get_within}
 use Rattle.std.proofs.lemmas.Bool.Decides.{Decides-eqb}
-use Rattle.ics_values.specs.declared.local.Local.{Local}
-use Rattle.ics_values.specs.Stamps.{IsStampDay}
-use Rattle.ics_values.proofs.DayLemmas.{day_index_parts}
-use Rattle.ics_values.specs.Locals.{number}
+use Rattle.ics_fields.specs.declared.local.Local.{Local}
+use Rattle.ics_fields.specs.Days.{IsStampDay}
+use Rattle.ics_fields.proofs.DayLemmas.{day_index_parts}
+use Rattle.ics_fields.specs.Locals.{number}
 use Rattle.ics_zone.specs.Observances.{ObservanceSaid, IsObservanceSaid, IsZone, epoch, instant_by, is_begin, test_at, is_onset}
 use Rattle.ics_zone.specs.ZoneOffsets.{IsOnset, IsInForce, IsBeforeAll, IsOffset, instant, natural, instants_to, if_onset, last_at, first_at, in_force}
 use Rattle.ics_zone.specs.ZoneOffsets.{earliest, offset_by, zone_offset}

@@ -7,9 +7,9 @@ use Rattle.std.specs.List.{list_any}
 use Rattle.std.proofs.lemmas.Int.{ints}
 use Rattle.std.proofs.lemmas.Bool.Decides.{Decides-eqb}
 use Rattle.std.proofs.lemmas.List.{get_or_default}
-use Rattle.ics_values.specs.RuleParts.{RuleParts}
+use Rattle.ics_fields.specs.RuleParts.{RuleParts}
 use Rattle.ics_rule.specs.Recurrence.{Recurrence}
-use Rattle.ics_values.specs.Locals.{number}
+use Rattle.ics_fields.specs.Locals.{number}
 use Rattle.ics_rule.specs.Kept.{is_in_rule, is_kept, until_moment}
 use Rattle.ics_zone.specs.declared.onsets.Onsets.{Onsets}
 use Rattle.ics_zone.specs.Observances.{ObservanceSaid, IsObservanceSaid, instant_by, rule_from, is_until, is_by_rule, is_begin, is_onset}

@@ -8,8 +8,8 @@ use Rattle.std.proofs.lemmas.Bool.Decides.{nat_tests}
 use Rattle.std.proofs.lemmas.Int.{ints}
 use Rattle.std.proofs.lemmas.Nat.{pow_pos, shr-shr, shl_whole}
 use Rattle.std.proofs.lemmas.Nat.Bits.{bit_at_and, bit_at_or, bit_at_not, bit_at-zero, bit_at-lt, bit_at_cat_low, bit_at_cat_high, bit_at-trailing_zeros}
-use Rattle.ics_values.specs.Sets.{contains}
-use Rattle.ics_values.proofs.SetLemmas.{contains-or_bit, contains-front, has_above}
+use Rattle.ics_fields.specs.Sets.{contains}
+use Rattle.ics_fields.proofs.SetLemmas.{contains-or_bit, contains-front, has_above}
 use Rattle.ics_zone.proofs.Cases.{less_or_not_z, true_int_lt, false_int_lt, not_both}
 
 pub contains-none : (n : ℕ) → contains 0 n ≡ false

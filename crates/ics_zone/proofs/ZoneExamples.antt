@@ -1,11 +1,11 @@
 -- The definitions on New York's observances from 2007 on.
 use Rattle.std.proofs.Common.{◌≡◌, List, option_map, [], ◌∷◌, Option, Some, None, true, false, refl, pos, neg_ℤ, arith}
-use Rattle.ics_values.specs.declared.frequency.Frequency.TheVariants.{Yearly}
-use Rattle.ics_values.specs.declared.local.Local.{Local}
-use Rattle.ics_values.specs.declared.until.Until.TheVariants.{Utc}
-use Rattle.ics_values.specs.Days.{days_on_literals}
-use Rattle.ics_values.specs.RuleParts.{RuleParts, every}
-use Rattle.ics_values.specs.Sets.{only}
+use Rattle.ics_fields.specs.declared.frequency.Frequency.TheVariants.{Yearly}
+use Rattle.ics_fields.specs.declared.local.Local.{Local}
+use Rattle.ics_fields.specs.declared.until.Until.TheVariants.{Utc}
+use Rattle.ics_fields.specs.Days.{days_on_literals}
+use Rattle.ics_fields.specs.RuleParts.{RuleParts, every}
+use Rattle.ics_fields.specs.Sets.{only}
 use Rattle.ics_rule.specs.Kept.{rules_on_literals, until_moment}
 use Rattle.ics_rule.proofs.Samples.{local, nth_weekday, su}
 use Rattle.ics_zone.specs.Observances.{ObservanceSaid, is_onset}

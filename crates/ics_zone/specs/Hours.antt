@@ -1,6 +1,6 @@
 -- What a rule keeps in two hours that follow each other.
 use Rattle.std.specs.Prelude.{◌≡◌, ℕ, ◌+◌, ◌<◌, ◌≤◌, ◌/◌, Bool, ◌&&◌, ◌==◌, if◌then◌else◌, Some, IfSome, Option, ℤ, ◌<ℤ◌}
-use Rattle.ics_values.specs.Sets.{contains}
+use Rattle.ics_fields.specs.Sets.{contains}
 use Rattle.ics_rule.specs.Recurrence.{Recurrence}
 use Rattle.ics_rule.specs.PeriodNumbers.{minute_of, second_of, rules_end}
 use Rattle.ics_rule.specs.Kept.{is_kept}

@@ -1,6 +1,6 @@
 -- The years of the locals of an observance.
 use Rattle.std.specs.Prelude.{Bool, ◌&&◌, int_le, pos, neg_ℤ}
-use Rattle.ics_values.specs.declared.local.Local.{Local}
+use Rattle.ics_fields.specs.declared.local.Local.{Local}
 
 -- a local of the years 0001 to 9899
 abbrev pub is_stamp_local : Local → Bool

@@ -8,7 +8,7 @@ use crate::clock::{EPOCH, RULES_END, shown_at};
 use crate::hours::Hours;
 use crate::onsets::Onsets;
 use crate::sixty::{first_of, first_outside, front};
-use ics_values::Moment;
+use ics_fields::Moment;
 
 /// Two hours before the end of the rules.
 const LAST: i64 = RULES_END - 7_200;

@@ -3,9 +3,9 @@ ghost use Rattle.std.specs.Prelude.{◌≡◌};
 ghost use Rattle.jiff.specs.Words.{plain_zone, nanos_of_seconds, civil_nanos};
 ghost use Rattle.ics_zone.specs.Displays.{IsCompatible, offset_of, moment_of};
 ghost use Rattle.ics_zone.specs.Seconds.{IsDay, IsMoment};
-ghost use Rattle.ics_values.specs.Locals.{seconds_at};
+ghost use Rattle.ics_fields.specs.Locals.{seconds_at};
 
-use ics_values::{Local, Moment};
+use ics_fields::{Local, Moment};
 use jiff::Timestamp;
 use jiff::civil::DateTime;
 use jiff::tz::TimeZone;

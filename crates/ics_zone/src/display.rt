@@ -5,13 +5,13 @@ ghost use Rattle.jiff.specs.Words.{plain_zone};
 ghost use Rattle.ics_zone.specs.DisplayTexts.{Said, display_of, said_by};
 ghost use Rattle.ics_zone.specs.Displays.{IsCompatible};
 ghost use Rattle.ics_zone.specs.Seconds.{IsDay};
-ghost use Rattle.ics_values.specs.Locals.{seconds_at};
+ghost use Rattle.ics_fields.specs.Locals.{seconds_at};
 ghost use Rattle.ics_zone.specs.JiffZones.{zone_of};
 
 use crate::compatible::{offset_at, picked_moment};
 use crate::display_text::read_offset;
 use crate::{DisplayFault, Place};
-use ics_values::{Local, Moment};
+use ics_fields::{Local, Moment};
 use jiff::tz::TimeZone;
 use jiff_core::Offset;
 use jiff_tz::posix;

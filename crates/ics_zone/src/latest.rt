@@ -7,7 +7,7 @@ ghost use Rattle.ics_zone.specs.Seconds.{IsMoment};
 ghost use Rattle.ics_zone.specs.ZoneOnsets.{AreOnsetsOfAll, IsLatestOf, IsLatestWithin, IsFirstOffset, IsNextPast, IsClear, IsOverridden, NoneBetween};
 
 use crate::onsets::Onsets;
-use ics_values::Moment;
+use ics_fields::Moment;
 
 const DAY: i64 = 86_400;
 

@@ -3,12 +3,12 @@ ghost use Rattle.std.specs.Prelude.{◌≡◌, ℤ};
 ghost use Rattle.ics_zone.specs.DisplayTexts.{said_by};
 ghost use Rattle.ics_zone.specs.Displays.{IsCompatible, offset_of, moment_of};
 ghost use Rattle.ics_zone.specs.Seconds.{IsDay};
-ghost use Rattle.ics_values.specs.Locals.{seconds_at};
+ghost use Rattle.ics_fields.specs.Locals.{seconds_at};
 ghost use Rattle.ics_zone.specs.JiffZones.{zone_of};
 ghost use Rattle.ics_zone.specs.declared.display.Display.{Display};
 
 use crate::{Display, Place};
-use ics_values::Local;
+use ics_fields::Local;
 
 /// Display zones with the same offset or the same rule have the same offset at each instant, and read
 /// each local as the same instant. So a text names one display zone.

@@ -2,10 +2,10 @@
 ghost use Rattle.std.specs.Prelude.{IsTrue};
 ghost use Rattle.std.specs.List.{list_all};
 ghost use Rattle.jiff_core.specs.Calendar.{IsWithin};
-ghost use Rattle.ics_values.specs.Stamps.{IsStampDay};
+ghost use Rattle.ics_fields.specs.Days.{IsStampDay};
 ghost use Rattle.ics_zone.specs.Years.{is_stamp_local};
 
-use ics_values::{Local, Parts};
+use ics_fields::{Local, Parts};
 
 /// A STANDARD or DAYLIGHT part of a VTIMEZONE (RFC 5545, section 3.6.5): the offsets before and after
 /// each of its onsets, in seconds, and the locals at which it begins, as the clock before it shows

@@ -5,7 +5,7 @@ ghost use Rattle.std.specs.Int.{int_min};
 ghost use Rattle.std.specs.List.{list_any};
 ghost use Rattle.ics_zone.specs.Observances.{observance_said, observances_said, has_finer_rule};
 ghost use Rattle.ics_zone.specs.Seconds.{IsDay, IsMoment};
-ghost use Rattle.ics_values.specs.Locals.{seconds_at};
+ghost use Rattle.ics_fields.specs.Locals.{seconds_at};
 ghost use Rattle.ics_zone.specs.OnsetSets.{IsSearched};
 ghost use Rattle.ics_zone.specs.ZoneOnsets.{AreOnsetsOfAll, HaveOffsets};
 
@@ -14,7 +14,7 @@ use crate::latest::{
 };
 use crate::onsets::Onsets;
 use crate::{Observance, ZoneFault};
-use ics_values::{Frequency, Local, Moment};
+use ics_fields::{Frequency, Local, Moment};
 use std::alloc::{AllocError, Global};
 use std::marker::Model;
 

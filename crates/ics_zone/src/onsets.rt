@@ -10,7 +10,7 @@ use crate::Observance;
 use crate::clock::{instant, number, shown_by};
 use crate::kept::{last_between, last_kept, next_kept};
 use ics_rule::{Kind, Rule};
-use ics_values::{BitSet, Frequency, Moment};
+use ics_fields::{BitSet, Frequency, Moment};
 use std::alloc::{AllocError, Global};
 
 const DAY: u64 = 86_400;

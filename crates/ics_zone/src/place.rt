@@ -2,9 +2,9 @@
 ghost use Rattle.std.specs.Prelude.{◌≡◌, ◌+ℤ◌, ◌-ℤ◌, ℤ, pos, neg_ℤ};
 ghost use Rattle.jiff_core.specs.Calendar.{IsBetween};
 ghost use Rattle.ics_zone.specs.Seconds.{IsMoment, IsDay};
-ghost use Rattle.ics_values.specs.Locals.{seconds_at};
+ghost use Rattle.ics_fields.specs.Locals.{seconds_at};
 
-use ics_values::{Local, Moment};
+use ics_fields::{Local, Moment};
 
 const DAY: i64 = 86_400;
 

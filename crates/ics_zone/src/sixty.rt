@@ -1,8 +1,8 @@
 //! A minute as a word of sixty bits: bit `n` is its second `n`.
 ghost use Rattle.std.specs.Prelude.{◌≡◌, ℕ, ◌+◌, ◌<◌, ◌≤◌, ◌*◌, ◌^◌, ◌&&◌, true, nat_lt, int_lt, pos, MatchOption};
-ghost use Rattle.ics_values.specs.Sets.{contains};
+ghost use Rattle.ics_fields.specs.Sets.{contains};
 
-use ics_values::BitSet;
+use ics_fields::BitSet;
 
 /// The members of a set below sixty.
 pub(crate) fn word_of(set: BitSet) -> u64

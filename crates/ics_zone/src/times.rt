@@ -1,12 +1,12 @@
 //! The times of an hour that a rule keeps.
 ghost use Rattle.std.specs.Prelude.{◌≡◌, ℕ, ◌+◌, ◌*◌, ◌<◌, ◌&&◌, true, false};
-ghost use Rattle.ics_values.specs.Sets.{contains};
+ghost use Rattle.ics_fields.specs.Sets.{contains};
 ghost use Rattle.ics_rule.specs.PeriodNumbers.{minute_of, second_of};
 ghost use Rattle.ics_zone.specs.Hours.{keeps_time};
 
 use crate::sixty::word_of;
 use ics_rule::HourTimes;
-use ics_values::BitSet;
+use ics_fields::BitSet;
 
 /// Each of some minutes of an hour, with each of some seconds.
 #[derive(Clone, Copy)]

@@ -5,13 +5,13 @@ ghost use Rattle.jiff_core.specs.declared.error.TzifFault.{TzifFault};
 ghost use Rattle.jiff_tz.specs.TzifReader.{read_tzif};
 ghost use Rattle.ics_zone.specs.Observances.{observances_said, has_finer_rule};
 ghost use Rattle.ics_zone.specs.Seconds.{IsDay, IsMoment};
-ghost use Rattle.ics_values.specs.Locals.{seconds_at};
+ghost use Rattle.ics_fields.specs.Locals.{seconds_at};
 
 use crate::compatible::{offset_at, picked_moment};
 use crate::observed::Observed;
 use crate::zone_file::ZoneFile;
 use crate::{Observance, Place, ZoneFault, ZoneFileFault};
-use ics_values::{Local, Moment};
+use ics_fields::{Local, Moment};
 use jiff::tz::{TimeZone, Tzif};
 use std::alloc::{AllocError, Global};
 use std::marker::Model;

@@ -32,7 +32,7 @@ use Rattle.khal_list.specs.declared.request.Request.{Request}
 use Rattle.khal_list.proofs.RequestLemmas.{good_token}
 use Rattle.khal_list.specs.declared.request_fault.RequestFault.{RequestFault}
 use Rattle.khal_list.specs.declared.request_fault.RequestFault.TheVariants.{Usage, BadZone, BadWindow, BadToken, BadFormat, Memory}
-use Rattle.ics_values.specs.Locals.{day_of_local}
+use Rattle.ics_fields.specs.Locals.{day_of_local}
 
 -- two display zones give the same offsets and read the same instants
 pub record Alike (a b : Display) : Type 0 where

@@ -7,7 +7,7 @@ use Rattle.ics_calendar.specs.declared.event.Event.{Event}
 use Rattle.ics_calendar.specs.declared.time.Length.TheVariants.{Open}
 use Rattle.ics_series.specs.Clocks.{Clock, utc_clock}
 use Rattle.ics_series.specs.Entry.{Entry}
-use Rattle.ics_values.specs.Days.{days_on_literals}
+use Rattle.ics_fields.specs.Days.{days_on_literals}
 use Rattle.bstr.specs.Utf8.{pieces_from}
 use Rattle.khal_list.specs.declared.field.DayField.{DayField}
 use Rattle.khal_list.specs.declared.field.DayField.TheVariants as day

@@ -6,7 +6,7 @@ use Rattle.std.specs.Option.{option_eq}
 use Rattle.std.specs.Ordering.{int_eq}
 use Rattle.ics_values.specs.declared.stamp.Stamp.{Stamp}
 use Rattle.ics_values.specs.declared.stamp.Stamp.TheVariants.{Date, Floating, Utc, Zoned}
-use Rattle.ics_values.specs.Days.{year_of, month_of, month_day_of, weekday_of, day_index}
+use Rattle.ics_fields.specs.Days.{year_of, month_of, month_day_of, weekday_of, day_index}
 use Rattle.ics_series.specs.Clocks.{Clock, local_at}
 use Rattle.ics_series.specs.Entry.{Entry}
 use Rattle.ics_series.specs.OnDays.{on_day, OnDay}
@@ -18,7 +18,7 @@ use Rattle.khal_list.specs.declared.field.DayField.TheVariants as day
 use Rattle.khal_list.specs.declared.format.Piece.{Piece}
 use Rattle.khal_list.specs.Formats.{filled}
 use Rattle.khal_list.specs.Shown.{shown}
-use Rattle.ics_values.specs.Locals.{day_of_local, whole_days}
+use Rattle.ics_fields.specs.Locals.{day_of_local, whole_days}
 
 -- the second of the day of a local
 abbrev pub second_of : ℤ → ℕ

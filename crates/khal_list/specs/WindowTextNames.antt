@@ -1,7 +1,7 @@
 -- What contracts see of a window text that was read.
 use Rattle.std.specs.Prelude.{◌≤◌}
 use Rattle.jiff_core.specs.Calendar.{IsEpochDay}
-use Rattle.ics_values.specs.Locals.{local_seconds}
+use Rattle.ics_fields.specs.Locals.{local_seconds}
 use Rattle.khal_list.specs.WindowTexts.{most_days, Named}
 use Rattle.khal_list.specs.declared.window_text.WindowText.{WindowText}
 use Rattle.khal_list.specs.declared.window_text.WindowText.TheVariants.{Day, Local, Days}

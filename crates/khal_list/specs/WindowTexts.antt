@@ -7,7 +7,7 @@ use Rattle.std.specs.List.{list_all}
 use Rattle.std.specs.Option.{option_or}
 use Rattle.std.specs.Str.Parse.{digits_value}
 use Rattle.jiff_core.specs.Calendar.{days_in_month, days_from_civil}
-use Rattle.ics_values.specs.Locals.{seconds_at}
+use Rattle.ics_fields.specs.Locals.{seconds_at}
 
 -- what a window text names: a day, a local, or a number of days
 pub data Named : Type 0 where

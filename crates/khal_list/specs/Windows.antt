@@ -3,7 +3,7 @@
 use Rattle.std.specs.Prelude.{ℤ, pos, ◌+ℤ◌, ◌&&◌, int_le, int_lt, Option, Some, None, option_and_then, if◌then◌else◌}
 use Rattle.clap.specs.Words.{Text}
 use Rattle.ics_zone.specs.Displays.{offset_of, moment_of}
-use Rattle.ics_values.specs.Locals.{midnight, whole_days, year_seconds, day_of_local}
+use Rattle.ics_fields.specs.Locals.{midnight, whole_days, year_seconds, day_of_local}
 use Rattle.ics_zone.specs.JiffZones.{zone_of}
 use Rattle.ics_zone.specs.declared.display.Display.{Display}
 use Rattle.khal_list.specs.Entries.{Span}

@@ -1,6 +1,6 @@
 //! The times of an entry, in eleven columns.
 ghost use Rattle.std.specs.Prelude.{◌≡◌, ◌<◌, ◌++◌, OnOk};
-ghost use Rattle.ics_values.specs.Locals.{local_seconds};
+ghost use Rattle.ics_fields.specs.Locals.{local_seconds};
 ghost use Rattle.khal_list.specs.Text.{two_digits, second_of, time_text, start_text, finish_text, times_text, is_end_of};
 
 use ics_values::Local;

@@ -1,6 +1,6 @@
 //! The dates that a display zone shows.
 ghost use Rattle.std.specs.Prelude.{◌≡◌, ◌≤ℤ◌, ◌<ℤ◌, ◌-ℤ◌, pos};
-ghost use Rattle.ics_values.specs.Days.{IsDayNumber};
+ghost use Rattle.ics_fields.specs.Days.{IsDayNumber};
 ghost use Rattle.ics_series.specs.Clocks.{display_clock};
 ghost use Rattle.ics_series.specs.ShownDays.{date_at};
 ghost use Rattle.ics_series.specs.WindowBounds.{occurrence_first, occurrence_end};

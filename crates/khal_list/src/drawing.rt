@@ -1,6 +1,6 @@
 //! What a listing draws its entries from.
 ghost use Rattle.std.specs.Prelude.{◌≡◌, List, IfOk, IfSome, OnErr, map};
-ghost use Rattle.ics_values.specs.Days.{IsDayNumber};
+ghost use Rattle.ics_fields.specs.Days.{IsDayNumber};
 ghost use Rattle.ics_series.specs.Ahead.{IsAhead};
 ghost use Rattle.ics_series.specs.OnDays.{GivesOnDay, OnDay};
 ghost use Rattle.khal_list.specs.Listed.{style_of};

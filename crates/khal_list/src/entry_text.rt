@@ -1,7 +1,7 @@
 //! The values of placeholders in the line of an entry.
 ghost use Rattle.std.specs.Prelude.{◌≡◌, ◌++◌, OnOk};
-ghost use Rattle.ics_values.specs.Days.{IsDayNumber};
-ghost use Rattle.ics_values.specs.Locals.{local_seconds};
+ghost use Rattle.ics_fields.specs.Days.{IsDayNumber};
+ghost use Rattle.ics_fields.specs.Locals.{local_seconds};
 ghost use Rattle.ics_series.specs.Clocks.{display_clock};
 ghost use Rattle.ics_series.specs.Entry.{entry_of};
 ghost use Rattle.khal_list.specs.Text.{cell_text, end_date, entry_field_text, is_date, time_unless_date};

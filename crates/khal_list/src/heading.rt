@@ -1,7 +1,7 @@
 //! Dates, and headings with dates.
 ghost use Rattle.std.specs.Prelude.{◌≡◌, ◌++◌, ◌∷◌, [], OnOk};
 ghost use Rattle.jiff_core.specs.Weekday.{monday_zero};
-ghost use Rattle.ics_values.specs.Days.{IsDayNumber};
+ghost use Rattle.ics_fields.specs.Days.{IsDayNumber};
 ghost use Rattle.khal_list.specs.Formats.{filled, shown_piece};
 ghost use Rattle.khal_list.specs.Text.{weekday_name, date_text, day_field_text};
 

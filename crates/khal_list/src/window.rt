@@ -3,7 +3,7 @@ ghost use Rattle.std.specs.Prelude.{◌≡◌, ◌≤◌, ◌<◌, ◌*◌, ◌-
 ghost use Rattle.jiff_core.specs.Calendar.{IsEpochDay};
 ghost use Rattle.ics_zone.specs.Displays.{moment_of};
 ghost use Rattle.ics_zone.specs.Seconds.{IsDay, IsNear};
-ghost use Rattle.ics_values.specs.Locals.{local_seconds};
+ghost use Rattle.ics_fields.specs.Locals.{local_seconds};
 ghost use Rattle.ics_zone.specs.JiffZones.{zone_of};
 ghost use Rattle.khal_list.specs.Windows as spec;
 ghost use Rattle.khal_list.specs.SpanTexts.{span_by};

@@ -3,7 +3,7 @@ ghost use Rattle.std.specs.Prelude.{◌≡◌, ◌<◌, ◌≤◌, option_map, I
 ghost use Rattle.std.specs.Char.{is_ascii_digit};
 ghost use Rattle.std.specs.List.{list_all};
 ghost use Rattle.jiff_core.specs.Calendar.{IsEpochDay};
-ghost use Rattle.ics_values.specs.Locals.{local_seconds, seconds_at};
+ghost use Rattle.ics_fields.specs.Locals.{local_seconds, seconds_at};
 ghost use Rattle.khal_list.specs.WindowTexts as spec;
 ghost use Rattle.khal_list.specs.WindowTextNames.{named_by, IsInCalendar};
 

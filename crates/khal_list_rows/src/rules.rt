@@ -1,6 +1,6 @@
 //! The locals of a rule, and how many periods were looked at for them.
 ghost use Rattle.std.specs.Prelude.{◌≤ℤ◌, pos, IfSome};
-ghost use Rattle.ics_values.specs.Days.{IsDayNumber};
+ghost use Rattle.ics_fields.specs.Days.{IsDayNumber};
 
 use crate::requests::yes_no;
 use crate::shown::{local_of, local_text, moment_text};

@@ -1,6 +1,6 @@
 use Rattle.std.proofs.Common.{◌≡◌, arith, ◌+ℤ◌, ◌-ℤ◌, pos, to_z, of_z, w32, subst, ap, unsigned_abs}
 use Rattle.std.proofs.lemmas.Int.{ints}
-use Rattle.ics_values.specs.Fields.{IsCivilOf}
+use Rattle.ics_fields.specs.Fields.{IsCivilOf}
 use Rattle.ics_rule.proofs.date.civil_at.Goals as goal
 
 pub overflow_cast-index : goal.overflow_cast-index

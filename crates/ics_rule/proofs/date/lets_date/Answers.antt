@@ -1,7 +1,7 @@
 use Rattle.std.proofs.Common.{◌≡◌, ◌∙◌, ◌||◌, ap, sym, rules}
-use Rattle.ics_values.specs.Days.{weekday_of}
-use Rattle.ics_values.specs.Sets.{contains}
-use Rattle.ics_values.specs.Ordinals.{lists_none, lists_no_weekday, numbers_of}
+use Rattle.ics_fields.specs.Days.{weekday_of}
+use Rattle.ics_fields.specs.Sets.{contains}
+use Rattle.ics_fields.specs.Ordinals.{lists_none, lists_no_weekday, numbers_of}
 use Rattle.ics_rule.specs.declared.effective_rule.EffectiveRule.{EffectiveRule}
 use Rattle.ics_rule.proofs.DateLemmas.{weekday_in, weekday_out}
 use Rattle.ics_rule.proofs.date.lets_date.Goals as goal

@@ -1,5 +1,5 @@
 use Rattle.std.proofs.Common.{◌∙◌, ◌+◌, ◌-◌, ◌/◌, ◌%◌, ap, subst}
-use Rattle.ics_values.specs.Fields.{IsCivilOf}
+use Rattle.ics_fields.specs.Fields.{IsCivilOf}
 use Rattle.ics_rule.specs.Candidates.{lets_place}
 use Rattle.ics_rule.proofs.DateLemmas.{lets_week-fields}
 use Rattle.ics_rule.proofs.date.lets_week.Goals as goal

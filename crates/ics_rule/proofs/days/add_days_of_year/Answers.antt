@@ -1,6 +1,6 @@
 use Rattle.std.proofs.Common.{◌∙◌, ◌&&◌, ap, sym}
-use Rattle.ics_values.specs.Sets.{contains_wide, is_empty}
-use Rattle.ics_values.specs.Days.{year_of}
+use Rattle.ics_fields.specs.Sets.{contains_wide, is_empty}
+use Rattle.ics_fields.specs.Days.{year_of}
 use Rattle.ics_rule.proofs.ScanLemmas.{none_has}
 use Rattle.ics_rule.proofs.MonthDays.{whole_year}
 use Rattle.ics_rule.proofs.days.add_days_of_year.Goals as goal

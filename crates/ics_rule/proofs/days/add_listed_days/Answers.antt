@@ -1,8 +1,8 @@
 use Rattle.std.proofs.Common.{ℕ, Bool, ◌∙◌, ◌+◌, ◌<◌, ◌≤◌, ◌&&◌, ap, nat_lt, pos, sym, subst, arith}
 use Rattle.jiff_core.proofs.CalendarLemmas.{days_in_month_bounds, days_in_year_bounds}
-use Rattle.ics_values.specs.Sets.{contains, contains_wide}
-use Rattle.ics_values.specs.Days.{year_of}
-use Rattle.ics_values.proofs.SetLemmas.{member_below}
+use Rattle.ics_fields.specs.Sets.{contains, contains_wide}
+use Rattle.ics_fields.specs.Days.{year_of}
+use Rattle.ics_fields.proofs.SetLemmas.{member_below}
 use Rattle.ics_rule.proofs.ScanLemmas.{none_has}
 use Rattle.ics_rule.proofs.MonthDays.{seen_months, months_none, month_step, months_done}
 use Rattle.ics_rule.proofs.days.add_listed_days.Goals as goal

@@ -1,5 +1,5 @@
 use Rattle.std.proofs.Common.{◌≡◌, ℕ, ◌+◌, ◌-◌, ◌≤◌, ◌&&◌, nat_lt}
-use Rattle.ics_values.specs.Sets.{contains, contains_wide}
+use Rattle.ics_fields.specs.Sets.{contains, contains_wide}
 use Rattle.ics_rule.proofs.MonthDays.{seen_months}
 use Rattle.ics_rule.proofs.days.add_listed_days.Given as goal
 

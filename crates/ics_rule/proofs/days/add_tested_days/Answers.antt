@@ -1,7 +1,7 @@
 use Rattle.std.proofs.Common.{◌∙◌, ◌+◌, ◌&&◌, nat_lt, ap}
 use Rattle.std.proofs.lemmas.Bool.{lt-ltb, ltb-true}
-use Rattle.ics_values.specs.Sets.{contains_wide}
-use Rattle.ics_values.specs.Days.{year_of}
+use Rattle.ics_fields.specs.Sets.{contains_wide}
+use Rattle.ics_fields.specs.Days.{year_of}
 use Rattle.ics_rule.specs.Candidates.{lets_date, lets_wide_place}
 use Rattle.ics_rule.proofs.MonthDays.{candidates, narrowed, week_let_in, number_listed}
 use Rattle.ics_rule.proofs.days.add_tested_days.Goals as goal

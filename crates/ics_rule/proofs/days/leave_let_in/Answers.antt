@@ -1,6 +1,6 @@
 use Rattle.std.proofs.Common.{◌∙◌, ◌+◌, ◌&&◌, ◌||◌, nat_lt, ap, sym}
 use Rattle.std.proofs.lemmas.Bool.{or_parts}
-use Rattle.ics_values.specs.Ordinals.{lists_none}
+use Rattle.ics_fields.specs.Ordinals.{lists_none}
 use Rattle.ics_rule.specs.Candidates.{lets_date}
 use Rattle.ics_rule.specs.Runs.{is_in_month}
 use Rattle.ics_rule.proofs.MonthDays.{month_exact, month_candidate, narrowed}

@@ -1,5 +1,5 @@
 use Rattle.std.proofs.Common.{◌∙◌, ◌+◌, ap, sym, arith}
-use Rattle.ics_values.specs.Sets.{contains_wide}
+use Rattle.ics_fields.specs.Sets.{contains_wide}
 use Rattle.ics_rule.specs.Candidates.{lets_date}
 use Rattle.ics_rule.proofs.ScanLemmas.{none_has}
 use Rattle.ics_rule.proofs.MonthDays.{asked_none, let_in, left_out, asked_all}

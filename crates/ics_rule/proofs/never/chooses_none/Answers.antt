@@ -1,6 +1,6 @@
 use Rattle.std.proofs.Common.{◌∙◌, ◌≤◌, ap, sym, subst, arith}
 use Rattle.std.proofs.lemmas.Bool.{and_parts}
-use Rattle.ics_values.specs.Sets.{contains_wide}
+use Rattle.ics_fields.specs.Sets.{contains_wide}
 use Rattle.ics_rule.specs.declared.effective_rule.EffectiveRule.{EffectiveRule}
 use Rattle.ics_rule.specs.Kept.{size}
 use Rattle.ics_rule.proofs.NeverLemmas.{never_chosen, most_in_period}

@@ -1,5 +1,5 @@
 use Rattle.std.proofs.Common.{◌∙◌}
-use Rattle.ics_values.specs.Sets.{contains}
+use Rattle.ics_fields.specs.Sets.{contains}
 use Rattle.ics_rule.specs.Candidates.{lets}
 use Rattle.ics_rule.proofs.Counts.{count-same}
 use Rattle.ics_rule.proofs.never.readings.Goals as goal

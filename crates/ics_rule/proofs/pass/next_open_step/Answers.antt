@@ -1,6 +1,6 @@
 use Rattle.std.proofs.Common.{◌-◌, subst, arith}
 use Rattle.jiff_core.specs.Weekday.{monday_zero}
-use Rattle.ics_values.specs.Sets.{IsLeastFrom}
+use Rattle.ics_fields.specs.Sets.{IsLeastFrom}
 use Rattle.ics_rule.specs.Candidates.{is_stepped}
 use Rattle.ics_rule.proofs.PeriodLemmas.{begun}
 use Rattle.ics_rule.proofs.PassLemmas.{step_open}

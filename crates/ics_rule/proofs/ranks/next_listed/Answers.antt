@@ -1,8 +1,8 @@
 use Rattle.std.proofs.Common.{◌≡◌, ℕ, ◌+◌, ◌-◌, inl, inr, false, ◌||◌, ◌∙◌, ap, sym, arith}
 use Rattle.std.proofs.lemmas.Bool.{cases_lt, or_left, or_right}
-use Rattle.ics_values.specs.declared.ordinals.WideOrdinals.{WideOrdinals}
-use Rattle.ics_values.specs.Sets.{contains_wide}
-use Rattle.ics_values.proofs.SetLemmas.{wide_past}
+use Rattle.ics_fields.specs.declared.ordinals.WideOrdinals.{WideOrdinals}
+use Rattle.ics_fields.specs.Sets.{contains_wide}
+use Rattle.ics_fields.proofs.SetLemmas.{wide_past}
 use Rattle.ics_rule.specs.RecurrencePeriods.{is_listed}
 use Rattle.ics_rule.proofs.ranks.next_listed.Goals as goal
 

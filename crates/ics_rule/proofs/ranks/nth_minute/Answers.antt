@@ -1,6 +1,6 @@
 use Rattle.std.proofs.Common.{◌<◌, ◌*◌, ◌/◌, ◌%◌, subst, sym, arith}
-use Rattle.ics_values.specs.Sets.{contains}
-use Rattle.ics_values.proofs.SetLemmas.{member_below}
+use Rattle.ics_fields.specs.Sets.{contains}
+use Rattle.ics_fields.proofs.SetLemmas.{member_below}
 use Rattle.ics_rule.specs.Kept.{count}
 use Rattle.ics_rule.specs.RecurrencePeriods.{IsNth}
 use Rattle.ics_rule.proofs.Counts.{count_mono}

@@ -1,6 +1,6 @@
 use Rattle.std.proofs.Common.{◌∙◌, ◌==◌, ◌||◌, ◌&&◌, ◌<◌, ◌^◌, ap, sym, subst}
 use Rattle.std.proofs.Math.Pow.{pow-lt}
-use Rattle.ics_values.specs.Sets.{contains}
+use Rattle.ics_fields.specs.Sets.{contains}
 use Rattle.ics_rule.specs.Candidates.{lets}
 use Rattle.ics_rule.proofs.ScanLemmas.{contains-only, own_only}
 use Rattle.ics_rule.proofs.recurrence_period.clock_set.Goals as goal

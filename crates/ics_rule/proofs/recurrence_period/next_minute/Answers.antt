@@ -1,6 +1,6 @@
 use Rattle.std.proofs.Common.{◌≡◌, ◌∙◌, ℕ, ◌+◌, ◌*◌, ◌≤◌, ◌/◌, false, sym, arith}
-use Rattle.ics_values.specs.Sets.{contains, IsLeastFrom}
-use Rattle.ics_values.proofs.SetLemmas.{member_below}
+use Rattle.ics_fields.specs.Sets.{contains, IsLeastFrom}
+use Rattle.ics_fields.proofs.SetLemmas.{member_below}
 use Rattle.ics_rule.specs.RecurrencePeriods.{has_minute}
 use Rattle.ics_rule.proofs.ScanLemmas.{next_here, next_later, block_out, block_done, in_word, minute_below}
 use Rattle.ics_rule.proofs.recurrence_period.next_minute.Goals as goal

@@ -1,5 +1,5 @@
 use Rattle.std.proofs.Common.{◌∙◌, arith}
-use Rattle.ics_values.specs.Sets.{contains}
+use Rattle.ics_fields.specs.Sets.{contains}
 use Rattle.ics_rule.proofs.RunLemmas.{listed_first, listed_more, listed_done}
 use Rattle.ics_rule.proofs.runs.listed.Goals as goal
 

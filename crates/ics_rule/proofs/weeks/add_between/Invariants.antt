@@ -1,5 +1,5 @@
 use Rattle.std.proofs.Common.{◌≡◌, ℕ, ◌≤◌, ◌&&◌, ◌||◌, nat_lt, nat_le, max}
-use Rattle.ics_values.specs.Sets.{contains_wide}
+use Rattle.ics_fields.specs.Sets.{contains_wide}
 use Rattle.ics_rule.proofs.weeks.add_between.Given as goal
 
 abbrev pub invariant-loop-k : goal.invariant-loop-k

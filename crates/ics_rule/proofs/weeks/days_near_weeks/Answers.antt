@@ -1,8 +1,8 @@
 use Rattle.std.proofs.Common.{◌∙◌, ◌+◌, ◌-◌, ◌%◌, ap, pos, sym, arith}
 use Rattle.jiff_core.specs.Weekday.{monday_zero}
 use Rattle.jiff_core.proofs.CalendarLemmas.{days_in_year_bounds}
-use Rattle.ics_values.specs.Sets.{contains_wide}
-use Rattle.ics_values.specs.Days.{year_of}
+use Rattle.ics_fields.specs.Sets.{contains_wide}
+use Rattle.ics_fields.specs.Days.{year_of}
 use Rattle.ics_rule.proofs.ScanLemmas.{none_has}
 use Rattle.ics_rule.proofs.WeekDays.{cover_starts, cover_adds, cover_jumps, covered, IsYearOfWeeks, week_near}
 use Rattle.ics_rule.proofs.weeks.days_near_weeks.Goals as goal

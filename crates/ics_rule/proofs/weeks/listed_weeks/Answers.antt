@@ -1,5 +1,5 @@
 use Rattle.std.proofs.Common.{◌∙◌, ◌-◌, ◌==◌, ◌||◌, ap, arith}
-use Rattle.ics_values.specs.Sets.{contains}
+use Rattle.ics_fields.specs.Sets.{contains}
 use Rattle.ics_rule.proofs.WeekDays.{weeks_first, weeks_more, weeks_done}
 use Rattle.ics_rule.proofs.weeks.listed_weeks.Goals as goal
 

@@ -1,5 +1,5 @@
 use Rattle.std.proofs.Common.{◌≡◌, ℕ, ◌≤◌, ◌-◌}
-use Rattle.ics_values.specs.Sets.{contains}
+use Rattle.ics_fields.specs.Sets.{contains}
 use Rattle.ics_rule.proofs.WeekDays.{seen_weeks}
 use Rattle.ics_rule.proofs.weeks.listed_weeks.Given as goal
 

@@ -1,6 +1,6 @@
 use Rattle.std.proofs.Common.{rules, ◌≡◌, ◌∙◌, ap, pos, ◌*ℤ◌, arith, SFits, w32, w64}
 use Rattle.std.proofs.lemmas.Int.{ints, to_z-of_z}
-use Rattle.ics_values.specs.Locals.{midnight}
+use Rattle.ics_fields.specs.Locals.{midnight}
 use Rattle.ics_zone.specs.Displays.{moment_of}
 use Rattle.ics_zone.specs.JiffZones.{zone_of}
 use Rattle.ics_series.proofs.instant.instant.Goals as goal

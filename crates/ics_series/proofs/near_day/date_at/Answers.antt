@@ -1,10 +1,10 @@
 use Rattle.std.proofs.Common.{rules, ◌≡◌, ◌+ℤ◌, ℕ, ℤ, ◌<◌, pos, arith, w32, w64}
 use Rattle.std.specs.Prelude.{◌≤ℤ◌, ◌<ℤ◌, ◌-ℤ◌, FitsSigned}
 use Rattle.std.proofs.lemmas.Int.{ints, to_z-of_z}
-use Rattle.ics_values.specs.Days.{IsDayNumber}
+use Rattle.ics_fields.specs.Days.{IsDayNumber}
 use Rattle.ics_zone.specs.Near.{offset_near}
 use Rattle.ics_zone.specs.Seconds.{IsNear}
-use Rattle.ics_values.specs.Locals.{seconds_at}
+use Rattle.ics_fields.specs.Locals.{seconds_at}
 use Rattle.ics_zone.specs.JiffZones.{zone_of}
 use Rattle.ics_series.specs.WindowBounds.{occurrence_first, occurrence_end}
 use Rattle.ics_series.proofs.near_day.date_at.Goals as goal

@@ -2,7 +2,7 @@ use Rattle.std.specs.Prelude.{◌&&◌, Bool, IsTrue, true, false}
 use Rattle.std.proofs.Common.{ℤ, refl, arith, to_z, of_z, w32}
 use Rattle.std.proofs.lemmas.Int.{ints}
 use lib.Signed.{le_z}
-use Rattle.ics_values.specs.Days.{IsDayNumber}
+use Rattle.ics_fields.specs.Days.{IsDayNumber}
 use Rattle.ics_series.proofs.occurrence_days.is_on.Goals as goal
 
 left : (a b : Bool) → IsTrue (a && b) → IsTrue a

@@ -3,7 +3,7 @@ use Rattle.std.specs.Prelude.{◌==◌, int_lt}
 use Rattle.std.proofs.lemmas.Int.{ints}
 use mir.Val.{SFits}
 use Rattle.ics_rule.specs.Kept.{until_moment}
-use Rattle.ics_values.specs.Locals.{number}
+use Rattle.ics_fields.specs.Locals.{number}
 use Rattle.ics_zone.specs.Observances.{is_until}
 use Rattle.ics_series.proofs.RuleLocalLemmas.{local-test}
 use Rattle.ics_series.proofs.rule_starts.is_let_through.Goals as goal

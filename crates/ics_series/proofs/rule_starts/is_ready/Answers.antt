@@ -3,8 +3,8 @@ use Rattle.std.proofs.Common.{◌≡◌, ℤ, pos, ◌-ℤ◌, ◌<◌, List, []
 use Rattle.std.proofs.lemmas.Int.{ints}
 use mir.Val.{SFits}
 use Rattle.ics_series.specs.declared.start.Start.{Start}
-use Rattle.ics_values.specs.declared.local.Local.{Local}
-use Rattle.ics_values.specs.Locals.{local_seconds, midnight}
+use Rattle.ics_fields.specs.declared.local.Local.{Local}
+use Rattle.ics_fields.specs.Locals.{local_seconds, midnight}
 use Rattle.ics_series.specs.RuleStarts.{is_ready}
 use Rattle.ics_series.proofs.rule_starts.is_ready.Goals as goal
 

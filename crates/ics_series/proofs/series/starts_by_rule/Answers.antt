@@ -3,10 +3,10 @@ use Rattle.std.specs.Int.{int_max, int_min}
 use Rattle.std.proofs.lemmas.Int.{int_max_is, int_min_is, ints}
 use denote.Ref.{Bor}
 use mir.Val.{SFits}
-use Rattle.ics_values.specs.Days.{IsDayNumber}
-use Rattle.ics_values.specs.declared.local.Local.{Local}
+use Rattle.ics_fields.specs.Days.{IsDayNumber}
+use Rattle.ics_fields.specs.declared.local.Local.{Local}
 use Rattle.ics_calendar.specs.declared.event.Event.{Event}
-use Rattle.ics_values.specs.Locals.{local_seconds, whole_days}
+use Rattle.ics_fields.specs.Locals.{local_seconds, whole_days}
 use Rattle.ics_series.specs.Found.{earliest}
 use Rattle.ics_series.specs.SeriesStarts.{first_asked}
 use Rattle.ics_series.specs.Starts.{local_of}

@@ -1,7 +1,7 @@
 use Rattle.std.proofs.Common.{◌≡◌, subst}
 use Rattle.std.specs.Prelude.{not}
 use Rattle.ics_values.specs.declared.part_name.PartName.TheVariants as part
-use Rattle.ics_values.specs.RuleParts.{RuleParts}
+use Rattle.ics_fields.specs.RuleParts.{RuleParts}
 use Rattle.ics_values.specs.RuleTexts.{has_part, parts_of}
 use Rattle.ics_values.specs.RuleLaws.{lists_nothing}
 use Rattle.ics_values.proofs.RuleSays.{of_rule}

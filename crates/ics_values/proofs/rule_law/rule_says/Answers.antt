@@ -1,5 +1,5 @@
 use Rattle.std.proofs.Common.{subst}
-use Rattle.ics_values.specs.RuleParts.{RuleParts}
+use Rattle.ics_fields.specs.RuleParts.{RuleParts}
 use Rattle.ics_values.specs.RuleTexts.{parts_of}
 use Rattle.ics_values.specs.RuleLaws.{Says}
 use Rattle.ics_values.proofs.RuleSays.{says, of_rule}

@@ -1,8 +1,8 @@
 use Rattle.std.proofs.Common.{◌≡◌, ◌≤◌, Bool, true, false, ◌&&◌, nat_le, Some, None, cond, ap, sym, subst, ◌∙◌, arith}
 use Rattle.std.proofs.lemmas.Bool.{le-leb}
-use Rattle.ics_values.specs.declared.until.Until.{Until}
+use Rattle.ics_fields.specs.declared.until.Until.{Until}
 use Rattle.ics_values.specs.Stamps.{is_stamp_text, year_of}
-use Rattle.ics_values.specs.RuleParts.{IsUntil}
+use Rattle.ics_fields.specs.RuleParts.{IsUntil}
 use Rattle.ics_values.specs.RuleTexts.{until_said}
 use Rattle.ics_values.proofs.StampLemmas.{until_in}
 use Rattle.ics_values.proofs.rule_value.read_until.Goals as goal

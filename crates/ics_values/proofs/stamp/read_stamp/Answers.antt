@@ -1,6 +1,7 @@
 use Rattle.std.proofs.Common.{◌≡◌, ◌≤◌, true, rules, sym, ap, ◌∙◌, subst, arith}
 use Rattle.ics_values.specs.Digits.{number_at}
-use Rattle.ics_values.specs.Stamps.{year_of, is_stamp_year, stamp_day, IsDayOf, IsStampDay}
+use Rattle.ics_values.specs.Stamps.{year_of, is_stamp_year, stamp_day, IsDayOf}
+use Rattle.ics_fields.specs.Days.{IsStampDay}
 use Rattle.ics_values.proofs.StampLemmas.{stamp_day-said, date_of-stamp, is_its_day, day_number_range, stamp_years}
 use Rattle.ics_values.proofs.stamp.read_stamp.Goals as goal
 

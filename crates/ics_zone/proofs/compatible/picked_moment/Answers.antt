@@ -5,7 +5,7 @@ use Rattle.jiff.proofs.SpanFacts.{signed_arith}
 use Rattle.jiff_core.specs.declared.civil.datetime.DateTime.{DateTime}
 use Rattle.jiff_tz.specs.declared.timezone.TimeZone.{TimeZone}
 use Rattle.ics_zone.specs.Displays.{moment_of}
-use Rattle.ics_values.specs.Locals.{seconds_at}
+use Rattle.ics_fields.specs.Locals.{seconds_at}
 use Rattle.ics_zone.proofs.Readings.{reading_is}
 use Rattle.ics_zone.proofs.compatible.picked_moment.Goals as goal
 

@@ -1,5 +1,5 @@
 use Rattle.std.proofs.Common.{arith, ◌∙◌, ap}
-use Rattle.ics_values.specs.Sets.{contains}
+use Rattle.ics_fields.specs.Sets.{contains}
 use Rattle.ics_zone.proofs.SixtyLemmas.{contains-none, all_inside, first_place}
 use Rattle.ics_zone.proofs.sixty.first_outside.Goals as goal
 

@@ -1,6 +1,6 @@
 use Rattle.std.proofs.Common.{ap, ◌∙◌, ◌%◌, arith}
 use Rattle.std.proofs.lemmas.Nat.{one_shl, pow_pos}
-use Rattle.ics_values.specs.Sets.{contains}
+use Rattle.ics_fields.specs.Sets.{contains}
 use Rattle.ics_zone.proofs.SixtyLemmas.{contains-first}
 use Rattle.ics_zone.proofs.sixty.front.Goals as goal
 

@@ -1,6 +1,6 @@
 use Rattle.std.proofs.Common.{ap, sym, ◌∙◌, ◌&&◌, ◌≡◌, true, false, nat_lt, arith}
 use Rattle.std.proofs.lemmas.Bool.{lt-ltb, and_parts}
-use Rattle.ics_values.specs.Sets.{contains}
+use Rattle.ics_fields.specs.Sets.{contains}
 use Rattle.ics_zone.proofs.SixtyLemmas.{word_more, word_same}
 use Rattle.ics_zone.proofs.sixty.word_of.Goals as goal
 use Rattle.ics_zone.proofs.sixty.word_of.Goals.{then-contains, else-contains}

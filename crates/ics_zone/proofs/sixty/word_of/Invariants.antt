@@ -1,5 +1,5 @@
 use Rattle.std.proofs.Common.{◌≡◌, ℕ, ◌&&◌, nat_lt}
-use Rattle.ics_values.specs.Sets.{contains}
+use Rattle.ics_fields.specs.Sets.{contains}
 use Rattle.ics_zone.proofs.sixty.word_of.Given as goal
 
 abbrev pub invariant-loop-n : goal.invariant-loop-n

@@ -1,6 +1,6 @@
 use Rattle.std.proofs.Common.{◌∷◌, [], w32}
 use Rattle.std.proofs.Math.Facts.{to_z-of_z}
-use Rattle.ics_values.specs.Locals.{local_seconds}
+use Rattle.ics_fields.specs.Locals.{local_seconds}
 use Rattle.khal_list.specs.Text.{finish_text, start_text}
 use Rattle.khal_list.proofs.AddedLemmas.{two_added}
 use Rattle.khal_list.proofs.cell.add_times.Goals as goal

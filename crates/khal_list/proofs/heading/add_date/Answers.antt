@@ -5,8 +5,8 @@ use Rattle.jiff.proofs.SpanFacts.{signed_arith}
 use Rattle.jiff.specs.Words as jiff
 use Rattle.jiff_core.specs.Date.{epoch_day}
 use Rattle.jiff_core.specs.declared.civil.date.Date.{Date}
-use Rattle.ics_values.specs.Days.{IsDayNumber}
-use Rattle.ics_values.proofs.DayLemmas.{fields, year_is}
+use Rattle.ics_fields.specs.Days.{IsDayNumber}
+use Rattle.ics_fields.proofs.DayLemmas.{fields, year_is}
 use Rattle.khal_list.specs.Text.{date_text}
 use Rattle.khal_list.proofs.heading.add_date.Goals as goal
 

@@ -2,7 +2,7 @@ use Rattle.std.proofs.Common.{◌≤ℤ◌, ◌<ℤ◌, ◌+ℤ◌, ℤ, arith, 
 use Rattle.std.proofs.lemmas.Int.{to_z-of_z}
 use Rattle.jiff.proofs.SpanFacts.{signed_arith}
 use Rattle.ics_zone.specs.Displays.{moment_of}
-use Rattle.ics_values.specs.Locals.{local_seconds, whole_days}
+use Rattle.ics_fields.specs.Locals.{local_seconds, whole_days}
 use Rattle.ics_zone.specs.JiffZones.{zone_of}
 use Rattle.khal_list.specs.Windows.{first_start, last_end}
 use Rattle.khal_list.proofs.WindowLemmas.{between-apart, between-falling, between-rising}

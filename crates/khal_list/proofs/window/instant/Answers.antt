@@ -2,7 +2,7 @@ use Rattle.std.proofs.Common.{◌-ℤ◌, arith}
 use Rattle.jiff.proofs.SpanFacts.{signed_arith}
 use Rattle.ics_zone.specs.Near.{moment_near}
 use Rattle.ics_zone.specs.Seconds.{IsNear}
-use Rattle.ics_values.specs.Locals.{local_seconds}
+use Rattle.ics_fields.specs.Locals.{local_seconds}
 use Rattle.ics_zone.specs.JiffZones.{zone_of}
 use Rattle.khal_list.proofs.window.instant.Goals as goal
 

@@ -4,7 +4,7 @@ use Rattle.jiff.proofs.SpanFacts.{signed_arith}
 use Rattle.jiff_core.specs.Calendar.{IsEpochDay}
 use Rattle.ics_zone.specs.Displays.{offset_of}
 use Rattle.ics_zone.specs.Near.{offset_near}
-use Rattle.ics_values.specs.Locals.{seconds_at}
+use Rattle.ics_fields.specs.Locals.{seconds_at}
 use Rattle.ics_zone.specs.JiffZones.{zone_of}
 use Rattle.khal_list.proofs.window.today.Goals as goal
 

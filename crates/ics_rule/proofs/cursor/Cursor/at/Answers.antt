@@ -1,4 +1,4 @@
-use Rattle.ics_values.specs.Locals.{number}
+use Rattle.ics_fields.specs.Locals.{number}
 use Rattle.ics_rule.specs.EffectiveRules.{effective}
 use Rattle.ics_rule.specs.Cursors.{IsCursorOf, HasLooked}
 use Rattle.ics_rule.proofs.CursorLemmas.{cursor_begins, looked_none}

@@ -1,5 +1,5 @@
 use Rattle.std.proofs.Common.{◌∙◌, ap}
-use Rattle.ics_values.specs.Ordinals.{lists_none_wide}
+use Rattle.ics_fields.specs.Ordinals.{lists_none_wide}
 use Rattle.ics_rule.specs.declared.cursor.Cursor.{Cursor}
 use Rattle.ics_rule.specs.RecurrencePeriods.{is_taken}
 use Rattle.ics_rule.specs.Searches.{is_chosen_within, after_look}

@@ -1,5 +1,5 @@
 use Rattle.std.proofs.Common.{◌∙◌, ◌&&◌, nat_lt, ap, arith}
-use Rattle.ics_values.specs.Sets.{contains}
+use Rattle.ics_fields.specs.Sets.{contains}
 use Rattle.ics_rule.specs.NamedWeekdays.{names_weekday}
 use Rattle.ics_rule.proofs.PartLemmas.{is_named}
 use Rattle.ics_rule.proofs.part.WeekdaysPart.named.Goals as goal

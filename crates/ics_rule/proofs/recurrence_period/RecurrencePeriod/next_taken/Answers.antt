@@ -1,11 +1,11 @@
 use Rattle.std.proofs.Common.{◌≡◌, ◌∙◌, ℕ, ◌≤◌, sym, ap, subst, true, false, arith}
-use Rattle.ics_values.specs.Sets.{IsNextIn, IsLeastFrom}
-use Rattle.ics_values.specs.Ordinals.{lists_none_wide}
+use Rattle.ics_fields.specs.Sets.{IsNextIn, IsLeastFrom}
+use Rattle.ics_fields.specs.Ordinals.{lists_none_wide}
 use Rattle.ics_rule.specs.Kept.{count}
 use Rattle.ics_rule.specs.RecurrencePeriods.{holds, is_listed, is_taken}
 use Rattle.ics_rule.proofs.ProductCounts.{holds_past, next_small}
 use Rattle.ics_rule.proofs.RankLemmas.{next_ranked, none_ranked}
-use Rattle.ics_values.specs.Locals.{calendar_end}
+use Rattle.ics_fields.specs.Locals.{calendar_end}
 use Rattle.ics_rule.proofs.recurrence_period.RecurrencePeriod.next_taken.Goals as goal
 
 pub returns-then-is_empty-clause-next : goal.returns-then-is_empty-clause-next

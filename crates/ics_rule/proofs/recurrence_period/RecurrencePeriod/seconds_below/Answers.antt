@@ -1,5 +1,5 @@
 use Rattle.std.proofs.Common.{◌∙◌, ◌/◌, arith}
-use Rattle.ics_values.specs.Sets.{contains}
+use Rattle.ics_fields.specs.Sets.{contains}
 use Rattle.ics_rule.specs.RecurrencePeriods.{has_minute}
 use Rattle.ics_rule.proofs.ScanLemmas.{minute_true}
 use Rattle.ics_rule.proofs.ProductCounts.{count_taken, count_left}

@@ -1,5 +1,5 @@
 use Rattle.std.proofs.Common.{◌∙◌, arith}
-use Rattle.ics_values.specs.Sets.{contains_wide}
+use Rattle.ics_fields.specs.Sets.{contains_wide}
 use Rattle.ics_rule.proofs.RunLemmas.{weekday_first, weekday_added, weekday_done}
 use Rattle.ics_rule.proofs.runs.Run.add_each.Goals as goal
 

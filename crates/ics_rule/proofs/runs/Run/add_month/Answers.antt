@@ -1,5 +1,5 @@
 use Rattle.std.proofs.Common.{◌∙◌, ◌+◌, ◌-◌, ◌&&◌, ◌||◌, if◌then◌else◌, ap, sym}
-use Rattle.ics_values.specs.Sets.{contains_wide}
+use Rattle.ics_fields.specs.Sets.{contains_wide}
 use Rattle.ics_rule.specs.Candidates.{lists}
 use Rattle.ics_rule.specs.Runs.{has_run, weekday_in, lists_weekday}
 use Rattle.ics_rule.proofs.runs.Run.add_month.Goals as goal

@@ -1,5 +1,5 @@
 use Rattle.std.proofs.Common.{◌∙◌, ◌≤◌, sym, arith}
-use Rattle.ics_values.specs.Sets.{contains, contains_wide}
+use Rattle.ics_fields.specs.Sets.{contains, contains_wide}
 use Rattle.ics_rule.specs.Candidates.{lists}
 use Rattle.ics_rule.proofs.RunLemmas.{day_none, day_added, day_done, listed_within}
 use Rattle.ics_rule.proofs.runs.Run.add_month_days.Goals as goal

@@ -1,5 +1,5 @@
 use Rattle.std.proofs.Common.{◌≡◌, ℕ, ◌≤◌, ◌+◌, ◌-◌, ◌/◌, ◌&&◌, ◌||◌, ◌==◌, nat_lt}
-use Rattle.ics_values.specs.Sets.{contains, contains_wide}
+use Rattle.ics_fields.specs.Sets.{contains, contains_wide}
 use Rattle.ics_rule.specs.Runs.{has_run, weekday_in}
 use Rattle.ics_rule.proofs.runs.Run.add_numbered.Given as goal
 

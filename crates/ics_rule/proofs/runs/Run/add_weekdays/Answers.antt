@@ -1,7 +1,7 @@
 use Rattle.std.proofs.Common.{ℕ, Bool, ◌∙◌, ◌+◌, ◌-◌, ◌<◌, ◌==◌, ◌&&◌, ◌||◌, ap, sym, arith}
 use Rattle.std.proofs.Math.Nat.{mod-lt}
-use Rattle.ics_values.specs.declared.ordinals.Weekdays.{Weekdays}
-use Rattle.ics_values.specs.Sets.{contains, contains_wide}
+use Rattle.ics_fields.specs.declared.ordinals.Weekdays.{Weekdays}
+use Rattle.ics_fields.specs.Sets.{contains, contains_wide}
 use Rattle.ics_rule.specs.NamedWeekdays.{names_weekday}
 use Rattle.ics_rule.specs.Runs.{has_run, weekday_in, lists_weekday}
 use Rattle.ics_rule.proofs.DateLemmas.{in_week}

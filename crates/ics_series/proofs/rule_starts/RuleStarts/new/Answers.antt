@@ -1,8 +1,8 @@
 use Rattle.std.proofs.Common.{◌≡◌, w32, to_z, of_z, sym, ap, subst, arith}
 use Rattle.std.proofs.lemmas.Int.{int_min_is, ints}
-use Rattle.ics_values.specs.declared.local.Local.{Local}
+use Rattle.ics_fields.specs.declared.local.Local.{Local}
 use Rattle.ics_rule.specs.Cursors.{place_of}
-use Rattle.ics_values.specs.Locals.{number}
+use Rattle.ics_fields.specs.Locals.{number}
 use Rattle.ics_series.specs.Found.{moment_cmp}
 use Rattle.ics_series.specs.Listing.{IsIn}
 use Rattle.ics_series.specs.Rising.{Rises}

@@ -1,9 +1,9 @@
 use Rattle.std.proofs.Common.{◌≡◌, ◌≤◌, ◌+ℤ◌, pos, w32, to_z, of_z, sym, ap, subst, arith, rules, max}
 use Rattle.std.proofs.lemmas.Int.{ints}
-use Rattle.ics_values.specs.Days.{IsDayNumber}
-use Rattle.ics_values.specs.declared.local.Local.{Local}
+use Rattle.ics_fields.specs.Days.{IsDayNumber}
+use Rattle.ics_fields.specs.declared.local.Local.{Local}
 use Rattle.ics_rule.specs.Cursors.{place_of}
-use Rattle.ics_values.specs.Locals.{number}
+use Rattle.ics_fields.specs.Locals.{number}
 use Rattle.ics_rule.specs.Next.{NoneKept, IsNextKept}
 use Rattle.ics_series.specs.Found.{moment_cmp}
 use Rattle.ics_series.specs.Rising.{Rises}

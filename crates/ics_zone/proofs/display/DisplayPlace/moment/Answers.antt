@@ -2,7 +2,7 @@ use Rattle.std.proofs.Common.{rules, subst, w64}
 use Rattle.std.specs.Prelude.{FitsSigned}
 use Rattle.std.proofs.lemmas.Int.{to_z-of_z}
 use Rattle.ics_zone.specs.Displays.{IsCompatible}
-use Rattle.ics_values.specs.Locals.{seconds_at}
+use Rattle.ics_fields.specs.Locals.{seconds_at}
 use Rattle.ics_zone.proofs.display.DisplayPlace.moment.Goals as goal
 
 pub returns-clause-picked : goal.returns-clause-picked

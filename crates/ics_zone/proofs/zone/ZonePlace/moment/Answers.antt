@@ -1,7 +1,7 @@
 use Rattle.std.proofs.Common.{rules, ◌≡◌, sym, ◌∙◌, SFits, w64}
 use Rattle.std.proofs.lemmas.Int.{to_z-of_z}
 use Rattle.jiff.specs.Words.{plain_zone}
-use Rattle.ics_values.specs.Locals.{seconds_at}
+use Rattle.ics_fields.specs.Locals.{seconds_at}
 use Rattle.ics_zone.specs.declared.zone.ZoneKind.TheVariants.{ByFile}
 use Rattle.ics_zone.proofs.TableLemmas.{table_read}
 use Rattle.ics_zone.proofs.zone.ZonePlace.moment.Goals as goal

@@ -1,0 +1,5 @@
+pub mod DayLemmas
+pub mod LocalLemmas
+pub mod SetLemmas
+pub mod PlaceLemmas
+pub mod Examples

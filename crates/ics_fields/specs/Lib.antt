@@ -1,0 +1,6 @@
+pub mod Days
+pub mod Fields
+pub mod Locals
+pub mod Sets
+pub mod Ordinals
+pub mod RuleParts
