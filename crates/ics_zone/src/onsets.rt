@@ -9,8 +9,8 @@ ghost use Rattle.ics_zone.specs.OnsetSets.{IsShownTo, IsKeptAt, Has, IsSound, Ar
 use crate::Observance;
 use crate::clock::{instant, number, shown_by};
 use crate::kept::{last_between, last_kept, next_kept};
-use ics_rule::{Kind, Rule};
 use ics_fields::{BitSet, Frequency, Moment};
+use ics_rule::{Kind, Rule};
 use std::alloc::{AllocError, Global};
 
 const DAY: u64 = 86_400;

@@ -5,8 +5,8 @@ ghost use Rattle.ics_rule.specs.PeriodNumbers.{minute_of, second_of};
 ghost use Rattle.ics_zone.specs.Hours.{keeps_time};
 
 use crate::sixty::word_of;
-use ics_rule::HourTimes;
 use ics_fields::BitSet;
+use ics_rule::HourTimes;
 
 /// Each of some minutes of an hour, with each of some seconds.
 #[derive(Clone, Copy)]
