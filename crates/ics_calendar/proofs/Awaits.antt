@@ -29,7 +29,7 @@ use Rattle.ics_calendar.specs.Builders.{event_ended, fresh}
 use Rattle.ics_calendar.specs.Components.{component_of, context_in}
 use Rattle.ics_calendar.specs.DateLists.{zone_listed, rdate_list, exdate_list}
 use Rattle.ics_calendar.specs.DateValues.{has_zoned}
-use Rattle.ics_calendar.specs.Event.{is_zoned}
+use Rattle.ics_event.specs.Event.{is_zoned}
 use Rattle.ics_fields.specs.Locals.{local_seconds}
 use Rattle.ics_calendar.specs.Gathered.{IsSoundInstant, IsSoundCheck, checks_of, events_of_end}
 use Rattle.ics_calendar.specs.DeferredChecks.{zone_used, are_of_one_zone}

@@ -5,11 +5,11 @@ use Rattle.ics_fields.specs.Locals.{local_at}
 use Rattle.ics_values.specs.declared.stamp.Stamp.{Stamp}
 use Rattle.ics_values.specs.declared.stamp.Stamp.TheVariants.{Date, Floating, Utc, Zoned}
 use Rattle.ics_calendar.specs.declared.fault.FaultKind.TheVariants.{BadStamp, Repeated, UnknownZone}
-use Rattle.ics_calendar.specs.declared.time.Length.TheVariants.{Until, Lasting}
-use Rattle.ics_calendar.specs.declared.time.Rdate.{Rdate}
-use Rattle.ics_calendar.specs.declared.time.Rdate.TheVariants.{At, Span}
-use Rattle.ics_calendar.specs.declared.time.Time.{Time}
-use Rattle.ics_calendar.specs.Event.{EventSeen}
+use Rattle.ics_event.specs.declared.time.Length.TheVariants.{Until, Lasting}
+use Rattle.ics_event.specs.declared.time.Rdate.{Rdate}
+use Rattle.ics_event.specs.declared.time.Rdate.TheVariants.{At, Span}
+use Rattle.ics_event.specs.declared.time.Time.{Time}
+use Rattle.ics_event.specs.Event.{EventSeen}
 use Rattle.ics_calendar.proofs.ExampleFiles.{calendar, events, zone, fault, at}
 
 abbrev event : List (List ℕ) → List (List ℕ)

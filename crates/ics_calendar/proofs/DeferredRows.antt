@@ -12,9 +12,9 @@ use Rattle.ics_zone.proofs.MomentLemmas.{moment_unique, moment_found}
 use Rattle.ics_zone.proofs.OnsetLemmas.{offset_found}
 use Rattle.ics_zone.specs.ZoneSaid.{ZoneSaid}
 use Rattle.ics_calendar.specs.declared.fault.FaultKind.TheVariants.{BadEnd, UnknownZone}
-use Rattle.ics_calendar.specs.declared.time.Length.{Length}
-use Rattle.ics_calendar.specs.declared.time.Length.TheVariants.{Until}
-use Rattle.ics_calendar.specs.Event.{EventSeen}
+use Rattle.ics_event.specs.declared.time.Length.{Length}
+use Rattle.ics_event.specs.declared.time.Length.TheVariants.{Until}
+use Rattle.ics_event.specs.Event.{EventSeen}
 use Rattle.ics_calendar.proofs.ExampleFiles.{calendar, events, zone, fault, at}
 use Rattle.ics_calendar.specs.declared.deferred_check.Instant.TheVariants.{Utc, Zoned}
 use Rattle.ics_calendar.specs.declared.deferred_check.DeferredCheck.TheVariants.{Ends}

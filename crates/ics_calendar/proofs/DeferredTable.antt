@@ -25,7 +25,7 @@ use Rattle.ics_calendar.specs.declared.name.Name.{Name}
 use Rattle.ics_calendar.specs.declared.name.Name.TheVariants as name
 use Rattle.ics_calendar.specs.Components.{component_of, is_event_context}
 use Rattle.ics_calendar.specs.DateValues.{has_zoned, listed_in}
-use Rattle.ics_calendar.specs.Event.{is_zoned}
+use Rattle.ics_event.specs.Event.{is_zoned}
 use Rattle.ics_fields.specs.Locals.{local_seconds}
 use Rattle.ics_calendar.specs.Names.{name_of}
 use Rattle.ics_calendar.specs.PlacedLines.{Placed, Open, context_of, closes}

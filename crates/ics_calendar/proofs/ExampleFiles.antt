@@ -3,7 +3,7 @@ use Rattle.std.proofs.Common.{ℕ, List, [], ◌∷◌, ◌++◌, Option, Some, 
 use Rattle.std.specs.Prelude.{codes}
 use Rattle.std.specs.List.{flat_map}
 use Rattle.ics_calendar.specs.declared.fault.FaultKind.{FaultKind}
-use Rattle.ics_calendar.specs.Event.{EventSeen, FileSaid}
+use Rattle.ics_event.specs.Event.{EventSeen, FileSaid}
 use Rattle.ics_calendar.specs.FirstFault.{Fault}
 use Rattle.ics_calendar.specs.Files.{file_of, events_of}
 use Rattle.ics_calendar.specs.GivenFiles.{no_files}

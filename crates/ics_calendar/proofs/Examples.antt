@@ -8,7 +8,7 @@ use Rattle.ics_fields.specs.declared.frequency.Frequency.TheVariants.{Daily}
 use Rattle.ics_values.specs.declared.stamp.Stamp.TheVariants.{Utc}
 use Rattle.ics_calendar.specs.declared.fault.FaultKind.TheVariants.{BadFold, BadLine, BadNesting, BadStamp, NotCalendar, OldVersion, Repeated, TooDeep}
 use Rattle.ics_calendar.specs.declared.fault.FaultKind.TheVariants.{UnknownZone}
-use Rattle.ics_calendar.specs.declared.time.Length.TheVariants.{Until}
+use Rattle.ics_event.specs.declared.time.Length.TheVariants.{Until}
 use Rattle.ics_calendar.specs.Files.{file_of}
 use Rattle.ics_calendar.specs.GivenFiles.{no_files}
 use Rattle.ics_calendar.proofs.ExampleFiles.{text, calendar, event, events, fault, at}

@@ -31,7 +31,7 @@ use Rattle.ics_calendar.specs.Values.{allowed, is_lasting, lasting_of}
 use Rattle.ics_calendar.specs.declared.fault.FaultKind.{FaultKind}
 use Rattle.ics_calendar.specs.declared.fault.FaultKind.TheVariants.{BadZoneFile, BadNesting, NotCalendar}
 use Rattle.ics_calendar.specs.DeferredChecks.{KnownZones}
-use Rattle.ics_calendar.specs.Event.{FileSaid}
+use Rattle.ics_event.specs.Event.{FileSaid}
 use Rattle.ics_calendar.specs.GivenFiles.{GivenFiles, no_files}
 use Rattle.ics_calendar.specs.Wanted.{each_once, unknown_names, zones_with}
 use Rattle.ics_calendar.specs.Zones.{zones_on}

@@ -15,7 +15,7 @@ use Rattle.ics_calendar.specs.declared.deferred_check.DeferredCheck.{DeferredChe
 use Rattle.ics_calendar.specs.declared.deferred_check.ZoneName.{ZoneName}
 use Rattle.ics_calendar.specs.Gathered.{event_of}
 use Rattle.ics_calendar.specs.Components.{is_calendar_context}
-use Rattle.ics_calendar.specs.Event.{EventSeen}
+use Rattle.ics_event.specs.Event.{EventSeen}
 use Rattle.ics_calendar.specs.Faults.{stands, stands_later, is_in_unknown_zone, kinds, tzid_on}
 use Rattle.ics_calendar.specs.Files.{DraftSaid, event_by, begins_event, said_of, decide}
 use Rattle.ics_calendar.specs.FirstFault.{found, least_on, first_from, first_fault, later_fault, fault_at_end}

@@ -11,7 +11,7 @@ use Rattle.ics_fields.specs.declared.local.Local.{Local}
 use Rattle.ics_calendar.specs.declared.gathered.LineCheck.{LineCheck}
 use Rattle.ics_calendar.specs.declared.deferred_check.DeferredCheck.{DeferredCheck}
 use Rattle.ics_calendar.specs.Gathered.{event_of}
-use Rattle.ics_calendar.specs.Event.{AreEventsOf}
+use Rattle.ics_event.specs.Event.{AreEventsOf}
 use Rattle.ics_fields.specs.Locals.{local_seconds}
 use Rattle.ics_calendar.specs.Gathered.{known_in, first_judged, IsSoundGathered}
 use Rattle.ics_calendar.specs.GatheredSeen.{GatheredSeen}

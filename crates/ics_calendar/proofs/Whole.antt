@@ -6,7 +6,7 @@ use Rattle.ics_text.specs.Unfolded.{Line, Rises, Within, unfolded, begins_with_f
 use Rattle.ics_calendar.specs.declared.fault.FileFault.{FileFault}
 use Rattle.ics_calendar.specs.declared.fault.FileFault.TheVariants.{Memory, At}
 use Rattle.ics_calendar.specs.Drafts.{IsFaultOf}
-use Rattle.ics_calendar.specs.Event.{FileSaid}
+use Rattle.ics_event.specs.Event.{FileSaid}
 use Rattle.ics_calendar.specs.Faults.{stands, stands_later}
 use Rattle.ics_calendar.specs.GivenFiles.{GivenFiles}
 use Rattle.ics_calendar.specs.FirstFault.{Fault, IsFirst, IsFirstOrLast, NoneStand, first_fault, later_fault, fault_at_end}

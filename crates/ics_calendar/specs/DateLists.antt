@@ -5,13 +5,13 @@ use Rattle.ics_calendar.specs.declared.date_list.DateList.{DateList}
 use Rattle.ics_calendar.specs.declared.date_list.ListedDate.{ListedDate}
 use Rattle.ics_calendar.specs.declared.date_list.ListedDate.TheVariants as listed
 use Rattle.ics_calendar.specs.declared.deferred_check.ZoneName.{ZoneName}
-use Rattle.ics_calendar.specs.declared.time.Length.TheVariants.{Until, Lasting}
-use Rattle.ics_calendar.specs.declared.time.Rdate.{Rdate}
-use Rattle.ics_calendar.specs.declared.time.Rdate.TheVariants.{At, Span}
-use Rattle.ics_calendar.specs.declared.time.Time.{Time}
+use Rattle.ics_event.specs.declared.time.Length.TheVariants.{Until, Lasting}
+use Rattle.ics_event.specs.declared.time.Rdate.{Rdate}
+use Rattle.ics_event.specs.declared.time.Rdate.TheVariants.{At, Span}
+use Rattle.ics_event.specs.declared.time.Time.{Time}
 use Rattle.ics_calendar.specs.DateValues.{rdates_of, exdates_of, listed_in}
 use Rattle.ics_calendar.specs.DeferredChecks.{zone_named}
-use Rattle.ics_calendar.specs.Times.{time_in}
+use Rattle.ics_event.specs.Event.{time_in}
 use Rattle.ics_calendar.specs.Values.{zone_name}
 
 -- the values of a line with these parameters and this value, and the name in its TZID

@@ -16,7 +16,7 @@ use Rattle.ics_calendar.specs.declared.date_values.DateValue.{DateValue}
 use Rattle.ics_calendar.specs.declared.date_values.DateValue.TheVariants.{At, Between, Lasting}
 use Rattle.ics_calendar.specs.declared.date_list.ListedDate.{ListedDate}
 use Rattle.ics_calendar.specs.declared.date_list.ListedDate.TheVariants as listed
-use Rattle.ics_calendar.specs.Event.{is_zoned}
+use Rattle.ics_event.specs.Event.{is_zoned}
 use Rattle.ics_calendar.specs.Values.{stamp_in, duration_in, is_bad_stamp, is_far_stamp, lasting_of, is_bad_duration, is_large_duration}
 
 -- a half of a PERIOD that is a stamp: no DATE

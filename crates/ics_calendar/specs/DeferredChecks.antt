@@ -17,7 +17,7 @@ use Rattle.ics_calendar.specs.declared.deferred_check.Instant.TheVariants as ins
 use Rattle.ics_calendar.specs.declared.deferred_check.DeferredCheck.{DeferredCheck}
 use Rattle.ics_calendar.specs.declared.deferred_check.DeferredCheck.TheVariants as check
 use Rattle.ics_calendar.specs.declared.deferred_check.ZoneName.{ZoneName}
-use Rattle.ics_calendar.specs.Event.{is_zoned}
+use Rattle.ics_event.specs.Event.{is_zoned}
 use Rattle.ics_fields.specs.Locals.{local_seconds}
 use Rattle.ics_calendar.specs.GivenFiles.{GivenFiles, given_names, given_zones, bad_names}
 use Rattle.ics_calendar.specs.Values.{same_zone, is_out}

@@ -29,7 +29,7 @@ use Rattle.ics_calendar.specs.PlacedLines.{in_calendar, in_event, in_observance,
 use Rattle.ics_calendar.specs.PlacedLines.{has_all, first_named}
 use Rattle.ics_calendar.specs.DeferredChecks.{KnownZones, zone_named, ends_badly_later}
 use Rattle.ics_calendar.specs.DateLists.{rdate_list, exdate_list}
-use Rattle.ics_calendar.specs.Event.{is_zoned}
+use Rattle.ics_event.specs.Event.{is_zoned}
 use Rattle.ics_calendar.specs.DateValues.{rdates_of, exdates_of, listed_in, has_bad_stamp, has_far_stamp, has_bad_duration, has_large_duration, has_zoned}
 use Rattle.ics_calendar.specs.DateValues.{is_not_local}
 use Rattle.ics_calendar.specs.Values.{zone_name, stamp_read, duration_in, rule_in, dated_of, is_bad_stamp, is_far_stamp, lasting_of, is_bad_duration}

@@ -6,7 +6,7 @@ use Rattle.ics_values.specs.Integers.{integer_of}
 use Rattle.ics_calendar.specs.declared.fault.FaultKind.TheVariants.{BadFold}
 use Rattle.ics_calendar.specs.declared.deferred_check.ZoneName.{ZoneName}
 use Rattle.ics_calendar.specs.DateLists.{rdates_by, exdates_by}
-use Rattle.ics_calendar.specs.Event.{EventSeen, FileSaid, FileSeen, said_by}
+use Rattle.ics_event.specs.Event.{EventSeen, FileSaid, FileSeen, said_by}
 use Rattle.ics_calendar.specs.DeferredChecks.{KnownZones}
 use Rattle.ics_calendar.specs.GivenFiles.{GivenFiles}
 use Rattle.ics_calendar.specs.Wanted.{each_once, unknown_names, zones_with}

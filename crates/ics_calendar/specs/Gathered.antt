@@ -14,7 +14,7 @@ use Rattle.ics_calendar.specs.declared.gathered.EndedZone.{EndedZone}
 use Rattle.ics_calendar.specs.declared.gathered.LineCheck.{LineCheck}
 use Rattle.ics_calendar.specs.declared.gathered.Passed.{Passed}
 use Rattle.ics_calendar.specs.GatheredSeen.{GatheredSeen}
-use Rattle.ics_calendar.specs.Event.{FileSaid}
+use Rattle.ics_event.specs.Event.{FileSaid}
 use Rattle.ics_calendar.specs.Files.{DraftSaid, decide}
 use Rattle.ics_calendar.specs.FirstFault.{Fault, found}
 use Rattle.ics_calendar.specs.declared.deferred_check.ZoneName.{ZoneName}
@@ -22,7 +22,7 @@ use Rattle.ics_calendar.specs.DeferredChecks.{KnownZones, known_zones, with_file
 use Rattle.ics_calendar.specs.Sound.{EachZone, IsWhole, IsSoundZone}
 use Rattle.ics_calendar.specs.Wanted.{each_once}
 use Rattle.ics_calendar.specs.DateLists.{rdates_by, exdates_by}
-use Rattle.ics_calendar.specs.Event.{EventSeen}
+use Rattle.ics_event.specs.Event.{EventSeen}
 use Rattle.ics_calendar.specs.Times.{time_on, length_of}
 use Rattle.std.specs.Prelude.{option_map}
 

@@ -1,4 +1,4 @@
-pub mod Event
+pub use Rattle.ics_event.specs.Event
 pub mod FaultNames
 pub mod Names
 pub mod Components

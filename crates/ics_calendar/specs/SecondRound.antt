@@ -13,7 +13,7 @@ use Rattle.ics_calendar.specs.declared.deferred_check.DeferredCheck.TheVariants 
 use Rattle.ics_calendar.specs.declared.deferred_check.ZoneName.{ZoneName}
 use Rattle.ics_calendar.specs.DateLists.{zone_listed}
 use Rattle.ics_calendar.specs.DateValues.{has_zoned}
-use Rattle.ics_calendar.specs.Event.{is_zoned}
+use Rattle.ics_event.specs.Event.{is_zoned}
 use Rattle.ics_fields.specs.Locals.{local_seconds}
 use Rattle.ics_calendar.specs.DeferredChecks.{zone_used, are_of_one_zone}
 use Rattle.ics_calendar.specs.Values.{is_out}

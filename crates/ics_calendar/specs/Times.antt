@@ -1,21 +1,16 @@
 -- The times of an event and how long it lasts (RFC 5545, sections 3.6.1 and 3.8.2).
-use Rattle.std.specs.Prelude.{ℕ, unwrap_or, Option, Some, None, pos, if◌then◌else◌}
+use Rattle.std.specs.Prelude.{ℕ, unwrap_or, Option, Some, None, pos}
 use Rattle.ics_values.specs.declared.duration.Duration.{Duration}
-use Rattle.ics_values.specs.declared.stamp.Stamp.{Stamp}
 use Rattle.ics_values.specs.declared.stamp.Stamp.TheVariants.{Date}
 use Rattle.ics_calendar.specs.declared.dated.Dated.{Dated}
 use Rattle.ics_calendar.specs.declared.gathered.GivenLength.{GivenLength}
 use Rattle.ics_calendar.specs.declared.gathered.GivenLength.TheVariants as given
 use Rattle.ics_calendar.specs.declared.deferred_check.ZoneName.{ZoneName}
-use Rattle.ics_calendar.specs.declared.time.Time.{Time}
-use Rattle.ics_calendar.specs.declared.time.Length.{Length}
-use Rattle.ics_calendar.specs.declared.time.Length.TheVariants.{Open, Until, Lasting}
-use Rattle.ics_calendar.specs.Event.{is_zoned}
+use Rattle.ics_event.specs.declared.time.Time.{Time}
+use Rattle.ics_event.specs.declared.time.Length.{Length}
+use Rattle.ics_event.specs.declared.time.Length.TheVariants.{Open, Until, Lasting}
+use Rattle.ics_event.specs.Event.{time_in}
 use Rattle.ics_calendar.specs.DeferredChecks.{zone_used}
-
--- The time of a stamp, given the index of the zone that its TZID names.
-abbrev pub time_in : Option ℕ → Stamp → Time
-time_in zone stamp = record { stamp = stamp; zone = if is_zoned stamp then zone else None }
 
 -- The time of a DTSTART, DTEND or RECURRENCE-ID of an event in a calendar, given the index of the zone that a name stands for.
 abbrev pub time_on : (ZoneName → Option ℕ) → ℕ → Dated → Time

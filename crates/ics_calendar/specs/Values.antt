@@ -24,7 +24,7 @@ use Rattle.ics_values.specs.declared.offset.BadOffset.{BadOffset}
 use Rattle.ics_values.specs.declared.rule_text.RuleFault.{RuleFault}
 use Rattle.ics_values.specs.declared.rule_text.RuleFault.TheVariants as rule
 use Rattle.ics_calendar.specs.declared.dated.Dated.{Dated}
-use Rattle.ics_calendar.specs.Event.{longest}
+use Rattle.ics_event.specs.Event.{longest}
 use Rattle.ics_fields.specs.Locals.{local_seconds}
 
 -- the name of the zone that the parameters of a line give

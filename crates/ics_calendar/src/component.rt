@@ -4,7 +4,7 @@ ghost use Rattle.std.specs.Str.{bytes_eq};
 ghost use Rattle.ics_text.specs.Bytes.{upper};
 ghost use Rattle.ics_calendar.specs.Components.{component_of, component_name, context_in};
 
-use crate::text::Text;
+use ics_event::Text;
 use ics_values::is_word;
 use std::alloc::{AllocError, Global};
 
@@ -47,7 +47,7 @@ impl Component {
         } else if is_word(name, b"DAYLIGHT") {
             Ok(Component::Daylight)
         } else {
-            Ok(Component::Other(Text::upper_case(alloc, name)?))
+            Ok(Component::Other(Text::of(name.to_ascii_uppercase(alloc)?)))
         }
     }
 

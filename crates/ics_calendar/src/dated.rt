@@ -5,8 +5,8 @@ ghost use Rattle.ics_calendar.specs.Values.{dated_of, stamp_read, tzid, zone_nam
 
 use crate::deferred_check::{DeferredCheck, Instant, ZoneName};
 use crate::refused::Refused;
-use crate::time::is_zoned;
 use crate::tzid::{Tzid, Tzids};
+use ics_event::is_zoned;
 use ics_text::Content;
 use ics_values::{Stamp, read_stamp};
 use std::alloc::{AllocError, Global};

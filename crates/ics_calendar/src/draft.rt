@@ -6,7 +6,6 @@ ghost use Rattle.ics_calendar.specs.Gathered.{known_in, drafted, drafted_of, IsS
 ghost use Rattle.ics_calendar.specs.Pass.{gathered_of};
 ghost use Rattle.ics_calendar.specs.ZoneTables.{given_by};
 
-use crate::events::FileEvents;
 use crate::fault::{Fault, FileFault};
 use crate::gathered::{EndedEvent, Gathered, LineCheck};
 use crate::read::gather;
@@ -14,6 +13,7 @@ use crate::settle::settle;
 use crate::unknown_zones::{copied, unknown_names};
 use crate::zone_files::ZoneFiles;
 use crate::zone_table::ZoneTable;
+use ics_event::FileEvents;
 use ics_text::numbers_rise;
 use std::alloc::{AllocError, Global};
 use std::marker::Model;

@@ -5,7 +5,7 @@ ghost use Rattle.ics_calendar.specs.Values.{is_lasting, lasting_of, is_out, ends
 
 use crate::dated::Dated;
 use crate::deferred_check::{DeferredCheck, Instant};
-use crate::time::is_zoned;
+use ics_event::is_zoned;
 use ics_values::{Duration, DurationFault, Stamp, read_duration};
 use std::alloc::AllocError;
 

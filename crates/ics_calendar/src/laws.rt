@@ -3,7 +3,7 @@ ghost use Rattle.std.specs.Prelude.{◌≡◌, ◌≢◌, List, ℕ, Result, Err
 ghost use Rattle.std.specs.List.{All};
 ghost use Rattle.ics_calendar.specs.declared.fault.FaultKind.{FaultKind};
 ghost use Rattle.ics_calendar.specs.DateValues.{OnePeriod};
-ghost use Rattle.ics_calendar.specs.Event.{FileSaid};
+ghost use Rattle.ics_event.specs.Event.{FileSaid};
 ghost use Rattle.ics_calendar.specs.FirstFault.{Fault};
 ghost use Rattle.ics_calendar.specs.GivenFiles.{GivenFiles, no_files};
 ghost use Rattle.ics_calendar.specs.Files.{FaultsLookBack, IsFile, file_of, wanted_names};

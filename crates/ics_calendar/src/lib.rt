@@ -9,9 +9,7 @@ mod dated;
 mod deferred_check;
 mod draft;
 mod ends;
-mod event;
 mod event_builder;
-mod events;
 mod fault;
 mod frame;
 mod gathered;
@@ -23,22 +21,17 @@ mod refused;
 mod rule_value;
 mod settle;
 mod stack;
-mod text;
-mod time;
 mod tzid;
 mod unknown_zones;
 mod zone_files;
 mod zone_table;
 
 pub use draft::Draft;
-pub use event::Event;
-pub use events::FileEvents;
 pub use fault::{FaultKind, FileFault};
+pub use ics_event::{Event, FileEvents, Length, Rdate, Text, Time};
 pub use laws::{
     faults_look_back, files_are_one_thing, one_period, only_wanted_files_count, without_zone_files,
 };
 pub use read::read_file;
-pub use text::Text;
-pub use time::{Length, Rdate, Time};
 pub use unknown_zones::wanted;
 pub use zone_files::ZoneFiles;

@@ -6,12 +6,12 @@ ghost use Rattle.ics_calendar.specs.Gathered.{nothing_gathered, IsSoundGathered}
 ghost use Rattle.ics_calendar.specs.GivenFiles.{files_by};
 
 use crate::draft::Draft;
-use crate::events::FileEvents;
 use crate::fault::{Fault, FaultKind, FileFault};
 use crate::gathered::Gathered;
 use crate::refused::Refused;
 use crate::stack::Stack;
 use crate::zone_files::ZoneFiles;
+use ics_event::FileEvents;
 use ics_text::{Lines, Logical, content, numbers_within};
 use std::alloc::{AllocError, Global};
 

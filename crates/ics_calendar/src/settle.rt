@@ -8,11 +8,10 @@ ghost use Rattle.ics_calendar.specs.Sound.{IsReady};
 ghost use Rattle.ics_calendar.specs.Files.{said_answer};
 ghost use Rattle.ics_calendar.specs.ZoneTables.{known_by};
 
-use crate::event::Event;
-use crate::events::FileEvents;
 use crate::fault::Fault;
 use crate::gathered::{EndedEvent, LineCheck};
 use crate::zone_table::ZoneTable;
+use ics_event::{Event, FileEvents};
 use std::alloc::{AllocError, Global};
 
 /// The first of the deferred checks that finds a fault.

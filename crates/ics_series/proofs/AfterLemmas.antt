@@ -3,7 +3,7 @@ use Rattle.std.proofs.Common.{◌≡◌, List, [], ◌∷◌, ◌++◌, Option, 
 use Rattle.std.specs.List.{filter}
 use Rattle.std.specs.Ordering.{is_lt}
 use Rattle.std.specs.declared.cmp.Ordering.TheVariants.{Less}
-use Rattle.ics_calendar.specs.Event.{FileSaid}
+use Rattle.ics_event.specs.Event.{FileSaid}
 use Rattle.ics_series.specs.declared.window.Window.{Window}
 use Rattle.ics_series.specs.After.{after_key}
 use Rattle.ics_series.specs.Clocks.{Clock}

@@ -6,7 +6,7 @@ use Rattle.std.specs.Ordering.{int_cmp, nat_cmp, ordering_then}
 use Rattle.std.specs.declared.cmp.Ordering.TheVariants.{Equal}
 use Rattle.std.proofs.lemmas.Cmp.{int_cmp_total, on_total, then_total, tied_itself}
 use Rattle.std.proofs.lemmas.Map.Lookups.{exact_bytes, exact_signed}
-use Rattle.ics_calendar.specs.Event.{FileSaid}
+use Rattle.ics_event.specs.Event.{FileSaid}
 use Rattle.ics_series.specs.declared.window.Window.{Window}
 use Rattle.ics_series.specs.Clocks.{Clock}
 use Rattle.ics_series.specs.Entry.{Entry, Rank, entry_cmp}

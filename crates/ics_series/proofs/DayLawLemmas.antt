@@ -6,7 +6,7 @@ use Rattle.std.specs.declared.cmp.Ordering.{Ordering}
 use Rattle.std.specs.declared.cmp.Ordering.TheVariants.{Greater}
 use Rattle.std.proofs.Common.{◌≡◌, List, [], ◌∷◌, ◌++◌, Some, inl, cond, refl, ◌∙◌, ap}
 use Rattle.std.proofs.lemmas.Cmp.{tied_itself}
-use Rattle.ics_calendar.specs.Event.{FileSaid}
+use Rattle.ics_event.specs.Event.{FileSaid}
 use Rattle.ics_series.specs.declared.window.Window.{Window}
 use Rattle.ics_series.specs.Clocks.{Clock}
 use Rattle.ics_series.specs.Listing.{IsListing}

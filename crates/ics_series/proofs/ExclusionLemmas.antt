@@ -14,12 +14,12 @@ use Rattle.std.proofs.lemmas.List.Sorted.{list_any-IsPermutation, searchable_fro
 use Rattle.std.proofs.lemmas.Bool.{cases_lt}
 use Rattle.ics_values.specs.declared.stamp.Stamp.{Stamp}
 use Rattle.ics_values.specs.declared.stamp.Stamp.TheVariants.{Date, Floating, Utc, Zoned}
-use Rattle.ics_calendar.specs.declared.time.Time.{Time}
+use Rattle.ics_event.specs.declared.time.Time.{Time}
 use Rattle.ics_zone.proofs.Cases.{int_le_true}
 use Rattle.ics_series.specs.declared.window.Window.{Window}
 use Rattle.ics_series.specs.declared.zones.FileZones.{FileZones}
 use Rattle.ics_series.specs.Clocks.{Clock, Clocks, instant}
-use Rattle.ics_calendar.specs.Event.{stamp_seconds}
+use Rattle.ics_event.specs.Event.{stamp_seconds}
 use Rattle.ics_series.specs.Exclusions.{excludes_by, excludes_time, is_day_in, takes_out, with_instant}
 use Rattle.ics_series.specs.FileZones.{clocks_in, is_past}
 use Rattle.ics_series.proofs.InstantLemmas.{instant-near}

@@ -8,10 +8,10 @@ use Rattle.ics_values.specs.declared.stamp.Stamp.TheVariants.{Utc}
 use Rattle.ics_fields.specs.declared.until.Until.TheVariants as until
 use Rattle.ics_rule.specs.Kept.{count, rules_on_literals, until_moment}
 use Rattle.ics_rule.specs.Recurrence.{Recurrence}
-use Rattle.ics_calendar.specs.declared.event.Event.{Event}
-use Rattle.ics_calendar.specs.declared.time.Length.TheVariants.{Open}
-use Rattle.ics_calendar.specs.declared.time.Rdate.{Rdate}
-use Rattle.ics_calendar.specs.declared.time.Rdate.TheVariants.{At}
+use Rattle.ics_event.specs.declared.event.Event.{Event}
+use Rattle.ics_event.specs.declared.time.Length.TheVariants.{Open}
+use Rattle.ics_event.specs.declared.time.Rdate.{Rdate}
+use Rattle.ics_event.specs.declared.time.Rdate.TheVariants.{At}
 use Rattle.ics_series.specs.Clocks.{Clocks, clocks_of, utc_clock}
 use Rattle.ics_series.specs.HeldMost.{greatest, is_raw, raw_in, raw_listed}
 use Rattle.ics_series.specs.Starts.{recurrence_by}

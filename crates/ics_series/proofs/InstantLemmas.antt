@@ -10,10 +10,10 @@ use Rattle.ics_values.specs.declared.stamp.Stamp.{Stamp}
 use Rattle.ics_values.specs.declared.stamp.Stamp.TheVariants.{Date, Floating, Utc, Zoned}
 use Rattle.ics_values.specs.Stamps.{stamp_day}
 use Rattle.ics_fields.specs.Days.{IsStampDay}
-use Rattle.ics_calendar.specs.declared.time.Time.{Time}
-use Rattle.ics_calendar.specs.declared.time.Length.{Length}
-use Rattle.ics_calendar.specs.declared.time.Length.TheVariants.{Open, Lasting, Until}
-use Rattle.ics_calendar.specs.Event.{compared, is_one_zone, stamp_seconds, EndsWithin, IsEnd, IsLength, IsTime, IsWithin, is_zoned, moment_by}
+use Rattle.ics_event.specs.declared.time.Time.{Time}
+use Rattle.ics_event.specs.declared.time.Length.{Length}
+use Rattle.ics_event.specs.declared.time.Length.TheVariants.{Open, Lasting, Until}
+use Rattle.ics_event.specs.Event.{compared, is_one_zone, stamp_seconds, EndsWithin, IsEnd, IsLength, IsTime, IsWithin, is_zoned, moment_by}
 use Rattle.ics_zone.specs.Displays.{moment_of}
 use Rattle.ics_zone.specs.Near.{moment_near, offset_near}
 use Rattle.ics_zone.specs.ZoneSaid.{ZoneSaid, zone_said}

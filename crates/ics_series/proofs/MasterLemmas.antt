@@ -7,8 +7,8 @@ use Rattle.std.proofs.lemmas.Cmp.{nat_cmp_total, on_total, then_total}
 use Rattle.std.proofs.lemmas.Map.Lookups.{exact_unsigned}
 use Rattle.std.specs.declared.cmp.Ordering.{Ordering}
 use Rattle.std.specs.declared.cmp.Ordering.TheVariants.{Less, Equal, Greater}
-use Rattle.ics_calendar.specs.Event.{FileSaid}
-use Rattle.ics_calendar.specs.declared.event.Event.{Event}
+use Rattle.ics_event.specs.Event.{FileSaid}
+use Rattle.ics_event.specs.declared.event.Event.{Event}
 use Rattle.ics_series.specs.Chosen.{subject_of, IsChosen}
 use Rattle.ics_series.specs.Clocks.{Clock}
 use Rattle.ics_series.specs.Entry.{Entry}

@@ -5,7 +5,7 @@ use Rattle.std.specs.Int.{int_max, int_min}
 use Rattle.std.specs.Ordering.{int_eq}
 use Rattle.std.proofs.lemmas.Int.{int_max_is, int_min_is, ints}
 use Rattle.std.proofs.lemmas.Bool.{and_parts}
-use Rattle.ics_calendar.specs.Event.{FileSaid}
+use Rattle.ics_event.specs.Event.{FileSaid}
 use Rattle.ics_zone.specs.Seconds.{IsNear}
 use Rattle.ics_zone.proofs.Cases.{int_le_true}
 use Rattle.ics_series.specs.declared.window.Window.{Window}

@@ -4,17 +4,17 @@ use Rattle.std.proofs.lemmas.Int.{int_max_is, ints}
 use Rattle.ics_values.specs.declared.duration.Duration.{Duration}
 use Rattle.ics_values.specs.declared.stamp.Stamp.{Stamp}
 use Rattle.ics_values.specs.declared.stamp.Stamp.TheVariants.{Date, Floating, Utc, Zoned}
-use Rattle.ics_calendar.specs.declared.time.Rdate.TheVariants.{At}
-use Rattle.ics_calendar.specs.declared.time.Time.{Time}
-use Rattle.ics_calendar.specs.declared.time.Length.{Length}
-use Rattle.ics_calendar.specs.declared.time.Length.TheVariants.{Open, Until, Lasting}
-use Rattle.ics_calendar.specs.declared.event.Event.{Event}
+use Rattle.ics_event.specs.declared.time.Rdate.TheVariants.{At}
+use Rattle.ics_event.specs.declared.time.Time.{Time}
+use Rattle.ics_event.specs.declared.time.Length.{Length}
+use Rattle.ics_event.specs.declared.time.Length.TheVariants.{Open, Until, Lasting}
+use Rattle.ics_event.specs.declared.event.Event.{Event}
 use Rattle.ics_zone.specs.Near.{moment_near}
 use Rattle.ics_zone.specs.JiffZones.{zone_of}
 use Rattle.ics_series.specs.declared.zones.FileZones.{FileZones}
 use Rattle.ics_series.specs.declared.window.Window.{Window}
 use Rattle.ics_series.specs.Clocks.{Clock, clock_by, day_of, instant, local_at}
-use Rattle.ics_calendar.specs.Event.{stamp_seconds}
+use Rattle.ics_event.specs.Event.{stamp_seconds}
 use Rattle.ics_fields.specs.Locals.{midnight, whole_days}
 use Rattle.ics_series.specs.Finish.{days_lasting, end_by, finish, later_by, seconds_by, seconds_lasting}
 use Rattle.ics_series.specs.Meeting.{entry_from}

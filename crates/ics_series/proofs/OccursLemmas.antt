@@ -1,8 +1,8 @@
 -- No two occurrences of a folder have one UID and one recurrence.
 use Rattle.std.proofs.Common.{◌≡◌, ℕ, ℤ, List, Option, Some, None, ⊎_elim, sym, ◌∙◌, ap, subst}
 use Rattle.std.specs.Option.{option_map}
-use Rattle.ics_calendar.specs.Event.{FileSaid}
-use Rattle.ics_calendar.specs.declared.event.Event.{Event}
+use Rattle.ics_event.specs.Event.{FileSaid}
+use Rattle.ics_event.specs.declared.event.Event.{Event}
 use Rattle.ics_series.specs.Chosen.{subject_of, SubjectSeen, IsMaster, IsOverride}
 use Rattle.ics_series.specs.Clocks.{Clock, Clocks, instant}
 use Rattle.ics_series.specs.Entry.{Entry}

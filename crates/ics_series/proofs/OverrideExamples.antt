@@ -5,9 +5,9 @@ use Rattle.std.specs.declared.cmp.Ordering.TheVariants.{Less, Greater}
 use Rattle.ics_fields.specs.Locals.{local_at}
 use Rattle.ics_values.specs.declared.stamp.Stamp.{Stamp}
 use Rattle.ics_values.specs.declared.stamp.Stamp.TheVariants.{Date, Floating, Utc}
-use Rattle.ics_calendar.specs.declared.event.Event.{Event}
-use Rattle.ics_calendar.specs.declared.time.Time.{Time}
-use Rattle.ics_calendar.specs.declared.time.Length.TheVariants.{Open}
+use Rattle.ics_event.specs.declared.event.Event.{Event}
+use Rattle.ics_event.specs.declared.time.Time.{Time}
+use Rattle.ics_event.specs.declared.time.Length.TheVariants.{Open}
 use Rattle.ics_series.specs.Chosen.{overridden, SubjectSeen}
 use Rattle.ics_series.specs.Clocks.{Clocks, clocks_of}
 use Rattle.ics_series.specs.Entry.{Entry, Rank, rank_of}

@@ -13,7 +13,7 @@ use Rattle.std.specs.declared.cmp.Ordering.TheVariants.{Less, Equal, Greater}
 use Rattle.std.proofs.lemmas.Cmp.{on_total, tied_itself}
 use Rattle.std.proofs.lemmas.List.Sorted.{searchable_from_sorted}
 use Rattle.std.proofs.lemmas.Bool.{or_right, cases_lt}
-use Rattle.ics_calendar.specs.Event.{FileSaid}
+use Rattle.ics_event.specs.Event.{FileSaid}
 use Rattle.ics_series.specs.declared.version.Version.{Version}
 use Rattle.ics_series.specs.Chosen.{subject_of, IsOverridden, SubjectSeen}
 use Rattle.ics_series.specs.Clocks.{Clock}

@@ -1,8 +1,8 @@
 -- The list of a folder's events holds each that stands there.
 use Rattle.std.specs.Prelude.{zero, suc, slice_get}
 use Rattle.std.proofs.Common.{◌≡◌, ℕ, ◌+◌, List, [], ◌∷◌, ◌++◌, Some, None, ◌⊎◌, inl, inr, ⊎_elim, refl, sym, ◌∙◌, ap, subst, arith}
-use Rattle.ics_calendar.specs.Event.{FileSaid}
-use Rattle.ics_calendar.specs.declared.event.Event.{Event}
+use Rattle.ics_event.specs.Event.{FileSaid}
+use Rattle.ics_event.specs.declared.event.Event.{Event}
 use Rattle.ics_series.specs.Listing.{IsIn}
 use Rattle.ics_series.specs.PlacedEvents.{Placed, IsPlaced}
 use Rattle.ics_series.specs.Versions.{placed_from, placed_in}

@@ -13,12 +13,12 @@ use Rattle.ics_rule.specs.Kept.{is_kept}
 use Rattle.ics_rule.specs.PeriodNumbers.{rules_end}
 use Rattle.ics_rule.specs.Recurrence.{Recurrence}
 use Rattle.ics_rule.proofs.KeptLemmas.{and_true}
-use Rattle.ics_calendar.specs.declared.event.Event.{Event}
+use Rattle.ics_event.specs.declared.event.Event.{Event}
 use Rattle.ics_zone.proofs.Cases.{int_lt_true, int_le_true}
 use Rattle.ics_series.specs.declared.start.Start.{Start}
 use Rattle.ics_series.specs.declared.window.Window.{Window}
 use Rattle.ics_series.specs.declared.zones.FileZones.{FileZones}
-use Rattle.ics_calendar.specs.Event.{stamp_seconds}
+use Rattle.ics_event.specs.Event.{stamp_seconds}
 use Rattle.ics_fields.specs.Locals.{local_seconds, midnight, whole_days}
 use Rattle.ics_series.specs.Found.{moment_cmp, start_at}
 use Rattle.ics_series.specs.Listing.{IsIn}

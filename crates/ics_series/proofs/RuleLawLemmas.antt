@@ -5,7 +5,7 @@ use Rattle.ics_rule.specs.Kept.{is_kept}
 use Rattle.ics_rule.specs.PeriodNumbers.{rules_end}
 use Rattle.ics_rule.specs.Recurrence.{Recurrence}
 use Rattle.ics_rule.proofs.KeptLemmas.{and_true}
-use Rattle.ics_calendar.specs.declared.event.Event.{Event}
+use Rattle.ics_event.specs.declared.event.Event.{Event}
 use Rattle.ics_series.specs.declared.window.Window.{Window}
 use Rattle.ics_series.specs.declared.zones.FileZones.{FileZones}
 use Rattle.ics_series.specs.RuleStarts.{gives, lets_until, local_numbered, moment_numbered}

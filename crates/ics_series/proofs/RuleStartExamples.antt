@@ -12,8 +12,8 @@ use Rattle.ics_fields.specs.declared.until.Until.{Until}
 use Rattle.ics_fields.specs.declared.until.Until.TheVariants.{Utc}
 use Rattle.ics_rule.specs.Kept.{rules_on_literals, until_moment}
 use Rattle.ics_rule.specs.Recurrence.{Recurrence}
-use Rattle.ics_calendar.specs.declared.event.Event.{Event}
-use Rattle.ics_calendar.specs.declared.time.Length.TheVariants.{Open}
+use Rattle.ics_event.specs.declared.event.Event.{Event}
+use Rattle.ics_event.specs.declared.time.Length.TheVariants.{Open}
 use Rattle.ics_series.specs.declared.start.Start.{Start}
 use Rattle.ics_series.specs.declared.window.Window.{Window}
 use Rattle.ics_series.specs.Clocks.{Clock, clocks_of}

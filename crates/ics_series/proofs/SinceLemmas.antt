@@ -12,10 +12,10 @@ use Rattle.ics_rule.specs.Kept.{is_kept}
 use Rattle.ics_rule.specs.PeriodNumbers.{rules_end}
 use Rattle.ics_fields.specs.Locals.{number, local_seconds, whole_days}
 use Rattle.ics_rule.specs.Recurrence.{Recurrence}
-use Rattle.ics_calendar.specs.Event.{IsEvent}
-use Rattle.ics_calendar.specs.declared.event.Event.{Event}
-use Rattle.ics_calendar.specs.declared.time.Rdate.{Rdate}
-use Rattle.ics_calendar.specs.declared.time.Rdate.TheVariants.{At}
+use Rattle.ics_event.specs.Event.{IsEvent}
+use Rattle.ics_event.specs.declared.event.Event.{Event}
+use Rattle.ics_event.specs.declared.time.Rdate.{Rdate}
+use Rattle.ics_event.specs.declared.time.Rdate.TheVariants.{At}
 use Rattle.ics_zone.proofs.Cases.{true_int_lt}
 use Rattle.ics_series.specs.declared.rule_starts.RuleStarts.{RuleStarts}
 use Rattle.ics_series.specs.declared.start.StartSource.{StartSource}

@@ -9,11 +9,11 @@ use Rattle.std.specs.declared.cmp.Ordering.TheVariants.{Less}
 use Rattle.std.proofs.lemmas.Int.{ints}
 use Rattle.std.proofs.lemmas.List.Sorted.{IsPermutation-map}
 use Rattle.std.proofs.lemmas.Bool.{and_parts}
-use Rattle.ics_calendar.specs.Event.{FileSaid}
-use Rattle.ics_calendar.specs.declared.event.Event.{Event}
-use Rattle.ics_calendar.specs.declared.time.Rdate.{Rdate}
-use Rattle.ics_calendar.specs.declared.time.Rdate.TheVariants.{At}
-use Rattle.ics_calendar.specs.declared.time.Time.{Time}
+use Rattle.ics_event.specs.Event.{FileSaid}
+use Rattle.ics_event.specs.declared.event.Event.{Event}
+use Rattle.ics_event.specs.declared.time.Rdate.{Rdate}
+use Rattle.ics_event.specs.declared.time.Rdate.TheVariants.{At}
+use Rattle.ics_event.specs.declared.time.Time.{Time}
 use Rattle.ics_series.specs.declared.single.Single.{Single}
 use Rattle.ics_series.specs.declared.start.StartSource.{StartSource}
 use Rattle.ics_series.specs.declared.start.StartSource.TheVariants.{Kept, Listed}

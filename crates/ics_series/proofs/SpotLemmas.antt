@@ -3,9 +3,9 @@ use Rattle.std.specs.Prelude.{slice_get, IsSome}
 use Rattle.std.specs.Option.{option_and_then}
 use Rattle.std.proofs.Common.{◌≡◌, ◌<◌, List, map, length, get_or, true, false, Option, Some, None, option_map, refl, sym, ◌∙◌, ap, subst}
 use Rattle.std.proofs.lemmas.Option.{get_or_from_slice_get, slice_get-map, slice_get_within}
-use Rattle.ics_calendar.specs.Event.{said_by, FileSaid}
-use Rattle.ics_calendar.specs.declared.event.Event.{Event}
-use Rattle.ics_calendar.specs.declared.events.FileEvents.{FileEvents}
+use Rattle.ics_event.specs.Event.{said_by, FileSaid}
+use Rattle.ics_event.specs.declared.event.Event.{Event}
+use Rattle.ics_event.specs.declared.events.FileEvents.{FileEvents}
 use Rattle.ics_series.specs.declared.spot.Spot.{Spot}
 use Rattle.ics_series.specs.Spots.{event_at}
 

@@ -20,11 +20,11 @@ use Rattle.ics_rule.specs.Recurrence.{Recurrence}
 use Rattle.ics_rule.proofs.KeptLemmas.{and_true, or_true}
 use Rattle.ics_rule.proofs.LawLemmas.{kept_in_rule}
 use Rattle.ics_rule.proofs.NextLemmas.{in_rule_earlier}
-use Rattle.ics_calendar.specs.declared.time.Rdate.{Rdate}
-use Rattle.ics_calendar.specs.declared.time.Rdate.TheVariants.{At, Span}
-use Rattle.ics_calendar.specs.declared.time.Time.{Time}
-use Rattle.ics_calendar.specs.declared.event.Event.{Event}
-use Rattle.ics_calendar.specs.Event.{is_zoned, HasZonesBelow, IsRdate, IsTime, RdateBelow, TimeBelow, stamp_seconds}
+use Rattle.ics_event.specs.declared.time.Rdate.{Rdate}
+use Rattle.ics_event.specs.declared.time.Rdate.TheVariants.{At, Span}
+use Rattle.ics_event.specs.declared.time.Time.{Time}
+use Rattle.ics_event.specs.declared.event.Event.{Event}
+use Rattle.ics_event.specs.Event.{is_zoned, HasZonesBelow, IsRdate, IsTime, RdateBelow, TimeBelow, stamp_seconds}
 use Rattle.ics_series.specs.declared.start.StartSource.{StartSource}
 use Rattle.ics_series.specs.declared.start.StartSource.TheVariants.{Kept, Listed}
 use Rattle.ics_series.specs.Clocks.{Clocks, day_of}

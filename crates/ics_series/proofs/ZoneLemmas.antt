@@ -5,11 +5,11 @@ use Rattle.std.proofs.lemmas.Bool.Decides.{nat_tests}
 use Rattle.std.proofs.lemmas.List.{get_or-map, length-map}
 use Rattle.ics_fields.specs.RuleParts.{RuleParts}
 use Rattle.ics_values.specs.declared.stamp.Stamp.{Stamp}
-use Rattle.ics_calendar.specs.Event.{EndsBelow, HasZonesBelow, IsEvent, IsEventOf, IsLength}
-use Rattle.ics_calendar.specs.declared.event.Event.{Event}
-use Rattle.ics_calendar.specs.declared.time.Length.{Length}
-use Rattle.ics_calendar.specs.declared.time.Length.TheVariants.{Open, Until, Lasting}
-use Rattle.ics_calendar.specs.declared.time.Rdate.{Rdate}
+use Rattle.ics_event.specs.Event.{EndsBelow, HasZonesBelow, IsEvent, IsEventOf, IsLength}
+use Rattle.ics_event.specs.declared.event.Event.{Event}
+use Rattle.ics_event.specs.declared.time.Length.{Length}
+use Rattle.ics_event.specs.declared.time.Length.TheVariants.{Open, Until, Lasting}
+use Rattle.ics_event.specs.declared.time.Rdate.{Rdate}
 use Rattle.ics_zone.specs.ZoneSaid.{zone_said}
 use Rattle.ics_zone.specs.declared.zone.ZoneKind.{ZoneKind}
 use Rattle.ics_series.specs.declared.start.StartSource.{StartSource}

@@ -1,6 +1,6 @@
 -- What is still to come of a listing under each day.
 use Rattle.std.specs.Prelude.{◌≡◌, ◌<ℤ◌, ◌&&◌, ◌∷◌, ◌++◌, ℤ, Bool, List, filter, map, Option, Some, None}
-use Rattle.ics_calendar.specs.Event.{said_by, FileSaid}
+use Rattle.ics_event.specs.Event.{said_by, FileSaid}
 use Rattle.ics_series.specs.declared.agenda.Agenda.{Agenda}
 use Rattle.ics_series.specs.declared.days.Days.{Days}
 use Rattle.ics_series.specs.declared.occurrence.Occurrence.{Occurrence}

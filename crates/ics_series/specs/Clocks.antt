@@ -3,12 +3,12 @@
 use Rattle.std.specs.Prelude.{ℕ, ℤ, pos, ◌+ℤ◌, List, map, slice_index_or, Option, Some, None}
 use Rattle.ics_values.specs.declared.stamp.Stamp.{Stamp}
 use Rattle.ics_values.specs.declared.stamp.Stamp.TheVariants.{Date, Floating, Utc, Zoned}
-use Rattle.ics_calendar.specs.declared.time.Time.{Time}
+use Rattle.ics_event.specs.declared.time.Time.{Time}
 use Rattle.ics_zone.specs.Displays.{offset_of, moment_of}
 use Rattle.ics_zone.specs.ZoneSaid.{ZoneSaid, said_moment, said_offset}
 use Rattle.ics_zone.specs.JiffZones.{zone_of}
 use Rattle.ics_zone.specs.declared.display.Display.{Display}
-use Rattle.ics_calendar.specs.Event.{stamp_seconds}
+use Rattle.ics_event.specs.Event.{stamp_seconds}
 
 -- what a zone gives: the instant of each local, and the offset at each instant
 pub record Clock : Type 0 where

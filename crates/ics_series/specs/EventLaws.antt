@@ -4,13 +4,13 @@ use Rattle.std.specs.Coded.{×_prop, Unit-prop}
 use Rattle.std.specs.Prelude.{ℕ, List}
 use Rattle.ics_values.specs.declared.stamp.Stamp.{Stamp}
 use Rattle.ics_values.specs.declared.stamp.Stamp.TheVariants.{Date, Floating, Utc, Zoned}
-use Rattle.ics_calendar.specs.Event.{EndsBelow, IsEnd, IsLength, IsRdate, IsSpan, RdateBelow}
-use Rattle.ics_calendar.specs.declared.event.Event.{Event}
-use Rattle.ics_calendar.specs.declared.time.Length.{Length}
-use Rattle.ics_calendar.specs.declared.time.Length.TheVariants.{Open, Until, Lasting}
-use Rattle.ics_calendar.specs.declared.time.Rdate.{Rdate}
-use Rattle.ics_calendar.specs.declared.time.Rdate.TheVariants.{At, Span}
-use Rattle.ics_calendar.specs.declared.time.Time.{Time}
+use Rattle.ics_event.specs.Event.{EndsBelow, IsEnd, IsLength, IsRdate, IsSpan, RdateBelow}
+use Rattle.ics_event.specs.declared.event.Event.{Event}
+use Rattle.ics_event.specs.declared.time.Length.{Length}
+use Rattle.ics_event.specs.declared.time.Length.TheVariants.{Open, Until, Lasting}
+use Rattle.ics_event.specs.declared.time.Rdate.{Rdate}
+use Rattle.ics_event.specs.declared.time.Rdate.TheVariants.{At, Span}
+use Rattle.ics_event.specs.declared.time.Time.{Time}
 use Rattle.ics_zone.specs.declared.zone.ZoneKind.{ZoneKind}
 use Rattle.ics_series.specs.Clocks.{Clocks}
 use Rattle.ics_series.specs.FileZones.{EndsNear, IsEndOf, IsOwnEvent, IsTimeOf}

@@ -1,10 +1,10 @@
 -- The zones by which the times of a file are read, and the times that can be read by them.
 use Rattle.std.specs.Prelude.{◌≤ℤ◌, ◌+ℤ◌, int_le, Bool, List, length, map}
-use Rattle.ics_calendar.specs.Event.{EndsBelow, HasZonesBelow, IsEvent, IsTime, TimeBelow, stamp_seconds}
-use Rattle.ics_calendar.specs.declared.event.Event.{Event}
-use Rattle.ics_calendar.specs.declared.time.Time.{Time}
-use Rattle.ics_calendar.specs.declared.time.Length.{Length}
-use Rattle.ics_calendar.specs.declared.time.Length.TheVariants.{Until}
+use Rattle.ics_event.specs.Event.{EndsBelow, HasZonesBelow, IsEvent, IsTime, TimeBelow, stamp_seconds}
+use Rattle.ics_event.specs.declared.event.Event.{Event}
+use Rattle.ics_event.specs.declared.time.Time.{Time}
+use Rattle.ics_event.specs.declared.time.Length.{Length}
+use Rattle.ics_event.specs.declared.time.Length.TheVariants.{Until}
 use Rattle.ics_zone.specs.ZoneSaid.{zone_said}
 use Rattle.ics_zone.specs.declared.zone.ZoneKind.{ZoneKind}
 use Rattle.ics_series.specs.declared.window.Window.{Window}

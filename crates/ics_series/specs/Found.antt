@@ -5,11 +5,11 @@ use Rattle.std.specs.Option.{option_eq}
 use Rattle.std.specs.Ordering.{int_cmp, int_eq, nat_cmp, on, then_cmp}
 use Rattle.std.specs.declared.cmp.Ordering.{Ordering}
 use Rattle.ics_fields.specs.declared.local.Local.{Local}
-use Rattle.ics_calendar.specs.Event.{IsRdate}
-use Rattle.ics_calendar.specs.declared.event.Event.{Event}
-use Rattle.ics_calendar.specs.declared.time.Rdate.{Rdate}
-use Rattle.ics_calendar.specs.declared.time.Rdate.TheVariants.{At, Span}
-use Rattle.ics_calendar.specs.declared.time.Time.{Time}
+use Rattle.ics_event.specs.Event.{IsRdate}
+use Rattle.ics_event.specs.declared.event.Event.{Event}
+use Rattle.ics_event.specs.declared.time.Rdate.{Rdate}
+use Rattle.ics_event.specs.declared.time.Rdate.TheVariants.{At, Span}
+use Rattle.ics_event.specs.declared.time.Time.{Time}
 use Rattle.ics_series.specs.declared.start.StartSource.{StartSource}
 use Rattle.ics_series.specs.declared.start.StartSource.TheVariants.{Kept, Listed}
 use Rattle.ics_series.specs.declared.start.Start.{Start}

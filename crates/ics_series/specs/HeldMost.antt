@@ -3,8 +3,8 @@ use Rattle.std.specs.Prelude.{◌≡◌, true, ℕ, zero, suc, ◌+◌, max, ℤ
 use Rattle.std.specs.Prelude.{None, Some}
 use Rattle.ics_rule.specs.Kept.{count, is_kept}
 use Rattle.ics_rule.specs.Recurrence.{Recurrence}
-use Rattle.ics_calendar.specs.declared.event.Event.{Event}
-use Rattle.ics_calendar.specs.declared.time.Rdate.{Rdate}
+use Rattle.ics_event.specs.declared.event.Event.{Event}
+use Rattle.ics_event.specs.declared.time.Rdate.{Rdate}
 use Rattle.ics_series.specs.declared.start.StartSource.{StartSource}
 use Rattle.ics_series.specs.Clocks.{Clocks, instant}
 use Rattle.ics_fields.specs.Days.{days_before_year}

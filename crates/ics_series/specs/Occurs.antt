@@ -1,9 +1,9 @@
 -- Which occurrences the files of a folder have (RFC 5545, sections 3.6.1, 3.8.4 and 3.8.5).
 use Rattle.std.specs.Prelude.{◌≡◌, ◌⊎◌, ℤ, false, List}
-use Rattle.ics_calendar.specs.Event.{FileSaid}
-use Rattle.ics_calendar.specs.declared.event.Event.{Event}
-use Rattle.ics_calendar.specs.declared.time.Rdate.{Rdate}
-use Rattle.ics_calendar.specs.declared.time.Rdate.TheVariants.{At}
+use Rattle.ics_event.specs.Event.{FileSaid}
+use Rattle.ics_event.specs.declared.event.Event.{Event}
+use Rattle.ics_event.specs.declared.time.Rdate.{Rdate}
+use Rattle.ics_event.specs.declared.time.Rdate.TheVariants.{At}
 use Rattle.ics_series.specs.Chosen.{IsMaster, IsOverride, IsOverridden}
 use Rattle.ics_series.specs.Clocks.{Clock, Clocks, instant}
 use Rattle.ics_series.specs.Entry.{Entry}

@@ -1,6 +1,6 @@
 -- The bounds of windows, and of the occurrences that meet them. Instants are counted in seconds from 1970-01-01T00:00:00.
 use Rattle.std.specs.Prelude.{ℤ, pos, ◌+ℤ◌, ◌-ℤ◌}
-use Rattle.ics_calendar.specs.Event.{longest}
+use Rattle.ics_event.specs.Event.{longest}
 use Rattle.ics_fields.specs.Locals.{whole_days, year_seconds}
 
 -- 0000-12-31T00:00, before which no window begins

@@ -4,7 +4,7 @@ ghost use Rattle.std.specs.List.{flat_map};
 ghost use Rattle.std.specs.List.Sorted.{IsSorted};
 ghost use Rattle.std.specs.Option.{option_map};
 ghost use Rattle.std.specs.Ordering.{on};
-ghost use Rattle.ics_calendar.specs.Event.{said_by};
+ghost use Rattle.ics_event.specs.Event.{said_by};
 ghost use Rattle.ics_series.specs.After.{after_key, is_after};
 ghost use Rattle.ics_series.specs.Clocks.{display_clock};
 ghost use Rattle.ics_series.specs.Entry.{Entry, entry_cmp, entry_of, key_rank};
@@ -34,7 +34,7 @@ use crate::part::Part;
 use crate::singles::Singles;
 use crate::version::{Subject, Version};
 use crate::window::Window;
-use ics_calendar::FileEvents;
+use ics_event::FileEvents;
 use ics_zone::Display;
 use std::alloc::{AllocError, Global};
 

@@ -3,7 +3,7 @@ ghost use Rattle.std.specs.Prelude.{◌≡◌, ◌⊎◌, ◌≤◌, ◌+◌, �
 ghost use Rattle.std.specs.Prelude.{List, [], map, IfOk, IfSome, OnErr, OnOk, None};
 ghost use Rattle.std.specs.Option.{option_map};
 ghost use Rattle.ics_fields.specs.Days.{IsDayNumber};
-ghost use Rattle.ics_calendar.specs.Event.{said_by};
+ghost use Rattle.ics_event.specs.Event.{said_by};
 ghost use Rattle.ics_series.specs.Clocks.{display_clock};
 ghost use Rattle.ics_series.specs.DayKeys.{day_key_rank};
 ghost use Rattle.ics_series.specs.DayMasters.{agenda_holds, agenda_looked, agenda_sources, day_and_start, masters_in, scope_by, scope_in};
@@ -26,7 +26,7 @@ use crate::near_day::{first_near, last_near, near_day};
 use crate::occurrence::Occurrence;
 use crate::occurrence_days::is_on;
 use crate::window::Window;
-use ics_calendar::FileEvents;
+use ics_event::FileEvents;
 use ics_values::Moment;
 use ics_zone::Display;
 use std::alloc::{AllocError, Global};

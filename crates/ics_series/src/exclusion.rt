@@ -12,7 +12,7 @@ use crate::instant::{instant, is_past};
 use crate::start::date_of;
 use crate::window::Window;
 use crate::zones::FileZones;
-use ics_calendar::{Event, Time};
+use ics_event::{Event, Time};
 use ics_values::{Local, Moment, Stamp};
 use ics_zone::Place;
 use std::alloc::{AllocError, Global};

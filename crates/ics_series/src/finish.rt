@@ -1,6 +1,6 @@
 //! The end of an occurrence.
 ghost use Rattle.std.specs.Prelude.{◌≡◌, ◌<ℤ◌, ◌≤ℤ◌, ◌+ℤ◌, ◌-ℤ◌, pos};
-ghost use Rattle.ics_calendar.specs.Event.{longest, IsLasting, IsLength, IsSpan};
+ghost use Rattle.ics_event.specs.Event.{longest, IsLasting, IsLength, IsSpan};
 ghost use Rattle.ics_series.specs.Clocks.{clock_of, display_clock, instant, local_at};
 ghost use Rattle.ics_fields.specs.Locals.{midnight, whole_days, year_seconds};
 ghost use Rattle.ics_series.specs.Finish.{end_by, finish, later_by, span_end};
@@ -12,7 +12,7 @@ use crate::instant::instant;
 use crate::lasting::{day_of, days_lasting};
 use crate::start::Start;
 use crate::zones::FileZones;
-use ics_calendar::{Event, Length, Rdate, Time};
+use ics_event::{Event, Length, Rdate, Time};
 use ics_values::{Duration, Local, Moment, Stamp};
 use ics_zone::{Display, Place};
 

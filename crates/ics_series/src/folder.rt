@@ -1,7 +1,7 @@
 //! The events of a folder.
 ghost use Rattle.std.specs.Prelude.{◌≡◌, List, map, IfOk};
 ghost use Rattle.std.specs.Option.{option_map};
-ghost use Rattle.ics_calendar.specs.Event.{said_by};
+ghost use Rattle.ics_event.specs.Event.{said_by};
 ghost use Rattle.ics_series.specs.After.{after_key};
 ghost use Rattle.ics_series.specs.Ahead.{scope_of, IsAhead};
 ghost use Rattle.ics_series.specs.Clocks.{display_clock};
@@ -20,7 +20,7 @@ use crate::feed::Coming;
 use crate::key::Key;
 use crate::prepare::prepare_each;
 use crate::window::Window;
-use ics_calendar::FileEvents;
+use ics_event::FileEvents;
 use ics_zone::Display;
 use std::alloc::{AllocError, Global};
 use std::marker::Model;

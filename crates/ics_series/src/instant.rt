@@ -6,7 +6,7 @@ ghost use Rattle.ics_series.specs.FileZones.{clocks_in, is_past, IsTimeOf};
 use crate::start::local_of;
 use crate::window::Window;
 use crate::zones::FileZones;
-use ics_calendar::Time;
+use ics_event::Time;
 use ics_values::{Local, Moment, Stamp};
 use ics_zone::Place;
 

@@ -1,6 +1,6 @@
 //! The length of an event.
 ghost use Rattle.std.specs.Prelude.{◌≡◌, ◌≤ℤ◌, pos};
-ghost use Rattle.ics_calendar.specs.Event.{longest, IsLength};
+ghost use Rattle.ics_event.specs.Event.{longest, IsLength};
 ghost use Rattle.ics_fields.specs.Locals.{midnight};
 ghost use Rattle.ics_series.specs.Clocks.{day_of};
 ghost use Rattle.ics_series.specs.Finish.{days_lasting, seconds_by, seconds_lasting};
@@ -9,7 +9,7 @@ ghost use Rattle.ics_series.specs.WindowBounds.{lasts_most};
 
 use crate::instant::instant;
 use crate::zones::FileZones;
-use ics_calendar::{Event, Length, Time};
+use ics_event::{Event, Length, Time};
 use ics_values::Stamp;
 
 const DAY: i64 = 86_400;

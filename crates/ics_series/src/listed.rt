@@ -8,7 +8,7 @@ use crate::instant::{instant, is_past};
 use crate::start::{Start, StartSource, date_of, local_of, time_at, time_of};
 use crate::window::Window;
 use crate::zones::FileZones;
-use ics_calendar::{Event, Rdate, Time};
+use ics_event::{Event, Rdate, Time};
 use ics_values::{Local, Stamp};
 use std::alloc::AllocError;
 

@@ -2,7 +2,7 @@
 ghost use Rattle.std.specs.Prelude.{◌≡◌, ◌<◌, [], ◌∷◌, length, map, slice_get, IfOk, List, MatchOption, None, Some};
 ghost use Rattle.std.specs.List.{flat_map};
 ghost use Rattle.std.specs.Option.{option_map};
-ghost use Rattle.ics_calendar.specs.Event.{said_by};
+ghost use Rattle.ics_event.specs.Event.{said_by};
 ghost use Rattle.ics_series.specs.Clocks.{display_clock};
 ghost use Rattle.ics_series.specs.Entry.{Entry, entry_cmp, key_rank};
 ghost use Rattle.ics_series.specs.Listing.{IsListing};
@@ -23,7 +23,7 @@ use crate::series::Series;
 use crate::singles::is_single;
 use crate::version::Version;
 use crate::window::Window;
-use ics_calendar::FileEvents;
+use ics_event::FileEvents;
 use ics_values::Moment;
 use ics_zone::Display;
 use std::alloc::{AllocError, Global};

@@ -11,7 +11,7 @@ use crate::occurrence::Occurrence;
 use crate::start::Start;
 use crate::window::Window;
 use crate::zones::FileZones;
-use ics_calendar::Event;
+use ics_event::Event;
 
 // The occurrence with a start, if it meets the window and no EXDATE removes it.
 pub(crate) fn shown<'a>(

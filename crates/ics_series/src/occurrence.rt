@@ -6,7 +6,7 @@ use crate::finish::finish;
 use crate::start::Start;
 use crate::window::Window;
 use crate::zones::FileZones;
-use ics_calendar::Event;
+use ics_event::Event;
 use ics_values::Moment;
 use std::cmp::Ordering;
 

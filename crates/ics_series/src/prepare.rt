@@ -2,7 +2,7 @@
 ghost use Rattle.std.specs.Prelude.{◌≡◌};
 
 use crate::window::Window;
-use ics_calendar::FileEvents;
+use ics_event::FileEvents;
 use ics_zone::Zone;
 
 /// The distance of the instants near which a zone is prepared. Most zones keep an offset for longer.

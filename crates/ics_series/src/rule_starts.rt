@@ -19,7 +19,7 @@ use crate::start::{Start, local_of};
 use crate::starts::{end_nearby, is_until, start_at};
 use crate::window::Window;
 use crate::zones::FileZones;
-use ics_calendar::Event;
+use ics_event::Event;
 use ics_rule::{Cursor, Rule};
 use ics_values::{Local, Moment};
 use std::alloc::{AllocError, Global};

@@ -26,7 +26,7 @@ use crate::start::{Start, kind_of, local_of};
 use crate::starts::{earliest, first_nearby, start_at};
 use crate::window::Window;
 use crate::zones::FileZones;
-use ics_calendar::Event;
+use ics_event::Event;
 use ics_rule::Rule;
 use ics_values::Moment;
 use std::alloc::{AllocError, Global};

@@ -11,7 +11,7 @@ use crate::occurrence::Occurrence;
 use crate::start::{Start, StartSource, local_of};
 use crate::window::Window;
 use crate::zones::FileZones;
-use ics_calendar::{Event, Rdate};
+use ics_event::{Event, Rdate};
 use ics_values::Moment;
 use std::cmp::Ordering;
 
@@ -31,7 +31,7 @@ pub(crate) struct Single<'a> {
 impl<'a> Single<'a> {
     ghost use Rattle.std.specs.Prelude.{map};
     ghost use Rattle.std.specs.Option.{option_map};
-    ghost use Rattle.ics_calendar.specs.Event.{IsEventOf};
+    ghost use Rattle.ics_event.specs.Event.{IsEventOf};
     ghost use Rattle.ics_zone.specs.ZoneSaid.{zone_said};
     ghost use Rattle.ics_series.specs.Entry.{entry_cmp, entry_of};
     ghost use Rattle.ics_series.specs.Singles.{begun_first, single_entry};

@@ -2,7 +2,7 @@
 ghost use Rattle.std.specs.Prelude.{◌≡◌};
 ghost use Rattle.ics_series.specs.Starts.{date_only, kind_of, local_of, time_at, time_of};
 
-use ics_calendar::{Rdate, Time};
+use ics_event::{Rdate, Time};
 use ics_rule::Kind;
 use ics_values::{Local, Moment, Stamp};
 use std::cmp::Ordering;

@@ -15,7 +15,7 @@ use crate::occurrence::Occurrence;
 use crate::start::{Start, StartSource, time_at};
 use crate::window::Window;
 use crate::zones::FileZones;
-use ics_calendar::{Event, Rdate};
+use ics_event::{Event, Rdate};
 use ics_values::{Local, Moment};
 use std::alloc::{AllocError, Global};
 

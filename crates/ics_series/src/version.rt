@@ -1,6 +1,6 @@
 //! The versions of the events of a folder.
 ghost use Rattle.std.specs.Prelude.{◌≡◌, ◌++◌, map, IfOk};
-ghost use Rattle.ics_calendar.specs.Event.{said_by, AreEventsOf, IsEventOf};
+ghost use Rattle.ics_event.specs.Event.{said_by, AreEventsOf, IsEventOf};
 ghost use Rattle.ics_series.specs.Chosen.{overridden};
 ghost use Rattle.ics_series.specs.Clocks.{display_clock};
 ghost use Rattle.ics_series.specs.Versions.{label_by, label_of, placed_from, placed_in, seen};
@@ -10,7 +10,7 @@ ghost use Rattle.ics_zone.specs.ZoneSaid.{zone_said};
 use crate::instant::instant;
 use crate::spot::Spot;
 use crate::zones::FileZones;
-use ics_calendar::{Event, FileEvents};
+use ics_event::{Event, FileEvents};
 use ics_values::Moment;
 use ics_zone::Display;
 use std::alloc::{AllocError, Global};

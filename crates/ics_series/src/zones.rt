@@ -1,11 +1,11 @@
 //! The zones by which the times of a file are read.
 ghost use Rattle.std.specs.Prelude.{◌≡◌, length, IsSome};
-ghost use Rattle.ics_calendar.specs.Event.{TimeBelow};
+ghost use Rattle.ics_event.specs.Event.{TimeBelow};
 ghost use Rattle.ics_series.specs.Clocks.{clock_at, zone_clock};
 ghost use Rattle.ics_zone.specs.ZoneSaid.{zone_said};
 ghost use Rattle.ics_series.specs.FileZones.{clocks_in};
 
-use ics_calendar::Time;
+use ics_event::Time;
 use ics_zone::{Display, Zone};
 
 /// The display zone, and the zones of a file.

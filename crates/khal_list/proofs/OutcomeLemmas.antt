@@ -6,7 +6,7 @@ use Rattle.std.specs.Cmp.Lexicographic.{slice_cmp, nat_list_eq_equiv}
 use Rattle.std.specs.List.{list_any}
 use Rattle.std.specs.Ordering.{nat_cmp}
 use Rattle.std.proofs.lemmas.Map.Views.{All-from_any}
-use Rattle.ics_calendar.specs.Event.{FileSaid}
+use Rattle.ics_event.specs.Event.{FileSaid}
 use Rattle.ics_calendar.specs.Drafts.{IsFaultOf}
 use Rattle.ics_calendar.specs.Files.{draft_of, file_of, DraftSaid, wanted_names}
 use Rattle.ics_calendar.specs.GivenFiles.{GivenFiles}

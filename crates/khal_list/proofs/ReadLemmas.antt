@@ -6,7 +6,7 @@ use Rattle.std.specs.Cmp.Lexicographic.{nat_list_eq_equiv}
 use Rattle.std.specs.List.{list_any}
 use Rattle.std.specs.Str.{bytes_eq}
 use Rattle.std.proofs.lemmas.Map.Views.{All-from_any}
-use Rattle.ics_calendar.specs.Event.{FileSaid}
+use Rattle.ics_event.specs.Event.{FileSaid}
 use Rattle.ics_calendar.specs.Files.{file_of, wanted_names}
 use Rattle.khal_list.specs.declared.answered.Answered.{Answered}
 use Rattle.khal_list.specs.Answers.{Answer, Contents, contents_of}

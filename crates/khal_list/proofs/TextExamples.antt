@@ -3,8 +3,8 @@ use Rattle.std.proofs.Common.{◌≡◌, ℕ, ℤ, pos, List, [], ◌∷◌, ◌
 use Rattle.std.specs.Prelude.{codes, ◌+ℤ◌, neg_ℤ}
 use Rattle.ics_values.specs.declared.stamp.Stamp.{Stamp}
 use Rattle.ics_values.specs.declared.stamp.Stamp.TheVariants.{Date, Utc}
-use Rattle.ics_calendar.specs.declared.event.Event.{Event}
-use Rattle.ics_calendar.specs.declared.time.Length.TheVariants.{Open}
+use Rattle.ics_event.specs.declared.event.Event.{Event}
+use Rattle.ics_event.specs.declared.time.Length.TheVariants.{Open}
 use Rattle.ics_series.specs.Clocks.{Clock, utc_clock}
 use Rattle.ics_series.specs.Entry.{Entry}
 use Rattle.ics_fields.specs.Days.{days_on_literals}

@@ -3,7 +3,7 @@
 use Rattle.std.specs.Prelude.{ℕ, List, [], ◌∷◌, ◌++◌, Option, Some, None, Result, Ok, Err, codes, if◌then◌else◌}
 use Rattle.std.specs.Fmt.{decimal}
 use Rattle.std.specs.List.{list_any}
-use Rattle.ics_calendar.specs.Event.{FileSaid}
+use Rattle.ics_event.specs.Event.{FileSaid}
 use Rattle.ics_calendar.specs.FaultNames.{kind_name}
 use Rattle.ics_calendar.specs.Files.{file_of, wanted_names}
 use Rattle.ics_calendar.specs.declared.fault.Fault.{Fault}

@@ -5,7 +5,7 @@ use Rattle.std.specs.Cmp.Lexicographic.{slice_cmp}
 use Rattle.std.specs.List.{list_any}
 use Rattle.std.specs.Ordering.{nat_cmp}
 use Rattle.std.specs.Str.{bytes_eq}
-use Rattle.ics_calendar.specs.Event.{FileSaid}
+use Rattle.ics_event.specs.Event.{FileSaid}
 use Rattle.ics_calendar.specs.ZoneTables.{given_by}
 use Rattle.khal_list.specs.declared.answered.Answered.{Answered}
 use Rattle.khal_list.specs.declared.fault.RunFault.{RunFault}

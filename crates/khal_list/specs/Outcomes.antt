@@ -1,6 +1,6 @@
 -- What the code keeps of a read.
 use Rattle.std.specs.Prelude.{◌≡◌, ℕ, List, Some, None, Result, Ok, Err}
-use Rattle.ics_calendar.specs.Event.{FileSaid, said_by}
+use Rattle.ics_event.specs.Event.{FileSaid, said_by}
 use Rattle.khal_list.specs.declared.outcome.Outcome.{Outcome}
 use Rattle.khal_list.specs.declared.outcome.Outcome.TheVariants.{Accepted, Refused}
 use Rattle.khal_list.specs.declared.refusal.Refusal as code

@@ -2,7 +2,7 @@
 use Rattle.std.specs.Prelude.{◌≡◌, ◌+◌, ◌≤◌, ⊤, ℕ, ℤ, Ok, List, [], ◌∷◌, ◌++◌, Option, Some, None, length, if◌then◌else◌}
 use Rattle.std.specs.Option.{option_map}
 use Rattle.clap.specs.Words.{Text}
-use Rattle.ics_calendar.specs.Event.{FileSaid}
+use Rattle.ics_event.specs.Event.{FileSaid}
 use Rattle.ics_series.specs.After.{after_key}
 use Rattle.ics_series.specs.DayKeys.{day_key_rank}
 use Rattle.ics_series.specs.DayTokens.{day_spelling, IsDayKey}

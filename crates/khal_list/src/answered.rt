@@ -8,7 +8,8 @@ ghost use Rattle.std.specs.Ordering.{nat_cmp};
 use crate::fault::RunFault;
 use crate::finding::{Found, find};
 use crate::zone_source::ZoneSource;
-use ics_calendar::{Text, ZoneFiles};
+use ics_calendar::ZoneFiles;
+use ics_event::Text;
 use std::alloc::{AllocError, Global};
 use std::collections::BTreeSet;
 

@@ -11,7 +11,7 @@ use crate::display_day::display_day;
 use crate::field::EntryField;
 use crate::heading::add_date;
 use crate::shown::add_shown;
-use ics_calendar::Event;
+use ics_event::Event;
 use ics_series::Occurrence;
 use ics_values::{Local, Stamp};
 use ics_zone::{Display, Place};

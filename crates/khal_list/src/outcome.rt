@@ -14,7 +14,8 @@ use crate::fault::{RunFault, SourceFault};
 use crate::refusal::Refusal;
 use crate::source::Source;
 use crate::zone_source::ZoneSource;
-use ics_calendar::{Draft, FileEvents, FileFault, Text, ZoneFiles, only_wanted_files_count};
+use ics_calendar::{Draft, FileFault, ZoneFiles, only_wanted_files_count};
+use ics_event::{FileEvents, Text};
 use std::alloc::{AllocError, Global};
 
 /// What becomes of a file.

@@ -1,6 +1,6 @@
 //! The files of a source, read one by one.
 ghost use Rattle.std.specs.Prelude.{◌≡◌, ◌≢◌, ◌↔◌, ◌++◌, List, [], IfOk, IfErr, OnOk, map};
-ghost use Rattle.ics_calendar.specs.Event.{said_by};
+ghost use Rattle.ics_event.specs.Event.{said_by};
 ghost use Rattle.khal_list.specs.Answers.{Contents};
 ghost use Rattle.khal_list.specs.Errors.{events_first, error_line};
 ghost use Rattle.khal_list.specs.Asked.{all_wanted, Asked, AsksAll, AsksSome};
@@ -14,7 +14,8 @@ use crate::refusal::add_refusal_line;
 use crate::source::Source;
 use crate::status::Status;
 use crate::zone_source::ZoneSource;
-use ics_calendar::{FileEvents, only_wanted_files_count};
+use ics_calendar::only_wanted_files_count;
+use ics_event::FileEvents;
 use std::alloc::Global;
 
 /// What is kept from the files of a source: the events of the accepted files, and the lines of the

@@ -2,7 +2,7 @@
 ghost use Rattle.std.specs.Prelude.{◌≡◌, ◌⊎◌, IfOk, OnErr, IsErrOf, map};
 ghost use Rattle.std.specs.Option.{option_map};
 ghost use Rattle.std.specs.String.{string_bytes};
-ghost use Rattle.ics_calendar.specs.Event.{said_by};
+ghost use Rattle.ics_event.specs.Event.{said_by};
 ghost use Rattle.khal_list.specs.Growth.{LeftByFault};
 ghost use Rattle.khal_list.specs.Headline.{Lists, Shown, ShownInPart, Shows, ShowsDays, ShowsOnce, Stops};
 
@@ -16,7 +16,7 @@ use crate::sink::{Sink, put_all};
 use crate::source::Source;
 use crate::status::Status;
 use crate::zone_source::ZoneSource;
-use ics_calendar::FileEvents;
+use ics_event::FileEvents;
 use ics_series::{DayToken, Folder, Token};
 use std::alloc::Global;
 

@@ -2,7 +2,7 @@ use Rattle.std.proofs.Common.{◌≡◌, List, sym, ap, ◌∙◌, subst}
 use Rattle.ics_zone.specs.ZoneSaid.{ZoneSaid}
 use Rattle.ics_calendar.specs.DeferredChecks.{KnownZones}
 use Rattle.ics_calendar.specs.Drafts.{left_of}
-use Rattle.ics_calendar.specs.Event.{EventSeen, AreEventsOf}
+use Rattle.ics_event.specs.Event.{EventSeen, AreEventsOf}
 use Rattle.ics_calendar.specs.Gathered.{first_judged}
 use Rattle.ics_calendar.specs.GatheredSeen.{GatheredSeen}
 use Rattle.ics_calendar.specs.ZoneTables.{known_by}

@@ -1,7 +1,7 @@
 use Rattle.std.proofs.Common.{◌≡◌, ◌+ℤ◌, ◌-ℤ◌, ◌≤ℤ◌, ◌∙◌, ap, sym, subst, w64, to_z, of_z, arith}
 use Rattle.std.proofs.lemmas.Int.{ints}
-use Rattle.ics_calendar.specs.declared.time.Length.TheVariants.{Until}
-use Rattle.ics_calendar.specs.Event.{IsLength}
+use Rattle.ics_event.specs.declared.time.Length.TheVariants.{Until}
+use Rattle.ics_event.specs.Event.{IsLength}
 use Rattle.ics_series.specs.Clocks.{instant}
 use Rattle.ics_series.specs.Finish.{end_by}
 use Rattle.ics_series.specs.FileZones.{clocks_in, EndsNear, IsEndOf}

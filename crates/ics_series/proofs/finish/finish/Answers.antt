@@ -1,6 +1,6 @@
 use Rattle.std.proofs.Common.{length, arith, subst}
 use Rattle.std.proofs.lemmas.Int.{ints, int_max_is}
-use Rattle.ics_calendar.specs.Event.{RdateBelow}
+use Rattle.ics_event.specs.Event.{RdateBelow}
 use Rattle.ics_series.specs.Starts.{time_of}
 use Rattle.ics_series.specs.FileZones.{clocks_in, IsTimeOf}
 use Rattle.ics_series.proofs.StartSourceLemmas.{gives-below}

@@ -1,6 +1,6 @@
 use Rattle.std.proofs.Common.{arith, subst}
 use Rattle.std.proofs.lemmas.Int.{ints}
-use Rattle.ics_calendar.specs.Event.{IsSpan}
+use Rattle.ics_event.specs.Event.{IsSpan}
 use Rattle.ics_series.proofs.InstantLemmas.{early, late}
 use Rattle.ics_series.proofs.finish.span_end.Goals as goal
 

@@ -1,8 +1,8 @@
 use Rattle.std.proofs.Common.{◌≡◌, w64, to_z, of_z, pos, ◌-ℤ◌, sym, ap, subst, ◌∙◌, arith}
 use Rattle.std.specs.Int.{int_max}
 use Rattle.std.proofs.lemmas.Int.{ints, int_max_is}
-use Rattle.ics_calendar.specs.declared.time.Length.TheVariants.{Until}
-use Rattle.ics_calendar.specs.Event.{IsLasting, IsLength}
+use Rattle.ics_event.specs.declared.time.Length.TheVariants.{Until}
+use Rattle.ics_event.specs.Event.{IsLasting, IsLength}
 use Rattle.ics_series.specs.Clocks.{instant}
 use Rattle.ics_series.specs.Finish.{seconds_by}
 use Rattle.ics_series.specs.FileZones.{clocks_in, EndsNear, IsEndOf}

@@ -1,8 +1,8 @@
 use Rattle.std.specs.Prelude.{slice_get}
 use Rattle.std.proofs.Common.{◌≡◌, Some, List, length, refl, sym, ◌∙◌, ap, subst}
 use Rattle.std.proofs.lemmas.Option.{slice_get_read}
-use Rattle.ics_calendar.specs.declared.event.Event.{Event}
-use Rattle.ics_calendar.specs.declared.time.Rdate.{Rdate}
+use Rattle.ics_event.specs.declared.event.Event.{Event}
+use Rattle.ics_event.specs.declared.time.Rdate.{Rdate}
 use Rattle.ics_series.specs.declared.start.StartSource.TheVariants.{Listed}
 use Rattle.ics_series.specs.Starts.{given_by, time_of}
 use Rattle.ics_series.specs.FileZones.{IsTimeOf}

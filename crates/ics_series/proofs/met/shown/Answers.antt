@@ -1,6 +1,6 @@
 use Rattle.std.proofs.Common.{◌≡◌, ◌<ℤ◌, w64, to_z, of_z, Some, option_map, sym, ◌∙◌, ap, arith}
 use Rattle.std.proofs.lemmas.Int.{ints}
-use Rattle.ics_calendar.specs.declared.event.Event.{Event}
+use Rattle.ics_event.specs.declared.event.Event.{Event}
 use Rattle.ics_series.specs.Clocks.{clock_of, instant}
 use Rattle.ics_series.specs.Entry.{Entry, entry_of}
 use Rattle.ics_series.specs.Exclusions.{is_excluded, takes_out}

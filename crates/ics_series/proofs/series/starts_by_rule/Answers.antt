@@ -5,7 +5,7 @@ use denote.Ref.{Bor}
 use mir.Val.{SFits}
 use Rattle.ics_fields.specs.Days.{IsDayNumber}
 use Rattle.ics_fields.specs.declared.local.Local.{Local}
-use Rattle.ics_calendar.specs.declared.event.Event.{Event}
+use Rattle.ics_event.specs.declared.event.Event.{Event}
 use Rattle.ics_fields.specs.Locals.{local_seconds, whole_days}
 use Rattle.ics_series.specs.Found.{earliest}
 use Rattle.ics_series.specs.SeriesStarts.{first_asked}

@@ -1,6 +1,6 @@
 use Rattle.std.proofs.Common.{◌≡◌, ◌≤◌, suc, length, map, refl, sym, arith, ap, ◌∙◌}
 use Rattle.std.specs.Prelude.{slice_get}
-use Rattle.ics_calendar.specs.Event.{said_by}
+use Rattle.ics_event.specs.Event.{said_by}
 use Rattle.khal_list.proofs.ReadLemmas.{done-none, done-more, read-some, stops-after}
 use Rattle.khal_list.proofs.reading.read_all.Goals as goal
 

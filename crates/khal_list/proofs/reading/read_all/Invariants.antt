@@ -1,5 +1,5 @@
 use Rattle.std.proofs.Common.{◌≡◌, map}
-use Rattle.ics_calendar.specs.Event.{said_by}
+use Rattle.ics_event.specs.Event.{said_by}
 use Rattle.khal_list.proofs.ReadLemmas.{Done}
 use Rattle.khal_list.proofs.reading.read_all.Given as goal
 

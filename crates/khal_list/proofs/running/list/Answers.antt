@@ -1,7 +1,7 @@
 use Rattle.std.proofs.Common.{◌≡◌, ◌∙◌, map, ap}
 use Rattle.std.specs.Option.{option_map}
 use Rattle.std.specs.String.{string_bytes}
-use Rattle.ics_calendar.specs.Event.{said_by}
+use Rattle.ics_event.specs.Event.{said_by}
 use Rattle.ics_series.specs.FolderContents.{Contents}
 use Rattle.khal_list.specs.Headline.{Shows, ShowsDays, ShowsOnce}
 use Rattle.khal_list.proofs.RunLemmas.{days-shows, once-shows, part-as, shown-as}

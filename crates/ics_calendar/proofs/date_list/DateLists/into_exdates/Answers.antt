@@ -1,6 +1,6 @@
 use Rattle.std.proofs.Common.{rules, ◌≡◌, ◌++◌, ◌∷◌, ◌∙◌, List, map, sym, ap}
 use Rattle.ics_calendar.specs.declared.date_list.DateList.{DateList}
-use Rattle.ics_calendar.specs.declared.time.Time.{Time}
+use Rattle.ics_event.specs.declared.time.Time.{Time}
 use Rattle.ics_calendar.specs.DateLists.{zone_listed, exdate_in, exdates_by}
 use Rattle.ics_calendar.specs.ZoneTables.{known_by}
 use Rattle.ics_calendar.proofs.Listed.{flat_map-next}

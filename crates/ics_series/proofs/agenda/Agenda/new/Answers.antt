@@ -1,6 +1,6 @@
 use Rattle.std.proofs.Common.{map, sym, subst}
 use Rattle.std.specs.Option.{option_map}
-use Rattle.ics_calendar.specs.Event.{said_by}
+use Rattle.ics_event.specs.Event.{said_by}
 use Rattle.ics_series.specs.Clocks.{display_clock}
 use Rattle.ics_series.specs.Entry.{entry_cmp, key_rank}
 use Rattle.ics_series.specs.Listing.{IsListing}

@@ -1,7 +1,7 @@
 use Rattle.std.specs.Prelude.{IfOk, Result, Ok, Err}
 use Rattle.std.proofs.Common.{rules, ◌≡◌, ℤ, map, inl, subst, to_z, of_z, w32}
 use Rattle.std.specs.Option.{option_map}
-use Rattle.ics_calendar.specs.Event.{said_by}
+use Rattle.ics_event.specs.Event.{said_by}
 use Rattle.ics_series.specs.declared.agenda.Agenda.{Agenda}
 use Rattle.ics_series.specs.Ahead.{agenda_coming}
 use Rattle.ics_series.specs.Clocks.{display_clock}

@@ -2,7 +2,7 @@ use Rattle.std.specs.Prelude.{◌≤ℤ◌, ℤ, Option}
 use Rattle.std.proofs.Common.{rules, ◌≡◌, map, refl, sym, ap, subst, arith, to_z, of_z, w32}
 use Rattle.std.specs.Option.{option_map}
 use Rattle.std.proofs.lemmas.Int.{ints}
-use Rattle.ics_calendar.specs.Event.{said_by}
+use Rattle.ics_event.specs.Event.{said_by}
 use Rattle.ics_zone.specs.Near.{offset_near}
 use Rattle.ics_zone.specs.JiffZones.{zone_of}
 use Rattle.ics_series.specs.Ahead.{agenda_coming}

@@ -2,8 +2,8 @@ use Rattle.std.proofs.Common.{◌≡◌, List, map, subst}
 use Rattle.std.specs.Prelude.{IfOk}
 use Rattle.std.specs.List.{flat_map}
 use Rattle.std.specs.Option.{option_map}
-use Rattle.ics_calendar.specs.Event.{said_by}
-use Rattle.ics_calendar.specs.declared.events.FileEvents.{FileEvents}
+use Rattle.ics_event.specs.Event.{said_by}
+use Rattle.ics_event.specs.declared.events.FileEvents.{FileEvents}
 use Rattle.ics_series.specs.declared.agenda.Agenda.{Agenda}
 use Rattle.ics_series.specs.After.{after_key}
 use Rattle.ics_series.specs.Clocks.{display_clock}

@@ -2,7 +2,7 @@ use Rattle.std.proofs.Common.{List, map, ◌∙◌, ap, sym, subst, rules}
 use Rattle.std.specs.Ordering.{on}
 use Rattle.std.proofs.lemmas.Cmp.{on_total}
 use Rattle.std.specs.Option.{option_map}
-use Rattle.ics_calendar.specs.Event.{said_by}
+use Rattle.ics_event.specs.Event.{said_by}
 use Rattle.ics_series.specs.declared.single.Single.{Single}
 use Rattle.ics_series.specs.Clocks.{display_clock}
 use Rattle.ics_series.specs.Entry.{entry_cmp, key_rank}

@@ -1,6 +1,6 @@
 use Rattle.std.proofs.Common.{◌≡◌, ◌<◌, length, map, sym, subst, ap, ◌∙◌}
 use Rattle.ics_zone.specs.ZoneSaid.{zone_said}
-use Rattle.ics_calendar.specs.Event.{said_by, FileSeen, IsEventOf}
+use Rattle.ics_event.specs.Event.{said_by, FileSeen, IsEventOf}
 use Rattle.ics_series.specs.PlacedEvents.{zones_in, zones_of}
 use Rattle.ics_series.proofs.SpotLemmas.{event-within, said-there}
 use Rattle.ics_series.proofs.spot.Spot.event.Goals as goal

@@ -31,7 +31,7 @@ pub struct Event {
 }
 
 impl Model for Event {
-    ghost use Rattle.ics_calendar.specs.Event.{EventSeen, IsEvent};
+    ghost use Rattle.ics_event.specs.Event.{EventSeen, IsEvent};
 
     ghost Value = { EventSeen };
 

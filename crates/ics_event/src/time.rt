@@ -1,6 +1,5 @@
 ghost use Rattle.std.specs.Prelude.{◌≡◌};
-ghost use Rattle.ics_calendar.specs.Times.{time_in};
-ghost use Rattle.ics_calendar.specs.Event.{is_zoned};
+ghost use Rattle.ics_event.specs.Event.{is_zoned, time_in};
 
 use ics_values::{Duration, Stamp};
 
@@ -28,7 +27,7 @@ pub enum Rdate {
 }
 
 /// Whether it is a local stamp beside a TZID.
-pub(crate) fn is_zoned(stamp: Stamp) -> bool
+pub fn is_zoned(stamp: Stamp) -> bool
     ensures { result ≡ is_zoned stamp }
 {
     matches!(stamp, Stamp::Zoned(_))
@@ -36,7 +35,7 @@ pub(crate) fn is_zoned(stamp: Stamp) -> bool
 
 impl Time {
     /// The time of a stamp, where its TZID names the zone with that index.
-    pub(crate) fn of_stamp(stamp: Stamp, zone: Option<u32>) -> Time
+    pub fn of_stamp(stamp: Stamp, zone: Option<u32>) -> Time
         ensures { result ≡ time_in zone stamp }
     {
         Time {

@@ -15,7 +15,7 @@ pub struct FileEvents {
 impl Model for FileEvents {
     ghost use Rattle.std.specs.Prelude.{map};
     ghost use Rattle.ics_zone.specs.ZoneSaid.{zone_said};
-    ghost use Rattle.ics_calendar.specs.Event.{FileSeen, AreEventsOf};
+    ghost use Rattle.ics_event.specs.Event.{FileSeen, AreEventsOf};
 
     ghost Value = { FileSeen };
 

@@ -1,8 +1,7 @@
-ghost use Rattle.std.specs.Prelude.{◌≡◌, IfOk, [], map, Some, refl, bytes_eq};
+ghost use Rattle.std.specs.Prelude.{◌≡◌, IfOk, [], Some, refl, bytes_eq};
 ghost use Rattle.std.specs.Cmp.{partial_equiv_from_equiv};
 ghost use Rattle.std.specs.Cmp.Lexicographic.{slice_cmp, nat_list_eq_equiv, nat_list_cmp_total, texts_ties, texts_po};
 ghost use Rattle.std.specs.Ordering.{nat_cmp};
-ghost use Rattle.ics_text.specs.Bytes.{upper};
 ghost use Rattle.ics_values.specs.Plain.{text_of};
 
 use ics_values::text_bytes;
@@ -26,7 +25,7 @@ impl Model for Text {
 
 impl Text {
     /// A text without bytes.
-    pub(crate) fn new(alloc: Global) -> Text
+    pub fn new(alloc: Global) -> Text
         ensures { result ≡ [] }
     {
         Text {
@@ -50,18 +49,10 @@ impl Text {
     }
 
     /// The text that a TEXT value stands for, without its escapes (RFC 5545, section 3.3.11).
-    pub(crate) fn of_value(alloc: Global, value: &[u8]) -> Result<Text, AllocError>
+    pub fn of_value(alloc: Global, value: &[u8]) -> Result<Text, AllocError>
         ensures { IfOk result (λ text. text ≡ text_of value.now) }
     {
         let bytes = text_bytes(alloc, value)?;
-        Ok(Text { bytes })
-    }
-
-    /// A text of these bytes in upper case.
-    pub(crate) fn upper_case(alloc: Global, bytes: &[u8]) -> Result<Text, AllocError>
-        ensures { IfOk result (λ text. text ≡ map upper bytes.now) }
-    {
-        let bytes = bytes.to_ascii_uppercase(alloc)?;
         Ok(Text { bytes })
     }
 
