@@ -191,22 +191,7 @@ closed-awaited : (checks : List DeferredCheck) (f : Frame) (fs : List Frame) →
 closed-awaited checks f [] h = h
 closed-awaited checks f (g ∷ gs) h = (joined-awaited checks g.calendar f.builder g.builder h.1.0, h.1.1)
 
--- a line keeps it
-pub awaited-behind : (checks : List DeferredCheck) (number : ℕ) (n : Name) (v : Parts) (f : Frame) (fs : List Frame) → AreAwaited checks (f ∷ fs) →
-    AreAwaited (checks ++ one (check_in n v f)) (behind number n v (f ∷ fs))
-awaited-behind checks number n v f fs h = rw (check-is n v f, behind-is number n v f fs) (by_tests (is_begin_name n) (is_end_name n))
-  where
-    c : Component
-    c = component_of (map upper v.value)
-
-    by_tests : (b e : Bool) → AreAwaited (checks ++ one (cond b None (cond e (end_check f.calendar f.builder) (builder_check f.calendar n v f.builder))))
-        (cond b (opened number c (f ∷ fs)) (cond e (closed (f ∷ fs)) (record f { builder = builder_note n v f.builder } ∷ fs)))
-    by_tests true e = (fresh-awaited (checks ++ []) _ (context_in f.context c), are-awaited-more checks [] (f ∷ fs) h)
-    by_tests false true =
-        closed-awaited (checks ++ one (end_check f.calendar f.builder)) f fs (are-awaited-more checks (one (end_check f.calendar f.builder)) (f ∷ fs) h)
-    by_tests false false = (noted-awaited checks f.calendar n v f.builder h.0, are-awaited-more checks (one (builder_check f.calendar n v f.builder)) fs h.1)
-
--- AN EVENT THAT ENDS is awaited.
+-- what the length of an event that has ended looks at
 start-looked : (checks : List DeferredCheck) (k : ℕ) (o : Option Dated) → IfSome (used_in k o) (Contains checks) →
     IfSome (used_zone k (dated_in o)) (Contains checks)
 start-looked checks k (Some d) h = h
@@ -227,32 +212,49 @@ length-looked checks k (Some s) None None h = tt
 length-looked checks k None None (Some d) h = tt
 length-looked checks k None None None h = tt
 
-pub ended-awaited : (checks : List DeferredCheck) (n : Name) (v : Parts) (f : Frame) (fs : List Frame) → AreAwaited checks (f ∷ fs) →
-    All (EachZone (Contains (checks ++ one (check_in n v f)))) (events_of_end (ends n (f ∷ fs)))
-ended-awaited checks name.End v f [] h = All-nil (EachZone (Contains (checks ++ one (end_check f.calendar f.builder))))
-ended-awaited checks name.End v f (g ∷ gs) h = by_builder f.builder h.0
-  where
-    by_builder : (s : Builder) → IsAwaitedIn checks f.calendar s →
-        All (EachZone (Contains (checks ++ one (end_check f.calendar s)))) (events_of_end (ended_as f.calendar s))
-    by_builder (builder.Event had) h =
-        let k : ℕ = f.calendar in
-        let late : Option DeferredCheck = ends_in k had.start had.end in
-        let more : List DeferredCheck = checks ++ one late in
-        let z : AreLooked more k had = looked-more checks (one late) k had h in
-        All-cons (EachZone (Contains more)) (event_ended k had) []
-        (record {
-          start = start-looked more k had.start z.start;
-          end = end-looked more k had.end had.duration z.end;
-          rdates = z.rdates;
-          exdates = z.exdates;
-          recurrence = z.recurrence;
-          length = length-looked more k had.start had.end had.duration (some-here checks late);
-        })
-        (All-nil (EachZone (Contains more)))
-    by_builder (builder.Zone had) h = All-nil (EachZone (Contains (checks ++ [])))
-    by_builder (builder.Observance had) h = All-nil (EachZone (Contains (checks ++ [])))
-    by_builder builder.Nothing h = All-nil (EachZone (Contains (checks ++ [])))
-ended-awaited checks _ v f fs h = All-nil _
+module _ (checks : List DeferredCheck) (v : Parts) (f : Frame) where
+  -- a line keeps it
+  pub awaited-behind : (number : ℕ) (n : Name) (fs : List Frame) → AreAwaited checks (f ∷ fs) →
+      AreAwaited (checks ++ one (check_in n v f)) (behind number n v (f ∷ fs))
+  awaited-behind number n fs h = rw (check-is n v f, behind-is number n v f fs) (by_tests (is_begin_name n) (is_end_name n))
+    where
+      c : Component
+      c = component_of (map upper v.value)
+
+      by_tests : (b e : Bool) → AreAwaited (checks ++ one (cond b None (cond e (end_check f.calendar f.builder) (builder_check f.calendar n v f.builder))))
+          (cond b (opened number c (f ∷ fs)) (cond e (closed (f ∷ fs)) (record f { builder = builder_note n v f.builder } ∷ fs)))
+      by_tests true e = (fresh-awaited (checks ++ []) _ (context_in f.context c), are-awaited-more checks [] (f ∷ fs) h)
+      by_tests false true =
+          closed-awaited (checks ++ one (end_check f.calendar f.builder)) f fs (are-awaited-more checks (one (end_check f.calendar f.builder)) (f ∷ fs) h)
+      by_tests false false = (noted-awaited checks f.calendar n v f.builder h.0, are-awaited-more checks (one (builder_check f.calendar n v f.builder)) fs h.1)
+
+  -- AN EVENT THAT ENDS is awaited.
+  pub ended-awaited : (n : Name) (fs : List Frame) → AreAwaited checks (f ∷ fs) →
+      All (EachZone (Contains (checks ++ one (check_in n v f)))) (events_of_end (ends n (f ∷ fs)))
+  ended-awaited name.End [] h = All-nil (EachZone (Contains (checks ++ one (end_check f.calendar f.builder))))
+  ended-awaited name.End (g ∷ gs) h = by_builder f.builder h.0
+    where
+      by_builder : (s : Builder) → IsAwaitedIn checks f.calendar s →
+          All (EachZone (Contains (checks ++ one (end_check f.calendar s)))) (events_of_end (ended_as f.calendar s))
+      by_builder (builder.Event had) h =
+          let k : ℕ = f.calendar in
+          let late : Option DeferredCheck = ends_in k had.start had.end in
+          let more : List DeferredCheck = checks ++ one late in
+          let z : AreLooked more k had = looked-more checks (one late) k had h in
+          All-cons (EachZone (Contains more)) (event_ended k had) []
+          (record {
+            start = start-looked more k had.start z.start;
+            end = end-looked more k had.end had.duration z.end;
+            rdates = z.rdates;
+            exdates = z.exdates;
+            recurrence = z.recurrence;
+            length = length-looked more k had.start had.end had.duration (some-here checks late);
+          })
+          (All-nil (EachZone (Contains more)))
+      by_builder (builder.Zone had) h = All-nil (EachZone (Contains (checks ++ [])))
+      by_builder (builder.Observance had) h = All-nil (EachZone (Contains (checks ++ [])))
+      by_builder builder.Nothing h = All-nil (EachZone (Contains (checks ++ [])))
+  ended-awaited _ fs h = All-nil _
 
 -- WHAT THE SECOND ROUND LOOKS AT lies in the years of stamps.
 instant-sound : (name : ZoneName) (r : Stamp) → IsSoundStamp r → IfSome (instant_on name r) IsSoundInstant

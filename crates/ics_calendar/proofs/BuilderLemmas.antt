@@ -124,16 +124,7 @@ observance-is l e =
     ap (λ t. in_zone l && ((t && bytes_eq (component l) (codes "STANDARD")) || (t && bytes_eq (component l) (codes "DAYLIGHT")))) e
     ∙ sym (observance-begins (context_of l.path) (component l))
 
--- WHAT IS COLLECTED of a component, with one line more that begins none.
-pub builder-more : (whole : List Placed) (q : Context) (k : List Open) (ls : List Placed) (l : Placed) → is_begin l ≡ false →
-    builder_at q (readings whole k (ls ++ l ∷ [])) ≡ builder_note (name_of (property_name l.content)) (parts_at l) (builder_at q (readings whole k ls))
-builder-more whole context.Event k ls l e = ap builder.Event (collected_of-more ls l)
-builder-more whole context.Zone k ls l e =
-    ap (λ os. builder.Zone (zone_of os (ls ++ l ∷ []))) (parts-same whole ls l e) ∙ ap builder.Zone (zone_of-more (parts whole ls) ls l)
-builder-more whole context.Observance k ls l e = ap builder.Observance (observance_of-more ls l)
-builder-more whole _ k ls l e = refl
-
--- The same with the BEGIN line of a component that has ended in it, and is one of its observances or changes nothing.
+-- what stands in another component changes nothing but observances
 event-still : (s : Builder) (had : EventBuilder) → joined s (builder.Event had) ≡ builder.Event had
 event-still (builder.Observance o) had = refl
 event-still _ had = refl
@@ -146,24 +137,36 @@ pub nothing-still : (s : Builder) → joined s builder.Nothing ≡ builder.Nothi
 nothing-still (builder.Observance o) = refl
 nothing-still _ = refl
 
-pub builder-begun : (whole : List Placed) (q : Context) (k : List Open) (ls : List Placed) (b : Placed) (g : Readings) →
-    name_of (property_name b.content) ≡ name.Begin → is_begin b ≡ true → own whole b ≡ observance_ended g.observance →
-    builder_at q (readings whole k (ls ++ b ∷ [])) ≡ joined (builder_at (context_of (inside b)) g) (builder_at q (readings whole k ls))
-builder-begun whole context.Event k ls b g n e o =
-    ap builder.Event (collected_of-more ls b ∙ ap (λ n. event_note n (parts_at b) (collected_of ls)) n)
-    ∙ sym (event-still (builder_at (context_of (inside b)) g) (collected_of ls))
-builder-begun whole context.Observance k ls b g n e o =
-    ap builder.Observance (observance_of-more ls b ∙ ap (λ n. observance_note n (parts_at b) (observance_of ls)) n)
-    ∙ sym (observance-still (builder_at (context_of (inside b)) g) (observance_of ls))
-builder-begun whole context.Zone k ls b g n e o =
-    ap builder.Zone (zone_of-more (parts whole (ls ++ b ∷ [])) ls b ∙ ap (λ n. zone_note n (parts_at b) (zone_of (parts whole (ls ++ b ∷ [])) ls)) n)
-    ∙ ap (λ os. builder.Zone (zone_of os ls)) (parts-more whole ls b ∙ ap (λ t. parts whole ls ++ cond t (own whole b ∷ []) []) (observance-is b e))
-    ∙ by_context (context_of (inside b))
-  where
-    by_context : (p : Context) → builder.Zone (zone_of (parts whole ls ++ cond (is_observance_context p) (own whole b ∷ []) []) ls)
-        ≡ joined (builder_at p g) (builder.Zone (zone_of (parts whole ls) ls))
-    by_context context.Observance = ap (λ p. builder.Zone (zone_of (parts whole ls ++ p ∷ []) ls)) o
-    by_context context.Event = ap (λ os. builder.Zone (zone_of os ls)) (append-nil (parts whole ls))
-    by_context context.Zone = ap (λ os. builder.Zone (zone_of os ls)) (append-nil (parts whole ls))
-    by_context _ = ap (λ os. builder.Zone (zone_of os ls)) (append-nil (parts whole ls))
-builder-begun whole _ k ls b g n e o = sym (nothing-still (builder_at (context_of (inside b)) g))
+-- WHAT IS COLLECTED of a component.
+module _ (whole : List Placed) (k : List Open) (ls : List Placed) where
+  -- with one line more that begins none
+  pub builder-more : (q : Context) (l : Placed) → is_begin l ≡ false →
+      builder_at q (readings whole k (ls ++ l ∷ [])) ≡ builder_note (name_of (property_name l.content)) (parts_at l) (builder_at q (readings whole k ls))
+  builder-more context.Event l e = ap builder.Event (collected_of-more ls l)
+  builder-more context.Zone l e =
+      ap (λ os. builder.Zone (zone_of os (ls ++ l ∷ []))) (parts-same whole ls l e) ∙ ap builder.Zone (zone_of-more (parts whole ls) ls l)
+  builder-more context.Observance l e = ap builder.Observance (observance_of-more ls l)
+  builder-more _ l e = refl
+
+  -- with the BEGIN line of a component that has ended in it, and is one of its observances or changes nothing
+  pub builder-begun : (q : Context) (b : Placed) (g : Readings) →
+      name_of (property_name b.content) ≡ name.Begin → is_begin b ≡ true → own whole b ≡ observance_ended g.observance →
+      builder_at q (readings whole k (ls ++ b ∷ [])) ≡ joined (builder_at (context_of (inside b)) g) (builder_at q (readings whole k ls))
+  builder-begun context.Event b g n e o =
+      ap builder.Event (collected_of-more ls b ∙ ap (λ n. event_note n (parts_at b) (collected_of ls)) n)
+      ∙ sym (event-still (builder_at (context_of (inside b)) g) (collected_of ls))
+  builder-begun context.Observance b g n e o =
+      ap builder.Observance (observance_of-more ls b ∙ ap (λ n. observance_note n (parts_at b) (observance_of ls)) n)
+      ∙ sym (observance-still (builder_at (context_of (inside b)) g) (observance_of ls))
+  builder-begun context.Zone b g n e o =
+      ap builder.Zone (zone_of-more (parts whole (ls ++ b ∷ [])) ls b ∙ ap (λ n. zone_note n (parts_at b) (zone_of (parts whole (ls ++ b ∷ [])) ls)) n)
+      ∙ ap (λ os. builder.Zone (zone_of os ls)) (parts-more whole ls b ∙ ap (λ t. parts whole ls ++ cond t (own whole b ∷ []) []) (observance-is b e))
+      ∙ by_context (context_of (inside b))
+    where
+      by_context : (p : Context) → builder.Zone (zone_of (parts whole ls ++ cond (is_observance_context p) (own whole b ∷ []) []) ls)
+          ≡ joined (builder_at p g) (builder.Zone (zone_of (parts whole ls) ls))
+      by_context context.Observance = ap (λ p. builder.Zone (zone_of (parts whole ls ++ p ∷ []) ls)) o
+      by_context context.Event = ap (λ os. builder.Zone (zone_of os ls)) (append-nil (parts whole ls))
+      by_context context.Zone = ap (λ os. builder.Zone (zone_of os ls)) (append-nil (parts whole ls))
+      by_context _ = ap (λ os. builder.Zone (zone_of os ls)) (append-nil (parts whole ls))
+  builder-begun _ b g n e o = sym (nothing-still (builder_at (context_of (inside b)) g))

@@ -110,45 +110,46 @@ bundles_behind l bundles =
     else if is_end l then close l bundles
     else add_line l bundles
 
--- a line deeper in leaves the bundles below alone
-below : (before up : List Placed) (l : Placed) (path : List Open) (bundles : List Bundle) → innermost path < innermost l.path → Keeps before up path bundles →
-    Keeps (before ++ l ∷ []) up path bundles
-below before up l [] [] less k = k
-below before up l [] (f ∷ []) less k = let ne : innermost l.path ≢ 0 = λ e. omega (arith, e, less) in lines_in-elsewhere 0 before l ne ∙ k
-below before up l [] (f ∷ g ∷ gs) less k = k
-below before up l (c ∷ cs) [] less k = k
-below before up l (c ∷ cs) (f ∷ fs) less k =
-    let ne : innermost l.path ≢ c.begun = λ e. omega (arith, e, less) in
-    let kept : IsKept before up c cs f = k.0 in (
-      record {
-        lines = lines_in-elsewhere c.begun before l ne ∙ kept.lines;
-        less = kept.less;
-        opened = kept.opened;
-        begins = kept.begins;
-        observances = kept.observances;
-      },
-      below before (f.begin ∷ []) l cs fs (omega (arith, kept.less, less)) k.1,
-    )
+module _ (before : List Placed) (l : Placed) where
+  -- a line deeper in leaves the bundles below alone
+  below : (up : List Placed) (path : List Open) (bundles : List Bundle) → innermost path < innermost l.path → Keeps before up path bundles →
+      Keeps (before ++ l ∷ []) up path bundles
+  below up [] [] less k = k
+  below up [] (f ∷ []) less k = let ne : innermost l.path ≢ 0 = λ e. omega (arith, e, less) in lines_in-elsewhere 0 before l ne ∙ k
+  below up [] (f ∷ g ∷ gs) less k = k
+  below up (c ∷ cs) [] less k = k
+  below up (c ∷ cs) (f ∷ fs) less k =
+      let ne : innermost l.path ≢ c.begun = λ e. omega (arith, e, less) in
+      let kept : IsKept before up c cs f = k.0 in (
+        record {
+          lines = lines_in-elsewhere c.begun before l ne ∙ kept.lines;
+          less = kept.less;
+          opened = kept.opened;
+          begins = kept.begins;
+          observances = kept.observances;
+        },
+        below (f.begin ∷ []) cs fs (omega (arith, kept.less, less)) k.1,
+      )
 
--- a line is still to be added to the innermost bundle
-here : (before : List Placed) (l : Placed) (path : List Open) (bundles : List Bundle) → path ≡ l.path → Keeps before [] path bundles →
-    Keeps (before ++ l ∷ []) (l ∷ []) path bundles
-here before l [] [] e k = k
-here before l [] (f ∷ []) e k = lines_in-here 0 before l (ap innermost (sym e)) ∙ ap (λ ls. ls ++ l ∷ []) (k ∙ append-nil f.lines)
-here before l [] (f ∷ g ∷ gs) e k = k
-here before l (c ∷ cs) [] e k = k
-here before l (c ∷ cs) (f ∷ fs) e k =
-    let at : innermost l.path ≡ c.begun = ap innermost (sym e) in
-    let kept : IsKept before [] c cs f = k.0 in (
-      record {
-        lines = lines_in-here c.begun before l at ∙ ap (λ ls. ls ++ l ∷ []) (kept.lines ∙ append-nil f.lines);
-        less = kept.less;
-        opened = kept.opened;
-        begins = kept.begins;
-        observances = kept.observances;
-      },
-      below before (f.begin ∷ []) l cs fs (omega (arith, at, kept.less)) k.1,
-    )
+  -- a line is still to be added to the innermost bundle
+  here : (path : List Open) (bundles : List Bundle) → path ≡ l.path → Keeps before [] path bundles →
+      Keeps (before ++ l ∷ []) (l ∷ []) path bundles
+  here [] [] e k = k
+  here [] (f ∷ []) e k = lines_in-here 0 before l (ap innermost (sym e)) ∙ ap (λ ls. ls ++ l ∷ []) (k ∙ append-nil f.lines)
+  here [] (f ∷ g ∷ gs) e k = k
+  here (c ∷ cs) [] e k = k
+  here (c ∷ cs) (f ∷ fs) e k =
+      let at : innermost l.path ≡ c.begun = ap innermost (sym e) in
+      let kept : IsKept before [] c cs f = k.0 in (
+        record {
+          lines = lines_in-here c.begun before l at ∙ ap (λ ls. ls ++ l ∷ []) (kept.lines ∙ append-nil f.lines);
+          less = kept.less;
+          opened = kept.opened;
+          begins = kept.begins;
+          observances = kept.observances;
+        },
+        below (f.begin ∷ []) cs fs (omega (arith, at, kept.less)) k.1,
+      )
 
 -- it is added
 observances-more : (l : Placed) (path : List Open) (ls : List Placed) → path ≡ l.path → is_zone_context (context_of path) ≡ true →
@@ -199,7 +200,7 @@ closed before l (c ∷ cs) (f ∷ g ∷ gs) e k =
     let at : innermost l.path ≡ c.begun = ap innermost (sym e) in
     let kept : IsKept before [] c cs f = k.0 in
     joined (before ++ l ∷ []) f.begin cs (g ∷ gs) (sym (path-of f.begin c cs kept.opened))
-    (below before (f.begin ∷ []) l cs (g ∷ gs) (omega (arith, at, kept.less)) k.1)
+    (below before l (f.begin ∷ []) cs (g ∷ gs) (omega (arith, at, kept.less)) k.1)
 
 pub Before-more : (n : ℕ) (before : List Placed) (l : Placed) → Before n before → innermost l.path < n → Before n (before ++ l ∷ [])
 Before-more n [] l h less = (less, tt)

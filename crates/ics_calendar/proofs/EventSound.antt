@@ -33,8 +33,9 @@ use Rattle.ics_calendar.specs.DeferredChecks.{KnownZones, zone_used, judged, mom
 use Rattle.ics_calendar.specs.SecondRound.{used_zone, used_in, listed_zone, instant_on, both_compared, ends_in}
 use Rattle.ics_calendar.specs.Sound.{IsReady, end_of, IsSoundStamp, IsSoundLength, IsSoundValue, IsSoundList}
 use Rattle.ics_calendar.specs.Times.{time_on, length_of}
-use Rattle.ics_calendar.specs.Values.{length_in_seconds, is_lasting, same_zone, is_out, is_bad_end, tzid}
+use Rattle.ics_calendar.specs.Values.{length_in_seconds, is_lasting, is_out, is_bad_end, tzid}
 use Rattle.ics_calendar.proofs.Listed.{All-flat_map}
+use Rattle.ics_event.specs.declared.time.Length.TheVariants.{Until}
 use Rattle.ics_event.specs.declared.time.Time.{Time}
 use Rattle.ics_calendar.specs.Drafts.{IsTable}
 use Rattle.ics_calendar.specs.declared.gathered.GivenLength.TheVariants as given
@@ -52,17 +53,6 @@ known-zone true bad e = refl
 known-zone false true e = cc
 known-zone false false e = cc
 
-stamp-time : (known : KnownZones) (name : ZoneName) (r : Stamp) → IsSoundStamp r → IsFine known (cond (is_zoned r) (Some (check.Zone name)) None) →
-    IsTime (time_in (known.index name) r)
-stamp-time known name (Date d) h k = record { years = h; zone = refl }
-stamp-time known name (Floating l) h k = record { years = h; zone = refl }
-stamp-time known name (Utc l) h k = record { years = h; zone = refl }
-stamp-time known name (Zoned l) h k = record { years = h; zone = known-zone (is_some (known.index name)) (known.is_bad name.name) k }
-
-time-sound : (known : KnownZones) (calendar : ℕ) (d : Dated) → IsSoundStamp d.stamp → IsFine known (used_zone calendar d) →
-    IsTime (time_on known.index calendar d)
-time-sound known calendar d h k = stamp-time known (zone_used calendar d) d.stamp h k
-
 pub out-within : (start end : ℤ) → is_out start end ≡ false → IsWithin start end
 out-within start end h = by_tests (int_lt end start) (int_lt (start +ℤ pos longest) end) refl refl h
   where
@@ -72,30 +62,8 @@ out-within start end h = by_tests (int_lt end start) (int_lt (start +ℤ pos lon
     by_tests true b p q h = cc
 
 -- what is checked of a start and its end
-abbrev pub check_between : ZoneName → ZoneName → Bool → Stamp → Stamp → Option DeferredCheck
-check_between m n z r q = cond (is_zoned r && (is_zoned q && z)) None (both_compared (instant_on m r) (instant_on n q))
-
-not-end : (known : KnownZones) (t : Bool) → IsFine known (cond t (Some check.End) None) → t ≡ false
-not-end known true h = cc
-not-end known false h = refl
-
-end-is : (known : KnownZones) (m n : ZoneName) (z : Bool) (a b : Stamp) → is_bad_end z a b ≡ false → IsFine known (check_between m n z a b) → IsEnd a b
-end-is known m n z (Date a) (Date b) e l = out-within (a *ℤ pos 86_400) (b *ℤ pos 86_400) e
-end-is known m n z (Floating a) (Floating b) e l = out-within (local_seconds a) (local_seconds b) e
-end-is known m n z (Utc a) (Utc b) e l = out-within (local_seconds a) (local_seconds b) (not-end known (is_out (local_seconds a) (local_seconds b)) l)
-end-is known m n z (Utc a) (Zoned b) e l = tt
-end-is known m n z (Zoned a) (Utc b) e l = tt
-end-is known m n z (Zoned a) (Zoned b) e l = tt
-end-is known m n z (Date a) (Floating b) e l = cc
-end-is known m n z (Date a) (Utc b) e l = cc
-end-is known m n z (Date a) (Zoned b) e l = cc
-end-is known m n z (Floating a) (Date b) e l = cc
-end-is known m n z (Floating a) (Utc b) e l = cc
-end-is known m n z (Floating a) (Zoned b) e l = cc
-end-is known m n z (Utc a) (Date b) e l = cc
-end-is known m n z (Utc a) (Floating b) e l = cc
-end-is known m n z (Zoned a) (Date b) e l = cc
-end-is known m n z (Zoned a) (Floating b) e l = cc
+abbrev pub check_between : ZoneName → ZoneName → Stamp → Stamp → Option DeferredCheck
+check_between m n r q = cond (is_zoned r && (is_zoned q && bytes_eq m.name n.name)) None (both_compared (instant_on m r) (instant_on n q))
 
 lasting-is : (d : Duration) → is_lasting d ≡ true → IsLasting d
 lasting-is d h = let t = by_tests d.negative (length_in_seconds d) h in record { forward = t.0; short = t.1 }
@@ -104,73 +72,109 @@ lasting-is d h = let t = by_tests d.negative (length_in_seconds d) h in record {
     by_tests true k h = grind (arith, nat_tests)
     by_tests false k h = grind (arith, nat_tests)
 
-length-sound : (known : KnownZones) (calendar : ℕ) (start : Dated) (length : GivenLength) → IsSoundLength start length →
-    IsFine known (used_in calendar (end_of length)) → IsFine known (ends_in calendar (Some start) (end_of length)) →
-    IsLength (time_on known.index calendar start).stamp (length_of known.index calendar length)
-length-sound known k s (given.Until d) h u l = (time-sound known k d h.0 u, end-is known (zone_used k s) (zone_used k d) (same_zone s d) s.stamp d.stamp h.1 l)
-length-sound known k s (given.Lasting d) h u l = lasting-is d h
-length-sound known k s given.Open h u l = tt
-
--- WHAT A LINE LISTS, in the zone that it names.
+-- the check of stamps that a line lists, in the zone that it names
 abbrev fault_by : Bool → ZoneName → Option DeferredCheck
 fault_by zoned name = cond zoned (Some (check.Zone name)) None
 
-fine-first : (known : KnownZones) (name : ZoneName) (a b : Bool) → IsFine known (fault_by (a || b) name) → IsFine known (fault_by a name)
-fine-first known name true b h = h
-fine-first known name false b h = tt
+module _ (known : KnownZones) where
+  stamp-time : (name : ZoneName) (r : Stamp) → IsSoundStamp r → IsFine known (cond (is_zoned r) (Some (check.Zone name)) None) →
+      IsTime (time_in (known.index name) r)
+  stamp-time name (Date d) h k = record { years = h; zone = refl }
+  stamp-time name (Floating l) h k = record { years = h; zone = refl }
+  stamp-time name (Utc l) h k = record { years = h; zone = refl }
+  stamp-time name (Zoned l) h k = record { years = h; zone = known-zone (is_some (known.index name)) (known.is_bad name.name) k }
 
-fine-rest : (known : KnownZones) (name : ZoneName) (a b : Bool) → IsFine known (fault_by (a || b) name) → IsFine known (fault_by b name)
-fine-rest known name true true h = h
-fine-rest known name true false h = tt
-fine-rest known name false b h = h
+  time-sound : (calendar : ℕ) (d : Dated) → IsSoundStamp d.stamp → IsFine known (used_zone calendar d) →
+      IsTime (time_on known.index calendar d)
+  time-sound calendar d h k = stamp-time (zone_used calendar d) d.stamp h k
 
-rdate-is : (known : KnownZones) (name : ZoneName) (v : ListedDate) → IsSoundValue v → IsFine known (fault_by (has_zoned v) name) →
-    IsRdate (rdate_in (known.index name) v)
-rdate-is known name (value.At r) h k = stamp-time known name r h k
-rdate-is known name (value.Between r q) h k = (
-  stamp-time known name r h.0 (fine-first known name (is_zoned r) (is_zoned q) k),
-  stamp-time known name q h.1 (fine-rest known name (is_zoned r) (is_zoned q) k),
-)
-rdate-is known name (value.Lasting r d) h k = (stamp-time known name r h.0 k, lasting-is d h.1)
+  not-end : (t : Bool) → IsFine known (cond t (Some check.End) None) → t ≡ false
+  not-end true h = cc
+  not-end false h = refl
 
-exdate-is : (known : KnownZones) (name : ZoneName) (v : ListedDate) → IsSoundValue v → IsFine known (fault_by (has_zoned v) name) →
-    IsTime (exdate_in (known.index name) v)
-exdate-is known name (value.At r) h k = stamp-time known name r h k
-exdate-is known name (value.Between r q) h k = stamp-time known name r h.0 (fine-first known name (is_zoned r) (is_zoned q) k)
-exdate-is known name (value.Lasting r d) h k = stamp-time known name r h.0 k
+  end-is : (m n : ZoneName) (a b : Stamp) → is_bad_end (bytes_eq m.name n.name) a b ≡ false → IsFine known (check_between m n a b) → IsEnd a b
+  end-is m n (Date a) (Date b) e l = out-within (a *ℤ pos 86_400) (b *ℤ pos 86_400) e
+  end-is m n (Floating a) (Floating b) e l = out-within (local_seconds a) (local_seconds b) e
+  end-is m n (Utc a) (Utc b) e l = out-within (local_seconds a) (local_seconds b) (not-end (is_out (local_seconds a) (local_seconds b)) l)
+  end-is m n (Utc a) (Zoned b) e l = tt
+  end-is m n (Zoned a) (Utc b) e l = tt
+  end-is m n (Zoned a) (Zoned b) e l = tt
+  end-is m n (Date a) (Floating b) e l = cc
+  end-is m n (Date a) (Utc b) e l = cc
+  end-is m n (Date a) (Zoned b) e l = cc
+  end-is m n (Floating a) (Date b) e l = cc
+  end-is m n (Floating a) (Utc b) e l = cc
+  end-is m n (Floating a) (Zoned b) e l = cc
+  end-is m n (Utc a) (Date b) e l = cc
+  end-is m n (Utc a) (Floating b) e l = cc
+  end-is m n (Zoned a) (Date b) e l = cc
+  end-is m n (Zoned a) (Floating b) e l = cc
 
--- each value of a list, and each list
-values-are : {A : Type 0} (P : A → Type 0) (f : ListedDate → A) (known : KnownZones) (name : ZoneName) →
-    ((v : ListedDate) → IsSoundValue v → IsFine known (fault_by (has_zoned v) name) → P (f v)) →
-    (values : List ListedDate) → All IsSoundValue values → IsFine known (fault_by (list_any has_zoned values) name) → All P (map f values)
-values-are P f known name each [] h k = All-nil P
-values-are P f known name each (v ∷ vs) h k =
-    All-cons P (f v) (map f vs) (each v (All-head IsSoundValue v vs h) (fine-first known name (has_zoned v) (list_any has_zoned vs) k))
-    (values-are P f known name each vs (All-tail IsSoundValue v vs h) (fine-rest known name (has_zoned v) (list_any has_zoned vs) k))
+  length-sound : (calendar : ℕ) (start : Dated) (length : GivenLength) → IsSoundLength start length →
+      IsFine known (used_in calendar (end_of length)) → IsFine known (ends_in calendar (Some start) (end_of length)) →
+      IsLength (time_on known.index calendar start).stamp (length_of known.index calendar length)
+  length-sound k s (given.Until d) h u l = (time-sound k d h.0 u, end-is (zone_used k s) (zone_used k d) s.stamp d.stamp h.1 l)
+  length-sound k s (given.Lasting d) h u l = lasting-is d h
+  length-sound k s given.Open h u l = tt
 
-lists-are : {A : Type 0} (P : A → Type 0) (f : Option ℕ → ListedDate → A) (known : KnownZones) (calendar : ℕ) →
-    ((name : ZoneName) (v : ListedDate) → IsSoundValue v → IsFine known (fault_by (has_zoned v) name) → P (f (known.index name) v)) →
-    (lists : List DateList) → All IsSoundList lists → All (λ list. IsFine known (listed_zone calendar list)) lists →
-    All P (flat_map (λ list. map (f (known.index (zone_listed calendar list))) list.values) lists)
-lists-are P f known calendar each lists h k =
-    All-flat_map P (λ list. map (f (known.index (zone_listed calendar list))) list.values) lists
-    (λ i d l. values-are P (f (known.index (zone_listed calendar (get_or lists i d)))) known (zone_listed calendar (get_or lists i d))
-    (each (zone_listed calendar (get_or lists i d))) (get_or lists i d).values (h i d l) (k i d l))
+  -- WHAT A LINE LISTS, in the zone that it names.
+  fine-first : (name : ZoneName) (a b : Bool) → IsFine known (fault_by (a || b) name) → IsFine known (fault_by a name)
+  fine-first name true b h = h
+  fine-first name false b h = tt
 
-recurrence-is : (known : KnownZones) (calendar : ℕ) (o : Option Dated) → IfSome o (λ d. IsSoundStamp d.stamp) → IsFine known (used_in calendar o) →
-    IfSome (option_map (time_on known.index calendar) o) IsTime
-recurrence-is known calendar None h k = tt
-recurrence-is known calendar (Some d) h k = time-sound known calendar d h k
+  fine-rest : (name : ZoneName) (a b : Bool) → IsFine known (fault_by (a || b) name) → IsFine known (fault_by b name)
+  fine-rest name true true h = h
+  fine-rest name true false h = tt
+  fine-rest name false b h = h
 
-pub event-is : (known : KnownZones) (event : EndedEvent) → IsReady known event → IsEvent (event_of known.index event)
-event-is known e r = record {
-  named = r.whole.named;
-  start = time-sound known e.calendar e.start r.whole.start r.zones.start;
-  length = length-sound known e.calendar e.start e.length r.whole.length r.zones.end r.zones.length;
-  rdates = lists-are IsRdate rdate_in known e.calendar (rdate-is known) e.rdates r.whole.rdates r.zones.rdates;
-  exdates = lists-are IsTime exdate_in known e.calendar (exdate-is known) e.exdates r.whole.exdates r.zones.exdates;
-  recurrence = recurrence-is known e.calendar e.recurrence r.whole.recurrence r.zones.recurrence;
-}
+  rdate-is : (name : ZoneName) (v : ListedDate) → IsSoundValue v → IsFine known (fault_by (has_zoned v) name) →
+      IsRdate (rdate_in (known.index name) v)
+  rdate-is name (value.At r) h k = stamp-time name r h k
+  rdate-is name (value.Between r q) h k = (
+    stamp-time name r h.0 (fine-first name (is_zoned r) (is_zoned q) k),
+    stamp-time name q h.1 (fine-rest name (is_zoned r) (is_zoned q) k),
+  )
+  rdate-is name (value.Lasting r d) h k = (stamp-time name r h.0 k, lasting-is d h.1)
+
+  exdate-is : (name : ZoneName) (v : ListedDate) → IsSoundValue v → IsFine known (fault_by (has_zoned v) name) →
+      IsTime (exdate_in (known.index name) v)
+  exdate-is name (value.At r) h k = stamp-time name r h k
+  exdate-is name (value.Between r q) h k = stamp-time name r h.0 (fine-first name (is_zoned r) (is_zoned q) k)
+  exdate-is name (value.Lasting r d) h k = stamp-time name r h.0 k
+
+  -- each value of a list, and each list
+  module _ {A : Type 0} (P : A → Type 0) where
+    values-are : (f : ListedDate → A) (name : ZoneName) →
+        ((v : ListedDate) → IsSoundValue v → IsFine known (fault_by (has_zoned v) name) → P (f v)) →
+        (values : List ListedDate) → All IsSoundValue values → IsFine known (fault_by (list_any has_zoned values) name) → All P (map f values)
+    values-are f name each [] h k = All-nil P
+    values-are f name each (v ∷ vs) h k =
+        All-cons P (f v) (map f vs) (each v (All-head IsSoundValue v vs h) (fine-first name (has_zoned v) (list_any has_zoned vs) k))
+        (values-are f name each vs (All-tail IsSoundValue v vs h) (fine-rest name (has_zoned v) (list_any has_zoned vs) k))
+
+    lists-are : (f : Option ℕ → ListedDate → A) (calendar : ℕ) →
+        ((name : ZoneName) (v : ListedDate) → IsSoundValue v → IsFine known (fault_by (has_zoned v) name) → P (f (known.index name) v)) →
+        (lists : List DateList) → All IsSoundList lists → All (λ list. IsFine known (listed_zone calendar list)) lists →
+        All P (flat_map (λ list. map (f (known.index (zone_listed calendar list))) list.values) lists)
+    lists-are f calendar each lists h k =
+        All-flat_map P (λ list. map (f (known.index (zone_listed calendar list))) list.values) lists
+        (λ i d l. values-are (f (known.index (zone_listed calendar (get_or lists i d)))) (zone_listed calendar (get_or lists i d))
+        (each (zone_listed calendar (get_or lists i d))) (get_or lists i d).values (h i d l) (k i d l))
+
+  recurrence-is : (calendar : ℕ) (o : Option Dated) → IfSome o (λ d. IsSoundStamp d.stamp) → IsFine known (used_in calendar o) →
+      IfSome (option_map (time_on known.index calendar) o) IsTime
+  recurrence-is calendar None h k = tt
+  recurrence-is calendar (Some d) h k = time-sound calendar d h k
+
+  pub event-is : (event : EndedEvent) → IsReady known event → IsEvent (event_of known.index event)
+  event-is e r = record {
+    named = r.whole.named;
+    start = time-sound e.calendar e.start r.whole.start r.zones.start;
+    length = length-sound e.calendar e.start e.length r.whole.length r.zones.end r.zones.length;
+    rdates = lists-are IsRdate rdate_in e.calendar rdate-is e.rdates r.whole.rdates r.zones.rdates;
+    exdates = lists-are IsTime exdate_in e.calendar exdate-is e.exdates r.whole.exdates r.zones.exdates;
+    recurrence = recurrence-is e.calendar e.recurrence r.whole.recurrence r.zones.recurrence;
+  }
 
 -- THE ZONES OF ITS FILE.
 pub some-same : {X : Type 0} (x y : X) → Some x ≡ Some y → x ≡ y
@@ -207,39 +211,17 @@ module _ (known : KnownZones) (table : IsTable known) where
   abbrev Within : Stamp → Option ℕ → Stamp → Option ℕ → Type 0
   Within s o t p = IsWithin (compared (is_one_zone o p) known.zones (time s o)) (compared (is_one_zone o p) known.zones (time t p))
 
-  both-zoned : (k : ℕ) (x y : List ℕ) (a b : Local) (i j : ℕ) → known.index (named k x) ≡ Some i → known.index (named k y) ≡ Some j →
-      is_bad_end (bytes_eq x y) (Zoned a) (Zoned b) ≡ false → IsFine known (check_between (named k x) (named k y) (bytes_eq x y) (Zoned a) (Zoned b)) →
-      Within (Zoned a) (Some i) (Zoned b) (Some j)
-  both-zoned k x y a b i j e f l h = by_tests (i == j) (bytes_eq x y) refl refl l h
-    where
-      by_tests : (t z : Bool) → (i == j) ≡ t → bytes_eq x y ≡ z → is_bad_end z (Zoned a) (Zoned b) ≡ false →
-          IsFine known (check_between (named k x) (named k y) z (Zoned a) (Zoned b)) →
-          IsWithin (compared t known.zones (time (Zoned a) (Some i))) (compared t known.zones (time (Zoned b) (Some j)))
-      by_tests true true t z l h = out-within (local_seconds a) (local_seconds b) l
-      by_tests true false t z l h =
-          let one : i ≡ j = grind (arith, nat_tests, t) in
-          let same : x ≡ y = table.single (named k x) (named k y) i e (f ∙ ap (λ (n : ℕ). Some n) (sym one)) in
-          let told : bytes_eq x y ≡ true = (bytes_decides x y).1 same in
-          cc
-      by_tests false true t z l h =
-          let same : x ≡ y = (bytes_decides x y).0 z in
-          let one : i ≡ j = some-same i j (sym e ∙ ap (λ w. known.index (named k w)) same ∙ f) in
-          absurd (grind (arith, nat_tests, t, one))
-      by_tests false false t z l h =
-          out-within (moment_in known.zones (Some i) (Zoned a)) (moment_in known.zones (Some j) (Zoned b))
-          (not-out (moment_there known (named k x) a) (moment_there known (named k y) b) (local-there (named k x) a i e) (local-there (named k y) b j f) h)
-
-  first-zoned : (k : ℕ) (x : List ℕ) (a b : Local) {i : ℕ} → known.index (named k x) ≡ Some i →
-      IsFine known (Some (check.Ends (instant.Zoned a (named k x)) (instant.Utc b))) → Within (Zoned a) (Some i) (Utc b) None
-  first-zoned k x a b {i} e h =
+  first-zoned : (used : ZoneName) (a b : Local) {i : ℕ} → known.index used ≡ Some i →
+      IsFine known (Some (check.Ends (instant.Zoned a used) (instant.Utc b))) → Within (Zoned a) (Some i) (Utc b) None
+  first-zoned used a b {i} e h =
       out-within (moment_in known.zones (Some i) (Zoned a)) (local_seconds b)
-      (not-out (moment_there known (named k x) a) (Some (local_seconds b)) (local-there (named k x) a i e) refl h)
+      (not-out (moment_there known used a) (Some (local_seconds b)) (local-there used a i e) refl h)
 
-  second-zoned : (k : ℕ) (y : List ℕ) (a b : Local) {j : ℕ} → known.index (named k y) ≡ Some j →
-      IsFine known (Some (check.Ends (instant.Utc a) (instant.Zoned b (named k y)))) → Within (Utc a) None (Zoned b) (Some j)
-  second-zoned k y a b {j} f h =
+  second-zoned : (used : ZoneName) (a b : Local) {j : ℕ} → known.index used ≡ Some j →
+      IsFine known (Some (check.Ends (instant.Utc a) (instant.Zoned b used))) → Within (Utc a) None (Zoned b) (Some j)
+  second-zoned used a b {j} f h =
       out-within (local_seconds a) (moment_in known.zones (Some j) (Zoned b))
-      (not-out (Some (local_seconds a)) (moment_there known (named k y) b) refl (local-there (named k y) b j f) h)
+      (not-out (Some (local_seconds a)) (moment_there known used b) refl (local-there used b j f) h)
 
   -- the name of a zoned stamp is known
   index-is : (used : ZoneName) → IsFine known (Some (check.Zone used)) → (i : ℕ) × (known.index used ≡ Some i)
@@ -252,49 +234,58 @@ module _ (known : KnownZones) (table : IsTable known) where
   abbrev used_on : ZoneName → Stamp → Option ℕ
   used_on name r = cond (is_zoned r) (known.index name) None
 
-  within : (k : ℕ) (x y : List ℕ) (r q : Stamp) → is_bad_end (bytes_eq x y) r q ≡ false →
-      IsFine known (cond (is_zoned r) (Some (check.Zone (named k x))) None) → IsFine known (cond (is_zoned q) (Some (check.Zone (named k y))) None) →
-      IsFine known (check_between (named k x) (named k y) (bytes_eq x y) r q) →
-      (is_some (used_on (named k x) r) || is_some (used_on (named k y) q)) ≡ true → Within r (used_on (named k x) r) q (used_on (named k y) q)
-  within k x y (Zoned a) (Zoned b) l u v h g =
-      let i = index-is (named k x) u in
-      let j = index-is (named k y) v in
-      rw (i.1, j.1) (both-zoned k x y a b i.0 j.0 i.1 j.1 l h)
-  within k x y (Zoned a) (Utc b) l u v h g = let i = index-is (named k x) u in rw i.1 (first-zoned k x a b i.1 h)
-  within k x y (Utc a) (Zoned b) l u v h g = let j = index-is (named k y) v in rw j.1 (second-zoned k y a b j.1 h)
-  within k x y (Zoned a) (Date b) l u v h g = cc
-  within k x y (Zoned a) (Floating b) l u v h g = cc
-  within k x y (Date a) (Zoned b) l u v h g = cc
-  within k x y (Floating a) (Zoned b) l u v h g = cc
-  within k x y (Date a) (Date b) l u v h g = cc
-  within k x y (Date a) (Floating b) l u v h g = cc
-  within k x y (Date a) (Utc b) l u v h g = cc
-  within k x y (Floating a) (Date b) l u v h g = cc
-  within k x y (Floating a) (Floating b) l u v h g = cc
-  within k x y (Floating a) (Utc b) l u v h g = cc
-  within k x y (Utc a) (Date b) l u v h g = cc
-  within k x y (Utc a) (Floating b) l u v h g = cc
-  within k x y (Utc a) (Utc b) l u v h g = cc
+  -- two names in one calendar
+  module _ (k : ℕ) (x y : List ℕ) where
+    both-zoned : (a b : Local) {i j : ℕ} → known.index (named k x) ≡ Some i → known.index (named k y) ≡ Some j →
+        is_bad_end (bytes_eq x y) (Zoned a) (Zoned b) ≡ false → IsFine known (check_between (named k x) (named k y) (Zoned a) (Zoned b)) →
+        Within (Zoned a) (Some i) (Zoned b) (Some j)
+    both-zoned a b {i} {j} e f l h = by_tests (i == j) (bytes_eq x y) refl refl l h
+      where
+        by_tests : (t z : Bool) → (i == j) ≡ t → bytes_eq x y ≡ z → is_bad_end z (Zoned a) (Zoned b) ≡ false →
+            IsFine known (cond z None (Some (check.Ends (instant.Zoned a (named k x)) (instant.Zoned b (named k y))))) →
+            IsWithin (compared t known.zones (time (Zoned a) (Some i))) (compared t known.zones (time (Zoned b) (Some j)))
+        by_tests true true t z l h = out-within (local_seconds a) (local_seconds b) l
+        by_tests true false t z l h =
+            let one : i ≡ j = grind (arith, nat_tests, t) in
+            let same : x ≡ y = table.single (named k x) (named k y) i e (f ∙ ap (λ (n : ℕ). Some n) (sym one)) in
+            let told : bytes_eq x y ≡ true = (bytes_decides x y).1 same in
+            cc
+        by_tests false true t z l h =
+            let same : x ≡ y = (bytes_decides x y).0 z in
+            let one : i ≡ j = some-same i j (sym e ∙ ap (λ w. known.index (named k w)) same ∙ f) in
+            absurd (grind (arith, nat_tests, t, one))
+        by_tests false false t z l h =
+            out-within (moment_in known.zones (Some i) (Zoned a)) (moment_in known.zones (Some j) (Zoned b))
+            (not-out (moment_there known (named k x) a) (moment_there known (named k y) b) (local-there (named k x) a i e) (local-there (named k y) b j f) h)
 
-  ends-within : (k : ℕ) (start : Dated) (length : GivenLength) → IsSoundLength start length →
-      IsFine known (used_zone k start) → IsFine known (used_in k (end_of length)) → IsFine known (ends_in k (Some start) (end_of length)) →
-      EndsWithin known.zones (time_on known.index k start) (length_of known.index k length)
-  ends-within k s (given.Until e) h u v w = within k (tzid s) (tzid e) s.stamp e.stamp h.1 u v w
-  ends-within k s (given.Lasting d) h u v w = tt
-  ends-within k s given.Open h u v w = tt
+    within : (r q : Stamp) → is_bad_end (bytes_eq x y) r q ≡ false →
+        IsFine known (cond (is_zoned r) (Some (check.Zone (named k x))) None) → IsFine known (cond (is_zoned q) (Some (check.Zone (named k y))) None) →
+        IsFine known (check_between (named k x) (named k y) r q) →
+        EndsWithin known.zones (time r (used_on (named k x) r)) (Until (time q (used_on (named k y) q)))
+    within (Zoned a) (Zoned b) l u v h g =
+        let i = index-is (named k x) u in
+        let j = index-is (named k y) v in
+        rw (i.1, j.1) (both-zoned a b i.1 j.1 l h)
+    within (Zoned a) (Utc b) l u v h g = let i = index-is (named k x) u in rw i.1 (first-zoned (named k x) a b i.1 h)
+    within (Utc a) (Zoned b) l u v h g = let j = index-is (named k y) v in rw j.1 (second-zoned (named k y) a b j.1 h)
+    within (Zoned a) (Date b) l u v h g = cc
+    within (Zoned a) (Floating b) l u v h g = cc
+    within (Date a) (Zoned b) l u v h g = cc
+    within (Floating a) (Zoned b) l u v h g = cc
+    within (Date a) (Date b) l u v h g = cc
+    within (Date a) (Floating b) l u v h g = cc
+    within (Date a) (Utc b) l u v h g = cc
+    within (Floating a) (Date b) l u v h g = cc
+    within (Floating a) (Floating b) l u v h g = cc
+    within (Floating a) (Utc b) l u v h g = cc
+    within (Utc a) (Date b) l u v h g = cc
+    within (Utc a) (Floating b) l u v h g = cc
+    within (Utc a) (Utc b) l u v h g = cc
 
   -- ITS ZONES.
   stamp-below : (used : ZoneName) (r : Stamp) → IfSome (used_on used r) (λ i. i < length known.zones)
   stamp-below used (Zoned a) = table.below used
   stamp-below used _ = tt
-
-  time-below : (k : ℕ) (d : Dated) → TimeBelow (length known.zones) (time_on known.index k d)
-  time-below k d = stamp-below (zone_used k d) d.stamp
-
-  ends-below : (k : ℕ) (l : GivenLength) → EndsBelow (length known.zones) (length_of known.index k l)
-  ends-below k (given.Until d) = time-below k d
-  ends-below k (given.Lasting d) = tt
-  ends-below k given.Open = tt
 
   rdate-below : (used : ZoneName) (v : ListedDate) → RdateBelow (length known.zones) (rdate_in (known.index used) v)
   rdate-below used (value.At r) = stamp-below used r
@@ -304,25 +295,42 @@ module _ (known : KnownZones) (table : IsTable known) where
   exdate-below : (used : ZoneName) (v : ListedDate) → TimeBelow (length known.zones) (exdate_in (known.index used) v)
   exdate-below used v = stamp-below used (first_stamp v)
 
-  lists-below : {A : Type 0} (P : A → Type 0) (f : Option ℕ → ListedDate → A) → ((used : ZoneName) (v : ListedDate) → P (f (known.index used) v)) →
-      (k : ℕ) (lists : List DateList) →
-      All P (flat_map (λ list. map (f (known.index (zone_listed k list))) list.values) lists)
-  lists-below P f each k lists =
-      All-flat_map P (λ list. map (f (known.index (zone_listed k list))) list.values) lists
-      (λ i d l. All-map P (f (known.index (zone_listed k (get_or lists i d)))) (get_or lists i d).values
-      (λ j e m. each (zone_listed k (get_or lists i d)) (get_or (get_or lists i d).values j e)))
+  -- in one calendar
+  module _ (k : ℕ) where
+    ends-within : (start : Dated) (length : GivenLength) → IsSoundLength start length →
+        IsFine known (used_zone k start) → IsFine known (used_in k (end_of length)) → IsFine known (ends_in k (Some start) (end_of length)) →
+        EndsWithin known.zones (time_on known.index k start) (length_of known.index k length)
+    ends-within s (given.Until e) h u v w = within k (tzid s) (tzid e) s.stamp e.stamp h.1 u v w
+    ends-within s (given.Lasting d) h u v w = tt
+    ends-within s given.Open h u v w = tt
 
-  recurrence-below : (k : ℕ) (o : Option Dated) → IfSome (option_map (time_on known.index k) o) (TimeBelow (length known.zones))
-  recurrence-below k None = tt
-  recurrence-below k (Some d) = stamp-below (zone_used k d) d.stamp
+    time-below : (d : Dated) → TimeBelow (length known.zones) (time_on known.index k d)
+    time-below d = stamp-below (zone_used k d) d.stamp
+
+    ends-below : (l : GivenLength) → EndsBelow (length known.zones) (length_of known.index k l)
+    ends-below (given.Until d) = time-below d
+    ends-below (given.Lasting d) = tt
+    ends-below given.Open = tt
+
+    lists-below : {A : Type 0} (P : A → Type 0) (f : Option ℕ → ListedDate → A) → ((used : ZoneName) (v : ListedDate) → P (f (known.index used) v)) →
+        (lists : List DateList) →
+        All P (flat_map (λ list. map (f (known.index (zone_listed k list))) list.values) lists)
+    lists-below P f each lists =
+        All-flat_map P (λ list. map (f (known.index (zone_listed k list))) list.values) lists
+        (λ i d l. All-map P (f (known.index (zone_listed k (get_or lists i d)))) (get_or lists i d).values
+        (λ j e m. each (zone_listed k (get_or lists i d)) (get_or (get_or lists i d).values j e)))
+
+    recurrence-below : (o : Option Dated) → IfSome (option_map (time_on known.index k) o) (TimeBelow (length known.zones))
+    recurrence-below None = tt
+    recurrence-below (Some d) = stamp-below (zone_used k d) d.stamp
 
   event-of : (e : EndedEvent) → IsReady known e → IsEventOf known.zones (event_of known.index e)
   event-of e r = record {
     below = record {
       start = time-below e.calendar e.start;
       length = ends-below e.calendar e.length;
-      rdates = lists-below (RdateBelow (length known.zones)) rdate_in rdate-below e.calendar e.rdates;
-      exdates = lists-below (TimeBelow (length known.zones)) exdate_in exdate-below e.calendar e.exdates;
+      rdates = lists-below e.calendar (RdateBelow (length known.zones)) rdate_in rdate-below e.rdates;
+      exdates = lists-below e.calendar (TimeBelow (length known.zones)) exdate_in exdate-below e.exdates;
       recurrence = recurrence-below e.calendar e.recurrence;
     };
     short = ends-within e.calendar e.start e.length r.whole.length r.zones.start r.zones.end r.zones.length;

@@ -92,35 +92,35 @@ half-is zoned text = by_form (is_date_time_form text)
     by_form true = refl
     by_form false = refl
 
-lasting-agrees : (a : Result Stamp StampFault) (d : Result Duration DurationFault) (minus : Bool) (p : Period) (v : ListedDate) →
+lasting-agrees : (a : Result Stamp StampFault) (d : Result Duration DurationFault) (minus : Bool) {p : Period} {v : ListedDate} →
     both (stamp_half a) (lasting_end d) ≡ Ok p
     → listed_said (Lasting a (allowed minus d)) ≡ Some v → v ≡ listed_by p
-lasting-agrees (Ok s) (Ok d) minus p v h k = by_test (is_lasting d) k
+lasting-agrees (Ok s) (Ok d) minus {p} {v} h k = by_test (is_lasting d) k
   where
     by_test : (t : Bool) → listed_said (Lasting (Ok s) (cond t (Ok d) (Err duration.BadDuration))) ≡ Some v → v ≡ listed_by p
     by_test true e = cc
     by_test false e = cc
-lasting-agrees (Ok s) (Err duration.BadDuration) minus p v h k = cc
-lasting-agrees (Ok s) (Err duration.NumberTooLarge) minus p v h k = cc
-lasting-agrees (Err f) d minus p v h k = cc
+lasting-agrees (Ok s) (Err duration.BadDuration) minus h k = cc
+lasting-agrees (Ok s) (Err duration.NumberTooLarge) minus h k = cc
+lasting-agrees (Err f) d minus h k = cc
 
-between-agrees : (a b : Result Stamp StampFault) (p : Period) (v : ListedDate) → both (stamp_half a) (at_end (stamp_half b)) ≡ Ok p →
+between-agrees : (a b : Result Stamp StampFault) {p : Period} {v : ListedDate} → both (stamp_half a) (at_end (stamp_half b)) ≡ Ok p →
     listed_said (Between a b) ≡ Some v → v ≡ listed_by p
-between-agrees (Ok s) (Ok e) p v h k = cc
-between-agrees (Ok s) (Err stamp.BadStamp) p v h k = cc
-between-agrees (Ok s) (Err stamp.YearRange) p v h k = cc
-between-agrees (Err f) b p v h k = cc
+between-agrees (Ok s) (Ok e) h k = cc
+between-agrees (Ok s) (Err stamp.BadStamp) h k = cc
+between-agrees (Ok s) (Err stamp.YearRange) h k = cc
+between-agrees (Err f) b h k = cc
 
 -- by the halves of the text
-halves-agree : (zoned : Bool) (one two : List ℕ) (p : Period) (v : ListedDate) → both (half_of zoned one) (period.end_of zoned two) ≡ Ok p →
+halves-agree : (zoned : Bool) (one two : List ℕ) {p : Period} {v : ListedDate} → both (half_of zoned one) (period.end_of zoned two) ≡ Ok p →
     listed_said (period_of zoned one two) ≡ Some v → v ≡ listed_by p
-halves-agree zoned one two p v h k = by_form (lasts two) (ap (λ x. both x (period.end_of zoned two)) (sym (half-is zoned one)) ∙ h) k
+halves-agree zoned one two {p} {v} h k = by_form (lasts two) (ap (λ x. both x (period.end_of zoned two)) (sym (half-is zoned one)) ∙ h) k
   where
     by_form : (t : Bool) → both (stamp_half (date_time_of zoned one)) (cond t (lasting_end (duration_of two)) (at_end (half_of zoned two))) ≡ Ok p
         → listed_said (cond t (Lasting (date_time_of zoned one) (lasting_of two)) (Between (date_time_of zoned one) (date_time_of zoned two))) ≡ Some v
         → v ≡ listed_by p
-    by_form true f g = lasting-agrees (date_time_of zoned one) (duration_of two) (begins is_minus two) p v f g
-    by_form false f g = between-agrees (date_time_of zoned one) (date_time_of zoned two) p v
+    by_form true f g = lasting-agrees (date_time_of zoned one) (duration_of two) (begins is_minus two) f g
+    by_form false f g = between-agrees (date_time_of zoned one) (date_time_of zoned two)
         (ap (λ x. both (stamp_half (date_time_of zoned one)) (at_end x)) (sym (half-is zoned two)) ∙ f) g
 
 -- a text without a second half is no PERIOD
@@ -136,7 +136,7 @@ one-period zoned text p v h k = by_slash (has_slash text) refl k
   where
     by_slash : (t : Bool) → has_slash text ≡ t →
         listed_said (cond t (period_of zoned (first_half text) (second_half text)) (At (stamp_of zoned text))) ≡ Some v → v ≡ listed_by p
-    by_slash true e k = halves-agree zoned (first_half text) (second_half text) p v h k
+    by_slash true e k = halves-agree zoned (first_half text) (second_half text) h k
     by_slash false e k = absurd (no-period (half_of zoned (first_half text)) zoned p
         (ap (λ x. both (half_of zoned (first_half text)) (period.end_of zoned x)) (sym (no-second-half text e)) ∙ h))
 

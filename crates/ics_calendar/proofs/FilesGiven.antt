@@ -133,20 +133,20 @@ bounds p n (x ∷ xs) = by_test (p x) (position_from p (n + 1) xs) (bounds p (n 
     by_test true o h = (omega arith, omega arith)
     by_test false o h = later o h
 
-bound-at : (p : List ℕ → Bool) (n : ℕ) (xs : List (List ℕ)) (i : ℕ) → position_from p n xs ≡ Some i → (n ≤ i) × (i < n + length xs)
-bound-at p n xs i e = subst (λ o. IfSome o (λ i. (n ≤ i) × (i < n + length xs))) e (bounds p n xs)
+bound-at : (p : List ℕ → Bool) (n : ℕ) (xs : List (List ℕ)) {i : ℕ} → position_from p n xs ≡ Some i → (n ≤ i) × (i < n + length xs)
+bound-at p n xs e = subst (λ o. IfSome o (λ i. (n ≤ i) × (i < n + length xs))) e (bounds p n xs)
 
-single-at : (a b : List ℕ) (n : ℕ) (xs : List (List ℕ)) (i : ℕ) → position_from (bytes_eq a) n xs ≡ Some i → position_from (bytes_eq b) n xs ≡ Some i → a ≡ b
-single-at a b n [] i e f = cc
-single-at a b n (x ∷ xs) i e f = by_tests (single-at a b (n + 1) xs i) (bytes_eq a x) (bytes_eq b x) refl refl e f
+single-at : (a b : List ℕ) (n : ℕ) (xs : List (List ℕ)) {i : ℕ} → position_from (bytes_eq a) n xs ≡ Some i → position_from (bytes_eq b) n xs ≡ Some i → a ≡ b
+single-at a b n [] e f = cc
+single-at a b n (x ∷ xs) {i} e f = by_tests (single-at a b (n + 1) xs) (bytes_eq a x) (bytes_eq b x) (refl, refl) e f
   where
     by_tests : (position_from (bytes_eq a) (n + 1) xs ≡ Some i → position_from (bytes_eq b) (n + 1) xs ≡ Some i → a ≡ b) →
-        (s t : Bool) → bytes_eq a x ≡ s → bytes_eq b x ≡ t
+        (s t : Bool) → (bytes_eq a x ≡ s) × (bytes_eq b x ≡ t)
         → cond s (Some n) (position_from (bytes_eq a) (n + 1) xs) ≡ Some i → cond t (Some n) (position_from (bytes_eq b) (n + 1) xs) ≡ Some i → a ≡ b
-    by_tests again true true s t e f = (bytes_decides a x).0 s ∙ sym ((bytes_decides b x).0 t)
-    by_tests again true false s t e f = let same : n ≡ i = cc in let h = bound-at (bytes_eq b) (n + 1) xs i f in absurd (omega (arith, same, h.0))
-    by_tests again false true s t e f = let same : n ≡ i = cc in let h = bound-at (bytes_eq a) (n + 1) xs i e in absurd (omega (arith, same, h.0))
-    by_tests again false false s t e f = again e f
+    by_tests again true true h e f = (bytes_decides a x).0 h.0 ∙ sym ((bytes_decides b x).0 h.1)
+    by_tests again true false h e f = let same : n ≡ i = cc in let later = bound-at (bytes_eq b) (n + 1) xs f in absurd (omega (arith, same, later.0))
+    by_tests again false true h e f = let same : n ≡ i = cc in let later = bound-at (bytes_eq a) (n + 1) xs e in absurd (omega (arith, same, later.0))
+    by_tests again false false h e f = again e f
 
 -- A NAME IN A TABLE of VTIMEZONEs.
 same-text : (a b : ZoneName) → is_same a b ≡ true → a.name ≡ b.name
@@ -193,22 +193,22 @@ module _ (known : KnownZones) (files : GivenFiles) (names : List (List ℕ)) (ta
       let all = length-append known.zones (given_zones files names) in omega (arith, all, below-here used i e)
   below-both used None e (Some i) f =
       let all = length-append known.zones (given_zones files names) in
-      omega (arith, all, as-many files names, (bound-at (bytes_eq used.name) (length known.zones) (given_names files names) i f).1)
+      omega (arith, all, as-many files names, (bound-at (bytes_eq used.name) (length known.zones) (given_names files names) f).1)
   below-both used None e None f = tt
 
-  single-both : (a b : ZoneName) (i : ℕ) (k l : Option ℕ) → known.index a ≡ k → known.index b ≡ l →
+  single-both : (a b : ZoneName) {k l : Option ℕ} {i : ℕ} → known.index a ≡ k → known.index b ≡ l →
       option_or k (from_file a) ≡ Some i → option_or l (from_file b) ≡ Some i → a.name ≡ b.name
-  single-both a b i (Some j) (Some m) e f g h = table.single a b i (e ∙ g) (f ∙ h)
-  single-both a b i (Some j) None e f g h =
-      absurd (omega (arith, below-here a i (e ∙ g), (bound-at (bytes_eq b.name) (length known.zones) (given_names files names) i h).0))
-  single-both a b i None (Some m) e f g h =
-      absurd (omega (arith, below-here b i (f ∙ h), (bound-at (bytes_eq a.name) (length known.zones) (given_names files names) i g).0))
-  single-both a b i None None e f g h = single-at a.name b.name (length known.zones) (given_names files names) i g h
+  single-both a b {k = Some j} {l = Some m} {i} e f g h = table.single a b i (e ∙ g) (f ∙ h)
+  single-both a b {k = Some j} {l = None} {i} e f g h =
+      absurd (omega (arith, below-here a i (e ∙ g), (bound-at (bytes_eq b.name) (length known.zones) (given_names files names) h).0))
+  single-both a b {k = None} {l = Some m} {i} e f g h =
+      absurd (omega (arith, below-here b i (f ∙ h), (bound-at (bytes_eq a.name) (length known.zones) (given_names files names) g).0))
+  single-both a b {k = None} {l = None} e f g h = single-at a.name b.name (length known.zones) (given_names files names) g h
 
   pub table-with : IsTable (with_files known files names)
   table-with = record {
     below = λ used. below-both used (known.index used) refl (from_file used) refl;
-    single = λ a b i. single-both a b i (known.index a) (known.index b) refl refl;
+    single = λ a b i. single-both a b refl refl;
   }
 
 -- ONE FILE, PAIR OR NAME MORE.

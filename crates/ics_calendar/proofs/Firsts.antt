@@ -15,9 +15,9 @@ append-nil (x ∷ xs) = ap (λ r. x ∷ r) (append-nil xs)
 abbrev pub Finds : Round → AtEnd → List Placed → List Placed → Fault → Type 0
 Finds round at_end before lines f = IsFirst round before lines f ⊎ (NoneStand round before lines × (at_end (before ++ lines) ≡ Some f))
 
-later-first : (round : Round) (before : List Placed) (l : Placed) (ls : List Placed) (f : Fault) → least_on round before l ≡ None →
+later-first : {round : Round} {before : List Placed} {l : Placed} {ls : List Placed} {f : Fault} → least_on round before l ≡ None →
     IsFirst round (before ++ l ∷ []) ls f → IsFirst round before (l ∷ ls) f
-later-first round before l ls f h r =
+later-first {round = round} {before = before} {l = l} h r =
     record {
       front = l ∷ r.front;
       line = r.line;
@@ -34,7 +34,7 @@ finds round at_end before [] f e = inr (tt, ap at_end (append-nil before) ∙ e)
 finds round at_end before (l ∷ ls) f e = by_least (finds round at_end (before ++ l ∷ []) ls) (least_on round before l) refl e
   where
     later : least_on round before l ≡ None → Finds round at_end (before ++ l ∷ []) ls f → Finds round at_end before (l ∷ ls) f
-    later h (inl r) = inl (later-first round before l ls f h r)
+    later h (inl r) = inl (later-first h r)
     later h (inr r) = inr ((h, r.0), ap at_end (sym (append_assoc before (l ∷ []) ls)) ∙ r.1)
 
     by_least : ((f : Fault) → first_from round at_end (before ++ l ∷ []) ls ≡ Some f → Finds round at_end (before ++ l ∷ []) ls f) →
@@ -65,12 +65,12 @@ finds-none round at_end before (l ∷ ls) e = by_least (finds-none round at_end 
     by_least again None h e = let r = again e in ((h, r.0), ap at_end (sym (append_assoc before (l ∷ []) ls)) ∙ r.1)
 
 -- where no fault stands on the lines, that at their end is the first
-pub found-at-end : (round : Round) (at_end : AtEnd) (before lines : List Placed) (o : Option Fault) → NoneStand round before lines →
+pub found-at-end : (round : Round) (at_end : AtEnd) (before lines : List Placed) {o : Option Fault} → NoneStand round before lines →
     at_end (before ++ lines) ≡ o → first_from round at_end before lines ≡ o
-found-at-end round at_end before [] o n e = ap at_end (sym (append-nil before)) ∙ e
-found-at-end round at_end before (l ∷ ls) o n e =
+found-at-end round at_end before [] n e = ap at_end (sym (append-nil before)) ∙ e
+found-at-end round at_end before (l ∷ ls) n e =
     ap (λ k. found l.number k (first_from round at_end (before ++ l ∷ []) ls)) n.0
-    ∙ found-at-end round at_end (before ++ l ∷ []) ls o n.1 (ap at_end (append_assoc before (l ∷ []) ls) ∙ e)
+    ∙ found-at-end round at_end (before ++ l ∷ []) ls n.1 (ap at_end (append_assoc before (l ∷ []) ls) ∙ e)
 
 passed : (round : Round) (at_end : AtEnd) (before front rest : List Placed) → NoneStand round before front →
     first_from round at_end before (front ++ rest) ≡ first_from round at_end (before ++ front) rest

@@ -76,7 +76,7 @@ module _ (whole before : List Placed) where
   added l (c ∷ cs) (b ∷ bs) k e =
       let q : Context = context_of (c ∷ cs) in
       ap (λ s. record { component = component_of c.name; context = q; calendar = calendar_of (c ∷ cs); builder = s } ∷ frames_of whole cs bs)
-      (builder-more whole q (c ∷ cs) b.lines l e)
+      (builder-more whole (c ∷ cs) b.lines q l e)
 
   fresh-at : (c : Component) (q : Context) (path : List Open) →
       frame_at c q (readings whole path []) ≡ record { component = c; context = q; calendar = calendar_of path; builder = fresh q }
@@ -115,11 +115,11 @@ module _ (whole before : List Placed) where
       ∙ opened-over l.number c path bundles k
 
   -- what is collected of a component that ends, and of the one that it stands in
-  closed-in : (l : Placed) (c : Open) (cs : List Open) (f g : Bundle) → name_of (property_name l.content) ≡ name.End →
+  closed-in : (l : Placed) {c : Open} {cs : List Open} {f : Bundle} (g : Bundle) → name_of (property_name l.content) ≡ name.End →
       lines_in c.begun whole ≡ lines_in c.begun before ++ l ∷ [] → IsKept before [] c cs f →
       builder_at (context_of cs) (readings whole cs (g.lines ++ f.begin ∷ []))
       ≡ joined (builder_at (context_of (c ∷ cs)) (readings whole (c ∷ cs) f.lines)) (builder_at (context_of cs) (readings whole cs g.lines))
-  closed-in l c cs f g n w kept =
+  closed-in l {c} {cs} {f} g n w kept =
       let inner : Readings = readings whole (c ∷ cs) f.lines in
       let number : f.begin.number ≡ c.begun = ap innermost kept.opened in
       let all : lines_in f.begin.number whole ≡ f.lines ++ l ∷ [] =
@@ -127,7 +127,7 @@ module _ (whole before : List Placed) where
       let same : own whole f.begin ≡ observance_ended inner.observance =
       ap (λ ls. observance_ended (observance_of ls)) all ∙ ap observance_ended (observance-end f.lines l n) in
       ap (λ q. builder_at q (readings whole cs (g.lines ++ f.begin ∷ []))) (sym (ap context_of (path-of f.begin c cs kept.opened)))
-      ∙ builder-begun whole (context_of f.begin.path) cs g.lines f.begin inner (begin-named f.begin kept.begins) kept.begins same
+      ∙ builder-begun whole cs g.lines (context_of f.begin.path) f.begin inner (begin-named f.begin kept.begins) kept.begins same
       ∙ ap (λ (path : List Open). joined (builder_at (context_of path) inner) (builder_at (context_of (drop 1 path)) (readings whole cs g.lines))) kept.opened
 
   closed-over : (l : Placed) (path : List Open) (bundles : List Bundle) → Keeps before [] path bundles → name_of (property_name l.content) ≡ name.End →
@@ -143,7 +143,7 @@ module _ (whole before : List Placed) where
       ap (λ s. record bottom { builder = s } ∷ []) (sym (nothing-still (builder_at (context_of (c ∷ [])) (readings whole (c ∷ []) f.lines))))
   closed-over l (c ∷ d ∷ ds) (f ∷ g ∷ gs) k n w =
       ap (λ s. record { component = component_of d.name; context = context_of (d ∷ ds); calendar = calendar_of (d ∷ ds); builder = s } ∷ frames_of whole ds gs)
-      (closed-in l c (d ∷ ds) f g n (w c (d ∷ ds) refl) k.0)
+      (closed-in l g n (w c (d ∷ ds) refl) k.0)
 
   -- a line keeps the frames
   pub frames-behind : (line : Line) (path : List Open) (v : Parts) (bundles : List Bundle) → Keeps before [] path bundles →
@@ -164,24 +164,24 @@ module _ (whole before : List Placed) where
           (cond b (record { begin = l; lines = [] } ∷ bundles) (cond e (close l bundles) (add_line l bundles)))
           ≡ behind line.number n v (frames_of whole path bundles)
 
-      shown : (n : Name) → name_of u ≡ n → (b e : Bool) → is_begin_name n ≡ b → is_end_name n ≡ e → Shown n b e → Shown n (is_begin l) (is_end l)
-      shown n m b e p q s =
+      shown : {n : Name} → name_of u ≡ n → (b e : Bool) → is_begin_name n ≡ b → is_end_name n ≡ e → Shown n b e → Shown n (is_begin l) (is_end l)
+      shown {n} m b e p q s =
           let at_begin : is_begin l ≡ b = begin-is u (name_of u) (tells u) ∙ ap is_begin_name m ∙ p in
           let at_end : is_end l ≡ e = end-is u (name_of u) (tells u) ∙ ap is_end_name m ∙ q in
           subst (λ (t : Bool). Shown n t (is_end l)) (sym at_begin) (subst (λ (t : Bool). Shown n b t) (sym at_end) s)
 
       by_name : (n : Name) → name_of u ≡ n → frames_of whole (path_behind l) (bundles_behind l bundles) ≡ behind line.number n v (frames_of whole path bundles)
-      by_name name.Begin m = shown name.Begin m true false refl refl (begun l path bundles k)
+      by_name name.Begin m = shown m true false refl refl (begun l path bundles k)
       by_name name.End m =
           let not_begin : is_begin l ≡ false = begin-is u (name_of u) (tells u) ∙ ap is_begin_name m in
           let at_end : is_end l ≡ true = end-is u (name_of u) (tells u) ∙ ap is_end_name m in
           let out : path_behind l ≡ drop 1 path =
           ap (λ t. cond t (record { name = component l; begun = l.number } ∷ path) (cond (is_end l) (drop 1 path) path)) not_begin
           ∙ ap (λ t. cond t (drop 1 path) path) at_end in
-          shown name.End m false true refl refl (closed-over l path bundles k m (λ c cs p. w c cs p (out ∙ ap (drop 1) p)))
+          shown m false true refl refl (closed-over l path bundles k m (λ c cs p. w c cs p (out ∙ ap (drop 1) p)))
       by_name _ m =
           let not_begin : is_begin l ≡ false = begin-is u (name_of u) (tells u) ∙ ap is_begin_name m in
-          shown _ m false false refl refl (added l path bundles k not_begin ∙ ap (λ n. noted n v (frames_of whole path bundles)) m)
+          shown m false false refl refl (added l path bundles k not_begin ∙ ap (λ n. noted n v (frames_of whole path bundles)) m)
 
   length-frames : (path : List Open) (bundles : List Bundle) (up : List Placed) → Keeps before up path bundles →
       length (frames_of whole path bundles) ≡ length path + 1

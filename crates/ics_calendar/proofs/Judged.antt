@@ -16,7 +16,6 @@ use Rattle.ics_calendar.specs.declared.deferred_check.DeferredCheck.{DeferredChe
 use Rattle.ics_calendar.specs.declared.name.Name.{Name}
 use Rattle.ics_calendar.specs.declared.name.Name.TheVariants as name
 use Rattle.ics_calendar.specs.declared.builder.Builder.{Builder}
-use Rattle.ics_calendar.specs.declared.builder.Builder.TheVariants as builder
 use Rattle.ics_calendar.specs.Components.{component_of, component_name}
 use Rattle.ics_calendar.specs.Lines.{unless, first, fault_if, builder_fault, builder_note, builder_check, passed, fault_at_end_of, ended_as, joined, end_check}
 use Rattle.ics_calendar.specs.Lines.{opened, outside_fault, named_line}

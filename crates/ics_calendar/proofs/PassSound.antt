@@ -46,60 +46,62 @@ still-awaited checks more es h =
     All-weaker (EachZone (Contains checks)) (EachZone (Contains (checks ++ more)))
     (λ e a. each-weaker (Contains checks) (Contains (checks ++ more)) (λ l. Contains-append_left checks more l) e a) es h
 
--- the lowest frame stays the only one outside
-based-behind : (number : ℕ) (n : Name) (v : Parts) (f : Frame) (fs : List Frame) → IsBased (f ∷ fs) → IsBased (behind number n v (f ∷ fs))
-based-behind number n v f fs b = subst (λ (gs : List Frame). IsBased gs) (sym (behind-is number n v f fs)) (by_tests (is_begin_name n) (is_end_name n) fs b)
-  where
-    c : Component
-    c = component_of (map upper v.value)
+-- behind a line
+module _ (number : ℕ) (n : Name) (v : Parts) (f : Frame) (fs : List Frame) where
+  -- the lowest frame stays the only one outside
+  based-behind : IsBased (f ∷ fs) → IsBased (behind number n v (f ∷ fs))
+  based-behind b = subst (λ (gs : List Frame). IsBased gs) (sym (behind-is number n v f fs)) (by_tests (is_begin_name n) (is_end_name n) fs b)
+    where
+      c : Component
+      c = component_of (map upper v.value)
 
-    lifted : (s : Builder) (fs : List Frame) → IsBased (f ∷ fs) → IsBased (record f { builder = s } ∷ fs)
-    lifted s [] b = b
-    lifted s (g ∷ gs) b = b
+      lifted : (s : Builder) (fs : List Frame) → IsBased (f ∷ fs) → IsBased (record f { builder = s } ∷ fs)
+      lifted s [] b = b
+      lifted s (g ∷ gs) b = b
 
-    by_tests : (t e : Bool) (fs : List Frame) → IsBased (f ∷ fs) →
-        IsBased (cond t (opened number c (f ∷ fs)) (cond e (closed (f ∷ fs)) (record f { builder = builder_note n v f.builder } ∷ fs)))
-    by_tests true e fs b = (context-in-outside f.context c, b)
-    by_tests false true [] b = b
-    by_tests false true (g ∷ []) b = b.1
-    by_tests false true (g ∷ h ∷ hs) b = b.1
-    by_tests false false fs b = lifted (builder_note n v f.builder) fs b
+      by_tests : (t e : Bool) (fs : List Frame) → IsBased (f ∷ fs) →
+          IsBased (cond t (opened number c (f ∷ fs)) (cond e (closed (f ∷ fs)) (record f { builder = builder_note n v f.builder } ∷ fs)))
+      by_tests true e fs b = (context-in-outside f.context c, b)
+      by_tests false true [] b = b
+      by_tests false true (g ∷ []) b = b.1
+      by_tests false true (g ∷ h ∷ hs) b = b.1
+      by_tests false false fs b = lifted (builder_note n v f.builder) fs b
 
-good-behind : (number : ℕ) (n : Name) (v : Parts) (f : Frame) (fs : List Frame) (g : GatheredSeen) → fault_on n v (f ∷ fs) ≡ None → Holds (f ∷ fs) g →
-    IsGood (and_passed number (passing n v (f ∷ fs)) g)
-good-behind number n v f fs g e h =
-    let late : Option DeferredCheck = check_in n v f in
-    let more : bare_checks (g.checks ++ checks_of number late) ≡ bare_checks g.checks ++ one late = bare_checks-more g.checks number late in
-    record {
-      zones = All-append (λ z. IsSoundZone z.observances) g.zones (zones_of_end (ends n (f ∷ fs))) h.good.zones (zones-sound n v (f ∷ fs) e h.sound);
-      whole = All-append IsWhole g.events (events_of_end (ends n (f ∷ fs))) h.good.whole (events-whole n v (f ∷ fs) e h.sound);
-      awaited =
-          subst (λ (ls : List DeferredCheck). All (EachZone (Contains ls)) (g.events ++ events_of_end (ends n (f ∷ fs)))) (sym more)
-          (All-append (EachZone (Contains (bare_checks g.checks ++ one late))) g.events (events_of_end (ends n (f ∷ fs)))
-          (still-awaited (bare_checks g.checks) (one late) g.events h.good.awaited) (ended-awaited (bare_checks g.checks) n v f fs h.awaited));
-      checks = All-append (λ w. IsSoundCheck w.check) g.checks (checks_of number late) h.good.checks (checks-sound number n v f h.sound.0);
-    }
+  good-behind : (g : GatheredSeen) → fault_on n v (f ∷ fs) ≡ None → Holds (f ∷ fs) g →
+      IsGood (and_passed number (passing n v (f ∷ fs)) g)
+  good-behind g e h =
+      let late : Option DeferredCheck = check_in n v f in
+      let more : bare_checks (g.checks ++ checks_of number late) ≡ bare_checks g.checks ++ one late = bare_checks-more g.checks number late in
+      record {
+        zones = All-append (λ z. IsSoundZone z.observances) g.zones (zones_of_end (ends n (f ∷ fs))) h.good.zones (zones-sound n v (f ∷ fs) e h.sound);
+        whole = All-append IsWhole g.events (events_of_end (ends n (f ∷ fs))) h.good.whole (events-whole n v (f ∷ fs) e h.sound);
+        awaited =
+            subst (λ (ls : List DeferredCheck). All (EachZone (Contains ls)) (g.events ++ events_of_end (ends n (f ∷ fs)))) (sym more)
+            (All-append (EachZone (Contains (bare_checks g.checks ++ one late))) g.events (events_of_end (ends n (f ∷ fs)))
+            (still-awaited (bare_checks g.checks) (one late) g.events h.good.awaited) (ended-awaited (bare_checks g.checks) v f n fs h.awaited));
+        checks = All-append (λ w. IsSoundCheck w.check) g.checks (checks_of number late) h.good.checks (checks-sound number n v f h.sound.0);
+      }
 
-holds-behind : (number : ℕ) (n : Name) (v : Parts) (f : Frame) (fs : List Frame) (g : GatheredSeen) → fault_on n v (f ∷ fs) ≡ None → Holds (f ∷ fs) g →
-    Holds (behind number n v (f ∷ fs)) (and_passed number (passing n v (f ∷ fs)) g)
-holds-behind number n v f fs g e h = record {
-  base = based-behind number n v f fs h.base;
-  sound = sound-behind number n v f fs h.sound;
-  awaited =
-      subst (λ (ls : List DeferredCheck). AreAwaited ls (behind number n v (f ∷ fs))) (sym (bare_checks-more g.checks number (check_in n v f)))
-      (awaited-behind (bare_checks g.checks) number n v f fs h.awaited);
-  good = good-behind number n v f fs g e h;
-}
+  holds-behind : (g : GatheredSeen) → fault_on n v (f ∷ fs) ≡ None → Holds (f ∷ fs) g →
+      Holds (behind number n v (f ∷ fs)) (and_passed number (passing n v (f ∷ fs)) g)
+  holds-behind g e h = record {
+    base = based-behind h.base;
+    sound = sound-behind number n v f fs h.sound;
+    awaited =
+        subst (λ (ls : List DeferredCheck). AreAwaited ls (behind number n v (f ∷ fs))) (sym (bare_checks-more g.checks number (check_in n v f)))
+        (awaited-behind (bare_checks g.checks) v f number n fs h.awaited);
+    good = good-behind g e h;
+  }
 
 -- THE PASS keeps it.
-pass-good : (lines : List Line) (frames : List Frame) (last : Option ℕ) (had g : GatheredSeen) → Holds frames had → pass frames last had lines ≡ Ok g → IsGood g
-pass-good [] frames last had g h = by_end (at_end frames last)
+pass-good : (lines : List Line) (frames : List Frame) (last : Option ℕ) {had g : GatheredSeen} → Holds frames had → pass frames last had lines ≡ Ok g → IsGood g
+pass-good [] frames last {had} {g} h = by_end (at_end frames last)
   where
     by_end : (o : Option Fault) → unless o had ≡ Ok g → IsGood g
     by_end None e = let same : had ≡ g = cc in subst (λ (g : GatheredSeen). IsGood g) same h.good
     by_end (Some f) e = cc
-pass-good (line ∷ lines) [] last had g h = absurd h.base
-pass-good (line ∷ lines) (f ∷ fs) last had g h = by_content (λ fs had. pass-good lines fs (Some line.number) had g) (content_of line.bytes)
+pass-good (line ∷ lines) [] last h = absurd h.base
+pass-good (line ∷ lines) (f ∷ fs) last {had} {g} h = by_content (λ fs had. pass-good lines fs (Some line.number)) (content_of line.bytes)
   where
     go : Going
     go frames had = pass frames (Some line.number) had lines
@@ -137,5 +139,5 @@ holds-first = record {
 -- WHAT THE PASS GATHERS is sound.
 pub sound-pass : (lines : List Line) (g : GatheredSeen) → pass (bottom ∷ []) None nothing_gathered lines ≡ Ok g → IsSoundGathered g
 sound-pass lines g e =
-    let good : IsGood g = pass-good lines (bottom ∷ []) None nothing_gathered g holds-first e in
+    let good : IsGood g = pass-good lines (bottom ∷ []) None holds-first e in
     record { zones = good.zones; whole = good.whole; awaited = good.awaited; sound = good.checks }

@@ -385,16 +385,19 @@ at-end true true false false h = (refl, refl, refl)
 whole-event : (k : ℕ) (had : EventBuilder) → IsSound had → end_of_event had ≡ None → IsWhole (event_ended k had)
 whole-event k had s e =
     let tests = at-end (is_filled had.uid) (is_some had.start) (is_some had.end && is_some had.duration) (ends_badly had.start had.end) e in
-    let times = by_times had.start had.end had.duration s.start s.end s.duration tests.1 tests.2 in
+    let times = by_start had.start s.start tests.1 tests.2 in
     record { named = filled-not-empty had.uid tests.0; start = times.0; length = times.1; rdates = s.rdates; exdates = s.exdates; recurrence = s.recurrence }
   where
-    by_times : (start end : Option Dated) (duration : Option Duration) → IfSome start (λ d. IsSoundStamp d.stamp) → IfSome end (λ d. IsSoundStamp d.stamp) →
-        IfSome duration (λ d. is_lasting d ≡ true) →
-        is_some start ≡ true → ends_badly start end ≡ false → IsSoundStamp (dated_in start).stamp × IsSoundLength (dated_in start) (given_length end duration)
-    by_times None end duration a b c t f = cc
-    by_times (Some d) (Some e) duration a b c t f = (a, (b, f))
-    by_times (Some d) None (Some e) a b c t f = (a, c)
-    by_times (Some d) None None a b c t f = (a, tt)
+    by_length : (start : Dated) (end : Option Dated) (duration : Option Duration) → IfSome end (λ d. IsSoundStamp d.stamp) →
+        IfSome duration (λ d. is_lasting d ≡ true) → ends_badly (Some start) end ≡ false → IsSoundLength start (given_length end duration)
+    by_length d (Some e) duration a b f = (a, f)
+    by_length d None (Some e) a b f = b
+    by_length d None None a b f = tt
+
+    by_start : (start : Option Dated) → IfSome start (λ d. IsSoundStamp d.stamp) → is_some start ≡ true → ends_badly start had.end ≡ false →
+        IsSoundStamp (dated_in start).stamp × IsSoundLength (dated_in start) (given_length had.end had.duration)
+    by_start None a t f = cc
+    by_start (Some d) a t f = (a, by_length d had.end had.duration s.end s.duration f)
 
 pub end-none : (q : Context) (matches : Bool) (s : Builder) → end_fault_at q matches s ≡ None → fault_at_end_of s ≡ None
 end-none context.Outside matches s e = cc

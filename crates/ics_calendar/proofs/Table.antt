@@ -104,36 +104,64 @@ any-part whole (l ∷ ls) = by_test (begins_in_zone l) (any-part whole ls)
 abbrev pub readings : List Placed → List Open → List Placed → Readings
 readings whole path ls = record { calendar = calendar_of path; event = collected_of ls; zone = zone_of (parts whole ls) ls; observance = observance_of ls }
 
-start-flag-is : (whole : List Placed) (q : Context) (k : List Open) (ls : List Placed) → start_flag q (readings whole k ls) ≡ has (codes "DTSTART") ls
-start-flag-is whole context.Observance k ls = has-first onset_on (codes "DTSTART") ls
-start-flag-is whole _ k ls = has-first dated_on (codes "DTSTART") ls
+-- of these lines in these components
+module _ (whole : List Placed) (k : List Open) (ls : List Placed) where
+  start-flag-is : (q : Context) → start_flag q (readings whole k ls) ≡ has (codes "DTSTART") ls
+  start-flag-is context.Observance = has-first onset_on (codes "DTSTART") ls
+  start-flag-is _ = has-first dated_on (codes "DTSTART") ls
 
-rule-flag-is : (whole : List Placed) (q : Context) (k : List Open) (ls : List Placed) → rule_flag q (readings whole k ls) ≡ has (codes "RRULE") ls
-rule-flag-is whole context.Observance k ls = has-first daily_on (codes "RRULE") ls
-rule-flag-is whole _ k ls = has-first parts_on (codes "RRULE") ls
+  rule-flag-is : (q : Context) → rule_flag q (readings whole k ls) ≡ has (codes "RRULE") ls
+  rule-flag-is context.Observance = has-first daily_on (codes "RRULE") ls
+  rule-flag-is _ = has-first parts_on (codes "RRULE") ls
 
-flag-readings : (whole : List Placed) (n : Name) (q : Context) (k : List Open) (u : List ℕ) (ls : List Placed) → Tells u n →
-    flag n q (readings whole k ls) (has u ls) ≡ has u ls
-flag-readings whole name.Uid q k u ls e = rw e (has-first (λ line. text_of (value line)) (codes "UID") ls)
-flag-readings whole name.Dtstart q k u ls e = rw e (start-flag-is whole q k ls)
-flag-readings whole name.Dtend q k u ls e = rw e (has-first dated_on (codes "DTEND") ls)
-flag-readings whole name.Duration q k u ls e = rw e (has-first duration_on (codes "DURATION") ls)
-flag-readings whole name.Rrule q k u ls e = rw e (rule-flag-is whole q k ls)
-flag-readings whole name.RecurrenceId q k u ls e = rw e (has-first dated_on (codes "RECURRENCE-ID") ls)
-flag-readings whole name.Sequence q k u ls e = rw e (has-first (λ line. ok_or_zero (integer_of (value line))) (codes "SEQUENCE") ls)
-flag-readings whole name.Tzid q k u ls e = rw e (has-first (λ line. text_of (value line)) (codes "TZID") ls)
-flag-readings whole name.OffsetFrom q k u ls e = rw e (has-first offset_on (codes "TZOFFSETFROM") ls)
-flag-readings whole name.OffsetTo q k u ls e = rw e (has-first offset_on (codes "TZOFFSETTO") ls)
-flag-readings whole _ q k u ls e = refl
+  flag-readings : (n : Name) (q : Context) (u : List ℕ) → Tells u n →
+      flag n q (readings whole k ls) (has u ls) ≡ has u ls
+  flag-readings name.Uid q u e = rw e (has-first (λ line. text_of (value line)) (codes "UID") ls)
+  flag-readings name.Dtstart q u e = rw e (start-flag-is q)
+  flag-readings name.Dtend q u e = rw e (has-first dated_on (codes "DTEND") ls)
+  flag-readings name.Duration q u e = rw e (has-first duration_on (codes "DURATION") ls)
+  flag-readings name.Rrule q u e = rw e (rule-flag-is q)
+  flag-readings name.RecurrenceId q u e = rw e (has-first dated_on (codes "RECURRENCE-ID") ls)
+  flag-readings name.Sequence q u e = rw e (has-first (λ line. ok_or_zero (integer_of (value line))) (codes "SEQUENCE") ls)
+  flag-readings name.Tzid q u e = rw e (has-first (λ line. text_of (value line)) (codes "TZID") ls)
+  flag-readings name.OffsetFrom q u e = rw e (has-first offset_on (codes "TZOFFSETFROM") ls)
+  flag-readings name.OffsetTo q u e = rw e (has-first offset_on (codes "TZOFFSETTO") ls)
+  flag-readings _ q u e = refl
 
--- the fields of a component of a time zone are all there
-fields-are : (whole : List Placed) (q : Context) (k : List Open) (ls : List Placed) → has_all (field_names q) ls ≡ has_fields q (readings whole k ls)
-fields-are whole context.Zone k ls = ap (λ t. t && true) (sym (has-first (λ line. text_of (value line)) (codes "TZID") ls))
-fields-are whole context.Observance k ls =
-    ap (λ t. t && (has (codes "TZOFFSETFROM") ls && (has (codes "TZOFFSETTO") ls && true))) (sym (has-first onset_on (codes "DTSTART") ls))
-    ∙ ap (λ t. is_some (observance_of ls).start && (t && (has (codes "TZOFFSETTO") ls && true))) (sym (has-first offset_on (codes "TZOFFSETFROM") ls))
-    ∙ ap (λ t. is_some (observance_of ls).start && (is_some (observance_of ls).from && (t && true))) (sym (has-first offset_on (codes "TZOFFSETTO") ls))
-fields-are whole _ k ls = refl
+  -- the fields of a component of a time zone are all there
+  fields-are : (q : Context) → has_all (field_names q) ls ≡ has_fields q (readings whole k ls)
+  fields-are context.Zone = ap (λ t. t && true) (sym (has-first (λ line. text_of (value line)) (codes "TZID") ls))
+  fields-are context.Observance =
+      ap (λ t. t && (has (codes "TZOFFSETFROM") ls && (has (codes "TZOFFSETTO") ls && true))) (sym (has-first onset_on (codes "DTSTART") ls))
+      ∙ ap (λ t. is_some (observance_of ls).start && (t && (has (codes "TZOFFSETTO") ls && true))) (sym (has-first offset_on (codes "TZOFFSETFROM") ls))
+      ∙ ap (λ t. is_some (observance_of ls).start && (is_some (observance_of ls).from && (t && true))) (sym (has-first offset_on (codes "TZOFFSETTO") ls))
+  fields-are _ = refl
+
+  -- what the table reads of the lines beside, as the pass keeps it
+  tests-same : (u : List ℕ) (v : Parts) (q : Context) (cl deep : Bool) →
+      (is_zone_context q ≡ true → list_any begins_observance ls ≡ has_observance (readings whole k ls)) →
+      flat u (map upper v.value) v q cl deep (is_filled (first_text (codes "UID") ls)) (has (codes "DTSTART") ls)
+      ((has (codes "DTEND") ls && has (codes "DURATION") ls) || ends_badly (first_dated (codes "DTSTART") ls) (first_dated (codes "DTEND") ls))
+      (is_bare u q cl (list_any begins_observance ls)) (has_all (field_names q) ls) (has u ls)
+      ≡ flat u (map upper v.value) v q cl deep (is_filled (collected_of ls).uid) (is_some (collected_of ls).start) (bad_end_of (collected_of ls))
+      (is_bare u q cl (has_observance (readings whole k ls))) (has_fields q (readings whole k ls)) (has u ls)
+  tests-same u v q cl deep asked =
+      let h : Bool = has u ls in
+      let bad : Bool = ends_badly (first_dated (codes "DTSTART") ls) (first_dated (codes "DTEND") ls) in
+      let filled : Bool = is_filled (first_text (codes "UID") ls) in
+      let bare : Bool = is_bare u q cl (list_any begins_observance ls) in
+      let all : Bool = has_all (field_names q) ls in
+      ap (λ s. flat u (map upper v.value) v q cl deep filled s ((has (codes "DTEND") ls && has (codes "DURATION") ls) || bad) bare all h)
+      (sym (has-first dated_on (codes "DTSTART") ls))
+      ∙ ap (λ a. flat u (map upper v.value) v q cl deep filled (is_some (collected_of ls).start) ((a && has (codes "DURATION") ls) || bad) bare all h)
+      (sym (has-first dated_on (codes "DTEND") ls))
+      ∙ ap (λ a. flat u (map upper v.value) v q cl deep filled (is_some (collected_of ls).start) ((is_some (collected_of ls).end && a) || bad) bare all h)
+      (sym (has-first duration_on (codes "DURATION") ls))
+      ∙ ap (λ a. flat u (map upper v.value) v q cl deep filled (is_some (collected_of ls).start) (bad_end_of (collected_of ls)) bare a h)
+      (fields-are q)
+      ∙ ap (λ b. flat u (map upper v.value) v q cl deep filled (is_some (collected_of ls).start) (bad_end_of (collected_of ls)) b
+      (has_fields q (readings whole k ls)) h)
+      (asked-same u q cl (list_any begins_observance ls) (has_observance (readings whole k ls)) asked)
 
 -- the innermost component of a path; below all there is none
 abbrev pub top_component : List Open → Component
@@ -143,31 +171,6 @@ top_component (c ∷ cs) = component_of c.name
 -- the frame that a path and the lines directly in its innermost component stand for
 abbrev pub frame_of : List Placed → List Open → List Placed → Frame
 frame_of whole path ls = frame_at (top_component path) (context_of path) (readings whole path ls)
-
--- what the table reads of the lines beside, as the pass keeps it
-tests-same : (whole : List Placed) (u : List ℕ) (v : Parts) (q : Context) (k : List Open) (cl deep h : Bool) (ls : List Placed) →
-    (is_zone_context q ≡ true → list_any begins_observance ls ≡ has_observance (readings whole k ls)) →
-    flat u (map upper v.value) v q cl deep (is_filled (first_text (codes "UID") ls)) (has (codes "DTSTART") ls)
-    ((has (codes "DTEND") ls && has (codes "DURATION") ls) || ends_badly (first_dated (codes "DTSTART") ls) (first_dated (codes "DTEND") ls))
-    (is_bare u q cl (list_any begins_observance ls)) (has_all (field_names q) ls) h
-    ≡ flat u (map upper v.value) v q cl deep (is_filled (collected_of ls).uid) (is_some (collected_of ls).start) (bad_end_of (collected_of ls))
-    (is_bare u q cl (has_observance (readings whole k ls))) (has_fields q (readings whole k ls)) h
-tests-same whole u v q k cl deep h ls asked =
-    let bad : Bool = ends_badly (first_dated (codes "DTSTART") ls) (first_dated (codes "DTEND") ls) in
-    let filled : Bool = is_filled (first_text (codes "UID") ls) in
-    let bare : Bool = is_bare u q cl (list_any begins_observance ls) in
-    let all : Bool = has_all (field_names q) ls in
-    ap (λ s. flat u (map upper v.value) v q cl deep filled s ((has (codes "DTEND") ls && has (codes "DURATION") ls) || bad) bare all h)
-    (sym (has-first dated_on (codes "DTSTART") ls))
-    ∙ ap (λ a. flat u (map upper v.value) v q cl deep filled (is_some (collected_of ls).start) ((a && has (codes "DURATION") ls) || bad) bare all h)
-    (sym (has-first dated_on (codes "DTEND") ls))
-    ∙ ap (λ a. flat u (map upper v.value) v q cl deep filled (is_some (collected_of ls).start) ((is_some (collected_of ls).end && a) || bad) bare all h)
-    (sym (has-first duration_on (codes "DURATION") ls))
-    ∙ ap (λ a. flat u (map upper v.value) v q cl deep filled (is_some (collected_of ls).start) (bad_end_of (collected_of ls)) bare a h)
-    (fields-are whole q k ls)
-    ∙ ap (λ b. flat u (map upper v.value) v q cl deep filled (is_some (collected_of ls).start) (bad_end_of (collected_of ls)) b
-    (has_fields q (readings whole k ls)) h)
-    (asked-same u q cl (list_any begins_observance ls) (has_observance (readings whole k ls)) asked)
 
 -- the time zone on whose lines an END stands has an observance exactly where one has begun there
 abbrev pub IsAsked : List Placed → List Open → List Placed → Type 0
@@ -179,13 +182,13 @@ pub least-same : (whole : List Placed) (path : List Open) (number : ℕ) (v : Pa
     ≡ fault_in (name_of (map upper v.name)) v (frame_of whole path ls) (length path)
 least-same whole [] number v ls asked =
     let u : List ℕ = map upper v.name in
-    tests-same whole u v context.Outside [] false (nat_le 32 0) (has u ls) ls asked
+    tests-same whole [] ls u v context.Outside false (nat_le 32 0) asked
     ∙ same v (component.Other []) context.Outside false 0 (readings whole [] ls) (has u ls) (name_of u) u (tells u)
-    (flag-readings whole (name_of u) context.Outside [] u ls (tells u)) (λ e. cc)
+    (flag-readings whole [] ls (name_of u) context.Outside u (tells u)) (λ e. cc)
 least-same whole (c ∷ cs) number v ls asked =
     let u : List ℕ = map upper v.name in
     let cl : Bool = closes (c ∷ cs) (map upper v.value) in
-    tests-same whole u v (context_of (c ∷ cs)) (c ∷ cs) cl (nat_le 32 (length (c ∷ cs))) (has u ls) ls asked
+    tests-same whole (c ∷ cs) ls u v (context_of (c ∷ cs)) cl (nat_le 32 (length (c ∷ cs))) asked
     ∙ same v (component_of c.name) (context_of (c ∷ cs)) cl (length (c ∷ cs)) (readings whole (c ∷ cs) ls) (has u ls) (name_of u) u (tells u)
-    (flag-readings whole (name_of u) (context_of (c ∷ cs)) (c ∷ cs) u ls (tells u))
+    (flag-readings whole (c ∷ cs) ls (name_of u) (context_of (c ∷ cs)) u (tells u))
     (λ e. ap (bytes_eq (map upper v.value)) (component_name-of c.name))

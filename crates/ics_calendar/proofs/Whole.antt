@@ -80,11 +80,11 @@ abbrev none_later : List Placed → Option Fault
 none_later before = None
 
 -- WHAT A FILE IS, by its first faults.
-decided : (files : GivenFiles) (file : List ℕ) → begins_with_fold file ≡ false → (first later : Option Fault) → first_fault (placed file) ≡ first →
+decided : (files : GivenFiles) (file : List ℕ) {first later : Option Fault} → begins_with_fold file ≡ false → first_fault (placed file) ≡ first →
     later_fault files (placed file) ≡ later →
     IsFile files file (decide first later (said_of files (placed file)))
-decided files file b (Some f) later e g = inr (b, inl (finds stands fault_at_end [] (placed file) f e))
-decided files file b None (Some f) e g =
+decided files file {first = Some f} b e g = inr (b, inl (finds stands fault_at_end [] (placed file) f e))
+decided files file {first = None} {later = Some f} b e g =
     let none = finds-none stands fault_at_end [] (placed file) e in
     inr (b, inr (none.0, none.1, on_line (finds (stands_later (zones_with files (placed file))) none_later [] (placed file) f g)))
   where
@@ -92,7 +92,7 @@ decided files file b None (Some f) e g =
         IsFirst (stands_later (zones_with files (placed file))) [] (placed file) f
     on_line (inl r) = r
     on_line (inr r) = let n : None ≡ Some f = r.1 in cc
-decided files file b None None e g =
+decided files file {first = None} {later = None} b e g =
     let none = finds-none stands fault_at_end [] (placed file) e in
     (b, none.0, none.1, (finds-none (stands_later (zones_with files (placed file))) none_later [] (placed file) g).0, refl)
 
@@ -102,15 +102,15 @@ is-file files file = by_fold (begins_with_fold file) refl
     by_fold : (t : Bool) → begins_with_fold file ≡ t →
         IsFile files file (cond t (Err bad_fold) (decide (first_fault (placed file)) (later_fault files (placed file)) (said_of files (placed file))))
     by_fold true e = inl (e, refl)
-    by_fold false e = decided files file e (first_fault (placed file)) (later_fault files (placed file)) refl refl
+    by_fold false e = decided files file e refl refl
 
 first-is : (file : List ℕ) (f : Fault) → IsFirstOrLast (placed file) f → first_fault (placed file) ≡ Some f
 first-is file f (inl r) = found-on-line stands fault_at_end [] (placed file) f r
-first-is file f (inr r) = found-at-end stands fault_at_end [] (placed file) (Some f) r.0 r.1
+first-is file f (inr r) = found-at-end stands fault_at_end [] (placed file) r.0 r.1
 
-whole-is : (files : GivenFiles) (file : List ℕ) (first later : Option Fault) → begins_with_fold file ≡ false → first_fault (placed file) ≡ first →
+whole-is : (files : GivenFiles) (file : List ℕ) {first later : Option Fault} → begins_with_fold file ≡ false → first_fault (placed file) ≡ first →
     later_fault files (placed file) ≡ later → file_of files file ≡ decide first later (said_of files (placed file))
-whole-is files file first later b e g =
+whole-is files file {first} b e g =
     ap (λ t. cond t (Err bad_fold) (decide (first_fault (placed file)) (later_fault files (placed file)) (said_of files (placed file)))) b
     ∙ ap (λ f. decide f (later_fault files (placed file)) (said_of files (placed file))) e
     ∙ ap (λ f. decide first f (said_of files (placed file))) g
@@ -126,11 +126,11 @@ file-is files file (Err f) (inr h) = by_round h.1
         ⊎ (NoneStand stands [] (placed file) × (fault_at_end (placed file) ≡ None)
         × IsFirst (stands_later (zones_with files (placed file))) [] (placed file) f) →
         file_of files file ≡ Err f
-    by_round (inl r) = whole-is files file (Some f) (later_fault files (placed file)) h.0 (first-is file f r) refl
+    by_round (inl r) = whole-is files file h.0 (first-is file f r) refl
     by_round (inr r) =
-        whole-is files file None (Some f) h.0 (found-at-end stands fault_at_end [] (placed file) None r.0 r.1)
+        whole-is files file h.0 (found-at-end stands fault_at_end [] (placed file) r.0 r.1)
         (found-on-line (stands_later (zones_with files (placed file))) none_later [] (placed file) f r.2)
 file-is files file (Ok seen) h =
-    whole-is files file None None h.0 (found-at-end stands fault_at_end [] (placed file) None h.1 h.2)
-    (found-at-end (stands_later (zones_with files (placed file))) none_later [] (placed file) None h.3 refl)
+    whole-is files file h.0 (found-at-end stands fault_at_end [] (placed file) h.1 h.2)
+    (found-at-end (stands_later (zones_with files (placed file))) none_later [] (placed file) h.3 refl)
     ∙ ap (λ (s : FileSaid). Ok s) (sym h.4)
