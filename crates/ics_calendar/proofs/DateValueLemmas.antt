@@ -1,6 +1,6 @@
 -- The values of RDATE and EXDATE, as they are read.
 use Rattle.std.proofs.Common.{◌≡◌, ℕ, ◌+◌, Bool, true, false, ◌==◌, ◌&&◌, ◌||◌, not, List, [], ◌∷◌, length, take, drop, refl, sym, ap, ◌∙◌, cond, arith, inl}
-use Rattle.std.proofs.Common.{inr, map, Some, None, Result, Ok, Err}
+use Rattle.std.proofs.Common.{inr, map, Option, Some, None, Result, Ok, Err}
 use Rattle.std.specs.Prelude.{nat_lt, filter_map}
 use Rattle.std.specs.List.{list_any, position, position_or_len}
 use Rattle.std.proofs.lemmas.Bool.Decides.{eqb_tells, nat_tests}
@@ -17,7 +17,7 @@ use Rattle.ics_values.specs.declared.duration.Duration.{Duration}
 use Rattle.ics_values.specs.declared.duration.DurationFault.{DurationFault}
 use Rattle.ics_values.specs.declared.duration.DurationFault.TheVariants as duration_fault
 use Rattle.ics_calendar.specs.declared.date_values.DateValue.{DateValue}
-use Rattle.ics_calendar.specs.declared.fault.FaultKind.TheVariants as kind
+use Rattle.ics_calendar.specs.declared.fault.FaultKind.{FaultKind}
 use Rattle.ics_calendar.specs.Lines.{dates_fault}
 use Rattle.ics_calendar.specs.Values.{stamp_in, duration_in, is_bad_stamp, is_far_stamp, is_bad_duration, is_large_duration}
 
@@ -26,15 +26,17 @@ pub date_time-is : (zoned : Bool) (text : List ℕ) → (length text ≡ 8 → �
 date_time-is zoned text other = elim (eqb_tells (length text) 8) [
   | inl e ↦ absurd (other e.1)
   | inr e ↦
-      by_tests (length text == 8) (is_date_time_form text) (are_digits text) (date_exists text) (time_exists text)
-      (cond (not (is_stamp_year (year_of text))) (Err YearRange) (Ok (stamp_said zoned text))) e.0
+      by_tests (length text == 8) (is_date_time_form text) (cond (not (is_stamp_year (year_of text))) (Err YearRange) (Ok (stamp_said zoned text))) e.0
 ]
   where
-    by_tests : (n f d x t : Bool) (r : Result Stamp StampFault) → n ≡ false →
-        cond (not (((n && d) && x) || (f && x && t))) (Err BadStamp) r ≡ cond f (cond (not (((n && d) && x) || (f && x && t))) (Err BadStamp) r) (Err BadStamp)
-    by_tests true f d x t r e = cc
-    by_tests false true d x t r e = refl
-    by_tests false false d x t r e = refl
+    exists : Bool → Bool → Bool
+    exists n f = ((n && are_digits text) && date_exists text) || (f && date_exists text && time_exists text)
+
+    by_tests : (n f : Bool) (r : Result Stamp StampFault) → n ≡ false →
+        cond (not (exists n f)) (Err BadStamp) r ≡ cond f (cond (not (exists n f)) (Err BadStamp) r) (Err BadStamp)
+    by_tests true f r e = cc
+    by_tests false true r e = refl
+    by_tests false false r e = refl
 
 -- an element passes exactly where there is a first that does
 any-first : (p : ℕ → Bool) (xs : List ℕ) → list_any p xs ≡ nat_lt (position_or_len p xs) (length xs)
@@ -110,17 +112,16 @@ said-all (v ∷ vs) a b c d =
     let t = or-none (has_large_duration v) (list_any has_large_duration vs) d in
     rw (said-one v (p.0, q.0, r.0, t.0)) (ap (λ ls. listed_in v ∷ ls) (said-all vs p.1 q.1 r.1 t.1))
 
+-- where no kind of fault is found, the first is not there, and none of those behind it
+pub skip : (b : Bool) (k : FaultKind) (rest : Option FaultKind) → cond b (Some k) rest ≡ None → (b ≡ false) × (rest ≡ None)
+skip true k rest e = cc
+skip false k rest e = (refl, e)
+
 -- the least fault of a list is none where none has one
 pub said-list : (vs : List DateValue) → dates_fault vs ≡ None → filter_map listed_said vs ≡ map listed_in vs
 said-list vs e =
-    by_tests (list_any has_bad_stamp vs) (list_any has_bad_duration vs) (list_any has_far_stamp vs) (list_any has_large_duration vs) refl refl refl refl e
-  where
-    by_tests : (a b c d : Bool) → list_any has_bad_stamp vs ≡ a → list_any has_bad_duration vs ≡ b → list_any has_far_stamp vs ≡ c →
-        list_any has_large_duration vs ≡ d →
-        cond a (Some kind.BadStamp) (cond b (Some kind.BadDuration) (cond c (Some kind.YearRange) (cond d (Some kind.NumberTooLarge) None))) ≡ None →
-        filter_map listed_said vs ≡ map listed_in vs
-    by_tests true b c d p q r t e = cc
-    by_tests false true c d p q r t e = cc
-    by_tests false false true d p q r t e = cc
-    by_tests false false false true p q r t e = cc
-    by_tests false false false false p q r t e = said-all vs p q r t
+    let stamps = skip _ _ _ e in
+    let durations = skip _ _ _ stamps.1 in
+    let years = skip _ _ _ durations.1 in
+    let numbers = skip _ _ _ years.1 in
+    said-all vs stamps.0 durations.0 years.0 numbers.0

@@ -94,9 +94,6 @@ in_zone_flat u v q =
 abbrev unknown_flat : (zoned has bad : Bool) → Option FaultKind
 unknown_flat zoned has bad = cond ((zoned && not has) && not bad) (Some UnknownZone) (cond ((zoned && not has) && bad) (Some BadZoneFile) None)
 
-abbrev later_flat : (u : List ℕ) (v : Parts) (q : Context) (cl be has bad : Bool) → Option FaultKind
-later_flat u v q cl be has bad = cond (ends_flat u q cl && be) (Some BadEnd) (unknown_flat (in_zone_flat u v q) has bad)
-
 abbrev check_of : Name → Parts → Component → Context → Readings → Option DeferredCheck
 check_of n v c q g = check_in n v (frame_at c q g)
 
@@ -106,33 +103,6 @@ bad_check known g = ends_badly_later known g.calendar g.event.start g.event.end
 -- the zone that a line names, if it has a stamp in one
 abbrev use_of : Readings → Parts → ZoneName
 use_of g v = zone_used g.calendar (dated_of v.params v.value)
-
--- What a line leaves to the second round: at the END of an event its end, and on another line the time zone of its stamps, if they are in one.
-abbrev Leaves : (ends zoned : Bool) (left end : Option DeferredCheck) → ZoneName → Type 0
-Leaves ends zoned left end used =
-    ((ends ≡ true) × (zoned ≡ false) × (left ≡ end)) ⊎ ((ends ≡ false) × (left ≡ cond zoned (Some (check.Zone used)) None))
-
-leaves : (n : Name) (u : List ℕ) (v : Parts) (c : Component) (q : Context) (cl : Bool) (g : Readings) → Tells u n →
-    (bytes_eq u (codes "END") && not (bytes_eq u (codes "END") && cl)) ≡ false →
-    Leaves (ends_flat u q cl) (in_zone_flat u v q) (check_of n v c q g) (ends_in g.calendar g.event.start g.event.end) (use_of g v)
-leaves name.End u v c context.Event true g e m = inl (rw e refl, rw e refl, refl)
-leaves name.End u v c _ true g e m = inr (rw e refl, refl)
-leaves name.End u v c q false g e m = let h : true ≡ false =
-    subst (λ (u : List ℕ). (bytes_eq u (codes "END") && not (bytes_eq u (codes "END") && false)) ≡ false) e m in inr (cc, cc)
-leaves name.Dtstart u v c context.Event cl g e m = inr (rw e refl, rw e refl)
-leaves name.Dtstart u v c _ cl g e m = inr (rw e refl, refl)
-leaves name.Dtend u v c context.Event cl g e m = inr (rw e refl, rw e refl)
-leaves name.Dtend u v c _ cl g e m = inr (rw e refl, refl)
-leaves name.RecurrenceId u v c context.Event cl g e m = inr (rw e refl, rw e refl)
-leaves name.RecurrenceId u v c _ cl g e m = inr (rw e refl, refl)
-leaves name.Rdate u v c context.Event cl g e m = inr (rw e refl, rw e (simp or-false refl))
-leaves name.Rdate u v c _ cl g e m = inr (rw e refl, refl)
-leaves name.Exdate u v c context.Event cl g e m = inr (rw e refl, rw e (simp or-false refl))
-leaves name.Exdate u v c _ cl g e m = inr (rw e refl, refl)
-leaves name.Other u v c context.Event cl g e m = inr (simp e.no_end refl, simp (e.no_rdate, e.no_exdate, e.no_dtstart, e.no_dtend, e.no_recurrence_id) refl)
-leaves name.Other u v c _ cl g e m = inr (simp e.no_end refl, refl)
-leaves _ u v c context.Event cl g e m = inr (rw e refl, rw e refl)
-leaves _ u v c _ cl g e m = inr (rw e refl, refl)
 
 turned : {X : Type 0} (t : Bool) (x : X) → cond (not t) (Some x) None ≡ cond t None (Some x)
 turned true x = refl
@@ -148,13 +118,6 @@ in-zone known true used = by_tests (is_some (known.index used)) (known.is_bad us
     by_tests true bad = refl
     by_tests false true = refl
     by_tests false false = refl
-
-judged-left : (known : KnownZones) (ends zoned : Bool) (left : Option DeferredCheck) (calendar : ℕ) (start end : Option Dated) (used : ZoneName) →
-    Leaves ends zoned left (ends_in calendar start end) used →
-    cond (ends && ends_badly_later known calendar start end) (Some BadEnd) (unknown_flat zoned (is_some (known.index used)) (known.is_bad used.name))
-    ≡ option_and_then (judged known) left
-judged-left known ends zoned left k start end used (inl h) = rw (h.0, h.1, h.2) (ends-judged known k start end)
-judged-left known ends zoned left k start end used (inr h) = rw (h.0, h.1) (in-zone known zoned used)
 
 -- as it asks for a time zone
 no-zone : (index : ZoneName → Option ℕ) (calendar : ℕ) (start end : Option Dated) → option_and_then (unknown_in index) (ends_in calendar start end) ≡ None
@@ -177,18 +140,56 @@ no-zone index k (Some a) (Some b) = by_test (are_of_one_zone a b)
     by_test true = refl
     by_test false = by_instants (instant_in k a) (instant_in k b)
 
-asked-left : (index : ZoneName → Option ℕ) (ends zoned : Bool) (left : Option DeferredCheck) (calendar : ℕ) (start end : Option Dated) (used : ZoneName) →
-    Leaves ends zoned left (ends_in calendar start end) used →
-    cond (zoned && not (is_some (index used))) (Some used.name) None ≡ option_and_then (unknown_in index) left
-asked-left index ends zoned left k start end used (inl h) = rw (h.1, h.2) (sym (no-zone index k start end))
-asked-left index ends zoned left k start end used (inr h) = rw h.1 (by_zone zoned)
-  where
-    by_zone : (z : Bool) →
-        cond (z && not (is_some (index used))) (Some used.name) None ≡ option_and_then (unknown_in index) (cond z (Some (check.Zone used)) None)
-    by_zone true = turned (is_some (index used)) used.name
-    by_zone false = refl
+-- What a line leaves to the second round: at the END of an event its end, and on another line the time zone of its stamps, if they are in one.
+module _ (v : Parts) (g : Readings) where
+  abbrev Leaves : (ends zoned : Bool) → Option DeferredCheck → Type 0
+  Leaves ends zoned left =
+      ((ends ≡ true) × (zoned ≡ false) × (left ≡ ends_in g.calendar g.event.start g.event.end))
+      ⊎ ((ends ≡ false) × (left ≡ cond zoned (Some (check.Zone (use_of g v))) None))
 
-outside-later : (u : List ℕ) (v : Parts) (cl be has bad : Bool) → later_flat u v context.Outside cl be has bad ≡ None
+  module _ (u : List ℕ) (c : Component) where
+    leaves : (n : Name) (q : Context) (cl : Bool) → Tells u n →
+        (bytes_eq u (codes "END") && not (bytes_eq u (codes "END") && cl)) ≡ false →
+        Leaves (ends_flat u q cl) (in_zone_flat u v q) (check_of n v c q g)
+    leaves name.End context.Event true e m = inl (rw e refl, rw e refl, refl)
+    leaves name.End _ true e m = inr (rw e refl, refl)
+    leaves name.End q false e m = let h : true ≡ false =
+        subst (λ (u : List ℕ). (bytes_eq u (codes "END") && not (bytes_eq u (codes "END") && false)) ≡ false) e m in inr (cc, cc)
+    leaves name.Dtstart context.Event cl e m = inr (rw e refl, rw e refl)
+    leaves name.Dtstart _ cl e m = inr (rw e refl, refl)
+    leaves name.Dtend context.Event cl e m = inr (rw e refl, rw e refl)
+    leaves name.Dtend _ cl e m = inr (rw e refl, refl)
+    leaves name.RecurrenceId context.Event cl e m = inr (rw e refl, rw e refl)
+    leaves name.RecurrenceId _ cl e m = inr (rw e refl, refl)
+    leaves name.Rdate context.Event cl e m = inr (rw e refl, rw e (simp or-false refl))
+    leaves name.Rdate _ cl e m = inr (rw e refl, refl)
+    leaves name.Exdate context.Event cl e m = inr (rw e refl, rw e (simp or-false refl))
+    leaves name.Exdate _ cl e m = inr (rw e refl, refl)
+    leaves name.Other context.Event cl e m = inr (simp e.no_end refl, simp (e.no_rdate, e.no_exdate, e.no_dtstart, e.no_dtend, e.no_recurrence_id) refl)
+    leaves name.Other _ cl e m = inr (simp e.no_end refl, refl)
+    leaves _ context.Event cl e m = inr (rw e refl, rw e refl)
+    leaves _ _ cl e m = inr (rw e refl, refl)
+
+  -- as it is judged, and as it asks for a time zone
+  judged-left : (known : KnownZones) (ends zoned : Bool) (left : Option DeferredCheck) → Leaves ends zoned left →
+      cond (ends && bad_check known g) (Some BadEnd) (unknown_flat zoned (is_some (known.index (use_of g v))) (known.is_bad (use_of g v).name))
+      ≡ option_and_then (judged known) left
+  judged-left known ends zoned left (inl h) = rw (h.0, h.1, h.2) (ends-judged known g.calendar g.event.start g.event.end)
+  judged-left known ends zoned left (inr h) = rw (h.0, h.1) (in-zone known zoned (use_of g v))
+
+  asked-left : (index : ZoneName → Option ℕ) (ends zoned : Bool) (left : Option DeferredCheck) → Leaves ends zoned left →
+      cond (zoned && not (is_some (index (use_of g v)))) (Some (use_of g v).name) None ≡ option_and_then (unknown_in index) left
+  asked-left index ends zoned left (inl h) = rw (h.1, h.2) (sym (no-zone index g.calendar g.event.start g.event.end))
+  asked-left index ends zoned left (inr h) = rw h.1 (by_zone zoned)
+    where
+      by_zone : (z : Bool) →
+          cond (z && not (is_some (index (use_of g v)))) (Some (use_of g v).name) None
+          ≡ option_and_then (unknown_in index) (cond z (Some (check.Zone (use_of g v))) None)
+      by_zone true = turned (is_some (index (use_of g v))) (use_of g v).name
+      by_zone false = refl
+
+outside-later : (u : List ℕ) (v : Parts) (cl be has bad : Bool) →
+    cond (ends_flat u context.Outside cl && be) (Some BadEnd) (unknown_flat (in_zone_flat u v context.Outside) has bad) ≡ None
 outside-later u v cl be has bad = by_tests (bytes_eq u (codes "END") && cl)
   where
     by_tests : (t : Bool) → cond (t && false && be) (Some BadEnd) None ≡ None
@@ -200,34 +201,35 @@ none-outside whole name.Begin v ls = refl
 none-outside whole name.End v ls = refl
 none-outside whole _ v ls = refl
 
--- WHAT THE SECOND ROUND FINDS on a line, of the table and of the pass.
-pub later-same : (whole : List Placed) (known : KnownZones) (line : Line) (path : List Open) (parts : Parts) (ls : List Placed) →
-    IsMatched (with line path parts) →
-    find (λ kind. stands_later known kind ls (with line path parts)) kinds
-    ≡ option_and_then (judged known) (check_in (name_of (map upper parts.name)) parts (frame_of whole path ls))
-later-same whole known line [] parts ls m =
-    let u : List ℕ = map upper parts.name in
-    let g : Readings = readings whole [] ls in
-    outside-later u parts false (bad_check known g) (is_some (known.index (use_of g parts))) (known.is_bad (use_of g parts).name)
-    ∙ ap (option_and_then (judged known)) (sym (none-outside whole (name_of u) parts ls))
-later-same whole known line (c ∷ cs) parts ls m =
-    let u : List ℕ = map upper parts.name in
-    let q : Context = context_of (c ∷ cs) in
-    let cl : Bool = closes (c ∷ cs) (map upper parts.value) in
-    let g : Readings = readings whole (c ∷ cs) ls in
-    judged-left known (ends_flat u q cl) (in_zone_flat u parts q) (check_of (name_of u) parts (component_of c.name) q g) g.calendar g.event.start g.event.end
-    (use_of g parts) (leaves (name_of u) u parts (component_of c.name) q cl g (tells u) m)
+module _ (whole : List Placed) (known : KnownZones) (line : Line) (parts : Parts) (ls : List Placed) where
+  -- WHAT THE SECOND ROUND FINDS on a line, of the table and of the pass.
+  pub later-same : (path : List Open) →
+      IsMatched (with line path parts) →
+      find (λ kind. stands_later known kind ls (with line path parts)) kinds
+      ≡ option_and_then (judged known) (check_in (name_of (map upper parts.name)) parts (frame_of whole path ls))
+  later-same [] m =
+      let u : List ℕ = map upper parts.name in
+      let g : Readings = readings whole [] ls in
+      outside-later u parts false (bad_check known g) (is_some (known.index (use_of g parts))) (known.is_bad (use_of g parts).name)
+      ∙ ap (option_and_then (judged known)) (sym (none-outside whole (name_of u) parts ls))
+  later-same (c ∷ cs) m =
+      let u : List ℕ = map upper parts.name in
+      let q : Context = context_of (c ∷ cs) in
+      let cl : Bool = closes (c ∷ cs) (map upper parts.value) in
+      let g : Readings = readings whole (c ∷ cs) ls in
+      judged-left parts g known (ends_flat u q cl) (in_zone_flat u parts q) (check_of (name_of u) parts (component_of c.name) q g)
+      (leaves parts g u (component_of c.name) (name_of u) q cl (tells u) m)
 
--- WHAT IT ASKS FOR on a line.
-pub asked-same : (whole : List Placed) (known : KnownZones) (line : Line) (path : List Open) (parts : Parts) (ls : List Placed) →
-    IsMatched (with line path parts) →
-    cond (is_in_unknown_zone known (with line path parts)) (Some (tzid_on (with line path parts))) None
-    ≡ option_and_then (unknown_in known.index) (check_in (name_of (map upper parts.name)) parts (frame_of whole path ls))
-asked-same whole known line [] parts ls m = ap (option_and_then (unknown_in known.index)) (sym (none-outside whole (name_of (map upper parts.name)) parts ls))
-asked-same whole known line (c ∷ cs) parts ls m =
-    let u : List ℕ = map upper parts.name in
-    let q : Context = context_of (c ∷ cs) in
-    let cl : Bool = closes (c ∷ cs) (map upper parts.value) in
-    let g : Readings = readings whole (c ∷ cs) ls in
-    asked-left known.index (ends_flat u q cl) (in_zone_flat u parts q) (check_of (name_of u) parts (component_of c.name) q g) g.calendar g.event.start
-    g.event.end (use_of g parts) (leaves (name_of u) u parts (component_of c.name) q cl g (tells u) m)
+  -- WHAT IT ASKS FOR on a line.
+  pub asked-same : (path : List Open) →
+      IsMatched (with line path parts) →
+      cond (is_in_unknown_zone known (with line path parts)) (Some (tzid_on (with line path parts))) None
+      ≡ option_and_then (unknown_in known.index) (check_in (name_of (map upper parts.name)) parts (frame_of whole path ls))
+  asked-same [] m = ap (option_and_then (unknown_in known.index)) (sym (none-outside whole (name_of (map upper parts.name)) parts ls))
+  asked-same (c ∷ cs) m =
+      let u : List ℕ = map upper parts.name in
+      let q : Context = context_of (c ∷ cs) in
+      let cl : Bool = closes (c ∷ cs) (map upper parts.value) in
+      let g : Readings = readings whole (c ∷ cs) ls in
+      asked-left parts g known.index (ends_flat u q cl) (in_zone_flat u parts q) (check_of (name_of u) parts (component_of c.name) q g)
+      (leaves parts g u (component_of c.name) (name_of u) q cl (tells u) m)

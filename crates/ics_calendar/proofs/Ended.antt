@@ -74,10 +74,10 @@ is-closing false c h = refl
 abbrev pub IsMatched : Placed → Type 0
 IsMatched l = (is_end l && not (is_closing l)) ≡ false
 
-module _ {X : Type 0} (whole : List Placed) (s : Sort X) (pick : Ended → List X) (picks : Picks whole s pick) where
-  picked-inside : (line : Line) (c : Open) (cs : List Open) (v : Parts) (ls : List Placed) (g : Frame) (gs : List Frame) → IsMatched (with line (c ∷ cs) v) →
+module _ {X : Type 0} (whole : List Placed) (s : Sort X) (pick : Ended → List X) (picks : Picks whole s pick) (line : Line) (v : Parts) where
+  picked-inside : (c : Open) (cs : List Open) (ls : List Placed) (g : Frame) (gs : List Frame) → IsMatched (with line (c ∷ cs) v) →
       pick (ends (name_of (map upper v.name)) (frame_of whole (c ∷ cs) ls ∷ g ∷ gs)) ≡ ended_as s ls (with line (c ∷ cs) v)
-  picked-inside line c cs v ls g gs m =
+  picked-inside c cs ls g gs m =
       let u : List ℕ = map upper v.name in
       let f : Frame = frame_of whole (c ∷ cs) ls in
       let w : List ℕ = map upper v.value in
@@ -85,13 +85,13 @@ module _ {X : Type 0} (whole : List Placed) (s : Sort X) (pick : Ended → List 
       ∙ ap (λ t. pick (cond t (ended_in f) ended.Nothing)) (sym (end-is u (name_of u) (tells u)) ∙ is-closing (bytes_eq u (codes "END")) (bytes_eq w c.name) m)
       ∙ picks.inside (bytes_eq u (codes "END") && bytes_eq w c.name) c cs ls
 
-  pub picked-same : (before : List Placed) (line : Line) (path : List Open) (v : Parts) (bundles : List Bundle) → Keeps before [] path bundles →
+  pub picked-same : (before : List Placed) (path : List Open) (bundles : List Bundle) → Keeps before [] path bundles →
       IsMatched (with line path v) →
       pick (ends (name_of (map upper v.name)) (frames_of whole path bundles)) ≡ ended_as s (top_lines bundles) (with line path v)
-  picked-same before line [] v bundles k m =
+  picked-same before [] bundles k m =
       ap pick (ends-lowest (name_of (map upper v.name)) bottom) ∙ picks.nothing
       ∙ sym (ap (λ t. cond (t && s.stands_at context.Outside) (s.by [] (top_lines bundles) ∷ []) []) (and-false (bytes_eq (map upper v.name) (codes "END"))))
-  picked-same before line (c ∷ cs) v [] k m = absurd k
-  picked-same before line (c ∷ []) v (b ∷ bs) k m = picked-inside line c [] v b.lines bottom [] m
-  picked-same before line (c ∷ e ∷ es) v (b ∷ []) k m = absurd k.1
-  picked-same before line (c ∷ e ∷ es) v (b ∷ d ∷ ds) k m = picked-inside line c (e ∷ es) v b.lines (frame_of whole (e ∷ es) d.lines) (frames_of whole es ds) m
+  picked-same before (c ∷ cs) [] k m = absurd k
+  picked-same before (c ∷ []) (b ∷ bs) k m = picked-inside c [] b.lines bottom [] m
+  picked-same before (c ∷ e ∷ es) (b ∷ []) k m = absurd k.1
+  picked-same before (c ∷ e ∷ es) (b ∷ d ∷ ds) k m = picked-inside c (e ∷ es) b.lines (frame_of whole (e ∷ es) d.lines) (frames_of whole es ds) m

@@ -14,6 +14,7 @@ use Rattle.ics_calendar.specs.declared.fault.FaultKind.{FaultKind}
 use Rattle.ics_calendar.specs.declared.fault.FaultKind.TheVariants.{BadNesting}
 use Rattle.ics_calendar.specs.Names.{name_of}
 use Rattle.ics_calendar.specs.Faults.{stands, kinds}
+use Rattle.ics_calendar.proofs.DateValueLemmas.{skip}
 use Rattle.ics_calendar.proofs.NameLemmas.{equal}
 use Rattle.ics_calendar.specs.declared.name.Name.TheVariants as name
 
@@ -38,10 +39,6 @@ pub below : (b : ℕ) (path : List Open) → Falls path → innermost path < b �
 below b [] f h = tt
 below b (c ∷ cs) f h = (λ e. omega (arith, e, h), below b cs f.1 (omega (arith, f.0, h)))
 
-absent-innermost : (b : ℕ) (path : List Open) → 0 < b → Absent b path → innermost path ≢ b
-absent-innermost b [] h a = λ e. omega (arith, e, h)
-absent-innermost b (c ∷ cs) h a = a.0
-
 absent-behind : (b : ℕ) (l : Placed) → b < l.number → Absent b l.path → Absent b (path_behind l)
 absent-behind b l h a = by_kind (is_begin l) (is_end l)
   where
@@ -57,16 +54,21 @@ absent-behind b l h a = by_kind (is_begin l) (is_end l)
 abbrev pub here : Line → List Open → Placed
 here line path = record { number = line.number; content = content_of line.bytes; path = path }
 
--- no line stands any more in a component that is closed
-pub gone : (b n : ℕ) (path : List Open) (lines : List Line) → 0 < b → b ≤ n → Absent b path → Rises n lines → lines_in b (placed_from path lines) ≡ []
-gone b n path [] p h a r = refl
-gone b n path (line ∷ lines) p h a r =
-    let l : Placed = here line path in
-    let later = gone b line.number (path_behind l) lines p (omega (arith, h, r.0)) (absent-behind b l (omega (arith, h, r.0)) a) r.1 in
-    other (innermost path) l (lines_in b (placed_from (path_behind l) lines)) (absent-innermost b path p a) ∙ later
-  where
-    other : (i : ℕ) (l : Placed) (ls : List Placed) → i ≢ b → cond (i == b) (l ∷ ls) ls ≡ ls
-    other i l ls ne = elim (eqb_tells i b) [ inl e ↦ absurd (ne e.1) | inr e ↦ rw e.0 refl ]
+module _ (b : ℕ) (some : 0 < b) where
+  absent-innermost : (path : List Open) → Absent b path → innermost path ≢ b
+  absent-innermost [] a = λ e. omega (arith, e, some)
+  absent-innermost (c ∷ cs) a = a.0
+
+  -- no line stands any more in a component that is closed
+  pub gone : (n : ℕ) (path : List Open) (lines : List Line) → b ≤ n → Absent b path → Rises n lines → lines_in b (placed_from path lines) ≡ []
+  gone n path [] h a r = refl
+  gone n path (line ∷ lines) h a r =
+      let l : Placed = here line path in
+      let later = gone line.number (path_behind l) lines (omega (arith, h, r.0)) (absent-behind b l (omega (arith, h, r.0)) a) r.1 in
+      other (innermost path) l (lines_in b (placed_from (path_behind l) lines)) (absent-innermost path a) ∙ later
+    where
+      other : (i : ℕ) (l : Placed) (ls : List Placed) → i ≢ b → cond (i == b) (l ∷ ls) ls ≡ ls
+      other i l ls ne = elim (eqb_tells i b) [ inl e ↦ absurd (ne e.1) | inr e ↦ rw e.0 refl ]
 
 lines_in-append : (b : ℕ) (xs ys : List Placed) → lines_in b (xs ++ ys) ≡ lines_in b xs ++ lines_in b ys
 lines_in-append b [] ys = refl
@@ -124,10 +126,6 @@ pub record IsSort {X : Type 0} (s : Sort X) : Type 0 where
   pub ends : (path : List Open) (ls : List Placed) (l : Placed) → name_of (property_name l.content) ≡ name.End → s.by path (ls ++ l ∷ []) ≡ s.by path ls
 
 -- no fault on a line, and thus no bad nesting
-skip : (b : Bool) (k : FaultKind) (rest : Option FaultKind) → cond b (Some k) rest ≡ None → (b ≡ false) × (rest ≡ None)
-skip true k rest e = cc
-skip false k rest e = (refl, e)
-
 none-found : (p : FaultKind → Bool) (front rest : List FaultKind) (k : FaultKind) → find p (front ++ k ∷ rest) ≡ None → p k ≡ false
 none-found p [] rest k e = (skip (p k) k (find p rest) e).0
 none-found p (j ∷ js) rest k e = none-found p js rest k (skip (p j) j (find p (js ++ k ∷ rest)) e).1
@@ -158,11 +156,24 @@ begin-no-end u e = let same : u ≡ codes "BEGIN" = equal u (codes "BEGIN") e in
 end-name : (u : List ℕ) → bytes_eq u (codes "END") ≡ true → name_of u ≡ name.End
 end-name u e = let same : u ≡ codes "END" = equal u (codes "END") e in rw same refl
 
+-- Where lines stand in a file: behind those before them, in components of which each began behind those that it stands in, and before them.
+pub record IsPlaced (whole before : List Placed) (path : List Open) (n : ℕ) (lines : List Line) : Type 0 where
+  pub parts : whole ≡ before ++ placed_from path lines
+  pub falls : Falls path
+  pub inner : innermost path ≤ n
+  pub rises : Rises n lines
+
 abbrev Ordered : {X : Type 0} → Sort X → List Line → Type 0
 Ordered s lines =
-    (whole before : List Placed) (path : List Open) (n : ℕ) → whole ≡ before ++ placed_from path lines → Falls path → innermost path ≤ n → Rises n lines →
-    (fault_at_end before ≡ None → path ≡ []) → first_from stands fault_at_end before (placed_from path lines) ≡ None →
+    (whole before : List Placed) (path : List Open) (n : ℕ) → IsPlaced whole before path n lines → (fault_at_end before ≡ None → path ≡ []) →
+    first_from stands fault_at_end before (placed_from path lines) ≡ None →
     ended_from s before (placed_from path lines) ≡ open_as s whole path ++ begun s whole (placed_from path lines)
+
+-- a line that ends the innermost of the components that are open
+record EndsInnermost (l : Placed) : Type 0 where
+  pub begins_none : is_begin l ≡ false
+  pub ends : is_end l ≡ true
+  pub matches : closes l.path (component l) ≡ true
 
 -- A line that begins a component, one that ends the innermost, and any other.
 module _ {X : Type 0} (s : Sort X) (i : IsSort s) (whole before : List Placed) (l : Placed) (rest : List Placed) (later : List X) where
@@ -185,23 +196,22 @@ module _ {X : Type 0} (s : Sort X) (i : IsSort s) (whole before : List Placed) (
       ap (λ t. map (λ l. s.by (inside l) (lines_in l.number whole)) (cond t (l ∷ filter s.begins rest) (filter s.begins rest)))
       (i.starts l ∙ ap (λ t. t && s.stands_at (context_of (inside l))) b)
 
-  end-step : (c : Open) (cs : List Open) → l.path ≡ c ∷ cs → whole ≡ before ++ l ∷ rest →
-      lines_in c.begun rest ≡ [] → is_begin l ≡ false → is_end l ≡ true → closes l.path (component l) ≡ true → later ≡ open_as s whole cs ++ begun s whole rest →
-      ended_as s (beside before l) l ++ later ≡ open_as s whole (c ∷ cs) ++ begun s whole (l ∷ rest)
-  end-step c cs here w none b e m again =
+  end-step : {c : Open} {cs : List Open} → l.path ≡ c ∷ cs → EndsInnermost l → whole ≡ before ++ l ∷ rest → lines_in c.begun rest ≡ [] →
+      later ≡ open_as s whole cs ++ begun s whole rest → ended_as s (beside before l) l ++ later ≡ open_as s whole (c ∷ cs) ++ begun s whole (l ∷ rest)
+  end-step {c} {cs} here is w none again =
       let own : lines_in c.begun whole ≡ beside before l ++ l ∷ [] =
       ap (lines_in c.begun) w
       ∙ ap (λ p. lines_in (innermost p) (before ++ l ∷ rest)) (sym here)
       ∙ lines_in-whole before l rest (ap (λ p. lines_in (innermost p) rest) here ∙ none) in
       let same : s.by (c ∷ cs) (lines_in c.begun whole) ≡ s.by (c ∷ cs) (beside before l) =
-      ap (s.by (c ∷ cs)) own ∙ i.ends (c ∷ cs) (beside before l) l (end-name (property_name l.content) e) in
-      ap (λ t. cond ((t && closes l.path (component l)) && s.stands_at (context_of l.path)) (s.by l.path (beside before l) ∷ []) [] ++ later) e
-      ∙ ap (λ t. cond (t && s.stands_at (context_of l.path)) (s.by l.path (beside before l) ∷ []) [] ++ later) m
+      ap (s.by (c ∷ cs)) own ∙ i.ends (c ∷ cs) (beside before l) l (end-name (property_name l.content) is.ends) in
+      ap (λ t. cond ((t && closes l.path (component l)) && s.stands_at (context_of l.path)) (s.by l.path (beside before l) ∷ []) [] ++ later) is.ends
+      ∙ ap (λ t. cond (t && s.stands_at (context_of l.path)) (s.by l.path (beside before l) ∷ []) [] ++ later) is.matches
       ∙ ap (λ p. cond (s.stands_at (context_of p)) (s.by p (beside before l) ∷ []) [] ++ later) here
       ∙ ap (λ es. cond (s.stands_at (context_of (c ∷ cs))) (s.by (c ∷ cs) (beside before l) ∷ []) [] ++ es) again
       ∙ ap (λ x. cond (s.stands_at (context_of (c ∷ cs))) (x ∷ []) [] ++ (open_as s whole cs ++ begun s whole rest)) (sym same)
       ∙ by_test (s.stands_at (context_of (c ∷ cs)))
-      ∙ ap (λ es. open_as s whole (c ∷ cs) ++ es) (sym (no-begin b))
+      ∙ ap (λ es. open_as s whole (c ∷ cs) ++ es) (sym (no-begin is.begins_none))
     where
       by_test : (t : Bool) → cond t (s.by (c ∷ cs) (lines_in c.begun whole) ∷ []) [] ++ (open_as s whole cs ++ begun s whole rest)
           ≡ cond t (s.by (c ∷ cs) (lines_in c.begun whole) ∷ open_as s whole cs) (open_as s whole cs) ++ begun s whole rest
@@ -230,57 +240,73 @@ last-open before l e =
     open-none (path_behind l) (unended (no_open (path_behind l)) (record { line = l.number + 1; kind = BadNesting })
     (sym (ap end_fault (last-more before l)) ∙ e))
 
-step : {X : Type 0} (s : Sort X) → IsSort s → (line : Line) (lines : List Line) → Ordered s lines → (path : List Open) (whole before : List Placed) (n : ℕ) →
-    whole ≡ before ++ here line path ∷ placed_from (path_behind (here line path)) lines →
-    Falls path → innermost path ≤ n → n < line.number → Rises line.number lines → least_on stands before (here line path) ≡ None →
-    first_from stands fault_at_end (before ++ here line path ∷ []) (placed_from (path_behind (here line path)) lines) ≡ None →
-    (b e : Bool) → is_begin (here line path) ≡ b → is_end (here line path) ≡ e →
-    ended_from s before (here line path ∷ placed_from (path_behind (here line path)) lines)
-    ≡ open_as s whole path ++ begun s whole (here line path ∷ placed_from (path_behind (here line path)) lines)
-step s k line lines again path whole before n w f i less r least first true e hb he =
-    let l : Placed = here line path in
-    let new : Open = record { name = component l; begun = l.number } in
-    let rest : List Placed = placed_from (path_behind l) lines in
-    let moved : path_behind l ≡ new ∷ path = ap (λ t. cond t (new ∷ path) (cond (is_end l) (drop 1 path) path)) hb in
-    let falls : Falls (path_behind l) = subst (λ (p : List Open). Falls p) (sym moved) (omega (arith, i, less), f) in
-    let inner : innermost (path_behind l) ≤ line.number = subst (λ (p : List Open). innermost p ≤ line.number) (sym moved) (omega arith) in
-    let later = again whole (before ++ l ∷ []) (path_behind l) line.number (whole-more whole before l rest w) falls inner r (last-open before l) first in
-    begin-ends-none s k whole before l rest (ended_from s (before ++ l ∷ []) rest) hb
-    ∙ begin-step s k whole before l rest (ended_from s (before ++ l ∷ []) rest) hb (later ∙ ap (λ p. open_as s whole p ++ begun s whole rest) moved)
-step s k line lines again [] whole before n w f i less r least first false true hb he =
-    let l : Placed = here line [] in
-    let h : (is_end l && not (is_end l && false)) ≡ false = nested (λ kind. stands kind (beside before l) l) least in
-    let c : false ≡ true = closed-well (is_end l) false h he in
-    cc
-step s k line lines again (c ∷ cs) whole before n w f i less r least first false true hb he =
-    let l : Placed = here line (c ∷ cs) in
-    let rest : List Placed = placed_from (path_behind l) lines in
-    let h : (is_end l && not (is_end l && closes (c ∷ cs) (component l))) ≡ false = nested (λ kind. stands kind (beside before l) l) least in
-    let m : closes (c ∷ cs) (component l) ≡ true = closed-well (is_end l) (closes (c ∷ cs) (component l)) h he in
-    let moved : path_behind l ≡ cs =
-    ap (λ t. cond t (record { name = component l; begun = l.number } ∷ c ∷ cs) (cond (is_end l) cs (c ∷ cs))) hb ∙ ap (λ t. cond t cs (c ∷ cs)) he in
-    let falls : Falls (path_behind l) = subst (λ (p : List Open). Falls p) (sym moved) f.1 in
-    let inner : innermost (path_behind l) ≤ line.number = subst (λ (p : List Open). innermost p ≤ line.number) (sym moved) (omega (arith, f.0, i, less)) in
-    let absent : Absent c.begun (path_behind l) = subst (λ (p : List Open). Absent c.begun p) (sym moved) (below c.begun cs f.1 f.0) in
-    let none : lines_in c.begun rest ≡ [] = gone c.begun line.number (path_behind l) lines (omega (arith, f.0)) (omega (arith, i, less)) absent r in
-    let later = again whole (before ++ l ∷ []) (path_behind l) line.number (whole-more whole before l rest w) falls inner r (last-open before l) first in
-    end-step s k whole before l rest (ended_from s (before ++ l ∷ []) rest) c cs refl w none hb he m
-    (later ∙ ap (λ p. open_as s whole p ++ begun s whole rest) moved)
-step s k line lines again path whole before n w f i less r least first false false hb he =
-    let l : Placed = here line path in
-    let rest : List Placed = placed_from (path_behind l) lines in
-    let moved : path_behind l ≡ path =
-    ap (λ t. cond t (record { name = component l; begun = l.number } ∷ path) (cond (is_end l) (drop 1 path) path)) hb
-    ∙ ap (λ t. cond t (drop 1 path) path) he in
-    let falls : Falls (path_behind l) = subst (λ (p : List Open). Falls p) (sym moved) f in
-    let inner : innermost (path_behind l) ≤ line.number = subst (λ (p : List Open). innermost p ≤ line.number) (sym moved) (omega (arith, i, less)) in
-    let later = again whole (before ++ l ∷ []) (path_behind l) line.number (whole-more whole before l rest w) falls inner r (last-open before l) first in
-    other-step s k whole before l rest (ended_from s (before ++ l ∷ []) rest) hb he (later ∙ ap (λ p. open_as s whole p ++ begun s whole rest) moved)
+-- a line without a fault, before lines that keep the order
+module _ {X : Type 0} (s : Sort X) (k : IsSort s) (line : Line) (lines : List Line) (again : Ordered s lines)
+    (whole before : List Placed) (path : List Open) (n : ℕ) (is : IsPlaced whole before path n (line ∷ lines)) where
+  abbrev l : Placed
+  l = here line path
+
+  abbrev rest : List Placed
+  rest = placed_from (path_behind l) lines
+
+  -- what ends behind it, where these components are open
+  behind : (p : List Open) → path_behind l ≡ p → Falls p → innermost p ≤ line.number →
+      first_from stands fault_at_end (before ++ l ∷ []) rest ≡ None →
+      ended_from s (before ++ l ∷ []) rest ≡ open_as s whole p ++ begun s whole rest
+  behind p moved falls inner first =
+      again whole (before ++ l ∷ []) (path_behind l) line.number
+      (record {
+        parts = whole-more whole before l rest is.parts;
+        falls = subst (λ (q : List Open). Falls q) (sym moved) falls;
+        inner = subst (λ (q : List Open). innermost q ≤ line.number) (sym moved) inner;
+        rises = is.rises.1;
+      })
+      (last-open before l) first
+      ∙ ap (λ q. open_as s whole q ++ begun s whole rest) moved
+
+  step : least_on stands before l ≡ None → first_from stands fault_at_end (before ++ l ∷ []) rest ≡ None →
+      ended_from s before (l ∷ rest) ≡ open_as s whole path ++ begun s whole (l ∷ rest)
+  step least first = by_tests (is_begin l) (is_end l) refl refl
+    where
+      later : List X
+      later = ended_from s (before ++ l ∷ []) rest
+
+      matches : is_end l ≡ true → closes path (component l) ≡ true
+      matches e = closed-well (is_end l) (closes path (component l)) (nested (λ kind. stands kind (beside before l) l) least) e
+
+      none-begun : is_begin l ≡ false → path_behind l ≡ cond (is_end l) (drop 1 path) path
+      none-begun b = ap (λ t. cond t (inside l) (cond (is_end l) (drop 1 path) path)) b
+
+      ended : is_begin l ≡ false → is_end l ≡ true → (p : List Open) → path ≡ p →
+          ended_as s (beside before l) l ++ later ≡ open_as s whole path ++ begun s whole (l ∷ rest)
+      ended b e [] at = let no : false ≡ true = sym (ap (λ q. closes q (component l)) at) ∙ matches e in cc
+      ended b e (c ∷ cs) at =
+          let f : Falls (c ∷ cs) = subst (λ (q : List Open). Falls q) at is.falls in
+          let inner : innermost path ≡ c.begun = ap innermost at in
+          let moved : path_behind l ≡ cs = none-begun b ∙ ap (λ t. cond t (drop 1 path) path) e ∙ ap (drop 1) at in
+          let absent : Absent c.begun (path_behind l) = subst (λ (q : List Open). Absent c.begun q) (sym moved) (below c.begun cs f.1 f.0) in
+          let none : lines_in c.begun rest ≡ [] =
+          gone c.begun (omega (arith, f.0)) line.number (path_behind l) lines (omega (arith, inner, is.inner, is.rises.0)) absent is.rises.1 in
+          end-step s k whole before l rest later at (record { begins_none = b; ends = e; matches = matches e }) is.parts none
+          (behind cs moved f.1 (omega (arith, f.0, inner, is.inner, is.rises.0)) first)
+          ∙ ap (λ q. open_as s whole q ++ begun s whole (l ∷ rest)) (sym at)
+
+      by_tests : (b e : Bool) → is_begin l ≡ b → is_end l ≡ e →
+          ended_as s (beside before l) l ++ later ≡ open_as s whole path ++ begun s whole (l ∷ rest)
+      by_tests true e b h =
+          begin-ends-none s k whole before l rest later b
+          ∙ begin-step s k whole before l rest later b
+          (behind (inside l) (ap (λ t. cond t (inside l) (cond (is_end l) (drop 1 path) path)) b)
+          (omega (arith, is.inner, is.rises.0), is.falls) (omega arith) first)
+      by_tests false true b e = ended b e path refl
+      by_tests false false b e =
+          other-step s k whole before l rest later b e
+          (behind path (none-begun b ∙ ap (λ t. cond t (drop 1 path) path) e) is.falls (omega (arith, is.inner, is.rises.0)) first)
 
 pub ordered : {X : Type 0} (s : Sort X) → IsSort s → (lines : List Line) → Ordered s lines
-ordered s k [] whole before path n w f i r last first = rw (last first) refl
-ordered s k (line ∷ lines) whole before path n w f i r last first =
+ordered s k [] whole before path n is last first = rw (last first) refl
+ordered s k (line ∷ lines) whole before path n is last first =
     let l : Placed = here line path in
     let split =
     found-none line.number (least_on stands before l) (first_from stands fault_at_end (before ++ l ∷ []) (placed_from (path_behind l) lines)) first in
-    step s k line lines (ordered s k lines) path whole before n w f i r.0 r.1 split.0 split.1 (is_begin l) (is_end l) refl refl
+    step s k line lines (ordered s k lines) whole before path n is split.0 split.1

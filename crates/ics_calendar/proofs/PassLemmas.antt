@@ -93,56 +93,73 @@ passes : {X : Type 0} (number : ℕ) (kind : Option FaultKind) (first : Option F
 passes number (Some k) first x = refl
 passes number None first x = refl
 
+-- Where the pass is: at lines behind those before them, with the components that are open, and a bundle of lines for each.
+record IsAt (whole before : List Placed) (bundles : List Bundle) (path : List Open) (n : ℕ) (lines : List Line) : Type 0 where
+  pub parts : whole ≡ before ++ placed_from path lines
+  pub kept : Keeps before [] path bundles
+  pub earlier : Before (n + 1) before
+  pub inner : innermost path ≤ n
+  pub rises : Rises n lines
+
+-- the same on a line and before those behind it
+record IsOn (whole before : List Placed) (bundles : List Bundle) (l : Placed) (lines : List Line) : Type 0 where
+  pub parts : whole ≡ before ++ l ∷ placed_from (path_behind l) lines
+  pub kept : Keeps before [] l.path bundles
+  pub earlier : Before l.number before
+  pub inner : innermost l.path < l.number
+  pub rises : Rises l.number lines
+
 abbrev Known : List Line → Type 0
 Known lines =
     (whole before : List Placed) (bundles : List Bundle) (path : List Open) (n : ℕ) (last : Option ℕ) (had : GatheredSeen) →
-    whole ≡ before ++ placed_from path lines →
-    Keeps before [] path bundles → Before (n + 1) before → innermost path ≤ n → Rises n lines →
-    at_end (frames_of whole path bundles) last ≡ fault_at_end before →
+    IsAt whole before bundles path n lines → at_end (frames_of whole path bundles) last ≡ fault_at_end before →
     pass (frames_of whole path bundles) last had lines
     ≡ unless (first_from stands fault_at_end before (placed_from path lines)) (gathered_from whole had before (placed_from path lines))
 
 abbrev pub with_content : Line → List Open → Option Parts → Placed
 with_content line path o = record { number = line.number; content = o; path = path }
 
--- a line adds what ends there as its component says, and what is checked there in the second round
-ends-same : {X : Type 0} (whole : List Placed) (s : Sort X) (pick : Ended → List X) → Picks whole s pick →
-    (before : List Placed) (line : Line) (path : List Open) (v : Parts) (bundles : List Bundle) → Keeps before [] path bundles → IsMatched (with line path v) →
-    pick (ends (name_of (map upper v.name)) (frames_of whole path bundles)) ≡ ended_as s (beside before (with line path v)) (with line path v)
-ends-same whole s pick picks before line path v bundles k m =
-    picked-same whole s pick picks before line path v bundles k m ∙ ap (λ ls. ended_as s ls (with line path v)) (top_beside before (with line path v) bundles k)
+module _ (whole before : List Placed) (line : Line) (path : List Open) (v : Parts) (bundles : List Bundle) (k : Keeps before [] path bundles) where
+  abbrev l : Placed
+  l = with line path v
 
-gathered-step : (whole : List Placed) (line : Line) (before : List Placed) (bundles : List Bundle) (path : List Open) (v : Parts) (had : GatheredSeen)
-    (rest : List Placed) → Keeps before [] path bundles → IsMatched (with line path v) →
-    gathered_from whole (and_passed line.number (passing (name_of (map upper v.name)) v (frames_of whole path bundles)) had) (before ++ with line path v ∷ [])
-    rest
-    ≡ gathered_from whole had before (with line path v ∷ rest)
-gathered-step whole line before bundles path v had rest k m =
-    let l : Placed = with line path v in
-    let n : Name = name_of (map upper v.name) in
-    let frames : List Frame = frames_of whole path bundles in
-    let top : top_of whole path bundles ≡ frame_of whole path (beside before l) = ap (frame_of whole path) (top_beside before l bundles k) in
-    three
-    (further had.zones (ended_as (zones whole) (beside before l) l) (zones_of_end (ends n frames)) (ended_from (zones whole) (before ++ l ∷ []) rest)
-    (ends-same whole (zones whole) zones_of_end (zones-picked whole) before line path v bundles k m))
-    (further had.events (ended_as events (beside before l) l) (events_of_end (ends n frames)) (ended_from events (before ++ l ∷ []) rest)
-    (ends-same whole events events_of_end (events-picked whole) before line path v bundles k m))
-    (further had.checks (checks_on whole (beside before l) l) (checks_of line.number (check_on n v frames)) (checks_from whole (before ++ l ∷ []) rest)
-    (ap (checks_of line.number) (check-top whole before n v path bundles k ∙ ap (check_in n v) top)))
+  abbrev n : Name
+  n = name_of (map upper v.name)
 
--- the lines of a component all stand before its END
-closes-here : (whole before : List Placed) (line : Line) (lines : List Line) (path : List Open) (v : Parts) (bundles : List Bundle) →
-    whole ≡ before ++ with line path v ∷ placed_from (path_behind (with line path v)) lines → Keeps before [] path bundles → innermost path < line.number →
-    Rises line.number lines → Closes whole before (with line path v)
-closes-here whole before line lines path v bundles w k less r c cs p e =
-    let l : Placed = with line path v in
-    let rest : List Placed = placed_from (path_behind l) lines in
-    let f : Falls (c ∷ cs) = subst (λ (q : List Open). Falls q) p (falls before [] path bundles k) in
-    let at : innermost path ≡ c.begun = ap innermost p in
-    let absent : Absent c.begun (path_behind l) = subst (λ (q : List Open). Absent c.begun q) (sym e) (below c.begun cs f.1 f.0) in
-    let none : lines_in c.begun rest ≡ [] = gone c.begun line.number (path_behind l) lines (omega (arith, f.0)) (omega (arith, at, less)) absent r in
-    ap (lines_in c.begun) w ∙ ap (λ b. lines_in b (before ++ l ∷ rest)) (sym at) ∙ lines_in-whole before l rest (ap (λ b. lines_in b rest) at ∙ none)
-    ∙ ap (λ b. lines_in b before ++ l ∷ []) at
+  abbrev frames : List Frame
+  frames = frames_of whole path bundles
+
+  beside-top : top_of whole path bundles ≡ frame_of whole path (beside before l)
+  beside-top = ap (frame_of whole path) (top_beside before l bundles k)
+
+  -- a line adds what ends there as its component says, and what is checked there in the second round
+  ends-same : {X : Type 0} (s : Sort X) (pick : Ended → List X) → Picks whole s pick → IsMatched l → pick (ends n frames) ≡ ended_as s (beside before l) l
+  ends-same s pick picks m =
+      picked-same whole s pick picks line v before path bundles k m ∙ ap (λ ls. ended_as s ls l) (top_beside before l bundles k)
+
+  gathered-step : (had : GatheredSeen) (rest : List Placed) → IsMatched l →
+      gathered_from whole (and_passed line.number (passing n v frames) had) (before ++ l ∷ []) rest ≡ gathered_from whole had before (l ∷ rest)
+  gathered-step had rest m =
+      three
+      (further had.zones (ended_as (zones whole) (beside before l) l) (zones_of_end (ends n frames)) (ended_from (zones whole) (before ++ l ∷ []) rest)
+      (ends-same (zones whole) zones_of_end (zones-picked whole) m))
+      (further had.events (ended_as events (beside before l) l) (events_of_end (ends n frames)) (ended_from events (before ++ l ∷ []) rest)
+      (ends-same events events_of_end (events-picked whole) m))
+      (further had.checks (checks_on whole (beside before l) l) (checks_of line.number (check_on n v frames)) (checks_from whole (before ++ l ∷ []) rest)
+      (ap (checks_of line.number) (check-top whole before n v path bundles k ∙ ap (check_in n v) beside-top)))
+
+  -- the lines of a component all stand before its END
+  closes-here : (lines : List Line) → whole ≡ before ++ l ∷ placed_from (path_behind l) lines → innermost path < line.number →
+      Rises line.number lines → Closes whole before l
+  closes-here lines w less r c cs p e =
+      let rest : List Placed = placed_from (path_behind l) lines in
+      let f : Falls (c ∷ cs) = subst (λ (q : List Open). Falls q) p (falls before [] path bundles k) in
+      let at : innermost path ≡ c.begun = ap innermost p in
+      let absent : Absent c.begun (path_behind l) = subst (λ (q : List Open). Absent c.begun q) (sym e) (below c.begun cs f.1 f.0) in
+      let none : lines_in c.begun rest ≡ [] =
+      gone c.begun (omega (arith, f.0)) line.number (path_behind l) lines (omega (arith, at, less)) absent r in
+      ap (lines_in c.begun) w ∙ ap (λ b. lines_in b (before ++ l ∷ rest)) (sym at) ∙ lines_in-whole before l rest (ap (λ b. lines_in b rest) at ∙ none)
+      ∙ ap (λ b. lines_in b before ++ l ∷ []) at
 
 -- a line without a fault, and one with
 pub on-line-is : (number : ℕ) (o : Option FaultKind) (fs : List Frame) (p : Passed) (had : GatheredSeen) (later : Going) →
@@ -154,55 +171,65 @@ where-fine : {X : Type 0} (number : ℕ) (kind : Option FaultKind) (a b : Result
 where-fine number None a b e = e refl
 where-fine number (Some k) a b e = refl
 
-step : (line : Line) (lines : List Line) → Known lines →
-    (o : Option Parts) (whole before : List Placed) (bundles : List Bundle) (path : List Open) (n : ℕ) (had : GatheredSeen) →
-    whole ≡ before ++ with_content line path o ∷ placed_from (path_behind (with_content line path o)) lines → Keeps before [] path bundles →
-    Before (n + 1) before → innermost path ≤ n → n < line.number → Rises line.number lines →
+step : (line : Line) {lines : List Line} → Known lines → (o : Option Parts) {whole before : List Placed} {bundles : List Bundle} {path : List Open} →
+    IsOn whole before bundles (with_content line path o) lines → (had : GatheredSeen) →
     on_content line.number o (frames_of whole path bundles) had (λ frames had. pass frames (Some line.number) had lines)
     ≡ unless (first_from stands fault_at_end before (with_content line path o ∷ placed_from (path_behind (with_content line path o)) lines))
     (gathered_from whole had before (with_content line path o ∷ placed_from (path_behind (with_content line path o)) lines))
-step line lines again None whole before bundles path n had w k h in_path less r = refl
-step line lines again (Some v) whole before bundles path n had w k h in_path less r =
+step line again None on had = refl
+step line {lines} again (Some v) {whole} {before} {bundles} {path} on had =
     let l : Placed = with line path v in
     let m : Name = name_of (map upper v.name) in
     let frames : List Frame = frames_of whole path bundles in
     let go : Going = λ frames had. pass frames (Some line.number) had lines in
-    let inner : innermost path < line.number = omega (arith, in_path, less) in
-    let fresh_lines : Before line.number before = Before-later (n + 1) line.number before (omega (arith, less)) h in
     let more : Before (line.number + 1) (before ++ l ∷ []) =
-    Before-more (line.number + 1) before l (Before-later line.number (line.number + 1) before (omega arith) fresh_lines) (omega (arith, inner)) in
-    let kept : Keeps (before ++ l ∷ []) [] (path_behind l) (bundles_behind l bundles) = keeps before l bundles fresh_lines inner k in
-    let top : top_of whole path bundles ≡ frame_of whole path (beside before l) = ap (frame_of whole path) (top_beside before l bundles k) in
+    Before-more (line.number + 1) before l (Before-later line.number (line.number + 1) before (omega arith) on.earlier) (omega (arith, on.inner)) in
+    let kept : Keeps (before ++ l ∷ []) [] (path_behind l) (bundles_behind l bundles) = keeps before l bundles on.earlier on.inner on.kept in
     let asked : IsAsked whole path (beside before l) =
-    λ z. subst (λ (ls : List Placed). list_any begins_observance ls ≡ not (length (parts whole ls) == 0)) (top_beside before l bundles k)
-    (top_observances before path bundles k z ∙ any-part whole (top_lines bundles)) in
+    λ z. subst (λ (ls : List Placed). list_any begins_observance ls ≡ not (length (parts whole ls) == 0)) (top_beside before l bundles on.kept)
+    (top_observances before path bundles on.kept z ∙ any-part whole (top_lines bundles)) in
     let first : Option FaultKind = find (λ kind. stands kind (beside before l) l) kinds in
     let least : fault_on m v frames ≡ first =
-    fault-top whole before m v path bundles k ∙ ap (λ f. fault_in m v f (length path)) top
+    fault-top whole before m v path bundles on.kept
+    ∙ ap (λ f. fault_in m v f (length path)) (beside-top whole before line path v bundles on.kept)
     ∙ sym (least-same whole path line.number v (beside before l) asked) in
     let rest : List Placed = placed_from (path_behind l) lines in
     let first_behind : Option Fault = first_from stands fault_at_end (before ++ l ∷ []) rest in
     let now : GatheredSeen = and_passed line.number (passing m v frames) had in
-    ap (λ r. on_line line.number r had go) (line-is line.number m v frames (based whole before path bundles [] k))
+    ap (λ r. on_line line.number r had go) (line-is line.number m v frames (based whole before path bundles [] on.kept))
     ∙ on-line-is line.number (fault_on m v frames) (behind line.number m v frames) (passing m v frames) had go
     ∙ ap (λ k. refused line.number k (go (behind line.number m v frames) now)) least
     ∙ ap (λ fs. refused line.number first (go fs now))
-    (sym (frames-behind whole before line path v bundles k (closes-here whole before line lines path v bundles w k inner r)))
+    (sym (frames-behind whole before line path v bundles on.kept (closes-here whole before line path v bundles on.kept lines on.parts on.inner on.rises)))
     ∙ ap (refused line.number first)
-    (again whole (before ++ l ∷ []) (bundles_behind l bundles) (path_behind l) line.number (Some line.number) now (w ∙ sym (append_assoc before (l ∷ []) rest))
-    kept more (innermost-behind l inner bundles before k) r
+    (again whole (before ++ l ∷ []) (bundles_behind l bundles) (path_behind l) line.number (Some line.number) now
+    (record {
+      parts = on.parts ∙ sym (append_assoc before (l ∷ []) rest);
+      kept = kept;
+      earlier = more;
+      inner = innermost-behind l on.inner bundles before on.kept;
+      rises = on.rises;
+    })
     (end-is-known whole before l (bundles_behind l bundles) kept))
     ∙ where-fine line.number first (unless first_behind (gathered_from whole now (before ++ l ∷ []) rest))
     (unless first_behind (gathered_from whole had before (l ∷ rest)))
-    (λ none. ap (unless first_behind) (gathered-step whole line before bundles path v had rest k (nested (λ kind. stands kind (beside before l) l) none)))
+    (λ none. ap (unless first_behind) (gathered-step whole before line path v bundles on.kept had rest (nested (λ kind. stands kind (beside before l) l) none)))
     ∙ passes line.number first first_behind (gathered_from whole had before (l ∷ rest))
 
 -- THE PASS SAYS WHAT THE LINES ARE.
 pass-lines : (lines : List Line) → Known lines
-pass-lines [] whole before bundles path n last had w k h in_path r e =
+pass-lines [] whole before bundles path n last had at e =
     ap (λ f. unless f had) e ∙ ap (unless (fault_at_end before)) (gathered-none whole had before)
-pass-lines (line ∷ lines) whole before bundles path n last had w k h in_path r e =
-    step line lines (pass-lines lines) (content_of line.bytes) whole before bundles path n had w k h in_path r.0 r.1
+pass-lines (line ∷ lines) whole before bundles path n last had at e =
+    step line (pass-lines lines) (content_of line.bytes)
+    (record {
+      parts = at.parts;
+      kept = at.kept;
+      earlier = Before-later (n + 1) line.number before (omega (arith, at.rises.0)) at.earlier;
+      inner = omega (arith, at.inner, at.rises.0);
+      rises = at.rises.1;
+    })
+    had
 
 -- below all components
 nowhere : Placed
@@ -212,4 +239,5 @@ pub pass-whole : (lines : List Line) → Rises 0 lines →
     pass (bottom ∷ []) None nothing_gathered lines
     ≡ unless (first_fault (placed_from [] lines)) (gathered_from (placed_from [] lines) nothing_gathered [] (placed_from [] lines))
 pass-whole lines r =
-    pass-lines lines (placed_from [] lines) [] (record { begin = nowhere; lines = [] } ∷ []) [] 0 None nothing_gathered refl refl tt (omega arith) r refl
+    pass-lines lines (placed_from [] lines) [] (record { begin = nowhere; lines = [] } ∷ []) [] 0 None nothing_gathered
+    (record { parts = refl; kept = refl; earlier = tt; inner = omega arith; rises = r }) refl

@@ -31,7 +31,7 @@ use Rattle.ics_calendar.proofs.Ended.{events, zones}
 use Rattle.ics_calendar.proofs.EndOrder.{events-are}
 use Rattle.ics_calendar.proofs.Frames.{with}
 use Rattle.ics_calendar.proofs.DeferredTable.{later-same, asked-same}
-use Rattle.ics_calendar.proofs.Order.{found-none, inside, begun, ordered, nested}
+use Rattle.ics_calendar.proofs.Order.{found-none, inside, begun, IsPlaced, ordered, nested}
 use Rattle.ics_calendar.proofs.PassLemmas.{checks_from, gathered_from, lists, three, with_content}
 use Rattle.ics_calendar.proofs.Table.{frame_of}
 use Rattle.ics_calendar.proofs.EndOrder.{zones-are, zones-begun, names-begun, calendar-inside}
@@ -63,7 +63,7 @@ judges whole known (line ∷ lines) before path e = by_content (judges whole kno
         let none = found-none line.number (least_on stands before l) (first_from stands fault_at_end behind rest) e in
         found-checks known line.number (check_in (name_of (map upper v.name)) v f) (checks_from whole behind rest)
         ∙ ap (λ k. found line.number k (first_judged known (checks_from whole behind rest)))
-        (sym (later-same whole known line path v (beside before l) (nested (λ kind. stands kind (beside before l) l) none.0)))
+        (sym (later-same whole known line v (beside before l) path (nested (λ kind. stands kind (beside before l) l) none.0)))
         ∙ ap (found line.number (find (λ kind. stands_later known kind (beside before l) l) kinds)) (again behind (path_behind l) none.1)
 
 -- THE EVENTS, by what is gathered.
@@ -115,7 +115,7 @@ asks whole known (line ∷ lines) before path e = by_content (asks whole known l
         let none = found-none line.number (least_on stands before l) (first_from stands fault_at_end behind rest) e in
         asked-first known.index line.number (check_in (name_of (map upper v.name)) v (frame_of whole path (beside before l))) (checks_from whole behind rest)
         ∙ ap (λ o. cons_option o (all_unknown known.index (checks_from whole behind rest)))
-        (sym (asked-same whole known line path v (beside before l) (nested (λ kind. stands kind (beside before l) l) none.0)))
+        (sym (asked-same whole known line v (beside before l) path (nested (λ kind. stands kind (beside before l) l) none.0)))
         ∙ by_test l (all_unknown known.index (checks_from whole behind rest)) (filter (is_in_unknown_zone known) rest) (again behind (path_behind l) none.1)
         (is_in_unknown_zone known l)
 
@@ -126,8 +126,9 @@ gathered-is : (lines : List Line) → Rises 0 lines → first_fault (placed_from
     (checks_from (placed_from [] lines) [] (placed_from [] lines))
 gathered-is lines r first =
     let whole : List Placed = placed_from [] lines in
-    three (ordered (zones whole) (zones-are whole) lines whole [] [] 0 refl tt (omega arith) r (λ e. refl) first)
-    (ordered events events-are lines whole [] [] 0 refl tt (omega arith) r (λ e. refl) first) refl
+    let placed : IsPlaced whole [] [] 0 lines = record { parts = refl; falls = tt; inner = omega arith; rises = r } in
+    three (ordered (zones whole) (zones-are whole) lines whole [] [] 0 placed (λ e. refl) first)
+    (ordered events events-are lines whole [] [] 0 placed (λ e. refl) first) refl
 
 -- WHAT THE DRAFT SAYS, of the zones and the checks of the lines.
 abbrev draft_by : KnownZones → List EndedZone → List EndedEvent → List LineCheck → DraftSaid
