@@ -20,12 +20,11 @@ use Rattle.ics_series.specs.declared.day_key.DayKey.{DayKey}
 use Rattle.ics_series.specs.declared.window.Window.{Window}
 use Rattle.ics_series.specs.declared.key.Key.{Key}
 use Rattle.khal_list.specs.Agree.{Agree, SameRequest, day_after}
-use Rattle.khal_list.specs.Entries.{Entries, Span, entries_of, limit_text, span_of, IsRefused, AreTaken}
-use Rattle.khal_list.specs.Formats.{day_name, entry_name, IsFormat, OneFormat}
-use Rattle.khal_list.specs.Limits.{IsLimitOf}
-use Rattle.khal_list.specs.RequestOf.{RequestOf, IsAfterBy, IsDayKeyBy, IsDayKeyOf, IsRequest, IsBadWindow, IsKeyOf, HasWindow, after_text, day_format_text}
-use Rattle.khal_list.specs.RequestOf.{day_from, format_text}
-use Rattle.khal_list.specs.WindowTexts.{Named, named}
+use Rattle.khal_words.specs.Entries.{Entries, Span, day_format_text, entries_of, format_text, limit_text, span_of, IsRefused, AreTaken}
+use Rattle.khal_words.specs.Formats.{day_name, entry_name, IsFormat, OneFormat}
+use Rattle.khal_words.specs.Limits.{IsLimitOf}
+use Rattle.khal_list.specs.RequestOf.{RequestOf, IsAfterBy, IsDayKeyBy, IsDayKeyOf, IsRequest, IsBadWindow, IsKeyOf, HasWindow, after_text, day_from}
+use Rattle.khal_words.specs.WindowTexts.{Named, named}
 use Rattle.khal_list.specs.Windows.{first_start, last_end, midnight_before, today, start_said, between, second_at, ends_from, ends_of, end_named, moment_named}
 use Rattle.khal_list.specs.declared.every_day.EveryDay.{EveryDay}
 use Rattle.khal_list.specs.declared.request.Request.{Request}

@@ -11,8 +11,8 @@ use Rattle.ics_calendar.specs.GivenFiles.{no_files, with_file, GivenFiles}
 use Rattle.std.specs.Option.{option_or}
 use Rattle.khal_list.specs.Asked.{and_name, and_names, given_files, given_from, is_unread, names_of, was_unread, with_found, Asked, AsksAll, AsksSome}
 use Rattle.khal_list.specs.Asked.{FindsEach}
-use Rattle.khal_list.specs.Finds.{found_of, FindAnswer, Found}
-use Rattle.khal_list.specs.declared.fault.SourceFault.TheVariants.{Device, TooLarge, Memory}
+use Rattle.khal_ports.specs.Finds.{found_of, FindAnswer, Found}
+use Rattle.khal_ports.specs.declared.fault.SourceFault.TheVariants.{Device, TooLarge, Memory}
 
 -- the name is among these
 abbrev pub IsIn : List ℕ → List (List ℕ) → Type 0

@@ -12,7 +12,7 @@ use Rattle.std.proofs.lemmas.List.Folds.{list_any-append}
 use Rattle.ics_calendar.specs.ZoneTables.{given_by}
 use Rattle.khal_list.specs.declared.answered.Answered.{Answered}
 use Rattle.khal_list.specs.Asked.{given_files, is_unread, names_of, was_unread, with_found, Asked}
-use Rattle.khal_list.specs.Finds.{found_of, FindAnswer, Found}
+use Rattle.khal_ports.specs.Finds.{found_of, FindAnswer, Found}
 use Rattle.khal_list.specs.Learned.{Keeps, Knows, Learns, LearnsSome}
 use Rattle.khal_list.proofs.AskedLemmas as lemma
 use Rattle.khal_list.proofs.AskedLemmas.{IsIn}

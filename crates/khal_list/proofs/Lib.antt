@@ -1,14 +1,7 @@
-pub mod AddedArgs
 pub mod AddedLemmas
 pub mod AnswerLemmas
 pub mod AskedLemmas
-pub mod CheckedRows
-pub mod FlagLemmas
-pub mod FormatLemmas
-pub mod Fronts
 pub mod LearnedLemmas
-pub mod LimitLemmas
-pub mod NameLemmas
 pub mod OutcomeLemmas
 pub mod PageLemmas
 pub mod Printed
@@ -18,10 +11,7 @@ pub mod RefusalLemmas
 pub mod RefusedLemmas
 pub mod RequestLemmas
 pub mod RunLemmas
-pub mod TakenLemmas
 pub mod TextExamples
 pub mod TokenPages
 pub mod WindowLemmas
-pub mod WindowTextLemmas
-pub mod Written
 pub mod ZoneLawLemmas

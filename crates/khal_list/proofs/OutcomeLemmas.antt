@@ -15,11 +15,11 @@ use Rattle.ics_calendar.specs.declared.fault.FaultKind.{FaultKind}
 use Rattle.ics_calendar.specs.declared.fault.FileFault.{FileFault}
 use Rattle.ics_calendar.specs.declared.fault.FileFault.TheVariants.{At}
 use Rattle.khal_list.specs.declared.answered.Answered.{Answered}
-use Rattle.khal_list.specs.declared.fault.RunFault.{RunFault}
+use Rattle.khal_ports.specs.declared.fault.RunFault.{RunFault}
 use Rattle.khal_list.specs.declared.outcome.Outcome.{Outcome}
 use Rattle.khal_list.specs.Asked.{given_files, is_unread, Asked}
 use Rattle.khal_list.specs.Errors.{file_by, file_or_refusal, Refusal}
-use Rattle.khal_list.specs.Finds.{FindAnswer}
+use Rattle.khal_ports.specs.Finds.{FindAnswer}
 use Rattle.khal_list.specs.Learned.{Knows, Learns, LearnsSome, Settles}
 use Rattle.khal_list.specs.Outcomes.{seen_outcome, EndsReading, IsOutcome}
 use Rattle.khal_list.proofs.AskedLemmas.{any-same}

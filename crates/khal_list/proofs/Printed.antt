@@ -9,10 +9,10 @@ use Rattle.std.proofs.lemmas.Grind.{common_steps}
 use Rattle.ics_series.specs.DayKeys.{DayRank}
 use Rattle.ics_series.specs.OnDays.{day_rank_of, OnDay}
 use Rattle.khal_list.specs.Drawn.{DrewAhead}
-use Rattle.khal_list.specs.Growth.{TookFront}
+use Rattle.khal_ports.specs.Growth.{TookFront}
 use Rattle.khal_list.specs.Listed.{day_key_on, first_of, is_cut, last_day_key}
 use Rattle.khal_list.specs.Text.{Style, days_text, days_text_after, entry_text}
-use Rattle.khal_list.proofs.Written.{Written, appends-both, appends-none, appends-same, written-front, written-part}
+use Rattle.khal_ports.proofs.Written.{Written, appends-both, appends-none, appends-same, written-front, written-part}
 
 -- the day that the last of some entries stands under, or the day before them
 abbrev pub last_day : Option ℤ → List OnDay → Option ℤ

@@ -10,12 +10,16 @@ use Rattle.ics_series.specs.DayKeys.{day_key_rank, DayRank}
 use Rattle.ics_series.specs.declared.day_key.DayKey.{DayKey}
 use Rattle.ics_series.specs.Entry.{Entry, key_rank}
 use Rattle.ics_series.specs.OnDays.{OnDay}
-use Rattle.khal_list.specs.declared.fault.RunFault.{RunFault}
+use Rattle.khal_ports.specs.declared.fault.RunFault.{RunFault}
 use Rattle.khal_list.specs.declared.request.Request.{Request}
 use Rattle.khal_list.specs.Drawn.{DrewAhead, Puts}
-use Rattle.khal_list.specs.Growth.{TookFront}
+use Rattle.khal_ports.specs.Growth.{TookFront}
 use Rattle.khal_list.specs.Listed.{day_key_on, days_text_of, first_of, is_cut, key_on, last_day_key, last_key, style_of, listing_text}
 use Rattle.khal_list.specs.Text.{Style, days_text, text, under}
+
+-- a piece that is added to nothing is all
+pub only-piece : (piece : List ℕ) {old new bytes : List ℕ} → old ≡ [] → new ≡ old ++ piece → bytes ≡ new → bytes ≡ piece
+only-piece piece h k l = l ∙ (k ∙ ap (λ front. front ++ piece) h)
 
 -- the first entries, each under its day, are the first of those under days
 first-under : (style : Style) (limit : Option ℕ) (list : List Entry) → first_of limit (map (under style) list) ≡ map (under style) (first_of limit list)

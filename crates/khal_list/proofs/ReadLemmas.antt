@@ -9,14 +9,14 @@ use Rattle.std.proofs.lemmas.Map.Views.{All-from_any}
 use Rattle.ics_event.specs.Event.{FileSaid}
 use Rattle.ics_calendar.specs.Files.{file_of, wanted_names}
 use Rattle.khal_list.specs.declared.answered.Answered.{Answered}
-use Rattle.khal_list.specs.Answers.{Answer, Contents, contents_of}
+use Rattle.khal_ports.specs.Answers.{Answer, Contents, contents_of}
 use Rattle.khal_list.specs.Asked.{all_wanted, given_files, is_unread, names_of, wanted_of, Asked, AsksAll, AsksSome}
 use Rattle.khal_list.specs.Errors.{Refusal, file_by, file_or_refusal, events_first, accepted, error_line, error_lines}
-use Rattle.khal_list.specs.Finds.{FindAnswer}
+use Rattle.khal_ports.specs.Finds.{FindAnswer}
 use Rattle.khal_list.specs.Learned.{Keeps, Knows}
 use Rattle.khal_list.specs.Outcomes.{EndsReading, IsOutcome, IsReading}
-use Rattle.khal_list.specs.Reads.{ReadsFrom, ReadsSome}
-use Rattle.khal_list.specs.declared.fault.SourceFault.TheVariants.{Memory}
+use Rattle.khal_ports.specs.Reads.{ReadsFrom, ReadsSome}
+use Rattle.khal_ports.specs.declared.fault.SourceFault.TheVariants.{Memory}
 use Rattle.khal_list.proofs.AskedLemmas.{all-some, all-then-all, all-then-some, in-back, in-front, wanted-in, IsIn}
 use Rattle.khal_list.proofs.OutcomeLemmas.{OnlyWantedCount, file_if}
 

@@ -3,8 +3,8 @@ use Rattle.std.proofs.Common.{◌≡◌, ◌⊎◌, inl, inr, ℕ, ℤ, List, Er
 use Rattle.clap.specs.Words.{IsAmong, fault_of}
 use Rattle.clap.specs.declared.error.kind.ErrorKind.{ErrorKind}
 use Rattle.clap.specs.declared.error.kind.ErrorKind.TheVariants.{OutOfMemory}
-use Rattle.khal_list.specs.Commands.{khal_app}
-use Rattle.khal_list.specs.Entries.{with_name}
+use Rattle.khal_words.specs.Commands.{khal_app}
+use Rattle.khal_words.specs.Entries.{with_name}
 use Rattle.khal_list.specs.RequestFaults.{IsFaultOf}
 use Rattle.khal_list.specs.RequestOf.{RequestOf}
 use Rattle.khal_list.specs.declared.request_fault.RequestFault.{RequestFault}

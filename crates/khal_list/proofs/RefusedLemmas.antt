@@ -4,7 +4,7 @@ use Rattle.std.specs.Prelude.{◌↔◌, ◌||◌, is_err, IsErr}
 use Rattle.std.specs.List.{list_any}
 use Rattle.std.proofs.lemmas.List.Folds.{Any-from_list_any, list_any-from_Any}
 use Rattle.ics_event.specs.Event.{FileSaid}
-use Rattle.khal_list.specs.Answers.{Contents}
+use Rattle.khal_ports.specs.Answers.{Contents}
 use Rattle.khal_list.specs.Asked.{Asked}
 use Rattle.khal_list.specs.Errors.{Refusal, file_by, error_line, error_lines}
 

@@ -13,15 +13,14 @@ use Rattle.ics_series.specs.declared.key.Key.{Key}
 use Rattle.ics_series.specs.declared.token.TokenFault.{TokenFault}
 use Rattle.ics_series.specs.declared.token.TokenFault.TheVariants as token
 use Rattle.ics_series.specs.declared.window.Window.{Window}
-use Rattle.khal_list.specs.Entries.{Entries, span_of}
-use Rattle.khal_list.specs.Formats.{day_name, entry_name, IsFormat}
+use Rattle.khal_words.specs.Entries.{Entries, day_format_text, format_text, span_of}
+use Rattle.khal_words.specs.Formats.{day_name, entry_name, IsFormat}
 use Rattle.khal_list.specs.RequestFaults.{format_fault, token_fault}
-use Rattle.khal_list.specs.RequestOf.{EntriesAnswer, HasWindow, IsAfterBy, IsDayKeyOf, IsKeyOf, IsNoDayKey, IsNoKey, IsNoToken, after_text, day_format_text}
-use Rattle.khal_list.specs.RequestOf.{format_text, zone_text}
+use Rattle.khal_list.specs.RequestOf.{EntriesAnswer, HasWindow, IsAfterBy, IsDayKeyOf, IsKeyOf, IsNoDayKey, IsNoKey, IsNoToken, after_text, zone_text}
 use Rattle.khal_list.specs.Windows.{ends_of}
 use Rattle.khal_list.specs.declared.every_day.EveryDay.{EveryDay}
-use Rattle.khal_list.specs.declared.format.FormatFault.{FormatFault}
-use Rattle.khal_list.specs.declared.format.FormatFault.TheVariants as format
+use Rattle.khal_words.specs.declared.format.FormatFault.{FormatFault}
+use Rattle.khal_words.specs.declared.format.FormatFault.TheVariants as format
 use Rattle.khal_list.specs.declared.request.Request.{Request}
 use Rattle.khal_list.specs.declared.request_fault.RequestFault.{RequestFault}
 

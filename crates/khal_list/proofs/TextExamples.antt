@@ -9,13 +9,13 @@ use Rattle.ics_series.specs.Clocks.{Clock, utc_clock}
 use Rattle.ics_series.specs.Entry.{Entry}
 use Rattle.ics_fields.specs.Days.{days_on_literals}
 use Rattle.bstr.specs.Utf8.{pieces_from}
-use Rattle.khal_list.specs.declared.field.DayField.{DayField}
-use Rattle.khal_list.specs.declared.field.DayField.TheVariants as day
-use Rattle.khal_list.specs.declared.field.EntryField.{EntryField}
-use Rattle.khal_list.specs.declared.field.EntryField.TheVariants.{Cell, Title, StartTime, EndTime, StartDate, EndDate, Location, Uid, Cancelled}
-use Rattle.khal_list.specs.declared.format.Piece.{Piece}
-use Rattle.khal_list.specs.declared.format.Piece.TheVariants.{Byte, Field}
-use Rattle.khal_list.specs.Formats.{day_default, day_name, entry_default, entry_name, written}
+use Rattle.khal_words.specs.declared.field.DayField.{DayField}
+use Rattle.khal_words.specs.declared.field.DayField.TheVariants as day
+use Rattle.khal_words.specs.declared.field.EntryField.{EntryField}
+use Rattle.khal_words.specs.declared.field.EntryField.TheVariants.{Cell, Title, StartTime, EndTime, StartDate, EndDate, Location, Uid, Cancelled}
+use Rattle.khal_words.specs.declared.format.Piece.{Piece}
+use Rattle.khal_words.specs.declared.format.Piece.TheVariants.{Byte, Field}
+use Rattle.khal_words.specs.Formats.{day_default, day_name, entry_default, entry_name, written}
 use Rattle.khal_list.specs.Shown.{shown}
 use Rattle.khal_list.specs.Text.{Style, heading_text, line_text, text}
 

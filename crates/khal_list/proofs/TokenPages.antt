@@ -15,7 +15,7 @@ use Rattle.ics_series.specs.Tokens.{OneSpelling, IsKey, spelling}
 use Rattle.ics_series.specs.declared.day_key.DayKey.{DayKey}
 use Rattle.ics_series.specs.declared.window.Window.{Window}
 use Rattle.ics_series.specs.declared.key.Key.{Key}
-use Rattle.khal_list.specs.Entries.{entries_of}
+use Rattle.khal_words.specs.Entries.{entries_of}
 use Rattle.khal_list.specs.Pages.{DayGoesOn, DayTokenGoesOn, TextGoesOn, TextSplits, TokenGoesOn, last_day}
 use Rattle.khal_list.specs.RequestOf.{after_text, IsAfterBy, IsDayKeyOf, IsKeyOf}
 use Rattle.khal_list.specs.Text.{Style, day_under, entry_text, heading_text, line_text, text_after}

@@ -1,7 +1,7 @@
 -- When the instants of a window's ends rise, and when they do not.
 use Rattle.std.proofs.Common.{◌≡◌, ◌≤ℤ◌, ◌<ℤ◌, ◌+ℤ◌, ℤ, Bool, Option, true, false, Some, None, refl, arith, if◌then◌else◌, ◌&&◌}
 use Rattle.std.specs.Prelude.{int_lt, int_le}
-use Rattle.jiff.proofs.SpanFacts.{signed_arith}
+use Rattle.jiff_core.proofs.SignedLemmas.{signed_arith}
 use Rattle.ics_fields.specs.Locals.{whole_days}
 use Rattle.ics_zone.specs.Displays.{moment_of}
 use Rattle.ics_zone.specs.Near.{moment_near}

@@ -6,7 +6,7 @@ use Rattle.ics_calendar.specs.Files.{file_of, wanted_names}
 use Rattle.ics_calendar.specs.GivenFiles.{no_files, GivenFiles}
 use Rattle.khal_list.specs.Asked.{given_from, is_unread, was_unread, with_found, Asked, FindsEach}
 use Rattle.khal_list.specs.Errors.{file_by, file_or_refusal}
-use Rattle.khal_list.specs.Finds.{found_of, FindAnswer, Found}
+use Rattle.khal_ports.specs.Finds.{found_of, FindAnswer, Found}
 use Rattle.khal_list.proofs.OutcomeLemmas.{file-read}
 
 one-absent : (answer : FindAnswer) (found : Found) → answer ≡ Ok None → found_of answer ≡ Some found → found ≡ Found.Absent

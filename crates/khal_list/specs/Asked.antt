@@ -4,9 +4,9 @@ use Rattle.std.specs.List.{list_any}
 use Rattle.std.specs.Str.{bytes_eq}
 use Rattle.ics_calendar.specs.Files.{wanted_names}
 use Rattle.ics_calendar.specs.GivenFiles.{GivenFiles, no_files, with_file}
-use Rattle.khal_list.specs.Answers.{Contents}
-use Rattle.khal_list.specs.Finds.{FindAnswer, Found, found_of}
-use Rattle.khal_list.specs.declared.fault.SourceFault.TheVariants.{Memory}
+use Rattle.khal_ports.specs.Answers.{Contents}
+use Rattle.khal_ports.specs.Finds.{FindAnswer, Found, found_of}
+use Rattle.khal_ports.specs.declared.fault.SourceFault.TheVariants.{Memory}
 
 -- a name that was asked for, and what was found
 abbrev pub Asked : Type 0

@@ -5,9 +5,9 @@ use Rattle.std.specs.Option.{option_map}
 use Rattle.ics_series.specs.DayKeys.{day_key_rank}
 use Rattle.ics_series.specs.OnDays.{OnDay}
 use Rattle.ics_series.specs.declared.day_key.DayKey.{DayKey}
-use Rattle.khal_list.specs.declared.fault.RunFault.{RunFault}
+use Rattle.khal_ports.specs.declared.fault.RunFault.{RunFault}
 use Rattle.khal_list.specs.declared.request.Request.{Request}
-use Rattle.khal_list.specs.Growth.{TookFront}
+use Rattle.khal_ports.specs.Growth.{TookFront}
 use Rattle.khal_list.specs.Listed.{day_key_on, days_text_of, style_of}
 use Rattle.khal_list.specs.Text.{days_text}
 

@@ -7,7 +7,7 @@ use Rattle.ics_event.specs.Event.{FileSaid}
 use Rattle.ics_calendar.specs.FaultNames.{kind_name}
 use Rattle.ics_calendar.specs.Files.{file_of, wanted_names}
 use Rattle.ics_calendar.specs.declared.fault.Fault.{Fault}
-use Rattle.khal_list.specs.Answers.{Contents}
+use Rattle.khal_ports.specs.Answers.{Contents}
 use Rattle.khal_list.specs.Asked.{Asked, given_files, is_unread}
 use Rattle.khal_list.specs.Shown.{shown}
 

@@ -14,13 +14,13 @@ use Rattle.khal_list.specs.declared.every_day.EveryDay.{EveryDay}
 use Rattle.khal_list.specs.declared.request.Request.{Request}
 use Rattle.khal_list.specs.declared.status.Status.{Status}
 use Rattle.khal_list.specs.declared.status.Status.TheVariants.{Faulty}
-use Rattle.khal_list.specs.Answers.{Answer, Contents}
+use Rattle.khal_ports.specs.Answers.{Answer, Contents}
 use Rattle.khal_list.specs.Asked.{all_wanted, Asked, AsksAll, AsksSome}
 use Rattle.khal_list.specs.Errors.{accepted, error_lines, file_by}
-use Rattle.khal_list.specs.Finds.{FindAnswer}
-use Rattle.khal_list.specs.Growth.{TookFront}
+use Rattle.khal_ports.specs.Finds.{FindAnswer}
+use Rattle.khal_ports.specs.Growth.{TookFront}
 use Rattle.khal_list.specs.Listed.{asked_after, asked_after_day, day_key_on, days_text_of, key_on, listing_text}
-use Rattle.khal_list.specs.Reads.{ReadsAll, ReadsSome}
+use Rattle.khal_ports.specs.Reads.{ReadsAll, ReadsSome}
 
 -- THE listing of the files: the one strictly rising list of exactly their occurrences that meet the window
 abbrev pub IsListingOf : List FileSaid → Request → List Entry → Type 0

@@ -8,13 +8,13 @@ use Rattle.std.specs.Str.{bytes_eq}
 use Rattle.ics_event.specs.Event.{FileSaid}
 use Rattle.ics_calendar.specs.ZoneTables.{given_by}
 use Rattle.khal_list.specs.declared.answered.Answered.{Answered}
-use Rattle.khal_list.specs.declared.fault.RunFault.{RunFault}
+use Rattle.khal_ports.specs.declared.fault.RunFault.{RunFault}
 use Rattle.khal_list.specs.declared.finding.Found as code
 use Rattle.khal_list.specs.declared.finding.Found.TheVariants.{Given, Absent, Unread}
-use Rattle.khal_list.specs.Answers.{Contents}
+use Rattle.khal_ports.specs.Answers.{Contents}
 use Rattle.khal_list.specs.Asked.{Asked, AsksAll, AsksSome, given_files, is_unread, names_of, wanted_of}
 use Rattle.khal_list.specs.Errors.{Refusal, file_by}
-use Rattle.khal_list.specs.Finds.{FindAnswer, Found}
+use Rattle.khal_ports.specs.Finds.{FindAnswer, Found}
 
 abbrev pub seen_found : code.Found → Found
 seen_found (Given bytes) = Found.Given bytes.items

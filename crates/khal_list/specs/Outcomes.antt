@@ -7,11 +7,11 @@ use Rattle.khal_list.specs.declared.refusal.Refusal as code
 use Rattle.khal_list.specs.declared.refusal.Refusal.TheVariants.{At, Unread}
 use Rattle.ics_calendar.specs.Files.{wanted_names}
 use Rattle.khal_list.specs.declared.answered.Answered.{Answered}
-use Rattle.khal_list.specs.declared.fault.SourceFault.TheVariants.{Memory}
-use Rattle.khal_list.specs.Answers.{Answer, Contents, contents_of}
+use Rattle.khal_ports.specs.declared.fault.SourceFault.TheVariants.{Memory}
+use Rattle.khal_ports.specs.Answers.{Answer, Contents, contents_of}
 use Rattle.khal_list.specs.Asked.{Asked}
 use Rattle.khal_list.specs.Errors.{Refusal, accepted, error_lines}
-use Rattle.khal_list.specs.Finds.{FindAnswer}
+use Rattle.khal_ports.specs.Finds.{FindAnswer}
 use Rattle.khal_list.specs.Learned.{Knows, LearnsSome, Settles}
 
 abbrev pub refusal_of : code.Refusal → Refusal

@@ -11,7 +11,7 @@ use Rattle.ics_series.specs.OnDays.{day_rank_of, OnDay}
 use Rattle.ics_series.specs.Tokens.{spelling, IsKey}
 use Rattle.khal_list.specs.declared.every_day.EveryDay.{EveryDay}
 use Rattle.khal_list.specs.declared.request.Request.{Request}
-use Rattle.khal_list.specs.Entries.{entries_of}
+use Rattle.khal_words.specs.Entries.{entries_of}
 use Rattle.khal_list.specs.Headline.{IsDayListingOf, IsListingOf}
 use Rattle.khal_list.specs.Listed.{asked_after, asked_after_day, first_of, is_cut, key_on}
 use Rattle.khal_list.specs.RequestOf.{after_text, RequestOf}

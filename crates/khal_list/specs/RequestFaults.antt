@@ -6,8 +6,8 @@ use Rattle.ics_zone.specs.declared.display_fault.DisplayFault.{DisplayFault}
 use Rattle.ics_zone.specs.declared.display_fault.DisplayFault.TheVariants as zone
 use Rattle.ics_series.specs.declared.token.TokenFault.{TokenFault}
 use Rattle.ics_series.specs.declared.token.TokenFault.TheVariants as token
-use Rattle.khal_list.specs.declared.format.FormatFault.{FormatFault}
-use Rattle.khal_list.specs.declared.format.FormatFault.TheVariants as format
+use Rattle.khal_words.specs.declared.format.FormatFault.{FormatFault}
+use Rattle.khal_words.specs.declared.format.FormatFault.TheVariants as format
 use Rattle.khal_list.specs.declared.request_fault.RequestFault.{RequestFault}
 use Rattle.khal_list.specs.declared.request_fault.RequestFault.TheVariants.{Usage, BadZone, BadWindow, BadToken, BadFormat, Memory}
 

@@ -16,9 +16,9 @@ use Rattle.ics_series.specs.Tokens.{spelling, IsKey, IsToken}
 use Rattle.ics_series.specs.declared.day_key.DayKey.{DayKey}
 use Rattle.ics_series.specs.declared.key.Key.{Key}
 use Rattle.ics_series.specs.declared.window.Window.{Window}
-use Rattle.khal_list.specs.Formats.{day_default, day_name, entry_default, entry_name, written, IsFormat}
-use Rattle.khal_list.specs.Entries.{Entries, entry, entries_of, limit_text, entries_text, text_or, span_of, zones_text, AreTaken, IsRefused}
-use Rattle.khal_list.specs.Limits.{IsLimitOf}
+use Rattle.khal_words.specs.Formats.{day_name, entry_name, written, IsFormat}
+use Rattle.khal_words.specs.Entries.{Entries, day_format_text, entry, entries_of, format_text, limit_text, entries_text, span_of, zones_text, AreTaken, IsRefused}
+use Rattle.khal_words.specs.Limits.{IsLimitOf}
 use Rattle.khal_list.specs.Windows.{ends_of}
 use Rattle.khal_list.specs.declared.every_day.EveryDay.{EveryDay}
 use Rattle.khal_list.specs.declared.request.Request.{Request}
@@ -28,13 +28,6 @@ use Rattle.khal_list.specs.declared.request_fault.RequestFault.TheVariants.{Usag
 -- the text of the display zone
 abbrev pub zone_text : Entries → Text
 zone_text entries = entries_text (codes "zone") entries
-
--- the format of the entries, and of the days, that the words give
-abbrev pub format_text : Entries → Text
-format_text entries = text_or (codes "format") entry_default entries
-
-abbrev pub day_format_text : Entries → Text
-day_format_text entries = text_or (codes "day-format") day_default entries
 
 -- the text of `--after`, if it is given
 abbrev pub after_text : Entries → Option Text

@@ -11,12 +11,12 @@ use Rattle.ics_series.specs.Clocks.{Clock, local_at}
 use Rattle.ics_series.specs.Entry.{Entry}
 use Rattle.ics_series.specs.OnDays.{on_day, OnDay}
 use Rattle.ics_series.specs.ShownDays.{date_at}
-use Rattle.khal_list.specs.declared.field.EntryField.{EntryField}
-use Rattle.khal_list.specs.declared.field.EntryField.TheVariants.{Cell, Title, StartTime, EndTime, StartDate, EndDate, Location, Description, Uid, Cancelled}
-use Rattle.khal_list.specs.declared.field.DayField.{DayField}
-use Rattle.khal_list.specs.declared.field.DayField.TheVariants as day
-use Rattle.khal_list.specs.declared.format.Piece.{Piece}
-use Rattle.khal_list.specs.Formats.{filled}
+use Rattle.khal_words.specs.declared.field.EntryField.{EntryField}
+use Rattle.khal_words.specs.declared.field.EntryField.TheVariants.{Cell, Title, StartTime, EndTime, StartDate, EndDate, Location, Description, Uid, Cancelled}
+use Rattle.khal_words.specs.declared.field.DayField.{DayField}
+use Rattle.khal_words.specs.declared.field.DayField.TheVariants as day
+use Rattle.khal_words.specs.declared.format.Piece.{Piece}
+use Rattle.khal_words.specs.Formats.{filled}
 use Rattle.khal_list.specs.Shown.{shown}
 use Rattle.ics_fields.specs.Locals.{day_of_local, whole_days}
 

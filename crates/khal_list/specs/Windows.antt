@@ -6,8 +6,8 @@ use Rattle.ics_zone.specs.Displays.{offset_of, moment_of}
 use Rattle.ics_fields.specs.Locals.{midnight, whole_days, year_seconds, day_of_local}
 use Rattle.ics_zone.specs.JiffZones.{zone_of}
 use Rattle.ics_zone.specs.declared.display.Display.{Display}
-use Rattle.khal_list.specs.Entries.{Span}
-use Rattle.khal_list.specs.WindowTexts.{Named, named}
+use Rattle.khal_words.specs.Entries.{Span}
+use Rattle.khal_words.specs.WindowTexts.{Named, named}
 
 -- 0001-01-02T00:00, before which no window starts
 abbrev pub first_start : ℤ

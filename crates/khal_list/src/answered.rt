@@ -5,11 +5,10 @@ ghost use Rattle.std.specs.Cmp.Lexicographic.{slice_cmp};
 ghost use Rattle.std.specs.List.{list_any};
 ghost use Rattle.std.specs.Ordering.{nat_cmp};
 
-use crate::fault::RunFault;
 use crate::finding::{Found, find};
-use crate::zone_source::ZoneSource;
 use ics_calendar::ZoneFiles;
 use ics_event::Text;
+use khal_ports::{RunFault, ZoneSource};
 use std::alloc::{AllocError, Global};
 use std::collections::BTreeSet;
 

@@ -8,13 +8,13 @@ ghost use Rattle.khal_list.specs.Text.{cell_text, end_date, entry_field_text, is
 
 use crate::cell::{add_time, add_times};
 use crate::display_day::display_day;
-use crate::field::EntryField;
 use crate::heading::add_date;
 use crate::shown::add_shown;
 use ics_event::Event;
 use ics_series::Occurrence;
 use ics_values::{Local, Stamp};
 use ics_zone::{Display, Place};
+use khal_words::EntryField;
 use std::alloc::{AllocError, Global};
 
 /// Whether an event takes whole days.

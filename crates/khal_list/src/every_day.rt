@@ -4,15 +4,15 @@ ghost use Rattle.clap.specs.Words.{subcommand_rows_of};
 ghost use Rattle.ics_series.specs.DayKeys.{day_key_rank};
 ghost use Rattle.ics_series.specs.DayTokens.{IsDayToken};
 ghost use Rattle.ics_series.specs.Tokens.{IsToken};
-ghost use Rattle.khal_list.specs.Entries.{IsFlag};
+ghost use Rattle.khal_words.specs.Entries.{IsFlag};
 ghost use Rattle.khal_list.specs.RequestOf as spec;
 
 use crate::display_day::display_day;
-use crate::words::{entry, is_given};
 use clap::ArgMatches;
 use ics_series::{DayKey, DayToken, Key, Token, TokenFault, Window};
 use ics_values::Moment;
 use ics_zone::Display;
+use khal_words::{entry, is_given};
 use std::alloc::Global;
 
 /// A listing of occurrences under each of their days.

@@ -1,10 +1,9 @@
 //! What is found for a name.
 ghost use Rattle.std.specs.Prelude.{◌≡◌, IfErr};
-ghost use Rattle.khal_list.specs.Finds.{FindAnswer, found_of};
+ghost use Rattle.khal_ports.specs.Finds.{FindAnswer, found_of};
 ghost use Rattle.khal_list.specs.Learned.{found_by};
 
-use crate::fault::{RunFault, SourceFault};
-use crate::zone_source::ZoneSource;
+use khal_ports::{RunFault, SourceFault, ZoneSource};
 use std::alloc::Global;
 
 /// What is found for a name.

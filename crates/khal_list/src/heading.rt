@@ -2,14 +2,13 @@
 ghost use Rattle.std.specs.Prelude.{◌≡◌, ◌++◌, ◌∷◌, [], OnOk};
 ghost use Rattle.jiff_core.specs.Weekday.{monday_zero};
 ghost use Rattle.ics_fields.specs.Days.{IsDayNumber};
-ghost use Rattle.khal_list.specs.Formats.{filled, shown_piece};
+ghost use Rattle.khal_words.specs.Formats.{filled, shown_piece};
 ghost use Rattle.khal_list.specs.Text.{weekday_name, date_text, day_field_text};
 
-use crate::field::DayField;
-use crate::format::{Format, Piece};
 use ics_values::civil;
 use jiff::fmt::temporal::DateTimePrinter;
 use jiff_core::civil::{Date, Weekday};
+use khal_words::{DayField, Format, Piece};
 use std::alloc::AllocError;
 
 fn name_of(weekday: Weekday) -> &'static str

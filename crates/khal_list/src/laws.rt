@@ -6,9 +6,9 @@ ghost use Rattle.khal_list.specs.RequestOf.{RequestOf};
 ghost use Rattle.khal_list.specs.declared.request.Request.{Request};
 ghost use Rattle.khal_list.specs.declared.request_fault.RequestFault.{RequestFault};
 
-use crate::format_laws::one_format;
 use ics_series::{one_day_spelling, one_spelling};
 use ics_zone::one_display;
+use khal_words::one_format;
 
 /// Words and a clock have one answer, one request or one fault, unless an allocation fails.
 pub fn one_answer()

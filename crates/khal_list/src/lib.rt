@@ -3,28 +3,16 @@
 
 mod answered;
 mod cell;
-mod command;
 mod display_day;
 mod drawing;
 mod entry;
 mod entry_text;
 mod every_day;
-mod fault;
-mod field;
-mod file_bytes;
 mod finding;
-mod folder_source;
-mod folder_zones;
-mod format;
-mod format_laws;
 mod heading;
 mod laws;
 mod line;
-mod memory_sink;
-mod memory_source;
-mod memory_zones;
 mod more;
-mod no_zones;
 mod outcome;
 mod printing;
 mod reading;
@@ -34,37 +22,22 @@ mod request_fault;
 mod resuming;
 mod running;
 mod shown;
-mod sink;
-mod source;
-mod span;
 mod status;
-mod stream;
 mod window;
-mod window_text;
-mod words;
 mod zone_laws;
-mod zone_source;
 
 pub use every_day::EveryDay;
-pub use fault::{RunFault, SinkFault, SourceFault};
-pub use field::{DayField, EntryField, Placeholder};
-pub use folder_source::FolderSource;
-pub use folder_zones::FolderZones;
-pub use format::{Format, FormatFault, Piece};
-pub use format_laws::one_format;
+pub use khal_ports::{
+    FolderSource, FolderZones, MOST_BYTES, MOST_ZONE_BYTES, MemoryFile, MemorySink, MemorySource,
+    MemoryZone, MemoryZones, NoZones, RunFault, Sink, SinkFault, Source, SourceFault, Stream,
+    ZoneSource,
+};
+pub use khal_words::{DayField, EntryField, Format, FormatFault, Piece, Placeholder, one_format};
 pub use laws::one_answer;
-pub use memory_sink::MemorySink;
-pub use memory_source::{MemoryFile, MemorySource};
-pub use memory_zones::{MemoryZone, MemoryZones};
-pub use no_zones::NoZones;
 pub use printing::{print, print_days};
 pub use request::Request;
 pub use request_fault::RequestFault;
 pub use resuming::{day_goes_on, day_token_goes_on, goes_on, pages, text_goes_on, token_goes_on};
 pub use running::run;
-pub use sink::Sink;
-pub use source::{MOST_BYTES, Source};
 pub use status::Status;
-pub use stream::Stream;
 pub use zone_laws::without_zones;
-pub use zone_source::{MOST_ZONE_BYTES, ZoneSource};

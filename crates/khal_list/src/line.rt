@@ -2,16 +2,15 @@
 ghost use Rattle.std.specs.Prelude.{◌≡◌, ◌++◌, OnOk};
 ghost use Rattle.ics_series.specs.Clocks.{display_clock};
 ghost use Rattle.ics_series.specs.Entry.{entry_of};
-ghost use Rattle.khal_list.specs.Formats.{shown_piece};
+ghost use Rattle.khal_words.specs.Formats.{shown_piece};
 ghost use Rattle.khal_list.specs.Listed.{style_of};
 ghost use Rattle.khal_list.specs.Text.{entry_field_text, line_text};
 
 use crate::entry_text::add_field;
-use crate::field::EntryField;
-use crate::format::Piece;
 use crate::request::Request;
 use ics_series::Occurrence;
 use ics_zone::Display;
+use khal_words::{EntryField, Piece};
 use std::alloc::{AllocError, Global};
 
 /// Adds the line of an occurrence that is listed under this day, in the request's format.

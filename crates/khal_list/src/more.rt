@@ -3,11 +3,10 @@ ghost use Rattle.std.specs.Prelude.{◌≡◌, Some, IfOk, OnOk, OnErr, IsErrOf}
 ghost use Rattle.std.specs.Io.KnownBytes.{Appends};
 ghost use Rattle.std.specs.Option.{option_map};
 ghost use Rattle.std.specs.String.{string_bytes};
-ghost use Rattle.khal_list.specs.Growth.{TookFront, LeftByFault};
+ghost use Rattle.khal_ports.specs.Growth.{TookFront, LeftByFault};
 ghost use Rattle.khal_list.specs.Headline.{more_line};
 
-use crate::fault::RunFault;
-use crate::sink::{Sink, put_all};
+use khal_ports::{RunFault, Sink, put_all};
 use std::alloc::{AllocError, Global};
 
 // The line of a token: `more: TOKEN` and LF.

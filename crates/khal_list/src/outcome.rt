@@ -3,19 +3,17 @@ ghost use Rattle.std.specs.Prelude.{◌≡◌, ◌<◌, ◌≤◌, List, ℕ, So
 ghost use Rattle.ics_calendar.specs.Drafts.{draft_said};
 ghost use Rattle.ics_calendar.specs.Files.{draft_of, wanted_names};
 ghost use Rattle.ics_calendar.specs.ZoneTables.{given_by};
-ghost use Rattle.khal_list.specs.Answers.{most_bytes, Answer};
+ghost use Rattle.khal_ports.specs.Answers.{most_bytes, Answer};
 ghost use Rattle.khal_list.specs.Asked.{Asked};
 ghost use Rattle.khal_list.specs.Errors.{file_or_refusal};
 ghost use Rattle.khal_list.specs.Learned.{Knows, LearnsSome, Settles};
 ghost use Rattle.khal_list.specs.Outcomes.{seen_outcome, EndsReading, IsOutcome};
 
 use crate::answered::Answered;
-use crate::fault::{RunFault, SourceFault};
 use crate::refusal::Refusal;
-use crate::source::Source;
-use crate::zone_source::ZoneSource;
 use ics_calendar::{Draft, FileFault, ZoneFiles, only_wanted_files_count};
 use ics_event::{FileEvents, Text};
+use khal_ports::{RunFault, Source, SourceFault, ZoneSource};
 use std::alloc::{AllocError, Global};
 
 /// What becomes of a file.

@@ -7,16 +7,15 @@ ghost use Rattle.ics_series.specs.DayKeys.{day_key_rank};
 ghost use Rattle.ics_series.specs.Entry.{key_rank};
 ghost use Rattle.ics_series.specs.OnDays.{day_rank_of, on_day_of, OnDay};
 ghost use Rattle.khal_list.specs.Drawn.{DrewAhead, Puts};
-ghost use Rattle.khal_list.specs.Growth.{TookFront, LeftByFault};
+ghost use Rattle.khal_ports.specs.Growth.{TookFront, LeftByFault};
 ghost use Rattle.khal_list.specs.Listed.{key_on, style_of, listing_text};
 ghost use Rattle.khal_list.specs.Text.{text};
 
 use crate::drawing::{Draws, EachDay, Once};
 use crate::entry::add_entry;
-use crate::fault::RunFault;
 use crate::request::Request;
-use crate::sink::{Sink, put_all};
 use ics_series::{DayKey, Days, Feed, Key, Occurrence};
+use khal_ports::{RunFault, Sink, put_all};
 use std::alloc::Global;
 
 /// Writes the text of a feed's first entries, up to the request's limit: each entry's line, and a

@@ -1,21 +1,19 @@
 //! The files of a source, read one by one.
 ghost use Rattle.std.specs.Prelude.{◌≡◌, ◌≢◌, ◌↔◌, ◌++◌, List, [], IfOk, IfErr, OnOk, map};
 ghost use Rattle.ics_event.specs.Event.{said_by};
-ghost use Rattle.khal_list.specs.Answers.{Contents};
+ghost use Rattle.khal_ports.specs.Answers.{Contents};
 ghost use Rattle.khal_list.specs.Errors.{events_first, error_line};
 ghost use Rattle.khal_list.specs.Asked.{all_wanted, Asked, AsksAll, AsksSome};
 ghost use Rattle.khal_list.specs.Outcomes.{seen_outcome, IsReading};
-ghost use Rattle.khal_list.specs.Reads.{ReadsAll, ReadsSome};
+ghost use Rattle.khal_ports.specs.Reads.{ReadsAll, ReadsSome};
 
 use crate::answered::Answered;
-use crate::fault::RunFault;
 use crate::outcome::{Outcome, read_outcome};
 use crate::refusal::add_refusal_line;
-use crate::source::Source;
 use crate::status::Status;
-use crate::zone_source::ZoneSource;
 use ics_calendar::only_wanted_files_count;
 use ics_event::FileEvents;
+use khal_ports::{RunFault, Source, ZoneSource};
 use std::alloc::Global;
 
 /// What is kept from the files of a source: the events of the accepted files, and the lines of the

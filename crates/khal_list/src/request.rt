@@ -1,24 +1,20 @@
 //! Requests for a listing.
-ghost use Rattle.std.specs.Prelude.{◌≡◌, ◌⊎◌, ◌∷◌, IfOk, IsErrOf, map, codes};
+ghost use Rattle.std.specs.Prelude.{◌≡◌, IfOk, map};
 ghost use Rattle.std.specs.Option.{option_map};
 ghost use Rattle.std.specs.String.{string_bytes};
 ghost use Rattle.clap.specs.Words.{subcommand_rows_of};
-ghost use Rattle.khal_list.specs.Entries.{limit_text, with_name, zones_text, AreTested, HasLimit};
-ghost use Rattle.khal_list.specs.Formats.{day_name, entry_name, written, IsFormat};
-ghost use Rattle.khal_list.specs.Limits.{IsLimitOf};
-ghost use Rattle.khal_list.specs.RequestOf.{day_format_text, format_text};
+ghost use Rattle.khal_words.specs.Entries.{with_name, zones_text, AreTested};
 
 use crate::RequestFault;
 use crate::every_day::{After, EveryDay};
-use crate::field::{DayField, EntryField};
-use crate::format::{Format, FormatFault};
-use crate::span::Span;
 use crate::window::window_of;
-use crate::words::{entry, is_given, matches, text, text_or};
 use clap::ArgMatches;
 use ics_series::{Key, Window};
 use ics_values::Moment;
 use ics_zone::Display;
+use khal_words::{
+    DayField, EntryField, Format, Span, entry, formats_of, is_given, limit_of, matches, text,
+};
 use std::alloc::{AllocError, Global};
 
 /// A request for a listing: the folder, the zone in which it is shown, the folder of zone files, the
@@ -135,23 +131,6 @@ fn named<'a>(alloc: Global, words: &[&'a str]) -> Result<Vec<&'a str>, AllocErro
     Ok(named)
 }
 
-// The formats of entries and of days.
-fn formats_of<'a>(
-    alloc: Global,
-    found: &ArgMatches<'a>,
-) -> Result<(Format<EntryField>, Format<DayField>), FormatFault>
-    ensures entries { IfOk result (λ formats. format_text (subcommand_rows_of found.now)
-        ≡ written entry_name formats.0.pieces.items) }
-    ensures days { IfOk result (λ formats. day_format_text (subcommand_rows_of found.now)
-        ≡ written day_name formats.1.pieces.items) }
-    ensures bad { IsErrOf result FormatFault.BadFormat → (¬ IsFormat entry_name (format_text (subcommand_rows_of found.now)))
-        ⊎ (¬ IsFormat day_name (day_format_text (subcommand_rows_of found.now))) }
-{
-    let entries = Format::parse(alloc, text_or(found, "format", "{cell} {title}"))?;
-    let days = Format::parse(alloc, text_or(found, "day-format", "{name}, {date}"))?;
-    Ok((entries, days))
-}
-
 // The text of `--zones`, if it is given.
 fn zones_of<'a>(alloc: Global, found: &ArgMatches<'a>) -> Result<Option<String>, AllocError>
     ensures { IfOk result (λ zones. option_map string_bytes zones
@@ -161,12 +140,4 @@ fn zones_of<'a>(alloc: Global, found: &ArgMatches<'a>) -> Result<Option<String>,
         Some(zones) => Ok(Some(String::from_str(alloc, zones)?)),
         None => Ok(None),
     }
-}
-
-// The number of `--limit`, if it is given.
-fn limit_of<'a>(found: &ArgMatches<'a>) -> Option<u32>
-    requires { HasLimit (subcommand_rows_of found.now) }
-    ensures { IsLimitOf (limit_text (subcommand_rows_of found.now)) result }
-{
-    entry(found, "limit")?.parse::<u32>().ok()
 }

@@ -2,11 +2,11 @@
 ghost use Rattle.std.specs.Prelude.{◌≡◌};
 ghost use Rattle.clap.specs.Words.{kind_of};
 
-use crate::format::FormatFault;
 use clap::Error;
 use clap::error::ErrorKind;
 use ics_series::TokenFault;
 use ics_zone::DisplayFault;
+use khal_words::FormatFault;
 use std::alloc::{AllocError, Global};
 use thiserror::Error as ErrorText;
 

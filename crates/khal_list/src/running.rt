@@ -3,21 +3,18 @@ ghost use Rattle.std.specs.Prelude.{◌≡◌, ◌⊎◌, IfOk, OnErr, IsErrOf, 
 ghost use Rattle.std.specs.Option.{option_map};
 ghost use Rattle.std.specs.String.{string_bytes};
 ghost use Rattle.ics_event.specs.Event.{said_by};
-ghost use Rattle.khal_list.specs.Growth.{LeftByFault};
+ghost use Rattle.khal_ports.specs.Growth.{LeftByFault};
 ghost use Rattle.khal_list.specs.Headline.{Lists, Shown, ShownInPart, Shows, ShowsDays, ShowsOnce, Stops};
 
 use crate::every_day::EveryDay;
-use crate::fault::RunFault;
 use crate::more::put_more;
 use crate::printing::{print, print_days};
 use crate::reading::read_all;
 use crate::request::Request;
-use crate::sink::{Sink, put_all};
-use crate::source::Source;
 use crate::status::Status;
-use crate::zone_source::ZoneSource;
 use ics_event::FileEvents;
 use ics_series::{DayToken, Folder, Token};
+use khal_ports::{RunFault, Sink, Source, ZoneSource, put_all};
 use std::alloc::Global;
 
 /// Writes the requested listing of a folder that is shown in the request's zone, each occurrence once,

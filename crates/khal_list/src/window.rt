@@ -6,15 +6,14 @@ ghost use Rattle.ics_zone.specs.Seconds.{IsDay, IsNear};
 ghost use Rattle.ics_fields.specs.Locals.{local_seconds};
 ghost use Rattle.ics_zone.specs.JiffZones.{zone_of};
 ghost use Rattle.khal_list.specs.Windows as spec;
-ghost use Rattle.khal_list.specs.SpanTexts.{span_by};
+ghost use Rattle.khal_words.specs.SpanTexts.{span_by};
 ghost use Rattle.khal_list.specs.WindowEnds.{ends_by};
-ghost use Rattle.khal_list.specs.WindowTextNames.{named_by, IsInCalendar};
+ghost use Rattle.khal_words.specs.WindowTextNames.{named_by, IsInCalendar};
 
-use crate::span::Span;
-use crate::window_text::WindowText;
 use ics_series::Window;
 use ics_values::{Local, Moment};
 use ics_zone::{Display, Place};
+use khal_words::{Span, WindowText};
 
 // 0001-01-02T00:00, before which no window starts, and 9800-01-01T00:00, after which none ends.
 const FIRST_START: i64 = -62_135_510_400;

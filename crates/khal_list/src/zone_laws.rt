@@ -5,11 +5,10 @@ ghost use Rattle.ics_calendar.specs.Files.{file_of};
 ghost use Rattle.ics_calendar.specs.GivenFiles.{no_files};
 ghost use Rattle.khal_list.specs.Asked.{Asked, FindsEach};
 ghost use Rattle.khal_list.specs.Errors.{file_by, file_or_refusal};
-ghost use Rattle.khal_list.specs.Finds.{Found};
-ghost use Rattle.khal_list.specs.declared.no_zones.NoZones.{NoZones};
+ghost use Rattle.khal_ports.specs.Finds.{Found};
+ghost use Rattle.khal_ports.specs.declared.no_zones.NoZones.{NoZones};
 
-use crate::no_zones::NoZones;
-use crate::zone_source::ZoneSource;
+use khal_ports::{NoZones, ZoneSource};
 
 /// With `NoZones` nothing is found for any name, and then the outcome of a file is that which it has
 /// without zone files.

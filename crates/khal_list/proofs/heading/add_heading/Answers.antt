@@ -1,7 +1,7 @@
 use Rattle.std.proofs.Common.{◌∷◌, [], drop, ap, w32}
 use Rattle.std.proofs.lemmas.Int.{to_z-of_z}
 use Rattle.std.proofs.lemmas.List.{drop_all}
-use Rattle.khal_list.specs.Formats.{filled}
+use Rattle.khal_words.specs.Formats.{filled}
 use Rattle.khal_list.specs.Text.{day_field_text}
 use Rattle.khal_list.proofs.AddedLemmas.{none_left, two_added}
 use Rattle.khal_list.proofs.heading.add_heading.Goals as goal

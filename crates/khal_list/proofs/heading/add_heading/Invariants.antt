@@ -1,5 +1,5 @@
 use Rattle.std.proofs.Common.{◌≡◌, ◌++◌, drop}
-use Rattle.khal_list.specs.Formats.{filled}
+use Rattle.khal_words.specs.Formats.{filled}
 use Rattle.khal_list.specs.Text.{day_field_text}
 use Rattle.khal_list.proofs.heading.add_heading.Given as goal
 

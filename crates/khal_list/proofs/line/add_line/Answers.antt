@@ -3,7 +3,7 @@ use Rattle.std.proofs.lemmas.Int.{to_z-of_z}
 use Rattle.std.proofs.lemmas.List.{drop_all}
 use Rattle.ics_series.specs.Clocks.{display_clock}
 use Rattle.ics_series.specs.Entry.{entry_of}
-use Rattle.khal_list.specs.Formats.{filled}
+use Rattle.khal_words.specs.Formats.{filled}
 use Rattle.khal_list.specs.Text.{entry_field_text}
 use Rattle.khal_list.proofs.AddedLemmas.{none_left, two_added}
 use Rattle.khal_list.proofs.line.add_line.Goals as goal

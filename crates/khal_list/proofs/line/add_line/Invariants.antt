@@ -1,7 +1,7 @@
 use Rattle.std.proofs.Common.{◌≡◌, ◌++◌, drop}
 use Rattle.ics_series.specs.Clocks.{display_clock}
 use Rattle.ics_series.specs.Entry.{entry_of}
-use Rattle.khal_list.specs.Formats.{filled}
+use Rattle.khal_words.specs.Formats.{filled}
 use Rattle.khal_list.specs.Text.{entry_field_text}
 use Rattle.khal_list.proofs.line.add_line.Given as goal
 

@@ -3,7 +3,7 @@ use Rattle.ics_calendar.specs.Drafts.{draft_said}
 use Rattle.ics_calendar.specs.Files.{wanted_names}
 use Rattle.khal_list.specs.Outcomes.{seen_outcome}
 use Rattle.khal_list.proofs.OutcomeLemmas.{asks-none, draft-read, draft-unread, ok-as}
-use Rattle.khal_list.proofs.Written.{on_err}
+use Rattle.khal_ports.proofs.Written.{on_err}
 use Rattle.khal_list.proofs.outcome.outcome_with.Goals as goal
 
 pub returns-in_err-wanted-clause-some : goal.returns-in_err-wanted-clause-some

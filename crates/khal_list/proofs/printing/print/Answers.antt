@@ -5,7 +5,7 @@ use Rattle.ics_series.specs.Entry.{key_rank}
 use Rattle.khal_list.specs.Listed.{style_of}
 use Rattle.khal_list.specs.Text.{under}
 use Rattle.khal_list.proofs.PutLemmas.{drew-once, front-once, key-once, text-once}
-use Rattle.khal_list.proofs.Written.{on_err}
+use Rattle.khal_ports.proofs.Written.{on_err}
 use Rattle.khal_list.proofs.printing.print.Goals as goal
 
 pub returns-in_err-put_entries-clause-front : goal.returns-in_err-put_entries-clause-front

@@ -5,9 +5,8 @@ use Rattle.ics_series.specs.Entry.{entry_of}
 use Rattle.ics_series.specs.OnDays.{on_day}
 use Rattle.khal_list.specs.Listed.{style_of}
 use Rattle.khal_list.specs.Text.{entry_text}
-use Rattle.khal_list.proofs.Fronts.{only-piece}
 use Rattle.khal_list.proofs.Printed.{cut-key, cut-text, drew-none, drew-one, drew-part, fewer, printed-front, printed-more, printed-part}
-use Rattle.khal_list.proofs.PutLemmas.{puts-cut, puts-fault}
+use Rattle.khal_list.proofs.PutLemmas.{only-piece, puts-cut, puts-fault}
 use Rattle.khal_list.proofs.printing.put_entries.Goals as goal
 
 pub returns-in_err-day-clause-puts : goal.returns-in_err-day-clause-puts

@@ -6,7 +6,7 @@ use Rattle.ics_series.specs.DayTokens.{day_spelling}
 use Rattle.ics_series.specs.OnDays.{after_day_key}
 use Rattle.ics_series.specs.declared.day_key.DayKey.{DayKey}
 use Rattle.khal_list.proofs.RunLemmas.{copied-key, part-days, shows-days, whole-front}
-use Rattle.khal_list.proofs.Written.{on_err}
+use Rattle.khal_ports.proofs.Written.{on_err}
 use Rattle.khal_list.proofs.running.list_days.Goals as goal
 
 pub returns-in_err-print_days-clause-err : goal.returns-in_err-print_days-clause-err

@@ -1,6 +1,6 @@
 use Rattle.ics_series.specs.Entry.{key_rank}
 use Rattle.khal_list.proofs.RunLemmas.{asked, copied-key, part-once, whole-front}
-use Rattle.khal_list.proofs.Written.{on_err}
+use Rattle.khal_ports.proofs.Written.{on_err}
 use Rattle.khal_list.proofs.running.list_once.Goals as goal
 
 pub returns-in_err-print-clause-err : goal.returns-in_err-print-clause-err

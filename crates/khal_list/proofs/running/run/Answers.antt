@@ -4,7 +4,7 @@ use Rattle.std.specs.String.{string_bytes}
 use Rattle.ics_event.specs.Event.{said_by}
 use Rattle.khal_list.specs.Headline.{Stops}
 use Rattle.khal_list.proofs.RunLemmas.{lists, stops, stops-lines, stops-more, stops-reading}
-use Rattle.khal_list.proofs.Written.{appends-same, on_err}
+use Rattle.khal_ports.proofs.Written.{appends-same, on_err}
 use Rattle.khal_list.proofs.running.run.Goals as goal
 
 pub returns-in_err-reading-clause-stops : goal.returns-in_err-reading-clause-stops

@@ -1,6 +1,6 @@
 use Rattle.std.proofs.Common.{◌≤ℤ◌, ◌<ℤ◌, ◌+ℤ◌, ℤ, arith, rules, FitsSigned, w32, w64}
 use Rattle.std.proofs.lemmas.Int.{to_z-of_z}
-use Rattle.jiff.proofs.SpanFacts.{signed_arith}
+use Rattle.jiff_core.proofs.SignedLemmas.{signed_arith}
 use Rattle.ics_zone.specs.Displays.{moment_of}
 use Rattle.ics_fields.specs.Locals.{local_seconds, whole_days}
 use Rattle.ics_zone.specs.JiffZones.{zone_of}

@@ -1,5 +1,5 @@
 use Rattle.std.proofs.Common.{◌-ℤ◌, arith}
-use Rattle.jiff.proofs.SpanFacts.{signed_arith}
+use Rattle.jiff_core.proofs.SignedLemmas.{signed_arith}
 use Rattle.ics_zone.specs.Near.{moment_near}
 use Rattle.ics_zone.specs.Seconds.{IsNear}
 use Rattle.ics_fields.specs.Locals.{local_seconds}

@@ -1,7 +1,7 @@
 use Rattle.std.proofs.Common.{ℕ, List, sym, ◌∙◌, subst}
 use Rattle.khal_list.specs.Learned.{seen_found}
 use Rattle.khal_list.proofs.LearnedLemmas.{fails, learns-one, learns-some-one}
-use Rattle.khal_list.proofs.Written.{on_err}
+use Rattle.khal_ports.proofs.Written.{on_err}
 use Rattle.khal_list.proofs.answered.Answered.ask.Goals as goal
 
 pub returns-in_err-found-clause-some : goal.returns-in_err-found-clause-some

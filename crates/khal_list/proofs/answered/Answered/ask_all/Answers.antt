@@ -1,5 +1,5 @@
 use Rattle.khal_list.proofs.LearnedLemmas.{fails-next, learns-next}
-use Rattle.khal_list.proofs.Written.{on_err}
+use Rattle.khal_ports.proofs.Written.{on_err}
 use Rattle.khal_list.proofs.answered.Answered.ask_all.Goals as goal
 
 pub returns-in_err-ask-clause-some : goal.returns-in_err-ask-clause-some

@@ -2,7 +2,7 @@ use Rattle.std.proofs.Common.{◌≡◌, None, rules, sym, ◌∙◌, ap, FitsSi
 use Rattle.std.proofs.lemmas.Int.{to_z-of_z}
 use Rattle.clap.specs.Words.{subcommand_rows_of}
 use Rattle.khal_list.proofs.RequestLemmas.{good_token, has_window, no_format, no_token}
-use Rattle.khal_list.specs.SpanTexts.{span_by}
+use Rattle.khal_words.specs.SpanTexts.{span_by}
 use Rattle.khal_list.specs.WindowEnds.{ends_by}
 use Rattle.khal_list.specs.Windows.{ends_of}
 use Rattle.khal_list.proofs.request.Request.by.Goals as goal

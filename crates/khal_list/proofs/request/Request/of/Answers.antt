@@ -1,8 +1,8 @@
 use Rattle.std.proofs.Common.{◌≡◌, ◌⊎◌, map, ℕ, List, ◌∙◌, ap, subst}
 use Rattle.clap.specs.Words.{kind_of, IsAmong, fault_of}
 use Rattle.clap.specs.declared.error.kind.ErrorKind.TheVariants.{OutOfMemory}
-use Rattle.khal_list.specs.Commands.{khal_app}
-use Rattle.khal_list.specs.Entries.{with_name}
+use Rattle.khal_words.specs.Commands.{khal_app}
+use Rattle.khal_words.specs.Entries.{with_name}
 use Rattle.khal_list.proofs.RefusalLemmas.{refused}
 use Rattle.khal_list.proofs.request.Request.of.Goals as goal
 

@@ -1,0 +1,44 @@
+-- What a source of zone files answers for a name.
+use Rattle.std.specs.Prelude.{◌≡◌, ◌≤◌, ◌<◌, ⊤, ℕ, List, [], ◌∷◌, length, Option, Some, None, IfSome, option_map, Result, Ok, Err, if◌then◌else◌}
+use Rattle.std.specs.Str.{bytes_eq}
+use Rattle.std.specs.declared.vec.Vec.{Vec}
+use Rattle.khal_ports.specs.declared.fault.SourceFault.{SourceFault}
+use Rattle.khal_ports.specs.declared.fault.SourceFault.TheVariants.{Device, TooLarge, Memory}
+
+-- the bytes of a zone file, or none if there is no such file, or why it was not read
+abbrev pub FindAnswer : Type 0
+FindAnswer = Result (Option (List ℕ)) SourceFault
+
+abbrev pub find_answer_of : {V : Type 0} → Result (Option (Vec ℕ V)) SourceFault → FindAnswer
+find_answer_of (Ok file) = Ok (option_map (λ bytes. bytes.items) file)
+find_answer_of (Err fault) = Err fault
+
+-- What was found for a name: the bytes of a zone file, or that there is none, or that it was not read.
+pub data Found : Type 0 where
+  Given : List ℕ → Found
+  Absent : Found
+  Unread : Found
+
+-- what an answer found, if no allocation failed
+abbrev pub found_of : FindAnswer → Option Found
+found_of (Ok (Some bytes)) = Some (Given bytes)
+found_of (Ok None) = Some Absent
+found_of (Err Device) = Some Unread
+found_of (Err TooLarge) = Some Unread
+found_of (Err Memory) = None
+
+-- the most bytes that a zone file may have
+abbrev pub most_zone_bytes : ℕ
+most_zone_bytes = 1_048_576
+
+-- the bytes for a name in pairs of names and bytes, of which the first of a name counts
+abbrev pub file_named : List (List ℕ × List ℕ) → List ℕ → Option (List ℕ)
+file_named [] name = None
+file_named (file ∷ files) name = if bytes_eq file.0 name then Some file.1 else file_named files name
+
+-- In files in memory a name is found, or there is none, or it has too many bytes. An allocation may always fail.
+abbrev pub IsFind : List (List ℕ × List ℕ) → List ℕ → FindAnswer → Type 0
+IsFind files name (Ok found) = (file_named files name ≡ found) × IfSome found (λ bytes. length bytes ≤ most_zone_bytes)
+IsFind files name (Err TooLarge) = (bytes : List ℕ) × (file_named files name ≡ Some bytes) × (most_zone_bytes < length bytes)
+IsFind files name (Err Memory) = ⊤
+IsFind files name (Err Device) = ⊥

@@ -1,0 +1,8 @@
+pub mod AddedArgs
+pub mod CheckedRows
+pub mod FlagLemmas
+pub mod FormatLemmas
+pub mod LimitLemmas
+pub mod NameLemmas
+pub mod TakenLemmas
+pub mod WindowTextLemmas

@@ -1,0 +1,82 @@
+-- What parsed digits, and a text without its last byte, say of a window text.
+use Rattle.std.proofs.Common.{◌≡◌, ◌≢◌, ◌<◌, ◌≤◌, ◌-◌, ◌^◌, ◌++◌, ◌∷◌, [], ℕ, pos, true, false, Bool, List, Some, None, length, take, get_or, suc, ◌==◌, refl}
+use Rattle.std.proofs.Common.{ap, sym, ◌∙◌, arith, rules, if◌then◌else◌, ◌&&◌}
+use Rattle.std.proofs.Math.Seq.{take-suc, take-length}
+use Rattle.std.proofs.lemmas.Bool.{eqb-true}
+use Rattle.std.proofs.lemmas.Bool.Decides.{nat_tests}
+use Rattle.std.proofs.lemmas.Str.Parse.{IsNumeralModel, IsDigitsTest, numerals_by_value}
+use Rattle.std.specs.List.{list_all}
+use Rattle.std.specs.Char.{is_ascii_digit}
+use Rattle.std.specs.Str.Parse.{digits_value}
+use Rattle.jiff_core.proofs.SignedLemmas.{signed_arith}
+use Rattle.jiff_core.specs.Calendar.{IsDate, days_from_civil}
+use Rattle.jiff_core.specs.Date.{IsYmd, epoch_day}
+use Rattle.jiff_core.specs.declared.civil.date.Date.{Date}
+use Rattle.khal_words.specs.WindowTexts.{has_date, day_number, before_d, most_days, number_said, is_number_of_days}
+
+tells : IsDigitsTest (λ ds. list_all is_ascii_digit ds ≡ true)
+tells = search rules
+
+-- digits as this crate tests them
+pub own : IsNumeralModel (λ ds. list_all is_ascii_digit ds ≡ true) (digits_value 10)
+own = numerals_by_value _ tells
+
+-- digits that write a number past 0 are not none
+nonempty : (ds : List ℕ) → 1 ≤ digits_value 10 ds → 0 < length ds
+nonempty [] some = absurd (omega arith)
+nonempty (c ∷ cs) some = omega arith
+
+in_bounds : (n : ℕ) → is_number_of_days n ≡ true → (1 ≤ n) × (n ≤ most_days)
+in_bounds n t = grind (arith, nat_tests)
+
+chosen : (digits fits : Bool) (n : ℕ) → (fits ≡ true → ⊥) → None ≡ (if digits && fits then Some n else None)
+chosen true true n refuted = absurd (refuted refl)
+chosen true false n refuted = refl
+chosen false true n refuted = refl
+chosen false false n refuted = refl
+
+-- no digits, or too many, write no number of days
+pub none_said : (ds : List ℕ) → ((0 < length ds) × (digits_value 10 ds < 2 ^ 32) → ⊥) → None ≡ number_said ds
+none_said ds refuted = chosen (list_all is_ascii_digit ds) (is_number_of_days (digits_value 10 ds)) (digits_value 10 ds) (λ fits.
+    let bounds = in_bounds _ fits in
+    refuted (nonempty ds bounds.0, omega arith))
+
+-- the number of parsed digits
+pub number_is : (ds : List ℕ) (n : ℕ) → list_all is_ascii_digit ds ≡ true → n ≡ digits_value 10 ds → 1 ≤ n → n ≤ most_days → Some n ≡ number_said ds
+number_is ds n digits same some few =
+    let fits : is_number_of_days n ≡ true = grind (arith, nat_tests) in
+    rw (digits, ← same, fits) refl
+
+unless : (b : Bool) (x : List ℕ) → (b ≡ true → ⊥) → None ≡ (if b then Some x else None)
+unless true x refuted = absurd (refuted refl)
+unless false x refuted = refl
+
+-- a text is its front and its last byte
+last_byte : (text : List ℕ) → 0 < length text → text ≡ take (length text - 1) text ++ get_or text (length text - 1) 0 ∷ []
+last_byte text some =
+    let more : suc (length text - 1) ≡ length text = omega arith in
+    let inside : length text - 1 < length text = omega arith in
+    sym (take-length text) ∙ (ap (λ n. take n text) (sym more) ∙ take-suc text (length text - 1) 0 inside)
+
+ends_so : (text : List ℕ) → get_or text (length text - 1) 0 ≡ 100 → text ≡ take (length text - 1) text ++ 100 ∷ []
+ends_so [] last = let bad : ◌≡◌ {A = ℕ} 0 100 = last in absurd (omega arith)
+ends_so (c ∷ cs) last = last_byte (c ∷ cs) (omega arith) ∙ ap (λ b. take (length (c ∷ cs) - 1) (c ∷ cs) ++ b ∷ []) last
+
+-- a text that does not end in `d` has nothing before it
+pub before_d-none : (text : List ℕ) → ((front : List ℕ) → text ≢ front ++ 100 ∷ []) → None ≡ before_d text
+before_d-none text other =
+    unless (get_or text (length text - 1) 0 == 100) _ (λ test. other _ (ends_so text (eqb-true _ _ test)))
+
+has_date_is : (year month day : ℕ) → IsDate (pos year) (pos month) (pos day) → has_date year month day ≡ true
+has_date_is year month day exists = grind (arith, nat_tests, signed_arith)
+
+-- the number of a date that the calendar has
+pub day_number_is : (year month day : ℕ) → IsDate (pos year) (pos month) (pos day) → day_number year month day ≡ Some (days_from_civil (pos year) month day)
+day_number_is year month day exists = rw (has_date_is year month day exists) refl
+
+-- the number of a date with these parts
+pub day_is : (year month day : ℕ) (date : Date) → IsYmd (pos year) (pos month) (pos day) date → epoch_day date ≡ days_from_civil (pos year) month day
+day_is year month day date parts =
+    let m : date.month ≡ month = omega (arith, signed_arith) in
+    let d : date.day ≡ day = omega (arith, signed_arith) in
+    rw (parts.0, m, d) refl

@@ -1,0 +1,25 @@
+use Rattle.std.proofs.Common.{rules, ◌≡◌, ◌<◌, ◌∷◌, ◌++◌, [], length, refl, ap, sym, ◌∙◌, append_assoc}
+use Rattle.khal_words.specs.Formats.{written, written_piece}
+use Rattle.khal_words.proofs.FormatLemmas.{format_behind, no_format, written-last}
+use Rattle.khal_words.proofs.format.Format.parse.Goals as goal
+
+pub returns-in_default-clause-bad : goal.returns-in_default-clause-bad
+returns-in_default-clause-bad g c is_bad is_format =
+    let some : 0 < length c.loop-rest.rest.now = search rules in
+    no_format g.F.Placeholder.name c.loop-rest.rest.now some (c.in_default.ensures.none refl) (c.loop-rest.invariant.left is_format)
+
+pub loop-rest-preserved : goal.loop-rest-preserved
+loop-rest-preserved g c =
+    let name = g.F.Placeholder.name in
+    let plain = g.met.F.Placeholder.plain in
+    let piece = c.in-Some.piece in
+    let after = c.in-Some.after.now in
+    let next : c.loop-rest.rest.now ≡ written_piece name piece ++ after = c.in-Some.ensures.some in
+    let added : c.push.new.self.items ≡ c.loop-rest.pieces.items ++ piece ∷ [] = search rules in
+    record {
+      whole =
+          c.loop-rest.invariant.whole ∙ ap (λ t. written name c.loop-rest.pieces.items ++ t) next
+          ∙ (sym (append_assoc (written name c.loop-rest.pieces.items) (written_piece name piece) after)
+          ∙ ap (λ t. t ++ after) (sym (written-last name plain c.loop-rest.pieces.items piece) ∙ ap (written name) (sym added)));
+      left = λ is. format_behind name plain piece after c.loop-rest.rest.now next (c.loop-rest.invariant.left is);
+    }

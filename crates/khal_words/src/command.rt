@@ -1,0 +1,216 @@
+//! The program's command line, as clap takes it.
+ghost use Rattle.std.specs.Prelude.{◌≡◌, IfOk, false, map};
+ghost use Rattle.std.specs.List.{AllByRecursion};
+ghost use Rattle.clap.specs.Words.{app_of, rule_of, with_subcommand};
+ghost use Rattle.clap.specs.declared.builder.command.Command.TheViews.{out-Command};
+ghost use Rattle.khal_words.specs.Commands as spec;
+
+use clap::{Arg, ArgAction, Command};
+use std::alloc::{AllocError, Global};
+
+/// The text below the help of the program.
+const EXAMPLES: &str = "Examples:
+  khal-list list ~/calendars --zone=\"$(tail -n1 /etc/localtime)\"
+      today and tomorrow, by the clock of this machine
+  khal-list list ~/calendars 2024-01-01 7d
+      a week
+  khal-list at ~/calendars 2024-01-03T14:00
+      what is on at a moment
+
+`khal-list list --help` lists the options, and `man khal-list` says more.";
+
+/// The text below the help of `list`.
+const LIST_EXAMPLES: &str = "Placeholders of --format:
+  {cell} {title} {start-time} {end-time} {start-date} {end-date} {location}
+  {description} {uid} {cancelled}
+
+Examples:
+  khal-list list ~/calendars --zone=\"$(tail -n1 /etc/localtime)\"
+  khal-list list ~/calendars 2024-01-01 7d --zone=EST5EDT,M3.2.0,M11.1.0
+  khal-list list ~/calendars 2024-01-01 2024-01-31 --limit 10
+  khal-list list ~/calendars --format '{start-time} {title}' --day-format ''";
+
+/// The text below the help of `at`.
+const AT_EXAMPLES: &str = "Examples:
+  khal-list at ~/calendars 2024-01-03T14:00
+  khal-list at ~/calendars 2024-01-03T14:00 --zone=-05:00";
+
+/// The heading of the options that choose entries.
+const WHICH_ENTRIES: &str = "Which entries";
+
+/// The heading of the options for what an entry looks like.
+const HOW_WRITTEN: &str = "How they are written";
+
+// What the help says of each argument.
+const FOLDER: &str = "The folder whose .ics files are read";
+
+const START: &str = "YYYY-MM-DD or YYYY-MM-DDTHH:MM [default: today]";
+
+const END: &str =
+    "A date (that day is listed too), a date-time (up to it),{n}or Nd (N days from START)";
+
+const MOMENT: &str = "YYYY-MM-DDTHH:MM, by the clock of --zone";
+
+const ZONE: &str =
+    "The time zone: UTC, an offset (--zone=-05:00), or a{n}POSIX TZ rule (EST5EDT,M3.2.0,M11.1.0)";
+
+const ZONES: &str =
+    "Zone files for names that a calendar does not{n}define, e.g. /usr/share/zoneinfo";
+
+const LIMIT: &str =
+    "At most N entries. If more follow, the last line of{n}standard error is `more: TOKEN`";
+
+const AFTER: &str = "Only the entries after the one with this token";
+
+const NOTSTARTED: &str = "Leave out what began before START";
+
+const EVERY_DAY: &str = "List what lasts several days under each of them";
+
+const FORMAT: &str = "An entry's line [default: {cell} {title}]";
+
+const DAY_FORMAT: &str = "A day's heading [default: {name}, {date}]";
+
+/// The program's command: `list FOLDER [START [END]] [--zone Z] [--zones DIR] [--limit N]
+/// [--after TOKEN] [--notstarted] [--every-day] [--format F] [--day-format F]` and
+/// `at FOLDER MOMENT [--zone Z] [--zones DIR]`.
+pub(crate) fn command<'a>(alloc: Global) -> Result<Command<'a>, AllocError>
+    ensures shape { IfOk result (λ c. app_of c ≡ spec.khal_app) }
+    ensures local { IfOk result (λ c. (out-Command c).has_globals ≡ false) }
+{
+    let list = list_command(alloc)?;
+    let command = bare_command(alloc).subcommand(list)?;
+    add_at(alloc, command)
+}
+
+/// Adds the subcommand `at`.
+fn add_at<'a>(alloc: Global, command: Command<'a>) -> Result<Command<'a>, AllocError>
+    requires local { (out-Command command).has_globals ≡ false }
+    ensures shape { IfOk result (λ c. app_of c ≡ with_subcommand (app_of command.entry) spec.at_app.top) }
+    ensures local { IfOk result (λ c. (out-Command c).has_globals ≡ false) }
+{
+    let at = at_command(alloc)?;
+    command.subcommand(at)
+}
+
+fn bare_command<'a>(alloc: Global) -> Command<'a>
+    ensures shape { app_of result ≡ spec.bare_app }
+    ensures local { (out-Command result).has_globals ≡ false }
+{
+    Command::new(alloc, "khal-list")
+        .about("Lists the events of a folder of iCalendar files (RFC 5545)")
+        .after_help(EXAMPLES)
+        .subcommand_required(true)
+}
+
+fn list_command<'a>(alloc: Global) -> Result<Command<'a>, AllocError>
+    ensures shape { IfOk result (λ c. app_of c ≡ spec.list_app) }
+    ensures local { IfOk result (λ c. (out-Command c).has_globals ≡ false) }
+{
+    let args = list_args(alloc)?;
+    Command::new(alloc, "list")
+        .about("Lists the events of a window of time")
+        .after_help(LIST_EXAMPLES)
+        .args(args)
+}
+
+fn at_command<'a>(alloc: Global) -> Result<Command<'a>, AllocError>
+    ensures shape { IfOk result (λ c. app_of c ≡ spec.at_app) }
+    ensures local { IfOk result (λ c. (out-Command c).has_globals ≡ false) }
+{
+    let args = at_args(alloc)?;
+    Command::new(alloc, "at")
+        .about("Lists what is on at a moment")
+        .after_help(AT_EXAMPLES)
+        .args(args)
+}
+
+fn list_args<'a>(alloc: Global) -> Result<Vec<Arg<'a>>, AllocError>
+    ensures rules { IfOk result (λ args. map rule_of args.items ≡ spec.list_rules) }
+    ensures local { IfOk result (λ args. AllByRecursion (λ arg. arg.global ≡ false) args.items) }
+{
+    Ok(vec![in alloc;
+        folder(alloc),
+        place(alloc, "start", "START", START),
+        place(alloc, "end", "END", END).default_value("2d"),
+        zone(alloc),
+        option(alloc, "zones", "DIR", WHICH_ENTRIES, ZONES),
+        limit(alloc),
+        option(alloc, "after", "TOKEN", WHICH_ENTRIES, AFTER),
+        flag(alloc, "notstarted", WHICH_ENTRIES, NOTSTARTED),
+        flag(alloc, "every-day", WHICH_ENTRIES, EVERY_DAY),
+        option(alloc, "format", "F", HOW_WRITTEN, FORMAT),
+        option(alloc, "day-format", "F", HOW_WRITTEN, DAY_FORMAT),
+    ]?)
+}
+
+fn at_args<'a>(alloc: Global) -> Result<Vec<Arg<'a>>, AllocError>
+    ensures rules { IfOk result (λ args. map rule_of args.items ≡ spec.at_rules) }
+    ensures local { IfOk result (λ args. AllByRecursion (λ arg. arg.global ≡ false) args.items) }
+{
+    Ok(vec![in alloc;
+        folder(alloc),
+        place(alloc, "moment", "MOMENT", MOMENT).required(true),
+        zone(alloc),
+        option(alloc, "zones", "DIR", WHICH_ENTRIES, ZONES),
+    ]?)
+}
+
+/// An argument that stands at a place.
+fn place<'a>(alloc: Global, id: &'a str, value: &'a str, help: &'a str) -> Arg<'a>
+    ensures rule { rule_of result ≡ spec.place id.entry.now }
+    ensures local { result.global ≡ false }
+{
+    Arg::new(alloc, id).value_name(value).help(help)
+}
+
+/// An option with a value, below this heading of the help.
+fn option<'a>(
+    alloc: Global,
+    name: &'a str,
+    value: &'a str,
+    heading: &'a str,
+    help: &'a str,
+) -> Arg<'a>
+    ensures rule { rule_of result ≡ spec.option name.entry.now }
+    ensures local { result.global ≡ false }
+{
+    Arg::new(alloc, name)
+        .long(name)
+        .value_name(value)
+        .help_heading(heading)
+        .help(help)
+}
+
+/// An option that is given or not.
+fn flag<'a>(alloc: Global, name: &'a str, heading: &'a str, help: &'a str) -> Arg<'a>
+    ensures rule { rule_of result ≡ spec.flag name.entry.now }
+    ensures local { result.global ≡ false }
+{
+    Arg::new(alloc, name)
+        .long(name)
+        .help_heading(heading)
+        .help(help)
+        .action(ArgAction::SetTrue)
+}
+
+fn folder<'a>(alloc: Global) -> Arg<'a>
+    ensures rule { rule_of result ≡ spec.folder }
+    ensures local { result.global ≡ false }
+{
+    place(alloc, "folder", "FOLDER", FOLDER).required(true)
+}
+
+fn zone<'a>(alloc: Global) -> Arg<'a>
+    ensures rule { rule_of result ≡ spec.zone }
+    ensures local { result.global ≡ false }
+{
+    option(alloc, "zone", "Z", WHICH_ENTRIES, ZONE).default_value("UTC")
+}
+
+fn limit<'a>(alloc: Global) -> Arg<'a>
+    ensures rule { rule_of result ≡ spec.limit }
+    ensures local { result.global ≡ false }
+{
+    let numbers = clap::value_parser!(u32).range(1..);
+    option(alloc, "limit", "N", WHICH_ENTRIES, LIMIT).value_parser(numbers)
+}

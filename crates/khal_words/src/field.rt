@@ -1,0 +1,104 @@
+//! What the placeholders of formats name.
+ghost use Rattle.std.specs.Prelude.{◌≡◌, ◌≢◌, IfSome, IsNone, List, ℕ, true};
+ghost use Rattle.khal_words.specs.Formats.{entry_name, day_name, entry_names_plain, day_names_plain};
+
+/// What a placeholder names of an entry.
+#[derive(Clone, Copy, Debug, PartialEq, Eq)]
+pub enum EntryField {
+    /// The times in eleven columns.
+    Cell,
+    /// The event's title.
+    Title,
+    /// `HH:MM` by the display zone's clock, and nothing for an event of dates.
+    StartTime,
+    /// The same of its finish.
+    EndTime,
+    /// The display date of its start.
+    StartDate,
+    /// The display date of its finish; of an event of dates its last day.
+    EndDate,
+    Location,
+    Description,
+    Uid,
+    /// `CANCELLED ` for an event that is cancelled, and nothing for another.
+    Cancelled,
+}
+
+/// What a placeholder names of a day.
+#[derive(Clone, Copy, Debug, PartialEq, Eq)]
+pub enum DayField {
+    /// The weekday, `Monday` to `Sunday`.
+    Name,
+    /// `YYYY-MM-DD`.
+    Date,
+}
+
+/// What a placeholder can name.
+pub trait Placeholder: Copy {
+    ghost use Rattle.khal_words.specs.Formats.{is_plain};
+
+    /// Its name in a format.
+    ghost name: { Self → List ℕ };
+
+    /// What this text names, if it is a name.
+    fn named(text: &[u8]) -> Option<Self>
+        ensures some { IfSome result (λ field. text.now ≡ Self.name field) }
+        ensures none { IsNone result → (field : Self) → text.now ≢ Self.name field };
+
+    /// No name has a brace.
+    ghost plain: { (field : Self) → is_plain (name field) ≡ true };
+}
+
+impl Placeholder for EntryField {
+    ghost name = { entry_name };
+
+    fn named(text: &[u8]) -> Option<EntryField> {
+        if text == b"cell".as_slice() {
+            return Some(EntryField::Cell);
+        }
+        if text == b"title".as_slice() {
+            return Some(EntryField::Title);
+        }
+        if text == b"start-time".as_slice() {
+            return Some(EntryField::StartTime);
+        }
+        if text == b"end-time".as_slice() {
+            return Some(EntryField::EndTime);
+        }
+        if text == b"start-date".as_slice() {
+            return Some(EntryField::StartDate);
+        }
+        if text == b"end-date".as_slice() {
+            return Some(EntryField::EndDate);
+        }
+        if text == b"location".as_slice() {
+            return Some(EntryField::Location);
+        }
+        if text == b"description".as_slice() {
+            return Some(EntryField::Description);
+        }
+        if text == b"uid".as_slice() {
+            return Some(EntryField::Uid);
+        }
+        if text == b"cancelled".as_slice() {
+            return Some(EntryField::Cancelled);
+        }
+        None
+    }
+
+    ghost plain = { entry_names_plain };
+}
+
+impl Placeholder for DayField {
+    ghost name = { day_name };
+
+    fn named(text: &[u8]) -> Option<DayField> {
+        match text {
+            b"name" => Some(DayField::Name),
+            b"date" => Some(DayField::Date),
+            _ => None,
+        }
+    }
+
+    ghost plain = { day_names_plain };
+}
