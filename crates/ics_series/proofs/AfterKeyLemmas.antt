@@ -47,11 +47,11 @@ not-Less Less n = refl
 not-Less Equal n = refl
 not-Less Greater n = absurd (n refl)
 
-by-next : (a b next : ℤ) (c r : Ordering) → MatchOrdering c (a <ℤ b) (a ≡ b) (b <ℤ a) → (a ≡ b → is_lt r ≡ false) → (a <ℤ b → next ≤ℤ b) →
+by-next : {a b next : ℤ} (c r : Ordering) → MatchOrdering c (a <ℤ b) (a ≡ b) (b <ℤ a) → (a ≡ b → is_lt r ≡ false) → (a <ℤ b → next ≤ℤ b) →
     (b ≤ℤ a → b <ℤ next) → is_lt (ordering_then c r) ≡ int_le next b
-by-next a b next Less r h k low high = let l = low h in grind (arith, ints)
-by-next a b next Equal r h k low high = k h ∙ (let l = high (omega (arith, ints, h)) in grind (arith, ints))
-by-next a b next Greater r h k low high = let l = high (omega (arith, ints, h)) in grind (arith, ints)
+by-next Less r h k low high = let l = low h in grind (arith, ints)
+by-next Equal r h k low high = k h ∙ (let l = high (omega (arith, ints, h)) in grind (arith, ints))
+by-next Greater r h k low high = let l = high (omega (arith, ints, h)) in grind (arith, ints)
 
 -- with no key all come
 pub since-none : (after : Option Rank) (uid : List ℕ) → after ≡ None → IsSince after uid (neg_ℤ (pos 9_223_372_036_854_775_808))
@@ -79,5 +79,5 @@ pub since-next : {after : Option Rank} {key : Rank} (uid : List ℕ) {t : ℤ} �
 since-next {key = key} uid {t = t} a n e f = λ o u r low high.
     let k = saturated key.start t o.start e f (omega (arith, ints, high)) in
     ap (λ a. is_after a o) a
-    ∙ by-next key.start o.start t (int_cmp key.start o.start) (rest key o) (int_ranks key.start o.start) (λ s. ap is_lt (rest-turned key uid o u r s)
+    ∙ by-next (int_cmp key.start o.start) (rest key o) (int_ranks key.start o.start) (λ s. ap is_lt (rest-turned key uid o u r s)
     ∙ not-Less (turned key uid) n) k.0 k.1

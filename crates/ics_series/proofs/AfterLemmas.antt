@@ -17,44 +17,43 @@ use Rattle.ics_series.proofs.ListingLemmas.{before-in, not-both-less, not-less-i
 use Rattle.ics_series.proofs.PlacedLemmas.{in-append, in-append_right}
 use Rattle.ics_series.proofs.ToComeLemmas.{lt-Less}
 
-pub listing-after : (files : List FileSaid) (display : Clock) (w : Window) (key : Rank) (xs ys : List Entry) →
-    IsListing entry_cmp (IsListed files display w) xs → IsListing entry_cmp (IsToCome files display w (Some key)) ys
-    → ys ≡ filter (λ o. is_lt (rank_cmp key (rank_of o))) xs
-listing-after files display w key xs ys h k =
-    one-listing entry_cmp entry_total (IsToCome files display w (Some key)) ys (filter (λ o. is_lt (rank_cmp key (rank_of o))) xs) k
-    (listing-filter (λ o. is_lt (rank_cmp key (rank_of o))) entry_cmp (IsListed files display w) (IsToCome files display w (Some key)) xs h
-    (λ o l e. (l, lt-Less (rank_cmp key (rank_of o)) e)) (λ o t. (t.0, ap is_lt t.1)))
-
--- so too where there may be no key
-pub listing-after_key : (files : List FileSaid) (display : Clock) (w : Window) (after : Option Rank) (xs ys : List Entry) →
-    IsListing entry_cmp (IsListed files display w) xs → IsListing entry_cmp (IsToCome files display w after) ys
-    → ys ≡ after_key after xs
-listing-after_key files display w None xs ys h k = one-listing entry_cmp entry_total (IsListed files display w) ys xs k h
-listing-after_key files display w (Some key) xs ys h k = listing-after files display w key xs ys h k
-
 -- the end of a rising list rises, and what stands before it comes before it
 rises-end : (front back : List Entry) → Rises entry_cmp (front ++ back) → Rises entry_cmp back
 rises-end [] back r = r
 rises-end (x ∷ xs) back r = rises-end xs back r.1
 
-front-before : (front back : List Entry) (x y : Entry) → Rises entry_cmp (front ++ back) → IsIn x front → IsIn y back → entry_cmp x y ≡ Less
-front-before [] back x y r m n = absurd m
-front-before (z ∷ zs) back x y r m n =
-    ⊎_elim (λ e. ap (λ v. entry_cmp v y) e ∙ before-in entry_cmp entry_total z y (zs ++ back) r.0 (in-append_right y zs back n))
-    (λ k. front-before zs back x y r.1 k n) m
+front-before : (front behind : List Entry) (x o : Entry) → Rises entry_cmp (front ++ o ∷ behind) → IsIn x front → entry_cmp x o ≡ Less
+front-before [] behind x o r m = absurd m
+front-before (z ∷ zs) behind x o r m =
+    ⊎_elim
+    (λ e. ap (λ v. entry_cmp v o) e ∙ before-in entry_cmp entry_total z o (zs ++ o ∷ behind) r.0 (in-append_right o zs (o ∷ behind) (inl refl)))
+    (λ k. front-before zs behind x o r.1 k) m
 
-pub listing-behind : (files : List FileSaid) (display : Clock) (w : Window) (front : List Entry) (o : Entry) (behind ys : List Entry) →
-    IsListing entry_cmp (IsListed files display w) (front ++ o ∷ behind)
-    → IsListing entry_cmp (IsToCome files display w (Some (rank_of o))) ys → ys ≡ behind
-listing-behind files display w front o behind ys h k =
-    let end = rises-end front (o ∷ behind) h.rises in
-    one-listing entry_cmp entry_total (IsToCome files display w (Some (rank_of o))) ys behind k
-    (record {
-      rises = end.1;
-      exact = λ x. (
-        λ m. ((h.exact x).0 (in-append_right x front (o ∷ behind) (inr m)), before-in entry_cmp entry_total o x behind end.0 m),
-        λ t. ⊎_elim (λ m. absurd (not-both-less entry_cmp entry_total x o (front-before front (o ∷ behind) x o h.rises m (inl refl)) t.1))
-            (λ m. ⊎_elim (λ e. absurd (not-less-itself entry_cmp entry_total o (ap (entry_cmp o) (sym e) ∙ t.1))) (λ n. n) m)
-            (in-append x front (o ∷ behind) ((h.exact x).1 t.0)),
-      );
-    })
+module _ (files : List FileSaid) (display : Clock) (w : Window) where
+  pub listing-after : (key : Rank) (xs ys : List Entry) → IsListing entry_cmp (IsListed files display w) xs →
+      IsListing entry_cmp (IsToCome files display w (Some key)) ys → ys ≡ filter (λ o. is_lt (rank_cmp key (rank_of o))) xs
+  listing-after key xs ys h k =
+      one-listing entry_cmp entry_total (IsToCome files display w (Some key)) ys (filter (λ o. is_lt (rank_cmp key (rank_of o))) xs) k
+      (listing-filter (λ o. is_lt (rank_cmp key (rank_of o))) entry_cmp (IsListed files display w) (IsToCome files display w (Some key)) xs h
+      (λ o l e. (l, lt-Less (rank_cmp key (rank_of o)) e)) (λ o t. (t.0, ap is_lt t.1)))
+
+  -- so too where there may be no key
+  pub listing-after_key : (after : Option Rank) (xs ys : List Entry) → IsListing entry_cmp (IsListed files display w) xs →
+      IsListing entry_cmp (IsToCome files display w after) ys → ys ≡ after_key after xs
+  listing-after_key None xs ys h k = one-listing entry_cmp entry_total (IsListed files display w) ys xs k h
+  listing-after_key (Some key) xs ys h k = listing-after key xs ys h k
+
+  pub listing-behind : (front : List Entry) (o : Entry) (behind ys : List Entry) → IsListing entry_cmp (IsListed files display w) (front ++ o ∷ behind) →
+      IsListing entry_cmp (IsToCome files display w (Some (rank_of o))) ys → ys ≡ behind
+  listing-behind front o behind ys h k =
+      let end = rises-end front (o ∷ behind) h.rises in
+      one-listing entry_cmp entry_total (IsToCome files display w (Some (rank_of o))) ys behind k
+      (record {
+        rises = end.1;
+        exact = λ x. (
+          λ m. ((h.exact x).0 (in-append_right x front (o ∷ behind) (inr m)), before-in entry_cmp entry_total o x behind end.0 m),
+          λ t. ⊎_elim (λ m. absurd (not-both-less entry_cmp entry_total x o (front-before front behind x o h.rises m) t.1))
+              (λ m. ⊎_elim (λ e. absurd (not-less-itself entry_cmp entry_total o (ap (entry_cmp o) (sym e) ∙ t.1))) (λ n. n) m)
+              (in-append x front (o ∷ behind) ((h.exact x).1 t.0)),
+        );
+      })

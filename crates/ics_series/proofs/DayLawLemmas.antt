@@ -35,7 +35,8 @@ module _ {A : Type 0} (R : A → A → Ordering) (o : IsTotalOrder R) where
       ∙ ap ordering_reverse (before-in R o y x (ys ++ x ∷ behind) h.0 (in-append_right x ys (x ∷ behind) (inl refl))) in
       ap (λ c. cond (is_lt c) (y ∷ greater x (ys ++ x ∷ behind)) (greater x (ys ++ x ∷ behind))) after ∙ greater-behind ys x behind h.1
 
-pub day-listing-behind : (files : List FileSaid) (display : Clock) (w : Window) (front : List OnDay) (p : OnDay) (behind : List OnDay)
-    → IsListing on_day_cmp (IsOnDay files display w) (front ++ p ∷ behind) → after_day_key (Some (day_rank_of p)) (front ++ p ∷ behind) ≡ behind
-unfolding greater
-day-listing-behind files display w front p behind h = greater-behind on_day_cmp on_day_total front p behind h.rises
+module _ (files : List FileSaid) (display : Clock) (w : Window) where
+  pub day-listing-behind : (front : List OnDay) (p : OnDay) (behind : List OnDay) → IsListing on_day_cmp (IsOnDay files display w) (front ++ p ∷ behind)
+      → after_day_key (Some (day_rank_of p)) (front ++ p ∷ behind) ≡ behind
+  unfolding greater
+  day-listing-behind front p behind h = greater-behind on_day_cmp on_day_total front p behind h.rises

@@ -9,7 +9,7 @@ use Rattle.std.proofs.lemmas.List.Sums.{sum_by-cons}
 use Rattle.ics_series.specs.declared.window.Window.{Window}
 use Rattle.ics_series.specs.DayKeys.{DayRank}
 use Rattle.ics_series.specs.DayMasters.{day_and_start, masters_in, AreDayMasters, AreMasters, IsDayMaster, IsFromStart, IsNearAgenda, IsPastAgenda, Scope}
-use Rattle.ics_series.specs.DaySteps.{begin_day, first_under, most_in, sum_days, AreDayBounds, IsLookedBefore}
+use Rattle.ics_series.specs.DaySteps.{begin_day, first_under, most_in, sum_days, AreDayBounds, HasDaysBound, IsLookedBefore}
 use Rattle.ics_series.specs.Entry.{Entry, Rank}
 use Rattle.ics_series.specs.HeldMost.{Master}
 use Rattle.ics_series.specs.Listing.{IsIn}
@@ -125,13 +125,12 @@ module _ (s : Scope) (day : ℤ) (looked : ℕ) (before : IsLookedBefore s day l
       omega (arith, days, l)
 
   -- the days up to that of what is to come
-  pub steps-most : (last_near s.window <ℤ day → looked ≡ 0) → (list : List OnDay) → (day ≤ℤ last_near s.window → day ≤ℤ first_under s.window list)
-      → (masters : List Placed) (most : ℤ → Master → ℕ) (n : ℕ) → AreMasters s masters → ((d : ℤ) → AreDayBounds s masters d (most d))
-      → first_under s.window list <ℤ (begin_day s.window s.after +ℤ pos n) → looked + steps ≤ most_in s masters most n
-  steps-most past list reach masters most n all bounds l =
+  pub steps-most : (last_near s.window <ℤ day → looked ≡ 0) → (list : List OnDay) {bound : ℕ} → (day ≤ℤ last_near s.window → day ≤ℤ first_under s.window list)
+      → HasDaysBound s list bound → looked + steps ≤ bound
+  steps-most past list reach h =
       ⊎_elim
-      (λ near. let low = reach near in with-day masters most n all bounds (omega (arith, ints, low, l)))
-      (λ far. omega (arith, past far, none-past s day sources are rise coming steps few masters all far))
+      (λ near. let low = reach near in omega (arith, with-day h.masters h.most h.days h.are h.each (omega (arith, ints, low, h.reach)), h.is))
+      (λ far. omega (arith, past far, none-past s day sources are rise coming steps few h.masters h.are far))
       (sides day (last_near s.window))
 
 -- The first of what is to come stands under the day or a later one.

@@ -29,7 +29,7 @@ one-day-spelling a b h k e =
     let inner : signed_decimal a.day ++ (46 ∷ fields a.key) ≡ signed_decimal b.day ++ (46 ∷ fields b.key) = ap (drop 3) e in
     let wide = fits-wider a.day h.day in
     let wide-other = fits-wider b.day k.day in
-    let first = one-cut (signed_decimal a.day) (signed_decimal b.day) (fields a.key) (fields b.key) (no-point-list a.day wide) (no-point-list b.day wide-other)
+    let first = one-cut (fields a.key) (fields b.key) (signed_decimal a.day) (signed_decimal b.day) (no-point-list a.day wide) (no-point-list b.day wide-other)
     inner in
     same-day-rank a b (signed_decimal_injective a.day b.day wide.sfits wide-other.sfits first.0)
     (one-spelling a.key b.key h.is_key k.is_key (ap (λ t. codes "K1." ++ t) first.1))

@@ -56,13 +56,6 @@ or-moved false true false = refl
 or-moved false false true = refl
 or-moved false false false = refl
 
-pushed-by : (clock : Clock) (instants days : List ℤ) (moment t : ℤ) (past : Bool) → (past ≡ true → int_eq moment t ≡ false)
-    → takes_out clock (with_instant (not past) instants moment) days t ≡ (takes_out clock instants days t || int_eq moment t)
-pushed-by clock instants days moment t true h = sym (ap (λ b. takes_out clock instants days t || b) (h refl) ∙ or-false (takes_out clock instants days t))
-pushed-by clock instants days moment t false h =
-    ap (λ b. b || is_day_in clock days t) (list_any-append (λ x. int_eq x t) instants (moment ∷ []))
-    ∙ or-moved (list_any (λ x. int_eq x t) instants) (int_eq moment t) (is_day_in clock days t)
-
 later-false : (zones : FileZones) (w : Window) (time : Time) (t : ℤ) → t <ℤ w.to → is_past w time ≡ true → int_eq (instant (clocks_in zones) time) t ≡ false
 later-false zones w time t early past =
     let late = int_le_true (w.to +ℤ whole_days 2) (stamp_seconds time.stamp) past in
@@ -72,27 +65,33 @@ later-false zones w time t early past =
     unequal a b l = grind (arith, ints)
 
 -- the instant of a time takes out the start there, or lies past the window
-pub pushed-instant : (zones : FileZones) (w : Window) (clock : Clock) (instants days : List ℤ) {new : List ℤ} (time : Time) {t : ℤ} → t <ℤ w.to →
-    new ≡ with_instant (not (is_past w time)) instants (instant (clocks_in zones) time)
-    → takes_out clock new days t ≡ (takes_out clock instants days t || int_eq (instant (clocks_in zones) time) t)
-pushed-instant zones w clock instants days time {t = t} early e =
-    ap (λ xs. takes_out clock xs days t) e
-    ∙ pushed-by clock instants days (instant (clocks_in zones) time) t (is_past w time) (later-false zones w time t early)
+module _ (zones : FileZones) (w : Window) (clock : Clock) (instants days : List ℤ) where
+  pub pushed-instant : {new : List ℤ} (time : Time) {t : ℤ} → t <ℤ w.to → new ≡ with_instant (not (is_past w time)) instants (instant (clocks_in zones) time)
+      → takes_out clock new days t ≡ (takes_out clock instants days t || int_eq (instant (clocks_in zones) time) t)
+  pushed-instant time {t = t} early e =
+      ap (λ xs. takes_out clock xs days t) e ∙ by (instant (clocks_in zones) time) (is_past w time) (later-false zones w time t early)
+    where
+      by : (moment : ℤ) (past : Bool) → (past ≡ true → int_eq moment t ≡ false)
+          → takes_out clock (with_instant (not past) instants moment) days t ≡ (takes_out clock instants days t || int_eq moment t)
+      by moment true h = sym (ap (λ b. takes_out clock instants days t || b) (h refl) ∙ or-false (takes_out clock instants days t))
+      by moment false h =
+          ap (λ b. b || is_day_in clock days t) (list_any-append (λ x. int_eq x t) instants (moment ∷ []))
+          ∙ or-moved (list_any (λ x. int_eq x t) instants) (int_eq moment t) (is_day_in clock days t)
 
-excludes-time : (clocks : Clocks) (first exdate : Time) (s : Stamp) (t : ℤ) → ((day : ℤ) → s ≡ Date day → ⊥) →
-    excludes_time clocks first exdate s t ≡ int_eq (instant clocks exdate) t
-excludes-time clocks first exdate (Date day) t h = absurd (h day refl)
-excludes-time clocks first exdate (Floating local) t h = refl
-excludes-time clocks first exdate (Utc local) t h = refl
-excludes-time clocks first exdate (Zoned local) t h = refl
+module _ (clocks : Clocks) (first exdate : Time) where
+  excludes-time : (s : Stamp) (t : ℤ) → ((day : ℤ) → s ≡ Date day → ⊥) → excludes_time clocks first exdate s t ≡ int_eq (instant clocks exdate) t
+  excludes-time (Date day) t h = absurd (h day refl)
+  excludes-time (Floating local) t h = refl
+  excludes-time (Utc local) t h = refl
+  excludes-time (Zoned local) t h = refl
 
--- of date-times a time takes out the start at its instant
-pub excludes-instant : (clocks : Clocks) (first exdate : Time) (s : Stamp) (t : ℤ) → ((day : ℤ) → s ≡ Date day → ⊥) →
-    ((day : ℤ) → exdate.stamp ≡ Date day → ⊥) → excludes_by clocks first s exdate t ≡ int_eq (instant clocks exdate) t
-excludes-instant clocks first exdate (Date day) t h k = absurd (h day refl)
-excludes-instant clocks first exdate (Floating local) t h k = excludes-time clocks first exdate exdate.stamp t k
-excludes-instant clocks first exdate (Utc local) t h k = excludes-time clocks first exdate exdate.stamp t k
-excludes-instant clocks first exdate (Zoned local) t h k = excludes-time clocks first exdate exdate.stamp t k
+  -- of date-times a time takes out the start at its instant
+  pub excludes-instant : (s : Stamp) (t : ℤ) → ((day : ℤ) → s ≡ Date day → ⊥) → ((day : ℤ) → exdate.stamp ≡ Date day → ⊥)
+      → excludes_by clocks first s exdate t ≡ int_eq (instant clocks exdate) t
+  excludes-instant (Date day) t h k = absurd (h day refl)
+  excludes-instant (Floating local) t h k = excludes-time exdate.stamp t k
+  excludes-instant (Utc local) t h k = excludes-time exdate.stamp t k
+  excludes-instant (Zoned local) t h k = excludes-time exdate.stamp t k
 
 -- a sort takes nothing out and adds nothing
 pub sorted-takes_out : (clock : Clock) {instants days sorted rising : List ℤ} (t : ℤ) → IsPermutation instants sorted → IsPermutation days rising →

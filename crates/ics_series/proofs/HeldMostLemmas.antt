@@ -65,19 +65,19 @@ module _ (clocks : Clocks) (event : Event) (n : ℕ) where
     passes : test (number_in s.source) ≡ true
 
   -- starts at different instants are by different locals
-  apart : (test : ℕ → Bool) (s t : Start) → moment_cmp s t ≡ Less → IsBy test s → IsBy test t → number_in t.source ≡ number_in s.source → ⊥
-  apart test s t less a b e =
+  apart : {test : ℕ → Bool} (s t : Start) → moment_cmp s t ≡ Less → IsBy test s → IsBy test t → number_in t.source ≡ number_in s.source → ⊥
+  apart s t less a b e =
       let same : t ≡ s = b.by ∙ (ap (λ k. start_at clocks event (local_numbered k)) e ∙ sym a.by) in
       let moments = ap (λ (x : Start). x.moment) same in
       let before = int-less s.moment t.moment less in
       omega (arith, ints, moments, before)
 
-  without-first : (test : ℕ → Bool) (s t : Start) → moment_cmp s t ≡ Less → IsBy test s → IsBy test t → IsBy (without (number_in s.source) test) t
-  without-first test s t less a b = record {
+  without-first : {test : ℕ → Bool} (s t : Start) → moment_cmp s t ≡ Less → IsBy test s → IsBy test t → IsBy (without (number_in s.source) test) t
+  without-first {test = test} s t less a b = record {
     by = b.by;
     below = b.below;
     passes = and_from (test (number_in t.source)) (not (number_in t.source == number_in s.source)) b.passes
-        (not-same (number_in t.source == number_in s.source) (λ e. apart test s t less a b (eqb-true (number_in t.source) (number_in s.source) e)));
+        (not-same (number_in t.source == number_in s.source) (λ e. apart s t less a b (eqb-true (number_in t.source) (number_in s.source) e)));
   }
 
   -- so rising starts by locals that pass a test are no more than those locals
@@ -86,7 +86,7 @@ module _ (clocks : Clocks) (event : Event) (n : ℕ) where
   few-starts test (s ∷ starts) r are =
       let first = are s (inl refl) in
       let rest = few-starts (without (number_in s.source) test) starts r.1
-      (λ t m. without-first test s t (before-in moment_cmp moment_total s t starts r.0 m) first (are t (inr m))) in
+      (λ t m. without-first s t (before-in moment_cmp moment_total s t starts r.0 m) first (are t (inr m))) in
       omega (arith, rest, count-without n (number_in s.source) test first.below first.passes)
 
 greatest-most : (n k : ℕ) (f : ℕ → ℕ) → k < n → f k ≤ greatest n f

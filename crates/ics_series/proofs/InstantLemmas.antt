@@ -120,22 +120,6 @@ lasting-seconds clocks first duration (Floating local) h = refl
 lasting-seconds clocks first duration (Utc local) h = refl
 lasting-seconds clocks first duration (Zoned local) h = refl
 
--- Events without zones.
-end-within : (s e : Stamp) → IsEnd s e → is_zoned s ≡ false → is_zoned e ≡ false → stamp_seconds e ≤ℤ (stamp_seconds s +ℤ pos 3_155_760_000)
-end-within (Date a) (Date b) k z y = omega (arith, ints, k.short)
-end-within (Date a) (Floating b) k z y = absurd k
-end-within (Date a) (Utc b) k z y = absurd k
-end-within (Date a) (Zoned b) k z y = absurd k
-end-within (Floating a) (Date b) k z y = absurd k
-end-within (Floating a) (Floating b) k z y = omega (arith, ints, k.short)
-end-within (Floating a) (Utc b) k z y = absurd k
-end-within (Floating a) (Zoned b) k z y = absurd k
-end-within (Utc a) (Date b) k z y = absurd k
-end-within (Utc a) (Floating b) k z y = absurd k
-end-within (Utc a) (Utc b) k z y = omega (arith, ints, k.short)
-end-within (Utc a) (Zoned b) k z y = let f : true ≡ false = y in absurd cc
-end-within (Zoned a) e k z y = let f : true ≡ false = z in absurd cc
-
 -- the instant that a local means by its index
 zone-moment : (zones : List ZoneSaid) (index : ℕ) (local : Local) →
     (clock_at (map zone_clock zones) (Some index)).moment (local_seconds local) ≡ moment_by (slice_get zones index) local
@@ -148,11 +132,10 @@ module _ (zones : FileZones) where
   abbrev moment_of-stamp : Option ℕ → Stamp → ℤ
   moment_of-stamp index s = (clock_by (clocks_in zones) index s).moment (stamp_seconds s)
 
-  unzoned-near : (i j : Option ℕ) (s e : Stamp) → IsEnd s e → is_zoned s ≡ false → is_zoned e ≡ false →
+  written-near : (i j : Option ℕ) (s e : Stamp) → IsWithin (stamp_seconds s) (stamp_seconds e) →
       moment_of-stamp j e ≤ℤ (moment_of-stamp i s +ℤ whole_days 36_529)
-  unzoned-near i j s e k z y =
-      let within = end-within s e k z y in
-      omega (arith, ints, within, (near-clock zones i s).moment (stamp_seconds s), (near-clock zones j e).moment (stamp_seconds e))
+  written-near i j s e within =
+      omega (arith, ints, within.short, (near-clock zones i s).moment (stamp_seconds s), (near-clock zones j e).moment (stamp_seconds e))
 
   abbrev own : List ZoneSaid
   own = map zone_said zones.zones.now
@@ -160,44 +143,45 @@ module _ (zones : FileZones) where
   abbrev time_by : Option ℕ → Stamp → Time
   time_by index s = record { stamp = s; zone = index }
 
-  one-zone-near : (i j : Option ℕ) (a b : Local) → IsWithin (stamp_seconds (Zoned a)) (stamp_seconds (Zoned b)) →
-      moment_of-stamp j (Zoned b) ≤ℤ (moment_of-stamp i (Zoned a) +ℤ whole_days 36_529)
-  one-zone-near i j a b within =
-      omega (arith, ints, within.short, (near-clock zones i (Zoned a)).moment (local_seconds a), (near-clock zones j (Zoned b)).moment (local_seconds b))
+  -- the kinds, zones and reach of a start and its end
+  record AreOfEvent (i j : Option ℕ) (s e : Stamp) : Type 0 where
+    start : is_some i ≡ is_zoned s
+    end : is_some j ≡ is_zoned e
+    is_end : IsEnd s e
+    within : (is_some i || is_some j) ≡ true → IsWithin (compared (is_one_zone i j) own (time_by i s)) (compared (is_one_zone i j) own (time_by j e))
 
   zoned-near : (one : Bool) (x y : ℕ) (a b : Local) → IsWithin (compared one own (time_by (Some x) (Zoned a))) (compared one own (time_by (Some y) (Zoned b)))
       → moment_of-stamp (Some y) (Zoned b) ≤ℤ (moment_of-stamp (Some x) (Zoned a) +ℤ whole_days 36_529)
-  zoned-near true x y a b within = one-zone-near (Some x) (Some y) a b within
+  zoned-near true x y a b within = written-near (Some x) (Some y) (Zoned a) (Zoned b) within
   zoned-near false x y a b within = omega (arith, ints, within.short, zone-moment own x a, zone-moment own y b)
 
-  stamps-near : (i j : Option ℕ) (s e : Stamp) → is_some i ≡ is_zoned s → is_some j ≡ is_zoned e → IsEnd s e
-      → ((is_some i || is_some j) ≡ true → IsWithin (compared (is_one_zone i j) own (time_by i s)) (compared (is_one_zone i j) own (time_by j e))) →
-      moment_of-stamp j e ≤ℤ (moment_of-stamp i s +ℤ whole_days 36_529)
-  stamps-near i j (Date a) (Date b) p q k h = unzoned-near i j (Date a) (Date b) k refl refl
-  stamps-near i j (Date a) (Floating b) p q k h = absurd k
-  stamps-near i j (Date a) (Utc b) p q k h = absurd k
-  stamps-near i j (Date a) (Zoned b) p q k h = absurd k
-  stamps-near i j (Floating a) (Date b) p q k h = absurd k
-  stamps-near i j (Floating a) (Floating b) p q k h = unzoned-near i j (Floating a) (Floating b) k refl refl
-  stamps-near i j (Floating a) (Utc b) p q k h = absurd k
-  stamps-near i j (Floating a) (Zoned b) p q k h = absurd k
-  stamps-near i j (Utc a) (Date b) p q k h = absurd k
-  stamps-near i j (Utc a) (Floating b) p q k h = absurd k
-  stamps-near i j (Utc a) (Utc b) p q k h = unzoned-near i j (Utc a) (Utc b) k refl refl
-  stamps-near None (Some y) (Utc a) (Zoned b) p q k h = let short = (h refl).short in omega (arith, ints, short, zone-moment own y b)
-  stamps-near None None (Utc a) (Zoned b) p q k h = let f : false ≡ true = q in absurd cc
-  stamps-near (Some x) j (Utc a) (Zoned b) p q k h = let f : true ≡ false = p in absurd cc
-  stamps-near i j (Zoned a) (Date b) p q k h = absurd k
-  stamps-near i j (Zoned a) (Floating b) p q k h = absurd k
-  stamps-near (Some x) None (Zoned a) (Utc b) p q k h = let short = (h refl).short in omega (arith, ints, short, zone-moment own x a)
-  stamps-near (Some x) (Some y) (Zoned a) (Utc b) p q k h = let f : true ≡ false = q in absurd cc
-  stamps-near None j (Zoned a) (Utc b) p q k h = let f : false ≡ true = p in absurd cc
-  stamps-near (Some x) (Some y) (Zoned a) (Zoned b) p q k h = zoned-near (x == y) x y a b (h refl)
-  stamps-near (Some x) None (Zoned a) (Zoned b) p q k h = let f : false ≡ true = q in absurd cc
-  stamps-near None j (Zoned a) (Zoned b) p q k h = let f : false ≡ true = p in absurd cc
+  stamps-near : (i j : Option ℕ) (s e : Stamp) → AreOfEvent i j s e → moment_of-stamp j e ≤ℤ (moment_of-stamp i s +ℤ whole_days 36_529)
+  stamps-near i j (Date a) (Date b) of = written-near i j (Date a) (Date b) of.is_end
+  stamps-near i j (Date a) (Floating b) of = absurd of.is_end
+  stamps-near i j (Date a) (Utc b) of = absurd of.is_end
+  stamps-near i j (Date a) (Zoned b) of = absurd of.is_end
+  stamps-near i j (Floating a) (Date b) of = absurd of.is_end
+  stamps-near i j (Floating a) (Floating b) of = written-near i j (Floating a) (Floating b) of.is_end
+  stamps-near i j (Floating a) (Utc b) of = absurd of.is_end
+  stamps-near i j (Floating a) (Zoned b) of = absurd of.is_end
+  stamps-near i j (Utc a) (Date b) of = absurd of.is_end
+  stamps-near i j (Utc a) (Floating b) of = absurd of.is_end
+  stamps-near i j (Utc a) (Utc b) of = written-near i j (Utc a) (Utc b) of.is_end
+  stamps-near None (Some y) (Utc a) (Zoned b) of = let short = (of.within refl).short in omega (arith, ints, short, zone-moment own y b)
+  stamps-near None None (Utc a) (Zoned b) of = let f : false ≡ true = of.end in absurd cc
+  stamps-near (Some x) j (Utc a) (Zoned b) of = let f : true ≡ false = of.start in absurd cc
+  stamps-near i j (Zoned a) (Date b) of = absurd of.is_end
+  stamps-near i j (Zoned a) (Floating b) of = absurd of.is_end
+  stamps-near (Some x) None (Zoned a) (Utc b) of = let short = (of.within refl).short in omega (arith, ints, short, zone-moment own x a)
+  stamps-near (Some x) (Some y) (Zoned a) (Utc b) of = let f : true ≡ false = of.end in absurd cc
+  stamps-near None j (Zoned a) (Utc b) of = let f : false ≡ true = of.start in absurd cc
+  stamps-near (Some x) (Some y) (Zoned a) (Zoned b) of = zoned-near (x == y) x y a b (of.within refl)
+  stamps-near (Some x) None (Zoned a) (Zoned b) of = let f : false ≡ true = of.end in absurd cc
+  stamps-near None j (Zoned a) (Zoned b) of = let f : false ≡ true = of.start in absurd cc
 
   pub ends-near : (first : Time) (length : Length) → IsTime first → IsLength first.stamp length → EndsWithin own first length →
       EndsNear (clocks_in zones) first length
   ends-near first Open t l h = tt
   ends-near first (Lasting duration) t l h = tt
-  ends-near first (Until end) t l h = stamps-near first.zone end.zone first.stamp end.stamp t.zone l.0.zone l.1 h
+  ends-near first (Until end) t l h =
+      stamps-near first.zone end.zone first.stamp end.stamp (record { start = t.zone; end = l.0.zone; is_end = l.1; within = h })

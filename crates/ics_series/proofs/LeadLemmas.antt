@@ -68,12 +68,9 @@ map-map f g (x ∷ xs) = ap (λ ys. f (g x) ∷ ys) (map-map f g xs)
 later : (a b : ℕ) → b < a → nat_cmp a b ≡ Greater
 later a b h = grind (arith, nat_tests)
 
--- the last given comes before what is not given
-given-before-by : (p e : Entry) (rest : List Entry) (c : Ordering) → entry_cmp p e ≡ c → is_eq c ≡ false →
-    IsBefore entry_cmp p (by_order c (e ∷ rest) rest (e ∷ rest)) → entry_cmp p e ≡ Less
-given-before-by p e rest Less q n h = q
-given-before-by p e rest Equal q n h = cc
-given-before-by p e rest Greater q n h = h.0
+-- no lead goes before this one, by what they hold
+abbrev pub GoesFirst : List (Option Entry) → ℕ → ℕ → Type 0
+GoesFirst heads leads first = (lead : ℕ) → lead < leads → is_gt (lead_cmp heads first lead) ≡ false
 
 -- leads, by what they hold and what is left behind it
 module _ {X : Type 0} (head : X → Option Occurrence) (rest : X → List Entry) (ahead : (x : X) → IsAhead (head x) (rest x)) where
@@ -103,8 +100,7 @@ module _ {X : Type 0} (head : X → Option Occurrence) (rest : X → List Entry)
       ap (λ l. union entry_cmp l (merged entry_cmp (map (λ y. past last (listed (head y) (rest y))) xs))) (past-nothing last (head x) (rest x) (ahead x) (h 0))
       ∙ merged-nothing last xs (λ i. h (suc i))
 
-  module _ (xs : List X) (first : ℕ)
-      (wins : (lead : ℕ) → lead < length xs → is_gt (lead_cmp (map (λ x. option_map entry_of (head x)) xs) first lead) ≡ false) where
+  module _ (xs : List X) (first : ℕ) (wins : GoesFirst (map (λ x. option_map entry_of (head x)) xs) (length xs) first) where
     -- where the first lead holds nothing, no lead does
     pub nothing-comes : (last : Option Occurrence) → get_or (map (λ x. option_map entry_of (head x)) xs) first None ≡ None
         → merged entry_cmp (map (λ x. past last (listed (head x) (rest x))) xs) ≡ []
@@ -150,9 +146,15 @@ module _ {X : Type 0} (head : X → Option Occurrence) (rest : X → List Entry)
     fresh-after rises p e is fresh follows =
         let lists : List (List Entry) = map (λ x. listed (head x) (rest x)) xs in
         let found : IsHeaded (Some e) (get_or lists first []) = subst (λ h. IsHeaded h (get_or lists first [])) is (headed xs first) in
-        given-before-by (entry_of p) e found.0 (entry_cmp (entry_of p) e) refl fresh
+        by found.0 (entry_cmp (entry_of p) e) refl fresh
         (subst (λ l. IsBefore entry_cmp (entry_of p) (cut entry_cmp (entry_of p) l)) found.1.0
         (front-at entry_cmp entry_total (entry_of p) lists first follows))
+      where
+        by : (rest : List Entry) (c : Ordering) → entry_cmp (entry_of p) e ≡ c → is_eq c ≡ false →
+            IsBefore entry_cmp (entry_of p) (by_order c (e ∷ rest) rest (e ∷ rest)) → entry_cmp (entry_of p) e ≡ Less
+        by rest Less q n h = q
+        by rest Equal q n h = cc
+        by rest Greater q n h = h.0
 
     uncut-fresh : ((x : X) → Rises entry_cmp (rest x)) → (last : Option Occurrence) (e : Entry) →
         get_or (map (λ x. option_map entry_of (head x)) xs) first None ≡ Some e
@@ -209,9 +211,8 @@ shorter-drawn (Some p) (Some o) rest g = omega arith
 
 -- no lead goes before the winner of all
 pub wins-leads : {X : Type 0} (head : X → Option Occurrence) (xs : List X) (winners : List ℕ) → length winners ≡ length xs
-    → AreSettled (map (λ x. option_map entry_of (head x)) xs) winners
-    → (lead : ℕ) → lead < length xs → is_gt (lead_cmp (map (λ x. option_map entry_of (head x)) xs) (winner winners 1) lead) ≡ false
-wins-leads head xs winners long settled lead l = wins (map (λ x. option_map entry_of (head x)) xs) winners settled lead (omega arith)
+    → AreSettled (map (λ x. option_map entry_of (head x)) xs) winners → GoesFirst (map (λ x. option_map entry_of (head x)) xs) (length xs) (winner winners 1)
+wins-leads head xs winners long settled = λ lead l. wins (map (λ x. option_map entry_of (head x)) xs) winners settled lead (omega arith)
 
 -- what a vector has after its elements were lent as a slice of the same length
 pub written-back : {X : Type 0} (before after : List X) (n : ℕ) → n ≡ length before → length after ≡ length before →

@@ -50,37 +50,25 @@ before-merged : (p : Entry) (lists : List (List Entry)) → AllByRecursion (IsBe
 before-merged p [] h = tt
 before-merged p (x ∷ xs) h = before-union entry_cmp entry_total p x (merged entry_cmp xs) h.0 (before-merged p xs h.1)
 
--- what is still to come of a merge is not cut off a list
-uncut-in : (last : Option Occurrence) (lists : List (List Entry)) (o : Entry) (list : List Entry) → ComeAfter last lists → IsIn o (merged entry_cmp lists) →
-    IsIn o list → IsIn o (past last list)
-uncut-in None lists o list follows there m = m
-uncut-in (Some p) lists o list follows there m =
-    let less = before-in entry_cmp entry_total (entry_of p) o (merged entry_cmp lists) (before-merged (entry_of p) lists follows) there in
-    member-cut entry_cmp entry_total (entry_of p) o list (λ tied. not-both (entry_cmp (entry_of p) o) less tied) m
-  where
-    not-both : (c : Ordering) → c ≡ Less → c ≡ Equal → ⊥
-    not-both c l t = let f : Less ≡ Equal = sym l ∙ t in absurd cc
-
 -- leads, by what they hold, what is left behind it and how far they have been read
 module _ {X : Type 0} (head : X → Option Occurrence) (rest : X → List Entry) (N : X → Entry → Type 0) where
   abbrev IsLeadNear : Option Occurrence → X → Type 0
   IsLeadNear last x = AreNear (N x) (past last (listed (head x) (rest x)))
 
   -- where one of them has drawn what was given, or could not
-  pub near-drawn : (last : Option Occurrence) (xs : List X) (i : ℕ) (old new : X) → listed (head new) (rest new) ≡ rest old → AreNear (N new) (rest old) →
-      AllByRecursion (IsLeadNear last) xs
-      → AllByRecursion (IsLeadNear last) (set xs i new)
-  near-drawn last xs i old new drawn near all =
-      all-set (IsLeadNear last) xs i new all (λ o m. near o (past-in last o (rest old) (subst (λ l. IsIn o (past last l)) drawn m)))
+  module _ (last : Option Occurrence) (xs : List X) (i : ℕ) (old new : X) where
+    pub near-drawn : listed (head new) (rest new) ≡ rest old → AreNear (N new) (rest old) → AllByRecursion (IsLeadNear last) xs
+        → AllByRecursion (IsLeadNear last) (set xs i new)
+    near-drawn drawn near all =
+        all-set (IsLeadNear last) xs i new all (λ o m. near o (past-in last o (rest old) (subst (λ l. IsIn o (past last l)) drawn m)))
 
-  pub near-kept : (last : Option Occurrence) (xs : List X) (i : ℕ) (old new : X) → head new ≡ head old → rest new ≡ rest old → IsAhead (head old) (rest old) →
-      is_given last (option_map entry_of (head old)) ≡ true
-      → AreNear (N new) (rest old) → AllByRecursion (IsLeadNear last) xs → AllByRecursion (IsLeadNear last) (set xs i new)
-  near-kept last xs i old new same left ahead given near all =
-      let is : past last (listed (head new) (rest new)) ≡ past last (rest old) =
-      ap (λ h. past last (listed h (rest new))) same
-      ∙ (ap (λ l. past last (listed (head old) l)) left ∙ sym (past-drawn last (head old) (rest old) ahead given)) in
-      all-set (IsLeadNear last) xs i new all (λ o m. near o (past-in last o (rest old) (subst (IsIn o) is m)))
+    pub near-kept : head new ≡ head old → rest new ≡ rest old → IsAhead (head old) (rest old) → is_given last (option_map entry_of (head old)) ≡ true
+        → AreNear (N new) (rest old) → AllByRecursion (IsLeadNear last) xs → AllByRecursion (IsLeadNear last) (set xs i new)
+    near-kept same left ahead given near all =
+        let is : past last (listed (head new) (rest new)) ≡ past last (rest old) =
+        ap (λ h. past last (listed h (rest new))) same
+        ∙ (ap (λ l. past last (listed (head old) l)) left ∙ sym (past-drawn last (head old) (rest old) ahead given)) in
+        all-set (IsLeadNear last) xs i new all (λ o m. near o (past-in last o (rest old) (subst (IsIn o) is m)))
 
   same-head : {A : Type 0} (a b : A) (xs ys : List A) → a ∷ xs ≡ b ∷ ys → (a ≡ b) × (xs ≡ ys)
   same-head a b xs ys e = (cc, cc)
@@ -111,10 +99,18 @@ module _ {X : Type 0} (head : X → Option Occurrence) (rest : X → List Entry)
       → AllByRecursion (IsLeadNear last) xs → AllByRecursion (λ x. HasNear (N x) (listed (head x) (rest x)) o) xs
   near-to_come last o xs follows there = each xs
     where
+      not-both : (c : Ordering) → c ≡ Less → c ≡ Equal → ⊥
+      not-both c l t = let f : Less ≡ Equal = sym l ∙ t in absurd cc
+
+      -- it is not cut off a list
+      uncut : (given : Option Occurrence) → ComeAfter given (map (λ x. past last (listed (head x) (rest x))) xs) → (list : List Entry) → IsIn o list →
+          IsIn o (past given list)
+      uncut None come list m = m
+      uncut (Some p) come list m =
+          let lists : List (List Entry) = map (λ x. past last (listed (head x) (rest x))) xs in
+          let less = before-in entry_cmp entry_total (entry_of p) o (merged entry_cmp lists) (before-merged (entry_of p) lists come) there in
+          member-cut entry_cmp entry_total (entry_of p) o list (not-both (entry_cmp (entry_of p) o) less) m
+
       each : (ys : List X) → AllByRecursion (IsLeadNear last) ys → AllByRecursion (λ x. HasNear (N x) (listed (head x) (rest x)) o) ys
       each [] h = tt
-      each (y ∷ ys) h = (
-        λ m. h.0 o (uncut-in last (map (λ x. past last (listed (head x) (rest x))) xs) o (listed (head y) (rest y)) follows there m),
-        each ys
-            h.1,
-      )
+      each (y ∷ ys) h = (λ m. h.0 o (uncut last follows (listed (head y) (rest y)) m), each ys h.1)

@@ -51,11 +51,13 @@ module _ {A : Type 0} (R : A → A → Ordering) (o : IsTotalOrder R) where
       ∙ ap (λ zs. s ∷ zs) (ap (λ zs. union R zs ys) (sym (cut-before R o s (x ∷ xs) before)) ∙ ap (union R (cut R s (x ∷ xs))) (sym (cut-own s ys)))
 
   -- what is not after the first of a rising list comes before all of it but for one of its key
-  pub not-after-front : (x y : A) (ys : List A) (c : Ordering) → R x y ≡ c → (c ≡ Greater → ⊥) → Rises R (y ∷ ys) →
-      IsBefore R x (by_order c (y ∷ ys) ys (y ∷ ys))
-  not-after-front x y ys Less e n r = (e, before-trans R o x y ys e r.0)
-  not-after-front x y ys Equal e n r = before-tied R o x y ys e r.0
-  not-after-front x y ys Greater e n r = absurd (n refl)
+  pub not-after-front : (x y : A) (ys : List A) → (R x y ≡ Greater → ⊥) → Rises R (y ∷ ys) → IsBefore R x (cut R x (y ∷ ys))
+  not-after-front x y ys n r = by (R x y) refl
+    where
+      by : (c : Ordering) → R x y ≡ c → IsBefore R x (by_order c (y ∷ ys) ys (y ∷ ys))
+      by Less e = (e, before-trans R o x y ys e r.0)
+      by Equal e = before-tied R o x y ys e r.0
+      by Greater e = absurd (n e)
 
 -- Of the first of both kinds the earlier one is taken.
 taken-some : (s : Start) (xs ys : List Start) → union moment_cmp xs ys ≡ s ∷ union moment_cmp (cut moment_cmp s xs) (cut moment_cmp s ys) → (t : Start) →
@@ -86,7 +88,7 @@ first-taken (x ∷ xs) (y ∷ ys) s r k e = by (int_lt y.moment x.moment) refl e
     by true t e = taken-some y (x ∷ xs) (y ∷ ys) (begins-second moment_cmp moment_total y x xs ys r (less-by x y t)) s e
     by false f e =
         taken-some x (x ∷ xs) (y ∷ ys)
-        (begins-first moment_cmp moment_total x xs (y ∷ ys) r (not-after-front moment_cmp moment_total x y ys (moment_cmp x y) refl (not-greater-by x y f) k)) s
+        (begins-first moment_cmp moment_total x xs (y ∷ ys) r (not-after-front moment_cmp moment_total x y ys (not-greater-by x y f) k)) s
         e
 
 pub none-taken : (xs ys : List Start) → earlier_of (slice_get xs 0) (slice_get ys 0) ≡ None → union moment_cmp xs ys ≡ []

@@ -25,9 +25,8 @@ module _ {A : Type 0} (R : A → A → Ordering) (o : IsTotalOrder R) where
       ⊎_elim (λ e. e) (λ a. ⊎_elim (λ e. sym e) (λ b. absurd (not-both-less x y (before-in x y xs h b) (before-in y x ys k a))) n) m
 
   -- what stands behind the first is not the first
-  tail-in : {x y : A} (e : A) (xs ys : List A) → x ≡ y → IsBefore R x xs → IsIn e xs → IsIn e (y ∷ ys) → IsIn e ys
-  tail-in {x = x} e xs ys s h m n =
-      ⊎_elim (λ p. absurd (not-less-itself x (ap (R x) (s ∙ sym p) ∙ before-in x e xs h m))) (λ k. k) n
+  tail-in : {x y : A} (e : A) (ys : List A) → x ≡ y → R x e ≡ Less → IsIn e (y ∷ ys) → IsIn e ys
+  tail-in {x = x} e ys s l n = ⊎_elim (λ p. absurd (not-less-itself x (ap (R x) (s ∙ sym p) ∙ l))) (λ k. k) n
 
   pub one-rising : (xs ys : List A) → Rises R xs → Rises R ys → ((e : A) → IsIn e xs → IsIn e ys) → ((e : A) → IsIn e ys → IsIn e xs) → xs ≡ ys
   one-rising [] [] h k f g = refl
@@ -36,8 +35,8 @@ module _ {A : Type 0} (R : A → A → Ordering) (o : IsTotalOrder R) where
   one-rising (x ∷ xs) (y ∷ ys) h k f g =
       let same : x ≡ y = same-first xs ys h.0 k.0 (f x (inl refl)) (g y (inl refl)) in
       let rest : xs ≡ ys = one-rising xs ys h.1 k.1
-      (λ e m. tail-in e xs ys same h.0 m (f e (inr m)))
-      (λ e m. tail-in e ys xs (sym same) k.0 m (g e (inr m))) in
+      (λ e m. tail-in e ys same (before-in x e xs h.0 m) (f e (inr m)))
+      (λ e m. tail-in e xs (sym same) (before-in y e ys k.0 m) (g e (inr m))) in
       cc
 
   -- there is one listing at most

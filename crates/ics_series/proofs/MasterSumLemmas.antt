@@ -144,8 +144,9 @@ searched-masters s {day = day} after near from (m ∷ ms) h = (
   searched-masters s after near from ms h.1,
 )
 
-pub most-of-masters : (files : List FileSaid) (display : Clock) (w : Window) (after : Option Rank) (sources : List Source) (masters : List Placed) →
-    AreSources files display w after sources → IsListing (by_subject files display) (IsMaster files display) masters
-    → held_most (map master_of (recurring sources)) ≤ held_most (map (master_at files display) masters)
-most-of-masters files display w after sources masters are all =
-    held-of-masters files display (recurring sources) masters are.apart.1.1 (masters-of files display w after (recurring sources) are.each) all
+module _ (files : List FileSaid) (display : Clock) (w : Window) (after : Option Rank) where
+  pub most-of-masters : (sources : List Source) (masters : List Placed) → AreSources files display w after sources →
+      IsListing (by_subject files display) (IsMaster files display) masters
+      → held_most (map master_of (recurring sources)) ≤ held_most (map (master_at files display) masters)
+  most-of-masters sources masters are all =
+      held-of-masters files display (recurring sources) masters are.apart.1.1 (masters-of files display w after (recurring sources) are.each) all

@@ -19,7 +19,7 @@ use Rattle.ics_series.specs.Meeting.{entry_from, is_met}
 use Rattle.ics_series.specs.Meets.{Meets, IsEventMet}
 use Rattle.ics_series.specs.Starts.{time_of, GivesStart, IsNotAfter}
 use Rattle.ics_series.proofs.FirstLemmas.{moment_total, same-moment}
-use Rattle.ics_series.proofs.StartSourceLemmas.{same-first}
+use Rattle.ics_series.proofs.StartSourceLemmas.{same-given, same-source}
 use Rattle.ics_series.proofs.ListingLemmas.{before-in}
 use Rattle.ics_series.proofs.MasterLemmas.{same-entry}
 use Rattle.ics_series.proofs.MeetingLemmas.{shown-met}
@@ -69,17 +69,18 @@ picked clocks event test starts =
     filter_map (λ s. if test (entry_from clocks event s.given) then Some (entry_from clocks event s.given) else None) starts
 
 -- of a strictly rising list two that tie are one
-one-of-tied : (x y : Start) (xs : List Start) → Rises moment_cmp xs → IsIn x xs → IsIn y xs → x.moment ≡ y.moment → x ≡ y
-one-of-tied x y [] r m n e = absurd m
-one-of-tied x y (z ∷ zs) r m n e =
-    ⊎_elim
-    (λ a. ⊎_elim (λ b. a ∙ sym b) (λ b. absurd (untied z y (before-in moment_cmp moment_total z y zs r.0 b) (ap (λ s. s.moment) (sym a) ∙ e))) n)
-    (λ a. ⊎_elim (λ b. absurd (untied z x (before-in moment_cmp moment_total z x zs r.0 a) (ap (λ s. s.moment) (sym b) ∙ sym e)))
-    (λ b. one-of-tied x y zs r.1 a b e) n)
-    m
-  where
-    untied : (s t : Start) → moment_cmp s t ≡ Less → s.moment ≡ t.moment → ⊥
-    untied s t l f = let q = same-moment s t f in cc
+untied : (s t : Start) → moment_cmp s t ≡ Less → s.moment ≡ t.moment → ⊥
+untied s t l f = let q = same-moment s t f in cc
+
+module _ (x y : Start) (same : x.moment ≡ y.moment) where
+  one-of-tied : (xs : List Start) → Rises moment_cmp xs → IsIn x xs → IsIn y xs → x ≡ y
+  one-of-tied [] r m n = absurd m
+  one-of-tied (z ∷ zs) r m n =
+      ⊎_elim
+      (λ a. ⊎_elim (λ b. a ∙ sym b) (λ b. absurd (untied z y (before-in moment_cmp moment_total z y zs r.0 b) (ap (λ s. s.moment) (sym a) ∙ same))) n)
+      (λ a. ⊎_elim (λ b. absurd (untied z x (before-in moment_cmp moment_total z x zs r.0 a) (ap (λ s. s.moment) (sym b) ∙ sym same)))
+      (λ b. one-of-tied zs r.1 a b) n)
+      m
 
 module _ (clocks : Clocks) (event : Event) (test : Entry → Bool) where
   -- the occurrence with a start
@@ -138,28 +139,27 @@ module _ (clocks : Clocks) (event : Event) (test : Entry → Bool) where
     pub is : e ≡ entry_from clocks event start.given
     pub passes : test e ≡ true
 
-  in-added : (b : Bool) (s : Start) (ss : List Start) (es : List Entry) (e : Entry) → test (own s) ≡ b → (IsIn e es → IsPicked ss e) → IsIn e (added b s es) →
-      IsPicked (s ∷ ss) e
-  unfolding own added
-  in-added true s ss es e t ih m =
-      ⊎_elim (λ a. record { start = s; stands = inl refl; is = a; passes = ap test a ∙ t })
-      (λ n. let k = ih n in record { start = k.start; stands = inr k.stands; is = k.is; passes = k.passes }) m
-  in-added false s ss es e t ih m = let k = ih m in record { start = k.start; stands = inr k.stands; is = k.is; passes = k.passes }
-
   pub in-picked : (ss : List Start) (e : Entry) → IsIn e (picked clocks event test ss) → IsPicked ss e
+  unfolding own added
   in-picked [] e m = absurd m
-  in-picked (s ∷ ss) e m = in-added (test (own s)) s ss (picked clocks event test ss) e refl (in-picked ss e) (subst (IsIn e) (picked-cons s ss) m)
-
-  added-in : (b : Bool) (s t : Start) (ss : List Start) (es : List Entry) → test (own s) ≡ b → test (own t) ≡ true → (IsIn t ss → IsIn (own t) es) →
-      IsIn t (s ∷ ss) → IsIn (own t) (added b s es)
-  unfolding added
-  added-in true s t ss es e u ih m = ⊎_elim (λ a. inl (ap own a)) (λ n. inr (ih n)) m
-  added-in false s t ss es e u ih m = ⊎_elim (λ a. let f : true ≡ false = sym u ∙ (ap (λ x. test (own x)) a ∙ e) in absurd cc) ih m
+  in-picked (s ∷ ss) e m = by (test (own s)) refl (in-picked ss e) (subst (IsIn e) (picked-cons s ss) m)
+    where
+      by : (b : Bool) → test (own s) ≡ b → (IsIn e (picked clocks event test ss) → IsPicked ss e) → IsIn e (added b s (picked clocks event test ss)) →
+          IsPicked (s ∷ ss) e
+      by true t ih m =
+          ⊎_elim (λ a. record { start = s; stands = inl refl; is = a; passes = ap test a ∙ t })
+          (λ n. let k = ih n in record { start = k.start; stands = inr k.stands; is = k.is; passes = k.passes }) m
+      by false t ih m = let k = ih m in record { start = k.start; stands = inr k.stands; is = k.is; passes = k.passes }
 
   picked-in : (t : Start) (ss : List Start) → test (own t) ≡ true → IsIn t ss → IsIn (own t) (picked clocks event test ss)
+  unfolding added
   picked-in t [] u m = absurd m
-  picked-in t (s ∷ ss) u m =
-      subst (IsIn (own t)) (sym (picked-cons s ss)) (added-in (test (own s)) s t ss (picked clocks event test ss) refl u (picked-in t ss u) m)
+  picked-in t (s ∷ ss) u m = subst (IsIn (own t)) (sym (picked-cons s ss)) (by (test (own s)) refl (picked-in t ss u) m)
+    where
+      by : (b : Bool) → test (own s) ≡ b → (IsIn t ss → IsIn (own t) (picked clocks event test ss)) → IsIn t (s ∷ ss) →
+          IsIn (own t) (added b s (picked clocks event test ss))
+      by true e ih m = ⊎_elim (λ a. inl (ap own a)) (λ n. inr (ih n)) m
+      by false e ih m = ⊎_elim (λ a. let f : true ≡ false = sym u ∙ (ap (λ x. test (own x)) a ∙ e) in absurd cc) ih m
 
   -- they are what P holds of, if it holds exactly of those that pass
   pub listing-picked : (P : Entry → Type 0) (ss : List Start) → Rises moment_cmp ss → ((s : Start) → IsIn s ss → IsStart clocks event s)
@@ -201,7 +201,7 @@ module _ (clocks : Clocks) (w : Window) (event : Event) (starts : List Start) (C
             starts = refl;
             earliest = λ other value g e.
                 let found = all other value g (subst (IsSought clocks event w) (sym e) sought) (subst Counts (sym e) counts) in
-                let same : found.start ≡ s = one-of-tied found.start s starts rises found.stands m (found.same ∙ (e ∙ sym start.moment)) in
+                let same : found.start ≡ s = one-of-tied found.start s (found.same ∙ (e ∙ sym start.moment)) starts rises found.stands m in
                 subst (λ x. IsNotAfter x.source other) same found.earlier;
             ends = refl;
             stays = shown.1;
@@ -222,5 +222,5 @@ module _ (clocks : Clocks) (w : Window) (event : Event) (starts : List Start) (C
         found.start,
         found.stands,
         by ∙ ap (entry_from clocks event)
-            (same-first clocks event of.source found.start.source of.given found.start.given of.gives start.gives above found.earlier),
+            (same-given clocks event of.given found.start.given (same-source of.source found.start.source above found.earlier) of.gives start.gives),
       )

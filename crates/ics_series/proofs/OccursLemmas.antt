@@ -56,10 +56,10 @@ module _ (files : List FileSaid) (display : Clock) where
       same = sym (ap (λ v. v.uid) k.of.event) ∙ sym u;
     })
 
-pub one-recurrence : (files : List FileSaid) (display : Clock) (o q : Entry) → Occurs files display o → Occurs files display q → o.event.uid ≡ q.event.uid →
-    o.recurrence ≡ q.recurrence → o ≡ q
-one-recurrence files display o q h k u r =
-    ⊎_elim
-    (λ a. ⊎_elim (λ b. both-masters files display o q u r a b) (λ b. absurd (not-both files display o q u r a b)) k)
-    (λ a. ⊎_elim (λ b. absurd (not-both files display q o (sym u) (sym r) b a)) (λ b. both-overrides files display o q u r a b) k)
-    h
+module _ (files : List FileSaid) (display : Clock) where
+  pub one-recurrence : (o q : Entry) → Occurs files display o → Occurs files display q → o.event.uid ≡ q.event.uid → o.recurrence ≡ q.recurrence → o ≡ q
+  one-recurrence o q h k u r =
+      ⊎_elim
+      (λ a. ⊎_elim (λ b. both-masters files display o q u r a b) (λ b. absurd (not-both files display o q u r a b)) k)
+      (λ a. ⊎_elim (λ b. absurd (not-both files display q o (sym u) (sym r) b a)) (λ b. both-overrides files display o q u r a b) k)
+      h

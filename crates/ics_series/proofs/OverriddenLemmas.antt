@@ -173,13 +173,13 @@ module _ (uid : List ℕ) where
       (λ x z y v p q e f l. instances-rise x z e f l) vs (λ x m. tt) r)
 
 -- The loop over the versions behind a master.
-pub found-step : (uid : List ℕ) (behind : List Version) (i : ℕ) (d : Version) (before : List ℤ) {after total : List ℤ} {t : ℤ} → i < length behind →
-    instance_of uid (subject_seen (get_or behind i d).subject) ≡ Some t → after ≡ before ++ t ∷ []
-    → before ++ found uid (drop i behind) ≡ total → after ++ found uid (drop (i + 1) behind) ≡ total
-found-step uid behind i d before {after = after} {t = t} l some more whole =
-    let rest = found uid (drop (suc i) behind) in
-    ap (λ n. after ++ found uid (drop n behind)) (add-one i) ∙ (ap (λ xs. xs ++ rest) more ∙ (append_assoc before (t ∷ []) rest
-    ∙ (ap (λ o. before ++ cons_option o rest) (sym some) ∙ (ap (λ vs. before ++ found uid vs) (sym (drop-cons behind i d l)) ∙ whole))))
+module _ (uid : List ℕ) (behind : List Version) (i : ℕ) (d : Version) where
+  pub found-step : (before : List ℤ) {after total : List ℤ} {t : ℤ} → i < length behind → instance_of uid (subject_seen (get_or behind i d).subject) ≡ Some t
+      → after ≡ before ++ t ∷ [] → before ++ found uid (drop i behind) ≡ total → after ++ found uid (drop (i + 1) behind) ≡ total
+  found-step before {after = after} {t = t} l some more whole =
+      let rest = found uid (drop (suc i) behind) in
+      ap (λ n. after ++ found uid (drop n behind)) (add-one i) ∙ (ap (λ xs. xs ++ rest) more ∙ (append_assoc before (t ∷ []) rest
+      ∙ (ap (λ o. before ++ cons_option o rest) (sym some) ∙ (ap (λ vs. before ++ found uid vs) (sym (drop-cons behind i d l)) ∙ whole))))
 
 module _ (uid : List ℕ) (versions behind : List Version) (place : ℕ) (order : Rises version_cmp versions)
     (there : option_map (λ v. subject_seen v.subject) (slice_get versions place) ≡ Some (master uid)) (rest : behind ≡ drop (suc place) versions) where

@@ -1,7 +1,7 @@
 -- The overrides among the versions that count, and what they name.
 use Rattle.std.specs.Prelude.{zero, suc, is_some, is_ok}
-use Rattle.std.proofs.Common.{◌≡◌, ℕ, ◌+◌, ◌<◌, ℤ, ◌||◌, List, [], ◌∷◌, map, length, get_or, inl, inr, ⊎_elim, Option, Some, None, Result, Ok, Err, Bool, true}
-use Rattle.std.proofs.Common.{false, cond, refl, sym, ◌∙◌, ap, subst, arith}
+use Rattle.std.proofs.Common.{◌≡◌, ℕ, ◌+◌, add-one, ◌<◌, ℤ, ◌||◌, List, [], ◌∷◌, map, length, get_or, inl, inr, ⊎_elim, Option, Some, None, Result, Ok, Err}
+use Rattle.std.proofs.Common.{Bool, true, false, cond, refl, sym, ◌∙◌, ap, subst, arith}
 use Rattle.std.specs.Cmp.{IsTotalOrder}
 use Rattle.std.specs.List.{filter}
 use Rattle.std.specs.List.Sorted.{IsBinarySearchResult, IsSearchInRange, IsSorted}
@@ -33,16 +33,14 @@ or-false false b e f = f
 
 -- The versions that count are sorted by subject.
 module _ {A : Type 0} (R : A → A → Ordering) (o : IsTotalOrder R) where
-  rises-at : (xs : List A) (i j : ℕ) (d : A) → Rises R xs → i < j → j < length xs → R (get_or xs i d) (get_or xs j d) ≡ Less
-  rises-at [] i j d h a b = absurd (omega (arith, b))
-  rises-at (x ∷ xs) zero zero d h a b = absurd (omega (arith, a))
-  rises-at (x ∷ xs) zero (suc j) d h a b = before-at R o x xs j d h.0 (omega arith)
-  rises-at (x ∷ xs) (suc i) zero d h a b = absurd (omega (arith, a))
-  rises-at (x ∷ xs) (suc i) (suc j) d h a b = rises-at xs i j d h.1 (omega arith) (omega arith)
+  rises-at : (xs : List A) (i : ℕ) (d : A) → Rises R xs → suc i < length xs → R (get_or xs i d) (get_or xs (suc i) d) ≡ Less
+  rises-at [] i d h l = absurd (omega (arith, l))
+  rises-at (x ∷ xs) zero d h l = before-at R o x xs 0 d h.0 (omega arith)
+  rises-at (x ∷ xs) (suc i) d h l = rises-at xs i d h.1 (omega arith)
 
   pub rises-sorted : (xs : List A) → Rises R xs → IsSorted R xs
   rises-sorted xs h = λ k d a b.
-      let less = rises-at xs k (k + 1) d h (omega arith) b in
+      let less : R (get_or xs k d) (get_or xs (k + 1) d) ≡ Less = rw (add-one k) (rises-at xs k d h (omega arith)) in
       ap is_lt (o.antisymm (get_or xs (k + 1) d) (get_or xs k d) ∙ ap ordering_reverse less)
 
 module _ {A B : Type 0} (f : A → B) (R : B → B → Ordering) where

@@ -14,7 +14,7 @@ use Rattle.ics_series.specs.Clocks.{Clocks}
 use Rattle.ics_series.specs.Entry.{Entry}
 use Rattle.ics_series.specs.Listing.{IsIn}
 use Rattle.ics_series.specs.AgendaParts.{part_coming, part_sources}
-use Rattle.ics_series.specs.Rising.{Rises}
+use Rattle.ics_series.specs.Rising.{IsBefore, Rises}
 use Rattle.ics_series.specs.SeriesFeed.{series_left, source_of}
 use Rattle.ics_series.specs.Sources.{uid_cmp, Recurring, Source}
 use Rattle.ics_series.specs.Sources.Source.{Of, Once}
@@ -44,7 +44,8 @@ module _ (clocks : Clocks) (event : Event) (w : Window) (since : ℤ) (xs : List
   own-some e = let no : Of own ∷ xs ≡ [] = e in absurd cc
 
 -- what a feed gives is of its one master
-own-uid : (p : Part) (a : Entry) {m : Recurring} (xs : List Source) {ys : List Source} → part_sources p ++ xs ≡ Of m ∷ ys → IsIn a (part_coming p) → a.event ≡ m.event
+own-uid : (p : Part) (a : Entry) {m : Recurring} (xs : List Source) {ys : List Source} → part_sources p ++ xs ≡ Of m ∷ ys → IsIn a (part_coming p) →
+    a.event ≡ m.event
 own-uid (Singles s) a {m = m} xs {ys = ys} e n = let no : Once ∷ xs ≡ Of m ∷ ys = e in absurd cc
 own-uid (Series s) a {m = m} xs {ys = ys} e n =
     given-own (clocks_in s.value.zones) s.value.window s.value.event.now s.value.since s.value.overridden.items (series_left s.value) a n
@@ -59,23 +60,32 @@ no-source : (p : Part) (xs : List Source) → part_sources p ++ xs ≡ [] → �
 no-source (Singles s) xs e = let no : Once ∷ xs ≡ [] = e in absurd cc
 no-source (Series s) xs e = own-some (clocks_in s.value.zones) s.value.event.now s.value.window s.value.since xs e
 
--- the master of what stands in the list of one of the feeds
+-- the master of an occurrence is one of these
+record HasMaster (ms : List Recurring) (a : Entry) : Type 0 where
+  master : Recurring
+  stands : IsIn master ms
+  event : a.event ≡ master.event
+
+-- so it is for what stands in the list of one of the feeds
 master-in : (ps : List Part) (ms : List Recurring) (i : ℕ) (a : Entry) → flat_map part_sources ps ≡ map Of ms → IsIn a (get_or (map part_coming ps) i []) →
-    (m : Recurring) × (IsIn m ms × (a.event ≡ m.event))
+    HasMaster ms a
 master-in [] ms i a e n = absurd n
 master-in (p ∷ ps) [] i a e n = absurd (no-source p (flat_map part_sources ps) e)
-master-in (p ∷ ps) (m ∷ ms) zero a e n = (m, (inl refl, (own-uid p a (flat_map part_sources ps) e n)))
+master-in (p ∷ ps) (m ∷ ms) zero a e n = record { master = m; stands = inl refl; event = own-uid p a (flat_map part_sources ps) e n }
 master-in (p ∷ ps) (m ∷ ms) (suc i) a e n =
     let found = master-in ps ms i a (rest-sources p (Of m) (flat_map part_sources ps) (map Of ms) e) n in
-    (found.0, (inr found.1.0, found.1.1))
+    record { master = found.master; stands = inr found.stands; event = found.event }
 
 alike : (a b : Entry) (m : Recurring) → a.event ≡ m.event → b.event ≡ m.event → entry_uid_cmp a b ≡ Equal
 alike a b m p q =
     ap (λ (e : Event). slice_cmp nat_cmp e.uid b.event.uid) p
     ∙ (ap (λ (e : Event). slice_cmp nat_cmp m.event.uid e.uid) q ∙ tied_itself nat_list_cmp_total m.event.uid)
 
-apart : (a b : Entry) (m n : Recurring) → a.event ≡ m.event → b.event ≡ n.event → uid_cmp m n ≡ Less → entry_uid_cmp a b ≡ Less
-apart a b m n p q l = ap (λ (e : Event). slice_cmp nat_cmp e.uid b.event.uid) p ∙ (ap (λ (e : Event). slice_cmp nat_cmp m.event.uid e.uid) q ∙ l)
+apart : (a b : Entry) (m : Recurring) {ms : List Recurring} → a.event ≡ m.event → IsBefore uid_cmp m ms → HasMaster ms b → entry_uid_cmp a b ≡ Less
+apart a b m {ms = ms} p before later =
+    ap (λ (e : Event). slice_cmp nat_cmp e.uid b.event.uid) p
+    ∙ (ap (λ (e : Event). slice_cmp nat_cmp m.event.uid e.uid) later.event
+    ∙ before-in uid_cmp (on_total (λ (r : Recurring). r.event.uid) nat_list_cmp_total) m later.master ms before later.stands)
 
 cmp-same : (i : ℕ) → nat_cmp i i ≡ Equal
 cmp-same i = grind (arith, nat_tests)
@@ -90,26 +100,21 @@ cmp-suc : (i j : ℕ) → nat_cmp (suc i) (suc j) ≡ nat_cmp i j
 cmp-suc i j = grind (arith, nat_tests)
 
 -- the order of two UIDs is that of their feeds
-by-place : (ps : List Part) (ms : List Recurring) (i j : ℕ) (a b : Entry) → flat_map part_sources ps ≡ map Of ms → Rises uid_cmp ms →
-    IsIn a (get_or (map part_coming ps) i []) → IsIn b (get_or (map part_coming ps) j [])
-    → entry_uid_cmp a b ≡ nat_cmp i j
-by-place [] ms i j a b e r n k = absurd n
-by-place (p ∷ ps) [] i j a b e r n k = absurd (no-source p (flat_map part_sources ps) e)
-by-place (p ∷ ps) (m ∷ ms) zero zero a b e r n k =
+by-place : (ps : List Part) (ms : List Recurring) → flat_map part_sources ps ≡ map Of ms → Rises uid_cmp ms → AreSortedFrom 0 (map part_coming ps)
+by-place [] ms e r i a n j b low high k = absurd n
+by-place (p ∷ ps) [] e r i a n j b low high k = absurd (no-source p (flat_map part_sources ps) e)
+by-place (p ∷ ps) (m ∷ ms) e r zero a n zero b low high k =
     alike a b m (own-uid p a (flat_map part_sources ps) e n) (own-uid p b (flat_map part_sources ps) e k) ∙ sym (cmp-same 0)
-by-place (p ∷ ps) (m ∷ ms) zero (suc j) a b e r n k =
-    let later = master-in ps ms j b (rest-sources p (Of m) (flat_map part_sources ps) (map Of ms) e) k in
-    apart a b m later.0 (own-uid p a (flat_map part_sources ps) e n) later.1.1
-    (before-in uid_cmp (on_total (λ (r : Recurring). r.event.uid) nat_list_cmp_total) m later.0 ms r.0 later.1.0)
+by-place (p ∷ ps) (m ∷ ms) e r zero a n (suc j) b low high k =
+    apart a b m (own-uid p a (flat_map part_sources ps) e n) r.0 (master-in ps ms j b (rest-sources p (Of m) (flat_map part_sources ps) (map Of ms) e) k)
     ∙ sym (cmp-first j)
-by-place (p ∷ ps) (m ∷ ms) (suc i) zero a b e r n k =
-    let later = master-in ps ms i a (rest-sources p (Of m) (flat_map part_sources ps) (map Of ms) e) n in
+by-place (p ∷ ps) (m ∷ ms) e r (suc i) a n zero b low high k =
     nat_list_cmp_total.antisymm a.event.uid b.event.uid
-    ∙ (ap ordering_reverse (apart b a m later.0 (own-uid p b (flat_map part_sources ps) e k) later.1.1
-    (before-in uid_cmp (on_total (λ (r : Recurring). r.event.uid) nat_list_cmp_total) m later.0 ms r.0 later.1.0))
+    ∙ (ap ordering_reverse (apart b a m (own-uid p b (flat_map part_sources ps) e k) r.0
+    (master-in ps ms i a (rest-sources p (Of m) (flat_map part_sources ps) (map Of ms) e) n))
     ∙ sym (cmp-behind i))
-by-place (p ∷ ps) (m ∷ ms) (suc i) (suc j) a b e r n k = by-place ps ms i j a b (rest-sources p (Of m) (flat_map part_sources ps) (map Of ms) e) r.1 n k
-    ∙ sym (cmp-suc i j)
+by-place (p ∷ ps) (m ∷ ms) e r (suc i) a n (suc j) b low high k =
+    by-place ps ms (rest-sources p (Of m) (flat_map part_sources ps) (map Of ms) e) r.1 i a n j b (omega arith) (omega arith) k ∙ sym (cmp-suc i j)
 
 -- behind the feed of the events that start once
 pub parts-sorted : (ps : List Part) (ms : List Recurring) → flat_map part_sources ps ≡ Once ∷ map Of ms → Rises uid_cmp ms →
@@ -117,5 +122,5 @@ pub parts-sorted : (ps : List Part) (ms : List Recurring) → flat_map part_sour
 parts-sorted [] ms e r i a n j b low high k = absurd n
 parts-sorted (p ∷ ps) ms e r zero a n j b low high k = absurd (omega arith)
 parts-sorted (p ∷ ps) ms e r (suc i) a n zero b low high k = absurd (omega arith)
-parts-sorted (p ∷ ps) ms e r (suc i) a n (suc j) b low high k = by-place ps ms i j a b (rest-sources p Once (flat_map part_sources ps) (map Of ms) e) r n k
-    ∙ sym (cmp-suc i j)
+parts-sorted (p ∷ ps) ms e r (suc i) a n (suc j) b low high k =
+    by-place ps ms (rest-sources p Once (flat_map part_sources ps) (map Of ms) e) r i a n j b (omega arith) (omega arith) k ∙ sym (cmp-suc i j)

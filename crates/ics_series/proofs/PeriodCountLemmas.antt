@@ -30,9 +30,9 @@ le-down : (a b m : ℕ) → b ≤ a → nat_le a m ≡ true → nat_le b m ≡ t
 le-down a b m l e = grind (arith, nat_tests)
 
 -- the periods that hold one of these locals are no more than those that hold one of more
-pub periods-within : (r : Recurrence) (a b c d : ℕ) → c ≤ a → b ≤ d → period_count r a b ≤ period_count r c d
+pub periods-within : (r : Recurrence) {a b c d : ℕ} → c ≤ a → b ≤ d → period_count r a b ≤ period_count r c d
 unfolding period_count
-periods-within r a b c d low high =
+periods-within r {a = a} {b = b} {c = c} {d = d} low high =
     count-implied calendar_end (is_met (effective r) (number r.start) a b) (is_met (effective r) (number r.start) c d)
     met-within
   where

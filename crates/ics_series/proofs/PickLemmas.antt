@@ -32,9 +32,11 @@ module _ {A B : Type 0} (h : A → Option B) where
       by (Some v) e ih m = ⊎_elim (λ s. inl (some-same y v (sym t ∙ (ap h s ∙ e)))) (λ n. inr (ih n)) m
       by None e ih m = ⊎_elim (λ s. let f : Some y ≡ None = sym t ∙ (ap h s ∙ e) in absurd cc) ih m
 
-  -- R orders the list, and S so what is picked of it
-  module _ (R : A → A → Ordering) (o : IsTotalOrder R) (S : B → B → Ordering) (P : A → Type 0) (keeps : (x z : A) (y v : B) → P x → P z → h x ≡ Some y →
-      h z ≡ Some v → R x z ≡ Less → S y v ≡ Less) where
+  -- S orders what is picked of those that P holds of as R orders these
+  abbrev pub KeepsOrder : (A → A → Ordering) → (B → B → Ordering) → (A → Type 0) → Type 0
+  KeepsOrder R S P = (x z : A) (y v : B) → P x → P z → h x ≡ Some y → h z ≡ Some v → R x z ≡ Less → S y v ≡ Less
+
+  module _ (R : A → A → Ordering) (o : IsTotalOrder R) (S : B → B → Ordering) (P : A → Type 0) (keeps : KeepsOrder R S P) where
     before-all : (y : B) (vs : List B) → ((v : B) → IsIn v vs → S y v ≡ Less) → IsBefore S y vs
     before-all y [] f = tt
     before-all y (v ∷ vs) f = (f v (inl refl), before-all y vs (λ u m. f u (inr m)))

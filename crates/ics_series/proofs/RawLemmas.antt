@@ -134,20 +134,22 @@ module _ (test : Rdate → Bool) where
   on-listed : (place : ℕ) (r : Rdate) (rs : List Rdate) (g : StartSource) → IsListedFrom test (place + 1) rs g → IsListedFrom test place (r ∷ rs) g
   on-listed place r rs g p = record { at = suc p.at; rdate = p.rdate; stands = p.stands; passes = p.passes; is = p.is ∙ ap Listed (omega arith) }
 
-  first-or-on : (place : ℕ) (r : Rdate) (rs : List Rdate) (g : StartSource) (p : IsListedFrom test place (r ∷ rs) g) (at : ℕ) → p.at ≡ at →
+  first-or-on : (place : ℕ) (r : Rdate) (rs : List Rdate) (g : StartSource) → IsListedFrom test place (r ∷ rs) g →
       ((test r ≡ true) × (g ≡ Listed place)) ⊎ IsListedFrom test (place + 1) rs g
-  first-or-on place r rs g p zero e =
-      let same : r ≡ p.rdate = some-same r p.rdate (ap (slice_get (r ∷ rs)) (sym e) ∙ p.stands) in
-      inl (ap test same ∙ p.passes, p.is ∙ ap Listed (omega (arith, e)))
-  first-or-on place r rs g p (suc at) e =
-      inr (record {
-        at = at;
-        rdate = p.rdate;
-        stands = ap (slice_get (r ∷ rs)) (sym e) ∙ p.stands;
-        passes = p.passes;
-        is = p.is
-            ∙ ap Listed (omega (arith, e));
-      })
+  first-or-on place r rs g p = by p.at refl
+    where
+      by : (at : ℕ) → p.at ≡ at → ((test r ≡ true) × (g ≡ Listed place)) ⊎ IsListedFrom test (place + 1) rs g
+      by zero e =
+          let same : r ≡ p.rdate = some-same r p.rdate (ap (slice_get (r ∷ rs)) (sym e) ∙ p.stands) in
+          inl (ap test same ∙ p.passes, p.is ∙ ap Listed (omega (arith, e)))
+      by (suc at) e =
+          inr (record {
+            at = at;
+            rdate = p.rdate;
+            stands = ap (slice_get (r ∷ rs)) (sym e) ∙ p.stands;
+            passes = p.passes;
+            is = p.is ∙ ap Listed (omega (arith, e));
+          })
 
   one-listed : (place : ℕ) (r : Rdate) (rs : List Rdate) (b : Bool) → test r ≡ b → Counts (IsListedFrom test (place + 1) rs) (count_by test rs) →
       Counts (IsListedFrom test place (r ∷ rs)) (cond b 1 0 + count_by test rs)
@@ -162,7 +164,7 @@ module _ (test : Rdate → Bool) where
       exact = λ g. (
         λ m. ⊎_elim (λ s. record { at = 0; rdate = r; stands = refl; passes = e; is = s ∙ ap Listed (omega arith) })
             (λ k. on-listed place r rs g ((rest.listing.exact g).0 k)) m,
-        λ p. ⊎_elim (λ f. inl f.1) (λ k. inr ((rest.listing.exact g).1 k)) (first-or-on place r rs g p p.at refl),
+        λ p. ⊎_elim (λ f. inl f.1) (λ k. inr ((rest.listing.exact g).1 k)) (first-or-on place r rs g p),
       );
     };
     count = omega (arith, rest.count);
@@ -177,7 +179,7 @@ module _ (test : Rdate → Bool) where
       rises = rest.listing.rises;
       exact = λ g. (
         λ m. on-listed place r rs g ((rest.listing.exact g).0 m),
-        λ p. ⊎_elim (λ f. let no : true ≡ false = sym f.0 ∙ e in absurd cc) (λ k. (rest.listing.exact g).1 k) (first-or-on place r rs g p p.at refl),
+        λ p. ⊎_elim (λ f. let no : true ≡ false = sym f.0 ∙ e in absurd cc) (λ k. (rest.listing.exact g).1 k) (first-or-on place r rs g p),
       );
     };
     count = omega (arith, rest.count);

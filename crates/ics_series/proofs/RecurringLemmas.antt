@@ -49,13 +49,13 @@ recurring-master event = by event.recurrence ((is_none event.rule && length even
     by (Some time) b e = let f : true ≡ false = e in absurd cc
 
 -- Instants among others.
-among-by : (x t : ℤ) (b rest : Bool) → int_eq x t ≡ b → ((t ≡ x) → ⊥) → rest ≡ false → (b || rest) ≡ false
-among-by x t true rest e n f = absurd (n (grind (arith, ints)))
-among-by x t false rest e n f = f
-
 pub not-among : (t : ℤ) (instants : List ℤ) → (IsIn t instants → ⊥) → list_any (λ x. int_eq x t) instants ≡ false
 not-among t [] n = refl
-not-among t (x ∷ xs) n = among-by x t (int_eq x t) (list_any (λ x. int_eq x t) xs) refl (λ e. n (inl e)) (not-among t xs (λ m. n (inr m)))
+not-among t (x ∷ xs) n = by (int_eq x t) refl (not-among t xs (λ m. n (inr m)))
+  where
+    by : (b : Bool) → int_eq x t ≡ b → list_any (λ x. int_eq x t) xs ≡ false → (b || list_any (λ x. int_eq x t) xs) ≡ false
+    by true e f = let same : t ≡ x = grind (arith, ints) in absurd (n (inl same))
+    by false e f = f
 
 -- an occurrence begins after the last two days of the year 0000 have begun
 pub of-late : (zones : FileZones) (event : Event) (o : Entry) → IsEvent event → IsOf (clocks_in zones) event o → occurrence_first ≤ℤ o.start
@@ -168,11 +168,10 @@ pub version-there : {A : Type 0} (xs : List A) (k : ℕ) (d x : A) → k < lengt
 version-there xs k d x l e = some-same (get_or xs k d) x (sym (slice_get-get_or xs k d l) ∙ e)
 
 -- an event that starts once does not recur
-pub not-single : {files : List FileSaid} {v : Version} {event : Event} (vs : List Version) (k : ℕ) (d : Version) → k < length vs → slice_get vs k ≡ Some v
-    → event_at files (get_or vs k d).spot ≡ Some event → is_single event ≡ true → Recurs files (seen v) → ⊥
-not-single {files = files} {v = v} {event = event} vs k d l e there single r =
-    let same : r.event ≡ event = some-same r.event event (sym r.stands
-    ∙ (ap (λ (v : Version). event_at files v.spot) (sym (version-there vs k d v l e)) ∙ there)) in
+pub not-single : {files : List FileSaid} {u v : Version} {event : Event} → u ≡ v → event_at files u.spot ≡ Some event → is_single event ≡ true →
+    Recurs files (seen v) → ⊥
+not-single {files = files} {event = event} is there single r =
+    let same : r.event ≡ event = some-same r.event event (sym r.stands ∙ (ap (λ (v : Version). event_at files v.spot) (sym is) ∙ there)) in
     let f : false ≡ true = sym r.recurs ∙ (ap is_single same ∙ single) in cc
 
 -- a version whose event starts once has none

@@ -55,6 +55,11 @@ day-under day n h l = omega (arith, ints, h.0, l)
 pub less-start : (s t : Start) → s.moment <ℤ t.moment → moment_cmp s t ≡ Less
 less-start s t l = sym (int_cmp_is s.moment t.moment Less l)
 
+-- d is the first of a list
+pub record IsFirst (d : Start) (held : List Start) : Type 0 where
+  pub some : 0 < length held
+  pub is : d ≡ get_or held 0 d
+
 module _ (zones : FileZones) (event : Event) where
   -- a local from a day's midnight on means an instant that is less than two days before it
   pub late-numbered : (day : ℤ) (n : ℕ) → IsDayNumber day → midnight_number day ≤ n →
@@ -199,20 +204,18 @@ module _ (zones : FileZones) (event : Event) where
           is ∙ sym (ap (cut moment_cmp t) is)
 
       -- the same of a list whose first is known
-      pub passed-at : (t : Start) (held : List Start) {d : Start} {new : List Start} → 0 < length held → d ≡ get_or held 0 d → new ≡ drop 1 held
-          → Rises moment_cmp held →
+      pub passed-at : (t : Start) {held : List Start} {d : Start} {new : List Start} → IsFirst d held → new ≡ drop 1 held → Rises moment_cmp held →
           is_behind day end held ≡ false
           → moment_cmp t d ≡ Equal → to_come (clocks_in zones) event rule w new place ≡ cut moment_cmp t (to_come (clocks_in zones) event rule w held place)
-      passed-at t [] l is n r b tied = absurd (omega arith)
-      passed-at t (s ∷ held) l is n r b tied =
-          ap (λ xs. to_come (clocks_in zones) event rule w xs place) n ∙ passed t s held r b (subst (λ x. moment_cmp t x ≡ Equal) is tied)
+      passed-at t {held = []} first n r b tied = absurd (omega (arith, first.some))
+      passed-at t {held = s ∷ held} first n r b tied =
+          ap (λ xs. to_come (clocks_in zones) event rule w xs place) n ∙ passed t s held r b (subst (λ x. moment_cmp t x ≡ Equal) first.is tied)
 
-      pub not-passed-at : (t : Start) (held : List Start) {d : Start} → 0 < length held → d ≡ get_or held 0 d → Rises moment_cmp held
-          → is_behind day end held ≡ false
+      pub not-passed-at : (t : Start) {held : List Start} {d : Start} → IsFirst d held → Rises moment_cmp held → is_behind day end held ≡ false
           → (moment_cmp t d ≡ Equal → ⊥) → to_come (clocks_in zones) event rule w held place
           ≡ cut moment_cmp t (to_come (clocks_in zones) event rule w held place)
-      not-passed-at t [] l is r b untied = absurd (omega arith)
-      not-passed-at t (s ∷ held) l is r b untied = not-passed t s held r b (λ tied. untied (subst (λ x. moment_cmp t x ≡ Equal) (sym is) tied))
+      not-passed-at t {held = []} first r b untied = absurd (omega (arith, first.some))
+      not-passed-at t {held = s ∷ held} first r b untied = not-passed t s held r b (λ tied. untied (subst (λ x. moment_cmp t x ≡ Equal) (sym first.is) tied))
 
       pub nothing-passed-at : (t : Start) (held : List Start) → length held ≡ 0 → is_behind day end held ≡ false
           → to_come (clocks_in zones) event rule w held place ≡ cut moment_cmp t (to_come (clocks_in zones) event rule w held place)
@@ -220,18 +223,18 @@ module _ (zones : FileZones) (event : Event) where
       nothing-passed-at t (s ∷ held) l b = absurd (omega (arith, l))
 
     -- each start still to come begins no more than three days before the day that is not asked for yet
-    pub near-left : (day : ℤ) {asked : ℤ} (held : List Start) (place : ℕ) → IsDayNumber day → asked ≤ℤ (day +ℤ pos 1) → midnight_number day ≤ place
-        → AreHeld (clocks_in zones) event rule w asked held → (s : Start) → IsIn s (to_come (clocks_in zones) event rule w held place) →
-        (midnight asked -ℤ whole_days 3) ≤ℤ s.moment
-    unfolding to_come
-    near-left day {asked = asked} held place d soon read are s m =
-        ⊎_elim (λ n. (are s n).late)
-        (λ n.
-        let f = found-is place s n.1 in
-        let late = late-numbered day f.by d (omega (arith, read, f.from_place)) in
-        let is = ap (λ (x : Start). x.moment) f.is in
-        omega (arith, ints, late, is, soon))
-        (union-in moment_cmp moment_total s held (found (clocks_in zones) event rule w place) (rises-found (clocks_in zones) event rule w place) m)
+    module _ (day : ℤ) (held : List Start) (place : ℕ) where
+      pub near-left : {asked : ℤ} → IsDayNumber day → asked ≤ℤ (day +ℤ pos 1) → midnight_number day ≤ place → AreHeld (clocks_in zones) event rule w asked held
+          → (s : Start) → IsIn s (to_come (clocks_in zones) event rule w held place) → (midnight asked -ℤ whole_days 3) ≤ℤ s.moment
+      unfolding to_come
+      near-left d soon read are s m =
+          ⊎_elim (λ n. (are s n).late)
+          (λ n.
+          let f = found-is place s n.1 in
+          let late = late-numbered day f.by d (omega (arith, read, f.from_place)) in
+          let is = ap (λ (x : Start). x.moment) f.is in
+          omega (arith, ints, late, is, soon))
+          (union-in moment_cmp moment_total s held (found (clocks_in zones) event rule w place) (rises-found (clocks_in zones) event rule w place) m)
 
     pub come-empty : (held : List Start) (place from : ℕ) → held ≡ [] → place ≡ from →
         to_come (clocks_in zones) event rule w held place ≡ found (clocks_in zones) event rule w from

@@ -50,20 +50,18 @@ numbered-number a h =
     (omega (arith, ints, h.0, a.second_in), omega (arith, ints, h.0, h.1, a.second_in)) h (number-numbered (number a))
 
 -- whether a kept local gives a start
-pub gives-kept : (clocks : Clocks) (event : Event) (rule : Recurrence) (w : Window) (a : Local) → IsDayNumber a.day → is_kept rule (number a) ≡ true
-    → gives clocks event rule w (number a)
-    ≡ (lets_until rule (number a) (instant clocks (time_at event.start a)) && int_lt (instant clocks (time_at event.start a)) w.to)
-unfolding gives
-gives-kept clocks event rule w a h k =
-    ap (λ b. b && (lets_until rule (number a) (moment_numbered clocks event (number a)) && int_lt (moment_numbered clocks event (number a)) w.to)) k
-    ∙ ap (λ l. lets_until rule (number a) (instant clocks (time_at event.start l)) && int_lt (instant clocks (time_at event.start l)) w.to)
-    (numbered-number a h)
+module _ (clocks : Clocks) (event : Event) (rule : Recurrence) (w : Window) (a : Local) where
+  pub gives-kept : IsDayNumber a.day → is_kept rule (number a) ≡ true → gives clocks event rule w (number a)
+      ≡ (lets_until rule (number a) (instant clocks (time_at event.start a)) && int_lt (instant clocks (time_at event.start a)) w.to)
+  unfolding gives
+  gives-kept h k =
+      ap (λ b. b && (lets_until rule (number a) (moment_numbered clocks event (number a)) && int_lt (moment_numbered clocks event (number a)) w.to)) k
+      ∙ ap (λ l. lets_until rule (number a) (instant clocks (time_at event.start l)) && int_lt (instant clocks (time_at event.start l)) w.to)
+      (numbered-number a h)
 
-pub gives-by : (clocks : Clocks) (event : Event) (rule : Recurrence) (w : Window) (a : Local) {t : ℤ} {b : Bool} → IsDayNumber a.day →
-    is_kept rule (number a) ≡ true
-    → t ≡ instant clocks (time_at event.start a) → b ≡ (lets_until rule (number a) t && int_lt t w.to) → b ≡ gives clocks event rule w (number a)
-gives-by clocks event rule w a h k e test =
-    test ∙ (ap (λ x. lets_until rule (number a) x && int_lt x w.to) e ∙ sym (gives-kept clocks event rule w a h k))
+  pub gives-by : {t : ℤ} {b : Bool} → IsDayNumber a.day → is_kept rule (number a) ≡ true → t ≡ instant clocks (time_at event.start a)
+      → b ≡ (lets_until rule (number a) t && int_lt t w.to) → b ≡ gives clocks event rule w (number a)
+  gives-by h k e test = test ∙ (ap (λ x. lets_until rule (number a) x && int_lt x w.to) e ∙ sym (gives-kept h k))
 
 pub rule-first : (event : Event) (rule : Recurrence) → recurrence_of event ≡ Some rule → rule.start ≡ local_of event.start.stamp
 rule-first event rule has = let by = rule-is event.start.stamp event.rule rule has in sym (ap (λ (r : Recurrence). r.start) (sym by.1))

@@ -34,20 +34,21 @@ none-ready day (x ∷ held) r e s m =
     ⊎_elim (λ same. subst (λ (y : Start). (midnight day -ℤ whole_days 2) <ℤ y.moment) (sym same) first)
     (λ n. let less = int-less x.moment s.moment (before-in moment_cmp moment_total x s held r.0 n) in omega (arith, ints, first, less)) m
 
-pub behind-early : (day end : ℤ) (held : List Start) → is_behind day end held ≡ true → day <ℤ end
-behind-early day end held b = int_lt_true day end (and_true {a = int_lt day end} b).0
+module _ (day end : ℤ) where
+  pub behind-early : (held : List Start) → is_behind day end held ≡ true → day <ℤ end
+  behind-early held b = int_lt_true day end (and_true {a = int_lt day end} b).0
 
-pub bound-later : (day end : ℤ) (held : List Start) → day <ℤ end → (day <ℤ bound_of day end held) × (bound_of day end held ≤ℤ end)
-bound-later day end [] l = (l, omega (arith, ints))
-bound-later day end (s ∷ held) l = (omega (arith, ints), omega (arith, ints, l))
+  pub bound-later : (held : List Start) → day <ℤ end → (day <ℤ bound_of day end held) × (bound_of day end held ≤ℤ end)
+  bound-later [] l = (l, omega (arith, ints))
+  bound-later (s ∷ held) l = (omega (arith, ints), omega (arith, ints, l))
 
--- all that is held begins no more than three days before the bound
-pub bound-late : (day end : ℤ) (held : List Start) → Rises moment_cmp held → is_behind day end held ≡ true → (s : Start) → IsIn s held →
-    (midnight (bound_of day end held) -ℤ whole_days 3) ≤ℤ s.moment
-bound-late day end [] r b s m = absurd m
-bound-late day end (x ∷ held) r b s m =
-    let late = none-ready day (x ∷ held) r (not-true (is_ready day (x ∷ held)) (and_true {a = int_lt day end} b).1) s m in
-    omega (arith, ints, late)
+  -- all that is held begins no more than three days before the bound
+  pub bound-late : (held : List Start) → Rises moment_cmp held → is_behind day end held ≡ true → (s : Start) → IsIn s held →
+      (midnight (bound_of day end held) -ℤ whole_days 3) ≤ℤ s.moment
+  bound-late [] r b s m = absurd m
+  bound-late (x ∷ held) r b s m =
+      let late = none-ready day (x ∷ held) r (not-true (is_ready day (x ∷ held)) (and_true {a = int_lt day end} b).1) s m in
+      omega (arith, ints, late)
 
 module _ (zones : FileZones) (event : Event) (rule : Recurrence) (w : Window) where
   pub held-on : (old new : ℤ) (held : List Start) → old ≤ℤ new → ((s : Start) → IsIn s held → (midnight new -ℤ whole_days 3) ≤ℤ s.moment)

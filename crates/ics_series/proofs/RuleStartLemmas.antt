@@ -25,29 +25,30 @@ module _ (clocks : Clocks) (event : Event) (rule : Recurrence) (w : Window) wher
   here-or-later : (from to : ℕ) → from ≤ to → (from ≡ to) ⊎ (from < to)
   here-or-later from to h = grind arith
 
-  pub found_in-skipped : (from n to m : ℕ) → from ≤ to → from + n ≡ to + m → NoneGives from to →
-      found_in clocks event rule w from n ≡ found_in clocks event rule w to m
-  found_in-skipped from zero to m l e none =
-      let same : from ≡ to = omega (arith, l, e) in
-      let rest : 0 ≡ m = omega (arith, l, e) in
-      ap (λ k. found_in clocks event rule w from k) rest ∙ ap (λ k. found_in clocks event rule w k m) same
-  found_in-skipped from (suc n) to m l e none =
-      ⊎_elim
-      (λ same. let rest : suc n ≡ m = omega (arith, same, e) in
-      ap (λ k. found_in clocks event rule w from k) rest ∙ ap (λ k. found_in clocks event rule w k m) same)
-      (λ less. ap (λ b. with_put b (start_at clocks event (local_numbered from)) (found_in clocks event rule w (from + 1) n)) (none from (omega arith) less)
-      ∙ found_in-skipped (from + 1) n to m (omega (arith, less)) (omega (arith, e)) (λ k a b. none k (omega (arith, a)) b))
-      (here-or-later from to l)
+  module _ (to m : ℕ) where
+    found_in-skipped : (from n : ℕ) → from ≤ to → from + n ≡ to + m → NoneGives from to →
+        found_in clocks event rule w from n ≡ found_in clocks event rule w to m
+    found_in-skipped from zero l e none =
+        let same : from ≡ to = omega (arith, l, e) in
+        let rest : 0 ≡ m = omega (arith, l, e) in
+        ap (λ k. found_in clocks event rule w from k) rest ∙ ap (λ k. found_in clocks event rule w k m) same
+    found_in-skipped from (suc n) l e none =
+        ⊎_elim
+        (λ same. let rest : suc n ≡ m = omega (arith, same, e) in
+        ap (λ k. found_in clocks event rule w from k) rest ∙ ap (λ k. found_in clocks event rule w k m) same)
+        (λ less. ap (λ b. with_put b (start_at clocks event (local_numbered from)) (found_in clocks event rule w (from + 1) n)) (none from (omega arith) less)
+        ∙ found_in-skipped (from + 1) n (omega (arith, less)) (omega (arith, e)) (λ k a b. none k (omega (arith, a)) b))
+        (here-or-later from to l)
 
   -- locals that give none may be passed over
   pub found-skipped : (from to : ℕ) → from ≤ to → to ≤ rules_end → NoneGives from to → found clocks event rule w from ≡ found clocks event rule w to
   unfolding found
-  found-skipped from to l h none = found_in-skipped from (rules_end - from) to (rules_end - to) l (omega (arith, l, h)) none
+  found-skipped from to l h none = found_in-skipped to (rules_end - to) from (rules_end - from) l (omega (arith, l, h)) none
 
   pub found-none : (from : ℕ) → ((n : ℕ) → from ≤ n → gives clocks event rule w n ≡ false) → found clocks event rule w from ≡ []
   unfolding found
   found-none from none =
-      found_in-skipped from (rules_end - from) (from + (rules_end - from)) 0 (omega arith) (omega arith) (λ n a b. none n a)
+      found_in-skipped (from + (rules_end - from)) 0 from (rules_end - from) (omega arith) (omega arith) (λ n a b. none n a)
 
   pub found-first : (from : ℕ) → from < rules_end → found clocks event rule w from
       ≡ with_put (gives clocks event rule w from) (start_at clocks event (local_numbered from)) (found clocks event rule w (from + 1))

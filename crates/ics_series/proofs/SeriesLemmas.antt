@@ -68,6 +68,12 @@ rises-listed s = rises-drop moment_cmp s.gone s.starts.items s.rises
 
 -- What is known of some starts and what they give, where one of them goes.
 module _ (clocks : Clocks) (w : Window) (event : Event) where
+  -- a start is the first of all that is left, and the rest stands behind it
+  pub record IsFrontOf (t : Start) (all rest : List Start) : Type 0 where
+    pub is : all ≡ t ∷ rest
+    pub rises : Rises moment_cmp all
+    pub known : AreKnown clocks event w all
+
   pub known-rest : (s : Start) (all rest : List Start) → all ≡ s ∷ rest → AreKnown clocks event w all → AreKnown clocks event w rest
   known-rest s all rest e h t m = h t (subst (IsIn t) (sym e) (inr m))
 
@@ -222,18 +228,32 @@ module _ (clocks : Clocks) (w : Window) (event : Event) (since : ℤ) (overridde
   in-behind None e es m = m
   in-behind (Some x) e es m = inr m
 
-  ruled-behind : (rules : List Start) {t : Start} {all rest : List Start} → all ≡ t ∷ rest → Rises moment_cmp all → AreKnown clocks event w all
+  ruled-behind : (rules : List Start) {t : Start} {all rest : List Start} → IsFrontOf clocks w event t all rest
       → HaveRuled clocks event rules (given_of clocks w event since overridden all) →
       HaveRuled clocks event (cut moment_cmp t rules) (given_of clocks w event since overridden rest)
-  ruled-behind rules {t = t} {all = all} {rest = rest} e r known h o m local k =
-      let rises : Rises moment_cmp (t ∷ rest) = subst (Rises moment_cmp) e r in
-      let after = begins-after t rest o rises.0 (known-rest clocks w event t all rest e known) m in
-      let there = subst (λ xs. IsIn o (given_of clocks w event since overridden xs)) (sym e)
+  ruled-behind rules {t = t} {all = all} {rest = rest} front h o m local k =
+      let rises : Rises moment_cmp (t ∷ rest) = subst (Rises moment_cmp) front.is front.rises in
+      let after = begins-after t rest o rises.0 (known-rest clocks w event t all rest front.is front.known) m in
+      let there = subst (λ xs. IsIn o (given_of clocks w event since overridden xs)) (sym front.is)
       (in-behind (wanted_by clocks w event since overridden t) o (given_of clocks w event since overridden rest) m) in
       let x = moment-in rules o.start (h o there local k) in
       in-moment x.0 o.start (cut moment_cmp t rules) x.2
       (member-cut moment_cmp moment_total t x.0 rules (λ tied. let same = tied-moment t x.0 tied in let is = x.2 in omega (arith, ints, after, same, is)) x.1)
 
+  pub ruled-rest : (a b : Option RuleStarts) {t : Start} {all rest : List Start} → HasSameRule a b → rule_left b ≡ cut moment_cmp t (rule_left a) →
+      IsFrontOf clocks w event t all rest → HasRuled clocks event a (given_of clocks w event since overridden all)
+      → HasRuled clocks event b (given_of clocks w event since overridden rest)
+  ruled-rest None None same c front h = tt
+  ruled-rest (Some a) (Some b) {rest = rest} same c front h =
+      subst (λ xs. HaveRuled clocks event xs (given_of clocks w event since overridden rest)) (sym c) (ruled-behind (starts_left a) front h)
+  ruled-rest None (Some b) same c front h = absurd same
+  ruled-rest (Some a) None same c front h = absurd same
+
+  -- each occurrence that the starts of an event give is of it
+  pub given-own : (starts : List Start) (e : Entry) → IsIn e (given_of clocks w event since overridden starts) → e.event ≡ event
+  given-own starts e m = ap (λ (o : Entry). o.event) (in-picked clocks event (is_wanted clocks w event since overridden) starts e m).is
+
+module _ (clocks : Clocks) (event : Event) where
   -- the same of the rule's starts, where there is one
   pub ruled-same : (a b : Option RuleStarts) {coming coming' : List Entry} → HasSameRule a b → rule_left b ≡ rule_left a → coming' ≡ coming →
       HasRuled clocks event a coming → HasRuled clocks event b coming'
@@ -243,38 +263,15 @@ module _ (clocks : Clocks) (w : Window) (event : Event) (since : ℤ) (overridde
   ruled-same None (Some b) same e f h = absurd same
   ruled-same (Some a) None same e f h = absurd same
 
-  pub ruled-rest : (a b : Option RuleStarts) {t : Start} {all rest : List Start} → HasSameRule a b → rule_left b ≡ cut moment_cmp t (rule_left a) →
-      all ≡ t ∷ rest → Rises moment_cmp all → AreKnown clocks event w all
-      → HasRuled clocks event a (given_of clocks w event since overridden all) → HasRuled clocks event b (given_of clocks w event since overridden rest)
-  ruled-rest None None same c e r known h = tt
-  ruled-rest (Some a) (Some b) {rest = rest} same c e r known h =
-      subst (λ xs. HaveRuled clocks event xs (given_of clocks w event since overridden rest)) (sym c) (ruled-behind (starts_left a) e r known h)
-  ruled-rest None (Some b) same c e r known h = absurd same
-  ruled-rest (Some a) None same c e r known h = absurd same
+  -- A rule has been read no further than three days past an occurrence that it gives and that is still to come.
+  rule-near : (o : Option RuleStarts) (coming : List Entry) → HasRuled clocks event o coming → (e : Entry) → IsIn e coming →
+      IsAskedNear clocks event (rule_asked o) e.start
+  rule-near None coming ruled e m = tt
+  rule-near (Some s) coming ruled e m = λ local k.
+      let there = moment-in (starts_left s) e.start (ruled e m local k) in
+      subst (λ t. (midnight s.asked -ℤ whole_days 3) ≤ℤ t) there.2 (left-near s there.0 there.1)
 
--- A rule has been read no further than three days past an occurrence that it gives and that is still to come.
-pub rule-near : (clocks : Clocks) (event : Event) (o : Option RuleStarts) (coming : List Entry) → HasRuled clocks event o coming → (e : Entry) → IsIn e coming →
-    IsAskedNear clocks event (rule_asked o) e.start
-rule-near clocks event None coming ruled e m = tt
-rule-near clocks event (Some s) coming ruled e m = λ local k.
-    let there = moment-in (starts_left s) e.start (ruled e m local k) in
-    subst (λ t. (midnight s.asked -ℤ whole_days 3) ≤ℤ t) there.2 (left-near s there.0 there.1)
-
--- so it is where it has been read on
-pub asked-near : (clocks : Clocks) (event : Event) (a b : Option RuleStarts) → HasSameRule a b → rule_left b ≡ rule_left a → (coming : List Entry) →
-    HasRuled clocks event a coming
-    → (e : Entry) → IsIn e coming → IsAskedNear clocks event (rule_asked b) e.start
-asked-near clocks event a b same left coming ruled =
-    rule-near clocks event b coming (ruled-on a b same left ruled)
-  where
-    ruled-on : (a b : Option RuleStarts) → HasSameRule a b → rule_left b ≡ rule_left a → HasRuled clocks event a coming → HasRuled clocks event b coming
-    ruled-on None None same e h = tt
-    ruled-on (Some a) (Some b) same e h = subst (λ xs. HaveRuled clocks event xs coming) (sym e) h
-    ruled-on None (Some b) same e h = absurd same
-    ruled-on (Some a) None same e h = absurd same
-
--- and each that the starts of an event give is of it
-pub given-own : (clocks : Clocks) (w : Window) (event : Event) (since : ℤ) (overridden : List ℤ) (starts : List Start) (e : Entry) →
-    IsIn e (given_of clocks w event since overridden starts) → e.event ≡ event
-given-own clocks w event since overridden starts e m =
-    ap (λ (o : Entry). o.event) (in-picked clocks event (is_wanted clocks w event since overridden) starts e m).is
+  -- so it is where it has been read on
+  module _ (a b : Option RuleStarts) (same : HasSameRule a b) (left : rule_left b ≡ rule_left a) where
+    pub asked-near : (coming : List Entry) → HasRuled clocks event a coming → (e : Entry) → IsIn e coming → IsAskedNear clocks event (rule_asked b) e.start
+    asked-near coming ruled = rule-near b coming (ruled-same a b {coming = coming} same left refl ruled)

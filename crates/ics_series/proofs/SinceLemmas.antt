@@ -148,16 +148,15 @@ module _ (zones : FileZones) (w : Window) (event : Event) where
         (int_lt (instant (clocks_in zones) (time_at event.start local)) w.to)
         parts.1 (true_int_lt (instant (clocks_in zones) (time_at event.start local)) w.to early)
 
-low-by : {from first since t local : ℤ} (earliest to : ℤ) → from ≤ℤ int_max first (int_max earliest (int_min since to) -ℤ whole_days 6) →
-    (earliest -ℤ whole_days 4) ≤ℤ t → since ≤ℤ t → first ≤ℤ local → (t -ℤ whole_days 2) <ℤ local → from ≤ℤ local
-low-by {from = from} {first = first} {since = since} {t = t} {local = local} earliest to low late own above near =
+low-by : {first since t local : ℤ} (earliest to : ℤ) → (earliest -ℤ whole_days 4) ≤ℤ t → since ≤ℤ t → first ≤ℤ local → (t -ℤ whole_days 2) <ℤ local →
+    int_max first (int_max earliest (int_min since to) -ℤ whole_days 6) ≤ℤ local
+low-by {first = first} {since = since} earliest to late own above near =
     omega (
       arith,
       ints,
       int_max_is first (int_max earliest (int_min since to) -ℤ whole_days 6),
       int_max_is earliest (int_min since to),
       int_min_is since to,
-      low,
       late,
       own,
       above,
@@ -165,21 +164,25 @@ low-by {from = from} {first = first} {since = since} {t = t} {local = local} ear
     )
 
 module _ (zones : FileZones) (w : Window) (event : Event) (sound : IsEvent event) (since : ℤ) where
+  -- all that is sought from the instant on has a start among these
+  abbrev HasSought : List Start → Type 0
+  HasSought starts =
+      (source : StartSource) (given : Rdate) → GivesStart (clocks_in zones) event source given →
+      IsSought (clocks_in zones) event w (instant (clocks_in zones) (time_of given)) → since ≤ℤ instant (clocks_in zones) (time_of given)
+      → HasStart starts source (instant (clocks_in zones) (time_of given))
+
   -- what gives a start that is sought from the instant on is asked for
-  asked-for : (from local : Local) (given : Rdate) →
-      local_seconds from ≤ℤ int_max (local_seconds (local_of event.start.stamp))
-      (first_asked (clocks_in zones) w event since (listed_from (clocks_in zones) w event.start 0 event.rdates) -ℤ whole_days 6)
-      → GivesStart (clocks_in zones) event (Kept local) given → IsSought (clocks_in zones) event w (instant (clocks_in zones) (time_of given)) →
-      since ≤ℤ instant (clocks_in zones) (time_of given) → local_seconds from ≤ℤ local_seconds local
-  asked-for from local given low g s late =
+  asked-for : (local : Local) (given : Rdate) → GivesStart (clocks_in zones) event (Kept local) given →
+      IsSought (clocks_in zones) event w (instant (clocks_in zones) (time_of given)) → since ≤ℤ instant (clocks_in zones) (time_of given)
+      → int_max (local_seconds (local_of event.start.stamp))
+      (first_asked (clocks_in zones) w event since (listed_from (clocks_in zones) w event.start 0 event.rdates) -ℤ whole_days 6) ≤ℤ local_seconds local
+  asked-for local given g s late =
       let time = time_at event.start local in
       let same = ap (λ x. instant (clocks_in zones) (time_of x)) g.1 in
-      let sought : (earliest (clocks_in zones) w event (listed_from (clocks_in zones) w event.start 0 event.rdates) -ℤ whole_days 4) ≤ℤ instant
-      (clocks_in zones) (time_of given) =
-      sought-late zones w event (instant (clocks_in zones) (time_of given)) s in
       let near = instant-near zones time in
       let at = written-at event.start.stamp local in
-      low-by (earliest (clocks_in zones) w event (listed_from (clocks_in zones) w event.start 0 event.rdates)) (w.to +ℤ whole_days 14) low sought late (kept-first (clocks_in zones) event sound.start local g.0)
+      low-by (earliest (clocks_in zones) w event (listed_from (clocks_in zones) w event.start 0 event.rdates)) (w.to +ℤ whole_days 14)
+      (sought-late zones w event (instant (clocks_in zones) (time_of given)) s) late (kept-first (clocks_in zones) event sound.start local g.0)
       (omega (arith, ints, same, near.1, at.0))
 
   own-day-of : (local : Local) → (local ≡ local_of event.start.stamp) ⊎ IsRuleStart (clocks_in zones) event local → IsDayNumber local.day
@@ -198,8 +201,9 @@ module _ (zones : FileZones) (w : Window) (event : Event) (sound : IsEvent event
         ap (λ x. instant (clocks_in zones) (time_of x)) g.1 in
         let early = sought-early zones w event (instant (clocks_in zones) (time_of given)) s in
         let day = own-day-of local g.0 in
-        let asked = asked-for r.from local given r.low g s late in
-        let from : number r.from ≤ number local = omega (arith, ints, asked, number-seconds r.from r.day, number-seconds local day) in
+        let low = r.low in
+        let asked = asked-for local given g s late in
+        let from : number r.from ≤ number local = omega (arith, ints, low, asked, number-seconds r.from r.day, number-seconds local day) in
         let near = instant-near zones time in
         let at = written-at event.start.stamp local in
         let below : number local < rules_end = omega (arith, ints, same, early, near.0, at.1, number-seconds local day, w.not_late) in
@@ -218,9 +222,7 @@ module _ (zones : FileZones) (w : Window) (event : Event) (sound : IsEvent event
         subst (λ (s : Start). IsNotAfter s.source (Listed place)) (sym f.is) tt
 
     pub with-ruled : (listed : List Start) → Rises moment_cmp starts → AreFirsts (listed_from (clocks_in zones) w event.start 0 event.rdates) listed
-        → (source : StartSource) (given : Rdate) → GivesStart (clocks_in zones) event source given →
-        IsSought (clocks_in zones) event w (instant (clocks_in zones) (time_of given)) → since ≤ℤ instant (clocks_in zones) (time_of given)
-        → HasStart (union moment_cmp starts listed) source (instant (clocks_in zones) (time_of given))
+        → HasSought (union moment_cmp starts listed)
     with-ruled listed rises firsts (Kept local) given g s late =
         has-union starts listed (Kept local) (instant (clocks_in zones) (time_of given)) rises (ruled local given g s late)
     with-ruled listed rises firsts (Listed place) given g s late =
@@ -244,15 +246,13 @@ module _ (zones : FileZones) (w : Window) (event : Event) (sound : IsEvent event
   all-by : (o : Option RuleStarts) (parts : Option RuleParts) (listed : List Start) → event.rule ≡ parts →
       AreFirsts (listed_apart (clocks_in zones) w event parts) listed
       → MatchOption o (event.rule ≡ None) (λ s. IsRuleFrom (clocks_in zones) event w since (listed_apart (clocks_in zones) w event parts) (starts_left s))
-      → (source : StartSource) (given : Rdate) → GivesStart (clocks_in zones) event source given →
-      IsSought (clocks_in zones) event w (instant (clocks_in zones) (time_of given)) → since ≤ℤ instant (clocks_in zones) (time_of given)
-      → HasStart (union moment_cmp (rule_left o) listed) source (instant (clocks_in zones) (time_of given))
-  all-by None None listed e firsts r source given g s late = firsts.all (start_by (clocks_in zones) source given) (none-else zones w event e source given g s)
-  all-by None (Some parts) listed e firsts r source given g s late = let f : None ≡ Some parts = sym r ∙ e in absurd cc
-  all-by (Some starts) None listed e firsts r source given g s late = let f : None ≡ Some r.rule = ap (option_map (recurrence_by event.start.stamp)) (sym e)
-      ∙ r.has in absurd cc
-  all-by (Some starts) (Some parts) listed e firsts r source given g s late =
-      with-ruled (starts_left starts) r listed (rises-rule (Some starts)) firsts source given g s late
+      → HasSought (union moment_cmp (rule_left o) listed)
+  all-by None None listed e firsts r =
+      λ source given g s late. firsts.all (start_by (clocks_in zones) source given) (none-else zones w event e source given g s)
+  all-by None (Some parts) listed e firsts r = let f : None ≡ Some parts = sym r ∙ e in absurd cc
+  all-by (Some starts) None listed e firsts r =
+      let f : None ≡ Some r.rule = ap (option_map (recurrence_by event.start.stamp)) (sym e) ∙ r.has in absurd cc
+  all-by (Some starts) (Some parts) listed e firsts r = with-ruled (starts_left starts) r listed (rises-rule (Some starts)) firsts
 
   -- Where an occurrence begins at the instant of a local that DTSTART has or the rule keeps, the rule has a start there.
   sought-at : (e : Entry) → IsEventMet (clocks_in zones) event w e → IsSought (clocks_in zones) event w e.start
@@ -293,9 +293,10 @@ module _ (zones : FileZones) (w : Window) (event : Event) (sound : IsEvent event
   }
 
 -- the rule's starts by what the starts that are known from the first and the instant are
-pub ruled-as : (clocks : Clocks) (event : Event) (w : Window) {t since : ℤ} {given listed : List Start} (o : Option RuleStarts) → t ≡ since → given ≡ listed
-    → MatchOption o (event.rule ≡ None) (λ s. IsRuleFrom clocks event w t given (starts_left s)) →
-    MatchOption o (event.rule ≡ None) (λ s. IsRuleFrom clocks event w since listed (starts_left s))
-ruled-as clocks event w {t = t} {listed = listed} o e f h =
-    subst (λ x. MatchOption o (event.rule ≡ None) (λ s. IsRuleFrom clocks event w x listed (starts_left s))) e
-    (subst (λ xs. MatchOption o (event.rule ≡ None) (λ s. IsRuleFrom clocks event w t xs (starts_left s))) f h)
+module _ (clocks : Clocks) (event : Event) (w : Window) where
+  pub ruled-as : {t since : ℤ} {given listed : List Start} (o : Option RuleStarts) → t ≡ since → given ≡ listed
+      → MatchOption o (event.rule ≡ None) (λ s. IsRuleFrom clocks event w t given (starts_left s)) →
+      MatchOption o (event.rule ≡ None) (λ s. IsRuleFrom clocks event w since listed (starts_left s))
+  ruled-as {t = t} {listed = listed} o e f h =
+      subst (λ x. MatchOption o (event.rule ≡ None) (λ s. IsRuleFrom clocks event w x listed (starts_left s))) e
+      (subst (λ xs. MatchOption o (event.rule ≡ None) (λ s. IsRuleFrom clocks event w t xs (starts_left s))) f h)

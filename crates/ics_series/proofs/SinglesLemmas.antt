@@ -5,7 +5,6 @@ use Rattle.std.specs.List.{filter, filter_map, list_any}
 use Rattle.std.specs.List.Sorted.{IsPermutation}
 use Rattle.std.specs.Option.{option_and_then, option_map}
 use Rattle.std.specs.Ordering.{on, ordering_then}
-use Rattle.std.specs.declared.cmp.Ordering.TheVariants.{Less}
 use Rattle.std.proofs.lemmas.Int.{ints}
 use Rattle.std.proofs.lemmas.List.Sorted.{IsPermutation-map}
 use Rattle.std.proofs.lemmas.Bool.{and_parts}
@@ -40,7 +39,7 @@ use Rattle.ics_series.proofs.GivenLemmas.{given-subject, placed-event, entry_sta
 use Rattle.ics_series.proofs.MasterLemmas.{same-entry}
 use Rattle.ics_series.proofs.MeetingLemmas.{is_met-meets, meets-is_met}
 use Rattle.ics_series.proofs.OverrideLemmas.{named-overrides}
-use Rattle.ics_series.proofs.PickLemmas.{filter_map-map, listing-picked}
+use Rattle.ics_series.proofs.PickLemmas.{filter_map-map, listing-picked, KeepsOrder}
 use Rattle.ics_series.proofs.PutLemmas.{listing-ordered}
 use Rattle.ics_series.proofs.SingleLemmas.{first-gives}
 use Rattle.ics_series.proofs.SortLemmas.{listing-sorted, map-climbs, Climbs}
@@ -143,8 +142,7 @@ module _ (files : List FileSaid) (display : Clock) (w : Window) (after : Option 
   is-given p c s t = given-by p c ∙ (λ i. if s i && t i then Some (own p) else None)
 
   -- the order of subjects is that of what is given
-  subjects-keep : (p q : Placed) (x y : Entry) → IsChosen files display p → IsChosen files display q → given p ≡ Some x → given q ≡ Some y →
-      by_subject files display p q ≡ Less → given_cmp x y ≡ Less
+  subjects-keep : KeepsOrder given (by_subject files display) given_cmp (IsChosen files display)
   subjects-keep p q x y c d e f less =
       let a = given-is p x c e in
       let b = given-is q y d f in
@@ -180,21 +178,22 @@ module _ (files : List FileSaid) (display : Clock) (w : Window) (after : Option 
       (p, listed.0.chosen, is-given p listed.0.chosen single (ap (is_to_come w os after) (sym is) ∙ comes) ∙ ap Some (sym is))
 
 -- The versions that count give the listing.
-pub singles-listing : {files : List FileSaid} {display : Clock} {vs : List Version} (w : Window) (after : Option Rank) (os : List Version)
-    {given sorted : List Single} → AreChosen files display vs → map seen os ≡ filter is_override (map seen vs)
-    → map single_entry given ≡ filter_map (single_at files display w (map seen os) after) (map seen vs) → IsPermutation given sorted
-    → Climbs (on single_entry entry_cmp) sorted → IsListing entry_cmp (IsSingleToCome files display w after) (map single_entry sorted)
-singles-listing {files = files} {display = display} {vs = vs} w after os {given = given} {sorted = sorted} chosen overrides are p climbs =
-    let label = label_of files display in
-    let one = single_at files display w (map seen os) after in
-    let picked : filter_map (λ p. single_at files display w (map seen os) after (label_of files display p)) chosen.chosen ≡ map single_entry given =
-    sym (filter_map-map label one chosen.chosen) ∙ (ap (filter_map one) (sym chosen.are) ∙ sym are) in
-    let found = listing-picked (λ p. one (label p)) (by_subject files display) (group-total files display) given_cmp (IsChosen files display)
-    (subjects-keep files display w after vs (map seen os) chosen overrides) (IsSingleToCome files display w after) chosen.chosen chosen.listing
-    (given-come files display w after vs (map seen os) chosen overrides) (come-given files display w after vs (map seen os) chosen overrides) in
-    listing-sorted given_cmp given_total entry_cmp (IsSingleToCome files display w after) (λ x y a b e. tied-given files display w after x y a.0 b.0 e)
-    (map single_entry given) (map single_entry sorted) (subst (IsListing given_cmp (IsSingleToCome files display w after)) picked found)
-    (IsPermutation-map single_entry given sorted p) (map-climbs single_entry entry_cmp sorted climbs)
+module _ (w : Window) (after : Option Rank) where
+  pub singles-listing : {files : List FileSaid} {display : Clock} {vs : List Version} (os : List Version)
+      {given sorted : List Single} → AreChosen files display vs → map seen os ≡ filter is_override (map seen vs)
+      → map single_entry given ≡ filter_map (single_at files display w (map seen os) after) (map seen vs) → IsPermutation given sorted
+      → Climbs (on single_entry entry_cmp) sorted → IsListing entry_cmp (IsSingleToCome files display w after) (map single_entry sorted)
+  singles-listing {files = files} {display = display} {vs = vs} os {given = given} {sorted = sorted} chosen overrides are p climbs =
+      let label = label_of files display in
+      let one = single_at files display w (map seen os) after in
+      let picked : filter_map (λ p. single_at files display w (map seen os) after (label_of files display p)) chosen.chosen ≡ map single_entry given =
+      sym (filter_map-map label one chosen.chosen) ∙ (ap (filter_map one) (sym chosen.are) ∙ sym are) in
+      let found = listing-picked (λ p. one (label p)) (by_subject files display) (group-total files display) given_cmp (IsChosen files display)
+      (subjects-keep files display w after vs (map seen os) chosen overrides) (IsSingleToCome files display w after) chosen.chosen chosen.listing
+      (given-come files display w after vs (map seen os) chosen overrides) (come-given files display w after vs (map seen os) chosen overrides) in
+      listing-sorted given_cmp given_total entry_cmp (IsSingleToCome files display w after) (λ x y a b e. tied-given files display w after x y a.0 b.0 e)
+      (map single_entry given) (map single_entry sorted) (subst (IsListing given_cmp (IsSingleToCome files display w after)) picked found)
+      (IsPermutation-map single_entry given sorted p) (map-climbs single_entry entry_cmp sorted climbs)
 
 -- and all that meet the window have a list
 pub singles-whole : (files : List FileSaid) (display : Clock) (w : Window) (vs : List Version) → AreChosen files display vs →

@@ -30,13 +30,13 @@ Climbs R (x ∷ xs) = IsUpTo R x xs × Climbs R xs
 
 -- Members.
 module _ {A : Type 0} where
-  in-contains-at : (x y : A) (ys : List A) (k : ℕ) → (Contains ys x → IsIn x ys) → k < length (y ∷ ys) → get_or (y ∷ ys) k x ≡ x → IsIn x (y ∷ ys)
-  in-contains-at x y ys zero ih l e = inl (sym e)
-  in-contains-at x y ys (suc k) ih l e = inr (ih (k, omega arith, e))
-
   pub in-contains : (x : A) (xs : List A) → Contains xs x → IsIn x xs
   in-contains x [] h = absurd (omega (arith, h.1))
-  in-contains x (y ∷ ys) h = in-contains-at x y ys h.0 (in-contains x ys) h.1 h.2
+  in-contains x (y ∷ ys) h = by h.0 (in-contains x ys) h.1 h.2
+    where
+      by : (k : ℕ) → (Contains ys x → IsIn x ys) → k < length (y ∷ ys) → get_or (y ∷ ys) k x ≡ x → IsIn x (y ∷ ys)
+      by zero ih l e = inl (sym e)
+      by (suc k) ih l e = inr (ih (k, omega arith, e))
 
   pub contains-in : (x : A) (xs : List A) → IsIn x xs → Contains xs x
   contains-in x [] m = absurd m
@@ -167,22 +167,24 @@ module _ {A : Type 0} (R : A → A → Ordering) (o : IsTotalOrder R) where
 
   -- S orders what P holds of, and ties no more there than R does
   module _ (S : A → A → Ordering) (P : A → Type 0) (finer : (x y : A) → P x → P y → S x y ≡ Equal → R x y ≡ Equal) where
-    before-all : (x : A) (ys zs : List A) → P x → ((y : A) → IsIn y ys → P y) → ((y : A) → IsIn y zs → IsIn y ys) → IsUpTo S x zs → ties_of x (x ∷ ys) ≤ 1 →
-        IsBefore S x zs
-    before-all x ys [] p all f h t = tt
-    before-all x ys (z ∷ zs) p all f h t =
-        (by (S x z) refl, before-all x ys zs p all (λ y m. f y (inr m)) h.1 t)
-      where
-        by : (c : Ordering) → S x z ≡ c → S x z ≡ Less
-        by Less e = e
-        by Equal e =
-            absurd (omega (arith, ties_of-cons x x ys, ap tie (tied_itself o x), some-tie x z ys (finer x z p (all z (f z (inl refl))) e) (f z (inl refl)), t))
-        by Greater e = let no : is_gt Greater ≡ false = ap is_gt (sym e) ∙ h.0 in cc
+    module _ (x : A) (ys : List A) (all : (y : A) → IsIn y (x ∷ ys) → P y) (t : ties_of x (x ∷ ys) ≤ 1) where
+      before-all : (zs : List A) → ((y : A) → IsIn y zs → IsIn y ys) → IsUpTo S x zs → IsBefore S x zs
+      before-all [] f h = tt
+      before-all (z ∷ zs) f h =
+          (by (S x z) refl, before-all zs (λ y m. f y (inr m)) h.1)
+        where
+          by : (c : Ordering) → S x z ≡ c → S x z ≡ Less
+          by Less e = e
+          by Equal e =
+              let there = f z (inl refl) in
+              let some = some-tie x z ys (finer x z (all x (inl refl)) (all z (inr there)) e) there in
+              absurd (omega (arith, ties_of-cons x x ys, ap tie (tied_itself o x), some, t))
+          by Greater e = let no : is_gt Greater ≡ false = ap is_gt (sym e) ∙ h.0 in cc
 
     rises-climbing : (xs : List A) → ((x : A) → IsIn x xs → P x) → Climbs S xs → ((x : A) → ties_of x xs ≤ 1) → Rises S xs
     rises-climbing [] all h t = tt
     rises-climbing (x ∷ xs) all h t = (
-      before-all x xs xs (all x (inl refl)) (λ y m. all y (inr m)) (λ y m. m) h.0 (t x),
+      before-all x xs all (t x) xs (λ y m. m) h.0,
       rises-climbing xs (λ y m. all y (inr m)) h.1 (λ y. omega (arith, ties_of-cons y x xs, t y)),
     )
 

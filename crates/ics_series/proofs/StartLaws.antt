@@ -29,26 +29,26 @@ use Rattle.ics_series.proofs.Cases.{some-same, equal-true, true-equal}
 use Rattle.ics_series.proofs.StartSourceLemmas.{calendar-day, index-is, kept-late, number-seconds, own-day, own-time, rule-is, same-number}
 use Rattle.ics_series.proofs.KeptLemmas.{true-until, until-true}
 
--- an event without a rule and without RDATEs has the start at DTSTART alone
-pub ruleless : (clocks : Clocks) (event : Event) (source : StartSource) (given : Rdate) → event.rule ≡ None → event.rdates ≡ [] →
-    GivesStart clocks event source given → given ≡ At event.start
-ruleless clocks event (Kept local) given none bare g =
-    ⊎_elim (λ e. g.1 ∙ ap (λ l. At (time_at event.start l)) e ∙ ap At (own-time event.start))
-    (λ r. let f : None ≡ Some r.rule = ap (option_map (recurrence_by event.start.stamp)) (sym none) ∙ r.has in absurd cc) g.0
-ruleless clocks event (Listed place) given none bare g = let f : None ≡ Some g.0 = ap (λ (xs : List Rdate). slice_get xs place) (sym bare) ∙ g.1 in absurd cc
+module _ (clocks : Clocks) (event : Event) where
+  -- an event without a rule and without RDATEs has the start at DTSTART alone
+  ruleless : (source : StartSource) (given : Rdate) → event.rule ≡ None → event.rdates ≡ [] → GivesStart clocks event source given → given ≡ At event.start
+  ruleless (Kept local) given none bare g =
+      ⊎_elim (λ e. g.1 ∙ ap (λ l. At (time_at event.start l)) e ∙ ap At (own-time event.start))
+      (λ r. let f : None ≡ Some r.rule = ap (option_map (recurrence_by event.start.stamp)) (sym none) ∙ r.has in absurd cc) g.0
+  ruleless (Listed place) given none bare g = let f : None ≡ Some g.0 = ap (λ (xs : List Rdate). slice_get xs place) (sym bare) ∙ g.1 in absurd cc
 
-pub one-start : (clocks : Clocks) (event : Event) (start end : ℤ) → event.rule ≡ None → event.rdates ≡ [] → IsInstance clocks event start end
-    → (start ≡ instant clocks event.start) × (end ≡ finish clocks event (At event.start))
-one-start clocks event start end none bare h =
-    let same = ruleless clocks event h.source h.given none bare h.gives in
-    (h.starts ∙ ap (λ x. instant clocks (time_of x)) same, h.ends ∙ ap (finish clocks event) same)
+  pub one-start : (start end : ℤ) → event.rule ≡ None → event.rdates ≡ [] → IsInstance clocks event start end
+      → (start ≡ instant clocks event.start) × (end ≡ finish clocks event (At event.start))
+  one-start start end none bare h =
+      let same = ruleless h.source h.given none bare h.gives in
+      (h.starts ∙ ap (λ x. instant clocks (time_of x)) same, h.ends ∙ ap (finish clocks event) same)
 
-pub none-excluded : (clocks : Clocks) (event : Event) (exdate : Time) (start end : ℤ) → Contains event.exdates exdate →
-    excludes clocks event.start exdate start ≡ true → ¬ IsInstance clocks event start end
-none-excluded clocks event exdate start end there out h =
-    let f : true ≡ false = sym (list_any_at (λ x. excludes clocks event.start x start) event.exdates there.0 exdate there.1
-    (ap (λ x. excludes clocks event.start x start) there.2 ∙ out)) ∙ h.stays in
-    absurd cc
+  pub none-excluded : (exdate : Time) (start end : ℤ) → Contains event.exdates exdate → excludes clocks event.start exdate start ≡ true →
+      ¬ IsInstance clocks event start end
+  none-excluded exdate start end there out h =
+      let f : true ≡ false = sym (list_any_at (λ x. excludes clocks event.start x start) event.exdates there.0 exdate there.1
+      (ap (λ x. excludes clocks event.start x start) there.2 ∙ out)) ∙ h.stays in
+      absurd cc
 
 -- The local with a number.
 local_from : ℕ → Local
@@ -268,6 +268,7 @@ module _ (clocks : Clocks) (event : Event) (time : IsTime event.start) (t : ℤ)
       ⊎_elim (λ found. found) (λ unkept. absurd (unkept local g.0 (ap (λ x. instant clocks (time_of x)) (sym g.1) ∙ same))) kept-or-none
   some-instance (Listed place) given g same = ⊎_elim (λ found. found) (λ unkept. listed-instance unkept place given g same) kept-or-none
 
-pub each-start : (clocks : Clocks) (event : Event) (source : StartSource) (given : Rdate) → IsTime event.start → GivesStart clocks event source given
-    → is_excluded clocks event (instant clocks (time_of given)) ≡ false → (end : ℤ) × IsInstance clocks event (instant clocks (time_of given)) end
-each-start clocks event source given time g stays = some-instance clocks event time (instant clocks (time_of given)) stays source given g refl
+module _ (clocks : Clocks) (event : Event) where
+  pub each-start : (source : StartSource) (given : Rdate) → IsTime event.start → GivesStart clocks event source given
+      → is_excluded clocks event (instant clocks (time_of given)) ≡ false → (end : ℤ) × IsInstance clocks event (instant clocks (time_of given)) end
+  each-start source given time g stays = some-instance clocks event time (instant clocks (time_of given)) stays source given g refl

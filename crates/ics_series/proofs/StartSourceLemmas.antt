@@ -150,21 +150,20 @@ kept-time event {rule = rule} a h e d k =
     time-at event.start a h (kept-day event.start by.0 a h d (subst (λ r. is_kept r (number a) ≡ true) by.1 k))
 
 -- two of which none is after the other are the same
-same-source : (g k : StartSource) → IsNotAfter g k → IsNotAfter k g → g ≡ k
+pub same-source : (g k : StartSource) → IsNotAfter g k → IsNotAfter k g → g ≡ k
 same-source (Kept a) (Kept b) h l = ap Kept (same-seconds a b (omega (arith, ints, h, l)))
 same-source (Kept a) (Listed b) h l = absurd l
 same-source (Listed a) (Kept b) h l = absurd h
 same-source (Listed a) (Listed b) h l = ap Listed (omega (arith, h, l))
 
 -- it gives one value
-same-given : (clocks : Clocks) (event : Event) (g : StartSource) (x y : Rdate) → GivesStart clocks event g x → GivesStart clocks event g y → x ≡ y
-same-given clocks event (Kept local) x y h k = h.1 ∙ sym k.1
-same-given clocks event (Listed place) x y h k = h.2 ∙ (ap (given_by event.start) (some-same h.0 k.0 (sym h.1 ∙ k.1)) ∙ sym k.2)
-
-pub same-first : (clocks : Clocks) (event : Event) (g k : StartSource) (x y : Rdate) → GivesStart clocks event g x → GivesStart clocks event k y →
-    IsNotAfter g k → IsNotAfter k g → x ≡ y
-same-first clocks event g k x y gives other h l =
-    same-given clocks event k x y (subst (λ i. GivesStart clocks event i x) (same-source g k h l) gives) other
+module _ (clocks : Clocks) (event : Event) where
+  pub same-given : {g k : StartSource} (x y : Rdate) → g ≡ k → GivesStart clocks event g x → GivesStart clocks event k y → x ≡ y
+  same-given {k = k} x y e gives other = by k (subst (λ i. GivesStart clocks event i x) e gives) other
+    where
+      by : (k : StartSource) → GivesStart clocks event k x → GivesStart clocks event k y → x ≡ y
+      by (Kept local) h k = h.1 ∙ sym k.1
+      by (Listed place) h k = h.2 ∙ (ap (given_by event.start) (some-same h.0 k.0 (sym h.1 ∙ k.1)) ∙ sym k.2)
 
 -- an event has one occurrence at most with a start
 pub one-instance : {clocks : Clocks} {event : Event} {start end other : ℤ} → IsInstance clocks event start end → IsInstance clocks event start other →
@@ -172,7 +171,7 @@ pub one-instance : {clocks : Clocks} {event : Event} {start end other : ℤ} →
 one-instance {clocks = clocks} {event = event} h k =
     let below = h.earliest k.source k.given k.gives (sym k.starts) in
     let above = k.earliest h.source h.given h.gives (sym h.starts) in
-    h.ends ∙ (ap (finish clocks event) (same-first clocks event h.source k.source h.given k.given h.gives k.gives below above) ∙ sym k.ends)
+    h.ends ∙ (ap (finish clocks event) (same-given clocks event h.given k.given (same-source h.source k.source below above) h.gives k.gives) ∙ sym k.ends)
 
 -- Values that give starts.
 pub rdate-time : (r : Rdate) → IsRdate r → IsTime (time_of r)
@@ -229,20 +228,19 @@ given-zone zones first (Zoned local) (Span start lasts) h v = v
 pub all-at : {A : Type 0} (P : A → Type 0) (xs : List A) (k : ℕ) (x : A) → All P xs → slice_get xs k ≡ Some x → P x
 all-at P xs k x h e = subst P (get_or_from_slice_get xs k x x e) (h k x (slice_get_within xs k x e))
 
--- what gives a start of an event is a value such as RDATEs have
-pub gives-value : (clocks : Clocks) (event : Event) (g : StartSource) (given : Rdate) → IsTime event.start → All IsRdate event.rdates →
-    GivesStart clocks event g given → IsRdate given
-gives-value clocks event (Kept local) given h all g =
-    subst IsRdate (sym g.1)
-    (⊎_elim (λ e. subst (λ l. IsTime (time_at event.start l)) (sym e) (subst IsTime (sym (own-time event.start)) h))
-    (λ r. kept-time event local h r.has r.calendar r.kept) g.0)
-gives-value clocks event (Listed place) given h all g =
-    subst IsRdate (sym g.2) (given-value event.start event.start.stamp g.0 h (all-at IsRdate event.rdates place g.0 all g.1))
+module _ (clocks : Clocks) (event : Event) where
+  -- what gives a start of an event is a value such as RDATEs have
+  pub gives-value : (g : StartSource) (given : Rdate) → IsTime event.start → All IsRdate event.rdates → GivesStart clocks event g given → IsRdate given
+  gives-value (Kept local) given h all g =
+      subst IsRdate (sym g.1)
+      (⊎_elim (λ e. subst (λ l. IsTime (time_at event.start l)) (sym e) (subst IsTime (sym (own-time event.start)) h))
+      (λ r. kept-time event local h r.has r.calendar r.kept) g.0)
+  gives-value (Listed place) given h all g =
+      subst IsRdate (sym g.2) (given-value event.start event.start.stamp g.0 h (all-at IsRdate event.rdates place g.0 all g.1))
 
--- whose zones are the file's
-pub gives-below : (zones : ℕ) (clocks : Clocks) (event : Event) (g : StartSource) (given : Rdate) → HasZonesBelow zones event →
-    GivesStart clocks event g given → RdateBelow zones given
-gives-below zones clocks event (Kept local) given below g = subst (RdateBelow zones) (sym g.1) below.start
-gives-below zones clocks event (Listed place) given below g =
-    subst (RdateBelow zones) (sym g.2) (given-zone zones event.start event.start.stamp g.0 below.start
-    (all-at (RdateBelow zones) event.rdates place g.0 below.rdates g.1))
+  -- whose zones are the file's
+  pub gives-below : {zones : ℕ} (g : StartSource) (given : Rdate) → HasZonesBelow zones event → GivesStart clocks event g given → RdateBelow zones given
+  gives-below {zones = zones} (Kept local) given below g = subst (RdateBelow zones) (sym g.1) below.start
+  gives-below {zones = zones} (Listed place) given below g =
+      subst (RdateBelow zones) (sym g.2) (given-zone zones event.start event.start.stamp g.0 below.start
+      (all-at (RdateBelow zones) event.rdates place g.0 below.rdates g.1))

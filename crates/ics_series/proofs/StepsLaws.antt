@@ -88,29 +88,31 @@ module _ (zones : FileZones) (event : Event) (w : Window) (since : ℤ) (coming 
       let same : s.rule ≡ rule = some-same s.rule rule (sym s.of ∙ (ap recurrence_of own.event_is ∙ has)) in
       let low : a ≤ number s.from = omega (arith, ints, from, own.late, number-seconds s.from own.day) in
       let high = asked-by s own near to in
-      let more = periods-within s.rule (looks_from s.rule.parts.count (number s.rule.start) (number s.from)) (midnight_number s.asked)
-      (looks_from s.rule.parts.count (number s.rule.start) a) b (looks-earlier s.rule.parts.count (number s.rule.start) a (number s.from) low) high in
+      let more = periods-within s.rule (looks-earlier s.rule.parts.count (number s.rule.start) a (number s.from) low) high in
       subst (λ (r : Recurrence). steps_of s.cursor ≤ period_count r (looks_from r.parts.count (number r.start) a) b) same (omega (arith, own-steps s, more))
 
-none-looked : (zones : FileZones) (event : Event) (w : Window) (first : ℤ) (o : Option RuleStarts) → recurrence_of event ≡ None →
-    HasOwnRule zones event w first o → rule_looked o ≤ 0
-none-looked zones event w first None has own = omega arith
-none-looked zones event w first (Some r) has own = let no : Some r.rule ≡ None = sym r.of ∙ (ap recurrence_of own.event_is ∙ has) in absurd cc
+module _ (zones : FileZones) (event : Event) (w : Window) (first : ℤ) where
+  none-looked : (o : Option RuleStarts) → recurrence_of event ≡ None → HasOwnRule zones event w first o → rule_looked o ≤ 0
+  none-looked None has own = omega arith
+  none-looked (Some r) has own = let no : Some r.rule ≡ None = sym r.of ∙ (ap recurrence_of own.event_is ∙ has) in absurd cc
 
 abbrev master_in : Series → Recurring
 master_in s = record { clocks = clocks_in s.zones; event = s.event.now; window = s.window; since = s.since }
 
-series-most : (s : Series) (coming : List Entry) (o : Option Recurrence) (most : ℕ) → recurrence_of s.event.now ≡ o
-    → ((e : Entry) → IsIn e coming → e.event ≡ s.event.now → series_near s e) → HasStepBound (master_in s) coming most → rule_looked s.rule_starts ≤ most
-series-most s coming None most has near bound =
-    omega (arith, none-looked s.zones s.event.now s.window (first_of (clocks_in s.zones) s.window s.event.now s.since) s.rule_starts has s.own_rule)
-series-most s coming (Some rule) most has near bound =
-    let p = bound rule has in
-    omega (
-      arith,
-      rule-steps s.zones s.event.now s.window s.since coming p.a p.b s.rule_starts has s.own_rule (λ e m of. (near e m of).1) p.from p.to,
-      p.count,
-    )
+series-most : (s : Series) (coming : List Entry) (most : ℕ) → ((e : Entry) → IsIn e coming → e.event ≡ s.event.now → series_near s e)
+    → HasStepBound (master_in s) coming most → rule_looked s.rule_starts ≤ most
+series-most s coming most near bound = by (recurrence_of s.event.now) refl
+  where
+    by : (o : Option Recurrence) → recurrence_of s.event.now ≡ o → rule_looked s.rule_starts ≤ most
+    by None has =
+        omega (arith, none-looked s.zones s.event.now s.window (first_of (clocks_in s.zones) s.window s.event.now s.since) s.rule_starts has s.own_rule)
+    by (Some rule) has =
+        let p = bound rule has in
+        omega (
+          arith,
+          rule-steps s.zones s.event.now s.window s.since coming p.a p.b s.rule_starts has s.own_rule (λ e m of. (near e m of).1) p.from p.to,
+          p.count,
+        )
 
 -- Parts, of which one at most is of the events that start once, and the masters of the others have UIDs of their own.
 abbrev IsOfPart : Part → Entry → Type 0
@@ -124,7 +126,7 @@ part-most (Singles s) coming most near bound = omega arith
 part-most (OfSeries s) coming most near bound =
     omega (
       arith,
-      series-most s.value coming (recurrence_of s.value.event.now) (most (master_in s.value)) refl near (bound (master_in s.value) (inl refl)),
+      series-most s.value coming (most (master_in s.value)) near (bound (master_in s.value) (inl refl)),
       sum_by-cons most (master_in s.value) [],
     )
 
@@ -185,21 +187,15 @@ module _ {X : Type 0} (part : X → Part) (lists : X → List Entry) where
   behind (Singles s) e ys h recur rise = single-behind e h ys recur
   behind (OfSeries s) e ys h recur rise = series-behind e (master_in s.value) h.0 ys rise.0
 
-  none-behind : (e : Entry) (m : Recurring) → e.event ≡ m.event → is_single m.event ≡ false → (ys : List X) → IsBefore uid_cmp m (recurring (sources_in ys)) →
-      AllNear ys → InOne e (map lists ys) → ⊥
-  none-behind e m h s [] b near k = k
-  none-behind e m h s (y ∷ ys) b near k =
-      ⊎_elim (λ here. one (part y) (sources_in ys) b (near.0 e here)) (λ there. none-behind e m h s ys (before-rest m (part y) (sources_in ys) b) near.1 there)
-      k
-    where
-      one : (q : Part) (more : List Source) → IsBefore uid_cmp m (recurring (part_sources q ++ more)) → part_near q e → ⊥
-      one (Singles s') more b n = not-single e m.event h n s
-      one (OfSeries s') more b n = not-itself m (master_in s'.value) e h n.0 b.0
-
-  ahead : (p : Part) (e : Entry) (ys : List X) → AreRecurring (recurring (part_sources p ++ sources_in ys)) →
-      Rises uid_cmp (recurring (part_sources p ++ sources_in ys)) → AllNear ys → InOne e (map lists ys) → IsOfPart p e → part_near p e
-  ahead (Singles s) e ys recur rise near k of = of
-  ahead (OfSeries s) e ys recur rise near k of = absurd (none-behind e (master_in s.value) of recur.0 ys rise.0 near k)
+  module _ (e : Entry) (m : Recurring) (of : e.event ≡ m.event) (recurs : is_single m.event ≡ false) where
+    none-behind : (ys : List X) → IsBefore uid_cmp m (recurring (sources_in ys)) → AllNear ys → InOne e (map lists ys) → ⊥
+    none-behind [] b near k = k
+    none-behind (y ∷ ys) b near k =
+        ⊎_elim (λ here. one (part y) (sources_in ys) b (near.0 e here)) (λ there. none-behind ys (before-rest m (part y) (sources_in ys) b) near.1 there) k
+      where
+        one : (q : Part) (more : List Source) → IsBefore uid_cmp m (recurring (part_sources q ++ more)) → part_near q e → ⊥
+        one (Singles s) more b n = not-single e m.event of n recurs
+        one (OfSeries s) more b n = not-itself m (master_in s.value) e of n.0 b.0
 
   -- so that what stands in one of the lists is near to the part that it is of
   own-near : (e : Entry) (xs : List X) → AreRecurring (recurring (sources_in xs)) → Rises uid_cmp (recurring (sources_in xs)) → AllNear xs →
@@ -209,11 +205,16 @@ module _ {X : Type 0} (part : X → Part) (lists : X → List Entry) where
       ⊎_elim
       (λ here. (λ of. near.0 e here, behind (part x) e xs (near.0 e here) recur rise))
       (λ there. (
-        ahead (part x) e xs recur rise near.1 there,
+        ahead (part x) recur rise there,
         own-near e xs (recurring-rest (part x) (sources_in xs) recur)
             (rises-rest (part x) (sources_in xs) rise) near.1 there,
       ))
       k
+    where
+      ahead : (p : Part) → AreRecurring (recurring (part_sources p ++ sources_in xs)) → Rises uid_cmp (recurring (part_sources p ++ sources_in xs)) →
+          InOne e (map lists xs) → IsOfPart p e → part_near p e
+      ahead (Singles s) recur rise k of = of
+      ahead (OfSeries s) recur rise k of = absurd (none-behind e (master_in s.value) of recur.0 xs rise.0 near.1 k)
 
   module _ (coming : List Entry) (most : Recurring → ℕ) where
     each-most : (xs : List X) → ((e : Entry) → IsIn e coming → AllByRecursion (IsNearOf e) xs) →

@@ -28,15 +28,16 @@ pub no-point : (z : ℤ) → FitsSigned w64 z → (i : ℕ) → i < length (sign
 no-point z f i l = All-from_recursion (λ c. c ≢ 46) (signed_decimal z) (no-point-list z f) i 0 l
 
 -- the first point parts a text in one way
-pub one-cut : (xs ys as' bs : List ℕ) → AllByRecursion (λ c. c ≢ 46) xs → AllByRecursion (λ c. c ≢ 46) ys → xs ++ (46 ∷ as') ≡ ys ++ (46 ∷ bs) →
-    (xs ≡ ys) × (as' ≡ bs)
-one-cut [] [] as' bs h k e = (refl, cc)
-one-cut [] (y ∷ ys) as' bs h k e = let same : y ≡ 46 = cc in absurd (k.0 same)
-one-cut (x ∷ xs) [] as' bs h k e = let same : x ≡ 46 = cc in absurd (h.0 same)
-one-cut (x ∷ xs) (y ∷ ys) as' bs h k e =
-    let heads : x ≡ y = cc in
-    let rests : xs ++ (46 ∷ as') ≡ ys ++ (46 ∷ bs) = cc in
-    let r = one-cut xs ys as' bs h.1 k.1 rests in (cc, r.1)
+module _ (one other : List ℕ) where
+  pub one-cut : (xs ys : List ℕ) → AllByRecursion (λ c. c ≢ 46) xs → AllByRecursion (λ c. c ≢ 46) ys → xs ++ (46 ∷ one) ≡ ys ++ (46 ∷ other) →
+      (xs ≡ ys) × (one ≡ other)
+  one-cut [] [] h k e = (refl, cc)
+  one-cut [] (y ∷ ys) h k e = let same : y ≡ 46 = cc in absurd (k.0 same)
+  one-cut (x ∷ xs) [] h k e = let same : x ≡ 46 = cc in absurd (h.0 same)
+  one-cut (x ∷ xs) (y ∷ ys) h k e =
+      let heads : x ≡ y = cc in
+      let rests : xs ++ (46 ∷ one) ≡ ys ++ (46 ∷ other) = cc in
+      let r = one-cut xs ys h.1 k.1 rests in (cc, r.1)
 
 same-rank : (a b : Rank) → a.start ≡ b.start → a.uid ≡ b.uid → a.recurrence ≡ b.recurrence → a ≡ b
 same-rank a b p q r =
@@ -48,9 +49,9 @@ pub one-spelling : (a b : Rank) → IsKey a → IsKey b → spelling a ≡ spell
 one-spelling a b h k e =
     let inner : signed_decimal a.start ++ (46 ∷ (signed_decimal a.recurrence ++ (46 ∷ encode_lower a.uid)))
     ≡ signed_decimal b.start ++ (46 ∷ (signed_decimal b.recurrence ++ (46 ∷ encode_lower b.uid))) = ap (drop 3) e in
-    let first = one-cut (signed_decimal a.start) (signed_decimal b.start) (signed_decimal a.recurrence ++ (46 ∷ encode_lower a.uid))
-    (signed_decimal b.recurrence ++ (46 ∷ encode_lower b.uid)) (no-point-list a.start h.start) (no-point-list b.start k.start) inner in
-    let second = one-cut (signed_decimal a.recurrence) (signed_decimal b.recurrence) (encode_lower a.uid) (encode_lower b.uid)
+    let first = one-cut (signed_decimal a.recurrence ++ (46 ∷ encode_lower a.uid)) (signed_decimal b.recurrence ++ (46 ∷ encode_lower b.uid))
+    (signed_decimal a.start) (signed_decimal b.start) (no-point-list a.start h.start) (no-point-list b.start k.start) inner in
+    let second = one-cut (encode_lower a.uid) (encode_lower b.uid) (signed_decimal a.recurrence) (signed_decimal b.recurrence)
     (no-point-list a.recurrence h.recurrence) (no-point-list b.recurrence k.recurrence) first.1 in
     let uid : a.uid ≡ b.uid = let q = sym (decode_of-encode_lower a.uid h.uid) ∙ (ap decode_of second.1 ∙ decode_of-encode_lower b.uid k.uid) in cc in
     same-rank a b (signed_decimal_injective a.start b.start h.start.sfits k.start.sfits first.0) uid

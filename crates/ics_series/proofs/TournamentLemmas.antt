@@ -183,22 +183,23 @@ winner-set winners node w k h =
     ∙ ap (λ x. cond (nat_lt k (length winners)) x (k - length winners)) (get_or-set_other winners node k w 0 h)
 
 -- after a node is put right
-pub settle : (heads : List (Option Entry)) (winners : List ℕ) (node : ℕ) (P Q : ℕ → Type 0) → 0 < node → node < length winners → AreSettledWhere P heads winners
-    → ((k : ℕ) → 0 < k → k ≢ node → Q k → P k × ((2 * k ≢ node) × (2 * k + 1 ≢ node)))
-    → AreSettledWhere Q heads (set winners node (first_below heads winners node))
-settle heads winners node P Q low l settled more k k_low k_in q =
-    let news : List ℕ = set winners node (first_below heads winners node) in
-    let within : k < length winners = omega (arith, length-set winners node (first_below heads winners node)) in
-    let below : 2 * k ≢ node → 2 * k + 1 ≢ node → first_below heads news k ≡ first_below heads winners k =
-    λ p r. ap (λ a. first_of heads a (winner news (2 * k + 1))) (winner-set winners node (first_below heads winners node) (2 * k) p)
-    ∙ ap (λ b. first_of heads (winner winners (2 * k)) b) (winner-set winners node (first_below heads winners node) (2 * k + 1) r) in
-    ⊎_elim
-    (λ e. ap (slice_index news) e ∙ (get_or-set_same winners node (first_below heads winners node) 0 l
-    ∙ (ap (first_below heads winners) (sym e) ∙ sym (below (λ z. absurd (omega arith)) (λ z. absurd (omega arith))))))
-    (λ h.
-    let m = more k k_low h q in
-    get_or-set_other winners node k (first_below heads winners node) 0 h ∙ (settled k k_low within m.0 ∙ sym (below m.1.0 m.1.1)))
-    (cases_eq k node)
+module _ (heads : List (Option Entry)) (winners : List ℕ) (node : ℕ) where
+  settle : (P Q : ℕ → Type 0) → 0 < node → node < length winners → AreSettledWhere P heads winners
+      → ((k : ℕ) → 0 < k → k ≢ node → Q k → P k × ((2 * k ≢ node) × (2 * k + 1 ≢ node)))
+      → AreSettledWhere Q heads (set winners node (first_below heads winners node))
+  settle P Q low l settled more k k_low k_in q =
+      let news : List ℕ = set winners node (first_below heads winners node) in
+      let within : k < length winners = omega (arith, length-set winners node (first_below heads winners node)) in
+      let below : 2 * k ≢ node → 2 * k + 1 ≢ node → first_below heads news k ≡ first_below heads winners k =
+      λ p r. ap (λ a. first_of heads a (winner news (2 * k + 1))) (winner-set winners node (first_below heads winners node) (2 * k) p)
+      ∙ ap (λ b. first_of heads (winner winners (2 * k)) b) (winner-set winners node (first_below heads winners node) (2 * k + 1) r) in
+      ⊎_elim
+      (λ e. ap (slice_index news) e ∙ (get_or-set_same winners node (first_below heads winners node) 0 l
+      ∙ (ap (first_below heads winners) (sym e) ∙ sym (below (λ z. absurd (omega arith)) (λ z. absurd (omega arith))))))
+      (λ h.
+      let m = more k k_low h q in
+      get_or-set_other winners node k (first_below heads winners node) 0 h ∙ (settled k k_low within m.0 ∙ sym (below m.1.0 m.1.1)))
+      (cases_eq k node)
 
 pub settle_up : (heads : List (Option Entry)) (winners : List ℕ) (node : ℕ) → 0 < node → node < length winners → AreSettledBut node heads winners
     → AreSettledBut (node / 2) heads (set winners node (first_below heads winners node))

@@ -15,13 +15,17 @@ pub none-sorted : (from : ℕ) (lists : List (List Entry)) → length lists ≤ 
 none-sorted from lists l i a m j b low high n = absurd (subst (IsIn a) (get_or_past lists i [] (omega arith)) m)
 
 -- what the places of two heads tell is the order of their UIDs
-pub head-order : (from i j : ℕ) (heads : List (Option Entry)) {a b : Entry} (order : Option Ordering) → AreHeadsSorted from heads
-    → slice_index_or heads i None ≡ Some a → slice_index_or heads j None ≡ Some b → IsPlaceOrder from i j order → IsUidOrder order a b
-head-order from i j heads None h p q k = tt
-head-order from i j heads {a = a} {b = b} (Some order) h p q k = k.1.1 ∙ sym (h i j a b k.0 k.1.0 p q)
+module _ (from i j : ℕ) (heads : List (Option Entry)) where
+  pub head-order : {a b : Entry} (order : Option Ordering) → AreHeadsSorted from heads
+      → slice_index_or heads i None ≡ Some a → slice_index_or heads j None ≡ Some b → IsPlaceOrder from i j order → IsUidOrder order a b
+  head-order None h p q k = tt
+  head-order {a = a} {b = b} (Some order) h p q k = k.1.1 ∙ sym (h i j a b k.0 k.1.0 p q)
 
 -- where no list has more than it had
-module _ (from : ℕ) (old new : List (List Entry)) (fewer : (i : ℕ) (a : Entry) → IsIn a (get_or new i []) → IsIn a (get_or old i [])) where
+abbrev AreFewer : List (List Entry) → List (List Entry) → Type 0
+AreFewer old new = (i : ℕ) (a : Entry) → IsIn a (get_or new i []) → IsIn a (get_or old i [])
+
+module _ (from : ℕ) (old new : List (List Entry)) (fewer : AreFewer old new) where
   pub fewer-sorted : AreSortedFrom from old → AreSortedFrom from new
   fewer-sorted h i a m j b low high n = h i a (fewer i a m) j b low high (fewer j b n)
 
@@ -60,18 +64,17 @@ module _ {X : Type 0} (head : X → Option Occurrence) (rest : X → List Entry)
   given-sorted from i xs o e h = h i (entry_of o) (head-in xs i (entry_of o) e)
 
   -- what the places of the last source and of a lead tell
-  pub last-order : (from i j : ℕ) (xs : List X) (last : Occurrence) {b : Entry} (order : Option Ordering) →
-      IsLastSorted from i (Some last) (map (λ x. listed (head x) (rest x)) xs)
-      → get_or (map (λ x. option_map entry_of (head x)) xs) j None ≡ Some b → IsPlaceOrder from i j order → IsUidOrder order (entry_of last) b
-  last-order from i j xs last None h e k = tt
-  last-order from i j xs last {b = b} (Some order) h e k = k.1.1 ∙ sym (h j b k.0 k.1.0 (head-in xs j b e))
+  module _ (from i j : ℕ) (xs : List X) (last : Occurrence) where
+    pub last-order : {b : Entry} (order : Option Ordering) → IsLastSorted from i (Some last) (map (λ x. listed (head x) (rest x)) xs)
+        → get_or (map (λ x. option_map entry_of (head x)) xs) j None ≡ Some b → IsPlaceOrder from i j order → IsUidOrder order (entry_of last) b
+    last-order None h e k = tt
+    last-order {b = b} (Some order) h e k = k.1.1 ∙ sym (h j b k.0 k.1.0 (head-in xs j b e))
 
   -- where one lead has drawn, or could not
   module _ (old new : X) where
     fewer-set : (xs : List X) (lead : ℕ) → old ≡ get_or xs lead old →
         ((a : Entry) → IsIn a (listed (head new) (rest new)) → IsIn a (listed (head old) (rest old)))
-        → (i : ℕ) (a : Entry) → IsIn a (get_or (map (λ x. listed (head x) (rest x)) (set xs lead new)) i []) →
-        IsIn a (get_or (map (λ x. listed (head x) (rest x)) xs) i [])
+        → AreFewer (map (λ x. listed (head x) (rest x)) xs) (map (λ x. listed (head x) (rest x)) (set xs lead new))
     fewer-set [] lead read f i a m = m
     fewer-set (x ∷ xs) zero read f zero a m = subst (λ y. IsIn a (listed (head y) (rest y))) read (f a m)
     fewer-set (x ∷ xs) zero read f (suc i) a m = m
@@ -80,11 +83,9 @@ module _ {X : Type 0} (head : X → Option Occurrence) (rest : X → List Entry)
 
     module _ (xs : List X) (lead : ℕ) (read : old ≡ get_or xs lead old) where
       pub fewer-drawn-in : listed (head new) (rest new) ≡ rest old
-          → (i : ℕ) (a : Entry) → IsIn a (get_or (map (λ x. listed (head x) (rest x)) (set xs lead new)) i []) →
-          IsIn a (get_or (map (λ x. listed (head x) (rest x)) xs) i [])
+          → AreFewer (map (λ x. listed (head x) (rest x)) xs) (map (λ x. listed (head x) (rest x)) (set xs lead new))
       fewer-drawn-in drawn = fewer-set xs lead read (λ a m. rest-in (head old) (rest old) a (subst (IsIn a) drawn m))
 
       pub fewer-kept-in : head new ≡ head old → rest new ≡ rest old
-          → (i : ℕ) (a : Entry) → IsIn a (get_or (map (λ x. listed (head x) (rest x)) (set xs lead new)) i []) →
-          IsIn a (get_or (map (λ x. listed (head x) (rest x)) xs) i [])
+          → AreFewer (map (λ x. listed (head x) (rest x)) xs) (map (λ x. listed (head x) (rest x)) (set xs lead new))
       fewer-kept-in same left = fewer-set xs lead read (λ a m. subst (IsIn a) (ap (λ h. listed h (rest new)) same ∙ ap (listed (head old)) left) m)

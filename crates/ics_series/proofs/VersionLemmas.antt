@@ -87,22 +87,20 @@ module _ (files : List FileSaid) (display : Clock) where
     untied c e h = ⊎_elim (λ l. l) (λ q. let f : is_eq Equal ≡ false = ap is_eq (sym q) ∙ e in absurd cc) h
 
     -- all behind the next come after what comes before the next
-    after-next : (x y z : Placed) (zs : List Placed) → group x y ≡ Less → IsUpTo order y zs → IsIn z (y ∷ zs) → group x z ≡ Less
-    after-next x y z zs l h m =
-        ⊎_elim (λ s. ap (group x) s ∙ l)
-        (λ n. ⊎_elim (λ k. group-total.trans x y z l k) (λ e. less-equal x y z l e) (group-up-to y z (group y z) refl (up-to-in order y z zs h n)))
-        m
-      where
-        less-equal : (x y z : Placed) → group x y ≡ Less → group y z ≡ Equal → group x z ≡ Less
-        less-equal x y z l e = sym (alike_right group-total y z x e) ∙ l
+    module _ (x y : Placed) (l : group x y ≡ Less) where
+      after-next : (z : Placed) (zs : List Placed) → IsUpTo order y zs → IsIn z (y ∷ zs) → group x z ≡ Less
+      after-next z zs h m =
+          ⊎_elim (λ s. ap (group x) s ∙ l)
+          (λ n. ⊎_elim (λ k. group-total.trans x y z l k) (λ e. sym (alike_right group-total y z x e) ∙ l)
+          (group-up-to y z (group y z) refl (up-to-in order y z zs h n)))
+          m
 
     followed-by : (x : Placed) (xs : List Placed) (b : Bool) → is_followed same x xs ≡ b → Climbs order (x ∷ xs) → IsFollowed b x xs
     followed-by x [] true e h = let f : false ≡ true = e in absurd cc
     followed-by x [] false e h = λ y m. absurd m
     followed-by x (y ∷ ys) true e h = (y, inl refl, tied-true (group x y) (sym (ties x y) ∙ e))
     followed-by x (y ∷ ys) false e h =
-        λ z m. after-next x y z ys
-        (untied (group x y) (sym (ties x y) ∙ e) (group-up-to x y (group x y) refl h.0.0)) h.1.0 m
+        λ z m. after-next x y (untied (group x y) (sym (ties x y) ∙ e) (group-up-to x y (group x y) refl h.0.0)) z ys h.1.0 m
 
     -- The members.
     in-lasts : (e : Placed) (xs : List Placed) → Climbs order xs → IsIn e (lasts same xs) → IsIn e xs × IsTop xs e
@@ -123,7 +121,9 @@ module _ (files : List FileSaid) (display : Clock) where
             (λ s. (
               inl s,
               λ q n u. ⊎_elim (λ t l. let t2 : placed_cmp e q ≡ Equal = ap (placed_cmp e) (t ∙ sym s) ∙ tied_itself placed_total e in cc)
-                  (λ r l. let a : group x q ≡ Less = f q r in let b : group x q ≡ Equal = same-group x q (ap (subject_of files display) (sym s) ∙ sym u) in cc) n,
+                  (λ r l.
+                  let a : group x q ≡ Less = f q r in
+                  let b : group x q ≡ Equal = same-group x q (ap (subject_of files display) (sym s) ∙ sym u) in cc) n,
             ))
             (λ n. let k = ih n in (
               inr k.0,

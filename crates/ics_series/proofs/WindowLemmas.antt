@@ -32,38 +32,40 @@ module _ (files : List FileSaid) (display : Clock) where
       → IsListed files display w o ↔ (Occurs files display o × (w.from ≤ℤ o.start) × (o.start <ℤ w.to))
   lists-starts w o e = ((λ h. (h.0, h.1.started e, h.1.begun)), (λ h. starting w o h.0 h.1 h.2))
 
-  pub lists-under_way : (w : Window) (t : ℤ) (o : Entry) → w.from ≡ t → w.to ≡ t +ℤ pos 1 → w.notstarted ≡ false → o.start <ℤ o.finish
-      → IsListed files display w o ↔ (Occurs files display o × (o.start ≤ℤ t) × (t <ℤ o.finish))
-  lists-under_way w t o from to all long = (
-    (λ h.
-        let begun : o.start ≤ℤ t = omega (arith, ints, h.1.begun, to) in
-        let into : t <ℤ o.finish = ⊎_elim (λ l. omega (arith, ints, l, from)) (λ l. omega (arith, ints, l.0, long)) h.1.lasting in
-        (h.0, begun, into)),
-    (λ h. (
-      h.0,
-      record {
-        begun = omega (arith, ints, h.1, to);
-        lasting = inl (omega (arith, ints, h.2, from));
-        started = λ s. let no : false ≡ true = sym all ∙ s in absurd cc;
-      },
-    )),
-  )
+  module _ (w : Window) where
+    pub lists-under_way : (t : ℤ) (o : Entry) → w.from ≡ t → w.to ≡ t +ℤ pos 1 → w.notstarted ≡ false → o.start <ℤ o.finish
+        → IsListed files display w o ↔ (Occurs files display o × (o.start ≤ℤ t) × (t <ℤ o.finish))
+    lists-under_way t o from to all long = (
+      (λ h.
+          let begun : o.start ≤ℤ t = omega (arith, ints, h.1.begun, to) in
+          let into : t <ℤ o.finish = ⊎_elim (λ l. omega (arith, ints, l, from)) (λ l. omega (arith, ints, l.0, long)) h.1.lasting in
+          (h.0, begun, into)),
+      (λ h. (
+        h.0,
+        record {
+          begun = omega (arith, ints, h.1, to);
+          lasting = inl (omega (arith, ints, h.2, from));
+          started = λ s. let no : false ≡ true = sym all ∙ s in absurd cc;
+        },
+      )),
+    )
 
-  -- what meets the inner window meets the outer
-  wider : (inner outer : Window) (o : Entry) → IsWithin inner outer → Meets inner o → Meets outer o
-  wider inner outer o within h = record {
-    begun = omega (arith, ints, h.begun, within.to);
-    lasting = ⊎_elim (λ l. let l : outer.from <ℤ o.finish = omega (arith, ints, l, within.from) in inl l)
-        (λ l. let s : outer.from ≤ℤ o.start = omega (arith, ints, l.1, within.from) in inr (l.0, s)) h.lasting;
-    started = λ s. let i = h.started (within.starts s) in omega (arith, ints, i, within.from);
-  }
+  module _ (inner outer : Window) where
+    -- what meets the inner window meets the outer
+    wider : (o : Entry) → IsWithin inner outer → Meets inner o → Meets outer o
+    wider o within h = record {
+      begun = omega (arith, ints, h.begun, within.to);
+      lasting = ⊎_elim (λ l. let l : outer.from <ℤ o.finish = omega (arith, ints, l, within.from) in inl l)
+          (λ l. let s : outer.from ≤ℤ o.start = omega (arith, ints, l.1, within.from) in inr (l.0, s)) h.lasting;
+      started = λ s. let i = h.started (within.starts s) in omega (arith, ints, i, within.from);
+    }
 
-  pub listing-within : (inner outer : Window) (xs ys : List Entry) → IsWithin inner outer → IsListing entry_cmp (IsListed files display inner) xs
-      → IsListing entry_cmp (IsListed files display outer) ys → (o : Entry) → IsIn o xs ↔ (IsIn o ys × Meets inner o)
-  listing-within inner outer xs ys within h k o = (
-    (λ m. let l = (h.exact o).0 m in ((k.exact o).1 (l.0, wider inner outer o within l.1), l.1)),
-    (λ m. (h.exact o).1 (((k.exact o).0 m.0).0, m.1)),
-  )
+    pub listing-within : (xs ys : List Entry) → IsWithin inner outer → IsListing entry_cmp (IsListed files display inner) xs
+        → IsListing entry_cmp (IsListed files display outer) ys → (o : Entry) → IsIn o xs ↔ (IsIn o ys × Meets inner o)
+    listing-within xs ys within h k o = (
+      (λ m. let l = (h.exact o).0 m in ((k.exact o).1 (l.0, wider o within l.1), l.1)),
+      (λ m. (h.exact o).1 (((k.exact o).0 m.0).0, m.1)),
+    )
 
 earlier : (o q : Entry) → o.start <ℤ q.start → entry_cmp o q ≡ Less
 earlier o q l = rw (sym (int_cmp_is o.start q.start Less l)) refl

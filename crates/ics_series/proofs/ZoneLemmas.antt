@@ -42,7 +42,7 @@ pub given-time : (zones : FileZones) (event : Event) (source : StartSource) (giv
     GivesStart (clocks_in zones) event source given → IsTimeOf zones.zones.now (time_of given)
 given-time zones event source given h g = record {
   is_time = rdate-time given (gives-value (clocks_in zones) event source given h.is_event.start h.is_event.rdates g);
-  within = rdate-below (length zones.zones.now) given (gives-below (length zones.zones.now) (clocks_in zones) event source given h.below g);
+  within = rdate-below (length zones.zones.now) given (gives-below (clocks_in zones) event source given h.below g);
 }
 
 end-of : (zones : List ZoneKind) (first : Stamp) (lasts : Length) → IsLength first lasts → EndsBelow (length zones) lasts → IsEndOf zones lasts

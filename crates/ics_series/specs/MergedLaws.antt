@@ -20,26 +20,23 @@ module _ {A : Type 0} (R : A → A → Ordering) (o : IsTotalOrder R) where
   pub back : (x y : A) → R x y ≡ Greater → R y x ≡ Less
   back x y e = o.antisymm y x ∙ ap ordering_reverse e
 
-  -- `put` by the answer of the comparison
-  before-by_order : (x y : A) (ys : List A) (c : Ordering) (z : A) (zs ws : List A) → R x y ≡ Less → IsBefore R x (z ∷ zs) → IsBefore R x ws
-      → IsBefore R x (by_order c (y ∷ z ∷ zs) (y ∷ zs) (z ∷ ws))
-  before-by_order x y ys Less z zs ws l h k = (l, h)
-  before-by_order x y ys Equal z zs ws l h k = (l, h.1)
-  before-by_order x y ys Greater z zs ws l h k = (h.0, k)
-
   pub before-put : (x y : A) (ys : List A) → R x y ≡ Less → IsBefore R x ys → IsBefore R x (put R y ys)
   before-put x y [] l h = (l, tt)
-  before-put x y (z ∷ zs) l h = before-by_order x y zs (R y z) z zs (put R y zs) l h (before-put x y zs l h.1)
-
-  rises-by_order : (x y : A) (ys ws : List A) (c : Ordering) → R x y ≡ c → Rises R (y ∷ ys) → (R y x ≡ Less → IsBefore R y ws) → Rises R ws
-      → Rises R (by_order c (x ∷ y ∷ ys) (x ∷ ys) (y ∷ ws))
-  rises-by_order x y ys ws Less e h k m = ((e, before-trans x y ys e h.0), h)
-  rises-by_order x y ys ws Equal e h k m = (before-tied x y ys e h.0, h.1)
-  rises-by_order x y ys ws Greater e h k m = (k (back x y e), m)
+  before-put x y (z ∷ zs) l h = by (R y z) (before-put x y zs l h.1)
+    where
+      by : (c : Ordering) → IsBefore R x (put R y zs) → IsBefore R x (by_order c (y ∷ z ∷ zs) (y ∷ zs) (z ∷ put R y zs))
+      by Less k = (l, h)
+      by Equal k = (l, h.1)
+      by Greater k = (h.0, k)
 
   pub rises-put : (x : A) (ys : List A) → Rises R ys → Rises R (put R x ys)
   rises-put x [] h = (tt, tt)
-  rises-put x (y ∷ ys) h = rises-by_order x y ys (put R x ys) (R x y) refl h (λ l. before-put y x ys l h.0) (rises-put x ys h.1)
+  rises-put x (y ∷ ys) h = by (R x y) refl (rises-put x ys h.1)
+    where
+      by : (c : Ordering) → R x y ≡ c → Rises R (put R x ys) → Rises R (by_order c (x ∷ y ∷ ys) (x ∷ ys) (y ∷ put R x ys))
+      by Less e k = ((e, before-trans x y ys e h.0), h)
+      by Equal e k = (before-tied x y ys e h.0, h.1)
+      by Greater e k = (before-put y x ys (back x y e) h.0, k)
 
   pub rises-union : (xs ys : List A) → Rises R ys → Rises R (union R xs ys)
   rises-union [] ys h = h

@@ -21,7 +21,7 @@ span_end-end-requires-clause-given c =
 pub span_end-end-requires-clause-end : goal.span_end-end-requires-clause-end
 span_end-end-requires-clause-end c =
     (subst (RdateBelow (length c.args.zones.zones.now)) c.in-Span.is
-    (gives-below (length c.args.zones.zones.now) (clocks_in c.args.zones) c.args.event.now c.args.start.source c.args.start.given c.requires.event.below
+    (gives-below (clocks_in c.args.zones) c.args.event.now c.args.start.source c.args.start.given c.requires.event.below
     c.requires.start.gives)).1
 
 pub returns-clause-early : goal.returns-clause-early

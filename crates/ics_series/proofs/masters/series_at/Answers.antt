@@ -30,10 +30,12 @@ pub returns-then-is_single : goal.returns-then-is_single
 returns-then-is_single c = record {
   sources = λ version there. tt;
   series = λ version there.
-      not-single c.args.chosen.now c.args.place none c.requires.within there c.event-event.ensures.event (sym c.is_single.ensures ∙ c.if-is_single.true);
+      not-single (version-there c.args.chosen.now c.args.place none version c.requires.within there) c.event-event.ensures.event
+      (sym c.is_single.ensures ∙ c.if-is_single.true);
   whole = λ version there w.
       single-none (map said_by c.args.files.now) (display_clock c.args.display.now) w (seen version)
-      (not-single c.args.chosen.now c.args.place none c.requires.within there c.event-event.ensures.event (sym c.is_single.ensures ∙ c.if-is_single.true));
+      (not-single (version-there c.args.chosen.now c.args.place none version c.requires.within there) c.event-event.ensures.event
+      (sym c.is_single.ensures ∙ c.if-is_single.true));
 }
 
 pub overridden_instants-requires-clause-order : goal.overridden_instants-requires-clause-order

@@ -19,7 +19,7 @@ returns-then-before-start c =
     let fits : SFits w64 c.index.result.now.moment = search rules in
     let fits2 : SFits w64 c.args.start.moment = search rules in
     let tied : c.args.start.moment ≡ c.index.result.now.moment = grind (arith, ints) in
-    one-tied moment_cmp moment_total c.args.start items (c.loop-at.at - 1) d c.requires low
+    one-tied moment_cmp moment_total c.args.start d items (c.loop-at.at - 1) c.requires low
     (same-moment c.args.start (get_or items (c.loop-at.at - 1) d) (tied ∙ ap (λ (s : Start). s.moment) c.index.ensures))
     (subst (λ k. IsBefore moment_cmp c.args.start (drop k items)) up c.loop-at.invariant.before)
 
@@ -33,7 +33,7 @@ returns-then-before-start-2 c =
     let fits2 : SFits w64 c.args.start.moment = search rules in
     let less : c.index.result.now.moment <ℤ c.args.start.moment = grind (arith, ints) in (
       omega arith,
-      one-after moment_cmp moment_total c.args.start items (c.loop-at.at - 1) d c.requires low
+      one-after moment_cmp moment_total c.args.start d items (c.loop-at.at - 1) c.requires low
           (less-start (get_or items (c.loop-at.at - 1) d) c.args.start (subst (λ (s : Start). s.moment <ℤ c.args.start.moment) c.index.ensures less))
           (subst (λ k. IsBefore moment_cmp c.args.start (drop k items)) up c.loop-at.invariant.before)
           ∙ ap (λ k. insert items k c.args.start) (sym up),

@@ -13,9 +13,9 @@ use Rattle.ics_series.specs.NearDays.{IsNearDay}
 use Rattle.ics_series.specs.Sources.{AreSources}
 use Rattle.ics_series.proofs.days.Days.agenda_of.Goals as goal
 
-if-both : {T E : Type 0} (r : Result T E) (P Q R : T → Type 0) → ((x : T) → P x → Q x → R x) → IfOk r P → IfOk r Q → IfOk r R
-if-both (Ok x) P Q R f p q = f x p q
-if-both (Err e) P Q R f p q = tt
+if-both : {T E : Type 0} {R : T → Type 0} (r : Result T E) (P Q : T → Type 0) → ((x : T) → P x → Q x → R x) → IfOk r P → IfOk r Q → IfOk r R
+if-both (Ok x) P Q f p q = f x p q
+if-both (Err e) P Q f p q = tt
 
 pub returns-clause-agenda : goal.returns-clause-agenda
 returns-clause-agenda c =
@@ -25,6 +25,6 @@ returns-clause-agenda c =
     (λ (agenda : Agenda). IsListing entry_cmp (IsToCome (map said_by c.args.files.now) (display_clock c.args.display.now) c.near_day-near.result
     (option_map (λ key. key_rank key.now) c.args.key)) (agenda_coming agenda))
     (λ (agenda : Agenda). AreSources (map said_by c.args.files.now) (display_clock c.args.display.now) c.near_day-near.result
-    (option_map (λ key. key_rank key.now) c.args.key) (agenda_sources agenda)) _
+    (option_map (λ key. key_rank key.now) c.args.key) (agenda_sources agenda))
     (λ agenda listing are. inl (record { window = c.near_day-near.result; near = near; listing = listing; are = are }))
     c.new.ensures.listing c.new.ensures.sources

@@ -19,5 +19,5 @@ returns-clause-most c = λ list bound ahead h.
     ahead.is
     (λ p m. ((ahead.listing.exact p).0 m).later) in
     let few = steps-most scope self.day self.looked self.before self.begun (agenda_sources self.agenda) are self.agenda.apart.1.1 (agenda_coming self.agenda)
-    c.steps.result c.steps.ensures.most self.past list reach h.masters h.most h.days h.are h.each h.reach in
-    omega (arith, c.saturating_add.ensures, few, h.is))
+    c.steps.result c.steps.ensures.most self.past list reach h in
+    omega (arith, c.saturating_add.ensures, few))

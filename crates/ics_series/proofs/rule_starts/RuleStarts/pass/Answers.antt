@@ -16,7 +16,7 @@ returns-then-first-start-clause-left c =
     let fits2 : SFits w64 c.args.start.now.moment = search rules in
     let tied : c.args.start.now.moment ≡ c.in-Some.first.now.moment = omega (arith, ints, c.if-first-start.true) in
     passed-at s.zones s.event.now s.rule s.window s.day s.end (place_of s.cursor) (day-days s) (end-days s) s.after s.read
-    c.args.start.now s.held.items some first c.pop_front.ensures.rest s.rises c.requires
+    c.args.start.now (record { some = some; is = first }) c.pop_front.ensures.rest s.rises c.requires
     (same-moment c.args.start.now c.in-Some.first.now tied)
 
 pub returns-else-first-start-clause-left : goal.returns-else-first-start-clause-left
@@ -25,7 +25,7 @@ returns-else-first-start-clause-left c =
     let some : 0 < length c.args.self.now.held.items = search rules in
     let first : c.in-Some.first.now ≡ get_or c.args.self.now.held.items 0 c.in-Some.first.now = search rules in
     not-passed-at s.zones s.event.now s.rule s.window s.day s.end (place_of s.cursor) (day-days s) (end-days s) s.after s.read
-    c.args.start.now s.held.items some first s.rises c.requires
+    c.args.start.now (record { some = some; is = first }) s.rises c.requires
     (λ tied. let same = tied-moment c.args.start.now c.in-Some.first.now tied in c.if-first-start.false (ap (λ t. of_z w64 t) (sym same)))
 
 pub returns-in_default-clause-left : goal.returns-in_default-clause-left

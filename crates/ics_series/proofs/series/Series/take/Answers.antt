@@ -24,7 +24,7 @@ invariant_of-self c =
       own = s.own;
       taken_out = s.taken_out;
       known = subst (AreKnown (clocks_in s.zones) s.event.now s.window) (sym same) s.known;
-      ruled = ruled-same (clocks_in s.zones) s.window s.event.now s.since s.overridden.items s.rule_starts c.peek_rule.new.rule
+      ruled = ruled-same (clocks_in s.zones) s.event.now s.rule_starts c.peek_rule.new.rule
           c.peek_rule.ensures.rule c.peek_rule.ensures.same
           (ap (given_of (clocks_in s.zones) s.window s.event.now s.since s.overridden.items) same) s.ruled;
       own_rule = own-rule-same s.zones s.event.now s.window (first_of (clocks_in s.zones) s.window s.event.now s.since) s.rule_starts c.peek_rule.new.rule
@@ -48,9 +48,12 @@ invariant_of-self-in-Some c =
       known = known-rest (clocks_in s.zones) s.window s.event.now c.in-Some.start (left s.rule_starts s.listed) (left c.pass_rule.new.rule c.pass.new.self)
           taken s.known;
       ruled = ruled-rest (clocks_in s.zones) s.window s.event.now s.since s.overridden.items c.peek_rule.new.rule c.pass_rule.new.rule
-          c.pass_rule.ensures.rule c.pass_rule.ensures.left taken
-          (rises-union moment_cmp moment_total (rule_left s.rule_starts) (listed_left s.listed) (rises-listed s.listed)) s.known
-          (ruled-same (clocks_in s.zones) s.window s.event.now s.since s.overridden.items s.rule_starts c.peek_rule.new.rule
+          c.pass_rule.ensures.rule c.pass_rule.ensures.left (record {
+            is = taken;
+            rises = rises-union moment_cmp moment_total (rule_left s.rule_starts) (listed_left s.listed) (rises-listed s.listed);
+            known = s.known;
+          })
+          (ruled-same (clocks_in s.zones) s.event.now s.rule_starts c.peek_rule.new.rule
           {coming = given_of (clocks_in s.zones) s.window s.event.now s.since s.overridden.items (left s.rule_starts s.listed)}
           c.peek_rule.ensures.rule c.peek_rule.ensures.same refl s.ruled);
       own_rule = own-rule-same s.zones s.event.now s.window (first_of (clocks_in s.zones) s.window s.event.now s.since) c.peek_rule.new.rule
@@ -69,7 +72,7 @@ invariant_of-self-in_default c =
       own = s.own;
       taken_out = s.taken_out;
       known = subst (AreKnown (clocks_in s.zones) s.event.now s.window) (sym same) s.known;
-      ruled = ruled-same (clocks_in s.zones) s.window s.event.now s.since s.overridden.items s.rule_starts c.peek_rule.new.rule
+      ruled = ruled-same (clocks_in s.zones) s.event.now s.rule_starts c.peek_rule.new.rule
           c.peek_rule.ensures.rule c.peek_rule.ensures.same
           (ap (given_of (clocks_in s.zones) s.window s.event.now s.since s.overridden.items) same) s.ruled;
       own_rule = own-rule-same s.zones s.event.now s.window (first_of (clocks_in s.zones) s.window s.event.now s.since) s.rule_starts c.peek_rule.new.rule
