@@ -22,7 +22,7 @@ use Rattle.ics_series.specs.NearDays.{first_near, last_near, Begins, IsNearDay}
 use Rattle.ics_series.specs.Sources.{Source}
 use Rattle.ics_series.specs.OnDays.{after_day_key, is_day_after, on_day, on_day_cmp, IsOnDay, OnDay}
 use Rattle.ics_series.proofs.Cases.{equal-true, true-equal}
-use Rattle.ics_series.proofs.FilterLemmas.{listing-filter}
+use Rattle.ics_series.proofs.PickLemmas.{listing-filter}
 use Rattle.ics_series.proofs.ListingLemmas.{one-listing}
 use Rattle.ics_series.proofs.NearDayLemmas.{meets-near, near-first, near-last, occurs-forward}
 use Rattle.ics_series.proofs.OnDayLemmas.{day-first, joined, on_day_total, shown-today, today-listing, today-shown}

@@ -19,7 +19,7 @@ use Rattle.ics_series.specs.PlacedEvents.{Placed}
 use Rattle.ics_series.specs.Rising.{Rises}
 use Rattle.ics_series.specs.Sources.{master_of, recurring, uid_cmp, IsFrom, Recurring, Source}
 use Rattle.ics_series.specs.Steps.{HasStepBound}
-use Rattle.ics_series.proofs.DayLemmas.{day-under}
+use Rattle.ics_series.proofs.NearDayLemmas.{day-under}
 use Rattle.ics_series.proofs.MasterSumLemmas.{day-masters, searched-masters, sum-of-masters}
 use Rattle.ics_fields.specs.Locals.{day_of_local}
 

@@ -27,7 +27,7 @@ use Rattle.ics_series.proofs.Cases.{below-or-last}
 use Rattle.ics_series.proofs.FirstLemmas.{int-less, moment_total}
 use Rattle.ics_series.proofs.ListingLemmas.{before-in}
 use Rattle.ics_series.proofs.PeriodCountLemmas.{count-implied, one-more}
-use Rattle.ics_series.proofs.RuleLawLemmas.{in-rules, kept-of, let-through}
+use Rattle.ics_series.proofs.RuleDayLemmas.{in-rules, kept-of, let-through}
 
 -- the test that one number less passes
 abbrev without : ℕ → (ℕ → Bool) → ℕ → Bool

@@ -1,16 +1,11 @@
-pub mod AfterKeyLemmas
 pub mod AfterLemmas
 pub mod AgendaLemmas
 pub mod AheadLemmas
 pub mod BeginsLemmas
 pub mod Cases
-pub mod DayLawLemmas
-pub mod DayLemmas
 pub mod DayStepLemmas
-pub mod DayTokenLemmas
 mod Examples
 pub mod ExclusionLemmas
-pub mod FilterLemmas
 pub mod FirstLemmas
 pub mod FoundLemmas
 pub mod GivenLemmas
@@ -22,7 +17,6 @@ pub mod HeldMostLemmas
 pub mod HoldingLaws
 pub mod InstantLemmas
 pub mod KeptLemmas
-pub mod LabelLemmas
 pub mod LeadLemmas
 pub mod LeadNearLemmas
 pub mod LeftLemmas
@@ -42,7 +36,6 @@ mod OverrideExamples
 pub mod OverrideLemmas
 pub mod OwnRuleLemmas
 pub mod PartLemmas
-pub mod PartUidLemmas
 pub mod PeriodCountLemmas
 pub mod PickLemmas
 pub mod PlacedLemmas
@@ -51,7 +44,6 @@ pub mod PutLemmas
 pub mod RawLemmas
 pub mod RecurringLemmas
 pub mod RuleDayLemmas
-pub mod RuleLawLemmas
 pub mod RuleLocalLemmas
 pub mod RuleReadLemmas
 mod RuleStartExamples
@@ -59,7 +51,6 @@ pub mod RuleStartLemmas
 pub mod RuleStepLemmas
 pub mod SeriesLemmas
 pub mod SinceLemmas
-pub mod SingleLemmas
 pub mod SinglesLemmas
 pub mod SortLemmas
 pub mod SoughtLemmas

@@ -23,7 +23,7 @@ use Rattle.ics_series.specs.Rising.{IsBefore, Rises}
 use Rattle.ics_series.specs.Versions.{is_named, is_override, label_of, seen, subject_cmp, subject_seen, AreChosen, Label}
 use Rattle.ics_series.proofs.HeldLemmas.{before-at}
 use Rattle.ics_series.proofs.Cases.{eq-Equal}
-use Rattle.ics_series.proofs.FilterLemmas.{rises-filter}
+use Rattle.ics_series.proofs.PickLemmas.{rises-filter}
 use Rattle.ics_series.proofs.OccursLemmas.{override-subject}
 use Rattle.ics_series.proofs.VersionLemmas.{exact-subject, subject_total}
 

@@ -31,8 +31,8 @@ use Rattle.ics_series.specs.Versions.{is_named, label_of, seen, AreChosen, Label
 use Rattle.ics_series.specs.FileZones.{clocks_in}
 use Rattle.ics_series.proofs.SeriesLemmas.{in-among}
 use Rattle.ics_series.proofs.Cases.{not-true, some-same}
-use Rattle.ics_series.proofs.AfterKeyLemmas.{since-none}
-use Rattle.ics_series.proofs.FilterLemmas.{listing-filter}
+use Rattle.ics_series.proofs.AfterLemmas.{since-none}
+use Rattle.ics_series.proofs.PickLemmas.{listing-filter}
 use Rattle.ics_series.proofs.GivenLemmas.{in-map, placed-event, IsGiven, IsGivenBy}
 use Rattle.ics_series.proofs.StartSourceLemmas.{gives-value, rdate-time}
 use Rattle.ics_series.proofs.InstantLemmas.{late}

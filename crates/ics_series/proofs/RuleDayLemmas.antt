@@ -15,11 +15,11 @@ use Rattle.ics_rule.specs.Recurrence.{Recurrence}
 use Rattle.ics_rule.proofs.KeptLemmas.{and_true}
 use Rattle.ics_event.specs.declared.event.Event.{Event}
 use Rattle.ics_zone.proofs.Cases.{int_lt_true, int_le_true}
+use Rattle.ics_event.specs.Event.{stamp_seconds}
+use Rattle.ics_fields.specs.Locals.{local_seconds, midnight, whole_days}
 use Rattle.ics_series.specs.declared.start.Start.{Start}
 use Rattle.ics_series.specs.declared.window.Window.{Window}
 use Rattle.ics_series.specs.declared.zones.FileZones.{FileZones}
-use Rattle.ics_event.specs.Event.{stamp_seconds}
-use Rattle.ics_fields.specs.Locals.{local_seconds, midnight, whole_days}
 use Rattle.ics_series.specs.Found.{moment_cmp, start_at}
 use Rattle.ics_series.specs.Listing.{IsIn}
 use Rattle.ics_series.specs.Merged.{by_order, cut, union}
@@ -240,3 +240,21 @@ module _ (zones : FileZones) (event : Event) where
         to_come (clocks_in zones) event rule w held place ≡ found (clocks_in zones) event rule w from
     unfolding to_come
     come-empty held place from h e = ap (λ xs. union moment_cmp xs (found (clocks_in zones) event rule w place)) h ∙ ap (found (clocks_in zones) event rule w) e
+
+-- What a local that gives a start is: kept, let through by UNTIL, and before the end of the rules.
+module _ (zones : FileZones) (event : Event) (rule : Recurrence) (w : Window) where
+  pub kept-of : (n : ℕ) → gives (clocks_in zones) event rule w n ≡ true → is_kept rule n ≡ true
+  unfolding gives
+  kept-of n g = (and_true {a = is_kept rule n} g).0
+
+  pub let-through : (n : ℕ) → gives (clocks_in zones) event rule w n ≡ true → lets_until rule n (moment_numbered (clocks_in zones) event n) ≡ true
+  unfolding gives
+  let-through n g = (and_true {a = lets_until rule n (moment_numbered (clocks_in zones) event n)} (and_true {a = is_kept rule n} g).1).0
+
+  -- what gives a start lies before the end of the rules
+  pub in-rules : (n : ℕ) → gives (clocks_in zones) event rule w n ≡ true → n < rules_end
+  in-rules n g =
+      let early = given-early zones event rule w n g in
+      let near = instant-near zones (time_at event.start (local_numbered n)) in
+      let wrote = written-at event.start.stamp (local_numbered n) in
+      omega (arith, ints, early, near.0, wrote.1, seconds-numbered n, w.not_late)

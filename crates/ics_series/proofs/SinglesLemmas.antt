@@ -1,5 +1,5 @@
--- What the versions that count give whose events start once, sorted by key, is the listing of such occurrences to come.
-use Rattle.std.specs.Prelude.{◌==◌, ◌&&◌, ◌||◌, not, is_none, is_some, if◌then◌else◌}
+-- What an event gives at its DTSTART; what the versions that count give whose events start once, sorted by key, is their listing.
+use Rattle.std.specs.Prelude.{◌==◌, ◌&&◌, ◌||◌, not, is_none, is_some, if◌then◌else◌, int_lt}
 use Rattle.std.proofs.Common.{◌≡◌, ℤ, List, [], ◌∷◌, map, length, inl, inr, ⊎_elim, Option, Some, None, Bool, true, false, refl, sym, ◌∙◌, ap, subst, arith}
 use Rattle.std.specs.List.{filter, filter_map, list_any}
 use Rattle.std.specs.List.Sorted.{IsPermutation}
@@ -13,6 +13,7 @@ use Rattle.ics_event.specs.declared.event.Event.{Event}
 use Rattle.ics_event.specs.declared.time.Rdate.{Rdate}
 use Rattle.ics_event.specs.declared.time.Rdate.TheVariants.{At}
 use Rattle.ics_event.specs.declared.time.Time.{Time}
+use Rattle.ics_fields.specs.Locals.{local_seconds}
 use Rattle.ics_series.specs.declared.single.Single.{Single}
 use Rattle.ics_series.specs.declared.start.StartSource.{StartSource}
 use Rattle.ics_series.specs.declared.start.StartSource.TheVariants.{Kept, Listed}
@@ -20,7 +21,6 @@ use Rattle.ics_series.specs.declared.version.Version.{Version}
 use Rattle.ics_series.specs.declared.window.Window.{Window}
 use Rattle.ics_series.specs.Chosen.{overridden, subject_of, IsChosen}
 use Rattle.ics_series.specs.Clocks.{Clock, Clocks, instant}
-use Rattle.ics_fields.specs.Locals.{local_seconds}
 use Rattle.ics_series.specs.Entry.{Entry, Rank, entry_cmp}
 use Rattle.ics_series.specs.EntryLaws.{entry_total}
 use Rattle.ics_series.specs.Exclusions.{excludes}
@@ -31,9 +31,10 @@ use Rattle.ics_series.specs.Overridden.{is_kept}
 use Rattle.ics_series.specs.After.{is_after}
 use Rattle.ics_series.specs.Occurs.{IsInstance}
 use Rattle.ics_series.specs.PlacedEvents.{Placed, clocks_at}
-use Rattle.ics_series.specs.Singles.{entry_first, is_single, is_to_come, single_at, single_entry, single_of, AreSingle, IsSingleToCome}
+use Rattle.ics_series.specs.Singles.{entry_first, is_single, is_to_come, single_at, single_entry, single_of, AreSingle, IsSingleToCome, begun_first}
 use Rattle.ics_series.specs.Starts.{local_of, recurrence_by, GivesStart, IsNotAfter}
 use Rattle.ics_series.specs.Versions.{by_subject, is_named, is_override, label_of, seen, subject_cmp, AreChosen, Label}
+use Rattle.ics_series.specs.Spots.{event_at}
 use Rattle.ics_series.proofs.AgendaLemmas.{given_total, tied-given}
 use Rattle.ics_series.proofs.GivenLemmas.{given-subject, placed-event, entry_start_cmp, given_cmp, subject_from, IsGiven, IsGivenBy}
 use Rattle.ics_series.proofs.MasterLemmas.{same-entry}
@@ -41,12 +42,47 @@ use Rattle.ics_series.proofs.MeetingLemmas.{is_met-meets, meets-is_met}
 use Rattle.ics_series.proofs.OverrideLemmas.{named-overrides}
 use Rattle.ics_series.proofs.PickLemmas.{filter_map-map, listing-picked, KeepsOrder}
 use Rattle.ics_series.proofs.PutLemmas.{listing-ordered}
-use Rattle.ics_series.proofs.SingleLemmas.{first-gives}
 use Rattle.ics_series.proofs.SortLemmas.{listing-sorted, map-climbs, Climbs}
 use Rattle.ics_series.proofs.StartLaws.{one-start}
 use Rattle.ics_series.proofs.ToComeLemmas.{come-listed, is-after, listed-given, to-come}
 use Rattle.ics_series.proofs.VersionLemmas.{group-total}
 use Rattle.ics_series.proofs.ZoneLemmas.{none-of, rule-none}
+use Rattle.ics_series.proofs.StartSourceLemmas.{own-time}
+
+-- DTSTART gives a start
+pub first-gives : (clocks : Clocks) (event : Event) → GivesStart clocks event (Kept (local_of event.start.stamp)) (At event.start)
+first-gives clocks event = (inl refl, sym (ap At (own-time event.start)))
+
+-- What a version gives of that.
+module _ (files : List FileSaid) (display : Clock) (w : Window) (overrides : List Label) (after : Option Rank) (label : Label) (event : Event)
+    (stands : event_at files label.spot ≡ Some event) where
+  abbrev label_clocks : Clocks
+  label_clocks = clocks_at files display label.spot.file
+
+  abbrev label_first : Entry
+  label_first = entry_first label_clocks event label.subject.recurrence
+
+  at-event : single_at files display w overrides after label ≡ single_of label_clocks w overrides after label.subject.recurrence event
+  at-event = ap (option_and_then (single_of label_clocks w overrides after label.subject.recurrence)) stands
+
+  begun-is : (o : Entry) → Some o ≡ begun_first label_clocks w event label.subject.recurrence → o ≡ label_first
+  begun-is o = by (int_lt (instant label_clocks event.start) w.to)
+    where
+      by : (b : Bool) → Some o ≡ (if b then Some label_first else None) → o ≡ label_first
+      by true e = cc
+      by false e = let f : Some o ≡ None = e in absurd cc
+
+  by-test : (single comes : Bool) → is_single event ≡ single → is_to_come w overrides after label_first ≡ comes →
+      single_at files display w overrides after label ≡ (if single && comes then Some label_first else None)
+  by-test single comes s c = at-event ∙ (λ i. if s i && c i then Some label_first else None)
+
+  pub gives-single : (o : Entry) → is_single event ≡ true → Some o ≡ begun_first label_clocks w event label.subject.recurrence →
+      is_to_come w overrides after o ≡ true → Some o ≡ single_at files display w overrides after label
+  gives-single o s b c = let is = begun-is o b in ap Some is ∙ sym (by-test true true s (ap (is_to_come w overrides after) (sym is) ∙ c))
+
+  pub gives-none : (o : Entry) → is_single event ≡ true → Some o ≡ begun_first label_clocks w event label.subject.recurrence →
+      is_to_come w overrides after o ≡ false → None ≡ single_at files display w overrides after label
+  gives-none o s b c = let is = begun-is o b in sym (by-test true false s (ap (is_to_come w overrides after) (sym is) ∙ c))
 
 -- An event that starts once, and is no override.
 module _ (clocks : Clocks) (event : Event) (rule : event.rule ≡ None) (rdates : event.rdates ≡ []) (exdates : event.exdates ≡ []) where

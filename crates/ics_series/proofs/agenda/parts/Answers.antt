@@ -10,7 +10,7 @@ use Rattle.ics_series.specs.AgendaParts.{part_coming, part_sources}
 use Rattle.ics_series.specs.Sources.Source.{Once}
 use Rattle.ics_series.specs.Versions.{seen, AreChosen}
 use Rattle.ics_series.proofs.PartLemmas.{pushed-listing, whole-parts}
-use Rattle.ics_series.proofs.PartUidLemmas.{parts-sorted}
+use Rattle.ics_series.proofs.UidLemmas.{parts-sorted}
 use Rattle.ics_series.proofs.SourceLemmas.{sources-behind}
 use Rattle.ics_series.proofs.agenda.parts.Goals as goal
 

@@ -1,4 +1,4 @@
-use Rattle.ics_series.proofs.DayLawLemmas.{day-listing-behind}
+use Rattle.ics_series.proofs.OnDayLemmas.{day-listing-behind}
 use Rattle.ics_series.proofs.day_laws.day_listing_behind.Goals as goal
 
 pub returns : goal.returns

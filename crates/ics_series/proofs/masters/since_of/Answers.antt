@@ -6,7 +6,7 @@ use Rattle.std.specs.Int.{saturate_signed}
 use Rattle.std.specs.Option.{option_map}
 use Rattle.std.specs.Ordering.{nat_cmp, ordering_then}
 use Rattle.ics_series.specs.Entry.{key_rank}
-use Rattle.ics_series.proofs.AfterKeyLemmas.{since-next, since-none, since-start, turned}
+use Rattle.ics_series.proofs.AfterLemmas.{since-next, since-none, since-start, turned}
 use Rattle.ics_series.proofs.SourceLemmas.{from-by, from-next, from-none}
 use Rattle.ics_series.proofs.masters.since_of.Goals as goal
 

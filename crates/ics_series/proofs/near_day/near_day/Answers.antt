@@ -1,6 +1,6 @@
 use Rattle.std.proofs.Common.{refl, arith}
 use Rattle.std.proofs.lemmas.Int.{int_max_is, int_min_is, ints}
-use Rattle.ics_series.proofs.DayLemmas.{day-within}
+use Rattle.ics_series.proofs.NearDayLemmas.{day-within}
 use Rattle.ics_series.proofs.near_day.near_day.Goals as goal
 
 pub invariant_of-result : goal.invariant_of-result

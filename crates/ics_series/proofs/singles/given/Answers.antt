@@ -6,7 +6,7 @@ use Rattle.ics_series.specs.Entry.{key_rank}
 use Rattle.ics_series.specs.PlacedEvents.{clocks_at}
 use Rattle.ics_series.specs.Singles.{begun_first, is_single, is_to_come, single_entry}
 use Rattle.ics_series.specs.Versions.{seen}
-use Rattle.ics_series.proofs.SingleLemmas.{gives-none, gives-single}
+use Rattle.ics_series.proofs.SinglesLemmas.{gives-none, gives-single}
 use Rattle.ics_series.proofs.singles.given.Goals as goal
 
 pub returns-then-is_to_come : goal.returns-then-is_to_come

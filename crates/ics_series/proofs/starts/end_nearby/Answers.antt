@@ -1,6 +1,6 @@
 use Rattle.std.proofs.Common.{arith}
 use Rattle.std.proofs.lemmas.Int.{ints}
-use Rattle.ics_series.proofs.DayLemmas.{day-under}
+use Rattle.ics_series.proofs.NearDayLemmas.{day-under}
 use Rattle.ics_series.proofs.starts.end_nearby.Goals as goal
 
 pub returns : goal.returns

@@ -3,7 +3,7 @@ use Rattle.std.proofs.lemmas.Int.{ints, int_max_is}
 use mir.Val.{SFits}
 use Rattle.ics_fields.specs.declared.local.Local.{Local}
 use Rattle.ics_fields.specs.Locals.{local_seconds, whole_days}
-use Rattle.ics_series.proofs.DayLemmas.{day-under}
+use Rattle.ics_series.proofs.NearDayLemmas.{day-under}
 use Rattle.ics_series.proofs.starts.first_nearby.Goals as goal
 
 pub overflow_sub-day : goal.overflow_sub-day

@@ -4,7 +4,7 @@ use Rattle.std.proofs.lemmas.Option.{slice_get_read}
 use Rattle.ics_event.specs.declared.events.FileEvents.{FileEvents}
 use Rattle.ics_series.specs.Clocks.{display_clock}
 use Rattle.ics_series.specs.Versions.{seen}
-use Rattle.ics_series.proofs.LabelLemmas.{labels-step}
+use Rattle.ics_series.proofs.VersionLemmas.{labels-step}
 use Rattle.ics_series.proofs.version.versions.Goals as goal
 
 pub loop-number-preserved : goal.loop-number-preserved

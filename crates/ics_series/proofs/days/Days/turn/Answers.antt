@@ -10,7 +10,7 @@ use Rattle.ics_series.specs.Clocks.{display_clock}
 use Rattle.ics_series.specs.DayMasters.{agenda_sources, scope_in}
 use Rattle.ics_series.specs.Sources.{recurring}
 use Rattle.ics_series.proofs.AheadLemmas.{ahead-turned}
-use Rattle.ics_series.proofs.DayLemmas.{day-within}
+use Rattle.ics_series.proofs.NearDayLemmas.{day-within}
 use Rattle.ics_series.proofs.DayStepLemmas.{from-later, looked-next}
 use Rattle.ics_series.proofs.MasterSumLemmas.{searched-masters}
 use Rattle.ics_series.proofs.days.Days.turn.Goals as goal
