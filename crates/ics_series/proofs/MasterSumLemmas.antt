@@ -11,11 +11,11 @@ use Rattle.ics_event.specs.Event.{FileSaid}
 use Rattle.ics_series.specs.declared.window.Window.{Window}
 use Rattle.ics_series.specs.Chosen.{IsMaster}
 use Rattle.ics_series.specs.Clocks.{Clock}
-use Rattle.ics_series.specs.DayMasters.{IsDayMaster, IsFromStart, Scope}
+use Rattle.ics_series.specs.DaySteps.{IsDayMaster, IsFromStart, Scope}
 use Rattle.ics_series.specs.Entry.{Rank}
 use Rattle.ics_series.specs.HeldMost.{held_most, most_in_days, Master}
 use Rattle.ics_series.specs.Listing.{IsIn, IsListing}
-use Rattle.ics_series.specs.NearDays.{IsNearDay}
+use Rattle.ics_series.specs.OnDays.{IsNearDay}
 use Rattle.ics_series.specs.PlacedEvents.{Placed, clocks_at}
 use Rattle.ics_series.specs.Rising.{IsBefore, Rises}
 use Rattle.ics_series.specs.Sources.{master_at, master_of, recurring, uid_cmp, AreSources, IsFrom, IsMasterOf, Recurring, Source}

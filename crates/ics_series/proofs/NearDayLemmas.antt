@@ -15,7 +15,7 @@ use Rattle.ics_series.specs.ShownDays.{date_at, end_day, first_day, is_on, last_
 use Rattle.ics_series.specs.Entry.{Entry}
 use Rattle.ics_series.specs.Finish.{end_of}
 use Rattle.ics_series.specs.Meets.{Meets}
-use Rattle.ics_series.specs.NearDays.{first_near, last_near}
+use Rattle.ics_series.specs.OnDays.{first_near, last_near}
 use Rattle.ics_series.specs.Occurs.{Occurs}
 use Rattle.ics_series.specs.PlacedEvents.{clocks_at}
 use Rattle.ics_series.specs.Starts.{time_of}

@@ -6,7 +6,7 @@ use Rattle.ics_series.specs.declared.days.Days.{Days}
 use Rattle.ics_series.specs.declared.occurrence.Occurrence.{Occurrence}
 use Rattle.ics_series.specs.declared.window.Window.{Window}
 use Rattle.ics_series.specs.Clocks.{Clock, display_clock}
-use Rattle.ics_series.specs.DayMasters.{scope_in, Scope}
+use Rattle.ics_series.specs.DaySteps.{scope_in, Scope}
 use Rattle.ics_series.specs.ShownDays.{is_on}
 use Rattle.ics_series.specs.Entry.{Entry, entry_cmp, entry_of}
 use Rattle.ics_series.specs.Leads.{listed, past}

@@ -1,14 +1,97 @@
--- How many periods of rules a listing under each day looks at, at most.
-use Rattle.std.specs.Prelude.{◌≡◌, ◌≤◌, ◌+◌, ◌<ℤ◌, ◌+ℤ◌, ℕ, zero, suc, ℤ, pos, List, [], ◌∷◌, sum_by, Option, Some, None}
+-- What a listing under each day is of, the masters that it searches, and how many periods of rules it looks at, at most.
+use Rattle.std.specs.Prelude.{◌≡◌, ◌<ℤ◌, ◌≤ℤ◌, ℕ, ℤ, List, [], map, sum_by, Option, Some, None, ◌≤◌, ◌+◌, ◌+ℤ◌, zero, suc, pos, ◌∷◌}
+use Rattle.std.specs.List.{flat_map, AllByRecursion}
+use Rattle.std.specs.Option.{option_map}
+use Rattle.ics_event.specs.Event.{FileSaid}
+use Rattle.ics_series.specs.declared.agenda.Agenda.{Agenda}
 use Rattle.ics_series.specs.declared.window.Window.{Window}
-use Rattle.ics_series.specs.DayMasters.{masters_in, AreMasters, IsSearched, Scope}
+use Rattle.ics_series.specs.Chosen.{IsMaster}
+use Rattle.ics_series.specs.Clocks.{Clock}
+use Rattle.ics_series.specs.DayKeys.{DayRank}
+use Rattle.ics_series.specs.Entry.{entry_cmp, Entry, Rank}
 use Rattle.ics_series.specs.HeldMost.{Master}
-use Rattle.ics_series.specs.Listing.{IsIn}
-use Rattle.ics_series.specs.NearDays.{first_near, last_near}
-use Rattle.ics_series.specs.OnDays.{OnDay}
+use Rattle.ics_series.specs.Holding.{part_holds, part_looked}
+use Rattle.ics_series.specs.Leads.{listed}
+use Rattle.ics_series.specs.Listing.{IsListing, IsIn}
+use Rattle.ics_series.specs.Meets.{IsToCome}
+use Rattle.ics_series.specs.OnDays.{last_near, IsNearDay, first_near, OnDay}
+use Rattle.ics_series.specs.AgendaParts.{part_sources}
 use Rattle.ics_series.specs.PlacedEvents.{Placed}
-use Rattle.ics_series.specs.Sources.{master_at, Recurring}
+use Rattle.ics_series.specs.Sources.{master_at, master_of, recurring, AreSources, Recurring, Source}
+use Rattle.ics_series.specs.Versions.{by_subject}
 use Rattle.ics_series.specs.Steps.{HasStepBound}
+
+-- The files and the display clock, the window and, for a listing after a key, the day and the start in that.
+pub record Scope : Type 0 where
+  pub files : List FileSaid
+  pub display : Clock
+  pub window : Window
+  pub after : Option (ℤ × ℤ)
+
+abbrev pub scope_in : List FileSaid → Clock → Window → Option (ℤ × ℤ) → Scope
+scope_in files display w after = record { files = files; display = display; window = w; after = after }
+
+-- the day and the start in a key
+abbrev pub day_and_start : DayRank → ℤ × ℤ
+day_and_start key = (key.day, key.key.start)
+
+abbrev pub scope_by : List FileSaid → Clock → Window → Option DayRank → Scope
+scope_by files display w after = scope_in files display w (option_map day_and_start after)
+
+-- these are the masters of its files
+abbrev pub AreMasters : Scope → List Placed → Type 0
+AreMasters s masters = IsListing (by_subject s.files s.display) (IsMaster s.files s.display) masters
+
+-- each with the clocks by which its times are read
+abbrev pub masters_in : Scope → List Placed → List Master
+masters_in s masters = map (master_at s.files s.display) masters
+
+-- what the occurrences of an agenda belong to
+abbrev pub agenda_sources : Agenda → List Source
+agenda_sources agenda = flat_map (λ l. part_sources l.feed) agenda.merge.leads.items
+
+-- the built occurrences that it holds
+abbrev pub agenda_holds : Agenda → List Entry
+agenda_holds agenda = listed agenda.merge.last (flat_map (λ l. listed l.head (part_holds l.feed)) agenda.merge.leads.items)
+
+-- how many periods of rules it has looked at
+abbrev pub agenda_looked : Agenda → ℕ
+agenda_looked agenda = sum_by (λ l. part_looked l.feed) agenda.merge.leads.items
+
+-- on the day of the key, if there is one, an instant is not before the start in it
+abbrev pub IsFromStart : Option (ℤ × ℤ) → ℤ → ℤ → Type 0
+IsFromStart None day since = Unit {0}
+IsFromStart (Some after) day since = day ≡ after.0 → after.1 ≤ℤ since
+
+-- a master in what the window holds near a day, from such an instant on
+pub record IsSearched (s : Scope) (day : ℤ) (master : Master) (m : Recurring) : Type 0 where
+  pub same : master_of m ≡ master
+  pub near : IsNearDay s.window day m.window
+  pub from : IsFromStart s.after day m.since
+
+-- it is so of the master of its UID in the folder
+pub record IsDayMaster (s : Scope) (day : ℤ) (m : Recurring) : Type 0 where
+  pub by : Placed
+  pub is : IsMaster s.files s.display by
+  pub searched : IsSearched s day (master_at s.files s.display by) m
+
+-- it is so of the masters among these sources
+abbrev pub AreDayMasters : Scope → ℤ → List Source → Type 0
+AreDayMasters s day sources = AllByRecursion (IsDayMaster s day) (recurring sources)
+
+-- The search near a day and behind a key: an agenda has this to come, and these sources.
+pub record IsNearAgenda (files : List FileSaid) (display : Clock) (w : Window) (day : ℤ) (key : Option Rank) (coming : List Entry)
+    (sources : List Source) : Type 0 where
+  pub window : Window
+  pub near : IsNearDay w day window
+  pub listing : IsListing entry_cmp (IsToCome files display window key) coming
+  pub are : AreSources files display window key sources
+
+-- past the last day there is nothing to search
+pub record IsPastAgenda (w : Window) (day : ℤ) (coming : List Entry) (sources : List Source) : Type 0 where
+  pub past : last_near w <ℤ day
+  pub none : coming ≡ []
+  pub no_source : sources ≡ []
 
 -- The day with which a listing begins: that of the key, or without one the first that a clock can show in the window.
 abbrev pub begin_day : Window → Option (ℤ × ℤ) → ℤ

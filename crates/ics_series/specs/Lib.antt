@@ -5,7 +5,6 @@ pub mod Clocks
 pub mod FolderContents
 pub mod DayKeys
 pub mod DayLaws
-pub mod DayMasters
 pub mod DaySteps
 pub mod DayTokens
 pub mod ShownDays
@@ -25,7 +24,6 @@ pub mod Meeting
 pub mod Meets
 pub mod Merged
 pub mod MergedLaws
-pub mod NearDays
 pub mod Occurs
 pub mod OnDays
 pub mod Overridden

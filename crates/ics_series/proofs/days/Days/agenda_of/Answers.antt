@@ -5,11 +5,11 @@ use Rattle.ics_event.specs.Event.{said_by}
 use Rattle.ics_series.specs.declared.agenda.Agenda.{Agenda}
 use Rattle.ics_series.specs.Ahead.{agenda_coming}
 use Rattle.ics_series.specs.Clocks.{display_clock}
-use Rattle.ics_series.specs.DayMasters.{agenda_sources}
+use Rattle.ics_series.specs.DaySteps.{agenda_sources}
 use Rattle.ics_series.specs.Entry.{entry_cmp, key_rank}
 use Rattle.ics_series.specs.Listing.{IsListing}
 use Rattle.ics_series.specs.Meets.{IsToCome}
-use Rattle.ics_series.specs.NearDays.{IsNearDay}
+use Rattle.ics_series.specs.OnDays.{IsNearDay}
 use Rattle.ics_series.specs.Sources.{AreSources}
 use Rattle.ics_series.proofs.days.Days.agenda_of.Goals as goal
 

@@ -7,10 +7,9 @@ use Rattle.ics_zone.specs.Near.{offset_near}
 use Rattle.ics_zone.specs.JiffZones.{zone_of}
 use Rattle.ics_series.specs.Ahead.{agenda_coming}
 use Rattle.ics_series.specs.Clocks.{display_clock}
-use Rattle.ics_series.specs.DayMasters.{agenda_sources, scope_in, IsFromStart}
-use Rattle.ics_series.specs.DaySteps.{begin_day}
+use Rattle.ics_series.specs.DaySteps.{agenda_sources, scope_in, IsFromStart, begin_day}
 use Rattle.ics_series.specs.Entry.{key_rank}
-use Rattle.ics_series.specs.NearDays.{first_near, Begins, IsBehindKey}
+use Rattle.ics_series.specs.OnDays.{first_near, Begins, IsBehindKey}
 use Rattle.ics_series.specs.DayKeys.{day_key_rank}
 use Rattle.ics_series.specs.Sources.{IsFrom}
 use Rattle.ics_series.proofs.AheadLemmas.{begun-ahead}

@@ -8,8 +8,7 @@ use Rattle.ics_series.specs.declared.occurrence.Occurrence.{Occurrence}
 use Rattle.ics_series.specs.Ahead.{agenda_coming, GivesToday, IsAhead}
 use Rattle.ics_series.specs.Clocks.{display_clock}
 use Rattle.ics_series.specs.Entry.{entry_of}
-use Rattle.ics_series.specs.NearDays.{last_near}
-use Rattle.ics_series.specs.OnDays.{on_day, OnDay}
+use Rattle.ics_series.specs.OnDays.{last_near, on_day, OnDay}
 use Rattle.ics_series.proofs.AheadLemmas.{ahead-ended, on-err}
 use Rattle.ics_series.proofs.days.Days.next.Goals as goal
 

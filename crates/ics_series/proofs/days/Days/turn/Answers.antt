@@ -7,7 +7,7 @@ use Rattle.ics_zone.specs.Near.{offset_near}
 use Rattle.ics_zone.specs.JiffZones.{zone_of}
 use Rattle.ics_series.specs.Ahead.{agenda_coming}
 use Rattle.ics_series.specs.Clocks.{display_clock}
-use Rattle.ics_series.specs.DayMasters.{agenda_sources, scope_in}
+use Rattle.ics_series.specs.DaySteps.{agenda_sources, scope_in}
 use Rattle.ics_series.specs.Sources.{recurring}
 use Rattle.ics_series.proofs.AheadLemmas.{ahead-turned}
 use Rattle.ics_series.proofs.NearDayLemmas.{day-within}
