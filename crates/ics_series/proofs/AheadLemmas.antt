@@ -13,12 +13,11 @@ use Rattle.ics_series.specs.declared.window.Window.{Window}
 use Rattle.ics_series.specs.After.{is_after}
 use Rattle.ics_series.specs.Ahead.{is_today, today, IsAheadOf, IsLater}
 use Rattle.ics_series.specs.Clocks.{Clock}
-use Rattle.ics_series.specs.DayKeys.{DayRank}
+use Rattle.ics_series.specs.OnDays.{DayRank, first_near, last_near, Begins, IsNearDay, after_day_key, is_day_after, on_day, on_day_cmp, IsOnDay, OnDay}
 use Rattle.ics_series.specs.DaySteps.{IsNearAgenda, IsPastAgenda}
 use Rattle.ics_series.specs.Entry.{Entry, Rank, entry_cmp, rank_cmp, rank_of}
 use Rattle.ics_series.specs.Listing.{IsListing}
 use Rattle.ics_series.specs.Meets.{IsListed, IsToCome, Meets}
-use Rattle.ics_series.specs.OnDays.{first_near, last_near, Begins, IsNearDay, after_day_key, is_day_after, on_day, on_day_cmp, IsOnDay, OnDay}
 use Rattle.ics_series.specs.Sources.{Source}
 use Rattle.ics_series.proofs.Cases.{equal-true, true-equal}
 use Rattle.ics_series.proofs.PickLemmas.{listing-filter}

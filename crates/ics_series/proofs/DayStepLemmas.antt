@@ -7,13 +7,12 @@ use Rattle.std.proofs.Common.{ap, subst, arith}
 use Rattle.std.proofs.lemmas.Int.{int_max_is, int_min_is, ints}
 use Rattle.std.proofs.lemmas.List.Sums.{sum_by-cons}
 use Rattle.ics_series.specs.declared.window.Window.{Window}
-use Rattle.ics_series.specs.DayKeys.{DayRank}
+use Rattle.ics_series.specs.OnDays.{DayRank, first_near, last_near, IsBehindKey, IsNearDay, on_day, OnDay}
 use Rattle.ics_series.specs.DaySteps.{day_and_start, masters_in, AreDayMasters, AreMasters, IsDayMaster, IsFromStart, IsNearAgenda, IsPastAgenda, Scope}
 use Rattle.ics_series.specs.DaySteps.{begin_day, first_under, most_in, sum_days, AreDayBounds, HasDaysBound, IsLookedBefore}
 use Rattle.ics_series.specs.Entry.{Entry, Rank}
 use Rattle.ics_series.specs.HeldMost.{Master}
 use Rattle.ics_series.specs.Listing.{IsIn}
-use Rattle.ics_series.specs.OnDays.{first_near, last_near, IsBehindKey, IsNearDay, on_day, OnDay}
 use Rattle.ics_series.specs.PlacedEvents.{Placed}
 use Rattle.ics_series.specs.Rising.{Rises}
 use Rattle.ics_series.specs.Sources.{master_of, recurring, uid_cmp, IsFrom, Recurring, Source}

@@ -11,11 +11,10 @@ use Rattle.ics_zone.proofs.Cases.{int_le_true}
 use Rattle.ics_fields.specs.Locals.{midnight, day_of_local}
 use Rattle.ics_series.specs.declared.window.Window.{Window}
 use Rattle.ics_series.specs.Clocks.{Clock, instant, local_at}
-use Rattle.ics_series.specs.ShownDays.{date_at, end_day, first_day, is_on, last_day}
+use Rattle.ics_series.specs.OnDays.{date_at, end_day, first_day, is_on, last_day, first_near, last_near}
 use Rattle.ics_series.specs.Entry.{Entry}
 use Rattle.ics_series.specs.Finish.{end_of}
 use Rattle.ics_series.specs.Meets.{Meets}
-use Rattle.ics_series.specs.OnDays.{first_near, last_near}
 use Rattle.ics_series.specs.Occurs.{Occurs}
 use Rattle.ics_series.specs.PlacedEvents.{clocks_at}
 use Rattle.ics_series.specs.Starts.{time_of}

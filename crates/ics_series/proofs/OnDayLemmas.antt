@@ -14,13 +14,12 @@ use Rattle.ics_zone.specs.Seconds.{IsNear}
 use Rattle.ics_series.specs.declared.window.Window.{Window}
 use Rattle.ics_series.specs.Ahead.{is_today, today}
 use Rattle.ics_series.specs.Clocks.{Clock}
-use Rattle.ics_series.specs.ShownDays.{is_on}
+use Rattle.ics_series.specs.OnDays.{is_on, day_rank_of, on_day, on_day_cmp, IsOnDay, OnDay, after_day_key}
 use Rattle.ics_series.specs.Entry.{Entry, entry_cmp, rank_cmp, rank_of}
 use Rattle.ics_series.specs.EntryLaws.{rank_total}
 use Rattle.ics_series.specs.Listing.{IsIn, IsListing}
 use Rattle.ics_series.specs.Meeting.{is_met}
 use Rattle.ics_series.specs.Occurs.{Occurs}
-use Rattle.ics_series.specs.OnDays.{day_rank_of, on_day, on_day_cmp, IsOnDay, OnDay, after_day_key}
 use Rattle.ics_series.specs.Rising.{IsBefore, Rises}
 use Rattle.ics_series.proofs.PickLemmas.{listing-filter}
 use Rattle.ics_series.proofs.GivenLemmas.{in-map, map-in}

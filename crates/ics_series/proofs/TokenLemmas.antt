@@ -11,9 +11,8 @@ use Rattle.std.proofs.lemmas.List.Elements.{All-from_recursion}
 use Rattle.hex.specs.Hex.{encode_lower, decode_of}
 use Rattle.hex.proofs.HexLemmas.{decode_of-encode_lower}
 use Rattle.ics_series.specs.Entry.{Rank}
-use Rattle.ics_series.specs.Tokens.{spelling, IsKey}
-use Rattle.ics_series.specs.DayKeys.{DayRank}
-use Rattle.ics_series.specs.DayTokens.{day_spelling, IsDayKey}
+use Rattle.ics_series.specs.Tokens.{spelling, IsKey, day_spelling, IsDayKey}
+use Rattle.ics_series.specs.OnDays.{DayRank}
 
 not-point : (c : ℕ) → digit_value c < 10 → c ≢ 46
 not-point c h e = let k : digit_value 46 < 10 = subst (λ x. digit_value x < 10) e h in absurd (omega arith)

@@ -7,13 +7,12 @@ use Rattle.ics_series.specs.declared.occurrence.Occurrence.{Occurrence}
 use Rattle.ics_series.specs.declared.window.Window.{Window}
 use Rattle.ics_series.specs.Clocks.{Clock, display_clock}
 use Rattle.ics_series.specs.DaySteps.{scope_in, Scope}
-use Rattle.ics_series.specs.ShownDays.{is_on}
+use Rattle.ics_series.specs.OnDays.{is_on, on_day, on_day_cmp, IsOnDay, OnDay}
 use Rattle.ics_series.specs.Entry.{Entry, entry_cmp, entry_of}
 use Rattle.ics_series.specs.Leads.{listed, past}
 use Rattle.ics_series.specs.Listing.{IsListing}
 use Rattle.ics_series.specs.Meeting.{is_met}
 use Rattle.ics_series.specs.Merged.{merged}
-use Rattle.ics_series.specs.OnDays.{on_day, on_day_cmp, IsOnDay, OnDay}
 use Rattle.ics_series.specs.AgendaParts.{part_coming}
 
 -- an occurrence meets the window and has this day there

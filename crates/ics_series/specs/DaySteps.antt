@@ -7,14 +7,13 @@ use Rattle.ics_series.specs.declared.agenda.Agenda.{Agenda}
 use Rattle.ics_series.specs.declared.window.Window.{Window}
 use Rattle.ics_series.specs.Chosen.{IsMaster}
 use Rattle.ics_series.specs.Clocks.{Clock}
-use Rattle.ics_series.specs.DayKeys.{DayRank}
+use Rattle.ics_series.specs.OnDays.{DayRank, last_near, IsNearDay, first_near, OnDay}
 use Rattle.ics_series.specs.Entry.{entry_cmp, Entry, Rank}
 use Rattle.ics_series.specs.HeldMost.{Master}
 use Rattle.ics_series.specs.Holding.{part_holds, part_looked}
 use Rattle.ics_series.specs.Leads.{listed}
 use Rattle.ics_series.specs.Listing.{IsListing, IsIn}
 use Rattle.ics_series.specs.Meets.{IsToCome}
-use Rattle.ics_series.specs.OnDays.{last_near, IsNearDay, first_near, OnDay}
 use Rattle.ics_series.specs.AgendaParts.{part_sources}
 use Rattle.ics_series.specs.PlacedEvents.{Placed}
 use Rattle.ics_series.specs.Sources.{master_at, master_of, recurring, AreSources, Recurring, Source}

@@ -3,11 +3,7 @@ pub mod Ahead
 pub mod Chosen
 pub mod Clocks
 pub mod FolderContents
-pub mod DayKeys
-pub mod DayLaws
 pub mod DaySteps
-pub mod DayTokens
-pub mod ShownDays
 pub mod Entry
 pub mod EntryLaws
 pub mod EventLaws

@@ -1,18 +1,52 @@
--- Occurrences under their days, the order in which they are listed, and the days that a clock can show in a window. A clock is less than two days from UTC's.
-use Rattle.std.specs.Prelude.{◌≡◌, ℤ, Bool, true, List, [], ◌∷◌, filter, Option, Some, None, ◌≤ℤ◌, ◌&&◌, ◌||◌, int_lt, pos, ◌+ℤ◌, ◌-ℤ◌, false}
-use Rattle.std.specs.Ordering.{is_lt, on, int_eq}
-use Rattle.std.specs.declared.cmp.Ordering.{Ordering}
+-- The days under which an occurrence is shown (the program's own form), the order in which occurrences are listed under their days,
+-- and the days that a clock can show in a window. A clock is less than two days from UTC's.
+use Rattle.std.specs.Prelude.{ℤ, pos, ◌-ℤ◌, ◌&&◌, Bool, int_le, if◌then◌else◌, ◌≡◌, true, List, [], ◌∷◌, filter, Option, Some, None, ◌≤ℤ◌, ◌||◌, int_lt, ◌+ℤ◌}
+use Rattle.std.specs.Prelude.{false, ◌++◌}
 use Rattle.std.specs.Int.{int_max, int_min}
+use Rattle.std.specs.Ordering.{int_eq, int_cmp, on, then_cmp, is_lt}
+use Rattle.std.specs.declared.cmp.Ordering.{Ordering}
+use Rattle.ics_fields.specs.Locals.{day_of_local, midnight}
 use Rattle.ics_event.specs.Event.{FileSaid}
-use Rattle.ics_fields.specs.Locals.{midnight, day_of_local}
-use Rattle.ics_series.specs.declared.occurrence.Occurrence.{Occurrence}
 use Rattle.ics_series.specs.declared.window.Window.{Window}
-use Rattle.ics_series.specs.Clocks.{Clock}
-use Rattle.ics_series.specs.DayKeys.{day_rank_cmp, DayRank}
-use Rattle.ics_series.specs.ShownDays.{is_on}
-use Rattle.ics_series.specs.Entry.{Entry, entry_of, rank_of, Rank}
+use Rattle.ics_series.specs.Clocks.{Clock, local_at}
+use Rattle.ics_series.specs.Entry.{Entry, Rank, key_rank, rank_cmp, entry_of, rank_of}
+use Rattle.ics_series.specs.declared.day_key.DayKey.{DayKey}
+use Rattle.ics_series.specs.declared.occurrence.Occurrence.{Occurrence}
 use Rattle.ics_series.specs.Meets.{IsListed}
 use Rattle.ics_series.specs.After.{is_after}
+use Rattle.ics_series.specs.Listing.{IsListing}
+
+-- the date that a clock shows
+abbrev pub date_at : Clock → ℤ → ℤ
+date_at clock t = day_of_local (local_at clock t)
+
+-- the first day of an occurrence in a window: that of the later of its start and the window's
+abbrev pub first_day : Clock → Window → Entry → ℤ
+first_day clock w o = date_at clock (int_max o.start w.from)
+
+-- the day of its last second before both its finish and the window's end
+abbrev pub end_day : Clock → Window → Entry → ℤ
+end_day clock w o = date_at clock (int_min o.finish w.to -ℤ pos 1)
+
+-- The last of its days: that day, where it is not before the first. One of no length has the first alone.
+abbrev pub last_day : Clock → Window → Entry → ℤ
+last_day clock w o = if int_eq o.finish o.start then first_day clock w o else int_max (first_day clock w o) (end_day clock w o)
+
+-- a day is one of an occurrence's in a window
+abbrev pub is_on : Clock → Window → Entry → ℤ → Bool
+is_on clock w o day = int_le (first_day clock w o) day && int_le day (last_day clock w o)
+
+-- a day, counted from 1970-01-01, and the key of an occurrence under it
+pub record DayRank : Type 0 where
+  pub day : ℤ
+  pub key : Rank
+
+abbrev pub day_key_rank : DayKey → DayRank
+day_key_rank key = record { day = key.day; key = key_rank key.key }
+
+-- by day, then by key
+abbrev pub day_rank_cmp : DayRank → DayRank → Ordering
+day_rank_cmp = then_cmp (on (λ r. r.day) int_cmp) (on (λ r. r.key) rank_cmp)
 
 -- an occurrence under one of its days
 pub record OnDay : Type 0 where
@@ -73,3 +107,15 @@ pub record Begins (w : Window) (after : Option DayRank) (day : ℤ) (key : Optio
 abbrev pub IsBehindKey : Option DayRank → ℤ → Option Rank → Type 0
 IsBehindKey None day key = Unit {0}
 IsBehindKey (Some after) day key = (after.day ≤ℤ day) × (day ≡ after.day → key ≡ Some after.key)
+
+-- a window has one listing under each day at most
+abbrev pub OneDayListing : Type 0
+OneDayListing =
+    (files : List FileSaid) (display : Clock) (w : Window) (xs ys : List OnDay)
+    → IsListing on_day_cmp (IsOnDay files display w) xs → IsListing on_day_cmp (IsOnDay files display w) ys → xs ≡ ys
+
+-- what comes after the key of one of its entries is what stands behind it
+abbrev pub DayListingBehind : Type 0
+DayListingBehind =
+    (files : List FileSaid) (display : Clock) (w : Window) (front : List OnDay) (p : OnDay) (behind : List OnDay)
+    → IsListing on_day_cmp (IsOnDay files display w) (front ++ p ∷ behind) → after_day_key (Some (day_rank_of p)) (front ++ p ∷ behind) ≡ behind

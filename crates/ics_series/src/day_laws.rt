@@ -1,8 +1,7 @@
 //! Laws of the listing under each day and of its keys. Each is the contract of a function that has no other purpose.
 ghost use Rattle.std.specs.Prelude.{◌≡◌};
-ghost use Rattle.ics_series.specs.DayLaws.{DayListingBehind, OneDayListing};
-ghost use Rattle.ics_series.specs.DayTokens.{OneDaySpelling};
-ghost use Rattle.ics_series.specs.DayKeys.{day_key_rank, day_rank_cmp};
+ghost use Rattle.ics_series.specs.OnDays.{DayListingBehind, OneDayListing, day_key_rank, day_rank_cmp};
+ghost use Rattle.ics_series.specs.Tokens.{OneDaySpelling};
 ghost use Rattle.ics_series.specs.declared.day_key.DayKey.{DayKey};
 
 use crate::day_key::DayKey;

@@ -3,8 +3,8 @@ ghost use Rattle.std.specs.Prelude.{◌≡◌, ◌++◌, ◌∷◌, ℕ, ℤ, Li
 ghost use Rattle.std.specs.Fmt.{signed_decimal};
 ghost use Rattle.std.specs.Int.{w32};
 ghost use Rattle.std.specs.String.{string_bytes};
-ghost use Rattle.ics_series.specs.DayTokens.{day_spelling, IsDayKey, IsDayToken};
-ghost use Rattle.ics_series.specs.DayKeys.{day_key_rank};
+ghost use Rattle.ics_series.specs.Tokens.{day_spelling, IsDayKey, IsDayToken};
+ghost use Rattle.ics_series.specs.OnDays.{day_key_rank};
 
 use crate::day_key::DayKey;
 use crate::token::{Token, TokenFault, field};

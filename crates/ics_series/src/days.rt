@@ -5,14 +5,13 @@ ghost use Rattle.std.specs.Option.{option_map};
 ghost use Rattle.ics_fields.specs.Days.{IsDayNumber};
 ghost use Rattle.ics_event.specs.Event.{said_by};
 ghost use Rattle.ics_series.specs.Clocks.{display_clock};
-ghost use Rattle.ics_series.specs.DayKeys.{day_key_rank};
+ghost use Rattle.ics_series.specs.OnDays.{day_key_rank, first_near, last_near, Begins, IsBehindKey, after_day_key, on_day_cmp, GivesOnDay, IsOnDay, OnDay};
 ghost use Rattle.ics_series.specs.DaySteps.{agenda_holds, agenda_looked, agenda_sources, day_and_start, masters_in, scope_by, scope_in, AreDayMasters};
 ghost use Rattle.ics_series.specs.DaySteps.{AreMasters, IsNearAgenda, IsPastAgenda, begin_day, HasDaysBound, IsLookedBefore};
 ghost use Rattle.ics_series.specs.Entry.{entry_cmp, key_rank, Entry};
 ghost use Rattle.ics_series.specs.HeldMost.{held_most};
 ghost use Rattle.ics_series.specs.Listing.{IsListing};
 ghost use Rattle.ics_series.specs.Meets.{IsListed};
-ghost use Rattle.ics_series.specs.OnDays.{first_near, last_near, Begins, IsBehindKey, after_day_key, on_day_cmp, GivesOnDay, IsOnDay, OnDay};
 ghost use Rattle.ics_series.specs.PlacedEvents.{Placed};
 ghost use Rattle.ics_series.specs.declared.window.Window.{Window};
 

@@ -5,12 +5,11 @@ ghost use Rattle.ics_event.specs.Event.{said_by};
 ghost use Rattle.ics_series.specs.After.{after_key};
 ghost use Rattle.ics_series.specs.Ahead.{scope_of, IsAhead};
 ghost use Rattle.ics_series.specs.Clocks.{display_clock};
-ghost use Rattle.ics_series.specs.DayKeys.{day_key_rank};
+ghost use Rattle.ics_series.specs.OnDays.{day_key_rank, after_day_key, on_day_cmp, IsOnDay, OnDay};
 ghost use Rattle.ics_series.specs.DaySteps.{scope_by};
 ghost use Rattle.ics_series.specs.Entry.{Entry, entry_cmp, key_rank};
 ghost use Rattle.ics_series.specs.Listing.{IsListing};
 ghost use Rattle.ics_series.specs.Meets.{IsListed, IsToCome};
-ghost use Rattle.ics_series.specs.OnDays.{after_day_key, on_day_cmp, IsOnDay, OnDay};
 ghost use Rattle.ics_series.specs.Sources.{AreSources};
 
 use crate::agenda::Agenda;

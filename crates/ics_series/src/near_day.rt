@@ -2,8 +2,7 @@
 ghost use Rattle.std.specs.Prelude.{◌≡◌, ◌≤ℤ◌, ◌<ℤ◌, ◌-ℤ◌, pos};
 ghost use Rattle.ics_fields.specs.Days.{IsDayNumber};
 ghost use Rattle.ics_series.specs.Clocks.{display_clock};
-ghost use Rattle.ics_series.specs.ShownDays.{date_at};
-ghost use Rattle.ics_series.specs.OnDays.{first_near, last_near, IsNearDay};
+ghost use Rattle.ics_series.specs.OnDays.{date_at, first_near, last_near, IsNearDay};
 ghost use Rattle.ics_series.specs.WindowBounds.{occurrence_first, occurrence_end};
 
 use crate::window::Window;

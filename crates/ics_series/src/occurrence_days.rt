@@ -2,7 +2,7 @@
 ghost use Rattle.std.specs.Prelude.{◌≡◌, IsTrue};
 ghost use Rattle.ics_fields.specs.Days.{IsDayNumber};
 ghost use Rattle.ics_series.specs.Clocks.{display_clock};
-ghost use Rattle.ics_series.specs.ShownDays.{first_day, is_on, last_day};
+ghost use Rattle.ics_series.specs.OnDays.{first_day, is_on, last_day};
 ghost use Rattle.ics_series.specs.Entry.{entry_of};
 
 use crate::near_day::date_at;

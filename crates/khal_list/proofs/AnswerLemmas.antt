@@ -11,11 +11,9 @@ use Rattle.ics_zone.specs.declared.display.Display.{Display}
 use Rattle.ics_zone.specs.declared.display.Kind.{Kind}
 use Rattle.ics_zone.specs.declared.display.Kind.TheVariants.{Fixed, Posix}
 use Rattle.ics_series.specs.Clocks.{display_clock}
-use Rattle.ics_series.specs.DayKeys.{day_key_rank, DayRank}
-use Rattle.ics_series.specs.DayTokens.{day_spelling, OneDaySpelling}
-use Rattle.ics_series.specs.ShownDays.{date_at}
+use Rattle.ics_series.specs.OnDays.{day_key_rank, DayRank, date_at}
+use Rattle.ics_series.specs.Tokens.{day_spelling, OneDaySpelling, spelling, OneSpelling}
 use Rattle.ics_series.specs.Entry.{key_rank, Rank}
-use Rattle.ics_series.specs.Tokens.{spelling, OneSpelling}
 use Rattle.ics_series.specs.declared.day_key.DayKey.{DayKey}
 use Rattle.ics_series.specs.declared.window.Window.{Window}
 use Rattle.ics_series.specs.declared.key.Key.{Key}

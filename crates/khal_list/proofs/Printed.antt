@@ -6,8 +6,7 @@ use Rattle.std.specs.Io.KnownBytes.{Appends}
 use Rattle.std.specs.Option.{option_map}
 use Rattle.std.proofs.Math.Seq.{take-append-add}
 use Rattle.std.proofs.lemmas.Grind.{common_steps}
-use Rattle.ics_series.specs.DayKeys.{DayRank}
-use Rattle.ics_series.specs.OnDays.{day_rank_of, OnDay}
+use Rattle.ics_series.specs.OnDays.{DayRank, day_rank_of, OnDay}
 use Rattle.khal_list.specs.Drawn.{DrewAhead}
 use Rattle.khal_ports.specs.Growth.{TookFront}
 use Rattle.khal_list.specs.Listed.{day_key_on, first_of, is_cut, last_day_key}

@@ -6,10 +6,9 @@ use Rattle.std.specs.Io.KnownBytes.{Appends}
 use Rattle.std.specs.Option.{option_map}
 use Rattle.std.specs.Result.{IsErr}
 use Rattle.std.proofs.lemmas.List.{length-map}
-use Rattle.ics_series.specs.DayKeys.{day_key_rank, DayRank}
+use Rattle.ics_series.specs.OnDays.{day_key_rank, DayRank, OnDay}
 use Rattle.ics_series.specs.declared.day_key.DayKey.{DayKey}
 use Rattle.ics_series.specs.Entry.{Entry, key_rank}
-use Rattle.ics_series.specs.OnDays.{OnDay}
 use Rattle.khal_ports.specs.declared.fault.RunFault.{RunFault}
 use Rattle.khal_list.specs.declared.request.Request.{Request}
 use Rattle.khal_list.specs.Drawn.{DrewAhead, Puts}

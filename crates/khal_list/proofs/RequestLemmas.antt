@@ -6,7 +6,7 @@ use Rattle.clap.specs.Words.{Text}
 use Rattle.ics_zone.specs.DisplayTexts.{display_of, said_by}
 use Rattle.ics_zone.specs.JiffZones.{zone_of}
 use Rattle.ics_zone.specs.declared.display.Display.{Display}
-use Rattle.ics_series.specs.DayKeys.{day_key_rank}
+use Rattle.ics_series.specs.OnDays.{day_key_rank}
 use Rattle.ics_series.specs.Entry.{key_rank}
 use Rattle.ics_series.specs.declared.day_key.DayKey.{DayKey}
 use Rattle.ics_series.specs.declared.key.Key.{Key}

@@ -9,13 +9,11 @@ use Rattle.ics_event.specs.Event.{FileSaid}
 use Rattle.ics_zone.specs.declared.display.Display.{Display}
 use Rattle.ics_series.specs.After.{after_key}
 use Rattle.ics_series.specs.Clocks.{display_clock}
-use Rattle.ics_series.specs.DayKeys.{day_key_rank, DayRank}
-use Rattle.ics_series.specs.DayTokens.{day_spelling}
+use Rattle.ics_series.specs.OnDays.{day_key_rank, DayRank, after_day_key, on_day_cmp, IsOnDay, OnDay}
+use Rattle.ics_series.specs.Tokens.{day_spelling, spelling}
 use Rattle.ics_series.specs.Entry.{Entry, Rank, entry_cmp, key_rank}
 use Rattle.ics_series.specs.Listing.{IsListing}
 use Rattle.ics_series.specs.Meets.{IsListed}
-use Rattle.ics_series.specs.OnDays.{after_day_key, on_day_cmp, IsOnDay, OnDay}
-use Rattle.ics_series.specs.Tokens.{spelling}
 use Rattle.khal_list.specs.declared.every_day.EveryDay.{EveryDay}
 use Rattle.khal_list.specs.declared.request.Request.{Request}
 use Rattle.khal_list.specs.declared.status.Status.{Status}

@@ -6,12 +6,9 @@ use Rattle.std.proofs.lemmas.Cmp.{int_eq_equiv}
 use Rattle.clap.specs.Words.{Text}
 use Rattle.ics_zone.specs.declared.display.Display.{Display}
 use Rattle.ics_series.specs.Clocks.{display_clock}
-use Rattle.ics_series.specs.DayKeys.{day_key_rank, DayRank}
-use Rattle.ics_series.specs.DayLaws.{DayListingBehind}
-use Rattle.ics_series.specs.DayTokens.{day_spelling, IsDayKey, OneDaySpelling}
+use Rattle.ics_series.specs.OnDays.{day_key_rank, DayRank, DayListingBehind, after_day_key}
+use Rattle.ics_series.specs.Tokens.{day_spelling, IsDayKey, OneDaySpelling, OneSpelling, IsKey, spelling}
 use Rattle.ics_series.specs.Entry.{Entry, Rank, key_rank}
-use Rattle.ics_series.specs.OnDays.{after_day_key}
-use Rattle.ics_series.specs.Tokens.{OneSpelling, IsKey, spelling}
 use Rattle.ics_series.specs.declared.day_key.DayKey.{DayKey}
 use Rattle.ics_series.specs.declared.window.Window.{Window}
 use Rattle.ics_series.specs.declared.key.Key.{Key}

@@ -4,12 +4,11 @@ use Rattle.std.specs.Io.KnownBytes.{Appends}
 use Rattle.std.specs.Option.{option_map}
 use Rattle.ics_event.specs.Event.{FileSaid}
 use Rattle.ics_series.specs.Clocks.{display_clock}
-use Rattle.ics_series.specs.DayTokens.{day_spelling}
+use Rattle.ics_series.specs.Tokens.{day_spelling, spelling}
 use Rattle.ics_series.specs.Entry.{Entry, entry_cmp}
 use Rattle.ics_series.specs.Listing.{IsListing}
 use Rattle.ics_series.specs.Meets.{IsListed}
 use Rattle.ics_series.specs.OnDays.{on_day_cmp, IsOnDay, OnDay}
-use Rattle.ics_series.specs.Tokens.{spelling}
 use Rattle.khal_list.specs.declared.every_day.EveryDay.{EveryDay}
 use Rattle.khal_list.specs.declared.request.Request.{Request}
 use Rattle.khal_list.specs.declared.status.Status.{Status}

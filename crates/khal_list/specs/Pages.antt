@@ -4,11 +4,9 @@ use Rattle.std.specs.Option.{option_map}
 use Rattle.clap.specs.Words.{Text}
 use Rattle.ics_event.specs.Event.{FileSaid}
 use Rattle.ics_series.specs.After.{after_key}
-use Rattle.ics_series.specs.DayKeys.{day_key_rank}
-use Rattle.ics_series.specs.DayTokens.{day_spelling, IsDayKey}
+use Rattle.ics_series.specs.OnDays.{day_key_rank, day_rank_of, OnDay}
+use Rattle.ics_series.specs.Tokens.{day_spelling, IsDayKey, spelling, IsKey}
 use Rattle.ics_series.specs.Entry.{Entry, Rank, key_rank, rank_of}
-use Rattle.ics_series.specs.OnDays.{day_rank_of, OnDay}
-use Rattle.ics_series.specs.Tokens.{spelling, IsKey}
 use Rattle.khal_list.specs.declared.every_day.EveryDay.{EveryDay}
 use Rattle.khal_list.specs.declared.request.Request.{Request}
 use Rattle.khal_words.specs.Entries.{entries_of}

@@ -8,11 +8,9 @@ use Rattle.ics_zone.specs.DisplayTexts.{display_of, said_by}
 use Rattle.ics_zone.specs.JiffZones.{zone_of}
 use Rattle.ics_zone.specs.declared.display.Display.{Display}
 use Rattle.ics_series.specs.Clocks.{display_clock}
-use Rattle.ics_series.specs.DayKeys.{day_key_rank, DayRank}
-use Rattle.ics_series.specs.DayTokens.{day_spelling, IsDayKey, IsDayToken}
-use Rattle.ics_series.specs.ShownDays.{date_at}
+use Rattle.ics_series.specs.OnDays.{day_key_rank, DayRank, date_at}
+use Rattle.ics_series.specs.Tokens.{day_spelling, IsDayKey, IsDayToken, spelling, IsKey, IsToken}
 use Rattle.ics_series.specs.Entry.{key_rank}
-use Rattle.ics_series.specs.Tokens.{spelling, IsKey, IsToken}
 use Rattle.ics_series.specs.declared.day_key.DayKey.{DayKey}
 use Rattle.ics_series.specs.declared.key.Key.{Key}
 use Rattle.ics_series.specs.declared.window.Window.{Window}

@@ -9,8 +9,7 @@ use Rattle.ics_values.specs.declared.stamp.Stamp.TheVariants.{Date, Floating, Ut
 use Rattle.ics_fields.specs.Days.{year_of, month_of, month_day_of, weekday_of, day_index}
 use Rattle.ics_series.specs.Clocks.{Clock, local_at}
 use Rattle.ics_series.specs.Entry.{Entry}
-use Rattle.ics_series.specs.OnDays.{on_day, OnDay}
-use Rattle.ics_series.specs.ShownDays.{date_at}
+use Rattle.ics_series.specs.OnDays.{on_day, OnDay, date_at}
 use Rattle.khal_words.specs.declared.field.EntryField.{EntryField}
 use Rattle.khal_words.specs.declared.field.EntryField.TheVariants.{Cell, Title, StartTime, EndTime, StartDate, EndDate, Location, Description, Uid, Cancelled}
 use Rattle.khal_words.specs.declared.field.DayField.{DayField}

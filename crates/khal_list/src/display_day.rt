@@ -2,7 +2,7 @@
 ghost use Rattle.std.specs.Prelude.{◌≡◌, ◌≤ℤ◌, ◌<ℤ◌, ◌-ℤ◌, pos};
 ghost use Rattle.ics_fields.specs.Days.{IsDayNumber};
 ghost use Rattle.ics_series.specs.Clocks.{display_clock};
-ghost use Rattle.ics_series.specs.ShownDays.{date_at};
+ghost use Rattle.ics_series.specs.OnDays.{date_at};
 ghost use Rattle.ics_series.specs.WindowBounds.{occurrence_first, occurrence_end};
 
 use ics_values::Moment;

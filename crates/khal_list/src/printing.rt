@@ -3,9 +3,8 @@ ghost use Rattle.std.specs.Prelude.{◌≡◌, ◌≢◌, ◌+◌, List, Some, I
 ghost use Rattle.std.specs.Io.KnownBytes.{Appends};
 ghost use Rattle.std.specs.Option.{option_map};
 ghost use Rattle.ics_series.specs.Ahead.{IsAhead};
-ghost use Rattle.ics_series.specs.DayKeys.{day_key_rank};
+ghost use Rattle.ics_series.specs.OnDays.{day_key_rank, day_rank_of, on_day_of, OnDay};
 ghost use Rattle.ics_series.specs.Entry.{key_rank};
-ghost use Rattle.ics_series.specs.OnDays.{day_rank_of, on_day_of, OnDay};
 ghost use Rattle.khal_list.specs.Drawn.{DrewAhead, Puts};
 ghost use Rattle.khal_ports.specs.Growth.{TookFront, LeftByFault};
 ghost use Rattle.khal_list.specs.Listed.{key_on, style_of, listing_text};

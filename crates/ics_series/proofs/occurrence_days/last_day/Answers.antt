@@ -4,7 +4,7 @@ use Rattle.std.specs.Int.{int_max, int_min}
 use Rattle.std.specs.Ordering.{int_eq}
 use Rattle.std.proofs.lemmas.Int.{int_max_is, int_min_is, ints}
 use Rattle.ics_series.specs.Clocks.{display_clock}
-use Rattle.ics_series.specs.ShownDays.{date_at, end_day, first_day}
+use Rattle.ics_series.specs.OnDays.{date_at, end_day, first_day}
 use Rattle.ics_series.specs.Entry.{entry_of}
 use Rattle.ics_series.specs.WindowBounds.{occurrence_first}
 use Rattle.ics_series.proofs.occurrence_days.last_day.Goals as goal

@@ -1,9 +1,8 @@
 use Rattle.std.proofs.Common.{Some, ◌∙◌, ap, sym}
 use Rattle.std.specs.Option.{option_map}
 use denote.Ref.{Bor}
-use Rattle.ics_series.specs.DayKeys.{day_key_rank}
-use Rattle.ics_series.specs.DayTokens.{day_spelling}
-use Rattle.ics_series.specs.OnDays.{after_day_key}
+use Rattle.ics_series.specs.OnDays.{day_key_rank, after_day_key}
+use Rattle.ics_series.specs.Tokens.{day_spelling}
 use Rattle.ics_series.specs.declared.day_key.DayKey.{DayKey}
 use Rattle.khal_list.proofs.RunLemmas.{copied-key, part-days, shows-days, whole-front}
 use Rattle.khal_ports.proofs.Written.{on_err}

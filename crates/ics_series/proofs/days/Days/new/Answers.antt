@@ -9,8 +9,7 @@ use Rattle.ics_series.specs.Ahead.{agenda_coming}
 use Rattle.ics_series.specs.Clocks.{display_clock}
 use Rattle.ics_series.specs.DaySteps.{agenda_sources, scope_in, IsFromStart, begin_day}
 use Rattle.ics_series.specs.Entry.{key_rank}
-use Rattle.ics_series.specs.OnDays.{first_near, Begins, IsBehindKey}
-use Rattle.ics_series.specs.DayKeys.{day_key_rank}
+use Rattle.ics_series.specs.OnDays.{first_near, Begins, IsBehindKey, day_key_rank}
 use Rattle.ics_series.specs.Sources.{IsFrom}
 use Rattle.ics_series.proofs.AheadLemmas.{begun-ahead}
 use Rattle.ics_series.proofs.DayStepLemmas.{begun-by, first-masters, from-start}

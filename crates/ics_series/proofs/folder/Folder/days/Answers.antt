@@ -6,10 +6,9 @@ use Rattle.ics_event.specs.declared.events.FileEvents.{FileEvents}
 use Rattle.ics_series.specs.Ahead.{scope_of, IsAhead}
 use Rattle.ics_series.specs.Clocks.{display_clock}
 use Rattle.ics_series.specs.FolderContents.{Contents}
-use Rattle.ics_series.specs.DayKeys.{day_key_rank}
+use Rattle.ics_series.specs.OnDays.{day_key_rank, after_day_key, on_day_cmp, IsOnDay, OnDay}
 use Rattle.ics_series.specs.DaySteps.{scope_by}
 use Rattle.ics_series.specs.Listing.{IsListing}
-use Rattle.ics_series.specs.OnDays.{after_day_key, on_day_cmp, IsOnDay, OnDay}
 use Rattle.ics_series.proofs.folder.Folder.days.Goals as goal
 
 pub returns : goal.returns
