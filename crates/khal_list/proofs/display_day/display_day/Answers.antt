@@ -11,9 +11,9 @@ use Rattle.ics_series.specs.WindowBounds.{occurrence_first, occurrence_end}
 use Rattle.khal_list.proofs.display_day.display_day.Goals as goal
 
 -- a local near an instant at which an occurrence may begin or end lies in the years 0000 to 9999, and so does the day before
-day_within : (day : ℤ) (second : ℕ) (moment offset : ℤ) → second < 86_400 → seconds_at day second ≡ moment +ℤ offset → IsNear offset
+day_within : (day : ℤ) {second : ℕ} {moment offset : ℤ} → second < 86_400 → seconds_at day second ≡ moment +ℤ offset → IsNear offset
     → occurrence_first ≤ℤ moment → moment <ℤ occurrence_end → IsDayNumber (day -ℤ pos 1) × IsDayNumber day
-day_within day second moment offset small same near early late =
+day_within day small same near early late =
     ((omega (arith, signed_arith), omega (arith, signed_arith)), (omega (arith, signed_arith), omega (arith, signed_arith)))
 
 pub returns-clause-within : goal.returns-clause-within
@@ -21,7 +21,7 @@ returns-clause-within c =
     let moment = c.args.moment in
     let fits : FitsSigned w32 c.local.result.day = search rules in
     rw (to_z-of_z w32 c.local.result.day fits)
-    (day_within c.local.result.day c.local.result.second moment _ c.local.result.second_in (rw (to_z-of_z w64 moment c.ranges.moment) at c.local.ensures)
+    (day_within c.local.result.day c.local.result.second_in (rw (to_z-of_z w64 moment c.ranges.moment) at c.local.ensures)
     (offset_near (zone_of c.args.zone.now) moment) c.requires.early c.requires.late).1
 
 pub returns-clause-before : goal.returns-clause-before
@@ -29,5 +29,5 @@ returns-clause-before c =
     let moment = c.args.moment in
     let fits : FitsSigned w32 c.local.result.day = search rules in
     rw (to_z-of_z w32 c.local.result.day fits)
-    (day_within c.local.result.day c.local.result.second moment _ c.local.result.second_in (rw (to_z-of_z w64 moment c.ranges.moment) at c.local.ensures)
+    (day_within c.local.result.day c.local.result.second_in (rw (to_z-of_z w64 moment c.ranges.moment) at c.local.ensures)
     (offset_near (zone_of c.args.zone.now) moment) c.requires.early c.requires.late).0
