@@ -7,7 +7,7 @@ ghost use Rattle.ics_fields.specs.Locals.{local_seconds, seconds_at};
 ghost use Rattle.khal_words.specs.WindowTexts as spec;
 ghost use Rattle.khal_words.specs.WindowTextNames.{named_by, IsInCalendar};
 
-use ics_values::Local;
+use ics_fields::Local;
 use jiff_core::civil::Date;
 
 // The most days of a window that is given by their number.
