@@ -12,7 +12,7 @@ use Rattle.ics_zone.specs.declared.observance.Observance.{Observance}
 use Rattle.ics_zone.specs.declared.onsets.Onsets.{Onsets}
 use Rattle.ics_zone.specs.Observances.{ObservanceSaid, IsZone, observances_said}
 use Rattle.ics_zone.specs.ZoneOffsets.{natural, IsOnset, IsNotLater, IsInForce, IsBeforeAll, IsOffset, zone_offset}
-use Rattle.ics_zone.specs.Moments.{shown, IsFirstTime, IsInGap}
+use Rattle.ics_zone.specs.Moments.{shown, IsFirstTime}
 use Rattle.ics_zone.specs.ZoneOnsets.{HaveOffsets, IsKnown, IsLatest, IsLatestOf, IsFirstOffset, IsNextPast, IsClear, IsJump, IsSteady, IsOverridden}
 use Rattle.ics_zone.specs.ZoneBounds.{zone_offset_short}
 use Rattle.ics_zone.proofs.OffsetLaws.{offset_unique}
