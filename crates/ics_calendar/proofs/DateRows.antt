@@ -4,7 +4,7 @@ use Rattle.std.specs.Prelude.{codes, false}
 use Rattle.ics_fields.specs.Locals.{local_at}
 use Rattle.ics_values.specs.declared.stamp.Stamp.{Stamp}
 use Rattle.ics_values.specs.declared.stamp.Stamp.TheVariants.{Date, Floating, Utc, Zoned}
-use Rattle.ics_calendar.specs.declared.fault.FaultKind.TheVariants.{BadStamp, Repeated, UnknownZone}
+use Rattle.ics_components.specs.declared.fault.FaultKind.TheVariants.{BadStamp, Repeated, UnknownZone}
 use Rattle.ics_event.specs.declared.time.Length.TheVariants.{Until, Lasting}
 use Rattle.ics_event.specs.declared.time.Rdate.{Rdate}
 use Rattle.ics_event.specs.declared.time.Rdate.TheVariants.{At, Span}

@@ -11,14 +11,14 @@ use Rattle.ics_zone.specs.ZoneBounds.{zone_offset_short}
 use Rattle.ics_zone.proofs.MomentLemmas.{moment_unique, moment_found}
 use Rattle.ics_zone.proofs.OnsetLemmas.{offset_found}
 use Rattle.ics_zone.specs.ZoneSaid.{ZoneSaid}
-use Rattle.ics_calendar.specs.declared.fault.FaultKind.TheVariants.{BadEnd, UnknownZone}
+use Rattle.ics_components.specs.declared.fault.FaultKind.TheVariants.{BadEnd, UnknownZone}
 use Rattle.ics_event.specs.declared.time.Length.{Length}
 use Rattle.ics_event.specs.declared.time.Length.TheVariants.{Until}
 use Rattle.ics_event.specs.Event.{EventSeen}
 use Rattle.ics_calendar.proofs.ExampleFiles.{calendar, events, zone, fault, at}
-use Rattle.ics_calendar.specs.declared.deferred_check.Instant.TheVariants.{Utc, Zoned}
-use Rattle.ics_calendar.specs.declared.deferred_check.DeferredCheck.TheVariants.{Ends}
-use Rattle.ics_calendar.specs.declared.deferred_check.ZoneName.{ZoneName}
+use Rattle.ics_components.specs.declared.deferred_check.Instant.TheVariants.{Utc, Zoned}
+use Rattle.ics_components.specs.declared.deferred_check.DeferredCheck.TheVariants.{Ends}
+use Rattle.ics_components.specs.declared.deferred_check.ZoneName.{ZoneName}
 use Rattle.ics_calendar.specs.DeferredChecks.{KnownZones, known_zones, judged}
 use Rattle.ics_calendar.proofs.EventSound.{some-same}
 

@@ -10,36 +10,38 @@ use Rattle.ics_text.specs.Unfolded.{Line}
 use Rattle.ics_text.specs.ContentLines.{Parts}
 use Rattle.ics_values.specs.declared.stamp.Stamp.{Stamp}
 use Rattle.ics_values.specs.declared.stamp.Stamp.TheVariants as stamp
-use Rattle.ics_calendar.specs.declared.component.Component.{Component}
-use Rattle.ics_calendar.specs.declared.component.Context.{Context}
-use Rattle.ics_calendar.specs.declared.component.Context.TheVariants as context
-use Rattle.ics_calendar.specs.declared.dated.Dated.{Dated}
-use Rattle.ics_calendar.specs.declared.fault.FaultKind.{FaultKind}
-use Rattle.ics_calendar.specs.declared.fault.FaultKind.TheVariants.{BadEnd, UnknownZone, BadZoneFile}
-use Rattle.ics_calendar.specs.declared.deferred_check.Instant.{Instant}
-use Rattle.ics_calendar.specs.declared.deferred_check.Instant.TheVariants as instant
-use Rattle.ics_calendar.specs.declared.deferred_check.DeferredCheck.{DeferredCheck}
-use Rattle.ics_calendar.specs.declared.deferred_check.DeferredCheck.TheVariants as check
-use Rattle.ics_calendar.specs.declared.deferred_check.ZoneName.{ZoneName}
-use Rattle.ics_calendar.specs.declared.name.Name.{Name}
-use Rattle.ics_calendar.specs.declared.name.Name.TheVariants as name
-use Rattle.ics_calendar.specs.Components.{component_of, is_event_context}
-use Rattle.ics_calendar.specs.DateValues.{has_zoned, listed_in}
+use Rattle.ics_components.specs.declared.component.Component.{Component}
+use Rattle.ics_components.specs.declared.component.Context.{Context}
+use Rattle.ics_components.specs.declared.component.Context.TheVariants as context
+use Rattle.ics_components.specs.declared.dated.Dated.{Dated}
+use Rattle.ics_components.specs.declared.fault.FaultKind.{FaultKind}
+use Rattle.ics_components.specs.declared.fault.FaultKind.TheVariants.{BadEnd, UnknownZone, BadZoneFile}
+use Rattle.ics_components.specs.declared.deferred_check.Instant.{Instant}
+use Rattle.ics_components.specs.declared.deferred_check.Instant.TheVariants as instant
+use Rattle.ics_components.specs.declared.deferred_check.DeferredCheck.{DeferredCheck}
+use Rattle.ics_components.specs.declared.deferred_check.DeferredCheck.TheVariants as check
+use Rattle.ics_components.specs.declared.deferred_check.ZoneName.{ZoneName}
+use Rattle.ics_components.specs.declared.name.Name.{Name}
+use Rattle.ics_components.specs.declared.name.Name.TheVariants as name
+use Rattle.ics_components.specs.Components.{component_of, is_event_context}
+use Rattle.ics_components.specs.DateValues.{has_zoned, listed_in}
 use Rattle.ics_event.specs.Event.{is_zoned}
 use Rattle.ics_fields.specs.Locals.{local_seconds}
-use Rattle.ics_calendar.specs.Names.{name_of}
-use Rattle.ics_calendar.specs.PlacedLines.{Placed, Open, context_of, closes}
-use Rattle.ics_calendar.specs.Values.{dated_of, is_out}
-use Rattle.ics_calendar.specs.Faults.{stamp_names, is_in_unknown_zone, stands_later, kinds, tzid_on}
-use Rattle.ics_calendar.specs.DeferredChecks.{KnownZones, are_out, zone_used, moment_on, moment_in, are_of_one_zone, ends_badly_later, moment_of, judged}
+use Rattle.ics_components.specs.Names.{name_of}
+use Rattle.ics_components.specs.PlacedLines.{Placed, Open, context_of, closes}
+use Rattle.ics_components.specs.Values.{dated_of, is_out}
+use Rattle.ics_components.specs.Faults.{stamp_names, kinds}
+use Rattle.ics_calendar.specs.LaterFaults.{is_in_unknown_zone, stands_later, tzid_on}
+use Rattle.ics_calendar.specs.DeferredChecks.{KnownZones, are_out, moment_on, moment_in, ends_badly_later, moment_of, judged}
+use Rattle.ics_components.specs.ZoneNames.{zone_used, are_of_one_zone}
 use Rattle.ics_calendar.specs.DeferredChecks.{unknown_in}
-use Rattle.ics_calendar.specs.SecondRound.{instant_on, instant_in, both_compared, ends_in}
-use Rattle.ics_calendar.proofs.Judged.{check_in}
-use Rattle.ics_calendar.proofs.Ended.{IsMatched}
-use Rattle.ics_calendar.proofs.NameLemmas.{Tells, tells}
-use Rattle.ics_calendar.proofs.Rows.{Readings, dates_at, frame_at, or-false}
-use Rattle.ics_calendar.proofs.Table.{readings, frame_of}
-use Rattle.ics_calendar.proofs.Frames.{with}
+use Rattle.ics_components.specs.SecondRound.{instant_on, instant_in, both_compared, ends_in}
+use Rattle.ics_components.proofs.Judged.{check_in}
+use Rattle.ics_components.proofs.Ended.{IsMatched}
+use Rattle.ics_components.proofs.NameLemmas.{Tells, tells}
+use Rattle.ics_components.proofs.Rows.{Readings, dates_at, frame_at, or-false}
+use Rattle.ics_components.proofs.Table.{readings, frame_of}
+use Rattle.ics_components.proofs.Frames.{with}
 
 -- AN END against its start, as the table finds it and as it is judged.
 moment-is : (known : KnownZones) (name : ZoneName) (s : Stamp) → moment_on known name s ≡ option_and_then (moment_of known) (instant_on name s)

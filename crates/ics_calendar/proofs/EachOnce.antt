@@ -5,10 +5,10 @@ use Rattle.std.proofs.Common.{add-one, drop-cons, Option, Some, None}
 use Rattle.std.specs.Prelude.{not}
 use Rattle.std.specs.List.{cons_option}
 use Rattle.std.specs.Str.{bytes_eq}
-use Rattle.ics_calendar.specs.declared.deferred_check.ZoneName.{ZoneName}
-use Rattle.ics_calendar.specs.declared.gathered.LineCheck.{LineCheck}
+use Rattle.ics_components.specs.declared.deferred_check.ZoneName.{ZoneName}
+use Rattle.ics_components.specs.declared.gathered.LineCheck.{LineCheck}
 use Rattle.ics_calendar.specs.DeferredChecks.{unknown_in}
-use Rattle.ics_calendar.specs.Gathered.{all_unknown}
+use Rattle.ics_calendar.specs.Settled.{all_unknown}
 use Rattle.ics_calendar.specs.Wanted.{each_once}
 
 -- the names that are not seen yet

@@ -16,32 +16,35 @@ use Rattle.ics_values.specs.declared.stamp.Stamp.TheVariants.{Date, Floating, Ut
 use Rattle.ics_fields.specs.Locals.{local_seconds}
 use Rattle.ics_fields.specs.declared.local.Local.{Local}
 use Rattle.ics_zone.specs.ZoneSaid.{ZoneSaid}
-use Rattle.ics_calendar.specs.declared.gathered.EndedEvent.{EndedEvent}
-use Rattle.ics_calendar.specs.declared.gathered.GivenLength.{GivenLength}
-use Rattle.ics_calendar.specs.declared.date_list.DateList.{DateList}
-use Rattle.ics_calendar.specs.declared.date_list.ListedDate.{ListedDate}
-use Rattle.ics_calendar.specs.declared.dated.Dated.{Dated}
-use Rattle.ics_calendar.specs.declared.fault.FaultKind.TheVariants.{UnknownZone, BadZoneFile, BadEnd}
-use Rattle.ics_calendar.specs.declared.deferred_check.DeferredCheck.{DeferredCheck}
-use Rattle.ics_calendar.specs.declared.deferred_check.ZoneName.{ZoneName}
+use Rattle.ics_components.specs.declared.gathered.EndedEvent.{EndedEvent}
+use Rattle.ics_components.specs.declared.gathered.GivenLength.{GivenLength}
+use Rattle.ics_components.specs.declared.date_list.DateList.{DateList}
+use Rattle.ics_components.specs.declared.date_list.ListedDate.{ListedDate}
+use Rattle.ics_components.specs.declared.dated.Dated.{Dated}
+use Rattle.ics_components.specs.declared.fault.FaultKind.TheVariants.{UnknownZone, BadZoneFile, BadEnd}
+use Rattle.ics_components.specs.declared.deferred_check.DeferredCheck.{DeferredCheck}
+use Rattle.ics_components.specs.declared.deferred_check.ZoneName.{ZoneName}
 use Rattle.ics_event.specs.Event.{is_zoned, IsTime, longest, IsWithin, IsEnd, IsLasting, IsLength, IsRdate, IsEvent, EndsBelow, RdateBelow}
 use Rattle.ics_event.specs.Event.{time_in, TimeBelow, EndsWithin, IsEventOf, AreEventsOf, compared, is_one_zone, moment_in}
-use Rattle.ics_calendar.specs.Gathered.{event_of}
-use Rattle.ics_calendar.specs.DateLists.{zone_listed, rdate_in, exdate_in, first_stamp}
-use Rattle.ics_calendar.specs.DateValues.{has_zoned}
-use Rattle.ics_calendar.specs.DeferredChecks.{KnownZones, zone_used, judged, moment_at, moment_there, are_out}
-use Rattle.ics_calendar.specs.SecondRound.{used_zone, used_in, listed_zone, instant_on, both_compared, ends_in}
-use Rattle.ics_calendar.specs.Sound.{IsReady, end_of, IsSoundStamp, IsSoundLength, IsSoundValue, IsSoundList}
+use Rattle.ics_calendar.specs.Settled.{event_of}
+use Rattle.ics_components.specs.DateLists.{zone_listed}
+use Rattle.ics_calendar.specs.ListedTimes.{rdate_in, exdate_in, first_stamp}
+use Rattle.ics_components.specs.DateValues.{has_zoned}
+use Rattle.ics_calendar.specs.DeferredChecks.{KnownZones, judged, moment_at, moment_there, are_out}
+use Rattle.ics_components.specs.ZoneNames.{zone_used}
+use Rattle.ics_components.specs.SecondRound.{used_zone, used_in, listed_zone, instant_on, both_compared, ends_in}
+use Rattle.ics_calendar.specs.Ready.{IsReady}
+use Rattle.ics_components.specs.Sound.{end_of, IsSoundStamp, IsSoundLength, IsSoundValue, IsSoundList}
 use Rattle.ics_calendar.specs.Times.{time_on, length_of}
-use Rattle.ics_calendar.specs.Values.{length_in_seconds, is_lasting, is_out, is_bad_end, tzid}
-use Rattle.ics_calendar.proofs.Listed.{All-flat_map}
+use Rattle.ics_components.specs.Values.{length_in_seconds, is_lasting, is_out, is_bad_end, tzid}
+use Rattle.ics_components.proofs.Listed.{All-flat_map}
 use Rattle.ics_event.specs.declared.time.Length.TheVariants.{Until}
 use Rattle.ics_event.specs.declared.time.Time.{Time}
 use Rattle.ics_calendar.specs.Drafts.{IsTable}
-use Rattle.ics_calendar.specs.declared.gathered.GivenLength.TheVariants as given
-use Rattle.ics_calendar.specs.declared.date_list.ListedDate.TheVariants as value
-use Rattle.ics_calendar.specs.declared.deferred_check.DeferredCheck.TheVariants as check
-use Rattle.ics_calendar.specs.declared.deferred_check.Instant.TheVariants as instant
+use Rattle.ics_components.specs.declared.gathered.GivenLength.TheVariants as given
+use Rattle.ics_components.specs.declared.date_list.ListedDate.TheVariants as value
+use Rattle.ics_components.specs.declared.deferred_check.DeferredCheck.TheVariants as check
+use Rattle.ics_components.specs.declared.deferred_check.Instant.TheVariants as instant
 
 -- A STAMP, in the zone that it names.
 -- a check of the second round finds no fault

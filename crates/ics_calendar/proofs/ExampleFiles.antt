@@ -2,12 +2,12 @@
 use Rattle.std.proofs.Common.{ℕ, List, [], ◌∷◌, ◌++◌, Option, Some, None, Result, Ok, Err}
 use Rattle.std.specs.Prelude.{codes}
 use Rattle.std.specs.List.{flat_map}
-use Rattle.ics_calendar.specs.declared.fault.FaultKind.{FaultKind}
+use Rattle.ics_components.specs.declared.fault.FaultKind.{FaultKind}
 use Rattle.ics_event.specs.Event.{EventSeen, FileSaid}
-use Rattle.ics_calendar.specs.FirstFault.{Fault}
+use Rattle.ics_components.specs.declared.fault.Fault.{Fault}
 use Rattle.ics_calendar.specs.Files.{file_of, events_of}
 use Rattle.ics_calendar.specs.GivenFiles.{no_files}
-use Rattle.ics_calendar.specs.PlacedLines.{placed}
+use Rattle.ics_components.specs.PlacedLines.{placed}
 use Rattle.ics_calendar.specs.Zones.{zones_on}
 
 -- each line ends with CRLF

@@ -6,8 +6,8 @@ use Rattle.ics_fields.specs.RuleParts.{RuleParts, every}
 use Rattle.ics_values.specs.Rules.{rule_of}
 use Rattle.ics_fields.specs.declared.frequency.Frequency.TheVariants.{Daily}
 use Rattle.ics_values.specs.declared.stamp.Stamp.TheVariants.{Utc}
-use Rattle.ics_calendar.specs.declared.fault.FaultKind.TheVariants.{BadFold, BadLine, BadNesting, BadStamp, NotCalendar, OldVersion, Repeated, TooDeep}
-use Rattle.ics_calendar.specs.declared.fault.FaultKind.TheVariants.{UnknownZone}
+use Rattle.ics_components.specs.declared.fault.FaultKind.TheVariants.{BadFold, BadLine, BadNesting, BadStamp, NotCalendar, OldVersion, Repeated, TooDeep}
+use Rattle.ics_components.specs.declared.fault.FaultKind.TheVariants.{UnknownZone}
 use Rattle.ics_event.specs.declared.time.Length.TheVariants.{Until}
 use Rattle.ics_calendar.specs.Files.{file_of}
 use Rattle.ics_calendar.specs.GivenFiles.{no_files}

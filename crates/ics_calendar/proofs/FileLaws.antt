@@ -20,16 +20,20 @@ use Rattle.ics_values.specs.Texts.{begins, is_minus}
 use Rattle.ics_values.specs.Periods as period
 use Rattle.ics_values.specs.declared.duration.DurationFault.TheVariants as duration
 use Rattle.ics_values.specs.declared.stamp.StampFault.TheVariants as stamp
-use Rattle.ics_calendar.specs.Faults.{stands, stands_later, is_in_unknown_zone, kinds, tzid_on}
-use Rattle.ics_calendar.specs.Files.{FaultsLookBack, IsFile, bad_fold, file_of, decide, events_of, said_of, wanted_names, wanted_on}
-use Rattle.ics_calendar.specs.FirstFault.{Fault, Round, IsFirst, first_fault, later_fault, first_from, end_fault, last_of, no_open}
-use Rattle.ics_calendar.specs.PlacedLines.{Open, Placed, placed, placed_from, path_behind, beside}
-use Rattle.ics_calendar.specs.declared.date_list.ListedDate.{ListedDate}
-use Rattle.ics_calendar.specs.declared.date_values.DateValue.TheVariants.{At, Between, Lasting}
-use Rattle.ics_calendar.specs.DateValues.{date_time_of, has_slash, listed_by, listed_said, period_of, OnePeriod}
-use Rattle.ics_calendar.specs.Values.{allowed, is_lasting, lasting_of}
-use Rattle.ics_calendar.specs.declared.fault.FaultKind.{FaultKind}
-use Rattle.ics_calendar.specs.declared.fault.FaultKind.TheVariants.{BadZoneFile, BadNesting, NotCalendar}
+use Rattle.ics_components.specs.Faults.{stands, kinds}
+use Rattle.ics_calendar.specs.LaterFaults.{stands_later, is_in_unknown_zone, tzid_on}
+use Rattle.ics_calendar.specs.Files.{FaultsLookBack, IsFile, file_of, decide, events_of, said_of, wanted_names, wanted_on}
+use Rattle.ics_components.specs.FirstFault.{bad_fold}
+use Rattle.ics_components.specs.declared.fault.Fault.{Fault}
+use Rattle.ics_components.specs.FirstFault.{Round, IsFirst, first_fault, first_from, end_fault, last_of, no_open}
+use Rattle.ics_calendar.specs.Files.{later_fault}
+use Rattle.ics_components.specs.PlacedLines.{Open, Placed, placed, placed_from, path_behind, beside}
+use Rattle.ics_components.specs.declared.date_list.ListedDate.{ListedDate}
+use Rattle.ics_components.specs.declared.date_values.DateValue.TheVariants.{At, Between, Lasting}
+use Rattle.ics_components.specs.DateValues.{date_time_of, has_slash, listed_by, listed_said, period_of, OnePeriod}
+use Rattle.ics_components.specs.Values.{allowed, is_lasting, lasting_of}
+use Rattle.ics_components.specs.declared.fault.FaultKind.{FaultKind}
+use Rattle.ics_components.specs.declared.fault.FaultKind.TheVariants.{BadZoneFile, BadNesting, NotCalendar}
 use Rattle.ics_calendar.specs.DeferredChecks.{KnownZones}
 use Rattle.ics_event.specs.Event.{FileSaid}
 use Rattle.ics_calendar.specs.GivenFiles.{GivenFiles, no_files}

@@ -14,7 +14,7 @@ use Rattle.std.proofs.lemmas.List.Elements.{All-head, All-tail}
 use Rattle.std.proofs.lemmas.List.Quantifiers.{position-Some}
 use Rattle.ics_zone.specs.ZoneFiles.{TzifText, zone_file}
 use Rattle.ics_zone.specs.ZoneSaid.{ZoneSaid}
-use Rattle.ics_calendar.specs.declared.deferred_check.ZoneName.{ZoneName}
+use Rattle.ics_components.specs.declared.deferred_check.ZoneName.{ZoneName}
 use Rattle.ics_calendar.specs.DeferredChecks.{KnownZones, known_zones, is_same, zone_index, with_files}
 use Rattle.ics_calendar.specs.Drafts.{IsTable}
 use Rattle.ics_calendar.specs.GivenFiles.{GivenFiles, no_files, with_file, files_by, zone_in, is_refused, given_names, given_zones, bad_names}

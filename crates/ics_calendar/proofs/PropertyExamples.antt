@@ -2,8 +2,8 @@
 use Rattle.std.proofs.Common.{◌≡◌, [], ◌∷◌, ◌++◌, refl, None}
 use Rattle.std.specs.Prelude.{codes}
 use Rattle.ics_values.specs.Rules.{rule_of}
-use Rattle.ics_calendar.specs.declared.fault.FaultKind.TheVariants.{BadDuration, BadEnd, BadLine, BadRule, BadStamp, Exrule, MissingStart, MissingUid}
-use Rattle.ics_calendar.specs.declared.fault.FaultKind.TheVariants.{NumberTooLarge, Repeated, ThisAndFuture, UnknownZone, YearRange}
+use Rattle.ics_components.specs.declared.fault.FaultKind.TheVariants.{BadDuration, BadEnd, BadLine, BadRule, BadStamp, Exrule, MissingStart, MissingUid}
+use Rattle.ics_components.specs.declared.fault.FaultKind.TheVariants.{NumberTooLarge, Repeated, ThisAndFuture, UnknownZone, YearRange}
 use Rattle.ics_calendar.proofs.ExampleFiles.{event, fault, at}
 
 -- stamps, and a bad one before a repeated one

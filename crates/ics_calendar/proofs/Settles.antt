@@ -3,38 +3,44 @@ use Rattle.std.proofs.Common.{◌≡◌, ℕ, Bool, true, false, ◌&&◌, List,
 use Rattle.std.specs.Prelude.{find, codes}
 use Rattle.std.specs.List.{cons_option}
 use Rattle.std.specs.Option.{option_and_then}
+use Rattle.std.proofs.lemmas.Simd.{map-map}
 use Rattle.ics_text.specs.Bytes.{upper}
 use Rattle.ics_text.specs.Unfolded.{Line, Rises}
 use Rattle.ics_text.specs.ContentLines.{Parts, content_of}
 use Rattle.ics_zone.specs.ZoneSaid.{ZoneSaid}
-use Rattle.ics_calendar.specs.declared.frame.Frame.{Frame}
-use Rattle.ics_calendar.specs.declared.gathered.EndedEvent.{EndedEvent}
-use Rattle.ics_calendar.specs.declared.gathered.EndedZone.{EndedZone}
-use Rattle.ics_calendar.specs.declared.gathered.LineCheck.{LineCheck}
-use Rattle.ics_calendar.specs.declared.deferred_check.DeferredCheck.{DeferredCheck}
-use Rattle.ics_calendar.specs.declared.deferred_check.ZoneName.{ZoneName}
-use Rattle.ics_calendar.specs.Gathered.{event_of}
-use Rattle.ics_calendar.specs.Components.{is_calendar_context}
+use Rattle.ics_components.specs.declared.frame.Frame.{Frame}
+use Rattle.ics_components.specs.declared.gathered.EndedEvent.{EndedEvent}
+use Rattle.ics_components.specs.declared.gathered.EndedZone.{EndedZone}
+use Rattle.ics_components.specs.declared.gathered.LineCheck.{LineCheck}
+use Rattle.ics_components.specs.declared.deferred_check.DeferredCheck.{DeferredCheck}
+use Rattle.ics_components.specs.declared.deferred_check.ZoneName.{ZoneName}
+use Rattle.ics_calendar.specs.Settled.{event_of}
+use Rattle.ics_components.specs.Components.{is_calendar_context}
 use Rattle.ics_event.specs.Event.{EventSeen}
-use Rattle.ics_calendar.specs.Faults.{stands, stands_later, is_in_unknown_zone, kinds, tzid_on}
-use Rattle.ics_calendar.specs.Files.{DraftSaid, event_by, begins_event, said_of, decide}
-use Rattle.ics_calendar.specs.FirstFault.{found, least_on, first_from, first_fault, later_fault, fault_at_end}
-use Rattle.ics_calendar.specs.Gathered.{first_judged, settled_by, known_in, drafted, nothing_gathered, checks_of, all_unknown}
+use Rattle.ics_components.specs.Faults.{stands, kinds}
+use Rattle.ics_calendar.specs.LaterFaults.{stands_later, is_in_unknown_zone, tzid_on}
+use Rattle.ics_calendar.specs.Files.{DraftSaid, event_by, said_of, decide}
+use Rattle.ics_components.specs.PlacedLines.{begins_event}
+use Rattle.ics_components.specs.FirstFault.{found, least_on, first_from, first_fault, fault_at_end}
+use Rattle.ics_calendar.specs.Files.{later_fault}
+use Rattle.ics_calendar.specs.Settled.{first_judged, settled_by, known_in, drafted, all_unknown}
+use Rattle.ics_components.specs.Gathered.{nothing_gathered, checks_of}
 use Rattle.ics_calendar.specs.DeferredChecks.{KnownZones, known_zones, with_files, judged, unknown_in}
 use Rattle.ics_calendar.specs.GivenFiles.{GivenFiles}
 use Rattle.ics_calendar.specs.Wanted.{each_once, unknown_names, zones_with}
-use Rattle.ics_calendar.proofs.Judged.{check_in}
-use Rattle.ics_calendar.specs.PlacedLines.{Placed, Open, path_behind, placed_from, context_of, begins, beside, calendar_of, lines_in}
-use Rattle.ics_calendar.specs.Names.{name_of}
-use Rattle.ics_calendar.specs.Zones.{zone_names, zones_on}
-use Rattle.ics_calendar.proofs.Ended.{events, zones}
-use Rattle.ics_calendar.proofs.EndOrder.{events-are}
-use Rattle.ics_calendar.proofs.Frames.{with}
+use Rattle.ics_components.proofs.Judged.{check_in}
+use Rattle.ics_components.specs.PlacedLines.{Placed, Open, path_behind, placed_from, context_of, begins, beside, calendar_of, lines_in}
+use Rattle.ics_components.specs.Names.{name_of}
+use Rattle.ics_components.specs.Observances.{begins_zone, zone_by, zone_names}
+use Rattle.ics_calendar.specs.Zones.{zones_on}
+use Rattle.ics_components.proofs.Ended.{events, zones}
+use Rattle.ics_components.proofs.EndOrder.{events-are}
+use Rattle.ics_components.proofs.Frames.{with}
 use Rattle.ics_calendar.proofs.DeferredTable.{later-same, asked-same}
-use Rattle.ics_calendar.proofs.Order.{found-none, inside, begun, IsPlaced, ordered, nested}
-use Rattle.ics_calendar.proofs.PassLemmas.{checks_from, gathered_from, lists, three, with_content}
-use Rattle.ics_calendar.proofs.Table.{frame_of}
-use Rattle.ics_calendar.proofs.EndOrder.{zones-are, zones-begun, names-begun, calendar-inside}
+use Rattle.ics_components.proofs.Order.{found-none, inside, begun, IsPlaced, ordered, nested}
+use Rattle.ics_components.proofs.PassLemmas.{checks_from, gathered_from, lists, three, with_content}
+use Rattle.ics_components.proofs.Table.{frame_of}
+use Rattle.ics_components.proofs.EndOrder.{zones-are, names-begun, calendar-inside}
 
 -- THE DEFERRED CHECKS, judged in order, give the first fault of the second round.
 found-checks : (known : KnownZones) (number : ℕ) (o : Option DeferredCheck) (ws : List LineCheck) →
@@ -65,6 +71,13 @@ judges whole known (line ∷ lines) before path e = by_content (judges whole kno
         ∙ ap (λ k. found line.number k (first_judged known (checks_from whole behind rest)))
         (sym (later-same whole known line v (beside before l) path (nested (λ kind. stands kind (beside before l) l) none.0)))
         ∙ ap (found line.number (find (λ kind. stands_later known kind (beside before l) l) kinds)) (again behind (path_behind l) none.1)
+
+-- THE TIME ZONES, by what is gathered.
+pub zones-begun : (whole ls : List Placed) → map (λ z. ZoneSaid.ByObservances z.observances) (begun (zones whole) whole ls)
+    ≡ map (λ l. ZoneSaid.ByObservances (zone_by whole l.number)) (filter begins_zone ls)
+zones-begun whole ls =
+    map-map (λ (z : EndedZone). ZoneSaid.ByObservances z.observances) (λ (l : Placed). (zones whole).by (inside l) (lines_in l.number whole))
+    (filter begins_zone ls)
 
 -- THE EVENTS, by what is gathered.
 events-begun : (index : ZoneName → Option ℕ) (whole ls : List Placed) →

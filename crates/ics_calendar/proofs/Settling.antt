@@ -8,21 +8,23 @@ use Rattle.std.proofs.lemmas.List.Elements.{All-nil, All-map, All-contains, All-
 use Rattle.ics_zone.specs.ZoneSaid.{ZoneSaid, said_moment, zone_said}
 use Rattle.ics_zone.specs.declared.zone.ZoneKind.{ZoneKind}
 use Rattle.ics_fields.specs.declared.local.Local.{Local}
-use Rattle.ics_calendar.specs.declared.gathered.LineCheck.{LineCheck}
-use Rattle.ics_calendar.specs.declared.deferred_check.DeferredCheck.{DeferredCheck}
-use Rattle.ics_calendar.specs.Gathered.{event_of}
+use Rattle.ics_components.specs.declared.gathered.LineCheck.{LineCheck}
+use Rattle.ics_components.specs.declared.deferred_check.DeferredCheck.{DeferredCheck}
+use Rattle.ics_calendar.specs.Settled.{event_of}
 use Rattle.ics_event.specs.Event.{AreEventsOf}
 use Rattle.ics_fields.specs.Locals.{local_seconds}
-use Rattle.ics_calendar.specs.Gathered.{known_in, first_judged, IsSoundGathered}
-use Rattle.ics_calendar.specs.GatheredSeen.{GatheredSeen}
+use Rattle.ics_calendar.specs.Settled.{known_in, first_judged}
+use Rattle.ics_components.specs.Gathered.{IsSoundGathered}
+use Rattle.ics_components.specs.GatheredSeen.{GatheredSeen}
 use Rattle.ics_calendar.specs.DeferredChecks.{KnownZones, moment_at, judged, with_files}
 use Rattle.ics_calendar.specs.Drafts.{IsSoundDraft, left_of}
 use Rattle.ics_calendar.specs.GivenFiles.{GivenFiles}
-use Rattle.ics_calendar.specs.Sound.{IsReady, IsSoundZone}
+use Rattle.ics_calendar.specs.Ready.{IsReady}
+use Rattle.ics_components.specs.Sound.{IsSoundZone}
 use Rattle.ics_calendar.proofs.EventSound.{events-of}
 use Rattle.ics_calendar.proofs.FilesGiven.{table-known, table-with}
-use Rattle.ics_calendar.proofs.Listed.{each-weaker}
-use Rattle.ics_calendar.proofs.Order.{found-none}
+use Rattle.ics_components.proofs.Listed.{each-weaker}
+use Rattle.ics_components.proofs.Order.{found-none}
 
 -- a local in the zone with an index
 pub moment-here : (zones : List ZoneKind) (local : Local) (i : ℕ) (d : ZoneKind) → i < length zones →

@@ -1,27 +1,28 @@
 -- What the pass over a file's lines says is what the file is and wants.
-use Rattle.std.proofs.Common.{◌≡◌, ◌⊎◌, ℕ, ◌+◌, ◌<◌, ◌^◌, Bool, true, false, List, [], ◌∷◌, refl, sym, ap, ◌∙◌, arith, cond, Option, Some, None, Result, Ok}
+use Rattle.std.proofs.Common.{◌≡◌, ◌⊎◌, ℕ, Bool, true, false, List, [], ◌∷◌, refl, sym, ap, ◌∙◌, cond, Option, Some, None, Result, Ok}
 use Rattle.std.proofs.Common.{Err, inl, inr}
 use Rattle.std.proofs.Math.Path.{fun_ext}
-use Rattle.ics_text.specs.Unfolded.{Line, Rises, Within, unfolded, begins_with_fold}
-use Rattle.ics_calendar.specs.declared.fault.FileFault.{FileFault}
-use Rattle.ics_calendar.specs.declared.fault.FileFault.TheVariants.{Memory, At}
+use Rattle.ics_text.specs.Unfolded.{Rises, unfolded, begins_with_fold}
+use Rattle.ics_components.specs.declared.fault.FileFault.{FileFault}
+use Rattle.ics_components.specs.declared.fault.FileFault.TheVariants.{Memory, At}
 use Rattle.ics_calendar.specs.Drafts.{IsFaultOf}
 use Rattle.ics_event.specs.Event.{FileSaid}
-use Rattle.ics_calendar.specs.Faults.{stands, stands_later}
+use Rattle.ics_components.specs.Faults.{stands}
+use Rattle.ics_calendar.specs.LaterFaults.{stands_later}
 use Rattle.ics_calendar.specs.GivenFiles.{GivenFiles}
-use Rattle.ics_calendar.specs.FirstFault.{Fault, IsFirst, IsFirstOrLast, NoneStand, first_fault, later_fault, fault_at_end}
-use Rattle.ics_calendar.specs.Files.{DraftSaid, IsFile, bad_fold, file_of, draft_of, decide, said_of, wanted_names, wanted_on, SaysFile}
-use Rattle.ics_calendar.specs.Gathered.{drafted_of, nothing_gathered}
-use Rattle.ics_calendar.specs.Pass.{pass, bottom, unless, gathered_of, NumbersFit}
-use Rattle.ics_calendar.specs.PlacedLines.{Placed, placed}
+use Rattle.ics_components.specs.declared.fault.Fault.{Fault}
+use Rattle.ics_components.specs.FirstFault.{IsFirst, IsFirstOrLast, NoneStand, first_fault, fault_at_end}
+use Rattle.ics_calendar.specs.Files.{later_fault}
+use Rattle.ics_calendar.specs.Files.{DraftSaid, IsFile, file_of, draft_of, decide, said_of, wanted_names, wanted_on, SaysFile}
+use Rattle.ics_components.specs.FirstFault.{bad_fold}
+use Rattle.ics_calendar.specs.Settled.{drafted_of}
+use Rattle.ics_components.specs.Gathered.{nothing_gathered}
+use Rattle.ics_components.specs.Pass.{pass, bottom, unless, gathered_of}
+use Rattle.ics_components.specs.PlacedLines.{Placed, placed}
 use Rattle.ics_calendar.specs.Wanted.{zones_with}
-use Rattle.ics_calendar.proofs.Firsts.{Finds, finds, finds-none, found-at-end, found-on-line}
-use Rattle.ics_calendar.proofs.PassLemmas.{gathered_from, pass-whole}
+use Rattle.ics_components.proofs.Firsts.{Finds, finds, finds-none, found-at-end, found-on-line}
+use Rattle.ics_components.proofs.PassLemmas.{gathered_from, pass-whole}
 use Rattle.ics_calendar.proofs.Settles.{settled-is, wanted-is}
-
-pub fits-from_within : (n : ℕ) (lines : List Line) → n + 1 < 2 ^ 64 → Within n lines → NumbersFit lines
-fits-from_within n [] l h = tt
-fits-from_within n (line ∷ lines) l h = (omega (arith, l, h.0), fits-from_within n lines l h.1)
 
 -- what a file is, and what it wants, by the draft of what its first round gathers
 abbrev pub says_by : Result DraftSaid Fault → GivenFiles → Result FileSaid Fault

@@ -2,8 +2,8 @@
 use Rattle.std.proofs.Common.{◌≡◌, ℕ, List, [], ◌∷◌, ◌++◌, refl, None}
 use Rattle.std.specs.Prelude.{codes}
 use Rattle.ics_values.specs.Rules.{rule_of}
-use Rattle.ics_calendar.specs.declared.fault.FaultKind.TheVariants.{BadDuration, BadNesting, BadOffset, BadRule, BadStamp, NoObservance, NumberTooLarge}
-use Rattle.ics_calendar.specs.declared.fault.FaultKind.TheVariants.{ObservanceField, UnknownZone, YearRange, ZoneRule}
+use Rattle.ics_components.specs.declared.fault.FaultKind.TheVariants.{BadDuration, BadNesting, BadOffset, BadRule, BadStamp, NoObservance, NumberTooLarge}
+use Rattle.ics_components.specs.declared.fault.FaultKind.TheVariants.{ObservanceField, UnknownZone, YearRange, ZoneRule}
 use Rattle.ics_calendar.proofs.ExampleFiles.{calendar, fault, at}
 
 abbrev zone : List (List ℕ) → List ℕ

@@ -3,9 +3,10 @@ use Rattle.std.proofs.Common.{◌≡◌, ℕ, List, [], ◌∷◌, ◌++◌, map
 use Rattle.std.specs.Prelude.{codes, length}
 use Rattle.ics_zone.specs.Observances.{ObservanceSaid}
 use Rattle.ics_zone.specs.ZoneSaid.{ZoneSaid}
-use Rattle.ics_calendar.specs.PlacedLines.{placed}
+use Rattle.ics_components.specs.PlacedLines.{placed}
 use Rattle.ics_calendar.specs.DeferredChecks.{zone_index}
-use Rattle.ics_calendar.specs.Zones.{zones_of, zone_names}
+use Rattle.ics_calendar.specs.Zones.{zones_of}
+use Rattle.ics_components.specs.Observances.{zone_names}
 use Rattle.ics_calendar.proofs.ExampleFiles.{calendar}
 
 abbrev part : List ℕ → List (List ℕ) → List (List ℕ)

@@ -1,5 +1,5 @@
 -- The checks of the second round, when all time zones of the file are known (RFC 5545, section 3.8.2.4).
-use Rattle.std.specs.Prelude.{ℕ, Bool, false, ◌&&◌, ◌||◌, not, ◌==◌, List, [], slice_get, unwrap_or, Option, Some, None, is_some, option_map, ℤ, ◌++◌}
+use Rattle.std.specs.Prelude.{ℕ, Bool, false, ◌&&◌, ◌||◌, not, ◌==◌, List, slice_get, Option, Some, None, is_some, option_map, ℤ, ◌++◌}
 use Rattle.std.specs.Prelude.{if◌then◌else◌}
 use Rattle.std.specs.Prelude.{length}
 use Rattle.std.specs.List.{position, position_from, list_any}
@@ -9,18 +9,18 @@ use Rattle.ics_fields.specs.declared.local.Local.{Local}
 use Rattle.ics_values.specs.declared.stamp.Stamp.{Stamp}
 use Rattle.ics_values.specs.declared.stamp.Stamp.TheVariants as stamp
 use Rattle.ics_zone.specs.ZoneSaid.{ZoneSaid, said_moment}
-use Rattle.ics_calendar.specs.declared.dated.Dated.{Dated}
-use Rattle.ics_calendar.specs.declared.fault.FaultKind.{FaultKind}
-use Rattle.ics_calendar.specs.declared.fault.FaultKind.TheVariants.{BadEnd, UnknownZone, BadZoneFile}
-use Rattle.ics_calendar.specs.declared.deferred_check.Instant.{Instant}
-use Rattle.ics_calendar.specs.declared.deferred_check.Instant.TheVariants as instant
-use Rattle.ics_calendar.specs.declared.deferred_check.DeferredCheck.{DeferredCheck}
-use Rattle.ics_calendar.specs.declared.deferred_check.DeferredCheck.TheVariants as check
-use Rattle.ics_calendar.specs.declared.deferred_check.ZoneName.{ZoneName}
-use Rattle.ics_event.specs.Event.{is_zoned}
+use Rattle.ics_components.specs.declared.dated.Dated.{Dated}
+use Rattle.ics_components.specs.declared.fault.FaultKind.{FaultKind}
+use Rattle.ics_components.specs.declared.fault.FaultKind.TheVariants.{BadEnd, UnknownZone, BadZoneFile}
+use Rattle.ics_components.specs.declared.deferred_check.Instant.{Instant}
+use Rattle.ics_components.specs.declared.deferred_check.Instant.TheVariants as instant
+use Rattle.ics_components.specs.declared.deferred_check.DeferredCheck.{DeferredCheck}
+use Rattle.ics_components.specs.declared.deferred_check.DeferredCheck.TheVariants as check
+use Rattle.ics_components.specs.declared.deferred_check.ZoneName.{ZoneName}
 use Rattle.ics_fields.specs.Locals.{local_seconds}
 use Rattle.ics_calendar.specs.GivenFiles.{GivenFiles, given_names, given_zones, bad_names}
-use Rattle.ics_calendar.specs.Values.{same_zone, is_out}
+use Rattle.ics_components.specs.Values.{is_out}
+use Rattle.ics_components.specs.ZoneNames.{zone_used, are_of_one_zone}
 
 -- the same name in the same calendar
 abbrev pub is_same : ZoneName → ZoneName → Bool
@@ -59,13 +59,7 @@ abbrev pub are_out : Option ℤ → Option ℤ → Bool
 are_out (Some start) (Some end) = is_out start end
 are_out _ _ = false
 
--- THE STAMPS OF AN EVENT in a calendar: the name of the zone that a TZID gives, and the instant of a stamp in UTC, or in a zone that is known.
-abbrev pub zone_named : ℕ → Option (List ℕ) → ZoneName
-zone_named calendar zone = record { calendar = calendar; name = unwrap_or zone [] }
-
-abbrev pub zone_used : ℕ → Dated → ZoneName
-zone_used calendar dated = zone_named calendar dated.zone
-
+-- THE STAMPS OF AN EVENT in a calendar: the instant of a stamp in UTC, or in a zone that is known.
 abbrev pub moment_on : KnownZones → ZoneName → Stamp → Option ℤ
 moment_on known name (stamp.Utc local) = Some (local_seconds local)
 moment_on known name (stamp.Zoned local) = moment_there known name local
@@ -73,10 +67,6 @@ moment_on known name _ = None
 
 abbrev pub moment_in : KnownZones → ℕ → Dated → Option ℤ
 moment_in known calendar dated = moment_on known (zone_used calendar dated) dated.stamp
-
--- two stamps beside one TZID, which the first round compares as locals
-abbrev pub are_of_one_zone : Dated → Dated → Bool
-are_of_one_zone a b = is_zoned a.stamp && (is_zoned b.stamp && same_zone a b)
 
 -- Which ends are out of reach of their starts as instants.
 abbrev pub ends_badly_later : KnownZones → ℕ → Option Dated → Option Dated → Bool

@@ -1,18 +1,19 @@
 -- The draft of a file, in which the first round finds nothing, before zone files are given, and what it says (RFC 5545, section 3.2.19).
 use Rattle.std.specs.Prelude.{◌≡◌, ℕ, List, [], Result, Ok, Err, ◌<◌, length, Some, IfSome}
-use Rattle.ics_calendar.specs.declared.fault.FileFault.{FileFault}
-use Rattle.ics_calendar.specs.declared.fault.FileFault.TheVariants.{Memory, At}
+use Rattle.ics_components.specs.declared.fault.FileFault.{FileFault}
+use Rattle.ics_components.specs.declared.fault.FileFault.TheVariants.{Memory, At}
 use Rattle.ics_calendar.specs.Files.{DraftSaid, file_of, wanted_names}
-use Rattle.ics_calendar.specs.FirstFault.{Fault}
-use Rattle.ics_calendar.specs.Gathered.{drafted, IsSoundGathered}
+use Rattle.ics_components.specs.declared.fault.Fault.{Fault}
+use Rattle.ics_calendar.specs.Settled.{drafted}
+use Rattle.ics_components.specs.Gathered.{IsSoundGathered}
 use Rattle.ics_calendar.specs.GivenFiles.{GivenFiles}
 use Rattle.ics_calendar.specs.ZoneTables.{known_by}
-use Rattle.ics_calendar.specs.declared.deferred_check.ZoneName.{ZoneName}
-use Rattle.ics_calendar.specs.declared.gathered.EndedEvent.{EndedEvent}
-use Rattle.ics_calendar.specs.declared.gathered.LineCheck.{LineCheck}
+use Rattle.ics_components.specs.declared.deferred_check.ZoneName.{ZoneName}
+use Rattle.ics_components.specs.declared.gathered.EndedEvent.{EndedEvent}
+use Rattle.ics_components.specs.declared.gathered.LineCheck.{LineCheck}
 use Rattle.ics_calendar.specs.declared.zone_table.ZoneTable.{ZoneTable}
 use Rattle.ics_calendar.specs.DeferredChecks.{KnownZones}
-use Rattle.ics_calendar.specs.GatheredSeen.{GatheredSeen}
+use Rattle.ics_components.specs.GatheredSeen.{GatheredSeen}
 
 -- what is left of what is gathered when the time zones are taken out
 abbrev pub left_of : List EndedEvent → List LineCheck → GatheredSeen

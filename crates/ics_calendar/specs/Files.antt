@@ -1,22 +1,24 @@
 -- WHAT A FILE IS: its time zones and its events, or its first fault.
-use Rattle.std.specs.Prelude.{◌≡◌, ◌⊎◌, ℕ, Bool, false, IsTrue, List, [], ◌++◌, filter, map, codes, unwrap_or, Option, Some, None, option_map, Result, Ok, Err}
-use Rattle.std.specs.Prelude.{◌&&◌, if◌then◌else◌}
+use Rattle.std.specs.Prelude.{◌≡◌, ◌⊎◌, ℕ, false, IsTrue, List, [], ◌++◌, filter, map, codes, unwrap_or, Option, Some, None, option_map, Result, Ok, Err}
+use Rattle.std.specs.Prelude.{if◌then◌else◌}
 use Rattle.ics_text.specs.Unfolded.{Line, begins_with_fold, unfolded}
 use Rattle.ics_values.specs.Integers.{integer_of}
-use Rattle.ics_calendar.specs.declared.fault.FaultKind.TheVariants.{BadFold}
-use Rattle.ics_calendar.specs.declared.deferred_check.ZoneName.{ZoneName}
-use Rattle.ics_calendar.specs.DateLists.{rdates_by, exdates_by}
+use Rattle.ics_components.specs.declared.deferred_check.ZoneName.{ZoneName}
+use Rattle.ics_calendar.specs.ListedTimes.{rdates_by, exdates_by}
 use Rattle.ics_event.specs.Event.{EventSeen, FileSaid, FileSeen, said_by}
 use Rattle.ics_calendar.specs.DeferredChecks.{KnownZones}
 use Rattle.ics_calendar.specs.GivenFiles.{GivenFiles}
 use Rattle.ics_calendar.specs.Wanted.{each_once, unknown_names, zones_with}
-use Rattle.ics_calendar.specs.PlacedLines.{Placed, placed, value, in_calendar, begins, calendar_of, lines_in, first_named, all_named}
-use Rattle.ics_calendar.specs.Times.{time_on, dated_in, given_length, length_of}
-use Rattle.ics_calendar.specs.Values.{ok_or_zero, is_cancelled}
-use Rattle.ics_calendar.specs.Faults.{first_text, first_dated, duration_on, parts_on, rdates_on, exdates_on, stands, stands_later}
-use Rattle.ics_calendar.specs.FirstFault.{Fault, IsFirst, IsFirstOrLast, NoneStand, fault_at_end, first_fault, later_fault}
-use Rattle.ics_calendar.specs.declared.fault.FileFault.{FileFault}
-use Rattle.ics_calendar.specs.declared.fault.FileFault.TheVariants.{Memory, At}
+use Rattle.ics_components.specs.PlacedLines.{Placed, placed, value, begins_event, calendar_of, lines_in, first_named, all_named}
+use Rattle.ics_calendar.specs.Times.{time_on, length_of}
+use Rattle.ics_components.specs.GivenTimes.{dated_in, given_length}
+use Rattle.ics_components.specs.Values.{ok_or_zero, is_cancelled}
+use Rattle.ics_components.specs.Faults.{first_text, first_dated, duration_on, parts_on, rdates_on, exdates_on, stands}
+use Rattle.ics_calendar.specs.LaterFaults.{stands_later}
+use Rattle.ics_components.specs.declared.fault.Fault.{Fault}
+use Rattle.ics_components.specs.FirstFault.{IsFirst, IsFirstOrLast, NoneStand, bad_fold, fault_at_end, first_from, first_fault}
+use Rattle.ics_components.specs.declared.fault.FileFault.{FileFault}
+use Rattle.ics_components.specs.declared.fault.FileFault.TheVariants.{Memory, At}
 
 -- An event of a calendar, by the lines that stand directly in it, given the index of the zone that a name stands for.
 abbrev pub event_by : (ZoneName → Option ℕ) → ℕ → List Placed → EventSeen
@@ -35,10 +37,6 @@ event_by index calendar own = record {
   cancelled = unwrap_or (option_map (λ line. is_cancelled (value line)) (first_named (codes "STATUS") own)) false;
 }
 
--- an event begins directly in a calendar
-abbrev pub begins_event : Placed → Bool
-begins_event line = in_calendar line && begins (codes "VEVENT") line
-
 -- The events of all calendars, in the order of their BEGIN lines, given the index of the zone that a name stands for.
 abbrev pub events_of : (ZoneName → Option ℕ) → List Placed → List EventSeen
 events_of index lines = map (λ line. event_by index (calendar_of line.path) (lines_in line.number lines)) (filter begins_event lines)
@@ -47,8 +45,9 @@ events_of index lines = map (λ line. event_by index (calendar_of line.path) (li
 abbrev pub said_of : GivenFiles → List Placed → FileSaid
 said_of files lines = let known : KnownZones = zones_with files lines in record { zones = known.zones; events = events_of known.index lines }
 
-abbrev pub bad_fold : Fault
-bad_fold = record { line = 1; kind = BadFold }
+-- the first fault of the second round
+abbrev pub later_fault : GivenFiles → List Placed → Option Fault
+later_fault files lines = first_from (stands_later (zones_with files lines)) (λ before. None) [] lines
 
 -- WHAT A FILE IS with these zone files, as a relation: a fold at its begin comes alone; then the first fault of round one, or else that of round two, or
 -- else what the file says.

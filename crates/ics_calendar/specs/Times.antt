@@ -1,30 +1,18 @@
 -- The times of an event and how long it lasts (RFC 5545, sections 3.6.1 and 3.8.2).
-use Rattle.std.specs.Prelude.{ℕ, unwrap_or, Option, Some, None, pos}
-use Rattle.ics_values.specs.declared.duration.Duration.{Duration}
-use Rattle.ics_values.specs.declared.stamp.Stamp.TheVariants.{Date}
-use Rattle.ics_calendar.specs.declared.dated.Dated.{Dated}
-use Rattle.ics_calendar.specs.declared.gathered.GivenLength.{GivenLength}
-use Rattle.ics_calendar.specs.declared.gathered.GivenLength.TheVariants as given
-use Rattle.ics_calendar.specs.declared.deferred_check.ZoneName.{ZoneName}
+use Rattle.std.specs.Prelude.{ℕ, Option}
+use Rattle.ics_components.specs.declared.dated.Dated.{Dated}
+use Rattle.ics_components.specs.declared.gathered.GivenLength.{GivenLength}
+use Rattle.ics_components.specs.declared.gathered.GivenLength.TheVariants as given
+use Rattle.ics_components.specs.declared.deferred_check.ZoneName.{ZoneName}
 use Rattle.ics_event.specs.declared.time.Time.{Time}
 use Rattle.ics_event.specs.declared.time.Length.{Length}
 use Rattle.ics_event.specs.declared.time.Length.TheVariants.{Open, Until, Lasting}
 use Rattle.ics_event.specs.Event.{time_in}
-use Rattle.ics_calendar.specs.DeferredChecks.{zone_used}
+use Rattle.ics_components.specs.ZoneNames.{zone_used}
 
 -- The time of a DTSTART, DTEND or RECURRENCE-ID of an event in a calendar, given the index of the zone that a name stands for.
 abbrev pub time_on : (ZoneName → Option ℕ) → ℕ → Dated → Time
 time_on index calendar dated = time_in (index (zone_used calendar dated)) dated.stamp
-
--- a stamp that an accepted file has where it is asked for
-abbrev pub dated_in : Option Dated → Dated
-dated_in dated = unwrap_or dated (record { stamp = Date (pos 0); zone = None })
-
--- What gives the length of an event: its DTEND, or its DURATION, or nothing.
-abbrev pub given_length : Option Dated → Option Duration → GivenLength
-given_length (Some end) duration = given.Until end
-given_length None (Some duration) = given.Lasting duration
-given_length None None = given.Open
 
 abbrev pub length_of : (ZoneName → Option ℕ) → ℕ → GivenLength → Length
 length_of index calendar (given.Until end) = Until (time_on index calendar end)

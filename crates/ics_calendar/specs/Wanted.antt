@@ -3,8 +3,8 @@ use Rattle.std.specs.Prelude.{ℕ, List, [], ◌∷◌, map, filter, not}
 use Rattle.std.specs.Str.{bytes_eq}
 use Rattle.ics_calendar.specs.DeferredChecks.{KnownZones, with_files}
 use Rattle.ics_calendar.specs.GivenFiles.{GivenFiles}
-use Rattle.ics_calendar.specs.Faults.{is_in_unknown_zone, tzid_on}
-use Rattle.ics_calendar.specs.PlacedLines.{Placed}
+use Rattle.ics_calendar.specs.LaterFaults.{is_in_unknown_zone, tzid_on}
+use Rattle.ics_components.specs.PlacedLines.{Placed}
 use Rattle.ics_calendar.specs.Zones.{zones_on}
 
 -- each name once, in the order of their first places

@@ -9,7 +9,7 @@ use Rattle.ics_zone.specs.ZoneFiles.{TzifText}
 use Rattle.std.specs.Ordering.{nat_cmp, on, then_cmp}
 use Rattle.std.specs.declared.cmp.Ordering.{Ordering}
 use Rattle.ics_zone.specs.ZoneSaid.{zone_said}
-use Rattle.ics_calendar.specs.declared.deferred_check.ZoneName.{ZoneName}
+use Rattle.ics_components.specs.declared.deferred_check.ZoneName.{ZoneName}
 use Rattle.ics_calendar.specs.declared.zone_files.ZoneFiles.{ZoneFiles}
 use Rattle.ics_calendar.specs.declared.zone_table.ZoneTable.{ZoneTable}
 use Rattle.ics_calendar.specs.GivenFiles.{GivenFiles}

@@ -1,88 +1,13 @@
 -- The time zones of a file, and the one that a name stands for (RFC 5545, section 3.6.5).
-use Rattle.std.specs.Prelude.{ℕ, Bool, ◌&&◌, List, [], map, filter, filter_map, flat_map, codes, unwrap_or, Option, Some, None, option_map, Result, Ok, Err, ℤ}
-use Rattle.std.specs.Prelude.{pos, false, if◌then◌else◌}
-use Rattle.ics_fields.specs.Locals.{local_at}
-use Rattle.ics_fields.specs.declared.local.Local.{Local}
-use Rattle.ics_fields.specs.declared.frequency.Frequency.TheVariants.{Daily}
-use Rattle.ics_values.specs.declared.offset.BadOffset.{BadOffset}
-use Rattle.ics_values.specs.declared.rule_text.RuleFault.{RuleFault}
-use Rattle.ics_values.specs.Offsets.{offset_of}
-use Rattle.ics_fields.specs.RuleParts.{RuleParts, every}
-use Rattle.ics_values.specs.Stamps.{stamp_of}
-use Rattle.ics_values.specs.declared.stamp.Stamp.{Stamp}
-use Rattle.ics_values.specs.declared.stamp.Stamp.TheVariants.{Floating}
-use Rattle.ics_values.specs.declared.stamp.StampFault.{StampFault}
-use Rattle.ics_zone.specs.Observances.{ObservanceSaid}
+use Rattle.std.specs.Prelude.{List, map, filter}
 use Rattle.ics_zone.specs.ZoneSaid.{ZoneSaid}
-use Rattle.ics_calendar.specs.declared.date_values.DateValue.{DateValue}
-use Rattle.ics_calendar.specs.declared.date_values.DateValue.TheVariants.{At}
-use Rattle.ics_calendar.specs.declared.deferred_check.ZoneName.{ZoneName}
-use Rattle.ics_calendar.specs.Faults.{first_text, rule_on}
 use Rattle.ics_calendar.specs.DeferredChecks.{KnownZones, known_zones}
-use Rattle.ics_calendar.specs.PlacedLines.{Placed, value, in_calendar, in_zone, begins, begins_observance, calendar_of, lines_in, first_named, all_named}
-use Rattle.ics_calendar.specs.DateValues.{rdates_of}
-use Rattle.ics_calendar.specs.Values.{is_fine_rule, rule_in}
-
--- the local of a value that is one
-abbrev pub local_in : DateValue → Option Local
-local_in (At (Ok (Floating local))) = Some local
-local_in _ = None
-
--- What its lines say of an observance that no fault stands on: a local read without a TZID, an offset, a rule no finer than daily, and locals.
-abbrev pub onset_in : Result Stamp StampFault → Local
-onset_in (Ok (Floating local)) = local
-onset_in _ = local_at (pos 0) 0
-
-abbrev pub offset_in : Result ℤ BadOffset → ℤ
-offset_in (Ok offset) = offset
-offset_in (Err fault) = pos 0
-
-abbrev pub daily_in : Result RuleParts RuleFault → RuleParts
-daily_in rule = if is_fine_rule rule then every Daily else rule_in rule
-
-abbrev pub onset_on : Placed → Local
-onset_on line = onset_in (stamp_of false (value line))
-
-abbrev pub offset_on : Placed → ℤ
-offset_on line = offset_in (offset_of (value line))
-
-abbrev pub daily_on : Placed → RuleParts
-daily_on line = daily_in (rule_on line)
-
-abbrev pub onsets_by : Placed → List Local
-onsets_by line = filter_map local_in (rdates_of false (value line))
-
--- An observance, by the lines that stand directly in it. An accepted file has its fields.
-abbrev pub observance_by : List Placed → ObservanceSaid
-observance_by own = record {
-  start = unwrap_or (option_map onset_on (first_named (codes "DTSTART") own)) (local_at (pos 0) 0);
-  offset_from = unwrap_or (option_map offset_on (first_named (codes "TZOFFSETFROM") own)) (pos 0);
-  offset_to = unwrap_or (option_map offset_on (first_named (codes "TZOFFSETTO") own)) (pos 0);
-  rule = option_map daily_on (first_named (codes "RRULE") own);
-  rdates = flat_map onsets_by (all_named (codes "RDATE") own);
-}
-
--- a time zone begins directly in a calendar, and an observance directly in such a zone
-abbrev pub begins_zone : Placed → Bool
-begins_zone line = in_calendar line && begins (codes "VTIMEZONE") line
-
-abbrev pub begins_in_zone : Placed → Bool
-begins_in_zone line = in_zone line && begins_observance line
-
--- The observances of the time zone that begins on that line, in the order of their BEGIN lines.
-abbrev pub zone_by : List Placed → ℕ → List ObservanceSaid
-zone_by lines begun = map (λ l. observance_by (lines_in l.number lines)) (filter begins_in_zone (lines_in begun lines))
+use Rattle.ics_components.specs.PlacedLines.{Placed}
+use Rattle.ics_components.specs.Observances.{begins_zone, zone_by, zone_names}
 
 -- The time zones of all calendars, in the order of their BEGIN lines.
 abbrev pub zones_of : List Placed → List ZoneSaid
 zones_of lines = map (λ l. ZoneSaid.ByObservances (zone_by lines l.number)) (filter begins_zone lines)
-
--- the TZID of the zone that begins on a line, in its calendar
-abbrev pub name_by : List Placed → Placed → ZoneName
-name_by lines l = record { calendar = calendar_of l.path; name = unwrap_or (first_text (codes "TZID") (lines_in l.number lines)) [] }
-
-abbrev pub zone_names : List Placed → List ZoneName
-zone_names lines = map (name_by lines) (filter begins_zone lines)
 
 abbrev pub zones_on : List Placed → KnownZones
 zones_on lines = known_zones (zone_names lines) (zones_of lines)

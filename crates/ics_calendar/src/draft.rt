@@ -2,17 +2,16 @@
 ghost use Rattle.std.specs.Prelude.{◌≡◌, ◌≤◌, length, map, IfOk, IfErr};
 ghost use Rattle.ics_calendar.specs.Drafts.{draft_said, says_draft, IsFaultOf};
 ghost use Rattle.ics_calendar.specs.Files.{draft_of, said_answer, SaysFile};
-ghost use Rattle.ics_calendar.specs.Gathered.{known_in, drafted, drafted_of, IsSoundGathered};
-ghost use Rattle.ics_calendar.specs.Pass.{gathered_of};
+ghost use Rattle.ics_calendar.specs.Settled.{known_in, drafted, drafted_of};
+ghost use Rattle.ics_components.specs.Gathered.{IsSoundGathered};
+ghost use Rattle.ics_components.specs.Pass.{gathered_of};
 ghost use Rattle.ics_calendar.specs.ZoneTables.{given_by};
 
-use crate::fault::{Fault, FileFault};
-use crate::gathered::{EndedEvent, Gathered, LineCheck};
-use crate::read::gather;
 use crate::settle::settle;
 use crate::unknown_zones::{copied, unknown_names};
 use crate::zone_files::ZoneFiles;
 use crate::zone_table::ZoneTable;
+use ics_components::{EndedEvent, Fault, FileFault, Gathered, LineCheck, gather};
 use ics_event::FileEvents;
 use ics_text::numbers_rise;
 use std::alloc::{AllocError, Global};

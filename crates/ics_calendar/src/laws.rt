@@ -1,13 +1,13 @@
 //! Laws of the definitions that the contract of `read_file` cites.
 ghost use Rattle.std.specs.Prelude.{◌≡◌, ◌≢◌, List, ℕ, Result, Err};
 ghost use Rattle.std.specs.List.{All};
-ghost use Rattle.ics_calendar.specs.declared.fault.FaultKind.{FaultKind};
-ghost use Rattle.ics_calendar.specs.DateValues.{OnePeriod};
+ghost use Rattle.ics_components.specs.declared.fault.FaultKind.{FaultKind};
+ghost use Rattle.ics_components.specs.DateValues.{OnePeriod};
 ghost use Rattle.ics_event.specs.Event.{FileSaid};
-ghost use Rattle.ics_calendar.specs.FirstFault.{Fault};
+ghost use Rattle.ics_components.specs.declared.fault.Fault.{Fault};
 ghost use Rattle.ics_calendar.specs.GivenFiles.{GivenFiles, no_files};
 ghost use Rattle.ics_calendar.specs.Files.{FaultsLookBack, IsFile, file_of, wanted_names};
-ghost use Rattle.ics_calendar.specs.PlacedLines.{Placed};
+ghost use Rattle.ics_components.specs.PlacedLines.{Placed};
 ghost use Rattle.ics_calendar.specs.Wanted.{zones_with};
 ghost use Rattle.ics_calendar.specs.Zones.{zones_on};
 

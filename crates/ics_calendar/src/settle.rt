@@ -1,16 +1,18 @@
 //! What a file is by what is gathered of it: the second round, and then the zones and the events.
 ghost use Rattle.std.specs.Prelude.{◌≡◌, map, IfOk};
 ghost use Rattle.std.specs.List.{All};
-ghost use Rattle.ics_calendar.specs.Gathered.{event_of};
+ghost use Rattle.ics_calendar.specs.Settled.{event_of};
 ghost use Rattle.ics_calendar.specs.Drafts.{IsSoundDraft, left_of};
-ghost use Rattle.ics_calendar.specs.Gathered.{first_judged, settled_by, IsSoundCheck};
-ghost use Rattle.ics_calendar.specs.Sound.{IsReady};
+ghost use Rattle.ics_calendar.specs.Settled.{first_judged, settled_by};
+ghost use Rattle.ics_components.specs.Gathered.{IsSoundCheck};
+ghost use Rattle.ics_calendar.specs.Ready.{IsReady};
 ghost use Rattle.ics_calendar.specs.Files.{said_answer};
 ghost use Rattle.ics_calendar.specs.ZoneTables.{known_by};
 
-use crate::fault::Fault;
-use crate::gathered::{EndedEvent, LineCheck};
+use crate::event::event_of;
+use crate::judged::judged;
 use crate::zone_table::ZoneTable;
+use ics_components::{EndedEvent, Fault, LineCheck};
 use ics_event::{Event, FileEvents};
 use std::alloc::{AllocError, Global};
 
@@ -20,7 +22,7 @@ fn first_judged(table: &ZoneTable, checks: &[LineCheck]) -> Option<Fault>
     ensures { result ≡ first_judged (known_by table.now) checks.now }
 {
     for deferred in checks {
-        if let Some(kind) = deferred.check.judged(table) {
+        if let Some(kind) = judged(table, &deferred.check) {
             return Some(Fault {
                 line: deferred.line,
                 kind,
@@ -41,7 +43,7 @@ fn events_of(
 {
     let mut events = Vec::with_capacity(alloc, ended.len())?;
     for event in ended {
-        events.push(event.into_event(alloc, table)?)?;
+        events.push(event_of(alloc, table, event)?)?;
     }
     Ok(events)
 }

@@ -4,16 +4,14 @@ ghost use Rattle.std.specs.BTreeSet.{contains};
 ghost use Rattle.std.specs.Cmp.Lexicographic.{slice_cmp};
 ghost use Rattle.std.specs.Ordering.{nat_cmp};
 ghost use Rattle.ics_calendar.specs.DeferredChecks.{unknown_in};
-ghost use Rattle.ics_calendar.specs.Gathered.{all_unknown};
+ghost use Rattle.ics_calendar.specs.Settled.{all_unknown};
 ghost use Rattle.ics_calendar.specs.Files.{wanted_names};
 ghost use Rattle.ics_calendar.specs.Wanted.{each_once};
 ghost use Rattle.ics_calendar.specs.ZoneTables.{known_by};
 
-use crate::deferred_check::DeferredCheck;
 use crate::draft::drafted;
-use crate::gathered::LineCheck;
-use crate::tzid::Tzid;
 use crate::zone_table::ZoneTable;
+use ics_components::{DeferredCheck, LineCheck, Tzid};
 use ics_text::numbers_rise;
 use std::alloc::{AllocError, Global};
 use std::collections::BTreeSet;

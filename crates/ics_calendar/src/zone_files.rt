@@ -4,7 +4,7 @@ ghost use Rattle.ics_calendar.specs.GivenFiles.{with_file, files_by};
 ghost use Rattle.ics_calendar.specs.ZoneTables.{given_by};
 ghost use Rattle.ics_zone.specs.ZoneFiles.{zone_file};
 
-use crate::tzid::Tzid;
+use ics_components::Tzid;
 use ics_zone::{ZoneFile, ZoneFileFault};
 use std::alloc::{AllocError, Global};
 use std::collections::BTreeMap;

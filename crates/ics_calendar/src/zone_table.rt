@@ -6,15 +6,14 @@ ghost use Rattle.std.specs.List.{All};
 ghost use Rattle.std.specs.Ordering.{nat_cmp};
 ghost use Rattle.ics_fields.specs.Days.{IsStampDay};
 ghost use Rattle.ics_zone.specs.ZoneSaid.{ZoneSaid, zone_said};
-ghost use Rattle.ics_calendar.specs.declared.deferred_check.ZoneName.{ZoneName};
+ghost use Rattle.ics_components.specs.declared.deferred_check.ZoneName.{ZoneName};
 ghost use Rattle.ics_calendar.specs.DeferredChecks.{zone_index, moment_at, known_zones, with_files};
-ghost use Rattle.ics_calendar.specs.Sound.{IsSoundZone};
+ghost use Rattle.ics_components.specs.Sound.{IsSoundZone};
 ghost use Rattle.ics_calendar.specs.ZoneTables.{name_cmp, known_by, given_by, put_first, put_given, with_given};
 
-use crate::deferred_check::ZoneName;
-use crate::gathered::EndedZone;
-use crate::tzid::Tzid;
+use crate::zone::zone_of;
 use crate::zone_files::ZoneFiles;
+use ics_components::{EndedZone, Tzid, ZoneName};
 use ics_values::{Local, Moment};
 use ics_zone::{Place, Zone, ZoneFile};
 use std::alloc::{AllocError, Global};
@@ -86,7 +85,7 @@ fn names_and_zones(
     let mut made = Vec::new(alloc);
     for zone in zones {
         names.push(zone.name)?;
-        made.push(zone.observances.into_zone(alloc)?)?;
+        made.push(zone_of(alloc, zone.observances)?)?;
     }
     Ok((names, made))
 }

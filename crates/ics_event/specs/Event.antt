@@ -8,6 +8,8 @@ use Rattle.ics_fields.specs.declared.local.Local.{Local}
 use Rattle.ics_values.specs.declared.duration.Duration.{Duration}
 use Rattle.ics_values.specs.declared.stamp.Stamp.{Stamp}
 use Rattle.ics_values.specs.declared.stamp.Stamp.TheVariants.{Date, Floating, Utc, Zoned}
+pub use Rattle.ics_values.specs.Zoned.{is_zoned}
+pub use Rattle.ics_values.specs.Longest.{longest}
 use Rattle.ics_zone.specs.ZoneSaid.{ZoneSaid, said_moment, zone_said}
 use Rattle.ics_zone.specs.declared.zone.ZoneKind.{ZoneKind}
 use Rattle.ics_event.specs.declared.time.Time.{Time}
@@ -45,10 +47,6 @@ pub record FileSeen : Type 0 where
 abbrev pub said_by : FileSeen → FileSaid
 said_by file = record { zones = map zone_said file.zones; events = file.events }
 
-abbrev pub is_zoned : Stamp → Bool
-is_zoned (Zoned local) = true
-is_zoned _ = false
-
 -- The time of a stamp, given the index of the zone that its TZID names.
 abbrev pub time_in : Option ℕ → Stamp → Time
 time_in zone stamp = record { stamp = stamp; zone = if is_zoned stamp then zone else None }
@@ -57,10 +55,6 @@ time_in zone stamp = record { stamp = stamp; zone = if is_zoned stamp then zone 
 pub record IsTime (time : Time) : Type 0 where
   pub years : IsStampDay (stamp_day time.stamp)
   pub zone : is_some time.zone ≡ is_zoned time.stamp
-
--- the longest event, in seconds
-abbrev pub longest : ℕ
-longest = 36_525 * 86_400
 
 -- the seconds of a stamp's local
 abbrev pub stamp_seconds : Stamp → ℤ

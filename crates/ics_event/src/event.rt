@@ -1,6 +1,5 @@
-use crate::text::Text;
 use crate::time::{Length, Rdate, Time};
-use ics_values::Parts;
+use ics_values::{Parts, Text};
 use std::marker::Model;
 
 /// An event of a file (RFC 5545, section 3.6.1).

@@ -3,10 +3,9 @@
 
 mod event;
 mod events;
-mod text;
 mod time;
 
 pub use event::Event;
 pub use events::FileEvents;
-pub use text::Text;
-pub use time::{Length, Rdate, Time, is_zoned};
+pub use ics_values::{Text, is_zoned};
+pub use time::{Length, Rdate, Time};

@@ -1,7 +1,7 @@
 ghost use Rattle.std.specs.Prelude.{◌≡◌};
-ghost use Rattle.ics_event.specs.Event.{is_zoned, time_in};
+ghost use Rattle.ics_event.specs.Event.{time_in};
 
-use ics_values::{Duration, Stamp};
+use ics_values::{Duration, Stamp, is_zoned};
 
 /// A stamp and, for a local one with a TZID, the index of its zone among those of the file.
 #[derive(Clone, Copy, Debug, PartialEq, Eq)]
@@ -24,13 +24,6 @@ pub enum Length {
 pub enum Rdate {
     At(Time),
     Span(Time, Length),
-}
-
-/// Whether it is a local stamp beside a TZID.
-pub fn is_zoned(stamp: Stamp) -> bool
-    ensures { result ≡ is_zoned stamp }
-{
-    matches!(stamp, Stamp::Zoned(_))
 }
 
 impl Time {

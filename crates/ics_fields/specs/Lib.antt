@@ -4,3 +4,5 @@ pub mod Locals
 pub mod Sets
 pub mod Ordinals
 pub mod RuleParts
+pub mod Years
+pub mod Observances

@@ -14,6 +14,8 @@ pub mod Rules
 pub mod RuleDrafts
 pub mod RuleLaws
 pub mod ValueFaultNames
+pub mod Zoned
+pub mod Longest
 pub use Rattle.ics_fields.specs.Days
 pub use Rattle.ics_fields.specs.Fields
 pub use Rattle.ics_fields.specs.Locals

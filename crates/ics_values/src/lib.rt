@@ -17,6 +17,8 @@ mod rule_value;
 mod sign;
 mod stamp;
 mod text;
+mod text_value;
+mod zoned;
 
 pub use duration::{Duration, DurationFault, read_duration};
 pub use ics_fields::{
@@ -32,3 +34,5 @@ pub use rule_law::{absent_is_empty, rule_says};
 pub use rule_text::{RuleFault, read_rule};
 pub use stamp::{Stamp, StampFault, read_stamp};
 pub use text::text_bytes;
+pub use text_value::Text;
+pub use zoned::is_zoned;

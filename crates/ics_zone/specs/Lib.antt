@@ -6,7 +6,6 @@ pub mod DisplayFaults
 pub mod JiffZones
 pub mod ZoneFiles
 pub mod FileBounds
-pub mod Years
 pub mod Observances
 pub mod ZoneOffsets
 pub mod Moments
@@ -19,3 +18,4 @@ pub mod OnsetSets
 pub mod ZoneOnsets
 pub mod Hours
 pub mod Marks
+pub use Rattle.ics_fields.specs.Years

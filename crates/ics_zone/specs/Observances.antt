@@ -1,25 +1,14 @@
 -- When the observances of a VTIMEZONE begin (RFC 5545, section 3.6.5).
 use Rattle.std.specs.Prelude.{◌≡◌, ℕ, Bool, true, false, ◌&&◌, ◌||◌, ◌==◌, List, map, Option, Some, None, slice_get, int_le, ℤ, pos, negsuc, ◌+ℤ◌, ◌-ℤ◌}
 use Rattle.std.specs.List.{list_any}
-use Rattle.jiff_core.specs.Calendar.{IsWithin}
 use Rattle.ics_fields.specs.declared.local.Local.{Local}
-use Rattle.ics_fields.specs.declared.frequency.Frequency.{Frequency}
-use Rattle.ics_fields.specs.declared.frequency.Frequency.TheVariants.{Secondly, Minutely, Hourly}
 use Rattle.ics_fields.specs.RuleParts.{RuleParts}
-use Rattle.ics_fields.specs.Days.{IsStampDay}
+pub use Rattle.ics_fields.specs.Observances.{ObservanceSaid, IsObservanceSaid, is_finer_than_daily, is_finer_rule, has_finer_rule}
 use Rattle.ics_rule.specs.declared.kind.Kind.TheVariants.{DateTime}
 use Rattle.ics_rule.specs.Recurrence.{Recurrence}
 use Rattle.ics_fields.specs.Locals.{number}
 use Rattle.ics_rule.specs.Kept.{is_kept, until_moment}
 use Rattle.ics_zone.specs.declared.observance.Observance.{Observance}
-
--- what an observance says: when it begins, and the offsets before and after that
-pub record ObservanceSaid : Type 0 where
-  pub start : Local
-  pub offset_from : ℤ
-  pub offset_to : ℤ
-  pub rule : Option RuleParts
-  pub rdates : List Local
 
 abbrev pub observance_said : Observance → ObservanceSaid
 observance_said o = record {
@@ -33,12 +22,6 @@ observance_said o = record {
 -- what the observances of a zone say
 abbrev pub observances_said : List Observance → List ObservanceSaid
 observances_said observances = map observance_said observances
-
--- an observance begins in the years 0001 to 9899, and its offsets are less than a day
-pub record IsObservanceSaid (p : ObservanceSaid) : Type 0 where
-  pub start_in : IsStampDay p.start.day
-  pub from_in : IsWithin 86_399 p.offset_from
-  pub to_in : IsWithin 86_399 p.offset_to
 
 abbrev pub IsZone : List ObservanceSaid → Type 0
 IsZone zone = (i : ℕ) (p : ObservanceSaid) → slice_get zone i ≡ Some p → IsObservanceSaid p
@@ -79,17 +62,3 @@ test_at (negsuc n) test = false
 -- instant t is an onset of the observance: the clock with TZOFFSETFROM then shows a local at which it begins
 unfoldable pub is_onset : ObservanceSaid → ℤ → Bool
 is_onset p t = test_at (t +ℤ p.offset_from +ℤ pos epoch) (is_begin p)
-
--- the rule repeats more often than daily
-abbrev pub is_finer_than_daily : Frequency → Bool
-is_finer_than_daily Secondly = true
-is_finer_than_daily Minutely = true
-is_finer_than_daily Hourly = true
-is_finer_than_daily frequency = false
-
-abbrev pub is_finer_rule : Option RuleParts → Bool
-is_finer_rule None = false
-is_finer_rule (Some parts) = is_finer_than_daily parts.frequency
-
-abbrev pub has_finer_rule : ObservanceSaid → Bool
-has_finer_rule p = is_finer_rule p.rule

@@ -3,7 +3,7 @@ ghost use Rattle.std.specs.Prelude.{IsTrue};
 ghost use Rattle.std.specs.List.{list_all};
 ghost use Rattle.jiff_core.specs.Calendar.{IsWithin};
 ghost use Rattle.ics_fields.specs.Days.{IsStampDay};
-ghost use Rattle.ics_zone.specs.Years.{is_stamp_local};
+ghost use Rattle.ics_fields.specs.Years.{is_stamp_local};
 
 use ics_fields::{Local, Parts};
 

@@ -4,9 +4,9 @@ use Rattle.std.specs.Prelude.{ℕ, List, [], ◌∷◌, ◌++◌, Option, Some, 
 use Rattle.std.specs.Fmt.{decimal}
 use Rattle.std.specs.List.{list_any}
 use Rattle.ics_event.specs.Event.{FileSaid}
-use Rattle.ics_calendar.specs.FaultNames.{kind_name}
+use Rattle.ics_components.specs.FaultNames.{kind_name}
 use Rattle.ics_calendar.specs.Files.{file_of, wanted_names}
-use Rattle.ics_calendar.specs.declared.fault.Fault.{Fault}
+use Rattle.ics_components.specs.declared.fault.Fault.{Fault}
 use Rattle.khal_ports.specs.Answers.{Contents}
 use Rattle.khal_list.specs.Asked.{Asked, given_files, is_unread}
 use Rattle.khal_list.specs.Shown.{shown}

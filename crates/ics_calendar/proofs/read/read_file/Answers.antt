@@ -1,7 +1,7 @@
 use Rattle.std.proofs.Common.{map, ap, subst, ◌∙◌, Result}
 use Rattle.ics_event.specs.Event.{FileSaid}
 use Rattle.ics_calendar.specs.Files.{DraftSaid, file_of, SaysFile}
-use Rattle.ics_calendar.specs.FirstFault.{Fault}
+use Rattle.ics_components.specs.declared.fault.Fault.{Fault}
 use Rattle.ics_calendar.specs.GivenFiles.{GivenFiles, files_by}
 use Rattle.ics_calendar.specs.ZoneTables.{given_by}
 use Rattle.ics_calendar.proofs.Whole.{fault-says}

@@ -1,5 +1,5 @@
 use Rattle.std.proofs.Common.{◌≡◌, ◌++◌, map}
-use Rattle.ics_calendar.specs.Gathered.{event_of}
+use Rattle.ics_calendar.specs.Settled.{event_of}
 use Rattle.ics_calendar.specs.ZoneTables.{known_by}
 use Rattle.ics_calendar.proofs.settle.events_of.Given as goal
 

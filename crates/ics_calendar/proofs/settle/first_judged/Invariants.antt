@@ -1,5 +1,5 @@
 use Rattle.std.proofs.Common.{◌≡◌, drop}
-use Rattle.ics_calendar.specs.Gathered.{first_judged}
+use Rattle.ics_calendar.specs.Settled.{first_judged}
 use Rattle.ics_calendar.specs.ZoneTables.{known_by}
 use Rattle.ics_calendar.proofs.settle.first_judged.Given as goal
 

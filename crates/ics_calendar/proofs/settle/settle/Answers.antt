@@ -3,8 +3,8 @@ use Rattle.ics_zone.specs.ZoneSaid.{ZoneSaid}
 use Rattle.ics_calendar.specs.DeferredChecks.{KnownZones}
 use Rattle.ics_calendar.specs.Drafts.{left_of}
 use Rattle.ics_event.specs.Event.{EventSeen, AreEventsOf}
-use Rattle.ics_calendar.specs.Gathered.{first_judged}
-use Rattle.ics_calendar.specs.GatheredSeen.{GatheredSeen}
+use Rattle.ics_calendar.specs.Settled.{first_judged}
+use Rattle.ics_components.specs.GatheredSeen.{GatheredSeen}
 use Rattle.ics_calendar.specs.ZoneTables.{known_by}
 use Rattle.ics_calendar.proofs.Settling.{ready, events-here}
 use Rattle.ics_calendar.proofs.settle.settle.Goals as goal

@@ -2,7 +2,7 @@ use Rattle.std.proofs.Common.{◌≡◌, ℕ, Bool, List, refl, ap, sym, ◌∙�
 use Rattle.std.specs.BTreeSet.{contains}
 use Rattle.std.specs.Cmp.Lexicographic.{slice_cmp}
 use Rattle.std.specs.Ordering.{nat_cmp}
-use Rattle.ics_calendar.specs.Gathered.{all_unknown}
+use Rattle.ics_calendar.specs.Settled.{all_unknown}
 use Rattle.ics_calendar.specs.Wanted.{each_once}
 use Rattle.ics_calendar.specs.ZoneTables.{known_by}
 use Rattle.ics_calendar.proofs.EachOnce.{passed-over, again, added, none-unseen}

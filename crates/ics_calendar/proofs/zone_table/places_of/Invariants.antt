@@ -2,7 +2,7 @@ use Rattle.std.proofs.Common.{◌≡◌}
 use Rattle.std.specs.BTreeMap.{get}
 use Rattle.std.specs.List.{position_from}
 use Rattle.std.specs.Option.{option_or}
-use Rattle.ics_calendar.specs.declared.deferred_check.ZoneName.{ZoneName}
+use Rattle.ics_components.specs.declared.deferred_check.ZoneName.{ZoneName}
 use Rattle.ics_calendar.specs.DeferredChecks.{is_same, zone_index}
 use Rattle.ics_calendar.specs.ZoneTables.{name_cmp}
 use Rattle.ics_calendar.proofs.zone_table.places_of.Given as goal

@@ -1,6 +1,6 @@
 use Rattle.std.proofs.Common.{ℕ, refl, sym, ap, ap₂, ◌∙◌, Err}
 use Rattle.ics_calendar.specs.Files.{wanted_names}
-use Rattle.ics_calendar.specs.declared.fault.FaultKind.{FaultKind}
+use Rattle.ics_components.specs.declared.fault.FaultKind.{FaultKind}
 use Rattle.khal_list.specs.Errors.{file_or_refusal}
 use Rattle.khal_list.proofs.OutcomeLemmas.{asks-none, fault-of, settles-fault}
 use Rattle.khal_list.proofs.outcome.outcome_of.Goals as goal

@@ -1,8 +1,9 @@
 use Rattle.std.proofs.Common.{sym, ap, ◌∙◌, subst}
 use Rattle.ics_calendar.specs.DeferredChecks.{KnownZones}
 use Rattle.ics_calendar.specs.Drafts.{IsSoundDraft, left_of}
-use Rattle.ics_calendar.specs.Gathered.{known_in, drafted, IsSoundGathered}
-use Rattle.ics_calendar.specs.GatheredSeen.{GatheredSeen}
+use Rattle.ics_calendar.specs.Settled.{known_in, drafted}
+use Rattle.ics_components.specs.Gathered.{IsSoundGathered}
+use Rattle.ics_components.specs.GatheredSeen.{GatheredSeen}
 use Rattle.ics_calendar.proofs.Settling.{draft-sound}
 use Rattle.ics_calendar.proofs.draft.Draft.of.Goals as goal
 

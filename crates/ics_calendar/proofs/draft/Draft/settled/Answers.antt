@@ -1,7 +1,7 @@
 use Rattle.std.proofs.Common.{sym, subst}
 use Rattle.ics_calendar.specs.DeferredChecks.{KnownZones}
 use Rattle.ics_calendar.specs.Drafts.{IsSoundDraft, left_of}
-use Rattle.ics_calendar.specs.GatheredSeen.{GatheredSeen}
+use Rattle.ics_components.specs.GatheredSeen.{GatheredSeen}
 use Rattle.ics_calendar.specs.ZoneTables.{known_by, given_by}
 use Rattle.ics_calendar.proofs.Settling.{draft-with}
 use Rattle.ics_calendar.proofs.draft.Draft.settled.Goals as goal

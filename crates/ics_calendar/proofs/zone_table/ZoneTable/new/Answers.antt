@@ -1,6 +1,6 @@
 use Rattle.std.proofs.Common.{◌≡◌, map, refl, ap, ◌∙◌, Option, ℕ}
 use Rattle.std.specs.BTreeMap.{get}
-use Rattle.ics_calendar.specs.declared.deferred_check.ZoneName.{ZoneName}
+use Rattle.ics_components.specs.declared.deferred_check.ZoneName.{ZoneName}
 use Rattle.ics_calendar.specs.DeferredChecks.{zone_index}
 use Rattle.ics_calendar.specs.ZoneTables.{name_cmp}
 use Rattle.ics_calendar.proofs.FilesGiven.{same-known, or-none}

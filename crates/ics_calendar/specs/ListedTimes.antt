@@ -1,0 +1,35 @@
+-- What the lines of RDATE and EXDATE list, each value in the zone that its line names (RFC 5545, sections 3.8.5.1 and 3.8.5.2).
+use Rattle.std.specs.Prelude.{ℕ, List, map, flat_map, Option}
+use Rattle.ics_values.specs.declared.stamp.Stamp.{Stamp}
+use Rattle.ics_components.specs.declared.date_list.DateList.{DateList}
+use Rattle.ics_components.specs.declared.date_list.ListedDate.{ListedDate}
+use Rattle.ics_components.specs.declared.date_list.ListedDate.TheVariants as listed
+use Rattle.ics_components.specs.declared.deferred_check.ZoneName.{ZoneName}
+use Rattle.ics_event.specs.declared.time.Length.TheVariants.{Until, Lasting}
+use Rattle.ics_event.specs.declared.time.Rdate.{Rdate}
+use Rattle.ics_event.specs.declared.time.Rdate.TheVariants.{At, Span}
+use Rattle.ics_event.specs.declared.time.Time.{Time}
+use Rattle.ics_components.specs.DateLists.{zone_listed}
+use Rattle.ics_event.specs.Event.{time_in}
+
+-- A VALUE, given the index of the zone that its line names.
+abbrev pub rdate_in : Option ℕ → ListedDate → Rdate
+rdate_in zone (listed.At stamp) = At (time_in zone stamp)
+rdate_in zone (listed.Between start end) = Span (time_in zone start) (Until (time_in zone end))
+rdate_in zone (listed.Lasting start duration) = Span (time_in zone start) (Lasting duration)
+
+-- its stamp, or its first
+abbrev pub first_stamp : ListedDate → Stamp
+first_stamp (listed.At stamp) = stamp
+first_stamp (listed.Between start end) = start
+first_stamp (listed.Lasting start duration) = start
+
+abbrev pub exdate_in : Option ℕ → ListedDate → Time
+exdate_in zone v = time_in zone (first_stamp v)
+
+-- THE VALUES of some lines of a calendar, in their order, given the index of the zone that a name stands for.
+abbrev pub rdates_by : (ZoneName → Option ℕ) → ℕ → List DateList → List Rdate
+rdates_by index calendar lists = flat_map (λ list. map (rdate_in (index (zone_listed calendar list))) list.values) lists
+
+abbrev pub exdates_by : (ZoneName → Option ℕ) → ℕ → List DateList → List Time
+exdates_by index calendar lists = flat_map (λ list. map (exdate_in (index (zone_listed calendar list))) list.values) lists

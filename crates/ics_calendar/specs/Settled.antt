@@ -1,0 +1,63 @@
+-- What a file is by what is gathered of it, where the first round finds nothing.
+use Rattle.std.specs.Prelude.{ℕ, List, [], ◌∷◌, Option, None, map, filter_map, option_map, Result, Ok, Err}
+use Rattle.ics_zone.specs.ZoneSaid.{ZoneSaid}
+use Rattle.ics_components.specs.declared.gathered.EndedEvent.{EndedEvent}
+use Rattle.ics_components.specs.declared.gathered.LineCheck.{LineCheck}
+use Rattle.ics_components.specs.declared.deferred_check.ZoneName.{ZoneName}
+use Rattle.ics_components.specs.GatheredSeen.{GatheredSeen}
+use Rattle.ics_components.specs.declared.fault.Fault.{Fault}
+use Rattle.ics_components.specs.FirstFault.{found}
+use Rattle.ics_event.specs.Event.{EventSeen, FileSaid}
+use Rattle.ics_calendar.specs.DeferredChecks.{KnownZones, known_zones, with_files, judged, unknown_in}
+use Rattle.ics_calendar.specs.Files.{DraftSaid, decide}
+use Rattle.ics_calendar.specs.ListedTimes.{rdates_by, exdates_by}
+use Rattle.ics_calendar.specs.Times.{time_on, length_of}
+use Rattle.ics_calendar.specs.Wanted.{each_once}
+
+abbrev pub known_in : GatheredSeen → KnownZones
+known_in g = known_zones (map (λ z. z.name) g.zones) (map (λ z. ZoneSaid.ByObservances z.observances) g.zones)
+
+-- the first of the deferred checks that finds a fault
+abbrev pub first_judged : KnownZones → List LineCheck → Option Fault
+first_judged known [] = None
+first_judged known (w ∷ ws) = found w.line (judged known w.check) (first_judged known ws)
+
+-- the event, given the index of the zone that a name stands for
+abbrev pub event_of : (ZoneName → Option ℕ) → EndedEvent → EventSeen
+event_of index event = record {
+  uid = event.uid;
+  sequence = event.sequence;
+  start = time_on index event.calendar event.start;
+  length = length_of index event.calendar event.length;
+  rule = event.rule;
+  rdates = rdates_by index event.calendar event.rdates;
+  exdates = exdates_by index event.calendar event.exdates;
+  recurrence = option_map (time_on index event.calendar) event.recurrence;
+  title = event.title;
+  location = event.location;
+  description = event.description;
+  cancelled = event.cancelled;
+}
+
+-- WHAT THE FILE IS, where the first round finds nothing.
+abbrev pub said_of_gathered : KnownZones → GatheredSeen → FileSaid
+said_of_gathered known g = record { zones = known.zones; events = map (event_of known.index) g.events }
+
+abbrev pub settled_by : KnownZones → GatheredSeen → Result FileSaid Fault
+settled_by known g = decide None (first_judged known g.checks) (said_of_gathered known g)
+
+-- What the file wants, by the same.
+abbrev pub all_unknown : (ZoneName → Option ℕ) → List LineCheck → List (List ℕ)
+all_unknown index checks = filter_map (λ w. unknown_in index w.check) checks
+
+abbrev pub wanted_by : KnownZones → GatheredSeen → List (List ℕ)
+wanted_by known g = each_once (all_unknown known.index g.checks)
+
+-- The draft of the file, given the zones of its VTIMEZONEs: what it wants, and what it is with zone files.
+abbrev pub drafted : KnownZones → GatheredSeen → DraftSaid
+drafted known g = record { wants = wanted_by known g; says = λ files. settled_by (with_files known files (wanted_by known g)) g }
+
+-- The draft, by what the first round gathers or finds.
+abbrev pub drafted_of : Result GatheredSeen Fault → Result DraftSaid Fault
+drafted_of (Ok g) = Ok (drafted (known_in g) g)
+drafted_of (Err fault) = Err fault

@@ -1,0 +1,66 @@
+//! The events of a file, made of what is gathered of them (RFC 5545, section 3.6.1).
+ghost use Rattle.std.specs.Prelude.{◌≡◌, option_map, IfOk};
+ghost use Rattle.ics_calendar.specs.Ready.{IsReady};
+ghost use Rattle.ics_calendar.specs.Settled.{event_of};
+ghost use Rattle.ics_calendar.specs.Times.{time_on, length_of};
+ghost use Rattle.ics_calendar.specs.ZoneTables.{known_by};
+
+use crate::dates::{exdates_of, rdates_of};
+use crate::zone_table::ZoneTable;
+use ics_components::{Dated, EndedEvent, GivenLength, ZoneName, parts_of};
+use ics_event::{Event, Length, Time, is_zoned};
+use std::alloc::{AllocError, Global};
+
+/// The time of a stamp in that calendar.
+fn time_on(table: &ZoneTable, calendar: u64, dated: Dated) -> Time
+    ensures { result ≡ time_on (known_by table.now).index calendar dated }
+{
+    let stamp = dated.stamp;
+    if !is_zoned(stamp) {
+        return Time { stamp, zone: None };
+    }
+    let zone = table.index(&ZoneName::of(calendar, dated.zone));
+    Time { stamp, zone }
+}
+
+/// The time of a RECURRENCE-ID, if there is one.
+fn recurrence_of(table: &ZoneTable, calendar: u64, recurrence: Option<Dated>) -> Option<Time>
+    ensures { result ≡ option_map (time_on (known_by table.now).index calendar) recurrence }
+{
+    match recurrence {
+        Some(dated) => Some(time_on(table, calendar, dated)),
+        None => None,
+    }
+}
+
+fn length_of(table: &ZoneTable, calendar: u64, length: GivenLength) -> Length
+    ensures { result ≡ length_of (known_by table.now).index calendar length }
+{
+    match length {
+        GivenLength::Until(end) => Length::Until(time_on(table, calendar, end)),
+        GivenLength::Lasting(duration) => Length::Lasting(duration),
+        GivenLength::Open => Length::Open,
+    }
+}
+
+/// The event, where no fault stands on its lines.
+pub fn event_of(alloc: Global, table: &ZoneTable, ended: EndedEvent) -> Result<Event, AllocError>
+    requires { IsReady (known_by table.now) ended }
+    ensures { IfOk result (λ event. event ≡ event_of (known_by table.now).index ended) }
+{
+    let calendar = ended.calendar;
+    Ok(Event {
+        start: time_on(table, calendar, ended.start),
+        length: length_of(table, calendar, ended.length),
+        rule: parts_of(ended.rule),
+        rdates: rdates_of(alloc, table, calendar, ended.rdates)?,
+        exdates: exdates_of(alloc, table, calendar, ended.exdates)?,
+        recurrence: recurrence_of(table, calendar, ended.recurrence),
+        uid: ended.uid,
+        sequence: ended.sequence,
+        title: ended.title,
+        location: ended.location,
+        description: ended.description,
+        cancelled: ended.cancelled,
+    })
+}

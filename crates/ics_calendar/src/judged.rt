@@ -1,0 +1,42 @@
+//! What the deferred checks find, once the time zones of the file are known (RFC 5545, sections 3.2.19 and 3.8.2.2).
+ghost use Rattle.std.specs.Prelude.{◌≡◌};
+ghost use Rattle.ics_components.specs.Gathered.{IsSoundInstant, IsSoundCheck};
+ghost use Rattle.ics_calendar.specs.DeferredChecks.{moment_of, judged};
+ghost use Rattle.ics_calendar.specs.ZoneTables.{known_by};
+
+use crate::zone_table::ZoneTable;
+use ics_components::{DeferredCheck, FaultKind, Instant, is_out};
+use ics_values::Moment;
+
+/// The instant of a stamp, if its zone is known.
+fn moment_of(table: &ZoneTable, instant: &Instant) -> Option<Moment>
+    requires { IsSoundInstant instant.now }
+    ensures { result ≡ moment_of (known_by table.now) instant.now }
+{
+    match instant {
+        Instant::Utc(local) => Some(local.seconds()),
+        Instant::Zoned(local, name) => match table.index(name) {
+            Some(index) => table.moment_at(*local, index),
+            None => None,
+        },
+    }
+}
+
+/// The fault that a deferred check finds, if it finds one.
+pub fn judged(table: &ZoneTable, check: &DeferredCheck) -> Option<FaultKind>
+    requires { IsSoundCheck check.now }
+    ensures { result ≡ judged (known_by table.now) check.now }
+{
+    match check {
+        DeferredCheck::End => Some(FaultKind::BadEnd),
+        DeferredCheck::Zone(name) if table.index(name).is_some() => None,
+        DeferredCheck::Zone(name) if table.is_bad(&name.name) => Some(FaultKind::BadZoneFile),
+        DeferredCheck::Zone(_) => Some(FaultKind::UnknownZone),
+        DeferredCheck::Ends(start, end) => {
+            match (moment_of(table, start), moment_of(table, end)) {
+                (Some(start), Some(end)) if is_out(start, end) => Some(FaultKind::BadEnd),
+                _ => None,
+            }
+        }
+    }
+}

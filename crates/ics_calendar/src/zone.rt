@@ -1,0 +1,57 @@
+//! The time zones of a file, made of what is gathered of them (RFC 5545, section 3.6.5).
+ghost use Rattle.std.specs.Prelude.{◌≡◌, ◌≢◌, [], false, IfOk};
+ghost use Rattle.std.specs.List.{All, list_any};
+ghost use Rattle.ics_zone.specs.Observances.{observance_said, observances_said, has_finer_rule};
+ghost use Rattle.ics_zone.specs.ZoneSaid.{ZoneSaid, zone_said};
+ghost use Rattle.ics_components.specs.Sound.{IsSoundObservance, IsSoundZone};
+
+use ics_components::{EndedObservance, Observances, parts_of};
+use ics_zone::{Observance, Zone, ZoneFault};
+use std::alloc::{AllocError, Global};
+
+/// The observance, where no fault stands on its lines.
+fn observance_of(ended: EndedObservance) -> Observance
+    requires { IsSoundObservance ended }
+    ensures { observance_said result ≡ ended }
+{
+    Observance {
+        start: ended.start,
+        offset_from: ended.offset_from,
+        offset_to: ended.offset_to,
+        rule: parts_of(ended.rule),
+        rdates: ended.rdates.locals,
+    }
+}
+
+/// The observances, where no fault stands on their lines.
+fn observances_of(alloc: Global, ended: Observances) -> Result<Vec<Observance>, AllocError>
+    requires { All IsSoundObservance ended }
+    ensures { IfOk result (λ made. observances_said made.items ≡ ended) }
+{
+    let mut made = Vec::new(alloc);
+    for observance in ended.list {
+        made.push(observance_of(observance))?;
+    }
+    Ok(made)
+}
+
+/// The time zone of these observances.
+fn read_zone(alloc: Global, observances: Vec<Observance>) -> Result<Zone, AllocError>
+    requires filled { observances.items ≢ [] }
+    requires daily { list_any has_finer_rule (observances_said observances.items) ≡ false }
+    ensures { IfOk result (λ zone. zone_said zone ≡ ZoneSaid.ByObservances (observances_said observances.items)) }
+{
+    match Zone::read(alloc, observances) {
+        Ok(zone) => Ok(zone),
+        Err(ZoneFault::Memory) => Err(AllocError),
+        Err(ZoneFault::NoObservance | ZoneFault::ZoneRule) => unreachable!(),
+    }
+}
+
+/// The time zone with these observances, where no fault stands on its lines.
+pub fn zone_of(alloc: Global, ended: Observances) -> Result<Zone, AllocError>
+    requires { IsSoundZone ended }
+    ensures { IfOk result (λ zone. zone_said zone ≡ ZoneSaid.ByObservances ended) }
+{
+    read_zone(alloc, observances_of(alloc, ended)?)
+}

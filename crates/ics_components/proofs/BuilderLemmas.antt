@@ -1,0 +1,172 @@
+-- A line changes what is collected of a component as the pass notes it.
+use Rattle.std.proofs.Common.{◌≡◌, ℕ, Bool, true, false, List, [], ◌∷◌, ◌++◌, map, filter, refl, sym, ap, ◌∙◌, cond}
+use Rattle.std.specs.Prelude.{codes, ◌&&◌, ◌||◌, flat_map, filter_map}
+use Rattle.std.specs.Str.{bytes_eq}
+use Rattle.std.proofs.lemmas.List.{append-nil, map-append}
+use Rattle.std.proofs.lemmas.List.Concat.{flat_map-append, flat_map-cons}
+use Rattle.std.proofs.lemmas.List.Elements.{filter-append}
+use Rattle.std.proofs.Math.Bool.{and-false}
+use Rattle.ics_text.specs.ContentLines.{Parts}
+use Rattle.ics_values.specs.Offsets.{offset_of}
+use Rattle.ics_values.specs.Plain.{text_of}
+use Rattle.ics_values.specs.Rules.{rule_of}
+use Rattle.ics_values.specs.Stamps.{stamp_of}
+use Rattle.ics_fields.specs.Observances.{ObservanceSaid}
+use Rattle.ics_components.specs.declared.event_builder.EventBuilder.{EventBuilder}
+use Rattle.ics_components.specs.declared.component.Component.{Component}
+use Rattle.ics_components.specs.declared.component.Component.TheVariants as component
+use Rattle.ics_components.specs.declared.component.Context.{Context}
+use Rattle.ics_components.specs.declared.component.Context.TheVariants as context
+use Rattle.ics_components.specs.declared.name.Name.{Name}
+use Rattle.ics_components.specs.declared.name.Name.TheVariants as name
+use Rattle.ics_components.specs.declared.builder.ObservanceBuilder.{ObservanceBuilder}
+use Rattle.ics_components.specs.declared.builder.Builder.{Builder}
+use Rattle.ics_components.specs.declared.builder.Builder.TheVariants as builder
+use Rattle.ics_components.specs.declared.builder.ZoneBuilder.{ZoneBuilder}
+use Rattle.ics_components.specs.Components.{component_of, context_in, is_zone_context, is_observance_context}
+use Rattle.ics_components.specs.DateValues.{rdates_of}
+use Rattle.ics_components.specs.Names.{name_of}
+use Rattle.ics_components.specs.PlacedLines.{Placed, Open, property_name, value, context_of, in_zone, is_begin, component, is_named, all_named}
+use Rattle.ics_components.proofs.Built.{collected_of, zone_of, observance_of}
+use Rattle.ics_components.specs.Lines.{or_first, event_note, zone_note, observance_note, builder_note, joined}
+use Rattle.ics_components.specs.Builders.{observance_ended}
+use Rattle.ics_components.specs.Observances.{local_in, onset_in, offset_in, daily_in, onset_on, offset_on, daily_on, onsets_by, begins_in_zone}
+use Rattle.ics_components.proofs.NameLemmas.{Tells, tells, TellsComponent, tells_component}
+use Rattle.ics_components.proofs.EventBuilderLemmas.{collected_of-more, kept-more, parts_at}
+use Rattle.ics_components.proofs.Rows.{Readings, builder_at}
+use Rattle.ics_components.proofs.Table.{readings, own, parts}
+use Rattle.ics_components.proofs.Order.{inside}
+
+zone-noted : (n : Name) (u : List ℕ) (v : Parts) (had : ZoneBuilder) → Tells u n →
+    record had { name = cond (bytes_eq u (codes "TZID")) (or_first had.name (text_of v.value)) had.name } ≡ zone_note n v had
+zone-noted name.Other u v had e = rw e.no_tzid refl
+zone-noted name.Tzid u v had e = rw e refl
+zone-noted _ u v had e = rw e refl
+
+pub zone_of-more : (os : List ObservanceSaid) (ls : List Placed) (l : Placed) →
+    zone_of os (ls ++ l ∷ []) ≡ zone_note (name_of (property_name l.content)) (parts_at l) (zone_of os ls)
+zone_of-more os ls l =
+    rw (kept-more (λ l. text_of (value l)) (codes "TZID") ls l)
+    (zone-noted (name_of (property_name l.content)) (property_name l.content) (parts_at l) (zone_of os ls) (tells (property_name l.content)))
+
+-- what all lines of a name list, with one line more
+listed-more : {X : Type 0} (f : Placed → List X) (n : List ℕ) (ls : List Placed) (l : Placed) →
+    flat_map f (all_named n (ls ++ l ∷ [])) ≡ cond (is_named n l) (flat_map f (all_named n ls) ++ f l) (flat_map f (all_named n ls))
+listed-more f n ls l = ap (flat_map f) (filter-append (is_named n) ls (l ∷ [])) ∙ by_test (is_named n l)
+  where
+    by_test : (t : Bool) → flat_map f (all_named n ls ++ cond t (l ∷ []) []) ≡ cond t (flat_map f (all_named n ls) ++ f l) (flat_map f (all_named n ls))
+    by_test true =
+        flat_map-append f (all_named n ls) (l ∷ [])
+        ∙ ap (λ xs. flat_map f (all_named n ls) ++ xs) (flat_map-cons f l [] ∙ append-nil (f l))
+    by_test false = ap (flat_map f) (append-nil (all_named n ls))
+
+observance-noted : (n : Name) (u : List ℕ) (v : Parts) (had : ObservanceBuilder) → Tells u n →
+    record {
+      start = cond (bytes_eq u (codes "DTSTART")) (or_first had.start (onset_in (stamp_of false v.value))) had.start;
+      from = cond (bytes_eq u (codes "TZOFFSETFROM")) (or_first had.from (offset_in (offset_of v.value))) had.from;
+      to = cond (bytes_eq u (codes "TZOFFSETTO")) (or_first had.to (offset_in (offset_of v.value))) had.to;
+      rule = cond (bytes_eq u (codes "RRULE")) (or_first had.rule (daily_in (rule_of v.value))) had.rule;
+      rdates = cond (bytes_eq u (codes "RDATE")) (had.rdates ++ filter_map local_in (rdates_of false v.value)) had.rdates;
+    } ≡ observance_note n v had
+observance-noted name.Other u v had e = simp (e.no_dtstart, e.no_offset_from, e.no_offset_to, e.no_rrule, e.no_rdate) refl
+observance-noted name.Begin u v had e = rw e refl
+observance-noted _ u v had e = rw e refl
+
+pub observance_of-more : (ls : List Placed) (l : Placed) →
+    observance_of (ls ++ l ∷ []) ≡ observance_note (name_of (property_name l.content)) (parts_at l) (observance_of ls)
+observance_of-more ls l =
+    rw (
+      kept-more onset_on (codes "DTSTART") ls l,
+      kept-more offset_on (codes "TZOFFSETFROM") ls l,
+      kept-more offset_on (codes "TZOFFSETTO") ls l,
+      kept-more daily_on (codes "RRULE") ls l,
+      listed-more onsets_by (codes "RDATE") ls l,
+    )
+    (observance-noted (name_of (property_name l.content)) (property_name l.content) (parts_at l) (observance_of ls) (tells (property_name l.content)))
+
+-- THE OBSERVANCES of a time zone, with one line more.
+parts-more : (whole ls : List Placed) (l : Placed) → parts whole (ls ++ l ∷ []) ≡ parts whole ls ++ cond (begins_in_zone l) (own whole l ∷ []) []
+parts-more whole ls l =
+    ap (map (own whole)) (filter-append begins_in_zone ls (l ∷ []))
+    ∙ map-append (own whole) (filter begins_in_zone ls) (cond (begins_in_zone l) (l ∷ []) [])
+    ∙ ap (λ os. parts whole ls ++ os) (by_test (begins_in_zone l))
+  where
+    by_test : (t : Bool) → map (own whole) (cond t (l ∷ []) []) ≡ cond t (own whole l ∷ []) []
+    by_test true = refl
+    by_test false = refl
+
+pub parts-same : (whole ls : List Placed) (l : Placed) → is_begin l ≡ false → parts whole (ls ++ l ∷ []) ≡ parts whole ls
+parts-same whole ls l e =
+    parts-more whole ls l
+    ∙ ap (λ t. parts whole ls ++ cond (in_zone l && ((t && bytes_eq (component l) (codes "STANDARD")) || (t && bytes_eq (component l) (codes "DAYLIGHT"))))
+    (own whole l ∷ []) []) e
+    ∙ ap (λ t. parts whole ls ++ cond t (own whole l ∷ []) []) (and-false (in_zone l)) ∙ append-nil (parts whole ls)
+
+-- an observance begins exactly on a STANDARD or DAYLIGHT in a time zone
+observance-begins : (q : Context) (w : List ℕ) →
+    is_observance_context (context_in q (component_of w)) ≡ (is_zone_context q && (bytes_eq w (codes "STANDARD") || bytes_eq w (codes "DAYLIGHT")))
+observance-begins q w = by_context q (component_of w) (tells_component w)
+  where
+    by_context : (q : Context) (c : Component) → TellsComponent w c →
+        is_observance_context (context_in q c) ≡ (is_zone_context q && (bytes_eq w (codes "STANDARD") || bytes_eq w (codes "DAYLIGHT")))
+    by_context context.Outside component.Calendar e = refl
+    by_context context.Outside _ e = refl
+    by_context context.Calendar component.Event e = refl
+    by_context context.Calendar _ e = refl
+    by_context context.Zone (component.Other n) e = rw (e.0.no_standard, e.0.no_daylight) refl
+    by_context context.Zone component.Standard e = rw e refl
+    by_context context.Zone component.Daylight e = rw e refl
+    by_context context.Zone _ e = rw e refl
+    by_context _ c e = refl
+
+observance-is : (l : Placed) → is_begin l ≡ true → begins_in_zone l ≡ is_observance_context (context_of (inside l))
+observance-is l e =
+    ap (λ t. in_zone l && ((t && bytes_eq (component l) (codes "STANDARD")) || (t && bytes_eq (component l) (codes "DAYLIGHT")))) e
+    ∙ sym (observance-begins (context_of l.path) (component l))
+
+-- what stands in another component changes nothing but observances
+event-still : (s : Builder) (had : EventBuilder) → joined s (builder.Event had) ≡ builder.Event had
+event-still (builder.Observance o) had = refl
+event-still _ had = refl
+
+observance-still : (s : Builder) (had : ObservanceBuilder) → joined s (builder.Observance had) ≡ builder.Observance had
+observance-still (builder.Observance o) had = refl
+observance-still _ had = refl
+
+pub nothing-still : (s : Builder) → joined s builder.Nothing ≡ builder.Nothing
+nothing-still (builder.Observance o) = refl
+nothing-still _ = refl
+
+-- WHAT IS COLLECTED of a component.
+module _ (whole : List Placed) (k : List Open) (ls : List Placed) where
+  -- with one line more that begins none
+  pub builder-more : (q : Context) (l : Placed) → is_begin l ≡ false →
+      builder_at q (readings whole k (ls ++ l ∷ [])) ≡ builder_note (name_of (property_name l.content)) (parts_at l) (builder_at q (readings whole k ls))
+  builder-more context.Event l e = ap builder.Event (collected_of-more ls l)
+  builder-more context.Zone l e =
+      ap (λ os. builder.Zone (zone_of os (ls ++ l ∷ []))) (parts-same whole ls l e) ∙ ap builder.Zone (zone_of-more (parts whole ls) ls l)
+  builder-more context.Observance l e = ap builder.Observance (observance_of-more ls l)
+  builder-more _ l e = refl
+
+  -- with the BEGIN line of a component that has ended in it, and is one of its observances or changes nothing
+  pub builder-begun : (q : Context) (b : Placed) (g : Readings) →
+      name_of (property_name b.content) ≡ name.Begin → is_begin b ≡ true → own whole b ≡ observance_ended g.observance →
+      builder_at q (readings whole k (ls ++ b ∷ [])) ≡ joined (builder_at (context_of (inside b)) g) (builder_at q (readings whole k ls))
+  builder-begun context.Event b g n e o =
+      ap builder.Event (collected_of-more ls b ∙ ap (λ n. event_note n (parts_at b) (collected_of ls)) n)
+      ∙ sym (event-still (builder_at (context_of (inside b)) g) (collected_of ls))
+  builder-begun context.Observance b g n e o =
+      ap builder.Observance (observance_of-more ls b ∙ ap (λ n. observance_note n (parts_at b) (observance_of ls)) n)
+      ∙ sym (observance-still (builder_at (context_of (inside b)) g) (observance_of ls))
+  builder-begun context.Zone b g n e o =
+      ap builder.Zone (zone_of-more (parts whole (ls ++ b ∷ [])) ls b ∙ ap (λ n. zone_note n (parts_at b) (zone_of (parts whole (ls ++ b ∷ [])) ls)) n)
+      ∙ ap (λ os. builder.Zone (zone_of os ls)) (parts-more whole ls b ∙ ap (λ t. parts whole ls ++ cond t (own whole b ∷ []) []) (observance-is b e))
+      ∙ by_context (context_of (inside b))
+    where
+      by_context : (p : Context) → builder.Zone (zone_of (parts whole ls ++ cond (is_observance_context p) (own whole b ∷ []) []) ls)
+          ≡ joined (builder_at p g) (builder.Zone (zone_of (parts whole ls) ls))
+      by_context context.Observance = ap (λ p. builder.Zone (zone_of (parts whole ls ++ p ∷ []) ls)) o
+      by_context context.Event = ap (λ os. builder.Zone (zone_of os ls)) (append-nil (parts whole ls))
+      by_context context.Zone = ap (λ os. builder.Zone (zone_of os ls)) (append-nil (parts whole ls))
+      by_context _ = ap (λ os. builder.Zone (zone_of os ls)) (append-nil (parts whole ls))
+  builder-begun _ b g n e o = sym (nothing-still (builder_at (context_of (inside b)) g))

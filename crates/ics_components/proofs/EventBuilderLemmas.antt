@@ -1,0 +1,134 @@
+-- A line changes what is collected of an event as the pass notes it.
+use Rattle.std.proofs.Common.{◌≡◌, ℕ, Bool, true, false, List, [], ◌∷◌, ◌++◌, map, refl, ap, ◌∙◌, cond, Option, Some, None}
+use Rattle.std.specs.Prelude.{codes, option_map}
+use Rattle.std.specs.Str.{bytes_eq}
+use Rattle.std.proofs.lemmas.List.{append-nil, map-append}
+use Rattle.std.proofs.lemmas.List.Elements.{filter-append}
+use Rattle.ics_text.specs.ContentLines.{Parts}
+use Rattle.ics_values.specs.Integers.{integer_of}
+use Rattle.ics_values.specs.Plain.{text_of}
+use Rattle.ics_values.specs.Rules.{rule_of}
+use Rattle.ics_components.specs.declared.event_builder.EventBuilder.{EventBuilder}
+use Rattle.ics_components.specs.declared.name.Name.{Name}
+use Rattle.ics_components.specs.declared.name.Name.TheVariants as name
+use Rattle.ics_components.specs.DateLists.{rdate_list, exdate_list}
+use Rattle.ics_components.specs.Names.{name_of}
+use Rattle.ics_components.specs.PlacedLines.{Placed, property_name, value, value_of, params_of, is_named, first_named, first_of, all_named}
+use Rattle.ics_components.specs.Values.{dated_of, lasting_of, duration_in, rule_in, ok_or_zero, is_cancelled}
+use Rattle.ics_components.specs.Faults.{dated_on, duration_on, parts_on, rdates_on, exdates_on}
+use Rattle.ics_components.proofs.Built.{collected_of}
+use Rattle.ics_components.specs.Lines.{or_first, event_note}
+use Rattle.ics_components.proofs.NameLemmas.{Tells, tells}
+
+-- what all lines of a name say, with one line more
+named-more : {X : Type 0} (f : Placed → X) (n : List ℕ) (ls : List Placed) (l : Placed) →
+    map f (all_named n (ls ++ l ∷ [])) ≡ cond (is_named n l) (map f (all_named n ls) ++ f l ∷ []) (map f (all_named n ls))
+named-more f n ls l = ap (map f) (filter-append (is_named n) ls (l ∷ [])) ∙ by_test (is_named n l)
+  where
+    by_test : (t : Bool) → map f (all_named n ls ++ cond t (l ∷ []) []) ≡ cond t (map f (all_named n ls) ++ f l ∷ []) (map f (all_named n ls))
+    by_test true = map-append f (all_named n ls) (l ∷ [])
+    by_test false = ap (map f) (append-nil (all_named n ls))
+
+-- what is kept of the first line of a name, with one line more
+pub kept-more : {X : Type 0} (f : Placed → X) (n : List ℕ) (ls : List Placed) (l : Placed) →
+    option_map f (first_named n (ls ++ l ∷ [])) ≡ cond (is_named n l) (or_first (option_map f (first_named n ls)) (f l)) (option_map f (first_named n ls))
+kept-more f n [] l = last (is_named n l)
+  where
+    last : (t : Bool) → option_map f (first_of (cond t (l ∷ []) [])) ≡ cond t (Some (f l)) None
+    last true = refl
+    last false = refl
+kept-more f n (k ∷ ks) l = by_test (is_named n k) (kept-more f n ks l)
+  where
+    by_test : (t : Bool) → option_map f (first_named n (ks ++ l ∷ []))
+        ≡ cond (is_named n l) (or_first (option_map f (first_named n ks)) (f l)) (option_map f (first_named n ks)) →
+        option_map f (first_of (cond t (k ∷ all_named n (ks ++ l ∷ [])) (all_named n (ks ++ l ∷ []))))
+        ≡ cond (is_named n l) (or_first (option_map f (first_of (cond t (k ∷ all_named n ks) (all_named n ks)))) (f l))
+        (option_map f (first_of (cond t (k ∷ all_named n ks) (all_named n ks))))
+    by_test true ih = either (is_named n l)
+      where
+        either : (t : Bool) → Some (f k) ≡ cond t (Some (f k)) (Some (f k))
+        either true = refl
+        either false = refl
+    by_test false ih = ih
+
+abbrev raw_name : Option Parts → List ℕ
+raw_name None = []
+raw_name (Some parts) = parts.name
+
+-- the parts of a line, all empty where it is no content line
+abbrev pub parts_at : Placed → Parts
+parts_at l = record { name = raw_name l.content; params = params_of l.content; value = value_of l.content }
+
+noted : (n : Name) (u : List ℕ) (v : Parts) (had : EventBuilder) → Tells u n →
+    record {
+      uid = cond (bytes_eq u (codes "UID")) (or_first had.uid (text_of v.value)) had.uid;
+      start = cond (bytes_eq u (codes "DTSTART")) (or_first had.start (dated_of v.params v.value)) had.start;
+      end = cond (bytes_eq u (codes "DTEND")) (or_first had.end (dated_of v.params v.value)) had.end;
+      duration = cond (bytes_eq u (codes "DURATION")) (or_first had.duration (duration_in (lasting_of v.value))) had.duration;
+      rule = cond (bytes_eq u (codes "RRULE")) (or_first had.rule (rule_in (rule_of v.value))) had.rule;
+      rdates = cond (bytes_eq u (codes "RDATE")) (had.rdates ++ rdate_list v.params v.value ∷ []) had.rdates;
+      exdates = cond (bytes_eq u (codes "EXDATE")) (had.exdates ++ exdate_list v.params v.value ∷ []) had.exdates;
+      recurrence = cond (bytes_eq u (codes "RECURRENCE-ID")) (or_first had.recurrence (dated_of v.params v.value)) had.recurrence;
+      sequence = cond (bytes_eq u (codes "SEQUENCE")) (or_first had.sequence (ok_or_zero (integer_of v.value))) had.sequence;
+      title = cond (bytes_eq u (codes "SUMMARY")) (or_first had.title (text_of v.value)) had.title;
+      location = cond (bytes_eq u (codes "LOCATION")) (or_first had.location (text_of v.value)) had.location;
+      description = cond (bytes_eq u (codes "DESCRIPTION")) (or_first had.description (text_of v.value)) had.description;
+      cancelled = cond (bytes_eq u (codes "STATUS")) (or_first had.cancelled (is_cancelled v.value)) had.cancelled;
+    } ≡ event_note n v had
+noted name.Begin u v had e = rw e refl
+noted name.End u v had e = rw e refl
+noted name.Uid u v had e = rw e refl
+noted name.Dtstart u v had e = rw e refl
+noted name.Dtend u v had e = rw e refl
+noted name.Duration u v had e = rw e refl
+noted name.Rrule u v had e = rw e refl
+noted name.RecurrenceId u v had e = rw e refl
+noted name.Sequence u v had e = rw e refl
+noted name.Rdate u v had e = rw e refl
+noted name.Exdate u v had e = rw e refl
+noted name.Exrule u v had e = rw e refl
+noted name.Version u v had e = rw e refl
+noted name.Summary u v had e = rw e refl
+noted name.Location u v had e = rw e refl
+noted name.Description u v had e = rw e refl
+noted name.Status u v had e = rw e refl
+noted name.Tzid u v had e = rw e refl
+noted name.OffsetFrom u v had e = rw e refl
+noted name.OffsetTo u v had e = rw e refl
+noted name.Other u v had e =
+    simp (
+      e.no_uid,
+      e.no_dtstart,
+      e.no_dtend,
+      e.no_duration,
+      e.no_rrule,
+      e.no_rdate,
+      e.no_exdate,
+      e.no_recurrence_id,
+      e.no_sequence,
+      e.no_summary,
+      e.no_location,
+      e.no_description,
+      e.no_status,
+    ) refl
+
+-- WHAT IS COLLECTED of an event, with one line more.
+pub collected_of-more : (ls : List Placed) (l : Placed) →
+    collected_of (ls ++ l ∷ []) ≡ event_note (name_of (property_name l.content)) (parts_at l) (collected_of ls)
+collected_of-more ls l =
+    rw (
+      kept-more (λ l. text_of (value l)) (codes "UID") ls l,
+      kept-more dated_on (codes "DTSTART") ls l,
+      kept-more dated_on (codes "DTEND") ls l,
+      kept-more duration_on (codes "DURATION") ls l,
+      kept-more parts_on (codes "RRULE") ls l,
+      named-more rdates_on (codes "RDATE") ls l,
+      named-more exdates_on (codes "EXDATE") ls l,
+      kept-more dated_on (codes "RECURRENCE-ID") ls l,
+      kept-more (λ l. ok_or_zero (integer_of (value l))) (codes "SEQUENCE") ls l,
+      kept-more (λ l. text_of (value l)) (codes "SUMMARY") ls l,
+      kept-more (λ l. text_of (value l)) (codes "LOCATION") ls l,
+      kept-more (λ l. text_of (value l)) (codes "DESCRIPTION") ls l,
+      kept-more (λ l. is_cancelled (value l)) (codes "STATUS") ls l,
+    )
+    (noted (name_of (property_name l.content)) (property_name l.content) (parts_at l) (collected_of ls) (tells (property_name l.content)))

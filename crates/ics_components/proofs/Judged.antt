@@ -1,0 +1,122 @@
+-- What a line makes of the components that are open, told apart: the fault on it, and what stands behind it where there is none.
+use Rattle.std.proofs.Common.{◌≡◌, ◌≢◌, ℕ, Bool, true, false, List, [], ◌∷◌, map, refl, sym, ap, cond, Option, Some, None}
+use Rattle.std.specs.Prelude.{length, nat_le}
+use Rattle.std.specs.Str.{bytes_eq}
+use Rattle.ics_text.specs.Bytes.{upper}
+use Rattle.ics_text.specs.ContentLines.{Parts}
+use Rattle.ics_components.specs.declared.component.Context.{Context}
+use Rattle.ics_components.specs.declared.component.Context.TheVariants as context
+use Rattle.ics_components.specs.declared.fault.FaultKind.{FaultKind}
+use Rattle.ics_components.specs.declared.fault.FaultKind.TheVariants as kind
+use Rattle.ics_components.specs.declared.frame.Frame.{Frame}
+use Rattle.ics_components.specs.declared.gathered.Ended.{Ended}
+use Rattle.ics_components.specs.declared.gathered.Ended.TheVariants as ended
+use Rattle.ics_components.specs.declared.gathered.Passed.{Passed}
+use Rattle.ics_components.specs.declared.deferred_check.DeferredCheck.{DeferredCheck}
+use Rattle.ics_components.specs.declared.name.Name.{Name}
+use Rattle.ics_components.specs.declared.name.Name.TheVariants as name
+use Rattle.ics_components.specs.declared.builder.Builder.{Builder}
+use Rattle.ics_components.specs.Components.{component_of, component_name}
+use Rattle.ics_components.specs.Lines.{unless, first, fault_if, builder_fault, builder_note, builder_check, passed, fault_at_end_of, ended_as, joined}
+use Rattle.ics_components.specs.Lines.{end_check}
+use Rattle.ics_components.specs.Lines.{opened, outside_fault, named_line}
+
+abbrev pub ended_in : Frame → Ended
+ended_in f = ended_as f.calendar f.builder
+
+abbrev pub end_fault_at : Context → Bool → Builder → Option FaultKind
+end_fault_at context.Outside matches s = Some kind.NotCalendar
+end_fault_at _ matches s = cond matches (fault_at_end_of s) (Some kind.BadNesting)
+
+-- A LINE, where so many components are open.
+abbrev pub fault_in : Name → Parts → Frame → ℕ → Option FaultKind
+fault_in name.Begin c f depth = first (outside_fault f.context (component_of (map upper c.value))) (fault_if kind.TooDeep (nat_le 32 depth))
+fault_in name.End c f depth = end_fault_at f.context (bytes_eq (map upper c.value) (component_name f.component)) f.builder
+fault_in n c f depth = builder_fault f.context n c f.builder
+
+abbrev pub check_in : Name → Parts → Frame → Option DeferredCheck
+check_in name.Begin c f = None
+check_in name.End c f = end_check f.calendar f.builder
+check_in n c f = builder_check f.calendar n c f.builder
+
+abbrev pub fault_on : Name → Parts → List Frame → Option FaultKind
+fault_on n c [] = None
+fault_on n c (f ∷ fs) = fault_in n c f (length fs)
+
+abbrev pub check_on : Name → Parts → List Frame → Option DeferredCheck
+check_on n c [] = None
+check_on n c (f ∷ fs) = check_in n c f
+
+abbrev pub noted : Name → Parts → List Frame → List Frame
+noted n c [] = []
+noted n c (f ∷ fs) = record f { builder = builder_note n c f.builder } ∷ fs
+
+abbrev pub closed : List Frame → List Frame
+closed [] = []
+closed (f ∷ []) = f ∷ []
+closed (f ∷ g ∷ gs) = record g { builder = joined f.builder g.builder } ∷ gs
+
+abbrev pub behind : ℕ → Name → Parts → List Frame → List Frame
+behind number name.Begin c frames = opened number (component_of (map upper c.value)) frames
+behind number name.End c frames = closed frames
+behind number n c frames = noted n c frames
+
+abbrev pub ends : Name → List Frame → Ended
+ends name.End (f ∷ g ∷ gs) = ended_in f
+ends _ _ = ended.Nothing
+
+abbrev pub passing : Name → Parts → List Frame → Passed
+passing n c frames = passed (ends n frames) (check_on n c frames)
+
+-- Outside all components stands the lowest frame alone.
+abbrev pub IsBased : List Frame → Type 0
+IsBased [] = ⊥
+IsBased (f ∷ []) = f.context ≡ context.Outside
+IsBased (f ∷ g ∷ gs) = (f.context ≢ context.Outside) × IsBased (g ∷ gs)
+
+end-inside : (q : Context) (matches : Bool) (s : Builder) → q ≢ context.Outside →
+    end_fault_at q matches s ≡ cond matches (fault_at_end_of s) (Some kind.BadNesting)
+end-inside context.Outside matches s n = absurd (n refl)
+end-inside _ matches s n = refl
+
+pub line-is : (number : ℕ) (n : Name) (c : Parts) (frames : List Frame) → IsBased frames →
+    named_line number n c frames ≡ unless (fault_on n c frames) (behind number n c frames, passing n c frames)
+line-is number n c [] b = absurd b
+line-is number name.Begin c (f ∷ fs) b = refl
+line-is number name.End c (f ∷ []) b =
+    ap (λ q. unless (end_fault_at q (bytes_eq (map upper c.value) (component_name f.component)) f.builder)
+    (f ∷ [], passed ended.Nothing (end_check f.calendar f.builder))) (sym b)
+line-is number name.End c (f ∷ g ∷ gs) b =
+    ap (λ o. unless o (closed (f ∷ g ∷ gs), passed (ended_in f) (end_check f.calendar f.builder)))
+    (sym (end-inside f.context (bytes_eq (map upper c.value) (component_name f.component)) f.builder b.0))
+line-is number _ c (f ∷ fs) b = refl
+
+-- the same by whether a component begins or ends there
+abbrev pub is_begin_name : Name → Bool
+is_begin_name name.Begin = true
+is_begin_name _ = false
+
+abbrev pub is_end_name : Name → Bool
+is_end_name name.End = true
+is_end_name _ = false
+
+pub behind-is : (number : ℕ) (n : Name) (c : Parts) (f : Frame) (fs : List Frame) → behind number n c (f ∷ fs)
+    ≡ cond (is_begin_name n) (opened number (component_of (map upper c.value)) (f ∷ fs))
+    (cond (is_end_name n) (closed (f ∷ fs)) (record f { builder = builder_note n c f.builder } ∷ fs))
+behind-is number name.Begin c f fs = refl
+behind-is number name.End c f fs = refl
+behind-is number _ c f fs = refl
+
+pub check-is : (n : Name) (c : Parts) (f : Frame) →
+    check_in n c f ≡ cond (is_begin_name n) None (cond (is_end_name n) (end_check f.calendar f.builder) (builder_check f.calendar n c f.builder))
+check-is name.Begin c f = refl
+check-is name.End c f = refl
+check-is _ c f = refl
+
+pub ends-is : (n : Name) (f g : Frame) (gs : List Frame) → ends n (f ∷ g ∷ gs) ≡ cond (is_end_name n) (ended_in f) ended.Nothing
+ends-is name.End f g gs = refl
+ends-is _ f g gs = refl
+
+pub ends-lowest : (n : Name) (f : Frame) → ends n (f ∷ []) ≡ ended.Nothing
+ends-lowest name.End f = refl
+ends-lowest _ f = refl

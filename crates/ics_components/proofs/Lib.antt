@@ -1,0 +1,20 @@
+pub mod NameLemmas
+pub mod DateValueLemmas
+pub mod Judged
+pub mod Rows
+pub mod Table
+pub mod Built
+mod BuilderLemmas
+pub mod EventBuilderLemmas
+pub mod Bundles
+pub mod Frames
+pub mod Order
+pub mod Ended
+pub mod PassLemmas
+pub mod EndOrder
+pub mod Firsts
+pub mod SoundValues
+pub mod Sound
+pub mod Listed
+pub mod Awaits
+pub mod PassSound

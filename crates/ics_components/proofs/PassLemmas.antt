@@ -1,0 +1,249 @@
+-- One pass with the components that are open finds the first fault of round one, and gathers what the lines say.
+use Rattle.std.proofs.Common.{◌≡◌, ℕ, ◌+◌, ◌<◌, ◌≤◌, List, [], ◌∷◌, ◌++◌, map, refl, sym, ap, subst, ◌∙◌, append_assoc, arith, cond, Option, Some, None, Result}
+use Rattle.std.proofs.Common.{◌^◌, Err}
+use Rattle.std.specs.Prelude.{find, length, not, ◌==◌}
+use Rattle.std.specs.List.{list_any}
+use Rattle.std.proofs.lemmas.List.{append-nil}
+use Rattle.ics_text.specs.Bytes.{upper}
+use Rattle.ics_text.specs.Unfolded.{Line, Rises, Within}
+use Rattle.ics_text.specs.ContentLines.{Parts, content_of}
+use Rattle.ics_components.specs.declared.fault.FaultKind.{FaultKind}
+use Rattle.ics_components.specs.declared.fault.FaultKind.TheVariants.{BadNesting}
+use Rattle.ics_components.specs.declared.frame.Frame.{Frame}
+use Rattle.ics_components.specs.declared.gathered.Ended.{Ended}
+use Rattle.ics_components.specs.declared.gathered.EndedEvent.{EndedEvent}
+use Rattle.ics_components.specs.declared.gathered.EndedZone.{EndedZone}
+use Rattle.ics_components.specs.declared.gathered.LineCheck.{LineCheck}
+use Rattle.ics_components.specs.declared.deferred_check.DeferredCheck.{DeferredCheck}
+use Rattle.ics_components.specs.declared.gathered.Passed.{Passed}
+use Rattle.ics_components.specs.declared.name.Name.{Name}
+use Rattle.ics_components.specs.PlacedLines.{Placed, Open, path_behind, placed_from, innermost, begins_observance, lines_in, beside}
+use Rattle.ics_components.specs.Faults.{stands, kinds}
+use Rattle.ics_components.specs.FirstFault.{Fault, found, first_from, first_fault, fault_at_end, end_fault, no_open}
+use Rattle.ics_components.specs.GatheredSeen.{GatheredSeen}
+use Rattle.ics_components.specs.Gathered.{nothing_gathered, zones_of_end, events_of_end, checks_of, and_passed}
+use Rattle.ics_components.specs.Lines.{unless as fine}
+use Rattle.ics_components.specs.Names.{name_of}
+use Rattle.ics_components.specs.Pass.{bottom, is_lowest, at_end, unless, Going, on_line, on_content, pass, NumbersFit}
+use Rattle.ics_components.proofs.Judged.{fault_in, fault_on, check_in, check_on, behind, ends, passing, line-is}
+use Rattle.ics_components.proofs.Table.{parts, any-part, frame_of, IsAsked, least-same}
+use Rattle.ics_components.proofs.Bundles.{Bundle, Keeps, Before, falls, top_lines, top_beside, top_observances, bundles_behind, keeps, Before-more}
+use Rattle.ics_components.proofs.Bundles.{Before-later}
+use Rattle.ics_components.proofs.Bundles.{innermost-behind}
+use Rattle.ics_components.proofs.Frames.{frames_of, top_of, with, Closes, frames-behind, fault-top, check-top, based}
+use Rattle.ics_components.proofs.Order.{last-more}
+use Rattle.ics_components.proofs.Order.{Falls, Absent, below, gone, lines_in-whole}
+use Rattle.ics_components.proofs.Order.{Sort, ended_as, ended_from, nested}
+use Rattle.ics_components.proofs.Ended.{events, zones, Picks, events-picked, zones-picked, picked-same, IsMatched}
+
+-- WHERE THE LINES END.
+lowest-is : (whole before up : List Placed) (path : List Open) (bundles : List Bundle) → Keeps before up path bundles →
+    is_lowest (frames_of whole path bundles) ≡ no_open path
+lowest-is whole before up [] bundles k = refl
+lowest-is whole before up (c ∷ cs) [] k = absurd k
+lowest-is whole before up (c ∷ []) (b ∷ bs) k = refl
+lowest-is whole before up (c ∷ d ∷ ds) (b ∷ []) k = absurd k.1
+lowest-is whole before up (c ∷ d ∷ ds) (b ∷ e ∷ es) k = refl
+
+fault_at_end-more : (before : List Placed) (l : Placed) → fault_at_end (before ++ l ∷ []) ≡ end_fault (Some l)
+fault_at_end-more before l = ap end_fault (last-more before l)
+
+end-is-known : (whole before : List Placed) (l : Placed) (bundles : List Bundle) → Keeps (before ++ l ∷ []) [] (path_behind l) bundles →
+    at_end (frames_of whole (path_behind l) bundles) (Some l.number) ≡ fault_at_end (before ++ l ∷ [])
+end-is-known whole before l bundles k =
+    ap (λ t. cond t None (Some (record { line = l.number + 1; kind = BadNesting }))) (lowest-is whole (before ++ l ∷ []) [] (path_behind l) bundles k)
+    ∙ sym (fault_at_end-more before l)
+
+-- WHAT IS GATHERED of the lines, given those before.
+abbrev pub later_by : Option Parts → Frame → Option DeferredCheck
+later_by None f = None
+later_by (Some parts) f = check_in (name_of (map upper parts.name)) parts f
+
+abbrev pub checks_on : List Placed → List Placed → Placed → List LineCheck
+checks_on whole beside line = checks_of line.number (later_by line.content (frame_of whole line.path beside))
+
+abbrev pub checks_from : List Placed → List Placed → List Placed → List LineCheck
+checks_from whole before [] = []
+checks_from whole before (line ∷ lines) = checks_on whole (beside before line) line ++ checks_from whole (before ++ line ∷ []) lines
+
+abbrev pub lists : List EndedZone → List EndedEvent → List LineCheck → GatheredSeen
+lists zs es ws = record { zones = zs; events = es; checks = ws }
+
+abbrev pub gathered_from : List Placed → GatheredSeen → List Placed → List Placed → GatheredSeen
+gathered_from whole had before lines =
+    lists (had.zones ++ ended_from (zones whole) before lines) (had.events ++ ended_from events before lines) (had.checks ++ checks_from whole before lines)
+
+pub three : {zs ys : List EndedZone} {es fs : List EndedEvent} {ws vs : List LineCheck} → zs ≡ ys → es ≡ fs → ws ≡ vs → lists zs es ws ≡ lists ys fs vs
+three z e w = rw (z, e, w) refl
+
+gathered-none : (whole : List Placed) (had : GatheredSeen) (before : List Placed) → had ≡ gathered_from whole had before []
+gathered-none whole had before = three (sym (append-nil had.zones)) (sym (append-nil had.events)) (sym (append-nil had.checks))
+
+-- what is added by a line, and then by those behind it
+module _ {X : Type 0} where
+  further : (had here more rest : List X) → more ≡ here → (had ++ more) ++ rest ≡ had ++ (here ++ rest)
+  further had here more rest e = ap (λ m. (had ++ m) ++ rest) e ∙ append_assoc had here rest
+
+-- THE PASS.
+abbrev pub refused : {X : Type 0} → ℕ → Option FaultKind → Result X Fault → Result X Fault
+refused number (Some kind) later = Err (record { line = number; kind = kind })
+refused number None later = later
+
+passes : {X : Type 0} (number : ℕ) (kind : Option FaultKind) (first : Option Fault) (x : X) →
+    refused number kind (unless first x) ≡ unless (found number kind first) x
+passes number (Some k) first x = refl
+passes number None first x = refl
+
+-- Where the pass is: at lines behind those before them, with the components that are open, and a bundle of lines for each.
+record IsAt (whole before : List Placed) (bundles : List Bundle) (path : List Open) (n : ℕ) (lines : List Line) : Type 0 where
+  pub parts : whole ≡ before ++ placed_from path lines
+  pub kept : Keeps before [] path bundles
+  pub earlier : Before (n + 1) before
+  pub inner : innermost path ≤ n
+  pub rises : Rises n lines
+
+-- the same on a line and before those behind it
+record IsOn (whole before : List Placed) (bundles : List Bundle) (l : Placed) (lines : List Line) : Type 0 where
+  pub parts : whole ≡ before ++ l ∷ placed_from (path_behind l) lines
+  pub kept : Keeps before [] l.path bundles
+  pub earlier : Before l.number before
+  pub inner : innermost l.path < l.number
+  pub rises : Rises l.number lines
+
+abbrev Known : List Line → Type 0
+Known lines =
+    (whole before : List Placed) (bundles : List Bundle) (path : List Open) (n : ℕ) (last : Option ℕ) (had : GatheredSeen) →
+    IsAt whole before bundles path n lines → at_end (frames_of whole path bundles) last ≡ fault_at_end before →
+    pass (frames_of whole path bundles) last had lines
+    ≡ unless (first_from stands fault_at_end before (placed_from path lines)) (gathered_from whole had before (placed_from path lines))
+
+abbrev pub with_content : Line → List Open → Option Parts → Placed
+with_content line path o = record { number = line.number; content = o; path = path }
+
+module _ (whole before : List Placed) (line : Line) (path : List Open) (v : Parts) (bundles : List Bundle) (k : Keeps before [] path bundles) where
+  abbrev l : Placed
+  l = with line path v
+
+  abbrev n : Name
+  n = name_of (map upper v.name)
+
+  abbrev frames : List Frame
+  frames = frames_of whole path bundles
+
+  beside-top : top_of whole path bundles ≡ frame_of whole path (beside before l)
+  beside-top = ap (frame_of whole path) (top_beside before l bundles k)
+
+  -- a line adds what ends there as its component says, and what is checked there in the second round
+  ends-same : {X : Type 0} (s : Sort X) (pick : Ended → List X) → Picks whole s pick → IsMatched l → pick (ends n frames) ≡ ended_as s (beside before l) l
+  ends-same s pick picks m =
+      picked-same whole s pick picks line v before path bundles k m ∙ ap (λ ls. ended_as s ls l) (top_beside before l bundles k)
+
+  gathered-step : (had : GatheredSeen) (rest : List Placed) → IsMatched l →
+      gathered_from whole (and_passed line.number (passing n v frames) had) (before ++ l ∷ []) rest ≡ gathered_from whole had before (l ∷ rest)
+  gathered-step had rest m =
+      three
+      (further had.zones (ended_as (zones whole) (beside before l) l) (zones_of_end (ends n frames)) (ended_from (zones whole) (before ++ l ∷ []) rest)
+      (ends-same (zones whole) zones_of_end (zones-picked whole) m))
+      (further had.events (ended_as events (beside before l) l) (events_of_end (ends n frames)) (ended_from events (before ++ l ∷ []) rest)
+      (ends-same events events_of_end (events-picked whole) m))
+      (further had.checks (checks_on whole (beside before l) l) (checks_of line.number (check_on n v frames)) (checks_from whole (before ++ l ∷ []) rest)
+      (ap (checks_of line.number) (check-top whole before n v path bundles k ∙ ap (check_in n v) beside-top)))
+
+  -- the lines of a component all stand before its END
+  closes-here : (lines : List Line) → whole ≡ before ++ l ∷ placed_from (path_behind l) lines → innermost path < line.number →
+      Rises line.number lines → Closes whole before l
+  closes-here lines w less r c cs p e =
+      let rest : List Placed = placed_from (path_behind l) lines in
+      let f : Falls (c ∷ cs) = subst (λ (q : List Open). Falls q) p (falls before [] path bundles k) in
+      let at : innermost path ≡ c.begun = ap innermost p in
+      let absent : Absent c.begun (path_behind l) = subst (λ (q : List Open). Absent c.begun q) (sym e) (below c.begun cs f.1 f.0) in
+      let none : lines_in c.begun rest ≡ [] =
+      gone c.begun (omega (arith, f.0)) line.number (path_behind l) lines (omega (arith, at, less)) absent r in
+      ap (lines_in c.begun) w ∙ ap (λ b. lines_in b (before ++ l ∷ rest)) (sym at) ∙ lines_in-whole before l rest (ap (λ b. lines_in b rest) at ∙ none)
+      ∙ ap (λ b. lines_in b before ++ l ∷ []) at
+
+-- a line without a fault, and one with
+pub on-line-is : (number : ℕ) (o : Option FaultKind) (fs : List Frame) (p : Passed) (had : GatheredSeen) (later : Going) →
+    on_line number (fine o (fs, p)) had later ≡ refused number o (later fs (and_passed number p had))
+on-line-is number None fs p had later = refl
+on-line-is number (Some k) fs p had later = refl
+
+where-fine : {X : Type 0} (number : ℕ) (kind : Option FaultKind) (a b : Result X Fault) → (kind ≡ None → a ≡ b) → refused number kind a ≡ refused number kind b
+where-fine number None a b e = e refl
+where-fine number (Some k) a b e = refl
+
+step : (line : Line) {lines : List Line} → Known lines → (o : Option Parts) {whole before : List Placed} {bundles : List Bundle} {path : List Open} →
+    IsOn whole before bundles (with_content line path o) lines → (had : GatheredSeen) →
+    on_content line.number o (frames_of whole path bundles) had (λ frames had. pass frames (Some line.number) had lines)
+    ≡ unless (first_from stands fault_at_end before (with_content line path o ∷ placed_from (path_behind (with_content line path o)) lines))
+    (gathered_from whole had before (with_content line path o ∷ placed_from (path_behind (with_content line path o)) lines))
+step line again None on had = refl
+step line {lines} again (Some v) {whole} {before} {bundles} {path} on had =
+    let l : Placed = with line path v in
+    let m : Name = name_of (map upper v.name) in
+    let frames : List Frame = frames_of whole path bundles in
+    let go : Going = λ frames had. pass frames (Some line.number) had lines in
+    let more : Before (line.number + 1) (before ++ l ∷ []) =
+    Before-more (line.number + 1) before l (Before-later line.number (line.number + 1) before (omega arith) on.earlier) (omega (arith, on.inner)) in
+    let kept : Keeps (before ++ l ∷ []) [] (path_behind l) (bundles_behind l bundles) = keeps before l bundles on.earlier on.inner on.kept in
+    let asked : IsAsked whole path (beside before l) =
+    λ z. subst (λ (ls : List Placed). list_any begins_observance ls ≡ not (length (parts whole ls) == 0)) (top_beside before l bundles on.kept)
+    (top_observances before path bundles on.kept z ∙ any-part whole (top_lines bundles)) in
+    let first : Option FaultKind = find (λ kind. stands kind (beside before l) l) kinds in
+    let least : fault_on m v frames ≡ first =
+    fault-top whole before m v path bundles on.kept
+    ∙ ap (λ f. fault_in m v f (length path)) (beside-top whole before line path v bundles on.kept)
+    ∙ sym (least-same whole path line.number v (beside before l) asked) in
+    let rest : List Placed = placed_from (path_behind l) lines in
+    let first_behind : Option Fault = first_from stands fault_at_end (before ++ l ∷ []) rest in
+    let now : GatheredSeen = and_passed line.number (passing m v frames) had in
+    ap (λ r. on_line line.number r had go) (line-is line.number m v frames (based whole before path bundles [] on.kept))
+    ∙ on-line-is line.number (fault_on m v frames) (behind line.number m v frames) (passing m v frames) had go
+    ∙ ap (λ k. refused line.number k (go (behind line.number m v frames) now)) least
+    ∙ ap (λ fs. refused line.number first (go fs now))
+    (sym (frames-behind whole before line path v bundles on.kept (closes-here whole before line path v bundles on.kept lines on.parts on.inner on.rises)))
+    ∙ ap (refused line.number first)
+    (again whole (before ++ l ∷ []) (bundles_behind l bundles) (path_behind l) line.number (Some line.number) now
+    (record {
+      parts = on.parts ∙ sym (append_assoc before (l ∷ []) rest);
+      kept = kept;
+      earlier = more;
+      inner = innermost-behind l on.inner bundles before on.kept;
+      rises = on.rises;
+    })
+    (end-is-known whole before l (bundles_behind l bundles) kept))
+    ∙ where-fine line.number first (unless first_behind (gathered_from whole now (before ++ l ∷ []) rest))
+    (unless first_behind (gathered_from whole had before (l ∷ rest)))
+    (λ none. ap (unless first_behind) (gathered-step whole before line path v bundles on.kept had rest (nested (λ kind. stands kind (beside before l) l) none)))
+    ∙ passes line.number first first_behind (gathered_from whole had before (l ∷ rest))
+
+-- THE PASS SAYS WHAT THE LINES ARE.
+pass-lines : (lines : List Line) → Known lines
+pass-lines [] whole before bundles path n last had at e =
+    ap (λ f. unless f had) e ∙ ap (unless (fault_at_end before)) (gathered-none whole had before)
+pass-lines (line ∷ lines) whole before bundles path n last had at e =
+    step line (pass-lines lines) (content_of line.bytes)
+    (record {
+      parts = at.parts;
+      kept = at.kept;
+      earlier = Before-later (n + 1) line.number before (omega (arith, at.rises.0)) at.earlier;
+      inner = omega (arith, at.inner, at.rises.0);
+      rises = at.rises.1;
+    })
+    had
+
+-- below all components
+nowhere : Placed
+nowhere = record { number = 0; content = None; path = [] }
+
+pub pass-whole : (lines : List Line) → Rises 0 lines →
+    pass (bottom ∷ []) None nothing_gathered lines
+    ≡ unless (first_fault (placed_from [] lines)) (gathered_from (placed_from [] lines) nothing_gathered [] (placed_from [] lines))
+pass-whole lines r =
+    pass-lines lines (placed_from [] lines) [] (record { begin = nowhere; lines = [] } ∷ []) [] 0 None nothing_gathered
+    (record { parts = refl; kept = refl; earlier = tt; inner = omega arith; rises = r }) refl
+
+-- there is a number after that of each line
+pub fits-from_within : (n : ℕ) (lines : List Line) → n + 1 < 2 ^ 64 → Within n lines → NumbersFit lines
+fits-from_within n [] l h = tt
+fits-from_within n (line ∷ lines) l h = (omega (arith, l, h.0), fits-from_within n lines l h.1)

@@ -1,0 +1,24 @@
+use Rattle.std.proofs.Common.{◌≡◌, ◌+◌, ◌∷◌, [], List, length, arith, sym, None, Result, Ok, Err, IfOk}
+use Rattle.ics_text.specs.Unfolded.{Line, unfolded}
+use Rattle.ics_components.specs.FirstFault.{Fault}
+use Rattle.ics_components.specs.Gathered.{nothing_gathered, IsSoundGathered}
+use Rattle.ics_components.specs.GatheredSeen.{GatheredSeen}
+use Rattle.ics_components.specs.Pass.{pass, bottom}
+use Rattle.ics_components.proofs.PassSound.{sound-pass}
+use Rattle.ics_components.proofs.PassLemmas.{fits-from_within}
+use Rattle.ics_components.proofs.first_round.gather.Goals as goal
+
+pub pass_lines-requires : goal.pass_lines-requires
+pass_lines-requires c =
+    rw c.in-Ok.ensures.lines (fits-from_within (length c.args.bytes.now + 1) (unfolded c.args.bytes.now) (omega (arith, c.requires))
+    (c.numbers_within.ensures c.args.bytes.now))
+
+-- what is gathered is sound, unless memory is refused
+sound : {E : Type 0} (lines : List Line) (answer : Result (Result GatheredSeen Fault) E) →
+    IfOk answer (λ gathered. gathered ≡ pass (bottom ∷ []) None nothing_gathered lines) → IfOk answer (λ gathered. IfOk gathered IsSoundGathered)
+sound lines (Ok (Ok g)) e = sound-pass lines g (sym e)
+sound lines (Ok (Err fault)) e = tt
+sound lines (Err e) h = tt
+
+pub returns-clause-sound : goal.returns-clause-sound
+returns-clause-sound c = sound c.in-Ok.lines c.pass_lines.result c.pass_lines.ensures

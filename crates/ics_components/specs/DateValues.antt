@@ -1,0 +1,106 @@
+-- What the values of an RDATE or an EXDATE say (RFC 5545, sections 3.8.5.1 and 3.8.5.2).
+use Rattle.std.specs.Prelude.{◌≡◌, ℕ, Bool, true, false, ◌||◌, not, ◌==◌, List, map, Option, Some, None, Result, Ok, Err, if◌then◌else◌}
+use Rattle.std.specs.List.{list_any}
+use Rattle.ics_values.specs.Periods as period
+use Rattle.ics_values.specs.Periods.{first_half, second_half, lasts}
+use Rattle.ics_values.specs.RuleTexts.{pieces}
+use Rattle.ics_values.specs.Stamps.{is_date_time_form, stamp_of}
+use Rattle.ics_values.specs.declared.period.Period.{Period}
+use Rattle.ics_values.specs.declared.period.PeriodEnd.{PeriodEnd}
+use Rattle.ics_values.specs.declared.period.PeriodEnd.TheVariants as end
+use Rattle.ics_values.specs.declared.stamp.Stamp.{Stamp}
+use Rattle.ics_values.specs.declared.stamp.Stamp.TheVariants.{Floating}
+use Rattle.ics_values.specs.declared.stamp.StampFault.{StampFault}
+use Rattle.ics_values.specs.declared.stamp.StampFault.TheVariants as stamp
+use Rattle.ics_components.specs.declared.date_values.DateValue.{DateValue}
+use Rattle.ics_components.specs.declared.date_values.DateValue.TheVariants.{At, Between, Lasting}
+use Rattle.ics_components.specs.declared.date_list.ListedDate.{ListedDate}
+use Rattle.ics_components.specs.declared.date_list.ListedDate.TheVariants as listed
+use Rattle.ics_values.specs.Zoned.{is_zoned}
+use Rattle.ics_components.specs.Values.{stamp_in, duration_in, is_bad_stamp, is_far_stamp, lasting_of, is_bad_duration, is_large_duration}
+
+-- a half of a PERIOD that is a stamp: no DATE
+abbrev pub date_time_of : Bool → List ℕ → Result Stamp StampFault
+date_time_of zoned text = if is_date_time_form text then stamp_of zoned text else Err stamp.BadStamp
+
+-- A PERIOD, by its halves: the second is a duration if it begins as one, and else a stamp.
+abbrev pub period_of : Bool → List ℕ → List ℕ → DateValue
+period_of zoned start end =
+    if lasts end then Lasting (date_time_of zoned start) (lasting_of end)
+    else Between (date_time_of zoned start) (date_time_of zoned end)
+
+abbrev pub has_slash : List ℕ → Bool
+has_slash text = list_any (λ b. b == 47) text
+
+-- A value of an RDATE is a stamp, or a PERIOD where it has a `/`, and one of an EXDATE is a stamp; `zoned` says that a TZID stands beside it.
+abbrev pub rdate_of : Bool → List ℕ → DateValue
+rdate_of zoned text = if has_slash text then period_of zoned (first_half text) (second_half text) else At (stamp_of zoned text)
+
+abbrev pub exdate_of : Bool → List ℕ → DateValue
+exdate_of zoned text = At (stamp_of zoned text)
+
+-- the values between the commas
+abbrev pub rdates_of : Bool → List ℕ → List DateValue
+rdates_of zoned text = map (rdate_of zoned) (pieces 44 text)
+
+abbrev pub exdates_of : Bool → List ℕ → List DateValue
+exdates_of zoned text = map (exdate_of zoned) (pieces 44 text)
+
+-- which faults a value has
+abbrev pub has_bad_stamp : DateValue → Bool
+has_bad_stamp (At stamp) = is_bad_stamp stamp
+has_bad_stamp (Between start end) = is_bad_stamp start || is_bad_stamp end
+has_bad_stamp (Lasting start duration) = is_bad_stamp start
+
+abbrev pub has_far_stamp : DateValue → Bool
+has_far_stamp (At stamp) = is_far_stamp stamp
+has_far_stamp (Between start end) = is_far_stamp start || is_far_stamp end
+has_far_stamp (Lasting start duration) = is_far_stamp start
+
+abbrev pub has_bad_duration : DateValue → Bool
+has_bad_duration (Lasting start duration) = is_bad_duration duration
+has_bad_duration _ = false
+
+abbrev pub has_large_duration : DateValue → Bool
+has_large_duration (Lasting start duration) = is_large_duration duration
+has_large_duration _ = false
+
+-- what a value says that has no fault
+abbrev pub listed_in : DateValue → ListedDate
+listed_in (At stamp) = listed.At (stamp_in stamp)
+listed_in (Between start end) = listed.Between (stamp_in start) (stamp_in end)
+listed_in (Lasting start duration) = listed.Lasting (stamp_in start) (duration_in duration)
+
+abbrev pub listed_said : DateValue → Option ListedDate
+listed_said (At (Ok stamp)) = Some (listed.At stamp)
+listed_said (Between (Ok start) (Ok end)) = Some (listed.Between start end)
+listed_said (Lasting (Ok start) (Ok duration)) = Some (listed.Lasting start duration)
+listed_said _ = None
+
+-- a PERIOD as a value of an RDATE
+abbrev ended_by : Stamp → PeriodEnd → ListedDate
+ended_by start (end.At stamp) = listed.Between start stamp
+ended_by start (end.Lasting duration) = listed.Lasting start duration
+
+abbrev pub listed_by : Period → ListedDate
+listed_by p = ended_by p.start p.end
+
+-- The reader of periods, and the reader of an RDATE's values: if both accept a text, they read the same.
+abbrev pub OnePeriod : Type 0
+OnePeriod =
+    (zoned : Bool) (text : List ℕ) (p : Period) (value : ListedDate)
+    → period.period_of zoned text ≡ Ok p → listed_said (rdate_of zoned text) ≡ Some value → value ≡ listed_by p
+
+-- a local stamp beside a TZID
+abbrev pub has_zoned : ListedDate → Bool
+has_zoned (listed.At stamp) = is_zoned stamp
+has_zoned (listed.Between start end) = is_zoned start || is_zoned end
+has_zoned (listed.Lasting start duration) = is_zoned start
+
+-- a local stamp, read without a TZID
+abbrev pub is_local : DateValue → Bool
+is_local (At (Ok (Floating local))) = true
+is_local _ = false
+
+abbrev pub is_not_local : DateValue → Bool
+is_not_local value = not (is_local value)

@@ -1,0 +1,57 @@
+-- What is gathered of a file, line by line, and what holds of it where the first round finds nothing.
+use Rattle.std.specs.Prelude.{ℕ, List, [], ◌∷◌, ◌++◌, Option, Some, None, map}
+use Rattle.std.specs.List.{All, Contains}
+use Rattle.ics_fields.specs.Days.{IsStampDay}
+use Rattle.ics_components.specs.declared.deferred_check.DeferredCheck.{DeferredCheck}
+use Rattle.ics_components.specs.declared.deferred_check.DeferredCheck.TheVariants.{Ends}
+use Rattle.ics_components.specs.declared.deferred_check.Instant.{Instant}
+use Rattle.ics_components.specs.declared.deferred_check.Instant.TheVariants.{Utc, Zoned}
+use Rattle.ics_components.specs.declared.gathered.Ended.{Ended}
+use Rattle.ics_components.specs.declared.gathered.Ended.TheVariants as ended
+use Rattle.ics_components.specs.declared.gathered.EndedEvent.{EndedEvent}
+use Rattle.ics_components.specs.declared.gathered.EndedZone.{EndedZone}
+use Rattle.ics_components.specs.declared.gathered.LineCheck.{LineCheck}
+use Rattle.ics_components.specs.declared.gathered.Passed.{Passed}
+use Rattle.ics_components.specs.GatheredSeen.{GatheredSeen}
+use Rattle.ics_components.specs.Sound.{EachZone, IsWhole, IsSoundZone}
+
+abbrev pub nothing_gathered : GatheredSeen
+nothing_gathered = record { zones = []; events = []; checks = [] }
+
+-- what ends on a line, if it is of the kind
+abbrev pub zones_of_end : Ended → List EndedZone
+zones_of_end (ended.Zone zone) = zone ∷ []
+zones_of_end _ = []
+
+abbrev pub events_of_end : Ended → List EndedEvent
+events_of_end (ended.Event event) = event ∷ []
+events_of_end _ = []
+
+-- a deferred check, with the number of its line
+abbrev pub checks_of : ℕ → Option DeferredCheck → List LineCheck
+checks_of number None = []
+checks_of number (Some check) = record { line = number; check = check } ∷ []
+
+-- WHAT IS GATHERED with what ends on a line more, and the check of that line.
+abbrev pub and_passed : ℕ → Passed → GatheredSeen → GatheredSeen
+and_passed number p had = record {
+  zones = had.zones ++ zones_of_end p.ended;
+  events = had.events ++ events_of_end p.ended;
+  checks = had.checks ++ checks_of number p.check;
+}
+
+-- What is to be read in a time zone lies in the years of stamps.
+abbrev pub IsSoundInstant : Instant → Type 0
+IsSoundInstant (Utc local) = Unit {0}
+IsSoundInstant (Zoned local name) = IsStampDay local.day
+
+abbrev pub IsSoundCheck : DeferredCheck → Type 0
+IsSoundCheck (Ends start end) = IsSoundInstant start × IsSoundInstant end
+IsSoundCheck _ = Unit {0}
+
+-- The second round checks the zones of each event's stamps, and its end against its start.
+pub record IsSoundGathered (g : GatheredSeen) : Type 0 where
+  pub zones : All (λ z. IsSoundZone z.observances) g.zones
+  pub whole : All IsWhole g.events
+  pub awaited : All (EachZone (Contains (map (λ w. w.check) g.checks))) g.events
+  pub sound : All (λ w. IsSoundCheck w.check) g.checks

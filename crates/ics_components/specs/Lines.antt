@@ -1,0 +1,341 @@
+-- What the reader makes of a line: what it has of the components that are open, or the fault on it, which is the least that stands there.
+-- These are the words of the code alone. No public contract cites them: what a file is stands in Faults and Files, and the proofs show that they agree.
+use Rattle.std.specs.Prelude.{ℕ, Bool, false, ◌&&◌, ◌||◌, not, ◌==◌, nat_le, List, [], ◌∷◌, ◌++◌, length, map, filter_map, codes, Option, Some, None, is_some}
+use Rattle.std.specs.Prelude.{Result, Ok, Err, ℤ, ◌≡◌, if◌then◌else◌}
+use Rattle.std.specs.List.{list_any}
+use Rattle.std.specs.Str.{bytes_eq}
+use Rattle.ics_text.specs.Bytes.{upper}
+use Rattle.ics_text.specs.ContentLines.{Parts, param_of}
+use Rattle.ics_values.specs.Integers.{integer_of}
+use Rattle.ics_values.specs.Offsets.{offset_of}
+use Rattle.ics_values.specs.Plain.{text_of}
+use Rattle.ics_fields.specs.RuleParts.{RuleParts}
+use Rattle.ics_values.specs.Rules.{rule_of}
+use Rattle.ics_values.specs.Stamps.{stamp_of}
+use Rattle.ics_values.specs.declared.duration.Duration.{Duration}
+use Rattle.ics_values.specs.declared.duration.DurationFault.{DurationFault}
+use Rattle.ics_values.specs.declared.duration.DurationFault.TheVariants as duration
+use Rattle.ics_values.specs.declared.integer.IntegerFault.{IntegerFault}
+use Rattle.ics_values.specs.declared.integer.IntegerFault.TheVariants as integer
+use Rattle.ics_fields.specs.declared.local.Local.{Local}
+use Rattle.ics_values.specs.declared.offset.BadOffset.{BadOffset}
+use Rattle.ics_values.specs.declared.rule_text.RuleFault.{RuleFault}
+use Rattle.ics_values.specs.declared.rule_text.RuleFault.TheVariants as rule
+use Rattle.ics_values.specs.declared.stamp.Stamp.{Stamp}
+use Rattle.ics_values.specs.declared.stamp.StampFault.{StampFault}
+use Rattle.ics_values.specs.declared.stamp.StampFault.TheVariants as stamp_fault
+use Rattle.ics_components.specs.declared.event_builder.EventBuilder.{EventBuilder}
+use Rattle.ics_components.specs.declared.component.Component.{Component}
+use Rattle.ics_components.specs.declared.component.Component.TheVariants as component
+use Rattle.ics_components.specs.declared.component.Context.{Context}
+use Rattle.ics_components.specs.declared.component.Context.TheVariants as context
+use Rattle.ics_components.specs.declared.date_values.DateValue.{DateValue}
+use Rattle.ics_components.specs.declared.date_values.DateValue.TheVariants.{At}
+use Rattle.ics_components.specs.declared.fault.FaultKind.{FaultKind}
+use Rattle.ics_components.specs.declared.fault.FaultKind.TheVariants as kind
+use Rattle.ics_components.specs.declared.frame.Frame.{Frame}
+use Rattle.ics_components.specs.declared.gathered.Ended.{Ended}
+use Rattle.ics_components.specs.declared.gathered.Ended.TheVariants as ended
+use Rattle.ics_components.specs.declared.gathered.Passed.{Passed}
+use Rattle.ics_components.specs.declared.deferred_check.DeferredCheck.{DeferredCheck}
+use Rattle.ics_components.specs.declared.name.Name.{Name}
+use Rattle.ics_components.specs.declared.name.Name.TheVariants as name
+use Rattle.ics_components.specs.declared.refused.Refused.{Refused}
+use Rattle.ics_components.specs.declared.refused.Refused.TheVariants.{Memory, Fault}
+use Rattle.ics_components.specs.declared.builder.ObservanceBuilder.{ObservanceBuilder}
+use Rattle.ics_components.specs.declared.builder.Builder.{Builder}
+use Rattle.ics_components.specs.declared.builder.Builder.TheVariants as builder
+use Rattle.ics_components.specs.declared.builder.ZoneBuilder.{ZoneBuilder}
+use Rattle.ics_components.specs.Builders.{event_ended, fresh, zone_ended, observance_ended}
+use Rattle.ics_components.specs.Components.{component_of, component_name, context_in}
+use Rattle.ics_components.specs.DateLists.{rdate_list, exdate_list}
+use Rattle.ics_components.specs.DateValues.{rdates_of, exdates_of, has_bad_stamp, has_far_stamp, has_bad_duration, has_large_duration, is_not_local}
+use Rattle.ics_components.specs.Names.{name_of, gives_dates}
+use Rattle.ics_components.specs.Values.{zone_name, stamp_read, dated_of, lasting_of, duration_in, rule_in, ok_or_zero, is_cancelled, is_fine_rule, is_filled}
+use Rattle.ics_components.specs.Values.{ends_badly}
+use Rattle.ics_components.specs.Observances.{local_in, onset_in, offset_in, daily_in}
+use Rattle.ics_components.specs.SecondRound.{used_zone, listed_zone, ends_in}
+
+-- WHAT A FUNCTION ANSWERS: a value, where no fault stands there, or the fault; nothing is said where memory is refused.
+abbrev pub Gives : {X : Type 0} → Result X Refused → Option FaultKind → X → Type 0
+Gives (Ok x) fault value = (fault ≡ None) × (x ≡ value)
+Gives (Err Memory) fault value = Unit {0}
+Gives (Err (Fault kind)) fault value = fault ≡ Some kind
+
+-- the same of one that changes what it is given, without an answer and with one
+abbrev pub Keeps : {Y : Type 0} → Result Unit Refused → Y → Option FaultKind → Y → Type 0
+Keeps (Ok x) now fault next = (fault ≡ None) × (now ≡ next)
+Keeps (Err Memory) now fault next = Unit {0}
+Keeps (Err (Fault kind)) now fault next = fault ≡ Some kind
+
+abbrev pub Notes : {X Y : Type 0} → Result X Refused → Y → Option FaultKind → Y → X → Type 0
+Notes (Ok x) now fault next value = (fault ≡ None) × (now ≡ next) × (x ≡ value)
+Notes (Err Memory) now fault next value = Unit {0}
+Notes (Err (Fault kind)) now fault next value = fault ≡ Some kind
+
+abbrev pub Makes : {X Y : Type 0} → Result X Refused → Y → Result (Y × X) FaultKind → Type 0
+Makes (Ok x) now said = said ≡ Ok (now, x)
+Makes (Err Memory) now said = Unit {0}
+Makes (Err (Fault kind)) now said = said ≡ Err kind
+
+-- said unless a fault stands there
+abbrev pub unless : {X : Type 0} → Option FaultKind → X → Result X FaultKind
+unless None x = Ok x
+unless (Some kind) x = Err kind
+
+-- the first of several counts
+abbrev pub or_first : {X : Type 0} → Option X → X → Option X
+or_first (Some x) y = Some x
+or_first None y = Some y
+
+-- the lesser fault of two, where the first is less than any second
+abbrev pub first : Option FaultKind → Option FaultKind → Option FaultKind
+first (Some kind) more = Some kind
+first None more = more
+
+abbrev pub fault_if : FaultKind → Bool → Option FaultKind
+fault_if kind bad = if bad then Some kind else None
+
+-- THE FAULTS OF VALUES.
+abbrev pub stamp_kind : StampFault → FaultKind
+stamp_kind stamp_fault.BadStamp = kind.BadStamp
+stamp_kind stamp_fault.YearRange = kind.YearRange
+
+abbrev pub duration_kind : DurationFault → FaultKind
+duration_kind duration.BadDuration = kind.BadDuration
+duration_kind duration.NumberTooLarge = kind.NumberTooLarge
+
+abbrev pub rule_kind : RuleFault → FaultKind
+rule_kind rule.BadRule = kind.BadRule
+rule_kind rule.NumberTooLarge = kind.NumberTooLarge
+
+abbrev pub stamp_fault_of : Result Stamp StampFault → Option FaultKind
+stamp_fault_of (Ok s) = None
+stamp_fault_of (Err fault) = Some (stamp_kind fault)
+
+abbrev pub duration_fault_of : Result Duration DurationFault → Option FaultKind
+duration_fault_of (Ok d) = None
+duration_fault_of (Err fault) = Some (duration_kind fault)
+
+abbrev pub rule_fault_of : Result RuleParts RuleFault → Option FaultKind
+rule_fault_of (Ok parts) = None
+rule_fault_of (Err fault) = Some (rule_kind fault)
+
+abbrev pub offset_fault_of : Result ℤ BadOffset → Option FaultKind
+offset_fault_of (Ok offset) = None
+offset_fault_of (Err fault) = Some kind.BadOffset
+
+-- a SEQUENCE that is no number counts as 0
+abbrev pub number_fault_of : Result ℕ IntegerFault → Option FaultKind
+number_fault_of (Err integer.NumberTooLarge) = Some kind.NumberTooLarge
+number_fault_of _ = None
+
+abbrev pub dates_fault : List DateValue → Option FaultKind
+dates_fault values =
+    if list_any has_bad_stamp values then Some kind.BadStamp
+    else if list_any has_bad_duration values then Some kind.BadDuration
+    else if list_any has_far_stamp values then Some kind.YearRange
+    else if list_any has_large_duration values then Some kind.NumberTooLarge
+    else None
+
+-- A LINE OF AN EVENT: its fault, what is collected behind it, and its check in the second round.
+-- a line that gives dates
+abbrev pub dates_line_fault : Name → Parts → EventBuilder → Option FaultKind
+dates_line_fault name.Dtstart c had = first (stamp_fault_of (stamp_read c.params c.value)) (fault_if kind.Repeated (is_some had.start))
+dates_line_fault name.Dtend c had = first (stamp_fault_of (stamp_read c.params c.value)) (fault_if kind.Repeated (is_some had.end))
+dates_line_fault name.RecurrenceId c had =
+    first (first (stamp_fault_of (stamp_read c.params c.value)) (fault_if kind.Repeated (is_some had.recurrence)))
+    (fault_if kind.ThisAndFuture (is_some (param_of (codes "RANGE") c.params)))
+dates_line_fault name.Rdate c had = dates_fault (rdates_of (is_some (zone_name c.params)) c.value)
+dates_line_fault name.Exdate c had = dates_fault (exdates_of (is_some (zone_name c.params)) c.value)
+dates_line_fault _ c had = None
+
+abbrev pub dates_line_note : Name → Parts → EventBuilder → EventBuilder
+dates_line_note name.Dtstart c had = record had { start = or_first had.start (dated_of c.params c.value) }
+dates_line_note name.Dtend c had = record had { end = or_first had.end (dated_of c.params c.value) }
+dates_line_note name.RecurrenceId c had = record had { recurrence = or_first had.recurrence (dated_of c.params c.value) }
+dates_line_note name.Rdate c had = record had { rdates = had.rdates ++ rdate_list c.params c.value ∷ [] }
+dates_line_note name.Exdate c had = record had { exdates = had.exdates ++ exdate_list c.params c.value ∷ [] }
+dates_line_note _ c had = had
+
+-- a line that gives another value
+abbrev pub value_fault : Name → List ℕ → EventBuilder → Option FaultKind
+value_fault name.Uid v had = fault_if kind.Repeated (is_some had.uid)
+value_fault name.Duration v had = first (duration_fault_of (lasting_of v)) (fault_if kind.Repeated (is_some had.duration))
+value_fault name.Rrule v had = first (rule_fault_of (rule_of v)) (fault_if kind.Repeated (is_some had.rule))
+value_fault name.Sequence v had = first (number_fault_of (integer_of v)) (fault_if kind.Repeated (is_some had.sequence))
+value_fault name.Exrule v had = Some kind.Exrule
+value_fault _ v had = None
+
+abbrev pub value_note : Name → List ℕ → EventBuilder → EventBuilder
+value_note name.Uid v had = record had { uid = or_first had.uid (text_of v) }
+value_note name.Duration v had = record had { duration = or_first had.duration (duration_in (lasting_of v)) }
+value_note name.Rrule v had = record had { rule = or_first had.rule (rule_in (rule_of v)) }
+value_note name.Sequence v had = record had { sequence = or_first had.sequence (ok_or_zero (integer_of v)) }
+value_note name.Summary v had = record had { title = or_first had.title (text_of v) }
+value_note name.Location v had = record had { location = or_first had.location (text_of v) }
+value_note name.Description v had = record had { description = or_first had.description (text_of v) }
+value_note name.Status v had = record had { cancelled = or_first had.cancelled (is_cancelled v) }
+value_note _ v had = had
+
+abbrev pub event_fault : Name → Parts → EventBuilder → Option FaultKind
+event_fault n c had = if gives_dates n then dates_line_fault n c had else value_fault n c.value had
+
+abbrev pub event_note : Name → Parts → EventBuilder → EventBuilder
+event_note n c had = if gives_dates n then dates_line_note n c had else value_note n c.value had
+
+abbrev pub event_check : ℕ → Name → Parts → Option DeferredCheck
+event_check k name.Dtstart c = used_zone k (dated_of c.params c.value)
+event_check k name.Dtend c = used_zone k (dated_of c.params c.value)
+event_check k name.RecurrenceId c = used_zone k (dated_of c.params c.value)
+event_check k name.Rdate c = listed_zone k (rdate_list c.params c.value)
+event_check k name.Exdate c = listed_zone k (exdate_list c.params c.value)
+event_check k _ c = None
+
+-- A LINE OF A TIME ZONE and of an observance.
+abbrev pub zone_fault : Name → Parts → ZoneBuilder → Option FaultKind
+zone_fault name.Tzid c had = fault_if kind.ObservanceField (is_some had.name)
+zone_fault _ c had = None
+
+abbrev pub zone_note : Name → Parts → ZoneBuilder → ZoneBuilder
+zone_note name.Tzid c had = record had { name = or_first had.name (text_of c.value) }
+zone_note _ c had = had
+
+-- the local times of an RDATE
+abbrev pub locals_fault : List ℕ → Option FaultKind
+locals_fault v = first (dates_fault (rdates_of false v)) (fault_if kind.ObservanceField (list_any is_not_local (rdates_of false v)))
+
+abbrev pub locals_of : List ℕ → List Local
+locals_of v = filter_map local_in (rdates_of false v)
+
+abbrev pub observance_fault : Name → Parts → ObservanceBuilder → Option FaultKind
+observance_fault name.Dtstart c had =
+    first (first (stamp_fault_of (stamp_of false c.value)) (fault_if kind.ObservanceField (is_not_local (At (stamp_of false c.value)))))
+    (fault_if kind.ObservanceField (is_some had.start))
+observance_fault name.OffsetFrom c had = first (offset_fault_of (offset_of c.value)) (fault_if kind.ObservanceField (is_some had.from))
+observance_fault name.OffsetTo c had = first (offset_fault_of (offset_of c.value)) (fault_if kind.ObservanceField (is_some had.to))
+observance_fault name.Rrule c had =
+    first (first (rule_fault_of (rule_of c.value)) (fault_if kind.ZoneRule (is_fine_rule (rule_of c.value)))) (fault_if kind.ZoneRule (is_some had.rule))
+observance_fault name.Rdate c had = locals_fault c.value
+observance_fault _ c had = None
+
+abbrev pub observance_note : Name → Parts → ObservanceBuilder → ObservanceBuilder
+observance_note name.Dtstart c had = record had { start = or_first had.start (onset_in (stamp_of false c.value)) }
+observance_note name.OffsetFrom c had = record had { from = or_first had.from (offset_in (offset_of c.value)) }
+observance_note name.OffsetTo c had = record had { to = or_first had.to (offset_in (offset_of c.value)) }
+observance_note name.Rrule c had = record had { rule = or_first had.rule (daily_in (rule_of c.value)) }
+observance_note name.Rdate c had = record had { rdates = had.rdates ++ locals_of c.value }
+observance_note _ c had = had
+
+abbrev pub calendar_fault : Name → Parts → Option FaultKind
+calendar_fault name.Version c = fault_if kind.OldVersion (bytes_eq c.value (codes "1.0"))
+calendar_fault _ c = None
+
+-- a line of a component of which nothing is collected
+abbrev pub plain_fault : Context → Name → Parts → Option FaultKind
+plain_fault context.Outside n c = Some kind.NotCalendar
+plain_fault context.Calendar n c = calendar_fault n c
+plain_fault _ n c = None
+
+-- A LINE OF ANY COMPONENT, which begins and ends none.
+abbrev pub builder_fault : Context → Name → Parts → Builder → Option FaultKind
+builder_fault q n c (builder.Event had) = event_fault n c had
+builder_fault q n c (builder.Zone had) = zone_fault n c had
+builder_fault q n c (builder.Observance had) = observance_fault n c had
+builder_fault q n c builder.Nothing = plain_fault q n c
+
+abbrev pub builder_note : Name → Parts → Builder → Builder
+builder_note n c (builder.Event had) = builder.Event (event_note n c had)
+builder_note n c (builder.Zone had) = builder.Zone (zone_note n c had)
+builder_note n c (builder.Observance had) = builder.Observance (observance_note n c had)
+builder_note n c builder.Nothing = builder.Nothing
+
+abbrev pub builder_check : ℕ → Name → Parts → Builder → Option DeferredCheck
+builder_check k n c (builder.Event had) = event_check k n c
+builder_check k n c _ = None
+
+-- WHAT A COMPONENT IS at its END, and its check in the second round.
+abbrev pub end_of_event : EventBuilder → Option FaultKind
+end_of_event had =
+    if not (is_filled had.uid) then Some kind.MissingUid
+    else if not (is_some had.start) then Some kind.MissingStart
+    else if (is_some had.end && is_some had.duration) || ends_badly had.start had.end then Some kind.BadEnd
+    else None
+
+abbrev pub end_of_zone : ZoneBuilder → Option FaultKind
+end_of_zone had =
+    if length had.observances == 0 then Some kind.NoObservance
+    else if not (is_some had.name) then Some kind.ObservanceField
+    else None
+
+abbrev pub end_of_observance : ObservanceBuilder → Option FaultKind
+end_of_observance had = if is_some had.start && is_some had.from && is_some had.to then None else Some kind.ObservanceField
+
+abbrev pub passed : Ended → Option DeferredCheck → Passed
+passed end check = record { ended = end; check = check }
+
+abbrev pub fault_at_end_of : Builder → Option FaultKind
+fault_at_end_of (builder.Event had) = end_of_event had
+fault_at_end_of (builder.Zone had) = end_of_zone had
+fault_at_end_of (builder.Observance had) = end_of_observance had
+fault_at_end_of builder.Nothing = None
+
+abbrev pub ended_as : ℕ → Builder → Ended
+ended_as k (builder.Event had) = ended.Event (event_ended k had)
+ended_as k (builder.Zone had) = ended.Zone (zone_ended k had)
+ended_as k _ = ended.Nothing
+
+-- what becomes of the component in which it ends: a time zone keeps an observance
+abbrev pub joined : Builder → Builder → Builder
+joined (builder.Observance had) (builder.Zone outer) = builder.Zone (record outer { observances = outer.observances ++ observance_ended had ∷ [] })
+joined _ outer = outer
+
+abbrev pub end_check : ℕ → Builder → Option DeferredCheck
+end_check k (builder.Event had) = ends_in k had.start had.end
+end_check k _ = None
+
+abbrev pub frame_fault : List ℕ → Frame → Option FaultKind
+frame_fault w f = if bytes_eq w (component_name f.component) then fault_at_end_of f.builder else Some kind.BadNesting
+
+-- WHAT A LINE MAKES of the components that are open, the innermost first.
+-- the calendar of a component that begins on that line: the outermost component, or that itself
+abbrev pub calendar_in : ℕ → List Frame → ℕ
+calendar_in number [] = number
+calendar_in number (f ∷ []) = number
+calendar_in number (f ∷ g ∷ gs) = f.calendar
+
+abbrev pub opened : ℕ → Component → List Frame → List Frame
+opened number c [] = []
+opened number c (f ∷ fs) =
+    let q : Context = context_in f.context c in
+    record { component = c; context = q; calendar = calendar_in number (f ∷ fs); builder = fresh q } ∷ f ∷ fs
+
+abbrev pub outside_fault : Context → Component → Option FaultKind
+outside_fault context.Outside component.Calendar = None
+outside_fault context.Outside _ = Some kind.NotCalendar
+outside_fault _ c = None
+
+abbrev pub begin_fault : Component → List Frame → Option FaultKind
+begin_fault c [] = None
+begin_fault c (f ∷ fs) = first (outside_fault f.context c) (fault_if kind.TooDeep (nat_le 32 (length fs)))
+
+abbrev pub end_line : List ℕ → List Frame → Result (List Frame × Passed) FaultKind
+end_line w (f ∷ g ∷ gs) =
+    unless (frame_fault w f)
+    (record g { builder = joined f.builder g.builder } ∷ gs, passed (ended_as f.calendar f.builder) (end_check f.calendar f.builder))
+end_line w _ = Err kind.NotCalendar
+
+abbrev pub inner_line : Name → Parts → List Frame → Result (List Frame × Passed) FaultKind
+inner_line n c [] = Err kind.NotCalendar
+inner_line n c (f ∷ fs) =
+    unless (builder_fault f.context n c f.builder)
+    (record f { builder = builder_note n c f.builder } ∷ fs, passed ended.Nothing (builder_check f.calendar n c f.builder))
+
+abbrev pub named_line : ℕ → Name → Parts → List Frame → Result (List Frame × Passed) FaultKind
+named_line number name.Begin c frames =
+    unless (begin_fault (component_of (map upper c.value)) frames) (opened number (component_of (map upper c.value)) frames, passed ended.Nothing None)
+named_line number name.End c frames = end_line (map upper c.value) frames
+named_line number n c frames = inner_line n c frames
+
+abbrev pub line_in : ℕ → Parts → List Frame → Result (List Frame × Passed) FaultKind
+line_in number c frames = named_line number (name_of (map upper c.name)) c frames

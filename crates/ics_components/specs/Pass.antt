@@ -1,0 +1,78 @@
+-- One pass over the lines with the components that are open, the innermost first, each with what has been read of it.
+-- These are the words of the code alone. No public contract cites them.
+use Rattle.std.specs.Prelude.{ℕ, ◌+◌, Bool, true, false, List, [], ◌∷◌, Option, Some, None, Result, Ok, Err, if◌then◌else◌, ◌≡◌, ◌<◌, ◌^◌}
+use Rattle.ics_text.specs.Unfolded.{Line, unfolded, begins_with_fold}
+use Rattle.ics_text.specs.ContentLines.{Parts, content_of}
+use Rattle.ics_components.specs.declared.component.Component.TheVariants as component
+use Rattle.ics_components.specs.declared.component.Context.TheVariants as context
+use Rattle.ics_components.specs.declared.fault.Fault.{Fault}
+use Rattle.ics_components.specs.declared.fault.FaultKind.{FaultKind}
+use Rattle.ics_components.specs.declared.fault.FaultKind.TheVariants as kind
+use Rattle.ics_components.specs.declared.frame.Frame.{Frame}
+use Rattle.ics_components.specs.declared.gathered.Passed.{Passed}
+use Rattle.ics_components.specs.declared.builder.Builder.TheVariants as builder
+use Rattle.ics_components.specs.GatheredSeen.{GatheredSeen}
+use Rattle.ics_components.specs.FirstFault.{bad_fold}
+use Rattle.ics_components.specs.Gathered.{nothing_gathered, and_passed}
+use Rattle.ics_components.specs.Lines.{line_in}
+use Rattle.ics_components.specs.declared.first_round.FirstRound.{FirstRound}
+use Rattle.ics_components.specs.declared.refused.Refused.{Refused}
+use Rattle.ics_components.specs.declared.refused.Refused.TheVariants as refused
+
+-- below all components
+abbrev pub bottom : Frame
+bottom = record { component = component.Other []; context = context.Outside; calendar = 0; builder = builder.Nothing }
+
+-- WHERE THE LINES END, given the number of the last one.
+abbrev pub is_lowest : List Frame → Bool
+is_lowest [] = true
+is_lowest (f ∷ []) = true
+is_lowest (f ∷ g ∷ gs) = false
+
+abbrev pub at_end : List Frame → Option ℕ → Option Fault
+at_end frames None = Some (record { line = 1; kind = kind.NotCalendar })
+at_end frames (Some last) = if is_lowest frames then None else Some (record { line = last + 1; kind = kind.BadNesting })
+
+-- THE PASS is the first round alone. It gathers what ends, and the checks of the second round.
+abbrev pub unless : {X : Type 0} → Option Fault → X → Result X Fault
+unless (Some fault) answer = Err fault
+unless None answer = Ok answer
+
+abbrev pub Going : Type 0
+Going = List Frame → GatheredSeen → Result GatheredSeen Fault
+
+abbrev pub on_line : ℕ → Result (List Frame × Passed) FaultKind → GatheredSeen → Going → Result GatheredSeen Fault
+on_line number (Ok r) had later = later r.0 (and_passed number r.1 had)
+on_line number (Err kind) had later = Err (record { line = number; kind = kind })
+
+abbrev pub on_content : ℕ → Option Parts → List Frame → GatheredSeen → Going → Result GatheredSeen Fault
+on_content number None frames had later = Err (record { line = number; kind = kind.BadLine })
+on_content number (Some parts) frames had later = on_line number (line_in number parts frames) had later
+
+abbrev pub pass : List Frame → Option ℕ → GatheredSeen → List Line → Result GatheredSeen Fault
+pass frames last had [] = unless (at_end frames last) had
+pass frames last had (line ∷ lines) = on_content line.number (content_of line.bytes) frames had (λ frames had. pass frames (Some line.number) had lines)
+
+-- What the first round gathers of a file, or its first fault.
+abbrev pub gathered_of : List ℕ → Result GatheredSeen Fault
+gathered_of file = if begins_with_fold file then Err bad_fold else pass (bottom ∷ []) None nothing_gathered (unfolded file)
+
+-- there is a number after that of each line
+abbrev pub NumbersFit : List Line → Type 0
+NumbersFit [] = Unit {0}
+NumbersFit (line ∷ lines) = (line.number + 1 < 2 ^ 64) × NumbersFit lines
+
+abbrev pub LastFits : Option ℕ → Type 0
+LastFits None = Unit {0}
+LastFits (Some n) = n + 1 < 2 ^ 64
+
+-- the pass over the lines that are left
+abbrev pub pass_on : FirstRound → List Line → Result GatheredSeen Fault
+pass_on round lines = pass round.stack round.last round.gathered lines
+
+-- ONE LINE: the pass goes on behind it, or its fault is the answer.
+abbrev pub GoesBehind : Result Unit Refused → Line → FirstRound → FirstRound → Type 0
+GoesBehind (Ok taken) line round behind = (lines : List Line) → pass_on round (line ∷ lines) ≡ pass_on behind lines
+GoesBehind (Err refused.Memory) line round behind = Unit {0}
+GoesBehind (Err (refused.Fault kind)) line round behind = (lines : List Line) →
+    pass_on round (line ∷ lines) ≡ Err (record { line = line.number; kind = kind })

@@ -1,0 +1,144 @@
+//! The values of RDATE and EXDATE with the zones that their lines name (RFC 5545, sections 3.8.5.1 and 3.8.5.2).
+ghost use Rattle.std.specs.Prelude.{◌≡◌, ◌++◌, ◌∷◌, [], is_some, IfOk};
+ghost use Rattle.std.specs.List.{list_any};
+ghost use Rattle.ics_components.specs.DateLists.{rdate_list, exdate_list};
+ghost use Rattle.ics_components.specs.DateValues.{has_zoned, rdates_of, exdates_of};
+ghost use Rattle.ics_components.specs.Lines.{Notes, dates_fault};
+ghost use Rattle.ics_components.specs.SecondRound.{listed_zone};
+ghost use Rattle.ics_components.specs.Values.{zone_name};
+
+use crate::date_values::DateValues;
+use crate::dated::zone_name;
+use crate::deferred_check::{DeferredCheck, ZoneName};
+use crate::refused::Refused;
+use crate::tzid::{Tzid, Tzids};
+use ics_text::Content;
+use ics_values::{Duration, Stamp, is_zoned};
+use std::alloc::{AllocError, Global};
+use std::marker::Model;
+
+/// A value of an RDATE or an EXDATE (RFC 5545, sections 3.8.5.1 and 3.8.5.2): a stamp, or a PERIOD with its end or its duration. No EXDATE has a PERIOD.
+#[derive(Clone, Copy)]
+pub enum ListedDate {
+    At(Stamp),
+    Between(Stamp, Stamp),
+    Lasting(Stamp, Duration),
+}
+
+/// The values of an RDATE or EXDATE line, in its order.
+#[derive(Drop)]
+pub struct Dates {
+    pub values: Vec<ListedDate>,
+}
+
+impl Model for Dates {
+    ghost use Rattle.std.specs.Prelude.{List};
+    ghost use Rattle.ics_components.specs.declared.date_list.ListedDate.{ListedDate};
+
+    ghost Value = { List ListedDate };
+
+    ghost view = { λ a. a.values.items };
+}
+
+/// The values of an RDATE or EXDATE line, and the name of the zone in its TZID, if it has one.
+#[derive(Drop)]
+pub struct DateList {
+    pub values: Dates,
+    pub zone: Option<Tzid>,
+}
+
+/// What several RDATE or EXDATE lines list, in their order.
+#[derive(Drop)]
+pub struct DateLists {
+    pub lists: Vec<DateList>,
+}
+
+impl Model for DateLists {
+    ghost use Rattle.std.specs.Prelude.{List};
+    ghost use Rattle.ics_components.specs.declared.date_list.DateList.{DateList};
+
+    ghost Value = { List DateList };
+
+    ghost view = { λ a. a.lists.items };
+}
+
+impl ListedDate {
+    /// Whether one of its stamps is a local one beside a TZID.
+    fn has_zoned(self) -> bool
+        ensures { result ≡ has_zoned self }
+    {
+        match self {
+            ListedDate::At(stamp) => is_zoned(stamp),
+            ListedDate::Between(start, end) => is_zoned(start) || is_zoned(end),
+            ListedDate::Lasting(start, _) => is_zoned(start),
+        }
+    }
+}
+
+impl Dates {
+    /// Whether a stamp among them is a local one beside a TZID.
+    fn have_zoned(&self) -> bool
+        ensures { result ≡ list_any has_zoned self.now }
+    {
+        self.values.iter().any(|value| value.has_zoned())
+    }
+}
+
+impl DateList {
+    /// The time zone of the stamps, which is to be known.
+    fn used_zone(&self, calendar: u64) -> Result<Option<DeferredCheck>, AllocError>
+        ensures { IfOk result (λ check. check ≡ listed_zone calendar self.now) }
+    {
+        if !self.values.have_zoned() {
+            return Ok(None);
+        }
+        let name = ZoneName::shared(calendar, &self.zone)?;
+        Ok(Some(DeferredCheck::Zone(name)))
+    }
+}
+
+impl DateLists {
+    /// Adds a list of that calendar, and gives the check of its time zone.
+    fn add(&mut self, calendar: u64, list: DateList) -> Result<Option<DeferredCheck>, AllocError>
+        ensures added { IfOk result (λ _. self.new ≡ self.old ++ list ∷ []) }
+        ensures check { IfOk result (λ check. check ≡ listed_zone calendar list) }
+    {
+        let check = list.used_zone(calendar)?;
+        self.lists.push(list)?;
+        Ok(check)
+    }
+
+    /// Adds what an RDATE of that calendar lists, and gives the check of its time zone.
+    pub(crate) fn add_rdates(
+        &mut self,
+        alloc: Global,
+        tzids: &mut Tzids,
+        calendar: u64,
+        content: &Content<'_>,
+    ) -> Result<Option<DeferredCheck>, Refused>
+        ensures { Notes result self.new (dates_fault (rdates_of (is_some (zone_name content.now.params)) content.now.value))
+            (self.old ++ rdate_list content.now.params content.now.value ∷ []) (listed_zone calendar (rdate_list content.now.params content.now.value)) }
+    {
+        let zone = zone_name(alloc, tzids, content)?;
+        let values = DateValues::of_rdate(alloc, content.value(), zone.is_some())?;
+        let values = values.listed(alloc)?;
+        Ok(self.add(calendar, DateList { values, zone })?)
+    }
+
+    /// The same of an EXDATE.
+    pub(crate) fn add_exdates(
+        &mut self,
+        alloc: Global,
+        tzids: &mut Tzids,
+        calendar: u64,
+        content: &Content<'_>,
+    ) -> Result<Option<DeferredCheck>, Refused>
+        ensures { Notes result self.new (dates_fault (exdates_of (is_some (zone_name content.now.params)) content.now.value))
+            (self.old ++ exdate_list content.now.params content.now.value ∷ []) (listed_zone calendar (exdate_list content.now.params content.now.value)) }
+    {
+        let zone = zone_name(alloc, tzids, content)?;
+        let values = DateValues::of_exdate(alloc, content.value(), zone.is_some())?;
+        let values = values.listed(alloc)?;
+        Ok(self.add(calendar, DateList { values, zone })?)
+    }
+}

@@ -1,0 +1,84 @@
+//! A stamp and the zone that its line names (RFC 5545, section 3.2.19).
+ghost use Rattle.std.specs.Prelude.{◌≡◌, IfOk};
+ghost use Rattle.ics_components.specs.Lines.{Gives, stamp_fault_of};
+ghost use Rattle.ics_components.specs.SecondRound.{used_zone, instant_in};
+ghost use Rattle.ics_components.specs.Values.{dated_of, stamp_read, tzid, zone_name};
+
+use crate::deferred_check::{DeferredCheck, Instant, ZoneName};
+use crate::refused::Refused;
+use crate::tzid::{Tzid, Tzids};
+use ics_text::Content;
+use ics_values::{Stamp, is_zoned, read_stamp};
+use std::alloc::{AllocError, Global};
+
+/// The value of a DTSTART, DTEND or RECURRENCE-ID (RFC 5545, sections 3.8.2.4, 3.8.2.2 and 3.8.4.4): a stamp, which is zoned only beside a TZID, and the
+/// name of the zone in its TZID, if it has one.
+#[derive(Drop)]
+pub struct Dated {
+    pub stamp: Stamp,
+    pub zone: Option<Tzid>,
+}
+
+/// The name of the zone that a line's TZID gives.
+pub fn zone_name(
+    alloc: Global,
+    tzids: &mut Tzids,
+    content: &Content<'_>,
+) -> Result<Option<Tzid>, AllocError>
+    ensures { IfOk result (λ zone. zone ≡ zone_name content.now.params) }
+{
+    match content.param(b"TZID") {
+        Some(name) => Ok(Some(tzids.name(alloc, name)?)),
+        None => Ok(None),
+    }
+}
+
+impl Dated {
+    /// The stamp of a line and the zone that its TZID names.
+    pub(crate) fn read(
+        alloc: Global,
+        tzids: &mut Tzids,
+        content: &Content<'_>,
+    ) -> Result<Dated, Refused>
+        ensures { Gives result (stamp_fault_of (stamp_read content.now.params content.now.value)) (dated_of content.now.params content.now.value) }
+    {
+        let zone = zone_name(alloc, tzids, content)?;
+        let stamp = read_stamp(content.value(), zone.is_some())?;
+        Ok(Dated { stamp, zone })
+    }
+
+    /// The name that its TZID gives.
+    pub(crate) fn tzid(&self) -> &[u8]
+        ensures { result.now ≡ tzid self.now }
+    {
+        match &self.zone {
+            Some(name) => name.as_slice(),
+            None => b"".as_slice(),
+        }
+    }
+
+    /// The time zone of the stamp, which is to be known.
+    pub(crate) fn used_zone(&self, calendar: u64) -> Result<Option<DeferredCheck>, AllocError>
+        ensures { IfOk result (λ check. check ≡ used_zone calendar self.now) }
+    {
+        if !is_zoned(self.stamp) {
+            return Ok(None);
+        }
+        let name = ZoneName::shared(calendar, &self.zone)?;
+        Ok(Some(DeferredCheck::Zone(name)))
+    }
+
+    /// The stamp, if it is an instant.
+    pub(crate) fn instant(&self, calendar: u64) -> Result<Option<Instant>, AllocError>
+        ensures { IfOk result (λ instant. instant ≡ instant_in calendar self.now) }
+    {
+        match self.stamp {
+            Stamp::Utc(local) => Ok(Some(Instant::Utc(local))),
+            Stamp::Zoned(local) => {
+                let name = ZoneName::shared(calendar, &self.zone)?;
+                Ok(Some(Instant::Zoned(local, name)))
+            }
+            _ => Ok(None),
+        }
+    }
+}

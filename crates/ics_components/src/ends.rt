@@ -1,0 +1,109 @@
+//! How long an event lasts: its end against its start, and its duration (RFC 5545, sections 3.8.2.2 and 3.8.2.5).
+ghost use Rattle.std.specs.Prelude.{◌≡◌, IfOk};
+ghost use Rattle.ics_components.specs.SecondRound.{compared, ends_in};
+ghost use Rattle.ics_components.specs.Values.{is_lasting, lasting_of, is_out, ends_badly};
+
+use crate::dated::Dated;
+use crate::deferred_check::{DeferredCheck, Instant};
+use ics_values::{Duration, DurationFault, Stamp, is_zoned, read_duration};
+use std::alloc::AllocError;
+
+/// The longest event, in seconds.
+const LONGEST: u32 = 36_525 * 86_400;
+
+/// Whether the end is before the start, or more than the longest event, 36,525 days, after it. Both are in seconds from 1970-01-01T00:00:00.
+pub fn is_out(start: i64, end: i64) -> bool
+    ensures { result ≡ is_out start end }
+{
+    end < start || start.saturating_add(i64::from(LONGEST)) < end
+}
+
+/// Whether the first round refuses the end: it is of another kind than its start, or out of its reach where they are dates,
+/// floating, or of one zone.
+pub fn ends_badly(start: &Option<Dated>, end: &Option<Dated>) -> bool
+    ensures { result ≡ ends_badly start.now end.now }
+{
+    let (Some(start), Some(end)) = (start, end) else {
+        return false;
+    };
+    match (start.stamp, end.stamp) {
+        (Stamp::Date(a), Stamp::Date(b)) => is_out(i64::from(a) * 86_400, i64::from(b) * 86_400),
+        (Stamp::Floating(a), Stamp::Floating(b)) => is_out(a.seconds(), b.seconds()),
+        (Stamp::Zoned(a), Stamp::Zoned(b)) => {
+            start.tzid() == end.tzid() && is_out(a.seconds(), b.seconds())
+        }
+        (Stamp::Zoned(_), Stamp::Utc(_))
+        | (Stamp::Utc(_), Stamp::Zoned(_))
+        | (Stamp::Utc(_), Stamp::Utc(_)) => false,
+        _ => true,
+    }
+}
+
+/// The check that the second round makes where these are a start and its end.
+fn compared(start: Instant, end: Instant) -> Option<DeferredCheck>
+    ensures { result ≡ compared start end }
+{
+    if let (Instant::Utc(a), Instant::Utc(b)) = (&start, &end) {
+        if is_out(a.seconds(), b.seconds()) {
+            return Some(DeferredCheck::End);
+        }
+        return None;
+    }
+    Some(DeferredCheck::Ends(start, end))
+}
+
+/// The check that the second round makes on the END of an event of that calendar.
+pub fn ends_in(
+    calendar: u64,
+    start: &Option<Dated>,
+    end: &Option<Dated>,
+) -> Result<Option<DeferredCheck>, AllocError>
+    ensures { IfOk result (λ check. check ≡ ends_in calendar start.now end.now) }
+{
+    let (Some(start), Some(end)) = (start, end) else {
+        return Ok(None);
+    };
+    // two stamps of one zone compare as locals
+    if is_zoned(start.stamp) && is_zoned(end.stamp) && start.tzid() == end.tzid() {
+        return Ok(None);
+    }
+    match (start.instant(calendar)?, end.instant(calendar)?) {
+        (Some(start), Some(end)) => Ok(compared(start, end)),
+        _ => Ok(None),
+    }
+}
+
+fn is_lasting(duration: Duration) -> bool
+    ensures { result ≡ is_lasting duration }
+{
+    let Some(days) = duration.days.checked_mul(86_400) else {
+        return false;
+    };
+    let Some(seconds) = days.checked_add(duration.seconds) else {
+        return false;
+    };
+    (!duration.negative || seconds == 0) && seconds <= u64::from(LONGEST)
+}
+
+/// The duration of an event: not negative, but for zero, and no longer than an event may be.
+pub fn lasting(text: &[u8]) -> Result<Duration, DurationFault>
+    ensures { result ≡ lasting_of text.now }
+{
+    match read_duration(text) {
+        Ok(duration) => {
+            if is_lasting(duration) {
+                Ok(duration)
+            } else {
+                Err(DurationFault::BadDuration)
+            }
+        }
+        Err(DurationFault::NumberTooLarge) => {
+            if text.first() == Some(&b'-') {
+                Err(DurationFault::BadDuration)
+            } else {
+                Err(DurationFault::NumberTooLarge)
+            }
+        }
+        Err(DurationFault::BadDuration) => Err(DurationFault::BadDuration),
+    }
+}

@@ -1,0 +1,281 @@
+//! An event that is being built of its lines.
+ghost use Rattle.std.specs.Prelude.{◌≡◌, Option, None, Some, is_some, true, false, IfOk, IfErr};
+ghost use Rattle.ics_values.specs.Integers.{integer_of};
+ghost use Rattle.ics_components.specs.declared.fault.FaultKind.TheVariants.{Repeated};
+ghost use Rattle.ics_components.specs.Builders.{nothing, event_ended};
+ghost use Rattle.ics_components.specs.Lines.{Gives, Notes, first, fault_if, or_first, stamp_fault_of, number_fault_of, event_fault, event_note, event_check};
+ghost use Rattle.ics_components.specs.Lines.{Keeps, dates_line_fault, dates_line_note, value_fault, value_note};
+ghost use Rattle.ics_components.specs.Lines.{end_of_event, passed};
+ghost use Rattle.ics_components.specs.declared.gathered.Ended.TheVariants.{Event};
+ghost use Rattle.ics_components.specs.SecondRound.{used_zone, ends_in};
+ghost use Rattle.ics_components.specs.Values.{dated_of, ok_or_zero, stamp_read};
+ghost use Rattle.ics_components.specs.GivenTimes.{given_length};
+
+use crate::date_list::DateLists;
+use crate::dated::Dated;
+use crate::deferred_check::DeferredCheck;
+use crate::ends::{ends_badly, ends_in, lasting};
+use crate::fault::FaultKind;
+use crate::gathered::{Ended, EndedEvent, GivenLength, Passed};
+use crate::name::Name;
+use crate::refused::Refused;
+use crate::rule_value::RuleValue;
+use crate::tzid::Tzids;
+use ics_text::Content;
+use ics_values::{Duration, IntegerFault, Text, is_word, read_integer};
+use std::alloc::Global;
+
+/// The value of each property that an event may have once, and what all its RDATEs and EXDATEs list.
+#[derive(Drop)]
+pub struct EventBuilder {
+    pub uid: Option<Text>,
+    pub start: Option<Dated>,
+    pub end: Option<Dated>,
+    pub duration: Option<Duration>,
+    pub rule: Option<RuleValue>,
+    pub rdates: DateLists,
+    pub exdates: DateLists,
+    pub recurrence: Option<Dated>,
+    pub sequence: Option<u32>,
+    pub title: Option<Text>,
+    pub location: Option<Text>,
+    pub description: Option<Text>,
+    pub cancelled: Option<bool>,
+}
+
+/// Keeps the value of a property that stands only once.
+pub fn once<T: Drop>(kept: &mut Option<T>, value: T, twice: FaultKind) -> Result<(), FaultKind>
+    ensures kept { IfOk result (λ _. (kept.old ≡ None) × (kept.new ≡ Some value)) }
+    ensures twice { IfErr result (λ kind. (kind ≡ twice) × (is_some kept.old ≡ true)) }
+{
+    if kept.is_some() {
+        return Err(twice);
+    }
+    *kept = Some(value);
+    Ok(())
+}
+
+/// Puts the stamp of a property of that calendar that stands only once, and gives the check of its time zone.
+fn put_date(
+    kept: &mut Option<Dated>,
+    alloc: Global,
+    tzids: &mut Tzids,
+    calendar: u64,
+    content: &Content<'_>,
+) -> Result<Option<DeferredCheck>, Refused>
+    ensures { Notes result kept.new (first (stamp_fault_of (stamp_read content.now.params content.now.value)) (fault_if Repeated (is_some kept.old)))
+        (or_first kept.old (dated_of content.now.params content.now.value)) (used_zone calendar (dated_of content.now.params content.now.value)) }
+{
+    let dated = Dated::read(alloc, tzids, content)?;
+    let check = dated.used_zone(calendar)?;
+    once(kept, dated, FaultKind::Repeated)?;
+    Ok(check)
+}
+
+/// Keeps the first text of several.
+fn keep_first(kept: &mut Option<Text>, text: Text)
+    ensures { kept.new ≡ or_first kept.old text }
+{
+    if kept.is_none() {
+        *kept = Some(text);
+    }
+}
+
+/// What a SEQUENCE says. One that is no number counts as 0.
+fn sequence(text: &[u8]) -> Result<u32, Refused>
+    ensures { Gives result (number_fault_of (integer_of text.now)) (ok_or_zero (integer_of text.now)) }
+{
+    match read_integer(text) {
+        Ok(number) => Ok(number),
+        Err(IntegerFault::NotDigits) => Ok(0),
+        Err(IntegerFault::NumberTooLarge) => Err(Refused::Fault(FaultKind::NumberTooLarge)),
+    }
+}
+
+/// What gives the length of an event.
+fn given_length(end: Option<Dated>, duration: Option<Duration>) -> GivenLength
+    ensures { result ≡ given_length end duration }
+{
+    match (end, duration) {
+        (Some(end), _) => GivenLength::Until(end),
+        (None, Some(duration)) => GivenLength::Lasting(duration),
+        (None, None) => GivenLength::Open,
+    }
+}
+
+impl EventBuilder {
+    /// What an event has that has only begun.
+    pub fn nothing(alloc: Global) -> EventBuilder
+        ensures { result ≡ nothing }
+    {
+        EventBuilder {
+            uid: None,
+            start: None,
+            end: None,
+            duration: None,
+            rule: None,
+            rdates: DateLists {
+                lists: Vec::new(alloc),
+            },
+            exdates: DateLists {
+                lists: Vec::new(alloc),
+            },
+            recurrence: None,
+            sequence: None,
+            title: None,
+            location: None,
+            description: None,
+            cancelled: None,
+        }
+    }
+
+    /// One line more that gives dates. A stamp in a time zone gives a check for the second round.
+    fn dates(
+        &mut self,
+        alloc: Global,
+        tzids: &mut Tzids,
+        calendar: u64,
+        name: Name,
+        content: &Content<'_>,
+    ) -> Result<Option<DeferredCheck>, Refused>
+        ensures { Notes result self.new (dates_line_fault name content.now self.old) (dates_line_note name content.now self.old)
+            (event_check calendar name content.now) }
+    {
+        match name {
+            Name::Dtstart => put_date(&mut self.start, alloc, tzids, calendar, content),
+            Name::Dtend => put_date(&mut self.end, alloc, tzids, calendar, content),
+            Name::RecurrenceId => {
+                let check = put_date(&mut self.recurrence, alloc, tzids, calendar, content)?;
+                if content.param(b"RANGE").is_some() {
+                    return Err(Refused::Fault(FaultKind::ThisAndFuture));
+                }
+                Ok(check)
+            }
+            Name::Rdate => self.rdates.add_rdates(alloc, tzids, calendar, content),
+            Name::Exdate => self.exdates.add_exdates(alloc, tzids, calendar, content),
+            _ => Ok(None),
+        }
+    }
+
+    /// One line more that gives no date.
+    fn value(&mut self, alloc: Global, name: Name, value: &[u8]) -> Result<(), Refused>
+        ensures { Keeps result self.new (value_fault name value.now self.old) (value_note name value.now self.old) }
+    {
+        let again = FaultKind::Repeated;
+        match name {
+            Name::Uid => {
+                let uid = Text::of_value(alloc, value)?;
+                once(&mut self.uid, uid, again)?;
+            }
+            Name::Duration => once(&mut self.duration, lasting(value)?, again)?,
+            Name::Rrule => {
+                let rule = RuleValue::read(alloc, value)?;
+                once(&mut self.rule, rule, again)?;
+            }
+            Name::Sequence => once(&mut self.sequence, sequence(value)?, again)?,
+            Name::Exrule => return Err(Refused::Fault(FaultKind::Exrule)),
+            Name::Summary => keep_first(&mut self.title, Text::of_value(alloc, value)?),
+            Name::Location => keep_first(&mut self.location, Text::of_value(alloc, value)?),
+            Name::Description => keep_first(&mut self.description, Text::of_value(alloc, value)?),
+            Name::Status => self.cancelled = self.cancelled.or(Some(is_word(value, b"CANCELLED"))),
+            _ => {}
+        }
+        Ok(())
+    }
+
+    /// One line more of an event in that calendar. A stamp in a time zone gives a check for the second round.
+    pub fn line(
+        &mut self,
+        alloc: Global,
+        tzids: &mut Tzids,
+        calendar: u64,
+        name: Name,
+        content: &Content<'_>,
+    ) -> Result<Option<DeferredCheck>, Refused>
+        ensures { Notes result self.new (event_fault name content.now self.old) (event_note name content.now self.old)
+            (event_check calendar name content.now) }
+    {
+        if name.gives_dates() {
+            return self.dates(alloc, tzids, calendar, name, content);
+        }
+        self.value(alloc, name, content.value())?;
+        Ok(None)
+    }
+
+    /// The fault on the END of the event, if one stands there.
+    fn fault_at_end(&self) -> Option<FaultKind>
+        ensures { result ≡ end_of_event self.now }
+    {
+        match &self.uid {
+            Some(uid) if !uid.as_slice().is_empty() => {}
+            _ => return Some(FaultKind::MissingUid),
+        }
+        if self.start.is_none() {
+            return Some(FaultKind::MissingStart);
+        }
+        if (self.end.is_some() && self.duration.is_some()) || ends_badly(&self.start, &self.end) {
+            return Some(FaultKind::BadEnd);
+        }
+        None
+    }
+
+    /// The check of the end of the event, where no fault stands on its END.
+    fn check_at_end(&self, calendar: u64) -> Result<Option<DeferredCheck>, Refused>
+        ensures { Gives result (end_of_event self.now) (ends_in calendar self.now.start self.now.end) }
+    {
+        if let Some(kind) = self.fault_at_end() {
+            return Err(Refused::Fault(kind));
+        }
+        Ok(ends_in(calendar, &self.start, &self.end)?)
+    }
+
+    /// The event of that calendar that has that start.
+    fn started(self, alloc: Global, calendar: u64, start: Dated) -> EndedEvent
+        ensures { result ≡ event_ended calendar (record self { start = Some start }) }
+    {
+        let EventBuilder {
+            uid,
+            start: _,
+            end,
+            duration,
+            rule,
+            rdates,
+            exdates,
+            recurrence,
+            sequence,
+            title,
+            location,
+            description,
+            cancelled,
+        } = self;
+        EndedEvent {
+            calendar,
+            uid: uid.unwrap_or(Text::new(alloc)),
+            start,
+            length: given_length(end, duration),
+            rule,
+            rdates,
+            exdates,
+            recurrence,
+            sequence: sequence.unwrap_or(0),
+            title: title.unwrap_or(Text::new(alloc)),
+            location: location.unwrap_or(Text::new(alloc)),
+            description: description.unwrap_or(Text::new(alloc)),
+            cancelled: cancelled.unwrap_or(false),
+        }
+    }
+
+    /// The event of that calendar and the check of its end, at its END.
+    pub fn end(mut self, alloc: Global, calendar: u64) -> Result<Passed, Refused>
+        ensures { Gives result (end_of_event self) (passed (Event (event_ended calendar self)) (ends_in calendar self.start self.end)) }
+    {
+        let check = self.check_at_end(calendar)?;
+        let Some(start) = self.start.take() else {
+            return Err(Refused::Fault(FaultKind::MissingStart));
+        };
+        Ok(Passed {
+            ended: Ended::Event(self.started(alloc, calendar, start)),
+            check,
+        })
+    }
+}

@@ -1,0 +1,119 @@
+//! What is gathered of a file, before its time zones and its events are made of it.
+ghost use Rattle.std.specs.Prelude.{◌≡◌, IfOk, None};
+ghost use Rattle.ics_components.specs.Gathered.{and_passed};
+ghost use Rattle.ics_components.specs.Lines.{passed};
+ghost use Rattle.ics_components.specs.declared.gathered.Ended.TheVariants.{Nothing};
+
+use crate::date_list::DateLists;
+use crate::dated::Dated;
+use crate::deferred_check::{DeferredCheck, ZoneName};
+use crate::observances::Observances;
+use crate::rule_value::RuleValue;
+use ics_values::{Duration, Text};
+use std::alloc::AllocError;
+use std::marker::Model;
+
+/// A time zone that has ended (RFC 5545, section 3.6.5).
+#[derive(Drop)]
+pub struct EndedZone {
+    pub name: ZoneName,
+    pub observances: Observances,
+}
+
+/// What gives the length of an event (RFC 5545, section 3.6.1): its DTEND, or its DURATION, or nothing.
+#[derive(Drop)]
+pub enum GivenLength {
+    Open,
+    Until(Dated),
+    Lasting(Duration),
+}
+
+/// An event that has ended (RFC 5545, section 3.6.1). Its times name their zones.
+#[derive(Drop)]
+pub struct EndedEvent {
+    /// The number of the BEGIN line of its calendar.
+    pub calendar: u64,
+    pub uid: Text,
+    pub start: Dated,
+    pub length: GivenLength,
+    pub rule: Option<RuleValue>,
+    pub rdates: DateLists,
+    pub exdates: DateLists,
+    pub recurrence: Option<Dated>,
+    pub sequence: u32,
+    pub title: Text,
+    pub location: Text,
+    pub description: Text,
+    pub cancelled: bool,
+}
+
+/// What ends on a line, if it is a component that is read.
+#[derive(Drop)]
+pub enum Ended {
+    Zone(EndedZone),
+    Event(EndedEvent),
+    Nothing,
+}
+
+/// What is gathered on a line: what ends there, and the check that it leaves to the second round.
+#[derive(Drop)]
+pub struct Passed {
+    pub ended: Ended,
+    pub check: Option<DeferredCheck>,
+}
+
+impl Passed {
+    /// Nothing ends, and there is no check.
+    pub fn nothing() -> Passed
+        ensures { result ≡ passed Nothing None }
+    {
+        Passed {
+            ended: Ended::Nothing,
+            check: None,
+        }
+    }
+}
+
+/// A deferred check and the number of its line, counted from 1.
+#[derive(Drop)]
+pub struct LineCheck {
+    pub line: u64,
+    pub check: DeferredCheck,
+}
+
+/// What is gathered of a file: the time zones and the events that have ended, and the checks that are deferred, each in the order of the lines.
+#[derive(Drop)]
+pub struct Gathered {
+    pub zones: Vec<EndedZone>,
+    pub events: Vec<EndedEvent>,
+    pub checks: Vec<LineCheck>,
+}
+
+impl Model for Gathered {
+    ghost use Rattle.ics_components.specs.GatheredSeen.{GatheredSeen};
+
+    ghost Value = { GatheredSeen };
+
+    ghost view = { λ a. record { zones = a.zones.items; events = a.events.items; checks = a.checks.items } };
+}
+
+impl Gathered {
+    /// Adds what is gathered on the line with that number.
+    pub(crate) fn pass(&mut self, number: u64, passed: Passed) -> Result<(), AllocError>
+        ensures { IfOk result (λ _. self.new ≡ and_passed number passed self.old) }
+    {
+        let Passed { ended, check } = passed;
+        match ended {
+            Ended::Zone(zone) => self.zones.push(zone)?,
+            Ended::Event(event) => self.events.push(event)?,
+            Ended::Nothing => {}
+        }
+        if let Some(check) = check {
+            self.checks.push(LineCheck {
+                line: number,
+                check,
+            })?;
+        }
+        Ok(())
+    }
+}

@@ -1,0 +1,102 @@
+//! The names of properties and components, which compare without case (RFC 5545, section 3.1).
+ghost use Rattle.std.specs.Prelude.{◌≡◌, map};
+ghost use Rattle.ics_text.specs.Bytes.{upper};
+ghost use Rattle.ics_components.specs.Names.{name_of, other_name_of, gives_dates};
+
+use ics_values::is_word;
+
+/// The names that a file is read for.
+#[derive(Clone, Copy)]
+pub enum Name {
+    Begin,
+    End,
+    Uid,
+    Dtstart,
+    Dtend,
+    Duration,
+    Rrule,
+    RecurrenceId,
+    Sequence,
+    Rdate,
+    Exdate,
+    Exrule,
+    Version,
+    Summary,
+    Location,
+    Description,
+    Status,
+    Tzid,
+    OffsetFrom,
+    OffsetTo,
+    Other,
+}
+
+impl Name {
+    /// Whether an event has dates from a property of that name.
+    pub fn gives_dates(self) -> bool
+        ensures { result ≡ gives_dates self }
+    {
+        matches!(
+            self,
+            Name::Dtstart | Name::Dtend | Name::RecurrenceId | Name::Rdate | Name::Exdate
+        )
+    }
+}
+
+/// What a property is called.
+pub fn name_of(name: &[u8]) -> Name
+    ensures { result ≡ name_of (map upper name.now) }
+{
+    if is_word(name, b"BEGIN") {
+        Name::Begin
+    } else if is_word(name, b"END") {
+        Name::End
+    } else if is_word(name, b"UID") {
+        Name::Uid
+    } else if is_word(name, b"DTSTART") {
+        Name::Dtstart
+    } else if is_word(name, b"DTEND") {
+        Name::Dtend
+    } else if is_word(name, b"DURATION") {
+        Name::Duration
+    } else if is_word(name, b"RRULE") {
+        Name::Rrule
+    } else if is_word(name, b"RECURRENCE-ID") {
+        Name::RecurrenceId
+    } else if is_word(name, b"SEQUENCE") {
+        Name::Sequence
+    } else if is_word(name, b"RDATE") {
+        Name::Rdate
+    } else if is_word(name, b"EXDATE") {
+        Name::Exdate
+    } else {
+        other_name_of(name)
+    }
+}
+
+/// What a property is called that is none of these.
+fn other_name_of(name: &[u8]) -> Name
+    ensures { result ≡ other_name_of (map upper name.now) }
+{
+    if is_word(name, b"EXRULE") {
+        Name::Exrule
+    } else if is_word(name, b"VERSION") {
+        Name::Version
+    } else if is_word(name, b"SUMMARY") {
+        Name::Summary
+    } else if is_word(name, b"LOCATION") {
+        Name::Location
+    } else if is_word(name, b"DESCRIPTION") {
+        Name::Description
+    } else if is_word(name, b"STATUS") {
+        Name::Status
+    } else if is_word(name, b"TZID") {
+        Name::Tzid
+    } else if is_word(name, b"TZOFFSETFROM") {
+        Name::OffsetFrom
+    } else if is_word(name, b"TZOFFSETTO") {
+        Name::OffsetTo
+    } else {
+        Name::Other
+    }
+}

@@ -1,0 +1,138 @@
+//! The components that are open.
+ghost use Rattle.std.specs.Prelude.{◌≡◌, ◌∷◌, [], map};
+ghost use Rattle.ics_text.specs.Bytes.{upper};
+ghost use Rattle.ics_components.specs.Lines.{Makes, Keeps, begin_fault, opened, end_line, line_in};
+ghost use Rattle.ics_components.specs.Pass.{bottom, is_lowest};
+
+use crate::builder::Builder;
+use crate::component::{Component, Context};
+use crate::fault::FaultKind;
+use crate::frame::Frame;
+use crate::gathered::{Ended, Passed};
+use crate::name::{Name, name_of};
+use crate::refused::Refused;
+use crate::tzid::Tzids;
+use ics_text::Content;
+use ics_values::Text;
+use std::alloc::Global;
+use std::marker::Model;
+use std::mem;
+
+/// How many components may be open.
+const MAX_DEPTH: usize = 32;
+
+/// The components that are open, seen as a list of them with the innermost first, and a frame below them all.
+#[derive(Drop)]
+pub struct Stack {
+    top: Frame,
+    outer: Vec<Frame>,
+    tzids: Tzids,
+}
+
+impl Model for Stack {
+    ghost use Rattle.std.specs.Prelude.{List, ◌∷◌, reverse};
+    ghost use Rattle.ics_components.specs.declared.frame.Frame.{Frame};
+
+    ghost Value = { List Frame };
+
+    ghost view = { λ a. a.top ∷ reverse a.outer.items };
+}
+
+impl Stack {
+    /// No component is open.
+    pub fn new(alloc: Global) -> Stack
+        ensures { result ≡ bottom ∷ [] }
+    {
+        Stack {
+            top: Frame {
+                component: Component::Other(Text::new(alloc)),
+                context: Context::Outside,
+                calendar: 0,
+                builder: Builder::Nothing,
+            },
+            outer: Vec::new(alloc),
+            tzids: Tzids::new(alloc),
+        }
+    }
+
+    /// Whether no component is open.
+    pub fn is_lowest(&self) -> bool
+        ensures { result ≡ is_lowest self.now }
+    {
+        self.outer.is_empty()
+    }
+
+    /// Opens a component on the line with that number.
+    fn begin(&mut self, alloc: Global, number: u64, component: Component) -> Result<(), Refused>
+        ensures { Keeps result self.new (begin_fault component self.old) (opened number component self.old) }
+    {
+        match (self.top.context, &component) {
+            (Context::Outside, Component::Calendar) => {}
+            (Context::Outside, _) => return Err(Refused::Fault(FaultKind::NotCalendar)),
+            _ => {}
+        }
+        if self.outer.len() >= MAX_DEPTH {
+            return Err(Refused::Fault(FaultKind::TooDeep));
+        }
+        let calendar = if self.outer.is_empty() {
+            number
+        } else {
+            self.top.calendar
+        };
+        let context = component.context_in(self.top.context);
+        let inner = Frame {
+            component,
+            context,
+            calendar,
+            builder: Builder::fresh(alloc, context),
+        };
+        let outer = mem::replace(&mut self.top, inner);
+        self.outer.push(outer)?;
+        Ok(())
+    }
+
+    /// Closes the innermost component by an END with that name, and gives what it is.
+    fn end(&mut self, alloc: Global, name: &[u8]) -> Result<Passed, Refused>
+        ensures { Makes result self.new (end_line (map upper name.now) self.old) }
+    {
+        let Some(outer) = self.outer.pop() else {
+            return Err(Refused::Fault(FaultKind::NotCalendar));
+        };
+        let inner = mem::replace(&mut self.top, outer);
+        inner.end(alloc, &mut self.top.builder, name)
+    }
+
+    /// Goes behind the line with that number, and gives what is gathered there.
+    pub fn line(
+        &mut self,
+        alloc: Global,
+        number: u64,
+        content: &Content<'_>,
+    ) -> Result<Passed, Refused>
+        ensures { Makes result self.new (line_in number content.now self.old) }
+    {
+        let check = match name_of(content.name()) {
+            Name::Begin => {
+                let component = Component::named(alloc, content.value())?;
+                self.begin(alloc, number, component)?;
+                None
+            }
+            Name::End => return self.end(alloc, content.value()),
+            name => {
+                let top = &mut self.top;
+                top.builder.line(
+                    alloc,
+                    &mut self.tzids,
+                    top.calendar,
+                    top.context,
+                    name,
+                    content,
+                )?
+            }
+        };
+        Ok(Passed {
+            ended: Ended::Nothing,
+            check,
+        })
+    }
+}
