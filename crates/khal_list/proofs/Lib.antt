@@ -1,17 +1,11 @@
 pub mod AddedLemmas
 pub mod AnswerLemmas
-pub mod AskedLemmas
-pub mod LearnedLemmas
-pub mod OutcomeLemmas
 pub mod PageLemmas
 pub mod Printed
 pub mod PutLemmas
-pub mod ReadLemmas
 pub mod RefusalLemmas
-pub mod RefusedLemmas
 pub mod RequestLemmas
 pub mod RunLemmas
 pub mod TextExamples
 pub mod TokenPages
 pub mod WindowLemmas
-pub mod ZoneLawLemmas

@@ -16,19 +16,19 @@ use Rattle.ics_series.specs.Listing.{IsListing}
 use Rattle.ics_series.specs.Meets.{IsListed}
 use Rattle.khal_list.specs.declared.every_day.EveryDay.{EveryDay}
 use Rattle.khal_list.specs.declared.request.Request.{Request}
-use Rattle.khal_list.specs.declared.status.Status.{Status}
-use Rattle.khal_list.specs.declared.status.Status.TheVariants.{Faulty}
+use Rattle.khal_reading.specs.declared.status.Status.{Status}
+use Rattle.khal_reading.specs.declared.status.Status.TheVariants.{Faulty}
 use Rattle.khal_ports.specs.Answers.{Answer, Contents}
-use Rattle.khal_list.specs.Asked.{all_wanted, Asked, AsksAll, AsksSome}
-use Rattle.khal_list.specs.Errors.{accepted, error_lines}
+use Rattle.khal_reading.specs.Asked.{all_wanted, Asked, AsksAll, AsksSome}
+use Rattle.khal_reading.specs.Errors.{accepted, error_lines}
 use Rattle.khal_ports.specs.Finds.{FindAnswer}
 use Rattle.khal_ports.specs.Growth.{TookFront}
 use Rattle.khal_list.specs.Headline.{more_line, IsListingOf, Lists, Shown, ShownInPart, Shows, ShowsBy, ShowsDays, ShowsOnce, Stops}
 use Rattle.khal_list.specs.Listed.{asked_after, day_key_on, days_text_of, key_on, listing_text}
-use Rattle.khal_list.specs.Outcomes.{IsReading}
+use Rattle.khal_reading.specs.Outcomes.{IsReading}
 use Rattle.khal_ports.specs.Reads.{ReadsAll, ReadsSome}
-use Rattle.khal_list.proofs.AskedLemmas.{all-some}
-use Rattle.khal_list.proofs.RefusedLemmas.{lines-refused}
+use Rattle.khal_reading.proofs.AskedLemmas.{all-some}
+use Rattle.khal_reading.proofs.RefusedLemmas.{lines-refused}
 use Rattle.khal_ports.proofs.Written.{appends-both, appends-none, appends-same}
 
 take-length : (xs : List ℕ) → take (length xs) xs ≡ xs

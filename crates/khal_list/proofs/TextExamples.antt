@@ -16,7 +16,6 @@ use Rattle.khal_words.specs.declared.field.EntryField.TheVariants.{Cell, Title, 
 use Rattle.khal_words.specs.declared.format.Piece.{Piece}
 use Rattle.khal_words.specs.declared.format.Piece.TheVariants.{Byte, Field}
 use Rattle.khal_words.specs.Formats.{day_default, day_name, entry_default, entry_name, written}
-use Rattle.khal_list.specs.Shown.{shown}
 use Rattle.khal_list.specs.Text.{Style, heading_text, line_text, text}
 
 -- a date and time, or a date
@@ -180,12 +179,3 @@ titled_cancelled = refl
 titled_other : line_text (by titled) (pos 19_727) standup ≡ line (codes "Standup")
 unfolding pieces_from lib.Utf8.encode
 titled_other = refl
-
--- UTF-8 is shown as it stands, other bytes as U+FFFD, controls as a space
-shown_utf8 : shown (codes "Caf" ++ 195 ∷ 169 ∷ []) ≡ codes "Caf" ++ 195 ∷ 169 ∷ []
-unfolding pieces_from lib.Utf8.encode
-shown_utf8 = refl
-
-shown_others : shown (65 ∷ 255 ∷ 9 ∷ 127 ∷ []) ≡ 65 ∷ 239 ∷ 191 ∷ 189 ∷ 32 ∷ 32 ∷ []
-unfolding pieces_from lib.Utf8.encode
-shown_others = refl

@@ -11,11 +11,11 @@ use Rattle.ics_series.specs.Meets.{IsListed}
 use Rattle.ics_series.specs.OnDays.{on_day_cmp, IsOnDay, OnDay}
 use Rattle.khal_list.specs.declared.every_day.EveryDay.{EveryDay}
 use Rattle.khal_list.specs.declared.request.Request.{Request}
-use Rattle.khal_list.specs.declared.status.Status.{Status}
-use Rattle.khal_list.specs.declared.status.Status.TheVariants.{Faulty}
+use Rattle.khal_reading.specs.declared.status.Status.{Status}
+use Rattle.khal_reading.specs.declared.status.Status.TheVariants.{Faulty}
 use Rattle.khal_ports.specs.Answers.{Answer, Contents}
-use Rattle.khal_list.specs.Asked.{all_wanted, Asked, AsksAll, AsksSome}
-use Rattle.khal_list.specs.Errors.{accepted, error_lines, file_by}
+use Rattle.khal_reading.specs.Asked.{all_wanted, Asked, AsksAll, AsksSome}
+use Rattle.khal_reading.specs.Errors.{accepted, error_lines, file_by}
 use Rattle.khal_ports.specs.Finds.{FindAnswer}
 use Rattle.khal_ports.specs.Growth.{TookFront}
 use Rattle.khal_list.specs.Listed.{asked_after, asked_after_day, day_key_on, days_text_of, key_on, listing_text}

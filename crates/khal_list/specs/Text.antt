@@ -16,7 +16,7 @@ use Rattle.khal_words.specs.declared.field.DayField.{DayField}
 use Rattle.khal_words.specs.declared.field.DayField.TheVariants as day
 use Rattle.khal_words.specs.declared.format.Piece.{Piece}
 use Rattle.khal_words.specs.Formats.{filled}
-use Rattle.khal_list.specs.Shown.{shown}
+use Rattle.khal_reading.specs.Shown.{shown}
 use Rattle.ics_fields.specs.Locals.{day_of_local, whole_days}
 
 -- the second of the day of a local

@@ -9,7 +9,6 @@ ghost use Rattle.khal_list.specs.Text.{cell_text, end_date, entry_field_text, is
 use crate::cell::{add_time, add_times};
 use crate::display_day::display_day;
 use crate::heading::add_date;
-use crate::shown::add_shown;
 use ics_event::Event;
 use ics_series::Occurrence;
 use ics_values::{Local, Stamp};

@@ -1,30 +1,22 @@
 //! Lists the events of a folder of calendar files: requests, the texts and the run.
 #![tactic(auto)]
 
-mod answered;
 mod cell;
 mod display_day;
 mod drawing;
 mod entry;
 mod entry_text;
 mod every_day;
-mod finding;
 mod heading;
 mod laws;
 mod line;
 mod more;
-mod outcome;
 mod printing;
-mod reading;
-mod refusal;
 mod request;
 mod request_fault;
 mod resuming;
 mod running;
-mod shown;
-mod status;
 mod window;
-mod zone_laws;
 
 pub use every_day::EveryDay;
 pub use khal_ports::{
@@ -32,6 +24,7 @@ pub use khal_ports::{
     MemoryZone, MemoryZones, NoZones, RunFault, Sink, SinkFault, Source, SourceFault, Stream,
     ZoneSource,
 };
+pub use khal_reading::{Status, without_zones};
 pub use khal_words::{DayField, EntryField, Format, FormatFault, Piece, Placeholder, one_format};
 pub use laws::one_answer;
 pub use printing::{print, print_days};
@@ -39,5 +32,3 @@ pub use request::Request;
 pub use request_fault::RequestFault;
 pub use resuming::{day_goes_on, day_token_goes_on, goes_on, pages, text_goes_on, token_goes_on};
 pub use running::run;
-pub use status::Status;
-pub use zone_laws::without_zones;

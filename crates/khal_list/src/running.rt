@@ -9,12 +9,11 @@ ghost use Rattle.khal_list.specs.Headline.{Lists, Shown, ShownInPart, Shows, Sho
 use crate::every_day::EveryDay;
 use crate::more::put_more;
 use crate::printing::{print, print_days};
-use crate::reading::read_all;
 use crate::request::Request;
-use crate::status::Status;
 use ics_event::FileEvents;
 use ics_series::{DayToken, Folder, Token};
 use khal_ports::{RunFault, Sink, Source, ZoneSource, put_all};
+use khal_reading::{Status, read_all};
 use std::alloc::Global;
 
 /// Writes the requested listing of a folder that is shown in the request's zone, each occurrence once,

@@ -1,0 +1,231 @@
+-- Names that are asked for, each once, and what is found for them.
+use Rattle.std.proofs.Common.{◌≡◌, ◌⊎◌, inl, inr, ℕ, Bool, true, false, true≢false, ◌||◌, ◌&&◌, List, [], ◌∷◌, ◌++◌, Option, Some, None, Ok, Err, refl, sym}
+use Rattle.std.proofs.Common.{◌∙◌, ap, subst, append_assoc, append-nil}
+use Rattle.std.specs.List.{list_any}
+use Rattle.std.specs.Str.{bytes_eq}
+use Rattle.std.proofs.lemmas.List.{map-append}
+use Rattle.std.proofs.lemmas.List.Folds.{list_any-append}
+use Rattle.std.proofs.lemmas.Slice.Eq.{bytes_eq-Decides}
+use Rattle.ics_zone.specs.ZoneFiles.{TzifText}
+use Rattle.ics_calendar.specs.GivenFiles.{no_files, with_file, GivenFiles}
+use Rattle.std.specs.Option.{option_or}
+use Rattle.khal_reading.specs.Asked.{and_name, and_names, given_files, given_from, is_unread, names_of, was_unread, with_found, Asked, AsksAll, AsksSome}
+use Rattle.khal_reading.specs.Asked.{FindsEach}
+use Rattle.khal_ports.specs.Finds.{found_of, FindAnswer, Found}
+use Rattle.khal_ports.specs.declared.fault.SourceFault.TheVariants.{Device, TooLarge, Memory}
+
+-- the name is among these
+abbrev pub IsIn : List ℕ → List (List ℕ) → Type 0
+IsIn name names = list_any (bytes_eq name) names ≡ true
+
+or-true : (b : Bool) → (b || true) ≡ true
+or-true true = refl
+or-true false = refl
+
+or-false : (b : Bool) → (b || false) ≡ b
+or-false true = refl
+or-false false = refl
+
+pub any-same : {X : Type 0} (s t : X → Bool) (xs : List X) → ((x : X) → s x ≡ t x) → list_any s xs ≡ list_any t xs
+any-same s t [] same = refl
+any-same s t (x ∷ xs) same = rw (same x, any-same s t xs same) refl
+
+pub in-front : (name : List ℕ) (xs ys : List (List ℕ)) → IsIn name xs → IsIn name (xs ++ ys)
+in-front name xs ys h = list_any-append (bytes_eq name) xs ys ∙ rw h refl
+
+pub in-back : (name : List ℕ) (xs ys : List (List ℕ)) → IsIn name ys → IsIn name (xs ++ ys)
+in-back name xs ys h = list_any-append (bytes_eq name) xs ys ∙ rw h (or-true (list_any (bytes_eq name) xs))
+
+-- ---- each name once
+
+and_names-append : (names xs ys : List (List ℕ)) → and_names names (xs ++ ys) ≡ and_names (and_names names xs) ys
+and_names-append names [] ys = refl
+and_names-append names (x ∷ xs) ys = and_names-append (and_name names x) xs ys
+
+pub and_name-old : (names : List (List ℕ)) (name : List ℕ) → IsIn name names → and_name names name ≡ names
+and_name-old names name h = rw h refl
+
+pub and_name-new : (names : List (List ℕ)) (name : List ℕ) → list_any (bytes_eq name) names ≡ false → and_name names name ≡ names ++ name ∷ []
+and_name-new names name h = rw h refl
+
+and_name-more : (names : List (List ℕ)) (name : List ℕ) → (more : List (List ℕ)) × (and_name names name ≡ names ++ more)
+and_name-more names name = go (list_any (bytes_eq name) names) refl
+  where
+    go : (t : Bool) → list_any (bytes_eq name) names ≡ t → (more : List (List ℕ)) × (and_name names name ≡ names ++ more)
+    go true e = ([], and_name-old names name e ∙ sym (append-nil names))
+    go false e = (name ∷ [], and_name-new names name e)
+
+and_names-more : (names wanted : List (List ℕ)) → (more : List (List ℕ)) × (and_names names wanted ≡ names ++ more)
+and_names-more names [] = ([], sym (append-nil names))
+and_names-more names (x ∷ wanted) =
+    let first = and_name-more names x in
+    let then = and_names-more (and_name names x) wanted in
+    (first.0 ++ then.0, then.1 ∙ (ap (λ (front : List (List ℕ)). front ++ then.0) first.1 ∙ append_assoc names first.0 then.0))
+
+in-and_names : (name : List ℕ) (names wanted : List (List ℕ)) → IsIn name names → IsIn name (and_names names wanted)
+in-and_names name names wanted h = let all = and_names-more names wanted in subst (IsIn name) (sym all.1) (in-front name names all.0 h)
+
+in-and_name : (name x : List ℕ) (names : List (List ℕ)) → bytes_eq name x ≡ true → IsIn name (and_name names x)
+in-and_name name x names same = go (list_any (bytes_eq x) names) refl
+  where
+    is : name ≡ x
+    is = (bytes_eq-Decides name x).0 same
+
+    go : (t : Bool) → list_any (bytes_eq x) names ≡ t → IsIn name (and_name names x)
+    go true e = subst (IsIn name) (sym (and_name-old names x e)) (subst (λ (n : List ℕ). IsIn n names) (sym is) e)
+    go false e =
+        let last : IsIn name (x ∷ []) = rw same refl in
+        subst (IsIn name) (sym (and_name-new names x e)) (in-back name names (x ∷ []) last)
+
+-- each of the wanted names is there
+pub wanted-in : (name : List ℕ) (names wanted : List (List ℕ)) → IsIn name wanted → IsIn name (and_names names wanted)
+wanted-in name names [] h = absurd (true≢false (sym h))
+wanted-in name names (x ∷ wanted) h = go (bytes_eq name x) refl (wanted-in name (and_name names x) wanted)
+  where
+    go : (t : Bool) → bytes_eq name x ≡ t → (IsIn name wanted → IsIn name (and_names (and_name names x) wanted)) → IsIn name (and_names names (x ∷ wanted))
+    go true e again = in-and_names name (and_name names x) wanted (in-and_name name x names e)
+    go false e again = let rest : IsIn name wanted = rw e at h in again rest
+
+-- ---- what is given
+
+pub given_from-append : (files : GivenFiles) (xs ys : List Asked) → given_from files (xs ++ ys) ≡ given_from (given_from files xs) ys
+given_from-append files [] ys = refl
+given_from-append files (x ∷ xs) ys = given_from-append (with_found files x) xs ys
+
+or-none : (given : Option (Option TzifText)) → option_or given None ≡ given
+or-none None = refl
+or-none (Some given) = refl
+
+with_file-other : (files : GivenFiles) (name bytes other : List ℕ) → bytes_eq other name ≡ false → with_file files name bytes other ≡ files other
+with_file-other files name bytes other e = rw e (or-none (files other))
+
+with_found-other : (files : GivenFiles) (one : Asked) (other : List ℕ) → bytes_eq other one.0 ≡ false → with_found files one other ≡ files other
+with_found-other files (name, Found.Given bytes) other e = with_file-other files name bytes other e
+with_found-other files (name, Found.Absent) other e = refl
+with_found-other files (name, Found.Unread) other e = refl
+
+pub with_found-same : (files others : GivenFiles) (one : Asked) (other : List ℕ) → files other ≡ others other →
+    with_found files one other ≡ with_found others one other
+with_found-same files others (name, Found.Given bytes) other e = rw e refl
+with_found-same files others (name, Found.Absent) other e = e
+with_found-same files others (name, Found.Unread) other e = e
+
+pub names-append : (xs ys : List Asked) → names_of (xs ++ ys) ≡ names_of xs ++ names_of ys
+names-append xs ys = map-append (λ (one : Asked). one.0) xs ys
+
+-- a name that is among those before is none that is new
+pub apart : (name new : List ℕ) (names : List (List ℕ)) → IsIn name names → list_any (bytes_eq new) names ≡ false → bytes_eq name new ≡ false
+apart name new names h fresh = go (bytes_eq name new) refl
+  where
+    go : (t : Bool) → bytes_eq name new ≡ t → t ≡ false
+    go true e = absurd (true≢false (sym (subst (λ (n : List ℕ). list_any (bytes_eq n) names ≡ true) ((bytes_eq-Decides name new).0 e) h) ∙ fresh))
+    go false e = refl
+
+pub given-one : (asked : List Asked) (one : Asked) (name : List ℕ) → given_files (asked ++ one ∷ []) name ≡ with_found (given_files asked) one name
+given-one asked one name = ap (λ (files : GivenFiles). files name) (given_from-append no_files asked (one ∷ []))
+
+pub given-other : (asked : List Asked) (one : Asked) (name : List ℕ) → bytes_eq name one.0 ≡ false →
+    given_files (asked ++ one ∷ []) name ≡ given_files asked name
+given-other asked one name e = given-one asked one name ∙ with_found-other (given_files asked) one name e
+
+pub unread-one : (asked : List Asked) (one : Asked) (name : List ℕ) →
+    is_unread (asked ++ one ∷ []) name ≡ (is_unread asked name || ((bytes_eq name one.0 && was_unread one.1) || false))
+unread-one asked one name = list_any-append (λ (a : Asked). bytes_eq name a.0 && was_unread a.1) asked (one ∷ [])
+
+pub unread-other : (asked : List Asked) (one : Asked) (name : List ℕ) → bytes_eq name one.0 ≡ false → is_unread (asked ++ one ∷ []) name ≡ is_unread asked name
+unread-other asked one name e = unread-one asked one name ∙ rw e (or-false (is_unread asked name))
+
+-- ---- finds
+
+module _ {Z : Type 0} (finds : Z → List ℕ → FindAnswer → Z → Type 0) where
+  module _ (middle : Z) (ys : List Asked) (after : Z) (k : FindsEach finds middle ys after) where
+    each-append : (before : Z) (xs : List Asked) → FindsEach finds before xs middle → FindsEach finds before (xs ++ ys) after
+    each-append before [] h = subst (λ (z : Z). FindsEach finds z ys after) h k
+    each-append before (x ∷ xs) h = (h.0, h.1, h.2, h.3, each-append h.1 xs h.4)
+
+  pub none-asked : (asked : List Asked) (state : Z) → AsksAll finds asked [] state [] state
+  none-asked asked state = record { each = refl; names = ap names_of (append-nil asked) }
+
+  names-then : (asked more : List Asked) (first then : List (List ℕ)) → names_of (asked ++ more) ≡ and_names (names_of asked) first
+      → and_names (names_of (asked ++ more)) then ≡ and_names (names_of asked) (first ++ then)
+  names-then asked more first then h = ap (λ (names : List (List ℕ)). and_names names then) h ∙ sym (and_names-append (names_of asked) first then)
+
+  pub all-then-all : {asked : List Asked} {first then : List (List ℕ)} {before : Z} {more : List Asked} {middle : Z} {others : List Asked} {after : Z}
+      → AsksAll finds asked first before more middle → AsksAll finds (asked ++ more) then middle others after →
+      AsksAll finds asked (first ++ then) before (more ++ others) after
+  all-then-all {asked = asked} {first = first} {then = then} {before = before} {more = more} {middle = middle} {others = others} {after = after} h k = record {
+    each = each-append middle others after k.each before more h.each;
+    names = ap names_of (sym (append_assoc asked more others)) ∙ (k.names ∙ names-then asked more first then h.names);
+  }
+
+  pub all-then-some : {asked : List Asked} {first then : List (List ℕ)} {before : Z} {more : List Asked} {middle : Z} {others : List Asked} {after : Z}
+      → AsksAll finds asked first before more middle → AsksSome finds (asked ++ more) then middle others after →
+      AsksSome finds asked (first ++ then) before (more ++ others) after
+  all-then-some {asked = asked} {first = first} {then = then} {before = before} {more = more} {middle = middle} {others = others} h k = record {
+    last = k.last;
+    each = each-append middle others k.last k.each before more h.each;
+    rest = k.rest;
+    names = ap (λ (all : List Asked). names_of all ++ k.rest) (sym (append_assoc asked more others)) ∙ (k.names ∙ names-then asked more first then h.names);
+    ended = k.ended;
+  }
+
+  pub all-some : {asked : List Asked} {wanted : List (List ℕ)} {before : Z} {more : List Asked} {after : Z} → AsksAll finds asked wanted before more after →
+      AsksSome finds asked wanted before more after
+  all-some {asked = asked} {more = more} {after = after} h = record {
+    last = after;
+    each = h.each;
+    rest = [];
+    names = append-nil (names_of (asked ++ more)) ∙ h.names;
+    ended = inl refl;
+  }
+
+  -- what is wanted further is left
+  pub some-front : (then : List (List ℕ)) {asked : List Asked} {first : List (List ℕ)} {before : Z} {more : List Asked} {after : Z} →
+      AsksSome finds asked first before more after → AsksSome finds asked (first ++ then) before more after
+  some-front then {asked = asked} {first = first} {more = more} {after = after} h =
+      let further = and_names-more (and_names (names_of asked) first) then in
+      record {
+        last = h.last;
+        each = h.each;
+        rest = h.rest ++ further.0;
+        names = sym (append_assoc (names_of (asked ++ more)) h.rest further.0)
+            ∙ (ap (λ (front : List (List ℕ)). front ++ further.0) h.names ∙ (sym further.1 ∙ sym (and_names-append (names_of asked) first then)));
+        ended = go h.rest h.ended;
+      }
+    where
+      go : (rest : List (List ℕ)) → (after ≡ h.last)
+          ⊎ ((name : List ℕ) × (others : List (List ℕ)) × (rest ≡ name ∷ others) × finds h.last name (Err Memory) after)
+          → (after ≡ h.last) ⊎ ((name : List ℕ) × (others : List (List ℕ))
+          × (rest ++ (and_names-more (and_names (names_of asked) first) then).0 ≡ name ∷ others) × finds h.last name (Err Memory) after)
+      go rest (inl same) = inl same
+      go rest (inr e) =
+          let further = and_names-more (and_names (names_of asked) first) then in
+          inr (e.0, e.1 ++ further.0, ap (λ (all : List (List ℕ)). all ++ further.0) e.2, e.3)
+
+  -- a name that is asked for
+  pub one-asked : (asked : List Asked) (one : Asked) {before : Z} {answer : FindAnswer} {after : Z} → list_any (bytes_eq one.0) (names_of asked) ≡ false →
+      finds before one.0 answer after → found_of answer ≡ Some one.1
+      → AsksAll finds asked (one.0 ∷ []) before (one ∷ []) after
+  one-asked asked one {answer = answer} {after = after} fresh f is = record {
+    each = (answer, after, f, is, refl);
+    names = names-append asked (one ∷ []) ∙ sym (and_name-new (names_of asked) one.0 fresh);
+  }
+
+  is-memory : (answer : FindAnswer) → None ≡ found_of answer → answer ≡ Err Memory
+  is-memory (Err Memory) e = refl
+  is-memory (Err Device) e = cc
+  is-memory (Err TooLarge) e = cc
+  is-memory (Ok None) e = cc
+  is-memory (Ok (Some bytes)) e = cc
+
+  -- an allocation failed in the find
+  pub one-failed : (asked : List Asked) (name : List ℕ) {before : Z} {answer : FindAnswer} {after : Z} → list_any (bytes_eq name) (names_of asked) ≡ false →
+      finds before name answer after → None ≡ found_of answer
+      → AsksSome finds asked (name ∷ []) before [] after
+  one-failed asked name {before = before} {answer = answer} {after = after} fresh f is = record {
+    last = before;
+    each = refl;
+    rest = name ∷ [];
+    names = ap (λ (all : List Asked). names_of all ++ name ∷ []) (append-nil asked) ∙ sym (and_name-new (names_of asked) name fresh);
+    ended = inr (name, [], refl, subst (λ (a : FindAnswer). finds before name a after) (is-memory answer is) f);
+  }

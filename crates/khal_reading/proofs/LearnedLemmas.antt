@@ -1,0 +1,150 @@
+-- What is known of the names that were asked for.
+use Rattle.std.proofs.Common.{◌≡◌, ◌<◌, ◌+◌, ℕ, suc, Bool, true, false, ◌||◌, ◌&&◌, List, [], ◌∷◌, ◌++◌, Some, None, arith, drop, get_or, length, take, refl}
+use Rattle.std.proofs.Common.{sym, ◌∙◌, ap, subst, append_assoc, append-nil}
+use Rattle.std.proofs.Math.Seq.{take-suc}
+use Rattle.std.proofs.lemmas.List.{take-append-drop}
+use Rattle.std.specs.BTreeSet.{contains}
+use Rattle.std.specs.Cmp.Lexicographic.{slice_cmp}
+use Rattle.std.specs.List.{list_any}
+use Rattle.std.specs.Ordering.{nat_cmp}
+use Rattle.std.specs.Str.{bytes_eq}
+use Rattle.std.proofs.lemmas.List.Folds.{list_any-append}
+use Rattle.ics_calendar.specs.ZoneTables.{given_by}
+use Rattle.khal_reading.specs.declared.answered.Answered.{Answered}
+use Rattle.khal_reading.specs.Asked.{given_files, is_unread, names_of, was_unread, with_found, Asked}
+use Rattle.khal_ports.specs.Finds.{found_of, FindAnswer, Found}
+use Rattle.khal_reading.specs.Learned.{Keeps, Knows, Learns, LearnsSome}
+use Rattle.khal_reading.proofs.AskedLemmas as lemma
+use Rattle.khal_reading.proofs.AskedLemmas.{IsIn}
+
+keeps-none : (asked : List Asked) → Keeps asked []
+keeps-none asked = record {
+  files = λ name _. ap (λ (all : List Asked). given_files all name) (append-nil asked);
+  unread = λ name _. ap (λ (all : List Asked). is_unread all name) (append-nil asked);
+}
+
+keeps-one : (asked : List Asked) (one : Asked) → list_any (bytes_eq one.0) (names_of asked) ≡ false → Keeps asked (one ∷ [])
+keeps-one asked one fresh = record {
+  files = λ name h. lemma.given-other asked one name (lemma.apart name one.0 (names_of asked) h fresh);
+  unread = λ name h. lemma.unread-other asked one name (lemma.apart name one.0 (names_of asked) h fresh);
+}
+
+pub keeps-then : (asked more others : List Asked) → Keeps asked more → Keeps (asked ++ more) others → Keeps asked (more ++ others)
+keeps-then asked more others h k = record {
+  files = λ name is. ap (λ (all : List Asked). given_files all name) (sym (append_assoc asked more others)) ∙ (k.files name (still name is) ∙ h.files name is);
+  unread = λ name is. ap (λ (all : List Asked). is_unread all name) (sym (append_assoc asked more others)) ∙ (k.unread name (still name is) ∙ h.unread name is);
+}
+  where
+    still : (name : List ℕ) → IsIn name (names_of asked) → IsIn name (names_of (asked ++ more))
+    still name is = subst (IsIn name) (sym (lemma.names-append asked more)) (lemma.in-front name (names_of asked) (names_of more) is)
+
+swap : (a b : Bool) → (a || b) ≡ (b || (a || false))
+swap true true = refl
+swap true false = refl
+swap false true = refl
+swap false false = refl
+
+-- a name more is known
+module _ (asked : List Asked) (one : Asked) (old new : Answered)
+    (files : (name : List ℕ) → given_by new.files name ≡ with_found (given_by old.files) one name)
+    (names : (name : List ℕ) → contains (slice_cmp nat_cmp) new.names name ≡ (bytes_eq name one.0 || contains (slice_cmp nat_cmp) old.names name))
+    (unread : (name : List ℕ) → contains (slice_cmp nat_cmp) new.unread name
+    ≡ ((bytes_eq name one.0 && was_unread one.1) || contains (slice_cmp nat_cmp) old.unread name)) where
+  knows-one : Knows asked old → Knows (asked ++ one ∷ []) new
+  knows-one k = record {
+    files = λ name. files name ∙ (lemma.with_found-same (given_by old.files) (given_files asked) one name (k.files name)
+        ∙ sym (lemma.given-one asked one name));
+    names = λ name. names name ∙ (ap (λ (t : Bool). bytes_eq name one.0 || t) (k.names name)
+        ∙ (swap (bytes_eq name one.0) (list_any (bytes_eq name) (names_of asked))
+        ∙ (sym (list_any-append (bytes_eq name) (names_of asked) (one.0 ∷ [])) ∙ ap (list_any (bytes_eq name)) (sym (lemma.names-append asked (one ∷ []))))));
+    unread = λ name. unread name ∙ (ap (λ (t : Bool). (bytes_eq name one.0 && was_unread one.1) || t) (k.unread name)
+        ∙ (swap (bytes_eq name one.0 && was_unread one.1) (is_unread asked name) ∙ sym (lemma.unread-one asked one name)));
+  }
+
+module _ {Z : Type 0} (finds : Z → List ℕ → FindAnswer → Z → Type 0) where
+  pub learns-none : (asked : List Asked) (state : Z) (answered : Answered) → Knows asked answered → Learns finds asked [] state state answered
+  learns-none asked state answered k = record {
+    more = [];
+    asks = lemma.none-asked finds asked state;
+    knows = subst (λ (all : List Asked). Knows all answered) (sym (append-nil asked)) k;
+    keeps = keeps-none asked;
+  }
+
+  pub learns-then : {asked : List Asked} {first then : List (List ℕ)} {before middle after : Z} {a b : Answered}
+      → (h : Learns finds asked first before middle a) → Learns finds (asked ++ h.more) then middle after b → Learns finds asked (first ++ then) before after b
+  learns-then {asked = asked} {b = b} h k = record {
+    more = h.more ++ k.more;
+    asks = lemma.all-then-all finds h.asks k.asks;
+    knows = subst (λ (all : List Asked). Knows all b) (append_assoc asked h.more k.more) k.knows;
+    keeps = keeps-then asked h.more k.more h.keeps k.keeps;
+  }
+
+  pub learns-then-some : {asked : List Asked} {first then : List (List ℕ)} {before middle after : Z} {a : Answered}
+      → (h : Learns finds asked first before middle a) → LearnsSome finds (asked ++ h.more) then middle after →
+      LearnsSome finds asked (first ++ then) before after
+  learns-then-some h k = record {
+    more = h.more ++ k.more;
+    asks = lemma.all-then-some finds h.asks k.asks;
+  }
+
+  pub learns-front : (asked : List Asked) (first then : List (List ℕ)) (before after : Z) → LearnsSome finds asked first before after →
+      LearnsSome finds asked (first ++ then) before after
+  learns-front asked first then before after h = record { more = h.more; asks = lemma.some-front finds then h.asks }
+
+  pub learns-some : (asked : List Asked) (wanted : List (List ℕ)) (before after : Z) (a : Answered) → Learns finds asked wanted before after a →
+      LearnsSome finds asked wanted before after
+  learns-some asked wanted before after a h = record { more = h.more; asks = lemma.all-some finds h.asks }
+
+  module _ (asked : List Asked) (name : List ℕ) (before after : Z) (old : Answered) (k : Knows asked old)
+      (new-name : contains (slice_cmp nat_cmp) old.names name ≡ false)
+      (answer : FindAnswer) (f : finds before name answer after) where
+    fresh : list_any (bytes_eq name) (names_of asked) ≡ false
+    fresh = sym (k.names name) ∙ new-name
+
+    pub fails : None ≡ found_of answer → LearnsSome finds asked (name ∷ []) before after
+    fails is = record { more = []; asks = lemma.one-failed finds asked name fresh f is }
+
+    module _ (found : Found) (is : Some found ≡ found_of answer) where
+      pub learns-some-one : LearnsSome finds asked (name ∷ []) before after
+      learns-some-one = record {
+        more = (name, found) ∷ [];
+        asks = lemma.all-some finds (lemma.one-asked finds asked (name, found) fresh f (sym is));
+      }
+
+      pub learns-one : (new : Answered)
+          → ((other : List ℕ) → given_by new.files other ≡ with_found (given_by old.files) (name, found) other)
+          → ((other : List ℕ) → contains (slice_cmp nat_cmp) new.names other ≡ (bytes_eq other name || contains (slice_cmp nat_cmp) old.names other))
+          → ((other : List ℕ) → contains (slice_cmp nat_cmp) new.unread other
+          ≡ ((bytes_eq other name && was_unread found) || contains (slice_cmp nat_cmp) old.unread other))
+          → Learns finds asked (name ∷ []) before after new
+      learns-one new files names unread = record {
+        more = (name, found) ∷ [];
+        asks = lemma.one-asked finds asked (name, found) fresh f (sym is);
+        knows = knows-one asked (name, found) old new files names unread k;
+        keeps = keeps-one asked (name, found) fresh;
+      }
+
+-- ---- a loop over names
+
+next-front : (names : List (List ℕ)) (i : ℕ) (name : List ℕ) → i < length names → name ≡ get_or names i name → take i names ++ name ∷ [] ≡ take (i + 1) names
+next-front names i name h e =
+    let next : suc i ≡ i + 1 = omega arith in
+    ap (λ (n : List ℕ). take i names ++ n ∷ []) e ∙ (sym (take-suc names i name h) ∙ ap (λ (k : ℕ). take k names) next)
+
+front-all : (names : List (List ℕ)) (i : ℕ) (name : List ℕ) → i < length names → name ≡ get_or names i name →
+    (take i names ++ name ∷ []) ++ drop (i + 1) names ≡ names
+front-all names i name h e = ap (λ (front : List (List ℕ)). front ++ drop (i + 1) names) (next-front names i name h e) ∙ take-append-drop (i + 1) names
+
+module _ {Z : Type 0} (finds : Z → List ℕ → FindAnswer → Z → Type 0) (asked : List Asked) (names : List (List ℕ)) (i : ℕ) (name : List ℕ)
+    (inside : i < length names) (is : name ≡ get_or names i name) (before middle after : Z) (a : Answered)
+    (h : Learns finds asked (take i names) before middle a) where
+  pub learns-next : (b : Answered) → Learns finds (asked ++ h.more) (name ∷ []) middle after b → Learns finds asked (take (i + 1) names) before after b
+  learns-next b k =
+      subst (λ (front : List (List ℕ)). Learns finds asked front before after b) (next-front names i name inside is)
+      (learns-then finds h k)
+
+  pub fails-next : LearnsSome finds (asked ++ h.more) (name ∷ []) middle after → LearnsSome finds asked names before after
+  fails-next k =
+      subst (λ (all : List (List ℕ)). LearnsSome finds asked all before after) (front-all names i name inside is)
+      (learns-front finds asked (take i names ++ name ∷ []) (drop (i + 1) names) before after
+      (learns-then-some finds h k))

@@ -1,0 +1,7 @@
+pub mod AskedLemmas
+pub mod LearnedLemmas
+pub mod OutcomeLemmas
+pub mod ReadLemmas
+pub mod RefusedLemmas
+pub mod ShownExamples
+pub mod ZoneLawLemmas

@@ -1,0 +1,140 @@
+-- What the bytes of a file come to.
+use Rattle.std.proofs.Common.{◌≡◌, ℕ, Bool, true, false, List, [], ◌++◌, Some, None, Result, Ok, Err, All, IfOk, OnErr, if◌then◌else◌, refl, sym, ◌∙◌, ap}
+use Rattle.std.proofs.Common.{subst}
+use Rattle.std.specs.BTreeSet.{contains}
+use Rattle.std.specs.Cmp.Lexicographic.{slice_cmp, nat_list_eq_equiv}
+use Rattle.std.specs.List.{list_any}
+use Rattle.std.specs.Ordering.{nat_cmp}
+use Rattle.std.proofs.lemmas.Map.Views.{All-from_any}
+use Rattle.ics_event.specs.Event.{FileSaid}
+use Rattle.ics_calendar.specs.Drafts.{IsFaultOf}
+use Rattle.ics_calendar.specs.Files.{draft_of, file_of, DraftSaid, wanted_names}
+use Rattle.ics_calendar.specs.GivenFiles.{GivenFiles}
+use Rattle.ics_calendar.specs.ZoneTables.{given_by}
+use Rattle.ics_components.specs.declared.fault.FaultKind.{FaultKind}
+use Rattle.ics_components.specs.declared.fault.FileFault.{FileFault}
+use Rattle.ics_components.specs.declared.fault.FileFault.TheVariants.{At}
+use Rattle.khal_reading.specs.declared.answered.Answered.{Answered}
+use Rattle.khal_ports.specs.declared.fault.RunFault.{RunFault}
+use Rattle.khal_reading.specs.declared.outcome.Outcome.{Outcome}
+use Rattle.khal_reading.specs.Asked.{given_files, is_unread, Asked}
+use Rattle.khal_reading.specs.Errors.{file_by, file_or_refusal, Refusal}
+use Rattle.khal_ports.specs.Finds.{FindAnswer}
+use Rattle.khal_reading.specs.Learned.{Knows, Learns, LearnsSome, Settles}
+use Rattle.khal_reading.specs.Outcomes.{seen_outcome, EndsReading, IsOutcome}
+use Rattle.khal_reading.proofs.AskedLemmas.{any-same}
+use Rattle.khal_reading.proofs.LearnedLemmas.{learns-front, learns-none, learns-some}
+
+-- zone files that agree on the names that a file wants give it one meaning
+abbrev pub OnlyWantedCount : Type 0
+OnlyWantedCount = (files others : GivenFiles) (file : List ℕ) → All (λ name. files name ≡ others name) (wanted_names file) →
+    file_of files file ≡ file_of others file
+
+abbrev pub file_if : Bool → Result FileSaid Refusal → Result FileSaid Refusal
+file_if unread file = if unread then Err None else file
+
+pub file-unread : (asked : List Asked) (bytes : List ℕ) → list_any (is_unread asked) (wanted_names bytes) ≡ true → file_by asked (Some bytes) ≡ Err None
+file-unread asked bytes h = ap (λ (t : Bool). file_if t (file_or_refusal (file_of (given_files asked) bytes))) h
+
+pub file-read : (asked : List Asked) (bytes : List ℕ) → list_any (is_unread asked) (wanted_names bytes) ≡ false →
+    file_by asked (Some bytes) ≡ file_or_refusal (file_of (given_files asked) bytes)
+file-read asked bytes h = ap (λ (t : Bool). file_if t (file_or_refusal (file_of (given_files asked) bytes))) h
+
+none-wanted : (asked : List Asked) (bytes : List ℕ) → wanted_names bytes ≡ [] → list_any (is_unread asked) (wanted_names bytes) ≡ false
+none-wanted asked bytes h = ap (list_any (is_unread asked)) h
+
+module _ {Z : Type 0} (finds : Z → List ℕ → FindAnswer → Z → Type 0) (asked : List Asked) (bytes : List ℕ) (before after : Z) (answered : Answered) where
+  -- the names of a draft of these bytes
+  pub wanted-learned : (wanted : List (List ℕ)) → wanted ≡ wanted_names bytes → Learns finds asked wanted before after answered →
+      Learns finds asked (wanted_names bytes) before after answered
+  wanted-learned wanted same h = subst (λ (w : List (List ℕ)). Learns finds asked w before after answered) same h
+
+  module _ (h : Learns finds asked (wanted_names bytes) before after answered) where
+    lacks-is : list_any (contains (slice_cmp nat_cmp) answered.unread) (wanted_names bytes) ≡ list_any (is_unread (asked ++ h.more)) (wanted_names bytes)
+    lacks-is = any-same (contains (slice_cmp nat_cmp) answered.unread) (is_unread (asked ++ h.more)) (wanted_names bytes) h.knows.unread
+
+    pub settles-unread : list_any (contains (slice_cmp nat_cmp) answered.unread) (wanted_names bytes) ≡ true →
+        Settles finds asked (Some bytes) before after answered (Err None)
+    settles-unread lacks = record { learns = h; outcome_is = sym (file-unread (asked ++ h.more) bytes (sym lacks-is ∙ lacks)) }
+
+    pub settles-read : OnlyWantedCount → list_any (contains (slice_cmp nat_cmp) answered.unread) (wanted_names bytes) ≡ false
+        → (outcome : Result FileSaid Refusal) → outcome ≡ file_or_refusal (file_of (given_by answered.files) bytes) →
+        Settles finds asked (Some bytes) before after answered outcome
+    settles-read count lacks outcome is =
+        let files : file_of (given_by answered.files) bytes ≡ file_of (given_files (asked ++ h.more)) bytes =
+        count (given_by answered.files) (given_files (asked ++ h.more)) bytes
+        (All-from_any nat_list_eq_equiv (λ name. given_by answered.files name ≡ given_files (asked ++ h.more) name) (wanted_names bytes)
+        (λ name _. h.knows.files name)) in
+        record { learns = h; outcome_is = is ∙ (ap file_or_refusal files ∙ sym (file-read (asked ++ h.more) bytes (sym lacks-is ∙ lacks))) }
+
+  -- the first round finds a fault
+  pub settles-fault : Knows asked answered → before ≡ after → wanted_names bytes ≡ [] → (outcome : Result FileSaid Refusal) →
+      ((files : GivenFiles) → outcome ≡ file_or_refusal (file_of files bytes))
+      → Settles finds asked (Some bytes) before after answered outcome
+  settles-fault k same none outcome is =
+      let h : Learns finds asked (wanted_names bytes) before after answered =
+      subst (λ (w : List (List ℕ)). Learns finds asked w before after answered) (sym none)
+      (subst (λ (z : Z). Learns finds asked [] before z answered) same (learns-none finds asked before answered k)) in
+      record {
+        learns = h;
+        outcome_is = is (given_files (asked ++ h.more))
+            ∙ sym (file-read (asked ++ h.more) bytes (none-wanted (asked ++ h.more) bytes none));
+      }
+
+-- what holds of a good answer, shown of each
+pub ok-as : {T E : Type 0} {P Q : T → Type 0} (result : Result T E) → ((x : T) → P x → Q x) → IfOk result P → IfOk result Q
+ok-as (Ok x) gives h = gives x h
+ok-as (Err e) gives h = tt
+
+-- a draft of these bytes whose names are asked for
+module _ {Z : Type 0} (finds : Z → List ℕ → FindAnswer → Z → Type 0) (asked : List Asked) (bytes : List ℕ) (before after : Z) (answered : Answered)
+    (said : DraftSaid) (d : said ≡ draft_of bytes) (wanted again : List (List ℕ)) (w : wanted ≡ said.wants) (v : again ≡ said.wants)
+    (h : Learns finds asked wanted before after answered)
+    (lacks : Bool) (l : lacks ≡ list_any (contains (slice_cmp nat_cmp) answered.unread) again) where
+  names : said.wants ≡ wanted_names bytes
+  names = ap (λ (s : DraftSaid). s.wants) d
+
+  learned : Learns finds asked (wanted_names bytes) before after answered
+  learned = wanted-learned finds asked bytes before after answered wanted (w ∙ names) h
+
+  lacking : lacks ≡ list_any (contains (slice_cmp nat_cmp) answered.unread) (wanted_names bytes)
+  lacking = l ∙ ap (list_any (contains (slice_cmp nat_cmp) answered.unread)) (v ∙ names)
+
+  pub draft-unread : lacks ≡ true → Settles finds asked (Some bytes) before after answered (Err None)
+  draft-unread t = settles-unread finds asked bytes before after answered learned (sym lacking ∙ t)
+
+  pub draft-read : OnlyWantedCount → lacks ≡ false → (outcome : Result FileSaid Refusal) → outcome ≡ file_or_refusal (said.says (given_by answered.files)) →
+      Settles finds asked (Some bytes) before after answered outcome
+  draft-read count t outcome is =
+      settles-read finds asked bytes before after answered learned count (sym lacking ∙ t) outcome (is
+      ∙ ap (λ (s : DraftSaid). file_or_refusal (s.says (given_by answered.files))) d)
+
+-- nothing is asked for
+pub asks-none : {Z : Type 0} (finds : Z → List ℕ → FindAnswer → Z → Type 0) (asked : List Asked) (wanted : List (List ℕ)) (state : Z) (answered : Answered) →
+    Knows asked answered → LearnsSome finds asked wanted state state
+asks-none finds asked wanted state answered k =
+    learns-front finds asked [] wanted state state (learns-some finds asked [] state state answered (learns-none finds asked state answered k))
+
+-- what is read of the bytes of a file
+module _ {Z : Type 0} (finds : Z → List ℕ → FindAnswer → Z →
+    Type 0) (before after : Z) (known known' : Answered) (bytes read : List ℕ) (same : read ≡ bytes) where
+  pub bytes-outcome : (result : Result Outcome RunFault) →
+      IfOk result (λ outcome. (asked : List Asked) → Knows asked known → Settles finds asked (Some read) before after known' (seen_outcome outcome))
+      → IfOk result (λ outcome. IsOutcome finds (Ok bytes) before after known known' (seen_outcome outcome))
+  bytes-outcome (Ok outcome) h = record {
+    given = Some bytes;
+    some = refl;
+    settles = λ asked k. subst (λ (b : List ℕ). Settles finds asked (Some b) before after known' (seen_outcome outcome)) same (h asked k);
+  }
+  bytes-outcome (Err fault) h = tt
+
+  pub bytes-end : (result : Result Outcome RunFault) →
+      OnErr result ((asked : List Asked) → Knows asked known → LearnsSome finds asked (wanted_names read) before after)
+      → OnErr result (EndsReading finds (Ok bytes) before after known)
+  bytes-end (Ok outcome) h = tt
+  bytes-end (Err fault) h = EndsReading.AfterRead bytes refl
+      (λ asked k. subst (λ (b : List ℕ). LearnsSome finds asked (wanted_names b) before after) same (h asked k))
+
+pub fault-of : (bytes : List ℕ) (fault : FileFault) → IsFaultOf bytes fault → (line : ℕ) (kind : FaultKind) → fault ≡ At line kind
+    → ((files : GivenFiles) → file_of files bytes ≡ Err (record { line = line; kind = kind })) × (wanted_names bytes ≡ [])
+fault-of bytes fault h line kind e = subst (IsFaultOf bytes) e h

@@ -1,0 +1,209 @@
+-- One read more.
+use Rattle.std.proofs.Common.{◌≡◌, ◌≤◌, inl, inr, ℕ, suc, ◌+◌, Bool, ◌||◌, List, [], ◌∷◌, ◌++◌, Result, Ok, Err, Some, None, length, refl, sym, ◌∙◌, ap, subst}
+use Rattle.std.proofs.Common.{arith, length-append, append_assoc, append-nil}
+use Rattle.std.specs.Prelude.{slice_get}
+use Rattle.std.specs.Cmp.Lexicographic.{nat_list_eq_equiv}
+use Rattle.std.specs.List.{list_any}
+use Rattle.std.specs.Str.{bytes_eq}
+use Rattle.std.proofs.lemmas.Map.Views.{All-from_any}
+use Rattle.ics_event.specs.Event.{FileSaid}
+use Rattle.ics_calendar.specs.Files.{file_of, wanted_names}
+use Rattle.khal_reading.specs.declared.answered.Answered.{Answered}
+use Rattle.khal_ports.specs.Answers.{Answer, Contents, contents_of}
+use Rattle.khal_reading.specs.Asked.{all_wanted, given_files, is_unread, names_of, wanted_of, Asked, AsksAll, AsksSome}
+use Rattle.khal_reading.specs.Errors.{Refusal, file_by, file_or_refusal, events_first, accepted, error_line, error_lines}
+use Rattle.khal_ports.specs.Finds.{FindAnswer}
+use Rattle.khal_reading.specs.Learned.{Keeps, Knows}
+use Rattle.khal_reading.specs.Outcomes.{EndsReading, IsOutcome, IsReading}
+use Rattle.khal_ports.specs.Reads.{ReadsFrom, ReadsSome}
+use Rattle.khal_ports.specs.declared.fault.SourceFault.TheVariants.{Memory}
+use Rattle.khal_reading.proofs.AskedLemmas.{all-some, all-then-all, all-then-some, in-back, in-front, wanted-in, IsIn}
+use Rattle.khal_reading.proofs.OutcomeLemmas.{OnlyWantedCount, file_if}
+
+events_first-append : (file : Result FileSaid Refusal) (xs ys : List FileSaid) → events_first file (xs ++ ys) ≡ events_first file xs ++ ys
+events_first-append (Ok file) xs ys = refl
+events_first-append (Err refusal) xs ys = refl
+
+accepted-more : (asked : List Asked) (contents : List Contents) (a : Contents) →
+    accepted asked (contents ++ a ∷ []) ≡ accepted asked contents ++ events_first (file_by asked a) []
+accepted-more asked [] a = refl
+accepted-more asked (b ∷ contents) a =
+    ap (events_first (file_by asked b)) (accepted-more asked contents a)
+    ∙ events_first-append (file_by asked b) (accepted asked contents) (events_first (file_by asked a) [])
+
+error_lines-none : (names : List (List ℕ)) (asked : List Asked) → error_lines names asked [] ≡ []
+error_lines-none [] asked = refl
+error_lines-none (name ∷ names) asked = refl
+
+error_lines-more : (names : List (List ℕ)) (asked : List Asked) (name : List ℕ) (contents : List Contents) (a : Contents) →
+    slice_get names (length contents) ≡ Some name
+    → error_lines names asked (contents ++ a ∷ []) ≡ error_lines names asked contents ++ error_line name (file_by asked a)
+error_lines-more [] asked name contents a found = cc
+error_lines-more (first ∷ names) asked name [] a found =
+    let same : first ≡ name = cc in
+    ap (λ rest. error_line first (file_by asked a) ++ rest) (error_lines-none names asked)
+    ∙ (append-nil (error_line first (file_by asked a)) ∙ ap (λ n. error_line n (file_by asked a)) same)
+error_lines-more (first ∷ names) asked name (b ∷ contents) a found =
+    ap (λ rest. error_line first (file_by asked b) ++ rest) (error_lines-more names asked name contents a found)
+    ∙ sym (append_assoc (error_line first (file_by asked b)) (error_lines names asked contents) (error_line name (file_by asked a)))
+
+all_wanted-more : (contents : List Contents) (a : Contents) → all_wanted (contents ++ a ∷ []) ≡ all_wanted contents ++ wanted_of a
+all_wanted-more [] a = append-nil (wanted_of a)
+all_wanted-more (b ∷ contents) a = ap (λ rest. wanted_of b ++ rest) (all_wanted-more contents a)
+    ∙ sym (append_assoc (wanted_of b) (all_wanted contents) (wanted_of a))
+
+-- ---- what is asked for later changes no outcome
+
+any-kept : (s t : List ℕ → Bool) (names : List (List ℕ)) → ((name : List ℕ) → IsIn name names → s name ≡ t name) → list_any s names ≡ list_any t names
+any-kept s t [] same = refl
+any-kept s t (x ∷ xs) same =
+    let first : IsIn x (x ∷ xs) = ap (λ (b : Bool). b || list_any (bytes_eq x) xs) (nat_list_eq_equiv.refl x) in
+    ap (λ (b : Bool). b || list_any s xs) (same x first) ∙ ap (λ (b : Bool). t x || b) (any-kept s t xs (λ name h. same name (in-back name (x ∷ []) xs h)))
+
+module _ (count : OnlyWantedCount) (asked more : List Asked) (keeps : Keeps asked more) where
+  file-kept : (given : Contents) → ((name : List ℕ) → IsIn name (wanted_of given) → IsIn name (names_of asked)) →
+      file_by (asked ++ more) given ≡ file_by asked given
+  file-kept None in-asked = refl
+  file-kept (Some bytes) in-asked =
+      let unread : list_any (is_unread (asked ++ more)) (wanted_names bytes) ≡ list_any (is_unread asked) (wanted_names bytes) =
+      any-kept (is_unread (asked ++ more)) (is_unread asked) (wanted_names bytes) (λ name h. keeps.unread name (in-asked name h)) in
+      let file : file_of (given_files (asked ++ more)) bytes ≡ file_of (given_files asked) bytes = count (given_files (asked ++ more)) (given_files asked) bytes
+      (All-from_any nat_list_eq_equiv (λ name. given_files (asked ++ more) name ≡ given_files asked name) (wanted_names bytes)
+      (λ name h. keeps.files name (in-asked name h))) in
+      ap (λ (t : Bool). file_if t (file_or_refusal (file_of (given_files (asked ++ more)) bytes))) unread
+      ∙ ap (λ f. file_if (list_any (is_unread asked) (wanted_names bytes)) (file_or_refusal f)) file
+
+  accepted-kept : (contents : List Contents) → ((name : List ℕ) → IsIn name (all_wanted contents) → IsIn name (names_of asked)) →
+      accepted (asked ++ more) contents ≡ accepted asked contents
+  accepted-kept [] in-asked = refl
+  accepted-kept (a ∷ contents) in-asked =
+      ap (λ file. events_first file (accepted (asked ++ more) contents))
+      (file-kept a (λ name h. in-asked name (in-front name (wanted_of a) (all_wanted contents) h)))
+      ∙ ap (events_first (file_by asked a)) (accepted-kept contents (λ name h. in-asked name (in-back name (wanted_of a) (all_wanted contents) h)))
+
+  lines-kept : (names : List (List ℕ)) (contents : List Contents) → ((name : List ℕ) → IsIn name (all_wanted contents) → IsIn name (names_of asked)) →
+      error_lines names (asked ++ more) contents ≡ error_lines names asked contents
+  lines-kept [] contents in-asked = refl
+  lines-kept (name ∷ names) [] in-asked = refl
+  lines-kept (name ∷ names) (a ∷ contents) in-asked =
+      ap (λ file. error_line name file ++ error_lines names (asked ++ more) contents)
+      (file-kept a (λ n h. in-asked n (in-front n (wanted_of a) (all_wanted contents) h)))
+      ∙ ap (λ rest. error_line name (file_by asked a) ++ rest) (lines-kept names contents (λ n h. in-asked n (in-back n (wanted_of a) (all_wanted contents) h)))
+
+module _ {S Z : Type 0} (reads : S → ℕ → Answer → S → Type 0) (finds : Z → List ℕ → FindAnswer → Z → Type 0) where
+  -- a read of a file gave these contents
+  pub record Gave (after : S) (j : ℕ) (a : Contents) (last : S) : Type 0 where
+    pub answer : Answer
+    pub read : reads after j answer last
+    pub gives : contents_of answer ≡ Some a
+
+  reads-more : (before : S) (i : ℕ) (contents : List Contents) {after : S} {j : ℕ} {a : Contents} {last : S} →
+      ReadsFrom reads before i contents after → j ≡ i + length contents
+      → Gave after j a last → ReadsFrom reads before i (contents ++ a ∷ []) last
+  reads-more before i [] {j = j} {last = last} h e g =
+      let at : j ≡ i = omega (arith, e) in
+      (g.answer, last, subst (λ k. reads before k g.answer last) at (subst (λ state. reads state j g.answer last) h g.read), g.gives, refl)
+  reads-more before i (b ∷ contents) h e g =
+      (h.0, h.1, h.2, h.3, reads-more h.1 (i + 1) contents h.4 (omega (arith, e)) g)
+
+  -- the reads of the first files, what is asked for, and what is kept of them
+  pub record Done (names : List (List ℕ)) (before : S) (zones : Z) (i : ℕ) (after : S) (zones' : Z) (answered : Answered) (files : List FileSaid)
+      (errors : List ℕ) : Type 0 where
+    pub contents : List Contents
+    pub asked : List Asked
+    pub from_first : ReadsFrom reads before 0 contents after
+    pub long : length contents ≡ i
+    pub asks : AsksAll finds [] (all_wanted contents) zones asked zones'
+    pub knows : Knows asked answered
+    pub kept : IsReading names asked contents files errors
+
+  pub done-none : {names : List (List ℕ)} {before : S} {zones : Z} {answered : Answered} {files : List FileSaid} {errors : List ℕ} → Knows [] answered →
+      files ≡ [] → errors ≡ []
+      → Done names before zones 0 before zones answered files errors
+  done-none {names = names} k f e = record {
+    contents = [];
+    asked = [];
+    from_first = refl;
+    long = refl;
+    asks = record { each = refl; names = refl };
+    knows = k;
+    kept = record { files_are = f; errors_are = e ∙ sym (error_lines-none names []) };
+  }
+
+  module _ {names : List (List ℕ)} {before : S} {zones : Z} {i : ℕ} {after : S} {zones' : Z} {answered : Answered} {files : List FileSaid} {errors : List ℕ}
+      (d : Done names before zones i after zones' answered files errors) where
+    some-more : {a : Contents} {last : S} → Gave after i a last → suc i ≤ length names → ReadsSome reads names before (d.contents ++ a ∷ []) last
+    some-more {a = a} {last = last} g h = record {
+      last = last;
+      from_first = reads-more before 0 d.contents d.from_first (omega (arith, d.long)) g;
+      ended = inl (refl, omega (arith, length-append d.contents (a ∷ []), d.long, h));
+    }
+
+    -- the next read, in which an allocation failed, or after which one failed
+    pub read-some : {answer : Answer} {last : S} {zones'' : Z} → reads after i answer last → suc i ≤ length names →
+        EndsReading finds answer zones' zones'' answered
+        → (contents : List Contents) × (asked : List Asked) × ReadsSome reads names before contents last
+        × AsksSome finds [] (all_wanted contents) zones asked zones''
+    read-some {last = last} r h (EndsReading.InRead memory same) = (
+      d.contents,
+      d.asked,
+      record {
+        last = after;
+        from_first = d.from_first;
+        ended = inr (subst (λ k. reads after k (Err Memory) last) (sym d.long) (subst (λ a. reads after i a last) memory r), omega (arith, d.long, h));
+      },
+      subst (λ z. AsksSome finds [] (all_wanted d.contents) zones d.asked z) (sym same) (all-some finds d.asks),
+    )
+    read-some {answer = answer} {zones'' = zones''} r h (EndsReading.AfterRead bytes gave learns) =
+        let some = learns d.asked d.knows in (
+          d.contents ++ Some bytes ∷ [],
+          d.asked ++ some.more,
+          some-more (record { answer = answer; read = r; gives = ap contents_of gave }) h,
+          subst (λ wanted. AsksSome finds [] wanted zones (d.asked ++ some.more) zones'') (sym (all_wanted-more d.contents (Some bytes)))
+              (all-then-some finds d.asks some.asks),
+        )
+
+    -- the next read comes to something, and nothing is kept of it
+    pub stops-after : {answer : Answer} {last : S} {zones'' : Z} {answered' : Answered} {file : Result FileSaid Refusal} → reads after i answer last →
+        suc i ≤ length names → IsOutcome finds answer zones' zones'' answered answered' file
+        → (contents : List Contents) × (asked : List Asked) × ReadsSome reads names before contents last
+        × AsksSome finds [] (all_wanted contents) zones asked zones''
+    stops-after {answer = answer} {zones'' = zones''} r h outcome =
+        let learns = (outcome.settles d.asked d.knows).learns in (
+          d.contents ++ outcome.given ∷ [],
+          d.asked ++ learns.more,
+          some-more (record { answer = answer; read = r; gives = outcome.some }) h,
+          subst (λ wanted. AsksSome finds [] wanted zones (d.asked ++ learns.more) zones'') (sym (all_wanted-more d.contents outcome.given))
+              (all-some finds (all-then-all finds d.asks learns.asks)),
+        )
+
+    pub done-more : {answer : Answer} {last : S} {zones'' : Z} {answered' : Answered} {name : List ℕ} {file : Result FileSaid Refusal}
+        {files' : List FileSaid} {errors' : List ℕ} → OnlyWantedCount → reads after i answer last → slice_get names i ≡ Some name
+        → IsOutcome finds answer zones' zones'' answered answered' file
+        → files' ≡ files ++ events_first file [] → errors' ≡ errors ++ error_line name file
+        → Done names before zones (i + 1) last zones'' answered' files' errors'
+    done-more {answer = answer} {zones'' = zones''} {name = name} count r found outcome f e =
+        let a : Contents = outcome.given in
+        let settles = outcome.settles d.asked d.knows in
+        let learns = settles.learns in
+        let all : List Asked = d.asked ++ learns.more in
+        let in-asked : (n : List ℕ) → IsIn n (all_wanted d.contents) →
+        IsIn n (names_of d.asked) = λ n h. subst (IsIn n) (sym d.asks.names) (wanted-in n [] (all_wanted d.contents) h) in
+        record {
+          contents = d.contents ++ a ∷ [];
+          asked = all;
+          from_first = reads-more before 0 d.contents d.from_first (omega (arith, d.long)) (record { answer = answer; read = r; gives = outcome.some });
+          long = omega (arith, length-append d.contents (a ∷ []), d.long);
+          asks = subst (λ wanted. AsksAll finds [] wanted zones all zones'') (sym (all_wanted-more d.contents a))
+              (all-then-all finds d.asks learns.asks);
+          knows = learns.knows;
+          kept = record {
+            files_are = f ∙ (ap (λ x. files ++ events_first x []) settles.outcome_is
+                ∙ (ap (λ x. x ++ events_first (file_by all a) []) (d.kept.files_are
+                ∙ sym (accepted-kept count d.asked learns.more learns.keeps d.contents in-asked)) ∙ sym (accepted-more all d.contents a)));
+            errors_are = e ∙ (ap (λ x. errors ++ error_line name x) settles.outcome_is
+                ∙ (ap (λ x. x ++ error_line name (file_by all a)) (d.kept.errors_are
+                ∙ sym (lines-kept count d.asked learns.more learns.keeps names d.contents in-asked))
+                ∙ sym (error_lines-more names all name d.contents a (ap (slice_get names) d.long ∙ found))));
+          };
+        }

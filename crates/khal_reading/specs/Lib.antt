@@ -1,0 +1,6 @@
+pub mod Asked
+pub mod Errors
+pub mod Learned
+pub mod Outcomes
+pub mod Shown
+pub mod Status
