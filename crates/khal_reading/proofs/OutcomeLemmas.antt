@@ -44,11 +44,6 @@ none-wanted : (asked : List Asked) (bytes : List ℕ) → wanted_names bytes ≡
 none-wanted asked bytes h = ap (list_any (is_unread asked)) h
 
 module _ {Z : Type 0} (finds : Z → List ℕ → FindAnswer → Z → Type 0) (asked : List Asked) (bytes : List ℕ) (before after : Z) (answered : Answered) where
-  -- the names of a draft of these bytes
-  pub wanted-learned : (wanted : List (List ℕ)) → wanted ≡ wanted_names bytes → Learns finds asked wanted before after answered →
-      Learns finds asked (wanted_names bytes) before after answered
-  wanted-learned wanted same h = subst (λ (w : List (List ℕ)). Learns finds asked w before after answered) same h
-
   module _ (h : Learns finds asked (wanted_names bytes) before after answered) where
     lacks-is : list_any (contains (slice_cmp nat_cmp) answered.unread) (wanted_names bytes) ≡ list_any (is_unread (asked ++ h.more)) (wanted_names bytes)
     lacks-is = any-same (contains (slice_cmp nat_cmp) answered.unread) (is_unread (asked ++ h.more)) (wanted_names bytes) h.knows.unread
@@ -88,22 +83,18 @@ ok-as (Err e) gives h = tt
 
 -- a draft of these bytes whose names are asked for
 module _ {Z : Type 0} (finds : Z → List ℕ → FindAnswer → Z → Type 0) (asked : List Asked) (bytes : List ℕ) (before after : Z) (answered : Answered)
-    (said : DraftSaid) (d : said ≡ draft_of bytes) (wanted again : List (List ℕ)) (w : wanted ≡ said.wants) (v : again ≡ said.wants)
-    (h : Learns finds asked wanted before after answered)
-    (lacks : Bool) (l : lacks ≡ list_any (contains (slice_cmp nat_cmp) answered.unread) again) where
-  names : said.wants ≡ wanted_names bytes
-  names = ap (λ (s : DraftSaid). s.wants) d
-
+    (said : DraftSaid) (d : said ≡ draft_of bytes) (h : Learns finds asked said.wants before after answered)
+    (unread : Bool) (l : unread ≡ list_any (contains (slice_cmp nat_cmp) answered.unread) said.wants) where
   learned : Learns finds asked (wanted_names bytes) before after answered
-  learned = wanted-learned finds asked bytes before after answered wanted (w ∙ names) h
+  learned = subst (λ (s : DraftSaid). Learns finds asked s.wants before after answered) d h
 
-  lacking : lacks ≡ list_any (contains (slice_cmp nat_cmp) answered.unread) (wanted_names bytes)
-  lacking = l ∙ ap (list_any (contains (slice_cmp nat_cmp) answered.unread)) (v ∙ names)
+  lacking : unread ≡ list_any (contains (slice_cmp nat_cmp) answered.unread) (wanted_names bytes)
+  lacking = l ∙ ap (λ (s : DraftSaid). list_any (contains (slice_cmp nat_cmp) answered.unread) s.wants) d
 
-  pub draft-unread : lacks ≡ true → Settles finds asked (Some bytes) before after answered (Err None)
+  pub draft-unread : unread ≡ true → Settles finds asked (Some bytes) before after answered (Err None)
   draft-unread t = settles-unread finds asked bytes before after answered learned (sym lacking ∙ t)
 
-  pub draft-read : OnlyWantedCount → lacks ≡ false → (outcome : Result FileSaid Refusal) → outcome ≡ file_or_refusal (said.says (given_by answered.files)) →
+  pub draft-read : OnlyWantedCount → unread ≡ false → (outcome : Result FileSaid Refusal) → outcome ≡ file_or_refusal (said.says (given_by answered.files)) →
       Settles finds asked (Some bytes) before after answered outcome
   draft-read count t outcome is =
       settles-read finds asked bytes before after answered learned count (sym lacking ∙ t) outcome (is

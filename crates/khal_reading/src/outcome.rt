@@ -1,12 +1,16 @@
 //! What becomes of a file that is read.
-ghost use Rattle.std.specs.Prelude.{◌≡◌, ◌<◌, ◌≤◌, List, ℕ, Some, IfOk, IfErr, OnErr, length};
+ghost use Rattle.std.specs.Prelude.{◌≡◌, ◌<◌, ◌≤◌, List, ℕ, Some, IfOk, IfErr, OnErr, OnOk, length};
+ghost use Rattle.std.specs.BTreeSet.{contains};
+ghost use Rattle.std.specs.Cmp.Lexicographic.{slice_cmp};
+ghost use Rattle.std.specs.List.{list_any};
+ghost use Rattle.std.specs.Ordering.{nat_cmp};
 ghost use Rattle.ics_calendar.specs.Drafts.{draft_said};
 ghost use Rattle.ics_calendar.specs.Files.{draft_of, wanted_names};
 ghost use Rattle.ics_calendar.specs.ZoneTables.{given_by};
 ghost use Rattle.khal_ports.specs.Answers.{most_bytes, Answer};
 ghost use Rattle.khal_reading.specs.Asked.{Asked};
 ghost use Rattle.khal_reading.specs.Errors.{file_or_refusal};
-ghost use Rattle.khal_reading.specs.Learned.{Knows, LearnsSome, Settles};
+ghost use Rattle.khal_reading.specs.Learned.{Knows, Learns, LearnsSome, Settles};
 ghost use Rattle.khal_reading.specs.Outcomes.{seen_outcome, EndsReading, IsOutcome};
 
 use crate::answered::Answered;
@@ -47,6 +51,26 @@ fn settled(alloc: Global, draft: Draft, files: &ZoneFiles) -> Result<Outcome, Ru
     }
 }
 
+/// Asks for the names that a file wants, and says whether the zone file of one of them was not read.
+fn wants_unread<Z: ZoneSource>(
+    alloc: Global,
+    zones: &mut Z,
+    answered: &mut Answered,
+    draft: &Draft,
+) -> Result<bool, RunFault>
+    ensures ok { OnOk result ((asked : List Asked) → Knows asked answered.old
+        → Learns Z.finds asked (draft_said draft.now).wants zones.old zones.new answered.new) }
+    ensures unread { IfOk result (λ unread. unread
+        ≡ list_any (contains (slice_cmp nat_cmp) answered.new.unread) (draft_said draft.now).wants) }
+    ensures some { OnErr result ((asked : List Asked) → Knows asked answered.old
+        → LearnsSome Z.finds asked (draft_said draft.now).wants zones.old zones.new) }
+    ensures err { IfErr result (λ fault. fault ≡ RunFault.Memory) }
+{
+    let wanted = wanted(alloc, draft)?;
+    answered.ask_all(alloc, zones, &wanted)?;
+    Ok(answered.lacks(&wanted))
+}
+
 /// Asks for the names that a file wants, and says what it comes to.
 fn outcome_with<Z: ZoneSource>(
     alloc: Global,
@@ -62,12 +86,17 @@ fn outcome_with<Z: ZoneSource>(
     ensures err { IfErr result (λ fault. fault ≡ RunFault.Memory) }
 {
     only_wanted_files_count();
-    let wanted = wanted(alloc, &draft)?;
-    answered.ask_all(alloc, zones, &wanted)?;
-    if answered.lacks(&wanted) {
-        return Ok(Outcome::Refused(Refusal::Unread));
+    match wants_unread(alloc, zones, answered, &draft) {
+        Ok(false) => settled(alloc, draft, &answered.files),
+        Ok(true) => {
+            drop(draft);
+            Ok(Outcome::Refused(Refusal::Unread))
+        }
+        Err(fault) => {
+            drop(draft);
+            Err(fault)
+        }
     }
-    settled(alloc, draft, &answered.files)
 }
 
 /// What the bytes of a file come to.
