@@ -13,6 +13,7 @@ use ics_event::Event;
 use ics_series::Occurrence;
 use ics_values::{Local, Stamp};
 use ics_zone::{Display, Place};
+use khal_reading::add_shown;
 use khal_words::EntryField;
 use std::alloc::{AllocError, Global};
 
