@@ -1,6 +1,6 @@
 -- What a run has done once every file is read and the lines of those that are not listed are written.
-use Rattle.std.proofs.Common.{◌≡◌, ◌≢◌, inl, inr, ℕ, List, [], Option, Some, None, Result, Ok, Err, length, take, refl, sym, ap, ◌∙◌, subst, arith}
-use Rattle.std.specs.Prelude.{◌↔◌, IfOk, OnErr}
+use Rattle.std.proofs.Common.{◌≡◌, ◌≢◌, inl, inr, ℕ, List, [], Option, Some, None, length, take, refl, sym, ap, ◌∙◌, subst, arith}
+use Rattle.std.specs.Prelude.{◌↔◌}
 use Rattle.std.specs.Io.KnownBytes.{Appends}
 use Rattle.std.specs.Option.{option_copied, option_map}
 use Rattle.std.proofs.lemmas.Grind.{common_steps}
@@ -23,7 +23,7 @@ use Rattle.khal_reading.specs.Asked.{all_wanted, Asked, AsksAll, AsksSome}
 use Rattle.khal_reading.specs.Errors.{accepted, error_lines}
 use Rattle.khal_ports.specs.Finds.{FindAnswer}
 use Rattle.khal_ports.specs.Growth.{TookFront}
-use Rattle.khal_list.specs.Headline.{more_line, IsListingOf, Lists, Shown, ShownInPart, Shows, ShowsBy, ShowsDays, ShowsOnce, Stops}
+use Rattle.khal_list.specs.Headline.{more_line, IsListingOf, Lists, Shown, ShownInPart, Shows, ShowsDays, ShowsOnce, Stops}
 use Rattle.khal_list.specs.Listed.{asked_after, day_key_on, days_text_of, key_on, listing_text}
 use Rattle.khal_reading.specs.Outcomes.{IsReading}
 use Rattle.khal_ports.specs.Reads.{ReadsAll, ReadsSome}
@@ -98,27 +98,6 @@ pub part-days : {files : List FileSaid} {display : Display} (request : Request) 
 part-days request every_day {list = list} {after = after} zone key listing front =
     let token = option_map day_spelling (day_key_on request.limit (after_day_key after list)) in
     inr (days_text_of request (after_day_key after list), token, shows-days request every_day zone key listing refl, front)
-
-module _ (files made : List FileSaid) (request : Request) (same : made ≡ files) where
-  pub once-shows : request.every_day ≡ None → (shown : List ℕ) (token : Option (List ℕ)) → ShowsOnce made request shown token → Shows files request shown token
-  once-shows none shown token s = subst (λ e. ShowsBy e files request shown token) (sym none) (subst (λ these. ShowsOnce these request shown token) same s)
-
-  pub days-shows : (every_day : EveryDay) → request.every_day ≡ Some every_day → (shown : List ℕ) (token : Option (List ℕ)) →
-      ShowsDays made request every_day shown token → Shows files request shown token
-  days-shows every_day some shown token s =
-      subst (λ e. ShowsBy e files request shown token) (sym some) (subst (λ these. ShowsDays these request every_day shown token) same s)
-
--- what is shown in one way is shown in another
-module _ {T E : Type 0} (text : T → Option (List ℕ)) (one other : List ℕ → Option (List ℕ) →
-    Type 0) (out out' : Option (List ℕ)) (gives : (shown : List ℕ) (token : Option (List ℕ)) → one shown token → other shown token) where
-  pub shown-as : (result : Result T E) → IfOk result (λ token. Shown one out out' (text token)) → IfOk result (λ token. Shown other out out' (text token))
-  shown-as (Ok token) s = (s.0, gives s.0 (text token) s.1, s.2)
-  shown-as (Err fault) s = tt
-
-  pub part-as : (result : Result T E) → OnErr result (ShownInPart one out out') → OnErr result (ShownInPart other out out')
-  part-as (Ok token) s = tt
-  part-as (Err fault) (inl none) = inl none
-  part-as (Err fault) (inr s) = inr (s.0, s.1, gives s.0 s.1 s.2, s.3)
 
 -- nothing of a text is taken
 none-front : (told : Option (List ℕ)) (text : List ℕ) → TookFront told told text

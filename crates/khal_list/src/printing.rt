@@ -2,13 +2,14 @@
 ghost use Rattle.std.specs.Prelude.{◌≡◌, ◌≢◌, ◌+◌, List, Some, IfOk, IfErr, OnOk, OnErr, IsErrOf};
 ghost use Rattle.std.specs.Io.KnownBytes.{Appends};
 ghost use Rattle.std.specs.Option.{option_map};
+ghost use Rattle.ics_fields.specs.Days.{IsDayNumber};
 ghost use Rattle.ics_series.specs.Ahead.{IsAhead};
 ghost use Rattle.ics_series.specs.OnDays.{day_key_rank, day_rank_of, on_day_of, OnDay};
-ghost use Rattle.ics_series.specs.Entry.{key_rank};
+ghost use Rattle.ics_series.specs.Entry.{entry_of, key_rank};
 ghost use Rattle.khal_list.specs.Drawn.{DrewAhead, Puts};
 ghost use Rattle.khal_ports.specs.Growth.{TookFront, LeftByFault};
 ghost use Rattle.khal_list.specs.Listed.{key_on, style_of, listing_text};
-ghost use Rattle.khal_list.specs.Text.{text};
+ghost use Rattle.khal_list.specs.Text.{entry_text, text};
 
 use crate::drawing::{Draws, EachDay, Once};
 use crate::entry::add_entry;
@@ -86,14 +87,35 @@ fn put_entries<'a, X, D: Draws<'a, X>, O: Sink>(
         if let Some(0) = left {
             return key_of(alloc, last);
         }
-        text.clear();
-        add_entry(alloc, &mut text, request, before, day, &occurrence)?;
-        put_all(out, &text)?;
+        put_entry(alloc, &mut text, request, before, day, &occurrence, out)?;
         before = Some(day);
         left = one_fewer(left);
         last = Some((day, occurrence));
     }
     Err(RunFault::Memory)
+}
+
+// Writes the text of an entry under its day, which it makes in the place of the text before.
+fn put_entry<O: Sink>(
+    alloc: Global,
+    text: &mut Vec<u8>,
+    request: &Request,
+    before: Option<i32>,
+    day: i32,
+    occurrence: &Occurrence<'_>,
+    out: &mut O,
+) -> Result<(), RunFault>
+    requires { IsDayNumber day }
+    ensures ok { OnOk result (Appends (O.taken out.old) (O.taken out.new)
+        (entry_text (style_of request.now) before day (entry_of occurrence.now))) }
+    ensures err { OnErr result (TookFront (O.taken out.old) (O.taken out.new)
+        (entry_text (style_of request.now) before day (entry_of occurrence.now))) }
+    ensures cause { IsErrOf result RunFault.WriteFault → LeftByFault O.puts out.new }
+{
+    text.clear();
+    add_entry(alloc, text, request, before, day, occurrence)?;
+    put_all(out, text.as_slice())?;
+    Ok(())
 }
 
 // What is left of a limit after one entry.

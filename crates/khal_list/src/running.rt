@@ -60,6 +60,27 @@ fn list_days<O: Sink>(
     }
 }
 
+/// Writes the requested listing of a folder that is shown in the request's zone, and returns the token from
+/// which it continues.
+fn list_folder<O: Sink>(
+    alloc: Global,
+    folder: &Folder,
+    request: &Request,
+    out: &mut O,
+) -> Result<Option<String>, RunFault>
+    requires { folder.now.display ≡ request.now.zone }
+    ensures ok { IfOk result (λ token. Shown (Shows (map said_by folder.now.files) request.now)
+        (O.taken out.old) (O.taken out.new) (option_map string_bytes token)) }
+    ensures err { OnErr result (ShownInPart (Shows (map said_by folder.now.files) request.now)
+        (O.taken out.old) (O.taken out.new)) }
+    ensures cause { IsErrOf result RunFault.WriteFault → LeftByFault O.puts out.new }
+{
+    match &request.every_day {
+        None => list_once(alloc, folder, request, out),
+        Some(every_day) => list_days(alloc, folder, request, every_day, out),
+    }
+}
+
 /// Writes the requested listing of these files, and returns the token from which it continues.
 fn list<O: Sink>(
     alloc: Global,
@@ -75,10 +96,7 @@ fn list<O: Sink>(
 {
     let mut folder = Folder::new(alloc, files, request.zone)?;
     folder.prepare(&request.window);
-    match &request.every_day {
-        None => list_once(alloc, &folder, request, out),
-        Some(every_day) => list_days(alloc, &folder, request, every_day, out),
-    }
+    list_folder(alloc, &folder, request, out)
 }
 
 /// Reads each file of the source once, in order, and asks `zones` for the names that they want and no

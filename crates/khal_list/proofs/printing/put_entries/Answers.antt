@@ -3,10 +3,8 @@ use Rattle.std.specs.Prelude.{FitsSigned, ◌≢◌}
 use Rattle.std.proofs.lemmas.Int.{to_z-of_z}
 use Rattle.ics_series.specs.Entry.{entry_of}
 use Rattle.ics_series.specs.OnDays.{on_day}
-use Rattle.khal_list.specs.Listed.{style_of}
-use Rattle.khal_list.specs.Text.{entry_text}
 use Rattle.khal_list.proofs.Printed.{cut-key, cut-text, drew-none, drew-one, drew-part, fewer, printed-front, printed-more, printed-part}
-use Rattle.khal_list.proofs.PutLemmas.{only-piece, puts-cut, puts-fault}
+use Rattle.khal_list.proofs.PutLemmas.{puts-cut, puts-fault}
 use Rattle.khal_list.proofs.printing.put_entries.Goals as goal
 
 pub returns-in_err-day-clause-puts : goal.returns-in_err-day-clause-puts
@@ -24,30 +22,19 @@ returns-in-Some-eq0-clause-puts g c = λ list a.
     puts-cut {coming = g.D.Draws.comes c.args.draws.now c.draw.new.source} c.key_of.result c.key_of.ensures.ok
     (cut-text p.2 e d.0 d.1 none, cut-key p.2 e d.0 d.1 none) (printed-front p.2) d.2 (drew-one p.2 e d.0 d.1)
 
-pub returns-in_err-add_entry-clause-puts : goal.returns-in_err-add_entry-clause-puts
-returns-in_err-add_entry-clause-puts g c = λ list a.
-    let p = c.loop-count.invariant.printed list a in
-    let d = rw c.in-Some.is at c.in_ok-day.ensures.ok p.0 p.1 in
-    let e = on_day c.in-Some.day (entry_of c.in-Some.occurrence) in
-    puts-fault {coming = g.D.Draws.comes c.args.draws.now c.draw.new.source} c.from_residual-in_err-add_entry.result
-    c.from_residual-in_err-add_entry.ensures.0
-    (printed-front p.2) d.2 (drew-one p.2 e d.0 d.1)
-
-pub returns-in_err-put_all-clause-puts : goal.returns-in_err-put_all-clause-puts
-returns-in_err-put_all-clause-puts g c = λ list a.
+pub returns-in_err-put_entry-clause-puts : goal.returns-in_err-put_entry-clause-puts
+returns-in_err-put_entry-clause-puts g c = λ list a.
     let p = c.loop-count.invariant.printed list a in
     let d = rw c.in-Some.is at c.in_ok-day.ensures.ok p.0 p.1 in
     let e = on_day c.in-Some.day (entry_of c.in-Some.occurrence) in
     let some : c.loop-count.left ≢ Some 0 = search rules in
     let fits : FitsSigned w32 c.in-Some.day = search rules in
-    let kept = to_z-of_z w32 c.in-Some.day fits in
-    let bytes = only-piece (entry_text (style_of c.args.request.now) c.loop-count.before c.in-Some.day (entry_of c.in-Some.occurrence))
-    c.clear.ensures.items (rw kept at c.in_ok-add_entry.ensures) c.deref.ensures.value in
+    let took = rw (to_z-of_z w32 c.in-Some.day fits) at c.in_err-put_entry.ensures.err in
     let lower = fewer c.loop-count.left some in
-    puts-fault {coming = g.D.Draws.comes c.args.draws.now c.draw.new.source} c.from_residual-in_err-put_all.result
-    c.from_residual-in_err-put_all.ensures.0
-    (printed-part p.2 e d.0 d.1 c.in-Some.day c.deref.result.now lower.0 refl bytes lower.1 (g.O.Sink.taken c.put_all.new.sink) c.in_err-put_all.ensures.err)
-    d.2 (drew-part p.2 e d.0 d.1 (g.O.Sink.taken c.put_all.new.sink) _ c.in_err-put_all.ensures.err.taken)
+    puts-fault {coming = g.D.Draws.comes c.args.draws.now c.draw.new.source} c.from_residual-in_err-put_entry.result
+    c.from_residual-in_err-put_entry.ensures.0
+    (printed-part p.2 e d.0 d.1 c.in-Some.day _ lower.0 refl refl lower.1 (g.O.Sink.taken c.put_entry.new.out) took)
+    d.2 (drew-part p.2 e d.0 d.1 (g.O.Sink.taken c.put_entry.new.out) _ took.taken)
 
 pub loop-count-preserved : goal.loop-count-preserved
 loop-count-preserved g c = record {
@@ -55,16 +42,13 @@ loop-count-preserved g c = record {
       let p = c.loop-count.invariant.printed list a in
       let d = rw c.in-Some.is at c.in_ok-day.ensures.ok p.0 p.1 in
       let e = on_day c.in-Some.day (entry_of c.in-Some.occurrence) in
-      let some : c.loop-count.left ≢ Some 0 = search rules in
       let fits : FitsSigned w32 c.in-Some.day = search rules in
-      let kept = to_z-of_z w32 c.in-Some.day fits in
-      let bytes = only-piece (entry_text (style_of c.args.request.now) c.loop-count.before c.in-Some.day (entry_of c.in-Some.occurrence))
-      c.clear.ensures.items (rw kept at c.in_ok-add_entry.ensures) c.deref.ensures.value in (
+      let kept = to_z-of_z w32 c.in-Some.day fits in (
         d.0,
         d.2,
         rw kept (
-            printed-more p.2 e d.0 d.1 c.in-Some.day c.deref.result.now c.one_fewer-left.result refl bytes c.one_fewer-left.ensures
-            (g.O.Sink.taken c.put_all.new.sink) c.in_ok-put_all.ensures.ok),
+            printed-more p.2 e d.0 d.1 c.in-Some.day _ c.one_fewer-left.result refl refl c.one_fewer-left.ensures
+            (g.O.Sink.taken c.put_entry.new.out) (rw kept at c.in_ok-put_entry.ensures.ok)),
       );
 }
 
