@@ -27,7 +27,7 @@ use Rattle.ics_values.specs.Rules.{rule_said}
 use Rattle.ics_values.specs.RuleLaws.{value_of, items_of, has_place, has_wide_place, is_place, is_side, is_weekday, is_numbered, is_day, lists_nothing, Says}
 use Rattle.ics_values.proofs.SaysLemmas.{Sets, part_said, sets_seconds, sets_minutes, sets_hours, sets_months, sets_weekdays, sets_month_days, sets_weeks}
 use Rattle.ics_values.proofs.SaysLemmas.{sets_year_days, sets_positions}
-use Rattle.ics_values.proofs.RuleSays.{says, value_there, passes_day, items_fit, none_here}
+use Rattle.ics_values.proofs.RuleSays.{says, value_there, items_fit, none_here}
 use Rattle.ics_fields.proofs.SetLemmas.{has_none}
 
 -- a set with a member is not empty
@@ -198,4 +198,4 @@ absent ps h list = by_list list
         (λ none. ap lists_no_weekday (left _ sets_weekdays ps parts.1 none))
         (λ i more e. day_listed s i more e
         (and_parts (fits_list ByDay i) (list_all (fits_list ByDay) more) (sym (ap (list_all (fits_list ByDay)) e)
-        ∙ items_fit ByDay passes_day ps parts.0)).0)
+        ∙ items_fit ByDay ps parts.0)).0)

@@ -1,5 +1,5 @@
 -- The rule of a text says what each part of the text says.
-use Rattle.std.proofs.Common.{◌≡◌, ℕ, Bool, true, false, ◌&&◌, ◌||◌, ◌==◌, List, [], ◌∷◌, Option, Some, None, Ok, Err, cond, refl, sym, ap, ◌∙◌, lit<, arith}
+use Rattle.std.proofs.Common.{◌≡◌, ℕ, Bool, true, false, ◌&&◌, ◌||◌, ◌==◌, List, [], ◌∷◌, Option, Some, None, Ok, Err, cond, refl, sym, ap, subst, ◌∙◌, lit<, arith}
 use Rattle.std.specs.Prelude.{not, fold, min, find, option_map, option_and_then, unwrap_or, is_some}
 use Rattle.std.specs.List.{list_any, list_all}
 use Rattle.std.specs.Option.{option_map_or}
@@ -13,7 +13,7 @@ use Rattle.ics_values.specs.declared.rule_text.RuleFault.TheVariants.{BadRule, N
 use Rattle.ics_fields.specs.declared.ordinals.Side.{Side}
 use Rattle.ics_fields.specs.declared.ordinals.Side.TheVariants.{Front, Back}
 use Rattle.ics_values.specs.declared.part_name.ListName.{ListName}
-use Rattle.ics_values.specs.declared.part_name.ListName.TheVariants.{BySecond, ByMinute, ByHour, ByDay, ByMonthDay, ByYearDay, ByWeekNo, ByMonth, BySetPos}
+use Rattle.ics_values.specs.declared.part_name.ListName.TheVariants.{BySecond, ByMinute, ByHour, ByMonth}
 use Rattle.ics_values.specs.declared.part_name.PartName.{PartName}
 use Rattle.ics_values.specs.declared.part_name.PartName.TheVariants as part
 use Rattle.ics_values.specs.Digits.{number_of}
@@ -24,25 +24,24 @@ use Rattle.ics_values.specs.RuleTexts.{frequency_of, weekday_of, until_of}
 use Rattle.ics_values.specs.Rules.{has_large_number, rule_said, rule_of}
 use Rattle.ics_values.specs.RuleLaws.{value_of, items_of, has_place, has_wide_place, Says}
 use Rattle.ics_fields.proofs.SetLemmas.{has_none, none_wide_has}
-use Rattle.ics_values.proofs.SaysLemmas.{Sets, part_said, sets_frequency, sets_until, sets_count, sets_interval, sets_week_start, sets_seconds, sets_minutes}
+use Rattle.ics_values.proofs.SaysLemmas.{Sets, one_row, part_said, sets_frequency, sets_until, sets_count, sets_interval, sets_week_start, sets_seconds, sets_minutes}
 use Rattle.ics_values.proofs.SaysLemmas.{sets_hours, sets_months, sets_weekdays, sets_month_days, sets_weeks, sets_year_days, sets_positions}
 use Rattle.ics_values.proofs.ListedLemmas.{Adds, gathered_all, number_high, adds_number, adds_place, adds_wide_place, adds_weekday, adds_numbered}
 
 -- where the part of a name is there, its value passes what all values of the name pass
-value_passes : (name : PartName) (passes : List ℕ → Bool) → ((m : PartName) → (row m == row name) ≡ true → (v : List ℕ) → fits m v ≡ true → passes v ≡ true)
-    → (ps : List Part) → list_all is_part ps ≡ true → option_map_or passes (value_of name ps) true ≡ true
-value_passes name passes h [] a = refl
-value_passes name passes h (p ∷ ps) a =
+value_passes : (name : PartName) (ps : List Part) → list_all is_part ps ≡ true → option_map_or (fits name) (value_of name ps) true ≡ true
+value_passes name [] a = refl
+value_passes name (p ∷ ps) a =
     let b = and_parts (is_part p) (list_all is_part ps) a in
-    by_name p.name b.0 (value_passes name passes h ps b.1)
+    by_name p.name b.0 (value_passes name ps b.1)
   where
-    by_test : (m : PartName) (t : Bool) → (row m == row name) ≡ t → fits m p.value ≡ true → option_map_or passes (value_of name ps) true ≡ true
-        → option_map_or passes (option_map (λ q. q.value) (cond t (Some p) (find (λ q. is_name name q.name) ps))) true ≡ true
-    by_test m true e f k = h m e p.value f
+    by_test : (m : PartName) (t : Bool) → (row m == row name) ≡ t → fits m p.value ≡ true → option_map_or (fits name) (value_of name ps) true ≡ true
+        → option_map_or (fits name) (option_map (λ q. q.value) (cond t (Some p) (find (λ q. is_name name q.name) ps))) true ≡ true
+    by_test m true e f k = subst (λ n. fits n p.value ≡ true) (one_row m name e) f
     by_test m false e f k = k
 
-    by_name : (o : Option PartName) → fits_name o p.value ≡ true → option_map_or passes (value_of name ps) true ≡ true
-        → option_map_or passes (option_map (λ q. q.value) (cond (is_name name o) (Some p) (find (λ q. is_name name q.name) ps))) true ≡ true
+    by_name : (o : Option PartName) → fits_name o p.value ≡ true → option_map_or (fits name) (value_of name ps) true ≡ true
+        → option_map_or (fits name) (option_map (λ q. q.value) (cond (is_name name o) (Some p) (find (λ q. is_name name q.name) ps))) true ≡ true
     by_name None f k = absurd (false≢true f)
     by_name (Some m) f k = by_test m (row m == row name) refl f k
 
@@ -56,74 +55,9 @@ value_there name (p ∷ ps) = by_test (is_name name p.name) (value_there name ps
     by_test true k = refl
     by_test false k = k
 
-passes_freq : (m : PartName) → (row m == row part.Freq) ≡ true → (v : List ℕ) → fits m v ≡ true → is_some (frequency_of v) ≡ true
-passes_freq part.Freq e v f = f
-passes_freq (part.List BySecond) e v f = absurd (false≢true e)
-passes_freq (part.List l) e v f = absurd (false≢true e)
-passes_freq _ e v f = absurd (false≢true e)
-
-passes_wkst : (m : PartName) → (row m == row part.Wkst) ≡ true → (v : List ℕ) → fits m v ≡ true → is_some (weekday_of v) ≡ true
-passes_wkst part.Wkst e v f = f
-passes_wkst (part.List BySecond) e v f = absurd (false≢true e)
-passes_wkst (part.List l) e v f = absurd (false≢true e)
-passes_wkst _ e v f = absurd (false≢true e)
-
-passes_second : (m : PartName) → (row m == row (part.List BySecond)) ≡ true → (v : List ℕ) → fits m v ≡ true →
-    list_all (fits_list BySecond) (pieces 44 v) ≡ true
-passes_second (part.List BySecond) e v f = f
-passes_second (part.List l) e v f = absurd (false≢true e)
-passes_second _ e v f = absurd (false≢true e)
-
-passes_minute : (m : PartName) → (row m == row (part.List ByMinute)) ≡ true → (v : List ℕ) → fits m v ≡ true →
-    list_all (fits_list ByMinute) (pieces 44 v) ≡ true
-passes_minute (part.List ByMinute) e v f = f
-passes_minute (part.List l) e v f = absurd (false≢true e)
-passes_minute _ e v f = absurd (false≢true e)
-
-passes_hour : (m : PartName) → (row m == row (part.List ByHour)) ≡ true → (v : List ℕ) → fits m v ≡ true → list_all (fits_list ByHour) (pieces 44 v) ≡ true
-passes_hour (part.List ByHour) e v f = f
-passes_hour (part.List l) e v f = absurd (false≢true e)
-passes_hour _ e v f = absurd (false≢true e)
-
-pub passes_day : (m : PartName) → (row m == row (part.List ByDay)) ≡ true → (v : List ℕ) → fits m v ≡ true → list_all (fits_list ByDay) (pieces 44 v) ≡ true
-passes_day (part.List ByDay) e v f = f
-passes_day (part.List l) e v f = absurd (false≢true e)
-passes_day _ e v f = absurd (false≢true e)
-
-passes_month_day : (m : PartName) → (row m == row (part.List ByMonthDay)) ≡ true → (v : List ℕ) → fits m v ≡ true →
-    list_all (fits_list ByMonthDay) (pieces 44 v) ≡ true
-passes_month_day (part.List ByMonthDay) e v f = f
-passes_month_day (part.List l) e v f = absurd (false≢true e)
-passes_month_day _ e v f = absurd (false≢true e)
-
-passes_year_day : (m : PartName) → (row m == row (part.List ByYearDay)) ≡ true → (v : List ℕ) → fits m v ≡ true →
-    list_all (fits_list ByYearDay) (pieces 44 v) ≡ true
-passes_year_day (part.List ByYearDay) e v f = f
-passes_year_day (part.List l) e v f = absurd (false≢true e)
-passes_year_day _ e v f = absurd (false≢true e)
-
-passes_week_no : (m : PartName) → (row m == row (part.List ByWeekNo)) ≡ true → (v : List ℕ) → fits m v ≡ true →
-    list_all (fits_list ByWeekNo) (pieces 44 v) ≡ true
-passes_week_no (part.List ByWeekNo) e v f = f
-passes_week_no (part.List l) e v f = absurd (false≢true e)
-passes_week_no _ e v f = absurd (false≢true e)
-
-passes_month : (m : PartName) → (row m == row (part.List ByMonth)) ≡ true → (v : List ℕ) → fits m v ≡ true → list_all (fits_list ByMonth) (pieces 44 v) ≡ true
-passes_month (part.List ByMonth) e v f = f
-passes_month (part.List l) e v f = absurd (false≢true e)
-passes_month _ e v f = absurd (false≢true e)
-
-passes_set_pos : (m : PartName) → (row m == row (part.List BySetPos)) ≡ true → (v : List ℕ) → fits m v ≡ true →
-    list_all (fits_list BySetPos) (pieces 44 v) ≡ true
-passes_set_pos (part.List BySetPos) e v f = f
-passes_set_pos (part.List l) e v f = absurd (false≢true e)
-passes_set_pos _ e v f = absurd (false≢true e)
-
 -- the items of a list are in order
-pub items_fit : (list : ListName) → ((m : PartName) → (row m == row (part.List list)) ≡ true → (v : List ℕ) → fits m v ≡ true →
-    list_all (fits_list list) (pieces 44 v) ≡ true)
-    → (ps : List Part) → list_all is_part ps ≡ true → list_all (fits_list list) (items_of list ps) ≡ true
-items_fit list h ps a = by_value (value_of (part.List list) ps) (value_passes (part.List list) (λ v. list_all (fits_list list) (pieces 44 v)) h ps a)
+pub items_fit : (list : ListName) (ps : List Part) → list_all is_part ps ≡ true → list_all (fits_list list) (items_of list ps) ≡ true
+items_fit list ps a = by_value (value_of (part.List list) ps) (value_passes (part.List list) ps a)
   where
     by_value : (o : Option (List ℕ)) → option_map_or (λ v. list_all (fits_list list) (pieces 44 v)) o true ≡ true →
         list_all (fits_list list) (option_map_or (pieces 44) o []) ≡ true
@@ -182,30 +116,30 @@ none_numbered Sunday side n = none_here side n
 pub says : (ps : List Part) → are_parts ps ≡ true → Says ps (rule_said ps)
 says ps h = record {
   frequency = frequency_is (value_of part.Freq ps) (rule_said ps).frequency (value_there part.Freq ps
-      ∙ front.1) (value_passes part.Freq (λ v. is_some (frequency_of v)) passes_freq ps parts.0)
+      ∙ front.1) (value_passes part.Freq ps parts.0)
       (part_said sets_frequency ps parts.1 (every Yearly));
   until = part_said sets_until ps parts.1 (every Yearly) ∙ until_is (value_of part.Until ps);
   count = part_said sets_count ps parts.1 (every Yearly) ∙ count_is (value_of part.Count ps);
   interval = part_said sets_interval ps parts.1 (every Yearly);
-  week_start = week_start_is (value_of part.Wkst ps) (rule_said ps).week_start (value_passes part.Wkst (λ v. is_some (weekday_of v)) passes_wkst ps parts.0)
+  week_start = week_start_is (value_of part.Wkst ps) (rule_said ps).week_start (value_passes part.Wkst ps parts.0)
       (part_said sets_week_start ps parts.1 (every Yearly));
   seconds = λ n. list_said
       (adds_number (λ i. min (number_of i) 59) (fits_list BySecond) (λ i fit. let last = number_high 0 60 i fit in omega arith) n)
-      sets_seconds passes_second tt (has_none n);
+      sets_seconds tt (has_none n);
   minutes = λ n. list_said (adds_number (λ i. number_of i) (fits_list ByMinute) (λ i fit. let last = number_high 0 59 i fit in omega arith) n)
-      sets_minutes passes_minute tt (has_none n);
+      sets_minutes tt (has_none n);
   hours = λ n. list_said (adds_number (λ i. number_of i) (fits_list ByHour) (λ i fit. let last = number_high 0 23 i fit in omega arith) n)
-      sets_hours passes_hour tt (has_none n);
+      sets_hours tt (has_none n);
   months = λ n. list_said (adds_number (λ i. number_of i) (fits_list ByMonth) (λ i fit. let last = number_high 1 12 i fit in omega arith) n)
-      sets_months passes_month tt (has_none n);
-  month_days = λ side n. list_said (adds_place 31 (lit< tt) side n) sets_month_days passes_month_day tt (none_here side n);
-  weeks = λ side n. list_said (adds_place 53 (lit< tt) side n) sets_weeks passes_week_no tt (none_here side n);
-  year_days = λ side n. list_said (adds_wide_place 366 (lit< tt) side n) sets_year_days passes_year_day
+      sets_months tt (has_none n);
+  month_days = λ side n. list_said (adds_place 31 (lit< tt) side n) sets_month_days tt (none_here side n);
+  weeks = λ side n. list_said (adds_place 53 (lit< tt) side n) sets_weeks tt (none_here side n);
+  year_days = λ side n. list_said (adds_wide_place 366 (lit< tt) side n) sets_year_days
       (record { front = refl; back = refl }) (none_wide_here side n);
-  positions = λ side n. list_said (adds_wide_place 366 (lit< tt) side n) sets_positions passes_set_pos
+  positions = λ side n. list_said (adds_wide_place 366 (lit< tt) side n) sets_positions
       (record { front = refl; back = refl }) (none_wide_here side n);
-  weekdays = λ day. list_said (adds_weekday day) sets_weekdays passes_day tt (has_none (monday_zero day));
-  numbered = λ day side n. list_said (adds_numbered day side n) sets_weekdays passes_day refl (none_numbered day side n);
+  weekdays = λ day. list_said (adds_weekday day) sets_weekdays tt (has_none (monday_zero day));
+  numbered = λ day side n. list_said (adds_numbered day side n) sets_weekdays refl (none_numbered day side n);
 }
   where
     both : ((list_all is_part ps && none_twice ps && has_part part.Freq ps) ≡ true) × (not (has_part part.Until ps && has_part part.Count ps) ≡ true)
@@ -221,11 +155,10 @@ says ps h = record {
     list_said : {A : Type 0} {list : ListName} {read : RuleParts → A} {step : A → List ℕ → A} {sees : A → Bool} {test : List ℕ → Bool} {Fine : A → Type 0}
         → Adds step sees test (fits_list list) Fine
         → Sets (part.List list) read (λ v x. fold step x (pieces 44 v))
-        → ((m : PartName) → (row m == row (part.List list)) ≡ true → (v : List ℕ) → fits m v ≡ true → list_all (fits_list list) (pieces 44 v) ≡ true)
         → Fine (read (every Yearly)) → sees (read (every Yearly)) ≡ false → sees (read (rule_said ps)) ≡ list_any test (items_of list ps)
-    list_said {list = list} {read = read} {step = step} {sees = sees} adds sets passes fine none =
+    list_said {list = list} {read = read} {step = step} {sees = sees} adds sets fine none =
         ap sees (part_said sets ps parts.1 (every Yearly) ∙ made step (read (every Yearly)) (value_of (part.List list) ps))
-        ∙ gathered_all adds (items_of list ps) (items_fit list passes ps parts.0) (read (every Yearly)) fine none
+        ∙ gathered_all adds (items_of list ps) (items_fit list ps parts.0) (read (every Yearly)) fine none
 
 pub of_rule : (text : List ℕ) (rule : RuleParts) → rule_of text ≡ Ok rule → (are_parts (parts_of text) ≡ true) × (rule_said (parts_of text) ≡ rule)
 unfolding rule_of

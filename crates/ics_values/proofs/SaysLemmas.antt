@@ -1,9 +1,9 @@
 -- What the parts say together is what each of them says.
-use Rattle.std.proofs.Common.{◌≡◌, ℕ, Bool, true, false, ◌&&◌, ◌||◌, ◌==◌, List, [], ◌∷◌, Option, Some, None, cond, refl, sym, ap, ◌∙◌}
+use Rattle.std.proofs.Common.{◌≡◌, ℕ, Bool, true, false, ◌&&◌, ◌||◌, ◌==◌, List, [], ◌∷◌, Option, Some, None, cond, get_or, refl, sym, ap, ◌∙◌}
 use Rattle.std.specs.Prelude.{not, fold, min, find, option_map, unwrap_or}
 use Rattle.std.specs.List.{list_any}
 use Rattle.std.specs.Option.{option_map_or}
-use Rattle.std.proofs.lemmas.Bool.{eqb-true, and_parts, or_parts, not-true, false≢true, true≢false}
+use Rattle.std.proofs.lemmas.Bool.{eqb-true, and_parts, or_parts, not-true, true≢false}
 use Rattle.ics_values.specs.declared.part_name.ListName.TheVariants.{BySecond, ByMinute, ByHour, ByDay, ByMonthDay, ByYearDay, ByWeekNo, ByMonth, BySetPos}
 use Rattle.ics_values.specs.declared.part_name.PartName.{PartName}
 use Rattle.ics_values.specs.declared.part_name.PartName.TheVariants as part
@@ -18,7 +18,7 @@ use Rattle.ics_values.specs.RuleLaws.{value_of}
 
 -- One part sets what read sees, to what said makes of the value, and no other part does.
 pub record Sets {A : Type 0} (name : PartName) (read : RuleParts → A) (said : List ℕ → A → A) : Type 0 where
-  pub own : (m : PartName) → (row m == row name) ≡ true → (value : List ℕ) (rule : RuleParts) → read (with_value m value rule) ≡ said value (read rule)
+  pub own : (value : List ℕ) (rule : RuleParts) → read (with_value name value rule) ≡ said value (read rule)
   pub other : (m : PartName) → (row m == row name) ≡ false → (value : List ℕ) (rule : RuleParts) → read (with_value m value rule) ≡ read rule
 
 -- parts without the name leave what it sets
@@ -34,13 +34,17 @@ kept_without {name = name} {read = read} s (p ∷ ps) rule h = by_name p.name h 
     by_name (Some m) h k = let e = or_parts (row m == row name) (has_part name ps) h in k (with_value m p.value rule) e.1 ∙ s.other m e.0 p.value rule
 
 -- names of one row are one
-has_part-row : (m n : PartName) (ps : List Part) → row m ≡ row n → has_part m ps ≡ has_part n ps
-has_part-row m n [] e = refl
-has_part-row m n (p ∷ ps) e = ap (λ t. t || has_part m ps) (by_name p.name) ∙ ap (λ t. is_name n p.name || t) (has_part-row m n ps e)
-  where
-    by_name : (o : Option PartName) → is_name m o ≡ is_name n o
-    by_name None = refl
-    by_name (Some k) = ap (λ x. row k == x) e
+abbrev names : List PartName
+names = part.Freq ∷ part.Until ∷ part.Count ∷ part.Interval ∷ part.List BySecond ∷ part.List ByMinute ∷ part.List ByHour ∷ part.List ByDay
+    ∷ part.List ByMonthDay ∷ part.List ByYearDay ∷ part.List ByWeekNo ∷ part.List ByMonth ∷ part.List BySetPos ∷ part.Wkst ∷ []
+
+at_row : (m : PartName) → get_or names (row m) part.Freq ≡ m
+at_row (part.List BySecond) = refl
+at_row (part.List l) = refl
+at_row _ = refl
+
+pub one_row : (m n : PartName) → (row m == row n) ≡ true → m ≡ n
+one_row m n e = sym (at_row m) ∙ ap (λ k. get_or names k part.Freq) (eqb-true (row m) (row n) e) ∙ at_row n
 
 -- what the part of the name says
 pub part_said : {A : Type 0} {name : PartName} {read : RuleParts → A} {said : List ℕ → A → A} → Sets name read said → (ps : List Part) → none_twice ps ≡ true →
@@ -54,8 +58,9 @@ part_said {name = name} {read = read} {said = said} s (p ∷ ps) h rule = by_nam
         → read (fold with_part (with_value m p.value rule) ps)
         ≡ option_map_or (λ v. said v (read rule)) (option_map (λ q. q.value) (cond t (Some p) (find (λ q. is_name name q.name) ps))) (read rule)
     by_test m true e gone k =
-        kept_without s ps (with_value m p.value rule) (sym (has_part-row m name ps (eqb-true (row m) (row name) e)) ∙ gone)
-        ∙ s.own m e p.value rule
+        let same = one_row m name e in
+        kept_without s ps (with_value m p.value rule) (sym (ap (λ n. has_part n ps) same) ∙ gone)
+        ∙ ap (λ n. read (with_value n p.value rule)) same ∙ s.own p.value rule
     by_test m false e gone k =
         k (with_value m p.value rule) ∙ ap (λ x. option_map_or (λ v. said v x) (value_of name ps) x) (s.other m e p.value rule)
 
@@ -80,13 +85,6 @@ keeps_field : {A : Type 0} (read : RuleParts → A) (step : RuleParts → List �
 keeps_field read step h [] rule = refl
 keeps_field read step h (i ∷ items) rule = keeps_field read step h items (step rule i) ∙ h rule i
 
-own_frequency : (m : PartName) → (row m == row part.Freq) ≡ true → (v : List ℕ) (r : RuleParts) →
-    (with_value m v r).frequency ≡ unwrap_or (frequency_of v) r.frequency
-own_frequency part.Freq e v r = refl
-own_frequency (part.List BySecond) e v r = absurd (false≢true e)
-own_frequency (part.List l) e v r = absurd (false≢true e)
-own_frequency _ e v r = absurd (false≢true e)
-
 other_frequency : (m : PartName) → (row m == row part.Freq) ≡ false → (v : List ℕ) (r : RuleParts) → (with_value m v r).frequency ≡ r.frequency
 other_frequency part.Freq e v r = absurd (true≢false e)
 other_frequency (part.List BySecond) e v r = keeps_field (λ x. x.frequency) (with_item BySecond) (λ x i. refl) (pieces 44 v) r
@@ -94,13 +92,7 @@ other_frequency (part.List l) e v r = keeps_field (λ x. x.frequency) (with_item
 other_frequency _ e v r = refl
 
 pub sets_frequency : Sets part.Freq (λ r. r.frequency) (λ v f. unwrap_or (frequency_of v) f)
-sets_frequency = record { own = own_frequency; other = other_frequency }
-
-own_until : (m : PartName) → (row m == row part.Until) ≡ true → (v : List ℕ) (r : RuleParts) → (with_value m v r).until ≡ until_of v
-own_until part.Until e v r = refl
-own_until (part.List BySecond) e v r = absurd (false≢true e)
-own_until (part.List l) e v r = absurd (false≢true e)
-own_until _ e v r = absurd (false≢true e)
+sets_frequency = record { own = λ v r. refl; other = other_frequency }
 
 other_until : (m : PartName) → (row m == row part.Until) ≡ false → (v : List ℕ) (r : RuleParts) → (with_value m v r).until ≡ r.until
 other_until part.Until e v r = absurd (true≢false e)
@@ -109,13 +101,7 @@ other_until (part.List l) e v r = keeps_field (λ x. x.until) (with_item l) (λ 
 other_until _ e v r = refl
 
 pub sets_until : Sets part.Until (λ r. r.until) (λ v u. until_of v)
-sets_until = record { own = own_until; other = other_until }
-
-own_count : (m : PartName) → (row m == row part.Count) ≡ true → (v : List ℕ) (r : RuleParts) → (with_value m v r).count ≡ Some (number_of v)
-own_count part.Count e v r = refl
-own_count (part.List BySecond) e v r = absurd (false≢true e)
-own_count (part.List l) e v r = absurd (false≢true e)
-own_count _ e v r = absurd (false≢true e)
+sets_until = record { own = λ v r. refl; other = other_until }
 
 other_count : (m : PartName) → (row m == row part.Count) ≡ false → (v : List ℕ) (r : RuleParts) → (with_value m v r).count ≡ r.count
 other_count part.Count e v r = absurd (true≢false e)
@@ -124,13 +110,7 @@ other_count (part.List l) e v r = keeps_field (λ x. x.count) (with_item l) (λ 
 other_count _ e v r = refl
 
 pub sets_count : Sets part.Count (λ r. r.count) (λ v c. Some (number_of v))
-sets_count = record { own = own_count; other = other_count }
-
-own_interval : (m : PartName) → (row m == row part.Interval) ≡ true → (v : List ℕ) (r : RuleParts) → (with_value m v r).interval ≡ number_of v
-own_interval part.Interval e v r = refl
-own_interval (part.List BySecond) e v r = absurd (false≢true e)
-own_interval (part.List l) e v r = absurd (false≢true e)
-own_interval _ e v r = absurd (false≢true e)
+sets_count = record { own = λ v r. refl; other = other_count }
 
 other_interval : (m : PartName) → (row m == row part.Interval) ≡ false → (v : List ℕ) (r : RuleParts) → (with_value m v r).interval ≡ r.interval
 other_interval part.Interval e v r = absurd (true≢false e)
@@ -139,14 +119,7 @@ other_interval (part.List l) e v r = keeps_field (λ x. x.interval) (with_item l
 other_interval _ e v r = refl
 
 pub sets_interval : Sets part.Interval (λ r. r.interval) (λ v n. number_of v)
-sets_interval = record { own = own_interval; other = other_interval }
-
-own_week_start : (m : PartName) → (row m == row part.Wkst) ≡ true → (v : List ℕ) (r : RuleParts) →
-    (with_value m v r).week_start ≡ unwrap_or (weekday_of v) r.week_start
-own_week_start part.Wkst e v r = refl
-own_week_start (part.List BySecond) e v r = absurd (false≢true e)
-own_week_start (part.List l) e v r = absurd (false≢true e)
-own_week_start _ e v r = absurd (false≢true e)
+sets_interval = record { own = λ v r. refl; other = other_interval }
 
 other_week_start : (m : PartName) → (row m == row part.Wkst) ≡ false → (v : List ℕ) (r : RuleParts) → (with_value m v r).week_start ≡ r.week_start
 other_week_start part.Wkst e v r = absurd (true≢false e)
@@ -155,13 +128,7 @@ other_week_start (part.List l) e v r = keeps_field (λ x. x.week_start) (with_it
 other_week_start _ e v r = refl
 
 pub sets_week_start : Sets part.Wkst (λ r. r.week_start) (λ v d. unwrap_or (weekday_of v) d)
-sets_week_start = record { own = own_week_start; other = other_week_start }
-
-own_seconds : (m : PartName) → (row m == row (part.List BySecond)) ≡ true → (v : List ℕ) (r : RuleParts) →
-    (with_value m v r).seconds ≡ fold (λ s i. with_number (min (number_of i) 59) s) r.seconds (pieces 44 v)
-own_seconds (part.List BySecond) e v r = fold_field (λ x. x.seconds) (with_item BySecond) (λ s i. with_number (min (number_of i) 59) s) (λ x i. refl)
-    (pieces 44 v) r
-own_seconds _ e v r = absurd (false≢true e)
+sets_week_start = record { own = λ v r. refl; other = other_week_start }
 
 other_seconds : (m : PartName) → (row m == row (part.List BySecond)) ≡ false → (v : List ℕ) (r : RuleParts) → (with_value m v r).seconds ≡ r.seconds
 other_seconds (part.List BySecond) e v r = absurd (true≢false e)
@@ -169,12 +136,7 @@ other_seconds (part.List l) e v r = keeps_field (λ x. x.seconds) (with_item l) 
 other_seconds _ e v r = refl
 
 pub sets_seconds : Sets (part.List BySecond) (λ r. r.seconds) (λ v x. fold (λ s i. with_number (min (number_of i) 59) s) x (pieces 44 v))
-sets_seconds = record { own = own_seconds; other = other_seconds }
-
-own_minutes : (m : PartName) → (row m == row (part.List ByMinute)) ≡ true → (v : List ℕ) (r : RuleParts) →
-    (with_value m v r).minutes ≡ fold (λ s i. with_number (number_of i) s) r.minutes (pieces 44 v)
-own_minutes (part.List ByMinute) e v r = fold_field (λ x. x.minutes) (with_item ByMinute) (λ s i. with_number (number_of i) s) (λ x i. refl) (pieces 44 v) r
-own_minutes _ e v r = absurd (false≢true e)
+sets_seconds = record { own = λ v r. fold_field (λ x. x.seconds) (with_item BySecond) _ (λ x i. refl) (pieces 44 v) r; other = other_seconds }
 
 other_minutes : (m : PartName) → (row m == row (part.List ByMinute)) ≡ false → (v : List ℕ) (r : RuleParts) → (with_value m v r).minutes ≡ r.minutes
 other_minutes (part.List ByMinute) e v r = absurd (true≢false e)
@@ -182,12 +144,7 @@ other_minutes (part.List l) e v r = keeps_field (λ x. x.minutes) (with_item l) 
 other_minutes _ e v r = refl
 
 pub sets_minutes : Sets (part.List ByMinute) (λ r. r.minutes) (λ v x. fold (λ s i. with_number (number_of i) s) x (pieces 44 v))
-sets_minutes = record { own = own_minutes; other = other_minutes }
-
-own_hours : (m : PartName) → (row m == row (part.List ByHour)) ≡ true → (v : List ℕ) (r : RuleParts) →
-    (with_value m v r).hours ≡ fold (λ s i. with_number (number_of i) s) r.hours (pieces 44 v)
-own_hours (part.List ByHour) e v r = fold_field (λ x. x.hours) (with_item ByHour) (λ s i. with_number (number_of i) s) (λ x i. refl) (pieces 44 v) r
-own_hours _ e v r = absurd (false≢true e)
+sets_minutes = record { own = λ v r. fold_field (λ x. x.minutes) (with_item ByMinute) _ (λ x i. refl) (pieces 44 v) r; other = other_minutes }
 
 other_hours : (m : PartName) → (row m == row (part.List ByHour)) ≡ false → (v : List ℕ) (r : RuleParts) → (with_value m v r).hours ≡ r.hours
 other_hours (part.List ByHour) e v r = absurd (true≢false e)
@@ -195,12 +152,7 @@ other_hours (part.List l) e v r = keeps_field (λ x. x.hours) (with_item l) (λ 
 other_hours _ e v r = refl
 
 pub sets_hours : Sets (part.List ByHour) (λ r. r.hours) (λ v x. fold (λ s i. with_number (number_of i) s) x (pieces 44 v))
-sets_hours = record { own = own_hours; other = other_hours }
-
-own_months : (m : PartName) → (row m == row (part.List ByMonth)) ≡ true → (v : List ℕ) (r : RuleParts) →
-    (with_value m v r).months ≡ fold (λ s i. with_number (number_of i) s) r.months (pieces 44 v)
-own_months (part.List ByMonth) e v r = fold_field (λ x. x.months) (with_item ByMonth) (λ s i. with_number (number_of i) s) (λ x i. refl) (pieces 44 v) r
-own_months _ e v r = absurd (false≢true e)
+sets_hours = record { own = λ v r. fold_field (λ x. x.hours) (with_item ByHour) _ (λ x i. refl) (pieces 44 v) r; other = other_hours }
 
 other_months : (m : PartName) → (row m == row (part.List ByMonth)) ≡ false → (v : List ℕ) (r : RuleParts) → (with_value m v r).months ≡ r.months
 other_months (part.List ByMonth) e v r = absurd (true≢false e)
@@ -208,13 +160,7 @@ other_months (part.List l) e v r = keeps_field (λ x. x.months) (with_item l) (�
 other_months _ e v r = refl
 
 pub sets_months : Sets (part.List ByMonth) (λ r. r.months) (λ v x. fold (λ s i. with_number (number_of i) s) x (pieces 44 v))
-sets_months = record { own = own_months; other = other_months }
-
-own_weekdays : (m : PartName) → (row m == row (part.List ByDay)) ≡ true → (v : List ℕ) (r : RuleParts) →
-    (with_value m v r).weekdays ≡ fold (λ w i. with_day (weekday_of (day_text i)) i w) r.weekdays (pieces 44 v)
-own_weekdays (part.List ByDay) e v r = fold_field (λ x. x.weekdays) (with_item ByDay) (λ w i. with_day (weekday_of (day_text i)) i w) (λ x i. refl)
-    (pieces 44 v) r
-own_weekdays _ e v r = absurd (false≢true e)
+sets_months = record { own = λ v r. fold_field (λ x. x.months) (with_item ByMonth) _ (λ x i. refl) (pieces 44 v) r; other = other_months }
 
 other_weekdays : (m : PartName) → (row m == row (part.List ByDay)) ≡ false → (v : List ℕ) (r : RuleParts) → (with_value m v r).weekdays ≡ r.weekdays
 other_weekdays (part.List ByDay) e v r = absurd (true≢false e)
@@ -222,13 +168,7 @@ other_weekdays (part.List l) e v r = keeps_field (λ x. x.weekdays) (with_item l
 other_weekdays _ e v r = refl
 
 pub sets_weekdays : Sets (part.List ByDay) (λ r. r.weekdays) (λ v x. fold (λ w i. with_day (weekday_of (day_text i)) i w) x (pieces 44 v))
-sets_weekdays = record { own = own_weekdays; other = other_weekdays }
-
-own_month_days : (m : PartName) → (row m == row (part.List ByMonthDay)) ≡ true → (v : List ℕ) (r : RuleParts) →
-    (with_value m v r).month_days ≡ fold (λ p i. with_ordinal (side_of i) (number_of (unsigned i)) p) r.month_days (pieces 44 v)
-own_month_days (part.List ByMonthDay) e v r =
-    fold_field (λ x. x.month_days) (with_item ByMonthDay) (λ p i. with_ordinal (side_of i) (number_of (unsigned i)) p) (λ x i. refl) (pieces 44 v) r
-own_month_days _ e v r = absurd (false≢true e)
+sets_weekdays = record { own = λ v r. fold_field (λ x. x.weekdays) (with_item ByDay) _ (λ x i. refl) (pieces 44 v) r; other = other_weekdays }
 
 other_month_days : (m : PartName) → (row m == row (part.List ByMonthDay)) ≡ false → (v : List ℕ) (r : RuleParts) → (with_value m v r).month_days ≡ r.month_days
 other_month_days (part.List ByMonthDay) e v r = absurd (true≢false e)
@@ -236,13 +176,7 @@ other_month_days (part.List l) e v r = keeps_field (λ x. x.month_days) (with_it
 other_month_days _ e v r = refl
 
 pub sets_month_days : Sets (part.List ByMonthDay) (λ r. r.month_days) (λ v x. fold (λ p i. with_ordinal (side_of i) (number_of (unsigned i)) p) x (pieces 44 v))
-sets_month_days = record { own = own_month_days; other = other_month_days }
-
-own_weeks : (m : PartName) → (row m == row (part.List ByWeekNo)) ≡ true → (v : List ℕ) (r : RuleParts) →
-    (with_value m v r).weeks ≡ fold (λ p i. with_ordinal (side_of i) (number_of (unsigned i)) p) r.weeks (pieces 44 v)
-own_weeks (part.List ByWeekNo) e v r = fold_field (λ x. x.weeks) (with_item ByWeekNo) (λ p i. with_ordinal (side_of i) (number_of (unsigned i)) p) (λ x i. refl)
-    (pieces 44 v) r
-own_weeks _ e v r = absurd (false≢true e)
+sets_month_days = record { own = λ v r. fold_field (λ x. x.month_days) (with_item ByMonthDay) _ (λ x i. refl) (pieces 44 v) r; other = other_month_days }
 
 other_weeks : (m : PartName) → (row m == row (part.List ByWeekNo)) ≡ false → (v : List ℕ) (r : RuleParts) → (with_value m v r).weeks ≡ r.weeks
 other_weeks (part.List ByWeekNo) e v r = absurd (true≢false e)
@@ -250,13 +184,7 @@ other_weeks (part.List l) e v r = keeps_field (λ x. x.weeks) (with_item l) (λ 
 other_weeks _ e v r = refl
 
 pub sets_weeks : Sets (part.List ByWeekNo) (λ r. r.weeks) (λ v x. fold (λ p i. with_ordinal (side_of i) (number_of (unsigned i)) p) x (pieces 44 v))
-sets_weeks = record { own = own_weeks; other = other_weeks }
-
-own_year_days : (m : PartName) → (row m == row (part.List ByYearDay)) ≡ true → (v : List ℕ) (r : RuleParts) →
-    (with_value m v r).year_days ≡ fold (λ p i. with_wide_ordinal (side_of i) (number_of (unsigned i)) p) r.year_days (pieces 44 v)
-own_year_days (part.List ByYearDay) e v r =
-    fold_field (λ x. x.year_days) (with_item ByYearDay) (λ p i. with_wide_ordinal (side_of i) (number_of (unsigned i)) p) (λ x i. refl) (pieces 44 v) r
-own_year_days _ e v r = absurd (false≢true e)
+sets_weeks = record { own = λ v r. fold_field (λ x. x.weeks) (with_item ByWeekNo) _ (λ x i. refl) (pieces 44 v) r; other = other_weeks }
 
 other_year_days : (m : PartName) → (row m == row (part.List ByYearDay)) ≡ false → (v : List ℕ) (r : RuleParts) → (with_value m v r).year_days ≡ r.year_days
 other_year_days (part.List ByYearDay) e v r = absurd (true≢false e)
@@ -265,13 +193,7 @@ other_year_days _ e v r = refl
 
 pub sets_year_days : Sets (part.List ByYearDay) (λ r. r.year_days)
     (λ v x. fold (λ p i. with_wide_ordinal (side_of i) (number_of (unsigned i)) p) x (pieces 44 v))
-sets_year_days = record { own = own_year_days; other = other_year_days }
-
-own_positions : (m : PartName) → (row m == row (part.List BySetPos)) ≡ true → (v : List ℕ) (r : RuleParts) →
-    (with_value m v r).positions ≡ fold (λ p i. with_wide_ordinal (side_of i) (number_of (unsigned i)) p) r.positions (pieces 44 v)
-own_positions (part.List BySetPos) e v r = fold_field (λ x. x.positions) (with_item BySetPos) (λ p i. with_wide_ordinal (side_of i) (number_of (unsigned i)) p)
-    (λ x i. refl) (pieces 44 v) r
-own_positions _ e v r = absurd (false≢true e)
+sets_year_days = record { own = λ v r. fold_field (λ x. x.year_days) (with_item ByYearDay) _ (λ x i. refl) (pieces 44 v) r; other = other_year_days }
 
 other_positions : (m : PartName) → (row m == row (part.List BySetPos)) ≡ false → (v : List ℕ) (r : RuleParts) → (with_value m v r).positions ≡ r.positions
 other_positions (part.List BySetPos) e v r = absurd (true≢false e)
@@ -280,4 +202,4 @@ other_positions _ e v r = refl
 
 pub sets_positions : Sets (part.List BySetPos) (λ r. r.positions)
     (λ v x. fold (λ p i. with_wide_ordinal (side_of i) (number_of (unsigned i)) p) x (pieces 44 v))
-sets_positions = record { own = own_positions; other = other_positions }
+sets_positions = record { own = λ v r. fold_field (λ x. x.positions) (with_item BySetPos) _ (λ x i. refl) (pieces 44 v) r; other = other_positions }
