@@ -1,4 +1,5 @@
-use Rattle.std.proofs.Common.{sym, ◌∙◌}
+use Rattle.std.proofs.Common.{sym, ◌∙◌, arith}
+use Rattle.std.proofs.lemmas.Bool.Decides.{nat_tests}
 use Rattle.ics_values.proofs.StampLemmas.{date_digits, date_time_date, date_time_time}
 use Rattle.ics_values.proofs.stamp.any_stamp.Goals as goal
 
@@ -22,3 +23,6 @@ returns-then-zoned-clause-digits c = date_time_date c.args.text.now (sym c.is_da
 
 pub returns-else-zoned-clause-digits : goal.returns-else-zoned-clause-digits
 returns-else-zoned-clause-digits c = date_time_date c.args.text.now (sym c.is_date_time_form.ensures ∙ c.if-not-is_date_time_form.false)
+
+pub returns-in_err-day_of-clause-value : goal.returns-in_err-day_of-clause-value
+returns-in_err-day_of-clause-value c = grind (arith, nat_tests)
