@@ -232,7 +232,7 @@ impl Parts {
         self.frequency = frequency;
     }
 
-    /// Sets INTERVAL.
+    /// Sets INTERVAL, which is at least 1.
     pub fn set_interval(&mut self, interval: u32)
         requires { 1 ≤ interval }
         ensures { self.new ≡ record self.old { interval = interval } }
@@ -240,7 +240,7 @@ impl Parts {
         self.interval = interval;
     }
 
-    /// Sets COUNT.
+    /// Sets COUNT, which is at least 1.
     pub fn set_count(&mut self, count: u32)
         requires { 1 ≤ count }
         ensures { self.new ≡ record self.old { count = Some count } }
@@ -248,7 +248,7 @@ impl Parts {
         self.count = Some(count);
     }
 
-    /// Sets UNTIL.
+    /// Sets UNTIL. Its day is one of the years 0000 to 9999.
     pub fn set_until(&mut self, until: Until)
         requires { IsUntil until }
         ensures { self.new ≡ record self.old { until = Some until } }
@@ -263,7 +263,7 @@ impl Parts {
         self.week_start = weekday;
     }
 
-    /// Adds a number of BYSECOND.
+    /// Adds a number of BYSECOND, from 0 to 59.
     pub fn add_second(&mut self, second: u8)
         requires { second ≤ 59 }
         ensures { self.new ≡ record self.old { seconds = with_number second self.old.seconds } }
@@ -271,7 +271,7 @@ impl Parts {
         self.seconds.insert(second);
     }
 
-    /// Adds a number of BYMINUTE.
+    /// Adds a number of BYMINUTE, from 0 to 59.
     pub fn add_minute(&mut self, minute: u8)
         requires { minute ≤ 59 }
         ensures { self.new ≡ record self.old { minutes = with_number minute self.old.minutes } }
@@ -279,7 +279,7 @@ impl Parts {
         self.minutes.insert(minute);
     }
 
-    /// Adds a number of BYHOUR.
+    /// Adds a number of BYHOUR, from 0 to 23.
     pub fn add_hour(&mut self, hour: u8)
         requires { hour ≤ 23 }
         ensures { self.new ≡ record self.old { hours = with_number hour self.old.hours } }
@@ -294,7 +294,7 @@ impl Parts {
         self.weekdays.insert(weekday);
     }
 
-    /// Adds a weekday of BYDAY with a number.
+    /// Adds a weekday of BYDAY with a number from 1 to 53, counted from an end.
     pub fn add_numbered_weekday(&mut self, weekday: Weekday, side: Side, n: u8)
         requires first { 1 ≤ n }
         requires last { n ≤ 53 }
@@ -304,7 +304,7 @@ impl Parts {
         self.weekdays.add_numbered(weekday, side, n);
     }
 
-    /// Adds a number of BYMONTHDAY.
+    /// Adds a number of BYMONTHDAY, from 1 to 31, counted from an end.
     pub fn add_month_day(&mut self, side: Side, n: u8)
         requires first { 1 ≤ n }
         requires last { n ≤ 31 }
@@ -313,7 +313,7 @@ impl Parts {
         self.month_days.insert(side, n);
     }
 
-    /// Adds a number of BYYEARDAY.
+    /// Adds a number of BYYEARDAY, from 1 to 366, counted from an end.
     pub fn add_year_day(&mut self, side: Side, n: u16)
         requires first { 1 ≤ n }
         requires last { n ≤ 366 }
@@ -322,7 +322,7 @@ impl Parts {
         self.year_days.insert(side, n);
     }
 
-    /// Adds a number of BYWEEKNO.
+    /// Adds a number of BYWEEKNO, from 1 to 53, counted from an end.
     pub fn add_week(&mut self, side: Side, n: u8)
         requires first { 1 ≤ n }
         requires last { n ≤ 53 }
@@ -331,7 +331,7 @@ impl Parts {
         self.weeks.insert(side, n);
     }
 
-    /// Adds a number of BYMONTH.
+    /// Adds a number of BYMONTH, from 1 to 12.
     pub fn add_month(&mut self, month: u8)
         requires first { 1 ≤ month }
         requires last { month ≤ 12 }
@@ -340,7 +340,7 @@ impl Parts {
         self.months.insert(month);
     }
 
-    /// Adds a number of BYSETPOS.
+    /// Adds a number of BYSETPOS, from 1 to 366, counted from an end.
     pub fn add_position(&mut self, side: Side, n: u16)
         requires first { 1 ≤ n }
         requires last { n ≤ 366 }
