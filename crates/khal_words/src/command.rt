@@ -1,7 +1,7 @@
 //! The program's command line, as clap takes it.
 ghost use Rattle.std.specs.Prelude.{◌≡◌, IfOk, false, map};
 ghost use Rattle.std.specs.List.{AllByRecursion};
-ghost use Rattle.clap.specs.Words.{app_of, rule_of, with_subcommand};
+ghost use Rattle.clap.specs.Words.{app_of, new_app, rule_of, with_subcommand};
 ghost use Rattle.clap.specs.declared.builder.command.Command.TheViews.{out-Command};
 ghost use Rattle.khal_words.specs.Commands as spec;
 
@@ -107,10 +107,13 @@ fn list_command<'a>(alloc: Global) -> Result<Command<'a>, AllocError>
     ensures local { IfOk result (λ c. (out-Command c).has_globals ≡ false) }
 {
     let args = list_args(alloc)?;
-    Command::new(alloc, "list")
-        .about("Lists the events of a window of time")
-        .after_help(LIST_EXAMPLES)
-        .args(args)
+    subcommand(
+        alloc,
+        "list",
+        "Lists the events of a window of time",
+        LIST_EXAMPLES,
+        args,
+    )
 }
 
 fn at_command<'a>(alloc: Global) -> Result<Command<'a>, AllocError>
@@ -118,9 +121,30 @@ fn at_command<'a>(alloc: Global) -> Result<Command<'a>, AllocError>
     ensures local { IfOk result (λ c. (out-Command c).has_globals ≡ false) }
 {
     let args = at_args(alloc)?;
-    Command::new(alloc, "at")
-        .about("Lists what is on at a moment")
-        .after_help(AT_EXAMPLES)
+    subcommand(
+        alloc,
+        "at",
+        "Lists what is on at a moment",
+        AT_EXAMPLES,
+        args,
+    )
+}
+
+/// A subcommand with these arguments.
+fn subcommand<'a>(
+    alloc: Global,
+    name: &'a str,
+    about: &'a str,
+    examples: &'a str,
+    args: Vec<Arg<'a>>,
+) -> Result<Command<'a>, AllocError>
+    requires local { AllByRecursion (λ arg. arg.global ≡ false) args.items }
+    ensures shape { IfOk result (λ c. app_of c ≡ spec.with_rules (new_app name.entry.now) (map rule_of args.entry.items)) }
+    ensures local { IfOk result (λ c. (out-Command c).has_globals ≡ false) }
+{
+    Command::new(alloc, name)
+        .about(about)
+        .after_help(examples)
         .args(args)
 }
 
@@ -130,8 +154,8 @@ fn list_args<'a>(alloc: Global) -> Result<Vec<Arg<'a>>, AllocError>
 {
     Ok(vec![in alloc;
         folder(alloc),
-        place(alloc, "start", "START", START),
-        place(alloc, "end", "END", END).default_value("2d"),
+        argument(alloc, "start", "START", START),
+        argument(alloc, "end", "END", END).default_value("2d"),
         zone(alloc),
         option(alloc, "zones", "DIR", WHICH_ENTRIES, ZONES),
         limit(alloc),
@@ -149,14 +173,14 @@ fn at_args<'a>(alloc: Global) -> Result<Vec<Arg<'a>>, AllocError>
 {
     Ok(vec![in alloc;
         folder(alloc),
-        place(alloc, "moment", "MOMENT", MOMENT).required(true),
+        argument(alloc, "moment", "MOMENT", MOMENT).required(true),
         zone(alloc),
         option(alloc, "zones", "DIR", WHICH_ENTRIES, ZONES),
     ]?)
 }
 
-/// An argument that stands at a place.
-fn place<'a>(alloc: Global, id: &'a str, value: &'a str, help: &'a str) -> Arg<'a>
+/// An argument with a value. It stands at a place if it is not made an option.
+fn argument<'a>(alloc: Global, id: &'a str, value: &'a str, help: &'a str) -> Arg<'a>
     ensures rule { rule_of result ≡ spec.place id.entry.now }
     ensures local { result.global ≡ false }
 {
@@ -174,11 +198,9 @@ fn option<'a>(
     ensures rule { rule_of result ≡ spec.option name.entry.now }
     ensures local { result.global ≡ false }
 {
-    Arg::new(alloc, name)
+    argument(alloc, name, value, help)
         .long(name)
-        .value_name(value)
         .help_heading(heading)
-        .help(help)
 }
 
 /// An option that is given or not.
@@ -197,7 +219,7 @@ fn folder<'a>(alloc: Global) -> Arg<'a>
     ensures rule { rule_of result ≡ spec.folder }
     ensures local { result.global ≡ false }
 {
-    place(alloc, "folder", "FOLDER", FOLDER).required(true)
+    argument(alloc, "folder", "FOLDER", FOLDER).required(true)
 }
 
 fn zone<'a>(alloc: Global) -> Arg<'a>
