@@ -1,4 +1,5 @@
-use Rattle.std.proofs.Common.{rules, ◌≡◌, ◌<◌, ◌∷◌, ◌++◌, [], length, refl, ap, sym, ◌∙◌, append_assoc}
+use Rattle.std.proofs.Common.{rules, arith, ◌≡◌, ◌<◌, ◌∷◌, ◌++◌, [], length, refl, ap, sym, ◌∙◌, append_assoc}
+use Rattle.std.proofs.lemmas.Grind.{common_steps}
 use Rattle.khal_words.specs.Formats.{written, written_piece}
 use Rattle.khal_words.proofs.FormatLemmas.{format_behind, no_format, written-last}
 use Rattle.khal_words.proofs.format.Format.parse.Goals as goal
@@ -23,3 +24,9 @@ loop-rest-preserved g c =
           ∙ ap (λ t. t ++ after) (sym (written-last name plain c.loop-rest.pieces.items piece) ∙ ap (written name) (sym added)));
       left = λ is. format_behind name plain piece after c.loop-rest.rest.now next (c.loop-rest.invariant.left is);
     }
+
+pub loop-rest-smaller : goal.loop-rest-smaller
+loop-rest-smaller g c = grind (arith, common_steps)
+
+pub returns-clause-ok : goal.returns-clause-ok
+returns-clause-ok g c = grind (arith, common_steps)
