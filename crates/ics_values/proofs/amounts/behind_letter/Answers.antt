@@ -1,4 +1,5 @@
-use Rattle.std.proofs.Common.{◌≡◌, ◌≢◌, ◌==◌, ℕ, false, [], ◌∷◌, sym, subst}
+use Rattle.std.proofs.lemmas.Grind.{common_steps}
+use Rattle.std.proofs.Common.{◌≡◌, ◌≢◌, ◌==◌, ℕ, false, [], ◌∷◌, sym, subst, arith}
 use Rattle.ics_values.specs.Digits.{upper}
 use Rattle.ics_values.specs.Amounts.{LacksFront}
 use Rattle.ics_values.proofs.ShapeLemmas.{lacks-letter, neq-false}
@@ -11,3 +12,6 @@ returns-else-to_ascii_uppercase-letter c =
     let other : upper first ≢ c.args.letter = subst (λ (u : ℕ). u ≢ c.args.letter) c.to_ascii_uppercase.ensures.value c.if-to_ascii_uppercase-letter.false in
     let none : (upper first == c.args.letter) ≡ false = neq-false (upper first) c.args.letter (λ e. other (sym e)) in
     subst (LacksFront (c.args.letter ∷ [])) (sym c.in_ok-first.ensures.cases.0) (lacks-letter c.args.letter first rest c.requires none)
+
+pub returns-in_err-first : goal.returns-in_err-first
+returns-in_err-first c = grind (arith, common_steps)

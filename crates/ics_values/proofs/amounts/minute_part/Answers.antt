@@ -1,4 +1,5 @@
-use Rattle.std.proofs.Common.{◌≡◌, ◌==◌, false, length, rules, subst, sym}
+use Rattle.std.proofs.lemmas.Grind.{common_steps}
+use Rattle.std.proofs.Common.{◌≡◌, ◌==◌, false, length, rules, subst, sym, arith}
 use Rattle.ics_values.specs.Durations.{second_shapes, minute_shapes}
 use Rattle.ics_values.specs.Amounts.{Reads}
 use Rattle.ics_values.proofs.ShapeLemmas.{no_shape-behind}
@@ -10,3 +11,6 @@ returns-in_err-behind c =
     let some : (length rest == 0) ≡ false = search rules in
     subst (Reads minute_shapes c.args.text.now) (sym c.from_residual-in_err-behind.ensures)
     (no_shape-behind second_shapes c.in_ok-minutes.ensures some c.in_err-behind.ensures)
+
+pub returns-then-is_empty : goal.returns-then-is_empty
+returns-then-is_empty c = grind (arith, common_steps)
