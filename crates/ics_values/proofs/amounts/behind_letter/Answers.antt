@@ -1,5 +1,5 @@
-use Rattle.std.proofs.lemmas.Grind.{common_steps}
 use Rattle.std.proofs.Common.{◌≡◌, ◌≢◌, ◌==◌, ℕ, false, [], ◌∷◌, sym, subst, arith}
+use Rattle.std.proofs.lemmas.Grind.{common_steps}
 use Rattle.ics_values.specs.Digits.{upper}
 use Rattle.ics_values.specs.Amounts.{LacksFront}
 use Rattle.ics_values.proofs.ShapeLemmas.{lacks-letter, neq-false}

@@ -1,5 +1,5 @@
-use Rattle.std.proofs.lemmas.Grind.{common_steps}
 use Rattle.std.proofs.Common.{◌≡◌, ◌==◌, false, length, rules, subst, sym, arith}
+use Rattle.std.proofs.lemmas.Grind.{common_steps}
 use Rattle.ics_values.specs.Durations.{second_shapes, minute_shapes}
 use Rattle.ics_values.specs.Amounts.{Reads}
 use Rattle.ics_values.proofs.ShapeLemmas.{no_shape-behind}

@@ -1,5 +1,5 @@
-use Rattle.std.proofs.lemmas.Grind.{common_steps}
 use Rattle.std.proofs.Common.{◌≡◌, ◌==◌, false, [], length, refl, rules, arith}
+use Rattle.std.proofs.lemmas.Grind.{common_steps}
 use Rattle.ics_values.proofs.ShapeLemmas.{no_shape-behind}
 use Rattle.ics_values.proofs.amounts.second_part.Goals as goal
 

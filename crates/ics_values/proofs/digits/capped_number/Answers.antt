@@ -1,5 +1,5 @@
-use Rattle.std.proofs.lemmas.Grind.{common_steps}
 use Rattle.std.proofs.Common.{arith}
+use Rattle.std.proofs.lemmas.Grind.{common_steps}
 use Rattle.ics_values.proofs.digits.capped_number.Goals as goal
 
 pub loop-b-preserved : goal.loop-b-preserved

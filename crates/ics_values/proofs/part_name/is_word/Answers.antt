@@ -1,5 +1,5 @@
-use Rattle.std.proofs.lemmas.Grind.{common_steps}
 use Rattle.std.proofs.Common.{arith}
+use Rattle.std.proofs.lemmas.Grind.{common_steps}
 use Rattle.ics_values.proofs.part_name.is_word.Goals as goal
 
 pub returns-then-text-word : goal.returns-then-text-word
