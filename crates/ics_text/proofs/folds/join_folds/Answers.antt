@@ -1,4 +1,5 @@
 use Rattle.std.proofs.Common.{◌≡◌, ℕ, ◌+◌, ◌*◌, ◌<◌, ◌++◌, true, length, drop, arith, sym, ap, ◌∙◌, add_assoc, length-drop, subst}
+use Rattle.std.proofs.lemmas.Grind.{common_steps}
 use Rattle.std.specs.Prelude.{filter}
 use Rattle.std.specs.Option.{option_copied}
 use Rattle.ics_text.specs.Unfolded.{is_line, attach, physical_lines}
@@ -49,3 +50,6 @@ returns-in_err-extend_from_slice-2-clause-err c =
     λ n. subst BeginsFolded (sym (c.loop-line.invariant.grows n))
     (grown-folded n (n + c.loop-line.breaks) c.loop-line.bytes.items on some) in
     on_err _ folded
+
+pub loop-line-preserved-in-None : goal.loop-line-preserved-in-None
+loop-line-preserved-in-None c = grind (arith, common_steps)
