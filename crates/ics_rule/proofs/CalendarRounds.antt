@@ -1,10 +1,10 @@
 -- Whole rounds of the calendar are rounds of each rule.
-use Rattle.std.proofs.Common.{◌≡◌, ℕ, zero, suc, ◌+◌, ◌-◌, ◌*◌, ◌/◌, ◌%◌, ◌≤◌, Option, Some, None, MatchOption, refl, sym, ap, ◌∙◌, arith}
+use Rattle.std.proofs.Common.{◌≡◌, ℕ, zero, suc, ◌+◌, ◌-◌, ◌*◌, ◌/◌, ◌%◌, ◌≤◌, Option, Some, None, MatchOption, sym, ap, ◌∙◌, arith}
 use Rattle.std.proofs.lemmas.Nat.{div-add-mod'}
 use Rattle.std.proofs.Math.Nat.{mul_comm}
 use Rattle.jiff_core.specs.Weekday.{monday_zero}
 use Rattle.ics_fields.specs.declared.frequency.Frequency.{Frequency}
-use Rattle.ics_fields.specs.declared.frequency.Frequency.TheVariants.{Secondly, Minutely, Hourly, Daily, Weekly, Monthly, Yearly}
+use Rattle.ics_fields.specs.declared.frequency.Frequency.TheVariants.{Monthly, Yearly}
 use Rattle.ics_fields.specs.Days.{days_before_year, year_of, month_of}
 use Rattle.ics_rule.specs.declared.effective_rule.EffectiveRule.{EffectiveRule}
 use Rattle.ics_rule.specs.PeriodNumbers.{period, day_of}
@@ -16,11 +16,6 @@ use Rattle.ics_rule.proofs.EvenLemmas.{even_of_round}
 use Rattle.ics_rule.proofs.CycleLemmas.{years_again, months_again, year_again, month_again, date_again}
 
 period_again : (f : Frequency) (w n k : ℕ) → period f w (n + k * 12_622_780_800) ≡ period f w n + k * calendar_periods f
-period_again Secondly w n k = refl
-period_again Minutely w n k = omega arith
-period_again Hourly w n k = omega arith
-period_again Daily w n k = omega arith
-period_again Weekly w n k = omega arith
 period_again Monthly w n k =
     let day : (n + k * 12_622_780_800) / 86_400 ≡ n / 86_400 + 146_097 * k = omega arith in
     let year = ap year_of day ∙ year_again k (n / 86_400) in
@@ -30,13 +25,9 @@ period_again Yearly w n k =
     let day : (n + k * 12_622_780_800) / 86_400 ≡ n / 86_400 + 146_097 * k = omega arith in
     let year = ap year_of day ∙ year_again k (n / 86_400) in
     omega (arith, year)
+period_again f w n k = omega arith
 
 first_again : (f : Frequency) (w p k : ℕ) → 2 ≤ p → first_local f w (p + k * calendar_periods f) ≡ first_local f w p + k * 12_622_780_800
-first_again Secondly w p k h = refl
-first_again Minutely w p k h = omega arith
-first_again Hourly w p k h = omega arith
-first_again Daily w p k h = omega arith
-first_again Weekly w p k h = omega arith
 first_again Monthly w zero k h = absurd (omega (arith, h))
 first_again Monthly w (suc p) k h =
     let back : suc p - 1 ≡ p = omega arith in
@@ -49,6 +40,7 @@ first_again Yearly w p k h =
     let before = years_again k p in
     let same = ap days_before_year (let order : p + k * 400 ≡ p + 400 * k = omega arith in order) in
     omega (arith, before, same)
+first_again f w p k h = omega arith
 
 clock_again : (q : EffectiveRule) (n k : ℕ) → lets_clock q (n + k * 12_622_780_800) ≡ lets_clock q n
 clock_again q n k = clock_alike q (n + k * 12_622_780_800) n
@@ -57,13 +49,7 @@ clock_again q n k = clock_alike q (n + k * 12_622_780_800) n
     (let same : (n + k * 12_622_780_800) % 60 ≡ n % 60 = omega arith in ap (lets q.seconds) same)
 
 some_periods : (f : Frequency) → 1 ≤ calendar_periods f
-some_periods Secondly = omega arith
-some_periods Minutely = omega arith
-some_periods Hourly = omega arith
-some_periods Daily = omega arith
-some_periods Weekly = omega arith
-some_periods Monthly = omega arith
-some_periods Yearly = omega arith
+some_periods f = grind arith
 
 -- so many periods are whole steps
 pub calendar_step : (q : EffectiveRule) (periods : ℕ) → IsCalendarRound q periods → (first p : ℕ) → first ≤ p →

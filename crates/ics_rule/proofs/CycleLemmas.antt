@@ -5,7 +5,7 @@ use Rattle.std.proofs.lemmas.Bool.{cases_lt}
 use Rattle.jiff_core.specs.Calendar.{is_leap_year, days_in_year, days_in_month, days_of_months}
 use Rattle.jiff_core.specs.Weekday.{monday_zero}
 use Rattle.ics_fields.specs.declared.frequency.Frequency.{Frequency}
-use Rattle.ics_fields.specs.declared.frequency.Frequency.TheVariants.{Secondly, Minutely, Hourly, Daily, Weekly, Monthly, Yearly}
+use Rattle.ics_fields.specs.declared.frequency.Frequency.TheVariants.{Monthly, Yearly}
 use Rattle.ics_fields.specs.declared.ordinals.Ordinals.{Ordinals}
 use Rattle.ics_fields.specs.Sets.{contains, is_empty}
 use Rattle.ics_fields.specs.Ordinals.{lists_none, lists_no_weekday, numbers_of}
@@ -107,11 +107,7 @@ module _ (k : ℕ) where
       (nth_in_month p e)
       ∙ ap (λ x. cond (not (is_empty q.months)) (lists_nth p (month_day_of e) (days_in_month (pos (year_of e)) (month_of e))) x)
       (ap (λ d. lists_nth p d (days_in_year (pos (year_of (e + 146_097 * k))))) (year_day_again e) ∙ ap (λ n. lists_nth p (year_day_of e) n) (own_year_size e)))
-  numbered_again Weekly q p e = refl
-  numbered_again Daily q p e = refl
-  numbered_again Hourly q p e = refl
-  numbered_again Minutely q p e = refl
-  numbered_again Secondly q p e = refl
+  numbered_again f q p e = refl
 
 -- the week of a day, also where its fourth day is taken 400 years later
 week_place : (p : Ordinals) (w k e : ℕ) → 1 ≤ k → lets_place p (week_number (fourth_day w (e + 146_097 * k))) (weeks_of_year (fourth_day w (e + 146_097 * k)))

@@ -4,7 +4,7 @@ use Rattle.std.proofs.lemmas.Bool.{and_parts, and_right, or_left}
 use Rattle.std.proofs.lemmas.Bool.Decides.{nat_tests}
 use Rattle.std.proofs.lemmas.Nat.Bits.{bit_at-zero}
 use Rattle.ics_fields.specs.declared.frequency.Frequency.{Frequency}
-use Rattle.ics_fields.specs.declared.frequency.Frequency.TheVariants.{Secondly, Minutely, Hourly, Daily, Weekly, Monthly, Yearly}
+use Rattle.ics_fields.specs.declared.frequency.Frequency.TheVariants.{Weekly, Monthly, Yearly}
 use Rattle.ics_fields.specs.declared.ordinals.Ordinals.{Ordinals}
 use Rattle.ics_fields.specs.Sets.{contains, is_empty}
 use Rattle.ics_fields.specs.Ordinals.{lists_none, lists_none_wide, lists_no_weekday, numbers_of}
@@ -54,11 +54,7 @@ none_numbered Yearly q p e h = by_cases (not (lists_none q.weeks)) (not (is_empt
     by_cases true b = ap not h
     by_cases false true = none_nth p (month_day_of e) (days_in_month (pos (year_of e)) (month_of e)) h
     by_cases false false = none_nth p (year_day_of e) (days_in_year (pos (year_of e))) h
-none_numbered Weekly q p e h = ap not h
-none_numbered Daily q p e h = ap not h
-none_numbered Hourly q p e h = ap not h
-none_numbered Minutely q p e h = ap not h
-none_numbered Secondly q p e h = ap not h
+none_numbered f q p e h = ap not h
 
 pub weekday_out : (q : EffectiveRule) (e : ℕ) → (lists_no_weekday q.weekdays || contains q.weekdays.plain (weekday_of e)) ≡ false →
     lists_none (numbers_of q.weekdays (weekday_of e)) ≡ true → lets_date q e ≡ false
@@ -74,11 +70,7 @@ weekdays_alone q e alone = let f = four (is_empty q.months) (lists_none q.month_
     (or_left (lists_none q.weeks) _ f.1.1.1))
   where
     four : (a b c d : Bool) → (a && b && c && d) ≡ true → (a ≡ true) × ((b ≡ true) × ((c ≡ true) × (d ≡ true)))
-    four true true true true h = (refl, (refl, (refl, refl)))
-    four true true true false h = absurd (cc)
-    four true true false d h = absurd (cc)
-    four true false c d h = absurd (cc)
-    four false b c d h = absurd (cc)
+    four a b c d h = grind arith
 
 -- and a weekday that stands alone is in there
 pub weekday_in : (q : EffectiveRule) (e : ℕ) → (lists_no_weekday q.weekdays || contains q.weekdays.plain (weekday_of e)) ≡ true →

@@ -30,52 +30,18 @@ use Rattle.ics_rule.proofs.Tests.{and_assoc, keep_true}
 
 -- the clock is a period's own and what is within it
 pub clock_split : (f : Frequency) (q : EffectiveRule) (n : ℕ) → lets_clock q n ≡ (lets_own f q n && lets_within f q n)
-clock_split f q n =
-    sym (ap (λ x. x && part (skips_minutes f) (lets q.minutes (minute_of n)) && part (skips_seconds f) (lets q.seconds (second_of n)))
-    (whole (skips_hours f) (lets q.hours (hour_of n)))
-    ∙ ap (λ x. lets q.hours (hour_of n) && x && part (skips_seconds f) (lets q.seconds (second_of n))) (whole (skips_minutes f) (lets q.minutes (minute_of n)))
-    ∙ ap (λ x. lets q.hours (hour_of n) && lets q.minutes (minute_of n) && x) (whole (skips_seconds f) (lets q.seconds (second_of n))))
-    ∙ shuffle (skips_hours f || lets q.hours (hour_of n)) (skips_minutes f || lets q.minutes (minute_of n)) (skips_seconds f || lets q.seconds (second_of n))
-    (not (skips_hours f) || lets q.hours (hour_of n)) (not (skips_minutes f) || lets q.minutes (minute_of n))
-    (not (skips_seconds f) || lets q.seconds (second_of n))
+clock_split f q n = split (skips_hours f) (skips_minutes f) (skips_seconds f) (lets q.hours (hour_of n)) (lets q.minutes (minute_of n)) (lets q.seconds (second_of n))
   where
-    part : Bool → Bool → Bool
-    part x a = (x || a) && (not x || a)
-
-    whole : (x a : Bool) → part x a ≡ a
-    whole true true = refl
-    whole true false = refl
-    whole false true = refl
-    whole false false = refl
-
-    shuffle : (a b c d e f : Bool) → (((a && d) && (b && e)) && (c && f)) ≡ ((a && b && c) && (d && e && f))
-    shuffle false b c d e f = refl
-    shuffle true false c true e f = refl
-    shuffle true false c false e f = refl
-    shuffle true true false true true f = refl
-    shuffle true true false true false f = refl
-    shuffle true true false false e f = refl
-    shuffle true true true d e f = refl
+    split : (x y z a b c : Bool) → (a && b && c) ≡ (((x || a) && (y || b) && (z || c)) && ((not x || a) && (not y || b) && (not z || c)))
+    split x y z a b c = grind arith
 
 -- a period's locals, by their place in it
 module _ (q : EffectiveRule) (p k : ℕ) where
   pub period_at : (f : Frequency) (w : ℕ) → 0 < seconds_of f → seconds_of f ≤ 86_400 → k < seconds_of f → period f w (p * seconds_of f + k) ≡ p
-  period_at Secondly w h u l = omega (arith, l)
-  period_at Minutely w h u l = omega (arith, l)
-  period_at Hourly w h u l = omega (arith, l)
-  period_at Daily w h u l = omega (arith, l)
-  period_at Weekly w h u l = absurd (omega (arith, u))
-  period_at Monthly w h u l = absurd (omega (arith, h))
-  period_at Yearly w h u l = absurd (omega (arith, h))
+  period_at f w h u l = grind arith
 
   day_at : (f : Frequency) → 0 < seconds_of f → seconds_of f ≤ 86_400 → k < seconds_of f → (p * seconds_of f + k) / 86_400 ≡ p / per_day f
-  day_at Secondly h u l = omega (arith, l)
-  day_at Minutely h u l = omega (arith, l)
-  day_at Hourly h u l = omega (arith, l)
-  day_at Daily h u l = omega (arith, l)
-  day_at Weekly h u l = absurd (omega (arith, u))
-  day_at Monthly h u l = absurd (omega (arith, h))
-  day_at Yearly h u l = absurd (omega (arith, h))
+  day_at f h u l = grind arith
 
   own_at : (f : Frequency) → 0 < seconds_of f → seconds_of f ≤ 86_400 → k < seconds_of f → lets_own f q (p * seconds_of f + k) ≡ lets_own f q (p * seconds_of f)
   own_at Secondly h u l = ap (lets_own Secondly q) (let same : p * 1 + k ≡ p * 1 = omega (arith, l) in same)
@@ -86,9 +52,7 @@ module _ (q : EffectiveRule) (p k : ℕ) where
       ∙ ap (λ x. lets q.hours (hour_of (p * 60)) && lets q.minutes x && true) minute
   own_at Hourly h u l = let hour : (p * 3_600 + k) / 3_600 % 24 ≡ p * 3_600 / 3_600 % 24 = omega (arith, l) in ap (λ x. lets q.hours x && true && true) hour
   own_at Daily h u l = refl
-  own_at Weekly h u l = absurd (omega (arith, u))
-  own_at Monthly h u l = absurd (omega (arith, h))
-  own_at Yearly h u l = absurd (omega (arith, h))
+  own_at f h u l = absurd (omega (arith, h, u))
 
   pub within_at : (f : Frequency) → 0 < seconds_of f → seconds_of f ≤ 86_400 → k < seconds_of f → lets_within f q (p * seconds_of f + k) ≡ lets_within f q k
   within_at Secondly h u l = refl
@@ -104,28 +68,17 @@ module _ (q : EffectiveRule) (p k : ℕ) where
       ap (λ x. lets q.hours x && lets q.minutes (minute_of (p * 86_400 + k)) && lets q.seconds (second_of (p * 86_400 + k))) hour
       ∙ ap (λ x. lets q.hours (hour_of k) && lets q.minutes x && lets q.seconds (second_of (p * 86_400 + k))) minute
       ∙ ap (λ x. lets q.hours (hour_of k) && lets q.minutes (minute_of k) && lets q.seconds x) second
-  within_at Weekly h u l = absurd (omega (arith, u))
-  within_at Monthly h u l = absurd (omega (arith, h))
-  within_at Yearly h u l = absurd (omega (arith, h))
+  within_at f h u l = absurd (omega (arith, h, u))
 
 pub in_period : (f : Frequency) (w n : ℕ) → 0 < seconds_of f → seconds_of f ≤ 86_400 → (period f w n * seconds_of f ≤ n)
     × (n < period f w n * seconds_of f + seconds_of f)
-in_period Secondly w n h u = (omega arith, omega arith)
-in_period Minutely w n h u = (omega arith, omega arith)
-in_period Hourly w n h u = (omega arith, omega arith)
-in_period Daily w n h u = (omega arith, omega arith)
-in_period Weekly w n h u = absurd (omega (arith, u))
-in_period Monthly w n h u = absurd (omega (arith, h))
-in_period Yearly w n h u = absurd (omega (arith, h))
+in_period f w n h u = grind arith
 
 first_at : (f : Frequency) (w p : ℕ) → 0 < seconds_of f → seconds_of f ≤ 86_400 → first_local f w p ≡ p * seconds_of f
-first_at Secondly w p h u = omega arith
-first_at Minutely w p h u = refl
-first_at Hourly w p h u = refl
-first_at Daily w p h u = refl
 first_at Weekly w p h u = absurd (omega (arith, u))
 first_at Monthly w p h u = absurd (omega (arith, h))
 first_at Yearly w p h u = absurd (omega (arith, h))
+first_at f w p h u = omega arith
 
 -- how many locals that is
 module _ (q : EffectiveRule) where

@@ -4,7 +4,7 @@ use Rattle.std.proofs.lemmas.Bool.{cases_lt, false_from_ne_true}
 use Rattle.std.proofs.Math.Nat.{mul_comm}
 use Rattle.jiff_core.specs.Weekday.{monday_zero}
 use Rattle.ics_fields.specs.declared.frequency.Frequency.{Frequency}
-use Rattle.ics_fields.specs.declared.frequency.Frequency.TheVariants.{Secondly, Minutely, Hourly, Daily, Weekly, Monthly, Yearly}
+use Rattle.ics_fields.specs.declared.frequency.Frequency.TheVariants.{Monthly, Yearly}
 use Rattle.ics_fields.specs.Days.{days_before_year}
 use Rattle.ics_fields.specs.Ordinals.{lists_none_wide}
 use Rattle.ics_fields.proofs.DayLemmas.{days_before_year_low}
@@ -192,13 +192,9 @@ even_of_round q start periods seconds round = record {
 
 -- only months and years differ in their seconds
 pub is_monthly : (f : Frequency) → seconds_of f ≡ 0 → f ≢ Yearly → f ≡ Monthly
-is_monthly Secondly e other = absurd (omega (arith, e))
-is_monthly Minutely e other = absurd (omega (arith, e))
-is_monthly Hourly e other = absurd (omega (arith, e))
-is_monthly Daily e other = absurd (omega (arith, e))
-is_monthly Weekly e other = absurd (omega (arith, e))
 is_monthly Monthly e other = refl
 is_monthly Yearly e other = absurd (other refl)
+is_monthly f e other = absurd (omega (arith, e))
 
 -- twelve months in steps of the interval are one
 pub even_months : (q : EffectiveRule) (start : ℕ) → 1 ≤ q.interval → IsFlat q → q.frequency ≡ Monthly → IsEvenRound q start (q.interval * 12)

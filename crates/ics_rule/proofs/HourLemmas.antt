@@ -5,7 +5,7 @@ use Rattle.std.proofs.lemmas.Bool.{and_from, cases_lt, or_right}
 use Rattle.std.proofs.lemmas.Bool.Decides.{nat_tests}
 use Rattle.jiff_core.specs.Weekday.{monday_zero}
 use Rattle.ics_fields.specs.declared.frequency.Frequency.{Frequency}
-use Rattle.ics_fields.specs.declared.frequency.Frequency.TheVariants.{Secondly, Minutely, Hourly, Daily, Weekly, Monthly, Yearly}
+use Rattle.ics_fields.specs.declared.frequency.Frequency.TheVariants.{Daily, Weekly, Monthly, Yearly}
 use Rattle.ics_fields.specs.declared.until.Until.{Until}
 use Rattle.ics_fields.specs.declared.until.Until.TheVariants as until
 use Rattle.ics_fields.specs.Days.{day_index, year_of}
@@ -40,13 +40,11 @@ false_or_true false = inl refl
 
 -- the locals of a day lie in one period, but under a rule that repeats more often than daily
 same_period : (f : Frequency) (w n m : ℕ) → skips_hours f ≡ true → day_of n ≡ day_of m → period f w n ≡ period f w m
-same_period Secondly w n m e d = absurd (cc)
-same_period Minutely w n m e d = absurd (cc)
-same_period Hourly w n m e d = absurd (cc)
 same_period Daily w n m e d = d
 same_period Weekly w n m e d = ap (week_of w) d
 same_period Monthly w n m e d = ap month_number d
 same_period Yearly w n m e d = ap year_of d
+same_period f w n m e d = absurd (cc)
 
 -- UNTIL lets in what is earlier than a local that it lets in
 until_up : (k : Kind) (u : Option Until) (n m : ℕ) → n ≤ m → is_by_until k u m ≡ true → is_by_until k u n ≡ true

@@ -7,7 +7,7 @@ use Rattle.jiff_core.specs.Calendar.{days_in_month, days_in_year, days_of_months
 use Rattle.jiff_core.proofs.SignedLemmas.{signed_arith}
 use Rattle.jiff_core.proofs.CalendarLemmas.{days_of_months_more, days_of_months_all, days_in_year_bounds}
 use Rattle.ics_fields.specs.declared.frequency.Frequency.{Frequency}
-use Rattle.ics_fields.specs.declared.frequency.Frequency.TheVariants.{Secondly, Minutely, Hourly, Daily, Weekly, Monthly, Yearly}
+use Rattle.ics_fields.specs.declared.frequency.Frequency.TheVariants.{Monthly, Yearly}
 use Rattle.ics_fields.specs.declared.ordinals.Ordinals.{Ordinals}
 use Rattle.ics_fields.specs.Sets.{contains, is_empty, IsLeastFrom}
 use Rattle.ics_fields.specs.Ordinals.{lists_none, lists_none_wide, lists_no_weekday, numbers_of}
@@ -98,14 +98,7 @@ module _ (q : EffectiveRule) (k : ℕ) where
       ]
     where
       gather : (a b s t : Bool) → ((a && (b && t)) || (s && t)) ≡ ((s || (a && b)) && t)
-      gather true true true true = refl
-      gather true true true false = refl
-      gather true true false true = refl
-      gather true true false false = refl
-      gather true false true t = refl
-      gather true false false t = refl
-      gather false b true t = refl
-      gather false b false t = refl
+      gather a b s t = grind arith
 
 pub months_none : (q : EffectiveRule) (months : ℕ → Bool) (e : ℕ) (a : Bool) → false ≡ (a && seen_months q months 1 e)
 months_none q months e a =
@@ -165,10 +158,7 @@ pub goes : (q : EffectiveRule) → goes_by_months q ≡ true → (lists_none q.w
 goes q h = parts (lists_none q.weeks) (lists_none_wide q.year_days) (lists_none q.month_days && lists_no_weekday q.weekdays) h
   where
     parts : (a b c : Bool) → (a && b && not c) ≡ true → (a ≡ true) × ((b ≡ true) × (c ≡ false))
-    parts true true false h = (refl, (refl, refl))
-    parts true true true h = absurd (cc)
-    parts true false c h = absurd (cc)
-    parts false b c h = absurd (cc)
+    parts a b c h = grind arith
 
 -- there BYMONTH, BYMONTHDAY and BYDAY decide
 pub three_parts : (q : EffectiveRule) (e : ℕ) → goes_by_months q ≡ true
@@ -190,14 +180,8 @@ module _ (q : EffectiveRule) (p : Ordinals) (e : ℕ) where
   numbers_in_month Yearly h weeks days = rw (weeks, months (is_empty q.months) (lists_none q.month_days) h days) refl
     where
       months : (a b : Bool) → not (a && b) ≡ true → b ≡ true → a ≡ false
-      months true true h l = absurd (cc)
-      months true false h l = absurd (cc)
-      months false b h l = refl
-  numbers_in_month Weekly h weeks days = absurd (cc)
-  numbers_in_month Daily h weeks days = absurd (cc)
-  numbers_in_month Hourly h weeks days = absurd (cc)
-  numbers_in_month Minutely h weeks days = absurd (cc)
-  numbers_in_month Secondly h weeks days = absurd (cc)
+      months a b h l = grind arith
+  numbers_in_month f h weeks days = absurd (cc)
 
 -- by BYMONTHDAY alone, or by BYDAY alone, they list what the rule lets in
 pub month_exact : (q : EffectiveRule) (e : ℕ) → goes_by_months q ≡ true → counts_in_month q q.frequency ≡ true →
@@ -213,10 +197,7 @@ month_exact q e h counts one =
     ∙ sym (three_parts q e h)
   where
     other : (a b : Bool) → (a && b) ≡ false → (a || b) ≡ true → b ≡ not a
-    other true true h o = absurd (cc)
-    other true false h o = refl
-    other false true h o = refl
-    other false false h o = absurd (cc)
+    other a b h o = grind arith
 
     cases : (a p l : Bool) {b n n' : Bool} → b ≡ not a → (a ≡ true → n ≡ n') → (if a then (p || n) else l) ≡ ((a || l) && (b || p || n'))
     cases true p l o e = rw o (ap (λ x. p || x) (e refl))
@@ -256,10 +237,7 @@ year_exact q e {n = n} {size = size} by day len =
     ∙ sym (three_parts q e by.goes)
   where
     known_parts : (a d b : Bool) → (a && d) ≡ true → (d && b) ≡ false → (a ≡ true) × ((d ≡ true) × (b ≡ false))
-    known_parts true true false h g = (refl, (refl, refl))
-    known_parts true true true h g = absurd (cc)
-    known_parts true false b h g = absurd (cc)
-    known_parts false d b h g = absurd (cc)
+    known_parts a d b h g = grind arith
 
     cases : {a d b : Bool} (p n : Bool) → a ≡ true → d ≡ true → b ≡ false → (p || n) ≡ (a && (d && (b || p || n)))
     cases p n h g e = rw (h, g, e) refl
@@ -302,17 +280,10 @@ asked_all some f from k none e = e ∙ elim (cases_lt k from) [
 
 -- candidates of which all that passes is one
 pub candidates : (some test inside : Bool) → (some ≡ true → inside ≡ true) → (inside ≡ true → test ≡ true → some ≡ true) → (some && test) ≡ (inside && test)
-candidates true test true w a = refl
-candidates true test false w a = absurd (let no = w refl in cc)
-candidates false true true w a = absurd (let no = a refl refl in cc)
-candidates false false true w a = refl
-candidates false test false w a = refl
+candidates some test inside w a = grind arith
 
 pub narrowed : (inside some test : Bool) → (inside ≡ true → test ≡ true → some ≡ true) → ((inside && some) && test) ≡ (inside && test)
-narrowed true true test a = refl
-narrowed true false true a = absurd (let no = a refl refl in cc)
-narrowed true false false a = refl
-narrowed false some test a = refl
+narrowed inside some test a = grind arith
 
 -- what the parts of the date say apart
 pub number_let_in : (q : EffectiveRule) (e : ℕ) → lets_date q e ≡ true → lets_wide_place q.year_days (year_day_of e) (days_in_year (pos (year_of e))) ≡ true
@@ -390,8 +361,4 @@ period_span Monthly w (suc p) {b = b} {e = e} is =
     let ended : e ≡ month_start (suc (suc p)) * 86_400 = is.end ∙ ap (λ x. x * 86_400) one in
     let year : p / 12 ≤ 9_999 = omega (arith, rw back at begun, is.early, long) in
     (omega arith, (rw back year, (omega (arith, begun), rw back (omega (arith, begun, ended, size)))))
-period_span Weekly w p is = tt
-period_span Daily w p is = tt
-period_span Hourly w p is = tt
-period_span Minutely w p is = tt
-period_span Secondly w p is = tt
+period_span f w p is = tt

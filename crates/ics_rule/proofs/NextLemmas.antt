@@ -72,11 +72,7 @@ kept_later r n l e = by_count r.parts.count
     counted {t' = t'} {f = f} u p q s w = rw (p, q, s, w) (last t' u f)
       where
         last : (t u f : Bool) → (false || (true && t && u && f)) ≡ ((t && f) && u)
-        last true true true = refl
-        last true true false = refl
-        last true false true = refl
-        last true false false = refl
-        last false u f = refl
+        last t u f = grind arith
 
     by_count : (o : Option ℕ) → (n == number r.start || (nat_lt n rules_end && is_in_rule r n && is_by_until r.kind r.parts.until n && is_counted r o n))
         ≡ (is_wanted (effective r) (number r.start) o n && is_by_until r.kind r.parts.until n)

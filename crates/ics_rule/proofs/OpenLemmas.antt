@@ -6,7 +6,6 @@ use Rattle.std.proofs.lemmas.Bool.Decides.{nat_tests}
 use Rattle.std.proofs.lemmas.Nat.{div-add-mod', mod-mul-add, le-div, div_below}
 use Rattle.std.proofs.Math.Nat.{add-mul, mod-lt, mul_comm, mul_assoc}
 use Rattle.ics_fields.specs.declared.frequency.Frequency.{Frequency}
-use Rattle.ics_fields.specs.declared.frequency.Frequency.TheVariants.{Secondly, Minutely, Hourly, Daily, Weekly, Monthly, Yearly}
 use Rattle.ics_fields.specs.Sets.{IsLeastFrom}
 use Rattle.ics_rule.specs.declared.effective_rule.EffectiveRule.{EffectiveRule}
 use Rattle.ics_rule.specs.PeriodNumbers.{hour_of, minute_of, second_of}
@@ -132,22 +131,10 @@ module _ (f : Frequency) (q : EffectiveRule) (fine : 0 < seconds_of f) (unit : s
       (skips_seconds f || lets q.seconds x)) second
 
 pub day_seconds : (f : Frequency) → 0 < seconds_of f → seconds_of f ≤ 86_400 → (per_day f * seconds_of f ≡ 86_400) × (86_400 / seconds_of f ≡ per_day f)
-day_seconds Secondly h u = (omega arith, omega arith)
-day_seconds Minutely h u = (omega arith, omega arith)
-day_seconds Hourly h u = (omega arith, omega arith)
-day_seconds Daily h u = (omega arith, omega arith)
-day_seconds Weekly h u = absurd (omega (arith, u))
-day_seconds Monthly h u = absurd (omega (arith, h))
-day_seconds Yearly h u = absurd (omega (arith, h))
+day_seconds f h u = grind arith
 
 pub day_some : (f : Frequency) → (1 ≤ per_day f) × (per_day f ≤ 86_400)
-day_some Secondly = (omega arith, omega arith)
-day_some Minutely = (omega arith, omega arith)
-day_some Hourly = (omega arith, omega arith)
-day_some Daily = (omega arith, omega arith)
-day_some Weekly = (omega arith, omega arith)
-day_some Monthly = (omega arith, omega arith)
-day_some Yearly = (omega arith, omega arith)
+day_some f = grind arith
 
 -- Days counted by their place in a run of as many as the interval has.
 module _ (i : ℕ) (some : 1 ≤ i) (from j : ℕ) (less : j < i) where
@@ -249,10 +236,7 @@ module _ (q : EffectiveRule) (first : ℕ) (fine : 0 < seconds_of q.frequency) (
       one_place p = by_step (is_stepped (from + j) q.interval (p / d)) refl
         where
           turn : (a b c : Bool) → (a && (b && c)) ≡ (b && (a && c))
-          turn true true c = refl
-          turn true false c = refl
-          turn false true c = refl
-          turn false false c = refl
+          turn a b c = grind arith
 
           by_step : (b : Bool) → is_stepped (from + j) q.interval (p / d) ≡ b → (is_stepped (from + j) q.interval (p / d) && is_open_period q first p)
               ≡ ((is_stepped (from + j) q.interval (p / d) && lets_date q (p / d)) &&

@@ -1,7 +1,6 @@
 -- The periods of a day or less that a rule lets in repeat with the calendar.
 use Rattle.std.proofs.Common.{◌≡◌, ℕ, ◌+◌, ◌*◌, ◌/◌, ◌<◌, ◌≤◌, ◌&&◌, ap, ◌∙◌, arith}
 use Rattle.ics_fields.specs.declared.frequency.Frequency.{Frequency}
-use Rattle.ics_fields.specs.declared.frequency.Frequency.TheVariants.{Secondly, Minutely, Hourly, Daily, Weekly, Monthly, Yearly}
 use Rattle.ics_rule.specs.declared.effective_rule.EffectiveRule.{EffectiveRule}
 use Rattle.ics_rule.specs.Candidates.{lets_date, is_stepped}
 use Rattle.ics_rule.specs.Kept.{count}
@@ -14,23 +13,11 @@ use Rattle.ics_rule.proofs.CycleLemmas.{date_again}
 use Rattle.ics_rule.proofs.CalendarRounds.{calendar_step}
 
 day_again : (f : Frequency) (p k : ℕ) → 0 < seconds_of f → seconds_of f ≤ 86_400 → (p + k * calendar_periods f) / per_day f ≡ p / per_day f + 146_097 * k
-day_again Secondly p k h u = omega arith
-day_again Minutely p k h u = omega arith
-day_again Hourly p k h u = omega arith
-day_again Daily p k h u = omega arith
-day_again Weekly p k h u = absurd (omega (arith, u))
-day_again Monthly p k h u = absurd (omega (arith, h))
-day_again Yearly p k h u = absurd (omega (arith, h))
+day_again f p k h u = grind arith
 
 second_again : (f : Frequency) (p k : ℕ) → 0 < seconds_of f → seconds_of f ≤ 86_400 →
     (p + k * calendar_periods f) * seconds_of f ≡ p * seconds_of f + 146_097 * k * 86_400
-second_again Secondly p k h u = omega arith
-second_again Minutely p k h u = omega arith
-second_again Hourly p k h u = omega arith
-second_again Daily p k h u = omega arith
-second_again Weekly p k h u = absurd (omega (arith, u))
-second_again Monthly p k h u = absurd (omega (arith, h))
-second_again Yearly p k h u = absurd (omega (arith, h))
+second_again f p k h u = grind arith
 
 module _ (q : EffectiveRule) (first periods : ℕ) (round : IsCalendarRound q periods) (fine : 0 < seconds_of q.frequency)
     (unit : seconds_of q.frequency ≤ 86_400) where

@@ -2,14 +2,13 @@
 use Rattle.std.proofs.Common.{◌≡◌, ℕ, zero, suc, ◌+◌, ◌-◌, ◌*◌, ◌/◌, ◌%◌, ◌<◌, ◌≤◌, inl, inr, sym, subst, ap, cond, arith, pos}
 use Rattle.std.proofs.lemmas.Bool.{cases_lt, le-ltb, lt-ltb}
 use Rattle.jiff_core.specs.declared.civil.weekday.Weekday.{Weekday}
-use Rattle.jiff_core.specs.declared.civil.weekday.Weekday.TheVariants.{Monday, Tuesday, Wednesday, Thursday, Friday, Saturday, Sunday}
 use Rattle.jiff_core.specs.Weekday.{monday_zero}
 use Rattle.jiff_core.specs.Calendar.{days_of_months, days_in_month}
 use Rattle.jiff_core.proofs.CalendarLemmas.{days_of_months_more, days_of_months_all, days_of_months-zero, days_in_month_bounds, days_in_year_bounds}
 use Rattle.ics_fields.specs.Days.{days_before_year, year_of, month_of}
 use Rattle.ics_fields.proofs.DayLemmas.{year_under_way, days_before_year_low, days_before_year_mono, days_before_year-next}
 use Rattle.ics_fields.specs.declared.frequency.Frequency.{Frequency}
-use Rattle.ics_fields.specs.declared.frequency.Frequency.TheVariants.{Secondly, Minutely, Hourly, Daily, Weekly, Monthly, Yearly}
+use Rattle.ics_fields.specs.declared.frequency.Frequency.TheVariants.{Monthly, Yearly}
 use Rattle.ics_rule.specs.PeriodNumbers.{period, month_number, week_of, rules_end}
 use Rattle.ics_rule.specs.Candidates.{fourth_day}
 use Rattle.ics_rule.specs.RecurrencePeriods.{month_start, first_local}
@@ -18,13 +17,7 @@ use Rattle.ics_fields.specs.Locals.{calendar_end}
 
 -- weeks start on one of seven weekdays
 pub week_small : (d : Weekday) → monday_zero d < 7
-week_small Monday = omega arith
-week_small Tuesday = omega arith
-week_small Wednesday = omega arith
-week_small Thursday = omega arith
-week_small Friday = omega arith
-week_small Saturday = omega arith
-week_small Sunday = omega arith
+week_small d = grind arith
 
 -- the fourth day of a week, also where it is taken 400 years later
 pub fourth_early : (w e : ℕ) → 7 * week_of w e + w < 9 → fourth_day w e ≡ 7 * week_of w e + w + 146_088
@@ -108,43 +101,27 @@ month_length p = let size = month_size p in let bounds = days_in_month_bounds (p
 
 -- a local is no earlier than the first of its period and of those before
 pub begun : (f : Frequency) (w p n : ℕ) → p ≤ period f w n → first_local f w p ≤ n
-begun Secondly w p n h = h
-begun Minutely w p n h = omega arith
-begun Hourly w p n h = omega arith
-begun Daily w p n h = omega arith
-begun Weekly w p n h = omega arith
 begun Monthly w p n h = let b = month_begun p (n / 86_400) h in omega (arith, b)
 begun Yearly w p n h = let b = year_begun p (n / 86_400) h in omega (arith, b)
+begun f w p n h = omega arith
 
 pub begins : (f : Frequency) (w p n : ℕ) → first_local f w p ≤ n → p ≤ period f w n
-begins Secondly w p n h = h
-begins Minutely w p n h = omega arith
-begins Hourly w p n h = omega arith
-begins Daily w p n h = omega arith
-begins Weekly w p n h = omega arith
 begins Monthly w p n h = month_begins p (n / 86_400) (omega arith)
 begins Yearly w p n h = year_begins p (n / 86_400) (omega arith)
+begins f w p n h = omega arith
 
 -- a period from the first local's on has a local, and at most 366 days
 pub lasts : (f : Frequency) (w p : ℕ) → w < 7 → period f w 0 ≤ p → first_local f w p < first_local f w (suc p)
-lasts Secondly w p h l = omega arith
-lasts Minutely w p h l = omega arith
-lasts Hourly w p h l = omega arith
-lasts Daily w p h l = omega arith
-lasts Weekly w p h l = omega arith
 lasts Monthly w zero h l = absurd (let some = month_positive (0 / 86_400) in omega (arith, some, l))
 lasts Monthly w (suc p) h l = let m = month_length p in omega (arith, m.0)
 lasts Yearly w p h l = let y = year_length p in omega (arith, y.0)
+lasts f w p h l = omega arith
 
 pub is_short : (f : Frequency) (w p : ℕ) → first_local f w (suc p) ≤ first_local f w p + 366 * 86_400
-is_short Secondly w p = omega arith
-is_short Minutely w p = omega arith
-is_short Hourly w p = omega arith
-is_short Daily w p = omega arith
-is_short Weekly w p = omega arith
 is_short Monthly w zero = let none = days_of_months-zero (pos 0) in omega (arith, none)
 is_short Monthly w (suc p) = let m = month_length p in omega (arith, m.1)
 is_short Yearly w p = let y = year_length p in omega (arith, y.1)
+is_short f w p = omega arith
 
 pub period_mono : (f : Frequency) (w n m : ℕ) → n ≤ m → period f w n ≤ period f w m
 period_mono f w n m h = begins f w (period f w n) m (let b = begun f w (period f w n) n (omega arith) in omega (arith, b))
@@ -170,15 +147,11 @@ next_first f w p h l =
 
 -- a period's number is no more than its locals allow
 pub period_small : (f : Frequency) (w n : ℕ) → n < calendar_end → period f w n < calendar_end
-period_small Secondly w n h = h
-period_small Minutely w n h = omega arith
-period_small Hourly w n h = omega arith
-period_small Daily w n h = omega arith
-period_small Weekly w n h = omega arith
 period_small Monthly w n h = let b = month_begun (month_number (n / 86_400)) (n / 86_400) (omega arith) in
     let l = days_before_year_low ((month_number (n / 86_400) - 1) / 12) in omega (arith, b, l)
 period_small Yearly w n h = let b = year_begun (year_of (n / 86_400)) (n / 86_400) (omega arith) in let l = days_before_year_low (year_of (n / 86_400)) in
     omega (arith, b, l)
+period_small f w n h = omega arith
 
 -- local b is the first of the period with a number and local e that of the next, and the rules have not ended at b
 pub record IsPeriodFrom (f : Frequency) (w p b e : ℕ) : Type 0 where

@@ -6,7 +6,7 @@ use Rattle.std.proofs.lemmas.Nat.Bits.{bit_at-zero}
 use Rattle.jiff_core.specs.Calendar.{days_in_month, days_in_year}
 use Rattle.jiff_core.specs.Weekday.{monday_zero}
 use Rattle.ics_fields.specs.declared.frequency.Frequency.{Frequency}
-use Rattle.ics_fields.specs.declared.frequency.Frequency.TheVariants.{Secondly, Minutely, Hourly, Daily, Weekly, Monthly, Yearly}
+use Rattle.ics_fields.specs.declared.frequency.Frequency.TheVariants.{Secondly, Minutely, Weekly, Monthly, Yearly}
 use Rattle.ics_fields.specs.declared.ordinals.Ordinals.{Ordinals}
 use Rattle.ics_fields.specs.Sets.{contains, contains_wide, is_empty, only}
 use Rattle.ics_fields.specs.Ordinals.{no_ordinals, lists_none, lists_none_wide, numbers_of}
@@ -39,38 +39,23 @@ use Rattle.ics_rule.proofs.Tests.{unequal, zero_of, self_test, keep_true, and_fa
 -- a part that is absent takes DTSTART's own, or all
 by_absence : (absent from x own : Bool) {t y : Bool} → t ≡ (from && absent) → (absent ≡ false → x ≡ y)
     → (if t then own else (absent || x)) ≡ (if absent then (if from then own else true) else y)
-by_absence true true x own taken same = ap (λ b. if b then own else true) taken
-by_absence true false x own taken same = ap (λ b. if b then own else true) taken
-by_absence false true x own taken same = ap (λ b. if b then own else x) taken ∙ same refl
-by_absence false false x own taken same = ap (λ b. if b then own else x) taken ∙ same refl
+by_absence absent from x own taken same = grind arith
 
 -- and a part that nothing stands in for, all
 left_open : (absent from x y : Bool) → x ≡ y → (absent || x) ≡ (if absent then (if from then true else true) else y)
-left_open true true x y same = refl
-left_open true false x y same = refl
-left_open false from x y same = same
+left_open absent from x y same = grind arith
 
 month_taken : (f : Frequency) (r : Recurrence) → takes_month f r.parts ≡ (is_extracted r f ByMonth && is_absent r ByMonth)
 month_taken Yearly r = refl
-month_taken Monthly r = refl
-month_taken Weekly r = refl
-month_taken Daily r = refl
-month_taken Hourly r = refl
-month_taken Minutely r = refl
-month_taken Secondly r = refl
+month_taken f r = refl
 
 kept_first : (m y b w : Bool) → (m && y && b && w) ≡ ((m && y && b && w) && m)
-kept_first true y b w = sym (keep_true (y && b && w))
-kept_first false y b w = refl
+kept_first m y b w = grind arith
 
 day_taken : (f : Frequency) (r : Recurrence) → takes_month_day f r.parts ≡ (is_extracted r f ByMonthDay && is_absent r ByMonthDay)
 day_taken Yearly r = kept_first (is_absent r ByMonthDay) (is_absent r ByYearDay) (is_absent r ByDay) (is_absent r ByWeekNo)
 day_taken Monthly r = kept_first (is_absent r ByMonthDay) (is_absent r ByYearDay) (is_absent r ByDay) (is_absent r ByWeekNo)
-day_taken Weekly r = refl
-day_taken Daily r = refl
-day_taken Hourly r = refl
-day_taken Minutely r = refl
-day_taken Secondly r = refl
+day_taken f r = refl
 
 weekday_taken : (f : Frequency) (r : Recurrence) → (f ≡ Weekly → is_absent r ByDay ≡ true → is_dayless r ≡ true)
     → (f ≡ Yearly → (is_absent r ByMonthDay && is_absent r ByYearDay && is_absent r ByDay) ≡ true → is_dayless r ≡ true)
@@ -78,29 +63,18 @@ weekday_taken : (f : Frequency) (r : Recurrence) → (f ≡ Weekly → is_absent
 weekday_taken Yearly r weekly yearly = none_left (is_absent r ByMonthDay && is_absent r ByYearDay && is_absent r ByDay) (is_absent r ByWeekNo) (yearly refl)
   where
     none_left : (a w : Bool) → (a ≡ true → (a && w) ≡ true) → (a && not w) ≡ false
-    none_left true w h = ap not (h refl)
-    none_left false w h = refl
+    none_left a w h = grind arith
 weekday_taken Weekly r weekly yearly = whole (is_absent r ByDay) (is_dayless r) (weekly refl)
   where
     whole : (b d : Bool) → (b ≡ true → d ≡ true) → b ≡ (d && b)
-    whole true d h = sym (ap (λ x. x && true) (h refl))
-    whole false d h = sym (and_false d)
-weekday_taken Monthly r weekly yearly = refl
-weekday_taken Daily r weekly yearly = refl
-weekday_taken Hourly r weekly yearly = refl
-weekday_taken Minutely r weekly yearly = refl
-weekday_taken Secondly r weekly yearly = refl
+    whole b d h = grind arith
+weekday_taken f r weekly yearly = refl
 
 -- beside BYDAY no month is taken
 no_month_taken : (f : Frequency) (r : Recurrence) → is_absent r ByDay ≡ false → takes_month f r.parts ≡ false
 no_month_taken Yearly r h = ap (λ x. x && is_absent r ByWeekNo && is_absent r ByMonth)
     (and_right (is_absent r ByMonthDay && is_absent r ByYearDay) (is_absent r ByDay) h)
-no_month_taken Monthly r h = refl
-no_month_taken Weekly r h = refl
-no_month_taken Daily r h = refl
-no_month_taken Hourly r h = refl
-no_month_taken Minutely r h = refl
-no_month_taken Secondly r h = refl
+no_month_taken f r h = refl
 
 -- ---- the numbers of a weekday
 
@@ -132,11 +106,7 @@ module _ (r : Recurrence) (q : EffectiveRule) (p : Ordinals) (e : ℕ) (small : 
   numbered Yearly none =
       ap (λ w. yearly_numbered p e w (is_empty q.months)) weeks ∙ ap (yearly_numbered p e (is_absent r ByWeekNo)) months
       ∙ by_unit (is_absent r ByWeekNo) (is_absent r ByMonth) none
-  numbered Weekly none = ap not (none refl) ∙ sym (place_none p (with_weekday (weekday_period r Weekly) e) e (none refl))
-  numbered Daily none = ap not (none refl) ∙ sym (place_none p (with_weekday (weekday_period r Daily) e) e (none refl))
-  numbered Hourly none = ap not (none refl) ∙ sym (place_none p (with_weekday (weekday_period r Hourly) e) e (none refl))
-  numbered Minutely none = ap not (none refl) ∙ sym (place_none p (with_weekday (weekday_period r Minutely) e) e (none refl))
-  numbered Secondly none = ap not (none refl) ∙ sym (place_none p (with_weekday (weekday_period r Secondly) e) e (none refl))
+  numbered f none = ap not (none refl) ∙ sym (place_none p (with_weekday (weekday_period r f) e) e (none refl))
 
 -- no number lets nothing in
 none_numbered : (f : Frequency) (q : EffectiveRule) (e : ℕ) → lets_numbered f q no_ordinals e ≡ false
@@ -147,11 +117,7 @@ none_numbered Yearly q e = either_false (lists_none q.weeks) (is_empty q.months)
     either_false false m = refl
     either_false true false = none_nth no_ordinals (month_day_of e) (days_in_month (pos (year_of e)) (month_of e)) refl
     either_false true true = none_nth no_ordinals (year_day_of e) (days_in_year (pos (year_of e))) refl
-none_numbered Weekly q e = refl
-none_numbered Daily q e = refl
-none_numbered Hourly q e = refl
-none_numbered Minutely q e = refl
-none_numbered Secondly q e = refl
+none_numbered f q e = refl
 
 -- ---- the clock
 
@@ -166,30 +132,16 @@ clock DateTime {takes = takes} {from = from} set own n same date =
 
 hour_taken : (f : Frequency) (r : Recurrence) → skips_hours f ≡ is_extracted r f ByHour
 hour_taken Yearly r = refl
-hour_taken Monthly r = refl
-hour_taken Weekly r = refl
-hour_taken Daily r = refl
-hour_taken Hourly r = refl
-hour_taken Minutely r = refl
-hour_taken Secondly r = refl
+hour_taken f r = refl
 
 minute_taken : (f : Frequency) (r : Recurrence) → (skips_minutes f ≡ is_extracted r f ByMinute) × (skips_hours f ≡ true → skips_minutes f ≡ true)
-minute_taken Yearly r = (refl, λ h. refl)
-minute_taken Monthly r = (refl, λ h. refl)
-minute_taken Weekly r = (refl, λ h. refl)
-minute_taken Daily r = (refl, λ h. refl)
-minute_taken Hourly r = (refl, λ h. refl)
 minute_taken Minutely r = (refl, λ h. h)
 minute_taken Secondly r = (refl, λ h. h)
+minute_taken f r = (refl, λ h. refl)
 
 second_taken : (f : Frequency) (r : Recurrence) → (skips_seconds f ≡ is_extracted r f BySecond) × (skips_hours f ≡ true → skips_seconds f ≡ true)
-second_taken Yearly r = (refl, λ h. refl)
-second_taken Monthly r = (refl, λ h. refl)
-second_taken Weekly r = (refl, λ h. refl)
-second_taken Daily r = (refl, λ h. refl)
-second_taken Hourly r = (refl, λ h. refl)
-second_taken Minutely r = (refl, λ h. refl)
 second_taken Secondly r = (refl, λ h. h)
+second_taken f r = (refl, λ h. refl)
 
 -- midnight
 midnight : (d s : ℕ) → s ≡ 0 → ((d * 86_400 + s) / 3_600 % 24 ≡ 0) × (((d * 86_400 + s) / 60 % 60 ≡ 0) × ((d * 86_400 + s) % 60 ≡ 0))

@@ -141,10 +141,7 @@ span_is f w p n = iff (span_test f (first_local f w p) (first_local f w (p + 1))
 
 -- two conjunctions, by their first and their second tests
 exchange : (a b c d : Bool) → ((a && b) && (c && d)) ≡ ((a && c) && (b && d))
-exchange true true c d = refl
-exchange true false true d = refl
-exchange true false false d = refl
-exchange false b c d = refl
+exchange a b c d = grind arith
 
 day_back : (a e : ℕ) (x : Bool) (f : ℕ → Bool) → (nat_le a e && (x && f (a + (e - a)))) ≡ (nat_le a e && (x && f e))
 day_back a e x f = elim (cases_lt e a) [

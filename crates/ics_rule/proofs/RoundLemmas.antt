@@ -7,7 +7,7 @@ use Rattle.std.proofs.lemmas.Nat.{div-add-mod'}
 use Rattle.std.proofs.Math.Nat.{add-mul-mod_self_right, mul_assoc, mul_comm, mul-le-mul_right, mod-lt}
 use Rattle.jiff_core.specs.Weekday.{monday_zero}
 use Rattle.ics_fields.specs.declared.frequency.Frequency.{Frequency}
-use Rattle.ics_fields.specs.declared.frequency.Frequency.TheVariants.{Secondly, Minutely, Hourly, Daily, Weekly, Monthly, Yearly}
+use Rattle.ics_fields.specs.declared.frequency.Frequency.TheVariants.{Monthly, Yearly}
 use Rattle.ics_fields.specs.declared.ordinals.Ordinals.{Ordinals}
 use Rattle.ics_fields.specs.Sets.{contains, is_empty}
 use Rattle.ics_fields.specs.Ordinals.{lists_none_wide, lists_no_weekday, numbers_of}
@@ -29,13 +29,9 @@ use Rattle.ics_rule.proofs.Tests.{and_assoc, and_false, positive}
 
 -- under the frequencies whose periods last alike a weekday with a number stands for the weekday
 numbered_alike : (f : Frequency) (q : EffectiveRule) (p : Ordinals) (d e : ℕ) → 0 < seconds_of f → lets_numbered f q p d ≡ lets_numbered f q p e
-numbered_alike Secondly q p d e h = refl
-numbered_alike Minutely q p d e h = refl
-numbered_alike Hourly q p d e h = refl
-numbered_alike Daily q p d e h = refl
-numbered_alike Weekly q p d e h = refl
 numbered_alike Monthly q p d e h = absurd (omega (arith, h))
 numbered_alike Yearly q p d e h = absurd (omega (arith, h))
+numbered_alike f q p d e h = refl
 
 date_repeats : (q : EffectiveRule) (d e : ℕ) → names_weekdays_alone q ≡ true → 0 < seconds_of q.frequency → weekday_of d ≡ weekday_of e →
     lets_date q d ≡ lets_date q e
@@ -105,22 +101,10 @@ module _ (q : EffectiveRule) (alone : names_weekdays_alone q ≡ true) where
 
 -- periods that last alike
 unit_period : (f : Frequency) (w n j : ℕ) → 0 < seconds_of f → period f w (n + j * seconds_of f) ≡ period f w n + j
-unit_period Secondly w n j h = omega arith
-unit_period Minutely w n j h = omega arith
-unit_period Hourly w n j h = omega arith
-unit_period Daily w n j h = omega arith
-unit_period Weekly w n j h = omega arith
-unit_period Monthly w n j h = absurd (omega (arith, h))
-unit_period Yearly w n j h = absurd (omega (arith, h))
+unit_period f w n j h = grind arith
 
 unit_first : (f : Frequency) (w p j : ℕ) → 0 < seconds_of f → 2 ≤ p → first_local f w (p + j) ≡ first_local f w p + j * seconds_of f
-unit_first Secondly w p j h l = omega arith
-unit_first Minutely w p j h l = omega arith
-unit_first Hourly w p j h l = omega arith
-unit_first Daily w p j h l = omega arith
-unit_first Weekly w p j h l = omega arith
-unit_first Monthly w p j h l = absurd (omega (arith, h))
-unit_first Yearly w p j h l = absurd (omega (arith, h))
+unit_first f w p j h l = grind arith
 
 -- a test that repeats after a repeats after each multiple
 pub repeats_often : (f : ℕ → Bool) {low : ℕ} (a : ℕ) → ((n : ℕ) → low ≤ n → f (n + a) ≡ f n) → (j n : ℕ) → low ≤ n → f (n + j * a) ≡ f n

@@ -175,10 +175,7 @@ module _ (r : Run) (listed : ℕ → Bool) (d p from m : ℕ) (a b : Bool) (own 
       ∙ ap (λ y. a || (has_run r m && ((weekday_in r (m - r.start) == d) && y))) (next_found listed from n ((m - r.start) / 7 + 1) next)
     where
       merge : (x w s t z : Bool) → ((x && (w && s)) || (z || (x && (w && t)))) ≡ (z || (x && (w && (s || t))))
-      merge true true s t true = or_right s true refl
-      merge true true s t false = refl
-      merge true false s t z = refl
-      merge false w s t z = refl
+      merge x w s t z = grind arith
 
   pub number_none : a ≡ number_found 1
   number_none = sym (ap (λ y. a || y) (and_right (has_run r m) _
@@ -218,19 +215,13 @@ module _ (listed : ℕ → Bool) (w : ℕ) (a x : Bool) where
   ]
     where
       again : (a x y : Bool) → ((a || (x && y)) || (x && false)) ≡ (a || (x && y))
-      again true x y = refl
-      again false true y = or_false y
-      again false false y = refl
+      again a x y = grind arith
 
       once : (a x y : Bool) → ((a || (x && false)) || (x && y)) ≡ (a || (x && y))
-      once true x y = refl
-      once false true y = refl
-      once false false y = refl
+      once a x y = grind arith
 
       never : (a x : Bool) → ((a || (x && false)) || (x && false)) ≡ (a || (x && false))
-      never true x = refl
-      never false true = refl
-      never false false = refl
+      never a x = grind arith
 
   pub weekdays_jump : {from d : ℕ} {b : Bool} → from ≤ d → (from ≤ w → w < d → listed w ≡ false)
       → b ≡ (a || (x && (nat_lt w from && listed w))) → b ≡ (a || (x && (nat_lt w d && listed w)))

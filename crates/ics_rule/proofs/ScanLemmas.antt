@@ -1,5 +1,5 @@
 -- The next number that passes a test of its part / k and a test of its part % k.
-use Rattle.std.proofs.Common.{◌≡◌, ℕ, zero, suc, ◌+◌, ◌-◌, ◌*◌, ◌/◌, ◌%◌, ◌^◌, ◌<◌, ◌≤◌, ◌⊎◌, inl, inr, ◌≢◌, Bool, true, false, ◌==◌, ◌||◌, ◌&&◌, nat_lt}
+use Rattle.std.proofs.Common.{◌≡◌, ℕ, suc, ◌+◌, ◌-◌, ◌*◌, ◌/◌, ◌%◌, ◌^◌, ◌<◌, ◌≤◌, ◌⊎◌, inl, inr, ◌≢◌, Bool, true, false, ◌==◌, ◌||◌, ◌&&◌, nat_lt}
 use Rattle.std.proofs.Common.{nat_le, get_or, pos, refl, sym, subst, ap, ◌∙◌, arith}
 use Rattle.std.proofs.lemmas.Bool.{and_from, and_left, and_parts, and_right, cases_eq, lt-ltb, ne_eqb}
 use Rattle.std.proofs.lemmas.Bool.Decides.{nat_tests}
@@ -65,14 +65,6 @@ module _ (k : ℕ) (some : 0 < k) where
           ];
         }
 
-    -- nowhere
-    pub none_later : (x : ℕ) → ((m : ℕ) → x ≤ m → m / k ≡ x / k → (A (m / k) && B (m % k)) ≡ false) → ((m : ℕ) → x / k + 1 ≤ m → A m ≡ false) → (m : ℕ) →
-        x ≤ m → (A (m / k) && B (m % k)) ≡ false
-    none_later x none rest m low = let up : x / k ≤ m / k = div_mono x m low in elim (three (x / k) (m / k) up) [
-      | inl same ↦ none m low (sym same)
-      | inr later ↦ and_left (A (m / k)) (B (m % k)) (rest (m / k) later)
-    ]
-
     -- what is left where the block of the place is done
     pub block_out : (x : ℕ) → A (x / k) ≡ false → (m : ℕ) → x ≤ m → m / k ≡ x / k → (A (m / k) && B (m % k)) ≡ false
     block_out x a m low same = and_left (A (m / k)) (B (m % k)) (ap A same ∙ a)
@@ -95,13 +87,8 @@ own_only f own m h = elim (cases_eq m own) [
 
 -- no number is a member of the empty set
 none_get : (i : ℕ) → get_or none_wide i 0 ≡ 0
-none_get zero = refl
-none_get (suc zero) = refl
-none_get (suc (suc zero)) = refl
-none_get (suc (suc (suc zero))) = refl
-none_get (suc (suc (suc (suc zero)))) = refl
-none_get (suc (suc (suc (suc (suc zero))))) = refl
 none_get (suc (suc (suc (suc (suc (suc i)))))) = get_or_past none_wide (suc (suc (suc (suc (suc (suc i)))))) 0 (omega arith)
+none_get i = refl
 
 pub none_has : (m : ℕ) → contains_wide none_wide m ≡ false
 none_has m = and_right (nat_lt m 384) (contains (get_or none_wide (m / 64) 0) (m % 64)) (ap (λ x. contains x (m % 64)) (none_get (m / 64))
@@ -120,10 +107,10 @@ one_more f k m b h e = elim (cases_eq m k) [
 ]
   where
     here : {a c d : Bool} (b : Bool) → a ≡ true → c ≡ true → d ≡ true → (a || (b && d)) ≡ (c && d)
-    here b p q r = rw (p, q, r) refl
+    here b p q r = grind arith
 
     there : (a b c d : Bool) → a ≡ false → b ≡ c → (a || (b && d)) ≡ (c && d)
-    there a b c d p q = rw (p, q) refl
+    there a b c d p q = grind arith
 
 pub no_more : (f : ℕ → Bool) (k m : ℕ) (b : Bool) → f k ≡ false → b ≡ (nat_lt m k && f m) → b ≡ (nat_lt m (k + 1) && f m)
 no_more f k m b h e = elim (cases_eq m k) [

@@ -13,7 +13,7 @@ use Rattle.ics_rule.specs.declared.kind.Kind.TheVariants.{DateTime}
 use Rattle.ics_rule.specs.Recurrence.{Recurrence}
 use Rattle.ics_rule.specs.PeriodNumbers.{day_of, hour_of, minute_of, second_of, month_number}
 use Rattle.ics_rule.specs.Kept.{count}
-use Rattle.ics_rule.specs.Table.{Part, ByMonth, ByWeekNo, ByYearDay, ByMonthDay, ByDay, ByHour, ByMinute, BySecond, BySetPos, Nothing, cell}
+use Rattle.ics_rule.specs.Table.{Part, ByDay, Nothing, cell}
 use Rattle.ics_rule.specs.ByTable.{is_absent, instance_of, is_listed, is_instance, is_member, IsAllowed}
 use Rattle.ics_rule.proofs.KeptLemmas.{and_true}
 use Rattle.ics_rule.proofs.TableCounts.{days_from, members_by_days}
@@ -46,15 +46,8 @@ first_friday_allowed = record { parts = parts; numbers = λ e. absurd (cc); date
   where
     parts : (part : Part) → cell part Monthly ≡ Nothing
         → is_absent (rule (record (every Monthly) { weekdays = nth_weekday 1 fr }) (local 1997 9 5 9 0) DateTime) part ≡ true
-    parts ByWeekNo e = refl
-    parts ByYearDay e = refl
-    parts ByMonth e = refl
-    parts ByMonthDay e = refl
     parts ByDay e = absurd (cc)
-    parts ByHour e = refl
-    parts ByMinute e = refl
-    parts BySecond e = refl
-    parts BySetPos e = refl
+    parts part e = refl
 
 -- the third-to-the-last day of the month
 third_last : listed (record (every Monthly) { month_days = record no_ordinals { back = only 3 } }) 1997 9 28 (date 1998 2 1) 28 ≡ map (date 1998 2) (26 ∷ [])

@@ -1,6 +1,7 @@
 -- The table of expansion and limits gives what the parts of a effective rule let in.
 use Rattle.std.proofs.Common.{◌≡◌, ℕ, ◌+◌, ◌*◌, ◌/◌, ◌%◌, Bool, true, false, not, ◌&&◌, ◌||◌, ◌==◌, if◌then◌else◌, pos, refl, sym, subst, ap, ◌∙◌, arith}
 use Rattle.std.proofs.lemmas.Bool.{and_parts}
+use Rattle.std.proofs.lemmas.Bool.Decides.{nat_tests}
 use Rattle.jiff_core.specs.Calendar.{days_in_month, days_in_year}
 use Rattle.ics_fields.specs.declared.frequency.Frequency.{Frequency}
 use Rattle.ics_fields.specs.declared.frequency.Frequency.TheVariants.{Secondly, Minutely, Hourly, Daily, Weekly, Monthly, Yearly}
@@ -20,7 +21,7 @@ use Rattle.ics_rule.specs.ByTable.{apply_cell, apply, is_instance, IsAllowed}
 use Rattle.ics_rule.proofs.TableSteps.{or_assoc, limited, passed, expanded, week_expanded, noted, given, only_number, only_day, only_this_weekday, DateTests}
 use Rattle.ics_rule.proofs.TableSteps.{ClockTests, in_order}
 use Rattle.ics_rule.proofs.TableSteps.{by_date, by_clock, by_subject}
-use Rattle.ics_rule.proofs.Tests.{third, self_test, keep_true, and_false}
+use Rattle.ics_rule.proofs.Tests.{third, keep_true}
 
 -- the rule under a frequency
 abbrev at : Frequency → Recurrence → Recurrence
@@ -70,15 +71,13 @@ abbrev keep : Bool → ℕ → ℕ → ℕ
 keep kept own n = if kept then n else own
 
 put_back : (a : Bool) (own n : ℕ) → (keep a own n == own) ≡ (if a then (n == own) else true)
-put_back true own n = refl
-put_back false own n = self_test own
+put_back a own n = grind (arith, nat_tests)
 
 absent : (a b : Bool) → a ≡ true → true ≡ (a || b)
 absent a b h = sym (ap (λ x. x || b) h)
 
 first_true : (a b c d : Bool) → (a && b && c && d) ≡ true → a ≡ true
-first_true true b c d h = refl
-first_true false b c d h = absurd (cc)
+first_true a b c d h = grind (arith, nat_tests)
 
 -- ---- the clock
 
@@ -138,30 +137,17 @@ module _ (r : Recurrence) where
   -- the clock under DAILY and coarser, HOURLY, MINUTELY and SECONDLY
   module _ (set : Instances) (i : Instance) where
     clock_daily : step Expand BySecond (step Expand ByMinute (step Expand ByHour set)) i ≡ lets_clock_in i (set (hour_kept i))
-    clock_daily =
-        expanded (is_absent r BySecond) (is_listed r BySecond i) (step Expand ByMinute (step Expand ByHour set)) (λ kept. second_from kept i)
-        ∙ ap (λ x. lets_part r BySecond i && x)
-        (expanded (is_absent r ByMinute) (is_listed r ByMinute i) (step Expand ByHour set) (λ kept. minute_from kept (second_kept i))
-        ∙ ap (λ x. lets_part r ByMinute i && x) (expanded (is_absent r ByHour) (is_listed r ByHour i) set (λ kept. hour_from kept (minute_kept i))))
+    clock_daily = grind (arith, nat_tests)
 
     clock_hourly : step Expand BySecond (step Expand ByMinute (step Limit ByHour set)) i ≡ lets_clock_in i (set (minute_kept i))
-    clock_hourly =
-        expanded (is_absent r BySecond) (is_listed r BySecond i) (step Expand ByMinute (step Limit ByHour set)) (λ kept. second_from kept i)
-        ∙ ap (λ x. lets_part r BySecond i && x)
-        (expanded (is_absent r ByMinute) (is_listed r ByMinute i) (step Limit ByHour set) (λ kept. minute_from kept (second_kept i))
-        ∙ ap (λ x. lets_part r ByMinute i && x) (limited (is_absent r ByHour) (is_listed r ByHour i) (set (minute_kept i))))
+    clock_hourly = grind (arith, nat_tests)
 
     clock_minutely : step Expand BySecond (step Limit ByMinute (step Limit ByHour set)) i ≡ lets_clock_in i (set (second_kept i))
     clock_minutely =
-        expanded (is_absent r BySecond) (is_listed r BySecond i) (step Limit ByMinute (step Limit ByHour set)) (λ kept. second_from kept i)
-        ∙ ap (λ x. lets_part r BySecond i && x) (limited (is_absent r ByMinute) (is_listed r ByMinute i) (step Limit ByHour set (second_kept i))
-        ∙ ap (λ x. lets_part r ByMinute i && x) (limited (is_absent r ByHour) (is_listed r ByHour i) (set (second_kept i))))
+        expanded (is_absent r BySecond) (is_listed r BySecond i) (step Limit ByMinute (step Limit ByHour set)) (λ kept. second_from kept i) ∙ simp limited
 
     clock_secondly : step Limit BySecond (step Limit ByMinute (step Limit ByHour set)) i ≡ lets_clock_in i (set i)
-    clock_secondly =
-        limited (is_absent r BySecond) (is_listed r BySecond i) (step Limit ByMinute (step Limit ByHour set) i)
-        ∙ ap (λ x. lets_part r BySecond i && x) (limited (is_absent r ByMinute) (is_listed r ByMinute i) (step Limit ByHour set i)
-        ∙ ap (λ x. lets_part r ByMinute i && x) (limited (is_absent r ByHour) (is_listed r ByHour i) (set i)))
+    clock_secondly = grind (arith, nat_tests)
 
   -- what each part of the clock lets in, where it expands and where it limits
   module _ (dates : r.kind ≡ Date → r.start.second ≡ 0) (i : Instance) where
@@ -232,16 +218,7 @@ limited_dates : (r : Recurrence) (i : Instance) (x : Bool) → (set : Instances)
     → step r Limit ByDay (step r Limit ByMonthDay (step r Limit ByYearDay (λ j. if no_week r then step r Limit ByMonth set j else step r Limit ByMonth set j)))
     i
     ≡ (lets_part r ByDay i && (lets_part r ByMonthDay i && (lets_part r ByYearDay i && (lets_part r ByMonth i && x))))
-limited_dates r i x set e =
-    limited (no_weekday r) (is_listed r ByDay i)
-    (step r Limit ByMonthDay (step r Limit ByYearDay (λ j. if no_week r then step r Limit ByMonth set j else step r Limit ByMonth set j)) i)
-    ∙ ap (λ z. lets_part r ByDay i && z)
-    (limited (no_month_day r) (is_listed r ByMonthDay i)
-    (step r Limit ByYearDay (λ j. if no_week r then step r Limit ByMonth set j else step r Limit ByMonth set j) i)
-    ∙ ap (λ z. lets_part r ByMonthDay i && z)
-    (limited (no_year_day r) (is_listed r ByYearDay i) (if no_week r then step r Limit ByMonth set i else step r Limit ByMonth set i)
-    ∙ ap (λ z. lets_part r ByYearDay i && z) (passed (no_week r) (step r Limit ByMonth set i) ∙ limited (no_month r) (is_listed r ByMonth i) (set i)
-    ∙ ap (λ z. lets_part r ByMonth i && z) e)))
+limited_dates r i x set e = simp (limited, passed, e)
 
 abbrev limited_tests : Recurrence → ℕ → Instance → DateTests
 limited_tests r p i = record {
@@ -316,12 +293,7 @@ module _ (rule : Recurrence) (allowed : IsAllowed (at Secondly rule)) (p n : ℕ
 module _ (rule : Recurrence) (allowed : IsAllowed (at Daily rule)) (p n : ℕ) where
   daily_dates : (i : Instance) → set5 (at Daily rule) p i
       ≡ (lets_part (at Daily rule) ByDay i && (lets_part (at Daily rule) ByMonthDay i && (lets_part (at Daily rule) ByMonth i && set0 (at Daily rule) p i)))
-  daily_dates i =
-      let r = at Daily rule in
-      limited (no_weekday r) (is_listed r ByDay i) (set4 r p i)
-      ∙ ap (λ x. lets_part r ByDay i && x) (limited (no_month_day r) (is_listed r ByMonthDay i) (set3 r p i)
-      ∙ ap (λ x. lets_part r ByMonthDay i && x) (passed (no_year_day r) (set2 r p i) ∙ passed (no_week r) (set1 r p i)
-      ∙ limited (no_month r) (is_listed r ByMonth i) (set0 r p i)))
+  daily_dates i = simp (limited, passed)
 
   daily : is_instance (at Daily rule) p n ≡ is_let_in (effective (at Daily rule)) p n
   unfolding effective
@@ -359,9 +331,7 @@ day_from r kept i = record i {
 
 -- beside BYMONTH the month is kept
 month_kept : (m a : Bool) (test : ℕ → Bool) (own n : ℕ) → (m || test (back m a own n)) ≡ (m || test n)
-month_kept true a test own n = refl
-month_kept false true test own n = refl
-month_kept false false test own n = refl
+month_kept m a test own n = grind (arith, nat_tests)
 
 -- WEEKLY: BYDAY expands
 module _ (rule : Recurrence) (allowed : IsAllowed (at Weekly rule)) (p n : ℕ) where
@@ -370,10 +340,7 @@ module _ (rule : Recurrence) (allowed : IsAllowed (at Weekly rule)) (p n : ℕ) 
       && (lets_part rule ByMonth (day_from rule (no_weekday rule) i) && set0 (at Weekly rule) p (day_from rule (no_weekday rule) i)))
   weekly_dates i =
       let r = at Weekly rule in
-      let j = day_from r (no_weekday r) i in
-      expanded (no_weekday r) (is_listed r ByDay i) (set4 r p) (λ kept. day_from r kept i)
-      ∙ ap (λ x. lets_part r ByDay i && x) (passed (no_month_day r) (set3 r p j) ∙ passed (no_year_day r) (set2 r p j) ∙ passed (no_week r) (set1 r p j)
-      ∙ limited (no_month r) (is_listed r ByMonth j) (set0 r p j))
+      expanded (no_weekday r) (is_listed r ByDay i) (set4 r p) (λ kept. day_from r kept i) ∙ simp (limited, passed)
 
   abbrev weekly_plain : Ordinals → Bool
   weekly_plain numbers = not (lists_none numbers)
@@ -382,11 +349,7 @@ module _ (rule : Recurrence) (allowed : IsAllowed (at Weekly rule)) (p n : ℕ) 
       → (lets_part (at Weekly rule) ByDay i && (keep (no_weekday rule) (start_of rule).weekday i.weekday == (start_of rule).weekday))
       ≡ (if no_weekday rule then (i.weekday == (start_of rule).weekday)
       else (no_weekday rule || contains rule.parts.weekdays.plain i.weekday || weekly_plain (numbers_of rule.parts.weekdays i.weekday)))
-  weekly_weekday i =
-      ap (λ x. lets_part (at Weekly rule) ByDay i && x) (put_back (no_weekday rule) (start_of rule).weekday i.weekday)
-      ∙ given (no_weekday rule) (lets_part (at Weekly rule) ByDay i) (i.weekday == (start_of rule).weekday)
-      (λ e. ap (λ b. b || is_listed (at Weekly rule) ByDay i) e)
-      ∙ ap (λ x. if no_weekday rule then (i.weekday == (start_of rule).weekday) else x) (limited_weekday rule i (allowed.numbers refl i.weekday))
+  weekly_weekday i = grind (arith, nat_tests)
 
   weekly : is_instance (at Weekly rule) p n ≡ is_let_in (effective (at Weekly rule)) p n
   unfolding effective
@@ -417,25 +380,15 @@ module _ (rule : Recurrence) (allowed : IsAllowed (at Weekly rule)) (p n : ℕ) 
 module _ (own n : ℕ) where
   monthly_day : (d y b w : Bool) → y ≡ true → w ≡ true → (keep d own (keep (b || not d) own n) == own)
       ≡ (if (d && y && b && w) then (n == own) else true)
-  monthly_day true true true true p q = refl
-  monthly_day true true false true p q = self_test own
-  monthly_day false true b true p q = self_test own
-  monthly_day d true b false p q = absurd (cc)
-  monthly_day d false b w p q = absurd (cc)
+  monthly_day d y b w p q = grind (arith, nat_tests)
 
 monthly_month : (m d b : Bool) (test : ℕ → Bool) (own n : ℕ) → (m || test (back m d own (back m (b || not d) own n))) ≡ (m || test n)
-monthly_month true d b test own n = refl
-monthly_month false true true test own n = refl
-monthly_month false true false test own n = refl
-monthly_month false false true test own n = refl
-monthly_month false false false test own n = refl
+monthly_month m d b test own n = grind (arith, nat_tests)
 
 -- where BYMONTHDAY is there, it is asked of the day as it is
 module _ (test : ℕ → ℕ → Bool) (own_month own_day month day : ℕ) where
   monthly_listed : (m d b : Bool) → (d || test (back m (b || not d) own_month month) (keep (b || not d) own_day day)) ≡ (d || test month day)
-  monthly_listed m true b = refl
-  monthly_listed m false true = refl
-  monthly_listed m false false = refl
+  monthly_listed m d b = grind (arith, nat_tests)
 
 module _ (rule : Recurrence) (allowed : IsAllowed (at Monthly rule)) (p n : ℕ) where
   abbrev after_weekday : Instance → Instance
@@ -449,12 +402,9 @@ module _ (rule : Recurrence) (allowed : IsAllowed (at Monthly rule)) (p n : ℕ)
       && (lets_part rule ByMonthDay (after_weekday i) && (lets_part rule ByMonth (after_month_day i) && set0 (at Monthly rule) p (after_month_day i))))
   monthly_dates i =
       let r = at Monthly rule in
-      let j = after_month_day i in
       noted (no_weekday r) (no_month_day r) (is_listed r ByDay i) (set4 r p) (λ kept. day_from r kept i)
       ∙ ap (λ x. lets_part r ByDay i && x)
-      (expanded (no_month_day r) (is_listed r ByMonthDay (after_weekday i)) (set3 r p) (λ kept. day_from r kept (after_weekday i))
-      ∙ ap (λ x. lets_part r ByMonthDay (after_weekday i) && x) (passed (no_year_day r) (set2 r p j) ∙ passed (no_week r) (set1 r p j)
-      ∙ limited (no_month r) (is_listed r ByMonth j) (set0 r p j)))
+      (expanded (no_month_day r) (is_listed r ByMonthDay (after_weekday i)) (set3 r p) (λ kept. day_from r kept (after_weekday i)) ∙ simp (limited, passed))
 
   -- whether DTSTART gives the day of the month
   abbrev takes_day : Bool
@@ -514,51 +464,29 @@ module _ (own n : ℕ) where
 
   -- beside BYMONTH the month is kept; else DTSTART gives it, and no more where a part speaks of the day
   yearly_beside : (d y b w : Bool) → yearly_back false d y b w ≡ n
-  yearly_beside d y b w =
-      same w (yearly_back false d y b true) ∙ same y (back false d own (back false (yearly_kept d y b) own n))
-      ∙ same d (back false (yearly_kept d y b) own n) ∙ same (yearly_kept d y b) n
-    where
-      same : (a : Bool) (x : ℕ) → back false a own x ≡ x
-      same true x = refl
-      same false x = refl
+  yearly_beside d y b w = grind (arith, nat_tests)
 
   yearly_open : (d y b : Bool) → (yearly_keep d y b == own) ≡ (if (d && y && b) then (n == own) else true)
-  yearly_open true true true = refl
-  yearly_open true true false = self_test own
-  yearly_open true false true = self_test own
-  yearly_open true false false = self_test own
-  yearly_open false true true = self_test own
-  yearly_open false true false = self_test own
-  yearly_open false false true = self_test own
-  yearly_open false false false = self_test own
+  yearly_open d y b = grind (arith, nat_tests)
 
   -- DTSTART's day of the month, where no part speaks of a day or week
   yearly_day : (d y b w : Bool) → (keep w own (yearly_keep d y b) == own) ≡ (if (d && y && b && w) then (n == own) else true)
-  yearly_day d y b true = yearly_open d y b ∙ ap (λ t. if t then (n == own) else true) (sym (keep_true (d && y && b)))
-  yearly_day d y b false = self_test own ∙ ap (λ t. if t then (n == own) else true) (sym (and_false (d && y && b)))
+  yearly_day d y b w = grind (arith, nat_tests)
 
   -- DTSTART's weekday in the weeks of BYWEEKNO, where no part speaks of a day
   yearly_own_weekday : (d y b w : Bool) → (w || (yearly_keep d y b == own)) ≡ (if (d && y && b && not w) then (n == own) else true)
-  yearly_own_weekday d y b true = ap (λ t. if t then (n == own) else true) (sym (and_false (d && y && b)))
-  yearly_own_weekday d y b false = yearly_open d y b ∙ ap (λ t. if t then (n == own) else true) (sym (keep_true (d && y && b)))
+  yearly_own_weekday d y b w = grind (arith, nat_tests)
 
   -- BYMONTH, and DTSTART's month where no other part speaks of the date
   yearly_month : (d y b w m : Bool) (test : ℕ → Bool)
       → ((m || test (yearly_back m d y b w)) && (keep m own (yearly_back m d y b w) == own))
       ≡ ((m || test n) && (if (d && y && b && w && m) then (n == own) else true))
-  yearly_month d y b w true test = yearly_day d y b w ∙ ap (λ t. if t then (n == own) else true) (sym (keep_true (d && y && b && w)))
-  yearly_month d y b w false test =
-      ap (λ x. test (yearly_back false d y b w) && x) (self_test own) ∙ ap (λ x. test x && true) (yearly_beside d y b w)
-      ∙ ap (λ t. test n && (if t then (n == own) else true)) (sym (and_false (d && y && b && w)))
+  yearly_month d y b w m test = grind (arith, nat_tests)
 
 -- where BYMONTHDAY is there, it is asked of the day as it is
 module _ (test : ℕ → ℕ → Bool) (own_month own_day month day : ℕ) where
   yearly_listed : (m d y b : Bool) → (d || test (back m (yearly_kept d y b) own_month month) (keep (yearly_kept d y b) own_day day)) ≡ (d || test month day)
-  yearly_listed m true y b = refl
-  yearly_listed m false true true = refl
-  yearly_listed m false true false = refl
-  yearly_listed m false false true = refl
-  yearly_listed m false false false = refl
+  yearly_listed m d y b = grind (arith, nat_tests)
 
 -- BYDAY counts in the unit of note 2
 module _ (plain : Bool) (numbers : Ordinals) (i : Instance) where
@@ -568,25 +496,13 @@ module _ (plain : Bool) (numbers : Ordinals) (i : Instance) where
       ≡ (b || plain || (if not w then not (lists_none numbers)
       else (if not months then lists_nth numbers i.month_day (days_in_month (pos i.year) i.month) else lists_nth numbers i.year_day
       (days_in_year (pos i.year)))))
-  yearly_numbers true w taken h k none = refl
-  yearly_numbers false w true h k none = absurd (let e = h refl in cc)
-  yearly_numbers false false false h k none = or_assoc false plain false ∙ ap (λ z. plain || z) (sym (ap not (none refl)))
-  yearly_numbers false true false {months = months} h k none =
-      ap (λ z. plain || lists_nth_in (if not z then Monthly else Yearly) numbers i) (sym (k refl)) ∙ counted months
-    where
-      counted : (a : Bool) → (plain || lists_nth_in (if not a then Monthly else Yearly) numbers i)
-          ≡ (plain || (if not a then lists_nth numbers i.month_day (days_in_month (pos i.year) i.month) else lists_nth numbers i.year_day
-          (days_in_year (pos i.year))))
-      counted true = refl
-      counted false = refl
+  yearly_numbers b w taken h k none = grind (arith, nat_tests)
 
 week_unit : (w m : Bool) → w ≡ false → ◌≡◌ {A = Frequency} (if not w then Weekly else (if not m then Monthly else Yearly)) Weekly
-week_unit true m h = absurd (cc)
-week_unit false m h = refl
+week_unit w m h = grind (arith, nat_tests)
 
 months_taken : (t : Bool) (own months : ℕ) → t ≡ false → is_empty (if t then only own else months) ≡ is_empty months
-months_taken true own months h = absurd (cc)
-months_taken false own months h = refl
+months_taken t own months h = grind (arith, nat_tests)
 
 module _ (rule : Recurrence) (allowed : IsAllowed (at Yearly rule)) (p n : ℕ) where
   -- an instance as BYDAY, BYMONTHDAY, BYYEARDAY, BYWEEKNO and BYMONTH leave it to the part before

@@ -1,5 +1,6 @@
 -- The table's parts, one by one: what each lets in, and what DTSTART still gives.
-use Rattle.std.proofs.Common.{◌≡◌, ℕ, zero, suc, ◌+◌, ◌-◌, ◌<◌, Bool, true, false, not, ◌&&◌, ◌||◌, ◌==◌, if◌then◌else◌, refl, sym, ap, ◌∙◌, arith}
+use Rattle.std.proofs.Common.{◌≡◌, ℕ, suc, ◌+◌, ◌-◌, ◌<◌, Bool, true, false, not, ◌&&◌, ◌||◌, ◌==◌, if◌then◌else◌, refl, sym, ap, ◌∙◌, arith}
+use Rattle.std.proofs.lemmas.Bool.{and_parts}
 use Rattle.std.proofs.lemmas.Bool.Decides.{nat_tests}
 use Rattle.std.proofs.lemmas.Nat.{pow_pos}
 use Rattle.std.proofs.lemmas.Nat.Bits.{bit_at-zero}
@@ -11,39 +12,31 @@ use Rattle.ics_rule.specs.EffectiveRules.{only_place, only_weekday}
 use Rattle.ics_rule.specs.Candidates.{lets, lets_place}
 use Rattle.ics_rule.specs.ByTable.{Instance, Instances}
 use Rattle.ics_rule.proofs.ScanLemmas.{contains-only}
-use Rattle.ics_rule.proofs.Tests.{keep_true, or_false, and_false, and_assoc}
+use Rattle.ics_rule.proofs.Tests.{keep_true, or_false, iff}
 
 pub or_assoc : (a b c : Bool) → (a || (b || c)) ≡ (a || b || c)
-or_assoc true b c = refl
-or_assoc false b c = refl
+or_assoc a b c = grind arith
 
 -- a part that is absent, or limits; and one that the table has not
 pub limited : (a l x : Bool) → (if a then x else (l && x)) ≡ ((a || l) && x)
-limited true l x = refl
-limited false l x = refl
+limited a l x = grind arith
 
 pub passed : (a x : Bool) → (if a then x else x) ≡ x
-passed true x = refl
-passed false x = refl
+passed a x = grind arith
 
 -- a part that is absent, or expands: an instance is kept, or has from DTSTART what the part gives
 pub expanded : (a l : Bool) (set : Instances) (from : Bool → Instance) → (if a then set (from true) else (l && set (from false))) ≡ ((a || l) && set (from a))
-expanded true l set from = refl
-expanded false l set from = refl
+expanded a l set from = grind arith
 
 -- BYWEEKNO gives the weekday w too
 pub week_expanded : (a w l : Bool) (set : Instances) (from : Bool → Instance)
     → (if a then set (from true) else ((w && l) && set (from false))) ≡ ((a || w) && ((a || l) && set (from a)))
-week_expanded true w l set from = refl
-week_expanded false true l set from = refl
-week_expanded false false l set from = refl
+week_expanded a w l set from = grind arith
 
 -- BYDAY expands where b holds, else it limits
 pub noted : (a b l : Bool) (set : Instances) (from : Bool → Instance)
     → (if a then set (from true) else (if b then (l && set (from false)) else (l && set (from true)))) ≡ ((a || l) && set (from (a || not b)))
-noted true b l set from = refl
-noted false true l set from = refl
-noted false false l set from = refl
+noted a b l set from = grind arith
 
 -- What lets a field in, where t tells that DTSTART gives it.
 pub given : (t let_in own : Bool) → (t ≡ true → let_in ≡ true) → (let_in && (if t then own else true)) ≡ (if t then own else let_in)
@@ -70,14 +63,8 @@ only_day true p own n size = rw (none_only own, has_none (size + 1 - n), contain
 only_day false p own n size = refl
 
 no_number : (n : ℕ) → numbers_of no_weekdays n ≡ no_ordinals
-no_number zero = refl
-no_number (suc zero) = refl
-no_number (suc (suc zero)) = refl
-no_number (suc (suc (suc zero))) = refl
-no_number (suc (suc (suc (suc zero)))) = refl
-no_number (suc (suc (suc (suc (suc zero))))) = refl
-no_number (suc (suc (suc (suc (suc (suc zero)))))) = refl
 no_number (suc (suc (suc (suc (suc (suc (suc n))))))) = refl
+no_number n = refl
 
 pub only_this_weekday : (t : Bool) (ws : Weekdays) (own n : ℕ) (test : Ordinals → Bool) → (t ≡ true → test no_ordinals ≡ false)
     → (lists_no_weekday (if t then only_weekday own else ws) || contains (if t then only_weekday own else ws).plain n
@@ -108,81 +95,13 @@ pub record ClockTests : Type 0 where
   pub own_minute : Bool
   pub own_second : Bool
 
--- five tests and what follows them
-five : (a b c d e x : Bool) → (a && (b && (c && (d && (e && x))))) ≡ ((a && (b && (c && (d && e)))) && x)
-five true true true true e x = refl
-five true true true false e x = refl
-five true true false d e x = refl
-five true false c d e x = refl
-five false b c d e x = refl
-
--- the clock's three tests behind the date's
-clock_last : (s m h a b c : Bool) → (s && (m && (h && (a && (b && c))))) ≡ ((a && b) && ((s && (m && h)) && c))
-clock_last true true true a b c = sym (and_assoc a b c)
-clock_last false m h a b c = sym (and_false (a && b))
-clock_last true false h a b c = sym (and_false (a && b))
-clock_last true true false a b c = sym (and_false (a && b))
-
-clock_pairs : (s m h a b c : Bool) → ((s && (m && h)) && (a && (b && c))) ≡ (((h && a) && (m && b)) && (s && c))
-clock_pairs true true true a b c = sym (and_assoc a b c)
-clock_pairs false m h a b c = sym (and_false ((h && a) && (m && b)))
-clock_pairs true false true a b c = sym (ap (λ x. x && c) (and_false a))
-clock_pairs true false false a b c = refl
-clock_pairs true true false a b c = refl
-
-weekday_first : (b d y o w : Bool) → (b && (d && (y && (o && w)))) ≡ ((b && o) && (d && (y && w)))
-weekday_first true true true o w = refl
-weekday_first true true false o w = sym (and_false o)
-weekday_first true false y o w = sym (and_false o)
-weekday_first false d y o w = refl
-
-period_first : (m p e o d : Bool) → (m && (p && (e && (o && d)))) ≡ (p && (e && (m && (o && d))))
-period_first true p e o d = refl
-period_first false true true o d = refl
-period_first false true false o d = refl
-period_first false false e o d = refl
-
-date_first : (a d p e m : Bool) → ((a && d) && (p && (e && m))) ≡ (p && ((d && m) && (a && e)))
-date_first true d true true m = sym (keep_true (d && m))
-date_first true d true false m = and_false d ∙ sym (and_false (d && m))
-date_first true d false e m = and_false d
-date_first false d true e m = sym (and_false (d && m))
-date_first false d false e m = refl
-
-day_pairs : (d y w m o e : Bool) → ((d && (y && w)) && (m && (o && e))) ≡ ((((m && o) && (d && e)) && y) && w)
-day_pairs true true true true o e = sym (keep_true ((o && e) && true) ∙ keep_true (o && e))
-day_pairs true true true false o e = refl
-day_pairs true true false m o e = sym (and_false (((m && o) && e) && true))
-day_pairs true false w m o e = sym (ap (λ x. x && w) (and_false ((m && o) && e)))
-day_pairs false y w m o e = sym (ap (λ x. (x && y) && w) (and_false (m && o)))
-
 -- the tests in the order of the steps, and by subject
 pub in_order : (d : DateTests) (c : ClockTests)
     → (c.second && (c.minute && (c.hour && (d.weekday && (d.month_day && (d.year_day && (d.week_weekday && (d.week && (d.month && (d.period
     && (d.own_weekday && (d.own_month && (d.own_month_day && (c.own_hour && (c.own_minute && c.own_second)))))))))))))))
     ≡ (d.period && (((((d.month && d.own_month) && (d.month_day && d.own_month_day)) && d.year_day) && d.week)
     && (d.weekday && (d.week_weekday && d.own_weekday)) && (((c.hour && c.own_hour) && (c.minute && c.own_minute)) && (c.second && c.own_second))))
-in_order d c =
-    let clock = c.own_hour && (c.own_minute && c.own_second) in
-    let fore = d.weekday && (d.month_day && (d.year_day && (d.week_weekday && d.week))) in
-    let rest = d.month && (d.period && (d.own_weekday && (d.own_month && d.own_month_day))) in
-    let days = d.month_day && (d.year_day && d.week) in
-    let months = d.month && (d.own_month && d.own_month_day) in
-    let weekdays = d.weekday && d.week_weekday in
-    ap (λ x. c.second && (c.minute && (c.hour && (d.weekday && (d.month_day && (d.year_day && (d.week_weekday && (d.week && x))))))))
-    (five d.month d.period d.own_weekday d.own_month d.own_month_day clock)
-    ∙ ap (λ x. c.second && (c.minute && (c.hour && x))) (five d.weekday d.month_day d.year_day d.week_weekday d.week (rest && clock))
-    ∙ clock_last c.second c.minute c.hour fore rest clock
-    ∙ ap (λ x. (fore && rest) && x) (clock_pairs c.second c.minute c.hour c.own_hour c.own_minute c.own_second)
-    ∙ ap (λ x. x && (((c.hour && c.own_hour) && (c.minute && c.own_minute)) && (c.second && c.own_second)))
-    (ap (λ x. x && rest) (weekday_first d.weekday d.month_day d.year_day d.week_weekday d.week)
-    ∙ ap (λ x. (weekdays && days) && x) (period_first d.month d.period d.own_weekday d.own_month d.own_month_day)
-    ∙ date_first weekdays days d.period d.own_weekday months
-    ∙ ap (λ x. d.period && (x && (weekdays && d.own_weekday))) (day_pairs d.month_day d.year_day d.week d.month d.own_month d.own_month_day)
-    ∙ ap (λ x. d.period && (((((d.month && d.own_month) && (d.month_day && d.own_month_day)) && d.year_day) && d.week) && x))
-    (and_assoc d.weekday d.week_weekday d.own_weekday))
-    ∙ and_assoc d.period (((((d.month && d.own_month) && (d.month_day && d.own_month_day)) && d.year_day) && d.week)
-    && (d.weekday && (d.week_weekday && d.own_weekday))) (((c.hour && c.own_hour) && (c.minute && c.own_minute)) && (c.second && c.own_second))
+in_order d c = iff _ _ (λ h. grind arith) (λ h. grind (arith, and_parts))
 
 pub by_date : {m m' d d' y y' w w' b b' : Bool} → m ≡ m' → d ≡ d' → y ≡ y' → w ≡ w' → b ≡ b' → (m && d && y && w && b) ≡ (m' && d' && y' && w' && b')
 by_date m d y w b = rw (m, d, y, w, b) refl

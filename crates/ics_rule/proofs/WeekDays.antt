@@ -90,18 +90,10 @@ module _ (q : EffectiveRule) (some : lists_none q.weeks ≡ false) where
       ]
     where
       first : (n a b c : Bool) → n ≡ false → (n || (a || b)) ≡ true → (a || b || c) ≡ true
-      first true a b c h l = absurd (cc)
-      first false true b c h l = refl
-      first false false true c h l = refl
-      first false false false c h l = absurd (cc)
+      first n a b c h l = grind arith
 
       second : (n a b c : Bool) → n ≡ false → (n || (a || c)) ≡ true → (a || b || c) ≡ true
-      second true a b c h l = absurd (cc)
-      second false true b c h l = refl
-      second false false true true h l = refl
-      second false false true false h l = refl
-      second false false false true h l = refl
-      second false false false false h l = absurd (cc)
+      second n a b c h l = grind arith
 
 -- a year of so many days from a first, of a rule with BYWEEKNO; the fourth day of the first whole week comes `fourth` days after the year's first
 pub record IsYearOfWeeks (q : EffectiveRule) (first len fourth : ℕ) : Type 0 where
@@ -228,16 +220,7 @@ module _ (front back : ℕ → Bool) where
       ∙ ap (λ x. front n || (nat_lt (53 - n) (k + 1) && back (53 - n)) || x) (next_found back from k (54 - n) next))
     where
       swap : (f p a q b : Bool) → (q || (p || (f || a || b))) ≡ (f || (p || a) || (q || b))
-      swap true true a true b = refl
-      swap true true a false b = refl
-      swap true false a true b = refl
-      swap true false a false b = refl
-      swap false true a true b = refl
-      swap false true a false b = refl
-      swap false false true true b = refl
-      swap false false true false b = refl
-      swap false false false true b = refl
-      swap false false false false b = refl
+      swap f p a q b = grind arith
 
   pub weeks_done : (from n : ℕ) {b : Bool} → 1 ≤ n → n ≤ 53 → ((x : ℕ) → from ≤ x → x ≤ 53 → back x ≡ false)
       → b ≡ seen_weeks front back from n → b ≡ (front n || back (53 - n) || back (54 - n))
