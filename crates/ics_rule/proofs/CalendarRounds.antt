@@ -75,9 +75,7 @@ calendar_is q periods round = record {
 }
   where
     positive : (a b c : ℕ) → c ≡ a * b → 1 ≤ a → 1 ≤ b → 1 ≤ c
-    positive (suc a) (suc b) c e h l = omega (arith, e)
-    positive zero b c e h l = absurd (omega (arith, h))
-    positive (suc a) zero c e h l = absurd (omega (arith, l))
+    positive a b c h l g = grind arith
 
 pub even_of_calendar : (q : EffectiveRule) (o : Option ℕ) → MatchOption o (Unit {0}) (IsCalendarRound q) →
     MatchOption o (Unit {0}) (λ k. (start : ℕ) → IsEvenRound q start k)

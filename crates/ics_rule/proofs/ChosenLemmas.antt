@@ -31,10 +31,7 @@ not_let_in q start n none = by_step (is_stepped (period_in q start) q.interval (
 -- the candidates of a period that lies a multiple of the interval from the start's are what the rule lets in there
 pub let_in : (q : EffectiveRule) (start number n : ℕ) → is_stepped (period_in q start) q.interval number ≡ true → period_in q n ≡ number →
     is_candidate_in q start n ≡ is_let_in q number n
-let_in q start number n step e =
-    ap (λ x. is_stepped (period_in q start) q.interval x && lets_date q (day_of n) && lets_clock q n) e
-    ∙ ap (λ x. x && lets_date q (day_of n) && lets_clock q n) step
-    ∙ sym (ap (λ x. x && (lets_date q (day_of n) && lets_clock q n)) (eq-eqb (period_in q n) number e))
+let_in q start number n step e = grind (arith, eq-eqb)
 
 taken_out : (positions : WideOrdinals) (b : Bool) (p : RecurrencePeriod) (n : ℕ) → holds p n ≡ false → is_taken positions b p n ≡ false
 taken_out positions true p n e = e

@@ -1,5 +1,5 @@
 -- What a rule chooses is counted period by period.
-use Rattle.std.proofs.Common.{◌≡◌, ◌≢◌, ℕ, suc, ◌+◌, ◌-◌, ◌<◌, ◌≤◌, inl, inr, Bool, true, false, nat_lt, ◌&&◌, Some, refl, sym, subst, ap, ◌∙◌, arith}
+use Rattle.std.proofs.Common.{◌≡◌, ◌≢◌, ℕ, suc, ◌+◌, ◌-◌, ◌<◌, ◌≤◌, inl, inr, Bool, true, false, ◌&&◌, Some, refl, sym, subst, ap, ◌∙◌, arith}
 use Rattle.std.proofs.lemmas.Bool.{cases_lt, ne_eqb, false_from_ne_true}
 use Rattle.std.proofs.lemmas.Bool.Decides.{nat_tests}
 use Rattle.jiff_core.specs.Weekday.{monday_zero}
@@ -22,10 +22,7 @@ use Rattle.ics_rule.specs.PeriodNumbers.{rules_end}
 
 -- a period that lies a multiple of the interval from the start's is not before it
 pub step_low : (q : EffectiveRule) (start number : ℕ) → is_stepped (period_in q start) q.interval number ≡ true → period_in q 0 ≤ number
-step_low q start number step =
-    let parts = stepped_parts (period_in q start) q.interval number step in
-    let low = period_mono q.frequency (monday_zero q.week_start) 0 start (omega arith) in
-    omega (arith, parts.0, low)
+step_low q start number step = grind (arith, nat_tests, period_mono, stepped_parts)
 
 -- before the start's period nothing is chosen
 pub none_before_first : (q : EffectiveRule) (start : ℕ) → count (first_local q.frequency (monday_zero q.week_start) (period_in q start)) (is_chosen q start) ≡ 0
@@ -38,9 +35,7 @@ none_before_first q start = count-none (first_local q.frequency (monday_zero q.w
 -- a later period begins later
 pub first_mono : (q : EffectiveRule) (a b : ℕ) → period_in q 0 ≤ b → a ≤ b →
     first_local q.frequency (monday_zero q.week_start) a ≤ first_local q.frequency (monday_zero q.week_start) b
-first_mono q a b low h =
-    let own = first_in q.frequency (monday_zero q.week_start) b (week_small q.week_start) low in
-    begun q.frequency (monday_zero q.week_start) a (first_local q.frequency (monday_zero q.week_start) b) (omega (arith, own, h))
+first_mono q a b low h = grind (arith, nat_tests, begun, first_in, week_small)
 
 module _ (q : EffectiveRule) (start : ℕ) (p : RecurrencePeriod) (own : IsPeriodOf q p) (step : is_stepped (period_in q start) q.interval p.number ≡ true)
     (some : 1 ≤ q.interval) where
@@ -125,18 +120,10 @@ chosen_passed {q = q} {start = start} {number = number} {o = o} left =
 -- a count past the limit keeps nothing more
 module _ (q : EffectiveRule) (start c limit : ℕ) (most : limit + 1 ≡ c + count (suc start) (is_chosen q start)) where
   pub not_few : (n m : ℕ) → limit ≤ count n (is_chosen q start) → n ≤ m → is_few q start c m ≡ false
-  not_few n m h l =
-      let more = count_mono n m (is_chosen q start) l in
-      none (count m (is_chosen q start)) (c + count (suc start) (is_chosen q start)) (omega (arith, more, h, most))
-    where
-      none : (a b : ℕ) → b ≤ a + 1 → nat_lt (a + 1) b ≡ false
-      none a b h = grind (arith, nat_tests)
+  not_few n m h l = grind (arith, nat_tests, count_mono)
 
   pub are_few : (n : ℕ) → count n (is_chosen q start) < limit → is_few q start c n ≡ true
-  are_few n h = some (count n (is_chosen q start)) (c + count (suc start) (is_chosen q start)) (omega (arith, h, most))
-    where
-      some : (a b : ℕ) → a + 1 < b → nat_lt (a + 1) b ≡ true
-      some a b h = grind (arith, nat_tests)
+  are_few n h = grind (arith, nat_tests)
 
 -- the period with a number is held, and nothing is counted yet
 pub record IsFirstLook (q : EffectiveRule) (first : ℕ) (cursor : Cursor) (p : RecurrencePeriod) : Type 0 where

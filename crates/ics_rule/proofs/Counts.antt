@@ -76,11 +76,7 @@ count_mono n m test h =
     omega (arith, parts, same)
 
 pub count_one_more : (n m : ℕ) (test : ℕ → Bool) → n ≤ m → test m ≡ true → count n test + 1 ≤ count (suc m) test
-count_one_more n m test h e =
-    let up = count_mono n m test h in
-    let last = count-suc m test in
-    let one = count_one (test m) e in
-    omega (arith, up, last, one)
+count_one_more n m test h e = grind (arith, count-suc, count_mono, count_one)
 
 pub count_most : (n : ℕ) (test : ℕ → Bool) → count n test ≤ n
 unfolding count

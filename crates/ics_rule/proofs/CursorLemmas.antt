@@ -57,13 +57,7 @@ module _ (q : EffectiveRule) (start a b : ℕ) where
 
 -- the next number that passes one of two tests that agree
 pub next_same : (f g : ℕ → Bool) (place : ℕ) (o : Option ℕ) → ((n : ℕ) → f n ≡ g n) → IsNextIn f place o → IsNextIn g place o
-next_same f g place None same none = λ m low. sym (same m) ∙ none m low
-next_same f g place (Some n) same next = record {
-  passes = sym (same n) ∙ next.passes;
-  low = next.low;
-  least = λ m low high. sym (same m)
-      ∙ next.least m low high;
-}
+next_same f g place o h l = grind (arith, nat_tests)
 
 fresh_low : (k number : ℕ) → k ≤ number → (k ≡ number → ⊥) → suc k ≤ number
 fresh_low k number h other = elim (cases_lt k number) [ inl less ↦ omega arith | inr more ↦ absurd (other (omega arith)) ]
@@ -82,25 +76,14 @@ looks_none number c = record { place = refl; looks = inl (refl, refl); begun = �
 pub looks_once : {number : ℕ} (counted : ℕ) (before : Cursor) {now : Cursor} (p : RecurrencePeriod) → fresh before.held ≤ number
     → now ≡ after_look before p counted →
     p.number ≡ number → LooksAt number before now
-looks_once {number = number} counted before p h e same = subst (LooksAt number before) (sym e) (record {
-  place = refl;
-  looks = inr (omega arith);
-  begun = λ some. omega arith;
-  steps = λ met here few.
-      let more = count_one_more (fresh before.held) number met h here in
-      let back = ap (λ x. count (suc x) met) same in
-      omega (arith, few, more, back);
-})
+looks_once counted before p h e same = grind (arith, nat_tests, begun, count_one_more)
 
 pub never_fewer : (before now : Cursor) → LooksOrStays before now → before.steps ≤ now.steps
 never_fewer before now (inl same) = omega (arith, same.1)
 never_fewer before now (inr more) = omega (arith, more)
 
 then_looks : (a b c : Cursor) → LooksOrStays a b → LooksOrStays b c → LooksOrStays a c
-then_looks a b c (inl p) (inl q) = inl (q.0 ∙ p.0, q.1 ∙ p.1)
-then_looks a b c (inl p) (inr q) = inr (omega (arith, p.1, q))
-then_looks a b c (inr p) (inl q) = inr (omega (arith, p, q.1))
-then_looks a b c (inr p) (inr q) = inr (omega (arith, p, q))
+then_looks a b c h l = grind (arith, nat_tests)
 
 -- a cursor before its looks
 pub moved_none : {q : EffectiveRule} {start : ℕ} {o : Option ℕ} {c : Cursor} (stop : ℕ) → IsCursorIn q start o c → HasMoved q start o stop c c
@@ -166,15 +149,7 @@ own_found {q = q} {start = start} {o = o} {n = n} {now = now} walked h = record 
 -- an answer in a later period than the place has taken a look
 pub counts_look : {q : EffectiveRule} {start : ℕ} {o : Option ℕ} {stop n : ℕ} {before now : Cursor} → IsCursorIn q start o before →
     IsWalked q start o stop (Some n) before now → period_in q before.place < period_in q n → before.steps < now.steps
-counts_look {q = q} {n = n} {before = before} {now = now} own walked later = by_move walked.moved.looks
-  where
-    not_held : (held : Option RecurrencePeriod) → HeldBy q held before.place → HoldsPeriodOf q held n → ⊥
-    not_held None h e = e
-    not_held (Some p) h e = omega (arith, h.1, e, later)
-
-    by_move : LooksOrStays before now → before.steps < now.steps
-    by_move (inl same) = absurd (not_held before.held own.held (subst (λ o. HoldsPeriodOf q o n) same.0 walked.found.1.1))
-    by_move (inr more) = more
+counts_look own walked later = grind (arith, nat_tests)
 
 -- places only rise
 looks_mono : (o : Option ℕ) (start a b : ℕ) → a ≤ b → looks_from o start a ≤ looks_from o start b
@@ -184,10 +159,7 @@ looks_mono (Some c) start a b h = omega arith
 pub looked_walked : {q : EffectiveRule} {start : ℕ} {o : Option ℕ} {stop : ℕ} {found : Option ℕ} {before now : Cursor} {a b : ℕ} (place : ℕ) →
     IsWalked q start o stop found before now → before.place ≤ place → stop ≤ b
     → HasLookedIn q start o before a b → HasLookedIn q start o (record now { place = place }) a b
-looked_walked {start = start} {o = o} {before = before} {a = a} {b = b} place walked l s few = record {
-  low = (let up = looks_mono o start before.place place l in omega (arith, few.low, up));
-  few = walked.moved.looked a b s few;
-}
+looked_walked place walked l s few = grind (arith, nat_tests, looks_mono)
 
 -- one that passes a test is among those counted
 counted_one : (n : ℕ) (test : ℕ → Bool) → 0 < count n test → (m : ℕ) × ((m < n) × (test m ≡ true))
@@ -219,33 +191,11 @@ count_within (suc n) f g h =
 -- what is met before some bound and is not past the period of n is met before each bound past n
 module _ (q : EffectiveRule) (start a b : ℕ) where
   met_soon : (c : ℕ) {n : ℕ} (p : ℕ) → a ≤ n → n < b → p ≤ period_in q n → is_met q start a c p ≡ true → is_met q start a b p ≡ true
-  met_soon c {n = n} p low high here met =
-      let parts = and_parts (is_stepped (period_in q start) q.interval p) (nat_lt 0 (count c (λ m. nat_le a m && period_in q m == p))) met in
-      let one = counted_one c (λ m. nat_le a m && period_in q m == p) (positive_fact (count c (λ m. nat_le a m && period_in q m == p)) parts.1) in
-      let facts = both_facts a one.0 (period_in q one.0) p one.1.1 in
-      elim (cases_lt n one.0) [
-        | inl later ↦
-            let up = period_mono q.frequency (monday_zero q.week_start) n one.0 (omega arith) in
-            met_by q start a b p n low high (omega (arith, up, facts.1, here)) parts.0
-        | inr before ↦ met_by q start a b p one.0 facts.0 (omega arith) facts.1 parts.0
-      ]
-    where
-      positive_fact : (n : ℕ) → nat_lt 0 n ≡ true → 0 < n
-      positive_fact n h = grind (arith, nat_tests)
-
-      both_facts : (x n y z : ℕ) → (nat_le x n && (y == z)) ≡ true → (x ≤ n) × (y ≡ z)
-      both_facts x n y z h = let parts = and_parts (nat_le x n) (y == z) h in (leb-true x n parts.0, eqb-true y z parts.1)
+  met_soon c p low high here met = grind (arith, nat_tests, and_parts, cases_lt, counted_one, eqb-true, leb-true, met_by, period_mono)
 
   -- and what is met before a bound is met before a later one
   met_later : (c p : ℕ) → b ≤ c → is_met q start a b p ≡ true → is_met q start a c p ≡ true
-  met_later c p h met =
-      let parts = and_parts (is_stepped (period_in q start) q.interval p) (nat_lt 0 (count b (λ m. nat_le a m && period_in q m == p))) met in
-      let more = count_mono b c (λ m. nat_le a m && period_in q m == p) h in
-      more_positive (is_stepped (period_in q start) q.interval p) (count b (λ m. nat_le a m && period_in q m == p))
-      (count c (λ m. nat_le a m && period_in q m == p)) parts.0 parts.1 more
-    where
-      more_positive : (x : Bool) (m n : ℕ) → x ≡ true → nat_lt 0 m ≡ true → m ≤ n → (x && nat_lt 0 n) ≡ true
-      more_positive x m n e h l = grind (arith, nat_tests)
+  met_later c p h met = grind (arith, nat_tests, and_parts, count_mono)
 
 -- An answer past the start is known from periods that hold a local not past it.
 pub looked_found : {q : EffectiveRule} {start : ℕ} {o : Option ℕ} {stop n : ℕ} {before now : Cursor} {a b : ℕ} → IsWalked q start o stop (Some n) before now
@@ -293,10 +243,7 @@ pub within_here : (q : EffectiveRule) (start number n : ℕ) → period_in q n �
 within_here q start number n e = ap (λ x. x && is_chosen q start n) (eq-eqb (period_in q n) number e)
 
 pub within_facts : (q : EffectiveRule) (start number n : ℕ) → is_chosen_within q start number n ≡ true → (period_in q n ≡ number) × (is_chosen q start n ≡ true)
-within_facts q start number n h = fact (period_in q n) number (is_chosen q start n) h
-  where
-    fact : (a b : ℕ) (c : Bool) → ((a == b) && c) ≡ true → (a ≡ b) × (c ≡ true)
-    fact a b c h = let parts = and_parts (a == b) c h in (eqb-true a b parts.0, parts.1)
+within_facts q start number n h = grind (arith, nat_tests, and_parts, eqb-true)
 
 -- nothing is chosen between a step and the next that may be open
 module _ {q : EffectiveRule} (start : ℕ) (some : 1 ≤ q.interval) where
@@ -350,12 +297,7 @@ module _ {q : EffectiveRule} {start stop number : ℕ} {before now : Cursor} (wa
   walk_ends past n l u = walk.none n l (let m = period_mono q.frequency (monday_zero q.week_start) n (stop - 1) (omega arith) in omega (arith, m))
 
   pub walk_ended : IsWalked q start None stop None before now
-  walk_ended = record { moved = walk.moved; held = past now.held walk.held; found = tt; counted = tt }
-    where
-      past : (o : Option RecurrencePeriod) → MatchOption o (Unit {0}) (λ p. IsPeriodOf q p × ((p.number ≤ number) × (p.number ≤ period_in q stop))) →
-          HeldBy q o stop
-      past None h = tt
-      past (Some p) h = (h.0, h.1.1)
+  walk_ended = grind (arith, nat_tests)
 
   -- where a walk looks
   pub walk_low : period_in q 0 ≤ number

@@ -1,18 +1,18 @@
 -- The tests of a date by the fields that `civil` gives.
-use Rattle.std.proofs.Common.{◌≡◌, ℕ, ◌<◌, nat_lt, ◌+◌, ◌-◌, ◌/◌, ◌%◌, Bool, true, false, not, ◌&&◌, ◌||◌, ◌==◌, if◌then◌else◌, pos, refl, sym, ap, ◌∙◌, arith}
+use Rattle.std.proofs.Common.{◌≡◌, ℕ, ◌<◌, nat_lt, ◌+◌, ◌-◌, ◌/◌, ◌%◌, Bool, true, false, ◌&&◌, ◌||◌, pos, refl, sym, arith}
 use Rattle.std.proofs.lemmas.Bool.{and_parts, and_right, or_left}
 use Rattle.std.proofs.lemmas.Bool.Decides.{nat_tests}
 use Rattle.std.proofs.lemmas.Nat.Bits.{bit_at-zero}
 use Rattle.ics_fields.specs.declared.frequency.Frequency.{Frequency}
-use Rattle.ics_fields.specs.declared.frequency.Frequency.TheVariants.{Weekly, Monthly, Yearly}
+use Rattle.ics_fields.specs.declared.frequency.Frequency.TheVariants.{Weekly}
 use Rattle.ics_fields.specs.declared.ordinals.Ordinals.{Ordinals}
 use Rattle.ics_fields.specs.Sets.{contains, is_empty}
 use Rattle.ics_fields.specs.Ordinals.{lists_none, lists_none_wide, lists_no_weekday, numbers_of}
-use Rattle.jiff_core.specs.Calendar.{days_in_year, days_in_month}
+use Rattle.jiff_core.specs.Calendar.{days_in_year}
 use Rattle.jiff_core.specs.Weekday.{monday_zero}
 use Rattle.ics_rule.specs.declared.effective_rule.EffectiveRule.{EffectiveRule}
 use Rattle.ics_fields.specs.declared.fields.Civil.{Civil}
-use Rattle.ics_fields.specs.Days.{year_of, year_day_of, month_of, month_day_of, weekday_of}
+use Rattle.ics_fields.specs.Days.{weekday_of}
 use Rattle.ics_fields.specs.Fields.{IsCivilOf}
 use Rattle.ics_rule.specs.Candidates.{lets_place, lets_week, lists_nth, lets_numbered, lets_weekday, lets_date, fourth_day}
 use Rattle.ics_rule.specs.DateParts.{names_weekdays_alone}
@@ -23,10 +23,7 @@ use Rattle.ics_rule.proofs.Tests.{zero_of}
 -- the week of a day, by the fields of its fourth day
 pub lets_week-fields : (q : EffectiveRule) (e : ℕ) (c : Civil) → IsCivilOf c (fourth_day (monday_zero q.week_start) e) →
     lets_place q.weeks ((c.year_day - 1) / 7 + 1) ((days_in_year (pos c.year) - 1 - (c.year_day - 1) % 7) / 7 + 1) ≡ lets_week q e
-lets_week-fields q e c f =
-    ap (λ y. lets_place q.weeks ((c.year_day - 1) / 7 + 1) ((days_in_year (pos y) - 1 - (c.year_day - 1) % 7) / 7 + 1)) f.year
-    ∙ ap (λ d. lets_place q.weeks ((d - 1) / 7 + 1) ((days_in_year (pos (year_of (fourth_day (monday_zero q.week_start) e))) - 1 - (d - 1) % 7) / 7 + 1))
-    f.year_day
+lets_week-fields q e c f = grind (arith, nat_tests)
 
 -- a conjunction fails at its first part
 pub out_1 : (a b c d e : Bool) → a ≡ false → (a && b && c && d && e) ≡ false
@@ -37,30 +34,14 @@ all_in e p q r s = rw (p, q, r, s) refl
 
 -- a weekday that stands neither alone nor with a number is out
 pub none_nth : (p : Ordinals) (n size : ℕ) → lists_none p ≡ true → lists_nth p n size ≡ false
-none_nth p n size h =
-    let parts = and_parts (is_empty p.front) (is_empty p.back) h in
-    ap (λ x. contains x ((n - 1) / 7 + 1) || contains p.back ((size - n) / 7 + 1)) (zero_of p.front parts.0)
-    ∙ ap (λ x. contains 0 ((n - 1) / 7 + 1) || contains x ((size - n) / 7 + 1)) (zero_of p.back parts.1)
-    ∙ ap (λ x. (x == 1) || contains 0 ((size - n) / 7 + 1)) (bit_at-zero ((n - 1) / 7 + 1))
-    ∙ ap (λ x. (x == 1)) (bit_at-zero ((size - n) / 7 + 1))
+none_nth p n size h = grind (arith, nat_tests, and_parts, bit_at-zero, zero_of)
 
 none_numbered : (f : Frequency) (q : EffectiveRule) (p : Ordinals) (e : ℕ) → lists_none p ≡ true → lets_numbered f q p e ≡ false
-none_numbered Monthly q p e h = none_nth p (month_day_of e) (days_in_month (pos (year_of e)) (month_of e)) h
-none_numbered Yearly q p e h = by_cases (not (lists_none q.weeks)) (not (is_empty q.months))
-  where
-    by_cases : (a b : Bool) →
-        (if a then not (lists_none p) else (if b then lists_nth p (month_day_of e) (days_in_month (pos (year_of e)) (month_of e)) else lists_nth p
-        (year_day_of e) (days_in_year (pos (year_of e))))) ≡ false
-    by_cases true b = ap not h
-    by_cases false true = none_nth p (month_day_of e) (days_in_month (pos (year_of e)) (month_of e)) h
-    by_cases false false = none_nth p (year_day_of e) (days_in_year (pos (year_of e))) h
-none_numbered f q p e h = ap not h
+none_numbered f q p e h = grind (arith, nat_tests, none_nth)
 
 pub weekday_out : (q : EffectiveRule) (e : ℕ) → (lists_no_weekday q.weekdays || contains q.weekdays.plain (weekday_of e)) ≡ false →
     lists_none (numbers_of q.weekdays (weekday_of e)) ≡ true → lets_date q e ≡ false
-weekday_out q e a c = and_right _ (lets_weekday q e)
-    (ap (λ x. x || lets_numbered q.frequency q (numbers_of q.weekdays (weekday_of e)) e) a
-    ∙ none_numbered q.frequency q (numbers_of q.weekdays (weekday_of e)) e c)
+weekday_out q e a c = grind (arith, nat_tests, and_right, none_numbered)
 
 -- where no other part speaks of the date BYDAY decides
 pub weekdays_alone : (q : EffectiveRule) (e : ℕ) → names_weekdays_alone q ≡ true → lets_date q e ≡ lets_weekday q e
@@ -75,9 +56,7 @@ weekdays_alone q e alone = let f = four (is_empty q.months) (lists_none q.month_
 -- and a weekday that stands alone is in there
 pub weekday_in : (q : EffectiveRule) (e : ℕ) → (lists_no_weekday q.weekdays || contains q.weekdays.plain (weekday_of e)) ≡ true →
     names_weekdays_alone q ≡ true → lets_date q e ≡ true
-weekday_in q e day alone = weekdays_alone q e alone
-    ∙ or_left (lists_no_weekday q.weekdays || contains q.weekdays.plain (weekday_of e)) (lets_numbered q.frequency q (numbers_of q.weekdays (weekday_of e)) e)
-    day
+weekday_in q e day alone = grind (arith, nat_tests, or_left, weekdays_alone)
 
 -- under WEEKLY with BYDAY alone, the weekdays that it names
 pub in_week : (d : ℕ) (b : Bool) → d < 7 → (nat_lt d 7 && b) ≡ b
@@ -92,12 +71,7 @@ pub record NamesWeekdays (q : EffectiveRule) (set : ℕ) : Type 0 where
 
 module _ {q : EffectiveRule} {set : ℕ} (names : NamesWeekdays q set) (e : ℕ) where
   named_in : names_weekday q.weekdays (weekday_of e) ≡ lets_date q e
-  named_in =
-      sym (weekdays_alone q e names.alone
-      ∙ ap (λ x. x || contains q.weekdays.plain (weekday_of e) || lets_numbered q.frequency q (numbers_of q.weekdays (weekday_of e)) e) names.some
-      ∙ ap (λ f. contains q.weekdays.plain (weekday_of e) || lets_numbered f q (numbers_of q.weekdays (weekday_of e)) e) names.weekly)
+  named_in = grind (arith, nat_tests, weekdays_alone)
 
   pub day_of_week : {d : ℕ} {found : Bool} → d ≡ weekday_of e → d < 7 → found ≡ (nat_lt d 64 && contains set d) → found ≡ lets_date q e
-  day_of_week {d = d} day small h =
-      h ∙ in_word d (contains set d) (omega (arith, small)) ∙ names.named d ∙ in_week d (names_weekday q.weekdays d) small
-      ∙ ap (names_weekday q.weekdays) day ∙ named_in
+  day_of_week day small h = grind (arith, nat_tests, in_week, in_word, named_in)

@@ -18,10 +18,7 @@ fields_at e y m d date h = fields_of e y m d date
 -- the place of a day in its year
 place_of : (c : Civil) (e : ℕ) → IsCivilOf c e → e + 1 ≡ days_before_year c.year + (days_of_months (pos c.year) (c.month - 1) + c.day)
 unfolding year_day_of
-place_of c e own =
-    let u = year_under_way e in
-    let same = ap days_before_year own.year in
-    omega (arith, own.year_day, own.place, u.0, same)
+place_of c e own = grind (arith, year_under_way)
 
 -- the days left of a month are in it, and fall with it
 pub month_out : (q : EffectiveRule) {c : Civil} {e : ℕ} (j : ℕ) → IsCivilOf c e → j < days_in_month (pos c.year) c.month + 1 - c.day

@@ -1,19 +1,18 @@
 -- What each period of a day or less has that a rule lets in.
-use Rattle.std.proofs.Common.{◌≡◌, ℕ, zero, suc, ◌+◌, ◌-◌, ◌*◌, ◌/◌, ◌%◌, ◌<◌, ◌≤◌, Bool, true, false, not, ◌&&◌, ◌||◌, ◌==◌, refl, sym, ap, ◌∙◌}
+use Rattle.std.proofs.Common.{◌≡◌, ℕ, zero, suc, ◌+◌, ◌-◌, ◌*◌, ◌/◌, ◌%◌, ◌<◌, ◌≤◌, Bool, true, false, ◌&&◌, refl, sym, ap, ◌∙◌}
 use Rattle.std.proofs.Common.{arith}
 use Rattle.std.proofs.lemmas.Bool.{and_parts, eq-eqb, eqb-true, false_from_ne_true}
 use Rattle.std.proofs.lemmas.Nat.{div-add-mod'}
 use Rattle.std.proofs.Math.Nat.{mul-le-mul_right, mul_comm}
 use Rattle.jiff_core.specs.Weekday.{monday_zero}
 use Rattle.ics_fields.specs.declared.frequency.Frequency.{Frequency}
-use Rattle.ics_fields.specs.declared.frequency.Frequency.TheVariants.{Secondly, Minutely, Hourly, Daily, Weekly, Monthly, Yearly}
+use Rattle.ics_fields.specs.declared.frequency.Frequency.TheVariants.{Secondly, Minutely, Hourly, Daily}
 use Rattle.ics_fields.specs.Ordinals.{lists_none_wide}
 use Rattle.ics_rule.specs.declared.effective_rule.EffectiveRule.{EffectiveRule}
 use Rattle.ics_rule.specs.declared.recurrence_period.RecurrencePeriod.{RecurrencePeriod}
 use Rattle.ics_rule.specs.declared.cursor.Cursor.{Cursor}
 use Rattle.ics_rule.specs.Searches.{IsTurned}
 use Rattle.ics_rule.specs.PeriodNumbers.{period, day_of, hour_of, minute_of, second_of}
-use Rattle.ics_rule.specs.EffectiveRules.{skips_hours, skips_minutes, skips_seconds}
 use Rattle.ics_rule.specs.Candidates.{lets, lets_date, lets_clock, lists_wide, is_stepped, is_candidate_in, period_in}
 use Rattle.ics_rule.specs.Kept.{count, is_beside, rank, size, is_placed, is_chosen}
 use Rattle.ics_rule.specs.RecurrencePeriods.{first_local, is_listed}
@@ -30,10 +29,7 @@ use Rattle.ics_rule.proofs.Tests.{and_assoc, keep_true}
 
 -- the clock is a period's own and what is within it
 pub clock_split : (f : Frequency) (q : EffectiveRule) (n : ℕ) → lets_clock q n ≡ (lets_own f q n && lets_within f q n)
-clock_split f q n = split (skips_hours f) (skips_minutes f) (skips_seconds f) (lets q.hours (hour_of n)) (lets q.minutes (minute_of n)) (lets q.seconds (second_of n))
-  where
-    split : (x y z a b c : Bool) → (a && b && c) ≡ (((x || a) && (y || b) && (z || c)) && ((not x || a) && (not y || b) && (not z || c)))
-    split x y z a b c = grind arith
+clock_split f q n = grind arith
 
 -- a period's locals, by their place in it
 module _ (q : EffectiveRule) (p k : ℕ) where
@@ -75,10 +71,7 @@ pub in_period : (f : Frequency) (w n : ℕ) → 0 < seconds_of f → seconds_of 
 in_period f w n h u = grind arith
 
 first_at : (f : Frequency) (w p : ℕ) → 0 < seconds_of f → seconds_of f ≤ 86_400 → first_local f w p ≡ p * seconds_of f
-first_at Weekly w p h u = absurd (omega (arith, u))
-first_at Monthly w p h u = absurd (omega (arith, h))
-first_at Yearly w p h u = absurd (omega (arith, h))
-first_at f w p h u = omega arith
+first_at f w p h l = grind arith
 
 -- how many locals that is
 module _ (q : EffectiveRule) where
@@ -134,18 +127,10 @@ module _ (q : EffectiveRule) (start : ℕ) (fine : 0 < seconds_of q.frequency) (
   -- what stands beside a local of an is_open period
   module _ (p k : ℕ) (l : k < u) (is : is_open p ≡ true) where
     beside_at : (j : ℕ) → j < u → is_beside q start (p * u + k) (p * u + j) ≡ within j
-    beside_at j h =
-        ap (λ x. x && period_in q (p * u + j) == period_in q (p * u + k)) (candidate_at p j h)
-        ∙ ap (λ x. (is_open p && within j) && x) (eq-eqb (period_in q (p * u + j)) (period_in q (p * u + k)) (period_of p j h ∙ sym (period_of p k l)))
-        ∙ ap (λ x. (x && within j) && true) is ∙ keep_true (within j)
+    beside_at j h = grind (arith, candidate_at, eq-eqb, keep_true, period_of)
 
     beside_in : (m : ℕ) → is_beside q start (p * u + k) m ≡ true → (p * u ≤ m) × (m < p * u + u)
-    beside_in m here =
-        let same = eqb-true (period_in q m) (period_in q (p * u + k))
-        (and_parts (is_candidate_in q start m) (period_in q m == period_in q (p * u + k)) here).1 ∙ period_of p k l in
-        let place = in_period q.frequency (monday_zero q.week_start) m fine unit in
-        let begin = ap (λ x. x * u) same in
-        (omega (arith, begin, place.0), omega (arith, begin, place.1))
+    beside_in m here = grind (arith, and_parts, eqb-true, in_period, period_of)
 
     rank_at : rank q start (p * u + k) ≡ count (suc k) within
     rank_at =
@@ -231,15 +216,7 @@ module _ (q : EffectiveRule) (start : ℕ) (fine : 0 < seconds_of q.frequency) (
       → target * u ≤ calendar_end → begin ≤ target
       → counted ≡ count (first_local q.frequency (monday_zero q.week_start) begin) (is_chosen q start) → counted + each * number
       ≡ count (first_local q.frequency (monday_zero q.week_start) target) (is_chosen q start)
-  total_between {begin = begin} {target = target} {counted = counted} {each = each} number ee en top up ec =
-      let low = total_open begin (let up' = mul-le-mul_right u up in omega (arith, up', top)) in
-      let high = total_open target top in
-      let a = ap (λ x. count x (is_chosen q start)) (first_at q.frequency (monday_zero q.week_start) begin fine unit) in
-      let b = ap (λ x. count x (is_chosen q start)) (first_at q.frequency (monday_zero q.week_start) target fine unit) in
-      let product = ap (λ x. x * chosen_in_open q) en in
-      let spread : (number + count begin is_open) * chosen_in_open q ≡ number * chosen_in_open q + count begin is_open * chosen_in_open q = omega arith in
-      let turned : each * number ≡ number * chosen_in_open q = ap (λ x. x * number) ee ∙ mul_comm (chosen_in_open q) number in
-      omega (arith, low, high, a, b, product, spread, turned, ec)
+  total_between number ee en top up ec = grind (arith, first_at, mul-le-mul_right, mul_comm, total_open)
 
 -- whole intervals from a step on, up to the period of a place, with the number of the periods that are open
 pub record IsOpenRun (q : EffectiveRule) (start begin ahead place each number : ℕ) : Type 0 where
@@ -275,10 +252,4 @@ open_end {q = q} {start = start} {begin = begin} {ahead = ahead} {place = place}
 
 -- of the frequencies whose periods are a day or less the day is the one that is no part of a day
 pub daily : (f : Frequency) → 0 < seconds_of f → seconds_of f ≤ 86_400 → (f ≡ Secondly → ⊥) → (f ≡ Minutely → ⊥) → (f ≡ Hourly → ⊥) → f ≡ Daily
-daily Secondly h u s m o = absurd (s refl)
-daily Minutely h u s m o = absurd (m refl)
-daily Hourly h u s m o = absurd (o refl)
-daily Daily h u s m o = refl
-daily Weekly h u s m o = absurd (omega (arith, u))
-daily Monthly h u s m o = absurd (omega (arith, h))
-daily Yearly h u s m o = absurd (omega (arith, h))
+daily f h l g w v = grind arith

@@ -1,5 +1,5 @@
 -- Rounds of periods in which a rule allows as many locals have as many chosen locals.
-use Rattle.std.proofs.Common.{◌≡◌, ℕ, zero, suc, ◌+◌, ◌-◌, ◌*◌, ◌/◌, ◌%◌, ◌≤◌, ◌≢◌, inl, inr, true, refl, sym, subst, ap, ◌∙◌, arith}
+use Rattle.std.proofs.Common.{◌≡◌, ℕ, zero, suc, ◌+◌, ◌-◌, ◌*◌, ◌/◌, ◌%◌, ◌≤◌, ◌≢◌, inl, inr, true, sym, subst, ap, ◌∙◌, arith}
 use Rattle.std.proofs.lemmas.Bool.{cases_lt, false_from_ne_true}
 use Rattle.std.proofs.Math.Nat.{mul_comm}
 use Rattle.jiff_core.specs.Weekday.{monday_zero}
@@ -122,12 +122,7 @@ module _ (q : EffectiveRule) (start : ℕ) (some : 1 ≤ q.interval) where
     -- from one round to the next as many are chosen
     round_adds : (p : ℕ) → 1 ≤ p → IsStep q start p → IsEarly q (p + periods + periods)
         → chosen_to q start (p + periods) + chosen_to q start (p + periods) ≡ chosen_to q start (p + periods + periods) + chosen_to q start p
-    round_adds p low step high =
-        let swap = mul_comm steps q.interval in
-        let a = ap (λ x. chosen_to q start (p + x)) swap in
-        let b = ap (λ x. chosen_to q start (p + periods + x)) swap in
-        let all = steps_add steps p low step (subst (λ x. IsEarly q (p + periods + x)) (sym swap) high) in
-        omega (arith, a, b, all)
+    round_adds p low step high = grind (arith, mul_comm, steps_add)
 
     rounds_add : (r p : ℕ) → 1 ≤ p → IsStep q start p → IsEarly q (p + suc r * periods)
         → chosen_to q start (p + suc r * periods) + chosen_to q start p ≡ chosen_to q start (p + r * periods) + chosen_to q start (p + periods)
@@ -192,9 +187,7 @@ even_of_round q start periods seconds round = record {
 
 -- only months and years differ in their seconds
 pub is_monthly : (f : Frequency) → seconds_of f ≡ 0 → f ≢ Yearly → f ≡ Monthly
-is_monthly Monthly e other = refl
-is_monthly Yearly e other = absurd (other refl)
-is_monthly f e other = absurd (omega (arith, e))
+is_monthly f h l = grind arith
 
 -- twelve months in steps of the interval are one
 pub even_months : (q : EffectiveRule) (start : ℕ) → 1 ≤ q.interval → IsFlat q → q.frequency ≡ Monthly → IsEvenRound q start (q.interval * 12)

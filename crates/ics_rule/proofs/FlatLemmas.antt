@@ -76,9 +76,7 @@ module _ (q : EffectiveRule) (flat : IsFlat q) where
       (first_false (lists_none q.month_days) (lists_no_weekday q.weekdays) g.1.1 flat.alone) flat.alone (flat.back (size + 1 - (d + 1))))
     where
       first_false : (n w : Bool) → (n && w) ≡ false → w ≡ true → n ≡ false
-      first_false true true some none = absurd (cc)
-      first_false true false some none = absurd (cc)
-      first_false false w some none = refl
+      first_false n w h l = grind arith
 
       parts : {n w b : Bool} (f x z : Bool) → n ≡ false → w ≡ true → b ≡ false → ((n || (f || b)) && (w || x || z)) ≡ f
       parts f x z some none out = rw (some, none, out) (keep_true (f || false) ∙ or_false f)

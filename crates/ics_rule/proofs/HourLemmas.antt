@@ -1,25 +1,20 @@
 -- The locals of an hour that a rule keeps.
 use Rattle.std.proofs.Common.{◌≡◌, ℕ, suc, ◌+◌, ◌*◌, ◌<◌, ◌≤◌, ◌⊎◌, inl, inr, ◌/◌, ◌%◌, Bool, true, false, ◌&&◌, nat_lt, nat_le, Some, None, Option}
-use Rattle.std.proofs.Common.{refl, ap, sym, subst, ◌∙◌, arith}
+use Rattle.std.proofs.Common.{refl, sym, subst, ◌∙◌, arith}
 use Rattle.std.proofs.lemmas.Bool.{and_from, cases_lt, or_right}
 use Rattle.std.proofs.lemmas.Bool.Decides.{nat_tests}
-use Rattle.jiff_core.specs.Weekday.{monday_zero}
 use Rattle.ics_fields.specs.declared.frequency.Frequency.{Frequency}
-use Rattle.ics_fields.specs.declared.frequency.Frequency.TheVariants.{Daily, Weekly, Monthly, Yearly}
 use Rattle.ics_fields.specs.declared.until.Until.{Until}
-use Rattle.ics_fields.specs.declared.until.Until.TheVariants as until
-use Rattle.ics_fields.specs.Days.{day_index, year_of}
 use Rattle.ics_fields.specs.Sets.{contains, is_empty}
 use Rattle.ics_fields.specs.Ordinals.{lists_none_wide}
 use Rattle.ics_rule.specs.declared.kind.Kind.{Kind}
-use Rattle.ics_rule.specs.declared.kind.Kind.TheVariants.{Date, DateTime}
 use Rattle.ics_rule.specs.declared.effective_rule.EffectiveRule.{EffectiveRule}
 use Rattle.ics_rule.specs.Recurrence.{Recurrence}
-use Rattle.ics_rule.specs.PeriodNumbers.{period, day_of, hour_of, minute_of, second_of, week_of, month_number, rules_end}
+use Rattle.ics_rule.specs.PeriodNumbers.{period, day_of, hour_of, minute_of, second_of, rules_end}
 use Rattle.ics_fields.specs.Locals.{number}
 use Rattle.ics_rule.specs.EffectiveRules.{effective, skips_hours}
-use Rattle.ics_rule.specs.Candidates.{lets, in_step, is_stepped, lets_date, lets_clock, period_in, is_candidate_in}
-use Rattle.ics_rule.specs.Kept.{count, is_chosen, is_placed, is_kept, is_by_until}
+use Rattle.ics_rule.specs.Candidates.{lets, in_step, lets_date, lets_clock, is_candidate_in}
+use Rattle.ics_rule.specs.Kept.{count, is_chosen, is_kept, is_by_until}
 use Rattle.ics_rule.specs.Searches.{is_few, is_wanted}
 use Rattle.ics_rule.specs.declared.hour.HourTimes.{HourTimes}
 use Rattle.ics_rule.specs.HoursKept.{KeepsEnds, KeepsTimes}
@@ -40,20 +35,11 @@ false_or_true false = inl refl
 
 -- the locals of a day lie in one period, but under a rule that repeats more often than daily
 same_period : (f : Frequency) (w n m : ℕ) → skips_hours f ≡ true → day_of n ≡ day_of m → period f w n ≡ period f w m
-same_period Daily w n m e d = d
-same_period Weekly w n m e d = ap (week_of w) d
-same_period Monthly w n m e d = ap month_number d
-same_period Yearly w n m e d = ap year_of d
-same_period f w n m e d = absurd (cc)
+same_period f w n m h l = grind (arith, nat_tests)
 
 -- UNTIL lets in what is earlier than a local that it lets in
 until_up : (k : Kind) (u : Option Until) (n m : ℕ) → n ≤ m → is_by_until k u m ≡ true → is_by_until k u n ≡ true
-until_up k None n m l h = refl
-until_up k (Some (until.Date d)) n m l h = most_up (day_of n) (day_of m) (day_index d) (let e : n / 86_400 ≤ m / 86_400 = omega (arith, l) in e) h
-until_up Date (Some (until.Local t)) n m l h = most_up (day_of n) (day_of m) (day_index t.day) (let e : n / 86_400 ≤ m / 86_400 = omega (arith, l) in e) h
-until_up Date (Some (until.Utc t)) n m l h = most_up (day_of n) (day_of m) (day_index t.day) (let e : n / 86_400 ≤ m / 86_400 = omega (arith, l) in e) h
-until_up DateTime (Some (until.Local t)) n m l h = most_up n m (number t) l h
-until_up DateTime (Some (until.Utc t)) n m l h = refl
+until_up k u n m h l = grind (arith, nat_tests, most_up)
 
 module _ (q : EffectiveRule) (start : ℕ) where
   wanted_chosen : (o : Option ℕ) (n : ℕ) → is_wanted q start o n ≡ true → is_chosen q start n ≡ true
@@ -72,17 +58,7 @@ module _ (q : EffectiveRule) (start : ℕ) where
   -- on the day of one that is chosen, without BYSETPOS, each local that the parts of the clock let in is
   module _ (coarse : skips_hours q.frequency ≡ true) (free : lists_none_wide q.positions ≡ true) where
     chosen_beside : (n m : ℕ) → day_of n ≡ day_of m → is_chosen q start m ≡ true → lets_clock q n ≡ true → is_chosen q start n ≡ true
-    chosen_beside n m d h clock =
-        let candidate = (and_true {a = is_candidate_in q start m} h).0 in
-        let dated = (and_true {a = in_step q start m && lets_date q (day_of m)} candidate).0 in
-        let step = (and_true {a = in_step q start m} dated).0 in
-        let date = (and_true {a = in_step q start m} dated).1 in
-        let same = same_period q.frequency (monday_zero q.week_start) n m coarse d in
-        and_from (is_candidate_in q start n) (is_placed q start (lists_none_wide q.positions) n)
-        (and_from (in_step q start n && lets_date q (day_of n)) (lets_clock q n)
-        (and_from (in_step q start n) (lets_date q (day_of n))
-        (ap (is_stepped (period_in q start) q.interval) same ∙ step) (ap (lets_date q) d ∙ date)) clock)
-        (ap (λ b. is_placed q start b n) free)
+    chosen_beside n m d h clock = grind (arith, nat_tests, and_from, and_true, same_period)
 
 -- the parts of the clock let a kept local in
 pub kept_clock : (r : Recurrence) (n : ℕ) → number r.start < n → n < rules_end → is_kept r n ≡ true → lets_clock (effective r) n ≡ true
@@ -121,10 +97,7 @@ module _ (r : Recurrence) (hour : ℕ) (bounds : KeepsBounds r (effective r) hou
   same_day n at = let high = ends.next.in_bound in omega (arith, at, high)
 
   same_hour : (n : ℕ) → n / 3_600 ≡ hour → hour_of kept ≡ hour_of n
-  same_hour n at =
-      let high = ends.next.in_bound in
-      let e : kept / 3_600 ≡ n / 3_600 = omega (arith, at, high) in
-      ap (λ h. h % 24) e
+  same_hour n at = grind (arith, nat_tests)
 
   -- between the two bounds each that the parts of the clock let in is kept
   kept_between : (n : ℕ) → n / 3_600 ≡ hour → kept ≤ n → n ≤ hour * 3_600 + ends.last → lets_clock (effective r) n ≡ true → is_kept r n ≡ true
@@ -141,19 +114,7 @@ module _ (r : Recurrence) (hour : ℕ) (bounds : KeepsBounds r (effective r) hou
 
   product_kept : (n : ℕ) → n / 3_600 ≡ hour → contains (effective r).minutes (minute_of n) ≡ true → contains (effective r).seconds (second_of n) ≡ true →
       is_kept r n ≡ true
-  product_kept n at minute second =
-      let low = ends.first_time.least (minute_of n) (second_of n) minute second in
-      let high = ends.last_time (minute_of n) (second_of n) minute second in
-      let whole : n ≡ hour * 3_600 + n / 60 % 60 * 60 + n % 60 = omega (arith, at) in
-      let clock = and_true {a = lets (effective r).hours (hour_of kept) && lets (effective r).minutes (minute_of kept)}
-      (kept_clock r kept ends.after (let high = ends.next.in_bound in omega (arith, bounds.early, high)) ends.next.kept) in
-      let of_hour = (and_true {a = lets (effective r).hours (hour_of kept)} clock.0).0 in
-      kept_between n at (omega (arith, whole, low)) (omega (arith, whole, high))
-      (and_from (lets (effective r).hours (hour_of n) && lets (effective r).minutes (minute_of n)) (lets (effective r).seconds (second_of n))
-      (and_from (lets (effective r).hours (hour_of n)) (lets (effective r).minutes (minute_of n))
-      (subst (λ h. lets (effective r).hours h ≡ true) (same_hour n at) of_hour)
-      (or_right (is_empty (effective r).minutes) (contains (effective r).minutes (minute_of n)) minute))
-      (or_right (is_empty (effective r).seconds) (contains (effective r).seconds (second_of n)) second))
+  product_kept n at minute second = grind (arith, nat_tests, and_from, and_true, kept_between, kept_clock, or_right, same_hour)
 
   kept_product : (n : ℕ) → n / 3_600 ≡ hour → is_kept r n ≡ true →
       (contains (effective r).minutes (minute_of n) && contains (effective r).seconds (second_of n)) ≡ true
@@ -169,14 +130,7 @@ module _ (r : Recurrence) (hour : ℕ) (bounds : KeepsBounds r (effective r) hou
 
   -- of the locals of the hour the rule keeps those that its parts list
   keeps_times : KeepsTimes r hour (times_of (effective r))
-  keeps_times n at = same (is_kept r n) (contains (effective r).minutes (minute_of n)) (contains (effective r).seconds (second_of n))
-      (kept_product n at) (product_kept n at)
-    where
-      same : (k a b : Bool) → (k ≡ true → (a && b) ≡ true) → (a ≡ true → b ≡ true → k ≡ true) → k ≡ (a && b)
-      same true a b to from = sym (to refl)
-      same false true true to from = from refl refl
-      same false true false to from = refl
-      same false false b to from = refl
+  keeps_times n at = grind (arith, nat_tests, kept_product, product_kept)
 
 -- of an hour after the start that BYHOUR leaves out, no local is kept
 pub left_out : (r : Recurrence) {q : EffectiveRule} → q ≡ effective r → (hour : ℕ) → hour < 85_913_808 → number r.start < hour * 3_600
@@ -199,7 +153,4 @@ held_times {r = r} {hour = hour} whole bounds = subst (λ (x : EffectiveRule). K
 
 -- a member of a set is not above the last
 pub not_above : (s most n : ℕ) → ((k : ℕ) → most < k → contains s k ≡ false) → contains s n ≡ true → n ≤ most
-not_above s most n is h = elim (cases_lt most n) [
-  | inl less ↦ absurd (false_not_true (contains s n) (is n less) h)
-  | inr more ↦ more
-]
+not_above s most n is h = grind (arith, nat_tests, cases_lt, false_not_true)

@@ -22,12 +22,7 @@ abbrev start_of : ℕ → ℕ
 start_of y = days_before_year y + 3 - (days_before_year y + 1) % 7
 
 start_is : (y : ℕ) → y ≤ 10000 → up (iso_year_start (pos y)) + 719_528 ≡ down (iso_year_start (pos y)) + start_of y
-start_is y h =
-    let here : IsBetween (neg_ℤ (pos 9999)) (pos 10000) (pos y) = omega (arith, signed_arith) in
-    let fourth = day_count-fourth (pos y) here in
-    let start = iso_year_start-day_count (pos y) here in
-    let first = day_count_is y in
-    omega (arith, fourth.0, start, first)
+start_is y h = grind (arith, day_count-fourth, day_count_is, iso_year_start-day_count, signed_arith)
 
 -- what a rule says of the week of day e, and of the day
 record IsWeek (y n all w e : ℕ) : Type 0 where

@@ -1,5 +1,5 @@
 -- What the definitions mean, in other words.
-use Rattle.std.proofs.Common.{◌≡◌, ◌≢◌, ℕ, zero, suc, ◌+◌, ◌-◌, ◌*◌, ◌%◌, ◌<◌, ◌≤◌, inl, inr, Bool, true, false, cond, Some, pos, refl, sym, subst, ap, arith}
+use Rattle.std.proofs.Common.{◌≡◌, ◌≢◌, ℕ, zero, suc, ◌+◌, ◌-◌, ◌*◌, ◌%◌, ◌<◌, ◌≤◌, inl, inr, Bool, true, cond, Some, pos, refl, ap, arith}
 use Rattle.std.proofs.lemmas.Bool.{cases_lt, le-ltb, eqb-true, ltb-true}
 use Rattle.jiff_core.specs.Calendar.{days_in_year}
 use Rattle.jiff_core.proofs.CalendarLemmas.{days_in_year_bounds}
@@ -7,9 +7,8 @@ use Rattle.ics_fields.specs.Days.{days_before_year, year_of, year_day_of}
 use Rattle.ics_fields.proofs.DayLemmas.{year_under_way, year_of_is, days_before_year-next, days_before_year_mono}
 use Rattle.ics_rule.specs.Recurrence.{Recurrence}
 use Rattle.ics_rule.specs.PeriodNumbers.{week_of}
-use Rattle.ics_fields.specs.Locals.{number}
 use Rattle.ics_rule.specs.Candidates.{fourth_day, week_number, weeks_of_year}
-use Rattle.ics_rule.specs.Kept.{count, is_in_rule, is_kept, is_counted}
+use Rattle.ics_rule.specs.Kept.{count, is_in_rule, is_kept}
 use Rattle.ics_rule.proofs.Counts.{count-none}
 use Rattle.ics_rule.proofs.KeptLemmas.{and_true, or_true}
 use Rattle.ics_rule.proofs.NextLemmas.{in_rule_start, in_rule_earlier}
@@ -17,28 +16,16 @@ use Rattle.ics_rule.proofs.NextLemmas.{in_rule_start, in_rule_earlier}
 -- what is kept is in the rule
 pub kept_in_rule : (r : Recurrence) (n : ℕ) → is_kept r n ≡ true → is_in_rule r n ≡ true
 unfolding is_kept
-kept_in_rule r n h = elim (or_true h) [
-  | inl same ↦ subst (λ x. is_in_rule r x ≡ true) (sym (eqb-true n (number r.start) same)) (in_rule_start r)
-  | inr rest ↦ (and_true (and_true (and_true rest).0).0).1
-]
+kept_in_rule r n h = grind (arith, and_true, eqb-true, in_rule_start, or_true)
 
 -- under COUNT few members come before it
 kept_few : (r : Recurrence) (c n : ℕ) → r.parts.count ≡ Some c → 1 ≤ c → is_kept r n ≡ true → count n (is_in_rule r) < c
 unfolding is_kept
-kept_few r c n e some h = elim (or_true h) [
-  | inl same ↦
-      let first : n ≡ number r.start = eqb-true n (number r.start) same in
-      let none = count-none n (is_in_rule r) (λ m l. in_rule_earlier r m (omega (arith, l, first))) in
-      omega (arith, none, some)
-  | inr rest ↦ ltb-true (count n (is_in_rule r)) c (subst (λ o. is_counted r o n ≡ true) e (and_true rest).1)
-]
+kept_few r c n e some h = grind (arith, and_true, count-none, eqb-true, in_rule_earlier, ltb-true, or_true)
 
 count_cases : {x y c : ℕ} (k m : Bool) → (k ≡ true → m ≡ true) → (k ≡ true → y < c) → (x ≤ c) × (x ≤ y) →
     (x + cond k 1 0 ≤ c) × (x + cond k 1 0 ≤ y + cond m 1 0)
-count_cases true true in_rule few h = (let f = few refl in omega (arith, f, h.1), omega (arith, h.1))
-count_cases true false in_rule few h = absurd (let no = in_rule refl in cc)
-count_cases false true in_rule few h = (omega (arith, h.0), omega (arith, h.1))
-count_cases false false in_rule few h = (omega (arith, h.0), omega (arith, h.1))
+count_cases k m h l g = grind arith
 
 kept_both : (r : Recurrence) (c : ℕ) → r.parts.count ≡ Some c → 1 ≤ c → (n : ℕ) → (count n (is_kept r) ≤ c) × (count n (is_kept r) ≤ count n (is_in_rule r))
 unfolding count
@@ -53,11 +40,7 @@ kept_most r c n e some = (kept_both r c e some n).0
 -- the weeks of a year are numbered one after the other
 pub week_next : (f : ℕ) → year_of (f + 7) ≡ year_of f → week_number (f + 7) ≡ week_number f + 1
 unfolding year_day_of
-week_next f e =
-    let u = year_under_way f in
-    let v = year_under_way (f + 7) in
-    let same = ap days_before_year e in
-    omega (arith, u.0, v.0, same)
+week_next f e = grind (arith, year_under_way)
 
 -- and the first is the first whose fourth day lies in it
 pub week_first : (f : ℕ) → year_of (f + 7) ≢ year_of f → week_number (f + 7) ≡ 1
@@ -77,10 +60,7 @@ week_first f other =
 
 -- the fourth day of a week lies in it, three days after its first
 pub week_fourth : (w e : ℕ) → w < 7 → 9 ≤ 7 * week_of w e + w → (week_of w (fourth_day w e) ≡ week_of w e) × ((fourth_day w e + (12 - w)) % 7 ≡ 3)
-week_fourth w e h late =
-    let same : fourth_day w e ≡ 7 * week_of w e + w - 9 =
-    ap (λ b. cond b (7 * week_of w e + w + 146_088) (7 * week_of w e + w - 9)) (le-ltb (7 * week_of w e + w) 9 late) in
-    (omega (arith, same), omega (arith, same))
+week_fourth w e h late = grind (arith, le-ltb)
 
 pub year_day_is : (f : ℕ) → year_day_of f + days_before_year (year_of f) ≡ f + 1
 unfolding year_day_of
@@ -91,13 +71,7 @@ year_day_high f = let u = year_under_way f in let next = days_before_year-next (
 
 -- no week of the year has a greater number than the last
 pub weeks_high : (f g : ℕ) → year_of g ≡ year_of f → g % 7 ≡ f % 7 → week_number g ≤ weeks_of_year f
-weeks_high f g e same =
-    let a = year_day_is f in
-    let b = year_day_is g in
-    let years = ap days_before_year e in
-    let high = year_day_high g in
-    let length = ap (λ y. days_in_year (pos y)) e in
-    omega (arith, a, b, years, high, length, same)
+weeks_high f g e same = grind (arith, year_day_high, year_day_is)
 
 year_day_low : (f : ℕ) → 1 ≤ year_day_of f
 unfolding year_day_of

@@ -3,7 +3,7 @@ use Rattle.std.proofs.Common.{◌≡◌, ℕ, zero, suc, ◌+◌, ◌-◌, ◌*�
 use Rattle.std.proofs.Common.{if◌then◌else◌, pos, refl, sym, ap, ◌∙◌, arith}
 use Rattle.std.proofs.lemmas.Bool.{and_parts, and_right, cases_lt, eq-eqb, le-ltb, lt-ltb, or_left}
 use Rattle.std.proofs.lemmas.Bool.Decides.{nat_tests}
-use Rattle.jiff_core.specs.Calendar.{days_in_month, days_in_year, days_of_months}
+use Rattle.jiff_core.specs.Calendar.{days_in_month, days_in_year}
 use Rattle.jiff_core.proofs.SignedLemmas.{signed_arith}
 use Rattle.jiff_core.proofs.CalendarLemmas.{days_of_months_more, days_of_months_all, days_in_year_bounds}
 use Rattle.ics_fields.specs.declared.frequency.Frequency.{Frequency}
@@ -101,10 +101,7 @@ module _ (q : EffectiveRule) (k : ℕ) where
       gather a b s t = grind arith
 
 pub months_none : (q : EffectiveRule) (months : ℕ → Bool) (e : ℕ) (a : Bool) → false ≡ (a && seen_months q months 1 e)
-months_none q months e a =
-    let none : nat_lt (month_of e) 1 ≡ false = le-ltb (month_of e) 1 (month_positive e) in
-    sym (and_right a (seen_months q months 1 e)
-    (ap (λ x. x && (months (month_of e) && lists_in_month q (weekday_of e) (month_day_of e) (days_in_month (pos (year_of e)) (month_of e)))) none))
+months_none q months e a = grind (arith, nat_tests, and_right, le-ltb, month_positive)
 
 month_small : (e : ℕ) → month_of e < 13
 month_small e = let top = month_of_low e 12 (let all = days_of_months_all (pos (year_of e)) in let next = days_before_year-next (year_of e) in
@@ -113,10 +110,7 @@ month_small e = let top = month_of_low e 12 (let all = days_of_months_all (pos (
 pub months_done : (q : EffectiveRule) (months : ℕ → Bool) {from : ℕ} (e : ℕ) (a : Bool) → ((n : ℕ) → from ≤ n → months n ≡ false) →
     ((n : ℕ) → n < 13 → months n ≡ lets q.months n)
     → (a && seen_months q months from e) ≡ (a && is_in_month q e)
-months_done q months {from = from} e a none is =
-    let L = lists_in_month q (weekday_of e) (month_day_of e) (days_in_month (pos (year_of e)) (month_of e)) in
-    ap (λ x. a && x) (sym (and_assoc (nat_lt (month_of e) from) (months (month_of e)) L)
-    ∙ ap (λ x. x && L) (all_found months from (month_of e) (none (month_of e)) ∙ is (month_of e) (month_small e)))
+months_done q months e a none is = grind (arith, nat_tests, all_found, and_assoc, month_small)
 
 -- a run that begins with the period
 run_start : (k len : ℕ) → (nat_le 0 k && nat_lt (k - 0) len) ≡ nat_lt k len
@@ -155,33 +149,19 @@ closed_month q {first = first} {len = len} {y = y} {m = m} {w = w} k own closed 
 -- what the rule goes by
 pub goes : (q : EffectiveRule) → goes_by_months q ≡ true → (lists_none q.weeks ≡ true)
     × ((lists_none_wide q.year_days ≡ true) × ((lists_none q.month_days && lists_no_weekday q.weekdays) ≡ false))
-goes q h = parts (lists_none q.weeks) (lists_none_wide q.year_days) (lists_none q.month_days && lists_no_weekday q.weekdays) h
-  where
-    parts : (a b c : Bool) → (a && b && not c) ≡ true → (a ≡ true) × ((b ≡ true) × (c ≡ false))
-    parts a b c h = grind arith
+goes q h = grind (arith, nat_tests)
 
 -- there BYMONTH, BYMONTHDAY and BYDAY decide
 pub three_parts : (q : EffectiveRule) (e : ℕ) → goes_by_months q ≡ true
     → lets_date q e ≡ (lets q.months (month_of e)
     && (lets_place q.month_days (month_day_of e) (days_in_month (pos (year_of e)) (month_of e)) && lets_weekday q e))
-three_parts q e h =
-    let g = goes q h in
-    drop (lets q.months (month_of e)) (lets_place q.month_days (month_day_of e) (days_in_month (pos (year_of e)) (month_of e))) (lets_weekday q e)
-    (or_left (lists_none_wide q.year_days) _ g.1.0) (or_left (lists_none q.weeks) _ g.0)
-  where
-    drop : {c d : Bool} (a b e : Bool) → c ≡ true → d ≡ true → (a && b && c && d && e) ≡ (a && (b && e))
-    drop a b e h l = rw (h, l) (ap (λ x. x && e) (keep_true ((a && b) && true) ∙ keep_true (a && b)) ∙ and_assoc a b e)
+three_parts q e h = grind (arith, nat_tests, and_assoc, goes, keep_true, or_left)
 
 module _ (q : EffectiveRule) (p : Ordinals) (e : ℕ) where
   numbers_in_month : (f : Frequency) → counts_in_month q f ≡ true → lists_none q.weeks ≡ true →
       lists_none q.month_days ≡ true
       → lets_numbered f q p e ≡ lists_nth p (month_day_of e) (days_in_month (pos (year_of e)) (month_of e))
-  numbers_in_month Monthly h weeks days = refl
-  numbers_in_month Yearly h weeks days = rw (weeks, months (is_empty q.months) (lists_none q.month_days) h days) refl
-    where
-      months : (a b : Bool) → not (a && b) ≡ true → b ≡ true → a ≡ false
-      months a b h l = grind arith
-  numbers_in_month f h weeks days = absurd (cc)
+  numbers_in_month f h l g = grind (arith, nat_tests)
 
 -- by BYMONTHDAY alone, or by BYDAY alone, they list what the rule lets in
 pub month_exact : (q : EffectiveRule) (e : ℕ) → goes_by_months q ≡ true → counts_in_month q q.frequency ≡ true →
@@ -210,9 +190,7 @@ month_candidate q e h some d =
     (sym (three_parts q e h) ∙ d)
   where
     fore : (a l w : Bool) → (a && (l && w)) ≡ true → (a && l) ≡ true
-    fore true true w h = refl
-    fore true false w h = absurd (cc)
-    fore false l w h = absurd (cc)
+    fore a l w h = grind (arith, nat_tests)
 
     cases : (a l w x : Bool) {n : Bool} → n ≡ false → (a && ((n || l) && w)) ≡ true → (a && (if n then x else l)) ≡ true
     cases a l w x s h = rw s (fore a l w (rw s at h))
@@ -248,35 +226,20 @@ module _ (some f : ℕ → Bool) (from n k : ℕ) (b : Bool) where
   asked p = some k && (nat_lt k p && f k)
 
   others : IsLeastFrom some from n → (k < n) ⊎ (n < k) → asked from ≡ asked (n + 1)
-  others next (inl low) = elim (cases_lt k from) [
-    | inl seen ↦ rw (lt-ltb k from seen, lt-ltb k (n + 1) (omega (arith, low))) refl
-    | inr new ↦ ap (λ x. x && (nat_lt k from && f k)) (next.least k new low) ∙ sym (ap (λ x. x && (nat_lt k (n + 1) && f k)) (next.least k new low))
-  ]
-  others next (inr high) = rw (le-ltb k from (omega (arith, high, next.low)), le-ltb k (n + 1) (omega (arith, high))) refl
+  others h l = grind (arith, nat_tests, cases_lt, le-ltb, lt-ltb)
 
   pub let_in : IsLeastFrom some from n → f n ≡ true → b ≡ asked from → ((k == n) || b) ≡ asked (n + 1)
-  let_in next h e = elim (three k n) [
-    | inl low ↦ ap (λ x. x || b) (below k n low) ∙ e ∙ others next (inl low)
-    | inr (inl here) ↦ rw (eq-eqb k n here, lt-ltb k (n + 1) (omega (arith, here)), ap some here ∙ next.passes, ap f here ∙ h) refl
-    | inr (inr high) ↦ ap (λ x. x || b) (above k n high) ∙ e ∙ others next (inr high)
-  ]
+  let_in next h e = grind (arith, nat_tests, above, below, eq-eqb, lt-ltb, others, three)
 
   pub left_out : IsLeastFrom some from n → f n ≡ false → b ≡ asked from → b ≡ asked (n + 1)
-  left_out next h e = elim (three k n) [
-    | inl low ↦ e ∙ others next (inl low)
-    | inr (inl here) ↦ e ∙ ap (λ x. some k && x) (and_right (nat_lt k from) (f k) (ap f here ∙ h) ∙ sym (and_right (nat_lt k (n + 1)) (f k) (ap f here ∙ h)))
-    | inr (inr high) ↦ e ∙ others next (inr high)
-  ]
+  left_out next h e = grind (arith, nat_tests, and_right, others, three)
 
 pub asked_none : (some f : ℕ → Bool) (k : ℕ) → false ≡ (some k && (nat_lt k 0 && f k))
 asked_none some f k = sym (and_right (some k) (nat_lt k 0 && f k) (ap (λ x. x && f k) (le-ltb k 0 (omega arith))))
 
 pub asked_all : (some f : ℕ → Bool) (from k : ℕ) {b : Bool} → ((m : ℕ) → from ≤ m → some m ≡ false) → b ≡ (some k && (nat_lt k from && f k)) →
     b ≡ (some k && f k)
-asked_all some f from k none e = e ∙ elim (cases_lt k from) [
-  | inl seen ↦ ap (λ x. some k && (x && f k)) (lt-ltb k from seen)
-  | inr past ↦ ap (λ x. x && (nat_lt k from && f k)) (none k past) ∙ sym (ap (λ x. x && f k) (none k past))
-]
+asked_all some f from k none e = grind (arith, nat_tests, cases_lt, lt-ltb)
 
 -- candidates of which all that passes is one
 pub candidates : (some test inside : Bool) → (some ≡ true → inside ≡ true) → (inside ≡ true → test ≡ true → some ≡ true) → (some && test) ≡ (inside && test)
@@ -295,10 +258,7 @@ week_let_in q e h = (and_parts _ (lets_week q e) (and_parts _ (lets_weekday q e)
 
 -- the days of a year by their numbers
 pub year_place : (first y k : ℕ) → first ≡ days_before_year y → k < days_in_year (pos y) → (year_of (first + k) ≡ y) × (year_day_of (first + k) ≡ k + 1)
-year_place first y k start inside =
-    let year : year_of (first + k) ≡ y = year_of_is (first + k) y (omega (arith, start)) (let next = days_before_year-next y in
-    omega (arith, next, start, inside)) in
-    (year, (let day = year_day_is (first + k) in let same = ap days_before_year year in omega (arith, day, same, start)))
+year_place first y k start inside = grind (arith, nat_tests, days_before_year-next, year_day_is, year_of_is)
 
 pub year_starts : (first y : ℕ) → first ≡ days_before_year y → year_of first ≡ y
 year_starts first y start = year_of_is first y (omega (arith, start)) (let next = days_before_year-next y in let some = days_in_year_bounds (pos y) in
@@ -307,12 +267,7 @@ year_starts first y start = year_of_is first y (omega (arith, start)) (let next 
 module _ (q : EffectiveRule) (y k : ℕ) where
   pub number_listed : {first len : ℕ} → first ≡ days_before_year y → len ≡ days_in_year (pos y) → nat_lt k len ≡ true →
       lets_date q (first + k) ≡ true → lets_wide_place q.year_days (k + 1) len ≡ true
-  number_listed {first = first} {len = len} start size inside h =
-      let within : k < len = grind (arith, nat_tests) in
-      let place = year_place first y k start (omega (arith, within, size)) in
-      ap (lets_wide_place q.year_days (k + 1)) (size ∙ sym (ap (λ x. days_in_year (pos x)) place.0))
-      ∙ ap (λ n. lets_wide_place q.year_days n (days_in_year (pos (year_of (first + k))))) (sym place.1)
-      ∙ number_let_in q (first + k) h
+  number_listed start size inside h = grind (arith, nat_tests, number_let_in, year_place)
 
   pub whole_year : {first len w : ℕ} {a b : Bool} → GoesByYears q → first ≡ days_before_year y → len ≡ days_in_year (pos y) → w ≡ weekday_of first → a ≡ false
       → b ≡ (a || (has_run (record { start = 0; len = len; weekday = w }) k
@@ -334,15 +289,7 @@ module _ (q : EffectiveRule) (y k : ℕ) where
 -- a month as a period
 pub span_month : (p first len w : ℕ) → IsSpan Monthly p first len → w ≡ weekday_of first →
     IsMonth (record { start = 0; len = len; weekday = w }) first ((p - 1) / 12) ((p - 1) % 12 + 1)
-span_month p first len w span weekday = record {
-  year = span.1.0;
-  low = omega arith;
-  high = omega arith;
-  place = (let back : (p - 1) % 12 + 1 - 1 ≡ (p - 1) % 12 = omega arith in let same = ap (days_of_months (pos ((p - 1) / 12))) back in
-      omega (arith, span.1.1.0, same));
-  size = span.1.1.1;
-  weekday = weekday ∙ ap weekday_of (let more : first ≡ first + 0 = omega arith in more);
-}
+span_month p first len w span weekday = grind (arith, nat_tests)
 
 -- and the period that a rule's code looks at
 pub period_span : (f : Frequency) (w p : ℕ) {b e : ℕ} → IsPeriodFrom f w p b e → IsSpan f p (b / 86_400) ((e + 86_399) / 86_400 - b / 86_400)

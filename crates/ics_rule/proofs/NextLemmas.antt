@@ -1,6 +1,6 @@
 -- What a rule keeps: the start, and of the later locals that it has those that UNTIL lets through.
 use Rattle.std.proofs.Common.{◌≡◌, ℕ, suc, ◌+◌, ◌-◌, ◌<◌, ◌≤◌, inl, inr, Bool, true, false, ◌&&◌, ◌||◌, ◌==◌, nat_lt, min, max, Some, None, Option}
-use Rattle.std.proofs.Common.{MatchOption, refl, ap, ◌∙◌, arith}
+use Rattle.std.proofs.Common.{MatchOption, ap, ◌∙◌, arith}
 use Rattle.std.proofs.lemmas.Bool.{and_from, and_right, cases_lt, le-ltb, lt-ltb}
 use Rattle.std.proofs.lemmas.Bool.Decides.{nat_tests}
 use Rattle.ics_rule.specs.Recurrence.{Recurrence}
@@ -21,19 +21,11 @@ in_rule_start r = ap (λ b. b || (nat_lt (number r.start) (number r.start) && is
 
 pub in_rule_earlier : (r : Recurrence) (n : ℕ) → n < number r.start → is_in_rule r n ≡ false
 unfolding is_in_rule
-in_rule_earlier r n h = out (n == number r.start) (nat_lt (number r.start) n) (is_chosen (effective r) (number r.start) n) (unequal n (number r.start) (inl h))
-    (le-ltb (number r.start) n (omega arith))
-  where
-    out : (a b c : Bool) → a ≡ false → b ≡ false → (a || (b && c)) ≡ false
-    out a b c p q = rw (p, q) refl
+in_rule_earlier r n h = grind (arith, nat_tests, le-ltb, unequal)
 
 pub in_rule_later : (r : Recurrence) (n : ℕ) → number r.start < n → is_in_rule r n ≡ is_chosen (effective r) (number r.start) n
 unfolding is_in_rule
-in_rule_later r n h = later (n == number r.start) (nat_lt (number r.start) n) (is_chosen (effective r) (number r.start) n) (unequal n (number r.start) (inr h))
-    (lt-ltb (number r.start) n h)
-  where
-    later : (a b c : Bool) → a ≡ false → b ≡ true → (a || (b && c)) ≡ c
-    later a b c p q = rw (p, q) refl
+in_rule_later r n h = grind (arith, nat_tests, lt-ltb, unequal)
 
 -- how many members come before a later local, by what the rule chooses
 pub members_before : (r : Recurrence) (n : ℕ) → number r.start < n
@@ -53,11 +45,7 @@ members_before r n h =
     omega (arith, members, chosen, same, none, last, one, a, b)
 
 counted_is_few : (r : Recurrence) (c n : ℕ) → number r.start < n → is_counted r (Some c) n ≡ is_few (effective r) (number r.start) c n
-counted_is_few r c n h = shifted (count n (is_in_rule r)) (count n (is_chosen (effective r) (number r.start))) c
-    (count (suc (number r.start)) (is_chosen (effective r) (number r.start))) (members_before r n h)
-  where
-    shifted : (a b c d : ℕ) → a + d ≡ b + 1 → nat_lt a c ≡ nat_lt (b + 1) (c + d)
-    shifted a b c d e = grind (arith, nat_tests)
+counted_is_few r c n h = grind (arith, nat_tests, members_before)
 
 -- a later local is kept where the rule has it and UNTIL lets it through
 pub kept_later : (r : Recurrence) (n : ℕ) → number r.start < n → n < rules_end
@@ -116,14 +104,7 @@ module _ (r : Recurrence) (place end until : ℕ) (after : number r.start < plac
   ]
 
   pub next_kept : (n : ℕ) → IsNextBefore (effective r) (number r.start) r.parts.count place (min end until) n → IsNextKept r place end n
-  next_kept n next = record {
-    kept = kept_later r n (omega (arith, next.least.low)) (omega (arith, next.in_bound))
-        ∙ and_from (is_wanted (effective r) (number r.start) r.parts.count n) (is_by_until r.kind r.parts.until n) next.least.passes
-        (ends n (omega (arith, next.in_bound)) ∙ lt-ltb n until (omega (arith, next.in_bound)));
-    from_place = next.least.low;
-    in_bound = omega (arith, next.in_bound);
-    least = λ m low high. none_at m low (omega (arith, next.in_bound)) (next.least.least m low high);
-  }
+  next_kept n next = grind (arith, nat_tests, and_from, kept_later, lt-ltb, none_at)
 
   -- the answer of a search, as one of the rule
   pub kept_answer : (o : Option ℕ) (now : ℕ)

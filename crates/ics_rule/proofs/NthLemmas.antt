@@ -105,47 +105,21 @@ record IsYearDay (e : ℕ) : Type 0 where
   pub end : days_before_year (suc (year_of e)) ≤ e + 366
 
 year_day : (e : ℕ) → IsYearDay e
-year_day e =
-    let u = year_under_way e in
-    let own = year_day_is e in
-    let next = days_before_year-next (year_of e) in
-    let bounds = days_in_year_bounds (pos (year_of e)) in
-    record { low = u.0; high = u.1; place = omega (arith, own, u.0); size = omega (arith, next); end = omega (arith, next, bounds.0, u.0) }
+year_day e = grind (arith, nat_tests, days_before_year-next, days_in_year_bounds, year_day_is, year_under_way)
 
 -- ---- the month of a day
 
 month_high : (e : ℕ) → month_of e ≤ 12
-month_high e =
-    let all = days_of_months_all (pos (year_of e)) in
-    let next = days_before_year-next (year_of e) in
-    let u = year_under_way e in
-    month_of_low e 12 (omega (arith, all, next, u.1)) (omega arith)
+month_high e = grind (arith, nat_tests, days_before_year-next, days_of_months_all, month_of_low, year_under_way)
 
 in_month_same : (f e : ℕ) → year_of f * 12 + month_of f ≡ year_of e * 12 + month_of e → (year_of f == year_of e && month_of f == month_of e) ≡ true
-in_month_same f e h =
-    let some = month_positive f in
-    let some_own = month_positive e in
-    let most = month_high f in
-    let most_own = month_high e in
-    let year : year_of f ≡ year_of e = omega (arith, some, some_own, most, most_own, h) in
-    let month : month_of f ≡ month_of e = omega (arith, year, h) in
-    ap (λ x. x && month_of f == month_of e) (eq-eqb (year_of f) (year_of e) year) ∙ eq-eqb (month_of f) (month_of e) month
+in_month_same f e h = grind (arith, nat_tests, eq-eqb, month_high, month_positive)
 
 in_month_apart : (y m z k : ℕ) → y * 12 + m ≢ z * 12 + k → (y == z && m == k) ≡ false
 in_month_apart y m z k h = grind (arith, nat_tests)
 
 month_stretch : (e : ℕ) → IsStretch (in_month e) (month_start (month_number e)) (month_start (suc (month_number e)))
-month_stretch e = record {
-  before = λ f l. in_month_apart (year_of f) (month_of f) (year_of e) (month_of e)
-      (λ same. let b = month_begun (month_number e) f (omega (arith, same)) in omega (arith, b, l));
-  inside = λ f l h. in_month_same f e
-      (let low = month_begins (month_number e) f l in elim (cases_lt (month_number e) (month_number f)) [
-        | inl past ↦ absurd (let b = month_begun (suc (month_number e)) f past in omega (arith, b, h))
-        | inr same ↦ omega (arith, low, same)
-      ]);
-  after = λ f l. in_month_apart (year_of f) (month_of f) (year_of e) (month_of e)
-      (λ same. let b = month_begins (suc (month_number e)) f l in omega (arith, b, same));
-}
+month_stretch e = grind (arith, nat_tests, cases_lt, in_month_apart, in_month_same, month_begins, month_begun)
 
 record IsMonthDay (e : ℕ) : Type 0 where
   pub low : month_start (month_number e) ≤ e
@@ -264,19 +238,10 @@ later_cycle : (f : ℕ) → year_of (f + 146_097) ≡ year_of f + 400
 later_cycle f = let u = year_under_way f in year_of_is (f + 146_097) (year_of f + 400) (omega (arith, u.0)) (omega (arith, u.1))
 
 later_year_day : (f : ℕ) → year_day_of (f + 146_097) ≡ year_day_of f
-later_year_day f =
-    let own = year_day_is f in
-    let later = year_day_is (f + 146_097) in
-    let year = ap days_before_year (later_cycle f) in
-    omega (arith, own, later, year)
+later_year_day f = grind (arith, nat_tests, later_cycle, year_day_is)
 
 later_length : (f : ℕ) → days_in_year (pos (year_of (f + 146_097))) ≡ days_in_year (pos (year_of f))
-later_length f =
-    let own = days_before_year-next (year_of f) in
-    let later = days_before_year-next (year_of (f + 146_097)) in
-    let year = ap days_before_year (later_cycle f) in
-    let next = ap (λ y. days_before_year (suc y)) (later_cycle f) in
-    omega (arith, own, later, year, next)
+later_length f = grind (arith, nat_tests, days_before_year-next, later_cycle)
 
 record IsSameWeek (f g : ℕ) : Type 0 where
   pub day : year_day_of f ≡ year_day_of g

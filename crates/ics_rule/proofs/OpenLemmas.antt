@@ -52,11 +52,7 @@ module _ (a i : ℕ) (some : 1 ≤ i) (g : ℕ → Bool) (from before : ℕ) whe
   stepped p = is_stepped a i p && g p
 
   pub walk_first : (number : ℕ) → from ≤ before → IsLeastFrom (is_stepped a i) from number → IsStepWalk a i g from before number 0
-  walk_first number h least = record {
-    step = least.passes;
-    passed = (let flat = count_flat from number stepped least.low (λ m l u. and_left (is_stepped a i m) (g m) (least.least m l u)) in omega (arith, flat));
-    none = λ m l u. and_left (is_stepped a i m) (g m) (least.least m (omega (arith, h, l)) u);
-  }
+  walk_first number h least = grind (arith, nat_tests, and_left, count_flat)
 
   module _ (number total : ℕ) (walk : IsStepWalk a i g from before number total) where
     pub walk_small : total ≤ number
@@ -72,18 +68,10 @@ module _ (a i : ℕ) (some : 1 ≤ i) (g : ℕ → Bool) (from before : ℕ) whe
     none_next h m l u = and_left (is_stepped a i m) (g m) (none_between i some a number m walk.step (omega (arith, h, l)) u)
 
     pub walk_in : number < before → g number ≡ true → IsStepWalk a i g from before (number + i) (total + 1)
-    walk_in h e = record {
-      step = step_on i some a number walk.step;
-      passed = let next = step_next in let one = count_one (g number) e in let t = walk.passed in omega (arith, next, one, t);
-      none = none_next h;
-    }
+    walk_in h e = grind (arith, nat_tests, count_one, none_next, step_next, step_on)
 
     pub walk_out : number < before → g number ≡ false → IsStepWalk a i g from before (number + i) total
-    walk_out h e = record {
-      step = step_on i some a number walk.step;
-      passed = let next = step_next in let none = count_none_at (g number) e in let t = walk.passed in omega (arith, next, none, t);
-      none = none_next h;
-    }
+    walk_out h e = grind (arith, nat_tests, count_none_at, none_next, step_next, step_on)
 
     -- past numbers of which none passes, to the next step
     pub walk_past : (out next : ℕ) → ((j : ℕ) → j < out → g (number + j) ≡ false) → IsLeastFrom (is_stepped a i) (number + out) next → number < before →
@@ -110,11 +98,7 @@ none_stepped a i g = count-none a (λ p. is_stepped a i p && g p)
     (λ m l. and_left (is_stepped a i m) (g m) (false_from_ne_true (is_stepped a i m) (λ yes. let parts = stepped_parts a i m yes in omega (arith, parts.0, l))))
 
 pub step_begins : (a i : ℕ) → 1 ≤ i → IsLeastFrom (is_stepped a i) a a
-step_begins a i some = record {
-  passes = stepped_shown a i a (omega arith) (let none : a - a ≡ 0 * i + 0 = omega arith in ap (λ x. x % i) none ∙ mod-mul-add 0 i 0 some);
-  low = omega arith;
-  least = λ m l u. absurd (omega (arith, l, u));
-}
+step_begins a i some = grind (arith, nat_tests, mod-mul-add, stepped_shown)
 
 -- A period of a day or less, in its day.
 module _ (f : Frequency) (q : EffectiveRule) (fine : 0 < seconds_of f) (unit : seconds_of f ≤ 86_400) where
@@ -139,11 +123,7 @@ day_some f = grind arith
 -- Days counted by their place in a run of as many as the interval has.
 module _ (i : ℕ) (some : 1 ≤ i) (from j : ℕ) (less : j < i) where
   stepped_place : (e : ℕ) → is_stepped (from + j) i e ≡ true → (from ≤ e) × ((e - from) % i ≡ j)
-  stepped_place e h =
-      let parts = stepped_parts (from + j) i e h in
-      let whole = div-add-mod' (e - (from + j)) i in
-      let place : e - from ≡ (e - (from + j)) / i * i + j = omega (arith, whole, parts.0, parts.1) in
-      (omega (arith, parts.0), ap (λ x. x % i) place ∙ mod-mul-add ((e - (from + j)) / i) i j less)
+  stepped_place e h = grind (arith, nat_tests, div-add-mod', mod-mul-add, stepped_parts)
 
   place_stepped : (e : ℕ) → from ≤ e → (e - from) % i ≡ j → is_stepped (from + j) i e ≡ true
   place_stepped e l h =
@@ -209,15 +189,7 @@ module _ (q : EffectiveRule) (first : ℕ) (fine : 0 < seconds_of q.frequency) (
   -- a step some runs of days later has the same clock
   step_later : (x t : ℕ) → first ≤ x → (is_stepped first q.interval (x + q.interval * t * d) && own (x + q.interval * t * d))
       ≡ (is_stepped first q.interval x && own x)
-  step_later x t low =
-      let order : q.interval * t * d ≡ q.interval * (t * d) = mul_assoc q.interval t d in
-      let step = ap (λ y. is_stepped first q.interval (x + y)) order ∙ step_repeats q.interval (t * d) first x low in
-      let far : (x + q.interval * t * d) * u ≡ x * u + q.interval * t * 86_400 = (
-      let day = (day_seconds q.frequency fine unit).0 in
-      let spread : (x + q.interval * t * d) * u ≡ x * u + q.interval * t * d * u = add-mul x (q.interval * t * d) u in
-      spread ∙ ap (λ y. x * u + y) (mul_assoc (q.interval * t) d u ∙ ap (λ y. q.interval * t * y) day)) in
-      let clock : own (x + q.interval * t * d) ≡ own x = ap (lets_own q.frequency q) far ∙ own_day q.frequency q fine unit (x * u) (q.interval * t) in
-      ap (λ y. y && own (x + q.interval * t * d)) step ∙ ap (λ y. is_stepped first q.interval x && y) clock
+  step_later x t low = grind (arith, nat_tests, add-mul, day_seconds, mul_assoc, own_day, step_repeats)
 
   module _ (some : 1 ≤ q.interval) (from before : ℕ) (later : first < from * d) (order : from ≤ before) where
     -- the periods let in on the days with places before one
@@ -314,33 +286,15 @@ module _ (q : EffectiveRule) (first : ℕ) (fine : 0 < seconds_of q.frequency) (
         positive = (day_some q.frequency).0
 
         early : (p : ℕ) → p < from * d → placed j p ≡ false
-        early p l =
-            let before_day : p / d < from = div_below p d from positive l in
-            let no : nat_le from (p / d) ≡ false = grind (arith, nat_tests) in
-            ap (λ x. (x && nat_lt ((p / d - from) % q.interval) j) && is_open_period q first p) no
+        early p l = grind (arith, nat_tests, div_below, positive)
 
         inside : (p : ℕ) → from * d ≤ p → p < before * d → placed j p ≡ is_open_period q first p
-        inside p l h =
-            let low : from ≤ p / d = le-div from p d positive l in
-            let high : p / d < before = div_below p d before positive h in
-            let rest : (p / d - from) % q.interval < q.interval = mod-lt (p / d - from) some in
-            let few : (p / d - from) % q.interval ≤ p / d - from = mod_le (p / d - from) q.interval in
-            let small : (p / d - from) % q.interval < j = omega (arith, rest, few, low, high, ej) in
-            let yes : nat_le from (p / d) ≡ true = grind (arith, nat_tests) in
-            let is : nat_lt ((p / d - from) % q.interval) j ≡ true = grind (arith, nat_tests) in
-            ap (λ x. (x && nat_lt ((p / d - from) % q.interval) j) && is_open_period q first p) yes ∙ ap (λ x. x && is_open_period q first p) is
-          where
-            mod_le : (a b : ℕ) → a % b ≤ a
-            mod_le a b = let whole = div-add-mod' a b in omega (arith, whole)
+        inside p l h = grind (arith, nat_tests, div-add-mod', div_below, le-div, mod-lt, positive)
 
   -- within one day
   module _ (from before total : ℕ) (order : from ≤ before) (day : before ≤ (from / d + 1) * d) where
     same_day : (m : ℕ) → from ≤ m → m < before → m / d ≡ from / d
-    same_day m l h =
-        let whole = div-add-mod' from d in
-        let low : from / d ≤ m / d = le-div (from / d) m d (day_some q.frequency).0 (omega (arith, whole, l)) in
-        let high : m / d < from / d + 1 = div_below m d (from / d + 1) (day_some q.frequency).0 (omega (arith, h, day)) in
-        omega (arith, low, high)
+    same_day m l h = grind (arith, nat_tests, day_some, div-add-mod', div_below, le-div)
 
     pub day_in : lets_date q (from / d) ≡ true → total + count from (λ p. is_stepped first q.interval p && own p)
         ≡ count before (λ p. is_stepped first q.interval p && own p)

@@ -1,11 +1,10 @@
 -- The periods of a day or less that a rule lets in repeat with the calendar.
-use Rattle.std.proofs.Common.{◌≡◌, ℕ, ◌+◌, ◌*◌, ◌/◌, ◌<◌, ◌≤◌, ◌&&◌, ap, ◌∙◌, arith}
+use Rattle.std.proofs.Common.{◌≡◌, ℕ, ◌+◌, ◌*◌, ◌/◌, ◌<◌, ◌≤◌, ap, arith}
 use Rattle.ics_fields.specs.declared.frequency.Frequency.{Frequency}
 use Rattle.ics_rule.specs.declared.effective_rule.EffectiveRule.{EffectiveRule}
-use Rattle.ics_rule.specs.Candidates.{lets_date, is_stepped}
 use Rattle.ics_rule.specs.Kept.{count}
 use Rattle.ics_rule.specs.Rounds.{seconds_of, calendar_periods, IsCalendarRound}
-use Rattle.ics_rule.specs.OpenPeriods.{per_day, lets_own, is_open_period}
+use Rattle.ics_rule.specs.OpenPeriods.{per_day, is_open_period}
 use Rattle.ics_rule.proofs.Counts.{count-add}
 use Rattle.ics_rule.proofs.RoundLemmas.{count_rounds}
 use Rattle.ics_rule.proofs.OpenLemmas.{own_day}
@@ -22,17 +21,7 @@ second_again f p k h u = grind arith
 module _ (q : EffectiveRule) (first periods : ℕ) (round : IsCalendarRound q periods) (fine : 0 < seconds_of q.frequency)
     (unit : seconds_of q.frequency ≤ 86_400) where
   open_again : (p : ℕ) → first ≤ p → is_open_period q first (p + periods) ≡ is_open_period q first p
-  open_again p l =
-      ap (λ x. x && (lets_date q ((p + periods) / per_day q.frequency) && lets_own q.frequency q ((p + periods) * seconds_of q.frequency)))
-      (calendar_step q periods round first p l)
-      ∙ ap (λ x. is_stepped first q.interval p && (lets_date q x && lets_own q.frequency q ((p + periods) * seconds_of q.frequency)))
-      (ap (λ x. (p + x) / per_day q.frequency) round.whole ∙ day_again q.frequency p round.cycles fine unit)
-      ∙ ap (λ x. is_stepped first q.interval p && (x && lets_own q.frequency q ((p + periods) * seconds_of q.frequency)))
-      (date_again q round.cycles (p / per_day q.frequency) round.some)
-      ∙ ap (λ x. is_stepped first q.interval p && (lets_date q (p / per_day q.frequency) && x))
-      (ap (λ x. lets_own q.frequency q ((p + x) * seconds_of q.frequency)) round.whole
-      ∙ ap (lets_own q.frequency q) (second_again q.frequency p round.cycles fine unit)
-      ∙ own_day q.frequency q fine unit (p * seconds_of q.frequency) (146_097 * round.cycles))
+  open_again p l = grind (arith, calendar_step, date_again, day_again, own_day, second_again)
 
   -- of whole rounds each has as many as the first
   module _ (from : ℕ) (low : first ≤ from) where

@@ -15,19 +15,11 @@ named_none w = refl
 
 pub named_more : (w : Weekdays) (d : ℕ) {s new : ℕ} → s ≡ named_below w d → names_weekday w d ≡ true → new ≡ with_number d s → new ≡ named_below w (d + 1)
 unfolding named_below
-named_more w d h there e =
-    e ∙ ap (with_number d) h ∙ ap (λ b. if b then with_number d (named_below w d) else named_below w d) (sym there) ∙ ap (named_below w) (next d)
-  where
-    next : (d : ℕ) → suc d ≡ d + 1
-    next d = omega arith
+named_more w d h there e = grind (arith, nat_tests)
 
 pub named_less : (w : Weekdays) (d s : ℕ) → s ≡ named_below w d → names_weekday w d ≡ false → s ≡ named_below w (d + 1)
 unfolding named_below
-named_less w d s h not_there =
-    h ∙ ap (λ b. if b then with_number d (named_below w d) else named_below w d) (sym not_there) ∙ ap (named_below w) (next d)
-  where
-    next : (d : ℕ) → suc d ≡ d + 1
-    next d = omega arith
+named_less w d s h not_there = grind (arith, nat_tests)
 
 pub is_named : (w : Weekdays) (n d : ℕ) → n ≤ 64 → contains (named_below w n) d ≡ (nat_lt d n && names_weekday w d)
 unfolding named_below
@@ -46,7 +38,4 @@ is_named w (suc n) d h =
     ]
 
 pub named_small : (d : ℕ) (b h : Bool) → h ≡ true → h ≡ (nat_lt d 7 && b) → d < 7
-named_small d b h there e = by_test d b (sym e ∙ there)
-  where
-    by_test : (d : ℕ) (b : Bool) → (nat_lt d 7 && b) ≡ true → d < 7
-    by_test d b h = grind (arith, nat_tests)
+named_small d b h there e = grind (arith, nat_tests)

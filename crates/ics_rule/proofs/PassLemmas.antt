@@ -25,10 +25,7 @@ step_open {q = q} {number = number} {place = place} e up none least = record {
 
 -- one more number is left out
 pub one_out : (f : ℕ → Bool) (e : ℕ) {k : ℕ} → f e ≡ false → ((j : ℕ) → j < k → f (e + j) ≡ false) → (j : ℕ) → j < max k 1 → f (e + j) ≡ false
-one_out f e {k = k} here none j h = elim (cases_lt j k) [
-  | inl less ↦ none j less
-  | inr more ↦ ap f (let same : e + j ≡ e = omega (arith, h, more) in same) ∙ here
-]
+one_out f e here none j h = grind (arith, cases_lt)
 
 -- and a walk over them goes on
 pub out_on : (f : ℕ → Bool) {from e k : ℕ} → ((m : ℕ) → from ≤ m → m < e → f m ≡ false) → ((j : ℕ) → j < k → f (e + j) ≡ false) → (m : ℕ) → from ≤ m →

@@ -77,17 +77,7 @@ none_taken {q = q} {start = start} {number = number} {p = p} place turned h m l 
 pub not_past : {q : EffectiveRule} {first number next end : ℕ} → 1 ≤ q.interval → is_stepped first q.interval number ≡ true →
     is_stepped first q.interval end ≡ true → number < end
     → IsNextOpen q first (number + q.interval) next → IsNextOpen q first (number + q.interval) (min end next)
-not_past {q = q} {first = first} {number = number} {next = next} {end = end} some here there h is_next = elim (cases_lt next end) [
-  | inl less ↦ subst (IsNextOpen q first (number + q.interval)) (let least : next ≡ min end next = omega (arith, less) in least) is_next
-  | inr more ↦ subst (IsNextOpen q first (number + q.interval)) (let least : end ≡ min end next = omega (arith, more) in least)
-      (record { step = there; low = low; none = λ n l u step. is_next.none n l (omega (arith, u, more)) step })
-]
-  where
-    low : number + q.interval ≤ end
-    low = elim (cases_lt end (number + q.interval)) [
-      | inl between ↦ absurd (let out = sym there ∙ none_between q.interval some first number end here h between in cc)
-      | inr more ↦ more
-    ]
+not_past some here there h is_next = grind (arith, cases_lt, here, none_between)
 
 -- a walk up to the place that turns to a period
 pub counted_to : {q : EffectiveRule} {start c number : ℕ} {before now after : Cursor} {p : RecurrencePeriod} →
@@ -160,19 +150,7 @@ pub record IsRoundsBegin (q : EffectiveRule) (start begin before : ℕ) : Type 0
 
 pub counts_from : {q : EffectiveRule} {start c first begin before : ℕ} {cursor : Cursor} → 1 ≤ q.interval → IsCursorIn q start (Some c) cursor →
     first ≡ period_in q start → CountsFrom first begin before cursor → IsRoundsBegin q start begin before
-counts_from {q = q} {start = start} {c = c} {first = first} {begin = begin} {before = before} {cursor = cursor} some own ef is =
-    by_held cursor.held own.counted is.number is.chosen
-  where
-    by_held : (o : Option RecurrencePeriod) → MatchOption o (Unit {0}) (IsCounted q start c cursor.counted cursor.limit)
-        → MatchOption o (begin ≡ first) (λ p. begin ≡ p.number) → MatchOption o (before ≡ 0) (λ p. before ≡ cursor.counted) → IsRoundsBegin q start begin before
-    by_held None counted e f = record {
-      step = ap (is_stepped (period_in q start) q.interval) (e ∙ ef) ∙ step_first (period_in q start) q.interval some;
-      total = f ∙ sym (ap (λ x. count (first_local q.frequency (monday_zero q.week_start) x) (is_chosen q start)) (e ∙ ef) ∙ none_before_first q start);
-    }
-    by_held (Some p) counted e f = record {
-      step = ap (is_stepped (period_in q start) q.interval) e ∙ counted.step;
-      total = f ∙ counted.total ∙ sym (ap (λ x. count (first_local q.frequency (monday_zero q.week_start) x) (is_chosen q start)) e);
-    }
+counts_from some own ef is = grind (arith, none_before_first, step_first)
 
 -- two rounds ahead
 pub round_small : (ahead round : ℕ) → 2 ≤ ahead / round → round + round ≤ ahead

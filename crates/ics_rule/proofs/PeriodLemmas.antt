@@ -57,16 +57,7 @@ pub month_positive : (e : ℕ) → 0 < month_of e
 month_positive e = month_of_high e 0 (let none = days_of_months-zero (pos (year_of e)) in let u = year_under_way e in omega (arith, none, u.0)) (omega arith)
 
 pub month_begins : (p e : ℕ) → month_start p ≤ e → p ≤ month_number e
-month_begins zero e h = omega arith
-month_begins (suc p) e h = elim (cases_lt 0 (p % 12)) [
-  | inl some ↦ let after = later_month (p / 12) (p % 12) (omega arith) (omega arith) e (rw back at h) in omega (arith, after)
-  | inr none ↦ let year = year_begins (p / 12) e (let low : days_before_year (p / 12) ≤ days_before_year (p / 12) + days_of_months (pos (p / 12)) (p % 12) =
-      omega arith in let h' = rw back at h in omega (arith, low, h')) in
-      omega (arith, year, month_positive e)
-]
-  where
-    back : suc p - 1 ≡ p
-    back = omega arith
+month_begins p e h = grind (arith, cases_lt, later_month, month_positive, year_begins)
 
 -- the day after the first k months of year y, and the next month's
 month_at : (y k : ℕ) → k < 12 →
@@ -101,14 +92,10 @@ month_length p = let size = month_size p in let bounds = days_in_month_bounds (p
 
 -- a local is no earlier than the first of its period and of those before
 pub begun : (f : Frequency) (w p n : ℕ) → p ≤ period f w n → first_local f w p ≤ n
-begun Monthly w p n h = let b = month_begun p (n / 86_400) h in omega (arith, b)
-begun Yearly w p n h = let b = year_begun p (n / 86_400) h in omega (arith, b)
-begun f w p n h = omega arith
+begun f w p n h = grind (arith, month_begun, year_begun)
 
 pub begins : (f : Frequency) (w p n : ℕ) → first_local f w p ≤ n → p ≤ period f w n
-begins Monthly w p n h = month_begins p (n / 86_400) (omega arith)
-begins Yearly w p n h = year_begins p (n / 86_400) (omega arith)
-begins f w p n h = omega arith
+begins f w p n h = grind (arith, month_begins, year_begins)
 
 -- a period from the first local's on has a local, and at most 366 days
 pub lasts : (f : Frequency) (w p : ℕ) → w < 7 → period f w 0 ≤ p → first_local f w p < first_local f w (suc p)
@@ -128,22 +115,12 @@ period_mono f w n m h = begins f w (period f w n) m (let b = begun f w (period f
 
 -- the first local of a period lies in it
 pub first_in : (f : Frequency) (w p : ℕ) → w < 7 → period f w 0 ≤ p → period f w (first_local f w p) ≡ p
-first_in f w p h l = let low = begins f w p (first_local f w p) (omega arith) in elim (cases_lt p (period f w (first_local f w p))) [
-  | inl more ↦ absurd (let late = begun f w (suc p) (first_local f w p) more in let some = lasts f w p h l in omega (arith, late, some))
-  | inr same ↦ omega (arith, low, same)
-]
+first_in f w p h l = grind (arith, begins, begun, cases_lt, lasts)
 
 -- a period and the next, as code counts them
 pub next_first : (f : Frequency) (w p : ℕ) → w < 7 → period f w 0 ≤ p →
     (first_local f w p < first_local f w (p + 1)) × (first_local f w (p + 1) ≤ first_local f w p + 366 * 86_400)
-next_first f w p h l =
-    let same = ap (first_local f w) (one_more p) in
-    let longer = lasts f w p h l in
-    let short = is_short f w p in
-    (omega (arith, same, longer), omega (arith, same, short))
-  where
-    one_more : (p : ℕ) → suc p ≡ p + 1
-    one_more p = omega arith
+next_first f w p h l = grind (arith, is_short, lasts)
 
 -- a period's number is no more than its locals allow
 pub period_small : (f : Frequency) (w n : ℕ) → n < calendar_end → period f w n < calendar_end

@@ -30,18 +30,11 @@ found test k (suc end) low high = elim (cases_lt (count end test) k) [
 ]
   where
     at_end : (b : Bool) → test end ≡ b → count end test < k → (m : ℕ) × ((m < suc end) × IsAt test k m)
-    at_end true e last =
-        let one = count_one (test end) e in
-        (end, (omega arith, (e, omega (arith, one, last, high))))
-    at_end false e last = let none = count_none_at (test end) e in absurd (omega (arith, none, last, high))
+    at_end b h l = grind (arith, nat_tests, count_none_at, count_one)
 
 -- and no more
 alone : (test : ℕ → Bool) (k m o : ℕ) → IsAt test k m → IsAt test k o → m ≡ o
-alone test k m o a b = elim (three m o) [
-  | inl less ↦ absurd (let up = count_one_more (suc m) o test less b.0 in omega (arith, up, a.1, b.1))
-  | inr (inl same) ↦ same
-  | inr (inr more) ↦ absurd (let up = count_one_more (suc o) m test more a.0 in omega (arith, up, a.1, b.1))
-]
+alone test k m o a b = grind (arith, nat_tests, count_one_more, three)
 
 -- ---- the candidates of a period
 
@@ -102,11 +95,7 @@ module _ (r : Recurrence) (c : ℕ) (counted : r.parts.count ≡ Some c) (some :
       test a b = grind (arith, nat_tests)
 
       one_more : (k m : Bool) (x y : ℕ) → k ≡ (m && nat_lt y c) → x ≡ min y c → x + cond k 1 0 ≡ min (y + cond m 1 0) c
-      one_more k true x y e h = elim (test y c) [
-        | inl few ↦ let one = count_one k (e ∙ few.0) in omega (arith, one, h, few.1)
-        | inr all ↦ let none = count_none_at k (e ∙ all.0) in omega (arith, none, h, all.1)
-      ]
-      one_more k false x y e h = let none = count_none_at k e in omega (arith, none, h)
+      one_more k m x y h l = grind (arith, nat_tests, count_none_at, count_one)
 
       step : {k : Bool} (m : Bool) {x : ℕ} (y : ℕ) {x' y' : ℕ} → x' ≡ x + cond k 1 0 → y' ≡ y + cond m 1 0 → x ≡ min y c → k ≡ (m && nat_lt y c) → x' ≡ min y' c
       step {k = k} m {x = x} y ex ey h e = ex ∙ one_more k m x y e h ∙ ap (λ z. min z c) (sym ey)

@@ -6,7 +6,7 @@ use Rattle.std.proofs.lemmas.Nat.Bits.{bit_at-zero}
 use Rattle.jiff_core.specs.Calendar.{days_in_month, days_in_year}
 use Rattle.jiff_core.specs.Weekday.{monday_zero}
 use Rattle.ics_fields.specs.declared.frequency.Frequency.{Frequency}
-use Rattle.ics_fields.specs.declared.frequency.Frequency.TheVariants.{Secondly, Minutely, Weekly, Monthly, Yearly}
+use Rattle.ics_fields.specs.declared.frequency.Frequency.TheVariants.{Secondly, Weekly, Monthly, Yearly}
 use Rattle.ics_fields.specs.declared.ordinals.Ordinals.{Ordinals}
 use Rattle.ics_fields.specs.Sets.{contains, contains_wide, is_empty, only}
 use Rattle.ics_fields.specs.Ordinals.{no_ordinals, lists_none, lists_none_wide, numbers_of}
@@ -53,38 +53,21 @@ kept_first : (m y b w : Bool) → (m && y && b && w) ≡ ((m && y && b && w) && 
 kept_first m y b w = grind arith
 
 day_taken : (f : Frequency) (r : Recurrence) → takes_month_day f r.parts ≡ (is_extracted r f ByMonthDay && is_absent r ByMonthDay)
-day_taken Yearly r = kept_first (is_absent r ByMonthDay) (is_absent r ByYearDay) (is_absent r ByDay) (is_absent r ByWeekNo)
-day_taken Monthly r = kept_first (is_absent r ByMonthDay) (is_absent r ByYearDay) (is_absent r ByDay) (is_absent r ByWeekNo)
-day_taken f r = refl
+day_taken f r = grind (arith, kept_first)
 
 weekday_taken : (f : Frequency) (r : Recurrence) → (f ≡ Weekly → is_absent r ByDay ≡ true → is_dayless r ≡ true)
     → (f ≡ Yearly → (is_absent r ByMonthDay && is_absent r ByYearDay && is_absent r ByDay) ≡ true → is_dayless r ≡ true)
     → takes_weekday f r.parts ≡ (is_extracted r f ByDay && is_absent r ByDay)
-weekday_taken Yearly r weekly yearly = none_left (is_absent r ByMonthDay && is_absent r ByYearDay && is_absent r ByDay) (is_absent r ByWeekNo) (yearly refl)
-  where
-    none_left : (a w : Bool) → (a ≡ true → (a && w) ≡ true) → (a && not w) ≡ false
-    none_left a w h = grind arith
-weekday_taken Weekly r weekly yearly = whole (is_absent r ByDay) (is_dayless r) (weekly refl)
-  where
-    whole : (b d : Bool) → (b ≡ true → d ≡ true) → b ≡ (d && b)
-    whole b d h = grind arith
-weekday_taken f r weekly yearly = refl
+weekday_taken f r h l = grind arith
 
 -- beside BYDAY no month is taken
 no_month_taken : (f : Frequency) (r : Recurrence) → is_absent r ByDay ≡ false → takes_month f r.parts ≡ false
-no_month_taken Yearly r h = ap (λ x. x && is_absent r ByWeekNo && is_absent r ByMonth)
-    (and_right (is_absent r ByMonthDay && is_absent r ByYearDay) (is_absent r ByDay) h)
-no_month_taken f r h = refl
+no_month_taken f r h = grind (arith, and_right)
 
 -- ---- the numbers of a weekday
 
 place_none : (p : Ordinals) (test : ℕ → Bool) (e : ℕ) → lists_none p ≡ true → is_place p test e ≡ false
-place_none p test e h =
-    let parts = and_parts (is_empty p.front) (is_empty p.back) h in
-    ap (λ x. contains x (count (suc e) test) || contains p.back (count calendar_end test - count e test)) (zero_of p.front parts.0)
-    ∙ ap (λ x. contains 0 (count (suc e) test) || contains x (count calendar_end test - count e test)) (zero_of p.back parts.1)
-    ∙ ap (λ x. (x == 1) || contains 0 (count calendar_end test - count e test)) (bit_at-zero (count (suc e) test))
-    ∙ ap (λ x. x == 1) (bit_at-zero (count calendar_end test - count e test))
+place_none p test e h = grind (arith, and_parts, bit_at-zero, zero_of)
 
 -- under YEARLY, beside BYWEEKNO or not, and BYMONTH or not
 abbrev yearly_numbered : Ordinals → ℕ → Bool → Bool → Bool
@@ -102,11 +85,7 @@ module _ (r : Recurrence) (q : EffectiveRule) (p : Ordinals) (e : ℕ) (small : 
   by_unit true false none = sym (month_weekday_listed p e small)
 
   numbered : (f : Frequency) → (weekday_unit r f ≡ Weekly → lists_none p ≡ true) → lets_numbered f q p e ≡ is_place p (with_weekday (weekday_period r f) e) e
-  numbered Monthly none = sym (month_weekday_listed p e small)
-  numbered Yearly none =
-      ap (λ w. yearly_numbered p e w (is_empty q.months)) weeks ∙ ap (yearly_numbered p e (is_absent r ByWeekNo)) months
-      ∙ by_unit (is_absent r ByWeekNo) (is_absent r ByMonth) none
-  numbered f none = ap not (none refl) ∙ sym (place_none p (with_weekday (weekday_period r f) e) e (none refl))
+  numbered f h = grind (arith, by_unit, month_weekday_listed, place_none)
 
 -- no number lets nothing in
 none_numbered : (f : Frequency) (q : EffectiveRule) (e : ℕ) → lets_numbered f q no_ordinals e ≡ false
@@ -135,9 +114,7 @@ hour_taken Yearly r = refl
 hour_taken f r = refl
 
 minute_taken : (f : Frequency) (r : Recurrence) → (skips_minutes f ≡ is_extracted r f ByMinute) × (skips_hours f ≡ true → skips_minutes f ≡ true)
-minute_taken Minutely r = (refl, λ h. h)
-minute_taken Secondly r = (refl, λ h. h)
-minute_taken f r = (refl, λ h. refl)
+minute_taken f r = grind arith
 
 second_taken : (f : Frequency) (r : Recurrence) → (skips_seconds f ≡ is_extracted r f BySecond) × (skips_hours f ≡ true → skips_seconds f ≡ true)
 second_taken Secondly r = (refl, λ h. h)
@@ -158,11 +135,7 @@ module _ (r : Recurrence) (plain : HasPlainReading r) where
 
   month : (n : ℕ) → lets (effective r).months (month_of (day_of n)) ≡ month_applies r n
   unfolding effective
-  month n =
-      only_number (takes_month r.parts.frequency r.parts) r.parts.months (month_of (day_of start)) (month_of (day_of n))
-      ∙ by_absence (is_absent r ByMonth) (is_extracted r r.parts.frequency ByMonth)
-      (contains r.parts.months (month_of (day_of n))) (month_of (day_of n) == month_of (day_of start))
-      (month_taken r.parts.frequency r) (λ e. refl)
+  month n = grind (arith, by_absence, month_taken, only_number)
 
   month_day : (n : ℕ) → day_of n < 4_000_000
       → lets_place (effective r).month_days (month_day_of (day_of n)) (days_in_month (pos (year_of (day_of n))) (month_of (day_of n))) ≡ month_day_applies r n
@@ -232,9 +205,7 @@ module _ (r : Recurrence) (plain : HasPlainReading r) where
       taken.0 (λ date. (taken.1 (plain.dates date).0, (midnight (day_index r.start.day) r.start.second (plain.dates date).1).1.1))
 
   parts_apply : (n : ℕ) → n < calendar_end → (lets_date (effective r) (day_of n) && lets_clock (effective r) n) ≡ all_apply r n
-  parts_apply n small =
-      by_subject (by_date (month n) (month_day n (omega arith)) (year_day n (omega arith)) (week n (omega arith)) (weekday n (omega arith)))
-      (by_clock (hour n) (minute n) (second n))
+  parts_apply n small = grind (arith, by_clock, by_date, by_subject, hour, minute, month, month_day, second, week, weekday, year_day)
 
   -- the periods
   abbrev in_turn : ℕ → Bool
@@ -333,9 +304,7 @@ module _ (r : Recurrence) (plain : HasPlainReading r) where
       lt-ltb (count start (is_plain_member r)) c (omega (arith, none, h))
 
   start_kept : is_plainly_kept r start ≡ true
-  start_kept =
-      ap (λ b. b && is_by_until r.kind r.parts.until start && is_few_members r r.parts.count start) plain.fits
-      ∙ ap (λ b. b && is_few_members r r.parts.count start) plain.in_until ∙ first_counts r.parts.count plain.counted
+  start_kept = grind (arith, counted, first_counts)
 
   pub plainly_kept : (n : ℕ) → n < rules_end → is_kept r n ≡ is_plainly_kept r n
   unfolding is_kept

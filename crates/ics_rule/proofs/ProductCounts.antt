@@ -1,5 +1,5 @@
 -- The place of a local in a product, and the product's size, by the sizes of its sets.
-use Rattle.std.proofs.Common.{◌≡◌, ℕ, ◌+◌, ◌-◌, ◌*◌, ◌/◌, ◌%◌, ◌<◌, ◌≤◌, inl, inr, Bool, true, false, cond, ◌&&◌, nat_le, min, Option, None, Some, IfSome}
+use Rattle.std.proofs.Common.{◌≡◌, ℕ, ◌+◌, ◌-◌, ◌*◌, ◌/◌, ◌%◌, ◌<◌, ◌≤◌, inl, inr, Bool, true, false, cond, ◌&&◌, nat_le, min, Option, IfSome}
 use Rattle.std.proofs.Common.{refl, sym, ap, ◌∙◌, arith}
 use Rattle.std.proofs.lemmas.Bool.{and_right, cases_lt}
 use Rattle.std.proofs.lemmas.Bool.Decides.{nat_tests}
@@ -8,7 +8,7 @@ use Rattle.std.proofs.Math.Nat.{mod-lt}
 use Rattle.ics_fields.specs.Sets.{contains, contains_wide, IsNextIn}
 use Rattle.ics_fields.proofs.SetLemmas.{wide_past}
 use Rattle.ics_rule.specs.declared.recurrence_period.RecurrencePeriod.{RecurrencePeriod}
-use Rattle.ics_rule.specs.Kept.{count, size}
+use Rattle.ics_rule.specs.Kept.{count}
 use Rattle.ics_rule.specs.RecurrencePeriods.{has_minute, has_second, has_day, holds, IsNth}
 use Rattle.ics_rule.proofs.ScanLemmas.{day_before}
 use Rattle.ics_rule.proofs.Counts.{count-same, count-add, count-from, count-up_to, count-all, count-product, count-none, count_none_at, count_one}
@@ -33,19 +33,11 @@ module _ (n b : ℕ) (p q : ℕ → Bool) (some : 0 < b) where
   -- where the block of n passes, and where it does not
   pub count_taken : {blocks size rest : ℕ} → p (n / b) ≡ true → blocks ≡ count (n / b) p → size ≡ count b q → rest ≡ count (n % b) q
       → blocks * size + rest ≡ count n (λ m. p (m / b) && q (m % b))
-  count_taken {blocks = blocks} {size = size} {rest = rest} e eb es er =
-      let one = count_one (p (n / b)) e in
-      let product = ap (λ x. x * count (n % b) q) one in
-      let here : blocks * size ≡ count (n / b) p * count b q = ap (λ x. x * size) eb ∙ ap (λ x. count (n / b) p * x) es in
-      omega (arith, count-at, product, here, er)
+  count_taken e eb es er = grind (arith, nat_tests, count-at, count_one)
 
   pub count_left : {blocks size : ℕ} → p (n / b) ≡ false → blocks ≡ count (n / b) p → size ≡ count b q
       → blocks * size ≡ count n (λ m. p (m / b) && q (m % b))
-  count_left {blocks = blocks} {size = size} e eb es =
-      let none = count_none_at (p (n / b)) e in
-      let product = ap (λ x. x * count (n % b) q) none in
-      let here : blocks * size ≡ count (n / b) p * count b q = ap (λ x. x * size) eb ∙ ap (λ x. count (n / b) p * x) es in
-      omega (arith, count-at, product, here)
+  count_left e eb es = grind (arith, nat_tests, count-at, count_none_at)
 
 pub count_zero : (p : ℕ → Bool) → 0 ≡ count 0 p
 unfolding count
@@ -102,16 +94,7 @@ days_before p day skipped e = elim (cases_lt day p.first_day) [
 -- the k-th number of a product, by dividing by the size of a block
 pub nth-product : (b : ℕ) {s : ℕ} (k : ℕ) {hi lo : ℕ} {p q : ℕ → Bool} → s ≡ count b q → lo < b → IsNth p (k / s) hi → IsNth q (k % s) lo
     → IsNth (λ n. p (n / b) && q (n % b)) k (hi * b + lo)
-nth-product b {s = s} k {hi = hi} {lo = lo} {p = p} {q = q} es l high low = record {
-  passes = ap (λ z. p z && q ((hi * b + lo) % b)) (div-mul-add hi b lo l) ∙ ap (λ z. p hi && q z) (mod-mul-add hi b lo l) ∙ ap (λ z. z && q lo) high.passes
-      ∙ low.passes;
-  before =
-      let place = count-place hi b lo p q (omega arith) in
-      let one = ap (λ x. x * count lo q) (count_one (p hi) high.passes) in
-      let blocks = ap (λ x. x * count b q) high.before ∙ ap (λ x. k / s * x) (sym es) in
-      let whole = div-add-mod' k s in
-      omega (arith, place, one, blocks, whole, low.before);
-}
+nth-product b k es l high low = grind (arith, nat_tests, count-place, count_one, div-add-mod', div-mul-add, mod-mul-add)
 
 -- nothing stands past the calendar
 pub holds_past : (p : RecurrencePeriod) → p.first_day ≤ 3_600_000 → (m : ℕ) → calendar_end ≤ m → holds p m ≡ false
@@ -119,6 +102,4 @@ holds_past p h m late = ap (λ x. x && has_second p (m % 86_400))
     (and_right (nat_le p.first_day (m / 86_400)) (contains_wide p.days (m / 86_400 - p.first_day)) (wide_past p.days (m / 86_400 - p.first_day) (omega arith)))
 
 pub next_small : (p : RecurrencePeriod) (n : ℕ) (o : Option ℕ) → p.first_day ≤ 3_600_000 → IsNextIn (holds p) n o → IfSome o (λ m. m < calendar_end)
-next_small p n None h next = tt
-next_small p n (Some m) h next =
-    elim (cases_lt m calendar_end) [ inl less ↦ less | inr late ↦ absurd (let no = holds_past p h m late in let yes = next.passes in cc) ]
+next_small p n o h l = grind (arith, nat_tests, cases_lt, holds_past)

@@ -1,5 +1,5 @@
 -- A product holds what the rule lets in within the period.
-use Rattle.std.proofs.Common.{◌≡◌, ℕ, ◌+◌, ◌-◌, ◌*◌, ◌/◌, ◌%◌, ◌<◌, ◌≤◌, inl, inr, Bool, true, false, ◌==◌, nat_le, nat_lt, ◌&&◌, ◌||◌, refl, sym, ap}
+use Rattle.std.proofs.Common.{◌≡◌, ℕ, ◌+◌, ◌-◌, ◌*◌, ◌/◌, ◌%◌, ◌<◌, ◌≤◌, inl, inr, Bool, true, ◌==◌, nat_le, nat_lt, ◌&&◌, ◌||◌, refl, sym, ap}
 use Rattle.std.proofs.Common.{◌∙◌, arith}
 use Rattle.std.proofs.lemmas.Bool.{and_parts, cases_lt, eq-eqb, eqb-true}
 use Rattle.std.proofs.lemmas.Bool.Decides.{nat_tests}
@@ -144,10 +144,7 @@ exchange : (a b c d : Bool) → ((a && b) && (c && d)) ≡ ((a && c) && (b && d)
 exchange a b c d = grind arith
 
 day_back : (a e : ℕ) (x : Bool) (f : ℕ → Bool) → (nat_le a e && (x && f (a + (e - a)))) ≡ (nat_le a e && (x && f e))
-day_back a e x f = elim (cases_lt e a) [
-  | inl high ↦ let none : nat_le a e ≡ false = grind (arith, nat_tests) in ap (λ z. z && (x && f (a + (e - a)))) none ∙ ap (λ z. z && (x && f e)) (sym none)
-  | inr low ↦ let same : a + (e - a) ≡ e = omega arith in ap (λ z. nat_le a e && (x && f z)) same
-]
+day_back a e x f = grind (arith, nat_tests, cases_lt)
 
 -- a product of the days that a rule lets in, from that of local b on and before local e, and of the readings that it lets in, if they are not b's
 pub record IsProduct (q : EffectiveRule) (b e : ℕ) (p : RecurrencePeriod) : Type 0 where
@@ -178,18 +175,7 @@ module _ {q : EffectiveRule} {b e : ℕ} {p : RecurrencePeriod} (is : IsProduct 
   clock_holds : has_second p (n % 86_400)
       ≡ (((skips_hours q.frequency || (n / 3_600 % 24 == b / 3_600 % 24)) && (skips_minutes q.frequency || (n / 60 % 60 == b / 60 % 60))
       && (skips_seconds q.frequency || (n % 60 == b % 60))) && lets_clock q n)
-  clock_holds =
-      ap (λ z. (z && contains p.minutes (n % 86_400 / 60 % 60)) && contains p.seconds (n % 86_400 % 60)) hour_holds
-      ∙ ap (λ z. (((skips_hours q.frequency || (n / 3_600 % 24 == b / 3_600 % 24)) && lets q.hours (n / 3_600 % 24)) && z)
-      && contains p.seconds (n % 86_400 % 60))
-      minute_holds
-      ∙ ap (λ z. z && contains p.seconds (n % 86_400 % 60))
-      (exchange (skips_hours q.frequency || (n / 3_600 % 24 == b / 3_600 % 24)) (lets q.hours (n / 3_600 % 24))
-      (skips_minutes q.frequency || (n / 60 % 60 == b / 60 % 60)) (lets q.minutes (n / 60 % 60)))
-      ∙ ap (λ z. (((skips_hours q.frequency || (n / 3_600 % 24 == b / 3_600 % 24)) && (skips_minutes q.frequency || (n / 60 % 60 == b / 60 % 60)))
-      && (lets q.hours (n / 3_600 % 24) && lets q.minutes (n / 60 % 60))) && z) second_holds
-      ∙ exchange ((skips_hours q.frequency || (n / 3_600 % 24 == b / 3_600 % 24)) && (skips_minutes q.frequency || (n / 60 % 60 == b / 60 % 60)))
-      (lets q.hours (n / 3_600 % 24) && lets q.minutes (n / 60 % 60)) (skips_seconds q.frequency || (n % 60 == b % 60)) (lets q.seconds (n % 60))
+  clock_holds = grind (arith, nat_tests, exchange, hour_holds, minute_holds, second_holds)
 
 pub product_is : (q : EffectiveRule) {number b e : ℕ} (p : RecurrencePeriod) → IsPeriodFrom q.frequency (monday_zero q.week_start) number b e
     → IsProduct q b e p → (n : ℕ) → holds p n ≡ is_let_in q number n

@@ -32,21 +32,11 @@ module _ (test : ℕ → Bool) (place passed n : ℕ) (next : IsLeastFrom test p
       omega (arith, before_next, last, one, same)
 
 pub nth_done : (test : ℕ → Bool) (place passed bound : ℕ) → ((m : ℕ) → place ≤ m → test m ≡ false) → passed ≡ count place test → count bound test ≤ passed
-nth_done test place passed bound none own = elim (cases_lt place bound) [
-  | inl before ↦ let flat = count_flat place bound test (omega arith) (λ m l h. none m l) in omega (arith, own, flat)
-  | inr past ↦ let low = count_mono bound place test past in omega (arith, own, low)
-]
+nth_done test place passed bound none own = grind (arith, cases_lt, count_flat, count_mono)
 
 -- an index of a product, by the size of a block
 pub block_index : (k a s : ℕ) → k < a * s → (k / s < a) × (k % s < s)
-block_index k a zero h = absurd (omega (arith, h))
-block_index k a (suc s) h = let whole = div-add-mod' k (suc s) in (
-  elim (cases_lt (k / suc s) a) [
-    | inl less ↦ less
-    | inr more ↦ absurd (let up = mul-le-mul_right {m = a} {n = k / suc s} (suc s) more in omega (arith, whole, up, h))
-  ],
-  mod-lt k (omega arith),
-)
+block_index k a s h = grind (arith, cases_lt, div-add-mod', mod-lt, mul-le-mul_right)
 
 -- how many members at listed places come before n
 pub count-ranked : (n : ℕ) (p listed : ℕ → Bool) → count n (λ m. p m && listed (count m p)) ≡ count (count n p) listed
@@ -77,12 +67,7 @@ module _ (p listed : ℕ → Bool) (n : ℕ) where
   }
     where
       one : (o : ℕ) → n ≤ o → o < m → (b : Bool) → p o ≡ b → (p o && listed (count o p)) ≡ false
-      one o l h false e = ap (λ x. x && listed (count o p)) e
-      one o l h true e = and_right (p o) (listed (count o p)) (
-          let more = count_one_more o o p (omega arith) e in
-          let up = count_mono (suc o) m p h in
-          let low = count_mono n o p l in
-          next.least (count o p) low (omega (arith, more, up, nth.before)))
+      one o h l b g = grind (arith, and_right, count_mono, count_one_more)
 
   pub none_ranked : {size : ℕ} (bound : ℕ) → size ≡ count bound p → ((m : ℕ) → bound ≤ m → p m ≡ false)
       → ((k : ℕ) → count n p ≤ k → k < size → listed k ≡ false) → (m : ℕ) → n ≤ m → test m ≡ false

@@ -1,5 +1,5 @@
 -- What a rule chooses repeats after a round of periods.
-use Rattle.std.proofs.Common.{◌≡◌, ℕ, zero, suc, ◌+◌, ◌-◌, ◌*◌, ◌/◌, ◌%◌, ◌<◌, ◌≤◌, Bool, true, false, ◌&&◌, ◌||◌, ◌==◌, nat_le, refl, sym, subst, ap, ◌∙◌}
+use Rattle.std.proofs.Common.{◌≡◌, ℕ, zero, suc, ◌+◌, ◌-◌, ◌*◌, ◌/◌, ◌%◌, ◌<◌, ◌≤◌, Bool, true, false, ◌&&◌, ◌==◌, nat_le, refl, sym, subst, ap, ◌∙◌}
 use Rattle.std.proofs.Common.{arith}
 use Rattle.std.proofs.lemmas.Bool.{and_parts, eqb-true, false_from_ne_true, le-leb, or_left}
 use Rattle.std.proofs.lemmas.Bool.Decides.{nat_tests}
@@ -7,10 +7,9 @@ use Rattle.std.proofs.lemmas.Nat.{div-add-mod'}
 use Rattle.std.proofs.Math.Nat.{add-mul-mod_self_right, mul_assoc, mul_comm, mul-le-mul_right, mod-lt}
 use Rattle.jiff_core.specs.Weekday.{monday_zero}
 use Rattle.ics_fields.specs.declared.frequency.Frequency.{Frequency}
-use Rattle.ics_fields.specs.declared.frequency.Frequency.TheVariants.{Monthly, Yearly}
 use Rattle.ics_fields.specs.declared.ordinals.Ordinals.{Ordinals}
 use Rattle.ics_fields.specs.Sets.{contains, is_empty}
-use Rattle.ics_fields.specs.Ordinals.{lists_none_wide, lists_no_weekday, numbers_of}
+use Rattle.ics_fields.specs.Ordinals.{lists_none_wide, lists_no_weekday}
 use Rattle.ics_fields.specs.Days.{weekday_of}
 use Rattle.ics_rule.specs.declared.effective_rule.EffectiveRule.{EffectiveRule}
 use Rattle.ics_rule.specs.PeriodNumbers.{period, day_of, hour_of, minute_of, second_of, rules_end}
@@ -29,32 +28,19 @@ use Rattle.ics_rule.proofs.Tests.{and_assoc, and_false, positive}
 
 -- under the frequencies whose periods last alike a weekday with a number stands for the weekday
 numbered_alike : (f : Frequency) (q : EffectiveRule) (p : Ordinals) (d e : ℕ) → 0 < seconds_of f → lets_numbered f q p d ≡ lets_numbered f q p e
-numbered_alike Monthly q p d e h = absurd (omega (arith, h))
-numbered_alike Yearly q p d e h = absurd (omega (arith, h))
-numbered_alike f q p d e h = refl
+numbered_alike f q p d e h = grind (arith, nat_tests)
 
 date_repeats : (q : EffectiveRule) (d e : ℕ) → names_weekdays_alone q ≡ true → 0 < seconds_of q.frequency → weekday_of d ≡ weekday_of e →
     lets_date q d ≡ lets_date q e
-date_repeats q d e alone fine same =
-    weekdays_alone q d alone
-    ∙ ap (λ x. lists_no_weekday q.weekdays || contains q.weekdays.plain x || lets_numbered q.frequency q (numbers_of q.weekdays x) d) same
-    ∙ ap (λ x. lists_no_weekday q.weekdays || contains q.weekdays.plain (weekday_of e) || x)
-    (numbered_alike q.frequency q (numbers_of q.weekdays (weekday_of e)) d e fine)
-    ∙ sym (weekdays_alone q e alone)
+date_repeats q d e alone fine same = grind (arith, nat_tests, numbered_alike, weekdays_alone)
 
 date_free : (q : EffectiveRule) (d e : ℕ) → names_weekdays_alone q ≡ true → lists_no_weekday q.weekdays ≡ true → lets_date q d ≡ lets_date q e
-date_free q d e alone none = all_in d ∙ sym (all_in e)
-  where
-    all_in : (x : ℕ) → lets_date q x ≡ true
-    all_in x = weekdays_alone q x alone
-        ∙ ap (λ y. y || contains q.weekdays.plain (weekday_of x) || lets_numbered q.frequency q (numbers_of q.weekdays (weekday_of x)) x) none
+date_free q d e alone none = grind (arith, nat_tests, weekdays_alone)
 
 pub clock_alike : (q : EffectiveRule) (n m : ℕ) → lets q.hours (hour_of n) ≡ lets q.hours (hour_of m) →
     lets q.minutes (minute_of n) ≡ lets q.minutes (minute_of m) → lets q.seconds (second_of n) ≡ lets q.seconds (second_of m)
     → lets_clock q n ≡ lets_clock q m
-clock_alike q n m h i s = ap (λ x. x && lets q.minutes (minute_of n) && lets q.seconds (second_of n)) h
-    ∙ ap (λ x. lets q.hours (hour_of m) && x && lets q.seconds (second_of n)) i
-    ∙ ap (λ x. lets q.hours (hour_of m) && lets q.minutes (minute_of m) && x) s
+clock_alike q n m h i s = grind (arith, nat_tests)
 
 free : (s a b : ℕ) → is_empty s ≡ true → lets s a ≡ lets s b
 free s a b h = or_left (is_empty s) (contains s a) h ∙ sym (or_left (is_empty s) (contains s b) h)
@@ -95,9 +81,7 @@ module _ (q : EffectiveRule) (alone : names_weekdays_alone q ≡ true) where
 
     pub repeats_always : is_empty q.hours ≡ true → is_empty q.minutes ≡ true → is_empty q.seconds ≡ true → (n : ℕ) →
         (lets_date q (day_of (n + 1)) && lets_clock q (n + 1)) ≡ (lets_date q (day_of n) && lets_clock q n)
-    repeats_always h i s n = let_in_alike q (n + 1) n (date_free q (day_of (n + 1)) (day_of n) alone none) (clock_alike q (n + 1) n
-        (free q.hours (hour_of (n + 1)) (hour_of n) h) (free q.minutes (minute_of (n + 1)) (minute_of n) i)
-        (free q.seconds (second_of (n + 1)) (second_of n) s))
+    repeats_always h i s n = grind (arith, nat_tests, clock_alike, date_free, free, let_in_alike)
 
 -- periods that last alike
 unit_period : (f : Frequency) (w n j : ℕ) → 0 < seconds_of f → period f w (n + j * seconds_of f) ≡ period f w n + j

@@ -21,46 +21,23 @@ out false y z = refl
 
 -- the members found before a place, and the next
 pub next_found : (f : ℕ → Bool) (from k x : ℕ) → IsLeastFrom f from k → ((x == k) || (nat_lt x from && f x)) ≡ (nat_lt x (k + 1) && f x)
-next_found f from k x next = elim (three x k) [
-  | inl low ↦ rw (below x k low, lt-ltb x (k + 1) (omega (arith, low))) (elim (cases_lt x from) [
-    | inl seen ↦ rw (lt-ltb x from seen) refl
-    | inr new ↦ rw (next.least x new low) (and_false (nat_lt x from))
-  ])
-  | inr (inl here) ↦ rw (eq-eqb x k here, lt-ltb x (k + 1) (omega (arith, here))) (sym (rw (← here) at next.passes))
-  | inr (inr high) ↦ rw (above x k high, le-ltb x (k + 1) (omega (arith, high)), le-ltb x from (omega (arith, high, next.low))) refl
-]
+next_found f from k x next = grind (arith, nat_tests, above, and_false, below, cases_lt, eq-eqb, le-ltb, lt-ltb, three)
 
 -- where none is left, all are found
 pub all_found : (f : ℕ → Bool) (from x : ℕ) → (from ≤ x → f x ≡ false) → (nat_lt x from && f x) ≡ f x
-all_found f from x none = elim (cases_lt x from) [
-  | inl seen ↦ rw (lt-ltb x from seen) refl
-  | inr past ↦ rw (none past) (and_false (nat_lt x from))
-]
+all_found f from x none = grind (arith, nat_tests, and_false, cases_lt, lt-ltb)
 
 -- at first those from the front alone
 pub listed_first : (s : ℕ) (back : ℕ → Bool) (size : ℕ) {n k : ℕ} → 1 ≤ n → ((m : ℕ) → m < size + 1 → contains k m ≡ contains s m) → k < 2 ^ (size + 1)
     → contains k n ≡ (nat_le n size && (contains s n || (nat_lt (size + 1 - n) 1 && back (size + 1 - n))))
-listed_first s back size {n = n} {k = k} one members bound = elim (cases_lt size n) [
-  | inl past ↦ let out : nat_le n size ≡ false = grind (arith, nat_tests) in rw out (has_above k (size + 1) n bound (omega (arith, past)))
-  | inr inside ↦ let in_size : nat_le n size ≡ true = grind (arith, nat_tests) in
-      rw (in_size, le-ltb (size + 1 - n) 1 (omega (arith, inside))) (members n (omega (arith, inside)) ∙ sym (or_false (contains s n)))
-]
+listed_first s back size one members bound = grind (arith, nat_tests, cases_lt, has_above, le-ltb, or_false, out)
 
 -- the numbers that are listed from the end
 module _ (front back : ℕ → Bool) (size : ℕ) where
   pub listed_more : {from k n : ℕ} {b : Bool} → 1 ≤ n → 1 ≤ k → k ≤ size → IsLeastFrom back from k
       → b ≡ (nat_le n size && (front n || (nat_lt (size + 1 - n) from && back (size + 1 - n))))
       → ((n == size + 1 - k) || b) ≡ (nat_le n size && (front n || (nat_lt (size + 1 - n) (k + 1) && back (size + 1 - n))))
-  listed_more {from = from} {k = k} {n = n} one some most next e = elim (cases_lt size n) [
-    | inl past ↦
-        let out : nat_le n size ≡ false = grind (arith, nat_tests) in
-        rw (e, out, above n (size + 1 - k) (omega (arith, past, some))) refl
-    | inr inside ↦
-        let in_size : nat_le n size ≡ true = grind (arith, nat_tests) in
-        let apart : (n == size + 1 - k) ≡ (size + 1 - n == k) = grind (arith, nat_tests) in
-        rw (e, in_size, apart) (or_swap (front n) (size + 1 - n == k) (nat_lt (size + 1 - n) from && back (size + 1 - n))
-        ∙ ap (λ x. front n || x) (next_found back from k (size + 1 - n) next))
-  ]
+  listed_more one some most next e = grind (arith, nat_tests, above, cases_lt, next_found, or_swap, out)
 
   pub listed_done : (from : ℕ) {n : ℕ} {b : Bool} → 1 ≤ n → ((x : ℕ) → from ≤ x → x ≤ size → back x ≡ false)
       → b ≡ (nat_le n size && (front n || (nat_lt (size + 1 - n) from && back (size + 1 - n))))
@@ -78,59 +55,25 @@ module _ (r : Run) (d p m : ℕ) (a b : Bool) (own : weekday_in r p ≡ d) where
 
   -- a day of the run is before the place, after it by less than a week, or later
   between : (i : ℕ) → p < i → i < p + 7 → (weekday_in r i == d) ≡ false
-  between i h l = elim (three (weekday_in r i) d) [
-    | inl low ↦ below (weekday_in r i) d low
-    | inr (inl here) ↦ absurd (omega (arith, here, own, h, l))
-    | inr (inr high) ↦ above (weekday_in r i) d high
-  ]
+  between i h l = grind (arith, nat_tests, above, below, three)
 
   seven : (i : ℕ) → (i < p) ⊎ (p < i) → day_test p i ≡ day_test (p + 7) i
-  seven i (inl low) = rw (lt-ltb i p low, lt-ltb i (p + 7) (omega (arith, low))) refl
-  seven i (inr high) = elim (cases_lt i (p + 7)) [
-    | inl near ↦ and_right (nat_lt i p) (weekday_in r i == d) (between i high near)
-        ∙ sym (and_right (nat_lt i (p + 7)) (weekday_in r i == d) (between i high near))
-    | inr far ↦ rw (le-ltb i p (omega (arith, high)), le-ltb i (p + 7) far) refl
-  ]
+  seven i h = grind (arith, nat_tests, and_right, between, cases_lt, le-ltb, lt-ltb)
 
   others : (m < r.start) ⊎ ((m - r.start < p) ⊎ (p < m - r.start)) → found p ≡ found (p + 7)
   others (inl low) = let out : nat_le r.start m ≡ false = grind (arith, nat_tests) in rw out refl
   others (inr apart) = ap (λ x. a || (has_run r m && x)) (seven (m - r.start) apart)
 
   pub weekday_added : p < r.len → b ≡ found p → ((m == r.start + p) || b) ≡ found (p + 7)
-  weekday_added inside e = elim (three m (r.start + p)) [
-    | inl low ↦ rw (below m (r.start + p) low) (e
-        ∙ others (elim (cases_lt m r.start) [ inl out ↦ inl out | inr in_run ↦ inr (inl (omega (arith, low, in_run))) ]))
-    | inr (inl here) ↦
-        let begun : nat_le r.start m ≡ true = grind (arith, nat_tests) in
-        let place : m - r.start ≡ p = omega (arith, here) in
-        rw (eq-eqb m (r.start + p) here, begun, place, lt-ltb p r.len inside, lt-ltb p (p + 7) (omega arith), eq-eqb (weekday_in r p) d own)
-        (sym (or_right a true refl))
-    | inr (inr high) ↦ rw (above m (r.start + p) high) (e ∙ others (inr (inr (omega (arith, high)))))
-  ]
+  weekday_added inside e = grind (arith, nat_tests, above, below, cases_lt, eq-eqb, lt-ltb, or_right, others, out, three)
 
   -- no day of the run comes before the first on the weekday
   pub weekday_first : p < 7 → (a ≡ found p)
-  weekday_first h = or_none (has_run r m) (elim (cases_lt (m - r.start) p) [
-    | inl low ↦ and_right (nat_lt (m - r.start) p) (weekday_in r (m - r.start) == d) (early (m - r.start) low)
-    | inr past ↦ rw (le-ltb (m - r.start) p past) refl
-  ])
-    where
-      early : (i : ℕ) → i < p → (weekday_in r i == d) ≡ false
-      early i l = elim (three (weekday_in r i) d) [
-        | inl low ↦ below (weekday_in r i) d low
-        | inr (inl here) ↦ absurd (omega (arith, here, own, h, l))
-        | inr (inr high) ↦ above (weekday_in r i) d high
-      ]
-
-      or_none : (x : Bool) {y : Bool} → y ≡ false → a ≡ (a || (x && y))
-      or_none x {y = y} h = sym (ap (λ z. a || z) (and_right x y h) ∙ or_false a)
+  weekday_first h = grind (arith, nat_tests, above, and_right, below, cases_lt, le-ltb, or_false, three)
 
   -- where the place is past the run, each day of it was seen
   pub weekday_done : r.len ≤ p → b ≡ found p → b ≡ (a || (has_run r m && (weekday_in r (m - r.start) == d)))
-  weekday_done h e = e ∙ ap (λ x. a || x) (elim (cases_lt (m - r.start) r.len) [
-    | inl inside ↦ rw (lt-ltb (m - r.start) p (omega (arith, inside, h))) refl
-    | inr past ↦ rw (le-ltb (m - r.start) r.len past) (out (nat_le r.start m) _ _)
-  ])
+  weekday_done h e = grind (arith, nat_tests, cases_lt, le-ltb, lt-ltb, out)
 
 pub guard : (a b c : Bool) → (a ≡ true → b ≡ c) → (a && b) ≡ (a && c)
 guard true b c h = h refl
@@ -149,38 +92,14 @@ module _ (r : Run) (listed : ℕ → Bool) (d p from m : ℕ) (a b : Bool) (own 
 
   number_place : (n : ℕ) → 1 ≤ n → p + 7 * (n - 1) < r.len →
       (m == r.start + (p + 7 * (n - 1))) ≡ (has_run r m && ((weekday_in r (m - r.start) == d) && ((m - r.start) / 7 + 1 == n)))
-  number_place n some inside = iff (m == r.start + (p + 7 * (n - 1))) _
-      (λ h. let here = eqb-true m (r.start + (p + 7 * (n - 1))) h in
-      rw (
-        run_shown r m (omega (arith, here)) (omega (arith, here, inside)),
-        eq-eqb (weekday_in r (m - r.start)) d (omega (arith, here, own)),
-        eq-eqb
-            ((m - r.start) / 7 + 1) n (omega (arith, here, early, some)),
-      ) refl)
-      (λ h.
-      let run = and_parts (has_run r m) _ h in
-      let day = and_parts (weekday_in r (m - r.start) == d) _ run.1 in
-      let there = run_facts r m run.0 in
-      let weekday = eqb-true (weekday_in r (m - r.start)) d day.0 in
-      let number = eqb-true ((m - r.start) / 7 + 1) n day.1 in
-      eq-eqb m (r.start + (p + 7 * (n - 1))) (omega (arith, there.0, weekday, number, own, early)))
+  number_place n some inside = grind (arith, nat_tests, and_parts, early, eq-eqb, eqb-true, iff, run_facts, run_shown)
 
   pub number_added : (n : ℕ) → 1 ≤ n → p + 7 * (n - 1) < r.len → IsLeastFrom listed from n → b ≡ number_found from →
       ((m == r.start + (p + 7 * (n - 1))) || b) ≡ number_found (n + 1)
-  number_added n some inside next e =
-      ap (λ s. s || b) (number_place n some inside)
-      ∙ ap (λ y. (has_run r m && ((weekday_in r (m - r.start) == d) && ((m - r.start) / 7 + 1 == n))) || y) e
-      ∙ merge (has_run r m) (weekday_in r (m - r.start) == d) ((m - r.start) / 7 + 1 == n) (nat_lt ((m - r.start) / 7 + 1) from
-      && listed ((m - r.start) / 7 + 1)) a
-      ∙ ap (λ y. a || (has_run r m && ((weekday_in r (m - r.start) == d) && y))) (next_found listed from n ((m - r.start) / 7 + 1) next)
-    where
-      merge : (x w s t z : Bool) → ((x && (w && s)) || (z || (x && (w && t)))) ≡ (z || (x && (w && (s || t))))
-      merge x w s t z = grind arith
+  number_added n some inside next e = grind (arith, nat_tests, next_found, number_place)
 
   pub number_none : a ≡ number_found 1
-  number_none = sym (ap (λ y. a || y) (and_right (has_run r m) _
-      (and_right (weekday_in r (m - r.start) == d) _ (ap (λ y. y && listed ((m - r.start) / 7 + 1)) (le-ltb ((m - r.start) / 7 + 1) 1 (omega arith)))))
-      ∙ or_false a)
+  number_none = grind (arith, nat_tests, and_right, le-ltb, or_false)
 
   pub number_done : (q : Ordinals) {count : ℕ} → count ≡ (r.len - 1 - p) / 7 + 1 → p < r.len → ((n : ℕ) → from ≤ n → listed n ≡ false) →
       ((n : ℕ) → 1 ≤ n → listed n ≡ (nat_le n count && lists q n count))
@@ -208,43 +127,18 @@ numbered_listed a x w n h e = rw h e
 module _ (listed : ℕ → Bool) (w : ℕ) (a x : Bool) where
   pub weekdays_more : (d : ℕ) {b new : Bool} → new ≡ (b || (x && ((w == d) && listed d)))
       → b ≡ (a || (x && (nat_lt w d && listed w))) → new ≡ (a || (x && (nat_lt w (d + 1) && listed w)))
-  weekdays_more d e h = elim (three w d) [
-    | inl low ↦ e ∙ rw (h, below w d low, lt-ltb w d low, lt-ltb w (d + 1) (omega (arith, low))) (again a x (listed w))
-    | inr (inl here) ↦ e ∙ rw (h, here, eq-eqb d d refl, lt-ltb d (d + 1) (omega arith), le-ltb d d (omega arith)) (once a x (listed d))
-    | inr (inr high) ↦ e ∙ rw (h, above w d high, le-ltb w d (omega (arith, high)), le-ltb w (d + 1) (omega (arith, high))) (never a x)
-  ]
-    where
-      again : (a x y : Bool) → ((a || (x && y)) || (x && false)) ≡ (a || (x && y))
-      again a x y = grind arith
-
-      once : (a x y : Bool) → ((a || (x && false)) || (x && y)) ≡ (a || (x && y))
-      once a x y = grind arith
-
-      never : (a x : Bool) → ((a || (x && false)) || (x && false)) ≡ (a || (x && false))
-      never a x = grind arith
+  weekdays_more d e h = grind (arith, nat_tests, above, below, eq-eqb, le-ltb, lt-ltb, three)
 
   pub weekdays_jump : {from d : ℕ} {b : Bool} → from ≤ d → (from ≤ w → w < d → listed w ≡ false)
       → b ≡ (a || (x && (nat_lt w from && listed w))) → b ≡ (a || (x && (nat_lt w d && listed w)))
-  weekdays_jump {from = from} {d = d} up none e = e ∙ ap (λ y. a || (x && y)) (elim (cases_lt w from) [
-    | inl low ↦ rw (lt-ltb w from low, lt-ltb w d (omega (arith, low, up))) refl
-    | inr high ↦ elim (cases_lt w d) [
-      | inl inside ↦ rw (le-ltb w from high, lt-ltb w d inside, none high inside) refl
-      | inr past ↦ rw (le-ltb w from high, le-ltb w d past) refl
-    ]
-  ])
+  weekdays_jump up none e = grind (arith, nat_tests, cases_lt, le-ltb, lt-ltb)
 
   pub weekdays_none : a ≡ (a || (x && (nat_lt w 0 && listed w)))
   weekdays_none = rw (le-ltb w 0 (omega arith)) (sym (ap (λ y. a || y) (and_false x) ∙ or_false a))
 
 -- a weekday that BYDAY does not list has no day
 pub unnamed : (w : Weekdays) (d n size : ℕ) → (contains w.plain d || not (lists_none (numbers_of w d))) ≡ false → lists_weekday w d n size ≡ false
-unnamed w d n size h = let parts = out (contains w.plain d) (lists_none (numbers_of w d)) h in
-    ap (λ x. x || lists_nth (numbers_of w d) n size) parts.0 ∙ none_nth (numbers_of w d) n size parts.1
-  where
-    out : (a b : Bool) → (a || not b) ≡ false → (a ≡ false) × (b ≡ true)
-    out true b h = absurd (cc)
-    out false true h = (refl, refl)
-    out false false h = absurd (cc)
+unnamed w d n size h = grind (arith, nat_tests, none_nth, out)
 
 -- the days of a month by their numbers
 module _ (r : Run) (listed : ℕ → Bool) (from m : ℕ) (a b : Bool) where
@@ -286,18 +180,8 @@ module _ (r : Run) (listed : ℕ → Bool) (from m : ℕ) (a b : Bool) where
 
   pub day_done : (lists : ℕ → Bool) → ((n : ℕ) → from ≤ n → listed n ≡ false) → ((n : ℕ) → 1 ≤ n → listed n ≡ (nat_le n r.len && lists n)) → b ≡ day_found from
       → b ≡ (a || (has_run r m && lists (m - r.start + 1)))
-  day_done lists none is e = e
-      ∙ ap (λ x. a || x) (ap (λ x. has_run r m && x) (all_found listed from (m - r.start + 1) (none (m - r.start + 1)) ∙ is (m - r.start + 1) (omega arith))
-      ∙ within (cases_lt (m - r.start) r.len))
-    where
-      within : (m - r.start < r.len) ⊎ (r.len ≤ m - r.start) → (has_run r m && (nat_le (m - r.start + 1) r.len && lists (m - r.start + 1)))
-          ≡ (has_run r m && lists (m - r.start + 1))
-      within (inl inside) = let in_len : nat_le (m - r.start + 1) r.len ≡ true = grind (arith, nat_tests) in rw in_len refl
-      within (inr past) = rw (le-ltb (m - r.start) r.len past) (out (nat_le r.start m) _ _)
+  day_done lists none is e = grind (arith, nat_tests, all_found, cases_lt, le-ltb, out)
 
 -- a listed number is one of so many
 pub listed_within : (n size : ℕ) (b : Bool) → (nat_le n size && b) ≡ true → n ≤ size
-listed_within n size b h = elim (cases_lt size n) [
-  | inl past ↦ absurd (let out : nat_le n size ≡ false = grind (arith, nat_tests) in let h' = rw out at h in cc)
-  | inr inside ↦ inside
-]
+listed_within n size b h = grind (arith, nat_tests, cases_lt, out)

@@ -1,6 +1,6 @@
 -- The next number that passes a test of its part / k and a test of its part % k.
-use Rattle.std.proofs.Common.{◌≡◌, ℕ, suc, ◌+◌, ◌-◌, ◌*◌, ◌/◌, ◌%◌, ◌^◌, ◌<◌, ◌≤◌, ◌⊎◌, inl, inr, ◌≢◌, Bool, true, false, ◌==◌, ◌||◌, ◌&&◌, nat_lt}
-use Rattle.std.proofs.Common.{nat_le, get_or, pos, refl, sym, subst, ap, ◌∙◌, arith}
+use Rattle.std.proofs.Common.{◌≡◌, ℕ, suc, ◌+◌, ◌-◌, ◌*◌, ◌/◌, ◌%◌, ◌^◌, ◌<◌, ◌≤◌, ◌⊎◌, ◌≢◌, Bool, true, false, ◌==◌, ◌||◌, ◌&&◌, nat_lt}
+use Rattle.std.proofs.Common.{nat_le, get_or, pos, refl, sym, ap, ◌∙◌, arith}
 use Rattle.std.proofs.lemmas.Bool.{and_from, and_left, and_parts, and_right, cases_eq, lt-ltb, ne_eqb}
 use Rattle.std.proofs.lemmas.Bool.Decides.{nat_tests}
 use Rattle.std.proofs.lemmas.List.{get_or_past}
@@ -26,44 +26,17 @@ module _ (k : ℕ) (some : 0 < k) where
   same_block x m e h = let a = div-add-mod' x k in let b = div-add-mod' m k in let c = ap (λ z. z * k) e in omega (arith, a, b, c)
 
   before_block : (m hi lo : ℕ) → lo < k → m < hi * k + lo → (m / k < hi) ⊎ ((m / k ≡ hi) × (m % k < lo))
-  before_block m hi lo l h =
-      let top : m / k ≤ hi = subst (λ z. m / k ≤ z) (div-mul-add hi k lo l) (div_mono m (hi * k + lo) (omega arith)) in
-      elim (three (m / k) hi top) [
-        | inl same ↦ let b = div-add-mod' m k in let c = ap (λ z. z * k) same in inr (same, omega (arith, b, c))
-        | inr less ↦ inl (omega arith)
-      ]
+  before_block m hi lo l h = grind (arith, nat_tests, div-add-mod', div-mul-add, div_mono, three)
 
   module _ (A B : ℕ → Bool) (small : (m : ℕ) → B m ≡ true → m < k) where
     -- in the block that the place lies in
     pub next_here : (x lo : ℕ) → A (x / k) ≡ true → IsLeastFrom B (x % k) lo → IsLeastFrom (λ n. A (n / k) && B (n % k)) x (x / k * k + lo)
-    next_here x lo a next =
-        let l = small lo next.passes in record {
-          passes = ap (λ z. A z && B ((x / k * k + lo) % k)) (div-mul-add (x / k) k lo l) ∙ ap (λ z. A (x / k) && B z) (mod-mul-add (x / k) k lo l)
-              ∙ and_from (A (x / k)) (B lo) a next.passes;
-          low = let whole = div-add-mod' x k in omega (arith, whole, next.low);
-          least = λ m low high. elim (before_block m (x / k) lo l high) [
-            | inl less ↦ absurd (let up : x / k ≤ m / k = div_mono x m low in omega (arith, up, less))
-            | inr same ↦ and_right (A (m / k)) (B (m % k)) (next.least (m % k) (same_block x m same.0 low) same.1)
-          ];
-        }
+    next_here x lo a next = grind (arith, nat_tests, and_from, and_right, before_block, div-add-mod', div-mul-add, div_mono, mod-mul-add, same_block)
 
     -- in a later block
     pub next_later : (x hi lo : ℕ) → ((m : ℕ) → x ≤ m → m / k ≡ x / k → (A (m / k) && B (m % k)) ≡ false) → IsLeastFrom A (x / k + 1) hi → IsLeastFrom B 0 lo →
         IsLeastFrom (λ n. A (n / k) && B (n % k)) x (hi * k + lo)
-    next_later x hi lo none next first =
-        let l = small lo first.passes in record {
-          passes = ap (λ z. A z && B ((hi * k + lo) % k)) (div-mul-add hi k lo l) ∙ ap (λ z. A hi && B z) (mod-mul-add hi k lo l)
-              ∙ and_from (A hi) (B lo) next.passes first.passes;
-          low = let whole = div-add-mod' x k in let rest : x % k < k = mod-lt x some in let up : (x / k + 1) * k ≤ hi * k = mul-le-mul_right k next.low in
-              let apart : (x / k + 1) * k ≡ x / k * k + k = omega arith in omega (arith, whole, rest, up, apart);
-          least = λ m low high. let up : x / k ≤ m / k = div_mono x m low in elim (three (x / k) (m / k) up) [
-            | inl same ↦ none m low (sym same)
-            | inr later ↦ elim (before_block m hi lo l high) [
-              | inl less ↦ and_left (A (m / k)) (B (m % k)) (next.least (m / k) later less)
-              | inr here ↦ and_right (A (m / k)) (B (m % k)) (first.least (m % k) (omega arith) here.1)
-            ]
-          ];
-        }
+    next_later x hi lo none next first = grind (arith, nat_tests, and_from, and_left, and_right, before_block, div-add-mod', div-mul-add, div_mono, mod-lt, mod-mul-add, mul-le-mul_right, three)
 
     -- what is left where the block of the place is done
     pub block_out : (x : ℕ) → A (x / k) ≡ false → (m : ℕ) → x ≤ m → m / k ≡ x / k → (A (m / k) && B (m % k)) ≡ false
@@ -74,16 +47,10 @@ module _ (k : ℕ) (some : 0 < k) where
 
 -- the set of one number, and the empty set
 pub contains-only : (h m : ℕ) → contains (only h) m ≡ (m == h)
-contains-only h m = elim (cases_eq m h) [
-  | inl same ↦ rw same (ap (λ x. x == 1) (bit_at-pow_same h) ∙ sym (self_test h))
-  | inr other ↦ ap (λ x. x == 1) (bit_at-pow_other h m other) ∙ sym (ne_eqb m h other)
-]
+contains-only h m = grind (arith, nat_tests, bit_at-pow_other, bit_at-pow_same, cases_eq, ne_eqb, self_test)
 
 pub own_only : (f : ℕ → Bool) (own m : ℕ) → f own ≡ true → (m == own) ≡ ((m == own) && f m)
-own_only f own m h = elim (cases_eq m own) [
-  | inl same ↦ rw same (sym (ap (λ x. (own == own) && x) h ∙ keep_true (own == own)))
-  | inr other ↦ let apart = ne_eqb m own other in apart ∙ sym (and_left (m == own) (f m) apart)
-]
+own_only f own m h = grind (arith, nat_tests, and_left, cases_eq, keep_true, ne_eqb)
 
 -- no number is a member of the empty set
 none_get : (i : ℕ) → get_or none_wide i 0 ≡ 0
@@ -99,25 +66,10 @@ grow : (m k : ℕ) → m ≢ k → nat_lt m k ≡ nat_lt m (k + 1)
 grow m k o = grind (arith, nat_tests)
 
 pub one_more : (f : ℕ → Bool) (k m : ℕ) (b : Bool) → f k ≡ true → b ≡ (nat_lt m k && f m) → ((m == k) || b) ≡ (nat_lt m (k + 1) && f m)
-one_more f k m b h e = elim (cases_eq m k) [
-  | inl same ↦ ap (λ x. (m == k) || x) e
-      ∙ subst (λ x. ((x == k) || (nat_lt x k && f x)) ≡ (nat_lt x (k + 1) && f x)) (sym same)
-      (here (nat_lt k k) (self_test k) (lt-ltb k (k + 1) (omega arith)) h)
-  | inr other ↦ ap (λ x. (m == k) || x) e ∙ (there (m == k) (nat_lt m k) (nat_lt m (k + 1)) (f m) (ne_eqb m k other) (grow m k other))
-]
-  where
-    here : {a c d : Bool} (b : Bool) → a ≡ true → c ≡ true → d ≡ true → (a || (b && d)) ≡ (c && d)
-    here b p q r = grind arith
-
-    there : (a b c d : Bool) → a ≡ false → b ≡ c → (a || (b && d)) ≡ (c && d)
-    there a b c d p q = grind arith
+one_more f k m b h e = grind (arith, nat_tests, cases_eq, grow, lt-ltb, ne_eqb, self_test)
 
 pub no_more : (f : ℕ → Bool) (k m : ℕ) (b : Bool) → f k ≡ false → b ≡ (nat_lt m k && f m) → b ≡ (nat_lt m (k + 1) && f m)
-no_more f k m b h e = elim (cases_eq m k) [
-  | inl same ↦ e ∙ subst (λ x. (nat_lt x k && f x) ≡ (nat_lt x (k + 1) && f x)) (sym same) (and_right (nat_lt k k) (f k) h
-      ∙ sym (and_right (nat_lt k (k + 1)) (f k) h))
-  | inr other ↦ e ∙ ap (λ x. x && f m) (grow m k other)
-]
+no_more f k m b h e = grind (arith, nat_tests, and_right, cases_eq, grow)
 
 -- what the test of one word says below 64
 pub in_word : (n : ℕ) (b : Bool) → n < 64 → (nat_lt n 64 && b) ≡ b
@@ -143,6 +95,4 @@ day_before p m h = let none : nat_le p.first_day m ≡ false = grind (arith, nat
 
 pub minute_true : (hours minutes m : ℕ) {a b : Bool} → m ≤ 1440 → a ≡ (nat_lt (m / 60) 64 && contains hours (m / 60)) →
     b ≡ (nat_lt (m % 60) 64 && contains minutes (m % 60)) → has_minute hours minutes m ≡ (a && b)
-minute_true hours minutes m {b = b} h ea eb =
-    sym (ap (λ x. x && b) (ea ∙ in_word (m / 60) (contains hours (m / 60)) (omega arith))
-    ∙ ap (λ x. contains hours (m / 60) && x) (eb ∙ in_word (m % 60) (contains minutes (m % 60)) (omega arith)))
+minute_true hours minutes m h ea eb = grind (arith, nat_tests, in_word)

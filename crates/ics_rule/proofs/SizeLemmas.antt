@@ -101,9 +101,7 @@ module _ (q : EffectiveRule) (start x : ℕ) (step : is_stepped (period_in q sta
       ∙ ap (λ y. t k && y) (by_positions (lists_none_wide q.positions))
     where
       by_positions : (b : Bool) → is_placed q start b (a + k) ≡ placed_at q b t k
-      by_positions true = refl
-      by_positions false = ap (λ y. lists_wide q.positions y (size q start (a + k))) (rank_is k here)
-          ∙ ap (λ y. lists_wide q.positions (count (suc k) t) y) (size_is k here)
+      by_positions b = grind (arith, rank_is, size_is)
 
   module _ (len : ℕ) (e : a + len ≡ first_local q.frequency (monday_zero q.week_start) (suc x)) where
     here : (k : ℕ) → k < len → period_in q (a + k) ≡ x

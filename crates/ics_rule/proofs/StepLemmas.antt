@@ -1,5 +1,5 @@
 -- Steps by the interval.
-use Rattle.std.proofs.Common.{◌≡◌, ℕ, ◌+◌, ◌-◌, ◌*◌, ◌/◌, ◌%◌, ◌<◌, ◌≤◌, inl, inr, true, false, subst, ap, ◌∙◌, arith}
+use Rattle.std.proofs.Common.{◌≡◌, ℕ, ◌+◌, ◌-◌, ◌*◌, ◌/◌, ◌%◌, ◌<◌, ◌≤◌, inl, inr, true, false, subst, arith}
 use Rattle.std.proofs.lemmas.Bool.{cases_lt, false_from_ne_true}
 use Rattle.std.proofs.lemmas.Bool.Decides.{nat_tests}
 use Rattle.std.proofs.lemmas.Nat.{div-mul-add, mod-mul-add, div-add-mod', le-div}
@@ -27,26 +27,11 @@ module _ (i : ℕ) (some : 1 ≤ i) where
 
   -- the next step
   pub next_stepped : (first own : ℕ) → first < own → IsLeastFrom (is_stepped first i) own (first + ceil (own - first) * i)
-  next_stepped first own h = record {
-    passes = stepped_shown first i (first + ceil (own - first) * i) (omega arith)
-        (let back : first + ceil (own - first) * i - first ≡ ceil (own - first) * i + 0 = omega arith in ap (λ x. x % i) back
-        ∙ mod-mul-add (ceil (own - first)) i 0 some);
-    low = let high = ceil_high (own - first) in omega (arith, high);
-    least = λ m low high. false_from_ne_true (is_stepped first i m) (λ yes.
-        let parts = stepped_parts first i m yes in
-        let whole = div-add-mod' (m - first) i in
-        let few = ceil_low (own - first) ((m - first) / i) (omega (arith, whole, parts.1)) in
-        let up = mul-le-mul_right i few in
-        omega (arith, whole, parts.0, parts.1, up));
-  }
+  next_stepped first own h = grind (arith, nat_tests, ceil_high, ceil_low, div-add-mod', false_from_ne_true, mod-mul-add, mul-le-mul_right, stepped_parts, stepped_shown)
 
   -- a step further is the next
   pub step_on : (first p : ℕ) → is_stepped first i p ≡ true → is_stepped first i (p + i) ≡ true
-  step_on first p h = let parts = stepped_parts first i p h in let whole = div-add-mod' (p - first) i in
-      stepped_shown first i (p + i) (omega (arith, parts.0))
-      (let same : p + i - first ≡ (p - first) / i * i + i = omega (arith, parts.0, parts.1, whole) in
-      let more : (p - first) / i * i + i ≡ ((p - first) / i + 1) * i + 0 = omega arith in
-      ap (λ x. x % i) (same ∙ more) ∙ mod-mul-add ((p - first) / i + 1) i 0 some)
+  step_on first p h = grind (arith, nat_tests, div-add-mod', mod-mul-add, stepped_parts, stepped_shown)
 
   pub none_between : (first p m : ℕ) → is_stepped first i p ≡ true → p < m → m < p + i → is_stepped first i m ≡ false
   none_between first p m h l u = false_from_ne_true (is_stepped first i m) (λ yes.

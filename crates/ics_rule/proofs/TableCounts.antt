@@ -1,5 +1,5 @@
 -- BYSETPOS by the days of a month, for a rule that has at most one local a day, so that examples can be computed.
-use Rattle.std.proofs.Common.{◌≡◌, ℕ, zero, suc, ◌+◌, ◌-◌, ◌*◌, ◌/◌, ◌%◌, ◌<◌, ◌≤◌, inl, inr, Bool, true, cond, ◌&&◌, ◌||◌, ◌==◌, nat_le, nat_lt, List, []}
+use Rattle.std.proofs.Common.{◌≡◌, ℕ, zero, suc, ◌+◌, ◌-◌, ◌*◌, ◌/◌, ◌%◌, ◌<◌, ◌≤◌, Bool, true, cond, ◌&&◌, ◌||◌, ◌==◌, nat_le, nat_lt, List, []}
 use Rattle.std.proofs.Common.{◌∷◌, refl, sym, ap, ◌∙◌, arith}
 use Rattle.std.proofs.lemmas.Bool.{cases_lt, false_from_ne_true, leb-true}
 use Rattle.std.specs.Prelude.{filter}
@@ -40,14 +40,10 @@ module _ (set : ℕ → Bool) (a b t : ℕ) (clock : t < 86_400) (shown : (m : �
   on_day k = set ((a + k) * 86_400 + t)
 
   to_local : (d : ℕ) → count (d * 86_400 + t) set ≡ count (d * 86_400) set
-  to_local d =
-      count_flat (d * 86_400) (d * 86_400 + t) set (omega arith)
-      (λ m l h. false_from_ne_true (set m) (λ e. let s = shown m e in omega (arith, s.1, l, h, clock)))
+  to_local d = grind (arith, count_flat, false_from_ne_true)
 
   past_local : (d : ℕ) → count (d * 86_400 + 86_400) set ≡ count (suc (d * 86_400 + t)) set
-  past_local d =
-      count_flat (suc (d * 86_400 + t)) (d * 86_400 + 86_400) set (omega (arith, clock))
-      (λ m l h. false_from_ne_true (set m) (λ e. let s = shown m e in omega (arith, s.1, l, h, clock)))
+  past_local d = grind (arith, count_flat, false_from_ne_true)
 
   days_before : (k : ℕ) → count ((a + k) * 86_400) set ≡ count k on_day
   unfolding count
@@ -70,12 +66,7 @@ module _ (set : ℕ → Bool) (a b t : ℕ) (clock : t < 86_400) (shown : (m : �
 
   nth_by_days : (positions : WideOrdinals) (k : ℕ) → a ≤ b → b * 86_400 ≤ calendar_end
       → is_nth positions set ((a + k) * 86_400 + t) ≡ nth_day set a b t positions k
-  nth_by_days positions k low high =
-      ap (λ x. contains_wide positions.front x || contains_wide positions.back (count calendar_end set - count ((a + k) * 86_400 + t) set)) (through_day k)
-      ∙ ap (λ x. contains_wide positions.front (count (suc k) on_day) || contains_wide positions.back (x - count ((a + k) * 86_400 + t) set))
-      (all_days low high)
-      ∙ ap (λ x. contains_wide positions.front (count (suc k) on_day) || contains_wide positions.back (count (b - a) on_day - x)) (to_local (a + k)
-      ∙ days_before k)
+  nth_by_days positions k low high = grind (arith, all_days, days_before, through_day, to_local)
 
 -- the instances of a rule in the month p, at 9:00
 pub record IsMonthly (r : Recurrence) (p : ℕ) : Type 0 where
@@ -91,26 +82,10 @@ by_days r p a b e =
 
 module _ (r : Recurrence) (p a b : ℕ) (monthly : IsMonthly r p) (first : month_start p ≡ a) (next : month_start (suc p) ≡ b) where
   shown : (m : ℕ) → is_instance r p m ≡ true → ((a ≤ m / 86_400) × (m / 86_400 < b)) × (m % 86_400 ≡ 32_400)
-  shown m e =
-      let s = monthly.shown m e in
-      let low = month_begun p (day_of m) (omega (arith, s.0)) in (
-        (
-          omega (arith, low, first),
-          elim (cases_lt (day_of m) b) [
-            | inl less ↦ less
-            | inr past ↦ absurd (let more = month_begins (suc p) (day_of m) (omega (arith, past, next)) in omega (arith, more, s.0))
-          ],
-        ),
-        s.1,
-      )
+  shown m e = grind (arith, cases_lt, month_begins, month_begun)
 
   in_month : (e : ℕ) → a ≤ e → e < b → month_number e ≡ p
-  in_month e low high =
-      let begun = month_begins p e (omega (arith, low, first)) in
-      elim (cases_lt p (month_number e)) [
-        | inl past ↦ absurd (let more = month_begun (suc p) e past in omega (arith, more, next, high))
-        | inr same ↦ omega (arith, begun, same)
-      ]
+  in_month e low high = grind (arith, cases_lt, month_begins, month_begun)
 
   member : (e : ℕ) → a ≤ b → b * 86_400 ≤ calendar_end → a ≤ e → e < b → is_member r (e * 86_400 + 32_400) ≡ by_days r p a b e
   member e low high begun before =

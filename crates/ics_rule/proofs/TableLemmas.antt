@@ -462,13 +462,6 @@ module _ (own n : ℕ) where
   abbrev yearly_keep : Bool → Bool → Bool → ℕ
   yearly_keep d y b = keep y own (keep d own (keep (yearly_kept d y b) own n))
 
-  -- beside BYMONTH the month is kept; else DTSTART gives it, and no more where a part speaks of the day
-  yearly_beside : (d y b w : Bool) → yearly_back false d y b w ≡ n
-  yearly_beside d y b w = grind (arith, nat_tests)
-
-  yearly_open : (d y b : Bool) → (yearly_keep d y b == own) ≡ (if (d && y && b) then (n == own) else true)
-  yearly_open d y b = grind (arith, nat_tests)
-
   -- DTSTART's day of the month, where no part speaks of a day or week
   yearly_day : (d y b w : Bool) → (keep w own (yearly_keep d y b) == own) ≡ (if (d && y && b && w) then (n == own) else true)
   yearly_day d y b w = grind (arith, nat_tests)

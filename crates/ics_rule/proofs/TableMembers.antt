@@ -1,15 +1,13 @@
 -- What the table gives of a whole rule, with BYSETPOS, UNTIL and COUNT.
-use Rattle.std.proofs.Common.{◌≡◌, ℕ, suc, ◌+◌, ◌-◌, ◌⊎◌, inl, inr, ◌≢◌, Bool, true, false, ◌&&◌, ◌||◌, ◌==◌, nat_lt, Option, Some, None, refl, sym, ap, ◌∙◌}
+use Rattle.std.proofs.Common.{◌≡◌, ℕ, suc, ◌+◌, ◌-◌, ◌⊎◌, ◌≢◌, Bool, true, ◌&&◌, ◌||◌, ◌==◌, nat_lt, Option, Some, None, refl, ap}
 use Rattle.std.proofs.Common.{arith}
 use Rattle.std.proofs.lemmas.Bool.{cases_eq, eq-eqb, ne_eqb}
-use Rattle.ics_fields.specs.Sets.{contains_wide}
 use Rattle.ics_fields.specs.Ordinals.{lists_none_wide}
 use Rattle.ics_rule.specs.Recurrence.{Recurrence}
-use Rattle.ics_rule.specs.PeriodNumbers.{day_of, rules_end}
 use Rattle.ics_fields.specs.Locals.{number, calendar_end}
 use Rattle.ics_rule.specs.EffectiveRules.{effective}
-use Rattle.ics_rule.specs.Candidates.{lets_date, lets_clock, is_candidate, is_candidate_in}
-use Rattle.ics_rule.specs.Kept.{count, is_beside, rank, size, is_placed, is_chosen, is_in_rule, is_by_until, is_counted, is_kept}
+use Rattle.ics_rule.specs.Candidates.{is_candidate, is_candidate_in}
+use Rattle.ics_rule.specs.Kept.{count, is_beside, rank, size, is_placed, is_chosen, is_in_rule, is_counted, is_kept}
 use Rattle.ics_rule.specs.Table.{BySetPos}
 use Rattle.ics_rule.specs.ByTable.{is_absent, is_instance, is_nth, is_limited, is_period, period_of, is_member, is_within_count, is_kept_by_table, IsAllowed}
 use Rattle.ics_rule.proofs.Counts.{count-same, count-suc, count_one}
@@ -21,11 +19,7 @@ module _ (r : Recurrence) (allowed : IsAllowed r) where
   -- a candidate is an instance of a period that FREQ and INTERVAL give
   candidate : (n : ℕ) → is_candidate_in (effective r) (number r.start) n ≡ (is_period r (period_of r n) && is_instance r (period_of r n) n)
   unfolding effective
-  candidate n =
-      and_assoc (is_period r (period_of r n)) (lets_date (effective r) (day_of n)) (lets_clock (effective r) n)
-      ∙ ap (λ x. is_period r (period_of r n) && x)
-      (sym (instances_by_table r allowed (period_of r n) n
-      ∙ ap (λ x. x && (lets_date (effective r) (day_of n) && lets_clock (effective r) n)) (self_test (period_of r n))))
+  candidate n = grind (arith, and_assoc, instances_by_table, self_test)
 
   pub candidates_by_table : (n : ℕ) → is_candidate r n ≡ (is_period r (period_of r n) && is_instance r (period_of r n) n)
   unfolding is_candidate
@@ -38,15 +32,7 @@ module _ (r : Recurrence) (allowed : IsAllowed r) where
     where
       cases : (period_of r m ≡ period_of r n) ⊎ (period_of r m ≢ period_of r n)
           → (is_candidate_in (effective r) (number r.start) m && period_of r m == period_of r n) ≡ is_instance r (period_of r n) m
-      cases (inl same) =
-          ap (λ x. is_candidate_in (effective r) (number r.start) m && x) (eq-eqb (period_of r m) (period_of r n) same)
-          ∙ keep_true (is_candidate_in (effective r) (number r.start) m) ∙ candidate m
-          ∙ ap (λ p. is_period r p && is_instance r p m) same ∙ ap (λ x. x && is_instance r (period_of r n) m) step
-      cases (inr other) =
-          ap (λ x. is_candidate_in (effective r) (number r.start) m && x) (ne_eqb (period_of r m) (period_of r n) other)
-          ∙ and_false (is_candidate_in (effective r) (number r.start) m)
-          ∙ sym (instances_by_table r allowed (period_of r n) m
-          ∙ ap (λ x. x && (lets_date (effective r) (day_of m) && lets_clock (effective r) m)) (ne_eqb (period_of r m) (period_of r n) other))
+      cases h = grind (arith, and_false, candidate, eq-eqb, instances_by_table, keep_true, ne_eqb)
 
   -- the two places of n are those of the nth of the set
   placed : (n : ℕ) → is_candidate_in (effective r) (number r.start) n ≡ true
@@ -66,17 +52,10 @@ module _ (r : Recurrence) (allowed : IsAllowed r) where
 
       from_end : size (effective r) (number r.start) n + 1 - rank (effective r) (number r.start) n
           ≡ count calendar_end (is_instance r (period_of r n)) - count n (is_instance r (period_of r n))
-      from_end =
-          let last = count-suc n (is_instance r (period_of r n)) in
-          let one = count_one (is_instance r (period_of r n) n) here.1 in
-          omega (arith, ranked, sized, last, one)
+      from_end = grind (arith, count-suc, count_one, here, ranked, sized)
 
       by_positions : (b : Bool) → is_placed (effective r) (number r.start) b n ≡ (b || is_nth r.parts.positions (is_instance r (period_of r n)) n)
-      by_positions true = refl
-      by_positions false =
-          ap (λ x. contains_wide r.parts.positions.front x || contains_wide r.parts.positions.back
-          (size (effective r) (number r.start) n + 1 - rank (effective r) (number r.start) n)) ranked
-          ∙ ap (λ x. contains_wide r.parts.positions.front (count (suc n) (is_instance r (period_of r n))) || contains_wide r.parts.positions.back x) from_end
+      by_positions b = grind (arith, from_end, ranked)
 
   chosen : (n : ℕ) → is_chosen (effective r) (number r.start) n ≡ (is_period r (period_of r n) && is_limited r (period_of r n) n)
   unfolding effective
@@ -93,6 +72,4 @@ module _ (r : Recurrence) (allowed : IsAllowed r) where
 
   pub kept_by_table : (n : ℕ) → is_kept r n ≡ is_kept_by_table r n
   unfolding is_kept
-  kept_by_table n =
-      ap (λ x. n == number r.start || (nat_lt n rules_end && x && is_by_until r.kind r.parts.until n && is_counted r r.parts.count n)) (members_by_table n)
-      ∙ ap (λ x. n == number r.start || (nat_lt n rules_end && is_member r n && is_by_until r.kind r.parts.until n && x)) (counted r.parts.count n)
+  kept_by_table n = grind (arith, counted, members_by_table)

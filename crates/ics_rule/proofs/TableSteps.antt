@@ -1,5 +1,5 @@
 -- The table's parts, one by one: what each lets in, and what DTSTART still gives.
-use Rattle.std.proofs.Common.{◌≡◌, ℕ, suc, ◌+◌, ◌-◌, ◌<◌, Bool, true, false, not, ◌&&◌, ◌||◌, ◌==◌, if◌then◌else◌, refl, sym, ap, ◌∙◌, arith}
+use Rattle.std.proofs.Common.{◌≡◌, ℕ, suc, ◌+◌, ◌-◌, Bool, true, false, not, ◌&&◌, ◌||◌, ◌==◌, if◌then◌else◌, refl, sym, ap, ◌∙◌, arith}
 use Rattle.std.proofs.lemmas.Bool.{and_parts}
 use Rattle.std.proofs.lemmas.Bool.Decides.{nat_tests}
 use Rattle.std.proofs.lemmas.Nat.{pow_pos}
@@ -44,10 +44,7 @@ given true let_in own h = ap (λ x. x && own) (h refl)
 given false let_in own h = keep_true let_in
 
 none_only : (s : ℕ) → is_empty (only s) ≡ false
-none_only s = apart (only s) (pow_pos s)
-  where
-    apart : (n : ℕ) → 0 < n → (n == 0) ≡ false
-    apart n h = grind (arith, nat_tests)
+none_only s = grind (arith, nat_tests, pow_pos)
 
 has_none : (n : ℕ) → contains 0 n ≡ false
 has_none n = ap (λ x. x == 1) (bit_at-zero n)
@@ -119,6 +116,4 @@ both_true false b c e h = absurd (cc)
 
 -- a test that counts only where another passes
 pub chosen_where : {c : Bool} (step i : Bool) {placed nth : Bool} → c ≡ (step && i) → (c ≡ true → placed ≡ nth) → (c && placed) ≡ (step && (i && nth))
-chosen_where true true {placed = placed} e h = ap (λ x. x && placed) e ∙ h e
-chosen_where true false {placed = placed} e h = ap (λ x. x && placed) e
-chosen_where false i {placed = placed} e h = ap (λ x. x && placed) e
+chosen_where step i h l = grind (arith, nat_tests)

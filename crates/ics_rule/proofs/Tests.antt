@@ -1,5 +1,5 @@
 -- Facts about tests and orders that several proofs cite.
-use Rattle.std.proofs.Common.{◌≡◌, ℕ, ◌*◌, ◌==◌, ◌<◌, ◌≤◌, ◌⊎◌, Bool, true, false, not, ◌&&◌, ◌||◌, nat_lt, zero, suc, arith}
+use Rattle.std.proofs.Common.{◌≡◌, ℕ, ◌*◌, ◌==◌, ◌<◌, ◌≤◌, ◌⊎◌, Bool, true, false, not, ◌&&◌, ◌||◌, nat_lt, arith}
 use Rattle.std.proofs.lemmas.Bool.Decides.{nat_tests}
 
 pub keep_true : (b : Bool) → (b && true) ≡ b
@@ -15,9 +15,7 @@ pub zero_of : (s : ℕ) → (s == 0) ≡ true → s ≡ 0
 zero_of s h = grind (arith, nat_tests)
 
 pub positive : (a b : ℕ) → 1 ≤ a → 1 ≤ b → 1 ≤ a * b
-positive (suc a) (suc b) h l = omega arith
-positive zero b h l = absurd (omega (arith, h))
-positive (suc a) zero h l = absurd (omega (arith, l))
+positive a b h l = grind (arith, nat_tests)
 
 pub above : (a b : ℕ) → b < a → (a == b) ≡ false
 above a b h = grind (arith, nat_tests)

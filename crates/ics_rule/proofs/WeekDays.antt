@@ -31,11 +31,7 @@ between_more low k m a l e = ap (λ x. (m == k) || x) e ∙ or_swap a (m == k) (
 
 pub between_done : {low end k : ℕ} (m : ℕ) (a : Bool) {b : Bool} → low ≤ k → end ≤ k → k ≤ max low end → b ≡ (a || (nat_le low m && nat_lt m k)) →
     b ≡ (a || (nat_le low m && nat_lt m end))
-between_done {low = low} {end = end} {k = k} m a l h most e = e ∙ ap (λ x. a || x) (elim (cases_lt end low) [
-  | inl none ↦ let all : k ≡ low = omega (arith, none, most, l) in
-      rw all (let out : (nat_le low m && nat_lt m low) ≡ (nat_le low m && nat_lt m end) = grind (arith, nat_tests) in out)
-  | inr some ↦ let all : k ≡ end = omega (arith, some, most, h) in rw all refl
-])
+between_done m a l h most e = grind (arith, nat_tests, cases_lt)
 
 pub kept : (old new b : Bool) → new ≡ (old || b) → old ≡ true → new ≡ true
 kept true new b e h = e
@@ -149,57 +145,20 @@ pub record IsCover (weeks : Ordinals) (fourth len n : ℕ) (days : List ℕ) : T
 pub cover_starts : {weeks : Ordinals} {fourth len : ℕ} (none front : List ℕ) {both : List ℕ} → 3 ≤ len → ((m : ℕ) → contains_wide none m ≡ false)
     → ((m : ℕ) → contains_wide front m ≡ (contains_wide none m || (nat_le 0 m && nat_lt m 3)))
     → ((m : ℕ) → contains_wide both m ≡ (contains_wide front m || (nat_le (len - 3) m && nat_lt m len))) → IsCover weeks fourth len 1 both
-cover_starts {len = len} none front {both = both} long empty f b = record {
-  within = λ m h. elim (either (contains_wide front m) (contains_wide both m) _ (b m) h) [
-    | inl low ↦ elim (either (contains_wide none m) (contains_wide front m) _ (f m) low) [
-      | inl never ↦ absurd (let out = empty m in cc)
-      | inr early ↦ let facts = between_facts 0 3 m early in omega (arith, facts.1, long)
-    ]
-    | inr late ↦ (between_facts (len - 3) len m late).1
-  ];
-  first = λ m h. kept (contains_wide front m) (contains_wide both m) _ (b m)
-      (gained (contains_wide none m) (contains_wide front m) _ (f m) (between_shown 0 3 m (omega arith) h));
-  last = λ m l h. gained (contains_wide front m) (contains_wide both m) _ (b m) (between_shown (len - 3) len m (omega (arith, l)) h);
-  near = λ k j l here h. absurd (omega (arith, l, here.low));
-}
+cover_starts none front long empty f b = grind (arith, nat_tests, between_facts, between_shown, either, gained)
 
 pub cover_adds : {weeks : Ordinals} {fourth len n low end : ℕ} {days more : List ℕ} → low ≡ 7 * n + fourth - 3 - 7 → end ≡ min (7 * n + fourth - 3) len
     → ((m : ℕ) → contains_wide more m ≡ (contains_wide days m || (nat_le low m && nat_lt m end))) → IsCover weeks fourth len n days →
     IsCover weeks fourth len (n + 1) more
-cover_adds {n = n} {low = low} {end = end} {days = days} {more = more} el ee added cover = record {
-  within = λ m h. elim (either (contains_wide days m) (contains_wide more m) _ (added m) h) [
-    | inl old ↦ cover.within m old
-    | inr new ↦ let facts = between_facts low end m new in omega (arith, facts.1, ee)
-  ];
-  first = λ m h. kept (contains_wide days m) (contains_wide more m) _ (added m) (cover.first m h);
-  last = λ m l h. kept (contains_wide days m) (contains_wide more m) _ (added m) (cover.last m l h);
-  near = λ k j l here h. elim (cases_lt j n) [
-    | inl old ↦ kept (contains_wide days k) (contains_wide more k) _ (added k) (cover.near k j old here h)
-    | inr new ↦ let same : j ≡ n = omega (arith, new, l) in
-        gained (contains_wide days k) (contains_wide more k) _ (added k)
-        (between_shown low end k (omega (arith, el, same, here.from)) (omega (arith, ee, same, here.before, h)))
-  ];
-}
+cover_adds el ee added cover = grind (arith, nat_tests, between_facts, between_shown, cases_lt, either, gained)
 
 pub cover_jumps : {weeks : Ordinals} {fourth len from n : ℕ} {days : List ℕ} → ((j : ℕ) → from ≤ j → j < n → may_list_week weeks j ≡ false)
     → IsCover weeks fourth len from days → IsCover weeks fourth len n days
-cover_jumps {from = from} none cover = record {
-  within = cover.within;
-  first = cover.first;
-  last = cover.last;
-  near = λ k j l here h. elim (cases_lt j from) [
-    | inl old ↦ cover.near k j old here h
-    | inr new ↦ absurd (let out = none j new l in let listed = here.listed in cc)
-  ];
-}
+cover_jumps none cover = grind (arith, nat_tests, cases_lt)
 
 pub covered : {weeks : Ordinals} {fourth len : ℕ} (n k : ℕ) {days : List ℕ} → 54 ≤ n → k < len → IsCover weeks fourth len n days → IsFound weeks fourth len k →
     contains_wide days k ≡ true
-covered n k all inside cover found = elim found [
-  | inl early ↦ cover.first k early
-  | inr (inl late) ↦ cover.last k late inside
-  | inr (inr week) ↦ cover.near k week.0 (omega (arith, week.1.high, all)) week.1 inside
-]
+covered n k all inside cover found = grind (arith, nat_tests)
 
 -- the weeks that are listed from the front, and those from the end that were seen
 abbrev pub seen_weeks : (ℕ → Bool) → (ℕ → Bool) → ℕ → ℕ → Bool
@@ -212,18 +171,8 @@ module _ (front back : ℕ → Bool) where
 
   pub weeks_more : {from k : ℕ} (n : ℕ) {b : Bool} → 1 ≤ n → n ≤ 53 → k ≤ 53 → IsLeastFrom back from k
       → b ≡ seen_weeks front back from n → ((n == 54 - k) || ((n == 53 - k) || b)) ≡ seen_weeks front back (k + 1) n
-  weeks_more {from = from} {k = k} n {b = b} one most some next e =
-      let s : (n == 53 - k) ≡ (53 - n == k) = grind (arith, nat_tests) in
-      let t : (n == 54 - k) ≡ (54 - n == k) = grind (arith, nat_tests) in
-      rw (e, s, t) (swap (front n) (53 - n == k) (nat_lt (53 - n) from && back (53 - n)) (54 - n == k) (nat_lt (54 - n) from && back (54 - n))
-      ∙ ap (λ x. front n || x || ((54 - n == k) || (nat_lt (54 - n) from && back (54 - n)))) (next_found back from k (53 - n) next)
-      ∙ ap (λ x. front n || (nat_lt (53 - n) (k + 1) && back (53 - n)) || x) (next_found back from k (54 - n) next))
-    where
-      swap : (f p a q b : Bool) → (q || (p || (f || a || b))) ≡ (f || (p || a) || (q || b))
-      swap f p a q b = grind arith
+  weeks_more n one most some next e = grind (arith, nat_tests, next_found)
 
   pub weeks_done : (from n : ℕ) {b : Bool} → 1 ≤ n → n ≤ 53 → ((x : ℕ) → from ≤ x → x ≤ 53 → back x ≡ false)
       → b ≡ seen_weeks front back from n → b ≡ (front n || back (53 - n) || back (54 - n))
-  weeks_done from n one most none e =
-      e ∙ ap (λ x. front n || x || (nat_lt (54 - n) from && back (54 - n))) (all_found back from (53 - n) (λ h. none (53 - n) h (omega arith)))
-      ∙ ap (λ x. front n || back (53 - n) || x) (all_found back from (54 - n) (λ h. none (54 - n) h (omega (arith, one))))
+  weeks_done from n one most none e = grind (arith, nat_tests, all_found)

@@ -22,18 +22,4 @@ returns-in-Hourly-clause-value c = subst (λ f. c.readings-in-Hourly.result * c.
     ∙ ap (λ x. count 60 (lets c.args.parts.now.minutes) * x) c.readings-in-Hourly-2.ensures.value ∙ sym (size_hourly c.args.parts.now))
 
 pub returns-in_default : goal.returns-in_default
-returns-in_default c =
-    let is = daily c.args.parts.now.frequency c.requires.fine c.requires.unit c.in_default.not-Secondly c.in_default.not-Minutely c.in_default.not-Hourly in
-    let two = mul-le c.readings-in_default.result c.readings-in_default-2.result 60 60 c.readings-in_default.ensures.bound
-    c.readings-in_default-2.ensures.bound in
-    let three = mul-le (c.readings-in_default.result * c.readings-in_default-2.result) c.readings-in_default-3.result
-    (60 * 60) 60 two c.readings-in_default-3.ensures.bound in
-    record {
-      value = subst (λ f. c.readings-in_default.result * c.readings-in_default-2.result * c.readings-in_default-3.result
-          ≡ count (seconds_of f) (lets_within f c.args.parts.now)) (sym is)
-          (ap (λ x. x * c.readings-in_default-2.result * c.readings-in_default-3.result) c.readings-in_default.ensures.value
-          ∙ ap (λ x. count 24 (lets c.args.parts.now.hours) * x * c.readings-in_default-3.result) c.readings-in_default-2.ensures.value
-          ∙ ap (λ x. count 24 (lets c.args.parts.now.hours) * count 60 (lets c.args.parts.now.minutes) * x) c.readings-in_default-3.ensures.value
-          ∙ sym (size_daily c.args.parts.now));
-      bound = omega (arith, three);
-    }
+returns-in_default c = grind (arith, daily, mul-le, size_daily)

@@ -19,35 +19,13 @@ loop-k-init c = λ j low early before.
     (wide_past c.args.positions.now.back (c.args.size - j) (omega (arith, early, low)))
 
 pub returns-then-contains : goal.returns-then-contains
-returns-then-contains c = (
-  record {
-    passes =
-        let same : c.args.size + 1 - (c.loop-k.k + 1) ≡ c.args.size - c.loop-k.k = omega arith in
-        or_right _ _ (ap (contains_wide c.args.positions.now.back) same ∙ sym c.contains.ensures ∙ c.if-contains.true);
-    low = omega arith;
-    least = λ m low high. c.loop-k.invariant m low high (omega (arith, high));
-  },
-  omega (arith, c.next_front-end.ensures.high),
-)
+returns-then-contains c = grind (arith, or_right)
 
 pub loop-k-preserved : goal.loop-k-preserved
-loop-k-preserved c = λ j low early before. elim (cases_lt j c.loop-k.k) [
-  | inl less ↦ c.loop-k.invariant j low less before
-  | inr more ↦
-      let same : j ≡ c.loop-k.k = omega (arith, more, early) in
-      unlisted c.args.positions.now c.args.size j (c.next_front-end.ensures.none j low before)
-      (ap (λ k. contains_wide c.args.positions.now.back (c.args.size - k)) same ∙ sym c.contains.ensures ∙ c.if-contains.false)
-]
+loop-k-preserved c = grind (arith, cases_lt, unlisted)
 
 pub returns-then-end-size : goal.returns-then-end-size
-returns-then-end-size c = let found = c.next_front-end.ensures.found c.if-end-size.true in (
-  record {
-    passes = or_left _ _ found.1;
-    low = found.0;
-    least = λ m low high. c.loop-k.invariant m low (omega (arith, high)) high;
-  },
-  c.if-end-size.true,
-)
+returns-then-end-size c = grind (arith, or_left)
 
 pub returns-else-end-size : goal.returns-else-end-size
 returns-else-end-size c = λ k low high. c.loop-k.invariant k low (omega (arith, high)) (omega (arith, high))

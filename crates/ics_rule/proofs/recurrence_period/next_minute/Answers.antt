@@ -18,13 +18,7 @@ pub returns-in-Some-clause-small : goal.returns-in-Some-clause-small
 returns-in-Some-clause-small c = minute_below c.args.hours c.args.minutes (c.args.at / 60 * 60 + c.in-Some.minute) c.requires.hours (found c).passes
 
 none_here : (c : Joined-contains) → (m : ℕ) → c.args.at ≤ m → m / 60 ≡ c.args.at / 60 → has_minute c.args.hours c.args.minutes m ≡ false
-none_here c = elim c.if-contains.branch [
-  | then-contains+in_default w ↦ block_done 60 (omega arith) (contains c.args.hours) (contains c.args.minutes)
-      (λ m. member_below c.args.minutes 60 m c.requires.minutes) c.args.at w.in_default.ensures.next
-  | else-contains w ↦ block_out 60 (omega arith) (contains c.args.hours) (contains c.args.minutes) (λ m. member_below c.args.minutes 60 m c.requires.minutes)
-      c.args.at
-      (sym (in_word (c.args.at / 60) (contains c.args.hours (c.args.at / 60)) (omega arith)) ∙ sym c.contains.ensures ∙ w.if-contains.false)
-]
+none_here c = grind (arith, block_done, block_out, in_word, member_below)
 
 later : (c : In-Some-Some) → IsLeastFrom (has_minute c.args.hours c.args.minutes) c.args.at (c.in-Some-Some.hour * 60 + c.in-Some-Some.minute)
 later c = next_later 60 (omega arith) (contains c.args.hours) (contains c.args.minutes) (λ m. member_below c.args.minutes 60 m c.requires.minutes) c.args.at

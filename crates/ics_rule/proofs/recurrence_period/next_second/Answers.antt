@@ -20,14 +20,7 @@ returns-in-Some-clause-small c = second_below c.args.hours c.args.minutes c.args
     (found c).passes
 
 none_here : (c : Joined-contains) → (m : ℕ) → c.args.at ≤ m → m / 60 ≡ c.args.at / 60 → has_time c.args.hours c.args.minutes c.args.seconds m ≡ false
-none_here c = elim c.if-contains.branch [
-  | then-contains+in_default w ↦ block_done 60 (omega arith) (has_minute c.args.hours c.args.minutes) (contains c.args.seconds)
-      (λ m. member_below c.args.seconds 60 m c.requires.seconds) c.args.at w.in_default.ensures.next
-  | else-contains w ↦ block_out 60 (omega arith) (has_minute c.args.hours c.args.minutes) (contains c.args.seconds)
-      (λ m. member_below c.args.seconds 60 m c.requires.seconds) c.args.at
-      (minute_true c.args.hours c.args.minutes (c.args.at / 60) (omega arith) c.contains.ensures c.contains-2.ensures
-      ∙ w.if-contains.false)
-]
+none_here c = grind (arith, block_done, block_out, member_below, minute_true)
 
 later : (c : In-Some-Some) → IsLeastFrom (has_time c.args.hours c.args.minutes c.args.seconds) c.args.at (c.in-Some-Some.minute * 60 + c.in-Some-Some.second)
 later c = next_later 60 (omega arith) (has_minute c.args.hours c.args.minutes) (contains c.args.seconds)

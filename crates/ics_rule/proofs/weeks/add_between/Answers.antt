@@ -7,12 +7,7 @@ pub loop-k-init : goal.loop-k-init
 loop-k-init c = (λ m. between_none c.args.low m (contains_wide c.args.days.now m), omega arith)
 
 pub loop-k-preserved : goal.loop-k-preserved
-loop-k-preserved c = (
-  λ m. c.insert.ensures.members m
-      ∙ between_more c.args.low c.loop-k.k m (contains_wide c.args.days.now m) c.loop-k.auto.k (c.loop-k.invariant.0 m),
-  omega
-      (arith, c.loop-k-test.true),
-)
+loop-k-preserved c = grind (arith, between_more)
 
 pub returns : goal.returns
 returns c = λ m. between_done m (contains_wide c.args.days.now m) c.loop-k.auto.k

@@ -9,13 +9,7 @@ use Rattle.ics_rule.proofs.weeks.days_near_weeks.Goals as goal
 use Rattle.ics_rule.proofs.weeks.days_near_weeks.Goals.{After-weekday_at}
 
 year : (c : After-weekday_at) → IsYearOfWeeks c.args.parts.now c.args.first c.args.len ((c.index.result + 10 - c.weekday_at.result) % 7)
-year c = record {
-  start = c.requires.first;
-  size = c.requires.size;
-  some = c.requires.some;
-  place = ap (λ x. (x + 10 - c.weekday_at.result) % 7) c.index.ensures.value
-      ∙ ap (λ x. (monday_zero c.args.parts.now.week_start + 10 - x) % 7) c.weekday_at.ensures.value;
-}
+year c = grind arith
 
 pub loop-n-init : goal.loop-n-init
 loop-n-init c = let b = days_in_year_bounds (pos (year_of c.args.first)) in (

@@ -28,13 +28,7 @@ returns-in_err-n-clause-own c =
 
 pub returns-in_err-n-clause-looked : goal.returns-in_err-n-clause-looked
 unfolding HasLooked
-returns-in_err-n-clause-looked c = λ a b h few.
-    subst (λ s. HasLookedIn (effective c.args.rule.now) s c.args.rule.now.parts.count c.next_number.new.self a b)
-    (start_is (goal.at.returns-in_err-n-clause-looked c).After-number)
-    (c.in_err-n.ensures.looked a b
-    (omega (arith, c.number-2.ensures.value, subst (λ o. known_to (option_map number o) (number c.args.before) ≤ b) c.from_residual.ensures h))
-    (subst (λ s. HasLookedIn (effective c.args.rule.now) s c.args.rule.now.parts.count c.args.self.now a b)
-    (sym (start_is (goal.at.returns-in_err-n-clause-looked c).After-number)) few))
+returns-in_err-n-clause-looked c = grind (arith, start_is)
 
 pub returns-clause-own : goal.returns-clause-own
 unfolding IsCursorOf
@@ -44,12 +38,7 @@ returns-clause-own c =
 
 pub returns-clause-looked : goal.returns-clause-looked
 unfolding HasLooked
-returns-clause-looked c = λ a b h few.
-    subst (λ s. HasLookedIn (effective c.args.rule.now) s c.args.rule.now.parts.count c.next_number.new.self a b)
-    (start_is (goal.at.returns-clause-looked c).After-number)
-    (c.in_ok-n.ensures.looked a b (omega (arith, h, c.numbered.ensures.value))
-    (subst (λ s. HasLookedIn (effective c.args.rule.now) s c.args.rule.now.parts.count c.args.self.now a b)
-    (sym (start_is (goal.at.returns-clause-looked c).After-number)) few))
+returns-clause-looked c = grind (arith, start_is)
 
 none_counted : (r : Recurrence) (o : Option Local) (before now : Cursor) → o ≡ None → before.steps ≤ now.steps → HasCounted r o before now
 none_counted r None before now e rise = record { rise = rise; some = tt; more = tt }
@@ -60,9 +49,4 @@ returns-in_err-n-clause-counted c =
     none_counted c.args.rule.now c.from_residual.result c.args.self.now c.next_number.new.self c.from_residual.ensures c.next_number.ensures.rise
 
 pub returns-clause-counted : goal.returns-clause-counted
-returns-clause-counted c = let start = start_is (goal.at.returns-clause-counted c).After-number in record {
-  rise = c.next_number.ensures.rise;
-  some = λ late. c.in_ok-n.ensures.shown (omega (arith, late, start, c.numbered.ensures.value));
-  more = λ late later. c.in_ok-n.ensures.counts (omega (arith, late, start, c.numbered.ensures.value))
-      (subst (λ n. period_in (effective c.args.rule.now) c.args.self.now.place < period_in (effective c.args.rule.now) n) c.numbered.ensures.value later);
-}
+returns-clause-counted c = grind (arith, start_is)

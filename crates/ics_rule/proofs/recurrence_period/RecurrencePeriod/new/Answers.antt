@@ -15,16 +15,7 @@ first_local-end-requires c =
 -- where the period begins and ends
 from : (c : After-first_local-end) → IsPeriodFrom c.args.parts.now.frequency (monday_zero c.args.parts.now.week_start) c.args.number
     c.first_local-begin.result c.first_local-end.result
-from c = record {
-  some = c.requires.low;
-  begin = c.first_local-begin.ensures;
-  end = c.first_local-end.ensures;
-  early = omega (
-    arith,
-    c.requires.reach,
-    c.first_local-begin.ensures,
-  );
-}
+from c = grind arith
 
 fits : (c : After-first_local-end) → (c.first_local-begin.result < c.first_local-end.result)
     × (c.first_local-end.result ≤ c.first_local-begin.result + 366 * 86_400)

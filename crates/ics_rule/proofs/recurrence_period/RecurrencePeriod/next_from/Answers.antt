@@ -5,13 +5,7 @@ use Rattle.ics_rule.proofs.recurrence_period.RecurrencePeriod.next_from.Goals as
 use Rattle.ics_rule.proofs.recurrence_period.RecurrencePeriod.next_from.Goals.{Joined-has_day, then-has_day+in_default, else-has_day}
 
 none_here : (c : Joined-has_day) → (m : ℕ) → c.args.n ≤ m → m / 86_400 ≡ c.args.n / 86_400 → holds c.args.self.now m ≡ false
-none_here c = elim c.if-has_day.branch [
-  | then-has_day+in_default w ↦ block_done 86_400 (omega arith) (has_day c.args.self.now) (has_second c.args.self.now)
-      (λ t. second_below c.args.self.now.hours c.args.self.now.minutes c.args.self.now.seconds t c.requires.hours) c.args.n w.in_default.ensures.next
-  | else-has_day w ↦ block_out 86_400 (omega arith) (has_day c.args.self.now) (has_second c.args.self.now)
-      (λ t. second_below c.args.self.now.hours c.args.self.now.minutes c.args.self.now.seconds t c.requires.hours) c.args.n (sym c.has_day.ensures
-      ∙ w.if-has_day.false)
-]
+none_here c = grind (arith, block_done, block_out, second_below)
 
 pub returns-in-Some-next_second-clause-next : goal.returns-in-Some-next_second-clause-next
 returns-in-Some-next_second-clause-next c = next_later 86_400 (omega arith) (has_day c.args.self.now) (has_second c.args.self.now)

@@ -9,12 +9,7 @@ use Rattle.ics_rule.proofs.ProductCounts.{nth-product}
 use Rattle.ics_rule.proofs.recurrence_period.RecurrencePeriod.nth_second.Goals as goal
 
 pub nth_member-requires : goal.nth_member-requires
-nth_member-requires c =
-    let i = block_index c.args.k (count 24 (contains c.args.self.now.hours) * count 60 (contains c.args.self.now.minutes)) c.members_below-size.result
-    (subst (λ x. c.args.k < count 24 (contains c.args.self.now.hours) * count 60 (contains c.args.self.now.minutes) * x)
-    (sym c.members_below-size.ensures.value) c.requires.index) in
-    let more = count_mono 60 64 (contains c.args.self.now.seconds) (omega arith) in
-    omega (arith, i.1, more, c.members_below-size.ensures.value)
+nth_member-requires c = grind (arith, block_index, count_mono)
 
 pub returns-clause-nth : goal.returns-clause-nth
 returns-clause-nth c = nth-product 60 c.args.k c.members_below-size.ensures.value

@@ -6,12 +6,7 @@ use Rattle.ics_rule.proofs.runs.Run.add_month_days.Goals as goal
 use Rattle.ics_rule.proofs.runs.Run.add_month_days.Goals.{In-Some}
 
 inside : (c : In-Some) → (1 ≤ c.in-Some.n) × (c.in-Some.n ≤ c.args.self.len)
-inside c =
-    let some : 1 ≤ c.in-Some.n = omega (arith, c.loop-n.invariant.1.0, c.in-Some.ensures.next.low) in (
-      some,
-      listed_within c.in-Some.n c.args.self.len (lists c.args.month_days.now c.in-Some.n c.args.self.len) (sym (c.listed-listed.ensures c.in-Some.n some)
-          ∙ c.in-Some.ensures.next.passes),
-    )
+inside c = grind (arith, listed_within)
 
 pub loop-n-init : goal.loop-n-init
 loop-n-init c = (

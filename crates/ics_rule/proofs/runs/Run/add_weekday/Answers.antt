@@ -16,12 +16,4 @@ returns-then-contains c = λ m. each_listed (contains_wide c.args.days.now m) (h
     ∙ c.if-contains.true) (c.add_each.ensures m)
 
 pub returns-else-contains : goal.returns-else-contains
-returns-else-contains c = λ m.
-    let inside : c.args.weekday < length c.args.weekdays.now.numbered = search rules in
-    numbered_listed (contains_wide c.args.days.now m) (has_run c.args.self m) (weekday_in c.args.self (m - c.args.self.start) == c.args.weekday)
-    (lists_nth (numbers_of c.args.weekdays.now c.args.weekday) (m - c.args.self.start + 1) c.args.self.len)
-    (sym (in_word c.args.weekday (contains c.args.weekdays.now.plain c.args.weekday) (omega (arith, c.requires.weekday))) ∙ sym c.contains.ensures
-    ∙ c.if-contains.false)
-    (c.add_numbered.ensures m ∙ ap (λ numbers. contains_wide c.args.days.now m || (has_run c.args.self m
-    && ((weekday_in c.args.self (m - c.args.self.start) == c.args.weekday) && lists_nth numbers (m - c.args.self.start + 1) c.args.self.len)))
-    (get_or_default c.args.weekdays.now.numbered c.args.weekday c.index-weekdays-weekday.result no_ordinals inside))
+returns-else-contains c = grind (arith, get_or_default, in_word, numbered_listed)
