@@ -38,14 +38,7 @@ module _ (offset : ℤ → ℤ) (local : ℤ) (offsets : List ℤ) (k : ℕ) (o 
   -- the instant of this offset need not be asked for where it is not earlier
   pub first_early : {r : Bool} (found : Option ℤ) → IsFirstOf offset local offsets k found → (m : ℤ) → m ≡ local -ℤ o
       → MatchOption found (r ≡ false) (λ f. r ≡ true → f ≤ℤ m) → r ≡ true → IsFirstOf offset local offsets (k + 1) found
-  first_early {r = r} None before m at none is = absurd (not_both r is none)
-  first_early (Some t) before m at early is = record {
-    shows = before.shows;
-    least = λ j d l shows. elim (below_or_at j k (omega arith)) [
-      | inl less ↦ before.least j d less shows
-      | inr same ↦ (let there = here j d same in let low = early is in omega (arith, ints, there, low, at))
-    ];
-  }
+  first_early found h m l g f = grind (arith, ints, below_or_at, here, not_both)
 
   pub first_moves : {t : ℤ} (found : Option ℤ) (m : ℤ) → IsFirstOf offset local offsets k found → t ≡ local -ℤ o → offset t ≡ o
       → MatchOption found (m ≡ t) (λ f. m ≡ int_min f t) → IsLeastOf offset local offsets (k + 1) m

@@ -2,7 +2,7 @@
 use Rattle.std.proofs.Common.{Decides, ◌≡◌, ℕ, zero, suc, ◌+◌, ◌-◌, ◌==◌, ℤ, pos, Bool, true, false, cond, int_le, int_lt, List, [], ◌∷◌, map, length, get_or}
 use Rattle.std.proofs.Common.{Option, Some, None, option_map, refl, sym, ap, ap₂, ◌∙◌, arith, if◌then◌else◌, not, ◌||◌, vec_len}
 use Rattle.std.proofs.lemmas.Bool.{and_parts}
-use Rattle.std.proofs.lemmas.Bool.Decides.{Decides-int_eq, nat_tests}
+use Rattle.std.proofs.lemmas.Bool.Decides.{nat_tests}
 use Rattle.std.proofs.lemmas.Slice.Eq.{bytes_eq-Decides}
 use Rattle.std.specs.List.{prefix_len}
 use Rattle.std.proofs.lemmas.List.{length-map}
@@ -24,7 +24,6 @@ use Rattle.jiff_tz.specs.Year.{year_of_nanos}
 use Rattle.jiff_tz.proofs.YearLemmas.{year_of_nanos-civil}
 use Rattle.jiff_tz.specs.declared.ambiguous.AmbiguousOffset.TheVariants.{Unambiguous, Gap, Fold}
 use Rattle.jiff_tz.specs.declared.info.Dst.{Dst as DstFlag}
-use Rattle.jiff_tz.specs.declared.info.Dst.TheVariants.{Yes, No}
 use Rattle.jiff_tz.specs.declared.info.OffsetInfo.{OffsetInfo}
 use Rattle.jiff_tz.specs.declared.posix.DayTime.{DayTime}
 use Rattle.jiff_tz.specs.declared.posix.Dst.{Dst}
@@ -75,10 +74,7 @@ behind_is std dst w n =
   where
     by : (a b c : Bool) → (if a then dst.seconds else (if b then std.seconds else (if c then dst.seconds else std.seconds)))
         ≡ (compatible_offset (if a then Unambiguous dst else (if b then Fold std dst else (if c then Gap dst std else Unambiguous std)))).seconds
-    by true b c = refl
-    by false true c = refl
-    by false false true = refl
-    by false false false = refl
+    by a b c = grind (arith, nat_tests)
 
 ahead_is : (std dst : Offset) (w : ℤ × ℤ) (n : ℤ) → compatible_ahead std.seconds dst.seconds w n
     ≡ (compatible_offset (Posix.ambiguous_ahead std dst w n)).seconds
@@ -88,10 +84,7 @@ ahead_is std dst w n =
   where
     by : (a b c : Bool) → (if a then std.seconds else (if b then std.seconds else dst.seconds))
         ≡ (compatible_offset (if a then Unambiguous std else (if b then Gap std dst else (if c then Fold dst std else Unambiguous dst)))).seconds
-    by true b c = refl
-    by false true c = refl
-    by false false true = refl
-    by false false false = refl
+    by a b c = grind (arith, nat_tests)
 
 compatible_is : (std dst : Offset) (w : ℤ × ℤ) (n : ℤ) → compatible_by std.seconds dst.seconds w n
     ≡ (compatible_offset (Posix.ambiguous_by std dst w n)).seconds
@@ -99,9 +92,7 @@ compatible_is std dst w n = by (int_lt dst.seconds std.seconds) (int_lt std.seco
   where
     by : (a b : Bool) → (if a then compatible_behind std.seconds dst.seconds w n else (if b then compatible_ahead std.seconds dst.seconds w n else std.seconds))
         ≡ (compatible_offset (if a then Posix.ambiguous_behind std dst w n else (if b then Posix.ambiguous_ahead std dst w n else Unambiguous std))).seconds
-    by true b = behind_is std dst w n
-    by false true = ahead_is std dst w n
-    by false false = refl
+    by a b = grind (arith, nat_tests, ahead_is, behind_is)
 
 pub rule_reading_is : (std : Offset) (dst : Option Dst) (dt : DateTime) (local : ℤ) → civil_nanos dt ≡ nanos_of_seconds local
     → rule_reading std.seconds (option_map dst_view dst) (nanos_of_seconds local) ≡ (compatible_offset (Posix.ambiguous_at_by std dst dt)).seconds
@@ -212,22 +203,12 @@ module _ (z : Tzif) where
 
 -- two flags, and two types, are the same
 is_flag-Decides : (a b : DstFlag) → Decides (is_flag a b) (a ≡ b)
-is_flag-Decides Yes Yes = (λ e. refl, λ e. refl)
-is_flag-Decides No No = (λ e. refl, λ e. refl)
-is_flag-Decides Yes No = (λ e. cc, λ e. cc)
-is_flag-Decides No Yes = (λ e. cc, λ e. cc)
+is_flag-Decides a b = grind (arith, nat_tests)
 
 -- the rule agrees with the last transition exactly if jiff's own test says so
 row_agrees : (rule : TimeZone) (row : TransitionText)
     → Decides (is_type (rule_type (tz_view rule) (nanos_of_seconds row.second)) row.after) (RowAgrees rule row)
-row_agrees rule row = rw (rule_type_is rule (nanos_of_seconds row.second)) (
-    let info = Posix.info_at rule (nanos_of_seconds row.second) in
-    let seconds = Decides-int_eq info.offset.seconds row.after.seconds in
-    let flag = is_flag-Decides info.dst row.after.dst in
-    let name = bytes_eq-Decides (abbreviation_text info.abbreviation) row.after.name in (
-      λ e. let parts = and_parts _ _ e in let more = and_parts _ _ parts.1 in (seconds.0 parts.0, flag.0 more.0, name.0 more.1),
-      λ h. rw (seconds.1 h.0, flag.1 h.1, name.1 h.2) refl,
-    ))
+row_agrees rule row = grind (arith, nat_tests, and_parts, bytes_eq-Decides, is_flag-Decides, rule_type_is)
 
 pub agrees_yes : (rule : TimeZone) (rows : List TransitionText) → FooterAgrees rows rule → agrees (Some (tz_view rule)) rows ≡ true
 agrees_yes rule rows h = by (length rows == 0) refl
@@ -242,9 +223,7 @@ pub agrees_no : (rule : TimeZone) (rows : List TransitionText) → (FooterAgrees
 agrees_no rule rows h = by (agrees (Some (tz_view rule)) rows) refl
   where
     holds : agrees (Some (tz_view rule)) rows ≡ true → FooterAgrees rows rule
-    holds e l =
-        let some : (length rows == 0) ≡ false = grind (arith, nat_tests) in
-        (row_agrees rule (get_or rows (length rows - 1) no_row)).0 (rw some at e)
+    holds e l = grind (arith, nat_tests, row_agrees)
 
     by : (b : Bool) → agrees (Some (tz_view rule)) rows ≡ b → b ≡ false
     by true e = absurd (h (holds e))

@@ -107,13 +107,7 @@ module _ (s : Onsets) (hours : Hours) (t : ℤ) (told : IsToldAt s hours t) (n :
   same_local = let is = told.is in omega (arith, ints, at, is)
 
   pub kept_told : b ≡ true → t ≤ℤ s.until → IsKeptAt s t
-  kept_told so by_end = to_kept s told.rule told.is_rule t (record {
-    local = told.local;
-    early = told.early;
-    kept = told.same ∙ (ap (keeps hours) (sym same_local) ∙ (sym test ∙ so));
-    is = told.is;
-    by_end = by_end;
-  })
+  kept_told so by_end = grind (arith, ints, same_local, to_kept)
 
   pub not_kept_told : b ≡ false → IsKeptAt s t → ⊥
   not_kept_told other h =

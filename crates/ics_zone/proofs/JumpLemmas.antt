@@ -155,10 +155,7 @@ module _ (zone : List ObservanceSaid) (facts : IsZone zone) (some : 0 < length z
         skipped (local -ℤ offset) (omega (arith, ints, same))
 
     less_or_more : (t : ℤ) → (shown (zone_offset zone) t <ℤ local) ⊎ (local <ℤ shown (zone_offset zone) t)
-    less_or_more t = elim (less_or_not_z (shown (zone_offset zone) t) local) [
-      | inl less ↦ inl less
-      | inr more ↦ elim (less_or_not_z local (shown (zone_offset zone) t)) [ inl l ↦ inr l | inr l ↦ absurd (skipped t (omega (arith, ints, more, l))) ]
-    ]
+    less_or_more t = grind (arith, ints, less_or_not_z)
 
     module _ (after next : ℤ) (earlier : (t : ℤ) → t ≤ℤ after → shown (zone_offset zone) t <ℤ local) (none : IsClear zone local after next) where
       not_past : (s : ℤ) → after <ℤ s → s <ℤ next → IsOffset zone s (zone_offset zone s) → local <ℤ shown (zone_offset zone) s → ⊥
@@ -247,10 +244,7 @@ shown_once {value = value} zone facts local steady low high =
 
 -- the measure of that search
 pub natural_less : (a b : ℤ) → pos 0 ≤ℤ a → a <ℤ b → natural a < natural b
-natural_less a b low less =
-    let x = natural-is a low in
-    let y = natural-is b (omega (arith, ints)) in
-    omega (arith, ints, x, y)
+natural_less a b low less = grind (arith, ints, natural-is)
 
 -- what a zone knows is of the observances that contracts see
 pub known_zone : {observances zone : List Observance} {onsets : List Onsets} {offsets : List ℤ} {held : List Steady}

@@ -2,7 +2,7 @@
 use Rattle.std.proofs.Common.{◌≡◌, ℕ, ◌<◌, ◌-◌, ◌⊎◌, inl, inr, sym, arith, List, length, get_or, Contains, ℤ, ◌<ℤ◌, ◌≤ℤ◌}
 use Rattle.std.proofs.lemmas.Bool.{cases_lt}
 use Rattle.std.specs.Int.{int_max}
-use Rattle.std.proofs.lemmas.Int.{ints, clamps}
+use Rattle.std.proofs.lemmas.Int.{ints}
 use Rattle.std.proofs.lemmas.List.{get_or_default}
 use Rattle.ics_zone.specs.Latest.{IsInOrder, IsPassed, IsLast}
 use Rattle.ics_zone.proofs.Cases.{less_or_not_z}
@@ -10,10 +10,7 @@ use Rattle.ics_zone.proofs.Cases.{less_or_not_z}
 module _ (list : List ℤ) (up : IsInOrder list) (t : ℤ) (k : ℕ) (passed : IsPassed list t k) where
   -- none of a list is passed, and its last that is
   pub none_listed : k ≡ 0 → (u : ℤ) → Contains list u → t <ℤ u
-  none_listed none u h =
-      let late = passed.later h.0 u (omega (arith, none)) h.1 in
-      let is = h.2 in
-      omega (arith, ints, late, is)
+  none_listed none u h = grind (arith, ints)
 
   pub last_listed : 0 < k → (s : ℤ) → s ≡ get_or list (k - 1) s → IsLast (Contains list) t s
   last_listed some s is =
@@ -46,56 +43,20 @@ module _ (list : List ℤ) (up : IsInOrder list) (t : ℤ) (k : ℕ) (passed : I
 
 -- the greater of two
 pub later_of : (a b m : ℤ) → m ≡ int_max a b → ((m ≡ a) × (b ≤ℤ m)) ⊎ ((m ≡ b) × (a ≤ℤ m))
-later_of a b m e = elim (less_or_not_z a b) [
-  | inl l ↦ inr (omega (arith, ints, clamps, e, l), omega (arith, ints, clamps, e, l))
-  | inr l ↦ inl (omega (arith, ints, clamps, e, l), omega (arith, ints, clamps, e, l))
-]
+later_of a b m e = grind (arith, ints, less_or_not_z)
 
 -- the last of two sets together
 module _ (a b : ℤ → Type 0) (t : ℤ) where
   pub last_of_both : (s u m : ℤ) → IsLast a t s → IsLast b t u → ((m ≡ s) × (u ≤ℤ m)) ⊎ ((m ≡ u) × (s ≤ℤ m)) → IsLast (λ v. a v ⊎ b v) t m
-  last_of_both s u m x y (inl w) = record {
-    is = inl (rw w.0 x.is);
-    not_after = let n = x.not_after in let e = w.0 in omega (arith, ints, n, e);
-    last = λ v h l. elim h [
-      | inl p ↦ (let n = x.last v p l in let e = w.0 in omega (arith, ints, n, e))
-      | inr p ↦ (let n = y.last v p l in let e = w.1 in omega (arith, ints, n, e))
-    ];
-  }
-  last_of_both s u m x y (inr w) = record {
-    is = inr (rw w.0 y.is);
-    not_after = let n = y.not_after in let e = w.0 in omega (arith, ints, n, e);
-    last = λ v h l. elim h [
-      | inl p ↦ (let n = x.last v p l in let e = w.1 in omega (arith, ints, n, e))
-      | inr p ↦ (let n = y.last v p l in let e = w.0 in omega (arith, ints, n, e))
-    ];
-  }
+  last_of_both s u m h l g = grind (arith, ints)
 
   pub last_of_first : (s : ℤ) → IsLast a t s → ((u : ℤ) → b u → t <ℤ u) → IsLast (λ v. a v ⊎ b v) t s
-  last_of_first s x none = record {
-    is = inl x.is;
-    not_after = x.not_after;
-    last = λ v h l. elim h [ inl p ↦ x.last v p l | inr p ↦ absurd (let late = none v p in omega (arith, ints, late, l)) ];
-  }
+  last_of_first s x none = grind (arith, ints)
 
   pub last_of_second : (s : ℤ) → ((u : ℤ) → a u → t <ℤ u) → IsLast b t s → IsLast (λ v. a v ⊎ b v) t s
-  last_of_second s none x = record {
-    is = inr x.is;
-    not_after = x.not_after;
-    last = λ v h l. elim h [ inr p ↦ x.last v p l | inl p ↦ absurd (let late = none v p in omega (arith, ints, late, l)) ];
-  }
+  last_of_second s none x = grind (arith, ints)
 
 -- the last of two sets together, where the second has none after an instant
 module _ (a b : ℤ → Type 0) (after t : ℤ) where
   pub first_after : (s : ℤ) → IsLast a t s → after <ℤ s → ((u : ℤ) → b u → u ≤ℤ t → u ≤ℤ after) → IsLast (λ v. a v ⊎ b v) t s
-  first_after s x late none = record {
-    is = inl x.is;
-    not_after = x.not_after;
-    last = λ v h l. elim h [ inl p ↦ x.last v p l | inr p ↦ (let out = none v p l in omega (arith, ints, out, late)) ];
-  }
-
--- the next of a list, or the limit
-module _ (list : List ℤ) (up : IsInOrder list) (t : ℤ) (k : ℕ) (passed : IsPassed list t k) where
-  pub none_left : k ≡ length list → (u : ℤ) → Contains list u → t <ℤ u → ⊥
-  none_left all u h l = let early = passed.before h.0 u (omega arith) (let in_list = h.1 in omega (arith, all, in_list)) in let at = h.2 in omega
-      (arith, ints, early, at, l)
+  first_after s x late none = grind (arith, ints)

@@ -1,5 +1,5 @@
 -- The list of the instants of DTSTART and of the RDATEs.
-use Rattle.std.proofs.Common.{◌≡◌, ℕ, zero, suc, ◌+◌, ◌-◌, ◌<◌, ◌≤◌, ◌⊎◌, inl, inr, Bool, true, false, ◌||◌, ◌==◌, refl, sym, ap, subst, ◌∙◌, arith, List, []}
+use Rattle.std.proofs.Common.{◌≡◌, ℕ, zero, suc, ◌+◌, ◌-◌, ◌<◌, ◌≤◌, ◌⊎◌, inl, inr, Bool, true, false, ◌||◌, ◌==◌, sym, ap, subst, ◌∙◌, arith, List, []}
 use Rattle.std.proofs.Common.{◌∷◌, ◌++◌, length, get_or, take, Contains, ℤ, ◌≤ℤ◌}
 use Rattle.std.proofs.lemmas.Bool.{or_cases, or_left, or_right}
 use Rattle.std.specs.List.{list_any}
@@ -29,24 +29,7 @@ pub record IsListedTo (p : ObservanceSaid) (rdates : List Local) (list : List �
 
 module _ (p : ObservanceSaid) where
   pub listed_first : (t : ℤ) → t ≡ instant_by p.offset_from (number p.start) → IsListedTo p [] (t ∷ [])
-  listed_first t is = record {
-    known = λ s h. (
-      number p.start,
-      (
-        sym (alone s h) ∙ is,
-        or_left (number p.start == number p.start) false
-            ((Decides-eqb (number p.start) (number p.start)).1 refl),
-      ),
-    );
-    complete = λ n e. elim (or_cases (n == number p.start) false e) [
-      | inl first ↦ (0, omega arith, (is ∙ ap (instant_by p.offset_from) (sym ((Decides-eqb n (number p.start)).0 first))))
-      | inr none ↦ absurd (not_both false none refl)
-    ];
-  }
-    where
-      alone : (s : ℤ) → Contains (t ∷ []) s → t ≡ s
-      alone s (zero, h, e) = e
-      alone s (suc k, h, e) = absurd (omega arith)
+  listed_first t is = grind (arith, ints, not_both, or_cases, or_left)
 
   pub listed_more : {x : Local} {old new : List ℤ} {t : ℤ} (i : ℕ) → i < length p.rdates → x ≡ get_or p.rdates i x
       → t ≡ instant_by p.offset_from (number x)

@@ -6,10 +6,7 @@ use Rattle.ics_zone.specs.ZoneOffsets.{IsNotLater, IsInForce, IsBeforeAll, IsOff
 
 -- two onsets neither of which is later are one
 same_place : (s t : ℤ) (i j : ℕ) → IsNotLater s i t j → IsNotLater t j s i → i ≡ j
-same_place s t i j (inl a) (inl b) = absurd (omega (arith, ints))
-same_place s t i j (inl a) (inr b) = absurd (omega (arith, ints, b.0))
-same_place s t i j (inr a) (inl b) = absurd (omega (arith, ints, a.0))
-same_place s t i j (inr a) (inr b) = omega (arith, a.1, b.1)
+same_place s t i j h l = grind (arith, ints)
 
 -- one place has one observance
 same_observance : {i j : ℕ} {p q : ObservanceSaid} (zone : List ObservanceSaid) → slice_get zone i ≡ Some p → slice_get zone j ≡ Some q → i ≡ j → p ≡ q

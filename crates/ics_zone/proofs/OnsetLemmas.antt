@@ -1,5 +1,5 @@
 -- Bounds of the onsets of a zone; the searches find the greatest and the least.
-use Rattle.std.proofs.Common.{◌≡◌, ◌≢◌, ℕ, ◌+◌, ◌<◌, ◌≤◌, inl, inr, Bool, true, false, refl, sym, ap, ◌∙◌, arith, List, [], ◌∷◌, length, Option, Some, None}
+use Rattle.std.proofs.Common.{◌≡◌, ◌≢◌, ℕ, ◌+◌, ◌<◌, ◌≤◌, inl, inr, Bool, true, refl, sym, ap, ◌∙◌, arith, List, [], ◌∷◌, length, Option, Some, None}
 use Rattle.std.proofs.Common.{slice_get, ℤ, pos, negsuc, ◌+ℤ◌, ◌*ℤ◌, ◌<ℤ◌, ◌≤ℤ◌}
 use Rattle.std.proofs.lemmas.Bool.{or_left}
 use Rattle.std.proofs.lemmas.Int.{ints}
@@ -18,9 +18,7 @@ use Rattle.ics_zone.proofs.Cases.{less_or_not_z, less_same_or_more}
 
 -- the seconds of a local from 1970-01-01 on, by its number
 pub number-seconds : (l : Local) → IsStampDay l.day → pos (number l) ≡ l.day *ℤ pos 86_400 +ℤ pos l.second +ℤ pos epoch
-number-seconds l h =
-    let parts = day_index_parts l.day (omega (arith, ints, h.0), omega (arith, ints, h.1)) in
-    omega (arith, ints, parts)
+number-seconds l h = grind (arith, ints, day_index_parts)
 
 pub natural-is : (z : ℤ) → pos 0 ≤ℤ z → pos (natural z) ≡ z
 natural-is (pos n) h = refl
@@ -71,10 +69,7 @@ some_is_not_none : (p : ObservanceSaid) → Some p ≡ None → ⊥
 some_is_not_none p e = cc
 
 if_onset-none : (o : Option ObservanceSaid) (t : ℤ) (p : ObservanceSaid) → o ≡ Some p → is_onset p t ≡ true → if_onset o t ≡ None → ⊥
-if_onset-none o t p e is none =
-    let there : elim (is_onset p t) [ true ↦ Some p | false ↦ None ] ≡ None = sym (ap (λ x. if_onset x t) e) ∙ none in
-    let given : Some p ≡ None = rw is at there in
-    some_is_not_none p given
+if_onset-none o t p e is none = grind (arith, ints, some_is_not_none)
 
 module _ (zone : List ObservanceSaid) (facts : IsZone zone) where
   -- the last and the first onset of an instant

@@ -1,6 +1,6 @@
 -- What a zone holds of its observances, one after another.
-use Rattle.std.proofs.Common.{◌≡◌, ℕ, ◌+◌, ◌-◌, ◌<◌, ◌≤◌, inl, inr, refl, sym, ap, subst, ◌∙◌, arith, List, [], ◌∷◌, ◌++◌, length, map, get_or, Some, Contains}
-use Rattle.std.proofs.Common.{slice_get, option_map, ℤ}
+use Rattle.std.proofs.Common.{◌≡◌, ℕ, ◌+◌, ◌-◌, ◌<◌, ◌≤◌, inl, inr, refl, sym, subst, arith, List, [], ◌∷◌, ◌++◌, length, map, get_or, Some, Contains}
+use Rattle.std.proofs.Common.{slice_get, ℤ}
 use Rattle.std.specs.List.{dedup}
 use Rattle.std.specs.List.Sorted.{IsPermutation}
 use Rattle.std.specs.Ordering.{int_eq}
@@ -29,11 +29,7 @@ HaveOffsetsTo observances count offsets = (i : ℕ) (p : ObservanceSaid) → i <
 
 module _ (observances : List Observance) (k : ℕ) (o : Observance) (inside : k < length observances) (at : o ≡ get_or observances k o) where
   observance_here : (i : ℕ) (p : ObservanceSaid) → i ≡ k → slice_get (map observance_said observances) i ≡ Some p → observance_said o ≡ p
-  observance_here i p same there =
-      let here = slice_get-map observance_said observances k
-      ∙ ap (option_map observance_said) (slice_get_read observances (length observances) k o refl inside at) in
-      let both : Some (observance_said o) ≡ Some p = sym here ∙ (ap (slice_get (map observance_said observances)) (sym same) ∙ there) in
-      cc
+  observance_here i p same there = grind (arith, slice_get-map, slice_get_read)
 
   pub onsets_more : (old new : List Onsets) (x : Onsets) → new ≡ old ++ x ∷ [] → AreOnsetsOf (observance_said o) x → AreOnsetsTo observances k old
       → AreOnsetsTo observances (k + 1) new
@@ -52,10 +48,7 @@ module _ (observances : List Observance) (k : ℕ) (o : Observance) (inside : k 
 
   offsets_more : (old new : List ℤ) → ((t : ℤ) → Contains old t → Contains new t) → Contains new o.offset_to → Contains new o.offset_from
       → HaveOffsetsTo observances k old → HaveOffsetsTo observances (k + 1) new
-  offsets_more old new kept to from before i p l there = elim (below_or_at i k (omega arith)) [
-    | inl less ↦ (let h = before i p less there in record { from = kept p.offset_from h.from; to = kept p.offset_to h.to })
-    | inr same ↦ subst (HasOffsets new) (observance_here i p same there) (record { from = from; to = to })
-  ]
+  offsets_more old new kept to from before i p l there = grind (arith, below_or_at, observance_here)
 
   -- both offsets of an observance more are pushed
   pub offsets_pushed : (old one new : List ℤ) → one ≡ old ++ o.offset_to ∷ [] → new ≡ one ++ o.offset_from ∷ []

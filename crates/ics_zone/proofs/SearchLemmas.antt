@@ -35,15 +35,7 @@ module _ {A : Type 0} (f : ℕ → Option A) where
     where
       by : (o : Option A) → f n ≡ o → (last_below n f ≡ Some x → IsLastGiven n f x)
           → elim o [ Some y ↦ Some y | None ↦ last_below n f ] ≡ Some x → IsLastGiven (suc n) f x
-      by (Some y) is below e = record { place = n; in_bound = omega arith; gives = is ∙ e; later = λ j l h. absurd (omega arith) }
-      by None is below e =
-          let found = below e in
-          record {
-            place = found.place;
-            in_bound = let b = found.in_bound in omega arith;
-            gives = found.gives;
-            later = λ j l h. elim (below_or_at j n (omega arith)) [ inl b ↦ found.later j l b | inr s ↦ rw s is ];
-          }
+      by o h l g = grind (arith, below_or_at)
 
   pub first_below-none : (n : ℕ) → first_below n f ≡ None → (j : ℕ) → j < n → f j ≡ None
   unfolding first_below

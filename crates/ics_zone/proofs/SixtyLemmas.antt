@@ -1,5 +1,5 @@
 -- The bits of a word of sixty seconds.
-use Rattle.std.proofs.Common.{◌≡◌, ◌≢◌, refl, max, ℕ, ◌+◌, ◌-◌, ◌*◌, ◌/◌, ◌%◌, ◌^◌, ◌<◌, ◌⊎◌, inl, inr, Bool, true, false, ◌==◌, ◌||◌, ◌&&◌, nat_lt, sym}
+use Rattle.std.proofs.Common.{◌≡◌, ◌≢◌, refl, max, ℕ, ◌+◌, ◌-◌, ◌*◌, ◌/◌, ◌%◌, ◌^◌, ◌<◌, Bool, true, false, ◌==◌, ◌||◌, ◌&&◌, nat_lt, sym}
 use Rattle.std.proofs.Common.{subst, ap, ◌∙◌, arith, w64, bit_or, bit_and, ℤ, ◌<ℤ◌}
 use Rattle.std.proofs.lemmas.Bool.{cases_lt, ltb-true, lt-ltb, le-ltb, and_parts}
 use Rattle.std.specs.Prelude.{int_lt}
@@ -23,10 +23,7 @@ bit_one s n h = grind (arith, nat_tests)
 
 -- the digits of a word that are below a size
 pub contains-first : (s k n : ℕ) → contains (s % 2 ^ k) n ≡ (nat_lt n k && contains s n)
-contains-first s k n = elim (cases_lt n k) [
-  | inl less ↦ contains-front s k n less ∙ sym (ap (λ b. b && contains s n) (lt-ltb n k less))
-  | inr more ↦ has_above (s % 2 ^ k) k n (omega (arith, pow_pos k)) more ∙ sym (ap (λ b. b && contains s n) (le-ltb n k more))
-]
+contains-first s k n = grind (arith, nat_tests, ints, cases_lt, contains-front, has_above, le-ltb, lt-ltb, pow_pos)
 
 -- a set with one number more, below a bound that is one more
 more_true : (m n : ℕ) → ((m == n) || (nat_lt m n && true)) ≡ (nat_lt m (n + 1) && true)
@@ -67,9 +64,7 @@ module _ (here next from first part : ℕ) (small : from < 60) (is_first : (n : 
       ∙ ap (λ x. max x (bit_at (part * 2 ^ (60 - from) + 0) n)) (ap (λ x. x % 2) (shr-shr first from n) ∙ ap (bit_at first) order)
 
   pub shifted_here : (n : ℕ) → n + from < 60 → contains (bit_or (first / 2 ^ from) (part * 2 ^ (60 - from) % 18446744073709551616)) n ≡ contains here (n + from)
-  shifted_here n low =
-      let none = bit_at_cat_low part (60 - from) 0 n (omega arith) ∙ bit_at-zero n in
-      ap (λ x. x == 1) (joined_bit n ∙ omega (arith, none)) ∙ is_first (n + from) ∙ ap (λ b. b && contains here (n + from)) (lt-ltb (n + from) 60 low)
+  shifted_here n low = grind (arith, nat_tests, ints, bit_at-zero, bit_at_cat_low, joined_bit, lt-ltb)
 
   pub shifted_next : (n m : ℕ) → m < from → n + from ≡ m + 60
       → contains (bit_or (first / 2 ^ from) (part * 2 ^ (60 - from) % 18446744073709551616)) n ≡ contains next m
@@ -108,23 +103,8 @@ module _ (word other rest : ℕ) (fits : other < 18446744073709551616)
 
 -- so many seconds of a minute
 pub first_seconds : (n size : ℕ) (at count : ℤ) → (n < size → at <ℤ count) → (at <ℤ count → n < size) → nat_lt n size ≡ int_lt at count
-first_seconds n size at count down up = elim (less_or_not_z at count) [
-  | inl less ↦ lt-ltb n size (up less) ∙ sym (true_int_lt at count less)
-  | inr more ↦ elim (cases_lt n size) [
-    | inl less ↦ absurd (let early = down less in omega (arith, ints, early, more))
-    | inr not_less ↦ le-ltb n size not_less ∙ sym (false_int_lt at count more)
-  ]
-]
+first_seconds n size at count down up = grind (arith, nat_tests, ints, cases_lt, false_int_lt, le-ltb, less_or_not_z, lt-ltb, more, true_int_lt)
 
 -- the digits of two words
 pub contains-or : (a b n : ℕ) → contains (bit_or a b) n ≡ (contains a n || contains b n)
-contains-or a b n = elim (bit_cases a n) [
-  | inl none ↦ ap (λ x. x == 1) (bit_at_or a b n ∙ omega (arith, none)) ∙ sym (ap (λ c. c || contains b n) (ap (λ x. x == 1) none))
-  | inr one ↦ (
-      let low = bit_at-lt b n in
-      let set : bit_at (bit_or a b) n ≡ 1 = bit_at_or a b n ∙ omega (arith, one, low) in
-      ap (λ x. x == 1) set ∙ sym (ap (λ c. c || contains b n) (ap (λ x. x == 1) one)))
-]
-  where
-    bit_cases : (s m : ℕ) → (bit_at s m ≡ 0) ⊎ (bit_at s m ≡ 1)
-    bit_cases s m = let low = bit_at-lt s m in grind (arith, nat_tests)
+contains-or a b n = grind (arith, nat_tests, ints, bit_at-lt, bit_at_or)
