@@ -35,15 +35,15 @@ impl<'a> Holding for Part<'a> {
 
     fn held(&self) -> usize {
         match self {
-            Part::Singles(singles) => Holding::held(singles),
-            Part::Series(series) => Holding::held(&**series),
+            Part::Singles(_) => 0,
+            Part::Series(series) => series.held(),
         }
     }
 
     fn steps(&self) -> u64 {
         match self {
-            Part::Singles(singles) => Holding::steps(singles),
-            Part::Series(series) => Holding::steps(&**series),
+            Part::Singles(_) => 0,
+            Part::Series(series) => series.steps(),
         }
     }
 }

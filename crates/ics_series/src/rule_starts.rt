@@ -1,5 +1,5 @@
 //! The starts that the rule of an event gives, read one UTC day at a time.
-ghost use Rattle.std.specs.Prelude.{◌≡◌, ◌<◌, ◌≤◌, ◌+◌, ◌<ℤ◌, ◌≤ℤ◌, ◌+ℤ◌, ◌-ℤ◌, ◌&&◌, pos, true, int_lt, Some};
+ghost use Rattle.std.specs.Prelude.{◌≡◌, ◌<◌, ◌≤◌, ◌+◌, ◌<ℤ◌, ◌≤ℤ◌, ◌+ℤ◌, ◌&&◌, pos, true, int_lt, Some};
 ghost use Rattle.std.specs.VecDeque.{deque_len, deque_capacity};
 ghost use Rattle.ics_fields.specs.Days.{IsDayNumber};
 ghost use Rattle.ics_rule.specs.Cursors.{place_of, IsCursorOf};
@@ -115,9 +115,7 @@ fn is_ready(day: i32, held: &VecDeque<Start>) -> bool
 
 impl<'a> RuleStarts<'a> {
     ghost use Rattle.std.specs.Prelude.{◌≡◌, ◌+◌, ◌-◌, ◌<◌, ◌≤ℤ◌, false, length, slice_get, IfOk, OnOk, Some};
-    ghost use Rattle.ics_rule.specs.Cursors.{looks_from, period_count, steps_of};
-    ghost use Rattle.ics_series.specs.HeldMost.{most_in_days};
-    ghost use Rattle.ics_series.specs.Listing.{IsIn};
+    ghost use Rattle.ics_rule.specs.Cursors.{steps_of};
     ghost use Rattle.ics_series.specs.Merged.{cut};
     ghost use Rattle.ics_series.specs.RuleFeed.{starts_left, HasSameSource};
     ghost use Rattle.ics_series.specs.RuleStarts.{bound_of, found, steps_left};
@@ -237,26 +235,16 @@ impl<'a> RuleStarts<'a> {
         }
     }
 
-    /// How many starts are held. They are in the five UTC days of which the fourth begins at the
-    /// midnight of `asked`, and no more than the event has in any five.
+    /// How many starts are held.
     pub(crate) fn held(&self) -> usize
-        ensures count { result ≡ length self.now.held.items }
-        ensures rise { Rises moment_cmp self.now.held.items }
-        ensures days { AreHeld (clocks_in self.now.zones) self.now.event.now self.now.rule self.now.window self.now.asked self.now.held.items }
-        ensures most { result ≤ most_in_days (clocks_in self.now.zones) self.now.event.now }
+        ensures { result ≡ length self.now.held.items }
     {
         self.held.len()
     }
 
-    /// How many periods of the rule were looked at: at most those that hold a local before the
-    /// midnight of `asked`, from the first on or, under COUNT, from DTSTART on. That midnight is no
-    /// more than three days past each start still to come, and less than three past the window's end.
+    /// How many periods of the rule were looked at.
     pub(crate) fn steps(&self) -> u64
-        ensures count { result ≡ steps_of self.now.cursor }
-        ensures most { result ≤ period_count self.now.rule (looks_from self.now.rule.parts.count (number self.now.rule.start) (number self.now.from))
-            (midnight_number self.now.asked) }
-        ensures near { (s : Start) → IsIn s (starts_left self.now) → (midnight self.now.asked -ℤ whole_days 3) ≤ℤ s.moment }
-        ensures end { midnight self.now.asked <ℤ (self.now.window.to +ℤ whole_days 3) }
+        ensures { result ≡ steps_of self.now.cursor }
     {
         self.cursor.steps()
     }

@@ -16,7 +16,6 @@ ghost use Rattle.ics_series.specs.FileZones.{clocks_in, IsOwnEvent};
 
 use crate::exclusion::{Exclusions, is_among};
 use crate::feed::{Coming, Feed};
-use crate::holding::Holding;
 use crate::listed::push_listed;
 use crate::listed_starts::ListedStarts;
 use crate::met::shown;
@@ -234,21 +233,24 @@ impl<'a> Coming for Series<'a> {
     ghost near_prop = { series_near-prop };
 }
 
-impl<'a> Holding for Series<'a> {
+impl<'a> Series<'a> {
+    ghost use Rattle.std.specs.Prelude.{length};
     ghost use Rattle.ics_series.specs.Holding.{rule_looked, series_holds};
 
-    ghost holds = { series_holds };
-
-    ghost looked = { λ series. rule_looked series.rule_starts };
-
-    fn held(&self) -> usize {
+    /// How many starts of its rule are held.
+    pub(crate) fn held(&self) -> usize
+        ensures { result ≡ length (series_holds self.now) }
+    {
         match &self.rule_starts {
             None => 0,
             Some(starts) => starts.held(),
         }
     }
 
-    fn steps(&self) -> u64 {
+    /// How many periods of its rule were looked at.
+    pub(crate) fn steps(&self) -> u64
+        ensures { result ≡ rule_looked self.now.rule_starts }
+    {
         match &self.rule_starts {
             None => 0,
             Some(starts) => starts.steps(),

@@ -17,7 +17,6 @@ ghost use Rattle.ics_series.specs.Versions.{seen, subject_cmp, subject_seen, Are
 use crate::agenda::{is_after, is_kept};
 use crate::chosen::overrides;
 use crate::feed::{Coming, Feed};
-use crate::holding::Holding;
 use crate::key::Key;
 use crate::occurrence::Occurrence;
 use crate::single::Single;
@@ -74,22 +73,6 @@ impl<'a> Coming for Singles<'a> {
     ghost near = { λ singles o. is_single o.event ≡ true };
 
     ghost near_prop = { λ singles o. single-prop o };
-}
-
-impl<'a> Holding for Singles<'a> {
-    ghost use Rattle.std.specs.Prelude.{[]};
-
-    ghost holds = { λ singles. [] };
-
-    ghost looked = { λ singles. 0 };
-
-    fn held(&self) -> usize {
-        0
-    }
-
-    fn steps(&self) -> u64 {
-        0
-    }
 }
 
 impl<'a> Feed<'a> for Singles<'a> {
