@@ -13,7 +13,7 @@ pub returns-then-is_to_come : goal.returns-then-is_to_come
 returns-then-is_to_come c =
     let files = map said_by c.args.files.now in
     let display = display_clock c.args.display.now in
-    let overrides = map seen c.args.overrides.now in
+    let chosen = map seen c.args.chosen.now in
     let after = option_map (λ key. key_rank key.now) c.args.after in
     let version = c.args.version.now in
     let single : is_single c.event-event.result.now ≡ true = sym c.is_single.ensures ∙ c.if-not-is_single.false in
@@ -22,15 +22,15 @@ returns-then-is_to_come c =
     c.event-event.result.now c.args.version.now.subject.recurrence =
     c.in_ok-single.ensures ∙ ap (λ clocks. begun_first clocks c.args.window.now c.event-event.result.now c.args.version.now.subject.recurrence)
     c.zones-zones.ensures.clocks in
-    gives-single files display c.args.window.now overrides after (seen version) c.event-event.result.now c.event-event.ensures.event
+    gives-single files display c.args.window.now chosen after (seen version) c.event-event.result.now c.event-event.ensures.event
     (single_entry c.in_ok-single.single) single begun
-    (ap (is_to_come c.args.window.now overrides after) (sym c.occurrence.ensures) ∙ (sym c.is_to_come.ensures ∙ c.if-is_to_come.true))
+    (ap (is_to_come c.args.window.now chosen after) (sym c.occurrence.ensures) ∙ (sym c.is_to_come.ensures ∙ c.if-is_to_come.true))
 
 pub returns-else-is_to_come : goal.returns-else-is_to_come
 returns-else-is_to_come c =
     let files = map said_by c.args.files.now in
     let display = display_clock c.args.display.now in
-    let overrides = map seen c.args.overrides.now in
+    let chosen = map seen c.args.chosen.now in
     let after = option_map (λ key. key_rank key.now) c.args.after in
     let version = c.args.version.now in
     let single : is_single c.event-event.result.now ≡ true = sym c.is_single.ensures ∙ c.if-not-is_single.false in
@@ -39,6 +39,6 @@ returns-else-is_to_come c =
     c.event-event.result.now c.args.version.now.subject.recurrence =
     c.in_ok-single.ensures ∙ ap (λ clocks. begun_first clocks c.args.window.now c.event-event.result.now c.args.version.now.subject.recurrence)
     c.zones-zones.ensures.clocks in
-    gives-none files display c.args.window.now overrides after (seen version) c.event-event.result.now c.event-event.ensures.event
+    gives-none files display c.args.window.now chosen after (seen version) c.event-event.result.now c.event-event.ensures.event
     (single_entry c.in_ok-single.single) single begun
-    (ap (is_to_come c.args.window.now overrides after) (sym c.occurrence.ensures) ∙ (sym c.is_to_come.ensures ∙ c.if-is_to_come.false))
+    (ap (is_to_come c.args.window.now chosen after) (sym c.occurrence.ensures) ∙ (sym c.is_to_come.ensures ∙ c.if-is_to_come.false))
