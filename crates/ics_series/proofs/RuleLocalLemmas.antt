@@ -22,7 +22,7 @@ use Rattle.ics_series.proofs.Cases.{equal-true, true-equal, some-same}
 use Rattle.ics_series.proofs.StartSourceLemmas.{calendar-day, own-day, rule-is, same-number}
 use Rattle.ics_series.proofs.KeptLemmas.{true-until, until-true}
 
-same-test : (p q : Bool) → (p ≡ true → q ≡ true) → (q ≡ true → p ≡ true) → p ≡ q
+pub same-test : (p q : Bool) → (p ≡ true → q ≡ true) → (q ≡ true → p ≡ true) → p ≡ q
 same-test true q f h = sym (f refl)
 same-test false true f h = h refl
 same-test false false f h = refl

@@ -2,7 +2,7 @@
 ghost use Rattle.std.specs.Prelude.{◌≡◌, IsTrue};
 ghost use Rattle.ics_fields.specs.Days.{IsDayNumber};
 ghost use Rattle.ics_series.specs.Clocks.{display_clock};
-ghost use Rattle.ics_series.specs.OnDays.{first_day, is_on, last_day};
+ghost use Rattle.ics_series.specs.OnDays.{is_on};
 ghost use Rattle.ics_series.specs.Entry.{entry_of};
 
 use crate::near_day::date_at;
@@ -10,7 +10,9 @@ use crate::occurrence::Occurrence;
 use crate::window::Window;
 use ics_zone::Display;
 
-/// Whether a day is one of those of an occurrence in a window.
+/// Whether a day is one of those of an occurrence in a window. They begin with that of the later of its
+/// start and the window's, and end with that of its last second before both its finish and the window's
+/// end, unless that is earlier. One of no length has the first alone.
 pub(crate) fn is_on(
     display: &Display,
     window: &Window,
@@ -20,29 +22,11 @@ pub(crate) fn is_on(
     ensures on { result ≡ is_on (display_clock display.now) window.now (entry_of occurrence.now) day }
     ensures within { IsTrue result → IsDayNumber day }
 {
-    let first = first_day(display, window, occurrence);
-    let last = last_day(display, window, occurrence);
-    (first <= day) & (day <= last)
-}
-
-// The first: that of the later of its start and the window's.
-fn first_day(display: &Display, window: &Window, occurrence: &Occurrence<'_>) -> i32
-    ensures day { result ≡ first_day (display_clock display.now) window.now (entry_of occurrence.now) }
-    ensures within { IsDayNumber result }
-{
-    date_at(display, occurrence.start.max(window.from))
-}
-
-// The last: that of its last second before both its finish and the window's end, or the first where
-// that is not before it. One of no length has the first alone.
-fn last_day(display: &Display, window: &Window, occurrence: &Occurrence<'_>) -> i32
-    ensures day { result ≡ last_day (display_clock display.now) window.now (entry_of occurrence.now) }
-    ensures within { IsDayNumber result }
-{
-    let first = first_day(display, window, occurrence);
+    let first = date_at(display, occurrence.start.max(window.from));
     if occurrence.finish == occurrence.start {
-        return first;
+        return day == first;
     }
     let end = occurrence.finish.min(window.to) - 1;
-    first.max(date_at(display, end))
+    let last = first.max(date_at(display, end));
+    (first <= day) & (day <= last)
 }

@@ -1,34 +1,117 @@
-use Rattle.std.specs.Prelude.{◌&&◌, Bool, IsTrue, true, false}
-use Rattle.std.proofs.Common.{ℤ, refl, arith, to_z, of_z, w32}
-use Rattle.std.proofs.lemmas.Int.{ints}
-use lib.Signed.{le_z}
-use Rattle.ics_fields.specs.Days.{IsDayNumber}
+use Rattle.std.specs.Prelude.{◌&&◌, ◌≤ℤ◌, int_le, if◌then◌else◌}
+use Rattle.std.proofs.Common.{◌≡◌, ℤ, pos, ◌-ℤ◌, true, false, nat_eq, rules, sym, ◌∙◌, ap, to_z, of_z, w32, w64, arith}
+use Rattle.std.specs.Int.{int_max, int_min}
+use Rattle.std.specs.Ordering.{int_eq}
+use Rattle.std.proofs.lemmas.Bool.{and_from, and_parts}
+use Rattle.std.proofs.lemmas.Int.{int_max_is, int_min_is, ints}
+use mir.Val.{SFits}
+use Rattle.ics_zone.proofs.Cases.{int_le_true, true_int_le}
+use Rattle.ics_series.specs.declared.window.Window.{Window}
+use Rattle.ics_series.specs.Clocks.{Clock, display_clock}
+use Rattle.ics_series.specs.OnDays.{date_at, end_day, first_day, is_on, last_day}
+use Rattle.ics_series.specs.Entry.{Entry, entry_of}
+use Rattle.ics_series.specs.WindowBounds.{occurrence_first}
+use Rattle.ics_series.proofs.Cases.{equal-true, true-equal}
+use Rattle.ics_series.proofs.RuleLocalLemmas.{same-test}
 use Rattle.ics_series.proofs.occurrence_days.is_on.Goals as goal
 
-left : (a b : Bool) → IsTrue (a && b) → IsTrue a
-left true b h = refl
-left false b h = h
+same-value : (a b : ℤ) → SFits w32 a → SFits w32 b → nat_eq (of_z w32 a) (of_z w32 b) ≡ int_eq a b
+same-value a b f g = search rules
 
-right : (a b : Bool) → IsTrue (a && b) → IsTrue b
-right true b h = h
-right false true h = refl
-right false false h = h
+both : (a b : ℤ) → int_eq a b ≡ (int_le b a && int_le a b)
+both a b =
+    same-test (int_eq a b) (int_le b a && int_le a b)
+    (λ e. let s = equal-true a b e in
+    and_from (int_le b a) (int_le a b) (true_int_le b a (omega (arith, ints, s))) (true_int_le a b (omega (arith, ints, s))))
+    (λ e. let p = and_parts (int_le b a) (int_le a b) e in
+    let l = int_le_true b a p.0 in
+    let m = int_le_true a b p.1 in
+    true-equal a b (omega (arith, ints, l, m)))
 
--- a day between two days of the years 0000 to 9999 is one of those years
-between : (first day last : ℤ) → IsDayNumber first → IsDayNumber last → IsTrue (le_z first day && le_z day last) → IsDayNumber day
-between first day last f l both =
-    let low = left (le_z first day) (le_z day last) both in
-    let high = right (le_z first day) (le_z day last) both in
-    (omega (arith, ints, low, f.0), omega (arith, ints, high, l.1))
+-- an occurrence of no length has one day
+one-day : (clock : Clock) (w : Window) (o : Entry) (day first : ℤ) → int_eq o.finish o.start ≡ true → first ≡ first_day clock w o →
+    int_eq day first ≡ is_on clock w o day
+one-day clock w o day first e f =
+    both day first
+    ∙ ((λ i. int_le (f i) day && int_le day (f i))
+    ∙ ap (λ b. int_le (first_day clock w o) day
+    && int_le day (if b then first_day clock w o else int_max (first_day clock w o) (end_day clock w o))) (sym e))
+
+pub returns-then-occurrence-clause-on : goal.returns-then-occurrence-clause-on
+returns-then-occurrence-clause-on c =
+    let o = c.args.occurrence.now in
+    let fits : SFits w32 c.date_at-first.result = search rules in
+    let once : nat_eq (of_z w32 c.args.day) (of_z w32 c.date_at-first.result) ≡ int_eq c.args.day c.date_at-first.result =
+    same-value c.args.day c.date_at-first.result c.ranges.day fits in
+    let none : int_eq o.finish o.start ≡ true = grind (arith, ints, c.if-occurrence.true) in
+    let first : c.date_at-first.result ≡ first_day (display_clock c.args.display.now) c.args.window.now (entry_of c.args.occurrence.now) = search rules in
+    once ∙ one-day (display_clock c.args.display.now) c.args.window.now (entry_of o) c.args.day c.date_at-first.result none first
+
+pub returns-then-occurrence-clause-within : goal.returns-then-occurrence-clause-within
+returns-then-occurrence-clause-within c = λ is.
+    let fits : SFits w32 c.date_at-first.result = search rules in
+    let once : nat_eq (of_z w32 c.args.day) (of_z w32 c.date_at-first.result) ≡ int_eq c.args.day c.date_at-first.result =
+    same-value c.args.day c.date_at-first.result c.ranges.day fits in
+    let same = equal-true c.args.day c.date_at-first.result (sym once ∙ is) in
+    let first = c.date_at-first.ensures.within in
+    (omega (arith, ints, same, first.0), omega (arith, ints, same, first.1))
+
+pub overflow_sub-end : goal.overflow_sub-end
+overflow_sub-end c =
+    let o = c.args.occurrence.now in
+    let w = c.args.window.now in
+    omega (arith, ints, int_min_is, c.min-end.ensures.value, c.min-end.type_inv, o.not_early, o.forward, w.ordered, w.not_early)
+
+pub date_at-requires : goal.date_at-requires
+date_at-requires c =
+    let o = c.args.occurrence.now in
+    let w = c.args.window.now in
+    record {
+      early = omega (arith, ints, int_min_is, c.min-end.ensures.value, c.min-end.type_inv, o.not_early, o.forward, w.ordered, w.not_early);
+      late = omega (arith, ints, int_min_is, c.min-end.ensures.value, c.min-end.type_inv, o.not_early, o.forward, o.not_late, w.ordered, w.not_early);
+    }
+
+pub returns-clause-on : goal.returns-clause-on
+returns-clause-on c =
+    let o = c.args.occurrence.now in
+    let w = c.args.window.now in
+    let clock = display_clock c.args.display.now in
+    let apart : int_eq o.finish o.start ≡ false = grind (arith, ints, c.if-occurrence.false) in
+    let min-is : c.min-end.result ≡ int_min o.finish w.to =
+    omega (arith, ints, int_min_is, int_min_is o.finish w.to, c.min-end.ensures.value, c.min-end.type_inv) in
+    let low : occurrence_first ≤ℤ c.min-end.result =
+    omega (arith, ints, int_min_is, c.min-end.ensures.value, o.not_early, o.forward, w.ordered, w.not_early) in
+    let at : to_z w64 (of_z w64 (to_z w64 (of_z w64 c.min-end.result) -ℤ pos 1)) ≡ int_min o.finish w.to -ℤ pos 1 =
+    omega (arith, ints, c.min-end.type_inv, low, min-is) in
+    let end : c.date_at.result ≡ end_day (display_clock c.args.display.now) c.args.window.now (entry_of c.args.occurrence.now) =
+    c.date_at.ensures.day ∙ ap (date_at (display_clock c.args.display.now)) at in
+    let start : c.date_at-first.result ≡ first_day (display_clock c.args.display.now) c.args.window.now (entry_of c.args.occurrence.now) = search rules in
+    let first : to_z w32 (of_z w32 c.date_at-first.result) ≡ first_day clock w (entry_of o) = omega (arith, ints, c.date_at-first.type_inv, start) in
+    let day : to_z w32 (of_z w32 c.args.day) ≡ c.args.day = omega (arith, ints, c.ranges.day) in
+    let greater : to_z w32 (of_z w32 c.max-last.result) ≡ int_max (first_day clock w (entry_of o)) (end_day clock w (entry_of o)) = omega (
+      arith,
+      ints,
+      int_max_is,
+      int_max_is (first_day clock w (entry_of o)) (end_day clock w (entry_of o)),
+      c.max-last.ensures.value,
+      c.max-last.type_inv,
+      first,
+      end,
+      c.date_at.type_inv,
+    ) in
+    let last : to_z w32 (of_z w32 c.max-last.result) ≡ last_day clock w (entry_of o) =
+    greater ∙ ap (λ b. if b then first_day clock w (entry_of o) else int_max (first_day clock w (entry_of o)) (end_day clock w (entry_of o))) (sym apart) in
+    λ i. int_le (first i) (day i) && int_le (day i) (last i)
 
 pub returns-clause-within : goal.returns-clause-within
-returns-clause-within c = λ both.
-    let first : ℤ = to_z w32 (of_z w32 c.first_day-first.result) in
-    let day : ℤ = to_z w32 (of_z w32 c.args.day) in
-    let last : ℤ = to_z w32 (of_z w32 c.last_day-last.result) in
-    let low = c.first_day-first.ensures.within in
-    let high = c.last_day-last.ensures.within in
-    let f : IsDayNumber first = (omega (arith, ints, low.0, c.first_day-first.type_inv), omega (arith, ints, low.1, c.first_day-first.type_inv)) in
-    let l : IsDayNumber last = (omega (arith, ints, high.0, c.last_day-last.type_inv), omega (arith, ints, high.1, c.last_day-last.type_inv)) in
-    let within : IsDayNumber day = between first day last f l both in
-    (omega (arith, ints, within.0, c.ranges.day), omega (arith, ints, within.1, c.ranges.day))
+returns-clause-within c = λ is.
+    let first = c.date_at-first.ensures.within in
+    let end = c.date_at.ensures.within in
+    let parts = and_parts (int_le (to_z w32 (of_z w32 c.date_at-first.result)) (to_z w32 (of_z w32 c.args.day)))
+    (int_le (to_z w32 (of_z w32 c.args.day)) (to_z w32 (of_z w32 c.max-last.result))) is in
+    let low = int_le_true (to_z w32 (of_z w32 c.date_at-first.result)) (to_z w32 (of_z w32 c.args.day)) parts.0 in
+    let high = int_le_true (to_z w32 (of_z w32 c.args.day)) (to_z w32 (of_z w32 c.max-last.result)) parts.1 in (
+      omega (arith, ints, first.0, low, c.date_at-first.type_inv, c.ranges.day),
+      omega
+          (arith, ints, int_max_is, first.1, end.1, high, c.max-last.ensures.value, c.max-last.type_inv, c.date_at-first.type_inv, c.date_at.type_inv, c.ranges.day),
+    )
