@@ -119,7 +119,7 @@ record HasFirst (zs : List Start) (x : Start) : Type 0 where
   same : first.moment ≡ x.moment
   earlier : is_gt (start_cmp first x) ≡ false
 
-at-true : (last : Option ℤ) (t : ℤ) → option_eq int_eq last (Some t) ≡ true → last ≡ Some t
+pub at-true : (last : Option ℤ) (t : ℤ) → option_eq int_eq last (Some t) ≡ true → last ≡ Some t
 at-true None t e = let f : false ≡ true = e in absurd cc
 at-true (Some u) t e = ap Some (equal-true u t e)
 

@@ -1,6 +1,7 @@
 -- One step of reading the starts of a rule: a kept local more, or none up to a bound.
 use Rattle.std.specs.Prelude.{◌≤ℤ◌, ◌<ℤ◌, slice_get}
-use Rattle.std.proofs.Common.{◌≡◌, ℕ, ◌+◌, ◌<◌, ◌≤◌, max, ℤ, pos, ◌+ℤ◌, ◌-ℤ◌, true, false, List, length, ⊎_elim, sym, ◌∙◌, ap, subst, arith}
+use lib.Signed.{mag}
+use Rattle.std.proofs.Common.{◌≡◌, ℕ, ◌+◌, ◌<◌, ◌≤◌, w32, to_z, of_z, max, ℤ, pos, ◌+ℤ◌, ◌-ℤ◌, true, false, List, length, ⊎_elim, sym, ◌∙◌, ap, subst, arith}
 use Rattle.std.proofs.lemmas.Int.{ints}
 use Rattle.ics_fields.specs.Days.{IsDayNumber}
 use Rattle.ics_fields.specs.declared.local.Local.{Local}
@@ -24,6 +25,10 @@ use Rattle.ics_series.proofs.RuleLocalLemmas.{numbered-number}
 use Rattle.ics_series.proofs.RuleReadLemmas.{behind-early, bound-late, bound-later, held-in, held-on, is-held, rises-held}
 use Rattle.ics_series.proofs.RuleStartLemmas.{come-none, come-one}
 use Rattle.ics_rule.specs.PeriodNumbers.{rules_end}
+
+-- a number that fits in an i32 is read back
+pub signed-back : (x y : ℤ) → mag x < 2_147_483_648 → x ≡ y → to_z w32 (of_z w32 x) ≡ y
+signed-back x y l e = omega (arith, ints)
 
 module _ (s : RuleStarts) where
   pub day-days : IsDayNumber s.day

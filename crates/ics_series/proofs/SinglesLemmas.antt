@@ -26,7 +26,7 @@ use Rattle.ics_series.specs.EntryLaws.{entry_total}
 use Rattle.ics_series.specs.Exclusions.{excludes}
 use Rattle.ics_series.specs.Finish.{finish}
 use Rattle.ics_series.specs.Listing.{IsIn, IsListing}
-use Rattle.ics_series.specs.Meeting.{is_met}
+use Rattle.ics_series.specs.Meeting.{is_met, is_under_way}
 use Rattle.ics_series.specs.Overridden.{is_kept}
 use Rattle.ics_series.specs.After.{is_after}
 use Rattle.ics_series.specs.Occurs.{IsInstance}
@@ -82,6 +82,23 @@ module _ (files : List FileSaid) (display : Clock) (w : Window) (chosen : List L
   pub gives-none : (o : Entry) → is_single event ≡ true → Some o ≡ begun_first label_clocks w event label.subject.recurrence →
       is_to_come w chosen after o ≡ false → None ≡ single_at files display w chosen after label
   gives-none o s b c = let is = begun-is o b in sym (by-test true false s (ap (is_to_come w chosen after) (sym is) ∙ c))
+
+  pub gives-other : is_single event ≡ false → None ≡ single_at files display w chosen after label
+  gives-other s = sym (by-test false (is_to_come w chosen after label_first) s refl)
+
+  pub gives-late : None ≡ begun_first label_clocks w event label.subject.recurrence → None ≡ single_at files display w chosen after label
+  gives-late = by (int_lt (instant label_clocks event.start) w.to) refl
+    where
+      unless : (s : Bool) → (if s && false then Some label_first else None) ≡ None
+      unless true = refl
+      unless false = refl
+
+      by : (b : Bool) → int_lt (instant label_clocks event.start) w.to ≡ b → None ≡ (if b then Some label_first else None) →
+          None ≡ single_at files display w chosen after label
+      by true e n = let f : None ≡ Some label_first = n in absurd cc
+      by false e n =
+          let late = ap (λ b. ((b && is_under_way w label_first.start label_first.finish) && is_after after label_first) && is_kept chosen label_first) e in
+          sym (by-test (is_single event) false refl late ∙ unless (is_single event))
 
 -- An event that starts once, and is no override.
 module _ (clocks : Clocks) (event : Event) (rule : event.rule ≡ None) (rdates : event.rdates ≡ []) (exdates : event.exdates ≡ []) where

@@ -46,6 +46,11 @@ head_total = record {
 pub lead_total : (heads : List (Option Entry)) → IsTotalOrder (lead_cmp heads)
 lead_total heads = then_total (on_total (λ lead. slice_index_or heads lead None) head_total) nat_cmp_total
 
+-- by what two leads hold
+pub lead-by : (heads : List (Option Entry)) (one other : ℕ) {a b : Option Entry} → get_or heads one None ≡ a → get_or heads other None ≡ b →
+    lead_cmp heads one other ≡ ordering_then (head_cmp a b) (nat_cmp one other)
+lead-by heads one other e f = λ i. ordering_then (head_cmp (e i) (f i)) (nat_cmp one other)
+
 -- neither of two goes before the one that goes first
 module _ (heads : List (Option Entry)) (a b : ℕ) where
   first_by : (c : Ordering) → lead_cmp heads a b ≡ c

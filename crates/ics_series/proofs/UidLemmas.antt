@@ -69,8 +69,8 @@ module _ {X : Type 0} (head : X → Option Occurrence) (rest : X → List Entry)
   head-in (x ∷ xs) (suc i) a e = head-in xs i a e
 
   -- what is held at a place
-  pub held-at : (xs : List X) (i : ℕ) {x : X} {o : Occurrence} → i < length xs → x ≡ get_or xs i x → head x ≡ Some o →
-      get_or (map (λ y. option_map entry_of (head y)) xs) i None ≡ Some (entry_of o)
+  pub held-at : (xs : List X) (i : ℕ) {x : X} {o : Option Occurrence} → i < length xs → x ≡ get_or xs i x → head x ≡ o →
+      get_or (map (λ y. option_map entry_of (head y)) xs) i None ≡ option_map entry_of o
   held-at xs i {x = x} l read e =
       get_or-map (λ y. option_map entry_of (head y)) xs i x None l ∙ (sym (ap (λ y. option_map entry_of (head y)) read) ∙ ap (option_map entry_of) e)
 

@@ -31,9 +31,10 @@ fn last_of_each<'a>(alloc: Global, versions: &[Version<'a>]) -> Result<Vec<Versi
 {
     let mut last = Vec::new(alloc);
     for (k, version) in versions.iter().enumerate() {
-        if !is_followed(version, &versions[k + 1..]) {
-            last.push(*version)?;
+        if is_followed(version, &versions[k + 1..]) {
+            continue;
         }
+        last.push(*version)?;
     }
     Ok(last)
 }

@@ -181,7 +181,6 @@ impl<'a> Days<'a> {
         ensures day { OnOk result (self.new.day ≡ self.old.day +ℤ pos 1) }
         ensures scope { scope_of self.new ≡ scope_of self.old }
         ensures window { self.new.window ≡ self.old.window }
-        ensures looked { OnOk result (self.new.looked ≡ min (self.old.looked + agenda_looked self.old.agenda) (2 ^ 64 - 1)) }
         ensures counted { self.old.looked ≤ self.new.looked }
         ensures ahead { (list : List OnDay) → IsAhead self.old list → IsAhead self.new list }
     {

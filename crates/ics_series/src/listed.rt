@@ -26,13 +26,14 @@ pub(crate) fn push_listed(
 {
     for (place, rdate) in event.rdates.iter().enumerate() {
         let given = given_by(event.start, *rdate);
-        if !is_past(time_of(given), window) {
-            starts.push(Start {
-                moment: instant(zones, time_of(given)),
-                source: StartSource::Listed(place),
-                given,
-            })?;
+        if is_past(time_of(given), window) {
+            continue;
         }
+        starts.push(Start {
+            moment: instant(zones, time_of(given)),
+            source: StartSource::Listed(place),
+            given,
+        })?;
     }
     Ok(())
 }

@@ -101,9 +101,10 @@ fn to_come<'a>(
 {
     let mut singles = Vec::new(alloc);
     for version in chosen {
-        if let Some(single) = given(files, display, version, chosen, window, after) {
-            singles.push(single)?;
-        }
+        let Some(single) = given(files, display, version, chosen, window, after) else {
+            continue;
+        };
+        singles.push(single)?;
     }
     Ok(singles)
 }

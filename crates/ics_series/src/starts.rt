@@ -114,9 +114,10 @@ pub(crate) fn firsts(alloc: Global, starts: &[Start]) -> Result<Vec<Start>, Allo
     let mut firsts = Vec::new(alloc);
     let mut last = None;
     for start in starts {
-        if last != Some(start.moment) {
-            firsts.push(*start)?;
+        if last == Some(start.moment) {
+            continue;
         }
+        firsts.push(*start)?;
         last = Some(start.moment);
     }
     Ok(firsts)

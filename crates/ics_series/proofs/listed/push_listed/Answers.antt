@@ -18,5 +18,5 @@ instant-requires c =
     subst (λ (xs : List Rdate). slice_get xs c.loop-place.place ≡ Some r) items
     (slice_get_read c.deref-rdate-items.result.now (length c.deref-rdate-items.result.now) c.loop-place.place r refl c.loop-place-test.true c.rdate-item.is) in
     let given : c.given_by-given.result ≡ given_by event.start r = c.given_by-given.ensures ∙ ap (λ (v : Event). given_by v.start r) c.event.view_is in
-    subst (IsTimeOf c.args.zones.zones.now) (sym (c.time_of-then-not-is_past.ensures ∙ ap time_of given))
+    subst (IsTimeOf c.args.zones.zones.now) (sym (c.time_of-in-loop-place.ensures ∙ ap time_of given))
     (given-time c.args.zones event (Listed c.loop-place.place) (given_by event.start r) c.requires (r, there, refl))

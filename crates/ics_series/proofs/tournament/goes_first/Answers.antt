@@ -1,6 +1,7 @@
 use Rattle.std.proofs.Common.{ap, map, ◌∙◌}
 use Rattle.std.specs.Option.{option_map}
 use Rattle.ics_series.specs.Entry.{entry_of}
+use Rattle.ics_series.proofs.TournamentLemmas.{lead-by}
 use Rattle.ics_series.proofs.UidLemmas.{head-order, held-at}
 use Rattle.ics_series.proofs.tournament.goes_first.Goals as goal
 
@@ -14,3 +15,14 @@ compare-requires g c =
     (held-at (λ x. x.head) (λ x. g.F.Coming.coming x.feed) leads c.args.other c.requires.other c.index-leads-other.is
     (ap (λ x. x.head) c.index-leads-other.is ∙ arm.is-1))
     c.order_by_place-uids.ensures
+
+pub returns-in-Some-Some : goal.returns-in-Some-Some
+returns-in-Some-Some g c =
+    let leads = c.args.leads.now in
+    let arm = c.in-Some-Some in
+    let by = lead-by (map (λ x. option_map entry_of x.head) leads) c.args.one c.args.other
+    (held-at (λ x. x.head) (λ x. g.F.Coming.coming x.feed) leads c.args.one c.requires.one c.index-leads-one.is
+    (ap (λ x. x.head) c.index-leads-one.is ∙ arm.is-0))
+    (held-at (λ x. x.head) (λ x. g.F.Coming.coming x.feed) leads c.args.other c.requires.other c.index-leads-other.is
+    (ap (λ x. x.head) c.index-leads-other.is ∙ arm.is-1)) in
+    cc (by, c.compare.ensures, c.cmp.ensures, c.then.ensures, c.is_lt.ensures)

@@ -73,3 +73,39 @@ returns-in-Some-2-clause-ok c = λ list a.
     (c.in_ok-next_today.ensures.ok list (c.loop-day.invariant.ahead list a)) in
     let fits : to_z w32 (of_z w32 c.next_today-2.new.self.day) ≡ c.next_today-2.new.self.day = search rules in
     (gives.0, gives.2 ∙ ap (λ d. on_day d (entry_of c.in-Some-2.occurrence) ∷ gives.0) (sym fits), gives.1)
+
+pub returns-in_err-occurrence-clause-scope : goal.returns-in_err-occurrence-clause-scope
+returns-in_err-occurrence-clause-scope c = c.next_today.ensures.scope ∙ c.loop-day.invariant.scope
+
+pub returns-in_err-occurrence-clause-looked : goal.returns-in_err-occurrence-clause-looked
+returns-in_err-occurrence-clause-looked c = omega (arith, c.next_today.ensures.looked, c.loop-day.invariant.looked)
+
+pub returns-in-Some-clause-scope : goal.returns-in-Some-clause-scope
+returns-in-Some-clause-scope c = c.next_today.ensures.scope ∙ c.loop-day.invariant.scope
+
+pub returns-in-Some-clause-looked : goal.returns-in-Some-clause-looked
+returns-in-Some-clause-looked c = omega (arith, c.next_today.ensures.looked, c.loop-day.invariant.looked)
+
+pub returns-in_err-turn-clause-scope : goal.returns-in_err-turn-clause-scope
+returns-in_err-turn-clause-scope c = c.turn.ensures.scope ∙ (c.next_today.ensures.scope ∙ c.loop-day.invariant.scope)
+
+pub returns-in_err-turn-clause-looked : goal.returns-in_err-turn-clause-looked
+returns-in_err-turn-clause-looked c = omega (arith, c.turn.ensures.counted, c.next_today.ensures.looked, c.loop-day.invariant.looked)
+
+pub returns-in_err-next_today-clause-scope : goal.returns-in_err-next_today-clause-scope
+returns-in_err-next_today-clause-scope c = c.next_today-2.ensures.scope ∙ c.loop-day.invariant.scope
+
+pub returns-in_err-next_today-clause-looked : goal.returns-in_err-next_today-clause-looked
+returns-in_err-next_today-clause-looked c = omega (arith, c.next_today-2.ensures.looked, c.loop-day.invariant.looked)
+
+pub returns-in-None-clause-scope : goal.returns-in-None-clause-scope
+returns-in-None-clause-scope c = c.next_today-2.ensures.scope ∙ c.loop-day.invariant.scope
+
+pub returns-in-None-clause-looked : goal.returns-in-None-clause-looked
+returns-in-None-clause-looked c = omega (arith, c.next_today-2.ensures.looked, c.loop-day.invariant.looked)
+
+pub returns-in-Some-2-clause-scope : goal.returns-in-Some-2-clause-scope
+returns-in-Some-2-clause-scope c = c.next_today-2.ensures.scope ∙ c.loop-day.invariant.scope
+
+pub returns-in-Some-2-clause-looked : goal.returns-in-Some-2-clause-looked
+returns-in-Some-2-clause-looked c = omega (arith, c.next_today-2.ensures.looked, c.loop-day.invariant.looked)

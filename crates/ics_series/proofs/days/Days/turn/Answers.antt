@@ -15,6 +15,24 @@ use Rattle.ics_series.proofs.DayStepLemmas.{from-later, looked-next}
 use Rattle.ics_series.proofs.MasterSumLemmas.{searched-masters}
 use Rattle.ics_series.proofs.days.Days.turn.Goals as goal
 
+pub overflow_add-day : goal.overflow_add-day
+overflow_add-day c =
+    let self = c.args.self.now in
+    let w = self.window in
+    let more = c.requires.more in
+    let within = day-within w self.day self.not_before (omega (arith, ints, more)) in
+    omega (arith, ints, within.0, within.1, w.not_early, w.not_late)
+
+pub near_day-near-requires : goal.near_day-near-requires
+near_day-near-requires c =
+    let self = c.args.self.now in
+    let w = self.window in
+    let more = c.requires.more in
+    let within = day-within w self.day self.not_before (omega (arith, ints, more)) in
+    let next : to_z w32 (of_z w32 (to_z w32 (of_z w32 c.args.self.now.day) +ℤ pos 1)) ≡ c.args.self.now.day +ℤ pos 1 =
+    omega (arith, ints, within.0, within.1, w.not_early, w.not_late) in
+    record { first = omega (arith, ints, next, self.not_before); last = omega (arith, ints, next, more) }
+
 pub invariant_of-drop : goal.invariant_of-drop
 invariant_of-drop c =
     let self = c.args.self.now in

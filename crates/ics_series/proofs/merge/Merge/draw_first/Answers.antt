@@ -1,14 +1,22 @@
-use Rattle.std.proofs.Common.{◌≡◌, ◌+◌, ◌<◌, ◌++◌, All, length, map, set, take, drop, ap, sym, subst, ◌∙◌, length-set}
+use Rattle.std.proofs.Common.{◌≡◌, ◌+◌, ◌<◌, ◌++◌, All, length, map, set, take, drop, ap, arith, sym, subst, ◌∙◌, length-set}
 use Rattle.std.specs.Option.{option_map}
+use Rattle.std.proofs.lemmas.List.{length-map}
 use Rattle.ics_series.specs.Entry.{entry_cmp, entry_of}
 use Rattle.ics_series.specs.Leads.{listed, ComeAfter}
 use Rattle.ics_series.specs.Merged.{merged}
 use Rattle.ics_series.specs.Tournament.{above, winner, AreSettled, AreSettledBut}
 use Rattle.ics_series.specs.Uids.{AreHeadsSorted}
-use Rattle.ics_series.proofs.LeadLemmas.{fewer-drawn, given-read, heads-kept, settled-drawn, to_come-drawn, to_come-kept, written-back}
+use Rattle.ics_series.proofs.LeadLemmas.{fewer-drawn, given-read, given-within, heads-kept, settled-drawn, to_come-drawn, to_come-kept, written-back}
 use Rattle.ics_series.proofs.LeadNearLemmas.{flat-set, near-drawn, near-kept}
 use Rattle.ics_series.proofs.UidLemmas.{fewer-drawn-in, fewer-kept-in, fewer-last, fewer-sorted, heads-sorted}
 use Rattle.ics_series.proofs.merge.Merge.draw_first.Goals as goal
+
+pub index_mut-requires : goal.index_mut-requires
+index_mut-requires g c =
+    let self = c.args.self.now in
+    let within = given-within self.last (map (λ x. option_map entry_of x.head) self.leads.items) (winner self.winners.items 1) c.requires in
+    let is = c.winner-lead.ensures ∙ ap (λ ws. winner ws 1) c.deref.ensures.value in
+    omega (arith, within, is, length-map self.leads.items (λ x. option_map entry_of x.head))
 
 pub invariant_of-self : goal.invariant_of-self
 invariant_of-self g c =

@@ -6,9 +6,10 @@ use Rattle.std.proofs.lemmas.Iterator.Consumers.{YieldsList-end}
 use Rattle.std.proofs.lemmas.List.{map-append}
 use Rattle.std.proofs.lemmas.List.Concat.{flat_map-append}
 use Rattle.ics_series.specs.declared.occurrence.Occurrence.{Occurrence}
-use Rattle.ics_series.specs.Entry.{entry_of, Entry, Gives}
+use Rattle.ics_series.specs.Entry.{entry_cmp, entry_of, Entry, Gives}
 use Rattle.ics_series.specs.Leads.{listed, AreNear}
 use Rattle.ics_series.specs.Listing.{IsIn}
+use Rattle.ics_series.specs.Merged.{merged}
 use Rattle.ics_series.specs.Tournament.{AreSettled}
 use Rattle.ics_series.specs.Uids.{AreHeadsSorted, AreSortedFrom}
 use Rattle.ics_series.proofs.LeadNearLemmas.{all-pushed}
@@ -62,3 +63,17 @@ winners-requires g c =
     subst (λ ls. AreHeadsSorted c.args.sorted_from (map (λ x. option_map entry_of x.head) ls)) (sym c.deref.ensures.value)
     (heads-sorted (λ x. x.head) (λ x. g.F.Coming.coming x.feed) c.args.sorted_from c.loop-feed.leads.items
     (subst (AreSortedFrom c.args.sorted_from) (sym (c.loop-feed.invariant.coming ∙ ap (map g.F.Coming.coming) all)) c.requires))
+
+pub returns-clause-coming : goal.returns-clause-coming
+returns-clause-coming g c =
+    let all : c.loop-feed.yielded ≡ c.args.feeds.items = sym (map-id c.loop-feed.yielded)
+    ∙ (YieldsList-end (YieldsList-from_vec c.args.feeds.items (cc) (cc)) c.loop-feed.yielded _ c.loop-feed.yielded_by c.next.result c.next.new.self
+    c.in-None.is c.next.ensures.steps).0 in
+    ap (merged entry_cmp) (c.loop-feed.invariant.coming ∙ ap (map g.F.Coming.coming) all)
+
+pub returns-clause-sources : goal.returns-clause-sources
+returns-clause-sources g c =
+    let all : c.loop-feed.yielded ≡ c.args.feeds.items = sym (map-id c.loop-feed.yielded)
+    ∙ (YieldsList-end (YieldsList-from_vec c.args.feeds.items (cc) (cc)) c.loop-feed.yielded _ c.loop-feed.yielded_by c.next.result c.next.new.self
+    c.in-None.is c.next.ensures.steps).0 in
+    c.loop-feed.invariant.sources ∙ ap (flat_map g.F.Coming.sources) all

@@ -10,7 +10,7 @@ use Rattle.ics_series.specs.Rising.{Rises}
 use Rattle.ics_series.specs.RuleStarts.{bound_of, midnight_number, AreHeld}
 use Rattle.ics_series.specs.FileZones.{clocks_in}
 use Rattle.ics_series.proofs.RuleReadLemmas.{behind-early}
-use Rattle.ics_series.proofs.RuleStepLemmas.{bound-days, bound-early, none-asked, none-held, none-less, none-same, one-asked, one-held, one-less, one-on}
+use Rattle.ics_series.proofs.RuleStepLemmas.{bound-days, bound-early, none-asked, none-held, none-less, none-same, one-asked, one-held, one-less, one-on, signed-back}
 use Rattle.ics_series.proofs.RuleStepLemmas.{one-time, one-rises, one-same, within}
 use Rattle.ics_rule.specs.PeriodNumbers.{rules_end}
 use Rattle.ics_series.proofs.rule_starts.RuleStarts.read_on.Goals as goal
@@ -44,14 +44,14 @@ pub next-requires-clause-bound : goal.next-requires-clause-bound
 next-requires-clause-bound c =
     let bound = to_z w32 (of_z w32 c.bound-bound.result) in
     let is : to_z w32 (of_z w32 c.bound-bound.result) ≡ bound_of c.args.self.now.day c.args.self.now.end c.args.self.now.held.items =
-    omega (arith, ints, c.bound-bound.type_inv, c.bound-bound.ensures) in
+    signed-back _ _ c.bound-bound.type_inv c.bound-bound.ensures in
     subst (λ (l : Local). IsDayNumber l.day) (sym c.at.ensures) (bound-days c.args.self.now c.requires bound is)
 
 pub next-requires-clause-early : goal.next-requires-clause-early
 next-requires-clause-early c =
     let bound = to_z w32 (of_z w32 c.bound-bound.result) in
     let is : to_z w32 (of_z w32 c.bound-bound.result) ≡ bound_of c.args.self.now.day c.args.self.now.end c.args.self.now.held.items =
-    omega (arith, ints, c.bound-bound.type_inv, c.bound-bound.ensures) in
+    signed-back _ _ c.bound-bound.type_inv c.bound-bound.ensures in
     subst (λ (l : Local). number l ≤ rules_end) (sym c.at.ensures) (bound-early c.args.self.now c.requires bound is)
 
 pub invariant_of-self-in-None : goal.invariant_of-self-in-None
@@ -59,7 +59,7 @@ invariant_of-self-in-None c =
     let s = c.args.self.now in
     let bound = to_z w32 (of_z w32 c.bound-bound.result) in
     let is : to_z w32 (of_z w32 c.bound-bound.result) ≡ bound_of c.args.self.now.day c.args.self.now.end c.args.self.now.held.items =
-    omega (arith, ints, c.bound-bound.type_inv, c.bound-bound.ensures) in
+    signed-back _ _ c.bound-bound.type_inv c.bound-bound.ensures in
     let at : number c.at.result ≡ midnight_number (to_z w32 (of_z w32 c.bound-bound.result)) = ap (λ (l : Local). number l) c.at.ensures in
     let held : c.reserve.new.self.items ≡ c.args.self.now.held.items = c.reserve.ensures.items in
     let range = bound-days s c.requires bound is in
@@ -88,7 +88,7 @@ hold-requires-clause-time c =
     let s = c.args.self.now in
     let bound = to_z w32 (of_z w32 c.bound-bound.result) in
     let is : to_z w32 (of_z w32 c.bound-bound.result) ≡ bound_of c.args.self.now.day c.args.self.now.end c.args.self.now.held.items =
-    omega (arith, ints, c.bound-bound.type_inv, c.bound-bound.ensures) in
+    signed-back _ _ c.bound-bound.type_inv c.bound-bound.ensures in
     let at : number c.at.result ≡ midnight_number (to_z w32 (of_z w32 c.bound-bound.result)) = ap (λ (l : Local). number l) c.at.ensures in
     let a = c.in-Some.local in
     let next : IsNextKept c.args.self.now.rule (place_of c.args.self.now.cursor) (midnight_number (to_z w32 (of_z w32 c.bound-bound.result)))
@@ -101,7 +101,7 @@ invariant_of-self-in-Some c =
     let s = c.args.self.now in
     let bound = to_z w32 (of_z w32 c.bound-bound.result) in
     let is : to_z w32 (of_z w32 c.bound-bound.result) ≡ bound_of c.args.self.now.day c.args.self.now.end c.args.self.now.held.items =
-    omega (arith, ints, c.bound-bound.type_inv, c.bound-bound.ensures) in
+    signed-back _ _ c.bound-bound.type_inv c.bound-bound.ensures in
     let at : number c.at.result ≡ midnight_number (to_z w32 (of_z w32 c.bound-bound.result)) = ap (λ (l : Local). number l) c.at.ensures in
     let a = c.in-Some.local in
     let next : IsNextKept c.args.self.now.rule (place_of c.args.self.now.cursor) (midnight_number (to_z w32 (of_z w32 c.bound-bound.result)))
@@ -138,7 +138,7 @@ returns-in-None c =
     let s = c.args.self.now in
     let bound = to_z w32 (of_z w32 c.bound-bound.result) in
     let is : to_z w32 (of_z w32 c.bound-bound.result) ≡ bound_of c.args.self.now.day c.args.self.now.end c.args.self.now.held.items =
-    omega (arith, ints, c.bound-bound.type_inv, c.bound-bound.ensures) in
+    signed-back _ _ c.bound-bound.type_inv c.bound-bound.ensures in
     let at : number c.at.result ≡ midnight_number (to_z w32 (of_z w32 c.bound-bound.result)) = ap (λ (l : Local). number l) c.at.ensures in
     let place : place_of c.next.new.self ≡ max (place_of c.args.self.now.cursor) (midnight_number (to_z w32 (of_z w32 c.bound-bound.result))) =
     omega (arith, c.in-None.ensures.next.1, at) in
@@ -154,7 +154,7 @@ returns-in-Some c =
     let s = c.args.self.now in
     let bound = to_z w32 (of_z w32 c.bound-bound.result) in
     let is : to_z w32 (of_z w32 c.bound-bound.result) ≡ bound_of c.args.self.now.day c.args.self.now.end c.args.self.now.held.items =
-    omega (arith, ints, c.bound-bound.type_inv, c.bound-bound.ensures) in
+    signed-back _ _ c.bound-bound.type_inv c.bound-bound.ensures in
     let at : number c.at.result ≡ midnight_number (to_z w32 (of_z w32 c.bound-bound.result)) = ap (λ (l : Local). number l) c.at.ensures in
     let a = c.in-Some.local in
     let next : IsNextKept c.args.self.now.rule (place_of c.args.self.now.cursor) (midnight_number (to_z w32 (of_z w32 c.bound-bound.result)))
