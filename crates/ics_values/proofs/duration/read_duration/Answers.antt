@@ -1,9 +1,9 @@
-use Rattle.std.proofs.Common.{◌≡◌, ◌≤◌, ◌<◌, ◌+◌, ◌*◌, ℕ, Bool, true, false, List, [], ◌∷◌, Ok, refl, arith, sym, ◌∙◌, lit<}
+use Rattle.std.proofs.Common.{◌≡◌, ◌≤◌, ◌<◌, ◌+◌, ◌*◌, ℕ, Bool, true, false, List, [], ◌∷◌, Ok, refl, arith, sym, lit<}
 use Rattle.std.proofs.lemmas.Bool.Decides.{nat_tests}
 use Rattle.ics_values.specs.declared.amounts.Amounts.{Amounts}
 use Rattle.ics_values.specs.Digits.{greatest_number}
 use Rattle.ics_values.specs.Texts.{begins, is_sign, is_minus, unsigned}
-use Rattle.ics_values.specs.Durations.{amount, amount_from, weeks, days, hours, minutes, seconds, is_duration_text, duration_of}
+use Rattle.ics_values.specs.Durations.{amount, weeks, days, hours, minutes, seconds, is_duration_text, duration_of}
 use Rattle.ics_values.specs.Amounts.{HasAmounts, capped, each_fits}
 use Rattle.ics_values.proofs.duration.read_duration.Goals as goal
 
