@@ -22,7 +22,8 @@ use Rattle.ics_components.specs.declared.date_values.DateValue.TheVariants.{At}
 use Rattle.ics_components.specs.declared.dated.Dated.{Dated}
 use Rattle.ics_components.specs.declared.fault.FaultKind.{FaultKind}
 use Rattle.ics_components.specs.declared.fault.FaultKind.TheVariants.{BadLine, BadStamp, BadDuration, BadOffset, BadRule, YearRange, NumberTooLarge}
-use Rattle.ics_components.specs.declared.fault.FaultKind.TheVariants.{NoObservance, ObservanceField, ZoneRule, NotCalendar, BadNesting, TooDeep, MissingUid, MissingStart}
+use Rattle.ics_components.specs.declared.fault.FaultKind.TheVariants.{NoObservance, ObservanceField, ZoneRule, NotCalendar, BadNesting, TooDeep, MissingUid}
+use Rattle.ics_components.specs.declared.fault.FaultKind.TheVariants.{MissingStart}
 use Rattle.ics_components.specs.declared.fault.FaultKind.TheVariants.{Repeated, BadEnd, UnknownZone, ThisAndFuture, Exrule, OldVersion, BadZoneFile}
 use Rattle.ics_components.specs.PlacedLines.{Placed, context_of, property_name, value, params_of, is_named, is_one_of, param, is_begin, is_end, is_outside}
 use Rattle.ics_components.specs.PlacedLines.{in_calendar, in_event, in_observance, begins, is_closing, ends_event, ends_zone, begins_observance}

@@ -36,7 +36,8 @@ module _ (k : ℕ) (some : 0 < k) where
     -- in a later block
     pub next_later : (x hi lo : ℕ) → ((m : ℕ) → x ≤ m → m / k ≡ x / k → (A (m / k) && B (m % k)) ≡ false) → IsLeastFrom A (x / k + 1) hi → IsLeastFrom B 0 lo →
         IsLeastFrom (λ n. A (n / k) && B (n % k)) x (hi * k + lo)
-    next_later x hi lo none next first = grind (arith, nat_tests, and_from, and_left, and_right, before_block, div-add-mod', div-mul-add, div_mono, mod-lt, mod-mul-add, mul-le-mul_right, three)
+    next_later x hi lo none next first =
+        grind (arith, nat_tests, and_from, and_left, and_right, before_block, div-add-mod', div-mul-add, div_mono, mod-lt, mod-mul-add, mul-le-mul_right, three)
 
     -- what is left where the block of the place is done
     pub block_out : (x : ℕ) → A (x / k) ≡ false → (m : ℕ) → x ≤ m → m / k ≡ x / k → (A (m / k) && B (m % k)) ≡ false

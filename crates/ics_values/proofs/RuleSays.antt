@@ -1,5 +1,6 @@
 -- The rule of a text says what each part of the text says.
-use Rattle.std.proofs.Common.{◌≡◌, ℕ, Bool, true, false, ◌&&◌, ◌||◌, ◌==◌, List, [], ◌∷◌, Option, Some, None, Ok, Err, cond, refl, sym, ap, subst, ◌∙◌, lit<, arith}
+use Rattle.std.proofs.Common.{◌≡◌, ℕ, Bool, true, false, ◌&&◌, ◌||◌, ◌==◌, List, [], ◌∷◌, Option, Some, None, Ok, Err, cond, refl, sym, ap, subst, ◌∙◌, lit<}
+use Rattle.std.proofs.Common.{arith}
 use Rattle.std.specs.Prelude.{not, fold, min, find, option_map, option_and_then, unwrap_or, is_some}
 use Rattle.std.specs.List.{list_any, list_all}
 use Rattle.std.specs.Option.{option_map_or}
@@ -24,7 +25,8 @@ use Rattle.ics_values.specs.RuleTexts.{frequency_of, weekday_of, until_of}
 use Rattle.ics_values.specs.Rules.{has_large_number, rule_said, rule_of}
 use Rattle.ics_values.specs.RuleLaws.{value_of, items_of, has_place, has_wide_place, Says}
 use Rattle.ics_fields.proofs.SetLemmas.{has_none, none_wide_has}
-use Rattle.ics_values.proofs.SaysLemmas.{Sets, one_row, part_said, sets_frequency, sets_until, sets_count, sets_interval, sets_week_start, sets_seconds, sets_minutes}
+use Rattle.ics_values.proofs.SaysLemmas.{Sets, one_row, part_said, sets_frequency, sets_until, sets_count, sets_interval, sets_week_start, sets_seconds}
+use Rattle.ics_values.proofs.SaysLemmas.{sets_minutes}
 use Rattle.ics_values.proofs.SaysLemmas.{sets_hours, sets_months, sets_weekdays, sets_month_days, sets_weeks, sets_year_days, sets_positions}
 use Rattle.ics_values.proofs.ListedLemmas.{Adds, gathered_all, number_high, adds_number, adds_place, adds_wide_place, adds_weekday, adds_numbered}
 

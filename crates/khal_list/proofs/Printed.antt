@@ -92,7 +92,7 @@ module _ {style : Style} {limit : Option ℕ} {all : List OnDay} {told : Option 
         part = part;
         given = ap (λ l. p.done ++ l) (sym gives) ∙ p.parted;
         few = omega arith;
-        taken = appends-both told taken new (days_text style p.done) part p.taken_is h;
+        taken = appends-both told taken new (days_text style p.done) part (p.taken_is, h);
       }
 
       pub drew-one : DrewAhead (days_text style) all es told taken
@@ -150,7 +150,7 @@ module _ {style : Style} {limit : Option ℕ} {all : List OnDay} {told : Option 
         printed-more new h = record {
           done = p.done ++ e ∷ [];
           parted = append_assoc p.done (e ∷ []) es ∙ (ap (λ l. p.done ++ l) (sym gives) ∙ p.parted);
-          taken_is = appends-same told new text-is (appends-both told taken new (days_text style p.done) bytes p.taken_is h);
+          taken_is = appends-same told new text-is (appends-both told taken new (days_text style p.done) bytes (p.taken_is, h));
           day_is = ap Some day-is ∙ sym (day-more None p.done e);
           left_is = p.left_is ∙ (ap (option_map (λ n. length p.done + n)) lower-is ∙ left-lower lower);
           last_is = sym (key-more p.done e);

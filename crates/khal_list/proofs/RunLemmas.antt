@@ -193,6 +193,6 @@ module _ {S Z : Type 0} (reads : S → ℕ → Answer → S → Type 0) (names :
       token = token;
       shows = shows;
       text = some.2;
-      errors = appends-both err told err' (error_lines names asked contents) (more_line token) lines more;
+      errors = appends-both err told err' (error_lines names asked contents) (more_line token) (lines, more);
       faulty = lines-refused asked names contents (status ≡ Faulty) read.each (subst (λ these. (status ≡ Faulty) ↔ (these ≢ [])) kept.errors_are faulty);
     }

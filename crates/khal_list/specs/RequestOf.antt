@@ -15,7 +15,8 @@ use Rattle.ics_series.specs.declared.day_key.DayKey.{DayKey}
 use Rattle.ics_series.specs.declared.key.Key.{Key}
 use Rattle.ics_series.specs.declared.window.Window.{Window}
 use Rattle.khal_words.specs.Formats.{day_name, entry_name, written, IsFormat}
-use Rattle.khal_words.specs.Entries.{Entries, day_format_text, entry, entries_of, format_text, limit_text, entries_text, span_of, zones_text, AreTaken, IsRefused}
+use Rattle.khal_words.specs.Entries.{Entries, day_format_text, entry, entries_of, format_text, limit_text, entries_text, span_of, zones_text, AreTaken}
+use Rattle.khal_words.specs.Entries.{IsRefused}
 use Rattle.khal_words.specs.Limits.{IsLimitOf}
 use Rattle.khal_list.specs.Windows.{ends_of}
 use Rattle.khal_list.specs.declared.every_day.EveryDay.{EveryDay}

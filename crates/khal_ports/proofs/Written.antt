@@ -1,6 +1,6 @@
 -- A text of which a sink has taken the first part.
-use Rattle.std.proofs.Common.{◌≡◌, ◌≤◌, ◌+◌, ℕ, List, [], ◌++◌, Option, Some, None, Result, Ok, Err, length, take, drop, sym, ap, ◌∙◌, subst, arith, append_assoc}
-use Rattle.std.proofs.Common.{append-nil, length-append}
+use Rattle.std.proofs.Common.{◌≡◌, ◌≤◌, ◌+◌, ℕ, List, [], ◌++◌, Option, Some, None, Result, Ok, Err, length, take, drop, sym, ap, ◌∙◌, subst, arith}
+use Rattle.std.proofs.Common.{append_assoc, append-nil, length-append}
 use Rattle.std.specs.Prelude.{OnErr}
 use Rattle.std.specs.Io.KnownBytes.{Appends}
 use Rattle.std.proofs.lemmas.List.{take-append-drop, drop-take}
@@ -29,12 +29,12 @@ take-more d n xs =
     rw (← drop-take d n xs, ← same) (take-append-drop d (take (d + n) xs))
 
 -- two texts after one another are one
-pub appends-both : (told middle new : Option (List ℕ)) (first second : List ℕ) → Appends told middle first → Appends middle new second →
+pub appends-both : (told middle new : Option (List ℕ)) (first second : List ℕ) → Appends told middle first × Appends middle new second →
     Appends told new (first ++ second)
-appends-both None middle new first second h k = tt
-appends-both (Some bytes) None new first second h k = absurd h
-appends-both (Some bytes) (Some more) None first second h k = absurd k
-appends-both (Some bytes) (Some more) (Some all) first second h k = k ∙ (ap (λ t. t ++ second) h ∙ append_assoc bytes first second)
+appends-both None middle new first second both = tt
+appends-both (Some bytes) None new first second both = absurd both.0
+appends-both (Some bytes) (Some more) None first second both = absurd both.1
+appends-both (Some bytes) (Some more) (Some all) first second both = both.1 ∙ (ap (λ t. t ++ second) both.0 ∙ append_assoc bytes first second)
 
 pub appends-same : (told new : Option (List ℕ)) {first second : List ℕ} → first ≡ second → Appends told new first → Appends told new second
 appends-same told new same h = subst (Appends told new) same h
@@ -43,7 +43,7 @@ written-more : {told middle : Option (List ℕ)} {whole : List ℕ} (new : Optio
     → Appends middle new piece → Written told new rest whole
 written-more {told = told} {middle = middle} new piece rest w h = record {
   done = w.done ++ piece;
-  taken = appends-both told middle new w.done piece w.taken h;
+  taken = appends-both told middle new w.done piece (w.taken, h);
   whole_is = append_assoc w.done piece rest ∙ w.whole_is;
 }
 

@@ -29,9 +29,9 @@ both a b =
     true-equal a b (omega (arith, ints, l, m)))
 
 -- an occurrence of no length has one day
-one-day : (clock : Clock) (w : Window) (o : Entry) (day first : ℤ) → int_eq o.finish o.start ≡ true → first ≡ first_day clock w o →
+one-day : (clock : Clock) (w : Window) (o : Entry) (day : ℤ) {first : ℤ} → int_eq o.finish o.start ≡ true → first ≡ first_day clock w o →
     int_eq day first ≡ is_on clock w o day
-one-day clock w o day first e f =
+one-day clock w o day {first = first} e f =
     both day first
     ∙ ((λ i. int_le (f i) day && int_le day (f i))
     ∙ ap (λ b. int_le (first_day clock w o) day
@@ -45,7 +45,7 @@ returns-then-occurrence-clause-on c =
     same-value c.args.day c.date_at-first.result c.ranges.day fits in
     let none : int_eq o.finish o.start ≡ true = grind (arith, ints, c.if-occurrence.true) in
     let first : c.date_at-first.result ≡ first_day (display_clock c.args.display.now) c.args.window.now (entry_of c.args.occurrence.now) = search rules in
-    once ∙ one-day (display_clock c.args.display.now) c.args.window.now (entry_of o) c.args.day c.date_at-first.result none first
+    once ∙ one-day (display_clock c.args.display.now) c.args.window.now (entry_of o) c.args.day none first
 
 pub returns-then-occurrence-clause-within : goal.returns-then-occurrence-clause-within
 returns-then-occurrence-clause-within c = λ is.
@@ -112,6 +112,17 @@ returns-clause-within c = λ is.
     let low = int_le_true (to_z w32 (of_z w32 c.date_at-first.result)) (to_z w32 (of_z w32 c.args.day)) parts.0 in
     let high = int_le_true (to_z w32 (of_z w32 c.args.day)) (to_z w32 (of_z w32 c.max-last.result)) parts.1 in (
       omega (arith, ints, first.0, low, c.date_at-first.type_inv, c.ranges.day),
-      omega
-          (arith, ints, int_max_is, first.1, end.1, high, c.max-last.ensures.value, c.max-last.type_inv, c.date_at-first.type_inv, c.date_at.type_inv, c.ranges.day),
+      omega (
+        arith,
+        ints,
+        int_max_is,
+        first.1,
+        end.1,
+        high,
+        c.max-last.ensures.value,
+        c.max-last.type_inv,
+        c.date_at-first.type_inv,
+        c.date_at.type_inv,
+        c.ranges.day,
+      ),
     )

@@ -16,7 +16,8 @@ text_is d day range same =
     let parts = fields d day range same in
     rw (year_is d day range same, parts.year, parts.month, parts.month_day) refl
 
-added : {T E : Type 0} (r : Result T E) (old : List ℕ) {new part all : List ℕ} → new ≡ (if is_ok r then old ++ part else old) → part ≡ all → OnOk r (new ≡ old ++ all)
+added : {T E : Type 0} (r : Result T E) (old : List ℕ) {new part all : List ℕ} → new ≡ (if is_ok r then old ++ part else old) → part ≡ all →
+    OnOk r (new ≡ old ++ all)
 added (Ok x) old grown same = grown ∙ ap (λ t. old ++ t) same
 added (Err x) old grown same = tt
 

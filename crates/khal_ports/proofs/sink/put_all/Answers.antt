@@ -17,5 +17,5 @@ loop-done-preserved g c =
     let took : Appends told new (take n (drop d xs)) = rw whole at c.in-Ok.ensures.took in
     record {
       within = omega (arith, length-drop d xs);
-      taken = appends-same first new (take-more d n xs) (appends-both first told new (take d xs) (take n (drop d xs)) c.loop-done.invariant.taken took);
+      taken = appends-same first new (take-more d n xs) (appends-both first told new (take d xs) (take n (drop d xs)) (c.loop-done.invariant.taken, took));
     }

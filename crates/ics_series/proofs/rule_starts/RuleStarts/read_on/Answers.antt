@@ -10,7 +10,8 @@ use Rattle.ics_series.specs.Rising.{Rises}
 use Rattle.ics_series.specs.RuleStarts.{bound_of, midnight_number, AreHeld}
 use Rattle.ics_series.specs.FileZones.{clocks_in}
 use Rattle.ics_series.proofs.RuleReadLemmas.{behind-early}
-use Rattle.ics_series.proofs.RuleStepLemmas.{bound-days, bound-early, none-asked, none-held, none-less, none-same, one-asked, one-held, one-less, one-on, signed-back}
+use Rattle.ics_series.proofs.RuleStepLemmas.{bound-days, bound-early, none-asked, none-held, none-less, none-same, one-asked, one-held, one-less, one-on}
+use Rattle.ics_series.proofs.RuleStepLemmas.{signed-back}
 use Rattle.ics_series.proofs.RuleStepLemmas.{one-time, one-rises, one-same, within}
 use Rattle.ics_rule.specs.PeriodNumbers.{rules_end}
 use Rattle.ics_series.proofs.rule_starts.RuleStarts.read_on.Goals as goal

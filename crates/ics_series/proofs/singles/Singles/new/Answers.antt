@@ -16,7 +16,8 @@ use Rattle.ics_series.proofs.singles.Singles.new.Goals as goal
 
 pub invariant_of-result : goal.invariant_of-result
 invariant_of-result c =
-    let listing = singles-listing c.args.window.now (option_map (λ key. key_rank key.now) c.args.after) c.requires c.in_ok-singles.ensures c.sort_unstable_by.ensures.permutation
+    let listing = singles-listing c.args.window.now (option_map (λ key. key_rank key.now) c.args.after) c.requires c.in_ok-singles.ensures
+    c.sort_unstable_by.ensures.permutation
     (climbs-by (on single_entry entry_cmp) (on_total single_entry entry_total) c.sort_unstable_by.new.self.items c.sort_unstable_by.ensures.sorted
     (λ f a r f' k. search rules)) in
     record {
@@ -27,7 +28,8 @@ invariant_of-result c =
 
 pub returns : goal.returns
 returns c =
-    let listing = singles-listing c.args.window.now (option_map (λ key. key_rank key.now) c.args.after) c.requires c.in_ok-singles.ensures c.sort_unstable_by.ensures.permutation
+    let listing = singles-listing c.args.window.now (option_map (λ key. key_rank key.now) c.args.after) c.requires c.in_ok-singles.ensures
+    c.sort_unstable_by.ensures.permutation
     (climbs-by (on single_entry entry_cmp) (on_total single_entry entry_total) c.sort_unstable_by.new.self.items c.sort_unstable_by.ensures.sorted
     (λ f a r f' k. search rules)) in
     subst (λ (xs : List Single). IsListing entry_cmp (IsSingleToCome (map said_by c.args.files.now) (display_clock c.args.display.now) c.args.window.now

@@ -25,7 +25,8 @@ returns-in_err-after c =
 
 pub returns-in_err-formats : goal.returns-in_err-formats
 returns-in_err-formats c =
-    no_format (subcommand_rows_of c.args.found.now) c.args.now c.from_residual-in_err-formats.result c.in_err-formats.field-0.0 c.from_residual-in_err-formats.ensures
+    no_format (subcommand_rows_of c.args.found.now) c.args.now c.from_residual-in_err-formats.result c.in_err-formats.field-0.0
+    c.from_residual-in_err-formats.ensures
     (has_window _ _ c.in_ok-zone.zone c.in-Some.window (search rules) (search rules))
     (good_token c.in_ok-zone.zone c.in-Some.window c.in_ok-after.after.once c.in_ok-after.after.every_day c.in_ok-after.ensures.ok)
     c.in_err-formats.ensures.bad
