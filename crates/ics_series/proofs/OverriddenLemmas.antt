@@ -18,19 +18,25 @@ use Rattle.std.proofs.lemmas.List.{append-nil, append_assoc}
 use Rattle.std.proofs.lemmas.Map.Lookups.{exact_bytes}
 use Rattle.std.proofs.lemmas.Map.Text.{is_eq-slice_cmp}
 use Rattle.std.proofs.lemmas.Option.{slice_get-get_or}
+use Rattle.ics_event.specs.Event.{FileSaid}
 use Rattle.ics_series.specs.declared.version.Version.{Version}
 use Rattle.ics_series.specs.Chosen.{SubjectSeen}
+use Rattle.ics_series.specs.Clocks.{Clock}
 use Rattle.ics_series.specs.Overridden.{instance_of, AreOverridden}
 use Rattle.ics_series.specs.Rising.{IsBefore, Rises}
-use Rattle.ics_series.specs.Versions.{is_named, seen, subject_cmp, subject_seen}
+use Rattle.ics_series.specs.Versions.{is_named, seen, subject_cmp, subject_seen, AreChosen}
 use Rattle.ics_series.proofs.Cases.{some-same}
-use Rattle.ics_series.proofs.OverrideLemmas.{rises-sorted}
+use Rattle.ics_series.proofs.OverrideLemmas.{chosen-rises, map-rises, rises-sorted}
 use Rattle.ics_series.proofs.PickLemmas.{rises-picked}
 use Rattle.ics_series.proofs.VersionLemmas.{subject_total}
 
 -- by subject
 abbrev pub version_cmp : Version → Version → Ordering
 version_cmp = on (λ v. subject_seen v.subject) subject_cmp
+
+-- the versions that count stand in the order of their subjects
+pub chosen-order : {files : List FileSaid} {display : Clock} {vs : List Version} → AreChosen files display vs → Rises version_cmp vs
+chosen-order {vs = vs} h = map-rises seen (on (λ l. l.subject) subject_cmp) vs (chosen-rises h)
 
 -- The end of a rising list.
 module _ {A : Type 0} (R : A → A → Ordering) where

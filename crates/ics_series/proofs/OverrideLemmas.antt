@@ -1,12 +1,15 @@
--- The order of the versions that count, and what they name.
-use Rattle.std.specs.Prelude.{zero, suc, is_ok}
-use Rattle.std.proofs.Common.{◌≡◌, ℕ, ◌+◌, add-one, ◌<◌, ℤ, ◌||◌, List, [], ◌∷◌, map, length, get_or, inl, inr, ⊎_elim, Some, Result, Ok, Err}
-use Rattle.std.proofs.Common.{Bool, true, false, refl, sym, ◌∙◌, ap, subst, arith}
+-- The overrides among the versions that count, and what they name.
+use Rattle.std.specs.Prelude.{zero, suc, is_some, is_ok}
+use Rattle.std.proofs.Common.{◌≡◌, ℕ, ◌+◌, add-one, ◌<◌, ℤ, ◌||◌, List, [], ◌∷◌, map, length, get_or, inl, inr, ⊎_elim, Option, Some, None, Result, Ok, Err}
+use Rattle.std.proofs.Common.{Bool, true, false, cond, refl, sym, ◌∙◌, ap, subst, arith}
 use Rattle.std.specs.Cmp.{IsTotalOrder}
+use Rattle.std.specs.List.{filter}
 use Rattle.std.specs.List.Sorted.{IsBinarySearchResult, IsSearchInRange, IsSorted}
-use Rattle.std.specs.Ordering.{is_eq, is_lt, on, ordering_reverse}
+use Rattle.std.specs.Cmp.Lexicographic.{slice_cmp}
+use Rattle.std.specs.Option.{option_cmp}
+use Rattle.std.specs.Ordering.{int_cmp, is_eq, is_lt, nat_cmp, on, ordering_reverse, ordering_then}
 use Rattle.std.specs.declared.cmp.Ordering.{Ordering}
-use Rattle.std.specs.declared.cmp.Ordering.TheVariants.{Less, Equal}
+use Rattle.std.specs.declared.cmp.Ordering.TheVariants.{Less, Equal, Greater}
 use Rattle.std.proofs.lemmas.Cmp.{on_total, tied_itself}
 use Rattle.std.proofs.lemmas.List.Sorted.{searchable_from_sorted}
 use Rattle.std.proofs.lemmas.Bool.{or_right, cases_lt}
@@ -17,9 +20,10 @@ use Rattle.ics_series.specs.Clocks.{Clock}
 use Rattle.ics_series.specs.Listing.{IsIn}
 use Rattle.ics_series.specs.PlacedEvents.{Placed}
 use Rattle.ics_series.specs.Rising.{IsBefore, Rises}
-use Rattle.ics_series.specs.Versions.{is_named, label_of, seen, subject_cmp, subject_seen, AreChosen, Label}
+use Rattle.ics_series.specs.Versions.{is_named, is_override, label_of, seen, subject_cmp, subject_seen, AreChosen, Label}
 use Rattle.ics_series.proofs.HeldLemmas.{before-at}
 use Rattle.ics_series.proofs.Cases.{eq-Equal}
+use Rattle.ics_series.proofs.PickLemmas.{rises-filter}
 use Rattle.ics_series.proofs.OccursLemmas.{override-subject}
 use Rattle.ics_series.proofs.VersionLemmas.{exact-subject, subject_total}
 
@@ -63,14 +67,37 @@ pub chosen-rises : {files : List FileSaid} {display : Clock} {vs : List Version}
 chosen-rises {files = files} {display = display} h =
     subst (Rises label_subject_cmp) (sym h.are) (rises-map (label_of files display) label_subject_cmp h.chosen h.listing.rises)
 
-pub chosen-order : {files : List FileSaid} {display : Clock} {vs : List Version} → AreChosen files display vs →
-    Rises (on (λ v. subject_seen v.subject) subject_cmp) vs
-chosen-order {vs = vs} h = map-rises seen label_subject_cmp vs (chosen-rises h)
+-- The overrides among them.
+pub overrides-sorted : {files : List FileSaid} {display : Clock} {vs : List Version} (os : List Version) → AreChosen files display vs →
+    map seen os ≡ filter is_override (map seen vs) → IsSorted (on (λ v. subject_seen v.subject) subject_cmp) os
+overrides-sorted {vs = vs} os h e =
+    rises-sorted (on (λ v. subject_seen v.subject) subject_cmp) (on_total (λ v. subject_seen v.subject) subject_total) os
+    (map-rises seen label_subject_cmp os (subst (Rises label_subject_cmp) (sym e)
+    (rises-filter is_override label_subject_cmp (map seen vs) (chosen-rises h))))
 
-pub chosen-sorted : {files : List FileSaid} {display : Clock} {vs : List Version} → AreChosen files display vs →
-    IsSorted (on (λ v. subject_seen v.subject) subject_cmp) vs
-chosen-sorted {vs = vs} h =
-    rises-sorted (on (λ v. subject_seen v.subject) subject_cmp) (on_total (λ v. subject_seen v.subject) subject_total) vs (chosen-order h)
+-- an instance is named where an override names it
+module _ (uid : List ℕ) (t : ℤ) where
+  abbrev instance : SubjectSeen
+  instance = record { uid = uid; recurrence = Some t }
+
+  less-not : (c : Ordering) → is_eq (ordering_then c Less) ≡ false
+  less-not Less = refl
+  less-not Equal = refl
+  less-not Greater = refl
+
+  untied : (l : Label) (r : Option ℤ) → l.subject.recurrence ≡ r → is_some r ≡ false → is_eq (subject_cmp l.subject instance) ≡ false
+  untied l None e n = ap (λ r. is_eq (ordering_then (slice_cmp nat_cmp l.subject.uid uid) (option_cmp int_cmp r (Some t)))) e
+      ∙ less-not (slice_cmp nat_cmp l.subject.uid uid)
+  untied l (Some u) e n = let f : true ≡ false = n in cc
+
+  named-overrides-by : (l : Label) (ls : List Label) (b : Bool) → is_override l ≡ b → is_named instance (filter is_override ls) ≡ is_named instance ls
+      → is_named instance (cond b (l ∷ filter is_override ls) (filter is_override ls)) ≡ is_named instance (l ∷ ls)
+  named-overrides-by l ls true e ih = ap (λ b. is_eq (subject_cmp l.subject instance) || b) ih
+  named-overrides-by l ls false e ih = ih ∙ ap (λ b. b || is_named instance ls) (sym (untied l l.subject.recurrence refl e))
+
+  pub named-overrides : (ls : List Label) → is_named instance (filter is_override ls) ≡ is_named instance ls
+  named-overrides [] = refl
+  named-overrides (l ∷ ls) = named-overrides-by l ls (is_override l) refl (named-overrides ls)
 
 -- A subject found by halving.
 module _ (s : SubjectSeen) where

@@ -1,7 +1,7 @@
 -- What an event gives at its DTSTART; what the versions that count give whose events start once, sorted by key, is their listing.
-use Rattle.std.specs.Prelude.{◌==◌, ◌&&◌, ◌||◌, is_none, is_some, if◌then◌else◌, int_lt}
+use Rattle.std.specs.Prelude.{◌==◌, ◌&&◌, ◌||◌, not, is_none, is_some, if◌then◌else◌, int_lt}
 use Rattle.std.proofs.Common.{◌≡◌, ℤ, List, [], ◌∷◌, map, length, inl, inr, ⊎_elim, Option, Some, None, Bool, true, false, refl, sym, ◌∙◌, ap, subst, arith}
-use Rattle.std.specs.List.{filter_map, list_any}
+use Rattle.std.specs.List.{filter, filter_map, list_any}
 use Rattle.std.specs.List.Sorted.{IsPermutation}
 use Rattle.std.specs.Option.{option_and_then, option_map}
 use Rattle.std.specs.Ordering.{on, ordering_then}
@@ -33,12 +33,13 @@ use Rattle.ics_series.specs.Occurs.{IsInstance}
 use Rattle.ics_series.specs.PlacedEvents.{Placed, clocks_at}
 use Rattle.ics_series.specs.Singles.{entry_first, is_single, is_to_come, single_at, single_entry, single_of, AreSingle, IsSingleToCome, begun_first}
 use Rattle.ics_series.specs.Starts.{local_of, recurrence_by, GivesStart, IsNotAfter}
-use Rattle.ics_series.specs.Versions.{by_subject, label_of, seen, subject_cmp, AreChosen, Label}
+use Rattle.ics_series.specs.Versions.{by_subject, is_named, is_override, label_of, seen, subject_cmp, AreChosen, Label}
 use Rattle.ics_series.specs.Spots.{event_at}
 use Rattle.ics_series.proofs.AgendaLemmas.{given_total, tied-given}
 use Rattle.ics_series.proofs.GivenLemmas.{given-subject, placed-event, entry_start_cmp, given_cmp, subject_from, IsGiven, IsGivenBy}
 use Rattle.ics_series.proofs.MasterLemmas.{same-entry}
 use Rattle.ics_series.proofs.MeetingLemmas.{is_met-meets, meets-is_met}
+use Rattle.ics_series.proofs.OverrideLemmas.{named-overrides}
 use Rattle.ics_series.proofs.PickLemmas.{filter_map-map, listing-picked, KeepsOrder}
 use Rattle.ics_series.proofs.PutLemmas.{listing-ordered}
 use Rattle.ics_series.proofs.SortLemmas.{listing-sorted, map-climbs, Climbs}
@@ -53,7 +54,7 @@ pub first-gives : (clocks : Clocks) (event : Event) → GivesStart clocks event 
 first-gives clocks event = (inl refl, sym (ap At (own-time event.start)))
 
 -- What a version gives of that.
-module _ (files : List FileSaid) (display : Clock) (w : Window) (chosen : List Label) (after : Option Rank) (label : Label) (event : Event)
+module _ (files : List FileSaid) (display : Clock) (w : Window) (overrides : List Label) (after : Option Rank) (label : Label) (event : Event)
     (stands : event_at files label.spot ≡ Some event) where
   abbrev label_clocks : Clocks
   label_clocks = clocks_at files display label.spot.file
@@ -61,8 +62,8 @@ module _ (files : List FileSaid) (display : Clock) (w : Window) (chosen : List L
   abbrev label_first : Entry
   label_first = entry_first label_clocks event label.subject.recurrence
 
-  at-event : single_at files display w chosen after label ≡ single_of label_clocks w chosen after label.subject.recurrence event
-  at-event = ap (option_and_then (single_of label_clocks w chosen after label.subject.recurrence)) stands
+  at-event : single_at files display w overrides after label ≡ single_of label_clocks w overrides after label.subject.recurrence event
+  at-event = ap (option_and_then (single_of label_clocks w overrides after label.subject.recurrence)) stands
 
   begun-is : (o : Entry) → Some o ≡ begun_first label_clocks w event label.subject.recurrence → o ≡ label_first
   begun-is o = by (int_lt (instant label_clocks event.start) w.to)
@@ -71,22 +72,22 @@ module _ (files : List FileSaid) (display : Clock) (w : Window) (chosen : List L
       by true e = cc
       by false e = let f : Some o ≡ None = e in absurd cc
 
-  by-test : (single comes : Bool) → is_single event ≡ single → is_to_come w chosen after label_first ≡ comes →
-      single_at files display w chosen after label ≡ (if single && comes then Some label_first else None)
+  by-test : (single comes : Bool) → is_single event ≡ single → is_to_come w overrides after label_first ≡ comes →
+      single_at files display w overrides after label ≡ (if single && comes then Some label_first else None)
   by-test single comes s c = at-event ∙ (λ i. if s i && c i then Some label_first else None)
 
   pub gives-single : (o : Entry) → is_single event ≡ true → Some o ≡ begun_first label_clocks w event label.subject.recurrence →
-      is_to_come w chosen after o ≡ true → Some o ≡ single_at files display w chosen after label
-  gives-single o s b c = let is = begun-is o b in ap Some is ∙ sym (by-test true true s (ap (is_to_come w chosen after) (sym is) ∙ c))
+      is_to_come w overrides after o ≡ true → Some o ≡ single_at files display w overrides after label
+  gives-single o s b c = let is = begun-is o b in ap Some is ∙ sym (by-test true true s (ap (is_to_come w overrides after) (sym is) ∙ c))
 
   pub gives-none : (o : Entry) → is_single event ≡ true → Some o ≡ begun_first label_clocks w event label.subject.recurrence →
-      is_to_come w chosen after o ≡ false → None ≡ single_at files display w chosen after label
-  gives-none o s b c = let is = begun-is o b in sym (by-test true false s (ap (is_to_come w chosen after) (sym is) ∙ c))
+      is_to_come w overrides after o ≡ false → None ≡ single_at files display w overrides after label
+  gives-none o s b c = let is = begun-is o b in sym (by-test true false s (ap (is_to_come w overrides after) (sym is) ∙ c))
 
-  pub gives-other : is_single event ≡ false → None ≡ single_at files display w chosen after label
-  gives-other s = sym (by-test false (is_to_come w chosen after label_first) s refl)
+  pub gives-other : is_single event ≡ false → None ≡ single_at files display w overrides after label
+  gives-other s = sym (by-test false (is_to_come w overrides after label_first) s refl)
 
-  pub gives-late : None ≡ begun_first label_clocks w event label.subject.recurrence → None ≡ single_at files display w chosen after label
+  pub gives-late : None ≡ begun_first label_clocks w event label.subject.recurrence → None ≡ single_at files display w overrides after label
   gives-late = by (int_lt (instant label_clocks event.start) w.to) refl
     where
       unless : (s : Bool) → (if s && false then Some label_first else None) ≡ None
@@ -94,10 +95,10 @@ module _ (files : List FileSaid) (display : Clock) (w : Window) (chosen : List L
       unless false = refl
 
       by : (b : Bool) → int_lt (instant label_clocks event.start) w.to ≡ b → None ≡ (if b then Some label_first else None) →
-          None ≡ single_at files display w chosen after label
+          None ≡ single_at files display w overrides after label
       by true e n = let f : None ≡ Some label_first = n in absurd cc
       by false e n =
-          let late = ap (λ b. ((b && is_under_way w label_first.start label_first.finish) && is_after after label_first) && is_kept chosen label_first) e in
+          let late = ap (λ b. ((b && is_under_way w label_first.start label_first.finish) && is_after after label_first) && is_kept overrides label_first) e in
           sym (by-test (is_single event) false refl late ∙ unless (is_single event))
 
 -- An event that starts once, and is no override.
@@ -165,11 +166,8 @@ module _ (clocks : Clocks) (event : Event) (single : is_single event ≡ true) w
       by (Some time) some of = same-entry o (entry_first clocks event (Some (instant clocks time))) of.0.starts of.0.ends of.1 of.0.event
 
 -- Of the versions that count.
-module _ (files : List FileSaid) (display : Clock) (w : Window) (after : Option Rank) (vs : List Version)
-    (chosen : AreChosen files display vs) where
-  abbrev os : List Label
-  os = map seen vs
-
+module _ (files : List FileSaid) (display : Clock) (w : Window) (after : Option Rank) (vs : List Version) (os : List Label)
+    (chosen : AreChosen files display vs) (overrides : os ≡ filter is_override (map seen vs)) where
   abbrev clocks_by : Placed → Clocks
   clocks_by p = clocks_at files display p.file
 
@@ -207,6 +205,10 @@ module _ (files : List FileSaid) (display : Clock) (w : Window) (after : Option 
       ∙ given-subject (clocks_by q) q.event (own q) (first-given (clocks_by q) q.event b.0) in
       ap (λ c. ordering_then c (entry_start_cmp x y)) ((λ i. subject_cmp (one i) (other i)) ∙ less)
 
+  kept-same : (o : Entry) → is_kept os o ≡ is_kept (map seen vs) o
+  kept-same o = ap (λ b. is_some o.event.recurrence || not b) (ap (is_named (record { uid = o.event.uid; recurrence = Some o.recurrence })) overrides
+      ∙ named-overrides o.event.uid o.recurrence (map seen vs))
+
   given-come : (p : Placed) (o : Entry) → IsChosen files display p → given p ≡ Some o → IsSingleToCome files display w after o
   given-come p o c e =
       let is = given-is p o c e in
@@ -214,7 +216,7 @@ module _ (files : List FileSaid) (display : Clock) (w : Window) (after : Option 
       let is_given : IsGiven files display w (own p) =
       record { by = p; chosen = c; is = (first-given (clocks_by p) p.event is.0, is_met-meets w (own p) parts.0) } in
       subst (IsSingleToCome files display w after) (sym is.2)
-      (to-come files display w vs chosen after (own p) is_given parts.2 parts.1, is.0)
+      (to-come files display w vs chosen after (own p) is_given (sym (kept-same (own p)) ∙ parts.2) parts.1, is.0)
 
   come-given : (o : Entry) → IsSingleToCome files display w after o → (p : Placed) × IsChosen files display p × (given p ≡ Some o)
   come-given o t =
@@ -225,23 +227,23 @@ module _ (files : List FileSaid) (display : Clock) (w : Window) (after : Option 
       let is = given-first (clocks_by p) p.event single o listed.0.is.0 in
       let comes : is_to_come w os after o ≡ true =
       true-three (is_met w o) (is_after after o) (is_kept os o) (meets-is_met w o listed.0.is.1) (is-after files display w vs chosen after o t.0)
-      listed.1 in
+      (kept-same o ∙ listed.1) in
       (p, listed.0.chosen, is-given p listed.0.chosen single (ap (is_to_come w os after) (sym is) ∙ comes) ∙ ap Some (sym is))
 
 -- The versions that count give the listing.
 module _ (w : Window) (after : Option Rank) where
-  pub singles-listing : {files : List FileSaid} {display : Clock} {vs : List Version}
-      {given sorted : List Single} → AreChosen files display vs
-      → map single_entry given ≡ filter_map (single_at files display w (map seen vs) after) (map seen vs) → IsPermutation given sorted
+  pub singles-listing : {files : List FileSaid} {display : Clock} {vs : List Version} (os : List Version)
+      {given sorted : List Single} → AreChosen files display vs → map seen os ≡ filter is_override (map seen vs)
+      → map single_entry given ≡ filter_map (single_at files display w (map seen os) after) (map seen vs) → IsPermutation given sorted
       → Climbs (on single_entry entry_cmp) sorted → IsListing entry_cmp (IsSingleToCome files display w after) (map single_entry sorted)
-  singles-listing {files = files} {display = display} {vs = vs} {given = given} {sorted = sorted} chosen are p climbs =
+  singles-listing {files = files} {display = display} {vs = vs} os {given = given} {sorted = sorted} chosen overrides are p climbs =
       let label = label_of files display in
-      let one = single_at files display w (map seen vs) after in
-      let picked : filter_map (λ p. single_at files display w (map seen vs) after (label_of files display p)) chosen.chosen ≡ map single_entry given =
+      let one = single_at files display w (map seen os) after in
+      let picked : filter_map (λ p. single_at files display w (map seen os) after (label_of files display p)) chosen.chosen ≡ map single_entry given =
       sym (filter_map-map label one chosen.chosen) ∙ (ap (filter_map one) (sym chosen.are) ∙ sym are) in
       let found = listing-picked (λ p. one (label p)) (by_subject files display) (group-total files display) given_cmp (IsChosen files display)
-      (subjects-keep files display w after vs chosen) (IsSingleToCome files display w after) chosen.chosen chosen.listing
-      (given-come files display w after vs chosen) (come-given files display w after vs chosen) in
+      (subjects-keep files display w after vs (map seen os) chosen overrides) (IsSingleToCome files display w after) chosen.chosen chosen.listing
+      (given-come files display w after vs (map seen os) chosen overrides) (come-given files display w after vs (map seen os) chosen overrides) in
       listing-sorted given_cmp given_total entry_cmp (IsSingleToCome files display w after) (λ x y a b e. tied-given files display w after x y a.0 b.0 e)
       (map single_entry given) (map single_entry sorted) (subst (IsListing given_cmp (IsSingleToCome files display w after)) picked found)
       (IsPermutation-map single_entry given sorted p) (map-climbs single_entry entry_cmp sorted climbs)
@@ -250,10 +252,11 @@ module _ (w : Window) (after : Option Rank) where
 pub singles-whole : (files : List FileSaid) (display : Clock) (w : Window) (vs : List Version) → AreChosen files display vs →
     (list : List Entry) × IsListing entry_cmp (IsSingleToCome files display w None) list
 singles-whole files display w vs chosen =
-    let one = single_at files display w (map seen vs) None in
+    let os = filter is_override (map seen vs) in
+    let one = single_at files display w (filter is_override (map seen vs)) None in
     let found = listing-picked (λ p. one (label_of files display p)) (by_subject files display) (group-total files display) given_cmp (IsChosen files display)
-    (subjects-keep files display w None vs chosen) (IsSingleToCome files display w None) chosen.chosen chosen.listing
-    (given-come files display w None vs chosen) (come-given files display w None vs chosen) in
+    (subjects-keep files display w None vs os chosen refl) (IsSingleToCome files display w None) chosen.chosen chosen.listing
+    (given-come files display w None vs os chosen refl) (come-given files display w None vs os chosen refl) in
     listing-ordered entry_cmp entry_total given_cmp given_total (IsSingleToCome files display w None)
     (λ x y a b e. tied-given files display w None x y a.0 b.0 e)
     (filter_map (λ p. one (label_of files display p)) chosen.chosen) found

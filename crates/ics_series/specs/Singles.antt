@@ -65,15 +65,15 @@ single_entry s = record {
 
 -- an occurrence meets the window, comes after the key, and is replaced by no override
 abbrev pub is_to_come : Window → List Label → Option Rank → Entry → Bool
-is_to_come w chosen after o = is_met w o && is_after after o && is_kept chosen o
+is_to_come w overrides after o = is_met w o && is_after after o && is_kept overrides o
 
 -- the occurrence of an event at its DTSTART, if it is to come and the event starts there alone
 abbrev pub single_of : Clocks → Window → List Label → Option Rank → Option ℤ → Event → Option Entry
-single_of clocks w chosen after recurrence event =
+single_of clocks w overrides after recurrence event =
     let o = entry_first clocks event recurrence in
-    if is_single event && is_to_come w chosen after o then Some o else None
+    if is_single event && is_to_come w overrides after o then Some o else None
 
 -- the same for the event of a version
 abbrev pub single_at : List FileSaid → Clock → Window → List Label → Option Rank → Label → Option Entry
-single_at files display w chosen after label =
-    option_and_then (single_of (clocks_at files display label.spot.file) w chosen after label.subject.recurrence) (event_at files label.spot)
+single_at files display w overrides after label =
+    option_and_then (single_of (clocks_at files display label.spot.file) w overrides after label.subject.recurrence) (event_at files label.spot)

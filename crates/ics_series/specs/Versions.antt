@@ -1,5 +1,5 @@
 -- The versions of the events of a folder in their order, and those of them that count.
-use Rattle.std.specs.Prelude.{◌≡◌, ◌&&◌, ℕ, ◌+◌, ◌++◌, Bool, false, List, [], ◌∷◌, map, if◌then◌else◌}
+use Rattle.std.specs.Prelude.{◌≡◌, ◌&&◌, ℕ, ◌+◌, ◌++◌, Bool, false, List, [], ◌∷◌, map, is_some, if◌then◌else◌}
 use Rattle.std.specs.List.{list_any}
 use Rattle.std.specs.Option.{option_cmp, option_eq}
 use Rattle.std.specs.Ordering.{int_cmp, int_eq, is_eq, nat_cmp, on, then_cmp}
@@ -77,6 +77,10 @@ is_followed same x (y ∷ ys) = same x y
 abbrev pub lasts : {A : Type 0} → (A → A → Bool) → List A → List A
 lasts same [] = []
 lasts same (x ∷ xs) = if is_followed same x xs then lasts same xs else x ∷ lasts same xs
+
+-- the version is one of an override
+abbrev pub is_override : Label → Bool
+is_override l = is_some l.subject.recurrence
 
 -- one of the versions has this subject
 abbrev pub is_named : SubjectSeen → List Label → Bool

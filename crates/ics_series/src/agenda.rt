@@ -168,17 +168,17 @@ impl<'a> Feed<'a> for Agenda<'a> {
     }
 }
 
-/// Whether none of the versions that count replaces an occurrence, or it is that of an override.
-pub(crate) fn is_kept(occurrence: &Occurrence<'_>, chosen: &[Version<'_>]) -> bool
-    requires { IsSorted (on (λ v. subject_seen v.subject) subject_cmp) chosen.now }
-    ensures { result ≡ is_kept (map seen chosen.now) (entry_of occurrence.now) }
+/// Whether no override replaces an occurrence, or it is that of an override.
+pub(crate) fn is_kept(occurrence: &Occurrence<'_>, overrides: &[Version<'_>]) -> bool
+    requires { IsSorted (on (λ v. subject_seen v.subject) subject_cmp) overrides.now }
+    ensures { result ≡ is_kept (map seen overrides.now) (entry_of occurrence.now) }
 {
     let event = occurrence.event;
     let subject = Subject {
         uid: event.uid.as_slice(),
         recurrence: Some(occurrence.recurrence),
     };
-    event.recurrence.is_some() || !is_named(subject, chosen)
+    event.recurrence.is_some() || !is_named(subject, overrides)
 }
 
 /// Whether an occurrence comes after the key, if there is one.

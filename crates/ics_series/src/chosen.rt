@@ -1,10 +1,10 @@
 //! The events that count: for each UID a master, and for each of its instances an override.
-ghost use Rattle.std.specs.Prelude.{◌≡◌, map, IfOk};
+ghost use Rattle.std.specs.Prelude.{◌≡◌, filter, map, IfOk};
 ghost use Rattle.std.specs.List.Sorted.{IsSorted};
 ghost use Rattle.std.specs.Ordering.{on};
 ghost use Rattle.ics_event.specs.Event.{said_by};
 ghost use Rattle.ics_series.specs.Clocks.{display_clock};
-ghost use Rattle.ics_series.specs.Versions.{is_followed, is_named, is_same, lasts, seen, subject_cmp, subject_seen, AreChosen};
+ghost use Rattle.ics_series.specs.Versions.{is_followed, is_named, is_override, is_same, lasts, seen, subject_cmp, subject_seen, AreChosen};
 
 use crate::version::{Subject, Version, versions};
 use ics_event::FileEvents;
@@ -47,6 +47,22 @@ fn is_followed(version: &Version<'_>, rest: &[Version<'_>]) -> bool
         Some(next) => version.subject == next.subject,
         None => false,
     }
+}
+
+/// The versions that override an instance.
+pub(crate) fn overrides<'a>(
+    alloc: Global,
+    chosen: &[Version<'a>],
+) -> Result<Vec<Version<'a>>, AllocError>
+    ensures { IfOk result (λ overrides. map seen overrides.items ≡ filter is_override (map seen chosen.entry.now)) }
+{
+    let mut overrides = Vec::new(alloc);
+    for version in chosen {
+        if version.subject.recurrence.is_some() {
+            overrides.push(*version)?;
+        }
+    }
+    Ok(overrides)
 }
 
 /// Whether one of the versions has this subject.

@@ -15,6 +15,7 @@ ghost use Rattle.ics_series.specs.Spots.{event_at};
 ghost use Rattle.ics_series.specs.Versions.{seen, subject_cmp, subject_seen, AreChosen};
 
 use crate::agenda::{is_after, is_kept};
+use crate::chosen::overrides;
 use crate::feed::{Coming, Feed};
 use crate::key::Key;
 use crate::occurrence::Occurrence;
@@ -51,7 +52,8 @@ impl<'a> Singles<'a> {
             (option_map (λ key. key_rank key.now) after.entry))
             (⟦<Singles<'a> as Coming>⟧.coming singles)) }
     {
-        let mut singles = to_come(alloc, files, display, chosen, window, after)?;
+        let overrides = overrides(alloc, chosen)?;
+        let mut singles = to_come(alloc, files, display, chosen, &overrides, window, after)?;
         singles.sort_unstable_by(Single::compare);
         Ok(Singles {
             rest: singles.into_iter(),
@@ -91,17 +93,19 @@ fn to_come<'a>(
     files: &'a [FileEvents],
     display: &'a Display,
     chosen: &[Version<'_>],
+    overrides: &[Version<'_>],
     window: &Window,
     after: Option<&Key>,
 ) -> Result<Vec<Single<'a>>, AllocError>
-    requires { AreChosen (map said_by files.now) (display_clock display.now) chosen.now }
+    requires chosen { AreChosen (map said_by files.now) (display_clock display.now) chosen.now }
+    requires overrides { IsSorted (on (λ v. subject_seen v.subject) subject_cmp) overrides.now }
     ensures { IfOk result (λ singles. map single_entry singles.items
         ≡ filter_map (single_at (map said_by files.entry.now) (display_clock display.entry.now) window.now
-        (map seen chosen.entry.now) (option_map (λ key. key_rank key.now) after.entry)) (map seen chosen.entry.now)) }
+        (map seen overrides.entry.now) (option_map (λ key. key_rank key.now) after.entry)) (map seen chosen.entry.now)) }
 {
     let mut singles = Vec::new(alloc);
     for version in chosen {
-        let Some(single) = given(files, display, version, chosen, window, after) else {
+        let Some(single) = given(files, display, version, overrides, window, after) else {
             continue;
         };
         singles.push(single)?;
@@ -114,15 +118,15 @@ fn given<'a>(
     files: &'a [FileEvents],
     display: &'a Display,
     version: &Version<'_>,
-    chosen: &[Version<'_>],
+    overrides: &[Version<'_>],
     window: &Window,
     after: Option<&Key>,
 ) -> Option<Single<'a>>
     requires there { IsSome (event_at (map said_by files.now) version.now.spot) }
-    requires sorted { IsSorted (on (λ v. subject_seen v.subject) subject_cmp) chosen.now }
+    requires overrides { IsSorted (on (λ v. subject_seen v.subject) subject_cmp) overrides.now }
     ensures { option_map single_entry result
         ≡ single_at (map said_by files.entry.now) (display_clock display.entry.now) window.now
-        (map seen chosen.entry.now) (option_map (λ key. key_rank key.now) after.entry) (seen version.now) }
+        (map seen overrides.entry.now) (option_map (λ key. key_rank key.now) after.entry) (seen version.now) }
 {
     let zones = version.spot.zones(files, display);
     let event = version.spot.event(files);
@@ -130,7 +134,7 @@ fn given<'a>(
         return None;
     }
     let single = Single::begun(zones, event, version.subject.recurrence, window)?;
-    if is_to_come(&single.occurrence(), chosen, window, after) {
+    if is_to_come(&single.occurrence(), overrides, window, after) {
         Some(single)
     } else {
         None
@@ -148,12 +152,12 @@ pub(crate) fn is_single(event: &Event) -> bool
 // Whether an occurrence meets the window, comes after the key, and is replaced by no override.
 fn is_to_come(
     occurrence: &Occurrence<'_>,
-    chosen: &[Version<'_>],
+    overrides: &[Version<'_>],
     window: &Window,
     after: Option<&Key>,
 ) -> bool
-    requires { IsSorted (on (λ v. subject_seen v.subject) subject_cmp) chosen.now }
-    ensures { result ≡ is_to_come window.now (map seen chosen.now) (option_map (λ key. key_rank key.now) after.entry) (entry_of occurrence.now) }
+    requires { IsSorted (on (λ v. subject_seen v.subject) subject_cmp) overrides.now }
+    ensures { result ≡ is_to_come window.now (map seen overrides.now) (option_map (λ key. key_rank key.now) after.entry) (entry_of occurrence.now) }
 {
-    window.is_met(occurrence) && is_after(after, occurrence) && is_kept(occurrence, chosen)
+    window.is_met(occurrence) && is_after(after, occurrence) && is_kept(occurrence, overrides)
 }

@@ -14,7 +14,7 @@ use Rattle.ics_series.specs.Sources.{IsFrom, Recurring}
 use Rattle.ics_series.specs.Versions.{seen, subject_seen}
 use Rattle.ics_series.specs.FileZones.{clocks_in}
 use Rattle.ics_series.proofs.GivenLemmas.{stands}
-use Rattle.ics_series.proofs.OverrideLemmas.{chosen-order}
+use Rattle.ics_series.proofs.OverriddenLemmas.{chosen-order}
 use Rattle.ics_series.proofs.RecurringLemmas.{IsRead, not-single, own-subject, series-listing, single-none, there-in, version-there, whole-version}
 use Rattle.ics_series.proofs.ZoneLemmas.{own-event}
 use Rattle.ics_series.proofs.masters.series_at.Goals as goal

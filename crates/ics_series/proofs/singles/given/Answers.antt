@@ -11,7 +11,7 @@ use Rattle.ics_series.proofs.singles.given.Goals as goal
 
 pub returns-then-not-is_single : goal.returns-then-not-is_single
 returns-then-not-is_single c =
-    gives-other (map said_by c.args.files.now) (display_clock c.args.display.now) c.args.window.now (map seen c.args.chosen.now)
+    gives-other (map said_by c.args.files.now) (display_clock c.args.display.now) c.args.window.now (map seen c.args.overrides.now)
     (option_map (λ key. key_rank key.now) c.args.after) (seen c.args.version.now) c.event-event.result.now c.event-event.ensures.event
     (sym c.is_single.ensures ∙ c.if-not-is_single.true)
 
@@ -22,14 +22,14 @@ returns-in_err-single c =
     c.in_err-single.ensures ∙ ap (λ clocks. begun_first clocks c.args.window.now c.event-event.result.now c.args.version.now.subject.recurrence)
     c.zones-zones.ensures.clocks in
     ap (option_map single_entry) c.from_residual.ensures
-    ∙ gives-late (map said_by c.args.files.now) (display_clock c.args.display.now) c.args.window.now (map seen c.args.chosen.now)
+    ∙ gives-late (map said_by c.args.files.now) (display_clock c.args.display.now) c.args.window.now (map seen c.args.overrides.now)
     (option_map (λ key. key_rank key.now) c.args.after) (seen c.args.version.now) c.event-event.result.now c.event-event.ensures.event none
 
 pub returns-then-is_to_come : goal.returns-then-is_to_come
 returns-then-is_to_come c =
     let files = map said_by c.args.files.now in
     let display = display_clock c.args.display.now in
-    let chosen = map seen c.args.chosen.now in
+    let overrides = map seen c.args.overrides.now in
     let after = option_map (λ key. key_rank key.now) c.args.after in
     let version = c.args.version.now in
     let single : is_single c.event-event.result.now ≡ true = sym c.is_single.ensures ∙ c.if-not-is_single.false in
@@ -38,15 +38,15 @@ returns-then-is_to_come c =
     c.event-event.result.now c.args.version.now.subject.recurrence =
     c.in_ok-single.ensures ∙ ap (λ clocks. begun_first clocks c.args.window.now c.event-event.result.now c.args.version.now.subject.recurrence)
     c.zones-zones.ensures.clocks in
-    gives-single files display c.args.window.now chosen after (seen version) c.event-event.result.now c.event-event.ensures.event
+    gives-single files display c.args.window.now overrides after (seen version) c.event-event.result.now c.event-event.ensures.event
     (single_entry c.in_ok-single.single) single begun
-    (ap (is_to_come c.args.window.now chosen after) (sym c.occurrence.ensures) ∙ (sym c.is_to_come.ensures ∙ c.if-is_to_come.true))
+    (ap (is_to_come c.args.window.now overrides after) (sym c.occurrence.ensures) ∙ (sym c.is_to_come.ensures ∙ c.if-is_to_come.true))
 
 pub returns-else-is_to_come : goal.returns-else-is_to_come
 returns-else-is_to_come c =
     let files = map said_by c.args.files.now in
     let display = display_clock c.args.display.now in
-    let chosen = map seen c.args.chosen.now in
+    let overrides = map seen c.args.overrides.now in
     let after = option_map (λ key. key_rank key.now) c.args.after in
     let version = c.args.version.now in
     let single : is_single c.event-event.result.now ≡ true = sym c.is_single.ensures ∙ c.if-not-is_single.false in
@@ -55,6 +55,6 @@ returns-else-is_to_come c =
     c.event-event.result.now c.args.version.now.subject.recurrence =
     c.in_ok-single.ensures ∙ ap (λ clocks. begun_first clocks c.args.window.now c.event-event.result.now c.args.version.now.subject.recurrence)
     c.zones-zones.ensures.clocks in
-    gives-none files display c.args.window.now chosen after (seen version) c.event-event.result.now c.event-event.ensures.event
+    gives-none files display c.args.window.now overrides after (seen version) c.event-event.result.now c.event-event.ensures.event
     (single_entry c.in_ok-single.single) single begun
-    (ap (is_to_come c.args.window.now chosen after) (sym c.occurrence.ensures) ∙ (sym c.is_to_come.ensures ∙ c.if-is_to_come.false))
+    (ap (is_to_come c.args.window.now overrides after) (sym c.occurrence.ensures) ∙ (sym c.is_to_come.ensures ∙ c.if-is_to_come.false))

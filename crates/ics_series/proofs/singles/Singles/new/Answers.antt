@@ -1,4 +1,4 @@
-use Rattle.std.proofs.Common.{List, map, sym, subst, rules}
+use Rattle.std.proofs.Common.{List, map, ◌∙◌, ap, sym, subst, rules}
 use Rattle.std.specs.Ordering.{on}
 use Rattle.std.proofs.lemmas.Cmp.{on_total}
 use Rattle.std.specs.Option.{option_map}
@@ -9,15 +9,21 @@ use Rattle.ics_series.specs.Entry.{entry_cmp, key_rank}
 use Rattle.ics_series.specs.Listing.{IsListing}
 use Rattle.ics_series.specs.Rising.{Rises}
 use Rattle.ics_series.specs.Singles.{single_entry, AreSingle, IsSingleToCome}
+use Rattle.ics_series.specs.Versions.{seen}
 use Rattle.ics_series.specs.EntryLaws.{entry_total}
+use Rattle.ics_series.proofs.OverrideLemmas.{overrides-sorted}
 use Rattle.ics_series.proofs.SinglesLemmas.{are-single, singles-listing}
 use Rattle.ics_series.proofs.SortLemmas.{climbs-by}
 use Rattle.ics_series.proofs.singles.Singles.new.Goals as goal
 
+pub to_come-requires-clause-overrides : goal.to_come-requires-clause-overrides
+to_come-requires-clause-overrides c =
+    overrides-sorted c.deref.result.now c.requires (ap (map seen) c.deref.ensures.value ∙ c.in_ok-overrides.ensures)
+
 pub invariant_of-result : goal.invariant_of-result
 invariant_of-result c =
-    let listing = singles-listing c.args.window.now (option_map (λ key. key_rank key.now) c.args.after) c.requires c.in_ok-singles.ensures
-    c.sort_unstable_by.ensures.permutation
+    let listing = singles-listing c.args.window.now (option_map (λ key. key_rank key.now) c.args.after) c.deref.result.now c.requires
+    (ap (map seen) c.deref.ensures.value ∙ c.in_ok-overrides.ensures) c.in_ok-singles.ensures c.sort_unstable_by.ensures.permutation
     (climbs-by (on single_entry entry_cmp) (on_total single_entry entry_total) c.sort_unstable_by.new.self.items c.sort_unstable_by.ensures.sorted
     (λ f a r f' k. search rules)) in
     record {
@@ -28,8 +34,8 @@ invariant_of-result c =
 
 pub returns : goal.returns
 returns c =
-    let listing = singles-listing c.args.window.now (option_map (λ key. key_rank key.now) c.args.after) c.requires c.in_ok-singles.ensures
-    c.sort_unstable_by.ensures.permutation
+    let listing = singles-listing c.args.window.now (option_map (λ key. key_rank key.now) c.args.after) c.deref.result.now c.requires
+    (ap (map seen) c.deref.ensures.value ∙ c.in_ok-overrides.ensures) c.in_ok-singles.ensures c.sort_unstable_by.ensures.permutation
     (climbs-by (on single_entry entry_cmp) (on_total single_entry entry_total) c.sort_unstable_by.new.self.items c.sort_unstable_by.ensures.sorted
     (λ f a r f' k. search rules)) in
     subst (λ (xs : List Single). IsListing entry_cmp (IsSingleToCome (map said_by c.args.files.now) (display_clock c.args.display.now) c.args.window.now
