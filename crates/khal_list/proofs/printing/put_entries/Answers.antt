@@ -1,6 +1,7 @@
-use Rattle.std.proofs.Common.{rules, ◌≡◌, Some, refl, w32}
+use Rattle.std.proofs.lemmas.Grind.{common_steps}
+use Rattle.std.proofs.Common.{rules, ◌≡◌, Some, refl, w32, arith}
 use Rattle.std.specs.Prelude.{FitsSigned, ◌≢◌}
-use Rattle.std.proofs.lemmas.Int.{to_z-of_z}
+use Rattle.std.proofs.lemmas.Int.{to_z-of_z, ints}
 use Rattle.ics_series.specs.Entry.{entry_of}
 use Rattle.ics_series.specs.OnDays.{on_day}
 use Rattle.khal_list.proofs.Printed.{cut-key, cut-text, drew-none, drew-one, drew-part, fewer, printed-front, printed-more, printed-part}
@@ -57,3 +58,6 @@ returns-clause-puts g c = λ list a.
     let p = c.loop-count.invariant.printed list a in
     puts-fault {coming = g.D.Draws.comes c.args.draws.now c.loop-count.source} _ refl
     (printed-front p.2) p.1 (drew-none p.2)
+
+pub returns-in_default-clause-puts : goal.returns-in_default-clause-puts
+returns-in_default-clause-puts g c = grind (ints, arith, common_steps)

@@ -1,5 +1,6 @@
+use Rattle.std.proofs.lemmas.Grind.{common_steps}
 use Rattle.std.proofs.Common.{◌≤ℤ◌, ◌<ℤ◌, ◌+ℤ◌, ℤ, arith, rules, FitsSigned, w32, w64}
-use Rattle.std.proofs.lemmas.Int.{to_z-of_z}
+use Rattle.std.proofs.lemmas.Int.{to_z-of_z, ints}
 use Rattle.jiff_core.proofs.SignedLemmas.{signed_arith}
 use Rattle.ics_zone.specs.Displays.{moment_of}
 use Rattle.ics_fields.specs.Locals.{local_seconds, whole_days}
@@ -57,3 +58,6 @@ returns-else-from-to-clause-ends c =
     let late : moment_of (zone_of c.args.zone) end ≤ℤ moment_of (zone_of c.args.zone) start =
     rw (← c.instant-from.ensures.value, ← c.instant-to.ensures.value) (omega (arith, signed_arith)) in
     between-falling c.args.zone start end late
+
+pub returns-then-seconds-lt-FIRST_START-clause-ends : goal.returns-then-seconds-lt-FIRST_START-clause-ends
+returns-then-seconds-lt-FIRST_START-clause-ends c = grind (ints, arith, common_steps)

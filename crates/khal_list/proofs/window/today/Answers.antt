@@ -1,5 +1,6 @@
+use Rattle.std.proofs.lemmas.Grind.{common_steps}
 use Rattle.std.proofs.Common.{◌≡◌, ◌+ℤ◌, arith, rules, FitsSigned, w32, w64}
-use Rattle.std.proofs.lemmas.Int.{to_z-of_z}
+use Rattle.std.proofs.lemmas.Int.{to_z-of_z, ints}
 use Rattle.jiff_core.proofs.SignedLemmas.{signed_arith}
 use Rattle.jiff_core.specs.Calendar.{IsEpochDay}
 use Rattle.ics_zone.specs.Displays.{offset_of}
@@ -17,3 +18,6 @@ returns-clause-bound c =
     simp to_z-of_z at c.local-day.ensures in
     let day : IsEpochDay c.local-day.result.day = (omega (arith, signed_arith), omega (arith, signed_arith)) in
     (omega (arith, signed_arith), omega (arith, signed_arith))
+
+pub returns-clause-value : goal.returns-clause-value
+returns-clause-value c = grind (ints, arith, common_steps)
