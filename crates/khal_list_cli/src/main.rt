@@ -4,7 +4,7 @@
 mod failure;
 
 use failure::Failure;
-use khal_list::{FolderSource, FolderZones, Request, Status, Stream, run};
+use khal_list::{FolderSource, FolderZones, Request, RunFault, Status, Stream, run};
 use std::alloc::Global;
 use std::env;
 use std::io::{BufWriter, Stdout};
@@ -54,31 +54,40 @@ fn zones(rt: HostRuntime, request: &Request) -> Result<FolderZones<HostRuntime>,
     Ok(FolderZones::below(rt, path))
 }
 
-/// Lists a folder to the standard streams.
-fn list(rt: HostRuntime) -> Result<Status, Failure> {
-    let now = clock_now(&rt)?;
-    let request = request(&rt, now)?;
+/// Writes the listing of a folder to `out`, and to standard error what is not listed.
+fn write(
+    rt: HostRuntime,
+    source: &mut FolderSource<HostRuntime>,
+    zones: &mut FolderZones<HostRuntime>,
+    request: &Request,
+    out: &mut Stream<BufWriter<Stdout, Global>>,
+) -> Result<Status, RunFault> {
+    let mut err = Stream::new(rt.stderr());
+    run(rt.alloc(), source, zones, request, out, &mut err)
+}
+
+/// Lists the folder of a request to the standard streams.
+fn list(rt: HostRuntime, request: &Request) -> Result<Status, Failure> {
     let folder = String::from_str(rt.alloc(), request.folder())?;
     let mut source = FolderSource::open(rt, folder).map_err(Failure::of_folder)?;
-    let mut zones = zones(rt, &request)?;
-    let mut out = Stream::new(output(rt, &request)?);
-    let mut err = Stream::new(rt.stderr());
-    let ran = run(
-        rt.alloc(),
-        &mut source,
-        &mut zones,
-        &request,
-        &mut out,
-        &mut err,
-    );
+    let mut zones = zones(rt, request)?;
+    let mut out = Stream::new(output(rt, request)?);
+    let ran = write(rt, &mut source, &mut zones, request, &mut out);
     let finished = out.finish();
     let status = ran?;
     finished?;
     Ok(status)
 }
 
+/// Lists what the words ask for.
+fn list_by_words(rt: HostRuntime) -> Result<Status, Failure> {
+    let now = clock_now(&rt)?;
+    let request = request(&rt, now)?;
+    list(rt, &request)
+}
+
 fn main(rt: HostRuntime) -> ExitCode {
-    match list(rt) {
+    match list_by_words(rt) {
         Ok(status) => ExitCode::from(status.code()),
         Err(failure) => ExitCode::from(failure.report(&rt)),
     }
