@@ -124,4 +124,7 @@ impl Draft {
             }),
         }
     }
+
+    /// Gives the draft up, where it is not settled.
+    pub fn discard(self) {}
 }

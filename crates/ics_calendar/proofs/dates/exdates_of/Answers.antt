@@ -1,4 +1,6 @@
-use Rattle.std.proofs.Common.{rules, ◌≡◌, ◌++◌, ◌∷◌, ◌∙◌, List, map, sym, ap}
+use Rattle.std.proofs.lemmas.Int.{ints}
+use Rattle.std.proofs.lemmas.Grind.{common_steps}
+use Rattle.std.proofs.Common.{rules, ◌≡◌, ◌++◌, ◌∷◌, ◌∙◌, List, map, sym, ap, arith}
 use Rattle.ics_components.specs.declared.date_list.DateList.{DateList}
 use Rattle.ics_event.specs.declared.time.Time.{Time}
 use Rattle.ics_components.specs.DateLists.{zone_listed}
@@ -17,3 +19,6 @@ loop-list-preserved c =
     ap (λ exdates. exdates ++ exdates_by ((known_by c.args.table.now).index) c.args.calendar c.next.new.self.rest.items) added
     ∙ flat_map-next f c.loop-list.exdates.items c.in-Some.list c.next.new.self.rest.items
     ∙ ap (λ lists. c.loop-list.exdates.items ++ exdates_by ((known_by c.args.table.now).index) c.args.calendar lists) (sym rest) ∙ c.loop-list.invariant
+
+pub returns : goal.returns
+returns c = grind (ints, arith, common_steps)
