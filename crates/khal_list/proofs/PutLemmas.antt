@@ -123,22 +123,23 @@ puts-cut {rest = rest} (Err fault) is cut front to_come drew =
     record { text = tt; key = tt; front = front; rest = rest; to_come = to_come; drew = drew }
 
 -- what is written of a feed, each of whose entries stands under its own day
-module _ (request : Request) (old new : List Entry) (out out' : Option (List ℕ)) where
-  abbrev PutsOnce : Result (Option DayKey) RunFault → Type 0
-  PutsOnce result = Puts request (λ rest. rest ≡ map (under (style_of request)) new) (map (under (style_of request)) old) out out' result
+abbrev PutsOnce : Request → List Entry → List Entry → Option (List ℕ) → Option (List ℕ) → Result (Option DayKey) RunFault → Type 0
+PutsOnce request old new out out' result =
+    Puts request (λ rest. rest ≡ map (under (style_of request)) new) (map (under (style_of request)) old) out out' result
 
-  pub front-once : (fault : RunFault) → PutsOnce (Err fault) → TookFront out out' (listing_text request old)
+module _ (request : Request) (old new : List Entry) {out out' : Option (List ℕ)} where
+  pub front-once : (fault : RunFault) → PutsOnce request old new out out' (Err fault) → TookFront out out' (listing_text request old)
   front-once fault p = subst (λ t. TookFront out out' t) (text-under request old) p.front
 
-  pub text-once : (key : Option DayKey) → PutsOnce (Ok key) → Appends out out' (listing_text request old)
+  pub text-once : (key : Option DayKey) → PutsOnce request old new out out' (Ok key) → Appends out out' (listing_text request old)
   text-once key p = subst (λ t. Appends out out' t) (text-under request old) p.text
 
-  pub key-once : (key : Option DayKey) → PutsOnce (Ok key) → option_map (λ (k : DayKey). key_rank k.key) key ≡ key_on request.limit old
+  pub key-once : (key : Option DayKey) → PutsOnce request old new out out' (Ok key) → option_map (λ (k : DayKey). key_rank k.key) key ≡ key_on request.limit old
   key-once key p = key-of key ∙ (ap (option_map (λ r. r.key)) p.key ∙ key-under (style_of request) request.limit old)
     where
       key-of : (key : Option DayKey) → option_map (λ (k : DayKey). key_rank k.key) key ≡ option_map (λ r. r.key) (option_map day_key_rank key)
       key-of None = refl
       key-of (Some k) = refl
 
-  pub drew-once : (result : Result (Option DayKey) RunFault) → PutsOnce result → DrewAhead (text (style_of request)) old new out out'
+  pub drew-once : (result : Result (Option DayKey) RunFault) → PutsOnce request old new out out' result → DrewAhead (text (style_of request)) old new out out'
   drew-once result p = drew-under (style_of request) old new p.to_come p.drew

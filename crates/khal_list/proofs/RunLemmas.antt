@@ -20,10 +20,10 @@ use Rattle.khal_reading.specs.declared.status.Status.{Status}
 use Rattle.khal_reading.specs.declared.status.Status.TheVariants.{Faulty}
 use Rattle.khal_ports.specs.Answers.{Answer, Contents}
 use Rattle.khal_reading.specs.Asked.{all_wanted, Asked, AsksAll, AsksSome}
-use Rattle.khal_reading.specs.Errors.{accepted, error_lines}
+use Rattle.khal_reading.specs.Errors.{error_lines}
 use Rattle.khal_ports.specs.Finds.{FindAnswer}
 use Rattle.khal_ports.specs.Growth.{TookFront}
-use Rattle.khal_list.specs.Headline.{more_line, IsListingOf, Lists, Shown, ShownInPart, Shows, ShowsDays, ShowsOnce, Stops}
+use Rattle.khal_list.specs.Headline.{more_line, Inputs, IsListingOf, Lists, Outputs, Shown, ShownInPart, Shows, ShowsDays, ShowsOnce, Stops}
 use Rattle.khal_list.specs.Listed.{asked_after, day_key_on, days_text_of, key_on, listing_text}
 use Rattle.khal_reading.specs.Outcomes.{IsReading}
 use Rattle.khal_ports.specs.Reads.{ReadsAll, ReadsSome}
@@ -103,96 +103,85 @@ part-days request every_day {list = list} {after = after} zone key listing front
 none-front : (told : Option (List ℕ)) (text : List ℕ) → TookFront told told text
 none-front told text = record { count = 0; within = omega arith; taken = appends-none told }
 
-module _ {S Z : Type 0} (reads : S → ℕ → Answer → S → Type 0) (names : List (List ℕ)) (before after : S) (finds : Z → List ℕ → FindAnswer → Z →
-    Type 0) (zones zones' : Z)
-    (request : Request) (out err : Option (List ℕ)) where
+module _ {S Z : Type 0} {reads : S → ℕ → Answer → S → Type 0} {finds : Z → List ℕ → FindAnswer → Z → Type 0} {i : Inputs S Z} {request : Request}
+    {o : Outputs} (none : o.out_after ≡ o.out) where
   -- an allocation failed while files were read
-  pub stops-reading : (contents : List Contents) × (asked : List Asked) × ReadsSome reads names before contents after
-      × AsksSome finds [] (all_wanted contents) zones asked zones'
-      → Stops reads names before after finds zones zones' request out out err err
-  stops-reading some = inl (record {
+  pub stops-reading : o.err_after ≡ o.err → (contents : List Contents) × (asked : List Asked) × ReadsSome reads i.names i.source contents i.source_after
+      × AsksSome finds [] (all_wanted contents) i.zones asked i.zones_after → Stops reads finds i request o
+  stops-reading same some = inl (record {
     contents = some.0;
     read = some.2;
     asked = some.1;
     gave = some.3;
-    none = refl;
-    lines = none-front err (error_lines names some.1 some.0);
-  })
-
-  -- the lines of the files were not written whole
-  pub stops-lines : {contents : List Contents} {asked : List Asked} {files : List FileSaid} {errors given : List ℕ} {err' : Option (List ℕ)}
-      → ReadsAll reads names before contents after → AsksAll finds [] (all_wanted contents) zones asked zones' → IsReading names asked contents files errors
-      → given ≡ errors → TookFront err err' given → Stops reads names before after finds zones zones' request out out err err'
-  stops-lines {contents = contents} {asked = asked} {err' = err'} read gave kept same front = inl (record {
-    contents = contents;
-    read = record { last = after; from_first = read.from_first; ended = inl (refl, omega (arith, read.each)) };
-    asked = asked;
-    gave = all-some finds gave;
-    none = refl;
-    lines = subst (TookFront err err') (same ∙ kept.errors_are) front;
-  })
-
-module _ {S Z : Type 0} (reads : S → ℕ → Answer → S → Type 0) (names : List (List ℕ)) (before after : S) (finds : Z → List ℕ → FindAnswer → Z →
-    Type 0) (zones zones' : Z)
-    (request : Request) (out out' err told : Option (List ℕ)) (contents : List Contents) (asked : List Asked) (files : List FileSaid) (errors : List ℕ)
-    (read : ReadsAll reads names before contents after) (gave : AsksAll finds [] (all_wanted contents) zones asked zones')
-    (kept : IsReading names asked contents files errors) (wrote : Appends err told errors) where
-  lines : Appends err told (error_lines names asked contents)
-  lines = appends-same err told kept.errors_are wrote
-
-  -- the listing failed
-  pub stops : ShownInPart (Shows files request) out out' → Stops reads names before after finds zones zones' request out out' err told
-  stops (inl none) = inl (record {
-    contents = contents;
-    read = record { last = after; from_first = read.from_first; ended = inl (refl, omega (arith, read.each)) };
-    asked = asked;
-    gave = all-some finds gave;
     none = none;
-    lines = whole-front err told (error_lines names asked contents) lines;
+    lines = subst (λ told. TookFront o.err told (error_lines i.names some.1 some.0)) (sym same) (none-front o.err (error_lines i.names some.1 some.0));
   })
-  stops (inr some) = inr (record {
+
+  module _ {contents : List Contents} {asked : List Asked} (read : ReadsAll reads i.names i.source contents i.source_after)
+      (gave : AsksAll finds [] (all_wanted contents) i.zones asked i.zones_after) where
+    -- the lines of the files were not written whole
+    pub stops-lines : {files : List FileSaid} {errors given : List ℕ} → IsReading i.names asked contents files errors → given ≡ errors
+        → TookFront o.err o.err_after given → Stops reads finds i request o
+    stops-lines kept same front = inl (record {
+      contents = contents;
+      read = record { last = i.source_after; from_first = read.from_first; ended = inl (refl, omega (arith, read.each)) };
+      asked = asked;
+      gave = all-some finds gave;
+      none = none;
+      lines = subst (TookFront o.err o.err_after) (same ∙ kept.errors_are) front;
+    })
+
+module _ {S Z : Type 0} {reads : S → ℕ → Answer → S → Type 0} {finds : Z → List ℕ → FindAnswer → Z → Type 0} {i : Inputs S Z} {request : Request}
+    {o : Outputs} (told : Option (List ℕ)) {contents : List Contents} {asked : List Asked} {files : List FileSaid} {errors : List ℕ}
+    (read : ReadsAll reads i.names i.source contents i.source_after) (gave : AsksAll finds [] (all_wanted contents) i.zones asked i.zones_after)
+    (kept : IsReading i.names asked contents files errors) (wrote : Appends o.err told errors) where
+  -- the listing failed
+  pub stops : o.err_after ≡ told → ShownInPart (Shows files request) o.out o.out_after → Stops reads finds i request o
+  stops same (inl none) = stops-lines none read gave kept refl
+      (subst (λ now. TookFront o.err now errors) (sym same) (whole-front o.err told errors wrote))
+  stops same (inr some) = inr (record {
     contents = contents;
     read = read;
     asked = asked;
     gave = gave;
     told = told;
-    lines = lines;
+    lines = appends-same o.err told kept.errors_are wrote;
     stops = record {
       shown = some.0;
       token = some.1;
       shows = subst (λ these. Shows these request some.0 some.1) kept.files_are some.2;
-      taken = inl (refl, some.3);
+      taken = inl (same, some.3);
     };
   })
 
   -- the listing is written
-  module _ (token : Option (List ℕ)) (some : Shown (Shows files request) out out' token) where
-    shows : Shows (accepted asked contents) request some.0 token
-    shows = subst (λ these. Shows these request some.0 token) kept.files_are some.1
-
-    pub stops-more : (err' : Option (List ℕ)) → TookFront told err' (more_line token) →
-        Stops reads names before after finds zones zones' request out out' err err'
-    stops-more err' f = inr (record {
+  module _ (token : Option (List ℕ)) (some : Shown (Shows files request) o.out o.out_after token) where
+    pub stops-more : TookFront told o.err_after (more_line token) → Stops reads finds i request o
+    stops-more f = inr (record {
       contents = contents;
       read = read;
       asked = asked;
       gave = gave;
       told = told;
-      lines = lines;
-      stops = record { shown = some.0; token = token; shows = shows; taken = inr (some.2, f) };
+      lines = appends-same o.err told kept.errors_are wrote;
+      stops = record {
+        shown = some.0;
+        token = token;
+        shows = subst (λ these. Shows these request some.0 token) kept.files_are some.1;
+        taken = inr (some.2, f);
+      };
     })
 
-    pub lists : (err' : Option (List ℕ)) → Appends told err' (more_line token) → (status : Status) → (status ≡ Faulty) ↔ (errors ≢ []) →
-        Lists reads names before after finds zones zones' request out out' err err' status
-    lists err' more status faulty = record {
+    pub lists : Appends told o.err_after (more_line token) → (status : Status) → (status ≡ Faulty) ↔ (errors ≢ []) → Lists reads finds i request o status
+    lists more status faulty = record {
       contents = contents;
       read = read;
       asked = asked;
       gave = gave;
       shown = some.0;
       token = token;
-      shows = shows;
+      shows = subst (λ these. Shows these request some.0 token) kept.files_are some.1;
       text = some.2;
-      errors = appends-both err told err' (error_lines names asked contents) (more_line token) (lines, more);
-      faulty = lines-refused asked names contents (status ≡ Faulty) read.each (subst (λ these. (status ≡ Faulty) ↔ (these ≢ [])) kept.errors_are faulty);
+      errors = appends-both o.err told o.err_after (error_lines i.names asked contents) (more_line token) (appends-same o.err told kept.errors_are wrote, more);
+      faulty = lines-refused asked i.names contents (status ≡ Faulty) read.each (subst (λ these. (status ≡ Faulty) ↔ (these ≢ [])) kept.errors_are faulty);
     }

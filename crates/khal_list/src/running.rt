@@ -116,12 +116,14 @@ pub fn run<S: Source, Z: ZoneSource, O: Sink, E: Sink>(
     out: &mut O,
     err: &mut E,
 ) -> Result<Status, RunFault>
-    ensures lists { IfOk result (Lists S.reads (S.names source.old) source.old source.new
-        Z.finds zones.old zones.new request.now
-        (O.taken out.old) (O.taken out.new) (E.taken err.old) (E.taken err.new)) }
-    ensures stops { OnErr result (Stops S.reads (S.names source.old) source.old source.new
-        Z.finds zones.old zones.new request.now
-        (O.taken out.old) (O.taken out.new) (E.taken err.old) (E.taken err.new)) }
+    ensures lists { IfOk result (Lists S.reads Z.finds
+        (record { names = S.names source.old; source = source.old; source_after = source.new; zones = zones.old; zones_after = zones.new })
+        request.now
+        (record { out = O.taken out.old; out_after = O.taken out.new; err = E.taken err.old; err_after = E.taken err.new })) }
+    ensures stops { OnErr result (Stops S.reads Z.finds
+        (record { names = S.names source.old; source = source.old; source_after = source.new; zones = zones.old; zones_after = zones.new })
+        request.now
+        (record { out = O.taken out.old; out_after = O.taken out.new; err = E.taken err.old; err_after = E.taken err.new })) }
     ensures cause { IsErrOf result RunFault.WriteFault
         → LeftByFault O.puts out.new ⊎ LeftByFault E.puts err.new }
 {
