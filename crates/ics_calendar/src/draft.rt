@@ -124,7 +124,4 @@ impl Draft {
             }),
         }
     }
-
-    /// Gives the draft up, where it is not settled.
-    pub fn discard(self) {}
 }

@@ -83,48 +83,50 @@ pub record Outputs : Type 0 where
 -- Every file was read once, in order, and each name that the files want was asked for once, in order. `out` has gained exactly the text that the
 -- request shows of the accepted files. `err` has gained exactly the lines of the files that were not read or are refused and, if the limit cut the
 -- listing, the line with the token from which it continues. The status is Faulty exactly if there is a line of a file.
-pub record Lists {S Z : Type 0} (reads : S → ℕ → Answer → S → Type 0) (finds : Z → List ℕ → FindAnswer → Z → Type 0) (i : Inputs S Z) (request : Request)
-    (o : Outputs) (status : Status) : Type 0 where
+pub record Lists {S Z : Type 0} (reads : S → ℕ → Answer → S → Type 0) (finds : Z → List ℕ → FindAnswer → Z → Type 0) (inputs : Inputs S Z)
+    (request : Request) (outputs : Outputs) (status : Status) : Type 0 where
   pub contents : List Contents
-  pub read : ReadsAll reads i.names i.source contents i.source_after
+  pub read : ReadsAll reads inputs.names inputs.source contents inputs.source_after
   pub asked : List Asked
-  pub gave : AsksAll finds [] (all_wanted contents) i.zones asked i.zones_after
+  pub gave : AsksAll finds [] (all_wanted contents) inputs.zones asked inputs.zones_after
   pub shown : List ℕ
   pub token : Option (List ℕ)
   pub shows : Shows (accepted asked contents) request shown token
-  pub text : Appends o.out o.out_after shown
-  pub errors : Appends o.err o.err_after (error_lines i.names asked contents ++ more_line token)
+  pub text : Appends outputs.out outputs.out_after shown
+  pub errors : Appends outputs.err outputs.err_after (error_lines inputs.names asked contents ++ more_line token)
   pub faulty : (status ≡ Faulty) ↔ Any (λ given. IsErr (file_by asked given)) contents
 
 -- What was written if a run ends with a fault after every file is read and all their lines are in `err`, which then has taken this: a prefix of the
 -- text that the request shows in `out`, or that whole text and a prefix of the last line in `err`.
-pub record StopsListing (asked : List Asked) (contents : List Contents) (request : Request) (o : Outputs) (told : Option (List ℕ)) : Type 0 where
+pub record StopsListing (asked : List Asked) (contents : List Contents) (request : Request) (outputs : Outputs) (told : Option (List ℕ)) : Type 0 where
   pub shown : List ℕ
   pub token : Option (List ℕ)
   pub shows : Shows (accepted asked contents) request shown token
-  pub taken : ((o.err_after ≡ told) × TookFront o.out o.out_after shown) ⊎ (Appends o.out o.out_after shown × TookFront told o.err_after (more_line token))
+  pub taken :
+    ((outputs.err_after ≡ told) × TookFront outputs.out outputs.out_after shown)
+    ⊎ (Appends outputs.out outputs.out_after shown × TookFront told outputs.err_after (more_line token))
 
 -- What was written if a run ends with a fault while it reads: nothing in `out` and, in `err`, a prefix of the lines of the files that were read.
-pub record StopsReading {S Z : Type 0} (reads : S → ℕ → Answer → S → Type 0) (finds : Z → List ℕ → FindAnswer → Z → Type 0) (i : Inputs S Z)
-    (o : Outputs) : Type 0 where
+pub record StopsReading {S Z : Type 0} (reads : S → ℕ → Answer → S → Type 0) (finds : Z → List ℕ → FindAnswer → Z → Type 0) (inputs : Inputs S Z)
+    (outputs : Outputs) : Type 0 where
   pub contents : List Contents
-  pub read : ReadsSome reads i.names i.source contents i.source_after
+  pub read : ReadsSome reads inputs.names inputs.source contents inputs.source_after
   pub asked : List Asked
-  pub gave : AsksSome finds [] (all_wanted contents) i.zones asked i.zones_after
-  pub none : o.out_after ≡ o.out
-  pub lines : TookFront o.err o.err_after (error_lines i.names asked contents)
+  pub gave : AsksSome finds [] (all_wanted contents) inputs.zones asked inputs.zones_after
+  pub none : outputs.out_after ≡ outputs.out
+  pub lines : TookFront outputs.err outputs.err_after (error_lines inputs.names asked contents)
 
 -- The same if every file is read and all their lines are in `err`.
-pub record StopsWriting {S Z : Type 0} (reads : S → ℕ → Answer → S → Type 0) (finds : Z → List ℕ → FindAnswer → Z → Type 0) (i : Inputs S Z)
-    (request : Request) (o : Outputs) : Type 0 where
+pub record StopsWriting {S Z : Type 0} (reads : S → ℕ → Answer → S → Type 0) (finds : Z → List ℕ → FindAnswer → Z → Type 0) (inputs : Inputs S Z)
+    (request : Request) (outputs : Outputs) : Type 0 where
   pub contents : List Contents
-  pub read : ReadsAll reads i.names i.source contents i.source_after
+  pub read : ReadsAll reads inputs.names inputs.source contents inputs.source_after
   pub asked : List Asked
-  pub gave : AsksAll finds [] (all_wanted contents) i.zones asked i.zones_after
+  pub gave : AsksAll finds [] (all_wanted contents) inputs.zones asked inputs.zones_after
   pub told : Option (List ℕ)
-  pub lines : Appends o.err told (error_lines i.names asked contents)
+  pub lines : Appends outputs.err told (error_lines inputs.names asked contents)
   pub stops : StopsListing asked contents request o told
 
 -- What was written if a run ends with a fault: it ended as it read, or in the listing or the last line.
 abbrev pub Stops : {S Z : Type 0} → (S → ℕ → Answer → S → Type 0) → (Z → List ℕ → FindAnswer → Z → Type 0) → Inputs S Z → Request → Outputs → Type 0
-Stops reads finds i request o = StopsReading reads finds i o ⊎ StopsWriting reads finds i request o
+Stops reads finds inputs request outputs = StopsReading reads finds inputs outputs ⊎ StopsWriting reads finds inputs request outputs

@@ -89,11 +89,11 @@ fn outcome_with<Z: ZoneSource>(
     match wants_unread(alloc, zones, answered, &draft) {
         Ok(false) => settled(alloc, draft, &answered.files),
         Ok(true) => {
-            draft.discard();
+            drop(draft);
             Ok(Outcome::Refused(Refusal::Unread))
         }
         Err(fault) => {
-            draft.discard();
+            drop(draft);
             Err(fault)
         }
     }
