@@ -14,7 +14,6 @@ use Rattle.ics_components.specs.declared.fault.FaultKind.{FaultKind}
 use Rattle.ics_components.specs.declared.fault.FaultKind.TheVariants.{BadNesting}
 use Rattle.ics_components.specs.Names.{name_of}
 use Rattle.ics_components.specs.Faults.{stands, kinds}
-use Rattle.ics_components.proofs.DateValueLemmas.{skip}
 use Rattle.ics_components.proofs.NameLemmas.{equal}
 use Rattle.ics_components.specs.declared.name.Name.TheVariants as name
 
@@ -124,6 +123,11 @@ pub record IsSort {X : Type 0} (s : Sort X) : Type 0 where
   pub starts : (l : Placed) → s.begins l ≡ (is_begin l && s.stands_at (context_of (inside l)))
   pub alone : (whole : List Placed) (l : Placed) → s.stands_at (context_of (inside l)) ≡ true → open_as s whole l.path ≡ []
   pub ends : (path : List Open) (ls : List Placed) (l : Placed) → name_of (property_name l.content) ≡ name.End → s.by path (ls ++ l ∷ []) ≡ s.by path ls
+
+-- where no kind of fault is found, the first is not there, and none of those behind it
+skip : (b : Bool) (k : FaultKind) (rest : Option FaultKind) → cond b (Some k) rest ≡ None → (b ≡ false) × (rest ≡ None)
+skip true k rest e = cc
+skip false k rest e = (refl, e)
 
 -- no fault on a line, and thus no bad nesting
 none-found : (p : FaultKind → Bool) (front rest : List FaultKind) (k : FaultKind) → find p (front ++ k ∷ rest) ≡ None → p k ≡ false

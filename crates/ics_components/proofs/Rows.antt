@@ -31,8 +31,8 @@ use Rattle.ics_components.specs.declared.fault.FaultKind.{FaultKind}
 use Rattle.ics_components.specs.declared.fault.FaultKind.TheVariants.{BadStamp, BadDuration, BadOffset, BadRule, YearRange, NumberTooLarge, NoObservance}
 use Rattle.ics_components.specs.declared.fault.FaultKind.TheVariants.{ObservanceField, ZoneRule, NotCalendar, BadNesting, TooDeep, MissingUid, MissingStart}
 use Rattle.ics_components.specs.declared.fault.FaultKind.TheVariants.{Repeated, BadEnd, ThisAndFuture, Exrule, OldVersion}
-use Rattle.ics_components.specs.declared.date_values.DateValue.{DateValue}
-use Rattle.ics_components.specs.declared.date_values.DateValue.TheVariants.{At}
+use Rattle.ics_components.specs.DateValues.{DateValue, At, rdates_of, exdates_of, has_bad_stamp, has_far_stamp, has_bad_duration, has_large_duration}
+use Rattle.ics_components.specs.DateValues.{is_not_local}
 use Rattle.ics_components.specs.declared.frame.Frame.{Frame}
 use Rattle.ics_components.specs.declared.name.Name.{Name}
 use Rattle.ics_components.specs.declared.name.Name.TheVariants as name
@@ -42,11 +42,11 @@ use Rattle.ics_components.specs.declared.builder.Builder.TheVariants as builder
 use Rattle.ics_components.specs.declared.builder.ZoneBuilder.{ZoneBuilder}
 use Rattle.ics_components.specs.Components.{component_of, component_name, is_outside_context, is_calendar_context, is_event_context, is_zone_context}
 use Rattle.ics_components.specs.Components.{is_observance_context}
-use Rattle.ics_components.specs.DateValues.{rdates_of, exdates_of, has_bad_stamp, has_far_stamp, has_bad_duration, has_large_duration, is_not_local}
 use Rattle.ics_components.specs.Values.{zone_name, stamp_read, is_bad_stamp, is_far_stamp, lasting_of, is_bad_duration, is_large_duration, is_bad_offset}
 use Rattle.ics_components.specs.Values.{is_bad_rule, is_large_rule, is_fine_rule, is_large_integer, is_filled, ends_badly}
 use Rattle.ics_components.specs.Faults.{stamp_names, single_names, offset_names, field_names}
 use Rattle.ics_components.specs.Lines.{first, fault_if, stamp_fault_of, duration_fault_of, rule_fault_of, number_fault_of, offset_fault_of, outside_fault}
+use Rattle.ics_components.proofs.DateValueLemmas.{dates-row}
 use Rattle.ics_components.proofs.Judged.{fault_in}
 use Rattle.ics_components.proofs.NameLemmas.{IsUnknown, TellsComponent, tells_component}
 
@@ -215,15 +215,6 @@ number-row (Err integer_fault.NumberTooLarge) m = refl
 offset-row : (o : Result ℤ OffsetFault) (m : Option FaultKind) → cond (is_bad_offset o) (Some BadOffset) m ≡ first (offset_fault_of o) m
 offset-row (Ok o) m = refl
 offset-row (Err f) m = refl
-
-dates-row : (a b c d : Bool) (m : Option FaultKind) →
-    cond a (Some BadStamp) (cond b (Some BadDuration) (cond c (Some YearRange) (cond d (Some NumberTooLarge) m)))
-    ≡ first (cond a (Some BadStamp) (cond b (Some BadDuration) (cond c (Some YearRange) (cond d (Some NumberTooLarge) None)))) m
-dates-row true b c d m = refl
-dates-row false true c d m = refl
-dates-row false false true d m = refl
-dates-row false false false true m = refl
-dates-row false false false false m = refl
 
 -- what the END of a time zone, and that of an observance, meets
 zone-end : (none name : Bool) →

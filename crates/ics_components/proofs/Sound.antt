@@ -27,7 +27,7 @@ use Rattle.ics_components.specs.declared.event_builder.EventBuilder.{EventBuilde
 use Rattle.ics_components.specs.declared.component.Component.{Component}
 use Rattle.ics_components.specs.declared.component.Context.{Context}
 use Rattle.ics_components.specs.declared.component.Context.TheVariants as context
-use Rattle.ics_components.specs.declared.date_values.DateValue.TheVariants.{At, Between, Lasting}
+use Rattle.ics_components.specs.DateValues.{At, Between, Lasting, date_time_of, has_slash, rdate_of, rdates_of}
 use Rattle.ics_components.specs.declared.dated.Dated.{Dated}
 use Rattle.ics_components.specs.declared.frame.Frame.{Frame}
 use Rattle.ics_components.specs.declared.name.Name.{Name}
@@ -36,7 +36,6 @@ use Rattle.ics_components.specs.declared.builder.ObservanceBuilder.{ObservanceBu
 use Rattle.ics_components.specs.declared.builder.Builder.{Builder}
 use Rattle.ics_components.specs.declared.builder.Builder.TheVariants as builder
 use Rattle.ics_components.specs.Components.{component_of, context_in}
-use Rattle.ics_components.specs.DateValues.{date_time_of, has_slash, rdate_of, rdates_of}
 use Rattle.ics_components.specs.Lines.{or_first, opened, end_of_event, end_of_zone, event_note}
 use Rattle.ics_components.specs.Lines.{zone_note, observance_note, builder_note, joined, fault_at_end_of, ended_as}
 use Rattle.ics_components.specs.Sound.{IsSoundStamp, IsSoundList, IsSoundLength, IsWhole, IsSoundObservance, IsSoundZone}

@@ -17,9 +17,8 @@ use Rattle.ics_values.specs.declared.stamp.Stamp.{Stamp}
 use Rattle.ics_values.specs.declared.stamp.StampFault.{StampFault}
 use Rattle.ics_values.specs.declared.stamp.StampFault.TheVariants as stamp
 use Rattle.ics_values.proofs.StampLemmas.{stamp_day-said, date_of-stamp, day_number_range, stamp_years}
-use Rattle.ics_components.specs.declared.date_values.DateValue.{DateValue}
-use Rattle.ics_components.specs.declared.date_values.DateValue.TheVariants.{At, Between, Lasting}
-use Rattle.ics_components.specs.DateValues.{date_time_of, period_of, has_slash, rdate_of, exdate_of, rdates_of, exdates_of, listed_in}
+use Rattle.ics_components.specs.DateValues.{DateValue, At, Between, Lasting, date_time_of, period_of, has_slash, rdate_of, exdate_of, rdates_of, exdates_of}
+use Rattle.ics_components.specs.DateValues.{listed_in}
 use Rattle.ics_components.specs.Sound.{IsSoundStamp, IsSoundValue}
 use Rattle.ics_components.specs.Values.{stamp_in, duration_in, lasting_of, is_lasting, allowed}
 

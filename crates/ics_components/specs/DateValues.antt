@@ -5,6 +5,8 @@ use Rattle.ics_values.specs.Periods as period
 use Rattle.ics_values.specs.Periods.{first_half, second_half, lasts}
 use Rattle.ics_values.specs.RuleTexts.{pieces}
 use Rattle.ics_values.specs.Stamps.{is_date_time_form, stamp_of}
+use Rattle.ics_values.specs.declared.duration.Duration.{Duration}
+use Rattle.ics_values.specs.declared.duration.DurationFault.{DurationFault}
 use Rattle.ics_values.specs.declared.period.Period.{Period}
 use Rattle.ics_values.specs.declared.period.PeriodEnd.{PeriodEnd}
 use Rattle.ics_values.specs.declared.period.PeriodEnd.TheVariants as end
@@ -12,12 +14,16 @@ use Rattle.ics_values.specs.declared.stamp.Stamp.{Stamp}
 use Rattle.ics_values.specs.declared.stamp.Stamp.TheVariants.{Floating}
 use Rattle.ics_values.specs.declared.stamp.StampFault.{StampFault}
 use Rattle.ics_values.specs.declared.stamp.StampFault.TheVariants as stamp
-use Rattle.ics_components.specs.declared.date_values.DateValue.{DateValue}
-use Rattle.ics_components.specs.declared.date_values.DateValue.TheVariants.{At, Between, Lasting}
 use Rattle.ics_components.specs.declared.date_list.ListedDate.{ListedDate}
 use Rattle.ics_components.specs.declared.date_list.ListedDate.TheVariants as listed
 use Rattle.ics_values.specs.Zoned.{is_zoned}
 use Rattle.ics_components.specs.Values.{stamp_in, duration_in, is_bad_stamp, is_far_stamp, lasting_of, is_bad_duration, is_large_duration}
+
+-- A value as its text gives it: a stamp, or a PERIOD with its end or its duration.
+pub data DateValue : Type 0 where
+  At : Result Stamp StampFault → DateValue
+  Between : Result Stamp StampFault → Result Stamp StampFault → DateValue
+  Lasting : Result Stamp StampFault → Result Duration DurationFault → DateValue
 
 -- a half of a PERIOD that is a stamp: no DATE
 abbrev pub date_time_of : Bool → List ℕ → Result Stamp StampFault

@@ -17,8 +17,8 @@ use Rattle.ics_values.specs.declared.stamp.StampFault.{StampFault}
 use Rattle.ics_components.specs.declared.component.Context.{Context}
 use Rattle.ics_components.specs.declared.component.Context.TheVariants as context
 use Rattle.ics_components.specs.declared.date_list.DateList.{DateList}
-use Rattle.ics_components.specs.declared.date_values.DateValue.{DateValue}
-use Rattle.ics_components.specs.declared.date_values.DateValue.TheVariants.{At}
+use Rattle.ics_components.specs.DateValues.{DateValue, At, rdates_of, exdates_of, has_bad_stamp, has_far_stamp, has_bad_duration, has_large_duration}
+use Rattle.ics_components.specs.DateValues.{is_not_local}
 use Rattle.ics_components.specs.declared.dated.Dated.{Dated}
 use Rattle.ics_components.specs.declared.fault.FaultKind.{FaultKind}
 use Rattle.ics_components.specs.declared.fault.FaultKind.TheVariants.{BadLine, BadStamp, BadDuration, BadOffset, BadRule, YearRange, NumberTooLarge}
@@ -29,7 +29,6 @@ use Rattle.ics_components.specs.PlacedLines.{Placed, context_of, property_name, 
 use Rattle.ics_components.specs.PlacedLines.{in_calendar, in_event, in_observance, begins, is_closing, ends_event, ends_zone, begins_observance}
 use Rattle.ics_components.specs.PlacedLines.{has, has_all, first_named}
 use Rattle.ics_components.specs.DateLists.{rdate_list, exdate_list}
-use Rattle.ics_components.specs.DateValues.{rdates_of, exdates_of, has_bad_stamp, has_far_stamp, has_bad_duration, has_large_duration, is_not_local}
 use Rattle.ics_components.specs.Values.{zone_name, stamp_read, duration_in, rule_in, dated_of, is_bad_stamp, is_far_stamp, lasting_of, is_bad_duration}
 use Rattle.ics_components.specs.Values.{is_large_duration, is_bad_offset, is_bad_rule, is_large_rule, is_fine_rule, is_large_integer, is_filled, ends_badly}
 

@@ -3,6 +3,7 @@
 use Rattle.std.specs.Prelude.{ℕ, Bool, false, ◌&&◌, ◌||◌, not, ◌==◌, nat_le, List, [], ◌∷◌, ◌++◌, length, map, filter_map, codes, Option, Some, None, is_some}
 use Rattle.std.specs.Prelude.{Result, Ok, Err, ℤ, ◌≡◌, if◌then◌else◌}
 use Rattle.std.specs.List.{list_any}
+use Rattle.std.specs.Ordering.{ord_min}
 use Rattle.std.specs.Str.{bytes_eq}
 use Rattle.ics_text.specs.Bytes.{upper}
 use Rattle.ics_text.specs.ContentLines.{Parts, param_of}
@@ -11,6 +12,7 @@ use Rattle.ics_values.specs.Offsets.{offset_of}
 use Rattle.ics_values.specs.Plain.{text_of}
 use Rattle.ics_fields.specs.RuleParts.{RuleParts}
 use Rattle.ics_values.specs.Rules.{rule_of}
+use Rattle.ics_values.specs.RuleTexts.{pieces}
 use Rattle.ics_values.specs.Stamps.{stamp_of}
 use Rattle.ics_values.specs.declared.duration.Duration.{Duration}
 use Rattle.ics_values.specs.declared.duration.DurationFault.{DurationFault}
@@ -22,6 +24,7 @@ use Rattle.ics_values.specs.declared.offset.BadOffset.{BadOffset}
 use Rattle.ics_values.specs.declared.rule_text.RuleFault.{RuleFault}
 use Rattle.ics_values.specs.declared.rule_text.RuleFault.TheVariants as rule
 use Rattle.ics_values.specs.declared.stamp.Stamp.{Stamp}
+use Rattle.ics_values.specs.declared.stamp.Stamp.TheVariants.{Floating}
 use Rattle.ics_values.specs.declared.stamp.StampFault.{StampFault}
 use Rattle.ics_values.specs.declared.stamp.StampFault.TheVariants as stamp_fault
 use Rattle.ics_components.specs.declared.event_builder.EventBuilder.{EventBuilder}
@@ -29,8 +32,12 @@ use Rattle.ics_components.specs.declared.component.Component.{Component}
 use Rattle.ics_components.specs.declared.component.Component.TheVariants as component
 use Rattle.ics_components.specs.declared.component.Context.{Context}
 use Rattle.ics_components.specs.declared.component.Context.TheVariants as context
-use Rattle.ics_components.specs.declared.date_values.DateValue.{DateValue}
-use Rattle.ics_components.specs.declared.date_values.DateValue.TheVariants.{At}
+use Rattle.ics_components.specs.contracts.fault.FaultKindOrd.TheImpl as order
+use Rattle.ics_components.specs.declared.date_list.DateList.{DateList}
+use Rattle.ics_components.specs.declared.date_list.ListedDate.{ListedDate}
+use Rattle.ics_components.specs.declared.date_list.ListedDate.TheVariants as listed
+use Rattle.ics_components.specs.declared.date_values.Listing.{Listing}
+use Rattle.ics_components.specs.declared.date_values.Listing.TheVariants as listing
 use Rattle.ics_components.specs.declared.fault.FaultKind.{FaultKind}
 use Rattle.ics_components.specs.declared.fault.FaultKind.TheVariants as kind
 use Rattle.ics_components.specs.declared.frame.Frame.{Frame}
@@ -49,7 +56,8 @@ use Rattle.ics_components.specs.declared.builder.ZoneBuilder.{ZoneBuilder}
 use Rattle.ics_components.specs.Builders.{event_ended, fresh, zone_ended, observance_ended}
 use Rattle.ics_components.specs.Components.{component_of, component_name, context_in}
 use Rattle.ics_components.specs.DateLists.{rdate_list, exdate_list}
-use Rattle.ics_components.specs.DateValues.{rdates_of, exdates_of, has_bad_stamp, has_far_stamp, has_bad_duration, has_large_duration, is_not_local}
+use Rattle.ics_components.specs.DateValues.{DateValue, At, Between, Lasting, rdate_of, exdate_of, rdates_of, exdates_of, listed_in, has_bad_stamp}
+use Rattle.ics_components.specs.DateValues.{has_far_stamp, has_bad_duration, has_large_duration, is_not_local}
 use Rattle.ics_components.specs.Names.{name_of, gives_dates}
 use Rattle.ics_components.specs.Values.{zone_name, stamp_read, dated_of, lasting_of, duration_in, rule_in, ok_or_zero, is_cancelled, is_fine_rule, is_filled}
 use Rattle.ics_components.specs.Values.{ends_badly}
@@ -101,9 +109,17 @@ abbrev pub stamp_kind : StampFault → FaultKind
 stamp_kind stamp_fault.BadStamp = kind.BadStamp
 stamp_kind stamp_fault.YearRange = kind.YearRange
 
+abbrev pub stamp_judged : Result Stamp StampFault → Result Stamp FaultKind
+stamp_judged (Ok s) = Ok s
+stamp_judged (Err fault) = Err (stamp_kind fault)
+
 abbrev pub duration_kind : DurationFault → FaultKind
 duration_kind duration.BadDuration = kind.BadDuration
 duration_kind duration.NumberTooLarge = kind.NumberTooLarge
+
+abbrev pub duration_judged : Result Duration DurationFault → Result Duration FaultKind
+duration_judged (Ok d) = Ok d
+duration_judged (Err fault) = Err (duration_kind fault)
 
 abbrev pub rule_kind : RuleFault → FaultKind
 rule_kind rule.BadRule = kind.BadRule
@@ -129,6 +145,48 @@ offset_fault_of (Err fault) = Some kind.BadOffset
 abbrev pub number_fault_of : Result ℕ IntegerFault → Option FaultKind
 number_fault_of (Err integer.NumberTooLarge) = Some kind.NumberTooLarge
 number_fault_of _ = None
+
+-- the lesser of two faults, of which the first may not be there
+abbrev pub lesser : Option FaultKind → FaultKind → FaultKind
+lesser None kind = kind
+lesser (Some had) kind = ord_min order.ghosts.cmp had kind
+
+-- both values, or the lesser fault
+abbrev pub both : {A B : Type 0} → Result A FaultKind → Result B FaultKind → Result (A × B) FaultKind
+both (Ok a) (Ok b) = Ok (a, b)
+both (Ok a) (Err kind) = Err kind
+both (Err kind) (Ok b) = Err kind
+both (Err had) (Err kind) = Err (lesser (Some had) kind)
+
+abbrev listed_at : Result Stamp FaultKind → Result ListedDate FaultKind
+listed_at (Ok stamp) = Ok (listed.At stamp)
+listed_at (Err kind) = Err kind
+
+abbrev listed_both : {A : Type 0} → (Stamp → A → ListedDate) → Result (Stamp × A) FaultKind → Result ListedDate FaultKind
+listed_both list (Ok p) = Ok (list p.0 p.1)
+listed_both list (Err kind) = Err kind
+
+-- what a value of an RDATE or an EXDATE says, or its least fault
+abbrev pub judged : DateValue → Result ListedDate FaultKind
+judged (At stamp) = listed_at (stamp_judged stamp)
+judged (Between start end) = listed_both listed.Between (both (stamp_judged start) (stamp_judged end))
+judged (Lasting start duration) = listed_both listed.Lasting (both (stamp_judged start) (duration_judged duration))
+
+-- the same of an observance
+abbrev pub onset_judged : Result ListedDate FaultKind → Result Local FaultKind
+onset_judged (Ok (listed.At (Floating local))) = Ok local
+onset_judged (Ok _) = Err kind.ObservanceField
+onset_judged (Err fault) = Err fault
+
+abbrev pub value_of : Listing → Bool → List ℕ → DateValue
+value_of listing.Rdate = rdate_of
+value_of listing.Exdate = exdate_of
+
+abbrev pub values_of : Listing → Bool → List ℕ → List DateValue
+values_of listing zoned text = map (value_of listing zoned) (pieces 44 text)
+
+abbrev pub list_of : Listing → List ℕ → List ℕ → DateList
+list_of listing params value = record { values = map listed_in (values_of listing (is_some (zone_name params)) value); zone = zone_name params }
 
 abbrev pub dates_fault : List DateValue → Option FaultKind
 dates_fault values =

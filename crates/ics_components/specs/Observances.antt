@@ -13,12 +13,10 @@ use Rattle.ics_values.specs.declared.stamp.Stamp.{Stamp}
 use Rattle.ics_values.specs.declared.stamp.Stamp.TheVariants.{Floating}
 use Rattle.ics_values.specs.declared.stamp.StampFault.{StampFault}
 use Rattle.ics_fields.specs.Observances.{ObservanceSaid}
-use Rattle.ics_components.specs.declared.date_values.DateValue.{DateValue}
-use Rattle.ics_components.specs.declared.date_values.DateValue.TheVariants.{At}
+use Rattle.ics_components.specs.DateValues.{DateValue, At, rdates_of}
 use Rattle.ics_components.specs.declared.deferred_check.ZoneName.{ZoneName}
 use Rattle.ics_components.specs.Faults.{first_text, rule_on}
 use Rattle.ics_components.specs.PlacedLines.{Placed, value, in_calendar, in_zone, begins, begins_observance, calendar_of, lines_in, first_named, all_named}
-use Rattle.ics_components.specs.DateValues.{rdates_of}
 use Rattle.ics_components.specs.Values.{is_fine_rule, rule_in}
 
 -- the local of a value that is one

@@ -1,13 +1,13 @@
 //! A component that is being built of its lines.
-ghost use Rattle.std.specs.Prelude.{◌≡◌, ◌++◌, None};
+ghost use Rattle.std.specs.Prelude.{◌≡◌, None};
 ghost use Rattle.ics_components.specs.Builders.{fresh, zone_ended, observance_ended};
 ghost use Rattle.ics_components.specs.Lines.{Gives, Keeps, Notes, end_of_zone, end_of_observance, observance_fault, observance_note};
-ghost use Rattle.ics_components.specs.Lines.{builder_fault, builder_note, builder_check, joined, passed, locals_fault, locals_of};
+ghost use Rattle.ics_components.specs.Lines.{builder_fault, builder_note, builder_check, joined, passed};
 ghost use Rattle.ics_components.specs.declared.builder.Builder.TheVariants.{Observance};
 ghost use Rattle.ics_components.specs.declared.gathered.Ended.TheVariants.{Zone};
 
 use crate::component::Context;
-use crate::date_values::DateValues;
+use crate::dated::stamp;
 use crate::deferred_check::{DeferredCheck, ZoneName};
 use crate::event_builder::{EventBuilder, once};
 use crate::fault::FaultKind;
@@ -18,7 +18,7 @@ use crate::refused::Refused;
 use crate::rule_value::RuleValue;
 use crate::tzid::{Tzid, Tzids};
 use ics_text::Content;
-use ics_values::{Local, Stamp, read_offset, read_stamp};
+use ics_values::{Local, Stamp, read_offset};
 use std::alloc::Global;
 
 /// What has been read of a component so far, if it is one that is read.
@@ -68,16 +68,6 @@ impl ZoneBuilder {
 }
 
 impl ObservanceBuilder {
-    /// Adds the local times of an RDATE.
-    fn add_rdates(&mut self, alloc: Global, value: &[u8]) -> Result<(), Refused>
-        ensures { Keeps result self.new (locals_fault value.now) (record self.old { rdates = self.old.rdates ++ locals_of value.now }) }
-    {
-        let values = DateValues::of_rdate(alloc, value, false)?;
-        let mut more = values.locals(alloc)?;
-        self.rdates.locals.append(&mut more.locals)?;
-        Ok(())
-    }
-
     fn line(&mut self, alloc: Global, name: Name, content: &Content<'_>) -> Result<(), Refused>
         ensures { Keeps result self.new (observance_fault name content.now self.old) (observance_note name content.now self.old) }
     {
@@ -85,7 +75,7 @@ impl ObservanceBuilder {
         let field = FaultKind::ObservanceField;
         match name {
             // it is on the clock before it, whatever TZID stands beside it
-            Name::Dtstart => match read_stamp(value, false)? {
+            Name::Dtstart => match stamp(value, false)? {
                 Stamp::Floating(local) => once(&mut self.start, local, field)?,
                 _ => return Err(Refused::Fault(field)),
             },
@@ -95,7 +85,7 @@ impl ObservanceBuilder {
                 let rule = RuleValue::read_daily(alloc, value)?;
                 once(&mut self.rule, rule, FaultKind::ZoneRule)?;
             }
-            Name::Rdate => self.add_rdates(alloc, value)?,
+            Name::Rdate => self.rdates.add(value)?,
             _ => {}
         }
         Ok(())

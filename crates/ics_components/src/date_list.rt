@@ -1,13 +1,12 @@
 //! The values of RDATE and EXDATE with the zones that their lines name (RFC 5545, sections 3.8.5.1 and 3.8.5.2).
 ghost use Rattle.std.specs.Prelude.{◌≡◌, ◌++◌, ◌∷◌, [], is_some, IfOk};
 ghost use Rattle.std.specs.List.{list_any};
-ghost use Rattle.ics_components.specs.DateLists.{rdate_list, exdate_list};
-ghost use Rattle.ics_components.specs.DateValues.{has_zoned, rdates_of, exdates_of};
-ghost use Rattle.ics_components.specs.Lines.{Notes, dates_fault};
+ghost use Rattle.ics_components.specs.DateValues.{has_zoned};
+ghost use Rattle.ics_components.specs.Lines.{Notes, dates_fault, values_of, list_of};
 ghost use Rattle.ics_components.specs.SecondRound.{listed_zone};
 ghost use Rattle.ics_components.specs.Values.{zone_name};
 
-use crate::date_values::DateValues;
+use crate::date_values::Listing;
 use crate::dated::zone_name;
 use crate::deferred_check::{DeferredCheck, ZoneName};
 use crate::refused::Refused;
@@ -98,47 +97,24 @@ impl DateList {
 }
 
 impl DateLists {
-    /// Adds a list of that calendar, and gives the check of its time zone.
-    fn add(&mut self, calendar: u64, list: DateList) -> Result<Option<DeferredCheck>, AllocError>
-        ensures added { IfOk result (λ _. self.new ≡ self.old ++ list ∷ []) }
-        ensures check { IfOk result (λ check. check ≡ listed_zone calendar list) }
+    /// Adds what a line of that calendar lists, and gives the check of its time zone.
+    pub(crate) fn add_line(
+        &mut self,
+        alloc: Global,
+        tzids: &mut Tzids,
+        calendar: u64,
+        listing: Listing,
+        content: &Content<'_>,
+    ) -> Result<Option<DeferredCheck>, Refused>
+        ensures { Notes result self.new (dates_fault (values_of listing (is_some (zone_name content.now.params)) content.now.value))
+            (self.old ++ list_of listing content.now.params content.now.value ∷ [])
+            (listed_zone calendar (list_of listing content.now.params content.now.value)) }
     {
+        let zone = zone_name(alloc, tzids, content)?;
+        let values = Dates::read(alloc, listing, content.value(), zone.is_some())?;
+        let list = DateList { values, zone };
         let check = list.used_zone(calendar)?;
         self.lists.push(list)?;
         Ok(check)
-    }
-
-    /// Adds what an RDATE of that calendar lists, and gives the check of its time zone.
-    pub(crate) fn add_rdates(
-        &mut self,
-        alloc: Global,
-        tzids: &mut Tzids,
-        calendar: u64,
-        content: &Content<'_>,
-    ) -> Result<Option<DeferredCheck>, Refused>
-        ensures { Notes result self.new (dates_fault (rdates_of (is_some (zone_name content.now.params)) content.now.value))
-            (self.old ++ rdate_list content.now.params content.now.value ∷ []) (listed_zone calendar (rdate_list content.now.params content.now.value)) }
-    {
-        let zone = zone_name(alloc, tzids, content)?;
-        let values = DateValues::of_rdate(alloc, content.value(), zone.is_some())?;
-        let values = values.listed(alloc)?;
-        Ok(self.add(calendar, DateList { values, zone })?)
-    }
-
-    /// The same of an EXDATE.
-    pub(crate) fn add_exdates(
-        &mut self,
-        alloc: Global,
-        tzids: &mut Tzids,
-        calendar: u64,
-        content: &Content<'_>,
-    ) -> Result<Option<DeferredCheck>, Refused>
-        ensures { Notes result self.new (dates_fault (exdates_of (is_some (zone_name content.now.params)) content.now.value))
-            (self.old ++ exdate_list content.now.params content.now.value ∷ []) (listed_zone calendar (exdate_list content.now.params content.now.value)) }
-    {
-        let zone = zone_name(alloc, tzids, content)?;
-        let values = DateValues::of_exdate(alloc, content.value(), zone.is_some())?;
-        let values = values.listed(alloc)?;
-        Ok(self.add(calendar, DateList { values, zone })?)
     }
 }

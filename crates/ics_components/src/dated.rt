@@ -1,14 +1,16 @@
 //! A stamp and the zone that its line names (RFC 5545, section 3.2.19).
-ghost use Rattle.std.specs.Prelude.{◌≡◌, IfOk};
-ghost use Rattle.ics_components.specs.Lines.{Gives, stamp_fault_of};
+ghost use Rattle.std.specs.Prelude.{◌≡◌, IfOk, IfErr, Ok, Some};
+ghost use Rattle.ics_values.specs.Stamps.{stamp_of};
+ghost use Rattle.ics_components.specs.Lines.{Gives, stamp_judged, stamp_fault_of};
 ghost use Rattle.ics_components.specs.SecondRound.{used_zone, instant_in};
 ghost use Rattle.ics_components.specs.Values.{dated_of, stamp_read, tzid, zone_name};
 
 use crate::deferred_check::{DeferredCheck, Instant, ZoneName};
+use crate::fault::FaultKind;
 use crate::refused::Refused;
 use crate::tzid::{Tzid, Tzids};
 use ics_text::Content;
-use ics_values::{Stamp, is_zoned, read_stamp};
+use ics_values::{Stamp, StampFault, is_zoned, read_stamp};
 use std::alloc::{AllocError, Global};
 
 /// The value of a DTSTART, DTEND or RECURRENCE-ID (RFC 5545, sections 3.8.2.4, 3.8.2.2 and 3.8.4.4): a stamp, which is zoned only beside a TZID, and the
@@ -17,6 +19,19 @@ use std::alloc::{AllocError, Global};
 pub struct Dated {
     pub stamp: Stamp,
     pub zone: Option<Tzid>,
+}
+
+/// The stamp that a text says, or its fault; `zoned` says that a TZID stands beside it.
+pub fn stamp(text: &[u8], zoned: bool) -> Result<Stamp, FaultKind>
+    ensures judged { result ≡ stamp_judged (stamp_of zoned text.now) }
+    ensures said { IfOk result (λ stamp. stamp_of zoned text.now ≡ Ok stamp) }
+    ensures fault { IfErr result (λ kind. stamp_fault_of (stamp_of zoned text.now) ≡ Some kind) }
+{
+    match read_stamp(text, zoned) {
+        Ok(stamp) => Ok(stamp),
+        Err(StampFault::BadStamp) => Err(FaultKind::BadStamp),
+        Err(StampFault::YearRange) => Err(FaultKind::YearRange),
+    }
 }
 
 /// The name of the zone that a line's TZID gives.
@@ -43,7 +58,7 @@ impl Dated {
         ensures { Gives result (stamp_fault_of (stamp_read content.now.params content.now.value)) (dated_of content.now.params content.now.value) }
     {
         let zone = zone_name(alloc, tzids, content)?;
-        let stamp = read_stamp(content.value(), zone.is_some())?;
+        let stamp = stamp(content.value(), zone.is_some())?;
         Ok(Dated { stamp, zone })
     }
 

@@ -1,10 +1,12 @@
 //! How long an event lasts: its end against its start, and its duration (RFC 5545, sections 3.8.2.2 and 3.8.2.5).
-ghost use Rattle.std.specs.Prelude.{◌≡◌, IfOk};
+ghost use Rattle.std.specs.Prelude.{◌≡◌, IfOk, IfErr, Ok, Some};
+ghost use Rattle.ics_components.specs.Lines.{duration_judged, duration_fault_of};
 ghost use Rattle.ics_components.specs.SecondRound.{compared, ends_in};
 ghost use Rattle.ics_components.specs.Values.{is_lasting, lasting_of, is_out, ends_badly};
 
 use crate::dated::Dated;
 use crate::deferred_check::{DeferredCheck, Instant};
+use crate::fault::FaultKind;
 use ics_values::{Duration, DurationFault, Stamp, is_zoned, read_duration};
 use std::alloc::AllocError;
 
@@ -86,24 +88,16 @@ fn is_lasting(duration: Duration) -> bool
 }
 
 /// The duration of an event: not negative, but for zero, and no longer than an event may be.
-pub fn lasting(text: &[u8]) -> Result<Duration, DurationFault>
-    ensures { result ≡ lasting_of text.now }
+pub fn lasting(text: &[u8]) -> Result<Duration, FaultKind>
+    ensures judged { result ≡ duration_judged (lasting_of text.now) }
+    ensures said { IfOk result (λ duration. lasting_of text.now ≡ Ok duration) }
+    ensures fault { IfErr result (λ kind. duration_fault_of (lasting_of text.now) ≡ Some kind) }
 {
     match read_duration(text) {
-        Ok(duration) => {
-            if is_lasting(duration) {
-                Ok(duration)
-            } else {
-                Err(DurationFault::BadDuration)
-            }
+        Ok(duration) if is_lasting(duration) => Ok(duration),
+        Err(DurationFault::NumberTooLarge) if text.first() != Some(&b'-') => {
+            Err(FaultKind::NumberTooLarge)
         }
-        Err(DurationFault::NumberTooLarge) => {
-            if text.first() == Some(&b'-') {
-                Err(DurationFault::BadDuration)
-            } else {
-                Err(DurationFault::NumberTooLarge)
-            }
-        }
-        Err(DurationFault::BadDuration) => Err(DurationFault::BadDuration),
+        _ => Err(FaultKind::BadDuration),
     }
 }

@@ -12,6 +12,7 @@ ghost use Rattle.ics_components.specs.Values.{dated_of, ok_or_zero, stamp_read};
 ghost use Rattle.ics_components.specs.GivenTimes.{given_length};
 
 use crate::date_list::DateLists;
+use crate::date_values::Listing;
 use crate::dated::Dated;
 use crate::deferred_check::DeferredCheck;
 use crate::ends::{ends_badly, ends_in, lasting};
@@ -151,8 +152,14 @@ impl EventBuilder {
                 }
                 Ok(check)
             }
-            Name::Rdate => self.rdates.add_rdates(alloc, tzids, calendar, content),
-            Name::Exdate => self.exdates.add_exdates(alloc, tzids, calendar, content),
+            Name::Rdate => {
+                self.rdates
+                    .add_line(alloc, tzids, calendar, Listing::Rdate, content)
+            }
+            Name::Exdate => {
+                self.exdates
+                    .add_line(alloc, tzids, calendar, Listing::Exdate, content)
+            }
             _ => Ok(None),
         }
     }

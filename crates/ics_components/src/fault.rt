@@ -6,7 +6,7 @@ use std::error::Error;
 use std::fmt;
 
 /// What is wrong on a line. If a line has several faults, the first in this order counts.
-#[derive(Clone, Copy, Debug, PartialEq, Eq)]
+#[derive(Clone, Copy, Debug, PartialEq, Eq, PartialOrd, Ord)]
 pub enum FaultKind {
     /// A line that is not a content line.
     BadLine,

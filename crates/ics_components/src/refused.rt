@@ -2,10 +2,10 @@
 ghost use Rattle.std.specs.Prelude.{◌≡◌};
 ghost use Rattle.ics_components.specs.declared.fault.FaultKind.TheVariants as kind;
 ghost use Rattle.ics_components.specs.declared.refused.Refused.TheVariants.{Memory, Fault};
-ghost use Rattle.ics_components.specs.Lines.{stamp_kind, duration_kind, rule_kind};
+ghost use Rattle.ics_components.specs.Lines.{rule_kind};
 
 use crate::fault::FaultKind;
-use ics_values::{BadOffset, DurationFault, RuleFault, StampFault};
+use ics_values::{BadOffset, RuleFault};
 use std::alloc::{AllocError, AllocFailed};
 
 /// Why a line is not taken: memory is refused, or a fault stands on it.
@@ -36,28 +36,6 @@ impl From<FaultKind> for Refused {
 
     fn from(kind: FaultKind) -> Refused {
         Refused::Fault(kind)
-    }
-}
-
-impl From<StampFault> for Refused {
-    ghost from_gives = { λ fault e. e ≡ Fault (stamp_kind fault) };
-
-    fn from(fault: StampFault) -> Refused {
-        match fault {
-            StampFault::BadStamp => Refused::Fault(FaultKind::BadStamp),
-            StampFault::YearRange => Refused::Fault(FaultKind::YearRange),
-        }
-    }
-}
-
-impl From<DurationFault> for Refused {
-    ghost from_gives = { λ fault e. e ≡ Fault (duration_kind fault) };
-
-    fn from(fault: DurationFault) -> Refused {
-        match fault {
-            DurationFault::BadDuration => Refused::Fault(FaultKind::BadDuration),
-            DurationFault::NumberTooLarge => Refused::Fault(FaultKind::NumberTooLarge),
-        }
     }
 }
 

@@ -1,0 +1,7 @@
+use Rattle.std.proofs.Common.{map, false}
+use Rattle.ics_components.specs.DateValues.{rdate_of}
+use Rattle.ics_components.proofs.DateValueLemmas.{AreOnsets}
+use Rattle.ics_components.proofs.observances.Locals.add.Given as goal
+
+abbrev pub invariant-values : goal.invariant-values
+invariant-values l = AreOnsets l.initial.self-inside.locals.items (map (λ y. rdate_of false y.now) l.yielded) l.least l.self-inside.locals.items
