@@ -2,7 +2,7 @@
 ghost use Rattle.std.specs.Prelude.{◌≡◌, None};
 ghost use Rattle.ics_components.specs.Builders.{fresh, zone_ended, observance_ended};
 ghost use Rattle.ics_components.specs.Lines.{Gives, Keeps, Notes, end_of_zone, end_of_observance, observance_fault, observance_note};
-ghost use Rattle.ics_components.specs.Lines.{builder_fault, builder_note, builder_check, joined, passed};
+ghost use Rattle.ics_components.specs.Lines.{builder_fault, builder_note, builder_check, fault_at_end_of, joined, passed, ended_as, end_check};
 ghost use Rattle.ics_components.specs.declared.builder.Builder.TheVariants.{Observance};
 ghost use Rattle.ics_components.specs.declared.gathered.Ended.TheVariants.{Zone};
 
@@ -143,6 +143,21 @@ impl Builder {
                 },
             }),
             _ => Builder::Nothing,
+        }
+    }
+
+    /// What the component in that calendar is at its END. An observance goes to what it stands in.
+    pub fn end(self, alloc: Global, calendar: u64, outer: &mut Builder) -> Result<Passed, Refused>
+        ensures { Notes result outer.new (fault_at_end_of self) (joined self outer.old) (passed (ended_as calendar self) (end_check calendar self)) }
+    {
+        match self {
+            Builder::Event(had) => had.end(alloc, calendar),
+            Builder::Zone(had) => had.end(calendar),
+            Builder::Observance(had) => {
+                had.join(outer)?;
+                Ok(Passed::nothing())
+            }
+            Builder::Nothing => Ok(Passed::nothing()),
         }
     }
 

@@ -69,10 +69,13 @@ pub fn ends_in(
     if is_zoned(start.stamp) && is_zoned(end.stamp) && start.tzid() == end.tzid() {
         return Ok(None);
     }
-    match (start.instant(calendar)?, end.instant(calendar)?) {
-        (Some(start), Some(end)) => Ok(compared(start, end)),
-        _ => Ok(None),
-    }
+    let Some(start) = start.instant(calendar)? else {
+        return Ok(None);
+    };
+    let Some(end) = end.instant(calendar)? else {
+        return Ok(None);
+    };
+    Ok(compared(start, end))
 }
 
 fn is_lasting(duration: Duration) -> bool

@@ -13,7 +13,7 @@ ghost use Rattle.ics_components.specs.GivenTimes.{given_length};
 
 use crate::date_list::DateLists;
 use crate::date_values::Listing;
-use crate::dated::Dated;
+use crate::dated::{Dated, used_in};
 use crate::deferred_check::DeferredCheck;
 use crate::ends::{ends_badly, ends_in, lasting};
 use crate::fault::FaultKind;
@@ -68,9 +68,8 @@ fn put_date(
         (or_first kept.old (dated_of content.now.params content.now.value)) (used_zone calendar (dated_of content.now.params content.now.value)) }
 {
     let dated = Dated::read(alloc, tzids, content)?;
-    let check = dated.used_zone(calendar)?;
     once(kept, dated, FaultKind::Repeated)?;
-    Ok(check)
+    Ok(used_in(calendar, kept)?)
 }
 
 /// Keeps the first text of several.
@@ -148,6 +147,7 @@ impl EventBuilder {
             Name::RecurrenceId => {
                 let check = put_date(&mut self.recurrence, alloc, tzids, calendar, content)?;
                 if content.param(b"RANGE").is_some() {
+                    drop(check);
                     return Err(Refused::Fault(FaultKind::ThisAndFuture));
                 }
                 Ok(check)
@@ -276,13 +276,23 @@ impl EventBuilder {
     pub fn end(mut self, alloc: Global, calendar: u64) -> Result<Passed, Refused>
         ensures { Gives result (end_of_event self) (passed (Event (event_ended calendar self)) (ends_in calendar self.start self.end)) }
     {
-        let check = self.check_at_end(calendar)?;
-        let Some(start) = self.start.take() else {
-            return Err(Refused::Fault(FaultKind::MissingStart));
+        let check = match self.check_at_end(calendar) {
+            Ok(check) => check,
+            Err(refused) => {
+                drop(self);
+                return Err(refused);
+            }
         };
-        Ok(Passed {
-            ended: Ended::Event(self.started(alloc, calendar, start)),
-            check,
-        })
+        match self.start.take() {
+            Some(start) => Ok(Passed {
+                ended: Ended::Event(self.started(alloc, calendar, start)),
+                check,
+            }),
+            None => {
+                drop(self);
+                drop(check);
+                Err(Refused::Fault(FaultKind::MissingStart))
+            }
+        }
     }
 }

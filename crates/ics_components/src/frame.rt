@@ -33,16 +33,9 @@ impl Frame {
             ..
         } = self;
         if !component.is_named(name) {
+            drop(builder);
             return Err(Refused::Fault(FaultKind::BadNesting));
         }
-        match builder {
-            Builder::Event(had) => had.end(alloc, calendar),
-            Builder::Zone(had) => had.end(calendar),
-            Builder::Observance(had) => {
-                had.join(outer)?;
-                Ok(Passed::nothing())
-            }
-            Builder::Nothing => Ok(Passed::nothing()),
-        }
+        builder.end(alloc, calendar, outer)
     }
 }
