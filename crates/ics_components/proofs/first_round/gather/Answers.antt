@@ -1,4 +1,5 @@
 use Rattle.std.proofs.Common.{◌≡◌, ◌+◌, ◌∷◌, [], List, length, arith, sym, None, Result, Ok, Err, IfOk}
+use Rattle.std.proofs.lemmas.Grind.{common_steps}
 use Rattle.ics_text.specs.Unfolded.{Line, unfolded}
 use Rattle.ics_components.specs.FirstFault.{Fault}
 use Rattle.ics_components.specs.Gathered.{nothing_gathered, IsSoundGathered}
@@ -12,6 +13,9 @@ pub pass_lines-requires : goal.pass_lines-requires
 pass_lines-requires c =
     rw c.in-Ok.ensures.lines (fits-from_within (length c.args.bytes.now + 1) (unfolded c.args.bytes.now) (omega (arith, c.requires))
     (c.numbers_within.ensures c.args.bytes.now))
+
+pub returns-clause-gathered : goal.returns-clause-gathered
+returns-clause-gathered c = grind (arith, common_steps)
 
 -- what is gathered is sound, unless memory is refused
 sound : {E : Type 0} (lines : List Line) (answer : Result (Result GatheredSeen Fault) E) →
