@@ -29,8 +29,7 @@ use Rattle.ics_components.specs.FirstFault.{Round, IsFirst, first_fault, first_f
 use Rattle.ics_calendar.specs.Files.{later_fault}
 use Rattle.ics_components.specs.PlacedLines.{Open, Placed, placed, placed_from, path_behind, beside}
 use Rattle.ics_components.specs.declared.date_list.ListedDate.{ListedDate}
-use Rattle.ics_components.specs.declared.date_values.DateValue.TheVariants.{At, Between, Lasting}
-use Rattle.ics_components.specs.DateValues.{date_time_of, has_slash, listed_by, listed_said, period_of, OnePeriod}
+use Rattle.ics_components.specs.DateValues.{At, Between, Lasting, date_time_of, has_slash, listed_by, listed_said, period_of, OnePeriod}
 use Rattle.ics_components.specs.Values.{allowed, is_lasting, lasting_of}
 use Rattle.ics_components.specs.declared.fault.FaultKind.{FaultKind}
 use Rattle.ics_components.specs.declared.fault.FaultKind.TheVariants.{BadZoneFile, BadNesting, NotCalendar}
