@@ -1,5 +1,5 @@
 -- Case distinctions of options, tests and orders.
-use Rattle.std.proofs.Common.{◌≡◌, ℕ, suc, ◌<◌, ℤ, ◌⊎◌, Bool, true, false, not, Some, refl, arith}
+use Rattle.std.proofs.Common.{◌≡◌, ℕ, suc, ◌<◌, ◌≤◌, ℤ, ◌⊎◌, Bool, true, false, not, Some, refl, arith}
 use Rattle.std.specs.Ordering.{int_eq, is_eq, is_gt, ordering_then}
 use Rattle.std.specs.declared.cmp.Ordering.{Ordering}
 use Rattle.std.specs.declared.cmp.Ordering.TheVariants.{Less, Equal, Greater}
@@ -30,3 +30,6 @@ up-to-front Greater d h = h
 
 pub below-or-last : (m n : ℕ) → m < suc n → (m < n) ⊎ (m ≡ n)
 below-or-last m n l = grind arith
+
+pub here-or-later : (from to : ℕ) → from ≤ to → (from ≡ to) ⊎ (from < to)
+here-or-later from to h = grind arith

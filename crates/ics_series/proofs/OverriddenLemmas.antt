@@ -25,7 +25,7 @@ use Rattle.ics_series.specs.Clocks.{Clock}
 use Rattle.ics_series.specs.Overridden.{instance_of, AreOverridden}
 use Rattle.ics_series.specs.Rising.{IsBefore, Rises}
 use Rattle.ics_series.specs.Versions.{is_named, seen, subject_cmp, subject_seen, AreChosen}
-use Rattle.ics_series.proofs.Cases.{some-same}
+use Rattle.ics_series.proofs.Cases.{some-same, eq-Equal}
 use Rattle.ics_series.proofs.OverrideLemmas.{chosen-rises, map-rises, rises-sorted}
 use Rattle.ics_series.proofs.PickLemmas.{rises-picked}
 use Rattle.ics_series.proofs.VersionLemmas.{subject_total}
@@ -150,12 +150,7 @@ module _ (uid : List ℕ) where
   own-uid s t = by (bytes_eq s.uid uid) refl
     where
       by : (b : Bool) → bytes_eq s.uid uid ≡ b → (if b then s.recurrence else None) ≡ Some t → (s.uid ≡ uid) × (s.recurrence ≡ Some t)
-      by true e h = (exact_bytes s.uid uid (equal (slice_cmp nat_cmp s.uid uid) (is_eq-slice_cmp s.uid uid ∙ e)), h)
-        where
-          equal : (c : Ordering) → is_eq c ≡ true → c ≡ Equal
-          equal Less e = let f : false ≡ true = e in cc
-          equal Equal e = refl
-          equal Greater e = let f : false ≡ true = e in cc
+      by true e h = (exact_bytes s.uid uid (eq-Equal (slice_cmp nat_cmp s.uid uid) (is_eq-slice_cmp s.uid uid ∙ e)), h)
       by false e h = let f : None ≡ Some t = h in absurd cc
 
   instances-rise : (v w : Version) {t u : ℤ} → instance_of uid (subject_seen v.subject) ≡ Some t → instance_of uid (subject_seen w.subject) ≡ Some u →

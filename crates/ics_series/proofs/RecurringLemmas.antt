@@ -29,7 +29,7 @@ use Rattle.ics_series.specs.Spots.{event_at}
 use Rattle.ics_series.specs.Starts.{time_of}
 use Rattle.ics_series.specs.Versions.{is_named, label_of, seen, AreChosen, Label}
 use Rattle.ics_series.specs.FileZones.{clocks_in}
-use Rattle.ics_series.proofs.SeriesLemmas.{in-among}
+use Rattle.ics_series.proofs.SeriesLemmas.{in-among, among-in}
 use Rattle.ics_series.proofs.Cases.{not-true, some-same}
 use Rattle.ics_series.proofs.AfterLemmas.{since-none}
 use Rattle.ics_series.proofs.PickLemmas.{listing-filter}
@@ -50,12 +50,11 @@ recurring-master event = by event.recurrence ((is_none event.rule && length even
 
 -- Instants among others.
 pub not-among : (t : ℤ) (instants : List ℤ) → (IsIn t instants → ⊥) → list_any (λ x. int_eq x t) instants ≡ false
-not-among t [] n = refl
-not-among t (x ∷ xs) n = by (int_eq x t) refl (not-among t xs (λ m. n (inr m)))
+not-among t instants n = by (list_any (λ x. int_eq x t) instants) refl
   where
-    by : (b : Bool) → int_eq x t ≡ b → list_any (λ x. int_eq x t) xs ≡ false → (b || list_any (λ x. int_eq x t) xs) ≡ false
-    by true e f = let same : t ≡ x = grind (arith, ints) in absurd (n (inl same))
-    by false e f = f
+    by : (b : Bool) → list_any (λ x. int_eq x t) instants ≡ b → b ≡ false
+    by true e = absurd (n (among-in t instants e))
+    by false e = refl
 
 -- an occurrence begins after the last two days of the year 0000 have begun
 pub of-late : (zones : FileZones) (event : Event) (o : Entry) → IsEvent event → IsOf (clocks_in zones) event o → occurrence_first ≤ℤ o.start

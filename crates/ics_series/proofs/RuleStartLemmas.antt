@@ -16,14 +16,12 @@ use Rattle.ics_series.specs.Rising.{Rises}
 use Rattle.ics_series.specs.RuleStarts.{found, found_in, gives, lets_until, local_numbered, moment_numbered, to_come, with_held, with_put}
 use Rattle.ics_series.proofs.FirstLemmas.{moment_total}
 use Rattle.ics_series.proofs.UnionLemmas.{union_assoc}
+use Rattle.ics_series.proofs.Cases.{here-or-later}
 
 module _ (clocks : Clocks) (event : Event) (rule : Recurrence) (w : Window) where
   -- none of the locals from one on and before another gives a start
   abbrev pub NoneGives : ℕ → ℕ → Type 0
   NoneGives from to = (n : ℕ) → from ≤ n → n < to → gives clocks event rule w n ≡ false
-
-  here-or-later : (from to : ℕ) → from ≤ to → (from ≡ to) ⊎ (from < to)
-  here-or-later from to h = grind arith
 
   module _ (to m : ℕ) where
     found_in-skipped : (from n : ℕ) → from ≤ to → from + n ≡ to + m → NoneGives from to →

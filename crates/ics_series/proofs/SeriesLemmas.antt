@@ -3,7 +3,7 @@ use Rattle.std.specs.Prelude.{◌≤ℤ◌, ◌<ℤ◌, ◌&&◌, ◌||◌, not,
 use Rattle.std.proofs.Common.{◌≡◌, ℕ, zero, suc, ℤ, ◌-ℤ◌, List, [], ◌∷◌, drop, Bool, true, false, Option, Some, None, option_map, ◌⊎◌, inl, inr, ⊎_elim, refl}
 use Rattle.std.proofs.Common.{sym, ◌∙◌, ap, subst, arith}
 use Rattle.std.proofs.lemmas.Int.{ints}
-use Rattle.std.specs.List.{cons_option}
+use Rattle.std.specs.List.{cons_option, list_any}
 use Rattle.std.specs.Cmp.Lexicographic.{slice_cmp}
 use Rattle.std.specs.Ordering.{int_cmp, int_eq, nat_cmp, on, ordering_then, then_cmp}
 use Rattle.std.specs.declared.cmp.Ordering.{Ordering}
@@ -127,22 +127,29 @@ module _ (zones : FileZones) (w : Window) (event : Event) where
       let gives = known-gives s.source s.given sound.start k.gives in
       record { gives = gives; value = gives-value (clocks_in zones) event s.source s.given sound.start sound.rdates gives; moment = k.moment }
 
--- An instant is one of some.
-among-in : (t : ℤ) (xs : List ℤ) → is_among xs t ≡ true → IsIn t xs
-among-in t [] e = let f : false ≡ true = e in absurd cc
-among-in t (x ∷ xs) e = by (int_eq x t) refl (among-in t xs) e
+-- One of some passes a test.
+any-in : {A : Type 0} (p : A → Bool) (xs : List A) → list_any p xs ≡ true → (x : A) × IsIn x xs × (p x ≡ true)
+any-in p [] e = let f : false ≡ true = e in absurd cc
+any-in {A = A} p (x ∷ xs) e = by (p x) refl (any-in p xs) e
   where
-    by : (b : Bool) → int_eq x t ≡ b → (is_among xs t ≡ true → IsIn t xs) → (b || is_among xs t) ≡ true → IsIn t (x ∷ xs)
-    by true e ih h = inl (sym (equal-true x t e))
-    by false e ih h = inr (ih h)
+    by : (b : Bool) → p x ≡ b → (list_any p xs ≡ true → (y : A) × IsIn y xs × (p y ≡ true)) → (b || list_any p xs) ≡ true →
+        (y : A) × IsIn y (x ∷ xs) × (p y ≡ true)
+    by true e ih h = (x, inl refl, e)
+    by false e ih h = let k = ih h in (k.0, inr k.1, k.2)
+
+in-any : {A : Type 0} (p : A → Bool) (x : A) (xs : List A) → p x ≡ true → IsIn x xs → list_any p xs ≡ true
+in-any p x [] is m = absurd m
+in-any p x (y ∷ ys) is m = ⊎_elim (λ e. ap (λ b. b || list_any p ys) (ap p (sym e) ∙ is)) (λ n. or_right (p y) (in-any p x ys is n)) m
+  where
+    or_right : (b : Bool) {c : Bool} → c ≡ true → (b || c) ≡ true
+    or_right true e = refl
+    or_right false e = e
+
+pub among-in : (t : ℤ) (xs : List ℤ) → is_among xs t ≡ true → IsIn t xs
+among-in t xs e = let k = any-in (λ x. int_eq x t) xs e in subst (λ x. IsIn x xs) (equal-true k.0 t k.2) k.1
 
 pub in-among : (t : ℤ) (xs : List ℤ) → IsIn t xs → is_among xs t ≡ true
-in-among t [] m = absurd m
-in-among t (x ∷ xs) m = by (int_eq x t) refl (in-among t xs) m
-  where
-    by : (b : Bool) → int_eq x t ≡ b → (IsIn t xs → is_among xs t ≡ true) → IsIn t (x ∷ xs) → (b || is_among xs t) ≡ true
-    by true e ih m = refl
-    by false e ih m = ⊎_elim (λ s. let f : true ≡ false = sym (true-equal x t (sym s)) ∙ e in absurd cc) ih m
+in-among t xs m = in-any (λ x. int_eq x t) t xs (true-equal t t refl) m
 
 -- Wanted is what is shown from an instant on, but for the instants of overrides.
 module _ (clocks : Clocks) (w : Window) (event : Event) (since : ℤ) (overridden : List ℤ) where
@@ -198,22 +205,10 @@ module _ (clocks : Clocks) (w : Window) (event : Event) (since : ℤ) (overridde
 
 -- Starts at an instant.
 pub moment-in : (xs : List Start) (t : ℤ) → has_moment xs t ≡ true → (x : Start) × IsIn x xs × (x.moment ≡ t)
-moment-in [] t e = let f : false ≡ true = e in absurd cc
-moment-in (s ∷ xs) t e = by (int_eq s.moment t) refl (moment-in xs t) e
-  where
-    by : (b : Bool) → int_eq s.moment t ≡ b → (has_moment xs t ≡ true → (x : Start) × IsIn x xs × (x.moment ≡ t)) → (b || has_moment xs t) ≡ true →
-        (x : Start) × IsIn x (s ∷ xs) × (x.moment ≡ t)
-    by true e ih h = (s, inl refl, equal-true s.moment t e)
-    by false e ih h = let k = ih h in (k.0, inr k.1, k.2)
+moment-in xs t e = let k = any-in (λ (s : Start). int_eq s.moment t) xs e in (k.0, k.1, equal-true k.0.moment t k.2)
 
 pub in-moment : (x : Start) (t : ℤ) (xs : List Start) → x.moment ≡ t → IsIn x xs → has_moment xs t ≡ true
-in-moment x t [] is m = absurd m
-in-moment x t (s ∷ xs) is m = by (int_eq s.moment t) refl (in-moment x t xs is) m
-  where
-    by : (b : Bool) → int_eq s.moment t ≡ b → (IsIn x xs → has_moment xs t ≡ true) → IsIn x (s ∷ xs) → (b || has_moment xs t) ≡ true
-    by true e ih m = refl
-    by false e ih m =
-        ⊎_elim (λ same. let f : true ≡ false = sym (true-equal s.moment t (ap (λ (y : Start). y.moment) (sym same) ∙ is)) ∙ e in absurd cc) ih m
+in-moment x t xs is m = in-any (λ (s : Start). int_eq s.moment t) x xs (true-equal x.moment t is) m
 
 -- What goes before all that is left is not tied with what is still to come.
 module _ (clocks : Clocks) (w : Window) (event : Event) (since : ℤ) (overridden : List ℤ) where

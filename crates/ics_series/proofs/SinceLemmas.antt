@@ -50,6 +50,7 @@ use Rattle.ics_series.proofs.SeriesLemmas.{in-moment, known-start, rises-rule}
 use Rattle.ics_series.proofs.SoughtLemmas.{listed-there, none-else, sought-early, sought-late}
 use Rattle.ics_series.proofs.StartLaws.{kept-first}
 use Rattle.ics_series.proofs.UnionLemmas.{itself-put, union-in}
+use Rattle.ics_series.proofs.Cases.{here-or-later}
 
 module _ (zones : FileZones) (w : Window) (event : Event) where
   known-is : (s : Start) (source : StartSource) (given : Rdate) → IsGivenBy (clocks_in zones) event w source given →
@@ -93,9 +94,6 @@ module _ (zones : FileZones) (w : Window) (event : Event) where
 
   -- The list has a start for each local that gives one.
   module _ (rule : Recurrence) where
-    here-or-later : (a b : ℕ) → a ≤ b → (a ≡ b) ⊎ (a < b)
-    here-or-later a b l = grind arith
-
     has-here : (from : ℕ) (rest : List Start) (b : Bool) → b ≡ true
         → HasStart (with_put b (start_at (clocks_in zones) event (local_numbered from)) rest) (Kept (local_numbered from))
         (moment_numbered (clocks_in zones) event from)

@@ -25,6 +25,7 @@ use Rattle.ics_series.specs.PlacedEvents.{Placed, IsPlaced, placed_cmp, clocks_a
 use Rattle.ics_series.specs.Versions.{by_subject, subject_cmp, version_cmp, lasts, is_followed, label_by, label_of, placed_from, placed_in, Label}
 use Rattle.ics_series.proofs.MasterLemmas.{placed_total, second-equal, tied-by, same-placed}
 use Rattle.ics_series.proofs.SortLemmas.{IsUpTo, Climbs, up-to-in}
+use Rattle.ics_series.proofs.Cases.{eq-Equal}
 
 module _ (files : List FileEvents) (display : Clock) where
   abbrev said : List FileSaid
@@ -121,11 +122,6 @@ module _ (files : List FileSaid) (display : Clock) where
     IsFollowed true x xs = (y : Placed) × IsIn y xs × (group x y ≡ Equal)
     IsFollowed false x xs = (y : Placed) → IsIn y xs → group x y ≡ Less
 
-    tied-true : (c : Ordering) → is_eq c ≡ true → c ≡ Equal
-    tied-true Less e = let f : is_eq Less ≡ true = e in cc
-    tied-true Equal e = refl
-    tied-true Greater e = let f : is_eq Greater ≡ true = e in cc
-
     untied : (c : Ordering) → is_eq c ≡ false → (c ≡ Less) ⊎ (c ≡ Equal) → c ≡ Less
     untied c e h = ⊎_elim (λ l. l) (λ q. let f : is_eq Equal ≡ false = ap is_eq (sym q) ∙ e in absurd cc) h
 
@@ -141,7 +137,7 @@ module _ (files : List FileSaid) (display : Clock) where
     followed-by : (x : Placed) (xs : List Placed) (b : Bool) → is_followed same x xs ≡ b → Climbs order (x ∷ xs) → IsFollowed b x xs
     followed-by x [] true e h = let f : false ≡ true = e in absurd cc
     followed-by x [] false e h = λ y m. absurd m
-    followed-by x (y ∷ ys) true e h = (y, inl refl, tied-true (group x y) (sym (ties x y) ∙ e))
+    followed-by x (y ∷ ys) true e h = (y, inl refl, eq-Equal (group x y) (sym (ties x y) ∙ e))
     followed-by x (y ∷ ys) false e h =
         λ z m. after-next x y (untied (group x y) (sym (ties x y) ∙ e) (group-up-to x y (group x y) refl h.0.0)) z ys h.1.0 m
 

@@ -115,15 +115,15 @@ impl<'a> Days<'a> {
         ensures scope { scope_of self.new ≡ scope_of self.old }
         ensures looked { self.old.looked ≤ self.new.looked }
     {
-        for day in self.day..last_near(&self.window) {
+        let last = last_near(&self.window);
+        loop {
             if let Some(occurrence) = self.next_today()? {
-                return Ok(Some((day, occurrence)));
+                return Ok(Some((self.day, occurrence)));
+            }
+            if last <= self.day {
+                return Ok(None);
             }
             self.turn()?;
-        }
-        match self.next_today()? {
-            None => Ok(None),
-            Some(occurrence) => Ok(Some((self.day, occurrence))),
         }
     }
 

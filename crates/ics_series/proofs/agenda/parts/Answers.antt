@@ -1,4 +1,5 @@
-use Rattle.std.proofs.Common.{◌≡◌, ◌∙◌, [], ◌∷◌, ◌++◌, map, ap, sym, subst}
+use Rattle.std.proofs.lemmas.Grind.{common_steps}
+use Rattle.std.proofs.Common.{◌≡◌, ◌∙◌, [], ◌∷◌, ◌++◌, map, ap, sym, subst, arith}
 use Rattle.std.specs.List.{flat_map}
 use Rattle.std.specs.Option.{option_map}
 use Rattle.ics_event.specs.Event.{said_by}
@@ -38,3 +39,9 @@ returns c =
       whole = λ w. whole-parts w chosen (c.in_ok-push_series.ensures.whole w);
       sorted = parts-sorted c.push_series.new.parts.items sources.more sources.behind sources.rises;
     }
+
+pub new-requires : goal.new-requires
+new-requires c = grind (arith, common_steps)
+
+pub push_series-requires : goal.push_series-requires
+push_series-requires c = grind (arith, common_steps)

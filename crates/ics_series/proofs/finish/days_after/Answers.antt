@@ -33,3 +33,15 @@ returns-in-Zoned-clause-value c =
     let clock : clock_of (clocks_in c.args.zones) c.args.time ≡ zone_clock (zone_said c.zone_of.result.now) =
     ap (clock_by (clocks_in c.args.zones) c.args.time.zone) c.in-Zoned.is ∙ sym c.zone_of.ensures in
     same ∙ (shown ∙ sym (ap (λ (k : Clock). k.moment (local_at k c.args.start +ℤ whole_days c.args.days)) clock))
+
+pub returns-in-Date-clause-late : goal.returns-in-Date-clause-late
+returns-in-Date-clause-late c = omega (arith, ints, c.days_after_at.type_inv, c.days_after_at.ensures.late, c.ranges.start)
+
+pub returns-in-Date-clause-early : goal.returns-in-Date-clause-early
+returns-in-Date-clause-early c = omega (arith, ints, c.days_after_at.type_inv, c.days_after_at.ensures.early, c.ranges.start)
+
+pub returns-in-Zoned-clause-late : goal.returns-in-Zoned-clause-late
+returns-in-Zoned-clause-late c = omega (arith, ints, c.days_after_at-in-Zoned.type_inv, c.days_after_at-in-Zoned.ensures.late, c.ranges.start)
+
+pub returns-in-Zoned-clause-early : goal.returns-in-Zoned-clause-early
+returns-in-Zoned-clause-early c = omega (arith, ints, c.days_after_at-in-Zoned.type_inv, c.days_after_at-in-Zoned.ensures.early, c.ranges.start)

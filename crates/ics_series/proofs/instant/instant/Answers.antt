@@ -1,3 +1,4 @@
+use Rattle.std.proofs.lemmas.Grind.{common_steps}
 use Rattle.std.proofs.Common.{rules, ◌≡◌, ◌∙◌, ap, pos, ◌*ℤ◌, arith, SFits, w32, w64}
 use Rattle.std.proofs.lemmas.Int.{ints, to_z-of_z}
 use Rattle.ics_fields.specs.Locals.{midnight}
@@ -12,3 +13,9 @@ returns-in-Date c =
     let value = simp to_z-of_z at c.moment.ensures.value in
     let same : midnight c.in-Date.day ≡ c.in-Date.day *ℤ pos 86_400 = omega (arith, ints) in
     rw (to_z-of_z w64 c.moment.result small, c.in-Date.is) (value ∙ ap (moment_of (zone_of c.args.zones.display.now)) same)
+
+pub returns-in-Floating : goal.returns-in-Floating
+returns-in-Floating c = grind (arith, ints, common_steps)
+
+pub returns-in-Zoned : goal.returns-in-Zoned
+returns-in-Zoned c = grind (arith, ints, common_steps)

@@ -1,3 +1,4 @@
+use Rattle.std.proofs.lemmas.Grind.{common_steps}
 use Rattle.std.proofs.Common.{◌≡◌, w64, to_z, of_z, pos, ◌-ℤ◌, sym, ap, subst, ◌∙◌, arith}
 use Rattle.std.specs.Int.{int_max}
 use Rattle.std.proofs.lemmas.Int.{ints, int_max_is}
@@ -55,3 +56,12 @@ returns-in_default-Lasting c =
       least = omega (arith, ints, lasting.short);
       most = omega (arith, ints, lasting.short);
     }
+
+pub returns-in-Date-default-clause-value : goal.returns-in-Date-default-clause-value
+returns-in-Date-default-clause-value c = grind (arith, ints, common_steps)
+
+pub returns-in-Date-default-clause-least : goal.returns-in-Date-default-clause-least
+returns-in-Date-default-clause-least c = grind (arith, ints, common_steps)
+
+pub returns-in-Date-default-clause-most : goal.returns-in-Date-default-clause-most
+returns-in-Date-default-clause-most c = grind (arith, ints, common_steps)

@@ -1,5 +1,7 @@
+use Rattle.std.proofs.lemmas.Grind.{common_steps}
+use Rattle.std.proofs.lemmas.Int.{ints}
 use Rattle.std.specs.Prelude.{slice_get}
-use Rattle.std.proofs.Common.{◌≡◌, Some, List, length, refl, sym, ◌∙◌, ap, subst}
+use Rattle.std.proofs.Common.{◌≡◌, Some, List, length, refl, sym, ◌∙◌, ap, subst, arith}
 use Rattle.std.proofs.lemmas.Option.{slice_get_read}
 use Rattle.ics_event.specs.declared.event.Event.{Event}
 use Rattle.ics_event.specs.declared.time.Rdate.{Rdate}
@@ -20,3 +22,12 @@ instant-requires c =
     let given : c.given_by-given.result ≡ given_by event.start r = c.given_by-given.ensures ∙ ap (λ (v : Event). given_by v.start r) c.event.view_is in
     subst (IsTimeOf c.args.zones.zones.now) (sym (c.time_of-in-loop-place.ensures ∙ ap time_of given))
     (given-time c.args.zones event (Listed c.loop-place.place) (given_by event.start r) c.requires (r, there, refl))
+
+pub loop-place-preserved-then-is_past : goal.loop-place-preserved-then-is_past
+loop-place-preserved-then-is_past c = grind (arith, ints, common_steps)
+
+pub loop-place-preserved : goal.loop-place-preserved
+loop-place-preserved c = grind (arith, ints, common_steps)
+
+pub returns : goal.returns
+returns c = grind (arith, ints, common_steps)

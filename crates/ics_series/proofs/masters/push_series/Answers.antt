@@ -1,4 +1,5 @@
-use Rattle.std.proofs.Common.{◌≡◌, ◌+◌, [], ◌∷◌, ◌++◌, None, Vec, Global, map, get_or, take, refl, ap, sym, subst, ◌∙◌}
+use Rattle.std.proofs.lemmas.Grind.{common_steps}
+use Rattle.std.proofs.Common.{◌≡◌, ◌+◌, [], ◌∷◌, ◌++◌, None, Vec, Global, map, get_or, take, refl, ap, sym, subst, ◌∙◌, arith}
 use Rattle.std.specs.Prelude.{MatchOption}
 use Rattle.std.specs.List.{flat_map}
 use Rattle.std.specs.Option.{option_map}
@@ -103,3 +104,9 @@ returns c =
           let whole = versions-all c.args.chosen.now c.loop-place.place c.loop-place-test.false lists.1 in
           (whole.more, whole.are);
     }
+
+pub series_at-requires-clause-chosen : goal.series_at-requires-clause-chosen
+series_at-requires-clause-chosen c = grind (arith, common_steps)
+
+pub series_at-requires-clause-within : goal.series_at-requires-clause-within
+series_at-requires-clause-within c = grind (arith, common_steps)

@@ -1,3 +1,4 @@
+use Rattle.std.proofs.lemmas.Grind.{common_steps}
 use Rattle.std.proofs.Common.{◌≡◌, ◌<ℤ◌, ◌-◌, ◌<◌, suc, length, get_or, drop, rules, w64, sym, ◌∙◌, ap, subst, arith}
 use mir.Val.{SFits}
 use Rattle.std.proofs.lemmas.Int.{ints}
@@ -48,3 +49,9 @@ returns c =
           (subst (λ k. IsBefore moment_cmp c.args.start (drop k items)) none c.loop-at.invariant.before)
           ∙ ap (λ k. insert items k c.args.start) (sym none),
     )
+
+pub loop-at-init : goal.loop-at-init
+loop-at-init c = grind (arith, ints, common_steps)
+
+pub loop-at-preserved : goal.loop-at-preserved
+loop-at-preserved c = grind (arith, ints, common_steps)

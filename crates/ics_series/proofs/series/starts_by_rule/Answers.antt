@@ -1,3 +1,4 @@
+use Rattle.std.proofs.lemmas.Grind.{common_steps}
 use Rattle.std.proofs.Common.{◌≡◌, ◌≤ℤ◌, ◌+ℤ◌, ◌-ℤ◌, w64, to_z, of_z, ◌∙◌, sym, ap, subst, rules, arith}
 use Rattle.std.specs.Int.{int_max, int_min}
 use Rattle.std.proofs.lemmas.Int.{int_max_is, int_min_is, ints}
@@ -72,3 +73,9 @@ returns c =
         gives = c.new.ensures.left;
       };
     }
+
+pub returns-in_err-parts-clause-own : goal.returns-in_err-parts-clause-own
+returns-in_err-parts-clause-own c = grind (arith, common_steps)
+
+pub returns-in_err-parts-clause-from : goal.returns-in_err-parts-clause-from
+returns-in_err-parts-clause-from c = grind (arith, common_steps)

@@ -1,3 +1,4 @@
+use Rattle.std.proofs.lemmas.Grind.{common_steps}
 use Rattle.std.proofs.Common.{◌≡◌, w64, to_z, of_z, ◌-ℤ◌, sym, ◌∙◌, ap, subst, arith}
 use Rattle.std.specs.Int.{int_min}
 use Rattle.std.proofs.lemmas.Int.{ints, int_min_is}
@@ -83,3 +84,12 @@ loop-start-preserved c =
         early = omega (arith, ints, b.earliest-is, c.loop-start.invariant.early);
       }
     ]
+
+pub returns-clause-value : goal.returns-clause-value
+returns-clause-value c = grind (arith, ints, common_steps)
+
+pub returns-clause-late : goal.returns-clause-late
+returns-clause-late c = grind (arith, ints, common_steps)
+
+pub returns-clause-early : goal.returns-clause-early
+returns-clause-early c = grind (arith, ints, common_steps)

@@ -1,4 +1,5 @@
-use Rattle.std.proofs.Common.{rules, ◌≡◌, ◌+◌, ◌<◌, ◌++◌, ◌∷◌, ℕ, ℤ, List, [], Option, Some, cond, true, false, drop, get_or, length, sym, ◌∙◌, ap, to_z, of_z}
+use Rattle.std.proofs.lemmas.Grind.{common_steps}
+use Rattle.std.proofs.Common.{rules, ◌≡◌, ◌+◌, ◌<◌, ◌++◌, ◌∷◌, ℕ, ℤ, List, [], Option, Some, cond, true, false, drop, get_or, length, sym, ◌∙◌, ap, to_z, of_z, arith}
 use Rattle.std.proofs.Common.{w64}
 use Rattle.std.proofs.lemmas.List.{append_assoc, at_drop_more}
 use Rattle.std.specs.Option.{option_eq}
@@ -42,3 +43,6 @@ loop-start-preserved-then-eq c =
     ∙ ap (λ b. cond b (firsts_after (Some s.moment) rest) (s ∷ firsts_after (Some s.moment) rest)) same in
     ap (λ o. c.loop-start.firsts.items ++ firsts_after o rest) (at-true c.loop-start.last s.moment same)
     ∙ (ap (λ xs. c.loop-start.firsts.items ++ xs) (sym one) ∙ c.loop-start.invariant)
+
+pub returns : goal.returns
+returns c = grind (arith, common_steps)

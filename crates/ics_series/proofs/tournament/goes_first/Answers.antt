@@ -1,4 +1,5 @@
-use Rattle.std.proofs.Common.{ap, map, ◌∙◌}
+use Rattle.std.proofs.lemmas.Grind.{common_steps}
+use Rattle.std.proofs.Common.{ap, map, ◌∙◌, arith}
 use Rattle.std.specs.Option.{option_map}
 use Rattle.ics_series.specs.Entry.{entry_of}
 use Rattle.ics_series.proofs.TournamentLemmas.{lead-by}
@@ -26,3 +27,9 @@ returns-in-Some-Some g c =
     (held-at (λ x. x.head) (λ x. g.F.Coming.coming x.feed) leads c.args.other c.requires.other c.index-leads-other.is
     (ap (λ x. x.head) c.index-leads-other.is ∙ arm.is-1)) in
     cc (by, c.compare.ensures, c.cmp.ensures, c.then.ensures, c.is_lt.ensures)
+
+pub returns-in-None-None : goal.returns-in-None-None
+returns-in-None-None g c = grind (arith, common_steps)
+
+pub returns-in_default : goal.returns-in_default
+returns-in_default g c = grind (arith, common_steps)

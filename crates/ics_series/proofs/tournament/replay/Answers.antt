@@ -1,3 +1,4 @@
+use Rattle.std.proofs.lemmas.Grind.{common_steps}
 use Rattle.std.proofs.Common.{◌≡◌, ◌<◌, ◌/◌, length, map, set, sym, ◌∙◌, ap, subst, arith}
 use Rattle.std.specs.Option.{option_map}
 use Rattle.std.proofs.lemmas.List.Elements.{All-set}
@@ -22,3 +23,12 @@ pub returns-clause-settled : goal.returns-clause-settled
 returns-clause-settled g c node low high =
     let last : c.loop-node.node ≡ 0 = omega arith in
     c.loop-node.invariant.settled node low high (λ steps e. absurd (omega (arith, ap (above steps) last ∙ above-zero steps)))
+
+pub first_below-requires-clause-node : goal.first_below-requires-clause-node
+first_below-requires-clause-node g c = grind (arith, common_steps)
+
+pub first_below-requires-clause-length : goal.first_below-requires-clause-length
+first_below-requires-clause-length g c = grind (arith, common_steps)
+
+pub first_below-requires-clause-leads : goal.first_below-requires-clause-leads
+first_below-requires-clause-leads g c = grind (arith, common_steps)

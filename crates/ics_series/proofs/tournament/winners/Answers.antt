@@ -1,3 +1,4 @@
+use Rattle.std.proofs.lemmas.Grind.{common_steps}
 use Rattle.std.proofs.Common.{◌≡◌, ◌-◌, ◌<◌, ◌≤◌, length, map, set, sym, ap, ◌∙◌, subst, arith, length-set}
 use Rattle.std.specs.Option.{option_map}
 use Rattle.std.proofs.lemmas.List.{length-replicate}
@@ -35,3 +36,18 @@ loop-node-preserved g c =
 
 pub returns-clause-settled : goal.returns-clause-settled
 returns-clause-settled g c node low high = c.loop-node.invariant.settled node low high (omega arith)
+
+pub first_below-requires-clause-sorted : goal.first_below-requires-clause-sorted
+first_below-requires-clause-sorted g c = grind (arith, common_steps)
+
+pub first_below-requires-clause-node : goal.first_below-requires-clause-node
+first_below-requires-clause-node g c = grind (arith, common_steps)
+
+pub first_below-requires-clause-length : goal.first_below-requires-clause-length
+first_below-requires-clause-length g c = grind (arith, common_steps)
+
+pub first_below-requires-clause-leads : goal.first_below-requires-clause-leads
+first_below-requires-clause-leads g c = grind (arith, common_steps)
+
+pub index_mut-requires : goal.index_mut-requires
+index_mut-requires g c = grind (arith, common_steps)

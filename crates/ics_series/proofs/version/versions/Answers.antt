@@ -1,4 +1,5 @@
-use Rattle.std.proofs.Common.{◌≡◌, Some, map, refl, sym, ◌∙◌, ap}
+use Rattle.std.proofs.lemmas.Grind.{common_steps}
+use Rattle.std.proofs.Common.{◌≡◌, Some, map, refl, sym, ◌∙◌, ap, arith}
 use Rattle.std.specs.Prelude.{slice_get}
 use Rattle.std.proofs.lemmas.Option.{slice_get_read}
 use Rattle.ics_event.specs.declared.events.FileEvents.{FileEvents}
@@ -18,3 +19,6 @@ loop-number-preserved c =
     slice_get_read c.args.files.now _ c.loop-number.number c.index-files-number.result refl c.loop-number-test.true c.index-files-number.is ∙ ap Some same in
     labels-step files display c.loop-number.number file (map seen c.loop-number.versions.items) there
     c.in_ok-push_versions.ensures c.loop-number.invariant
+
+pub returns : goal.returns
+returns c = grind (arith, common_steps)

@@ -28,3 +28,9 @@ returns-clause-agenda c =
     (option_map (λ key. key_rank key.now) c.args.key) (agenda_sources agenda))
     (λ agenda listing are. inl (record { window = c.near_day-near.result; near = near; listing = listing; are = are }))
     c.new.ensures.listing c.new.ensures.sources
+
+pub returns-then-last_near-day-clause-whole : goal.returns-then-last_near-day-clause-whole
+returns-then-last_near-day-clause-whole c = c.ended.ensures.whole
+
+pub returns-clause-whole : goal.returns-clause-whole
+returns-clause-whole c = c.new.ensures.whole

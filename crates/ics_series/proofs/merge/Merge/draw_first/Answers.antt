@@ -1,3 +1,4 @@
+use Rattle.std.proofs.lemmas.Grind.{common_steps}
 use Rattle.std.proofs.Common.{◌≡◌, ◌+◌, ◌<◌, ◌++◌, All, length, map, set, take, drop, ap, arith, sym, subst, ◌∙◌, length-set}
 use Rattle.std.specs.Option.{option_map}
 use Rattle.std.proofs.lemmas.List.{length-map}
@@ -144,3 +145,6 @@ returns-clause-fewer g c =
     c.index_mut.ensures.value
     c.in_ok-draw.ensures.drawn c.args.self.now.last (winner c.args.self.now.winners.items 1)
     (c.winner-lead.ensures ∙ ap (λ ws. winner ws 1) c.deref.ensures.value) c.requires
+
+pub replay-requires-clause-lead : goal.replay-requires-clause-lead
+replay-requires-clause-lead g c = grind (arith, common_steps)

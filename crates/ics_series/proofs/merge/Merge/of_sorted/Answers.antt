@@ -1,4 +1,5 @@
-use Rattle.std.proofs.Common.{◌≡◌, ◌<◌, List, [], ◌∷◌, ◌++◌, Option, Some, None, map-id, All, length, map, sym, subst, ap, ◌∙◌}
+use Rattle.std.proofs.lemmas.Grind.{common_steps}
+use Rattle.std.proofs.Common.{◌≡◌, ◌<◌, List, [], ◌∷◌, ◌++◌, Option, Some, None, map-id, All, length, map, sym, subst, ap, ◌∙◌, arith}
 use Rattle.std.specs.List.{flat_map, AllByRecursion}
 use Rattle.std.specs.Option.{option_map}
 use Rattle.std.proofs.lemmas.Iterator.Adapters.{YieldsList-from_vec}
@@ -77,3 +78,6 @@ returns-clause-sources g c =
     ∙ (YieldsList-end (YieldsList-from_vec c.args.feeds.items (cc) (cc)) c.loop-feed.yielded _ c.loop-feed.yielded_by c.next.result c.next.new.self
     c.in-None.is c.next.ensures.steps).0 in
     c.loop-feed.invariant.sources ∙ ap (flat_map g.F.Coming.sources) all
+
+pub invariant_of-push : goal.invariant_of-push
+invariant_of-push g c = grind (arith, common_steps)

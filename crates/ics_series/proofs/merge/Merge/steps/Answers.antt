@@ -1,3 +1,4 @@
+use Rattle.std.proofs.lemmas.Grind.{common_steps}
 use Rattle.std.proofs.Common.{◌<◌, get_or, length, ◌∙◌, ap, subst, arith}
 use Rattle.std.proofs.lemmas.List.Sums.{sum_by_more}
 use Rattle.ics_series.proofs.merge.Merge.steps.Goals as goal
@@ -18,3 +19,6 @@ loop-lead-preserved g c =
       c.steps.ensures,
       c.loop-lead.invariant,
     )
+
+pub returns : goal.returns
+returns g c = grind (arith, common_steps)

@@ -1,3 +1,4 @@
+use Rattle.std.proofs.lemmas.Grind.{common_steps}
 use Rattle.std.proofs.Common.{arith}
 use Rattle.std.proofs.lemmas.Int.{ints}
 use Rattle.ics_series.specs.Starts.{time_of}
@@ -13,3 +14,6 @@ invariant_of-occurrence c =
       forward = omega (arith, ints, c.finish.ensures.forward);
       not_late = omega (arith, ints, c.finish.ensures.early);
     }
+
+pub returns-then-start-window : goal.returns-then-start-window
+returns-then-start-window c = grind (arith, ints, common_steps)

@@ -1,4 +1,5 @@
-use Rattle.std.proofs.Common.{sym, subst}
+use Rattle.std.proofs.lemmas.Grind.{common_steps}
+use Rattle.std.proofs.Common.{sym, subst, arith}
 use Rattle.ics_series.specs.Listing.{IsIn}
 use Rattle.ics_series.specs.AgendaParts.{part_coming}
 use Rattle.ics_series.specs.SeriesFeed.{series_left, series_of}
@@ -8,3 +9,12 @@ pub returns-in-Series-clause-near : goal.returns-in-Series-clause-near
 returns-in-Series-clause-near c = λ o m.
     c.next-in-Series.ensures.near o
     (subst (λ s. IsIn o (series_of s (series_left s))) (sym c.deref_mut.ensures.value) (subst (λ p. IsIn o (part_coming p)) c.in-Series.is m))
+
+pub returns-in-Singles-clause-near : goal.returns-in-Singles-clause-near
+returns-in-Singles-clause-near c = grind (arith, common_steps)
+
+pub returns-in-Singles-clause-ok : goal.returns-in-Singles-clause-ok
+returns-in-Singles-clause-ok c = grind (arith, common_steps)
+
+pub returns-in-Series-clause-ok : goal.returns-in-Series-clause-ok
+returns-in-Series-clause-ok c = grind (arith, common_steps)

@@ -1,3 +1,4 @@
+use Rattle.std.proofs.lemmas.Grind.{common_steps}
 use Rattle.std.proofs.Common.{◌≡◌, ◌<◌, length, get_or, rules, w64, sym, ap, arith}
 use mir.Val.{SFits, of_z}
 use Rattle.std.proofs.lemmas.Int.{ints}
@@ -34,3 +35,6 @@ returns-in_default-clause-left c =
     let none : length c.args.self.now.held.items ≡ 0 = search rules in
     nothing-passed-at s.zones s.event.now s.rule s.window s.day s.end (place_of s.cursor) (day-days s) (end-days s) s.after s.read
     c.args.start.now s.held.items none c.requires
+
+pub invariant_of-self : goal.invariant_of-self
+invariant_of-self c = grind (arith, common_steps)

@@ -1,4 +1,5 @@
-use Rattle.std.proofs.Common.{◌≡◌, [], ◌∷◌, Some, None, sym, ◌∙◌, ap, refl, subst}
+use Rattle.std.proofs.lemmas.Grind.{common_steps}
+use Rattle.std.proofs.Common.{◌≡◌, [], ◌∷◌, Some, None, sym, ◌∙◌, ap, refl, subst, arith}
 use Rattle.std.specs.Prelude.{slice_get}
 use Rattle.ics_series.specs.Entry.{entry_cmp}
 use Rattle.ics_series.specs.Found.{moment_cmp}
@@ -123,3 +124,9 @@ returns-in_default-clause-near c = λ o m.
       asked-near (clocks_in s.zones) s.event.now s.rule_starts c.peek_rule.new.rule c.peek_rule.ensures.rule c.peek_rule.ensures.same
           (series_of s (series_left s)) s.ruled o m,
     )
+
+pub returns-in-Some-clause-same : goal.returns-in-Some-clause-same
+returns-in-Some-clause-same c = grind (arith, common_steps)
+
+pub returns-in_default-clause-same : goal.returns-in_default-clause-same
+returns-in_default-clause-same c = grind (arith, common_steps)

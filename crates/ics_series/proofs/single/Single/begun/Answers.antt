@@ -1,3 +1,4 @@
+use Rattle.std.proofs.lemmas.Grind.{common_steps}
 use Rattle.std.proofs.Common.{◌≡◌, ◌∙◌, rules, w64, to_z, of_z, ap, sym, subst, arith}
 use Rattle.std.proofs.lemmas.Int.{ints}
 use Rattle.ics_event.specs.Event.{IsEvent}
@@ -21,3 +22,6 @@ invariant_of-result c =
       first = fits ∙ (c.instant-start.ensures ∙ ap (λ (v : Event). instant (clocks_in c.args.zones) v.start) c.event.view_is);
       early = omega (arith, ints, c.if-start-window.false, c.args.window.now.not_late);
     }
+
+pub returns-then-start-window : goal.returns-then-start-window
+returns-then-start-window c = grind (arith, common_steps)

@@ -1,4 +1,5 @@
-use Rattle.std.proofs.Common.{rules, ℕ, ◌≡◌, List, Ok, true, false, sym, ◌∙◌, ap, subst, ⊎_elim}
+use Rattle.std.proofs.lemmas.Grind.{common_steps}
+use Rattle.std.proofs.Common.{rules, ℕ, ◌≡◌, List, Ok, true, false, sym, ◌∙◌, ap, subst, ⊎_elim, arith}
 use Rattle.std.specs.Prelude.{ℤ, FitsSigned, nat_eq}
 use Rattle.std.specs.Int.{w64}
 use mir.Val.{to_z, of_z}
@@ -55,3 +56,9 @@ returns-then-eq-clause-key c = record {
   recurrence = search rules;
   uid = (decode_of-ok c.as_bytes.result.now c.in-Ok.uid.items c.in-Ok.ensures.ok).3;
 }
+
+pub returns-in_default-clause-bad : goal.returns-in_default-clause-bad
+returns-in_default-clause-bad c = grind (arith, common_steps)
+
+pub returns-in-Err-clause-key : goal.returns-in-Err-clause-key
+returns-in-Err-clause-key c = grind (arith, common_steps)
