@@ -1,8 +1,9 @@
 -- Files that stand among others, with which they share no UID, have the occurrences there that they have alone.
 use Rattle.std.specs.Prelude.{ℤ, zero, suc, slice_get}
-use Rattle.std.proofs.Common.{◌≡◌, ℕ, ◌+◌, ◌<◌, List, [], ◌∷◌, ◌++◌, length, Some, None, ◌⊎◌, inl, inr, ⊎_elim, refl, sym, ◌∙◌, ap, subst, arith}
-use Rattle.std.specs.Ordering.{MatchOrdering, nat_cmp, ordering_then}
-use Rattle.std.proofs.lemmas.Cmp.{nat_cmp_total, ranked, tied_itself}
+use Rattle.std.proofs.Common.{◌≡◌, ℕ, ◌+◌, List, [], ◌∷◌, ◌++◌, length, Some, None, ◌⊎◌, inl, inr, ⊎_elim, refl, sym, ◌∙◌, ap, subst, arith}
+use Rattle.std.specs.Ordering.{nat_cmp, ordering_then}
+use Rattle.std.proofs.lemmas.Cmp.{nat_cmp_total, tied_itself}
+use Rattle.std.proofs.lemmas.Bool.Decides.{nat_tests}
 use Rattle.std.proofs.lemmas.Map.Lookups.{exact_unsigned}
 use Rattle.std.specs.declared.cmp.Ordering.{Ordering}
 use Rattle.std.specs.declared.cmp.Ordering.TheVariants.{Less, Equal, Greater}
@@ -136,18 +137,7 @@ module _ {A : Type 0} where
 
 -- places that are moved alike are compared as before
 cmp-behind : (n a b : ℕ) → nat_cmp a b ≡ nat_cmp (n + a) (n + b)
-cmp-behind n a b = by (nat_cmp a b) (nat_cmp (n + a) (n + b)) (ranked a b (nat_cmp a b) refl) (ranked (n + a) (n + b) (nat_cmp (n + a) (n + b)) refl)
-  where
-    by : (r s : Ordering) → MatchOrdering r (a < b) (a ≡ b) (b < a) → MatchOrdering s (n + a < n + b) (n + a ≡ n + b) (n + b < n + a) → r ≡ s
-    by Less Less x y = refl
-    by Less Equal x y = absurd (omega (arith, x, y))
-    by Less Greater x y = absurd (omega (arith, x, y))
-    by Equal Less x y = absurd (omega (arith, x, y))
-    by Equal Equal x y = refl
-    by Equal Greater x y = absurd (omega (arith, x, y))
-    by Greater Less x y = absurd (omega (arith, x, y))
-    by Greater Equal x y = absurd (omega (arith, x, y))
-    by Greater Greater x y = refl
+cmp-behind n a b = grind (arith, nat_tests)
 
 module _ (files more : List FileSaid) (display : Clock) (apart : AreApart files more) where
   -- an event of all files is one of the first or one of those behind

@@ -1,4 +1,3 @@
-use Rattle.std.proofs.lemmas.Grind.{common_steps}
 use Rattle.std.proofs.Common.{◌≡◌, ◌||◌, false, w32, w64, to_z, of_z, is_ok, sym, ◌∙◌, ap, subst, arith}
 use Rattle.std.specs.List.{list_any}
 use Rattle.std.specs.List.Sorted.{IsSorted}
@@ -26,9 +25,3 @@ returns c =
     c.is_ok.ensures.value ∙ (found ∙ (ap (λ x. list_any (λ y. int_eq y x) c.deref-2.result.now) (day ∙ shown)
     ∙ (ap (λ xs. is_day_in (clock_of (clocks_in c.args.zones) c.args.first) xs c.args.moment) c.deref-2.ensures.value
     ∙ ap (λ b. b || is_day_in (clock_of (clocks_in c.args.zones) c.args.first) c.args.self.now.days.items c.args.moment) other)))
-
-pub returns-then-is_among : goal.returns-then-is_among
-returns-then-is_among c = grind (arith, common_steps)
-
-pub returns-then-is_empty : goal.returns-then-is_empty
-returns-then-is_empty c = grind (arith, common_steps)
