@@ -1,5 +1,6 @@
 -- Case distinctions of options, tests and orders.
-use Rattle.std.proofs.Common.{◌≡◌, ℕ, suc, ◌<◌, ◌≤◌, ℤ, ◌⊎◌, Bool, true, false, not, Some, refl, arith}
+use lib.Signed.{mag}
+use Rattle.std.proofs.Common.{◌≡◌, ℕ, suc, ◌<◌, ◌≤◌, ℤ, ◌⊎◌, Bool, true, false, not, Some, refl, arith, w64, to_z, of_z}
 use Rattle.std.specs.Ordering.{int_eq, is_eq, is_gt, ordering_then}
 use Rattle.std.specs.declared.cmp.Ordering.{Ordering}
 use Rattle.std.specs.declared.cmp.Ordering.TheVariants.{Less, Equal, Greater}
@@ -33,3 +34,7 @@ below-or-last m n l = grind arith
 
 pub here-or-later : (from to : ℕ) → from ≤ to → (from ≡ to) ⊎ (from < to)
 here-or-later from to h = grind arith
+
+-- An instant that fits in an i64 is read back.
+pub moment-back : (t : ℤ) → mag t < 9_223_372_036_854_775_808 → to_z w64 (of_z w64 t) ≡ t
+moment-back t l = omega (arith, ints)

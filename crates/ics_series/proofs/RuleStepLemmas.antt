@@ -30,6 +30,12 @@ use Rattle.ics_rule.specs.PeriodNumbers.{rules_end}
 pub signed-back : (x y : ℤ) → mag x < 2_147_483_648 → x ≡ y → to_z w32 (of_z w32 x) ≡ y
 signed-back x y l e = omega (arith, ints)
 
+pub day-back : (day : ℤ) → IsDayNumber day → to_z w32 (of_z w32 day) ≡ day
+day-back day h = omega (arith, ints, h.0, h.1)
+
+pub next-back : (day : ℤ) → IsDayNumber day → to_z w32 (of_z w32 (to_z w32 (of_z w32 day) +ℤ pos 1)) ≡ day +ℤ pos 1
+next-back day h = omega (arith, ints, h.0, h.1)
+
 module _ (s : RuleStarts) where
   pub day-days : IsDayNumber s.day
   day-days = (omega (arith, ints, s.low), omega (arith, ints, s.asked_on, s.asked_end, s.soon, s.window.not_late))

@@ -1,4 +1,4 @@
-use Rattle.std.proofs.Common.{◌≡◌, ◌+ℤ◌, ℕ, ℤ, Option, ◌⊎◌, inl, inr, sym, ◌∙◌, ap, to_z, of_z, w64, arith}
+use Rattle.std.proofs.Common.{◌≡◌, ◌+ℤ◌, ℕ, ℤ, Option, ◌⊎◌, inl, inr, sym, ◌∙◌, ap, w64, arith}
 use Rattle.std.proofs.lemmas.Int.{ints, to_z-of_z}
 use mir.Val.{SFits}
 use Rattle.ics_fields.specs.declared.local.Local.{Local}
@@ -8,6 +8,7 @@ use Rattle.ics_values.specs.declared.stamp.Stamp.TheVariants.{Date, Floating}
 use Rattle.ics_series.specs.Clocks.{Clock, Clocks, clock_by, clock_of, local_at, zone_clock}
 use Rattle.ics_zone.specs.ZoneSaid.{zone_said}
 use Rattle.ics_series.specs.FileZones.{clocks_in}
+use Rattle.ics_series.proofs.Cases.{moment-back}
 use Rattle.ics_series.proofs.finish.days_after.Goals as goal
 
 by-display : (clocks : Clocks) (zone : Option ℕ) (s : Stamp) → ((day : ℤ) × (s ≡ Date day)) ⊎ ((local : Local) × (s ≡ Floating local)) →
@@ -18,7 +19,7 @@ by-display clocks zone s (inr f) = ap (clock_by clocks zone) f.1
 pub returns-in-Date-clause-value : goal.returns-in-Date-clause-value
 returns-in-Date-clause-value c =
     let fits : SFits w64 c.args.start = c.ranges.start in
-    let same : to_z w64 (of_z w64 c.days_after_at.result) ≡ c.days_after_at.result = omega (arith, ints, c.days_after_at.type_inv) in
+    let same = moment-back c.days_after_at.result c.days_after_at.type_inv in
     let shown = simp to_z-of_z at c.days_after_at.ensures.value in
     let clock : clock_of (clocks_in c.args.zones) c.args.time ≡ (clocks_in c.args.zones).display =
     by-display (clocks_in c.args.zones) c.args.time.zone c.args.time.stamp c.in-Date.is in
@@ -27,8 +28,7 @@ returns-in-Date-clause-value c =
 pub returns-in-Zoned-clause-value : goal.returns-in-Zoned-clause-value
 returns-in-Zoned-clause-value c =
     let fits : SFits w64 c.args.start = c.ranges.start in
-    let same : to_z w64 (of_z w64 c.days_after_at-in-Zoned.result) ≡ c.days_after_at-in-Zoned.result =
-    omega (arith, ints, c.days_after_at-in-Zoned.type_inv) in
+    let same = moment-back c.days_after_at-in-Zoned.result c.days_after_at-in-Zoned.type_inv in
     let shown = simp to_z-of_z at c.days_after_at-in-Zoned.ensures.value in
     let clock : clock_of (clocks_in c.args.zones) c.args.time ≡ zone_clock (zone_said c.zone_of.result.now) =
     ap (clock_by (clocks_in c.args.zones) c.args.time.zone) c.in-Zoned.is ∙ sym c.zone_of.ensures in

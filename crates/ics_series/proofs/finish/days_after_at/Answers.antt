@@ -1,8 +1,9 @@
-use Rattle.std.proofs.Common.{◌≡◌, w64, to_z, of_z, arith}
+use Rattle.std.proofs.Common.{w64, arith}
 use Rattle.std.proofs.lemmas.Int.{ints, to_z-of_z}
 use mir.Val.{SFits}
 use Rattle.ics_zone.specs.Seconds.{IsNear}
 use Rattle.ics_series.proofs.InstantLemmas.{moved, near-moved}
+use Rattle.ics_series.proofs.Cases.{moment-back}
 use Rattle.ics_series.proofs.finish.days_after_at.Goals as goal
 
 pub overflow_add-local : goal.overflow_add-local
@@ -24,7 +25,7 @@ returns g c =
     let fits : SFits w64 c.args.start = c.ranges.start in
     let shown = simp to_z-of_z at c.local-local.ensures in
     let near : IsNear (g.P.Place.offset_at c.args.place.now c.args.start) = g.met.P.Place.near c.args.place.now c.args.start in
-    let same : to_z w64 (of_z w64 c.moment.result) ≡ c.moment.result = omega (arith, ints, c.moment.type_inv) in
+    let same = moment-back c.moment.result c.moment.type_inv in
     let far = near-moved (g.P.Place.moment_at c.args.place.now) (g.met.P.Place.moment_near c.args.place.now) _ _ c.moment.ensures in
     record {
       value = moved (g.P.Place.moment_at c.args.place.now) same c.moment.ensures (omega (arith, ints, shown, near));

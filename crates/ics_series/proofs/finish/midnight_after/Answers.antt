@@ -1,16 +1,17 @@
-use Rattle.std.proofs.Common.{◌≡◌, w32, w64, to_z, of_z, arith}
+use Rattle.std.proofs.Common.{w32, arith}
 use Rattle.std.proofs.lemmas.Int.{ints}
 use mir.Val.{SFits}
 use Rattle.ics_zone.specs.Displays.{moment_of}
 use Rattle.ics_zone.specs.JiffZones.{zone_of}
 use Rattle.ics_series.proofs.InstantLemmas.{moved, result_near}
+use Rattle.ics_series.proofs.Cases.{moment-back}
 use Rattle.ics_series.proofs.finish.midnight_after.Goals as goal
 
 pub returns-clause-value : goal.returns-clause-value
 returns-clause-value c =
     let day : SFits w32 c.args.day = c.ranges.day in
     let days : SFits w32 c.args.days = c.ranges.days in
-    let same : to_z w64 (of_z w64 c.moment.result) ≡ c.moment.result = omega (arith, ints, c.moment.type_inv) in
+    let same = moment-back c.moment.result c.moment.type_inv in
     moved (moment_of (zone_of c.args.display.now)) same c.moment.ensures.value (omega (arith, ints))
 
 pub returns-clause-early : goal.returns-clause-early

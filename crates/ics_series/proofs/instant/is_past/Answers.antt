@@ -7,6 +7,7 @@ use Rattle.ics_fields.specs.Locals.{local_seconds, whole_days}
 use Rattle.ics_values.specs.declared.stamp.Stamp.{Stamp}
 use Rattle.ics_values.specs.declared.stamp.Stamp.TheVariants.{Date, Floating, Utc, Zoned}
 use Rattle.ics_series.specs.Starts.{local_of}
+use Rattle.ics_series.proofs.Cases.{moment-back}
 use Rattle.ics_series.proofs.instant.is_past.Goals as goal
 
 seconds-of : (s : Stamp) → local_seconds (local_of s) ≡ stamp_seconds s
@@ -20,7 +21,7 @@ returns c =
     let w = c.args.window.now in
     let end : to_z w64 (of_z w64 (to_z w64 (of_z w64 c.args.window.now.to) +ℤ pos 172800)) ≡ c.args.window.now.to +ℤ whole_days 2 =
     omega (arith, ints, w.not_early, w.ordered, w.not_late) in
-    let fits : to_z w64 (of_z w64 c.seconds.result) ≡ c.seconds.result = omega (arith, ints, c.seconds.type_inv) in
+    let fits = moment-back c.seconds.result c.seconds.type_inv in
     let at : to_z w64 (of_z w64 c.seconds.result) ≡ stamp_seconds c.args.time.stamp =
     fits ∙ (c.seconds.ensures ∙ (ap (λ (l : Local). local_seconds l) c.local_of.ensures ∙ seconds-of c.args.time.stamp)) in
     λ i. int_le (end i) (at i)

@@ -8,11 +8,15 @@ use Rattle.ics_fields.specs.Days.{IsDayNumber}
 use Rattle.ics_fields.specs.declared.local.Local.{Local}
 use Rattle.ics_event.specs.declared.event.Event.{Event}
 use Rattle.ics_fields.specs.Locals.{local_seconds, whole_days}
-use Rattle.ics_series.specs.Found.{earliest}
+use Rattle.ics_series.specs.declared.window.Window.{Window}
 use Rattle.ics_series.specs.SeriesStarts.{first_asked}
 use Rattle.ics_series.specs.Starts.{local_of}
 use Rattle.ics_series.specs.FileZones.{clocks_in}
+use Rattle.ics_series.proofs.Cases.{moment-back}
 use Rattle.ics_series.proofs.series.starts_by_rule.Goals as goal
+
+to-later : (w : Window) → to_z w64 (of_z w64 (to_z w64 (of_z w64 w.to) +ℤ whole_days 14)) ≡ w.to +ℤ whole_days 14
+to-later w = omega (arith, ints, w.not_early, w.ordered, w.not_late)
 
 pub first_nearby-from-requires-clause-early : goal.first_nearby-from-requires-clause-early
 first_nearby-from-requires-clause-early c =
@@ -36,20 +40,14 @@ returns c =
     let clocks = clocks_in c.args.zones in
     let local : c.local_of-first.result ≡ local_of event.start.stamp = c.local_of-first.ensures ∙ ap (λ (v : Event). local_of v.start.stamp) c.event.view_is in
     let fits : SFits w64 c.args.since = c.ranges.since in
-    let earliest-fits : to_z w64 (of_z w64 c.earliest-earliest.result) ≡ c.earliest-earliest.result = omega (arith, ints, c.earliest-earliest.type_inv) in
-    let min-fits : to_z w64 (of_z w64 c.min.result) ≡ c.min.result = omega (arith, ints, c.min.type_inv) in
-    let max-fits : to_z w64 (of_z w64 c.max.result) ≡ c.max.result = omega (arith, ints, c.max.type_inv) in
+    let earliest-fits = moment-back c.earliest-earliest.result c.earliest-earliest.type_inv in
+    let min-fits = moment-back c.min.result c.min.type_inv in
+    let max-fits = moment-back c.max.result c.max.type_inv in
     let since-fits : to_z w64 (of_z w64 c.args.since) ≡ c.args.since = omega (arith, ints) in
-    let to-own : to_z w64 (of_z w64 c.args.window.to) ≡ c.args.window.to =
-    omega (arith, ints, c.args.window.not_early, c.args.window.ordered, c.args.window.not_late) in
-    let to-fits : to_z w64 (of_z w64 (c.args.window.to +ℤ whole_days 14)) ≡ c.args.window.to +ℤ whole_days 14 =
-    omega (arith, ints, c.args.window.not_early, c.args.window.ordered, c.args.window.not_late) in
     let min : to_z w64 (of_z w64 c.min.result) ≡ int_min c.args.since (c.args.window.to +ℤ whole_days 14) =
-    min-fits ∙ (c.min.ensures.value ∙ (ap (λ t. int_min t (to_z w64 (of_z w64 (to_z w64 (of_z w64 c.args.window.to) +ℤ whole_days 14)))) since-fits
-    ∙ ap (int_min c.args.since) (ap (λ t. to_z w64 (of_z w64 (t +ℤ whole_days 14))) to-own ∙ to-fits))) in
+    min-fits ∙ (c.min.ensures.value ∙ (λ i. int_min (since-fits i) (to-later c.args.window i))) in
     let first : to_z w64 (of_z w64 c.max.result) ≡ first_asked clocks c.args.window event c.args.since c.args.listed.now =
-    max-fits ∙ (c.max.ensures.value ∙ (ap (λ t. int_max t (to_z w64 (of_z w64 c.min.result))) (earliest-fits ∙ c.earliest-earliest.ensures.value)
-    ∙ ap (int_max (earliest clocks c.args.window event c.args.listed.now)) min)) in
+    max-fits ∙ (c.max.ensures.value ∙ (λ i. int_max ((earliest-fits ∙ c.earliest-earliest.ensures.value) i) (min i))) in
     record {
       own = record {
         zones_are = c.new.ensures.zones;

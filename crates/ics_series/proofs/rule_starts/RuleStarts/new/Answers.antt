@@ -1,4 +1,4 @@
-use Rattle.std.proofs.Common.{◌≡◌, w32, to_z, of_z, sym, ap, subst, arith}
+use Rattle.std.proofs.Common.{refl, sym, ap, subst, arith}
 use Rattle.std.proofs.lemmas.Int.{int_min_is, ints}
 use Rattle.ics_fields.specs.declared.local.Local.{Local}
 use Rattle.ics_rule.specs.Cursors.{place_of}
@@ -8,15 +8,15 @@ use Rattle.ics_series.specs.Listing.{IsIn}
 use Rattle.ics_series.specs.Rising.{Rises}
 use Rattle.ics_series.proofs.RuleDayLemmas.{come-empty}
 use Rattle.ics_series.proofs.RuleLocalLemmas.{rule-first}
+use Rattle.ics_series.proofs.RuleStepLemmas.{day-back, signed-back}
 use Rattle.ics_series.proofs.rule_starts.RuleStarts.new.Goals as goal
 
 pub invariant_of-result : goal.invariant_of-result
 invariant_of-result c =
     let w = c.args.window in
-    let end : to_z w32 (of_z w32 c.end_nearby-end.result) ≡ c.end_nearby-end.result =
-    omega (arith, ints, c.end_nearby-end.ensures.day.0, c.end_nearby-end.ensures.day.1) in
-    let from : to_z w32 (of_z w32 c.args.from.day) ≡ c.args.from.day = omega (arith, ints, c.requires.from.0, c.requires.from.1) in
-    let day : to_z w32 (of_z w32 c.min-day.result) ≡ c.min-day.result = omega (arith, ints, c.min-day.type_inv) in
+    let end = day-back c.end_nearby-end.result c.end_nearby-end.ensures.day in
+    let from = day-back c.args.from.day c.requires.from in
+    let day = signed-back c.min-day.result c.min-day.result c.min-day.type_inv refl in
     record {
       of = c.requires.rule;
       rises = subst (Rises moment_cmp) (sym c.new.ensures.items) tt;
@@ -40,8 +40,8 @@ invariant_of-result c =
         c.end_nearby-end.ensures.day.1,
       );
       low = omega (arith, ints, day, end, from, c.min-day.ensures.value, int_min_is, c.requires.from.0, c.end_nearby-end.ensures.day.0);
-      asked_on = omega (arith, ints);
-      asked_soon = omega (arith, ints);
+      asked_on = omega (arith, ints, day);
+      asked_soon = omega (arith, ints, day);
       asked_end = omega (arith, ints, day, end, from, c.min-day.ensures.value, int_min_is);
       early = omega (arith, ints, end, w.not_late, c.end_nearby-end.ensures.soon, c.end_nearby-end.ensures.day.0);
       after = omega (arith, ints, end, c.end_nearby-end.ensures.after);

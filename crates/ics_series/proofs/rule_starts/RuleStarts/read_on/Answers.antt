@@ -1,4 +1,4 @@
-use Rattle.std.proofs.Common.{◌≡◌, ◌≤◌, ◌+ℤ◌, pos, w32, to_z, of_z, sym, ap, subst, arith, rules, max}
+use Rattle.std.proofs.Common.{◌≡◌, ◌≤◌, ◌+ℤ◌, pos, w32, to_z, of_z, refl, sym, ap, subst, arith, max}
 use Rattle.std.proofs.lemmas.Int.{ints}
 use Rattle.ics_fields.specs.Days.{IsDayNumber}
 use Rattle.ics_fields.specs.declared.local.Local.{Local}
@@ -11,7 +11,7 @@ use Rattle.ics_series.specs.RuleStarts.{bound_of, midnight_number, AreHeld}
 use Rattle.ics_series.specs.FileZones.{clocks_in}
 use Rattle.ics_series.proofs.RuleReadLemmas.{behind-early}
 use Rattle.ics_series.proofs.RuleStepLemmas.{bound-days, bound-early, none-asked, none-held, none-less, none-same, one-asked, one-held, one-less, one-on}
-use Rattle.ics_series.proofs.RuleStepLemmas.{signed-back}
+use Rattle.ics_series.proofs.RuleStepLemmas.{day-back, next-back, signed-back}
 use Rattle.ics_series.proofs.RuleStepLemmas.{one-time, one-rises, one-same, within}
 use Rattle.ics_rule.specs.PeriodNumbers.{rules_end}
 use Rattle.ics_series.proofs.rule_starts.RuleStarts.read_on.Goals as goal
@@ -43,24 +43,23 @@ invariant_of-self c =
 
 pub next-requires-clause-bound : goal.next-requires-clause-bound
 next-requires-clause-bound c =
+    let s = c.args.self.now in
     let bound = to_z w32 (of_z w32 c.bound-bound.result) in
-    let is : to_z w32 (of_z w32 c.bound-bound.result) ≡ bound_of c.args.self.now.day c.args.self.now.end c.args.self.now.held.items =
-    signed-back _ _ c.bound-bound.type_inv c.bound-bound.ensures in
-    subst (λ (l : Local). IsDayNumber l.day) (sym c.at.ensures) (bound-days c.args.self.now c.requires bound is)
+    let is = signed-back c.bound-bound.result (bound_of s.day s.end s.held.items) c.bound-bound.type_inv c.bound-bound.ensures in
+    subst (λ (l : Local). IsDayNumber l.day) (sym c.at.ensures) (bound-days s c.requires bound is)
 
 pub next-requires-clause-early : goal.next-requires-clause-early
 next-requires-clause-early c =
+    let s = c.args.self.now in
     let bound = to_z w32 (of_z w32 c.bound-bound.result) in
-    let is : to_z w32 (of_z w32 c.bound-bound.result) ≡ bound_of c.args.self.now.day c.args.self.now.end c.args.self.now.held.items =
-    signed-back _ _ c.bound-bound.type_inv c.bound-bound.ensures in
-    subst (λ (l : Local). number l ≤ rules_end) (sym c.at.ensures) (bound-early c.args.self.now c.requires bound is)
+    let is = signed-back c.bound-bound.result (bound_of s.day s.end s.held.items) c.bound-bound.type_inv c.bound-bound.ensures in
+    subst (λ (l : Local). number l ≤ rules_end) (sym c.at.ensures) (bound-early s c.requires bound is)
 
 pub invariant_of-self-in-None : goal.invariant_of-self-in-None
 invariant_of-self-in-None c =
     let s = c.args.self.now in
     let bound = to_z w32 (of_z w32 c.bound-bound.result) in
-    let is : to_z w32 (of_z w32 c.bound-bound.result) ≡ bound_of c.args.self.now.day c.args.self.now.end c.args.self.now.held.items =
-    signed-back _ _ c.bound-bound.type_inv c.bound-bound.ensures in
+    let is = signed-back c.bound-bound.result (bound_of s.day s.end s.held.items) c.bound-bound.type_inv c.bound-bound.ensures in
     let at : number c.at.result ≡ midnight_number (to_z w32 (of_z w32 c.bound-bound.result)) = ap (λ (l : Local). number l) c.at.ensures in
     let held : c.reserve.new.self.items ≡ c.args.self.now.held.items = c.reserve.ensures.items in
     let range = bound-days s c.requires bound is in
@@ -88,8 +87,7 @@ pub hold-requires-clause-time : goal.hold-requires-clause-time
 hold-requires-clause-time c =
     let s = c.args.self.now in
     let bound = to_z w32 (of_z w32 c.bound-bound.result) in
-    let is : to_z w32 (of_z w32 c.bound-bound.result) ≡ bound_of c.args.self.now.day c.args.self.now.end c.args.self.now.held.items =
-    signed-back _ _ c.bound-bound.type_inv c.bound-bound.ensures in
+    let is = signed-back c.bound-bound.result (bound_of s.day s.end s.held.items) c.bound-bound.type_inv c.bound-bound.ensures in
     let at : number c.at.result ≡ midnight_number (to_z w32 (of_z w32 c.bound-bound.result)) = ap (λ (l : Local). number l) c.at.ensures in
     let a = c.in-Some.local in
     let next : IsNextKept c.args.self.now.rule (place_of c.args.self.now.cursor) (midnight_number (to_z w32 (of_z w32 c.bound-bound.result)))
@@ -101,8 +99,7 @@ pub invariant_of-self-in-Some : goal.invariant_of-self-in-Some
 invariant_of-self-in-Some c =
     let s = c.args.self.now in
     let bound = to_z w32 (of_z w32 c.bound-bound.result) in
-    let is : to_z w32 (of_z w32 c.bound-bound.result) ≡ bound_of c.args.self.now.day c.args.self.now.end c.args.self.now.held.items =
-    signed-back _ _ c.bound-bound.type_inv c.bound-bound.ensures in
+    let is = signed-back c.bound-bound.result (bound_of s.day s.end s.held.items) c.bound-bound.type_inv c.bound-bound.ensures in
     let at : number c.at.result ≡ midnight_number (to_z w32 (of_z w32 c.bound-bound.result)) = ap (λ (l : Local). number l) c.at.ensures in
     let a = c.in-Some.local in
     let next : IsNextKept c.args.self.now.rule (place_of c.args.self.now.cursor) (midnight_number (to_z w32 (of_z w32 c.bound-bound.result)))
@@ -110,8 +107,8 @@ invariant_of-self-in-Some c =
     subst (λ n. IsNextKept s.rule (place_of s.cursor) n (number c.in-Some.local)) at c.in-Some.ensures.next.0 in
     let held : c.reserve.new.self.items ≡ c.args.self.now.held.items = c.reserve.ensures.items in
     let h = c.in-Some.ensures.day in
-    let day : to_z w32 (of_z w32 c.in-Some.local.day) ≡ c.in-Some.local.day = omega (arith, ints, h.0, h.1) in
-    let asked : to_z w32 (of_z w32 (to_z w32 (of_z w32 c.in-Some.local.day) +ℤ pos 1)) ≡ c.in-Some.local.day +ℤ pos 1 = omega (arith, ints, h.0, h.1, day) in
+    let day = day-back c.in-Some.local.day h in
+    let asked = next-back c.in-Some.local.day h in
     let new = to_z w32 (of_z w32 (to_z w32 (of_z w32 c.in-Some.local.day) +ℤ pos 1)) in
     let on = one-on s c.requires bound is a h next in
     let range = within s c.requires bound is in
@@ -138,15 +135,14 @@ pub returns-in-None : goal.returns-in-None
 returns-in-None c =
     let s = c.args.self.now in
     let bound = to_z w32 (of_z w32 c.bound-bound.result) in
-    let is : to_z w32 (of_z w32 c.bound-bound.result) ≡ bound_of c.args.self.now.day c.args.self.now.end c.args.self.now.held.items =
-    signed-back _ _ c.bound-bound.type_inv c.bound-bound.ensures in
+    let is = signed-back c.bound-bound.result (bound_of s.day s.end s.held.items) c.bound-bound.type_inv c.bound-bound.ensures in
     let at : number c.at.result ≡ midnight_number (to_z w32 (of_z w32 c.bound-bound.result)) = ap (λ (l : Local). number l) c.at.ensures in
     let place : place_of c.next.new.self ≡ max (place_of c.args.self.now.cursor) (midnight_number (to_z w32 (of_z w32 c.bound-bound.result))) =
     omega (arith, c.in-None.ensures.next.1, at) in
     record {
       same = none-same s c.requires bound is c.reserve.new.self.items (place_of c.next.new.self) c.reserve.ensures.items place
           (subst (NoneKept s.rule (place_of s.cursor)) at c.in-None.ensures.next.0);
-      source = search rules;
+      source = record { zones = refl; event = refl; window = refl; rule = refl; from = refl; end = refl };
       less = none-less s c.requires bound is (place_of c.next.new.self) place;
     }
 
@@ -154,8 +150,7 @@ pub returns-in-Some : goal.returns-in-Some
 returns-in-Some c =
     let s = c.args.self.now in
     let bound = to_z w32 (of_z w32 c.bound-bound.result) in
-    let is : to_z w32 (of_z w32 c.bound-bound.result) ≡ bound_of c.args.self.now.day c.args.self.now.end c.args.self.now.held.items =
-    signed-back _ _ c.bound-bound.type_inv c.bound-bound.ensures in
+    let is = signed-back c.bound-bound.result (bound_of s.day s.end s.held.items) c.bound-bound.type_inv c.bound-bound.ensures in
     let at : number c.at.result ≡ midnight_number (to_z w32 (of_z w32 c.bound-bound.result)) = ap (λ (l : Local). number l) c.at.ensures in
     let a = c.in-Some.local in
     let next : IsNextKept c.args.self.now.rule (place_of c.args.self.now.cursor) (midnight_number (to_z w32 (of_z w32 c.bound-bound.result)))
@@ -166,7 +161,7 @@ returns-in-Some c =
     record {
       same = one-same s c.requires bound is a h next c.reserve.new.self.items c.hold.new.held.items c.reserve.ensures.items c.hold.ensures
           (place_of c.next.new.self) (omega (arith, place));
-      source = search rules;
-      less = one-less s c.requires bound is a h next (to_z w32 (of_z w32 c.in-Some.local.day)) (place_of c.next.new.self) (omega (arith, ints, h.0, h.1))
+      source = record { zones = refl; event = refl; window = refl; rule = refl; from = refl; end = refl };
+      less = one-less s c.requires bound is a h next (to_z w32 (of_z w32 c.in-Some.local.day)) (place_of c.next.new.self) (day-back c.in-Some.local.day h)
           (omega (arith, place));
     }

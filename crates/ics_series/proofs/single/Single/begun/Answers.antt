@@ -1,11 +1,12 @@
 use Rattle.std.proofs.lemmas.Grind.{common_steps}
-use Rattle.std.proofs.Common.{◌≡◌, ◌∙◌, rules, w64, to_z, of_z, ap, sym, subst, arith}
+use Rattle.std.proofs.Common.{◌∙◌, rules, ap, sym, subst, arith}
 use Rattle.std.proofs.lemmas.Int.{ints}
 use Rattle.ics_event.specs.Event.{IsEvent}
 use Rattle.ics_event.specs.declared.event.Event.{Event}
 use Rattle.ics_series.specs.Clocks.{instant}
 use Rattle.ics_series.specs.FileZones.{clocks_in, IsTimeOf}
 use Rattle.ics_series.proofs.ZoneLemmas.{own-event}
+use Rattle.ics_series.proofs.Cases.{moment-back}
 use Rattle.ics_series.proofs.single.Single.begun.Goals as goal
 
 pub instant-start-requires : goal.instant-start-requires
@@ -16,7 +17,7 @@ instant-start-requires c =
 pub invariant_of-result : goal.invariant_of-result
 invariant_of-result c =
     let sound : IsEvent c.args.event.now = search rules in
-    let fits : to_z w64 (of_z w64 c.instant-start.result) ≡ c.instant-start.result = omega (arith, ints, c.instant-start.type_inv) in
+    let fits = moment-back c.instant-start.result c.instant-start.type_inv in
     record {
       own = own-event c.args.zones c.args.event.now sound c.requires;
       first = fits ∙ (c.instant-start.ensures ∙ ap (λ (v : Event). instant (clocks_in c.args.zones) v.start) c.event.view_is);
