@@ -1,3 +1,4 @@
+use Rattle.std.proofs.lemmas.Grind.{common_steps}
 use Rattle.std.proofs.Common.{rules, ◌<◌, length, arith}
 use Rattle.std.proofs.lemmas.List.{length-map}
 use Rattle.ics_zone.specs.Observances.{observance_said, observances_said}
@@ -18,3 +19,9 @@ invariant_of-result c =
           c.in-Ok-offsets_of.offsets.items have;
       spans = λ k d h. absurd (omega (arith, h));
     }
+
+pub returns-then-is_empty-clause-none : goal.returns-then-is_empty-clause-none
+returns-then-is_empty-clause-none c = grind (arith, common_steps)
+
+pub returns-then-is_empty-clause-fine : goal.returns-then-is_empty-clause-fine
+returns-then-is_empty-clause-fine c = grind (arith, common_steps)

@@ -1,4 +1,5 @@
-use Rattle.std.proofs.Common.{rules, SFits, w64, Contains}
+use Rattle.std.proofs.lemmas.Grind.{common_steps}
+use Rattle.std.proofs.Common.{rules, SFits, w64, Contains, arith}
 use Rattle.std.proofs.lemmas.Int.{to_z-of_z}
 use Rattle.ics_zone.specs.OnsetSets.{IsKeptAt}
 use Rattle.ics_zone.proofs.LatestLemmas.{later_of, last_of_both, first_after}
@@ -25,3 +26,6 @@ returns-in-Some-None-clause-last c =
     rw (to_z-of_z w64 c.in-Some-None.listed small)
     (first_after (Contains c.args.self.now.listed.items) (IsKeptAt c.args.self.now) _ c.args.moment c.in-Some-None.listed
     listed.0 listed.1 (simp to_z-of_z at c.in-Some-None.ensures'))
+
+pub returns-in-Some-Some-clause-after : goal.returns-in-Some-Some-clause-after
+returns-in-Some-Some-clause-after c = grind (arith, common_steps)

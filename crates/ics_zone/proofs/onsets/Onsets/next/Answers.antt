@@ -1,4 +1,5 @@
-use Rattle.std.proofs.Common.{rules, SFits, w64}
+use Rattle.std.proofs.lemmas.Grind.{common_steps}
+use Rattle.std.proofs.Common.{rules, SFits, w64, arith}
 use Rattle.std.proofs.lemmas.Int.{to_z-of_z}
 use Rattle.ics_zone.proofs.KeptLemmas.{earlier_of}
 use Rattle.ics_zone.proofs.onsets.Onsets.next.Goals as goal
@@ -11,3 +12,6 @@ returns-clause-next c =
     rw (to_z-of_z w64 c.next_listed.result small)
     (earlier_of c.args.self.now c.args.after (simp to_z-of_z at c.next_listed.ensures.bound)
     (simp to_z-of_z at c.next_listed.ensures.next) (simp to_z-of_z at c.next_by_rule-kept.ensures.next))
+
+pub returns-clause-bound : goal.returns-clause-bound
+returns-clause-bound c = grind (arith, common_steps)

@@ -1,4 +1,5 @@
-use Rattle.std.proofs.Common.{rules, inl, inr, SFits, w64}
+use Rattle.std.proofs.lemmas.Grind.{common_steps}
+use Rattle.std.proofs.Common.{rules, inl, inr, SFits, w64, arith}
 use Rattle.std.proofs.lemmas.Int.{to_z-of_z}
 use Rattle.ics_zone.specs.OnsetSets.{Has}
 use Rattle.ics_zone.proofs.KeptLemmas.{earlier_of, is_of}
@@ -22,3 +23,6 @@ returns-then-with_rule-clause-is c =
     rw (to_z-of_z w64 c.next_listed.result small)
     (is_of c.args.self.now (simp to_z-of_z at c.next_listed.ensures.bound)
     (simp to_z-of_z at c.next_listed.ensures.is) (simp to_z-of_z at c.next_by_rule-kept.ensures.is))
+
+pub returns-then-with_rule-clause-bound : goal.returns-then-with_rule-clause-bound
+returns-then-with_rule-clause-bound c = grind (arith, common_steps)
