@@ -22,7 +22,10 @@ module _ (s : Onsets) (r : Recurrence) (contains : s.rule ≡ Some r) where
   module _ (t : ℤ) (end : ℕ) (shown : IsShownTo s.offset_from s.until t end) where
     -- an onset that is not after t is of a local before the end
     before_end : (u : ℤ) (k : IsKeptBy s.offset_from s.until r u) → u ≤ℤ t → k.local < end
-    before_end u k l = grind (arith, ints, cases_lt)
+    before_end u k l = elim (cases_lt k.local end) [
+      | inl h ↦ h
+      | inr h ↦ absurd (let b = k.is in let e = k.by_end in let a = shown.later k.local h k.early (omega (arith, ints, b, e)) in omega (arith, ints, a, b, l))
+    ]
 
     pub last_of_rule : (n : ℕ) → IsLastKept r end n → (u : ℤ) → u ≡ instant_by s.offset_from n → IsLast (IsKeptAt s) t u
     last_of_rule n found u is =
@@ -48,7 +51,12 @@ module _ (s : Onsets) (r : Recurrence) (contains : s.rule ≡ Some r) where
         }
 
     pub none_of_rule : NoneKept r 0 end → (u : ℤ) → IsKeptAt s u → t <ℤ u
-    none_of_rule none u h = grind (arith, ints, cases_lt, from_kept, not_both)
+    none_of_rule none u h =
+        let k = from_kept u h in
+        elim (cases_lt k.local end) [
+          | inl less ↦ absurd (not_both (is_kept r k.local) k.kept (none k.local (omega arith) less))
+          | inr more ↦ (let b = k.is in let e = k.by_end in let a = shown.later k.local more k.early (omega (arith, ints, b, e)) in omega (arith, ints, a, b))
+        ]
 
     -- the first after another instant
     module _ (after : ℤ) (from : ℕ) (past : IsShownBy s.offset_from after from) where
@@ -68,7 +76,16 @@ module _ (s : Onsets) (r : Recurrence) (contains : s.rule ≡ Some r) where
       bound_of_rule n found u is = let a = shown.shown n found.in_bound in omega (arith, ints, a, is)
 
       pub no_next_of_rule : NoneKept r from end → (v : ℤ) → IsKeptAt s v → after <ℤ v → t ≤ℤ v
-      no_next_of_rule none v h l = grind (arith, ints, cases_lt, from_kept, not_both)
+      no_next_of_rule none v h l =
+          let k = from_kept v h in
+          let at = k.is in
+          elim (cases_lt k.local end) [
+            | inr more ↦ (let e = k.by_end in let a = shown.later k.local more k.early (omega (arith, ints, at, e)) in omega (arith, ints, a, at))
+            | inl less ↦ elim (cases_lt k.local from) [
+              | inl low ↦ absurd (let a = past.shown k.local low in omega (arith, ints, a, at, l))
+              | inr high ↦ absurd (not_both (is_kept r k.local) k.kept (none k.local high less))
+            ]
+          ]
 
 -- no instant of a kind is after one instant and before another
 abbrev pub NoneSkipped : (ℤ → Type 0) → ℤ → ℤ → Type 0
@@ -81,4 +98,9 @@ earlier_of s after e x y u (inl h) l = x u h l
 earlier_of s after e x y u (inr h) l = let low = y u h l in omega (arith, ints, e, low)
 
 pub is_of : {limit a m : ℤ} (s : Onsets) → m ≤ℤ a → (m <ℤ a → Contains s.listed.items m) → (a <ℤ limit → IsKeptAt s a) → m <ℤ limit → Has s m
-is_of s e x y l = grind (arith, ints, less_or_not_z)
+is_of {a = a} {m = m} s e x y l = elim (less_or_not_z m a) [
+  | inl less ↦ inl (x less)
+  | inr more ↦ (
+      let same : a ≡ m = omega (arith, ints, e, more) in
+      inr (subst (IsKeptAt s) same (y (omega (arith, ints, same, l)))))
+]

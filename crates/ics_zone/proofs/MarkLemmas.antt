@@ -1,5 +1,5 @@
 -- The marks at the onsets of an hour.
-use Rattle.std.proofs.Common.{◌≡◌, ℕ, ◌+◌, ◌<◌, ◌≤◌, ◌⊎◌, ◌*◌, ◌/◌, ◌%◌, ◌==◌, ◌&&◌, ◌||◌, nat_lt, inl, inr, Bool, true, false, sym, subst, ◌∙◌, arith}
+use Rattle.std.proofs.Common.{◌≡◌, ℕ, ◌+◌, ◌<◌, ◌≤◌, ◌⊎◌, ◌*◌, ◌/◌, ◌%◌, ◌==◌, ◌&&◌, ◌||◌, nat_lt, inl, inr, Bool, true, false, sym, subst, ap, ◌∙◌, arith}
 use Rattle.std.proofs.Common.{List, Some, slice_get, length, get_or, set, replicate, bit_or, ℤ, pos, ◌+ℤ◌, ◌-ℤ◌, ◌<ℤ◌, ◌≤ℤ◌}
 use Rattle.std.proofs.lemmas.Bool.{cases_lt, cases_eq, eqb-true, eq-eqb, or_cases, or_left, or_right, and_parts}
 use Rattle.std.specs.Prelude.{int_lt}
@@ -31,7 +31,13 @@ module _ (s : Onsets) (with_rule : Bool) (from : ℤ) (was now : List ℕ) (at :
   pub complete_more : (next : ℤ) → ((t : ℤ) → IsAsked s with_rule t → at <ℤ t → next ≤ℤ t)
       → ((k : ℕ) → (from +ℤ pos k) <ℤ at → IsAsked s with_rule (from +ℤ pos k) → IsMarked was k)
       → (k : ℕ) → (from +ℤ pos k) <ℤ next → IsAsked s with_rule (from +ℤ pos k) → IsMarked now k
-  complete_more next none old k early asked = grind (arith, ints, eq-eqb, less_or_not_z, or_left, stay_more)
+  complete_more next none old k early asked = elim (less_or_not_z (from +ℤ pos k) at) [
+    | inl less ↦ stay_more k (old k less asked)
+    | inr more ↦ elim (less_or_not_z at (from +ℤ pos k)) [
+      | inl past ↦ absurd (let low = none (from +ℤ pos k) asked past in omega (arith, ints, low, early))
+      | inr not_past ↦ marks k ∙ or_left (k == second) (is_marked was k) (eq-eqb k second (omega (arith, ints, is, more, not_past)))
+    ]
+  ]
 
 -- of the first seconds from an instant: the onsets that show a later local are marked
 abbrev pub AreClearBefore : Onsets → ℤ → ℤ → List ℕ → ℕ → Type 0
@@ -53,7 +59,12 @@ module _ (s : Onsets) (local from low : ℤ) (onsets was : List ℕ) (minute siz
 
   module _ (small : minute < 60) where
     new_mark : (k : ℕ) → k / 60 ≡ minute → contains part (k % 60) ≡ true → Has s (from +ℤ pos k) × ((from +ℤ pos k +ℤ s.offset_to) ≤ℤ local)
-    new_mark k e h = grind (arith, ints, and_parts, int_lt_true)
+    new_mark k e h =
+        let both = and_parts (nat_lt (k % 60) size) (contains (get_or onsets minute 0) (k % 60)) (sym (is_part (k % 60)) ∙ h) in
+        let here : minute * 60 + k % 60 ≡ k = omega (arith, e) in
+        let early = int_lt_true (pos (minute * 60 + k % 60)) low (sym (is_size (k % 60) (omega arith)) ∙ both.0) in
+        let not_later = down k (subst (λ m. pos m <ℤ low) here early) in
+        (known k (omega (arith, e, small)) (ap (λ m. contains (get_or onsets m 0) (k % 60)) e ∙ both.1), omega (arith, ints, not_later))
 
     pub marks_minute : (before : List ℕ) → AreMarks s local from before was
         → AreMarks s local from before (set was minute (bit_or (get_or was minute 0) part))
@@ -69,7 +80,13 @@ module _ (s : Onsets) (local from low : ℤ) (onsets was : List ℕ) (minute siz
     pub clear_minute : (now : List ℕ) (bound : ℕ) → ((k : ℕ) → IsMarked was k → IsMarked now k) → bound ≤ 60
         → ((n : ℕ) → n < bound → contains (get_or onsets minute 0) n ≡ true → contains (get_or now minute 0) n ≡ true)
         → AreClearBefore s local from was (minute * 60) → AreClearBefore s local from now (minute * 60 + bound)
-    clear_minute now bound stay most first old k early h later = grind (arith, ints, cases_lt)
+    clear_minute now bound stay most first old k early h later = elim (cases_lt k (minute * 60)) [
+      | inl less ↦ stay k (old k less h later)
+      | inr more ↦ (
+          let e : k / 60 ≡ minute = omega (arith, more, early, most) in
+          let there = ap (λ m. contains (get_or onsets m 0) (k % 60)) (sym e) ∙ complete k (omega (arith, e, small)) h in
+          ap (λ m. contains (get_or now m 0) (k % 60)) e ∙ first (k % 60) (omega (arith, e, more, early)) there)
+    ]
 
 -- each marked second has an onset, of an observance from a place on, that shows no later local
 abbrev pub AreOverrides : List ObservanceSaid → ℕ → ℤ → ℤ → List ℕ → Type 0
@@ -126,7 +143,13 @@ module _ (zone : List ObservanceSaid) (list : List Onsets) (all : AreOnsetsOfAll
 
 -- nothing is marked at first
 pub none_marked : (size k : ℕ) → is_marked (replicate size 0) k ≡ false
-none_marked size k = grind (arith, ints, cases_lt, contains-none, get_or-replicate, get_or_past, length-replicate)
+none_marked size k = ap (λ word. contains word (k % 60)) (zero_there (k / 60)) ∙ contains-none (k % 60)
+  where
+    zero_there : (m : ℕ) → ◌≡◌ {A = ℕ} (get_or (replicate size 0) m 0) 0
+    zero_there m = elim (cases_lt m size) [
+      | inl less ↦ get_or-replicate size m 0 0 less
+      | inr more ↦ get_or_past (replicate size 0) m 0 (let n = length-replicate {A = ℕ} size 0 in omega (arith, n, more))
+    ]
 
 -- of the observances past the last nothing is said
 pub overrides_none : (zone : List ObservanceSaid) (place size : ℕ) (local from : ℤ) → AreOverrides zone place local from (replicate size 0)

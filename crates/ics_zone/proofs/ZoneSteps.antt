@@ -68,7 +68,10 @@ module _ (zone : List ObservanceSaid) (list : List Onsets) (all : AreOnsetsOfAll
   module _ {A : Type 0} (i : ℕ) (s : ℤ) (p : ObservanceSaid) (h : IsOnset zone i s p) (early : i < k + 1) (before : i < k → A) (now : AreOnsetsOf p o → Has o s
       → i ≡ k → A) where
     split : A
-    split = grind (arith, ints, below_or_at, onsets_at)
+    split = elim (below_or_at i k (omega arith)) [
+      | inl less ↦ before less
+      | inr same ↦ (let of = onsets_at p (rw same at h.0) in now of (of.complete s h.1) same)
+    ]
 
   module _ (t : ℤ) where
     this_one : {e : Latest} → IsLastOnset k o t e
