@@ -1,3 +1,4 @@
+use Rattle.std.proofs.lemmas.Grind.{common_steps}
 use Rattle.std.proofs.Common.{◌≡◌, ◌∙◌, ℕ, ◌+◌, ◌*◌, ◌≤◌, ◌/◌, false, arith}
 use Rattle.ics_fields.specs.Sets.{contains, IsLeastFrom}
 use Rattle.ics_fields.proofs.SetLemmas.{member_below}
@@ -33,3 +34,9 @@ returns-in-Some-Some-clause-next c = later c
 pub returns-in-Some-Some-clause-small : goal.returns-in-Some-Some-clause-small
 returns-in-Some-Some-clause-small c = second_below c.args.hours c.args.minutes c.args.seconds (c.in-Some-Some.minute * 60 + c.in-Some-Some.second)
     c.requires.hours (later c).passes
+
+pub returns-in_default-2-clause-next : goal.returns-in_default-2-clause-next
+returns-in_default-2-clause-next c = grind (arith, common_steps)
+
+pub returns-in_default-2-2-clause-next : goal.returns-in_default-2-2-clause-next
+returns-in_default-2-2-clause-next c = grind (arith, common_steps)
