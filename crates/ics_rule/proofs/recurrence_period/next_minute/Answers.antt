@@ -1,3 +1,4 @@
+use Rattle.std.proofs.lemmas.Grind.{common_steps}
 use Rattle.std.proofs.Common.{◌≡◌, ◌∙◌, ℕ, ◌+◌, ◌*◌, ◌≤◌, ◌/◌, false, sym, arith}
 use Rattle.ics_fields.specs.Sets.{contains, IsLeastFrom}
 use Rattle.ics_fields.proofs.SetLemmas.{member_below}
@@ -31,3 +32,15 @@ returns-in-Some-Some-clause-next c = later c
 pub returns-in-Some-Some-clause-small : goal.returns-in-Some-Some-clause-small
 returns-in-Some-Some-clause-small c = minute_below c.args.hours c.args.minutes (c.in-Some-Some.hour * 60 + c.in-Some-Some.minute) c.requires.hours
     (later c).passes
+
+pub returns-in_default-2-clause-next : goal.returns-in_default-2-clause-next
+returns-in_default-2-clause-next c = grind (arith, common_steps)
+
+pub returns-in_default-2-clause-small : goal.returns-in_default-2-clause-small
+returns-in_default-2-clause-small c = grind (arith, common_steps)
+
+pub returns-in_default-2-2-clause-next : goal.returns-in_default-2-2-clause-next
+returns-in_default-2-2-clause-next c = grind (arith, common_steps)
+
+pub returns-in_default-2-2-clause-small : goal.returns-in_default-2-2-clause-small
+returns-in_default-2-2-clause-small c = grind (arith, common_steps)

@@ -1,3 +1,4 @@
+use Rattle.std.proofs.lemmas.Grind.{common_steps}
 use Rattle.std.proofs.Common.{◌∙◌, ◌+◌, not, sym, subst, ap, arith}
 use Rattle.jiff_core.specs.Weekday.{monday_zero}
 use Rattle.ics_rule.specs.Candidates.{is_stepped, period_in}
@@ -76,3 +77,9 @@ returns-clause-counted c = λ some.
     (sym c.is_some.ensures ∙ some) in
     counted_to (counting_at c.args.end c.loop-number.invariant.walk (omega (arith, c.loop-number.invariant.high, c.loop-number-test.false))) here.1
     c.turn_to-2.ensures.looks c.requires.end
+
+pub next_open_step-requires-clause-first : goal.next_open_step-requires-clause-first
+next_open_step-requires-clause-first c = grind (arith, common_steps)
+
+pub next_open_step-requires-clause-last : goal.next_open_step-requires-clause-last
+next_open_step-requires-clause-last c = grind (arith, common_steps)

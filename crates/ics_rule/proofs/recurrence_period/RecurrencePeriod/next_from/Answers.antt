@@ -1,4 +1,5 @@
-use Rattle.std.proofs.Common.{◌≡◌, ◌∙◌, ℕ, ◌≤◌, ◌/◌, false, sym, arith}
+use Rattle.std.proofs.lemmas.Grind.{common_steps}
+use Rattle.std.proofs.Common.{◌≡◌, ◌∙◌, ℕ, ◌≤◌, ◌/◌, false, sym, arith, rules}
 use Rattle.ics_rule.specs.RecurrencePeriods.{has_day, has_second, holds}
 use Rattle.ics_rule.proofs.ScanLemmas.{next_here, next_later, block_out, block_done, second_below}
 use Rattle.ics_rule.proofs.recurrence_period.RecurrencePeriod.next_from.Goals as goal
@@ -17,3 +18,15 @@ pub returns-in-Some-clause-next : goal.returns-in-Some-clause-next
 returns-in-Some-clause-next c = next_here 86_400 (omega arith) (has_day c.args.self.now) (has_second c.args.self.now)
     (λ t. second_below c.args.self.now.hours c.args.self.now.minutes c.args.self.now.seconds t c.requires.hours) c.args.n c.in-Some.second
     (sym c.has_day.ensures ∙ c.if-has_day.true) c.in-Some.ensures.next
+
+pub returns-in_default-next_second-clause-next : goal.returns-in_default-next_second-clause-next
+returns-in_default-next_second-clause-next c = grind (arith, common_steps)
+
+pub returns-in_default-next_day-clause-next : goal.returns-in_default-next_day-clause-next
+returns-in_default-next_day-clause-next c = grind (arith, common_steps)
+
+pub returns-in-Some-clause-small : goal.returns-in-Some-clause-small
+returns-in-Some-clause-small c = search rules
+
+pub returns-in-Some-next_second-clause-small : goal.returns-in-Some-next_second-clause-small
+returns-in-Some-next_second-clause-small c = search rules
