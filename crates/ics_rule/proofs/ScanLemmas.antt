@@ -1,5 +1,5 @@
 -- The next number that passes a test of its part / k and a test of its part % k.
-use Rattle.std.proofs.Common.{◌≡◌, ℕ, suc, ◌+◌, ◌-◌, ◌*◌, ◌/◌, ◌%◌, ◌^◌, ◌<◌, ◌≤◌, ◌⊎◌, ◌≢◌, Bool, true, false, ◌==◌, ◌||◌, ◌&&◌, nat_lt}
+use Rattle.std.proofs.Common.{◌≡◌, ℕ, suc, ◌+◌, ◌-◌, ◌*◌, ◌/◌, ◌%◌, ◌^◌, ◌<◌, ◌≤◌, ◌⊎◌, inl, inr, ◌≢◌, Bool, true, false, ◌==◌, ◌||◌, ◌&&◌, nat_lt}
 use Rattle.std.proofs.Common.{nat_le, get_or, pos, refl, sym, ap, ◌∙◌, arith}
 use Rattle.std.proofs.lemmas.Bool.{and_from, and_left, and_parts, and_right, cases_eq, lt-ltb, ne_eqb}
 use Rattle.std.proofs.lemmas.Bool.Decides.{nat_tests}
@@ -38,6 +38,14 @@ module _ (k : ℕ) (some : 0 < k) where
         IsLeastFrom (λ n. A (n / k) && B (n % k)) x (hi * k + lo)
     next_later x hi lo none next first =
         grind (arith, nat_tests, and_from, and_left, and_right, before_block, div-add-mod', div-mul-add, div_mono, mod-lt, mod-mul-add, mul-le-mul_right, three)
+
+    -- in no block
+    pub none_later : (x : ℕ) → ((m : ℕ) → x ≤ m → m / k ≡ x / k → (A (m / k) && B (m % k)) ≡ false) → ((a : ℕ) → x / k + 1 ≤ a → A a ≡ false) →
+        (m : ℕ) → x ≤ m → (A (m / k) && B (m % k)) ≡ false
+    none_later x here later m low = elim (three (x / k) (m / k) (div_mono x m low)) [
+      | inl same ↦ here m low (sym same)
+      | inr more ↦ and_left (A (m / k)) (B (m % k)) (later (m / k) more)
+    ]
 
     -- what is left where the block of the place is done
     pub block_out : (x : ℕ) → A (x / k) ≡ false → (m : ℕ) → x ≤ m → m / k ≡ x / k → (A (m / k) && B (m % k)) ≡ false

@@ -1,7 +1,7 @@
-use Rattle.std.proofs.lemmas.Grind.{common_steps}
-use Rattle.std.proofs.Common.{◌≡◌, ◌∙◌, ℕ, ◌≤◌, ◌/◌, false, sym, arith, rules}
+use Rattle.std.proofs.Common.{◌≡◌, ◌∙◌, ℕ, ◌≤◌, ◌/◌, ◌%◌, false, sym, arith, rules}
+use Rattle.std.proofs.lemmas.Bool.{and_right}
 use Rattle.ics_rule.specs.RecurrencePeriods.{has_day, has_second, holds}
-use Rattle.ics_rule.proofs.ScanLemmas.{next_here, next_later, block_out, block_done, second_below}
+use Rattle.ics_rule.proofs.ScanLemmas.{next_here, next_later, none_later, block_out, block_done, second_below}
 use Rattle.ics_rule.proofs.recurrence_period.RecurrencePeriod.next_from.Goals as goal
 use Rattle.ics_rule.proofs.recurrence_period.RecurrencePeriod.next_from.Goals.{Joined-has_day, then-has_day+in_default, else-has_day}
 
@@ -20,10 +20,13 @@ returns-in-Some-clause-next c = next_here 86_400 (omega arith) (has_day c.args.s
     (sym c.has_day.ensures ∙ c.if-has_day.true) c.in-Some.ensures.next
 
 pub returns-in_default-next_second-clause-next : goal.returns-in_default-next_second-clause-next
-returns-in_default-next_second-clause-next c = grind (arith, common_steps)
+returns-in_default-next_second-clause-next c m low =
+    and_right (has_day c.args.self.now (m / 86_400)) (has_second c.args.self.now (m % 86_400)) (c.in_default-next_second.ensures.next (m % 86_400) (omega arith))
 
 pub returns-in_default-next_day-clause-next : goal.returns-in_default-next_day-clause-next
-returns-in_default-next_day-clause-next c = grind (arith, common_steps)
+returns-in_default-next_day-clause-next c = none_later 86_400 (omega arith) (has_day c.args.self.now) (has_second c.args.self.now)
+    (λ t. second_below c.args.self.now.hours c.args.self.now.minutes c.args.self.now.seconds t c.requires.hours) c.args.n
+    (none_here (goal.at.returns-in_default-next_day-clause-next c).Joined-has_day) c.in_default-next_day.ensures.next
 
 pub returns-in-Some-clause-small : goal.returns-in-Some-clause-small
 returns-in-Some-clause-small c = search rules

@@ -22,3 +22,7 @@ returns-else-has_day-clause-value c = count_left c.args.n 86_400 (has_day c.args
 pub returns-then-has_day-clause-bound : goal.returns-then-has_day-clause-bound
 returns-then-has_day-clause-bound c = let most = count_most c.args.n (holds c.args.self.now) in let same = returns-then-has_day-clause-value c in
     omega (arith, most, same)
+
+pub returns-else-has_day-clause-bound : goal.returns-else-has_day-clause-bound
+returns-else-has_day-clause-bound c = let most = count_most c.args.n (holds c.args.self.now) in let same = returns-else-has_day-clause-value c in
+    omega (arith, most, same)
