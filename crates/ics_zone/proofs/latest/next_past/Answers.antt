@@ -1,3 +1,4 @@
+use Rattle.std.proofs.lemmas.Grind.{common_steps}
 use Rattle.std.proofs.Common.{rules, arith, SFits, w32, w64, to_z, of_z, sym, subst, ◌≡◌, ◌-ℤ◌}
 use Rattle.std.specs.Int.{int_max}
 use Rattle.std.proofs.lemmas.Int.{ints, clamps, to_z-of_z}
@@ -51,3 +52,9 @@ returns-clause-next c = λ zone all i s p h late early.
     let none = simp to_z-of_z at c.loop-place.invariant.none in
     none zone all i s p (let within = slice_get_within zone i p h.0 in let n = all.same_length in omega (arith, within, n, c.loop-place-test.false)) h late
     early
+
+pub returns-clause-after : goal.returns-clause-after
+returns-clause-after c = grind (arith, common_steps)
+
+pub returns-clause-bound : goal.returns-clause-bound
+returns-clause-bound c = grind (arith, common_steps)

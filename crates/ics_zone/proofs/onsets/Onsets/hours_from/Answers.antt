@@ -1,3 +1,4 @@
+use Rattle.std.proofs.lemmas.Grind.{common_steps}
 use Rattle.std.proofs.Common.{arith}
 use Rattle.std.proofs.lemmas.Int.{ints}
 use Rattle.std.proofs.lemmas.Option.{IfSome_then}
@@ -8,3 +9,9 @@ pub returns : goal.returns
 returns c = IfSome_then c.of.result c.of.ensures (λ hours. told_by c.args.from _ c.in-Some.is
     (omega (arith, ints, c.if-local-lt0.false, c.from.ensures, c.requires.near, c.requires.sound.from_in))
     (omega (arith, ints, c.if-local-lt0.false, c.if-local-ge-LAST.false)))
+
+pub returns-in_default : goal.returns-in_default
+returns-in_default c = grind (arith, common_steps)
+
+pub returns-then-local-lt0 : goal.returns-then-local-lt0
+returns-then-local-lt0 c = grind (arith, common_steps)

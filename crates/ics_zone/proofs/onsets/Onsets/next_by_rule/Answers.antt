@@ -1,3 +1,4 @@
+use Rattle.std.proofs.lemmas.Grind.{common_steps}
 use Rattle.std.proofs.Common.{rules, SFits, w32, w64, arith}
 use Rattle.std.proofs.lemmas.Int.{to_z-of_z, ints}
 use Rattle.ics_zone.proofs.KeptLemmas.{next_of_rule, bound_of_rule, no_next_of_rule}
@@ -58,3 +59,18 @@ pub shown_by-from-requires : goal.shown_by-from-requires
 shown_by-from-requires c =
     let from : SFits w32 c.args.self.now.offset_from = search rules in
     rw (to_z-of_z w32 c.args.self.now.offset_from from) c.requires.sound.from_in
+
+pub returns-in_default-clause-bound : goal.returns-in_default-clause-bound
+returns-in_default-clause-bound c = grind (arith, common_steps)
+
+pub returns-in_default-clause-next : goal.returns-in_default-clause-next
+returns-in_default-clause-next c = grind (arith, common_steps)
+
+pub returns-in-Some-next_kept-clause-after : goal.returns-in-Some-next_kept-clause-after
+returns-in-Some-next_kept-clause-after c = grind (arith, common_steps)
+
+pub returns-in-Some-next_kept-clause-is : goal.returns-in-Some-next_kept-clause-is
+returns-in-Some-next_kept-clause-is c = grind (arith, common_steps)
+
+pub returns-in-None-clause-bound : goal.returns-in-None-clause-bound
+returns-in-None-clause-bound c = grind (arith, common_steps)

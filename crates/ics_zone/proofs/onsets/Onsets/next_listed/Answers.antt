@@ -1,3 +1,4 @@
+use Rattle.std.proofs.lemmas.Grind.{common_steps}
 use Rattle.std.proofs.Common.{rules, arith, SFits, w64, length, ◌<◌}
 use Rattle.std.proofs.lemmas.Int.{ints, clamps, to_z-of_z}
 use Rattle.ics_zone.proofs.LatestLemmas.{next_listed}
@@ -41,3 +42,12 @@ returns-then-passed-len-clause-is c = λ less. absurd (omega (arith, ints, less)
 
 pub returns-clause-bound : goal.returns-clause-bound
 returns-clause-bound c = omega (arith, ints, c.min.ensures.other_bound)
+
+pub returns-then-passed-len-clause-bound : goal.returns-then-passed-len-clause-bound
+returns-then-passed-len-clause-bound c = grind (arith, common_steps)
+
+pub returns-then-passed-len-clause-next : goal.returns-then-passed-len-clause-next
+returns-then-passed-len-clause-next c = grind (arith, common_steps)
+
+pub returns-clause-is : goal.returns-clause-is
+returns-clause-is c = grind (arith, common_steps)
