@@ -1,6 +1,4 @@
-use Rattle.std.proofs.Common.{◌≡◌, ◌∙◌, ◌||◌, not, ap, sym, arith}
-use Rattle.ics_fields.specs.Sets.{contains}
-use Rattle.ics_fields.specs.Ordinals.{lists_none, numbers_of}
+use Rattle.std.proofs.Common.{◌∙◌, arith}
 use Rattle.ics_rule.proofs.ScanLemmas.{in_word}
 use Rattle.ics_rule.proofs.PartLemmas.{named_none, named_more, named_less}
 use Rattle.ics_rule.proofs.part.named_weekdays.Goals as goal

@@ -1,6 +1,5 @@
-use Rattle.std.proofs.Common.{◌∙◌, not, ◌&&◌, sym, ap, arith}
+use Rattle.std.proofs.Common.{arith}
 use Rattle.std.proofs.lemmas.Bool.{and_parts}
-use Rattle.ics_fields.specs.Sets.{contains}
 use Rattle.ics_rule.proofs.FlatLemmas.{none_from}
 use Rattle.ics_rule.proofs.rounds.is_flat.Goals as goal
 

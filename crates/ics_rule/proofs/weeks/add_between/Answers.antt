@@ -1,4 +1,4 @@
-use Rattle.std.proofs.Common.{◌∙◌, arith}
+use Rattle.std.proofs.Common.{arith}
 use Rattle.ics_fields.specs.Sets.{contains_wide}
 use Rattle.ics_rule.proofs.WeekDays.{between_none, between_more, between_done}
 use Rattle.ics_rule.proofs.weeks.add_between.Goals as goal

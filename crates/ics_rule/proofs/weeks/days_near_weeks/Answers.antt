@@ -1,5 +1,4 @@
 use Rattle.std.proofs.Common.{◌∙◌, ◌+◌, ◌-◌, ◌%◌, ap, pos, sym, arith}
-use Rattle.jiff_core.specs.Weekday.{monday_zero}
 use Rattle.jiff_core.proofs.CalendarLemmas.{days_in_year_bounds}
 use Rattle.ics_fields.specs.Sets.{contains_wide}
 use Rattle.ics_fields.specs.Days.{year_of}

@@ -1,12 +1,10 @@
-use Rattle.std.proofs.Common.{◌≡◌, ◌∙◌, ◌<◌, ◌≤◌, Option, Some, None, ap, sym, subst, arith}
-use Rattle.std.specs.Option.{option_map}
+use Rattle.std.proofs.Common.{◌≡◌, ◌∙◌, ◌≤◌, Option, Some, None, ap, sym, subst, arith}
 use Rattle.ics_fields.specs.declared.local.Local.{Local}
 use Rattle.ics_rule.specs.declared.cursor.Cursor.{Cursor}
 use Rattle.ics_rule.specs.Recurrence.{Recurrence}
 use Rattle.ics_fields.specs.Locals.{number}
 use Rattle.ics_rule.specs.EffectiveRules.{effective}
-use Rattle.ics_rule.specs.Candidates.{period_in}
-use Rattle.ics_rule.specs.Cursors.{known_to, IsCursorOf, HasCounted, HasLooked, IsCursorIn, HasLookedIn}
+use Rattle.ics_rule.specs.Cursors.{IsCursorOf, HasCounted, HasLooked, IsCursorIn}
 use Rattle.ics_rule.proofs.cursor.Cursor.next.Goals as goal
 use Rattle.ics_rule.proofs.cursor.Cursor.next.Goals.{After-number}
 

@@ -1,7 +1,5 @@
-use Rattle.std.proofs.Common.{◌<◌, ◌*◌, subst, sym, arith}
-use Rattle.ics_fields.specs.Sets.{contains}
+use Rattle.std.proofs.Common.{arith}
 use Rattle.ics_fields.proofs.SetLemmas.{member_below}
-use Rattle.ics_rule.specs.Kept.{count}
 use Rattle.ics_rule.specs.RecurrencePeriods.{IsNth}
 use Rattle.ics_rule.proofs.Counts.{count_mono}
 use Rattle.ics_rule.proofs.RankLemmas.{block_index}

@@ -1,4 +1,4 @@
-use Rattle.std.proofs.Common.{◌∙◌, ◌≤◌, sym, arith}
+use Rattle.std.proofs.Common.{◌∙◌, ◌≤◌, arith}
 use Rattle.ics_fields.specs.Sets.{contains, contains_wide}
 use Rattle.ics_rule.specs.Candidates.{lists}
 use Rattle.ics_rule.proofs.RunLemmas.{day_none, day_added, day_done, listed_within}

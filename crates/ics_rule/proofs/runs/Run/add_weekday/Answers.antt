@@ -1,7 +1,7 @@
-use Rattle.std.proofs.Common.{rules, ◌<◌, length, ◌∙◌, ◌+◌, ◌-◌, ◌==◌, ◌||◌, ◌&&◌, ap, sym, arith}
+use Rattle.std.proofs.Common.{◌∙◌, ◌+◌, ◌-◌, ◌==◌, sym, arith}
 use Rattle.ics_fields.specs.Sets.{contains, contains_wide}
 use Rattle.std.proofs.lemmas.List.{get_or_default}
-use Rattle.ics_fields.specs.Ordinals.{no_ordinals, numbers_of}
+use Rattle.ics_fields.specs.Ordinals.{numbers_of}
 use Rattle.ics_rule.specs.Candidates.{lists_nth}
 use Rattle.ics_rule.specs.Runs.{has_run, weekday_in}
 use Rattle.ics_rule.proofs.ScanLemmas.{in_word}
