@@ -21,7 +21,8 @@ returns-in-Some-clause-next c = next_here 86_400 (omega arith) (has_day c.args.s
 
 pub returns-in_default-next_second-clause-next : goal.returns-in_default-next_second-clause-next
 returns-in_default-next_second-clause-next c m low =
-    and_right (has_day c.args.self.now (m / 86_400)) (has_second c.args.self.now (m % 86_400)) (c.in_default-next_second.ensures.next (m % 86_400) (omega arith))
+    and_right (has_day c.args.self.now (m / 86_400)) (has_second c.args.self.now (m % 86_400))
+    (c.in_default-next_second.ensures.next (m % 86_400) (omega arith))
 
 pub returns-in_default-next_day-clause-next : goal.returns-in_default-next_day-clause-next
 returns-in_default-next_day-clause-next c = none_later 86_400 (omega arith) (has_day c.args.self.now) (has_second c.args.self.now)
