@@ -103,8 +103,8 @@ pub record StopsListing (asked : List Asked) (contents : List Contents) (request
   pub token : Option (List ℕ)
   pub shows : Shows (accepted asked contents) request shown token
   pub taken :
-    ((outputs.err_after ≡ told) × TookFront outputs.out outputs.out_after shown)
-    ⊎ (Appends outputs.out outputs.out_after shown × TookFront told outputs.err_after (more_line token))
+      ((outputs.err_after ≡ told) × TookFront outputs.out outputs.out_after shown)
+      ⊎ (Appends outputs.out outputs.out_after shown × TookFront told outputs.err_after (more_line token))
 
 -- What was written if a run ends with a fault while it reads: nothing in `out` and, in `err`, a prefix of the lines of the files that were read.
 pub record StopsReading {S Z : Type 0} (reads : S → ℕ → Answer → S → Type 0) (finds : Z → List ℕ → FindAnswer → Z → Type 0) (inputs : Inputs S Z)
