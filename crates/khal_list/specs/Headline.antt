@@ -125,7 +125,7 @@ pub record StopsWriting {S Z : Type 0} (reads : S → ℕ → Answer → S → T
   pub gave : AsksAll finds [] (all_wanted contents) inputs.zones asked inputs.zones_after
   pub told : Option (List ℕ)
   pub lines : Appends outputs.err told (error_lines inputs.names asked contents)
-  pub stops : StopsListing asked contents request o told
+  pub stops : StopsListing asked contents request outputs told
 
 -- What was written if a run ends with a fault: it ended as it read, or in the listing or the last line.
 abbrev pub Stops : {S Z : Type 0} → (S → ℕ → Answer → S → Type 0) → (Z → List ℕ → FindAnswer → Z → Type 0) → Inputs S Z → Request → Outputs → Type 0
