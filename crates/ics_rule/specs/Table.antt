@@ -1,4 +1,5 @@
 -- The table of RFC 5545, 3.3.10: which parts of a rule expand the set of its instances, and which limit it.
+use Rattle.std.specs.Prelude.{ℕ, List, [], ◌∷◌, slice_index_or}
 use Rattle.ics_fields.specs.declared.frequency.Frequency.{Frequency}
 use Rattle.ics_fields.specs.declared.frequency.Frequency.TheVariants.{Secondly, Minutely, Hourly, Daily, Weekly, Monthly, Yearly}
 
@@ -22,24 +23,27 @@ pub data Cell : Type 0 where
   Note1 : Cell
   Note2 : Cell
 
--- a row: its cells under each frequency
-abbrev pub row : Cell → Cell → Cell → Cell → Cell → Cell → Cell → Frequency → Cell
-row secondly minutely hourly daily weekly monthly yearly Secondly = secondly
-row secondly minutely hourly daily weekly monthly yearly Minutely = minutely
-row secondly minutely hourly daily weekly monthly yearly Hourly = hourly
-row secondly minutely hourly daily weekly monthly yearly Daily = daily
-row secondly minutely hourly daily weekly monthly yearly Weekly = weekly
-row secondly minutely hourly daily weekly monthly yearly Monthly = monthly
-row secondly minutely hourly daily weekly monthly yearly Yearly = yearly
+-- the place of a frequency among the table's columns
+abbrev pub column : Frequency → ℕ
+column Secondly = 0
+column Minutely = 1
+column Hourly = 2
+column Daily = 3
+column Weekly = 4
+column Monthly = 5
+column Yearly = 6
 
 -- The table, a row for each part, with its cells under SECONDLY, MINUTELY, HOURLY, DAILY, WEEKLY, MONTHLY and YEARLY.
+abbrev pub row : Part → List Cell
+row ByMonth = Limit ∷ Limit ∷ Limit ∷ Limit ∷ Limit ∷ Limit ∷ Expand ∷ []
+row ByWeekNo = Nothing ∷ Nothing ∷ Nothing ∷ Nothing ∷ Nothing ∷ Nothing ∷ Expand ∷ []
+row ByYearDay = Limit ∷ Limit ∷ Limit ∷ Nothing ∷ Nothing ∷ Nothing ∷ Expand ∷ []
+row ByMonthDay = Limit ∷ Limit ∷ Limit ∷ Limit ∷ Nothing ∷ Expand ∷ Expand ∷ []
+row ByDay = Limit ∷ Limit ∷ Limit ∷ Limit ∷ Expand ∷ Note1 ∷ Note2 ∷ []
+row ByHour = Limit ∷ Limit ∷ Limit ∷ Expand ∷ Expand ∷ Expand ∷ Expand ∷ []
+row ByMinute = Limit ∷ Limit ∷ Expand ∷ Expand ∷ Expand ∷ Expand ∷ Expand ∷ []
+row BySecond = Limit ∷ Expand ∷ Expand ∷ Expand ∷ Expand ∷ Expand ∷ Expand ∷ []
+row BySetPos = Limit ∷ Limit ∷ Limit ∷ Limit ∷ Limit ∷ Limit ∷ Limit ∷ []
+
 abbrev pub cell : Part → Frequency → Cell
-cell ByMonth = row Limit Limit Limit Limit Limit Limit Expand
-cell ByWeekNo = row Nothing Nothing Nothing Nothing Nothing Nothing Expand
-cell ByYearDay = row Limit Limit Limit Nothing Nothing Nothing Expand
-cell ByMonthDay = row Limit Limit Limit Limit Nothing Expand Expand
-cell ByDay = row Limit Limit Limit Limit Expand Note1 Note2
-cell ByHour = row Limit Limit Limit Expand Expand Expand Expand
-cell ByMinute = row Limit Limit Expand Expand Expand Expand Expand
-cell BySecond = row Limit Expand Expand Expand Expand Expand Expand
-cell BySetPos = row Limit Limit Limit Limit Limit Limit Limit
+cell part frequency = slice_index_or (row part) (column frequency) Nothing
