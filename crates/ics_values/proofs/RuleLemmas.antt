@@ -16,7 +16,7 @@ use Rattle.ics_fields.specs.Sets.{contains, with_number}
 use Rattle.ics_fields.specs.RuleParts.{RuleParts, every}
 use Rattle.ics_values.specs.RuleTexts.{Part, pieces, row, fits, fits_list, part_of, without_last, is_part, is_name, has_part, none_twice, are_parts}
 use Rattle.ics_values.specs.Rules.{with_item, with_value, with_part, is_large, has_large_number, rule_said, rule_of}
-use Rattle.ics_values.specs.RuleDrafts.{walk, item_taken, named_taken, part_taken, no_parts, is_whole}
+use Rattle.ics_values.specs.RuleDrafts.{walk, item_taken, named_taken, part_taken, no_parts}
 use Rattle.ics_fields.proofs.SetLemmas.{contains-with_number, has_none}
 
 -- the items of a list are all in order, or one is not
@@ -152,6 +152,10 @@ whole_more d (Some name) value ps rest h = by_tests (contains d.seen (row name))
 walk-parts : (d : Draft) (texts : List (List ℕ)) → walk part_taken d texts ≡ whole d (map part_of texts)
 walk-parts d [] = ap (λ t. Some (record d { too_large = t })) (or_false d.too_large)
 walk-parts d (text ∷ texts) = whole_more d (part_of text).name (part_of text).value (map part_of texts) (λ e. walk part_taken e texts) (λ e. walk-parts e texts)
+
+-- FREQ was read, and not both UNTIL and COUNT
+abbrev is_whole : Draft → Bool
+is_whole draft = contains draft.seen (row part.Freq) && not (contains draft.seen (row part.Until) && contains draft.seen (row part.Count))
 
 -- what the finished draft says, or None where a part was refused
 abbrev pub answer_of : Option Draft → Result RuleParts RuleFault

@@ -10,7 +10,7 @@ use Rattle.ics_values.specs.Stamps.{is_date_form, is_local_form, is_utc_form, is
 use Rattle.ics_values.specs.Stamps.{time_exists, is_stamp_text, stamp_said, stamp_day, is_stamp_year, stamp_of, IsDayOf}
 use Rattle.std.proofs.lemmas.Int.{ints}
 use Rattle.std.proofs.lemmas.Bool.Decides.{nat_tests}
-use Rattle.jiff_core.specs.Calendar.{days_in_year, day_of_year, IsYear, IsCivilDate}
+use Rattle.jiff_core.specs.Calendar.{days_in_year, day_of_year, IsYear}
 use Rattle.jiff_core.proofs.CalendarLemmas.{day_of_year_bound, days_from_civil-day_count, day_count_bounds}
 use Rattle.ics_values.specs.Dates.{is_date, day_number, days_before_month}
 use Rattle.ics_values.specs.Periods.{IsDateTime}
@@ -176,8 +176,7 @@ is_date_time zoned text (Zoned local) form said range = range
 pub day_in : (y m d : ℕ) → y ≤ 9999 → is_date y m d ≡ true → IsDayNumber (day_number y m d)
 day_in y m d year h =
     let p = parts y m d h in
-    let there : IsCivilDate (pos y) m d = ((omega (arith, signed_arith), omega (arith, signed_arith)), (p.month_low, p.month_high), (p.day_low, p.day_high)) in
-    let bounds = day_count_bounds (pos y) m d there in
+    let bounds = day_count_bounds (pos y) m d (is_year y year, (p.month_low, p.month_high), (p.day_low, p.day_high)) in
     let number = day_number-days_from_civil y m d h in
     let place = days_from_civil-day_count (pos y) m d in
     (omega (arith, signed_arith), omega (arith, signed_arith))

@@ -1,10 +1,9 @@
 -- A rule's parts as they are read one after another (RFC 5545, section 3.3.10).
-use Rattle.std.specs.Prelude.{◌≡◌, ◌<◌, ◌≤◌, ℕ, Bool, true, false, ◌&&◌, not, List, [], ◌∷◌, Option, Some, None, option_and_then, length, ◌==◌, if◌then◌else◌}
+use Rattle.std.specs.Prelude.{◌≡◌, ◌<◌, ◌≤◌, ℕ, true, false, not, List, [], ◌∷◌, Option, Some, None, option_and_then, length, ◌==◌, if◌then◌else◌}
 use Rattle.ics_values.specs.Digits.{number_of, greatest_number}
 use Rattle.ics_fields.specs.Sets.{contains, with_number}
 use Rattle.ics_fields.specs.RuleParts.{RuleParts, every}
 use Rattle.ics_fields.specs.declared.frequency.Frequency.TheVariants.{Yearly}
-use Rattle.ics_values.specs.declared.part_name.PartName.TheVariants as part
 use Rattle.ics_fields.specs.declared.ordinals.Side.{Side}
 use Rattle.ics_values.specs.declared.rule_value.Amount.{Amount}
 use Rattle.ics_values.specs.declared.rule_value.Amount.TheVariants as amount
@@ -76,7 +75,3 @@ pub record IsDayItem (item : List ℕ) (day : DayItem) : Type 0 where
 -- before the first part
 abbrev pub no_parts : Draft
 no_parts = record { parts = every Yearly; seen = 0; too_large = false }
-
--- FREQ was read, and not both UNTIL and COUNT
-abbrev pub is_whole : Draft → Bool
-is_whole draft = contains draft.seen (row part.Freq) && not (contains draft.seen (row part.Until) && contains draft.seen (row part.Count))

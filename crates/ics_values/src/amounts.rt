@@ -79,58 +79,46 @@ fn minute_part(text: &[u8]) -> Option<Amounts>
     ensures { Reads minute_shapes text.now result }
 {
     let minutes = read_amount(text, b'M')?;
-    let behind = if minutes.rest.is_empty() {
+    let mut amounts = if minutes.rest.is_empty() {
         NOTHING
     } else {
         second_part(minutes.rest)?
     };
-    Some(Amounts {
-        minutes: minutes.number,
-        ..behind
-    })
+    amounts.minutes = minutes.number;
+    Some(amounts)
 }
 
 fn hour_part(text: &[u8]) -> Option<Amounts>
     ensures { Reads hour_shapes text.now result }
 {
     let hours = read_amount(text, b'H')?;
-    let behind = if hours.rest.is_empty() {
+    let mut amounts = if hours.rest.is_empty() {
         NOTHING
     } else {
         minute_part(hours.rest)?
     };
-    Some(Amounts {
-        hours: hours.number,
-        ..behind
-    })
+    amounts.hours = hours.number;
+    Some(amounts)
 }
 
 fn time_part(text: &[u8]) -> Option<Amounts>
     ensures { Reads time_shapes text.now result }
 {
     let time = behind_letter(text, b'T')?;
-    if let Some(amounts) = hour_part(time) {
-        return Some(amounts);
-    }
-    if let Some(amounts) = minute_part(time) {
-        return Some(amounts);
-    }
-    second_part(time)
+    hour_part(time).or(minute_part(time)).or(second_part(time))
 }
 
 fn day_part(text: &[u8]) -> Option<Amounts>
     ensures { Reads day_shapes text.now result }
 {
     let days = read_amount(text, b'D')?;
-    let behind = if days.rest.is_empty() {
+    let mut amounts = if days.rest.is_empty() {
         NOTHING
     } else {
         time_part(days.rest)?
     };
-    Some(Amounts {
-        days: days.number,
-        ..behind
-    })
+    amounts.days = days.number;
+    Some(amounts)
 }
 
 fn week_part(text: &[u8]) -> Option<Amounts>
@@ -151,13 +139,7 @@ pub fn duration_part(text: &[u8]) -> Option<Amounts>
     ensures { Reads duration_shapes text.now result }
 {
     let parts = behind_letter(text, b'P')?;
-    if let Some(amounts) = week_part(parts) {
-        return Some(amounts);
-    }
-    if let Some(amounts) = day_part(parts) {
-        return Some(amounts);
-    }
-    time_part(parts)
+    week_part(parts).or(day_part(parts)).or(time_part(parts))
 }
 
 impl Amounts {

@@ -3,7 +3,7 @@ ghost use Rattle.std.specs.Prelude.{◌≡◌, ◌<◌, ◌-◌, List, ℕ, true
 ghost use Rattle.ics_values.specs.ValueFaultNames.{rule_fault_name};
 ghost use Rattle.ics_values.specs.RuleTexts.{without_last, pieces};
 ghost use Rattle.ics_values.specs.Rules.{rule_of};
-ghost use Rattle.ics_values.specs.RuleDrafts.{walk, item_taken, value_taken, part_taken, no_parts, is_whole, Takes};
+ghost use Rattle.ics_values.specs.RuleDrafts.{walk, item_taken, value_taken, part_taken, no_parts, Takes};
 
 use crate::halves::{cut, halves};
 use crate::part_name::{ListName, PartName, part_name};
@@ -134,15 +134,6 @@ impl Draft {
         self.seen.insert(name.row());
         self.take_value(name, value)
     }
-
-    /// Whether FREQ was read, and not both UNTIL and COUNT.
-    fn is_whole(&self) -> bool
-        ensures { result ≡ is_whole self.now }
-    {
-        let until = self.seen.contains(PartName::Until.row());
-        let count = self.seen.contains(PartName::Count.row());
-        self.seen.contains(PartName::Freq.row()) && !(until && count)
-    }
 }
 
 fn draft_of(text: &[u8]) -> Option<Draft>
@@ -169,7 +160,9 @@ pub fn read_rule(text: &[u8]) -> Result<Parts, RuleFault>
     ensures { result ≡ rule_of text.now }
 {
     let draft = draft_of(text).ok_or(RuleFault::BadRule)?;
-    if !draft.is_whole() {
+    let until = draft.seen.contains(PartName::Until.row());
+    let count = draft.seen.contains(PartName::Count.row());
+    if !draft.seen.contains(PartName::Freq.row()) || (until && count) {
         return Err(RuleFault::BadRule);
     }
     if draft.too_large {

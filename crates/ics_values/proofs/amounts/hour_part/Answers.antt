@@ -5,12 +5,12 @@ use Rattle.ics_values.specs.Amounts.{Reads}
 use Rattle.ics_values.proofs.ShapeLemmas.{no_shape-behind}
 use Rattle.ics_values.proofs.amounts.hour_part.Goals as goal
 
-pub returns-in_err-behind : goal.returns-in_err-behind
-returns-in_err-behind c =
+pub returns-in_err-amounts : goal.returns-in_err-amounts
+returns-in_err-amounts c =
     let rest = c.in_ok-hours.hours.rest.now in
     let some : (length rest == 0) ≡ false = search rules in
-    subst (Reads hour_shapes c.args.text.now) (sym c.from_residual-in_err-behind.ensures)
-    (no_shape-behind minute_shapes c.in_ok-hours.ensures some c.in_err-behind.ensures)
+    subst (Reads hour_shapes c.args.text.now) (sym c.from_residual-in_err-amounts.ensures)
+    (no_shape-behind minute_shapes c.in_ok-hours.ensures some c.in_err-amounts.ensures)
 
 pub returns-then-is_empty : goal.returns-then-is_empty
 returns-then-is_empty c = grind (arith, common_steps)

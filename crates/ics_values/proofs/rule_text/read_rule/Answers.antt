@@ -7,8 +7,8 @@ returns-in_err-draft c =
     let e = rule_of-walk c.args.text.now ∙ ap answer_of (sym c.draft_of.ensures) in
     search rules
 
-pub returns-then-not-is_whole : goal.returns-then-not-is_whole
-returns-then-not-is_whole c =
+pub returns-then-not-contains : goal.returns-then-not-contains
+returns-then-not-contains c =
     let e = rule_of-walk c.args.text.now ∙ ap answer_of (sym c.draft_of.ensures) in
     search rules
 
