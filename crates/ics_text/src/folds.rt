@@ -24,19 +24,21 @@ pub fn first_line<'a>(alloc: Global, bytes: &'a [u8]) -> Result<Found<'a>, Alloc
     ensures err { OnErr result ((n : ℕ) → BeginsFolded (lines_from n bytes.now)) }
 {
     let (line, behind) = cut_line(bytes);
-    match behind {
-        None => Ok(Found {
+    let Some(after) = behind else {
+        return Ok(Found {
             held: Held::Borrowed(line),
             rest: &bytes[bytes.len()..],
             breaks: 0,
-        }),
-        Some(after) if is_continued(after) => join_folds(alloc, line, after),
-        Some(after) => Ok(Found {
-            held: Held::Borrowed(line),
-            rest: after,
-            breaks: 1,
-        }),
+        });
+    };
+    if is_continued(after) {
+        return join_folds(alloc, line, after);
     }
+    Ok(Found {
+        held: Held::Borrowed(line),
+        rest: after,
+        breaks: 1,
+    })
 }
 
 /// Joins the first line with the physical lines at the start of `after` that continue it. `after` begins with one.
