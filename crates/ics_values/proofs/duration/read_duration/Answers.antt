@@ -1,9 +1,10 @@
-use Rattle.std.proofs.Common.{◌≡◌, ◌≤◌, ◌<◌, ◌+◌, ◌*◌, ℕ, Bool, true, false, List, [], ◌∷◌, Ok, refl, arith, sym, lit<}
+use Rattle.std.proofs.Common.{◌≡◌, ◌≤◌, ◌<◌, ◌+◌, ◌*◌, ℕ, Bool, true, false, List, [], ◌∷◌, Ok, Err, nat_le, refl, arith, sym, lit<, ◌∙◌}
 use Rattle.std.proofs.lemmas.Bool.Decides.{nat_tests}
 use Rattle.ics_values.specs.declared.amounts.Amounts.{Amounts}
 use Rattle.ics_values.specs.Digits.{greatest_number}
 use Rattle.ics_values.specs.Texts.{begins, is_sign, is_minus, unsigned}
-use Rattle.ics_values.specs.Durations.{amount, weeks, days, hours, minutes, seconds, is_duration_text, duration_of}
+use Rattle.ics_values.specs.Durations.{amount, weeks, days, hours, minutes, seconds, is_duration_text, amounts_fit, duration_of}
+use Rattle.ics_values.specs.declared.duration.DurationFault.TheVariants.{NumberTooLarge}
 use Rattle.ics_values.specs.Amounts.{HasAmounts, capped, each_fits}
 use Rattle.ics_values.proofs.duration.read_duration.Goals as goal
 
@@ -29,6 +30,23 @@ amount-unsigned unit (b ∷ bs) low = by_test (is_sign b) refl
     by_test true h = rw h (behind_sign h)
     by_test false h = rw h refl
 
+-- a number fits where that of the text does
+fits : (unit : ℕ) (text : List ℕ) (n : ℕ) → 57 < unit → n ≡ capped (amount unit (unsigned text)) →
+    nat_le n greatest_number ≡ nat_le (amount unit text) greatest_number
+fits unit text n low is = rw (is, sym (amount-unsigned unit text low)) (grind (arith, nat_tests))
+
+refused : (text : List ℕ) (a : Amounts) → is_duration_text text ≡ true → HasAmounts (unsigned text) a → each_fits a ≡ false →
+    Err NumberTooLarge ≡ duration_of text
+refused text a ordered has large =
+    let same : each_fits a ≡ amounts_fit text = rw (
+      fits 87 text a.weeks (lit< tt) has.weeks,
+      fits 68 text a.days (lit< tt) has.days,
+      fits 72 text a.hours (lit< tt) has.hours,
+      fits 77 text a.minutes (lit< tt) has.minutes,
+      fits 83 text a.seconds (lit< tt) has.seconds,
+    ) refl in
+    rw (ordered, sym same ∙ large) refl
+
 number : (unit : ℕ) (text : List ℕ) (n : ℕ) → 57 < unit → n ≡ capped (amount unit (unsigned text)) → n ≤ greatest_number → amount unit text ≡ n
 number unit text n low is small = let e = amount-unsigned unit text low in omega arith
 
@@ -46,6 +64,11 @@ said text a ordered has fits =
     let m : minutes text ≡ a.minutes = number 77 text a.minutes (lit< tt) has.minutes small.minutes in
     let s : seconds text ≡ a.seconds = number 83 text a.seconds (lit< tt) has.seconds small.seconds in
     rw (ordered, w, d, h, m, s, fits) refl
+
+pub returns-then-not-fit-clause-value : goal.returns-then-not-fit-clause-value
+returns-then-not-fit-clause-value c =
+    let reads = rw c.unsigned.ensures at c.in-Some.ensures in
+    refused c.args.text.now c.in-Some.amounts reads.0 reads.1 (sym c.if-not-fit.ensures)
 
 pub returns-clause-value : goal.returns-clause-value
 returns-clause-value c =
