@@ -87,6 +87,16 @@ module _ {q : EffectiveRule} {start c stop number : ℕ} {before now : Cursor} (
     | inr more ↦ and_right (is_chosen q start n) (is_few q start c n) (all n (begun q.frequency (monday_zero q.week_start) number n more))
   ]
 
+  pub counting_ended : IsWalked q start (Some c) stop None before now
+  counting_ended = let own = parts now.held walk.turn walk.high in record { moved = walk.moved; held = own.0; found = tt; counted = own.1 }
+    where
+      parts : (o : Option RecurrencePeriod) → MatchOption o (number ≡ period_in q start) (λ p. IsPeriodOf q p
+          × (IsCounted q start c now.counted now.limit p × ((p.number ≡ number) ⊎ IsPassed q start (p.number + q.interval) number)))
+          → MatchOption o (Unit {0}) (λ p. p.number ≤ period_in q stop)
+          → HeldBy q o stop × MatchOption o (Unit {0}) (IsCounted q start c now.counted now.limit)
+      parts None turn high = (tt, tt)
+      parts (Some p) turn high = ((turn.0, high), turn.1.0)
+
   -- where this period is looked at
   module _ {after : Cursor} {p : RecurrencePeriod} (turned : IsTurned q start c number after p) (at : LooksAt number now after)
       (top : number ≤ period_in q (stop - 1)) where

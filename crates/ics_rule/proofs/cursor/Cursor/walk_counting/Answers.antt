@@ -1,10 +1,11 @@
-use Rattle.std.proofs.Common.{◌∙◌, ◌+◌, Some, ap, arith}
+use Rattle.std.proofs.Common.{◌∙◌, ◌+◌, Some, None, ap, subst, sym, arith}
+use Rattle.ics_rule.specs.Searches.{IsWalked}
 use Rattle.ics_rule.specs.Candidates.{is_stepped, period_in}
 use Rattle.ics_rule.proofs.StepLemmas.{step_on}
 use Rattle.ics_rule.proofs.CursorLemmas.{walk_reach}
 use Rattle.ics_rule.proofs.CountLemmas.{counted_small}
 use Rattle.ics_rule.proofs.CountingLemmas.{counting_begins, counting_ends, counting_out, counting_finds, counting_found, counting_stops, counting_stopped}
-use Rattle.ics_rule.proofs.CountingLemmas.{counting_goes_on}
+use Rattle.ics_rule.proofs.CountingLemmas.{counting_goes_on, counting_ended}
 use Rattle.ics_rule.proofs.NeverLemmas.{none_wanted, none_walked}
 use Rattle.ics_rule.proofs.cursor.Cursor.walk_counting.Goals as goal
 
@@ -63,3 +64,11 @@ returns-then-chooses_none-clause-next c = none_wanted c.args.parts.now c.args.st
 
 pub returns-then-chooses_none-clause-walked : goal.returns-then-chooses_none-clause-walked
 returns-then-chooses_none-clause-walked c = none_walked c.args.stop c.requires.place c.requires.own
+
+pub returns-clause-walked : goal.returns-clause-walked
+returns-clause-walked c = counting_ended c.loop-number.invariant
+
+pub returns-in-None-clause-walked : goal.returns-in-None-clause-walked
+returns-in-None-clause-walked c =
+    subst (IsWalked c.args.parts.now c.args.start (Some c.args.count) c.args.stop None c.args.self.now) (sym c.in-None.ensures.turned.1)
+    (counting_ended c.loop-number.invariant)
