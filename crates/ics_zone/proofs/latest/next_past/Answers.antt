@@ -34,7 +34,7 @@ loop-place-preserved c =
     let max = c.max-from.ensures.value in
     let from : c.max-from.result ≡ int_max (to_z w64 (of_z w64 c.args.after)) (to_z w64 (of_z w64 c.args.seconds) -ℤ c.index-onsets-place.result.offset_to) =
     (let is = c.from.ensures in omega (arith, ints, clamps, max, is, offset, c.requires.bound.0, c.requires.bound.1)) in
-    let after = simp to_z-of_z at c.next-next.ensures.after in
+    let after = rw (to_z-of_z w64 c.max-from.result small) at c.next-next.ensures.after in
     let bound = c.next-next.ensures.bound in
     rw (to_z-of_z w64 c.next-next.result next) (record {
       later = omega (arith, ints, clamps, after, from);
@@ -42,14 +42,14 @@ loop-place-preserved c =
       none = λ zone all. past_now zone c.args.onsets.now all c.loop-place.place c.index-onsets-place.result c.loop-place-test.true c.index-onsets-place.is
           (to_z w64 (of_z w64 c.args.seconds)) (to_z w64 (of_z w64 c.args.after)) c.max-from.result (to_z w64 c.loop-place.next-bits) from
           (c.loop-place.invariant.none zone all)
-          c.next-next.result bound (simp to_z-of_z at c.next-next.ensures.next);
+          c.next-next.result bound (rw (to_z-of_z w64 c.max-from.result small) at c.next-next.ensures.next);
     })
 
 pub returns-clause-next : goal.returns-clause-next
 returns-clause-next c = λ zone all i s p h late early.
     let fits : SFits w64 c.args.seconds = c.ranges.seconds in
     let fits_too : SFits w64 c.args.after = c.ranges.after in
-    let none = simp to_z-of_z at c.loop-place.invariant.none in
+    let none = rw (to_z-of_z w64 c.args.seconds fits, to_z-of_z w64 c.args.after fits_too) at c.loop-place.invariant.none in
     none zone all i s p (let within = slice_get_within zone i p h.0 in let n = all.same_length in omega (arith, within, n, c.loop-place-test.false)) h late
     early
 

@@ -14,15 +14,13 @@ returns-in-Some-clause-marks c =
     let from : SFits w64 c.args.from = c.ranges.from in
     let local : SFits w64 c.args.seconds = c.ranges.seconds in
     let low : SFits w64 c.seconds_to-low.result = search rules in
-    let to : SFits w32 c.args.self.now.offset_to = search rules in
-    let known = simp to_z-of_z at c.within-onsets.ensures.known in
-    let complete = simp to_z-of_z at c.within-onsets.ensures.complete in
-    let first = c.seconds_to-low.ensures.first in
-    let is_size = simp to_z-of_z at c.first_of.ensures.first in
-    let marks = simp to_z-of_z at c.loop-minute.invariant.marks in
+    let known = rw (to_z-of_z w64 c.args.from from) at c.within-onsets.ensures.known in
+    let complete = rw (to_z-of_z w64 c.args.from from) at c.within-onsets.ensures.complete in
+    let is_size = rw (to_z-of_z w64 c.seconds_to-low.result low) at c.first_of.ensures.first in
+    let marks = rw (to_z-of_z w64 c.args.from from, to_z-of_z w64 c.args.seconds local) at c.loop-minute.invariant.marks in
     marks_minute c.args.self.now c.args.seconds c.args.from c.seconds_to-low.result c.within-onsets.result c.loop-minute.over c.loop-minute.minute
     c.first_of.result c.front.result (omega (arith, c.loop-minute.invariant.length, c.loop-minute-test.true)) known complete
-    (λ k h. let early = first k h in omega (arith, ints, early, c.requires.local, c.from.ensures)) is_size c.front.ensures.members
+    (λ k h. let early = c.seconds_to-low.ensures.first k h in omega (arith, ints, early, c.requires.local, c.from.ensures)) is_size c.front.ensures.members
     (omega (arith, c.loop-minute-test.true)) c.args.over.now marks
 
 pub returns-in-Some-clause-clear : goal.returns-in-Some-clause-clear
@@ -30,21 +28,19 @@ returns-in-Some-clause-clear c = λ k contains early later.
     let from : SFits w64 c.args.from = c.ranges.from in
     let local : SFits w64 c.args.seconds = c.ranges.seconds in
     let low : SFits w64 c.seconds_to-low.result = search rules in
-    let to : SFits w32 c.args.self.now.offset_to = search rules in
-    let known = simp to_z-of_z at c.within-onsets.ensures.known in
-    let complete = simp to_z-of_z at c.within-onsets.ensures.complete in
-    let first = c.seconds_to-low.ensures.first in
-    let is_size = simp to_z-of_z at c.first_of.ensures.first in
+    let known = rw (to_z-of_z w64 c.args.from from) at c.within-onsets.ensures.known in
+    let complete = rw (to_z-of_z w64 c.args.from from) at c.within-onsets.ensures.complete in
+    let is_size = rw (to_z-of_z w64 c.seconds_to-low.result low) at c.first_of.ensures.first in
     let most : SFits w64 c.args.most = c.ranges.most in
-    let clear = simp to_z-of_z at c.loop-minute.invariant.clear in
+    let clear = rw (to_z-of_z w64 c.args.from from, to_z-of_z w64 c.args.seconds local) at c.loop-minute.invariant.clear in
     let small = c.in-Some.ensures.0 in
     clear_minute c.args.self.now c.args.seconds c.args.from c.seconds_to-low.result c.within-onsets.result c.loop-minute.over c.loop-minute.minute
     c.first_of.result c.front.result (omega (arith, c.loop-minute.invariant.length, c.loop-minute-test.true)) known complete
-    (λ k h. let early = first k h in omega (arith, ints, early, c.requires.local, c.from.ensures)) is_size c.front.ensures.members
+    (λ k h. let early = c.seconds_to-low.ensures.first k h in omega (arith, ints, early, c.requires.local, c.from.ensures)) is_size c.front.ensures.members
     (omega (arith, c.loop-minute-test.true)) _ c.in-Some.second
     (stay_minute c.args.self.now c.args.seconds c.args.from c.seconds_to-low.result c.within-onsets.result c.loop-minute.over c.loop-minute.minute
     c.first_of.result c.front.result (omega (arith, c.loop-minute.invariant.length, c.loop-minute-test.true)) known complete
-    (λ k h. let early = first k h in omega (arith, ints, early, c.requires.local, c.from.ensures)) is_size c.front.ensures.members)
+    (λ k h. let early = c.seconds_to-low.ensures.first k h in omega (arith, ints, early, c.requires.local, c.from.ensures)) is_size c.front.ensures.members)
     (omega (arith, small)) c.in-Some.ensures.1 clear k
     (omega (arith, ints, clamps, early, small, c.min.ensures.value, c.requires.most, c.requires.some, c.loop-minute-test.true, c.from-in-Some.ensures)) contains
     later
@@ -54,27 +50,25 @@ loop-minute-preserved c =
     let from : SFits w64 c.args.from = c.ranges.from in
     let local : SFits w64 c.args.seconds = c.ranges.seconds in
     let low : SFits w64 c.seconds_to-low.result = search rules in
-    let to : SFits w32 c.args.self.now.offset_to = search rules in
-    let known = simp to_z-of_z at c.within-onsets.ensures.known in
-    let complete = simp to_z-of_z at c.within-onsets.ensures.complete in
-    let first = c.seconds_to-low.ensures.first in
-    let is_size = simp to_z-of_z at c.first_of.ensures.first in
-    let marks = simp to_z-of_z at c.loop-minute.invariant.marks in
-    let clear = simp to_z-of_z at c.loop-minute.invariant.clear in
+    let known = rw (to_z-of_z w64 c.args.from from) at c.within-onsets.ensures.known in
+    let complete = rw (to_z-of_z w64 c.args.from from) at c.within-onsets.ensures.complete in
+    let is_size = rw (to_z-of_z w64 c.seconds_to-low.result low) at c.first_of.ensures.first in
+    let marks = rw (to_z-of_z w64 c.args.from from, to_z-of_z w64 c.args.seconds local) at c.loop-minute.invariant.marks in
+    let clear = rw (to_z-of_z w64 c.args.from from, to_z-of_z w64 c.args.seconds local) at c.loop-minute.invariant.clear in
     rw (to_z-of_z w64 c.args.from from, to_z-of_z w64 c.args.seconds local) (record {
       length = search rules;
       marks = marks_minute c.args.self.now c.args.seconds c.args.from c.seconds_to-low.result c.within-onsets.result c.loop-minute.over c.loop-minute.minute
           c.first_of.result c.front.result (omega (arith, c.loop-minute.invariant.length, c.loop-minute-test.true)) known complete
-          (λ k h. let early = first k h in omega (arith, ints, early, c.requires.local, c.from.ensures)) is_size c.front.ensures.members
+          (λ k h. let early = c.seconds_to-low.ensures.first k h in omega (arith, ints, early, c.requires.local, c.from.ensures)) is_size c.front.ensures.members
           (omega (arith, c.loop-minute-test.true)) c.args.over.now marks;
       clear = λ k early. clear_minute c.args.self.now c.args.seconds c.args.from c.seconds_to-low.result c.within-onsets.result c.loop-minute.over
           c.loop-minute.minute
           c.first_of.result c.front.result (omega (arith, c.loop-minute.invariant.length, c.loop-minute-test.true)) known complete
-          (λ k h. let early = first k h in omega (arith, ints, early, c.requires.local, c.from.ensures)) is_size c.front.ensures.members
+          (λ k h. let early = c.seconds_to-low.ensures.first k h in omega (arith, ints, early, c.requires.local, c.from.ensures)) is_size c.front.ensures.members
           (omega (arith, c.loop-minute-test.true)) _ 60
           (stay_minute c.args.self.now c.args.seconds c.args.from c.seconds_to-low.result c.within-onsets.result c.loop-minute.over c.loop-minute.minute
           c.first_of.result c.front.result (omega (arith, c.loop-minute.invariant.length, c.loop-minute-test.true)) known complete
-          (λ k h. let early = first k h in omega (arith, ints, early, c.requires.local, c.from.ensures)) is_size c.front.ensures.members)
+          (λ k h. let early = c.seconds_to-low.ensures.first k h in omega (arith, ints, early, c.requires.local, c.from.ensures)) is_size c.front.ensures.members)
           (omega arith) c.in_default.ensures clear k (omega (arith, early));
     })
 
@@ -82,14 +76,14 @@ pub returns-clause-marks : goal.returns-clause-marks
 returns-clause-marks c =
     let from : SFits w64 c.args.from = c.ranges.from in
     let local : SFits w64 c.args.seconds = c.ranges.seconds in
-    simp to_z-of_z at c.loop-minute.invariant.marks
+    rw (to_z-of_z w64 c.args.from from, to_z-of_z w64 c.args.seconds local) at c.loop-minute.invariant.marks
 
 pub returns-clause-clear : goal.returns-clause-clear
 returns-clause-clear c = λ k contains early later.
     let from : SFits w64 c.args.from = c.ranges.from in
     let local : SFits w64 c.args.seconds = c.ranges.seconds in
     let most : SFits w64 c.args.most = c.ranges.most in
-    let clear = simp to_z-of_z at c.loop-minute.invariant.clear in
+    let clear = rw (to_z-of_z w64 c.args.from from, to_z-of_z w64 c.args.seconds local) at c.loop-minute.invariant.clear in
     clear k (omega (arith, ints, early, c.requires.most, c.loop-minute-test.false)) contains later
 
 pub within-onsets-requires-clause-near : goal.within-onsets-requires-clause-near

@@ -36,8 +36,8 @@ loop-at-preserved c =
     let after = c.next_asked-at-in-loop-at.ensures.after in
     let bound = c.next_asked-at-in-loop-at.ensures.bound in
     let first = c.next_asked-at-in-loop-at.ensures.next in
-    let known = simp to_z-of_z at c.loop-at.invariant.known in
-    let complete = simp to_z-of_z at c.loop-at.invariant.complete in
+    let known = rw (to_z-of_z w64 c.args.from fits) at c.loop-at.invariant.known in
+    let complete = rw (to_z-of_z w64 c.args.from fits) at c.loop-at.invariant.complete in
     let marks = simp to_z-of_z at c.mark.ensures.marks in
     rw (to_z-of_z w64 c.next_asked-at-in-loop-at.result next, to_z-of_z w64 c.args.from fits) (record {
       length = c.mark.ensures.length;
@@ -56,10 +56,10 @@ loop-at-preserved c =
 pub returns-clause-known : goal.returns-clause-known
 returns-clause-known c =
     let fits : SFits w64 c.args.from = c.ranges.from in
-    simp to_z-of_z at c.loop-at.invariant.known
+    rw (to_z-of_z w64 c.args.from fits) at c.loop-at.invariant.known
 
 pub returns-clause-complete : goal.returns-clause-complete
 returns-clause-complete c = λ k low asked.
     let fits : SFits w64 c.args.from = c.ranges.from in
-    let complete = simp to_z-of_z at c.loop-at.invariant.complete in
+    let complete = rw (to_z-of_z w64 c.args.from fits) at c.loop-at.invariant.complete in
     complete k (omega (arith, ints, low, c.loop-at-test.false, c.requires.near)) asked
