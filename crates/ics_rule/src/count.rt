@@ -132,14 +132,10 @@ impl Cursor {
         self.pass_periods(parts, start, count, first);
         let (mut number, _) = self.counted_from(first);
         while number <= last {
-            match self.turn_to(parts, start, count, number) {
-                None => return None,
-                Some(period) => {
-                    if let Some(n) = period.next_taken(&parts.positions, self.place) {
-                        let earlier = self.counted + period.taken_before(&parts.positions, n);
-                        return if earlier < self.limit { Some(n) } else { None };
-                    }
-                }
+            let period = self.turn_to(parts, start, count, number)?;
+            if let Some(n) = period.next_taken(&parts.positions, self.place) {
+                let earlier = self.counted + period.taken_before(&parts.positions, n);
+                return if earlier < self.limit { Some(n) } else { None };
             }
             let next = number + parts.interval as u64;
             number = next_open_step(parts, first, next, last, stop);

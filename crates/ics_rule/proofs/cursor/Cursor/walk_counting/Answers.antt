@@ -1,5 +1,4 @@
-use Rattle.std.proofs.Common.{◌∙◌, ◌+◌, Some, None, ap, subst, sym, arith}
-use Rattle.ics_rule.specs.Searches.{IsWalked}
+use Rattle.std.proofs.Common.{◌∙◌, ◌+◌, Some, ap, arith}
 use Rattle.ics_rule.specs.Candidates.{is_stepped, period_in}
 use Rattle.ics_rule.proofs.StepLemmas.{step_on}
 use Rattle.ics_rule.proofs.CursorLemmas.{walk_reach}
@@ -17,32 +16,32 @@ pub turn_to-requires-clause-reach : goal.turn_to-requires-clause-reach
 turn_to-requires-clause-reach c = let r = walk_reach c.args.parts.now c.loop-number.number c.args.stop
     (omega (arith, c.loop-number-test.true, c.period_of-last.ensures.value)) in omega (arith, r, c.requires.stop)
 
-pub returns-in-None-clause-next : goal.returns-in-None-clause-next
-returns-in-None-clause-next c = counting_out c.loop-number.invariant c.in-None.ensures.turned.0
+pub returns-in_err-period-clause-next : goal.returns-in_err-period-clause-next
+returns-in_err-period-clause-next c = rw c.from_residual.ensures (counting_out c.loop-number.invariant c.in_err-period.ensures.turned.0)
 
 pub overflow_add-earlier : goal.overflow_add-earlier
 overflow_add-earlier c =
     let r = walk_reach c.args.parts.now c.loop-number.number c.args.stop (omega (arith, c.loop-number-test.true, c.period_of-last.ensures.value)) in
-    let small = counted_small c.loop-number.number c.in-Some.ensures.turned.counted (omega (arith, c.in-Some.ensures.turned.number))
+    let small = counted_small c.loop-number.number c.in_ok-period.ensures.turned.counted (omega (arith, c.in_ok-period.ensures.turned.number))
     c.loop-number.invariant.step (omega (arith, r, c.requires.stop)) in
-    omega (arith, small, c.taken_before.ensures.bound, c.in-Some-next_taken.ensures.small)
+    omega (arith, small, c.taken_before.ensures.bound, c.in-Some.ensures.small)
 
 pub returns-then-earlier-self-clause-next : goal.returns-then-earlier-self-clause-next
-returns-then-earlier-self-clause-next c = counting_finds c.loop-number.invariant c.in-Some.ensures.turned c.turn_to.ensures.looks
-    (omega (arith, c.loop-number-test.true, c.period_of-last.ensures.value)) c.in-Some-next_taken.ensures.next c.taken_before.ensures.value
+returns-then-earlier-self-clause-next c = counting_finds c.loop-number.invariant c.in_ok-period.ensures.turned c.turn_to.ensures.looks
+    (omega (arith, c.loop-number-test.true, c.period_of-last.ensures.value)) c.in-Some.ensures.next c.taken_before.ensures.value
     c.if-earlier-self.true
 
 pub returns-then-earlier-self-clause-walked : goal.returns-then-earlier-self-clause-walked
-returns-then-earlier-self-clause-walked c = counting_found c.loop-number.invariant c.in-Some.ensures.turned c.turn_to.ensures.looks
-    (omega (arith, c.loop-number-test.true, c.period_of-last.ensures.value)) c.in-Some-next_taken.ensures.next
+returns-then-earlier-self-clause-walked c = counting_found c.loop-number.invariant c.in_ok-period.ensures.turned c.turn_to.ensures.looks
+    (omega (arith, c.loop-number-test.true, c.period_of-last.ensures.value)) c.in-Some.ensures.next
 
 pub returns-else-earlier-self-clause-next : goal.returns-else-earlier-self-clause-next
-returns-else-earlier-self-clause-next c = counting_stops c.loop-number.invariant c.in-Some.ensures.turned c.turn_to.ensures.looks
-    (omega (arith, c.loop-number-test.true, c.period_of-last.ensures.value)) c.in-Some-next_taken.ensures.next c.taken_before.ensures.value
+returns-else-earlier-self-clause-next c = counting_stops c.loop-number.invariant c.in_ok-period.ensures.turned c.turn_to.ensures.looks
+    (omega (arith, c.loop-number-test.true, c.period_of-last.ensures.value)) c.in-Some.ensures.next c.taken_before.ensures.value
     c.if-earlier-self.false
 
 pub returns-else-earlier-self-clause-walked : goal.returns-else-earlier-self-clause-walked
-returns-else-earlier-self-clause-walked c = counting_stopped c.loop-number.invariant c.in-Some.ensures.turned c.turn_to.ensures.looks
+returns-else-earlier-self-clause-walked c = counting_stopped c.loop-number.invariant c.in_ok-period.ensures.turned c.turn_to.ensures.looks
     (omega (arith, c.loop-number-test.true, c.period_of-last.ensures.value))
 
 pub next_open_step-number-requires-clause-step : goal.next_open_step-number-requires-clause-step
@@ -51,7 +50,7 @@ next_open_step-number-requires-clause-step c =
     ∙ step_on c.args.parts.now.interval c.requires.interval (period_in c.args.parts.now c.args.start) c.loop-number.number c.loop-number.invariant.step
 
 pub loop-number-preserved : goal.loop-number-preserved
-loop-number-preserved c = counting_goes_on c.loop-number.invariant c.in-Some.ensures.turned c.turn_to.ensures.looks
+loop-number-preserved c = counting_goes_on c.loop-number.invariant c.in_ok-period.ensures.turned c.turn_to.ensures.looks
     (omega (arith, c.loop-number-test.true, c.period_of-last.ensures.value)) c.period_of-first.ensures.value c.in_default.ensures.next
     c.next_open_step-number.ensures
 
@@ -68,7 +67,6 @@ returns-then-chooses_none-clause-walked c = none_walked c.args.stop c.requires.p
 pub returns-clause-walked : goal.returns-clause-walked
 returns-clause-walked c = counting_ended c.loop-number.invariant
 
-pub returns-in-None-clause-walked : goal.returns-in-None-clause-walked
-returns-in-None-clause-walked c =
-    subst (IsWalked c.args.parts.now c.args.start (Some c.args.count) c.args.stop None c.args.self.now) (sym c.in-None.ensures.turned.1)
-    (counting_ended c.loop-number.invariant)
+pub returns-in_err-period-clause-walked : goal.returns-in_err-period-clause-walked
+returns-in_err-period-clause-walked c =
+    rw (c.from_residual.ensures, c.in_err-period.ensures.turned.1) (counting_ended c.loop-number.invariant)
