@@ -105,7 +105,13 @@ fn time_part(text: &[u8]) -> Option<Amounts>
     ensures { Reads time_shapes text.now result }
 {
     let time = behind_letter(text, b'T')?;
-    hour_part(time).or(minute_part(time)).or(second_part(time))
+    if let Some(amounts) = hour_part(time) {
+        return Some(amounts);
+    }
+    if let Some(amounts) = minute_part(time) {
+        return Some(amounts);
+    }
+    second_part(time)
 }
 
 fn day_part(text: &[u8]) -> Option<Amounts>
@@ -139,7 +145,13 @@ pub fn duration_part(text: &[u8]) -> Option<Amounts>
     ensures { Reads duration_shapes text.now result }
 {
     let parts = behind_letter(text, b'P')?;
-    week_part(parts).or(day_part(parts)).or(time_part(parts))
+    if let Some(amounts) = week_part(parts) {
+        return Some(amounts);
+    }
+    if let Some(amounts) = day_part(parts) {
+        return Some(amounts);
+    }
+    time_part(parts)
 }
 
 impl Amounts {
