@@ -57,6 +57,7 @@ pub use laws::{
     order_of_files, raw_counted,
 };
 pub use merge::Merge;
+pub use near_day::date_at;
 pub use occurrence::Occurrence;
 pub use token::{Token, TokenFault};
 pub use window::Window;

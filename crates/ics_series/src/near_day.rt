@@ -11,12 +11,15 @@ use ics_zone::{Display, Place};
 
 const DAY: i64 = 86_400;
 
-/// The date that a display zone shows.
-pub(crate) fn date_at(display: &Display, moment: Moment) -> i32
-    requires early { (occurrence_first -ℤ pos 1) ≤ℤ moment }
+/// The day that a display zone shows at an instant, counted from 1970-01-01.
+///
+/// The instant is from 0000-12-30T00:00 on and before 9950-01-01T00:00 UTC.
+pub fn date_at(display: &Display, moment: Moment) -> i32
+    requires early { occurrence_first ≤ℤ moment }
     requires late { moment <ℤ occurrence_end }
     ensures day { result ≡ date_at (display_clock display.now) moment }
     ensures within { IsDayNumber result }
+    ensures before { IsDayNumber (result -ℤ pos 1) }
 {
     display.local(moment).day
 }

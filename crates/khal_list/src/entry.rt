@@ -5,11 +5,10 @@ ghost use Rattle.ics_series.specs.Entry.{entry_of};
 ghost use Rattle.khal_list.specs.Listed.{style_of};
 ghost use Rattle.khal_list.specs.Text.{heading_after, entry_text, day_under};
 
-use crate::display_day::display_day;
 use crate::heading::add_heading;
 use crate::line::add_line;
 use crate::request::Request;
-use ics_series::Occurrence;
+use ics_series::{Occurrence, date_at};
 use std::alloc::{AllocError, Global};
 
 /// The day under which an occurrence is listed: the display date of the later of its start and the
@@ -19,7 +18,7 @@ pub(crate) fn day_under(request: &Request, occurrence: &Occurrence<'_>) -> i32
     ensures within { IsDayNumber result }
 {
     let shown = occurrence.start.max(request.window.from);
-    display_day(&request.zone, shown)
+    date_at(&request.zone, shown)
 }
 
 /// Adds the heading of a day, unless the entry before is listed under the same day.

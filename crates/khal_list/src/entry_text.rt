@@ -7,10 +7,9 @@ ghost use Rattle.ics_series.specs.Entry.{entry_of};
 ghost use Rattle.khal_list.specs.Text.{cell_text, end_date, entry_field_text, is_date, time_unless_date};
 
 use crate::cell::{add_time, add_times};
-use crate::display_day::display_day;
 use crate::heading::add_date;
 use ics_event::Event;
-use ics_series::Occurrence;
+use ics_series::{Occurrence, date_at};
 use ics_values::{Local, Stamp};
 use ics_zone::{Display, Place};
 use khal_reading::add_shown;
@@ -64,7 +63,7 @@ fn end_day(zone: &Display, occurrence: &Occurrence<'_>) -> i32
     ensures day { result ≡ end_date (display_clock zone.now) (entry_of occurrence.now) }
     ensures within { IsDayNumber result }
 {
-    let day = display_day(zone, occurrence.finish);
+    let day = date_at(zone, occurrence.finish);
     let dated = is_all_day(occurrence.event);
     if dated { day - 1 } else { day }
 }
@@ -91,7 +90,7 @@ pub(crate) fn add_field(
         EntryField::EndTime => {
             add_time_unless_date(text, occurrence, zone.local(occurrence.finish))
         }
-        EntryField::StartDate => add_date(text, display_day(zone, occurrence.start)),
+        EntryField::StartDate => add_date(text, date_at(zone, occurrence.start)),
         EntryField::EndDate => add_date(text, end_day(zone, occurrence)),
         EntryField::Location => add_shown(alloc, text, event.location.as_slice()),
         EntryField::Description => add_shown(alloc, text, event.description.as_slice()),

@@ -6,9 +6,8 @@ ghost use Rattle.ics_series.specs.Tokens.{IsDayToken, IsToken};
 ghost use Rattle.khal_words.specs.Entries.{IsFlag};
 ghost use Rattle.khal_list.specs.RequestOf as spec;
 
-use crate::display_day::display_day;
 use clap::ArgMatches;
-use ics_series::{DayKey, DayToken, Key, Token, TokenFault, Window};
+use ics_series::{DayKey, DayToken, Key, Token, TokenFault, Window, date_at};
 use ics_values::Moment;
 use ics_zone::Display;
 use khal_words::{entry, is_given};
@@ -109,7 +108,7 @@ fn day_from(zone: &Display, window: &Window, start: Moment) -> i32
     ensures { result ≡ spec.day_from zone.now window.now start }
 {
     if start < window.to {
-        display_day(zone, start.max(window.from))
+        date_at(zone, start.max(window.from))
     } else {
         i32::MAX
     }

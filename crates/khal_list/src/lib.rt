@@ -2,7 +2,6 @@
 #![tactic(auto)]
 
 mod cell;
-mod display_day;
 mod drawing;
 mod entry;
 mod entry_text;

@@ -9,10 +9,10 @@ use Rattle.ics_zone.specs.JiffZones.{zone_of}
 use Rattle.ics_series.specs.WindowBounds.{occurrence_first, occurrence_end}
 use Rattle.ics_series.proofs.near_day.date_at.Goals as goal
 
--- a local near an instant of those years lies in the years 0000 to 9999
+-- a local near an instant of those years lies in the years 0000 to 9999, and so does the day before
 day_within : (day : ℤ) {second : ℕ} {moment offset : ℤ} → second < 86_400 → seconds_at day second ≡ moment +ℤ offset → IsNear offset
-    → (occurrence_first -ℤ pos 1) ≤ℤ moment → moment <ℤ occurrence_end → IsDayNumber day
-day_within day small same near early late = (omega (arith, ints), omega (arith, ints))
+    → occurrence_first ≤ℤ moment → moment <ℤ occurrence_end → IsDayNumber (day -ℤ pos 1) × IsDayNumber day
+day_within day small same near early late = ((omega (arith, ints), omega (arith, ints)), (omega (arith, ints), omega (arith, ints)))
 
 pub returns-clause-within : goal.returns-clause-within
 returns-clause-within c =
@@ -20,4 +20,12 @@ returns-clause-within c =
     let fits : FitsSigned w32 c.local.result.day = search rules in
     rw (to_z-of_z w32 c.local.result.day fits)
     (day_within c.local.result.day c.local.result.second_in (rw (to_z-of_z w64 moment c.ranges.moment) at c.local.ensures)
-    (offset_near (zone_of c.args.display.now) moment) c.requires.early c.requires.late)
+    (offset_near (zone_of c.args.display.now) moment) c.requires.early c.requires.late).1
+
+pub returns-clause-before : goal.returns-clause-before
+returns-clause-before c =
+    let moment = c.args.moment in
+    let fits : FitsSigned w32 c.local.result.day = search rules in
+    rw (to_z-of_z w32 c.local.result.day fits)
+    (day_within c.local.result.day c.local.result.second_in (rw (to_z-of_z w64 moment c.ranges.moment) at c.local.ensures)
+    (offset_near (zone_of c.args.display.now) moment) c.requires.early c.requires.late).0

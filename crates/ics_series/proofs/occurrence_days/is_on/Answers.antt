@@ -1,4 +1,4 @@
-use Rattle.std.specs.Prelude.{◌&&◌, ◌≤ℤ◌, int_le, if◌then◌else◌}
+use Rattle.std.specs.Prelude.{◌&&◌, ◌≤ℤ◌, ◌<ℤ◌, int_le, if◌then◌else◌}
 use Rattle.std.proofs.Common.{◌≡◌, ℤ, pos, ◌-ℤ◌, true, false, nat_eq, rules, sym, ◌∙◌, ap, to_z, of_z, w32, w64, arith}
 use Rattle.std.specs.Int.{int_max, int_min}
 use Rattle.std.specs.Ordering.{int_eq}
@@ -66,8 +66,9 @@ pub date_at-requires : goal.date_at-requires
 date_at-requires c =
     let o = c.args.occurrence.now in
     let w = c.args.window.now in
+    let later : o.start <ℤ o.finish = grind (arith, ints, c.if-occurrence.false, o.forward) in
     record {
-      early = omega (arith, ints, int_min_is, c.min-end.ensures.value, c.min-end.type_inv, o.not_early, o.forward, w.ordered, w.not_early);
+      early = omega (arith, ints, int_min_is, c.min-end.ensures.value, c.min-end.type_inv, o.not_early, later, w.ordered, w.not_early);
       late = omega (arith, ints, int_min_is, c.min-end.ensures.value, c.min-end.type_inv, o.not_early, o.forward, o.not_late, w.ordered, w.not_early);
     }
 
