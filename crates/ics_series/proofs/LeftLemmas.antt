@@ -1,6 +1,6 @@
 -- The starts still to come of a rule and of those that are known from the first, as one list.
 use Rattle.std.specs.Prelude.{int_lt, slice_get, if◌then◌else◌}
-use Rattle.std.proofs.Common.{◌≡◌, ℤ, List, [], ◌∷◌, Bool, true, false, Some, None, inl, inr, ⊎_elim, refl, sym, ◌∙◌, ap, subst}
+use Rattle.std.proofs.Common.{◌≡◌, ℤ, List, [], ◌∷◌, Bool, true, false, Option, Some, None, length, inl, inr, ⊎_elim, refl, sym, ◌∙◌, ap, subst}
 use Rattle.std.specs.Cmp.{IsTotalOrder}
 use Rattle.std.specs.declared.cmp.Ordering.{Ordering}
 use Rattle.std.specs.declared.cmp.Ordering.TheVariants.{Less, Equal, Greater}
@@ -13,9 +13,8 @@ use Rattle.ics_series.specs.Listing.{IsIn}
 use Rattle.ics_series.specs.Merged.{by_order, cut, put, union}
 use Rattle.ics_series.specs.MergedLaws.{back, before-tied, before-trans}
 use Rattle.ics_series.specs.Rising.{IsBefore, Rises}
-use Rattle.ics_series.specs.SeriesStarts.{earlier_of}
+use Rattle.ics_series.specs.SeriesStarts.{IsFirstOf}
 use Rattle.ics_series.specs.Starts.{IsNotAfter}
-use Rattle.ics_series.proofs.Cases.{some-same}
 use Rattle.ics_series.proofs.BeginsLemmas.{cut-before, cut-union, front-union, put-front, union-front}
 use Rattle.ics_series.proofs.FirstLemmas.{int-less, moment_total, tied-moment}
 use Rattle.ics_series.proofs.RuleDayLemmas.{less-start}
@@ -59,13 +58,6 @@ module _ {A : Type 0} (R : A → A → Ordering) (o : IsTotalOrder R) where
       by Equal e = before-tied R o x y ys e r.0
       by Greater e = absurd (n e)
 
--- Of the first of both kinds the earlier one is taken.
-taken-some : (s : Start) (xs ys : List Start) → union moment_cmp xs ys ≡ s ∷ union moment_cmp (cut moment_cmp s xs) (cut moment_cmp s ys) → (t : Start) →
-    Some s ≡ Some t
-    → union moment_cmp xs ys ≡ t ∷ union moment_cmp (cut moment_cmp t xs) (cut moment_cmp t ys)
-taken-some s xs ys h t e = let same : s ≡ t = some-same s t e in
-    subst (λ u. union moment_cmp xs ys ≡ u ∷ union moment_cmp (cut moment_cmp u xs) (cut moment_cmp u ys)) same h
-
 less-by : (a b : Start) → int_lt b.moment a.moment ≡ true → moment_cmp b a ≡ Less
 less-by a b e = less-start b a (int_lt_true b.moment a.moment e)
 
@@ -75,31 +67,30 @@ not-greater-by a b e g =
     let f : true ≡ false = sym (true_int_lt b.moment a.moment later) ∙ e in
     cc
 
--- if one is the first of what is left, and both lists rise
-pub first-taken : (xs ys : List Start) (s : Start) → Rises moment_cmp xs → Rises moment_cmp ys → earlier_of (slice_get xs 0) (slice_get ys 0) ≡ Some s
-    → union moment_cmp xs ys ≡ s ∷ union moment_cmp (cut moment_cmp s xs) (cut moment_cmp s ys)
-first-taken [] [] s r k e = let f : None ≡ Some s = e in absurd cc
-first-taken [] (y ∷ ys) s r k e = taken-some y [] (y ∷ ys) (begins-alone moment_cmp moment_total y ys) s e
-first-taken (x ∷ xs) [] s r k e = taken-some x (x ∷ xs) [] (begins-first moment_cmp moment_total x xs [] r tt) s e
-first-taken (x ∷ xs) (y ∷ ys) s r k e = by (int_lt y.moment x.moment) refl e
-  where
-    by : (b : Bool) → int_lt y.moment x.moment ≡ b → (if b then Some y else Some x) ≡ Some s
-        → union moment_cmp (x ∷ xs) (y ∷ ys) ≡ s ∷ union moment_cmp (cut moment_cmp s (x ∷ xs)) (cut moment_cmp s (y ∷ ys))
-    by true t e = taken-some y (x ∷ xs) (y ∷ ys) (begins-second moment_cmp moment_total y x xs ys r (less-by x y t)) s e
-    by false f e =
-        taken-some x (x ∷ xs) (y ∷ ys)
-        (begins-first moment_cmp moment_total x xs (y ∷ ys) r (not-after-front moment_cmp moment_total x y ys (not-greater-by x y f) k)) s
-        e
+-- the first of two starts; if both are at one instant, the first of them
+abbrev pub earlier : Option Start → Option Start → Option Start
+earlier None listed = listed
+earlier (Some a) None = Some a
+earlier (Some a) (Some b) = if int_lt b.moment a.moment then Some b else Some a
 
-pub none-taken : (xs ys : List Start) → earlier_of (slice_get xs 0) (slice_get ys 0) ≡ None → union moment_cmp xs ys ≡ []
-none-taken [] [] e = refl
-none-taken [] (y ∷ ys) e = let f : Some y ≡ None = e in absurd cc
-none-taken (x ∷ xs) [] e = let f : Some x ≡ None = e in absurd cc
-none-taken (x ∷ xs) (y ∷ ys) e = by (int_lt y.moment x.moment) e
+first-of : (xs ys : List Start) → Rises moment_cmp xs → Rises moment_cmp ys → IsFirstOf (earlier (slice_get xs 0) (slice_get ys 0)) xs ys
+first-of [] [] r k = refl
+first-of [] (y ∷ ys) r k = begins-alone moment_cmp moment_total y ys
+first-of (x ∷ xs) [] r k = begins-first moment_cmp moment_total x xs [] r tt
+first-of (x ∷ xs) (y ∷ ys) r k = by (int_lt y.moment x.moment) refl
   where
-    by : (b : Bool) → (if b then Some y else Some x) ≡ None → union moment_cmp (x ∷ xs) (y ∷ ys) ≡ []
-    by true e = let f : Some y ≡ None = e in absurd cc
-    by false e = let f : Some x ≡ None = e in absurd cc
+    by : (b : Bool) → int_lt y.moment x.moment ≡ b → IsFirstOf (if b then Some y else Some x) (x ∷ xs) (y ∷ ys)
+    by true t = begins-second moment_cmp moment_total y x xs ys r (less-by x y t)
+    by false f = begins-first moment_cmp moment_total x xs (y ∷ ys) r (not-after-front moment_cmp moment_total x y ys (not-greater-by x y f) k)
+
+-- of the first of both kinds the earlier one is the first
+pub first-by : (ruled listed first : Option Start) → earlier ruled listed ≡ first → (xs ys : List Start) → Rises moment_cmp xs
+    → Rises moment_cmp ys → ruled ≡ slice_get xs 0 → listed ≡ slice_get ys 0 → IsFirstOf first xs ys
+first-by ruled listed first is xs ys r k e f = subst (λ o. IsFirstOf o xs ys) ((λ i. earlier (sym e i) (sym f i)) ∙ is) (first-of xs ys r k)
+
+pub none-in : (xs : List Start) → length xs ≡ 0 → (s : Start) → IsIn s xs → ⊥
+none-in [] e s m = m
+none-in (x ∷ xs) e s m = absurd cc
 
 -- Which lists have a start at an instant by a source or an earlier one.
 pub put-has : (x : Start) (ys : List Start) (source : StartSource) (t : ℤ) → IsNotAfter x.source source → HasStart ys source t →

@@ -16,7 +16,7 @@ use Rattle.ics_series.specs.Found.{moment_cmp, start_at}
 use Rattle.ics_series.specs.Listing.{IsIn}
 use Rattle.ics_series.specs.MergedLaws.{rises-union}
 use Rattle.ics_series.specs.Rising.{Rises}
-use Rattle.ics_series.specs.RuleStarts.{bound_of, gives, is_behind, is_ready, moment_numbered, with_held, AreHeld, IsHeld}
+use Rattle.ics_series.specs.RuleStarts.{gives, is_behind, is_ready, moment_numbered, with_held, AreHeld, IsHeld}
 use Rattle.ics_series.specs.FileZones.{clocks_in}
 use Rattle.ics_series.proofs.Cases.{not-true}
 use Rattle.ics_series.proofs.FirstLemmas.{int-less, moment_total}
@@ -38,16 +38,11 @@ module _ (day end : ℤ) where
   pub behind-early : (held : List Start) → is_behind day end held ≡ true → day <ℤ end
   behind-early held b = int_lt_true day end (and_true {a = int_lt day end} b).0
 
-  pub bound-later : (held : List Start) → day <ℤ end → (day <ℤ bound_of day end held) × (bound_of day end held ≤ℤ end)
-  bound-later [] l = (l, omega (arith, ints))
-  bound-later (s ∷ held) l = (omega (arith, ints), omega (arith, ints, l))
-
-  -- all that is held begins no more than three days before the bound
-  pub bound-late : (held : List Start) → Rises moment_cmp held → is_behind day end held ≡ true → (s : Start) → IsIn s held →
-      (midnight (bound_of day end held) -ℤ whole_days 3) ≤ℤ s.moment
-  bound-late [] r b s m = absurd m
-  bound-late (x ∷ held) r b s m =
-      let late = none-ready day (x ∷ held) r (not-true (is_ready day (x ∷ held)) (and_true {a = int_lt day end} b).1) s m in
+  -- all that is held begins no more than three days before the next day
+  pub next-late : (held : List Start) → Rises moment_cmp held → is_behind day end held ≡ true → (s : Start) → IsIn s held →
+      (midnight (day +ℤ pos 1) -ℤ whole_days 3) ≤ℤ s.moment
+  next-late held r b s m =
+      let late = none-ready day held r (not-true (is_ready day held) (and_true {a = int_lt day end} b).1) s m in
       omega (arith, ints, late)
 
 module _ (zones : FileZones) (event : Event) (rule : Recurrence) (w : Window) where

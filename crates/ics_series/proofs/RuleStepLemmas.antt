@@ -1,7 +1,7 @@
 -- One step of reading the starts of a rule: a kept local more, or none up to a bound.
 use Rattle.std.specs.Prelude.{◌≤ℤ◌, ◌<ℤ◌, slice_get}
 use lib.Signed.{mag}
-use Rattle.std.proofs.Common.{◌≡◌, ℕ, ◌+◌, ◌<◌, ◌≤◌, w32, to_z, of_z, max, ℤ, pos, ◌+ℤ◌, ◌-ℤ◌, true, false, List, length, ⊎_elim, sym, ◌∙◌, ap, subst, arith}
+use Rattle.std.proofs.Common.{◌≡◌, ℕ, ◌+◌, ◌<◌, ◌≤◌, w32, to_z, of_z, max, ℤ, pos, ◌+ℤ◌, ◌-ℤ◌, false, List, length, ⊎_elim, sym, ◌∙◌, ap, subst, arith}
 use Rattle.std.proofs.lemmas.Int.{ints}
 use Rattle.ics_fields.specs.Days.{IsDayNumber}
 use Rattle.ics_fields.specs.declared.local.Local.{Local}
@@ -15,20 +15,23 @@ use Rattle.ics_series.specs.HeldMost.{most_in_days}
 use Rattle.ics_series.specs.Listing.{IsIn}
 use Rattle.ics_series.specs.Rising.{Rises}
 use Rattle.ics_series.specs.RuleFeed.{starts_left}
-use Rattle.ics_series.specs.RuleStarts.{bound_of, gives, is_behind, local_numbered, midnight_number, steps_left, to_come, with_held, AreHeld, IsHeld}
+use Rattle.ics_series.specs.RuleStarts.{gives, is_behind, local_numbered, midnight_number, steps_left, to_come, with_held, AreHeld, IsHeld}
 use Rattle.ics_series.specs.Starts.{time_at}
 use Rattle.ics_series.specs.FileZones.{clocks_in, IsTimeOf}
 use Rattle.ics_series.proofs.StartSourceLemmas.{kept-time}
 use Rattle.ics_series.proofs.HeldMostLemmas.{held-in-days}
 use Rattle.ics_series.proofs.RuleDayLemmas.{first-held, near-left, number-day}
 use Rattle.ics_series.proofs.RuleLocalLemmas.{numbered-number}
-use Rattle.ics_series.proofs.RuleReadLemmas.{behind-early, bound-late, bound-later, held-in, held-on, is-held, rises-held}
+use Rattle.ics_series.proofs.RuleReadLemmas.{held-in, held-on, is-held, rises-held}
 use Rattle.ics_series.proofs.RuleStartLemmas.{come-none, come-one}
 use Rattle.ics_rule.specs.PeriodNumbers.{rules_end}
 
 -- a number that fits in an i32 is read back
 pub signed-back : (x y : ℤ) → mag x < 2_147_483_648 → x ≡ y → to_z w32 (of_z w32 x) ≡ y
 signed-back x y l e = omega (arith, ints)
+
+pub bound-back : {low high : ℤ} (x : ℤ) → mag x < 2_147_483_648 → low <ℤ x → x ≤ℤ high → (low <ℤ to_z w32 (of_z w32 x)) × (to_z w32 (of_z w32 x) ≤ℤ high)
+bound-back x l low high = (omega (arith, ints), omega (arith, ints))
 
 pub day-back : (day : ℤ) → IsDayNumber day → to_z w32 (of_z w32 day) ≡ day
 day-back day h = omega (arith, ints, h.0, h.1)
@@ -60,22 +63,12 @@ module _ (s : RuleStarts) where
   pub left-near : (t : Start) → IsIn t (starts_left s) → (midnight s.asked -ℤ whole_days 3) ≤ℤ t.moment
   left-near = near-left s.zones s.event.now s.rule s.window s.day s.held.items (place_of s.cursor) day-days s.asked_soon s.read s.are
 
-  module _ (behind : is_behind s.day s.end s.held.items ≡ true) (bound : ℤ) (bound-is : bound ≡ bound_of s.day s.end s.held.items) where
-    pub within : (s.day <ℤ bound) × (bound ≤ℤ s.end)
-    within = subst (λ b. (s.day <ℤ b) × (b ≤ℤ s.end)) (sym bound-is) (bound-later s.day s.end s.held.items (behind-early s.day s.end s.held.items behind))
-
+  module _ (bound : ℤ) (within : (s.day <ℤ bound) × (bound ≤ℤ s.end)) where
     pub bound-days : IsDayNumber bound
     bound-days = (omega (arith, ints, within.0, s.low), omega (arith, ints, within.1, end-days.1))
 
     pub bound-early : midnight_number bound ≤ rules_end
     bound-early = omega (arith, ints, within.1, bound-days.0, end-days.0, s.early)
-
-    late : (t : Start) → IsIn t s.held.items → (midnight bound -ℤ whole_days 3) ≤ℤ t.moment
-    late t m = subst (λ b. (midnight b -ℤ whole_days 3) ≤ℤ t.moment) (sym bound-is) (bound-late s.day s.end s.held.items s.rises behind t m)
-
-    -- none of the locals before the bound is kept
-    pub none-held : AreHeld (clocks_in s.zones) s.event.now s.rule s.window bound s.held.items
-    none-held = held-on s.zones s.event.now s.rule s.window s.asked bound s.held.items (omega (arith, ints, within.0, s.asked_soon)) late s.are
 
     pub none-asked : midnight_number s.asked ≤ midnight_number bound
     none-asked = omega (arith, ints, s.low, s.asked_on, s.asked_soon, within.0, bound-days.0)
@@ -113,12 +106,13 @@ module _ (s : RuleStarts) where
             (start_at (clocks_in s.zones) s.event.now a) held
             (subst (Rises moment_cmp) (sym e) s.rises))
 
-        pub one-held : (next : ℤ) → next ≡ a.day +ℤ pos 1 → AreHeld (clocks_in s.zones) s.event.now s.rule s.window next new
-        one-held next n t m =
+        pub one-held : AreHeld (clocks_in s.zones) s.event.now s.rule s.window bound s.held.items → (next : ℤ) → next ≡ a.day +ℤ pos 1 →
+            AreHeld (clocks_in s.zones) s.event.now s.rule s.window next new
+        one-held are next n t m =
             let k : IsDayNumber next = (omega (arith, ints, n, h.0), omega (arith, ints, n, one-on.1, bound-days.1)) in
             ⊎_elim
             (λ i. held-on s.zones s.event.now s.rule s.window s.asked next s.held.items (omega (arith, ints, n, one-on.0, s.asked_soon))
-            (λ u j. let l = late u j in omega (arith, ints, l, n, one-on.1)) s.are t (subst (IsIn t) e i))
+            (λ u j. let l = (are u j).late in omega (arith, ints, l, n, one-on.1)) s.are t (subst (IsIn t) e i))
             (λ i. subst (IsHeld (clocks_in s.zones) s.event.now s.rule s.window next) (sym i.1) (is-held s.zones s.event.now s.rule s.window a next h k n i.0))
             (held-in s.zones s.event.now s.rule s.window (gives (clocks_in s.zones) s.event.now s.rule s.window (number a))
             (start_at (clocks_in s.zones) s.event.now a) t held (subst (IsIn t) is m))

@@ -90,11 +90,6 @@ is_ready day (s ∷ starts) = int_le s.moment (midnight day -ℤ whole_days 2)
 abbrev pub is_behind : ℤ → ℤ → List Start → Bool
 is_behind day end held = int_lt day end && not (is_ready day held)
 
--- the day up to whose midnight the cursor searches next: the end if nothing is held, else the next day
-abbrev pub bound_of : ℤ → ℤ → List Start → ℤ
-bound_of day end [] = end
-bound_of day end (s ∷ starts) = day +ℤ pos 1
-
 -- a cursor set at `from` has looked only at periods that hold a local before a day's midnight, from there on or, under COUNT, from DTSTART
 -- on
 abbrev pub HasLookedTo : Recurrence → Local → ℤ → Cursor → Type 0

@@ -1,5 +1,5 @@
 -- The starts of a series still to come, and the occurrences that they give.
-use Rattle.std.specs.Prelude.{◌≡◌, ◌≤ℤ◌, ℤ, ◌+ℤ◌, ◌-ℤ◌, Bool, true, false, ◌&&◌, not, int_le, int_lt, List, [], ◌∷◌, drop, slice_get, Option, None, Some, ◌⊎◌}
+use Rattle.std.specs.Prelude.{◌≡◌, ◌≤ℤ◌, ℤ, ◌+ℤ◌, ◌-ℤ◌, Bool, true, false, ◌&&◌, not, int_le, List, [], ◌∷◌, drop, slice_get, Option, None, Some, ◌⊎◌}
 use Rattle.std.specs.Prelude.{if◌then◌else◌}
 use Rattle.std.specs.Int.{int_max, int_min}
 use Rattle.std.specs.List.{filter_map, list_any}
@@ -26,7 +26,7 @@ use Rattle.ics_series.specs.Exclusions.{is_among}
 use Rattle.ics_series.specs.Found.{earliest, is_shown, listed_from, moment_cmp, start_at}
 use Rattle.ics_series.specs.Listing.{IsIn}
 use Rattle.ics_series.specs.Meeting.{entry_from}
-use Rattle.ics_series.specs.Merged.{union}
+use Rattle.ics_series.specs.Merged.{cut, union}
 use Rattle.ics_series.specs.Meets.{IsEventMet}
 use Rattle.ics_series.specs.RuleFeed.{starts_left, HasSameSource}
 use Rattle.ics_series.specs.RuleStarts.{found, gives, is_behind}
@@ -156,11 +156,10 @@ pub record IsKnown (clocks : Clocks) (event : Event) (w : Window) (s : Start) : 
 abbrev pub AreKnown : Clocks → Event → Window → List Start → Type 0
 AreKnown clocks event w starts = (s : Start) → IsIn s starts → IsKnown clocks event w s
 
--- The first of two starts. If both are at one instant, it is the one by the rule.
-abbrev pub earlier_of : Option Start → Option Start → Option Start
-earlier_of None listed = listed
-earlier_of (Some a) None = Some a
-earlier_of (Some a) (Some b) = if int_lt b.moment a.moment then Some b else Some a
+-- a start is the first of two lists, which it leaves without those at its instant, or None if both are empty
+abbrev pub IsFirstOf : Option Start → List Start → List Start → Type 0
+IsFirstOf None xs ys = union moment_cmp xs ys ≡ []
+IsFirstOf (Some s) xs ys = union moment_cmp xs ys ≡ s ∷ union moment_cmp (cut moment_cmp s xs) (cut moment_cmp s ys)
 
 -- the first start was taken from the list, or None if it was empty
 abbrev pub IsTaken : List Start → Option Start → List Start → Type 0

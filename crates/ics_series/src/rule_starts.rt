@@ -118,7 +118,7 @@ impl<'a> RuleStarts<'a> {
     ghost use Rattle.ics_rule.specs.Cursors.{steps_of};
     ghost use Rattle.ics_series.specs.Merged.{cut};
     ghost use Rattle.ics_series.specs.RuleFeed.{starts_left, HasSameSource};
-    ghost use Rattle.ics_series.specs.RuleStarts.{bound_of, found, steps_left};
+    ghost use Rattle.ics_series.specs.RuleStarts.{found, steps_left};
     ghost use Rattle.ics_series.specs.FileZones.{IsOwnEvent};
 
     /// The starts by the locals from a given one on.
@@ -163,10 +163,13 @@ impl<'a> RuleStarts<'a> {
         self.day < self.end && !is_ready(self.day, &self.held)
     }
 
-    // The day up to which the cursor searches next: the end if nothing is held, else the next day.
+    // The day up to which the cursor searches next: the end if nothing is held, else the next day. What is
+    // held belongs to the days about its midnight too.
     fn bound(&self) -> i32
-        requires { self.now.day <ℤ self.now.end }
-        ensures { result ≡ bound_of self.now.day self.now.end self.now.held.items }
+        requires { is_behind self.now.day self.now.end self.now.held.items ≡ true }
+        ensures later { self.now.day <ℤ result }
+        ensures within { result ≤ℤ self.now.end }
+        ensures held { AreHeld (clocks_in self.now.zones) self.now.event.now self.now.rule self.now.window result self.now.held.items }
     {
         if self.held.is_empty() {
             self.end

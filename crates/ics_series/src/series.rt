@@ -1,5 +1,5 @@
 //! The occurrences of one event that meet a window, found one by one.
-ghost use Rattle.std.specs.Prelude.{◌≡◌, slice_get, All, IfOk, MatchOption, None, OnOk};
+ghost use Rattle.std.specs.Prelude.{◌≡◌, slice_get, All, IfOk, List, MatchOption, None, OnOk};
 ghost use Rattle.std.specs.List.Sorted.{IsSorted};
 ghost use Rattle.std.specs.Ordering.{int_cmp};
 ghost use Rattle.ics_series.specs.Entry.{entry_cmp};
@@ -10,9 +10,10 @@ ghost use Rattle.ics_series.specs.Merged.{cut};
 ghost use Rattle.ics_series.specs.Rising.{Rises, Rises-prop};
 ghost use Rattle.ics_series.specs.RuleFeed.{starts_left};
 ghost use Rattle.ics_series.specs.SeriesLaws.{known-prop, own-rule-prop, ruled-prop, taken-out-prop};
-ghost use Rattle.ics_series.specs.SeriesStarts.{earlier_of, first_asked, first_of, given_of, left, listed_apart, rule_asked, rule_left, AreKnown};
-ghost use Rattle.ics_series.specs.SeriesStarts.{HasOwnRule, HasRuled, HasSameRule, IsReady, IsRuleFrom};
+ghost use Rattle.ics_series.specs.SeriesStarts.{first_asked, first_of, given_of, left, listed_apart, rule_asked, rule_left, AreKnown};
+ghost use Rattle.ics_series.specs.SeriesStarts.{HasOwnRule, HasRuled, HasSameRule, IsFirstOf, IsReady, IsRuleFrom};
 ghost use Rattle.ics_series.specs.FileZones.{clocks_in, IsOwnEvent};
+ghost use Rattle.ics_series.specs.declared.start.Start.{Start};
 
 use crate::exclusion::{Exclusions, is_among};
 use crate::feed::{Coming, Feed};
@@ -129,9 +130,11 @@ fn pass_rule(rule: &mut Option<RuleStarts<'_>>, start: &Start)
     }
 }
 
-// The first of two starts. If both are at one instant, it is the one by the rule.
+// The first start of two lists, of which these are the first. If both are at one instant, it is the one
+// by the rule.
 fn earlier_of(ruled: Option<Start>, listed: Option<Start>) -> Option<Start>
-    ensures { result ≡ earlier_of ruled listed }
+    ensures { (xs ys : List Start) → Rises moment_cmp xs → Rises moment_cmp ys → ruled ≡ slice_get xs 0 → listed ≡ slice_get ys 0
+        → IsFirstOf result xs ys }
 {
     match (ruled, listed) {
         (Some(a), Some(b)) => {

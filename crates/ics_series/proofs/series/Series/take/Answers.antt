@@ -1,16 +1,14 @@
 use Rattle.std.proofs.lemmas.Grind.{common_steps}
-use Rattle.std.proofs.Common.{◌≡◌, [], ◌∷◌, Some, None, sym, ◌∙◌, ap, refl, subst, arith}
-use Rattle.std.specs.Prelude.{slice_get}
+use Rattle.std.proofs.Common.{◌≡◌, [], ◌∷◌, sym, ◌∙◌, ap, refl, subst, arith}
 use Rattle.ics_series.specs.Entry.{entry_cmp}
 use Rattle.ics_series.specs.Found.{moment_cmp}
 use Rattle.ics_series.specs.Merged.{union}
 use Rattle.ics_series.specs.Rising.{Rises}
 use Rattle.ics_series.specs.SeriesFeed.{series_left, series_of}
-use Rattle.ics_series.specs.SeriesStarts.{earlier_of, first_of, given_of, left, listed_left, rule_left, AreKnown, IsAskedNear, IsTaken}
+use Rattle.ics_series.specs.SeriesStarts.{first_of, given_of, left, listed_left, rule_left, AreKnown, IsAskedNear, IsFirstOf, IsTaken}
 use Rattle.ics_series.specs.FileZones.{clocks_in}
 use Rattle.ics_series.specs.MergedLaws.{rises-union}
 use Rattle.ics_series.proofs.FirstLemmas.{moment_total}
-use Rattle.ics_series.proofs.LeftLemmas.{first-taken, none-taken}
 use Rattle.ics_series.proofs.OwnRuleLemmas.{own-rule-same}
 use Rattle.ics_series.proofs.SeriesLemmas.{asked-near, both-passed, given-own, known-rest, rises-listed, rises-rest, rises-rule, ruled-rest, ruled-same}
 use Rattle.ics_series.proofs.series.Series.take.Goals as goal
@@ -36,12 +34,11 @@ invariant_of-self c =
 pub invariant_of-self-in-Some : goal.invariant_of-self-in-Some
 invariant_of-self-in-Some c =
     let s = c.args.self.now in
-    let first : earlier_of (slice_get (rule_left c.peek_rule.new.rule) 0) (slice_get (listed_left c.args.self.now.listed) 0) ≡ Some c.in-Some.start =
-    ap (λ o. earlier_of o (slice_get (listed_left c.args.self.now.listed) 0)) (sym c.in_ok-ruled.ensures.first)
-    ∙ (ap (earlier_of c.in_ok-ruled.ruled) (sym c.peek.ensures) ∙ (sym c.earlier_of-first.ensures ∙ c.in-Some.is)) in
+    let first = subst (λ o. IsFirstOf o (rule_left c.peek_rule.new.rule) (listed_left s.listed)) c.in-Some.is
+    (c.earlier_of-first.ensures (rule_left c.peek_rule.new.rule) (listed_left s.listed) (rises-rule c.peek_rule.new.rule) (rises-listed s.listed)
+    c.in_ok-ruled.ensures.first c.peek.ensures) in
     let taken : left s.rule_starts s.listed ≡ c.in-Some.start ∷ left c.pass_rule.new.rule c.pass.new.self =
-    both-passed (listed_left s.listed) c.peek_rule.ensures.same c.pass_rule.ensures.left c.pass.ensures
-    (first-taken (rule_left c.peek_rule.new.rule) (listed_left s.listed) c.in-Some.start (rises-rule c.peek_rule.new.rule) (rises-listed s.listed) first) in
+    both-passed (listed_left s.listed) c.peek_rule.ensures.same c.pass_rule.ensures.left c.pass.ensures first in
     record {
       in_order = s.in_order;
       own = s.own;
@@ -84,19 +81,17 @@ invariant_of-self-in_default c =
 pub returns-in-Some-clause-taken : goal.returns-in-Some-clause-taken
 returns-in-Some-clause-taken c =
     let s = c.args.self.now in
-    let first : earlier_of (slice_get (rule_left c.peek_rule.new.rule) 0) (slice_get (listed_left c.args.self.now.listed) 0) ≡ Some c.in-Some.start =
-    ap (λ o. earlier_of o (slice_get (listed_left c.args.self.now.listed) 0)) (sym c.in_ok-ruled.ensures.first)
-    ∙ (ap (earlier_of c.in_ok-ruled.ruled) (sym c.peek.ensures) ∙ (sym c.earlier_of-first.ensures ∙ c.in-Some.is)) in
-    both-passed (listed_left s.listed) c.peek_rule.ensures.same c.pass_rule.ensures.left c.pass.ensures
-    (first-taken (rule_left c.peek_rule.new.rule) (listed_left s.listed) c.in-Some.start (rises-rule c.peek_rule.new.rule) (rises-listed s.listed) first)
+    let first = subst (λ o. IsFirstOf o (rule_left c.peek_rule.new.rule) (listed_left s.listed)) c.in-Some.is
+    (c.earlier_of-first.ensures (rule_left c.peek_rule.new.rule) (listed_left s.listed) (rises-rule c.peek_rule.new.rule) (rises-listed s.listed)
+    c.in_ok-ruled.ensures.first c.peek.ensures) in
+    both-passed (listed_left s.listed) c.peek_rule.ensures.same c.pass_rule.ensures.left c.pass.ensures first
 
 pub returns-in_default-clause-taken : goal.returns-in_default-clause-taken
 returns-in_default-clause-taken c =
     let s = c.args.self.now in
-    let none : earlier_of (slice_get (rule_left c.peek_rule.new.rule) 0) (slice_get (listed_left c.args.self.now.listed) 0) ≡ None =
-    ap (λ o. earlier_of o (slice_get (listed_left c.args.self.now.listed) 0)) (sym c.in_ok-ruled.ensures.first)
-    ∙ (ap (earlier_of c.in_ok-ruled.ruled) (sym c.peek.ensures) ∙ (sym c.earlier_of-first.ensures ∙ c.in_default.is)) in
-    let empty : left c.peek_rule.new.rule s.listed ≡ [] = none-taken (rule_left c.peek_rule.new.rule) (listed_left s.listed) none in
+    let empty = subst (λ o. IsFirstOf o (rule_left c.peek_rule.new.rule) (listed_left s.listed)) c.in_default.is
+    (c.earlier_of-first.ensures (rule_left c.peek_rule.new.rule) (listed_left s.listed) (rises-rule c.peek_rule.new.rule) (rises-listed s.listed)
+    c.in_ok-ruled.ensures.first c.peek.ensures) in
     let before : left s.rule_starts s.listed ≡ [] = sym (ap (λ xs. union moment_cmp xs (listed_left s.listed)) c.peek_rule.ensures.same) ∙ empty in
     subst (λ o. IsTaken (left s.rule_starts s.listed) o (left c.peek_rule.new.rule s.listed)) (sym c.in_default.is) (before, empty)
 
