@@ -110,10 +110,10 @@ fn goes_first<'a, F: Coming>(
     requires other { other < length leads.now }
     ensures { result ≡ is_lt (lead_cmp (map (λ l. option_map entry_of l.head) leads.now) one other) }
 {
-    match (leads[one].head, leads[other].head) {
+    match (&leads[one].head, &leads[other].head) {
         (Some(a), Some(b)) => {
             let uids = order_by_place(sorted_from, one, other);
-            Occurrence::compare(&a, &b, uids)
+            Occurrence::compare(a, b, uids)
                 .then(one.cmp(&other))
                 .is_lt()
         }
