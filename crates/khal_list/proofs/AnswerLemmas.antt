@@ -174,8 +174,8 @@ module _ (one : OneSpelling) (days : OneDaySpelling) (entries : Entries) (a b : 
 -- a request was made of two formats
 no_format : (entries : Entries) (now : ℤ) (a : Request) → IsRequest entries now a
     → (¬ IsFormat entry_name (format_text entries)) ⊎ (¬ IsFormat day_name (day_format_text entries)) → ⊥
-no_format entries now a p (inl none) = none (a.format.pieces.items, p.format)
-no_format entries now a p (inr none) = none (a.day_format.pieces.items, p.day_format)
+no_format entries now a p (inl none) = none (a.formats.entries.pieces.items, p.format)
+no_format entries now a p (inr none) = none (a.formats.days.pieces.items, p.day_format)
 
 has_window : (entries : Entries) (now : ℤ) (a : Request) → IsRequest entries now a → HasWindow entries now
 has_window entries now a p = record { display = a.zone; zone = p.zone; some = subst IsSome p.window refl }

@@ -26,8 +26,8 @@ pub record SameRequest (a b : Request) : Type 0 where
   pub limit : a.limit ≡ b.limit
   pub after : option_map key_rank a.after ≡ option_map key_rank b.after
   pub every_day : option_map day_after a.every_day ≡ option_map day_after b.every_day
-  pub format : a.format.pieces.items ≡ b.format.pieces.items
-  pub day_format : a.day_format.pieces.items ≡ b.day_format.pieces.items
+  pub format : a.formats.entries.pieces.items ≡ b.formats.entries.pieces.items
+  pub day_format : a.formats.days.pieces.items ≡ b.formats.days.pieces.items
 
 -- both are requests, and the same, or both are one fault; nothing is said if an allocation failed
 abbrev pub Agree : Result Request RequestFault → Result Request RequestFault → Type 0

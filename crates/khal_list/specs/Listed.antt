@@ -47,8 +47,8 @@ abbrev pub style_of : Request → Style
 style_of request = record {
   clock = display_clock request.zone;
   from = request.window.from;
-  entries = request.format.pieces.items;
-  days = request.day_format.pieces.items;
+  entries = request.formats.entries.pieces.items;
+  days = request.formats.days.pieces.items;
 }
 
 -- the text of the first entries of a list, up to the request's limit

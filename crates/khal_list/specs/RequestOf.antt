@@ -94,8 +94,8 @@ pub record IsRequest (entries : Entries) (now : ℤ) (request : Request) : Type 
   pub notstarted : IsTrue request.window.notstarted ↔ (entries_text (codes "notstarted") entries ≡ codes "true")
   pub limit : IsLimitOf (limit_text entries) request.limit
   pub after : IsAfterBy entries request.zone request.window request.after request.every_day
-  pub format : format_text entries ≡ written entry_name request.format.pieces.items
-  pub day_format : day_format_text entries ≡ written day_name request.day_format.pieces.items
+  pub format : format_text entries ≡ written entry_name request.formats.entries.pieces.items
+  pub day_format : day_format_text entries ≡ written day_name request.formats.days.pieces.items
 
 -- the words name a display zone, but no window in it
 pub record IsBadWindow (entries : Entries) (now : ℤ) : Type 0 where

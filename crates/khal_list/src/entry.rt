@@ -34,7 +34,7 @@ fn add_heading_after(
     if before == Some(day) {
         return Ok(());
     }
-    add_heading(text, &request.day_format, day)
+    add_heading(text, &request.formats.days, day)
 }
 
 /// Adds an occurrence under its day, after a heading if one is due.

@@ -24,7 +24,9 @@ pub use khal_ports::{
     ZoneSource,
 };
 pub use khal_reading::{Status, without_zones};
-pub use khal_words::{DayField, EntryField, Format, FormatFault, Piece, Placeholder, one_format};
+pub use khal_words::{
+    DayField, EntryField, Format, FormatFault, Formats, Piece, Placeholder, one_format,
+};
 pub use laws::one_answer;
 pub use printing::{print, print_days};
 pub use request::Request;

@@ -24,7 +24,7 @@ pub(crate) fn add_line(
     ensures { OnOk result (text.new.items
         ≡ text.old.items ++ line_text (style_of request.now) day (entry_of occurrence.now)) }
 {
-    for piece in &request.format.pieces {
+    for piece in &request.formats.entries.pieces {
         add_piece(alloc, text, &request.zone, day, occurrence, *piece)?;
     }
     text.push(b'\n')?;

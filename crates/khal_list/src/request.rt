@@ -12,9 +12,7 @@ use clap::ArgMatches;
 use ics_series::{Key, Window};
 use ics_values::Moment;
 use ics_zone::Display;
-use khal_words::{
-    DayField, EntryField, Format, Span, entry, formats_of, is_given, limit_of, matches, text,
-};
+use khal_words::{Formats, Span, entry, formats_of, is_given, limit_of, matches, text};
 use std::alloc::{AllocError, Global};
 
 /// A request for a listing: the folder, the zone in which it is shown, the folder of zone files, the
@@ -34,10 +32,8 @@ pub struct Request {
     pub after: Option<Key>,
     /// Whether an occurrence is listed under each of its days, and after which key.
     pub every_day: Option<EveryDay>,
-    /// How an entry's line is written.
-    pub format: Format<EntryField>,
-    /// How a day's heading is written.
-    pub day_format: Format<DayField>,
+    /// How entries and days are written.
+    pub formats: Formats,
 }
 
 impl Request {
@@ -97,8 +93,7 @@ impl Request {
             limit: limit_of(found),
             after: after.once,
             every_day: after.every_day,
-            format: formats.0,
-            day_format: formats.1,
+            formats,
         })
     }
 

@@ -13,7 +13,7 @@ mod words;
 pub use field::{DayField, EntryField, Placeholder};
 pub use format::{Format, FormatFault, Piece};
 pub use format_laws::one_format;
-pub use formats::formats_of;
+pub use formats::{Formats, formats_of};
 pub use span::Span;
 pub use window_text::WindowText;
 pub use words::{entry, is_given, limit_of, matches, text};

@@ -16,7 +16,7 @@ returns c =
     let none = ap (filled value) (drop_all c.loop-piece.piece-index pieces c.loop-piece-test.false) in
     let added = rw (to_z-of_z w32 c.args.day c.ranges.day) at c.loop-piece.invariant in
     let all = none_left c.loop-piece.text.items (filled value (drop c.loop-piece.piece-index pieces)) none added in
-    two_added c.args.text.now.items (filled value c.args.request.now.format.pieces.items) (10 ∷ []) all c.in_ok-push.ensures.items
+    two_added c.args.text.now.items (filled value c.args.request.now.formats.entries.pieces.items) (10 ∷ []) all c.in_ok-push.ensures.items
 
 pub loop-piece-preserved : goal.loop-piece-preserved
 loop-piece-preserved c = grind (ints, arith, common_steps)

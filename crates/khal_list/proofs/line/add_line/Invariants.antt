@@ -9,4 +9,4 @@ use Rattle.khal_list.proofs.line.add_line.Given as goal
 abbrev pub invariant-loop-piece : goal.invariant-loop-piece
 invariant-loop-piece l =
     let value = entry_field_text (display_clock l.request.zone) l.day (entry_of l.occurrence) in
-    l.text.items ++ filled value (drop l.piece-index l.piece-items) ≡ l.fn.text.items ++ filled value l.request.format.pieces.items
+    l.text.items ++ filled value (drop l.piece-index l.piece-items) ≡ l.fn.text.items ++ filled value l.request.formats.entries.pieces.items
