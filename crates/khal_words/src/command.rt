@@ -88,8 +88,13 @@ fn add_at<'a>(alloc: Global, command: Command<'a>) -> Result<Command<'a>, AllocE
     ensures shape { IfOk result (λ c. app_of c ≡ with_subcommand (app_of command.entry) spec.at_app.top) }
     ensures local { IfOk result (λ c. (out-Command c).has_globals ≡ false) }
 {
-    let at = at_command(alloc)?;
-    command.subcommand(at)
+    match at_command(alloc) {
+        Ok(at) => command.subcommand(at),
+        Err(error) => {
+            drop(command);
+            Err(error)
+        }
+    }
 }
 
 fn bare_command<'a>(alloc: Global) -> Command<'a>

@@ -45,12 +45,9 @@ fn day(text: &[u8]) -> Option<i32>
     ensures value { result ≡ spec.day_said text.now }
     ensures bound { IfSome result IsEpochDay }
 {
-    let [a, b, c, d, x, e, f, y, g, h] = text else {
+    let [a, b, c, d, b'-', e, f, b'-', g, h] = text else {
         return None;
     };
-    if *x != b'-' || *y != b'-' {
-        return None;
-    }
     let year = quad(*a, *b, *c, *d)?;
     let month = pair(*e, *f)?;
     let day = pair(*g, *h)?;
@@ -85,12 +82,9 @@ fn at_clock(day: i32, clock: &[u8]) -> Option<Local>
         ≡ option_map (λ second. seconds_at day second) (spec.second_said clock.now) }
     ensures day { IfSome result (λ l. l.day ≡ day) }
 {
-    let [t, a, b, colon, c, d] = clock else {
+    let [b'T', a, b, b':', c, d] = clock else {
         return None;
     };
-    if *t != b'T' || *colon != b':' {
-        return None;
-    }
     let hours = u32::from(pair(*a, *b)?);
     let minutes = u32::from(pair(*c, *d)?);
     if hours < 24 && minutes < 60 {
