@@ -43,8 +43,7 @@ fn add_start(text: &mut Vec<u8>, day: i32, start: Local) -> Result<(), AllocErro
 fn is_end_of(day: i32, local: Local) -> bool
     ensures { result ≡ is_end_of day (local_seconds local) }
 {
-    let is_next = i64::from(local.day) == i64::from(day) + 1;
-    is_next & (local.second == 0)
+    local.second == 0 && local.day > day && local.day - 1 == day
 }
 
 /// Adds the time of a finish, or blanks if it is on another day, but `24:00` for the first second of
