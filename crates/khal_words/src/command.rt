@@ -1,7 +1,7 @@
 //! The program's command line, as clap takes it.
 ghost use Rattle.std.specs.Prelude.{◌≡◌, IfOk, false, map};
 ghost use Rattle.std.specs.List.{AllByRecursion};
-ghost use Rattle.clap.specs.Words.{app_of, new_app, rule_of, with_subcommand};
+ghost use Rattle.clap.specs.Words.{App, app_of, new_app, rule_of, with_subcommand};
 ghost use Rattle.clap.specs.declared.builder.command.Command.TheViews.{out-Command};
 ghost use Rattle.khal_words.specs.Commands as spec;
 
@@ -77,19 +77,23 @@ pub(crate) fn command<'a>(alloc: Global) -> Result<Command<'a>, AllocError>
     ensures shape { IfOk result (λ c. app_of c ≡ spec.khal_app) }
     ensures local { IfOk result (λ c. (out-Command c).has_globals ≡ false) }
 {
-    let list = list_command(alloc)?;
-    let command = bare_command(alloc).subcommand(list)?;
-    add_at(alloc, command)
+    let command = add(bare_command(alloc), list_command(alloc))?;
+    add(command, at_command(alloc))
 }
 
-/// Adds the subcommand `at`.
-fn add_at<'a>(alloc: Global, command: Command<'a>) -> Result<Command<'a>, AllocError>
+/// Adds a subcommand, if there was memory for it.
+fn add<'a>(
+    command: Command<'a>,
+    subcommand: Result<Command<'a>, AllocError>,
+) -> Result<Command<'a>, AllocError>
     requires local { (out-Command command).has_globals ≡ false }
-    ensures shape { IfOk result (λ c. app_of c ≡ with_subcommand (app_of command.entry) spec.at_app.top) }
+    requires local_too { IfOk subcommand (λ c. (out-Command c).has_globals ≡ false) }
+    ensures shape { (app : App) → IfOk subcommand.entry (λ c. app_of c ≡ app)
+        → IfOk result (λ c. app_of c ≡ with_subcommand (app_of command.entry) app.top) }
     ensures local { IfOk result (λ c. (out-Command c).has_globals ≡ false) }
 {
-    match at_command(alloc) {
-        Ok(at) => command.subcommand(at),
+    match subcommand {
+        Ok(subcommand) => command.subcommand(subcommand),
         Err(error) => {
             drop(command);
             Err(error)

@@ -1,5 +1,5 @@
 //! What the placeholders of formats name.
-ghost use Rattle.std.specs.Prelude.{◌≡◌, ◌≢◌, IfSome, IsNone, List, ℕ, true};
+ghost use Rattle.std.specs.Prelude.{◌≡◌, ◌≢◌, ◌↔◌, IfSome, IsNone, IsTrue, List, ℕ, true};
 ghost use Rattle.khal_words.specs.Formats.{entry_name, day_name, entry_names_plain, day_names_plain};
 
 /// What a placeholder names of an entry.
@@ -49,38 +49,45 @@ pub trait Placeholder: Copy {
     ghost plain: { (field : Self) → is_plain (name field) ≡ true };
 }
 
+/// Whether a text is this name.
+fn is(text: &[u8], name: &str) -> bool
+    ensures { IsTrue result ↔ (text.now ≡ name.now) }
+{
+    text == name.as_bytes()
+}
+
 impl Placeholder for EntryField {
     ghost name = { entry_name };
 
     fn named(text: &[u8]) -> Option<EntryField> {
-        if text == b"cell".as_slice() {
+        if is(text, "cell") {
             return Some(EntryField::Cell);
         }
-        if text == b"title".as_slice() {
+        if is(text, "title") {
             return Some(EntryField::Title);
         }
-        if text == b"start-time".as_slice() {
+        if is(text, "start-time") {
             return Some(EntryField::StartTime);
         }
-        if text == b"end-time".as_slice() {
+        if is(text, "end-time") {
             return Some(EntryField::EndTime);
         }
-        if text == b"start-date".as_slice() {
+        if is(text, "start-date") {
             return Some(EntryField::StartDate);
         }
-        if text == b"end-date".as_slice() {
+        if is(text, "end-date") {
             return Some(EntryField::EndDate);
         }
-        if text == b"location".as_slice() {
+        if is(text, "location") {
             return Some(EntryField::Location);
         }
-        if text == b"description".as_slice() {
+        if is(text, "description") {
             return Some(EntryField::Description);
         }
-        if text == b"uid".as_slice() {
+        if is(text, "uid") {
             return Some(EntryField::Uid);
         }
-        if text == b"cancelled".as_slice() {
+        if is(text, "cancelled") {
             return Some(EntryField::Cancelled);
         }
         None
