@@ -100,11 +100,13 @@ impl Placeholder for DayField {
     ghost name = { day_name };
 
     fn named(text: &[u8]) -> Option<DayField> {
-        match text {
-            b"name" => Some(DayField::Name),
-            b"date" => Some(DayField::Date),
-            _ => None,
+        if is(text, "name") {
+            return Some(DayField::Name);
         }
+        if is(text, "date") {
+            return Some(DayField::Date);
+        }
+        None
     }
 
     ghost plain = { day_names_plain };
