@@ -33,12 +33,11 @@ checks_of number None = []
 checks_of number (Some check) = record { line = number; check = check } ∷ []
 
 -- WHAT IS GATHERED with what ends on a line more, and the check of that line.
+abbrev pub and_ended : Ended → GatheredSeen → GatheredSeen
+and_ended e had = record had { zones = had.zones ++ zones_of_end e; events = had.events ++ events_of_end e }
+
 abbrev pub and_passed : ℕ → Passed → GatheredSeen → GatheredSeen
-and_passed number p had = record {
-  zones = had.zones ++ zones_of_end p.ended;
-  events = had.events ++ events_of_end p.ended;
-  checks = had.checks ++ checks_of number p.check;
-}
+and_passed number p had = record (and_ended p.ended had) { checks = had.checks ++ checks_of number p.check }
 
 -- What is to be read in a time zone lies in the years of stamps.
 abbrev pub IsSoundInstant : Instant → Type 0

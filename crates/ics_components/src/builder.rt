@@ -76,19 +76,18 @@ impl ObservanceBuilder {
         match name {
             // it is on the clock before it, whatever TZID stands beside it
             Name::Dtstart => match stamp(value, false)? {
-                Stamp::Floating(local) => once(&mut self.start, local, field)?,
-                _ => return Err(Refused::Fault(field)),
+                Stamp::Floating(local) => once(&mut self.start, local, field),
+                _ => Err(Refused::Fault(field)),
             },
-            Name::OffsetFrom => once(&mut self.from, read_offset(value)?, field)?,
-            Name::OffsetTo => once(&mut self.to, read_offset(value)?, field)?,
+            Name::OffsetFrom => once(&mut self.from, read_offset(value)?, field),
+            Name::OffsetTo => once(&mut self.to, read_offset(value)?, field),
             Name::Rrule => {
                 let rule = RuleValue::read_daily(alloc, value)?;
-                once(&mut self.rule, rule, FaultKind::ZoneRule)?;
+                once(&mut self.rule, rule, FaultKind::ZoneRule)
             }
-            Name::Rdate => self.rdates.add(value)?,
-            _ => {}
+            Name::Rdate => self.rdates.add(value),
+            _ => Ok(()),
         }
-        Ok(())
     }
 
     /// The observance, at its END.

@@ -2,7 +2,7 @@
 ghost use Rattle.std.specs.Prelude.{◌≡◌, IfOk, IfErr, Ok, Some};
 ghost use Rattle.ics_values.specs.Stamps.{stamp_of};
 ghost use Rattle.ics_components.specs.Lines.{Gives, stamp_judged, stamp_fault_of};
-ghost use Rattle.ics_components.specs.SecondRound.{used_in, instant_in};
+ghost use Rattle.ics_components.specs.SecondRound.{used_zone, instant_in};
 ghost use Rattle.ics_components.specs.Values.{dated_of, stamp_read, tzid, zone_name};
 
 use crate::deferred_check::{DeferredCheck, Instant, ZoneName};
@@ -48,19 +48,6 @@ pub fn zone_name(
     }
 }
 
-/// The time zone of the stamp, if there is one, which is to be known.
-pub fn used_in(calendar: u64, dated: &Option<Dated>) -> Result<Option<DeferredCheck>, AllocError>
-    ensures { IfOk result (λ check. check ≡ used_in calendar dated.now) }
-{
-    match dated {
-        Some(dated) if is_zoned(dated.stamp) => {
-            let name = ZoneName::shared(calendar, &dated.zone)?;
-            Ok(Some(DeferredCheck::Zone(name)))
-        }
-        _ => Ok(None),
-    }
-}
-
 impl Dated {
     /// The stamp of a line and the zone that its TZID names.
     pub(crate) fn read(
@@ -73,6 +60,17 @@ impl Dated {
         let zone = zone_name(alloc, tzids, content)?;
         let stamp = stamp(content.value(), zone.is_some())?;
         Ok(Dated { stamp, zone })
+    }
+
+    /// The time zone of the stamp, if it has one, which is to be known.
+    pub(crate) fn used_zone(&self, calendar: u64) -> Result<Option<DeferredCheck>, AllocError>
+        ensures { IfOk result (λ check. check ≡ used_zone calendar self.now) }
+    {
+        if !is_zoned(self.stamp) {
+            return Ok(None);
+        }
+        let name = ZoneName::shared(calendar, &self.zone)?;
+        Ok(Some(DeferredCheck::Zone(name)))
     }
 
     /// The name that its TZID gives.

@@ -1,6 +1,7 @@
 //! An event that is being built of its lines.
-ghost use Rattle.std.specs.Prelude.{◌≡◌, Option, None, Some, is_some, true, false, IfOk, IfErr};
+ghost use Rattle.std.specs.Prelude.{◌≡◌, Option, None, Some, is_some};
 ghost use Rattle.ics_values.specs.Integers.{integer_of};
+ghost use Rattle.ics_values.specs.Plain.{text_of};
 ghost use Rattle.ics_components.specs.declared.fault.FaultKind.TheVariants.{Repeated};
 ghost use Rattle.ics_components.specs.Builders.{nothing, event_ended};
 ghost use Rattle.ics_components.specs.Lines.{Gives, Notes, first, fault_if, or_first, stamp_fault_of, number_fault_of, event_fault, event_note, event_check};
@@ -13,7 +14,7 @@ ghost use Rattle.ics_components.specs.GivenTimes.{given_length};
 
 use crate::date_list::DateLists;
 use crate::date_values::Listing;
-use crate::dated::{Dated, used_in};
+use crate::dated::Dated;
 use crate::deferred_check::DeferredCheck;
 use crate::ends::{ends_badly, ends_in, lasting};
 use crate::fault::FaultKind;
@@ -45,12 +46,11 @@ pub struct EventBuilder {
 }
 
 /// Keeps the value of a property that stands only once.
-pub fn once<T: Drop>(kept: &mut Option<T>, value: T, twice: FaultKind) -> Result<(), FaultKind>
-    ensures kept { IfOk result (λ _. (kept.old ≡ None) × (kept.new ≡ Some value)) }
-    ensures twice { IfErr result (λ kind. (kind ≡ twice) × (is_some kept.old ≡ true)) }
+pub fn once<T: Drop>(kept: &mut Option<T>, value: T, twice: FaultKind) -> Result<(), Refused>
+    ensures { Keeps result kept.new (fault_if twice (is_some kept.old)) (or_first kept.old value) }
 {
     if kept.is_some() {
-        return Err(twice);
+        return Err(Refused::Fault(twice));
     }
     *kept = Some(value);
     Ok(())
@@ -68,17 +68,19 @@ fn put_date(
         (or_first kept.old (dated_of content.now.params content.now.value)) (used_zone calendar (dated_of content.now.params content.now.value)) }
 {
     let dated = Dated::read(alloc, tzids, content)?;
+    let check = dated.used_zone(calendar)?;
     once(kept, dated, FaultKind::Repeated)?;
-    Ok(used_in(calendar, kept)?)
+    Ok(check)
 }
 
 /// Keeps the first text of several.
-fn keep_first(kept: &mut Option<Text>, text: Text)
-    ensures { kept.new ≡ or_first kept.old text }
+fn keep_first(kept: &mut Option<Text>, alloc: Global, value: &[u8]) -> Result<(), Refused>
+    ensures { Keeps result kept.new None (or_first kept.old (text_of value.now)) }
 {
     if kept.is_none() {
-        *kept = Some(text);
+        *kept = Some(Text::of_value(alloc, value)?);
     }
+    Ok(())
 }
 
 /// What a SEQUENCE says. One that is no number counts as 0.
@@ -170,24 +172,20 @@ impl EventBuilder {
     {
         let again = FaultKind::Repeated;
         match name {
-            Name::Uid => {
-                let uid = Text::of_value(alloc, value)?;
-                once(&mut self.uid, uid, again)?;
+            Name::Uid => once(&mut self.uid, Text::of_value(alloc, value)?, again),
+            Name::Duration => once(&mut self.duration, lasting(value)?, again),
+            Name::Rrule => once(&mut self.rule, RuleValue::read(alloc, value)?, again),
+            Name::Sequence => once(&mut self.sequence, sequence(value)?, again),
+            Name::Exrule => Err(Refused::Fault(FaultKind::Exrule)),
+            Name::Summary => keep_first(&mut self.title, alloc, value),
+            Name::Location => keep_first(&mut self.location, alloc, value),
+            Name::Description => keep_first(&mut self.description, alloc, value),
+            Name::Status => {
+                self.cancelled = self.cancelled.or(Some(is_word(value, b"CANCELLED")));
+                Ok(())
             }
-            Name::Duration => once(&mut self.duration, lasting(value)?, again)?,
-            Name::Rrule => {
-                let rule = RuleValue::read(alloc, value)?;
-                once(&mut self.rule, rule, again)?;
-            }
-            Name::Sequence => once(&mut self.sequence, sequence(value)?, again)?,
-            Name::Exrule => return Err(Refused::Fault(FaultKind::Exrule)),
-            Name::Summary => keep_first(&mut self.title, Text::of_value(alloc, value)?),
-            Name::Location => keep_first(&mut self.location, Text::of_value(alloc, value)?),
-            Name::Description => keep_first(&mut self.description, Text::of_value(alloc, value)?),
-            Name::Status => self.cancelled = self.cancelled.or(Some(is_word(value, b"CANCELLED"))),
-            _ => {}
+            _ => Ok(()),
         }
-        Ok(())
     }
 
     /// One line more of an event in that calendar. A stamp in a time zone gives a check for the second round.
