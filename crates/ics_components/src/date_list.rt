@@ -114,7 +114,10 @@ impl DateLists {
         let values = Dates::read(alloc, listing, content.value(), zone.is_some())?;
         let list = DateList { values, zone };
         let check = list.used_zone(calendar)?;
-        self.lists.push(list)?;
+        if let Err(error) = self.lists.push(list) {
+            drop(check);
+            return Err(Refused::from(error));
+        }
         Ok(check)
     }
 }

@@ -69,7 +69,10 @@ fn put_date(
 {
     let dated = Dated::read(alloc, tzids, content)?;
     let check = dated.used_zone(calendar)?;
-    once(kept, dated, FaultKind::Repeated)?;
+    if let Err(refused) = once(kept, dated, FaultKind::Repeated) {
+        drop(check);
+        return Err(refused);
+    }
     Ok(check)
 }
 

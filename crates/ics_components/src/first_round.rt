@@ -64,15 +64,13 @@ impl FirstRound {
         ensures { IfOk result (λ fault. pass_on self.old lines.entry ≡ unless fault self.new.gathered) }
     {
         'lines: while let Some(line) = lines.next(alloc)? {
-            match self.line(alloc, &line) {
+            let number = line.number();
+            let taken = self.line(alloc, &line);
+            drop(line);
+            match taken {
                 Ok(()) => {}
                 Err(Refused::Memory) => return Err(AllocError),
-                Err(Refused::Fault(kind)) => {
-                    return Ok(Some(Fault {
-                        line: line.number(),
-                        kind,
-                    }));
-                }
+                Err(Refused::Fault(kind)) => return Ok(Some(Fault { line: number, kind })),
             }
         }
         Ok(at_end(&self.stack, self.last))

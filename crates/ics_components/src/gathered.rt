@@ -115,7 +115,10 @@ impl Gathered {
         ensures { IfOk result (λ _. self.new ≡ and_passed number passed self.old) }
     {
         let Passed { ended, check } = passed;
-        self.end(ended)?;
+        if let Err(error) = self.end(ended) {
+            drop(check);
+            return Err(error);
+        }
         if let Some(check) = check {
             self.checks.push(LineCheck {
                 line: number,

@@ -4,8 +4,8 @@ use Rattle.ics_components.specs.Pass.{pass_on, NumbersFit, LastFits}
 use Rattle.ics_components.proofs.first_round.FirstRound.lines.Goals as goal
 
 -- one line further
-pub lines-preserved-in-Ok : goal.lines-preserved-in-Ok
-lines-preserved-in-Ok c =
+pub lines-preserved : goal.lines-preserved
+lines-preserved c =
     let line : Line = c.in-Some.line in
     let rest : List Line = c.next.new.self in
     let taken : c.lines.lines ≡ line ∷ rest = rw c.in-Some.is at c.in_ok-line.ensures.ok in
