@@ -1,8 +1,9 @@
 -- The second round checks the zones of each event's stamps, and its end against its start.
 use Rattle.std.proofs.Common.{◌≡◌, ℕ, Bool, true, false, List, [], ◌∷◌, ◌++◌, map, refl, sym, ap, subst, ◌∙◌, cond, Option, Some, None, IfSome}
-use Rattle.std.specs.List.{All, Contains, list_any}
+use Rattle.std.specs.Prelude.{codes}
+use Rattle.std.specs.List.{All, Contains}
 use Rattle.std.proofs.lemmas.List.{map-append}
-use Rattle.std.proofs.lemmas.List.Elements.{All-nil, All-cons, All-push, All-weaker, Contains-append_left, Contains-push}
+use Rattle.std.proofs.lemmas.List.Elements.{All-nil, All-cons, All-push, All-append, All-weaker, Contains-append_left, Contains-push}
 use Rattle.ics_values.specs.declared.stamp.Stamp.{Stamp}
 use Rattle.ics_values.specs.declared.stamp.Stamp.TheVariants as stamp
 use Rattle.ics_values.specs.declared.duration.Duration.{Duration}
@@ -27,9 +28,10 @@ use Rattle.ics_components.specs.declared.builder.Builder.{Builder}
 use Rattle.ics_components.specs.declared.builder.Builder.TheVariants as builder
 use Rattle.ics_components.specs.Builders.{event_ended, fresh}
 use Rattle.ics_components.specs.Components.{component_of, context_in}
-use Rattle.ics_components.specs.DateLists.{zone_listed, rdate_list, exdate_list}
-use Rattle.ics_components.specs.DateValues.{has_zoned}
-use Rattle.ics_values.specs.Zoned.{is_zoned}
+use Rattle.ics_components.specs.DateLists.{rdate_list, exdate_list}
+use Rattle.ics_components.specs.Faults.{first_dated}
+use Rattle.ics_components.specs.Names.{name_of}
+use Rattle.ics_components.specs.PlacedLines.{Placed, Open, beside, calendar_of, context_of}
 use Rattle.ics_fields.specs.Locals.{local_seconds}
 use Rattle.ics_components.specs.Gathered.{IsSoundInstant, IsSoundCheck, checks_of, events_of_end}
 use Rattle.ics_components.specs.ZoneNames.{zone_used, are_of_one_zone}
@@ -41,7 +43,10 @@ use Rattle.ics_components.specs.Values.{dated_of, is_out}
 use Rattle.ics_components.proofs.Judged.{check_in, closed, behind, ends}
 use Rattle.ics_components.proofs.Judged.{is_begin_name, is_end_name, behind-is, check-is}
 use Rattle.ics_components.proofs.Listed.{some-weaker}
-use Rattle.ics_components.proofs.Sound.{IsSoundAt}
+use Rattle.ics_components.proofs.PassLemmas.{checks_from, checks_on, later_by}
+use Rattle.ics_components.proofs.Rows.{builder_at}
+use Rattle.ics_components.proofs.Sound.{dated-said}
+use Rattle.ics_components.proofs.Table.{frame_of, readings}
 
 abbrev pub bare_checks : List LineCheck → List DeferredCheck
 bare_checks checks = map (λ (w : LineCheck). w.check) checks
@@ -64,12 +69,16 @@ some-here checks None = tt
 some-here checks (Some l) = Contains-push checks l
 
 -- WHAT IS COLLECTED of an event so far: the second round checks the zones of its stamps.
-pub record AreLooked (checks : List DeferredCheck) (calendar : ℕ) (had : EventBuilder) : Type 0 where
-  pub start : IfSome (used_in calendar had.start) (Contains checks)
-  pub end : IfSome (used_in calendar had.end) (Contains checks)
-  pub rdates : All (λ list. IfSome (listed_zone calendar list) (Contains checks)) had.rdates
-  pub exdates : All (λ list. IfSome (listed_zone calendar list) (Contains checks)) had.exdates
-  pub recurrence : IfSome (used_in calendar had.recurrence) (Contains checks)
+abbrev pub IsLooked : List DeferredCheck → ℕ → Option Dated → Type 0
+IsLooked checks calendar dated = IfSome (used_in calendar dated) (Contains checks)
+
+abbrev pub AreListed : List DeferredCheck → ℕ → List DateList → Type 0
+AreListed checks calendar lists = All (λ list. IfSome (listed_zone calendar list) (Contains checks)) lists
+
+abbrev pub AreLooked : List DeferredCheck → ℕ → EventBuilder → Type 0
+AreLooked checks calendar had =
+    IsLooked checks calendar had.start × IsLooked checks calendar had.end × AreListed checks calendar had.rdates × AreListed checks calendar had.exdates
+    × IsLooked checks calendar had.recurrence
 
 abbrev pub IsAwaitedIn : List DeferredCheck → ℕ → Builder → Type 0
 IsAwaitedIn checks calendar (builder.Event had) = AreLooked checks calendar had
@@ -82,20 +91,19 @@ AreAwaited checks (f ∷ fs) = IsAwaitedIn checks f.calendar f.builder × AreAwa
 some-more : (checks more : List DeferredCheck) (o : Option DeferredCheck) → IfSome o (Contains checks) → IfSome o (Contains (checks ++ more))
 some-more checks more = some-weaker (Contains checks) (Contains (checks ++ more)) (λ l. Contains-append_left checks more l)
 
+listed-more : (checks more : List DeferredCheck) (k : ℕ) (lists : List DateList) → AreListed checks k lists → AreListed (checks ++ more) k lists
+listed-more checks more k =
+    All-weaker (λ list. IfSome (listed_zone k list) (Contains checks)) (λ list. IfSome (listed_zone k list) (Contains (checks ++ more)))
+    (λ list h. some-more checks more (listed_zone k list) h)
+
 looked-more : (checks more : List DeferredCheck) (k : ℕ) (had : EventBuilder) → AreLooked checks k had → AreLooked (checks ++ more) k had
-looked-more checks more k had z = record {
-  start = some-more checks more (used_in k had.start) z.start;
-  end = some-more checks more (used_in k had.end) z.end;
-  rdates = lists had.rdates z.rdates;
-  exdates = lists had.exdates z.exdates;
-  recurrence = some-more checks more (used_in k had.recurrence) z.recurrence;
-}
-  where
-    lists : (ls : List DateList) → All (λ list. IfSome (listed_zone k list) (Contains checks)) ls →
-        All (λ list. IfSome (listed_zone k list) (Contains (checks ++ more))) ls
-    lists =
-        All-weaker (λ list. IfSome (listed_zone k list) (Contains checks)) (λ list. IfSome (listed_zone k list) (Contains (checks ++ more)))
-        (λ list h. some-more checks more (listed_zone k list) h)
+looked-more checks more k had z = (
+  some-more checks more (used_in k had.start) z.0,
+  some-more checks more (used_in k had.end) z.1,
+  listed-more checks more k had.rdates z.2,
+  listed-more checks more k had.exdates z.3,
+  some-more checks more (used_in k had.recurrence) z.4,
+)
 
 awaited-more : (checks more : List DeferredCheck) (calendar : ℕ) (s : Builder) → IsAwaitedIn checks calendar s → IsAwaitedIn (checks ++ more) calendar s
 awaited-more checks more k (builder.Event had) h = looked-more checks more k had h
@@ -107,61 +115,24 @@ are-awaited-more : (checks more : List DeferredCheck) (frames : List Frame) → 
 are-awaited-more checks more [] h = tt
 are-awaited-more checks more (f ∷ fs) h = (awaited-more checks more f.calendar f.builder h.0, are-awaited-more checks more fs h.1)
 
-first-looked : (checks : List DeferredCheck) (calendar : ℕ) (o : Option Dated) (dated : Dated) →
-    IfSome (used_in calendar o) (Contains (checks ++ one (used_zone calendar dated))) →
-    IfSome (used_in calendar (or_first o dated)) (Contains (checks ++ one (used_zone calendar dated)))
+first-looked : (checks : List DeferredCheck) (k : ℕ) (o : Option Dated) (dated : Dated) →
+    IsLooked (checks ++ one (used_zone k dated)) k o → IsLooked (checks ++ one (used_zone k dated)) k (or_first o dated)
 first-looked checks k (Some d) dated h = h
 first-looked checks k None dated h = some-here checks (used_zone k dated)
 
-last-looked : (checks : List DeferredCheck) (calendar : ℕ) (lists : List DateList) (list : DateList) →
-    All (λ l. IfSome (listed_zone calendar l) (Contains (checks ++ one (listed_zone calendar list)))) lists →
-    All (λ l. IfSome (listed_zone calendar l) (Contains (checks ++ one (listed_zone calendar list)))) (lists ++ list ∷ [])
+last-looked : (checks : List DeferredCheck) (k : ℕ) (lists : List DateList) (list : DateList) →
+    AreListed (checks ++ one (listed_zone k list)) k lists → AreListed (checks ++ one (listed_zone k list)) k (lists ++ list ∷ [])
 last-looked checks k lists list h =
     All-push (λ l. IfSome (listed_zone k l) (Contains (checks ++ one (listed_zone k list)))) lists list h (some-here checks (listed_zone k list))
 
 event-noted : (checks : List DeferredCheck) (k : ℕ) (n : Name) (v : Parts) (had : EventBuilder) → AreLooked (checks ++ one (event_check k n v)) k had →
     AreLooked (checks ++ one (event_check k n v)) k (event_note n v had)
-event-noted checks k name.Dtstart v had z =
-    record {
-      start = first-looked checks k had.start (dated_of v.params v.value) z.start;
-      end = z.end;
-      rdates = z.rdates;
-      exdates = z.exdates;
-      recurrence = z.recurrence;
-    }
-event-noted checks k name.Dtend v had z =
-    record {
-      start = z.start;
-      end = first-looked checks k had.end (dated_of v.params v.value) z.end;
-      rdates = z.rdates;
-      exdates = z.exdates;
-      recurrence = z.recurrence;
-    }
-event-noted checks k name.RecurrenceId v had z =
-    record {
-      start = z.start;
-      end = z.end;
-      rdates = z.rdates;
-      exdates = z.exdates;
-      recurrence = first-looked checks k had.recurrence (dated_of v.params v.value) z.recurrence;
-    }
-event-noted checks k name.Rdate v had z =
-    record {
-      start = z.start;
-      end = z.end;
-      rdates = last-looked checks k had.rdates (rdate_list v.params v.value) z.rdates;
-      exdates = z.exdates;
-      recurrence = z.recurrence;
-    }
-event-noted checks k name.Exdate v had z =
-    record {
-      start = z.start;
-      end = z.end;
-      rdates = z.rdates;
-      exdates = last-looked checks k had.exdates (exdate_list v.params v.value) z.exdates;
-      recurrence = z.recurrence;
-    }
-event-noted checks k _ v had z = record { start = z.start; end = z.end; rdates = z.rdates; exdates = z.exdates; recurrence = z.recurrence }
+event-noted checks k name.Dtstart v had z = (first-looked checks k had.start (dated_of v.params v.value) z.0, z.1, z.2, z.3, z.4)
+event-noted checks k name.Dtend v had z = (z.0, first-looked checks k had.end (dated_of v.params v.value) z.1, z.2, z.3, z.4)
+event-noted checks k name.RecurrenceId v had z = (z.0, z.1, z.2, z.3, first-looked checks k had.recurrence (dated_of v.params v.value) z.4)
+event-noted checks k name.Rdate v had z = (z.0, z.1, last-looked checks k had.rdates (rdate_list v.params v.value) z.2, z.3, z.4)
+event-noted checks k name.Exdate v had z = (z.0, z.1, z.2, last-looked checks k had.exdates (exdate_list v.params v.value) z.3, z.4)
+event-noted checks k _ v had z = z
 
 noted-awaited : (checks : List DeferredCheck) (k : ℕ) (n : Name) (v : Parts) (s : Builder) → IsAwaitedIn checks k s →
     IsAwaitedIn (checks ++ one (builder_check k n v s)) k (builder_note n v s)
@@ -171,13 +142,9 @@ noted-awaited checks k n v (builder.Observance had) h = tt
 noted-awaited checks k n v builder.Nothing h = tt
 
 fresh-awaited : (checks : List DeferredCheck) (calendar : ℕ) (q : Context) → IsAwaitedIn checks calendar (fresh q)
-fresh-awaited checks k context.Event = record {
-  start = tt;
-  end = tt;
-  rdates = All-nil (λ list. IfSome (listed_zone k list) (Contains checks));
-  exdates = All-nil (λ list. IfSome (listed_zone k list) (Contains checks));
-  recurrence = tt;
-}
+fresh-awaited checks k context.Event =
+    let none : AreListed checks k [] = All-nil (λ list. IfSome (listed_zone k list) (Contains checks)) in
+    (tt, tt, none, none, tt)
 fresh-awaited checks k _ = tt
 
 joined-awaited : (checks : List DeferredCheck) (calendar : ℕ) (s t : Builder) → IsAwaitedIn checks calendar t → IsAwaitedIn checks calendar (joined s t)
@@ -243,11 +210,11 @@ module _ (checks : List DeferredCheck) (v : Parts) (f : Frame) where
           let z : AreLooked more k had = looked-more checks (one late) k had h in
           All-cons (EachZone (Contains more)) (event_ended k had) []
           (record {
-            start = start-looked more k had.start z.start;
-            end = end-looked more k had.end had.duration z.end;
-            rdates = z.rdates;
-            exdates = z.exdates;
-            recurrence = z.recurrence;
+            start = start-looked more k had.start z.0;
+            end = end-looked more k had.end had.duration z.1;
+            rdates = z.2;
+            exdates = z.3;
+            recurrence = z.4;
             length = length-looked more k had.start had.end had.duration (some-here checks late);
           })
           (All-nil (EachZone (Contains more)))
@@ -258,10 +225,8 @@ module _ (checks : List DeferredCheck) (v : Parts) (f : Frame) where
 
 -- WHAT THE SECOND ROUND LOOKS AT lies in the years of stamps.
 instant-sound : (name : ZoneName) (r : Stamp) → IsSoundStamp r → IfSome (instant_on name r) IsSoundInstant
-instant-sound name (stamp.Utc local) h = tt
 instant-sound name (stamp.Zoned local) h = h
-instant-sound name (stamp.Date day) h = tt
-instant-sound name (stamp.Floating local) h = tt
+instant-sound name _ h = tt
 
 compared-sound : (a b : Option Instant) → IfSome a IsSoundInstant → IfSome b IsSoundInstant → IfSome (both_compared a b) IsSoundCheck
 compared-sound None b h k = tt
@@ -285,53 +250,57 @@ ends-sound k (Some a) (Some b) h i = by_test (are_of_one_zone a b)
     by_test true = tt
     by_test false = compared-sound (instant_in k a) (instant_in k b) (instant-sound (zone_used k a) a.stamp h) (instant-sound (zone_used k b) b.stamp i)
 
-zone-sound : (calendar : ℕ) (dated : Dated) → IfSome (used_zone calendar dated) IsSoundCheck
-zone-sound k dated = by_test (is_zoned dated.stamp)
-  where
-    by_test : (t : Bool) → IfSome (cond t (Some (check.Zone (zone_used k dated))) None) IsSoundCheck
-    by_test true = tt
-    by_test false = tt
+zone-sound : (used : Bool) (name : ZoneName) → IfSome (cond used (Some (check.Zone name)) None) IsSoundCheck
+zone-sound true name = tt
+zone-sound false name = tt
 
-listed-sound : (calendar : ℕ) (list : DateList) → IfSome (listed_zone calendar list) IsSoundCheck
-listed-sound k list = by_test (list_any has_zoned list.values)
-  where
-    by_test : (t : Bool) → IfSome (cond t (Some (check.Zone (zone_listed k list))) None) IsSoundCheck
-    by_test true = tt
-    by_test false = tt
-
-end-sound : (calendar : ℕ) (q : Context) (s : Builder) → IsSoundAt q s → IfSome (end_check calendar s) IsSoundCheck
-end-sound k context.Event (builder.Event had) h = ends-sound k had.start had.end h.start h.end
-end-sound k _ (builder.Event had) h = absurd h
-end-sound k q (builder.Zone had) h = tt
-end-sound k q (builder.Observance had) h = tt
-end-sound k q builder.Nothing h = tt
+end-sound : (whole : List Placed) (path : List Open) (own : List Placed) (q : Context) →
+    IfSome (end_check (calendar_of path) (builder_at q (readings whole path own))) IsSoundCheck
+end-sound whole path own context.Event =
+    ends-sound (calendar_of path) (first_dated (codes "DTSTART") own) (first_dated (codes "DTEND") own) (dated-said (codes "DTSTART") own)
+    (dated-said (codes "DTEND") own)
+end-sound whole path own _ = tt
 
 event-check-sound : (k : ℕ) (n : Name) (v : Parts) → IfSome (event_check k n v) IsSoundCheck
-event-check-sound k name.Dtstart v = zone-sound k (dated_of v.params v.value)
-event-check-sound k name.Dtend v = zone-sound k (dated_of v.params v.value)
-event-check-sound k name.RecurrenceId v = zone-sound k (dated_of v.params v.value)
-event-check-sound k name.Rdate v = listed-sound k (rdate_list v.params v.value)
-event-check-sound k name.Exdate v = listed-sound k (exdate_list v.params v.value)
+event-check-sound k name.Dtstart v = zone-sound _ _
+event-check-sound k name.Dtend v = zone-sound _ _
+event-check-sound k name.RecurrenceId v = zone-sound _ _
+event-check-sound k name.Rdate v = zone-sound _ _
+event-check-sound k name.Exdate v = zone-sound _ _
 event-check-sound k _ v = tt
 
 builder-check-sound : (k : ℕ) (n : Name) (v : Parts) (s : Builder) → IfSome (builder_check k n v s) IsSoundCheck
 builder-check-sound k n v (builder.Event had) = event-check-sound k n v
-builder-check-sound k n v (builder.Zone had) = tt
-builder-check-sound k n v (builder.Observance had) = tt
-builder-check-sound k n v builder.Nothing = tt
+builder-check-sound k n v _ = tt
 
-check-sound : (n : Name) (v : Parts) (f : Frame) → IsSoundAt f.context f.builder → IfSome (check_in n v f) IsSoundCheck
-check-sound n v f h = subst (λ (o : Option DeferredCheck). IfSome o IsSoundCheck) (sym (check-is n v f)) (by_tests (is_begin_name n) (is_end_name n))
+check-sound : (whole : List Placed) (path : List Open) (own : List Placed) (n : Name) (v : Parts) →
+    IfSome (check_in n v (frame_of whole path own)) IsSoundCheck
+check-sound whole path own n v =
+    subst (λ (o : Option DeferredCheck). IfSome o IsSoundCheck) (sym (check-is n v f)) (by_tests (is_begin_name n) (is_end_name n))
   where
+    f : Frame
+    f = frame_of whole path own
+
     by_tests : (b e : Bool) → IfSome (cond b None (cond e (end_check f.calendar f.builder) (builder_check f.calendar n v f.builder))) IsSoundCheck
     by_tests true e = tt
-    by_tests false true = end-sound f.calendar f.context f.builder h
+    by_tests false true = end-sound whole path own (context_of path)
     by_tests false false = builder-check-sound f.calendar n v f.builder
 
-pub checks-sound : (number : ℕ) (n : Name) (v : Parts) (f : Frame) → IsSoundAt f.context f.builder →
-    All (λ w. IsSoundCheck w.check) (checks_of number (check_in n v f))
-checks-sound number n v f s = by_option (check_in n v f) (check-sound n v f s)
+abbrev pub IsSoundLine : LineCheck → Type 0
+IsSoundLine late = IsSoundCheck late.check
+
+one-sound : (number : ℕ) (o : Option DeferredCheck) → IfSome o IsSoundCheck → All IsSoundLine (checks_of number o)
+one-sound number None h = All-nil IsSoundLine
+one-sound number (Some l) h = All-cons IsSoundLine (record { line = number; check = l }) [] h (All-nil IsSoundLine)
+
+pub checks-sound : (whole before lines : List Placed) → All IsSoundLine (checks_from whole before lines)
+checks-sound whole before [] = All-nil IsSoundLine
+checks-sound whole before (l ∷ ls) =
+    All-append IsSoundLine (checks_on whole (beside before l) l) (checks_from whole (before ++ l ∷ []) ls) (by_content l.content)
+    (checks-sound whole (before ++ l ∷ []) ls)
   where
-    by_option : (o : Option DeferredCheck) → IfSome o IsSoundCheck → All (λ w. IsSoundCheck w.check) (checks_of number o)
-    by_option None h = All-nil (λ w. IsSoundCheck w.check)
-    by_option (Some l) h = All-cons (λ w. IsSoundCheck w.check) (record { line = number; check = l }) [] h (All-nil (λ w. IsSoundCheck w.check))
+    by_content : (o : Option Parts) → All IsSoundLine (checks_of l.number (later_by o (frame_of whole l.path (beside before l))))
+    by_content None = All-nil IsSoundLine
+    by_content (Some v) =
+        one-sound l.number (check_in (name_of (map upper v.name)) v (frame_of whole l.path (beside before l)))
+        (check-sound whole l.path (beside before l) (name_of (map upper v.name)) v)

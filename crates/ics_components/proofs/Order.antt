@@ -130,7 +130,7 @@ skip true k rest e = cc
 skip false k rest e = (refl, e)
 
 -- no fault on a line, and thus no bad nesting
-none-found : (p : FaultKind → Bool) (front rest : List FaultKind) (k : FaultKind) → find p (front ++ k ∷ rest) ≡ None → p k ≡ false
+pub none-found : (p : FaultKind → Bool) (front rest : List FaultKind) (k : FaultKind) → find p (front ++ k ∷ rest) ≡ None → p k ≡ false
 none-found p [] rest k e = (skip (p k) k (find p rest) e).0
 none-found p (j ∷ js) rest k e = none-found p js rest k (skip (p j) j (find p (js ++ k ∷ rest)) e).1
 

@@ -1,6 +1,7 @@
-use Rattle.std.proofs.Common.{◌≡◌, ◌+◌, ◌∷◌, [], List, length, arith, sym, None, Result, Ok, Err, IfOk}
+use Rattle.std.proofs.Common.{◌≡◌, ◌+◌, ◌∷◌, [], List, length, arith, sym, subst, None, Result, Ok, Err, IfOk}
 use Rattle.std.proofs.lemmas.Grind.{common_steps}
-use Rattle.ics_text.specs.Unfolded.{Line, unfolded}
+use Rattle.ics_text.specs.Unfolded.{Line, Rises, unfolded}
+use Rattle.ics_text.proofs.Rising.{unfolded-rises}
 use Rattle.ics_components.specs.FirstFault.{Fault}
 use Rattle.ics_components.specs.Gathered.{nothing_gathered, IsSoundGathered}
 use Rattle.ics_components.specs.GatheredSeen.{GatheredSeen}
@@ -18,11 +19,12 @@ pub returns-clause-gathered : goal.returns-clause-gathered
 returns-clause-gathered c = grind (arith, common_steps)
 
 -- what is gathered is sound, unless memory is refused
-sound : {E : Type 0} (lines : List Line) (answer : Result (Result GatheredSeen Fault) E) →
+sound : {E : Type 0} (lines : List Line) (answer : Result (Result GatheredSeen Fault) E) → Rises 0 lines →
     IfOk answer (λ gathered. gathered ≡ pass (bottom ∷ []) None nothing_gathered lines) → IfOk answer (λ gathered. IfOk gathered IsSoundGathered)
-sound lines (Ok (Ok g)) e = sound-pass lines g (sym e)
-sound lines (Ok (Err fault)) e = tt
-sound lines (Err e) h = tt
+sound lines (Ok (Ok g)) r e = sound-pass lines g r (sym e)
+sound lines (Ok (Err fault)) r e = tt
+sound lines (Err e) r h = tt
 
 pub returns-clause-sound : goal.returns-clause-sound
-returns-clause-sound c = sound c.in-Ok.lines c.pass_lines.result c.pass_lines.ensures
+returns-clause-sound c =
+    sound c.in-Ok.lines c.pass_lines.result (subst (Rises 0) (sym c.in-Ok.ensures.lines) (unfolded-rises c.args.bytes.now)) c.pass_lines.ensures
