@@ -82,10 +82,8 @@ fault_by zoned name = cond zoned (Some (check.Zone name)) None
 module _ (known : KnownZones) where
   stamp-time : (name : ZoneName) (r : Stamp) → IsSoundStamp r → IsFine known (cond (is_zoned r) (Some (check.Zone name)) None) →
       IsTime (time_in (known.index name) r)
-  stamp-time name (Date d) h k = record { years = h; zone = refl }
-  stamp-time name (Floating l) h k = record { years = h; zone = refl }
-  stamp-time name (Utc l) h k = record { years = h; zone = refl }
   stamp-time name (Zoned l) h k = record { years = h; zone = known-zone (is_some (known.index name)) (known.is_bad name.name) k }
+  stamp-time name _ h k = record { years = h; zone = refl }
 
   time-sound : (calendar : ℕ) (d : Dated) → IsSoundStamp d.stamp → IsFine known (used_zone calendar d) →
       IsTime (time_on known.index calendar d)
@@ -102,16 +100,7 @@ module _ (known : KnownZones) where
   end-is m n (Utc a) (Zoned b) e l = tt
   end-is m n (Zoned a) (Utc b) e l = tt
   end-is m n (Zoned a) (Zoned b) e l = tt
-  end-is m n (Date a) (Floating b) e l = cc
-  end-is m n (Date a) (Utc b) e l = cc
-  end-is m n (Date a) (Zoned b) e l = cc
-  end-is m n (Floating a) (Date b) e l = cc
-  end-is m n (Floating a) (Utc b) e l = cc
-  end-is m n (Floating a) (Zoned b) e l = cc
-  end-is m n (Utc a) (Date b) e l = cc
-  end-is m n (Utc a) (Floating b) e l = cc
-  end-is m n (Zoned a) (Date b) e l = cc
-  end-is m n (Zoned a) (Floating b) e l = cc
+  end-is m n _ _ e l = cc
 
   length-sound : (calendar : ℕ) (start : Dated) (length : GivenLength) → IsSoundLength start length →
       IsFine known (used_in calendar (end_of length)) → IsFine known (ends_in calendar (Some start) (end_of length)) →
@@ -271,19 +260,9 @@ module _ (known : KnownZones) (table : IsTable known) where
         rw (i.1, j.1) (both-zoned a b i.1 j.1 l h)
     within (Zoned a) (Utc b) l u v h g = let i = index-is (named k x) u in rw i.1 (first-zoned (named k x) a b i.1 h)
     within (Utc a) (Zoned b) l u v h g = let j = index-is (named k y) v in rw j.1 (second-zoned (named k y) a b j.1 h)
-    within (Zoned a) (Date b) l u v h g = cc
-    within (Zoned a) (Floating b) l u v h g = cc
     within (Date a) (Zoned b) l u v h g = cc
     within (Floating a) (Zoned b) l u v h g = cc
-    within (Date a) (Date b) l u v h g = cc
-    within (Date a) (Floating b) l u v h g = cc
-    within (Date a) (Utc b) l u v h g = cc
-    within (Floating a) (Date b) l u v h g = cc
-    within (Floating a) (Floating b) l u v h g = cc
-    within (Floating a) (Utc b) l u v h g = cc
-    within (Utc a) (Date b) l u v h g = cc
-    within (Utc a) (Floating b) l u v h g = cc
-    within (Utc a) (Utc b) l u v h g = cc
+    within _ _ l u v h g = cc
 
   -- ITS ZONES.
   stamp-below : (used : ZoneName) (r : Stamp) → IfSome (used_on used r) (λ i. i < length known.zones)
