@@ -1,12 +1,14 @@
 -- A pass that keeps, for each open component, the lines directly in it has at each line those that stand beside it.
-use Rattle.std.proofs.Common.{◌≡◌, ◌≢◌, ℕ, ◌<◌, ◌≤◌, Bool, true, false, ◌&&◌, ◌||◌, ◌==◌, List, [], ◌∷◌, ◌++◌, drop, refl, sym, ap, ◌∙◌, arith, cond, inl, inr}
+use Rattle.std.proofs.Common.{◌≡◌, ◌≢◌, ℕ, ◌<◌, ◌≤◌, Bool, true, false, ◌&&◌, ◌||◌, ◌==◌, List, [], ◌∷◌, ◌++◌, drop, refl, sym, ap, subst, ◌∙◌, arith, cond, inl, inr}
 use Rattle.std.specs.Prelude.{if◌then◌else◌}
-use Rattle.std.specs.List.{list_any}
+use Rattle.std.specs.List.{All, list_any}
 use Rattle.std.proofs.lemmas.Bool.Decides.{eqb_tells}
 use Rattle.std.proofs.lemmas.List.{append-nil}
-use Rattle.std.proofs.lemmas.List.Folds.{list_any-append}
+use Rattle.std.proofs.lemmas.List.Elements.{All-nil, All-head, All-tail, All-push}
 use Rattle.ics_components.specs.Components.{is_zone_context}
-use Rattle.ics_components.specs.PlacedLines.{Placed, Open, context_of, is_begin, is_end, begins_observance, component, path_behind, innermost, lines_in, beside}
+use Rattle.ics_components.specs.declared.component.Context.{Context}
+use Rattle.ics_components.specs.declared.component.Context.TheVariants as context
+use Rattle.ics_components.specs.PlacedLines.{Placed, Open, context_of, in_zone, is_begin, is_end, begins_observance, component, path_behind, innermost, lines_in, beside}
 use Rattle.ics_components.specs.Observances.{begins_in_zone}
 use Rattle.ics_components.proofs.Order.{inside}
 use Rattle.ics_components.proofs.Order.{Falls}
@@ -57,7 +59,7 @@ pub record IsKept (before up : List Placed) (c : Open) (cs : List Open) (f : Bun
   pub less : innermost cs < c.begun
   pub opened : inside f.begin ≡ c ∷ cs
   pub begins : is_begin f.begin ≡ true
-  pub observances : is_zone_context (context_of (c ∷ cs)) ≡ true → list_any begins_observance f.lines ≡ list_any begins_in_zone f.lines
+  pub places : All (λ l. l.path ≡ c ∷ cs) f.lines
 
 -- There is a bundle for each open component, and one below them all.
 abbrev pub Keeps : List Placed → List Placed → List Open → List Bundle → Type 0
@@ -82,12 +84,32 @@ top_beside before l bundles k = at l.path bundles k
     at (c ∷ cs) [] k = absurd k
     at (c ∷ cs) (f ∷ fs) k = sym (k.0.lines ∙ append-nil f.lines)
 
-pub top_observances : (before : List Placed) (path : List Open) (bundles : List Bundle) → Keeps before [] path bundles →
-    is_zone_context (context_of path) ≡ true →
-    list_any begins_observance (top_lines bundles) ≡ list_any begins_in_zone (top_lines bundles)
-top_observances before [] bundles k z = cc
-top_observances before (c ∷ cs) [] k z = absurd k
-top_observances before (c ∷ cs) (f ∷ fs) k z = k.0.observances z
+-- lines in a component stand before it and all around it are open
+abbrev pub Together : List Open → List Placed → Type 0
+Together [] ls = Unit {0}
+Together (c ∷ cs) ls = All (λ l. l.path ≡ c ∷ cs) ls
+
+pub together : (before : List Placed) (l : Placed) (bundles : List Bundle) → Keeps before [] l.path bundles → Together l.path (beside before l)
+together before l bundles k = subst (λ (ls : List Placed). Together l.path ls) (top_beside before l bundles k) (at l.path bundles k)
+  where
+    at : (path : List Open) (bundles : List Bundle) → Keeps before [] path bundles → Together path (top_lines bundles)
+    at [] bundles k = tt
+    at (c ∷ cs) [] k = absurd k
+    at (c ∷ cs) (f ∷ fs) k = k.0.places
+
+-- the same where they stand in a component of a kind
+pub together-in : (is : Context → Bool) (path : List Open) (ls : List Placed) → is context.Outside ≡ false → is (context_of path) ≡ true → Together path ls →
+    All (λ l. l.path ≡ path) ls
+together-in is [] ls out in_kind t = cc
+together-in is (c ∷ cs) ls out in_kind t = t
+
+pub zone-lines : (path : List Open) → is_zone_context (context_of path) ≡ true → (ls : List Placed) → All (λ l. l.path ≡ path) ls →
+    list_any begins_observance ls ≡ list_any begins_in_zone ls
+zone-lines path z [] h = refl
+zone-lines path z (l ∷ ls) h =
+    let here : in_zone l ≡ true = ap (λ (p : List Open). is_zone_context (context_of p)) (All-head (λ l. l.path ≡ path) l ls h) ∙ z in
+    ap (λ r. begins_observance l || r) (zone-lines path z ls (All-tail (λ l. l.path ≡ path) l ls h))
+    ∙ ap (λ t. (t && begins_observance l) || list_any begins_in_zone ls) (sym here)
 
 pub falls : (before up : List Placed) (path : List Open) (bundles : List Bundle) → Keeps before up path bundles → Falls path
 falls before up [] bundles k = tt
@@ -126,7 +148,7 @@ module _ (before : List Placed) (l : Placed) where
           less = kept.less;
           opened = kept.opened;
           begins = kept.begins;
-          observances = kept.observances;
+          places = kept.places;
         },
         below (f.begin ∷ []) cs fs (omega (arith, kept.less, less)) k.1,
       )
@@ -146,22 +168,12 @@ module _ (before : List Placed) (l : Placed) where
           less = kept.less;
           opened = kept.opened;
           begins = kept.begins;
-          observances = kept.observances;
+          places = kept.places;
         },
         below (f.begin ∷ []) cs fs (omega (arith, at, kept.less)) k.1,
       )
 
 -- it is added
-observances-more : (l : Placed) (path : List Open) (ls : List Placed) → path ≡ l.path → is_zone_context (context_of path) ≡ true →
-    list_any begins_observance ls ≡ list_any begins_in_zone ls →
-    list_any begins_observance (ls ++ l ∷ []) ≡ list_any begins_in_zone (ls ++ l ∷ [])
-observances-more l path ls e z h =
-    let same : begins_in_zone l ≡ begins_observance l =
-    ap (λ (p : List Open). is_zone_context (context_of p) && begins_observance l) (sym e) ∙ ap (λ t. t && begins_observance l) z in
-    list_any-append begins_observance ls (l ∷ []) ∙ ap (λ t. t || (begins_observance l || false)) h
-    ∙ ap (λ t. list_any begins_in_zone ls || (t || false)) (sym same)
-    ∙ sym (list_any-append begins_in_zone ls (l ∷ []))
-
 joined : (before : List Placed) (l : Placed) (path : List Open) (bundles : List Bundle) → path ≡ l.path → Keeps before (l ∷ []) path bundles →
     Keeps before [] path (add_line l bundles)
 joined before l [] [] e k = k
@@ -175,7 +187,7 @@ joined before l (c ∷ cs) (f ∷ fs) e k =
         less = kept.less;
         opened = kept.opened;
         begins = kept.begins;
-        observances = λ z. observances-more l (c ∷ cs) f.lines e z (kept.observances z);
+        places = All-push (λ l. l.path ≡ c ∷ cs) f.lines l kept.places (sym e);
       },
       k.1,
     )
@@ -225,7 +237,7 @@ keeps before l bundles h less k = by_kind (is_begin l) (is_end l) refl
         less = less;
         opened = refl;
         begins = b;
-        observances = λ z. refl;
+        places = All-nil (λ k. k.path ≡ inside l);
       },
       here before l l.path bundles refl k,
     )

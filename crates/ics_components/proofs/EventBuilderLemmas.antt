@@ -51,7 +51,7 @@ kept-more f n (k ∷ ks) l = by_test (is_named n k) (kept-more f n ks l)
         either false = refl
     by_test false ih = ih
 
-abbrev raw_name : Option Parts → List ℕ
+abbrev pub raw_name : Option Parts → List ℕ
 raw_name None = []
 raw_name (Some parts) = parts.name
 

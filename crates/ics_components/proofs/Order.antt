@@ -157,7 +157,7 @@ unended false f e = cc
 begin-no-end : (u : List ℕ) → bytes_eq u (codes "BEGIN") ≡ true → bytes_eq u (codes "END") ≡ false
 begin-no-end u e = let same : u ≡ codes "BEGIN" = equal u (codes "BEGIN") e in rw same refl
 
-end-name : (u : List ℕ) → bytes_eq u (codes "END") ≡ true → name_of u ≡ name.End
+pub end-name : (u : List ℕ) → bytes_eq u (codes "END") ≡ true → name_of u ≡ name.End
 end-name u e = let same : u ≡ codes "END" = equal u (codes "END") e in rw same refl
 
 -- Where lines stand in a file: behind those before them, in components of which each began behind those that it stands in, and before them.

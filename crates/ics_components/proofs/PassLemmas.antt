@@ -1,8 +1,7 @@
 -- One pass with the components that are open finds the first fault of round one, and gathers what the lines say.
 use Rattle.std.proofs.Common.{◌≡◌, ℕ, ◌+◌, ◌<◌, ◌≤◌, List, [], ◌∷◌, ◌++◌, map, refl, sym, ap, subst, ◌∙◌, append_assoc, arith, cond, Option, Some, None, Result}
 use Rattle.std.proofs.Common.{◌^◌, Err}
-use Rattle.std.specs.Prelude.{find, length, not, ◌==◌}
-use Rattle.std.specs.List.{list_any}
+use Rattle.std.specs.Prelude.{find, length}
 use Rattle.std.proofs.lemmas.List.{append-nil}
 use Rattle.ics_text.specs.Bytes.{upper}
 use Rattle.ics_text.specs.Unfolded.{Line, Rises, Within}
@@ -17,7 +16,8 @@ use Rattle.ics_components.specs.declared.gathered.LineCheck.{LineCheck}
 use Rattle.ics_components.specs.declared.deferred_check.DeferredCheck.{DeferredCheck}
 use Rattle.ics_components.specs.declared.gathered.Passed.{Passed}
 use Rattle.ics_components.specs.declared.name.Name.{Name}
-use Rattle.ics_components.specs.PlacedLines.{Placed, Open, path_behind, placed_from, innermost, begins_observance, lines_in, beside}
+use Rattle.ics_components.specs.PlacedLines.{Placed, Open, path_behind, placed_from, innermost, lines_in, beside}
+use Rattle.ics_components.specs.Components.{is_zone_context}
 use Rattle.ics_components.specs.Faults.{stands, kinds}
 use Rattle.ics_components.specs.FirstFault.{Fault, found, first_from, first_fault, fault_at_end, end_fault, no_open}
 use Rattle.ics_components.specs.GatheredSeen.{GatheredSeen}
@@ -27,7 +27,7 @@ use Rattle.ics_components.specs.Names.{name_of}
 use Rattle.ics_components.specs.Pass.{bottom, is_lowest, at_end, unless, Going, on_line, on_content, pass, NumbersFit}
 use Rattle.ics_components.proofs.Judged.{fault_in, fault_on, check_in, check_on, behind, ends, passing, line-is}
 use Rattle.ics_components.proofs.Table.{parts, any-part, frame_of, IsAsked, least-same}
-use Rattle.ics_components.proofs.Bundles.{Bundle, Keeps, Before, falls, top_lines, top_beside, top_observances, bundles_behind, keeps, Before-more}
+use Rattle.ics_components.proofs.Bundles.{Bundle, Keeps, Together, Before, falls, top_beside, together, together-in, zone-lines, bundles_behind, keeps, Before-more}
 use Rattle.ics_components.proofs.Bundles.{Before-later}
 use Rattle.ics_components.proofs.Bundles.{innermost-behind}
 use Rattle.ics_components.proofs.Frames.{frames_of, top_of, with, Closes, frames-behind, fault-top, check-top, based}
@@ -187,8 +187,8 @@ step line {lines} again (Some v) {whole} {before} {bundles} {path} on had =
     Before-more (line.number + 1) before l (Before-later line.number (line.number + 1) before (omega arith) on.earlier) (omega (arith, on.inner)) in
     let kept : Keeps (before ++ l ∷ []) [] (path_behind l) (bundles_behind l bundles) = keeps before l bundles on.earlier on.inner on.kept in
     let asked : IsAsked whole path (beside before l) =
-    λ z. subst (λ (ls : List Placed). list_any begins_observance ls ≡ not (length (parts whole ls) == 0)) (top_beside before l bundles on.kept)
-    (top_observances before path bundles on.kept z ∙ any-part whole (top_lines bundles)) in
+    λ z. zone-lines path z (beside before l) (together-in is_zone_context path (beside before l) refl z (together before l bundles on.kept))
+    ∙ any-part whole (beside before l) in
     let first : Option FaultKind = find (λ kind. stands kind (beside before l) l) kinds in
     let least : fault_on m v frames ≡ first =
     fault-top whole before m v path bundles on.kept
@@ -232,16 +232,45 @@ pass-lines (line ∷ lines) whole before bundles path n last had at e =
     })
     had
 
+-- THE LINES DIRECTLY IN A COMPONENT stand before the same path.
+abbrev pub AreTogether : List Placed → List Placed → Type 0
+AreTogether before [] = Unit {0}
+AreTogether before (l ∷ ls) = Together l.path (beside before l) × AreTogether (before ++ l ∷ []) ls
+
+all-together : (lines : List Line) (whole before : List Placed) (bundles : List Bundle) (path : List Open) (n : ℕ) → IsAt whole before bundles path n lines →
+    AreTogether before (placed_from path lines)
+all-together [] whole before bundles path n at = tt
+all-together (line ∷ lines) whole before bundles path n at =
+    let l : Placed = with_content line path (content_of line.bytes) in
+    let earlier : Before line.number before = Before-later (n + 1) line.number before (omega (arith, at.rises.0)) at.earlier in
+    let inner : innermost path < line.number = omega (arith, at.inner, at.rises.0) in (
+      together before l bundles at.kept,
+      all-together lines whole (before ++ l ∷ []) (bundles_behind l bundles) (path_behind l) line.number (record {
+        parts = at.parts ∙ sym (append_assoc before (l ∷ []) (placed_from (path_behind l) lines));
+        kept = keeps before l bundles earlier inner at.kept;
+        earlier =
+            Before-more (line.number + 1) before l (Before-later line.number (line.number + 1) before (omega arith) earlier) (omega (arith, inner));
+        inner = innermost-behind l inner bundles before at.kept;
+        rises = at.rises.1;
+      }),
+    )
+
 -- below all components
 nowhere : Placed
 nowhere = record { number = 0; content = None; path = [] }
+
+first-at : (lines : List Line) → Rises 0 lines → IsAt (placed_from [] lines) [] (record { begin = nowhere; lines = [] } ∷ []) [] 0 lines
+first-at lines r = record { parts = refl; kept = refl; earlier = tt; inner = omega arith; rises = r }
 
 pub pass-whole : (lines : List Line) → Rises 0 lines →
     pass (bottom ∷ []) None nothing_gathered lines
     ≡ unless (first_fault (placed_from [] lines)) (gathered_from (placed_from [] lines) nothing_gathered [] (placed_from [] lines))
 pass-whole lines r =
-    pass-lines lines (placed_from [] lines) [] (record { begin = nowhere; lines = [] } ∷ []) [] 0 None nothing_gathered
-    (record { parts = refl; kept = refl; earlier = tt; inner = omega arith; rises = r }) refl
+    pass-lines lines (placed_from [] lines) [] (record { begin = nowhere; lines = [] } ∷ []) [] 0 None nothing_gathered (first-at lines r) refl
+
+pub together-whole : (lines : List Line) → Rises 0 lines → AreTogether [] (placed_from [] lines)
+together-whole lines r =
+    all-together lines (placed_from [] lines) [] (record { begin = nowhere; lines = [] } ∷ []) [] 0 (first-at lines r)
 
 -- there is a number after that of each line
 pub fits-from_within : (n : ℕ) (lines : List Line) → n + 1 < 2 ^ 64 → Within n lines → NumbersFit lines

@@ -1,15 +1,15 @@
 -- What ends on the lines of a file is in order, by what its lines say of it.
 use Rattle.std.proofs.Common.{◌≡◌, ◌≢◌, ◌≤◌, ◌+◌, ◌*◌, ℕ, ℤ, pos, neg_ℤ, Bool, true, false, ◌&&◌, ◌||◌, not, nat_le, IsTrue, List, [], ◌∷◌, ◌++◌, map, get_or}
-use Rattle.std.proofs.Common.{refl, ◌∙◌, subst, arith, cond, Option, Some, None, is_some, IfSome, Result, Ok, Err}
+use Rattle.std.proofs.Common.{refl, sym, ◌∙◌, ◌==◌, length, subst, arith, cond, Option, Some, None, is_some, IfSome, Result, Ok, Err}
 use Rattle.std.specs.Prelude.{codes, drop, take, find, filter, filter_map, flat_map, int_le, option_map, unwrap_or}
-use Rattle.std.specs.List.{All, list_all}
+use Rattle.std.specs.List.{All, list_all, list_any}
 use Rattle.std.proofs.lemmas.Bool.Decides.{nat_tests}
 use Rattle.std.proofs.lemmas.Int.{ints}
 use Rattle.std.proofs.lemmas.List.Elements.{All-nil, All-cons, All-append, All-head, All-tail, All-map}
 use Rattle.jiff_core.specs.Calendar.{IsWithin}
 use Rattle.ics_fields.specs.Days.{IsStampDay}
 use Rattle.ics_fields.specs.Locals.{local_at}
-use Rattle.ics_fields.specs.Observances.{is_finer_than_daily, is_finer_rule}
+use Rattle.ics_fields.specs.Observances.{ObservanceSaid, is_finer_than_daily, is_finer_rule}
 use Rattle.ics_fields.specs.RuleParts.{RuleParts}
 use Rattle.ics_fields.specs.Years.{is_stamp_local}
 use Rattle.ics_fields.specs.declared.frequency.Frequency.{Frequency}
@@ -27,24 +27,27 @@ use Rattle.ics_values.specs.declared.stamp.Stamp.{Stamp}
 use Rattle.ics_values.specs.declared.stamp.Stamp.TheVariants.{Floating}
 use Rattle.ics_values.specs.declared.stamp.StampFault.{StampFault}
 use Rattle.ics_components.specs.Builders.{zone_ended, event_ended}
+use Rattle.ics_components.specs.Components.{is_zone_context}
 use Rattle.ics_components.specs.DateValues.{At, Between, Lasting, date_time_of, has_slash, rdate_of}
 use Rattle.ics_components.specs.Faults.{stands, kinds, dated_on, duration_on, rdates_on, exdates_on, first_text, first_dated, rule_on}
 use Rattle.ics_components.specs.FirstFault.{NoneStand}
 use Rattle.ics_components.specs.GivenTimes.{dated_in, given_length}
 use Rattle.ics_components.specs.Observances.{local_in, onset_in, offset_in, daily_in, onset_on, offset_on, daily_on, onsets_by, observance_by, begins_in_zone}
-use Rattle.ics_components.specs.PlacedLines.{Placed, value, params_of, beside, lines_in, calendar_of, has, first_named, all_named, in_zone, ends_event, is_closing}
-use Rattle.ics_components.specs.Sound.{IsSoundStamp, IsSoundList, IsSoundLength, IsWhole, IsSoundObservance}
+use Rattle.ics_components.specs.PlacedLines.{Placed, value, params_of, beside, lines_in, calendar_of, has, first_named, all_named, in_zone, ends_event, ends_zone, is_closing, begins_observance}
+use Rattle.ics_components.specs.Sound.{IsSoundStamp, IsSoundList, IsSoundLength, IsWhole, IsSoundObservance, IsSoundZone}
 use Rattle.ics_components.specs.Values.{zone_name, lasting_of, is_lasting, is_fine, is_filled, ends_badly}
 use Rattle.ics_components.specs.declared.dated.Dated.{Dated}
 use Rattle.ics_components.specs.declared.fault.FaultKind.{FaultKind}
-use Rattle.ics_components.specs.declared.fault.FaultKind.TheVariants.{MissingUid, MissingStart, BadEnd}
+use Rattle.ics_components.specs.declared.fault.FaultKind.TheVariants.{NoObservance, MissingUid, MissingStart, BadEnd}
 use Rattle.ics_components.specs.declared.gathered.EndedZone.{EndedZone}
 use Rattle.ics_components.proofs.Built.{collected_of, zone_of}
 use Rattle.ics_components.proofs.Ended.{events, zones}
 use Rattle.ics_components.proofs.Listed.{All-flat_map}
 use Rattle.ics_components.proofs.Order.{ended_as, ended_from, none-found}
 use Rattle.ics_components.proofs.SoundValues.{day-zero, stamp-range, sound-stamp, sound-lasting, sound-rdates, sound-exdates}
-use Rattle.ics_components.proofs.Table.{own, parts, has-first}
+use Rattle.ics_components.proofs.Table.{own as observance_at, parts, any-part, has-first}
+use Rattle.ics_components.proofs.Bundles.{Together, together-in, zone-lines}
+use Rattle.ics_components.proofs.PassLemmas.{AreTogether}
 
 abbrev IsSoundLocal : Local → Type 0
 IsSoundLocal local = IsStampDay local.day
@@ -175,22 +178,57 @@ observance-sound own =
     }
 
 -- what ends on a line, if it does
-one-ended : {X : Type 0} (P : X → Type 0) (t : Bool) (x : X) → (t ≡ true → P x) → All P (cond t (x ∷ []) [])
+pub one-ended : {X : Type 0} (P : X → Type 0) (t : Bool) (x : X) → (t ≡ true → P x) → All P (cond t (x ∷ []) [])
 one-ended P true x h = All-cons P x [] (h refl) (All-nil P)
 one-ended P false x h = All-nil P
 
-abbrev pub AreSoundIn : EndedZone → Type 0
-AreSoundIn zone = All IsSoundObservance zone.observances
+-- what no fault on its END says
+here : (t b : Bool) → t ≡ true → (t && b) ≡ false → b ≡ false
+here true b e h = h
+here false b e h = cc
 
-pub zones-sound : (whole before lines : List Placed) → All AreSoundIn (ended_from (zones whole) before lines)
-zones-sound whole before [] = All-nil AreSoundIn
-zones-sound whole before (l ∷ ls) =
-    let ls_in : List Placed = beside before l in
-    let begun : List Placed = filter begins_in_zone ls_in in
-    All-append AreSoundIn (ended_as (zones whole) ls_in l) (ended_from (zones whole) (before ++ l ∷ []) ls)
-    (one-ended AreSoundIn (is_closing l && in_zone l) (zone_ended (calendar_of l.path) (zone_of (parts whole ls_in) ls_in))
-    (λ t. All-map IsSoundObservance (own whole) begun (λ i d lt. observance-sound (lines_in (get_or begun i d).number whole))))
-    (zones-sound whole (before ++ l ∷ []) ls)
+not-false : (b : Bool) → not b ≡ false → b ≡ true
+not-false true h = refl
+not-false false h = cc
+
+second : (a b : Bool) → (a || b) ≡ false → b ≡ false
+second true b h = cc
+second false b h = h
+
+-- A TIME ZONE that ends has an observance.
+abbrev IsSoundEnded : EndedZone → Type 0
+IsSoundEnded zone = IsSoundZone zone.observances
+
+not-empty : (os : List ObservanceSaid) → not (length os == 0) ≡ true → os ≢ []
+not-empty [] h = cc
+not-empty (o ∷ os) h = λ e. cc
+
+zone-sound : (whole own : List Placed) (l : Placed) → ends_zone l ≡ true → find (λ kind. stands kind own l) kinds ≡ None → Together l.path own →
+    IsSoundZone (parts whole own)
+zone-sound whole own l t e h =
+    let z : in_zone l ≡ true = both (is_closing l) (in_zone l) t in
+    let some : list_any begins_observance own ≡ true =
+    not-false _ (here (ends_zone l) _ t (none-found (λ kind. stands kind own l) (take 7 kinds) (drop 8 kinds) NoObservance e)) in
+    let there : not (length (parts whole own) == 0) ≡ true =
+    sym (zone-lines l.path z own (together-in is_zone_context l.path own refl z h) ∙ any-part whole own) ∙ some in
+    let begun : List Placed = filter begins_in_zone own in
+    record {
+      filled = not-empty (parts whole own) there;
+      sound = All-map IsSoundObservance (observance_at whole) begun (λ i d lt. observance-sound (lines_in (get_or begun i d).number whole));
+    }
+  where
+    both : (a b : Bool) → (a && b) ≡ true → b ≡ true
+    both true b h = h
+    both false b h = cc
+
+pub zones-sound : (whole before lines : List Placed) → NoneStand stands before lines → AreTogether before lines →
+    All (λ z. IsSoundZone z.observances) (ended_from (zones whole) before lines)
+zones-sound whole before [] n h = All-nil IsSoundEnded
+zones-sound whole before (l ∷ ls) n h =
+    let own : List Placed = beside before l in
+    All-append IsSoundEnded (ended_as (zones whole) own l) (ended_from (zones whole) (before ++ l ∷ []) ls)
+    (one-ended IsSoundEnded (ends_zone l) (zone_ended (calendar_of l.path) (zone_of (parts whole own) own)) (λ t. zone-sound whole own l t n.0 h.0))
+    (zones-sound whole (before ++ l ∷ []) ls n.1 h.1)
 
 -- AN EVENT is in order as far as locals say.
 pub dated-said : (name : List ℕ) (own : List Placed) → IfSome (first_dated name own) IsSoundDated
@@ -213,19 +251,6 @@ times-sound : (start end : Option Dated) (duration : Option Duration) → IfSome
     IsSoundStamp (dated_in start).stamp × IsSoundLength (dated_in start) (given_length end duration)
 times-sound None end duration h a b t f = cc
 times-sound (Some d) end duration h a b t f = (h, length-sound d end duration a b f)
-
--- what no fault on its END says
-here : (t b : Bool) → t ≡ true → (t && b) ≡ false → b ≡ false
-here true b e h = h
-here false b e h = cc
-
-not-false : (b : Bool) → not b ≡ false → b ≡ true
-not-false true h = refl
-not-false false h = cc
-
-second : (a b : Bool) → (a || b) ≡ false → b ≡ false
-second true b h = cc
-second false b h = h
 
 event-whole : (own : List Placed) (l : Placed) → ends_event l ≡ true → find (λ kind. stands kind own l) kinds ≡ None →
     IsWhole (event_ended (calendar_of l.path) (collected_of own))
