@@ -78,9 +78,8 @@ pub top_beside : (before : List Placed) (l : Placed) (bundles : List Bundle) →
 top_beside before l bundles k = at l.path bundles k
   where
     at : (path : List Open) (bundles : List Bundle) → Keeps before [] path bundles → top_lines bundles ≡ lines_in (innermost path) before
-    at [] [] k = absurd k
     at [] (f ∷ []) k = sym (k ∙ append-nil f.lines)
-    at [] (f ∷ g ∷ gs) k = absurd k
+    at [] _ k = absurd k
     at (c ∷ cs) [] k = absurd k
     at (c ∷ cs) (f ∷ fs) k = sym (k.0.lines ∙ append-nil f.lines)
 
@@ -136,9 +135,8 @@ module _ (before : List Placed) (l : Placed) where
   -- a line deeper in leaves the bundles below alone
   below : (up : List Placed) (path : List Open) (bundles : List Bundle) → innermost path < innermost l.path → Keeps before up path bundles →
       Keeps (before ++ l ∷ []) up path bundles
-  below up [] [] less k = k
   below up [] (f ∷ []) less k = let ne : innermost l.path ≢ 0 = λ e. omega (arith, e, less) in lines_in-elsewhere 0 before l ne ∙ k
-  below up [] (f ∷ g ∷ gs) less k = k
+  below up [] _ less k = absurd k
   below up (c ∷ cs) [] less k = k
   below up (c ∷ cs) (f ∷ fs) less k =
       let ne : innermost l.path ≢ c.begun = λ e. omega (arith, e, less) in
@@ -156,9 +154,8 @@ module _ (before : List Placed) (l : Placed) where
   -- a line is still to be added to the innermost bundle
   here : (path : List Open) (bundles : List Bundle) → path ≡ l.path → Keeps before [] path bundles →
       Keeps (before ++ l ∷ []) (l ∷ []) path bundles
-  here [] [] e k = k
   here [] (f ∷ []) e k = lines_in-here 0 before l (ap innermost (sym e)) ∙ ap (λ ls. ls ++ l ∷ []) (k ∙ append-nil f.lines)
-  here [] (f ∷ g ∷ gs) e k = k
+  here [] _ e k = absurd k
   here (c ∷ cs) [] e k = k
   here (c ∷ cs) (f ∷ fs) e k =
       let at : innermost l.path ≡ c.begun = ap innermost (sym e) in
@@ -176,9 +173,8 @@ module _ (before : List Placed) (l : Placed) where
 -- it is added
 joined : (before : List Placed) (l : Placed) (path : List Open) (bundles : List Bundle) → path ≡ l.path → Keeps before (l ∷ []) path bundles →
     Keeps before [] path (add_line l bundles)
-joined before l [] [] e k = k
 joined before l [] (f ∷ []) e k = k ∙ sym (append-nil (f.lines ++ l ∷ []))
-joined before l [] (f ∷ g ∷ gs) e k = k
+joined before l [] _ e k = absurd k
 joined before l (c ∷ cs) [] e k = k
 joined before l (c ∷ cs) (f ∷ fs) e k =
     let kept : IsKept before (l ∷ []) c cs f = k.0 in (
@@ -202,9 +198,8 @@ path-of b c cs e = ap (drop 1) e
 
 closed : (before : List Placed) (l : Placed) (path : List Open) (bundles : List Bundle) → path ≡ l.path → Keeps before [] path bundles →
     Keeps (before ++ l ∷ []) [] (drop 1 path) (close l bundles)
-closed before l [] [] e k = k
 closed before l [] (f ∷ []) e k = added before l [] (f ∷ []) e k
-closed before l [] (f ∷ g ∷ gs) e k = absurd k
+closed before l [] _ e k = absurd k
 closed before l (c ∷ cs) [] e k = absurd k
 closed before l (c ∷ []) (f ∷ []) e k = absurd k.1
 closed before l (c ∷ d ∷ ds) (f ∷ []) e k = absurd k.1

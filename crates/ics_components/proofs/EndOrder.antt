@@ -43,11 +43,20 @@ calendar-no-event : (q : Context) → is_calendar_context q ≡ true → is_even
 calendar-no-event context.Event e = cc
 calendar-no-event _ e = refl
 
-calendar-alone : (whole : List Placed) (path : List Open) → is_calendar_context (context_of path) ≡ true → open_as events whole path ≡ []
-calendar-alone whole [] e = refl
-calendar-alone whole (c ∷ []) e = rw (calendar-no-event (context_of (c ∷ [])) e) refl
-calendar-alone whole (c ∷ d ∷ ds) e =
-    absurd (context-in-outside (context_of ds) (component_of d.name) (calendar-from (context_of (d ∷ ds)) (component_of c.name) e))
+-- a calendar stands in nothing
+module _ {X : Type 0} (s : Sort X) (out : (q : Context) → is_calendar_context q ≡ true → s.stands_at q ≡ false) where
+  calendar-holds : (whole : List Placed) (path : List Open) → is_calendar_context (context_of path) ≡ true → open_as s whole path ≡ []
+  calendar-holds whole [] e = refl
+  calendar-holds whole (c ∷ []) e = rw (out (context_of (c ∷ [])) e) refl
+  calendar-holds whole (c ∷ d ∷ ds) e =
+      absurd (context-in-outside (context_of ds) (component_of d.name) (calendar-from (context_of (d ∷ ds)) (component_of c.name) e))
+
+-- in another order
+reorder : (a b c : Bool) → (a && (b && c)) ≡ (b && (a && c))
+reorder true true c = refl
+reorder true false c = refl
+reorder false true c = refl
+reorder false false c = refl
 
 -- an event begins exactly on a VEVENT in a calendar
 event-begins : (q : Context) (w : List ℕ) → is_event_context (context_in q (component_of w)) ≡ (is_calendar_context q && bytes_eq w (codes "VEVENT"))
@@ -77,15 +86,9 @@ events-are = record {
   starts =
       λ l. reorder (is_calendar_context (context_of l.path)) (is_begin l) (bytes_eq (component l) (codes "VEVENT"))
       ∙ ap (λ t. is_begin l && t) (sym (event-begins (context_of l.path) (component l)));
-  alone = λ whole l e. calendar-alone whole l.path (in-calendar (context_of l.path) (component_of (component l)) e);
+  alone = λ whole l e. calendar-holds events calendar-no-event whole l.path (in-calendar (context_of l.path) (component_of (component l)) e);
   ends = λ path ls l e. ap (event_ended (calendar_of path)) (event-end ls l e);
 }
-  where
-    reorder : (a b c : Bool) → (a && (b && c)) ≡ (b && (a && c))
-    reorder true true c = refl
-    reorder true false c = refl
-    reorder false true c = refl
-    reorder false false c = refl
 
 -- In a file without faults the time zones end in the order in which they begin.
 -- an END adds nothing to its zone
@@ -112,7 +115,7 @@ zone-begins q w = by_context q (component_of w) (tells_component w)
     by_context context.Zone _ e = refl
     by_context _ c e = refl
 
--- a calendar stands in nothing
+-- what begins a time zone stands in a calendar
 zone-from : (q : Context) (c : Component) → is_zone_context (context_in q c) ≡ true → is_calendar_context q ≡ true
 zone-from context.Outside kind.Calendar e = cc
 zone-from context.Outside _ e = cc
@@ -120,13 +123,6 @@ zone-from context.Calendar c e = refl
 zone-from context.Zone kind.Standard e = cc
 zone-from context.Zone _ e = cc
 zone-from _ c e = cc
-
-module _ {X : Type 0} (s : Sort X) (out : (q : Context) → is_calendar_context q ≡ true → s.stands_at q ≡ false) where
-  calendar-holds : (whole : List Placed) (path : List Open) → is_calendar_context (context_of path) ≡ true → open_as s whole path ≡ []
-  calendar-holds whole [] e = refl
-  calendar-holds whole (c ∷ []) e = rw (out (context_of (c ∷ [])) e) refl
-  calendar-holds whole (c ∷ d ∷ ds) e =
-      absurd (context-in-outside (context_of ds) (component_of d.name) (calendar-from (context_of (d ∷ ds)) (component_of c.name) e))
 
 calendar-no-zone : (q : Context) → is_calendar_context q ≡ true → is_zone_context q ≡ false
 calendar-no-zone context.Calendar e = refl
@@ -141,12 +137,6 @@ zones-are whole = record {
   alone = λ all l e. calendar-holds (zones whole) calendar-no-zone all l.path (zone-from (context_of l.path) (component_of (component l)) e);
   ends = λ path ls l e. ap (zone_ended (calendar_of path)) (zone-end whole ls l e);
 }
-  where
-    reorder : (a b c : Bool) → (a && (b && c)) ≡ (b && (a && c))
-    reorder true true c = refl
-    reorder true false c = refl
-    reorder false true c = refl
-    reorder false false c = refl
 
 -- what begins directly in a calendar belongs to that
 pub calendar-inside : (l : Placed) → is_calendar_context (context_of l.path) ≡ true → calendar_of (inside l) ≡ calendar_of l.path

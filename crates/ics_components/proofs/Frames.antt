@@ -134,9 +134,7 @@ module _ (whole before : List Placed) where
   closed-over : (l : Placed) (path : List Open) (bundles : List Bundle) → Keeps before [] path bundles → name_of (property_name l.content) ≡ name.End →
       ((c : Open) (cs : List Open) → path ≡ c ∷ cs → lines_in c.begun whole ≡ lines_in c.begun before ++ l ∷ []) →
       frames_of whole (drop 1 path) (close l bundles) ≡ closed (frames_of whole path bundles)
-  closed-over l [] [] k n w = refl
-  closed-over l [] (f ∷ []) k n w = refl
-  closed-over l [] (f ∷ g ∷ gs) k n w = refl
+  closed-over l [] bundles k n w = refl
   closed-over l (c ∷ cs) [] k n w = absurd k
   closed-over l (c ∷ []) (f ∷ []) k n w = absurd k.1
   closed-over l (c ∷ d ∷ ds) (f ∷ []) k n w = absurd k.1

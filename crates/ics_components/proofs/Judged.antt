@@ -100,19 +100,6 @@ abbrev pub is_end_name : Name → Bool
 is_end_name name.End = true
 is_end_name _ = false
 
-pub behind-is : (number : ℕ) (n : Name) (c : Parts) (f : Frame) (fs : List Frame) → behind number n c (f ∷ fs)
-    ≡ cond (is_begin_name n) (opened number (component_of (map upper c.value)) (f ∷ fs))
-    (cond (is_end_name n) (closed (f ∷ fs)) (record f { builder = builder_note n c f.builder } ∷ fs))
-behind-is number name.Begin c f fs = refl
-behind-is number name.End c f fs = refl
-behind-is number _ c f fs = refl
-
-pub check-is : (n : Name) (c : Parts) (f : Frame) →
-    check_in n c f ≡ cond (is_begin_name n) None (cond (is_end_name n) (end_check f.calendar f.builder) (builder_check f.calendar n c f.builder))
-check-is name.Begin c f = refl
-check-is name.End c f = refl
-check-is _ c f = refl
-
 pub ends-is : (n : Name) (f g : Frame) (gs : List Frame) → ends n (f ∷ g ∷ gs) ≡ cond (is_end_name n) (ended_in f) ended.Nothing
 ends-is name.End f g gs = refl
 ends-is _ f g gs = refl

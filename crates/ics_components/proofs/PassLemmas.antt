@@ -102,6 +102,9 @@ record IsAt (whole before : List Placed) (bundles : List Bundle) (path : List Op
   pub inner : innermost path ≤ n
   pub rises : Rises n lines
 
+abbrev pub with_content : Line → List Open → Option Parts → Placed
+with_content line path o = record { number = line.number; content = o; path = path }
+
 -- the same on a line and before those behind it
 record IsOn (whole before : List Placed) (bundles : List Bundle) (l : Placed) (lines : List Line) : Type 0 where
   pub parts : whole ≡ before ++ l ∷ placed_from (path_behind l) lines
@@ -110,15 +113,32 @@ record IsOn (whole before : List Placed) (bundles : List Bundle) (l : Placed) (l
   pub inner : innermost l.path < l.number
   pub rises : Rises l.number lines
 
+on-line : (line : Line) {lines : List Line} {whole before : List Placed} {bundles : List Bundle} {path : List Open} {n : ℕ} →
+    IsAt whole before bundles path n (line ∷ lines) → IsOn whole before bundles (with_content line path (content_of line.bytes)) lines
+on-line line {before = before} {n = n} at = record {
+  parts = at.parts;
+  kept = at.kept;
+  earlier = Before-later (n + 1) line.number before (omega (arith, at.rises.0)) at.earlier;
+  inner = omega (arith, at.inner, at.rises.0);
+  rises = at.rises.1;
+}
+
+at-next : {whole before : List Placed} {bundles : List Bundle} (l : Placed) {lines : List Line} → IsOn whole before bundles l lines →
+    IsAt whole (before ++ l ∷ []) (bundles_behind l bundles) (path_behind l) l.number lines
+at-next {before = before} {bundles = bundles} l {lines} on = record {
+  parts = on.parts ∙ sym (append_assoc before (l ∷ []) (placed_from (path_behind l) lines));
+  kept = keeps before l bundles on.earlier on.inner on.kept;
+  earlier = Before-more (l.number + 1) before l (Before-later l.number (l.number + 1) before (omega arith) on.earlier) (omega (arith, on.inner));
+  inner = innermost-behind l on.inner bundles before on.kept;
+  rises = on.rises;
+}
+
 abbrev Known : List Line → Type 0
 Known lines =
     (whole before : List Placed) (bundles : List Bundle) (path : List Open) (n : ℕ) (last : Option ℕ) (had : GatheredSeen) →
     IsAt whole before bundles path n lines → at_end (frames_of whole path bundles) last ≡ fault_at_end before →
     pass (frames_of whole path bundles) last had lines
     ≡ unless (first_from stands fault_at_end before (placed_from path lines)) (gathered_from whole had before (placed_from path lines))
-
-abbrev pub with_content : Line → List Open → Option Parts → Placed
-with_content line path o = record { number = line.number; content = o; path = path }
 
 module _ (whole before : List Placed) (line : Line) (path : List Open) (v : Parts) (bundles : List Bundle) (k : Keeps before [] path bundles) where
   abbrev l : Placed
@@ -183,9 +203,7 @@ step line {lines} again (Some v) {whole} {before} {bundles} {path} on had =
     let m : Name = name_of (map upper v.name) in
     let frames : List Frame = frames_of whole path bundles in
     let go : Going = λ frames had. pass frames (Some line.number) had lines in
-    let more : Before (line.number + 1) (before ++ l ∷ []) =
-    Before-more (line.number + 1) before l (Before-later line.number (line.number + 1) before (omega arith) on.earlier) (omega (arith, on.inner)) in
-    let kept : Keeps (before ++ l ∷ []) [] (path_behind l) (bundles_behind l bundles) = keeps before l bundles on.earlier on.inner on.kept in
+    let next : IsAt whole (before ++ l ∷ []) (bundles_behind l bundles) (path_behind l) line.number lines = at-next l on in
     let asked : IsAsked whole path (beside before l) =
     λ z. zone-lines path z (beside before l) (together-in is_zone_context path (beside before l) refl z (together before l bundles on.kept))
     ∙ any-part whole (beside before l) in
@@ -203,15 +221,8 @@ step line {lines} again (Some v) {whole} {before} {bundles} {path} on had =
     ∙ ap (λ fs. refused line.number first (go fs now))
     (sym (frames-behind whole before line path v bundles on.kept (closes-here whole before line path v bundles on.kept lines on.parts on.inner on.rises)))
     ∙ ap (refused line.number first)
-    (again whole (before ++ l ∷ []) (bundles_behind l bundles) (path_behind l) line.number (Some line.number) now
-    (record {
-      parts = on.parts ∙ sym (append_assoc before (l ∷ []) rest);
-      kept = kept;
-      earlier = more;
-      inner = innermost-behind l on.inner bundles before on.kept;
-      rises = on.rises;
-    })
-    (end-is-known whole before l (bundles_behind l bundles) kept))
+    (again whole (before ++ l ∷ []) (bundles_behind l bundles) (path_behind l) line.number (Some line.number) now next
+    (end-is-known whole before l (bundles_behind l bundles) next.kept))
     ∙ where-fine line.number first (unless first_behind (gathered_from whole now (before ++ l ∷ []) rest))
     (unless first_behind (gathered_from whole had before (l ∷ rest)))
     (λ none. ap (unless first_behind) (gathered-step whole before line path v bundles on.kept had rest (nested (λ kind. stands kind (beside before l) l) none)))
@@ -222,15 +233,7 @@ pass-lines : (lines : List Line) → Known lines
 pass-lines [] whole before bundles path n last had at e =
     ap (λ f. unless f had) e ∙ ap (unless (fault_at_end before)) (gathered-none whole had before)
 pass-lines (line ∷ lines) whole before bundles path n last had at e =
-    step line (pass-lines lines) (content_of line.bytes)
-    (record {
-      parts = at.parts;
-      kept = at.kept;
-      earlier = Before-later (n + 1) line.number before (omega (arith, at.rises.0)) at.earlier;
-      inner = omega (arith, at.inner, at.rises.0);
-      rises = at.rises.1;
-    })
-    had
+    step line (pass-lines lines) (content_of line.bytes) (on-line line at) had
 
 -- THE LINES DIRECTLY IN A COMPONENT stand before the same path.
 abbrev pub AreTogether : List Placed → List Placed → Type 0
@@ -241,18 +244,9 @@ all-together : (lines : List Line) (whole before : List Placed) (bundles : List 
     AreTogether before (placed_from path lines)
 all-together [] whole before bundles path n at = tt
 all-together (line ∷ lines) whole before bundles path n at =
-    let l : Placed = with_content line path (content_of line.bytes) in
-    let earlier : Before line.number before = Before-later (n + 1) line.number before (omega (arith, at.rises.0)) at.earlier in
-    let inner : innermost path < line.number = omega (arith, at.inner, at.rises.0) in (
+    let l : Placed = with_content line path (content_of line.bytes) in (
       together before l bundles at.kept,
-      all-together lines whole (before ++ l ∷ []) (bundles_behind l bundles) (path_behind l) line.number (record {
-        parts = at.parts ∙ sym (append_assoc before (l ∷ []) (placed_from (path_behind l) lines));
-        kept = keeps before l bundles earlier inner at.kept;
-        earlier =
-            Before-more (line.number + 1) before l (Before-later line.number (line.number + 1) before (omega arith) earlier) (omega (arith, inner));
-        inner = innermost-behind l inner bundles before at.kept;
-        rises = at.rises.1;
-      }),
+      all-together lines whole (before ++ l ∷ []) (bundles_behind l bundles) (path_behind l) line.number (at-next l (on-line line at)),
     )
 
 -- below all components
