@@ -1,6 +1,6 @@
 -- The second round checks the zones of each event's stamps, and its end against its start.
 use Rattle.std.proofs.Common.{◌≡◌, ℕ, Bool, true, false, List, [], ◌∷◌, ◌++◌, map, refl, subst, cond, Option, Some, None, IfSome}
-use Rattle.std.specs.Prelude.{codes, get_or, option_map, ◌&&◌, ◌==◌}
+use Rattle.std.specs.Prelude.{codes, get_or, option_map, ◌==◌}
 use Rattle.std.specs.Str.{bytes_eq}
 use Rattle.std.specs.List.{All}
 use Rattle.std.proofs.lemmas.List.Elements.{All-nil, All-cons, All-push, All-append, All-head, All-tail, All-map, All-filter}
@@ -26,11 +26,11 @@ use Rattle.ics_components.specs.Components.{is_event_context}
 use Rattle.ics_components.specs.Faults.{first_dated, dated_on, rdates_on, exdates_on}
 use Rattle.ics_components.specs.Names.{name_of}
 use Rattle.ics_components.specs.PlacedLines.{Placed, Open, beside, innermost, calendar_of, context_of, property_name, params_of, value_of, is_named, all_named, first_of}
-use Rattle.ics_components.specs.PlacedLines.{ends_event, is_closing}
+use Rattle.ics_components.specs.PlacedLines.{ends_event, is_closing, is_end}
 use Rattle.ics_fields.specs.Locals.{local_seconds}
 use Rattle.ics_components.specs.Gathered.{IsSoundInstant, IsSoundCheck, checks_of}
 use Rattle.ics_components.specs.ZoneNames.{zone_used, are_of_one_zone}
-use Rattle.ics_components.specs.Lines.{event_check}
+use Rattle.ics_components.specs.Lines.{event_check, end_check}
 use Rattle.ics_components.specs.SecondRound.{used_zone, used_in, listed_zone, instant_on, instant_in, both_compared, ends_in}
 use Rattle.ics_components.specs.Sound.{EachZone, end_of, IsSoundStamp}
 use Rattle.ics_components.specs.GivenTimes.{dated_in, given_length}
@@ -43,22 +43,19 @@ use Rattle.ics_components.proofs.Judged.{check_in}
 use Rattle.ics_components.proofs.NameLemmas.{equal}
 use Rattle.ics_components.proofs.Order.{ended_as, ended_from, end-name}
 use Rattle.ics_components.proofs.PassLemmas.{AreTogether, checks_from, checks_on, later_by}
-use Rattle.ics_components.proofs.Rows.{Readings, frame_at}
-use Rattle.ics_components.proofs.Sound.{dated-said, one-ended}
-use Rattle.ics_components.proofs.Table.{frame_of, readings, top_component}
+use Rattle.ics_components.proofs.Rows.{Readings, builder_at, frame_at}
+use Rattle.ics_components.proofs.Sound.{both-true, dated-said, one-ended}
+use Rattle.ics_components.proofs.Table.{frame_of, readings}
 
 -- THE CHECK that a line leaves, where it stands directly in an event of that calendar.
 abbrev content_check : ℕ → Option Parts → Option DeferredCheck
 content_check calendar None = None
 content_check calendar (Some v) = event_check calendar (name_of (map upper v.name)) v
 
--- what the length of an event that has ended looks at
-abbrev used_at : ℕ → Option Dated → Option DeferredCheck
-used_at calendar dated = used_zone calendar (dated_in dated)
-
 -- Of what the second round checks this holds.
 module _ (P : DeferredCheck → Type 0) where
-  start-looked : (k : ℕ) (o : Option Dated) → IfSome (used_in k o) P → IfSome (used_at k o) P
+  -- of the start, the end and the length of an event that has ended
+  start-looked : (k : ℕ) (o : Option Dated) → IfSome (used_in k o) P → IfSome (used_zone k (dated_in o)) P
   start-looked k (Some d) h = h
   start-looked k None h = tt
 
@@ -70,9 +67,8 @@ module _ (P : DeferredCheck → Type 0) where
   length-looked : (k : ℕ) (s e : Option Dated) (d : Option Duration) → IfSome (ends_in k s e) P →
       IfSome (ends_in k (Some (dated_in s)) (end_of (given_length e d))) P
   length-looked k (Some s) (Some e) d h = h
-  length-looked k None (Some e) d h = tt
   length-looked k s None (Some d) h = tt
-  length-looked k s None None h = tt
+  length-looked k _ _ _ h = tt
 
   abbrev Leaves : ℕ → Placed → Type 0
   Leaves calendar l = IfSome (content_check calendar l.content) P
@@ -102,9 +98,12 @@ module _ (P : DeferredCheck → Type 0) where
       by_content (Some v) h = check-there _ (context_of l.path) (readings whole l.path own) (name_of (map upper v.name)) v e h
 
   -- and thus of what the lines of a name leave
+  abbrev Gives : ℕ → List ℕ → Placed → Type 0
+  Gives calendar name l = IfSome (event_check calendar (name_of name) (parts_at l)) P
+
   named-seen : (k : ℕ) (u : List ℕ) → bytes_eq [] u ≡ false → (ls : List Placed) → All (Leaves k) ls →
-      All (λ l. IfSome (event_check k (name_of u) (parts_at l)) P) (all_named u ls)
-  named-seen k u z [] h = All-nil (λ l. IfSome (event_check k (name_of u) (parts_at l)) P)
+      All (Gives k u) (all_named u ls)
+  named-seen k u z [] h = All-nil (Gives k u)
   named-seen k u z (l ∷ ls) h = by_test (is_named u l) refl (named-seen k u z ls (All-tail (Leaves k) l ls h))
     where
       by_content : (o : Option Parts) → bytes_eq (property_name o) u ≡ true → IfSome (content_check k o) P →
@@ -112,11 +111,9 @@ module _ (P : DeferredCheck → Type 0) where
       by_content None e h = cc
       by_content (Some v) e h = subst (λ n. IfSome (event_check k (name_of n) v) P) (equal (map upper v.name) u e) h
 
-      by_test : (t : Bool) → is_named u l ≡ t → All (λ l. IfSome (event_check k (name_of u) (parts_at l)) P) (all_named u ls) →
-          All (λ l. IfSome (event_check k (name_of u) (parts_at l)) P) (cond t (l ∷ all_named u ls) (all_named u ls))
-      by_test true e r =
-          All-cons (λ l. IfSome (event_check k (name_of u) (parts_at l)) P) l (all_named u ls)
-          (by_content l.content e (All-head (Leaves k) l ls h)) r
+      by_test : (t : Bool) → is_named u l ≡ t → All (Gives k u) (all_named u ls) →
+          All (Gives k u) (cond t (l ∷ all_named u ls) (all_named u ls))
+      by_test true e r = All-cons (Gives k u) l (all_named u ls) (by_content l.content e (All-head (Leaves k) l ls h)) r
       by_test false e r = r
 
   first-seen : (k : ℕ) (ls : List Placed) → All (λ l. IfSome (used_zone k (dated_on l)) P) ls → IfSome (used_in k (option_map dated_on (first_of ls))) P
@@ -124,32 +121,24 @@ module _ (P : DeferredCheck → Type 0) where
   first-seen k (l ∷ ls) h = All-head (λ l. IfSome (used_zone k (dated_on l)) P) l ls h
 
   -- the length of an event is checked on its END
-  end-seen : (whole own : List Placed) (l : Placed) → ends_event l ≡ true → IfSome (later_by l.content (frame_of whole l.path own)) P →
-      IfSome (ends_in (calendar_of l.path) (first_dated (codes "DTSTART") own) (first_dated (codes "DTEND") own)) P
-  end-seen whole own l t h = by_content l.content (both-true _ _ (both-true _ _ t).0).0 h
+  end-seen : (whole own : List Placed) (path : List Open) (o : Option Parts) → bytes_eq (property_name o) (codes "END") ≡ true →
+      is_event_context (context_of path) ≡ true → IfSome (later_by o (frame_of whole path own)) P →
+      IfSome (ends_in (calendar_of path) (first_dated (codes "DTSTART") own) (first_dated (codes "DTEND") own)) P
+  end-seen whole own path None e q h = cc
+  end-seen whole own path (Some v) e q h =
+      by_context (context_of path) q (subst (λ n. IfSome (check_in n v (frame_of whole path own)) P) (end-name (map upper v.name) e) h)
     where
-      both-true : (a b : Bool) → (a && b) ≡ true → (a ≡ true) × (b ≡ true)
-      both-true true b e = (refl, e)
-      both-true false b e = cc
-
-      at : (q : Context) → is_event_context q ≡ true → (n : Name) → n ≡ name.End → (v : Parts) →
-          IfSome (check_in n v (frame_at (top_component l.path) q (readings whole l.path own))) P →
-          IfSome (ends_in (calendar_of l.path) (first_dated (codes "DTSTART") own) (first_dated (codes "DTEND") own)) P
-      at context.Event e name.End m v h = h
-      at context.Event e _ m v h = cc
-      at _ e n m v h = cc
-
-      by_content : (o : Option Parts) → bytes_eq (property_name o) (codes "END") ≡ true → IfSome (later_by o (frame_of whole l.path own)) P →
-          IfSome (ends_in (calendar_of l.path) (first_dated (codes "DTSTART") own) (first_dated (codes "DTEND") own)) P
-      by_content None e h = cc
-      by_content (Some v) e h =
-          at (context_of l.path) (both-true _ _ t).1 (name_of (map upper v.name)) (end-name (map upper v.name) e) v h
+      by_context : (q : Context) → is_event_context q ≡ true → IfSome (end_check (calendar_of path) (builder_at q (readings whole path own))) P →
+          IfSome (ends_in (calendar_of path) (first_dated (codes "DTSTART") own) (first_dated (codes "DTEND") own)) P
+      by_context context.Event e h = h
+      by_context _ e h = cc
 
   event-awaited : (whole own : List Placed) (l : Placed) → ends_event l ≡ true → All IsSeen own → Together l.path own →
       IfSome (later_by l.content (frame_of whole l.path own)) P → EachZone P (event_ended (calendar_of l.path) (collected_of own))
   event-awaited whole own l t s h c =
       let k : ℕ = calendar_of l.path in
-      let inside : is_event_context (context_of l.path) ≡ true = second-true (is_closing l) _ t in
+      let closing = both-true (is_closing l) _ t in
+      let inside : is_event_context (context_of l.path) ≡ true = closing.1 in
       let places : All (λ (m : Placed). m.path ≡ l.path) own = together-in is_event_context l.path own refl inside h in
       let leave : All (Leaves k) own =
       λ i d lt. subst (λ (p : List Open). is_event_context (context_of p) ≡ true → Leaves (calendar_of p) (get_or own i d)) (places i d lt) (s i d lt) inside in
@@ -163,12 +152,9 @@ module _ (P : DeferredCheck → Type 0) where
             All-map (λ list. IfSome (listed_zone k list) P) exdates_on (all_named (codes "EXDATE") own) (named-seen k (codes "EXDATE") refl own leave);
         recurrence = first-seen k _ (named-seen k (codes "RECURRENCE-ID") refl own leave);
         length =
-            length-looked k (first_dated (codes "DTSTART") own) (first_dated (codes "DTEND") own) (collected_of own).duration (end-seen whole own l t c);
+            length-looked k (first_dated (codes "DTSTART") own) (first_dated (codes "DTEND") own) (collected_of own).duration
+            (end-seen whole own l.path l.content (both-true (is_end l) _ closing.0).0 inside c);
       }
-    where
-      second-true : (a b : Bool) → (a && b) ≡ true → b ≡ true
-      second-true true b e = e
-      second-true false b e = cc
 
   pub events-awaited : (whole before lines : List Placed) → All IsSeen before → All (λ w. P w.check) (checks_from whole before lines) →
       AreTogether before lines → All (EachZone P) (ended_from events before lines)
@@ -193,26 +179,22 @@ instant-sound name (stamp.Zoned local) h = h
 instant-sound name _ h = tt
 
 compared-sound : (a b : Option Instant) → IfSome a IsSoundInstant → IfSome b IsSoundInstant → IfSome (both_compared a b) IsSoundCheck
-compared-sound None b h k = tt
-compared-sound (Some a) None h k = tt
 compared-sound (Some (instant.Utc a)) (Some (instant.Utc b)) h k = by_test (is_out (local_seconds a) (local_seconds b))
   where
     by_test : (t : Bool) → IfSome (cond t (Some check.End) None) IsSoundCheck
     by_test true = tt
     by_test false = tt
-compared-sound (Some (instant.Utc a)) (Some (instant.Zoned b name)) h k = (h, k)
-compared-sound (Some (instant.Zoned a name)) (Some (instant.Utc b)) h k = (h, k)
-compared-sound (Some (instant.Zoned a name)) (Some (instant.Zoned b other)) h k = (h, k)
+compared-sound (Some _) (Some _) h k = (h, k)
+compared-sound _ _ h k = tt
 
 ends-sound : (calendar : ℕ) (start end : Option Dated) → IfSome start (λ d. IsSoundStamp d.stamp) → IfSome end (λ d. IsSoundStamp d.stamp) →
     IfSome (ends_in calendar start end) IsSoundCheck
-ends-sound k None end h i = tt
-ends-sound k (Some a) None h i = tt
 ends-sound k (Some a) (Some b) h i = by_test (are_of_one_zone a b)
   where
     by_test : (t : Bool) → IfSome (cond t None (both_compared (instant_in k a) (instant_in k b))) IsSoundCheck
     by_test true = tt
     by_test false = compared-sound (instant_in k a) (instant_in k b) (instant-sound (zone_used k a) a.stamp h) (instant-sound (zone_used k b) b.stamp i)
+ends-sound k _ _ h i = tt
 
 zone-sound : (used : Bool) (name : ZoneName) → IfSome (cond used (Some (check.Zone name)) None) IsSoundCheck
 zone-sound true name = tt

@@ -187,6 +187,10 @@ here : (t b : Bool) → t ≡ true → (t && b) ≡ false → b ≡ false
 here true b e h = h
 here false b e h = cc
 
+pub both-true : (a b : Bool) → (a && b) ≡ true → (a ≡ true) × (b ≡ true)
+both-true true b e = (refl, e)
+both-true false b e = cc
+
 not-false : (b : Bool) → not b ≡ false → b ≡ true
 not-false true h = refl
 not-false false h = cc
@@ -206,7 +210,7 @@ not-empty (o ∷ os) h = λ e. cc
 zone-sound : (whole own : List Placed) (l : Placed) → ends_zone l ≡ true → find (λ kind. stands kind own l) kinds ≡ None → Together l.path own →
     IsSoundZone (parts whole own)
 zone-sound whole own l t e h =
-    let z : in_zone l ≡ true = both (is_closing l) (in_zone l) t in
+    let z : in_zone l ≡ true = (both-true (is_closing l) (in_zone l) t).1 in
     let some : list_any begins_observance own ≡ true =
     not-false _ (here (ends_zone l) _ t (none-found (λ kind. stands kind own l) (take 7 kinds) (drop 8 kinds) NoObservance e)) in
     let there : not (length (parts whole own) == 0) ≡ true =
@@ -216,10 +220,6 @@ zone-sound whole own l t e h =
       filled = not-empty (parts whole own) there;
       sound = All-map IsSoundObservance (observance_at whole) begun (λ i d lt. observance-sound (lines_in (get_or begun i d).number whole));
     }
-  where
-    both : (a b : Bool) → (a && b) ≡ true → b ≡ true
-    both true b h = h
-    both false b h = cc
 
 pub zones-sound : (whole before lines : List Placed) → NoneStand stands before lines → AreTogether before lines →
     All (λ z. IsSoundZone z.observances) (ended_from (zones whole) before lines)
