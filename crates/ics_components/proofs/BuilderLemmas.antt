@@ -69,7 +69,6 @@ observance-noted : (n : Name) (u : List ℕ) (v : Parts) (had : ObservanceBuilde
       rdates = cond (bytes_eq u (codes "RDATE")) (had.rdates ++ filter_map local_in (rdates_of false v.value)) had.rdates;
     } ≡ observance_note n v had
 observance-noted name.Other u v had e = simp (e.no_dtstart, e.no_offset_from, e.no_offset_to, e.no_rrule, e.no_rdate) refl
-observance-noted name.Begin u v had e = rw e refl
 observance-noted _ u v had e = rw e refl
 
 pub observance_of-more : (ls : List Placed) (l : Placed) →

@@ -18,7 +18,7 @@ use Rattle.ics_values.specs.declared.stamp.StampFault.TheVariants as stamp
 use Rattle.ics_components.specs.DateValues.{DateValue, At, Between, Lasting, date_time_of, period_of, rdate_of, listed_in, has_bad_stamp}
 use Rattle.ics_components.specs.DateValues.{has_far_stamp, has_bad_duration, has_large_duration, is_not_local}
 use Rattle.ics_values.specs.declared.duration.DurationFault.TheVariants as duration_fault
-use Rattle.ics_values.specs.declared.stamp.Stamp.TheVariants.{Date, Floating, Utc, Zoned}
+use Rattle.ics_values.specs.declared.stamp.Stamp.TheVariants.{Floating}
 use Rattle.ics_fields.specs.declared.local.Local.{Local}
 use Rattle.ics_components.specs.declared.date_list.ListedDate.{ListedDate}
 use Rattle.ics_components.specs.declared.fault.FaultKind.{FaultKind}
@@ -173,27 +173,16 @@ onsets-append vs ws =
 
 -- A VALUE says something, or has a least fault.
 judged-is : (v : DateValue) → judged v ≡ unless (dates_fault (v ∷ [])) (listed_in v)
-judged-is (At (Ok s)) = refl
 judged-is (At (Err stamp.BadStamp)) = refl
-judged-is (At (Err stamp.YearRange)) = refl
-judged-is (Between (Ok s) (Ok e)) = refl
+judged-is (At _) = refl
 judged-is (Between (Ok s) (Err stamp.BadStamp)) = refl
-judged-is (Between (Ok s) (Err stamp.YearRange)) = refl
-judged-is (Between (Err stamp.BadStamp) (Ok e)) = refl
-judged-is (Between (Err stamp.YearRange) (Ok e)) = refl
 judged-is (Between (Err stamp.BadStamp) (Err stamp.BadStamp)) = refl
-judged-is (Between (Err stamp.BadStamp) (Err stamp.YearRange)) = refl
 judged-is (Between (Err stamp.YearRange) (Err stamp.BadStamp)) = refl
-judged-is (Between (Err stamp.YearRange) (Err stamp.YearRange)) = refl
-judged-is (Lasting (Ok s) (Ok d)) = refl
+judged-is (Between _ _) = refl
 judged-is (Lasting (Ok s) (Err duration_fault.BadDuration)) = refl
-judged-is (Lasting (Ok s) (Err duration_fault.NumberTooLarge)) = refl
-judged-is (Lasting (Err stamp.BadStamp) (Ok d)) = refl
-judged-is (Lasting (Err stamp.YearRange) (Ok d)) = refl
 judged-is (Lasting (Err stamp.BadStamp) (Err duration_fault.BadDuration)) = refl
-judged-is (Lasting (Err stamp.BadStamp) (Err duration_fault.NumberTooLarge)) = refl
 judged-is (Lasting (Err stamp.YearRange) (Err duration_fault.BadDuration)) = refl
-judged-is (Lasting (Err stamp.YearRange) (Err duration_fault.NumberTooLarge)) = refl
+judged-is (Lasting _ _) = refl
 
 unless-ok : {X : Type 0} (o : Option FaultKind) (x y : X) → unless o x ≡ Ok y → (o ≡ None) × (x ≡ y)
 unless-ok None x y e = (refl, cc)
@@ -243,11 +232,8 @@ period-said v other none refused = rw (judged-is v, other, none) (by_fault (date
 
 onset-said : (v : DateValue) → (onsets_fault (v ∷ []) ≡ result_err (onset_judged (judged v))) × (local_in v ≡ result_ok (onset_judged (judged v)))
 onset-said (At (Ok (Floating local))) = (refl, refl)
-onset-said (At (Ok (Date day))) = (refl, refl)
-onset-said (At (Ok (Utc local))) = (refl, refl)
-onset-said (At (Ok (Zoned local))) = (refl, refl)
 onset-said (At (Err stamp.BadStamp)) = (refl, refl)
-onset-said (At (Err stamp.YearRange)) = (refl, refl)
+onset-said (At _) = (refl, refl)
 onset-said (Between r q) = period-said (Between r q) refl refl refl
 onset-said (Lasting r d) = period-said (Lasting r d) refl refl refl
 

@@ -75,26 +75,6 @@ noted : (n : Name) (u : List ℕ) (v : Parts) (had : EventBuilder) → Tells u n
       description = cond (bytes_eq u (codes "DESCRIPTION")) (or_first had.description (text_of v.value)) had.description;
       cancelled = cond (bytes_eq u (codes "STATUS")) (or_first had.cancelled (is_cancelled v.value)) had.cancelled;
     } ≡ event_note n v had
-noted name.Begin u v had e = rw e refl
-noted name.End u v had e = rw e refl
-noted name.Uid u v had e = rw e refl
-noted name.Dtstart u v had e = rw e refl
-noted name.Dtend u v had e = rw e refl
-noted name.Duration u v had e = rw e refl
-noted name.Rrule u v had e = rw e refl
-noted name.RecurrenceId u v had e = rw e refl
-noted name.Sequence u v had e = rw e refl
-noted name.Rdate u v had e = rw e refl
-noted name.Exdate u v had e = rw e refl
-noted name.Exrule u v had e = rw e refl
-noted name.Version u v had e = rw e refl
-noted name.Summary u v had e = rw e refl
-noted name.Location u v had e = rw e refl
-noted name.Description u v had e = rw e refl
-noted name.Status u v had e = rw e refl
-noted name.Tzid u v had e = rw e refl
-noted name.OffsetFrom u v had e = rw e refl
-noted name.OffsetTo u v had e = rw e refl
 noted name.Other u v had e =
     simp (
       e.no_uid,
@@ -111,6 +91,7 @@ noted name.Other u v had e =
       e.no_description,
       e.no_status,
     ) refl
+noted _ u v had e = rw e refl
 
 -- WHAT IS COLLECTED of an event, with one line more.
 pub collected_of-more : (ls : List Placed) (l : Placed) →

@@ -145,12 +145,8 @@ pub component_name-of : (u : List ℕ) → component_name (component_of u) ≡ u
 component_name-of u = named (component_of u) (tells_component u)
   where
     named : (c : Component) → TellsComponent u c → component_name c ≡ u
-    named component.Calendar e = cc
-    named component.Event e = cc
-    named component.Zone e = cc
-    named component.Standard e = cc
-    named component.Daylight e = cc
     named (component.Other w) e = e.1
+    named _ e = cc
 
 -- no component stands outside all components
 pub context-in-outside : (q : Context) (c : Component) → context_in q c ≢ context.Outside

@@ -19,7 +19,7 @@ use Rattle.ics_values.specs.declared.offset.BadOffset.{BadOffset as OffsetFault}
 use Rattle.ics_values.specs.declared.rule_text.RuleFault.{RuleFault}
 use Rattle.ics_values.specs.declared.rule_text.RuleFault.TheVariants as rule_fault
 use Rattle.ics_values.specs.declared.stamp.Stamp.{Stamp}
-use Rattle.ics_values.specs.declared.stamp.Stamp.TheVariants.{Date, Floating, Utc, Zoned}
+use Rattle.ics_values.specs.declared.stamp.Stamp.TheVariants.{Floating}
 use Rattle.ics_values.specs.declared.stamp.StampFault.{StampFault}
 use Rattle.ics_values.specs.declared.stamp.StampFault.TheVariants as stamp_fault
 use Rattle.ics_components.specs.declared.event_builder.EventBuilder.{EventBuilder}
@@ -160,39 +160,32 @@ or-false false = refl
 -- what a value meets, and then what its line meets
 stamp-row : (r : Result Stamp StampFault) (m : Option FaultKind) →
     cond (is_bad_stamp r) (Some BadStamp) (cond (is_far_stamp r) (Some YearRange) m) ≡ first (stamp_fault_of r) m
-stamp-row (Ok s) m = refl
 stamp-row (Err stamp_fault.BadStamp) m = refl
-stamp-row (Err stamp_fault.YearRange) m = refl
+stamp-row _ m = refl
 
 recurrence-row : (r : Result Stamp StampFault) (h t : Bool) →
     cond (is_bad_stamp r) (Some BadStamp) (cond (is_far_stamp r) (Some YearRange) (cond h (Some Repeated) (cond t (Some ThisAndFuture) None)))
     ≡ first (first (stamp_fault_of r) (fault_if Repeated h)) (fault_if ThisAndFuture t)
 recurrence-row (Ok s) true t = refl
-recurrence-row (Ok s) false t = refl
 recurrence-row (Err stamp_fault.BadStamp) h t = refl
-recurrence-row (Err stamp_fault.YearRange) h t = refl
+recurrence-row _ h t = refl
 
 onset-row : (r : Result Stamp StampFault) (h : Bool) →
     cond (is_bad_stamp r) (Some BadStamp) (cond (is_far_stamp r) (Some YearRange) (cond (is_not_local (At r) || h) (Some ObservanceField) None))
     ≡ first (first (stamp_fault_of r) (fault_if ObservanceField (is_not_local (At r)))) (fault_if ObservanceField h)
 onset-row (Ok (Floating local)) h = refl
-onset-row (Ok (Date day)) h = refl
-onset-row (Ok (Utc local)) h = refl
-onset-row (Ok (Zoned local)) h = refl
 onset-row (Err stamp_fault.BadStamp) h = refl
-onset-row (Err stamp_fault.YearRange) h = refl
+onset-row _ h = refl
 
 duration-row : (d : Result Duration DurationFault) (m : Option FaultKind) →
     cond (is_bad_duration d) (Some BadDuration) (cond (is_large_duration d) (Some NumberTooLarge) m) ≡ first (duration_fault_of d) m
-duration-row (Ok d) m = refl
 duration-row (Err duration_fault.BadDuration) m = refl
-duration-row (Err duration_fault.NumberTooLarge) m = refl
+duration-row _ m = refl
 
 rule-row : (r : Result RuleParts RuleFault) (m : Option FaultKind) →
     cond (is_bad_rule r) (Some BadRule) (cond (is_large_rule r) (Some NumberTooLarge) m) ≡ first (rule_fault_of r) m
-rule-row (Ok parts) m = refl
 rule-row (Err rule_fault.BadRule) m = refl
-rule-row (Err rule_fault.NumberTooLarge) m = refl
+rule-row _ m = refl
 
 daily-row : (r : Result RuleParts RuleFault) (h : Bool) →
     cond (is_bad_rule r) (Some BadRule) (cond (is_large_rule r) (Some NumberTooLarge) (cond (h || is_fine_rule r) (Some ZoneRule) None))
@@ -208,9 +201,8 @@ daily-row (Err rule_fault.BadRule) h = refl
 daily-row (Err rule_fault.NumberTooLarge) h = refl
 
 number-row : (n : Result ℕ IntegerFault) (m : Option FaultKind) → cond (is_large_integer n) (Some NumberTooLarge) m ≡ first (number_fault_of n) m
-number-row (Ok n) m = refl
-number-row (Err integer_fault.NotDigits) m = refl
 number-row (Err integer_fault.NumberTooLarge) m = refl
+number-row _ m = refl
 
 offset-row : (o : Result ℤ OffsetFault) (m : Option FaultKind) → cond (is_bad_offset o) (Some BadOffset) m ≡ first (offset_fault_of o) m
 offset-row (Ok o) m = refl
@@ -226,17 +218,10 @@ zone-end false false = refl
 
 observance-end : (a b c : Bool) → cond (not (a && (b && (c && true))) || false) (Some ObservanceField) None ≡ cond (a && b && c) None (Some ObservanceField)
 observance-end true true true = refl
-observance-end true true false = refl
-observance-end true false c = refl
-observance-end false b c = refl
+observance-end _ _ _ = refl
 
 -- each name of a line, with what the pass keeps of its component
 module _ (v : Parts) (c : Component) (cl : Bool) (depth : ℕ) (g : Readings) where
-  pub at-uid : (q : Context) →
-      flat_of (codes "UID") v q cl depth g (is_some g.event.uid) ≡ fault_of name.Uid v c q depth g
-  at-uid context.Event = refl
-  at-uid _ = refl
-
   pub at-dtstart : (q : Context) →
       flat_of (codes "DTSTART") v q cl depth g (start_flag q g) ≡ fault_of name.Dtstart v c q depth g
   at-dtstart context.Observance = simp or-false (onset-row (stamp_of false v.value) (is_some g.observance.start))
@@ -287,41 +272,6 @@ module _ (v : Parts) (c : Component) (cl : Bool) (depth : ℕ) (g : Readings) wh
   at-exdate context.Event h = simp or-false refl
   at-exdate _ h = refl
 
-  pub at-exrule : (q : Context) (h : Bool) →
-      flat_of (codes "EXRULE") v q cl depth g h ≡ fault_of name.Exrule v c q depth g
-  at-exrule context.Event h = refl
-  at-exrule _ h = refl
-
-  pub at-version : (q : Context) (h : Bool) →
-      flat_of (codes "VERSION") v q cl depth g h ≡ fault_of name.Version v c q depth g
-  at-version context.Event h = refl
-  at-version _ h = refl
-
-  pub at-summary : (q : Context) (h : Bool) →
-      flat_of (codes "SUMMARY") v q cl depth g h ≡ fault_of name.Summary v c q depth g
-  at-summary context.Event h = refl
-  at-summary _ h = refl
-
-  pub at-location : (q : Context) (h : Bool) →
-      flat_of (codes "LOCATION") v q cl depth g h ≡ fault_of name.Location v c q depth g
-  at-location context.Event h = refl
-  at-location _ h = refl
-
-  pub at-description : (q : Context) (h : Bool) →
-      flat_of (codes "DESCRIPTION") v q cl depth g h ≡ fault_of name.Description v c q depth g
-  at-description context.Event h = refl
-  at-description _ h = refl
-
-  pub at-status : (q : Context) (h : Bool) →
-      flat_of (codes "STATUS") v q cl depth g h ≡ fault_of name.Status v c q depth g
-  at-status context.Event h = refl
-  at-status _ h = refl
-
-  pub at-tzid : (q : Context) →
-      flat_of (codes "TZID") v q cl depth g (is_some g.zone.name) ≡ fault_of name.Tzid v c q depth g
-  at-tzid context.Event = refl
-  at-tzid _ = refl
-
   pub at-offset_from : (q : Context) →
       flat_of (codes "TZOFFSETFROM") v q cl depth g (is_some g.observance.from) ≡ fault_of name.OffsetFrom v c q depth g
   at-offset_from context.Observance = offset-row (offset_of v.value) (fault_if ObservanceField (is_some g.observance.from))
@@ -347,12 +297,8 @@ module _ (v : Parts) (c : Component) (cl : Bool) (depth : ℕ) (g : Readings) wh
   outside-begin : (b : Component) (w : List ℕ) (h : Bool) → TellsComponent w b →
       flat (codes "BEGIN") w v context.Outside cl (nat_le 32 depth) (is_filled g.event.uid) (is_some g.event.start) (bad_end_of g.event) false true h
       ≡ first (outside_fault context.Outside b) (fault_if TooDeep (nat_le 32 depth))
-  outside-begin component.Calendar w h e = rw e refl
-  outside-begin component.Event w h e = rw e refl
-  outside-begin component.Zone w h e = rw e refl
-  outside-begin component.Standard w h e = rw e refl
-  outside-begin component.Daylight w h e = rw e refl
   outside-begin (component.Other n) w h e = simp e.0.no_calendar refl
+  outside-begin _ w h e = rw e refl
 
   pub at-begin : (q : Context) (h : Bool) →
       flat_of (codes "BEGIN") v q cl depth g h ≡ fault_of name.Begin v c q depth g

@@ -28,8 +28,8 @@ use Rattle.ics_components.specs.Observances.{onset_on, offset_on, daily_on, obse
 use Rattle.ics_components.proofs.Judged.{fault_in}
 use Rattle.ics_components.proofs.NameLemmas.{Tells, tells, component_name-of}
 use Rattle.ics_components.proofs.Rows.{Readings, flat, bad_end_of, has_observance, has_fields, is_bare, asked-same, frame_at, flat_of, fault_of, start_flag}
-use Rattle.ics_components.proofs.Rows.{rule_flag, at-uid, at-dtstart, at-dtend, at-duration, at-rrule, at-recurrence_id, at-sequence, at-rdate, at-exdate}
-use Rattle.ics_components.proofs.Rows.{at-exrule, at-version, at-summary, at-location, at-description, at-status, at-tzid, at-offset_from, at-offset_to, at-end}
+use Rattle.ics_components.proofs.Rows.{rule_flag, at-dtstart, at-dtend, at-duration, at-rrule, at-recurrence_id, at-sequence, at-rdate, at-exdate}
+use Rattle.ics_components.proofs.Rows.{at-offset_from, at-offset_to, at-end}
 use Rattle.ics_components.proofs.Rows.{at-begin, at-other}
 
 -- what the pass keeps of a name, where it keeps anything
@@ -46,30 +46,26 @@ flag name.OffsetFrom q g h = is_some g.observance.from
 flag name.OffsetTo q g h = is_some g.observance.to
 flag _ q g h = h
 
-module _ (v : Parts) (c : Component) (q : Context) (cl : Bool) (depth : ℕ) (g : Readings) (h : Bool) where
-  same : (n : Name) (u : List ℕ) → Tells u n → flag n q g h ≡ h →
+module _ (v : Parts) (c : Component) (cl : Bool) (depth : ℕ) (g : Readings) (h : Bool) where
+  same : (n : Name) (q : Context) (u : List ℕ) → Tells u n → flag n q g h ≡ h →
       (is_outside_context q ≡ false → bytes_eq (map upper v.value) (component_name c) ≡ cl) → flat_of u v q cl depth g h ≡ fault_of n v c q depth g
-  same name.Begin u e f m = rw e (at-begin v c cl depth g q h)
-  same name.End u e f m = rw e (at-end v c cl depth g q cl h m)
-  same name.Uid u e f m = rw (e, ← f) (at-uid v c cl depth g q)
-  same name.Dtstart u e f m = rw (e, ← f) (at-dtstart v c cl depth g q)
-  same name.Dtend u e f m = rw (e, ← f) (at-dtend v c cl depth g q)
-  same name.Duration u e f m = rw (e, ← f) (at-duration v c cl depth g q)
-  same name.Rrule u e f m = rw (e, ← f) (at-rrule v c cl depth g q)
-  same name.RecurrenceId u e f m = rw (e, ← f) (at-recurrence_id v c cl depth g q)
-  same name.Sequence u e f m = rw (e, ← f) (at-sequence v c cl depth g q)
-  same name.Tzid u e f m = rw (e, ← f) (at-tzid v c cl depth g q)
-  same name.OffsetFrom u e f m = rw (e, ← f) (at-offset_from v c cl depth g q)
-  same name.OffsetTo u e f m = rw (e, ← f) (at-offset_to v c cl depth g q)
-  same name.Rdate u e f m = rw e (at-rdate v c cl depth g q h)
-  same name.Exdate u e f m = rw e (at-exdate v c cl depth g q h)
-  same name.Exrule u e f m = rw e (at-exrule v c cl depth g q h)
-  same name.Version u e f m = rw e (at-version v c cl depth g q h)
-  same name.Summary u e f m = rw e (at-summary v c cl depth g q h)
-  same name.Location u e f m = rw e (at-location v c cl depth g q h)
-  same name.Description u e f m = rw e (at-description v c cl depth g q h)
-  same name.Status u e f m = rw e (at-status v c cl depth g q h)
-  same name.Other u e f m = at-other v c cl depth g u q h e
+  same name.Begin q u e f m = rw e (at-begin v c cl depth g q h)
+  same name.End q u e f m = rw e (at-end v c cl depth g q cl h m)
+  same name.Uid context.Event u e f m = rw (e, ← f) refl
+  same name.Dtstart q u e f m = rw (e, ← f) (at-dtstart v c cl depth g q)
+  same name.Dtend q u e f m = rw (e, ← f) (at-dtend v c cl depth g q)
+  same name.Duration q u e f m = rw (e, ← f) (at-duration v c cl depth g q)
+  same name.Rrule q u e f m = rw (e, ← f) (at-rrule v c cl depth g q)
+  same name.RecurrenceId q u e f m = rw (e, ← f) (at-recurrence_id v c cl depth g q)
+  same name.Sequence q u e f m = rw (e, ← f) (at-sequence v c cl depth g q)
+  same name.Tzid context.Zone u e f m = rw (e, ← f) refl
+  same name.OffsetFrom q u e f m = rw (e, ← f) (at-offset_from v c cl depth g q)
+  same name.OffsetTo q u e f m = rw (e, ← f) (at-offset_to v c cl depth g q)
+  same name.Rdate q u e f m = rw e (at-rdate v c cl depth g q h)
+  same name.Exdate q u e f m = rw e (at-exdate v c cl depth g q h)
+  same name.Other q u e f m = at-other v c cl depth g u q h e
+  same _ context.Event u e f m = rw e refl
+  same _ _ u e f m = rw e refl
 
 -- a line has the name exactly where the first such line says something
 pub has-first : {X : Type 0} (f : Placed → X) (n : List ℕ) (ls : List Placed) → is_some (option_map f (first_named n ls)) ≡ has n ls
@@ -183,12 +179,12 @@ pub least-same : (whole : List Placed) (path : List Open) (number : ℕ) (v : Pa
 least-same whole [] number v ls asked =
     let u : List ℕ = map upper v.name in
     tests-same whole [] ls u v context.Outside false (nat_le 32 0) asked
-    ∙ same v (component.Other []) context.Outside false 0 (readings whole [] ls) (has u ls) (name_of u) u (tells u)
+    ∙ same v (component.Other []) false 0 (readings whole [] ls) (has u ls) (name_of u) context.Outside u (tells u)
     (flag-readings whole [] ls (name_of u) context.Outside u (tells u)) (λ e. cc)
 least-same whole (c ∷ cs) number v ls asked =
     let u : List ℕ = map upper v.name in
     let cl : Bool = closes (c ∷ cs) (map upper v.value) in
     tests-same whole (c ∷ cs) ls u v (context_of (c ∷ cs)) cl (nat_le 32 (length (c ∷ cs))) asked
-    ∙ same v (component_of c.name) (context_of (c ∷ cs)) cl (length (c ∷ cs)) (readings whole (c ∷ cs) ls) (has u ls) (name_of u) u (tells u)
+    ∙ same v (component_of c.name) cl (length (c ∷ cs)) (readings whole (c ∷ cs) ls) (has u ls) (name_of u) (context_of (c ∷ cs)) u (tells u)
     (flag-readings whole (c ∷ cs) ls (name_of u) (context_of (c ∷ cs)) u (tells u))
     (λ e. ap (bytes_eq (map upper v.value)) (component_name-of c.name))
