@@ -46,9 +46,7 @@ use Rattle.ics_components.proofs.Frames.{with}
 -- AN END against its start, as the table finds it and as it is judged.
 moment-is : (known : KnownZones) (name : ZoneName) (s : Stamp) → moment_on known name s ≡ option_and_then (moment_of known) (instant_on name s)
 moment-is known name (stamp.Utc local) = refl
-moment-is known name (stamp.Zoned local) = refl
-moment-is known name (stamp.Date day) = refl
-moment-is known name (stamp.Floating local) = refl
+moment-is known name _ = refl
 
 out-none : (o : Option ℤ) → are_out o None ≡ false
 out-none None = refl
@@ -64,9 +62,8 @@ compared-judged known (Some (instant.Utc a)) (Some (instant.Utc b)) = when (is_o
     when : (t : Bool) → cond t (Some BadEnd) None ≡ option_and_then (judged known) (cond t (Some check.End) None)
     when true = refl
     when false = refl
-compared-judged known (Some (instant.Utc a)) (Some (instant.Zoned b name)) = refl
 compared-judged known (Some (instant.Zoned a name)) (Some (instant.Utc b)) = refl
-compared-judged known (Some (instant.Zoned a name)) (Some (instant.Zoned b other)) = refl
+compared-judged known (Some _) (Some _) = refl
 
 ends-judged : (known : KnownZones) (calendar : ℕ) (start end : Option Dated) →
     cond (ends_badly_later known calendar start end) (Some BadEnd) None ≡ option_and_then (judged known) (ends_in calendar start end)
@@ -128,15 +125,13 @@ no-zone index k (Some a) None = refl
 no-zone index k (Some a) (Some b) = by_test (are_of_one_zone a b)
   where
     by_instants : (s t : Option Instant) → option_and_then (unknown_in index) (both_compared s t) ≡ None
-    by_instants None t = refl
-    by_instants (Some s) None = refl
     by_instants (Some (instant.Utc a)) (Some (instant.Utc b)) = when (is_out (local_seconds a) (local_seconds b))
       where
         when : (t : Bool) → option_and_then (unknown_in index) (cond t (Some check.End) None) ≡ None
         when true = refl
         when false = refl
-    by_instants (Some (instant.Utc a)) (Some (instant.Zoned b name)) = refl
-    by_instants (Some (instant.Zoned a name)) (Some t) = refl
+    by_instants (Some (instant.Zoned a name)) None = refl
+    by_instants _ _ = refl
 
     by_test : (t : Bool) → option_and_then (unknown_in index) (cond t None (both_compared (instant_in k a) (instant_in k b))) ≡ None
     by_test true = refl
@@ -157,16 +152,8 @@ module _ (v : Parts) (g : Readings) where
     leaves name.End _ true e m = inr (rw e refl, refl)
     leaves name.End q false e m = let h : true ≡ false =
         subst (λ (u : List ℕ). (bytes_eq u (codes "END") && not (bytes_eq u (codes "END") && false)) ≡ false) e m in inr (cc, cc)
-    leaves name.Dtstart context.Event cl e m = inr (rw e refl, rw e refl)
-    leaves name.Dtstart _ cl e m = inr (rw e refl, refl)
-    leaves name.Dtend context.Event cl e m = inr (rw e refl, rw e refl)
-    leaves name.Dtend _ cl e m = inr (rw e refl, refl)
-    leaves name.RecurrenceId context.Event cl e m = inr (rw e refl, rw e refl)
-    leaves name.RecurrenceId _ cl e m = inr (rw e refl, refl)
     leaves name.Rdate context.Event cl e m = inr (rw e refl, rw e (simp or-false refl))
-    leaves name.Rdate _ cl e m = inr (rw e refl, refl)
     leaves name.Exdate context.Event cl e m = inr (rw e refl, rw e (simp or-false refl))
-    leaves name.Exdate _ cl e m = inr (rw e refl, refl)
     leaves name.Other context.Event cl e m = inr (simp e.no_end refl, simp (e.no_rdate, e.no_exdate, e.no_dtstart, e.no_dtend, e.no_recurrence_id) refl)
     leaves name.Other _ cl e m = inr (simp e.no_end refl, refl)
     leaves _ context.Event cl e m = inr (rw e refl, rw e refl)
