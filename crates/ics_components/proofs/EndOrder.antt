@@ -72,21 +72,16 @@ event-begins q w = by_context q (component_of w) (tells_component w)
     by_context context.Zone _ e = refl
     by_context _ c e = refl
 
--- what begins an event stands in a calendar
-in-calendar : (q : Context) (c : Component) → is_event_context (context_in q c) ≡ true → is_calendar_context q ≡ true
-in-calendar context.Outside kind.Calendar e = cc
-in-calendar context.Outside _ e = cc
-in-calendar context.Calendar c e = refl
-in-calendar context.Zone kind.Standard e = cc
-in-calendar context.Zone _ e = cc
-in-calendar _ c e = cc
+first-true : (a b : Bool) → (a && b) ≡ true → a ≡ true
+first-true true b e = refl
+first-true false b e = cc
 
 pub events-are : IsSort events
 events-are = record {
   starts =
       λ l. reorder (is_calendar_context (context_of l.path)) (is_begin l) (bytes_eq (component l) (codes "VEVENT"))
       ∙ ap (λ t. is_begin l && t) (sym (event-begins (context_of l.path) (component l)));
-  alone = λ whole l e. calendar-holds events calendar-no-event whole l.path (in-calendar (context_of l.path) (component_of (component l)) e);
+  alone = λ whole l e. calendar-holds events calendar-no-event whole l.path (first-true _ _ (sym (event-begins (context_of l.path) (component l)) ∙ e));
   ends = λ path ls l e. ap (event_ended (calendar_of path)) (event-end ls l e);
 }
 
@@ -115,15 +110,6 @@ zone-begins q w = by_context q (component_of w) (tells_component w)
     by_context context.Zone _ e = refl
     by_context _ c e = refl
 
--- what begins a time zone stands in a calendar
-zone-from : (q : Context) (c : Component) → is_zone_context (context_in q c) ≡ true → is_calendar_context q ≡ true
-zone-from context.Outside kind.Calendar e = cc
-zone-from context.Outside _ e = cc
-zone-from context.Calendar c e = refl
-zone-from context.Zone kind.Standard e = cc
-zone-from context.Zone _ e = cc
-zone-from _ c e = cc
-
 calendar-no-zone : (q : Context) → is_calendar_context q ≡ true → is_zone_context q ≡ false
 calendar-no-zone context.Calendar e = refl
 calendar-no-zone context.Zone e = cc
@@ -134,7 +120,7 @@ zones-are whole = record {
   starts =
       λ l. reorder (is_calendar_context (context_of l.path)) (is_begin l) (bytes_eq (component l) (codes "VTIMEZONE"))
       ∙ ap (λ t. is_begin l && t) (sym (zone-begins (context_of l.path) (component l)));
-  alone = λ all l e. calendar-holds (zones whole) calendar-no-zone all l.path (zone-from (context_of l.path) (component_of (component l)) e);
+  alone = λ all l e. calendar-holds (zones whole) calendar-no-zone all l.path (first-true _ _ (sym (zone-begins (context_of l.path) (component l)) ∙ e));
   ends = λ path ls l e. ap (zone_ended (calendar_of path)) (zone-end whole ls l e);
 }
 
