@@ -25,7 +25,8 @@ use Rattle.ics_components.specs.Builders.{event_ended}
 use Rattle.ics_components.specs.Components.{is_event_context}
 use Rattle.ics_components.specs.Faults.{first_dated, dated_on, rdates_on, exdates_on}
 use Rattle.ics_components.specs.Names.{name_of}
-use Rattle.ics_components.specs.PlacedLines.{Placed, Open, beside, innermost, calendar_of, context_of, property_name, params_of, value_of, is_named, all_named, first_of}
+use Rattle.ics_components.specs.PlacedLines.{Placed, Open, beside, innermost, calendar_of, context_of, property_name, params_of, value_of, is_named}
+use Rattle.ics_components.specs.PlacedLines.{all_named, first_of}
 use Rattle.ics_components.specs.PlacedLines.{ends_event, is_closing, is_end}
 use Rattle.ics_fields.specs.Locals.{local_seconds}
 use Rattle.ics_components.specs.Gathered.{IsSoundInstant, IsSoundCheck, checks_of}

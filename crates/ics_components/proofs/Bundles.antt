@@ -1,5 +1,6 @@
 -- A pass that keeps, for each open component, the lines directly in it has at each line those that stand beside it.
-use Rattle.std.proofs.Common.{◌≡◌, ◌≢◌, ℕ, ◌<◌, ◌≤◌, Bool, true, false, ◌&&◌, ◌||◌, ◌==◌, List, [], ◌∷◌, ◌++◌, drop, refl, sym, ap, subst, ◌∙◌, arith, cond, inl, inr}
+use Rattle.std.proofs.Common.{◌≡◌, ◌≢◌, ℕ, ◌<◌, ◌≤◌, Bool, true, false, ◌&&◌, ◌||◌, ◌==◌, List, [], ◌∷◌, ◌++◌, drop, refl, sym, ap, subst, ◌∙◌, arith, cond}
+use Rattle.std.proofs.Common.{inl, inr}
 use Rattle.std.specs.Prelude.{if◌then◌else◌}
 use Rattle.std.specs.List.{All, list_any}
 use Rattle.std.proofs.lemmas.Bool.Decides.{eqb_tells}
@@ -8,7 +9,8 @@ use Rattle.std.proofs.lemmas.List.Elements.{All-nil, All-head, All-tail, All-pus
 use Rattle.ics_components.specs.Components.{is_zone_context}
 use Rattle.ics_components.specs.declared.component.Context.{Context}
 use Rattle.ics_components.specs.declared.component.Context.TheVariants as context
-use Rattle.ics_components.specs.PlacedLines.{Placed, Open, context_of, in_zone, is_begin, is_end, begins_observance, component, path_behind, innermost, lines_in, beside}
+use Rattle.ics_components.specs.PlacedLines.{Placed, Open, context_of, in_zone, is_begin, is_end, begins_observance, component, path_behind, innermost}
+use Rattle.ics_components.specs.PlacedLines.{lines_in, beside}
 use Rattle.ics_components.specs.Observances.{begins_in_zone}
 use Rattle.ics_components.proofs.Order.{inside}
 use Rattle.ics_components.proofs.Order.{Falls}

@@ -1,5 +1,6 @@
 -- One pass with the components that are open finds the first fault of round one, and gathers what the lines say.
-use Rattle.std.proofs.Common.{◌≡◌, ℕ, ◌+◌, ◌<◌, ◌≤◌, List, [], ◌∷◌, ◌++◌, map, refl, sym, ap, subst, ◌∙◌, append_assoc, arith, cond, Option, Some, None, Result}
+use Rattle.std.proofs.Common.{◌≡◌, ℕ, ◌+◌, ◌<◌, ◌≤◌, List, [], ◌∷◌, ◌++◌, map, refl, sym, ap, subst, ◌∙◌, append_assoc, arith, cond, Option, Some, None}
+use Rattle.std.proofs.Common.{Result}
 use Rattle.std.proofs.Common.{◌^◌, Err}
 use Rattle.std.specs.Prelude.{find, length}
 use Rattle.std.proofs.lemmas.List.{append-nil}
@@ -27,7 +28,8 @@ use Rattle.ics_components.specs.Names.{name_of}
 use Rattle.ics_components.specs.Pass.{bottom, is_lowest, at_end, unless, Going, on_line, on_content, pass, NumbersFit}
 use Rattle.ics_components.proofs.Judged.{fault_in, fault_on, check_in, check_on, behind, ends, passing, line-is}
 use Rattle.ics_components.proofs.Table.{parts, any-part, frame_of, IsAsked, least-same}
-use Rattle.ics_components.proofs.Bundles.{Bundle, Keeps, Together, Before, falls, top_beside, together, together-in, zone-lines, bundles_behind, keeps, Before-more}
+use Rattle.ics_components.proofs.Bundles.{Bundle, Keeps, Together, Before, falls, top_beside, together, together-in, zone-lines, bundles_behind, keeps}
+use Rattle.ics_components.proofs.Bundles.{Before-more}
 use Rattle.ics_components.proofs.Bundles.{Before-later}
 use Rattle.ics_components.proofs.Bundles.{innermost-behind}
 use Rattle.ics_components.proofs.Frames.{frames_of, top_of, with, Closes, frames-behind, fault-top, check-top, based}

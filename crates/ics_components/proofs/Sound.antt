@@ -12,8 +12,6 @@ use Rattle.ics_fields.specs.Locals.{local_at}
 use Rattle.ics_fields.specs.Observances.{ObservanceSaid, is_finer_than_daily, is_finer_rule}
 use Rattle.ics_fields.specs.RuleParts.{RuleParts}
 use Rattle.ics_fields.specs.Years.{is_stamp_local}
-use Rattle.ics_fields.specs.declared.frequency.Frequency.{Frequency}
-use Rattle.ics_fields.specs.declared.frequency.Frequency.TheVariants as frequency
 use Rattle.ics_fields.specs.declared.local.Local.{Local}
 use Rattle.ics_values.specs.Offsets.{is_offset_form, is_offset_text, offset_hours, offset_minutes, offset_seconds, offset_size, offset_said, offset_of}
 use Rattle.ics_values.specs.Periods.{first_half, second_half, lasts}
@@ -33,9 +31,10 @@ use Rattle.ics_components.specs.Faults.{stands, kinds, dated_on, duration_on, rd
 use Rattle.ics_components.specs.FirstFault.{NoneStand}
 use Rattle.ics_components.specs.GivenTimes.{dated_in, given_length}
 use Rattle.ics_components.specs.Observances.{local_in, onset_in, offset_in, daily_in, onset_on, offset_on, daily_on, onsets_by, observance_by, begins_in_zone}
-use Rattle.ics_components.specs.PlacedLines.{Placed, value, params_of, beside, lines_in, calendar_of, has, first_named, all_named, in_zone, ends_event, ends_zone, is_closing, begins_observance}
+use Rattle.ics_components.specs.PlacedLines.{Placed, value, params_of, beside, lines_in, calendar_of, has, first_named, all_named, in_zone, ends_event}
+use Rattle.ics_components.specs.PlacedLines.{ends_zone, is_closing, begins_observance}
 use Rattle.ics_components.specs.Sound.{IsSoundStamp, IsSoundList, IsSoundLength, IsWhole, IsSoundObservance, IsSoundZone}
-use Rattle.ics_components.specs.Values.{zone_name, lasting_of, is_lasting, is_fine, is_filled, ends_badly}
+use Rattle.ics_components.specs.Values.{zone_name, lasting_of, is_lasting, is_filled, ends_badly}
 use Rattle.ics_components.specs.declared.dated.Dated.{Dated}
 use Rattle.ics_components.specs.declared.fault.FaultKind.{FaultKind}
 use Rattle.ics_components.specs.declared.fault.FaultKind.TheVariants.{NoObservance, MissingUid, MissingStart, BadEnd}
@@ -94,11 +93,11 @@ offset-sound text = by_result (offset_of text) refl
     by_result (Ok o) e = offset-within text o e
     by_result (Err fault) e = zero-within
 
-daily-sound : (r : Result RuleParts RuleFault) → is_fine (daily_in r).frequency ≡ false
+daily-sound : (r : Result RuleParts RuleFault) → is_finer_than_daily (daily_in r).frequency ≡ false
 daily-sound (Err fault) = refl
-daily-sound (Ok parts) = by_test (is_fine parts.frequency) refl
+daily-sound (Ok parts) = by_test (is_finer_than_daily parts.frequency) refl
   where
-    by_test : (t : Bool) → is_fine parts.frequency ≡ t → is_fine (daily_in (Ok parts)).frequency ≡ false
+    by_test : (t : Bool) → is_finer_than_daily parts.frequency ≡ t → is_finer_than_daily (daily_in (Ok parts)).frequency ≡ false
     by_test true e = rw e refl
     by_test false e = rw e e
 
@@ -153,15 +152,9 @@ locals-tests : (locals : List Local) → All IsSoundLocal locals → IsTrue (lis
 locals-tests [] h = refl
 locals-tests (l ∷ ls) h = rw (local-tests l (All-head IsSoundLocal l ls h)) (locals-tests ls (All-tail IsSoundLocal l ls h))
 
-daily : (f : Frequency) → is_fine f ≡ false → is_finer_than_daily f ≡ false
-daily frequency.Secondly e = cc
-daily frequency.Minutely e = cc
-daily frequency.Hourly e = cc
-daily _ e = refl
-
 rule-daily : (o : Option Placed) → is_finer_rule (option_map daily_on o) ≡ false
 rule-daily None = refl
-rule-daily (Some l) = daily (daily_on l).frequency (daily-sound (rule_on l))
+rule-daily (Some l) = daily-sound (rule_on l)
 
 observance-sound : (own : List Placed) → IsSoundObservance (observance_by own)
 observance-sound own =

@@ -6,6 +6,7 @@ use Rattle.std.specs.Str.{bytes_eq}
 use Rattle.ics_text.specs.Bytes.{upper}
 use Rattle.ics_text.specs.ContentLines.{param_of}
 use Rattle.ics_values.specs.Durations.{duration_of}
+use Rattle.ics_fields.specs.Observances.{is_finer_than_daily}
 use Rattle.ics_fields.specs.RuleParts.{RuleParts, every}
 use Rattle.ics_values.specs.Texts.{begins, is_minus}
 use Rattle.ics_values.specs.Stamps.{stamp_of}
@@ -18,8 +19,7 @@ use Rattle.ics_values.specs.declared.duration.DurationFault.{DurationFault}
 use Rattle.ics_values.specs.declared.duration.DurationFault.TheVariants as duration
 use Rattle.ics_values.specs.declared.integer.IntegerFault.{IntegerFault}
 use Rattle.ics_values.specs.declared.integer.IntegerFault.TheVariants as integer
-use Rattle.ics_fields.specs.declared.frequency.Frequency.{Frequency}
-use Rattle.ics_fields.specs.declared.frequency.Frequency.TheVariants.{Secondly, Minutely, Hourly, Daily}
+use Rattle.ics_fields.specs.declared.frequency.Frequency.TheVariants.{Daily}
 use Rattle.ics_values.specs.declared.offset.BadOffset.{BadOffset}
 use Rattle.ics_values.specs.declared.rule_text.RuleFault.{RuleFault}
 use Rattle.ics_values.specs.declared.rule_text.RuleFault.TheVariants as rule
@@ -94,14 +94,8 @@ is_large_rule (Err rule.NumberTooLarge) = true
 is_large_rule _ = false
 
 -- a rule that repeats more often than daily
-abbrev pub is_fine : Frequency → Bool
-is_fine Secondly = true
-is_fine Minutely = true
-is_fine Hourly = true
-is_fine _ = false
-
 abbrev pub is_fine_rule : Result RuleParts RuleFault → Bool
-is_fine_rule (Ok parts) = is_fine parts.frequency
+is_fine_rule (Ok parts) = is_finer_than_daily parts.frequency
 is_fine_rule (Err fault) = false
 
 abbrev pub is_bad_offset : Result ℤ BadOffset → Bool
