@@ -104,15 +104,12 @@ lasting-agrees (Ok s) (Ok d) minus {p} {v} h k = by_test (is_lasting d) k
     by_test true e = cc
     by_test false e = cc
 lasting-agrees (Ok s) (Err duration.BadDuration) minus h k = cc
-lasting-agrees (Ok s) (Err duration.NumberTooLarge) minus h k = cc
-lasting-agrees (Err f) d minus h k = cc
+lasting-agrees _ _ minus h k = cc
 
 between-agrees : (a b : Result Stamp StampFault) {p : Period} {v : ListedDate} → both (stamp_half a) (at_end (stamp_half b)) ≡ Ok p →
     listed_said (Between a b) ≡ Some v → v ≡ listed_by p
-between-agrees (Ok s) (Ok e) h k = cc
 between-agrees (Ok s) (Err stamp.BadStamp) h k = cc
-between-agrees (Ok s) (Err stamp.YearRange) h k = cc
-between-agrees (Err f) b h k = cc
+between-agrees _ _ h k = cc
 
 -- by the halves of the text
 halves-agree : (zoned : Bool) (one two : List ℕ) {p : Period} {v : ListedDate} → both (half_of zoned one) (period.end_of zoned two) ≡ Ok p →
