@@ -240,6 +240,7 @@ module _ (rule : Recurrence) (allowed : IsAllowed (at Hourly rule)) (p n : ℕ) 
   hourly =
       let r = at Hourly rule in
       let i = instance_of r.parts n in
+      let no_date : rule.kind ≡ Date → ⊥ = λ date. let fine = (allowed.dates date).0 in cc in
       clock_hourly r (set5 r p) i ∙ ap (lets_clock_in r i) (limited_dates r (minute_kept r i) (set0 r p (minute_kept r i)) (set0 r p) refl)
       ∙ in_order (limited_tests r p i) (clock_tests r i true ((minute_kept r i).minute == (start_of r).minute)
       ((second_kept r i).second == (start_of r).second))
@@ -249,9 +250,6 @@ module _ (rule : Recurrence) (allowed : IsAllowed (at Hourly rule)) (p n : ℕ) 
       (keep_true (lets_part r ByDay i) ∙ limited_weekday r i (allowed.numbers refl i.weekday)))
       (by_clock (hours_limited r no_date i)
       (minutes_given r (λ date. (allowed.dates date).1) i) (seconds_given r (λ date. (allowed.dates date).1) i)))
-    where
-      no_date : rule.kind ≡ Date → ⊥
-      no_date date = let fine = (allowed.dates date).0 in cc
 
 module _ (rule : Recurrence) (allowed : IsAllowed (at Minutely rule)) (p n : ℕ) where
   minutely : is_instance (at Minutely rule) p n ≡ is_let_in (effective (at Minutely rule)) p n
@@ -259,6 +257,7 @@ module _ (rule : Recurrence) (allowed : IsAllowed (at Minutely rule)) (p n : ℕ
   minutely =
       let r = at Minutely rule in
       let i = instance_of r.parts n in
+      let no_date : rule.kind ≡ Date → ⊥ = λ date. let fine = (allowed.dates date).0 in cc in
       clock_minutely r (set5 r p) i ∙ ap (lets_clock_in r i) (limited_dates r (second_kept r i) (set0 r p (second_kept r i)) (set0 r p) refl)
       ∙ in_order (limited_tests r p i) (clock_tests r i true true ((second_kept r i).second == (start_of r).second))
       ∙ ap (λ x. (i.period == p) && x)
@@ -267,9 +266,6 @@ module _ (rule : Recurrence) (allowed : IsAllowed (at Minutely rule)) (p n : ℕ
       (keep_true (lets_part r ByDay i) ∙ limited_weekday r i (allowed.numbers refl i.weekday)))
       (by_clock (hours_limited r no_date i) (minutes_limited r no_date i)
       (seconds_given r (λ date. (allowed.dates date).1) i)))
-    where
-      no_date : rule.kind ≡ Date → ⊥
-      no_date date = let fine = (allowed.dates date).0 in cc
 
 module _ (rule : Recurrence) (allowed : IsAllowed (at Secondly rule)) (p n : ℕ) where
   secondly : is_instance (at Secondly rule) p n ≡ is_let_in (effective (at Secondly rule)) p n
@@ -277,6 +273,7 @@ module _ (rule : Recurrence) (allowed : IsAllowed (at Secondly rule)) (p n : ℕ
   secondly =
       let r = at Secondly rule in
       let i = instance_of r.parts n in
+      let no_date : rule.kind ≡ Date → ⊥ = λ date. let fine = (allowed.dates date).0 in cc in
       clock_secondly r (set5 r p) i ∙ ap (lets_clock_in r i) (limited_dates r i (set0 r p i) (set0 r p) refl)
       ∙ in_order (limited_tests r p i) (clock_tests r i true true true)
       ∙ ap (λ x. (i.period == p) && x)
@@ -285,9 +282,6 @@ module _ (rule : Recurrence) (allowed : IsAllowed (at Secondly rule)) (p n : ℕ
       (keep_true (lets_part r ByDay i) ∙ limited_weekday r i (allowed.numbers refl i.weekday)))
       (by_clock (hours_limited r no_date i) (minutes_limited r no_date i)
       (seconds_limited r no_date i)))
-    where
-      no_date : rule.kind ≡ Date → ⊥
-      no_date date = let fine = (allowed.dates date).0 in cc
 
 -- DAILY: the table has neither BYYEARDAY nor BYWEEKNO
 module _ (rule : Recurrence) (allowed : IsAllowed (at Daily rule)) (p n : ℕ) where
@@ -300,18 +294,8 @@ module _ (rule : Recurrence) (allowed : IsAllowed (at Daily rule)) (p n : ℕ) w
   daily =
       let r = at Daily rule in
       let i = instance_of r.parts n in
-      whole r (λ date. (allowed.dates date).1) (set5 r p) i record {
-        weekday = lets_part r ByDay i;
-        month_day = lets_part r ByMonthDay i;
-        year_day = true;
-        week_weekday = true;
-        week = true;
-        month = lets_part r ByMonth i;
-        period = i.period == p;
-        own_weekday = true;
-        own_month = true;
-        own_month_day = true;
-      }
+      let all = limited_tests r p i in
+      whole r (λ date. (allowed.dates date).1) (set5 r p) i (record all { year_day = true })
       (daily_dates (hour_kept r i))
       (keep_true (lets_part r ByMonth i)) (keep_true (lets_part r ByMonthDay i))
       (absent (no_year_day r) (is_listed r ByYearDay i) (allowed.parts ByYearDay refl))
@@ -356,19 +340,10 @@ module _ (rule : Recurrence) (allowed : IsAllowed (at Weekly rule)) (p n : ℕ) 
   weekly =
       let r = at Weekly rule in
       let i = instance_of r.parts n in
+      let all = limited_tests r p i in
       let j = day_from r (no_weekday r) i in
-      whole r (λ date. (allowed.dates date).1) (set5 r p) i record {
-        weekday = lets_part r ByDay i;
-        month_day = true;
-        year_day = true;
-        week_weekday = true;
-        week = true;
-        month = lets_part r ByMonth j;
-        period = i.period == p;
-        own_weekday = j.weekday == (start_of r).weekday;
-        own_month = true;
-        own_month_day = true;
-      }
+      whole r (λ date. (allowed.dates date).1) (set5 r p) i
+      (record all { month_day = true; year_day = true; month = lets_part r ByMonth j; own_weekday = j.weekday == (start_of r).weekday })
       (weekly_dates (hour_kept r i))
       (keep_true (lets_part r ByMonth j) ∙ month_kept (no_month r) (no_weekday r) (contains r.parts.months) (start_of r).month i.month)
       (absent (no_month_day r) (is_listed r ByMonthDay i) (allowed.parts ByMonthDay refl))
@@ -429,19 +404,14 @@ module _ (rule : Recurrence) (allowed : IsAllowed (at Monthly rule)) (p n : ℕ)
   monthly =
       let r = at Monthly rule in
       let i = instance_of r.parts n in
+      let all = limited_tests r p i in
       let j = after_month_day i in
-      whole r (λ date. (allowed.dates date).1) (set5 r p) i record {
-        weekday = lets_part r ByDay i;
+      whole r (λ date. (allowed.dates date).1) (set5 r p) i (record all {
         month_day = lets_part r ByMonthDay (after_weekday i);
         year_day = true;
-        week_weekday = true;
-        week = true;
         month = lets_part r ByMonth j;
-        period = i.period == p;
-        own_weekday = true;
-        own_month = true;
         own_month_day = j.month_day == (start_of r).month_day;
-      }
+      })
       (monthly_dates (hour_kept r i))
       (keep_true (lets_part r ByMonth j) ∙ monthly_month (no_month r) (no_month_day r) (no_weekday r) (contains r.parts.months) (start_of r).month i.month)
       (monthly_month_day i)
@@ -608,19 +578,17 @@ module _ (rule : Recurrence) (allowed : IsAllowed (at Yearly rule)) (p n : ℕ) 
   yearly =
       let r = at Yearly rule in
       let i = instance_of r.parts n in
+      let all = limited_tests r p i in
       let k = hour_kept r i in
-      whole r (λ date. (allowed.dates date).1) (set5 r p) i record {
+      whole r (λ date. (allowed.dates date).1) (set5 r p) i (record all {
         weekday = lets_part r ByDay k;
         month_day = lets_part r ByMonthDay (after_day i);
-        year_day = lets_part r ByYearDay i;
         week_weekday = no_week r || own_weekday i;
         week = lets_part r ByWeekNo i;
         month = lets_part r ByMonth (after_week i);
-        period = i.period == p;
-        own_weekday = true;
         own_month = (after_month i).month == (start_of r).month;
         own_month_day = (after_month i).month_day == (start_of r).month_day;
-      }
+      })
       (yearly_dates k) (yearly_months i) (yearly_month_days i) refl refl (yearly_weekdays k)
 
 -- by the frequency of the rule
