@@ -225,26 +225,11 @@ module _ (some f : ℕ → Bool) (from n k : ℕ) (b : Bool) where
   abbrev asked : ℕ → Bool
   asked p = some k && (nat_lt k p && f k)
 
-  others : IsLeastFrom some from n → (k < n) ⊎ (n < k) → asked from ≡ asked (n + 1)
-  others next (inl low) = elim (cases_lt k from) [
-    | inl seen ↦ rw (lt-ltb k from seen, lt-ltb k (n + 1) (omega (arith, low))) refl
-    | inr new ↦ ap (λ x. x && (nat_lt k from && f k)) (next.least k new low) ∙ sym (ap (λ x. x && (nat_lt k (n + 1) && f k)) (next.least k new low))
-  ]
-  others next (inr high) = rw (le-ltb k from (omega (arith, high, next.low)), le-ltb k (n + 1) (omega (arith, high))) refl
-
   pub let_in : IsLeastFrom some from n → f n ≡ true → b ≡ asked from → ((k == n) || b) ≡ asked (n + 1)
-  let_in next h e = elim (three k n) [
-    | inl low ↦ ap (λ x. x || b) (below k n low) ∙ e ∙ others next (inl low)
-    | inr (inl here) ↦ rw (eq-eqb k n here, lt-ltb k (n + 1) (omega (arith, here)), ap some here ∙ next.passes, ap f here ∙ h) refl
-    | inr (inr high) ↦ ap (λ x. x || b) (above k n high) ∙ e ∙ others next (inr high)
-  ]
+  let_in next h e = grind (arith, nat_tests, three, cases_lt)
 
   pub left_out : IsLeastFrom some from n → f n ≡ false → b ≡ asked from → b ≡ asked (n + 1)
-  left_out next h e = elim (three k n) [
-    | inl low ↦ e ∙ others next (inl low)
-    | inr (inl here) ↦ e ∙ ap (λ x. some k && x) (and_right (nat_lt k from) (f k) (ap f here ∙ h) ∙ sym (and_right (nat_lt k (n + 1)) (f k) (ap f here ∙ h)))
-    | inr (inr high) ↦ e ∙ others next (inr high)
-  ]
+  left_out next h e = grind (arith, nat_tests, three, cases_lt)
 
 pub asked_none : (some f : ℕ → Bool) (k : ℕ) → false ≡ (some k && (nat_lt k 0 && f k))
 asked_none some f k = sym (and_right (some k) (nat_lt k 0 && f k) (ap (λ x. x && f k) (le-ltb k 0 (omega arith))))

@@ -1,6 +1,6 @@
 -- The n-th day of a month or year, and the n-th of its weekday there, by counting.
 use Rattle.std.proofs.Common.{◌≡◌, ◌≢◌, ℕ, zero, suc, ◌+◌, ◌-◌, ◌*◌, ◌/◌, ◌%◌, ◌<◌, ◌≤◌, inl, inr, Bool, true, false, ◌&&◌, ◌||◌, ◌==◌, pos, sym, ap, ◌∙◌}
-use Rattle.std.proofs.Common.{arith}
+use Rattle.std.proofs.Common.{refl, arith}
 use Rattle.std.proofs.lemmas.Bool.{and_right, cases_lt, cases_eq, eq-eqb, ne_eqb}
 use Rattle.std.proofs.lemmas.Bool.Decides.{nat_tests}
 use Rattle.jiff_core.specs.Calendar.{days_in_month, days_in_year, days_of_months}
@@ -28,6 +28,14 @@ pub record IsStretch (test : ℕ → Bool) (a b : ℕ) : Type 0 where
   pub inside : (f : ℕ) → a ≤ f → f < b → test f ≡ true
   pub after : (f : ℕ) → b ≤ f → test f ≡ false
 
+-- a day e of them: how far its place and their end are
+pub record IsDayOf (a b e n len span : ℕ) : Type 0 where
+  pub low : a ≤ e
+  pub high : e < b
+  pub place : n ≡ suc e - a
+  pub size : len ≡ b - a
+  pub end : b ≤ e + span
+
 module _ (unit : ℕ → Bool) (a b : ℕ) (stretch : IsStretch unit a b) where
   -- all of them, up to one and from one on
   counted : (n : ℕ) → a ≤ n → n ≤ b → count n unit ≡ n - a
@@ -35,16 +43,6 @@ module _ (unit : ℕ → Bool) (a b : ℕ) (stretch : IsStretch unit a b) where
       let whole : a + (n - a) ≡ n = omega arith in
       sym (ap (λ x. count x unit) whole) ∙ count-from a (n - a) unit stretch.before
       ∙ count-same (n - a) (λ k. unit (a + k)) (λ k. true) (λ k l. stretch.inside (a + k) (omega arith) (omega arith)) ∙ count_every (n - a)
-
-  pub nth_of_all : (e : ℕ) → a ≤ e → e < b → count (suc e) unit ≡ suc e - a
-  nth_of_all e low high = counted (suc e) (omega arith) (omega arith)
-
-  pub last_of_all : (e end : ℕ) → a ≤ e → e < b → b ≤ end → count end unit - count e unit ≡ b - e
-  last_of_all e end low high past =
-      let all = counted b (omega arith) (omega arith) in
-      let flat = count_flat b end unit past (λ m l h. stretch.after m l) in
-      let earlier = counted e low (omega arith) in
-      omega (arith, all, flat, earlier)
 
   -- those of a weekday
   on_weekday : (w k : ℕ) → w < 7 → a + k ≤ b → count (a + k) (λ f. weekday_of f == w && unit f) ≡ (k + 6 - (w + 7 - weekday_of a) % 7) / 7
@@ -66,29 +64,50 @@ module _ (unit : ℕ → Bool) (a b : ℕ) (stretch : IsStretch unit a b) where
             omega (arith, earlier, last, none, other)
       ])
 
-  pub nth_of_weekday : (e : ℕ) → a ≤ e → e < b → count (suc e) (λ f. weekday_of f == weekday_of e && unit f) ≡ (e - a) / 7 + 1
-  nth_of_weekday e low high =
-      let all : a + suc (e - a) ≡ suc e = omega arith in
-      let here = on_weekday (weekday_of e) (suc (e - a)) (omega arith) (omega arith) in
-      sym (ap (λ x. count x (λ f. weekday_of f == weekday_of e && unit f)) all) ∙ here ∙ omega arith
+  -- the n-th day of them all, and the n-th of its weekday, from the front and from the end
+  module _ {e n len span : ℕ} (d : IsDayOf a b e n len span) where
+    abbrev alike : ℕ → Bool
+    alike f = weekday_of f == weekday_of e && unit f
 
-  pub last_of_weekday : (e end : ℕ) → a ≤ e → e < b → b ≤ end
-      → count end (λ f. weekday_of f == weekday_of e && unit f) - count e (λ f. weekday_of f == weekday_of e && unit f) ≡ (b - 1 - e) / 7 + 1
-  last_of_weekday e end low high past =
-      let whole : a + (b - a) ≡ b = omega arith in
-      let front : a + (e - a) ≡ e = omega arith in
-      let all = on_weekday (weekday_of e) (b - a) (omega arith) (omega arith) in
-      let earlier = on_weekday (weekday_of e) (e - a) (omega arith) (omega arith) in
-      let flat =
-      count_flat b end (λ f. weekday_of f == weekday_of e && unit f) past
-      (λ m l h. and_right (weekday_of m == weekday_of e) (unit m) (stretch.after m l)) in
-      let whole' = ap (λ x. count x (λ f. weekday_of f == weekday_of e && unit f)) whole in
-      let front' = ap (λ x. count x (λ f. weekday_of f == weekday_of e && unit f)) front in
-      omega (arith, all, earlier, flat, whole', front')
+    nth : count (suc e) unit ≡ n
+    nth = counted (suc e) (omega (arith, d.low)) (omega (arith, d.high)) ∙ sym d.place
+
+    last : (end : ℕ) → e + span ≤ end → count end unit - count e unit ≡ len + 1 - n
+    last end past =
+        let all = counted b (omega (arith, d.low, d.high)) (omega arith) in
+        let flat = count_flat b end unit (omega (arith, d.end, past)) (λ m l h. stretch.after m l) in
+        let earlier = counted e d.low (omega (arith, d.high)) in
+        omega (arith, all, flat, earlier, d.place, d.size, d.low, d.high)
+
+    pub weekday_nth : count (suc e) alike ≡ (n - 1) / 7 + 1
+    weekday_nth =
+        let all : a + suc (e - a) ≡ suc e = omega (arith, d.low) in
+        let here = on_weekday (weekday_of e) (suc (e - a)) (omega arith) (omega (arith, d.low, d.high)) in
+        sym (ap (λ x. count x alike) all) ∙ here ∙ omega (arith, d.place, d.low)
+
+    pub weekday_last : (end : ℕ) → e + span ≤ end → count end alike - count e alike ≡ (len - n) / 7 + 1
+    weekday_last end past =
+        let whole : a + (b - a) ≡ b = omega (arith, d.low, d.high) in
+        let front : a + (e - a) ≡ e = omega (arith, d.low) in
+        let all = on_weekday (weekday_of e) (b - a) (omega arith) (omega (arith, whole)) in
+        let earlier = on_weekday (weekday_of e) (e - a) (omega arith) (omega (arith, front, d.high)) in
+        let flat =
+        count_flat b end alike (omega (arith, d.end, past)) (λ m l h. and_right (weekday_of m == weekday_of e) (unit m) (stretch.after m l)) in
+        let whole' = ap (λ x. count x alike) whole in
+        let front' = ap (λ x. count x alike) front in
+        omega (arith, all, earlier, flat, whole', front', d.place, d.size, d.low, d.high)
+
+    -- what places list
+    module _ (plus minus : ℕ → Bool) (small : e + span ≤ calendar_end) where
+      nth_listed : is_nth plus minus unit e ≡ (plus n || minus (len + 1 - n))
+      nth_listed = rw (nth, last calendar_end small) refl
+
+      nth_weekday_listed : is_nth plus minus alike e ≡ (plus ((n - 1) / 7 + 1) || minus ((len - n) / 7 + 1))
+      nth_weekday_listed = rw (weekday_nth, weekday_last calendar_end small) refl
 
 -- ---- the year of a day
 
-year_stretch : (e : ℕ) → IsStretch (in_year e) (days_before_year (year_of e)) (days_before_year (suc (year_of e)))
+pub year_stretch : (e : ℕ) → IsStretch (in_year e) (days_before_year (year_of e)) (days_before_year (suc (year_of e)))
 year_stretch e = record {
   before = λ f l. ne_eqb (year_of f) (year_of e) (λ same. let u = year_under_way f in let m = ap days_before_year same in omega (arith, u.0, m, l));
   inside = λ f l h. eq-eqb (year_of f) (year_of e) (year_of_is f (year_of e) l h);
@@ -96,15 +115,7 @@ year_stretch e = record {
       (λ same. let u = year_under_way f in let m = ap (λ y. days_before_year (suc y)) same in omega (arith, u.1, m, l));
 }
 
--- how many days it has, and which of them e is
-record IsYearDay (e : ℕ) : Type 0 where
-  pub low : days_before_year (year_of e) ≤ e
-  pub high : e < days_before_year (suc (year_of e))
-  pub place : year_day_of e ≡ suc e - days_before_year (year_of e)
-  pub size : days_in_year (pos (year_of e)) ≡ days_before_year (suc (year_of e)) - days_before_year (year_of e)
-  pub end : days_before_year (suc (year_of e)) ≤ e + 366
-
-year_day : (e : ℕ) → IsYearDay e
+pub year_day : (e : ℕ) → IsDayOf (days_before_year (year_of e)) (days_before_year (suc (year_of e))) e (year_day_of e) (days_in_year (pos (year_of e))) 366
 year_day e = grind (arith, nat_tests, days_before_year-next, days_in_year_bounds, year_day_is, year_under_way)
 
 -- ---- the month of a day
@@ -118,17 +129,11 @@ in_month_same f e h = grind (arith, nat_tests, eq-eqb, month_high, month_positiv
 in_month_apart : (y m z k : ℕ) → y * 12 + m ≢ z * 12 + k → (y == z && m == k) ≡ false
 in_month_apart y m z k h = grind (arith, nat_tests)
 
-month_stretch : (e : ℕ) → IsStretch (in_month e) (month_start (month_number e)) (month_start (suc (month_number e)))
+pub month_stretch : (e : ℕ) → IsStretch (in_month e) (month_start (month_number e)) (month_start (suc (month_number e)))
 month_stretch e = grind (arith, nat_tests, cases_lt, in_month_apart, in_month_same, month_begins, month_begun)
 
-record IsMonthDay (e : ℕ) : Type 0 where
-  pub low : month_start (month_number e) ≤ e
-  pub high : e < month_start (suc (month_number e))
-  pub place : month_day_of e ≡ suc e - month_start (month_number e)
-  pub size : days_in_month (pos (year_of e)) (month_of e) ≡ month_start (suc (month_number e)) - month_start (month_number e)
-  pub end : month_start (suc (month_number e)) ≤ e + 31
-
-month_day : (e : ℕ) → IsMonthDay e
+pub month_day : (e : ℕ)
+    → IsDayOf (month_start (month_number e)) (month_start (suc (month_number e))) e (month_day_of e) (days_in_month (pos (year_of e)) (month_of e)) 31
 unfolding month_day_of
 month_day e =
     let some = month_positive e in
@@ -159,77 +164,23 @@ month_day e =
       end = omega (arith, next, starts, ends, length, bounds.0, low);
     }
 
--- ---- the places of a day
-
--- the n-th day of the month, and the n-th of its weekday there
-pub month_nth : (e : ℕ) → count (suc e) (in_month e) ≡ month_day_of e
-month_nth e = let d = month_day e in nth_of_all (in_month e) _ _ (month_stretch e) e d.low d.high ∙ sym d.place
-
-pub month_last : (e end : ℕ) → e + 31 ≤ end → count end (in_month e) - count e (in_month e) ≡ days_in_month (pos (year_of e)) (month_of e) + 1 - month_day_of e
-month_last e end past =
-    let d = month_day e in
-    let last = last_of_all (in_month e) _ _ (month_stretch e) e end d.low d.high (omega (arith, d.end, past)) in
-    omega (arith, last, d.place, d.size, d.low, d.high)
-
-pub month_weekday_nth : (e : ℕ) → count (suc e) (with_weekday in_month e) ≡ (month_day_of e - 1) / 7 + 1
-month_weekday_nth e =
-    let d = month_day e in
-    let nth = nth_of_weekday (in_month e) _ _ (month_stretch e) e d.low d.high in
-    omega (arith, nth, d.place, d.low)
-
-pub month_weekday_last : (e end : ℕ) → e + 31 ≤ end
-    → count end (with_weekday in_month e) - count e (with_weekday in_month e) ≡ (days_in_month (pos (year_of e)) (month_of e) - month_day_of e) / 7 + 1
-month_weekday_last e end past =
-    let d = month_day e in
-    let last = last_of_weekday (in_month e) _ _ (month_stretch e) e end d.low d.high (omega (arith, d.end, past)) in
-    omega (arith, last, d.place, d.size, d.low, d.high)
-
--- of the year
-pub year_nth : (e : ℕ) → count (suc e) (in_year e) ≡ year_day_of e
-year_nth e = let d = year_day e in nth_of_all (in_year e) _ _ (year_stretch e) e d.low d.high ∙ sym d.place
-
-pub year_last : (e end : ℕ) → e + 366 ≤ end → count end (in_year e) - count e (in_year e) ≡ days_in_year (pos (year_of e)) + 1 - year_day_of e
-year_last e end past =
-    let d = year_day e in
-    let last = last_of_all (in_year e) _ _ (year_stretch e) e end d.low d.high (omega (arith, d.end, past)) in
-    omega (arith, last, d.place, d.size, d.low, d.high)
-
-pub year_weekday_nth : (e : ℕ) → count (suc e) (with_weekday in_year e) ≡ (year_day_of e - 1) / 7 + 1
-year_weekday_nth e =
-    let d = year_day e in
-    let nth = nth_of_weekday (in_year e) _ _ (year_stretch e) e d.low d.high in
-    omega (arith, nth, d.place, d.low)
-
-pub year_weekday_last : (e end : ℕ) → e + 366 ≤ end
-    → count end (with_weekday in_year e) - count e (with_weekday in_year e) ≡ (days_in_year (pos (year_of e)) - year_day_of e) / 7 + 1
-year_weekday_last e end past =
-    let d = year_day e in
-    let last = last_of_weekday (in_year e) _ _ (year_stretch e) e end d.low d.high (omega (arith, d.end, past)) in
-    omega (arith, last, d.place, d.size, d.low, d.high)
-
 -- ---- what the parts list
-
-nth_is : (plus minus test : ℕ → Bool) (e : ℕ) {x y : ℕ} → count (suc e) test ≡ x → count calendar_end test - count e test ≡ y
-    → is_nth plus minus test e ≡ (plus x || minus y)
-nth_is plus minus test e {x = x} front back = ap (λ z. plus z || minus (count calendar_end test - count e test)) front ∙ ap (λ z. plus x || minus z) back
 
 pub month_days_listed : (p : Ordinals) (e : ℕ) → e < 4_000_000
     → is_place p (in_month e) e ≡ lists p (month_day_of e) (days_in_month (pos (year_of e)) (month_of e))
-month_days_listed p e small = nth_is (contains p.front) (contains p.back) (in_month e) e (month_nth e) (month_last e calendar_end (omega arith))
+month_days_listed p e small = nth_listed (in_month e) _ _ (month_stretch e) (month_day e) (contains p.front) (contains p.back) (omega arith)
 
 pub year_days_listed : (p : WideOrdinals) (e : ℕ) → e < 4_000_000 →
     is_wide_place p (in_year e) e ≡ lists_wide p (year_day_of e) (days_in_year (pos (year_of e)))
-year_days_listed p e small = nth_is (contains_wide p.front) (contains_wide p.back) (in_year e) e (year_nth e) (year_last e calendar_end (omega arith))
+year_days_listed p e small = nth_listed (in_year e) _ _ (year_stretch e) (year_day e) (contains_wide p.front) (contains_wide p.back) (omega arith)
 
 pub month_weekday_listed : (p : Ordinals) (e : ℕ) → e < 4_000_000
     → is_place p (with_weekday in_month e) e ≡ lists_nth p (month_day_of e) (days_in_month (pos (year_of e)) (month_of e))
-month_weekday_listed p e small =
-    nth_is (contains p.front) (contains p.back) (with_weekday in_month e) e (month_weekday_nth e) (month_weekday_last e calendar_end (omega arith))
+month_weekday_listed p e small = nth_weekday_listed (in_month e) _ _ (month_stretch e) (month_day e) (contains p.front) (contains p.back) (omega arith)
 
 pub year_weekday_listed : (p : Ordinals) (e : ℕ) → e < 4_000_000
     → is_place p (with_weekday in_year e) e ≡ lists_nth p (year_day_of e) (days_in_year (pos (year_of e)))
-year_weekday_listed p e small =
-    nth_is (contains p.front) (contains p.back) (with_weekday in_year e) e (year_weekday_nth e) (year_weekday_last e calendar_end (omega arith))
+year_weekday_listed p e small = nth_weekday_listed (in_year e) _ _ (year_stretch e) (year_day e) (contains p.front) (contains p.back) (omega arith)
 
 -- ---- weeks
 

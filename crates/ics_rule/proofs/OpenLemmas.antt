@@ -1,7 +1,7 @@
 -- The periods that a rule lets in, counted step by step and by whole days.
-use Rattle.std.proofs.Common.{◌≡◌, ℕ, zero, suc, ◌+◌, ◌-◌, ◌*◌, ◌/◌, ◌%◌, ◌<◌, ◌≤◌, inl, inr, Bool, true, false, cond, ◌&&◌, ◌||◌, nat_le, nat_lt, min, refl}
+use Rattle.std.proofs.Common.{◌≡◌, ℕ, zero, suc, ◌+◌, ◌-◌, ◌*◌, ◌/◌, ◌%◌, ◌<◌, ◌≤◌, inl, inr, Bool, true, false, cond, ◌&&◌, ◌||◌, ◌==◌, nat_le, nat_lt, min, refl}
 use Rattle.std.proofs.Common.{sym, ap, ◌∙◌, arith}
-use Rattle.std.proofs.lemmas.Bool.{and_from, and_left, and_right, cases_lt, false_from_ne_true}
+use Rattle.std.proofs.lemmas.Bool.{and_left, and_parts, and_right, cases_lt, false_from_ne_true}
 use Rattle.std.proofs.lemmas.Bool.Decides.{nat_tests}
 use Rattle.std.proofs.lemmas.Nat.{div-add-mod', mod-mul-add, le-div, div_below}
 use Rattle.std.proofs.Math.Nat.{add-mul, mod-lt, mul_comm, mul_assoc}
@@ -18,7 +18,7 @@ use Rattle.ics_rule.proofs.Counts.{count-same, count-suc, count-add, count-none,
 use Rattle.ics_rule.proofs.RankLemmas.{count_flat}
 use Rattle.ics_rule.proofs.StepLemmas.{stepped_parts, stepped_shown, step_on, none_between}
 use Rattle.ics_rule.proofs.RoundLemmas.{step_repeats}
-use Rattle.ics_rule.proofs.Tests.{none_yet}
+use Rattle.ics_rule.proofs.Tests.{iff, none_yet}
 
 and_true : (a b : Bool) → a ≡ true → (a && b) ≡ b
 and_true a b h = ap (λ x. x && b) h
@@ -134,47 +134,13 @@ module _ (i : ℕ) (some : 1 ≤ i) (from j : ℕ) (less : j < i) where
   -- one place more
   place_more : (e : ℕ) (b : Bool) → cond ((nat_le from e && nat_lt ((e - from) % i) (j + 1)) && b) 1 0
       ≡ cond ((nat_le from e && nat_lt ((e - from) % i) j) && b) 1 0 + cond (is_stepped (from + j) i e && b) 1 0
-  place_more e b = elim (cases_lt e from) [
-    | inl early ↦ ends (early_test early) (early_test_2 early)
-        (false_from_ne_true (is_stepped (from + j) i e) (λ yes. let p = stepped_place e yes in omega (arith, p.0, early))) (omega arith)
-    | inr late ↦ elim (cases_lt ((e - from) % i) j) [
-      | inl below ↦ ends (late_test (j + 1) late (omega (arith, below))) (late_test j late below)
-          (false_from_ne_true (is_stepped (from + j) i e) (λ yes. let p = stepped_place e yes in omega (arith, p.1, below))) (by_bool_1 b)
-      | inr above ↦ elim (cases_lt j ((e - from) % i)) [
-        | inl past ↦ ends (past_test (j + 1) (omega (arith, past))) (past_test j (omega (arith, past)))
-            (false_from_ne_true (is_stepped (from + j) i e) (λ yes. let p = stepped_place e yes in omega (arith, p.1, past))) (omega arith)
-        | inr same ↦ ends (late_test (j + 1) late (omega (arith, above, same))) (past_test j (omega (arith, above)))
-            (place_stepped e late (omega (arith, above, same))) (by_bool_2 b)
-      ]
-    ]
-  ]
+  place_more e b = rw here (at (nat_le from e) ((e - from) % i))
     where
-      ends : {x y z : Bool} → (nat_le from e && nat_lt ((e - from) % i) (j + 1)) ≡ x → (nat_le from e && nat_lt ((e - from) % i) j) ≡ y
-          → is_stepped (from + j) i e ≡ z
-          → cond (x && b) 1 0 ≡ cond (y && b) 1 0 + cond (z && b) 1 0
-          → cond ((nat_le from e && nat_lt ((e - from) % i) (j + 1)) && b) 1 0
-          ≡ cond ((nat_le from e && nat_lt ((e - from) % i) j) && b) 1 0 + cond (is_stepped (from + j) i e && b) 1 0
-      ends ex ey ez same = rw (ex, ey, ez) same
+      here : is_stepped (from + j) i e ≡ (nat_le from e && ((e - from) % i == j))
+      here = iff _ _ (λ h. let place = stepped_place e h in grind (arith, nat_tests)) (λ h. grind (arith, nat_tests, and_parts, place_stepped))
 
-      early_test : e < from → (nat_le from e && nat_lt ((e - from) % i) (j + 1)) ≡ false
-      early_test l = and_left (nat_le from e) (nat_lt ((e - from) % i) (j + 1)) (grind (arith, nat_tests))
-
-      early_test_2 : e < from → (nat_le from e && nat_lt ((e - from) % i) j) ≡ false
-      early_test_2 l = and_left (nat_le from e) (nat_lt ((e - from) % i) j) (grind (arith, nat_tests))
-
-      late_test : (k : ℕ) → from ≤ e → (e - from) % i < k → (nat_le from e && nat_lt ((e - from) % i) k) ≡ true
-      late_test k l h = and_from (nat_le from e) (nat_lt ((e - from) % i) k) (grind (arith, nat_tests)) (grind (arith, nat_tests))
-
-      past_test : (k : ℕ) → k ≤ (e - from) % i → (nat_le from e && nat_lt ((e - from) % i) k) ≡ false
-      past_test k h = and_right (nat_le from e) (nat_lt ((e - from) % i) k) (grind (arith, nat_tests))
-
-      by_bool_1 : (b : Bool) → cond (true && b) 1 0 ≡ cond (true && b) 1 0 + cond (false && b) 1 0
-      by_bool_1 true = refl
-      by_bool_1 false = refl
-
-      by_bool_2 : (b : Bool) → cond (true && b) 1 0 ≡ cond (false && b) 1 0 + cond (true && b) 1 0
-      by_bool_2 true = refl
-      by_bool_2 false = refl
+      at : (a : Bool) (x : ℕ) → cond ((a && nat_lt x (j + 1)) && b) 1 0 ≡ cond ((a && nat_lt x j) && b) 1 0 + cond ((a && (x == j)) && b) 1 0
+      at a x = grind (arith, nat_tests)
 
 module _ (q : EffectiveRule) (first : ℕ) (fine : 0 < seconds_of q.frequency) (unit : seconds_of q.frequency ≤ 86_400) where
   abbrev u : ℕ
