@@ -59,12 +59,9 @@ module _ (q : EffectiveRule) (start a b : ℕ) where
 pub next_same : (f g : ℕ → Bool) (place : ℕ) (o : Option ℕ) → ((n : ℕ) → f n ≡ g n) → IsNextIn f place o → IsNextIn g place o
 next_same f g place o h l = grind (arith, nat_tests)
 
-fresh_low : (k number : ℕ) → k ≤ number → (k ≡ number → ⊥) → suc k ≤ number
-fresh_low k number h other = elim (cases_lt k number) [ inl less ↦ omega arith | inr more ↦ absurd (other (omega arith)) ]
-
 pub fresh_some : (number : ℕ) (held : Option RecurrencePeriod) (p : RecurrencePeriod) → held ≡ Some p → p.number ≤ number → (p.number ≡ number → ⊥) →
     fresh held ≤ number
-fresh_some number held p e h other = subst (λ o. fresh o ≤ number) (sym e) (fresh_low p.number number h other)
+fresh_some number held p e h other = rw e (grind (arith, nat_tests))
 
 pub fresh_none : (number : ℕ) (held : Option RecurrencePeriod) → held ≡ None → fresh held ≤ number
 fresh_none number held e = subst (λ o. fresh o ≤ number) (sym e) (omega arith)

@@ -12,7 +12,7 @@ use Rattle.ics_rule.specs.declared.effective_rule.EffectiveRule.{EffectiveRule}
 use Rattle.ics_rule.specs.declared.recurrence_period.RecurrencePeriod.{RecurrencePeriod}
 use Rattle.ics_rule.specs.declared.cursor.Cursor.{Cursor}
 use Rattle.ics_rule.specs.Searches.{IsTurned}
-use Rattle.ics_rule.specs.PeriodNumbers.{period, day_of, hour_of, minute_of, second_of}
+use Rattle.ics_rule.specs.PeriodNumbers.{period, day_of}
 use Rattle.ics_rule.specs.Candidates.{lets, lets_date, lets_clock, lists_wide, is_stepped, is_candidate_in, period_in}
 use Rattle.ics_rule.specs.Kept.{count, is_beside, rank, size, is_placed, is_chosen}
 use Rattle.ics_rule.specs.RecurrencePeriods.{first_local, is_listed}
@@ -25,6 +25,7 @@ use Rattle.ics_rule.proofs.StepLemmas.{stepped_parts}
 use Rattle.ics_rule.proofs.CountLemmas.{IsCountedStep}
 use Rattle.ics_rule.proofs.RoundLemmas.{step_repeats}
 use Rattle.ics_fields.specs.Locals.{calendar_end}
+use Rattle.ics_rule.proofs.RunLemmas.{guard}
 use Rattle.ics_rule.proofs.Tests.{and_assoc, keep_true}
 
 -- the clock is a period's own and what is within it
@@ -44,8 +45,7 @@ module _ (q : EffectiveRule) (p k : ℕ) where
   own_at Minutely h u l =
       let hour : (p * 60 + k) / 3_600 % 24 ≡ p * 60 / 3_600 % 24 = omega (arith, l) in
       let minute : (p * 60 + k) / 60 % 60 ≡ p * 60 / 60 % 60 = omega (arith, l) in
-      ap (λ x. lets q.hours x && lets q.minutes (minute_of (p * 60 + k)) && true) hour
-      ∙ ap (λ x. lets q.hours (hour_of (p * 60)) && lets q.minutes x && true) minute
+      rw (hour, minute) refl
   own_at Hourly h u l = let hour : (p * 3_600 + k) / 3_600 % 24 ≡ p * 3_600 / 3_600 % 24 = omega (arith, l) in ap (λ x. lets q.hours x && true && true) hour
   own_at Daily h u l = refl
   own_at f h u l = absurd (omega (arith, h, u))
@@ -56,14 +56,12 @@ module _ (q : EffectiveRule) (p k : ℕ) where
   within_at Hourly h u l =
       let minute : (p * 3_600 + k) / 60 % 60 ≡ k / 60 % 60 = omega arith in
       let second : (p * 3_600 + k) % 60 ≡ k % 60 = omega arith in
-      ap (λ x. lets q.minutes x && lets q.seconds (second_of (p * 3_600 + k))) minute ∙ ap (λ x. lets q.minutes (minute_of k) && lets q.seconds x) second
+      rw (minute, second) refl
   within_at Daily h u l =
       let hour : (p * 86_400 + k) / 3_600 % 24 ≡ k / 3_600 % 24 = omega arith in
       let minute : (p * 86_400 + k) / 60 % 60 ≡ k / 60 % 60 = omega arith in
       let second : (p * 86_400 + k) % 60 ≡ k % 60 = omega arith in
-      ap (λ x. lets q.hours x && lets q.minutes (minute_of (p * 86_400 + k)) && lets q.seconds (second_of (p * 86_400 + k))) hour
-      ∙ ap (λ x. lets q.hours (hour_of k) && lets q.minutes x && lets q.seconds (second_of (p * 86_400 + k))) minute
-      ∙ ap (λ x. lets q.hours (hour_of k) && lets q.minutes (minute_of k) && lets q.seconds x) second
+      rw (hour, minute, second) refl
   within_at f h u l = absurd (omega (arith, h, u))
 
 pub in_period : (f : Frequency) (w n : ℕ) → 0 < seconds_of f → seconds_of f ≤ 86_400 → (period f w n * seconds_of f ≤ n)
@@ -153,15 +151,8 @@ module _ (q : EffectiveRule) (start : ℕ) (fine : 0 < seconds_of q.frequency) (
         ap (λ x. x && lists_wide q.positions (rank q start (p * u + k)) (size q start (p * u + k))) (candidate_at p k l ∙ ap (λ x. x && within k) is)
         ∙ ap (λ x. within k && lists_wide q.positions (rank q start (p * u + k)) x) (size_at top)
         ∙ ap (λ x. within k && lists_wide q.positions x (count u within)) rank_at
-        ∙ by_within (within k) refl
-      where
-        by_within : (b : Bool) → within k ≡ b → (within k && lists_wide q.positions (count (suc k) within) (count u within))
-            ≡ (within k && is_listed q.positions (count u within) (count k within))
-        by_within false e = ap (λ x. x && lists_wide q.positions (count (suc k) within) (count u within)) e
-            ∙ sym (ap (λ x. x && is_listed q.positions (count u within) (count k within)) e)
-        by_within true e = ap (λ x. within k && lists_wide q.positions x (count u within))
-            (let one = count_one (within k) e in let more = count-suc k within in let next : count (suc k) within
-            ≡ count k within + 1 = omega (arith, one, more) in next)
+        ∙ guard (within k) _ _ (λ e. ap (λ x. lists_wide q.positions x (count u within)) (let one = count_one (within k) e in
+        let more = count-suc k within in let next : count (suc k) within ≡ count k within + 1 = omega (arith, one, more) in next))
 
   chosen_open : (p : ℕ) → p * u + u ≤ calendar_end → is_open p ≡ true → count u (λ k. is_chosen q start (p * u + k)) ≡ chosen_in_open q
   chosen_open p top is =

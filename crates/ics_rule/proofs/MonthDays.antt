@@ -1,6 +1,6 @@
 -- The days that months list, by their dates, and what is left to ask of them.
-use Rattle.std.proofs.Common.{◌≡◌, ℕ, zero, suc, ◌+◌, ◌-◌, ◌*◌, ◌/◌, ◌%◌, ◌<◌, ◌≤◌, ◌⊎◌, inl, inr, Bool, true, false, not, ◌==◌, ◌||◌, ◌&&◌, nat_lt, nat_le}
-use Rattle.std.proofs.Common.{if◌then◌else◌, pos, refl, sym, ap, ◌∙◌, arith}
+use Rattle.std.proofs.Common.{◌≡◌, ℕ, zero, suc, ◌+◌, ◌-◌, ◌*◌, ◌/◌, ◌%◌, ◌<◌, ◌≤◌, inl, inr, Bool, true, false, not, ◌==◌, ◌||◌, ◌&&◌, nat_lt, nat_le}
+use Rattle.std.proofs.Common.{pos, refl, sym, ap, ◌∙◌, arith}
 use Rattle.std.proofs.lemmas.Bool.{and_parts, and_right, cases_lt, eq-eqb, le-ltb, lt-ltb, or_left}
 use Rattle.std.proofs.lemmas.Bool.Decides.{nat_tests}
 use Rattle.jiff_core.specs.Calendar.{days_in_month, days_in_year}
@@ -180,8 +180,7 @@ month_exact q e h counts one =
     other a b h o = grind arith
 
     cases : (a p l : Bool) {b n n' : Bool} → b ≡ not a → (a ≡ true → n ≡ n') → (if a then (p || n) else l) ≡ ((a || l) && (b || p || n'))
-    cases true p l o e = rw o (ap (λ x. p || x) (e refl))
-    cases false p l o e = rw o (sym (keep_true l))
+    cases a p l o e = grind arith
 
 -- else they list what it may let in
 pub month_candidate : (q : EffectiveRule) (e : ℕ) → goes_by_months q ≡ true → lists_none q.month_days ≡ false → lets_date q e ≡ true → is_in_month q e ≡ true
@@ -189,11 +188,8 @@ month_candidate q e h some d =
     cases (lets q.months (month_of e)) (lists q.month_days (month_day_of e) (days_in_month (pos (year_of e)) (month_of e))) (lets_weekday q e) _ some
     (sym (three_parts q e h) ∙ d)
   where
-    fore : (a l w : Bool) → (a && (l && w)) ≡ true → (a && l) ≡ true
-    fore a l w h = grind (arith, nat_tests)
-
     cases : (a l w x : Bool) {n : Bool} → n ≡ false → (a && ((n || l) && w)) ≡ true → (a && (if n then x else l)) ≡ true
-    cases a l w x s h = rw s (fore a l w (rw s at h))
+    cases a l w x s h = grind arith
 
 -- a rule that repeats yearly goes by BYDAY, which counts in the year
 pub record GoesByYears (q : EffectiveRule) : Type 0 where

@@ -1,5 +1,5 @@
 -- The periods that a rule lets in, counted step by step and by whole days.
-use Rattle.std.proofs.Common.{◌≡◌, ℕ, zero, suc, ◌+◌, ◌-◌, ◌*◌, ◌/◌, ◌%◌, ◌<◌, ◌≤◌, inl, inr, Bool, true, false, cond, ◌&&◌, ◌||◌, ◌==◌, nat_le, nat_lt, min, refl}
+use Rattle.std.proofs.Common.{◌≡◌, ℕ, zero, suc, ◌+◌, ◌-◌, ◌*◌, ◌/◌, ◌%◌, ◌<◌, ◌≤◌, inl, inr, Bool, true, false, cond, ◌&&◌, ◌==◌, nat_le, nat_lt, min, refl}
 use Rattle.std.proofs.Common.{sym, ap, ◌∙◌, arith}
 use Rattle.std.proofs.lemmas.Bool.{and_left, and_parts, and_right, cases_lt, false_from_ne_true}
 use Rattle.std.proofs.lemmas.Bool.Decides.{nat_tests}
@@ -8,9 +8,7 @@ use Rattle.std.proofs.Math.Nat.{add-mul, mod-lt, mul_comm, mul_assoc}
 use Rattle.ics_fields.specs.declared.frequency.Frequency.{Frequency}
 use Rattle.ics_fields.specs.Sets.{IsLeastFrom}
 use Rattle.ics_rule.specs.declared.effective_rule.EffectiveRule.{EffectiveRule}
-use Rattle.ics_rule.specs.PeriodNumbers.{hour_of, minute_of, second_of}
-use Rattle.ics_rule.specs.EffectiveRules.{skips_hours, skips_minutes, skips_seconds}
-use Rattle.ics_rule.specs.Candidates.{lets, lets_date, is_stepped}
+use Rattle.ics_rule.specs.Candidates.{lets_date, is_stepped}
 use Rattle.ics_rule.specs.Kept.{count}
 use Rattle.ics_rule.specs.Rounds.{seconds_of}
 use Rattle.ics_rule.specs.OpenPeriods.{per_day, lets_own, is_open_period}
@@ -18,7 +16,8 @@ use Rattle.ics_rule.proofs.Counts.{count-same, count-suc, count-add, count-none,
 use Rattle.ics_rule.proofs.RankLemmas.{count_flat}
 use Rattle.ics_rule.proofs.StepLemmas.{stepped_parts, stepped_shown, step_on, none_between}
 use Rattle.ics_rule.proofs.RoundLemmas.{step_repeats}
-use Rattle.ics_rule.proofs.Tests.{iff, none_yet}
+use Rattle.ics_rule.proofs.RunLemmas.{guard}
+use Rattle.ics_rule.proofs.Tests.{and_assoc, iff, none_yet}
 
 and_true : (a b : Bool) → a ≡ true → (a && b) ≡ b
 and_true a b h = ap (λ x. x && b) h
@@ -107,12 +106,7 @@ module _ (f : Frequency) (q : EffectiveRule) (fine : 0 < seconds_of f) (unit : s
       let hour : (n + d * 86_400) / 3_600 % 24 ≡ n / 3_600 % 24 = omega arith in
       let minute : (n + d * 86_400) / 60 % 60 ≡ n / 60 % 60 = omega arith in
       let second : (n + d * 86_400) % 60 ≡ n % 60 = omega arith in
-      ap (λ x. (skips_hours f || lets q.hours x) && (skips_minutes f || lets q.minutes (minute_of (n + d * 86_400))) &&
-      (skips_seconds f || lets q.seconds (second_of (n + d * 86_400)))) hour
-      ∙ ap (λ x. (skips_hours f || lets q.hours (hour_of n)) && (skips_minutes f || lets q.minutes x) &&
-      (skips_seconds f || lets q.seconds (second_of (n + d * 86_400)))) minute
-      ∙ ap (λ x. (skips_hours f || lets q.hours (hour_of n)) && (skips_minutes f || lets q.minutes (minute_of n)) &&
-      (skips_seconds f || lets q.seconds x)) second
+      rw (hour, minute, second) refl
 
 pub day_seconds : (f : Frequency) → 0 < seconds_of f → seconds_of f ≤ 86_400 → (per_day f * seconds_of f ≡ 86_400) × (86_400 / seconds_of f ≡ per_day f)
 day_seconds f h u = grind arith
@@ -171,32 +165,25 @@ module _ (q : EffectiveRule) (first : ℕ) (fine : 0 < seconds_of q.frequency) (
       one_place : (p : ℕ) → (is_stepped (from + j) q.interval (p / d) && is_open_period q first p)
           ≡ ((is_stepped (from + j) q.interval (p / d) && lets_date q (p / d)) &&
           (is_stepped first q.interval ((from + j) * d + p % d) && own ((from + j) * d + p % d)))
-      one_place p = by_step (is_stepped (from + j) q.interval (p / d)) refl
+      one_place p =
+          guard (is_stepped (from + j) q.interval (p / d)) (is_open_period q first p) _ (λ e.
+          let parts = stepped_parts (from + j) q.interval (p / d) e in
+          let days = div-add-mod' (p / d - (from + j)) q.interval in
+          let whole = div-add-mod' p d in
+          let t = (p / d - (from + j)) / q.interval in
+          let day : p / d ≡ (from + j) + q.interval * t = (let swap = mul_comm q.interval t in omega (arith, parts.0, parts.1, days, swap)) in
+          let same : p ≡ (from + j) * d + p % d + q.interval * t * d = (
+          let wide = ap (λ x. x * d) day in
+          let spread : ((from + j) + q.interval * t) * d ≡ (from + j) * d + q.interval * t * d = add-mul (from + j) (q.interval * t) d in
+          omega (arith, whole, wide, spread)) in
+          let low : first ≤ (from + j) * d + p % d = (let spread : (from + j) * d ≡ from * d + j * d = add-mul from j d in omega (arith, later, spread)) in
+          turn (is_stepped first q.interval p) (lets_date q (p / d)) (own p)
+          ∙ ap (λ x. lets_date q (p / d) && (is_stepped first q.interval x && own x)) same
+          ∙ ap (λ x. lets_date q (p / d) && x) (step_later ((from + j) * d + p % d) t low))
+          ∙ sym (and_assoc (is_stepped (from + j) q.interval (p / d)) (lets_date q (p / d)) _)
         where
           turn : (a b c : Bool) → (a && (b && c)) ≡ (b && (a && c))
           turn a b c = grind arith
-
-          by_step : (b : Bool) → is_stepped (from + j) q.interval (p / d) ≡ b → (is_stepped (from + j) q.interval (p / d) && is_open_period q first p)
-              ≡ ((is_stepped (from + j) q.interval (p / d) && lets_date q (p / d)) &&
-              (is_stepped first q.interval ((from + j) * d + p % d) && own ((from + j) * d + p % d)))
-          by_step false e = and_left (is_stepped (from + j) q.interval (p / d)) (is_open_period q first p) e
-              ∙ sym (ap (λ x. (x && lets_date q (p / d)) && (is_stepped first q.interval ((from + j) * d + p % d) && own ((from + j) * d + p % d))) e)
-          by_step true e =
-              let parts = stepped_parts (from + j) q.interval (p / d) e in
-              let days = div-add-mod' (p / d - (from + j)) q.interval in
-              let whole = div-add-mod' p d in
-              let t = (p / d - (from + j)) / q.interval in
-              let day : p / d ≡ (from + j) + q.interval * t = (let swap = mul_comm q.interval t in omega (arith, parts.0, parts.1, days, swap)) in
-              let same : p ≡ (from + j) * d + p % d + q.interval * t * d = (
-              let wide = ap (λ x. x * d) day in
-              let spread : ((from + j) + q.interval * t) * d ≡ (from + j) * d + q.interval * t * d = add-mul (from + j) (q.interval * t) d in
-              omega (arith, whole, wide, spread)) in
-              let low : first ≤ (from + j) * d + p % d = (let spread : (from + j) * d ≡ from * d + j * d = add-mul from j d in omega (arith, later, spread)) in
-              and_true (is_stepped (from + j) q.interval (p / d)) (is_open_period q first p) e
-              ∙ turn (is_stepped first q.interval p) (lets_date q (p / d)) (own p)
-              ∙ ap (λ x. lets_date q (p / d) && (is_stepped first q.interval x && own x)) same
-              ∙ ap (λ x. lets_date q (p / d) && x) (step_later ((from + j) * d + p % d) t low)
-              ∙ sym (ap (λ x. (x && lets_date q (p / d)) && (is_stepped first q.interval ((from + j) * d + p % d) && own ((from + j) * d + p % d))) e)
 
       place_count : count (before * d) (λ p. is_stepped (from + j) q.interval (p / d) && is_open_period q first p)
           ≡ count before (λ e. is_stepped (from + j) q.interval e && lets_date q e) * count d

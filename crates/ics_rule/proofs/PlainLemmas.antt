@@ -1,14 +1,14 @@
 -- A rule whose DTSTART fits is its plain reading.
-use Rattle.std.proofs.Common.{◌≡◌, ◌≢◌, ℕ, suc, ◌+◌, ◌-◌, ◌*◌, ◌/◌, ◌%◌, ◌<◌, ◌≤◌, ◌⊎◌, inl, inr, Bool, true, false, not, ◌&&◌, ◌||◌, ◌==◌, nat_lt}
-use Rattle.std.proofs.Common.{if◌then◌else◌, Option, Some, None, MatchOption, pos, refl, sym, ap, ◌∙◌, arith}
-use Rattle.std.proofs.lemmas.Bool.{and_parts, and_right, cases_eq, eq-eqb, le-leb, le-ltb, lt-leb, lt-ltb, ne_eqb}
+use Rattle.std.proofs.Common.{◌≡◌, ℕ, suc, ◌+◌, ◌-◌, ◌*◌, ◌/◌, ◌%◌, ◌<◌, ◌≤◌, ◌⊎◌, Bool, true, false, not, ◌&&◌, ◌||◌, ◌==◌, nat_lt}
+use Rattle.std.proofs.Common.{Option, Some, None, MatchOption, pos, refl, sym, ap, ◌∙◌, arith, inl, inr}
+use Rattle.std.proofs.lemmas.Bool.{and_parts, and_right, eqb-true, le-leb, lt-leb, lt-ltb, le-ltb}
 use Rattle.std.proofs.lemmas.Nat.Bits.{bit_at-zero}
 use Rattle.jiff_core.specs.Calendar.{days_in_month, days_in_year}
 use Rattle.jiff_core.specs.Weekday.{monday_zero}
 use Rattle.ics_fields.specs.declared.frequency.Frequency.{Frequency}
-use Rattle.ics_fields.specs.declared.frequency.Frequency.TheVariants.{Secondly, Weekly, Monthly, Yearly}
+use Rattle.ics_fields.specs.declared.frequency.Frequency.TheVariants.{Weekly, Monthly, Yearly}
 use Rattle.ics_fields.specs.declared.ordinals.Ordinals.{Ordinals}
-use Rattle.ics_fields.specs.Sets.{contains, contains_wide, is_empty, only}
+use Rattle.ics_fields.specs.Sets.{contains, is_empty, only}
 use Rattle.ics_fields.specs.Ordinals.{no_ordinals, lists_none, lists_none_wide, numbers_of}
 use Rattle.ics_fields.specs.Days.{day_index, year_of, year_day_of, month_of, month_day_of, weekday_of}
 use Rattle.ics_rule.specs.declared.kind.Kind.{Kind}
@@ -20,7 +20,7 @@ use Rattle.ics_fields.specs.Locals.{number, calendar_end}
 use Rattle.ics_rule.specs.EffectiveRules.{takes_month_day, takes_month, takes_weekday, skips_hours, skips_minutes, skips_seconds, clock_part, effective}
 use Rattle.ics_rule.specs.Candidates.{lets, lets_place, lets_wide_place, lists, lists_wide, lists_nth, lets_week, lets_numbered, lets_weekday, lets_date}
 use Rattle.ics_rule.specs.Candidates.{lets_clock, period_in, is_stepped, is_candidate_in, fourth_day, week_number, weeks_of_year}
-use Rattle.ics_rule.specs.Kept.{count, is_beside, rank, size, is_placed, is_chosen, is_in_rule, is_by_until, is_counted, is_kept}
+use Rattle.ics_rule.specs.Kept.{count, is_beside, rank, size, is_placed, is_chosen, is_in_rule, is_counted, is_kept}
 use Rattle.ics_rule.specs.Table.{ByMonth, ByWeekNo, ByYearDay, ByMonthDay, ByDay, ByHour, ByMinute, BySecond}
 use Rattle.ics_rule.specs.ByTable.{is_absent, is_clockless, weekday_unit}
 use Rattle.ics_rule.specs.PlainReading.{is_place, is_wide_place, is_dayless, is_extracted, month_applies, in_year, in_month, month_day_applies}
@@ -32,7 +32,7 @@ use Rattle.ics_rule.proofs.DateLemmas.{none_nth}
 use Rattle.ics_rule.proofs.PeriodLemmas.{week_small, period_mono}
 use Rattle.ics_rule.proofs.TableSteps.{or_assoc, only_number, only_day, only_this_weekday, both_true, by_date, by_clock, by_subject, chosen_where}
 use Rattle.ics_rule.proofs.NthLemmas.{month_days_listed, year_days_listed, month_weekday_listed, year_weekday_listed, weeks_listed}
-use Rattle.ics_rule.proofs.Tests.{unequal, zero_of, self_test, keep_true, and_false, and_assoc}
+use Rattle.ics_rule.proofs.Tests.{zero_of, self_test, and_assoc, unequal}
 
 -- ---- what is extracted of DTSTART
 
@@ -46,8 +46,7 @@ left_open : (absent from x y : Bool) → x ≡ y → (absent || x) ≡ (if absen
 left_open absent from x y same = grind arith
 
 month_taken : (f : Frequency) (r : Recurrence) → takes_month f r.parts ≡ (is_extracted r f ByMonth && is_absent r ByMonth)
-month_taken Yearly r = refl
-month_taken f r = refl
+month_taken f r = grind arith
 
 kept_first : (m y b w : Bool) → (m && y && b && w) ≡ ((m && y && b && w) && m)
 kept_first m y b w = grind arith
@@ -110,15 +109,13 @@ clock DateTime {takes = takes} {from = from} set own n same date =
     ∙ by_absence (is_empty set) from (contains set n) (n == own) (ap (λ x. x && is_empty set) same) (λ e. refl)
 
 hour_taken : (f : Frequency) (r : Recurrence) → skips_hours f ≡ is_extracted r f ByHour
-hour_taken Yearly r = refl
-hour_taken f r = refl
+hour_taken f r = grind arith
 
 minute_taken : (f : Frequency) (r : Recurrence) → (skips_minutes f ≡ is_extracted r f ByMinute) × (skips_hours f ≡ true → skips_minutes f ≡ true)
 minute_taken f r = grind arith
 
 second_taken : (f : Frequency) (r : Recurrence) → (skips_seconds f ≡ is_extracted r f BySecond) × (skips_hours f ≡ true → skips_seconds f ≡ true)
-second_taken Secondly r = (refl, λ h. h)
-second_taken f r = (refl, λ h. refl)
+second_taken f r = grind arith
 
 -- midnight
 midnight : (d s : ℕ) → s ≡ 0 → ((d * 86_400 + s) / 3_600 % 24 ≡ 0) × (((d * 86_400 + s) / 60 % 60 ≡ 0) × ((d * 86_400 + s) % 60 ≡ 0))
@@ -224,19 +221,12 @@ module _ (r : Recurrence) (plain : HasPlainReading r) where
   -- BYSETPOS
   beside : (n m : ℕ) → m < calendar_end → in_turn n ≡ true → is_beside (effective r) start n m ≡ occurs_in r (period_at r n) m
   unfolding effective
-  beside n m small step = cases (cases_eq (period_at r m) (period_at r n))
+  beside n m small step = swapped (is_candidate_in (effective r) start m) (period_at r m == period_at r n) (all_apply r m) (λ e. candidate m small
+      ∙ ap (λ p. is_stepped (period_in (effective r) start) (effective r).interval p && all_apply r m) (eqb-true (period_at r m) (period_at r n) e)
+      ∙ ap (λ x. x && all_apply r m) step)
     where
-      cases : (period_at r m ≡ period_at r n) ⊎ (period_at r m ≢ period_at r n)
-          → (is_candidate_in (effective r) start m && period_at r m == period_at r n) ≡ occurs_in r (period_at r n) m
-      cases (inl same) =
-          ap (λ x. is_candidate_in (effective r) start m && x) (eq-eqb (period_at r m) (period_at r n) same)
-          ∙ keep_true (is_candidate_in (effective r) start m) ∙ candidate m small
-          ∙ ap (λ p. is_stepped (period_in (effective r) start) (effective r).interval p && all_apply r m) same ∙ ap (λ x. x && all_apply r m) step
-          ∙ sym (ap (λ x. x && all_apply r m) (eq-eqb (period_at r m) (period_at r n) same))
-      cases (inr other) =
-          ap (λ x. is_candidate_in (effective r) start m && x) (ne_eqb (period_at r m) (period_at r n) other)
-          ∙ and_false (is_candidate_in (effective r) start m)
-          ∙ sym (ap (λ x. x && all_apply r m) (ne_eqb (period_at r m) (period_at r n) other))
+      swapped : (a c b : Bool) → (c ≡ true → a ≡ b) → (a && c) ≡ (c && b)
+      swapped a c b h = grind arith
 
   placed : (n : ℕ) → n < calendar_end → is_candidate_in (effective r) start n ≡ true
       → is_placed (effective r) start (lists_none_wide r.parts.positions) n ≡ position_applies r n
@@ -261,10 +251,7 @@ module _ (r : Recurrence) (plain : HasPlainReading r) where
 
       by_positions : (b : Bool) → is_placed (effective r) start b n ≡ (b || is_wide_place r.parts.positions (occurs_in r (period_at r n)) n)
       by_positions true = refl
-      by_positions false =
-          ap (λ x. contains_wide r.parts.positions.front x
-          || contains_wide r.parts.positions.back (size (effective r) start n + 1 - rank (effective r) start n)) ranked
-          ∙ ap (λ x. contains_wide r.parts.positions.front (count (suc n) (occurs_in r (period_at r n))) || contains_wide r.parts.positions.back x) from_end
+      by_positions false = rw (from_end, ranked) refl
 
   chosen : (n : ℕ) → start ≤ n → n < calendar_end → is_chosen (effective r) start n ≡ (frequency_applies r n && (all_apply r n && position_applies r n))
   unfolding effective
@@ -275,21 +262,12 @@ module _ (r : Recurrence) (plain : HasPlainReading r) where
   -- DTSTART and what is later
   member : (n : ℕ) → n < rules_end → is_in_rule r n ≡ is_plain_member r n
   unfolding is_in_rule
-  member n small = from_start (by_order n start)
-    where
-      from_start : (((n < start) ⊎ (start < n)) ⊎ (n ≡ start)) → (n == start || (nat_lt start n && is_chosen (effective r) start n)) ≡ is_plain_member r n
-      from_start (inl (inl earlier)) =
-          ap (λ b. b || (nat_lt start n && is_chosen (effective r) start n)) (unequal n start (inl earlier))
-          ∙ ap (λ b. b && is_chosen (effective r) start n) (le-ltb start n (omega (arith, earlier)))
-          ∙ sym (ap (λ b. b && (frequency_applies r n && (all_apply r n && position_applies r n))) (lt-leb start n earlier))
-      from_start (inl (inr later)) =
-          ap (λ b. b || (nat_lt start n && is_chosen (effective r) start n)) (unequal n start (inr later))
-          ∙ ap (λ b. b && is_chosen (effective r) start n) (lt-ltb start n later)
-          ∙ chosen n (omega (arith, later)) (omega (arith, small))
-          ∙ sym (ap (λ b. b && (frequency_applies r n && (all_apply r n && position_applies r n))) (le-leb start n (omega (arith, later))))
-      from_start (inr same) =
-          ap (λ b. b || (nat_lt start n && is_chosen (effective r) start n)) (ap (λ x. x == start) same ∙ self_test start)
-          ∙ sym (ap (is_plain_member r) same ∙ plain.fits)
+  member n small = elim (by_order n start) [
+    | inl (inl earlier) ↦ rw (unequal n start (inl earlier), le-ltb start n (omega (arith, earlier)), lt-leb start n earlier) refl
+    | inl (inr later) ↦ rw (unequal n start (inr later), lt-ltb start n later, le-leb start n (omega (arith, later)))
+        (chosen n (omega (arith, later)) (omega (arith, small)))
+    | inr same ↦ rw (same, self_test start) (sym plain.fits)
+  ]
 
   counted : (o : Option ℕ) (n : ℕ) → n < rules_end → is_counted r o n ≡ is_few_members r o n
   counted None n small = refl
@@ -308,18 +286,7 @@ module _ (r : Recurrence) (plain : HasPlainReading r) where
 
   pub plainly_kept : (n : ℕ) → n < rules_end → is_kept r n ≡ is_plainly_kept r n
   unfolding is_kept
-  plainly_kept n h = cases (by_order n start)
-    where
-      apart : ((n < start) ⊎ (start < n)) → is_kept r n ≡ is_plainly_kept r n
-      apart other =
-          ap (λ b. b || (nat_lt n rules_end && is_in_rule r n && is_by_until r.kind r.parts.until n && is_counted r r.parts.count n)) (unequal n start other)
-          ∙ ap (λ b. b && is_in_rule r n && is_by_until r.kind r.parts.until n && is_counted r r.parts.count n) (lt-ltb n rules_end h)
-          ∙ ap (λ b. b && is_by_until r.kind r.parts.until n && is_counted r r.parts.count n) (member n h)
-          ∙ ap (λ b. is_plain_member r n && is_by_until r.kind r.parts.until n && b) (counted r.parts.count n h)
-
-      cases : (((n < start) ⊎ (start < n)) ⊎ (n ≡ start)) → is_kept r n ≡ is_plainly_kept r n
-      cases (inl other) = apart other
-      cases (inr same) =
-          ap (λ b. b || (nat_lt n rules_end && is_in_rule r n && is_by_until r.kind r.parts.until n && is_counted r r.parts.count n))
-          (ap (λ x. x == start) same ∙ self_test start)
-          ∙ sym (ap (is_plainly_kept r) same ∙ start_kept)
+  plainly_kept n h = elim (by_order n start) [
+    | inl other ↦ rw (unequal n start other, lt-ltb n rules_end h, member n h, counted r.parts.count n h) refl
+    | inr same ↦ rw (same, self_test start) (sym start_kept)
+  ]

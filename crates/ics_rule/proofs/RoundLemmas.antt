@@ -1,7 +1,7 @@
 -- What a rule chooses repeats after a round of periods.
-use Rattle.std.proofs.Common.{◌≡◌, ℕ, zero, suc, ◌+◌, ◌-◌, ◌*◌, ◌/◌, ◌%◌, ◌<◌, ◌≤◌, Bool, true, false, ◌&&◌, ◌==◌, nat_le, refl, sym, subst, ap, ◌∙◌}
+use Rattle.std.proofs.Common.{◌≡◌, ℕ, zero, suc, ◌+◌, ◌-◌, ◌*◌, ◌/◌, ◌%◌, ◌<◌, ◌≤◌, inl, inr, Bool, true, false, ◌&&◌, ◌==◌, nat_le, refl, sym, subst, ap, ◌∙◌}
 use Rattle.std.proofs.Common.{arith}
-use Rattle.std.proofs.lemmas.Bool.{and_parts, eqb-true, false_from_ne_true, le-leb, or_left}
+use Rattle.std.proofs.lemmas.Bool.{and_parts, cases_lt, eqb-true, false_from_ne_true, le-leb, or_left}
 use Rattle.std.proofs.lemmas.Bool.Decides.{nat_tests}
 use Rattle.std.proofs.lemmas.Nat.{div-add-mod'}
 use Rattle.std.proofs.Math.Nat.{add-mul-mod_self_right, mul_assoc, mul_comm, mul-le-mul_right, mod-lt}
@@ -13,7 +13,7 @@ use Rattle.ics_fields.specs.Ordinals.{lists_none_wide, lists_no_weekday}
 use Rattle.ics_fields.specs.Days.{weekday_of}
 use Rattle.ics_rule.specs.declared.effective_rule.EffectiveRule.{EffectiveRule}
 use Rattle.ics_rule.specs.PeriodNumbers.{period, day_of, hour_of, minute_of, second_of, rules_end}
-use Rattle.ics_rule.specs.Candidates.{lets, lets_numbered, lets_date, lets_clock, lists_wide, is_stepped, is_candidate_in, period_in}
+use Rattle.ics_rule.specs.Candidates.{lets, lets_numbered, lets_date, lets_clock, is_stepped, is_candidate_in, period_in}
 use Rattle.ics_rule.specs.DateParts.{names_weekdays_alone}
 use Rattle.ics_rule.specs.Kept.{count, is_beside, rank, size, is_placed, is_chosen}
 use Rattle.ics_rule.specs.RecurrencePeriods.{first_local}
@@ -24,7 +24,7 @@ use Rattle.ics_rule.proofs.StepLemmas.{stepped_parts}
 use Rattle.ics_rule.proofs.PeriodLemmas.{begun, begins, is_short}
 use Rattle.ics_rule.proofs.DateLemmas.{weekdays_alone}
 use Rattle.ics_fields.specs.Locals.{calendar_end}
-use Rattle.ics_rule.proofs.Tests.{and_assoc, and_false, positive}
+use Rattle.ics_rule.proofs.Tests.{and_assoc, positive}
 
 -- under the frequencies whose periods last alike a weekday with a number stands for the weekday
 numbered_alike : (f : Frequency) (q : EffectiveRule) (p : Ordinals) (d e : ℕ) → 0 < seconds_of f → lets_numbered f q p d ≡ lets_numbered f q p e
@@ -165,14 +165,10 @@ module _ (q : EffectiveRule) (start periods seconds : ℕ) (round : IsRound q pe
       ap (λ x. is_candidate_in q start (m + seconds) && x == period_in q (n + seconds)) (round.period m)
       ∙ ap (λ x. is_candidate_in q start (m + seconds) && period_in q m + periods == x) (round.period n)
       ∙ ap (λ x. is_candidate_in q start (m + seconds) && x) (shift_test (period_in q m) (period_in q n) periods)
-      ∙ by_period (period_in q m == period_in q n) refl
+      ∙ by_right _ _ _ (λ e. candidate_on m (let same = eqb-true (period_in q m) (period_in q n) e in omega (arith, same, l)))
     where
-      by_period : (b : Bool) → (period_in q m == period_in q n) ≡ b →
-          (is_candidate_in q start (m + seconds) && period_in q m == period_in q n) ≡ (is_candidate_in q start m && period_in q m == period_in q n)
-      by_period true e = ap (λ x. x && period_in q m == period_in q n)
-          (candidate_on m (let same = eqb-true (period_in q m) (period_in q n) e in omega (arith, same, l)))
-      by_period false e = ap (λ x. is_candidate_in q start (m + seconds) && x) e ∙ and_false (is_candidate_in q start (m + seconds))
-          ∙ sym (ap (λ x. is_candidate_in q start m && x) e ∙ and_false (is_candidate_in q start m))
+      by_right : (a b c : Bool) → (c ≡ true → a ≡ b) → (a && c) ≡ (b && c)
+      by_right a b c h = grind arith
 
   beside_later : (n k : ℕ) → period_in q start ≤ period_in q n → is_beside q start (n + seconds) (seconds + k) ≡ is_beside q start n k
   beside_later n k l = ap (is_beside q start (n + seconds)) (let order : seconds + k ≡ k + seconds = omega arith in order) ∙ beside_on n k l
@@ -218,8 +214,7 @@ module _ (q : EffectiveRule) (start periods seconds : ℕ) (round : IsRound q pe
     where
       placed_on : (b : Bool) → is_placed q start b (n + seconds) ≡ is_placed q start b n
       placed_on true = refl
-      placed_on false = ap (λ x. lists_wide q.positions x (size q start (n + seconds))) (rank_on n l some)
-          ∙ ap (λ x. lists_wide q.positions (rank q start n) x) (size_on n l some inside)
+      placed_on false = rw (rank_on n l some, size_on n l some inside) refl
 
   -- where nothing is chosen in a round, nothing is later
   pub none_after : {begin : ℕ} → 2 ≤ begin → period_in q start ≤ begin
@@ -239,12 +234,10 @@ module _ (q : EffectiveRule) (start periods seconds : ℕ) (round : IsRound q pe
       ∙ none (a + (n - a) % seconds) (omega arith) (omega (arith, small, end))
     where
       positive : 0 < seconds
-      positive = by_zero seconds refl
-        where
-          by_zero : (s : ℕ) → s ≡ seconds → 0 < seconds
-          by_zero zero e = absurd (let later = round.period 0 in let some = round.some in let same = ap (λ x. period_in q (0 + x)) (sym e) in
-              omega (arith, later, some, same))
-          by_zero (suc s) e = omega (arith, e)
+      positive = elim (cases_lt 0 seconds) [
+        | inl some ↦ some
+        | inr none ↦ absurd (let same = ap (period_in q) (let back : 0 + seconds ≡ 0 = omega arith in back) in omega (arith, round.period 0, round.some, same))
+      ]
 
   pub first_rounds : (j p : ℕ) → 2 ≤ p → first_local q.frequency (monday_zero q.week_start) (p + j * periods)
       ≡ first_local q.frequency (monday_zero q.week_start) p + j * seconds

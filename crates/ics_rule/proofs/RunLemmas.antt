@@ -146,34 +146,7 @@ module _ (r : Run) (listed : ℕ → Bool) (from m : ℕ) (a b : Bool) where
   day_found k = a || (has_run r m && (nat_lt (m - r.start + 1) k && listed (m - r.start + 1)))
 
   pub day_added : (n : ℕ) → 1 ≤ n → n ≤ r.len → IsLeastFrom listed from n → b ≡ day_found from → ((m == r.start + n - 1) || b) ≡ day_found (n + 1)
-  day_added n some most next e = elim (cases_lt m r.start) [
-    | inl out ↦ let before : nat_le r.start m ≡ false = grind (arith, nat_tests) in
-        rw (below m (r.start + n - 1) (omega (arith, out, some)), e, before) refl
-    | inr inside ↦
-        let begun : nat_le r.start m ≡ true = grind (arith, nat_tests) in
-        let place : (m == r.start + n - 1) ≡ (m - r.start + 1 == n) = grind (arith, nat_tests) in
-        rw (place, e, begun) (elim (three (m - r.start + 1) n) [
-          | inl low ↦ rw (below (m - r.start + 1) n low) (ap (λ x. a || ((true && nat_lt (m - r.start) r.len) && x)) (low_step low))
-          | inr (inl here) ↦ rw (
-            eq-eqb (m - r.start + 1) n here,
-            lt-ltb (m - r.start) r.len (omega (arith, here, most)),
-            lt-ltb (m - r.start + 1) (n + 1)
-                (omega (arith, here)),
-            ap listed here ∙ next.passes,
-          ) (sym (or_right a true refl))
-          | inr (inr high) ↦ rw (above (m - r.start + 1) n high) (ap (λ x. a || ((true && nat_lt (m - r.start) r.len) && x)) (high_step high))
-        ])
-  ]
-    where
-      low_step : m - r.start + 1 < n → (nat_lt (m - r.start + 1) from && listed (m - r.start + 1))
-          ≡ (nat_lt (m - r.start + 1) (n + 1) && listed (m - r.start + 1))
-      low_step low = ap (λ x. x || (nat_lt (m - r.start + 1) from && listed (m - r.start + 1))) (sym (below (m - r.start + 1) n low))
-          ∙ next_found listed from n (m - r.start + 1) next
-
-      high_step : n < m - r.start + 1 → (nat_lt (m - r.start + 1) from && listed (m - r.start + 1))
-          ≡ (nat_lt (m - r.start + 1) (n + 1) && listed (m - r.start + 1))
-      high_step high = ap (λ x. x || (nat_lt (m - r.start + 1) from && listed (m - r.start + 1))) (sym (above (m - r.start + 1) n high))
-          ∙ next_found listed from n (m - r.start + 1) next
+  day_added n some most next e = grind (arith, nat_tests, above, below, cases_lt, next_found, three)
 
   pub day_none : a ≡ day_found 1
   day_none = rw (le-ltb (m - r.start + 1) 1 (omega arith)) (sym (ap (λ y. a || y) (and_false (has_run r m)) ∙ or_false a))
