@@ -12,7 +12,7 @@ use Rattle.ics_rule.specs.Kept.{count, is_chosen}
 use Rattle.ics_rule.specs.RecurrencePeriods.{first_local, IsPeriodOf, is_taken}
 use Rattle.ics_rule.specs.Cursors.{IsCounted}
 use Rattle.ics_rule.specs.Searches.{is_few, IsPassed, AllCounted, IsTurned, after_look}
-use Rattle.ics_rule.proofs.PeriodLemmas.{begun, begins, first_in, period_mono, week_small}
+use Rattle.ics_rule.proofs.PeriodLemmas.{begun, begins, first_in, period_mono, week_small, before_first}
 use Rattle.ics_rule.proofs.Counts.{count-same, count-add, count-none, count_mono, count_most}
 use Rattle.ics_rule.proofs.RankLemmas.{count_flat}
 use Rattle.ics_rule.proofs.StepLemmas.{stepped_parts, none_between}
@@ -57,10 +57,7 @@ module _ (q : EffectiveRule) (start : ℕ) (p : RecurrencePeriod) (own : IsPerio
       let low = begins q.frequency (monday_zero q.week_start) p.number m l in
       elim (cases_lt p.number (period_in q m)) [
         | inl later ↦
-            let before : period_in q m < p.number + q.interval = (elim (cases_lt (period_in q m) (p.number + q.interval)) [
-              | inl less ↦ less
-              | inr more ↦ absurd (let late = begun q.frequency (monday_zero q.week_start) (p.number + q.interval) m more in omega (arith, late, h))
-            ]) in
+            let before = before_first q.frequency (monday_zero q.week_start) (p.number + q.interval) m h in
             no_step q start m (none_between q.interval some (period_in q start) p.number (period_in q m) step later before)
             ∙ sym (out m (λ e. omega (arith, e, later)))
         | inr same ↦ sym (taken_is q start p own step m ∙ within_here q start p.number m (omega (arith, same, low)))
@@ -111,10 +108,8 @@ chosen_passed {q = q} {start = start} {number = number} {o = o} left =
     let all = chosen_all q start o left.own left.counted.step left.some last_local (omega (arith, up, left.reach)) in
     let flat = count_flat (first_local q.frequency (monday_zero q.week_start) (o.number + q.interval))
     (first_local q.frequency (monday_zero q.week_start) number) (is_chosen q start) up
-    (λ m l u. left.passed.none m (begins q.frequency (monday_zero q.week_start) (o.number + q.interval) m l) (elim (cases_lt (period_in q m) number) [
-      | inl less ↦ less
-      | inr more ↦ absurd (let late = begun q.frequency (monday_zero q.week_start) number m more in omega (arith, late, u))
-    ])) in
+    (λ m l u. left.passed.none m (begins q.frequency (monday_zero q.week_start) (o.number + q.interval) m l)
+    (before_first q.frequency (monday_zero q.week_start) number m u)) in
     omega (arith, all, flat, left.counted.total, left.taken)
 
 -- a count past the limit keeps nothing more

@@ -11,12 +11,12 @@ use Rattle.ics_rule.specs.declared.recurrence_period.RecurrencePeriod.{Recurrenc
 use Rattle.ics_rule.specs.declared.cursor.Cursor.{Cursor}
 use Rattle.ics_rule.specs.Candidates.{is_stepped, period_in}
 use Rattle.ics_rule.specs.Kept.{count, is_chosen}
-use Rattle.ics_rule.specs.RecurrencePeriods.{first_local, IsPeriodOf, is_taken}
+use Rattle.ics_rule.specs.RecurrencePeriods.{IsPeriodOf, is_taken}
 use Rattle.ics_rule.specs.Cursors.{HasBegun, HeldBy, IsCounted}
 use Rattle.ics_rule.specs.Searches.{is_few, is_wanted, NoneWanted, HasMoved, IsWalked, HoldsPeriodOf, LooksAt, IsTurnOf, IsPassed, IsNextOpen}
 use Rattle.ics_rule.specs.Searches.{AllCounted, IsTurned}
 use Rattle.ics_rule.specs.Rounds.{IsPassedTo}
-use Rattle.ics_rule.proofs.PeriodLemmas.{begun, begins, period_mono}
+use Rattle.ics_rule.proofs.PeriodLemmas.{begun, period_mono, before_next}
 use Rattle.ics_rule.proofs.StepLemmas.{stepped_parts, stepped_shown}
 use Rattle.ics_rule.proofs.ChosenLemmas.{not_let_in, taken_within}
 use Rattle.ics_rule.proofs.CursorLemmas.{meets, moved_on, passed_over, within_here, within_facts}
@@ -90,8 +90,7 @@ module _ {q : EffectiveRule} {start c stop number : ℕ} {before now : Cursor} (
   pub counting_ended : IsWalked q start (Some c) stop None before now
   counting_ended = let own = parts now.held walk.turn walk.high in record { moved = walk.moved; held = own.0; found = tt; counted = own.1 }
     where
-      parts : (o : Option RecurrencePeriod) → MatchOption o (number ≡ period_in q start) (λ p. IsPeriodOf q p
-          × (IsCounted q start c now.counted now.limit p × ((p.number ≡ number) ⊎ IsPassed q start (p.number + q.interval) number)))
+      parts : (o : Option RecurrencePeriod) → IsTurnOf q start c number (record now { held = o })
           → MatchOption o (Unit {0}) (λ p. p.number ≤ period_in q stop)
           → HeldBy q o stop × MatchOption o (Unit {0}) (IsCounted q start c now.counted now.limit)
       parts None turn high = (tt, tt)
@@ -127,13 +126,8 @@ module _ {q : EffectiveRule} {start c stop number : ℕ} {before now : Cursor} (
     count_here : (n : ℕ) → period_in q n ≡ number → count n (is_chosen q start) ≡ after.counted + count n taken
     count_here n e =
         let low = begun q.frequency (monday_zero q.week_start) p.number n (omega (arith, e, turned.number)) in
-        let high : n ≤ first_local q.frequency (monday_zero q.week_start) (p.number + q.interval) =
-        (elim (cases_lt n (first_local q.frequency (monday_zero q.week_start) (p.number + q.interval))) [
-          | inl less ↦ omega (arith, less)
-          | inr more ↦ absurd (let far = begins q.frequency (monday_zero q.week_start) (p.number + q.interval) n more in
-              omega (arith, far, e, turned.number, walk.some))
-        ]) in
-        chosen_before q start p turned.product turned.counted.step walk.some n low high ∙ ap (λ x. x + count n taken) (sym turned.counted.total)
+        let high = before_next q.frequency (monday_zero q.week_start) (p.number + q.interval) n (omega (arith, e, turned.number, walk.some)) in
+        chosen_before q start p turned.product turned.counted.step walk.some n low (omega (arith, high)) ∙ ap (λ x. x + count n taken) (sym turned.counted.total)
 
     -- nothing is wanted before what is taken next
     none_until : (n : ℕ) → IsLeastFrom taken after.place n → (m : ℕ) → before.place ≤ m → m < n → is_wanted q start (Some c) m ≡ false

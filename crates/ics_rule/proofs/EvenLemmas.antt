@@ -124,43 +124,23 @@ module _ (q : EffectiveRule) (start : ℕ) (some : 1 ≤ q.interval) where
         → chosen_to q start (p + periods) + chosen_to q start (p + periods) ≡ chosen_to q start (p + periods + periods) + chosen_to q start p
     round_adds p low step high = grind (arith, mul_comm, steps_add)
 
-    rounds_add : (r p : ℕ) → 1 ≤ p → IsStep q start p → IsEarly q (p + suc r * periods)
-        → chosen_to q start (p + suc r * periods) + chosen_to q start p ≡ chosen_to q start (p + r * periods) + chosen_to q start (p + periods)
-    rounds_add zero p low step high =
-        let a = ap (chosen_to q start) (let same : p + 1 * periods ≡ p + periods = omega arith in same) in
-        let b = ap (chosen_to q start) (let same : p + 0 * periods ≡ p = omega arith in same) in
-        omega (arith, a, b)
-    rounds_add (suc r) p low step high =
-        let at = p + r * periods in
-        let next : p + suc r * periods ≡ at + periods = omega arith in
-        let last : p + suc (suc r) * periods ≡ at + periods + periods = omega arith in
-        let own = step_rounds r p step in
-        let up = reach (at + periods) (at + periods + periods) (is_round at own) (omega arith) in
-        let top = subst (λ x. IsEarly q x) last high in
-        let before = rounds_add r p low step (subst (λ x. IsEarly q x) (sym next) (omega (arith, up, top))) in
-        let a = ap (chosen_to q start) next in
-        let b = ap (chosen_to q start) last in
-        let one = round_adds at (omega (arith, low)) own top in
-        omega (arith, before, a, b, one)
-      where
-        step_rounds : (r p : ℕ) → IsStep q start p → IsStep q start (p + r * periods)
-        step_rounds zero p step = ap (is_stepped (period_in q start) q.interval) (let same : p + 0 * periods ≡ p = omega arith in same) ∙ step
-        step_rounds (suc r) p step = ap (is_stepped (period_in q start) q.interval) (let same : p + suc r * periods ≡ p + r * periods + periods = omega arith in
-            same) ∙ is_round (p + r * periods) (step_rounds r p step)
-
     all_rounds : (r p : ℕ) → 1 ≤ p → IsStep q start p → IsEarly q (p + r * periods) → chosen_to q start p ≤ chosen_to q start (p + periods)
         → chosen_to q start p + r * (chosen_to q start (p + periods) - chosen_to q start p) ≡ chosen_to q start (p + r * periods)
     all_rounds zero p low step high grows = let same = ap (chosen_to q start) (let same : p + 0 * periods ≡ p = omega arith in same) in omega (arith, same)
-    all_rounds (suc r) p low step high grows =
+    all_rounds (suc zero) p low step high grows =
+        let same = ap (chosen_to q start) (let same : p + 1 * periods ≡ p + periods = omega arith in same) in omega (arith, same, grows)
+    all_rounds (suc (suc r)) p low step high grows =
+        let last : p + suc (suc r) * periods ≡ p + periods + suc r * periods = omega arith in
+        let up = reach (p + periods + periods) (p + periods + suc r * periods) (is_round (p + periods) (is_round p step)) (omega arith) in
+        let top = subst (λ x. IsEarly q x) last high in
+        let one = round_adds p low step (omega (arith, up, top)) in
+        let rest = all_rounds (suc r) (p + periods) (omega (arith, low)) (is_round p step) top (omega (arith, one, grows)) in
         let d = chosen_to q start (p + periods) - chosen_to q start p in
-        let at = p + r * periods in
-        let up : first_local q.frequency (monday_zero q.week_start) (p + r * periods)
-        ≤ first_local q.frequency (monday_zero q.week_start) (p + suc r * periods) =
-        (let l = step_low q start p step in first_mono q (p + r * periods) (p + suc r * periods) (omega (arith, l)) (omega arith)) in
-        let before = all_rounds r p low step (omega (arith, up, high)) grows in
-        let one = rounds_add r p low step high in
-        let more : suc r * d ≡ r * d + d = omega arith in
-        omega (arith, before, one, more, grows)
+        let each : chosen_to q start (p + periods + periods) - chosen_to q start (p + periods) ≡ d = omega (arith, one, grows) in
+        let same = ap (λ y. suc r * y) each in
+        let end = ap (chosen_to q start) last in
+        let more : suc (suc r) * d ≡ d + suc r * d = omega arith in
+        omega (arith, rest, same, end, more, grows)
 
     pub even_is : 1 ≤ steps → IsEvenRound q start periods
     even_is most = record {

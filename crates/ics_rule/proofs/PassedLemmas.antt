@@ -1,5 +1,5 @@
 -- What looks up to its place leave of a cursor under COUNT.
-use Rattle.std.proofs.Common.{◌≡◌, ℕ, ◌+◌, ◌-◌, ◌*◌, ◌/◌, ◌<◌, ◌≤◌, ◌⊎◌, inl, inr, true, false, Option, Some, None, MatchOption, is_some, min, sym, subst}
+use Rattle.std.proofs.Common.{◌≡◌, ℕ, ◌+◌, ◌-◌, ◌*◌, ◌/◌, ◌<◌, ◌≤◌, inl, inr, true, false, Option, Some, None, MatchOption, is_some, min, sym, subst}
 use Rattle.std.proofs.Common.{ap, ◌∙◌, arith}
 use Rattle.std.proofs.lemmas.Bool.{cases_lt, false_from_ne_true}
 use Rattle.jiff_core.specs.Weekday.{monday_zero}
@@ -11,7 +11,7 @@ use Rattle.ics_rule.specs.Candidates.{is_stepped, period_in}
 use Rattle.ics_rule.specs.Kept.{count, is_chosen}
 use Rattle.ics_rule.specs.RecurrencePeriods.{first_local, IsPeriodOf, is_taken}
 use Rattle.ics_rule.specs.Cursors.{fresh, HeldBy, CountedBy, IsCounted, IsCursorIn}
-use Rattle.ics_rule.specs.Searches.{IsNextWanted, LooksAt, IsTurned, IsPassed, IsNextOpen, after_look}
+use Rattle.ics_rule.specs.Searches.{IsNextWanted, LooksAt, IsTurned, IsNextOpen, after_look, IsTurnOf}
 use Rattle.ics_rule.specs.Rounds.{IsEvenRound, HasRound, IsPassedTo, CountsFrom, HasCountedTo}
 use Rattle.std.proofs.lemmas.Nat.{div-add-mod'}
 use Rattle.std.proofs.Math.Nat.{mul-le-mul_right}
@@ -47,8 +47,7 @@ counting_passed {q = q} {start = start} {c = c} {number = number} {before = befo
   moved = walk.moved;
 }
   where
-    here : (o : Option RecurrencePeriod) → MatchOption o (number ≡ period_in q start) (λ p. IsPeriodOf q p
-        × (IsCounted q start c now.counted now.limit p × ((p.number ≡ number) ⊎ IsPassed q start (p.number + q.interval) number))) → HeldBy q o now.place
+    here : (o : Option RecurrencePeriod) → IsTurnOf q start c number (record now { held = o }) → HeldBy q o now.place
     here None t = tt
     here (Some p) t = (
       t.0,
@@ -57,8 +56,7 @@ counting_passed {q = q} {start = start} {c = c} {number = number} {before = befo
     )
 
     known : (o : Option RecurrencePeriod) →
-        MatchOption o (number ≡ period_in q start) (λ p. IsPeriodOf q p
-        × (IsCounted q start c now.counted now.limit p × ((p.number ≡ number) ⊎ IsPassed q start (p.number + q.interval) number)))
+        IsTurnOf q start c number (record now { held = o })
         → MatchOption o (Unit {0}) (IsCounted q start c now.counted now.limit)
     known None t = tt
     known (Some p) t = t.1.0
@@ -134,8 +132,7 @@ pub counting_room : {q : EffectiveRule} {start c stop number : ℕ} {before now 
     now.steps ≤ number + 1
 counting_room {q = q} {start = start} {c = c} {number = number} {now = now} walk = let low = below now.held walk.turn in omega (arith, walk.moved.steps, low)
   where
-    below : (o : Option RecurrencePeriod) → MatchOption o (number ≡ period_in q start) (λ p. IsPeriodOf q p
-        × (IsCounted q start c now.counted now.limit p × ((p.number ≡ number) ⊎ IsPassed q start (p.number + q.interval) number))) → fresh o ≤ number + 1
+    below : (o : Option RecurrencePeriod) → IsTurnOf q start c number (record now { held = o }) → fresh o ≤ number + 1
     below None t = omega arith
     below (Some p) t = elim t.1.1 [ inl same ↦ omega (arith, same) | inr on ↦ (let up = on.up in omega (arith, up)) ]
 

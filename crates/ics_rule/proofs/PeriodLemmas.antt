@@ -97,6 +97,13 @@ begun f w p n h = grind (arith, month_begun, year_begun)
 pub begins : (f : Frequency) (w p n : ℕ) → first_local f w p ≤ n → p ≤ period f w n
 begins f w p n h = grind (arith, month_begins, year_begins)
 
+-- a local before the first of a period lies in an earlier one, and one in an earlier period is before it
+pub before_first : (f : Frequency) (w p n : ℕ) → n < first_local f w p → period f w n < p
+before_first f w p n h = grind (arith, begun, cases_lt)
+
+pub before_next : (f : Frequency) (w p n : ℕ) → period f w n < p → n < first_local f w p
+before_next f w p n h = grind (arith, begins, cases_lt)
+
 -- a period from the first local's on has a local, and at most 366 days
 pub lasts : (f : Frequency) (w p : ℕ) → w < 7 → period f w 0 ≤ p → first_local f w p < first_local f w (suc p)
 lasts Monthly w zero h l = absurd (let some = month_positive (0 / 86_400) in omega (arith, some, l))

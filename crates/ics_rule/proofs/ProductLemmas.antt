@@ -1,5 +1,5 @@
 -- A product holds what the rule lets in within the period.
-use Rattle.std.proofs.Common.{◌≡◌, ℕ, ◌+◌, ◌-◌, ◌*◌, ◌/◌, ◌%◌, ◌<◌, ◌≤◌, inl, inr, Bool, true, ◌==◌, nat_le, nat_lt, ◌&&◌, ◌||◌, refl, sym, ap}
+use Rattle.std.proofs.Common.{◌≡◌, ℕ, ◌+◌, ◌-◌, ◌*◌, ◌/◌, ◌%◌, ◌<◌, ◌≤◌, Bool, true, ◌==◌, nat_le, nat_lt, ◌&&◌, ◌||◌, refl, sym, ap}
 use Rattle.std.proofs.Common.{◌∙◌, arith}
 use Rattle.std.proofs.lemmas.Bool.{and_parts, cases_lt, eq-eqb, eqb-true}
 use Rattle.std.proofs.lemmas.Bool.Decides.{nat_tests}
@@ -14,7 +14,7 @@ use Rattle.ics_rule.specs.EffectiveRules.{skips_hours, skips_minutes, skips_seco
 use Rattle.ics_rule.specs.Candidates.{lets, lets_date, lets_clock}
 use Rattle.ics_rule.specs.declared.recurrence_period.RecurrencePeriod.{RecurrencePeriod}
 use Rattle.ics_rule.specs.RecurrencePeriods.{first_local, month_start, has_day, has_second, holds, is_let_in}
-use Rattle.ics_rule.proofs.PeriodLemmas.{begun, begins, IsPeriodFrom}
+use Rattle.ics_rule.proofs.PeriodLemmas.{begun, begins, IsPeriodFrom, before_first, before_next}
 use Rattle.ics_rule.proofs.Tests.{and_assoc, iff}
 
 abbrev day_test : ℕ → ℕ → ℕ → Bool
@@ -130,14 +130,9 @@ span_high Yearly w p n l h = free (day_test (days_before_year p * 86_400) (days_
 -- they say that a local lies in the period
 pub span_is : (f : Frequency) (w p n : ℕ) → span_test f (first_local f w p) (first_local f w (p + 1)) n ≡ (period f w n == p)
 span_is f w p n = iff (span_test f (first_local f w p) (first_local f w (p + 1)) n) (period f w n == p)
-    (λ h. let s = span_low f w p n h in let low = begins f w p n s.0 in eq-eqb (period f w n) p (elim (cases_lt p (period f w n)) [
-      | inl more ↦ absurd (let late = begun f w (p + 1) n (omega arith) in omega (arith, late, s.1))
-      | inr same ↦ omega (arith, low, same)
-    ]))
-    (λ h. let e = eqb-true (period f w n) p h in span_high f w p n (begun f w p n (omega (arith, e))) (elim (cases_lt n (first_local f w (p + 1))) [
-      | inl less ↦ less
-      | inr more ↦ absurd (let late = begins f w (p + 1) n more in omega (arith, e, late))
-    ]))
+    (λ h. let s = span_low f w p n h in let low = begins f w p n s.0 in let high = before_first f w (p + 1) n s.1 in
+    eq-eqb (period f w n) p (omega (arith, low, high)))
+    (λ h. let e = eqb-true (period f w n) p h in span_high f w p n (begun f w p n (omega (arith, e))) (before_next f w (p + 1) n (omega (arith, e))))
 
 -- two conjunctions, by their first and their second tests
 exchange : (a b c d : Bool) → ((a && b) && (c && d)) ≡ ((a && c) && (b && d))

@@ -16,8 +16,7 @@ use Rattle.ics_rule.proofs.Tests.{above, and_false, below, iff, keep_true, or_fa
 
 -- of three tests of which the second fails, the third does not count
 out : (x y z : Bool) → (x && false && y) ≡ (x && false && z)
-out true y z = refl
-out false y z = refl
+out x y z = grind arith
 
 -- the members found before a place, and the next
 pub next_found : (f : ℕ → Bool) (from k x : ℕ) → IsLeastFrom f from k → ((x == k) || (nat_lt x from && f x)) ≡ (nat_lt x (k + 1) && f x)
@@ -76,8 +75,7 @@ module _ (r : Run) (d p m : ℕ) (a b : Bool) (own : weekday_in r p ≡ d) where
   weekday_done h e = grind (arith, nat_tests, cases_lt, le-ltb, lt-ltb, out)
 
 pub guard : (a b c : Bool) → (a ≡ true → b ≡ c) → (a && b) ≡ (a && c)
-guard true b c h = h refl
-guard false b c h = refl
+guard a b c h = grind arith
 
 pub run_facts : (r : Run) (k : ℕ) → has_run r k ≡ true → (r.start ≤ k) × (k - r.start < r.len)
 run_facts r k h = grind (arith, nat_tests)

@@ -34,12 +34,10 @@ pub between_done : {low end k : ℕ} (m : ℕ) (a : Bool) {b : Bool} → low ≤
 between_done m a l h most e = grind (arith, nat_tests, cases_lt)
 
 pub kept : (old new b : Bool) → new ≡ (old || b) → old ≡ true → new ≡ true
-kept true new b e h = e
-kept false new b e h = absurd (cc)
+kept old new b e h = grind arith
 
 pub gained : (old new b : Bool) → new ≡ (old || b) → b ≡ true → new ≡ true
-gained true new b e h = e
-gained false new b e h = e ∙ h
+gained old new b e h = grind arith
 
 pub either : (old new b : Bool) → new ≡ (old || b) → new ≡ true → (old ≡ true) ⊎ (b ≡ true)
 either true new b e h = inl refl
@@ -74,22 +72,14 @@ module _ (q : EffectiveRule) (some : lists_none q.weeks ≡ false) where
       ∙ ap (λ x. (days_in_year (pos y) - 1 - x % 7) / 7 + 1) day in
       let own : lets_place q.weeks (j / 7 + 1) ((days_in_year (pos y) - 1 - j % 7) / 7 + 1) ≡ true =
       ap (λ n. lets_place q.weeks n ((days_in_year (pos y) - 1 - j % 7) / 7 + 1)) (sym number) ∙ ap (lets_place q.weeks (week_number f)) (sym weeks) ∙ h in
-      elim (cases_lt ((days_in_year (pos y) - 1 - j % 7) / 7 + 1) 53) [
-        | inl fewer ↦ let back : (days_in_year (pos y) - 1 - j % 7) / 7 + 1 + 1 - (j / 7 + 1) ≡ 53 - (j / 7 + 1) = omega (arith, fewer, bounds.0, bounds.1) in
-            first (lists_none q.weeks) (contains q.weeks.front (j / 7 + 1)) (contains q.weeks.back (53 - (j / 7 + 1)))
-            (contains q.weeks.back (54 - (j / 7 + 1))) some
-            (ap (λ x. lists_none q.weeks || (contains q.weeks.front (j / 7 + 1) || contains q.weeks.back x)) (sym back) ∙ own)
-        | inr more ↦ let back : (days_in_year (pos y) - 1 - j % 7) / 7 + 1 + 1 - (j / 7 + 1) ≡ 54 - (j / 7 + 1) = omega (arith, more, bounds.0, bounds.1) in
-            second (lists_none q.weeks) (contains q.weeks.front (j / 7 + 1)) (contains q.weeks.back (53 - (j / 7 + 1)))
-            (contains q.weeks.back (54 - (j / 7 + 1))) some
-            (ap (λ x. lists_none q.weeks || (contains q.weeks.front (j / 7 + 1) || contains q.weeks.back x)) (sym back) ∙ own)
-      ]
+      let back = (days_in_year (pos y) - 1 - j % 7) / 7 + 1 + 1 - (j / 7 + 1) in
+      either_back (contains q.weeks.front (j / 7 + 1)) (elim (cases_lt ((days_in_year (pos y) - 1 - j % 7) / 7 + 1) 53) [
+        | inl fewer ↦ inl (let at : back ≡ 53 - (j / 7 + 1) = omega (arith, fewer, bounds.0, bounds.1) in ap (contains q.weeks.back) at)
+        | inr more ↦ inr (let at : back ≡ 54 - (j / 7 + 1) = omega (arith, more, bounds.0, bounds.1) in ap (contains q.weeks.back) at)
+      ]) some own
     where
-      first : (n a b c : Bool) → n ≡ false → (n || (a || b)) ≡ true → (a || b || c) ≡ true
-      first n a b c h l = grind arith
-
-      second : (n a b c : Bool) → n ≡ false → (n || (a || c)) ≡ true → (a || b || c) ≡ true
-      second n a b c h l = grind arith
+      either_back : {n b c x : Bool} (a : Bool) → (x ≡ b) ⊎ (x ≡ c) → n ≡ false → (n || (a || x)) ≡ true → (a || b || c) ≡ true
+      either_back a back h l = grind arith
 
 -- a year of so many days from a first, of a rule with BYWEEKNO; the fourth day of the first whole week comes `fourth` days after the year's first
 pub record IsYearOfWeeks (q : EffectiveRule) (first len fourth : ℕ) : Type 0 where
