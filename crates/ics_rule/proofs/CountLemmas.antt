@@ -12,7 +12,7 @@ use Rattle.ics_rule.specs.Kept.{count, is_chosen}
 use Rattle.ics_rule.specs.RecurrencePeriods.{first_local, IsPeriodOf, is_taken}
 use Rattle.ics_rule.specs.Cursors.{IsCounted}
 use Rattle.ics_rule.specs.Searches.{is_few, IsPassed, AllCounted, IsTurned, after_look}
-use Rattle.ics_rule.proofs.PeriodLemmas.{begun, begins, first_in, period_mono, week_small, before_first}
+use Rattle.ics_rule.proofs.PeriodLemmas.{begun, begins, first_in, period_mono, week_small, before_first, before_next}
 use Rattle.ics_rule.proofs.Counts.{count-same, count-add, count-none, count_mono, count_most}
 use Rattle.ics_rule.proofs.RankLemmas.{count_flat}
 use Rattle.ics_rule.proofs.StepLemmas.{stepped_parts, none_between}
@@ -141,13 +141,8 @@ turned_first {q = q} {start = start} {p = p} some positive e step look limit = r
         ∙ ap (λ x. count (first_local q.frequency (monday_zero q.week_start) x) (is_chosen q start)) (sym (look.number ∙ e));
     most =
         let low = begun q.frequency (monday_zero q.week_start) p.number start (omega (arith, look.number, e)) in
-        let high : start + 1 ≤ first_local q.frequency (monday_zero q.week_start) (p.number + q.interval) =
-        (elim (cases_lt start (first_local q.frequency (monday_zero q.week_start) (p.number + q.interval))) [
-          | inl less ↦ omega (arith, less)
-          | inr more ↦ absurd (let late = begins q.frequency (monday_zero q.week_start) (p.number + q.interval) start more in
-              omega (arith, late, look.number, e, some))
-        ]) in
-        let chosen = chosen_before q start p look.product here some (start + 1) (omega (arith, low)) high in
+        let high = before_next q.frequency (monday_zero q.week_start) (p.number + q.interval) start (omega (arith, look.number, e, some)) in
+        let chosen = chosen_before q start p look.product here some (start + 1) (omega (arith, low)) (omega (arith, high)) in
         let none = none_before_first q start in
         let back = ap (λ x. count (first_local q.frequency (monday_zero q.week_start) x) (is_chosen q start)) (look.number ∙ e) in
         let one : start + 1 ≡ suc start = omega arith in

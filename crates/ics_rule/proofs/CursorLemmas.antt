@@ -16,8 +16,9 @@ use Rattle.ics_rule.specs.Cursors.{HasLooked}
 use Rattle.ics_rule.specs.EffectiveRules.{effective}
 use Rattle.ics_rule.specs.Recurrence.{Recurrence}
 use Rattle.ics_rule.specs.Searches.{IsNextOpen, is_chosen_within, is_wanted, IsNextWanted, HasMoved, IsWalked, HoldsPeriodOf, LooksOrStays, LooksAt, after_look}
-use Rattle.ics_rule.proofs.PeriodLemmas.{begun, begins, first_in, period_mono, period_small, week_small}
+use Rattle.ics_rule.proofs.PeriodLemmas.{begun, begins, first_in, period_mono, period_small, week_small, before_next}
 use Rattle.ics_rule.proofs.Counts.{count-suc, count_some, count_mono, count_most, count_one_more, count_every}
+use Rattle.ics_rule.proofs.RankLemmas.{found}
 use Rattle.ics_rule.proofs.StepLemmas.{none_between}
 use Rattle.ics_rule.proofs.ChosenLemmas.{no_step, not_let_in}
 use Rattle.ics_fields.specs.Locals.{calendar_end, number}
@@ -48,10 +49,7 @@ module _ (q : EffectiveRule) (start a b : ℕ) where
         let none : period_in q 0 ≤ p = (let m = period_mono q.frequency (monday_zero q.week_start) 0 place (omega arith) in omega (arith, m)) in
         let end = begun q.frequency (monday_zero q.week_start) p (stop - 1) high in
         met_by p (first_local q.frequency (monday_zero q.week_start) p)
-        (elim (cases_lt place (first_local q.frequency (monday_zero q.week_start) p)) [
-          | inl after ↦ omega arith
-          | inr before ↦ absurd (let g = begins q.frequency (monday_zero q.week_start) p place before in omega (arith, g, later))
-        ]) (omega (arith, end)) (first_in q.frequency (monday_zero q.week_start) p (week_small q.week_start) none) step
+        (let after = before_next q.frequency (monday_zero q.week_start) p place later in omega (arith, after, within.from)) (omega (arith, end)) (first_in q.frequency (monday_zero q.week_start) p (week_small q.week_start) none) step
     | inr same ↦ met_by p place within.from (omega (arith, within.some, within.to)) (omega (arith, same, low)) step
   ]
 
@@ -160,16 +158,7 @@ looked_walked place walked l s few = grind (arith, nat_tests, looks_mono)
 
 -- one that passes a test is among those counted
 counted_one : (n : ℕ) (test : ℕ → Bool) → 0 < count n test → (m : ℕ) × ((m < n) × (test m ≡ true))
-counted_one zero test h = absurd (let none = count_most 0 test in omega (arith, none, h))
-counted_one (suc n) test h = by_last (test n) refl (counted_one n test)
-  where
-    by_last : (b : Bool) → test n ≡ b → (0 < count n test → (m : ℕ) × ((m < n) × (test m ≡ true))) → (m : ℕ) × ((m < suc n) × (test m ≡ true))
-    by_last true e before = (n, (omega arith, e))
-    by_last false e before =
-        let last = count-suc n test in
-        let none : ◌≡◌ {A = ℕ} (cond (test n) 1 0) 0 = ap (λ z. cond z 1 0) e in
-        let one = before (omega (arith, last, none, h)) in
-        (one.0, (omega (arith, one.1.0), one.1.1))
+counted_one n test h = let first = found test 1 n (omega arith) h in (first.0, (first.1.0, first.1.1.0))
 
 -- where one test implies another, no more pass it
 pub count_within : (n : ℕ) (f g : ℕ → Bool) → ((m : ℕ) → m < n → f m ≡ true → g m ≡ true) → count n f ≤ count n g

@@ -20,12 +20,11 @@ use Rattle.ics_rule.specs.Rounds.{seconds_of}
 use Rattle.ics_rule.specs.OpenPeriods.{per_day, lets_own, lets_within, is_open_period, size_of_open, chosen_of_size, chosen_in_open}
 use Rattle.ics_rule.proofs.Counts.{count-same, count-suc, count-add, count-from, count-none, count-product, count_every, count_none_at, count_one}
 use Rattle.ics_rule.proofs.ProductCounts.{count_zero}
-use Rattle.ics_rule.proofs.RankLemmas.{count_flat, count-ranked}
+use Rattle.ics_rule.proofs.RankLemmas.{count_flat, count-ranked, rank_listed}
 use Rattle.ics_rule.proofs.StepLemmas.{stepped_parts}
 use Rattle.ics_rule.proofs.CountLemmas.{IsCountedStep}
 use Rattle.ics_rule.proofs.RoundLemmas.{step_repeats}
 use Rattle.ics_fields.specs.Locals.{calendar_end}
-use Rattle.ics_rule.proofs.RunLemmas.{guard}
 use Rattle.ics_rule.proofs.Tests.{and_assoc, keep_true}
 
 -- the clock is a period's own and what is within it
@@ -151,8 +150,7 @@ module _ (q : EffectiveRule) (start : ℕ) (fine : 0 < seconds_of q.frequency) (
         ap (λ x. x && lists_wide q.positions (rank q start (p * u + k)) (size q start (p * u + k))) (candidate_at p k l ∙ ap (λ x. x && within k) is)
         ∙ ap (λ x. within k && lists_wide q.positions (rank q start (p * u + k)) x) (size_at top)
         ∙ ap (λ x. within k && lists_wide q.positions x (count u within)) rank_at
-        ∙ guard (within k) _ _ (λ e. ap (λ x. lists_wide q.positions x (count u within)) (let one = count_one (within k) e in
-        let more = count-suc k within in let next : count (suc k) within ≡ count k within + 1 = omega (arith, one, more) in next))
+        ∙ rank_listed q.positions within k (count u within)
 
   chosen_open : (p : ℕ) → p * u + u ≤ calendar_end → is_open p ≡ true → count u (λ k. is_chosen q start (p * u + k)) ≡ chosen_in_open q
   chosen_open p top is =

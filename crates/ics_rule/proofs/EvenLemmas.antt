@@ -1,6 +1,6 @@
 -- Rounds of periods in which a rule allows as many locals have as many chosen locals.
-use Rattle.std.proofs.Common.{◌≡◌, ℕ, zero, suc, ◌+◌, ◌-◌, ◌*◌, ◌/◌, ◌%◌, ◌≤◌, ◌≢◌, inl, inr, true, sym, subst, ap, ◌∙◌, arith}
-use Rattle.std.proofs.lemmas.Bool.{cases_lt, false_from_ne_true}
+use Rattle.std.proofs.Common.{◌≡◌, ℕ, zero, suc, ◌+◌, ◌-◌, ◌*◌, ◌/◌, ◌%◌, ◌≤◌, ◌≢◌, true, sym, subst, ap, ◌∙◌, arith}
+use Rattle.std.proofs.lemmas.Bool.{false_from_ne_true}
 use Rattle.std.proofs.Math.Nat.{mul_comm}
 use Rattle.jiff_core.specs.Weekday.{monday_zero}
 use Rattle.ics_fields.specs.declared.frequency.Frequency.{Frequency}
@@ -15,7 +15,7 @@ use Rattle.ics_rule.specs.RecurrencePeriods.{first_local}
 use Rattle.ics_rule.specs.Rounds.{seconds_of, IsFlat, IsRound, IsEvenRound, chosen_to}
 use Rattle.ics_rule.proofs.Counts.{count_mono}
 use Rattle.ics_rule.proofs.RankLemmas.{count_flat}
-use Rattle.ics_rule.proofs.PeriodLemmas.{begun, begins}
+use Rattle.ics_rule.proofs.PeriodLemmas.{begins, before_first}
 use Rattle.ics_rule.proofs.ChosenLemmas.{no_step}
 use Rattle.ics_rule.proofs.CountLemmas.{step_low, first_mono}
 use Rattle.ics_rule.proofs.StepLemmas.{stepped_parts, none_between}
@@ -74,10 +74,9 @@ module _ (q : EffectiveRule) (start : ℕ) (some : 1 ≤ q.interval) where
       (first_mono q (suc x) (x + q.interval) (omega (arith, low)) (omega (arith, some)))
       (λ m l u. no_step q start m (false_from_ne_true (is_stepped (period_in q start) q.interval (period_in q m)) (λ yes.
       let above = begins q.frequency (monday_zero q.week_start) (suc x) m l in
-      elim (cases_lt (period_in q m) (x + q.interval)) [
-        | inl less ↦ (let out = sym yes ∙ none_between q.interval some (period_in q start) x (period_in q m) step (omega (arith, above)) less in cc)
-        | inr more ↦ (let late = begun q.frequency (monday_zero q.week_start) (x + q.interval) m more in omega (arith, late, u))
-      ])))
+      let less = before_first q.frequency (monday_zero q.week_start) (x + q.interval) m u in
+      let out = sym yes ∙ none_between q.interval some (period_in q start) x (period_in q m) step (omega (arith, above)) less in
+      cc)))
 
   -- where each step has as many allowed as the one so many steps later, rounds add as much as each other
   module _ (steps : ℕ) (on : (x : ℕ) → 1 ≤ x → IsEarly q (x + q.interval * steps)

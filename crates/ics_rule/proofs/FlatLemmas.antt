@@ -18,7 +18,7 @@ use Rattle.ics_rule.specs.Rounds.{IsFlat}
 use Rattle.ics_rule.proofs.Counts.{count-same, count-add}
 use Rattle.ics_rule.proofs.RankLemmas.{count_flat}
 use Rattle.ics_rule.proofs.PeriodLemmas.{month_size}
-use Rattle.ics_rule.proofs.RoundLemmas.{clock_alike}
+use Rattle.ics_rule.proofs.RoundLemmas.{clock_same}
 use Rattle.ics_rule.proofs.MonthDays.{day_of_run, three_parts, goes, span_month}
 use Rattle.ics_rule.proofs.Tests.{keep_true, or_false}
 
@@ -40,10 +40,7 @@ abbrev pub month_local : ℕ → ℕ
 month_local i = month_start (suc i) * 86_400
 
 clock_of_day : (q : EffectiveRule) (e k : ℕ) → lets_clock q (e * 86_400 + k) ≡ lets_clock q k
-clock_of_day q e k = clock_alike q (e * 86_400 + k) k
-    (let same : (e * 86_400 + k) / 3_600 % 24 ≡ k / 3_600 % 24 = omega arith in ap (lets q.hours) same)
-    (let same : (e * 86_400 + k) / 60 % 60 ≡ k / 60 % 60 = omega arith in ap (lets q.minutes) same)
-    (let same : (e * 86_400 + k) % 60 ≡ k % 60 = omega arith in ap (lets q.seconds) same)
+clock_of_day q e k = clock_same q (e * 86_400 + k) k (omega arith) (omega arith) (omega arith)
 
 module _ (q : EffectiveRule) (flat : IsFlat q) where
   -- what is allowed in the first 28 days of a month

@@ -1,7 +1,7 @@
 -- The days that months list, by their dates, and what is left to ask of them.
 use Rattle.std.proofs.Common.{◌≡◌, ℕ, zero, suc, ◌+◌, ◌-◌, ◌*◌, ◌/◌, ◌%◌, ◌<◌, ◌≤◌, inl, inr, Bool, true, false, not, ◌==◌, ◌||◌, ◌&&◌, nat_lt, nat_le}
 use Rattle.std.proofs.Common.{if◌then◌else◌, pos, refl, sym, ap, ◌∙◌, arith}
-use Rattle.std.proofs.lemmas.Bool.{and_parts, and_right, cases_lt, eq-eqb, le-ltb, lt-ltb, or_left}
+use Rattle.std.proofs.lemmas.Bool.{and_parts, and_right, cases_lt, eq-eqb, le-ltb, lt-ltb, or_left, ltb-true, ltb-false}
 use Rattle.std.proofs.lemmas.Bool.Decides.{nat_tests}
 use Rattle.jiff_core.specs.Calendar.{days_in_month, days_in_year}
 use Rattle.jiff_core.proofs.SignedLemmas.{signed_arith}
@@ -75,30 +75,15 @@ module _ (q : EffectiveRule) (k : ℕ) where
       → b ≡ (nat_lt k (days_in_year (pos y)) && seen_months q months from (first + k))
       → new ≡ (b || (has_run r k && lists_in_month q (weekday_in r (k - r.start)) (k - r.start + 1) r.len))
       → new ≡ (nat_lt k (days_in_year (pos y)) && seen_months q months (m + 1) (first + k))
-  month_step {r = r} {months = months} {first = first} {y = y} {m = m} {from = from} {b = b} own start most next e more =
-      elim (cases_lt k (days_in_year (pos y))) [
-        | inl inside ↦
-            let M = month_of (first + k) in
-            let L = lists_in_month q (weekday_of (first + k)) (month_day_of (first + k)) (days_in_month (pos (year_of (first + k))) (month_of (first + k))) in
-            let old : b ≡ (nat_lt M from && (months M && L)) = e ∙ ap (λ x. x && (nat_lt M from && (months M && L))) (lt-ltb k (days_in_year (pos y)) inside) in
-            let added : (has_run r k && lists_in_month q (weekday_in r (k - r.start)) (k - r.start + 1) r.len) ≡ ((M == m) && L) =
-            guard (has_run r k) _ L (run_lists r first y m k own q) ∙ ap (λ x. x && L) (run_is_month r first y m k own start inside) in
-            more ∙ ap (λ x. x || (has_run r k && lists_in_month q (weekday_in r (k - r.start)) (k - r.start + 1) r.len)) old
-            ∙ ap (λ x. (nat_lt M from && (months M && L)) || x) added
-            ∙ gather (nat_lt M from) (months M) (M == m) L ∙ ap (λ x. x && L) (next_found months from m M next) ∙ and_assoc (nat_lt M (m + 1)) (months M) L
-            ∙ ap (λ x. x && (nat_lt M (m + 1) && (months M && L))) (sym (lt-ltb k (days_in_year (pos y)) inside))
-        | inr past ↦
-            let out : has_run r k ≡ false = and_right (nat_le r.start k) (nat_lt (k - r.start) r.len)
-            (le-ltb (k - r.start) r.len (omega (arith, past, most))) in
-            let none = le-ltb k (days_in_year (pos y)) past in
-            more ∙ ap (λ x. x || (has_run r k && lists_in_month q (weekday_in r (k - r.start)) (k - r.start + 1) r.len)) (e
-            ∙ ap (λ x. x && seen_months q months from (first + k)) none)
-            ∙ ap (λ x. x && lists_in_month q (weekday_in r (k - r.start)) (k - r.start + 1) r.len) out
-            ∙ sym (ap (λ x. x && seen_months q months (m + 1) (first + k)) none)
-      ]
+  month_step {r = r} {months = months} {first = first} {y = y} {m = m} {from = from} own start most next e more =
+      gather (nat_lt (month_of (first + k)) from) (months (month_of (first + k))) _ _ more e (λ inside. run_is_month r first y m k own start (ltb-true k (days_in_year (pos y)) inside))
+      (λ past. and_right (nat_le r.start k) (nat_lt (k - r.start) r.len)
+      (le-ltb (k - r.start) r.len (let far = ltb-false k (days_in_year (pos y)) past in omega (arith, far, most))))
+      (run_lists r first y m k own q) (next_found months from m (month_of (first + k)) next)
     where
-      gather : (a b s t : Bool) → ((a && (b && t)) || (s && t)) ≡ ((s || (a && b)) && t)
-      gather a b s t = grind arith
+      gather : (f a l t : Bool) {i h s b b' x : Bool} → b' ≡ (b || (h && x)) → b ≡ (i && (f && (a && l))) → (i ≡ true → h ≡ s) → (i ≡ false → h ≡ false)
+          → (h ≡ true → x ≡ l) → (s || (f && a)) ≡ (t && a) → b' ≡ (i && (t && (a && l)))
+      gather f a l t more e inside past here next = grind arith
 
 pub months_none : (q : EffectiveRule) (months : ℕ → Bool) (e : ℕ) (a : Bool) → false ≡ (a && seen_months q months 1 e)
 months_none q months e a = grind (arith, nat_tests, and_right, le-ltb, month_positive)

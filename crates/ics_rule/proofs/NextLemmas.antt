@@ -53,30 +53,20 @@ pub kept_later : (r : Recurrence) (n : ℕ) → number r.start < n → n < rules
 unfolding is_kept
 kept_later r n l e = by_count r.parts.count
   where
-    free : {a b t t' : Bool} (u : Bool) → a ≡ false → b ≡ true → t ≡ t' → (a || (b && t && u && true)) ≡ (t' && u)
-    free {t' = t'} u p q s = rw (p, q, s) (keep_true (t' && u))
-
-    counted : {a b t t' k f : Bool} (u : Bool) → a ≡ false → b ≡ true → t ≡ t' → k ≡ f → (a || (b && t && u && k)) ≡ ((t' && f) && u)
-    counted {t' = t'} {f = f} u p q s w = rw (p, q, s, w) (last t' u f)
-      where
-        last : (t u f : Bool) → (false || (true && t && u && f)) ≡ ((t && f) && u)
-        last t u f = grind arith
+    last : (t u f : Bool) → (false || (true && t && u && f)) ≡ ((t && f) && u)
+    last t u f = grind arith
 
     by_count : (o : Option ℕ) → (n == number r.start || (nat_lt n rules_end && is_in_rule r n && is_by_until r.kind r.parts.until n && is_counted r o n))
         ≡ (is_wanted (effective r) (number r.start) o n && is_by_until r.kind r.parts.until n)
-    by_count None = free (is_by_until r.kind r.parts.until n)
-        (unequal n (number r.start) (inr l)) (lt-ltb n rules_end e) (in_rule_later r n l)
-    by_count (Some c) = counted (is_by_until r.kind r.parts.until n)
-        (unequal n (number r.start) (inr l)) (lt-ltb n rules_end e) (in_rule_later r n l) (counted_is_few r c n l)
+    by_count None = rw (unequal n (number r.start) (inr l), lt-ltb n rules_end e, in_rule_later r n l) (keep_true (is_chosen (effective r) (number r.start) n && is_by_until r.kind r.parts.until n))
+    by_count (Some c) = rw (unequal n (number r.start) (inr l), lt-ltb n rules_end e, in_rule_later r n l, counted_is_few r c n l)
+        (last (is_chosen (effective r) (number r.start) n) (is_by_until r.kind r.parts.until n) (is_few (effective r) (number r.start) c n))
 
 -- none is kept before the start, and the start is
 pub kept_earlier : (r : Recurrence) (n : ℕ) → n < number r.start → is_kept r n ≡ false
 unfolding is_kept
-kept_earlier r n l = out (nat_lt n rules_end) (is_by_until r.kind r.parts.until n) (is_counted r r.parts.count n)
-    (unequal n (number r.start) (inl l)) (in_rule_earlier r n l)
-  where
-    out : {a t : Bool} (b u k : Bool) → a ≡ false → t ≡ false → (a || (b && t && u && k)) ≡ false
-    out b u k p q = rw (p, q) (ap (λ x. x && u && k) (and_false b))
+kept_earlier r n l = rw (unequal n (number r.start) (inl l), in_rule_earlier r n l)
+    (ap (λ x. x && is_by_until r.kind r.parts.until n && is_counted r r.parts.count n) (and_false (nat_lt n rules_end)))
 
 pub kept_start : (r : Recurrence) → is_kept r (number r.start) ≡ true
 unfolding is_kept

@@ -15,7 +15,7 @@ use Rattle.ics_rule.specs.Searches.{IsNextWanted, LooksAt, IsTurned, IsNextOpen,
 use Rattle.ics_rule.specs.Rounds.{IsEvenRound, HasRound, IsPassedTo, CountsFrom, HasCountedTo}
 use Rattle.std.proofs.lemmas.Nat.{div-add-mod'}
 use Rattle.std.proofs.Math.Nat.{mul-le-mul_right}
-use Rattle.ics_rule.proofs.PeriodLemmas.{begun, begins, period_mono}
+use Rattle.ics_rule.proofs.PeriodLemmas.{begun, begins, period_mono, before_first}
 use Rattle.ics_rule.proofs.Counts.{count_most}
 use Rattle.ics_rule.proofs.CountLemmas.{IsCountedStep, none_before_first}
 use Rattle.ics_rule.proofs.RoundLemmas.{repeats_often, none_after}
@@ -231,10 +231,6 @@ walk_rounds_end {q = q} {start = start} {stop = stop} {number = number} {before 
                 let b = begins q.frequency (monday_zero q.week_start) (begin + 1) m lm in omega (arith, up, b, here))
             | inr late ↦ late
           ])
-          (elim (cases_lt (period_in q m) number) [
-            | inl less ↦ less
-            | inr over ↦ absurd (let b = begun q.frequency (monday_zero q.week_start) (begin + 1 + is.periods) m (omega (arith, over, past, far)) in
-                omega (arith, b, um))
-          ]))
+          (let b = before_first q.frequency (monday_zero q.week_start) (begin + 1 + is.periods) m um in omega (arith, b, past, far)))
           n (begun q.frequency (monday_zero q.week_start) (begin + 1) n (omega (arith, more, past, far))) (omega (arith, u, h))
     ]

@@ -1,7 +1,7 @@
 -- Places in a period, and the first members of a rule, by counting.
-use Rattle.std.proofs.Common.{◌≡◌, ℕ, zero, suc, ◌+◌, ◌<◌, ◌≤◌, ◌⊎◌, inl, inr, Bool, true, false, cond, ◌&&◌, ◌||◌, ◌==◌, nat_lt, min, Some, None, refl, sym}
+use Rattle.std.proofs.Common.{◌≡◌, ℕ, zero, suc, ◌+◌, ◌<◌, ◌≤◌, ◌⊎◌, inl, inr, Bool, true, false, cond, ◌&&◌, ◌||◌, ◌==◌, nat_lt, min, Some, None, sym}
 use Rattle.std.proofs.Common.{ap, ◌∙◌, arith}
-use Rattle.std.proofs.lemmas.Bool.{cases_lt, lt-ltb, eqb-true}
+use Rattle.std.proofs.lemmas.Bool.{lt-ltb, eqb-true}
 use Rattle.std.proofs.lemmas.Bool.Decides.{nat_tests}
 use Rattle.ics_rule.specs.declared.effective_rule.EffectiveRule.{EffectiveRule}
 use Rattle.ics_rule.specs.Recurrence.{Recurrence}
@@ -13,26 +13,12 @@ use Rattle.ics_rule.specs.Ranks.{HasRank}
 use Rattle.ics_rule.proofs.Counts.{count-suc, count-none, count_mono, count_one_more, count_one, count_none_at}
 use Rattle.ics_rule.proofs.KeptLemmas.{and_true}
 use Rattle.ics_rule.proofs.NextLemmas.{in_rule_start, in_rule_earlier}
+use Rattle.ics_rule.proofs.RankLemmas.{IsAt, found}
 use Rattle.ics_rule.proofs.Tests.{keep_true, three}
 
 -- ---- the k-th of those that pass
 
-abbrev IsAt : (ℕ → Bool) → ℕ → ℕ → Type 0
-IsAt test k m = (test m ≡ true) × (count (suc m) test ≡ k)
-
--- there is one for each k up to their number
-found : (test : ℕ → Bool) (k end : ℕ) → 1 ≤ k → k ≤ count end test → (m : ℕ) × ((m < end) × IsAt test k m)
-unfolding count
-found test k zero low high = absurd (omega (arith, low, high))
-found test k (suc end) low high = elim (cases_lt (count end test) k) [
-  | inl last ↦ at_end (test end) refl last
-  | inr before ↦ let m = found test k end low before in (m.0, (omega (arith, m.1.0), m.1.1))
-]
-  where
-    at_end : (b : Bool) → test end ≡ b → count end test < k → (m : ℕ) × ((m < suc end) × IsAt test k m)
-    at_end b h l = grind (arith, nat_tests, count_none_at, count_one)
-
--- and no more
+-- no more than one is the k-th
 alone : (test : ℕ → Bool) (k m o : ℕ) → IsAt test k m → IsAt test k o → m ≡ o
 alone test k m o a b = grind (arith, nat_tests, count_one_more, three)
 
@@ -89,13 +75,8 @@ module _ (r : Recurrence) (c : ℕ) (counted : r.parts.count ≡ Some c) (some :
       let earlier = kept_number n (omega (arith, inside)) in
       let kept = count-suc n (is_kept r) in
       let members = count-suc n (is_in_rule r) in
-      step (is_in_rule r n) (count n (is_in_rule r)) kept members earlier (kept_first n (omega (arith, inside)))
+      kept ∙ one_more (is_kept r n) (is_in_rule r n) (count n (is_kept r)) (count n (is_in_rule r)) (kept_first n (omega (arith, inside))) earlier
+      ∙ ap (λ z. min z c) (sym members)
     where
-      test : (a b : ℕ) → ((nat_lt a b ≡ true) × (a < b)) ⊎ ((nat_lt a b ≡ false) × (b ≤ a))
-      test a b = grind (arith, nat_tests)
-
       one_more : (k m : Bool) (x y : ℕ) → k ≡ (m && nat_lt y c) → x ≡ min y c → x + cond k 1 0 ≡ min (y + cond m 1 0) c
       one_more k m x y h l = grind (arith, nat_tests, count_none_at, count_one)
-
-      step : {k : Bool} (m : Bool) {x : ℕ} (y : ℕ) {x' y' : ℕ} → x' ≡ x + cond k 1 0 → y' ≡ y + cond m 1 0 → x ≡ min y c → k ≡ (m && nat_lt y c) → x' ≡ min y' c
-      step {k = k} m {x = x} y ex ey h e = ex ∙ one_more k m x y e h ∙ ap (λ z. min z c) (sym ey)

@@ -32,7 +32,7 @@ use Rattle.ics_rule.proofs.DateLemmas.{none_nth}
 use Rattle.ics_rule.proofs.PeriodLemmas.{week_small, period_mono}
 use Rattle.ics_rule.proofs.TableSteps.{or_assoc, only_number, only_day, only_this_weekday, both_true, by_date, by_clock, by_subject, chosen_where}
 use Rattle.ics_rule.proofs.NthLemmas.{month_days_listed, year_days_listed, month_weekday_listed, year_weekday_listed, weeks_listed}
-use Rattle.ics_rule.proofs.Tests.{zero_of, self_test, and_assoc, unequal}
+use Rattle.ics_rule.proofs.Tests.{zero_of, self_test, and_assoc, unequal, swapped}
 
 -- ---- what is extracted of DTSTART
 
@@ -224,9 +224,6 @@ module _ (r : Recurrence) (plain : HasPlainReading r) where
   beside n m small step = swapped (is_candidate_in (effective r) start m) (period_at r m == period_at r n) (all_apply r m) (λ e. candidate m small
       ∙ ap (λ p. is_stepped (period_in (effective r) start) (effective r).interval p && all_apply r m) (eqb-true (period_at r m) (period_at r n) e)
       ∙ ap (λ x. x && all_apply r m) step)
-    where
-      swapped : (a c b : Bool) → (c ≡ true → a ≡ b) → (a && c) ≡ (c && b)
-      swapped a c b h = grind arith
 
   placed : (n : ℕ) → n < calendar_end → is_candidate_in (effective r) start n ≡ true
       → is_placed (effective r) start (lists_none_wide r.parts.positions) n ≡ position_applies r n

@@ -27,11 +27,11 @@ day_shown : (b e n : ℕ) → b / 86_400 ≤ n / 86_400 → n / 86_400 - b / 86_
 day_shown b e n h l = grind (arith, nat_tests)
 
 -- whole days
-whole_days : (b e n : ℕ) → day_test (b * 86_400) (e * 86_400) n ≡ true → (b * 86_400 ≤ n) × (n < e * 86_400)
-whole_days b e n h = let f = day_facts (b * 86_400) (e * 86_400) n h in (omega (arith, f.0), omega (arith, f.0, f.1))
+whole_days : (b e n : ℕ) (x : Bool) → (day_test (b * 86_400) (e * 86_400) n && x) ≡ true → (b * 86_400 ≤ n) × (n < e * 86_400)
+whole_days b e n x h = let f = day_facts (b * 86_400) (e * 86_400) n (and_parts (day_test (b * 86_400) (e * 86_400) n) x h).0 in (omega (arith, f.0), omega (arith, f.0, f.1))
 
-days_whole : (b e n : ℕ) → b * 86_400 ≤ n → n < e * 86_400 → day_test (b * 86_400) (e * 86_400) n ≡ true
-days_whole b e n h l = day_shown (b * 86_400) (e * 86_400) n (omega arith) (omega arith)
+days_whole : (b e n : ℕ) → b * 86_400 ≤ n → n < e * 86_400 → (day_test (b * 86_400) (e * 86_400) n && (true && true && true)) ≡ true
+days_whole b e n h l = ap (λ x. x && (true && true && true)) (day_shown (b * 86_400) (e * 86_400) n (omega arith) (omega arith))
 
 abbrev span_test : Frequency → ℕ → ℕ → ℕ → Bool
 span_test f b e n = day_test b e n && ((skips_hours f || (n / 3_600 % 24 == b / 3_600 % 24)) && (skips_minutes f || (n / 60 % 60 == b / 60 % 60))
@@ -90,16 +90,10 @@ span_low Hourly w p n h =
     let own = whole_hour (p * 3_600) in
     let same : n / 3_600 ≡ p = omega (arith, day, hour, whole, own) in
     (omega arith, omega arith)
-span_low Daily w p n h = whole_days p (p + 1) n (and_parts (day_test (p * 86_400) ((p + 1) * 86_400) n) _ h).0
-span_low Weekly w p n h = whole_days (7 * p - (12 - w)) (7 * (p + 1) - (12 - w)) n
-    (and_parts (day_test ((7 * p - (12 - w)) * 86_400) ((7 * (p + 1) - (12 - w)) * 86_400) n) _ h).0
-span_low Monthly w p n h = whole_days (month_start p) (month_start (p + 1)) n
-    (and_parts (day_test (month_start p * 86_400) (month_start (p + 1) * 86_400) n) _ h).0
-span_low Yearly w p n h = whole_days (days_before_year p) (days_before_year (p + 1)) n
-    (and_parts (day_test (days_before_year p * 86_400) (days_before_year (p + 1) * 86_400) n) _ h).0
-
-free : (d : Bool) → d ≡ true → (d && (true && true && true)) ≡ true
-free d h = ap (λ x. x && (true && true && true)) h
+span_low Daily w p n h = whole_days p (p + 1) n _ h
+span_low Weekly w p n h = whole_days (7 * p - (12 - w)) (7 * (p + 1) - (12 - w)) n _ h
+span_low Monthly w p n h = whole_days (month_start p) (month_start (p + 1)) n _ h
+span_low Yearly w p n h = whole_days (days_before_year p) (days_before_year (p + 1)) n _ h
 
 fixed : {d a b c : Bool} → d ≡ true → a ≡ true → b ≡ true → c ≡ true → (d && (a && b && c)) ≡ true
 fixed {a = a} {b = b} {c = c} p q r s = ap (λ x. x && (a && b && c)) p ∙ ap (λ x. x && b && c) q ∙ ap (λ x. x && c) r ∙ s
@@ -120,12 +114,10 @@ span_high Hourly w p n l h =
     let same : n / 3_600 ≡ p = omega arith in
     fixed
     (day_one (p * 3_600) ((p + 1) * 3_600) n (omega arith) (omega arith)) (eq-eqb (n / 3_600 % 24) (p * 3_600 / 3_600 % 24) (omega arith)) refl refl
-span_high Daily w p n l h = free (day_test (p * 86_400) ((p + 1) * 86_400) n) (days_whole p (p + 1) n l h)
-span_high Weekly w p n l h = free (day_test ((7 * p - (12 - w)) * 86_400) ((7 * (p + 1) - (12 - w)) * 86_400) n)
-    (days_whole (7 * p - (12 - w)) (7 * (p + 1) - (12 - w)) n l h)
-span_high Monthly w p n l h = free (day_test (month_start p * 86_400) (month_start (p + 1) * 86_400) n) (days_whole (month_start p) (month_start (p + 1)) n l h)
-span_high Yearly w p n l h = free (day_test (days_before_year p * 86_400) (days_before_year (p + 1) * 86_400) n)
-    (days_whole (days_before_year p) (days_before_year (p + 1)) n l h)
+span_high Daily w p n l h = days_whole p (p + 1) n l h
+span_high Weekly w p n l h = days_whole (7 * p - (12 - w)) (7 * (p + 1) - (12 - w)) n l h
+span_high Monthly w p n l h = days_whole (month_start p) (month_start (p + 1)) n l h
+span_high Yearly w p n l h = days_whole (days_before_year p) (days_before_year (p + 1)) n l h
 
 -- they say that a local lies in the period
 pub span_is : (f : Frequency) (w p n : ℕ) → span_test f (first_local f w p) (first_local f w (p + 1)) n ≡ (period f w n == p)

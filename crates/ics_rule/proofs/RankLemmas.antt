@@ -3,10 +3,14 @@ use Rattle.std.proofs.Common.{◌≡◌, ℕ, zero, suc, ◌+◌, ◌-◌, ◌*�
 use Rattle.std.proofs.lemmas.Bool.{and_from, and_right, cases_lt}
 use Rattle.std.proofs.lemmas.Nat.{div-add-mod'}
 use Rattle.std.proofs.Math.Nat.{mod-lt, mul-le-mul_right}
+use Rattle.std.proofs.lemmas.Bool.Decides.{nat_tests}
 use Rattle.ics_fields.specs.Sets.{IsLeastFrom}
 use Rattle.ics_rule.specs.Kept.{count}
-use Rattle.ics_rule.specs.RecurrencePeriods.{IsNth}
-use Rattle.ics_rule.proofs.Counts.{count-suc, count-add, count-none, count_mono, count_one_more, count_one}
+use Rattle.ics_rule.specs.RecurrencePeriods.{IsNth, is_listed}
+use Rattle.ics_rule.specs.Candidates.{lists_wide}
+use Rattle.ics_fields.specs.declared.ordinals.WideOrdinals.{WideOrdinals}
+use Rattle.ics_rule.proofs.RunLemmas.{guard}
+use Rattle.ics_rule.proofs.Counts.{count-suc, count-add, count-none, count_mono, count_one_more, count_one, count_none_at}
 
 -- what no number between two passes counts alike up to both
 pub count_flat : (a b : ℕ) (test : ℕ → Bool) → a ≤ b → ((m : ℕ) → a ≤ m → m < b → test m ≡ false) → count b test ≡ count a test
@@ -47,6 +51,28 @@ count-ranked (suc n) p listed = step (p n) (count n p) (count n (λ m. p m && li
     step : (b : Bool) (c x : ℕ) → x ≡ count c listed → x + cond (b && listed c) 1 0 ≡ count (c + cond b 1 0) listed
     step true c x e = let one : c + 1 ≡ suc c = omega arith in rw (one, e) refl
     step false c x e = let none : c + 0 ≡ c = omega arith in rw (none, e) (omega arith)
+
+-- the k-th of those that pass
+abbrev pub IsAt : (ℕ → Bool) → ℕ → ℕ → Type 0
+IsAt test k m = (test m ≡ true) × (count (suc m) test ≡ k)
+
+-- there is one for each k up to their number
+pub found : (test : ℕ → Bool) (k end : ℕ) → 1 ≤ k → k ≤ count end test → (m : ℕ) × ((m < end) × IsAt test k m)
+unfolding count
+found test k zero low high = absurd (omega (arith, low, high))
+found test k (suc end) low high = elim (cases_lt (count end test) k) [
+  | inl last ↦ at_end (test end) refl last
+  | inr before ↦ let m = found test k end low before in (m.0, (omega (arith, m.1.0), m.1.1))
+]
+  where
+    at_end : (b : Bool) → test end ≡ b → count end test < k → (m : ℕ) × ((m < suc end) × IsAt test k m)
+    at_end b h l = grind (arith, nat_tests, count_none_at, count_one)
+
+-- the rank of one that passes is one more than how many pass before it
+pub rank_listed : (positions : WideOrdinals) (p : ℕ → Bool) (k n : ℕ)
+    → (p k && lists_wide positions (count (suc k) p) n) ≡ (p k && is_listed positions n (count k p))
+rank_listed positions p k n = guard (p k) _ _ (λ e. ap (λ x. lists_wide positions x n)
+    (let last = count-suc k p in let one = count_one (p k) e in let next : count (suc k) p ≡ count k p + 1 = omega (arith, last, one) in next))
 
 -- the next of them is the member with the next listed number
 module _ (p listed : ℕ → Bool) (n : ℕ) where

@@ -42,6 +42,9 @@ pub clock_alike : (q : EffectiveRule) (n m : ℕ) → lets q.hours (hour_of n) �
     → lets_clock q n ≡ lets_clock q m
 clock_alike q n m h i s = grind (arith, nat_tests)
 
+pub clock_same : (q : EffectiveRule) (n m : ℕ) → hour_of n ≡ hour_of m → minute_of n ≡ minute_of m → second_of n ≡ second_of m → lets_clock q n ≡ lets_clock q m
+clock_same q n m h i s = rw (h, i, s) refl
+
 free : (s a b : ℕ) → is_empty s ≡ true → lets s a ≡ lets s b
 free s a b h = or_left (is_empty s) (contains s a) h ∙ sym (or_left (is_empty s) (contains s b) h)
 
@@ -54,30 +57,24 @@ module _ (q : EffectiveRule) (alone : names_weekdays_alone q ≡ true) where
       (lets_date q (day_of (n + 604_800)) && lets_clock q (n + 604_800)) ≡ (lets_date q (day_of n) && lets_clock q n)
   repeats_weekly fine n = let_in_alike q (n + 604_800) n
       (date_repeats q (day_of (n + 604_800)) (day_of n) alone fine (let same : ((n + 604_800) / 86_400 + 5) % 7 ≡ (n / 86_400 + 5) % 7 = omega arith in same))
-      (clock_alike q (n + 604_800) n
-      (let same : (n + 604_800) / 3_600 % 24 ≡ n / 3_600 % 24 = omega arith in ap (lets q.hours) same)
-      (let same : (n + 604_800) / 60 % 60 ≡ n / 60 % 60 = omega arith in ap (lets q.minutes) same)
-      (let same : (n + 604_800) % 60 ≡ n % 60 = omega arith in ap (lets q.seconds) same))
+      (clock_same q (n + 604_800) n (omega arith) (omega arith) (omega arith))
 
   module _ (none : lists_no_weekday q.weekdays ≡ true) where
     pub repeats_daily : (n : ℕ) → (lets_date q (day_of (n + 86_400)) && lets_clock q (n + 86_400)) ≡ (lets_date q (day_of n) && lets_clock q n)
-    repeats_daily n = let_in_alike q (n + 86_400) n (date_free q (day_of (n + 86_400)) (day_of n) alone none) (clock_alike q (n + 86_400) n
-        (let same : (n + 86_400) / 3_600 % 24 ≡ n / 3_600 % 24 = omega arith in ap (lets q.hours) same)
-        (let same : (n + 86_400) / 60 % 60 ≡ n / 60 % 60 = omega arith in ap (lets q.minutes) same)
-        (let same : (n + 86_400) % 60 ≡ n % 60 = omega arith in ap (lets q.seconds) same))
+    repeats_daily n = let_in_alike q (n + 86_400) n (date_free q (day_of (n + 86_400)) (day_of n) alone none)
+        (clock_same q (n + 86_400) n (omega arith) (omega arith) (omega arith))
 
     pub repeats_hourly : is_empty q.hours ≡ true → (n : ℕ) →
         (lets_date q (day_of (n + 3_600)) && lets_clock q (n + 3_600)) ≡ (lets_date q (day_of n) && lets_clock q n)
     repeats_hourly h n = let_in_alike q (n + 3_600) n (date_free q (day_of (n + 3_600)) (day_of n) alone none) (clock_alike q (n + 3_600) n
         (free q.hours (hour_of (n + 3_600)) (hour_of n) h)
-        (let same : (n + 3_600) / 60 % 60 ≡ n / 60 % 60 = omega arith in ap (lets q.minutes) same)
-        (let same : (n + 3_600) % 60 ≡ n % 60 = omega arith in ap (lets q.seconds) same))
+        (ap (lets q.minutes) (omega arith)) (ap (lets q.seconds) (omega arith)))
 
     pub repeats_minutely : is_empty q.hours ≡ true → is_empty q.minutes ≡ true → (n : ℕ) →
         (lets_date q (day_of (n + 60)) && lets_clock q (n + 60)) ≡ (lets_date q (day_of n) && lets_clock q n)
     repeats_minutely h i n = let_in_alike q (n + 60) n (date_free q (day_of (n + 60)) (day_of n) alone none) (clock_alike q (n + 60) n
         (free q.hours (hour_of (n + 60)) (hour_of n) h) (free q.minutes (minute_of (n + 60)) (minute_of n) i)
-        (let same : (n + 60) % 60 ≡ n % 60 = omega arith in ap (lets q.seconds) same))
+        (ap (lets q.seconds) (omega arith)))
 
     pub repeats_always : is_empty q.hours ≡ true → is_empty q.minutes ≡ true → is_empty q.seconds ≡ true → (n : ℕ) →
         (lets_date q (day_of (n + 1)) && lets_clock q (n + 1)) ≡ (lets_date q (day_of n) && lets_clock q n)

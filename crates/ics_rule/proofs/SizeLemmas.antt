@@ -1,6 +1,6 @@
 -- Of the size of a period, the number of locals that a rule allows there, depends how many are chosen.
-use Rattle.std.proofs.Common.{◌≡◌, ℕ, suc, ◌+◌, ◌*◌, ◌<◌, ◌≤◌, ◌≢◌, ◌⊎◌, inl, inr, Bool, true, false, cond, ◌&&◌, ◌==◌, refl, sym, ap, ◌∙◌, arith}
-use Rattle.std.proofs.lemmas.Bool.{cases_lt, cases_eq, eq-eqb, ne_eqb}
+use Rattle.std.proofs.Common.{◌≡◌, ℕ, suc, ◌+◌, ◌*◌, ◌<◌, ◌≤◌, ◌≢◌, Bool, true, false, cond, ◌&&◌, ◌==◌, sym, ap, ◌∙◌, arith}
+use Rattle.std.proofs.lemmas.Bool.{eq-eqb, eqb-true, ne_eqb}
 use Rattle.jiff_core.specs.Weekday.{monday_zero}
 use Rattle.ics_fields.specs.Ordinals.{lists_none_wide}
 use Rattle.ics_rule.specs.declared.effective_rule.EffectiveRule.{EffectiveRule}
@@ -9,13 +9,13 @@ use Rattle.ics_rule.specs.Candidates.{lets_date, lets_clock, lists_wide, is_step
 use Rattle.ics_rule.specs.Kept.{count, is_beside, rank, size, is_placed, is_chosen}
 use Rattle.ics_rule.specs.RecurrencePeriods.{first_local, is_let_in, is_listed}
 use Rattle.ics_rule.specs.Rounds.{chosen_to}
-use Rattle.ics_rule.proofs.Counts.{count-same, count-suc, count-add, count-from}
-use Rattle.ics_rule.proofs.RankLemmas.{count_flat, count-ranked}
-use Rattle.ics_rule.proofs.PeriodLemmas.{begun, begins, is_short}
+use Rattle.ics_rule.proofs.Counts.{count-same, count-add, count-from}
+use Rattle.ics_rule.proofs.RankLemmas.{count_flat, count-ranked, rank_listed}
+use Rattle.ics_rule.proofs.PeriodLemmas.{begun, begins, is_short, before_first}
 use Rattle.ics_rule.proofs.ChosenLemmas.{let_in}
 use Rattle.ics_rule.proofs.FlatLemmas.{is_allowed, allowed_before}
 use Rattle.ics_fields.specs.Locals.{calendar_end}
-use Rattle.ics_rule.proofs.Tests.{keep_true, and_false}
+use Rattle.ics_rule.proofs.Tests.{keep_true, swapped}
 
 -- no period is longer
 abbrev pub longest : ℕ
@@ -42,18 +42,10 @@ chosen_of q false n = count n (is_listed q.positions n)
 size_decides : (q : EffectiveRule) (t : ℕ → Bool) → count longest (chosen_at q t) ≡ chosen_of q (lists_none_wide q.positions) (count longest t)
 size_decides q t = by_positions (lists_none_wide q.positions)
   where
-    same : (b : Bool) (k : ℕ) → t k ≡ b
-        → (b && lists_wide q.positions (count (suc k) t) (count longest t)) ≡ (b && is_listed q.positions (count longest t) (count k t))
-    same true k e =
-        let last = count-suc k t in
-        let one : count (suc k) t ≡ count k t + 1 = last ∙ ap (λ b. count k t + cond b 1 0) e in
-        ap (λ n. lists_wide q.positions n (count longest t)) one
-    same false k e = refl
-
     by_positions : (b : Bool) → count longest (λ k. t k && placed_at q b t k) ≡ chosen_of q b (count longest t)
     by_positions true = count-same longest (λ k. t k && true) t (λ k l. keep_true (t k))
     by_positions false = count-same longest (λ k. t k && lists_wide q.positions (count (suc k) t) (count longest t))
-        (λ k. t k && is_listed q.positions (count longest t) (count k t)) (λ k l. same (t k) k refl)
+        (λ k. t k && is_listed q.positions (count longest t) (count k t)) (λ k l. rank_listed q.positions t k (count longest t))
         ∙ count-ranked longest t (is_listed q.positions (count longest t))
 
 module _ (q : EffectiveRule) (start x : ℕ) (step : is_stepped (period_in q start) q.interval x ≡ true)
@@ -68,13 +60,9 @@ module _ (q : EffectiveRule) (start x : ℕ) (step : is_stepped (period_in q sta
   let_out n other = ap (λ y. y && (lets_date q (day_of n) && lets_clock q n)) (ne_eqb (period_in q n) x other)
 
   beside : (n m : ℕ) → period_in q n ≡ x → is_beside q start n m ≡ is_let_in q x m
-  beside n m here = ap (λ y. is_candidate_in q start m && period_in q m == y) here ∙ cases (cases_eq (period_in q m) x)
-    where
-      cases : (period_in q m ≡ x) ⊎ (period_in q m ≢ x) → (is_candidate_in q start m && period_in q m == x) ≡ is_let_in q x m
-      cases (inl same) = ap (λ y. is_candidate_in q start m && y) (eq-eqb (period_in q m) x same) ∙ keep_true (is_candidate_in q start m)
-          ∙ let_in q start x m step same
-      cases (inr other) = ap (λ y. is_candidate_in q start m && y) (ne_eqb (period_in q m) x other) ∙ and_false (is_candidate_in q start m)
-          ∙ sym (let_out m other)
+  beside n m here = ap (λ y. is_candidate_in q start m && period_in q m == y) here
+      ∙ swapped (is_candidate_in q start m) (period_in q m == x) (lets_date q (day_of m) && lets_clock q m) (λ same. let_in q start x m step
+      (eqb-true (period_in q m) x same) ∙ ap (λ y. y && (lets_date q (day_of m) && lets_clock q m)) same)
 
   none_before : (m : ℕ) → m < a → is_let_in q x m ≡ false
   none_before m h = let_out m (λ same. let b = begun q.frequency (monday_zero q.week_start) x m (omega (arith, same)) in omega (arith, b, h))
@@ -107,10 +95,8 @@ module _ (q : EffectiveRule) (start x : ℕ) (step : is_stepped (period_in q sta
     here : (k : ℕ) → k < len → period_in q (a + k) ≡ x
     here k l =
         let low = begins q.frequency (monday_zero q.week_start) x (a + k) (omega arith) in
-        elim (cases_lt x (period_in q (a + k))) [
-          | inl more ↦ absurd (let late = begun q.frequency (monday_zero q.week_start) (suc x) (a + k) more in omega (arith, late, e, l))
-          | inr same ↦ omega (arith, low, same)
-        ]
+        let high = before_first q.frequency (monday_zero q.week_start) (suc x) (a + k) (omega (arith, e, l)) in
+        omega (arith, low, high)
 
     past : (k : ℕ) → len ≤ k → t k ≡ false
     past k l = let_out (a + k) (λ here. let b = begins q.frequency (monday_zero q.week_start) (suc x) (a + k) (omega (arith, e, l)) in omega (arith, b, here))

@@ -47,5 +47,8 @@ or_false a = grind arith
 pub or_swap : (a b c : Bool) → (b || (a || c)) ≡ (a || (b || c))
 or_swap a b c = grind arith
 
+pub swapped : (a c b : Bool) → (c ≡ true → a ≡ b) → (a && c) ≡ (c && b)
+swapped a c b h = grind arith
+
 pub none_yet : (a : ℕ) → nat_lt a 0 ≡ false
 none_yet a = grind (arith, nat_tests)
