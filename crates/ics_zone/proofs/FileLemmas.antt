@@ -1,7 +1,7 @@
 -- What a zone file says is what jiff answers for a table that was read from it.
 use Rattle.std.proofs.Common.{Decides, ◌≡◌, ℕ, zero, suc, ◌+◌, ◌-◌, ◌==◌, ℤ, pos, Bool, true, false, cond, int_le, int_lt, List, [], ◌∷◌, map, length, get_or}
 use Rattle.std.proofs.Common.{Option, Some, None, option_map, refl, sym, ap, ap₂, ◌∙◌, arith, if◌then◌else◌, not, ◌||◌, vec_len}
-use Rattle.std.proofs.lemmas.Bool.{and_parts}
+use Rattle.std.proofs.lemmas.Bool.{and_parts, false_from_ne_true}
 use Rattle.std.proofs.lemmas.Bool.Decides.{nat_tests}
 use Rattle.std.proofs.lemmas.Slice.Eq.{bytes_eq-Decides}
 use Rattle.std.specs.List.{prefix_len}
@@ -17,7 +17,7 @@ use Rattle.jiff_tz.specs.PosixRule.{match_some, utc_window, rule_nanos, in_windo
 use Rattle.jiff_tz.specs.PosixText.{dst_view, tz_view, day_time_view}
 use Rattle.jiff_tz.specs.Tzif as Table
 use Rattle.jiff_tz.specs.Tzif.{tzif_view}
-use Rattle.jiff_tz.specs.TzifText.{TypeText, TransitionText, transition_text, civil_start, civil_end, no_row}
+use Rattle.jiff_tz.specs.TzifText.{TypeText, TransitionText, transition_text, civil_start, no_row}
 use Rattle.jiff_tz.specs.TzifAgree.{FooterAgrees, RowAgrees}
 use Rattle.jiff_tz.specs.Abbreviation.{abbreviation_text}
 use Rattle.jiff_tz.specs.Year.{year_of_nanos}
@@ -52,8 +52,7 @@ rule_type_is rule n = by rule.dst
   where
     in_year : (b : Bool) (d : Dst) → (if b then daylight_type (dst_view d) else standard_type (tz_view rule))
         ≡ info_view (match_some (if b then Some d else None) (std_info rule) dst_info)
-    in_year true d = refl
-    in_year false d = refl
+    in_year b d = grind (arith, nat_tests)
 
     by : (dst : Option Dst) → type_by (tz_view rule) (option_map dst_view dst) n
         ≡ info_view (match_some (Posix.dst_at_by rule.std_offset dst n) (std_info rule) dst_info)
@@ -119,22 +118,13 @@ module _ (z : Tzif) where
   row_is k = get_or-view transition_text z.transitions.items k (Table.no_transition z)
 
   offset_after_is : (count : ℕ) → offset_after (tzif_view z) count ≡ (Table.type_after z count).offset.seconds
-  offset_after_is count = by (count == 0)
-    where
-      by : (b : Bool) → (if b then z.first.offset.seconds else (row_at (tzif_view z) (count - 1)).after.seconds)
-          ≡ (if b then z.first else (Table.transition_at z (count - 1)).after).offset.seconds
-      by true = refl
-      by false = ap (λ r. r.after.seconds) (row_is (count - 1))
+  offset_after_is count = grind (arith, nat_tests, row_is)
 
   rule_after_is : (count : ℕ) → rule_after (tzif_view z) count ≡ option_map tz_view (Table.rule_after z count)
   rule_after_is count =
       let same : length (map transition_text z.transitions.items) ≡ vec_len z.transitions =
       length-map z.transitions.items transition_text ∙ sym z.transitions.ok.0 in
-      rw same (by (count == vec_len z.transitions))
-    where
-      by : (b : Bool) → (if b then option_map tz_view z.posix_tz else None) ≡ option_map tz_view (if b then z.posix_tz else None)
-      by true = refl
-      by false = refl
+      rw same (grind (arith, nat_tests))
 
   by_rule : (rule : Option TimeZone) (before : ℤ) (type : LocalTimeType) (n : ℤ) → before ≡ type.offset.seconds
       → match_some (option_map tz_view rule) before (λ r. (rule_type r n).seconds) ≡ (match_some rule type.offset (λ r. Posix.offset_at r n)).seconds
@@ -153,12 +143,7 @@ module _ (z : Tzif) where
 
   -- that of a local, in a part of the table
   inside_is : (count : ℕ) (local : ℤ) → is_inside (tzif_view z) count local ≡ Table.is_inside z count local
-  inside_is count local = by (count == 0)
-    where
-      by : (b : Bool) → (if b then false else int_lt local (civil_end (row_at (tzif_view z) (count - 1))))
-          ≡ (if b then false else int_lt local (Table.civil_end (Table.transition_at z (count - 1))))
-      by true = refl
-      by false = ap (λ r. int_lt local (civil_end r)) (row_is (count - 1))
+  inside_is count local = grind (arith, nat_tests, row_is)
 
   module _ (dt : DateTime) (local : ℤ) (same : civil_nanos dt ≡ nanos_of_seconds local) where
     read_by_rule : (rule : Option TimeZone) (before : ℤ) (type : LocalTimeType) → before ≡ type.offset.seconds
@@ -173,11 +158,7 @@ module _ (z : Tzif) where
     past_is count = rw (rule_after_is count) (read_by_rule (Table.rule_after z count) _ (Table.type_after z count) (offset_after_is count))
 
     at_row : (t : Transition) → t.before.seconds ≡ (compatible_offset (Table.offsets_in t)).seconds
-    at_row t = by (int_lt t.before.seconds t.after.offset.seconds)
-      where
-        by : (b : Bool) → t.before.seconds ≡ (compatible_offset (if b then Gap t.before t.after.offset else Fold t.before t.after.offset)).seconds
-        by true = refl
-        by false = refl
+    at_row t = grind (arith, nat_tests)
 
     after_is : (count : ℕ) → reading_after (tzif_view z) count local
         ≡ (compatible_offset (if Table.is_inside z count local then Table.offsets_in (Table.transition_at z (count - 1))
@@ -220,11 +201,7 @@ agrees_yes rule rows h = by (length rows == 0) refl
     by false e = (row_agrees rule (get_or rows (length rows - 1) no_row)).1 (h (grind (arith, nat_tests)))
 
 pub agrees_no : (rule : TimeZone) (rows : List TransitionText) → (FooterAgrees rows rule → ⊥) → agrees (Some (tz_view rule)) rows ≡ false
-agrees_no rule rows h = by (agrees (Some (tz_view rule)) rows) refl
+agrees_no rule rows h = false_from_ne_true (agrees (Some (tz_view rule)) rows) (λ e. h (holds e))
   where
     holds : agrees (Some (tz_view rule)) rows ≡ true → FooterAgrees rows rule
     holds e l = grind (arith, nat_tests, row_agrees)
-
-    by : (b : Bool) → agrees (Some (tz_view rule)) rows ≡ b → b ≡ false
-    by true e = absurd (h (holds e))
-    by false e = refl

@@ -8,7 +8,7 @@ use Rattle.jiff_core.specs.Calendar.{IsWithin}
 use Rattle.ics_zone.specs.Moments.{shown, IsFirstTime, IsMomentBy, near, if_so, first_time, first_later, moment_from, moment_by}
 use Rattle.ics_zone.proofs.OnsetLemmas.{natural-is}
 use Rattle.ics_zone.proofs.SearchLemmas.{first_below-none, first_below-some}
-use Rattle.ics_zone.specs.ZoneOffsets.{natural}
+use Rattle.ics_zone.specs.ZoneOffsets.{first_below, natural}
 use Rattle.ics_zone.proofs.Cases.{less_or_not_z, int_lt_true, true_int_lt}
 
 if_so-some : (b : Bool) (t s : ℤ) → if_so b t ≡ Some s → (b ≡ true) × (t ≡ s)
@@ -16,8 +16,7 @@ if_so-some true t s e = (refl, cc)
 if_so-some false t s e = absurd (cc)
 
 if_so-none : (b : Bool) (t : ℤ) → b ≡ true → if_so b t ≡ None → ⊥
-if_so-none true t is e = cc
-if_so-none false t is e = cc
+if_so-none b t is e = grind (arith, ints)
 
 pub moment_unique : (offset : ℤ → ℤ) (local s t : ℤ) → IsMomentBy offset local s → IsMomentBy offset local t → s ≡ t
 moment_unique offset local s t (inl x) (inl y) = omega (arith, ints, x.first t y.shows, y.first s x.shows)
@@ -34,59 +33,63 @@ module _ (offset : ℤ → ℤ) (short : (t : ℤ) → IsWithin 86_399 (offset t
       let is = natural-is (t -ℤ local +ℤ pos 86_400) (omega (arith, ints)) in
       (natural (t -ℤ local +ℤ pos 86_400), omega (arith, ints, is))
 
-  first_time-some : (local t : ℤ) → first_time offset local ≡ Some t → IsFirstTime offset local t
-  first_time-some local t e =
-      let found = first_below-some (λ k. if_so (int_eq (shown offset (near local k)) local) (near local k)) 172_801 t e in
-      let so = if_so-some (int_eq (shown offset (near local found.place)) local) (near local found.place) t found.gives in
-      let at = so.1 in
-      record {
-        shows = rw (sym so.1) ((Decides-int_eq (shown offset (near local found.place)) local).0 so.0);
-        first = λ s is. elim (less_or_not_z s t) [
-          | inr l ↦ l
-          | inl l ↦ absurd (
-              let bound = short s in
-              let k = near_number local s (omega (arith, ints, is, bound.0, bound.1)) in
-              let n = k.1 in
-              if_so-none (int_eq (shown offset (near local k.0)) local) (near local k.0)
-              ((Decides-int_eq (shown offset (near local k.0)) local).1 (ap (shown offset) (sym n) ∙ is))
-              (found.earlier k.0 (omega (arith, ints, n, at, l))))
-        ];
-      }
+  -- the first instant near the local that passes a test, which no instant more than a day before the local passes
+  module _ (local : ℤ) (test : ℤ → Bool) (late : (s : ℤ) → test s ≡ true → (local -ℤ pos 86_400) ≤ℤ s) where
+    abbrev tried : ℕ → Option ℤ
+    tried k = if_so (test (near local k)) (near local k)
 
-  first_time-none : (local s : ℤ) → first_time offset local ≡ None → shown offset s ≢ local
-  first_time-none local s none is =
-      let bound = short s in
-      let k = near_number local s (omega (arith, ints, is, bound.0, bound.1)) in
-      let n = k.1 in
-      if_so-none (int_eq (shown offset (near local k.0)) local) (near local k.0)
-      ((Decides-int_eq (shown offset (near local k.0)) local).1 (ap (shown offset) (sym n) ∙ is))
-      (first_below-none (λ k. if_so (int_eq (shown offset (near local k)) local) (near local k)) 172_801 none k.0
-      (omega (arith, ints, n, is, bound.0, bound.1)))
+    least-some : (t : ℤ) → first_below 172_801 tried ≡ Some t → (test t ≡ true) × ((s : ℤ) → test s ≡ true → t ≤ℤ s)
+    least-some t e =
+        let found = first_below-some tried 172_801 t e in
+        let so = if_so-some (test (near local found.place)) (near local found.place) t found.gives in
+        let at = so.1 in (
+          rw (sym so.1) so.0,
+          λ s is. elim (less_or_not_z s t) [
+            | inr l ↦ l
+            | inl l ↦ absurd (
+                let k = near_number local s (late s is) in
+                let n = k.1 in
+                if_so-none (test (near local k.0)) (near local k.0) (sym (ap test n) ∙ is) (found.earlier k.0 (omega (arith, ints, n, at, l))))
+          ],
+        )
 
-  first_later-some : (local u : ℤ) → first_later offset local ≡ Some u → (local <ℤ shown offset u) × ((s : ℤ) → local <ℤ shown offset s → u ≤ℤ s)
-  first_later-some local u e =
-      let found = first_below-some (λ k. if_so (int_lt local (shown offset (near local k))) (near local k)) 172_801 u e in
-      let so = if_so-some (int_lt local (shown offset (near local found.place))) (near local found.place) u found.gives in
-      let at = so.1 in (
-        rw (sym so.1) (int_lt_true local (shown offset (near local found.place)) so.0),
-        λ s is. elim (less_or_not_z s u) [
-          | inr l ↦ l
-          | inl l ↦ absurd (
-              let bound = short s in
-              let k = near_number local s (omega (arith, ints, is, bound.0, bound.1)) in
-              let n = k.1 in
-              if_so-none (int_lt local (shown offset (near local k.0))) (near local k.0)
-              (true_int_lt local (shown offset (near local k.0)) (rw n at is))
-              (found.earlier k.0 (omega (arith, ints, n, at, l))))
-        ],
-      )
+    least-none : first_below 172_801 tried ≡ None → (s : ℤ) → s ≤ℤ (local +ℤ pos 86_400) → test s ≡ true → ⊥
+    least-none none s high is =
+        let k = near_number local s (late s is) in
+        let n = k.1 in
+        if_so-none (test (near local k.0)) (near local k.0) (sym (ap test n) ∙ is) (first_below-none tried 172_801 none k.0 (omega (arith, ints, n, high)))
 
-  first_later-none : (local : ℤ) → first_later offset local ≡ None → ⊥
-  first_later-none local none =
-      let bound = short (near local 172_800) in
-      if_so-none (int_lt local (shown offset (near local 172_800))) (near local 172_800)
-      (true_int_lt local (shown offset (near local 172_800)) (omega (arith, ints, bound.0, bound.1)))
-      (first_below-none (λ k. if_so (int_lt local (shown offset (near local k))) (near local k)) 172_801 none 172_800 (omega arith))
+  module _ (local : ℤ) where
+    abbrev shows : ℤ → Bool
+    shows s = int_eq (shown offset s) local
+
+    shows-late : (s : ℤ) → shows s ≡ true → (local -ℤ pos 86_400) ≤ℤ s
+    shows-late s e = let is = (Decides-int_eq (shown offset s) local).0 e in let bound = short s in omega (arith, ints, is, bound.0, bound.1)
+
+    abbrev shows_later : ℤ → Bool
+    shows_later s = int_lt local (shown offset s)
+
+    later-late : (s : ℤ) → shows_later s ≡ true → (local -ℤ pos 86_400) ≤ℤ s
+    later-late s e = let is = int_lt_true local (shown offset s) e in let bound = short s in omega (arith, ints, is, bound.0, bound.1)
+
+    first_time-some : (t : ℤ) → first_time offset local ≡ Some t → IsFirstTime offset local t
+    first_time-some t e = let least = least-some local shows shows-late t e in record {
+      shows = (Decides-int_eq (shown offset t) local).0 least.0;
+      first = λ s is. least.1 s ((Decides-int_eq (shown offset s) local).1 is);
+    }
+
+    first_time-none : (s : ℤ) → first_time offset local ≡ None → shown offset s ≢ local
+    first_time-none s none is = let bound = short s in
+        least-none local shows shows-late none s (omega (arith, ints, is, bound.0, bound.1)) ((Decides-int_eq (shown offset s) local).1 is)
+
+    first_later-some : (u : ℤ) → first_later offset local ≡ Some u → (local <ℤ shown offset u) × ((s : ℤ) → local <ℤ shown offset s → u ≤ℤ s)
+    first_later-some u e = let least = least-some local shows_later later-late u e in
+        (int_lt_true local (shown offset u) least.0, λ s is. least.1 s (true_int_lt local (shown offset s) is))
+
+    first_later-none : first_later offset local ≡ None → ⊥
+    first_later-none none = let bound = short (local +ℤ pos 86_400) in
+        least-none local shows_later later-late none (local +ℤ pos 86_400) (omega (arith, ints))
+        (true_int_lt local (shown offset (local +ℤ pos 86_400)) (omega (arith, ints, bound.0, bound.1)))
 
   pub moment_found : (local : ℤ) → IsMomentBy offset local (moment_by offset local)
   unfolding moment_by
