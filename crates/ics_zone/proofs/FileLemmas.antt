@@ -1,6 +1,6 @@
 -- What a zone file says is what jiff answers for a table that was read from it.
-use Rattle.std.proofs.Common.{Decides, ◌≡◌, ℕ, zero, suc, ◌+◌, ◌-◌, ◌==◌, ℤ, pos, Bool, true, false, cond, int_le, int_lt, List, [], ◌∷◌, map, length, get_or}
-use Rattle.std.proofs.Common.{Option, Some, None, option_map, refl, sym, ap, ap₂, ◌∙◌, arith, if◌then◌else◌, not, ◌||◌, vec_len}
+use Rattle.std.proofs.Common.{Decides, ◌≡◌, ℕ, zero, suc, ◌+◌, ◌-◌, ℤ, pos, Bool, true, false, cond, int_le, int_lt, List, [], ◌∷◌, map, length, get_or}
+use Rattle.std.proofs.Common.{Option, Some, None, option_map, refl, sym, ap, ap₂, ◌∙◌, arith, if◌then◌else◌, not, vec_len}
 use Rattle.std.proofs.lemmas.Bool.{and_parts, false_from_ne_true}
 use Rattle.std.proofs.lemmas.Bool.Decides.{nat_tests}
 use Rattle.std.proofs.lemmas.Slice.Eq.{bytes_eq-Decides}
@@ -17,7 +17,7 @@ use Rattle.jiff_tz.specs.PosixRule.{match_some, utc_window, rule_nanos, in_windo
 use Rattle.jiff_tz.specs.PosixText.{dst_view, tz_view, day_time_view}
 use Rattle.jiff_tz.specs.Tzif as Table
 use Rattle.jiff_tz.specs.Tzif.{tzif_view}
-use Rattle.jiff_tz.specs.TzifText.{TypeText, TransitionText, transition_text, civil_start, no_row}
+use Rattle.jiff_tz.specs.TzifText.{TypeText, TransitionText, transition_text, civil_start}
 use Rattle.jiff_tz.specs.TzifAgree.{FooterAgrees, RowAgrees}
 use Rattle.jiff_tz.specs.Abbreviation.{abbreviation_text}
 use Rattle.jiff_tz.specs.Year.{year_of_nanos}
@@ -63,8 +63,7 @@ pub rule_offset_is : (rule : TimeZone) (n : ℤ) → (rule_type (tz_view rule) n
 rule_offset_is rule n = ap (λ t. t.seconds) (rule_type_is rule n) ∙ by (Posix.dst_at rule n)
   where
     by : (dst : Option Dst) → (match_some dst (std_info rule) dst_info).offset.seconds ≡ (match_some dst rule.std_offset (λ d. d.offset)).seconds
-    by None = refl
-    by (Some d) = refl
+    by dst = grind (arith, nat_tests)
 
 behind_is : (std dst : Offset) (w : ℤ × ℤ) (n : ℤ) → compatible_behind std.seconds dst.seconds w n
     ≡ (compatible_offset (Posix.ambiguous_behind std dst w n)).seconds
@@ -192,13 +191,7 @@ row_agrees : (rule : TimeZone) (row : TransitionText)
 row_agrees rule row = grind (arith, nat_tests, and_parts, bytes_eq-Decides, is_flag-Decides, rule_type_is)
 
 pub agrees_yes : (rule : TimeZone) (rows : List TransitionText) → FooterAgrees rows rule → agrees (Some (tz_view rule)) rows ≡ true
-agrees_yes rule rows h = by (length rows == 0) refl
-  where
-    by : (b : Bool) → (length rows == 0) ≡ b
-        → (b || is_type (rule_type (tz_view rule) (nanos_of_seconds (get_or rows (length rows - 1) no_row).second))
-        (get_or rows (length rows - 1) no_row).after) ≡ true
-    by true e = refl
-    by false e = (row_agrees rule (get_or rows (length rows - 1) no_row)).1 (h (grind (arith, nat_tests)))
+agrees_yes rule rows h = grind (arith, nat_tests, row_agrees)
 
 pub agrees_no : (rule : TimeZone) (rows : List TransitionText) → (FooterAgrees rows rule → ⊥) → agrees (Some (tz_view rule)) rows ≡ false
 agrees_no rule rows h = false_from_ne_true (agrees (Some (tz_view rule)) rows) (λ e. h (holds e))

@@ -1,5 +1,5 @@
 -- What two hours tell of the onsets of a rule.
-use Rattle.std.proofs.Common.{◌≡◌, ℕ, ◌+◌, ◌-◌, ◌*◌, ◌/◌, ◌%◌, ◌<◌, ◌==◌, ◌&&◌, nat_lt, inl, inr, refl, Bool, true, false, sym, subst, ap, ◌∙◌, arith}
+use Rattle.std.proofs.Common.{◌≡◌, ℕ, ◌+◌, ◌-◌, ◌*◌, ◌/◌, ◌%◌, ◌<◌, ◌&&◌, nat_lt, inl, inr, refl, Bool, true, false, sym, subst, ap, ◌∙◌, arith}
 use Rattle.std.proofs.Common.{Some, List, length, set, ℤ, pos, ◌+ℤ◌, ◌-ℤ◌, ◌<ℤ◌, ◌≤ℤ◌}
 use Rattle.std.proofs.lemmas.Bool.{true_from_ne_false, cases_lt, cases_eq, eq-eqb, ne_eqb, and_parts, and_from}
 use Rattle.std.specs.Prelude.{if◌then◌else◌, int_lt}
@@ -54,16 +54,11 @@ minute_from_both {hours = hours} {local = local} both n small = elim (cases_lt (
 -- two hours without times keep nothing
 pub keeps_nothing : (hours : Hours) → ((n : ℕ) → keeps_time hours.here n ≡ false) → ((n : ℕ) → keeps_time hours.next n ≡ false)
     → (n : ℕ) → keeps hours n ≡ false
-keeps_nothing hours here next n = either (n / 3_600 == hours.hour)
-  where
-    either : (b : Bool) → (if b then keeps_time hours.here n else keeps_time hours.next n) ≡ false
-    either true = here n
-    either false = next n
+keeps_nothing hours here next n = grind (arith, ints)
 
 -- nor do they mark a second
 pub nothing_marked : (b kept marked : Bool) → kept ≡ false → marked ≡ false → marked ≡ (b && kept)
-nothing_marked true kept marked none not = not ∙ sym none
-nothing_marked false kept marked none not = not
+nothing_marked b kept marked none not = grind arith
 
 -- a part of the word of a minute: the seconds that are kept of the first `size`, which are those before a count
 pub record IsFrontOf (hours : Hours) (local minute : ℕ) (count : ℤ) (size word part : ℕ) : Type 0 where

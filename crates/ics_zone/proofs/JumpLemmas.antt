@@ -127,25 +127,16 @@ module _ (zone : List ObservanceSaid) (facts : IsZone zone) (some : 0 < length z
           let f = h.1 in
           let not_later = f.greatest over.place over.at over.observance over.onset over.not_after in
           let less = over.greater f.place f.since h.0 f.onset (sym h.2 ∙ e) f.not_after in
-          elim less [
-            | inl l ↦ elim not_later [ inl m ↦ omega (arith, ints, l, m) | inr m ↦ (let same = m.0 in omega (arith, ints, l, same)) ]
-            | inr l ↦ elim not_later [
-              | inl m ↦ (let same = l.0 in omega (arith, ints, same, m))
-              | inr m ↦ (let a = l.1 in let b = m.1 in omega (arith, a, b))
-            ]
-          ]
+          grind (arith, ints)
       by (inr h) =
           let f = h.1 in
           let late = f.before in
           let early = over.not_after in
-          elim (f.least over.place over.at over.observance over.onset) [
-            | inl l ↦ omega (arith, ints, l, late, early)
-            | inr l ↦ (let same = l.0 in omega (arith, ints, same, late, early))
-          ]
+          let least = f.least over.place over.at over.observance over.onset in
+          grind (arith, ints)
 
   greater_at : (t : ℤ) (i j : ℕ) → i < j → IsNotLater t j t i → ⊥
-  greater_at t i j less (inl l) = omega (arith, ints, l)
-  greater_at t i j less (inr l) = let high = l.1 in omega (arith, less, high)
+  greater_at t i j less later = grind (arith, ints)
 
   module _ (local : ℤ) (skipped : (t : ℤ) → shown (zone_offset zone) t ≢ local) where
     -- under one offset the clock does not pass the local, since it would show it

@@ -46,11 +46,10 @@ within_is {zone = zone} {t = t} {count = count} after e h = (subst (λ x. IsLate
 
 -- before an instant, or at it
 not_later_by : (s t : ℤ) (i j : ℕ) → s ≤ℤ t → i ≤ j → IsNotLater s i t j
-not_later_by s t i j l h = elim (less_or_not_z s t) [ inl less ↦ inl less | inr more ↦ inr (omega (arith, ints, l, more), h) ]
+not_later_by s t i j l h = grind (arith, ints, less_or_not_z)
 
 not_later_is : (s t : ℤ) (i j : ℕ) → IsNotLater s i t j → s ≤ℤ t
-not_later_is s t i j (inl l) = omega (arith, ints)
-not_later_is s t i j (inr l) = omega (arith, ints, l.0)
+not_later_is s t i j l = grind (arith, ints)
 
 -- the last onset of the observance at a place that is not after an instant, with that place and the offset after it
 pub record IsLastOnset (k : ℕ) (o : Onsets) (t : ℤ) (e : Latest) : Type 0 where
