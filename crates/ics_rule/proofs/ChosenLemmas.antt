@@ -1,6 +1,6 @@
 -- What a rule chooses within a period is what the product that holds the period takes.
-use Rattle.std.proofs.Common.{◌≡◌, ℕ, suc, ◌+◌, ◌⊎◌, inl, inr, ◌≢◌, Bool, true, false, ◌&&◌, ◌==◌, refl, sym, ap, ◌∙◌, arith}
-use Rattle.std.proofs.lemmas.Bool.{and_right, cases_eq, eq-eqb, ne_eqb}
+use Rattle.std.proofs.Common.{◌≡◌, ℕ, suc, ◌+◌, Bool, true, false, ◌&&◌, ◌==◌, refl, sym, ap, ◌∙◌, arith}
+use Rattle.std.proofs.lemmas.Bool.{and_right, eq-eqb, eqb-true}
 use Rattle.ics_fields.specs.declared.ordinals.WideOrdinals.{WideOrdinals}
 use Rattle.ics_fields.specs.Ordinals.{lists_none_wide}
 use Rattle.ics_rule.specs.declared.effective_rule.EffectiveRule.{EffectiveRule}
@@ -12,7 +12,8 @@ use Rattle.ics_rule.specs.RecurrencePeriods.{holds, is_let_in, IsPeriodOf, is_li
 use Rattle.ics_rule.specs.Searches.{is_chosen_within}
 use Rattle.ics_rule.proofs.Counts.{count-same, count-suc, count_one}
 use Rattle.ics_fields.specs.Locals.{calendar_end}
-use Rattle.ics_rule.proofs.Tests.{and_assoc, and_false, keep_true}
+use Rattle.ics_rule.proofs.RunLemmas.{guard}
+use Rattle.ics_rule.proofs.Tests.{and_assoc, keep_true, swapped}
 
 -- outside of the steps nothing is chosen
 pub no_step : (q : EffectiveRule) (start n : ℕ) → is_stepped (period_in q start) q.interval (period_in q n) ≡ false → is_chosen q start n ≡ false
@@ -38,22 +39,15 @@ taken_out positions true p n e = e
 taken_out positions false p n e = ap (λ x. x && is_listed positions (count calendar_end (holds p)) (count n (holds p))) e
 
 module _ (q : EffectiveRule) (start : ℕ) (p : RecurrencePeriod) (own : IsPeriodOf q p) (step : is_stepped (period_in q start) q.interval p.number ≡ true) where
-  -- what lies in another period is not held
-  held_out : (n : ℕ) → period_in q n ≢ p.number → holds p n ≡ false
-  held_out n other = own.members n ∙ ap (λ x. x && (lets_date q (day_of n) && lets_clock q n)) (ne_eqb (period_in q n) p.number other)
-
   candidate_here : (n : ℕ) → period_in q n ≡ p.number → is_candidate_in q start n ≡ holds p n
   candidate_here n here = let_in q start p.number n step here ∙ sym (own.members n)
 
   -- what stands beside n is what the product holds
   beside : (n m : ℕ) → period_in q n ≡ p.number → is_beside q start n m ≡ holds p m
-  beside n m here = ap (λ x. is_candidate_in q start m && period_in q m == x) here ∙ cases (cases_eq (period_in q m) p.number)
-    where
-      cases : (period_in q m ≡ p.number) ⊎ (period_in q m ≢ p.number) → (is_candidate_in q start m && period_in q m == p.number) ≡ holds p m
-      cases (inl same) = ap (λ x. is_candidate_in q start m && x) (eq-eqb (period_in q m) p.number same) ∙ keep_true (is_candidate_in q start m)
-          ∙ candidate_here m same
-      cases (inr other) = ap (λ x. is_candidate_in q start m && x) (ne_eqb (period_in q m) p.number other) ∙ and_false (is_candidate_in q start m)
-          ∙ sym (held_out m other)
+  beside n m here = ap (λ x. is_candidate_in q start m && period_in q m == x) here
+      ∙ swapped (is_candidate_in q start m) (period_in q m == p.number) (lets_date q (day_of m) && lets_clock q m)
+      (λ e. candidate_here m (eqb-true (period_in q m) p.number e) ∙ own.members m ∙ ap (λ x. x && (lets_date q (day_of m) && lets_clock q m)) e)
+      ∙ sym (own.members m)
 
   -- the size is the product's
   size_is : (n : ℕ) → period_in q n ≡ p.number → size q start n ≡ count calendar_end (holds p)
@@ -69,23 +63,21 @@ module _ (q : EffectiveRule) (start : ℕ) (p : RecurrencePeriod) (own : IsPerio
 
   chosen_here : (n : ℕ) → period_in q n ≡ p.number → (b : Bool) → is_taken q.positions b p n ≡ (is_candidate_in q start n && is_placed q start b n)
   chosen_here n here true = sym (keep_true (is_candidate_in q start n) ∙ candidate_here n here)
-  chosen_here n here false = placed (holds p n) refl ∙ ap (λ x. x && is_placed q start false n) (sym (candidate_here n here))
-    where
-      placed : (b : Bool) → holds p n ≡ b → (holds p n && is_listed q.positions (count calendar_end (holds p)) (count n (holds p)))
-          ≡ (holds p n && is_placed q start false n)
-      placed true e = ap (λ x. holds p n && lists_wide q.positions x (count calendar_end (holds p))) (sym (rank_is n here e))
-          ∙ ap (λ x. holds p n && lists_wide q.positions (rank q start n) x) (sym (size_is n here))
-      placed false e = ap (λ x. x && is_listed q.positions (count calendar_end (holds p)) (count n (holds p))) e
-          ∙ sym (ap (λ x. x && is_placed q start false n) e)
+  chosen_here n here false =
+      guard (holds p n) (is_listed q.positions (count calendar_end (holds p)) (count n (holds p))) (is_placed q start false n)
+      (λ e. sym (ap (λ x. lists_wide q.positions x (size q start n)) (rank_is n here e)
+      ∙ ap (λ x. lists_wide q.positions (count n (holds p) + 1) x) (size_is n here)))
+      ∙ ap (λ x. x && is_placed q start false n) (sym (candidate_here n here))
 
   pub taken_is : (n : ℕ) → is_taken q.positions (lists_none_wide q.positions) p n ≡ is_chosen_within q start p.number n
-  taken_is n = cases (cases_eq (period_in q n) p.number)
+  taken_is n =
+      apart (period_in q n == p.number) (is_chosen q start n)
+      (λ e. chosen_here n (eqb-true (period_in q n) p.number e) (lists_none_wide q.positions))
+      (λ e. taken_out q.positions (lists_none_wide q.positions) p n (own.members n ∙ ap (λ x. x && (lets_date q (day_of n) && lets_clock q n)) e))
     where
-      cases : (period_in q n ≡ p.number) ⊎ (period_in q n ≢ p.number) →
-          is_taken q.positions (lists_none_wide q.positions) p n ≡ is_chosen_within q start p.number n
-      cases (inl same) = chosen_here n same (lists_none_wide q.positions) ∙ sym (ap (λ x. x && is_chosen q start n) (eq-eqb (period_in q n) p.number same))
-      cases (inr other) = taken_out q.positions (lists_none_wide q.positions) p n (held_out n other)
-          ∙ sym (ap (λ x. x && is_chosen q start n) (ne_eqb (period_in q n) p.number other))
+      apart : (e c : Bool) {t : Bool} → (e ≡ true → t ≡ c) → (e ≡ false → t ≡ false) → t ≡ (e && c)
+      apart true c h l = h refl
+      apart false c h l = l refl
 
 -- the same of a period by its number
 pub taken_within : {q : EffectiveRule} (start : ℕ) {p : RecurrencePeriod} {number : ℕ} → IsPeriodOf q p → p.number ≡ number →

@@ -1,9 +1,9 @@
 -- What each period of a day or less has that a rule lets in.
-use Rattle.std.proofs.Common.{◌≡◌, ℕ, zero, suc, ◌+◌, ◌-◌, ◌*◌, ◌/◌, ◌%◌, ◌<◌, ◌≤◌, Bool, true, false, ◌&&◌, refl, sym, ap, ◌∙◌}
+use Rattle.std.proofs.Common.{◌≡◌, ℕ, zero, suc, ◌+◌, ◌-◌, ◌*◌, ◌/◌, ◌%◌, ◌<◌, ◌≤◌, Bool, true, false, ◌&&◌, refl, sym, ap, ◌∙◌, cond}
 use Rattle.std.proofs.Common.{arith}
 use Rattle.std.proofs.lemmas.Bool.{and_parts, eq-eqb, eqb-true, false_from_ne_true}
 use Rattle.std.proofs.lemmas.Nat.{div-add-mod'}
-use Rattle.std.proofs.Math.Nat.{mul-le-mul_right, mul_comm}
+use Rattle.std.proofs.Math.Nat.{mul-le-mul_right, mul_comm, add-mul}
 use Rattle.jiff_core.specs.Weekday.{monday_zero}
 use Rattle.ics_fields.specs.declared.frequency.Frequency.{Frequency}
 use Rattle.ics_fields.specs.declared.frequency.Frequency.TheVariants.{Secondly, Minutely, Hourly, Daily}
@@ -18,7 +18,7 @@ use Rattle.ics_rule.specs.Kept.{count, is_beside, rank, size, is_placed, is_chos
 use Rattle.ics_rule.specs.RecurrencePeriods.{first_local, is_listed}
 use Rattle.ics_rule.specs.Rounds.{seconds_of}
 use Rattle.ics_rule.specs.OpenPeriods.{per_day, lets_own, lets_within, is_open_period, size_of_open, chosen_of_size, chosen_in_open}
-use Rattle.ics_rule.proofs.Counts.{count-same, count-suc, count-add, count-from, count-none, count-product, count_every, count_none_at, count_one}
+use Rattle.ics_rule.proofs.Counts.{count-same, count-suc, count-add, count-from, count-none, count-product, count_every}
 use Rattle.ics_rule.proofs.ProductCounts.{count_zero}
 use Rattle.ics_rule.proofs.RankLemmas.{count_flat, count-ranked, rank_listed}
 use Rattle.ics_rule.proofs.StepLemmas.{stepped_parts}
@@ -169,36 +169,18 @@ module _ (q : EffectiveRule) (start : ℕ) (fine : 0 < seconds_of q.frequency) (
   total_open : (p : ℕ) → p * u ≤ calendar_end → count (p * u) (is_chosen q start) ≡ count p is_open * chosen_in_open q
   total_open zero top = let none : 0 * u ≡ 0 = omega arith in ap (λ x. count x (is_chosen q start)) none ∙ sym (count_zero (is_chosen q start))
       ∙ (let product : 0 ≡ 0 * chosen_in_open q = omega arith in product) ∙ ap (λ x. x * chosen_in_open q) (count_zero is_open)
-  total_open (suc p) top = by_open (total_open p (omega (arith, wide, top))) (is_open p) refl
+  total_open (suc p) top =
+      let wide : suc p * u ≡ p * u + u = omega arith in
+      let all = ap (λ x. count x (is_chosen q start)) wide in
+      let parts = count-add (p * u) u (is_chosen q start) in
+      let own = times (is_open p) (chosen_open p (omega (arith, wide, top))) (chosen_closed p) in
+      let more = ap (λ x. x * chosen_in_open q) (count-suc p is_open) in
+      let spread = add-mul (count p is_open) (cond (is_open p) 1 0) (chosen_in_open q) in
+      omega (arith, all, parts, own, more, spread, total_open p (omega (arith, wide, top)))
     where
-      wide : suc p * u ≡ p * u + u
-      wide = omega arith
-
-      -- what the period adds
-      sum : count (p * u) (is_chosen q start) ≡ count p is_open * chosen_in_open q
-          → count (suc p * u) (is_chosen q start) ≡ count p is_open * chosen_in_open q + count u (λ k. is_chosen q start (p * u + k))
-      sum before =
-          let all = ap (λ x. count x (is_chosen q start)) wide in
-          let parts = count-add (p * u) u (is_chosen q start) in
-          omega (arith, all, parts, before)
-
-      by_open : count (p * u) (is_chosen q start) ≡ count p is_open * chosen_in_open q → (b : Bool) → is_open p ≡ b
-          → count (suc p * u) (is_chosen q start) ≡ count (suc p) is_open * chosen_in_open q
-      by_open before true e =
-          let one = count_one (is_open p) e in
-          let more = count-suc p is_open in
-          let next : count (suc p) is_open ≡ count p is_open + 1 = omega (arith, one, more) in
-          let product = ap (λ y. y * chosen_in_open q) next in
-          let spread : (count p is_open + 1) * chosen_in_open q ≡ count p is_open * chosen_in_open q + chosen_in_open q = omega arith in
-          let own = chosen_open p (omega (arith, wide, top)) e in
-          omega (arith, sum before, own, product, spread)
-      by_open before false e =
-          let zero = count_none_at (is_open p) e in
-          let more = count-suc p is_open in
-          let same : count (suc p) is_open ≡ count p is_open = omega (arith, zero, more) in
-          let product = ap (λ y. y * chosen_in_open q) same in
-          let own = chosen_closed p e in
-          omega (arith, sum before, own, product)
+      times : (b : Bool) {x n : ℕ} → (b ≡ true → x ≡ n) → (b ≡ false → x ≡ 0) → x ≡ cond b 1 0 * n
+      times true h l = h refl ∙ omega arith
+      times false h l = l refl ∙ omega arith
 
   -- from one period to another
   pub total_between : {begin target counted each : ℕ} (number : ℕ) → each ≡ chosen_in_open q → number + count begin is_open ≡ count target is_open
