@@ -16,7 +16,7 @@ use Rattle.ics_rule.specs.Cursors.{HasLooked}
 use Rattle.ics_rule.specs.EffectiveRules.{effective}
 use Rattle.ics_rule.specs.Recurrence.{Recurrence}
 use Rattle.ics_rule.specs.Searches.{IsNextOpen, is_chosen_within, is_wanted, IsNextWanted, HasMoved, IsWalked, HoldsPeriodOf, LooksOrStays, LooksAt, after_look}
-use Rattle.ics_rule.proofs.PeriodLemmas.{begun, begins, first_in, period_mono, period_small, week_small, before_next}
+use Rattle.ics_rule.proofs.PeriodLemmas.{begun, first_in, period_mono, period_small, week_small, before_next}
 use Rattle.ics_rule.proofs.Counts.{count-suc, count_some, count_mono, count_most, count_one_more, count_every}
 use Rattle.ics_rule.proofs.RankLemmas.{found}
 use Rattle.ics_rule.proofs.StepLemmas.{none_between}

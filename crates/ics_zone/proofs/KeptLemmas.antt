@@ -22,10 +22,7 @@ module _ (s : Onsets) (r : Recurrence) (contains : s.rule ≡ Some r) where
   module _ (t : ℤ) (end : ℕ) (shown : IsShownTo s.offset_from s.until t end) where
     -- an onset that is not after t is of a local before the end
     before_end : (u : ℤ) (k : IsKeptBy s.offset_from s.until r u) → u ≤ℤ t → k.local < end
-    before_end u k l = elim (cases_lt k.local end) [
-      | inl h ↦ h
-      | inr h ↦ absurd (let b = k.is in let e = k.by_end in let a = shown.later k.local h k.early (omega (arith, ints, b, e)) in omega (arith, ints, a, b, l))
-    ]
+    before_end u k l = let b = k.is in let e = k.by_end in grind (arith, ints, cases_lt)
 
     pub last_of_rule : (n : ℕ) → IsLastKept r end n → (u : ℤ) → u ≡ instant_by s.offset_from n → IsLast (IsKeptAt s) t u
     last_of_rule n found u is =

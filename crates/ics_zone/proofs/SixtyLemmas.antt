@@ -1,5 +1,5 @@
 -- The bits of a word of sixty seconds.
-use Rattle.std.proofs.Common.{◌≡◌, ◌≢◌, refl, max, ℕ, ◌+◌, ◌-◌, ◌*◌, ◌/◌, ◌%◌, ◌^◌, ◌<◌, Bool, true, false, ◌==◌, ◌||◌, ◌&&◌, nat_lt, sym}
+use Rattle.std.proofs.Common.{◌≡◌, ◌≢◌, max, ℕ, ◌+◌, ◌-◌, ◌*◌, ◌/◌, ◌%◌, ◌^◌, ◌<◌, Bool, true, false, ◌==◌, ◌||◌, ◌&&◌, nat_lt, sym}
 use Rattle.std.proofs.Common.{subst, ap, ◌∙◌, arith, w64, bit_or, bit_and, ℤ, ◌<ℤ◌}
 use Rattle.std.proofs.lemmas.Bool.{cases_lt, ltb-true, lt-ltb, le-ltb, and_parts}
 use Rattle.std.specs.Prelude.{int_lt}
@@ -10,7 +10,7 @@ use Rattle.std.proofs.lemmas.Nat.{pow_pos, shr-shr, shl_whole}
 use Rattle.std.proofs.lemmas.Nat.Bits.{bit_at_and, bit_at_or, bit_at_not, bit_at-zero, bit_at-lt, bit_at_cat_low, bit_at_cat_high, bit_at-trailing_zeros}
 use Rattle.ics_fields.specs.Sets.{contains}
 use Rattle.ics_fields.proofs.SetLemmas.{contains-or_bit, contains-front, has_above}
-use Rattle.ics_zone.proofs.Cases.{less_or_not_z, true_int_lt, false_int_lt, not_both}
+use Rattle.ics_zone.proofs.Cases.{less_or_not_z, true_int_lt, false_int_lt}
 
 pub contains-none : (n : ℕ) → contains 0 n ≡ false
 contains-none n = ap (λ x. x == 1) (bit_at-zero n)
@@ -26,22 +26,11 @@ pub contains-first : (s k n : ℕ) → contains (s % 2 ^ k) n ≡ (nat_lt n k &&
 contains-first s k n = grind (arith, nat_tests, ints, cases_lt, contains-front, has_above, le-ltb, lt-ltb, pow_pos)
 
 -- a set with one number more, below a bound that is one more
-more_true : (m n : ℕ) → ((m == n) || (nat_lt m n && true)) ≡ (nat_lt m (n + 1) && true)
-more_true m n = grind (arith, nat_tests)
-
-more_false : (m n : ℕ) → m ≢ n → ((m == n) || (nat_lt m n && false)) ≡ (nat_lt m (n + 1) && false)
-more_false m n h = grind (arith, nat_tests)
-
-same_true : (m n : ℕ) → m ≢ n → (nat_lt m n && true) ≡ (nat_lt m (n + 1) && true)
-same_true m n h = grind (arith, nat_tests)
-
 more : (m n : ℕ) (b : Bool) → (m ≡ n → b ≡ true) → ((m == n) || (nat_lt m n && b)) ≡ (nat_lt m (n + 1) && b)
-more m n true is = more_true m n
-more m n false is = more_false m n (λ e. not_both false (is e) refl)
+more m n b is = grind (arith, nat_tests)
 
 same : (m n : ℕ) (b : Bool) → (m ≡ n → b ≡ false) → (nat_lt m n && b) ≡ (nat_lt m (n + 1) && b)
-same m n true is = same_true m n (λ e. not_both true refl (is e))
-same m n false is = grind (arith, nat_tests)
+same m n b is = grind (arith, nat_tests)
 
 module _ (set word n : ℕ) (old : (m : ℕ) → contains word m ≡ (nat_lt m n && contains set m)) where
   pub word_more : n < 64 → contains set n ≡ true → (m : ℕ) → contains (bit_or word (1 * 2 ^ n % 18446744073709551616)) m ≡ (nat_lt m (n + 1) && contains set m)
