@@ -1,5 +1,5 @@
 -- How far a walk under COUNT has come.
-use Rattle.std.proofs.Common.{◌≡◌, ℕ, ◌+◌, ◌-◌, ◌*◌, ◌%◌, ◌<◌, ◌≤◌, ◌⊎◌, inl, inr, Bool, true, false, Option, Some, None, MatchOption}
+use Rattle.std.proofs.Common.{◌≡◌, ℕ, ◌+◌, ◌-◌, ◌*◌, ◌%◌, ◌<◌, ◌≤◌, inl, inr, Bool, true, false, Option, Some, None, MatchOption}
 use Rattle.std.proofs.Common.{refl, sym, subst, ap, ◌∙◌, arith}
 use Rattle.std.proofs.lemmas.Bool.{and_from, and_left, and_right, cases_lt}
 use Rattle.std.proofs.lemmas.Nat.{mod-mul-add}
@@ -13,7 +13,7 @@ use Rattle.ics_rule.specs.Candidates.{is_stepped, period_in}
 use Rattle.ics_rule.specs.Kept.{count, is_chosen}
 use Rattle.ics_rule.specs.RecurrencePeriods.{IsPeriodOf, is_taken}
 use Rattle.ics_rule.specs.Cursors.{HasBegun, HeldBy, IsCounted}
-use Rattle.ics_rule.specs.Searches.{is_few, is_wanted, NoneWanted, HasMoved, IsWalked, HoldsPeriodOf, LooksAt, IsTurnOf, IsPassed, IsNextOpen}
+use Rattle.ics_rule.specs.Searches.{is_few, is_wanted, NoneWanted, HasMoved, IsWalked, HoldsPeriodOf, LooksAt, IsTurnOf, IsNextOpen}
 use Rattle.ics_rule.specs.Searches.{AllCounted, IsTurned}
 use Rattle.ics_rule.specs.Rounds.{IsPassedTo}
 use Rattle.ics_rule.proofs.PeriodLemmas.{begun, period_mono, before_next}
@@ -54,8 +54,7 @@ counting_begins {q = q} {start = start} {c = c} {before = before} {cursor = curs
       early = early;
       step = ap (is_stepped (period_in q start) q.interval) h ∙ step_first (period_in q start) q.interval some;
       none = λ n l u. absurd (let up = period_mono q.frequency (monday_zero q.week_start) start n (omega (arith, late, l)) in omega (arith, up, u, h));
-      turn = subst (λ x. MatchOption x (number ≡ period_in q start) (λ p. IsPeriodOf q p
-          × (IsCounted q start c cursor.counted cursor.limit p × ((p.number ≡ number) ⊎ IsPassed q start (p.number + q.interval) number)))) (sym e) h;
+      turn = subst (λ x. IsTurnOf q start c number (record cursor { held = x })) (sym e) h;
       high = subst (λ (x : Option RecurrencePeriod). MatchOption x (Unit {0}) (λ p. p.number ≤ period_in q stop)) (sym e) tt;
       moved = moved;
     }
@@ -69,9 +68,7 @@ counting_begins {q = q} {start = start} {c = c} {before = before} {cursor = curs
           early = early;
           step = ap (is_stepped (period_in q start) q.interval) h ∙ counted.step;
           none = λ n l u. absurd (let up = period_mono q.frequency (monday_zero q.week_start) before.place n l in omega (arith, up, u, h, high));
-          turn = subst (λ x. MatchOption x (number ≡ period_in q start) (λ p. IsPeriodOf q p
-              × (IsCounted q start c cursor.counted cursor.limit p × ((p.number ≡ number) ⊎ IsPassed q start (p.number + q.interval) number)))) (sym e)
-              (held.0, (counted, inl (sym h)));
+          turn = subst (λ x. IsTurnOf q start c number (record cursor { held = x })) (sym e) (held.0, (counted, inl (sym h)));
           high = subst (λ (x : Option RecurrencePeriod). MatchOption x (Unit {0}) (λ p. p.number ≤ period_in q stop)) (sym e) (let up =
               period_mono q.frequency (monday_zero q.week_start) before.place stop (omega (arith, early)) in omega (arith, up, high));
           moved = moved;
@@ -191,17 +188,16 @@ module _ {q : EffectiveRule} {start c stop number : ℕ} {before now : Cursor} (
           | inr same ↦ sym (chosen_here n (omega arith)) ∙ none n (omega (arith, l, same_place))
         ])
       ];
-      turn = subst (λ x. MatchOption x (next ≡ period_in q start) (λ p. IsPeriodOf q p
-          × (IsCounted q start c after.counted after.limit p × ((p.number ≡ next) ⊎ IsPassed q start (p.number + q.interval) next)))) (sym turned.held) (
-            turned.product,
-            (
-              turned.counted,
-              inr (record {
-                up = omega (arith, turned.number, is_next.low);
-                none = λ n l u. not_let_in q start n (is_next.none n (omega (arith, turned.number, l)) u);
-              }),
-            ),
-          );
+      turn = subst (λ x. IsTurnOf q start c next (record after { held = x })) (sym turned.held) (
+        turned.product,
+        (
+          turned.counted,
+          inr (record {
+            up = omega (arith, turned.number, is_next.low);
+            none = λ n l u. not_let_in q start n (is_next.none n (omega (arith, turned.number, l)) u);
+          }),
+        ),
+      );
       high = subst (λ (x : Option RecurrencePeriod). MatchOption x (Unit {0}) (λ p. p.number ≤ period_in q stop)) (sym turned.held)
           (omega (arith, top_stop, turned.number));
       moved = moved;
