@@ -124,7 +124,8 @@ module _ {q : EffectiveRule} {start c stop number : ℕ} {before now : Cursor} (
     count_here n e =
         let low = begun q.frequency (monday_zero q.week_start) p.number n (omega (arith, e, turned.number)) in
         let high = before_next q.frequency (monday_zero q.week_start) (p.number + q.interval) n (omega (arith, e, turned.number, walk.some)) in
-        chosen_before q start p turned.product turned.counted.step walk.some n low (omega (arith, high)) ∙ ap (λ x. x + count n taken) (sym turned.counted.total)
+        chosen_before q start p turned.product turned.counted.step walk.some n low (omega (arith, high))
+        ∙ ap (λ x. x + count n taken) (sym turned.counted.total)
 
     -- nothing is wanted before what is taken next
     none_until : (n : ℕ) → IsLeastFrom taken after.place n → (m : ℕ) → before.place ≤ m → m < n → is_wanted q start (Some c) m ≡ false

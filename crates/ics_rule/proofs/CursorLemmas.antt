@@ -49,7 +49,8 @@ module _ (q : EffectiveRule) (start a b : ℕ) where
         let none : period_in q 0 ≤ p = (let m = period_mono q.frequency (monday_zero q.week_start) 0 place (omega arith) in omega (arith, m)) in
         let end = begun q.frequency (monday_zero q.week_start) p (stop - 1) high in
         met_by p (first_local q.frequency (monday_zero q.week_start) p)
-        (let after = before_next q.frequency (monday_zero q.week_start) p place later in omega (arith, after, within.from)) (omega (arith, end)) (first_in q.frequency (monday_zero q.week_start) p (week_small q.week_start) none) step
+        (let after = before_next q.frequency (monday_zero q.week_start) p place later in omega (arith, after, within.from))
+        (omega (arith, end)) (first_in q.frequency (monday_zero q.week_start) p (week_small q.week_start) none) step
     | inr same ↦ met_by p place within.from (omega (arith, within.some, within.to)) (omega (arith, same, low)) step
   ]
 

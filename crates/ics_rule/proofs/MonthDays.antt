@@ -76,7 +76,8 @@ module _ (q : EffectiveRule) (k : ℕ) where
       → new ≡ (b || (has_run r k && lists_in_month q (weekday_in r (k - r.start)) (k - r.start + 1) r.len))
       → new ≡ (nat_lt k (days_in_year (pos y)) && seen_months q months (m + 1) (first + k))
   month_step {r = r} {months = months} {first = first} {y = y} {m = m} {from = from} own start most next e more =
-      gather (nat_lt (month_of (first + k)) from) (months (month_of (first + k))) _ _ more e (λ inside. run_is_month r first y m k own start (ltb-true k (days_in_year (pos y)) inside))
+      gather (nat_lt (month_of (first + k)) from) (months (month_of (first + k))) _ _ more e
+      (λ inside. run_is_month r first y m k own start (ltb-true k (days_in_year (pos y)) inside))
       (λ past. and_right (nat_le r.start k) (nat_lt (k - r.start) r.len)
       (le-ltb (k - r.start) r.len (let far = ltb-false k (days_in_year (pos y)) past in omega (arith, far, most))))
       (run_lists r first y m k own q) (next_found months from m (month_of (first + k)) next)

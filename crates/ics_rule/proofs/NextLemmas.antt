@@ -58,7 +58,8 @@ kept_later r n l e = by_count r.parts.count
 
     by_count : (o : Option ℕ) → (n == number r.start || (nat_lt n rules_end && is_in_rule r n && is_by_until r.kind r.parts.until n && is_counted r o n))
         ≡ (is_wanted (effective r) (number r.start) o n && is_by_until r.kind r.parts.until n)
-    by_count None = rw (unequal n (number r.start) (inr l), lt-ltb n rules_end e, in_rule_later r n l) (keep_true (is_chosen (effective r) (number r.start) n && is_by_until r.kind r.parts.until n))
+    by_count None = rw (unequal n (number r.start) (inr l), lt-ltb n rules_end e, in_rule_later r n l)
+        (keep_true (is_chosen (effective r) (number r.start) n && is_by_until r.kind r.parts.until n))
     by_count (Some c) = rw (unequal n (number r.start) (inr l), lt-ltb n rules_end e, in_rule_later r n l, counted_is_few r c n l)
         (last (is_chosen (effective r) (number r.start) n) (is_by_until r.kind r.parts.until n) (is_few (effective r) (number r.start) c n))
 

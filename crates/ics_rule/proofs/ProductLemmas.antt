@@ -28,7 +28,8 @@ day_shown b e n h l = grind (arith, nat_tests)
 
 -- whole days
 whole_days : (b e n : ℕ) (x : Bool) → (day_test (b * 86_400) (e * 86_400) n && x) ≡ true → (b * 86_400 ≤ n) × (n < e * 86_400)
-whole_days b e n x h = let f = day_facts (b * 86_400) (e * 86_400) n (and_parts (day_test (b * 86_400) (e * 86_400) n) x h).0 in (omega (arith, f.0), omega (arith, f.0, f.1))
+whole_days b e n x h = let f = day_facts (b * 86_400) (e * 86_400) n (and_parts (day_test (b * 86_400) (e * 86_400) n) x h).0 in
+    (omega (arith, f.0), omega (arith, f.0, f.1))
 
 days_whole : (b e n : ℕ) → b * 86_400 ≤ n → n < e * 86_400 → (day_test (b * 86_400) (e * 86_400) n && (true && true && true)) ≡ true
 days_whole b e n h l = ap (λ x. x && (true && true && true)) (day_shown (b * 86_400) (e * 86_400) n (omega arith) (omega arith))
