@@ -72,8 +72,7 @@ module _ (files : List FileSaid) (display : Clock) (w : Window) where
 -- the answers turned round
 then-turned : (a b : Ordering) → ordering_then (ordering_reverse a) (ordering_reverse b) ≡ ordering_reverse (ordering_then a b)
 then-turned Less b = refl
-then-turned Equal b = refl
-then-turned Greater b = refl
+then-turned _ b = refl
 
 -- what decides between a key and an occurrence of one start
 abbrev rest : Rank → Entry → Ordering
@@ -124,8 +123,7 @@ since-start {key = key} uid k g e = λ o u r low high.
 -- the next instant, where there is one
 saturated : (a t x : ℤ) → t ≡ saturate_signed w64 (a +ℤ pos 1) → SFits w64 a → x <ℤ pos 9_223_372_036_854_775_807 → (a <ℤ x → t ≤ℤ x) × (x ≤ℤ a → x <ℤ t)
 saturated (pos n) t x e f h = (λ l. grind (arith, ints), λ l. grind (arith, ints))
-saturated (negsuc zero) t x e f h = (λ l. grind (arith, ints), λ l. grind (arith, ints))
-saturated (negsuc (suc n)) t x e f h = (λ l. grind (arith, ints), λ l. grind (arith, ints))
+saturated _ t x e f h = (λ l. grind (arith, ints), λ l. grind (arith, ints))
 
 -- where they do not
 pub since-next : {after : Option Rank} {key : Rank} (uid : List ℕ) {t : ℤ} → after ≡ Some key → (turned key uid ≡ Greater → ⊥) →

@@ -81,17 +81,13 @@ module _ (zones : FileZones) (w : Window) (clock : Clock) (instants days : List 
 module _ (clocks : Clocks) (first exdate : Time) where
   excludes-time : (s : Stamp) (t : ℤ) → ((day : ℤ) → s ≡ Date day → ⊥) → excludes_time clocks first exdate s t ≡ int_eq (instant clocks exdate) t
   excludes-time (Date day) t h = absurd (h day refl)
-  excludes-time (Floating local) t h = refl
-  excludes-time (Utc local) t h = refl
-  excludes-time (Zoned local) t h = refl
+  excludes-time _ t h = refl
 
   -- of date-times a time takes out the start at its instant
   pub excludes-instant : (s : Stamp) (t : ℤ) → ((day : ℤ) → s ≡ Date day → ⊥) → ((day : ℤ) → exdate.stamp ≡ Date day → ⊥)
       → excludes_by clocks first s exdate t ≡ int_eq (instant clocks exdate) t
   excludes-instant (Date day) t h k = absurd (h day refl)
-  excludes-instant (Floating local) t h k = excludes-time exdate.stamp t k
-  excludes-instant (Utc local) t h k = excludes-time exdate.stamp t k
-  excludes-instant (Zoned local) t h k = excludes-time exdate.stamp t k
+  excludes-instant _ t h k = excludes-time exdate.stamp t k
 
 -- a sort takes nothing out and adds nothing
 pub sorted-takes_out : (clock : Clock) {instants days sorted rising : List ℤ} (t : ℤ) → IsPermutation instants sorted → IsPermutation days rising →

@@ -27,14 +27,12 @@ label_total =
 -- Versions are the same where their subjects tie.
 option-ties : (a b : Option ℤ) → option_eq int_eq a b ≡ is_eq (option_cmp int_cmp a b)
 option-ties None None = refl
-option-ties None (Some y) = refl
-option-ties (Some x) None = refl
 option-ties (Some x) (Some y) = refl
+option-ties _ _ = refl
 
 both-tie : (c d : Ordering) → (is_eq c && is_eq d) ≡ is_eq (ordering_then c d)
 both-tie Less d = refl
-both-tie Equal d = refl
-both-tie Greater d = refl
+both-tie _ d = refl
 
 same-ties : (a b : Label) → is_same a b ≡ is_eq (subject_cmp a.subject b.subject)
 same-ties a b =

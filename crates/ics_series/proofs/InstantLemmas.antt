@@ -78,9 +78,7 @@ moved f a e h = a ∙ (e ∙ ap f h)
 
 late-written : (s : Stamp) → IsStampDay (stamp_day s) → neg_ℤ (pos 62_135_596_800) ≤ℤ stamp_seconds s
 late-written (Date day) h = omega (arith, ints, h.0)
-late-written (Floating local) h = omega (arith, ints, h.0)
-late-written (Utc local) h = omega (arith, ints, h.0)
-late-written (Zoned local) h = omega (arith, ints, h.0)
+late-written _ h = omega (arith, ints, h.0)
 
 early-written : (s : Stamp) → IsStampDay (stamp_day s) → stamp_seconds s <ℤ pos 250_246_627_200
 early-written (Date day) h = omega (arith, ints, h.1)
@@ -102,23 +100,17 @@ late zones time h = omega (arith, ints, instant-near zones time, late-written ti
 pub until : (clocks : Clocks) (first given end : Time) (s : Stamp) → ((day : ℤ) → s ≡ Date day → ⊥)
     → instant clocks given +ℤ (instant clocks end -ℤ instant clocks first) ≡ end_by clocks first given s (Until end)
 until clocks first given end (Date day) h = absurd (h day refl)
-until clocks first given end (Floating local) h = refl
-until clocks first given end (Utc local) h = refl
-until clocks first given end (Zoned local) h = refl
+until clocks first given end _ h = refl
 
 pub until-seconds : (clocks : Clocks) (first end : Time) (s : Stamp) → ((day : ℤ) → s ≡ Date day → ⊥)
     → int_max (instant clocks end -ℤ instant clocks first) (pos 0) ≡ seconds_by clocks first s (Until end)
 until-seconds clocks first end (Date day) h = absurd (h day refl)
-until-seconds clocks first end (Floating local) h = max-turned (instant clocks end -ℤ instant clocks first) (pos 0)
-until-seconds clocks first end (Utc local) h = max-turned (instant clocks end -ℤ instant clocks first) (pos 0)
-until-seconds clocks first end (Zoned local) h = max-turned (instant clocks end -ℤ instant clocks first) (pos 0)
+until-seconds clocks first end _ h = max-turned (instant clocks end -ℤ instant clocks first) (pos 0)
 
 pub lasting-seconds : (clocks : Clocks) (first : Time) (duration : Duration) (s : Stamp) → ((day : ℤ) → s ≡ Date day → ⊥)
     → pos (duration.days * 86_400 + duration.seconds) ≡ seconds_by clocks first s (Lasting duration)
 lasting-seconds clocks first duration (Date day) h = absurd (h day refl)
-lasting-seconds clocks first duration (Floating local) h = refl
-lasting-seconds clocks first duration (Utc local) h = refl
-lasting-seconds clocks first duration (Zoned local) h = refl
+lasting-seconds clocks first duration _ h = refl
 
 -- the instant that a local means by its index
 zone-moment : (zones : List ZoneSaid) (index : ℕ) (local : Local) →
@@ -156,28 +148,16 @@ module _ (zones : FileZones) where
   zoned-near false x y a b within = omega (arith, ints, within.short, zone-moment own x a, zone-moment own y b)
 
   stamps-near : (i j : Option ℕ) (s e : Stamp) → AreOfEvent i j s e → moment_of-stamp j e ≤ℤ (moment_of-stamp i s +ℤ whole_days 36_529)
-  stamps-near i j (Date a) (Date b) of = written-near i j (Date a) (Date b) of.is_end
-  stamps-near i j (Date a) (Floating b) of = absurd of.is_end
-  stamps-near i j (Date a) (Utc b) of = absurd of.is_end
-  stamps-near i j (Date a) (Zoned b) of = absurd of.is_end
-  stamps-near i j (Floating a) (Date b) of = absurd of.is_end
-  stamps-near i j (Floating a) (Floating b) of = written-near i j (Floating a) (Floating b) of.is_end
-  stamps-near i j (Floating a) (Utc b) of = absurd of.is_end
-  stamps-near i j (Floating a) (Zoned b) of = absurd of.is_end
-  stamps-near i j (Utc a) (Date b) of = absurd of.is_end
-  stamps-near i j (Utc a) (Floating b) of = absurd of.is_end
-  stamps-near i j (Utc a) (Utc b) of = written-near i j (Utc a) (Utc b) of.is_end
   stamps-near None (Some y) (Utc a) (Zoned b) of = let short = (of.within refl).short in omega (arith, ints, short, zone-moment own y b)
-  stamps-near None None (Utc a) (Zoned b) of = let f : false ≡ true = of.end in absurd cc
-  stamps-near (Some x) j (Utc a) (Zoned b) of = let f : true ≡ false = of.start in absurd cc
-  stamps-near i j (Zoned a) (Date b) of = absurd of.is_end
-  stamps-near i j (Zoned a) (Floating b) of = absurd of.is_end
   stamps-near (Some x) None (Zoned a) (Utc b) of = let short = (of.within refl).short in omega (arith, ints, short, zone-moment own x a)
-  stamps-near (Some x) (Some y) (Zoned a) (Utc b) of = let f : true ≡ false = of.end in absurd cc
-  stamps-near None j (Zoned a) (Utc b) of = let f : false ≡ true = of.start in absurd cc
   stamps-near (Some x) (Some y) (Zoned a) (Zoned b) of = zoned-near (x == y) x y a b (of.within refl)
-  stamps-near (Some x) None (Zoned a) (Zoned b) of = let f : false ≡ true = of.end in absurd cc
-  stamps-near None j (Zoned a) (Zoned b) of = let f : false ≡ true = of.start in absurd cc
+  stamps-near i j (Date a) (Date b) of = written-near i j (Date a) (Date b) of.is_end
+  stamps-near i j (Floating a) (Floating b) of = written-near i j (Floating a) (Floating b) of.is_end
+  stamps-near i j (Utc a) (Utc b) of = written-near i j (Utc a) (Utc b) of.is_end
+  stamps-near i j (Utc a) (Zoned b) of = let s = of.start in let t = of.end in absurd cc
+  stamps-near i j (Zoned a) (Utc b) of = let s = of.start in let t = of.end in absurd cc
+  stamps-near i j (Zoned a) (Zoned b) of = let s = of.start in let t = of.end in absurd cc
+  stamps-near i j _ _ of = absurd of.is_end
 
   pub ends-near : (first : Time) (length : Length) → IsTime first → IsLength first.stamp length → EndsWithin own first length →
       EndsNear (clocks_in zones) first length

@@ -54,8 +54,7 @@ behind-headed e (Some f) list h n =
 
 strictly : (c d : Ordering) → d ≡ Greater → is_gt (ordering_then c d) ≡ false → c ≡ Less
 strictly Less d e h = refl
-strictly Equal d e h = cc
-strictly Greater d e h = cc
+strictly _ d e h = cc
 
 nothing-after : (k : Option Entry) → is_gt (head_cmp None k) ≡ false → k ≡ None
 nothing-after None h = refl

@@ -25,9 +25,7 @@ use Rattle.ics_series.proofs.InstantLemmas.{instant-near, near-clock}
 -- a day's midnight is not after what a stamp of the day writes
 pub day-written : (s : Stamp) → midnight (day_of s) ≤ℤ stamp_seconds s
 day-written (Date day) = omega (arith, ints)
-day-written (Floating local) = omega (arith, ints)
-day-written (Utc local) = omega (arith, ints)
-day-written (Zoned local) = omega (arith, ints)
+day-written _ = omega (arith, ints)
 
 module _ (zones : FileZones) where
   -- a duration leads less than four days past its seconds
@@ -46,30 +44,16 @@ module _ (zones : FileZones) where
   end-bound first given (Date day) length =
       let a = moment_near (zone_of zones.display.now) (midnight (day_of given.stamp +ℤ days_lasting day length)) in
       omega (arith, ints, a.0, a.1, instant-near zones given, day-written given.stamp)
-  end-bound first given (Floating local) Open = omega (arith, ints)
-  end-bound first given (Floating local) (Until end) =
-      omega (arith, ints, int_max_is (pos 0) (instant (clocks_in zones) end -ℤ instant (clocks_in zones) first))
-  end-bound first given (Floating local) (Lasting duration) = later-bound given.zone given.stamp duration (instant (clocks_in zones) given)
-  end-bound first given (Utc local) Open = omega (arith, ints)
-  end-bound first given (Utc local) (Until end) = omega (arith, ints, int_max_is (pos 0) (instant (clocks_in zones) end -ℤ instant (clocks_in zones) first))
-  end-bound first given (Utc local) (Lasting duration) = later-bound given.zone given.stamp duration (instant (clocks_in zones) given)
-  end-bound first given (Zoned local) Open = omega (arith, ints)
-  end-bound first given (Zoned local) (Until end) = omega (arith, ints, int_max_is (pos 0) (instant (clocks_in zones) end -ℤ instant (clocks_in zones) first))
-  end-bound first given (Zoned local) (Lasting duration) = later-bound given.zone given.stamp duration (instant (clocks_in zones) given)
+  end-bound first given _ Open = omega (arith, ints)
+  end-bound first given _ (Until end) = omega (arith, ints, int_max_is (pos 0) (instant (clocks_in zones) end -ℤ instant (clocks_in zones) first))
+  end-bound first given _ (Lasting duration) = later-bound given.zone given.stamp duration (instant (clocks_in zones) given)
 
   seconds-least : (first : Time) (s : Stamp) (length : Length) → pos 0 ≤ℤ seconds_by (clocks_in zones) first s length
   seconds-least first (Date day) Open = omega (arith, ints)
   seconds-least first (Date day) (Until end) = omega (arith, ints, int_max_is (pos 1) (day_of end.stamp -ℤ day))
   seconds-least first (Date day) (Lasting duration) = omega (arith, ints, int_max_is (pos 1) (pos duration.days))
-  seconds-least first (Floating local) Open = omega (arith, ints)
-  seconds-least first (Floating local) (Until end) = omega (arith, ints, int_max_is (pos 0) (instant (clocks_in zones) end -ℤ instant (clocks_in zones) first))
-  seconds-least first (Floating local) (Lasting duration) = omega (arith, ints)
-  seconds-least first (Utc local) Open = omega (arith, ints)
-  seconds-least first (Utc local) (Until end) = omega (arith, ints, int_max_is (pos 0) (instant (clocks_in zones) end -ℤ instant (clocks_in zones) first))
-  seconds-least first (Utc local) (Lasting duration) = omega (arith, ints)
-  seconds-least first (Zoned local) Open = omega (arith, ints)
-  seconds-least first (Zoned local) (Until end) = omega (arith, ints, int_max_is (pos 0) (instant (clocks_in zones) end -ℤ instant (clocks_in zones) first))
-  seconds-least first (Zoned local) (Lasting duration) = omega (arith, ints)
+  seconds-least first _ (Until end) = omega (arith, ints, int_max_is (pos 0) (instant (clocks_in zones) end -ℤ instant (clocks_in zones) first))
+  seconds-least first _ _ = omega (arith, ints)
 
   -- but for a PERIOD the finish does too
   finish-bound : (event : Event) (given : Time)

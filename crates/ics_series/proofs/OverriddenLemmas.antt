@@ -64,8 +64,7 @@ module _ (uid : List ℕ) where
   -- What is named.
   then-equal : (a b : Ordering) → is_eq (ordering_then a b) ≡ (is_eq a && is_eq b)
   then-equal Less b = refl
-  then-equal Equal b = refl
-  then-equal Greater b = refl
+  then-equal _ b = refl
 
   named-one : (t : ℤ) (s : SubjectSeen) (rest : List ℤ) →
       list_any (λ x. int_eq x t) (cons_option (instance_of uid s) rest) ≡ (is_eq (subject_cmp s (instance t)) || list_any (λ x. int_eq x t) rest)

@@ -82,8 +82,7 @@ module _ (uid : List ℕ) (t : ℤ) where
 
   less-not : (c : Ordering) → is_eq (ordering_then c Less) ≡ false
   less-not Less = refl
-  less-not Equal = refl
-  less-not Greater = refl
+  less-not _ = refl
 
   untied : (l : Label) (r : Option ℤ) → l.subject.recurrence ≡ r → is_some r ≡ false → is_eq (subject_cmp l.subject instance) ≡ false
   untied l None e n = ap (λ r. is_eq (ordering_then (slice_cmp nat_cmp l.subject.uid uid) (option_cmp int_cmp r (Some t)))) e

@@ -45,9 +45,7 @@ seconds-numbered n = omega (arith, ints)
 
 day-written : (s : Stamp) (a : Local) → midnight a.day ≤ℤ stamp_seconds (stamp_at s a)
 day-written (Date day) a = omega (arith, ints)
-day-written (Floating local) a = omega (arith, ints)
-day-written (Utc local) a = omega (arith, ints)
-day-written (Zoned local) a = omega (arith, ints)
+day-written _ a = omega (arith, ints)
 
 day-under : (day : ℤ) (n : ℕ) → IsDayNumber day → midnight_number day ≤ n → midnight day ≤ℤ midnight (local_numbered n).day
 day-under day n h l = omega (arith, ints, h.0, l)

@@ -57,8 +57,7 @@ module _ {A : Type 0} (R : A → A → Ordering) (o : IsTotalOrder R) where
     where
       turned : (c d : Ordering) → d ≡ ordering_reverse c → is_lt c ≡ false → is_gt d ≡ false
       turned Less d e h = let f : is_lt Less ≡ false = h in cc
-      turned Equal d e h = ap is_gt e
-      turned Greater d e h = ap is_gt e
+      turned _ d e h = ap is_gt e
 
   up-to : (x : A) (xs : List A) → ((j : ℕ) (d : A) → j < length xs → is_lt (R (get_or xs j d) x) ≡ false) → IsUpTo R x xs
   up-to x [] h = tt

@@ -60,8 +60,7 @@ module _ {A B : Type 0} (R : B → B → Ordering) (o : IsTotalOrder R) (f : A �
 
 then-none : (c : Ordering) → ordering_then c Equal ≡ c
 then-none Less = refl
-then-none Equal = refl
-then-none Greater = refl
+then-none _ = refl
 
 abbrev master : List ℕ → SubjectSeen
 master uid = record { uid = uid; recurrence = None }
@@ -77,8 +76,7 @@ from-next key t e fits = by key.start e fits
   where
     by : (a : ℤ) → t ≡ saturate_signed w64 (a +ℤ pos 1) → SFits w64 a → a ≤ℤ t
     by (pos n) e f = grind (arith, ints)
-    by (negsuc zero) e f = grind (arith, ints)
-    by (negsuc (suc n)) e f = grind (arith, ints)
+    by _ e f = grind (arith, ints)
 
 pub from-by : (after : Option Rank) (key : Rank) (t : ℤ) → after ≡ Some key → key.start ≤ℤ t → IsFrom after t
 from-by after key t e l = subst (λ a. IsFrom a t) (sym e) l

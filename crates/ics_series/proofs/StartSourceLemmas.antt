@@ -59,34 +59,24 @@ same-number a b h k e = same-seconds a b (omega (arith, ints, number-seconds a h
 -- Stamps of one kind.
 pub own-stamp : (s : Stamp) → stamp_at s (local_of s) ≡ s
 own-stamp (Date day) = refl
-own-stamp (Floating local) = refl
-own-stamp (Utc local) = refl
-own-stamp (Zoned local) = refl
+own-stamp _ = refl
 
 -- a stamp writes the local, or the midnight of its day
 pub written-at : (s : Stamp) (a : Local) → (stamp_seconds (stamp_at s a) ≤ℤ local_seconds a) × (local_seconds a <ℤ (stamp_seconds (stamp_at s a) +ℤ pos 86_400))
 written-at (Date day) a = (omega (arith, ints), omega (arith, ints, a.second_in))
-written-at (Floating local) a = (omega (arith, ints), omega (arith, ints))
-written-at (Utc local) a = (omega (arith, ints), omega (arith, ints))
-written-at (Zoned local) a = (omega (arith, ints), omega (arith, ints))
+written-at _ a = (omega (arith, ints), omega (arith, ints))
 
 stamp_day-at : (s : Stamp) (a : Local) → stamp_day (stamp_at s a) ≡ a.day
 stamp_day-at (Date day) a = refl
-stamp_day-at (Floating local) a = refl
-stamp_day-at (Utc local) a = refl
-stamp_day-at (Zoned local) a = refl
+stamp_day-at _ a = refl
 
 stamp_day-own : (s : Stamp) → stamp_day s ≡ (local_of s).day
 stamp_day-own (Date day) = refl
-stamp_day-own (Floating local) = refl
-stamp_day-own (Utc local) = refl
-stamp_day-own (Zoned local) = refl
+stamp_day-own _ = refl
 
 is_zoned-at : (s : Stamp) (a : Local) → is_zoned (stamp_at s a) ≡ is_zoned s
 is_zoned-at (Date day) a = refl
-is_zoned-at (Floating local) a = refl
-is_zoned-at (Utc local) a = refl
-is_zoned-at (Zoned local) a = refl
+is_zoned-at _ a = refl
 
 -- Times.
 pub own-time : (time : Time) → time_at time (local_of time.stamp) ≡ time
@@ -184,9 +174,7 @@ rdate-below zones (Span start lasts) h = h.0
 
 stamp_day-is : (s : Stamp) → stamp_day s ≡ day_of s
 stamp_day-is (Date day) = refl
-stamp_day-is (Floating local) = refl
-stamp_day-is (Utc local) = refl
-stamp_day-is (Zoned local) = refl
+stamp_day-is _ = refl
 
 pub day-years : (time : Time) → IsTime time → IsStampDay (day_of time.stamp)
 day-years time h = subst IsStampDay (stamp_day-is time.stamp) h.years
@@ -196,33 +184,21 @@ date-time time h = record { years = day-years time h; zone = refl }
 
 time-by : (first time : Time) (s : Stamp) → IsTime first → IsTime time → s ≡ time.stamp → IsTime (time_by first time s)
 time-by first time (Date day) h t e = time-at first (local_at day (local_of first.stamp).second) h (subst (λ q. IsStampDay (stamp_day q)) (sym e) t.years)
-time-by first time (Floating local) h t e = t
-time-by first time (Utc local) h t e = t
-time-by first time (Zoned local) h t e = t
+time-by first time _ h t e = t
 
 time-below : (zones : ℕ) (first time : Time) (s : Stamp) → TimeBelow zones first → TimeBelow zones time → TimeBelow zones (time_by first time s)
 time-below zones first time (Date day) h t = h
-time-below zones first time (Floating local) h t = t
-time-below zones first time (Utc local) h t = t
-time-below zones first time (Zoned local) h t = t
+time-below zones first time _ h t = t
 
 pub given-value : (first : Time) (s : Stamp) (r : Rdate) → IsTime first → IsRdate r → IsRdate (given_from first s r)
 given-value first (Date day) r h v = date-time (time_of r) (rdate-time r v)
-given-value first (Floating local) (At time) h v = time-by first time time.stamp h v refl
-given-value first (Floating local) (Span start lasts) h v = v
-given-value first (Utc local) (At time) h v = time-by first time time.stamp h v refl
-given-value first (Utc local) (Span start lasts) h v = v
-given-value first (Zoned local) (At time) h v = time-by first time time.stamp h v refl
-given-value first (Zoned local) (Span start lasts) h v = v
+given-value first _ (At time) h v = time-by first time time.stamp h v refl
+given-value first _ (Span start lasts) h v = v
 
 given-zone : (zones : ℕ) (first : Time) (s : Stamp) (r : Rdate) → TimeBelow zones first → RdateBelow zones r → RdateBelow zones (given_from first s r)
 given-zone zones first (Date day) r h v = tt
-given-zone zones first (Floating local) (At time) h v = time-below zones first time time.stamp h v
-given-zone zones first (Floating local) (Span start lasts) h v = v
-given-zone zones first (Utc local) (At time) h v = time-below zones first time time.stamp h v
-given-zone zones first (Utc local) (Span start lasts) h v = v
-given-zone zones first (Zoned local) (At time) h v = time-below zones first time time.stamp h v
-given-zone zones first (Zoned local) (Span start lasts) h v = v
+given-zone zones first _ (At time) h v = time-below zones first time time.stamp h v
+given-zone zones first _ (Span start lasts) h v = v
 
 -- what holds of all of a list holds at each of its places
 pub all-at : {A : Type 0} (P : A → Type 0) (xs : List A) (k : ℕ) (x : A) → All P xs → slice_get xs k ≡ Some x → P x

@@ -25,8 +25,7 @@ use Rattle.ics_series.proofs.GivenLemmas.{IsGiven, IsGivenBy}
 
 pub lt-Less : (c : Ordering) → is_lt c ≡ true → c ≡ Less
 lt-Less Less e = refl
-lt-Less Equal e = let f : false ≡ true = e in cc
-lt-Less Greater e = let f : false ≡ true = e in cc
+lt-Less _ e = let f : false ≡ true = e in cc
 
 -- Of what is given that is listed which is kept.
 module _ (files : List FileSaid) (display : Clock) (w : Window) (vs : List Version) (h : AreChosen files display vs) where

@@ -24,24 +24,21 @@ head_total = record {
   where
     turned : (x y : Option Entry) → head_cmp x y ≡ ordering_reverse (head_cmp y x)
     turned None None = refl
-    turned None (Some y) = refl
-    turned (Some x) None = refl
     turned (Some x) (Some y) = entry_total.antisymm x y
+    turned _ _ = refl
 
     chained : (x y z : Option Entry) → head_cmp x y ≡ Less → head_cmp y z ≡ Less → head_cmp x z ≡ Less
     chained None None z p q = cc
-    chained None (Some y) z p q = cc
     chained (Some x) None None p q = cc
-    chained (Some x) None (Some z) p q = cc
     chained (Some x) (Some y) None p q = refl
     chained (Some x) (Some y) (Some z) p q = entry_total.trans x y z p q
+    chained _ _ _ p q = cc
 
     tied : (x y z : Option Entry) → head_cmp x y ≡ Equal → head_cmp x z ≡ head_cmp y z
     tied None None z p = refl
-    tied None (Some y) z p = cc
-    tied (Some x) None z p = cc
     tied (Some x) (Some y) None p = refl
     tied (Some x) (Some y) (Some z) p = entry_total.congr x y z p
+    tied _ _ z p = cc
 
 pub lead_total : (heads : List (Option Entry)) → IsTotalOrder (lead_cmp heads)
 lead_total heads = then_total (on_total (λ lead. slice_index_or heads lead None) head_total) nat_cmp_total

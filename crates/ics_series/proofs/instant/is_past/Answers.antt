@@ -12,9 +12,7 @@ use Rattle.ics_series.proofs.instant.is_past.Goals as goal
 
 seconds-of : (s : Stamp) → local_seconds (local_of s) ≡ stamp_seconds s
 seconds-of (Date day) = omega (arith, ints)
-seconds-of (Floating local) = refl
-seconds-of (Utc local) = refl
-seconds-of (Zoned local) = refl
+seconds-of _ = refl
 
 pub returns : goal.returns
 returns c =
