@@ -91,14 +91,12 @@ rest-turned key uid o u r s =
 
 -- by the starts, and at one start by the rest
 by-start : (a b : ℤ) (c r : Ordering) → MatchOrdering c (a <ℤ b) (a ≡ b) (b <ℤ a) → (a ≡ b → r ≡ Less) → is_lt (ordering_then c r) ≡ int_le a b
-by-start a b Less r h k = grind (arith, ints)
 by-start a b Equal r h k = ap is_lt (k h) ∙ grind (arith, ints)
-by-start a b Greater r h k = grind (arith, ints)
+by-start a b _ r h k = grind (arith, ints)
 
 not-Less : (c : Ordering) → (c ≡ Greater → ⊥) → is_lt (ordering_reverse c) ≡ false
-not-Less Less n = refl
-not-Less Equal n = refl
 not-Less Greater n = absurd (n refl)
+not-Less _ n = refl
 
 by-next : {a b next : ℤ} (c r : Ordering) → MatchOrdering c (a <ℤ b) (a ≡ b) (b <ℤ a) → (a ≡ b → is_lt r ≡ false) → (a <ℤ b → next ≤ℤ b) →
     (b ≤ℤ a → b <ℤ next) → is_lt (ordering_then c r) ≡ int_le next b

@@ -20,14 +20,12 @@ pub true-equal : (a b : ℤ) → a ≡ b → int_eq a b ≡ true
 true-equal a b e = grind (arith, ints)
 
 pub eq-Equal : (c : Ordering) → is_eq c ≡ true → c ≡ Equal
-eq-Equal Less e = let f : false ≡ true = e in cc
 eq-Equal Equal e = refl
-eq-Equal Greater e = let f : false ≡ true = e in cc
+eq-Equal _ e = let f : false ≡ true = e in cc
 
 pub up-to-front : (c d : Ordering) → is_gt (ordering_then c d) ≡ false → is_gt c ≡ false
-up-to-front Less d h = refl
-up-to-front Equal d h = refl
 up-to-front Greater d h = h
+up-to-front _ d h = refl
 
 pub below-or-last : (m n : ℕ) → m < suc n → (m < n) ⊎ (m ≡ n)
 below-or-last m n l = grind arith

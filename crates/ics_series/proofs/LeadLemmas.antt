@@ -194,19 +194,17 @@ module _ {X : Type 0} (head : X → Option Occurrence) (rest : X → List Entry)
 -- drawing what is given leaves what is still to come
 pub past-drawn : (last head : Option Occurrence) (rest : List Entry) → IsAhead head rest → is_given last (option_map entry_of head) ≡ true →
     past last rest ≡ past last (listed head rest)
-past-drawn None head rest a g = cc
-past-drawn (Some p) None rest a g = cc
 past-drawn (Some p) (Some o) rest a g =
     let tied : entry_cmp (entry_of p) (entry_of o) ≡ Equal = eq-Equal (entry_cmp (entry_of p) (entry_of o)) g in
     cut-before entry_cmp entry_total (entry_of p) rest (before-tied entry_cmp entry_total (entry_of p) (entry_of o) rest tied a)
     ∙ sym (ap (λ c. by_order c (entry_of o ∷ rest) rest (entry_of o ∷ rest)) tied)
+past-drawn _ _ rest a g = cc
 
 -- and shortens the list
 pub shorter-drawn : (last head : Option Occurrence) (rest : List Entry) → is_given last (option_map entry_of head) ≡ true →
     length rest < length (listed head rest)
-shorter-drawn None head rest g = cc
-shorter-drawn (Some p) None rest g = cc
 shorter-drawn (Some p) (Some o) rest g = omega arith
+shorter-drawn _ _ rest g = cc
 
 -- no lead goes before the winner of all
 pub wins-leads : {X : Type 0} (head : X → Option Occurrence) (xs : List X) (winners : List ℕ) → length winners ≡ length xs

@@ -22,9 +22,8 @@ use Rattle.ics_series.proofs.UnionLemmas.{in-union, itself-put, member-put}
 
 module _ {A : Type 0} (R : A → A → Ordering) (o : IsTotalOrder R) where
   member-cut-by : (e x : A) (xs : List A) (c : Ordering) → (c ≡ Equal → e ≡ x → ⊥) → IsIn e (x ∷ xs) → IsIn e (by_order c (x ∷ xs) xs (x ∷ xs))
-  member-cut-by e x xs Less n m = m
   member-cut-by e x xs Equal n m = ⊎_elim (λ s. absurd (n refl s)) (λ k. k) m
-  member-cut-by e x xs Greater n m = m
+  member-cut-by e x xs _ n m = m
 
   -- what is not tied with what goes stays
   pub member-cut : (s e : A) (xs : List A) → (R s e ≡ Equal → ⊥) → IsIn e xs → IsIn e (cut R s xs)

@@ -27,10 +27,8 @@ module _ {A : Type 0} (R : A → A → Ordering) (o : IsTotalOrder R) where
 
   key-by : (e x : A) (xs : List A) (c : Ordering) → R e x ≡ c → HasKey e xs ⊎ HasNoKey R e xs → HasKey e (x ∷ xs) ⊎ HasNoKey R e (x ∷ xs)
   key-by e x xs Equal p ih = inl (record { entry = x; stands = inl refl; tied = p })
-  key-by e x xs Less p (inl k) = inl (record { entry = k.entry; stands = inr k.stands; tied = k.tied })
-  key-by e x xs Less p (inr n) = inr ((λ t. cc), n)
-  key-by e x xs Greater p (inl k) = inl (record { entry = k.entry; stands = inr k.stands; tied = k.tied })
-  key-by e x xs Greater p (inr n) = inr ((λ t. cc), n)
+  key-by e x xs _ p (inl k) = inl (record { entry = k.entry; stands = inr k.stands; tied = k.tied })
+  key-by e x xs _ p (inr n) = inr ((λ t. cc), n)
 
   has-key : (e : A) (xs : List A) → HasKey e xs ⊎ HasNoKey R e xs
   has-key e [] = inr tt

@@ -26,8 +26,7 @@ module _ (zones : FileZones) (event : Event) (w : Window) where
         day = subst (λ (l : Local). IsDayNumber l.day) (sym same.from) h.day;
         late = subst (λ (l : Local). int_max (local_seconds (local_of event.start.stamp)) (first -ℤ whole_days 7) ≤ℤ local_seconds l) (sym same.from) h.late;
       }
-  own-rule-same first None (Some b) same h = absurd same
-  own-rule-same first (Some a) None same h = absurd same
+  own-rule-same first _ _ same h = absurd same
 
   -- the instant and the starts as they are kept
   pub own-rule-as : {kept since : ℤ} {listed all : List Start} (o : Option RuleStarts) → kept ≡ since → listed ≡ all

@@ -32,9 +32,8 @@ use Rattle.ics_series.specs.Starts.{given_by, local_of, recurrence_of, time_at, 
 use Rattle.ics_series.proofs.Cases.{some-same, below-or-last}
 use Rattle.ics_series.proofs.FirstLemmas.{source-order, source_total}
 use Rattle.ics_series.proofs.StartSourceLemmas.{calendar-day, own-day, own-time}
-use Rattle.ics_series.proofs.PlacedLemmas.{in-append, in-append_left, in-append_right}
+use Rattle.ics_series.proofs.OnDayLemmas.{joined}
 use Rattle.ics_series.proofs.RuleLocalLemmas.{kept-ruled, number-numbered, numbered-number, ruled-kept}
-use Rattle.ics_series.proofs.SourceLemmas.{rises-more}
 
 -- What is not after another comes before it.
 source-before : (a b : StartSource) → (IsNotAfter b a → ⊥) → source_cmp a b ≡ Less
@@ -54,6 +53,34 @@ record Counts (P : StartSource → Type 0) (n : ℕ) : Type 0 where
   listing : IsListing source_cmp P sources
   count : length sources ≡ n
 
+same-count : {P Q : StartSource → Type 0} {n : ℕ} → Counts P n → ((g : StartSource) → P g → Q g) → ((g : StartSource) → Q g → P g) → Counts Q n
+same-count c to from = record {
+  sources = c.sources;
+  listing = record { rises = c.listing.rises; exact = λ g. (λ m. to g ((c.listing.exact g).0 m), λ q. (c.listing.exact g).1 (from g q)) };
+  count = c.count;
+}
+
+-- those of one property, each of which comes before those of another
+both-count : {P Q S : StartSource → Type 0} {m n : ℕ} → Counts P m → Counts Q n → ((x y : StartSource) → P x → Q y → source_cmp x y ≡ Less) →
+    ((g : StartSource) → P g ⊎ Q g → S g) → ((g : StartSource) → S g → P g ⊎ Q g) → Counts S (m + n)
+both-count {S = S} a b less to from = record {
+  sources = a.sources ++ b.sources;
+  listing = joined source_cmp S a.listing b.listing less to from;
+  count = omega (arith, length-append a.sources b.sources, a.count, b.count);
+}
+
+one-or-none : (b : Bool) (s : StartSource) → Counts (λ g. (b ≡ true) × (g ≡ s)) (cond b 1 0)
+one-or-none true s = record {
+  sources = s ∷ [];
+  listing = record { rises = (tt, tt); exact = λ g. (λ m. ⊎_elim (λ e. (refl, e)) (λ no. absurd no) m, λ p. inl p.1) };
+  count = refl;
+}
+one-or-none false s = record {
+  sources = [];
+  listing = record { rises = tt; exact = λ g. (λ m. absurd m, λ p. let no : false ≡ true = p.0 in absurd cc) };
+  count = refl;
+}
+
 -- Of the locals with numbers below n those that pass a test.
 record IsPassing (test : ℕ → Bool) (n : ℕ) (g : StartSource) : Type 0 where
   at : ℕ
@@ -61,54 +88,17 @@ record IsPassing (test : ℕ → Bool) (n : ℕ) (g : StartSource) : Type 0 wher
   passes : test at ≡ true
   is : g ≡ Kept (local_numbered at)
 
-all-in : {A : Type 0} (P : A → Type 0) (xs : List A) → ((x : A) → IsIn x xs → P x) → AllByRecursion P xs
-all-in P [] h = tt
-all-in P (x ∷ xs) h = (h x (inl refl), all-in P xs (λ y m. h y (inr m)))
-
 module _ (test : ℕ → Bool) where
-  on-passing : (n : ℕ) (g : StartSource) → IsPassing test n g → IsPassing test (suc n) g
-  on-passing n g p = record { at = p.at; below = omega (arith, p.below); passes = p.passes; is = p.is }
-
   earlier-local : (k n : ℕ) → k < n → source_cmp (Kept (local_numbered k)) (Kept (local_numbered n)) ≡ Less
   earlier-local k n l =
       source-before (Kept (local_numbered k)) (Kept (local_numbered n)) (λ h. omega (arith, ints, l, h, number-numbered k, number-numbered n))
 
-  one-passing : (n : ℕ) (b : Bool) → test n ≡ b → Counts (IsPassing test n) (count n test) → Counts (IsPassing test (suc n)) (count n test + cond b 1 0)
-  one-passing n true e rest = record {
-    sources = rest.sources ++ Kept (local_numbered n) ∷ [];
-    listing = record {
-      rises = rises-more source_cmp rest.sources (Kept (local_numbered n)) rest.listing.rises
-          (all-in (λ g. source_cmp g (Kept (local_numbered n)) ≡ Less) rest.sources
-          (λ g m. let p = (rest.listing.exact g).0 m in ap (λ x. source_cmp x (Kept (local_numbered n))) p.is ∙ earlier-local p.at n p.below));
-      exact = λ g. (
-        λ m. ⊎_elim (λ k. on-passing n g ((rest.listing.exact g).0 k))
-            (λ k. ⊎_elim (λ s. record { at = n; below = omega arith; passes = e; is = s }) (λ no. absurd no) k)
-            (in-append g rest.sources (Kept (local_numbered n) ∷ []) m),
-        λ p.
-            ⊎_elim
-            (λ l. in-append_left g rest.sources (Kept (local_numbered n)
-            ∷ []) ((rest.listing.exact g).1 (record { at = p.at; below = l; passes = p.passes; is = p.is })))
-            (λ s. in-append_right g rest.sources (Kept (local_numbered n) ∷ []) (inl (p.is ∙ ap (λ i. Kept (local_numbered i)) s)))
-            (below-or-last p.at n p.below),
-      );
-    };
-    count = omega (arith, length-append rest.sources (Kept (local_numbered n) ∷ []), rest.count);
-  }
-  one-passing n false e rest = record {
-    sources = rest.sources;
-    listing = record {
-      rises = rest.listing.rises;
-      exact = λ g. (
-        λ m. on-passing n g ((rest.listing.exact g).0 m),
-        λ p.
-            ⊎_elim
-            (λ l. (rest.listing.exact g).1 (record { at = p.at; below = l; passes = p.passes; is = p.is }))
-            (λ s. let no : true ≡ false = sym p.passes ∙ (ap test s ∙ e) in absurd cc)
-            (below-or-last p.at n p.below),
-      );
-    };
-    count = omega (arith, rest.count);
-  }
+  below-or-on : (n : ℕ) (g : StartSource) → IsPassing test (suc n) g → IsPassing test n g ⊎ ((test n ≡ true) × (g ≡ Kept (local_numbered n)))
+  below-or-on n g p =
+      ⊎_elim
+      (λ l. inl (record { at = p.at; below = l; passes = p.passes; is = p.is }))
+      (λ s. inr (ap test (sym s) ∙ p.passes, p.is ∙ ap (λ i. Kept (local_numbered i)) s))
+      (below-or-last p.at n p.below)
 
   passing : (n : ℕ) → Counts (IsPassing test n) (count n test)
   unfolding count
@@ -117,7 +107,12 @@ module _ (test : ℕ → Bool) where
     listing = record { rises = tt; exact = λ g. (λ m. absurd m, λ p. let no : ⊥ = omega (arith, p.below) in absurd no) };
     count = refl;
   }
-  passing (suc n) = subst (Counts (IsPassing test (suc n))) (sym (count-suc n test)) (one-passing n (test n) refl (passing n))
+  passing (suc n) =
+      subst (Counts (IsPassing test (suc n))) (sym (count-suc n test)) (both-count (passing n) (one-or-none (test n) (Kept (local_numbered n)))
+      (λ x y p q. ap (λ s. source_cmp s y) p.is ∙ (ap (source_cmp (Kept (local_numbered p.at))) q.1 ∙ earlier-local p.at n p.below))
+      (λ g. ⊎_elim (λ p. record { at = p.at; below = omega (arith, p.below); passes = p.passes; is = p.is })
+      (λ q. record { at = n; below = omega arith; passes = q.0; is = q.1 }))
+      (below-or-on n))
 
 -- Of some RDATEs, which stand from a place on, those that pass a test.
 record IsListedFrom (test : Rdate → Bool) (place : ℕ) (rdates : List Rdate) (g : StartSource) : Type 0 where
@@ -151,40 +146,6 @@ module _ (test : Rdate → Bool) where
             is = p.is ∙ ap Listed (omega (arith, e));
           })
 
-  one-listed : (place : ℕ) (r : Rdate) (rs : List Rdate) (b : Bool) → test r ≡ b → Counts (IsListedFrom test (place + 1) rs) (count_by test rs) →
-      Counts (IsListedFrom test place (r ∷ rs)) (cond b 1 0 + count_by test rs)
-  one-listed place r rs true e rest = record {
-    sources = Listed place ∷ rest.sources;
-    listing = record {
-      rises = (
-        before rest.sources (λ g m. let p = (rest.listing.exact g).0 m in ap (source_cmp (Listed place)) p.is
-            ∙ later-place place (place + 1 + p.at) (omega arith)),
-        rest.listing.rises,
-      );
-      exact = λ g. (
-        λ m. ⊎_elim (λ s. record { at = 0; rdate = r; stands = refl; passes = e; is = s ∙ ap Listed (omega arith) })
-            (λ k. on-listed place r rs g ((rest.listing.exact g).0 k)) m,
-        λ p. ⊎_elim (λ f. inl f.1) (λ k. inr ((rest.listing.exact g).1 k)) (first-or-on place r rs g p),
-      );
-    };
-    count = omega (arith, rest.count);
-  }
-    where
-      before : (gs : List StartSource) → ((g : StartSource) → IsIn g gs → source_cmp (Listed place) g ≡ Less) → IsBefore source_cmp (Listed place) gs
-      before [] h = tt
-      before (g ∷ gs) h = (h g (inl refl), before gs (λ k m. h k (inr m)))
-  one-listed place r rs false e rest = record {
-    sources = rest.sources;
-    listing = record {
-      rises = rest.listing.rises;
-      exact = λ g. (
-        λ m. on-listed place r rs g ((rest.listing.exact g).0 m),
-        λ p. ⊎_elim (λ f. let no : true ≡ false = sym f.0 ∙ e in absurd cc) (λ k. (rest.listing.exact g).1 k) (first-or-on place r rs g p),
-      );
-    };
-    count = omega (arith, rest.count);
-  }
-
   listed : (place : ℕ) (rs : List Rdate) → Counts (IsListedFrom test place rs) (count_by test rs)
   listed place [] = record {
     sources = [];
@@ -192,8 +153,12 @@ module _ (test : Rdate → Bool) where
         record { rises = tt; exact = λ g. (λ m. absurd m, λ p. let no : None ≡ Some p.rdate = p.stands in absurd cc) };
     count = refl;
   }
-  listed place (r ∷ rs) = subst (Counts (IsListedFrom test place (r ∷ rs))) (sym (sum_by-cons (λ x. cond (test x) 1 0) r rs))
-      (one-listed place r rs (test r) refl (listed (place + 1) rs))
+  listed place (r ∷ rs) =
+      subst (Counts (IsListedFrom test place (r ∷ rs))) (sym (sum_by-cons (λ x. cond (test x) 1 0) r rs))
+      (both-count (one-or-none (test r) (Listed place)) (listed (place + 1) rs)
+      (λ x y q p. ap (λ s. source_cmp s y) q.1 ∙ (ap (source_cmp (Listed place)) p.is ∙ later-place place (place + 1 + p.at) (omega arith)))
+      (λ g. ⊎_elim (λ q. record { at = 0; rdate = r; stands = refl; passes = q.0; is = q.1 ∙ ap Listed (omega arith) }) (on-listed place r rs g))
+      (first-or-on place r rs))
 
 module _ (clocks : Clocks) (event : Event) (day : ℤ) (time : IsTime event.start) where
   abbrev is_there : Rdate → Bool
@@ -215,28 +180,15 @@ module _ (clocks : Clocks) (event : Event) (day : ℤ) (time : IsTime event.star
   none-ruled local e r = let no : Some r.rule ≡ None = sym r.has ∙ e in absurd cc
 
   -- under no rule
-  once-by : (b : Bool) → is_within_days day (instant clocks event.start) ≡ b → recurrence_of event ≡ None → Counts IsRawKept (if b then 1 else 0)
-  once-by true e none = record {
-    sources = Kept (local_of event.start.stamp) ∷ [];
-    listing = record {
-      rises = (tt, tt);
-      exact =
-          λ g. (λ m. ⊎_elim (λ s. subst IsRawKept (sym s) (inl refl, ap (is_within_days day) own-instant ∙ e)) (λ no. absurd no) m, λ p. back g p);
-    };
-    count = refl;
-  }
+  once : recurrence_of event ≡ None → Counts IsRawKept (if is_within_days day (instant clocks event.start) then 1 else 0)
+  once none =
+      same-count (one-or-none (is_within_days day (instant clocks event.start)) (Kept (local_of event.start.stamp)))
+      (λ g p. subst IsRawKept (sym p.1) (inl refl, ap (is_within_days day) own-instant ∙ p.0)) back
     where
-      back : (g : StartSource) → IsRawKept g → IsIn g (Kept (local_of event.start.stamp) ∷ [])
-      back (Kept local) p = inl (ap Kept (⊎_elim (λ s. s) (λ r. absurd (none-ruled local none r)) p.0))
-      back (Listed place) p = absurd p
-  once-by false e none = record { sources = []; listing = record { rises = tt; exact = λ g. (λ m. absurd m, λ p. back g p) }; count = refl }
-    where
-      back : (g : StartSource) → IsRawKept g → IsIn g []
+      back : (g : StartSource) → IsRawKept g → (is_within_days day (instant clocks event.start) ≡ true) × (g ≡ Kept (local_of event.start.stamp))
       back (Kept local) p =
-          let same : local ≡ local_of event.start.stamp = ⊎_elim (λ s. s) (λ r. absurd (none-ruled local none r)) p.0 in
-          let no : true ≡ false = sym p.1 ∙ (ap (λ l. is_within_days day (instant clocks (time_at event.start l))) same
-          ∙ (ap (is_within_days day) own-instant ∙ e)) in
-          absurd cc
+          let same : local_of event.start.stamp ≡ local = ⊎_elim sym (λ r. absurd (none-ruled local none r)) p.0 in
+          (ap (is_within_days day) (sym own-instant ∙ ap (λ l. instant clocks (time_at event.start l)) same) ∙ p.1, ap Kept (sym same))
       back (Listed place) p = absurd p
 
   -- and under one
@@ -281,43 +233,19 @@ module _ (clocks : Clocks) (event : Event) (day : ℤ) (time : IsTime event.star
 
     by-rule : Counts IsRawKept (raw_by_rule clocks event rule day)
     unfolding raw_by_rule
-    by-rule =
-        let all = passing (is_raw clocks event rule day) calendar_end in
-        record {
-          sources = all.sources;
-          listing = record {
-            rises = all.listing.rises;
-            exact =
-                λ g. (λ m. raw-passing g ((all.listing.exact g).0 m), λ p. (all.listing.exact g).1 (passing-raw g p));
-          };
-          count = all.count;
-        }
+    by-rule = same-count (passing (is_raw clocks event rule day) calendar_end) raw-passing passing-raw
 
   kept-counts : (o : Option Recurrence) → recurrence_of event ≡ o → Counts IsRawKept (raw_by clocks event o day)
-  kept-counts None e = once-by (is_within_days day (instant clocks event.start)) refl e
+  kept-counts None e = once e
   kept-counts (Some rule) e = by-rule rule e
 
-  -- and_from kinds, the locals first
+  -- both kinds, the locals first
   abbrev IsRawSource : StartSource → Type 0
   IsRawSource g = IsRawKept g ⊎ IsListedFrom is_there 0 event.rdates g
 
-  locals-first : (xs ys : List StartSource) → ((g : StartSource) → IsIn g xs → IsRawKept g) →
-      ((g : StartSource) → IsIn g ys → IsListedFrom is_there 0 event.rdates g) → Rises source_cmp xs → Rises source_cmp ys → Rises source_cmp (xs ++ ys)
-  locals-first [] ys h k r s = s
-  locals-first (x ∷ xs) ys h k r s = (ahead x xs (h x (inl refl)) r.0, locals-first xs ys (λ g m. h g (inr m)) k r.1 s)
-    where
-      kept-before : (x g : StartSource) → IsRawKept x → IsListedFrom is_there 0 event.rdates g → source_cmp x g ≡ Less
-      kept-before (Kept local) g p q = ap (source_cmp (Kept local)) q.is ∙ source-before (Kept local) (Listed (0 + q.at)) (λ no. no)
-      kept-before (Listed place) g p q = absurd p
-
-      all-before : (x : StartSource) (zs : List StartSource) → IsRawKept x → ((g : StartSource) → IsIn g zs → IsListedFrom is_there 0 event.rdates g) →
-          IsBefore source_cmp x zs
-      all-before x [] p k = tt
-      all-before x (z ∷ zs) p k = (kept-before x z p (k z (inl refl)), all-before x zs p (λ g m. k g (inr m)))
-
-      ahead : (x : StartSource) (xs : List StartSource) → IsRawKept x → IsBefore source_cmp x xs → IsBefore source_cmp x (xs ++ ys)
-      ahead x [] p b = all-before x ys p k
-      ahead x (y ∷ zs) p b = (b.0, ahead x zs p b.1)
+  kept-before : (x g : StartSource) → IsRawKept x → IsListedFrom is_there 0 event.rdates g → source_cmp x g ≡ Less
+  kept-before (Kept local) g p q = ap (source_cmp (Kept local)) q.is ∙ source-before (Kept local) (Listed (0 + q.at)) (λ no. no)
+  kept-before (Listed place) g p q = absurd p
 
   source-raw : (g : StartSource) → IsRawSource g → IsRaw clocks event day g
   source-raw (Kept local) (inl p) = (At (time_at event.start local), (p.0, refl), p.1)
@@ -344,21 +272,9 @@ module _ (clocks : Clocks) (event : Event) (day : ℤ) (time : IsTime event.star
   raw-list : (sources : List StartSource) × IsListing source_cmp (IsRaw clocks event day) sources × (length sources ≡ raw_in clocks event day)
   unfolding raw_in raw_listed
   raw-list =
-      let kept = kept-counts (recurrence_of event) refl in
-      let rest = listed is_there 0 event.rdates in (
-        kept.sources ++ rest.sources,
-        record {
-          rises = locals-first kept.sources rest.sources (λ g m. (kept.listing.exact g).0 m) (λ g m. (rest.listing.exact g).0 m) kept.listing.rises
-              rest.listing.rises;
-          exact = λ g. (
-            λ m. source-raw g (⊎_elim (λ k. inl ((kept.listing.exact g).0 k)) (λ k. inr ((rest.listing.exact g).0 k))
-                (in-append g kept.sources rest.sources m)),
-            λ r. ⊎_elim (λ p. in-append_left g kept.sources rest.sources ((kept.listing.exact g).1 p))
-                (λ q. in-append_right g kept.sources rest.sources ((rest.listing.exact g).1 q)) (raw-source g r),
-          );
-        },
-        omega (arith, length-append kept.sources rest.sources, kept.count, rest.count),
-      )
+      let all : Counts (IsRaw clocks event day) (raw_in clocks event day) =
+      both-count (kept-counts (recurrence_of event) refl) (listed is_there 0 event.rdates) kept-before source-raw raw-source in
+      (all.sources, all.listing, all.count)
 
 pub raw-counted : (clocks : Clocks) (event : Event) (day : ℤ) → IsTime event.start →
     (sources : List StartSource) × IsListing source_cmp (IsRaw clocks event day) sources × (length sources ≡ raw_in clocks event day)

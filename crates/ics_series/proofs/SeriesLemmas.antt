@@ -41,7 +41,7 @@ use Rattle.ics_series.specs.SeriesStarts.{given_of, has_moment, is_wanted, liste
 use Rattle.ics_series.specs.SeriesStarts.{HasSameRule, HaveRuled, IsAskedNear, IsGivenAt, IsGivenBy, IsKnown, IsSeriesMet}
 use Rattle.ics_series.specs.Starts.{given_by, local_of, recurrence_of, GivesStart, IsRuleStart}
 use Rattle.ics_series.specs.FileZones.{clocks_in}
-use Rattle.ics_series.proofs.Cases.{equal-true, true-equal, some-same}
+use Rattle.ics_series.proofs.Cases.{equal-true, not-true, true-equal, some-same}
 use Rattle.ics_series.proofs.FirstLemmas.{int-less, moment_total, tied-moment}
 use Rattle.ics_series.proofs.StartSourceLemmas.{gives-value}
 use Rattle.ics_series.proofs.LeftLemmas.{member-cut}
@@ -158,11 +158,8 @@ module _ (clocks : Clocks) (w : Window) (event : Event) (since : ℤ) (overridde
   wanted-is o e =
       let parts = and_true {a = int_le since o.start && not (is_among overridden o.start)} e in
       let own = and_true {a = int_le since o.start} parts.0 in
-      (parts.1, int_le_true since o.start own.0, λ m. not-both (is_among overridden o.start) (in-among o.start overridden m) own.1)
-    where
-      not-both : (b : Bool) → b ≡ true → not b ≡ true → ⊥
-      not-both true e f = let g : false ≡ true = f in cc
-      not-both false e f = let g : false ≡ true = e in cc
+      let none = not-true (is_among overridden o.start) own.1 in
+      (parts.1, int_le_true since o.start own.0, λ m. let some = in-among o.start overridden m in cc)
 
   pub is-wanted : (o : Entry) → is_shown clocks w event o ≡ true → since ≤ℤ o.start → (IsIn o.start overridden → ⊥) →
       is_wanted clocks w event since overridden o ≡ true
@@ -241,8 +238,7 @@ module _ (clocks : Clocks) (w : Window) (event : Event) (since : ℤ) (overridde
   ruled-rest None None same c front h = tt
   ruled-rest (Some a) (Some b) {rest = rest} same c front h =
       subst (λ xs. HaveRuled clocks event xs (given_of clocks w event since overridden rest)) (sym c) (ruled-behind (starts_left a) front h)
-  ruled-rest None (Some b) same c front h = absurd same
-  ruled-rest (Some a) None same c front h = absurd same
+  ruled-rest _ _ same c front h = absurd same
 
   -- each occurrence that the starts of an event give is of it
   pub given-own : (starts : List Start) (e : Entry) → IsIn e (given_of clocks w event since overridden starts) → e.event ≡ event
@@ -255,8 +251,7 @@ module _ (clocks : Clocks) (event : Event) where
   ruled-same None None same e f h = tt
   ruled-same (Some a) (Some b) {coming = coming} same e f h =
       subst (HaveRuled clocks event (starts_left b)) (sym f) (subst (λ xs. HaveRuled clocks event xs coming) (sym e) h)
-  ruled-same None (Some b) same e f h = absurd same
-  ruled-same (Some a) None same e f h = absurd same
+  ruled-same _ _ same e f h = absurd same
 
   -- A rule has been read no further than three days past an occurrence that it gives and that is still to come.
   rule-near : (o : Option RuleStarts) (coming : List Entry) → HasRuled clocks event o coming → (e : Entry) → IsIn e coming →

@@ -85,10 +85,9 @@ pub from-none : (after : Option Rank) (t : ℤ) → after ≡ None → IsFrom af
 from-none after t e = subst (λ a. IsFrom a t) (sym e) tt
 
 in-taken : (vs : List Version) (i : ℕ) (l : Label) → IsIn l (map seen (take i vs)) → IsIn l (map seen vs)
-in-taken [] zero l m = absurd m
-in-taken [] (suc i) l m = absurd m
-in-taken (x ∷ xs) zero l m = absurd m
 in-taken (x ∷ xs) (suc i) l m = ⊎_elim inl (λ n. inr (in-taken xs i l n)) m
+in-taken [] (suc i) l m = absurd m
+in-taken _ _ l m = absurd m
 
 recurring-of : (ms : List Recurring) → recurring (map Of ms) ≡ ms
 recurring-of [] = refl

@@ -95,11 +95,9 @@ module _ {X : Type 0} (head : X → Option Occurrence) (rest : X → List Entry)
     fewer-set : (xs : List X) (lead : ℕ) → old ≡ get_or xs lead old →
         ((a : Entry) → IsIn a (listed (head new) (rest new)) → IsIn a (listed (head old) (rest old)))
         → AreFewer (map (λ x. listed (head x) (rest x)) xs) (map (λ x. listed (head x) (rest x)) (set xs lead new))
-    fewer-set [] lead read f i a m = m
     fewer-set (x ∷ xs) zero read f zero a m = subst (λ y. IsIn a (listed (head y) (rest y))) read (f a m)
-    fewer-set (x ∷ xs) zero read f (suc i) a m = m
-    fewer-set (x ∷ xs) (suc lead) read f zero a m = m
     fewer-set (x ∷ xs) (suc lead) read f (suc i) a m = fewer-set xs lead read f i a m
+    fewer-set _ _ read f _ a m = m
 
     module _ (xs : List X) (lead : ℕ) (read : old ≡ get_or xs lead old) where
       pub fewer-drawn-in : listed (head new) (rest new) ≡ rest old
@@ -175,15 +173,6 @@ apart a b m {ms = ms} p before later =
     ∙ (ap (λ (e : Event). slice_cmp nat_cmp m.event.uid e.uid) later.event
     ∙ before-in uid_cmp (on_total (λ (r : Recurring). r.event.uid) nat_list_cmp_total) m later.master ms before later.stands)
 
-cmp-same : (i : ℕ) → nat_cmp i i ≡ Equal
-cmp-same i = grind (arith, nat_tests)
-
-cmp-first : (i : ℕ) → nat_cmp 0 (suc i) ≡ Less
-cmp-first i = grind (arith, nat_tests)
-
-cmp-behind : (i : ℕ) → nat_cmp (suc i) 0 ≡ Greater
-cmp-behind i = grind (arith, nat_tests)
-
 cmp-suc : (i j : ℕ) → nat_cmp (suc i) (suc j) ≡ nat_cmp i j
 cmp-suc i j = grind (arith, nat_tests)
 
@@ -192,15 +181,15 @@ by-place : (ps : List Part) (ms : List Recurring) → flat_map part_sources ps �
 by-place [] ms e r i a n j b low high k = absurd n
 by-place (p ∷ ps) [] e r i a n j b low high k = absurd (no-source p (flat_map part_sources ps) e)
 by-place (p ∷ ps) (m ∷ ms) e r zero a n zero b low high k =
-    alike a b m (own-uid p a (flat_map part_sources ps) e n) (own-uid p b (flat_map part_sources ps) e k) ∙ sym (cmp-same 0)
+    alike a b m (own-uid p a (flat_map part_sources ps) e n) (own-uid p b (flat_map part_sources ps) e k) ∙ grind (arith, nat_tests)
 by-place (p ∷ ps) (m ∷ ms) e r zero a n (suc j) b low high k =
     apart a b m (own-uid p a (flat_map part_sources ps) e n) r.0 (master-in ps ms j b (rest-sources p (Of m) (flat_map part_sources ps) (map Of ms) e) k)
-    ∙ sym (cmp-first j)
+    ∙ grind (arith, nat_tests)
 by-place (p ∷ ps) (m ∷ ms) e r (suc i) a n zero b low high k =
     nat_list_cmp_total.antisymm a.event.uid b.event.uid
     ∙ (ap ordering_reverse (apart b a m (own-uid p b (flat_map part_sources ps) e k) r.0
     (master-in ps ms i a (rest-sources p (Of m) (flat_map part_sources ps) (map Of ms) e) n))
-    ∙ sym (cmp-behind i))
+    ∙ grind (arith, nat_tests))
 by-place (p ∷ ps) (m ∷ ms) e r (suc i) a n (suc j) b low high k =
     by-place ps ms (rest-sources p (Of m) (flat_map part_sources ps) (map Of ms) e) r.1 i a n j b (omega arith) (omega arith) k ∙ sym (cmp-suc i j)
 

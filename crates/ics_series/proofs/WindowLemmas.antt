@@ -1,6 +1,6 @@
 -- What a window lists, said plainly.
 use Rattle.std.specs.Prelude.{◌↔◌, ◌≤ℤ◌, ◌<ℤ◌}
-use Rattle.std.proofs.Common.{◌≡◌, ℤ, pos, ◌+ℤ◌, true, false, ◌⊎◌, inl, inr, ⊎_elim, List, [], ◌∷◌, ◌++◌, refl, sym, ◌∙◌, arith}
+use Rattle.std.proofs.Common.{◌≡◌, ℤ, pos, ◌+ℤ◌, true, false, ◌⊎◌, inl, inr, ⊎_elim, List, ◌++◌, refl, sym, ◌∙◌, arith}
 use Rattle.std.specs.Cmp.{int_cmp_is}
 use Rattle.std.proofs.lemmas.Int.{ints}
 use Rattle.std.specs.declared.cmp.Ordering.TheVariants.{Less}
@@ -12,10 +12,9 @@ use Rattle.ics_series.specs.Entry.{Entry, entry_cmp}
 use Rattle.ics_series.specs.Listing.{IsIn, IsListing}
 use Rattle.ics_series.specs.Meets.{IsListed, Meets}
 use Rattle.ics_series.specs.Occurs.{Occurs}
-use Rattle.ics_series.specs.Rising.{IsBefore, Rises}
 use Rattle.ics_series.specs.WindowLaws.{IsJoined, IsWithin}
 use Rattle.ics_series.proofs.NearDayLemmas.{occurs-forward}
-use Rattle.ics_series.proofs.PlacedLemmas.{in-append, in-append_left, in-append_right}
+use Rattle.ics_series.proofs.OnDayLemmas.{joined as joined-listing}
 
 -- what starts in a window occurs-forward into it
 lasting : (from start finish : ℤ) → from ≤ℤ start → start ≤ℤ finish → (from <ℤ finish) ⊎ ((finish ≡ start) × (from ≤ℤ start))
@@ -70,22 +69,6 @@ module _ (files : List FileSaid) (display : Clock) where
 earlier : (o q : Entry) → o.start <ℤ q.start → entry_cmp o q ≡ Less
 earlier o q l = rw (sym (int_cmp_is o.start q.start Less l)) refl
 
-before-all : (o : Entry) (ys : List Entry) → ((q : Entry) → IsIn q ys → entry_cmp o q ≡ Less) → IsBefore entry_cmp o ys
-before-all o [] h = tt
-before-all o (q ∷ ys) h = (h q (inl refl), before-all o ys (λ r m. h r (inr m)))
-
-before-both : (o : Entry) (xs ys : List Entry) → IsBefore entry_cmp o xs → IsBefore entry_cmp o ys → IsBefore entry_cmp o (xs ++ ys)
-before-both o [] ys h k = k
-before-both o (x ∷ xs) ys h k = (h.0, before-both o xs ys h.1 k)
-
-rises-both : (xs ys : List Entry) → Rises entry_cmp xs → Rises entry_cmp ys
-    → ((o q : Entry) → IsIn o xs → IsIn q ys → entry_cmp o q ≡ Less) → Rises entry_cmp (xs ++ ys)
-rises-both [] ys h k less = k
-rises-both (x ∷ xs) ys h k less = (
-  before-both x xs ys h.0 (before-all x ys (λ q m. less x q (inl refl) m)),
-  rises-both xs ys h.1 k (λ o q m n. less o q (inr m) n),
-)
-
 module _ (files : List FileSaid) (display : Clock) (first next whole : Window) (joined : IsJoined first next whole) where
   in_first : (o : Entry) → IsListed files display first o → IsListed files display whole o
   in_first o h =
@@ -107,13 +90,7 @@ module _ (files : List FileSaid) (display : Clock) (first next whole : Window) (
 
   pub listings-join : (xs ys : List Entry) → IsListing entry_cmp (IsListed files display first) xs → IsListing entry_cmp (IsListed files display next) ys
       → IsListing entry_cmp (IsListed files display whole) (xs ++ ys)
-  listings-join xs ys h k = record {
-    rises = rises-both xs ys h.rises k.rises (λ o q m n.
-        let a = (h.exact o).0 m in
-        let b = (lists-starts files display next q joined.starts.1).0 ((k.exact q).0 n) in
-        earlier o q (omega (arith, ints, a.1.begun, b.1, joined.adjoin)));
-    exact = λ o. (
-      (λ m. ⊎_elim (λ l. in_first o ((h.exact o).0 l)) (λ l. in_next o ((k.exact o).0 l)) (in-append o xs ys m)),
-      (λ l. ⊎_elim (λ a. in-append_left o xs ys ((h.exact o).1 a)) (λ b. in-append_right o xs ys ((k.exact o).1 b)) (in_either o l)),
-    );
-  }
+  listings-join xs ys h k =
+      joined-listing entry_cmp (IsListed files display whole) h k
+      (λ o q a n. let b = (lists-starts files display next q joined.starts.1).0 n in earlier o q (omega (arith, ints, a.1.begun, b.1, joined.adjoin)))
+      (λ o. ⊎_elim (in_first o) (in_next o)) in_either
