@@ -1,4 +1,4 @@
--- What gives an event a start in five days stands in one list, which has as many members as are counted.
+-- What gives an event a start whose instant passes a test stands in one list, which has as many members as are counted.
 use Rattle.std.specs.Prelude.{count_by, slice_get, if◌then◌else◌}
 use Rattle.std.specs.List.{AllByRecursion}
 use Rattle.std.specs.Ordering.{is_gt, ordering_reverse}
@@ -24,11 +24,11 @@ use Rattle.ics_series.specs.declared.start.StartSource.{StartSource}
 use Rattle.ics_series.specs.declared.start.StartSource.TheVariants.{Kept, Listed}
 use Rattle.ics_series.specs.Clocks.{Clocks, instant}
 use Rattle.ics_series.specs.Found.{source_cmp}
-use Rattle.ics_series.specs.HeldMost.{is_raw, is_within_days, raw_by, raw_by_rule, raw_in, raw_listed, IsRaw}
+use Rattle.ics_series.specs.HeldMost.{is_within_days, raw_by, raw_by_rule, raw_in, raw_listed, IsRaw}
 use Rattle.ics_series.specs.Listing.{IsIn, IsListing}
 use Rattle.ics_series.specs.Rising.{IsBefore, Rises}
 use Rattle.ics_series.specs.RuleStarts.{lets_until, local_numbered, moment_numbered}
-use Rattle.ics_series.specs.Starts.{given_by, local_of, recurrence_of, time_at, time_of, IsNotAfter, IsRuleStart}
+use Rattle.ics_series.specs.Starts.{given_by, local_of, recurrence_of, time_at, time_of, GivesStart, IsNotAfter, IsRuleStart}
 use Rattle.ics_series.proofs.Cases.{some-same, below-or-last}
 use Rattle.ics_series.proofs.FirstLemmas.{source-order, source_total}
 use Rattle.ics_series.proofs.StartSourceLemmas.{calendar-day, own-day, own-time}
@@ -48,10 +48,10 @@ source-before a b n = by (source_cmp a b) refl
     by Greater e = absurd (turned Greater e refl)
 
 -- So many sources, as they rise, are those for which something holds.
-record Counts (P : StartSource → Type 0) (n : ℕ) : Type 0 where
-  sources : List StartSource
-  listing : IsListing source_cmp P sources
-  count : length sources ≡ n
+pub record Counts (P : StartSource → Type 0) (n : ℕ) : Type 0 where
+  pub sources : List StartSource
+  pub listing : IsListing source_cmp P sources
+  pub count : length sources ≡ n
 
 same-count : {P Q : StartSource → Type 0} {n : ℕ} → Counts P n → ((g : StartSource) → P g → Q g) → ((g : StartSource) → Q g → P g) → Counts Q n
 same-count c to from = record {
@@ -160,14 +160,27 @@ module _ (test : Rdate → Bool) where
       (λ g. ⊎_elim (λ q. record { at = 0; rdate = r; stands = refl; passes = q.0; is = q.1 ∙ ap Listed (omega arith) }) (on-listed place r rs g))
       (first-or-on place r rs))
 
-module _ (clocks : Clocks) (event : Event) (day : ℤ) (time : IsTime event.start) where
+module _ (clocks : Clocks) (event : Event) (test : ℤ → Bool) (time : IsTime event.start) where
   abbrev is_there : Rdate → Bool
-  is_there rdate = is_within_days day (instant clocks (time_of (given_by event.start rdate)))
+  is_there rdate = test (instant clocks (time_of (given_by event.start rdate)))
 
-  -- what a local gives in the days
+  -- what gives a start whose instant passes
+  abbrev pub IsGiving : StartSource → Type 0
+  IsGiving g = (given : Rdate) × GivesStart clocks event g given × (test (instant clocks (time_of given)) ≡ true)
+
+  -- the rule gives the local with this number such a start
+  abbrev is_tested : Recurrence → ℕ → Bool
+  is_tested rule n = is_kept rule n && (lets_until rule n (moment_numbered clocks event n) && test (moment_numbered clocks event n))
+
+  -- how many locals do, as DTSTART or by the rule
+  abbrev kept_count : Option Recurrence → ℕ
+  kept_count None = if test (instant clocks event.start) then 1 else 0
+  kept_count (Some rule) = count calendar_end (is_tested rule)
+
+  -- what such a local is
   abbrev IsRawLocal : Local → Type 0
   IsRawLocal local = ((local ≡ local_of event.start.stamp) ⊎ IsRuleStart clocks event local)
-      × (is_within_days day (instant clocks (time_at event.start local)) ≡ true)
+      × (test (instant clocks (time_at event.start local)) ≡ true)
 
   abbrev IsRawKept : StartSource → Type 0
   IsRawKept (Kept local) = IsRawLocal local
@@ -180,15 +193,15 @@ module _ (clocks : Clocks) (event : Event) (day : ℤ) (time : IsTime event.star
   none-ruled local e r = let no : Some r.rule ≡ None = sym r.has ∙ e in absurd cc
 
   -- under no rule
-  once : recurrence_of event ≡ None → Counts IsRawKept (if is_within_days day (instant clocks event.start) then 1 else 0)
+  once : recurrence_of event ≡ None → Counts IsRawKept (if test (instant clocks event.start) then 1 else 0)
   once none =
-      same-count (one-or-none (is_within_days day (instant clocks event.start)) (Kept (local_of event.start.stamp)))
-      (λ g p. subst IsRawKept (sym p.1) (inl refl, ap (is_within_days day) own-instant ∙ p.0)) back
+      same-count (one-or-none (test (instant clocks event.start)) (Kept (local_of event.start.stamp)))
+      (λ g p. subst IsRawKept (sym p.1) (inl refl, ap (test) own-instant ∙ p.0)) back
     where
-      back : (g : StartSource) → IsRawKept g → (is_within_days day (instant clocks event.start) ≡ true) × (g ≡ Kept (local_of event.start.stamp))
+      back : (g : StartSource) → IsRawKept g → (test (instant clocks event.start) ≡ true) × (g ≡ Kept (local_of event.start.stamp))
       back (Kept local) p =
           let same : local_of event.start.stamp ≡ local = ⊎_elim sym (λ r. absurd (none-ruled local none r)) p.0 in
-          (ap (is_within_days day) (sym own-instant ∙ ap (λ l. instant clocks (time_at event.start l)) same) ∙ p.1, ap Kept (sym same))
+          (ap (test) (sym own-instant ∙ ap (λ l. instant clocks (time_at event.start l)) same) ∙ p.1, ap Kept (sym same))
       back (Listed place) p = absurd p
 
   -- and under one
@@ -196,7 +209,7 @@ module _ (clocks : Clocks) (event : Event) (day : ℤ) (time : IsTime event.star
     in-calendar : (n : ℕ) → n < calendar_end → IsDayNumber (local_numbered n).day
     in-calendar n l = (omega (arith, ints), omega (arith, ints, l))
 
-    raw-passing : (g : StartSource) → IsPassing (is_raw clocks event rule day) calendar_end g → IsRawKept g
+    raw-passing : (g : StartSource) → IsPassing (is_tested rule) calendar_end g → IsRawKept g
     raw-passing g p =
         let n = p.at in
         let kept = and_true {a = is_kept rule p.at} p.passes in
@@ -213,7 +226,7 @@ module _ (clocks : Clocks) (event : Event) (day : ℤ) (time : IsTime event.star
         ⊎_elim (λ s. subst (λ (l : Local). IsDayNumber l.day) (sym s) (calendar-day (local_of event.start.stamp).day (own-day event.start time)))
         (λ r. r.calendar) k
 
-    passing-raw : (g : StartSource) → IsRawKept g → IsPassing (is_raw clocks event rule day) calendar_end g
+    passing-raw : (g : StartSource) → IsRawKept g → IsPassing (is_tested rule) calendar_end g
     passing-raw (Kept local) p =
         let of_day = local-day local p.0 in
         let same = numbered-number local of_day in
@@ -223,19 +236,18 @@ module _ (clocks : Clocks) (event : Event) (day : ℤ) (time : IsTime event.star
           at = number local;
           below = omega (arith, ints, of_day.0, of_day.1, local.second_in);
           passes = and_from (is_kept rule (number local)) (lets_until rule (number local) (moment_numbered clocks event (number local))
-              && is_within_days day (moment_numbered clocks event (number local))) parts.0
+              && test (moment_numbered clocks event (number local))) parts.0
               (and_from (lets_until rule (number local) (moment_numbered clocks event (number local)))
-              (is_within_days day (moment_numbered clocks event (number local)))
-              (ap (lets_until rule (number local)) there ∙ parts.1) (ap (is_within_days day) there ∙ p.1));
+              (test (moment_numbered clocks event (number local)))
+              (ap (lets_until rule (number local)) there ∙ parts.1) (ap (test) there ∙ p.1));
           is = ap Kept (sym same);
         }
     passing-raw (Listed place) p = absurd p
 
-    by-rule : Counts IsRawKept (raw_by_rule clocks event rule day)
-    unfolding raw_by_rule
-    by-rule = same-count (passing (is_raw clocks event rule day) calendar_end) raw-passing passing-raw
+    by-rule : Counts IsRawKept (count calendar_end (is_tested rule))
+    by-rule = same-count (passing (is_tested rule) calendar_end) raw-passing passing-raw
 
-  kept-counts : (o : Option Recurrence) → recurrence_of event ≡ o → Counts IsRawKept (raw_by clocks event o day)
+  kept-counts : (o : Option Recurrence) → recurrence_of event ≡ o → Counts IsRawKept (kept_count o)
   kept-counts None e = once e
   kept-counts (Some rule) e = by-rule rule e
 
@@ -247,7 +259,7 @@ module _ (clocks : Clocks) (event : Event) (day : ℤ) (time : IsTime event.star
   kept-before (Kept local) g p q = ap (source_cmp (Kept local)) q.is ∙ source-before (Kept local) (Listed (0 + q.at)) (λ no. no)
   kept-before (Listed place) g p q = absurd p
 
-  source-raw : (g : StartSource) → IsRawSource g → IsRaw clocks event day g
+  source-raw : (g : StartSource) → IsRawSource g → IsGiving g
   source-raw (Kept local) (inl p) = (At (time_at event.start local), (p.0, refl), p.1)
   source-raw (Kept local) (inr q) = let no : Kept local ≡ Listed (0 + q.at) = q.is in absurd cc
   source-raw (Listed place) (inl p) = absurd p
@@ -258,24 +270,29 @@ module _ (clocks : Clocks) (event : Event) (day : ℤ) (time : IsTime event.star
       same-place : (a b : ℕ) → Listed a ≡ Listed b → a ≡ b
       same-place a b e = cc
 
-  raw-source : (g : StartSource) → IsRaw clocks event day g → IsRawSource g
-  raw-source (Kept local) r = inl (r.1.0, ap (λ given. is_within_days day (instant clocks (time_of given))) (sym r.1.1) ∙ r.2)
+  raw-source : (g : StartSource) → IsGiving g → IsRawSource g
+  raw-source (Kept local) r = inl (r.1.0, ap (λ given. test (instant clocks (time_of given))) (sym r.1.1) ∙ r.2)
   raw-source (Listed place) r =
       inr (record {
         at = place;
         rdate = r.1.0;
         stands = r.1.1;
-        passes = ap (λ given. is_within_days day (instant clocks (time_of given))) (sym r.1.2) ∙ r.2;
+        passes = ap (λ given. test (instant clocks (time_of given))) (sym r.1.2) ∙ r.2;
         is = ap Listed (omega arith);
       })
 
-  raw-list : (sources : List StartSource) × IsListing source_cmp (IsRaw clocks event day) sources × (length sources ≡ raw_in clocks event day)
-  unfolding raw_in raw_listed
-  raw-list =
-      let all : Counts (IsRaw clocks event day) (raw_in clocks event day) =
-      both-count (kept-counts (recurrence_of event) refl) (listed is_there 0 event.rdates) kept-before source-raw raw-source in
-      (all.sources, all.listing, all.count)
+  pub giving : Counts IsGiving (kept_count (recurrence_of event) + count_by is_there event.rdates)
+  giving = both-count (kept-counts (recurrence_of event) refl) (listed is_there 0 event.rdates) kept-before source-raw raw-source
+
+kept-counted : (clocks : Clocks) (event : Event) (day : ℤ) (time : IsTime event.start) (o : Option Recurrence) →
+    kept_count clocks event (is_within_days day) time o ≡ raw_by clocks event o day
+unfolding raw_by_rule
+kept-counted clocks event day time None = refl
+kept-counted clocks event day time (Some rule) = refl
 
 pub raw-counted : (clocks : Clocks) (event : Event) (day : ℤ) → IsTime event.start →
     (sources : List StartSource) × IsListing source_cmp (IsRaw clocks event day) sources × (length sources ≡ raw_in clocks event day)
-raw-counted clocks event day time = raw-list clocks event day time
+unfolding raw_in raw_listed
+raw-counted clocks event day time =
+    let all = giving clocks event (is_within_days day) time in
+    (all.sources, all.listing, all.count ∙ ap (λ n. n + raw_listed clocks event day) (kept-counted clocks event day time (recurrence_of event)))
