@@ -1,12 +1,11 @@
 -- What a listing goes on with after a key, and from which instant on the occurrences of a master come after one.
-use Rattle.std.proofs.Common.{◌≡◌, List, [], ◌∷◌, ◌++◌, Option, Some, None, inl, inr, ⊎_elim, refl, sym, ◌∙◌, ap, ◌<ℤ◌, ℕ, zero, suc, w64, ℤ, pos, ◌+ℤ◌}
+use Rattle.std.proofs.Common.{◌≡◌, List, [], ◌∷◌, ◌++◌, Option, Some, None, inl, inr, ⊎_elim, refl, sym, ◌∙◌, ap, ◌<ℤ◌, ℕ, w64, ℤ, pos, ◌+ℤ◌}
 use Rattle.std.proofs.Common.{false, arith}
 use Rattle.std.specs.List.{filter}
 use Rattle.std.specs.Ordering.{is_lt, int_cmp, nat_cmp, ordering_reverse, ordering_then, MatchOrdering}
 use Rattle.std.specs.declared.cmp.Ordering.TheVariants.{Less, Equal, Greater}
 use Rattle.std.specs.Prelude.{◌≤ℤ◌, int_le, neg_ℤ}
 use mir.Val.{SFits}
-use lib.IntN.{negsuc}
 use Rattle.std.specs.Cmp.{int_ranks}
 use Rattle.std.specs.Cmp.Lexicographic.{slice_cmp}
 use Rattle.std.specs.Int.{saturate_signed}

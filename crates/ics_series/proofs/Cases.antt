@@ -3,7 +3,7 @@ use lib.Signed.{mag}
 use Rattle.std.proofs.Common.{◌≡◌, ℕ, suc, ◌<◌, ◌≤◌, ℤ, ◌⊎◌, Bool, true, false, not, Some, refl, arith, w64, to_z, of_z}
 use Rattle.std.specs.Ordering.{int_eq, is_eq, is_gt, ordering_then}
 use Rattle.std.specs.declared.cmp.Ordering.{Ordering}
-use Rattle.std.specs.declared.cmp.Ordering.TheVariants.{Less, Equal, Greater}
+use Rattle.std.specs.declared.cmp.Ordering.TheVariants.{Equal, Greater}
 use Rattle.std.proofs.lemmas.Int.{ints}
 
 pub some-same : {X : Type 0} (x y : X) → Some x ≡ Some y → x ≡ y

@@ -1,7 +1,7 @@
 -- The occurrences of one event that meet a window.
 use Rattle.std.specs.Prelude.{◌&&◌, not, if◌then◌else◌}
-use Rattle.std.proofs.Common.{◌≡◌, ℤ, List, [], ◌∷◌, Some, None, inl, inr, ⊎_elim, Bool, true, false, refl, sym, ◌∙◌, ap, subst}
-use Rattle.std.specs.List.{cons_option, filter_map}
+use Rattle.std.proofs.Common.{◌≡◌, ℤ, List, [], ◌∷◌, Option, Some, None, ⊎_elim, Bool, true, false, refl, sym, ◌∙◌, ap, subst}
+use Rattle.std.specs.List.{filter_map}
 use Rattle.std.specs.declared.cmp.Ordering.TheVariants.{Less}
 use Rattle.std.specs.Ordering.{int_cmp}
 use Rattle.ics_event.specs.declared.event.Event.{Event}
@@ -14,10 +14,12 @@ use Rattle.ics_series.specs.Entry.{Entry}
 use Rattle.ics_series.specs.Exclusions.{is_excluded}
 use Rattle.ics_series.specs.Found.{is_shown, met_by, moment_cmp, shown_by, HasStart, IsSought, IsStart}
 use Rattle.ics_series.specs.Listing.{IsIn, IsListing}
-use Rattle.ics_series.specs.Rising.{IsBefore, Rises}
+use Rattle.ics_series.specs.Rising.{Rises}
 use Rattle.ics_series.specs.Meeting.{entry_from, is_met}
 use Rattle.ics_series.specs.Meets.{Meets, IsEventMet}
 use Rattle.ics_series.specs.Starts.{time_of, GivesStart, IsNotAfter}
+use Rattle.ics_series.proofs.Cases.{some-same}
+use Rattle.ics_series.proofs.PickLemmas.{picked as picked-from, listing-picked as picked-listing, KeepsOrder}
 use Rattle.ics_series.proofs.FirstLemmas.{moment_total, same-moment}
 use Rattle.ics_series.proofs.StartSourceLemmas.{same-given, same-source}
 use Rattle.ics_series.proofs.ListingLemmas.{before-in}
@@ -83,54 +85,29 @@ module _ (x y : Start) (same : x.moment ≡ y.moment) where
       m
 
 module _ (clocks : Clocks) (event : Event) (test : Entry → Bool) where
-  -- the occurrence with a start
-  own : Start → Entry
+  -- the occurrence with a start, which is picked if it passes
+  abbrev own : Start → Entry
   own s = entry_from clocks event s.given
 
-  added : Bool → Start → List Entry → List Entry
-  added true s es = own s ∷ es
-  added false s es = es
+  abbrev pick : Start → Option Entry
+  pick s = if test (own s) then Some (own s) else None
 
-  picked-cons : (s : Start) (ss : List Start) → picked clocks event test (s ∷ ss) ≡ added (test (own s)) s (picked clocks event test ss)
-  unfolding own added
-  picked-cons s ss = by (test (own s))
+  pick-is : (s : Start) (e : Entry) → pick s ≡ Some e → (e ≡ own s) × (test e ≡ true)
+  pick-is s e = by (test (own s)) refl
     where
-      by : (b : Bool) → cons_option (if b then Some (own s) else None) (picked clocks event test ss) ≡ added b s (picked clocks event test ss)
-      by true = refl
-      by false = refl
-
-  abbrev AreOwn : List Start → Type 0
-  AreOwn ss = (s : Start) → IsIn s ss → IsStart clocks event s
+      by : (b : Bool) → test (own s) ≡ b → (if b then Some (own s) else None) ≡ Some e → (e ≡ own s) × (test e ≡ true)
+      by true t q = let is = some-same e (own s) (sym q) in (is, ap test is ∙ t)
+      by false t q = let f : None ≡ Some e = q in absurd cc
 
   -- The order.
   own-less : (s t : Start) → IsStart clocks event s → IsStart clocks event t → moment_cmp s t ≡ Less → entry_start_cmp (own s) (own t) ≡ Less
-  unfolding own
   own-less s t a b l = ap (λ x. int_cmp x (instant clocks (time_of t.given))) (sym a.moment) ∙ (ap (int_cmp s.moment) (sym b.moment) ∙ l)
 
-  before-added : (b : Bool) (x s : Start) (es : List Entry) → entry_start_cmp (own x) (own s) ≡ Less → IsBefore entry_start_cmp (own x) es →
-      IsBefore entry_start_cmp (own x) (added b s es)
-  unfolding added
-  before-added true x s es l h = (l, h)
-  before-added false x s es l h = h
-
-  before-picked : (x : Start) (ss : List Start) → IsStart clocks event x → AreOwn ss → IsBefore moment_cmp x ss →
-      IsBefore entry_start_cmp (own x) (picked clocks event test ss)
-  before-picked x [] a o h = tt
-  before-picked x (s ∷ ss) a o h =
-      subst (IsBefore entry_start_cmp (own x)) (sym (picked-cons s ss))
-      (before-added (test (own s)) x s (picked clocks event test ss) (own-less x s a (o s (inl refl)) h.0) (before-picked x ss a (λ t m. o t (inr m)) h.1))
-
-  rises-added : (b : Bool) (s : Start) (es : List Entry) → IsBefore entry_start_cmp (own s) es → Rises entry_start_cmp es → Rises entry_start_cmp (added b s es)
-  unfolding added
-  rises-added true s es h r = (h, r)
-  rises-added false s es h r = r
-
-  rises-picked : (ss : List Start) → AreOwn ss → Rises moment_cmp ss → Rises entry_start_cmp (picked clocks event test ss)
-  rises-picked [] o h = tt
-  rises-picked (s ∷ ss) o h =
-      subst (Rises entry_start_cmp) (sym (picked-cons s ss))
-      (rises-added (test (own s)) s (picked clocks event test ss) (before-picked s ss (o s (inl refl)) (λ t m. o t (inr m)) h.0)
-      (rises-picked ss (λ t m. o t (inr m)) h.1))
+  picks-keep : (ss : List Start) → ((s : Start) → IsIn s ss → IsStart clocks event s) → KeepsOrder pick moment_cmp entry_start_cmp (λ s. IsIn s ss)
+  picks-keep ss o s t x y m n d e l =
+      let one = pick-is s x d in
+      let other = pick-is t y e in
+      (λ i. entry_start_cmp (one.0 i) (other.0 i)) ∙ own-less s t (o s m) (o t n) l
 
   -- The members: e has one of these starts, and passes.
   pub record IsPicked (ss : List Start) (e : Entry) : Type 0 where
@@ -140,39 +117,22 @@ module _ (clocks : Clocks) (event : Event) (test : Entry → Bool) where
     pub passes : test e ≡ true
 
   pub in-picked : (ss : List Start) (e : Entry) → IsIn e (picked clocks event test ss) → IsPicked ss e
-  unfolding own added
-  in-picked [] e m = absurd m
-  in-picked (s ∷ ss) e m = by (test (own s)) refl (in-picked ss e) (subst (IsIn e) (picked-cons s ss) m)
-    where
-      by : (b : Bool) → test (own s) ≡ b → (IsIn e (picked clocks event test ss) → IsPicked ss e) → IsIn e (added b s (picked clocks event test ss)) →
-          IsPicked (s ∷ ss) e
-      by true t ih m =
-          ⊎_elim (λ a. record { start = s; stands = inl refl; is = a; passes = ap test a ∙ t })
-          (λ n. let k = ih n in record { start = k.start; stands = inr k.stands; is = k.is; passes = k.passes }) m
-      by false t ih m = let k = ih m in record { start = k.start; stands = inr k.stands; is = k.is; passes = k.passes }
-
-  picked-in : (t : Start) (ss : List Start) → test (own t) ≡ true → IsIn t ss → IsIn (own t) (picked clocks event test ss)
-  unfolding added
-  picked-in t [] u m = absurd m
-  picked-in t (s ∷ ss) u m = subst (IsIn (own t)) (sym (picked-cons s ss)) (by (test (own s)) refl (picked-in t ss u) m)
-    where
-      by : (b : Bool) → test (own s) ≡ b → (IsIn t ss → IsIn (own t) (picked clocks event test ss)) → IsIn t (s ∷ ss) →
-          IsIn (own t) (added b s (picked clocks event test ss))
-      by true e ih m = ⊎_elim (λ a. inl (ap own a)) (λ n. inr (ih n)) m
-      by false e ih m = ⊎_elim (λ a. let f : true ≡ false = sym u ∙ (ap (λ x. test (own x)) a ∙ e) in absurd cc) ih m
+  in-picked ss e m =
+      let k = picked-from pick e ss m in
+      let is = pick-is k.0 e k.2 in
+      record { start = k.0; stands = k.1; is = is.0; passes = is.1 }
 
   -- they are what P holds of, if it holds exactly of those that pass
   pub listing-picked : (P : Entry → Type 0) (ss : List Start) → Rises moment_cmp ss → ((s : Start) → IsIn s ss → IsStart clocks event s)
       → ((s : Start) → IsIn s ss → test (entry_from clocks event s.given) ≡ true → P (entry_from clocks event s.given)) → ((e : Entry) → P e → IsPicked ss e)
       → IsListing entry_start_cmp P (picked clocks event test ss)
-  unfolding own
-  listing-picked P ss r o f g = record {
-    rises = rises-picked ss o r;
-    exact = λ e. (
-      λ m. let k = in-picked ss e m in subst P (sym k.is) (f k.start k.stands (ap test (sym k.is) ∙ k.passes)),
-      λ p. let k = g e p in subst (λ x. IsIn x (picked clocks event test ss)) (sym k.is) (picked-in k.start ss (ap test (sym k.is) ∙ k.passes) k.stands),
-    );
-  }
+  listing-picked P ss r o f g =
+      picked-listing pick moment_cmp moment_total entry_start_cmp (λ s. IsIn s ss) (picks-keep ss o) P ss
+      (record { rises = r; exact = λ s. (λ m. m, λ m. m) })
+      (λ s e m q. let is = pick-is s e q in subst P (sym is.0) (f s m (ap test (sym is.0) ∙ is.1)))
+      (λ e p.
+      let k = g e p in
+      (k.start, k.stands, ap (λ b. if b then Some (own k.start) else None) (ap test (sym k.is) ∙ k.passes) ∙ ap Some (sym k.is)))
 
 -- Found starts give the occurrences: here those that are sought at the instants that count.
 module _ (clocks : Clocks) (w : Window) (event : Event) (starts : List Start) (Counts : ℤ → Type 0) (rises : Rises moment_cmp starts) (are : (s : Start) →

@@ -3,7 +3,7 @@ use Rattle.std.proofs.Common.{ℕ, Option, ◌+◌, ◌*◌, ℤ, pos, ◌+ℤ�
 use Rattle.std.proofs.lemmas.Int.{int_max_is, ints}
 use Rattle.ics_values.specs.declared.duration.Duration.{Duration}
 use Rattle.ics_values.specs.declared.stamp.Stamp.{Stamp}
-use Rattle.ics_values.specs.declared.stamp.Stamp.TheVariants.{Date, Floating, Utc, Zoned}
+use Rattle.ics_values.specs.declared.stamp.Stamp.TheVariants.{Date}
 use Rattle.ics_event.specs.declared.time.Rdate.TheVariants.{At}
 use Rattle.ics_event.specs.declared.time.Time.{Time}
 use Rattle.ics_event.specs.declared.time.Length.{Length}

@@ -60,7 +60,7 @@ filter_map-map f h (x ∷ xs) = ap (cons_option (h (f x))) (filter_map-map f h x
 
 module _ {A B : Type 0} (h : A → Option B) where
   -- what is picked is picked from one of the list
-  picked : (y : B) (xs : List A) → IsIn y (filter_map h xs) → (x : A) × IsIn x xs × (h x ≡ Some y)
+  pub picked : (y : B) (xs : List A) → IsIn y (filter_map h xs) → (x : A) × IsIn x xs × (h x ≡ Some y)
   picked y [] m = absurd m
   picked y (x ∷ xs) m = by (h x) refl (picked y xs) m
     where

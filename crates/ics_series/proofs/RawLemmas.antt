@@ -1,6 +1,5 @@
 -- What gives an event a start whose instant passes a test stands in one list, which has as many members as are counted.
 use Rattle.std.specs.Prelude.{count_by, slice_get, if◌then◌else◌}
-use Rattle.std.specs.List.{AllByRecursion}
 use Rattle.std.specs.Ordering.{is_gt, ordering_reverse}
 use Rattle.std.specs.declared.cmp.Ordering.{Ordering}
 use Rattle.std.specs.declared.cmp.Ordering.TheVariants.{Less, Equal, Greater}
@@ -25,8 +24,7 @@ use Rattle.ics_series.specs.declared.start.StartSource.TheVariants.{Kept, Listed
 use Rattle.ics_series.specs.Clocks.{Clocks, instant}
 use Rattle.ics_series.specs.Found.{source_cmp}
 use Rattle.ics_series.specs.HeldMost.{is_within_days, raw_by, raw_by_rule, raw_in, raw_listed, IsRaw}
-use Rattle.ics_series.specs.Listing.{IsIn, IsListing}
-use Rattle.ics_series.specs.Rising.{IsBefore, Rises}
+use Rattle.ics_series.specs.Listing.{IsListing}
 use Rattle.ics_series.specs.RuleStarts.{lets_until, local_numbered, moment_numbered}
 use Rattle.ics_series.specs.Starts.{given_by, local_of, recurrence_of, time_at, time_of, GivesStart, IsNotAfter, IsRuleStart}
 use Rattle.ics_series.proofs.Cases.{some-same, below-or-last}

@@ -1,17 +1,14 @@
 -- Each start that something gives is that of an occurrence, unless an EXDATE takes it out: of what gives it one is the first.
 use Rattle.std.specs.Prelude.{◌≤ℤ◌, slice_get, Contains}
-use Rattle.std.proofs.Common.{◌≡◌, ◌≤◌, ℤ, List, [], ◌∷◌, Bool, true, false, ◌&&◌, Option, Some, None, IfSome, option_map}
-use Rattle.std.proofs.Common.{◌⊎◌, inl, inr, ⊎_elim, refl, sym, ◌∙◌, ap, subst, arith}
+use Rattle.std.proofs.Common.{◌≡◌, ◌≤◌, ℤ, List, [], ◌∷◌, true, false, Some, None, option_map}
+use Rattle.std.proofs.Common.{◌⊎◌, inl, ⊎_elim, refl, sym, ◌∙◌, ap, subst, arith}
 use Rattle.std.specs.Ordering.{int_eq, is_gt}
 use Rattle.std.proofs.lemmas.Int.{ints}
 use Rattle.std.proofs.lemmas.List.Folds.{list_any_at}
-use Rattle.std.proofs.lemmas.Bool.{and_from, cases_lt}
 use Rattle.ics_fields.specs.Days.{IsDayNumber}
-use Rattle.ics_fields.specs.Locals.{local_at, number, local_seconds, calendar_end}
+use Rattle.ics_fields.specs.Locals.{number, local_seconds}
 use Rattle.ics_fields.specs.declared.local.Local.{Local}
-use Rattle.ics_rule.specs.Kept.{is_kept, until_moment}
 use Rattle.ics_rule.specs.Recurrence.{Recurrence}
-use Rattle.ics_rule.proofs.KeptLemmas.{and_true}
 use Rattle.ics_event.specs.Event.{IsTime}
 use Rattle.ics_event.specs.declared.event.Event.{Event}
 use Rattle.ics_event.specs.declared.time.Rdate.{Rdate}
@@ -22,9 +19,8 @@ use Rattle.ics_series.specs.declared.start.StartSource.TheVariants.{Kept, Listed
 use Rattle.ics_series.specs.Clocks.{Clocks, instant}
 use Rattle.ics_series.specs.Exclusions.{excludes, is_excluded}
 use Rattle.ics_series.specs.Finish.{finish}
-use Rattle.ics_zone.specs.Observances.{is_until}
 use Rattle.ics_series.specs.Occurs.{IsInstance}
-use Rattle.ics_series.specs.Starts.{given_by, local_of, time_at, time_of, recurrence_by, recurrence_of, GivesStart, IsNotAfter, IsRuleStart}
+use Rattle.ics_series.specs.Starts.{local_of, time_at, time_of, recurrence_by, GivesStart, IsRuleStart}
 use Rattle.std.proofs.lemmas.Cmp.{tied_itself}
 use Rattle.ics_series.specs.Found.{source_cmp}
 use Rattle.ics_series.specs.Listing.{IsIn, IsListing}
@@ -32,8 +28,7 @@ use Rattle.ics_series.proofs.Cases.{equal-true, true-equal}
 use Rattle.ics_series.proofs.FirstLemmas.{source-order, source_total}
 use Rattle.ics_series.proofs.ListingLemmas.{before-in}
 use Rattle.ics_series.proofs.RawLemmas.{giving, IsGiving}
-use Rattle.ics_series.proofs.StartSourceLemmas.{calendar-day, index-is, kept-late, number-seconds, own-day, own-time, rule-is, same-number}
-use Rattle.ics_series.proofs.KeptLemmas.{true-until, until-true}
+use Rattle.ics_series.proofs.StartSourceLemmas.{calendar-day, kept-late, number-seconds, own-day, own-time, rule-is}
 
 module _ (clocks : Clocks) (event : Event) where
   -- an event without a rule and without RDATEs has the start at DTSTART alone
