@@ -42,14 +42,14 @@ module _ (files : List FileSaid) (display : Clock) (near : (t : ℤ) → IsNear 
   shown-last p s = near-last display near w p.entry s.listed.1 (occurs-forward files display p.entry s.listed.0) p.day s.on
 
   -- those of a day, from what meets the window near it
-  of-day : (day : ℤ) (n : Window) → IsNearDay w day n → (xs : List Entry) → IsListing entry_cmp (IsListed files display n) xs
+  of-day : (day : ℤ) (n : Window) → ((p : OnDay) → IsUnder files display w day p → Meets n p.entry) → (xs : List Entry) → IsListing entry_cmp (IsListed files display n) xs
       → IsListing on_day_cmp (IsUnder files display w day) (today display w day xs)
   of-day day n h xs l =
       today-listing files display near w day (IsUnder files display w day) l
       (λ o p t. (today-shown files display near w day o p.0 t, refl))
       (λ p q. (
         q.1,
-        (q.0.listed.0, shown-near p n q.0 (subst (λ d. IsNearDay w d n) (sym q.1) h)),
+        (q.0.listed.0, h p q),
         subst (λ d. is_today display w d p.entry ≡ true) q.1 (shown-today files display near w p q.0),
       ))
 
@@ -86,7 +86,7 @@ module _ (files : List FileSaid) (display : Clock) (near : (t : ℤ) → IsNear 
   ahead-turned {day = day} {next = next} {n = n} {coming = coming} e h empty l a =
       let later = filter (λ p. int_lt next p.day) a.later in
       let behind = later-behind day next e a.later a.listing in
-      let whole = next-day e (of-day next n h coming l) behind in
+      let whole = next-day e (of-day next n (λ p q. shown-near p n q.0 (subst (λ d. IsNearDay w d n) (sym q.1) h)) coming l) behind in
       let same : a.later ≡ today display w next coming ++ later =
       one-listing on_day_cmp on_day_total (IsLater files display w day) a.later (today display w next coming ++ later) a.listing whole in
       record {
@@ -108,20 +108,13 @@ module _ (files : List FileSaid) (display : Clock) (near : (t : ℤ) → IsNear 
       ∙ one-listing on_day_cmp on_day_total (IsLater files display w day) a.later [] a.listing (none-later day h))
 
   -- There is a list of those of later days, and of all.
-  own-day : (day : ℤ) → (xs : List Entry) → IsListing entry_cmp (IsListed files display w) xs →
-      IsListing on_day_cmp (IsUnder files display w day) (today display w day xs)
-  own-day day xs l =
-      today-listing files display near w day (IsUnder files display w day) l
-      (λ o p t. (today-shown files display near w day o p.0 t, refl))
-      (λ p q. (q.1, q.0.listed, subst (λ d. is_today display w d p.entry ≡ true) q.1 (shown-today files display near w p q.0)))
-
   some-later : (xs : List Entry) → IsListing entry_cmp (IsListed files display w) xs → (n : ℕ) (day : ℤ) → last_near w ≤ℤ (day +ℤ pos n) →
       (later : List OnDay) × IsListing on_day_cmp (IsLater files display w day) later
   some-later xs l zero day h = ([], none-later day (omega (arith, ints, h)))
   some-later xs l (suc n) day h =
       let rest = some-later xs l n (day +ℤ pos 1) (omega (arith, ints, h)) in (
         today display w (day +ℤ pos 1) xs ++ rest.0,
-        next-day refl (own-day (day +ℤ pos 1) xs l) rest.1,
+        next-day refl (of-day (day +ℤ pos 1) w (λ p q. q.0.listed.1) xs l) rest.1,
       )
 
   -- as many days on as there are

@@ -12,6 +12,7 @@ use Rattle.std.proofs.lemmas.Int.{ints}
 use Rattle.std.proofs.lemmas.List.Folds.{list_any-append, list_any_at, list_any_none}
 use Rattle.std.proofs.lemmas.List.Sorted.{list_any-IsPermutation, searchable_from_sorted}
 use Rattle.std.proofs.lemmas.Bool.{cases_lt}
+use Rattle.std.proofs.Math.Bool.{or-false}
 use Rattle.ics_values.specs.declared.stamp.Stamp.{Stamp}
 use Rattle.ics_values.specs.declared.stamp.Stamp.TheVariants.{Date}
 use Rattle.ics_event.specs.declared.time.Time.{Time}
@@ -45,10 +46,6 @@ found-in xs x (Err i) s b h =
     (cases_lt k i)))
 
 -- One more instant.
-or-false : (a : Bool) → (a || false) ≡ a
-or-false true = refl
-or-false false = refl
-
 or-moved : (a b c : Bool) → ((a || (b || false)) || c) ≡ ((a || c) || b)
 or-moved true b c = refl
 or-moved false true true = refl

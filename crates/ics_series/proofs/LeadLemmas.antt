@@ -11,6 +11,7 @@ use Rattle.std.proofs.lemmas.Bool.Decides.{nat_tests}
 use Rattle.std.proofs.lemmas.List.{get_or-map, get_or-set_other, get_or_past, length-map, map-set}
 use Rattle.std.proofs.lemmas.List.Sums.{sum_by-set}
 use Rattle.std.proofs.Math.Seq.{map-set_same, take-append_seam}
+use Rattle.std.proofs.lemmas.Simd.{map-map}
 use Rattle.ics_series.specs.Entry.{Entry, entry_cmp, entry_of}
 use Rattle.ics_series.specs.EntryLaws.{entry_total}
 use Rattle.ics_series.specs.Leads.{is_given, listed, past, ComeAfter, IsAhead, IsEmpty}
@@ -59,10 +60,6 @@ strictly _ d e h = cc
 nothing-after : (k : Option Entry) → is_gt (head_cmp None k) ≡ false → k ≡ None
 nothing-after None h = refl
 nothing-after (Some e) h = cc
-
-map-map : {A B C : Type 0} (f : B → C) (g : A → B) (xs : List A) → map f (map g xs) ≡ map (λ x. f (g x)) xs
-map-map f g [] = refl
-map-map f g (x ∷ xs) = ap (λ ys. f (g x) ∷ ys) (map-map f g xs)
 
 later : (a b : ℕ) → b < a → nat_cmp a b ≡ Greater
 later a b h = grind (arith, nat_tests)

@@ -67,17 +67,16 @@ both-count {S = S} a b less to from = record {
   count = omega (arith, length-append a.sources b.sources, a.count, b.count);
 }
 
+no-count : {P : StartSource → Type 0} → ((g : StartSource) → P g → ⊥) → Counts P 0
+no-count none = record { sources = []; listing = record { rises = tt; exact = λ g. (λ m. absurd m, λ p. absurd (none g p)) }; count = refl }
+
 one-or-none : (b : Bool) (s : StartSource) → Counts (λ g. (b ≡ true) × (g ≡ s)) (cond b 1 0)
 one-or-none true s = record {
   sources = s ∷ [];
   listing = record { rises = (tt, tt); exact = λ g. (λ m. ⊎_elim (λ e. (refl, e)) (λ no. absurd no) m, λ p. inl p.1) };
   count = refl;
 }
-one-or-none false s = record {
-  sources = [];
-  listing = record { rises = tt; exact = λ g. (λ m. absurd m, λ p. let no : false ≡ true = p.0 in absurd cc) };
-  count = refl;
-}
+one-or-none false s = no-count (λ g p. let no : false ≡ true = p.0 in cc)
 
 -- Of the locals with numbers below n those that pass a test.
 record IsPassing (test : ℕ → Bool) (n : ℕ) (g : StartSource) : Type 0 where
@@ -100,11 +99,7 @@ module _ (test : ℕ → Bool) where
 
   passing : (n : ℕ) → Counts (IsPassing test n) (count n test)
   unfolding count
-  passing zero = record {
-    sources = [];
-    listing = record { rises = tt; exact = λ g. (λ m. absurd m, λ p. let no : ⊥ = omega (arith, p.below) in absurd no) };
-    count = refl;
-  }
+  passing zero = no-count (λ g p. omega (arith, p.below))
   passing (suc n) =
       subst (Counts (IsPassing test (suc n))) (sym (count-suc n test)) (both-count (passing n) (one-or-none (test n) (Kept (local_numbered n)))
       (λ x y p q. ap (λ s. source_cmp s y) p.is ∙ (ap (source_cmp (Kept (local_numbered p.at))) q.1 ∙ earlier-local p.at n p.below))
@@ -145,12 +140,7 @@ module _ (test : Rdate → Bool) where
           })
 
   listed : (place : ℕ) (rs : List Rdate) → Counts (IsListedFrom test place rs) (count_by test rs)
-  listed place [] = record {
-    sources = [];
-    listing =
-        record { rises = tt; exact = λ g. (λ m. absurd m, λ p. let no : None ≡ Some p.rdate = p.stands in absurd cc) };
-    count = refl;
-  }
+  listed place [] = no-count (λ g p. let no : None ≡ Some p.rdate = p.stands in cc)
   listed place (r ∷ rs) =
       subst (Counts (IsListedFrom test place (r ∷ rs))) (sym (sum_by-cons (λ x. cond (test x) 1 0) r rs))
       (both-count (one-or-none (test r) (Listed place)) (listed (place + 1) rs)
