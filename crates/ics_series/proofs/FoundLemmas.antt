@@ -30,7 +30,7 @@ option-ties None None = refl
 option-ties (Some x) (Some y) = refl
 option-ties _ _ = refl
 
-both-tie : (c d : Ordering) → (is_eq c && is_eq d) ≡ is_eq (ordering_then c d)
+pub both-tie : (c d : Ordering) → (is_eq c && is_eq d) ≡ is_eq (ordering_then c d)
 both-tie Less d = refl
 both-tie _ d = refl
 

@@ -26,6 +26,7 @@ use Rattle.ics_series.specs.Overridden.{instance_of, AreOverridden}
 use Rattle.ics_series.specs.Rising.{IsBefore, Rises}
 use Rattle.ics_series.specs.Versions.{is_named, seen, subject_cmp, subject_seen, AreChosen}
 use Rattle.ics_series.proofs.Cases.{some-same, eq-Equal}
+use Rattle.ics_series.proofs.FoundLemmas.{both-tie}
 use Rattle.ics_series.proofs.OverrideLemmas.{chosen-rises, map-rises, rises-sorted}
 use Rattle.ics_series.proofs.PickLemmas.{rises-picked}
 use Rattle.ics_series.proofs.VersionLemmas.{subject_total}
@@ -62,17 +63,13 @@ module _ (uid : List ℕ) where
   found vs = filter_map (λ v. instance_of uid (subject_seen v.subject)) vs
 
   -- What is named.
-  then-equal : (a b : Ordering) → is_eq (ordering_then a b) ≡ (is_eq a && is_eq b)
-  then-equal Less b = refl
-  then-equal _ b = refl
-
   named-one : (t : ℤ) (s : SubjectSeen) (rest : List ℤ) →
       list_any (λ x. int_eq x t) (cons_option (instance_of uid s) rest) ≡ (is_eq (subject_cmp s (instance t)) || list_any (λ x. int_eq x t) rest)
   named-one t s rest =
       by (bytes_eq s.uid uid) s.recurrence
       ∙ ap (λ b. b || list_any (λ x. int_eq x t) rest)
       (ap (λ b. b && is_eq (option_cmp int_cmp s.recurrence (Some t))) (sym (is_eq-slice_cmp s.uid uid))
-      ∙ sym (then-equal (slice_cmp nat_cmp s.uid uid) (option_cmp int_cmp s.recurrence (Some t))))
+      ∙ both-tie (slice_cmp nat_cmp s.uid uid) (option_cmp int_cmp s.recurrence (Some t)))
     where
       by : (b : Bool) (r : Option ℤ) → list_any (λ x. int_eq x t) (cons_option (if b then r else None) rest)
           ≡ ((b && is_eq (option_cmp int_cmp r (Some t))) || list_any (λ x. int_eq x t) rest)

@@ -29,9 +29,9 @@ use Rattle.ics_series.specs.RuleStarts.{lets_until, local_numbered, moment_numbe
 use Rattle.ics_series.specs.Starts.{given_by, local_of, recurrence_of, time_at, time_of, GivesStart, IsNotAfter, IsRuleStart}
 use Rattle.ics_series.proofs.Cases.{some-same, below-or-last}
 use Rattle.ics_series.proofs.FirstLemmas.{source-order, source_total}
-use Rattle.ics_series.proofs.StartSourceLemmas.{calendar-day, own-day, own-time}
+use Rattle.ics_series.proofs.StartSourceLemmas.{own-time}
 use Rattle.ics_series.proofs.OnDayLemmas.{joined}
-use Rattle.ics_series.proofs.RuleLocalLemmas.{kept-ruled, number-numbered, numbered-number, ruled-kept}
+use Rattle.ics_series.proofs.RuleLocalLemmas.{kept-calendar, kept-ruled, number-numbered, numbered-number, ruled-kept}
 
 -- What is not after another comes before it.
 source-before : (a b : StartSource) → (IsNotAfter b a → ⊥) → source_cmp a b ≡ Less
@@ -209,14 +209,9 @@ module _ (clocks : Clocks) (event : Event) (test : ℤ → Bool) (time : IsTime 
           within.1,
         )
 
-    local-day : (local : Local) → (local ≡ local_of event.start.stamp) ⊎ IsRuleStart clocks event local → IsDayNumber local.day
-    local-day local k =
-        ⊎_elim (λ s. subst (λ (l : Local). IsDayNumber l.day) (sym s) (calendar-day (local_of event.start.stamp).day (own-day event.start time)))
-        (λ r. r.calendar) k
-
     passing-raw : (g : StartSource) → IsRawKept g → IsPassing (is_tested rule) calendar_end g
     passing-raw (Kept local) p =
-        let of_day = local-day local p.0 in
+        let of_day = kept-calendar clocks event local time p.0 in
         let same = numbered-number local of_day in
         let parts = ruled-kept clocks event rule has local p.0 in
         let there = ap (λ l. instant clocks (time_at event.start l)) same in

@@ -66,6 +66,13 @@ module _ (clocks : Clocks) (event : Event) (rule : Recurrence) (w : Window) (a :
 pub rule-first : (event : Event) (rule : Recurrence) → recurrence_of event ≡ Some rule → rule.start ≡ local_of event.start.stamp
 rule-first event rule has = let by = rule-is event.start.stamp event.rule rule has in sym (ap (λ (r : Recurrence). r.start) (sym by.1))
 
+-- a local that DTSTART has or a rule keeps lies in the calendar
+pub kept-calendar : (clocks : Clocks) (event : Event) (local : Local) → IsTime event.start → (local ≡ local_of event.start.stamp)
+    ⊎ IsRuleStart clocks event local → IsDayNumber local.day
+kept-calendar clocks event local time k =
+    ⊎_elim (λ s. subst (λ (l : Local). IsDayNumber l.day) (sym s) (calendar-day (local_of event.start.stamp).day (own-day event.start time)))
+    (λ r. r.calendar) k
+
 -- The locals that DTSTART has or a rule keeps are those that the rule keeps and whose instants it lets through.
 module _ (clocks : Clocks) (event : Event) (rule : Recurrence) (has : recurrence_of event ≡ Some rule) (local : Local) where
   pub kept-ruled : IsTime event.start → IsDayNumber local.day → is_kept rule (number local) ≡ true →

@@ -8,7 +8,6 @@ use Rattle.std.proofs.lemmas.Bool.{and_from}
 use Rattle.ics_fields.specs.Days.{IsDayNumber}
 use Rattle.ics_fields.specs.RuleParts.{RuleParts}
 use Rattle.ics_fields.specs.declared.local.Local.{Local}
-use Rattle.ics_rule.specs.Kept.{is_kept}
 use Rattle.ics_rule.specs.PeriodNumbers.{rules_end}
 use Rattle.ics_fields.specs.Locals.{number, local_seconds, whole_days}
 use Rattle.ics_rule.specs.Recurrence.{Recurrence}
@@ -39,13 +38,13 @@ use Rattle.ics_series.specs.SeriesStarts.{IsSeriesMet}
 use Rattle.ics_series.specs.Starts.{given_by, local_of, recurrence_by, recurrence_of, time_at, time_of, GivesStart, IsNotAfter, IsRuleStart}
 use Rattle.ics_series.specs.FileZones.{clocks_in}
 use Rattle.ics_series.proofs.FirstLemmas.{moment_total}
-use Rattle.ics_series.proofs.StartSourceLemmas.{calendar-day, number-seconds, own-day, written-at}
+use Rattle.ics_series.proofs.StartSourceLemmas.{number-seconds, written-at}
 use Rattle.ics_series.proofs.InstantLemmas.{instant-near}
 use Rattle.ics_series.proofs.LeftLemmas.{has-union, put-has, union-has}
 use Rattle.ics_series.proofs.ListedLemmas.{listed-in}
 use Rattle.ics_series.proofs.MasterLemmas.{same-entry}
 use Rattle.ics_series.proofs.RuleDayLemmas.{found-is, given-early, seconds-numbered}
-use Rattle.ics_series.proofs.RuleLocalLemmas.{gives-kept, number-numbered, numbered-number, ruled-kept}
+use Rattle.ics_series.proofs.RuleLocalLemmas.{kept-calendar, gives-kept, number-numbered, numbered-number, ruled-kept}
 use Rattle.ics_series.proofs.SeriesLemmas.{in-moment, known-start, rises-rule}
 use Rattle.ics_series.proofs.SoughtLemmas.{listed-there, none-else, sought-early, sought-late}
 use Rattle.ics_series.proofs.StartLaws.{kept-first}
@@ -132,15 +131,11 @@ module _ (zones : FileZones) (w : Window) (event : Event) where
     found-has from k l u g = found_in-has from (rules_end - from) k l (omega (arith, l, u)) g
 
     -- a local that DTSTART has or the rule keeps gives one before the window's end
-    let-through : (local : Local) → recurrence_of event ≡ Some rule → (local ≡ local_of event.start.stamp) ⊎ IsRuleStart (clocks_in zones) event local
-        → (is_kept rule (number local) ≡ true) × (lets_until rule (number local) (instant (clocks_in zones) (time_at event.start local)) ≡ true)
-    let-through local has k = ruled-kept (clocks_in zones) event rule has local k
-
     gives-own : (local : Local) → recurrence_of event ≡ Some rule → IsDayNumber local.day → (local ≡ local_of event.start.stamp)
         ⊎ IsRuleStart (clocks_in zones) event local
         → instant (clocks_in zones) (time_at event.start local) <ℤ w.to → gives (clocks_in zones) event rule w (number local) ≡ true
     gives-own local has day k early =
-        let parts = let-through local has k in
+        let parts = ruled-kept (clocks_in zones) event rule has local k in
         gives-kept (clocks_in zones) event rule w local day parts.0
         ∙ and_from (lets_until rule (number local) (instant (clocks_in zones) (time_at event.start local)))
         (int_lt (instant (clocks_in zones) (time_at event.start local)) w.to)
@@ -183,11 +178,6 @@ module _ (zones : FileZones) (w : Window) (event : Event) (sound : IsEvent event
       (sought-late zones w event (instant (clocks_in zones) (time_of given)) s) late (kept-first (clocks_in zones) event sound.start local g.0)
       (omega (arith, ints, same, near.1, at.0))
 
-  own-day-of : (local : Local) → (local ≡ local_of event.start.stamp) ⊎ IsRuleStart (clocks_in zones) event local → IsDayNumber local.day
-  own-day-of local k =
-      ⊎_elim (λ e. subst (λ (l : Local). IsDayNumber l.day) (sym e) (calendar-day (local_of event.start.stamp).day (own-day event.start sound.start)))
-      (λ r. r.calendar) k
-
   -- The rule gives a start for each that is sought.
   module _ (starts : List Start) (r : IsRuleFrom (clocks_in zones) event w since (listed_from (clocks_in zones) w event.start 0 event.rdates) starts) where
     ruled : (local : Local) (given : Rdate) → GivesStart (clocks_in zones) event (Kept local) given →
@@ -198,7 +188,7 @@ module _ (zones : FileZones) (w : Window) (event : Event) (sound : IsEvent event
         let same : instant (clocks_in zones) (time_of given) ≡ instant (clocks_in zones) (time_at event.start local) =
         ap (λ x. instant (clocks_in zones) (time_of x)) g.1 in
         let early = sought-early zones w event (instant (clocks_in zones) (time_of given)) s in
-        let day = own-day-of local g.0 in
+        let day = kept-calendar (clocks_in zones) event local sound.start g.0 in
         let low = r.low in
         let asked = asked-for local given g s late in
         let from : number r.from ≤ number local = omega (arith, ints, low, asked, number-seconds r.from r.day, number-seconds local day) in
