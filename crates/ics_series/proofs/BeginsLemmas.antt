@@ -39,9 +39,8 @@ module _ {A : Type 0} (R : A → A → Ordering) (o : IsTotalOrder R) where
     where
       by : (c : Ordering) → R e y ≡ c → R x y ≡ c → IsBefore R e (by_order c (y ∷ ys) ys (y ∷ ys))
           → by_order c (x ∷ y ∷ ys) (x ∷ ys) (y ∷ put R x ys) ≡ x ∷ by_order c (y ∷ ys) ys (y ∷ ys)
-      by Less p q h = refl
-      by Equal p q h = refl
       by Greater p q h = let l = h.0 in cc
+      by _ p q h = refl
 
   -- what comes before both lists stands at the front of their union
   pub union-front : (e : A) (xs ys : List A) → IsBefore R e xs → union R xs (e ∷ ys) ≡ e ∷ union R xs ys

@@ -48,9 +48,8 @@ pub int-less : (a b : ℤ) → int_cmp a b ≡ Less → a <ℤ b
 int-less a b e = subst (λ o. MatchOrdering o (a <ℤ b) (a ≡ b) (b <ℤ a)) e (int_ranks a b)
 
 nat-up-to : (a b : ℕ) (c : Ordering) → nat_cmp a b ≡ c → is_gt c ≡ false → a ≤ b
-nat-up-to a b Less e g = let r = subst (λ o. MatchOrdering o (a < b) (a ≡ b) (b < a)) e (ranks a b) in omega (arith, r)
-nat-up-to a b Equal e g = let r = subst (λ o. MatchOrdering o (a < b) (a ≡ b) (b < a)) e (ranks a b) in omega (arith, r)
 nat-up-to a b Greater e g = let f : is_gt Greater ≡ false = g in absurd cc
+nat-up-to a b _ e g = let r = subst (λ o. MatchOrdering o (a < b) (a ≡ b) (b < a)) e (ranks a b) in omega (arith, r)
 
 -- what is not after another by its parts stands no later in the order of what gives starts
 pub source-order : (g k : StartSource) → is_gt (source_cmp g k) ≡ false → IsNotAfter g k

@@ -51,10 +51,9 @@ near-at (z ∷ zones) (Some (suc zone)) = near-at zones (Some zone)
 
 near-by : (display : Display) (zones : List ZoneKind) (index : Option ℕ) (s : Stamp) →
     IsNearClock (clock_by (clocks_of (display_clock display) (map zone_said zones)) index s)
-near-by display zones index (Date day) = near-display display
-near-by display zones index (Floating local) = near-display display
 near-by display zones index (Utc local) = near-utc
 near-by display zones index (Zoned local) = near-at zones index
+near-by display zones index _ = near-display display
 
 pub near-clock : (zones : FileZones) (index : Option ℕ) (s : Stamp) → IsNearClock (clock_by (clocks_in zones) index s)
 near-clock zones = near-by zones.display.now zones.zones.now

@@ -38,9 +38,8 @@ cut-in p o [] m = m
 cut-in p o (x ∷ xs) m = by (entry_cmp p x) m
   where
     by : (c : Ordering) → IsIn o (by_order c (x ∷ xs) xs (x ∷ xs)) → IsIn o (x ∷ xs)
-    by Less m = m
     by Equal m = inr m
-    by Greater m = m
+    by _ m = m
 
 past-in : (last : Option Occurrence) (o : Entry) (list : List Entry) → IsIn o (past last list) → IsIn o list
 past-in None o list m = m

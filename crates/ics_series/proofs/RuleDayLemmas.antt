@@ -191,9 +191,8 @@ module _ (zones : FileZones) (event : Event) where
           is ∙ sym (ap (cut moment_cmp t) is ∙ stays rest (moment_cmp t s) refl)
         where
           stays : (rest : List Start) (c : _) → moment_cmp t s ≡ c → by_order c (s ∷ rest) rest (s ∷ rest) ≡ s ∷ rest
-          stays rest Less p = refl
           stays rest Equal p = absurd (untied p)
-          stays rest Greater p = refl
+          stays rest _ p = refl
 
       pub nothing-passed : (t : Start) → is_behind day end [] ≡ false
           → to_come (clocks_in zones) event rule w [] place ≡ cut moment_cmp t (to_come (clocks_in zones) event rule w [] place)

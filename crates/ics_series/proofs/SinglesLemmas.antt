@@ -188,8 +188,7 @@ module _ (files : List FileSaid) (display : Clock) (w : Window) (after : Option 
       by : (a b : Bool) → is_single p.event ≡ a → is_to_come w os after (own p) ≡ b → (if a && b then Some (own p) else None) ≡ Some o →
           (is_single p.event ≡ true) × (is_to_come w os after (own p) ≡ true) × (o ≡ own p)
       by true true s t e = (s, t, cc)
-      by true false s t e = let f : None ≡ Some o = e in absurd cc
-      by false b s t e = let f : None ≡ Some o = e in absurd cc
+      by _ _ s t e = let f : None ≡ Some o = e in absurd cc
 
   is-given : (p : Placed) → IsChosen files display p → is_single p.event ≡ true → is_to_come w os after (own p) ≡ true → given p ≡ Some (own p)
   is-given p c s t = given-by p c ∙ (λ i. if s i && t i then Some (own p) else None)

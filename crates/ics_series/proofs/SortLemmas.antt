@@ -121,9 +121,8 @@ module _ {A B : Type 0} (f : A → B) where
 
 -- A list whose members differ by one order, put in the order of another that ties no more.
 abbrev tie : Ordering → ℕ
-tie Less = 0
 tie Equal = 1
-tie Greater = 0
+tie _ = 0
 
 module _ {A : Type 0} (R : A → A → Ordering) (o : IsTotalOrder R) where
   -- how many of the list tie with x

@@ -52,9 +52,8 @@ module _ {A : Type 0} (R : A → A → Ordering) (o : IsTotalOrder R) where
   member-put e x ys m = by (R x e) refl
     where
       by : (c : Ordering) → R x e ≡ c → IsIn e (put R x ys) ⊎ (R x e ≡ Equal)
-      by Less p = inl (in-put e x ys (inr (m, λ t. cc)))
       by Equal p = inr p
-      by Greater p = inl (in-put e x ys (inr (m, λ t. cc)))
+      by _ p = inl (in-put e x ys (inr (m, λ t. cc)))
 
   not-tied-back : (x y : A) → R x y ≢ Equal → R y x ≢ Equal
   not-tied-back x y h e = h (tied_back o y x e)
