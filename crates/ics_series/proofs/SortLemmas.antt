@@ -152,10 +152,9 @@ module _ {A : Type 0} (R : A → A → Ordering) (o : IsTotalOrder R) where
   one-tie x (y ∷ ys) h = by (R x y) refl (one-tie x ys h.1)
     where
       by : (c : Ordering) → R x y ≡ c → ties_of x ys ≤ 1 → ties_of x (y ∷ ys) ≤ 1
-      by Less e ih = omega (arith, ties_of-cons x y ys, ap tie e)
       by Equal e ih =
           omega (arith, ties_of-cons x y ys, ap tie e, none-tied x y ys (λ z l. o.congr x y z e ∙ l) h.0)
-      by Greater e ih = omega (arith, ties_of-cons x y ys, ap tie e)
+      by _ e ih = omega (arith, ties_of-cons x y ys, ap tie e)
 
   some-tie : (x y : A) (ys : List A) → R x y ≡ Equal → IsIn y ys → 1 ≤ ties_of x ys
   some-tie x y [] e m = absurd m

@@ -173,9 +173,6 @@ apart a b m {ms = ms} p before later =
     ∙ (ap (λ (e : Event). slice_cmp nat_cmp m.event.uid e.uid) later.event
     ∙ before-in uid_cmp (on_total (λ (r : Recurring). r.event.uid) nat_list_cmp_total) m later.master ms before later.stands)
 
-cmp-suc : (i j : ℕ) → nat_cmp (suc i) (suc j) ≡ nat_cmp i j
-cmp-suc i j = grind (arith, nat_tests)
-
 -- the order of two UIDs is that of their feeds
 by-place : (ps : List Part) (ms : List Recurring) → flat_map part_sources ps ≡ map Of ms → Rises uid_cmp ms → AreSortedFrom 0 (map part_coming ps)
 by-place [] ms e r i a n j b low high k = absurd n
@@ -191,7 +188,7 @@ by-place (p ∷ ps) (m ∷ ms) e r (suc i) a n zero b low high k =
     (master-in ps ms i a (rest-sources p (Of m) (flat_map part_sources ps) (map Of ms) e) n))
     ∙ grind (arith, nat_tests))
 by-place (p ∷ ps) (m ∷ ms) e r (suc i) a n (suc j) b low high k =
-    by-place ps ms (rest-sources p (Of m) (flat_map part_sources ps) (map Of ms) e) r.1 i a n j b (omega arith) (omega arith) k ∙ sym (cmp-suc i j)
+    by-place ps ms (rest-sources p (Of m) (flat_map part_sources ps) (map Of ms) e) r.1 i a n j b (omega arith) (omega arith) k ∙ grind (arith, nat_tests)
 
 -- behind the feed of the events that start once
 pub parts-sorted : (ps : List Part) (ms : List Recurring) → flat_map part_sources ps ≡ Once ∷ map Of ms → Rises uid_cmp ms →
@@ -200,4 +197,4 @@ parts-sorted [] ms e r i a n j b low high k = absurd n
 parts-sorted (p ∷ ps) ms e r zero a n j b low high k = absurd (omega arith)
 parts-sorted (p ∷ ps) ms e r (suc i) a n zero b low high k = absurd (omega arith)
 parts-sorted (p ∷ ps) ms e r (suc i) a n (suc j) b low high k =
-    by-place ps ms (rest-sources p Once (flat_map part_sources ps) (map Of ms) e) r i a n j b (omega arith) (omega arith) k ∙ sym (cmp-suc i j)
+    by-place ps ms (rest-sources p Once (flat_map part_sources ps) (map Of ms) e) r i a n j b (omega arith) (omega arith) k ∙ grind (arith, nat_tests)
