@@ -5,7 +5,6 @@ use Rattle.std.proofs.Common.{◌⊎◌, inl, ⊎_elim, refl, sym, ◌∙◌, ap
 use Rattle.std.specs.Ordering.{int_eq, is_gt}
 use Rattle.std.proofs.lemmas.Int.{ints}
 use Rattle.std.proofs.lemmas.List.Folds.{list_any_at}
-use Rattle.ics_fields.specs.Days.{IsDayNumber}
 use Rattle.ics_fields.specs.Locals.{number, local_seconds}
 use Rattle.ics_fields.specs.declared.local.Local.{Local}
 use Rattle.ics_rule.specs.Recurrence.{Recurrence}
@@ -51,22 +50,18 @@ module _ (clocks : Clocks) (event : Event) where
       (ap (λ x. excludes clocks event.start x start) there.2 ∙ out)) ∙ h.stays in
       absurd cc
 
-abbrev IsKept : Clocks → Event → Local → Type 0
-IsKept clocks event local = (local ≡ local_of event.start.stamp) ⊎ IsRuleStart clocks event local
-
 module _ (clocks : Clocks) (event : Event) (time : IsTime event.start) where
-  first-day : IsDayNumber (local_of event.start.stamp).day
-  first-day = calendar-day (local_of event.start.stamp).day (own-day event.start time)
-
   -- what the rule keeps is not before DTSTART
-  pub kept-first : (local : Local) → IsKept clocks event local → local_seconds (local_of event.start.stamp) ≤ℤ local_seconds local
+  pub kept-first : (local : Local) → (local ≡ local_of event.start.stamp) ⊎ IsRuleStart clocks event local →
+      local_seconds (local_of event.start.stamp) ≤ℤ local_seconds local
   kept-first local k =
       ⊎_elim (λ e. let same = ap local_seconds e in omega (arith, ints, same))
       (λ r.
+      let first = calendar-day (local_of event.start.stamp).day (own-day event.start time) in
       let rule = rule-is event.start.stamp event.rule r.rule r.has in
       let late : number (local_of event.start.stamp) ≤ number local =
       subst (λ (q : Recurrence). number q.start ≤ number local) rule.1 (kept-late r.rule (number local) r.kept) in
-      omega (arith, ints, late, number-seconds (local_of event.start.stamp) first-day, number-seconds local r.calendar))
+      omega (arith, ints, late, number-seconds (local_of event.start.stamp) first, number-seconds local r.calendar))
       k
 
 module _ (clocks : Clocks) (event : Event) where
