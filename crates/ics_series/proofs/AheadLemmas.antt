@@ -42,7 +42,8 @@ module _ (files : List FileSaid) (display : Clock) (near : (t : ℤ) → IsNear 
   shown-last p s = near-last display near w p.entry s.listed.1 (occurs-forward files display p.entry s.listed.0) p.day s.on
 
   -- those of a day, from what meets the window near it
-  of-day : (day : ℤ) (n : Window) → ((p : OnDay) → IsUnder files display w day p → Meets n p.entry) → (xs : List Entry) → IsListing entry_cmp (IsListed files display n) xs
+  of-day : (day : ℤ) (n : Window) → ((p : OnDay) → IsUnder files display w day p → Meets n p.entry) → (xs : List Entry) →
+      IsListing entry_cmp (IsListed files display n) xs
       → IsListing on_day_cmp (IsUnder files display w day) (today display w day xs)
   of-day day n h xs l =
       today-listing files display near w day (IsUnder files display w day) l
