@@ -1,5 +1,5 @@
--- The civil fields of a day. Days are counted from 0000-01-01, so that 1970-01-01 is day 719_528.
-use Rattle.std.specs.Prelude.{ℕ, zero, suc, ◌+◌, ◌-◌, ◌*◌, ◌/◌, ◌%◌, true, false, nat_le, pos, ℤ, neg_ℤ, ◌+ℤ◌, unsigned_abs, ⊤}
+-- The civil fields of a day. Days are counted from 0000-01-01.
+use Rattle.std.specs.Prelude.{ℕ, zero, suc, ◌+◌, ◌-◌, ◌*◌, ◌/◌, ◌%◌, true, false, nat_le, pos, ℤ, ◌+ℤ◌, ◌-ℤ◌, unsigned_abs, ⊤}
 use Rattle.jiff_core.specs.Calendar.{days_of_months, IsBetween}
 
 -- the days before 1 January of year y
@@ -35,16 +35,31 @@ month_day_of e = year_day_of e - days_of_months (pos (year_of e)) (month_of e - 
 abbrev pub weekday_of : ℕ → ℕ
 weekday_of e = (e + 5) % 7
 
--- day numbers of the years 0000 to 9999, counted from 1970-01-01, and the same day counted from 0000-01-01
-abbrev pub IsDayNumber : ℤ → Type 0
-IsDayNumber d = IsBetween (neg_ℤ (pos 719_528)) (pos 2_932_896) d
+-- 1970-01-01, from which day numbers are counted
+abbrev pub epoch_day : ℕ
+epoch_day = days_before_year 1_970
+
+-- the day number of a day, and the day with a number of the year 0000 or later
+abbrev pub day_numbered : ℕ → ℤ
+day_numbered e = pos e -ℤ pos epoch_day
 
 abbrev pub day_index : ℤ → ℕ
-day_index d = unsigned_abs (d +ℤ pos 719_528)
+day_index d = unsigned_abs (d +ℤ pos epoch_day)
+
+-- the day number of 1 January of a year, and of the day before it
+abbrev pub year_begin : ℕ → ℤ
+year_begin year = day_numbered (days_before_year year)
+
+abbrev pub before_year : ℕ → ℤ
+before_year year = year_begin year -ℤ pos 1
+
+-- day numbers of the years 0000 to 9999
+abbrev pub IsDayNumber : ℤ → Type 0
+IsDayNumber d = IsBetween (year_begin 0) (before_year 10_000) d
 
 -- day numbers of the years 0001 to 9899, which stamps may have
 abbrev pub IsStampDay : ℤ → Type 0
-IsStampDay day = IsBetween (neg_ℤ (pos 719_162)) (pos 2_896_372) day
+IsStampDay day = IsBetween (year_begin 1) (before_year 9_900) day
 
 -- what a proof unfolds to compute the fields of a given day
 unfoldable pub days_on_literals : ⊤

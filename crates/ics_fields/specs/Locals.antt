@@ -1,9 +1,9 @@
 -- A date and a time of day without a zone (RFC 5545, section 3.3.5), and the two ways to count it in seconds.
-use Rattle.std.specs.Prelude.{ℕ, ◌+◌, ◌*◌, ◌%◌, ℤ, pos, ◌+ℤ◌, ◌-ℤ◌, ◌*ℤ◌}
+use Rattle.std.specs.Prelude.{ℕ, ◌+◌, ◌*◌, ◌%◌, ℤ, pos, ◌+ℤ◌, ◌*ℤ◌}
 use Rattle.std.specs.Int.{int_div_euclid}
 use Rattle.std.proofs.Math.Nat.{mod-lt}
 use Rattle.std.proofs.Math.Dec.{lit<}
-use Rattle.ics_fields.specs.Days.{days_before_year, day_index}
+use Rattle.ics_fields.specs.Days.{days_before_year, day_index, year_begin}
 use Rattle.ics_fields.specs.declared.local.Local.{Local}
 
 -- the local at second n, modulo 86,400, of a day
@@ -32,7 +32,7 @@ whole_days days = pos (days * 86_400)
 
 -- the seconds from 1970-01-01T00:00:00 to the beginning of a year
 abbrev pub year_seconds : ℕ → ℤ
-year_seconds year = midnight (pos (days_before_year year) -ℤ pos 719_528)
+year_seconds year = midnight (year_begin year)
 
 -- the seconds from 0000-01-01T00:00:00 to a local of the year 0000 or later
 abbrev pub number : Local → ℕ

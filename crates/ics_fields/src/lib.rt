@@ -15,7 +15,7 @@ pub use calendar::civil;
 pub use fields::Civil;
 pub use frequency::Frequency;
 pub use laws::order_of_locals;
-pub use local::{Local, Moment};
+pub use local::{EPOCH_DAY, Local, Moment};
 pub use ordinals::{Ordinals, Side, Weekdays, WideOrdinals};
 pub use parts::Parts;
 pub use sets::{BitSet, WideBitSet};

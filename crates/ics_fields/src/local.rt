@@ -7,7 +7,7 @@ ghost use Rattle.ics_fields.specs.Days.{IsDayNumber};
 const DAY: i64 = 86_400;
 
 /// The number of days from 0000-01-01 to 1970-01-01.
-const EPOCH_DAY: i32 = 719_528;
+pub const EPOCH_DAY: i32 = 719_528;
 
 /// A date and a time of day without a zone: a day, counted from 1970-01-01, and a second of it, 0 to 86,399.
 #[derive(Clone, Copy, Debug, PartialEq, Eq, PartialOrd, Ord)]

@@ -13,7 +13,7 @@ ghost use Rattle.ics_rule.specs.DateParts.{names_weekdays_alone};
 use crate::effective_rule::EffectiveRule;
 use crate::part::has_no_number;
 use crate::time::{lets, lets_place, lets_wide_place, lists_nth};
-use ics_fields::{BitSet, Civil, Frequency, Ordinals, civil};
+use ics_fields::{BitSet, Civil, EPOCH_DAY, Frequency, Ordinals, civil};
 use jiff_core::civil::{days_in_month, days_in_year};
 
 /// The fields of a day, counted from 0000-01-01.
@@ -21,7 +21,7 @@ pub(crate) fn civil_at(index: u32) -> Civil
     requires { index ≤ 3652424 }
     ensures { IsCivilOf result index }
 {
-    civil(index as i32 - 719_528)
+    civil(index as i32 - EPOCH_DAY)
 }
 
 /// The number of days in the year of a date.

@@ -1,7 +1,7 @@
 -- The starts that the rule of an event gives before the end of a window, as one rising list.
 use Rattle.std.specs.Prelude.{◌≡◌, ◌≤ℤ◌, ◌<ℤ◌, ℕ, zero, suc, ◌+◌, ◌-◌, ◌≤◌, ℤ, pos, ◌-ℤ◌, ◌+ℤ◌, Bool, true, false, ◌&&◌, ◌||◌, ◌==◌, not, int_le, int_lt, List}
 use Rattle.std.specs.Prelude.{[], ◌∷◌}
-use Rattle.ics_fields.specs.Days.{day_index}
+use Rattle.ics_fields.specs.Days.{day_index, day_numbered}
 use Rattle.ics_fields.specs.Locals.{local_at, number, midnight, whole_days}
 use Rattle.ics_fields.specs.declared.local.Local.{Local}
 use Rattle.ics_rule.specs.Cursors.{looks_from, HasLooked}
@@ -23,7 +23,7 @@ use Rattle.ics_series.specs.Starts.{time_at}
 
 -- the local with a number
 abbrev pub local_numbered : ℕ → Local
-local_numbered n = local_at (pos (day_of n) -ℤ pos 719_528) n
+local_numbered n = local_at (day_numbered (day_of n)) n
 
 -- the instant at which that local would start the event
 abbrev pub moment_numbered : Clocks → Event → ℕ → ℤ

@@ -1,7 +1,7 @@
 -- Dates of the Gregorian calendar and their day numbers (RFC 5545, section 3.3.4).
-use Rattle.std.specs.Prelude.{◌≡◌, ◌↔◌, ℕ, ◌+◌, ◌-◌, Bool, true, ◌&&◌, nat_le, List, [], ◌∷◌, take, map, sum, ℤ, pos, ◌-ℤ◌, Option, Some, None, if◌then◌else◌}
+use Rattle.std.specs.Prelude.{◌≡◌, ◌↔◌, ℕ, ◌+◌, ◌-◌, Bool, true, ◌&&◌, nat_le, List, [], ◌∷◌, take, map, sum, ℤ, pos, Option, Some, None, if◌then◌else◌}
 use Rattle.jiff_core.specs.Calendar.{days_in_month, days_from_civil, IsDate}
-use Rattle.ics_fields.specs.Days.{days_before_year}
+use Rattle.ics_fields.specs.Days.{days_before_year, day_numbered}
 
 -- the calendar has this date
 abbrev pub is_date : ℕ → ℕ → ℕ → Bool
@@ -16,7 +16,7 @@ days_before_month y m = sum (map (days_in_month (pos y)) (take (m - 1) months))
 
 -- the day number of a date: 0 for 1970-01-01, and negative before it
 abbrev pub day_number : ℕ → ℕ → ℕ → ℤ
-day_number y m d = pos (days_before_year y + days_before_month y m + (d - 1)) -ℤ pos 719_528
+day_number y m d = day_numbered (days_before_year y + days_before_month y m + (d - 1))
 
 -- the day number of a date, if the calendar has it
 abbrev pub date_day : ℕ → ℕ → ℕ → Option ℤ

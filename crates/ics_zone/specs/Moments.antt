@@ -1,5 +1,5 @@
 -- The instant that a local means on a clock with changing offsets (RFC 5545, section 3.3.5).
-use Rattle.std.specs.Prelude.{◌≡◌, ◌≢◌, ℕ, ◌⊎◌, Bool, true, false, List, Option, Some, None, int_lt, ℤ, pos, ◌+ℤ◌, ◌-ℤ◌, ◌<ℤ◌, ◌≤ℤ◌}
+use Rattle.std.specs.Prelude.{◌≡◌, ◌≢◌, ℕ, ◌+◌, ◌*◌, ◌⊎◌, Bool, true, false, List, Option, Some, None, int_lt, ℤ, pos, ◌+ℤ◌, ◌-ℤ◌, ◌<ℤ◌, ◌≤ℤ◌}
 use Rattle.std.specs.Ordering.{int_eq}
 use Rattle.ics_zone.specs.Observances.{ObservanceSaid}
 use Rattle.ics_zone.specs.ZoneOffsets.{first_below, zone_offset}
@@ -37,12 +37,16 @@ abbrev pub if_so : Bool → ℤ → Option ℤ
 if_so true t = Some t
 if_so false t = None
 
+-- how many instants are within a day of one
+abbrev pub within_a_day : ℕ
+within_a_day = 2 * 86_400 + 1
+
 -- the first instant within a day of the local that shows it, and the first that shows a later one
 abbrev pub first_time : (ℤ → ℤ) → ℤ → Option ℤ
-first_time offset local = first_below 172_801 (λ k. if_so (int_eq (shown offset (near local k)) local) (near local k))
+first_time offset local = first_below within_a_day (λ k. if_so (int_eq (shown offset (near local k)) local) (near local k))
 
 abbrev pub first_later : (ℤ → ℤ) → ℤ → Option ℤ
-first_later offset local = first_below 172_801 (λ k. if_so (int_lt local (shown offset (near local k))) (near local k))
+first_later offset local = first_below within_a_day (λ k. if_so (int_lt local (shown offset (near local k))) (near local k))
 
 abbrev pub moment_from : (ℤ → ℤ) → ℤ → Option ℤ → Option ℤ → ℤ
 moment_from offset local (Some t) later = t

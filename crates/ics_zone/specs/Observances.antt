@@ -6,7 +6,7 @@ use Rattle.ics_fields.specs.RuleParts.{RuleParts}
 pub use Rattle.ics_fields.specs.Observances.{ObservanceSaid, IsObservanceSaid, is_finer_than_daily, is_finer_rule, has_finer_rule}
 use Rattle.ics_rule.specs.declared.kind.Kind.TheVariants.{DateTime}
 use Rattle.ics_rule.specs.Recurrence.{Recurrence}
-use Rattle.ics_fields.specs.Locals.{number}
+use Rattle.ics_fields.specs.Locals.{number, year_number}
 use Rattle.ics_rule.specs.Kept.{is_kept, until_moment}
 use Rattle.ics_zone.specs.declared.observance.Observance.{Observance}
 
@@ -28,7 +28,7 @@ IsZone zone = (i : ℕ) (p : ObservanceSaid) → slice_get zone i ≡ Some p →
 
 -- the seconds from 0000-01-01 to 1970-01-01
 abbrev pub epoch : ℕ
-epoch = 62_167_219_200
+epoch = year_number 1_970
 
 -- the instant at which a clock with this offset shows the local with number n
 abbrev pub instant_by : ℤ → ℕ → ℤ

@@ -5,8 +5,8 @@ use Rattle.std.proofs.lemmas.Int.{ints}
 use Rattle.jiff_core.specs.Calendar.{IsWithin}
 use Rattle.ics_zone.specs.declared.observance.Observance.{Observance}
 use Rattle.ics_zone.specs.Observances.{ObservanceSaid, observance_said, observances_said, IsObservanceSaid, IsZone, is_onset}
-use Rattle.ics_zone.specs.ZoneOffsets.{last_below, first_below, instant, instants_to, if_onset, last_at, first_at, in_force, earliest, offset_by, zone_offset}
-use Rattle.ics_zone.specs.Moments.{shown, near, if_so, first_time, first_later, moment_from, moment_by, zone_moment}
+use Rattle.ics_zone.specs.ZoneOffsets.{last_below, first_below, instant, instants_to, if_onset, last_at, first_at, in_force, last_midnight, earliest, offset_by, zone_offset}
+use Rattle.ics_zone.specs.Moments.{shown, near, if_so, within_a_day, first_time, first_later, moment_from, moment_by, zone_moment}
 use Rattle.ics_zone.specs.Near.{file_offset_near, file_moment_near}
 use Rattle.ics_zone.specs.Seconds.{IsNear}
 use Rattle.ics_zone.specs.ZoneSaid.{said_offset, said_moment, zone_said}
@@ -53,7 +53,7 @@ module _ (zone : List ObservanceSaid) (facts : IsZone zone) where
 
   earliest-is : (p : ObservanceSaid) → earliest zone ≡ Some p → IsObservanceSaid p
   unfolding earliest
-  earliest-is = first_below-contains IsObservanceSaid (λ k. first_at zone (instant k)) (instants_to (pos 253_402_214_400))
+  earliest-is = first_below-contains IsObservanceSaid (λ k. first_at zone (instant k)) (instants_to last_midnight)
       (λ k q l. first_below-contains IsObservanceSaid (λ i. if_onset (slice_get zone i) (instant k)) (length zone)
       (λ i p l e. facts i p (if_onset-some (slice_get zone i) (instant k) p e).0) q)
 
@@ -83,14 +83,14 @@ pub zone_offset_near : (zone : List Observance) (t : ℤ) → IsNear (zone_offse
 zone_offset_near zone t = let bound = zone_short zone t in (omega (arith, ints, bound.0), omega (arith, ints, bound.1))
 
 -- an instant of the search is near the local
-near_local : (local : ℤ) (b : Bool) (k : ℕ) (t : ℤ) → k < 172_801 → if_so b (near local k) ≡ Some t → IsWithin 86_400 (t -ℤ local)
+near_local : (local : ℤ) (b : Bool) (k : ℕ) (t : ℤ) → k < within_a_day → if_so b (near local k) ≡ Some t → IsWithin 86_400 (t -ℤ local)
 near_local local true k t h e = let is : near local k ≡ t = cc in (omega (arith, ints, is, h), omega (arith, ints, is, h))
 near_local local false k t h e = absurd (cc)
 
 moment_from_near : (offset : ℤ → ℤ) (short : (t : ℤ) → IsWithin 86_399 (offset t)) (local : ℤ) (time later : Option ℤ)
     → first_time offset local ≡ time → IsNear (moment_from offset local time later -ℤ local)
 moment_from_near offset short local (Some t) later e =
-    let found = first_below-contains (λ t. IsWithin 86_400 (t -ℤ local)) (λ k. if_so (int_eq (shown offset (near local k)) local) (near local k)) 172_801
+    let found = first_below-contains (λ t. IsWithin 86_400 (t -ℤ local)) (λ k. if_so (int_eq (shown offset (near local k)) local) (near local k)) within_a_day
     (λ k t h g. near_local local (int_eq (shown offset (near local k)) local) k t h g) t e in
     (omega (arith, ints, found.0), omega (arith, ints, found.1))
 moment_from_near offset short local None (Some past) e =

@@ -1,6 +1,8 @@
 -- The offset of a zone at an instant (RFC 5545, section 3.6.5).
 use Rattle.std.specs.Prelude.{◌≡◌, ℕ, zero, suc, ◌+◌, ◌≤◌, ◌⊎◌, true, false, List, length, Option, Some, None, slice_get, ℤ, pos, negsuc, ◌+ℤ◌, ◌-ℤ◌, ◌<ℤ◌}
 use Rattle.std.specs.Prelude.{◌≤ℤ◌}
+use Rattle.ics_fields.specs.Days.{before_year}
+use Rattle.ics_fields.specs.Locals.{midnight}
 use Rattle.ics_zone.specs.Observances.{ObservanceSaid, epoch, is_onset}
 
 -- the i-th observance of a zone has an onset at this instant
@@ -66,12 +68,16 @@ last_at zone t = last_below (length zone) (λ i. if_onset (slice_get zone i) t)
 abbrev pub first_at : List ObservanceSaid → ℤ → Option ObservanceSaid
 first_at zone t = first_below (length zone) (λ i. if_onset (slice_get zone i) t)
 
--- the observance of the greatest onset not after t, and that of the least onset. DTSTART is an onset before 9999-12-31
+-- 9999-12-31T00:00:00 UTC
+abbrev pub last_midnight : ℤ
+last_midnight = midnight (before_year 10_000)
+
+-- the observance of the greatest onset not after t, and that of the least onset. DTSTART is an onset before the last midnight
 unfoldable pub in_force : List ObservanceSaid → ℤ → Option ObservanceSaid
 in_force zone t = last_below (instants_to t) (λ k. last_at zone (instant k))
 
 unfoldable pub earliest : List ObservanceSaid → Option ObservanceSaid
-earliest zone = first_below (instants_to (pos 253_402_214_400)) (λ k. first_at zone (instant k))
+earliest zone = first_below (instants_to last_midnight) (λ k. first_at zone (instant k))
 
 abbrev pub offset_by : Option ObservanceSaid → Option ObservanceSaid → ℤ
 offset_by (Some now) first = now.offset_to

@@ -10,6 +10,7 @@ ghost use Rattle.khal_words.specs.SpanTexts.{span_by};
 ghost use Rattle.khal_list.specs.WindowEnds.{ends_by};
 ghost use Rattle.khal_words.specs.WindowTextNames.{named_by, IsInCalendar};
 
+use ics_fields::EPOCH_DAY;
 use ics_series::Window;
 use ics_values::{Local, Moment};
 use ics_zone::{Display, Place};
@@ -21,7 +22,7 @@ const FIRST_START: i64 = -62_135_510_400;
 const LAST_END: i64 = 247_090_953_600;
 
 // The days of the years for which a zone has answers, 0000 to 9950.
-const FIRST_DAY: i32 = -719_528;
+const FIRST_DAY: i32 = -EPOCH_DAY;
 
 const LAST_DAY: i32 = 2_914_999;
 
