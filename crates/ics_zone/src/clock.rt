@@ -15,26 +15,6 @@ pub(crate) const EPOCH: i64 = 62_167_219_200;
 /// 9801-01-01T00:00:00, the end of the rules.
 pub(crate) const RULES_END: i64 = 309_289_708_800;
 
-// The seconds from 0000-01-01T00:00:00 to a local.
-pub(crate) fn number(local: Local) -> u64
-    ensures value { result ≡ number local }
-    ensures bound { result < 2 ^ 48 }
-{
-    (i64::from(local.day) + 719_528).unsigned_abs() * 86_400 + u64::from(local.second)
-}
-
-// The local with this number.
-pub(crate) fn local_of(n: u64) -> Local
-    requires { n ≤ rules_end }
-    ensures day { IsDayNumber result.day }
-    ensures value { number result ≡ n }
-{
-    Local {
-        day: (n / 86_400) as i32 - 719_528,
-        second: (n % 86_400) as u32,
-    }
-}
-
 // The instant at which a clock with this offset shows the local with number n.
 pub(crate) fn instant(offset: i32, n: u64) -> Moment
     requires { n < 2 ^ 48 }

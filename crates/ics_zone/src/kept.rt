@@ -5,7 +5,7 @@ ghost use Rattle.ics_rule.specs.Next.{NoneKept, IsNextKept};
 ghost use Rattle.ics_zone.specs.Latest.{IsLastKept, IsKnownLast};
 ghost use Rattle.ics_rule.specs.PeriodNumbers.{rules_end};
 
-use crate::clock::{local_of, number};
+use ics_fields::Local;
 use ics_rule::{Cursor, Rule};
 
 /// The first kept local from a place on that is earlier than a bound.
@@ -14,9 +14,9 @@ pub(crate) fn next_kept(rule: &Rule, from: u64, bound: u64) -> Option<u64>
     requires bound { bound ≤ rules_end }
     ensures { MatchOption result (NoneKept rule.now from bound) (IsNextKept rule.now from bound) }
 {
-    let mut cursor = Cursor::at(rule, local_of(from));
-    match cursor.next(rule, local_of(bound)) {
-        Some(local) => Some(number(local)),
+    let mut cursor = Cursor::at(rule, Local::numbered(from));
+    match cursor.next(rule, Local::numbered(bound)) {
+        Some(local) => Some(local.number()),
         None => None,
     }
 }
@@ -46,15 +46,15 @@ pub(crate) fn last_between(rule: &Rule, from: u64, bound: u64) -> Option<u64>
     requires bound { bound ≤ rules_end }
     ensures { MatchOption result (NoneKept rule.now from bound) (IsLastKept rule.now bound) }
 {
-    let end = local_of(bound);
-    let mut cursor = Cursor::at(rule, local_of(from));
-    let first = number(cursor.next(rule, end)?);
+    let end = Local::numbered(bound);
+    let mut cursor = Cursor::at(rule, Local::numbered(from));
+    let first = cursor.next(rule, end)?.number();
     if first + 1 == bound {
         return Some(first);
     }
     match cursor.next(rule, end) {
         None => Some(first),
-        Some(second) => Some(last_from(rule, first, number(second), bound)),
+        Some(second) => Some(last_from(rule, first, second.number(), bound)),
     }
 }
 

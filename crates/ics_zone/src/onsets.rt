@@ -7,7 +7,7 @@ ghost use Rattle.ics_zone.specs.Latest.{IsInOrder, IsPassed, IsLast, IsLastOf, I
 ghost use Rattle.ics_zone.specs.OnsetSets.{IsShownTo, IsKeptAt, Has, IsSound, AreOnsetsOf, IsListing, IsEnd};
 
 use crate::Observance;
-use crate::clock::{instant, number, shown_by};
+use crate::clock::{instant, shown_by};
 use crate::kept::{last_between, last_kept, next_kept};
 use ics_fields::{BitSet, Frequency, Moment};
 use ics_rule::{Kind, Rule};
@@ -94,9 +94,9 @@ fn listed(alloc: Global, observance: &Observance) -> Result<Vec<Moment>, AllocEr
     ensures { IfOk result (λ listed. IsListing (observance_said observance.now) listed.items) }
 {
     let mut listed = Vec::new(alloc);
-    listed.push(instant(observance.offset_from, number(observance.start)))?;
+    listed.push(instant(observance.offset_from, observance.start.number()))?;
     for rdate in &observance.rdates {
-        listed.push(instant(observance.offset_from, number(*rdate)))?;
+        listed.push(instant(observance.offset_from, rdate.number()))?;
     }
     listed.sort_unstable();
     Ok(listed)

@@ -1,6 +1,13 @@
-use Rattle.std.proofs.Common.{rules, SFits, w32, w64, ◌∙◌, ◌++◌, [], ◌∷◌, List, ℤ, ap, subst, sym}
-use Rattle.std.proofs.lemmas.Int.{to_z-of_z}
+use Rattle.std.proofs.Common.{rules, arith, SFits, w32, w64, ◌≡◌, true, ◌∙◌, ◌++◌, [], ◌∷◌, List, ℤ, ap, subst, sym}
+use Rattle.std.specs.Prelude.{int_le}
+use Rattle.std.proofs.lemmas.Int.{ints, to_z-of_z}
+use Rattle.std.proofs.lemmas.List.Sums.{AllPass-from_list_all}
+use Rattle.ics_fields.specs.Days.{year_begin, before_year, IsDayNumber}
+use Rattle.ics_fields.specs.Years.{is_stamp_local}
+use Rattle.ics_fields.specs.declared.local.Local.{Local}
+use Rattle.ics_rule.proofs.KeptLemmas.{and_true}
 use Rattle.ics_zone.specs.Observances.{observance_said}
+use Rattle.ics_zone.proofs.Cases.{int_le_true}
 use Rattle.ics_zone.proofs.ListingLemmas.{IsListedTo, listed_first, listed_more, listing_of}
 use Rattle.ics_zone.proofs.onsets.listed.Goals as goal
 
@@ -13,6 +20,21 @@ loop-rdate-init c =
     subst (λ (list : List ℤ). IsListedTo (observance_said c.args.observance.now) [] list)
     (sym (items ∙ ap (λ (old : List ℤ). old ++ c.instant.result ∷ []) c.new-listed.ensures.items))
     (listed_first (observance_said c.args.observance.now) c.instant.result at)
+
+-- each RDATE is in the years of stamps
+in_calendar : (local : Local) → is_stamp_local local ≡ true → IsDayNumber local.day
+in_calendar local e =
+    let tests : (int_le (year_begin 1) local.day ≡ true) × (int_le local.day (before_year 9_900) ≡ true) = and_true e in
+    let low = int_le_true (year_begin 1) local.day tests.0 in
+    let high = int_le_true local.day (before_year 9_900) tests.1 in
+    (omega (arith, ints, low), omega (arith, ints, high))
+
+pub number-requires-in-loop-rdate : goal.number-requires-in-loop-rdate
+number-requires-in-loop-rdate c =
+    let inside = rw c.deref-rdate-items.ensures.value at c.loop-rdate-test.true in
+    let is = rw c.deref-rdate-items.ensures.value at c.rdate-item.is in
+    let passes = AllPass-from_list_all is_stamp_local c.args.observance.now.rdates.items c.args.observance.now.rdates_in in
+    in_calendar c.rdate-item.result (ap is_stamp_local is ∙ passes c.loop-rdate.rdate-index c.rdate-item.result inside)
 
 pub loop-rdate-preserved : goal.loop-rdate-preserved
 loop-rdate-preserved c =
