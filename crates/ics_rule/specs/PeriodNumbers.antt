@@ -2,7 +2,7 @@
 use Rattle.std.specs.Prelude.{ℕ, ◌+◌, ◌-◌, ◌*◌, ◌/◌, ◌%◌}
 use Rattle.ics_fields.specs.declared.frequency.Frequency.{Frequency}
 use Rattle.ics_fields.specs.declared.frequency.Frequency.TheVariants.{Secondly, Minutely, Hourly, Daily, Weekly, Monthly, Yearly}
-use Rattle.ics_fields.specs.Days.{year_of, month_of}
+use Rattle.ics_fields.specs.Days.{days_before_year, year_of, month_of}
 use Rattle.ics_fields.specs.Locals.{year_number}
 
 -- its day, counted from 0000-01-01, and its hour, minute and second
@@ -40,3 +40,7 @@ period Yearly w n = year_of (day_of n)
 -- 9801-01-01T00:00:00, the end of the rules
 abbrev pub rules_end : ℕ
 rules_end = year_number 9_801
+
+-- the day before 1 January of a year
+abbrev pub day_before : ℕ → ℕ
+day_before year = days_before_year year - 1

@@ -5,6 +5,7 @@ ghost use Rattle.jiff_core.specs.Weekday.{monday_zero};
 ghost use Rattle.ics_fields.specs.Sets.{contains, is_empty};
 ghost use Rattle.ics_fields.specs.Ordinals.{lists_no_weekday};
 ghost use Rattle.ics_fields.specs.Days.{weekday_of};
+ghost use Rattle.ics_rule.specs.PeriodNumbers.{day_before};
 ghost use Rattle.ics_fields.specs.Fields.{IsCivilOf};
 ghost use Rattle.ics_rule.specs.Runs.{goes_by_months};
 ghost use Rattle.ics_rule.specs.Candidates.{fourth_day, lets, lets_numbered, lets_weekday, lets_week, lets_date};
@@ -18,7 +19,7 @@ use jiff_core::civil::{days_in_month, days_in_year};
 
 /// The fields of a day, counted from 0000-01-01.
 pub(crate) fn civil_at(index: u32) -> Civil
-    requires { index ≤ 3652424 }
+    requires { index ≤ day_before 10_000 }
     ensures { IsCivilOf result index }
 {
     civil(index as i32 - EPOCH_DAY)
@@ -70,9 +71,9 @@ fn lets_weekday(parts: &EffectiveRule, fields: &Civil) -> bool
 
 /// The fourth day of a day's week. If the week begins before year 0000, the same one 400 years later.
 fn fourth_day(parts: &EffectiveRule, index: u32) -> u32
-    requires { index ≤ 3652059 }
+    requires { index ≤ day_before 9_999 }
     ensures value { result ≡ fourth_day (monday_zero parts.now.week_start) index }
-    ensures bound { result ≤ 3652424 }
+    ensures bound { result ≤ day_before 10_000 }
 {
     let first = parts.week_start.index() as u32;
     let day = 7 * ((index + (12 - first)) / 7) + first;
@@ -81,7 +82,7 @@ fn fourth_day(parts: &EffectiveRule, index: u32) -> u32
 
 /// Whether BYWEEKNO allows a day, counted from 0000-01-01.
 fn lets_week(parts: &EffectiveRule, index: u32) -> bool
-    requires { index ≤ 3652059 }
+    requires { index ≤ day_before 9_999 }
     ensures { result ≡ lets_week parts.now index }
 {
     if parts.weeks.is_empty() {
@@ -95,7 +96,7 @@ fn lets_week(parts: &EffectiveRule, index: u32) -> bool
 
 /// Whether each part that restricts the date allows a day, given with its fields.
 pub(crate) fn lets_fields(parts: &EffectiveRule, fields: &Civil, index: u32) -> bool
-    requires day { index ≤ 3652059 }
+    requires day { index ≤ day_before 9_999 }
     requires fields { IsCivilOf fields.now index }
     ensures { result ≡ lets_date parts.now index }
 {
@@ -139,7 +140,7 @@ pub(crate) fn names_weekdays_alone(parts: &EffectiveRule) -> bool
 
 /// Whether each part that restricts the date allows a day, counted from 0000-01-01.
 pub(crate) fn lets_date(parts: &EffectiveRule, index: u32) -> bool
-    requires { index ≤ 3652059 }
+    requires { index ≤ day_before 9_999 }
     ensures { result ≡ lets_date parts.now index }
 {
     let weekday = ((index + 5) % 7) as u8;

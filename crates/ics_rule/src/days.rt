@@ -4,6 +4,7 @@ ghost use Rattle.jiff_core.specs.Calendar.{days_in_month, days_in_year};
 ghost use Rattle.ics_fields.specs.declared.frequency.Frequency.TheVariants.{Weekly, Monthly, Yearly};
 ghost use Rattle.ics_fields.specs.Sets.{contains_wide, none_wide};
 ghost use Rattle.ics_fields.specs.Days.{weekday_of, year_of};
+ghost use Rattle.ics_rule.specs.PeriodNumbers.{day_before};
 ghost use Rattle.ics_rule.specs.Candidates.{lets_date, lets_wide_place};
 ghost use Rattle.ics_rule.specs.Runs.{IsMonth, IsSpan, is_in_month, goes_by_months, counts_in_month};
 
@@ -18,7 +19,7 @@ use jiff_core::civil::days_in_month;
 
 /// The weekday, from 0 for Monday, of a day that is counted from 0000-01-01.
 pub(crate) fn weekday_at(index: u32) -> u8
-    requires { index ≤ 3652424 }
+    requires { index ≤ day_before 10_000 }
     ensures value { result ≡ weekday_of index }
     ensures small { result < 7 }
 {
@@ -29,7 +30,7 @@ pub(crate) fn weekday_at(index: u32) -> u8
 #[inline(never)]
 fn add_days_by_day(parts: &EffectiveRule, first: u32, len: u16, days: &mut WideBitSet)
     requires size { len ≤ 384 }
-    requires days { first + len ≤ 3652059 }
+    requires days { first + len ≤ day_before 9_999 }
     requires empty { days.old ≡ none_wide }
     ensures { (k : ℕ) → contains_wide days.new k ≡ (nat_lt k len && lets_date parts.now (first + k)) }
 {
@@ -45,7 +46,7 @@ fn add_days_by_day(parts: &EffectiveRule, first: u32, len: u16, days: &mut WideB
 fn add_days_of_week(parts: &EffectiveRule, first: u32, len: u16, days: &mut WideBitSet)
     requires frequency { parts.now.frequency ≡ Weekly }
     requires size { len ≤ 384 }
-    requires days { first + 384 ≤ 3652059 }
+    requires days { first + 384 ≤ day_before 9_999 }
     requires empty { days.old ≡ none_wide }
     ensures { (k : ℕ) → contains_wide days.new k ≡ (nat_lt k len && lets_date parts.now (first + k)) }
 {
@@ -63,7 +64,7 @@ fn add_days_of_week(parts: &EffectiveRule, first: u32, len: u16, days: &mut Wide
 
 /// Those of a set of days, counted from a first, that a rule allows.
 fn those_let_in(parts: &EffectiveRule, first: u32, some: &WideBitSet) -> WideBitSet
-    requires { first + 384 ≤ 3652059 }
+    requires { first + 384 ≤ day_before 9_999 }
     ensures { (k : ℕ) → contains_wide result k ≡ (contains_wide some.now k && lets_date parts.now (first + k)) }
 {
     let mut days = WideBitSet::new();
@@ -108,7 +109,7 @@ fn days_of_one(len: u16, month: u8) -> u16
 /// A month of a year of `len` days; `first` is the year's first day, counted from 0000-01-01.
 #[inline(always)]
 fn month_run(first: u32, len: u16, month: u8) -> Run
-    requires days { first + 384 ≤ 3652059 }
+    requires days { first + 384 ≤ day_before 9_999 }
     requires short { 365 ≤ len }
     requires long { len ≤ 366 }
     requires low { 1 ≤ month }
@@ -129,7 +130,7 @@ fn month_run(first: u32, len: u16, month: u8) -> Run
 #[inline(always)]
 fn add_listed_days(parts: &EffectiveRule, first: u32, len: u16, days: &mut WideBitSet)
     requires span { IsSpan Yearly (year_of first) first len }
-    requires days { first + 384 ≤ 3652059 }
+    requires days { first + 384 ≤ day_before 9_999 }
     requires empty { days.old ≡ none_wide }
     ensures { (k : ℕ) → contains_wide days.new k ≡ (nat_lt k len && is_in_month parts.now (first + k)) }
 {
@@ -144,7 +145,7 @@ fn add_listed_days(parts: &EffectiveRule, first: u32, len: u16, days: &mut WideB
 /// Leaves those of the days listed in their months that a rule allows.
 #[inline(always)]
 fn leave_let_in(parts: &EffectiveRule, first: u32, len: u16, days: &mut WideBitSet)
-    requires days { first + 384 ≤ 3652059 }
+    requires days { first + 384 ≤ day_before 9_999 }
     requires months { goes_by_months parts.now ≡ true }
     requires numbers { counts_in_month parts.now parts.now.frequency ≡ true }
     requires listed { (k : ℕ) → contains_wide days.old k ≡ (nat_lt k len && is_in_month parts.now (first + k)) }
@@ -166,7 +167,7 @@ fn add_days_of_month(
 )
     requires frequency { parts.now.frequency ≡ Monthly }
     requires span { IsSpan Monthly number first len }
-    requires days { first + 384 ≤ 3652059 }
+    requires days { first + 384 ≤ day_before 9_999 }
     requires empty { days.old ≡ none_wide }
     ensures { (k : ℕ) → contains_wide days.new k ≡ (nat_lt k len && lets_date parts.now (first + k)) }
 {
@@ -190,7 +191,7 @@ fn add_days_of_month(
 #[inline(never)]
 fn add_tested_days(parts: &EffectiveRule, first: u32, len: u16, days: &mut WideBitSet)
     requires span { IsSpan Yearly (year_of first) first len }
-    requires days { first + 384 ≤ 3652059 }
+    requires days { first + 384 ≤ day_before 9_999 }
     ensures { (k : ℕ) → contains_wide days.new k ≡ (nat_lt k len && lets_date parts.now (first + k)) }
 {
     *days = if parts.weeks.is_empty() {
@@ -205,7 +206,7 @@ fn add_tested_days(parts: &EffectiveRule, first: u32, len: u16, days: &mut WideB
 fn add_days_of_year(parts: &EffectiveRule, first: u32, len: u16, days: &mut WideBitSet)
     requires frequency { parts.now.frequency ≡ Yearly }
     requires span { IsSpan Yearly (year_of first) first len }
-    requires days { first + 384 ≤ 3652059 }
+    requires days { first + 384 ≤ day_before 9_999 }
     requires empty { days.old ≡ none_wide }
     ensures { (k : ℕ) → contains_wide days.new k ≡ (nat_lt k len && lets_date parts.now (first + k)) }
 {
@@ -235,7 +236,7 @@ pub(crate) fn add_days_let_in(
     days: &mut WideBitSet,
 )
     requires size { len ≤ 384 }
-    requires days { first + 384 ≤ 3652059 }
+    requires days { first + 384 ≤ day_before 9_999 }
     requires span { IsSpan parts.now.frequency number first len }
     requires empty { days.old ≡ none_wide }
     ensures { (k : ℕ) → contains_wide days.new k ≡ (nat_lt k len && lets_date parts.now (first + k)) }

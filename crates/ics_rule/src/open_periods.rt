@@ -5,7 +5,8 @@ ghost use Rattle.ics_rule.specs.Kept.{count};
 ghost use Rattle.ics_rule.specs.Cursors.{IsCursorIn};
 ghost use Rattle.ics_rule.specs.Rounds.{seconds_of, IsPassedTo};
 ghost use Rattle.ics_rule.specs.OpenPeriods.{per_day, lets_own, is_open_period, chosen_in_open};
-ghost use Rattle.ics_rule.specs.PeriodNumbers.{rules_end};
+ghost use Rattle.ics_fields.specs.Days.{days_before_year};
+ghost use Rattle.ics_rule.specs.PeriodNumbers.{day_before, rules_end};
 
 use crate::cursor::Cursor;
 use crate::date::lets_date;
@@ -59,7 +60,7 @@ const A_SHORT_MONTH: u32 = 28;
 fn days_let_in(parts: &EffectiveRule, from: u64, before: u64) -> u64
     requires interval { 1 ≤ parts.now.interval }
     requires order { from ≤ before }
-    requires before { before ≤ 3652059 }
+    requires before { before ≤ day_before 9_999 }
     ensures value { result ≡ count before (λ e. is_stepped from parts.now.interval e && lets_date parts.now e) }
     ensures bound { result ≤ before }
 {
@@ -87,7 +88,7 @@ fn open_of_days(parts: &EffectiveRule, first: u64, from: u64, before: u64) -> u6
     requires unit { seconds_of parts.now.frequency ≤ 86400 }
     requires first { first < from * per_day parts.now.frequency }
     requires order { from ≤ before }
-    requires before { before ≤ 3579743 }
+    requires before { before ≤ days_before_year 9_801 + 1 }
     ensures { result + count (from * per_day parts.now.frequency) (is_open_period parts.now first)
         ≡ count (before * per_day parts.now.frequency) (is_open_period parts.now first) }
 {
@@ -111,7 +112,7 @@ fn open_in_day(parts: &EffectiveRule, first: u64, from: u64, before: u64) -> u64
     requires first { first < 2 ^ 40 }
     requires order { from ≤ before }
     requires day { before ≤ (from / per_day parts.now.frequency + 1) * per_day parts.now.frequency }
-    requires before { from / per_day parts.now.frequency ≤ 3579743 }
+    requires before { from / per_day parts.now.frequency ≤ days_before_year 9_801 + 1 }
     ensures { result + count from (is_open_period parts.now first) ≡ count before (is_open_period parts.now first) }
 {
     let per_day = 86_400 / seconds_of(parts.frequency);
@@ -129,7 +130,7 @@ fn open_by_days(parts: &EffectiveRule, first: u64, from: u64, before: u64) -> u6
     requires unit { seconds_of parts.now.frequency ≤ 86400 }
     requires first { first ≤ from }
     requires order { from ≤ before }
-    requires before { before / per_day parts.now.frequency ≤ 3579743 }
+    requires before { before / per_day parts.now.frequency ≤ days_before_year 9_801 + 1 }
     ensures { result + count from (is_open_period parts.now first) ≡ count before (is_open_period parts.now first) }
 {
     let per_day = 86_400 / seconds_of(parts.frequency);
@@ -150,7 +151,7 @@ pub(crate) fn open_between(parts: &EffectiveRule, first: u64, from: u64, before:
     requires unit { seconds_of parts.now.frequency ≤ 86400 }
     requires first { first ≤ from }
     requires order { from ≤ before }
-    requires before { before / per_day parts.now.frequency ≤ 3579743 }
+    requires before { before / per_day parts.now.frequency ≤ days_before_year 9_801 + 1 }
     ensures { result + count from (is_open_period parts.now first) ≡ count before (is_open_period parts.now first) }
 {
     let Some(round) = calendar_round(parts, before - from) else {

@@ -2,7 +2,7 @@
 ghost use Rattle.std.specs.Prelude.{◌≡◌, ℕ, ◌<◌, ◌≤◌, ◌+◌, ◌-◌, ◌*◌, ◌/◌, ◌^◌, false, true};
 ghost use Rattle.ics_rule.specs.Candidates.{is_stepped, lets_date, lets_clock, period_in};
 ghost use Rattle.ics_rule.specs.Searches.{NoneLetIn, IsNextOpen};
-ghost use Rattle.ics_rule.specs.PeriodNumbers.{rules_end};
+ghost use Rattle.ics_rule.specs.PeriodNumbers.{day_before, rules_end};
 ghost use Rattle.ics_fields.specs.Locals.{calendar_end};
 
 use crate::date::{civil_at, lets_date, month_length};
@@ -16,7 +16,7 @@ use ics_fields::Frequency;
 
 /// How many days from one on are in a month that BYMONTH does not allow.
 pub(crate) fn days_of_closed_month(parts: &EffectiveRule, day: u32) -> u32
-    requires { day ≤ 3652059 }
+    requires { day ≤ day_before 9_999 }
     ensures none { (j : ℕ) → j < result → lets_date parts.now (day + j) ≡ false }
     ensures most { result ≤ 32 }
 {
@@ -33,7 +33,7 @@ pub(crate) fn days_of_closed_month(parts: &EffectiveRule, day: u32) -> u32
 
 /// How many days from one on a rule does not allow, as far as one look tells. Single days are tested only if FREQ is finer than MONTHLY.
 fn days_out(parts: &EffectiveRule, day: u32) -> u32
-    requires { day ≤ 3652059 }
+    requires { day ≤ day_before 9_999 }
     ensures none { (j : ℕ) → j < result → lets_date parts.now (day + j) ≡ false }
     ensures most { result ≤ 32 }
 {
@@ -53,7 +53,7 @@ fn days_out(parts: &EffectiveRule, day: u32) -> u32
 /// The first day from one on that a rule may allow. The search ends at `end`.
 fn next_open_day(parts: &EffectiveRule, day: u32, end: u32) -> u32
     requires day { day ≤ end }
-    requires end { end ≤ 3652059 }
+    requires end { end ≤ day_before 9_999 }
     ensures low { day ≤ result }
     ensures high { result ≤ end + 32 }
     ensures none { (e : ℕ) → day ≤ e → e < result → lets_date parts.now e ≡ false }

@@ -25,7 +25,7 @@ const TWO_YEARS: u64 = 730;
 /// How many seconds each period of a frequency has, or 0 if they differ.
 pub(crate) fn seconds_of(frequency: Frequency) -> u64
     ensures value { result ≡ seconds_of frequency }
-    ensures bound { result ≤ 604800 }
+    ensures bound { result ≤ 604_800 }
 {
     match frequency {
         Frequency::Secondly => 1,
@@ -42,7 +42,7 @@ fn repeat_seconds(parts: &EffectiveRule) -> u64
     requires alone { names_weekdays_alone parts.now ≡ true }
     requires fine { 0 < seconds_of parts.now.frequency }
     ensures some { 1 ≤ result }
-    ensures bound { result ≤ 604800 }
+    ensures bound { result ≤ 604_800 }
     ensures repeat { (n : ℕ) → (lets_date parts.now (day_of (n + result)) && lets_clock parts.now (n + result))
         ≡ (lets_date parts.now (day_of n) && lets_clock parts.now n) }
 {

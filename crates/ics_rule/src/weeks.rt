@@ -3,6 +3,7 @@ ghost use Rattle.std.specs.Prelude.{◌≡◌, ℕ, ◌<◌, ◌≤◌, ◌+◌,
 ghost use Rattle.jiff_core.specs.Calendar.{days_in_year};
 ghost use Rattle.ics_fields.specs.Sets.{contains, contains_wide};
 ghost use Rattle.ics_fields.specs.Days.{days_before_year, year_of};
+ghost use Rattle.ics_rule.specs.PeriodNumbers.{day_before};
 ghost use Rattle.ics_fields.specs.Ordinals.{lists_none};
 ghost use Rattle.ics_rule.specs.Candidates.{lets_week};
 ghost use Rattle.ics_rule.specs.Runs.{may_list_week};
@@ -43,7 +44,7 @@ fn listed_weeks(weeks: &Ordinals) -> BitSet
 pub(crate) fn days_near_weeks(parts: &EffectiveRule, first: u32, len: u16) -> WideBitSet
     requires first { first ≡ days_before_year (year_of first) }
     requires size { len ≡ days_in_year (pos (year_of first)) }
-    requires early { first ≤ 3652059 }
+    requires early { first ≤ day_before 9_999 }
     requires some { lists_none parts.now.weeks ≡ false }
     ensures within { (k : ℕ) → contains_wide result k ≡ true → k < len }
     ensures all { (k : ℕ) → k < len → lets_week parts.now (first + k) ≡ true → contains_wide result k ≡ true }
