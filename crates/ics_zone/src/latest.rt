@@ -6,13 +6,14 @@ ghost use Rattle.ics_zone.specs.OnsetSets.{Has, IsSound};
 ghost use Rattle.ics_zone.specs.Seconds.{IsMoment};
 ghost use Rattle.ics_zone.specs.ZoneOnsets.{AreOnsetsOfAll, IsLatestOf, IsLatestWithin, IsFirstOffset, IsNextPast, IsClear, IsOverridden, NoneBetween};
 
+use crate::clock::EPOCH;
 use crate::onsets::Onsets;
 use ics_fields::Moment;
 
 const DAY: i64 = 86_400;
 
 /// 0000-01-01T00:00:00 UTC. An observance has its first onset later than this.
-const YEARS_BEGIN: Moment = -62_167_219_200;
+const YEARS_BEGIN: Moment = -EPOCH;
 
 /// An onset of an observance, the place of the observance in its component, and the offset after the onset.
 #[derive(Clone, Copy)]

@@ -9,6 +9,7 @@ ghost use Rattle.ics_fields.specs.Locals.{seconds_at};
 ghost use Rattle.ics_zone.specs.OnsetSets.{IsSearched};
 ghost use Rattle.ics_zone.specs.ZoneOnsets.{AreOnsetsOfAll, HaveOffsets};
 
+use crate::clock::EPOCH;
 use crate::latest::{
     Steady, clear_after, first_offset, latest_of, next_onset, next_past, overrides,
 };
@@ -19,6 +20,11 @@ use std::alloc::{AllocError, Global};
 use std::marker::Model;
 
 const DAY: i64 = 86_400;
+
+/// The instants about which spans are held: those of the years 0000 to 9950, with two days more on either side.
+const FIRST_HELD: Moment = -EPOCH - 2 * DAY;
+
+const LAST_HELD: Moment = 251_856_172_799;
 
 /// How many seconds after an instant the end of a span is searched for.
 const AHEAD: i64 = 400 * DAY;
@@ -93,7 +99,7 @@ impl Observed {
         ensures same { self.new ≡ self.old }
         ensures always { result ≡ Ok tt }
     {
-        let near = to.clamp(-62_167_392_000, 251_856_172_799);
+        let near = to.clamp(FIRST_HELD, LAST_HELD);
         self.hold(near - DAY);
         self.hold(near + DAY);
         Ok(())
