@@ -1,10 +1,11 @@
 -- A set to which the items of a list were added has the numbers that stand in the list, and its own.
 use Rattle.std.proofs.Common.{◌≡◌, ℕ, ◌<◌, ◌≤◌, ◌/◌, Bool, true, false, ◌&&◌, ◌||◌, ◌==◌, List, [], ◌∷◌, length, Option, Some, None, cond, refl, sym, ap}
-use Rattle.std.proofs.Common.{subst, ◌∙◌, inl, inr, get_or-set_same, get_or-set_other, arith}
+use Rattle.std.proofs.Common.{◌∙◌, inl, inr, get_or-set_same, get_or-set_other, arith}
 use Rattle.std.specs.Prelude.{not, fold, nat_le, is_some}
 use Rattle.std.specs.List.{list_any, list_all}
 use Rattle.std.proofs.Math.ListN.{length-set}
-use Rattle.std.proofs.lemmas.Bool.{and_parts, leb-true, cases_eq, ne_eqb, eq-eqb}
+use Rattle.std.proofs.lemmas.Bool.{and_parts, and_right, cond_both, leb-true, cases_eq, ne_eqb, eq-eqb}
+use Rattle.std.proofs.lemmas.Bool.Decides.{nat_tests}
 use Rattle.jiff_core.specs.declared.civil.weekday.Weekday.{Weekday}
 use Rattle.jiff_core.specs.Weekday.{monday_zero}
 use Rattle.ics_fields.specs.declared.ordinals.Side.{Side}
@@ -28,14 +29,10 @@ pub record Adds {S : Type 0} (step : S → List ℕ → S) (sees : S → Bool) (
   pub adds : (s : S) (i : List ℕ) → fits i ≡ true → Fine s → sees (step s i) ≡ (test i || sees s)
 
 or_swap : (a b c : Bool) → (a || (b || c)) ≡ ((b || a) || c)
-or_swap true true c = refl
-or_swap true false c = refl
-or_swap false true c = refl
-or_swap false false c = refl
+or_swap a b c = grind (arith, nat_tests)
 
-or_false : (t : Bool) → (t || false) ≡ t
-or_false true = refl
-or_false false = refl
+or_false : (t u : Bool) → u ≡ false → (t || u) ≡ t
+or_false t u e = grind (arith, nat_tests)
 
 gathered : {S : Type 0} {step : S → List ℕ → S} {sees : S → Bool} {test fits : List ℕ → Bool} {Fine : S → Type 0} → Adds step sees test fits Fine
     → (items : List (List ℕ)) → list_all fits items ≡ true → (s : S) → Fine s → sees (fold step s items) ≡ (list_any test items || sees s)
@@ -49,8 +46,7 @@ gathered {step = step} {sees = sees} {test = test} {fits = fits} a (i ∷ items)
 -- the same from a state that sees nothing
 pub gathered_all : {S : Type 0} {step : S → List ℕ → S} {sees : S → Bool} {test fits : List ℕ → Bool} {Fine : S → Type 0} → Adds step sees test fits Fine
     → (items : List (List ℕ)) → list_all fits items ≡ true → (s : S) → Fine s → sees s ≡ false → sees (fold step s items) ≡ list_any test items
-gathered_all {test = test} a items h s f none =
-    gathered a items h s f ∙ ap (λ t. list_any test items || t) none ∙ or_false (list_any test items)
+gathered_all {sees = sees} {test = test} a items h s f none = gathered a items h s f ∙ or_false (list_any test items) (sees s) none
 
 -- a number that is in order is not larger than the last
 pub number_high : (low high : ℕ) (text : List ℕ) → is_number low high text ≡ true → number_of text ≤ high
@@ -106,76 +102,62 @@ adds_wide_place high small side n = record {
 day_small : (d : Weekday) → monday_zero d < 64
 day_small d = let small = monday_zero_small d in omega arith
 
--- a weekday of BYDAY, by whether its item is two letters long
-abbrev day_with : Option Weekday → Bool → List ℕ → Weekdays → Weekdays
-day_with None plain item w = w
-day_with (Some day) plain item w =
-    cond plain (with_weekday day w) (with_numbered_weekday day (side_of (number_before item)) (number_of (unsigned (number_before item))) w)
-
-with_day-is : (o : Option Weekday) (item : List ℕ) (w : Weekdays) → with_day o item w ≡ day_with o (length item == 2) item w
-with_day-is None item w = refl
-with_day-is (Some day) item w = refl
-
-and_true : (t : Bool) → (t && true) ≡ t
-and_true true = refl
-and_true false = refl
-
-and_false : (t : Bool) → (t && false) ≡ false
-and_false true = refl
-and_false false = refl
+and_true : (t : Bool) → t ≡ (t && true)
+and_true t = grind (arith, nat_tests)
 
 pub adds_weekday : (d : Weekday) →
     Adds (λ w i. with_day (weekday_of (day_text i)) i w) (λ w. contains w.plain (monday_zero d)) (is_weekday d) is_day_item (λ w. Unit {0})
-adds_weekday d = record {
-  fine = λ w i h u. tt;
-  adds = λ w i h u. ap (λ (x : Weekdays). contains x.plain (monday_zero d)) (with_day-is (weekday_of (day_text i)) i w)
-      ∙ by_day w i (weekday_of (day_text i)) (length i == 2);
-}
+adds_weekday d = record { fine = λ w i h u. tt; adds = λ w i h u. by_day w i (weekday_of (day_text i)) }
   where
-    by_day : (w : Weekdays) (i : List ℕ) (o : Option Weekday) (t : Bool) →
-        contains (day_with o t i w).plain (monday_zero d) ≡ ((is_day d o && t) || contains w.plain (monday_zero d))
-    by_day w i None t = refl
-    by_day w i (Some e) true = contains-with_number w.plain (monday_zero e) (monday_zero d) (day_small e)
-        ∙ ap (λ t. t || contains w.plain (monday_zero d)) (sym (and_true (monday_zero d == monday_zero e)))
-    by_day w i (Some e) false = ap (λ t. t || contains w.plain (monday_zero d)) (sym (and_false (monday_zero d == monday_zero e)))
+    by_length : (w : Weekdays) (n : List ℕ) (e : Weekday) (t : Bool) →
+        contains (cond t (with_weekday e w) (with_numbered_weekday e (side_of n) (number_of (unsigned n)) w)).plain (monday_zero d)
+        ≡ (((monday_zero d == monday_zero e) && t) || contains w.plain (monday_zero d))
+    by_length w n e true = contains-with_number w.plain (monday_zero e) (monday_zero d) (day_small e)
+        ∙ ap (λ t. t || contains w.plain (monday_zero d)) (and_true (monday_zero d == monday_zero e))
+    by_length w n e false = rw (and_right (monday_zero d == monday_zero e) false refl) refl
+
+    by_day : (w : Weekdays) (i : List ℕ) (o : Option Weekday) →
+        contains (with_day o i w).plain (monday_zero d) ≡ ((is_day d o && (length i == 2)) || contains w.plain (monday_zero d))
+    by_day w i None = refl
+    by_day w i (Some e) = by_length w (number_before i) e (length i == 2)
 
 -- the numbers of BYDAY stand beside seven weekdays
 abbrev pub HasSeven : Weekdays → Type 0
 HasSeven w = length w.numbered ≡ 7
 
-seven_kept : (o : Option Weekday) (t : Bool) (i : List ℕ) (w : Weekdays) → HasSeven w → HasSeven (day_with o t i w)
-seven_kept None t i w h = h
-seven_kept (Some e) true i w h = h
-seven_kept (Some e) false i w h = length-set w.numbered (monday_zero e) _ ∙ h
+seven_kept : (o : Option Weekday) (i : List ℕ) (w : Weekdays) → HasSeven w → HasSeven (with_day o i w)
+seven_kept None i w h = h
+seven_kept (Some e) i w h = cond_both (length i == 2) _ _ HasSeven (λ two. h) (λ more. length-set w.numbered (monday_zero e) _ ∙ h)
 
 pub adds_numbered : (d : Weekday) (side : Side) (n : ℕ)
     → Adds (λ w i. with_day (weekday_of (day_text i)) i w) (λ w. has_place side n (numbers_of w (monday_zero d))) (is_numbered d side n) is_day_item HasSeven
 adds_numbered d side n = record {
-  fine = λ w i h u. subst HasSeven (sym (with_day-is (weekday_of (day_text i)) i w)) (seven_kept (weekday_of (day_text i)) (length i == 2) i w u);
-  adds = λ w i h u. ap (λ (x : Weekdays). has_place side n (numbers_of x (monday_zero d))) (with_day-is (weekday_of (day_text i)) i w)
-      ∙ by_day w i (weekday_of (day_text i)) (length i == 2) u
+  fine = λ w i h u. seven_kept (weekday_of (day_text i)) i w u;
+  adds = λ w i h u. by_day w i (weekday_of (day_text i)) u
       (and_parts (is_some (weekday_of (day_text i))) ((length i == 2) || is_signed 53 (number_before i)) h).1;
 }
   where
-    added : (e : Weekday) (k : ℕ) (item : List ℕ) (w : Weekdays) → k < 64 → HasSeven w
-        → has_place side n (numbers_of (with_numbered_weekday e (side_of item) k w) (monday_zero d))
-        ≡ (((monday_zero d == monday_zero e) && (is_side side (begins is_minus item) && (n == k))) || has_place side n (numbers_of w (monday_zero d)))
-    added e k item w small seven = elim (cases_eq (monday_zero d) (monday_zero e)) [
+    added : (e : Weekday) (item : List ℕ) (w : Weekdays) → is_signed 53 item ≡ true → HasSeven w
+        → has_place side n (numbers_of (with_numbered_weekday e (side_of item) (number_of (unsigned item)) w) (monday_zero d))
+        ≡ (((monday_zero d == monday_zero e) && is_place side n item) || has_place side n (numbers_of w (monday_zero d)))
+    added e item w fits seven = elim (cases_eq (monday_zero d) (monday_zero e)) [
       | inl same ↦
           let last = monday_zero_small e in
           let inside : monday_zero e < length w.numbered = omega arith in
-          rw (same, get_or-set_same, eq-eqb (monday_zero e) (monday_zero e) refl) (place_added side n k item (numbers_of w (monday_zero e)) small)
+          let high = number_high 1 53 (unsigned item) fits in
+          rw (same, get_or-set_same, eq-eqb (monday_zero e) (monday_zero e) refl)
+          (place_added side n (number_of (unsigned item)) item (numbers_of w (monday_zero e)) (omega arith))
       | inr other ↦ rw (get_or-set_other, ne_eqb (monday_zero d) (monday_zero e) other) refl
     ]
 
-    by_day : (w : Weekdays) (i : List ℕ) (o : Option Weekday) (t : Bool) → HasSeven w → (t || is_signed 53 (number_before i)) ≡ true
-        → has_place side n (numbers_of (day_with o t i w) (monday_zero d))
-        ≡ (((is_day d o && not t) && is_place side n (number_before i)) || has_place side n (numbers_of w (monday_zero d)))
-    by_day w i None t u h = refl
-    by_day w i (Some e) true u h = ap (λ t. (t && is_place side n (number_before i)) || has_place side n (numbers_of w (monday_zero d)))
-        (sym (and_false (monday_zero d == monday_zero e)))
-    by_day w i (Some e) false u h =
-        let last = number_high 1 53 (unsigned (number_before i)) h in
-        added e (number_of (unsigned (number_before i))) (number_before i) w (omega arith) u
-        ∙ ap (λ t. (t && is_place side n (number_before i)) || has_place side n (numbers_of w (monday_zero d)))
-        (sym (and_true (monday_zero d == monday_zero e)))
+    by_length : (w : Weekdays) (item : List ℕ) (e : Weekday) (t : Bool) → HasSeven w → (t || is_signed 53 item) ≡ true
+        → has_place side n (numbers_of (cond t (with_weekday e w) (with_numbered_weekday e (side_of item) (number_of (unsigned item)) w)) (monday_zero d))
+        ≡ ((((monday_zero d == monday_zero e) && not t) && is_place side n item) || has_place side n (numbers_of w (monday_zero d)))
+    by_length w item e true u h = rw (and_right (monday_zero d == monday_zero e) false refl) refl
+    by_length w item e false u h = rw (sym (and_true (monday_zero d == monday_zero e))) (added e item w h u)
+
+    by_day : (w : Weekdays) (i : List ℕ) (o : Option Weekday) → HasSeven w → ((length i == 2) || is_signed 53 (number_before i)) ≡ true
+        → has_place side n (numbers_of (with_day o i w) (monday_zero d))
+        ≡ (((is_day d o && not (length i == 2)) && is_place side n (number_before i)) || has_place side n (numbers_of w (monday_zero d)))
+    by_day w i None u h = refl
+    by_day w i (Some e) u h = by_length w (number_before i) e (length i == 2) u h
