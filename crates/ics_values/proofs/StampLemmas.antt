@@ -1,10 +1,11 @@
 -- The form of a stamp's text, the day that it says, and the day of an UNTIL.
-use Rattle.std.proofs.Common.{◌≡◌, ℕ, zero, suc, Bool, true, false, ◌==◌, ◌&&◌, ◌||◌, List, [], ◌∷◌, length, take, drop, refl, arith, ◌-◌, ◌≤◌, nat_le, sym}
-use Rattle.std.proofs.Common.{pos, ◌+◌, ◌<◌, ◌-ℤ◌, cond}
+use Rattle.std.proofs.Common.{◌≡◌, ℕ, suc, Bool, true, false, ◌==◌, ◌&&◌, ◌||◌, List, length, take, drop, refl, arith, ◌-◌, ◌≤◌, nat_le, sym, ap}
+use Rattle.std.proofs.Common.{pos, ◌+◌, ◌<◌, ◌-ℤ◌, cond, inl, inr, ◌∙◌}
 use Rattle.std.specs.Prelude.{not, Ok, Err, if◌then◌else◌}
 use Rattle.std.specs.List.{list_all}
-use Rattle.std.proofs.lemmas.Bool.{eqb-true, and_parts, leb-true}
-use Rattle.std.proofs.lemmas.List.{drop-take, take-take}
+use Rattle.std.proofs.lemmas.Bool.{eqb-true, and_parts, or_cases, leb-true}
+use Rattle.std.proofs.lemmas.List.{drop-take, take-take, take-append-drop}
+use Rattle.std.proofs.lemmas.List.Folds.{list_all-append}
 use Rattle.ics_values.specs.Digits.{is_digit, are_digits, letter_at, number_at}
 use Rattle.ics_values.specs.Stamps.{is_date_form, is_local_form, is_utc_form, is_date_time_form, HasDate, HasTime, year_of, date_exists, day_of, local_of}
 use Rattle.ics_values.specs.Stamps.{time_exists, is_stamp_text, stamp_said, stamp_day, is_stamp_year, stamp_of, IsDayOf}
@@ -26,25 +27,12 @@ use Rattle.ics_fields.specs.RuleParts.{IsUntil}
 use Rattle.ics_values.specs.RuleTexts.{until_said}
 
 list_all-take : (p : ℕ → Bool) (xs : List ℕ) (n : ℕ) → list_all p xs ≡ true → list_all p (take n xs) ≡ true
-list_all-take p [] zero h = refl
-list_all-take p [] (suc n) h = refl
-list_all-take p (x ∷ xs) zero h = refl
-list_all-take p (x ∷ xs) (suc n) h = let parts = and_parts (p x) (list_all p xs) h in rw parts.0 (list_all-take p xs n parts.1)
+list_all-take p xs n h =
+    (and_parts (list_all p (take n xs)) (list_all p (drop n xs))
+    (sym (list_all-append p (take n xs) (drop n xs)) ∙ ap (list_all p) (take-append-drop n xs) ∙ h)).0
 
 digits_of : (text : List ℕ) → are_digits text ≡ true → list_all is_digit text ≡ true
 digits_of text h = (and_parts (not (length text == 0)) (list_all is_digit text) h).1
-
-record LocalParts (text : List ℕ) : Type 0 where
-  pub long : length text ≡ 15
-  pub date : list_all is_digit (take 8 text) ≡ true
-  pub time : list_all is_digit (drop 9 text) ≡ true
-
-local_parts : (text : List ℕ) → is_local_form text ≡ true → LocalParts text
-local_parts text h =
-    let a = and_parts ((length text == 15) && are_digits (take 8 text) && (letter_at text 8 == 84)) (are_digits (drop 9 text)) h in
-    let b = and_parts ((length text == 15) && are_digits (take 8 text)) (letter_at text 8 == 84) a.0 in
-    let c = and_parts (length text == 15) (are_digits (take 8 text)) b.0 in
-    record { long = eqb-true (length text) 15 c.0; date = digits_of (take 8 text) c.1; time = digits_of (drop 9 text) a.1 }
 
 pub date_digits : (text : List ℕ) → is_date_form text ≡ true → HasDate text
 date_digits text h =
@@ -52,47 +40,44 @@ date_digits text h =
     let long = eqb-true (length text) 8 a.0 in
     record { long = omega (arith, long); digits = list_all-take is_digit text 8 (digits_of text a.1) }
 
-pub local_long : (text : List ℕ) → is_local_form text ≡ true → length text ≡ 15
-local_long text h = (local_parts text h).long
-
-pub local_date : (text : List ℕ) → is_local_form text ≡ true → HasDate text
-local_date text h = let p = local_parts text h in record { long = omega (arith, p.long); digits = p.date }
-
-pub local_time : (text : List ℕ) → is_local_form text ≡ true → HasTime text
-local_time text h = let p = local_parts text h in record { long = omega (arith, p.long); digits = list_all-take is_digit (drop 9 text) 6 p.time }
-
-pub utc_parts : (text : List ℕ) → is_utc_form text ≡ true → (length text ≡ 16) × (is_local_form (take 15 text) ≡ true)
-utc_parts text h =
-    let a = and_parts ((length text == 16) && is_local_form (take 15 text)) (letter_at text 15 == 90) h in
-    let b = and_parts (length text == 16) (is_local_form (take 15 text)) a.0 in
-    (eqb-true (length text) 16 b.0, b.1)
-
-pub utc_date : (text : List ℕ) → is_utc_form text ≡ true → HasDate text
-utc_date text h =
-    let u = utc_parts text h in
-    let p = local_parts (take 15 text) u.1 in
-    record { long = omega (arith, u.0); digits = rw (take-take 8 15 text (omega arith)) at p.date }
-
-pub utc_time : (text : List ℕ) → is_utc_form text ≡ true → HasTime text
-utc_time text h =
-    let u = utc_parts text h in
-    let p = local_parts (take 15 text) u.1 in
-    record { long = omega (arith, u.0); digits = rw (drop-take 9 6 text) at p.time }
-
 -- a DATE-TIME has digits for its date and for its time
+record HasBoth (text : List ℕ) : Type 0 where
+  long : 15 ≤ length text
+  date : list_all is_digit (take 8 text) ≡ true
+  time : list_all is_digit (take 6 (drop 9 text)) ≡ true
+
+local_digits : (text : List ℕ) → is_local_form text ≡ true → HasBoth text
+local_digits text h =
+    let a = and_parts ((length text == 15) && are_digits (take 8 text) && (letter_at text 8 == 84)) (are_digits (drop 9 text)) h in
+    let b = and_parts ((length text == 15) && are_digits (take 8 text)) (letter_at text 8 == 84) a.0 in
+    let c = and_parts (length text == 15) (are_digits (take 8 text)) b.0 in
+    let long = eqb-true (length text) 15 c.0 in
+    record {
+      long = omega (arith, long);
+      date = digits_of (take 8 text) c.1;
+      time = list_all-take is_digit (drop 9 text) 6 (digits_of (drop 9 text) a.1);
+    }
+
+date_time_digits : (text : List ℕ) → is_date_time_form text ≡ true → HasBoth text
+date_time_digits text h = elim (or_cases (is_utc_form text) (is_local_form text) h) [
+  | inr local ↦ local_digits text local
+  | inl utc ↦ (
+      let a = and_parts ((length text == 16) && is_local_form (take 15 text)) (letter_at text 15 == 90) utc in
+      let b = and_parts (length text == 16) (is_local_form (take 15 text)) a.0 in
+      let long = eqb-true (length text) 16 b.0 in
+      let d = local_digits (take 15 text) b.1 in
+      record {
+        long = omega (arith, long);
+        date = rw (take-take 8 15 text (omega arith)) at d.date;
+        time = rw (drop-take 9 6 text, take-take 6 6 (drop 9 text) (omega arith)) at d.time;
+      })
+]
+
 pub date_time_date : (text : List ℕ) → is_date_time_form text ≡ true → HasDate text
-date_time_date text h = by_test (is_utc_form text) refl h
-  where
-    by_test : (t : Bool) → is_utc_form text ≡ t → (t || is_local_form text) ≡ true → HasDate text
-    by_test true u h = utc_date text u
-    by_test false u h = local_date text h
+date_time_date text h = let d = date_time_digits text h in record { long = let l = d.long in omega (arith, l); digits = d.date }
 
 pub date_time_time : (text : List ℕ) → is_date_time_form text ≡ true → HasTime text
-date_time_time text h = by_test (is_utc_form text) refl h
-  where
-    by_test : (t : Bool) → is_utc_form text ≡ t → (t || is_local_form text) ≡ true → HasTime text
-    by_test true u h = utc_time text u
-    by_test false u h = local_time text h
+date_time_time text h = let d = date_time_digits text h in record { long = d.long; digits = d.time }
 
 pub stamp_day-said : (zoned : Bool) (text : List ℕ) → stamp_day (stamp_said zoned text) ≡ day_of text
 stamp_day-said zoned text = by_tests (is_date_form text) (is_utc_form text) zoned
@@ -100,23 +85,14 @@ stamp_day-said zoned text = by_tests (is_date_form text) (is_utc_form text) zone
     by_tests : (date utc zoned : Bool) →
         stamp_day (if date then Date (day_of text) else
         (if utc then Utc (local_of text) else (if zoned then Zoned (local_of text) else Floating (local_of text)))) ≡ day_of text
-    by_tests true utc zoned = refl
-    by_tests false true zoned = refl
     by_tests false false true = refl
-    by_tests false false false = refl
+    by_tests _ _ _ = refl
 
 pub date_of-stamp : (text : List ℕ) → is_stamp_text text ≡ true → date_exists text ≡ true
 date_of-stamp text h = by_tests (is_date_form text) (date_exists text) (is_date_time_form text) (time_exists text) h
   where
     by_tests : (date exists form time : Bool) → ((date && exists) || (form && exists && time)) ≡ true → exists ≡ true
-    by_tests date true form time h = refl
-    by_tests true false form time h = no form h
-      where
-        no : (form : Bool) → (false || (form && false && time)) ≡ true → false ≡ true
-        no true h = h
-        no false h = h
-    by_tests false false true time h = h
-    by_tests false false false time h = h
+    by_tests date exists form time h = grind (arith, nat_tests)
 
 pub is_its_day : (text : List ℕ) → date_exists text ≡ true → year_of text ≤ 9999 → IsDayOf text (day_of text)
 is_its_day text h year =
@@ -146,15 +122,10 @@ stamp_years y h = let near = and_parts (nat_le 1 y) (nat_le y 9899) h in (leb-tr
 
 -- a text with a time says no date alone
 pub no_date : (text : List ℕ) → is_date_time_form text ≡ true → is_date_form text ≡ false
-no_date text h = by_length (length text) (are_digits text)
-    (either (is_utc_form text) (is_local_form text) (λ k. (utc_parts text k).0) (λ k. local_long text k) h)
+no_date text h = by_length (length text) (are_digits text) (date_time_digits text h).long
   where
-    either : (utc local : Bool) → (utc ≡ true → length text ≡ 16) → (local ≡ true → length text ≡ 15) → (utc || local) ≡ true → 15 ≤ length text
-    either true local u l h = let e = u refl in omega arith
-    either false local u l h = let e = l h in omega arith
-
     by_length : (n : ℕ) (digits : Bool) → 15 ≤ n → ((n == 8) && digits) ≡ false
-    by_length n digits h = let e : (n == 8) ≡ false = grind (arith, nat_tests) in rw e refl
+    by_length n digits h = grind (arith, nat_tests)
 
 pub is_date_time : (zoned : Bool) (text : List ℕ) (stamp : Stamp) → is_date_time_form text ≡ true → Ok stamp ≡ stamp_of zoned text →
     IsStampDay (stamp_day stamp) → IsDateTime stamp
@@ -163,11 +134,8 @@ is_date_time zoned text (Date day) form said range = by_tests _ (is_stamp_year (
     by_tests : (ordered near utc zoned : Bool) →
         (if not ordered then Err BadStamp else (if not near then Err YearRange else Ok
         (if utc then Utc (local_of text) else (if zoned then Zoned (local_of text) else Floating (local_of text))))) ≡ Ok (Date day) → ⊥
-    by_tests false near utc zoned e = cc
-    by_tests true false utc zoned e = cc
-    by_tests true true true zoned e = cc
     by_tests true true false true e = cc
-    by_tests true true false false e = cc
+    by_tests _ _ _ _ e = cc
 is_date_time zoned text (Floating local) form said range = range
 is_date_time zoned text (Utc local) form said range = range
 is_date_time zoned text (Zoned local) form said range = range
@@ -188,6 +156,5 @@ until_in text h year =
   where
     by_form : (d u : Bool) → IsDayNumber (day_of text) →
         IsUntil (until_said (cond d (Date (day_of text)) (cond u (Utc (local_of text)) (Floating (local_of text)))))
-    by_form true u day = day
     by_form false true day = day
-    by_form false false day = day
+    by_form _ _ day = day
