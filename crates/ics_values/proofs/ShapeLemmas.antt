@@ -1,9 +1,10 @@
 -- The shape of a duration's text, and the numbers before its units.
-use Rattle.std.proofs.Common.{◌≡◌, ◌≢◌, ℕ, suc, ◌+◌, ◌-◌, ◌*◌, ◌<◌, Bool, true, false, ◌==◌, ◌&&◌, List, [], ◌∷◌, ◌++◌, length, take, drop, refl, sym, ap, ◌∙◌}
-use Rattle.std.proofs.Common.{arith}
+use Rattle.std.proofs.Common.{◌≡◌, ◌≢◌, ℕ, suc, ◌+◌, ◌-◌, ◌*◌, ◌<◌, true, false, ◌==◌, List, [], ◌∷◌, ◌++◌, length, take, drop, refl, sym, ap, ◌∙◌}
+use Rattle.std.proofs.Common.{arith, inl, inr}
 use Rattle.std.specs.Prelude.{fold}
 use Rattle.std.specs.List.{list_all, list_any}
 use Rattle.std.specs.Str.{bytes_eq}
+use Rattle.std.proofs.lemmas.Bool.{and_cases, and_left, and_right, cases_Bool, eq-eqb, false_from_ne_true, ne_eqb, true_from_ne_false}
 use Rattle.std.proofs.lemmas.Bool.Decides.{nat_tests}
 use Rattle.ics_values.specs.Digits.{is_digit, upper, number_of, digit_count}
 use Rattle.ics_values.specs.Texts.{begins, begins_with}
@@ -36,17 +37,18 @@ shape-more b bs h k = rw (h, k) refl
 -- the digits that begin a text
 pub digit_count-digits : (text : List ℕ) → list_all is_digit (take (digit_count text) text) ≡ true
 digit_count-digits [] = refl
-digit_count-digits (b ∷ bs) = by_test (digit_count-digits bs) (is_digit b) refl
-  where
-    by_test : list_all is_digit (take (digit_count bs) bs) ≡ true → (t : Bool) → is_digit b ≡ t →
-        list_all is_digit (take (digit_count (b ∷ bs)) (b ∷ bs)) ≡ true
-    by_test later true h = rw (digit_count-yes b bs h) (rw h later)
-    by_test later false h = rw (digit_count-no b bs h) refl
+digit_count-digits (b ∷ bs) = elim (cases_Bool (is_digit b)) [
+  | inl h ↦ rw (digit_count-yes b bs h) (rw h (digit_count-digits bs))
+  | inr h ↦ rw (digit_count-no b bs h) refl
+]
 
 -- all bytes are digits where as many begin the text
 pub digit_count-all : (text : List ℕ) → list_all is_digit text ≡ (digit_count text == length text)
 digit_count-all [] = refl
-digit_count-all (b ∷ bs) = by_test (digit_count-all bs) (is_digit b) refl
+digit_count-all (b ∷ bs) = elim (cases_Bool (is_digit b)) [
+  | inl h ↦ rw (digit_count-yes b bs h, h) (digit_count-all bs ∙ one_more (digit_count bs) (length bs))
+  | inr h ↦ rw (digit_count-no b bs h, h) (none_there (length bs))
+]
   where
     one_more : (m n : ℕ) → (m == n) ≡ (suc m == suc n)
     one_more m n = grind (arith, nat_tests)
@@ -54,39 +56,24 @@ digit_count-all (b ∷ bs) = by_test (digit_count-all bs) (is_digit b) refl
     none_there : (n : ℕ) → false ≡ (0 == suc n)
     none_there n = grind (arith, nat_tests)
 
-    by_test : list_all is_digit bs ≡ (digit_count bs == length bs) → (t : Bool) → is_digit b ≡ t →
-        list_all is_digit (b ∷ bs) ≡ (digit_count (b ∷ bs) == length (b ∷ bs))
-    by_test later true h = rw (digit_count-yes b bs h, h) (later ∙ one_more (digit_count bs) (length bs))
-    by_test later false h = rw (digit_count-no b bs h, h) (none_there (length bs))
-
 pub digit_count-none : (text : List ℕ) → begins is_digit text ≡ false → digit_count text ≡ 0
 digit_count-none [] h = refl
 digit_count-none (b ∷ bs) h = digit_count-no b bs h
 
 pub digit_count-zero : (text : List ℕ) → digit_count text ≡ 0 → begins is_digit text ≡ false
 digit_count-zero [] h = refl
-digit_count-zero (b ∷ bs) h = by_test (is_digit b) refl
-  where
-    by_test : (t : Bool) → is_digit b ≡ t → is_digit b ≡ false
-    by_test true k = let e = digit_count-yes b bs k in absurd (omega arith)
-    by_test false k = k
+digit_count-zero (b ∷ bs) h = false_from_ne_true (is_digit b) (λ k. let e = digit_count-yes b bs k in omega arith)
 
 pub digit_count-some : (text : List ℕ) → digit_count text ≢ 0 → begins is_digit text ≡ true
-digit_count-some text h = by_test (begins is_digit text) refl
-  where
-    by_test : (t : Bool) → begins is_digit text ≡ t → begins is_digit text ≡ true
-    by_test true k = k
-    by_test false k = absurd (h (digit_count-none text k))
+digit_count-some text h = true_from_ne_false (begins is_digit text) (λ k. h (digit_count-none text k))
 
 -- they are one `0` of its shape
 pub shape-digits : (text : List ℕ) → begins is_digit text ≡ true → shape text ≡ 48 ∷ shape (drop (digit_count text) text)
 shape-digits [] h = cc
-shape-digits (b ∷ bs) h = rw (digit_count-yes b bs h) (by_test (λ k. shape-digits bs k) (begins is_digit bs) refl)
-  where
-    by_test : (begins is_digit bs ≡ true → shape bs ≡ 48 ∷ shape (drop (digit_count bs) bs)) → (t : Bool) → begins is_digit bs ≡ t →
-        shape (b ∷ bs) ≡ 48 ∷ shape (drop (digit_count bs) bs)
-    by_test later true k = shape-more b bs h k ∙ later k
-    by_test later false k = rw (digit_count-none bs k) (shape-last b bs h k)
+shape-digits (b ∷ bs) h = rw (digit_count-yes b bs h) (elim (cases_Bool (begins is_digit bs)) [
+  | inl k ↦ shape-more b bs h k ∙ shape-digits bs k
+  | inr k ↦ rw (digit_count-none bs k) (shape-last b bs h k)
+])
 
 -- and the number before what is behind them
 amount_from-no : (unit b : ℕ) (bs : List ℕ) (n : ℕ) → (upper b == unit) ≡ false → is_digit b ≡ true →
@@ -96,14 +83,11 @@ amount_from-no unit b bs n h k = rw (h, k) refl
 pub amount_from-digits : (unit : ℕ) (text : List ℕ) (n : ℕ) → 57 < unit →
     amount_from unit text n ≡ amount_from unit (drop (digit_count text) text) (fold (λ n b. 10 * n + (b - 48)) n (take (digit_count text) text))
 amount_from-digits unit [] n low = refl
-amount_from-digits unit (b ∷ bs) n low = by_test (amount_from-digits unit bs (10 * n + (b - 48)) low) (is_digit b) refl
-  where
-    by_test : amount_from unit bs (10 * n + (b - 48))
-        ≡ amount_from unit (drop (digit_count bs) bs) (fold (λ n b. 10 * n + (b - 48)) (10 * n + (b - 48)) (take (digit_count bs) bs)) → (t : Bool) →
-        is_digit b ≡ t → amount_from unit (b ∷ bs) n
-        ≡ amount_from unit (drop (digit_count (b ∷ bs)) (b ∷ bs)) (fold (λ n b. 10 * n + (b - 48)) n (take (digit_count (b ∷ bs)) (b ∷ bs)))
-    by_test later true h = rw (digit_count-yes b bs h) (amount_from-no unit b bs n (upper-unit b unit h low) h ∙ later)
-    by_test later false h = rw (digit_count-no b bs h) refl
+amount_from-digits unit (b ∷ bs) n low = elim (cases_Bool (is_digit b)) [
+  | inl h ↦ rw (digit_count-yes b bs h)
+      (amount_from-no unit b bs n (upper-unit b unit h low) h ∙ amount_from-digits unit bs (10 * n + (b - 48)) low)
+  | inr h ↦ rw (digit_count-no b bs h) refl
+]
 
 -- the fronts that a shape has not
 pub lacks-zero : (unit : ℕ) (text : List ℕ) → begins is_digit text ≡ false → begins_with (48 ∷ unit ∷ []) (shape text) ≡ false
@@ -111,30 +95,22 @@ lacks-zero unit [] h = refl
 lacks-zero unit (b ∷ bs) h = rw (shape-no b bs h) (rw (upper-not_zero b h) refl)
 
 pub lacks-letter : (letter b : ℕ) (bs : List ℕ) → 57 < letter → (upper b == letter) ≡ false → begins_with (letter ∷ []) (shape (b ∷ bs)) ≡ false
-lacks-letter letter b bs low other = by_test (is_digit b) refl
-  where
-    by_test : (t : Bool) → is_digit b ≡ t → begins_with (letter ∷ []) (shape (b ∷ bs)) ≡ false
-    by_test true h = rw (shape-digits (b ∷ bs) h) (let e : (48 == letter) ≡ false = grind (arith, nat_tests) in rw e refl)
-    by_test false h = rw (shape-no b bs h) (rw other refl)
-
-pub neq-false : (a b : ℕ) → b ≢ a → (a == b) ≡ false
-neq-false a b h = grind (arith, nat_tests)
-
-eqb-same : (n : ℕ) → (n == n) ≡ true
-eqb-same n = grind (arith, nat_tests)
+lacks-letter letter b bs low other = elim (cases_Bool (is_digit b)) [
+  | inl h ↦ rw (shape-digits (b ∷ bs) h, ne_eqb 48 letter (omega arith)) refl
+  | inr h ↦ rw (shape-no b bs h, other) refl
+]
 
 bytes_eq-front : (front s x : List ℕ) → bytes_eq (front ++ s) (front ++ x) ≡ bytes_eq s x
 bytes_eq-front [] s x = refl
-bytes_eq-front (f ∷ fs) s x = rw (eqb-same f) (bytes_eq-front fs s x)
+bytes_eq-front (f ∷ fs) s x = rw (eq-eqb f f refl) (bytes_eq-front fs s x)
 
 bytes_eq-other : (front s x : List ℕ) → begins_with front s ≡ false → bytes_eq s (front ++ x) ≡ false
 bytes_eq-other [] s x h = cc
 bytes_eq-other (f ∷ fs) [] x h = refl
-bytes_eq-other (f ∷ fs) (b ∷ bs) x h = by_test (λ k. bytes_eq-other fs bs x k) (b == f) h
-  where
-    by_test : (begins_with fs bs ≡ false → bytes_eq bs (fs ++ x) ≡ false) → (t : Bool) → (t && begins_with fs bs) ≡ false → (t && bytes_eq bs (fs ++ x)) ≡ false
-    by_test later true h = later h
-    by_test later false h = refl
+bytes_eq-other (f ∷ fs) (b ∷ bs) x h = elim (and_cases (b == f) (begins_with fs bs) h) [
+  | inl e ↦ and_left (b == f) (bytes_eq bs (fs ++ x)) e
+  | inr e ↦ and_right (b == f) (bytes_eq bs (fs ++ x)) (bytes_eq-other fs bs x e)
+]
 
 -- what is asked behind a front that is there, and a front that is not
 pub any-behind : (front s : List ℕ) (shapes : List (List ℕ)) → list_any (bytes_eq (front ++ s)) (behind front shapes) ≡ list_any (bytes_eq s) shapes
@@ -152,11 +128,10 @@ has_shape-behind front text rest shapes h = rw h (any-behind front (shape rest) 
 -- only the empty text has the empty shape
 pub shape-some : (text : List ℕ) → (length text == 0) ≡ false → bytes_eq (shape text) [] ≡ false
 shape-some [] h = cc
-shape-some (b ∷ bs) h = by_test (is_digit b) refl
-  where
-    by_test : (t : Bool) → is_digit b ≡ t → bytes_eq (shape (b ∷ bs)) [] ≡ false
-    by_test true h = rw (shape-digits (b ∷ bs) h) refl
-    by_test false h = rw (shape-no b bs h) refl
+shape-some (b ∷ bs) h = elim (cases_Bool (is_digit b)) [
+  | inl d ↦ rw (shape-digits (b ∷ bs) d) refl
+  | inr o ↦ rw (shape-no b bs o) refl
+]
 
 -- what is behind a number and its unit has none of the shapes
 pub no_shape-behind : {unit n : ℕ} {text rest : List ℕ} (shapes : List (List ℕ)) → IsAmount unit text n rest → (length rest == 0) ≡ false →

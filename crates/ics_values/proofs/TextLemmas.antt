@@ -1,26 +1,21 @@
 -- What the parts of a TEXT value stand for, and its escapes.
-use Rattle.std.proofs.Common.{◌≡◌, ℕ, zero, suc, ◌+◌, ◌<◌, ◌≤◌, Bool, true, false, ◌==◌, ◌&&◌, ◌||◌, List, [], ◌∷◌, ◌++◌, length, take, drop, get_or, refl}
+use Rattle.std.proofs.Common.{◌≡◌, ℕ, zero, suc, ◌+◌, ◌<◌, ◌≤◌, Bool, true, false, ◌==◌, List, [], ◌∷◌, ◌++◌, length, take, drop, get_or, refl}
 use Rattle.std.proofs.Common.{sym, ap, ◌∙◌, arith, inl, inr, add-one, drop-cons, length-drop}
 use Rattle.std.specs.Prelude.{if◌then◌else◌, codes}
-use Rattle.std.proofs.lemmas.Bool.{eqb-true, false_from_ne_true}
-use Rattle.std.proofs.lemmas.Bool.Decides.{eqb_tells}
+use Rattle.std.proofs.lemmas.Bool.{eqb-true, and_right, false_from_ne_true}
+use Rattle.std.proofs.lemmas.Bool.Decides.{eqb_tells, nat_tests}
 use Rattle.std.proofs.lemmas.List.{take-append-drop}
 use Rattle.ics_values.specs.Plain.{stands_for_itself, stands_for_lf, plain_text, text_of, escaped}
 
-never : (t : Bool) → (t && false) ≡ false
-never true = refl
-never false = refl
-
 -- a backslash and the byte behind it stand for the same whatever follows
 pub text_of-escape : (b : ℕ) (bs : List ℕ) → text_of (92 ∷ b ∷ bs) ≡ text_of (92 ∷ b ∷ []) ++ text_of bs
-text_of-escape b bs = rw (never (b == 92)) (by_tests (stands_for_itself b) (stands_for_lf b) (text_of bs))
+text_of-escape b bs = rw (and_right (b == 92) false refl) (by_tests (stands_for_itself b) (stands_for_lf b) (text_of bs))
   where
     by_tests : (itself lf : Bool) (later : List ℕ) →
         ◌≡◌ {A = List ℕ} (if itself then b ∷ later else if lf then 10 ∷ later else 92 ∷ b ∷ later)
         ((if itself then b ∷ [] else if lf then 10 ∷ [] else 92 ∷ b ∷ []) ++ later)
-    by_tests true lf later = refl
     by_tests false true later = refl
-    by_tests false false later = refl
+    by_tests _ _ later = refl
 
 -- bytes before the first backslash stand for themselves
 pub text_of-run : (bs : List ℕ) (n : ℕ) → ((k : ℕ) → 0 ≤ k → k < n → (get_or bs k 0 == 92) ≡ true → ⊥) → text_of bs ≡ take n bs ++ text_of (drop n bs)
@@ -54,14 +49,7 @@ text_of-parts bs n {b} {behind} within here rest none =
     text_of-run bs n none ∙ ap (λ t. take n bs ++ text_of t) pair ∙ ap (λ t. take n bs ++ t) (text_of-escape b behind)
 
 plain : (b : ℕ) → stands_for_itself b ≡ false → (b == 92) ≡ false
-plain b h = by_tests (b == 92) (b == 59) (b == 44) h
-  where
-    by_tests : (x y z : Bool) → (x || y || z) ≡ false → x ≡ false
-    by_tests true true true h = h
-    by_tests true true false h = h
-    by_tests true false true h = h
-    by_tests true false false h = h
-    by_tests false y z h = refl
+plain b h = grind (arith, nat_tests)
 
 -- a text comes back from its escapes
 pub plain_text-escaped : (text : List ℕ) → plain_text (escaped text) false ≡ text
@@ -70,7 +58,7 @@ plain_text-escaped (b ∷ bs) = by_tests (plain_text-escaped bs) (stands_for_its
   where
     by_tests : plain_text (escaped bs) false ≡ bs → (itself lf : Bool) → stands_for_itself b ≡ itself → (b == 10) ≡ lf →
         plain_text (escaped (b ∷ bs)) false ≡ b ∷ bs
-    by_tests later true lf h k = rw (h, never (b == 92), h) (ap (λ t. b ∷ t) later)
+    by_tests later true lf h k = rw (h, and_right (b == 92) false refl, h) (ap (λ t. b ∷ t) later)
     by_tests later false true h k = rw (h, k) (let e : b ≡ 10 = eqb-true b 10 k in rw e (ap (λ t. 10 ∷ t) later))
     by_tests later false false h k = rw (h, k) (rw (plain b h) (ap (λ t. b ∷ t) later))
 

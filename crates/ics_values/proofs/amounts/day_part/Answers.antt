@@ -1,16 +1,13 @@
-use Rattle.std.proofs.Common.{◌≡◌, ◌==◌, false, length, rules, subst, sym, arith}
+use Rattle.std.proofs.Common.{◌≡◌, ◌==◌, false, length, rules, arith}
 use Rattle.std.proofs.lemmas.Grind.{common_steps}
-use Rattle.ics_values.specs.Durations.{time_shapes, day_shapes}
-use Rattle.ics_values.specs.Amounts.{Reads}
+use Rattle.ics_values.specs.Durations.{time_shapes}
 use Rattle.ics_values.proofs.ShapeLemmas.{no_shape-behind}
 use Rattle.ics_values.proofs.amounts.day_part.Goals as goal
 
 pub returns-in_err-amounts : goal.returns-in_err-amounts
 returns-in_err-amounts c =
-    let rest = c.in_ok-days.days.rest.now in
-    let some : (length rest == 0) ≡ false = search rules in
-    subst (Reads day_shapes c.args.text.now) (sym c.from_residual-in_err-amounts.ensures)
-    (no_shape-behind time_shapes c.in_ok-days.ensures some c.in_err-amounts.ensures)
+    let some : (length c.in_ok-days.days.rest.now == 0) ≡ false = search rules in
+    rw c.from_residual-in_err-amounts.ensures (no_shape-behind time_shapes c.in_ok-days.ensures some c.in_err-amounts.ensures)
 
 pub returns-then-is_empty : goal.returns-then-is_empty
 returns-then-is_empty c = grind (arith, common_steps)

@@ -1,4 +1,5 @@
-use Rattle.std.proofs.Common.{◌≡◌, ◌≤◌, ◌<◌, ◌+◌, ◌*◌, ℕ, Bool, true, false, List, [], ◌∷◌, Ok, Err, nat_le, refl, arith, sym, lit<, ◌∙◌}
+use Rattle.std.proofs.Common.{◌≡◌, ◌≤◌, ◌<◌, ◌+◌, ◌*◌, ℕ, true, false, List, [], ◌∷◌, Ok, Err, nat_le, refl, arith, sym, lit<, ◌∙◌, inl, inr}
+use Rattle.std.proofs.lemmas.Bool.{cases_Bool}
 use Rattle.std.proofs.lemmas.Bool.Decides.{nat_tests}
 use Rattle.ics_values.specs.declared.amounts.Amounts.{Amounts}
 use Rattle.ics_values.specs.Digits.{greatest_number}
@@ -21,14 +22,10 @@ are_small a h = grind (arith, nat_tests)
 -- the sign before a text is no unit and no digit
 amount-unsigned : (unit : ℕ) (text : List ℕ) → 57 < unit → amount unit text ≡ amount unit (unsigned text)
 amount-unsigned unit [] low = refl
-amount-unsigned unit (b ∷ bs) low = by_test (is_sign b) refl
+amount-unsigned unit (b ∷ bs) low = elim (cases_Bool (is_sign b)) [ inl h ↦ rw h (behind_sign h) | inr h ↦ rw h refl ]
   where
     behind_sign : is_sign b ≡ true → amount unit (b ∷ bs) ≡ amount unit bs
     behind_sign h = grind (arith, nat_tests)
-
-    by_test : (t : Bool) → is_sign b ≡ t → amount unit (b ∷ bs) ≡ amount unit (unsigned (b ∷ bs))
-    by_test true h = rw h (behind_sign h)
-    by_test false h = rw h refl
 
 -- a number fits where that of the text does
 fits : (unit : ℕ) (text : List ℕ) (n : ℕ) → 57 < unit → n ≡ capped (amount unit (unsigned text)) →
