@@ -1,7 +1,8 @@
--- Worked cases, which the definitions compute.
-use Rattle.std.proofs.Common.{◌≡◌, true, false, [], ◌∷◌, Some, None, Ok, Err, refl, pos, negsuc}
-use Rattle.std.specs.Prelude.{codes}
-use Rattle.ics_values.specs.Dates.{date_day, day_number}
+-- Worked cases, which the definitions compute. More of them are rows of khal_list_rows.
+use Rattle.std.proofs.Common.{◌≡◌, ℕ, Bool, true, false, [], ◌∷◌, Some, Result, Ok, Err, map, replicate, refl, pos, negsuc}
+use Rattle.std.specs.Prelude.{codes, is_some}
+use Rattle.std.specs.List.{list_any}
+use Rattle.ics_values.specs.Dates.{date_day}
 use Rattle.ics_fields.specs.Locals.{local_at}
 use Rattle.ics_values.specs.Stamps.{stamp_of}
 use Rattle.ics_values.specs.Durations.{duration_of, duration_shapes}
@@ -10,97 +11,37 @@ use Rattle.ics_values.specs.Periods.{period_of}
 use Rattle.ics_values.specs.Integers.{integer_of}
 use Rattle.ics_values.specs.declared.stamp.Stamp.TheVariants.{Date, Floating, Utc, Zoned}
 use Rattle.ics_values.specs.declared.stamp.StampFault.TheVariants.{BadStamp, YearRange}
+use Rattle.ics_values.specs.declared.duration.Duration.{Duration}
+use Rattle.ics_values.specs.declared.duration.DurationFault.{DurationFault}
 use Rattle.ics_values.specs.declared.duration.DurationFault.TheVariants.{BadDuration, NumberTooLarge}
-use Rattle.ics_values.specs.declared.period.PeriodEnd.TheVariants.{At, Lasting}
+use Rattle.ics_values.specs.declared.period.PeriodEnd.TheVariants.{At}
 use Rattle.ics_values.specs.declared.period.PeriodFault.TheVariants as period
 use Rattle.ics_values.specs.declared.integer.IntegerFault.TheVariants as integer
 
--- dates
-epoch : day_number 1970 1 1 ≡ pos 0
-epoch = refl
+-- dates about the epoch, at the ends of the years 0000 to 9999, and leap days
+dates : date_day 1970 1 1 ∷ date_day 1969 12 31 ∷ date_day 0 1 1 ∷ date_day 9999 12 31 ∷ date_day 2024 2 29 ∷ date_day 2000 2 29 ∷ []
+    ≡ Some (pos 0) ∷ Some (negsuc 0) ∷ Some (negsuc 719_527) ∷ Some (pos 2_932_896) ∷ Some (pos 19_782) ∷ Some (pos 11_016) ∷ []
+dates = refl
 
-before_epoch : day_number 1969 12 31 ≡ negsuc 0
-before_epoch = refl
+no_dates : list_any is_some (date_day 2023 2 29 ∷ date_day 1900 2 29 ∷ date_day 2024 4 31 ∷ date_day 2024 13 1 ∷ date_day 2024 1 0 ∷ []) ≡ false
+no_dates = refl
 
-january_fifth : date_day 2024 1 5 ≡ Some (pos 19_727)
-january_fifth = refl
-
-first_day : date_day 0 1 1 ≡ Some (negsuc 719_527)
-first_day = refl
-
-last_day : date_day 9999 12 31 ≡ Some (pos 2_932_896)
-last_day = refl
-
-leap_day : date_day 2024 2 29 ≡ Some (pos 19_782)
-leap_day = refl
-
-leap_century : date_day 2000 2 29 ≡ Some (pos 11_016)
-leap_century = refl
-
-common_year : date_day 2023 2 29 ≡ None
-common_year = refl
-
-common_century : date_day 1900 2 29 ≡ None
-common_century = refl
-
-april_thirty_first : date_day 2024 4 31 ≡ None
-april_thirty_first = refl
-
-no_month : date_day 2024 13 1 ≡ None
-no_month = refl
-
-no_day : date_day 2024 1 0 ≡ None
-no_day = refl
-
--- stamps
-date : stamp_of true (codes "20240105") ≡ Ok (Date (pos 19_727))
-date = refl
-
-utc : stamp_of true (codes "20240105t100000z") ≡ Ok (Utc (local_at (pos 19_727) 36_000))
-utc = refl
-
-floating : stamp_of false (codes "20240105T100060") ≡ Ok (Floating (local_at (pos 19_727) 36_059))
-floating = refl
-
-zoned : stamp_of true (codes "20071104T013000") ≡ Ok (Zoned (local_at (pos 13_821) 5_400))
+-- stamps, with a TZID and without
+zoned : map (λ text. stamp_of true text) (codes "20240105" ∷ codes "20240105t100000z" ∷ codes "20071104T013000" ∷ [])
+    ≡ Ok (Date (pos 19_727)) ∷ Ok (Utc (local_at (pos 19_727) 36_000)) ∷ Ok (Zoned (local_at (pos 13_821) 5_400)) ∷ []
 zoned = refl
 
-last_second : stamp_of false (codes "98991231T235960Z") ≡ Ok (Utc (local_at (pos 2_896_372) 86_399))
-last_second = refl
+unzoned : map (λ text. stamp_of false text) (codes "20240105T100060" ∷ codes "98991231T235960Z" ∷ codes "00010101" ∷ [])
+    ≡ Ok (Floating (local_at (pos 19_727) 36_059)) ∷ Ok (Utc (local_at (pos 2_896_372) 86_399)) ∷ Ok (Date (negsuc 719_161)) ∷ []
+unzoned = refl
 
-first_stamp : stamp_of false (codes "00010101") ≡ Ok (Date (negsuc 719_161))
-first_stamp = refl
+bad_stamps : map (λ text. stamp_of false text) (codes "20240105T100061" ∷ codes "20240105T106000" ∷ codes "00000230" ∷ codes "99000101T240000Z"
+    ∷ codes "20240105 100000" ∷ codes "20240105T100000ZZ" ∷ [] ∷ []) ≡ replicate 7 (Err BadStamp)
+bad_stamps = refl
 
-second_sixty_one : stamp_of false (codes "20240105T100061") ≡ Err BadStamp
-second_sixty_one = refl
-
-minute_sixty : stamp_of false (codes "20240105T106000") ≡ Err BadStamp
-minute_sixty = refl
-
-no_such_date : stamp_of false (codes "20230229") ≡ Err BadStamp
-no_such_date = refl
-
--- the year 0 is a leap year, so this date exists and only its year is out of range
-year_zero : stamp_of false (codes "00000229") ≡ Err YearRange
-year_zero = refl
-
-year_zero_no_date : stamp_of false (codes "00000230") ≡ Err BadStamp
-year_zero_no_date = refl
-
-late_year : stamp_of false (codes "99000101T000000Z") ≡ Err YearRange
-late_year = refl
-
-late_hour : stamp_of false (codes "99000101T240000Z") ≡ Err BadStamp
-late_hour = refl
-
-no_letter : stamp_of false (codes "20240105 100000") ≡ Err BadStamp
-no_letter = refl
-
-trailing : stamp_of false (codes "20240105T100000ZZ") ≡ Err BadStamp
-trailing = refl
-
-empty_stamp : stamp_of false [] ≡ Err BadStamp
-empty_stamp = refl
+-- the year 0 is a leap year, so its date exists and only its year is out of range
+far_years : map (λ text. stamp_of false text) (codes "00000229" ∷ codes "99000101T000000Z" ∷ []) ≡ replicate 2 (Err YearRange)
+far_years = refl
 
 -- durations
 shapes : duration_shapes
@@ -108,163 +49,50 @@ shapes : duration_shapes
     ∷ codes "PT0H" ∷ codes "PT0H0M" ∷ codes "PT0H0M0S" ∷ codes "PT0M" ∷ codes "PT0M0S" ∷ codes "PT0S" ∷ []
 shapes = refl
 
-one_week : duration_of (codes "P1W") ≡ Ok (record { negative = false; days = 7; seconds = 0 })
-one_week = refl
+abbrev lasting : Bool → ℕ → ℕ → Result Duration DurationFault
+lasting negative days seconds = Ok (record { negative = negative; days = days; seconds = seconds })
 
-weeks_minus : duration_of (codes "-p02w") ≡ Ok (record { negative = true; days = 14; seconds = 0 })
-weeks_minus = refl
+durations : map (λ text. duration_of text) (codes "P1W" ∷ codes "-p02w" ∷ codes "P1DT2H" ∷ codes "+P15dT5h0m20s" ∷ codes "+P0D" ∷ codes "-P0D"
+    ∷ codes "PT0030M0090S" ∷ codes "PT4294967295S" ∷ codes "P000000000000000000000000000001D" ∷ [])
+    ≡ lasting false 7 0 ∷ lasting true 14 0 ∷ lasting false 1 7_200 ∷ lasting false 15 18_020 ∷ lasting false 0 0 ∷ lasting true 0 0
+    ∷ lasting false 0 1_890 ∷ lasting false 0 4_294_967_295 ∷ lasting false 1 0 ∷ []
+durations = refl
 
-day_and_time : duration_of (codes "P1DT2H") ≡ Ok (record { negative = false; days = 1; seconds = 7_200 })
-day_and_time = refl
-
-all_units : duration_of (codes "+P15dT5h0m20s") ≡ Ok (record { negative = false; days = 15; seconds = 18_020 })
-all_units = refl
-
-zero : duration_of (codes "+P0D") ≡ Ok (record { negative = false; days = 0; seconds = 0 })
-zero = refl
-
-zero_minus : duration_of (codes "-P0D") ≡ Ok (record { negative = true; days = 0; seconds = 0 })
-zero_minus = refl
-
-minutes_and_seconds : duration_of (codes "PT0030M0090S") ≡ Ok (record { negative = false; days = 0; seconds = 1_890 })
-minutes_and_seconds = refl
-
-missing_middle : duration_of (codes "PT1H30S") ≡ Err BadDuration
-missing_middle = refl
-
-out_of_order : duration_of (codes "PT1M1H") ≡ Err BadDuration
-out_of_order = refl
-
-nothing : duration_of (codes "P") ≡ Err BadDuration
-nothing = refl
-
-no_time : duration_of (codes "PT") ≡ Err BadDuration
-no_time = refl
-
-no_time_of_day : duration_of (codes "P1DT") ≡ Err BadDuration
-no_time_of_day = refl
-
-week_and_day : duration_of (codes "P1W1D") ≡ Err BadDuration
-week_and_day = refl
-
-no_digits : duration_of (codes "PTH") ≡ Err BadDuration
-no_digits = refl
-
-two_signs : duration_of (codes "+-P1D") ≡ Err BadDuration
-two_signs = refl
-
-empty_duration : duration_of [] ≡ Err BadDuration
-empty_duration = refl
+-- a number is too large only where the rest is in order
+bad_durations : map (λ text. duration_of text) (codes "PT1M1H" ∷ codes "P" ∷ codes "PT" ∷ codes "P1DT" ∷ codes "P1W1D" ∷ codes "PTH" ∷ codes "+-P1D" ∷ []
+    ∷ codes "PT4294967296" ∷ []) ≡ replicate 9 (Err BadDuration)
+bad_durations = refl
 
 too_many : duration_of (codes "-PT4294967296S") ≡ Err NumberTooLarge
 too_many = refl
 
-just_fits : duration_of (codes "PT4294967295S") ≡ Ok (record { negative = false; days = 0; seconds = 4_294_967_295 })
-just_fits = refl
-
-leading_zeros : duration_of (codes "P000000000000000000000000000001D") ≡ Ok (record { negative = false; days = 1; seconds = 0 })
-leading_zeros = refl
-
-too_many_out_of_order : duration_of (codes "PT4294967296") ≡ Err BadDuration
-too_many_out_of_order = refl
-
 -- offsets
-new_york : offset_of (codes "-0500") ≡ Ok (negsuc 17_999)
-new_york = refl
+offsets : map (λ text. offset_of text) (codes "-0000" ∷ codes "+235959" ∷ codes "-235959" ∷ []) ≡ Ok (pos 0) ∷ Ok (pos 86_399) ∷ Ok (negsuc 86_398) ∷ []
+offsets = refl
 
-minus_zero : offset_of (codes "-0000") ≡ Ok (pos 0)
-minus_zero = refl
+bad_offsets : map (λ text. offset_of text) (codes "+000060" ∷ codes "+0060" ∷ codes "0500" ∷ codes "+05000" ∷ []) ≡ replicate 4 (Err (record {}))
+bad_offsets = refl
 
-with_seconds : offset_of (codes "+235959") ≡ Ok (pos 86_399)
-with_seconds = refl
-
-most_west : offset_of (codes "-235959") ≡ Ok (negsuc 86_398)
-most_west = refl
-
-sixty_seconds : offset_of (codes "+000060") ≡ Err (record {})
-sixty_seconds = refl
-
-sixty_minutes : offset_of (codes "+0060") ≡ Err (record {})
-sixty_minutes = refl
-
-hour_twenty_four : offset_of (codes "+2400") ≡ Err (record {})
-hour_twenty_four = refl
-
-no_sign : offset_of (codes "0500") ≡ Err (record {})
-no_sign = refl
-
-five_digits : offset_of (codes "+05000") ≡ Err (record {})
-five_digits = refl
-
--- periods
-lasting : period_of false (codes "20240105T120000Z/PT1H")
-    ≡ Ok (record { start = Utc (local_at (pos 19_727) 43_200); end = Lasting (record { negative = false; days = 0; seconds = 3_600 }) })
-lasting = refl
-
+-- periods: a fault of form goes before the range of a year, and that before a large number
 until : period_of true (codes "20240105T120000/20240104T120000")
     ≡ Ok (record { start = Zoned (local_at (pos 19_727) 43_200); end = At (Zoned (local_at (pos 19_726) 43_200)) })
 until = refl
 
-date_first : period_of false (codes "20240105/PT1H") ≡ Err period.BadStamp
-date_first = refl
+bad_halves : map (λ text. period_of false text) (codes "20240105/PT1H" ∷ codes "20240105T120000Z/20240106" ∷ codes "20240105T120000Z" ∷ codes "2024/P"
+    ∷ codes "99990105T120000Z/20240230T000000" ∷ codes "99990105/PT1H" ∷ []) ≡ replicate 6 (Err period.BadStamp)
+bad_halves = refl
 
-date_second : period_of false (codes "20240105T120000Z/20240106") ≡ Err period.BadStamp
-date_second = refl
+bad_lengths : map (λ text. period_of false text) (codes "20240105T120000Z/P" ∷ codes "20240105T120000Z/PT1H/" ∷ codes "99990105T120000Z/P" ∷ [])
+    ≡ replicate 3 (Err period.BadDuration)
+bad_lengths = refl
 
-bad_second : period_of false (codes "20240105T120000Z/P") ≡ Err period.BadDuration
-bad_second = refl
-
-trailing_slash : period_of false (codes "20240105T120000Z/") ≡ Err period.BadStamp
-trailing_slash = refl
-
-second_slash : period_of false (codes "20240105T120000Z/PT1H/") ≡ Err period.BadDuration
-second_slash = refl
-
-missing_second : period_of false (codes "20240105T120000Z") ≡ Err period.BadStamp
-missing_second = refl
-
-both_bad : period_of false (codes "2024/P") ≡ Err period.BadStamp
-both_bad = refl
-
-year_first : period_of false (codes "99990105T120000Z/P4294967296D") ≡ Err period.YearRange
-year_first = refl
-
-order_first : period_of false (codes "99990105T120000Z/P") ≡ Err period.BadDuration
-order_first = refl
-
-year_then_bad : period_of false (codes "99990105T120000Z/20240230T000000") ≡ Err period.BadStamp
-year_then_bad = refl
-
-date_out_of_range : period_of false (codes "99990105/PT1H") ≡ Err period.BadStamp
-date_out_of_range = refl
-
-number_only : period_of false (codes "20240105T120000Z/-P4294967296D") ≡ Err period.NumberTooLarge
-number_only = refl
+far_periods : map (λ text. period_of false text) (codes "99990105T120000Z/P4294967296D" ∷ codes "20240105T120000Z/-P4294967296D" ∷ [])
+    ≡ Err period.YearRange ∷ Err period.NumberTooLarge ∷ []
+far_periods = refl
 
 -- numbers
-plus : integer_of (codes "+007") ≡ Ok 7
-plus = refl
+integers : map (λ text. integer_of text) (codes "+4294967295" ∷ codes "00000000000000000000000000000001" ∷ []) ≡ Ok 4_294_967_295 ∷ Ok 1 ∷ []
+integers = refl
 
-plus_alone : integer_of (codes "+") ≡ Err integer.NotDigits
-plus_alone = refl
-
-minus : integer_of (codes "-1") ≡ Err integer.NotDigits
-minus = refl
-
-no_number : integer_of [] ≡ Err integer.NotDigits
-no_number = refl
-
-two_plus : integer_of (codes "++1") ≡ Err integer.NotDigits
-two_plus = refl
-
-greatest : integer_of (codes "+4294967295") ≡ Ok 4_294_967_295
-greatest = refl
-
-large : integer_of (codes "4294967296") ≡ Err integer.NumberTooLarge
-large = refl
-
-zeros : integer_of (codes "00000000000000000000000000000001") ≡ Ok 1
-zeros = refl
-
-large_out_of_order : integer_of (codes "4294967296x") ≡ Err integer.NotDigits
-large_out_of_order = refl
+bad_integers : map (λ text. integer_of text) (codes "+" ∷ [] ∷ codes "++1" ∷ codes "4294967296x" ∷ []) ≡ replicate 4 (Err integer.NotDigits)
+bad_integers = refl
