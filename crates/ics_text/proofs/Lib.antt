@@ -8,5 +8,4 @@ pub mod Rising
 pub mod BytesLemmas
 pub mod Parameters
 pub mod OneReading
-pub mod Standing
 pub mod Foldings

@@ -1,4 +1,4 @@
-use Rattle.ics_text.proofs.Standing.{unfolded-stand}
+use Rattle.ics_text.proofs.Rising.{unfolded-stand}
 use Rattle.ics_text.proofs.lines.Lines.new.Goals as goal
 
 pub returns-clause-places : goal.returns-clause-places
