@@ -10,7 +10,6 @@ use Rattle.ics_text.specs.ContentLines.{pieces, turned, Value, Param, value_text
 use Rattle.ics_text.specs.ContentLines.{after_name, first_of_text, value_among, param_of}
 use Rattle.ics_text.specs.Pieces.{cut_from, pieces_by}
 use Rattle.std.specs.List.{flat_map, AllByRecursion, list_all, take_while, prefix_len}
-use Rattle.std.proofs.lemmas.List.{append-nil}
 use Rattle.std.proofs.Math.Seq.{take-append_seam, drop-append_seam}
 use Rattle.ics_text.proofs.BytesLemmas.{quoted-no_quote, plain-no_sign, name-no_quote, name-no_semicolon}
 use Rattle.ics_text.proofs.Parting.{prefix_len-front}
@@ -39,20 +38,16 @@ cut-pieces sep quoted (b ∷ bs) ne = one quoted (b == sep) (no_quote sep b ne) 
 
 -- a text in front of the first piece
 abbrev in_front : List ℕ → List (List ℕ) → List (List ℕ)
-in_front text [] = text ∷ []
-in_front text (piece ∷ more) = (text ++ piece) ∷ more
-
-in_front-one : (b : ℕ) (ps : List (List ℕ)) → onto_first b ps ≡ in_front (b ∷ []) ps
-in_front-one b [] = refl
-in_front-one b (piece ∷ more) = refl
-
-in_front-onto : (b : ℕ) (bs : List ℕ) (ps : List (List ℕ)) → onto_first b (in_front bs ps) ≡ in_front (b ∷ bs) ps
-in_front-onto b bs [] = refl
-in_front-onto b bs (piece ∷ more) = refl
+in_front [] ps = ps
+in_front (b ∷ bs) ps = onto_first b (in_front bs ps)
 
 in_front-twice : (a b : List ℕ) (ps : List (List ℕ)) → in_front a (in_front b ps) ≡ in_front (a ++ b) ps
-in_front-twice a b [] = refl
-in_front-twice a b (piece ∷ more) = ap (λ t. t ∷ more) (sym (append_assoc a b piece))
+in_front-twice [] b ps = refl
+in_front-twice (x ∷ a) b ps = ap (onto_first x) (in_front-twice a b ps)
+
+in_front-empty : (text : List ℕ) (ps : List (List ℕ)) → in_front text ([] ∷ ps) ≡ text ∷ ps
+in_front-empty [] ps = refl
+in_front-empty (b ∷ bs) ps = ap (onto_first b) (in_front-empty bs ps)
 
 -- no piece ends in the text, and what follows it stands outside quotes
 record Passes (sep : ℕ) (text : List ℕ) : Type 0 where
@@ -64,26 +59,10 @@ passes-both sep a b p q = record {
 }
 
 passes-one : (sep b : ℕ) → (b == 34) ≡ false → (b == sep) ≡ false → Passes sep (b ∷ [])
-passes-one sep b q s = record { on = λ rest. rw (q, s) (in_front-one b (pieces sep false rest)) }
-
-in_front-none : (ps : List (List ℕ)) → ps ≢ [] → in_front [] ps ≡ ps
-in_front-none [] some = absurd (some refl)
-in_front-none (piece ∷ more) some = refl
-
-some_piece : (sep : ℕ) (text : List ℕ) → pieces sep false text ≢ []
-some_piece sep [] h = cc
-some_piece sep (b ∷ bs) h = by_test (b == sep && true) (pieces sep (turned false b) bs) h
-  where
-    onto : (lines : List (List ℕ)) → onto_first b lines ≢ []
-    onto [] h = cc
-    onto (line ∷ lines) h = cc
-
-    by_test : (t : Bool) (later : List (List ℕ)) → cond t ([] ∷ later) (onto_first b later) ≢ []
-    by_test true later h = cc
-    by_test false later h = onto later h
+passes-one sep b q s = record { on = λ rest. rw (q, s) refl }
 
 passes-none : (sep : ℕ) → Passes sep []
-passes-none sep = record { on = λ rest. sym (in_front-none (pieces sep false rest) (some_piece sep rest)) }
+passes-none sep = record { on = λ rest. refl }
 
 -- a run of bytes that are no quote and not the separator
 passes-run : (sep : ℕ) (ok : ℕ → Bool) (no_quote : (b : ℕ) → ok b ≡ true → (b == 34) ≡ false) (no_sep : (b : ℕ) → ok b ≡ true → (b == sep) ≡ false)
@@ -96,11 +75,11 @@ passes-run sep ok no_quote no_sep (b ∷ bs) h =
 -- between quotes nothing parts, and the second quote ends that
 in_quotes : (sep : ℕ) (bs rest : List ℕ) → list_all is_quoted_byte bs ≡ true →
     pieces sep true (bs ++ 34 ∷ rest) ≡ in_front (bs ++ 34 ∷ []) (pieces sep false rest)
-in_quotes sep [] rest h = rw (and_right (34 == sep) false refl) (in_front-one 34 (pieces sep false rest))
+in_quotes sep [] rest h = rw (and_right (34 == sep) false refl) refl
 in_quotes sep (b ∷ bs) rest h =
     let parts = and_parts (is_quoted_byte b) (list_all is_quoted_byte bs) h in
     rw (quoted-no_quote b parts.0, and_right (b == sep) false refl)
-    (ap (onto_first b) (in_quotes sep bs rest parts.1) ∙ in_front-onto b (bs ++ 34 ∷ []) (pieces sep false rest))
+    (ap (onto_first b) (in_quotes sep bs rest parts.1))
 
 -- what a separator is: no quote, and no byte of a value without quotes
 record Parts (sep : ℕ) : Type 0 where
@@ -119,7 +98,7 @@ passes-value sep p false bytes ok = passes-run sep is_plain_byte (λ b h. (plain
 passes-value sep p true bytes ok = record {
   on = λ rest.
       rw (append_assoc bytes (34 ∷ []) rest, p.no_quote)
-      (ap (onto_first 34) (in_quotes sep bytes rest ok) ∙ in_front-onto 34 (bytes ++ 34 ∷ []) (pieces sep false rest));
+      (ap (onto_first 34) (in_quotes sep bytes rest ok));
 }
 
 -- the values behind the first, each with its comma
@@ -150,16 +129,16 @@ pub pieces-params : (ps : List Param) → AllByRecursion IsParam ps → pieces 5
 pieces-params [] ok = refl
 pieces-params (p ∷ ps) ok =
     ap (λ (t : List (List ℕ)). [] ∷ t) ((passes-text p ok.0).on (params_text ps) ∙ ap (in_front (text_of p)) (pieces-params ps ok.1)
-    ∙ ap (λ t. t ∷ map text_of ps) (append-nil (text_of p)))
+    ∙ in_front-empty (text_of p) (map text_of ps))
 
 -- the pieces of the values are the values
 pub pieces-values : (v : Value) (vs : List Value) → IsValue v → AllByRecursion IsValue vs →
     pieces 44 false (value_text v ++ others_text vs) ≡ value_text v ∷ map value_text vs
-pieces-values v [] ok more = (passes-value 44 comma-parts v.quoted v.bytes ok).on [] ∙ ap (λ (t : List ℕ). t ∷ []) (append-nil (value_text v))
+pieces-values v [] ok more = (passes-value 44 comma-parts v.quoted v.bytes ok).on [] ∙ in_front-empty (value_text v) []
 pieces-values v (w ∷ ws) ok more =
     (passes-value 44 comma-parts v.quoted v.bytes ok).on (others_text (w ∷ ws))
     ∙ ap (λ (ts : List (List ℕ)). in_front (value_text v) ([] ∷ ts)) (pieces-values w ws more.0 more.1)
-    ∙ ap (λ (t : List ℕ). t ∷ map value_text (w ∷ ws)) (append-nil (value_text v))
+    ∙ in_front-empty (value_text v) (map value_text (w ∷ ws))
 
 pub without_quotes-value : (quoted : Bool) (bytes : List ℕ) → IsValue (record { quoted = quoted; bytes = bytes }) →
     without_quotes (value_text (record { quoted = quoted; bytes = bytes })) ≡ bytes
