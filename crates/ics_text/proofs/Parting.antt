@@ -1,13 +1,13 @@
 -- The walk to the colon of a content line, its parts as slices, and that they are what its grammar relates.
-use Rattle.std.proofs.Common.{◌≡◌, ℕ, suc, ◌+◌, ◌<◌, Bool, true, false, List, [], ◌∷◌, drop, refl, ap, ◌∙◌, arith, cond, Option, Some, None, one-add, ◌-◌, ◌≤◌}
-use Rattle.std.proofs.Common.{◌++◌, length, take, sym, append_assoc, subst, length-append}
+use Rattle.std.proofs.Common.{◌≡◌, ℕ, suc, ◌+◌, ◌<◌, Bool, true, false, List, [], ◌∷◌, drop, refl, ap, ◌∙◌, arith, Option, Some, None, one-add, ◌-◌, ◌≤◌}
+use Rattle.std.proofs.Common.{◌++◌, length, take, sym, append_assoc, subst, length-append, inl, inr}
 use Rattle.std.specs.Prelude.{option_map, ◌↔◌}
 use Rattle.std.specs.List.{prefix_len, list_all}
 use Rattle.ics_text.specs.Bytes.{is_name_byte}
 use Rattle.ics_text.specs.ScanSteps.{colon_from}
 use Rattle.ics_text.specs.declared.scan_state.ScanState.{ScanState}
 use Rattle.ics_text.specs.declared.scan_state.ScanState.TheVariants.{Start, InName}
-use Rattle.std.proofs.lemmas.Bool.{and_parts}
+use Rattle.std.proofs.lemmas.Bool.{and_parts, cases_Bool}
 use Rattle.std.proofs.lemmas.List.{take_rest, drop-drop}
 use Rattle.std.proofs.Math.Seq.{take-append_seam, drop-append_seam}
 use Rattle.ics_text.specs.ContentLines.{Param, params_text, IsContent, Parts, cut_at, content_of}
@@ -28,13 +28,13 @@ unmoved (Some n) = let e : n ≡ n + 0 = omega arith in ap Some e
 -- a walk within a name comes to its end
 to_end : (bs : List ℕ) → walked bs InName (prefix_len is_name_byte bs) InName
 to_end [] = refl
-to_end (b ∷ bs) = by_test (is_name_byte b) refl (to_end bs)
-  where
-    by_test : (t : Bool) → is_name_byte b ≡ t → walked bs InName (prefix_len is_name_byte bs) InName →
-        walked (b ∷ bs) InName (cond t (1 + prefix_len is_name_byte bs) 0) InName
-    by_test true e w = rw (e, w, one-add (prefix_len is_name_byte bs))
-        (moved_first (prefix_len is_name_byte bs) (colon_from (drop (prefix_len is_name_byte bs) bs) InName))
-    by_test false e w = unmoved (colon_from (b ∷ bs) InName)
+to_end (b ∷ bs) = elim (cases_Bool (is_name_byte b)) [
+  | inl e ↦ rw (e, to_end bs, one-add (prefix_len is_name_byte bs))
+      (moved_first (prefix_len is_name_byte bs) (colon_from (drop (prefix_len is_name_byte bs) bs) InName))
+  | inr e ↦
+      let none : 0 ≡ prefix_len is_name_byte (b ∷ bs) = rw e refl in
+      subst (λ n. walked (b ∷ bs) InName n InName) none (unmoved (colon_from (b ∷ bs) InName))
+]
 
 -- a first byte of a name is walked over as a later one
 at_start : (b : ℕ) (bs : List ℕ) → is_name_byte b ≡ true → colon_from (b ∷ bs) Start ≡ colon_from (b ∷ bs) InName
@@ -43,19 +43,17 @@ at_start b bs h = rw h refl
 -- behind a name the walk is within it
 pub over_name : (line : List ℕ) → 0 < prefix_len is_name_byte line → walked line Start (prefix_len is_name_byte line) InName
 over_name [] some = absurd (omega arith)
-over_name (b ∷ bs) some = by_test (is_name_byte b) refl some
-  where
-    by_test : (t : Bool) → is_name_byte b ≡ t → 0 < cond t (1 + prefix_len is_name_byte bs) 0 → walked (b ∷ bs) Start (prefix_len is_name_byte (b ∷ bs)) InName
-    by_test true e l = at_start b bs e ∙ to_end (b ∷ bs)
-    by_test false e l = absurd (omega arith)
+over_name (b ∷ bs) some = elim (cases_Bool (is_name_byte b)) [
+  | inl e ↦ at_start b bs e ∙ to_end (b ∷ bs)
+  | inr e ↦ absurd (let none = rw e at some in omega (arith, none))
+]
 
 pub no_name : (line : List ℕ) → prefix_len is_name_byte line ≡ 0 → colon_from line Start ≡ None
 no_name [] none = refl
-no_name (b ∷ bs) none = by_test (is_name_byte b) refl none
-  where
-    by_test : (t : Bool) → is_name_byte b ≡ t → cond t (1 + prefix_len is_name_byte bs) 0 ≡ 0 → colon_from (b ∷ bs) Start ≡ None
-    by_test true e z = absurd (omega arith)
-    by_test false e z = rw e refl
+no_name (b ∷ bs) none = elim (cases_Bool (is_name_byte b)) [
+  | inl e ↦ absurd (let some = rw e at none in omega (arith, some))
+  | inr e ↦ rw e refl
+]
 
 pub prefix_len-front : (p : ℕ → Bool) (xs : List ℕ) (y : ℕ) (ys : List ℕ) → list_all p xs ≡ true → p y ≡ false → prefix_len p (xs ++ y ∷ ys) ≡ length xs
 prefix_len-front p [] y ys h n = rw n refl
@@ -173,10 +171,7 @@ related : (line : List ℕ) (parts : Parts) (k : Option ℕ) → k ≡ colon_fro
     IsContent line parts.name parts.params parts.value → option_map (cut_at line) k ≡ Some parts
 related line parts None e h = absurd (refuses line e parts.name parts.params parts.value h)
 related line parts (Some k) e h = let same = same_parts k (sym e) h in
-    let p = cut_at line k in
-    ap (λ (name : List ℕ). Some (record { name = name; params = p.params; value = p.value })) (sym same.0)
-    ∙ ap (λ (params : List ℕ). Some (record { name = parts.name; params = params; value = p.value })) (sym same.1)
-    ∙ ap (λ (value : List ℕ). Some (record { name = parts.name; params = parts.params; value = value })) (sym same.2)
+    rw (← same.0, ← same.1, ← same.2) refl
 
 pub content-grammar : (line : List ℕ) (parts : Parts) → content_of line ≡ Some parts ↔ IsContent line parts.name parts.params parts.value
 content-grammar line parts = (computed line parts (colon_from line Start) refl, related line parts (colon_from line Start) refl)

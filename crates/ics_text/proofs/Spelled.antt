@@ -3,7 +3,7 @@ use Rattle.std.proofs.Common.{◌≡◌, ◌≢◌, ℕ, suc, ◌+◌, Bool, tru
 use Rattle.std.proofs.Common.{None, subst, ◌==◌}
 use Rattle.std.specs.Prelude.{option_map, if◌then◌else◌}
 use Rattle.std.specs.List.{flat_map, AllByRecursion, list_all}
-use Rattle.std.proofs.lemmas.Bool.{eqb-true, and_parts}
+use Rattle.std.proofs.lemmas.Bool.{eqb-true, and_parts, true_from_ne_false}
 use Rattle.ics_text.specs.Bytes.{comma, is_name_byte, is_quoted_byte, is_plain_byte}
 use Rattle.ics_text.specs.ContentLines.{Value as Parameter, Param, value_text, params_text, IsName, IsValue, IsParam}
 use Rattle.ics_text.specs.ScanSteps.{step, counted, colon_from, ends_value, in_value}
@@ -61,13 +61,11 @@ module _ (rest : List ℕ) where
   -- behind a value without quotes all is as behind one with them
   plain-ends : (vs : List Parameter) (ps : List Param) → Comes AfterQuotes rest (more vs ps) → Comes InPlain rest (more vs ps)
   plain-ends [] [] c = c
-  plain-ends [] (p ∷ ps) c = c
-  plain-ends (v ∷ vs) ps c = c
+  plain-ends _ _ c = c
 
   empty-ends : (vs : List Parameter) (ps : List Param) → Comes AfterQuotes rest (more vs ps) → Comes BeforeValue rest (more vs ps)
   empty-ends [] [] c = c
-  empty-ends [] (p ∷ ps) c = c
-  empty-ends (v ∷ vs) ps c = c
+  empty-ends _ _ c = c
 
   plain-comes : (bytes : List ℕ) (vs : List Parameter) (ps : List Param) → list_all is_plain_byte bytes ≡ true → Comes AfterQuotes rest (more vs ps) →
       Comes BeforeValue rest (bytes ++ more vs ps)
@@ -170,10 +168,6 @@ by_test : {P : Type 0} {q : ScanState} (b : Bool) (x y : Move) → (if b then x 
 by_test true x y e f g = f refl e
 by_test false x y e f g = g refl e
 
-for_value : {P : Type 0} (b : Bool) (x y : Move) → (if b then x else y) ≡ Value → (b ≡ true → x ≡ Value → P) → (b ≡ false → y ≡ Value → P) → P
-for_value true x y e f g = f refl e
-for_value false x y e f g = g refl e
-
 onto : (p q : ScanState) → On p ≡ On q → p ≡ q
 onto p q e = cc
 
@@ -182,12 +176,6 @@ refused q e = cc
 
 no_value : (q : ScanState) → Value ≡ On q → ⊥
 no_value q e = cc
-
-back-Start : (b : ℕ) (q : ScanState) (t : Tail) → step Start b ≡ On q → Back Start b t q
-back-Start b q t s = by_test (is_name_byte b) (On InName) Refused s
-    (λ h e. subst (Back Start b t) (onto InName q e)
-    (λ ok. (record t { bytes = b ∷ t.bytes }, (record { some = nonempty b t.bytes; bytes = all-cons is_name_byte b t.bytes h ok.0 }, ok.1), refl)))
-    (λ h e. absurd (refused q e))
 
 -- the parameter that begins behind `;`
 abbrev pub begun : Tail → Param
@@ -198,28 +186,6 @@ begun-ok t ok = (record { name = ok.0; first = ok.1; others = ok.2.values }, ok.
 
 begun-text : (b : ℕ) (t : Tail) → b ≡ 59 → params_text (begun t ∷ t.ps) ≡ b ∷ tail_text BeforeParam t
 begun-text b t e = params-param (begun t) t.ps ∙ ap (λ c. c ∷ tail_text BeforeParam t) (sym e)
-
-back-InName : (b : ℕ) (q : ScanState) (t : Tail) → step InName b ≡ On q → Back InName b t q
-back-InName b q t s = by_test (is_name_byte b) (On InName) _ s
-    (λ h e. subst (Back InName b t) (onto InName q e) (λ ok. (record t { bytes = b ∷ t.bytes }, (all-cons is_name_byte b t.bytes h ok.0, ok.1), refl)))
-    (λ h e. by_test (b == 59) (On BeforeParam) (if b == 58 then Value else Refused) e
-    (λ k e. subst (Back InName b t) (onto BeforeParam q e) (λ ok.
-    (record { bytes = []; first = none; vs = []; ps = begun t ∷ t.ps }, (refl, begun-ok t ok), begun-text b t (eqb-true b 59 k))))
-    (λ k e. by_test (b == 58) Value Refused e (λ m e. absurd (no_value q e)) (λ m e. absurd (refused q e))))
-
-back-BeforeParam : (b : ℕ) (q : ScanState) (t : Tail) → step BeforeParam b ≡ On q → Back BeforeParam b t q
-back-BeforeParam b q t s = by_test (is_name_byte b) (On InParam) Refused s
-    (λ h e. subst (Back BeforeParam b t) (onto InParam q e) (λ ok.
-    (record t { bytes = b ∷ t.bytes }, (record { some = nonempty b t.bytes; bytes = all-cons is_name_byte b t.bytes h ok.0 }, ok.1, ok.2), refl)))
-    (λ h e. absurd (refused q e))
-
-back-InParam : (b : ℕ) (q : ScanState) (t : Tail) → step InParam b ≡ On q → Back InParam b t q
-back-InParam b q t s = by_test (is_name_byte b) (On InParam) (if b == 61 then On BeforeValue else Refused) s
-    (λ h e. subst (Back InParam b t) (onto InParam q e) (λ ok. (record t { bytes = b ∷ t.bytes }, (all-cons is_name_byte b t.bytes h ok.0, ok.1, ok.2), refl)))
-    (λ h e. by_test (b == 61) (On BeforeValue) Refused e
-    (λ k e. subst (Back InParam b t) (onto BeforeValue q e) (λ ok.
-    (record t { bytes = [] }, (refl, ok.0, ok.1), ap (λ c. c ∷ tail_text BeforeValue t) (sym (eqb-true b 61 k)))))
-    (λ k e. absurd (refused q e)))
 
 -- a byte that ends a value
 Ends : ℕ → Tail → ScanState → Type 0
@@ -234,23 +200,37 @@ back-ends b q t s = by_test (b == 44) (On BeforeValue) _ s
     (λ k e. subst (λ q. Ends b t q) (onto BeforeParam q e) (λ ok. ([], begun t ∷ t.ps, tt, begun-ok t ok, begun-text b t (eqb-true b 59 k))))
     (λ k e. by_test (b == 58) Value Refused e (λ m e. absurd (no_value q e)) (λ m e. absurd (refused q e))))
 
-back-AfterQuotes : (b : ℕ) (q : ScanState) (t : Tail) → step AfterQuotes b ≡ On q → Back AfterQuotes b t q
-unfolding Ends
-back-AfterQuotes b q t s = λ ok.
+back : (state : ScanState) (b : ℕ) (q : ScanState) (t : Tail) → step state b ≡ On q → Back state b t q
+unfolding Ends none
+back Start b q t s = by_test (is_name_byte b) (On InName) Refused s
+    (λ h e. subst (Back Start b t) (onto InName q e)
+    (λ ok. (record t { bytes = b ∷ t.bytes }, (record { some = nonempty b t.bytes; bytes = all-cons is_name_byte b t.bytes h ok.0 }, ok.1), refl)))
+    (λ h e. absurd (refused q e))
+back InName b q t s = by_test (is_name_byte b) (On InName) _ s
+    (λ h e. subst (Back InName b t) (onto InName q e) (λ ok. (record t { bytes = b ∷ t.bytes }, (all-cons is_name_byte b t.bytes h ok.0, ok.1), refl)))
+    (λ h e. by_test (b == 59) (On BeforeParam) (if b == 58 then Value else Refused) e
+    (λ k e. subst (Back InName b t) (onto BeforeParam q e) (λ ok.
+    (record { bytes = []; first = none; vs = []; ps = begun t ∷ t.ps }, (refl, begun-ok t ok), begun-text b t (eqb-true b 59 k))))
+    (λ k e. by_test (b == 58) Value Refused e (λ m e. absurd (no_value q e)) (λ m e. absurd (refused q e))))
+back BeforeParam b q t s = by_test (is_name_byte b) (On InParam) Refused s
+    (λ h e. subst (Back BeforeParam b t) (onto InParam q e) (λ ok.
+    (record t { bytes = b ∷ t.bytes }, (record { some = nonempty b t.bytes; bytes = all-cons is_name_byte b t.bytes h ok.0 }, ok.1, ok.2), refl)))
+    (λ h e. absurd (refused q e))
+back InParam b q t s = by_test (is_name_byte b) (On InParam) (if b == 61 then On BeforeValue else Refused) s
+    (λ h e. subst (Back InParam b t) (onto InParam q e) (λ ok. (record t { bytes = b ∷ t.bytes }, (all-cons is_name_byte b t.bytes h ok.0, ok.1, ok.2), refl)))
+    (λ h e. by_test (b == 61) (On BeforeValue) Refused e
+    (λ k e. subst (Back InParam b t) (onto BeforeValue q e) (λ ok.
+    (record t { bytes = [] }, (refl, ok.0, ok.1), ap (λ c. c ∷ tail_text BeforeValue t) (sym (eqb-true b 61 k)))))
+    (λ k e. absurd (refused q e)))
+back AfterQuotes b q t s = λ ok.
     let (vs, ps, hv, hp, e) = back-ends b q t s ok in
     (record { bytes = []; first = none; vs = vs; ps = ps }, record { values = hv; params = hp }, e)
-
-back-InPlain : (b : ℕ) (q : ScanState) (t : Tail) → step InPlain b ≡ On q → Back InPlain b t q
-unfolding Ends
-back-InPlain b q t s = by_test (is_plain_byte b) (On InPlain) (ends_value b) s
+back InPlain b q t s = by_test (is_plain_byte b) (On InPlain) (ends_value b) s
     (λ h e. subst (Back InPlain b t) (onto InPlain q e) (λ ok. (record t { bytes = b ∷ t.bytes }, (all-cons is_plain_byte b t.bytes h ok.0, ok.1), refl)))
     (λ h e ok.
     let (vs, ps, hv, hp, same) = back-ends b q t e ok in
     (record { bytes = []; first = none; vs = vs; ps = ps }, (refl, record { values = hv; params = hp }), same))
-
-back-BeforeValue : (b : ℕ) (q : ScanState) (t : Tail) → step BeforeValue b ≡ On q → Back BeforeValue b t q
-unfolding Ends none
-back-BeforeValue b q t s = by_test (b == 34) (On InQuotes) (in_value b) s
+back BeforeValue b q t s = by_test (b == 34) (On InQuotes) (in_value b) s
     (λ h e. subst (Back BeforeValue b t) (onto InQuotes q e) (λ ok. (
       record t { first = record { quoted = true; bytes = t.bytes } },
       (ok.0, ok.1),
@@ -263,44 +243,33 @@ back-BeforeValue b q t s = by_test (b == 34) (On InQuotes) (in_value b) s
     (λ k e ok.
     let (vs, ps, hv, hp, same) = back-ends b q t e ok in
     (record { bytes = []; first = none; vs = vs; ps = ps }, (refl, record { values = hv; params = hp }), same)))
-
-back-InQuotes : (b : ℕ) (q : ScanState) (t : Tail) → step InQuotes b ≡ On q → Back InQuotes b t q
-back-InQuotes b q t s = by_test (b == 34) (On AfterQuotes) _ s
+back InQuotes b q t s = by_test (b == 34) (On AfterQuotes) _ s
     (λ h e. subst (Back InQuotes b t) (onto AfterQuotes q e)
     (λ ok. (record t { bytes = [] }, (refl, ok), ap (λ c. c ∷ tail_text AfterQuotes t) (sym (eqb-true b 34 h)))))
     (λ h e. by_test (is_quoted_byte b) (On InQuotes) Refused e
     (λ k e. subst (Back InQuotes b t) (onto InQuotes q e) (λ ok. (record t { bytes = b ∷ t.bytes }, (all-cons is_quoted_byte b t.bytes k ok.0, ok.1), refl)))
     (λ k e. absurd (refused q e)))
 
-back : (state : ScanState) (b : ℕ) (q : ScanState) (t : Tail) → step state b ≡ On q → Back state b t q
-back Start = back-Start
-back InName = back-InName
-back BeforeParam = back-BeforeParam
-back InParam = back-InParam
-back BeforeValue = back-BeforeValue
-back InPlain = back-InPlain
-back InQuotes = back-InQuotes
-back AfterQuotes = back-AfterQuotes
-
 -- where the byte is the colon before the value, nothing may be missing
 abbrev Stops : ScanState → ℕ → Type 0
 Stops state b = (b ≡ 58) × ((t : Tail) × TailOk state t × (tail_text state t ≡ []))
 
-on_no : (q : ScanState) → On q ≡ Value → ⊥
-on_no q e = cc
-
 refused_no : Refused ≡ Value → ⊥
 refused_no e = cc
 
+-- the byte that ends the parameters passes no test before the last
+value_last : (t : Bool) (p : ScanState) (other : Move) → (if t then On p else other) ≡ Value → other ≡ Value
+value_last true p other e = cc
+value_last false p other e = e
+
+is_colon : (b : ℕ) → (if b == 58 then Value else Refused) ≡ Value → b ≡ 58
+is_colon b e = eqb-true b 58 (true_from_ne_false (b == 58) (λ not. refused_no (rw not at e)))
+
 ends-colon : (b : ℕ) → ends_value b ≡ Value → b ≡ 58
-ends-colon b s = for_value (b == 44) (On BeforeValue) (if b == 59 then On BeforeParam else if b == 58 then Value else Refused) s
-    (λ h e. absurd (on_no BeforeValue e))
-    (λ h e. for_value (b == 59) (On BeforeParam) (if b == 58 then Value else Refused) e
-    (λ k e. absurd (on_no BeforeParam e))
-    (λ k e. for_value (b == 58) Value Refused e (λ m e. eqb-true b 58 m) (λ m e. absurd (refused_no e))))
+ends-colon b s = is_colon b (value_last (b == 59) BeforeParam _ (value_last (b == 44) BeforeValue _ s))
 
 value-colon : (b : ℕ) → in_value b ≡ Value → b ≡ 58
-value-colon b s = for_value (is_plain_byte b) (On InPlain) (ends_value b) s (λ h e. absurd (on_no InPlain e)) (λ h e. ends-colon b e)
+value-colon b s = ends-colon b (value_last (is_plain_byte b) InPlain _ s)
 
 nothing : Tail
 nothing = record { bytes = []; first = none; vs = []; ps = [] }
@@ -310,22 +279,13 @@ no_rest = record { values = tt; params = tt }
 
 stop : (state : ScanState) (b : ℕ) → step state b ≡ Value → Stops state b
 unfolding nothing none
-stop Start b s = for_value (is_name_byte b) (On InName) Refused s (λ h e. absurd (on_no InName e)) (λ h e. absurd (refused_no e))
-stop InName b s = for_value (is_name_byte b) (On InName) (if b == 59 then On BeforeParam else if b == 58 then Value else Refused) s
-    (λ h e. absurd (on_no InName e))
-    (λ h e. for_value (b == 59) (On BeforeParam) (if b == 58 then Value else Refused) e
-    (λ k e. absurd (on_no BeforeParam e))
-    (λ k e. for_value (b == 58) Value Refused e (λ m e. (eqb-true b 58 m, (nothing, (refl, tt), refl))) (λ m e. absurd (refused_no e))))
-stop BeforeParam b s = for_value (is_name_byte b) (On InParam) Refused s (λ h e. absurd (on_no InParam e)) (λ h e. absurd (refused_no e))
-stop InParam b s = for_value (is_name_byte b) (On InParam) (if b == 61 then On BeforeValue else Refused) s
-    (λ h e. absurd (on_no InParam e))
-    (λ h e. for_value (b == 61) (On BeforeValue) Refused e (λ k e. absurd (on_no BeforeValue e)) (λ k e. absurd (refused_no e)))
-stop BeforeValue b s = for_value (b == 34) (On InQuotes) (in_value b) s (λ h e. absurd (on_no InQuotes e))
-    (λ h e. (value-colon b e, (nothing, (refl, no_rest), refl)))
+stop Start b s = absurd (refused_no (value_last (is_name_byte b) InName Refused s))
+stop InName b s = (is_colon b (value_last (b == 59) BeforeParam _ (value_last (is_name_byte b) InName _ s)), (nothing, (refl, tt), refl))
+stop BeforeParam b s = absurd (refused_no (value_last (is_name_byte b) InParam Refused s))
+stop InParam b s = absurd (refused_no (value_last (b == 61) BeforeValue Refused (value_last (is_name_byte b) InParam _ s)))
+stop BeforeValue b s = (value-colon b (value_last (b == 34) InQuotes _ s), (nothing, (refl, no_rest), refl))
 stop InPlain b s = (value-colon b s, (nothing, (refl, no_rest), refl))
-stop InQuotes b s = for_value (b == 34) (On AfterQuotes) (if is_quoted_byte b then On InQuotes else Refused) s
-    (λ h e. absurd (on_no AfterQuotes e))
-    (λ h e. for_value (is_quoted_byte b) (On InQuotes) Refused e (λ k e. absurd (on_no InQuotes e)) (λ k e. absurd (refused_no e)))
+stop InQuotes b s = absurd (refused_no (value_last (is_quoted_byte b) InQuotes Refused (value_last (b == 34) AfterQuotes _ s)))
 stop AfterQuotes b s = (ends-colon b s, (nothing, no_rest, refl))
 
 pub record Found (state : ScanState) (bs : List ℕ) (k : ℕ) : Type 0 where
