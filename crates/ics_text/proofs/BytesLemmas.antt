@@ -3,17 +3,13 @@ use Rattle.std.proofs.Common.{◌≡◌, ℕ, Bool, true, false, ◌==◌, ◌&&
 use Rattle.std.specs.Prelude.{not, ◌↔◌, IsTrue}
 use Rattle.std.specs.Str.{bytes_eq}
 use Rattle.std.specs.Char.{to_ascii_lowercase}
-use Rattle.std.proofs.lemmas.Bool.{and_parts}
+use Rattle.std.proofs.lemmas.Bool.{and_parts, not-true}
 use Rattle.std.proofs.lemmas.Bool.Decides.{nat_tests, same_from_decides}
 use Rattle.std.proofs.lemmas.Slice.Eq.{bytes_eq-Decides}
 use Rattle.ics_text.specs.Bytes.{is_name_byte, is_quoted_byte, is_plain_byte, is_control, upper, same_name}
 
-not_false : (a : Bool) → not a ≡ true → a ≡ false
-not_false true h = cc
-not_false false h = refl
-
 pub quoted-no_quote : (b : ℕ) → is_quoted_byte b ≡ true → (b == 34) ≡ false
-quoted-no_quote b h = not_false (b == 34) (and_parts (not (b == 34)) (not (is_control b)) h).0
+quoted-no_quote b h = not-true (b == 34) (and_parts (not (b == 34)) (not (is_control b)) h).0
 
 -- a byte without quotes is no quote and no separator
 pub record IsNoSign (b : ℕ) : Type 0 where
@@ -26,7 +22,7 @@ plain-no_sign b h =
     let last = and_parts (is_quoted_byte b && not (b == 59) && not (b == 58)) (not (b == 44)) h in
     let middle = and_parts (is_quoted_byte b && not (b == 59)) (not (b == 58)) last.0 in
     let first = and_parts (is_quoted_byte b) (not (b == 59)) middle.0 in
-    record { quote = quoted-no_quote b first.0; comma = not_false (b == 44) last.1; semicolon = not_false (b == 59) first.1 }
+    record { quote = quoted-no_quote b first.0; comma = not-true (b == 44) last.1; semicolon = not-true (b == 59) first.1 }
 
 pub name-no_quote : (b : ℕ) → is_name_byte b ≡ true → (b == 34) ≡ false
 name-no_quote b h = grind (arith, nat_tests)

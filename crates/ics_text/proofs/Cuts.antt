@@ -2,9 +2,11 @@
 use Rattle.std.proofs.Common.{◌≡◌, ◌≢◌, ℕ, zero, suc, ◌+◌, ◌<◌, ◌≤◌, Bool, true, false, ◌==◌, ◌&&◌, List, [], ◌∷◌, ◌++◌, length, take, drop, get_or, refl, ap}
 use Rattle.std.proofs.Common.{◌∙◌, arith, cond, inl, inr}
 use Rattle.std.specs.Prelude.{not}
-use Rattle.std.proofs.lemmas.Bool.{and_right, false_from_ne_true}
+use Rattle.std.specs.List.{list_all}
+use Rattle.std.proofs.lemmas.Bool.{and_parts, and_right, not-true, false_from_ne_true}
 use Rattle.std.proofs.lemmas.Bool.Decides.{eqb_tells}
 use Rattle.std.proofs.lemmas.Grind.{common_steps}
+use Rattle.std.proofs.lemmas.List.{take_all}
 use Rattle.ics_text.specs.Bytes.{begins}
 use Rattle.ics_text.specs.Unfolded.{physical_lines, onto_first}
 use Rattle.ics_text.specs.Reading.{without_cr}
@@ -26,32 +28,24 @@ without_cr-keeps (b ∷ c ∷ cs) other = ap (λ t. b ∷ t) (without_cr-keeps (
 
 -- no byte of the list is an LF
 abbrev pub no_lf : List ℕ → Bool
-no_lf [] = true
-no_lf (b ∷ bs) = not (b == 10) && no_lf bs
+no_lf bs = list_all (λ b. not (b == 10)) bs
 
 -- a byte that ends no line goes to the first line of the rest
 step : (b : ℕ) (bs : List ℕ) → (b == 10) ≡ false → begins (λ c. c == 10) bs ≡ false → physical_lines (b ∷ bs) ≡ onto_first b (physical_lines bs)
 step b bs e h = rw (e, h, and_right (b == 13) false refl) refl
 
-first_false : (t u : Bool) → (not t && u) ≡ true → t ≡ false
-first_false true u h = cc
-first_false false u h = refl
-
 begins_no_lf : (bs : List ℕ) → no_lf bs ≡ true → begins (λ c. c == 10) bs ≡ false
 begins_no_lf [] h = refl
-begins_no_lf (b ∷ bs) h = first_false (b == 10) (no_lf bs) h
-
-head_no_lf : (b : ℕ) (bs : List ℕ) → no_lf (b ∷ bs) ≡ true → (b == 10) ≡ false
-head_no_lf b bs h = begins_no_lf (b ∷ bs) h
+begins_no_lf (b ∷ bs) h = not-true (b == 10) (and_parts (not (b == 10)) (no_lf bs) h).0
 
 tail_no_lf : (b : ℕ) (bs : List ℕ) → no_lf (b ∷ bs) ≡ true → no_lf bs ≡ true
-tail_no_lf b bs h = rw (head_no_lf b bs h) at h
+tail_no_lf b bs h = (and_parts (not (b == 10)) (no_lf bs) h).1
 
 -- bytes without an LF are one line
 pub whole : (bs : List ℕ) → no_lf bs ≡ true → physical_lines bs ≡ bs ∷ []
 whole [] h = refl
 whole (b ∷ bs) h =
-    step b bs (head_no_lf b bs h) (begins_no_lf bs (tail_no_lf b bs h)) ∙ ap (onto_first b) (whole bs (tail_no_lf b bs h))
+    step b bs (begins_no_lf (b ∷ bs) h) (begins_no_lf bs (tail_no_lf b bs h)) ∙ ap (onto_first b) (whole bs (tail_no_lf b bs h))
 
 one_byte : (b : ℕ) (lines : List (List ℕ)) (t : Bool) → ◌≡◌ {A = List (List ℕ)} (cond (t && true) ([] ∷ lines) ((b ∷ []) ∷ lines)) (cond t [] (b ∷ []) ∷ lines)
 one_byte b lines true = refl
@@ -60,25 +54,21 @@ one_byte b lines false = refl
 -- the first line ends before the first LF, or before the CR that stands there
 pub front : (head tail : List ℕ) → no_lf head ≡ true → physical_lines (head ++ 10 ∷ tail) ≡ without_cr head ∷ physical_lines tail
 front [] tail h = refl
-front (b ∷ []) tail h = rw (head_no_lf b [] h) (one_byte b (physical_lines tail) (b == 13))
+front (b ∷ []) tail h = rw (begins_no_lf (b ∷ []) h) (one_byte b (physical_lines tail) (b == 13))
 front (b ∷ c ∷ cs) tail h =
-    step b (c ∷ cs ++ 10 ∷ tail) (head_no_lf b (c ∷ cs) h) (head_no_lf c cs (tail_no_lf b (c ∷ cs) h))
+    step b (c ∷ cs ++ 10 ∷ tail) (begins_no_lf (b ∷ c ∷ cs) h) (begins_no_lf (c ∷ cs) (tail_no_lf b (c ∷ cs) h))
     ∙ ap (onto_first b) (front (c ∷ cs) tail (tail_no_lf b (c ∷ cs) h))
 
 -- what a search for the first LF says
-pub no_lf-from : (bs : List ℕ) → ((k : ℕ) → 0 ≤ k → k < length bs → (get_or bs k 0 == 10) ≡ true → ⊥) → no_lf bs ≡ true
-no_lf-from [] none = refl
-no_lf-from (b ∷ bs) none =
-    let e : (b == 10) ≡ false = false_from_ne_true (b == 10) (none 0 (omega arith) (omega arith)) in
-    rw e (no_lf-from bs (λ k l h. none (suc k) (omega arith) (omega arith)))
-
 pub no_lf-take : (bs : List ℕ) (n : ℕ) → ((k : ℕ) → 0 ≤ k → k < n → (get_or bs k 0 == 10) ≡ true → ⊥) → no_lf (take n bs) ≡ true
-no_lf-take [] zero none = refl
+no_lf-take bs zero none = refl
 no_lf-take [] (suc n) none = refl
-no_lf-take (b ∷ bs) zero none = refl
 no_lf-take (b ∷ bs) (suc n) none =
     let e : (b == 10) ≡ false = false_from_ne_true (b == 10) (none 0 (omega arith) (omega arith)) in
     rw e (no_lf-take bs n (λ k l h. none (suc k) (omega arith) (omega arith)))
+
+pub no_lf-from : (bs : List ℕ) → ((k : ℕ) → 0 ≤ k → k < length bs → (get_or bs k 0 == 10) ≡ true → ⊥) → no_lf bs ≡ true
+no_lf-from bs none = rw (take_all (length bs) bs (omega arith)) at (no_lf-take bs (length bs) none)
 
 -- the bytes before a place, the byte there, and those behind it
 pub parted : (bs : List ℕ) (n : ℕ) → n < length bs → bs ≡ take n bs ++ get_or bs n 0 ∷ drop (n + 1) bs

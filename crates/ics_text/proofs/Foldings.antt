@@ -1,7 +1,7 @@
 -- Unfolding undoes folding.
 use Rattle.std.proofs.Common.{◌≡◌, ◌≢◌, ℕ, ◌+◌, Bool, true, false, ◌&&◌, ◌==◌, List, [], ◌∷◌, ◌++◌, length, map, refl, sym, ap, subst, ◌∙◌, arith, inl, inr}
 use Rattle.std.specs.Prelude.{not, filter}
-use Rattle.std.specs.List.{AllByRecursion, flat_map, list_all}
+use Rattle.std.specs.List.{AllByRecursion, flat_map}
 use Rattle.std.proofs.lemmas.List.{append_assoc, append-nil}
 use Rattle.std.proofs.lemmas.Bool.Decides.{eqb_tells}
 use Rattle.ics_text.specs.Bytes.{is_blank, is_empty}
@@ -17,10 +17,6 @@ fold_line f = f.blank ∷ f.bytes
 abbrev physical_of : Written → List (List ℕ)
 physical_of w = w.first ∷ map fold_line w.folds
 
-all_no_lf : (bs : List ℕ) → list_all (λ b. not (b == 10)) bs ≡ no_lf bs
-all_no_lf [] = refl
-all_no_lf (b ∷ bs) = ap (λ t. not (b == 10) && t) (all_no_lf bs)
-
 no_lf-cr : (bs : List ℕ) → no_lf (bs ++ (13 ∷ [])) ≡ no_lf bs
 no_lf-cr [] = refl
 no_lf-cr (b ∷ bs) = ap (λ t. not (b == 10) && t) (no_lf-cr bs)
@@ -30,10 +26,10 @@ one_line : (with_cr : Bool) (bytes tail : List ℕ) → StandsBefore with_cr byt
     physical_lines (bytes ++ (line_end with_cr ++ tail)) ≡ bytes ∷ physical_lines tail
 one_line true bytes tail h =
     ap physical_lines (sym (append_assoc bytes (13 ∷ []) (10 ∷ tail)))
-    ∙ front (bytes ++ (13 ∷ [])) tail (no_lf-cr bytes ∙ sym (all_no_lf bytes) ∙ h.no_lf)
+    ∙ front (bytes ++ (13 ∷ [])) tail (no_lf-cr bytes ∙ h.no_lf)
     ∙ ap (λ line. line ∷ physical_lines tail) (without_cr-append bytes)
 one_line false bytes tail h =
-    front bytes tail (sym (all_no_lf bytes) ∙ h.no_lf)
+    front bytes tail h.no_lf
     ∙ ap (λ line. line ∷ physical_lines tail) (without_cr-keeps bytes (h.no_cr refl))
 
 cr_no_blank : (b : ℕ) → b ≡ 13 → is_blank b ≡ true → ⊥
@@ -57,9 +53,7 @@ folds-blank b bytes [] with_cr blank h = stands-blank with_cr b bytes blank h
 folds-blank b bytes (f ∷ fs) with_cr blank h = (stands-blank f.with_cr b bytes blank h.0, h.1)
 
 joined_text : (end fold folds last tail : List ℕ) → ((end ++ fold) ++ folds ++ last) ++ tail ≡ end ++ (fold ++ ((folds ++ last) ++ tail))
-joined_text [] [] folds last tail = refl
-joined_text [] (b ∷ fold) folds last tail = ap (λ t. b ∷ t) (joined_text [] fold folds last tail)
-joined_text (b ∷ end) fold folds last tail = ap (λ t. b ∷ t) (joined_text end fold folds last tail)
+joined_text end fold folds last tail = simp append_assoc
 
 -- the physical lines of a line and of what follows it
 lines_of : (bytes : List ℕ) (fs : List Fold) (with_cr : Bool) (tail : List ℕ) → AreFolds bytes fs with_cr →
