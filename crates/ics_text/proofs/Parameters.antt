@@ -1,9 +1,8 @@
 -- The search for a parameter finds the first value of the first parameter of its name.
-use Rattle.std.proofs.Common.{◌≡◌, ◌≢◌, ℕ, ◌+◌, Bool, true, false, ◌==◌, ◌&&◌, List, [], ◌∷◌, suc, refl, sym, ap, ◌∙◌, cond, Option, Some, None, add-one, inl}
-use Rattle.std.proofs.Common.{inr, ◌-◌, ◌++◌, length, drop, map, append_assoc, length-append, arith}
+use Rattle.std.proofs.Common.{◌≡◌, ◌≢◌, ℕ, ◌+◌, Bool, true, false, ◌==◌, ◌&&◌, List, [], ◌∷◌, suc, refl, sym, ap, ◌∙◌, cond, Option, Some, None, add-one}
+use Rattle.std.proofs.Common.{◌-◌, ◌++◌, length, drop, map, append_assoc, length-append, arith}
 use Rattle.std.specs.Prelude.{not, option_map}
-use Rattle.std.proofs.lemmas.Bool.{eqb-true, and_parts, and_right}
-use Rattle.std.proofs.lemmas.Bool.Decides.{eqb_tells}
+use Rattle.std.proofs.lemmas.Bool.{eqb-true, and_parts, and_right, ne_eqb}
 use Rattle.ics_text.specs.Unfolded.{onto_first}
 use Rattle.ics_text.specs.Bytes.{dquote, comma, equals, is_name_byte, is_quoted_byte, is_plain_byte}
 use Rattle.ics_text.specs.ContentLines.{pieces, turned, Value, Param, value_text, params_text, IsValue, IsParam, IsParams, first_value, without_quotes}
@@ -19,10 +18,7 @@ onto-by sep b bs None = refl
 onto-by sep b bs (Some n) = rw (add-one n, add-one (suc n)) refl
 
 no_quote : (sep b : ℕ) → sep ≢ 34 → (b == sep) ≡ true → (b == dquote) ≡ false
-no_quote sep b ne e = elim (eqb_tells b dquote) [
-  | inl h ↦ absurd (ne (sym (eqb-true b sep e) ∙ h.1))
-  | inr h ↦ h.0
-]
+no_quote sep b ne e = ne_eqb b 34 (λ is. ne (sym (eqb-true b sep e) ∙ is))
 
 pub cut-pieces : (sep : ℕ) (quoted : Bool) (text : List ℕ) → sep ≢ 34 → pieces sep quoted text ≡ pieces_by sep text (cut_from sep quoted text)
 cut-pieces sep quoted [] ne = refl
@@ -58,19 +54,16 @@ passes-both sep a b p q = record {
   on = λ rest. ap (pieces sep false) (append_assoc a b rest) ∙ p.on (b ++ rest) ∙ ap (in_front a) (q.on rest) ∙ in_front-twice a b (pieces sep false rest);
 }
 
-passes-one : (sep b : ℕ) → (b == 34) ≡ false → (b == sep) ≡ false → Passes sep (b ∷ [])
-passes-one sep b q s = record { on = λ rest. rw (q, s) refl }
-
-passes-none : (sep : ℕ) → Passes sep []
-passes-none sep = record { on = λ rest. refl }
+passes-byte : (sep b : ℕ) (bs : List ℕ) → (b == 34) ≡ false → (b == sep) ≡ false → Passes sep bs → Passes sep (b ∷ bs)
+passes-byte sep b bs q s p = record { on = λ rest. rw (q, s) (ap (onto_first b) (p.on rest)) }
 
 -- a run of bytes that are no quote and not the separator
 passes-run : (sep : ℕ) (ok : ℕ → Bool) (no_quote : (b : ℕ) → ok b ≡ true → (b == 34) ≡ false) (no_sep : (b : ℕ) → ok b ≡ true → (b == sep) ≡ false)
     (bs : List ℕ) → list_all ok bs ≡ true → Passes sep bs
-passes-run sep ok no_quote no_sep [] h = passes-none sep
+passes-run sep ok no_quote no_sep [] h = record { on = λ rest. refl }
 passes-run sep ok no_quote no_sep (b ∷ bs) h =
     let parts = and_parts (ok b) (list_all ok bs) h in
-    passes-both sep (b ∷ []) bs (passes-one sep b (no_quote b parts.0) (no_sep b parts.0)) (passes-run sep ok no_quote no_sep bs parts.1)
+    passes-byte sep b bs (no_quote b parts.0) (no_sep b parts.0) (passes-run sep ok no_quote no_sep bs parts.1)
 
 -- between quotes nothing parts, and the second quote ends that
 in_quotes : (sep : ℕ) (bs rest : List ℕ) → list_all is_quoted_byte bs ≡ true →
@@ -110,18 +103,17 @@ abbrev pub text_of : Param → List ℕ
 text_of p = (p.name ++ equals ∷ value_text p.first) ++ others_text p.others
 
 passes-others : (vs : List Value) → AllByRecursion IsValue vs → Passes 59 (others_text vs)
-passes-others [] ok = passes-none 59
+passes-others [] ok = record { on = λ rest. refl }
 passes-others (v ∷ vs) ok =
     passes-both 59 (44 ∷ value_text v) (others_text vs)
-    (passes-both 59 (44 ∷ []) (value_text v) (passes-one 59 44 refl refl) (passes-value 59 semicolon-parts v.quoted v.bytes ok.0))
-    (passes-others vs ok.1)
+    (passes-byte 59 44 (value_text v) refl refl (passes-value 59 semicolon-parts v.quoted v.bytes ok.0)) (passes-others vs ok.1)
 
 passes-text : (p : Param) → IsParam p → Passes 59 (text_of p)
 passes-text p ok =
     passes-both 59 (p.name ++ 61 ∷ value_text p.first) (others_text p.others)
     (passes-both 59 p.name (61 ∷ value_text p.first)
     (passes-run 59 is_name_byte name-no_quote name-no_semicolon p.name ok.name.bytes)
-    (passes-both 59 (61 ∷ []) (value_text p.first) (passes-one 59 61 refl refl) (passes-value 59 semicolon-parts p.first.quoted p.first.bytes ok.first)))
+    (passes-byte 59 61 (value_text p.first) refl refl (passes-value 59 semicolon-parts p.first.quoted p.first.bytes ok.first)))
     (passes-others p.others ok.others)
 
 -- the pieces of the parameters are an empty one and the parameters' texts
