@@ -1,7 +1,6 @@
 -- The walk to the colon of a content line, its parts as slices, and that they are what its grammar relates.
 use Rattle.std.proofs.Common.{◌≡◌, ℕ, suc, ◌+◌, ◌<◌, Bool, true, false, List, [], ◌∷◌, drop, refl, ap, ◌∙◌, arith, Option, Some, None, one-add, ◌-◌, ◌≤◌}
-use Rattle.std.proofs.Common.{◌++◌, length, take, sym, append_assoc, subst, length-append, inl, inr}
-use Rattle.std.specs.Prelude.{option_map, ◌↔◌}
+use Rattle.std.proofs.Common.{◌++◌, length, take, sym, append_assoc, subst, length-append, inl, inr, option_map, ◌↔◌}
 use Rattle.std.specs.List.{prefix_len, list_all}
 use Rattle.ics_text.specs.Bytes.{is_name_byte}
 use Rattle.ics_text.specs.ScanSteps.{colon_from}
@@ -131,33 +130,16 @@ same_parts {line} {name} {params} {value} k e c =
 pub refuses : (line : List ℕ) → None ≡ colon_from line Start → (name params value : List ℕ) → IsContent line name params value → ⊥
 refuses line e name params value c = let w = walks line name params value c in cc
 
--- a line that is cut behind its name, and what the walk finds there
-pub record CutBehind (line name behind : List ℕ) (found : Option ℕ) : Type 0 where
-  pub some : 0 < prefix_len is_name_byte line
-  pub name_is : name ≡ take (prefix_len is_name_byte line) line
-  pub behind_is : behind ≡ drop (prefix_len is_name_byte line) line
-  pub found_is : found ≡ colon_from behind InName
-
-pub reached : (line name behind : List ℕ) (k : ℕ) → CutBehind line name behind (Some k) → colon_from line Start ≡ Some (k + prefix_len is_name_byte line)
-reached line name behind k c =
-    over_name line c.some ∙ ap (λ b. option_map (λ n. n + prefix_len is_name_byte line) (colon_from b InName)) (sym c.behind_is)
-    ∙ ap (option_map (λ n. n + prefix_len is_name_byte line)) (sym c.found_is)
-
-pub not_reached : (line name behind : List ℕ) → CutBehind line name behind None → None ≡ colon_from line Start
-not_reached line name behind c =
-    ap (option_map (λ n. n + prefix_len is_name_byte line)) c.found_is
-    ∙ ap (λ b. option_map (λ n. n + prefix_len is_name_byte line) (colon_from b InName)) c.behind_is
-    ∙ sym (over_name line c.some)
-
 -- the slices of what stands behind the name are slices of the line
-pub slices_behind : (line name behind : List ℕ) (k : ℕ) → CutBehind line name behind (Some k) →
+pub slices_behind : {name behind : List ℕ} (line : List ℕ) (k : ℕ) → name ≡ take (prefix_len is_name_byte line) line
+    → behind ≡ drop (prefix_len is_name_byte line) line →
     ◌≡◌ {A = Parts} (record { name = name; params = take k behind; value = take (length behind - (k + 1)) (drop (k + 1) behind) })
     (cut_at line (k + prefix_len is_name_byte line))
-slices_behind line name behind k c =
+slices_behind {name} {behind} line k name_is behind_is =
     let len = prefix_len is_name_byte line in
     let between : k ≡ k + len - len = omega arith in
     let after : len + (k + 1) ≡ k + len + 1 = omega arith in
-    rw (take_rest behind (k + 1), c.name_is, c.behind_is, drop-drop (k + 1) len line, after)
+    rw (take_rest behind (k + 1), name_is, behind_is, drop-drop (k + 1) len line, after)
     (ap (λ n. record { name = take len line; params = take n (drop len line); value = drop (k + len + 1) line }) between)
 
 computed : (line : List ℕ) (parts : Parts) (k : Option ℕ) → k ≡ colon_from line Start →
