@@ -1,6 +1,5 @@
 -- Worked cases of the content line, which the definitions compute.
-use Rattle.std.proofs.Common.{◌≡◌, ℕ, List, [], ◌∷◌, ◌++◌, Some, None, map, replicate, refl}
-use Rattle.std.specs.Prelude.{codes, Option}
+use Rattle.std.proofs.Common.{◌≡◌, ℕ, List, [], ◌∷◌, ◌++◌, Some, None, map, replicate, refl, codes, Option}
 use Rattle.ics_text.specs.ContentLines.{Parts, content_of, param_of}
 
 abbrev contents : List (List ℕ) → List (Option Parts)

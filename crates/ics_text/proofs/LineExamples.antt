@@ -1,6 +1,5 @@
 -- Worked cases of unfolding, which the definitions compute.
-use Rattle.std.proofs.Common.{◌≡◌, ℕ, true, false, List, [], ◌∷◌, ◌++◌, take, drop, map, refl}
-use Rattle.std.specs.Prelude.{codes}
+use Rattle.std.proofs.Common.{◌≡◌, ℕ, true, false, List, [], ◌∷◌, ◌++◌, take, drop, map, refl, codes}
 use Rattle.ics_text.specs.Unfolded.{Line, unfolded, begins_with_fold}
 
 abbrev line : ℕ → List ℕ → Line

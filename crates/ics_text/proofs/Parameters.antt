@@ -1,7 +1,6 @@
 -- The search for a parameter finds the first value of the first parameter of its name.
 use Rattle.std.proofs.Common.{◌≡◌, ◌≢◌, ℕ, ◌+◌, Bool, true, false, ◌==◌, ◌&&◌, List, [], ◌∷◌, suc, refl, sym, ap, ◌∙◌, cond, Option, Some, None, add-one}
-use Rattle.std.proofs.Common.{◌-◌, ◌++◌, length, drop, map, append_assoc, length-append, arith}
-use Rattle.std.specs.Prelude.{not, option_map}
+use Rattle.std.proofs.Common.{◌-◌, ◌++◌, length, drop, map, append_assoc, length-append, arith, not, option_map}
 use Rattle.std.proofs.lemmas.Bool.{eqb-true, and_parts, and_right, ne_eqb}
 use Rattle.ics_text.specs.Unfolded.{onto_first}
 use Rattle.ics_text.specs.Bytes.{dquote, comma, equals, is_name_byte, is_quoted_byte, is_plain_byte}

@@ -1,7 +1,6 @@
 -- A line leads to its colon exactly where it is spelled as a content line.
 use Rattle.std.proofs.Common.{◌≡◌, ◌≢◌, ℕ, suc, ◌+◌, Bool, true, false, List, [], ◌∷◌, ◌++◌, length, refl, sym, ap, ◌∙◌, append_assoc, add-one, Option, Some}
-use Rattle.std.proofs.Common.{None, subst, ◌==◌}
-use Rattle.std.specs.Prelude.{option_map, if◌then◌else◌}
+use Rattle.std.proofs.Common.{None, subst, ◌==◌, option_map, if◌then◌else◌}
 use Rattle.std.specs.List.{flat_map, AllByRecursion, list_all}
 use Rattle.std.proofs.lemmas.Bool.{eqb-true, and_parts, true_from_ne_false}
 use Rattle.ics_text.specs.Bytes.{comma, is_name_byte, is_quoted_byte, is_plain_byte}

@@ -1,7 +1,6 @@
 -- A list of a rule has no number exactly where its part is absent.
 use Rattle.std.proofs.Common.{◌≡◌, ℕ, zero, suc, Bool, true, false, ◌&&◌, ◌||◌, ◌==◌, List, [], ◌∷◌, length, Option, Some, None, refl, sym, ap, ◌∙◌, arith}
-use Rattle.std.proofs.Common.{◌/◌, ◌%◌, get_or, eqb-true, eq-eqb, ap₂}
-use Rattle.std.specs.Prelude.{not, min, is_some, nat_lt}
+use Rattle.std.proofs.Common.{◌/◌, ◌%◌, get_or, eqb-true, eq-eqb, ap₂, not, min, is_some, nat_lt}
 use Rattle.std.specs.List.{list_any, list_all}
 use Rattle.std.specs.Option.{option_map_or}
 use Rattle.std.proofs.lemmas.Bool.{and_parts, and_from, and_left, and_right, false≢true, false_from_ne_true}

@@ -1,6 +1,5 @@
 -- Worked cases, which the definitions compute. More of them are rows of khal_list_rows.
-use Rattle.std.proofs.Common.{◌≡◌, ℕ, Bool, true, false, [], ◌∷◌, Some, Result, Ok, Err, map, replicate, refl, pos, negsuc}
-use Rattle.std.specs.Prelude.{codes, is_some}
+use Rattle.std.proofs.Common.{◌≡◌, ℕ, Bool, true, false, [], ◌∷◌, Some, Result, Ok, Err, map, replicate, refl, pos, negsuc, codes, is_some}
 use Rattle.std.specs.List.{list_any}
 use Rattle.ics_values.specs.Dates.{date_day}
 use Rattle.ics_fields.specs.Locals.{local_at}

@@ -1,7 +1,6 @@
 -- A set to which the items of a list were added has the numbers that stand in the list, and its own.
 use Rattle.std.proofs.Common.{◌≡◌, ℕ, ◌<◌, ◌≤◌, ◌/◌, Bool, true, false, ◌&&◌, ◌||◌, ◌==◌, List, [], ◌∷◌, length, Option, Some, None, cond, refl, sym, ap}
-use Rattle.std.proofs.Common.{◌∙◌, inl, inr, get_or-set_same, get_or-set_other, arith}
-use Rattle.std.specs.Prelude.{not, fold, nat_le, is_some}
+use Rattle.std.proofs.Common.{◌∙◌, inl, inr, get_or-set_same, get_or-set_other, arith, not, fold, nat_le, is_some}
 use Rattle.std.specs.List.{list_any, list_all}
 use Rattle.std.proofs.Math.ListN.{length-set}
 use Rattle.std.proofs.lemmas.Bool.{and_parts, and_right, cond_both, leb-true, cases_eq, ne_eqb, eq-eqb}

@@ -1,7 +1,6 @@
 -- Parts that are read one after another say what they say together.
 use Rattle.std.proofs.Common.{◌≡◌, ◌<◌, ℕ, Bool, true, false, ◌&&◌, ◌||◌, ◌==◌, List, [], ◌∷◌, map, Option, Some, None, Result, Ok, Err, cond, refl, sym, ap}
-use Rattle.std.proofs.Common.{◌∙◌, arith, inl, inr, lit<}
-use Rattle.std.specs.Prelude.{not, fold, option_and_then, if◌then◌else◌}
+use Rattle.std.proofs.Common.{◌∙◌, arith, inl, inr, lit<, not, fold, option_and_then, if◌then◌else◌}
 use Rattle.std.specs.List.{list_any, list_all}
 use Rattle.std.proofs.lemmas.Bool.{and_right, cases_Bool, or_parts, or_right}
 use Rattle.std.proofs.lemmas.Bool.Decides.{nat_tests}

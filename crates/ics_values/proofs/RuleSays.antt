@@ -1,7 +1,6 @@
 -- The rule of a text says what each part of the text says.
 use Rattle.std.proofs.Common.{◌≡◌, ℕ, Bool, true, false, ◌&&◌, ◌==◌, List, [], ◌∷◌, Option, Some, None, Ok, Err, cond, get_or, refl, ap, subst}
-use Rattle.std.proofs.Common.{inl, inr, sym, ◌∙◌, lit<, arith}
-use Rattle.std.specs.Prelude.{not, fold, min, option_map, option_and_then, unwrap_or, is_some}
+use Rattle.std.proofs.Common.{inl, inr, sym, ◌∙◌, lit<, arith, not, fold, min, option_map, option_and_then, unwrap_or, is_some}
 use Rattle.std.specs.List.{list_any, list_all}
 use Rattle.std.specs.Option.{option_map_or}
 use Rattle.std.proofs.lemmas.Bool.{and_parts, cases_Bool, eqb-true, false≢true}

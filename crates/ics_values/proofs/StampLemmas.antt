@@ -1,7 +1,6 @@
 -- The form of a stamp's text, the day that it says, and the day of an UNTIL.
 use Rattle.std.proofs.Common.{◌≡◌, ℕ, suc, Bool, true, false, ◌==◌, ◌&&◌, ◌||◌, List, length, take, drop, refl, arith, ◌-◌, ◌≤◌, nat_le, sym, ap}
-use Rattle.std.proofs.Common.{pos, ◌+◌, ◌<◌, ◌-ℤ◌, cond, inl, inr, ◌∙◌}
-use Rattle.std.specs.Prelude.{not, Ok, Err, if◌then◌else◌}
+use Rattle.std.proofs.Common.{pos, ◌+◌, ◌<◌, ◌-ℤ◌, cond, inl, inr, ◌∙◌, not, Ok, Err, if◌then◌else◌}
 use Rattle.std.specs.List.{list_all}
 use Rattle.std.proofs.lemmas.Bool.{eqb-true, and_parts, or_cases, leb-true}
 use Rattle.std.proofs.lemmas.List.{drop-take, take-take, take-append-drop}

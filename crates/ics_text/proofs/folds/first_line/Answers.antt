@@ -1,5 +1,4 @@
-use Rattle.std.proofs.Common.{ap, ◌∙◌, sym}
-use Rattle.std.specs.Prelude.{filter}
+use Rattle.std.proofs.Common.{ap, ◌∙◌, sym, filter}
 use Rattle.ics_text.specs.Unfolded.{is_line}
 use Rattle.ics_text.proofs.Joins.{all_from-front}
 use Rattle.ics_text.proofs.folds.first_line.Goals as goal

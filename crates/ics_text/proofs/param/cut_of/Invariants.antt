@@ -1,5 +1,4 @@
-use Rattle.std.proofs.Common.{◌≡◌, ◌+◌, drop, false}
-use Rattle.std.specs.Prelude.{option_map}
+use Rattle.std.proofs.Common.{◌≡◌, ◌+◌, drop, false, option_map}
 use Rattle.ics_text.specs.Pieces.{cut_from}
 use Rattle.ics_text.proofs.param.cut_of.Given as goal
 

@@ -1,5 +1,4 @@
-use Rattle.std.proofs.Common.{◌≡◌, ◌==◌, ◌&&◌, false, length, sym, ap, ◌∙◌}
-use Rattle.std.specs.Prelude.{not}
+use Rattle.std.proofs.Common.{◌≡◌, ◌==◌, ◌&&◌, false, length, sym, ap, ◌∙◌, not}
 use Rattle.std.specs.List.{list_all}
 use Rattle.ics_values.specs.Digits.{is_digit}
 use Rattle.ics_values.proofs.ShapeLemmas.{digit_count-all}

@@ -1,5 +1,4 @@
-use Rattle.std.proofs.Common.{◌≡◌, false, get_or, length, sym, ap, arith}
-use Rattle.std.specs.Prelude.{not}
+use Rattle.std.proofs.Common.{◌≡◌, false, get_or, length, sym, ap, arith, not}
 use Rattle.std.proofs.lemmas.List.Sums.{position_or_len_is}
 use Rattle.ics_values.specs.Digits.{is_digit}
 use Rattle.ics_values.proofs.digits.digit_count.Goals as goal

@@ -1,5 +1,4 @@
-use Rattle.std.proofs.Common.{◌≡◌, subst}
-use Rattle.std.specs.Prelude.{Result, Ok, Err, IfOk}
+use Rattle.std.proofs.Common.{◌≡◌, subst, Result, Ok, Err, IfOk}
 use Rattle.ics_values.specs.Periods.{IsDateTime, IsPeriodEnd}
 use Rattle.ics_values.specs.declared.stamp.Stamp.{Stamp}
 use Rattle.ics_values.specs.declared.period.Period.{Period}

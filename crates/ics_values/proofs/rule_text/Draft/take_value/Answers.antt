@@ -1,5 +1,4 @@
-use Rattle.std.proofs.Common.{◌≡◌, Bool, true, false, Some, None, cond, sym, ap, ◌∙◌, refl, rules}
-use Rattle.std.specs.Prelude.{not, fold}
+use Rattle.std.proofs.Common.{◌≡◌, Bool, true, false, Some, None, cond, sym, ap, ◌∙◌, refl, rules, not, fold}
 use Rattle.std.specs.List.{list_all}
 use Rattle.ics_fields.specs.RuleParts.{RuleParts}
 use Rattle.ics_values.specs.RuleTexts.{fits_list, pieces}
