@@ -163,18 +163,21 @@ nonempty b bs h = cc
 all-cons : (p : ℕ → Bool) (b : ℕ) (bs : List ℕ) → p b ≡ true → list_all p bs ≡ true → list_all p (b ∷ bs) ≡ true
 all-cons p b bs h k = rw (h, k) refl
 
-by_test : {P : Type 0} {q : ScanState} (b : Bool) (x y : Move) → (if b then x else y) ≡ On q → (b ≡ true → x ≡ On q → P) → (b ≡ false → y ≡ On q → P) → P
-by_test true x y e f g = f refl e
-by_test false x y e f g = g refl e
+refused : (q : ScanState) → Refused ≡ On q → ⊥
+refused q e = cc
+
+no_end : (t : Bool) (q : ScanState) → (if t then Value else Refused) ≡ On q → ⊥
+no_end true q e = cc
+no_end false q e = cc
 
 onto : (p q : ScanState) → On p ≡ On q → p ≡ q
 onto p q e = cc
 
-refused : (q : ScanState) → Refused ≡ On q → ⊥
-refused q e = cc
-
-no_value : (q : ScanState) → Value ≡ On q → ⊥
-no_value q e = cc
+-- where a byte goes by a test
+on_test : (P : ScanState → Type 0) {q : ScanState} (b : Bool) (p : ScanState) (other : Move) → (if b then On p else other) ≡ On q
+    → (b ≡ true → P p) → (b ≡ false → other ≡ On q → P q) → P q
+on_test P {q} true p other e f g = subst P (onto p q e) (f refl)
+on_test P false p other e f g = g refl e
 
 -- the parameter that begins behind `;`
 abbrev pub begun : Tail → Param
@@ -192,61 +195,54 @@ Ends b t q = TailOk q t → (vs : List Parameter) × (ps : List Param) × AllByR
 
 back-ends : (b : ℕ) (q : ScanState) (t : Tail) → ends_value b ≡ On q → Ends b t q
 unfolding Ends
-back-ends b q t s = by_test (b == 44) (On BeforeValue) _ s
-    (λ h e. subst (λ q. Ends b t q) (onto BeforeValue q e) (λ ok.
-    (t.first ∷ t.vs, t.ps, (ok.0, ok.1.values), ok.1.params, more-value t.first t.vs t.ps ∙ ap (λ c. c ∷ tail_text BeforeValue t) (sym (eqb-true b 44 h)))))
-    (λ h e. by_test (b == 59) (On BeforeParam) _ e
-    (λ k e. subst (λ q. Ends b t q) (onto BeforeParam q e) (λ ok. ([], begun t ∷ t.ps, tt, begun-ok t ok, begun-text b t (eqb-true b 59 k))))
-    (λ k e. by_test (b == 58) Value Refused e (λ m e. absurd (no_value q e)) (λ m e. absurd (refused q e))))
+back-ends b q t s = on_test (λ q. Ends b t q) (b == 44) BeforeValue _ s
+    (λ h ok.
+    (t.first ∷ t.vs, t.ps, (ok.0, ok.1.values), ok.1.params, more-value t.first t.vs t.ps ∙ ap (λ c. c ∷ tail_text BeforeValue t) (sym (eqb-true b 44 h))))
+    (λ h e. on_test (λ q. Ends b t q) (b == 59) BeforeParam _ e
+    (λ k ok. ([], begun t ∷ t.ps, tt, begun-ok t ok, begun-text b t (eqb-true b 59 k)))
+    (λ k e. absurd (no_end (b == 58) q e)))
 
 back : (state : ScanState) (b : ℕ) (q : ScanState) (t : Tail) → step state b ≡ On q → Back state b t q
 unfolding Ends none
-back Start b q t s = by_test (is_name_byte b) (On InName) Refused s
-    (λ h e. subst (Back Start b t) (onto InName q e)
-    (λ ok. (record t { bytes = b ∷ t.bytes }, (record { some = nonempty b t.bytes; bytes = all-cons is_name_byte b t.bytes h ok.0 }, ok.1), refl)))
+back Start b q t s = on_test (Back Start b t) (is_name_byte b) InName Refused s
+    (λ h ok. (record t { bytes = b ∷ t.bytes }, (record { some = nonempty b t.bytes; bytes = all-cons is_name_byte b t.bytes h ok.0 }, ok.1), refl))
     (λ h e. absurd (refused q e))
-back InName b q t s = by_test (is_name_byte b) (On InName) _ s
-    (λ h e. subst (Back InName b t) (onto InName q e) (λ ok. (record t { bytes = b ∷ t.bytes }, (all-cons is_name_byte b t.bytes h ok.0, ok.1), refl)))
-    (λ h e. by_test (b == 59) (On BeforeParam) (if b == 58 then Value else Refused) e
-    (λ k e. subst (Back InName b t) (onto BeforeParam q e) (λ ok.
-    (record { bytes = []; first = none; vs = []; ps = begun t ∷ t.ps }, (refl, begun-ok t ok), begun-text b t (eqb-true b 59 k))))
-    (λ k e. by_test (b == 58) Value Refused e (λ m e. absurd (no_value q e)) (λ m e. absurd (refused q e))))
-back BeforeParam b q t s = by_test (is_name_byte b) (On InParam) Refused s
-    (λ h e. subst (Back BeforeParam b t) (onto InParam q e) (λ ok.
-    (record t { bytes = b ∷ t.bytes }, (record { some = nonempty b t.bytes; bytes = all-cons is_name_byte b t.bytes h ok.0 }, ok.1, ok.2), refl)))
+back InName b q t s = on_test (Back InName b t) (is_name_byte b) InName _ s
+    (λ h ok. (record t { bytes = b ∷ t.bytes }, (all-cons is_name_byte b t.bytes h ok.0, ok.1), refl))
+    (λ h e. on_test (Back InName b t) (b == 59) BeforeParam (if b == 58 then Value else Refused) e
+    (λ k ok. (record { bytes = []; first = none; vs = []; ps = begun t ∷ t.ps }, (refl, begun-ok t ok), begun-text b t (eqb-true b 59 k)))
+    (λ k e. absurd (no_end (b == 58) q e)))
+back BeforeParam b q t s = on_test (Back BeforeParam b t) (is_name_byte b) InParam Refused s
+    (λ h ok. (record t { bytes = b ∷ t.bytes }, (record { some = nonempty b t.bytes; bytes = all-cons is_name_byte b t.bytes h ok.0 }, ok.1, ok.2), refl))
     (λ h e. absurd (refused q e))
-back InParam b q t s = by_test (is_name_byte b) (On InParam) (if b == 61 then On BeforeValue else Refused) s
-    (λ h e. subst (Back InParam b t) (onto InParam q e) (λ ok. (record t { bytes = b ∷ t.bytes }, (all-cons is_name_byte b t.bytes h ok.0, ok.1, ok.2), refl)))
-    (λ h e. by_test (b == 61) (On BeforeValue) Refused e
-    (λ k e. subst (Back InParam b t) (onto BeforeValue q e) (λ ok.
-    (record t { bytes = [] }, (refl, ok.0, ok.1), ap (λ c. c ∷ tail_text BeforeValue t) (sym (eqb-true b 61 k)))))
+back InParam b q t s = on_test (Back InParam b t) (is_name_byte b) InParam (if b == 61 then On BeforeValue else Refused) s
+    (λ h ok. (record t { bytes = b ∷ t.bytes }, (all-cons is_name_byte b t.bytes h ok.0, ok.1, ok.2), refl))
+    (λ h e. on_test (Back InParam b t) (b == 61) BeforeValue Refused e
+    (λ k ok. (record t { bytes = [] }, (refl, ok.0, ok.1), ap (λ c. c ∷ tail_text BeforeValue t) (sym (eqb-true b 61 k))))
     (λ k e. absurd (refused q e)))
 back AfterQuotes b q t s = λ ok.
     let (vs, ps, hv, hp, e) = back-ends b q t s ok in
     (record { bytes = []; first = none; vs = vs; ps = ps }, record { values = hv; params = hp }, e)
-back InPlain b q t s = by_test (is_plain_byte b) (On InPlain) (ends_value b) s
-    (λ h e. subst (Back InPlain b t) (onto InPlain q e) (λ ok. (record t { bytes = b ∷ t.bytes }, (all-cons is_plain_byte b t.bytes h ok.0, ok.1), refl)))
+back InPlain b q t s = on_test (Back InPlain b t) (is_plain_byte b) InPlain (ends_value b) s
+    (λ h ok. (record t { bytes = b ∷ t.bytes }, (all-cons is_plain_byte b t.bytes h ok.0, ok.1), refl))
     (λ h e ok.
     let (vs, ps, hv, hp, same) = back-ends b q t e ok in
     (record { bytes = []; first = none; vs = vs; ps = ps }, (refl, record { values = hv; params = hp }), same))
-back BeforeValue b q t s = by_test (b == 34) (On InQuotes) (in_value b) s
-    (λ h e. subst (Back BeforeValue b t) (onto InQuotes q e) (λ ok. (
+back BeforeValue b q t s = on_test (Back BeforeValue b t) (b == 34) InQuotes (in_value b) s
+    (λ h ok. (
       record t { first = record { quoted = true; bytes = t.bytes } },
       (ok.0, ok.1),
-      ap (λ r. 34 ∷ r) (append_assoc t.bytes (34 ∷ []) (more t.vs t.ps))
-          ∙ ap (λ c. c ∷ tail_text InQuotes t) (sym (eqb-true b 34 h)),
-    )))
-    (λ h e. by_test (is_plain_byte b) (On InPlain) (ends_value b) e
-    (λ k e. subst (Back BeforeValue b t) (onto InPlain q e) (λ ok.
-    (record t { first = record { quoted = false; bytes = b ∷ t.bytes } }, (all-cons is_plain_byte b t.bytes k ok.0, ok.1), refl)))
+      ap (λ r. 34 ∷ r) (append_assoc t.bytes (34 ∷ []) (more t.vs t.ps)) ∙ ap (λ c. c ∷ tail_text InQuotes t) (sym (eqb-true b 34 h)),
+    ))
+    (λ h e. on_test (Back BeforeValue b t) (is_plain_byte b) InPlain (ends_value b) e
+    (λ k ok. (record t { first = record { quoted = false; bytes = b ∷ t.bytes } }, (all-cons is_plain_byte b t.bytes k ok.0, ok.1), refl))
     (λ k e ok.
     let (vs, ps, hv, hp, same) = back-ends b q t e ok in
     (record { bytes = []; first = none; vs = vs; ps = ps }, (refl, record { values = hv; params = hp }), same)))
-back InQuotes b q t s = by_test (b == 34) (On AfterQuotes) _ s
-    (λ h e. subst (Back InQuotes b t) (onto AfterQuotes q e)
-    (λ ok. (record t { bytes = [] }, (refl, ok), ap (λ c. c ∷ tail_text AfterQuotes t) (sym (eqb-true b 34 h)))))
-    (λ h e. by_test (is_quoted_byte b) (On InQuotes) Refused e
-    (λ k e. subst (Back InQuotes b t) (onto InQuotes q e) (λ ok. (record t { bytes = b ∷ t.bytes }, (all-cons is_quoted_byte b t.bytes k ok.0, ok.1), refl)))
+back InQuotes b q t s = on_test (Back InQuotes b t) (b == 34) AfterQuotes _ s
+    (λ h ok. (record t { bytes = [] }, (refl, ok), ap (λ c. c ∷ tail_text AfterQuotes t) (sym (eqb-true b 34 h))))
+    (λ h e. on_test (Back InQuotes b t) (is_quoted_byte b) InQuotes Refused e
+    (λ k ok. (record t { bytes = b ∷ t.bytes }, (all-cons is_quoted_byte b t.bytes k ok.0, ok.1), refl))
     (λ k e. absurd (refused q e)))
 
 -- where the byte is the colon before the value, nothing may be missing

@@ -1,5 +1,4 @@
-use Rattle.std.proofs.Common.{◌≡◌, length, ℕ, ◌+◌, Option, Some, None, List}
-use Rattle.std.specs.Option.{option_copied}
+use Rattle.std.proofs.Common.{◌≡◌, length, ℕ, ◌+◌, Option, Some, None, List, option_copied}
 use Rattle.ics_text.specs.ContentLines.{value_among, param_of}
 use Rattle.ics_text.specs.Pieces.{pieces_behind}
 use Rattle.ics_text.proofs.param.param_of.Given as goal
