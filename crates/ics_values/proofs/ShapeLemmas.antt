@@ -1,8 +1,7 @@
 -- The shape of a duration's text, and the numbers before its units.
 use Rattle.std.proofs.Common.{◌≡◌, ◌≢◌, ℕ, suc, ◌+◌, ◌-◌, ◌*◌, ◌<◌, true, false, ◌==◌, List, [], ◌∷◌, ◌++◌, length, take, drop, refl, sym, ap, ◌∙◌, fold}
-use Rattle.std.proofs.Common.{arith, inl, inr}
+use Rattle.std.proofs.Common.{arith, inl, inr, bytes_eq}
 use Rattle.std.specs.List.{list_all, list_any}
-use Rattle.std.specs.Str.{bytes_eq}
 use Rattle.std.proofs.lemmas.Bool.{and_cases, and_left, and_right, cases_Bool, eq-eqb, false_from_ne_true, ne_eqb, true_from_ne_false}
 use Rattle.std.proofs.lemmas.Bool.Decides.{nat_tests}
 use Rattle.ics_values.specs.Digits.{is_digit, upper, number_of, digit_count}

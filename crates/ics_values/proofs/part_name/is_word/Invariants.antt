@@ -1,5 +1,4 @@
-use Rattle.std.proofs.Common.{◌≡◌, map, drop}
-use Rattle.std.specs.Str.{bytes_eq}
+use Rattle.std.proofs.Common.{◌≡◌, map, drop, bytes_eq}
 use Rattle.ics_values.specs.Digits.{upper as upper_of}
 use Rattle.ics_values.proofs.part_name.is_word.Given as goal
 
