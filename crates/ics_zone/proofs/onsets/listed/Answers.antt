@@ -1,4 +1,4 @@
-use Rattle.std.proofs.Common.{rules, arith, SFits, w32, w64, ◌≡◌, true, ◌∙◌, ◌++◌, [], ◌∷◌, List, ℤ, ap, subst, sym}
+use Rattle.std.proofs.Common.{rules, arith, SFits, w32, w64, ◌≡◌, true, ◌∙◌, ◌++◌, [], ◌∷◌, List, ℤ, ap}
 use Rattle.std.specs.Prelude.{int_le}
 use Rattle.std.proofs.lemmas.Int.{ints, to_z-of_z}
 use Rattle.std.proofs.lemmas.List.Sums.{AllPass-from_list_all}
@@ -8,7 +8,7 @@ use Rattle.ics_fields.specs.declared.local.Local.{Local}
 use Rattle.ics_rule.proofs.KeptLemmas.{and_true}
 use Rattle.ics_zone.specs.Observances.{observance_said}
 use Rattle.ics_zone.proofs.Cases.{int_le_true}
-use Rattle.ics_zone.proofs.ListingLemmas.{IsListedTo, listed_first, listed_more, listing_of}
+use Rattle.ics_zone.proofs.ListingLemmas.{instants_more, listing_of}
 use Rattle.ics_zone.proofs.onsets.listed.Goals as goal
 
 pub loop-rdate-init : goal.loop-rdate-init
@@ -17,9 +17,7 @@ loop-rdate-init c =
     let small : SFits w64 c.instant.result = search rules in
     let items = simp to_z-of_z at c.in_ok-push.ensures.items in
     let at = simp (to_z-of_z, c.number.ensures.value) at c.instant.ensures in
-    subst (λ (list : List ℤ). IsListedTo (observance_said c.args.observance.now) [] list)
-    (sym (items ∙ ap (λ (old : List ℤ). old ++ c.instant.result ∷ []) c.new-listed.ensures.items))
-    (listed_first (observance_said c.args.observance.now) c.instant.result at)
+    items ∙ ap (λ (old : List ℤ). old ++ c.instant.result ∷ []) c.new-listed.ensures.items ∙ ap (λ (t : ℤ). t ∷ []) at
 
 -- each RDATE is in the years of stamps
 in_calendar : (local : Local) → is_stamp_local local ≡ true → IsDayNumber local.day
@@ -44,10 +42,10 @@ loop-rdate-preserved c =
     let is = rw c.deref-rdate-items.ensures.value at c.rdate-item.is in
     let items = simp to_z-of_z at c.in_ok-push-2.ensures.items in
     let at = simp (to_z-of_z, c.number-in-loop-rdate.ensures.value) at c.instant-in-loop-rdate.ensures in
-    listed_more (observance_said c.args.observance.now) c.loop-rdate.rdate-index inside is at items c.loop-rdate.invariant
+    instants_more (observance_said c.args.observance.now) c.loop-rdate.rdate-index inside is at items c.loop-rdate.invariant
 
 pub returns : goal.returns
 returns c =
     let past = rw c.deref-rdate-items.ensures.value at c.loop-rdate-test.false in
-    listing_of (observance_said c.args.observance.now) c.loop-rdate.rdate-index past c.loop-rdate.invariant
-    c.sort_unstable.ensures.permutation c.sort_unstable.ensures.sorted
+    listing_of (observance_said c.args.observance.now) c.loop-rdate.rdate-index past
+    (rw c.loop-rdate.invariant at c.sort_unstable.ensures.permutation) c.sort_unstable.ensures.sorted

@@ -1,7 +1,8 @@
-use Rattle.std.proofs.Common.{take}
+use Rattle.std.proofs.Common.{◌≡◌, ◌∷◌, take}
 use Rattle.ics_zone.specs.Observances.{observance_said}
-use Rattle.ics_zone.proofs.ListingLemmas.{IsListedTo}
+use Rattle.ics_zone.proofs.ListingLemmas.{instants_of}
 use Rattle.ics_zone.proofs.onsets.listed.Given as goal
 
 abbrev pub invariant-loop-rdate : goal.invariant-loop-rdate
-invariant-loop-rdate l = IsListedTo (observance_said l.observance) (take l.rdate-index l.observance.rdates.items) l.listed.items
+invariant-loop-rdate l =
+    l.listed.items ≡ instants_of (observance_said l.observance) (l.observance.start ∷ take l.rdate-index l.observance.rdates.items)
