@@ -1,31 +1,27 @@
 -- What a zone holds of its observances, one after another.
-use Rattle.std.proofs.Common.{◌≡◌, ℕ, ◌+◌, ◌-◌, ◌<◌, ◌≤◌, inl, inr, refl, sym, subst, arith, List, [], ◌∷◌, ◌++◌, length, map, get_or, Some, Contains}
-use Rattle.std.proofs.Common.{slice_get, ℤ}
-use Rattle.std.specs.List.{dedup}
+use Rattle.std.proofs.Common.{◌≡◌, ℕ, zero, suc, ◌+◌, ◌-◌, ◌<◌, ◌≤◌, inl, inr, refl, sym, subst, ◌∙◌, arith, List, [], ◌∷◌, ◌++◌, length, map, take}
+use Rattle.std.proofs.Common.{get_or, Some, Contains, slice_get, ℤ}
+use Rattle.std.specs.List.{dedup, flat_map}
 use Rattle.std.specs.List.Sorted.{IsPermutation}
 use Rattle.std.specs.Ordering.{int_eq}
 use Rattle.std.proofs.lemmas.Bool.Decides.{Decides-int_eq}
 use Rattle.std.proofs.lemmas.Cmp.{int_eq_equiv}
-use Rattle.std.proofs.lemmas.List.Elements.{Contains-append_left, Contains-push}
+use Rattle.std.proofs.lemmas.List.Elements.{Contains-append_right}
 use Rattle.std.proofs.lemmas.List.Kept.{Contains-dedup}
 use Rattle.std.proofs.lemmas.List.Sorted.{Contains-permutation}
-use Rattle.std.proofs.lemmas.List.{length-map, length-append, get_or_append_left, get_or-append_right}
+use Rattle.std.proofs.lemmas.List.{append_assoc, flat_map_more, length-map, length-append, get_or_append_left, get_or-append_right, take_more}
 use Rattle.std.proofs.lemmas.Option.{slice_get_within, slice_get_read, slice_get-map}
 use Rattle.ics_zone.specs.declared.observance.Observance.{Observance}
 use Rattle.ics_zone.specs.declared.onsets.Onsets.{Onsets}
 use Rattle.ics_zone.specs.Observances.{ObservanceSaid, observance_said}
 use Rattle.ics_zone.specs.OnsetSets.{AreOnsetsOf}
-use Rattle.ics_zone.specs.ZoneOnsets.{AreOnsetsOfAll, HasOffsets, HaveOffsets}
+use Rattle.ics_zone.specs.ZoneOnsets.{AreOnsetsOfAll, HaveOffsets}
 use Rattle.ics_zone.proofs.Cases.{below_or_at}
 
 -- the observances before a place have been read
 pub record AreOnsetsTo (observances : List Observance) (count : ℕ) (list : List Onsets) : Type 0 where
   pub same_length : length list ≡ count
   pub each : (i : ℕ) (p : ObservanceSaid) (d : Onsets) → i < count → slice_get (map observance_said observances) i ≡ Some p → AreOnsetsOf p (get_or list i d)
-
-abbrev pub HaveOffsetsTo : List Observance → ℕ → List ℤ → Type 0
-HaveOffsetsTo observances count offsets = (i : ℕ) (p : ObservanceSaid) → i < count → slice_get (map observance_said observances) i ≡ Some p →
-    HasOffsets offsets p
 
 module _ (observances : List Observance) (k : ℕ) (o : Observance) (inside : k < length observances) (at : o ≡ get_or observances k o) where
   observance_here : (i : ℕ) (p : ObservanceSaid) → i ≡ k → slice_get (map observance_said observances) i ≡ Some p → observance_said o ≡ p
@@ -45,21 +41,6 @@ module _ (observances : List Observance) (k : ℕ) (o : Observance) (inside : k 
           rw (right, zero) (subst (λ p. AreOnsetsOf p x) (observance_here i p same there) of))
     ];
   })
-
-  offsets_more : (old new : List ℤ) → ((t : ℤ) → Contains old t → Contains new t) → Contains new o.offset_to → Contains new o.offset_from
-      → HaveOffsetsTo observances k old → HaveOffsetsTo observances (k + 1) new
-  offsets_more old new kept to from before i p l there = grind (arith, below_or_at, observance_here)
-
-  -- both offsets of an observance more are pushed
-  pub offsets_pushed : (old one new : List ℤ) → one ≡ old ++ o.offset_to ∷ [] → new ≡ one ++ o.offset_from ∷ []
-      → HaveOffsetsTo observances k old → HaveOffsetsTo observances (k + 1) new
-  offsets_pushed old one new first second =
-      let kept : (t : ℤ) → Contains one t → Contains new t =
-      (λ t h. subst (λ (list : List ℤ). Contains list t) (sym second) (Contains-append_left one (o.offset_from ∷ []) t h)) in
-      offsets_more old new
-      (λ t h. kept t (subst (λ (list : List ℤ). Contains list t) (sym first) (Contains-append_left old (o.offset_to ∷ []) t h)))
-      (kept o.offset_to (subst (λ (list : List ℤ). Contains list o.offset_to) (sym first) (Contains-push old o.offset_to)))
-      (subst (λ (list : List ℤ). Contains list o.offset_from) (sym second) (Contains-push one o.offset_from))
 
 pub onsets_end : (observances : List Observance) (k : ℕ) (list : List Onsets) → length observances ≤ k → k ≤ length observances → AreOnsetsTo observances k list
     → AreOnsetsOfAll (map observance_said observances) list
@@ -84,7 +65,26 @@ offsets_moved zone old new moved have i p there =
     let h = have i p there in
     record { from = Contains-permutation old new p.offset_from moved h.from; to = Contains-permutation old new p.offset_to moved h.to }
 
-pub offsets_end : (observances : List Observance) (k : ℕ) (offsets : List ℤ) → length observances ≤ k → HaveOffsetsTo observances k offsets
-    → HaveOffsets offsets (map observance_said observances)
-offsets_end observances k offsets past all i p there = all i p (let h = slice_get_within (map observance_said observances) i p there in omega
-    (arith, h, past, length-map observances observance_said)) there
+-- the offsets of observances, one after another
+abbrev pub both_offsets : List Observance → List ℤ
+both_offsets observances = flat_map (λ o. o.offset_to ∷ o.offset_from ∷ []) observances
+
+pub both_more : {o : Observance} {old one new : List ℤ} (observances : List Observance) (k : ℕ) → k < length observances → o ≡ get_or observances k o
+    → one ≡ old ++ o.offset_to ∷ [] → new ≡ one ++ o.offset_from ∷ [] → old ≡ both_offsets (take k observances)
+    → new ≡ both_offsets (take (k + 1) observances)
+both_more {o = o} observances k inside at first second before =
+    rw (second, first, before, take_more observances k o inside, ← at)
+    (append_assoc (both_offsets (take k observances)) (o.offset_to ∷ []) (o.offset_from ∷ [])
+    ∙ flat_map_more (λ (o : Observance). o.offset_to ∷ o.offset_from ∷ []) [] (take k observances) o)
+
+pub have_both : (observances : List Observance) → HaveOffsets (both_offsets observances) (map observance_said observances)
+have_both [] i p e = absurd (cc)
+have_both (o ∷ observances) zero p e =
+    let same : observance_said o ≡ p = cc in rw (← same) (record { from = (1, omega arith, refl); to = (0, omega arith, refl) })
+have_both (o ∷ observances) (suc i) p e =
+    let h = have_both observances i p e in
+    let own : List ℤ = o.offset_to ∷ o.offset_from ∷ [] in
+    record {
+      from = Contains-append_right own (both_offsets observances) p.offset_from h.from;
+      to = Contains-append_right own (both_offsets observances) p.offset_to h.to;
+    }
