@@ -1,5 +1,5 @@
 -- The offset in force, and the instant at which a clock jumps over a local.
-use Rattle.std.proofs.Common.{◌≡◌, ◌≢◌, ℕ, ◌<◌, ◌⊎◌, inl, inr, Bool, true, false, cond, refl, sym, ap, ◌∙◌, subst, arith, List, [], ◌∷◌, ◌++◌, length, Option}
+use Rattle.std.proofs.Common.{◌≡◌, ◌≢◌, ℕ, ◌<◌, ◌⊎◌, inl, inr, Bool, true, false, cond, refl, sym, ◌∙◌, subst, arith, List, [], ◌∷◌, ◌++◌, length, Option}
 use Rattle.std.proofs.Common.{Some, None, Contains, ℤ, pos, ◌+ℤ◌, ◌-ℤ◌, ◌<ℤ◌, ◌≤ℤ◌}
 use Rattle.std.proofs.lemmas.Int.{ints}
 use Rattle.std.specs.List.Sorted.{IsPermutation}
@@ -8,9 +8,8 @@ use Rattle.std.proofs.lemmas.List.Elements.{All-push}
 use Rattle.std.proofs.lemmas.Option.{slice_get_within}
 use Rattle.ics_zone.specs.declared.latest.Latest.{Latest}
 use Rattle.ics_zone.specs.declared.latest.Steady.{Steady}
-use Rattle.ics_zone.specs.declared.observance.Observance.{Observance}
 use Rattle.ics_zone.specs.declared.onsets.Onsets.{Onsets}
-use Rattle.ics_zone.specs.Observances.{ObservanceSaid, IsZone, observances_said}
+use Rattle.ics_zone.specs.Observances.{ObservanceSaid, IsZone}
 use Rattle.ics_zone.specs.ZoneOffsets.{natural, IsOnset, IsNotLater, IsInForce, IsBeforeAll, IsOffset, zone_offset}
 use Rattle.ics_zone.specs.Moments.{shown, IsFirstTime}
 use Rattle.ics_zone.specs.ZoneOnsets.{HaveOffsets, IsKnown, IsLatest, IsLatestOf, IsFirstOffset, IsNextPast, IsClear, IsJump, IsSteady, IsOverridden}
@@ -27,41 +26,43 @@ module _ (zone : List ObservanceSaid) (facts : IsZone zone) (some : 0 < length z
   pub is_offset : (t : ℤ) → IsOffset zone t (zone_offset zone t)
   is_offset t = offset_found zone facts t (not_empty zone some)
 
-  -- the greatest onset of all observances is the one in force
-  pub in_force_is : (t : ℤ) (e : Latest) → IsLatest zone t (length zone) e → e.offset ≡ zone_offset zone t
-  in_force_is t e latest = offset_unique zone t e.offset (zone_offset zone t) (inl (
-    latest.observance,
-    record {
-      place = e.place;
-      since = e.at;
-      onset = latest.onset;
-      not_after = latest.not_after;
-      greatest = λ i s p h l. latest.greatest i s p (slice_get_within zone i p h.0) h l;
-    },
-    latest.offset,
-  )) (is_offset t)
+  -- what is in force, and what is before all onsets, gives the offset
+  in_force_is : (t : ℤ) (p : ObservanceSaid) → IsInForce zone t p → p.offset_to ≡ zone_offset zone t
+  in_force_is t p f = offset_unique zone t p.offset_to (zone_offset zone t) (inl (p, f, refl)) (is_offset t)
 
-  pub before_all_is : (t offset : ℤ) → ((i : ℕ) (s : ℤ) (p : ObservanceSaid) → i < length zone → IsOnset zone i s p → t <ℤ s) → IsFirstOffset zone offset
-      → offset ≡ zone_offset zone t
-  before_all_is t offset none first = offset_unique zone t offset (zone_offset zone t) (inr (
-    first.1.observance,
-    record {
-      place = first.1.place;
-      first = first.0;
-      onset = first.1.onset;
-      before = none first.1.place first.0 first.1.observance (slice_get_within zone first.1.place first.1.observance first.1.onset.0) first.1.onset;
-      least = λ i s p h. first.1.least i s p (slice_get_within zone i p h.0) h;
-    },
-    first.1.is,
-  )) (is_offset t)
+  before_all_is : (t : ℤ) (p : ObservanceSaid) → IsBeforeAll zone t p → p.offset_from ≡ zone_offset zone t
+  before_all_is t p f = offset_unique zone t p.offset_from (zone_offset zone t) (inr (p, f, refl)) (is_offset t)
+
+  -- the greatest onset of all observances begins a span in which its offset holds, up to where the next may be
+  pub steady_since : (t next : ℤ) → ((i : ℕ) (s : ℤ) (p : ObservanceSaid) → IsOnset zone i s p → t <ℤ s → next ≤ℤ s)
+      → (e : Latest) → IsLatest zone t (length zone) e → IsSteady (zone_offset zone) e.at next e.offset
+  steady_since t next none e h u low high = h.offset ∙ in_force_is u h.observance (record {
+    place = e.place;
+    since = e.at;
+    onset = h.onset;
+    not_after = low;
+    greatest = λ i s p g l. elim (less_or_not_z t s) [
+      | inl late ↦ absurd (let n = none i s p g late in omega (arith, ints, n, l, high))
+      | inr early ↦ h.greatest i s p (slice_get_within zone i p g.0) g early
+    ];
+  })
 
   pub latest_is : (t : ℤ) (found : Option Latest) → IsLatestOf zone t (length zone) found → (e : Latest) → found ≡ Some e → e.offset ≡ zone_offset zone t
   latest_is t None h e same = absurd (cc)
-  latest_is t (Some f) h e same = let one : f ≡ e = cc in rw (← one) (in_force_is t f h)
+  latest_is t (Some f) h e same =
+      let one : f ≡ e = cc in
+      let not_after = h.not_after in
+      rw (← one) (steady_since t (t +ℤ pos 1) (λ i s p g l. omega (arith, ints, l)) f h t not_after (omega (arith, ints)))
 
   pub none_is : (t offset : ℤ) (found : Option Latest) → IsLatestOf zone t (length zone) found → found ≡ None → IsFirstOffset zone offset
       → offset ≡ zone_offset zone t
-  none_is t offset None h same first = before_all_is t offset h first
+  none_is t offset None h same first = first.1.is ∙ before_all_is t first.1.observance (record {
+    place = first.1.place;
+    first = first.0;
+    onset = first.1.onset;
+    before = h first.1.place first.0 first.1.observance (slice_get_within zone first.1.place first.1.observance first.1.onset.0) first.1.onset;
+    least = λ i s p g. first.1.least i s p (slice_get_within zone i p g.0) g;
+  })
   none_is t offset (Some f) h same first = absurd (cc)
 
   -- each offset of the zone is one of its observances
@@ -74,49 +75,22 @@ module _ (zone : List ObservanceSaid) (facts : IsZone zone) (some : 0 < length z
 
   -- an offset holds from its onset on
   holds_since : (s : ℤ) (p : ObservanceSaid) (f : IsInForce zone s p) (t : ℤ) → f.since ≤ℤ t → t ≤ℤ s → p.offset_to ≡ zone_offset zone t
-  holds_since s p f t low high = offset_unique zone t p.offset_to (zone_offset zone t) (inl (
-    p,
-    record {
-      place = f.place;
-      since = f.since;
-      onset = f.onset;
-      not_after = low;
-      greatest = λ i u q h l. f.greatest i u q h (omega (arith, ints, l, high));
-    },
-    refl,
-  )) (is_offset t)
+  holds_since s p f t low high = in_force_is t p (record {
+    place = f.place;
+    since = f.since;
+    onset = f.onset;
+    not_after = low;
+    greatest = λ i u q h l. f.greatest i u q h (omega (arith, ints, l, high));
+  })
 
   holds_before : (s : ℤ) (p : ObservanceSaid) → IsBeforeAll zone s p → (t : ℤ) → t ≤ℤ s → p.offset_from ≡ zone_offset zone t
-  holds_before s p f t high = offset_unique zone t p.offset_from (zone_offset zone t) (inr (
-    p,
-    record {
-      place = f.place;
-      first = f.first;
-      onset = f.onset;
-      before = let b = f.before in omega (arith, ints, b, high);
-      least = f.least;
-    },
-    refl,
-  )) (is_offset t)
-
-  -- the greatest onset of all observances begins a span in which its offset holds, up to where the next may be
-  pub steady_since : (t next : ℤ) → ((i : ℕ) (s : ℤ) (p : ObservanceSaid) → IsOnset zone i s p → t <ℤ s → next ≤ℤ s)
-      → (e : Latest) → IsLatest zone t (length zone) e → IsSteady (zone_offset zone) e.at next e.offset
-  steady_since t next none e h u low high =
-      h.offset ∙ offset_unique zone u h.observance.offset_to (zone_offset zone u) (inl (
-        h.observance,
-        record {
-          place = e.place;
-          since = e.at;
-          onset = h.onset;
-          not_after = low;
-          greatest = λ i s p g l. elim (less_or_not_z t s) [
-            | inl late ↦ absurd (let n = none i s p g late in omega (arith, ints, n, l, high))
-            | inr early ↦ h.greatest i s p (slice_get_within zone i p g.0) g early
-          ];
-        },
-        refl,
-      )) (is_offset u)
+  holds_before s p f t high = before_all_is t p (record {
+    place = f.place;
+    first = f.first;
+    onset = f.onset;
+    before = let b = f.before in omega (arith, ints, b, high);
+    least = f.least;
+  })
 
   -- where a greater onset overrides all those of the observances with an offset, the zone has another
   pub overridden_other : (t offset : ℤ) → IsOverridden zone t offset → zone_offset zone t ≢ offset
@@ -149,15 +123,17 @@ module _ (zone : List ObservanceSaid) (facts : IsZone zone) (some : 0 < length z
     less_or_more t = grind (arith, ints, less_or_not_z)
 
     module _ (after next : ℤ) (earlier : (t : ℤ) → t ≤ℤ after → shown (zone_offset zone) t <ℤ local) (none : IsClear zone local after next) where
+      -- nor does it in a span of one offset that begins at an instant up to which it shows earlier ones
+      steady_past : (offset s : ℤ) → after <ℤ s → ((t : ℤ) → after ≤ℤ t → t ≤ℤ s → offset ≡ zone_offset zone t) → local <ℤ shown (zone_offset zone) s → ⊥
+      steady_past offset s late holds more =
+          let same = holds after (omega (arith, ints)) (omega (arith, ints, late)) in
+          let here = holds s (omega (arith, ints, late)) (omega (arith, ints)) in
+          let before = earlier after (omega (arith, ints)) in
+          not_crossed offset after s holds (omega (arith, ints, same, before)) (omega (arith, ints, here, more))
+
       not_past : (s : ℤ) → after <ℤ s → s <ℤ next → IsOffset zone s (zone_offset zone s) → local <ℤ shown (zone_offset zone) s → ⊥
       not_past s late early (inl h) more = elim (less_or_not_z after h.1.since) [
-        | inr old ↦ (
-            let f = h.1 in
-            let here = h.2 in
-            let same = holds_since s h.0 f after old (omega (arith, ints, late)) in
-            let before = earlier after (omega (arith, ints)) in
-            not_crossed h.0.offset_to after s (λ t a b. holds_since s h.0 f t (omega (arith, ints, old, a)) b)
-            (omega (arith, ints, same, before)) (omega (arith, ints, here, more)))
+        | inr old ↦ steady_past h.0.offset_to s late (λ t a b. holds_since s h.0 h.1 t (omega (arith, ints, old, a)) b) more
         | inl new ↦ (
             let f = h.1 in
             let here = h.2 in
@@ -169,12 +145,7 @@ module _ (zone : List ObservanceSaid) (facts : IsZone zone) (some : 0 < length z
                   greater_at f.since f.place over.0 over.1.1.1.0 (f.greatest over.0 f.since over.1.0 over.1.1.0 until))
             ])
       ]
-      not_past s late early (inr h) more =
-          let here = h.2 in
-          let same = holds_before s h.0 h.1 after (omega (arith, ints, late)) in
-          let before = earlier after (omega (arith, ints)) in
-          not_crossed h.0.offset_from after s (λ t a b. holds_before s h.0 h.1 t b)
-          (omega (arith, ints, same, before)) (omega (arith, ints, here, more))
+      not_past s late early (inr h) more = steady_past h.0.offset_from s late (λ t a b. holds_before s h.0 h.1 t b) more
 
       -- the clock shows earlier locals up to the next onset that may show a later one
       pub earlier_before_next : (s : ℤ) → s <ℤ next → shown (zone_offset zone) s <ℤ local
@@ -184,25 +155,14 @@ module _ (zone : List ObservanceSaid) (facts : IsZone zone) (some : 0 < length z
       ]
 
       pub jump_at_next : local <ℤ shown (zone_offset zone) next → IsJump (zone_offset zone) local next
-      jump_at_next later = record {
-        is_later = later;
-        first = λ s l. elim (less_or_not_z s next) [
-          | inr high ↦ high
-          | inl low ↦ absurd
-              (let less = earlier_before_next s low in omega (arith, ints, less, l))
-        ];
-      }
+      jump_at_next later = record { is_later = later; first = λ s l. grind (arith, ints, less_or_not_z, earlier_before_next) }
 
       pub earlier_at_next : shown (zone_offset zone) next ≤ℤ local → (s : ℤ) → s ≤ℤ next → shown (zone_offset zone) s <ℤ local
       earlier_at_next not_later s l = elim (less_or_not_z s next) [
         | inl low ↦ earlier_before_next s low
-        | inr same ↦ elim (less_or_more s) [
-          | inl less ↦ less
-          | inr more ↦ absurd (
-              let at : s ≡ next = omega (arith, ints, l, same) in
-              let is = ap (shown (zone_offset zone)) at in
-              omega (arith, ints, is, more, not_later))
-        ]
+        | inr high ↦ (
+            let at : s ≡ next = omega (arith, ints, l, high) in
+            rw at (elim (less_or_more next) [ inl less ↦ less | inr more ↦ absurd (omega (arith, ints, more, not_later)) ]))
       ]
 
 -- where no onset shows a later local, none is to be overridden
@@ -236,12 +196,6 @@ shown_once {value = value} zone facts local steady low high =
 -- the measure of that search
 pub natural_less : (a b : ℤ) → pos 0 ≤ℤ a → a <ℤ b → natural a < natural b
 natural_less a b low less = grind (arith, ints, natural-is)
-
--- what a zone knows is of the observances that contracts see
-pub known_zone : {observances zone : List Observance} {onsets : List Onsets} {offsets : List ℤ} {held : List Steady}
-    → IsKnown (observances_said observances) onsets offsets held → observances ≡ zone → IsKnown (observances_said zone) onsets offsets held
-known_zone {onsets = onsets} {offsets = offsets} {held = held} known is =
-    subst (λ (z : List Observance). IsKnown (observances_said z) onsets offsets held) is known
 
 -- the same spans are held in another order
 pub held_moved : {zone : List ObservanceSaid} {onsets : List Onsets} {offsets : List ℤ} {was now : List Steady} → IsPermutation was now

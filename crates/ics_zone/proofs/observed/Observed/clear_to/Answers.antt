@@ -2,9 +2,8 @@ use Rattle.std.proofs.Common.{rules, arith, pos, ◌+ℤ◌, SFits, w64}
 use Rattle.std.proofs.lemmas.Int.{ints, clamps, to_z-of_z}
 use Rattle.ics_zone.specs.Observances.{observances_said}
 use Rattle.ics_zone.specs.ZoneBounds.{zone_facts}
-use Rattle.ics_zone.specs.ZoneOnsets.{IsKnown}
 use Rattle.ics_zone.proofs.ZoneSteps.{all_sound}
-use Rattle.ics_zone.proofs.JumpLemmas.{earlier_before_next, known_zone}
+use Rattle.ics_zone.proofs.JumpLemmas.{earlier_before_next}
 use Rattle.ics_zone.proofs.observed.Observed.clear_to.Goals as goal
 
 pub clear_after-clear-requires-clause-sound : goal.clear_after-clear-requires-clause-sound
@@ -15,8 +14,7 @@ returns-clause-earlier c = λ t l.
     let fits : SFits w64 c.args.seconds = c.ranges.seconds in
     let small : SFits w64 c.args.after = c.ranges.after in
     let few : SFits w64 c.clear_after-clear.result = search rules in
-    let known : IsKnown (observances_said c.args.self.now) c.self.inside.onsets.items c.self.inside.offsets.items c.self.inside.held.items =
-    known_zone c.self.invariant c.self.view_is in
+    let known = rw c.self.view_is at c.self.invariant in
     let clear = rw c.deref.ensures.value at (simp to_z-of_z at c.clear_after-clear.ensures.clear) in
     earlier_before_next (observances_said c.args.self.now) (zone_facts c.args.self.now) known.some c.args.seconds c.requires.skipped
     c.args.after (c.args.after +ℤ c.clear_after-clear.result +ℤ pos 1) c.requires.earlier (clear (observances_said c.args.self.now) known.asked) t

@@ -2,9 +2,8 @@ use Rattle.std.proofs.Common.{rules, arith, pos, ◌+ℤ◌, ◌-ℤ◌, SFits, 
 use Rattle.std.proofs.lemmas.Int.{ints, to_z-of_z}
 use Rattle.ics_zone.specs.Observances.{observances_said}
 use Rattle.ics_zone.specs.ZoneBounds.{zone_facts}
-use Rattle.ics_zone.specs.ZoneOnsets.{IsKnown}
 use Rattle.ics_zone.proofs.ZoneSteps.{all_sound}
-use Rattle.ics_zone.proofs.JumpLemmas.{jump_at_next, earlier_at_next, past_clear, earlier_before, later_after, natural_less, known_zone}
+use Rattle.ics_zone.proofs.JumpLemmas.{jump_at_next, earlier_at_next, past_clear, earlier_before, later_after, natural_less}
 use Rattle.ics_zone.proofs.observed.Observed.jump.Goals as goal
 
 pub loop-after-init : goal.loop-after-init
@@ -22,8 +21,7 @@ pub returns-then-is_past-clause-jump : goal.returns-then-is_past-clause-jump
 returns-then-is_past-clause-jump c =
     let fits : SFits w64 c.args.seconds = c.ranges.seconds in
     let next : SFits w64 c.next_past-after.result = search rules in
-    let known : IsKnown (observances_said c.args.self.now) c.self.inside.onsets.items c.self.inside.offsets.items c.self.inside.held.items =
-    known_zone c.self.invariant c.self.view_is in
+    let known = rw c.self.view_is at c.self.invariant in
     let none = rw c.deref.ensures.value at (simp to_z-of_z at c.next_past-after.ensures.next) in
     let earlier = simp to_z-of_z at c.loop-after.invariant.earlier in
     let later = rw c.if-is_past.true at (simp to_z-of_z at c.is_past.ensures) in
@@ -42,8 +40,7 @@ loop-after-smaller c =
 
 pub loop-after-preserved : goal.loop-after-preserved
 loop-after-preserved c =
-    let to : SFits w64 c.clear_hours-after.result = search rules in
-    rw (to_z-of_z w64 c.clear_hours-after.result to) (record {
+    rw (to_z-of_z w64 c.clear_hours-after.result (search rules)) (record {
       low = omega (arith, ints, c.loop-after.invariant.low, c.next_past-after.ensures.after, c.clear_hours-after.ensures.low);
       high = omega (arith, ints, c.clear_hours-after.ensures.high);
       earlier = c.clear_hours-after.ensures.earlier;
@@ -53,8 +50,7 @@ pub clear_hours-after-requires-clause-earlier : goal.clear_hours-after-requires-
 clear_hours-after-requires-clause-earlier c =
     let fits : SFits w64 c.args.seconds = c.ranges.seconds in
     let next : SFits w64 c.next_past-after.result = search rules in
-    let known : IsKnown (observances_said c.args.self.now) c.self.inside.onsets.items c.self.inside.offsets.items c.self.inside.held.items =
-    known_zone c.self.invariant c.self.view_is in
+    let known = rw c.self.view_is at c.self.invariant in
     let none = rw c.deref.ensures.value at (simp to_z-of_z at c.next_past-after.ensures.next) in
     let earlier = simp to_z-of_z at c.loop-after.invariant.earlier in
     let not_later = rw c.if-is_past.false at (simp to_z-of_z at c.is_past.ensures) in

@@ -3,9 +3,8 @@ use Rattle.std.proofs.lemmas.Int.{to_z-of_z}
 use Rattle.ics_zone.specs.ZoneOffsets.{zone_offset}
 use Rattle.ics_zone.specs.Observances.{observances_said}
 use Rattle.ics_zone.specs.ZoneBounds.{zone_facts}
-use Rattle.ics_zone.specs.ZoneOnsets.{IsKnown}
 use Rattle.ics_zone.proofs.ZoneSteps.{all_sound}
-use Rattle.ics_zone.proofs.JumpLemmas.{is_offset, latest_is, none_is, known_zone}
+use Rattle.ics_zone.proofs.JumpLemmas.{is_offset, latest_is, none_is}
 use Rattle.ics_zone.proofs.observed.Observed.offset_of_latest.Goals as goal
 
 pub latest_of-requires : goal.latest_of-requires
@@ -17,27 +16,23 @@ first_offset-requires-clause-sound c = rw c.deref-in-None.ensures.value (all_sou
 pub returns-in-Some : goal.returns-in-Some
 returns-in-Some c =
     let fits : SFits w64 c.args.moment = c.ranges.moment in
-    let small : SFits w32 c.in-Some.latest.offset = search rules in
-    let known : IsKnown (observances_said c.args.self.now) c.self.inside.onsets.items c.self.inside.offsets.items c.self.inside.held.items =
-    known_zone c.self.invariant c.self.view_is in
+    let known = rw c.self.view_is at c.self.invariant in
     let found = rw c.deref.ensures.value at (simp to_z-of_z at c.latest_of.ensures) in
     let value : c.in-Some.latest.offset ≡ zone_offset (observances_said c.args.self.now) c.args.moment =
     latest_is (observances_said c.args.self.now) (zone_facts c.args.self.now) known.some c.args.moment c.latest_of.result
     (found (observances_said c.args.self.now) known.asked) c.in-Some.latest c.in-Some.is in
-    rw (to_z-of_z w32 c.in-Some.latest.offset small)
+    rw (to_z-of_z w32 c.in-Some.latest.offset (search rules))
     (record { means = rw value (is_offset (observances_said c.args.self.now) (zone_facts c.args.self.now) known.some c.args.moment); value = value })
 
 pub returns-in-None : goal.returns-in-None
 returns-in-None c =
     let fits : SFits w64 c.args.moment = c.ranges.moment in
-    let small : SFits w32 c.first_offset.result = search rules in
-    let known : IsKnown (observances_said c.args.self.now) c.self.inside.onsets.items c.self.inside.offsets.items c.self.inside.held.items =
-    known_zone c.self.invariant c.self.view_is in
+    let known = rw c.self.view_is at c.self.invariant in
     let found = rw c.deref.ensures.value at (simp to_z-of_z at c.latest_of.ensures) in
     let first = rw c.deref-in-None.ensures.value at c.first_offset.ensures in
     let value : c.first_offset.result ≡ zone_offset (observances_said c.args.self.now) c.args.moment =
     none_is (observances_said c.args.self.now) (zone_facts c.args.self.now) known.some c.args.moment c.first_offset.result c.latest_of.result
     (found (observances_said c.args.self.now) known.asked) c.in-None.is
     (first (observances_said c.args.self.now) known.asked) in
-    rw (to_z-of_z w32 c.first_offset.result small)
+    rw (to_z-of_z w32 c.first_offset.result (search rules))
     (record { means = rw value (is_offset (observances_said c.args.self.now) (zone_facts c.args.self.now) known.some c.args.moment); value = value })

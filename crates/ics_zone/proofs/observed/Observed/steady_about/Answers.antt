@@ -2,9 +2,8 @@ use Rattle.std.proofs.Common.{rules, SFits, w32, w64}
 use Rattle.std.proofs.lemmas.Int.{to_z-of_z}
 use Rattle.ics_zone.specs.Observances.{observances_said}
 use Rattle.ics_zone.specs.ZoneBounds.{zone_facts}
-use Rattle.ics_zone.specs.ZoneOnsets.{IsKnown}
 use Rattle.ics_zone.proofs.ZoneSteps.{all_sound}
-use Rattle.ics_zone.proofs.JumpLemmas.{steady_since, known_zone}
+use Rattle.ics_zone.proofs.JumpLemmas.{steady_since}
 use Rattle.ics_zone.proofs.observed.Observed.steady_about.Goals as goal
 
 pub latest_of-requires : goal.latest_of-requires
@@ -17,13 +16,11 @@ pub returns : goal.returns
 returns c =
     let fits : SFits w64 c.args.near = c.ranges.near in
     let at : SFits w64 c.in_ok-latest.latest.at = search rules in
-    let next : SFits w64 c.next_onset-next.result = search rules in
     let small : SFits w32 c.in_ok-latest.latest.offset = search rules in
-    let known : IsKnown (observances_said c.args.self.now) c.self.inside.onsets.items c.self.inside.offsets.items c.self.inside.held.items =
-    known_zone c.self.invariant c.self.view_is in
+    let known = rw c.self.view_is at c.self.invariant in
     let found = rw c.deref.ensures.value at (simp to_z-of_z at c.in_ok-latest.ensures) in
     let none = rw c.deref-2.ensures.value at (simp to_z-of_z at c.next_onset-next.ensures.next) in
-    rw (to_z-of_z w64 c.next_onset-next.result next, to_z-of_z w64 c.in_ok-latest.latest.at at, to_z-of_z w32 c.in_ok-latest.latest.offset small)
+    rw (to_z-of_z w64 c.next_onset-next.result (search rules), to_z-of_z w64 c.in_ok-latest.latest.at at, to_z-of_z w32 c.in_ok-latest.latest.offset small)
     (steady_since (observances_said c.args.self.now) (zone_facts c.args.self.now) known.some c.args.near c.next_onset-next.result
     (none (observances_said c.args.self.now) known.asked)
     c.in_ok-latest.latest (found (observances_said c.args.self.now) known.asked))
