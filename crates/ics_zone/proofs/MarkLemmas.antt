@@ -16,7 +16,7 @@ use Rattle.ics_zone.proofs.Cases.{less_or_not_z, not_both, int_lt_true}
 use Rattle.ics_zone.proofs.SixtyLemmas.{contains-none, contains-or}
 use Rattle.ics_zone.proofs.MinuteLemmas.{marked-set_same, marked-set_other}
 use Rattle.ics_zone.proofs.OnsetLemmas.{natural-is}
-use Rattle.ics_zone.proofs.ZoneSteps.{observance_there, onsets_at}
+use Rattle.ics_zone.proofs.ZoneSteps.{observance_here, onsets_here, onsets_at}
 
 -- an onset more that is marked
 module _ (s : Onsets) (with_rule : Bool) (from : ℤ) (was now : List ℕ) (at : ℤ) (second : ℕ) (is : at ≡ from +ℤ pos second)
@@ -44,49 +44,59 @@ abbrev pub AreClearBefore : Onsets → ℤ → ℤ → List ℕ → ℕ → Type
 AreClearBefore s local from marks bound =
     (k : ℕ) → k < bound → Has s (from +ℤ pos k) → local <ℤ (from +ℤ pos k +ℤ s.offset_to) → IsMarked marks k
 
--- the marks of a minute more
-module _ (s : Onsets) (local from low : ℤ) (onsets was : List ℕ) (minute size part : ℕ) (inside : minute < length was)
-    (known : (k : ℕ) → k < 3_600 → IsMarked onsets k → Has s (from +ℤ pos k))
-    (complete : (k : ℕ) → k < 3_600 → Has s (from +ℤ pos k) → IsMarked onsets k)
-    (down : (k : ℕ) → pos k <ℤ low → (from +ℤ pos k) ≤ℤ (local -ℤ s.offset_to))
-    (is_size : (n : ℕ) → n < 60 → nat_lt n size ≡ int_lt (pos (minute * 60 + n)) low)
-    (is_part : (n : ℕ) → contains part n ≡ (nat_lt n size && contains (get_or onsets minute 0) n)) where
-  in_minute : (k : ℕ) → k / 60 ≡ minute → is_marked (set was minute (bit_or (get_or was minute 0) part)) k ≡ (is_marked was k || contains part (k % 60))
-  in_minute k e = grind (arith, ints, contains-or, marked-set_same)
+-- one minute of an hour, behind those whose onsets were looked at: `part` has the seconds of its onsets that show no later local
+pub record IsMinute (s : Onsets) (local from low : ℤ) (onsets before was : List ℕ) (minute size part : ℕ) : Type 0 where
+  pub known : (k : ℕ) → k < 3_600 → IsMarked onsets k → Has s (from +ℤ pos k)
+  pub complete : (k : ℕ) → k < 3_600 → Has s (from +ℤ pos k) → IsMarked onsets k
+  pub down : (k : ℕ) → pos k <ℤ low → (from +ℤ pos k) ≤ℤ (local -ℤ s.offset_to)
+  pub is_size : (n : ℕ) → n < 60 → nat_lt n size ≡ int_lt (pos (minute * 60 + n)) low
+  pub is_part : (n : ℕ) → contains part n ≡ (nat_lt n size && contains (get_or onsets minute 0) n)
+  pub small : minute < 60
+  pub inside : minute < length was
+  pub marks : AreMarks s local from before was
+  pub clear : AreClearBefore s local from was (minute * 60)
 
-  pub stay_minute : (k : ℕ) → IsMarked was k → IsMarked (set was minute (bit_or (get_or was minute 0) part)) k
+module _ {s : Onsets} {local from low : ℤ} {onsets before was : List ℕ} {minute size part : ℕ}
+    (h : IsMinute s local from low onsets before was minute size part) where
+  abbrev with_minute : List ℕ
+  with_minute = set was minute (bit_or (get_or was minute 0) part)
+
+  in_minute : (k : ℕ) → k / 60 ≡ minute → is_marked with_minute k ≡ (is_marked was k || contains part (k % 60))
+  in_minute k e = let inside = h.inside in grind (arith, ints, contains-or, marked-set_same)
+
+  stay_minute : (k : ℕ) → IsMarked was k → IsMarked with_minute k
   stay_minute k m = grind (arith, ints, cases_eq, in_minute, marked-set_other, or_left)
 
-  module _ (small : minute < 60) where
-    new_mark : (k : ℕ) → k / 60 ≡ minute → contains part (k % 60) ≡ true → Has s (from +ℤ pos k) × ((from +ℤ pos k +ℤ s.offset_to) ≤ℤ local)
-    new_mark k e h =
-        let both = and_parts (nat_lt (k % 60) size) (contains (get_or onsets minute 0) (k % 60)) (sym (is_part (k % 60)) ∙ h) in
-        let here : minute * 60 + k % 60 ≡ k = omega (arith, e) in
-        let early = int_lt_true (pos (minute * 60 + k % 60)) low (sym (is_size (k % 60) (omega arith)) ∙ both.0) in
-        let not_later = down k (subst (λ m. pos m <ℤ low) here early) in
-        (known k (omega (arith, e, small)) (ap (λ m. contains (get_or onsets m 0) (k % 60)) e ∙ both.1), omega (arith, ints, not_later))
+  new_mark : (k : ℕ) → k / 60 ≡ minute → contains part (k % 60) ≡ true → Has s (from +ℤ pos k) × ((from +ℤ pos k +ℤ s.offset_to) ≤ℤ local)
+  new_mark k e m =
+      let both = and_parts (nat_lt (k % 60) size) (contains (get_or onsets minute 0) (k % 60)) (sym (h.is_part (k % 60)) ∙ m) in
+      let here : minute * 60 + k % 60 ≡ k = omega (arith, e) in
+      let early = int_lt_true (pos (minute * 60 + k % 60)) low (sym (h.is_size (k % 60) (omega arith)) ∙ both.0) in
+      let not_later = h.down k (subst (λ m. pos m <ℤ low) here early) in
+      let small = h.small in
+      (h.known k (omega (arith, e, small)) (ap (λ m. contains (get_or onsets m 0) (k % 60)) e ∙ both.1), omega (arith, ints, not_later))
 
-    pub marks_minute : (before : List ℕ) → AreMarks s local from before was
-        → AreMarks s local from before (set was minute (bit_or (get_or was minute 0) part))
-    marks_minute before old k m = elim (cases_eq (k / 60) minute) [
-      | inl e ↦ elim (or_cases (is_marked was k) (contains part (k % 60)) (sym (in_minute k e) ∙ m)) [
-        | inl o ↦ old k o
-        | inr n ↦ inr (new_mark k e n)
-      ]
-      | inr ne ↦ old k (sym (marked-set_other was minute (bit_or (get_or was minute 0) part) k ne) ∙ m)
+  pub marks_minute : AreMarks s local from before with_minute
+  marks_minute k m = elim (cases_eq (k / 60) minute) [
+    | inl e ↦ elim (or_cases (is_marked was k) (contains part (k % 60)) (sym (in_minute k e) ∙ m)) [
+      | inl o ↦ h.marks k o
+      | inr n ↦ inr (new_mark k e n)
     ]
+    | inr ne ↦ h.marks k (sym (marked-set_other was minute (bit_or (get_or was minute 0) part) k ne) ∙ m)
+  ]
 
-    -- the first seconds of the minute are clear too
-    pub clear_minute : (now : List ℕ) (bound : ℕ) → ((k : ℕ) → IsMarked was k → IsMarked now k) → bound ≤ 60
-        → ((n : ℕ) → n < bound → contains (get_or onsets minute 0) n ≡ true → contains (get_or now minute 0) n ≡ true)
-        → AreClearBefore s local from was (minute * 60) → AreClearBefore s local from now (minute * 60 + bound)
-    clear_minute now bound stay most first old k early h later = elim (cases_lt k (minute * 60)) [
-      | inl less ↦ stay k (old k less h later)
-      | inr more ↦ (
-          let e : k / 60 ≡ minute = omega (arith, more, early, most) in
-          let there = ap (λ m. contains (get_or onsets m 0) (k % 60)) (sym e) ∙ complete k (omega (arith, e, small)) h in
-          ap (λ m. contains (get_or now m 0) (k % 60)) e ∙ first (k % 60) (omega (arith, e, more, early)) there)
-    ]
+  -- the first seconds of the minute are clear too
+  pub clear_minute : (bound : ℕ) → bound ≤ 60
+      → ((n : ℕ) → n < bound → contains (get_or onsets minute 0) n ≡ true → contains (get_or with_minute minute 0) n ≡ true)
+      → AreClearBefore s local from with_minute (minute * 60 + bound)
+  clear_minute bound most first k early has later = elim (cases_lt k (minute * 60)) [
+    | inl less ↦ stay_minute k (h.clear k less has later)
+    | inr more ↦ (
+        let small = h.small in
+        let e : k / 60 ≡ minute = omega (arith, more, early, most) in
+        let there = ap (λ m. contains (get_or onsets m 0) (k % 60)) (sym e) ∙ h.complete k (omega (arith, e, small)) has in
+        ap (λ m. contains (get_or with_minute m 0) (k % 60)) e ∙ first (k % 60) (omega (arith, e, more, early)) there)
+  ]
 
 -- each marked second has an onset, of an observance from a place on, that shows no later local
 abbrev pub AreOverrides : List ObservanceSaid → ℕ → ℤ → ℤ → List ℕ → Type 0
@@ -110,8 +120,8 @@ module _ (zone : List ObservanceSaid) (list : List Onsets) (all : AreOnsetsOfAll
         let low = found.1.1.1.0 in
         (found.0, (found.1.0, (found.1.1.0, (omega (arith, low), found.1.1.1.1)))))
     | inr here ↦ (
-        let there = observance_there zone k (let n = all.same_length in omega (arith, n, inside)) in
-        let of = onsets_at zone list all k o inside at_place there.0 there.1 in
+        let there = observance_here zone list all k o inside at_place in
+        let of = onsets_here zone list all k o inside at_place in
         let to = of.to in
         let low = here.1 in
         (k, (there.0, ((there.1, of.known (after +ℤ pos 1 +ℤ pos m) here.0), (omega (arith), omega (arith, ints, to, low))))))

@@ -63,6 +63,12 @@ module _ (zone : List ObservanceSaid) (list : List Onsets) (all : AreOnsetsOfAll
   pub onsets_at : (p : ObservanceSaid) → slice_get zone k ≡ Some p → AreOnsetsOf p o
   onsets_at p there = rw at_place (all.each k p o there)
 
+  pub observance_here : (p : ObservanceSaid) × (slice_get zone k ≡ Some p)
+  observance_here = observance_there zone k (let n = all.same_length in omega (arith, n, inside))
+
+  pub onsets_here : AreOnsetsOf observance_here.0 o
+  onsets_here = onsets_at observance_here.0 observance_here.1
+
   -- an onset of the observances up to here is of one before, or of this one
   module _ {A : Type 0} (i : ℕ) (s : ℤ) (p : ObservanceSaid) (h : IsOnset zone i s p) (early : i < k + 1) (before : i < k → A) (now : AreOnsetsOf p o → Has o s
       → i ≡ k → A) where
@@ -73,17 +79,27 @@ module _ (zone : List ObservanceSaid) (list : List Onsets) (all : AreOnsetsOfAll
     ]
 
   module _ (t : ℤ) where
+    -- the greatest onset stays so where none of this observance is later
+    wider : {f : Latest} → IsLatest zone t k f → ((s : ℤ) → Has o s → s ≤ℤ t → IsNotLater s k f.at f.place) → IsLatest zone t (k + 1) f
+    wider before not_later = record {
+      observance = before.observance;
+      onset = before.onset;
+      offset = before.offset;
+      before = let n = before.before in omega (arith, n);
+      not_after = before.not_after;
+      greatest = λ i s p l h early. split i s p h l (λ less. before.greatest i s p less h early)
+          (λ of contains same. rw same (not_later s contains early));
+    }
+
     this_one : {e : Latest} → IsLastOnset k o t e
         → ((i : ℕ) (s : ℤ) (p : ObservanceSaid) → i < k → IsOnset zone i s p → s ≤ℤ t → s ≤ℤ e.at) → IsLatest zone t (k + 1) e
     this_one {e = e} its none =
         let last = its.last in
         let place = its.place in
-        let here = observance_there zone k (let n = all.same_length in omega (arith, n, inside)) in
-        let of = onsets_at here.0 here.1 in
         record {
-          observance = here.0;
-          onset = (ap (slice_get zone) place ∙ here.1, of.known e.at last.is);
-          offset = its.offset ∙ of.to;
+          observance = observance_here.0;
+          onset = (ap (slice_get zone) place ∙ observance_here.1, onsets_here.known e.at last.is);
+          offset = its.offset ∙ onsets_here.to;
           before = omega (arith, place);
           not_after = last.not_after;
           greatest = λ i s p l h early. split i s p h l
@@ -93,35 +109,19 @@ module _ (zone : List ObservanceSaid) (list : List Onsets) (all : AreOnsetsOfAll
 
     pub latest_none : (old : Option Latest) → IsLatestOf zone t k old → ((u : ℤ) → Has o u → t <ℤ u) → IsLatestOf zone t (k + 1) old
     latest_none None before none = λ i s p l h. split i s p h l (λ less. before i s p less h) (λ of contains same. none s contains)
-    latest_none (Some f) before none = record {
-      observance = before.observance;
-      onset = before.onset;
-      offset = before.offset;
-      before = let n = before.before in omega (arith, n);
-      not_after = before.not_after;
-      greatest = λ i s p l h early. split i s p h l (λ less. before.greatest i s p less h early)
-          (λ of contains same. absurd (let late = none s contains in omega (arith, ints, late, early)));
-    }
+    latest_none (Some f) before none = wider before (λ s contains early. absurd (let late = none s contains in omega (arith, ints, late, early)))
 
-    pub latest_some : {e new : Latest} (old : Option Latest) → IsLatestOf zone t k old → IsLastOnset k o t e
-        → MatchOption old (new ≡ e) (λ f. ((new ≡ e) × (f.at ≤ℤ e.at)) ⊎ ((new ≡ f) × (e.at <ℤ f.at))) → IsLatest zone t (k + 1) new
-    latest_some None before its is =
+    pub latest_some : {e new : Latest} (old : Option Latest) → IsLatestOf zone t k old
+        → MatchOption old (new ≡ e) (λ f. ((new ≡ e) × (f.at ≤ℤ e.at)) ⊎ ((new ≡ f) × (e.at <ℤ f.at))) → IsLastOnset k o t e → IsLatest zone t (k + 1) new
+    latest_some None before is its =
         rw is (this_one its (λ i s p l h early. absurd (let late = before i s p l h in omega (arith, ints, late, early))))
-    latest_some (Some f) before its (inl is) =
+    latest_some (Some f) before (inl is) its =
         let no_later = is.1 in
         rw (is.0) (this_one its (λ i s p l h early.
         let low = not_later_is s f.at i f.place (before.greatest i s p l h early) in omega (arith, ints, low, no_later)))
-    latest_some (Some f) before its (inr is) =
+    latest_some (Some f) before (inr is) its =
         let later = is.1 in
-        rw (is.0) (record {
-          observance = before.observance;
-          onset = before.onset;
-          offset = before.offset;
-          before = let n = before.before in omega (arith, n);
-          not_after = before.not_after;
-          greatest = λ i s p l h early. split i s p h l (λ less. before.greatest i s p less h early)
-              (λ of contains same. inl (let low = its.last.last s contains early in omega (arith, ints, low, later)));
-        })
+        rw (is.0) (wider before (λ s contains early. inl (let low = its.last.last s contains early in omega (arith, ints, low, later))))
 
     -- the same after an instant, where the next are looked at from the greatest on
     module _ (after from : ℤ) where
@@ -132,28 +132,18 @@ module _ (zone : List ObservanceSaid) (list : List Onsets) (all : AreOnsetsOfAll
           → ((u : ℤ) → Has o u → u ≤ℤ t → u ≤ℤ from) → IsLatestWithin zone after t (k + 1) old
       within_none None begun before none = λ i s p l h early. split i s p h l (λ less. before i s p less h early)
           (λ of contains same. let out = none s contains early in omega (arith, ints, out, begun))
-      within_none (Some f) begun before none = (
-        record {
-          observance = before.0.observance;
-          onset = before.0.onset;
-          offset = before.0.offset;
-          before = let n = before.0.before in omega (arith, n);
-          not_after = before.0.not_after;
-          greatest = λ i s p l h early. split i s p h l (λ less. before.0.greatest i s p less h early)
-              (λ of contains same. inl (let out = none s contains early in let is = begun before.1 in omega (arith, ints, out, is)));
-        },
-        before.1,
-      )
+      within_none (Some f) begun before none =
+          (wider before.0 (λ s contains early. inl (let out = none s contains early in let is = begun before.1 in omega (arith, ints, out, is))), before.1)
 
-      pub within_some : {e new : Latest} (old : Option Latest) → IsBegun old → IsLatestWithin zone after t k old → IsLastOnset k o t e → from <ℤ e.at
-          → MatchOption old (new ≡ e) (λ f. ((new ≡ e) × (f.at ≤ℤ e.at)) ⊎ ((new ≡ f) × (e.at <ℤ f.at)))
+      pub within_some : {e new : Latest} (old : Option Latest) → IsBegun old → IsLatestWithin zone after t k old
+          → MatchOption old (new ≡ e) (λ f. ((new ≡ e) × (f.at ≤ℤ e.at)) ⊎ ((new ≡ f) × (e.at <ℤ f.at))) → IsLastOnset k o t e → from <ℤ e.at
           → IsLatest zone t (k + 1) new × (after <ℤ new.at)
-      within_some None begun before its in_window is =
+      within_some None begun before is its in_window =
           rw is (
             this_one its (λ i s p l h early. let out = before i s p l h early in omega (arith, ints, out, in_window, begun)),
             omega (arith, ints, in_window, begun),
           )
-      within_some {e = e} {new = new} (Some f) begun before its in_window is = (latest_some (Some f) before.0 its is, later_in is)
+      within_some {e = e} {new = new} (Some f) begun before is its in_window = (latest_some (Some f) before.0 is its, later_in is)
         where
           later_in : ((new ≡ e) × (f.at ≤ℤ e.at)) ⊎ ((new ≡ f) × (e.at <ℤ f.at)) → after <ℤ new.at
           later_in (inl w) = rw (w.0) (let a = before.1 in let b = w.1 in omega (arith, ints, a, b))
@@ -184,34 +174,29 @@ module _ (zone : List ObservanceSaid) (list : List Onsets) (all : AreOnsetsOfAll
   -- where its last onset is greater than all those of the observances with an offset, it overrides them
   pub overridden_by : {t at : ℤ} (offset : ℤ) (count : ℕ) → length list ≤ count → IsLast (Has o) t at → AreLessTo zone count offset t at k
       → IsOverridden zone t offset
-  overridden_by {at = at} offset count past last less =
-      let here = observance_there zone k (let n = all.same_length in omega (arith, n, inside)) in
-      record {
-        place = k;
-        at = at;
-        observance = here.0;
-        onset = (here.1, (onsets_at here.0 here.1).known at last.is);
-        not_after = last.not_after;
-        greater = λ i s p h is early. less i s p (let within = slice_get_within zone i p h.0 in let n = all.same_length in omega (arith, within, n, past)) h
-            is early;
-      }
+  overridden_by {at = at} offset count past last less = record {
+    place = k;
+    at = at;
+    observance = observance_here.0;
+    onset = (observance_here.1, onsets_here.known at last.is);
+    not_after = last.not_after;
+    greater = λ i s p h is early. less i s p (let within = slice_get_within zone i p h.0 in let n = all.same_length in omega (arith, within, n, past)) h
+        is early;
+  }
 
   -- the first onset of this observance is the least of all, or it is not
   module _ (first at : ℤ) (is : Has o at) (least : (t : ℤ) → Has o t → at ≤ℤ t) where
     pub first_now : (offset new : ℤ) → IsFirst zone k first offset → at <ℤ first → new ≡ o.offset_from → IsFirst zone (k + 1) at new
-    first_now offset new before less from =
-        let here = observance_there zone k (let n = all.same_length in omega (arith, n, inside)) in
-        let of = onsets_at here.0 here.1 in
-        record {
-          place = k;
-          in_bound = omega arith;
-          observance = here.0;
-          onset = (here.1, of.known at is);
-          least = λ i s p l h. split i s p h l
-              (λ early. inl (let low = not_later_is first s before.place i (before.least i s p early h) in omega (arith, ints, low, less)))
-              (λ of contains same. not_later_by at s k i (least s contains) (omega (arith, same)));
-          is = from ∙ of.from;
-        }
+    first_now offset new before less from = record {
+      place = k;
+      in_bound = omega arith;
+      observance = observance_here.0;
+      onset = (observance_here.1, onsets_here.known at is);
+      least = λ i s p l h. split i s p h l
+          (λ early. inl (let low = not_later_is first s before.place i (before.least i s p early h) in omega (arith, ints, low, less)))
+          (λ of contains same. not_later_by at s k i (least s contains) (omega (arith, same)));
+      is = from ∙ onsets_here.from;
+    }
 
     pub first_before : (offset : ℤ) → IsFirst zone k first offset → first ≤ℤ at → IsFirst zone (k + 1) first offset
     first_before offset before more = record {
@@ -243,14 +228,11 @@ module _ (zone : List ObservanceSaid) (list : List Onsets) (all : AreOnsetsOfAll
 -- no observance is before the first
 pub first_of : {zone : List ObservanceSaid} {list : List Onsets} {o : Onsets} {at offset : ℤ} → AreOnsetsOfAll zone list → 0 < length list
     → o ≡ get_or list 0 o → Has o at → offset ≡ o.offset_from → IsFirst zone 0 at offset
-first_of {zone = zone} {list = list} {o = o} {at = at} all inside at_place is from =
-    let here = observance_there zone 0 (let n = all.same_length in omega (arith, n, inside)) in
-    let of = onsets_at zone list all 0 o inside at_place here.0 here.1 in
-    record {
-      place = 0;
-      in_bound = omega arith;
-      observance = here.0;
-      onset = (here.1, of.known at is);
-      least = λ i s p l h. absurd (omega (arith, l));
-      is = from ∙ of.from;
-    }
+first_of {zone = zone} {list = list} {o = o} {at = at} all inside at_place is from = record {
+  place = 0;
+  in_bound = omega arith;
+  observance = (observance_here zone list all 0 o inside at_place).0;
+  onset = ((observance_here zone list all 0 o inside at_place).1, (onsets_here zone list all 0 o inside at_place).known at is);
+  least = λ i s p l h. absurd (omega (arith, l));
+  is = from ∙ (onsets_here zone list all 0 o inside at_place).from;
+}

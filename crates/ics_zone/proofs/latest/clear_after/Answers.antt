@@ -21,7 +21,6 @@ loop-place-preserved c =
     let fits : SFits w64 c.args.after = c.ranges.after in
     let local : SFits w64 c.args.seconds = c.ranges.seconds in
     let from : SFits w64 (c.args.after +ℤ pos 1) = omega (arith, ints, c.requires.bound, c.requires.high, c.requires.low) in
-    let small : SFits w64 c.clear-clear.result = search rules in
     let marks = simp to_z-of_z at c.clear-clear.ensures.marks in
     let clear = simp to_z-of_z at c.clear-clear.ensures.clear in
     let over_before = simp to_z-of_z at c.loop-place.invariant.over in
@@ -29,7 +28,7 @@ loop-place-preserved c =
     let k = c.loop-place.place - 1 in
     let again : c.loop-place.place ≡ k + 1 = omega (arith, c.loop-place-test.true) in
     let inside = c.index-onsets-place.is in
-    rw (to_z-of_z w64 c.clear-clear.result small, to_z-of_z w64 c.args.after fits, to_z-of_z w64 c.args.seconds local) (record {
+    rw (to_z-of_z w64 c.clear-clear.result (search rules), to_z-of_z w64 c.args.after fits, to_z-of_z w64 c.args.seconds local) (record {
       length = c.clear-clear.ensures.length;
       some = omega (arith, ints, c.clear-clear.ensures.some);
       most = omega (arith, ints, c.clear-clear.ensures.most, c.loop-place.invariant.most);

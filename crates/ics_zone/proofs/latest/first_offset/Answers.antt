@@ -5,25 +5,21 @@ use Rattle.ics_zone.proofs.latest.first_offset.Goals as goal
 
 pub loop-place-init : goal.loop-place-init
 loop-place-init c = λ zone all.
-    let small : SFits w64 c.first-first.result = search rules in
-    let offset : SFits w32 c.index-onsets-0.result.offset_from = search rules in
-    rw (to_z-of_z w64 c.first-first.result small, to_z-of_z w32 c.index-onsets-0.result.offset_from offset)
+    rw (to_z-of_z w64 c.first-first.result (search rules), to_z-of_z w32 c.index-onsets-0.result.offset_from (search rules))
     (first_of all c.requires.some c.index-onsets-0.is c.first-first.ensures.is refl)
 
 pub loop-place-preserved-then-first-at : goal.loop-place-preserved-then-first-at
 loop-place-preserved-then-first-at c = λ zone all.
-    let small : SFits w64 c.first-at.result = search rules in
     first_before zone c.args.onsets.now all c.loop-place.place c.index-onsets-place.result c.loop-place-test.true c.index-onsets-place.is
     (to_z w64 c.loop-place.first-bits) c.first-at.result c.first-at.ensures.is c.first-at.ensures.first (to_z w32 c.loop-place.offset-bits)
     (c.loop-place.invariant zone all)
-    (omega (arith, ints, c.if-first-at.true, to_z-of_z w64 c.first-at.result small))
+    (omega (arith, ints, c.if-first-at.true, to_z-of_z w64 c.first-at.result (search rules)))
 
 pub loop-place-preserved : goal.loop-place-preserved
 loop-place-preserved c = λ zone all.
     let small : SFits w64 c.first-at.result = search rules in
-    let offset : SFits w32 c.index-onsets-place.result.offset_from = search rules in
     rw (to_z-of_z w64 c.first-at.result small)
     (first_now zone c.args.onsets.now all c.loop-place.place c.index-onsets-place.result c.loop-place-test.true c.index-onsets-place.is
     (to_z w64 c.loop-place.first-bits) c.first-at.result c.first-at.ensures.is c.first-at.ensures.first (to_z w32 c.loop-place.offset-bits) _
     (c.loop-place.invariant zone all)
-    (omega (arith, ints, c.if-first-at.false, to_z-of_z w64 c.first-at.result small)) (to_z-of_z w32 c.index-onsets-place.result.offset_from offset))
+    (omega (arith, ints, c.if-first-at.false, to_z-of_z w64 c.first-at.result small)) (to_z-of_z w32 c.index-onsets-place.result.offset_from (search rules)))

@@ -1,6 +1,6 @@
 use Rattle.std.proofs.Common.{rules, refl, SFits, w32, w64, to_z, of_z}
 use Rattle.std.proofs.lemmas.Int.{to_z-of_z}
-use Rattle.ics_zone.proofs.ZoneSteps.{IsLastOnset, latest_none, latest_some}
+use Rattle.ics_zone.proofs.ZoneSteps.{latest_none, latest_some}
 use Rattle.ics_zone.proofs.latest.latest_of_each.Goals as goal
 
 pub loop-place-preserved-in_default : goal.loop-place-preserved-in_default
@@ -11,16 +11,10 @@ loop-place-preserved-in_default c = λ zone all.
 
 pub loop-place-preserved : goal.loop-place-preserved
 loop-place-preserved c = λ zone all.
-    let at : SFits w64 c.in-Some.at = search rules in
     let offset : SFits w32 c.index-onsets-place.result.offset_to = search rules in
-    let its : IsLastOnset c.loop-place.place c.index-onsets-place.result (to_z w64 (of_z w64 c.args.moment)) (record {
-      at = to_z w64 (of_z w64 c.in-Some.at);
-      place = c.loop-place.place;
-      offset = to_z w32 (of_z w32 c.index-onsets-place.result.offset_to);
-    }) = record {
+    latest_some zone c.args.onsets.now all c.loop-place.place c.index-onsets-place.result c.loop-place-test.true c.index-onsets-place.is
+    (to_z w64 (of_z w64 c.args.moment)) c.loop-place.latest (c.loop-place.invariant zone all) c.later.ensures (record {
       place = refl;
       offset = to_z-of_z w32 c.index-onsets-place.result.offset_to offset;
-      last = rw (to_z-of_z w64 c.in-Some.at at) c.in-Some.ensures;
-    } in
-    latest_some zone c.args.onsets.now all c.loop-place.place c.index-onsets-place.result c.loop-place-test.true c.index-onsets-place.is
-    (to_z w64 (of_z w64 c.args.moment)) c.loop-place.latest (c.loop-place.invariant zone all) its c.later.ensures
+      last = rw (to_z-of_z w64 c.in-Some.at (search rules)) c.in-Some.ensures;
+    })

@@ -1,6 +1,6 @@
 use Rattle.std.proofs.Common.{rules, refl, SFits, w32, w64, to_z, of_z}
 use Rattle.std.proofs.lemmas.Int.{to_z-of_z}
-use Rattle.ics_zone.proofs.ZoneSteps.{IsLastOnset, within_none, within_some}
+use Rattle.ics_zone.proofs.ZoneSteps.{within_none, within_some}
 use Rattle.ics_zone.proofs.latest.latest_within.Goals as goal
 
 pub loop-place-preserved-in_default : goal.loop-place-preserved-in_default
@@ -13,16 +13,10 @@ pub loop-place-preserved : goal.loop-place-preserved
 loop-place-preserved c = λ zone all.
     let at : SFits w64 c.in-Some.at = search rules in
     let offset : SFits w32 c.index-onsets-place.result.offset_to = search rules in
-    let its : IsLastOnset c.loop-place.place c.index-onsets-place.result (to_z w64 (of_z w64 c.args.moment)) (record {
-      at = to_z w64 (of_z w64 c.in-Some.at);
-      place = c.loop-place.place;
-      offset = to_z w32 (of_z w32 c.index-onsets-place.result.offset_to);
-    }) = record {
+    within_some zone c.args.onsets.now all c.loop-place.place c.index-onsets-place.result c.loop-place-test.true c.index-onsets-place.is
+    (to_z w64 (of_z w64 c.args.moment)) (to_z w64 (of_z w64 c.args.after)) (to_z w64 (of_z w64 c.begun-from.result))
+    c.loop-place.latest (search rules) (c.loop-place.invariant zone all) c.later.ensures (record {
       place = refl;
       offset = to_z-of_z w32 c.index-onsets-place.result.offset_to offset;
       last = rw (to_z-of_z w64 c.in-Some.at at) c.in-Some.ensures.last;
-    } in
-    within_some zone c.args.onsets.now all c.loop-place.place c.index-onsets-place.result c.loop-place-test.true c.index-onsets-place.is
-    (to_z w64 (of_z w64 c.args.moment)) (to_z w64 (of_z w64 c.args.after)) (to_z w64 (of_z w64 c.begun-from.result))
-    c.loop-place.latest (search rules) (c.loop-place.invariant zone all) its
-    (rw (to_z-of_z w64 c.in-Some.at at) c.in-Some.ensures.after) c.later.ensures
+    }) (rw (to_z-of_z w64 c.in-Some.at at) c.in-Some.ensures.after)

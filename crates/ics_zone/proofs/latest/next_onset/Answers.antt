@@ -7,12 +7,11 @@ use Rattle.ics_zone.proofs.latest.next_onset.Goals as goal
 pub loop-one-preserved : goal.loop-one-preserved
 loop-one-preserved c =
     let fits : SFits w64 c.args.after = c.ranges.after in
-    let next : SFits w64 c.next-next.result = search rules in
     let after = simp to_z-of_z at c.next-next.ensures.after in
     let bound = c.next-next.ensures.bound in
     let first = simp to_z-of_z at c.next-next.ensures.next in
     let none = simp to_z-of_z at c.loop-one.invariant.none in
-    rw (to_z-of_z w64 c.next-next.result next, to_z-of_z w64 c.args.after fits) (record {
+    rw (to_z-of_z w64 c.next-next.result (search rules), to_z-of_z w64 c.args.after fits) (record {
       later = after;
       in_bound = omega (arith, ints, bound, c.loop-one.invariant.in_bound);
       none = λ zone all. between_more zone c.args.onsets.now all c.loop-one.one-index c.one-item.result c.loop-one-test.true c.one-item.is

@@ -10,7 +10,6 @@ use Rattle.ics_zone.proofs.latest.next_past.Goals as goal
 pub loop-place-preserved-then-next-from : goal.loop-place-preserved-then-next-from
 loop-place-preserved-then-next-from c =
     let offset : SFits w32 c.index-onsets-place.result.offset_to = search rules in
-    let small : SFits w64 c.max-from.result = search rules in
     let from : c.max-from.result ≡ int_max (to_z w64 (of_z w64 c.args.after)) (to_z w64 (of_z w64 c.args.seconds) -ℤ c.index-onsets-place.result.offset_to) =
     (let max = c.max-from.ensures.value in let is = c.from.ensures in omega (arith, ints, clamps, max, is, offset, c.requires.bound.0, c.requires.bound.1)) in
     record {
@@ -19,7 +18,7 @@ loop-place-preserved-then-next-from c =
       none = λ zone all. past_before zone c.args.onsets.now all c.loop-place.place c.index-onsets-place.result c.loop-place-test.true c.index-onsets-place.is
           (to_z w64 (of_z w64 c.args.seconds)) (to_z w64 (of_z w64 c.args.after)) c.max-from.result (to_z w64 c.loop-place.next-bits) from
           (c.loop-place.invariant.none zone all)
-          c.loop-place.invariant.later (omega (arith, ints, c.if-next-from.true, to_z-of_z w64 c.max-from.result small));
+          c.loop-place.invariant.later (omega (arith, ints, c.if-next-from.true, to_z-of_z w64 c.max-from.result (search rules)));
     }
 
 pub next-next-requires-clause-sound : goal.next-next-requires-clause-sound
@@ -30,13 +29,12 @@ pub loop-place-preserved : goal.loop-place-preserved
 loop-place-preserved c =
     let offset : SFits w32 c.index-onsets-place.result.offset_to = search rules in
     let small : SFits w64 c.max-from.result = search rules in
-    let next : SFits w64 c.next-next.result = search rules in
     let max = c.max-from.ensures.value in
     let from : c.max-from.result ≡ int_max (to_z w64 (of_z w64 c.args.after)) (to_z w64 (of_z w64 c.args.seconds) -ℤ c.index-onsets-place.result.offset_to) =
     (let is = c.from.ensures in omega (arith, ints, clamps, max, is, offset, c.requires.bound.0, c.requires.bound.1)) in
     let after = rw (to_z-of_z w64 c.max-from.result small) at c.next-next.ensures.after in
     let bound = c.next-next.ensures.bound in
-    rw (to_z-of_z w64 c.next-next.result next) (record {
+    rw (to_z-of_z w64 c.next-next.result (search rules)) (record {
       later = omega (arith, ints, clamps, after, from);
       in_bound = omega (arith, ints, bound, c.loop-place.invariant.in_bound);
       none = λ zone all. past_now zone c.args.onsets.now all c.loop-place.place c.index-onsets-place.result c.loop-place-test.true c.index-onsets-place.is

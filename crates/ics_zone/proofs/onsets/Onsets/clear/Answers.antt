@@ -1,47 +1,41 @@
 use Rattle.std.proofs.Common.{rules, arith, SFits, w32, w64, inl}
 use Rattle.std.proofs.lemmas.Int.{ints, clamps, to_z-of_z}
 use Rattle.std.proofs.lemmas.List.{length-set}
-use Rattle.ics_zone.proofs.MarkLemmas.{stay_minute, marks_minute, clear_minute}
+use Rattle.ics_zone.proofs.MarkLemmas.{IsMinute, marks_minute, clear_minute}
 use Rattle.ics_zone.proofs.onsets.Onsets.clear.Goals as goal
+use Rattle.ics_zone.proofs.onsets.Onsets.clear.Goals.{After-front}
 
 pub returns-in-Some-clause-some : goal.returns-in-Some-clause-some
 returns-in-Some-clause-some c =
     let most : SFits w64 c.args.most = c.ranges.most in
     omega (arith, ints, clamps, c.min.ensures.value, c.requires.some, c.from-in-Some.ensures)
 
-pub returns-in-Some-clause-marks : goal.returns-in-Some-clause-marks
-returns-in-Some-clause-marks c =
+-- the minute that a turn of the loop looks at
+minute_of : (c : After-front) → IsMinute c.args.self.now c.args.seconds c.args.from c.seconds_to-low.result c.within-onsets.result c.args.over.now
+    c.loop-minute.over c.loop-minute.minute c.first_of.result c.front.result
+minute_of c =
     let from : SFits w64 c.args.from = c.ranges.from in
     let local : SFits w64 c.args.seconds = c.ranges.seconds in
-    let low : SFits w64 c.seconds_to-low.result = search rules in
-    let known = rw (to_z-of_z w64 c.args.from from) at c.within-onsets.ensures.known in
-    let complete = rw (to_z-of_z w64 c.args.from from) at c.within-onsets.ensures.complete in
-    let is_size = rw (to_z-of_z w64 c.seconds_to-low.result low) at c.first_of.ensures.first in
-    let marks = rw (to_z-of_z w64 c.args.from from, to_z-of_z w64 c.args.seconds local) at c.loop-minute.invariant.marks in
-    marks_minute c.args.self.now c.args.seconds c.args.from c.seconds_to-low.result c.within-onsets.result c.loop-minute.over c.loop-minute.minute
-    c.first_of.result c.front.result (omega (arith, c.loop-minute.invariant.length, c.loop-minute-test.true)) known complete
-    (λ k h. let early = c.seconds_to-low.ensures.first k h in omega (arith, ints, early, c.requires.local, c.from.ensures)) is_size c.front.ensures.members
-    (omega (arith, c.loop-minute-test.true)) c.args.over.now marks
+    record {
+      known = rw (to_z-of_z w64 c.args.from from) at c.within-onsets.ensures.known;
+      complete = rw (to_z-of_z w64 c.args.from from) at c.within-onsets.ensures.complete;
+      down = λ k h. let early = c.seconds_to-low.ensures.first k h in omega (arith, ints, early, c.requires.local, c.from.ensures);
+      is_size = rw (to_z-of_z w64 c.seconds_to-low.result (search rules)) at c.first_of.ensures.first;
+      is_part = c.front.ensures.members;
+      small = omega (arith, c.loop-minute-test.true);
+      inside = omega (arith, c.loop-minute.invariant.length, c.loop-minute-test.true);
+      marks = rw (to_z-of_z w64 c.args.from from, to_z-of_z w64 c.args.seconds local) at c.loop-minute.invariant.marks;
+      clear = rw (to_z-of_z w64 c.args.from from, to_z-of_z w64 c.args.seconds local) at c.loop-minute.invariant.clear;
+    }
+
+pub returns-in-Some-clause-marks : goal.returns-in-Some-clause-marks
+returns-in-Some-clause-marks c = marks_minute (minute_of (goal.at.returns-in-Some-clause-marks c).After-front)
 
 pub returns-in-Some-clause-clear : goal.returns-in-Some-clause-clear
 returns-in-Some-clause-clear c = λ k contains early later.
-    let from : SFits w64 c.args.from = c.ranges.from in
-    let local : SFits w64 c.args.seconds = c.ranges.seconds in
-    let low : SFits w64 c.seconds_to-low.result = search rules in
-    let known = rw (to_z-of_z w64 c.args.from from) at c.within-onsets.ensures.known in
-    let complete = rw (to_z-of_z w64 c.args.from from) at c.within-onsets.ensures.complete in
-    let is_size = rw (to_z-of_z w64 c.seconds_to-low.result low) at c.first_of.ensures.first in
     let most : SFits w64 c.args.most = c.ranges.most in
-    let clear = rw (to_z-of_z w64 c.args.from from, to_z-of_z w64 c.args.seconds local) at c.loop-minute.invariant.clear in
     let small = c.in-Some.ensures.0 in
-    clear_minute c.args.self.now c.args.seconds c.args.from c.seconds_to-low.result c.within-onsets.result c.loop-minute.over c.loop-minute.minute
-    c.first_of.result c.front.result (omega (arith, c.loop-minute.invariant.length, c.loop-minute-test.true)) known complete
-    (λ k h. let early = c.seconds_to-low.ensures.first k h in omega (arith, ints, early, c.requires.local, c.from.ensures)) is_size c.front.ensures.members
-    (omega (arith, c.loop-minute-test.true)) _ c.in-Some.second
-    (stay_minute c.args.self.now c.args.seconds c.args.from c.seconds_to-low.result c.within-onsets.result c.loop-minute.over c.loop-minute.minute
-    c.first_of.result c.front.result (omega (arith, c.loop-minute.invariant.length, c.loop-minute-test.true)) known complete
-    (λ k h. let early = c.seconds_to-low.ensures.first k h in omega (arith, ints, early, c.requires.local, c.from.ensures)) is_size c.front.ensures.members)
-    (omega (arith, small)) c.in-Some.ensures.1 clear k
+    clear_minute (minute_of (goal.at.returns-in-Some-clause-clear c).After-front) c.in-Some.second (omega (arith, small)) c.in-Some.ensures.1 k
     (omega (arith, ints, clamps, early, small, c.min.ensures.value, c.requires.most, c.requires.some, c.loop-minute-test.true, c.from-in-Some.ensures)) contains
     later
 
@@ -49,34 +43,16 @@ pub loop-minute-preserved : goal.loop-minute-preserved
 loop-minute-preserved c =
     let from : SFits w64 c.args.from = c.ranges.from in
     let local : SFits w64 c.args.seconds = c.ranges.seconds in
-    let low : SFits w64 c.seconds_to-low.result = search rules in
-    let known = rw (to_z-of_z w64 c.args.from from) at c.within-onsets.ensures.known in
-    let complete = rw (to_z-of_z w64 c.args.from from) at c.within-onsets.ensures.complete in
-    let is_size = rw (to_z-of_z w64 c.seconds_to-low.result low) at c.first_of.ensures.first in
-    let marks = rw (to_z-of_z w64 c.args.from from, to_z-of_z w64 c.args.seconds local) at c.loop-minute.invariant.marks in
-    let clear = rw (to_z-of_z w64 c.args.from from, to_z-of_z w64 c.args.seconds local) at c.loop-minute.invariant.clear in
+    let minute = minute_of (goal.at.loop-minute-preserved c).After-front in
     rw (to_z-of_z w64 c.args.from from, to_z-of_z w64 c.args.seconds local) (record {
       length = search rules;
-      marks = marks_minute c.args.self.now c.args.seconds c.args.from c.seconds_to-low.result c.within-onsets.result c.loop-minute.over c.loop-minute.minute
-          c.first_of.result c.front.result (omega (arith, c.loop-minute.invariant.length, c.loop-minute-test.true)) known complete
-          (λ k h. let early = c.seconds_to-low.ensures.first k h in omega (arith, ints, early, c.requires.local, c.from.ensures)) is_size c.front.ensures.members
-          (omega (arith, c.loop-minute-test.true)) c.args.over.now marks;
-      clear = λ k early. clear_minute c.args.self.now c.args.seconds c.args.from c.seconds_to-low.result c.within-onsets.result c.loop-minute.over
-          c.loop-minute.minute
-          c.first_of.result c.front.result (omega (arith, c.loop-minute.invariant.length, c.loop-minute-test.true)) known complete
-          (λ k h. let early = c.seconds_to-low.ensures.first k h in omega (arith, ints, early, c.requires.local, c.from.ensures)) is_size c.front.ensures.members
-          (omega (arith, c.loop-minute-test.true)) _ 60
-          (stay_minute c.args.self.now c.args.seconds c.args.from c.seconds_to-low.result c.within-onsets.result c.loop-minute.over c.loop-minute.minute
-          c.first_of.result c.front.result (omega (arith, c.loop-minute.invariant.length, c.loop-minute-test.true)) known complete
-          (λ k h. let early = c.seconds_to-low.ensures.first k h in omega (arith, ints, early, c.requires.local, c.from.ensures)) is_size c.front.ensures.members)
-          (omega arith) c.in_default.ensures clear k (omega (arith, early));
+      marks = marks_minute minute;
+      clear = λ k early. clear_minute minute 60 (omega arith) c.in_default.ensures k (omega (arith, early));
     })
 
 pub returns-clause-marks : goal.returns-clause-marks
 returns-clause-marks c =
-    let from : SFits w64 c.args.from = c.ranges.from in
-    let local : SFits w64 c.args.seconds = c.ranges.seconds in
-    rw (to_z-of_z w64 c.args.from from, to_z-of_z w64 c.args.seconds local) at c.loop-minute.invariant.marks
+    rw (to_z-of_z w64 c.args.from c.ranges.from, to_z-of_z w64 c.args.seconds c.ranges.seconds) at c.loop-minute.invariant.marks
 
 pub returns-clause-clear : goal.returns-clause-clear
 returns-clause-clear c = λ k contains early later.
@@ -88,13 +64,11 @@ returns-clause-clear c = λ k contains early later.
 
 pub within-onsets-requires-clause-near : goal.within-onsets-requires-clause-near
 within-onsets-requires-clause-near c =
-    let from : SFits w64 c.args.from = c.ranges.from in
-    rw (to_z-of_z w64 c.args.from from) c.requires.near
+    rw (to_z-of_z w64 c.args.from c.ranges.from) c.requires.near
 
 pub seconds_to-low-requires : goal.seconds_to-low-requires
 seconds_to-low-requires c =
-    let from : SFits w64 c.args.from = c.ranges.from in
-    rw (to_z-of_z w64 c.args.from from) c.requires.near
+    rw (to_z-of_z w64 c.args.from c.ranges.from) c.requires.near
 
 pub overflow_sub-seconds : goal.overflow_sub-seconds
 overflow_sub-seconds c =
@@ -130,8 +104,7 @@ returns-in-Some-clause-most c =
 
 pub returns-clause-some : goal.returns-clause-some
 returns-clause-some c =
-    let most : SFits w64 c.args.most = c.ranges.most in
-    rw (to_z-of_z w64 c.args.most most) c.requires.some
+    rw (to_z-of_z w64 c.args.most c.ranges.most) c.requires.some
 
 pub returns-clause-most : goal.returns-clause-most
 returns-clause-most c = omega (arith, ints)
