@@ -1,18 +1,18 @@
 -- What a zone holds of an observance has its onsets.
-use Rattle.std.proofs.Common.{◌≡◌, ℕ, ◌<◌, ◌≤◌, ◌⊎◌, inl, inr, true, ◌==◌, refl, sym, ap, subst, ◌∙◌, arith, get_or, Option, Some, None, option_map, Contains}
-use Rattle.std.proofs.Common.{IfSome, ℤ, ◌≤ℤ◌}
+use Rattle.std.proofs.Common.{◌≡◌, ℕ, ◌<◌, ◌≤◌, ◌⊎◌, inl, inr, Bool, true, ◌||◌, ◌==◌, refl, sym, ap, subst, ◌∙◌, arith, get_or, Option, Some, None}
+use Rattle.std.proofs.Common.{option_map, Contains, IfSome, ℤ, ◌≤ℤ◌}
 use Rattle.std.proofs.lemmas.Bool.{ltb-true, or_cases, or_left, or_right, and_parts, and_from}
 use Rattle.std.specs.Prelude.{MatchOption}
 use Rattle.std.specs.List.{list_any}
 use Rattle.std.proofs.lemmas.Int.{ints}
-use Rattle.std.proofs.lemmas.Bool.Decides.{Decides-eqb}
+use Rattle.std.proofs.lemmas.Bool.Decides.{Decides-eqb, nat_tests}
 use Rattle.std.proofs.lemmas.List.{get_or_default}
 use Rattle.ics_fields.specs.RuleParts.{RuleParts}
 use Rattle.ics_rule.specs.Recurrence.{Recurrence}
 use Rattle.ics_fields.specs.Locals.{number}
 use Rattle.ics_rule.specs.Kept.{is_in_rule, is_kept, until_moment}
 use Rattle.ics_zone.specs.declared.onsets.Onsets.{Onsets}
-use Rattle.ics_zone.specs.Observances.{ObservanceSaid, IsObservanceSaid, instant_by, rule_from, is_until, is_by_rule, is_begin, is_onset}
+use Rattle.ics_zone.specs.Observances.{ObservanceSaid, IsObservanceSaid, instant_by, rule_from, is_until, is_by_rule, is_onset}
 use Rattle.ics_zone.specs.OnsetSets.{IsKeptBy, AreOnsetsOf, IsListing, IsEnd}
 use Rattle.ics_zone.proofs.Cases.{int_le_true, true_int_le}
 use Rattle.ics_zone.proofs.OnsetLemmas.{onset-local, local-onset}
@@ -31,60 +31,54 @@ kept_early r n e = elim (or_cases (n == number r.start) _ e) [
       ])
 ]
 
+wider : (a b c : Bool) → (a || b) ≡ true → (a || (b || c)) ≡ true
+wider a b c e = grind (arith, nat_tests)
+
+apart : (a b c : Bool) → (a || (b || c)) ≡ true → ((a || b) ≡ true) ⊎ (c ≡ true)
+apart a b c e = grind (arith, nat_tests)
+
 module _ (p : ObservanceSaid) (facts : IsObservanceSaid p) (s : Onsets) (from : s.offset_from ≡ p.offset_from) (to : s.offset_to ≡ p.offset_to)
     (listing : IsListing p s.listed.items) where
   start_listed : Contains s.listed.items (instant_by p.offset_from (number p.start))
   start_listed = listing.complete (number p.start) (or_left (number p.start == number p.start) _ ((Decides-eqb (number p.start) (number p.start)).1 refl))
 
-  onset_listed : (t : ℤ) → Contains s.listed.items t → is_onset p t ≡ true
-  onset_listed t h =
-      let k = listing.known t h in
-      local-onset p t k.0 k.1.0 ∙ elim (or_cases (k.0 == number p.start) _ k.1.1) [
-        | inl first ↦ or_left (k.0 == number p.start) _ first
-        | inr listed ↦ or_right (k.0 == number p.start) _ (or_left (list_any (λ l. number l == k.0) p.rdates) (is_by_rule p p.rule k.0) listed)
-      ]
+  -- what the rule keeps, by what it is made of
+  abbrev Kept : Option RuleParts → ℤ → Type 0
+  Kept o t = MatchOption (option_map (rule_from p.start) o) ⊥ (λ r. IsKeptBy s.offset_from s.until r t)
 
-  -- a rule keeps nothing before the start
-  by_rule_begins : (n : ℕ) → is_by_rule p p.rule n ≡ true → is_begin p n ≡ true
-  by_rule_begins n h = or_right (n == number p.start) _ (or_right (list_any (λ l. number l == n) p.rdates) (is_by_rule p p.rule n) h)
+  abbrev HasEnd : Option RuleParts → Type 0
+  HasEnd o = IfSome (option_map (rule_from p.start) o) (IsEnd s.until)
 
-  onset_kept : {o : Option RuleParts} {r : Option Recurrence} → o ≡ p.rule → r ≡ option_map (rule_from p.start) o → IfSome r (IsEnd s.until)
-      → (t : ℤ) → MatchOption r ⊥ (λ r. IsKeptBy s.offset_from s.until r t) → is_onset p t ≡ true
-  onset_kept {o = None} is made end t h = absurd (subst (λ (r : Option Recurrence). MatchOption r ⊥ (λ r. IsKeptBy s.offset_from s.until r t)) made h)
-  onset_kept {o = Some parts} is made end t h =
-      let k = subst (λ (r : Option Recurrence). MatchOption r ⊥ (λ r. IsKeptBy s.offset_from s.until r t)) made h in
-      let ends = subst (λ (r : Option Recurrence). IfSome r (IsEnd s.until)) made end in
+  onset_kept : (o : Option RuleParts) → o ≡ p.rule → HasEnd o → (t : ℤ) → Kept o t → is_onset p t ≡ true
+  onset_kept None is ends t k = absurd k
+  onset_kept (Some parts) is ends t k =
       let at = k.is in
       let early = k.early in
       let shift = facts.from_in in
       let until = ends t (omega (arith, ints, at, from, early, shift.0, shift.1)) ∙ true_int_le t s.until k.by_end in
       local-onset p t k.local (rw (sym from) k.is)
-      ∙ by_rule_begins k.local (subst (λ o. is_by_rule p o k.local ≡ true) is
+      ∙ or_right (k.local == number p.start) _ (or_right (list_any (λ l. number l == k.local) p.rdates) _ (subst (λ o. is_by_rule p o k.local ≡ true) is
       (and_from (is_kept (rule_from p.start parts) k.local) _ k.kept (subst (λ (t : ℤ). is_until (until_moment (rule_from p.start parts)) t ≡ true)
-      (rw (sym from) k.is) until)))
+      (rw (sym from) k.is) until))))
 
-  kept_or_listed : {o : Option RuleParts} {r : Option Recurrence} {t : ℤ} → o ≡ p.rule → r ≡ option_map (rule_from p.start) o → IfSome r (IsEnd s.until)
-      → (n : ℕ) → t ≡ instant_by p.offset_from n → is_by_rule p o n ≡ true
-      → Contains s.listed.items t ⊎ MatchOption r ⊥ (λ r. IsKeptBy s.offset_from s.until r t)
-  kept_or_listed {o = None} is made end n at h = absurd (cc)
-  kept_or_listed {o = Some parts} {t = t} is made end n at h =
+  kept_or_listed : (o : Option RuleParts) → HasEnd o → (t : ℤ) (n : ℕ) → t ≡ instant_by p.offset_from n → is_by_rule p o n ≡ true
+      → Contains s.listed.items t ⊎ Kept o t
+  kept_or_listed None ends t n at h = absurd (cc)
+  kept_or_listed (Some parts) ends t n at h =
       let both = and_parts (is_kept (rule_from p.start parts) n) _ h in
-      let ends = subst (λ (r : Option Recurrence). IfSome r (IsEnd s.until)) made end in
       elim (kept_early (rule_from p.start parts) n both.0) [
         | inl first ↦ inl (subst (Contains s.listed.items) (ap (instant_by p.offset_from) (sym first) ∙ sym at) start_listed)
-        | inr early ↦ inr (subst (λ (r : Option Recurrence). MatchOption r ⊥ (λ r. IsKeptBy s.offset_from s.until r t)) (sym made) (
+        | inr early ↦ inr (
             let soon = early.0 in
             let shift = facts.from_in in
             let until = sym (ends t (omega (arith, ints, at, soon, shift.0, shift.1))) ∙ subst
             (λ (t : ℤ). is_until (until_moment (rule_from p.start parts)) t ≡ true) (sym at) both.1 in
-            record { local = n; early = early.0; kept = both.0; is = rw from at; by_end = int_le_true t s.until until }))
+            record { local = n; early = early.0; kept = both.0; is = rw from at; by_end = int_le_true t s.until until })
       ]
 
-  first_is : (o : Option RuleParts) (r : Option Recurrence) → r ≡ option_map (rule_from p.start) o
-      → (t d : ℤ) → MatchOption r ⊥ (λ r. IsKeptBy s.offset_from s.until r t) → get_or s.listed.items 0 d ≤ℤ t
-  first_is None r made t d h = absurd (subst (λ (r : Option Recurrence). MatchOption r ⊥ (λ r. IsKeptBy s.offset_from s.until r t)) made h)
-  first_is (Some parts) r made t d h =
-      let k = subst (λ (r : Option Recurrence). MatchOption r ⊥ (λ r. IsKeptBy s.offset_from s.until r t)) made h in
+  first_is : (o : Option RuleParts) (t d : ℤ) → Kept o t → get_or s.listed.items 0 d ≤ℤ t
+  first_is None t d k = absurd k
+  first_is (Some parts) t d k =
       let start = start_listed in
       let low = listing.in_order 0 start.0 d (omega arith) start.1 in
       let same = get_or_default s.listed.items start.0 d (instant_by p.offset_from (number p.start)) start.1 in
@@ -95,23 +89,25 @@ module _ (p : ObservanceSaid) (facts : IsObservanceSaid p) (s : Onsets) (from : 
       omega (arith, ints, low, same, there, at, late, from)
 
   pub onsets_made : s.rule ≡ option_map (rule_from p.start) p.rule → IfSome s.rule (IsEnd s.until) → AreOnsetsOf p s
-  onsets_made made end = record {
-    sound = record {
-      from_in = rw from facts.from_in;
-      some = let start = start_listed in let inside = start.1 in omega (arith, inside);
-      in_order = listing.in_order;
-      first = first_is p.rule s.rule made;
-    };
-    from = from;
-    to = to;
-    known = λ t h. elim h [ inl listed ↦ onset_listed t listed | inr kept ↦ onset_kept refl made end t kept ];
-    complete = λ t h.
-        let found = onset-local p t h in
-        elim (or_cases (found.0 == number p.start) _ found.2) [
-          | inl first ↦ inl (subst (Contains s.listed.items) (sym found.1) (listing.complete found.0 (or_left (found.0 == number p.start) _ first)))
-          | inr other ↦ elim (or_cases (list_any (λ l. number l == found.0) p.rdates) (is_by_rule p p.rule found.0) other) [
-            | inl listed ↦ inl (subst (Contains s.listed.items) (sym found.1) (listing.complete found.0 (or_right (found.0 == number p.start) _ listed)))
-            | inr kept ↦ kept_or_listed refl made end found.0 found.1 kept
-          ]
+  onsets_made made end =
+      let ends : HasEnd p.rule = rw made at end in
+      record {
+        sound = record {
+          from_in = rw from facts.from_in;
+          some = let start = start_listed in let inside = start.1 in omega (arith, inside);
+          in_order = listing.in_order;
+          first = λ t d h. first_is p.rule t d (rw made at h);
+        };
+        from = from;
+        to = to;
+        known = λ t h. elim h [
+          | inl listed ↦ (let k = listing.known t listed in local-onset p t k.0 k.1.0 ∙ wider (k.0 == number p.start) _ _ k.1.1)
+          | inr kept ↦ onset_kept p.rule refl ends t (rw made at kept)
         ];
-  }
+        complete = λ t h.
+            let n = onset-local p t h in
+            elim (apart (n.0 == number p.start) _ _ n.2) [
+              | inl listed ↦ inl (subst (Contains s.listed.items) (sym n.1) (listing.complete n.0 listed))
+              | inr kept ↦ rw made (kept_or_listed p.rule ends t n.0 n.1 kept)
+            ];
+      }
