@@ -17,23 +17,16 @@ abbrev pub IsFirstOf : (ℤ → ℤ) → ℤ → List ℤ → ℕ → Option ℤ
 IsFirstOf offset local offsets count found =
     MatchOption found ((j : ℕ) (d : ℤ) → j < count → shown offset (local -ℤ get_or offsets j d) ≢ local) (IsLeastOf offset local offsets count)
 
-module _ (offset : ℤ → ℤ) (local : ℤ) (offsets : List ℤ) (k : ℕ) (o : ℤ) (inside : k < length offsets) (at : o ≡ get_or offsets k o) where
+module _ (offset : ℤ → ℤ) (local : ℤ) (offsets : List ℤ) (k : ℕ) (e : ℤ) (inside : k < length offsets) where
+  abbrev o : ℤ
+  o = get_or offsets k e
+
   -- the instant of this offset, or of one before
   here : (j : ℕ) (d : ℤ) → j ≡ k → get_or offsets j d ≡ o
-  here j d same = rw same (get_or_default offsets k d o inside ∙ sym at)
+  here j d same = rw same (get_or_default offsets k d e inside)
 
   pub first_stays : (found : Option ℤ) → IsFirstOf offset local offsets k found → offset (local -ℤ o) ≢ o → IsFirstOf offset local offsets (k + 1) found
-  first_stays None before other = λ j d l shows. elim (below_or_at j k (omega arith)) [
-    | inl less ↦ before j d less shows
-    | inr same ↦ (let is = here j d same in let at = rw is at shows in other (omega (arith, ints, at)))
-  ]
-  first_stays (Some t) before other = record {
-    shows = before.shows;
-    least = λ j d l shows. elim (below_or_at j k (omega arith)) [
-      | inl less ↦ before.least j d less shows
-      | inr same ↦ absurd (let is = here j d same in let at = rw is at shows in other (omega (arith, ints, at)))
-    ];
-  }
+  first_stays found before other = grind (arith, ints, below_or_at, here)
 
   -- the instant of this offset need not be asked for where it is not earlier
   pub first_early : {r : Bool} (found : Option ℤ) → IsFirstOf offset local offsets k found → (m : ℤ) → m ≡ local -ℤ o
@@ -49,26 +42,16 @@ module _ (offset : ℤ → ℤ) (local : ℤ) (offsets : List ℤ) (k : ℕ) (o 
       | inr at_k ↦ (let there = here j d at_k in omega (arith, ints, there, min, is))
     ];
   }
-  first_moves {t = t} (Some f) m before is same min = elim (less_or_not_z f t) [
-    | inl less ↦ (
-        let one : m ≡ f = omega (arith, ints, clamps, min, less) in
-        record {
-          shows = rw one before.shows;
-          least = λ j d l shows. elim (below_or_at j k (omega arith)) [
-            | inl early ↦ (let low = before.least j d early shows in omega (arith, ints, low, one))
-            | inr at_k ↦ (let there = here j d at_k in omega (arith, ints, there, one, is, less))
-          ];
-        })
-    | inr more ↦ (
-        let one : m ≡ t = omega (arith, ints, clamps, min, more) in
-        record {
-          shows = rw one (omega (arith, ints, is, same));
-          least = λ j d l shows. elim (below_or_at j k (omega arith)) [
-            | inl early ↦ (let low = before.least j d early shows in omega (arith, ints, low, one, more))
-            | inr at_k ↦ (let there = here j d at_k in omega (arith, ints, there, one, is))
-          ];
-        })
-  ]
+  first_moves {t = t} (Some f) m before is same min = record {
+    shows = elim (less_or_not_z f t) [
+      | inl less ↦ (let one : m ≡ f = omega (arith, ints, clamps, min, less) in rw one before.shows)
+      | inr more ↦ (let one : m ≡ t = omega (arith, ints, clamps, min, more) in rw one (omega (arith, ints, is, same)))
+    ];
+    least = λ j d l shows. elim (below_or_at j k (omega arith)) [
+      | inl early ↦ (let low = before.least j d early shows in omega (arith, ints, clamps, low, min))
+      | inr at_k ↦ (let there = here j d at_k in omega (arith, ints, clamps, there, min, is))
+    ];
+  }
 
 -- where each offset is among them, the least is the first instant that shows the local
 module _ (offset : ℤ → ℤ) (local : ℤ) (offsets : List ℤ) (contains : (t : ℤ) → Contains offsets (offset t)) (k : ℕ) (all : length offsets ≤ k) where

@@ -1,54 +1,36 @@
-use Rattle.std.proofs.Common.{rules, arith, List, ℤ, pos, ◌-ℤ◌, get_or, SFits, w32, w64, to_z, of_z}
+use Rattle.std.proofs.Common.{rules, arith, pos, ◌-ℤ◌, get_or, SFits, w32, w64, to_z, of_z}
 use Rattle.std.proofs.lemmas.Int.{ints, to_z-of_z}
-use Rattle.std.proofs.lemmas.List.{get_or_default}
 use Rattle.ics_zone.specs.ZoneOffsets.{zone_offset}
 use Rattle.ics_zone.specs.Observances.{observances_said}
-use Rattle.ics_zone.specs.ZoneOnsets.{IsKnown}
 use Rattle.ics_zone.proofs.CandidateLemmas.{first_stays, first_early, first_moves, first_found}
-use Rattle.ics_zone.proofs.JumpLemmas.{known_zone}
 use Rattle.ics_zone.proofs.observed.Observed.first_time.Goals as goal
 
 pub loop-offset-preserved-then-is_by : goal.loop-offset-preserved-then-is_by
 loop-offset-preserved-then-is_by c =
-    let offsets : List ℤ = c.as_slice-offsets.result.now in
-    let at = c.loop-offset.offset-index in
-    let offset : ℤ = get_or offsets at (pos 0) in
     let item : SFits w32 (get_or c.as_slice-offsets.result.now c.loop-offset.offset-index (pos 0)) = search rules in
-    first_early (zone_offset (observances_said c.args.self.now)) (to_z w64 (of_z w64 c.args.seconds)) offsets at offset
-    c.loop-offset-test.true (get_or_default offsets at (pos 0) offset c.loop-offset-test.true)
-    c.loop-offset.first c.loop-offset.invariant
+    first_early (zone_offset (observances_said c.args.self.now)) (to_z w64 (of_z w64 c.args.seconds)) c.as_slice-offsets.result.now
+    c.loop-offset.offset-index (pos 0) c.loop-offset-test.true c.loop-offset.first c.loop-offset.invariant
     (to_z w64 (of_z w64 (to_z w64 (of_z w64 c.args.seconds) -ℤ to_z w64 (of_z w64 c.from.result))))
     (omega (arith, ints, item, c.from.ensures, c.requires.0, c.requires.1)) c.is_by.ensures c.if-is_by.true
 
 pub loop-offset-preserved-in_default-shown_with : goal.loop-offset-preserved-in_default-shown_with
 loop-offset-preserved-in_default-shown_with c =
-    let item : SFits w32 (get_or c.as_slice-offsets.result.now c.loop-offset.offset-index (pos 0)) = search rules in
-    first_stays (zone_offset (observances_said c.args.self.now)) (to_z w64 (of_z w64 c.args.seconds))
-    c.as_slice-offsets.result.now c.loop-offset.offset-index (get_or c.as_slice-offsets.result.now c.loop-offset.offset-index (pos 0))
-    c.loop-offset-test.true (get_or_default c.as_slice-offsets.result.now c.loop-offset.offset-index (pos 0)
-    (get_or c.as_slice-offsets.result.now c.loop-offset.offset-index (pos 0)) c.loop-offset-test.true)
-    c.loop-offset.first c.loop-offset.invariant
-    (simp (to_z-of_z w32 (get_or c.as_slice-offsets.result.now c.loop-offset.offset-index (pos 0)) item) at c.in_default-shown_with.ensures)
+    first_stays (zone_offset (observances_said c.args.self.now)) (to_z w64 (of_z w64 c.args.seconds)) c.as_slice-offsets.result.now
+    c.loop-offset.offset-index (pos 0) c.loop-offset-test.true c.loop-offset.first c.loop-offset.invariant
+    (simp (to_z-of_z w32 (get_or c.as_slice-offsets.result.now c.loop-offset.offset-index (pos 0)) (search rules)) at c.in_default-shown_with.ensures)
 
 pub loop-offset-preserved : goal.loop-offset-preserved
 loop-offset-preserved c =
-    let item : SFits w32 (get_or c.as_slice-offsets.result.now c.loop-offset.offset-index (pos 0)) = search rules in
-    let small : SFits w64 c.earlier.result = search rules in
-    let moment : SFits w64 c.in-Some-shown_with.moment = search rules in
-    let is = simp (to_z-of_z w32 (get_or c.as_slice-offsets.result.now c.loop-offset.offset-index (pos 0)) item) at c.in-Some-shown_with.ensures in
-    rw (to_z-of_z w64 c.earlier.result small)
-    (first_moves (zone_offset (observances_said c.args.self.now)) (to_z w64 (of_z w64 c.args.seconds))
-    c.as_slice-offsets.result.now c.loop-offset.offset-index (get_or c.as_slice-offsets.result.now c.loop-offset.offset-index (pos 0))
-    c.loop-offset-test.true (get_or_default c.as_slice-offsets.result.now c.loop-offset.offset-index (pos 0)
-    (get_or c.as_slice-offsets.result.now c.loop-offset.offset-index (pos 0)) c.loop-offset-test.true)
-    c.loop-offset.first c.earlier.result c.loop-offset.invariant is.0 is.1
-    (simp (to_z-of_z w64 c.in-Some-shown_with.moment moment) at c.earlier.ensures))
+    let is = simp (to_z-of_z w32 (get_or c.as_slice-offsets.result.now c.loop-offset.offset-index (pos 0)) (search rules)) at c.in-Some-shown_with.ensures in
+    rw (to_z-of_z w64 c.earlier.result (search rules))
+    (first_moves (zone_offset (observances_said c.args.self.now)) (to_z w64 (of_z w64 c.args.seconds)) c.as_slice-offsets.result.now
+    c.loop-offset.offset-index (pos 0) c.loop-offset-test.true c.loop-offset.first c.earlier.result c.loop-offset.invariant is.0 is.1
+    (simp (to_z-of_z w64 c.in-Some-shown_with.moment (search rules)) at c.earlier.ensures))
 
 pub returns : goal.returns
 returns c =
     let fits : SFits w64 c.args.seconds = c.ranges.seconds in
-    let known : IsKnown (observances_said c.args.self.now) c.self.inside.onsets.items c.self.inside.offsets.items c.self.inside.held.items =
-    known_zone c.self.invariant c.self.view_is in
+    let known = rw c.self.view_is at c.self.invariant in
     let found = simp (to_z-of_z, c.as_slice-offsets.ensures.value) at c.loop-offset.invariant in
     let past = rw c.as_slice-offsets.ensures.value at c.loop-offset-test.false in
     first_found (zone_offset (observances_said c.args.self.now)) c.args.seconds c.self.inside.offsets.items known.all_offsets
