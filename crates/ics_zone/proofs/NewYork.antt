@@ -1,40 +1,31 @@
 -- New York's clocks in 2007: the offsets of the year, its gap and its fold.
-use Rattle.std.proofs.Common.{◌≡◌, ◌≢◌, ℕ, zero, suc, ◌⊎◌, inl, inr, true, false, refl, sym, ap, subst, ◌∙◌, arith, List, [], ◌∷◌, Some, None, ℤ, pos, neg_ℤ}
-use Rattle.std.proofs.Common.{◌-ℤ◌, ◌<ℤ◌, ◌≤ℤ◌, ◌==◌}
-use Rattle.std.proofs.lemmas.Bool.{or_cases}
-use Rattle.std.specs.List.{list_any}
+use Rattle.std.proofs.Common.{◌≡◌, ◌≢◌, ℕ, zero, suc, ◌⊎◌, inl, inr, Bool, true, false, ◌||◌, refl, sym, ap, ◌∙◌, arith, List, [], ◌∷◌, Some, None, ℤ}
+use Rattle.std.proofs.Common.{pos, neg_ℤ, ◌-ℤ◌, ◌<ℤ◌, ◌≤ℤ◌, ◌==◌}
+use Rattle.std.proofs.lemmas.Bool.{eqb-true}
 use Rattle.std.proofs.lemmas.Int.{ints}
-use Rattle.std.proofs.lemmas.Bool.Decides.{Decides-eqb}
-use Rattle.ics_fields.specs.declared.local.Local.{Local}
 use Rattle.ics_fields.specs.Locals.{number}
-use Rattle.ics_zone.specs.Observances.{ObservanceSaid, IsZone, instant_by, is_by_rule, is_begin, is_onset}
+use Rattle.ics_zone.specs.Observances.{ObservanceSaid, IsZone, instant_by, is_onset}
 use Rattle.ics_zone.specs.ZoneOffsets.{IsOnset, IsOffset, zone_offset}
 use Rattle.ics_zone.specs.Moments.{IsMomentOf}
-use Rattle.ics_zone.proofs.Cases.{less_or_not_z, not_both}
 use Rattle.ics_zone.proofs.OffsetLaws.{offset_unique}
 use Rattle.ics_zone.proofs.OnsetLemmas.{onset-local, start_is_onset, offset_found}
 
-abbrev at_two : ℤ → Local
-at_two day = record { day = day; second = 7_200; second_in = omega arith }
-
--- 2007-11-04 and 2007-03-11, at 02:00 on the clock before
-abbrev standard : ObservanceSaid
-standard = record {
-  start = at_two (pos 13_821);
-  offset_from = neg_ℤ (pos 14_400);
-  offset_to = neg_ℤ (pos 18_000);
+-- an observance with one onset, at 02:00 of a day on the clock before
+abbrev at_two : ℤ → ℤ → ℤ → ObservanceSaid
+at_two day from to = record {
+  start = record { day = day; second = 7_200; second_in = omega arith };
+  offset_from = from;
+  offset_to = to;
   rule = None;
   rdates = [];
 }
+
+-- 2007-11-04 and 2007-03-11
+abbrev standard : ObservanceSaid
+standard = at_two (pos 13_821) (neg_ℤ (pos 14_400)) (neg_ℤ (pos 18_000))
 
 abbrev daylight : ObservanceSaid
-daylight = record {
-  start = at_two (pos 13_583);
-  offset_from = neg_ℤ (pos 18_000);
-  offset_to = neg_ℤ (pos 14_400);
-  rule = None;
-  rdates = [];
-}
+daylight = at_two (pos 13_583) (neg_ℤ (pos 18_000)) (neg_ℤ (pos 14_400))
 
 abbrev new_york : List ObservanceSaid
 new_york = standard ∷ daylight ∷ []
@@ -47,30 +38,14 @@ abbrev autumn : ℤ
 autumn = pos 1_194_156_000
 
 -- without RDATE and RRULE, DTSTART alone is an onset
-alone : (p : ObservanceSaid) (t : ℤ) → p.rdates ≡ [] → p.rule ≡ None → is_onset p t ≡ true → t ≡ instant_by p.offset_from (number p.start)
-alone p t listed ruled h =
-    let found = onset-local p t h in
-    found.1 ∙ ap (instant_by p.offset_from) (first found.0 found.2)
+alone : (day from to t : ℤ) → is_onset (at_two day from to) t ≡ true → t ≡ instant_by from (number (at_two day from to).start)
+alone day from to t h =
+    let found = onset-local (at_two day from to) t h in
+    found.1 ∙ ap (instant_by from) (eqb-true found.0 _ (only (found.0 == number (at_two day from to).start) found.2))
   where
-    first : (n : ℕ) → is_begin p n ≡ true → n ≡ number p.start
-    first n b = elim (or_cases (n == number p.start) _ b) [
-      | inl same ↦ (Decides-eqb n (number p.start)).0 same
-      | inr other ↦ absurd (elim (or_cases (list_any (λ l. number l == n) p.rdates) (is_by_rule p p.rule n) other) [
-        | inl by ↦ not_both false (subst (λ ds. list_any (λ (l : Local). number l == n) ds ≡ true) listed by) refl
-        | inr by ↦ not_both false (subst (λ o. is_by_rule p o n ≡ true) ruled by) refl
-      ])
-    ]
-
--- the onsets are these two
-record IsAutumn (i : ℕ) (t : ℤ) (p : ObservanceSaid) : Type 0 where
-  place : i ≡ 0
-  at : t ≡ autumn
-  same : standard ≡ p
-
-record IsSpring (i : ℕ) (t : ℤ) (p : ObservanceSaid) : Type 0 where
-  place : i ≡ 1
-  at : t ≡ spring
-  same : daylight ≡ p
+    only : (a : Bool) → (a || false) ≡ true → a ≡ true
+    only true e = refl
+    only false e = e
 
 got : (p q : ObservanceSaid) → Some p ≡ Some q → p ≡ q
 got p q e = cc
@@ -78,9 +53,10 @@ got p q e = cc
 no_more : (p : ObservanceSaid) → None ≡ Some p → ⊥
 no_more p e = cc
 
-onsets : (i : ℕ) (t : ℤ) (p : ObservanceSaid) → IsOnset new_york i t p → IsAutumn i t p ⊎ IsSpring i t p
-onsets zero t p h = let same = got standard p h.0 in inl (record { place = refl; at = alone standard t refl refl (rw (sym same) at h.1); same = same })
-onsets (suc zero) t p h = let same = got daylight p h.0 in inr (record { place = refl; at = alone daylight t refl refl (rw (sym same) at h.1); same = same })
+-- the onsets are these two
+onsets : (i : ℕ) (t : ℤ) (p : ObservanceSaid) → IsOnset new_york i t p → ((i ≡ 0) × (t ≡ autumn)) ⊎ ((i ≡ 1) × (t ≡ spring))
+onsets zero t p h = inl (refl, alone (pos 13_821) (neg_ℤ (pos 14_400)) (neg_ℤ (pos 18_000)) t (rw (sym (got standard p h.0)) at h.1))
+onsets (suc zero) t p h = inr (refl, alone (pos 13_583) (neg_ℤ (pos 18_000)) (neg_ℤ (pos 14_400)) t (rw (sym (got daylight p h.0)) at h.1))
 onsets (suc (suc i)) t p h = absurd (no_more p h.0)
 
 in_autumn : IsOnset new_york 0 autumn standard
@@ -98,10 +74,7 @@ before_spring t h = inr (
     first = spring;
     onset = in_spring;
     before = h;
-    least = λ i s p k. elim (onsets i s p k) [
-      | inl a ↦ inl (let at = a.at in omega (arith, ints, at))
-      | inr b ↦ inr (sym b.at, let place = b.place in omega (arith, place))
-    ];
+    least = λ i s p k. grind (arith, ints, onsets);
   },
   refl,
 )
@@ -114,10 +87,7 @@ in_summer t low high = inl (
     since = spring;
     onset = in_spring;
     not_after = low;
-    greatest = λ i s p k l. elim (onsets i s p k) [
-      | inl a ↦ absurd (let at = a.at in omega (arith, ints, at, l, high))
-      | inr b ↦ inr (b.at, let place = b.place in omega (arith, place))
-    ];
+    greatest = λ i s p k l. grind (arith, ints, onsets);
   },
   refl,
 )
@@ -130,10 +100,7 @@ from_autumn t low = inl (
     since = autumn;
     onset = in_autumn;
     not_after = low;
-    greatest = λ i s p k l. elim (onsets i s p k) [
-      | inl a ↦ inr (a.at, let place = a.place in omega (arith, place))
-      | inr b ↦ inl (let at = b.at in omega (arith, ints, at))
-    ];
+    greatest = λ i s p k l. grind (arith, ints, onsets);
   },
   refl,
 )
@@ -173,16 +140,10 @@ clock t = record {
 -- 02:30 was skipped in spring, and is read with the offset before: 07:30 UTC
 gap : IsMomentOf new_york (pos 1_173_580_200) (pos 1_173_598_200)
 gap = inr (record {
-  skipped = λ s e. elim (less_or_not_z s spring) [
-    | inl l ↦ (let is = (clock s).early l in omega (arith, ints, is, e, l))
-    | inr l ↦ elim (less_or_not_z s autumn) [
-      | inl m ↦ (let is = (clock s).summer l m in omega (arith, ints, is, e, l))
-      | inr m ↦ (let is = (clock s).late m in omega (arith, ints, is, e, m))
-    ]
-  ];
+  skipped = λ s e. let c = clock s in let early = c.early in let summer = c.summer in let late = c.late in grind (arith, ints);
   past = spring;
   is_later = let is = (clock spring).summer (omega (arith, ints)) (omega (arith, ints)) in omega (arith, ints, is);
-  first = λ s e. elim (less_or_not_z s spring) [ inl l ↦ absurd (let is = (clock s).early l in omega (arith, ints, is, e, l)) | inr l ↦ l ];
+  first = λ s e. let early = (clock s).early in grind (arith, ints);
   before = let is = (clock (spring -ℤ pos 1)).early (omega (arith, ints)) in omega (arith, ints, is);
 })
 
@@ -190,11 +151,5 @@ gap = inr (record {
 fold : IsMomentOf new_york (pos 1_194_139_800) (pos 1_194_154_200)
 fold = inl (record {
   shows = let is = (clock (pos 1_194_154_200)).summer (omega (arith, ints)) (omega (arith, ints)) in omega (arith, ints, is);
-  first = λ s e. elim (less_or_not_z s spring) [
-    | inl l ↦ absurd (let is = (clock s).early l in omega (arith, ints, is, e, l))
-    | inr l ↦ elim (less_or_not_z s autumn) [
-      | inl m ↦ (let is = (clock s).summer l m in omega (arith, ints, is, e))
-      | inr m ↦ (let is = (clock s).late m in omega (arith, ints, is, e, m))
-    ]
-  ];
+  first = λ s e. let c = clock s in let early = c.early in let summer = c.summer in let late = c.late in grind (arith, ints);
 })
