@@ -1,37 +1,18 @@
 -- Worked texts of display zones.
-use Rattle.std.proofs.Common.{◌≡◌, pos, neg_ℤ, Some, None, [], refl}
+use Rattle.std.proofs.Common.{◌≡◌, pos, neg_ℤ, Some, None, [], ◌∷◌, map, replicate, refl}
 use Rattle.std.specs.Prelude.{codes}
 use Rattle.jiff.proofs.OnLiterals.{jiff_on_literals}
 use Rattle.jiff_tz.specs.declared.posix.Day.TheVariants.{WeekdayOfMonth}
 use Rattle.ics_zone.specs.DisplayTexts.{Said, display_of}
 
-utc : display_of (codes "UTC") ≡ Some (Said.Always (pos 0))
-utc = refl
+offsets : display_of (codes "UTC") ∷ display_of (codes "Z") ∷ display_of (codes "-05:00") ∷ display_of (codes "+23:59") ∷ []
+    ≡ Some (Said.Always (pos 0)) ∷ Some (Said.Always (pos 0)) ∷ Some (Said.Always (neg_ℤ (pos 18_000))) ∷ Some (Said.Always (pos 86_340)) ∷ []
+offsets = refl
 
-zulu : display_of (codes "Z") ≡ Some (Said.Always (pos 0))
-zulu = refl
-
-west : display_of (codes "-05:00") ≡ Some (Said.Always (neg_ℤ (pos 18_000)))
-west = refl
-
-greatest : display_of (codes "+23:59") ≡ Some (Said.Always (pos 86_340))
-greatest = refl
-
-past_the_day : display_of (codes "+24:00") ≡ None
+-- past the day, without a colon, nothing, and daylight without a rule
+no_zones : map (λ text. display_of text) (codes "+24:00" ∷ codes "+0500" ∷ [] ∷ codes "EST5EDT" ∷ []) ≡ replicate 4 None
 unfolding jiff_on_literals
-past_the_day = refl
-
-no_colon : display_of (codes "+0500") ≡ None
-unfolding jiff_on_literals
-no_colon = refl
-
-nothing : display_of [] ≡ None
-unfolding jiff_on_literals
-nothing = refl
-
-no_rule : display_of (codes "EST5EDT") ≡ None
-unfolding jiff_on_literals
-no_rule = refl
+no_zones = refl
 
 new_york : display_of (codes "EST5EDT,M3.2.0,M11.1.0") ≡ Some (Said.ByRule (record {
   std_name = codes "EST";

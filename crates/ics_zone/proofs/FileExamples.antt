@@ -36,13 +36,9 @@ plain_file : zone_file plain ≡ Some xst
 unfolding jiff_tz_tables_on_literals
 plain_file = refl
 
-plain_offset : (t : ℤ) → file_offset xst t ≡ pos 3_600
-unfolding file_offset
-plain_offset t = refl
-
-plain_reading : (local : ℤ) → file_reading xst local ≡ pos 3_600
-unfolding file_reading
-plain_reading local = refl
+plain_answers : (t : ℤ) → (file_offset xst t ≡ pos 3_600) × (file_reading xst t ≡ pos 3_600)
+unfolding file_offset file_reading
+plain_answers t = (refl, refl)
 
 -- the clock goes from one hour ahead of UTC to two at 1970-01-01T00:00:00Z
 abbrev moved : List ℕ → List ℕ
@@ -62,28 +58,16 @@ moved_file : zone_file (moved (codes "YST-2")) ≡ Some yst
 unfolding jiff_tz_tables_on_literals
 moved_file = refl
 
-before_offset : file_offset yst (negsuc 0) ≡ pos 3_600
+offsets : file_offset yst (negsuc 0) ∷ file_offset yst (pos 0) ∷ [] ≡ pos 3_600 ∷ pos 7_200 ∷ []
 unfolding file_offset
-before_offset = refl
-
-after_offset : file_offset yst (pos 0) ≡ pos 7_200
-unfolding file_offset
-after_offset = refl
+offsets = refl
 
 -- a local of the gap is read with the offset before it
-gap_reading : file_reading yst (pos 5_000) ≡ pos 3_600
+readings : file_reading yst (pos 5_000) ∷ file_reading yst (pos 7_200) ∷ [] ≡ pos 3_600 ∷ pos 7_200 ∷ []
 unfolding file_reading
-gap_reading = refl
+readings = refl
 
-after_reading : file_reading yst (pos 7_200) ≡ pos 7_200
-unfolding file_reading
-after_reading = refl
-
--- the rule contradicts the last transition
-contradicted : zone_file (moved (codes "XST-1")) ≡ None
+-- the rule contradicts the last transition, or there is no header
+refused : zone_file (moved (codes "XST-1")) ∷ zone_file (codes "TZif") ∷ [] ≡ None ∷ None ∷ []
 unfolding jiff_tz_tables_on_literals
-contradicted = refl
-
-no_header : zone_file (codes "TZif") ≡ None
-unfolding jiff_tz_tables_on_literals
-no_header = refl
+refused = refl

@@ -1,5 +1,5 @@
 -- The definitions on New York's observances from 2007 on.
-use Rattle.std.proofs.Common.{◌≡◌, List, option_map, [], ◌∷◌, Option, Some, None, true, false, refl, pos, neg_ℤ, arith}
+use Rattle.std.proofs.Common.{◌≡◌, List, map, option_map, [], ◌∷◌, Option, Some, None, Bool, true, false, refl, ℤ, pos, neg_ℤ, arith}
 use Rattle.ics_fields.specs.declared.frequency.Frequency.TheVariants.{Yearly}
 use Rattle.ics_fields.specs.declared.local.Local.{Local}
 use Rattle.ics_fields.specs.declared.until.Until.TheVariants.{Utc}
@@ -31,54 +31,32 @@ until l = record second_sundays { until = Some (Utc l) }
 abbrev last_second : Local
 last_second = record { day = pos 13_947; second = 25_199; second_in = omega arith }
 
--- 2007-03-11T07:00:00Z is an onset, and the second before is none
-starts : is_onset (daylight None) (pos 1_173_596_400) ≡ true
-unfolding is_onset rules_on_literals days_on_literals until_moment
-starts = refl
+abbrev onsets : Option RuleParts → List ℤ → List Bool
+onsets rule instants = map (λ t. is_onset (daylight rule) t) instants
 
-not_before : is_onset (daylight None) (pos 1_173_596_399) ≡ false
-unfolding is_onset rules_on_literals days_on_literals until_moment
-not_before = refl
-
--- 2009-04-01T07:00:00Z is one by its RDATE
-listed : is_onset (daylight None) (pos 1_238_569_200) ≡ true
-unfolding is_onset rules_on_literals days_on_literals until_moment
-listed = refl
-
--- 2008-03-09T07:00:00Z is one by the rule
-by_rule : is_onset (daylight (Some second_sundays)) (pos 1_205_046_000) ≡ true
-unfolding is_onset rules_on_literals days_on_literals until_moment
-by_rule = refl
-
-without_rule : is_onset (daylight None) (pos 1_205_046_000) ≡ false
+-- 2007-03-11T07:00:00Z is an onset, 2009-04-01T07:00:00Z is one by its RDATE, and 2008-03-09T07:00:00Z would be one by the rule alone
+without_rule : onsets None (pos 1_173_596_399 ∷ pos 1_173_596_400 ∷ pos 1_238_569_200 ∷ pos 1_205_046_000 ∷ []) ≡ false ∷ true ∷ true ∷ false ∷ []
 unfolding is_onset rules_on_literals days_on_literals until_moment
 without_rule = refl
 
--- a UTC UNTIL a second earlier ends the rule, but neither DTSTART nor RDATE
-ended : is_onset (daylight (Some (until last_second))) (pos 1_205_046_000) ≡ false
+by_rule : onsets (Some second_sundays) (pos 1_205_046_000 ∷ []) ≡ true ∷ []
+unfolding is_onset rules_on_literals days_on_literals until_moment
+by_rule = refl
+
+-- a UTC UNTIL a second earlier ends the rule, but no RDATE
+ended : onsets (Some (until last_second)) (pos 1_205_046_000 ∷ pos 1_238_569_200 ∷ []) ≡ false ∷ true ∷ []
 unfolding is_onset rules_on_literals days_on_literals until_moment
 ended = refl
 
-not_ended : is_onset (daylight (Some (until (local 2008 3 9 7 0)))) (pos 1_205_046_000) ≡ true
+not_ended : onsets (Some (until (local 2008 3 9 7 0))) (pos 1_205_046_000 ∷ []) ≡ true ∷ []
 unfolding is_onset rules_on_literals days_on_literals until_moment
 not_ended = refl
-
-rdate_stays : is_onset (daylight (Some (until last_second))) (pos 1_238_569_200) ≡ true
-unfolding is_onset rules_on_literals days_on_literals until_moment
-rdate_stays = refl
 
 -- of two observances that begin at one instant the second is the greater onset
 abbrev back_and_forth : List ObservanceSaid
 back_and_forth = daylight None ∷ record (daylight None) { offset_to = neg_ℤ (pos 3_600) } ∷ []
 
-last_of_two : option_map (λ p. p.offset_to) (last_at back_and_forth (pos 1_173_596_400)) ≡ Some (neg_ℤ (pos 3_600))
-unfolding is_onset last_below days_on_literals
-last_of_two = refl
-
-first_of_two : option_map (λ p. p.offset_to) (first_at back_and_forth (pos 1_173_596_400)) ≡ Some (neg_ℤ (pos 14_400))
-unfolding is_onset first_below days_on_literals
-first_of_two = refl
-
-none_of_two : last_at back_and_forth (pos 1_173_596_399) ≡ None
-unfolding is_onset last_below days_on_literals
-none_of_two = refl
+two : map (option_map (λ p. p.offset_to)) (last_at back_and_forth (pos 1_173_596_400) ∷ first_at back_and_forth (pos 1_173_596_400)
+    ∷ last_at back_and_forth (pos 1_173_596_399) ∷ []) ≡ Some (neg_ℤ (pos 3_600)) ∷ Some (neg_ℤ (pos 14_400)) ∷ None ∷ []
+unfolding is_onset last_below first_below days_on_literals
+two = refl
