@@ -1,6 +1,6 @@
 -- What a zone file says is what jiff answers for a table that was read from it.
-use Rattle.std.proofs.Common.{Decides, ◌≡◌, ℕ, zero, suc, ◌+◌, ◌-◌, ℤ, pos, Bool, true, false, cond, int_le, int_lt, List, [], ◌∷◌, map, length, get_or}
-use Rattle.std.proofs.Common.{Option, Some, None, option_map, refl, sym, ap, ap₂, ◌∙◌, arith, if◌then◌else◌, not, vec_len}
+use Rattle.std.proofs.Common.{Decides, ◌≡◌, ℕ, zero, suc, ◌+◌, ◌-◌, ℤ, pos, Bool, true, false, cond, int_le, List, [], ◌∷◌, map, length, get_or}
+use Rattle.std.proofs.Common.{Option, Some, None, option_map, refl, sym, ap, ap₂, ◌∙◌, arith, if◌then◌else◌, vec_len}
 use Rattle.std.proofs.lemmas.Bool.{and_parts, false_from_ne_true}
 use Rattle.std.proofs.lemmas.Bool.Decides.{nat_tests}
 use Rattle.std.proofs.lemmas.Slice.Eq.{bytes_eq-Decides}
@@ -13,7 +13,7 @@ use Rattle.jiff_core.specs.declared.offset.Offset.{Offset}
 use Rattle.jiff_core.specs.declared.civil.datetime.DateTime.{DateTime}
 use Rattle.jiff_tz.specs.Ambiguous.{compatible_offset}
 use Rattle.jiff_tz.specs.PosixRule as Posix
-use Rattle.jiff_tz.specs.PosixRule.{match_some, utc_window, rule_nanos, in_window, in_span, saturating_add, saturating_sub, shift_between, dst_info, std_info}
+use Rattle.jiff_tz.specs.PosixRule.{match_some, utc_window, rule_nanos, in_window, dst_info, std_info}
 use Rattle.jiff_tz.specs.PosixText.{dst_view, tz_view, day_time_view}
 use Rattle.jiff_tz.specs.Tzif as Table
 use Rattle.jiff_tz.specs.Tzif.{tzif_view}
@@ -22,7 +22,8 @@ use Rattle.jiff_tz.specs.TzifAgree.{FooterAgrees, RowAgrees}
 use Rattle.jiff_tz.specs.Abbreviation.{abbreviation_text}
 use Rattle.jiff_tz.specs.Year.{year_of_nanos}
 use Rattle.jiff_tz.proofs.YearLemmas.{year_of_nanos-civil}
-use Rattle.jiff_tz.specs.declared.ambiguous.AmbiguousOffset.TheVariants.{Unambiguous, Gap, Fold}
+use Rattle.jiff_tz.specs.declared.ambiguous.AmbiguousOffset.{AmbiguousOffset}
+use Rattle.jiff_tz.specs.declared.ambiguous.AmbiguousOffset.TheVariants.{Unambiguous}
 use Rattle.jiff_tz.specs.declared.info.Dst.{Dst as DstFlag}
 use Rattle.jiff_tz.specs.declared.info.OffsetInfo.{OffsetInfo}
 use Rattle.jiff_tz.specs.declared.posix.DayTime.{DayTime}
@@ -32,7 +33,7 @@ use Rattle.jiff_tz.specs.declared.tzif.Tzif.{Tzif}
 use Rattle.jiff_tz.specs.declared.tzif.transition.Transition.{Transition}
 use Rattle.jiff_tz.specs.declared.tzif.transition.LocalTimeType.{LocalTimeType}
 use Rattle.ics_zone.specs.ZoneFiles.{rule_moment, daylight_window, daylight_type, standard_type, is_inside, rule_type, type_by, rule_reading, compatible_by}
-use Rattle.ics_zone.specs.ZoneFiles.{compatible_behind, compatible_ahead, row_at, offset_after, rule_after, count_at, civil_count_at, file_offset, file_reading}
+use Rattle.ics_zone.specs.ZoneFiles.{row_at, offset_after, rule_after, count_at, civil_count_at, file_offset, file_reading}
 use Rattle.ics_zone.specs.ZoneFiles.{reading_after, is_flag, is_type, agrees}
 
 moment_is : (year ahead : ℤ) (d : DayTime) → rule_moment year ahead (day_time_view d) ≡ rule_nanos year d ahead
@@ -65,32 +66,19 @@ rule_offset_is rule n = ap (λ t. t.seconds) (rule_type_is rule n) ∙ by (Posix
     by : (dst : Option Dst) → (match_some dst (std_info rule) dst_info).offset.seconds ≡ (match_some dst rule.std_offset (λ d. d.offset)).seconds
     by dst = grind (arith, nat_tests)
 
-behind_is : (std dst : Offset) (w : ℤ × ℤ) (n : ℤ) → compatible_behind std.seconds dst.seconds w n
-    ≡ (compatible_offset (Posix.ambiguous_behind std dst w n)).seconds
-behind_is std dst w n =
-    by (in_window w n) (in_span (saturating_add w.0 (shift_between std dst)) w.0 n) (in_span w.1 (saturating_sub w.1 (shift_between std dst)) n)
-  where
-    by : (a b c : Bool) → (if a then dst.seconds else (if b then std.seconds else (if c then dst.seconds else std.seconds)))
-        ≡ (compatible_offset (if a then Unambiguous dst else (if b then Fold std dst else (if c then Gap dst std else Unambiguous std)))).seconds
-    by a b c = grind (arith, nat_tests)
+-- the offset that is taken of two cases
+of_case : (b : Bool) (x y : AmbiguousOffset) → (compatible_offset (if b then x else y)).seconds
+    ≡ (if b then (compatible_offset x).seconds else (compatible_offset y).seconds)
+of_case true x y = refl
+of_case false x y = refl
 
-ahead_is : (std dst : Offset) (w : ℤ × ℤ) (n : ℤ) → compatible_ahead std.seconds dst.seconds w n
-    ≡ (compatible_offset (Posix.ambiguous_ahead std dst w n)).seconds
-ahead_is std dst w n =
-    by (not (in_window w n)) (in_span w.0 (saturating_add w.0 (shift_between std dst)) n)
-    (in_span (saturating_sub w.1 (shift_between std dst)) w.1 n)
-  where
-    by : (a b c : Bool) → (if a then std.seconds else (if b then std.seconds else dst.seconds))
-        ≡ (compatible_offset (if a then Unambiguous std else (if b then Gap std dst else (if c then Fold dst std else Unambiguous dst)))).seconds
-    by a b c = grind (arith, nat_tests)
+same_case : (b : Bool) (x : ℤ) → (if b then x else x) ≡ x
+same_case true x = refl
+same_case false x = refl
 
 compatible_is : (std dst : Offset) (w : ℤ × ℤ) (n : ℤ) → compatible_by std.seconds dst.seconds w n
     ≡ (compatible_offset (Posix.ambiguous_by std dst w n)).seconds
-compatible_is std dst w n = by (int_lt dst.seconds std.seconds) (int_lt std.seconds dst.seconds)
-  where
-    by : (a b : Bool) → (if a then compatible_behind std.seconds dst.seconds w n else (if b then compatible_ahead std.seconds dst.seconds w n else std.seconds))
-        ≡ (compatible_offset (if a then Posix.ambiguous_behind std dst w n else (if b then Posix.ambiguous_ahead std dst w n else Unambiguous std))).seconds
-    by a b = grind (arith, nat_tests, ahead_is, behind_is)
+compatible_is std dst w n = simp (of_case, same_case)
 
 pub rule_reading_is : (std : Offset) (dst : Option Dst) (dt : DateTime) (local : ℤ) → civil_nanos dt ≡ nanos_of_seconds local
     → rule_reading std.seconds (option_map dst_view dst) (nanos_of_seconds local) ≡ (compatible_offset (Posix.ambiguous_at_by std dst dt)).seconds

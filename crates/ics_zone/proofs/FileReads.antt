@@ -1,6 +1,5 @@
 -- What jiff's reader answers for the bytes of a zone file, and what the file says.
-use Rattle.std.proofs.Common.{◌≡◌, ℕ, ◌≤◌, true, List, length, Option, Some, None, option_map, IfSome, Ok, refl}
-use Rattle.std.proofs.Common.{arith}
+use Rattle.std.proofs.Common.{◌≡◌, ℕ, ◌≤◌, true, List, length, Option, Some, None, option_map, IfSome, Ok, refl, arith}
 use Rattle.std.proofs.lemmas.Bool.Decides.{nat_tests}
 use Rattle.jiff_core.specs.declared.error.Error.{Error}
 use Rattle.jiff_core.specs.declared.error.Error.TheVariants.{OutOfMemory}
