@@ -76,9 +76,14 @@ words_more {hours = hours} {local = local} {minute = minute} {count = count} {wo
       | inl e ↦ (
           let here : minute * 60 + k % 60 ≡ k = omega (arith, e) in
           let there : local + minute * 60 + k % 60 ≡ local + k = omega (arith, e) in
-          marked-set_same marks minute part k inside e ∙ front.is_part (k % 60) ∙ ap (λ b. b && contains word (k % 60)) (front.is_size (k % 60) (omega arith))
-          ∙ ap (λ b. int_lt (pos (minute * 60 + k % 60)) count && b) (front.is_word (k % 60) (omega arith))
-          ∙ ap (λ m. int_lt (pos m) count && keeps hours (local + minute * 60 + k % 60)) here ∙ ap (λ m. int_lt (pos k) count && keeps hours m) there)
+          rw (
+            marked-set_same marks minute part k inside e,
+            front.is_part (k % 60),
+            front.is_size (k % 60) (omega arith),
+            front.is_word (k % 60) (omega arith),
+            there,
+            here,
+          ) refl)
       | inr ne ↦ marked-set_other marks minute part k ne ∙ old k (omega (arith, ne, early))
     ]
 

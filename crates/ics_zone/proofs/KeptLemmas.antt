@@ -49,11 +49,7 @@ module _ (s : Onsets) (r : Recurrence) (contains : s.rule ≡ Some r) where
 
     pub none_of_rule : NoneKept r 0 end → (u : ℤ) → IsKeptAt s u → t <ℤ u
     none_of_rule none u h =
-        let k = from_kept u h in
-        elim (cases_lt k.local end) [
-          | inl less ↦ absurd (not_both (is_kept r k.local) k.kept (none k.local (omega arith) less))
-          | inr more ↦ (let b = k.is in let e = k.by_end in let a = shown.later k.local more k.early (omega (arith, ints, b, e)) in omega (arith, ints, a, b))
-        ]
+        let k = from_kept u h in let kept = k.kept in let b = k.is in let e = k.by_end in let early = k.early in grind (arith, ints, cases_lt)
 
     -- the first after another instant
     module _ (after : ℤ) (from : ℕ) (past : IsShownBy s.offset_from after from) where
@@ -74,15 +70,7 @@ module _ (s : Onsets) (r : Recurrence) (contains : s.rule ≡ Some r) where
 
       pub no_next_of_rule : NoneKept r from end → (v : ℤ) → IsKeptAt s v → after <ℤ v → t ≤ℤ v
       no_next_of_rule none v h l =
-          let k = from_kept v h in
-          let at = k.is in
-          elim (cases_lt k.local end) [
-            | inr more ↦ (let e = k.by_end in let a = shown.later k.local more k.early (omega (arith, ints, at, e)) in omega (arith, ints, a, at))
-            | inl less ↦ elim (cases_lt k.local from) [
-              | inl low ↦ absurd (let a = past.shown k.local low in omega (arith, ints, a, at, l))
-              | inr high ↦ absurd (not_both (is_kept r k.local) k.kept (none k.local high less))
-            ]
-          ]
+          let k = from_kept v h in let kept = k.kept in let at = k.is in let e = k.by_end in let early = k.early in grind (arith, ints, cases_lt)
 
 -- no instant of a kind is after one instant and before another
 abbrev pub NoneSkipped : (ℤ → Type 0) → ℤ → ℤ → Type 0

@@ -13,13 +13,11 @@ loop-at-smaller c =
 pub returns-then-next-at-clause-earlier : goal.returns-then-next-at-clause-earlier
 returns-then-next-at-clause-earlier c =
     let fits : SFits w64 c.args.seconds = c.ranges.seconds in
-    let to : SFits w64 c.clear_to-next.result = search rules in
-    rw (to_z-of_z w64 c.clear_to-next.result to) (simp to_z-of_z at c.clear_to-next.ensures.earlier)
+    rw (to_z-of_z w64 c.clear_to-next.result (search rules)) (simp to_z-of_z at c.clear_to-next.ensures.earlier)
 
 pub loop-at-preserved : goal.loop-at-preserved
 loop-at-preserved c =
-    let to : SFits w64 c.clear_to-next.result = search rules in
-    rw (to_z-of_z w64 c.clear_to-next.result to) (record {
+    rw (to_z-of_z w64 c.clear_to-next.result (search rules)) (record {
       low = omega (arith, ints, c.loop-at.invariant.low, c.clear_to-next.ensures.low);
       high = c.clear_to-next.ensures.high;
       earlier = c.clear_to-next.ensures.earlier;
@@ -37,16 +35,14 @@ overflow_add-seconds c = omega (arith, ints, c.requires.bound)
 
 pub clear_to-next-requires-clause-bound : goal.clear_to-next-requires-clause-bound
 clear_to-next-requires-clause-bound c =
-    let seconds : SFits w64 c.args.seconds = c.ranges.seconds in
-    rw (to_z-of_z w64 c.args.seconds seconds) c.requires.bound
+    rw (to_z-of_z w64 c.args.seconds c.ranges.seconds) c.requires.bound
 
 pub clear_to-next-requires-clause-low : goal.clear_to-next-requires-clause-low
 clear_to-next-requires-clause-low c = omega (arith, ints, c.requires.low, c.loop-at.invariant.low)
 
 pub clear_to-next-requires-clause-skipped : goal.clear_to-next-requires-clause-skipped
 clear_to-next-requires-clause-skipped c =
-    let seconds : SFits w64 c.args.seconds = c.ranges.seconds in
-    rw (to_z-of_z w64 c.args.seconds seconds) c.requires.skipped
+    rw (to_z-of_z w64 c.args.seconds c.ranges.seconds) c.requires.skipped
 
 pub overflow_add-at : goal.overflow_add-at
 overflow_add-at c = omega (arith, ints, c.requires.bound, c.requires.low, c.loop-at.invariant.low, c.loop-at.invariant.high)

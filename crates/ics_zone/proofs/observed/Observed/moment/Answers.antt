@@ -18,15 +18,13 @@ shown_first : (c : goal.In-Some)
     → IsMomentOf (observances_said c.args.self.now) (seconds_at c.args.local.day c.args.local.second) (to_z w64 (of_z w64 c.in-Some.moment))
 shown_first c =
     let fits : SFits w64 c.seconds_of-seconds.result = search rules in
-    let small : SFits w64 c.in-Some.moment = search rules in
-    rw (to_z-of_z w64 c.in-Some.moment small, sym c.seconds_of-seconds.ensures) (inl (simp to_z-of_z at c.in-Some.ensures))
+    rw (to_z-of_z w64 c.in-Some.moment (search rules), sym c.seconds_of-seconds.ensures) (inl (simp to_z-of_z at c.in-Some.ensures))
 
 skipped : (c : goal.After-across_gap)
     → IsMomentOf (observances_said c.args.self.now) (seconds_at c.args.local.day c.args.local.second) (to_z w64 (of_z w64 c.across_gap.result))
 skipped c =
     let fits : SFits w64 c.seconds_of-seconds.result = search rules in
-    let small : SFits w64 c.across_gap.result = search rules in
-    rw (to_z-of_z w64 c.across_gap.result small, sym c.seconds_of-seconds.ensures) (inr (simp to_z-of_z at c.across_gap.ensures))
+    rw (to_z-of_z w64 c.across_gap.result (search rules), sym c.seconds_of-seconds.ensures) (inr (simp to_z-of_z at c.across_gap.ensures))
 
 pub returns-in-Some : goal.returns-in-Some
 returns-in-Some c = record { means = shown_first c; value = is_found c.args.self.now _ _ (shown_first c) }

@@ -1,4 +1,4 @@
-use Rattle.std.proofs.Common.{rules, inl, inr, ◌≤ℤ◌, ◌≡◌, ℤ, get_or, arith, SFits, w64}
+use Rattle.std.proofs.Common.{rules, inl, inr, ◌≤ℤ◌, ◌≡◌, ℤ, get_or, arith, w64}
 use Rattle.std.proofs.lemmas.Int.{ints, to_z-of_z}
 use Rattle.std.proofs.lemmas.List.{get_or_default}
 use Rattle.ics_zone.specs.declared.onsets.Onsets.{Onsets}
@@ -15,5 +15,4 @@ first_is s sound f is t (inr h) = let low = sound.first t f h in omega (arith, i
 
 pub returns-clause-first : goal.returns-clause-first
 returns-clause-first c =
-    let small : SFits w64 c.index.result.now = search rules in
-    rw (to_z-of_z w64 c.index.result.now small) (first_is c.args.self.now c.requires c.index.result.now c.index.ensures)
+    rw (to_z-of_z w64 c.index.result.now (search rules)) (first_is c.args.self.now c.requires c.index.result.now c.index.ensures)

@@ -14,12 +14,11 @@ none_and {first = None} s t None e x y = λ u h. elim h [ inl p ↦ x u p | inr 
 
 pub returns-in-Some-Some : goal.returns-in-Some-Some
 returns-in-Some-Some c =
-    let small : SFits w64 c.max.result = search rules in
     let a : SFits w64 c.in-Some-Some.listed = search rules in
     let b : SFits w64 c.in-Some-Some.kept = search rules in
     let max = simp to_z-of_z at c.max.ensures.value in
     let fits : SFits w64 c.args.moment = c.ranges.moment in
-    rw (to_z-of_z w64 c.max.result small)
+    rw (to_z-of_z w64 c.max.result (search rules))
     (last_of_both (Contains c.args.self.now.listed.items) (IsKeptAt c.args.self.now) c.args.moment c.in-Some-Some.listed c.in-Some-Some.kept c.max.result
     (simp to_z-of_z at c.in-Some-Some.ensures) (simp to_z-of_z at c.in-Some-Some.ensures')
     (later_of c.in-Some-Some.listed c.in-Some-Some.kept c.max.result max))
@@ -27,8 +26,7 @@ returns-in-Some-Some c =
 pub returns-in-Some-None : goal.returns-in-Some-None
 returns-in-Some-None c =
     let fits : SFits w64 c.args.moment = c.ranges.moment in
-    let small : SFits w64 c.in-Some-None.listed = search rules in
-    rw (to_z-of_z w64 c.in-Some-None.listed small)
+    rw (to_z-of_z w64 c.in-Some-None.listed (search rules))
     (last_of_first (Contains c.args.self.now.listed.items) (IsKeptAt c.args.self.now) c.args.moment c.in-Some-None.listed
     (simp to_z-of_z at c.in-Some-None.ensures) (simp to_z-of_z at c.in-Some-None.ensures'))
 
@@ -41,6 +39,5 @@ returns-in-None-default c =
 pub returns-then-moment-first : goal.returns-then-moment-first
 returns-then-moment-first c = λ u h.
     let fits : SFits w64 c.args.moment = c.ranges.moment in
-    let small : SFits w64 c.first.result = search rules in
     let low = c.first.ensures.first u h in
-    omega (arith, ints, low, c.if-moment-first.true, to_z-of_z w64 c.first.result small, to_z-of_z w64 c.args.moment fits)
+    omega (arith, ints, low, c.if-moment-first.true, to_z-of_z w64 c.first.result (search rules), to_z-of_z w64 c.args.moment fits)

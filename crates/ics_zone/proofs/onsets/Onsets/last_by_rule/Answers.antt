@@ -8,8 +8,7 @@ returns-in-Some-last_kept c =
     let from : SFits w32 c.args.self.now.offset_from = search rules in
     let fits : SFits w64 c.args.moment = c.ranges.moment in
     let shown = simp to_z-of_z at c.shown_to-end.ensures in
-    let small : SFits w64 c.instant.result = search rules in
-    rw (to_z-of_z w64 c.instant.result small)
+    rw (to_z-of_z w64 c.instant.result (search rules))
     (last_of_rule c.args.self.now c.in-Some.rule c.in-Some.is c.args.moment c.shown_to-end.result shown
     c.in-Some-last_kept.kept c.in-Some-last_kept.ensures c.instant.result (simp to_z-of_z at c.instant.ensures))
 

@@ -12,8 +12,7 @@ returns-then-passed-eq0 c =
 pub returns-else-passed-eq0 : goal.returns-else-passed-eq0
 returns-else-passed-eq0 c =
     let fits : SFits w64 c.args.moment = c.ranges.moment in
-    let small : SFits w64 c.index.result.now = search rules in
     let passed = rw c.deref.ensures.value at (simp to_z-of_z at c.passed-passed.ensures) in
-    rw (to_z-of_z w64 c.index.result.now small)
+    rw (to_z-of_z w64 c.index.result.now (search rules))
     (last_listed c.args.self.now.listed.items c.requires.in_order c.args.moment _ passed (omega (arith, c.if-passed-eq0.false)) c.index.result.now
     c.index.ensures)

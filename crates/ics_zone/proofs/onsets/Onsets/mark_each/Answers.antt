@@ -7,10 +7,9 @@ use Rattle.ics_zone.proofs.onsets.Onsets.mark_each.Goals as goal
 pub loop-at-init : goal.loop-at-init
 loop-at-init c =
     let fits : SFits w64 c.args.from = c.ranges.from in
-    let next : SFits w64 c.next_asked-at.result = search rules in
     let after = c.next_asked-at.ensures.after in
     let bound = c.next_asked-at.ensures.bound in
-    rw (to_z-of_z w64 c.next_asked-at.result next, to_z-of_z w64 c.args.from fits) (record {
+    rw (to_z-of_z w64 c.next_asked-at.result (search rules), to_z-of_z w64 c.args.from fits) (record {
       length = c.requires.length;
       low = omega (arith, ints, after, c.requires.near);
       high = omega (arith, ints, bound, c.requires.near);
@@ -32,14 +31,13 @@ loop-at-smaller c =
 pub loop-at-preserved : goal.loop-at-preserved
 loop-at-preserved c =
     let fits : SFits w64 c.args.from = c.ranges.from in
-    let next : SFits w64 c.next_asked-at-in-loop-at.result = search rules in
     let after = c.next_asked-at-in-loop-at.ensures.after in
     let bound = c.next_asked-at-in-loop-at.ensures.bound in
     let first = c.next_asked-at-in-loop-at.ensures.next in
     let known = rw (to_z-of_z w64 c.args.from fits) at c.loop-at.invariant.known in
     let complete = rw (to_z-of_z w64 c.args.from fits) at c.loop-at.invariant.complete in
     let marks = simp to_z-of_z at c.mark.ensures.marks in
-    rw (to_z-of_z w64 c.next_asked-at-in-loop-at.result next, to_z-of_z w64 c.args.from fits) (record {
+    rw (to_z-of_z w64 c.next_asked-at-in-loop-at.result (search rules), to_z-of_z w64 c.args.from fits) (record {
       length = c.mark.ensures.length;
       low = omega (arith, ints, after, c.loop-at.invariant.low);
       high = omega (arith, ints, bound, c.requires.near);
@@ -55,8 +53,7 @@ loop-at-preserved c =
 
 pub returns-clause-known : goal.returns-clause-known
 returns-clause-known c =
-    let fits : SFits w64 c.args.from = c.ranges.from in
-    rw (to_z-of_z w64 c.args.from fits) at c.loop-at.invariant.known
+    rw (to_z-of_z w64 c.args.from c.ranges.from) at c.loop-at.invariant.known
 
 pub returns-clause-complete : goal.returns-clause-complete
 returns-clause-complete c = λ k low asked.

@@ -8,8 +8,7 @@ pub returns-clause-next : goal.returns-clause-next
 returns-clause-next c =
     let fits : SFits w64 c.args.after = c.ranges.after in
     let kept : SFits w64 c.next_by_rule-kept.result = search rules in
-    let small : SFits w64 c.next_listed.result = search rules in
-    rw (to_z-of_z w64 c.next_listed.result small)
+    rw (to_z-of_z w64 c.next_listed.result (search rules))
     (earlier_of c.args.self.now c.args.after (simp to_z-of_z at c.next_listed.ensures.bound)
     (simp to_z-of_z at c.next_listed.ensures.next) (simp to_z-of_z at c.next_by_rule-kept.ensures.next))
 

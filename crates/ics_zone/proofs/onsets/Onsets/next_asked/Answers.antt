@@ -9,8 +9,7 @@ pub returns-then-with_rule-clause-next : goal.returns-then-with_rule-clause-next
 returns-then-with_rule-clause-next c =
     let fits : SFits w64 c.args.after = c.ranges.after in
     let kept : SFits w64 c.next_by_rule-kept.result = search rules in
-    let small : SFits w64 c.next_listed.result = search rules in
-    rw (to_z-of_z w64 c.next_listed.result small) (λ t asked late.
+    rw (to_z-of_z w64 c.next_listed.result (search rules)) (λ t asked late.
     let contains : Has c.args.self.now t = elim asked [ inl l ↦ inl l | inr r ↦ inr r.1 ] in
     earlier_of c.args.self.now c.args.after (simp to_z-of_z at c.next_listed.ensures.bound)
     (simp to_z-of_z at c.next_listed.ensures.next) (simp to_z-of_z at c.next_by_rule-kept.ensures.next) t contains late)
@@ -19,8 +18,7 @@ pub returns-then-with_rule-clause-is : goal.returns-then-with_rule-clause-is
 returns-then-with_rule-clause-is c =
     let fits : SFits w64 c.args.limit = c.ranges.limit in
     let kept : SFits w64 c.next_by_rule-kept.result = search rules in
-    let small : SFits w64 c.next_listed.result = search rules in
-    rw (to_z-of_z w64 c.next_listed.result small)
+    rw (to_z-of_z w64 c.next_listed.result (search rules))
     (is_of c.args.self.now (simp to_z-of_z at c.next_listed.ensures.bound)
     (simp to_z-of_z at c.next_listed.ensures.is) (simp to_z-of_z at c.next_by_rule-kept.ensures.is))
 

@@ -11,8 +11,7 @@ returns-in-Some-next_kept-clause-bound c =
     let shown = simp to_z-of_z at c.shown_to-end.ensures in
     let fits_too : SFits w64 c.args.after = c.ranges.after in
     let past = simp to_z-of_z at c.shown_by-from.ensures in
-    let small : SFits w64 c.instant.result = search rules in
-    rw (to_z-of_z w64 c.instant.result small)
+    rw (to_z-of_z w64 c.instant.result (search rules))
     (bound_of_rule c.args.self.now c.in-Some.rule c.in-Some.is c.args.limit c.shown_to-end.result shown c.args.after c.shown_by-from.result past
     c.in-Some-next_kept.kept c.in-Some-next_kept.ensures c.instant.result (simp to_z-of_z at c.instant.ensures))
 
@@ -23,8 +22,7 @@ returns-in-Some-next_kept-clause-next c =
     let shown = simp to_z-of_z at c.shown_to-end.ensures in
     let fits_too : SFits w64 c.args.after = c.ranges.after in
     let past = simp to_z-of_z at c.shown_by-from.ensures in
-    let small : SFits w64 c.instant.result = search rules in
-    rw (to_z-of_z w64 c.instant.result small)
+    rw (to_z-of_z w64 c.instant.result (search rules))
     (next_of_rule c.args.self.now c.in-Some.rule c.in-Some.is c.args.limit c.shown_to-end.result shown c.args.after c.shown_by-from.result past
     c.in-Some-next_kept.kept c.in-Some-next_kept.ensures (simp to_z-of_z at c.instant.ensures))
 
@@ -41,13 +39,11 @@ returns-in-None-clause-next c =
 
 pub returns-in_default-clause-after : goal.returns-in_default-clause-after
 returns-in_default-clause-after c =
-    let limit : SFits w64 c.args.limit = c.ranges.limit in
-    rw (to_z-of_z w64 c.args.limit limit) c.requires.limit
+    rw (to_z-of_z w64 c.args.limit c.ranges.limit) c.requires.limit
 
 pub returns-in-None-clause-after : goal.returns-in-None-clause-after
 returns-in-None-clause-after c =
-    let limit : SFits w64 c.args.limit = c.ranges.limit in
-    rw (to_z-of_z w64 c.args.limit limit) c.requires.limit
+    rw (to_z-of_z w64 c.args.limit c.ranges.limit) c.requires.limit
 
 pub returns-in_default-clause-is : goal.returns-in_default-clause-is
 returns-in_default-clause-is c = λ less. absurd (omega (arith, ints, less))
@@ -57,8 +53,7 @@ returns-in-None-clause-is c = λ less. absurd (omega (arith, ints, less))
 
 pub shown_by-from-requires : goal.shown_by-from-requires
 shown_by-from-requires c =
-    let from : SFits w32 c.args.self.now.offset_from = search rules in
-    rw (to_z-of_z w32 c.args.self.now.offset_from from) c.requires.sound.from_in
+    rw (to_z-of_z w32 c.args.self.now.offset_from (search rules)) c.requires.sound.from_in
 
 pub returns-in_default-clause-bound : goal.returns-in_default-clause-bound
 returns-in_default-clause-bound c = grind (arith, common_steps)

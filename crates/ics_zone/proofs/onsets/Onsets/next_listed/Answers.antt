@@ -9,33 +9,30 @@ returns-clause-after c =
     let fits : SFits w64 c.args.after = c.ranges.after in
     let limit : SFits w64 c.args.limit = c.ranges.limit in
     let listed : SFits w64 c.index.result.now = search rules in
-    let small : SFits w64 c.min.result = search rules in
     let passed = rw c.deref.ensures.value at (simp to_z-of_z at c.passed-passed.ensures) in
     let bound = passed.bound in
     let inside : c.passed-passed.result < length c.args.self.now.listed.items = search rules in
     let late = passed.later c.passed-passed.result c.index.result.now (omega arith) inside in
     let least = simp to_z-of_z at c.min.ensures.value in
-    rw (to_z-of_z w64 c.min.result small) (omega (arith, ints, clamps, least, late, c.index.ensures, c.requires.limit))
+    rw (to_z-of_z w64 c.min.result (search rules)) (omega (arith, ints, clamps, least, late, c.index.ensures, c.requires.limit))
 
 pub returns-clause-next : goal.returns-clause-next
 returns-clause-next c =
     let fits : SFits w64 c.args.after = c.ranges.after in
     let limit : SFits w64 c.args.limit = c.ranges.limit in
     let listed : SFits w64 c.index.result.now = search rules in
-    let small : SFits w64 c.min.result = search rules in
     let passed = rw c.deref.ensures.value at (simp to_z-of_z at c.passed-passed.ensures) in
     let bound = passed.bound in
     let inside : c.passed-passed.result < length c.args.self.now.listed.items = search rules in
     let least = simp to_z-of_z at c.min.ensures.value in
-    rw (to_z-of_z w64 c.min.result small) (λ t h l.
+    rw (to_z-of_z w64 c.min.result (search rules)) (λ t h l.
     let low = next_listed c.args.self.now.listed.items c.requires.sound.in_order c.args.after c.passed-passed.result passed c.index.result.now inside
     c.index.ensures t h l in
     omega (arith, ints, clamps, least, low))
 
 pub returns-then-passed-len-clause-after : goal.returns-then-passed-len-clause-after
 returns-then-passed-len-clause-after c =
-    let limit : SFits w64 c.args.limit = c.ranges.limit in
-    rw (to_z-of_z w64 c.args.limit limit) c.requires.limit
+    rw (to_z-of_z w64 c.args.limit c.ranges.limit) c.requires.limit
 
 pub returns-then-passed-len-clause-is : goal.returns-then-passed-len-clause-is
 returns-then-passed-len-clause-is c = λ less. absurd (omega (arith, ints, less))

@@ -8,29 +8,25 @@ use Rattle.ics_zone.proofs.zone.ZonePlace.offset.Goals as goal
 
 pub offset_at-requires : goal.offset_at-requires
 offset_at-requires c =
-    let fits : SFits w64 c.args.moment = c.ranges.moment in
-    rw (to_z-of_z w64 c.args.moment fits) c.requires
+    rw (to_z-of_z w64 c.args.moment c.ranges.moment) c.requires
 
 pub returns-in-ByObservances-clause-means : goal.returns-in-ByObservances-clause-means
 returns-in-ByObservances-clause-means c =
-    let small : SFits w32 c.offset.result = search rules in
     let fits : SFits w64 c.args.moment = c.ranges.moment in
     let kind : c.args.self.now ≡ ByObservances c.in-ByObservances.observed = sym c.self.view_is ∙ c.in-ByObservances.is in
-    rw (kind, to_z-of_z w32 c.offset.result small) (simp to_z-of_z at c.offset.ensures.means)
+    rw (kind, to_z-of_z w32 c.offset.result (search rules)) (simp to_z-of_z at c.offset.ensures.means)
 
 pub returns-in-ByFile-clause-means : goal.returns-in-ByFile-clause-means
 returns-in-ByFile-clause-means c =
-    let small : SFits w32 c.offset_at.result = search rules in
     let fits : SFits w64 c.args.moment = c.ranges.moment in
     let kind : c.args.self.now ≡ ByFile c.in-ByFile.table = sym c.self.view_is ∙ c.in-ByFile.is in
-    rw (kind, to_z-of_z w32 c.offset_at.result small, ← c.deref.ensures)
+    rw (kind, to_z-of_z w32 c.offset_at.result (search rules), ← c.deref.ensures)
     ((simp to_z-of_z at c.offset_at.ensures) ∙ table_offset (plain_zone c.tzif.result) _ c.tzif.ensures c.args.moment)
 
 pub returns-in-ByFile-clause-value : goal.returns-in-ByFile-clause-value
 returns-in-ByFile-clause-value c =
-    let small : SFits w32 c.offset_at.result = search rules in
     let fits : SFits w64 c.args.moment = c.ranges.moment in
     let kind : c.args.self.now ≡ ByFile c.in-ByFile.table = sym c.self.view_is ∙ c.in-ByFile.is in
-    rw (kind, to_z-of_z w32 c.offset_at.result small, ← c.deref.ensures)
+    rw (kind, to_z-of_z w32 c.offset_at.result (search rules), ← c.deref.ensures)
     ((simp to_z-of_z at c.offset_at.ensures) ∙ table_offset (plain_zone c.tzif.result) _ c.tzif.ensures c.args.moment
     ∙ sym (file_offset_is c.deref.result.now c.args.moment))
