@@ -25,14 +25,11 @@ module _ (s : Onsets) (with_rule : Bool) (from : ℤ) (was now : List ℕ) (at :
       → (k : ℕ) → IsMarked now k → IsMarked before k ⊎ Has s (from +ℤ pos k)
   known_more before contains old k m = grind (arith, ints, eqb-true, or_cases)
 
-  pub stay_more : (k : ℕ) → IsMarked was k → IsMarked now k
-  stay_more k m = marks k ∙ or_right (k == second) (is_marked was k) m
-
   pub complete_more : (next : ℤ) → ((t : ℤ) → IsAsked s with_rule t → at <ℤ t → next ≤ℤ t)
       → ((k : ℕ) → (from +ℤ pos k) <ℤ at → IsAsked s with_rule (from +ℤ pos k) → IsMarked was k)
       → (k : ℕ) → (from +ℤ pos k) <ℤ next → IsAsked s with_rule (from +ℤ pos k) → IsMarked now k
   complete_more next none old k early asked = elim (less_or_not_z (from +ℤ pos k) at) [
-    | inl less ↦ stay_more k (old k less asked)
+    | inl less ↦ marks k ∙ or_right (k == second) (is_marked was k) (old k less asked)
     | inr more ↦ elim (less_or_not_z at (from +ℤ pos k)) [
       | inl past ↦ absurd (let low = none (from +ℤ pos k) asked past in omega (arith, ints, low, early))
       | inr not_past ↦ marks k ∙ or_left (k == second) (is_marked was k) (eq-eqb k second (omega (arith, ints, is, more, not_past)))
@@ -113,7 +110,7 @@ IsClearFrom zone place local after next =
 module _ (zone : List ObservanceSaid) (list : List Onsets) (all : AreOnsetsOfAll zone list) (k : ℕ) (o : Onsets) (inside : k < length list)
     (at_place : o ≡ get_or list k o) (local after : ℤ) (before now : List ℕ) (over : AreOverrides zone (k + 1) local (after +ℤ pos 1) before)
     (marks : AreMarks o local (after +ℤ pos 1) before now) where
-  pub overrides_more : AreOverrides zone k local (after +ℤ pos 1) now
+  overrides_more : AreOverrides zone k local (after +ℤ pos 1) now
   overrides_more m h = elim (marks m h) [
     | inl old ↦ (
         let found = over m old in
@@ -127,7 +124,7 @@ module _ (zone : List ObservanceSaid) (list : List Onsets) (all : AreOnsetsOfAll
         (k, (there.0, ((there.1, of.known (after +ℤ pos 1 +ℤ pos m) here.0), (omega (arith), omega (arith, ints, to, low))))))
   ]
 
-  pub clear_from_more : (next new : ℤ) → new ≤ℤ next → AreClear o local (after +ℤ pos 1) now new → IsClearFrom zone (k + 1) local after next
+  clear_from_more : (next new : ℤ) → new ≤ℤ next → AreClear o local (after +ℤ pos 1) now new → IsClearFrom zone (k + 1) local after next
       → IsClearFrom zone k local after new
   clear_from_more next new less clear old i s p from h late early later = elim (cases_lt k i) [
     | inl more ↦ old i s p (omega (arith, more)) h late (omega (arith, ints, early, less)) later
@@ -150,6 +147,10 @@ module _ (zone : List ObservanceSaid) (list : List Onsets) (all : AreOnsetsOfAll
           | inr now_low ↦ absurd (let low = now_low.1 in omega (arith, ints, low, at, later, to))
         ])
   ]
+
+  pub clears_more : (next new : ℤ) → new ≤ℤ next → AreClear o local (after +ℤ pos 1) now new → IsClearFrom zone (k + 1) local after next
+      → AreOverrides zone k local (after +ℤ pos 1) now × IsClearFrom zone k local after new
+  clears_more next new less clear old = (overrides_more, clear_from_more next new less clear old)
 
 -- nothing is marked at first
 pub none_marked : (size k : ℕ) → is_marked (replicate size 0) k ≡ false

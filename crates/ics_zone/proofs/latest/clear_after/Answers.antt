@@ -1,7 +1,7 @@
-use Rattle.std.proofs.Common.{rules, arith, ◌≡◌, ◌+◌, ◌-◌, length, subst, SFits, w64, to_z, of_z, pos, ◌+ℤ◌}
+use Rattle.std.proofs.Common.{rules, arith, ◌≡◌, ◌+◌, ◌-◌, length, SFits, w64, to_z, of_z, pos, ◌+ℤ◌}
 use Rattle.std.proofs.lemmas.Int.{ints, to_z-of_z}
 use Rattle.std.proofs.lemmas.Option.{slice_get_within}
-use Rattle.ics_zone.proofs.MarkLemmas.{AreOverrides, IsClearFrom, overrides_none, overrides_more, clear_from_more}
+use Rattle.ics_zone.proofs.MarkLemmas.{overrides_none, clears_more}
 use Rattle.ics_zone.proofs.latest.clear_after.Goals as goal
 
 pub loop-place-init : goal.loop-place-init
@@ -9,11 +9,13 @@ loop-place-init c = record {
   length = search rules;
   some = omega (arith, ints);
   most = omega (arith, ints);
-  over = λ zone all. overrides_none zone (length c.args.onsets.now) 60 (to_z w64 (of_z w64 c.args.seconds)) (to_z w64 (of_z w64 c.args.after) +ℤ pos 1);
-  clear = λ zone all i s p from h late early later. absurd (
-      let within = slice_get_within zone i p h.0 in
-      let n = all.same_length in
-      omega (arith, within, n, from));
+  clears = λ zone all. (
+    overrides_none zone (length c.args.onsets.now) 60 (to_z w64 (of_z w64 c.args.seconds)) (to_z w64 (of_z w64 c.args.after) +ℤ pos 1),
+    λ i s p from h late early later. absurd (
+        let within = slice_get_within zone i p h.0 in
+        let n = all.same_length in
+        omega (arith, within, n, from)),
+  );
 }
 
 pub loop-place-preserved : goal.loop-place-preserved
@@ -23,30 +25,24 @@ loop-place-preserved c =
     let from : SFits w64 (c.args.after +ℤ pos 1) = omega (arith, ints, c.requires.bound, c.requires.high, c.requires.low) in
     let marks = simp to_z-of_z at c.clear-clear.ensures.marks in
     let clear = simp to_z-of_z at c.clear-clear.ensures.clear in
-    let over_before = simp to_z-of_z at c.loop-place.invariant.over in
-    let clear_before = simp to_z-of_z at c.loop-place.invariant.clear in
+    let before = simp to_z-of_z at c.loop-place.invariant.clears in
     let k = c.loop-place.place - 1 in
     let again : c.loop-place.place ≡ k + 1 = omega (arith, c.loop-place-test.true) in
-    let inside = c.index-onsets-place.is in
     rw (to_z-of_z w64 c.clear-clear.result (search rules), to_z-of_z w64 c.args.after fits, to_z-of_z w64 c.args.seconds local) (record {
       length = c.clear-clear.ensures.length;
       some = omega (arith, ints, c.clear-clear.ensures.some);
       most = omega (arith, ints, c.clear-clear.ensures.most, c.loop-place.invariant.most);
-      over = λ zone all. overrides_more zone c.args.onsets.now all k c.index-onsets-place.result (omega (arith, again, c.loop-place.auto.place))
-          c.index-onsets-place.is c.args.seconds c.args.after c.loop-place.over c.clear-clear.new.over
-          (subst (λ n. AreOverrides zone n c.args.seconds (c.args.after +ℤ pos 1) c.loop-place.over) again (over_before zone all)) marks;
-      clear = λ zone all. clear_from_more zone c.args.onsets.now all k c.index-onsets-place.result (omega (arith, again, c.loop-place.auto.place))
-          c.index-onsets-place.is c.args.seconds c.args.after c.loop-place.over c.clear-clear.new.over
-          (subst (λ n. AreOverrides zone n c.args.seconds (c.args.after +ℤ pos 1) c.loop-place.over) again (over_before zone all)) marks
+      clears = λ zone all.
+          let was = rw again at (before zone all) in
+          clears_more zone c.args.onsets.now all k c.index-onsets-place.result (omega (arith, again, c.loop-place.auto.place))
+          c.index-onsets-place.is c.args.seconds c.args.after c.loop-place.over c.clear-clear.new.over was.0 marks
           (c.args.after +ℤ pos 1 +ℤ to_z w64 c.loop-place.clear-bits) (c.args.after +ℤ pos 1 +ℤ c.clear-clear.result)
-          (omega (arith, ints, c.clear-clear.ensures.most)) clear
-          (subst (λ n. IsClearFrom zone n c.args.seconds c.args.after (c.args.after +ℤ pos 1 +ℤ to_z w64 c.loop-place.clear-bits)) again
-          (clear_before zone all));
+          (omega (arith, ints, c.clear-clear.ensures.most)) clear was.1;
     })
 
 pub returns-clause-clear : goal.returns-clause-clear
 returns-clause-clear c = λ zone all i s p h late early later.
     let fits : SFits w64 c.args.after = c.ranges.after in
     let local : SFits w64 c.args.seconds = c.ranges.seconds in
-    let clear = simp to_z-of_z at c.loop-place.invariant.clear in
-    clear zone all i s p (omega (arith, c.loop-place-test.false)) h late (omega (arith, ints, early)) later
+    let clears = simp to_z-of_z at c.loop-place.invariant.clears in
+    (clears zone all).1 i s p (omega (arith, c.loop-place-test.false)) h late (omega (arith, ints, early)) later

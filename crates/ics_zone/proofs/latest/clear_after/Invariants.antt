@@ -9,6 +9,6 @@ invariant-loop-place l = record {
   length : length l.over ≡ 60;
   some : pos 0 ≤ℤ l.clear;
   most : l.clear ≤ℤ pos 3_600;
-  over : (zone : List ObservanceSaid) → AreOnsetsOfAll zone l.onsets → AreOverrides zone l.place l.fn.seconds (l.fn.after +ℤ pos 1) l.over;
-  clear : (zone : List ObservanceSaid) → AreOnsetsOfAll zone l.onsets → IsClearFrom zone l.place l.fn.seconds l.fn.after (l.fn.after +ℤ pos 1 +ℤ l.clear);
+  clears : (zone : List ObservanceSaid) → AreOnsetsOfAll zone l.onsets → AreOverrides zone l.place l.fn.seconds (l.fn.after +ℤ pos 1) l.over
+      × IsClearFrom zone l.place l.fn.seconds l.fn.after (l.fn.after +ℤ pos 1 +ℤ l.clear);
 }

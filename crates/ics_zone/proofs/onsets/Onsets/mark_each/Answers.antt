@@ -1,15 +1,15 @@
-use Rattle.std.proofs.Common.{rules, arith, inl, SFits, w64, to_z, of_z, pos, ◌+ℤ◌, ◌-ℤ◌}
+use Rattle.std.proofs.Common.{rules, arith, inl, SFits, w64, to_z, of_z, pos, ◌+ℤ◌, ◌-ℤ◌, ◌∙◌}
+use Rattle.std.proofs.lemmas.Bool.{or_right}
 use Rattle.std.proofs.lemmas.Int.{ints, to_z-of_z}
 use Rattle.ics_zone.proofs.JumpLemmas.{natural_less}
-use Rattle.ics_zone.proofs.MarkLemmas.{known_more, stay_more, complete_more}
+use Rattle.ics_zone.proofs.MarkLemmas.{known_more, complete_more}
 use Rattle.ics_zone.proofs.onsets.Onsets.mark_each.Goals as goal
 
 pub loop-at-init : goal.loop-at-init
 loop-at-init c =
-    let fits : SFits w64 c.args.from = c.ranges.from in
     let after = c.next_asked-at.ensures.after in
     let bound = c.next_asked-at.ensures.bound in
-    rw (to_z-of_z w64 c.next_asked-at.result (search rules), to_z-of_z w64 c.args.from fits) (record {
+    rw (to_z-of_z w64 c.next_asked-at.result (search rules), to_z-of_z w64 c.args.from c.ranges.from) (record {
       length = c.requires.length;
       low = omega (arith, ints, after, c.requires.near);
       high = omega (arith, ints, bound, c.requires.near);
@@ -45,18 +45,15 @@ loop-at-preserved c =
       known = known_more c.args.self.now c.args.with_rule c.args.from c.loop-at.marks c.mark.new.marks (to_z w64 c.loop-at.at-bits) _
           (omega (arith, ints, c.loop-at.invariant.low, c.loop-at.invariant.high, c.requires.near)) marks c.args.marks.now
           (c.loop-at.invariant.is (omega (arith, ints, c.loop-at-test.true, c.requires.near))) known;
-      stay = λ k h. stay_more c.args.self.now c.args.with_rule c.args.from c.loop-at.marks c.mark.new.marks (to_z w64 c.loop-at.at-bits) _
-          (omega (arith, ints, c.loop-at.invariant.low, c.loop-at.invariant.high, c.requires.near)) marks k (c.loop-at.invariant.stay k h);
+      stay = λ k h. marks k ∙ or_right _ _ (c.loop-at.invariant.stay k h);
       complete = complete_more c.args.self.now c.args.with_rule c.args.from c.loop-at.marks c.mark.new.marks (to_z w64 c.loop-at.at-bits) _
           (omega (arith, ints, c.loop-at.invariant.low, c.loop-at.invariant.high, c.requires.near)) marks c.next_asked-at-in-loop-at.result first complete;
     })
 
 pub returns-clause-known : goal.returns-clause-known
-returns-clause-known c =
-    rw (to_z-of_z w64 c.args.from c.ranges.from) at c.loop-at.invariant.known
+returns-clause-known c = rw (to_z-of_z w64 c.args.from c.ranges.from) at c.loop-at.invariant.known
 
 pub returns-clause-complete : goal.returns-clause-complete
 returns-clause-complete c = λ k low asked.
-    let fits : SFits w64 c.args.from = c.ranges.from in
-    let complete = rw (to_z-of_z w64 c.args.from fits) at c.loop-at.invariant.complete in
+    let complete = rw (to_z-of_z w64 c.args.from c.ranges.from) at c.loop-at.invariant.complete in
     complete k (omega (arith, ints, low, c.loop-at-test.false, c.requires.near)) asked
