@@ -150,14 +150,9 @@ module _ (z : Tzif) where
     after_is : (count : ℕ) → reading_after (tzif_view z) count local
         ≡ (compatible_offset (if Table.is_inside z count local then Table.offsets_in (Table.transition_at z (count - 1))
         else Table.ambiguous_after z count dt)).seconds
-    after_is count = rw (inside_is count local) (by (Table.is_inside z count local))
-      where
-        by : (b : Bool) → (if b then (row_at (tzif_view z) (count - 1)).before
-            else match_some (rule_after (tzif_view z) count) (offset_after (tzif_view z) count)
-            (λ r. rule_reading r.std_seconds r.dst (nanos_of_seconds local)))
-            ≡ (compatible_offset (if b then Table.offsets_in (Table.transition_at z (count - 1)) else Table.ambiguous_after z count dt)).seconds
-        by true = ap (λ r. r.before) (row_is (count - 1)) ∙ at_row (Table.transition_at z (count - 1))
-        by false = past_is count
+    after_is count = rw (inside_is count local, of_case (Table.is_inside z count local))
+        (ap₂ (λ (x y : ℤ). if Table.is_inside z count local then x else y)
+        (ap (λ r. r.before) (row_is (count - 1)) ∙ at_row (Table.transition_at z (count - 1))) (past_is count))
 
     -- the offset of a local that jiff's compatible strategy takes
     pub file_reading_is : file_reading (tzif_view z) local ≡ (compatible_offset (Table.ambiguous_at z dt)).seconds

@@ -56,10 +56,6 @@ pub keeps_nothing : (hours : Hours) → ((n : ℕ) → keeps_time hours.here n �
     → (n : ℕ) → keeps hours n ≡ false
 keeps_nothing hours here next n = grind (arith, ints)
 
--- nor do they mark a second
-pub nothing_marked : (b kept marked : Bool) → kept ≡ false → marked ≡ false → marked ≡ (b && kept)
-nothing_marked b kept marked none not = grind arith
-
 -- a part of the word of a minute: the seconds that are kept of the first `size`, which are those before a count
 pub record IsFrontOf (hours : Hours) (local minute : ℕ) (count : ℤ) (size word part : ℕ) : Type 0 where
   pub is_word : (n : ℕ) → n < 60 → contains word n ≡ keeps hours (local + minute * 60 + n)

@@ -4,15 +4,9 @@ use Rattle.ics_zone.proofs.display_text.read_offset.Goals as goal
 
 -- a text of another length says no offset
 not_six : (text : List ℕ) → (length text < 6) ⊎ (7 ≤ length text) → None ≡ offset_said text
-not_six [] h = refl
-not_six (a ∷ []) h = refl
-not_six (a ∷ b ∷ []) h = refl
-not_six (a ∷ b ∷ c ∷ []) h = refl
-not_six (a ∷ b ∷ c ∷ d ∷ []) h = refl
-not_six (a ∷ b ∷ c ∷ d ∷ e ∷ []) h = refl
 not_six (a ∷ b ∷ c ∷ d ∷ e ∷ f ∷ []) (inl h) = absurd (omega (arith, h))
 not_six (a ∷ b ∷ c ∷ d ∷ e ∷ f ∷ []) (inr h) = absurd (omega (arith, h))
-not_six (a ∷ b ∷ c ∷ d ∷ e ∷ f ∷ g ∷ text) h = refl
+not_six _ h = refl
 
 pub returns-in_default-clause-value : goal.returns-in_default-clause-value
 returns-in_default-clause-value c = not_six c.args.text.now (inl c.in_default.len_below)

@@ -45,9 +45,7 @@ loop-place-preserved c =
 
 pub returns-clause-next : goal.returns-clause-next
 returns-clause-next c = λ zone all i s p h late early.
-    let fits : SFits w64 c.args.seconds = c.ranges.seconds in
-    let fits_too : SFits w64 c.args.after = c.ranges.after in
-    let none = rw (to_z-of_z w64 c.args.seconds fits, to_z-of_z w64 c.args.after fits_too) at c.loop-place.invariant.none in
+    let none = rw (to_z-of_z w64 c.args.seconds c.ranges.seconds, to_z-of_z w64 c.args.after c.ranges.after) at c.loop-place.invariant.none in
     none zone all i s p (let within = slice_get_within zone i p h.0 in let n = all.same_length in omega (arith, within, n, c.loop-place-test.false)) h late
     early
 

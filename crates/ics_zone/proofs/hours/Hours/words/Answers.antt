@@ -1,15 +1,15 @@
-use Rattle.std.proofs.Common.{rules, arith, ◌+◌, pos, int_lt, SFits, w64, to_z, of_z}
+use Rattle.std.proofs.Common.{rules, arith, ◌+◌, pos, int_lt, sym, ◌∙◌, SFits, w64, to_z, of_z}
+use Rattle.std.proofs.lemmas.Bool.{and_right}
 use Rattle.std.proofs.lemmas.Int.{to_z-of_z}
 use Rattle.ics_zone.specs.Hours.{keeps}
-use Rattle.ics_zone.proofs.HourLemmas.{IsFrontOf, words_more, keeps_nothing, nothing_marked}
+use Rattle.ics_zone.proofs.HourLemmas.{IsFrontOf, words_more, keeps_nothing}
 use Rattle.ics_zone.proofs.MarkLemmas.{none_marked}
 use Rattle.ics_zone.proofs.hours.Hours.words.Goals as goal
 
 pub returns-then-is_empty-2 : goal.returns-then-is_empty-2
 returns-then-is_empty-2 c = λ k low.
-    nothing_marked (int_lt (pos k) c.args.count) (keeps c.args.self.now (c.args.local + k)) _
-    (keeps_nothing c.args.self.now (c.is_empty.ensures c.if-is_empty.true) (c.is_empty-then-is_empty.ensures c.if-is_empty-2.true) (c.args.local + k))
-    (none_marked 60 k)
+    none_marked 60 k ∙ sym (and_right (int_lt (pos k) c.args.count) (keeps c.args.self.now (c.args.local + k))
+    (keeps_nothing c.args.self.now (c.is_empty.ensures c.if-is_empty.true) (c.is_empty-then-is_empty.ensures c.if-is_empty-2.true) (c.args.local + k)))
 
 pub loop-minute-preserved : goal.loop-minute-preserved
 loop-minute-preserved c =

@@ -25,24 +25,20 @@ loop-at-preserved c =
 
 pub loop-at-init : goal.loop-at-init
 loop-at-init c =
-    let seconds : SFits w64 c.args.seconds = c.ranges.seconds in
-    let after : SFits w64 c.args.after = c.ranges.after in
-    rw (to_z-of_z w64 c.args.seconds seconds, to_z-of_z w64 c.args.after after)
+    rw (to_z-of_z w64 c.args.seconds c.ranges.seconds, to_z-of_z w64 c.args.after c.ranges.after)
     (record { low = omega (arith, ints); high = c.requires.high; earlier = c.requires.earlier })
 
 pub overflow_add-seconds : goal.overflow_add-seconds
 overflow_add-seconds c = omega (arith, ints, c.requires.bound)
 
 pub clear_to-next-requires-clause-bound : goal.clear_to-next-requires-clause-bound
-clear_to-next-requires-clause-bound c =
-    rw (to_z-of_z w64 c.args.seconds c.ranges.seconds) c.requires.bound
+clear_to-next-requires-clause-bound c = rw (to_z-of_z w64 c.args.seconds c.ranges.seconds) c.requires.bound
 
 pub clear_to-next-requires-clause-low : goal.clear_to-next-requires-clause-low
 clear_to-next-requires-clause-low c = omega (arith, ints, c.requires.low, c.loop-at.invariant.low)
 
 pub clear_to-next-requires-clause-skipped : goal.clear_to-next-requires-clause-skipped
-clear_to-next-requires-clause-skipped c =
-    rw (to_z-of_z w64 c.args.seconds c.ranges.seconds) c.requires.skipped
+clear_to-next-requires-clause-skipped c = rw (to_z-of_z w64 c.args.seconds c.ranges.seconds) c.requires.skipped
 
 pub overflow_add-at : goal.overflow_add-at
 overflow_add-at c = omega (arith, ints, c.requires.bound, c.requires.low, c.loop-at.invariant.low, c.loop-at.invariant.high)

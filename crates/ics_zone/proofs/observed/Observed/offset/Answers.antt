@@ -7,7 +7,6 @@ use Rattle.ics_zone.proofs.observed.Observed.offset.Goals as goal
 
 pub returns-in-Some-clause-means : goal.returns-in-Some-clause-means
 returns-in-Some-clause-means c =
-    let fits : SFits w64 c.args.moment = c.ranges.moment in
     rw (to_z-of_z w32 c.in-Some.held.offset (search rules), c.in-Some.ensures.steady c.args.moment (search rules) (search rules))
     (is_offset (observances_said c.args.self.now) (zone_facts c.args.self.now) c.held_over.ensures.some c.args.moment)
 

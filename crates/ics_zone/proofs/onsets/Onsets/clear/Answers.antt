@@ -6,26 +6,22 @@ use Rattle.ics_zone.proofs.onsets.Onsets.clear.Goals as goal
 use Rattle.ics_zone.proofs.onsets.Onsets.clear.Goals.{After-front}
 
 pub returns-in-Some-clause-some : goal.returns-in-Some-clause-some
-returns-in-Some-clause-some c =
-    let most : SFits w64 c.args.most = c.ranges.most in
-    omega (arith, ints, clamps, c.min.ensures.value, c.requires.some, c.from-in-Some.ensures)
+returns-in-Some-clause-some c = omega (arith, ints, clamps, c.min.ensures.value, c.requires.some, c.from-in-Some.ensures)
 
 -- the minute that a turn of the loop looks at
 minute_of : (c : After-front) → IsMinute c.args.self.now c.args.seconds c.args.from c.seconds_to-low.result c.within-onsets.result c.args.over.now
     c.loop-minute.over c.loop-minute.minute c.first_of.result c.front.result
 minute_of c =
-    let from : SFits w64 c.args.from = c.ranges.from in
-    let local : SFits w64 c.args.seconds = c.ranges.seconds in
     record {
-      known = rw (to_z-of_z w64 c.args.from from) at c.within-onsets.ensures.known;
-      complete = rw (to_z-of_z w64 c.args.from from) at c.within-onsets.ensures.complete;
+      known = rw (to_z-of_z w64 c.args.from c.ranges.from) at c.within-onsets.ensures.known;
+      complete = rw (to_z-of_z w64 c.args.from c.ranges.from) at c.within-onsets.ensures.complete;
       down = λ k h. let early = c.seconds_to-low.ensures.first k h in omega (arith, ints, early, c.requires.local, c.from.ensures);
       is_size = rw (to_z-of_z w64 c.seconds_to-low.result (search rules)) at c.first_of.ensures.first;
       is_part = c.front.ensures.members;
       small = omega (arith, c.loop-minute-test.true);
       inside = omega (arith, c.loop-minute.invariant.length, c.loop-minute-test.true);
-      marks = rw (to_z-of_z w64 c.args.from from, to_z-of_z w64 c.args.seconds local) at c.loop-minute.invariant.marks;
-      clear = rw (to_z-of_z w64 c.args.from from, to_z-of_z w64 c.args.seconds local) at c.loop-minute.invariant.clear;
+      marks = rw (to_z-of_z w64 c.args.from c.ranges.from, to_z-of_z w64 c.args.seconds c.ranges.seconds) at c.loop-minute.invariant.marks;
+      clear = rw (to_z-of_z w64 c.args.from c.ranges.from, to_z-of_z w64 c.args.seconds c.ranges.seconds) at c.loop-minute.invariant.clear;
     }
 
 pub returns-in-Some-clause-marks : goal.returns-in-Some-clause-marks
@@ -33,7 +29,6 @@ returns-in-Some-clause-marks c = marks_minute (minute_of (goal.at.returns-in-Som
 
 pub returns-in-Some-clause-clear : goal.returns-in-Some-clause-clear
 returns-in-Some-clause-clear c = λ k contains early later.
-    let most : SFits w64 c.args.most = c.ranges.most in
     let small = c.in-Some.ensures.0 in
     clear_minute (minute_of (goal.at.returns-in-Some-clause-clear c).After-front) c.in-Some.second (omega (arith, small)) c.in-Some.ensures.1 k
     (omega (arith, ints, clamps, early, small, c.min.ensures.value, c.requires.most, c.requires.some, c.loop-minute-test.true, c.from-in-Some.ensures)) contains
@@ -41,34 +36,26 @@ returns-in-Some-clause-clear c = λ k contains early later.
 
 pub loop-minute-preserved : goal.loop-minute-preserved
 loop-minute-preserved c =
-    let from : SFits w64 c.args.from = c.ranges.from in
-    let local : SFits w64 c.args.seconds = c.ranges.seconds in
     let minute = minute_of (goal.at.loop-minute-preserved c).After-front in
-    rw (to_z-of_z w64 c.args.from from, to_z-of_z w64 c.args.seconds local) (record {
+    rw (to_z-of_z w64 c.args.from c.ranges.from, to_z-of_z w64 c.args.seconds c.ranges.seconds) (record {
       length = search rules;
       marks = marks_minute minute;
       clear = λ k early. clear_minute minute 60 (omega arith) c.in_default.ensures k (omega (arith, early));
     })
 
 pub returns-clause-marks : goal.returns-clause-marks
-returns-clause-marks c =
-    rw (to_z-of_z w64 c.args.from c.ranges.from, to_z-of_z w64 c.args.seconds c.ranges.seconds) at c.loop-minute.invariant.marks
+returns-clause-marks c = rw (to_z-of_z w64 c.args.from c.ranges.from, to_z-of_z w64 c.args.seconds c.ranges.seconds) at c.loop-minute.invariant.marks
 
 pub returns-clause-clear : goal.returns-clause-clear
 returns-clause-clear c = λ k contains early later.
-    let from : SFits w64 c.args.from = c.ranges.from in
-    let local : SFits w64 c.args.seconds = c.ranges.seconds in
-    let most : SFits w64 c.args.most = c.ranges.most in
-    let clear = rw (to_z-of_z w64 c.args.from from, to_z-of_z w64 c.args.seconds local) at c.loop-minute.invariant.clear in
+    let clear = rw (to_z-of_z w64 c.args.from c.ranges.from, to_z-of_z w64 c.args.seconds c.ranges.seconds) at c.loop-minute.invariant.clear in
     clear k (omega (arith, ints, early, c.requires.most, c.loop-minute-test.false)) contains later
 
 pub within-onsets-requires-clause-near : goal.within-onsets-requires-clause-near
-within-onsets-requires-clause-near c =
-    rw (to_z-of_z w64 c.args.from c.ranges.from) c.requires.near
+within-onsets-requires-clause-near c = rw (to_z-of_z w64 c.args.from c.ranges.from) c.requires.near
 
 pub seconds_to-low-requires : goal.seconds_to-low-requires
-seconds_to-low-requires c =
-    rw (to_z-of_z w64 c.args.from c.ranges.from) c.requires.near
+seconds_to-low-requires c = rw (to_z-of_z w64 c.args.from c.ranges.from) c.requires.near
 
 pub overflow_sub-seconds : goal.overflow_sub-seconds
 overflow_sub-seconds c =
@@ -77,9 +64,7 @@ overflow_sub-seconds c =
 
 pub loop-minute-init : goal.loop-minute-init
 loop-minute-init c =
-    let from : SFits w64 c.args.from = c.ranges.from in
-    let local : SFits w64 c.args.seconds = c.ranges.seconds in
-    rw (to_z-of_z w64 c.args.from from, to_z-of_z w64 c.args.seconds local) (record {
+    rw (to_z-of_z w64 c.args.from c.ranges.from, to_z-of_z w64 c.args.seconds c.ranges.seconds) (record {
       length = c.requires.length;
       marks = λ k marked. inl marked;
       clear = λ k early. absurd (omega (arith, early));
@@ -98,13 +83,10 @@ pub returns-in-Some-clause-length : goal.returns-in-Some-clause-length
 returns-in-Some-clause-length c = simp length-set c.loop-minute.invariant.length
 
 pub returns-in-Some-clause-most : goal.returns-in-Some-clause-most
-returns-in-Some-clause-most c =
-    let most : SFits w64 c.args.most = c.ranges.most in
-    omega (arith, ints, c.min.ensures.self_bound)
+returns-in-Some-clause-most c = omega (arith, ints, c.min.ensures.self_bound)
 
 pub returns-clause-some : goal.returns-clause-some
-returns-clause-some c =
-    rw (to_z-of_z w64 c.args.most c.ranges.most) c.requires.some
+returns-clause-some c = rw (to_z-of_z w64 c.args.most c.ranges.most) c.requires.some
 
 pub returns-clause-most : goal.returns-clause-most
 returns-clause-most c = omega (arith, ints)

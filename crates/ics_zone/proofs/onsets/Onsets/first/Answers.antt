@@ -14,5 +14,4 @@ first_is s sound f is t (inl h) =
 first_is s sound f is t (inr h) = let low = sound.first t f h in omega (arith, ints, low, is)
 
 pub returns-clause-first : goal.returns-clause-first
-returns-clause-first c =
-    rw (to_z-of_z w64 c.index.result.now (search rules)) (first_is c.args.self.now c.requires c.index.result.now c.index.ensures)
+returns-clause-first c = rw (to_z-of_z w64 c.index.result.now (search rules)) (first_is c.args.self.now c.requires c.index.result.now c.index.ensures)

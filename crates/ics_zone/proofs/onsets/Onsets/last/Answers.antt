@@ -38,6 +38,5 @@ returns-in-None-default c =
 
 pub returns-then-moment-first : goal.returns-then-moment-first
 returns-then-moment-first c = λ u h.
-    let fits : SFits w64 c.args.moment = c.ranges.moment in
     let low = c.first.ensures.first u h in
-    omega (arith, ints, low, c.if-moment-first.true, to_z-of_z w64 c.first.result (search rules), to_z-of_z w64 c.args.moment fits)
+    omega (arith, ints, low, c.if-moment-first.true, to_z-of_z w64 c.first.result (search rules), to_z-of_z w64 c.args.moment c.ranges.moment)

@@ -38,12 +38,10 @@ returns-in-None-clause-next c =
     c.in-None.ensures)
 
 pub returns-in_default-clause-after : goal.returns-in_default-clause-after
-returns-in_default-clause-after c =
-    rw (to_z-of_z w64 c.args.limit c.ranges.limit) c.requires.limit
+returns-in_default-clause-after c = rw (to_z-of_z w64 c.args.limit c.ranges.limit) c.requires.limit
 
 pub returns-in-None-clause-after : goal.returns-in-None-clause-after
-returns-in-None-clause-after c =
-    rw (to_z-of_z w64 c.args.limit c.ranges.limit) c.requires.limit
+returns-in-None-clause-after c = rw (to_z-of_z w64 c.args.limit c.ranges.limit) c.requires.limit
 
 pub returns-in_default-clause-is : goal.returns-in_default-clause-is
 returns-in_default-clause-is c = λ less. absurd (omega (arith, ints, less))
@@ -52,8 +50,7 @@ pub returns-in-None-clause-is : goal.returns-in-None-clause-is
 returns-in-None-clause-is c = λ less. absurd (omega (arith, ints, less))
 
 pub shown_by-from-requires : goal.shown_by-from-requires
-shown_by-from-requires c =
-    rw (to_z-of_z w32 c.args.self.now.offset_from (search rules)) c.requires.sound.from_in
+shown_by-from-requires c = rw (to_z-of_z w32 c.args.self.now.offset_from (search rules)) c.requires.sound.from_in
 
 pub returns-in_default-clause-bound : goal.returns-in_default-clause-bound
 returns-in_default-clause-bound c = grind (arith, common_steps)

@@ -31,8 +31,7 @@ returns-clause-next c =
     omega (arith, ints, clamps, least, low))
 
 pub returns-then-passed-len-clause-after : goal.returns-then-passed-len-clause-after
-returns-then-passed-len-clause-after c =
-    rw (to_z-of_z w64 c.args.limit c.ranges.limit) c.requires.limit
+returns-then-passed-len-clause-after c = rw (to_z-of_z w64 c.args.limit c.ranges.limit) c.requires.limit
 
 pub returns-then-passed-len-clause-is : goal.returns-then-passed-len-clause-is
 returns-then-passed-len-clause-is c = λ less. absurd (omega (arith, ints, less))

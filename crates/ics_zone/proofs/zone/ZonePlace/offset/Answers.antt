@@ -7,8 +7,7 @@ use Rattle.ics_zone.proofs.TableLemmas.{table_offset}
 use Rattle.ics_zone.proofs.zone.ZonePlace.offset.Goals as goal
 
 pub offset_at-requires : goal.offset_at-requires
-offset_at-requires c =
-    rw (to_z-of_z w64 c.args.moment c.ranges.moment) c.requires
+offset_at-requires c = rw (to_z-of_z w64 c.args.moment c.ranges.moment) c.requires
 
 pub returns-in-ByObservances-clause-means : goal.returns-in-ByObservances-clause-means
 returns-in-ByObservances-clause-means c =
