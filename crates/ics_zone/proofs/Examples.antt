@@ -1,6 +1,5 @@
 -- Worked texts of display zones.
-use Rattle.std.proofs.Common.{◌≡◌, pos, neg_ℤ, Some, None, [], ◌∷◌, map, replicate, refl}
-use Rattle.std.specs.Prelude.{codes}
+use Rattle.std.proofs.Common.{◌≡◌, pos, neg_ℤ, Some, None, [], ◌∷◌, map, replicate, refl, codes}
 use Rattle.jiff.proofs.OnLiterals.{jiff_on_literals}
 use Rattle.jiff_tz.specs.declared.posix.Day.TheVariants.{WeekdayOfMonth}
 use Rattle.ics_zone.specs.DisplayTexts.{Said, display_of}

@@ -1,6 +1,5 @@
 -- Worked zone files. What is expected is counted by hand.
-use Rattle.std.proofs.Common.{◌≡◌, ℕ, List, [], ◌∷◌, ◌++◌, refl, Some, None, ℤ, pos, negsuc}
-use Rattle.std.specs.Prelude.{codes}
+use Rattle.std.proofs.Common.{◌≡◌, ℕ, List, [], ◌∷◌, ◌++◌, refl, Some, None, ℤ, pos, negsuc, codes}
 use Rattle.jiff_tz.proofs.OnLiterals.{jiff_tz_tables_on_literals}
 use Rattle.jiff_tz.specs.PosixText.{TzText}
 use Rattle.jiff_tz.specs.TzifReader.{TzifText}

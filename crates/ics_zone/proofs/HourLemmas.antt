@@ -1,8 +1,7 @@
 -- What two hours tell of the onsets of a rule.
 use Rattle.std.proofs.Common.{◌≡◌, ℕ, ◌+◌, ◌-◌, ◌*◌, ◌/◌, ◌%◌, ◌<◌, ◌&&◌, nat_lt, inl, inr, refl, Bool, true, false, sym, subst, ap, ◌∙◌, arith}
-use Rattle.std.proofs.Common.{Some, List, length, set, ℤ, pos, ◌+ℤ◌, ◌-ℤ◌, ◌<ℤ◌, ◌≤ℤ◌}
+use Rattle.std.proofs.Common.{Some, List, length, set, ℤ, pos, ◌+ℤ◌, ◌-ℤ◌, ◌<ℤ◌, ◌≤ℤ◌, if◌then◌else◌, int_lt}
 use Rattle.std.proofs.lemmas.Bool.{true_from_ne_false, cases_lt, cases_eq, eq-eqb, ne_eqb, and_parts, and_from}
-use Rattle.std.specs.Prelude.{if◌then◌else◌, int_lt}
 use Rattle.std.proofs.lemmas.Int.{ints}
 use Rattle.ics_fields.specs.Sets.{contains}
 use Rattle.ics_rule.specs.Recurrence.{Recurrence}

@@ -32,14 +32,10 @@ module _ (list : List ℤ) (up : IsInOrder list) (t : ℤ) (k : ℕ) (passed : I
 
   -- the first that is not passed
   pub next_listed : (s : ℤ) → k < length list → s ≡ get_or list k s → (u : ℤ) → Contains list u → t <ℤ u → s ≤ℤ u
-  next_listed s inside is u h l = elim (cases_lt h.0 k) [
-    | inl less ↦ absurd (let early = passed.before h.0 u (omega arith) less in let at = h.2 in omega (arith, ints, early, at, l))
-    | inr more ↦ (
-        let low = up k h.0 u more h.1 in
-        let same = get_or_default list k u s inside in
-        let at = h.2 in
-        omega (arith, ints, low, same, at, is))
-  ]
+  next_listed s inside is u h l =
+      let same = get_or_default list k u s inside in
+      let at = h.2 in
+      grind (arith, ints, cases_lt)
 
 -- the greater of two
 pub later_of : (a b m : ℤ) → m ≡ int_max a b → ((m ≡ a) × (b ≤ℤ m)) ⊎ ((m ≡ b) × (a ≤ℤ m))

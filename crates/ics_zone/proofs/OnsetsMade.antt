@@ -1,8 +1,7 @@
 -- What a zone holds of an observance has its onsets.
 use Rattle.std.proofs.Common.{◌≡◌, ℕ, ◌<◌, ◌≤◌, ◌⊎◌, inl, inr, Bool, true, ◌||◌, ◌==◌, refl, sym, ap, subst, ◌∙◌, arith, get_or, Option, Some, None}
-use Rattle.std.proofs.Common.{option_map, Contains, IfSome, ℤ, ◌≤ℤ◌}
+use Rattle.std.proofs.Common.{option_map, Contains, IfSome, ℤ, ◌≤ℤ◌, MatchOption}
 use Rattle.std.proofs.lemmas.Bool.{ltb-true, or_cases, or_left, or_right, and_parts, and_from}
-use Rattle.std.specs.Prelude.{MatchOption}
 use Rattle.std.specs.List.{list_any}
 use Rattle.std.proofs.lemmas.Int.{ints}
 use Rattle.std.proofs.lemmas.Bool.Decides.{Decides-eqb, nat_tests}

@@ -1,5 +1,4 @@
-use Rattle.std.proofs.Common.{◌≡◌, ◌≤◌, ℤ, pos, negsuc, ◌+ℤ◌, ◌≤ℤ◌, arith, rules, refl, SFits, w64, to_z, of_z}
-use Rattle.std.specs.Prelude.{unsigned_abs}
+use Rattle.std.proofs.Common.{◌≡◌, ◌≤◌, ℤ, pos, negsuc, ◌+ℤ◌, ◌≤ℤ◌, arith, rules, refl, SFits, w64, to_z, of_z, unsigned_abs}
 use Rattle.std.specs.Int.{int_max, int_min}
 use Rattle.jiff_core.specs.Calendar.{IsWithin}
 use Rattle.std.proofs.lemmas.Int.{ints, clamps, to_z-of_z}

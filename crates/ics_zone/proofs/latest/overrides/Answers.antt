@@ -1,6 +1,6 @@
 use Rattle.std.proofs.Common.{rules, ◌≡◌, ◌≢◌, ℕ, ◌<◌, false, nat_le, arith, length, SFits, w32, w64}
-use Rattle.std.proofs.lemmas.Bool.Decides.{nat_tests}
 use Rattle.std.proofs.lemmas.Int.{to_z-of_z}
+use Rattle.std.proofs.lemmas.Bool.Decides.{nat_tests}
 use Rattle.ics_zone.proofs.ZoneSteps.{less_other, less_more, overridden_by}
 use Rattle.ics_zone.proofs.latest.overrides.Goals as goal
 

@@ -1,5 +1,4 @@
-use Rattle.std.proofs.Common.{List, ◌≡◌, ℕ, ◌≤◌, true, false, ℤ, length, get_or, rules, arith}
-use Rattle.std.specs.Prelude.{int_le}
+use Rattle.std.proofs.Common.{List, ◌≡◌, ℕ, ◌≤◌, true, false, ℤ, length, get_or, rules, arith, int_le}
 use Rattle.std.specs.List.Sorted.{IsPartitionedBy, IsPartitionPoint}
 use Rattle.std.proofs.lemmas.Int.{ints}
 use Rattle.std.proofs.lemmas.List.Sorted.{IsPartitionPoint-from_clause}

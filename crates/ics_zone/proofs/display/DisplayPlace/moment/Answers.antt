@@ -1,5 +1,4 @@
-use Rattle.std.proofs.Common.{rules, subst, w64}
-use Rattle.std.specs.Prelude.{FitsSigned}
+use Rattle.std.proofs.Common.{rules, subst, w64, FitsSigned}
 use Rattle.std.proofs.lemmas.Int.{to_z-of_z}
 use Rattle.ics_zone.specs.Displays.{IsCompatible}
 use Rattle.ics_fields.specs.Locals.{seconds_at}

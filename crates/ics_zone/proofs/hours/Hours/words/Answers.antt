@@ -1,6 +1,6 @@
 use Rattle.std.proofs.Common.{rules, arith, ◌+◌, pos, int_lt, sym, ◌∙◌, SFits, w64, to_z, of_z}
-use Rattle.std.proofs.lemmas.Bool.{and_right}
 use Rattle.std.proofs.lemmas.Int.{to_z-of_z}
+use Rattle.std.proofs.lemmas.Bool.{and_right}
 use Rattle.ics_zone.specs.Hours.{keeps}
 use Rattle.ics_zone.proofs.HourLemmas.{IsFrontOf, words_more, keeps_nothing}
 use Rattle.ics_zone.proofs.MarkLemmas.{none_marked}

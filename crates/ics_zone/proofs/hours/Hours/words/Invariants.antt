@@ -1,5 +1,4 @@
-use Rattle.std.proofs.Common.{◌≡◌, ℕ, ◌+◌, ◌*◌, ◌<◌, ◌&&◌, length, pos}
-use Rattle.std.specs.Prelude.{int_lt}
+use Rattle.std.proofs.Common.{◌≡◌, ℕ, ◌+◌, ◌*◌, ◌<◌, ◌&&◌, length, pos, int_lt}
 use Rattle.ics_zone.specs.Hours.{keeps}
 use Rattle.ics_zone.specs.Marks.{is_marked}
 use Rattle.ics_zone.proofs.hours.Hours.words.Given as goal
