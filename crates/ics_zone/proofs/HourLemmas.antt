@@ -1,7 +1,7 @@
 -- What two hours tell of the onsets of a rule.
-use Rattle.std.proofs.Common.{◌≡◌, ℕ, ◌+◌, ◌-◌, ◌*◌, ◌/◌, ◌%◌, ◌<◌, ◌&&◌, nat_lt, inl, inr, refl, Bool, true, false, sym, subst, ap, ◌∙◌, arith}
+use Rattle.std.proofs.Common.{◌≡◌, ℕ, ◌+◌, ◌-◌, ◌*◌, ◌/◌, ◌%◌, ◌<◌, ◌&&◌, nat_lt, inl, inr, refl, true, false, sym, subst, ap, ◌∙◌, arith}
 use Rattle.std.proofs.Common.{Some, List, length, set, ℤ, pos, ◌+ℤ◌, ◌-ℤ◌, ◌<ℤ◌, ◌≤ℤ◌, if◌then◌else◌, int_lt}
-use Rattle.std.proofs.lemmas.Bool.{true_from_ne_false, cases_lt, cases_eq, eq-eqb, ne_eqb, and_parts, and_from}
+use Rattle.std.proofs.lemmas.Bool.{cases_lt, cases_eq, eq-eqb, ne_eqb, and_parts, and_from}
 use Rattle.std.proofs.lemmas.Int.{ints}
 use Rattle.ics_fields.specs.Sets.{contains}
 use Rattle.ics_rule.specs.Recurrence.{Recurrence}
@@ -15,7 +15,7 @@ use Rattle.ics_zone.specs.ZoneOffsets.{natural}
 use Rattle.ics_zone.specs.OnsetSets.{IsKeptAt}
 use Rattle.ics_zone.specs.Hours.{keeps_time, keeps, AreHoursOf, IsToldAt, IsTold}
 use Rattle.ics_zone.specs.Marks.{is_marked, IsMarked}
-use Rattle.ics_zone.proofs.Cases.{not_both, int_lt_true, true_int_lt}
+use Rattle.ics_zone.proofs.Cases.{int_lt_true, true_int_lt}
 use Rattle.ics_zone.proofs.KeptLemmas.{to_kept, from_kept}
 use Rattle.ics_zone.proofs.MinuteLemmas.{marked-set_same, marked-set_other}
 use Rattle.ics_zone.proofs.OnsetLemmas.{natural-is}
@@ -96,21 +96,19 @@ told_by {s = s} {r = r} from local contains is early h = λ t low high.
       same = h (natural (t +ℤ s.offset_from +ℤ pos epoch)) (omega (arith, ints, at, is, low)) (omega (arith, ints, at, is, high));
     }
 
-module _ (s : Onsets) (hours : Hours) (t : ℤ) (told : IsToldAt s hours t) (n : ℕ) (at : t ≡ instant_by s.offset_from n) (b : Bool)
-    (test : b ≡ keeps hours n) where
+module _ (s : Onsets) (hours : Hours) (t : ℤ) (told : IsToldAt s hours t) (n : ℕ) (at : t ≡ instant_by s.offset_from n) where
   same_local : n ≡ told.local
   same_local = let is = told.is in omega (arith, ints, at, is)
 
-  pub kept_told : b ≡ true → t ≤ℤ s.until → IsKeptAt s t
+  kept_told : keeps hours n ≡ true → t ≤ℤ s.until → IsKeptAt s t
   kept_told so by_end = grind (arith, ints, same_local, to_kept)
 
-  pub not_kept_told : b ≡ false → IsKeptAt s t → ⊥
-  not_kept_told other h =
+  told_kept : IsKeptAt s t → keeps hours n ≡ true
+  told_kept h =
       let k = from_kept s told.rule told.is_rule t h in
       let is = k.is in
       let same : k.local ≡ told.local = (let is_too = told.is in omega (arith, ints, is, is_too)) in
-      not_both (is_kept told.rule told.local) (subst (λ m. is_kept told.rule m ≡ true) same k.kept)
-      (told.same ∙ (ap (keeps hours) (sym same_local) ∙ (sym test ∙ other)))
+      ap (keeps hours) same_local ∙ sym told.same ∙ subst (λ m. is_kept told.rule m ≡ true) same k.kept
 
 -- what the words of an hour tell of the onsets of a rule
 module _ (s : Onsets) (hours : Hours) (from : ℤ) (local : ℕ) (count : ℤ) (marks : List ℕ) (told : IsTold s (from -ℤ pos 1) (from +ℤ pos 3_600) hours)
@@ -123,13 +121,11 @@ module _ (s : Onsets) (hours : Hours) (from : ℤ) (local : ℕ) (count : ℤ) (
   pub told_known : (k : ℕ) → k < 3_600 → IsMarked marks k → IsKeptAt s (from +ℤ pos k)
   told_known k low m =
       let both = and_parts (int_lt (pos k) count) (keeps hours (local + k)) (sym (words k low) ∙ m) in
-      kept_told s hours (from +ℤ pos k) (told_at k low) (local + k) (omega (arith, ints, at)) (keeps hours (local + k)) refl both.1
-      (down k low (int_lt_true (pos k) count both.0))
+      kept_told s hours (from +ℤ pos k) (told_at k low) (local + k) (omega (arith, ints, at)) both.1 (down k low (int_lt_true (pos k) count both.0))
 
   pub told_complete : (k : ℕ) → k < 3_600 → IsKeptAt s (from +ℤ pos k) → IsMarked marks k
   told_complete k low h =
       let t = told_at k low in
       let by_end = (from_kept s t.rule t.is_rule (from +ℤ pos k) h).by_end in
       words k low ∙ and_from (int_lt (pos k) count) (keeps hours (local + k)) (true_int_lt (pos k) count (up k low by_end))
-      (true_from_ne_false (keeps hours (local + k))
-      (λ not. not_kept_told s hours (from +ℤ pos k) t (local + k) (omega (arith, ints, at)) (keeps hours (local + k)) refl not h))
+      (told_kept s hours (from +ℤ pos k) t (local + k) (omega (arith, ints, at)) h)

@@ -1,5 +1,5 @@
 -- New York's clocks in 2007: the offsets of the year, its gap and its fold.
-use Rattle.std.proofs.Common.{◌≡◌, ◌≢◌, ℕ, zero, suc, ◌⊎◌, inl, inr, Bool, true, false, ◌||◌, refl, sym, ap, ◌∙◌, arith, List, [], ◌∷◌, Some, None, ℤ}
+use Rattle.std.proofs.Common.{◌≡◌, ◌≢◌, ℕ, zero, suc, ◌⊎◌, inl, inr, rules, Bool, true, false, ◌||◌, refl, sym, ap, ◌∙◌, arith, List, [], ◌∷◌, Some, None, ℤ}
 use Rattle.std.proofs.Common.{pos, neg_ℤ, ◌-ℤ◌, ◌<ℤ◌, ◌≤ℤ◌, ◌==◌}
 use Rattle.std.proofs.lemmas.Bool.{eqb-true}
 use Rattle.std.proofs.lemmas.Int.{ints}
@@ -65,57 +65,9 @@ in_autumn = (refl, start_is_onset standard)
 in_spring : IsOnset new_york 1 spring daylight
 in_spring = (refl, start_is_onset daylight)
 
--- the offsets, as RFC 5545 says them
-before_spring : (t : ℤ) → t <ℤ spring → IsOffset new_york t (neg_ℤ (pos 18_000))
-before_spring t h = inr (
-  daylight,
-  record {
-    place = 1;
-    first = spring;
-    onset = in_spring;
-    before = h;
-    least = λ i s p k. grind (arith, ints, onsets);
-  },
-  refl,
-)
-
-in_summer : (t : ℤ) → spring ≤ℤ t → t <ℤ autumn → IsOffset new_york t (neg_ℤ (pos 14_400))
-in_summer t low high = inl (
-  daylight,
-  record {
-    place = 1;
-    since = spring;
-    onset = in_spring;
-    not_after = low;
-    greatest = λ i s p k l. grind (arith, ints, onsets);
-  },
-  refl,
-)
-
-from_autumn : (t : ℤ) → autumn ≤ℤ t → IsOffset new_york t (neg_ℤ (pos 18_000))
-from_autumn t low = inl (
-  standard,
-  record {
-    place = 0;
-    since = autumn;
-    onset = in_autumn;
-    not_after = low;
-    greatest = λ i s p k l. grind (arith, ints, onsets);
-  },
-  refl,
-)
-
 facts : IsZone new_york
-facts zero p e = rw (sym (got standard p e)) (record {
-  start_in = (omega (arith, ints), omega (arith, ints));
-  from_in = (omega (arith, ints), omega (arith, ints));
-  to_in = (omega (arith, ints), omega (arith, ints));
-})
-facts (suc zero) p e = rw (sym (got daylight p e)) (record {
-  start_in = (omega (arith, ints), omega (arith, ints));
-  from_in = (omega (arith, ints), omega (arith, ints));
-  to_in = (omega (arith, ints), omega (arith, ints));
-})
+facts zero p e = rw (sym (got standard p e)) (record { start_in = search rules; from_in = search rules; to_in = search rules })
+facts (suc zero) p e = rw (sym (got daylight p e)) (record { start_in = search rules; from_in = search rules; to_in = search rules })
 facts (suc (suc i)) p e = absurd (no_more p e)
 
 not_empty : new_york ≢ []
@@ -125,6 +77,7 @@ not_empty e = cc
 found : (t offset : ℤ) → IsOffset new_york t offset → zone_offset new_york t ≡ offset
 found t offset h = offset_unique new_york t (zone_offset new_york t) offset (offset_found new_york facts t not_empty) h
 
+-- the offsets, as RFC 5545 says them
 record Clock (t : ℤ) : Type 0 where
   early : t <ℤ spring → zone_offset new_york t ≡ neg_ℤ (pos 18_000)
   summer : spring ≤ℤ t → t <ℤ autumn → zone_offset new_york t ≡ neg_ℤ (pos 14_400)
@@ -132,9 +85,21 @@ record Clock (t : ℤ) : Type 0 where
 
 clock : (t : ℤ) → Clock t
 clock t = record {
-  early = λ h. found t (neg_ℤ (pos 18_000)) (before_spring t h);
-  summer = λ l h. found t (neg_ℤ (pos 14_400)) (in_summer t l h);
-  late = λ h. found t (neg_ℤ (pos 18_000)) (from_autumn t h);
+  early = λ h. found t _ (inr (
+    daylight,
+    record { place = 1; first = spring; onset = in_spring; before = h; least = λ i s p k. grind (arith, ints, onsets) },
+    refl,
+  ));
+  summer = λ low high. found t _ (inl (
+    daylight,
+    record { place = 1; since = spring; onset = in_spring; not_after = low; greatest = λ i s p k l. grind (arith, ints, onsets) },
+    refl,
+  ));
+  late = λ low. found t _ (inl (
+    standard,
+    record { place = 0; since = autumn; onset = in_autumn; not_after = low; greatest = λ i s p k l. grind (arith, ints, onsets) },
+    refl,
+  ));
 }
 
 -- 02:30 was skipped in spring, and is read with the offset before: 07:30 UTC

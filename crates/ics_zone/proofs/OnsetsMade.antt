@@ -1,7 +1,7 @@
 -- What a zone holds of an observance has its onsets.
 use Rattle.std.proofs.Common.{◌≡◌, ℕ, ◌<◌, ◌≤◌, ◌⊎◌, inl, inr, Bool, true, ◌||◌, ◌==◌, refl, sym, ap, subst, ◌∙◌, arith, get_or, Option, Some, None}
 use Rattle.std.proofs.Common.{option_map, Contains, IfSome, ℤ, ◌≤ℤ◌, MatchOption}
-use Rattle.std.proofs.lemmas.Bool.{ltb-true, or_cases, or_left, or_right, and_parts, and_from}
+use Rattle.std.proofs.lemmas.Bool.{or_left, or_right, and_parts, and_from}
 use Rattle.std.specs.List.{list_any}
 use Rattle.std.proofs.lemmas.Int.{ints}
 use Rattle.std.proofs.lemmas.Bool.Decides.{Decides-eqb, nat_tests}
@@ -20,15 +20,7 @@ use Rattle.ics_rule.specs.PeriodNumbers.{rules_end}
 -- what is kept is the start, or earlier than the end of the rules and later than the start
 kept_early : (r : Recurrence) (n : ℕ) → is_kept r n ≡ true → (n ≡ number r.start) ⊎ ((n < rules_end) × (number r.start < n))
 unfolding is_kept is_in_rule
-kept_early r n e = elim (or_cases (n == number r.start) _ e) [
-  | inl first ↦ inl ((Decides-eqb n (number r.start)).0 first)
-  | inr rest ↦ (
-      let parts = and_parts _ _ (and_parts _ _ (and_parts _ _ rest).0).0 in
-      elim (or_cases (n == number r.start) _ parts.1) [
-        | inl first ↦ inl ((Decides-eqb n (number r.start)).0 first)
-        | inr later ↦ inr (ltb-true n _ parts.0, ltb-true (number r.start) n (and_parts _ _ later).0)
-      ])
-]
+kept_early r n e = grind (arith, nat_tests)
 
 wider : (a b c : Bool) → (a || b) ≡ true → (a || (b || c)) ≡ true
 wider a b c e = grind (arith, nat_tests)

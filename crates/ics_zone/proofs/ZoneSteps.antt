@@ -1,8 +1,7 @@
 -- The steps of the loops over the observances of a zone.
 use Rattle.std.proofs.Common.{◌≡◌, ℕ, zero, suc, ◌+◌, ◌<◌, ◌≤◌, ◌⊎◌, inl, inr, Bool, refl, ap, subst, ◌∙◌, arith, List, [], ◌∷◌, length, get_or, Option, Some}
-use Rattle.std.proofs.Common.{None, slice_get, ℤ, pos, ◌+ℤ◌, ◌-ℤ◌, ◌<ℤ◌, ◌≤ℤ◌, MatchOption, false}
+use Rattle.std.proofs.Common.{None, slice_get, ℤ, pos, ◌+ℤ◌, ◌-ℤ◌, ◌<ℤ◌, ◌≤ℤ◌, MatchOption, false, All}
 use Rattle.std.specs.Int.{int_max}
-use Rattle.std.specs.List.{All}
 use Rattle.std.proofs.lemmas.Int.{ints, clamps}
 use Rattle.std.proofs.lemmas.Option.{slice_get_within}
 use Rattle.ics_zone.specs.declared.latest.Latest.{Latest}
