@@ -27,13 +27,7 @@ module _ (s : Onsets) (with_rule : Bool) (from : ℤ) (was now : List ℕ) (at :
   pub complete_more : (next : ℤ) → ((t : ℤ) → IsAsked s with_rule t → at <ℤ t → next ≤ℤ t)
       → ((k : ℕ) → (from +ℤ pos k) <ℤ at → IsAsked s with_rule (from +ℤ pos k) → IsMarked was k)
       → (k : ℕ) → (from +ℤ pos k) <ℤ next → IsAsked s with_rule (from +ℤ pos k) → IsMarked now k
-  complete_more next none old k early asked = elim (less_or_not_z (from +ℤ pos k) at) [
-    | inl less ↦ marks k ∙ or_right (k == second) (is_marked was k) (old k less asked)
-    | inr more ↦ elim (less_or_not_z at (from +ℤ pos k)) [
-      | inl past ↦ absurd (let low = none (from +ℤ pos k) asked past in omega (arith, ints, low, early))
-      | inr not_past ↦ marks k ∙ or_left (k == second) (is_marked was k) (eq-eqb k second (omega (arith, ints, is, more, not_past)))
-    ]
-  ]
+  complete_more next none old k early asked = grind (arith, ints, less_or_not_z, eq-eqb, or_left, or_right)
 
 -- of the first seconds from an instant: the onsets that show a later local are marked
 abbrev pub AreClearBefore : Onsets → ℤ → ℤ → List ℕ → ℕ → Type 0

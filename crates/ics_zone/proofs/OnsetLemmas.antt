@@ -80,11 +80,7 @@ module _ (zone : List ObservanceSaid) (facts : IsZone zone) where
       let onset = if_onset-some (slice_get zone found.place) t p found.gives in (
         found.place,
         (onset.0, onset.1),
-        λ j q h. elim (less_same_or_more found.place j) [
-          | inl l ↦ absurd (if_onset-none (slice_get zone j) t q h.0 h.1 (found.later j l (slice_get_within zone j q h.0)))
-          | inr (inl s) ↦ omega (arith, s)
-          | inr (inr l) ↦ omega (arith, l)
-        ],
+        λ j q h. let there = h.0 in let is = h.1 in let within = slice_get_within zone j q h.0 in let later = found.later in grind (arith, ints, if_onset-none),
       )
 
   first_at-some : (t : ℤ) (p : ObservanceSaid) → first_at zone t ≡ Some p →
@@ -94,11 +90,7 @@ module _ (zone : List ObservanceSaid) (facts : IsZone zone) where
       let onset = if_onset-some (slice_get zone found.place) t p found.gives in (
         found.place,
         (onset.0, onset.1),
-        λ j q h. elim (less_same_or_more found.place j) [
-          | inl l ↦ omega (arith, l)
-          | inr (inl s) ↦ omega (arith, s)
-          | inr (inr l) ↦ absurd (if_onset-none (slice_get zone j) t q h.0 h.1 (found.earlier j l))
-        ],
+        λ j q h. let there = h.0 in let is = h.1 in let earlier = found.earlier in grind (arith, ints, if_onset-none),
       )
 
   last_at-none : (t : ℤ) (i : ℕ) (p : ObservanceSaid) → last_at zone t ≡ None → IsOnset zone i t p → ⊥

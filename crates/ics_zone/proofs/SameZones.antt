@@ -14,17 +14,15 @@ use Rattle.ics_zone.proofs.FileLemmas.{rule_offset_is}
 pub same_offset_of : (a b : Kind) (moment : ℤ) → said_by (zone_by a) ≡ said_by (zone_by b) → offset_of (zone_by a) moment ≡ offset_of (zone_by b) moment
 unfolding offset_at
 same_offset_of (Fixed o) (Fixed p) moment same = cc
-same_offset_of (Fixed o) (Posix s) moment same = cc
-same_offset_of (Posix r) (Fixed p) moment same = cc
 same_offset_of (Posix r) (Posix s) moment same =
     let view : tz_view r ≡ tz_view s = cc in
     sym (rule_offset_is r (nanos_of_seconds moment)) ∙ ap (λ rule. (rule_type rule (nanos_of_seconds moment)).seconds) view
     ∙ rule_offset_is s (nanos_of_seconds moment)
+same_offset_of _ _ moment same = cc
 
 pub same_moment_of : (a b : Kind) (local : ℤ) → said_by (zone_by a) ≡ said_by (zone_by b) → moment_of (zone_by a) local ≡ moment_of (zone_by b) local
 same_moment_of (Fixed o) (Fixed p) local same = cc
-same_moment_of (Fixed o) (Posix s) local same = cc
-same_moment_of (Posix r) (Fixed p) local same = cc
 same_moment_of (Posix r) (Posix s) local same =
     let view : tz_view r ≡ tz_view s = cc in
     ap (λ rule. local -ℤ rule_reading rule.std_seconds rule.dst (nanos_of_seconds local)) view
+same_moment_of _ _ local same = cc
