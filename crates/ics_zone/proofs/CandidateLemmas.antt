@@ -34,13 +34,7 @@ module _ (offset : ℤ → ℤ) (local : ℤ) (offsets : List ℤ) (k : ℕ) (e 
 
   pub first_moves : {t : ℤ} (found : Option ℤ) (m : ℤ) → IsFirstOf offset local offsets k found → t ≡ local -ℤ o → offset t ≡ o
       → MatchOption found (m ≡ t) (λ f. m ≡ int_min f t) → IsLeastOf offset local offsets (k + 1) m
-  first_moves None m before is same min = record {
-    shows = rw min (omega (arith, ints, is, same));
-    least = λ j d l shows. elim (below_or_at j k (omega arith)) [
-      | inl less ↦ absurd (before j d less shows)
-      | inr at_k ↦ (let there = here j d at_k in omega (arith, ints, there, min, is))
-    ];
-  }
+  first_moves None m before is same min = grind (arith, ints, below_or_at, here)
   first_moves {t = t} (Some f) m before is same min = record {
     shows = elim (less_or_not_z f t) [
       | inl less ↦ (let one : m ≡ f = omega (arith, ints, clamps, min, less) in rw one before.shows)

@@ -158,12 +158,7 @@ module _ (zone : List ObservanceSaid) (facts : IsZone zone) (some : 0 < length z
       jump_at_next later = record { is_later = later; first = λ s l. grind (arith, ints, less_or_not_z, earlier_before_next) }
 
       pub earlier_at_next : shown (zone_offset zone) next ≤ℤ local → (s : ℤ) → s ≤ℤ next → shown (zone_offset zone) s <ℤ local
-      earlier_at_next not_later s l = elim (less_or_not_z s next) [
-        | inl low ↦ earlier_before_next s low
-        | inr high ↦ (
-            let at : s ≡ next = omega (arith, ints, l, high) in
-            rw at (elim (less_or_more next) [ inl less ↦ less | inr more ↦ absurd (omega (arith, ints, more, not_later)) ]))
-      ]
+      earlier_at_next not_later s l = grind (arith, ints, less_or_not_z, less_or_more, earlier_before_next)
 
 -- where no onset shows a later local, none is to be overridden
 pub past_clear : (zone : List ObservanceSaid) (local after next : ℤ) → IsNextPast zone local after next → IsClear zone local after next

@@ -82,9 +82,4 @@ earlier_of s after e x y u (inl h) l = x u h l
 earlier_of s after e x y u (inr h) l = let low = y u h l in omega (arith, ints, e, low)
 
 pub is_of : {limit a m : ℤ} (s : Onsets) → m ≤ℤ a → (m <ℤ a → Contains s.listed.items m) → (a <ℤ limit → IsKeptAt s a) → m <ℤ limit → Has s m
-is_of {a = a} {m = m} s e x y l = elim (less_or_not_z m a) [
-  | inl less ↦ inl (x less)
-  | inr more ↦ (
-      let same : a ≡ m = omega (arith, ints, e, more) in
-      inr (subst (IsKeptAt s) same (y (omega (arith, ints, same, l)))))
-]
+is_of s e x y l = grind (arith, ints, less_or_not_z)

@@ -1,5 +1,5 @@
 -- The last of a set of instants, and the next.
-use Rattle.std.proofs.Common.{◌≡◌, ℕ, ◌<◌, ◌-◌, ◌⊎◌, inl, inr, sym, arith, List, length, get_or, Contains, ℤ, ◌<ℤ◌, ◌≤ℤ◌}
+use Rattle.std.proofs.Common.{◌≡◌, ℕ, ◌<◌, ◌-◌, ◌⊎◌, sym, arith, List, length, get_or, Contains, ℤ, ◌<ℤ◌, ◌≤ℤ◌}
 use Rattle.std.proofs.lemmas.Bool.{cases_lt}
 use Rattle.std.specs.Int.{int_max}
 use Rattle.std.proofs.lemmas.Int.{ints}
@@ -20,14 +20,8 @@ module _ (list : List ℤ) (up : IsInOrder list) (t : ℤ) (k : ℕ) (passed : I
       record {
         is = (k - 1, inside, sym is);
         not_after = omega (arith, ints, early, is);
-        last = λ u h l. elim (cases_lt h.0 k) [
-          | inl less ↦ (
-              let low = up h.0 (k - 1) u (omega (arith, less)) inside in
-              let same = get_or_default list (k - 1) u s inside in
-              let at = h.2 in
-              omega (arith, ints, low, same, at, is))
-          | inr more ↦ absurd (let late = passed.later h.0 u more h.1 in let at = h.2 in omega (arith, ints, late, at, l))
-        ];
+        last = λ u h l.
+            let same = get_or_default list (k - 1) u s inside in let at = h.2 in let within = h.1 in grind (arith, ints, cases_lt);
       }
 
   -- the first that is not passed

@@ -147,13 +147,7 @@ module _ (zone : List ObservanceSaid) (list : List Onsets) (all : AreOnsetsOfAll
 
 -- nothing is marked at first
 pub none_marked : (size k : ℕ) → is_marked (replicate size 0) k ≡ false
-none_marked size k = ap (λ word. contains word (k % 60)) (zero_there (k / 60)) ∙ contains-none (k % 60)
-  where
-    zero_there : (m : ℕ) → ◌≡◌ {A = ℕ} (get_or (replicate size 0) m 0) 0
-    zero_there m = elim (cases_lt m size) [
-      | inl less ↦ get_or-replicate size m 0 0 less
-      | inr more ↦ get_or_past (replicate size 0) m 0 (let n = length-replicate {A = ℕ} size 0 in omega (arith, n, more))
-    ]
+none_marked size k = grind (arith, cases_lt, contains-none, get_or-replicate, get_or_past, length-replicate)
 
 -- of the observances past the last nothing is said
 pub overrides_none : (zone : List ObservanceSaid) (place size : ℕ) (local from : ℤ) → AreOverrides zone place local from (replicate size 0)

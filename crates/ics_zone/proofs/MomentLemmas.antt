@@ -43,13 +43,12 @@ module _ (offset : ℤ → ℤ) (short : (t : ℤ) → IsWithin 86_399 (offset t
         let so = if_so-some (test (near local found.place)) (near local found.place) t found.gives in
         let at = so.1 in (
           rw (sym so.1) so.0,
-          λ s is. elim (less_or_not_z s t) [
-            | inr l ↦ l
-            | inl l ↦ absurd (
-                let k = near_number local s (late s is) in
-                let n = k.1 in
-                if_so-none (test (near local k.0)) (near local k.0) (sym (ap test n) ∙ is) (found.earlier k.0 (omega (arith, ints, n, at, l))))
-          ],
+          λ s is.
+              let k = near_number local s (late s is) in
+              let n = k.1 in
+              let so : test (near local k.0) ≡ true = sym (ap test n) ∙ is in
+              let earlier = found.earlier in
+              grind (arith, ints, less_or_not_z, if_so-none),
         )
 
     least-none : first_below 172_801 tried ≡ None → (s : ℤ) → s ≤ℤ (local +ℤ pos 86_400) → test s ≡ true → ⊥

@@ -27,11 +27,8 @@ one_before_all zone t p q x y =
 
 -- an onset that is not after t lies after no onset that comes before all
 not_both : (zone : List ObservanceSaid) (t : ℤ) (p q : ObservanceSaid) → IsInForce zone t p → IsBeforeAll zone t q → ⊥
-not_both zone t p q x y = apart (y.least x.place x.since p x.onset)
-  where
-    apart : IsNotLater y.first y.place x.since x.place → ⊥
-    apart (inl h) = omega (arith, ints, y.before, x.not_after)
-    apart (inr h) = omega (arith, ints, y.before, x.not_after, h.0)
+not_both zone t p q x y =
+    let least = y.least x.place x.since p x.onset in let before = y.before in let not_after = x.not_after in grind (arith, ints)
 
 pub offset_unique : (zone : List ObservanceSaid) (t a b : ℤ) → IsOffset zone t a → IsOffset zone t b → a ≡ b
 offset_unique zone t a b (inl x) (inl y) = x.2 ∙ ap (λ p. p.offset_to) (one_in_force zone t x.0 y.0 x.1 y.1) ∙ sym y.2

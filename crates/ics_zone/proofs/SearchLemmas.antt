@@ -1,5 +1,5 @@
 -- What the searches below a number find.
-use Rattle.std.proofs.Common.{◌≡◌, ℕ, zero, suc, ◌<◌, inl, inr, refl, ◌∙◌, arith, Option, Some, None}
+use Rattle.std.proofs.Common.{◌≡◌, ℕ, zero, suc, ◌<◌, refl, ◌∙◌, arith, Option, Some, None}
 use Rattle.ics_zone.specs.ZoneOffsets.{last_below, first_below}
 use Rattle.ics_zone.proofs.Cases.{below_or_at}
 
@@ -25,8 +25,7 @@ module _ {A : Type 0} (f : ℕ → Option A) where
     where
       by : (o : Option A) → f n ≡ o → (last_below n f ≡ None → j < n → f j ≡ None)
           → ◌≡◌ {A = Option A} (elim o [ Some x ↦ Some x | None ↦ last_below n f ]) None → f j ≡ None
-      by (Some x) is below e = absurd (cc)
-      by None is below e = elim (below_or_at j n (omega arith)) [ inl l ↦ below e l | inr s ↦ rw s is ]
+      by o is below e = grind (arith, below_or_at)
 
   pub last_below-some : (n : ℕ) (x : A) → last_below n f ≡ Some x → IsLastGiven n f x
   unfolding last_below
@@ -44,8 +43,7 @@ module _ {A : Type 0} (f : ℕ → Option A) where
     where
       by : (o : Option A) → first_below n f ≡ o → (first_below n f ≡ None → j < n → f j ≡ None)
           → ◌≡◌ {A = Option A} (elim o [ Some x ↦ Some x | None ↦ f n ]) None → f j ≡ None
-      by (Some x) is below e = absurd (cc)
-      by None is below e = elim (below_or_at j n (omega arith)) [ inl l ↦ below is l | inr s ↦ rw s e ]
+      by o is below e = grind (arith, below_or_at)
 
   pub first_below-some : (n : ℕ) (x : A) → first_below n f ≡ Some x → IsFirstGiven n f x
   unfolding first_below

@@ -164,10 +164,7 @@ module _ (zone : List ObservanceSaid) (list : List Onsets) (all : AreOnsetsOfAll
         → ((s : ℤ) → Has o s → s ≤ℤ t → (s <ℤ at) ⊎ ((s ≡ at) × (at_once ≡ false))) → AreLessTo zone (k + 1) offset t at place
     less_more at_once lower less i s p l h is early = split i s p h l
         (λ low. before i s p low h is early)
-        (λ of contains same. elim (less s contains early) [
-          | inl small ↦ inl small
-          | inr now ↦ inr (now.0, (let n = lower now.1 in omega (arith, same, n)))
-        ])
+        (λ of contains same. let small = less s contains early in grind (arith, ints))
 
   -- where its last onset is greater than all those of the observances with an offset, it overrides them
   pub overridden_by : {t at : ℤ} (offset : ℤ) (count : ℕ) → length list ≤ count → IsLast (Has o) t at → AreLessTo zone count offset t at k
@@ -213,10 +210,7 @@ module _ (zone : List ObservanceSaid) (list : List Onsets) (all : AreOnsetsOfAll
     pub past_now : (new : ℤ) → new ≤ℤ next → ((t : ℤ) → Has o t → from <ℤ t → new ≤ℤ t) → IsNextPastTo zone (k + 1) local after new
     past_now new less first i s p l h late early = split i s p h l
         (λ low. before i s p low h late (omega (arith, ints, early, less)))
-        (λ of contains same. elim (less_or_not_z from s) [
-          | inl more ↦ absurd (let n = first s contains more in omega (arith, ints, n, early))
-          | inr low ↦ (let to = of.to in omega (arith, ints, clamps, past, low, late, to))
-        ])
+        (λ of contains same. let to = of.to in let n = first s contains in grind (arith, ints, clamps, less_or_not_z))
 
     pub past_before : after <ℤ next → next ≤ℤ from → IsNextPastTo zone (k + 1) local after next
     past_before more none i s p l h late early = split i s p h l
