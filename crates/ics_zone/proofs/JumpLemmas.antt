@@ -1,6 +1,6 @@
 -- The offset in force, and the instant at which a clock jumps over a local.
 use Rattle.std.proofs.Common.{◌≡◌, ◌≢◌, ℕ, ◌<◌, ◌⊎◌, inl, inr, Bool, true, false, cond, refl, sym, ◌∙◌, subst, arith, List, [], ◌∷◌, ◌++◌, length, Option}
-use Rattle.std.proofs.Common.{Some, None, Contains, ℤ, pos, ◌+ℤ◌, ◌-ℤ◌, ◌<ℤ◌, ◌≤ℤ◌}
+use Rattle.std.proofs.Common.{Some, None, All, Contains, ℤ, pos, ◌+ℤ◌, ◌-ℤ◌, ◌<ℤ◌, ◌≤ℤ◌}
 use Rattle.std.proofs.lemmas.Int.{ints}
 use Rattle.std.specs.List.Sorted.{IsPermutation}
 use Rattle.std.proofs.lemmas.List.Sorted.{All-permutation}
@@ -8,12 +8,13 @@ use Rattle.std.proofs.lemmas.List.Elements.{All-push}
 use Rattle.std.proofs.lemmas.Option.{slice_get_within}
 use Rattle.ics_zone.specs.declared.latest.Latest.{Latest}
 use Rattle.ics_zone.specs.declared.latest.Steady.{Steady}
+use Rattle.ics_zone.specs.declared.observance.Observance.{Observance}
 use Rattle.ics_zone.specs.declared.onsets.Onsets.{Onsets}
-use Rattle.ics_zone.specs.Observances.{ObservanceSaid, IsZone}
+use Rattle.ics_zone.specs.Observances.{ObservanceSaid, observances_said}
 use Rattle.ics_zone.specs.ZoneOffsets.{natural, IsOnset, IsNotLater, IsInForce, IsBeforeAll, IsOffset, zone_offset}
 use Rattle.ics_zone.specs.Moments.{shown, IsFirstTime}
 use Rattle.ics_zone.specs.ZoneOnsets.{HaveOffsets, IsKnown, IsLatest, IsLatestOf, IsFirstOffset, IsNextPast, IsClear, IsJump, IsSteady, IsOverridden}
-use Rattle.ics_zone.specs.ZoneBounds.{zone_offset_short}
+use Rattle.ics_zone.specs.ZoneBounds.{zone_facts, zone_short}
 use Rattle.ics_zone.proofs.OffsetLaws.{offset_unique}
 use Rattle.ics_zone.proofs.OnsetLemmas.{natural-is, offset_found}
 use Rattle.ics_zone.proofs.Cases.{less_or_not_z}
@@ -22,9 +23,12 @@ not_empty : (zone : List ObservanceSaid) → 0 < length zone → zone ≢ []
 not_empty [] h e = omega arith
 not_empty (p ∷ zone) h e = cc
 
-module _ (zone : List ObservanceSaid) (facts : IsZone zone) (some : 0 < length zone) where
+module _ (observances : List Observance) (some : 0 < length (observances_said observances)) where
+  abbrev zone : List ObservanceSaid
+  zone = observances_said observances
+
   pub is_offset : (t : ℤ) → IsOffset zone t (zone_offset zone t)
-  is_offset t = offset_found zone facts t (not_empty zone some)
+  is_offset t = offset_found zone (zone_facts observances) t (not_empty zone some)
 
   -- what is in force, and what is before all onsets, gives the offset
   in_force_is : (t : ℤ) (p : ObservanceSaid) → IsInForce zone t p → p.offset_to ≡ zone_offset zone t
@@ -165,25 +169,25 @@ pub past_clear : (zone : List ObservanceSaid) (local after next : ℤ) → IsNex
 past_clear zone local after next none i s p h late early past = absurd (let low = none i s p h late early in omega (arith, ints, low, past))
 
 -- a day before a local the clock shows earlier ones, and a day after it later ones
-module _ (zone : List ObservanceSaid) (facts : IsZone zone) (local : ℤ) where
-  pub earlier_before : (t : ℤ) → t ≤ℤ (local -ℤ pos 86_400) → shown (zone_offset zone) t <ℤ local
-  earlier_before t h = let bound = zone_offset_short zone facts t in omega (arith, ints, bound.0, bound.1)
+module _ (observances : List Observance) (local : ℤ) where
+  pub earlier_before : (t : ℤ) → t ≤ℤ (local -ℤ pos 86_400) → shown (zone_offset (observances_said observances)) t <ℤ local
+  earlier_before t h = let bound = zone_short observances t in omega (arith, ints, bound.0, bound.1)
 
-  pub later_after : (t : ℤ) → (local +ℤ pos 86_400) ≤ℤ t → local <ℤ shown (zone_offset zone) t
-  later_after t h = let bound = zone_offset_short zone facts t in omega (arith, ints, bound.0, bound.1)
+  pub later_after : (t : ℤ) → (local +ℤ pos 86_400) ≤ℤ t → local <ℤ shown (zone_offset (observances_said observances)) t
+  later_after t h = let bound = zone_short observances t in omega (arith, ints, bound.0, bound.1)
 
 -- a local is shown once where the offset holds within a day of it
-pub shown_once : {from next value : ℤ} (zone : List ObservanceSaid) → IsZone zone → (local : ℤ) → IsSteady (zone_offset zone) from next value
+pub shown_once : {from next value : ℤ} (observances : List Observance) (local : ℤ) → IsSteady (zone_offset (observances_said observances)) from next value
     → from ≤ℤ (local -ℤ pos 86_400) → (local +ℤ pos 86_400) <ℤ next
-    → IsFirstTime (zone_offset zone) local (local -ℤ value)
-shown_once {value = value} zone facts local steady low high =
+    → IsFirstTime (zone_offset (observances_said observances)) local (local -ℤ value)
+shown_once {value = value} observances local steady low high =
     let here = steady local (omega (arith, ints, low)) (omega (arith, ints, high)) in
-    let bound = zone_offset_short zone facts local in
+    let bound = zone_short observances local in
     let is = steady (local -ℤ value) (omega (arith, ints, low, here, bound.1)) (omega (arith, ints, high, here, bound.0)) in
     record {
       shows = omega (arith, ints, is);
       first = λ s shows.
-          let near = zone_offset_short zone facts s in
+          let near = zone_short observances s in
           let same = steady s (omega (arith, ints, low, shows, near.1)) (omega (arith, ints, high, shows, near.0)) in
           omega (arith, ints, same, shows);
     }
@@ -192,23 +196,20 @@ shown_once {value = value} zone facts local steady low high =
 pub natural_less : (a b : ℤ) → pos 0 ≤ℤ a → a <ℤ b → natural a < natural b
 natural_less a b low less = grind (arith, ints, natural-is)
 
+-- the spans that are held may be others
+known_of : {zone : List ObservanceSaid} {onsets : List Onsets} {offsets : List ℤ} {was now : List Steady} → IsKnown zone onsets offsets was
+    → All (λ (s : Steady). IsSteady (zone_offset zone) s.from s.next s.offset) now → IsKnown zone onsets offsets now
+known_of known spans = record { some = known.some; asked = known.asked; all_offsets = known.all_offsets; spans = spans }
+
 -- the same spans are held in another order
 pub held_moved : {zone : List ObservanceSaid} {onsets : List Onsets} {offsets : List ℤ} {was now : List Steady} → IsPermutation was now
     → IsKnown zone onsets offsets was → IsKnown zone onsets offsets now
-held_moved {zone = zone} {was = was} {now = now} moved known = record {
-  some = known.some;
-  asked = known.asked;
-  all_offsets = known.all_offsets;
-  spans = All-permutation (λ (s : Steady). IsSteady (zone_offset zone) s.from s.next s.offset) was now moved known.spans;
-}
+held_moved {zone = zone} {was = was} {now = now} moved known =
+    known_of known (All-permutation (λ (s : Steady). IsSteady (zone_offset zone) s.from s.next s.offset) was now moved known.spans)
 
 -- a span more is held, or none where memory is refused
 pub held_more : {zone : List ObservanceSaid} {onsets : List Onsets} {offsets : List ℤ} {was now : List Steady} (s : Steady) (b : Bool)
     → now ≡ cond b (was ++ s ∷ []) was → IsKnown zone onsets offsets was → IsSteady (zone_offset zone) s.from s.next s.offset → IsKnown zone onsets offsets now
-held_more {zone = zone} {was = was} s true is known steady = rw is (record {
-  some = known.some;
-  asked = known.asked;
-  all_offsets = known.all_offsets;
-  spans = All-push (λ (s : Steady). IsSteady (zone_offset zone) s.from s.next s.offset) was s known.spans steady;
-})
+held_more {zone = zone} {was = was} s true is known steady =
+    rw is (known_of known (All-push (λ (s : Steady). IsSteady (zone_offset zone) s.from s.next s.offset) was s known.spans steady))
 held_more s false is known steady = rw is known

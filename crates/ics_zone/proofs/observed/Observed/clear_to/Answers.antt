@@ -1,7 +1,6 @@
 use Rattle.std.proofs.Common.{rules, arith, pos, ◌+ℤ◌, SFits, w64}
 use Rattle.std.proofs.lemmas.Int.{ints, clamps, to_z-of_z}
 use Rattle.ics_zone.specs.Observances.{observances_said}
-use Rattle.ics_zone.specs.ZoneBounds.{zone_facts}
 use Rattle.ics_zone.proofs.ZoneSteps.{all_sound}
 use Rattle.ics_zone.proofs.JumpLemmas.{earlier_before_next}
 use Rattle.ics_zone.proofs.observed.Observed.clear_to.Goals as goal
@@ -16,7 +15,7 @@ returns-clause-earlier c = λ t l.
     let few : SFits w64 c.clear_after-clear.result = search rules in
     let known = rw c.self.view_is at c.self.invariant in
     let clear = rw c.deref.ensures.value at (simp to_z-of_z at c.clear_after-clear.ensures.clear) in
-    earlier_before_next (observances_said c.args.self.now) (zone_facts c.args.self.now) known.some c.args.seconds c.requires.skipped
+    earlier_before_next c.args.self.now known.some c.args.seconds c.requires.skipped
     c.args.after (c.args.after +ℤ c.clear_after-clear.result +ℤ pos 1) c.requires.earlier (clear (observances_said c.args.self.now) known.asked) t
     (let least = c.min.ensures in omega (arith, ints, clamps, l, least))
 

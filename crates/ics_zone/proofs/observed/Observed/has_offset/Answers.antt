@@ -1,7 +1,6 @@
 use Rattle.std.proofs.Common.{SFits, w32, w64}
 use Rattle.std.proofs.lemmas.Int.{to_z-of_z}
 use Rattle.ics_zone.specs.Observances.{observances_said}
-use Rattle.ics_zone.specs.ZoneBounds.{zone_facts}
 use Rattle.ics_zone.proofs.ZoneSteps.{all_sound}
 use Rattle.ics_zone.proofs.JumpLemmas.{overridden_other}
 use Rattle.ics_zone.proofs.observed.Observed.has_offset.Goals as goal
@@ -15,5 +14,5 @@ returns-then-overrides c =
     let small : SFits w32 c.args.offset = c.ranges.offset in
     let known = rw c.self.view_is at c.self.invariant in
     let over = rw c.deref.ensures.value at (simp to_z-of_z at c.overrides.ensures) in
-    overridden_other (observances_said c.args.self.now) (zone_facts c.args.self.now) known.some c.args.moment c.args.offset
+    overridden_other c.args.self.now known.some c.args.moment c.args.offset
     (over c.if-overrides.true (observances_said c.args.self.now) known.asked)

@@ -1,7 +1,6 @@
 use Rattle.std.proofs.Common.{rules, arith, pos, ◌+ℤ◌, ◌-ℤ◌, SFits, w64, to_z, of_z}
 use Rattle.std.proofs.lemmas.Int.{ints, to_z-of_z}
 use Rattle.ics_zone.specs.Observances.{observances_said}
-use Rattle.ics_zone.specs.ZoneBounds.{zone_facts}
 use Rattle.ics_zone.proofs.ZoneSteps.{all_sound}
 use Rattle.ics_zone.proofs.JumpLemmas.{jump_at_next, earlier_at_next, past_clear, earlier_before, later_after, natural_less}
 use Rattle.ics_zone.proofs.observed.Observed.jump.Goals as goal
@@ -10,7 +9,7 @@ pub loop-after-init : goal.loop-after-init
 loop-after-init c = record {
   low = omega (arith, ints, c.requires.bound.0, c.requires.bound.1);
   high = omega (arith, ints, c.requires.bound.0, c.requires.bound.1);
-  earlier = λ t h. earlier_before (observances_said c.args.self.now) (zone_facts c.args.self.now) (to_z w64 (of_z w64 c.args.seconds)) t
+  earlier = λ t h. earlier_before c.args.self.now (to_z w64 (of_z w64 c.args.seconds)) t
       (omega (arith, ints, h, c.requires.bound.0, c.requires.bound.1));
 }
 
@@ -26,7 +25,7 @@ returns-then-is_past-clause-jump c =
     let earlier = simp to_z-of_z at c.loop-after.invariant.earlier in
     let later = rw c.if-is_past.true at (simp to_z-of_z at c.is_past.ensures) in
     rw (to_z-of_z w64 c.next_past-after.result next)
-    (jump_at_next (observances_said c.args.self.now) (zone_facts c.args.self.now) known.some c.args.seconds c.requires.skipped
+    (jump_at_next c.args.self.now known.some c.args.seconds c.requires.skipped
     (to_z w64 c.loop-after.after-bits) c.next_past-after.result earlier
     (past_clear (observances_said c.args.self.now) c.args.seconds (to_z w64 c.loop-after.after-bits) c.next_past-after.result
     (none (observances_said c.args.self.now) known.asked)) later)
@@ -55,7 +54,7 @@ clear_hours-after-requires-clause-earlier c =
     let earlier = simp to_z-of_z at c.loop-after.invariant.earlier in
     let not_later = rw c.if-is_past.false at (simp to_z-of_z at c.is_past.ensures) in
     rw (to_z-of_z w64 c.next_past-after.result next, to_z-of_z w64 c.args.seconds fits)
-    (earlier_at_next (observances_said c.args.self.now) (zone_facts c.args.self.now) known.some c.args.seconds c.requires.skipped
+    (earlier_at_next c.args.self.now known.some c.args.seconds c.requires.skipped
     (to_z w64 c.loop-after.after-bits) c.next_past-after.result earlier
     (past_clear (observances_said c.args.self.now) c.args.seconds (to_z w64 c.loop-after.after-bits) c.next_past-after.result
     (none (observances_said c.args.self.now) known.asked))
@@ -66,7 +65,7 @@ returns-clause-jump c =
     let fits : SFits w64 c.args.seconds = c.ranges.seconds in
     let earlier = simp to_z-of_z at c.loop-after.invariant.earlier in
     absurd (
-    let more = later_after (observances_said c.args.self.now) (zone_facts c.args.self.now) c.args.seconds (to_z w64 c.loop-after.after-bits)
+    let more = later_after c.args.self.now c.args.seconds (to_z w64 c.loop-after.after-bits)
     (omega (arith, ints, c.loop-after-test.false, c.requires.bound.0, c.requires.bound.1)) in
     let less = earlier (to_z w64 c.loop-after.after-bits) (omega (arith, ints)) in
     omega (arith, ints, more, less))

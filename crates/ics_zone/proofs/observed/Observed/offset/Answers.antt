@@ -1,14 +1,12 @@
 use Rattle.std.proofs.Common.{rules, SFits, w32, w64}
 use Rattle.std.proofs.lemmas.Int.{to_z-of_z}
-use Rattle.ics_zone.specs.Observances.{observances_said}
-use Rattle.ics_zone.specs.ZoneBounds.{zone_facts}
 use Rattle.ics_zone.proofs.JumpLemmas.{is_offset}
 use Rattle.ics_zone.proofs.observed.Observed.offset.Goals as goal
 
 pub returns-in-Some-clause-means : goal.returns-in-Some-clause-means
 returns-in-Some-clause-means c =
     rw (to_z-of_z w32 c.in-Some.held.offset (search rules), c.in-Some.ensures.steady c.args.moment (search rules) (search rules))
-    (is_offset (observances_said c.args.self.now) (zone_facts c.args.self.now) c.held_over.ensures.some c.args.moment)
+    (is_offset c.args.self.now c.held_over.ensures.some c.args.moment)
 
 pub returns-in-None-clause-means : goal.returns-in-None-clause-means
 returns-in-None-clause-means c =

@@ -2,7 +2,6 @@ use Rattle.std.proofs.Common.{rules, ◌≡◌, SFits, w32, w64}
 use Rattle.std.proofs.lemmas.Int.{to_z-of_z}
 use Rattle.ics_zone.specs.ZoneOffsets.{zone_offset}
 use Rattle.ics_zone.specs.Observances.{observances_said}
-use Rattle.ics_zone.specs.ZoneBounds.{zone_facts}
 use Rattle.ics_zone.proofs.ZoneSteps.{all_sound}
 use Rattle.ics_zone.proofs.JumpLemmas.{is_offset, latest_is, none_is}
 use Rattle.ics_zone.proofs.observed.Observed.offset_of_latest.Goals as goal
@@ -19,10 +18,10 @@ returns-in-Some c =
     let known = rw c.self.view_is at c.self.invariant in
     let found = rw c.deref.ensures.value at (simp to_z-of_z at c.latest_of.ensures) in
     let value : c.in-Some.latest.offset ≡ zone_offset (observances_said c.args.self.now) c.args.moment =
-    latest_is (observances_said c.args.self.now) (zone_facts c.args.self.now) known.some c.args.moment c.latest_of.result
+    latest_is c.args.self.now known.some c.args.moment c.latest_of.result
     (found (observances_said c.args.self.now) known.asked) c.in-Some.latest c.in-Some.is in
     rw (to_z-of_z w32 c.in-Some.latest.offset (search rules))
-    (record { means = rw value (is_offset (observances_said c.args.self.now) (zone_facts c.args.self.now) known.some c.args.moment); value = value })
+    (record { means = rw value (is_offset c.args.self.now known.some c.args.moment); value = value })
 
 pub returns-in-None : goal.returns-in-None
 returns-in-None c =
@@ -31,8 +30,8 @@ returns-in-None c =
     let found = rw c.deref.ensures.value at (simp to_z-of_z at c.latest_of.ensures) in
     let first = rw c.deref-in-None.ensures.value at c.first_offset.ensures in
     let value : c.first_offset.result ≡ zone_offset (observances_said c.args.self.now) c.args.moment =
-    none_is (observances_said c.args.self.now) (zone_facts c.args.self.now) known.some c.args.moment c.first_offset.result c.latest_of.result
+    none_is c.args.self.now known.some c.args.moment c.first_offset.result c.latest_of.result
     (found (observances_said c.args.self.now) known.asked) c.in-None.is
     (first (observances_said c.args.self.now) known.asked) in
     rw (to_z-of_z w32 c.first_offset.result (search rules))
-    (record { means = rw value (is_offset (observances_said c.args.self.now) (zone_facts c.args.self.now) known.some c.args.moment); value = value })
+    (record { means = rw value (is_offset c.args.self.now known.some c.args.moment); value = value })

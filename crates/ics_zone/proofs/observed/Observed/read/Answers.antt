@@ -2,7 +2,6 @@ use Rattle.std.proofs.lemmas.Grind.{common_steps}
 use Rattle.std.proofs.Common.{rules, ◌<◌, length, arith}
 use Rattle.std.proofs.lemmas.List.{length-map}
 use Rattle.ics_zone.specs.Observances.{observance_said, observances_said}
-use Rattle.ics_zone.specs.ZoneBounds.{zone_facts}
 use Rattle.ics_zone.proofs.JumpLemmas.{offsets_found}
 use Rattle.ics_zone.proofs.observed.Observed.read.Goals as goal
 
@@ -15,7 +14,7 @@ invariant_of-result c =
     record {
       some = some;
       asked = asked;
-      all_offsets = offsets_found (observances_said c.args.observances.items) (zone_facts c.args.observances.items) some
+      all_offsets = offsets_found c.args.observances.items some
           c.in-Ok-offsets_of.offsets.items have;
       spans = λ k d h. absurd (omega (arith, h));
     }

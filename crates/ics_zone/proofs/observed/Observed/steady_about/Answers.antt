@@ -1,7 +1,6 @@
 use Rattle.std.proofs.Common.{rules, SFits, w32, w64}
 use Rattle.std.proofs.lemmas.Int.{to_z-of_z}
 use Rattle.ics_zone.specs.Observances.{observances_said}
-use Rattle.ics_zone.specs.ZoneBounds.{zone_facts}
 use Rattle.ics_zone.proofs.ZoneSteps.{all_sound}
 use Rattle.ics_zone.proofs.JumpLemmas.{steady_since}
 use Rattle.ics_zone.proofs.observed.Observed.steady_about.Goals as goal
@@ -21,6 +20,6 @@ returns c =
     let found = rw c.deref.ensures.value at (simp to_z-of_z at c.in_ok-latest.ensures) in
     let none = rw c.deref-2.ensures.value at (simp to_z-of_z at c.next_onset-next.ensures.next) in
     rw (to_z-of_z w64 c.next_onset-next.result (search rules), to_z-of_z w64 c.in_ok-latest.latest.at at, to_z-of_z w32 c.in_ok-latest.latest.offset small)
-    (steady_since (observances_said c.args.self.now) (zone_facts c.args.self.now) known.some c.args.near c.next_onset-next.result
+    (steady_since c.args.self.now known.some c.args.near c.next_onset-next.result
     (none (observances_said c.args.self.now) known.asked)
     c.in_ok-latest.latest (found (observances_said c.args.self.now) known.asked))

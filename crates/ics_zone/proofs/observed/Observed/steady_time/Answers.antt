@@ -2,7 +2,6 @@ use Rattle.std.proofs.Common.{rules, arith, sym, subst, ◌≡◌, ◌-ℤ◌, S
 use Rattle.std.proofs.lemmas.Int.{ints, to_z-of_z}
 use Rattle.ics_zone.specs.ZoneOffsets.{zone_offset}
 use Rattle.ics_zone.specs.Observances.{observances_said}
-use Rattle.ics_zone.specs.ZoneBounds.{zone_facts}
 use Rattle.ics_zone.specs.Moments.{IsFirstTime}
 use Rattle.ics_zone.proofs.JumpLemmas.{shown_once}
 use Rattle.ics_zone.proofs.observed.Observed.steady_time.Goals as goal
@@ -15,6 +14,6 @@ returns c =
     let is : to_z w64 (of_z w64 (to_z w64 (of_z w64 c.args.seconds) -ℤ to_z w64 (of_z w64 c.from.result))) ≡ c.args.seconds -ℤ c.in_ok-steady.steady.offset =
     omega (arith, ints, c.from.ensures, c.requires.bound.0, c.requires.bound.1, offset) in
     subst (IsFirstTime (zone_offset (observances_said c.args.self.now)) c.args.seconds) (sym is)
-    (shown_once (observances_said c.args.self.now) (zone_facts c.args.self.now) c.args.seconds c.in_ok-steady.ensures.steady
+    (shown_once c.args.self.now c.args.seconds c.in_ok-steady.ensures.steady
     (omega (arith, ints, about.0, c.requires.bound.0, c.requires.bound.1))
     (omega (arith, ints, about.1, c.requires.bound.0, c.requires.bound.1)))

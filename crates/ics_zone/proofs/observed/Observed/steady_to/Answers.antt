@@ -1,7 +1,6 @@
 use Rattle.std.proofs.Common.{rules, arith, ◌≡◌, pos, ◌+ℤ◌, SFits, w32, w64, to_z, of_z}
 use Rattle.std.proofs.lemmas.Int.{ints, to_z-of_z}
 use Rattle.ics_zone.specs.Observances.{observances_said}
-use Rattle.ics_zone.specs.ZoneBounds.{zone_facts}
 use Rattle.ics_zone.proofs.ZoneSteps.{all_sound}
 use Rattle.ics_zone.proofs.JumpLemmas.{steady_since}
 use Rattle.ics_zone.proofs.observed.Observed.steady_to.Goals as goal
@@ -17,6 +16,6 @@ returns-clause-steady c =
     let found = rw c.deref.ensures.value at (simp to_z-of_z at c.in_ok-latest.ensures) in
     let next : to_z w64 (of_z w64 (to_z w64 (of_z w64 c.args.to) +ℤ pos 1)) ≡ c.args.to +ℤ pos 1 = omega (arith, ints, c.requires.0, c.requires.1) in
     rw (next, to_z-of_z w64 c.in_ok-latest.latest.at at, to_z-of_z w32 c.in_ok-latest.latest.offset (search rules))
-    (steady_since (observances_said c.args.self.now) (zone_facts c.args.self.now) known.some c.args.to (c.args.to +ℤ pos 1)
+    (steady_since c.args.self.now known.some c.args.to (c.args.to +ℤ pos 1)
     (λ i s p h l. omega (arith, ints, l))
     c.in_ok-latest.latest (found (observances_said c.args.self.now) known.asked))
