@@ -1,6 +1,5 @@
-use Rattle.std.proofs.Common.{rules, ◌≡◌, SFits, w32, w64}
+use Rattle.std.proofs.Common.{rules, refl, SFits, w32, w64}
 use Rattle.std.proofs.lemmas.Int.{to_z-of_z}
-use Rattle.ics_zone.specs.ZoneOffsets.{zone_offset}
 use Rattle.ics_zone.specs.Observances.{observances_said}
 use Rattle.ics_zone.proofs.ZoneSteps.{all_sound}
 use Rattle.ics_zone.proofs.JumpLemmas.{is_offset, latest_is, none_is}
@@ -17,11 +16,10 @@ returns-in-Some c =
     let fits : SFits w64 c.args.moment = c.ranges.moment in
     let known = rw c.self.view_is at c.self.invariant in
     let found = rw c.deref.ensures.value at (simp to_z-of_z at c.latest_of.ensures) in
-    let value : c.in-Some.latest.offset ≡ zone_offset (observances_said c.args.self.now) c.args.moment =
-    latest_is c.args.self.now known.some c.args.moment c.latest_of.result
-    (found (observances_said c.args.self.now) known.asked) c.in-Some.latest c.in-Some.is in
-    rw (to_z-of_z w32 c.in-Some.latest.offset (search rules))
-    (record { means = rw value (is_offset c.args.self.now known.some c.args.moment); value = value })
+    let value = latest_is c.args.self.now known.some c.args.moment c.latest_of.result (found (observances_said c.args.self.now) known.asked)
+    c.in-Some.latest c.in-Some.is in
+    rw (to_z-of_z w32 c.in-Some.latest.offset (search rules), value)
+    (record { means = is_offset c.args.self.now known.some c.args.moment; value = refl })
 
 pub returns-in-None : goal.returns-in-None
 returns-in-None c =
@@ -29,9 +27,7 @@ returns-in-None c =
     let known = rw c.self.view_is at c.self.invariant in
     let found = rw c.deref.ensures.value at (simp to_z-of_z at c.latest_of.ensures) in
     let first = rw c.deref-in-None.ensures.value at c.first_offset.ensures in
-    let value : c.first_offset.result ≡ zone_offset (observances_said c.args.self.now) c.args.moment =
-    none_is c.args.self.now known.some c.args.moment c.first_offset.result c.latest_of.result
-    (found (observances_said c.args.self.now) known.asked) c.in-None.is
-    (first (observances_said c.args.self.now) known.asked) in
-    rw (to_z-of_z w32 c.first_offset.result (search rules))
-    (record { means = rw value (is_offset c.args.self.now known.some c.args.moment); value = value })
+    let value = none_is c.args.self.now known.some c.args.moment c.first_offset.result c.latest_of.result
+    (found (observances_said c.args.self.now) known.asked) c.in-None.is (first (observances_said c.args.self.now) known.asked) in
+    rw (to_z-of_z w32 c.first_offset.result (search rules), value)
+    (record { means = is_offset c.args.self.now known.some c.args.moment; value = refl })

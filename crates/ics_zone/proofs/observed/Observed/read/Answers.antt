@@ -14,8 +14,7 @@ invariant_of-result c =
     record {
       some = some;
       asked = asked;
-      all_offsets = offsets_found c.args.observances.items some
-          c.in-Ok-offsets_of.offsets.items have;
+      all_offsets = offsets_found c.args.observances.items some c.in-Ok-offsets_of.offsets.items have;
       spans = λ k d h. absurd (omega (arith, h));
     }
 
