@@ -1,5 +1,5 @@
 -- The offset in force, and the instant at which a clock jumps over a local.
-use Rattle.std.proofs.Common.{◌≡◌, ◌≢◌, ℕ, ◌<◌, ◌⊎◌, inl, inr, Bool, true, false, cond, refl, sym, ◌∙◌, subst, arith, List, [], ◌∷◌, ◌++◌, length, Option}
+use Rattle.std.proofs.Common.{◌≡◌, ◌≢◌, ℕ, ◌<◌, ◌⊎◌, inl, inr, Bool, true, false, cond, refl, sym, ◌∙◌, subst, arith, List, [], ◌∷◌, ◌++◌, length}
 use Rattle.std.proofs.Common.{Some, None, All, Contains, ℤ, pos, ◌+ℤ◌, ◌-ℤ◌, ◌<ℤ◌, ◌≤ℤ◌}
 use Rattle.std.proofs.lemmas.Int.{ints}
 use Rattle.std.specs.List.Sorted.{IsPermutation}
@@ -51,23 +51,17 @@ module _ (observances : List Observance) (some : 0 < length (observances_said ob
     ];
   })
 
-  pub latest_is : (t : ℤ) (found : Option Latest) → IsLatestOf zone t (length zone) found → (e : Latest) → found ≡ Some e → e.offset ≡ zone_offset zone t
-  latest_is t None h e same = absurd (cc)
-  latest_is t (Some f) h e same =
-      let one : f ≡ e = cc in
-      let not_after = h.not_after in
-      rw (← one) (steady_since t (t +ℤ pos 1) (λ i s p g l. omega (arith, ints, l)) f h t not_after (omega (arith, ints)))
+  pub latest_is : (t : ℤ) (e : Latest) → IsLatestOf zone t (length zone) (Some e) → e.offset ≡ zone_offset zone t
+  latest_is t e h = steady_since t (t +ℤ pos 1) (λ i s p g l. omega (arith, ints, l)) e h t h.not_after (omega (arith, ints))
 
-  pub none_is : (t offset : ℤ) (found : Option Latest) → IsLatestOf zone t (length zone) found → found ≡ None → IsFirstOffset zone offset
-      → offset ≡ zone_offset zone t
-  none_is t offset None h same first = first.1.is ∙ before_all_is t first.1.observance (record {
+  pub none_is : (t offset : ℤ) → IsLatestOf zone t (length zone) None → IsFirstOffset zone offset → offset ≡ zone_offset zone t
+  none_is t offset h first = first.1.is ∙ before_all_is t first.1.observance (record {
     place = first.1.place;
     first = first.0;
     onset = first.1.onset;
     before = h first.1.place first.0 first.1.observance (slice_get_within zone first.1.place first.1.observance first.1.onset.0) first.1.onset;
     least = λ i s p g. first.1.least i s p (slice_get_within zone i p g.0) g;
   })
-  none_is t offset (Some f) h same first = absurd (cc)
 
   -- each offset of the zone is one of its observances
   pub offsets_found : (offsets : List ℤ) → HaveOffsets offsets zone → (t : ℤ) → Contains offsets (zone_offset zone t)

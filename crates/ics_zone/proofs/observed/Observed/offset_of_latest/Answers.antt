@@ -16,8 +16,8 @@ returns-in-Some c =
     let fits : SFits w64 c.args.moment = c.ranges.moment in
     let known = rw c.self.view_is at c.self.invariant in
     let found = rw c.deref.ensures.value at (simp to_z-of_z at c.latest_of.ensures) in
-    let value = latest_is c.args.self.now known.some c.args.moment c.latest_of.result (found (observances_said c.args.self.now) known.asked)
-    c.in-Some.latest c.in-Some.is in
+    let value = latest_is c.args.self.now known.some c.args.moment c.in-Some.latest
+    (rw c.in-Some.is at (found (observances_said c.args.self.now) known.asked)) in
     rw (to_z-of_z w32 c.in-Some.latest.offset (search rules), value)
     (record { means = is_offset c.args.self.now known.some c.args.moment; value = refl })
 
@@ -27,7 +27,7 @@ returns-in-None c =
     let known = rw c.self.view_is at c.self.invariant in
     let found = rw c.deref.ensures.value at (simp to_z-of_z at c.latest_of.ensures) in
     let first = rw c.deref-in-None.ensures.value at c.first_offset.ensures in
-    let value = none_is c.args.self.now known.some c.args.moment c.first_offset.result c.latest_of.result
-    (found (observances_said c.args.self.now) known.asked) c.in-None.is (first (observances_said c.args.self.now) known.asked) in
+    let value = none_is c.args.self.now known.some c.args.moment c.first_offset.result
+    (rw c.in-None.is at (found (observances_said c.args.self.now) known.asked)) (first (observances_said c.args.self.now) known.asked) in
     rw (to_z-of_z w32 c.first_offset.result (search rules), value)
     (record { means = is_offset c.args.self.now known.some c.args.moment; value = refl })
