@@ -141,11 +141,7 @@ module _ (zone : List ObservanceSaid) (list : List Onsets) (all : AreOnsetsOfAll
             this_one its (λ i s p l h early. let out = before i s p l h early in omega (arith, ints, out, in_window, begun)),
             omega (arith, ints, in_window, begun),
           )
-      within_some {e = e} {new = new} (Some f) begun before is its in_window = (latest_some (Some f) before.0 is its, later_in is)
-        where
-          later_in : ((new ≡ e) × (f.at ≤ℤ e.at)) ⊎ ((new ≡ f) × (e.at <ℤ f.at)) → after <ℤ new.at
-          later_in (inl w) = rw (w.0) (let a = before.1 in let b = w.1 in omega (arith, ints, a, b))
-          later_in (inr w) = rw (w.0) before.1
+      within_some (Some f) begun before is its in_window = (latest_some (Some f) before.0 is its, let late = before.1 in grind (arith, ints))
 
   pub between_more : (after next new : ℤ) → new ≤ℤ next → ((t : ℤ) → Has o t → after <ℤ t → new ≤ℤ t) → NoneBetweenTo zone k after next
       → NoneBetweenTo zone (k + 1) after new
