@@ -46,9 +46,6 @@ within_is {zone = zone} {t = t} {count = count} after e h = (subst (λ x. IsLate
 not_later_by : (s t : ℤ) (i j : ℕ) → s ≤ℤ t → i ≤ j → IsNotLater s i t j
 not_later_by s t i j l h = grind (arith, ints, less_or_not_z)
 
-not_later_is : (s t : ℤ) (i j : ℕ) → IsNotLater s i t j → s ≤ℤ t
-not_later_is s t i j l = grind (arith, ints)
-
 -- the last onset of the observance at a place that is not after an instant, with that place and the offset after it
 pub record IsLastOnset (k : ℕ) (o : Onsets) (t : ℤ) (e : Latest) : Type 0 where
   pub place : e.place ≡ k
@@ -115,8 +112,7 @@ module _ (zone : List ObservanceSaid) (list : List Onsets) (all : AreOnsetsOfAll
         rw is (this_one its (λ i s p l h early. absurd (let late = before i s p l h in omega (arith, ints, late, early))))
     latest_some (Some f) before (inl is) its =
         let no_later = is.1 in
-        rw (is.0) (this_one its (λ i s p l h early.
-        let low = not_later_is s f.at i f.place (before.greatest i s p l h early) in omega (arith, ints, low, no_later)))
+        rw (is.0) (this_one its (λ i s p l h early. let low = before.greatest i s p l h early in grind (arith, ints)))
     latest_some (Some f) before (inr is) its =
         let later = is.1 in
         rw (is.0) (wider before (λ s contains early. inl (let low = its.last.last s contains early in omega (arith, ints, low, later))))
@@ -184,7 +180,7 @@ module _ (zone : List ObservanceSaid) (list : List Onsets) (all : AreOnsetsOfAll
       observance = observance_here.0;
       onset = (observance_here.1, onsets_here.known at is);
       least = λ i s p l h. split i s p h l
-          (λ early. inl (let low = not_later_is first s before.place i (before.least i s p early h) in omega (arith, ints, low, less)))
+          (λ early. inl (let low = before.least i s p early h in grind (arith, ints)))
           (λ of contains same. not_later_by at s k i (least s contains) (omega (arith, same)));
       is = from ∙ onsets_here.from;
     }
