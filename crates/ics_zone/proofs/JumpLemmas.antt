@@ -1,5 +1,5 @@
 -- The offset in force, and the instant at which a clock jumps over a local.
-use Rattle.std.proofs.Common.{◌≡◌, ◌≢◌, ℕ, ◌<◌, ◌⊎◌, inl, inr, Bool, true, false, cond, refl, sym, ◌∙◌, subst, arith, List, [], ◌∷◌, ◌++◌, length}
+use Rattle.std.proofs.Common.{◌≡◌, ◌≢◌, ℕ, ◌<◌, ◌⊎◌, inl, inr, Bool, true, false, cond, refl, sym, ◌∙◌, arith, List, [], ◌∷◌, ◌++◌, length}
 use Rattle.std.proofs.Common.{Some, None, All, Contains, ℤ, pos, ◌+ℤ◌, ◌-ℤ◌, ◌<ℤ◌, ◌≤ℤ◌}
 use Rattle.std.proofs.lemmas.Int.{ints}
 use Rattle.std.specs.List.Sorted.{IsPermutation}
@@ -65,11 +65,10 @@ module _ (observances : List Observance) (some : 0 < length (observances_said ob
 
   -- each offset of the zone is one of its observances
   pub offsets_found : (offsets : List ℤ) → HaveOffsets offsets zone → (t : ℤ) → Contains offsets (zone_offset zone t)
-  offsets_found offsets have t = by (is_offset t)
-    where
-      by : IsOffset zone t (zone_offset zone t) → Contains offsets (zone_offset zone t)
-      by (inl h) = subst (Contains offsets) (sym h.2) (have h.1.place h.0 h.1.onset.0).to
-      by (inr h) = subst (Contains offsets) (sym h.2) (have h.1.place h.0 h.1.onset.0).from
+  offsets_found offsets have t = elim (is_offset t) [
+    | inl h ↦ rw (h.2) (have h.1.place h.0 h.1.onset.0).to
+    | inr h ↦ rw (h.2) (have h.1.place h.0 h.1.onset.0).from
+  ]
 
   -- an offset holds from its onset on
   holds_since : (s : ℤ) (p : ObservanceSaid) (f : IsInForce zone s p) (t : ℤ) → f.since ≤ℤ t → t ≤ℤ s → p.offset_to ≡ zone_offset zone t
@@ -92,20 +91,17 @@ module _ (observances : List Observance) (some : 0 < length (observances_said ob
 
   -- where a greater onset overrides all those of the observances with an offset, the zone has another
   pub overridden_other : (t offset : ℤ) → IsOverridden zone t offset → zone_offset zone t ≢ offset
-  overridden_other t offset over e = by (is_offset t)
-    where
-      by : IsOffset zone t (zone_offset zone t) → ⊥
-      by (inl h) =
-          let f = h.1 in
-          let not_later = f.greatest over.place over.at over.observance over.onset over.not_after in
-          let less = over.greater f.place f.since h.0 f.onset (sym h.2 ∙ e) f.not_after in
-          grind (arith, ints)
-      by (inr h) =
-          let f = h.1 in
-          let late = f.before in
-          let early = over.not_after in
-          let least = f.least over.place over.at over.observance over.onset in
-          grind (arith, ints)
+  overridden_other t offset over e = elim (is_offset t) [
+    | inl h ↦ (
+        let not_later = h.1.greatest over.place over.at over.observance over.onset over.not_after in
+        let less = over.greater h.1.place h.1.since h.0 h.1.onset (sym h.2 ∙ e) h.1.not_after in
+        grind (arith, ints))
+    | inr h ↦ (
+        let late = h.1.before in
+        let early = over.not_after in
+        let least = h.1.least over.place over.at over.observance over.onset in
+        grind (arith, ints))
+  ]
 
   greater_at : (t : ℤ) (i j : ℕ) → i < j → IsNotLater t j t i → ⊥
   greater_at t i j less later = grind (arith, ints)
