@@ -1,5 +1,5 @@
 -- What is still to come of a listing under each day: from day to day, and from its beginning.
-use Rattle.std.specs.Prelude.{◌<ℤ◌, ◌≤ℤ◌, ◌&&◌, int_lt, Result, Ok, Err, OnErr}
+use Rattle.std.specs.Prelude.{◌<ℤ◌, ◌≤ℤ◌, ◌&&◌, int_lt, unsigned_abs, Result, Ok, Err, OnErr}
 use Rattle.std.specs.List.{filter}
 use Rattle.std.specs.Ordering.{int_eq, is_lt}
 use Rattle.std.proofs.Common.{◌≡◌, ℕ, zero, suc, ℤ, pos, ◌+ℤ◌, ◌-ℤ◌, List, [], ◌∷◌, ◌++◌, map, Option, Some, None, ◌⊎◌, inl, inr, ⊎_elim, Bool, true, false}
@@ -8,7 +8,7 @@ use Rattle.std.proofs.lemmas.Int.{ints}
 use Rattle.std.proofs.lemmas.Bool.{and_from, or_cases, or_left, or_right, and_parts}
 use Rattle.ics_event.specs.Event.{FileSaid}
 use Rattle.ics_zone.specs.Seconds.{IsNear}
-use Rattle.ics_zone.proofs.Cases.{int_lt_true, true_int_lt}
+use Rattle.ics_zone.proofs.Cases.{int_lt_true, less_or_not_z, true_int_lt}
 use Rattle.ics_series.specs.declared.window.Window.{Window}
 use Rattle.ics_series.specs.After.{is_after}
 use Rattle.ics_series.specs.Ahead.{is_today, today, IsAheadOf, IsLater}
@@ -23,8 +23,8 @@ use Rattle.ics_series.proofs.Cases.{equal-true, true-equal}
 use Rattle.ics_series.proofs.PickLemmas.{listing-filter}
 use Rattle.ics_series.proofs.ListingLemmas.{one-listing}
 use Rattle.ics_series.proofs.NearDayLemmas.{meets-near, near-first, near-last, occurs-forward}
-use Rattle.ics_series.proofs.OnDayLemmas.{day-first, joined, on_day_total, shown-today, today-listing, today-shown}
-use Rattle.ics_series.proofs.ToComeLemmas.{come-listed, lt-Less}
+use Rattle.ics_series.proofs.OnDayLemmas.{day-first, joined, none-listed, on_day_total, shown-today, today-listing, today-shown}
+use Rattle.ics_series.proofs.ToComeLemmas.{after-come, come-after, come-listed}
 
 -- an occurrence of the folder under this day
 abbrev IsUnder : List FileSaid → Clock → Window → ℤ → OnDay → Type 0
@@ -63,14 +63,8 @@ module _ (files : List FileSaid) (display : Clock) (near : (t : ℤ) → IsNear 
       (λ p q a b. let d = a.1 in let l = b.later in day-first p q (omega (arith, ints, d, l)))
       (λ p m. ⊎_elim (λ a. let d = a.1 in record { shown = a.0; later = omega (arith, ints, d, e) }) (λ b. let l = b.later in
       record { shown = b.shown; later = omega (arith, ints, l, e) }) m)
-      (λ p l. by p l (int_eq p.day next) refl)
-    where
-      by : (p : OnDay) → IsLater files display w day p → (b : Bool) → int_eq p.day next ≡ b → IsUnder files display w next p ⊎ IsLater files display w next p
-      by p l true t = inl (l.shown, equal-true p.day next t)
-      by p l false t = let later = l.later in inr (record { shown = l.shown; later = past p later t })
-        where
-          past : (p : OnDay) → day <ℤ p.day → int_eq p.day next ≡ false → next <ℤ p.day
-          past p later t = grind (arith, ints, e)
+      (λ p b. let l = b.later in
+      ⊎_elim (λ k. inr (record { shown = b.shown; later = k })) (λ k. inl (b.shown, omega (arith, ints, k, l, e))) (less_or_not_z next p.day))
 
   -- a later day's are those of the days behind
   later-behind : (day next : ℤ) → next ≡ day +ℤ pos 1 → (later : List OnDay) → IsListing on_day_cmp (IsLater files display w day) later
@@ -98,10 +92,8 @@ module _ (files : List FileSaid) (display : Clock) (near : (t : ℤ) → IsNear 
 
   -- past the last day nothing is to come
   none-later : (day : ℤ) → last_near w ≤ℤ day → IsListing on_day_cmp (IsLater files display w day) []
-  none-later day h = record {
-    rises = tt;
-    exact = λ p. (λ m. absurd m, λ l. let later = l.later in let last = shown-last p l.shown in absurd (omega (arith, ints, h, later, last)));
-  }
+  none-later day h =
+      none-listed on_day_cmp (λ p l. let later = l.later in let last = shown-last p l.shown in omega (arith, ints, h, later, last))
 
   pub ahead-ended : (day : ℤ) → last_near w ≤ℤ day → (none : List Entry) → none ≡ [] → (list : List OnDay) → IsAheadOf files display w day none list → list ≡ []
   ahead-ended day h none empty list a =
@@ -118,17 +110,9 @@ module _ (files : List FileSaid) (display : Clock) (near : (t : ℤ) → IsNear 
         next-day refl (of-day (day +ℤ pos 1) w (λ p q. q.0.listed.1) xs l) rest.1,
       )
 
-  -- as many days on as there are
-  days-on : (a b : ℤ) → (n : ℕ) × (b ≤ℤ (a +ℤ pos n))
-  days-on a b = by (b -ℤ a) refl
-    where
-      by : (d : ℤ) → b -ℤ a ≡ d → (n : ℕ) × (b ≤ℤ (a +ℤ pos n))
-      by (pos n) e = (n, omega (arith, ints, e))
-      by d e = (0, omega (arith, ints, e))
-
   pub later-than : (xs : List Entry) → IsListing entry_cmp (IsListed files display w) xs → (day : ℤ) →
       (later : List OnDay) × IsListing on_day_cmp (IsLater files display w day) later
-  later-than xs l day = let on = days-on day (last_near w) in some-later xs l on.0 day on.1
+  later-than xs l day = some-later xs l (unsigned_abs (last_near w -ℤ day)) day (omega (arith, ints))
 
   -- Where a listing begins: at a day, and there behind a key.
   module _ (after : Option DayRank) (day : ℤ) (key : Option Rank) (begins : Begins w after day key) where
@@ -136,31 +120,21 @@ module _ (files : List FileSaid) (display : Clock) (near : (t : ℤ) → IsNear 
     abbrev IsBegun : OnDay → Type 0
     IsBegun p = IsUnder files display w day p × (is_after key p.entry ≡ true)
 
-    after-come : (n : Window) (k : Option Rank) (o : Entry) → IsToCome files display n k o → is_after k o ≡ true
-    after-come n None o p = refl
-    after-come n (Some k) o p = ap is_lt p.1
-
-    come-after : (n : Window) (k : Option Rank) (o : Entry) → IsListed files display n o → is_after k o ≡ true → IsToCome files display n k o
-    come-after n None o p t = p
-    come-after n (Some k) o p t = (p, lt-Less (rank_cmp k (rank_of o)) t)
-
     begun-listing : (n : Window) → IsNearDay w day n → (coming : List Entry) → IsListing entry_cmp (IsToCome files display n key) coming
         → IsListing on_day_cmp IsBegun (today display w day coming)
     begun-listing n near-day coming l =
         today-listing files display near w day IsBegun l
-        (λ o p t. ((today-shown files display near w day o (come-listed files display n key o p).0 t, refl), after-come n key o p))
+        (λ o p t. ((today-shown files display near w day o (come-listed files display n key o p).0 t, refl), after-come files display n key o p))
         (λ p q. (
           q.0.1,
-          come-after n key p.entry (q.0.0.listed.0, shown-near p n q.0.0 (subst (λ d. IsNearDay w d n) (sym q.0.1) near-day)) q.1,
+          come-after files display n key p.entry (q.0.0.listed.0, shown-near p n q.0.0 (subst (λ d. IsNearDay w d n) (sym q.0.1) near-day)) q.1,
           subst (λ d. is_today display w d p.entry ≡ true) q.0.1 (shown-today files display near w p q.0.0),
         ))
 
     -- past the last day there is nothing
     begun-past : last_near w <ℤ day → (coming : List Entry) → coming ≡ [] → IsListing on_day_cmp IsBegun (today display w day coming)
-    begun-past past coming none = subst (λ (xs : List Entry). IsListing on_day_cmp IsBegun (today display w day xs)) (sym none) (record {
-      rises = tt;
-      exact = λ p. (λ m. absurd m, λ q. let on = q.0.1 in let last = shown-last p q.0.0 in absurd (omega (arith, ints, past, on, last)));
-    })
+    begun-past past coming none = subst (λ (xs : List Entry). IsListing on_day_cmp IsBegun (today display w day xs)) (sym none)
+        (none-listed on_day_cmp (λ p q. let on = q.0.1 in let last = shown-last p q.0.0 in omega (arith, ints, past, on, last)))
 
     -- what comes after the key of a day
     abbrev IsCome : OnDay → Type 0

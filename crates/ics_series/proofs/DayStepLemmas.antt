@@ -5,7 +5,9 @@ use Rattle.std.specs.Option.{option_map}
 use Rattle.std.proofs.Common.{◌≡◌, ℕ, zero, suc, ◌+◌, ◌≤◌, ℤ, pos, ◌+ℤ◌, ◌-ℤ◌, List, [], ◌∷◌, ◌++◌, map, ◌⊎◌, inl, inr, ⊎_elim, Option, Some, None, refl, sym}
 use Rattle.std.proofs.Common.{ap, subst, arith}
 use Rattle.std.proofs.lemmas.Int.{int_max_is, int_min_is, ints}
-use Rattle.std.proofs.lemmas.List.Sums.{sum_by-cons}
+use Rattle.std.proofs.lemmas.List.Elements.{All-contains, All-from_recursion}
+use Rattle.std.proofs.lemmas.List.Sums.{sum_by-le}
+use Rattle.ics_zone.proofs.Cases.{less_or_not_z}
 use Rattle.ics_series.specs.declared.window.Window.{Window}
 use Rattle.ics_series.specs.OnDays.{DayRank, first_near, last_near, IsBehindKey, IsNearDay, on_day, OnDay}
 use Rattle.ics_series.specs.DaySteps.{day_and_start, masters_in, AreDayMasters, AreMasters, IsDayMaster, IsFromStart, IsNearAgenda, IsPastAgenda, Scope}
@@ -17,8 +19,11 @@ use Rattle.ics_series.specs.PlacedEvents.{Placed}
 use Rattle.ics_series.specs.Rising.{Rises}
 use Rattle.ics_series.specs.Sources.{master_of, recurring, uid_cmp, IsFrom, Recurring, Source}
 use Rattle.ics_series.specs.Steps.{HasStepBound}
+use Rattle.ics_series.proofs.Cases.{here-or-later}
+use Rattle.ics_series.proofs.HoldingLaws.{sum_by-map}
 use Rattle.ics_series.proofs.NearDayLemmas.{day-under}
 use Rattle.ics_series.proofs.MasterSumLemmas.{day-masters, searched-masters, sum-of-masters}
+use Rattle.ics_series.proofs.SortLemmas.{contains-in}
 use Rattle.ics_fields.specs.Locals.{day_of_local}
 
 -- a bound with nothing to come is one whatever is to come
@@ -26,18 +31,6 @@ wider : (m : Recurring) (coming : List Entry) (most : ℕ) → HasStepBound m []
 wider m coming most h = λ rule has.
     let p = h rule has in
     record { a = p.a; from = p.from; b = p.b; to = ⊎_elim inl (λ o. absurd o.stands) p.to; count = p.count }
-
-each-in : {A : Type 0} (P : A → Type 0) (x : A) (xs : List A) → AllByRecursion P xs → IsIn x xs → P x
-each-in P x [] h k = absurd k
-each-in P x (y ∷ ys) h k = ⊎_elim (λ e. subst P (sym e) h.0) (λ m. each-in P x ys h.1 m) k
-
-as-sum : (f : Master → ℕ) (ms : List Recurring) → sum_by (λ m. f (master_of m)) ms ≡ sum_by f (map master_of ms)
-as-sum f [] = refl
-as-sum f (m ∷ ms) = omega (arith, sum_by-cons (λ n. f (master_of n)) m ms, sum_by-cons f (master_of m) (map master_of ms), as-sum f ms)
-
-sum-none : (ms : List Master) → sum_by (λ m. 0) ms ≡ 0
-sum-none [] = refl
-sum-none (m ∷ ms) = omega (arith, sum_by-cons (λ n. 0) m ms, sum-none ms)
 
 -- past the last day the window holds nothing near one
 none-near : (w : Window) (day : ℤ) (n : Window) → last_near w <ℤ day → IsNearDay w day n → ⊥
@@ -57,7 +50,8 @@ module _ (s : Scope) (day : ℤ) (sources : List Source) (are : AreDayMasters s 
     (masters : List Placed) (all : AreMasters s masters) where
   bound-of : (most : Master → ℕ) → AreDayBounds s masters day most → (m : Recurring) → IsIn m (recurring sources) → HasStepBound m coming (most (master_of m))
   bound-of most bounds m k =
-      let of = each-in (IsDayMaster s day) m (recurring sources) are k in
+      let of = All-contains (IsDayMaster s day) (recurring sources) m (All-from_recursion (IsDayMaster s day) (recurring sources) are)
+      (contains-in m (recurring sources) k) in
       let near = bounds of.by ((all.exact of.by).1 of.is) m of.searched in
       wider m coming (most (master_of m)) (subst (λ (x : Master). HasStepBound m [] (most x)) (sym of.searched.same) near)
 
@@ -65,37 +59,24 @@ module _ (s : Scope) (day : ℤ) (sources : List Source) (are : AreDayMasters s 
   day-most most bounds =
       let own = few (λ m. most (master_of m)) (bound-of most bounds) in
       let within = sum-of-masters s.files s.display most (recurring sources) masters rise (day-masters s day (recurring sources) are) all in
-      omega (arith, own, as-sum most (recurring sources), within)
+      omega (arith, own, sum_by-map most master_of (recurring sources), within)
 
   none-past : last_near s.window <ℤ day → steps ≤ 0
   none-past past =
       let none = day-most (λ m. 0) (λ p k m searched. absurd (none-near s.window day m.window past searched.near)) in
-      omega (arith, none, sum-none (masters_in s masters))
+      omega (arith, none, sum_by-le (λ m. 0) 0 (masters_in s masters) (λ k d l. omega arith))
 
 sum-more : (f : ℤ → ℕ) (day : ℤ) (n : ℕ) → sum_days f day (suc n) ≡ sum_days f day n + f (day +ℤ pos n)
 unfolding sum_days
 sum-more f day n = refl
 
 sum-grows : (f : ℤ → ℕ) (day : ℤ) (n m : ℕ) → n ≤ m → sum_days f day n ≤ sum_days f day m
-sum-grows f day n zero l = omega (arith, ap (sum_days f day) (none n l))
-  where
-    none : (n : ℕ) → n ≤ 0 → n ≡ 0
-    none n l = omega arith
+sum-grows f day n zero l = let none : n ≡ 0 = omega (arith, l) in omega (arith, ap (sum_days f day) none)
 sum-grows f day n (suc m) l =
     ⊎_elim
-    (λ low. omega (arith, sum-grows f day n m low, sum-more f day m))
     (λ last. omega (arith, ap (sum_days f day) last))
-    (either n m l)
-  where
-    either : (n m : ℕ) → n ≤ suc m → (n ≤ m) ⊎ (n ≡ suc m)
-    either n m l = grind arith
-
--- as many days as there are from one to another
-days-between : (a b : ℤ) → a ≤ℤ b → (a +ℤ pos (unsigned_abs (b -ℤ a))) ≡ b
-days-between a b l = omega (arith, ints, l)
-
-sides : (a b : ℤ) → (a ≤ℤ b) ⊎ (b <ℤ a)
-sides a b = grind (arith, ints)
+    (λ low. omega (arith, sum-grows f day n m (omega (arith, low)), sum-more f day m))
+    (here-or-later n (suc m) l)
 
 module _ (s : Scope) (day : ℤ) (looked : ℕ) (before : IsLookedBefore s day looked) (begun : begin_day s.window s.after ≤ℤ day)
     (sources : List Source) (are : AreDayMasters s day sources) (rise : Rises uid_cmp (recurring sources))
@@ -109,7 +90,7 @@ module _ (s : Scope) (day : ℤ) (looked : ℕ) (before : IsLookedBefore s day l
       let first = begin_day s.window s.after in
       let k = unsigned_abs (day -ℤ begin_day s.window s.after) in
       let f = λ (d : ℤ). sum_by (most d) (masters_in s masters) in
-      let is : (begin_day s.window s.after +ℤ pos (unsigned_abs (day -ℤ begin_day s.window s.after))) ≡ day = days-between first day begun in
+      let is : (begin_day s.window s.after +ℤ pos (unsigned_abs (day -ℤ begin_day s.window s.after))) ≡ day = omega (arith, ints, begun) in
       let so-far = before masters most k all bounds is in
       let today = day-most s day sources are rise coming steps few masters all (most day) (bounds day) in
       let same = ap (λ (d : ℤ). sum_by (most d) (masters_in s masters)) is in
@@ -127,9 +108,9 @@ module _ (s : Scope) (day : ℤ) (looked : ℕ) (before : IsLookedBefore s day l
       → HasDaysBound s list bound → looked + steps ≤ bound
   steps-most past list reach h =
       ⊎_elim
-      (λ near. let low = reach near in omega (arith, with-day h.masters h.most h.days h.are h.each (omega (arith, ints, low, h.reach)), h.is))
       (λ far. omega (arith, past far, none-past s day sources are rise coming steps few h.masters h.are far))
-      (sides day (last_near s.window))
+      (λ near. let low = reach near in omega (arith, with-day h.masters h.most h.days h.are h.each (omega (arith, ints, low, h.reach)), h.is))
+      (less_or_not_z (last_near s.window) day)
 
 -- The first of what is to come stands under the day or a later one.
 pub first-day : (w : Window) {day : ℤ} (xs : List Entry) (later : List OnDay) {list : List OnDay} → list ≡ map (on_day day) xs ++ later

@@ -47,11 +47,7 @@ found-in xs x (Err i) s b h =
 
 -- One more instant.
 or-moved : (a b c : Bool) → ((a || (b || false)) || c) ≡ ((a || c) || b)
-or-moved true b c = refl
-or-moved false true true = refl
-or-moved false true false = refl
-or-moved false false true = refl
-or-moved false false false = refl
+or-moved a b c = grind arith
 
 later-false : (zones : FileZones) (w : Window) (time : Time) (t : ℤ) → t <ℤ w.to → is_past w time ≡ true → int_eq (instant (clocks_in zones) time) t ≡ false
 later-false zones w time t early past =

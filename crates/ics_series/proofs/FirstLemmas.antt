@@ -8,6 +8,7 @@ use Rattle.std.specs.Ordering.{int_cmp, int_eq, nat_cmp, is_gt, ordering_then, M
 use Rattle.std.specs.declared.cmp.Ordering.{Ordering}
 use Rattle.std.specs.declared.cmp.Ordering.TheVariants.{Less, Equal, Greater}
 use Rattle.std.proofs.lemmas.Cmp.{int_cmp_total, nat_cmp_total, on_total, then_total, tied_itself}
+use Rattle.std.proofs.lemmas.Bool.{cond_both}
 use Rattle.std.proofs.lemmas.Int.{ints}
 use Rattle.std.proofs.lemmas.List.Sorted.{IsPermutation-sym}
 use Rattle.ics_series.specs.declared.start.StartSource.{StartSource}
@@ -15,6 +16,7 @@ use Rattle.ics_series.specs.declared.start.StartSource.TheVariants.{Kept, Listed
 use Rattle.ics_series.specs.declared.start.Start.{Start}
 use Rattle.ics_series.specs.Found.{day_in, firsts_after, source_cmp, moment_cmp, part_of, place_in, start_cmp, AreFirsts}
 use Rattle.ics_series.specs.Listing.{IsIn}
+use Rattle.ics_series.specs.MergedLaws.{before-tied, before-trans}
 use Rattle.ics_series.specs.Rising.{IsBefore, Rises}
 use Rattle.ics_series.specs.Starts.{IsNotAfter}
 use Rattle.std.specs.Option.{option_eq}
@@ -73,11 +75,6 @@ climbs-moments (x ∷ xs) h = (up-to xs h.0, climbs-moments xs h.1)
     up-to [] k = tt
     up-to (y ∷ ys) k = (up-to-front (moment_cmp x y) (source_cmp x.source y.source) k.0, up-to ys k.1)
 
-before-by : (x y : Start) (zs : List Start) → ((z : Start) → moment_cmp y z ≡ Less → moment_cmp x z ≡ Less) → IsBefore moment_cmp y zs →
-    IsBefore moment_cmp x zs
-before-by x y [] f h = tt
-before-by x y (z ∷ zs) f h = (f z h.0, before-by x y zs f h.1)
-
 -- The instants rise.
 abbrev RisesAfter : Start → List Start → Type 0
 RisesAfter x zs = IsBefore moment_cmp x zs × Rises moment_cmp zs
@@ -85,17 +82,14 @@ RisesAfter x zs = IsBefore moment_cmp x zs × Rises moment_cmp zs
 rises-after : (x : Start) (xs : List Start) → IsUpTo moment_cmp x xs → Climbs moment_cmp xs → RisesAfter x (firsts_after (Some x.moment) xs)
 rises-after x [] u h = (tt, tt)
 rises-after x (y ∷ ys) u h =
-    by (int_eq x.moment y.moment) refl (rises-after y ys h.0 h.1)
-  where
-    by : (b : Bool) → int_eq x.moment y.moment ≡ b → RisesAfter y (firsts_after (Some y.moment) ys)
-        → RisesAfter x (cond b (firsts_after (Some y.moment) ys) (y ∷ firsts_after (Some y.moment) ys))
-    by true e h =
-        let same = equal-true x.moment y.moment e in
-        (before-by x y (firsts_after (Some y.moment) ys) (λ z l. ap (λ t. int_cmp t z.moment) same ∙ l) h.0, h.1)
-    by false e h =
-        let less : moment_cmp x y ≡ Less = ⊎_elim (λ same. let t = true-equal x.moment y.moment same in
-        absurd cc) (λ l. l) (int-up-to x.moment y.moment (moment_cmp x y) refl u.0) in
-        ((less, before-by x y (firsts_after (Some y.moment) ys) (λ z l. moment_total.trans x y z less l) h.0), h)
+    let rest = rises-after y ys h.0 h.1 in
+    let firsts = firsts_after (Some y.moment) ys in
+    cond_both (int_eq x.moment y.moment) firsts (y ∷ firsts) (RisesAfter x)
+    (λ e. (before-tied moment_cmp moment_total x y firsts (same-moment x y (equal-true x.moment y.moment e)) rest.0, rest.1))
+    (λ e.
+    let less : moment_cmp x y ≡ Less = ⊎_elim (λ same. let t = true-equal x.moment y.moment same in absurd cc) (λ l. l)
+    (int-up-to x.moment y.moment (moment_cmp x y) refl u.0) in
+    ((less, before-trans moment_cmp moment_total x y firsts less rest.0), rest))
 
 rises-firsts : (xs : List Start) → Climbs moment_cmp xs → Rises moment_cmp (firsts_after None xs)
 rises-firsts [] h = tt
@@ -104,12 +98,10 @@ rises-firsts (x ∷ xs) h = rises-after x xs h.0 h.1
 -- The members.
 firsts-in : (last : Option ℤ) (s : Start) (xs : List Start) → IsIn s (firsts_after last xs) → IsIn s xs
 firsts-in last s [] m = m
-firsts-in last s (x ∷ xs) m = by (option_eq int_eq last (Some x.moment)) (firsts-in (Some x.moment) s xs) m
-  where
-    by : (b : Bool) → (IsIn s (firsts_after (Some x.moment) xs) → IsIn s xs)
-        → IsIn s (cond b (firsts_after (Some x.moment) xs) (x ∷ firsts_after (Some x.moment) xs)) → IsIn s (x ∷ xs)
-    by true ih m = inr (ih m)
-    by false ih m = ⊎_elim inl (λ n. inr (ih n)) m
+firsts-in last s (x ∷ xs) m =
+    let firsts = firsts_after (Some x.moment) xs in
+    cond_both (option_eq int_eq last (Some x.moment)) firsts (x ∷ firsts) (λ zs. IsIn s zs → IsIn s (x ∷ xs))
+    (λ e m. inr (firsts-in (Some x.moment) s xs m)) (λ e m. ⊎_elim inl (λ n. inr (firsts-in (Some x.moment) s xs n)) m) m
 
 -- the list has a start at the same instant whose local is not later
 record HasFirst (zs : List Start) (x : Start) : Type 0 where
@@ -124,29 +116,25 @@ at-true (Some u) t e = ap Some (equal-true u t e)
 
 in-firsts : (last : Option ℤ) (s : Start) (xs : List Start) → Climbs start_cmp xs → IsIn s xs → (last ≡ Some s.moment) ⊎ HasFirst (firsts_after last xs) s
 in-firsts last s [] h m = absurd m
-in-firsts last s (x ∷ xs) h m = by (option_eq int_eq last (Some x.moment)) refl (in-firsts (Some x.moment) s xs h.1) m
-  where
-    by : (b : Bool) → option_eq int_eq last (Some x.moment) ≡ b
-        → (IsIn s xs → (Some x.moment ≡ Some s.moment) ⊎ HasFirst (firsts_after (Some x.moment) xs) s)
-        → IsIn s (x ∷ xs) → (last ≡ Some s.moment) ⊎ HasFirst (cond b (firsts_after (Some x.moment) xs) (x ∷ firsts_after (Some x.moment) xs)) s
-    by true e ih m =
-        let at = at-true last x.moment e in
-        ⊎_elim (λ same. inl (at ∙ ap (λ t. Some t.moment) (sym same)))
-        (λ n. ⊎_elim (λ f. inl (at ∙ f)) inr (ih n)) m
-    by false e ih m =
-        ⊎_elim
-        (λ is. inr (record {
-          first = x;
-          stands = inl refl;
-          same = ap (λ t. t.moment) (sym is);
-          earlier = ap (λ t. is_gt (start_cmp x t)) is
-              ∙ ap is_gt (tied_itself start_total x);
-        }))
-        (λ n. ⊎_elim
-        (λ f. inr (record { first = x; stands = inl refl; same = some-same x.moment s.moment f; earlier = up-to-in start_cmp x s xs h.0 n }))
-        (λ f. inr (record { first = f.first; stands = inr f.stands; same = f.same; earlier = f.earlier }))
-        (ih n))
-        m
+in-firsts last s (x ∷ xs) h m =
+    let firsts = firsts_after (Some x.moment) xs in
+    cond_both (option_eq int_eq last (Some x.moment)) firsts (x ∷ firsts) (λ zs. (last ≡ Some s.moment) ⊎ HasFirst zs s)
+    (λ e.
+    let at = at-true last x.moment e in
+    ⊎_elim (λ same. inl (at ∙ ap (λ t. Some t.moment) (sym same)))
+    (λ n. ⊎_elim (λ f. inl (at ∙ f)) inr (in-firsts (Some x.moment) s xs h.1 n)) m)
+    (λ e. inr (⊎_elim
+    (λ is. record {
+      first = x;
+      stands = inl refl;
+      same = ap (λ t. t.moment) (sym is);
+      earlier = ap (λ t. is_gt (start_cmp x t)) is ∙ ap is_gt (tied_itself start_total x);
+    })
+    (λ n. ⊎_elim
+    (λ f. record { first = x; stands = inl refl; same = some-same x.moment s.moment f; earlier = up-to-in start_cmp x s xs h.0 n })
+    (λ f. record { first = f.first; stands = inr f.stands; same = f.same; earlier = f.earlier })
+    (in-firsts (Some x.moment) s xs h.1 n))
+    m))
 
 in-all-firsts : (s : Start) (xs : List Start) → Climbs start_cmp xs → IsIn s xs → HasFirst (firsts_after None xs) s
 in-all-firsts s xs h m = ⊎_elim (λ f. let g : None ≡ Some s.moment = f in absurd cc) (λ k. k) (in-firsts None s xs h m)

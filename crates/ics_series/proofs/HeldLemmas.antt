@@ -10,11 +10,11 @@ use Rattle.ics_series.specs.Rising.{IsBefore, Rises}
 use Rattle.ics_series.specs.Merged.{by_order, put, union}
 use Rattle.ics_series.proofs.BeginsLemmas.{before-union}
 
-module _ {A : Type 0} (R : A → A → Ordering) (o : IsTotalOrder R) where
-  pub before-all : (x : A) (ys : List A) → ((y : A) → IsIn y ys → R x y ≡ Less) → IsBefore R x ys
-  before-all x [] f = tt
-  before-all x (y ∷ ys) f = (f y (inl refl), before-all x ys (λ z m. f z (inr m)))
+pub before-all : {A : Type 0} (R : A → A → Ordering) (x : A) (ys : List A) → ((y : A) → IsIn y ys → R x y ≡ Less) → IsBefore R x ys
+before-all R x [] f = tt
+before-all R x (y ∷ ys) f = (f y (inl refl), before-all R x ys (λ z m. f z (inr m)))
 
+module _ {A : Type 0} (R : A → A → Ordering) (o : IsTotalOrder R) where
   pub put-before : (x : A) (ys : List A) → IsBefore R x ys → put R x ys ≡ x ∷ ys
   put-before x [] h = refl
   put-before x (y ∷ ys) h = ap (λ c. by_order c (x ∷ y ∷ ys) (x ∷ ys) (y ∷ put R x ys)) h.0

@@ -1,9 +1,10 @@
 -- What the feeds of some masters hold together is at most what these masters may hold.
 use Rattle.std.specs.Prelude.{sum_by}
-use Rattle.std.specs.List.{flat_map}
-use Rattle.std.proofs.Common.{◌≡◌, ℕ, ◌+◌, ◌≤◌, ℤ, List, [], ◌∷◌, ◌++◌, cond, length, map, Option, Some, None, refl, ◌∙◌, ap, subst, arith}
+use Rattle.std.specs.List.{flat_map, sum}
+use Rattle.std.proofs.Common.{◌≡◌, ℕ, ◌+◌, ◌≤◌, ℤ, List, [], ◌∷◌, ◌++◌, cond, length, map, Option, Some, None, refl, sym, ◌∙◌, ap, subst, arith}
 use Rattle.std.proofs.lemmas.List.{length-append, length-map}
-use Rattle.std.proofs.lemmas.List.Sums.{sum_by-append, sum_by-cons}
+use Rattle.std.proofs.lemmas.List.Sums.{sum-map, sum_by-append, sum_by-cons}
+use Rattle.std.proofs.lemmas.Simd.{map-map}
 use Rattle.ics_event.specs.declared.event.Event.{Event}
 use Rattle.ics_series.specs.declared.occurrence.Occurrence.{Occurrence}
 use Rattle.ics_series.specs.declared.part.Part.{Part}
@@ -53,6 +54,9 @@ recurring-append (Of m ∷ xs) ys = ap (λ ms. m ∷ ms) (recurring-append xs ys
 pub sum-recurring : (f : Recurring → ℕ) (xs ys : List Source) → sum_by f (recurring (xs ++ ys)) ≡ sum_by f (recurring xs) + sum_by f (recurring ys)
 sum-recurring f xs ys = ap (sum_by f) (recurring-append xs ys) ∙ sum_by-append f (recurring xs) (recurring ys)
 
+pub sum_by-map : {A B : Type 0} (f : B → ℕ) (g : A → B) (xs : List A) → sum_by f (map g xs) ≡ sum_by (λ x. f (g x)) xs
+sum_by-map f g xs = sym (sum-map f (map g xs)) ∙ (ap sum (map-map f g xs) ∙ sum-map (λ x. f (g x)) xs)
+
 abbrev most_of : Recurring → ℕ
 most_of m = 2 + most_in_days m.clocks m.event
 
@@ -65,16 +69,6 @@ lead-few head (Singles s) = omega (arith, one-drawn head [], sum_by-cons once On
 lead-few head (Series s) =
     let m : Recurring = record { clocks = clocks_in s.value.zones; event = s.value.event.now; window = s.value.window; since = s.value.since } in
     omega (arith, one-drawn head (series_holds s.value), series-few s.value, sum_by-cons most_of m [])
-
-most-masters : (ms : List Recurring) → sum_by (λ x. 2 + most_in_days x.clocks x.event) (map master_of ms) ≡ sum_by most_of ms
-most-masters [] = refl
-most-masters (m ∷ ms) = omega (
-  arith,
-  sum_by-cons (λ (x : Master). 2 + most_in_days x.clocks x.event) (master_of m) (map master_of ms),
-  sum_by-cons most_of m
-      ms,
-  most-masters ms,
-)
 
 -- Leads, each with what is drawn of its part and the part.
 module _ {X : Type 0} (head : X → Option Occurrence) (part : X → Part) where
@@ -102,5 +96,5 @@ module _ {X : Type 0} (head : X → Option Occurrence) (part : X → Part) where
         one-drawn last (flat_map (λ x. listed (head x) (part_holds (part x))) xs),
         leads-few xs,
         apart.0,
-        most-masters (recurring (flat_map (λ x. part_sources (part x)) xs)),
+        sum_by-map (λ m. 2 + most_in_days m.clocks m.event) master_of (recurring (flat_map (λ x. part_sources (part x)) xs)),
       )

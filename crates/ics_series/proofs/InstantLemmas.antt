@@ -23,7 +23,7 @@ use Rattle.ics_zone.specs.ZoneBounds.{said_moment_near, said_offset_near}
 use Rattle.ics_zone.specs.JiffZones.{zone_of}
 use Rattle.ics_zone.specs.declared.display.Display.{Display}
 use Rattle.ics_series.specs.declared.zones.FileZones.{FileZones}
-use Rattle.ics_series.specs.Clocks.{Clock, Clocks, clock_at, clock_by, clocks_of, display_clock, instant, utc_clock, zone_clock}
+use Rattle.ics_series.specs.Clocks.{Clock, Clocks, clock_at, clock_by, display_clock, instant, utc_clock, zone_clock}
 use Rattle.ics_fields.specs.Locals.{local_seconds, whole_days}
 use Rattle.ics_series.specs.Finish.{end_by, seconds_by}
 use Rattle.ics_series.specs.FileZones.{clocks_in, EndsNear}
@@ -49,22 +49,14 @@ near-at [] (Some zone) = near-utc
 near-at (z ∷ zones) (Some zero) = near-zone z
 near-at (z ∷ zones) (Some (suc zone)) = near-at zones (Some zone)
 
-near-by : (display : Display) (zones : List ZoneKind) (index : Option ℕ) (s : Stamp) →
-    IsNearClock (clock_by (clocks_of (display_clock display) (map zone_said zones)) index s)
-near-by display zones index (Utc local) = near-utc
-near-by display zones index (Zoned local) = near-at zones index
-near-by display zones index _ = near-display display
-
 pub near-clock : (zones : FileZones) (index : Option ℕ) (s : Stamp) → IsNearClock (clock_by (clocks_in zones) index s)
-near-clock zones = near-by zones.display.now zones.zones.now
+near-clock zones index (Utc local) = near-utc
+near-clock zones index (Zoned local) = near-at zones.zones.now index
+near-clock zones index _ = near-display zones.display.now
 
 -- an instant lies less than two days from what its stamp writes
-near-written : (display : Display) (zones : List ZoneKind) (time : Time) →
-    IsNear (instant (clocks_of (display_clock display) (map zone_said zones)) time -ℤ stamp_seconds time.stamp)
-near-written display zones time = (near-by display zones time.zone time.stamp).moment (stamp_seconds time.stamp)
-
 pub instant-near : (zones : FileZones) (time : Time) → IsNear (instant (clocks_in zones) time -ℤ stamp_seconds time.stamp)
-instant-near zones = near-written zones.display.now zones.zones.now
+instant-near zones time = (near-clock zones time.zone time.stamp).moment (stamp_seconds time.stamp)
 
 pub near-moved : (f : ℤ → ℤ) (near : (x : ℤ) → IsNear (f x -ℤ x)) (r l : ℤ) → r ≡ f l → IsNear (r -ℤ l)
 near-moved f near r l e = subst (λ m. IsNear (m -ℤ l)) (sym e) (near l)
@@ -85,9 +77,6 @@ early-written (Floating local) h = omega (arith, ints, h.1, local.second_in)
 early-written (Utc local) h = omega (arith, ints, h.1, local.second_in)
 early-written (Zoned local) h = omega (arith, ints, h.1, local.second_in)
 
-max-turned : (a b : ℤ) → int_max a b ≡ int_max b a
-max-turned a b = omega (arith, ints, int_max_is a b, int_max_is b a)
-
 pub early : (zones : FileZones) (time : Time) → IsTime time → instant (clocks_in zones) time <ℤ pos 250_246_800_000
 early zones time h = omega (arith, ints, instant-near zones time, early-written time.stamp h.years)
 
@@ -104,7 +93,7 @@ until clocks first given end _ h = refl
 pub until-seconds : (clocks : Clocks) (first end : Time) (s : Stamp) → ((day : ℤ) → s ≡ Date day → ⊥)
     → int_max (instant clocks end -ℤ instant clocks first) (pos 0) ≡ seconds_by clocks first s (Until end)
 until-seconds clocks first end (Date day) h = absurd (h day refl)
-until-seconds clocks first end _ h = max-turned (instant clocks end -ℤ instant clocks first) (pos 0)
+until-seconds clocks first end _ h = omega (arith, ints, int_max_is)
 
 pub lasting-seconds : (clocks : Clocks) (first : Time) (duration : Duration) (s : Stamp) → ((day : ℤ) → s ≡ Date day → ⊥)
     → pos (duration.days * 86_400 + duration.seconds) ≡ seconds_by clocks first s (Lasting duration)

@@ -64,13 +64,23 @@ nothing-after (Some e) h = cc
 later : (a b : ℕ) → b < a → nat_cmp a b ≡ Greater
 later a b h = grind (arith, nat_tests)
 
+-- what leads hold, their lists, and what is still to come of these
+abbrev pub heads_of : {X : Type 0} → (X → Option Occurrence) → List X → List (Option Entry)
+heads_of head xs = map (λ x. option_map entry_of (head x)) xs
+
+abbrev pub lists_of : {X : Type 0} → (X → Option Occurrence) → (X → List Entry) → List X → List (List Entry)
+lists_of head rest xs = map (λ x. listed (head x) (rest x)) xs
+
+abbrev pub pasts_of : {X : Type 0} → (X → Option Occurrence) → (X → List Entry) → Option Occurrence → List X → List (List Entry)
+pasts_of head rest last xs = map (λ x. past last (listed (head x) (rest x))) xs
+
 -- no lead goes before this one, by what they hold
 abbrev pub GoesFirst : List (Option Entry) → ℕ → ℕ → Type 0
 GoesFirst heads leads first = (lead : ℕ) → lead < leads → is_gt (lead_cmp heads first lead) ≡ false
 
 -- leads, by what they hold and what is left behind it
 module _ {X : Type 0} (head : X → Option Occurrence) (rest : X → List Entry) (ahead : (x : X) → IsAhead (head x) (rest x)) where
-  headed : (xs : List X) (i : ℕ) → IsHeaded (get_or (map (λ x. option_map entry_of (head x)) xs) i None) (get_or (map (λ x. listed (head x) (rest x)) xs) i [])
+  headed : (xs : List X) (i : ℕ) → IsHeaded (get_or (heads_of head xs) i None) (get_or (lists_of head rest xs) i [])
   headed [] i = refl
   headed (x ∷ xs) zero = headed-one (head x) (rest x) (ahead x)
   headed (x ∷ xs) (suc i) = headed xs i
@@ -79,7 +89,7 @@ module _ {X : Type 0} (head : X → Option Occurrence) (rest : X → List Entry)
   rises-listed None es a r = r
   rises-listed (Some o) es a r = (a, r)
 
-  all_rise : ((x : X) → Rises entry_cmp (rest x)) → (xs : List X) → AllRise entry_cmp (map (λ x. listed (head x) (rest x)) xs)
+  all_rise : ((x : X) → Rises entry_cmp (rest x)) → (xs : List X) → AllRise entry_cmp (lists_of head rest xs)
   all_rise r [] = tt
   all_rise r (x ∷ xs) = (rises-listed (head x) (rest x) (ahead x) (r x), all_rise r xs)
 
@@ -89,42 +99,41 @@ module _ {X : Type 0} (head : X → Option Occurrence) (rest : X → List Entry)
   past-nothing (Some p) None es a e = ap (cut entry_cmp (entry_of p)) (no-list es a)
   past-nothing last (Some o) es a e = cc
 
-  merged-nothing : (last : Option Occurrence) (xs : List X) → ((i : ℕ) → get_or (map (λ x. option_map entry_of (head x)) xs) i None ≡ None)
-      → merged entry_cmp (map (λ x. past last (listed (head x) (rest x))) xs) ≡ []
+  merged-nothing : (last : Option Occurrence) (xs : List X) → ((i : ℕ) → get_or (heads_of head xs) i None ≡ None)
+      → merged entry_cmp (pasts_of head rest last xs) ≡ []
   merged-nothing last [] h = refl
   merged-nothing last (x ∷ xs) h =
-      ap (λ l. union entry_cmp l (merged entry_cmp (map (λ y. past last (listed (head y) (rest y))) xs))) (past-nothing last (head x) (rest x) (ahead x) (h 0))
+      ap (λ l. union entry_cmp l (merged entry_cmp (pasts_of head rest last xs))) (past-nothing last (head x) (rest x) (ahead x) (h 0))
       ∙ merged-nothing last xs (λ i. h (suc i))
 
-  module _ (xs : List X) (first : ℕ) (wins : GoesFirst (map (λ x. option_map entry_of (head x)) xs) (length xs) first) where
+  module _ (xs : List X) (first : ℕ) (wins : GoesFirst (heads_of head xs) (length xs) first) where
     -- where the first lead holds nothing, no lead does
-    pub nothing-comes : (last : Option Occurrence) → get_or (map (λ x. option_map entry_of (head x)) xs) first None ≡ None
-        → merged entry_cmp (map (λ x. past last (listed (head x) (rest x))) xs) ≡ []
+    pub nothing-comes : (last : Option Occurrence) → get_or (heads_of head xs) first None ≡ None
+        → merged entry_cmp (pasts_of head rest last xs) ≡ []
     nothing-comes last e = merged-nothing last xs (λ i. ⊎_elim (within i) (past_end i) (cases_lt i (length xs)))
       where
-        within : (i : ℕ) → i < length xs → get_or (map (λ x. option_map entry_of (head x)) xs) i None ≡ None
+        within : (i : ℕ) → i < length xs → get_or (heads_of head xs) i None ≡ None
         within i l =
-            nothing-after (get_or (map (λ x. option_map entry_of (head x)) xs) i None)
-            (subst (λ h. is_gt (head_cmp h (get_or (map (λ x. option_map entry_of (head x)) xs) i None)) ≡ false) e
-            (up-to-front (head_cmp (get_or (map (λ x. option_map entry_of (head x)) xs) first None)
-            (get_or (map (λ x. option_map entry_of (head x)) xs) i None)) (nat_cmp first i) (wins i l)))
+            nothing-after (get_or (heads_of head xs) i None)
+            (subst (λ h. is_gt (head_cmp h (get_or (heads_of head xs) i None)) ≡ false) e
+            (up-to-front (head_cmp (get_or (heads_of head xs) first None) (get_or (heads_of head xs) i None)) (nat_cmp first i) (wins i l)))
 
-        past_end : (i : ℕ) → length xs ≤ i → get_or (map (λ x. option_map entry_of (head x)) xs) i None ≡ None
-        past_end i l = get_or_past (map (λ x. option_map entry_of (head x)) xs) i None (omega (arith, length-map xs (λ x. option_map entry_of (head x))))
+        past_end : (i : ℕ) → length xs ≤ i → get_or (heads_of head xs) i None ≡ None
+        past_end i l = get_or_past (heads_of head xs) i None (omega (arith, length-map xs (λ x. option_map entry_of (head x))))
 
     -- the list of a lead, or none past the leads
-    at_lead : (i : ℕ) (P : List Entry → Type 0) → P [] → (i < length xs → P (get_or (map (λ x. listed (head x) (rest x)) xs) i [])) →
-        P (get_or (map (λ x. listed (head x) (rest x)) xs) i [])
+    at_lead : (i : ℕ) (P : List Entry → Type 0) → P [] → (i < length xs → P (get_or (lists_of head rest xs) i [])) →
+        P (get_or (lists_of head rest xs) i [])
     at_lead i P none some =
         ⊎_elim some
-        (λ l. subst P (sym (get_or_past (map (λ x. listed (head x) (rest x)) xs) i [] (omega (arith, length-map xs (λ x. listed (head x) (rest x)))))) none)
+        (λ l. subst P (sym (get_or_past (lists_of head rest xs) i [] (omega (arith, length-map xs (λ x. listed (head x) (rest x)))))) none)
         (cases_lt i (length xs))
 
-    begins-first : ((x : X) → Rises entry_cmp (rest x)) → (e : Entry) → get_or (map (λ x. option_map entry_of (head x)) xs) first None ≡ Some e
-        → Begins entry_cmp entry_total e (map (λ x. listed (head x) (rest x)) xs)
+    begins-first : ((x : X) → Rises entry_cmp (rest x)) → (e : Entry) → get_or (heads_of head xs) first None ≡ Some e
+        → Begins entry_cmp entry_total e (lists_of head rest xs)
     begins-first rises e is =
-        let heads : List (Option Entry) = map (λ x. option_map entry_of (head x)) xs in
-        let lists : List (List Entry) = map (λ x. listed (head x) (rest x)) xs in
+        let heads : List (Option Entry) = heads_of head xs in
+        let lists : List (List Entry) = lists_of head rest xs in
         let found : IsHeaded (Some e) (get_or lists first []) = subst (λ h. IsHeaded h (get_or lists first [])) is (headed xs first) in
         begins-at entry_cmp entry_total lists first (all_rise rises xs) found.1.0
         (λ i l. at_lead i (IsBefore entry_cmp e) tt (λ within.
@@ -137,10 +146,10 @@ module _ {X : Type 0} (head : X → Option Occurrence) (rest : X → List Entry)
         (up-to-front (head_cmp (get_or heads first None) (get_or heads i None)) (nat_cmp first i) (wins i within)))))
 
     -- what is not given comes after what was given last
-    fresh-after : ((x : X) → Rises entry_cmp (rest x)) → (p : Occurrence) (e : Entry) → get_or (map (λ x. option_map entry_of (head x)) xs) first None ≡ Some e
-        → is_given (Some p) (Some e) ≡ false → AllFront entry_cmp (entry_of p) (map (λ x. listed (head x) (rest x)) xs) → entry_cmp (entry_of p) e ≡ Less
+    fresh-after : ((x : X) → Rises entry_cmp (rest x)) → (p : Occurrence) (e : Entry) → get_or (heads_of head xs) first None ≡ Some e
+        → is_given (Some p) (Some e) ≡ false → AllFront entry_cmp (entry_of p) (lists_of head rest xs) → entry_cmp (entry_of p) e ≡ Less
     fresh-after rises p e is fresh follows =
-        let lists : List (List Entry) = map (λ x. listed (head x) (rest x)) xs in
+        let lists : List (List Entry) = lists_of head rest xs in
         let found : IsHeaded (Some e) (get_or lists first []) = subst (λ h. IsHeaded h (get_or lists first [])) is (headed xs first) in
         by found.0 (entry_cmp (entry_of p) e) refl fresh
         (subst (λ l. IsBefore entry_cmp (entry_of p) (cut entry_cmp (entry_of p) l)) found.1.0
@@ -152,40 +161,29 @@ module _ {X : Type 0} (head : X → Option Occurrence) (rest : X → List Entry)
         by rest Equal q n h = cc
         by rest Greater q n h = h.0
 
-    uncut-fresh : ((x : X) → Rises entry_cmp (rest x)) → (last : Option Occurrence) (e : Entry) →
-        get_or (map (λ x. option_map entry_of (head x)) xs) first None ≡ Some e
-        → is_given last (Some e) ≡ false → ComeAfter last (map (λ x. past last (listed (head x) (rest x))) xs)
-        → map (λ x. past last (listed (head x) (rest x))) xs ≡ map (λ x. listed (head x) (rest x)) xs
-    uncut-fresh rises None e is fresh follows = refl
-    uncut-fresh rises (Some p) e is fresh follows =
-        let lists : List (List Entry) = map (λ x. listed (head x) (rest x)) xs in
-        let one = map-map (cut entry_cmp (entry_of p)) (λ x. listed (head x) (rest x)) xs in
-        let less = fresh-after rises p e is fresh (subst (AllByRecursion (IsBefore entry_cmp (entry_of p))) (sym one) follows) in
-        sym one ∙ uncut entry_cmp entry_total (entry_of p) e lists less (begins-first rises e is).fronts
-
     -- where the first of all is not given, nothing of the lists was
     pub uncut-first : ((x : X) → Rises entry_cmp (rest x)) → (last : Option Occurrence) (o : Occurrence)
-        → get_or (map (λ x. option_map entry_of (head x)) xs) first None ≡ Some (entry_of o)
-        → is_given last (get_or (map (λ x. option_map entry_of (head x)) xs) first None) ≡ false
-        → ComeAfter last (map (λ x. past last (listed (head x) (rest x))) xs)
-        → map (λ x. past last (listed (head x) (rest x))) xs ≡ map (λ x. listed (head x) (rest x)) xs
-    uncut-first rises last o is fresh follows = uncut-fresh rises last (entry_of o) is (subst (λ h. is_given last h ≡ false) is fresh) follows
+        → get_or (heads_of head xs) first None ≡ Some (entry_of o) → is_given last (get_or (heads_of head xs) first None) ≡ false
+        → ComeAfter last (pasts_of head rest last xs) → pasts_of head rest last xs ≡ lists_of head rest xs
+    uncut-first rises None o is fresh follows = refl
+    uncut-first rises (Some p) o is fresh follows =
+        let one = map-map (cut entry_cmp (entry_of p)) (λ x. listed (head x) (rest x)) xs in
+        let less = fresh-after rises p (entry_of o) is (subst (λ h. is_given (Some p) h ≡ false) is fresh)
+        (subst (AllByRecursion (IsBefore entry_cmp (entry_of p))) (sym one) follows) in
+        sym one ∙ uncut entry_cmp entry_total (entry_of p) (entry_of o) (lists_of head rest xs) less (begins-first rises (entry_of o) is).fronts
 
     -- the first of all, where it is not given, comes next
     pub first-comes : ((x : X) → Rises entry_cmp (rest x)) → (last : Option Occurrence) (o : Occurrence)
-        → get_or (map (λ x. option_map entry_of (head x)) xs) first None ≡ Some (entry_of o)
-        → is_given last (get_or (map (λ x. option_map entry_of (head x)) xs) first None) ≡ false
-        → ComeAfter last (map (λ x. past last (listed (head x) (rest x))) xs)
-        → (merged entry_cmp (map (λ x. past last (listed (head x) (rest x))) xs) ≡ entry_of o
-        ∷ merged entry_cmp (map (λ x. past (Some o) (listed (head x) (rest x))) xs))
-        × ComeAfter (Some o) (map (λ x. past (Some o) (listed (head x) (rest x))) xs)
+        → get_or (heads_of head xs) first None ≡ Some (entry_of o) → is_given last (get_or (heads_of head xs) first None) ≡ false
+        → ComeAfter last (pasts_of head rest last xs)
+        → (merged entry_cmp (pasts_of head rest last xs) ≡ entry_of o ∷ merged entry_cmp (pasts_of head rest (Some o) xs))
+        × ComeAfter (Some o) (pasts_of head rest (Some o) xs)
     first-comes rises last o is fresh follows =
         let same = uncut-first rises last o is fresh follows in
         let b = begins-first rises (entry_of o) is in
         let one = map-map (cut entry_cmp (entry_of o)) (λ x. listed (head x) (rest x)) xs in (
           ap (merged entry_cmp) same ∙ (b.is ∙ ap (λ ls. entry_of o ∷ merged entry_cmp ls) one),
-          subst (AllByRecursion (IsBefore entry_cmp (entry_of o))) one
-              b.fronts,
+          subst (AllByRecursion (IsBefore entry_cmp (entry_of o))) one b.fronts,
         )
 
 -- drawing what is given leaves what is still to come
@@ -205,8 +203,8 @@ shorter-drawn _ _ rest g = cc
 
 -- no lead goes before the winner of all
 pub wins-leads : {X : Type 0} (head : X → Option Occurrence) (xs : List X) (winners : List ℕ) → length winners ≡ length xs
-    → AreSettled (map (λ x. option_map entry_of (head x)) xs) winners → GoesFirst (map (λ x. option_map entry_of (head x)) xs) (length xs) (winner winners 1)
-wins-leads head xs winners long settled = λ lead l. wins (map (λ x. option_map entry_of (head x)) xs) winners settled lead (omega arith)
+    → AreSettled (heads_of head xs) winners → GoesFirst (heads_of head xs) (length xs) (winner winners 1)
+wins-leads head xs winners long settled = λ lead l. wins (heads_of head xs) winners settled lead (omega arith)
 
 -- what a vector has after its elements were lent as a slice of the same length
 pub written-back : {X : Type 0} (before after : List X) (n : ℕ) → n ≡ length before → length after ≡ length before →
@@ -225,42 +223,41 @@ given-within last heads lead g =
 -- after a draw of a lead, whose value was old and is new
 module _ {X : Type 0} (head : X → Option Occurrence) (rest : X → List Entry) (xs : List X) (lead : ℕ) (old new : X) (read : old ≡ get_or xs lead old) where
   -- all winners stay right but for those above the lead
-  pub settled-drawn : (winners : List ℕ) → AreSettled (map (λ x. option_map entry_of (head x)) xs) winners
-      → AreSettledBut (above 1 (length winners + lead)) (map (λ x. option_map entry_of (head x)) (set xs lead new)) winners
+  pub settled-drawn : (winners : List ℕ) → AreSettled (heads_of head xs) winners
+      → AreSettledBut (above 1 (length winners + lead)) (heads_of head (set xs lead new)) winners
   settled-drawn winners settled =
-      settled_but (map (λ x. option_map entry_of (head x)) xs) (map (λ x. option_map entry_of (head x)) (set xs lead new)) winners lead
+      settled_but (heads_of head xs) (heads_of head (set xs lead new)) winners lead
       (λ j h. ap (λ hs. get_or hs j None) (map-set (λ x. option_map entry_of (head x)) xs lead new)
-      ∙ get_or-set_other (map (λ x. option_map entry_of (head x)) xs) lead j (option_map entry_of (head new)) None h)
+      ∙ get_or-set_other (heads_of head xs) lead j (option_map entry_of (head new)) None h)
       settled
 
-  pub given-read : (last : Option Occurrence) (first : ℕ) → lead ≡ first → is_given last (get_or (map (λ x. option_map entry_of (head x)) xs) first None) ≡ true
+  pub given-read : (last : Option Occurrence) (first : ℕ) → lead ≡ first → is_given last (get_or (heads_of head xs) first None) ≡ true
       → (lead < length xs) × (is_given last (option_map entry_of (head old)) ≡ true)
   given-read last first is g =
       let within : lead < length xs =
-      omega (arith, given-within last (map (λ x. option_map entry_of (head x)) xs) first g, length-map xs (λ x. option_map entry_of (head x))) in (
+      omega (arith, given-within last (heads_of head xs) first g, length-map xs (λ x. option_map entry_of (head x))) in (
         within,
         subst (λ h. is_given last h ≡ true)
-            (ap (λ i. get_or (map (λ x. option_map entry_of (head x)) xs) i None) (sym is)
+            (ap (λ i. get_or (heads_of head xs) i None) (sym is)
             ∙ (get_or-map (λ x. option_map entry_of (head x)) xs lead old None within ∙ sym (ap (λ x. option_map entry_of (head x)) read))) g,
       )
 
   to_come-set : (last : Option Occurrence) → past last (listed (head new) (rest new)) ≡ past last (listed (head old) (rest old))
-      → map (λ x. past last (listed (head x) (rest x))) (set xs lead new) ≡ map (λ x. past last (listed (head x) (rest x))) xs
+      → pasts_of head rest last (set xs lead new) ≡ pasts_of head rest last xs
   to_come-set last e = map-set_same (λ x. past last (listed (head x) (rest x))) xs lead new old (e ∙ ap (λ x. past last (listed (head x) (rest x))) read)
 
   -- where nothing was drawn
-  pub heads-kept : head new ≡ head old → map (λ x. option_map entry_of (head x)) (set xs lead new) ≡ map (λ x. option_map entry_of (head x)) xs
+  pub heads-kept : head new ≡ head old → heads_of head (set xs lead new) ≡ heads_of head xs
   heads-kept e = map-set_same (λ x. option_map entry_of (head x)) xs lead new old (ap (option_map entry_of) e ∙ ap (λ x. option_map entry_of (head x)) read)
 
   pub to_come-kept : (last : Option Occurrence) → head new ≡ head old → rest new ≡ rest old
-      → map (λ x. past last (listed (head x) (rest x))) (set xs lead new) ≡ map (λ x. past last (listed (head x) (rest x))) xs
+      → pasts_of head rest last (set xs lead new) ≡ pasts_of head rest last xs
   to_come-kept last e r = to_come-set last (ap (λ h. past last (listed h (rest new))) e ∙ ap (λ l. past last (listed (head old) l)) r)
 
   -- where the first lead has drawn, which held what was given
   module _ (drawn : listed (head new) (rest new) ≡ rest old) (last : Option Occurrence) (first : ℕ) (is : lead ≡ first)
-      (given : is_given last (get_or (map (λ x. option_map entry_of (head x)) xs) first None) ≡ true) where
-    pub to_come-drawn : IsAhead (head old) (rest old) → map (λ x. past last (listed (head x) (rest x))) (set xs lead new)
-        ≡ map (λ x. past last (listed (head x) (rest x))) xs
+      (given : is_given last (get_or (heads_of head xs) first None) ≡ true) where
+    pub to_come-drawn : IsAhead (head old) (rest old) → pasts_of head rest last (set xs lead new) ≡ pasts_of head rest last xs
     to_come-drawn ahead = to_come-set last (ap (past last) drawn ∙ past-drawn last (head old) (rest old) ahead (given-read last first is given).1)
 
     pub fewer-drawn : sum_by (λ x. length (listed (head x) (rest x))) (set xs lead new) < sum_by (λ x. length (listed (head x) (rest x))) xs

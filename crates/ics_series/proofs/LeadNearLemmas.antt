@@ -2,8 +2,9 @@
 use Rattle.std.specs.List.{flat_map, AllByRecursion}
 use Rattle.std.proofs.Common.{◌≡◌, ℕ, zero, suc, true, List, [], ◌∷◌, ◌++◌, get_or, set, map, inr, Option, Some, None, refl, sym, ◌∙◌, ap, subst}
 use Rattle.std.specs.Option.{option_map}
+use Rattle.std.proofs.lemmas.List.Elements.{All-from_recursion, All-push, All-set, All-weaker, recursion_from_All}
 use Rattle.std.specs.declared.cmp.Ordering.{Ordering}
-use Rattle.std.specs.declared.cmp.Ordering.TheVariants.{Less, Equal}
+use Rattle.std.specs.declared.cmp.Ordering.TheVariants.{Equal}
 use Rattle.ics_series.specs.declared.occurrence.Occurrence.{Occurrence}
 use Rattle.ics_series.specs.Entry.{Entry, entry_cmp, entry_of}
 use Rattle.ics_series.specs.EntryLaws.{entry_total}
@@ -12,19 +13,19 @@ use Rattle.ics_series.specs.Listing.{IsIn}
 use Rattle.ics_series.specs.Merged.{by_order, cut, merged}
 use Rattle.ics_series.specs.Rising.{IsBefore}
 use Rattle.ics_series.proofs.BeginsLemmas.{before-union}
-use Rattle.ics_series.proofs.LeadLemmas.{past-drawn}
+use Rattle.ics_series.proofs.LeadLemmas.{lists_of, past-drawn, pasts_of}
 use Rattle.ics_series.proofs.LeftLemmas.{member-cut}
 use Rattle.ics_series.proofs.ListingLemmas.{before-in}
 
--- what holds of all of a list, where one of it is set, or one more stands behind it
+-- what holds of all of a list, where one of it is set, or one more stands behind it, or it implies more
 pub all-set : {X : Type 0} (P : X → Type 0) (xs : List X) (i : ℕ) (x : X) → AllByRecursion P xs → P x → AllByRecursion P (set xs i x)
-all-set P [] i x h p = h
-all-set P (y ∷ ys) zero x h p = (p, h.1)
-all-set P (y ∷ ys) (suc i) x h p = (h.0, all-set P ys i x h.1 p)
+all-set P xs i x h p = recursion_from_All P (set xs i x) (All-set P xs i x p (All-from_recursion P xs h))
 
 pub all-pushed : {X : Type 0} (P : X → Type 0) (xs : List X) (x : X) → AllByRecursion P xs → P x → AllByRecursion P (xs ++ x ∷ [])
-all-pushed P [] x h p = (p, tt)
-all-pushed P (y ∷ ys) x h p = (h.0, all-pushed P ys x h.1 p)
+all-pushed P xs x h p = recursion_from_All P (xs ++ x ∷ []) (All-push P xs x (All-from_recursion P xs h) p)
+
+pub all-by : {X : Type 0} (P Q : X → Type 0) (xs : List X) → ((x : X) → P x → Q x) → AllByRecursion P xs → AllByRecursion Q xs
+all-by P Q xs f h = recursion_from_All Q xs (All-weaker P Q f xs (All-from_recursion P xs h))
 
 -- what each of a list gives, where one is set that gives the same as the old one
 pub flat-set : {X Y : Type 0} (f : X → List Y) (xs : List X) (i : ℕ) {old : X} (new : X) → old ≡ get_or xs i old → f new ≡ f old →
@@ -73,43 +74,35 @@ module _ {X : Type 0} (head : X → Option Occurrence) (rest : X → List Entry)
   same-head a b xs ys e = (cc, cc)
 
   -- where nothing of their lists was given
-  pub near-whole : (last : Option Occurrence) (xs : List X) → map (λ x. past last (listed (head x) (rest x))) xs ≡ map (λ x. listed (head x) (rest x)) xs →
-      AllByRecursion (IsLeadNear last) xs
-      → AllByRecursion (λ x. AreNear (N x) (listed (head x) (rest x))) xs
+  pub near-whole : (last : Option Occurrence) (xs : List X) → pasts_of head rest last xs ≡ lists_of head rest xs →
+      AllByRecursion (IsLeadNear last) xs → AllByRecursion (λ x. AreNear (N x) (listed (head x) (rest x))) xs
   near-whole last [] e h = tt
   near-whole last (x ∷ xs) e h =
-      let both = same-head (past last (listed (head x) (rest x))) (listed (head x) (rest x)) (map (λ y. past last (listed (head y) (rest y))) xs)
-      (map (λ y. listed (head y) (rest y)) xs) e in
+      let both = same-head (past last (listed (head x) (rest x))) (listed (head x) (rest x)) (pasts_of head rest last xs) (lists_of head rest xs) e in
       (λ o m. h.0 o (subst (IsIn o) (sym both.0) m), near-whole last xs both.1 h.1)
 
-  pub near-past : (last : Option Occurrence) (xs : List X) → AllByRecursion (λ x. AreNear (N x) (listed (head x) (rest x))) xs →
-      AllByRecursion (IsLeadNear last) xs
-  near-past last [] h = tt
-  near-past last (x ∷ xs) h = (λ o m. h.0 o (past-in last o (listed (head x) (rest x)) m), near-past last xs h.1)
+  abbrev IsNear : X → Type 0
+  IsNear x = AreNear (N x) (listed (head x) (rest x))
 
-  pub near-each : (o : Entry) (xs : List X) → AllByRecursion (λ x. AreNear (N x) (listed (head x) (rest x))) xs →
-      AllByRecursion (λ x. HasNear (N x) (listed (head x) (rest x)) o) xs
-  near-each o [] h = tt
-  near-each o (x ∷ xs) h = (h.0 o, near-each o xs h.1)
+  abbrev IsNearAt : Entry → X → Type 0
+  IsNearAt o x = HasNear (N x) (listed (head x) (rest x)) o
+
+  pub near-past : (last : Option Occurrence) (xs : List X) → AllByRecursion IsNear xs → AllByRecursion (IsLeadNear last) xs
+  near-past last xs = all-by IsNear (IsLeadNear last) xs (λ x h o m. h o (past-in last o (listed (head x) (rest x)) m))
+
+  pub near-each : (o : Entry) (xs : List X) → AllByRecursion IsNear xs → AllByRecursion (IsNearAt o) xs
+  near-each o xs = all-by IsNear (IsNearAt o) xs (λ x h. h o)
 
   -- where it is still to come of the merge
-  pub near-to_come : (last : Option Occurrence) (o : Entry) (xs : List X) → ComeAfter last (map (λ x. past last (listed (head x) (rest x))) xs) →
-      IsIn o (merged entry_cmp (map (λ x. past last (listed (head x) (rest x))) xs))
-      → AllByRecursion (IsLeadNear last) xs → AllByRecursion (λ x. HasNear (N x) (listed (head x) (rest x)) o) xs
-  near-to_come last o xs follows there = each xs
+  pub near-to_come : (last : Option Occurrence) (o : Entry) (xs : List X) → ComeAfter last (pasts_of head rest last xs) →
+      IsIn o (merged entry_cmp (pasts_of head rest last xs)) → AllByRecursion (IsLeadNear last) xs → AllByRecursion (IsNearAt o) xs
+  near-to_come last o xs follows there =
+      all-by (IsLeadNear last) (IsNearAt o) xs (λ x h m. h o (uncut last follows (listed (head x) (rest x)) m))
     where
-      not-both : (c : Ordering) → c ≡ Less → c ≡ Equal → ⊥
-      not-both c l t = let f : Less ≡ Equal = sym l ∙ t in absurd cc
-
       -- it is not cut off a list
-      uncut : (given : Option Occurrence) → ComeAfter given (map (λ x. past last (listed (head x) (rest x))) xs) → (list : List Entry) → IsIn o list →
-          IsIn o (past given list)
+      uncut : (given : Option Occurrence) → ComeAfter given (pasts_of head rest last xs) → (list : List Entry) → IsIn o list → IsIn o (past given list)
       uncut None come list m = m
       uncut (Some p) come list m =
-          let lists : List (List Entry) = map (λ x. past last (listed (head x) (rest x))) xs in
-          let less = before-in entry_cmp entry_total (entry_of p) o (merged entry_cmp lists) (before-merged (entry_of p) lists come) there in
-          member-cut entry_cmp entry_total (entry_of p) o list (not-both (entry_cmp (entry_of p) o) less) m
-
-      each : (ys : List X) → AllByRecursion (IsLeadNear last) ys → AllByRecursion (λ x. HasNear (N x) (listed (head x) (rest x)) o) ys
-      each [] h = tt
-      each (y ∷ ys) h = (λ m. h.0 o (uncut last follows (listed (head y) (rest y)) m), each ys h.1)
+          let less = before-in entry_cmp entry_total (entry_of p) o (merged entry_cmp (pasts_of head rest last xs))
+          (before-merged (entry_of p) (pasts_of head rest last xs) come) there in
+          member-cut entry_cmp entry_total (entry_of p) o list (λ t. cc) m

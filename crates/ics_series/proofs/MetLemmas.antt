@@ -2,6 +2,8 @@
 use Rattle.std.specs.Prelude.{◌&&◌, not, if◌then◌else◌}
 use Rattle.std.proofs.Common.{◌≡◌, ℤ, List, [], ◌∷◌, Option, Some, None, ⊎_elim, Bool, true, false, refl, sym, ◌∙◌, ap, subst}
 use Rattle.std.specs.List.{filter_map}
+use Rattle.std.proofs.lemmas.Bool.{cond_both}
+use Rattle.std.proofs.lemmas.Option.{cond_some}
 use Rattle.std.specs.declared.cmp.Ordering.TheVariants.{Less}
 use Rattle.std.specs.Ordering.{int_cmp}
 use Rattle.ics_event.specs.declared.event.Event.{Event}
@@ -18,7 +20,6 @@ use Rattle.ics_series.specs.Rising.{Rises}
 use Rattle.ics_series.specs.Meeting.{entry_from, is_met}
 use Rattle.ics_series.specs.Meets.{Meets, IsEventMet}
 use Rattle.ics_series.specs.Starts.{time_of, GivesStart, IsNotAfter}
-use Rattle.ics_series.proofs.Cases.{some-same}
 use Rattle.ics_series.proofs.PickLemmas.{picked as picked-from, listing-picked as picked-listing, KeepsOrder}
 use Rattle.ics_series.proofs.FirstLemmas.{moment_total, same-moment}
 use Rattle.ics_series.proofs.StartSourceLemmas.{same-given, same-source}
@@ -32,38 +33,19 @@ module _ (clocks : Clocks) (w : Window) (event : Event) (s : Start) where
   abbrev from : Entry
   from = entry_from clocks event s.given
 
-  -- one that does not meet the window is not
+  -- it is if it meets the window, and no EXDATE takes it out
+  pub shown-by : {out : Bool} → is_excluded clocks event from.start ≡ out → shown_by clocks w event s ≡ (if out then None else met_by clocks w event s)
+  shown-by {out = out} e = ap (λ c. if is_met w from && not c then Some from else None) e ∙ by (is_met w from) out
+    where
+      by : (b c : Bool) → (if b && not c then Some from else None) ≡ (if c then None else if b then Some from else None)
+      by true true = refl
+      by true false = refl
+      by false true = refl
+      by false false = refl
+
   pub unmet : met_by clocks w event s ≡ None → shown_by clocks w event s ≡ None
-  unmet = by (is_met w from) (not (is_excluded clocks event from.start))
-    where
-      by : (b c : Bool) → (if b then Some from else None) ≡ None → (if b && c then Some from else None) ≡ None
-      by true c e = let f : Some from ≡ None = e in absurd cc
-      by false c e = refl
-
-  pub met-some : (o : Entry) → met_by clocks w event s ≡ Some o → (is_met w from ≡ true) × (o ≡ from)
-  met-some o = by (is_met w from)
-    where
-      by : (b : Bool) → (if b then Some from else None) ≡ Some o → (b ≡ true) × (o ≡ from)
-      by true e = (refl, cc)
-      by false e = let f : None ≡ Some o = e in absurd cc
-
-  -- one that an EXDATE takes out is not
-  pub shown-none : is_excluded clocks event from.start ≡ true → shown_by clocks w event s ≡ None
-  shown-none = by (is_met w from) (is_excluded clocks event from.start)
-    where
-      by : (b c : Bool) → c ≡ true → (if b && not c then Some from else None) ≡ None
-      by true true e = refl
-      by false true e = refl
-      by b false e = let f : false ≡ true = e in absurd cc
-
-  -- any other is
-  pub shown-some : is_met w from ≡ true → is_excluded clocks event from.start ≡ false → shown_by clocks w event s ≡ Some from
-  shown-some = by (is_met w from) (is_excluded clocks event from.start)
-    where
-      by : (b c : Bool) → b ≡ true → c ≡ false → (if b && not c then Some from else None) ≡ Some from
-      by true false e f = refl
-      by true true e f = let g : true ≡ false = f in absurd cc
-      by false c e f = let g : false ≡ true = e in absurd cc
+  unmet e =
+      shown-by refl ∙ cond_both (is_excluded clocks event from.start) None (met_by clocks w event s) (λ o. o ≡ None) (λ _. refl) (λ _. e)
 
 -- those of the occurrences with these starts that pass a test
 abbrev pub picked : Clocks → Event → (Entry → Bool) → List Start → List Entry
@@ -93,11 +75,7 @@ module _ (clocks : Clocks) (event : Event) (test : Entry → Bool) where
   pick s = if test (own s) then Some (own s) else None
 
   pick-is : (s : Start) (e : Entry) → pick s ≡ Some e → (e ≡ own s) × (test e ≡ true)
-  pick-is s e = by (test (own s)) refl
-    where
-      by : (b : Bool) → test (own s) ≡ b → (if b then Some (own s) else None) ≡ Some e → (e ≡ own s) × (test e ≡ true)
-      by true t q = let is = some-same e (own s) (sym q) in (is, ap test is ∙ t)
-      by false t q = let f : None ≡ Some e = q in absurd cc
+  pick-is s e q = let k = cond_some (test (own s)) (own s) e q in (sym k.1, ap test (sym k.1) ∙ k.0)
 
   -- The order.
   own-less : (s t : Start) → IsStart clocks event s → IsStart clocks event t → moment_cmp s t ≡ Less → entry_start_cmp (own s) (own t) ≡ Less

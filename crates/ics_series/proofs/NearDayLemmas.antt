@@ -7,7 +7,7 @@ use Rattle.std.proofs.lemmas.Int.{int_max_is, int_min_is, ints}
 use Rattle.std.proofs.lemmas.Bool.{and_parts}
 use Rattle.ics_event.specs.Event.{FileSaid}
 use Rattle.ics_zone.specs.Seconds.{IsNear}
-use Rattle.ics_zone.proofs.Cases.{int_le_true}
+use Rattle.ics_zone.proofs.Cases.{int_le_true, less_or_not_z}
 use Rattle.ics_fields.specs.Locals.{midnight, day_of_local}
 use Rattle.ics_series.specs.declared.window.Window.{Window}
 use Rattle.ics_series.specs.Clocks.{Clock, instant, local_at}
@@ -18,7 +18,6 @@ use Rattle.ics_series.specs.Meets.{Meets}
 use Rattle.ics_series.specs.Occurs.{Occurs}
 use Rattle.ics_series.specs.PlacedEvents.{clocks_at}
 use Rattle.ics_series.specs.Starts.{time_of}
-use Rattle.ics_series.proofs.Cases.{equal-true}
 
 -- the day of some seconds
 pub day-under : (seconds day : ℤ) → day ≡ int_div_euclid seconds (pos 86_400) →
@@ -53,6 +52,13 @@ occurs-forward files display o (inr m) =
     let ends = m.of.ends in
     omega (arith, ints, starts, ends, int_max_is)
 
+-- what starts at an instant or lasts up to it lasts past it, or is of no length and starts there or later
+pub lasts-from : (from start finish : ℤ) → start ≤ℤ finish → from ≤ℤ int_max start (finish -ℤ pos 1) →
+    (from <ℤ finish) ⊎ ((finish ≡ start) × (from ≤ℤ start))
+lasts-from from start finish forward l =
+    ⊎_elim inl (λ past. inr (omega (arith, ints, past, l, forward, int_max_is), omega (arith, ints, past, l, forward, int_max_is)))
+    (less_or_not_z from finish)
+
 module _ (clock : Clock) (near : (t : ℤ) → IsNear (clock.offset t)) where
   -- the date that a clock shows is less than two days off
   date-low : (t : ℤ) → midnight (date_at clock t) ≤ℤ (t +ℤ pos 172_799)
@@ -74,26 +80,20 @@ module _ (clock : Clock) (near : (t : ℤ) → IsNear (clock.offset t)) where
     at-last : day ≤ℤ last_day clock w o
     at-last = int_le_true day (last_day clock w o) (and_parts (int_le (first_day clock w o) day) (int_le day (last_day clock w o)) on).1
 
-    -- a day is the first of an occurrence of no length, or not past that of the later of its start and the window's, or not past that of its last second
-    by-length : ((o.finish ≡ o.start) × (day ≤ℤ first_day clock w o)) ⊎ ((o.start <ℤ o.finish) × ((day ≤ℤ first_day clock w o) ⊎ (day ≤ℤ end_day clock w o)))
-    by-length = by (int_eq o.finish o.start) refl
+    -- a day is not past that of the later of its start and the window's, or of an occurrence that lasts not past that of its last second
+    by-length : (day ≤ℤ first_day clock w o) ⊎ ((o.start <ℤ o.finish) × (day ≤ℤ end_day clock w o))
+    by-length = by (int_eq o.finish o.start) refl at-last
       where
-        by : (b : Bool) → int_eq o.finish o.start ≡ b → ((o.finish ≡ o.start) × (day ≤ℤ first_day clock w o))
-            ⊎ ((o.start <ℤ o.finish) × ((day ≤ℤ first_day clock w o) ⊎ (day ≤ℤ end_day clock w o)))
-        by true e =
-            let last : last_day clock w o ≡ first_day clock w o =
-            ap (λ b. if b then first_day clock w o else int_max (first_day clock w o) (end_day clock w o)) e in
-            inl (equal-true o.finish o.start e, subst (λ l. day ≤ℤ l) last at-last)
-        by false e =
-            let last : last_day clock w o ≡ int_max (first_day clock w o) (end_day clock w o) =
-            ap (λ b. if b then first_day clock w o else int_max (first_day clock w o) (end_day clock w o)) e in
-            inr (apart e, of-max (first_day clock w o) (end_day clock w o) (subst (λ l. day ≤ℤ l) last at-last))
-          where
-            apart : int_eq o.finish o.start ≡ false → o.start <ℤ o.finish
-            apart f = grind (arith, ints, forward)
+        of-max : (a b : ℤ) → day ≤ℤ int_max a b → (day ≤ℤ a) ⊎ (day ≤ℤ b)
+        of-max a b h = grind (arith, ints, int_max_is)
 
-            of-max : (a b : ℤ) → day ≤ℤ int_max a b → (day ≤ℤ a) ⊎ (day ≤ℤ b)
-            of-max a b h = grind (arith, ints, int_max_is)
+        apart : int_eq o.finish o.start ≡ false → o.start <ℤ o.finish
+        apart f = grind (arith, ints, forward)
+
+        by : (b : Bool) → int_eq o.finish o.start ≡ b → day ≤ℤ (if b then first_day clock w o else int_max (first_day clock w o) (end_day clock w o))
+            → (day ≤ℤ first_day clock w o) ⊎ ((o.start <ℤ o.finish) × (day ≤ℤ end_day clock w o))
+        by true e h = inl h
+        by false e h = ⊎_elim inl (λ k. inr (apart e, k)) (of-max (first_day clock w o) (end_day clock w o) h)
 
     pub near-start : o.start <ℤ midnight (day +ℤ pos 3)
     near-start =
@@ -101,31 +101,19 @@ module _ (clock : Clock) (near : (t : ℤ) → IsNear (clock.offset t)) where
         let first = at-first in
         omega (arith, ints, high, first, int_max_is o.start w.from)
 
-    from-met : (o.finish ≡ o.start) ⊎ (o.start <ℤ o.finish) → (w.from <ℤ o.finish) ⊎ ((o.finish ≡ o.start) × (w.from ≤ℤ o.start))
-    from-met (inl same) = ⊎_elim (λ l. inr (same, omega (arith, ints, l, same))) (λ r. inr r) met.lasting
-    from-met (inr apart) = ⊎_elim (λ l. inl l) (λ r. let s = r.0 in absurd (omega (arith, ints, s, apart))) met.lasting
-
     near-finish : (from : ℤ) → from ≡ int_max w.from (midnight (day -ℤ pos 2)) → (from <ℤ o.finish) ⊎ ((o.finish ≡ o.start) × (from ≤ℤ o.start))
-    near-finish from e = ⊎_elim at-once lasting by-length
+    near-finish from e =
+        let low = date-low (int_max o.start w.from) in
+        let end = date-low (int_min o.finish w.to -ℤ pos 1) in
+        let least = lasting-least met.lasting in
+        lasts-from from o.start o.finish forward (⊎_elim (λ k. omega (arith, ints, e, least, forward, low, k, int_max_is)) (λ k.
+        let last = k.0 in
+        let day = k.1 in
+        omega (arith, ints, e, least, end, last, day, int_max_is, int_min_is)) by-length)
       where
-        at-once : (o.finish ≡ o.start) × (day ≤ℤ first_day clock w o) → (from <ℤ o.finish) ⊎ ((o.finish ≡ o.start) × (from ≤ℤ o.start))
-        at-once h =
-            let low = date-low (int_max o.start w.from) in
-            let begun : w.from ≤ℤ o.start = ⊎_elim (λ l. let s = h.0 in omega (arith, ints, l, s)) (λ r. r.1) met.lasting in
-            let day-first = h.1 in
-            inr (h.0, omega (arith, ints, e, low, begun, day-first, int_max_is o.start w.from, int_max_is w.from (midnight (day -ℤ pos 2))))
-
-        lasting : (o.start <ℤ o.finish) × ((day ≤ℤ first_day clock w o) ⊎ (day ≤ℤ end_day clock w o)) →
-            (from <ℤ o.finish) ⊎ ((o.finish ≡ o.start) × (from ≤ℤ o.start))
-        lasting h =
-            let apart = h.0 in
-            let under : w.from <ℤ o.finish = ⊎_elim (λ l. l) (λ r. let s = r.0 in absurd (omega (arith, ints, s, apart))) met.lasting in
-            ⊎_elim
-            (λ k. let low = date-low (int_max o.start w.from) in
-            inl (omega (arith, ints, e, low, apart, under, k, int_max_is o.start w.from, int_max_is w.from (midnight (day -ℤ pos 2)))))
-            (λ k. let low = date-low (int_min o.finish w.to -ℤ pos 1) in
-            inl (omega (arith, ints, e, low, apart, under, k, int_min_is o.finish w.to, int_max_is w.from (midnight (day -ℤ pos 2)))))
-            h.1
+        lasting-least : (w.from <ℤ o.finish) ⊎ ((o.finish ≡ o.start) × (w.from ≤ℤ o.start)) → w.from ≤ℤ int_max o.start (o.finish -ℤ pos 1)
+        lasting-least (inl l) = omega (arith, ints, l, int_max_is)
+        lasting-least (inr l) = let low = l.1 in omega (arith, ints, low, int_max_is)
 
     -- so it meets what the window holds near one of its days
     pub meets-near : (n : Window) → n.from ≡ int_max w.from (midnight (day -ℤ pos 2)) → n.to ≡ int_min w.to (midnight (day +ℤ pos 3)) → n.notstarted ≡ false →
@@ -153,5 +141,5 @@ module _ (clock : Clock) (near : (t : ℤ) → IsNear (clock.offset t)) where
         let ordered = w.ordered in
         let start = date-low (int_max o.start w.from) in
         let end = date-low (int_min o.finish w.to -ℤ pos 1) in
-        let by-first : day ≤ℤ first_day clock w o → day ≤ℤ last_near w = λ k. omega (arith, ints, k, top, begun, ordered, start, int_max_is o.start w.from) in
-        ⊎_elim (λ h. by-first h.1) (λ h. ⊎_elim by-first (λ k. omega (arith, ints, k, top, end, int_min_is o.finish w.to)) h.1) by-length
+        ⊎_elim (λ k. omega (arith, ints, k, top, begun, ordered, start, int_max_is o.start w.from))
+        (λ h. let k = h.1 in omega (arith, ints, k, top, end, int_min_is o.finish w.to)) by-length

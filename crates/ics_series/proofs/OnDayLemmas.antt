@@ -32,6 +32,9 @@ on_day_total = on_total day_rank_of (then_total (on_total (λ r. r.day) int_cmp_
 
 -- Two listings, of which each of the first comes before each of the second.
 module _ {A : Type 0} (R : A → A → Ordering) where
+  pub none-listed : {P : A → Type 0} → ((x : A) → P x → ⊥) → IsListing R P []
+  none-listed none = record { rises = tt; exact = λ x. (λ m. absurd m, λ p. absurd (none x p)) }
+
   before-append : (x : A) (xs ys : List A) → IsBefore R x xs → ((y : A) → IsIn y ys → R x y ≡ Less) → IsBefore R x (xs ++ ys)
   before-append x [] [] h f = tt
   before-append x [] (y ∷ ys) h f = (f y (inl refl), before-append x [] ys tt (λ z m. f z (inr m)))

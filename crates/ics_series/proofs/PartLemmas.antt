@@ -21,6 +21,7 @@ use Rattle.ics_series.specs.Versions.{label_of, seen, AreChosen, Label}
 use Rattle.ics_series.proofs.AfterLemmas.{listing-after_key}
 use Rattle.ics_series.proofs.AgendaLemmas.{one-key}
 use Rattle.ics_series.proofs.GivenLemmas.{map-in, placed-event, IsGivenBy}
+use Rattle.ics_series.proofs.LeadNearLemmas.{all-by}
 use Rattle.ics_series.proofs.MergedMembers.{merged-listing, IsInOne}
 use Rattle.ics_series.proofs.RecurringLemmas.{recurring-master}
 use Rattle.ics_series.proofs.SinglesLemmas.{given-event, singles-whole}
@@ -29,11 +30,6 @@ use Rattle.ics_series.proofs.ToComeLemmas.{come-listed, listed-given}
 module _ (files : List FileSaid) (display : Clock) (w : Window) (after : Option Rank) where
   abbrev InOne : Entry → List (List Entry) → Type 0
   InOne e lists = IsInOne entry_cmp entry_total e lists
-
-  each-rises : (labels : List Label) (lists : List (List Entry)) → AllByRecursion (IsOneOf files display w after labels) lists →
-      AllByRecursion (Rises entry_cmp) lists
-  each-rises labels [] h = tt
-  each-rises labels (x ∷ xs) h = (h.0.listing.rises, each-rises labels xs h.1)
 
   each-come : (labels : List Label) (lists : List (List Entry)) (e : Entry) → AllByRecursion (IsOneOf files display w after labels) lists → InOne e lists →
       IsToCome files display w after e
@@ -78,8 +74,8 @@ module _ (files : List FileSaid) (display : Clock) (w : Window) (after : Option 
     -- the merge of what they give is the listing
     pub parts-listing : IsListing entry_cmp (IsToCome files display w after) (merged entry_cmp (singles ∷ more))
     parts-listing =
-        merged-listing entry_cmp entry_total (IsToCome files display w after) (singles ∷ more) (single.rises, each-rises (map seen vs) more are.each) part-come
-        come-part
+        merged-listing entry_cmp entry_total (IsToCome files display w after) (singles ∷ more) (single.rises,
+        all-by (IsOneOf files display w after (map seen vs)) (Rises entry_cmp) more (λ xs h. h.listing.rises) are.each) part-come come-part
         (one-key files display w after)
 
   -- so where they were pushed behind the single events

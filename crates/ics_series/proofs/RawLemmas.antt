@@ -8,12 +8,11 @@ use Rattle.std.proofs.Common.{⊎_elim, refl, sym, ◌∙◌, ap, subst, length-
 use Rattle.std.proofs.lemmas.Int.{ints}
 use Rattle.std.proofs.lemmas.List.Sums.{sum_by-cons}
 use Rattle.std.proofs.lemmas.Bool.{and_from}
-use Rattle.ics_fields.specs.Days.{IsDayNumber}
+use Rattle.std.proofs.lemmas.Option.{slice_get_within}
 use Rattle.ics_fields.specs.declared.local.Local.{Local}
 use Rattle.ics_rule.specs.Kept.{count, is_kept}
 use Rattle.ics_fields.specs.Locals.{number, calendar_end}
 use Rattle.ics_rule.specs.Recurrence.{Recurrence}
-use Rattle.ics_rule.proofs.Counts.{count-suc}
 use Rattle.ics_rule.proofs.KeptLemmas.{and_true}
 use Rattle.ics_event.specs.Event.{IsTime}
 use Rattle.ics_event.specs.declared.event.Event.{Event}
@@ -27,10 +26,10 @@ use Rattle.ics_series.specs.HeldMost.{is_within_days, raw_by, raw_by_rule, raw_i
 use Rattle.ics_series.specs.Listing.{IsListing}
 use Rattle.ics_series.specs.RuleStarts.{lets_until, local_numbered, moment_numbered}
 use Rattle.ics_series.specs.Starts.{given_by, local_of, recurrence_of, time_at, time_of, GivesStart, IsNotAfter, IsRuleStart}
-use Rattle.ics_series.proofs.Cases.{some-same, below-or-last}
+use Rattle.ics_series.proofs.Cases.{below-or-last}
 use Rattle.ics_series.proofs.FirstLemmas.{source-order, source_total}
 use Rattle.ics_series.proofs.StartSourceLemmas.{own-time}
-use Rattle.ics_series.proofs.OnDayLemmas.{joined}
+use Rattle.ics_series.proofs.OnDayLemmas.{joined, none-listed}
 use Rattle.ics_series.proofs.RuleLocalLemmas.{kept-calendar, kept-ruled, number-numbered, numbered-number, ruled-kept}
 
 -- What is not after another comes before it.
@@ -68,7 +67,7 @@ both-count {S = S} a b less to from = record {
 }
 
 no-count : {P : StartSource → Type 0} → ((g : StartSource) → P g → ⊥) → Counts P 0
-no-count none = record { sources = []; listing = record { rises = tt; exact = λ g. (λ m. absurd m, λ p. absurd (none g p)) }; count = refl }
+no-count none = record { sources = []; listing = none-listed source_cmp none; count = refl }
 
 one-or-none : (b : Bool) (s : StartSource) → Counts (λ g. (b ≡ true) × (g ≡ s)) (cond b 1 0)
 one-or-none true s = record {
@@ -78,75 +77,62 @@ one-or-none true s = record {
 }
 one-or-none false s = no-count (λ g p. let no : false ≡ true = p.0 in cc)
 
--- Of the locals with numbers below n those that pass a test.
-record IsPassing (test : ℕ → Bool) (n : ℕ) (g : StartSource) : Type 0 where
+-- Of sources by their numbers, those with numbers below n that pass a test.
+record IsPassing (source : ℕ → StartSource) (test : ℕ → Bool) (n : ℕ) (g : StartSource) : Type 0 where
   at : ℕ
   below : at < n
   passes : test at ≡ true
-  is : g ≡ Kept (local_numbered at)
+  is : g ≡ source at
 
-module _ (test : ℕ → Bool) where
-  earlier-local : (k n : ℕ) → k < n → source_cmp (Kept (local_numbered k)) (Kept (local_numbered n)) ≡ Less
-  earlier-local k n l =
-      source-before (Kept (local_numbered k)) (Kept (local_numbered n)) (λ h. omega (arith, ints, l, h, number-numbered k, number-numbered n))
-
-  below-or-on : (n : ℕ) (g : StartSource) → IsPassing test (suc n) g → IsPassing test n g ⊎ ((test n ≡ true) × (g ≡ Kept (local_numbered n)))
+module _ (source : ℕ → StartSource) (rises : (k n : ℕ) → k < n → source_cmp (source k) (source n) ≡ Less) (test : ℕ → Bool) where
+  below-or-on : (n : ℕ) (g : StartSource) → IsPassing source test (suc n) g → IsPassing source test n g ⊎ ((test n ≡ true) × (g ≡ source n))
   below-or-on n g p =
       ⊎_elim
       (λ l. inl (record { at = p.at; below = l; passes = p.passes; is = p.is }))
-      (λ s. inr (ap test (sym s) ∙ p.passes, p.is ∙ ap (λ i. Kept (local_numbered i)) s))
+      (λ s. inr (ap test (sym s) ∙ p.passes, p.is ∙ ap source s))
       (below-or-last p.at n p.below)
 
-  passing : (n : ℕ) → Counts (IsPassing test n) (count n test)
+  passing : (n : ℕ) → Counts (IsPassing source test n) (count n test)
   unfolding count
   passing zero = no-count (λ g p. omega (arith, p.below))
   passing (suc n) =
-      subst (Counts (IsPassing test (suc n))) (sym (count-suc n test)) (both-count (passing n) (one-or-none (test n) (Kept (local_numbered n)))
-      (λ x y p q. ap (λ s. source_cmp s y) p.is ∙ (ap (source_cmp (Kept (local_numbered p.at))) q.1 ∙ earlier-local p.at n p.below))
+      both-count (passing n) (one-or-none (test n) (source n))
+      (λ x y p q. ap (λ s. source_cmp s y) p.is ∙ (ap (source_cmp (source p.at)) q.1 ∙ rises p.at n p.below))
       (λ g. ⊎_elim (λ p. record { at = p.at; below = omega (arith, p.below); passes = p.passes; is = p.is })
       (λ q. record { at = n; below = omega arith; passes = q.0; is = q.1 }))
-      (below-or-on n))
+      (below-or-on n)
 
--- Of some RDATEs, which stand from a place on, those that pass a test.
-record IsListedFrom (test : Rdate → Bool) (place : ℕ) (rdates : List Rdate) (g : StartSource) : Type 0 where
-  at : ℕ
-  rdate : Rdate
-  stands : slice_get rdates at ≡ Some rdate
-  passes : test rdate ≡ true
-  is : g ≡ Listed (place + at)
+earlier-local : (k n : ℕ) → k < n → source_cmp (Kept (local_numbered k)) (Kept (local_numbered n)) ≡ Less
+earlier-local k n l =
+    source-before (Kept (local_numbered k)) (Kept (local_numbered n)) (λ h. omega (arith, ints, l, h, number-numbered k, number-numbered n))
 
-module _ (test : Rdate → Bool) where
-  later-place : (p q : ℕ) → p < q → source_cmp (Listed p) (Listed q) ≡ Less
-  later-place p q l = source-before (Listed p) (Listed q) (λ h. omega (arith, l, h))
+earlier-place : (k n : ℕ) → k < n → source_cmp (Listed k) (Listed n) ≡ Less
+earlier-place k n l = source-before (Listed k) (Listed n) (λ h. omega (arith, l, h))
 
-  on-listed : (place : ℕ) (r : Rdate) (rs : List Rdate) (g : StartSource) → IsListedFrom test (place + 1) rs g → IsListedFrom test place (r ∷ rs) g
-  on-listed place r rs g p = record { at = suc p.at; rdate = p.rdate; stands = p.stands; passes = p.passes; is = p.is ∙ ap Listed (omega arith) }
+-- A list is counted by its places.
+abbrev at_place : (Rdate → Bool) → Option Rdate → Bool
+at_place test None = false
+at_place test (Some rdate) = test rdate
 
-  first-or-on : (place : ℕ) (r : Rdate) (rs : List Rdate) (g : StartSource) → IsListedFrom test place (r ∷ rs) g →
-      ((test r ≡ true) × (g ≡ Listed place)) ⊎ IsListedFrom test (place + 1) rs g
-  first-or-on place r rs g p = by p.at refl
-    where
-      by : (at : ℕ) → p.at ≡ at → ((test r ≡ true) × (g ≡ Listed place)) ⊎ IsListedFrom test (place + 1) rs g
-      by zero e =
-          let same : r ≡ p.rdate = some-same r p.rdate (ap (slice_get (r ∷ rs)) (sym e) ∙ p.stands) in
-          inl (ap test same ∙ p.passes, p.is ∙ ap Listed (omega (arith, e)))
-      by (suc at) e =
-          inr (record {
-            at = at;
-            rdate = p.rdate;
-            stands = ap (slice_get (r ∷ rs)) (sym e) ∙ p.stands;
-            passes = p.passes;
-            is = p.is ∙ ap Listed (omega (arith, e));
-          })
+place-passes : (test : Rdate → Bool) (o : Option Rdate) → at_place test o ≡ true → (rdate : Rdate) × (o ≡ Some rdate) × (test rdate ≡ true)
+place-passes test None e = absurd cc
+place-passes test (Some rdate) e = (rdate, refl, e)
 
-  listed : (place : ℕ) (rs : List Rdate) → Counts (IsListedFrom test place rs) (count_by test rs)
-  listed place [] = no-count (λ g p. let no : None ≡ Some p.rdate = p.stands in cc)
-  listed place (r ∷ rs) =
-      subst (Counts (IsListedFrom test place (r ∷ rs))) (sym (sum_by-cons (λ x. cond (test x) 1 0) r rs))
-      (both-count (one-or-none (test r) (Listed place)) (listed (place + 1) rs)
-      (λ x y q p. ap (λ s. source_cmp s y) q.1 ∙ (ap (source_cmp (Listed place)) p.is ∙ later-place place (place + 1 + p.at) (omega arith)))
-      (λ g. ⊎_elim (λ q. record { at = 0; rdate = r; stands = refl; passes = q.0; is = q.1 ∙ ap Listed (omega arith) }) (on-listed place r rs g))
-      (first-or-on place r rs))
+count-first : (n : ℕ) (test : ℕ → Bool) → count (suc n) test ≡ cond (test 0) 1 0 + count n (λ k. test (suc k))
+unfolding count
+count-first zero test = omega arith
+count-first (suc n) test = omega (arith, count-first n test)
+
+by-places : (test : Rdate → Bool) (rdates : List Rdate) → count (length rdates) (λ k. at_place test (slice_get rdates k)) ≡ count_by test rdates
+unfolding count
+by-places test [] = refl
+by-places test (r ∷ rs) =
+    omega (
+      arith,
+      count-first (length rs) (λ k. at_place test (slice_get (r ∷ rs) k)),
+      by-places test rs,
+      sum_by-cons (λ x. cond (test x) 1 0) r rs,
+    )
 
 module _ (clocks : Clocks) (event : Event) (test : ℤ → Bool) (time : IsTime event.start) where
   abbrev is_there : Rdate → Bool
@@ -184,32 +170,30 @@ module _ (clocks : Clocks) (event : Event) (test : ℤ → Bool) (time : IsTime 
   once : recurrence_of event ≡ None → Counts IsRawKept (if test (instant clocks event.start) then 1 else 0)
   once none =
       same-count (one-or-none (test (instant clocks event.start)) (Kept (local_of event.start.stamp)))
-      (λ g p. subst IsRawKept (sym p.1) (inl refl, ap (test) own-instant ∙ p.0)) back
+      (λ g p. subst IsRawKept (sym p.1) (inl refl, ap test own-instant ∙ p.0)) back
     where
       back : (g : StartSource) → IsRawKept g → (test (instant clocks event.start) ≡ true) × (g ≡ Kept (local_of event.start.stamp))
       back (Kept local) p =
           let same : local_of event.start.stamp ≡ local = ⊎_elim sym (λ r. absurd (none-ruled local none r)) p.0 in
-          (ap (test) (sym own-instant ∙ ap (λ l. instant clocks (time_at event.start l)) same) ∙ p.1, ap Kept (sym same))
+          (ap test (sym own-instant ∙ ap (λ l. instant clocks (time_at event.start l)) same) ∙ p.1, ap Kept (sym same))
       back (Listed place) p = absurd p
 
   -- and under one
   module _ (rule : Recurrence) (has : recurrence_of event ≡ Some rule) where
-    in-calendar : (n : ℕ) → n < calendar_end → IsDayNumber (local_numbered n).day
-    in-calendar n l = (omega (arith, ints), omega (arith, ints, l))
+    pub numbered-raw : (n : ℕ) → n < calendar_end → is_kept rule n ≡ true → lets_until rule n (moment_numbered clocks event n) ≡ true →
+        (local_numbered n ≡ local_of event.start.stamp) ⊎ IsRuleStart clocks event (local_numbered n)
+    numbered-raw n l kept through =
+        let same = number-numbered n in
+        kept-ruled clocks event rule has (local_numbered n) time (omega (arith, ints), omega (arith, ints, l)) (ap (is_kept rule) same ∙ kept)
+        (ap (λ k. lets_until rule k (moment_numbered clocks event k)) same ∙ through)
 
-    raw-passing : (g : StartSource) → IsPassing (is_tested rule) calendar_end g → IsRawKept g
+    raw-passing : (g : StartSource) → IsPassing (λ n. Kept (local_numbered n)) (is_tested rule) calendar_end g → IsRawKept g
     raw-passing g p =
-        let n = p.at in
         let kept = and_true {a = is_kept rule p.at} p.passes in
         let within = and_true {a = lets_until rule p.at (moment_numbered clocks event p.at)} kept.1 in
-        let same = number-numbered p.at in
-        subst IsRawKept (sym p.is) (
-          kept-ruled clocks event rule has (local_numbered p.at) time (in-calendar p.at p.below) (ap (is_kept rule) same ∙ kept.0)
-              (ap (λ k. lets_until rule k (moment_numbered clocks event k)) same ∙ within.0),
-          within.1,
-        )
+        subst IsRawKept (sym p.is) (numbered-raw p.at p.below kept.0 within.0, within.1)
 
-    passing-raw : (g : StartSource) → IsRawKept g → IsPassing (is_tested rule) calendar_end g
+    passing-raw : (g : StartSource) → IsRawKept g → IsPassing (λ n. Kept (local_numbered n)) (is_tested rule) calendar_end g
     passing-raw (Kept local) p =
         let of_day = kept-calendar clocks event local time p.0 in
         let same = numbered-number local of_day in
@@ -218,54 +202,49 @@ module _ (clocks : Clocks) (event : Event) (test : ℤ → Bool) (time : IsTime 
         record {
           at = number local;
           below = omega (arith, ints, of_day.0, of_day.1, local.second_in);
-          passes = and_from (is_kept rule (number local)) (lets_until rule (number local) (moment_numbered clocks event (number local))
-              && test (moment_numbered clocks event (number local))) parts.0
-              (and_from (lets_until rule (number local) (moment_numbered clocks event (number local)))
-              (test (moment_numbered clocks event (number local)))
-              (ap (lets_until rule (number local)) there ∙ parts.1) (ap (test) there ∙ p.1));
+          passes = and_from (is_kept rule (number local)) _ parts.0
+              (and_from (lets_until rule (number local) (moment_numbered clocks event (number local))) _
+              (ap (lets_until rule (number local)) there ∙ parts.1) (ap test there ∙ p.1));
           is = ap Kept (sym same);
         }
     passing-raw (Listed place) p = absurd p
 
-    by-rule : Counts IsRawKept (count calendar_end (is_tested rule))
-    by-rule = same-count (passing (is_tested rule) calendar_end) raw-passing passing-raw
-
   kept-counts : (o : Option Recurrence) → recurrence_of event ≡ o → Counts IsRawKept (kept_count o)
   kept-counts None e = once e
-  kept-counts (Some rule) e = by-rule rule e
+  kept-counts (Some rule) e =
+      same-count (passing (λ n. Kept (local_numbered n)) earlier-local (is_tested rule) calendar_end) (raw-passing rule e) (passing-raw rule e)
 
   -- both kinds, the locals first
-  abbrev IsRawSource : StartSource → Type 0
-  IsRawSource g = IsRawKept g ⊎ IsListedFrom is_there 0 event.rdates g
+  abbrev IsRawListed : StartSource → Type 0
+  IsRawListed g = IsPassing (λ k. Listed k) (λ k. at_place is_there (slice_get event.rdates k)) (length event.rdates) g
 
-  kept-before : (x g : StartSource) → IsRawKept x → IsListedFrom is_there 0 event.rdates g → source_cmp x g ≡ Less
-  kept-before (Kept local) g p q = ap (source_cmp (Kept local)) q.is ∙ source-before (Kept local) (Listed (0 + q.at)) (λ no. no)
+  kept-before : (x g : StartSource) → IsRawKept x → IsRawListed g → source_cmp x g ≡ Less
+  kept-before (Kept local) g p q = ap (source_cmp (Kept local)) q.is ∙ source-before (Kept local) (Listed q.at) (λ no. no)
   kept-before (Listed place) g p q = absurd p
 
-  source-raw : (g : StartSource) → IsRawSource g → IsGiving g
+  source-raw : (g : StartSource) → IsRawKept g ⊎ IsRawListed g → IsGiving g
   source-raw (Kept local) (inl p) = (At (time_at event.start local), (p.0, refl), p.1)
-  source-raw (Kept local) (inr q) = let no : Kept local ≡ Listed (0 + q.at) = q.is in absurd cc
   source-raw (Listed place) (inl p) = absurd p
-  source-raw (Listed place) (inr q) =
-      let there : place ≡ q.at = omega (arith, same-place place (0 + q.at) q.is) in
-      (given_by event.start q.rdate, (q.rdate, ap (slice_get event.rdates) there ∙ q.stands, refl), q.passes)
-    where
-      same-place : (a b : ℕ) → Listed a ≡ Listed b → a ≡ b
-      same-place a b e = cc
+  source-raw g (inr q) =
+      let k = place-passes is_there (slice_get event.rdates q.at) q.passes in
+      subst IsGiving (sym q.is) (given_by event.start k.0, (k.0, k.1, refl), k.2)
 
-  raw-source : (g : StartSource) → IsGiving g → IsRawSource g
+  raw-source : (g : StartSource) → IsGiving g → IsRawKept g ⊎ IsRawListed g
   raw-source (Kept local) r = inl (r.1.0, ap (λ given. test (instant clocks (time_of given))) (sym r.1.1) ∙ r.2)
   raw-source (Listed place) r =
       inr (record {
         at = place;
-        rdate = r.1.0;
-        stands = r.1.1;
-        passes = ap (λ given. test (instant clocks (time_of given))) (sym r.1.2) ∙ r.2;
-        is = ap Listed (omega arith);
+        below = slice_get_within event.rdates place r.1.0 r.1.1;
+        passes = ap (at_place is_there) r.1.1 ∙ (ap (λ given. test (instant clocks (time_of given))) (sym r.1.2) ∙ r.2);
+        is = refl;
       })
 
   pub giving : Counts IsGiving (kept_count (recurrence_of event) + count_by is_there event.rdates)
-  giving = both-count (kept-counts (recurrence_of event) refl) (listed is_there 0 event.rdates) kept-before source-raw raw-source
+  giving =
+      both-count (kept-counts (recurrence_of event) refl)
+      (subst (Counts IsRawListed) (by-places is_there event.rdates)
+      (passing (λ k. Listed k) earlier-place (λ k. at_place is_there (slice_get event.rdates k)) (length event.rdates)))
+      kept-before source-raw raw-source
 
 kept-counted : (clocks : Clocks) (event : Event) (day : ℤ) (time : IsTime event.start) (o : Option Recurrence) →
     kept_count clocks event (is_within_days day) time o ≡ raw_by clocks event o day

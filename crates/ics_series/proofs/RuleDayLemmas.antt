@@ -1,9 +1,11 @@
 -- The starts of a rule by the days of their locals.
 use Rattle.std.specs.Prelude.{◌≤ℤ◌, ◌<ℤ◌, int_lt, not, slice_get}
-use Rattle.std.proofs.Common.{◌≡◌, ℕ, zero, suc, ◌+◌, ◌-◌, ◌<◌, ◌≤◌, ℤ, pos, ◌+ℤ◌, ◌-ℤ◌, Bool, true, false, ◌&&◌, List, [], ◌∷◌, length, get_or, drop, ⊎_elim}
+use Rattle.std.proofs.Common.{◌≡◌, ℕ, zero, suc, ◌+◌, ◌-◌, ◌<◌, ◌≤◌, ℤ, pos, ◌+ℤ◌, ◌-ℤ◌, Bool, true, false, ◌&&◌, List, [], ◌∷◌, length, get_or, drop, ◌⊎◌, ⊎_elim}
 use Rattle.std.proofs.Common.{refl, sym, ◌∙◌, ap, subst, arith}
+use Rattle.std.proofs.lemmas.Bool.{false_from_ne_true}
 use Rattle.std.proofs.lemmas.Int.{ints}
 use Rattle.std.specs.Cmp.{int_cmp_is}
+use Rattle.std.specs.declared.cmp.Ordering.{Ordering}
 use Rattle.std.specs.declared.cmp.Ordering.TheVariants.{Less, Equal}
 use Rattle.ics_fields.specs.Days.{IsDayNumber}
 use Rattle.ics_fields.specs.declared.local.Local.{Local}
@@ -25,16 +27,16 @@ use Rattle.ics_series.specs.Listing.{IsIn}
 use Rattle.ics_series.specs.Merged.{by_order, cut, union}
 use Rattle.ics_series.specs.Rising.{IsBefore, Rises}
 use Rattle.ics_series.specs.RuleStarts.{found, found_in, gives, is_behind, is_ready, lets_until, local_numbered, midnight_number, moment_numbered, to_come}
-use Rattle.ics_series.specs.RuleStarts.{with_put, AreHeld}
+use Rattle.ics_series.specs.RuleStarts.{AreHeld}
 use Rattle.ics_series.specs.Starts.{stamp_at, time_at}
 use Rattle.ics_series.specs.FileZones.{clocks_in}
 use Rattle.ics_series.proofs.BeginsLemmas.{before-union}
-use Rattle.ics_series.proofs.FirstLemmas.{moment_total}
+use Rattle.ics_series.proofs.FirstLemmas.{moment_total, same-moment, tied-moment}
 use Rattle.ics_series.proofs.StartSourceLemmas.{written-at}
 use Rattle.ics_series.proofs.HeldLemmas.{before-all, put-before}
 use Rattle.ics_series.proofs.InstantLemmas.{instant-near}
-use Rattle.ics_series.proofs.RuleStartLemmas.{found-none, rises-found, rises-found_in}
-use Rattle.ics_series.proofs.UnionLemmas.{union-in}
+use Rattle.ics_series.proofs.RuleStartLemmas.{found-none, put-both, rises-found, rises-found_in}
+use Rattle.ics_series.proofs.UnionLemmas.{put-in, union-in}
 
 -- Numbers and days.
 pub number-day : (day : ℤ) → IsDayNumber day → pos (midnight_number day) ≡ midnight day +ℤ pos 62_167_219_200
@@ -77,20 +79,29 @@ module _ (zones : FileZones) (event : Event) where
       omega (arith, ints, near.1, wrote.0, seconds-numbered n, number-day day h, l)
 
   module _ (rule : Recurrence) (w : Window) where
-    -- what gives a start does so before the window's end
-    pub given-early : (n : ℕ) → gives (clocks_in zones) event rule w n ≡ true → moment_numbered (clocks_in zones) event n <ℤ w.to
+    -- what gives a start is kept, let through by UNTIL, and before the window's end
+    pub given-parts : (n : ℕ) → gives (clocks_in zones) event rule w n ≡ true → (is_kept rule n ≡ true)
+        × (lets_until rule n (moment_numbered (clocks_in zones) event n) ≡ true) × (moment_numbered (clocks_in zones) event n <ℤ w.to)
     unfolding gives
-    given-early n g = int_lt_true (moment_numbered (clocks_in zones) event n) w.to
-        (and_true {a = lets_until rule n (moment_numbered (clocks_in zones) event n)} (and_true {a = is_kept rule n} g).1).1
+    given-parts n g =
+        let kept = and_true {a = is_kept rule n} g in
+        let within = and_true {a = lets_until rule n (moment_numbered (clocks_in zones) event n)} kept.1 in
+        (kept.0, within.0, int_lt_true (moment_numbered (clocks_in zones) event n) w.to within.1)
+
+    -- and so it lies before the end of the rules
+    pub in-rules : (n : ℕ) → gives (clocks_in zones) event rule w n ≡ true → n < rules_end
+    in-rules n g =
+        let early = (given-parts n g).2 in
+        let near = instant-near zones (time_at event.start (local_numbered n)) in
+        let wrote = written-at event.start.stamp (local_numbered n) in
+        omega (arith, ints, early, near.0, wrote.1, seconds-numbered n, w.not_late)
 
     -- no local from a day on does that begins two days after the window's end
     pub none-past : (end : ℤ) (n : ℕ) → IsDayNumber end → (w.to +ℤ whole_days 2) ≤ℤ midnight end → midnight_number end ≤ n →
         gives (clocks_in zones) event rule w n ≡ false
-    none-past end n h after l = by (gives (clocks_in zones) event rule w n) refl
-      where
-        by : (b : Bool) → gives (clocks_in zones) event rule w n ≡ b → b ≡ false
-        by false e = refl
-        by true e = let soon = given-early n e in let late = late-numbered end n h l in absurd (omega (arith, ints, soon, late, after))
+    none-past end n h after l =
+        false_from_ne_true (gives (clocks_in zones) event rule w n)
+        (λ e. let soon = (given-parts n e).2 in let late = late-numbered end n h l in omega (arith, ints, soon, late, after))
 
     -- What the locals from one on give.
     pub record IsFound (from : ℕ) (s : Start) : Type 0 where
@@ -105,16 +116,13 @@ module _ (zones : FileZones) (event : Event) where
     found_in-is : (from n : ℕ) (s : Start) → IsIn s (found_in (clocks_in zones) event rule w from n) → IsFound from s
     found_in-is from zero s m = absurd m
     found_in-is from (suc n) s m =
-        by (gives (clocks_in zones) event rule w from) refl (found_in-is (from + 1) n s) m
-      where
-        by : (b : Bool) → gives (clocks_in zones) event rule w from ≡ b → (IsIn s (found_in (clocks_in zones) event rule w (from + 1) n) → IsFound (from + 1) s)
-            → IsIn s (with_put b (start_at (clocks_in zones) event (local_numbered from)) (found_in (clocks_in zones) event rule w (from + 1) n))
-            → IsFound from s
-        by true e ih m =
-            ⊎_elim (λ k. ⊎_elim (λ same. record { by = from; from_place = omega arith; given = e; is = same }) (λ f. absurd f) k) (λ k. later from s (ih k.1))
-            (union-in moment_cmp moment_total s (start_at (clocks_in zones) event (local_numbered from) ∷ [])
-            (found_in (clocks_in zones) event rule w (from + 1) n) (rises-found_in (clocks_in zones) event rule w (from + 1) n) m)
-        by false e ih m = later from s (ih m)
+        let x = start_at (clocks_in zones) event (local_numbered from) in
+        let rest = found_in (clocks_in zones) event rule w (from + 1) n in
+        put-both (gives (clocks_in zones) event rule w from) x rest (λ xs. IsIn s xs → IsFound from s)
+        (λ e m. ⊎_elim (λ same. record { by = from; from_place = omega arith; given = e; is = same }) (λ k. later from s (found_in-is (from + 1) n s k.0))
+        (put-in moment_cmp moment_total s x rest (rises-found_in (clocks_in zones) event rule w (from + 1) n) m))
+        (λ e m. later from s (found_in-is (from + 1) n s m))
+        m
 
     pub found-is : (from : ℕ) (s : Start) → IsIn s (found (clocks_in zones) event rule w from) → IsFound from s
     unfolding found
@@ -124,7 +132,7 @@ module _ (zones : FileZones) (event : Event) where
     ready-before : (day : ℤ) (place : ℕ) (s : Start) → IsDayNumber day → midnight_number day ≤ place → s.moment ≤ℤ (midnight day -ℤ whole_days 2)
         → IsBefore moment_cmp s (found (clocks_in zones) event rule w place)
     ready-before day place s h read l =
-        before-all moment_cmp moment_total s (found (clocks_in zones) event rule w place)
+        before-all moment_cmp s (found (clocks_in zones) event rule w place)
         (λ t m.
         let f = found-is place t m in
         let late = late-numbered day f.by h (omega (arith, read, f.from_place)) in
@@ -134,9 +142,6 @@ module _ (zones : FileZones) (event : Event) where
     abbrev Settled : List Start → ℕ → Type 0
     Settled [] place = found (clocks_in zones) event rule w place ≡ []
     Settled (s ∷ held) place = IsBefore moment_cmp s (found (clocks_in zones) event rule w place)
-
-    not-less : (a b : ℤ) → int_lt a b ≡ false → b ≤ℤ a
-    not-less a b e = grind (arith, ints)
 
     come-first : (s : Start) (held : List Start) (place : ℕ) → Rises moment_cmp (s ∷ held) → IsBefore moment_cmp s (found (clocks_in zones) event rule w place)
         → to_come (clocks_in zones) event rule w (s ∷ held) place ≡ s ∷ to_come (clocks_in zones) event rule w held place
@@ -158,66 +163,38 @@ module _ (zones : FileZones) (event : Event) where
           (λ n low. none-past end n e after (omega (arith, ints, number-day day d, number-day end e, read, low, l)))
 
       settled : (held : List Start) → is_behind day end held ≡ false → Settled held place
-      settled held b = by (int_lt day end) refl held b
+      settled held b = ⊎_elim (λ l. past held (past-end l)) (ready held) (sides (is_ready day held) b)
         where
-          by : (early : Bool) → int_lt day end ≡ early → (xs : List Start) → (early && not (is_ready day xs)) ≡ false → Settled xs place
-          by false p [] q = past-end (not-less day end p)
-          by false p (x ∷ xs) q = subst (IsBefore moment_cmp x) (sym (past-end (not-less day end p))) tt
-          by true p [] q = let f : true ≡ false = q in absurd cc
-          by true p (x ∷ xs) q = ready-before day place x d read (int_le_true x.moment (midnight day -ℤ whole_days 2) (not-not (is_ready day (x ∷ xs)) q))
-            where
-              not-not : (c : Bool) → not c ≡ false → c ≡ true
-              not-not true k = refl
-              not-not false k = let f : true ≡ false = k in absurd cc
+          sides : (r : Bool) → (int_lt day end && not r) ≡ false → (end ≤ℤ day) ⊎ (r ≡ true)
+          sides r h = grind (arith, ints)
+
+          past : (xs : List Start) → found (clocks_in zones) event rule w place ≡ [] → Settled xs place
+          past [] e = e
+          past (x ∷ xs) e = subst (IsBefore moment_cmp x) (sym e) tt
+
+          ready : (xs : List Start) → is_ready day xs ≡ true → Settled xs place
+          ready [] r = cc
+          ready (x ∷ xs) r = ready-before day place x d read (int_le_true x.moment (midnight day -ℤ whole_days 2) r)
 
       pub first-held : (held : List Start) → Rises moment_cmp held → is_behind day end held ≡ false
           → slice_get held 0 ≡ slice_get (to_come (clocks_in zones) event rule w held place) 0
       first-held [] r b = sym (ap (λ (xs : List Start). slice_get xs 0) (come-nothing place (settled [] b)))
       first-held (s ∷ held) r b = sym (ap (λ (xs : List Start). slice_get xs 0) (come-first s held place r (settled (s ∷ held) b)))
 
-      -- the first goes where it is tied with another
-      pub passed : (t s : Start) (held : List Start) → Rises moment_cmp (s ∷ held) → is_behind day end (s ∷ held) ≡ false → moment_cmp t s ≡ Equal
-          → to_come (clocks_in zones) event rule w held place ≡ cut moment_cmp t (to_come (clocks_in zones) event rule w (s ∷ held) place)
-      passed t s held r b tied =
-          let rest = to_come (clocks_in zones) event rule w held place in
-          sym (ap (cut moment_cmp t) (come-first s held place r (settled (s ∷ held) b))
-          ∙ ap (λ c. by_order c (s ∷ rest) rest (s ∷ rest)) tied)
-
-      pub not-passed : (t s : Start) (held : List Start) → Rises moment_cmp (s ∷ held) → is_behind day end (s ∷ held) ≡ false → (moment_cmp t s ≡ Equal → ⊥)
-          → to_come (clocks_in zones) event rule w (s ∷ held) place ≡ cut moment_cmp t (to_come (clocks_in zones) event rule w (s ∷ held) place)
-      not-passed t s held r b untied =
-          let rest = to_come (clocks_in zones) event rule w held place in
-          let is = come-first s held place r (settled (s ∷ held) b) in
-          is ∙ sym (ap (cut moment_cmp t) is ∙ stays rest (moment_cmp t s) refl)
+      -- a start leaves of what is held what it leaves of all that is still to come
+      pub passed : (t : Start) (held : List Start) → Rises moment_cmp held → is_behind day end held ≡ false
+          → to_come (clocks_in zones) event rule w (cut moment_cmp t held) place ≡ cut moment_cmp t (to_come (clocks_in zones) event rule w held place)
+      passed t [] r b = let none = come-nothing place (settled [] b) in none ∙ sym (ap (cut moment_cmp t) none)
+      passed t (s ∷ held) r b = by (moment_cmp t s) ∙ sym (ap (cut moment_cmp t) is)
         where
-          stays : (rest : List Start) (c : _) → moment_cmp t s ≡ c → by_order c (s ∷ rest) rest (s ∷ rest) ≡ s ∷ rest
-          stays rest Equal p = absurd (untied p)
-          stays rest _ p = refl
+          is : to_come (clocks_in zones) event rule w (s ∷ held) place ≡ s ∷ to_come (clocks_in zones) event rule w held place
+          is = come-first s held place r (settled (s ∷ held) b)
 
-      pub nothing-passed : (t : Start) → is_behind day end [] ≡ false
-          → to_come (clocks_in zones) event rule w [] place ≡ cut moment_cmp t (to_come (clocks_in zones) event rule w [] place)
-      nothing-passed t b =
-          let is = come-nothing place (settled [] b) in
-          is ∙ sym (ap (cut moment_cmp t) is)
-
-      -- the same of a list whose first is known
-      pub passed-at : (t : Start) {held : List Start} {d : Start} {new : List Start} → IsFirst d held → new ≡ drop 1 held → Rises moment_cmp held →
-          is_behind day end held ≡ false
-          → moment_cmp t d ≡ Equal → to_come (clocks_in zones) event rule w new place ≡ cut moment_cmp t (to_come (clocks_in zones) event rule w held place)
-      passed-at t {held = []} first n r b tied = absurd (omega (arith, first.some))
-      passed-at t {held = s ∷ held} first n r b tied =
-          ap (λ xs. to_come (clocks_in zones) event rule w xs place) n ∙ passed t s held r b (subst (λ x. moment_cmp t x ≡ Equal) first.is tied)
-
-      pub not-passed-at : (t : Start) {held : List Start} {d : Start} → IsFirst d held → Rises moment_cmp held → is_behind day end held ≡ false
-          → (moment_cmp t d ≡ Equal → ⊥) → to_come (clocks_in zones) event rule w held place
-          ≡ cut moment_cmp t (to_come (clocks_in zones) event rule w held place)
-      not-passed-at t {held = []} first r b untied = absurd (omega (arith, first.some))
-      not-passed-at t {held = s ∷ held} first r b untied = not-passed t s held r b (λ tied. untied (subst (λ x. moment_cmp t x ≡ Equal) (sym first.is) tied))
-
-      pub nothing-passed-at : (t : Start) (held : List Start) → length held ≡ 0 → is_behind day end held ≡ false
-          → to_come (clocks_in zones) event rule w held place ≡ cut moment_cmp t (to_come (clocks_in zones) event rule w held place)
-      nothing-passed-at t [] l b = nothing-passed t b
-      nothing-passed-at t (s ∷ held) l b = absurd (omega (arith, l))
+          by : (c : Ordering) → to_come (clocks_in zones) event rule w (by_order c (s ∷ held) held (s ∷ held)) place
+              ≡ by_order c (s ∷ to_come (clocks_in zones) event rule w held place) (to_come (clocks_in zones) event rule w held place)
+              (s ∷ to_come (clocks_in zones) event rule w held place)
+          by Equal = refl
+          by _ = is
 
     -- each start still to come begins no more than three days before the day that is not asked for yet
     module _ (day : ℤ) (held : List Start) (place : ℕ) where
@@ -238,20 +215,20 @@ module _ (zones : FileZones) (event : Event) where
     unfolding to_come
     come-empty held place from h e = ap (λ xs. union moment_cmp xs (found (clocks_in zones) event rule w place)) h ∙ ap (found (clocks_in zones) event rule w) e
 
--- What a local that gives a start is: kept, let through by UNTIL, and before the end of the rules.
-module _ (zones : FileZones) (event : Event) (rule : Recurrence) (w : Window) where
-  pub kept-of : (n : ℕ) → gives (clocks_in zones) event rule w n ≡ true → is_kept rule n ≡ true
-  unfolding gives
-  kept-of n g = (and_true {a = is_kept rule n} g).0
+-- The first of a list goes where a start is at its instant, and else nothing does.
+pub cut-first : (t : Start) {held : List Start} {d : Start} → IsFirst d held → t.moment ≡ d.moment → drop 1 held ≡ cut moment_cmp t held
+cut-first t {held = []} first e = absurd (omega (arith, first.some))
+cut-first t {held = s ∷ held} first e =
+    sym (ap (λ c. by_order c (s ∷ held) held (s ∷ held)) (same-moment t s (e ∙ ap (λ (x : Start). x.moment) first.is)))
 
-  pub let-through : (n : ℕ) → gives (clocks_in zones) event rule w n ≡ true → lets_until rule n (moment_numbered (clocks_in zones) event n) ≡ true
-  unfolding gives
-  let-through n g = (and_true {a = lets_until rule n (moment_numbered (clocks_in zones) event n)} (and_true {a = is_kept rule n} g).1).0
+pub uncut-first : (t : Start) {held : List Start} {d : Start} → IsFirst d held → (t.moment ≡ d.moment → ⊥) → held ≡ cut moment_cmp t held
+uncut-first t {held = []} first n = refl
+uncut-first t {held = s ∷ held} first n = by (moment_cmp t s) refl
+  where
+    by : (c : Ordering) → moment_cmp t s ≡ c → s ∷ held ≡ by_order c (s ∷ held) held (s ∷ held)
+    by Equal e = absurd (n (tied-moment t s e ∙ ap (λ (x : Start). x.moment) (sym first.is)))
+    by _ e = refl
 
-  -- what gives a start lies before the end of the rules
-  pub in-rules : (n : ℕ) → gives (clocks_in zones) event rule w n ≡ true → n < rules_end
-  in-rules n g =
-      let early = given-early zones event rule w n g in
-      let near = instant-near zones (time_at event.start (local_numbered n)) in
-      let wrote = written-at event.start.stamp (local_numbered n) in
-      omega (arith, ints, early, near.0, wrote.1, seconds-numbered n, w.not_late)
+pub uncut-none : (t : Start) (held : List Start) → length held ≡ 0 → held ≡ cut moment_cmp t held
+uncut-none t [] e = refl
+uncut-none t (s ∷ held) e = absurd (omega (arith, e))

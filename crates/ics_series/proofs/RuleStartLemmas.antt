@@ -10,13 +10,19 @@ use Rattle.ics_series.specs.declared.start.Start.{Start}
 use Rattle.ics_series.specs.declared.window.Window.{Window}
 use Rattle.ics_series.specs.Clocks.{Clocks}
 use Rattle.ics_series.specs.Found.{moment_cmp, start_at}
-use Rattle.ics_series.specs.Merged.{union}
+use Rattle.ics_series.specs.Merged.{put, union}
 use Rattle.ics_series.specs.MergedLaws.{rises-put, rises-union}
 use Rattle.ics_series.specs.Rising.{Rises}
 use Rattle.ics_series.specs.RuleStarts.{found, found_in, gives, lets_until, local_numbered, moment_numbered, to_come, with_held, with_put}
 use Rattle.ics_series.proofs.FirstLemmas.{moment_total}
 use Rattle.ics_series.proofs.UnionLemmas.{union_assoc}
 use Rattle.ics_series.proofs.Cases.{here-or-later}
+
+-- what is so of a list and of the list with a start put in is so whatever the test
+pub put-both : (b : Bool) (s : Start) (xs : List Start) (P : List Start → Type 0) → (b ≡ true → P (put moment_cmp s xs)) → (b ≡ false → P xs) →
+    P (with_put b s xs)
+put-both true s xs P f g = f refl
+put-both false s xs P f g = g refl
 
 module _ (clocks : Clocks) (event : Event) (rule : Recurrence) (w : Window) where
   -- none of the locals from one on and before another gives a start
@@ -61,12 +67,11 @@ module _ (clocks : Clocks) (event : Event) (rule : Recurrence) (w : Window) wher
 
   pub rises-found_in : (from n : ℕ) → Rises moment_cmp (found_in clocks event rule w from n)
   rises-found_in from zero = tt
-  rises-found_in from (suc n) = rises-by (gives clocks event rule w from) (rises-found_in (from + 1) n)
-    where
-      rises-by : (b : Bool) → Rises moment_cmp (found_in clocks event rule w (from + 1) n)
-          → Rises moment_cmp (with_put b (start_at clocks event (local_numbered from)) (found_in clocks event rule w (from + 1) n))
-      rises-by true h = rises-put moment_cmp moment_total (start_at clocks event (local_numbered from)) (found_in clocks event rule w (from + 1) n) h
-      rises-by false h = h
+  rises-found_in from (suc n) =
+      let s = start_at clocks event (local_numbered from) in
+      let rest = rises-found_in (from + 1) n in
+      put-both (gives clocks event rule w from) s (found_in clocks event rule w (from + 1) n) (Rises moment_cmp)
+      (λ e. rises-put moment_cmp moment_total s (found_in clocks event rule w (from + 1) n) rest) (λ e. rest)
 
   pub rises-found : (from : ℕ) → Rises moment_cmp (found clocks event rule w from)
   unfolding found

@@ -1,18 +1,19 @@
 -- One step of reading the starts of a rule: a kept local more, or none up to a bound.
 use Rattle.std.specs.Prelude.{◌≤ℤ◌, ◌<ℤ◌, slice_get}
 use lib.Signed.{mag}
-use Rattle.std.proofs.Common.{◌≡◌, ℕ, ◌+◌, ◌<◌, ◌≤◌, w32, to_z, of_z, max, ℤ, pos, ◌+ℤ◌, ◌-ℤ◌, false, List, length, ⊎_elim, sym, ◌∙◌, ap, subst, arith}
+use Rattle.std.proofs.Common.{◌≡◌, ℕ, ◌+◌, ◌<◌, ◌≤◌, w32, to_z, of_z, max, ℤ, pos, ◌+ℤ◌, ◌-ℤ◌, false, List, length, ⊎_elim, refl, sym, ◌∙◌, ap, subst, arith}
 use Rattle.std.proofs.lemmas.Int.{ints}
 use Rattle.ics_fields.specs.Days.{IsDayNumber}
 use Rattle.ics_fields.specs.declared.local.Local.{Local}
 use Rattle.ics_rule.specs.Cursors.{place_of}
-use Rattle.ics_fields.specs.Locals.{number, midnight, whole_days}
+use Rattle.ics_fields.specs.Locals.{local_at, number, midnight, whole_days, year_seconds}
 use Rattle.ics_rule.specs.Next.{NoneKept, IsNextKept}
 use Rattle.ics_series.specs.declared.rule_starts.RuleStarts.{RuleStarts}
 use Rattle.ics_series.specs.declared.start.Start.{Start}
 use Rattle.ics_series.specs.Found.{moment_cmp, start_at}
 use Rattle.ics_series.specs.HeldMost.{most_in_days}
 use Rattle.ics_series.specs.Listing.{IsIn}
+use Rattle.ics_series.specs.Merged.{cut}
 use Rattle.ics_series.specs.Rising.{Rises}
 use Rattle.ics_series.specs.RuleFeed.{starts_left}
 use Rattle.ics_series.specs.RuleStarts.{gives, is_behind, local_numbered, midnight_number, steps_left, to_come, with_held, AreHeld, IsHeld}
@@ -20,7 +21,7 @@ use Rattle.ics_series.specs.Starts.{time_at}
 use Rattle.ics_series.specs.FileZones.{clocks_in, IsTimeOf}
 use Rattle.ics_series.proofs.StartSourceLemmas.{kept-time}
 use Rattle.ics_series.proofs.HeldMostLemmas.{held-in-days}
-use Rattle.ics_series.proofs.RuleDayLemmas.{first-held, near-left, number-day}
+use Rattle.ics_series.proofs.RuleDayLemmas.{first-held, near-left, number-day, passed}
 use Rattle.ics_series.proofs.RuleLocalLemmas.{numbered-number}
 use Rattle.ics_series.proofs.RuleReadLemmas.{held-in, held-on, is-held, rises-held}
 use Rattle.ics_series.proofs.RuleStartLemmas.{come-none, come-one}
@@ -29,9 +30,6 @@ use Rattle.ics_rule.specs.PeriodNumbers.{rules_end}
 -- a number that fits in an i32 is read back
 pub signed-back : (x y : ℤ) → mag x < 2_147_483_648 → x ≡ y → to_z w32 (of_z w32 x) ≡ y
 signed-back x y l e = omega (arith, ints)
-
-pub bound-back : {low high : ℤ} (x : ℤ) → mag x < 2_147_483_648 → low <ℤ x → x ≤ℤ high → (low <ℤ to_z w32 (of_z w32 x)) × (to_z w32 (of_z w32 x) ≤ℤ high)
-bound-back x l low high = (omega (arith, ints), omega (arith, ints))
 
 pub day-back : (day : ℤ) → IsDayNumber day → to_z w32 (of_z w32 day) ≡ day
 day-back day h = omega (arith, ints, h.0, h.1)
@@ -49,7 +47,7 @@ module _ (s : RuleStarts) where
   -- what is held is no more than the event has in five UTC days
   pub few-held : length s.held.items ≤ most_in_days (clocks_in s.zones) s.event.now
   few-held =
-      held-in-days s.zones s.event.now s.rule s.window s.held.items s.of (omega (arith, ints, s.low, s.asked_on))
+      held-in-days s.zones s.event.now s.rule s.window s.time.is_time s.of s.held.items (omega (arith, ints, s.low, s.asked_on))
       (omega (arith, ints, s.asked_end, end-days.1)) s.rises s.are
 
   -- where no day more has to be read the first that is held is the first still to come
@@ -57,92 +55,115 @@ module _ (s : RuleStarts) where
   first-left ready =
       first-held s.zones s.event.now s.rule s.window s.day s.end (place_of s.cursor) day-days end-days s.after s.read s.held.items s.rises ready
 
+  -- a start leaves of what is held what it leaves of all that is still to come
+  pub passed-left : (t : Start) (new : List Start) → new ≡ cut moment_cmp t s.held.items → is_behind s.day s.end s.held.items ≡ false
+      → to_come (clocks_in s.zones) s.event.now s.rule s.window new (place_of s.cursor) ≡ cut moment_cmp t (starts_left s)
+  passed-left t new is ready =
+      ap (λ xs. to_come (clocks_in s.zones) s.event.now s.rule s.window xs (place_of s.cursor)) is
+      ∙ passed s.zones s.event.now s.rule s.window s.day s.end (place_of s.cursor) day-days end-days s.after s.read t s.held.items s.rises ready
+
   pub asked-number : pos (midnight_number s.asked) ≡ midnight s.asked +ℤ pos 62_167_219_200
   asked-number = number-day s.asked (omega (arith, ints, s.low, s.asked_on), omega (arith, ints, s.asked_end, end-days.1))
 
   pub left-near : (t : Start) → IsIn t (starts_left s) → (midnight s.asked -ℤ whole_days 3) ≤ℤ t.moment
   left-near = near-left s.zones s.event.now s.rule s.window s.day s.held.items (place_of s.cursor) day-days s.asked_soon s.read s.are
 
-  module _ (bound : ℤ) (within : (s.day <ℤ bound) × (bound ≤ℤ s.end)) where
-    pub bound-days : IsDayNumber bound
-    bound-days = (omega (arith, ints, within.0, s.low), omega (arith, ints, within.1, end-days.1))
+-- What is known of the starts once a day more is read, up to and with a local.
+pub record IsRead (s : RuleStarts) (day asked : ℤ) (place known : ℕ) (held : List Start) : Type 0 where
+  pub rises : Rises moment_cmp held
+  pub are : AreHeld (clocks_in s.zones) s.event.now s.rule s.window asked held
+  pub read : midnight_number day ≤ place
+  pub low : year_seconds 0 ≤ℤ midnight day
+  pub on : day ≤ℤ asked
+  pub soon : asked ≤ℤ (day +ℤ pos 1)
+  pub end : asked ≤ℤ s.end
+  pub before : (midnight_number s.asked ≤ midnight_number asked) × (known ≤ midnight_number asked)
+  pub same : to_come (clocks_in s.zones) s.event.now s.rule s.window held place ≡ starts_left s
+  pub less : steps_left day s.end place < steps_left s.day s.end (place_of s.cursor)
 
-    pub bound-early : midnight_number bound ≤ rules_end
-    bound-early = omega (arith, ints, within.1, bound-days.0, end-days.0, s.early)
+module _ (s : RuleStarts) (b : ℤ) (fits : mag b < 2_147_483_648) (later : s.day <ℤ b) (within : b ≤ℤ s.end) (at : Local)
+    (is : at ≡ local_at (to_z w32 (of_z w32 b)) 0) where
+  abbrev bound : ℤ
+  bound = to_z w32 (of_z w32 b)
 
-    pub none-asked : midnight_number s.asked ≤ midnight_number bound
-    none-asked = omega (arith, ints, s.low, s.asked_on, s.asked_soon, within.0, bound-days.0)
+  range : (s.day <ℤ bound) × (bound ≤ℤ s.end)
+  range = (omega (arith, ints), omega (arith, ints))
 
-    pub none-less : (next : ℕ) → next ≡ max (place_of s.cursor) (midnight_number bound) →
-        steps_left bound s.end next < steps_left s.day s.end (place_of s.cursor)
-    none-less next e = omega (arith, ints, within.0, within.1, e, s.low, bound-days.0, end-days.0)
+  days : IsDayNumber bound
+  days = (omega (arith, ints, range.0, s.low), omega (arith, ints, range.1, (end-days s).1))
 
-    pub none-same : (held : List Start) (next : ℕ) → held ≡ s.held.items → next ≡ max (place_of s.cursor) (midnight_number bound) →
-        NoneKept s.rule (place_of s.cursor) (midnight_number bound)
-        → to_come (clocks_in s.zones) s.event.now s.rule s.window held next ≡ starts_left s
-    none-same held next h e none =
-        ap (λ xs. to_come (clocks_in s.zones) s.event.now s.rule s.window xs next) h
-        ∙ (ap (to_come (clocks_in s.zones) s.event.now s.rule s.window s.held.items) e
-        ∙ come-none (clocks_in s.zones) s.event.now s.rule s.window s.held.items (place_of s.cursor) (midnight_number bound) bound-early none)
+  there : number at ≡ midnight_number bound
+  there = ap (λ (l : Local). number l) is
 
-    -- the next kept local before it is read
-    module _ (a : Local) (h : IsDayNumber a.day) (next-kept : IsNextKept s.rule (place_of s.cursor) (midnight_number bound) (number a)) where
-      pub one-on : (s.day ≤ℤ a.day) × ((a.day +ℤ pos 1) ≤ℤ bound)
-      one-on = (
-        omega (arith, ints, next-kept.from_place, s.read, s.low, h.0, a.second_in),
-        omega
-            (arith, ints, next-kept.in_bound, h.0, bound-days.0, a.second_in),
-      )
+  pub bound-days : IsDayNumber at.day
+  bound-days = subst (λ (l : Local). IsDayNumber l.day) (sym is) days
 
-      pub one-time : IsTimeOf s.zones.zones.now (time_at s.event.now.start a)
-      one-time = record { is_time = kept-time s.event.now a s.time.is_time s.of h next-kept.kept; within = s.time.within }
+  pub bound-early : number at ≤ rules_end
+  bound-early = omega (arith, ints, there, range.1, days.0, (end-days s).0, s.early)
 
-      module _ (held new : List Start) (e : held ≡ s.held.items) (is : new
-          ≡ with_held (gives (clocks_in s.zones) s.event.now s.rule s.window (number a)) (start_at (clocks_in s.zones) s.event.now a) held) where
-        pub one-rises : Rises moment_cmp new
-        one-rises =
-            subst (Rises moment_cmp) (sym is)
-            (rises-held s.zones s.event.now s.rule s.window (gives (clocks_in s.zones) s.event.now s.rule s.window (number a))
-            (start_at (clocks_in s.zones) s.event.now a) held
-            (subst (Rises moment_cmp) (sym e) s.rises))
+  own-are : AreHeld (clocks_in s.zones) s.event.now s.rule s.window b s.held.items → AreHeld (clocks_in s.zones) s.event.now s.rule s.window bound s.held.items
+  own-are = subst (λ d. AreHeld (clocks_in s.zones) s.event.now s.rule s.window d s.held.items) (sym (signed-back b b fits refl))
 
-        pub one-held : AreHeld (clocks_in s.zones) s.event.now s.rule s.window bound s.held.items → (next : ℤ) → next ≡ a.day +ℤ pos 1 →
-            AreHeld (clocks_in s.zones) s.event.now s.rule s.window next new
-        one-held are next n t m =
-            let k : IsDayNumber next = (omega (arith, ints, n, h.0), omega (arith, ints, n, one-on.1, bound-days.1)) in
-            ⊎_elim
-            (λ i. held-on s.zones s.event.now s.rule s.window s.asked next s.held.items (omega (arith, ints, n, one-on.0, s.asked_soon))
-            (λ u j. let l = (are u j).late in omega (arith, ints, l, n, one-on.1)) s.are t (subst (IsIn t) e i))
-            (λ i. subst (IsHeld (clocks_in s.zones) s.event.now s.rule s.window next) (sym i.1) (is-held s.zones s.event.now s.rule s.window a next h k n i.0))
-            (held-in s.zones s.event.now s.rule s.window (gives (clocks_in s.zones) s.event.now s.rule s.window (number a))
-            (start_at (clocks_in s.zones) s.event.now a) t held (subst (IsIn t) is m))
+  -- where no local is kept up to the bound
+  pub none-read : {held : List Start} → held ≡ s.held.items → AreHeld (clocks_in s.zones) s.event.now s.rule s.window b s.held.items → {place : ℕ} →
+      NoneKept s.rule (place_of s.cursor) (number at) × (place ≡ max (place_of s.cursor) (number at)) → IsRead s bound bound place (number at) held
+  none-read h are {place = place} next = record {
+    rises = subst (Rises moment_cmp) (sym h) s.rises;
+    are = subst (AreHeld (clocks_in s.zones) s.event.now s.rule s.window bound) (sym h) (own-are are);
+    read = omega (arith, next.1, there);
+    low = omega (arith, ints, days.0);
+    on = omega (arith, ints);
+    soon = omega (arith, ints);
+    end = range.1;
+    before = (omega (arith, ints, s.low, s.asked_on, s.asked_soon, range.0, days.0), omega (arith, there));
+    same = ap (λ xs. to_come (clocks_in s.zones) s.event.now s.rule s.window xs place) h
+        ∙ (ap (to_come (clocks_in s.zones) s.event.now s.rule s.window s.held.items) next.1
+        ∙ come-none (clocks_in s.zones) s.event.now s.rule s.window s.held.items (place_of s.cursor) (number at) bound-early next.0);
+    less = omega (arith, ints, range.0, range.1, next.1, there, s.low, days.0, (end-days s).0);
+  }
 
-        pub one-same : (next : ℕ) → next ≡ number a + 1 → to_come (clocks_in s.zones) s.event.now s.rule s.window new next ≡ starts_left s
-        one-same next n =
-            let clocks = clocks_in s.zones in
-            let event = s.event.now in
-            let given = gives (clocks_in s.zones) s.event.now s.rule s.window (number a) in
-            ap (λ xs. to_come clocks event s.rule s.window xs next) (is ∙ (ap (with_held given (start_at clocks event a)) e
-            ∙ ap (λ l. with_held given (start_at clocks event l) s.held.items) (sym (numbered-number a h))))
-            ∙ (ap (to_come clocks event s.rule s.window (with_held given (start_at clocks event (local_numbered (number a))) s.held.items)) n
-            ∙ come-one clocks event s.rule s.window s.held.items s.rises bound-early next-kept)
+  -- the next kept local before the bound is read
+  module _ (a : Local) (own : IsDayNumber a.day) {place : ℕ} (next : IsNextKept s.rule (place_of s.cursor) (number at) (number a) × (place ≡ number a + 1)) where
+    pub one-time : IsTimeOf s.zones.zones.now (time_at s.event.now.start a)
+    one-time = record { is_time = kept-time s.event.now a s.time.is_time s.of own next.0.kept; within = s.time.within }
 
-      pub one-asked : (next : ℤ) → next ≡ a.day +ℤ pos 1 → (midnight_number s.asked ≤ midnight_number next) × (number a + 1 ≤ midnight_number next)
-      one-asked next n = (omega (arith, ints, s.low, s.asked_on, s.asked_soon, one-on.0, h.0, n), omega (arith, ints, h.0, n, a.second_in))
+    on-day : (s.day ≤ℤ a.day) × ((a.day +ℤ pos 1) ≤ℤ bound)
+    on-day = (
+      omega (arith, ints, next.0.from_place, s.read, s.low, own.0, a.second_in),
+      omega (arith, ints, next.0.in_bound, there, own.0, days.0, a.second_in),
+    )
 
-      pub one-less : (day : ℤ) (next : ℕ) → day ≡ a.day → next ≡ number a + 1 → steps_left day s.end next < steps_left s.day s.end (place_of s.cursor)
-      one-less day next d n = omega (
-        arith,
-        ints,
-        d,
-        n,
-        next-kept.from_place,
-        next-kept.in_bound,
-        one-on.0,
-        one-on.1,
-        within.1,
-        s.low,
-        h.0,
-        bound-days.0,
-        end-days.0,
-      )
+    pub one-read : {held new : List Start} → held ≡ s.held.items → AreHeld (clocks_in s.zones) s.event.now s.rule s.window b s.held.items → new
+        ≡ with_held (gives (clocks_in s.zones) s.event.now s.rule s.window (number a)) (start_at (clocks_in s.zones) s.event.now a) held →
+        IsRead s (to_z w32 (of_z w32 a.day)) (to_z w32 (of_z w32 (to_z w32 (of_z w32 a.day) +ℤ pos 1))) place (number a + 1) new
+    one-read {held = held} {new = new} h are is-new =
+        let clocks = clocks_in s.zones in
+        let event = s.event.now in
+        let given = gives (clocks_in s.zones) s.event.now s.rule s.window (number a) in
+        let day = day-back a.day own in
+        let asked = next-back a.day own in
+        let kept = next.0 in
+        let put = is-new ∙ ap (with_held given (start_at clocks event a)) h in
+        record {
+          rises = subst (Rises moment_cmp) (sym put) (rises-held s.zones event s.rule s.window given (start_at clocks event a) s.held.items s.rises);
+          are = λ t m. ⊎_elim
+              (λ i. held-on s.zones event s.rule s.window s.asked _ s.held.items (omega (arith, ints, asked, on-day.0, s.asked_soon))
+              (λ u j. let l = (own-are are u j).late in omega (arith, ints, l, asked, on-day.1)) s.are t i)
+              (λ i. subst (IsHeld clocks event s.rule s.window (to_z w32 (of_z w32 (to_z w32 (of_z w32 a.day) +ℤ pos 1)))) (sym i.1)
+              (is-held s.zones event s.rule s.window a _ own (omega (arith, ints, asked, own.0), omega (arith, ints, asked, on-day.1, days.1)) asked i.0))
+              (held-in s.zones event s.rule s.window given (start_at clocks event a) t s.held.items (subst (IsIn t) put m));
+          read = omega (arith, ints, next.1, day, own.0);
+          low = omega (arith, ints, day, own.0);
+          on = omega (arith, ints, day, asked);
+          soon = omega (arith, ints, day, asked);
+          end = omega (arith, ints, asked, on-day.1, range.1);
+          before = (
+            omega (arith, ints, s.low, s.asked_on, s.asked_soon, on-day.0, own.0, asked),
+            omega (arith, ints, own.0, asked, a.second_in),
+          );
+          same = ap (λ xs. to_come clocks event s.rule s.window xs place) (put
+              ∙ ap (λ l. with_held given (start_at clocks event l) s.held.items) (sym (numbered-number a own)))
+              ∙ (ap (to_come clocks event s.rule s.window (with_held given (start_at clocks event (local_numbered (number a))) s.held.items)) next.1
+              ∙ come-one clocks event s.rule s.window s.held.items s.rises bound-early kept);
+          less = omega (arith, ints, day, next.1, kept.from_place, kept.in_bound, there, on-day.0, on-day.1, range.1, s.low, own.0, days.0, (end-days s).0);
+        }

@@ -27,13 +27,13 @@ use Rattle.ics_series.specs.Entry.{Entry, entry_cmp}
 use Rattle.ics_series.specs.Found.{earliest, listed_from, moment_cmp, start_at, start_by, AreFirsts, AreStartsSince, HasStart, IsSought}
 use Rattle.ics_series.specs.Listing.{IsIn, IsListing}
 use Rattle.ics_series.specs.Meeting.{entry_from}
-use Rattle.ics_series.specs.Meets.{Meets, IsEventMet}
-use Rattle.ics_series.specs.Merged.{union}
+use Rattle.ics_series.specs.Meets.{Meets}
+use Rattle.ics_series.specs.Merged.{put, union}
 use Rattle.ics_series.specs.MergedLaws.{rises-union}
 use Rattle.ics_series.specs.Rising.{Rises}
 use Rattle.ics_series.specs.RuleFeed.{starts_left}
-use Rattle.ics_series.specs.RuleStarts.{found, found_in, gives, lets_until, local_numbered, moment_numbered, with_put}
-use Rattle.ics_series.specs.SeriesStarts.{first_asked, listed_apart, rule_left, AreKnown, HasRuled, HaveRuled, IsGivenAt, IsGivenBy, IsKnown, IsRuleFrom}
+use Rattle.ics_series.specs.RuleStarts.{found, found_in, gives, lets_until, local_numbered, moment_numbered}
+use Rattle.ics_series.specs.SeriesStarts.{first_asked, listed_apart, rule_left, AreKnown, HasRuled, IsGivenAt, IsGivenBy, IsKnown, IsRuleFrom}
 use Rattle.ics_series.specs.SeriesStarts.{IsSeriesMet}
 use Rattle.ics_series.specs.Starts.{given_by, local_of, recurrence_by, recurrence_of, time_at, time_of, GivesStart, IsNotAfter, IsRuleStart}
 use Rattle.ics_series.specs.FileZones.{clocks_in}
@@ -43,8 +43,9 @@ use Rattle.ics_series.proofs.InstantLemmas.{instant-near}
 use Rattle.ics_series.proofs.LeftLemmas.{has-union, put-has, union-has}
 use Rattle.ics_series.proofs.ListedLemmas.{listed-in}
 use Rattle.ics_series.proofs.MasterLemmas.{same-entry}
-use Rattle.ics_series.proofs.RuleDayLemmas.{found-is, given-early, seconds-numbered}
+use Rattle.ics_series.proofs.RuleDayLemmas.{found-is, in-rules, seconds-numbered}
 use Rattle.ics_series.proofs.RuleLocalLemmas.{kept-calendar, gives-kept, number-numbered, numbered-number, ruled-kept}
+use Rattle.ics_series.proofs.RuleStartLemmas.{put-both}
 use Rattle.ics_series.proofs.SeriesLemmas.{in-moment, known-start, rises-rule}
 use Rattle.ics_series.proofs.SoughtLemmas.{listed-there, none-else, sought-early, sought-late}
 use Rattle.ics_series.proofs.StartLaws.{kept-first}
@@ -74,59 +75,46 @@ module _ (zones : FileZones) (w : Window) (event : Event) where
   known-apart (Some parts) s e m = known-listed s m
 
   -- What the rule gives.
-  day-given : (rule : Recurrence) (n : ℕ) → gives (clocks_in zones) event rule w n ≡ true → IsDayNumber (local_numbered n).day
-  day-given rule n g =
-      let early = given-early zones event rule w n g in
-      let near = instant-near zones (time_at event.start (local_numbered n)) in
-      let wrote = written-at event.start.stamp (local_numbered n) in
-      let bound : n < rules_end = omega (arith, ints, early, near.0, wrote.1, seconds-numbered n, w.not_late) in
-      (omega (arith, ints), omega (arith, ints, bound))
-
   pub known-ruled : (since : ℤ) (listed starts : List Start) (s : Start) → IsRuleFrom (clocks_in zones) event w since listed starts → IsIn s starts →
       IsKnown (clocks_in zones) event w s
   known-ruled since listed starts s r m =
       let f = found-is zones event r.rule w (number r.from) s (subst (IsIn s) r.gives m) in
-      let given : gives (clocks_in zones) event r.rule w (number (local_numbered f.by)) ≡ true =
-      ap (gives (clocks_in zones) event r.rule w) (number-numbered f.by) ∙ f.given in
+      let below = in-rules zones event r.rule w f.by f.given in
       known-is s (Kept (local_numbered f.by)) (At (time_at event.start (local_numbered f.by)))
-      (subst (IsGivenAt (clocks_in zones) event w (local_numbered f.by)) (sym r.has) (day-given r.rule f.by f.given, given), refl) f.is
+      (subst (IsGivenAt (clocks_in zones) event w (local_numbered f.by)) (sym r.has) (
+        (omega (arith, ints), omega (arith, ints, below)),
+        ap (gives (clocks_in zones) event r.rule w) (number-numbered f.by) ∙ f.given,
+      ), refl) f.is
 
   -- The list has a start for each local that gives one.
   module _ (rule : Recurrence) where
-    has-here : (from : ℕ) (rest : List Start) (b : Bool) → b ≡ true
-        → HasStart (with_put b (start_at (clocks_in zones) event (local_numbered from)) rest) (Kept (local_numbered from))
-        (moment_numbered (clocks_in zones) event from)
-    has-here from rest true e = record {
-      start = start_at (clocks_in zones) event (local_numbered from);
-      stands = itself-put moment_cmp moment_total (start_at (clocks_in zones) event (local_numbered from)) rest;
-      same = refl;
-      earlier = omega (arith, ints);
-    }
-    has-here from rest false e = let f : false ≡ true = e in absurd cc
-
-    has-later : (from k : ℕ) (rest : List Start) (b : Bool) → from < k → HasStart rest (Kept (local_numbered k)) (moment_numbered (clocks_in zones) event k)
-        → HasStart (with_put b (start_at (clocks_in zones) event (local_numbered from)) rest) (Kept (local_numbered k))
-        (moment_numbered (clocks_in zones) event k)
-    has-later from k rest true l h =
-        put-has (start_at (clocks_in zones) event (local_numbered from)) rest (Kept (local_numbered k)) (moment_numbered (clocks_in zones) event k)
-        (omega (arith, ints, seconds-numbered from, seconds-numbered k, l)) h
-    has-later from k rest false l h = h
+    abbrev HasLocal : List Start → ℕ → Type 0
+    HasLocal starts k = HasStart starts (Kept (local_numbered k)) (moment_numbered (clocks_in zones) event k)
 
     found_in-has : (from n k : ℕ) → from ≤ k → k < from + n → gives (clocks_in zones) event rule w k ≡ true
-        → HasStart (found_in (clocks_in zones) event rule w from n) (Kept (local_numbered k)) (moment_numbered (clocks_in zones) event k)
+        → HasLocal (found_in (clocks_in zones) event rule w from n) k
     found_in-has from zero k l u g = absurd (omega (arith, l, u))
     found_in-has from (suc n) k l u g =
-        ⊎_elim
-        (λ e. subst (λ i. HasStart (found_in (clocks_in zones) event rule w from (suc n)) (Kept (local_numbered i)) (moment_numbered (clocks_in zones) event i))
-        e
-        (has-here from (found_in (clocks_in zones) event rule w (from + 1) n) (gives (clocks_in zones) event rule w from)
-        (ap (gives (clocks_in zones) event rule w) e ∙ g)))
-        (λ less. has-later from k (found_in (clocks_in zones) event rule w (from + 1) n) (gives (clocks_in zones) event rule w from) less
+        let s = start_at (clocks_in zones) event (local_numbered from) in
+        let rest = found_in (clocks_in zones) event rule w (from + 1) n in
+        put-both (gives (clocks_in zones) event rule w from) s rest (λ xs. HasLocal xs k)
+        (λ e. ⊎_elim
+        (λ same. subst (HasLocal (put moment_cmp s rest)) same (record {
+          start = s;
+          stands = itself-put moment_cmp moment_total s rest;
+          same = refl;
+          earlier = omega (arith, ints);
+        }))
+        (λ less. put-has s rest (Kept (local_numbered k)) (moment_numbered (clocks_in zones) event k)
+        (omega (arith, ints, seconds-numbered from, seconds-numbered k, less))
         (found_in-has (from + 1) n k (omega (arith, less)) (omega (arith, u)) g))
-        (here-or-later from k l)
+        (here-or-later from k l))
+        (λ e. ⊎_elim (λ same. let no : true ≡ false = sym g ∙ (ap (gives (clocks_in zones) event rule w) (sym same) ∙ e) in absurd cc)
+        (λ less. found_in-has (from + 1) n k (omega (arith, less)) (omega (arith, u)) g)
+        (here-or-later from k l))
 
     found-has : (from k : ℕ) → from ≤ k → k < rules_end → gives (clocks_in zones) event rule w k ≡ true
-        → HasStart (found (clocks_in zones) event rule w from) (Kept (local_numbered k)) (moment_numbered (clocks_in zones) event k)
+        → HasLocal (found (clocks_in zones) event rule w from) k
     unfolding found
     found-has from k l u g = found_in-has from (rules_end - from) k l (omega (arith, l, u)) g
 
@@ -156,7 +144,19 @@ low-by {first = first} {since = since} earliest to late own above near =
       near,
     )
 
+-- the starts of a rule, if there is one, from what the starts that are known from the first and the instant are
+abbrev pub IsRuled : Clocks → Event → Window → ℤ → List Start → Option RuleStarts → Type 0
+IsRuled clocks event w since listed o = MatchOption o (event.rule ≡ None) (λ s. IsRuleFrom clocks event w since listed (starts_left s))
+
+pub ruled-as : (clocks : Clocks) (event : Event) (w : Window) {t since : ℤ} {given listed : List Start} (o : Option RuleStarts) → t ≡ since
+    → given ≡ listed → IsRuled clocks event w t given o → IsRuled clocks event w since listed o
+ruled-as clocks event w {t = t} {listed = listed} o e f h =
+    subst (λ x. IsRuled clocks event w x listed o) e (subst (λ xs. IsRuled clocks event w t xs o) f h)
+
 module _ (zones : FileZones) (w : Window) (event : Event) (sound : IsEvent event) (since : ℤ) where
+  abbrev by_rdates : List Start
+  by_rdates = listed_from (clocks_in zones) w event.start 0 event.rdates
+
   -- all that is sought from the instant on has a start among these
   abbrev HasSought : List Start → Type 0
   HasSought starts =
@@ -164,22 +164,8 @@ module _ (zones : FileZones) (w : Window) (event : Event) (sound : IsEvent event
       IsSought (clocks_in zones) event w (instant (clocks_in zones) (time_of given)) → since ≤ℤ instant (clocks_in zones) (time_of given)
       → HasStart starts source (instant (clocks_in zones) (time_of given))
 
-  -- what gives a start that is sought from the instant on is asked for
-  asked-for : (local : Local) (given : Rdate) → GivesStart (clocks_in zones) event (Kept local) given →
-      IsSought (clocks_in zones) event w (instant (clocks_in zones) (time_of given)) → since ≤ℤ instant (clocks_in zones) (time_of given)
-      → int_max (local_seconds (local_of event.start.stamp))
-      (first_asked (clocks_in zones) w event since (listed_from (clocks_in zones) w event.start 0 event.rdates) -ℤ whole_days 6) ≤ℤ local_seconds local
-  asked-for local given g s late =
-      let time = time_at event.start local in
-      let same = ap (λ x. instant (clocks_in zones) (time_of x)) g.1 in
-      let near = instant-near zones time in
-      let at = written-at event.start.stamp local in
-      low-by (earliest (clocks_in zones) w event (listed_from (clocks_in zones) w event.start 0 event.rdates)) (w.to +ℤ whole_days 14)
-      (sought-late zones w event (instant (clocks_in zones) (time_of given)) s) late (kept-first (clocks_in zones) event sound.start local g.0)
-      (omega (arith, ints, same, near.1, at.0))
-
   -- The rule gives a start for each that is sought.
-  module _ (starts : List Start) (r : IsRuleFrom (clocks_in zones) event w since (listed_from (clocks_in zones) w event.start 0 event.rdates) starts) where
+  module _ (starts : List Start) (r : IsRuleFrom (clocks_in zones) event w since by_rdates starts) where
     ruled : (local : Local) (given : Rdate) → GivesStart (clocks_in zones) event (Kept local) given →
         IsSought (clocks_in zones) event w (instant (clocks_in zones) (time_of given)) → since ≤ℤ instant (clocks_in zones) (time_of given)
         → HasStart starts (Kept local) (instant (clocks_in zones) (time_of given))
@@ -189,11 +175,15 @@ module _ (zones : FileZones) (w : Window) (event : Event) (sound : IsEvent event
         ap (λ x. instant (clocks_in zones) (time_of x)) g.1 in
         let early = sought-early zones w event (instant (clocks_in zones) (time_of given)) s in
         let day = kept-calendar (clocks_in zones) event local sound.start g.0 in
-        let low = r.low in
-        let asked = asked-for local given g s late in
-        let from : number r.from ≤ number local = omega (arith, ints, low, asked, number-seconds r.from r.day, number-seconds local day) in
         let near = instant-near zones time in
         let at = written-at event.start.stamp local in
+        let asked : int_max (local_seconds (local_of event.start.stamp)) (first_asked (clocks_in zones) w event since by_rdates -ℤ whole_days 6)
+        ≤ℤ local_seconds local =
+        low-by (earliest (clocks_in zones) w event by_rdates) (w.to +ℤ whole_days 14)
+        (sought-late zones w event (instant (clocks_in zones) (time_of given)) s) late (kept-first (clocks_in zones) event sound.start local g.0)
+        (omega (arith, ints, same, near.1, at.0)) in
+        let low = r.low in
+        let from : number r.from ≤ number local = omega (arith, ints, low, asked, number-seconds r.from r.day, number-seconds local day) in
         let below : number local < rules_end = omega (arith, ints, same, early, near.0, at.1, number-seconds local day, w.not_late) in
         let given-there : gives (clocks_in zones) event r.rule w (number local) ≡ true =
         gives-own zones w event r.rule local r.has day g.0 (subst (λ t. t <ℤ w.to) same early) in
@@ -203,18 +193,13 @@ module _ (zones : FileZones) (w : Window) (event : Event) (sound : IsEvent event
         (subst (λ l. HasStart (found (clocks_in zones) event r.rule w (number r.from)) (Kept l) (instant (clocks_in zones) (time_at event.start l)))
         (numbered-number local day) has))
 
-    -- all that it gives goes before an RDATE
-    local-first : (place : ℕ) (x : Start) → IsIn x starts → IsNotAfter x.source (Listed place)
-    local-first place x m =
-        let f = found-is zones event r.rule w (number r.from) x (subst (IsIn x) r.gives m) in
-        subst (λ (s : Start). IsNotAfter s.source (Listed place)) (sym f.is) tt
-
-    pub with-ruled : (listed : List Start) → Rises moment_cmp starts → AreFirsts (listed_from (clocks_in zones) w event.start 0 event.rdates) listed
-        → HasSought (union moment_cmp starts listed)
+    pub with-ruled : (listed : List Start) → Rises moment_cmp starts → AreFirsts by_rdates listed → HasSought (union moment_cmp starts listed)
     with-ruled listed rises firsts (Kept local) given g s late =
         has-union starts listed (Kept local) (instant (clocks_in zones) (time_of given)) rises (ruled local given g s late)
     with-ruled listed rises firsts (Listed place) given g s late =
-        union-has starts listed (Listed place) (instant (clocks_in zones) (time_of given)) (local-first place)
+        union-has starts listed (Listed place) (instant (clocks_in zones) (time_of given))
+        (λ x m. let f = found-is zones event r.rule w (number r.from) x (subst (IsIn x) r.gives m) in
+        subst (λ (s : Start). IsNotAfter s.source (Listed place)) (sym f.is) tt)
         (firsts.all (start_by (clocks_in zones) (Listed place) given)
         (⊎_elim
         (λ e. let f : Listed place ≡ Kept (local_of event.start.stamp) = ap (λ (x : Start). x.source) e in absurd cc)
@@ -222,69 +207,55 @@ module _ (zones : FileZones) (w : Window) (event : Event) (sound : IsEvent event
         (listed-there zones w event place given g (sought-early zones w event (instant (clocks_in zones) (time_of given)) s))))
 
   -- Both kinds together.
-  pub known-left : (o : Option RuleStarts) (listed : List Start) → AreFirsts (listed_apart (clocks_in zones) w event event.rule) listed
-      → MatchOption o (event.rule ≡ None) (λ s. IsRuleFrom (clocks_in zones) event w since (listed_apart (clocks_in zones) w event event.rule) (starts_left s))
+  abbrev apart : List Start
+  apart = listed_apart (clocks_in zones) w event event.rule
+
+  -- where the rule gives starts, the ones that are known from the first are those by RDATEs
+  apart-is : {listed starts : List Start} → IsRuleFrom (clocks_in zones) event w since listed starts → apart ≡ by_rdates
+  apart-is r = by event.rule refl
+    where
+      by : (parts : Option RuleParts) → event.rule ≡ parts → listed_apart (clocks_in zones) w event parts ≡ by_rdates
+      by None e = let f : None ≡ Some r.rule = ap (option_map (recurrence_by event.start.stamp)) (sym e) ∙ r.has in absurd cc
+      by (Some parts) e = refl
+
+  by-rdates : {starts : List Start} → IsRuleFrom (clocks_in zones) event w since apart starts → IsRuleFrom (clocks_in zones) event w since by_rdates starts
+  by-rdates {starts = starts} r = subst (λ xs. IsRuleFrom (clocks_in zones) event w since xs starts) (apart-is r) r
+
+  pub known-left : (o : Option RuleStarts) (listed : List Start) → AreFirsts apart listed → IsRuled (clocks_in zones) event w since apart o
       → AreKnown (clocks_in zones) event w (union moment_cmp (rule_left o) listed)
   known-left None listed firsts r s m = known-apart zones w event event.rule s refl (firsts.are s m)
   known-left (Some starts) listed firsts r s m =
-      ⊎_elim (known-ruled zones w event since (listed_apart (clocks_in zones) w event event.rule) (starts_left starts) s r)
+      ⊎_elim (known-ruled zones w event since apart (starts_left starts) s r)
       (λ n. known-apart zones w event event.rule s refl (firsts.are s n.1))
       (union-in moment_cmp moment_total s (starts_left starts) listed firsts.rises m)
 
-  all-by : (o : Option RuleStarts) (parts : Option RuleParts) (listed : List Start) → event.rule ≡ parts →
-      AreFirsts (listed_apart (clocks_in zones) w event parts) listed
-      → MatchOption o (event.rule ≡ None) (λ s. IsRuleFrom (clocks_in zones) event w since (listed_apart (clocks_in zones) w event parts) (starts_left s))
+  all-by : (o : Option RuleStarts) (listed : List Start) → AreFirsts apart listed → IsRuled (clocks_in zones) event w since apart o
       → HasSought (union moment_cmp (rule_left o) listed)
-  all-by None None listed e firsts r =
-      λ source given g s late. firsts.all (start_by (clocks_in zones) source given) (none-else zones w event e source given g s)
-  all-by None (Some parts) listed e firsts r = let f : None ≡ Some parts = sym r ∙ e in absurd cc
-  all-by (Some starts) None listed e firsts r =
-      let f : None ≡ Some r.rule = ap (option_map (recurrence_by event.start.stamp)) (sym e) ∙ r.has in absurd cc
-  all-by (Some starts) (Some parts) listed e firsts r = with-ruled (starts_left starts) r listed (rises-rule (Some starts)) firsts
+  all-by None listed firsts r = λ source given g s late. firsts.all (start_by (clocks_in zones) source given)
+      (subst (λ parts. IsIn (start_by (clocks_in zones) source given) (listed_apart (clocks_in zones) w event parts)) (sym r)
+      (none-else zones w event r source given g s))
+  all-by (Some starts) listed firsts r =
+      with-ruled (starts_left starts) (by-rdates r) listed (rises-rule (Some starts)) (subst (λ xs. AreFirsts xs listed) (apart-is r) firsts)
 
   -- Where an occurrence begins at the instant of a local that DTSTART has or the rule keeps, the rule has a start there.
-  sought-at : (e : Entry) → IsEventMet (clocks_in zones) event w e → IsSought (clocks_in zones) event w e.start
-  sought-at e o =
-      let of = o.0.lasts in
-      let is : e ≡ entry_from (clocks_in zones) event of.given =
-      same-entry e (entry_from (clocks_in zones) event of.given) of.starts of.ends (o.0.recurrence ∙ of.starts) o.0.event in
-      record { source = of.source; given = of.given; gives = of.gives; starts = sym of.starts; meets = subst (Meets w) is o.1 }
-
-  ruled-coming : (overridden : List ℤ) (starts : List Start) (coming : List Entry) →
-      IsRuleFrom (clocks_in zones) event w since (listed_from (clocks_in zones) w event.start 0 event.rdates) starts
-      → ((o : Entry) → IsIn o coming → IsSeriesMet (clocks_in zones) event w since overridden o) → HaveRuled (clocks_in zones) event starts coming
-  ruled-coming overridden starts coming r f o m local k =
-      let met = f o m in
-      let has = ruled starts r local (At (time_at event.start local)) (k.0, refl) (subst (IsSought (clocks_in zones) event w) (sym k.1) (sought-at o met.0))
-      (subst (λ t. since ≤ℤ t) (sym k.1) met.1.0) in
-      in-moment has.start o.start starts (has.same ∙ k.1) has.stands
-
-  pub has-ruled : (o : Option RuleStarts) (overridden : List ℤ) (coming : List Entry)
-      → MatchOption o (event.rule ≡ None) (λ s. IsRuleFrom (clocks_in zones) event w since (listed_apart (clocks_in zones) w event event.rule) (starts_left s))
+  pub has-ruled : (o : Option RuleStarts) (overridden : List ℤ) (coming : List Entry) → IsRuled (clocks_in zones) event w since apart o
       → IsListing entry_cmp (IsSeriesMet (clocks_in zones) event w since overridden) coming → HasRuled (clocks_in zones) event o coming
-  has-ruled o overridden coming r l = by o event.rule refl r
-    where
-      by : (o : Option RuleStarts) (parts : Option RuleParts) → event.rule ≡ parts
-          → MatchOption o (event.rule ≡ None) (λ s. IsRuleFrom (clocks_in zones) event w since (listed_apart (clocks_in zones) w event parts) (starts_left s))
-          → HasRuled (clocks_in zones) event o coming
-      by None parts e r = tt
-      by (Some starts) None e r = let g : None ≡ Some r.rule = ap (option_map (recurrence_by event.start.stamp)) (sym e) ∙ r.has in absurd cc
-      by (Some starts) (Some parts) e r = ruled-coming overridden (starts_left starts) coming r (λ o m. (l.exact o).0 m)
+  has-ruled None overridden coming r l = tt
+  has-ruled (Some starts) overridden coming r l = λ o m local k.
+      let met = (l.exact o).0 m in
+      let of = met.0.0.lasts in
+      let is : o ≡ entry_from (clocks_in zones) event of.given =
+      same-entry o (entry_from (clocks_in zones) event of.given) of.starts of.ends (met.0.0.recurrence ∙ of.starts) met.0.0.event in
+      let sought : IsSought (clocks_in zones) event w o.start =
+      record { source = of.source; given = of.given; gives = of.gives; starts = sym of.starts; meets = subst (Meets w) is met.0.1 } in
+      let has = ruled (starts_left starts) (by-rdates r) local (At (time_at event.start local)) (k.0, refl)
+      (subst (IsSought (clocks_in zones) event w) (sym k.1) sought) (subst (λ t. since ≤ℤ t) (sym k.1) met.1.0) in
+      in-moment has.start o.start (starts_left starts) (has.same ∙ k.1) has.stands
 
-  pub starts-since : (o : Option RuleStarts) (listed : List Start) → AreFirsts (listed_apart (clocks_in zones) w event event.rule) listed
-      → MatchOption o (event.rule ≡ None) (λ s. IsRuleFrom (clocks_in zones) event w since (listed_apart (clocks_in zones) w event event.rule) (starts_left s))
+  pub starts-since : (o : Option RuleStarts) (listed : List Start) → AreFirsts apart listed → IsRuled (clocks_in zones) event w since apart o
       → AreStartsSince (clocks_in zones) event w since (union moment_cmp (rule_left o) listed)
   starts-since o listed firsts r = record {
     rises = rises-union moment_cmp moment_total (rule_left o) listed firsts.rises;
     are = λ s m. known-start zones w event s sound (known-left o listed firsts r s m);
-    all = all-by o event.rule listed refl firsts r;
+    all = all-by o listed firsts r;
   }
-
--- the rule's starts by what the starts that are known from the first and the instant are
-module _ (clocks : Clocks) (event : Event) (w : Window) where
-  pub ruled-as : {t since : ℤ} {given listed : List Start} (o : Option RuleStarts) → t ≡ since → given ≡ listed
-      → MatchOption o (event.rule ≡ None) (λ s. IsRuleFrom clocks event w t given (starts_left s)) →
-      MatchOption o (event.rule ≡ None) (λ s. IsRuleFrom clocks event w since listed (starts_left s))
-  ruled-as {t = t} {listed = listed} o e f h =
-      subst (λ x. MatchOption o (event.rule ≡ None) (λ s. IsRuleFrom clocks event w x listed (starts_left s))) e
-      (subst (λ xs. MatchOption o (event.rule ≡ None) (λ s. IsRuleFrom clocks event w t xs (starts_left s))) f h)

@@ -5,7 +5,7 @@ use Rattle.std.specs.Option.{option_map}
 use Rattle.std.specs.Ordering.{is_lt}
 use Rattle.std.specs.declared.cmp.Ordering.{Ordering}
 use Rattle.std.specs.declared.cmp.Ordering.TheVariants.{Less}
-use Rattle.std.proofs.lemmas.Bool.{or_right}
+use Rattle.std.proofs.lemmas.Bool.{false_from_ne_true, not_from_false, not_from_true, or_right}
 use Rattle.ics_event.specs.Event.{FileSaid}
 use Rattle.ics_event.specs.declared.event.Event.{Event}
 use Rattle.ics_event.specs.declared.time.Time.{Time}
@@ -27,6 +27,20 @@ pub lt-Less : (c : Ordering) → is_lt c ≡ true → c ≡ Less
 lt-Less Less e = refl
 lt-Less _ e = let f : false ≡ true = e in cc
 
+-- What is to come is listed, and comes after the key.
+module _ (files : List FileSaid) (display : Clock) (w : Window) where
+  pub after-come : (after : Option Rank) (o : Entry) → IsToCome files display w after o → is_after after o ≡ true
+  after-come None o t = refl
+  after-come (Some key) o t = ap is_lt t.1
+
+  pub come-after : (after : Option Rank) (o : Entry) → IsListed files display w o → is_after after o ≡ true → IsToCome files display w after o
+  come-after None o l t = l
+  come-after (Some key) o l t = (l, lt-Less (rank_cmp key (rank_of o)) t)
+
+  pub come-listed : (after : Option Rank) (o : Entry) → IsToCome files display w after o → IsListed files display w o
+  come-listed None o t = t
+  come-listed (Some key) o t = t.0
+
 -- Of what is given that is listed which is kept.
 module _ (files : List FileSaid) (display : Clock) (w : Window) (vs : List Version) (h : AreChosen files display vs) where
   abbrev named : Entry → Bool
@@ -35,9 +49,11 @@ module _ (files : List FileSaid) (display : Clock) (w : Window) (vs : List Versi
   given-occurs : (o : Entry) → IsGiven files display w o → is_kept (map seen vs) o ≡ true → Occurs files display o
   given-occurs o g e = by g.by.event.recurrence refl g.is.0
     where
-      unnamed : (b : Bool) → named o ≡ b → o.event.recurrence ≡ None → IsOverridden files display o.event.uid o.recurrence → ⊥
-      unnamed true n none v = let f : false ≡ true = sym (ap (λ (r : Option Time). is_some r || not (named o)) none ∙ ap not n) ∙ e in cc
-      unnamed false n none v = let f : false ≡ true = sym n ∙ overridden-named files display vs h o.event.uid o.recurrence v in cc
+      unnamed : o.event.recurrence ≡ None → IsOverridden files display o.event.uid o.recurrence → ⊥
+      unnamed none v =
+          let named-so = not_from_true (named o) (overridden-named files display vs h o.event.uid o.recurrence v) in
+          let f : true ≡ false = sym e ∙ (ap (λ (r : Option Time). is_some r || not (named o)) none ∙ named-so) in
+          cc
 
       by : (r : Option Time) → g.by.event.recurrence ≡ r →
           IsGivenBy (clocks_at files display g.by.file) g.by.event (option_map (instant (clocks_at files display g.by.file)) r) o → Occurs files display o
@@ -45,7 +61,7 @@ module _ (files : List FileSaid) (display : Clock) (w : Window) (vs : List Versi
         master = g.by;
         is = record { chosen = g.chosen; single = none };
         of = of;
-        kept = unnamed (named o) refl (ap (λ (v : Event). v.recurrence) of.event ∙ none);
+        kept = unnamed (ap (λ (v : Event). v.recurrence) of.event ∙ none);
       })
       by (Some time) some of = inr (record {
         override = g.by;
@@ -64,12 +80,9 @@ module _ (files : List FileSaid) (display : Clock) (w : Window) (vs : List Versi
         meets,
       );
     },
-    or_right (is_some o.event.recurrence) (not (named o)) (unnamed (named o) refl),
+    or_right (is_some o.event.recurrence) (not (named o)) (not_from_false (named o)
+        (false_from_ne_true (named o) (λ n. m.kept (named-overridden files display vs h o.event.uid o.recurrence n)))),
   )
-    where
-      unnamed : (b : Bool) → named o ≡ b → not b ≡ true
-      unnamed true n = absurd (m.kept (named-overridden files display vs h o.event.uid o.recurrence n))
-      unnamed false n = refl
 
   override-given : (o : Entry) → IsOfOverride files display o → Meets w o → IsGiven files display w o × (is_kept (map seen vs) o ≡ true)
   override-given o m meets = (
@@ -87,18 +100,10 @@ module _ (files : List FileSaid) (display : Clock) (w : Window) (vs : List Versi
 
   pub to-come : (after : Option Rank) (o : Entry) → IsGiven files display w o → is_kept (map seen vs) o ≡ true → is_after after o ≡ true →
       IsToCome files display w after o
-  to-come None o g k a = (given-occurs o g k, g.is.1)
-  to-come (Some key) o g k a = ((given-occurs o g k, g.is.1), lt-Less (rank_cmp key (rank_of o)) a)
+  to-come after o g k = come-after files display w after o (given-occurs o g k, g.is.1)
 
   pub is-after : (after : Option Rank) (o : Entry) → IsToCome files display w after o → is_after after o ≡ true
-  is-after None o t = refl
-  is-after (Some key) o t = ap is_lt t.1
+  is-after = after-come files display w
 
   pub listed-given : (o : Entry) → IsListed files display w o → IsGiven files display w o × (is_kept (map seen vs) o ≡ true)
   listed-given o l = ⊎_elim (λ m. master-given o m l.1) (λ m. override-given o m l.1) l.0
-
--- what is to come is listed
-pub come-listed : (files : List FileSaid) (display : Clock) (w : Window) (after : Option Rank) (o : Entry) → IsToCome files display w after o →
-    IsListed files display w o
-come-listed files display w None o t = t
-come-listed files display w (Some key) o t = t.0

@@ -1,4 +1,5 @@
 -- What stands in the union of two lists and in the merge of several.
+use Rattle.std.specs.Prelude.{◌↔◌}
 use Rattle.std.specs.List.{AllByRecursion}
 use Rattle.std.proofs.Common.{◌≡◌, ◌≢◌, List, [], ◌∷◌, ◌⊎◌, inl, inr, ⊎_elim, refl, sym, ◌∙◌, ap}
 use Rattle.std.specs.Cmp.{IsTotalOrder}
@@ -13,7 +14,7 @@ use Rattle.ics_series.proofs.ListingLemmas.{before-in, one-rising}
 
 module _ {A : Type 0} (R : A → A → Ordering) (o : IsTotalOrder R) where
   -- x takes the place of an entry of its key
-  put-in : (e x : A) (ys : List A) → Rises R ys → IsIn e (put R x ys) → (e ≡ x) ⊎ (IsIn e ys × (R x e ≢ Equal))
+  pub put-in : (e x : A) (ys : List A) → Rises R ys → IsIn e (put R x ys) → (e ≡ x) ⊎ (IsIn e ys × (R x e ≢ Equal))
   put-in e x [] h m = ⊎_elim inl (λ k. absurd k) m
   put-in e x (y ∷ ys) h m = by (R x y) refl (put-in e x ys h.1) m
     where
@@ -34,7 +35,7 @@ module _ {A : Type 0} (R : A → A → Ordering) (o : IsTotalOrder R) where
           ⊎_elim (λ s. inr (inl s, λ t. let q : R x y ≡ Equal = sym (ap (R x) s) ∙ t in cc))
           (λ n. ⊎_elim inl (λ k. inr (inr k.0, k.1)) (ih n)) m
 
-  in-put : (e x : A) (ys : List A) → (e ≡ x) ⊎ (IsIn e ys × (R x e ≢ Equal)) → IsIn e (put R x ys)
+  pub in-put : (e x : A) (ys : List A) → (e ≡ x) ⊎ (IsIn e ys × (R x e ≢ Equal)) → IsIn e (put R x ys)
   in-put e x [] m = ⊎_elim inl (λ k. absurd k.0) m
   in-put e x (y ∷ ys) m = by (R x y) refl (in-put e x ys) m
     where
@@ -87,36 +88,23 @@ module _ {A : Type 0} (R : A → A → Ordering) (o : IsTotalOrder R) where
   pub merged-is : (xss : List (List A)) → AllByRecursion (Rises R) xss → IsListing R (λ e. IsFromFirst R e xss) (merged R xss)
   merged-is xss h = record { rises = rises-merged R o xss; exact = λ e. (merged-in e xss, in-merged e xss h) }
 
-  -- a key that is not x's is that of something in the list where it is in the list with x
-  no_key-put : (e x : A) (ys : List A) → HasNoKey R e (put R x ys) → (R e x ≢ Equal) × HasNoKey R e ys
-  no_key-put e x [] h = h
-  no_key-put e x (y ∷ ys) h = by (R x y) refl (no_key-put e x ys) h
+  -- a key is that of nothing in the list with x exactly if it is not x's, and that of nothing in the list
+  no_key-put : (e x : A) (ys : List A) → HasNoKey R e (put R x ys) ↔ ((R e x ≢ Equal) × HasNoKey R e ys)
+  no_key-put e x [] = (λ h. h, λ h. h)
+  no_key-put e x (y ∷ ys) = by (R x y) refl (no_key-put e x ys)
     where
-      by : (c : Ordering) → R x y ≡ c → (HasNoKey R e (put R x ys) → (R e x ≢ Equal) × HasNoKey R e ys)
-          → HasNoKey R e (by_order c (x ∷ y ∷ ys) (x ∷ ys) (y ∷ put R x ys)) → (R e x ≢ Equal) × HasNoKey R e (y ∷ ys)
-      by Less p ih h = h
-      by Equal p ih h = (h.0, (λ t. h.0 (alike_right o x y e p ∙ t), h.1))
-      by Greater p ih h = let k = ih h.1 in (k.0, (h.0, k.1))
+      by : (c : Ordering) → R x y ≡ c → HasNoKey R e (put R x ys) ↔ ((R e x ≢ Equal) × HasNoKey R e ys)
+          → HasNoKey R e (by_order c (x ∷ y ∷ ys) (x ∷ ys) (y ∷ put R x ys)) ↔ ((R e x ≢ Equal) × HasNoKey R e (y ∷ ys))
+      by Less p ih = (λ h. h, λ h. h)
+      by Equal p ih = (λ h. (h.0, (λ t. h.0 (alike_right o x y e p ∙ t), h.1)), λ h. (h.0, h.1.1))
+      by Greater p ih = (λ h. let k = ih.0 h.1 in (k.0, (h.0, k.1)), λ h. (h.1.0, ih.1 (h.0, h.1.1)))
 
-  put-no_key : (e x : A) (ys : List A) → (R e x ≢ Equal) → HasNoKey R e ys → HasNoKey R e (put R x ys)
-  put-no_key e x [] n h = (n, tt)
-  put-no_key e x (y ∷ ys) n h = by (R x y) (put-no_key e x ys n h.1)
-    where
-      by : (c : Ordering) → HasNoKey R e (put R x ys) → HasNoKey R e (by_order c (x ∷ y ∷ ys) (x ∷ ys) (y ∷ put R x ys))
-      by Less k = (n, h)
-      by Equal k = (n, h.1)
-      by Greater k = (h.0, k)
-
-  no_key-union : (e : A) (xs ys : List A) → HasNoKey R e (union R xs ys) → HasNoKey R e xs × HasNoKey R e ys
-  no_key-union e [] ys h = (tt, h)
-  no_key-union e (x ∷ xs) ys h =
-      let k = no_key-put e x (union R xs ys) h in
-      let rest = no_key-union e xs ys k.1 in
-      ((k.0, rest.0), rest.1)
-
-  union-no_key : (e : A) (xs ys : List A) → HasNoKey R e xs → HasNoKey R e ys → HasNoKey R e (union R xs ys)
-  union-no_key e [] ys h k = k
-  union-no_key e (x ∷ xs) ys h k = put-no_key e x (union R xs ys) h.0 (union-no_key e xs ys h.1 k)
+  no_key-union : (e : A) (xs ys : List A) → HasNoKey R e (union R xs ys) ↔ (HasNoKey R e xs × HasNoKey R e ys)
+  no_key-union e [] ys = (λ h. (tt, h), λ h. h.1)
+  no_key-union e (x ∷ xs) ys =
+      let one = no_key-put e x (union R xs ys) in
+      let rest = no_key-union e xs ys in
+      (λ h. let k = one.0 h in let r = rest.0 k.1 in ((k.0, r.0), r.1), λ h. one.1 (h.0.0, rest.1 (h.0.1, h.1)))
 
   -- the union of rising lists is the same however they are grouped
   pub union_assoc : (xs ys zs : List A) → Rises R xs → Rises R ys → Rises R zs → union R (union R xs ys) zs ≡ union R xs (union R ys zs)
@@ -126,10 +114,10 @@ module _ {A : Type 0} (R : A → A → Ordering) (o : IsTotalOrder R) where
       (λ e m. in-union e xs (union R ys zs) p
       (⊎_elim
       (λ k. ⊎_elim inl (λ n. inr (n.0, in-union e ys zs q (inl n.1))) (union-in e xs ys q k))
-      (λ k. let n = no_key-union e xs ys k.0 in inr (n.0, in-union e ys zs q (inr (n.1, k.1))))
+      (λ k. let n = (no_key-union e xs ys).0 k.0 in inr (n.0, in-union e ys zs q (inr (n.1, k.1))))
       (union-in e (union R xs ys) zs r m)))
       (λ e m. in-union e (union R xs ys) zs (rises-union R o xs ys q)
       (⊎_elim
       (λ k. inl (in-union e xs ys p (inl k)))
-      (λ k. ⊎_elim (λ n. inl (in-union e xs ys p (inr (k.0, n)))) (λ n. inr (union-no_key e xs ys k.0 n.0, n.1)) (union-in e ys zs r k.1))
+      (λ k. ⊎_elim (λ n. inl (in-union e xs ys p (inr (k.0, n)))) (λ n. inr ((no_key-union e xs ys).1 (k.0, n.0), n.1)) (union-in e ys zs r k.1))
       (union-in e xs (union R ys zs) (rises-union R o ys zs r) m)))

@@ -2,7 +2,7 @@
 use Rattle.std.specs.Prelude.{◌↔◌, ◌≤ℤ◌, ◌<ℤ◌}
 use Rattle.std.proofs.Common.{◌≡◌, ℤ, pos, ◌+ℤ◌, true, false, ◌⊎◌, inl, inr, ⊎_elim, List, ◌++◌, refl, sym, ◌∙◌, arith}
 use Rattle.std.specs.Cmp.{int_cmp_is}
-use Rattle.std.proofs.lemmas.Int.{ints}
+use Rattle.std.proofs.lemmas.Int.{int_max_is, ints}
 use Rattle.std.specs.declared.cmp.Ordering.TheVariants.{Less}
 use Rattle.ics_event.specs.Event.{FileSaid}
 use Rattle.ics_zone.proofs.Cases.{less_or_not_z}
@@ -13,19 +13,19 @@ use Rattle.ics_series.specs.Listing.{IsIn, IsListing}
 use Rattle.ics_series.specs.Meets.{IsListed, Meets}
 use Rattle.ics_series.specs.Occurs.{Occurs}
 use Rattle.ics_series.specs.WindowLaws.{IsJoined, IsWithin}
-use Rattle.ics_series.proofs.NearDayLemmas.{occurs-forward}
+use Rattle.ics_series.proofs.NearDayLemmas.{lasts-from, occurs-forward}
 use Rattle.ics_series.proofs.OnDayLemmas.{joined as joined-listing}
-
--- what starts in a window occurs-forward into it
-lasting : (from start finish : ℤ) → from ≤ℤ start → start ≤ℤ finish → (from <ℤ finish) ⊎ ((finish ≡ start) × (from ≤ℤ start))
-lasting from start finish h k = ⊎_elim
-    (λ later. let into : from <ℤ finish = omega (arith, ints, h, later) in inl into)
-    (λ not_later. let at_once : finish ≡ start = omega (arith, ints, k, not_later) in inr (at_once, h))
-    (less_or_not_z start finish)
 
 module _ (files : List FileSaid) (display : Clock) where
   starting : (w : Window) (o : Entry) → Occurs files display o → w.from ≤ℤ o.start → o.start <ℤ w.to → IsListed files display w o
-  starting w o h from to = (h, record { begun = to; lasting = lasting w.from o.start o.finish from (occurs-forward files display o h); started = λ _. from })
+  starting w o h from to = (
+    h,
+    record {
+      begun = to;
+      lasting = lasts-from w.from o.start o.finish (occurs-forward files display o h) (omega (arith, ints, from, int_max_is));
+      started = λ _. from;
+    },
+  )
 
   pub lists-starts : (w : Window) (o : Entry) → w.notstarted ≡ true
       → IsListed files display w o ↔ (Occurs files display o × (w.from ≤ℤ o.start) × (o.start <ℤ w.to))

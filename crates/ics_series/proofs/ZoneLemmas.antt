@@ -1,7 +1,7 @@
 -- The zones of a file, and the times that are read by them.
 use Rattle.std.specs.Prelude.{◌==◌, is_none}
 use Rattle.std.proofs.Common.{◌≡◌, ℕ, suc, ◌<◌, true, false, List, [], ◌∷◌, map, length, get_or, Option, Some, None, refl, sym, ◌∙◌, ap, subst, arith}
-use Rattle.std.proofs.lemmas.Bool.Decides.{nat_tests}
+use Rattle.std.proofs.lemmas.Bool.{eqb-true}
 use Rattle.std.proofs.lemmas.List.{get_or-map, length-map}
 use Rattle.ics_fields.specs.RuleParts.{RuleParts}
 use Rattle.ics_values.specs.declared.stamp.Stamp.{Stamp}
@@ -26,12 +26,9 @@ clock-there zones i d l =
     ap zone_clock (sym (get_or-map zone_said zones i d (zone_said d) l))
     ∙ sym (get_or-map zone_clock (map zone_said zones) i (zone_said d) utc_clock (subst (λ n. i < n) (sym (length-map zones zone_said)) l))
 
-no-suc : (n : ℕ) → (suc n == 0) ≡ true → ⊥
-no-suc n e = grind (arith, nat_tests)
-
 pub none-of : {A : Type 0} (xs : List A) → (length xs == 0) ≡ true → xs ≡ []
 none-of [] e = refl
-none-of (x ∷ xs) e = absurd (no-suc (length xs) e)
+none-of (x ∷ xs) e = absurd (omega (arith, eqb-true (suc (length xs)) 0 e))
 
 pub rule-none : (o : Option RuleParts) → is_none o ≡ true → o ≡ None
 rule-none None e = refl
