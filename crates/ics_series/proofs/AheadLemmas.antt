@@ -1,8 +1,8 @@
 -- What is still to come of a listing under each day: from day to day, and from its beginning.
 use Rattle.std.specs.Prelude.{◌<ℤ◌, ◌≤ℤ◌, ◌&&◌, int_lt, unsigned_abs, Result, Ok, Err, OnErr}
 use Rattle.std.specs.List.{filter}
-use Rattle.std.specs.Ordering.{int_eq, is_lt}
-use Rattle.std.proofs.Common.{◌≡◌, ℕ, zero, suc, ℤ, pos, ◌+ℤ◌, ◌-ℤ◌, List, [], ◌∷◌, ◌++◌, map, Option, Some, None, ◌⊎◌, inl, inr, ⊎_elim, Bool, true, false}
+use Rattle.std.specs.Ordering.{int_eq}
+use Rattle.std.proofs.Common.{◌≡◌, ℕ, zero, suc, ℤ, pos, ◌+ℤ◌, ◌-ℤ◌, List, [], ◌∷◌, ◌++◌, map, Option, ◌⊎◌, inl, inr, ⊎_elim, true, false}
 use Rattle.std.proofs.Common.{cond, refl, sym, ◌∙◌, ap, subst, arith}
 use Rattle.std.proofs.lemmas.Int.{ints}
 use Rattle.std.proofs.lemmas.Bool.{and_from, or_cases, or_left, or_right, and_parts}
@@ -15,7 +15,7 @@ use Rattle.ics_series.specs.Ahead.{is_today, today, IsAheadOf, IsLater}
 use Rattle.ics_series.specs.Clocks.{Clock}
 use Rattle.ics_series.specs.OnDays.{DayRank, first_near, last_near, Begins, IsNearDay, after_day_key, is_day_after, on_day, on_day_cmp, IsOnDay, OnDay}
 use Rattle.ics_series.specs.DaySteps.{IsNearAgenda, IsPastAgenda}
-use Rattle.ics_series.specs.Entry.{Entry, Rank, entry_cmp, rank_cmp, rank_of}
+use Rattle.ics_series.specs.Entry.{Entry, Rank, entry_cmp}
 use Rattle.ics_series.specs.Listing.{IsListing}
 use Rattle.ics_series.specs.Meets.{IsListed, IsToCome, Meets}
 use Rattle.ics_series.specs.Sources.{Source}

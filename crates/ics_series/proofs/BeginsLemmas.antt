@@ -1,6 +1,6 @@
 -- What the merge of rising lists begins with, and what it leaves.
 use Rattle.std.specs.List.{AllByRecursion}
-use Rattle.std.proofs.Common.{◌≡◌, ℕ, zero, suc, ◌<◌, List, [], ◌∷◌, refl, sym, ◌∙◌, ap, subst, map, get_or, arith}
+use Rattle.std.proofs.Common.{◌≡◌, ℕ, zero, suc, ◌<◌, List, [], ◌∷◌, refl, sym, ◌∙◌, ap, subst, map, get_or, length, arith}
 use Rattle.std.specs.Cmp.{IsTotalOrder}
 use Rattle.std.specs.Ordering.{ordering_reverse}
 use Rattle.std.proofs.lemmas.Cmp.{tied_itself}
@@ -79,16 +79,14 @@ module _ {A : Type 0} (R : A → A → Ordering) (o : IsTotalOrder R) where
           ∙ cut-union e xs ys h k)
       by Greater p h = let l = h.0 in cc
 
-  pub front-merged : (e : A) (xss : List (List A)) → AllFront R e xss → AllRise R xss → IsBefore R e (cut R e (merged R xss))
-  front-merged e [] h r = tt
-  front-merged e (xs ∷ xss) h r =
-      let k = front-merged e xss h.1 r.1 in
-      subst (IsBefore R e) (sym (cut-union-both e xs (merged R xss) h.0 r.0 k)) (before-union e (cut R e xs) (cut R e (merged R xss)) h.0 k)
-
-  pub cut-merged : (e : A) (xss : List (List A)) → AllFront R e xss → AllRise R xss → cut R e (merged R xss) ≡ merged R (map (cut R e) xss)
-  cut-merged e [] h r = refl
+  -- and of several
+  cut-merged : (e : A) (xss : List (List A)) → AllFront R e xss → AllRise R xss →
+      IsBefore R e (cut R e (merged R xss)) × (cut R e (merged R xss) ≡ merged R (map (cut R e) xss))
+  cut-merged e [] h r = (tt, refl)
   cut-merged e (xs ∷ xss) h r =
-      cut-union-both e xs (merged R xss) h.0 r.0 (front-merged e xss h.1 r.1) ∙ ap (union R (cut R e xs)) (cut-merged e xss h.1 r.1)
+      let k = cut-merged e xss h.1 r.1 in
+      let same = cut-union-both e xs (merged R xss) h.0 r.0 k.0 in
+      (subst (IsBefore R e) (sym same) (before-union e (cut R e xs) (cut R e (merged R xss)) h.0 k.0), same ∙ ap (union R (cut R e xs)) k.1)
 
   -- from y to x, where x does not come after y
   before-front : (x y : A) (zs : List A) → R x y ≡ Less → IsBefore R y (cut R y zs) → IsBefore R x zs
@@ -113,14 +111,14 @@ module _ {A : Type 0} (R : A → A → Ordering) (o : IsTotalOrder R) where
   begins-here : (e : A) (xs : List A) (xss : List (List A)) → Rises R (e ∷ xs) → AllFront R e xss → AllRise R xss → Begins e ((e ∷ xs) ∷ xss)
   begins-here e xs xss r h rs =
       let tied : R e e ≡ Equal = tied_itself o e in
-      let k = front-merged e xss h rs in
+      let k = cut-merged e xss h rs in
       let whole : cut R e (e ∷ xs) ≡ xs = ap (λ c. by_order c (e ∷ xs) xs (e ∷ xs)) tied in
       record {
         fronts = (subst (IsBefore R e) (sym whole) r.0, h);
         is =
-            put-front e e (union R xs (merged R xss)) tied (front-union e xs (merged R xss) r.0 k)
-            ∙ ap (λ l. e ∷ l) (cut-union e xs (merged R xss) r.0 k
-            ∙ (ap (union R xs) (cut-merged e xss h rs) ∙ ap (λ l. union R l (merged R (map (cut R e) xss))) (sym whole)));
+            put-front e e (union R xs (merged R xss)) tied (front-union e xs (merged R xss) r.0 k.0)
+            ∙ ap (λ l. e ∷ l) (cut-union e xs (merged R xss) r.0 k.0
+            ∙ (ap (union R xs) k.1 ∙ ap (λ l. union R l (merged R (map (cut R e) xss))) (sym whole)));
       }
 
   -- e stands in a later list, and the first list comes after it
@@ -134,21 +132,21 @@ module _ {A : Type 0} (R : A → A → Ordering) (o : IsTotalOrder R) where
             ∙ ap (λ l. e ∷ union R l (merged R (map (cut R e) xss))) (sym whole));
       }
 
-  all_front : (e : A) (xss : List (List A)) → ((i : ℕ) → IsBefore R e (cut R e (get_or xss i []))) → AllFront R e xss
+  all_front : (e : A) (xss : List (List A)) → ((i : ℕ) → i < length xss → IsBefore R e (cut R e (get_or xss i []))) → AllFront R e xss
   all_front e [] h = tt
-  all_front e (xs ∷ xss) h = (h 0, all_front e xss (λ i. h (suc i)))
+  all_front e (xs ∷ xss) h = (h 0 (omega arith), all_front e xss (λ i l. h (suc i) (omega arith)))
 
   -- e stands at the front of a list, before all of each list in front of that one, and after nothing of those behind it
   pub begins-at : {e : A} {xs : List A} (xss : List (List A)) (place : ℕ) → AllRise R xss → get_or xss place [] ≡ e ∷ xs
-      → ((i : ℕ) → i < place → IsBefore R e (get_or xss i []))
-      → ((i : ℕ) → place < i → IsBefore R e (cut R e (get_or xss i []))) → Begins e xss
+      → ((i : ℕ) → i < place → i < length xss → IsBefore R e (get_or xss i []))
+      → ((i : ℕ) → place < i → i < length xss → IsBefore R e (cut R e (get_or xss i []))) → Begins e xss
   begins-at [] place r is before after = cc
   begins-at {e = e} {xs = xs} (ys ∷ yss) zero r is before after =
       subst (λ (zs : List A). Begins e (zs ∷ yss)) (sym is)
-      (begins-here e xs yss (subst (Rises R) is r.0) (all_front e yss (λ i. after (suc i) (omega arith))) r.1)
+      (begins-here e xs yss (subst (Rises R) is r.0) (all_front e yss (λ i l. after (suc i) (omega arith) (omega arith))) r.1)
   begins-at {e = e} (ys ∷ yss) (suc place) r is before after =
-      begins-later e ys yss (before 0 (omega arith))
-      (begins-at yss place r.1 is (λ i l. before (suc i) (omega arith)) (λ i l. after (suc i) (omega arith)))
+      begins-later e ys yss (before 0 (omega arith) (omega arith))
+      (begins-at yss place r.1 is (λ i l m. before (suc i) (omega arith) (omega arith)) (λ i l m. after (suc i) (omega arith) (omega arith)))
 
   pub front-at : (x : A) (xss : List (List A)) (i : ℕ) → AllFront R x xss → IsBefore R x (cut R x (get_or xss i []))
   front-at x [] i h = tt

@@ -1,6 +1,6 @@
 -- Of sorted starts the first at each instant.
 use Rattle.std.specs.Prelude.{◌<ℤ◌}
-use Rattle.std.proofs.Common.{◌≡◌, ℕ, ◌<◌, ◌≤◌, ℤ, List, [], ◌∷◌, Bool, true, false, cond, Option, Some, None, ◌⊎◌, inl, inr, ⊎_elim, refl, sym, ◌∙◌, ap}
+use Rattle.std.proofs.Common.{◌≡◌, ℕ, ◌<◌, ◌≤◌, ℤ, List, [], ◌∷◌, true, false, Option, Some, None, ◌⊎◌, inl, inr, ⊎_elim, refl, sym, ◌∙◌, ap}
 use Rattle.std.proofs.Common.{subst, arith}
 use Rattle.std.specs.Cmp.{IsTotalOrder, int_ranks, ranks}
 use Rattle.std.specs.List.Sorted.{IsPermutation}

@@ -4,11 +4,11 @@ use Rattle.std.specs.Cmp.{IsTotalOrder}
 use Rattle.std.specs.List.{insert}
 use Rattle.std.specs.Ordering.{ordering_reverse}
 use Rattle.std.specs.declared.cmp.Ordering.{Ordering}
-use Rattle.std.specs.declared.cmp.Ordering.TheVariants.{Less, Equal, Greater}
+use Rattle.std.specs.declared.cmp.Ordering.TheVariants.{Less, Equal}
 use Rattle.ics_series.specs.Listing.{IsIn}
 use Rattle.ics_series.specs.Rising.{IsBefore, Rises}
 use Rattle.ics_series.specs.Merged.{by_order, put, union}
-use Rattle.ics_series.proofs.BeginsLemmas.{before-union}
+use Rattle.ics_series.proofs.BeginsLemmas.{before-union, union-front}
 
 pub before-all : {A : Type 0} (R : A → A → Ordering) (x : A) (ys : List A) → ((y : A) → IsIn y ys → R x y ≡ Less) → IsBefore R x ys
 before-all R x [] f = tt
@@ -19,13 +19,13 @@ module _ {A : Type 0} (R : A → A → Ordering) (o : IsTotalOrder R) where
   put-before x [] h = refl
   put-before x (y ∷ ys) h = ap (λ c. by_order c (x ∷ y ∷ ys) (x ∷ ys) (y ∷ put R x ys)) h.0
 
+  alone : (xs : List A) → Rises R xs → union R xs [] ≡ xs
+  alone [] r = refl
+  alone (x ∷ xs) r = ap (put R x) (alone xs r.1) ∙ put-before x xs r.0
+
   -- what comes before all of a rising list stands before it
   pub one-first : (s : A) (xs : List A) → Rises R xs → IsBefore R s xs → union R xs (s ∷ []) ≡ s ∷ xs
-  one-first s [] r h = refl
-  one-first s (x ∷ xs) r h =
-      let later : R x s ≡ Greater = o.antisymm x s ∙ ap ordering_reverse h.0 in
-      ap (put R x) (one-first s xs r.1 h.1)
-      ∙ (ap (λ c. by_order c (x ∷ s ∷ xs) (x ∷ xs) (s ∷ put R x xs)) later ∙ ap (λ ws. s ∷ ws) (put-before x xs r.0))
+  one-first s xs r h = union-front R o s xs [] h ∙ ap (λ ws. s ∷ ws) (alone xs r)
 
   pub before-at : (x : A) (xs : List A) (i : ℕ) (d : A) → IsBefore R x xs → i < length xs → R x (get_or xs i d) ≡ Less
   before-at x [] i d h l = absurd (omega arith)

@@ -4,6 +4,7 @@ use Rattle.ics_fields.specs.Days.{days_on_literals}
 use Rattle.ics_fields.specs.Locals.{local_at}
 use Rattle.ics_fields.specs.RuleParts.{every}
 use Rattle.ics_fields.specs.declared.frequency.Frequency.TheVariants.{Secondly}
+use Rattle.ics_values.specs.declared.stamp.Stamp.{Stamp}
 use Rattle.ics_values.specs.declared.stamp.Stamp.TheVariants.{Utc}
 use Rattle.ics_fields.specs.declared.until.Until.TheVariants as until
 use Rattle.ics_rule.specs.Kept.{count, rules_on_literals, until_moment}
@@ -23,24 +24,30 @@ clocks = clocks_of utc_clock []
 abbrev ten : ℕ → Rdate
 ten day = At (record { stamp = Utc (local_at (pos day) 36_000); zone = None })
 
--- 2024-01-05T10:00:00Z, and the same again, the last second of the fifth day from there and the first of the sixth
-abbrev event : Event
-event = record {
+-- an event of no length that starts there alone
+abbrev pub starting : Stamp → Event
+starting stamp = record {
   uid = 117 ∷ [];
   sequence = 0;
-  start = record { stamp = Utc (local_at (pos 19_727) 36_000); zone = None };
+  start = record { stamp = stamp; zone = None };
   length = Open;
   rule = None;
-  rdates = ten 19_727
-      ∷ At (record { stamp = Utc (local_at (pos 19_731) 86_399); zone = None })
-      ∷ At (record { stamp = Utc (local_at (pos 19_732) 0); zone = None })
-      ∷ [];
+  rdates = [];
   exdates = [];
   recurrence = None;
   title = [];
   location = [];
   description = [];
   cancelled = false;
+}
+
+-- 2024-01-05T10:00:00Z, and the same again, the last second of the fifth day from there and the first of the sixth
+abbrev event : Event
+event = record (starting (Utc (local_at (pos 19_727) 36_000))) {
+  rdates = ten 19_727
+      ∷ At (record { stamp = Utc (local_at (pos 19_731) 86_399); zone = None })
+      ∷ At (record { stamp = Utc (local_at (pos 19_732) 0); zone = None })
+      ∷ [];
 }
 
 -- DTSTART and an RDATE at its instant count both, and the day after the fifth does not
@@ -63,7 +70,7 @@ abbrev rule : Recurrence
 rule = recurrence_by (Utc (local_at (pos 19_727) 86_398)) (record (every Secondly) { until = Some (until.Utc (local_at (pos 19_728) 0)) })
 
 abbrev seconds : Event
-seconds = record event { start = record { stamp = Utc (local_at (pos 19_727) 86_398); zone = None }; rule = Some rule.parts; rdates = [] }
+seconds = record (starting (Utc (local_at (pos 19_727) 86_398))) { rule = Some rule.parts }
 
 -- how many of six locals from there on the rule gives in the five days that begin with a day
 abbrev of_six : ℕ → ℕ

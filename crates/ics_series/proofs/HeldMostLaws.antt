@@ -1,6 +1,6 @@
 -- The greatest number of starts that an event has in five days is that of five days, and no five have more.
 use Rattle.std.specs.Prelude.{int_le, All}
-use Rattle.std.proofs.Common.{◌≡◌, ℕ, zero, suc, ◌≤◌, max, ℤ, pos, ◌+ℤ◌, ◌-ℤ◌, List, [], ◌∷◌, length, ◌⊎◌, inl, inr, ⊎_elim, refl, ◌∙◌, arith}
+use Rattle.std.proofs.Common.{◌≡◌, ℕ, zero, suc, ◌≤◌, max, ℤ, pos, ◌+ℤ◌, ◌-ℤ◌, List, [], ◌∷◌, length, ◌⊎◌, inl, ⊎_elim, refl, ◌∙◌, arith}
 use Rattle.std.proofs.lemmas.Int.{ints}
 use Rattle.ics_fields.specs.Locals.{midnight}
 use Rattle.ics_rule.proofs.KeptLemmas.{and_true}

@@ -35,11 +35,8 @@ rule-few zones event w first (Some s) h =
 -- a series holds no more than its event has starts in any five days
 pub series-few : (s : SeriesFeed) → length (series_holds s) ≤ most_in_days (clocks_in s.zones) s.event.now
 series-few s =
-    omega (
-      arith,
-      length-map (rule_held s.rule_starts) (λ start. entry_from (clocks_in s.zones) s.event.now start.given),
-      rule-few s.zones s.event.now s.window (first_of (clocks_in s.zones) s.window s.event.now s.since) s.rule_starts s.own_rule,
-    )
+    let few = rule-few s.zones s.event.now s.window (first_of (clocks_in s.zones) s.window s.event.now s.since) s.rule_starts s.own_rule in
+    omega (arith, length-map (rule_held s.rule_starts) (λ start. entry_from (clocks_in s.zones) s.event.now start.given), few)
 
 one-drawn : (head : Option Occurrence) (es : List Entry) → length (listed head es) ≤ 1 + length es
 one-drawn None es = omega arith
@@ -72,29 +69,24 @@ lead-few head (Series s) =
 
 -- Leads, each with what is drawn of its part and the part.
 module _ {X : Type 0} (head : X → Option Occurrence) (part : X → Part) where
-  leads-few : (xs : List X) → length (flat_map (λ x. listed (head x) (part_holds (part x))) xs)
-      ≤ sum_by once (flat_map (λ x. part_sources (part x)) xs) + sum_by most_of (recurring (flat_map (λ x. part_sources (part x)) xs))
+  abbrev held_by : List X → List Entry
+  held_by xs = flat_map (λ x. listed (head x) (part_holds (part x))) xs
+
+  abbrev sources_of : List X → List Source
+  sources_of xs = flat_map (λ x. part_sources (part x)) xs
+
+  leads-few : (xs : List X) → length (held_by xs) ≤ sum_by once (sources_of xs) + sum_by most_of (recurring (sources_of xs))
   leads-few [] = omega arith
   leads-few (x ∷ xs) =
-      omega (
-        arith,
-        length-append (listed (head x) (part_holds (part x))) (flat_map (λ y. listed (head y) (part_holds (part y))) xs),
-        sum-recurring most_of (part_sources (part x)) (flat_map (λ y. part_sources (part y)) xs),
-        sum_by-append once (part_sources (part x)) (flat_map (λ y. part_sources (part y)) xs),
-        lead-few (head x) (part x),
-        leads-few xs,
-      )
+      let own = part_sources (part x) in
+      let long = length-append (listed (head x) (part_holds (part x))) (held_by xs) in
+      let sums = sum-recurring most_of own (sources_of xs) in
+      omega (arith, long, sums, sum_by-append once own (sources_of xs), lead-few (head x) (part x), leads-few xs)
 
   -- of which one at most is of the events that start once, and one more that was given last
-  pub held-with-last : (last : Option Occurrence) (xs : List X) → AreApart (flat_map (λ x. part_sources (part x)) xs)
-      → length (listed last (flat_map (λ x. listed (head x) (part_holds (part x))) xs))
-      ≤ held_most (map master_of (recurring (flat_map (λ x. part_sources (part x)) xs)))
+  pub held-with-last : (last : Option Occurrence) (xs : List X) → AreApart (sources_of xs) →
+      length (listed last (held_by xs)) ≤ held_most (map master_of (recurring (sources_of xs)))
   unfolding held_most
   held-with-last last xs apart =
-      omega (
-        arith,
-        one-drawn last (flat_map (λ x. listed (head x) (part_holds (part x))) xs),
-        leads-few xs,
-        apart.0,
-        sum_by-map (λ m. 2 + most_in_days m.clocks m.event) master_of (recurring (flat_map (λ x. part_sources (part x)) xs)),
-      )
+      let most = sum_by-map (λ (m : Master). 2 + most_in_days m.clocks m.event) master_of (recurring (sources_of xs)) in
+      omega (arith, one-drawn last (held_by xs), leads-few xs, apart.0, most)

@@ -84,6 +84,11 @@ early zones time h = omega (arith, ints, instant-near zones time, early-written 
 pub late : (zones : FileZones) (time : Time) → IsTime time → occurrence_first ≤ℤ instant (clocks_in zones) time
 late zones time h = omega (arith, ints, instant-near zones time, late-written time.stamp h.years)
 
+-- so that it lies in the years of occurrences
+pub in-years : (zones : FileZones) (time : Time) → IsTime time →
+    (occurrence_first ≤ℤ instant (clocks_in zones) time) × (instant (clocks_in zones) time <ℤ pos 250_246_800_000)
+in-years zones time h = (late zones time h, early zones time h)
+
 -- a DTEND is as far off from a start as from DTSTART
 pub until : (clocks : Clocks) (first given end : Time) (s : Stamp) → ((day : ℤ) → s ≡ Date day → ⊥)
     → instant clocks given +ℤ (instant clocks end -ℤ instant clocks first) ≡ end_by clocks first given s (Until end)

@@ -99,35 +99,23 @@ module _ {X : Type 0} (head : X → Option Occurrence) (rest : X → List Entry)
   past-nothing (Some p) None es a e = ap (cut entry_cmp (entry_of p)) (no-list es a)
   past-nothing last (Some o) es a e = cc
 
-  merged-nothing : (last : Option Occurrence) (xs : List X) → ((i : ℕ) → get_or (heads_of head xs) i None ≡ None)
+  merged-nothing : (last : Option Occurrence) (xs : List X) → ((i : ℕ) → i < length xs → get_or (heads_of head xs) i None ≡ None)
       → merged entry_cmp (pasts_of head rest last xs) ≡ []
   merged-nothing last [] h = refl
   merged-nothing last (x ∷ xs) h =
-      ap (λ l. union entry_cmp l (merged entry_cmp (pasts_of head rest last xs))) (past-nothing last (head x) (rest x) (ahead x) (h 0))
-      ∙ merged-nothing last xs (λ i. h (suc i))
+      ap (λ l. union entry_cmp l (merged entry_cmp (pasts_of head rest last xs))) (past-nothing last (head x) (rest x) (ahead x) (h 0 (omega arith)))
+      ∙ merged-nothing last xs (λ i l. h (suc i) (omega arith))
 
   module _ (xs : List X) (first : ℕ) (wins : GoesFirst (heads_of head xs) (length xs) first) where
     -- where the first lead holds nothing, no lead does
-    pub nothing-comes : (last : Option Occurrence) → get_or (heads_of head xs) first None ≡ None
-        → merged entry_cmp (pasts_of head rest last xs) ≡ []
-    nothing-comes last e = merged-nothing last xs (λ i. ⊎_elim (within i) (past_end i) (cases_lt i (length xs)))
-      where
-        within : (i : ℕ) → i < length xs → get_or (heads_of head xs) i None ≡ None
-        within i l =
-            nothing-after (get_or (heads_of head xs) i None)
-            (subst (λ h. is_gt (head_cmp h (get_or (heads_of head xs) i None)) ≡ false) e
-            (up-to-front (head_cmp (get_or (heads_of head xs) first None) (get_or (heads_of head xs) i None)) (nat_cmp first i) (wins i l)))
+    pub nothing-comes : (last : Option Occurrence) → get_or (heads_of head xs) first None ≡ None → merged entry_cmp (pasts_of head rest last xs) ≡ []
+    nothing-comes last e = merged-nothing last xs (λ i l.
+        nothing-after (get_or (heads_of head xs) i None)
+        (subst (λ h. is_gt (head_cmp h (get_or (heads_of head xs) i None)) ≡ false) e
+        (up-to-front (head_cmp (get_or (heads_of head xs) first None) (get_or (heads_of head xs) i None)) (nat_cmp first i) (wins i l))))
 
-        past_end : (i : ℕ) → length xs ≤ i → get_or (heads_of head xs) i None ≡ None
-        past_end i l = get_or_past (heads_of head xs) i None (omega (arith, length-map xs (λ x. option_map entry_of (head x))))
-
-    -- the list of a lead, or none past the leads
-    at_lead : (i : ℕ) (P : List Entry → Type 0) → P [] → (i < length xs → P (get_or (lists_of head rest xs) i [])) →
-        P (get_or (lists_of head rest xs) i [])
-    at_lead i P none some =
-        ⊎_elim some
-        (λ l. subst P (sym (get_or_past (lists_of head rest xs) i [] (omega (arith, length-map xs (λ x. listed (head x) (rest x)))))) none)
-        (cases_lt i (length xs))
+    wins-over : (i : ℕ) → i < length (lists_of head rest xs) → is_gt (lead_cmp (heads_of head xs) first i) ≡ false
+    wins-over i l = wins i (omega (arith, length-map xs (λ x. listed (head x) (rest x))))
 
     begins-first : ((x : X) → Rises entry_cmp (rest x)) → (e : Entry) → get_or (heads_of head xs) first None ≡ Some e
         → Begins entry_cmp entry_total e (lists_of head rest xs)
@@ -136,14 +124,12 @@ module _ {X : Type 0} (head : X → Option Occurrence) (rest : X → List Entry)
         let lists : List (List Entry) = lists_of head rest xs in
         let found : IsHeaded (Some e) (get_or lists first []) = subst (λ h. IsHeaded h (get_or lists first [])) is (headed xs first) in
         begins-at entry_cmp entry_total lists first (all_rise rises xs) found.1.0
-        (λ i l. at_lead i (IsBefore entry_cmp e) tt (λ within.
-        before-headed e (get_or heads i None) (get_or lists i []) (headed xs i)
+        (λ i l m. before-headed e (get_or heads i None) (get_or lists i []) (headed xs i)
         (subst (λ h. head_cmp h (get_or heads i None) ≡ Less) is
-        (strictly (head_cmp (get_or heads first None) (get_or heads i None)) (nat_cmp first i) (later first i l) (wins i within)))))
-        (λ i l. at_lead i (λ list. IsBefore entry_cmp e (cut entry_cmp e list)) tt (λ within.
-        behind-headed e (get_or heads i None) (get_or lists i []) (headed xs i)
+        (strictly (head_cmp (get_or heads first None) (get_or heads i None)) (nat_cmp first i) (later first i l) (wins-over i m))))
+        (λ i l m. behind-headed e (get_or heads i None) (get_or lists i []) (headed xs i)
         (subst (λ h. is_gt (head_cmp h (get_or heads i None)) ≡ false) is
-        (up-to-front (head_cmp (get_or heads first None) (get_or heads i None)) (nat_cmp first i) (wins i within)))))
+        (up-to-front (head_cmp (get_or heads first None) (get_or heads i None)) (nat_cmp first i) (wins-over i m))))
 
     -- what is not given comes after what was given last
     fresh-after : ((x : X) → Rises entry_cmp (rest x)) → (p : Occurrence) (e : Entry) → get_or (heads_of head xs) first None ≡ Some e

@@ -1,6 +1,6 @@
 -- Midnights before and after an instant; the days of an occurrence lie near the instants at which it meets the window.
 use Rattle.std.specs.Prelude.{◌<ℤ◌, ◌≤ℤ◌, int_le, if◌then◌else◌}
-use Rattle.std.proofs.Common.{◌≡◌, List, ℤ, pos, ◌+ℤ◌, ◌-ℤ◌, ◌⊎◌, inl, inr, ⊎_elim, Bool, true, false, refl, sym, ◌∙◌, ap, subst, arith, negsuc, ◌*ℤ◌}
+use Rattle.std.proofs.Common.{◌≡◌, List, ℤ, pos, ◌+ℤ◌, ◌-ℤ◌, ◌⊎◌, inl, inr, ⊎_elim, Bool, true, false, refl, sym, ◌∙◌, arith, negsuc, ◌*ℤ◌}
 use Rattle.std.specs.Int.{int_max, int_min, int_div_euclid}
 use Rattle.std.specs.Ordering.{int_eq}
 use Rattle.std.proofs.lemmas.Int.{int_max_is, int_min_is, ints}
@@ -10,14 +10,11 @@ use Rattle.ics_zone.specs.Seconds.{IsNear}
 use Rattle.ics_zone.proofs.Cases.{int_le_true, less_or_not_z}
 use Rattle.ics_fields.specs.Locals.{midnight, day_of_local}
 use Rattle.ics_series.specs.declared.window.Window.{Window}
-use Rattle.ics_series.specs.Clocks.{Clock, instant, local_at}
+use Rattle.ics_series.specs.Clocks.{Clock, local_at}
 use Rattle.ics_series.specs.OnDays.{date_at, end_day, first_day, is_on, last_day, first_near, last_near}
 use Rattle.ics_series.specs.Entry.{Entry}
-use Rattle.ics_series.specs.Finish.{end_of}
 use Rattle.ics_series.specs.Meets.{Meets}
 use Rattle.ics_series.specs.Occurs.{Occurs}
-use Rattle.ics_series.specs.PlacedEvents.{clocks_at}
-use Rattle.ics_series.specs.Starts.{time_of}
 
 -- the day of some seconds
 pub day-under : (seconds day : ℤ) → day ≡ int_div_euclid seconds (pos 86_400) →
@@ -39,14 +36,7 @@ pub occurs-forward : (files : List FileSaid) (display : Clock) (o : Entry) → O
 occurs-forward files display o (inl m) =
     let starts = m.of.lasts.starts in
     let ends = m.of.lasts.ends in
-    omega (
-      arith,
-      ints,
-      starts,
-      ends,
-      int_max_is (instant (clocks_at files display m.master.file) (time_of m.of.lasts.given))
-          (end_of (clocks_at files display m.master.file) m.master.event m.of.lasts.given),
-    )
+    omega (arith, ints, starts, ends, int_max_is)
 occurs-forward files display o (inr m) =
     let starts = m.of.starts in
     let ends = m.of.ends in
@@ -61,17 +51,11 @@ lasts-from from start finish forward l =
 
 module _ (clock : Clock) (near : (t : ℤ) → IsNear (clock.offset t)) where
   -- the date that a clock shows is less than two days off
-  date-low : (t : ℤ) → midnight (date_at clock t) ≤ℤ (t +ℤ pos 172_799)
-  date-low t =
+  date-near : (t : ℤ) → (midnight (date_at clock t) ≤ℤ (t +ℤ pos 172_799)) × (t <ℤ (midnight (date_at clock t) +ℤ pos 259_199))
+  date-near t =
       let under = day-under (local_at clock t) (date_at clock t) refl in
       let off = near t in
-      omega (arith, ints, under.0, off.0, off.1)
-
-  date-high : (t : ℤ) → t <ℤ (midnight (date_at clock t) +ℤ pos 259_199)
-  date-high t =
-      let under = day-under (local_at clock t) (date_at clock t) refl in
-      let off = near t in
-      omega (arith, ints, under.1, off.0, off.1)
+      (omega (arith, ints, under.0, off.0, off.1), omega (arith, ints, under.1, off.0, off.1))
 
   module _ (w : Window) (o : Entry) (met : Meets w o) (forward : o.start ≤ℤ o.finish) (day : ℤ) (on : is_on clock w o day ≡ true) where
     at-first : first_day clock w o ≤ℤ day
@@ -97,14 +81,14 @@ module _ (clock : Clock) (near : (t : ℤ) → IsNear (clock.offset t)) where
 
     pub near-start : o.start <ℤ midnight (day +ℤ pos 3)
     near-start =
-        let high = date-high (int_max o.start w.from) in
+        let high = (date-near (int_max o.start w.from)).1 in
         let first = at-first in
         omega (arith, ints, high, first, int_max_is o.start w.from)
 
     near-finish : (from : ℤ) → from ≡ int_max w.from (midnight (day -ℤ pos 2)) → (from <ℤ o.finish) ⊎ ((o.finish ≡ o.start) × (from ≤ℤ o.start))
     near-finish from e =
-        let low = date-low (int_max o.start w.from) in
-        let end = date-low (int_min o.finish w.to -ℤ pos 1) in
+        let low = (date-near (int_max o.start w.from)).0 in
+        let end = (date-near (int_min o.finish w.to -ℤ pos 1)).0 in
         let least = lasting-least met.lasting in
         lasts-from from o.start o.finish forward (⊎_elim (λ k. omega (arith, ints, e, least, forward, low, k, int_max_is)) (λ k.
         let last = k.0 in
@@ -127,7 +111,7 @@ module _ (clock : Clock) (near : (t : ℤ) → IsNear (clock.offset t)) where
     -- and that is one of the days that a clock can show in the window
     pub near-first : first_near w ≤ℤ day
     near-first =
-        let high = date-high (int_max o.start w.from) in
+        let high = (date-near (int_max o.start w.from)).1 in
         let first = at-first in
         let under = day-under w.from (day_of_local w.from) refl in
         let low = under.0 in
@@ -139,7 +123,7 @@ module _ (clock : Clock) (near : (t : ℤ) → IsNear (clock.offset t)) where
         let top = under.1 in
         let begun = met.begun in
         let ordered = w.ordered in
-        let start = date-low (int_max o.start w.from) in
-        let end = date-low (int_min o.finish w.to -ℤ pos 1) in
+        let start = (date-near (int_max o.start w.from)).0 in
+        let end = (date-near (int_min o.finish w.to -ℤ pos 1)).0 in
         ⊎_elim (λ k. omega (arith, ints, k, top, begun, ordered, start, int_max_is o.start w.from))
         (λ h. let k = h.1 in omega (arith, ints, k, top, end, int_min_is o.finish w.to)) by-length

@@ -1,5 +1,5 @@
 -- A listing of those of a listing that pass a test, or of what is picked from one.
-use Rattle.std.proofs.Common.{◌≡◌, List, [], ◌∷◌, map, inl, inr, ⊎_elim, Option, Some, None, refl, sym, ◌∙◌, ap, Bool, true, false, cond}
+use Rattle.std.proofs.Common.{◌≡◌, List, [], ◌∷◌, map, inl, inr, ⊎_elim, Option, Some, None, refl, sym, ◌∙◌, ap, Bool, true, false}
 use Rattle.std.specs.Cmp.{IsTotalOrder}
 use Rattle.std.proofs.lemmas.Bool.{cond_both}
 use Rattle.std.specs.List.{cons_option, filter_map, filter}

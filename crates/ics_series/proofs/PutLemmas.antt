@@ -2,7 +2,7 @@
 use Rattle.std.proofs.Common.{◌≡◌, List, [], ◌∷◌, inl, inr, ⊎_elim, refl}
 use Rattle.std.specs.Cmp.{IsTotalOrder}
 use Rattle.std.specs.declared.cmp.Ordering.{Ordering}
-use Rattle.std.specs.declared.cmp.Ordering.TheVariants.{Less, Equal}
+use Rattle.std.specs.declared.cmp.Ordering.TheVariants.{Equal}
 use Rattle.ics_series.specs.Listing.{IsIn, IsListing}
 use Rattle.ics_series.specs.Merged.{union}
 use Rattle.ics_series.specs.MergedLaws.{rises-union}
@@ -18,10 +18,13 @@ module _ {A : Type 0} (R : A → A → Ordering) (o : IsTotalOrder R) (S : A →
   stays-in e (x ∷ xs) r p m =
       in-put R o e x (union R xs [])
       (⊎_elim inl
-      (λ n. inr (stays-in e xs r.1 (λ y k. p y (inr k)) n, λ t.
-      let less = before-in S s x e xs r.0 n in
-      let tied = finer x e (p x (inl refl)) (p e (inr n)) t in
-      cc)) m)
+      (λ n. inr (
+        stays-in e xs r.1 (λ y k. p y (inr k)) n,
+        λ t.
+            let less = before-in S s x e xs r.0 n in
+            let tied = finer x e (p x (inl refl)) (p e (inr n)) t in
+            cc,
+      )) m)
 
   pub listing-ordered : (xs : List A) → IsListing S P xs → (ys : List A) × IsListing R P ys
   listing-ordered xs l = (

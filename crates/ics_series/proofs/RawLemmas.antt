@@ -1,13 +1,13 @@
 -- What gives an event a start whose instant passes a test stands in one list, which has as many members as are counted.
 use Rattle.std.specs.Prelude.{count_by, slice_get, if◌then◌else◌}
-use Rattle.std.specs.Ordering.{is_gt, ordering_reverse}
+use Rattle.std.specs.Ordering.{is_gt}
 use Rattle.std.specs.declared.cmp.Ordering.{Ordering}
-use Rattle.std.specs.declared.cmp.Ordering.TheVariants.{Less, Equal, Greater}
+use Rattle.std.specs.declared.cmp.Ordering.TheVariants.{Less, Greater}
 use Rattle.std.proofs.Common.{◌≡◌, ℕ, zero, suc, ◌+◌, ◌<◌, ℤ, Bool, true, false, ◌&&◌, cond, List, [], ◌∷◌, ◌++◌, length, Option, Some, None, ◌⊎◌, inl, inr}
 use Rattle.std.proofs.Common.{⊎_elim, refl, sym, ◌∙◌, ap, subst, length-append, arith}
 use Rattle.std.proofs.lemmas.Int.{ints}
 use Rattle.std.proofs.lemmas.List.Sums.{sum_by-cons}
-use Rattle.std.proofs.lemmas.Bool.{and_from}
+use Rattle.std.proofs.lemmas.Bool.{and_from, true_from_ne_false}
 use Rattle.std.proofs.lemmas.Option.{slice_get_within}
 use Rattle.ics_fields.specs.declared.local.Local.{Local}
 use Rattle.ics_rule.specs.Kept.{count, is_kept}
@@ -24,6 +24,7 @@ use Rattle.ics_series.specs.Clocks.{Clocks, instant}
 use Rattle.ics_series.specs.Found.{source_cmp}
 use Rattle.ics_series.specs.HeldMost.{is_within_days, raw_by, raw_by_rule, raw_in, raw_listed, IsRaw}
 use Rattle.ics_series.specs.Listing.{IsListing}
+use Rattle.ics_series.specs.MergedLaws.{back}
 use Rattle.ics_series.specs.RuleStarts.{lets_until, local_numbered, moment_numbered}
 use Rattle.ics_series.specs.Starts.{given_by, local_of, recurrence_of, time_at, time_of, GivesStart, IsNotAfter, IsRuleStart}
 use Rattle.ics_series.proofs.Cases.{below-or-last}
@@ -32,17 +33,15 @@ use Rattle.ics_series.proofs.StartSourceLemmas.{own-time}
 use Rattle.ics_series.proofs.OnDayLemmas.{joined, none-listed}
 use Rattle.ics_series.proofs.RuleLocalLemmas.{kept-calendar, kept-ruled, number-numbered, numbered-number, ruled-kept}
 
+gt-Greater : (c : Ordering) → is_gt c ≡ true → c ≡ Greater
+gt-Greater Greater e = refl
+gt-Greater _ e = let f : false ≡ true = e in cc
+
 -- What is not after another comes before it.
 source-before : (a b : StartSource) → (IsNotAfter b a → ⊥) → source_cmp a b ≡ Less
-source-before a b n = by (source_cmp a b) refl
-  where
-    turned : (c : Ordering) → source_cmp a b ≡ c → is_gt (ordering_reverse c) ≡ false → ⊥
-    turned c e g = n (source-order b a (ap is_gt (source_total.antisymm b a ∙ ap ordering_reverse e) ∙ g))
-
-    by : (c : Ordering) → source_cmp a b ≡ c → source_cmp a b ≡ Less
-    by Less e = e
-    by Equal e = absurd (turned Equal e refl)
-    by Greater e = absurd (turned Greater e refl)
+source-before a b n =
+    back source_cmp source_total b a
+    (gt-Greater (source_cmp b a) (true_from_ne_false (is_gt (source_cmp b a)) (λ e. n (source-order b a e))))
 
 -- So many sources, as they rise, are those for which something holds.
 pub record Counts (P : StartSource → Type 0) (n : ℕ) : Type 0 where
@@ -127,12 +126,8 @@ by-places : (test : Rdate → Bool) (rdates : List Rdate) → count (length rdat
 unfolding count
 by-places test [] = refl
 by-places test (r ∷ rs) =
-    omega (
-      arith,
-      count-first (length rs) (λ k. at_place test (slice_get (r ∷ rs) k)),
-      by-places test rs,
-      sum_by-cons (λ x. cond (test x) 1 0) r rs,
-    )
+    let first = count-first (length rs) (λ k. at_place test (slice_get (r ∷ rs) k)) in
+    omega (arith, first, by-places test rs, sum_by-cons (λ x. cond (test x) 1 0) r rs)
 
 module _ (clocks : Clocks) (event : Event) (test : ℤ → Bool) (time : IsTime event.start) where
   abbrev is_there : Rdate → Bool
@@ -152,19 +147,13 @@ module _ (clocks : Clocks) (event : Event) (test : ℤ → Bool) (time : IsTime 
   kept_count (Some rule) = count calendar_end (is_tested rule)
 
   -- what such a local is
-  abbrev IsRawLocal : Local → Type 0
-  IsRawLocal local = ((local ≡ local_of event.start.stamp) ⊎ IsRuleStart clocks event local)
-      × (test (instant clocks (time_at event.start local)) ≡ true)
-
   abbrev IsRawKept : StartSource → Type 0
-  IsRawKept (Kept local) = IsRawLocal local
+  IsRawKept (Kept local) =
+      ((local ≡ local_of event.start.stamp) ⊎ IsRuleStart clocks event local) × (test (instant clocks (time_at event.start local)) ≡ true)
   IsRawKept (Listed place) = ⊥
 
   own-instant : instant clocks (time_at event.start (local_of event.start.stamp)) ≡ instant clocks event.start
   own-instant = ap (instant clocks) (own-time event.start)
-
-  none-ruled : (local : Local) → recurrence_of event ≡ None → IsRuleStart clocks event local → ⊥
-  none-ruled local e r = let no : Some r.rule ≡ None = sym r.has ∙ e in absurd cc
 
   -- under no rule
   once : recurrence_of event ≡ None → Counts IsRawKept (if test (instant clocks event.start) then 1 else 0)
@@ -174,7 +163,7 @@ module _ (clocks : Clocks) (event : Event) (test : ℤ → Bool) (time : IsTime 
     where
       back : (g : StartSource) → IsRawKept g → (test (instant clocks event.start) ≡ true) × (g ≡ Kept (local_of event.start.stamp))
       back (Kept local) p =
-          let same : local_of event.start.stamp ≡ local = ⊎_elim sym (λ r. absurd (none-ruled local none r)) p.0 in
+          let same : local_of event.start.stamp ≡ local = ⊎_elim sym (λ r. let no : Some r.rule ≡ None = sym r.has ∙ none in absurd cc) p.0 in
           (ap test (sym own-instant ∙ ap (λ l. instant clocks (time_at event.start l)) same) ∙ p.1, ap Kept (sym same))
       back (Listed place) p = absurd p
 

@@ -150,9 +150,10 @@ module _ (zones : FileZones) (event : Event) where
         put-before moment_cmp moment_total s (union moment_cmp held (found (clocks_in zones) event rule w place))
         (before-union moment_cmp moment_total s held (found (clocks_in zones) event rule w place) r.0 b)
 
-    come-nothing : (place : ℕ) → found (clocks_in zones) event rule w place ≡ [] → to_come (clocks_in zones) event rule w [] place ≡ []
+    pub come-empty : (held : List Start) (place from : ℕ) → held ≡ [] → place ≡ from →
+        to_come (clocks_in zones) event rule w held place ≡ found (clocks_in zones) event rule w from
     unfolding to_come
-    come-nothing place e = e
+    come-empty held place from h e = ap (λ xs. union moment_cmp xs (found (clocks_in zones) event rule w place)) h ∙ ap (found (clocks_in zones) event rule w) e
 
     -- Where no day more has to be read the first that is held is the first still to come.
     module _ (day end : ℤ) (place : ℕ) (d : IsDayNumber day) (e : IsDayNumber end) (after : (w.to +ℤ whole_days 2) ≤ℤ midnight end)
@@ -178,13 +179,13 @@ module _ (zones : FileZones) (event : Event) where
 
       pub first-held : (held : List Start) → Rises moment_cmp held → is_behind day end held ≡ false
           → slice_get held 0 ≡ slice_get (to_come (clocks_in zones) event rule w held place) 0
-      first-held [] r b = sym (ap (λ (xs : List Start). slice_get xs 0) (come-nothing place (settled [] b)))
+      first-held [] r b = sym (ap (λ (xs : List Start). slice_get xs 0) (come-empty [] place place refl refl ∙ settled [] b))
       first-held (s ∷ held) r b = sym (ap (λ (xs : List Start). slice_get xs 0) (come-first s held place r (settled (s ∷ held) b)))
 
       -- a start leaves of what is held what it leaves of all that is still to come
       pub passed : (t : Start) (held : List Start) → Rises moment_cmp held → is_behind day end held ≡ false
           → to_come (clocks_in zones) event rule w (cut moment_cmp t held) place ≡ cut moment_cmp t (to_come (clocks_in zones) event rule w held place)
-      passed t [] r b = let none = come-nothing place (settled [] b) in none ∙ sym (ap (cut moment_cmp t) none)
+      passed t [] r b = let none = come-empty [] place place refl refl ∙ settled [] b in none ∙ sym (ap (cut moment_cmp t) none)
       passed t (s ∷ held) r b = by (moment_cmp t s) ∙ sym (ap (cut moment_cmp t) is)
         where
           is : to_come (clocks_in zones) event rule w (s ∷ held) place ≡ s ∷ to_come (clocks_in zones) event rule w held place
@@ -209,11 +210,6 @@ module _ (zones : FileZones) (event : Event) where
           let is = ap (λ (x : Start). x.moment) f.is in
           omega (arith, ints, late, is, soon))
           (union-in moment_cmp moment_total s held (found (clocks_in zones) event rule w place) (rises-found (clocks_in zones) event rule w place) m)
-
-    pub come-empty : (held : List Start) (place from : ℕ) → held ≡ [] → place ≡ from →
-        to_come (clocks_in zones) event rule w held place ≡ found (clocks_in zones) event rule w from
-    unfolding to_come
-    come-empty held place from h e = ap (λ xs. union moment_cmp xs (found (clocks_in zones) event rule w place)) h ∙ ap (found (clocks_in zones) event rule w) e
 
 -- The first of a list goes where a start is at its instant, and else nothing does.
 pub cut-first : (t : Start) {held : List Start} {d : Start} → IsFirst d held → t.moment ≡ d.moment → drop 1 held ≡ cut moment_cmp t held

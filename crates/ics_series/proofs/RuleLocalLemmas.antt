@@ -1,7 +1,9 @@
 -- A local and its number.
 use Rattle.std.specs.Prelude.{◌≤ℤ◌, ◌==◌, int_lt, IfSome}
-use Rattle.std.proofs.Common.{◌≡◌, ℕ, ℤ, Bool, true, false, ◌&&◌, Some, ◌⊎◌, inl, inr, ⊎_elim, refl, sym, ◌∙◌, ap, subst, arith}
-use Rattle.std.proofs.lemmas.Int.{ints}
+use Rattle.std.proofs.Common.{◌≡◌, ℕ, Bool, true, ◌&&◌, Some, ◌⊎◌, inl, inr, ⊎_elim, sym, ◌∙◌, ap, subst, arith}
+use Rattle.std.proofs.Common.{w64, to_z, of_z}
+use Rattle.std.proofs.lemmas.Int.{ints, to_z-of_z}
+use mir.Val.{SFits}
 use Rattle.std.specs.Ordering.{int_eq}
 use Rattle.std.proofs.lemmas.Bool.{eqb-true, eq-eqb, and_from, or_left, or_right}
 use Rattle.ics_fields.specs.Days.{IsDayNumber}
@@ -13,7 +15,9 @@ use Rattle.ics_rule.proofs.KeptLemmas.{and_true, or_true}
 use Rattle.ics_rule.proofs.NextLemmas.{kept_start}
 use Rattle.ics_event.specs.Event.{IsTime}
 use Rattle.ics_event.specs.declared.event.Event.{Event}
+use Rattle.ics_series.specs.declared.start.Start.{Start}
 use Rattle.ics_series.specs.declared.window.Window.{Window}
+use Rattle.ics_series.specs.Found.{start_at}
 use Rattle.ics_series.specs.Clocks.{Clocks, instant}
 use Rattle.ics_zone.specs.Observances.{is_until}
 use Rattle.ics_series.specs.RuleStarts.{gives, lets_until, local_numbered, moment_numbered}
@@ -23,9 +27,7 @@ use Rattle.ics_series.proofs.StartSourceLemmas.{calendar-day, own-day, rule-is, 
 use Rattle.ics_series.proofs.KeptLemmas.{true-until, until-true}
 
 pub same-test : (p q : Bool) → (p ≡ true → q ≡ true) → (q ≡ true → p ≡ true) → p ≡ q
-same-test true q f h = sym (f refl)
-same-test false true f h = h refl
-same-test false false f h = refl
+same-test p q f h = grind arith
 
 -- two locals are one exactly if their numbers are
 pub local-test : (a b : Local) → IsDayNumber a.day → IsDayNumber b.day → (int_eq a.day b.day && (a.second == b.second)) ≡ (number a == number b)
@@ -59,9 +61,12 @@ module _ (clocks : Clocks) (event : Event) (rule : Recurrence) (w : Window) (a :
       ∙ ap (λ l. lets_until rule (number a) (instant clocks (time_at event.start l)) && int_lt (instant clocks (time_at event.start l)) w.to)
       (numbered-number a h)
 
-  pub gives-by : {t : ℤ} {b : Bool} → IsDayNumber a.day → is_kept rule (number a) ≡ true → t ≡ instant clocks (time_at event.start a)
-      → b ≡ (lets_until rule (number a) t && int_lt t w.to) → b ≡ gives clocks event rule w (number a)
-  gives-by h k e test = test ∙ (ap (λ x. lets_until rule (number a) x && int_lt x w.to) e ∙ sym (gives-kept h k))
+  -- the same of the test that was made, by the instant as it is read back
+  pub gives-by : {s : Start} {b : Bool} → SFits w64 s.moment → s ≡ start_at clocks event a → IsDayNumber a.day → is_kept rule (number a) ≡ true
+      → b ≡ (lets_until rule (number a) (to_z w64 (of_z w64 s.moment)) && int_lt (to_z w64 (of_z w64 s.moment)) w.to) → b ≡ gives clocks event rule w (number a)
+  gives-by {s = s} fits is h k test =
+      let same = to_z-of_z w64 s.moment fits ∙ ap (λ (x : Start). x.moment) is in
+      test ∙ (ap (λ x. lets_until rule (number a) x && int_lt x w.to) same ∙ sym (gives-kept h k))
 
 pub rule-first : (event : Event) (rule : Recurrence) → recurrence_of event ≡ Some rule → rule.start ≡ local_of event.start.stamp
 rule-first event rule has = let by = rule-is event.start.stamp event.rule rule has in sym (ap (λ (r : Recurrence). r.start) (sym by.1))
@@ -102,13 +107,11 @@ module _ (clocks : Clocks) (event : Event) (rule : Recurrence) (has : recurrence
         or_left (number local == number rule.start)
             (is_until (until_moment rule) (instant clocks (time_at event.start local))) (eq-eqb (number local) (number rule.start) first),
       ))
-      (λ r.
-      let same : r.rule ≡ rule = some-same r.rule rule (sym r.has ∙ has) in
-      let until : is_until (until_moment rule) (instant clocks (time_at event.start local)) ≡ true =
-      ap (λ (q : Recurrence). is_until (until_moment q) (instant clocks (time_at event.start local))) (sym same)
-      ∙ until-true (until_moment r.rule) (instant clocks (time_at event.start local)) r.until in (
-        ap (λ (q : Recurrence). is_kept q (number local)) (sym same)
-            ∙ r.kept,
-        or_right (number local == number rule.start) (is_until (until_moment rule) (instant clocks (time_at event.start local))) until,
+      (λ r. subst (λ (q : Recurrence).
+      (is_kept q (number local) ≡ true) × (lets_until q (number local) (instant clocks (time_at event.start local)) ≡ true))
+      (some-same r.rule rule (sym r.has ∙ has)) (
+        r.kept,
+        or_right (number local == number r.rule.start) (is_until (until_moment r.rule) (instant clocks (time_at event.start local)))
+            (until-true (until_moment r.rule) (instant clocks (time_at event.start local)) r.until),
       ))
       k

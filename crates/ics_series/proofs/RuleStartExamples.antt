@@ -13,13 +13,13 @@ use Rattle.ics_fields.specs.declared.until.Until.TheVariants.{Utc}
 use Rattle.ics_rule.specs.Kept.{rules_on_literals, until_moment}
 use Rattle.ics_rule.specs.Recurrence.{Recurrence}
 use Rattle.ics_event.specs.declared.event.Event.{Event}
-use Rattle.ics_event.specs.declared.time.Length.TheVariants.{Open}
 use Rattle.ics_series.specs.declared.start.Start.{Start}
 use Rattle.ics_series.specs.declared.window.Window.{Window}
 use Rattle.ics_series.specs.Clocks.{Clock, clocks_of}
 use Rattle.ics_series.specs.Found.{start_at}
 use Rattle.ics_series.specs.RuleStarts.{found_in, gives, local_numbered}
 use Rattle.ics_series.specs.Starts.{recurrence_by}
+use Rattle.ics_series.proofs.HeldMostExamples.{starting}
 
 -- five hours behind UTC up to 2007-03-11T07:00:00 UTC, and four from there on
 abbrev springing : Clock
@@ -35,20 +35,7 @@ local n = local_numbered (63_340_801_198 + n)
 
 -- each second from there on, up to an UNTIL
 abbrev event : Option Until → Event
-event until = record {
-  uid = 117 ∷ [];
-  sequence = 0;
-  start = record { stamp = Floating (local_at (pos 13_583) 10_798); zone = None };
-  length = Open;
-  rule = Some (record (every Secondly) { until = until });
-  rdates = [];
-  exdates = [];
-  recurrence = None;
-  title = [];
-  location = [];
-  description = [];
-  cancelled = false;
-}
+event until = record (starting (Floating (local_at (pos 13_583) 10_798))) { rule = Some (record (every Secondly) { until = until }) }
 
 abbrev rule : Option Until → Recurrence
 rule until = recurrence_by (Floating (local_at (pos 13_583) 10_798)) (record (every Secondly) { until = until })

@@ -1,6 +1,7 @@
 -- What reading a local does to the starts of a rule that are still to come.
 use Rattle.std.specs.Prelude.{int_lt}
-use Rattle.std.proofs.Common.{◌≡◌, ℕ, zero, suc, ◌+◌, ◌-◌, ◌<◌, ◌≤◌, max, Bool, true, false, ◌&&◌, List, [], ◌∷◌, ◌⊎◌, ⊎_elim, refl, sym, ◌∙◌, ap, arith}
+use Rattle.std.proofs.Common.{◌≡◌, ℕ, zero, suc, ◌+◌, ◌-◌, ◌<◌, ◌≤◌, max, Bool, true, false, ◌&&◌, List, [], ◌∷◌, ⊎_elim, refl, sym, ◌∙◌, ap, arith}
+use Rattle.std.proofs.lemmas.Bool.{cases_lt}
 use Rattle.ics_rule.specs.Kept.{is_kept}
 use Rattle.ics_rule.specs.PeriodNumbers.{rules_end}
 use Rattle.ics_rule.specs.Next.{NoneKept, IsNextKept}
@@ -30,16 +31,15 @@ module _ (clocks : Clocks) (event : Event) (rule : Recurrence) (w : Window) wher
   NoneGives from to = (n : ℕ) → from ≤ n → n < to → gives clocks event rule w n ≡ false
 
   module _ (to m : ℕ) where
+    same-found : (from n : ℕ) → from ≡ to → n ≡ m → found_in clocks event rule w from n ≡ found_in clocks event rule w to m
+    same-found from n p q = λ i. found_in clocks event rule w (p i) (q i)
+
     found_in-skipped : (from n : ℕ) → from ≤ to → from + n ≡ to + m → NoneGives from to →
         found_in clocks event rule w from n ≡ found_in clocks event rule w to m
-    found_in-skipped from zero l e none =
-        let same : from ≡ to = omega (arith, l, e) in
-        let rest : 0 ≡ m = omega (arith, l, e) in
-        ap (λ k. found_in clocks event rule w from k) rest ∙ ap (λ k. found_in clocks event rule w k m) same
+    found_in-skipped from zero l e none = same-found from 0 (omega (arith, l, e)) (omega (arith, l, e))
     found_in-skipped from (suc n) l e none =
         ⊎_elim
-        (λ same. let rest : suc n ≡ m = omega (arith, same, e) in
-        ap (λ k. found_in clocks event rule w from k) rest ∙ ap (λ k. found_in clocks event rule w k m) same)
+        (λ same. same-found from (suc n) same (omega (arith, same, e)))
         (λ less. ap (λ b. with_put b (start_at clocks event (local_numbered from)) (found_in clocks event rule w (from + 1) n)) (none from (omega arith) less)
         ∙ found_in-skipped (from + 1) n (omega (arith, less)) (omega (arith, e)) (λ k a b. none k (omega (arith, a)) b))
         (here-or-later from to l)
@@ -87,13 +87,10 @@ module _ (clocks : Clocks) (event : Event) (rule : Recurrence) (w : Window) wher
   unfolding to_come
   come-none held place bound h none =
       ⊎_elim
-      (λ past. ap (λ p. union moment_cmp held (found clocks event rule w p)) (omega (arith, past)))
       (λ early. ap (union moment_cmp held)
       (ap (found clocks event rule w) (omega (arith, early)) ∙ sym (found-skipped place bound (omega (arith, early)) h (λ n a b. unkept n (none n a b)))))
-      (sides bound place)
-    where
-      sides : (a b : ℕ) → (a ≤ b) ⊎ (b < a)
-      sides a b = grind arith
+      (λ past. ap (λ p. union moment_cmp held (found clocks event rule w p)) (omega (arith, past)))
+      (cases_lt place bound)
 
   -- the next kept local is read
   pub come-one : (held : List Start) {place bound l : ℕ} → Rises moment_cmp held → bound ≤ rules_end → IsNextKept rule place bound l

@@ -144,13 +144,14 @@ module _ (s : RuleStarts) (b : ℤ) (fits : mag b < 2_147_483_648) (later : s.da
         let asked = next-back a.day own in
         let kept = next.0 in
         let put = is-new ∙ ap (with_held given (start_at clocks event a)) h in
+        let after = to_z w32 (of_z w32 (to_z w32 (of_z w32 a.day) +ℤ pos 1)) in
         record {
           rises = subst (Rises moment_cmp) (sym put) (rises-held s.zones event s.rule s.window given (start_at clocks event a) s.held.items s.rises);
           are = λ t m. ⊎_elim
-              (λ i. held-on s.zones event s.rule s.window s.asked _ s.held.items (omega (arith, ints, asked, on-day.0, s.asked_soon))
+              (λ i. held-on s.zones event s.rule s.window s.asked after s.held.items (omega (arith, ints, asked, on-day.0, s.asked_soon))
               (λ u j. let l = (own-are are u j).late in omega (arith, ints, l, asked, on-day.1)) s.are t i)
-              (λ i. subst (IsHeld clocks event s.rule s.window (to_z w32 (of_z w32 (to_z w32 (of_z w32 a.day) +ℤ pos 1)))) (sym i.1)
-              (is-held s.zones event s.rule s.window a _ own (omega (arith, ints, asked, own.0), omega (arith, ints, asked, on-day.1, days.1)) asked i.0))
+              (λ i. subst (IsHeld clocks event s.rule s.window after) (sym i.1)
+              (is-held s.zones event s.rule s.window a after own (omega (arith, ints, asked, own.0), omega (arith, ints, asked, on-day.1, days.1)) asked i.0))
               (held-in s.zones event s.rule s.window given (start_at clocks event a) t s.held.items (subst (IsIn t) put m));
           read = omega (arith, ints, next.1, day, own.0);
           low = omega (arith, ints, day, own.0);

@@ -1,6 +1,6 @@
 -- The starts of a series: all that are sought from an instant on are among them.
 use Rattle.std.specs.Prelude.{◌≤ℤ◌, ◌<ℤ◌, int_lt, slice_get, MatchOption}
-use Rattle.std.proofs.Common.{◌≡◌, ℕ, zero, suc, ◌+◌, ◌-◌, ◌<◌, ◌≤◌, ℤ, ◌+ℤ◌, ◌-ℤ◌, List, Bool, true, false, Option, Some, None, option_map, ◌⊎◌, ⊎_elim, refl}
+use Rattle.std.proofs.Common.{◌≡◌, ℕ, zero, suc, ◌+◌, ◌-◌, ◌<◌, ◌≤◌, ℤ, ◌+ℤ◌, ◌-ℤ◌, List, true, false, Option, Some, None, option_map, ◌⊎◌, ⊎_elim, refl}
 use Rattle.std.proofs.Common.{sym, ◌∙◌, ap, subst, arith}
 use Rattle.std.specs.Int.{int_max, int_min}
 use Rattle.std.proofs.lemmas.Int.{int_max_is, int_min_is, ints}
@@ -80,11 +80,13 @@ module _ (zones : FileZones) (w : Window) (event : Event) where
   known-ruled since listed starts s r m =
       let f = found-is zones event r.rule w (number r.from) s (subst (IsIn s) r.gives m) in
       let below = in-rules zones event r.rule w f.by f.given in
-      known-is s (Kept (local_numbered f.by)) (At (time_at event.start (local_numbered f.by)))
-      (subst (IsGivenAt (clocks_in zones) event w (local_numbered f.by)) (sym r.has) (
-        (omega (arith, ints), omega (arith, ints, below)),
-        ap (gives (clocks_in zones) event r.rule w) (number-numbered f.by) ∙ f.given,
-      ), refl) f.is
+      known-is s (Kept (local_numbered f.by)) (At (time_at event.start (local_numbered f.by))) (
+        subst (IsGivenAt (clocks_in zones) event w (local_numbered f.by)) (sym r.has) (
+          (omega (arith, ints), omega (arith, ints, below)),
+          ap (gives (clocks_in zones) event r.rule w) (number-numbered f.by) ∙ f.given,
+        ),
+        refl,
+      ) f.is
 
   -- The list has a start for each local that gives one.
   module _ (rule : Recurrence) where
@@ -117,32 +119,6 @@ module _ (zones : FileZones) (w : Window) (event : Event) where
         → HasLocal (found (clocks_in zones) event rule w from) k
     unfolding found
     found-has from k l u g = found_in-has from (rules_end - from) k l (omega (arith, l, u)) g
-
-    -- a local that DTSTART has or the rule keeps gives one before the window's end
-    gives-own : (local : Local) → recurrence_of event ≡ Some rule → IsDayNumber local.day → (local ≡ local_of event.start.stamp)
-        ⊎ IsRuleStart (clocks_in zones) event local
-        → instant (clocks_in zones) (time_at event.start local) <ℤ w.to → gives (clocks_in zones) event rule w (number local) ≡ true
-    gives-own local has day k early =
-        let parts = ruled-kept (clocks_in zones) event rule has local k in
-        gives-kept (clocks_in zones) event rule w local day parts.0
-        ∙ and_from (lets_until rule (number local) (instant (clocks_in zones) (time_at event.start local)))
-        (int_lt (instant (clocks_in zones) (time_at event.start local)) w.to)
-        parts.1 (true_int_lt (instant (clocks_in zones) (time_at event.start local)) w.to early)
-
-low-by : {first since t local : ℤ} (earliest to : ℤ) → (earliest -ℤ whole_days 4) ≤ℤ t → since ≤ℤ t → first ≤ℤ local → (t -ℤ whole_days 2) <ℤ local →
-    int_max first (int_max earliest (int_min since to) -ℤ whole_days 6) ≤ℤ local
-low-by {first = first} {since = since} earliest to late own above near =
-    omega (
-      arith,
-      ints,
-      int_max_is first (int_max earliest (int_min since to) -ℤ whole_days 6),
-      int_max_is earliest (int_min since to),
-      int_min_is since to,
-      late,
-      own,
-      above,
-      near,
-    )
 
 -- the starts of a rule, if there is one, from what the starts that are known from the first and the instant are
 abbrev pub IsRuled : Clocks → Event → Window → ℤ → List Start → Option RuleStarts → Type 0
@@ -179,14 +155,26 @@ module _ (zones : FileZones) (w : Window) (event : Event) (sound : IsEvent event
         let at = written-at event.start.stamp local in
         let asked : int_max (local_seconds (local_of event.start.stamp)) (first_asked (clocks_in zones) w event since by_rdates -ℤ whole_days 6)
         ≤ℤ local_seconds local =
-        low-by (earliest (clocks_in zones) w event by_rdates) (w.to +ℤ whole_days 14)
-        (sought-late zones w event (instant (clocks_in zones) (time_of given)) s) late (kept-first (clocks_in zones) event sound.start local g.0)
-        (omega (arith, ints, same, near.1, at.0)) in
+        omega (
+          arith,
+          ints,
+          int_max_is,
+          int_min_is,
+          sought-late zones w event (instant (clocks_in zones) (time_of given)) s,
+          late,
+          kept-first (clocks_in zones) event sound.start local g.0,
+          same,
+          near.1,
+          at.0,
+        ) in
         let low = r.low in
         let from : number r.from ≤ number local = omega (arith, ints, low, asked, number-seconds r.from r.day, number-seconds local day) in
         let below : number local < rules_end = omega (arith, ints, same, early, near.0, at.1, number-seconds local day, w.not_late) in
+        let parts = ruled-kept (clocks_in zones) event r.rule r.has local g.0 in
         let given-there : gives (clocks_in zones) event r.rule w (number local) ≡ true =
-        gives-own zones w event r.rule local r.has day g.0 (subst (λ t. t <ℤ w.to) same early) in
+        gives-kept (clocks_in zones) event r.rule w local day parts.0
+        ∙ and_from (lets_until r.rule (number local) (instant (clocks_in zones) time)) (int_lt (instant (clocks_in zones) time) w.to) parts.1
+        (true_int_lt (instant (clocks_in zones) time) w.to (subst (λ t. t <ℤ w.to) same early)) in
         let has = found-has zones w event r.rule (number r.from) (number local) from below given-there in
         subst (λ xs. HasStart xs (Kept local) (instant (clocks_in zones) (time_of given))) (sym r.gives)
         (subst (HasStart (found (clocks_in zones) event r.rule w (number r.from)) (Kept local)) (sym same)

@@ -119,8 +119,7 @@ kept-day first parts a h d k =
     ⊎_elim
     (λ same. (
       omega (arith, ints, own.0, start, there, same, a.second_in, (local_of first.stamp).second_in),
-      omega
-          (arith, ints, own.1, start, there, same, a.second_in, (local_of first.stamp).second_in),
+      omega (arith, ints, own.1, start, there, same, a.second_in, (local_of first.stamp).second_in),
     ))
     (λ early. (omega (arith, ints, own.0, start, there, late, a.second_in, (local_of first.stamp).second_in), omega (arith, ints, there, early, a.second_in)))
     (kept-early (recurrence_by first.stamp parts) (number a) k)

@@ -16,32 +16,28 @@ by-display : (clocks : Clocks) (zone : Option ℕ) (s : Stamp) → ((day : ℤ) 
 by-display clocks zone s (inl d) = ap (clock_by clocks zone) d.1
 by-display clocks zone s (inr f) = ap (clock_by clocks zone) f.1
 
-pub returns-in-Date-clause-value : goal.returns-in-Date-clause-value
-returns-in-Date-clause-value c =
+pub returns-in-Date : goal.returns-in-Date
+returns-in-Date c =
     let fits : SFits w64 c.args.start = c.ranges.start in
     let same = moment-back c.days_after_at.result c.days_after_at.type_inv in
     let shown = simp to_z-of_z at c.days_after_at.ensures.value in
     let clock : clock_of (clocks_in c.args.zones) c.args.time ≡ (clocks_in c.args.zones).display =
     by-display (clocks_in c.args.zones) c.args.time.zone c.args.time.stamp c.in-Date.is in
-    same ∙ (shown ∙ sym (ap (λ (k : Clock). k.moment (local_at k c.args.start +ℤ whole_days c.args.days)) clock))
+    record {
+      value = same ∙ (shown ∙ sym (ap (λ (k : Clock). k.moment (local_at k c.args.start +ℤ whole_days c.args.days)) clock));
+      late = omega (arith, ints, same, c.days_after_at.ensures.late, fits);
+      early = omega (arith, ints, same, c.days_after_at.ensures.early, fits);
+    }
 
-pub returns-in-Zoned-clause-value : goal.returns-in-Zoned-clause-value
-returns-in-Zoned-clause-value c =
+pub returns-in-Zoned : goal.returns-in-Zoned
+returns-in-Zoned c =
     let fits : SFits w64 c.args.start = c.ranges.start in
     let same = moment-back c.days_after_at-in-Zoned.result c.days_after_at-in-Zoned.type_inv in
     let shown = simp to_z-of_z at c.days_after_at-in-Zoned.ensures.value in
     let clock : clock_of (clocks_in c.args.zones) c.args.time ≡ zone_clock (zone_said c.zone_of.result.now) =
     ap (clock_by (clocks_in c.args.zones) c.args.time.zone) c.in-Zoned.is ∙ sym c.zone_of.ensures in
-    same ∙ (shown ∙ sym (ap (λ (k : Clock). k.moment (local_at k c.args.start +ℤ whole_days c.args.days)) clock))
-
-pub returns-in-Date-clause-late : goal.returns-in-Date-clause-late
-returns-in-Date-clause-late c = omega (arith, ints, c.days_after_at.type_inv, c.days_after_at.ensures.late, c.ranges.start)
-
-pub returns-in-Date-clause-early : goal.returns-in-Date-clause-early
-returns-in-Date-clause-early c = omega (arith, ints, c.days_after_at.type_inv, c.days_after_at.ensures.early, c.ranges.start)
-
-pub returns-in-Zoned-clause-late : goal.returns-in-Zoned-clause-late
-returns-in-Zoned-clause-late c = omega (arith, ints, c.days_after_at-in-Zoned.type_inv, c.days_after_at-in-Zoned.ensures.late, c.ranges.start)
-
-pub returns-in-Zoned-clause-early : goal.returns-in-Zoned-clause-early
-returns-in-Zoned-clause-early c = omega (arith, ints, c.days_after_at-in-Zoned.type_inv, c.days_after_at-in-Zoned.ensures.early, c.ranges.start)
+    record {
+      value = same ∙ (shown ∙ sym (ap (λ (k : Clock). k.moment (local_at k c.args.start +ℤ whole_days c.args.days)) clock));
+      late = omega (arith, ints, same, c.days_after_at-in-Zoned.ensures.late, fits);
+      early = omega (arith, ints, same, c.days_after_at-in-Zoned.ensures.early, fits);
+    }

@@ -26,27 +26,10 @@ span_end-end-requires-clause-end c =
 
 pub returns-clause-early : goal.returns-clause-early
 returns-clause-early c =
+    let m = c.max in
     elim c.match-start.branch [
-      | in-At w ↦ omega (
-        arith,
-        ints,
-        c.max.type_inv,
-        c.max.ensures.value,
-        c.match-start.end-is,
-        w.end-is,
-        w.end_by-end.ensures.early,
-        c.requires.early,
-        int_max_is,
-      )
-      | in-Span w ↦ omega (
-        arith,
-        ints,
-        c.max.type_inv,
-        c.max.ensures.value,
-        c.match-start.end-is,
-        w.end-is,
-        w.span_end-end.ensures.early,
-        c.requires.early,
-        int_max_is,
-      )
+      | in-At w ↦ omega
+          (arith, ints, m.type_inv, m.ensures.value, c.match-start.end-is, w.end-is, w.end_by-end.ensures.early, c.requires.early, int_max_is)
+      | in-Span w ↦ omega
+          (arith, ints, m.type_inv, m.ensures.value, c.match-start.end-is, w.end-is, w.span_end-end.ensures.early, c.requires.early, int_max_is)
     ]

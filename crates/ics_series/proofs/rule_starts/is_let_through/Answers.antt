@@ -20,7 +20,4 @@ returns c =
     c.eq-first.ensures ∙ (local-test c.args.local c.args.first c.requires.local c.requires.first ∙ ap (λ k. n == k) (sym c.requires.start)) in
     let until : c.is_until-until.result ≡ is_until (until_moment rule) c.args.moment =
     c.is_until-until.ensures ∙ (ap (is_until c.until_moment.result) t ∙ ap (λ o. is_until o c.args.moment) c.until_moment.ensures) in
-    ap (λ b. (b || c.is_until-until.result) && int_lt (to_z w64 (of_z w64 c.args.moment)) (to_z w64 (of_z w64 c.args.window.to))) first
-    ∙ (ap (λ b. ((n == number rule.start) || b) && int_lt (to_z w64 (of_z w64 c.args.moment)) (to_z w64 (of_z w64 c.args.window.to))) until
-    ∙ (ap (λ x. ((n == number rule.start) || is_until (until_moment rule) c.args.moment) && int_lt x (to_z w64 (of_z w64 c.args.window.to))) t
-    ∙ ap (λ x. ((n == number rule.start) || is_until (until_moment rule) c.args.moment) && int_lt c.args.moment x) to))
+    λ i. (first i || until i) && int_lt (t i) (to i)

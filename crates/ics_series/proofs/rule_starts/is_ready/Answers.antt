@@ -25,5 +25,4 @@ returns-in-Some c =
     let at = ap (λ (l : Local). local_seconds l) c.at.ensures in
     let from : c.seconds.result ≡ midnight c.args.day = omega (arith, ints, c.seconds.ensures, at) in
     let right : to_z w64 (of_z w64 (to_z w64 (of_z w64 c.seconds.result) -ℤ pos 172800)) ≡ midnight c.args.day -ℤ pos 172_800 = omega (arith, ints, from) in
-    ap (λ t. int_le t (to_z w64 (of_z w64 (to_z w64 (of_z w64 c.seconds.result) -ℤ pos 172800)))) left
-    ∙ (ap (int_le first.moment) right ∙ first-ready day c.args.held.now.items first some is)
+    (λ i. int_le (left i) (right i)) ∙ first-ready day c.args.held.now.items first some is

@@ -17,41 +17,14 @@ loop-start-init c =
     let clocks = clocks_in c.args.zones in
     let event = c.args.event.now in
     let w = c.args.window.now in
+    let long = c.seconds_lasting in
     let base : to_z w64 (of_z w64 (to_z w64 (of_z w64 c.args.window.now.from) -ℤ to_z w64 (of_z w64 c.seconds_lasting.result)))
     ≡ c.args.window.now.from -ℤ seconds_lasting (clocks_in c.args.zones) c.args.event.now =
-    omega (
-      arith,
-      ints,
-      c.seconds_lasting.type_inv,
-      c.seconds_lasting.ensures.value,
-      c.seconds_lasting.ensures.least,
-      c.seconds_lasting.ensures.most,
-      w.not_early,
-      w.not_late,
-      w.ordered,
-    ) in
+    omega (arith, ints, long.type_inv, long.ensures.value, long.ensures.least, long.ensures.most, w.not_early, w.not_late, w.ordered) in
     record {
       rest = ap (λ t. earliest_from clocks w event t c.args.starts.now) base;
-      late = omega (
-        arith,
-        ints,
-        c.seconds_lasting.type_inv,
-        c.seconds_lasting.ensures.least,
-        c.seconds_lasting.ensures.most,
-        w.not_early,
-        w.not_late,
-        w.ordered,
-      );
-      early = omega (
-        arith,
-        ints,
-        c.seconds_lasting.type_inv,
-        c.seconds_lasting.ensures.least,
-        c.seconds_lasting.ensures.most,
-        w.not_early,
-        w.not_late,
-        w.ordered,
-      );
+      late = omega (arith, ints, base, long.ensures.value, long.ensures.most, w.not_early);
+      early = omega (arith, ints, base, long.ensures.value, long.ensures.least, w.ordered);
     }
 
 pub loop-start-preserved : goal.loop-start-preserved

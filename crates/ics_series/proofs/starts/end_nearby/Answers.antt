@@ -8,11 +8,7 @@ returns c =
     let w = c.args.window.now in
     let under = day-under _ c.of_seconds.result.day c.of_seconds.ensures.day in
     record {
-      day = (
-        omega (arith, ints, under.0, under.1, w.ordered, w.not_early, w.not_late),
-        omega
-            (arith, ints, under.0, under.1, w.ordered, w.not_early, w.not_late),
-      );
+      day = (omega (arith, ints, under.1, w.ordered, w.not_early), omega (arith, ints, under.0, w.not_late));
       after = omega (arith, ints, under.0, under.1, w.ordered, w.not_early, w.not_late);
       soon = omega (arith, ints, under.0, under.1, w.ordered, w.not_early, w.not_late);
     }

@@ -14,7 +14,9 @@ use Rattle.ics_series.proofs.rule_starts.RuleStarts.new.Goals as goal
 pub invariant_of-result : goal.invariant_of-result
 invariant_of-result c =
     let w = c.args.window in
-    let end = day-back c.end_nearby-end.result c.end_nearby-end.ensures.day in
+    let e = c.end_nearby-end.ensures in
+    let min = c.min-day.ensures.value in
+    let end = day-back c.end_nearby-end.result e.day in
     let from = day-back c.args.from.day c.requires.from in
     let day = signed-back c.min-day.result c.min-day.result c.min-day.type_inv refl in
     record {
@@ -25,27 +27,14 @@ invariant_of-result c =
       looked = λ before h. c.at.ensures.looked before;
       time = c.requires.event.start;
       first = ap (λ (l : Local). number l) (rule-first c.args.event.now c.args.rule c.requires.rule);
-      read = omega (
-        arith,
-        ints,
-        c.at.ensures.place,
-        day,
-        end,
-        from,
-        c.min-day.ensures.value,
-        int_min_is,
-        c.requires.from.0,
-        c.requires.from.1,
-        c.end_nearby-end.ensures.day.0,
-        c.end_nearby-end.ensures.day.1,
-      );
-      low = omega (arith, ints, day, end, from, c.min-day.ensures.value, int_min_is, c.requires.from.0, c.end_nearby-end.ensures.day.0);
+      read = omega (arith, ints, c.at.ensures.place, day, end, from, min, int_min_is, c.requires.from.0, c.requires.from.1, e.day.0, e.day.1);
+      low = omega (arith, ints, day, end, from, min, int_min_is, c.requires.from.0, e.day.0);
       asked_on = omega (arith, ints, day);
       asked_soon = omega (arith, ints, day);
-      asked_end = omega (arith, ints, day, end, from, c.min-day.ensures.value, int_min_is);
-      early = omega (arith, ints, end, w.not_late, c.end_nearby-end.ensures.soon, c.end_nearby-end.ensures.day.0);
-      after = omega (arith, ints, end, c.end_nearby-end.ensures.after);
-      soon = omega (arith, ints, end, c.end_nearby-end.ensures.soon);
+      asked_end = omega (arith, ints, day, end, from, min, int_min_is);
+      early = omega (arith, ints, end, w.not_late, e.soon, e.day.0);
+      after = omega (arith, ints, end, e.after);
+      soon = omega (arith, ints, end, e.soon);
     }
 
 pub returns-clause-left : goal.returns-clause-left
