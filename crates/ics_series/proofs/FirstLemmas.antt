@@ -1,14 +1,15 @@
 -- Of sorted starts the first at each instant.
 use Rattle.std.specs.Prelude.{◌<ℤ◌}
-use Rattle.std.proofs.Common.{◌≡◌, ℕ, ◌<◌, ◌≤◌, ℤ, List, [], ◌∷◌, true, false, Option, Some, None, ◌⊎◌, inl, inr, ⊎_elim, refl, sym, ◌∙◌, ap}
+use Rattle.std.proofs.Common.{◌≡◌, ℕ, ◌≤◌, ℤ, List, [], ◌∷◌, true, false, Option, Some, None, ◌⊎◌, inl, inr, ⊎_elim, refl, sym, ◌∙◌, ap}
 use Rattle.std.proofs.Common.{subst, arith}
-use Rattle.std.specs.Cmp.{IsTotalOrder, int_ranks, ranks}
+use Rattle.std.specs.Cmp.{IsTotalOrder, int_ranks}
 use Rattle.std.specs.List.Sorted.{IsPermutation}
 use Rattle.std.specs.Ordering.{int_cmp, int_eq, nat_cmp, is_gt, ordering_then, MatchOrdering}
 use Rattle.std.specs.declared.cmp.Ordering.{Ordering}
-use Rattle.std.specs.declared.cmp.Ordering.TheVariants.{Less, Equal, Greater}
+use Rattle.std.specs.declared.cmp.Ordering.TheVariants.{Less, Equal}
 use Rattle.std.proofs.lemmas.Cmp.{int_cmp_total, nat_cmp_total, on_total, then_total, tied_itself}
 use Rattle.std.proofs.lemmas.Bool.{cond_both}
+use Rattle.std.proofs.lemmas.Bool.Decides.{nat_tests}
 use Rattle.std.proofs.lemmas.Int.{ints}
 use Rattle.std.proofs.lemmas.List.Sorted.{IsPermutation-sym}
 use Rattle.ics_series.specs.declared.start.StartSource.{StartSource}
@@ -41,30 +42,27 @@ same-moment s t e = ap (int_cmp s.moment) (sym e) ∙ tied_itself int_cmp_total 
 pub tied-moment : (s t : Start) → moment_cmp s t ≡ Equal → s.moment ≡ t.moment
 tied-moment s t e = subst (λ o. MatchOrdering o (s.moment <ℤ t.moment) (s.moment ≡ t.moment) (t.moment <ℤ s.moment)) e (int_ranks s.moment t.moment)
 
-int-up-to : (a b : ℤ) (c : Ordering) → int_cmp a b ≡ c → is_gt c ≡ false → (a ≡ b) ⊎ (int_cmp a b ≡ Less)
-int-up-to a b Less e g = inr e
-int-up-to a b Equal e g = inl (subst (λ o. MatchOrdering o (a <ℤ b) (a ≡ b) (b <ℤ a)) e (int_ranks a b))
-int-up-to a b Greater e g = let f : is_gt Greater ≡ false = g in absurd cc
+int-up-to : (a b : ℤ) → is_gt (int_cmp a b) ≡ false → (a ≡ b) ⊎ (int_cmp a b ≡ Less)
+int-up-to a b g = grind (arith, ints)
 
 pub int-less : (a b : ℤ) → int_cmp a b ≡ Less → a <ℤ b
 int-less a b e = subst (λ o. MatchOrdering o (a <ℤ b) (a ≡ b) (b <ℤ a)) e (int_ranks a b)
 
-nat-up-to : (a b : ℕ) (c : Ordering) → nat_cmp a b ≡ c → is_gt c ≡ false → a ≤ b
-nat-up-to a b Greater e g = let f : is_gt Greater ≡ false = g in absurd cc
-nat-up-to a b _ e g = let r = subst (λ o. MatchOrdering o (a < b) (a ≡ b) (b < a)) e (ranks a b) in omega (arith, r)
+nat-up-to : (a b : ℕ) → is_gt (nat_cmp a b) ≡ false → a ≤ b
+nat-up-to a b g = grind (arith, nat_tests)
 
 -- what is not after another by its parts stands no later in the order of what gives starts
 pub source-order : (g k : StartSource) → is_gt (source_cmp g k) ≡ false → IsNotAfter g k
 source-order (Kept a) (Kept b) h =
     ⊎_elim
-    (λ same. let later = nat-up-to a.second b.second (nat_cmp a.second b.second) refl
+    (λ same. let later = nat-up-to a.second b.second
     (up-to-back (int_cmp a.day b.day) (nat_cmp a.second b.second) (ap (int_cmp a.day) (sym same) ∙ tied_itself int_cmp_total a.day) h) in
     omega (arith, ints, same, later))
     (λ less. let below = int-less a.day b.day less in omega (arith, ints, below, a.second_in, b.second_in))
-    (int-up-to a.day b.day (int_cmp a.day b.day) refl (up-to-front (int_cmp a.day b.day) (nat_cmp a.second b.second) h))
+    (int-up-to a.day b.day (up-to-front (int_cmp a.day b.day) (nat_cmp a.second b.second) h))
 source-order (Kept a) (Listed b) h = tt
 source-order (Listed a) (Kept b) h = let f : true ≡ false = h in absurd cc
-source-order (Listed a) (Listed b) h = nat-up-to a b (nat_cmp a b) refl h
+source-order (Listed a) (Listed b) h = nat-up-to a b h
 
 -- Climbing by the finer order is climbing by instants.
 climbs-moments : (xs : List Start) → Climbs start_cmp xs → Climbs moment_cmp xs
@@ -88,7 +86,7 @@ rises-after x (y ∷ ys) u h =
     (λ e. (before-tied moment_cmp moment_total x y firsts (same-moment x y (equal-true x.moment y.moment e)) rest.0, rest.1))
     (λ e.
     let less : moment_cmp x y ≡ Less = ⊎_elim (λ same. let t = true-equal x.moment y.moment same in absurd cc) (λ l. l)
-    (int-up-to x.moment y.moment (moment_cmp x y) refl u.0) in
+    (int-up-to x.moment y.moment u.0) in
     ((less, before-trans moment_cmp moment_total x y firsts less rest.0), rest))
 
 rises-firsts : (xs : List Start) → Climbs moment_cmp xs → Rises moment_cmp (firsts_after None xs)

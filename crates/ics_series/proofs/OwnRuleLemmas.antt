@@ -32,6 +32,4 @@ module _ (zones : FileZones) (event : Event) (w : Window) where
   pub own-rule-as : {kept since : ℤ} {listed all : List Start} (o : Option RuleStarts) → kept ≡ since → listed ≡ all
       → HasOwnRule zones event w (first_asked (clocks_in zones) w event since listed) o →
       HasOwnRule zones event w (first_asked (clocks_in zones) w event kept all) o
-  own-rule-as {since = since} {all = all} o e f h =
-      subst (λ t. HasOwnRule zones event w (first_asked (clocks_in zones) w event t all) o) (sym e)
-      (subst (λ xs. HasOwnRule zones event w (first_asked (clocks_in zones) w event since xs) o) f h)
+  own-rule-as o e f h = subst (λ first. HasOwnRule zones event w first o) (λ i. first_asked (clocks_in zones) w event (sym e i) (f i)) h

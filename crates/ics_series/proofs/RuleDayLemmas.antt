@@ -49,9 +49,6 @@ day-written : (s : Stamp) (a : Local) → midnight a.day ≤ℤ stamp_seconds (s
 day-written (Date day) a = omega (arith, ints)
 day-written _ a = omega (arith, ints)
 
-day-under : (day : ℤ) (n : ℕ) → IsDayNumber day → midnight_number day ≤ n → midnight day ≤ℤ midnight (local_numbered n).day
-day-under day n h l = omega (arith, ints, h.0, l)
-
 pub less-start : (s t : Start) → s.moment <ℤ t.moment → moment_cmp s t ≡ Less
 less-start s t l = sym (int_cmp_is s.moment t.moment Less l)
 
@@ -67,8 +64,7 @@ module _ (zones : FileZones) (event : Event) where
   late-numbered day n h l =
       let near = instant-near zones (time_at event.start (local_numbered n)) in
       let wrote = day-written event.start.stamp (local_numbered n) in
-      let under = day-under day n h l in
-      omega (arith, ints, near.0, wrote, under)
+      omega (arith, ints, near.0, wrote, h.0, l)
 
   -- and one before it an instant that is less than two days after it
   pub early-numbered : (day : ℤ) (n : ℕ) → IsDayNumber day → n < midnight_number day →
