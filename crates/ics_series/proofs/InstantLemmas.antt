@@ -67,22 +67,18 @@ result_near display = near-moved (moment_of (zone_of display)) (moment_near (zon
 pub moved : (f : ℤ → ℤ) {s r l m : ℤ} → s ≡ r → r ≡ f l → l ≡ m → s ≡ f m
 moved f a e h = a ∙ (e ∙ ap f h)
 
-late-written : (s : Stamp) → IsStampDay (stamp_day s) → neg_ℤ (pos 62_135_596_800) ≤ℤ stamp_seconds s
-late-written (Date day) h = omega (arith, ints, h.0)
-late-written _ h = omega (arith, ints, h.0)
-
-early-written : (s : Stamp) → IsStampDay (stamp_day s) → stamp_seconds s <ℤ pos 250_246_627_200
-early-written (Date day) h = omega (arith, ints, h.1)
-early-written (Floating local) h = omega (arith, ints, h.1, local.second_in)
-early-written (Utc local) h = omega (arith, ints, h.1, local.second_in)
-early-written (Zoned local) h = omega (arith, ints, h.1, local.second_in)
+written : (s : Stamp) → IsStampDay (stamp_day s) → (neg_ℤ (pos 62_135_596_800) ≤ℤ stamp_seconds s) × (stamp_seconds s <ℤ pos 250_246_627_200)
+written (Date day) h = (omega (arith, ints, h.0), omega (arith, ints, h.1))
+written (Floating local) h = (omega (arith, ints, h.0), omega (arith, ints, h.1, local.second_in))
+written (Utc local) h = (omega (arith, ints, h.0), omega (arith, ints, h.1, local.second_in))
+written (Zoned local) h = (omega (arith, ints, h.0), omega (arith, ints, h.1, local.second_in))
 
 pub early : (zones : FileZones) (time : Time) → IsTime time → instant (clocks_in zones) time <ℤ pos 250_246_800_000
-early zones time h = omega (arith, ints, instant-near zones time, early-written time.stamp h.years)
+early zones time h = omega (arith, ints, instant-near zones time, (written time.stamp h.years).1)
 
 -- an event begins after the last two days of the year 0000 have begun
 pub late : (zones : FileZones) (time : Time) → IsTime time → occurrence_first ≤ℤ instant (clocks_in zones) time
-late zones time h = omega (arith, ints, instant-near zones time, late-written time.stamp h.years)
+late zones time h = omega (arith, ints, instant-near zones time, (written time.stamp h.years).0)
 
 -- so that it lies in the years of occurrences
 pub in-years : (zones : FileZones) (time : Time) → IsTime time →

@@ -1,6 +1,6 @@
 -- Listings under each day, and what of them comes after the key of one of their entries.
 use Rattle.std.specs.Prelude.{◌<ℤ◌}
-use Rattle.std.specs.Cmp.{IsTotalOrder}
+use Rattle.std.specs.Cmp.{IsTotalOrder, int_cmp_is}
 use Rattle.std.specs.List.{filter}
 use Rattle.std.specs.Ordering.{int_cmp, ordering_then, is_lt, ordering_reverse}
 use Rattle.std.specs.declared.cmp.Ordering.{Ordering}
@@ -67,11 +67,8 @@ rises-under day [] h = tt
 rises-under day (x ∷ xs) h = (before-under day x xs h.0, rises-under day xs h.1)
 
 -- an earlier day goes first
-int-less : (a b : ℤ) → a <ℤ b → int_cmp a b ≡ Less
-int-less a b h = grind (arith, ints)
-
 pub day-first : (p q : OnDay) → p.day <ℤ q.day → on_day_cmp p q ≡ Less
-day-first p q h = ap (λ c. ordering_then c (rank_cmp (rank_of p.entry) (rank_of q.entry))) (int-less p.day q.day h)
+day-first p q h = ap (λ c. ordering_then c (rank_cmp (rank_of p.entry) (rank_of q.entry))) (sym (int_cmp_is p.day q.day Less h))
 
 module _ (files : List FileSaid) (display : Clock) (near : (t : ℤ) → IsNear (display.offset t)) (w : Window) where
   -- what is shown under a day: occurrences that meet the window and have the day there

@@ -1,6 +1,6 @@
 -- What gives starts: the values by which it does lie in the years of stamps.
 use Rattle.std.specs.Prelude.{slice_get}
-use Rattle.std.proofs.Common.{◌≡◌, ℕ, ◌<◌, ◌≤◌, ℤ, pos, ◌+ℤ◌, ◌<ℤ◌, ◌≤ℤ◌, List, All, true, ◌⊎◌, inl, inr, ⊎_elim, Option, Some, None, option_map, refl, sym}
+use Rattle.std.proofs.Common.{◌≡◌, ℕ, ◌<◌, ◌≤◌, ℤ, pos, ◌+ℤ◌, ◌<ℤ◌, ◌≤ℤ◌, List, All, true, ◌⊎◌, inl, inr, ⊎_elim, Option, Some, None, is_some, option_map, refl, sym}
 use Rattle.std.proofs.Common.{◌∙◌, ap, subst, arith}
 use Rattle.std.proofs.Props.{props}
 use Rattle.std.proofs.lemmas.Int.{ints}
@@ -66,27 +66,20 @@ pub written-at : (s : Stamp) (a : Local) → (stamp_seconds (stamp_at s a) ≤�
 written-at (Date day) a = (omega (arith, ints), omega (arith, ints, a.second_in))
 written-at _ a = (omega (arith, ints), omega (arith, ints))
 
-stamp_day-at : (s : Stamp) (a : Local) → stamp_day (stamp_at s a) ≡ a.day
-stamp_day-at (Date day) a = refl
-stamp_day-at _ a = refl
-
 stamp_day-own : (s : Stamp) → stamp_day s ≡ (local_of s).day
 stamp_day-own (Date day) = refl
 stamp_day-own _ = refl
-
-is_zoned-at : (s : Stamp) (a : Local) → is_zoned (stamp_at s a) ≡ is_zoned s
-is_zoned-at (Date day) a = refl
-is_zoned-at _ a = refl
 
 -- Times.
 pub own-time : (time : Time) → time_at time (local_of time.stamp) ≡ time
 own-time time = ap (λ s. record { stamp = s; zone = time.zone }) (own-stamp time.stamp)
 
+stamp-time : (s : Stamp) (zone : Option ℕ) (a : Local) → is_some zone ≡ is_zoned s → IsStampDay a.day → IsTime (record { stamp = stamp_at s a; zone = zone })
+stamp-time (Date day) zone a z d = record { years = d; zone = z }
+stamp-time _ zone a z d = record { years = d; zone = z }
+
 pub time-at : (time : Time) (a : Local) → IsTime time → IsStampDay a.day → IsTime (time_at time a)
-time-at time a h d = record {
-  years = subst IsStampDay (sym (stamp_day-at time.stamp a)) d;
-  zone = h.zone ∙ sym (is_zoned-at time.stamp a);
-}
+time-at time a h d = stamp-time time.stamp time.zone a h.zone d
 
 pub own-day : (time : Time) → IsTime time → IsStampDay (local_of time.stamp).day
 own-day time h = subst IsStampDay (stamp_day-own time.stamp) h.years

@@ -53,11 +53,9 @@ returns-in_default-Lasting c =
       most = omega (arith, ints, lasting.short);
     }
 
-pub returns-in-Date-default-clause-value : goal.returns-in-Date-default-clause-value
-returns-in-Date-default-clause-value c = grind (arith, ints, common_steps)
-
-pub returns-in-Date-default-clause-least : goal.returns-in-Date-default-clause-least
-returns-in-Date-default-clause-least c = grind (arith, ints, common_steps)
-
-pub returns-in-Date-default-clause-most : goal.returns-in-Date-default-clause-most
-returns-in-Date-default-clause-most c = grind (arith, ints, common_steps)
+pub returns-in-Date-default : goal.returns-in-Date-default
+returns-in-Date-default c = record {
+  value = grind (arith, ints, common_steps);
+  least = grind (arith, ints, common_steps);
+  most = grind (arith, ints, common_steps);
+}

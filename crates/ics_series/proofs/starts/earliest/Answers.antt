@@ -58,11 +58,5 @@ loop-start-preserved c =
       }
     ]
 
-pub returns-clause-value : goal.returns-clause-value
-returns-clause-value c = grind (arith, ints, common_steps)
-
-pub returns-clause-late : goal.returns-clause-late
-returns-clause-late c = grind (arith, ints, common_steps)
-
-pub returns-clause-early : goal.returns-clause-early
-returns-clause-early c = grind (arith, ints, common_steps)
+pub returns : goal.returns
+returns c = record { value = grind (arith, ints, common_steps); late = grind (arith, ints, common_steps); early = grind (arith, ints, common_steps) }
