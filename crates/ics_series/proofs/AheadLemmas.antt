@@ -1,11 +1,10 @@
 -- What is still to come of a listing under each day: from day to day, and from its beginning.
-use Rattle.std.specs.Prelude.{◌<ℤ◌, ◌≤ℤ◌, ◌&&◌, int_lt, unsigned_abs, Result, Ok, Err, OnErr}
+use Rattle.std.specs.Prelude.{◌<ℤ◌, ◌≤ℤ◌, ◌&&◌, ◌||◌, int_lt, unsigned_abs, Result, Ok, Err, OnErr}
 use Rattle.std.specs.List.{filter}
 use Rattle.std.specs.Ordering.{int_eq}
-use Rattle.std.proofs.Common.{◌≡◌, ℕ, zero, suc, ℤ, pos, ◌+ℤ◌, ◌-ℤ◌, List, [], ◌∷◌, ◌++◌, map, Option, ◌⊎◌, inl, inr, ⊎_elim, true, false}
+use Rattle.std.proofs.Common.{◌≡◌, ℕ, zero, suc, ℤ, pos, ◌+ℤ◌, ◌-ℤ◌, List, [], ◌∷◌, ◌++◌, map, Option, ◌⊎◌, inl, inr, ⊎_elim, Bool, true, false}
 use Rattle.std.proofs.Common.{cond, refl, sym, ◌∙◌, ap, subst, arith}
 use Rattle.std.proofs.lemmas.Int.{ints}
-use Rattle.std.proofs.lemmas.Bool.{and_from, or_cases, or_left, or_right, and_parts}
 use Rattle.ics_event.specs.Event.{FileSaid}
 use Rattle.ics_zone.specs.Seconds.{IsNear}
 use Rattle.ics_zone.proofs.Cases.{int_lt_true, less_or_not_z, true_int_lt}
@@ -19,7 +18,6 @@ use Rattle.ics_series.specs.Entry.{Entry, Rank, entry_cmp}
 use Rattle.ics_series.specs.Listing.{IsListing}
 use Rattle.ics_series.specs.Meets.{IsListed, IsToCome, Meets}
 use Rattle.ics_series.specs.Sources.{Source}
-use Rattle.ics_series.proofs.Cases.{equal-true, true-equal}
 use Rattle.ics_series.proofs.PickLemmas.{listing-filter}
 use Rattle.ics_series.proofs.ListingLemmas.{one-listing}
 use Rattle.ics_series.proofs.NearDayLemmas.{meets-near, near-first, near-last, occurs-forward}
@@ -140,25 +138,20 @@ module _ (files : List FileSaid) (display : Clock) (near : (t : ℤ) → IsNear 
     abbrev IsCome : OnDay → Type 0
     IsCome p = IsOnDay files display w p × (is_day_after after p ≡ true)
 
+    come-test : (a : ℤ) (r : Bool) → (day <ℤ a) ⊎ ((a ≡ day) × (r ≡ true)) → (int_lt day a || (int_eq a day && r)) ≡ true
+    come-test a r h = grind (arith, ints)
+
+    test-come : (a : ℤ) (r : Bool) → (int_lt day a || (int_eq a day && r)) ≡ true → (day <ℤ a) ⊎ ((a ≡ day) × (r ≡ true))
+    test-come a r h = grind (arith, ints)
+
     begun-come : (p : OnDay) → IsBegun p ⊎ IsLater files display w day p → IsCome p
-    begun-come p (inl b) = (
-      b.0.0,
-      begins.behind p (shown-first p b.0.0)
-          ∙ or_right (int_lt day p.day) (int_eq p.day day && is_after key p.entry)
-          (and_from (int_eq p.day day) (is_after key p.entry) (true-equal p.day day b.0.1) b.1),
-    )
-    begun-come p (inr l) = (
-      l.shown,
-      begins.behind p (shown-first p l.shown)
-          ∙ or_left (int_lt day p.day) (int_eq p.day day && is_after key p.entry) (true_int_lt day p.day l.later),
-    )
+    begun-come p (inl b) = (b.0.0, begins.behind p (shown-first p b.0.0) ∙ come-test p.day (is_after key p.entry) (inr (b.0.1, b.1)))
+    begun-come p (inr l) = (l.shown, begins.behind p (shown-first p l.shown) ∙ come-test p.day (is_after key p.entry) (inl l.later))
 
     come-begun : (p : OnDay) → IsCome p → IsBegun p ⊎ IsLater files display w day p
     come-begun p c =
-        ⊎_elim
-        (λ t. inr (record { shown = c.0; later = int_lt_true day p.day t }))
-        (λ t. let parts = and_parts (int_eq p.day day) (is_after key p.entry) t in inl ((c.0, equal-true p.day day parts.0), parts.1))
-        (or_cases (int_lt day p.day) (int_eq p.day day && is_after key p.entry) (sym (begins.behind p (shown-first p c.0)) ∙ c.1))
+        ⊎_elim (λ l. inr (record { shown = c.0; later = l })) (λ k. inl ((c.0, k.0), k.1))
+        (test-come p.day (is_after key p.entry) (sym (begins.behind p (shown-first p c.0)) ∙ c.1))
 
     all-shown : (xs : List Entry) → IsListing entry_cmp (IsListed files display w) xs →
         (list : List OnDay) × IsListing on_day_cmp (IsOnDay files display w) list

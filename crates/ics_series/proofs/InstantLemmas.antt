@@ -80,10 +80,13 @@ early zones time h = omega (arith, ints, instant-near zones time, (written time.
 pub late : (zones : FileZones) (time : Time) → IsTime time → occurrence_first ≤ℤ instant (clocks_in zones) time
 late zones time h = omega (arith, ints, instant-near zones time, (written time.stamp h.years).0)
 
--- so that it lies in the years of occurrences
-pub in-years : (zones : FileZones) (time : Time) → IsTime time →
-    (occurrence_first ≤ℤ instant (clocks_in zones) time) × (instant (clocks_in zones) time <ℤ pos 250_246_800_000)
-in-years zones time h = (late zones time h, early zones time h)
+-- so DTSTART and DTEND lie in the years of occurrences
+pub until-years : (zones : FileZones) (first : Time) {length : Length} {end : Time} → length ≡ Until end → IsLength first.stamp length → IsTime first →
+    (occurrence_first ≤ℤ instant (clocks_in zones) end) × (instant (clocks_in zones) end <ℤ pos 250_246_800_000)
+    × (occurrence_first ≤ℤ instant (clocks_in zones) first) × (instant (clocks_in zones) first <ℤ pos 250_246_800_000)
+until-years zones first {end = end} e l t =
+    let own : IsLength first.stamp (Until end) = subst (IsLength first.stamp) e l in
+    (late zones end own.0, early zones end own.0, late zones first t, early zones first t)
 
 -- a DTEND is as far off from a start as from DTSTART
 pub until : (clocks : Clocks) (first given end : Time) (s : Stamp) → ((day : ℤ) → s ≡ Date day → ⊥)

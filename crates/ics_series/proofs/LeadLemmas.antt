@@ -18,7 +18,7 @@ use Rattle.ics_series.specs.Leads.{is_given, listed, past, ComeAfter, IsAhead, I
 use Rattle.ics_series.specs.Merged.{by_order, cut, merged, union}
 use Rattle.ics_series.specs.MergedLaws.{before-tied, before-trans}
 use Rattle.ics_series.proofs.Cases.{eq-Equal, up-to-front}
-use Rattle.ics_series.proofs.BeginsLemmas.{begins-at, cut-before, front-at, uncut, AllFront, AllRise, Begins}
+use Rattle.ics_series.proofs.BeginsLemmas.{begins-at, cut-before, front-at, uncut, AllRise, Begins}
 use Rattle.ics_series.specs.Rising.{IsBefore, Rises}
 use Rattle.ics_series.specs.Tournament.{above, head_cmp, lead_cmp, winner, AreSettled, AreSettledBut}
 use Rattle.ics_series.proofs.TournamentLemmas.{settled_but, wins}
@@ -131,22 +131,6 @@ module _ {X : Type 0} (head : X → Option Occurrence) (rest : X → List Entry)
         (subst (λ h. is_gt (head_cmp h (get_or heads i None)) ≡ false) is
         (up-to-front (head_cmp (get_or heads first None) (get_or heads i None)) (nat_cmp first i) (wins-over i m))))
 
-    -- what is not given comes after what was given last
-    fresh-after : ((x : X) → Rises entry_cmp (rest x)) → (p : Occurrence) (e : Entry) → get_or (heads_of head xs) first None ≡ Some e
-        → is_given (Some p) (Some e) ≡ false → AllFront entry_cmp (entry_of p) (lists_of head rest xs) → entry_cmp (entry_of p) e ≡ Less
-    fresh-after rises p e is fresh follows =
-        let lists : List (List Entry) = lists_of head rest xs in
-        let found : IsHeaded (Some e) (get_or lists first []) = subst (λ h. IsHeaded h (get_or lists first [])) is (headed xs first) in
-        by found.0 (entry_cmp (entry_of p) e) refl fresh
-        (subst (λ l. IsBefore entry_cmp (entry_of p) (cut entry_cmp (entry_of p) l)) found.1.0
-        (front-at entry_cmp entry_total (entry_of p) lists first follows))
-      where
-        by : (rest : List Entry) (c : Ordering) → entry_cmp (entry_of p) e ≡ c → is_eq c ≡ false →
-            IsBefore entry_cmp (entry_of p) (by_order c (e ∷ rest) rest (e ∷ rest)) → entry_cmp (entry_of p) e ≡ Less
-        by rest Less q n h = q
-        by rest Equal q n h = cc
-        by rest Greater q n h = h.0
-
     -- where the first of all is not given, nothing of the lists was
     pub uncut-first : ((x : X) → Rises entry_cmp (rest x)) → (last : Option Occurrence) (o : Occurrence)
         → get_or (heads_of head xs) first None ≡ Some (entry_of o) → is_given last (get_or (heads_of head xs) first None) ≡ false
@@ -154,9 +138,20 @@ module _ {X : Type 0} (head : X → Option Occurrence) (rest : X → List Entry)
     uncut-first rises None o is fresh follows = refl
     uncut-first rises (Some p) o is fresh follows =
         let one = map-map (cut entry_cmp (entry_of p)) (λ x. listed (head x) (rest x)) xs in
-        let less = fresh-after rises p (entry_of o) is (subst (λ h. is_given (Some p) h ≡ false) is fresh)
-        (subst (AllByRecursion (IsBefore entry_cmp (entry_of p))) (sym one) follows) in
+        let found : IsHeaded (Some (entry_of o)) (get_or (lists_of head rest xs) first []) =
+        subst (λ h. IsHeaded h (get_or (lists_of head rest xs) first [])) is (headed xs first) in
+        let less = less-by found.0 (entry_cmp (entry_of p) (entry_of o)) refl (subst (λ h. is_given (Some p) h ≡ false) is fresh)
+        (subst (λ l. IsBefore entry_cmp (entry_of p) (cut entry_cmp (entry_of p) l)) found.1.0
+        (front-at entry_cmp entry_total (entry_of p) (lists_of head rest xs) first
+        (subst (AllByRecursion (IsBefore entry_cmp (entry_of p))) (sym one) follows))) in
         sym one ∙ uncut entry_cmp entry_total (entry_of p) (entry_of o) (lists_of head rest xs) less (begins-first rises (entry_of o) is).fronts
+      where
+        -- what is not given comes after what was given last
+        less-by : (es : List Entry) (c : Ordering) → entry_cmp (entry_of p) (entry_of o) ≡ c → is_eq c ≡ false →
+            IsBefore entry_cmp (entry_of p) (by_order c (entry_of o ∷ es) es (entry_of o ∷ es)) → entry_cmp (entry_of p) (entry_of o) ≡ Less
+        less-by es Less q n h = q
+        less-by es Equal q n h = cc
+        less-by es Greater q n h = h.0
 
     -- the first of all, where it is not given, comes next
     pub first-comes : ((x : X) → Rises entry_cmp (rest x)) → (last : Option Occurrence) (o : Occurrence)

@@ -6,7 +6,7 @@ use Rattle.ics_series.specs.Clocks.{instant}
 use Rattle.ics_series.specs.Finish.{end_by}
 use Rattle.ics_series.specs.FileZones.{clocks_in, EndsNear, IsEndOf}
 use Rattle.ics_series.proofs.StartSourceLemmas.{day-years}
-use Rattle.ics_series.proofs.InstantLemmas.{in-years, instant-near, late, until}
+use Rattle.ics_series.proofs.InstantLemmas.{until-years, instant-near, late, until}
 use Rattle.ics_series.proofs.NearLemmas.{day-written}
 use Rattle.ics_series.specs.WindowBounds.{occurrence_first}
 use Rattle.ics_series.proofs.finish.end_by.Goals as goal
@@ -27,18 +27,14 @@ instant-requires c = subst (IsEndOf c.args.zones.zones.now) c.in_default-Until.i
 
 pub overflow_sub-result : goal.overflow_sub-result
 overflow_sub-result c =
-    let length : IsLength c.args.first.stamp (Until c.in_default-Until.end) = subst (IsLength c.args.first.stamp) c.in_default-Until.is-1 c.requires.length in
-    let a = in-years c.args.zones c.in_default-Until.end length.0 in
-    let b = in-years c.args.zones c.args.first c.requires.first.is_time in
-    omega (arith, ints, c.instant.ensures, c.instant-in_default-Until.ensures, a, b)
+    let years = until-years c.args.zones c.args.first c.in_default-Until.is-1 c.requires.length c.requires.first.is_time in
+    omega (arith, ints, c.instant.ensures, c.instant-in_default-Until.ensures, years.0, years.1, years.2, years.3)
 
 pub overflow_add-result : goal.overflow_add-result
 overflow_add-result c =
-    let length : IsLength c.args.first.stamp (Until c.in_default-Until.end) = subst (IsLength c.args.first.stamp) c.in_default-Until.is-1 c.requires.length in
-    let a = in-years c.args.zones c.in_default-Until.end length.0 in
-    let b = in-years c.args.zones c.args.first c.requires.first.is_time in
+    let years = until-years c.args.zones c.args.first c.in_default-Until.is-1 c.requires.length c.requires.first.is_time in
     let from = late c.args.zones c.args.given c.requires.given.is_time in
-    omega (arith, ints, c.instant.ensures, c.instant-in_default-Until.ensures, a, b, from, c.requires.start, c.requires.early)
+    omega (arith, ints, c.instant.ensures, c.instant-in_default-Until.ensures, years.0, years.1, years.2, years.3, from, c.requires.start, c.requires.early)
 
 pub later_by-requires : goal.later_by-requires
 later_by-requires c =
@@ -56,16 +52,14 @@ returns-in_default-Until c =
     let first = c.args.first in
     let given = c.args.given in
     let end = c.in_default-Until.end in
-    let length : IsLength c.args.first.stamp (Until c.in_default-Until.end) = subst (IsLength c.args.first.stamp) c.in_default-Until.is-1 c.requires.length in
-    let a = in-years c.args.zones c.in_default-Until.end length.0 in
-    let b = in-years c.args.zones c.args.first c.requires.first.is_time in
+    let years = until-years c.args.zones c.args.first c.in_default-Until.is-1 c.requires.length c.requires.first.is_time in
     let from = late c.args.zones c.args.given c.requires.given.is_time in
     let near : EndsNear (clocks_in c.args.zones) c.args.first (Until c.in_default-Until.end) =
     subst (EndsNear (clocks_in c.args.zones) c.args.first) c.in_default-Until.is-1 c.requires.near in
     let back : to_z w64 (of_z w64 (to_z w64 (of_z w64 c.args.start) +ℤ to_z w64
     (of_z w64 (to_z w64 (of_z w64 c.instant.result) -ℤ to_z w64 (of_z w64 c.instant-in_default-Until.result)))))
     ≡ instant clocks given +ℤ (instant clocks end -ℤ instant clocks first) =
-    omega (arith, ints, c.instant.ensures, c.instant-in_default-Until.ensures, a, b, from, c.requires.start, c.requires.early) in
+    omega (arith, ints, c.instant.ensures, c.instant-in_default-Until.ensures, years.0, years.1, years.2, years.3, from, c.requires.start, c.requires.early) in
     record {
       value = back ∙ (until clocks first given end first.stamp c.in_default-Until.not-Date-0
           ∙ ap (end_by clocks first given first.stamp) (sym c.in_default-Until.is-1));

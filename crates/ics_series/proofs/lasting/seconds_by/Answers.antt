@@ -7,7 +7,7 @@ use Rattle.ics_event.specs.Event.{IsLasting, IsLength}
 use Rattle.ics_series.specs.Clocks.{instant}
 use Rattle.ics_series.specs.Finish.{seconds_by}
 use Rattle.ics_series.specs.FileZones.{clocks_in, EndsNear, IsEndOf}
-use Rattle.ics_series.proofs.InstantLemmas.{in-years, lasting-seconds, until-seconds}
+use Rattle.ics_series.proofs.InstantLemmas.{until-years, lasting-seconds, until-seconds}
 use Rattle.ics_series.proofs.lasting.seconds_by.Goals as goal
 
 pub instant-requires : goal.instant-requires
@@ -15,23 +15,19 @@ instant-requires c = subst (IsEndOf c.args.zones.zones.now) c.in_default-Until.i
 
 pub overflow_sub-instant : goal.overflow_sub-instant
 overflow_sub-instant c =
-    let length : IsLength c.args.first.stamp (Until c.in_default-Until.end) = subst (IsLength c.args.first.stamp) c.in_default-Until.is-1 c.requires.length in
-    let a = in-years c.args.zones c.in_default-Until.end length.0 in
-    let b = in-years c.args.zones c.args.first c.requires.first.is_time in
-    omega (arith, ints, c.instant.ensures, c.instant-in_default-Until.ensures, a, b)
+    let years = until-years c.args.zones c.args.first c.in_default-Until.is-1 c.requires.length c.requires.first.is_time in
+    omega (arith, ints, c.instant.ensures, c.instant-in_default-Until.ensures, years.0, years.1, years.2, years.3)
 
 pub returns-in_default-Until : goal.returns-in_default-Until
 returns-in_default-Until c =
     let clocks = clocks_in c.args.zones in
     let first = c.args.first in
     let end = c.in_default-Until.end in
-    let length : IsLength c.args.first.stamp (Until c.in_default-Until.end) = subst (IsLength c.args.first.stamp) c.in_default-Until.is-1 c.requires.length in
-    let a = in-years c.args.zones c.in_default-Until.end length.0 in
-    let b = in-years c.args.zones c.args.first c.requires.first.is_time in
+    let years = until-years c.args.zones c.args.first c.in_default-Until.is-1 c.requires.length c.requires.first.is_time in
     let near : EndsNear (clocks_in c.args.zones) c.args.first (Until c.in_default-Until.end) =
     subst (EndsNear (clocks_in c.args.zones) c.args.first) c.in_default-Until.is-1 c.requires.near in
     let value : to_z w64 (of_z w64 c.max.result) ≡ int_max (instant clocks end -ℤ instant clocks first) (pos 0) =
-    omega (arith, ints, c.max.type_inv, c.max.ensures.value, c.instant.ensures, c.instant-in_default-Until.ensures, a, b, int_max_is) in
+    omega (arith, ints, c.max.type_inv, c.max.ensures.value, c.instant.ensures, c.instant-in_default-Until.ensures, years.0, years.1, years.2, years.3, int_max_is) in
     record {
       value = value ∙ (until-seconds clocks first end first.stamp c.in_default-Until.not-Date-0
           ∙ ap (seconds_by clocks first first.stamp) (sym c.in_default-Until.is-1));
