@@ -90,8 +90,7 @@ module _ (files : List FileSaid) (display : Clock) (near : (t : ℤ) → IsNear 
 
   -- past the last day nothing is to come
   none-later : (day : ℤ) → last_near w ≤ℤ day → IsListing on_day_cmp (IsLater files display w day) []
-  none-later day h =
-      none-listed on_day_cmp (λ p l. let later = l.later in let last = shown-last p l.shown in omega (arith, ints, h, later, last))
+  none-later day h = none-listed on_day_cmp (λ p l. let later = l.later in let last = shown-last p l.shown in omega (arith, ints, h, later, last))
 
   pub ahead-ended : (day : ℤ) → last_near w ≤ℤ day → (none : List Entry) → none ≡ [] → (list : List OnDay) → IsAheadOf files display w day none list → list ≡ []
   ahead-ended day h none empty list a =

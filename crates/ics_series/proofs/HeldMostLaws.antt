@@ -34,8 +34,7 @@ greatest-given (suc n) f =
 -- five days that have as many as any
 most-of-days : (clocks : Clocks) (event : Event) → (day : ℤ) × (most_in_days clocks event ≡ raw_in clocks event day)
 unfolding most_in_days
-most-of-days clocks event =
-    let given = greatest-given 3_652_432 (λ k. raw_in clocks event (pos k -ℤ pos 719_534)) in (pos given.0 -ℤ pos 719_534, given.1)
+most-of-days clocks event = let given = greatest-given 3_652_432 (λ k. raw_in clocks event (pos k -ℤ pos 719_534)) in (pos given.0 -ℤ pos 719_534, given.1)
 
 -- no five days have more than the greatest number: what has a start has a time of the calendar
 most-in-any : (zones : FileZones) (event : Event) → IsTime event.start → All IsRdate event.rdates → (day : ℤ) →

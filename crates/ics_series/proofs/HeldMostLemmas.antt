@@ -54,8 +54,7 @@ module _ {A B : Type 0} (R : A → A → Ordering) (o : IsTotalOrder R) (f : A �
 greatest-most : (n k : ℕ) (f : ℕ → ℕ) → k < n → f k ≤ greatest n f
 unfolding greatest
 greatest-most zero k f l = absurd (omega arith)
-greatest-most (suc n) k f l =
-    ⊎_elim (λ low. omega (arith, greatest-most n k f low)) (λ last. omega (arith, ap f last)) (below-or-last k n l)
+greatest-most (suc n) k f l = ⊎_elim (λ low. omega (arith, greatest-most n k f low)) (λ last. omega (arith, ap f last)) (below-or-last k n l)
 
 -- Five days that hold an instant of a local of the calendar have no more than the greatest number.
 pub days-most : (clocks : Clocks) (event : Event) (day : ℤ) → neg_ℤ (pos 719_534) ≤ℤ day → day <ℤ pos 2_932_899 →

@@ -59,8 +59,7 @@ module _ {X : Type 0} (head : X → Option Occurrence) (rest : X → List Entry)
   module _ (last : Option Occurrence) (xs : List X) (i : ℕ) (old new : X) where
     pub near-drawn : listed (head new) (rest new) ≡ rest old → AreNear (N new) (rest old) → AllByRecursion (IsLeadNear last) xs
         → AllByRecursion (IsLeadNear last) (set xs i new)
-    near-drawn drawn near all =
-        all-set (IsLeadNear last) xs i new all (λ o m. near o (past-in last o (rest old) (subst (λ l. IsIn o (past last l)) drawn m)))
+    near-drawn drawn near all = all-set (IsLeadNear last) xs i new all (λ o m. near o (past-in last o (rest old) (subst (λ l. IsIn o (past last l)) drawn m)))
 
     pub near-kept : head new ≡ head old → rest new ≡ rest old → IsAhead (head old) (rest old) → is_given last (option_map entry_of (head old)) ≡ true
         → AreNear (N new) (rest old) → AllByRecursion (IsLeadNear last) xs → AllByRecursion (IsLeadNear last) (set xs i new)

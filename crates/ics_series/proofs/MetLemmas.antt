@@ -44,13 +44,11 @@ module _ (clocks : Clocks) (w : Window) (event : Event) (s : Start) where
       by false false = refl
 
   pub unmet : met_by clocks w event s ≡ None → shown_by clocks w event s ≡ None
-  unmet e =
-      shown-by refl ∙ cond_both (is_excluded clocks event from.start) None (met_by clocks w event s) (λ o. o ≡ None) (λ _. refl) (λ _. e)
+  unmet e = shown-by refl ∙ cond_both (is_excluded clocks event from.start) None (met_by clocks w event s) (λ o. o ≡ None) (λ _. refl) (λ _. e)
 
 -- those of the occurrences with these starts that pass a test
 abbrev pub picked : Clocks → Event → (Entry → Bool) → List Start → List Entry
-picked clocks event test starts =
-    filter_map (λ s. if test (entry_from clocks event s.given) then Some (entry_from clocks event s.given) else None) starts
+picked clocks event test starts = filter_map (λ s. if test (entry_from clocks event s.given) then Some (entry_from clocks event s.given) else None) starts
 
 -- of a strictly rising list two that tie are one
 untied : (s t : Start) → moment_cmp s t ≡ Less → s.moment ≡ t.moment → ⊥

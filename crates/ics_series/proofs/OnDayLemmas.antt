@@ -111,8 +111,7 @@ module _ {A : Type 0} (R : A → A → Ordering) (o : IsTotalOrder R) where
 
   greater-behind : (front : List A) (x : A) (behind : List A) → Rises R (front ++ x ∷ behind) → greater x (front ++ x ∷ behind) ≡ behind
   unfolding greater
-  greater-behind [] x behind h =
-      ap (λ c. cond (is_lt c) (x ∷ greater x behind) (greater x behind)) (tied_itself o x) ∙ keeps-greater x behind h.0
+  greater-behind [] x behind h = ap (λ c. cond (is_lt c) (x ∷ greater x behind) (greater x behind)) (tied_itself o x) ∙ keeps-greater x behind h.0
   greater-behind (y ∷ ys) x behind h =
       let after : R x y ≡ Greater = o.antisymm x y
       ∙ ap ordering_reverse (before-in R o y x (ys ++ x ∷ behind) h.0 (in-append_right x ys (x ∷ behind) (inl refl))) in

@@ -101,8 +101,7 @@ module _ (source : ℕ → StartSource) (rises : (k n : ℕ) → k < n → sourc
       (below-or-on n)
 
 earlier-local : (k n : ℕ) → k < n → source_cmp (Kept (local_numbered k)) (Kept (local_numbered n)) ≡ Less
-earlier-local k n l =
-    source-before (Kept (local_numbered k)) (Kept (local_numbered n)) (λ h. omega (arith, ints, l, h, number-numbered k, number-numbered n))
+earlier-local k n l = source-before (Kept (local_numbered k)) (Kept (local_numbered n)) (λ h. omega (arith, ints, l, h, number-numbered k, number-numbered n))
 
 earlier-place : (k n : ℕ) → k < n → source_cmp (Listed k) (Listed n) ≡ Less
 earlier-place k n l = source-before (Listed k) (Listed n) (λ h. omega (arith, l, h))
@@ -147,8 +146,7 @@ module _ (clocks : Clocks) (event : Event) (test : ℤ → Bool) (time : IsTime 
 
   -- what such a local is
   abbrev IsRawKept : StartSource → Type 0
-  IsRawKept (Kept local) =
-      ((local ≡ local_of event.start.stamp) ⊎ IsRuleStart clocks event local) × (test (instant clocks (time_at event.start local)) ≡ true)
+  IsRawKept (Kept local) = ((local ≡ local_of event.start.stamp) ⊎ IsRuleStart clocks event local) × (test (instant clocks (time_at event.start local)) ≡ true)
   IsRawKept (Listed place) = ⊥
 
   own-instant : instant clocks (time_at event.start (local_of event.start.stamp)) ≡ instant clocks event.start

@@ -210,8 +210,7 @@ module _ (zones : FileZones) (event : Event) where
 -- The first of a list goes where a start is at its instant, and else nothing does.
 pub cut-first : (t : Start) {held : List Start} {d : Start} → IsFirst d held → t.moment ≡ d.moment → drop 1 held ≡ cut moment_cmp t held
 cut-first t {held = []} first e = absurd (omega (arith, first.some))
-cut-first t {held = s ∷ held} first e =
-    sym (ap (λ c. by_order c (s ∷ held) held (s ∷ held)) (same-moment t s (e ∙ ap (λ (x : Start). x.moment) first.is)))
+cut-first t {held = s ∷ held} first e = sym (ap (λ c. by_order c (s ∷ held) held (s ∷ held)) (same-moment t s (e ∙ ap (λ (x : Start). x.moment) first.is)))
 
 pub uncut-first : (t : Start) {held : List Start} {d : Start} → IsFirst d held → (t.moment ≡ d.moment → ⊥) → held ≡ cut moment_cmp t held
 uncut-first t {held = []} first n = refl

@@ -48,8 +48,7 @@ module _ (day end : ℤ) where
 module _ (zones : FileZones) (event : Event) (rule : Recurrence) (w : Window) where
   pub held-on : (old new : ℤ) (held : List Start) → old ≤ℤ new → ((s : Start) → IsIn s held → (midnight new -ℤ whole_days 3) ≤ℤ s.moment)
       → AreHeld (clocks_in zones) event rule w old held → AreHeld (clocks_in zones) event rule w new held
-  held-on old new held l late are s m =
-      let h = are s m in record { by = h.by; given = h.given; late = late s m; early = omega (arith, ints, h.early, l) }
+  held-on old new held l late are s m = let h = are s m in record { by = h.by; given = h.given; late = late s m; early = omega (arith, ints, h.early, l) }
 
   -- the starts that are held once a kept local is read
   pub held-in : (b : Bool) (s x : Start) (held : List Start) → IsIn x (with_held b s held) → IsIn x held ⊎ ((b ≡ true) × (x ≡ s))

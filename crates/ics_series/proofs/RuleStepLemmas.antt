@@ -52,8 +52,7 @@ module _ (s : RuleStarts) where
 
   -- where no day more has to be read the first that is held is the first still to come
   pub first-left : is_behind s.day s.end s.held.items ≡ false → slice_get s.held.items 0 ≡ slice_get (starts_left s) 0
-  first-left ready =
-      first-held s.zones s.event.now s.rule s.window s.day s.end (place_of s.cursor) day-days end-days s.after s.read s.held.items s.rises ready
+  first-left ready = first-held s.zones s.event.now s.rule s.window s.day s.end (place_of s.cursor) day-days end-days s.after s.read s.held.items s.rises ready
 
   -- a start leaves of what is held what it leaves of all that is still to come
   pub passed-left : (t : Start) (new : List Start) → new ≡ cut moment_cmp t s.held.items → is_behind s.day s.end s.held.items ≡ false

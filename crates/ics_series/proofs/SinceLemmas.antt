@@ -125,8 +125,7 @@ IsRuled clocks event w since listed o = MatchOption o (event.rule ≡ None) (λ 
 
 pub ruled-as : (clocks : Clocks) (event : Event) (w : Window) {t since : ℤ} {given listed : List Start} (o : Option RuleStarts) → t ≡ since
     → given ≡ listed → IsRuled clocks event w t given o → IsRuled clocks event w since listed o
-ruled-as clocks event w {t = t} {listed = listed} o e f h =
-    subst (λ x. IsRuled clocks event w x listed o) e (subst (λ xs. IsRuled clocks event w t xs o) f h)
+ruled-as clocks event w {t = t} {listed = listed} o e f h = subst (λ x. IsRuled clocks event w x listed o) e (subst (λ xs. IsRuled clocks event w t xs o) f h)
 
 module _ (zones : FileZones) (w : Window) (event : Event) (sound : IsEvent event) (since : ℤ) where
   abbrev by_rdates : List Start
@@ -152,20 +151,10 @@ module _ (zones : FileZones) (w : Window) (event : Event) (sound : IsEvent event
         let day = kept-calendar (clocks_in zones) event local sound.start g.0 in
         let near = instant-near zones time in
         let at = written-at event.start.stamp local in
+        let sought = sought-late zones w event (instant (clocks_in zones) (time_of given)) s in
+        let first = kept-first (clocks_in zones) event sound.start local g.0 in
         let asked : int_max (local_seconds (local_of event.start.stamp)) (first_asked (clocks_in zones) w event since by_rdates -ℤ whole_days 6)
-        ≤ℤ local_seconds local =
-        omega (
-          arith,
-          ints,
-          int_max_is,
-          int_min_is,
-          sought-late zones w event (instant (clocks_in zones) (time_of given)) s,
-          late,
-          kept-first (clocks_in zones) event sound.start local g.0,
-          same,
-          near.1,
-          at.0,
-        ) in
+        ≤ℤ local_seconds local = omega (arith, ints, int_max_is, int_min_is, sought, late, first, same, near.1, at.0) in
         let low = r.low in
         let from : number r.from ≤ number local = omega (arith, ints, low, asked, number-seconds r.from r.day, number-seconds local day) in
         let below : number local < rules_end = omega (arith, ints, same, early, near.0, at.1, number-seconds local day, w.not_late) in
