@@ -35,35 +35,7 @@ wider m coming most h = λ rule has.
 none-near : (w : Window) (day : ℤ) (n : Window) → last_near w <ℤ day → IsNearDay w day n → ⊥
 none-near w day n past near =
     let last = day-under (w.to -ℤ pos 1) (day_of_local (w.to -ℤ pos 1)) refl in
-    let ordered = n.ordered in
-    let from = near.from in
-    let to = near.to in
-    let low = last.0 in
-    let high = last.1 in
-    absurd (omega (arith, ints, int_max_is, int_min_is, ordered, from, to, low, high, past))
-
--- The masters of a day are within the bounds for the day.
-module _ (s : Scope) (day : ℤ) (sources : List Source) (are : AreDayMasters s day sources) (rise : Rises uid_cmp (recurring sources))
-    (coming : List Entry) (steps : ℕ) (few : (most : Recurring → ℕ) → ((m : Recurring) → IsIn m (recurring sources) → HasStepBound m coming (most m))
-    → steps ≤ sum_by most (recurring sources))
-    (masters : List Placed) (all : AreMasters s masters) where
-  bound-of : (most : Master → ℕ) → AreDayBounds s masters day most → (m : Recurring) → IsIn m (recurring sources) → HasStepBound m coming (most (master_of m))
-  bound-of most bounds m k =
-      let of = All-contains (IsDayMaster s day) (recurring sources) m (All-from_recursion (IsDayMaster s day) (recurring sources) are)
-      (contains-in m (recurring sources) k) in
-      let near = bounds of.by ((all.exact of.by).1 of.is) m of.searched in
-      wider m coming (most (master_of m)) (subst (λ (x : Master). HasStepBound m [] (most x)) (sym of.searched.same) near)
-
-  pub day-most : (most : Master → ℕ) → AreDayBounds s masters day most → steps ≤ sum_by most (masters_in s masters)
-  day-most most bounds =
-      let own = few (λ m. most (master_of m)) (bound-of most bounds) in
-      let within = sum-of-masters s.files s.display most (recurring sources) masters rise (day-masters s day (recurring sources) are) all in
-      omega (arith, own, sum_by-map most master_of (recurring sources), within)
-
-  none-past : last_near s.window <ℤ day → steps ≤ 0
-  none-past past =
-      let none = day-most (λ m. 0) (λ p k m searched. absurd (none-near s.window day m.window past searched.near)) in
-      omega (arith, none, sum_by-le (λ m. 0) 0 (masters_in s masters) (λ k d l. omega arith))
+    omega (arith, ints, int_max_is, int_min_is, n.ordered, near.from, near.to, last.0, last.1, past)
 
 sum-more : (f : ℤ → ℕ) (day : ℤ) (n : ℕ) → sum_days f day (suc n) ≡ sum_days f day n + f (day +ℤ pos n)
 unfolding sum_days
@@ -81,6 +53,26 @@ module _ (s : Scope) (day : ℤ) (looked : ℕ) (before : IsLookedBefore s day l
     (sources : List Source) (are : AreDayMasters s day sources) (rise : Rises uid_cmp (recurring sources))
     (coming : List Entry) (steps : ℕ) (few : (most : Recurring → ℕ) → ((m : Recurring) → IsIn m (recurring sources) → HasStepBound m coming (most m))
     → steps ≤ sum_by most (recurring sources)) where
+  -- The masters of a day are within the bounds for the day.
+  module _ (masters : List Placed) (all : AreMasters s masters) where
+    bound-of : (most : Master → ℕ) → AreDayBounds s masters day most → (m : Recurring) → IsIn m (recurring sources) → HasStepBound m coming (most (master_of m))
+    bound-of most bounds m k =
+        let of = All-contains (IsDayMaster s day) (recurring sources) m (All-from_recursion (IsDayMaster s day) (recurring sources) are)
+        (contains-in m (recurring sources) k) in
+        let near = bounds of.by ((all.exact of.by).1 of.is) m of.searched in
+        wider m coming (most (master_of m)) (subst (λ (x : Master). HasStepBound m [] (most x)) (sym of.searched.same) near)
+
+    day-most : (most : Master → ℕ) → AreDayBounds s masters day most → steps ≤ sum_by most (masters_in s masters)
+    day-most most bounds =
+        let own = few (λ m. most (master_of m)) (bound-of most bounds) in
+        let within = sum-of-masters s.files s.display most (recurring sources) masters rise (day-masters s day (recurring sources) are) all in
+        omega (arith, own, sum_by-map most master_of (recurring sources), within)
+
+    none-past : last_near s.window <ℤ day → steps ≤ 0
+    none-past past =
+        let none = day-most (λ m. 0) (λ p k m searched. absurd (none-near s.window day m.window past searched.near)) in
+        omega (arith, none, sum_by-le (λ m. 0) 0 (masters_in s masters) (λ k d l. omega arith))
+
   -- what was looked at up to a day and on it
   with-day : (masters : List Placed) (most : ℤ → Master → ℕ) (n : ℕ) → AreMasters s masters → ((d : ℤ) → AreDayBounds s masters d (most d))
       → day <ℤ (begin_day s.window s.after +ℤ pos n)
@@ -91,7 +83,7 @@ module _ (s : Scope) (day : ℤ) (looked : ℕ) (before : IsLookedBefore s day l
       let f = λ (d : ℤ). sum_by (most d) (masters_in s masters) in
       let is : (begin_day s.window s.after +ℤ pos (unsigned_abs (day -ℤ begin_day s.window s.after))) ≡ day = omega (arith, ints, begun) in
       let so-far = before masters most k all bounds is in
-      let today = day-most s day sources are rise coming steps few masters all (most day) (bounds day) in
+      let today = day-most masters all (most day) (bounds day) in
       let same = ap (λ (d : ℤ). sum_by (most d) (masters_in s masters)) is in
       let within : suc (unsigned_abs (day -ℤ begin_day s.window s.after)) ≤ n = omega (arith, ints, is, l) in
       omega (arith, so-far, today, same, sum-more f first k, sum-grows f first (suc k) n within)
@@ -107,7 +99,7 @@ module _ (s : Scope) (day : ℤ) (looked : ℕ) (before : IsLookedBefore s day l
       → HasDaysBound s list bound → looked + steps ≤ bound
   steps-most past list reach h =
       ⊎_elim
-      (λ far. omega (arith, past far, none-past s day sources are rise coming steps few h.masters h.are far))
+      (λ far. omega (arith, past far, none-past h.masters h.are far))
       (λ near. let low = reach near in omega (arith, with-day h.masters h.most h.days h.are h.each (omega (arith, ints, low, h.reach)), h.is))
       (less_or_not_z (last_near s.window) day)
 

@@ -27,20 +27,12 @@ pub day-within : (w : Window) (day : ℤ) → first_near w ≤ℤ day → day �
 day-within w day low high =
     let first = day-under w.from (day_of_local w.from) refl in
     let last = day-under (w.to -ℤ pos 1) (day_of_local (w.to -ℤ pos 1)) refl in
-    let top = first.1 in
-    let bottom = last.0 in
-    (omega (arith, ints, top, low), omega (arith, ints, bottom, high))
+    (omega (arith, ints, first.1, low), omega (arith, ints, last.0, high))
 
 -- an occurrence ends where it starts, or later
 pub occurs-forward : (files : List FileSaid) (display : Clock) (o : Entry) → Occurs files display o → o.start ≤ℤ o.finish
-occurs-forward files display o (inl m) =
-    let starts = m.of.lasts.starts in
-    let ends = m.of.lasts.ends in
-    omega (arith, ints, starts, ends, int_max_is)
-occurs-forward files display o (inr m) =
-    let starts = m.of.starts in
-    let ends = m.of.ends in
-    omega (arith, ints, starts, ends, int_max_is)
+occurs-forward files display o (inl m) = omega (arith, ints, m.of.lasts.starts, m.of.lasts.ends, int_max_is)
+occurs-forward files display o (inr m) = omega (arith, ints, m.of.starts, m.of.ends, int_max_is)
 
 -- what starts at an instant or lasts up to it lasts past it, or is of no length and starts there or later
 pub lasts-from : (from start finish : ℤ) → start ≤ℤ finish → from ≤ℤ int_max start (finish -ℤ pos 1) →
@@ -80,20 +72,16 @@ module _ (clock : Clock) (near : (t : ℤ) → IsNear (clock.offset t)) where
         by false e h = ⊎_elim inl (λ k. inr (apart e, k)) (of-max (first_day clock w o) (end_day clock w o) h)
 
     pub near-start : o.start <ℤ midnight (day +ℤ pos 3)
-    near-start =
-        let high = (date-near (int_max o.start w.from)).1 in
-        let first = at-first in
-        omega (arith, ints, high, first, int_max_is o.start w.from)
+    near-start = omega (arith, ints, (date-near (int_max o.start w.from)).1, at-first, int_max_is o.start w.from)
 
     near-finish : (from : ℤ) → from ≡ int_max w.from (midnight (day -ℤ pos 2)) → (from <ℤ o.finish) ⊎ ((o.finish ≡ o.start) × (from ≤ℤ o.start))
     near-finish from e =
         let low = (date-near (int_max o.start w.from)).0 in
         let end = (date-near (int_min o.finish w.to -ℤ pos 1)).0 in
         let least = lasting-least met.lasting in
-        lasts-from from o.start o.finish forward (⊎_elim (λ k. omega (arith, ints, e, least, forward, low, k, int_max_is)) (λ k.
-        let last = k.0 in
-        let day = k.1 in
-        omega (arith, ints, e, least, end, last, day, int_max_is, int_min_is)) by-length)
+        lasts-from from o.start o.finish forward
+        (⊎_elim (λ k. omega (arith, ints, e, least, forward, low, k, int_max_is))
+        (λ k. omega (arith, ints, e, least, end, k.0, k.1, int_max_is, int_min_is)) by-length)
       where
         lasting-least : (w.from <ℤ o.finish) ⊎ ((o.finish ≡ o.start) × (w.from ≤ℤ o.start)) → w.from ≤ℤ int_max o.start (o.finish -ℤ pos 1)
         lasting-least (inl l) = omega (arith, ints, l, int_max_is)
@@ -111,19 +99,13 @@ module _ (clock : Clock) (near : (t : ℤ) → IsNear (clock.offset t)) where
     -- and that is one of the days that a clock can show in the window
     pub near-first : first_near w ≤ℤ day
     near-first =
-        let high = (date-near (int_max o.start w.from)).1 in
-        let first = at-first in
         let under = day-under w.from (day_of_local w.from) refl in
-        let low = under.0 in
-        omega (arith, ints, high, first, low, int_max_is o.start w.from)
+        omega (arith, ints, (date-near (int_max o.start w.from)).1, at-first, under.0, int_max_is o.start w.from)
 
     pub near-last : day ≤ℤ last_near w
     near-last =
         let under = day-under (w.to -ℤ pos 1) (day_of_local (w.to -ℤ pos 1)) refl in
-        let top = under.1 in
-        let begun = met.begun in
-        let ordered = w.ordered in
         let start = (date-near (int_max o.start w.from)).0 in
         let end = (date-near (int_min o.finish w.to -ℤ pos 1)).0 in
-        ⊎_elim (λ k. omega (arith, ints, k, top, begun, ordered, start, int_max_is o.start w.from))
-        (λ h. let k = h.1 in omega (arith, ints, k, top, end, int_min_is o.finish w.to)) by-length
+        ⊎_elim (λ k. omega (arith, ints, k, under.1, met.begun, w.ordered, start, int_max_is o.start w.from))
+        (λ h. omega (arith, ints, h.1, under.1, end, int_min_is o.finish w.to)) by-length

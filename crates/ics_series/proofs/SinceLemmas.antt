@@ -155,8 +155,7 @@ module _ (zones : FileZones) (w : Window) (event : Event) (sound : IsEvent event
         let first = kept-first (clocks_in zones) event sound.start local g.0 in
         let asked : int_max (local_seconds (local_of event.start.stamp)) (first_asked (clocks_in zones) w event since by_rdates -ℤ whole_days 6)
         ≤ℤ local_seconds local = omega (arith, ints, int_max_is, int_min_is, sought, late, first, same, near.1, at.0) in
-        let low = r.low in
-        let from : number r.from ≤ number local = omega (arith, ints, low, asked, number-seconds r.from r.day, number-seconds local day) in
+        let from : number r.from ≤ number local = omega (arith, ints, r.low, asked, number-seconds r.from r.day, number-seconds local day) in
         let below : number local < rules_end = omega (arith, ints, same, early, near.0, at.1, number-seconds local day, w.not_late) in
         let parts = ruled-kept (clocks_in zones) event r.rule r.has local g.0 in
         let given-there : gives (clocks_in zones) event r.rule w (number local) ≡ true =
