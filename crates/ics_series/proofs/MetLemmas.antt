@@ -3,8 +3,9 @@ use Rattle.std.specs.Prelude.{◌&&◌, not, if◌then◌else◌}
 use Rattle.std.proofs.Common.{◌≡◌, ℤ, List, [], ◌∷◌, Option, Some, None, ⊎_elim, Bool, true, false, refl, sym, ◌∙◌, ap, subst}
 use Rattle.std.specs.List.{filter_map}
 use Rattle.std.proofs.lemmas.Bool.{cond_both}
+use Rattle.std.proofs.lemmas.Cmp.{tied_back}
 use Rattle.std.proofs.lemmas.Option.{cond_some}
-use Rattle.std.specs.declared.cmp.Ordering.TheVariants.{Less}
+use Rattle.std.specs.declared.cmp.Ordering.TheVariants.{Equal}
 use Rattle.std.specs.Ordering.{int_cmp}
 use Rattle.ics_event.specs.declared.event.Event.{Event}
 use Rattle.ics_event.specs.declared.time.Rdate.{Rdate}
@@ -51,16 +52,15 @@ abbrev pub picked : Clocks → Event → (Entry → Bool) → List Start → Lis
 picked clocks event test starts = filter_map (λ s. if test (entry_from clocks event s.given) then Some (entry_from clocks event s.given) else None) starts
 
 -- of a strictly rising list two that tie are one
-untied : (s t : Start) → moment_cmp s t ≡ Less → s.moment ≡ t.moment → ⊥
-untied s t l f = let q = same-moment s t f in cc
-
-module _ (x y : Start) (same : x.moment ≡ y.moment) where
+module _ (x y : Start) (tied : moment_cmp x y ≡ Equal) where
   one-of-tied : (xs : List Start) → Rises moment_cmp xs → IsIn x xs → IsIn y xs → x ≡ y
   one-of-tied [] r m n = absurd m
   one-of-tied (z ∷ zs) r m n =
       ⊎_elim
-      (λ a. ⊎_elim (λ b. a ∙ sym b) (λ b. absurd (untied z y (before-in moment_cmp moment_total z y zs r.0 b) (ap (λ s. s.moment) (sym a) ∙ same))) n)
-      (λ a. ⊎_elim (λ b. absurd (untied z x (before-in moment_cmp moment_total z x zs r.0 a) (ap (λ s. s.moment) (sym b) ∙ sym same)))
+      (λ a. ⊎_elim (λ b. a ∙ sym b) (λ b. let less = ap (λ s. moment_cmp s y) a ∙ before-in moment_cmp moment_total z y zs r.0 b in absurd cc) n)
+      (λ a. ⊎_elim
+      (λ b. let less = tied_back moment_total x y tied in
+      let more = ap (λ s. moment_cmp s x) b ∙ before-in moment_cmp moment_total z x zs r.0 a in absurd cc)
       (λ b. one-of-tied zs r.1 a b) n)
       m
 
@@ -75,15 +75,11 @@ module _ (clocks : Clocks) (event : Event) (test : Entry → Bool) where
   pick-is : (s : Start) (e : Entry) → pick s ≡ Some e → (e ≡ own s) × (test e ≡ true)
   pick-is s e q = let k = cond_some (test (own s)) (own s) e q in (sym k.1, ap test (sym k.1) ∙ k.0)
 
-  -- The order.
-  own-less : (s t : Start) → IsStart clocks event s → IsStart clocks event t → moment_cmp s t ≡ Less → entry_start_cmp (own s) (own t) ≡ Less
-  own-less s t a b l = ap (λ x. int_cmp x (instant clocks (time_of t.given))) (sym a.moment) ∙ (ap (int_cmp s.moment) (sym b.moment) ∙ l)
-
   picks-keep : (ss : List Start) → ((s : Start) → IsIn s ss → IsStart clocks event s) → KeepsOrder pick moment_cmp entry_start_cmp (λ s. IsIn s ss)
   picks-keep ss o s t x y m n d e l =
       let one = pick-is s x d in
       let other = pick-is t y e in
-      (λ i. entry_start_cmp (one.0 i) (other.0 i)) ∙ own-less s t (o s m) (o t n) l
+      (λ i. entry_start_cmp (one.0 i) (other.0 i)) ∙ ((λ i. int_cmp (sym (o s m).moment i) (sym (o t n).moment i)) ∙ l)
 
   -- The members: e has one of these starts, and passes.
   pub record IsPicked (ss : List Start) (e : Entry) : Type 0 where
@@ -137,7 +133,8 @@ module _ (clocks : Clocks) (w : Window) (event : Event) (starts : List Start) (C
             starts = refl;
             earliest = λ other value g e.
                 let found = all other value g (subst (IsSought clocks event w) (sym e) sought) (subst Counts (sym e) counts) in
-                let same : found.start ≡ s = one-of-tied found.start s (found.same ∙ (e ∙ sym start.moment)) starts rises found.stands m in
+                let same : found.start ≡ s = one-of-tied found.start s (same-moment found.start s (found.same ∙ (e ∙ sym start.moment))) starts rises
+                found.stands m in
                 subst (λ x. IsNotAfter x.source other) same found.earlier;
             ends = refl;
             stays = shown.1;
