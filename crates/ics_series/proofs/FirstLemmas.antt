@@ -51,33 +51,22 @@ int-less a b e = subst (λ o. MatchOrdering o (a <ℤ b) (a ≡ b) (b <ℤ a)) e
 nat-up-to : (a b : ℕ) → is_gt (nat_cmp a b) ≡ false → a ≤ b
 nat-up-to a b g = grind (arith, nat_tests)
 
+both-up-to : (a b : ℤ) (m n : ℕ) → is_gt (ordering_then (int_cmp a b) (nat_cmp m n)) ≡ false → (a <ℤ b) ⊎ ((a ≡ b) × (m ≤ n))
+both-up-to a b m n h = grind (arith, ints, nat_tests)
+
 -- what is not after another by its parts stands no later in the order of what gives starts
 pub source-order : (g k : StartSource) → is_gt (source_cmp g k) ≡ false → IsNotAfter g k
 source-order (Kept a) (Kept b) h =
-    ⊎_elim
-    (λ same. let later = nat-up-to a.second b.second
-    (up-to-back (int_cmp a.day b.day) (nat_cmp a.second b.second) (ap (int_cmp a.day) (sym same) ∙ tied_itself int_cmp_total a.day) h) in
-    omega (arith, ints, same, later))
-    (λ less. let below = int-less a.day b.day less in omega (arith, ints, below, a.second_in, b.second_in))
-    (int-up-to a.day b.day (up-to-front (int_cmp a.day b.day) (nat_cmp a.second b.second) h))
+    ⊎_elim (λ l. omega (arith, ints, l, a.second_in, b.second_in)) (λ e. omega (arith, ints, e.0, e.1)) (both-up-to a.day b.day a.second b.second h)
 source-order (Kept a) (Listed b) h = tt
 source-order (Listed a) (Kept b) h = let f : true ≡ false = h in absurd cc
 source-order (Listed a) (Listed b) h = nat-up-to a b h
-
--- Climbing by the finer order is climbing by instants.
-climbs-moments : (xs : List Start) → Climbs start_cmp xs → Climbs moment_cmp xs
-climbs-moments [] h = tt
-climbs-moments (x ∷ xs) h = (up-to xs h.0, climbs-moments xs h.1)
-  where
-    up-to : (ys : List Start) → IsUpTo start_cmp x ys → IsUpTo moment_cmp x ys
-    up-to [] k = tt
-    up-to (y ∷ ys) k = (up-to-front (moment_cmp x y) (source_cmp x.source y.source) k.0, up-to ys k.1)
 
 -- The instants rise.
 abbrev RisesAfter : Start → List Start → Type 0
 RisesAfter x zs = IsBefore moment_cmp x zs × Rises moment_cmp zs
 
-rises-after : (x : Start) (xs : List Start) → IsUpTo moment_cmp x xs → Climbs moment_cmp xs → RisesAfter x (firsts_after (Some x.moment) xs)
+rises-after : (x : Start) (xs : List Start) → IsUpTo start_cmp x xs → Climbs start_cmp xs → RisesAfter x (firsts_after (Some x.moment) xs)
 rises-after x [] u h = (tt, tt)
 rises-after x (y ∷ ys) u h =
     let rest = rises-after y ys h.0 h.1 in
@@ -86,10 +75,10 @@ rises-after x (y ∷ ys) u h =
     (λ e. (before-tied moment_cmp moment_total x y firsts (same-moment x y (equal-true x.moment y.moment e)) rest.0, rest.1))
     (λ e.
     let less : moment_cmp x y ≡ Less = ⊎_elim (λ same. let t = true-equal x.moment y.moment same in absurd cc) (λ l. l)
-    (int-up-to x.moment y.moment u.0) in
+    (int-up-to x.moment y.moment (up-to-front (moment_cmp x y) (source_cmp x.source y.source) u.0)) in
     ((less, before-trans moment_cmp moment_total x y firsts less rest.0), rest))
 
-rises-firsts : (xs : List Start) → Climbs moment_cmp xs → Rises moment_cmp (firsts_after None xs)
+rises-firsts : (xs : List Start) → Climbs start_cmp xs → Rises moment_cmp (firsts_after None xs)
 rises-firsts [] h = tt
 rises-firsts (x ∷ xs) h = rises-after x xs h.0 h.1
 
@@ -140,7 +129,7 @@ in-all-firsts s xs h m = ⊎_elim (λ f. let g : None ≡ Some s.moment = f in a
 -- of starts in any order, sorted, the first of each run
 pub firsts-of : (xs ys : List Start) → IsPermutation xs ys → Climbs start_cmp ys → AreFirsts xs (firsts_after None ys)
 firsts-of xs ys p climbs = record {
-  rises = rises-firsts ys (climbs-moments ys climbs);
+  rises = rises-firsts ys climbs;
   are = λ t m. in-permutation t ys xs (IsPermutation-sym xs ys p) (firsts-in None t ys m);
   all = λ s m.
       let f = in-all-firsts s ys climbs (in-permutation s xs ys p m) in

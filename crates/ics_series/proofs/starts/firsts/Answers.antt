@@ -1,5 +1,5 @@
 use Rattle.std.proofs.lemmas.Grind.{common_steps}
-use Rattle.std.proofs.Common.{rules, ◌≡◌, ◌+◌, ◌<◌, ◌++◌, ◌∷◌, ℕ, ℤ, List, [], Option, Some, cond, true, false, drop, get_or, length, sym, ◌∙◌, ap, to_z, of_z, arith}
+use Rattle.std.proofs.Common.{rules, ◌≡◌, ◌+◌, ◌<◌, ◌++◌, ◌∷◌, ℕ, ℤ, List, [], Option, Some, cond, Bool, drop, get_or, length, sym, ◌∙◌, ap, to_z, of_z, arith}
 use Rattle.std.proofs.Common.{w64}
 use Rattle.std.proofs.lemmas.List.{append_assoc, at_drop_more}
 use Rattle.std.specs.Option.{option_eq}
@@ -9,40 +9,32 @@ use Rattle.ics_series.specs.Found.{firsts_after}
 use Rattle.ics_series.proofs.FirstLemmas.{at-true}
 use Rattle.ics_series.proofs.starts.firsts.Goals as goal
 
-one-more : (last : Option ℤ) (starts : List Start) (k : ℕ) (s : Start) → k < length starts → s ≡ get_or starts k s → firsts_after last (drop k starts)
-    ≡ cond (option_eq int_eq last (Some s.moment)) (firsts_after (Some s.moment) (drop (k + 1) starts)) (s ∷ firsts_after (Some s.moment) (drop (k + 1) starts))
-one-more last starts k s l is =
-    at_drop_more (firsts_after last) starts k s l ∙ ap (λ x. firsts_after last (x ∷ drop (k + 1) starts)) (sym is)
+-- one start more, whose instant is t
+one-more : (last : Option ℤ) (starts : List Start) (k : ℕ) (s : Start) {t : ℤ} {b : Bool} → k < length starts → s ≡ get_or starts k s → t ≡ s.moment →
+    option_eq int_eq last (Some t) ≡ b
+    → cond b (firsts_after (Some t) (drop (k + 1) starts)) (s ∷ firsts_after (Some t) (drop (k + 1) starts)) ≡ firsts_after last (drop k starts)
+one-more last starts k s {t = t} l is same test =
+    let rest = drop (k + 1) starts in
+    ap (λ c. cond c (firsts_after (Some t) rest) (s ∷ firsts_after (Some t) rest)) (sym test)
+    ∙ (ap (λ m. cond (option_eq int_eq last (Some m)) (firsts_after (Some m) rest) (s ∷ firsts_after (Some m) rest)) same
+    ∙ sym (at_drop_more (firsts_after last) starts k s l ∙ ap (λ x. firsts_after last (x ∷ rest)) (sym is)))
 
 pub loop-start-preserved : goal.loop-start-preserved
 loop-start-preserved c =
-    let starts = c.args.starts.now in
-    let k = c.loop-start.start-index in
-    let s = c.start-item.result in
-    let rest = drop (c.loop-start.start-index + 1) c.args.starts.now in
+    let l = c.loop-start in
     let fits : to_z w64 (of_z w64 c.start-item.result.moment) ≡ c.start-item.result.moment = search rules in
-    let new : option_eq int_eq c.loop-start.last (Some c.start-item.result.moment) ≡ false =
-    ap (λ t. option_eq int_eq c.loop-start.last (Some t)) (sym fits) ∙ (sym c.eq.ensures ∙ c.if-eq.false) in
-    let one = one-more c.loop-start.last starts k s c.loop-start-test.true c.start-item.is
-    ∙ ap (λ b. cond b (firsts_after (Some s.moment) rest) (s ∷ firsts_after (Some s.moment) rest)) new in
-    ap (λ xs. xs ++ firsts_after (Some (to_z w64 (of_z w64 c.start-item.result.moment))) rest) c.in_ok-push.ensures.items
-    ∙ (append_assoc c.loop-start.firsts.items (s ∷ []) (firsts_after (Some (to_z w64 (of_z w64 c.start-item.result.moment))) rest)
-    ∙ (ap (λ t. c.loop-start.firsts.items ++ s ∷ firsts_after (Some t) rest) fits
-    ∙ (ap (λ xs. c.loop-start.firsts.items ++ xs) (sym one) ∙ c.loop-start.invariant)))
+    let one = one-more l.last c.args.starts.now l.start-index c.start-item.result c.loop-start-test.true c.start-item.is fits (sym c.eq.ensures ∙ c.if-eq.false) in
+    ap (λ xs. xs ++ firsts_after (Some (to_z w64 (of_z w64 c.start-item.result.moment))) (drop (l.start-index + 1) c.args.starts.now)) c.in_ok-push.ensures.items
+    ∙ (append_assoc l.firsts.items (c.start-item.result ∷ []) _ ∙ (ap (λ xs. l.firsts.items ++ xs) one ∙ l.invariant))
 
 pub loop-start-preserved-then-eq : goal.loop-start-preserved-then-eq
 loop-start-preserved-then-eq c =
-    let starts = c.args.starts.now in
-    let k = c.loop-start.start-index in
-    let s = c.start-item.result in
-    let rest = drop (c.loop-start.start-index + 1) c.args.starts.now in
+    let l = c.loop-start in
     let fits : to_z w64 (of_z w64 c.start-item.result.moment) ≡ c.start-item.result.moment = search rules in
-    let same : option_eq int_eq c.loop-start.last (Some c.start-item.result.moment) ≡ true =
-    ap (λ t. option_eq int_eq c.loop-start.last (Some t)) (sym fits) ∙ (sym c.eq.ensures ∙ c.if-eq.true) in
-    let one = one-more c.loop-start.last starts k s c.loop-start-test.true c.start-item.is
-    ∙ ap (λ b. cond b (firsts_after (Some s.moment) rest) (s ∷ firsts_after (Some s.moment) rest)) same in
-    ap (λ o. c.loop-start.firsts.items ++ firsts_after o rest) (at-true c.loop-start.last s.moment same)
-    ∙ (ap (λ xs. c.loop-start.firsts.items ++ xs) (sym one) ∙ c.loop-start.invariant)
+    let same = sym c.eq.ensures ∙ c.if-eq.true in
+    ap (λ o. l.firsts.items ++ firsts_after o (drop (l.start-index + 1) c.args.starts.now)) (at-true l.last _ same)
+    ∙ (ap (λ xs. l.firsts.items ++ xs) (one-more l.last c.args.starts.now l.start-index c.start-item.result c.loop-start-test.true c.start-item.is fits same)
+    ∙ l.invariant)
 
 pub returns : goal.returns
 returns c = grind (arith, common_steps)
