@@ -1,12 +1,10 @@
 -- Which starts EXDATEs take out.
 use Rattle.std.specs.Prelude.{◌<ℤ◌, not}
-use Rattle.std.proofs.Common.{◌≡◌, ℕ, ℤ, pos, ◌+ℤ◌, Bool, true, false, ◌||◌, List, [], ◌∷◌, length, get_or, Result, Ok, Err, is_ok, ⊎_elim, refl, sym, ◌∙◌, ap}
-use Rattle.std.proofs.Common.{subst, arith}
-use Rattle.std.specs.Cmp.{int_ranks}
+use Rattle.std.proofs.Common.{◌≡◌, ℕ, ℤ, pos, ◌+ℤ◌, Bool, true, false, ◌||◌, List, [], ◌∷◌, length, Result, Ok, Err, is_ok, ⊎_elim, refl, sym, ◌∙◌, ap}
+use Rattle.std.proofs.Common.{arith}
 use Rattle.std.specs.List.{list_any}
 use Rattle.std.specs.List.Sorted.{IsBinarySearchResult, IsPermutation, IsSearchInRange, IsSorted}
-use Rattle.std.specs.Ordering.{int_cmp, int_eq, MatchOrdering}
-use Rattle.std.specs.declared.cmp.Ordering.TheVariants.{Less, Equal, Greater}
+use Rattle.std.specs.Ordering.{int_cmp, int_eq, is_eq}
 use Rattle.std.proofs.lemmas.Cmp.{int_cmp_total}
 use Rattle.std.proofs.lemmas.Int.{ints}
 use Rattle.std.proofs.lemmas.List.Folds.{list_any-append, list_any_at, list_any_none}
@@ -27,22 +25,13 @@ use Rattle.ics_series.proofs.InstantLemmas.{instant-near}
 use Rattle.ics_fields.specs.Locals.{whole_days}
 
 -- Whether a search finds a number.
-equal-true : (a b : ℤ) → int_cmp a b ≡ Equal → int_eq a b ≡ true
-equal-true a b e = let same : a ≡ b = subst (λ o. MatchOrdering o (a <ℤ b) (a ≡ b) (b <ℤ a)) e (int_ranks a b) in grind (arith, ints)
-
-less-false : (a b : ℤ) → int_cmp a b ≡ Less → int_eq a b ≡ false
-less-false a b e = let less : a <ℤ b = subst (λ o. MatchOrdering o (a <ℤ b) (a ≡ b) (b <ℤ a)) e (int_ranks a b) in grind (arith, ints)
-
-greater-false : (a b : ℤ) → int_cmp a b ≡ Greater → int_eq a b ≡ false
-greater-false a b e = let more : b <ℤ a = subst (λ o. MatchOrdering o (a <ℤ b) (a ≡ b) (b <ℤ a)) e (int_ranks a b) in grind (arith, ints)
-
 pub found-in : (xs : List ℤ) (x : ℤ) (r : Result ℕ ℕ) → IsSorted int_cmp xs → IsSearchInRange r (length xs) → IsBinarySearchResult (λ y. int_cmp y x) xs r →
     is_ok r ≡ list_any (λ y. int_eq y x) xs
-found-in xs x (Ok i) s b h = sym (list_any_at (λ y. int_eq y x) xs i (pos 0) b (equal-true (get_or xs i (pos 0)) x (h (pos 0))))
+found-in xs x (Ok i) s b h = sym (list_any_at (λ y. int_eq y x) xs i (pos 0) b (ap is_eq (h (pos 0))))
 found-in xs x (Err i) s b h =
     let parts = h (searchable_from_sorted int_cmp_total (λ y. y) xs x s) in
     sym (list_any_none (λ y. int_eq y x) xs (λ k d l.
-    ⊎_elim (λ low. less-false (get_or xs k d) x (parts.0 k d (omega arith) low)) (λ high. greater-false (get_or xs k d) x (parts.1 k d high l))
+    ⊎_elim (λ low. ap is_eq (parts.0 k d (omega arith) low)) (λ high. ap is_eq (parts.1 k d high l))
     (cases_lt k i)))
 
 -- One more instant.

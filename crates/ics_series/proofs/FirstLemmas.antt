@@ -4,7 +4,7 @@ use Rattle.std.proofs.Common.{◌≡◌, ℕ, ◌≤◌, ℤ, List, [], ◌∷�
 use Rattle.std.proofs.Common.{subst, arith}
 use Rattle.std.specs.Cmp.{IsTotalOrder, int_ranks}
 use Rattle.std.specs.List.Sorted.{IsPermutation}
-use Rattle.std.specs.Ordering.{int_cmp, int_eq, nat_cmp, is_gt, ordering_then, MatchOrdering}
+use Rattle.std.specs.Ordering.{int_cmp, int_eq, nat_cmp, is_eq, is_gt, ordering_then, MatchOrdering}
 use Rattle.std.specs.declared.cmp.Ordering.{Ordering}
 use Rattle.std.specs.declared.cmp.Ordering.TheVariants.{Less, Equal}
 use Rattle.std.proofs.lemmas.Cmp.{int_cmp_total, nat_cmp_total, on_total, then_total, tied_itself}
@@ -21,7 +21,7 @@ use Rattle.ics_series.specs.MergedLaws.{before-tied, before-trans}
 use Rattle.ics_series.specs.Rising.{IsBefore, Rises}
 use Rattle.ics_series.specs.Starts.{IsNotAfter}
 use Rattle.std.specs.Option.{option_eq}
-use Rattle.ics_series.proofs.Cases.{some-same, equal-true, true-equal, up-to-front}
+use Rattle.ics_series.proofs.Cases.{eq-Equal, some-same, equal-true, up-to-front}
 use Rattle.ics_series.proofs.SortLemmas.{IsUpTo, Climbs, in-permutation, up-to-in}
 
 pub source_total : IsTotalOrder source_cmp
@@ -42,9 +42,6 @@ same-moment s t e = ap (int_cmp s.moment) (sym e) ∙ tied_itself int_cmp_total 
 pub tied-moment : (s t : Start) → moment_cmp s t ≡ Equal → s.moment ≡ t.moment
 tied-moment s t e = subst (λ o. MatchOrdering o (s.moment <ℤ t.moment) (s.moment ≡ t.moment) (t.moment <ℤ s.moment)) e (int_ranks s.moment t.moment)
 
-int-up-to : (a b : ℤ) → is_gt (int_cmp a b) ≡ false → (a ≡ b) ⊎ (int_cmp a b ≡ Less)
-int-up-to a b g = grind (arith, ints)
-
 pub int-less : (a b : ℤ) → int_cmp a b ≡ Less → a <ℤ b
 int-less a b e = subst (λ o. MatchOrdering o (a <ℤ b) (a ≡ b) (b <ℤ a)) e (int_ranks a b)
 
@@ -62,6 +59,10 @@ source-order (Kept a) (Listed b) h = tt
 source-order (Listed a) (Kept b) h = let f : true ≡ false = h in absurd cc
 source-order (Listed a) (Listed b) h = nat-up-to a b h
 
+neither : (c : Ordering) → is_eq c ≡ false → is_gt c ≡ false → c ≡ Less
+neither Less e g = refl
+neither _ e g = cc
+
 -- The instants rise.
 abbrev RisesAfter : Start → List Start → Type 0
 RisesAfter x zs = IsBefore moment_cmp x zs × Rises moment_cmp zs
@@ -72,10 +73,9 @@ rises-after x (y ∷ ys) u h =
     let rest = rises-after y ys h.0 h.1 in
     let firsts = firsts_after (Some y.moment) ys in
     cond_both (int_eq x.moment y.moment) firsts (y ∷ firsts) (RisesAfter x)
-    (λ e. (before-tied moment_cmp moment_total x y firsts (same-moment x y (equal-true x.moment y.moment e)) rest.0, rest.1))
+    (λ e. (before-tied moment_cmp moment_total x y firsts (eq-Equal (moment_cmp x y) e) rest.0, rest.1))
     (λ e.
-    let less : moment_cmp x y ≡ Less = ⊎_elim (λ same. let t = true-equal x.moment y.moment same in absurd cc) (λ l. l)
-    (int-up-to x.moment y.moment (up-to-front (moment_cmp x y) (source_cmp x.source y.source) u.0)) in
+    let less = neither (moment_cmp x y) e (up-to-front (moment_cmp x y) (source_cmp x.source y.source) u.0) in
     ((less, before-trans moment_cmp moment_total x y firsts less rest.0), rest))
 
 rises-firsts : (xs : List Start) → Climbs start_cmp xs → Rises moment_cmp (firsts_after None xs)

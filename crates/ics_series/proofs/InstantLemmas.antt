@@ -127,33 +127,28 @@ module _ (zones : FileZones) where
   abbrev time_by : Option ℕ → Stamp → Time
   time_by index s = record { stamp = s; zone = index }
 
-  -- the kinds, zones and reach of a start and its end
-  record AreOfEvent (i j : Option ℕ) (s e : Stamp) : Type 0 where
-    start : is_some i ≡ is_zoned s
-    end : is_some j ≡ is_zoned e
-    is_end : IsEnd s e
-    within : (is_some i || is_some j) ≡ true → IsWithin (compared (is_one_zone i j) own (time_by i s)) (compared (is_one_zone i j) own (time_by j e))
-
   zoned-near : (one : Bool) (x y : ℕ) (a b : Local) → IsWithin (compared one own (time_by (Some x) (Zoned a))) (compared one own (time_by (Some y) (Zoned b)))
       → moment_of-stamp (Some y) (Zoned b) ≤ℤ (moment_of-stamp (Some x) (Zoned a) +ℤ whole_days 36_529)
   zoned-near true x y a b within = written-near (Some x) (Some y) (Zoned a) (Zoned b) within
   zoned-near false x y a b within = omega (arith, ints, within.short, zone-moment own x a, zone-moment own y b)
 
-  stamps-near : (i j : Option ℕ) (s e : Stamp) → AreOfEvent i j s e → moment_of-stamp j e ≤ℤ (moment_of-stamp i s +ℤ whole_days 36_529)
-  stamps-near None (Some y) (Utc a) (Zoned b) of = let short = (of.within refl).short in omega (arith, ints, short, zone-moment own y b)
-  stamps-near (Some x) None (Zoned a) (Utc b) of = let short = (of.within refl).short in omega (arith, ints, short, zone-moment own x a)
-  stamps-near (Some x) (Some y) (Zoned a) (Zoned b) of = zoned-near (x == y) x y a b (of.within refl)
-  stamps-near i j (Date a) (Date b) of = written-near i j (Date a) (Date b) of.is_end
-  stamps-near i j (Floating a) (Floating b) of = written-near i j (Floating a) (Floating b) of.is_end
-  stamps-near i j (Utc a) (Utc b) of = written-near i j (Utc a) (Utc b) of.is_end
-  stamps-near i j (Utc a) (Zoned b) of = let s = of.start in let t = of.end in absurd cc
-  stamps-near i j (Zoned a) (Utc b) of = let s = of.start in let t = of.end in absurd cc
-  stamps-near i j (Zoned a) (Zoned b) of = let s = of.start in let t = of.end in absurd cc
-  stamps-near i j _ _ of = absurd of.is_end
+  -- by the kinds, zones and reach of a start and its end
+  stamps-near : (i j : Option ℕ) (s e : Stamp) → is_some i ≡ is_zoned s → is_some j ≡ is_zoned e → IsEnd s e
+      → ((is_some i || is_some j) ≡ true → IsWithin (compared (is_one_zone i j) own (time_by i s)) (compared (is_one_zone i j) own (time_by j e)))
+      → moment_of-stamp j e ≤ℤ (moment_of-stamp i s +ℤ whole_days 36_529)
+  stamps-near None (Some y) (Utc a) (Zoned b) p q end within = let short = (within refl).short in omega (arith, ints, short, zone-moment own y b)
+  stamps-near (Some x) None (Zoned a) (Utc b) p q end within = let short = (within refl).short in omega (arith, ints, short, zone-moment own x a)
+  stamps-near (Some x) (Some y) (Zoned a) (Zoned b) p q end within = zoned-near (x == y) x y a b (within refl)
+  stamps-near i j (Date a) (Date b) p q end within = written-near i j (Date a) (Date b) end
+  stamps-near i j (Floating a) (Floating b) p q end within = written-near i j (Floating a) (Floating b) end
+  stamps-near i j (Utc a) (Utc b) p q end within = written-near i j (Utc a) (Utc b) end
+  stamps-near i j (Utc a) (Zoned b) p q end within = absurd cc
+  stamps-near i j (Zoned a) (Utc b) p q end within = absurd cc
+  stamps-near i j (Zoned a) (Zoned b) p q end within = absurd cc
+  stamps-near i j _ _ p q end within = absurd end
 
   pub ends-near : (first : Time) (length : Length) → IsTime first → IsLength first.stamp length → EndsWithin own first length →
       EndsNear (clocks_in zones) first length
   ends-near first Open t l h = tt
   ends-near first (Lasting duration) t l h = tt
-  ends-near first (Until end) t l h =
-      stamps-near first.zone end.zone first.stamp end.stamp (record { start = t.zone; end = l.0.zone; is_end = l.1; within = h })
+  ends-near first (Until end) t l h = stamps-near first.zone end.zone first.stamp end.stamp t.zone l.0.zone l.1 h

@@ -74,10 +74,8 @@ module _ (files : List FileSaid) (display : Clock) (w : Window) (after : Option 
     -- the merge of what they give is the listing
     pub parts-listing : IsListing entry_cmp (IsToCome files display w after) (merged entry_cmp (singles ∷ more))
     parts-listing =
-        merged-listing entry_cmp entry_total (IsToCome files display w after) (singles ∷ more) (
-          single.rises,
-          all-by (IsOneOf files display w after (map seen vs)) (Rises entry_cmp) more (λ xs h. h.listing.rises) are.each,
-        ) part-come come-part
+        let rise = all-by (IsOneOf files display w after (map seen vs)) (Rises entry_cmp) more (λ xs h. h.listing.rises) are.each in
+        merged-listing entry_cmp entry_total (IsToCome files display w after) (singles ∷ more) (single.rises, rise) part-come come-part
         (one-key files display w after)
 
   -- so where they were pushed behind the single events
