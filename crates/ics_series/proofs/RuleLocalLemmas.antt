@@ -1,7 +1,6 @@
 -- A local and its number.
 use Rattle.std.specs.Prelude.{◌≤ℤ◌, ◌==◌, int_lt, IfSome}
-use Rattle.std.proofs.Common.{◌≡◌, ℕ, Bool, true, ◌&&◌, Some, ◌⊎◌, inl, inr, ⊎_elim, sym, ◌∙◌, ap, subst, arith}
-use Rattle.std.proofs.Common.{w64, to_z, of_z}
+use Rattle.std.proofs.Common.{◌≡◌, ℕ, Bool, true, ◌&&◌, Some, ◌⊎◌, inl, inr, ⊎_elim, sym, ◌∙◌, ap, subst, arith, w64, to_z, of_z}
 use Rattle.std.proofs.lemmas.Int.{ints, to_z-of_z}
 use mir.Val.{SFits}
 use Rattle.std.specs.Ordering.{int_eq}

@@ -122,7 +122,8 @@ module _ (s : RuleStarts) (b : ℤ) (fits : mag b < 2_147_483_648) (later : s.da
   }
 
   -- the next kept local before the bound is read
-  module _ (a : Local) (own : IsDayNumber a.day) {place : ℕ} (next : IsNextKept s.rule (place_of s.cursor) (number at) (number a) × (place ≡ number a + 1)) where
+  module _ (a : Local) (own : IsDayNumber a.day) {place : ℕ}
+      (next : IsNextKept s.rule (place_of s.cursor) (number at) (number a) × (place ≡ number a + 1)) where
     pub one-time : IsTimeOf s.zones.zones.now (time_at s.event.now.start a)
     one-time = record { is_time = kept-time s.event.now a s.time.is_time s.of own next.0.kept; within = s.time.within }
 

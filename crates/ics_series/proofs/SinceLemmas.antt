@@ -1,7 +1,7 @@
 -- The starts of a series: all that are sought from an instant on are among them.
 use Rattle.std.specs.Prelude.{◌≤ℤ◌, ◌<ℤ◌, int_lt, slice_get, MatchOption}
-use Rattle.std.proofs.Common.{◌≡◌, ℕ, zero, suc, ◌+◌, ◌-◌, ◌<◌, ◌≤◌, ℤ, ◌-ℤ◌, List, true, false, Option, Some, None, option_map, ⊎_elim, refl}
-use Rattle.std.proofs.Common.{sym, ◌∙◌, ap, subst, arith}
+use Rattle.std.proofs.Common.{◌≡◌, ℕ, zero, suc, ◌+◌, ◌-◌, ◌<◌, ◌≤◌, ℤ, ◌-ℤ◌, List, true, false, Option, Some, None, option_map, ⊎_elim, refl, sym, ◌∙◌, ap}
+use Rattle.std.proofs.Common.{subst, arith}
 use Rattle.std.specs.Int.{int_max}
 use Rattle.std.proofs.lemmas.Int.{int_max_is, int_min_is, ints}
 use Rattle.std.proofs.lemmas.Bool.{and_from}
@@ -32,8 +32,7 @@ use Rattle.ics_series.specs.MergedLaws.{rises-union}
 use Rattle.ics_series.specs.Rising.{Rises}
 use Rattle.ics_series.specs.RuleFeed.{starts_left}
 use Rattle.ics_series.specs.RuleStarts.{found, found_in, gives, lets_until, local_numbered, moment_numbered}
-use Rattle.ics_series.specs.SeriesStarts.{first_asked, listed_apart, rule_left, AreKnown, HasRuled, IsGivenAt, IsGivenBy, IsKnown, IsRuleFrom}
-use Rattle.ics_series.specs.SeriesStarts.{IsSeriesMet}
+use Rattle.ics_series.specs.SeriesStarts.{first_asked, listed_apart, rule_left, AreKnown, HasRuled, IsGivenAt, IsGivenBy, IsKnown, IsRuleFrom, IsSeriesMet}
 use Rattle.ics_series.specs.Starts.{given_by, local_of, recurrence_by, time_at, time_of, GivesStart, IsNotAfter}
 use Rattle.ics_series.specs.FileZones.{clocks_in}
 use Rattle.ics_series.proofs.FirstLemmas.{moment_total}

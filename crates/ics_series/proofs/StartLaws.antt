@@ -1,7 +1,6 @@
 -- Each start that something gives is that of an occurrence, unless an EXDATE takes it out: of what gives it one is the first.
 use Rattle.std.specs.Prelude.{◌≤ℤ◌, slice_get, Contains}
-use Rattle.std.proofs.Common.{◌≡◌, ◌≤◌, ℤ, List, [], ◌∷◌, true, false, Some, None, option_map}
-use Rattle.std.proofs.Common.{◌⊎◌, inl, ⊎_elim, refl, sym, ◌∙◌, ap, subst, arith}
+use Rattle.std.proofs.Common.{◌≡◌, ◌≤◌, ℤ, List, [], ◌∷◌, true, false, Some, None, option_map, ◌⊎◌, inl, ⊎_elim, refl, sym, ◌∙◌, ap, subst, arith}
 use Rattle.std.specs.Ordering.{int_eq, is_gt}
 use Rattle.std.proofs.lemmas.Int.{ints}
 use Rattle.std.proofs.lemmas.List.Folds.{list_any_at}

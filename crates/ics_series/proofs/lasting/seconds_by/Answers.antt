@@ -27,7 +27,7 @@ returns-in_default-Until c =
     let near : EndsNear (clocks_in c.args.zones) c.args.first (Until c.in_default-Until.end) =
     subst (EndsNear (clocks_in c.args.zones) c.args.first) c.in_default-Until.is-1 c.requires.near in
     let value : to_z w64 (of_z w64 c.max.result) ≡ int_max (instant clocks end -ℤ instant clocks first) (pos 0) =
-    omega (arith, ints, c.max.type_inv, c.max.ensures.value, c.instant.ensures, c.instant-in_default-Until.ensures, years.0, years.1, years.2, years.3, int_max_is) in
+    omega (arith, ints, c.max.type_inv, c.max.ensures.value, c.instant.ensures, c.instant-in_default-Until.ensures, years, int_max_is) in
     record {
       value = value ∙ (until-seconds clocks first end first.stamp c.in_default-Until.not-Date-0
           ∙ ap (seconds_by clocks first first.stamp) (sym c.in_default-Until.is-1));

@@ -22,10 +22,11 @@ one-more last starts k s {t = t} l is same test =
 pub loop-start-preserved : goal.loop-start-preserved
 loop-start-preserved c =
     let l = c.loop-start in
+    let s = c.start-item in
     let fits : to_z w64 (of_z w64 c.start-item.result.moment) ≡ c.start-item.result.moment = search rules in
-    let one = one-more l.last c.args.starts.now l.start-index c.start-item.result c.loop-start-test.true c.start-item.is fits (sym c.eq.ensures ∙ c.if-eq.false) in
-    ap (λ xs. xs ++ firsts_after (Some (to_z w64 (of_z w64 c.start-item.result.moment))) (drop (l.start-index + 1) c.args.starts.now)) c.in_ok-push.ensures.items
-    ∙ (append_assoc l.firsts.items (c.start-item.result ∷ []) _ ∙ (ap (λ xs. l.firsts.items ++ xs) one ∙ l.invariant))
+    let one = one-more l.last c.args.starts.now l.start-index s.result c.loop-start-test.true s.is fits (sym c.eq.ensures ∙ c.if-eq.false) in
+    ap (λ xs. xs ++ firsts_after (Some (to_z w64 (of_z w64 s.result.moment))) (drop (l.start-index + 1) c.args.starts.now)) c.in_ok-push.ensures.items
+    ∙ (append_assoc l.firsts.items (s.result ∷ []) _ ∙ (ap (λ xs. l.firsts.items ++ xs) one ∙ l.invariant))
 
 pub loop-start-preserved-then-eq : goal.loop-start-preserved-then-eq
 loop-start-preserved-then-eq c =
