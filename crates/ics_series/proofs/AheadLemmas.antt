@@ -3,7 +3,7 @@ use Rattle.std.specs.Prelude.{◌<ℤ◌, ◌≤ℤ◌, ◌&&◌, ◌||◌, int_
 use Rattle.std.specs.List.{filter}
 use Rattle.std.specs.Ordering.{int_eq}
 use Rattle.std.proofs.Common.{◌≡◌, ℕ, zero, suc, ℤ, pos, ◌+ℤ◌, ◌-ℤ◌, List, [], ◌∷◌, ◌++◌, map, Option, ◌⊎◌, inl, inr, ⊎_elim, Bool, true, false}
-use Rattle.std.proofs.Common.{cond, refl, sym, ◌∙◌, ap, subst, arith}
+use Rattle.std.proofs.Common.{cond, None, refl, sym, ◌∙◌, ap, subst, arith}
 use Rattle.std.proofs.lemmas.Int.{ints}
 use Rattle.ics_event.specs.Event.{FileSaid}
 use Rattle.ics_zone.specs.Seconds.{IsNear}
@@ -29,9 +29,11 @@ abbrev IsUnder : List FileSaid → Clock → Window → ℤ → OnDay → Type 0
 IsUnder files display w day p = IsOnDay files display w p × (p.day ≡ day)
 
 module _ (files : List FileSaid) (display : Clock) (near : (t : ℤ) → IsNear (display.offset t)) (w : Window) where
-  -- a shown occurrence meets what the window holds near its day, which is a day that a clock can show there
-  shown-near : (p : OnDay) (n : Window) → IsOnDay files display w p → IsNearDay w p.day n → Meets n p.entry
-  shown-near p n s h = meets-near display near w p.entry s.listed.1 (occurs-forward files display p.entry s.listed.0) p.day s.on n h.from h.to h.all
+  -- an occurrence meets what the window holds near a day under which it is shown, which is one that a clock can show there
+  near-under : {day : ℤ} (n : Window) → IsNearDay w day n → (p : OnDay) → IsUnder files display w day p → Meets n p.entry
+  near-under n h p q =
+      let own = subst (λ d. IsNearDay w d n) (sym q.1) h in
+      meets-near display near w p.entry q.0.listed.1 (occurs-forward files display p.entry q.0.listed.0) p.day q.0.on n own.from own.to own.all
 
   pub shown-first : (p : OnDay) → IsOnDay files display w p → first_near w ≤ℤ p.day
   shown-first p s = near-first display near w p.entry s.listed.1 (occurs-forward files display p.entry s.listed.0) p.day s.on
@@ -39,38 +41,32 @@ module _ (files : List FileSaid) (display : Clock) (near : (t : ℤ) → IsNear 
   pub shown-last : (p : OnDay) → IsOnDay files display w p → p.day ≤ℤ last_near w
   shown-last p s = near-last display near w p.entry s.listed.1 (occurs-forward files display p.entry s.listed.0) p.day s.on
 
-  -- those of a day, from what meets the window near it
-  of-day : (day : ℤ) (n : Window) → ((p : OnDay) → IsUnder files display w day p → Meets n p.entry) → (xs : List Entry) →
-      IsListing entry_cmp (IsListed files display n) xs
-      → IsListing on_day_cmp (IsUnder files display w day) (today display w day xs)
-  of-day day n h xs l =
-      today-listing files display near w day (IsUnder files display w day) l
-      (λ o p t. (today-shown files display near w day o p.0 t, refl))
+  -- those of a day that come after a key, if there is one
+  abbrev IsBegun : ℤ → Option Rank → OnDay → Type 0
+  IsBegun day key p = IsUnder files display w day p × (is_after key p.entry ≡ true)
+
+  -- from what is to come of what meets the window near it
+  begun-listing : (day : ℤ) (key : Option Rank) (n : Window) → ((p : OnDay) → IsUnder files display w day p → Meets n p.entry) → {coming : List Entry}
+      → IsListing entry_cmp (IsToCome files display n key) coming → IsListing on_day_cmp (IsBegun day key) (today display w day coming)
+  begun-listing day key n meets l =
+      today-listing files display near w day (IsBegun day key) l
+      (λ o p t. ((today-shown files display near w day o (come-listed files display n key o p).0 t, refl), after-come files display n key o p))
       (λ p q. (
-        q.1,
-        (q.0.listed.0, h p q),
-        subst (λ d. is_today display w d p.entry ≡ true) q.1 (shown-today files display near w p q.0),
+        q.0.1,
+        come-after files display n key p.entry (q.0.0.listed.0, meets p q.0) q.1,
+        subst (λ d. is_today display w d p.entry ≡ true) q.0.1 (shown-today files display near w p q.0.0),
       ))
 
   -- those of later days begin with those of the next
-  next-day : {day next : ℤ} {today-list later-list : List OnDay} → next ≡ day +ℤ pos 1 → IsListing on_day_cmp (IsUnder files display w next) today-list →
-      IsListing on_day_cmp (IsLater files display w next) later-list
-      → IsListing on_day_cmp (IsLater files display w day) (today-list ++ later-list)
+  next-day : {day next : ℤ} {today-list later-list : List OnDay} → next ≡ day +ℤ pos 1 → IsListing on_day_cmp (IsBegun next None) today-list →
+      IsListing on_day_cmp (IsLater files display w next) later-list → IsListing on_day_cmp (IsLater files display w day) (today-list ++ later-list)
   next-day {day = day} {next = next} e h k =
       joined on_day_cmp (IsLater files display w day) h k
-      (λ p q a b. let d = a.1 in let l = b.later in day-first p q (omega (arith, ints, d, l)))
-      (λ p m. ⊎_elim (λ a. let d = a.1 in record { shown = a.0; later = omega (arith, ints, d, e) }) (λ b. let l = b.later in
-      record { shown = b.shown; later = omega (arith, ints, l, e) }) m)
+      (λ p q a b. let d = a.0.1 in let l = b.later in day-first p q (omega (arith, ints, d, l)))
+      (λ p. ⊎_elim (λ a. let d = a.0.1 in record { shown = a.0.0; later = omega (arith, ints, d, e) }) (λ b. let l = b.later in
+      record { shown = b.shown; later = omega (arith, ints, l, e) }))
       (λ p b. let l = b.later in
-      ⊎_elim (λ k. inr (record { shown = b.shown; later = k })) (λ k. inl (b.shown, omega (arith, ints, k, l, e))) (less_or_not_z next p.day))
-
-  -- a later day's are those of the days behind
-  later-behind : (day next : ℤ) → next ≡ day +ℤ pos 1 → (later : List OnDay) → IsListing on_day_cmp (IsLater files display w day) later
-      → IsListing on_day_cmp (IsLater files display w next) (filter (λ p. int_lt next p.day) later)
-  later-behind day next e later l =
-      listing-filter (λ p. int_lt next p.day) on_day_cmp (IsLater files display w day) (IsLater files display w next) later l
-      (λ p s t. record { shown = s.shown; later = int_lt_true next p.day t })
-      (λ p s. let m = s.later in (record { shown = s.shown; later = omega (arith, ints, m, e) }, true_int_lt next p.day m))
+      ⊎_elim (λ k. inr (record { shown = b.shown; later = k })) (λ k. inl ((b.shown, omega (arith, ints, k, l, e)), refl)) (less_or_not_z next p.day))
 
   -- The next day: where nothing is to come under the day, that day's come next.
   pub ahead-turned : {day next : ℤ} {n : Window} {none coming : List Entry} {list : List OnDay} → next ≡ day +ℤ pos 1 → IsNearDay w next n → none ≡ [] →
@@ -78,8 +74,10 @@ module _ (files : List FileSaid) (display : Clock) (near : (t : ℤ) → IsNear 
       → IsAheadOf files display w day none list → IsAheadOf files display w next coming list
   ahead-turned {day = day} {next = next} {n = n} {coming = coming} e h empty l a =
       let later = filter (λ p. int_lt next p.day) a.later in
-      let behind = later-behind day next e a.later a.listing in
-      let whole = next-day e (of-day next n (λ p q. shown-near p n q.0 (subst (λ d. IsNearDay w d n) (sym q.1) h)) coming l) behind in
+      let behind = listing-filter (λ p. int_lt next p.day) on_day_cmp (IsLater files display w day) (IsLater files display w next) a.later a.listing
+      (λ p s t. record { shown = s.shown; later = int_lt_true next p.day t })
+      (λ p s. let m = s.later in (record { shown = s.shown; later = omega (arith, ints, m, e) }, true_int_lt next p.day m)) in
+      let whole = next-day e (begun-listing next None n (near-under n h) l) behind in
       let same : a.later ≡ today display w next coming ++ later =
       one-listing on_day_cmp on_day_total (IsLater files display w day) a.later (today display w next coming ++ later) a.listing whole in
       record {
@@ -104,7 +102,7 @@ module _ (files : List FileSaid) (display : Clock) (near : (t : ℤ) → IsNear 
   some-later xs l (suc n) day h =
       let rest = some-later xs l n (day +ℤ pos 1) (omega (arith, ints, h)) in (
         today display w (day +ℤ pos 1) xs ++ rest.0,
-        next-day refl (of-day (day +ℤ pos 1) w (λ p q. q.0.listed.1) xs l) rest.1,
+        next-day refl (begun-listing (day +ℤ pos 1) None w (λ p q. q.0.listed.1) l) rest.1,
       )
 
   pub later-than : (xs : List Entry) → IsListing entry_cmp (IsListed files display w) xs → (day : ℤ) →
@@ -113,24 +111,9 @@ module _ (files : List FileSaid) (display : Clock) (near : (t : ℤ) → IsNear 
 
   -- Where a listing begins: at a day, and there behind a key.
   module _ (after : Option DayRank) (day : ℤ) (key : Option Rank) (begins : Begins w after day key) where
-    -- those of the day that come after the key
-    abbrev IsBegun : OnDay → Type 0
-    IsBegun p = IsUnder files display w day p × (is_after key p.entry ≡ true)
-
-    begun-listing : (n : Window) → IsNearDay w day n → (coming : List Entry) → IsListing entry_cmp (IsToCome files display n key) coming
-        → IsListing on_day_cmp IsBegun (today display w day coming)
-    begun-listing n near-day coming l =
-        today-listing files display near w day IsBegun l
-        (λ o p t. ((today-shown files display near w day o (come-listed files display n key o p).0 t, refl), after-come files display n key o p))
-        (λ p q. (
-          q.0.1,
-          come-after files display n key p.entry (q.0.0.listed.0, shown-near p n q.0.0 (subst (λ d. IsNearDay w d n) (sym q.0.1) near-day)) q.1,
-          subst (λ d. is_today display w d p.entry ≡ true) q.0.1 (shown-today files display near w p q.0.0),
-        ))
-
     -- past the last day there is nothing
-    begun-past : last_near w <ℤ day → (coming : List Entry) → coming ≡ [] → IsListing on_day_cmp IsBegun (today display w day coming)
-    begun-past past coming none = subst (λ (xs : List Entry). IsListing on_day_cmp IsBegun (today display w day xs)) (sym none)
+    begun-past : last_near w <ℤ day → (coming : List Entry) → coming ≡ [] → IsListing on_day_cmp (IsBegun day key) (today display w day coming)
+    begun-past past coming none = subst (λ (xs : List Entry). IsListing on_day_cmp (IsBegun day key) (today display w day xs)) (sym none)
         (none-listed on_day_cmp (λ p q. let on = q.0.1 in let last = shown-last p q.0.0 in omega (arith, ints, past, on, last)))
 
     -- what comes after the key of a day
@@ -143,11 +126,11 @@ module _ (files : List FileSaid) (display : Clock) (near : (t : ℤ) → IsNear 
     test-come : (a : ℤ) (r : Bool) → (int_lt day a || (int_eq a day && r)) ≡ true → (day <ℤ a) ⊎ ((a ≡ day) × (r ≡ true))
     test-come a r h = grind (arith, ints)
 
-    begun-come : (p : OnDay) → IsBegun p ⊎ IsLater files display w day p → IsCome p
+    begun-come : (p : OnDay) → IsBegun day key p ⊎ IsLater files display w day p → IsCome p
     begun-come p (inl b) = (b.0.0, begins.behind p (shown-first p b.0.0) ∙ come-test p.day (is_after key p.entry) (inr (b.0.1, b.1)))
     begun-come p (inr l) = (l.shown, begins.behind p (shown-first p l.shown) ∙ come-test p.day (is_after key p.entry) (inl l.later))
 
-    come-begun : (p : OnDay) → IsCome p → IsBegun p ⊎ IsLater files display w day p
+    come-begun : (p : OnDay) → IsCome p → IsBegun day key p ⊎ IsLater files display w day p
     come-begun p c =
         ⊎_elim (λ l. inr (record { shown = c.0; later = l })) (λ k. inl ((c.0, k.0), k.1))
         (test-come p.day (is_after key p.entry) (sym (begins.behind p (shown-first p c.0)) ∙ c.1))
@@ -170,7 +153,7 @@ module _ (files : List FileSaid) (display : Clock) (near : (t : ℤ) → IsNear 
         → IsNearAgenda files display w day key coming sources ⊎ IsPastAgenda w day coming sources
         → (list : List OnDay) × IsListing on_day_cmp (IsOnDay files display w) list × IsAheadOf files display w day coming (after_day_key after list)
     begun-ahead xs coming sources l agenda =
-        let come = ⊎_elim (λ (a : IsNearAgenda files display w day key coming sources). begun-listing a.window a.near coming a.listing)
+        let come = ⊎_elim (λ (a : IsNearAgenda files display w day key coming sources). begun-listing day key a.window (near-under a.window a.near) a.listing)
         (λ (a : IsPastAgenda w day coming sources). begun-past a.past coming a.none) agenda in
         let all = all-shown xs l in
         let later = later-than xs l day in

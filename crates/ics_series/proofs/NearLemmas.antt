@@ -16,7 +16,7 @@ use Rattle.ics_series.specs.declared.window.Window.{Window}
 use Rattle.ics_series.specs.Clocks.{Clock, clock_by, day_of, instant, local_at}
 use Rattle.ics_event.specs.Event.{stamp_seconds}
 use Rattle.ics_fields.specs.Locals.{midnight, whole_days}
-use Rattle.ics_series.specs.Finish.{days_lasting, end_by, finish, later_by, seconds_by, seconds_lasting}
+use Rattle.ics_series.specs.Finish.{days_lasting, end_by, later_by, seconds_by, seconds_lasting}
 use Rattle.ics_series.specs.Meeting.{entry_from}
 use Rattle.ics_series.specs.Meets.{Meets}
 use Rattle.ics_series.specs.FileZones.{clocks_in}
@@ -55,18 +55,10 @@ module _ (zones : FileZones) where
   seconds-least first _ (Until end) = omega (arith, ints, int_max_is (pos 0) (instant (clocks_in zones) end -ℤ instant (clocks_in zones) first))
   seconds-least first _ _ = omega (arith, ints)
 
-  -- but for a PERIOD the finish does too
-  finish-bound : (event : Event) (given : Time)
-      → finish (clocks_in zones) event (At given) <ℤ ((instant (clocks_in zones) given +ℤ seconds_lasting (clocks_in zones) event) +ℤ whole_days 4)
-  finish-bound event given =
-      let end = end-bound event.start given event.start.stamp event.length in
-      let least = seconds-least event.start event.start.stamp event.length in
-      omega (arith, ints, end, least, int_max_is (instant (clocks_in zones) given) (end_by (clocks_in zones) event.start given event.start.stamp event.length))
-
   -- what meets the window begins at most four days before an event of this length can
   pub meets-late : (event : Event) (w : Window) (given : Time) → Meets w (entry_from (clocks_in zones) event (At given))
       → ((w.from -ℤ seconds_lasting (clocks_in zones) event) -ℤ whole_days 4) ≤ℤ instant (clocks_in zones) given
   meets-late event w given m =
-      let bound = finish-bound event given in
-      ⊎_elim (λ l. omega (arith, ints, bound, l))
-      (λ r. omega (arith, ints, r.1, seconds-least event.start event.start.stamp event.length)) m.lasting
+      let end = end-bound event.start given event.start.stamp event.length in
+      let least = seconds-least event.start event.start.stamp event.length in
+      ⊎_elim (λ l. omega (arith, ints, end, least, l, int_max_is)) (λ r. omega (arith, ints, r.1, least)) m.lasting

@@ -1,6 +1,7 @@
 -- A local and its number.
 use Rattle.std.specs.Prelude.{◌≤ℤ◌, ◌==◌, int_lt, IfSome}
 use Rattle.std.proofs.Common.{◌≡◌, ℕ, Bool, true, ◌&&◌, Some, ◌⊎◌, inl, inr, ⊎_elim, sym, ◌∙◌, ap, subst, arith, w64, to_z, of_z}
+use Rattle.std.proofs.lemmas.Bool.Decides.{nat_tests}
 use Rattle.std.proofs.lemmas.Int.{ints, to_z-of_z}
 use mir.Val.{SFits}
 use Rattle.std.specs.Ordering.{int_eq}
@@ -22,7 +23,7 @@ use Rattle.ics_zone.specs.Observances.{is_until}
 use Rattle.ics_series.specs.RuleStarts.{gives, lets_until, local_numbered, moment_numbered}
 use Rattle.ics_series.specs.Starts.{local_of, recurrence_of, time_at, IsRuleStart}
 use Rattle.ics_series.proofs.Cases.{equal-true, true-equal, some-same}
-use Rattle.ics_series.proofs.StartSourceLemmas.{calendar-day, own-day, rule-is, same-number}
+use Rattle.ics_series.proofs.StartSourceLemmas.{calendar-day, number-seconds, own-day, rule-is, same-number}
 use Rattle.ics_series.proofs.KeptLemmas.{true-until, until-true}
 
 pub same-test : (p q : Bool) → (p ≡ true → q ≡ true) → (q ≡ true → p ≡ true) → p ≡ q
@@ -30,17 +31,7 @@ same-test p q f h = grind arith
 
 -- two locals are one exactly if their numbers are
 pub local-test : (a b : Local) → IsDayNumber a.day → IsDayNumber b.day → (int_eq a.day b.day && (a.second == b.second)) ≡ (number a == number b)
-local-test a b h k =
-    same-test (int_eq a.day b.day && (a.second == b.second)) (number a == number b)
-    (λ t.
-    let parts = and_true {a = int_eq a.day b.day} t in
-    let day = equal-true a.day b.day parts.0 in
-    let second = eqb-true a.second b.second parts.1 in
-    eq-eqb (number a) (number b) (omega (arith, ints, day, second)))
-    (λ t.
-    let same : a ≡ b = same-number a b h k (eqb-true (number a) (number b) t) in
-    and_from (int_eq a.day b.day) (a.second == b.second) (true-equal a.day b.day (ap (λ (l : Local). l.day) same))
-    (eq-eqb a.second b.second (ap (λ (l : Local). l.second) same)))
+local-test a b h k = grind (arith, ints, nat_tests, a.second_in, b.second_in, number-seconds a h, number-seconds b k)
 
 pub number-numbered : (n : ℕ) → number (local_numbered n) ≡ n
 number-numbered n = omega (arith, ints)

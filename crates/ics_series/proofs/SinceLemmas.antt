@@ -1,6 +1,6 @@
 -- The starts of a series: all that are sought from an instant on are among them.
 use Rattle.std.specs.Prelude.{◌≤ℤ◌, ◌<ℤ◌, int_lt, slice_get, MatchOption}
-use Rattle.std.proofs.Common.{◌≡◌, ℕ, zero, suc, ◌+◌, ◌-◌, ◌<◌, ◌≤◌, ℤ, ◌-ℤ◌, List, true, false, Option, Some, None, option_map, ⊎_elim, refl, sym, ◌∙◌, ap}
+use Rattle.std.proofs.Common.{◌≡◌, ℕ, zero, suc, ◌+◌, ◌-◌, ◌<◌, ◌≤◌, ℤ, ◌-ℤ◌, List, true, Option, Some, None, option_map, ⊎_elim, refl, sym, ◌∙◌, ap}
 use Rattle.std.proofs.Common.{subst, arith}
 use Rattle.std.specs.Int.{int_max}
 use Rattle.std.proofs.lemmas.Int.{int_max_is, int_min_is, ints}
@@ -27,11 +27,11 @@ use Rattle.ics_series.specs.Found.{listed_from, moment_cmp, start_at, start_by, 
 use Rattle.ics_series.specs.Listing.{IsIn, IsListing}
 use Rattle.ics_series.specs.Meeting.{entry_from}
 use Rattle.ics_series.specs.Meets.{Meets}
-use Rattle.ics_series.specs.Merged.{put, union}
+use Rattle.ics_series.specs.Merged.{union}
 use Rattle.ics_series.specs.MergedLaws.{rises-union}
 use Rattle.ics_series.specs.Rising.{Rises}
 use Rattle.ics_series.specs.RuleFeed.{starts_left}
-use Rattle.ics_series.specs.RuleStarts.{found, found_in, gives, lets_until, local_numbered, moment_numbered}
+use Rattle.ics_series.specs.RuleStarts.{found, found_in, gives, lets_until, local_numbered, moment_numbered, with_put}
 use Rattle.ics_series.specs.SeriesStarts.{first_asked, listed_apart, rule_left, AreKnown, HasRuled, IsGivenAt, IsGivenBy, IsKnown, IsRuleFrom, IsSeriesMet}
 use Rattle.ics_series.specs.Starts.{given_by, local_of, recurrence_by, time_at, time_of, GivesStart, IsNotAfter}
 use Rattle.ics_series.specs.FileZones.{clocks_in}
@@ -97,21 +97,17 @@ module _ (zones : FileZones) (w : Window) (event : Event) where
     found_in-has from (suc n) k l u g =
         let s = start_at (clocks_in zones) event (local_numbered from) in
         let rest = found_in (clocks_in zones) event rule w (from + 1) n in
+        ⊎_elim
+        (λ same. subst (HasLocal (found_in (clocks_in zones) event rule w from (suc n))) same
+        (subst (λ b. HasLocal (with_put b s rest) from) (sym (ap (gives (clocks_in zones) event rule w) same ∙ g))
+        (record { start = s; stands = itself-put moment_cmp moment_total s rest; same = refl; earlier = omega (arith, ints) })))
+        (λ less.
+        let later = found_in-has (from + 1) n k (omega (arith, less)) (omega (arith, u)) g in
         put-both (gives (clocks_in zones) event rule w from) s rest (λ xs. HasLocal xs k)
-        (λ e. ⊎_elim
-        (λ same. subst (HasLocal (put moment_cmp s rest)) same (record {
-          start = s;
-          stands = itself-put moment_cmp moment_total s rest;
-          same = refl;
-          earlier = omega (arith, ints);
-        }))
-        (λ less. put-has s rest (Kept (local_numbered k)) (moment_numbered (clocks_in zones) event k)
-        (omega (arith, ints, seconds-numbered from, seconds-numbered k, less))
-        (found_in-has (from + 1) n k (omega (arith, less)) (omega (arith, u)) g))
-        (here-or-later from k l))
-        (λ e. ⊎_elim (λ same. let no : true ≡ false = sym g ∙ (ap (gives (clocks_in zones) event rule w) (sym same) ∙ e) in absurd cc)
-        (λ less. found_in-has (from + 1) n k (omega (arith, less)) (omega (arith, u)) g)
-        (here-or-later from k l))
+        (λ e. put-has s rest (Kept (local_numbered k)) (moment_numbered (clocks_in zones) event k)
+        (omega (arith, ints, seconds-numbered from, seconds-numbered k, less)) later)
+        (λ e. later))
+        (here-or-later from k l)
 
     found-has : (from k : ℕ) → from ≤ k → k < rules_end → gives (clocks_in zones) event rule w k ≡ true
         → HasLocal (found (clocks_in zones) event rule w from) k
