@@ -83,13 +83,6 @@ record IsPassing (source : ℕ → StartSource) (test : ℕ → Bool) (n : ℕ) 
   is : g ≡ source at
 
 module _ (source : ℕ → StartSource) (rises : (k n : ℕ) → k < n → source_cmp (source k) (source n) ≡ Less) (test : ℕ → Bool) where
-  below-or-on : (n : ℕ) (g : StartSource) → IsPassing source test (suc n) g → IsPassing source test n g ⊎ ((test n ≡ true) × (g ≡ source n))
-  below-or-on n g p =
-      ⊎_elim
-      (λ l. inl (record { at = p.at; below = l; passes = p.passes; is = p.is }))
-      (λ s. inr (ap test (sym s) ∙ p.passes, p.is ∙ ap source s))
-      (below-or-last p.at n p.below)
-
   passing : (n : ℕ) → Counts (IsPassing source test n) (count n test)
   unfolding count
   passing zero = no-count (λ g p. omega (arith, p.below))
@@ -98,13 +91,11 @@ module _ (source : ℕ → StartSource) (rises : (k n : ℕ) → k < n → sourc
       (λ x y p q. ap (λ s. source_cmp s y) p.is ∙ (ap (source_cmp (source p.at)) q.1 ∙ rises p.at n p.below))
       (λ g. ⊎_elim (λ p. record { at = p.at; below = omega (arith, p.below); passes = p.passes; is = p.is })
       (λ q. record { at = n; below = omega arith; passes = q.0; is = q.1 }))
-      (below-or-on n)
+      (λ g p. ⊎_elim (λ l. inl (record { at = p.at; below = l; passes = p.passes; is = p.is }))
+      (λ s. inr (ap test (sym s) ∙ p.passes, p.is ∙ ap source s)) (below-or-last p.at n p.below))
 
 earlier-local : (k n : ℕ) → k < n → source_cmp (Kept (local_numbered k)) (Kept (local_numbered n)) ≡ Less
 earlier-local k n l = source-before (Kept (local_numbered k)) (Kept (local_numbered n)) (λ h. omega (arith, ints, l, h, number-numbered k, number-numbered n))
-
-earlier-place : (k n : ℕ) → k < n → source_cmp (Listed k) (Listed n) ≡ Less
-earlier-place k n l = source-before (Listed k) (Listed n) (λ h. omega (arith, l, h))
 
 -- A list is counted by its places.
 abbrev at_place : (Rdate → Bool) → Option Rdate → Bool
@@ -229,7 +220,7 @@ module _ (clocks : Clocks) (event : Event) (test : ℤ → Bool) (time : IsTime 
   giving =
       both-count (kept-counts (recurrence_of event) refl)
       (subst (Counts IsRawListed) (by-places is_there event.rdates)
-      (passing (λ k. Listed k) earlier-place (λ k. at_place is_there (slice_get event.rdates k)) (length event.rdates)))
+      (passing (λ k. Listed k) (λ k n l. source-before (Listed k) (Listed n) (λ h. omega (arith, l, h))) (λ k. at_place is_there (slice_get event.rdates k)) (length event.rdates)))
       kept-before source-raw raw-source
 
 kept-counted : (clocks : Clocks) (event : Event) (day : ℤ) (time : IsTime event.start) (o : Option Recurrence) →

@@ -5,13 +5,13 @@ use Rattle.std.proofs.lemmas.Bool.Decides.{nat_tests}
 use Rattle.std.proofs.lemmas.Int.{ints, to_z-of_z}
 use mir.Val.{SFits}
 use Rattle.std.specs.Ordering.{int_eq}
-use Rattle.std.proofs.lemmas.Bool.{eqb-true, eq-eqb, and_from, or_left, or_right}
+use Rattle.std.proofs.lemmas.Bool.{eqb-true, eq-eqb, or_left, or_right}
 use Rattle.ics_fields.specs.Days.{IsDayNumber}
 use Rattle.ics_fields.specs.declared.local.Local.{Local}
 use Rattle.ics_rule.specs.Kept.{is_kept, until_moment}
 use Rattle.ics_fields.specs.Locals.{number}
 use Rattle.ics_rule.specs.Recurrence.{Recurrence}
-use Rattle.ics_rule.proofs.KeptLemmas.{and_true, or_true}
+use Rattle.ics_rule.proofs.KeptLemmas.{or_true}
 use Rattle.ics_rule.proofs.NextLemmas.{kept_start}
 use Rattle.ics_event.specs.Event.{IsTime}
 use Rattle.ics_event.specs.declared.event.Event.{Event}
@@ -22,7 +22,7 @@ use Rattle.ics_series.specs.Clocks.{Clocks, instant}
 use Rattle.ics_zone.specs.Observances.{is_until}
 use Rattle.ics_series.specs.RuleStarts.{gives, lets_until, local_numbered, moment_numbered}
 use Rattle.ics_series.specs.Starts.{local_of, recurrence_of, time_at, IsRuleStart}
-use Rattle.ics_series.proofs.Cases.{equal-true, true-equal, some-same}
+use Rattle.ics_series.proofs.Cases.{some-same}
 use Rattle.ics_series.proofs.StartSourceLemmas.{calendar-day, number-seconds, own-day, rule-is, same-number}
 use Rattle.ics_series.proofs.KeptLemmas.{true-until, until-true}
 
