@@ -14,7 +14,7 @@ use Rattle.std.proofs.lemmas.List.Sorted.{IsPermutation-sym}
 use Rattle.ics_series.specs.declared.start.StartSource.{StartSource}
 use Rattle.ics_series.specs.declared.start.StartSource.TheVariants.{Kept, Listed}
 use Rattle.ics_series.specs.declared.start.Start.{Start}
-use Rattle.ics_series.specs.Found.{day_in, firsts_after, source_cmp, moment_cmp, part_of, place_in, start_cmp, AreFirsts}
+use Rattle.ics_series.specs.Found.{day_in, firsts_after, source_cmp, moment_cmp, part_of, place_in, start_cmp, AreFirsts, HasStart}
 use Rattle.ics_series.specs.Listing.{IsIn}
 use Rattle.ics_series.specs.MergedLaws.{before-tied, before-trans}
 use Rattle.ics_series.specs.Rising.{IsBefore, Rises}
@@ -89,49 +89,41 @@ firsts-in last s (x ∷ xs) m =
     cond_both (option_eq int_eq last (Some x.moment)) firsts (x ∷ firsts) (λ zs. IsIn s zs → IsIn s (x ∷ xs))
     (λ e m. inr (firsts-in (Some x.moment) s xs m)) (λ e m. ⊎_elim inl (λ n. inr (firsts-in (Some x.moment) s xs n)) m) m
 
--- the list has a start at the same instant whose local is not later
-record HasFirst (zs : List Start) (x : Start) : Type 0 where
-  first : Start
-  stands : IsIn first zs
-  same : first.moment ≡ x.moment
-  earlier : is_gt (start_cmp first x) ≡ false
-
 pub at-true : (last : Option ℤ) (t : ℤ) → option_eq int_eq last (Some t) ≡ true → last ≡ Some t
 at-true None t e = let f : false ≡ true = e in absurd cc
 at-true (Some u) t e = ap Some (equal-true u t e)
 
-in-firsts : (last : Option ℤ) (s : Start) (xs : List Start) → Climbs start_cmp xs → IsIn s xs → (last ≡ Some s.moment) ⊎ HasFirst (firsts_after last xs) s
+-- each has one at its instant whose source is not later
+in-firsts : (last : Option ℤ) (s : Start) (xs : List Start) → Climbs start_cmp xs → IsIn s xs →
+    (last ≡ Some s.moment) ⊎ HasStart (firsts_after last xs) s.source s.moment
 in-firsts last s [] h m = absurd m
 in-firsts last s (x ∷ xs) h m =
     let firsts = firsts_after (Some x.moment) xs in
-    cond_both (option_eq int_eq last (Some x.moment)) firsts (x ∷ firsts) (λ zs. (last ≡ Some s.moment) ⊎ HasFirst zs s)
+    cond_both (option_eq int_eq last (Some x.moment)) firsts (x ∷ firsts) (λ zs. (last ≡ Some s.moment) ⊎ HasStart zs s.source s.moment)
     (λ e.
     let at = at-true last x.moment e in
     ⊎_elim (λ same. inl (at ∙ ap (λ t. Some t.moment) (sym same)))
     (λ n. ⊎_elim (λ f. inl (at ∙ f)) inr (in-firsts (Some x.moment) s xs h.1 n)) m)
     (λ e. inr (⊎_elim
     (λ is. record {
-      first = x;
+      start = x;
       stands = inl refl;
       same = ap (λ t. t.moment) (sym is);
-      earlier = ap (λ t. is_gt (start_cmp x t)) is ∙ ap is_gt (tied_itself start_total x);
+      earlier = source-order x.source s.source (ap (λ t. is_gt (source_cmp x.source t.source)) is ∙ ap is_gt (tied_itself source_total x.source));
     })
     (λ n. ⊎_elim
-    (λ f. record { first = x; stands = inl refl; same = some-same x.moment s.moment f; earlier = up-to-in start_cmp x s xs h.0 n })
-    (λ f. record { first = f.first; stands = inr f.stands; same = f.same; earlier = f.earlier })
+    (λ f.
+    let same = some-same x.moment s.moment f in
+    let back = up-to-back (moment_cmp x s) (source_cmp x.source s.source) (same-moment x s same) (up-to-in start_cmp x s xs h.0 n) in
+    record { start = x; stands = inl refl; same = same; earlier = source-order x.source s.source back })
+    (λ f. record { start = f.start; stands = inr f.stands; same = f.same; earlier = f.earlier })
     (in-firsts (Some x.moment) s xs h.1 n))
     m))
-
-in-all-firsts : (s : Start) (xs : List Start) → Climbs start_cmp xs → IsIn s xs → HasFirst (firsts_after None xs) s
-in-all-firsts s xs h m = ⊎_elim (λ f. let g : None ≡ Some s.moment = f in absurd cc) (λ k. k) (in-firsts None s xs h m)
 
 -- of starts in any order, sorted, the first of each run
 pub firsts-of : (xs ys : List Start) → IsPermutation xs ys → Climbs start_cmp ys → AreFirsts xs (firsts_after None ys)
 firsts-of xs ys p climbs = record {
   rises = rises-firsts ys climbs;
   are = λ t m. in-permutation t ys xs (IsPermutation-sym xs ys p) (firsts-in None t ys m);
-  all = λ s m.
-      let f = in-all-firsts s ys climbs (in-permutation s xs ys p m) in
-      let back = up-to-back (moment_cmp f.first s) (source_cmp f.first.source s.source) (same-moment f.first s f.same) f.earlier in
-      record { start = f.first; stands = f.stands; same = f.same; earlier = source-order f.first.source s.source back };
+  all = λ s m. ⊎_elim (λ f. let g : None ≡ Some s.moment = f in absurd cc) (λ k. k) (in-firsts None s ys climbs (in-permutation s xs ys p m));
 }
