@@ -23,7 +23,7 @@ use Rattle.ics_zone.specs.Observances.{is_until}
 use Rattle.ics_series.specs.RuleStarts.{gives, lets_until, local_numbered, moment_numbered}
 use Rattle.ics_series.specs.Starts.{local_of, recurrence_of, time_at, IsRuleStart}
 use Rattle.ics_series.proofs.Cases.{some-same}
-use Rattle.ics_series.proofs.StartSourceLemmas.{calendar-day, number-seconds, own-day, rule-is, same-number}
+use Rattle.ics_series.proofs.StartSourceLemmas.{calendar-day, number-seconds, own-day, rule-first, same-number}
 use Rattle.ics_series.proofs.KeptLemmas.{true-until, until-true}
 
 pub same-test : (p q : Bool) → (p ≡ true → q ≡ true) → (q ≡ true → p ≡ true) → p ≡ q
@@ -57,9 +57,6 @@ module _ (clocks : Clocks) (event : Event) (rule : Recurrence) (w : Window) (a :
   gives-by {s = s} fits is h k test =
       let same = to_z-of_z w64 s.moment fits ∙ ap (λ (x : Start). x.moment) is in
       test ∙ (ap (λ x. lets_until rule (number a) x && int_lt x w.to) same ∙ sym (gives-kept h k))
-
-pub rule-first : (event : Event) (rule : Recurrence) → recurrence_of event ≡ Some rule → rule.start ≡ local_of event.start.stamp
-rule-first event rule has = let by = rule-is event.start.stamp event.rule rule has in sym (ap (λ (r : Recurrence). r.start) (sym by.1))
 
 -- a local that DTSTART has or a rule keeps lies in the calendar
 pub kept-calendar : (clocks : Clocks) (event : Event) (local : Local) → IsTime event.start → (local ≡ local_of event.start.stamp)

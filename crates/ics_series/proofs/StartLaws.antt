@@ -1,12 +1,11 @@
 -- Each start that something gives is that of an occurrence, unless an EXDATE takes it out: of what gives it one is the first.
 use Rattle.std.specs.Prelude.{◌≤ℤ◌, slice_get, Contains}
-use Rattle.std.proofs.Common.{◌≡◌, ◌≤◌, ℤ, List, [], ◌∷◌, true, false, Some, None, option_map, ◌⊎◌, inl, ⊎_elim, refl, sym, ◌∙◌, ap, subst, arith}
+use Rattle.std.proofs.Common.{◌≡◌, ℤ, List, [], ◌∷◌, true, false, Some, None, option_map, ◌⊎◌, inl, ⊎_elim, refl, sym, ◌∙◌, ap, arith}
 use Rattle.std.specs.Ordering.{int_eq, is_gt}
 use Rattle.std.proofs.lemmas.Int.{ints}
 use Rattle.std.proofs.lemmas.List.Folds.{list_any_at}
 use Rattle.ics_fields.specs.Locals.{number, local_seconds}
 use Rattle.ics_fields.specs.declared.local.Local.{Local}
-use Rattle.ics_rule.specs.Recurrence.{Recurrence}
 use Rattle.ics_event.specs.Event.{IsTime}
 use Rattle.ics_event.specs.declared.event.Event.{Event}
 use Rattle.ics_event.specs.declared.time.Rdate.{Rdate}
@@ -26,7 +25,7 @@ use Rattle.ics_series.proofs.Cases.{equal-true, true-equal}
 use Rattle.ics_series.proofs.FirstLemmas.{source-order, source_total}
 use Rattle.ics_series.proofs.ListingLemmas.{before-in}
 use Rattle.ics_series.proofs.RawLemmas.{giving, IsGiving}
-use Rattle.ics_series.proofs.StartSourceLemmas.{calendar-day, kept-late, number-seconds, own-day, own-time, rule-is}
+use Rattle.ics_series.proofs.StartSourceLemmas.{calendar-day, kept-late, number-seconds, own-day, own-time, rule-first}
 
 module _ (clocks : Clocks) (event : Event) where
   -- an event without a rule and without RDATEs has the start at DTSTART alone
@@ -57,10 +56,9 @@ module _ (clocks : Clocks) (event : Event) (time : IsTime event.start) where
       ⊎_elim (λ e. let same = ap local_seconds e in omega (arith, ints, same))
       (λ r.
       let first = calendar-day (local_of event.start.stamp).day (own-day event.start time) in
-      let rule = rule-is event.start.stamp event.rule r.rule r.has in
-      let late : number (local_of event.start.stamp) ≤ number local =
-      subst (λ (q : Recurrence). number q.start ≤ number local) rule.1 (kept-late r.rule (number local) r.kept) in
-      omega (arith, ints, late, number-seconds (local_of event.start.stamp) first, number-seconds local r.calendar))
+      let start = ap (λ (l : Local). number l) (rule-first event r.rule r.has) in
+      let late = kept-late r.rule (number local) r.kept in
+      omega (arith, ints, start, late, number-seconds (local_of event.start.stamp) first, number-seconds local r.calendar))
       k
 
 module _ (clocks : Clocks) (event : Event) where

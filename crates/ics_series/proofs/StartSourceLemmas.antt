@@ -101,35 +101,32 @@ kept-early r n h = elim (or_true h) [
   | inr rest ↦ inr (ltb-true n rules_end (and_true (and_true (and_true rest).0).0).0)
 ]
 
--- a local that the rule of an event keeps lies in the years of stamps
-pub kept-day : (first : Time) (parts : RuleParts) (a : Local) → IsTime first → IsDayNumber a.day → is_kept (recurrence_by first.stamp parts) (number a) ≡ true →
-    IsStampDay a.day
-kept-day first parts a h d k =
-    let own = own-day first h in
-    let start = number-seconds (local_of first.stamp) (calendar-day (local_of first.stamp).day own) in
-    let there = number-seconds a d in
-    let late = kept-late (recurrence_by first.stamp parts) (number a) k in
-    ⊎_elim
-    (λ same. (
-      omega (arith, ints, own.0, start, there, same, a.second_in, (local_of first.stamp).second_in),
-      omega (arith, ints, own.1, start, there, same, a.second_in, (local_of first.stamp).second_in),
-    ))
-    (λ early. (omega (arith, ints, own.0, start, there, late, a.second_in, (local_of first.stamp).second_in), omega (arith, ints, there, early, a.second_in)))
-    (kept-early (recurrence_by first.stamp parts) (number a) k)
+-- the rule of an event starts with its DTSTART
+start-is : (first : Stamp) (o : Option RuleParts) (rule : Recurrence) → option_map (recurrence_by first) o ≡ Some rule → rule.start ≡ local_of first
+start-is first (Some parts) rule e = sym (ap (λ (r : Recurrence). r.start) (some-same (recurrence_by first parts) rule e))
+start-is first None rule e = let f : None ≡ Some rule = e in absurd cc
 
--- the rule of an event is one by its DTSTART
-pub rule-is : (first : Stamp) (o : Option RuleParts) (rule : Recurrence) → option_map (recurrence_by first) o ≡ Some rule →
-    (parts : RuleParts) × (rule ≡ recurrence_by first parts)
-rule-is first (Some parts) rule e = (parts, some-same rule (recurrence_by first parts) (sym e))
-rule-is first None rule e = let f : None ≡ Some rule = e in absurd cc
+pub rule-first : (event : Event) (rule : Recurrence) → recurrence_of event ≡ Some rule → rule.start ≡ local_of event.start.stamp
+rule-first event = start-is event.start.stamp event.rule
 
 -- What gives starts.
 -- what the rule keeps is a time of the years of stamps
 pub kept-time : (event : Event) {rule : Recurrence} (a : Local) → IsTime event.start → recurrence_of event ≡ Some rule → IsDayNumber a.day →
     is_kept rule (number a) ≡ true → IsTime (time_at event.start a)
 kept-time event {rule = rule} a h e d k =
-    let by = rule-is event.start.stamp event.rule rule e in
-    time-at event.start a h (kept-day event.start by.0 a h d (subst (λ r. is_kept r (number a) ≡ true) by.1 k))
+    let own = own-day event.start h in
+    let start = number-seconds (local_of event.start.stamp) (calendar-day (local_of event.start.stamp).day own) in
+    let first = ap (λ (l : Local). number l) (rule-first event rule e) in
+    let there = number-seconds a d in
+    let late = kept-late rule (number a) k in
+    let second = (local_of event.start.stamp).second_in in
+    time-at event.start a h (⊎_elim
+    (λ same. (
+      omega (arith, ints, own.0, start, first, there, same, a.second_in, second),
+      omega (arith, ints, own.1, start, first, there, same, a.second_in, second),
+    ))
+    (λ early. (omega (arith, ints, own.0, start, first, there, late, a.second_in, second), omega (arith, ints, there, early, a.second_in)))
+    (kept-early rule (number a) k))
 
 -- two of which none is after the other are the same
 pub same-source : (g k : StartSource) → IsNotAfter g k → IsNotAfter k g → g ≡ k

@@ -7,7 +7,7 @@ use Rattle.ics_series.specs.Found.{moment_cmp}
 use Rattle.ics_series.specs.Listing.{IsIn}
 use Rattle.ics_series.specs.Rising.{Rises}
 use Rattle.ics_series.proofs.RuleDayLemmas.{come-empty}
-use Rattle.ics_series.proofs.RuleLocalLemmas.{rule-first}
+use Rattle.ics_series.proofs.StartSourceLemmas.{rule-first}
 use Rattle.ics_series.proofs.RuleStepLemmas.{day-back, signed-back}
 use Rattle.ics_series.proofs.rule_starts.RuleStarts.new.Goals as goal
 
