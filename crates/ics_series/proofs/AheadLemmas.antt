@@ -2,8 +2,8 @@
 use Rattle.std.specs.Prelude.{◌<ℤ◌, ◌≤ℤ◌, ◌&&◌, ◌||◌, int_lt, unsigned_abs, Result, Ok, Err, OnErr}
 use Rattle.std.specs.List.{filter}
 use Rattle.std.specs.Ordering.{int_eq}
-use Rattle.std.proofs.Common.{◌≡◌, ℕ, zero, suc, ℤ, pos, ◌+ℤ◌, ◌-ℤ◌, List, [], ◌∷◌, ◌++◌, map, Option, ◌⊎◌, inl, inr, ⊎_elim, Bool, true, false}
-use Rattle.std.proofs.Common.{cond, None, refl, sym, ◌∙◌, ap, subst, arith}
+use Rattle.std.proofs.Common.{◌≡◌, ℕ, zero, suc, ℤ, pos, ◌+ℤ◌, ◌-ℤ◌, List, [], ◌∷◌, ◌++◌, Option, ◌⊎◌, inl, inr, ⊎_elim, Bool, true, false}
+use Rattle.std.proofs.Common.{None, refl, sym, ◌∙◌, ap, subst, arith}
 use Rattle.std.proofs.lemmas.Int.{ints}
 use Rattle.ics_event.specs.Event.{FileSaid}
 use Rattle.ics_zone.specs.Seconds.{IsNear}
@@ -176,8 +176,7 @@ module _ (files : List FileSaid) (display : Clock) (w : Window) (day : ℤ) (o :
   ahead-skipped not-today list a = record {
     later = a.later;
     listing = a.listing;
-    is = a.is ∙ ap (λ xs. xs ++ a.later) (ap (today display w day) drawn
-        ∙ ap (λ b. map (on_day day) (cond b (o ∷ filter (λ x. is_today display w day x) rest) (filter (λ x. is_today display w day x) rest))) not-today);
+    is = a.is ∙ ap (λ xs. xs ++ a.later) (rw (drawn, not-today) refl);
   }
 
   pub ahead-given : is_today display w day o ≡ true → (list : List OnDay) → IsAheadOf files display w day coming list
@@ -185,8 +184,7 @@ module _ (files : List FileSaid) (display : Clock) (w : Window) (day : ℤ) (o :
   ahead-given is-today list a = (
     today display w day rest ++ a.later,
     record { later = a.later; listing = a.listing; is = refl },
-    a.is ∙ ap (λ xs. xs ++ a.later) (ap (today display w day) drawn
-        ∙ ap (λ b. map (on_day day) (cond b (o ∷ filter (λ x. is_today display w day x) rest) (filter (λ x. is_today display w day x) rest))) is-today),
+    a.is ∙ ap (λ xs. xs ++ a.later) {y = on_day day o ∷ today display w day rest} (rw (drawn, is-today) refl),
   )
 
 -- what holds in any case holds on an error

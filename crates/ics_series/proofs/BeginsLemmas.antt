@@ -45,9 +45,7 @@ module _ {A : Type 0} (R : A → A → Ordering) (o : IsTotalOrder R) where
   -- what comes before both lists stands at the front of their union
   pub union-front : (e : A) (xs ys : List A) → IsBefore R e xs → union R xs (e ∷ ys) ≡ e ∷ union R xs ys
   union-front e [] ys h = refl
-  union-front e (x ∷ xs) ys h =
-      ap (put R x) (union-front e xs ys h.1)
-      ∙ ap (λ c. by_order c (x ∷ e ∷ union R xs ys) (x ∷ union R xs ys) (e ∷ put R x (union R xs ys))) (over e x h.0)
+  union-front e (x ∷ xs) ys h = rw (union-front e xs ys h.1, over e x h.0) refl
 
   pub cut-union : (e : A) (xs ys : List A) → IsBefore R e xs → IsBefore R e (cut R e ys) → cut R e (union R xs ys) ≡ union R xs (cut R e ys)
   cut-union e xs [] h k = cut-before e (union R xs []) (before-union e xs [] h tt)
@@ -56,9 +54,7 @@ module _ {A : Type 0} (R : A → A → Ordering) (o : IsTotalOrder R) where
       by : (c : Ordering) → R e y ≡ c → IsBefore R e (by_order c (y ∷ ys) ys (y ∷ ys))
           → cut R e (union R xs (y ∷ ys)) ≡ union R xs (by_order c (y ∷ ys) ys (y ∷ ys))
       by Less p k = cut-before e (union R xs (y ∷ ys)) (before-union e xs (y ∷ ys) h k)
-      by Equal p k =
-          ap (cut R e) (union-front y xs ys (before-tied R o y e xs (o.antisymm y e ∙ ap ordering_reverse p) h))
-          ∙ ap (λ c. by_order c (y ∷ union R xs ys) (union R xs ys) (y ∷ union R xs ys)) p
+      by Equal p k = rw (union-front y xs ys (before-tied R o y e xs (o.antisymm y e ∙ ap ordering_reverse p) h), p) refl
       by Greater p k = let l = k.0 in cc
 
   pub front-union : (e : A) (xs ys : List A) → IsBefore R e xs → IsBefore R e (cut R e ys) → IsBefore R e (cut R e (union R xs ys))
@@ -73,10 +69,7 @@ module _ {A : Type 0} (R : A → A → Ordering) (o : IsTotalOrder R) where
       by : (c : Ordering) → R e x ≡ c → IsBefore R e (by_order c (x ∷ xs) xs (x ∷ xs))
           → cut R e (put R x (union R xs ys)) ≡ union R (by_order c (x ∷ xs) xs (x ∷ xs)) (cut R e ys)
       by Less p h = cut-union e (x ∷ xs) ys h k
-      by Equal p h =
-          ap (cut R e) (put-front e x (union R xs ys) p (front-union e xs ys h k))
-          ∙ (ap (λ c. by_order c (x ∷ cut R e (union R xs ys)) (cut R e (union R xs ys)) (x ∷ cut R e (union R xs ys))) p
-          ∙ cut-union e xs ys h k)
+      by Equal p h = rw (put-front e x (union R xs ys) p (front-union e xs ys h k), p) (cut-union e xs ys h k)
       by Greater p h = let l = h.0 in cc
 
   -- and of several

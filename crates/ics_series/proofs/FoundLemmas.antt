@@ -35,9 +35,8 @@ both-tie _ d = refl
 
 same-ties : (a b : Label) → is_same a b ≡ is_eq (subject_cmp a.subject b.subject)
 same-ties a b =
-    ap (λ t. t && option_eq int_eq a.subject.recurrence b.subject.recurrence) (lists_ties nat_cmp unsigned_ties a.subject.uid b.subject.uid)
-    ∙ (ap (λ t. is_eq (slice_cmp nat_cmp a.subject.uid b.subject.uid) && t) (option-ties a.subject.recurrence b.subject.recurrence)
-    ∙ both-tie (slice_cmp nat_cmp a.subject.uid b.subject.uid) (option_cmp int_cmp a.subject.recurrence b.subject.recurrence))
+    rw (lists_ties nat_cmp unsigned_ties a.subject.uid b.subject.uid, option-ties a.subject.recurrence b.subject.recurrence)
+    (both-tie (slice_cmp nat_cmp a.subject.uid b.subject.uid) (option_cmp int_cmp a.subject.recurrence b.subject.recurrence))
 
 module _ {A B : Type 0} (f : A → B) (same : B → B → Bool) where
   is_followed-map : (x : A) (xs : List A) → is_followed same (f x) (map f xs) ≡ is_followed (on f same) x xs

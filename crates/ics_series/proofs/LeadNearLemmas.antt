@@ -65,8 +65,7 @@ module _ {X : Type 0} (head : X → Option Occurrence) (rest : X → List Entry)
         → AreNear (N new) (rest old) → AllByRecursion (IsLeadNear last) xs → AllByRecursion (IsLeadNear last) (set xs i new)
     near-kept same left ahead given near all =
         let is : past last (listed (head new) (rest new)) ≡ past last (rest old) =
-        ap (λ h. past last (listed h (rest new))) same
-        ∙ (ap (λ l. past last (listed (head old) l)) left ∙ sym (past-drawn last (head old) (rest old) ahead given)) in
+        rw (same, left) (sym (past-drawn last (head old) (rest old) ahead given)) in
         all-set (IsLeadNear last) xs i new all (λ o m. near o (past-in last o (rest old) (subst (IsIn o) is m)))
 
   same-head : {A : Type 0} (a b : A) (xs ys : List A) → a ∷ xs ≡ b ∷ ys → (a ≡ b) × (xs ≡ ys)

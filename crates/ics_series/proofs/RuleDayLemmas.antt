@@ -181,17 +181,14 @@ module _ (zones : FileZones) (event : Event) where
       -- a start leaves of what is held what it leaves of all that is still to come
       pub passed : (t : Start) (held : List Start) → Rises moment_cmp held → is_behind day end held ≡ false
           → to_come (clocks_in zones) event rule w (cut moment_cmp t held) place ≡ cut moment_cmp t (to_come (clocks_in zones) event rule w held place)
-      passed t [] r b = let none = come-empty [] place place refl refl ∙ settled [] b in none ∙ sym (ap (cut moment_cmp t) none)
-      passed t (s ∷ held) r b = by (moment_cmp t s) ∙ sym (ap (cut moment_cmp t) is)
+      passed t [] r b = rw (come-empty [] place place refl refl ∙ settled [] b) refl
+      passed t (s ∷ held) r b = rw (come-first s held place r (settled (s ∷ held) b)) (by (moment_cmp t s))
         where
-          is : to_come (clocks_in zones) event rule w (s ∷ held) place ≡ s ∷ to_come (clocks_in zones) event rule w held place
-          is = come-first s held place r (settled (s ∷ held) b)
-
           by : (c : Ordering) → to_come (clocks_in zones) event rule w (by_order c (s ∷ held) held (s ∷ held)) place
               ≡ by_order c (s ∷ to_come (clocks_in zones) event rule w held place) (to_come (clocks_in zones) event rule w held place)
               (s ∷ to_come (clocks_in zones) event rule w held place)
           by Equal = refl
-          by _ = is
+          by _ = come-first s held place r (settled (s ∷ held) b)
 
     -- each start still to come begins no more than three days before the day that is not asked for yet
     pub near-left : (day : ℤ) (held : List Start) (place : ℕ) {asked : ℤ} → IsDayNumber day → asked ≤ℤ (day +ℤ pos 1) → midnight_number day ≤ place

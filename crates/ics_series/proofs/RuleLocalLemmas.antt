@@ -1,6 +1,6 @@
 -- A local and its number.
 use Rattle.std.specs.Prelude.{◌≤ℤ◌, ◌==◌, int_lt, IfSome}
-use Rattle.std.proofs.Common.{◌≡◌, ℕ, Bool, true, ◌&&◌, Some, ◌⊎◌, inl, inr, ⊎_elim, sym, ◌∙◌, ap, subst, arith, w64, to_z, of_z}
+use Rattle.std.proofs.Common.{◌≡◌, ℕ, Bool, true, ◌&&◌, Some, ◌⊎◌, inl, inr, ⊎_elim, refl, sym, ◌∙◌, ap, subst, arith, w64, to_z, of_z}
 use Rattle.std.proofs.lemmas.Bool.Decides.{nat_tests}
 use Rattle.std.proofs.lemmas.Int.{ints, to_z-of_z}
 use mir.Val.{SFits}
@@ -46,10 +46,7 @@ module _ (clocks : Clocks) (event : Event) (rule : Recurrence) (w : Window) (a :
   pub gives-kept : IsDayNumber a.day → is_kept rule (number a) ≡ true → gives clocks event rule w (number a)
       ≡ (lets_until rule (number a) (instant clocks (time_at event.start a)) && int_lt (instant clocks (time_at event.start a)) w.to)
   unfolding gives
-  gives-kept h k =
-      ap (λ b. b && (lets_until rule (number a) (moment_numbered clocks event (number a)) && int_lt (moment_numbered clocks event (number a)) w.to)) k
-      ∙ ap (λ l. lets_until rule (number a) (instant clocks (time_at event.start l)) && int_lt (instant clocks (time_at event.start l)) w.to)
-      (numbered-number a h)
+  gives-kept h k = rw (k, numbered-number a h) refl
 
   -- the same of the test that was made, by the instant as it is read back
   pub gives-by : {s : Start} {b : Bool} → SFits w64 s.moment → s ≡ start_at clocks event a → IsDayNumber a.day → is_kept rule (number a) ≡ true

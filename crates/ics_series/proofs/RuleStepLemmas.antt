@@ -16,7 +16,7 @@ use Rattle.ics_series.specs.Listing.{IsIn}
 use Rattle.ics_series.specs.Merged.{cut}
 use Rattle.ics_series.specs.Rising.{Rises}
 use Rattle.ics_series.specs.RuleFeed.{starts_left}
-use Rattle.ics_series.specs.RuleStarts.{gives, is_behind, local_numbered, midnight_number, steps_left, to_come, with_held, AreHeld, IsHeld}
+use Rattle.ics_series.specs.RuleStarts.{gives, is_behind, midnight_number, steps_left, to_come, with_held, AreHeld, IsHeld}
 use Rattle.ics_series.specs.Starts.{time_at}
 use Rattle.ics_series.specs.FileZones.{clocks_in, IsTimeOf}
 use Rattle.ics_series.proofs.StartSourceLemmas.{kept-time}
@@ -58,8 +58,7 @@ module _ (s : RuleStarts) where
   pub passed-left : (t : Start) (new : List Start) → new ≡ cut moment_cmp t s.held.items → is_behind s.day s.end s.held.items ≡ false
       → to_come (clocks_in s.zones) s.event.now s.rule s.window new (place_of s.cursor) ≡ cut moment_cmp t (starts_left s)
   passed-left t new is ready =
-      ap (λ xs. to_come (clocks_in s.zones) s.event.now s.rule s.window xs (place_of s.cursor)) is
-      ∙ passed s.zones s.event.now s.rule s.window s.day s.end (place_of s.cursor) day-days end-days s.after s.read t s.held.items s.rises ready
+      rw is (passed s.zones s.event.now s.rule s.window s.day s.end (place_of s.cursor) day-days end-days s.after s.read t s.held.items s.rises ready)
 
   pub asked-number : pos (midnight_number s.asked) ≡ midnight s.asked +ℤ pos 62_167_219_200
   asked-number = number-day s.asked (omega (arith, ints, s.low, s.asked_on), omega (arith, ints, s.asked_end, end-days.1))
@@ -115,9 +114,8 @@ module _ (s : RuleStarts) (b : ℤ) (fits : mag b < 2_147_483_648) (later : s.da
     soon = omega (arith, ints);
     end = range.1;
     before = (omega (arith, ints, s.low, s.asked_on, s.asked_soon, range.0, days.0), omega (arith, there));
-    same = ap (λ xs. to_come (clocks_in s.zones) s.event.now s.rule s.window xs place) h
-        ∙ (ap (to_come (clocks_in s.zones) s.event.now s.rule s.window s.held.items) next.1
-        ∙ come-none (clocks_in s.zones) s.event.now s.rule s.window s.held.items (place_of s.cursor) (number at) bound-early next.0);
+    same = rw (h, next.1)
+        (come-none (clocks_in s.zones) s.event.now s.rule s.window s.held.items (place_of s.cursor) (number at) bound-early next.0);
     less = omega (arith, ints, range.0, range.1, next.1, there, s.low, days.0, (end-days s).0);
   }
 
@@ -162,9 +160,7 @@ module _ (s : RuleStarts) (b : ℤ) (fits : mag b < 2_147_483_648) (later : s.da
             omega (arith, ints, s.low, s.asked_on, s.asked_soon, on-day.0, own.0, asked),
             omega (arith, ints, own.0, asked, a.second_in),
           );
-          same = ap (λ xs. to_come clocks event s.rule s.window xs place) (put
-              ∙ ap (λ l. with_held given (start_at clocks event l) s.held.items) (sym (numbered-number a own)))
-              ∙ (ap (to_come clocks event s.rule s.window (with_held given (start_at clocks event (local_numbered (number a))) s.held.items)) next.1
-              ∙ come-one clocks event s.rule s.window s.held.items s.rises bound-early kept);
+          same = rw (put, next.1)
+              (rw (numbered-number a own) at (come-one clocks event s.rule s.window s.held.items s.rises bound-early kept));
           less = omega (arith, ints, day, next.1, kept.from_place, kept.in_bound, there, on-day.0, on-day.1, range.1, s.low, own.0, days.0, (end-days s).0);
         }

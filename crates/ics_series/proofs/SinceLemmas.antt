@@ -158,10 +158,7 @@ module _ (zones : FileZones) (w : Window) (event : Event) (sound : IsEvent event
         ∙ and_from (lets_until r.rule (number local) (instant (clocks_in zones) time)) (int_lt (instant (clocks_in zones) time) w.to) parts.1
         (true_int_lt (instant (clocks_in zones) time) w.to (subst (λ t. t <ℤ w.to) same early)) in
         let has = found-has zones w event r.rule (number r.from) (number local) from below given-there in
-        subst (λ xs. HasStart xs (Kept local) (instant (clocks_in zones) (time_of given))) (sym r.gives)
-        (subst (HasStart (found (clocks_in zones) event r.rule w (number r.from)) (Kept local)) (sym same)
-        (subst (λ l. HasStart (found (clocks_in zones) event r.rule w (number r.from)) (Kept l) (instant (clocks_in zones) (time_at event.start l)))
-        (numbered-number local day) has))
+        rw (r.gives, same) (rw (numbered-number local day) at has)
 
     pub with-ruled : (listed : List Start) → Rises moment_cmp starts → AreFirsts by_rdates listed → HasSought (union moment_cmp starts listed)
     with-ruled listed rises firsts (Kept local) given g s late =
