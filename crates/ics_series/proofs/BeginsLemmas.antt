@@ -3,12 +3,12 @@ use Rattle.std.specs.List.{AllByRecursion}
 use Rattle.std.proofs.Common.{◌≡◌, ℕ, zero, suc, ◌<◌, List, [], ◌∷◌, refl, sym, ◌∙◌, ap, subst, map, get_or, length, arith}
 use Rattle.std.specs.Cmp.{IsTotalOrder}
 use Rattle.std.specs.Ordering.{ordering_reverse}
-use Rattle.std.proofs.lemmas.Cmp.{tied_itself}
+use Rattle.std.proofs.lemmas.Cmp.{alike_right, tied_itself}
 use Rattle.std.specs.declared.cmp.Ordering.{Ordering}
 use Rattle.std.specs.declared.cmp.Ordering.TheVariants.{Less, Equal, Greater}
 use Rattle.ics_series.specs.Rising.{IsBefore, Rises}
 use Rattle.ics_series.specs.Merged.{by_order, put, union, merged, cut}
-use Rattle.ics_series.specs.MergedLaws.{back, before-put, before-tied, before-trans}
+use Rattle.ics_series.specs.MergedLaws.{before-put, before-tied, before-trans}
 
 -- x comes before each of the lists, but for an entry of its key at the front
 abbrev pub AllFront : {A : Type 0} → (A → A → Ordering) → A → List (List A) → Type 0
@@ -32,15 +32,12 @@ module _ {A : Type 0} (R : A → A → Ordering) (o : IsTotalOrder R) where
   -- x, of e's key, goes to the front where e would
   pub put-front : (e x : A) (ys : List A) → R e x ≡ Equal → IsBefore R e (cut R e ys) → put R x ys ≡ x ∷ cut R e ys
   put-front e x [] t h = refl
-  put-front e x (y ∷ ys) t h =
-      let same : R x y ≡ R e y = sym (o.congr e x y t) in
-      ap (λ c. by_order c (x ∷ y ∷ ys) (x ∷ ys) (y ∷ put R x ys)) same
-      ∙ by (R e y) refl same h
+  put-front e x (y ∷ ys) t h = rw (sym (o.congr e x y t)) (by (R e y) refl h)
     where
-      by : (c : Ordering) → R e y ≡ c → R x y ≡ c → IsBefore R e (by_order c (y ∷ ys) ys (y ∷ ys))
+      by : (c : Ordering) → R e y ≡ c → IsBefore R e (by_order c (y ∷ ys) ys (y ∷ ys))
           → by_order c (x ∷ y ∷ ys) (x ∷ ys) (y ∷ put R x ys) ≡ x ∷ by_order c (y ∷ ys) ys (y ∷ ys)
-      by Greater p q h = let l = h.0 in cc
-      by _ p q h = refl
+      by Greater p h = let l = h.0 in cc
+      by _ p h = refl
 
   -- what comes before both lists stands at the front of their union
   pub union-front : (e : A) (xs ys : List A) → IsBefore R e xs → union R xs (e ∷ ys) ≡ e ∷ union R xs ys
@@ -88,11 +85,7 @@ module _ {A : Type 0} (R : A → A → Ordering) (o : IsTotalOrder R) where
     where
       by : (c : Ordering) → R y z ≡ c → IsBefore R y (by_order c (z ∷ zs) zs (z ∷ zs)) → IsBefore R x (z ∷ zs)
       by Less p h = before-trans R o x y (z ∷ zs) l h
-      by Equal p h =
-          let tied : R z y ≡ Equal = o.antisymm z y ∙ ap ordering_reverse p in
-          let turned : R z x ≡ R y x = o.congr z y x tied in
-          let later : R z x ≡ Greater = turned ∙ over x y l in
-          (back R o z x later, before-trans R o x y zs l h)
+      by Equal p h = (sym (alike_right o y z x p) ∙ l, before-trans R o x y zs l h)
       by Greater p h = let q = h.0 in cc
 
   -- what the merge begins with, and what it leaves
@@ -108,10 +101,12 @@ module _ {A : Type 0} (R : A → A → Ordering) (o : IsTotalOrder R) where
       let whole : cut R e (e ∷ xs) ≡ xs = ap (λ c. by_order c (e ∷ xs) xs (e ∷ xs)) tied in
       record {
         fronts = (subst (IsBefore R e) (sym whole) r.0, h);
-        is =
-            put-front e e (union R xs (merged R xss)) tied (front-union e xs (merged R xss) r.0 k.0)
-            ∙ ap (λ l. e ∷ l) (cut-union e xs (merged R xss) r.0 k.0
-            ∙ (ap (union R xs) k.1 ∙ ap (λ l. union R l (merged R (map (cut R e) xss))) (sym whole)));
+        is = rw (
+          put-front e e (union R xs (merged R xss)) tied (front-union e xs (merged R xss) r.0 k.0),
+          cut-union e xs (merged R xss) r.0 k.0,
+          k.1,
+          whole,
+        ) refl;
       }
 
   -- e stands in a later list, and the first list comes after it
@@ -120,9 +115,7 @@ module _ {A : Type 0} (R : A → A → Ordering) (o : IsTotalOrder R) where
       let whole : cut R e xs ≡ xs = cut-before e xs h in
       record {
         fronts = (subst (IsBefore R e) (sym whole) h, b.fronts);
-        is =
-            ap (union R xs) b.is ∙ (union-front e xs (merged R (map (cut R e) xss)) h
-            ∙ ap (λ l. e ∷ union R l (merged R (map (cut R e) xss))) (sym whole));
+        is = rw (b.is, union-front e xs (merged R (map (cut R e) xss)) h, whole) refl;
       }
 
   all_front : (e : A) (xss : List (List A)) → ((i : ℕ) → i < length xss → IsBefore R e (cut R e (get_or xss i []))) → AllFront R e xss

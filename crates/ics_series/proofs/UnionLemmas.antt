@@ -8,7 +8,7 @@ use Rattle.std.specs.declared.cmp.Ordering.{Ordering}
 use Rattle.std.specs.declared.cmp.Ordering.TheVariants.{Less, Equal, Greater}
 use Rattle.ics_series.specs.Listing.{IsIn, IsListing}
 use Rattle.ics_series.specs.Merged.{by_order, put, union, merged, HasNoKey, IsFromFirst}
-use Rattle.ics_series.specs.MergedLaws.{rises-merged, rises-union}
+use Rattle.ics_series.specs.MergedLaws.{before-tied, before-trans, rises-merged, rises-union}
 use Rattle.ics_series.specs.Rising.{Rises}
 use Rattle.ics_series.proofs.ListingLemmas.{before-in, one-rising}
 
@@ -22,15 +22,8 @@ module _ {A : Type 0} (R : A → A → Ordering) (o : IsTotalOrder R) where
           → IsIn e (by_order c (x ∷ y ∷ ys) (x ∷ ys) (y ∷ put R x ys))
           → (e ≡ x) ⊎ (IsIn e (y ∷ ys) × (R x e ≢ Equal))
       by Less p ih m =
-          ⊎_elim inl
-          (λ k. inr (
-            k,
-            ⊎_elim (λ s t. let q : R x y ≡ Equal = sym (ap (R x) s) ∙ t in cc) (λ n t. let q : R x e ≡ Less =
-                o.trans x y e p (before-in R o y e ys h.0 n) in cc) k,
-          )) m
-      by Equal p ih m =
-          ⊎_elim inl
-          (λ n. inr (inr n, λ t. let q : R y e ≡ Less = before-in R o y e ys h.0 n in let s : R x e ≡ R y e = o.congr x y e p in cc)) m
+          ⊎_elim inl (λ k. inr (k, λ t. let q = before-in R o x e (y ∷ ys) (p, before-trans R o x y ys p h.0) k in cc)) m
+      by Equal p ih m = ⊎_elim inl (λ n. inr (inr n, λ t. let q = before-in R o x e ys (before-tied R o x y ys p h.0) n in cc)) m
       by Greater p ih m =
           ⊎_elim (λ s. inr (inl s, λ t. let q : R x y ≡ Equal = sym (ap (R x) s) ∙ t in cc))
           (λ n. ⊎_elim inl (λ k. inr (inr k.0, k.1)) (ih n)) m
