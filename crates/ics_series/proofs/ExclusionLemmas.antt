@@ -56,8 +56,8 @@ module _ (zones : FileZones) (w : Window) (clock : Clock) (instants days : List 
           → takes_out clock (with_instant (not past) instants moment) days t ≡ (takes_out clock instants days t || int_eq moment t)
       by moment true h = sym (ap (λ b. takes_out clock instants days t || b) (h refl) ∙ or-false (takes_out clock instants days t))
       by moment false h =
-          ap (λ b. b || is_day_in clock days t) (list_any-append (λ x. int_eq x t) instants (moment ∷ []))
-          ∙ or-moved (list_any (λ x. int_eq x t) instants) (int_eq moment t) (is_day_in clock days t)
+          rw (list_any-append (λ x. int_eq x t) instants (moment ∷ []))
+          (or-moved (list_any (λ x. int_eq x t) instants) (int_eq moment t) (is_day_in clock days t))
 
 module _ (clocks : Clocks) (first exdate : Time) where
   excludes-time : (s : Stamp) (t : ℤ) → ((day : ℤ) → s ≡ Date day → ⊥) → excludes_time clocks first exdate s t ≡ int_eq (instant clocks exdate) t

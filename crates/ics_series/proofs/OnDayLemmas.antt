@@ -2,9 +2,9 @@
 use Rattle.std.specs.Prelude.{◌<ℤ◌}
 use Rattle.std.specs.Cmp.{IsTotalOrder, int_cmp_is}
 use Rattle.std.specs.List.{filter}
-use Rattle.std.specs.Ordering.{ordering_then, is_lt, ordering_reverse}
+use Rattle.std.specs.Ordering.{ordering_then, is_lt}
 use Rattle.std.specs.declared.cmp.Ordering.{Ordering}
-use Rattle.std.specs.declared.cmp.Ordering.TheVariants.{Less, Greater}
+use Rattle.std.specs.declared.cmp.Ordering.TheVariants.{Less}
 use Rattle.std.proofs.Common.{◌≡◌, ℤ, List, [], ◌∷◌, ◌++◌, map, ◌⊎◌, inl, inr, ⊎_elim, true, refl, sym, ◌∙◌, ap, subst, Some, cond}
 use Rattle.std.proofs.lemmas.Cmp.{int_cmp_total, on_total, then_total, tied_itself}
 use Rattle.std.proofs.lemmas.Bool.{and_from, and_parts}
@@ -20,6 +20,7 @@ use Rattle.ics_series.specs.Listing.{IsIn, IsListing}
 use Rattle.ics_series.specs.Meeting.{is_met}
 use Rattle.ics_series.specs.Occurs.{Occurs}
 use Rattle.ics_series.specs.Rising.{IsBefore, Rises}
+use Rattle.ics_series.proofs.BeginsLemmas.{over}
 use Rattle.ics_series.proofs.PickLemmas.{listing-filter}
 use Rattle.ics_series.proofs.GivenLemmas.{in-map, map-in}
 use Rattle.ics_series.proofs.MeetingLemmas.{is_met-meets, meets-is_met}
@@ -101,24 +102,19 @@ module _ (files : List FileSaid) (display : Clock) (near : (t : ℤ) → IsNear 
 
 -- What of a rising list is greater than one of it stands behind it.
 module _ {A : Type 0} (R : A → A → Ordering) (o : IsTotalOrder R) where
-  greater : A → List A → List A
+  abbrev greater : A → List A → List A
   greater x list = filter (λ y. is_lt (R x y)) list
 
   keeps-greater : (x : A) (ys : List A) → IsBefore R x ys → greater x ys ≡ ys
-  unfolding greater
   keeps-greater x [] h = refl
   keeps-greater x (y ∷ ys) h = ap (λ c. cond (is_lt c) (y ∷ greater x ys) (greater x ys)) h.0 ∙ ap (λ l. y ∷ l) (keeps-greater x ys h.1)
 
   greater-behind : (front : List A) (x : A) (behind : List A) → Rises R (front ++ x ∷ behind) → greater x (front ++ x ∷ behind) ≡ behind
-  unfolding greater
-  greater-behind [] x behind h = ap (λ c. cond (is_lt c) (x ∷ greater x behind) (greater x behind)) (tied_itself o x) ∙ keeps-greater x behind h.0
+  greater-behind [] x behind h = rw (tied_itself o x) (keeps-greater x behind h.0)
   greater-behind (y ∷ ys) x behind h =
-      let after : R x y ≡ Greater = o.antisymm x y
-      ∙ ap ordering_reverse (before-in R o y x (ys ++ x ∷ behind) h.0 (in-append_right x ys (x ∷ behind) (inl refl))) in
-      ap (λ c. cond (is_lt c) (y ∷ greater x (ys ++ x ∷ behind)) (greater x (ys ++ x ∷ behind))) after ∙ greater-behind ys x behind h.1
+      rw (over R o y x (before-in R o y x (ys ++ x ∷ behind) h.0 (in-append_right x ys (x ∷ behind) (inl refl)))) (greater-behind ys x behind h.1)
 
 module _ (files : List FileSaid) (display : Clock) (w : Window) where
   pub day-listing-behind : (front : List OnDay) (p : OnDay) (behind : List OnDay) → IsListing on_day_cmp (IsOnDay files display w) (front ++ p ∷ behind)
       → after_day_key (Some (day_rank_of p)) (front ++ p ∷ behind) ≡ behind
-  unfolding greater
   day-listing-behind front p behind h = greater-behind on_day_cmp on_day_total front p behind h.rises
