@@ -67,9 +67,6 @@ stands {files = files} {display = display} {versions = versions} i d h l =
     ∙ placed-event files p.0 ((h.listing.exact p.0).0 p.1).placed in
     subst IsSome (sym e) refl
 
-abbrev sub : Entry → Event → Option Time → SubjectSeen
-sub o e r = record { uid = e.uid; recurrence = option_map (λ time. o.recurrence) r }
-
 -- what a version gives has its subject
 pub given-subject : (clocks : Clocks) (event : Event) (o : Entry) → IsGivenBy clocks event (overridden clocks event) o →
     subject_from o ≡ subject_by clocks event
@@ -77,6 +74,5 @@ given-subject clocks event o h = by event.recurrence refl h
   where
     by : (r : Option Time) → event.recurrence ≡ r → IsGivenBy clocks event (option_map (instant clocks) r) o
         → subject_from o ≡ record { uid = event.uid; recurrence = option_map (instant clocks) r }
-    by None e h = ap (λ (v : Event). sub o v v.recurrence) h.event ∙ ap (sub o event) e
-    by (Some time) e h = ap (λ (v : Event). sub o v v.recurrence) h.0.event
-        ∙ (ap (sub o event) e ∙ ap (λ t. record { uid = event.uid; recurrence = Some t }) h.1)
+    by None e h = rw (h.event, e) refl
+    by (Some time) e h = rw (h.0.event, e, h.1) refl

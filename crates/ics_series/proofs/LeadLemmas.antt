@@ -107,15 +107,17 @@ module _ {X : Type 0} (head : X → Option Occurrence) (rest : X → List Entry)
       ∙ merged-nothing last xs (λ i l. h (suc i) (omega arith))
 
   module _ (xs : List X) (first : ℕ) (wins : GoesFirst (heads_of head xs) (length xs) first) where
+    up-to-first : {k : Option Entry} (i : ℕ) → get_or (heads_of head xs) first None ≡ k → i < length xs →
+        is_gt (head_cmp k (get_or (heads_of head xs) i None)) ≡ false
+    up-to-first i is l = subst (λ h. is_gt (head_cmp h (get_or (heads_of head xs) i None)) ≡ false) is
+        (up-to-front (head_cmp (get_or (heads_of head xs) first None) (get_or (heads_of head xs) i None)) (nat_cmp first i) (wins i l))
+
     -- where the first lead holds nothing, no lead does
     pub nothing-comes : (last : Option Occurrence) → get_or (heads_of head xs) first None ≡ None → merged entry_cmp (pasts_of head rest last xs) ≡ []
-    nothing-comes last e = merged-nothing last xs (λ i l.
-        nothing-after (get_or (heads_of head xs) i None)
-        (subst (λ h. is_gt (head_cmp h (get_or (heads_of head xs) i None)) ≡ false) e
-        (up-to-front (head_cmp (get_or (heads_of head xs) first None) (get_or (heads_of head xs) i None)) (nat_cmp first i) (wins i l))))
+    nothing-comes last e = merged-nothing last xs (λ i l. nothing-after (get_or (heads_of head xs) i None) (up-to-first i e l))
 
-    wins-over : (i : ℕ) → i < length (lists_of head rest xs) → is_gt (lead_cmp (heads_of head xs) first i) ≡ false
-    wins-over i l = wins i (omega (arith, length-map xs (λ x. listed (head x) (rest x))))
+    within : {i : ℕ} → i < length (lists_of head rest xs) → i < length xs
+    within l = omega (arith, length-map xs (λ x. listed (head x) (rest x)))
 
     begins-first : ((x : X) → Rises entry_cmp (rest x)) → (e : Entry) → get_or (heads_of head xs) first None ≡ Some e
         → Begins entry_cmp entry_total e (lists_of head rest xs)
@@ -126,10 +128,8 @@ module _ {X : Type 0} (head : X → Option Occurrence) (rest : X → List Entry)
         begins-at entry_cmp entry_total lists first (all_rise rises xs) found.1.0
         (λ i l m. before-headed e (get_or heads i None) (get_or lists i []) (headed xs i)
         (subst (λ h. head_cmp h (get_or heads i None) ≡ Less) is
-        (strictly (head_cmp (get_or heads first None) (get_or heads i None)) (nat_cmp first i) (later first i l) (wins-over i m))))
-        (λ i l m. behind-headed e (get_or heads i None) (get_or lists i []) (headed xs i)
-        (subst (λ h. is_gt (head_cmp h (get_or heads i None)) ≡ false) is
-        (up-to-front (head_cmp (get_or heads first None) (get_or heads i None)) (nat_cmp first i) (wins-over i m))))
+        (strictly (head_cmp (get_or heads first None) (get_or heads i None)) (nat_cmp first i) (later first i l) (wins i (within m)))))
+        (λ i l m. behind-headed e (get_or heads i None) (get_or lists i []) (headed xs i) (up-to-first i is (within m)))
 
     -- where the first of all is not given, nothing of the lists was
     pub uncut-first : ((x : X) → Rises entry_cmp (rest x)) → (last : Option Occurrence) (o : Occurrence)
