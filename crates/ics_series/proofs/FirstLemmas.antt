@@ -32,9 +32,6 @@ start_total = then_total (on_total (λ s. s.moment) int_cmp_total) (on_total (λ
 pub moment_total : IsTotalOrder moment_cmp
 moment_total = on_total (λ s. s.moment) int_cmp_total
 
-up-to-back : (c d : Ordering) → c ≡ Equal → is_gt (ordering_then c d) ≡ false → is_gt d ≡ false
-up-to-back c d e h = subst (λ x. is_gt (ordering_then x d) ≡ false) e h
-
 pub same-moment : (s t : Start) → s.moment ≡ t.moment → moment_cmp s t ≡ Equal
 same-moment s t e = ap (int_cmp s.moment) (sym e) ∙ tied_itself int_cmp_total s.moment
 
@@ -114,7 +111,7 @@ in-firsts last s (x ∷ xs) h m =
     (λ n. ⊎_elim
     (λ f.
     let same = some-same x.moment s.moment f in
-    let back = up-to-back (moment_cmp x s) (source_cmp x.source s.source) (same-moment x s same) (up-to-in start_cmp x s xs h.0 n) in
+    let back : is_gt (source_cmp x.source s.source) ≡ false = rw (same-moment x s same) at (up-to-in start_cmp x s xs h.0 n) in
     record { start = x; stands = inl refl; same = same; earlier = source-order x.source s.source back })
     (λ f. record { start = f.start; stands = inr f.stands; same = f.same; earlier = f.earlier })
     (in-firsts (Some x.moment) s xs h.1 n))

@@ -50,9 +50,7 @@ module _ {A B : Type 0} (f : A → B) (same : B → B → Bool) where
 
   lasts-map : (xs : List A) → lasts same (map f xs) ≡ map f (lasts (on f same) xs)
   lasts-map [] = refl
-  lasts-map (x ∷ xs) =
-      ap (λ b. cond b (lasts same (map f xs)) (f x ∷ lasts same (map f xs))) (is_followed-map x xs)
-      ∙ lasts-map-by x xs (is_followed (on f same) x xs) (lasts-map xs)
+  lasts-map (x ∷ xs) = rw (is_followed-map x xs) (lasts-map-by x xs (is_followed (on f same) x xs) (lasts-map xs))
 
 pub found : {files : List FileSaid} {display : Clock} {vs ws last : List Version} → map seen vs ≡ map (label_of files display) (placed_in 0 files) →
     IsPermutation vs ws → Climbs (on seen label_cmp) ws
