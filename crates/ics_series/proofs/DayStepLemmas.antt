@@ -107,11 +107,9 @@ module _ (s : Scope) (day : ℤ) (looked : ℕ) (before : IsLookedBefore s day l
 pub first-day : (w : Window) {day : ℤ} (xs : List Entry) (later : List OnDay) {list : List OnDay} → list ≡ map (on_day day) xs ++ later
     → ((p : OnDay) → IsIn p later → day <ℤ p.day)
     → day ≤ℤ last_near w → day ≤ℤ first_under w list
-first-day w {day = day} (x ∷ xs) later e h l = subst (λ (ps : List OnDay). day ≤ℤ first_under w ps) (sym e) (omega (arith, ints))
-first-day w {day = day} [] [] e h l = subst (λ (ps : List OnDay). day ≤ℤ first_under w ps) (sym e) l
-first-day w {day = day} [] (p ∷ later) e h l =
-    let less = h p (inl refl) in
-    subst (λ (ps : List OnDay). day ≤ℤ first_under w ps) (sym e) (omega (arith, ints, less))
+first-day w (x ∷ xs) later e h l = rw e (omega (arith, ints))
+first-day w [] [] e h l = rw e l
+first-day w [] (p ∷ later) e h l = let less = h p (inl refl) in rw e (omega (arith, ints, less))
 
 -- On the day of a key the search begins at the start in it, and on later days it need not.
 pub from-start : (after : Option DayRank) (day : ℤ) (key : Option Rank) → IsBehindKey after day key → (since : ℤ) → IsFrom key since

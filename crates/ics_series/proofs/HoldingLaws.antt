@@ -1,7 +1,7 @@
 -- What the feeds of some masters hold together is at most what these masters may hold.
 use Rattle.std.specs.Prelude.{sum_by}
 use Rattle.std.specs.List.{flat_map, sum}
-use Rattle.std.proofs.Common.{◌≡◌, ℕ, ◌+◌, ◌≤◌, ℤ, List, [], ◌∷◌, ◌++◌, cond, length, map, Option, Some, None, refl, sym, ◌∙◌, ap, subst, arith}
+use Rattle.std.proofs.Common.{◌≡◌, ℕ, ◌+◌, ◌≤◌, ℤ, List, [], ◌∷◌, ◌++◌, cond, length, map, Option, Some, None, refl, sym, ◌∙◌, ap, arith}
 use Rattle.std.proofs.lemmas.List.{length-append, length-map}
 use Rattle.std.proofs.lemmas.List.Sums.{sum-map, sum_by-append, sum_by-cons}
 use Rattle.std.proofs.lemmas.Simd.{map-map}
@@ -28,9 +28,7 @@ use Rattle.ics_series.proofs.RuleStepLemmas.{few-held}
 rule-few : (zones : FileZones) (event : Event) (w : Window) (first : ℤ) (o : Option RuleStarts) → HasOwnRule zones event w first o →
     length (rule_held o) ≤ most_in_days (clocks_in zones) event
 rule-few zones event w first None h = omega arith
-rule-few zones event w first (Some s) h =
-    subst (λ z. length s.held.items ≤ most_in_days (clocks_in z) event) h.zones_are
-    (subst (λ e. length s.held.items ≤ most_in_days (clocks_in s.zones) e) h.event_is (few-held s))
+rule-few zones event w first (Some s) h = rw (h.zones_are, h.event_is) at (few-held s)
 
 -- a series holds no more than its event has starts in any five days
 pub series-few : (s : SeriesFeed) → length (series_holds s) ≤ most_in_days (clocks_in s.zones) s.event.now
