@@ -172,8 +172,7 @@ pub past-drawn : (last head : Option Occurrence) (rest : List Entry) → IsAhead
     past last rest ≡ past last (listed head rest)
 past-drawn (Some p) (Some o) rest a g =
     let tied : entry_cmp (entry_of p) (entry_of o) ≡ Equal = eq-Equal (entry_cmp (entry_of p) (entry_of o)) g in
-    cut-before entry_cmp entry_total (entry_of p) rest (before-tied entry_cmp entry_total (entry_of p) (entry_of o) rest tied a)
-    ∙ sym (ap (λ c. by_order c (entry_of o ∷ rest) rest (entry_of o ∷ rest)) tied)
+    rw tied (cut-before entry_cmp entry_total (entry_of p) rest (before-tied entry_cmp entry_total (entry_of p) (entry_of o) rest tied a))
 past-drawn _ _ rest a g = cc
 
 -- and shortens the list
