@@ -220,7 +220,8 @@ module _ (clocks : Clocks) (event : Event) (test : ℤ → Bool) (time : IsTime 
   giving =
       both-count (kept-counts (recurrence_of event) refl)
       (subst (Counts IsRawListed) (by-places is_there event.rdates)
-      (passing (λ k. Listed k) (λ k n l. source-before (Listed k) (Listed n) (λ h. omega (arith, l, h))) (λ k. at_place is_there (slice_get event.rdates k)) (length event.rdates)))
+      (passing (λ k. Listed k) (λ k n l. source-before (Listed k) (Listed n) (λ h. omega (arith, l, h)))
+      (λ k. at_place is_there (slice_get event.rdates k)) (length event.rdates)))
       kept-before source-raw raw-source
 
 kept-counted : (clocks : Clocks) (event : Event) (day : ℤ) (time : IsTime event.start) (o : Option Recurrence) →
