@@ -1,18 +1,19 @@
 -- What a rule chooses within a period is what the product that holds the period takes.
-use Rattle.std.proofs.Common.{◌≡◌, ℕ, suc, ◌+◌, Bool, true, false, ◌&&◌, ◌==◌, refl, sym, ap, ◌∙◌, arith}
+use Rattle.std.proofs.Common.{◌≡◌, ℕ, suc, ◌+◌, ◌-◌, ◌<◌, max, Bool, true, false, ◌&&◌, ◌||◌, ◌==◌, refl, sym, ap, ◌∙◌, arith}
 use Rattle.std.proofs.lemmas.Bool.{and_right, eq-eqb, eqb-true}
 use Rattle.ics_fields.specs.declared.ordinals.WideOrdinals.{WideOrdinals}
 use Rattle.ics_fields.specs.Ordinals.{lists_none_wide}
 use Rattle.ics_rule.specs.declared.effective_rule.EffectiveRule.{EffectiveRule}
 use Rattle.ics_rule.specs.declared.recurrence_period.RecurrencePeriod.{RecurrencePeriod}
 use Rattle.ics_rule.specs.PeriodNumbers.{day_of}
-use Rattle.ics_rule.specs.Candidates.{is_stepped, is_candidate_in, period_in, lets_date, lets_clock, lists_wide}
+use Rattle.ics_rule.specs.Candidates.{is_stepped, is_candidate_in, period_in, lets_date, lets_clock}
 use Rattle.ics_rule.specs.Kept.{count, is_beside, rank, size, is_placed, is_chosen}
 use Rattle.ics_rule.specs.RecurrencePeriods.{holds, is_let_in, IsPeriodOf, is_listed, is_taken}
 use Rattle.ics_rule.specs.Searches.{is_chosen_within}
+use Rattle.ics_rule.specs.ByTable.{is_nth}
 use Rattle.ics_rule.proofs.Counts.{count-same, count-suc, count_one}
 use Rattle.ics_fields.specs.Locals.{calendar_end}
-use Rattle.ics_rule.proofs.RunLemmas.{guard}
+use Rattle.ics_rule.proofs.RankLemmas.{rank_listed}
 use Rattle.ics_rule.proofs.Tests.{and_assoc, keep_true, swapped}
 
 -- outside of the steps nothing is chosen
@@ -38,36 +39,53 @@ taken_out : (positions : WideOrdinals) (b : Bool) (p : RecurrencePeriod) (n : �
 taken_out positions true p n e = e
 taken_out positions false p n e = ap (λ x. x && is_listed positions (count calendar_end (holds p)) (count n (holds p))) e
 
+-- what stands beside n is what the rule lets in in the period of n
+pub beside_let_in : (q : EffectiveRule) (start number n m : ℕ) → is_stepped (period_in q start) q.interval number ≡ true → period_in q n ≡ number →
+    is_beside q start n m ≡ is_let_in q number m
+beside_let_in q start number n m step here = ap (λ x. is_candidate_in q start m && period_in q m == x) here
+    ∙ swapped (is_candidate_in q start m) (period_in q m == number) (lets_date q (day_of m) && lets_clock q m)
+    (λ e. let_in q start number m step (eqb-true (period_in q m) number e) ∙ ap (λ x. x && (lets_date q (day_of m) && lets_clock q m)) e)
+
+-- the places of n, by the set that stands beside it
+module _ (q : EffectiveRule) (start n : ℕ) (set : ℕ → Bool) (same : (m : ℕ) → m < max (suc n) calendar_end → is_beside q start n m ≡ set m) where
+  pub ranked : rank q start n ≡ count (suc n) set
+  ranked = count-same (suc n) (is_beside q start n) set (λ m l. same m (omega (arith, l)))
+
+  pub sized : size q start n ≡ count calendar_end set
+  sized = count-same calendar_end (is_beside q start n) set (λ m l. same m (omega (arith, l)))
+
+  -- they are those of the nth of the set
+  nth_placed : set n ≡ true → (b : Bool) → is_placed q start b n ≡ (b || is_nth q.positions set n)
+  nth_placed here true = refl
+  nth_placed here false =
+      let last = count-suc n set in
+      let one = count_one (set n) here in
+      let from_end : size q start n + 1 - rank q start n ≡ count calendar_end set - count n set = omega (arith, ranked, sized, last, one) in
+      rw (from_end, ranked) refl
+
+by_parts : (step i : Bool) {c placed nth : Bool} → c ≡ (step && i) → (step ≡ true → i ≡ true → placed ≡ nth) → (c && placed) ≡ (step && (i && nth))
+by_parts step i h l = grind arith
+
+-- a candidate is chosen by its place in the set that stands beside it
+pub chosen_by : (q : EffectiveRule) (start n : ℕ) (step i : Bool) (set : ℕ → Bool) → is_candidate_in q start n ≡ (step && i) → set n ≡ i
+    → (step ≡ true → (m : ℕ) → m < max (suc n) calendar_end → is_beside q start n m ≡ set m)
+    → is_chosen q start n ≡ (step && (i && (lists_none_wide q.positions || is_nth q.positions set n)))
+chosen_by q start n step i set candidate here beside =
+    by_parts step i candidate (λ s e. nth_placed q start n set (beside s) (here ∙ e) (lists_none_wide q.positions))
+
 module _ (q : EffectiveRule) (start : ℕ) (p : RecurrencePeriod) (own : IsPeriodOf q p) (step : is_stepped (period_in q start) q.interval p.number ≡ true) where
   candidate_here : (n : ℕ) → period_in q n ≡ p.number → is_candidate_in q start n ≡ holds p n
   candidate_here n here = let_in q start p.number n step here ∙ sym (own.members n)
 
   -- what stands beside n is what the product holds
   beside : (n m : ℕ) → period_in q n ≡ p.number → is_beside q start n m ≡ holds p m
-  beside n m here = ap (λ x. is_candidate_in q start m && period_in q m == x) here
-      ∙ swapped (is_candidate_in q start m) (period_in q m == p.number) (lets_date q (day_of m) && lets_clock q m)
-      (λ e. candidate_here m (eqb-true (period_in q m) p.number e) ∙ own.members m ∙ ap (λ x. x && (lets_date q (day_of m) && lets_clock q m)) e)
-      ∙ sym (own.members m)
-
-  -- the size is the product's
-  size_is : (n : ℕ) → period_in q n ≡ p.number → size q start n ≡ count calendar_end (holds p)
-  size_is n here = count-same calendar_end (is_beside q start n) (holds p) (λ m l. beside n m here)
-
-  -- and the rank of a local that it holds is one more than how many it holds before
-  rank_is : (n : ℕ) → period_in q n ≡ p.number → holds p n ≡ true → rank q start n ≡ count n (holds p) + 1
-  rank_is n here e =
-      let all = count-same (suc n) (is_beside q start n) (holds p) (λ m l. beside n m here) in
-      let last = count-suc n (holds p) in
-      let one = count_one (holds p n) e in
-      omega (arith, all, last, one)
+  beside n m here = beside_let_in q start p.number n m step here ∙ sym (own.members m)
 
   chosen_here : (n : ℕ) → period_in q n ≡ p.number → (b : Bool) → is_taken q.positions b p n ≡ (is_candidate_in q start n && is_placed q start b n)
   chosen_here n here true = sym (keep_true (is_candidate_in q start n) ∙ candidate_here n here)
   chosen_here n here false =
-      guard (holds p n) (is_listed q.positions (count calendar_end (holds p)) (count n (holds p))) (is_placed q start false n)
-      (λ e. sym (ap (λ x. lists_wide q.positions x (size q start n)) (rank_is n here e)
-      ∙ ap (λ x. lists_wide q.positions (count n (holds p) + 1) x) (size_is n here)))
-      ∙ ap (λ x. x && is_placed q start false n) (sym (candidate_here n here))
+      rw (candidate_here n here, ranked q start n (holds p) (λ m l. beside n m here), sized q start n (holds p) (λ m l. beside n m here))
+      (sym (rank_listed q.positions (holds p) n (count calendar_end (holds p))))
 
   pub taken_is : (n : ℕ) → is_taken q.positions (lists_none_wide q.positions) p n ≡ is_chosen_within q start p.number n
   taken_is n =

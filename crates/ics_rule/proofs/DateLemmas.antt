@@ -36,7 +36,7 @@ all_in e p q r s = rw (p, q, r, s) refl
 pub none_nth : (p : Ordinals) (n size : ℕ) → lists_none p ≡ true → lists_nth p n size ≡ false
 none_nth p n size h = grind (arith, nat_tests, and_parts, bit_at-zero, zero_of)
 
-none_numbered : (f : Frequency) (q : EffectiveRule) (p : Ordinals) (e : ℕ) → lists_none p ≡ true → lets_numbered f q p e ≡ false
+pub none_numbered : (f : Frequency) (q : EffectiveRule) (p : Ordinals) (e : ℕ) → lists_none p ≡ true → lets_numbered f q p e ≡ false
 none_numbered f q p e h = grind (arith, nat_tests, none_nth)
 
 pub weekday_out : (q : EffectiveRule) (e : ℕ) → (lists_no_weekday q.weekdays || contains q.weekdays.plain (weekday_of e)) ≡ false →

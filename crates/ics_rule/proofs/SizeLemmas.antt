@@ -1,21 +1,21 @@
 -- Of the size of a period, the number of locals that a rule allows there, depends how many are chosen.
-use Rattle.std.proofs.Common.{◌≡◌, ℕ, suc, ◌+◌, ◌*◌, ◌<◌, ◌≤◌, ◌≢◌, Bool, true, false, ◌&&◌, ◌==◌, sym, ap, ◌∙◌, arith}
-use Rattle.std.proofs.lemmas.Bool.{eq-eqb, eqb-true, ne_eqb}
+use Rattle.std.proofs.Common.{◌≡◌, ℕ, suc, ◌+◌, ◌*◌, ◌<◌, ◌≤◌, ◌≢◌, Bool, true, false, ◌&&◌, sym, ap, ◌∙◌, arith}
+use Rattle.std.proofs.lemmas.Bool.{eq-eqb, ne_eqb}
 use Rattle.jiff_core.specs.Weekday.{monday_zero}
 use Rattle.ics_fields.specs.Ordinals.{lists_none_wide}
 use Rattle.ics_rule.specs.declared.effective_rule.EffectiveRule.{EffectiveRule}
 use Rattle.ics_rule.specs.PeriodNumbers.{day_of}
-use Rattle.ics_rule.specs.Candidates.{lets_date, lets_clock, lists_wide, is_stepped, is_candidate_in, period_in}
-use Rattle.ics_rule.specs.Kept.{count, is_beside, rank, size, is_placed, is_chosen}
+use Rattle.ics_rule.specs.Candidates.{lets_date, lets_clock, lists_wide, is_stepped, period_in}
+use Rattle.ics_rule.specs.Kept.{count, rank, size, is_placed, is_chosen}
 use Rattle.ics_rule.specs.RecurrencePeriods.{first_local, is_let_in, is_listed}
 use Rattle.ics_rule.specs.Rounds.{chosen_to}
 use Rattle.ics_rule.proofs.Counts.{count-same, count-add, count-from}
 use Rattle.ics_rule.proofs.RankLemmas.{count_flat, count-ranked, rank_listed}
 use Rattle.ics_rule.proofs.PeriodLemmas.{begun, begins, is_short, before_first}
-use Rattle.ics_rule.proofs.ChosenLemmas.{let_in}
+use Rattle.ics_rule.proofs.ChosenLemmas.{let_in, beside_let_in, ranked, sized}
 use Rattle.ics_rule.proofs.FlatLemmas.{is_allowed, allowed_before}
 use Rattle.ics_fields.specs.Locals.{calendar_end}
-use Rattle.ics_rule.proofs.Tests.{keep_true, swapped}
+use Rattle.ics_rule.proofs.Tests.{keep_true}
 
 -- no period is longer
 abbrev pub longest : ℕ
@@ -59,11 +59,6 @@ module _ (q : EffectiveRule) (start x : ℕ) (step : is_stepped (period_in q sta
   let_out : (n : ℕ) → period_in q n ≢ x → is_let_in q x n ≡ false
   let_out n other = ap (λ y. y && (lets_date q (day_of n) && lets_clock q n)) (ne_eqb (period_in q n) x other)
 
-  beside : (n m : ℕ) → period_in q n ≡ x → is_beside q start n m ≡ is_let_in q x m
-  beside n m here = ap (λ y. is_candidate_in q start m && period_in q m == y) here
-      ∙ swapped (is_candidate_in q start m) (period_in q m == x) (lets_date q (day_of m) && lets_clock q m) (λ same. let_in q start x m step
-      (eqb-true (period_in q m) x same) ∙ ap (λ y. y && (lets_date q (day_of m) && lets_clock q m)) same)
-
   none_before : (m : ℕ) → m < a → is_let_in q x m ≡ false
   none_before m h = let_out m (λ same. let b = begun q.frequency (monday_zero q.week_start) x m (omega (arith, same)) in omega (arith, b, h))
 
@@ -74,13 +69,13 @@ module _ (q : EffectiveRule) (start x : ℕ) (step : is_stepped (period_in q sta
   rank_is : (k : ℕ) → period_in q (a + k) ≡ x → rank q start (a + k) ≡ count (suc k) t
   rank_is k here =
       let whole : suc (a + k) ≡ a + suc k = omega arith in
-      count-same (suc (a + k)) (is_beside q start (a + k)) (is_let_in q x) (λ m l. beside (a + k) m here)
+      ranked q start (a + k) (is_let_in q x) (λ m l. beside_let_in q start x (a + k) m step here)
       ∙ ap (λ y. count y (is_let_in q x)) whole
       ∙ count-from a (suc k) (is_let_in q x) none_before
 
   size_is : (k : ℕ) → period_in q (a + k) ≡ x → size q start (a + k) ≡ count longest t
   size_is k here =
-      count-same calendar_end (is_beside q start (a + k)) (is_let_in q x) (λ m l. beside (a + k) m here)
+      sized q start (a + k) (is_let_in q x) (λ m l. beside_let_in q start x (a + k) m step here)
       ∙ count_flat (a + 366 * 86_400) calendar_end (is_let_in q x) inside (λ m l u. none_late m l)
       ∙ count-from a longest (is_let_in q x) none_before
 

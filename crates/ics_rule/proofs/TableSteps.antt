@@ -1,47 +1,31 @@
--- The table's parts, one by one: what each lets in, and what DTSTART still gives.
-use Rattle.std.proofs.Common.{◌≡◌, ℕ, suc, ◌+◌, ◌-◌, Bool, true, false, not, ◌&&◌, ◌||◌, ◌==◌, if◌then◌else◌, refl, sym, ap, ◌∙◌, arith}
-use Rattle.std.proofs.lemmas.Bool.{and_parts}
+-- What the parts of an effective rule let in, by those of the rule and by what DTSTART gives.
+use Rattle.std.proofs.Common.{◌≡◌, ℕ, suc, ◌+◌, ◌-◌, ◌*◌, ◌/◌, ◌%◌, Bool, true, false, ◌&&◌, ◌||◌, ◌==◌, if◌then◌else◌, refl, sym}
+use Rattle.std.proofs.Common.{ap, ◌∙◌, arith}
+use Rattle.std.proofs.lemmas.Bool.{and_right}
 use Rattle.std.proofs.lemmas.Bool.Decides.{nat_tests}
 use Rattle.std.proofs.lemmas.Nat.{pow_pos}
 use Rattle.std.proofs.lemmas.Nat.Bits.{bit_at-zero}
+use Rattle.ics_fields.specs.declared.frequency.Frequency.{Frequency}
+use Rattle.ics_fields.specs.declared.frequency.Frequency.TheVariants.{Weekly}
 use Rattle.ics_fields.specs.declared.ordinals.Ordinals.{Ordinals}
 use Rattle.ics_fields.specs.declared.ordinals.Weekdays.{Weekdays}
+use Rattle.ics_fields.specs.Days.{day_index, weekday_of}
 use Rattle.ics_fields.specs.Sets.{is_empty, contains, only}
-use Rattle.ics_fields.specs.Ordinals.{no_ordinals, no_weekdays, numbers_of, lists_no_weekday}
+use Rattle.ics_fields.specs.Ordinals.{no_ordinals, no_weekdays, numbers_of, lists_none, lists_no_weekday}
+use Rattle.ics_rule.specs.declared.kind.Kind.{Kind}
+use Rattle.ics_rule.specs.declared.kind.Kind.TheVariants.{Date, DateTime}
+use Rattle.ics_rule.specs.Recurrence.{Recurrence}
+use Rattle.ics_rule.specs.PeriodNumbers.{day_of}
+use Rattle.ics_rule.specs.declared.effective_rule.EffectiveRule.{EffectiveRule}
+use Rattle.ics_rule.specs.EffectiveRules.{takes_month_day, takes_month, takes_weekday, skips_hours, skips_minutes, skips_seconds, clock_part, effective}
 use Rattle.ics_rule.specs.EffectiveRules.{only_place, only_weekday}
-use Rattle.ics_rule.specs.Candidates.{lets, lets_place}
-use Rattle.ics_rule.specs.ByTable.{Instance, Instances}
+use Rattle.ics_rule.specs.Candidates.{lets, lets_place, lists, lets_numbered, lets_weekday}
+use Rattle.ics_rule.specs.Table.{ByMonth, ByWeekNo, ByMonthDay, ByDay, ByHour, ByMinute, BySecond}
+use Rattle.ics_rule.specs.ByTable.{instance_of, start_of, is_absent, is_listed, is_clockless, weekday_unit, lists_nth_in}
+use Rattle.ics_rule.specs.PlainReading.{applies, is_extracted}
+use Rattle.ics_rule.proofs.DateLemmas.{none_numbered}
 use Rattle.ics_rule.proofs.ScanLemmas.{contains-only}
-use Rattle.ics_rule.proofs.Tests.{keep_true, or_false, iff}
-
-pub or_assoc : (a b c : Bool) → (a || (b || c)) ≡ (a || b || c)
-or_assoc a b c = grind arith
-
--- a part that is absent, or limits; and one that the table has not
-pub limited : (a l x : Bool) → (if a then x else (l && x)) ≡ ((a || l) && x)
-limited a l x = grind arith
-
-pub passed : (a x : Bool) → (if a then x else x) ≡ x
-passed a x = grind arith
-
--- a part that is absent, or expands: an instance is kept, or has from DTSTART what the part gives
-pub expanded : (a l : Bool) (set : Instances) (from : Bool → Instance) → (if a then set (from true) else (l && set (from false))) ≡ ((a || l) && set (from a))
-expanded a l set from = grind arith
-
--- BYWEEKNO gives the weekday w too
-pub week_expanded : (a w l : Bool) (set : Instances) (from : Bool → Instance)
-    → (if a then set (from true) else ((w && l) && set (from false))) ≡ ((a || w) && ((a || l) && set (from a)))
-week_expanded a w l set from = grind arith
-
--- BYDAY expands where b holds, else it limits
-pub noted : (a b l : Bool) (set : Instances) (from : Bool → Instance)
-    → (if a then set (from true) else (if b then (l && set (from false)) else (l && set (from true)))) ≡ ((a || l) && set (from (a || not b)))
-noted a b l set from = grind arith
-
--- What lets a field in, where t tells that DTSTART gives it.
-pub given : (t let_in own : Bool) → (t ≡ true → let_in ≡ true) → (let_in && (if t then own else true)) ≡ (if t then own else let_in)
-given true let_in own h = ap (λ x. x && own) (h refl)
-given false let_in own h = keep_true let_in
+use Rattle.ics_rule.proofs.Tests.{or_false}
 
 none_only : (s : ℕ) → is_empty (only s) ≡ false
 none_only s = grind (arith, nat_tests, pow_pos)
@@ -50,11 +34,11 @@ has_none : (n : ℕ) → contains 0 n ≡ false
 has_none n = ap (λ x. x == 1) (bit_at-zero n)
 
 -- a set, places and weekdays, or DTSTART's own alone
-pub only_number : (t : Bool) (s own n : ℕ) → lets (if t then only own else s) n ≡ (if t then (n == own) else lets s n)
+only_number : (t : Bool) (s own n : ℕ) → lets (if t then only own else s) n ≡ (if t then (n == own) else lets s n)
 only_number true s own n = ap (λ x. x || contains (only own) n) (none_only own) ∙ contains-only own n
 only_number false s own n = refl
 
-pub only_day : (t : Bool) (p : Ordinals) (own n size : ℕ) →
+only_day : (t : Bool) (p : Ordinals) (own n size : ℕ) →
     lets_place (if t then only_place own else p) n size ≡ (if t then (n == own) else lets_place p n size)
 only_day true p own n size = rw (none_only own, has_none (size + 1 - n), contains-only own n) (or_false (n == own))
 only_day false p own n size = refl
@@ -63,57 +47,110 @@ no_number : (n : ℕ) → numbers_of no_weekdays n ≡ no_ordinals
 no_number (suc (suc (suc (suc (suc (suc (suc n))))))) = refl
 no_number n = refl
 
-pub only_this_weekday : (t : Bool) (ws : Weekdays) (own n : ℕ) (test : Ordinals → Bool) → (t ≡ true → test no_ordinals ≡ false)
+only_this_weekday : (t : Bool) (ws : Weekdays) (own n : ℕ) (test : Ordinals → Bool) → test no_ordinals ≡ false
     → (lists_no_weekday (if t then only_weekday own else ws) || contains (if t then only_weekday own else ws).plain n
     || test (numbers_of (if t then only_weekday own else ws) n))
     ≡ (if t then (n == own) else (lists_no_weekday ws || contains ws.plain n || test (numbers_of ws n)))
-only_this_weekday true ws own n test h = rw (none_only own, no_number n, h refl, contains-only own n) (or_false (n == own))
+only_this_weekday true ws own n test h = rw (none_only own, no_number n, h, contains-only own n) (or_false (n == own))
 only_this_weekday false ws own n test h = refl
 
--- what the parts of the date let in, by the instance as each finds it, and what DTSTART gives
-pub record DateTests : Type 0 where
-  pub weekday : Bool
-  pub month_day : Bool
-  pub year_day : Bool
-  pub week_weekday : Bool
-  pub week : Bool
-  pub month : Bool
-  pub period : Bool
-  pub own_weekday : Bool
-  pub own_month : Bool
-  pub own_month_day : Bool
+-- a part that is absent takes DTSTART's own, or all
+pub by_absence : (absent from x own : Bool) {t y : Bool} → t ≡ (from && absent) → (absent ≡ false → x ≡ y)
+    → (if t then own else (absent || x)) ≡ (if absent then (if from then own else true) else y)
+by_absence absent from x own taken same = grind arith
 
--- the same for the clock
-pub record ClockTests : Type 0 where
-  pub second : Bool
-  pub minute : Bool
-  pub hour : Bool
-  pub own_hour : Bool
-  pub own_minute : Bool
-  pub own_second : Bool
+month_taken : (f : Frequency) (r : Recurrence) → takes_month f r.parts ≡ (is_extracted r f ByMonth && is_absent r ByMonth)
+month_taken f r = grind arith
 
--- the tests in the order of the steps, and by subject
-pub in_order : (d : DateTests) (c : ClockTests)
-    → (c.second && (c.minute && (c.hour && (d.weekday && (d.month_day && (d.year_day && (d.week_weekday && (d.week && (d.month && (d.period
-    && (d.own_weekday && (d.own_month && (d.own_month_day && (c.own_hour && (c.own_minute && c.own_second)))))))))))))))
-    ≡ (d.period && (((((d.month && d.own_month) && (d.month_day && d.own_month_day)) && d.year_day) && d.week)
-    && (d.weekday && (d.week_weekday && d.own_weekday)) && (((c.hour && c.own_hour) && (c.minute && c.own_minute)) && (c.second && c.own_second))))
-in_order d c = iff _ _ (λ h. grind arith) (λ h. grind (arith, and_parts))
+kept_first : (m y b w : Bool) → (m && y && b && w) ≡ ((m && y && b && w) && m)
+kept_first m y b w = grind arith
 
-pub by_date : {m m' d d' y y' w w' b b' : Bool} → m ≡ m' → d ≡ d' → y ≡ y' → w ≡ w' → b ≡ b' → (m && d && y && w && b) ≡ (m' && d' && y' && w' && b')
-by_date m d y w b = rw (m, d, y, w, b) refl
+day_taken : (f : Frequency) (r : Recurrence) → takes_month_day f r.parts ≡ (is_extracted r f ByMonthDay && is_absent r ByMonthDay)
+day_taken f r = grind (arith, kept_first)
 
-pub by_clock : {h h' i i' s s' : Bool} → h ≡ h' → i ≡ i' → s ≡ s' → (h && i && s) ≡ (h' && i' && s')
-by_clock h i s = rw (h, i, s) refl
+-- the clock
+clock : (kind : Kind) {takes from : Bool} (set own n : ℕ) → takes ≡ from → (kind ≡ Date → (takes ≡ true) × (own ≡ 0))
+    → lets (clock_part kind takes set own) n ≡ (if (is_clockless kind || is_empty set) then (if from then (n == own) else true) else contains set n)
+clock Date {from = from} set own n same date =
+    let midnight = date refl in
+    ap (λ z. lets (only z) n) (sym midnight.1) ∙ only_number true 0 own n ∙ ap (λ b. if b then (n == own) else true) (sym midnight.0 ∙ same)
+clock DateTime {takes = takes} {from = from} set own n same date =
+    only_number (takes && is_empty set) set own n
+    ∙ by_absence (is_empty set) from (contains set n) (n == own) (ap (λ x. x && is_empty set) same) (λ e. refl)
 
-pub by_subject : {a a' b b' : Bool} → a ≡ a' → b ≡ b' → (a && b) ≡ (a' && b')
-by_subject a b = rw (a, b) refl
+hour_taken : (f : Frequency) (r : Recurrence) → skips_hours f ≡ is_extracted r f ByHour
+hour_taken f r = grind arith
 
--- two numbers
-pub both_true : (a b c : Bool) → c ≡ (a && b) → c ≡ true → (a ≡ true) × (b ≡ true)
-both_true true b c e h = (refl, sym e ∙ h)
-both_true false b c e h = absurd (cc)
+minute_taken : (f : Frequency) (r : Recurrence) → (skips_minutes f ≡ is_extracted r f ByMinute) × (skips_hours f ≡ true → skips_minutes f ≡ true)
+minute_taken f r = grind arith
 
--- a test that counts only where another passes
-pub chosen_where : {c : Bool} (step i : Bool) {placed nth : Bool} → c ≡ (step && i) → (c ≡ true → placed ≡ nth) → (c && placed) ≡ (step && (i && nth))
-chosen_where step i h l = grind (arith, nat_tests)
+second_taken : (f : Frequency) (r : Recurrence) → (skips_seconds f ≡ is_extracted r f BySecond) × (skips_hours f ≡ true → skips_seconds f ≡ true)
+second_taken f r = grind arith
+
+-- midnight
+midnight : (d s : ℕ) → s ≡ 0 → ((d * 86_400 + s) / 3_600 % 24 ≡ 0) × (((d * 86_400 + s) / 60 % 60 ≡ 0) × ((d * 86_400 + s) % 60 ≡ 0))
+midnight d s h = (omega (arith, h), (omega (arith, h), omega (arith, h)))
+
+-- beside BYDAY no month is taken
+no_month_taken : (f : Frequency) (r : Recurrence) → is_absent r ByDay ≡ false → takes_month f r.parts ≡ false
+no_month_taken f r h = grind (arith, and_right)
+
+-- BYDAY counts in its unit
+by_unit : (f : Frequency) (r : Recurrence) (q : EffectiveRule) (p : Ordinals) (n h m s : ℕ) → lists_none q.weeks ≡ is_absent r ByWeekNo
+    → is_empty q.months ≡ is_absent r ByMonth → (weekday_unit r f ≡ Weekly → lists_none p ≡ true)
+    → lets_numbered f q p (day_of n) ≡ lists_nth_in (weekday_unit r f) p (record (instance_of r.parts n) { hour = h; minute = m; second = s })
+by_unit f r q p n h m s weeks months none = grind arith
+
+module _ (r : Recurrence) (n : ℕ) where
+  pub months_let_in : lets (effective r).months n ≡ applies r ByMonth (contains r.parts.months n) (n == (start_of r).month)
+  unfolding effective
+  months_let_in = grind (arith, by_absence, month_taken, only_number)
+
+  pub month_days_let_in : (size : ℕ) → lets_place (effective r).month_days n size
+      ≡ applies r ByMonthDay (lists r.parts.month_days n size) (n == (start_of r).month_day)
+  unfolding effective
+  month_days_let_in size =
+      only_day (takes_month_day r.parts.frequency r.parts) r.parts.month_days (start_of r).month_day n size
+      ∙ by_absence (is_absent r ByMonthDay) (is_extracted r r.parts.frequency ByMonthDay) (lists r.parts.month_days n size) (n == (start_of r).month_day)
+      (day_taken r.parts.frequency r) (λ e. refl)
+
+  -- BYDAY, by its numbers in their unit, whatever the time of day
+  pub weekdays_let_in : (h m s : ℕ) → (weekday_unit r r.parts.frequency ≡ Weekly → (w : ℕ) → lists_none (numbers_of r.parts.weekdays w) ≡ true)
+      → lets_weekday (effective r) (day_of n) ≡ (if takes_weekday r.parts.frequency r.parts then (weekday_of (day_of n) == (start_of r).weekday)
+      else (is_absent r ByDay || is_listed r ByDay (record (instance_of r.parts n) { hour = h; minute = m; second = s })))
+  unfolding effective
+  weekdays_let_in h m s none =
+      let f = r.parts.frequency in
+      let w = weekday_of (day_of n) in
+      let own = (start_of r).weekday in
+      let b = is_absent r ByDay in
+      let plain = contains r.parts.weekdays.plain w in
+      let numbers = numbers_of r.parts.weekdays w in
+      only_this_weekday (takes_weekday f r.parts) r.parts.weekdays own w
+      (λ p. lets_numbered f (effective r) p (day_of n)) (none_numbered f (effective r) no_ordinals (day_of n) refl)
+      ∙ ap (λ x. if takes_weekday f r.parts then (w == own) else x)
+      (sooner b plain (λ some. by_unit f r (effective r) numbers n h m s refl
+      (ap (λ t. is_empty (if t then only (start_of r).month else r.parts.months)) (no_month_taken f r some)) (λ unit. none unit w)))
+    where
+      sooner : (b plain : Bool) {x y : Bool} → (b ≡ false → x ≡ y) → (b || plain || x) ≡ (b || (plain || y))
+      sooner b plain h = grind arith
+
+  module _ (dates : r.kind ≡ Date → (skips_hours r.parts.frequency ≡ true) × (r.start.second ≡ 0)) where
+    pub hours_let_in : lets (effective r).hours n ≡ applies r ByHour (contains r.parts.hours n) (n == (start_of r).hour)
+    unfolding effective
+    hours_let_in = clock r.kind r.parts.hours (start_of r).hour n (hour_taken r.parts.frequency r)
+        (λ date. ((dates date).0, (midnight (day_index r.start.day) r.start.second (dates date).1).0))
+
+    pub minutes_let_in : lets (effective r).minutes n ≡ applies r ByMinute (contains r.parts.minutes n) (n == (start_of r).minute)
+    unfolding effective
+    minutes_let_in =
+        let taken = minute_taken r.parts.frequency r in
+        clock r.kind r.parts.minutes (start_of r).minute n taken.0
+        (λ date. (taken.1 (dates date).0, (midnight (day_index r.start.day) r.start.second (dates date).1).1.0))
+
+    pub seconds_let_in : lets (effective r).seconds n ≡ applies r BySecond (contains r.parts.seconds n) (n == (start_of r).second)
+    unfolding effective
+    seconds_let_in =
+        let taken = second_taken r.parts.frequency r in
+        clock r.kind r.parts.seconds (start_of r).second n taken.0
+        (λ date. (taken.1 (dates date).0, (midnight (day_index r.start.day) r.start.second (dates date).1).1.1))
