@@ -1,25 +1,25 @@
 -- The days that months list, by their dates, and what is left to ask of them.
-use Rattle.std.proofs.Common.{◌≡◌, ℕ, zero, suc, ◌+◌, ◌-◌, ◌*◌, ◌/◌, ◌%◌, ◌<◌, ◌≤◌, inl, inr, Bool, true, false, not, ◌==◌, ◌||◌, ◌&&◌, nat_lt, nat_le}
-use Rattle.std.proofs.Common.{if◌then◌else◌, pos, refl, sym, ap, ◌∙◌, arith}
+use Rattle.std.proofs.Common.{◌≡◌, ℕ, zero, suc, ◌+◌, ◌-◌, ◌*◌, ◌/◌, ◌%◌, ◌<◌, ◌≤◌, ◌⊎◌, inl, inr, Bool, true, false, ◌==◌, ◌||◌, ◌&&◌, nat_lt, nat_le}
+use Rattle.std.proofs.Common.{pos, refl, sym, ap, ◌∙◌, arith}
 use Rattle.std.proofs.lemmas.Bool.{and_parts, and_right, cases_lt, eq-eqb, le-ltb, lt-ltb, or_left, ltb-true, ltb-false}
 use Rattle.std.proofs.lemmas.Bool.Decides.{nat_tests}
 use Rattle.jiff_core.specs.Calendar.{days_in_month, days_in_year}
 use Rattle.jiff_core.proofs.SignedLemmas.{signed_arith}
-use Rattle.jiff_core.proofs.CalendarLemmas.{days_of_months_more, days_of_months_all, days_in_year_bounds}
+use Rattle.jiff_core.proofs.CalendarLemmas.{days_of_months_more, days_in_year_bounds}
 use Rattle.ics_fields.specs.declared.frequency.Frequency.{Frequency}
 use Rattle.ics_fields.specs.declared.frequency.Frequency.TheVariants.{Monthly, Yearly}
 use Rattle.ics_fields.specs.declared.ordinals.Ordinals.{Ordinals}
-use Rattle.ics_fields.specs.Sets.{contains, is_empty, IsLeastFrom}
+use Rattle.ics_fields.specs.Sets.{is_empty, IsLeastFrom}
 use Rattle.ics_fields.specs.Ordinals.{lists_none, lists_none_wide, lists_no_weekday, numbers_of}
 use Rattle.ics_fields.specs.Days.{days_before_year, year_of, year_day_of, month_of, month_day_of, weekday_of}
-use Rattle.ics_fields.proofs.DayLemmas.{Fields, days_before_year-next, days_before_year_low, year_of_is, year_under_way}
+use Rattle.ics_fields.proofs.DayLemmas.{Fields, days_before_year-next, days_before_year_low, year_of_is}
 use Rattle.ics_rule.specs.declared.effective_rule.EffectiveRule.{EffectiveRule}
 use Rattle.ics_rule.specs.declared.runs.Run.{Run}
 use Rattle.ics_rule.specs.RecurrencePeriods.{month_start}
-use Rattle.ics_rule.specs.Candidates.{lets, lets_place, lets_wide_place, lets_week, lets_weekday, lets_numbered, lets_date, lists, lists_nth}
+use Rattle.ics_rule.specs.Candidates.{lets, lets_place, lets_wide_place, lets_week, lets_weekday, lets_numbered, lets_date, lists_nth}
 use Rattle.ics_rule.specs.Runs.{has_run, weekday_in, lists_weekday, lists_in_month, is_in_month, goes_by_months, counts_in_month, IsMonth, IsSpan}
 use Rattle.ics_rule.proofs.LawLemmas.{year_day_is}
-use Rattle.ics_rule.proofs.Months.{earlier_month, later_month, month_of_low}
+use Rattle.ics_rule.proofs.Months.{earlier_month, later_month, month_high}
 use Rattle.ics_rule.proofs.PeriodLemmas.{month_positive, month_size, IsPeriodFrom}
 use Rattle.ics_rule.proofs.DayWalkLemmas.{fields_at}
 use Rattle.ics_rule.proofs.RunLemmas.{next_found, all_found, guard, run_facts, run_shown}
@@ -89,48 +89,31 @@ module _ (q : EffectiveRule) (k : ℕ) where
 pub months_none : (q : EffectiveRule) (months : ℕ → Bool) (e : ℕ) (a : Bool) → false ≡ (a && seen_months q months 1 e)
 months_none q months e a = grind (arith, nat_tests, and_right, le-ltb, month_positive)
 
-month_small : (e : ℕ) → month_of e < 13
-month_small e = let top = month_of_low e 12 (let all = days_of_months_all (pos (year_of e)) in let next = days_before_year-next (year_of e) in
-    let u = year_under_way e in omega (arith, all, next, u.1)) (omega arith) in omega (arith, top)
-
 pub months_done : (q : EffectiveRule) (months : ℕ → Bool) {from : ℕ} (e : ℕ) (a : Bool) → ((n : ℕ) → from ≤ n → months n ≡ false) →
     ((n : ℕ) → n < 13 → months n ≡ lets q.months n)
     → (a && seen_months q months from e) ≡ (a && is_in_month q e)
-months_done q months e a none is = grind (arith, nat_tests, all_found, and_assoc, month_small)
+months_done q months e a none is = grind (arith, nat_tests, all_found, and_assoc, month_high)
 
 -- a run that begins with the period
 run_start : (k len : ℕ) → (nat_le 0 k && nat_lt (k - 0) len) ≡ nat_lt k len
 run_start k len = let low : nat_le 0 k ≡ true = grind (arith, nat_tests) in let back : k - 0 ≡ k = omega arith in rw (low, back) refl
 
--- one month alone
-pub one_month : (q : EffectiveRule) {first len y m w : ℕ} (k : ℕ) {a b : Bool} → IsMonth (record { start = 0; len = len; weekday = w }) first y m →
-    lets q.months m ≡ true → a ≡ false
-    → b ≡ (a || (has_run (record { start = 0; len = len; weekday = w }) k
-    && lists_in_month q (weekday_in (record { start = 0; len = len; weekday = w }) (k - 0)) (k - 0 + 1) len))
-    → b ≡ (nat_lt k len && is_in_month q (first + k))
-one_month q {first = first} {len = len} {y = y} {m = m} {w = w} k own among none e =
-    let r : Run = record { start = 0; len = len; weekday = w } in
-    let test : has_run r k ≡ nat_lt k len = run_start k len in
-    e ∙ ap (λ x. x || (has_run r k && lists_in_month q (weekday_in r (k - 0)) (k - 0 + 1) len)) none ∙ guard (has_run r k) _ (is_in_month q (first + k)) (λ h.
-    let inside = run_facts r k h in
-    let f = day_of_run r first y m k own inside.0 inside.1 in
-    run_lists r first y m k own q h
-    ∙ ap (λ x. x && lists_in_month q (weekday_of (first + k)) (month_day_of (first + k)) (days_in_month (pos (year_of (first + k))) (month_of (first + k))))
-    (sym (ap (lets q.months) f.month ∙ among)))
-    ∙ ap (λ x. x && is_in_month q (first + k)) test
+-- one month alone, if BYMONTH lists it
+pub month_alone : (q : EffectiveRule) {first len y m w : ℕ} (k : ℕ) {old among new : Bool} → IsMonth (record { start = 0; len = len; weekday = w }) first y m →
+    old ≡ false → among ≡ lets q.months m
+    → ((among ≡ true) × (new ≡ (old || (has_run (record { start = 0; len = len; weekday = w }) k
+    && lists_in_month q (weekday_in (record { start = 0; len = len; weekday = w }) (k - 0)) (k - 0 + 1) len)))) ⊎ ((among ≡ false) × (new ≡ old))
+    → new ≡ (nat_lt k len && is_in_month q (first + k))
+month_alone q {first = first} {len = len} {y = y} {m = m} {w = w} k own none among e =
+    gather (run_start k len) (λ h. let inside = run_facts r k h in let f = day_of_run r first y m k own inside.0 inside.1 in ap (lets q.months) f.month)
+    (run_lists r first y m k own q) none among e
+  where
+    r : Run
+    r = record { start = 0; len = len; weekday = w }
 
-pub closed_month : (q : EffectiveRule) {first len y m w : ℕ} (k : ℕ) → IsMonth (record { start = 0; len = len; weekday = w }) first y m
-    → lets q.months m ≡ false
-    → false ≡ (nat_lt k len && is_in_month q (first + k))
-closed_month q {first = first} {len = len} {y = y} {m = m} {w = w} k own closed = elim (cases_lt k len) [
-  | inl inside ↦
-      let r : Run = record { start = 0; len = len; weekday = w } in
-      let f = day_of_run r first y m k own (let low : 0 ≤ k = omega arith in low) (let low : k - 0 < len = omega (arith, inside) in low) in
-      sym (and_right (nat_lt k len) (is_in_month q (first + k))
-      (ap (λ x. x && lists_in_month q (weekday_of (first + k)) (month_day_of (first + k))
-      (days_in_month (pos (year_of (first + k))) (month_of (first + k)))) (ap (lets q.months) f.month ∙ closed)))
-  | inr past ↦ sym (ap (λ x. x && is_in_month q (first + k)) (le-ltb k len past))
-]
+    gather : {h i l m' m'' x x' a b : Bool} → h ≡ i → (h ≡ true → m'' ≡ m') → (h ≡ true → x ≡ x') → a ≡ false → l ≡ m' →
+        ((l ≡ true) × (b ≡ (a || (h && x)))) ⊎ ((l ≡ false) × (b ≡ a)) → b ≡ (i && (m'' && x'))
+    gather same month listed none among e = grind arith
 
 -- what the rule goes by
 pub goes : (q : EffectiveRule) → goes_by_months q ≡ true → (lists_none q.weeks ≡ true)
@@ -154,28 +137,11 @@ pub month_exact : (q : EffectiveRule) (e : ℕ) → goes_by_months q ≡ true �
     (lists_none q.month_days || lists_no_weekday q.weekdays) ≡ true
     → is_in_month q e ≡ lets_date q e
 month_exact q e h counts one =
-    let g = goes q h in
-    ap (λ x. lets q.months (month_of e) && x)
-    (cases (lists_none q.month_days) (contains q.weekdays.plain (weekday_of e))
-    (lists q.month_days (month_day_of e) (days_in_month (pos (year_of e)) (month_of e)))
-    (other (lists_none q.month_days) (lists_no_weekday q.weekdays) g.1.1 one)
-    (λ days. sym (numbers_in_month q (numbers_of q.weekdays (weekday_of e)) e q.frequency counts g.0 days)))
-    ∙ sym (three_parts q e h)
-  where
-    other : (a b : Bool) → (a && b) ≡ false → (a || b) ≡ true → b ≡ not a
-    other a b h o = grind arith
-
-    cases : (a p l : Bool) {b n n' : Bool} → b ≡ not a → (a ≡ true → n ≡ n') → (if a then (p || n) else l) ≡ ((a || l) && (b || p || n'))
-    cases a p l o e = grind arith
+    grind (arith, nat_tests, goes q h, three_parts q e h, numbers_in_month q (numbers_of q.weekdays (weekday_of e)) e q.frequency counts)
 
 -- else they list what it may let in
 pub month_candidate : (q : EffectiveRule) (e : ℕ) → goes_by_months q ≡ true → lists_none q.month_days ≡ false → lets_date q e ≡ true → is_in_month q e ≡ true
-month_candidate q e h some d =
-    cases (lets q.months (month_of e)) (lists q.month_days (month_day_of e) (days_in_month (pos (year_of e)) (month_of e))) (lets_weekday q e) _ some
-    (sym (three_parts q e h) ∙ d)
-  where
-    cases : (a l w x : Bool) {n : Bool} → n ≡ false → (a && ((n || l) && w)) ≡ true → (a && (if n then x else l)) ≡ true
-    cases a l w x s h = grind arith
+month_candidate q e h some d = grind (arith, nat_tests, and_parts, three_parts)
 
 -- a rule that repeats yearly goes by BYDAY, which counts in the year
 pub record GoesByYears (q : EffectiveRule) : Type 0 where
@@ -185,33 +151,12 @@ pub record GoesByYears (q : EffectiveRule) : Type 0 where
 
 pub year_exact : (q : EffectiveRule) (e : ℕ) {n size : ℕ} → GoesByYears q → year_day_of e ≡ n → days_in_year (pos (year_of e)) ≡ size
     → lists_weekday q.weekdays (weekday_of e) n size ≡ lets_date q e
-year_exact q e {n = n} {size = size} by day len =
-    let g = goes q by.goes in
-    let parts = and_parts (is_empty q.months) (lists_none q.month_days) by.free in
-    let numbered : lets_numbered q.frequency q (numbers_of q.weekdays (weekday_of e)) e ≡ lists_nth (numbers_of q.weekdays (weekday_of e)) n size =
-    ap (λ f. lets_numbered f q (numbers_of q.weekdays (weekday_of e)) e) by.yearly ∙ rw (g.0, parts.0) (rw (day, len) refl) in
-    let known = known_parts (is_empty q.months) (lists_none q.month_days) (lists_no_weekday q.weekdays) by.free g.1.1 in
-    ap (λ x. contains q.weekdays.plain (weekday_of e) || x) (sym numbered)
-    ∙ cases (contains q.weekdays.plain (weekday_of e)) (lets_numbered q.frequency q (numbers_of q.weekdays (weekday_of e)) e)
-    (or_left (is_empty q.months) _ known.0) (or_left (lists_none q.month_days) _ known.1.0) known.1.1
-    ∙ sym (three_parts q e by.goes)
-  where
-    known_parts : (a d b : Bool) → (a && d) ≡ true → (d && b) ≡ false → (a ≡ true) × ((d ≡ true) × (b ≡ false))
-    known_parts a d b h g = grind arith
-
-    cases : {a d b : Bool} (p n : Bool) → a ≡ true → d ≡ true → b ≡ false → (p || n) ≡ (a && (d && (b || p || n)))
-    cases p n h g e = rw (h, g, e) refl
+year_exact q e by day len = grind (arith, nat_tests, and_parts, goes, three_parts)
 
 -- what is asked of each candidate
-module _ (some f : ℕ → Bool) (from n k : ℕ) (b : Bool) where
-  abbrev asked : ℕ → Bool
-  asked p = some k && (nat_lt k p && f k)
-
-  pub let_in : IsLeastFrom some from n → f n ≡ true → b ≡ asked from → ((k == n) || b) ≡ asked (n + 1)
-  let_in next h e = grind (arith, nat_tests, three, cases_lt)
-
-  pub left_out : IsLeastFrom some from n → f n ≡ false → b ≡ asked from → b ≡ asked (n + 1)
-  left_out next h e = grind (arith, nat_tests, three, cases_lt)
+pub asked_more : (some f : ℕ → Bool) (from n k : ℕ) {old t new : Bool} → IsLeastFrom some from n → t ≡ f n → old ≡ (some k && (nat_lt k from && f k))
+    → ((t ≡ true) × (new ≡ ((k == n) || old))) ⊎ ((t ≡ false) × (new ≡ old)) → new ≡ (some k && (nat_lt k (n + 1) && f k))
+asked_more some f from n k next test h e = grind (arith, nat_tests, three, cases_lt)
 
 pub asked_none : (some f : ℕ → Bool) (k : ℕ) → false ≡ (some k && (nat_lt k 0 && f k))
 asked_none some f k = sym (and_right (some k) (nat_lt k 0 && f k) (ap (λ x. x && f k) (le-ltb k 0 (omega arith))))

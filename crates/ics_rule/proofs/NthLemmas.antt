@@ -4,7 +4,7 @@ use Rattle.std.proofs.Common.{refl, arith}
 use Rattle.std.proofs.lemmas.Bool.{and_right, cases_lt, cases_eq, eq-eqb, ne_eqb}
 use Rattle.std.proofs.lemmas.Bool.Decides.{nat_tests}
 use Rattle.jiff_core.specs.Calendar.{days_in_month, days_in_year, days_of_months}
-use Rattle.jiff_core.proofs.CalendarLemmas.{days_in_month_bounds, days_in_year_bounds, days_of_months_all}
+use Rattle.jiff_core.proofs.CalendarLemmas.{days_in_month_bounds, days_in_year_bounds}
 use Rattle.ics_fields.specs.declared.ordinals.Ordinals.{Ordinals}
 use Rattle.ics_fields.specs.declared.ordinals.WideOrdinals.{WideOrdinals}
 use Rattle.ics_fields.specs.Sets.{contains, contains_wide}
@@ -16,7 +16,7 @@ use Rattle.ics_rule.specs.Kept.{count}
 use Rattle.ics_rule.specs.RecurrencePeriods.{month_start}
 use Rattle.ics_rule.specs.PlainReading.{is_nth, is_place, is_wide_place, in_year, in_month, with_weekday, fourth_of_week, is_week}
 use Rattle.ics_rule.proofs.Counts.{count-same, count-suc, count-none, count-from, count_every, count_one, count_none_at}
-use Rattle.ics_rule.proofs.Months.{month_of_low}
+use Rattle.ics_rule.proofs.Months.{month_high}
 use Rattle.ics_rule.proofs.PeriodLemmas.{month_begun, month_begins, month_size, month_positive, fourth_early, fourth_late}
 use Rattle.ics_rule.proofs.RankLemmas.{count_flat}
 use Rattle.ics_rule.proofs.LawLemmas.{year_day_is}
@@ -119,9 +119,6 @@ pub year_day : (e : ℕ) → IsDayOf (days_before_year (year_of e)) (days_before
 year_day e = grind (arith, nat_tests, days_before_year-next, days_in_year_bounds, year_day_is, year_under_way)
 
 -- ---- the month of a day
-
-month_high : (e : ℕ) → month_of e ≤ 12
-month_high e = grind (arith, nat_tests, days_before_year-next, days_of_months_all, month_of_low, year_under_way)
 
 in_month_same : (f e : ℕ) → year_of f * 12 + month_of f ≡ year_of e * 12 + month_of e → (year_of f == year_of e && month_of f == month_of e) ≡ true
 in_month_same f e h = grind (arith, nat_tests, eq-eqb, month_high, month_positive)

@@ -12,6 +12,7 @@ use Rattle.ics_fields.specs.Ordinals.{lists_none, numbers_of}
 use Rattle.ics_rule.specs.Candidates.{lists, lists_nth}
 use Rattle.ics_rule.specs.Runs.{has_run, weekday_in, lists_weekday}
 use Rattle.ics_rule.proofs.DateLemmas.{none_nth}
+use Rattle.ics_rule.proofs.ScanLemmas.{one_more, no_more}
 use Rattle.ics_rule.proofs.Tests.{above, and_false, below, iff, keep_true, or_false, or_swap, three}
 
 -- of three tests of which the second fails, the third does not count
@@ -156,3 +157,9 @@ module _ (r : Run) (listed : ℕ → Bool) (from m : ℕ) (a b : Bool) where
 -- a listed number is one of so many
 pub listed_within : (n size : ℕ) (b : Bool) → (nat_le n size && b) ≡ true → n ≤ size
 listed_within n size b h = grind (arith, nat_tests, cases_lt, out)
+
+-- a set of the numbers that pass a test, walked number by number
+pub tested : (f : ℕ → Bool) (k m : ℕ) {old t new : Bool} → t ≡ f k → old ≡ (nat_lt m k && f m)
+    → ((t ≡ true) × (new ≡ ((m == k) || old))) ⊎ ((t ≡ false) × (new ≡ old)) → new ≡ (nat_lt m (k + 1) && f m)
+tested f k m e h (inl more) = more.1 ∙ one_more f k m _ (sym e ∙ more.0) h
+tested f k m e h (inr same) = same.1 ∙ no_more f k m _ (sym e ∙ same.0) h

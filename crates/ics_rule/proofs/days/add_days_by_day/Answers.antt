@@ -1,7 +1,8 @@
-use Rattle.std.proofs.Common.{◌≡◌, ◌∙◌, ◌+◌, ◌&&◌, nat_lt, ap, sym, arith}
+use Rattle.std.proofs.Common.{inl, inr, ◌≡◌, ◌∙◌, ◌+◌, ◌&&◌, nat_lt, ap, sym, arith}
 use Rattle.ics_fields.specs.Sets.{contains_wide}
 use Rattle.ics_rule.specs.Candidates.{lets_date}
-use Rattle.ics_rule.proofs.ScanLemmas.{none_has, one_more, no_more}
+use Rattle.ics_rule.proofs.RunLemmas.{tested}
+use Rattle.ics_rule.proofs.ScanLemmas.{none_has}
 use Rattle.ics_rule.proofs.days.add_days_by_day.Goals as goal
 use Rattle.ics_rule.proofs.days.add_days_by_day.Goals.{then-lets_date, else-lets_date}
 use Rattle.ics_rule.proofs.Tests.{none_yet}
@@ -11,14 +12,10 @@ loop-k-init c = λ m. ap (λ ws. contains_wide ws m) c.requires.empty ∙ none_h
     ∙ ap (λ x. x && lets_date c.args.parts.now (c.args.first + m)) (sym (none_yet m))
 
 pub loop-k-preserved : goal.loop-k-preserved
-loop-k-preserved c = λ m. elim c.if-lets_date.branch [
-  | then-lets_date w ↦ ap (λ ws. contains_wide ws m) w.days-is ∙ w.insert.ensures.members m
-      ∙ one_more (λ k. lets_date c.args.parts.now (c.args.first + k)) c.loop-k.k m (contains_wide c.loop-k.days m) (sym c.lets_date.ensures
-      ∙ w.if-lets_date.true) (c.loop-k.invariant m)
-  | else-lets_date w ↦ ap (λ ws. contains_wide ws m) w.days-is
-      ∙ no_more (λ k. lets_date c.args.parts.now (c.args.first + k)) c.loop-k.k m (contains_wide c.loop-k.days m) (sym c.lets_date.ensures
-      ∙ w.if-lets_date.false) (c.loop-k.invariant m)
-]
+loop-k-preserved c = λ m. tested (λ k. lets_date c.args.parts.now (c.args.first + k)) c.loop-k.k m c.lets_date.ensures (c.loop-k.invariant m) (elim c.if-lets_date.branch [
+  | then-lets_date w ↦ inl (w.if-lets_date.true, ap (λ ws. contains_wide ws m) w.days-is ∙ w.insert.ensures.members m)
+  | else-lets_date w ↦ inr (w.if-lets_date.false, ap (λ ws. contains_wide ws m) w.days-is)
+])
 
 pub returns : goal.returns
 returns c = λ m. let e : c.loop-k.k ≡ c.args.len = omega arith in c.loop-k.invariant m ∙ ap (λ k. nat_lt m k && lets_date c.args.parts.now (c.args.first + m)) e

@@ -1,8 +1,8 @@
-use Rattle.std.proofs.Common.{◌∙◌, ◌+◌, ◌-◌, ◌/◌, ◌%◌, pos, ap, refl, sym, arith}
+use Rattle.std.proofs.Common.{inl, inr, ◌∙◌, ◌+◌, ◌-◌, ◌/◌, ◌%◌, pos, ap, refl, arith}
 use Rattle.jiff_core.proofs.CalendarLemmas.{days_in_month_bounds}
 use Rattle.ics_fields.specs.Sets.{contains_wide}
 use Rattle.ics_rule.proofs.ScanLemmas.{none_has}
-use Rattle.ics_rule.proofs.MonthDays.{one_month, closed_month, span_month}
+use Rattle.ics_rule.proofs.MonthDays.{month_alone, span_month}
 use Rattle.ics_rule.specs.Runs.{counts_in_month}
 use Rattle.ics_rule.proofs.days.add_days_of_month.Goals as goal
 use Rattle.ics_rule.proofs.days.add_days_of_month.Goals.{then-lets, else-lets}
@@ -31,12 +31,9 @@ pub leave_let_in-requires-clause-numbers : goal.leave_let_in-requires-clause-num
 leave_let_in-requires-clause-numbers c = ap (counts_in_month c.args.parts.now) c.requires.frequency
 
 pub leave_let_in-requires-clause-listed : goal.leave_let_in-requires-clause-listed
-leave_let_in-requires-clause-listed c = λ k. elim c.if-lets.branch [
-  | then-lets w ↦ ap (λ ws. contains_wide ws k) w.days-is
-      ∙ one_month c.args.parts.now k
-      (span_month c.args.number c.args.first c.args.len w.weekday_at.result c.requires.span w.weekday_at.ensures.value) (sym c.lets.ensures ∙ w.if-lets.true)
-      (ap (λ ws. contains_wide ws k) c.requires.empty ∙ none_has k) (w.add_month.ensures k)
-  | else-lets w ↦ ap (λ ws. contains_wide ws k) w.days-is ∙ ap (λ ws. contains_wide ws k) c.requires.empty ∙ none_has k
-      ∙ closed_month c.args.parts.now k
-      (span_month c.args.number c.args.first c.args.len ((c.args.first + 5) % 7) c.requires.span refl) (sym c.lets.ensures ∙ w.if-lets.false)
-]
+leave_let_in-requires-clause-listed c = λ k. month_alone c.args.parts.now k
+    (span_month c.args.number c.args.first c.args.len ((c.args.first + 5) % 7) c.requires.span refl)
+    (ap (λ ws. contains_wide ws k) c.requires.empty ∙ none_has k) c.lets.ensures (elim c.if-lets.branch [
+      | then-lets w ↦ inl (w.if-lets.true, rw w.weekday_at.ensures.value at (ap (λ ws. contains_wide ws k) w.days-is ∙ w.add_month.ensures k))
+      | else-lets w ↦ inr (w.if-lets.false, ap (λ ws. contains_wide ws k) w.days-is)
+    ])

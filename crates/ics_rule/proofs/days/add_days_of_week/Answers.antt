@@ -1,9 +1,10 @@
-use Rattle.std.proofs.Common.{◌≡◌, ◌∙◌, ◌+◌, ◌&&◌, not, nat_lt, ap, sym, arith}
+use Rattle.std.proofs.Common.{inl, inr, ◌≡◌, ◌∙◌, ◌+◌, ◌&&◌, not, nat_lt, ap, sym, arith}
 use Rattle.std.proofs.lemmas.Bool.{or_parts}
 use Rattle.ics_fields.specs.Sets.{contains_wide}
 use Rattle.ics_rule.specs.Candidates.{lets_date}
 use Rattle.ics_rule.proofs.DateLemmas.{day_of_week}
-use Rattle.ics_rule.proofs.ScanLemmas.{none_has, one_more, no_more}
+use Rattle.ics_rule.proofs.RunLemmas.{tested}
+use Rattle.ics_rule.proofs.ScanLemmas.{none_has}
 use Rattle.ics_rule.proofs.days.add_days_of_week.Goals as goal
 use Rattle.ics_rule.proofs.days.add_days_of_week.Goals.{then-contains, else-contains}
 use Rattle.ics_rule.proofs.Tests.{none_yet, not_false}
@@ -21,14 +22,10 @@ loop-k-preserved c = λ m.
       some = sym c.is_empty.ensures ∙ named.0;
       named = c.named-named.ensures;
     } (c.args.first + c.loop-k.k) c.weekday_at.ensures.value c.weekday_at.ensures.small c.contains.ensures in
-    elim c.if-contains.branch [
-      | then-contains w ↦ ap (λ ws. contains_wide ws m) w.days-is ∙ w.insert.ensures.members m
-          ∙ one_more (λ k. lets_date c.args.parts.now (c.args.first + k)) c.loop-k.k m (contains_wide c.loop-k.days m) (sym test
-          ∙ w.if-contains.true) (c.loop-k.invariant m)
-      | else-contains w ↦ ap (λ ws. contains_wide ws m) w.days-is
-          ∙ no_more (λ k. lets_date c.args.parts.now (c.args.first + k)) c.loop-k.k m (contains_wide c.loop-k.days m) (sym test
-          ∙ w.if-contains.false) (c.loop-k.invariant m)
-    ]
+    tested (λ k. lets_date c.args.parts.now (c.args.first + k)) c.loop-k.k m test (c.loop-k.invariant m) (elim c.if-contains.branch [
+      | then-contains w ↦ inl (w.if-contains.true, ap (λ ws. contains_wide ws m) w.days-is ∙ w.insert.ensures.members m)
+      | else-contains w ↦ inr (w.if-contains.false, ap (λ ws. contains_wide ws m) w.days-is)
+    ])
 
 pub returns : goal.returns
 returns c = λ m. let e : c.loop-k.k ≡ c.args.len = omega arith in c.loop-k.invariant m ∙ ap (λ k. nat_lt m k && lets_date c.args.parts.now (c.args.first + m)) e

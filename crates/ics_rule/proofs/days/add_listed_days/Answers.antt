@@ -12,7 +12,7 @@ pub loop-month-init : goal.loop-month-init
 loop-month-init c = (
   λ k. ap (λ ws. contains_wide ws k) c.requires.empty ∙ none_has k
       ∙ months_none c.args.parts.now (contains c.open_months-months.result) (c.args.first + k) (nat_lt k c.args.len),
-  (omega arith, omega arith),
+  omega arith,
 )
 
 small : (c : In-Some) → c.in-Some.month < 13
@@ -46,7 +46,7 @@ loop-month-preserved c =
           c.in-Some.ensures.next
           (c.loop-month.invariant.0 k ∙ ap (λ n. nat_lt k n && seen k c.loop-month.from) c.requires.span.1.1) (c.add_month.ensures k)
           ∙ ap (λ n. nat_lt k n && seen k (c.in-Some.month + 1)) (sym c.requires.span.1.1),
-      (omega arith, omega (arith, c.in-Some.ensures.small)),
+      omega arith,
     )
 
 pub returns : goal.returns

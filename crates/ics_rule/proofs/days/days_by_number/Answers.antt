@@ -1,7 +1,8 @@
-use Rattle.std.proofs.Common.{◌∙◌, ◌+◌, ◌&&◌, nat_lt, ap, sym, arith}
+use Rattle.std.proofs.Common.{inl, inr, ◌∙◌, ◌+◌, ◌&&◌, nat_lt, ap, sym, arith}
 use Rattle.ics_fields.specs.Sets.{contains_wide}
 use Rattle.ics_rule.specs.Candidates.{lets_wide_place}
-use Rattle.ics_rule.proofs.ScanLemmas.{none_has, one_more, no_more}
+use Rattle.ics_rule.proofs.RunLemmas.{tested}
+use Rattle.ics_rule.proofs.ScanLemmas.{none_has}
 use Rattle.ics_rule.proofs.days.days_by_number.Goals as goal
 use Rattle.ics_rule.proofs.days.days_by_number.Goals.{then-lets_wide_place, else-lets_wide_place}
 use Rattle.ics_rule.proofs.Tests.{none_yet}
@@ -11,14 +12,10 @@ loop-k-init c = λ m. ap (λ ws. contains_wide ws m) c.new-days.ensures ∙ none
     ∙ ap (λ x. x && lets_wide_place c.args.parts.now.year_days (m + 1) c.args.len) (sym (none_yet m))
 
 pub loop-k-preserved : goal.loop-k-preserved
-loop-k-preserved c = λ m. elim c.if-lets_wide_place.branch [
-  | then-lets_wide_place w ↦ ap (λ ws. contains_wide ws m) w.days-is ∙ w.insert.ensures.members m
-      ∙ one_more (λ k. lets_wide_place c.args.parts.now.year_days (k + 1) c.args.len) c.loop-k.k m (contains_wide c.loop-k.days m)
-      (sym c.lets_wide_place.ensures ∙ w.if-lets_wide_place.true) (c.loop-k.invariant m)
-  | else-lets_wide_place w ↦ ap (λ ws. contains_wide ws m) w.days-is
-      ∙ no_more (λ k. lets_wide_place c.args.parts.now.year_days (k + 1) c.args.len) c.loop-k.k m (contains_wide c.loop-k.days m) (sym c.lets_wide_place.ensures
-      ∙ w.if-lets_wide_place.false) (c.loop-k.invariant m)
-]
+loop-k-preserved c = λ m. tested (λ k. lets_wide_place c.args.parts.now.year_days (k + 1) c.args.len) c.loop-k.k m c.lets_wide_place.ensures (c.loop-k.invariant m) (elim c.if-lets_wide_place.branch [
+  | then-lets_wide_place w ↦ inl (w.if-lets_wide_place.true, ap (λ ws. contains_wide ws m) w.days-is ∙ w.insert.ensures.members m)
+  | else-lets_wide_place w ↦ inr (w.if-lets_wide_place.false, ap (λ ws. contains_wide ws m) w.days-is)
+])
 
 pub returns : goal.returns
 returns c = λ m. c.loop-k.invariant m ∙ ap (λ k. nat_lt m k && lets_wide_place c.args.parts.now.year_days (m + 1) c.args.len)

@@ -7,7 +7,7 @@ pub loop-n-init : goal.loop-n-init
 loop-n-init c = (
   λ n h. listed_first c.args.places.now.front (contains c.args.places.now.back) c.args.size h c.front-listed.ensures.members
       c.front-listed.ensures.bound,
-  (omega arith, omega arith),
+  omega arith,
 )
 
 pub returns-then-n-size : goal.returns-then-n-size
@@ -17,9 +17,9 @@ returns-then-n-size c = λ n h. listed_done (contains c.args.places.now.front) (
 pub loop-n-preserved : goal.loop-n-preserved
 loop-n-preserved c = (
   λ n h. c.insert.ensures.members n ∙ listed_more (contains c.args.places.now.front) (contains c.args.places.now.back) c.args.size
-      h (omega (arith, c.loop-n.invariant.1.0, c.in-Some.ensures.next.low)) (omega (arith, c.if-n-size.false)) c.in-Some.ensures.next
+      h (omega (arith, c.loop-n.invariant.1, c.in-Some.ensures.next.low)) (omega (arith, c.if-n-size.false)) c.in-Some.ensures.next
       (c.loop-n.invariant.0 n h),
-  (omega arith, omega (arith, c.in-Some.ensures.small)),
+  omega arith,
 )
 
 pub returns : goal.returns

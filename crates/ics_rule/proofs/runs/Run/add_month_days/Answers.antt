@@ -11,7 +11,7 @@ inside c = grind (arith, listed_within)
 pub loop-n-init : goal.loop-n-init
 loop-n-init c = (
   λ m. day_none c.args.self (contains c.listed-listed.result) 1 m (contains_wide c.args.days.now m) (contains_wide c.args.days.now m),
-  (omega arith, omega arith),
+  omega arith,
 )
 
 pub insert-requires : goal.insert-requires
@@ -21,7 +21,7 @@ pub loop-n-preserved : goal.loop-n-preserved
 loop-n-preserved c = let i = inside (goal.at.loop-n-preserved c).In-Some in (
   λ m. c.insert.ensures.members m ∙ day_added c.args.self (contains c.listed-listed.result) c.loop-n.from m (contains_wide c.args.days.now m)
       (contains_wide c.loop-n.days m) c.in-Some.n i.0 i.1 c.in-Some.ensures.next (c.loop-n.invariant.0 m),
-  (omega arith, omega (arith, c.in-Some.ensures.small)),
+  omega arith,
 )
 
 pub returns : goal.returns

@@ -6,7 +6,7 @@ use Rattle.ics_rule.proofs.runs.Run.add_month_days.Given as goal
 abbrev pub invariant-loop-n : goal.invariant-loop-n
 invariant-loop-n l = ((m : ℕ) → contains_wide l.days m
     ≡ (contains_wide l.fn.days m || (has_run l.self m && (nat_lt (m - l.self.start + 1) l.from && contains l.listed (m - l.self.start + 1)))))
-    × ((1 ≤ l.from) × (l.from ≤ 64))
+    × (1 ≤ l.from)
 
 abbrev pub decreases-loop-n : goal.decreases-loop-n
 decreases-loop-n l = 64 - l.from

@@ -7,7 +7,7 @@ use Rattle.ics_rule.proofs.runs.Run.add_numbered.Goals.{In-Some}
 
 inside : (c : In-Some) → (1 ≤ c.in-Some.n) × (c.first_on-first.result + 7 * (c.in-Some.n - 1) < c.args.self.len)
 inside c =
-    let some : 1 ≤ c.in-Some.n = omega (arith, c.loop-n.invariant.1.0, c.in-Some.ensures.next.low) in
+    let some : 1 ≤ c.in-Some.n = omega (arith, c.loop-n.invariant.1, c.in-Some.ensures.next.low) in
     let most = listed_within c.in-Some.n c.days_from.result (lists c.args.numbers.now c.in-Some.n c.days_from.result)
     (sym (c.listed-listed.ensures c.in-Some.n some) ∙ c.in-Some.ensures.next.passes) in
     (some, omega (arith, some, most, c.days_from.ensures, c.first_on-first.ensures.early, c.requires.some))
@@ -16,7 +16,7 @@ pub loop-n-init : goal.loop-n-init
 loop-n-init c = (
   λ m. number_none c.args.self (contains c.listed-listed.result) c.args.weekday c.first_on-first.result 1 m (contains_wide c.args.days.now m)
       (contains_wide c.args.days.now m) c.first_on-first.ensures.place c.first_on-first.ensures.early,
-  (omega arith, omega arith),
+  omega arith,
 )
 
 pub insert-requires : goal.insert-requires
@@ -28,7 +28,7 @@ loop-n-preserved c = let i = inside (goal.at.loop-n-preserved c).In-Some in (
       ∙ number_added c.args.self (contains c.listed-listed.result) c.args.weekday c.first_on-first.result c.loop-n.from m (contains_wide c.args.days.now m)
       (contains_wide c.loop-n.days m) c.first_on-first.ensures.place c.first_on-first.ensures.early
       c.in-Some.n i.0 i.1 c.in-Some.ensures.next (c.loop-n.invariant.0 m),
-  (omega arith, omega (arith, c.in-Some.ensures.small)),
+  omega arith,
 )
 
 pub returns : goal.returns

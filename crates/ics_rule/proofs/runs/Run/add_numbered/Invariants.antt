@@ -7,7 +7,7 @@ abbrev pub invariant-loop-n : goal.invariant-loop-n
 invariant-loop-n l = ((m : ℕ) → contains_wide l.days m ≡ (contains_wide l.fn.days m
     || (has_run l.self m && ((weekday_in l.self (m - l.self.start) == l.weekday)
     && (nat_lt ((m - l.self.start) / 7 + 1) l.from && contains l.listed ((m - l.self.start) / 7 + 1))))))
-    × ((1 ≤ l.from) × (l.from ≤ 64))
+    × (1 ≤ l.from)
 
 abbrev pub decreases-loop-n : goal.decreases-loop-n
 decreases-loop-n l = 64 - l.from
