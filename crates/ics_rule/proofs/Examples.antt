@@ -147,21 +147,12 @@ ten_to_one = map (λ h. at 2024 1 5 h 0) (9 ∷ 10 ∷ 11 ∷ 12 ∷ 13 ∷ [])
 abbrev clock : ℕ → ℕ → Local
 clock h m = local 2024 1 5 h m
 
-until_instant : map (is_kept (hourly_until (until.Utc (clock 12 0)))) ten_to_one ≡ false ∷ true ∷ true ∷ true ∷ true ∷ []
+until_bounds : map (λ u. map (is_kept (hourly_until u)) ten_to_one)
+    (until.Utc (clock 12 0) ∷ until.Local (clock 11 30) ∷ until.Local (clock 12 0) ∷ until.Date (pos 19_726) ∷ [])
+    ≡ (false ∷ true ∷ true ∷ true ∷ true ∷ []) ∷ (false ∷ true ∷ true ∷ false ∷ false ∷ []) ∷ (false ∷ true ∷ true ∷ true ∷ false ∷ [])
+    ∷ (false ∷ true ∷ false ∷ false ∷ false ∷ []) ∷ []
 unfolding rules_on_literals days_on_literals
-until_instant = refl
-
-until_local : map (is_kept (hourly_until (until.Local (clock 11 30)))) ten_to_one ≡ false ∷ true ∷ true ∷ false ∷ false ∷ []
-unfolding rules_on_literals days_on_literals
-until_local = refl
-
-until_local_itself : map (is_kept (hourly_until (until.Local (clock 12 0)))) ten_to_one ≡ false ∷ true ∷ true ∷ true ∷ false ∷ []
-unfolding rules_on_literals days_on_literals
-until_local_itself = refl
-
-until_the_day_before : map (is_kept (hourly_until (until.Date (pos 19_726)))) ten_to_one ≡ false ∷ true ∷ false ∷ false ∷ false ∷ []
-unfolding rules_on_literals days_on_literals
-until_the_day_before = refl
+until_bounds = refl
 
 until_that_day : map (is_kept (hourly_until (until.Date (pos 19_727)))) (at 2024 1 6 0 0 ∷ ten_to_one) ≡ false ∷ false ∷ true ∷ true ∷ true ∷ true ∷ []
 unfolding rules_on_literals days_on_literals

@@ -22,11 +22,8 @@ count_flat a b test h none =
 
 -- a walk from member to member that counts them
 module _ (test : ℕ → Bool) (place passed n : ℕ) (next : IsLeastFrom test place n) (own : passed ≡ count place test) where
-  before_next : count n test ≡ passed
+  pub before_next : count n test ≡ passed
   before_next = count_flat place n test next.low next.least ∙ sym own
-
-  pub nth_here : (k : ℕ) → passed ≡ k → IsNth test k n
-  nth_here k e = record { passes = next.passes; before = before_next ∙ e }
 
   pub nth_next : passed + 1 ≡ count (n + 1) test
   nth_next =

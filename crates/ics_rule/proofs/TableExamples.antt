@@ -14,7 +14,7 @@ use Rattle.ics_rule.specs.Recurrence.{Recurrence}
 use Rattle.ics_rule.specs.PeriodNumbers.{day_of, hour_of, minute_of, second_of, month_number}
 use Rattle.ics_rule.specs.Kept.{count}
 use Rattle.ics_rule.specs.Table.{Part, ByDay, Nothing, cell}
-use Rattle.ics_rule.specs.ByTable.{is_absent, instance_of, is_listed, is_instance, is_member, IsAllowed}
+use Rattle.ics_rule.specs.ByTable.{is_absent, is_member, IsAllowed}
 use Rattle.ics_rule.proofs.KeptLemmas.{and_true}
 use Rattle.ics_rule.proofs.TableCounts.{days_from, members_by_days}
 use Rattle.ics_rule.proofs.Samples.{on_weekdays, nth_weekday, date, local, rule, mo, tu, fr}
@@ -100,15 +100,15 @@ election_day = refl
 
 -- ---- BYSETPOS, counted by days: each instance is at 9:00 in the month
 
-at_nine : (listed : Bool) (month p m : ℕ) → (listed && (month == p && (hour_of m == 9 && (minute_of m == 0 && second_of m == 0)))) ≡ true
-    → (month ≡ p) × (m % 86_400 ≡ 32_400)
-at_nine listed month p m e =
+at_nine : (p m : ℕ) (listed : Bool) → (listed && (month_number (day_of m) == p && (hour_of m == 9 && (minute_of m == 0 && second_of m == 0)))) ≡ true
+    → (month_number (day_of m) ≡ p) × (m % 86_400 ≡ 32_400)
+at_nine p m listed e =
     let own = (and_true e).1 in
     let clock = (and_true own).1 in
     let hour = eqb-true (hour_of m) 9 (and_true clock).0 in
     let minute = eqb-true (minute_of m) 0 (and_true (and_true clock).1).0 in
     let second = eqb-true (second_of m) 0 (and_true (and_true clock).1).1 in
-    (eqb-true month p (and_true own).0, omega (arith, hour, minute, second))
+    (eqb-true (month_number (day_of m)) p (and_true own).0, omega (arith, hour, minute, second))
 
 -- the third instance into the month of one of Tuesday, Wednesday or Thursday
 abbrev third_instance : Recurrence
@@ -116,15 +116,11 @@ third_instance =
     rule (record (every Monthly) { weekdays = on_weekdays (only tu + only 2 + only 3); positions = with_wide_ordinal Front 3 no_wide_ordinals })
     (local 1997 9 4 9 0) DateTime
 
-instances_at_nine : (p m : ℕ) → is_instance third_instance p m ≡ true → (month_number (day_of m) ≡ p) × (m % 86_400 ≡ 32_400)
-unfolding days_on_literals
-instances_at_nine p m e = at_nine (is_listed third_instance ByDay (instance_of third_instance.parts m)) (month_number (day_of m)) p m e
-
 third_in_october : listed third_instance.parts 1997 9 4 (date 1997 10 1) 31 ≡ map (date 1997 10) (7 ∷ [])
 unfolding count days_on_literals
 third_in_october =
     members_by_days third_instance (1997 * 12 + 10) (date 1997 10 1) (date 1997 11 1)
-    (record { period = λ m. refl; shown = instances_at_nine (1997 * 12 + 10) }) refl refl refl refl
+    (record { period = λ m. refl; shown = λ m. at_nine (1997 * 12 + 10) m _ }) refl refl refl refl
     ∙ refl
 
 -- the second-to-last weekday of the month
@@ -132,20 +128,16 @@ abbrev second_last_weekday : Recurrence
 second_last_weekday =
     rule (record (every Monthly) { weekdays = on_weekdays (2 ^ 5 - 1); positions = with_wide_ordinal Back 2 no_wide_ordinals }) (local 1997 9 29 9 0) DateTime
 
-weekdays_at_nine : (p m : ℕ) → is_instance second_last_weekday p m ≡ true → (month_number (day_of m) ≡ p) × (m % 86_400 ≡ 32_400)
-unfolding days_on_literals
-weekdays_at_nine p m e = at_nine (is_listed second_last_weekday ByDay (instance_of second_last_weekday.parts m)) (month_number (day_of m)) p m e
-
 second_last_in_october : listed second_last_weekday.parts 1997 9 29 (date 1997 10 1) 31 ≡ map (date 1997 10) (30 ∷ [])
 unfolding count days_on_literals
 second_last_in_october =
     members_by_days second_last_weekday (1997 * 12 + 10) (date 1997 10 1) (date 1997 11 1)
-    (record { period = λ m. refl; shown = weekdays_at_nine (1997 * 12 + 10) }) refl refl refl refl
+    (record { period = λ m. refl; shown = λ m. at_nine (1997 * 12 + 10) m _ }) refl refl refl refl
     ∙ refl
 
 second_last_in_february : listed second_last_weekday.parts 1997 9 29 (date 1998 2 1) 28 ≡ map (date 1998 2) (26 ∷ [])
 unfolding count days_on_literals
 second_last_in_february =
     members_by_days second_last_weekday (1998 * 12 + 2) (date 1998 2 1) (date 1998 3 1)
-    (record { period = λ m. refl; shown = weekdays_at_nine (1998 * 12 + 2) }) refl refl refl refl
+    (record { period = λ m. refl; shown = λ m. at_nine (1998 * 12 + 2) m _ }) refl refl refl refl
     ∙ refl

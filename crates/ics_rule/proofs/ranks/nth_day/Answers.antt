@@ -1,23 +1,16 @@
 use Rattle.std.proofs.Common.{arith}
-use Rattle.ics_fields.specs.Sets.{contains_wide}
 use Rattle.ics_rule.proofs.ProductCounts.{count_zero}
-use Rattle.ics_rule.proofs.RankLemmas.{nth_here, nth_next, nth_done}
+use Rattle.ics_rule.proofs.RankLemmas.{before_next, nth_next, nth_done}
 use Rattle.ics_rule.proofs.ranks.nth_day.Goals as goal
 
 pub loop-n-init : goal.loop-n-init
-loop-n-init c = (count_zero (contains_wide c.args.set.now), (omega arith, omega arith))
+loop-n-init c = grind (arith, count_zero)
 
 pub returns-then-passed-k-clause-nth : goal.returns-then-passed-k-clause-nth
-returns-then-passed-k-clause-nth c = nth_here (contains_wide c.args.set.now) c.loop-n.place c.loop-n.passed c.in-Some.n c.in-Some.ensures.next
-    c.loop-n.invariant.0 c.args.k c.if-passed-k.true
+returns-then-passed-k-clause-nth c = grind (arith, before_next)
 
 pub loop-n-preserved : goal.loop-n-preserved
-loop-n-preserved c = (
-  nth_next (contains_wide c.args.set.now) c.loop-n.place c.loop-n.passed c.in-Some.n c.in-Some.ensures.next c.loop-n.invariant.0,
-  (omega (arith, c.loop-n.invariant.1.0, c.if-passed-k.false), omega (arith, c.in-Some.ensures.small)),
-)
+loop-n-preserved c = grind (arith, nth_next)
 
 pub returns-clause-nth : goal.returns-clause-nth
-returns-clause-nth c = absurd (
-    let few = nth_done (contains_wide c.args.set.now) c.loop-n.place c.loop-n.passed 384 c.in_default.ensures.next c.loop-n.invariant.0 in
-    omega (arith, few, c.requires, c.loop-n.invariant.1.0))
+returns-clause-nth c = grind (arith, nth_done)

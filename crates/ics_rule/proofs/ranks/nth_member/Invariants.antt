@@ -4,7 +4,7 @@ use Rattle.ics_rule.specs.Kept.{count}
 use Rattle.ics_rule.proofs.ranks.nth_member.Given as goal
 
 abbrev pub invariant-loop-n : goal.invariant-loop-n
-invariant-loop-n l = (l.passed ≡ count l.place (contains l.set)) × ((l.passed ≤ l.k) × (l.place ≤ 64))
+invariant-loop-n l = (l.passed ≡ count l.place (contains l.set)) × (l.passed ≤ l.k)
 
 abbrev pub decreases-loop-n : goal.decreases-loop-n
 decreases-loop-n l = 64 - l.place
