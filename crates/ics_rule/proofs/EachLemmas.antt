@@ -12,8 +12,8 @@ use Rattle.ics_rule.specs.declared.effective_rule.EffectiveRule.{EffectiveRule}
 use Rattle.ics_rule.specs.declared.recurrence_period.RecurrencePeriod.{RecurrencePeriod}
 use Rattle.ics_rule.specs.declared.cursor.Cursor.{Cursor}
 use Rattle.ics_rule.specs.Searches.{IsTurned}
-use Rattle.ics_rule.specs.PeriodNumbers.{period, day_of}
-use Rattle.ics_rule.specs.Candidates.{lets, lets_date, lets_clock, lists_wide, is_stepped, is_candidate_in, period_in}
+use Rattle.ics_rule.specs.PeriodNumbers.{period}
+use Rattle.ics_rule.specs.Candidates.{lets, lets_date, lets_clock, is_stepped, is_candidate_in, period_in}
 use Rattle.ics_rule.specs.Kept.{count, is_beside, rank, size, is_placed, is_chosen}
 use Rattle.ics_rule.specs.RecurrencePeriods.{first_local, is_listed}
 use Rattle.ics_rule.specs.Rounds.{seconds_of}
@@ -25,11 +25,14 @@ use Rattle.ics_rule.proofs.StepLemmas.{stepped_parts}
 use Rattle.ics_rule.proofs.CountLemmas.{IsCountedStep}
 use Rattle.ics_rule.proofs.RoundLemmas.{step_repeats}
 use Rattle.ics_fields.specs.Locals.{calendar_end}
-use Rattle.ics_rule.proofs.Tests.{and_assoc, keep_true}
+use Rattle.ics_rule.proofs.Tests.{keep_true}
 
 -- the clock is a period's own and what is within it
 pub clock_split : (f : Frequency) (q : EffectiveRule) (n : ℕ) → lets_clock q n ≡ (lets_own f q n && lets_within f q n)
 clock_split f q n = grind arith
+
+regroup : (a b c d : Bool) → (a && b && (c && d)) ≡ ((a && (b && c)) && d)
+regroup a b c d = grind arith
 
 -- a period's locals, by their place in it
 module _ (q : EffectiveRule) (p k : ℕ) where
@@ -112,14 +115,14 @@ module _ (q : EffectiveRule) (start : ℕ) (fine : 0 < seconds_of q.frequency) (
 
   candidate_at : (p k : ℕ) → k < u → is_candidate_in q start (p * u + k) ≡ (is_open p && within k)
   candidate_at p k l =
-      ap (λ x. is_stepped (period_in q start) q.interval x && lets_date q (day_of (p * u + k)) && lets_clock q (p * u + k)) (period_of p k l)
-      ∙ ap (λ x. is_stepped (period_in q start) q.interval p && lets_date q x && lets_clock q (p * u + k)) (day_at q p k q.frequency fine unit l)
-      ∙ ap (λ x. is_stepped (period_in q start) q.interval p && lets_date q (p / per_day q.frequency) && x)
-      (clock_split q.frequency q (p * u + k) ∙ ap (λ x. x && lets_within q.frequency q (p * u + k)) (own_at q p k q.frequency fine unit l)
-      ∙ ap (λ x. lets_own q.frequency q (p * u) && x) (within_at q p k q.frequency fine unit l))
-      ∙ sym (and_assoc (is_stepped (period_in q start) q.interval p && lets_date q (p / per_day q.frequency)) (lets_own q.frequency q (p * u)) (within k))
-      ∙ ap (λ x. x && within k) (and_assoc (is_stepped (period_in q start) q.interval p) (lets_date q (p / per_day q.frequency))
-      (lets_own q.frequency q (p * u)))
+      rw (
+        period_of p k l,
+        day_at q p k q.frequency fine unit l,
+        clock_split q.frequency q (p * u + k),
+        own_at q p k q.frequency fine unit l,
+        within_at q p k q.frequency fine unit l,
+      )
+      (regroup (is_stepped (period_in q start) q.interval p) (lets_date q (p / per_day q.frequency)) (lets_own q.frequency q (p * u)) (within k))
 
   -- what stands beside a local of an is_open period
   module _ (p k : ℕ) (l : k < u) (is : is_open p ≡ true) where
@@ -145,12 +148,8 @@ module _ (q : EffectiveRule) (start : ℕ) (fine : 0 < seconds_of q.frequency) (
         ∙ count-same u (λ j. is_beside q start (p * u + k) (p * u + j)) within (λ j h. beside_at j h)
 
     chosen_at : p * u + u ≤ calendar_end → (b : Bool) → (is_candidate_in q start (p * u + k) && is_placed q start b (p * u + k)) ≡ chosen_by b k
-    chosen_at top true = ap (λ x. x && true) (candidate_at p k l ∙ ap (λ x. x && within k) is) ∙ keep_true (within k)
-    chosen_at top false =
-        ap (λ x. x && lists_wide q.positions (rank q start (p * u + k)) (size q start (p * u + k))) (candidate_at p k l ∙ ap (λ x. x && within k) is)
-        ∙ ap (λ x. within k && lists_wide q.positions (rank q start (p * u + k)) x) (size_at top)
-        ∙ ap (λ x. within k && lists_wide q.positions x (count u within)) rank_at
-        ∙ rank_listed q.positions within k (count u within)
+    chosen_at top true = rw (candidate_at p k l, is) (keep_true (within k))
+    chosen_at top false = rw (candidate_at p k l, is, size_at top, rank_at) (rank_listed q.positions within k (count u within))
 
   chosen_open : (p : ℕ) → p * u + u ≤ calendar_end → is_open p ≡ true → count u (λ k. is_chosen q start (p * u + k)) ≡ chosen_in_open q
   chosen_open p top is =

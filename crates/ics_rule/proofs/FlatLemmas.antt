@@ -1,17 +1,17 @@
 -- The months of a rule with days that each month has.
 use Rattle.std.specs.Option.{is_some}
-use Rattle.std.proofs.Common.{Option, Some, None, ◌≡◌, ℕ, zero, suc, ◌+◌, ◌-◌, ◌*◌, ◌/◌, ◌%◌, ◌<◌, ◌≤◌, Bool, true, false, ◌&&◌, ◌||◌, pos, refl, ap, ◌∙◌}
+use Rattle.std.proofs.Common.{Option, Some, None, ◌≡◌, ℕ, zero, suc, ◌+◌, ◌-◌, ◌*◌, ◌/◌, ◌%◌, ◌<◌, ◌≤◌, Bool, false, ◌&&◌, pos, ap, ◌∙◌}
 use Rattle.std.proofs.Common.{arith}
 use Rattle.std.proofs.lemmas.Bool.{and_right}
+use Rattle.std.proofs.lemmas.Bool.Decides.{nat_tests}
+use Rattle.jiff_core.proofs.SignedLemmas.{signed_arith}
 use Rattle.jiff_core.specs.Calendar.{days_in_month}
 use Rattle.jiff_core.proofs.CalendarLemmas.{days_in_month_bounds, days_of_months-zero}
 use Rattle.ics_fields.specs.Sets.{contains, IsNextIn}
-use Rattle.ics_fields.specs.Ordinals.{lists_none, lists_no_weekday, numbers_of}
-use Rattle.ics_fields.specs.Days.{days_before_year, year_of, month_of, month_day_of, weekday_of}
+use Rattle.ics_fields.specs.Days.{days_before_year}
 use Rattle.ics_rule.specs.declared.effective_rule.EffectiveRule.{EffectiveRule}
-use Rattle.ics_rule.specs.declared.runs.Run.{Run}
 use Rattle.ics_rule.specs.PeriodNumbers.{day_of}
-use Rattle.ics_rule.specs.Candidates.{lets, lets_place, lets_weekday, lets_numbered, lets_date, lets_clock}
+use Rattle.ics_rule.specs.Candidates.{lets, lets_date, lets_clock}
 use Rattle.ics_rule.specs.Kept.{count}
 use Rattle.ics_rule.specs.RecurrencePeriods.{month_start}
 use Rattle.ics_rule.specs.Rounds.{IsFlat}
@@ -19,8 +19,8 @@ use Rattle.ics_rule.proofs.Counts.{count-same, count-add}
 use Rattle.ics_rule.proofs.RankLemmas.{count_flat}
 use Rattle.ics_rule.proofs.PeriodLemmas.{month_size}
 use Rattle.ics_rule.proofs.RoundLemmas.{clock_same}
-use Rattle.ics_rule.proofs.MonthDays.{day_of_run, three_parts, goes, span_month}
-use Rattle.ics_rule.proofs.Tests.{keep_true, or_false}
+use Rattle.ics_rule.proofs.DayWalkLemmas.{fields_at}
+use Rattle.ics_rule.proofs.MonthDays.{three_parts, goes}
 
 -- where there is no next member, none is left
 pub none_from : (test : ℕ → Bool) {n : ℕ} (o : Option ℕ) → is_some o ≡ false → IsNextIn test n o → (m : ℕ) → n ≤ m → test m ≡ false
@@ -53,30 +53,13 @@ module _ (q : EffectiveRule) (flat : IsFlat q) where
   date_is : (i d : ℕ) → i / 12 ≤ 9_999 → d < days_in_month (pos (i / 12)) (i % 12 + 1)
       → lets_date q (month_start (suc i) + d) ≡ (lets q.months (i % 12 + 1) && contains q.month_days.front (d + 1))
   date_is i d year inside =
-      let back : suc i - 1 ≡ i = omega arith in
-      let len = days_in_month (pos (i / 12)) (i % 12 + 1) in
-      let r : Run = record { start = 0; len = len; weekday = weekday_of (month_start (suc i)) } in
-      let own = span_month (suc i) (month_start (suc i)) len (weekday_of (month_start (suc i)))
-      (let low : 1 ≤ suc i = omega arith in (low, (rw back year, (refl, rw back refl)))) refl in
-      let f = day_of_run r (month_start (suc i)) ((suc i - 1) / 12) ((suc i - 1) % 12 + 1) d own (let low : 0 ≤ d = omega arith in
-      low) (let high : d - 0 < len = omega (arith, inside) in high) in
-      let month : month_of (month_start (suc i) + d) ≡ i % 12 + 1 = f.month ∙ ap (λ x. x % 12 + 1) back in
-      let day : month_day_of (month_start (suc i) + d) ≡ d + 1 = f.month_day ∙ (let same : d - 0 + 1 ≡ d + 1 = omega arith in same) in
       let e = month_start (suc i) + d in
-      let size = days_in_month (pos (year_of e)) (month_of e) in
-      let g = goes q flat.goes in
-      three_parts q e flat.goes
-      ∙ ap (λ x. lets q.months x && (lets_place q.month_days (month_day_of e) size && lets_weekday q e)) month
-      ∙ ap (λ x. lets q.months (i % 12 + 1) && (lets_place q.month_days x size && lets_weekday q e)) day
-      ∙ ap (λ x. lets q.months (i % 12 + 1) && x) (parts (contains q.month_days.front (d + 1)) (contains q.weekdays.plain (weekday_of e))
-      (lets_numbered q.frequency q (numbers_of q.weekdays (weekday_of e)) e)
-      (first_false (lists_none q.month_days) (lists_no_weekday q.weekdays) g.1.1 flat.alone) flat.alone (flat.back (size + 1 - (d + 1))))
-    where
-      first_false : (n w : Bool) → (n && w) ≡ false → w ≡ true → n ≡ false
-      first_false n w h l = grind arith
-
-      parts : {n w b : Bool} (f x z : Bool) → n ≡ false → w ≡ true → b ≡ false → ((n || (f || b)) && (w || x || z)) ≡ f
-      parts f x z some none out = rw (some, none, out) (keep_true (f || false) ∙ or_false f)
+      let back : suc i - 1 ≡ i = omega arith in
+      let before : i % 12 + 1 - 1 ≡ i % 12 = omega arith in
+      let f = fields_at e (i / 12) (i % 12 + 1) (d + 1)
+      ((omega (arith, signed_arith, year), omega (arith, signed_arith, year)), (omega arith, omega arith), (omega arith, omega (arith, inside)))
+      (rw (back, before) (omega arith)) in
+      grind (arith, nat_tests, f.month, f.month_day, goes q flat.goes, three_parts q e flat.goes)
 
   allowed_is : (i k : ℕ) → i / 12 ≤ 9_999 → k < days_in_month (pos (i / 12)) (i % 12 + 1) * 86_400 → is_allowed q (month_local i + k) ≡ in_month (i % 12) k
   allowed_is i k year inside =

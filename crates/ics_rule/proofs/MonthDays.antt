@@ -53,15 +53,7 @@ module _ (r : Run) (first y m k : ℕ) (own : IsMonth r first y m) where
 
   pub run_lists : (q : EffectiveRule) → has_run r k ≡ true → lists_in_month q (weekday_in r (k - r.start)) (k - r.start + 1) r.len
       ≡ lists_in_month q (weekday_of (first + k)) (month_day_of (first + k)) (days_in_month (pos (year_of (first + k))) (month_of (first + k)))
-  run_lists q h =
-      let inside = run_facts r k h in
-      let f = day_of_run inside.0 inside.1 in
-      let weekday : weekday_in r (k - r.start) ≡ weekday_of (first + k) = omega (arith, own.weekday, inside.0) in
-      let size : r.len ≡ days_in_month (pos (year_of (first + k))) (month_of (first + k)) =
-      own.size ∙ sym (ap (λ x. days_in_month (pos x) (month_of (first + k))) f.year ∙ ap (days_in_month (pos y)) f.month) in
-      ap (λ d. lists_in_month q d (k - r.start + 1) r.len) weekday
-      ∙ ap (λ n. lists_in_month q (weekday_of (first + k)) n r.len) (sym f.month_day)
-      ∙ ap (λ n. lists_in_month q (weekday_of (first + k)) (month_day_of (first + k)) n) size
+  run_lists q h = grind (arith, nat_tests, day_of_run, run_facts)
 
 -- how far a walk over the months has come
 abbrev pub seen_months : EffectiveRule → (ℕ → Bool) → ℕ → ℕ → Bool
@@ -69,17 +61,16 @@ seen_months q months from e =
     nat_lt (month_of e) from && (months (month_of e) && lists_in_month q (weekday_of e) (month_day_of e) (days_in_month (pos (year_of e)) (month_of e)))
 
 module _ (q : EffectiveRule) (k : ℕ) where
-  pub month_step : {r : Run} {months : ℕ → Bool} {first y m from : ℕ} {b new : Bool} → IsMonth r first y m
-      → first ≡ days_before_year y →
-      r.start + r.len ≤ days_in_year (pos y) → IsLeastFrom months from m
-      → b ≡ (nat_lt k (days_in_year (pos y)) && seen_months q months from (first + k))
+  pub month_step : {r : Run} {months : ℕ → Bool} {first y m from len : ℕ} {b new : Bool} → IsMonth r first y m
+      → first ≡ days_before_year y → len ≡ days_in_year (pos y) → r.start + r.len ≤ len → IsLeastFrom months from m
+      → b ≡ (nat_lt k len && seen_months q months from (first + k))
       → new ≡ (b || (has_run r k && lists_in_month q (weekday_in r (k - r.start)) (k - r.start + 1) r.len))
-      → new ≡ (nat_lt k (days_in_year (pos y)) && seen_months q months (m + 1) (first + k))
-  month_step {r = r} {months = months} {first = first} {y = y} {m = m} {from = from} own start most next e more =
+      → new ≡ (nat_lt k len && seen_months q months (m + 1) (first + k))
+  month_step {r = r} {months = months} {first = first} {y = y} {m = m} {from = from} {len = len} own start size most next e more =
       gather (nat_lt (month_of (first + k)) from) (months (month_of (first + k))) _ _ more e
-      (λ inside. run_is_month r first y m k own start (ltb-true k (days_in_year (pos y)) inside))
+      (λ inside. run_is_month r first y m k own start (let l = ltb-true k len inside in omega (arith, l, size)))
       (λ past. and_right (nat_le r.start k) (nat_lt (k - r.start) r.len)
-      (le-ltb (k - r.start) r.len (let far = ltb-false k (days_in_year (pos y)) past in omega (arith, far, most))))
+      (le-ltb (k - r.start) r.len (let far = ltb-false k len past in omega (arith, far, most))))
       (run_lists r first y m k own q) (next_found months from m (month_of (first + k)) next)
     where
       gather : (f a l t : Bool) {i h s b b' x : Bool} → b' ≡ (b || (h && x)) → b ≡ (i && (f && (a && l))) → (i ≡ true → h ≡ s) → (i ≡ false → h ≡ false)

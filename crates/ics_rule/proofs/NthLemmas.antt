@@ -135,30 +135,21 @@ unfolding month_day_of
 month_day e =
     let some = month_positive e in
     let most = month_high e in
+    let one : suc (month_number e - 1) ≡ month_number e = omega (arith, some) in
     let year : (month_number e - 1) / 12 ≡ year_of e = omega (arith, some, most) in
     let month : (month_number e - 1) % 12 ≡ month_of e - 1 = omega (arith, some, most) in
-    let start : month_start (month_number e) ≡ days_before_year (year_of e) + days_of_months (pos (year_of e)) (month_of e - 1) =
-    ap (λ y. days_before_year y + days_of_months (pos y) ((month_number e - 1) % 12)) year
-    ∙ ap (λ m. days_before_year (year_of e) + days_of_months (pos (year_of e)) m) month in
-    let one : suc (month_number e - 1) ≡ month_number e = omega (arith, some) in
-    let next = month_size (month_number e - 1) in
-    let starts = ap month_start one in
-    let ends = ap (λ p. month_start (suc p)) one in
-    let length : days_in_month (pos ((month_number e - 1) / 12)) ((month_number e - 1) % 12 + 1) ≡ days_in_month (pos (year_of e)) (month_of e) =
-    (let own : (month_number e - 1) % 12 + 1 ≡ month_of e = omega (arith, month, some) in
-    ap (λ y. days_in_month (pos y) ((month_number e - 1) % 12 + 1)) year ∙ ap (days_in_month (pos (year_of e))) own) in
+    let same : month_of e - 1 + 1 ≡ month_of e = omega (arith, some) in
+    let start : month_start (month_number e) ≡ days_before_year (year_of e) + days_of_months (pos (year_of e)) (month_of e - 1) = rw (year, month) refl in
+    let size = rw (one, year, month, same) at (month_size (month_number e - 1)) in
     let bounds = days_in_month_bounds (pos (year_of e)) (month_of e) in
     let low = month_begun (month_number e) e (omega arith) in
     let own = year_day_is e in
     record {
       low = low;
-      high = elim (cases_lt e (month_start (suc (month_number e)))) [
-        | inl less ↦ less
-        | inr past ↦ absurd (let b = month_begins (suc (month_number e)) e past in omega (arith, b))
-      ];
+      high = grind (arith, cases_lt, month_begins);
       place = omega (arith, own, start, low);
-      size = omega (arith, next, starts, ends, length);
-      end = omega (arith, next, starts, ends, length, bounds.0, low);
+      size = omega (arith, start, size);
+      end = omega (arith, start, size, bounds.0, low);
     }
 
 -- ---- what the parts list

@@ -1,20 +1,20 @@
 -- Places in a period, and the first members of a rule, by counting.
-use Rattle.std.proofs.Common.{◌≡◌, ℕ, zero, suc, ◌+◌, ◌<◌, ◌≤◌, ◌⊎◌, inl, inr, Bool, true, false, cond, ◌&&◌, ◌||◌, ◌==◌, nat_lt, min, Some, None, sym}
+use Rattle.std.proofs.Common.{◌≡◌, ℕ, zero, suc, ◌+◌, ◌<◌, ◌≤◌, Bool, true, cond, ◌&&◌, ◌==◌, nat_lt, min, Some, None, sym}
 use Rattle.std.proofs.Common.{ap, ◌∙◌, arith}
-use Rattle.std.proofs.lemmas.Bool.{lt-ltb, eqb-true}
+use Rattle.std.proofs.lemmas.Bool.{eqb-true}
 use Rattle.std.proofs.lemmas.Bool.Decides.{nat_tests}
 use Rattle.ics_rule.specs.declared.effective_rule.EffectiveRule.{EffectiveRule}
 use Rattle.ics_rule.specs.Recurrence.{Recurrence}
 use Rattle.ics_rule.specs.PeriodNumbers.{rules_end}
 use Rattle.ics_fields.specs.Locals.{number, calendar_end}
 use Rattle.ics_rule.specs.Candidates.{is_candidate_in, period_in}
-use Rattle.ics_rule.specs.Kept.{count, is_beside, rank, size, is_in_rule, is_by_until, is_counted, is_kept}
+use Rattle.ics_rule.specs.Kept.{count, is_beside, rank, size, is_in_rule, is_kept}
 use Rattle.ics_rule.specs.Ranks.{HasRank}
 use Rattle.ics_rule.proofs.Counts.{count-suc, count-none, count_mono, count_one_more, count_one, count_none_at}
 use Rattle.ics_rule.proofs.KeptLemmas.{and_true}
 use Rattle.ics_rule.proofs.NextLemmas.{in_rule_start, in_rule_earlier}
 use Rattle.ics_rule.proofs.RankLemmas.{IsAt, found}
-use Rattle.ics_rule.proofs.Tests.{keep_true, three}
+use Rattle.ics_rule.proofs.Tests.{three}
 
 -- ---- the k-th of those that pass
 
@@ -52,22 +52,8 @@ module _ (r : Recurrence) (c : ℕ) (counted : r.parts.count ≡ Some c) (some :
   pub kept_first : (n : ℕ) → n < rules_end → is_kept r n ≡ (is_in_rule r n && nat_lt (count n (is_in_rule r)) c)
   unfolding is_kept
   kept_first n inside =
-      ap (λ u. n == number r.start || (nat_lt n rules_end && is_in_rule r n && is_by_until r.kind u n && is_counted r r.parts.count n)) endless
-      ∙ ap (λ o. n == number r.start || (nat_lt n rules_end && is_in_rule r n && true && is_counted r o n)) counted
-      ∙ ap (λ b. n == number r.start || (b && is_in_rule r n && true && nat_lt (count n (is_in_rule r)) c)) (lt-ltb n rules_end inside)
-      ∙ (elim (by_start n (number r.start)) [
-        | inl same ↦
-            ap (λ b. b || (is_in_rule r n && true && nat_lt (count n (is_in_rule r)) c)) same.0
-            ∙ sym (ap (λ b. b && nat_lt (count n (is_in_rule r)) c) (ap (is_in_rule r) same.1 ∙ in_rule_start r)
-            ∙ lt-ltb (count n (is_in_rule r)) c
-            (let none = count-none n (is_in_rule r) (λ m l. in_rule_earlier r m (omega (arith, l, same.1))) in omega (arith, none, some)))
-        | inr other ↦
-            ap (λ b. b || (is_in_rule r n && true && nat_lt (count n (is_in_rule r)) c)) other
-            ∙ ap (λ b. b && nat_lt (count n (is_in_rule r)) c) (keep_true (is_in_rule r n))
-      ])
-    where
-      by_start : (a b : ℕ) → (((a == b) ≡ true) × (a ≡ b)) ⊎ ((a == b) ≡ false)
-      by_start a b = grind (arith, nat_tests)
+      let none = count-none (number r.start) (is_in_rule r) (λ m l. in_rule_earlier r m l) in
+      grind (arith, nat_tests, counted, endless, in_rule_start)
 
   pub kept_number : (n : ℕ) → n ≤ rules_end → count n (is_kept r) ≡ min (count n (is_in_rule r)) c
   kept_number zero inside = unfold count in omega arith

@@ -12,7 +12,7 @@ use Rattle.ics_rule.specs.PeriodNumbers.{day_of}
 use Rattle.ics_rule.specs.EffectiveRules.{takes_weekday, skips_hours, skips_minutes, skips_seconds, effective}
 use Rattle.ics_rule.specs.Candidates.{lets, lets_place, lets_week, lists}
 use Rattle.ics_rule.specs.RecurrencePeriods.{is_let_in}
-use Rattle.ics_rule.specs.PlainReading.{applies, is_extracted, is_dayless}
+use Rattle.ics_rule.specs.PlainReading.{is_extracted, is_dayless}
 use Rattle.ics_rule.specs.Table.{Part, ByMonth, ByWeekNo, ByYearDay, ByMonthDay, ByDay, ByHour, ByMinute, BySecond, Cell, Nothing, Expand, Note1, Note2}
 use Rattle.ics_rule.specs.Table.{cell}
 use Rattle.ics_rule.specs.ByTable.{Instance, Instances, instance_of, start_of, is_absent, is_listed, own_instance, before, gives, on_own_day, apply_cell, apply}

@@ -1,10 +1,10 @@
-use Rattle.std.proofs.Common.{ℕ, Bool, ◌∙◌, ◌+◌, ◌<◌, ◌≤◌, ◌&&◌, ap, nat_lt, pos, sym, subst, arith}
+use Rattle.std.proofs.Common.{◌∙◌, ◌+◌, ◌<◌, ap, nat_lt, pos, arith}
 use Rattle.jiff_core.proofs.CalendarLemmas.{days_in_month_bounds, days_in_year_bounds}
 use Rattle.ics_fields.specs.Sets.{contains, contains_wide}
 use Rattle.ics_fields.specs.Days.{year_of}
 use Rattle.ics_fields.proofs.SetLemmas.{member_below}
 use Rattle.ics_rule.proofs.ScanLemmas.{none_has}
-use Rattle.ics_rule.proofs.MonthDays.{seen_months, months_none, month_step, months_done}
+use Rattle.ics_rule.proofs.MonthDays.{months_none, month_step, months_done}
 use Rattle.ics_rule.proofs.days.add_listed_days.Goals as goal
 use Rattle.ics_rule.proofs.days.add_listed_days.Goals.{In-Some}
 
@@ -22,32 +22,26 @@ pub month_run-requires-clause-high : goal.month_run-requires-clause-high
 month_run-requires-clause-high c = let s = small (goal.at.month_run-requires-clause-high c).In-Some in omega (arith, s)
 
 pub add_month-requires-clause-own : goal.add_month-requires-clause-own
-add_month-requires-clause-own c = let m = c.month_run.ensures.month (year_of c.args.first) c.requires.span in let w = m.weekday in omega (arith, w)
+add_month-requires-clause-own c = omega (arith, (c.month_run.ensures.month (year_of c.args.first) c.requires.span).weekday)
 
 pub add_month-requires-clause-some : goal.add_month-requires-clause-some
 add_month-requires-clause-some c = let b = days_in_month_bounds (pos (year_of c.args.first)) c.in-Some.month in
-    let m = c.month_run.ensures.month (year_of c.args.first) c.requires.span in let s = m.size in omega (arith, b.1, s)
+    omega (arith, b.1, (c.month_run.ensures.month (year_of c.args.first) c.requires.span).size)
 
 pub add_month-requires-clause-most : goal.add_month-requires-clause-most
 add_month-requires-clause-most c = let b = days_in_month_bounds (pos (year_of c.args.first)) c.in-Some.month in
-    let m = c.month_run.ensures.month (year_of c.args.first) c.requires.span in let s = m.size in omega (arith, b.0, s)
+    omega (arith, b.0, (c.month_run.ensures.month (year_of c.args.first) c.requires.span).size)
 
 pub add_month-requires-clause-within : goal.add_month-requires-clause-within
 add_month-requires-clause-within c = let b = days_in_year_bounds (pos (year_of c.args.first)) in
-    let w = c.month_run.ensures.within (year_of c.args.first) c.requires.span in omega (arith, b.0, w, c.requires.span.1.1)
+    omega (arith, b.0, c.month_run.ensures.within (year_of c.args.first) c.requires.span, c.requires.span.1.1)
 
 pub loop-month-preserved : goal.loop-month-preserved
-loop-month-preserved c =
-    let y = year_of c.args.first in
-    let seen : ℕ → ℕ → Bool = λ k from. seen_months c.args.parts.now (contains c.open_months-months.result) from (c.args.first + k) in (
-      λ k. month_step c.args.parts.now k
-          (c.month_run.ensures.month y c.requires.span) c.requires.span.1.0
-          (subst (λ n. c.month_run.result.start + c.month_run.result.len ≤ n) c.requires.span.1.1 (c.month_run.ensures.within y c.requires.span))
-          c.in-Some.ensures.next
-          (c.loop-month.invariant.0 k ∙ ap (λ n. nat_lt k n && seen k c.loop-month.from) c.requires.span.1.1) (c.add_month.ensures k)
-          ∙ ap (λ n. nat_lt k n && seen k (c.in-Some.month + 1)) (sym c.requires.span.1.1),
-      omega arith,
-    )
+loop-month-preserved c = (
+  λ k. month_step c.args.parts.now k (c.month_run.ensures.month (year_of c.args.first) c.requires.span) c.requires.span.1.0 c.requires.span.1.1
+      (c.month_run.ensures.within (year_of c.args.first) c.requires.span) c.in-Some.ensures.next (c.loop-month.invariant.0 k) (c.add_month.ensures k),
+  omega arith,
+)
 
 pub returns : goal.returns
 returns c = λ k. c.loop-month.invariant.0 k

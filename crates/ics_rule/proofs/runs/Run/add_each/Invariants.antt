@@ -1,4 +1,4 @@
-use Rattle.std.proofs.Common.{◌≡◌, ℕ, ◌+◌, ◌-◌, ◌&&◌, ◌||◌, ◌==◌, nat_lt}
+use Rattle.std.proofs.Common.{◌≡◌, ℕ, ◌-◌, ◌&&◌, ◌||◌, ◌==◌, nat_lt}
 use Rattle.ics_fields.specs.Sets.{contains_wide}
 use Rattle.ics_rule.specs.Runs.{has_run, weekday_in}
 use Rattle.ics_rule.proofs.runs.Run.add_each.Given as goal

@@ -9,10 +9,7 @@ inside : (c : In-Some) → (1 ≤ c.in-Some.n) × (c.in-Some.n ≤ c.args.self.l
 inside c = grind (arith, listed_within)
 
 pub loop-n-init : goal.loop-n-init
-loop-n-init c = (
-  λ m. day_none c.args.self (contains c.listed-listed.result) 1 m (contains_wide c.args.days.now m) (contains_wide c.args.days.now m),
-  omega arith,
-)
+loop-n-init c = grind (arith, day_none)
 
 pub insert-requires : goal.insert-requires
 insert-requires c = let i = inside (goal.at.insert-requires c).In-Some in omega (arith, i.0, i.1, c.requires.within)

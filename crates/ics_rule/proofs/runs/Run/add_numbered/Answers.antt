@@ -13,11 +13,7 @@ inside c =
     (some, omega (arith, some, most, c.days_from.ensures, c.first_on-first.ensures.early, c.requires.some))
 
 pub loop-n-init : goal.loop-n-init
-loop-n-init c = (
-  λ m. number_none c.args.self (contains c.listed-listed.result) c.args.weekday c.first_on-first.result 1 m (contains_wide c.args.days.now m)
-      (contains_wide c.args.days.now m) c.first_on-first.ensures.place c.first_on-first.ensures.early,
-  omega arith,
-)
+loop-n-init c = grind (arith, number_none)
 
 pub insert-requires : goal.insert-requires
 insert-requires c = let i = inside (goal.at.insert-requires c).In-Some in omega (arith, i.0, i.1, c.requires.within)

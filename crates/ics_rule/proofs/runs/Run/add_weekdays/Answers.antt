@@ -10,8 +10,7 @@ use Rattle.ics_rule.proofs.RunLemmas.{weekdays_none, weekdays_more, weekdays_jum
 use Rattle.ics_rule.proofs.runs.Run.add_weekdays.Goals as goal
 
 pub loop-weekday-init : goal.loop-weekday-init
-loop-weekday-init c = λ m. weekdays_none (λ d. lists_weekday c.args.weekdays.now d (m - c.args.self.start + 1) c.args.self.len)
-    (weekday_in c.args.self (m - c.args.self.start)) (contains_wide c.args.days.now m) (has_run c.args.self m)
+loop-weekday-init c = grind (arith, weekdays_none)
 
 pub add_weekday-requires-clause-weekday : goal.add_weekday-requires-clause-weekday
 add_weekday-requires-clause-weekday c = named_small c.in-Some.weekday (names_weekday c.args.weekdays.now c.in-Some.weekday)
