@@ -1,13 +1,13 @@
 -- The tests of a date by the fields that `civil` gives.
-use Rattle.std.proofs.Common.{◌≡◌, ℕ, ◌<◌, nat_lt, ◌+◌, ◌-◌, ◌/◌, ◌%◌, Bool, true, false, ◌&&◌, ◌||◌, pos, refl, sym, arith}
+use Rattle.std.proofs.Common.{◌≡◌, ℕ, ◌<◌, nat_lt, ◌+◌, ◌-◌, ◌/◌, ◌%◌, Bool, true, false, ◌&&◌, ◌||◌, pos, refl, arith}
 use Rattle.std.proofs.lemmas.Bool.{and_parts, and_right, or_left}
 use Rattle.std.proofs.lemmas.Bool.Decides.{nat_tests}
 use Rattle.std.proofs.lemmas.Nat.Bits.{bit_at-zero}
 use Rattle.ics_fields.specs.declared.frequency.Frequency.{Frequency}
 use Rattle.ics_fields.specs.declared.frequency.Frequency.TheVariants.{Weekly}
 use Rattle.ics_fields.specs.declared.ordinals.Ordinals.{Ordinals}
-use Rattle.ics_fields.specs.Sets.{contains, is_empty}
-use Rattle.ics_fields.specs.Ordinals.{lists_none, lists_none_wide, lists_no_weekday, numbers_of}
+use Rattle.ics_fields.specs.Sets.{contains}
+use Rattle.ics_fields.specs.Ordinals.{lists_none, lists_no_weekday, numbers_of}
 use Rattle.jiff_core.specs.Calendar.{days_in_year}
 use Rattle.jiff_core.specs.Weekday.{monday_zero}
 use Rattle.ics_rule.specs.declared.effective_rule.EffectiveRule.{EffectiveRule}
@@ -29,9 +29,6 @@ lets_week-fields q e c f = grind (arith, nat_tests)
 pub out_1 : (a b c d e : Bool) → a ≡ false → (a && b && c && d && e) ≡ false
 out_1 a b c d e h = rw h refl
 
-pub all_in : {a b c d : Bool} (e : Bool) → a ≡ true → b ≡ true → c ≡ true → d ≡ true → e ≡ (a && b && c && d && e)
-all_in e p q r s = rw (p, q, r, s) refl
-
 -- a weekday that stands neither alone nor with a number is out
 pub none_nth : (p : Ordinals) (n size : ℕ) → lists_none p ≡ true → lists_nth p n size ≡ false
 none_nth p n size h = grind (arith, nat_tests, and_parts, bit_at-zero, zero_of)
@@ -45,13 +42,7 @@ weekday_out q e a c = grind (arith, nat_tests, and_right, none_numbered)
 
 -- where no other part speaks of the date BYDAY decides
 pub weekdays_alone : (q : EffectiveRule) (e : ℕ) → names_weekdays_alone q ≡ true → lets_date q e ≡ lets_weekday q e
-weekdays_alone q e alone = let f = four (is_empty q.months) (lists_none q.month_days) (lists_none_wide q.year_days) (lists_none q.weeks) alone in
-    sym (all_in (lets_weekday q e)
-    (or_left (is_empty q.months) _ f.0) (or_left (lists_none q.month_days) _ f.1.0) (or_left (lists_none_wide q.year_days) _ f.1.1.0)
-    (or_left (lists_none q.weeks) _ f.1.1.1))
-  where
-    four : (a b c d : Bool) → (a && b && c && d) ≡ true → (a ≡ true) × ((b ≡ true) × ((c ≡ true) × (d ≡ true)))
-    four a b c d h = grind arith
+weekdays_alone q e alone = grind (arith, nat_tests, or_left)
 
 -- and a weekday that stands alone is in there
 pub weekday_in : (q : EffectiveRule) (e : ℕ) → (lists_no_weekday q.weekdays || contains q.weekdays.plain (weekday_of e)) ≡ true →

@@ -1,6 +1,5 @@
 -- Weeks from Monday are the weeks of ISO 8601.
-use Rattle.std.proofs.Common.{◌≡◌, ℕ, zero, suc, ◌+◌, ◌-◌, ◌*◌, ◌/◌, ◌%◌, ◌<◌, ◌≤◌, cond, refl, sym, ap, ◌∙◌, arith, ℤ, pos, negsuc, neg_ℤ, ◌+ℤ◌, ◌-ℤ◌}
-use Rattle.std.proofs.lemmas.Bool.{le-ltb, lt-ltb}
+use Rattle.std.proofs.Common.{◌≡◌, ℕ, zero, suc, ◌+◌, ◌-◌, ◌*◌, ◌/◌, ◌%◌, ◌<◌, ◌≤◌, refl, sym, ap, ◌∙◌, arith, ℤ, pos, negsuc, neg_ℤ, ◌+ℤ◌, ◌-ℤ◌}
 use Rattle.jiff_core.specs.Calendar.{days_in_year, iso_year_start, IsYear, IsBetween}
 use Rattle.jiff_core.specs.IsoWeek.{weeks_in_year, days_from_iso}
 use Rattle.jiff_core.specs.Weekday.{monday_zero}
@@ -11,11 +10,10 @@ use Rattle.jiff_core.proofs.IsoWeekLemmas.{day_count-fourth, iso_year_start-day_
 use borrow.Author.Differences.{up, down}
 use Rattle.ics_fields.specs.Days.{days_before_year, year_of, weekday_of}
 use Rattle.ics_fields.proofs.DayLemmas.{day_count_is, year_of_is, days_before_year-next}
-use Rattle.ics_rule.specs.PeriodNumbers.{week_of}
 use Rattle.ics_rule.specs.Candidates.{fourth_day, week_number, weeks_of_year}
 use Rattle.ics_rule.specs.IsoWeeks.{IsDay}
 use Rattle.ics_rule.proofs.LawLemmas.{year_day_is}
-use Rattle.ics_rule.proofs.PeriodLemmas.{week_small}
+use Rattle.ics_rule.proofs.PeriodLemmas.{week_small, fourth_early, fourth_late}
 
 -- the Monday that begins an ISO year, counted from 0000-01-01
 abbrev start_of : ℕ → ℕ
@@ -31,8 +29,15 @@ record IsWeek (y n all w e : ℕ) : Type 0 where
   pub weeks : weeks_of_year (fourth_day 0 e) ≡ all
   pub weekday : weekday_of e ≡ w
 
-fourth_later : (e : ℕ) → 2 ≤ e → fourth_day 0 e ≡ 7 * ((e + 12) / 7) - 9
-fourth_later e late = ap (λ b. cond b (7 * week_of 0 e + 0 + 146_088) (7 * week_of 0 e + 0 - 9)) (le-ltb (7 * week_of 0 e + 0) 9 (omega arith)) ∙ omega arith
+by_fourth : {y n all w : ℕ} (e f : ℕ) → fourth_day 0 e ≡ f → days_before_year y ≤ f → f < days_before_year (suc y) → (f - days_before_year y) / 7 + 1 ≡ n
+    → (days_before_year (suc y) - days_before_year y - 1 - (f - days_before_year y) % 7) / 7 + 1 ≡ all → weekday_of e ≡ w → IsWeek y n all w e
+by_fourth {y = y} e f fourth low high number weeks weekday =
+    let year = ap year_of fourth ∙ year_of_is f y low high in
+    let day = year_day_is (fourth_day 0 e) in
+    let before = ap days_before_year year in
+    let size = ap (λ y. days_in_year (pos y)) year in
+    let length = days_before_year-next y in
+    record { year = year; number = omega (arith, fourth, day, before, number); weeks = omega (arith, fourth, day, before, size, length, weeks); weekday = weekday }
 
 -- the Thursday f of week n in a year from a up to b, which begins on Monday s, and the next one on t
 record IsThursday (a b s t n f : ℕ) : Type 0 where
@@ -64,21 +69,9 @@ later_week y {n = n} {w = w} e range within week day =
     of_place y {n = n} {e = e} one most week place end =
         let length = days_before_year-next y in
         let late : 2 ≤ e = omega arith in
-        let fourth = fourth_later e late in
-        let own = thursday refl refl (omega (arith, length))
-        one (omega arith) (omega (arith, fourth, place)) in
-        let year = year_of_is (fourth_day 0 e) y own.low own.high in
-        let day = year_day_is (fourth_day 0 e) in
-        let before = ap days_before_year year in
-        let size = ap (λ y. days_in_year (pos y)) year in (
-          late,
-          record {
-            year = year;
-            number = omega (arith, day, before, own.place);
-            weeks = omega (arith, day, before, size, length, own.weeks, end);
-            weekday = omega (arith, place);
-          },
-        )
+        let fourth : fourth_day 0 e ≡ 7 * ((e + 12) / 7) - 9 = fourth_late 0 e (omega arith) ∙ omega arith in
+        let own = thursday refl refl (omega (arith, length)) one (omega arith) (omega (arith, fourth, place)) in
+        (late, by_fourth e (fourth_day 0 e) refl own.low own.high own.place (omega (arith, own.weeks, end)) (omega (arith, place)))
 
 -- week 52 of the year -1 is named one cycle of the calendar later
 early_week : {n w : ℕ} (e : ℕ) → 1 ≤ n → n ≤ weeks_in_year (negsuc 0) → w < 7 → iso_year_start (negsuc 0) +ℤ pos ((n - 1) * 7 + w) ≡ pos e -ℤ pos 719_528
@@ -97,26 +90,11 @@ early_week {n = n} {w = w} e one most week day =
     let place : e + 362 ≡ (n - 1) * 7 + w = omega (arith, signed_arith, monday, ap up day, ap down day) in
     of_place e one most all week place
   where
-    fourth_early : (e : ℕ) → e < 2 → fourth_day 0 e ≡ 146_095
-    fourth_early e early = ap (λ b. cond b (7 * week_of 0 e + 0 + 146_088) (7 * week_of 0 e + 0 - 9)) (lt-ltb (7 * week_of 0 e + 0) 9 (omega arith))
-        ∙ omega arith
-
     of_place : {n w weeks : ℕ} (e : ℕ) → 1 ≤ n → n ≤ weeks → weeks ≡ 52 → w < 7 → e + 362 ≡ (n - 1) * 7 + w → (e < 2) × IsWeek 399 n weeks w e
     of_place e one most all week place =
         let early : e < 2 = omega arith in
-        let fourth = fourth_early e early in
-        let year = ap year_of fourth ∙ year_of_is 146_095 399 (omega arith) (omega arith) in
-        let day = year_day_is (fourth_day 0 e) in
-        let before = ap days_before_year year in
-        let size = ap (λ y. days_in_year (pos y)) year in (
-          early,
-          record {
-            year = year;
-            number = omega (arith, fourth, day, before, place);
-            weeks = omega (arith, fourth, day, before, size, all);
-            weekday = omega (arith, place);
-          },
-        )
+        (early, by_fourth e 146_095 (fourth_early 0 e (omega arith) ∙ omega arith) (omega arith) (omega arith) (omega (arith, place)) (omega (arith, all))
+        (omega (arith, place)))
 
 -- no day from 0000-01-01 on is in a week of an earlier year
 no_earlier : (k : ℕ) {n w : ℕ} (e : ℕ) → k < 9998 → (1 ≤ n) × (n ≤ weeks_in_year (negsuc (suc k))) → w < 7 →

@@ -11,7 +11,8 @@ use Rattle.ics_fields.specs.declared.ordinals.Weekdays.{Weekdays}
 use Rattle.ics_fields.specs.Ordinals.{lists_none, numbers_of}
 use Rattle.ics_rule.specs.Candidates.{lists, lists_nth}
 use Rattle.ics_rule.specs.Runs.{has_run, weekday_in, lists_weekday}
-use Rattle.ics_rule.proofs.DateLemmas.{none_nth}
+use Rattle.ics_rule.specs.NamedWeekdays.{names_weekday}
+use Rattle.ics_rule.proofs.DateLemmas.{none_nth, in_week}
 use Rattle.ics_rule.proofs.ScanLemmas.{one_more, no_more}
 use Rattle.ics_rule.proofs.Tests.{above, and_false, below, iff, keep_true, or_false, or_swap, three}
 
@@ -122,22 +123,32 @@ pub numbered_listed : (a x w : Bool) {plain : Bool} (n : Bool) {new : Bool} → 
     → new ≡ (a || (x && (w && (plain || n))))
 numbered_listed a x w n h e = rw h e
 
--- the days of a run, weekday by weekday
-module _ (listed : ℕ → Bool) (w : ℕ) (a x : Bool) where
-  pub weekdays_more : (d : ℕ) {b new : Bool} → new ≡ (b || (x && ((w == d) && listed d)))
-      → b ≡ (a || (x && (nat_lt w d && listed w))) → new ≡ (a || (x && (nat_lt w (d + 1) && listed w)))
-  weekdays_more d e h = grind (arith, nat_tests, above, below, eq-eqb, le-ltb, lt-ltb, three)
-
-  pub weekdays_jump : {from d : ℕ} {b : Bool} → from ≤ d → (from ≤ w → w < d → listed w ≡ false)
-      → b ≡ (a || (x && (nat_lt w from && listed w))) → b ≡ (a || (x && (nat_lt w d && listed w)))
-  weekdays_jump up none e = grind (arith, nat_tests, cases_lt, le-ltb, lt-ltb)
-
-  pub weekdays_none : a ≡ (a || (x && (nat_lt w 0 && listed w)))
-  weekdays_none = rw (le-ltb w 0 (omega arith)) (sym (ap (λ y. a || y) (and_false x) ∙ or_false a))
-
 -- a weekday that BYDAY does not list has no day
-pub unnamed : (w : Weekdays) (d n size : ℕ) → (contains w.plain d || not (lists_none (numbers_of w d))) ≡ false → lists_weekday w d n size ≡ false
+unnamed : (w : Weekdays) (d n size : ℕ) → (contains w.plain d || not (lists_none (numbers_of w d))) ≡ false → lists_weekday w d n size ≡ false
 unnamed w d n size h = grind (arith, nat_tests, none_nth, out)
+
+-- the days of a run, weekday by weekday of those that BYDAY names
+module _ (ws : Weekdays) (named : ℕ → Bool) (is : (d : ℕ) → named d ≡ (nat_lt d 7 && names_weekday ws d)) (w n size : ℕ) (small : w < 7) (a x : Bool) where
+  abbrev seen_to : ℕ → Bool
+  seen_to d = a || (x && (nat_lt w d && lists_weekday ws w n size))
+
+  not_seen : named w ≡ false → lists_weekday ws w n size ≡ false
+  not_seen h = unnamed ws w n size (sym (in_week w (names_weekday ws w) small) ∙ sym (is w) ∙ h)
+
+  by_weekday : (listed : ℕ → Bool) {from d : ℕ} {b new : Bool} → (named w ≡ false → listed w ≡ false) → IsLeastFrom named from d
+      → new ≡ (b || (x && ((w == d) && listed d))) → b ≡ (a || (x && (nat_lt w from && listed w))) → new ≡ (a || (x && (nat_lt w (d + 1) && listed w)))
+  by_weekday listed none next e h = grind (arith, nat_tests, above, below, eq-eqb, le-ltb, lt-ltb, three)
+
+  pub weekdays_more : {from d : ℕ} {b new : Bool} → IsLeastFrom named from d → new ≡ (b || (x && ((w == d) && lists_weekday ws d n size)))
+      → b ≡ seen_to from → new ≡ seen_to (d + 1)
+  weekdays_more next e h = by_weekday (λ d. lists_weekday ws d n size) not_seen next e h
+
+  pub weekdays_done : {from : ℕ} {b : Bool} → ((d : ℕ) → from ≤ d → named d ≡ false) → b ≡ seen_to from → b ≡ (a || (x && lists_weekday ws w n size))
+  weekdays_done {from = from} left h =
+      h ∙ ap (λ y. a || (x && y)) (all_found (λ d. lists_weekday ws d n size) from w (λ low. not_seen (left w low)))
+
+pub weekdays_none : (w : ℕ) (a x y : Bool) → a ≡ (a || (x && (nat_lt w 0 && y)))
+weekdays_none w a x y = rw (le-ltb w 0 (omega arith)) (sym (ap (λ y. a || y) (and_false x) ∙ or_false a))
 
 -- the days of a month by their numbers
 module _ (r : Run) (listed : ℕ → Bool) (from m : ℕ) (a b : Bool) where

@@ -11,7 +11,7 @@ use Rattle.ics_fields.specs.Locals.{number, calendar_end}
 use Rattle.ics_rule.specs.Kept.{count}
 use Rattle.ics_rule.specs.RecurrencePeriods.{month_start}
 use Rattle.ics_rule.specs.Table.{BySetPos}
-use Rattle.ics_rule.specs.ByTable.{is_absent, is_instance, is_nth, is_limited, is_period, period_of, is_member}
+use Rattle.ics_rule.specs.ByTable.{is_absent, is_instance, is_nth, is_period, period_of, is_member}
 use Rattle.ics_rule.proofs.Counts.{count-suc, count-none}
 use Rattle.ics_rule.proofs.RankLemmas.{count_flat}
 use Rattle.ics_rule.proofs.PeriodLemmas.{month_begun, month_begins}
@@ -91,12 +91,10 @@ module _ (r : Recurrence) (p a b : ℕ) (monthly : IsMonthly r p) (first : month
   member e low high begun before =
       let day : day_of (e * 86_400 + 32_400) ≡ e = omega arith in
       let here : (a + (e - a)) * 86_400 + 32_400 ≡ e * 86_400 + 32_400 = omega (arith, begun) in
-      ap (λ x. e * 86_400 + 32_400 == number r.start || (nat_lt (number r.start) (e * 86_400 + 32_400)
-      && (is_period r x && is_limited r x (e * 86_400 + 32_400)))) (monthly.period (e * 86_400 + 32_400) ∙ ap month_number day ∙ in_month e begun before)
-      ∙ ap (λ x. e * 86_400 + 32_400 == number r.start || (nat_lt (number r.start) (e * 86_400 + 32_400) && (is_period r p
-      && (is_instance r p (e * 86_400 + 32_400) && (is_absent r BySetPos || x)))))
-      (sym (ap (is_nth r.parts.positions (is_instance r p)) here)
-      ∙ nth_by_days (is_instance r p) a b 32_400 (omega arith) shown r.parts.positions (e - a) low high)
+      let own = monthly.period (e * 86_400 + 32_400) ∙ ap month_number day ∙ in_month e begun before in
+      let placed = sym (ap (is_nth r.parts.positions (is_instance r p)) here)
+      ∙ nth_by_days (is_instance r p) a b 32_400 (omega arith) shown r.parts.positions (e - a) low high in
+      rw (own, placed) refl
 
   pub members_by_days : nat_le a b ≡ true → nat_le (b * 86_400) calendar_end ≡ true
       → filter (λ e. is_member r (e * 86_400 + 32_400)) (days_from a (b - a)) ≡ filter (by_days r p a b) (days_from a (b - a))

@@ -67,11 +67,7 @@ module _ (q : EffectiveRule) (some : lists_none q.weeks ≡ false) where
   listed_week {f = f} {y = y} j year place inside h =
       let day : year_day_of f - 1 ≡ j = (let d = year_day_is f in let same = ap days_before_year year in omega (arith, d, same, place)) in
       let bounds = days_in_year_bounds (pos y) in
-      let number : week_number f ≡ j / 7 + 1 = ap (λ x. x / 7 + 1) day in
-      let weeks : weeks_of_year f ≡ (days_in_year (pos y) - 1 - j % 7) / 7 + 1 = ap (λ x. (days_in_year (pos x) - 1 - (year_day_of f - 1) % 7) / 7 + 1) year
-      ∙ ap (λ x. (days_in_year (pos y) - 1 - x % 7) / 7 + 1) day in
-      let own : lets_place q.weeks (j / 7 + 1) ((days_in_year (pos y) - 1 - j % 7) / 7 + 1) ≡ true =
-      ap (λ n. lets_place q.weeks n ((days_in_year (pos y) - 1 - j % 7) / 7 + 1)) (sym number) ∙ ap (lets_place q.weeks (week_number f)) (sym weeks) ∙ h in
+      let own = rw (day, year) at h in
       let back = (days_in_year (pos y) - 1 - j % 7) / 7 + 1 + 1 - (j / 7 + 1) in
       either_back (contains q.weeks.front (j / 7 + 1)) (elim (cases_lt ((days_in_year (pos y) - 1 - j % 7) / 7 + 1) 53) [
         | inl fewer ↦ inl (let at : back ≡ 53 - (j / 7 + 1) = omega (arith, fewer, bounds.0, bounds.1) in ap (contains q.weeks.back) at)
