@@ -25,10 +25,6 @@ pub lets_week-fields : (q : EffectiveRule) (e : ℕ) (c : Civil) → IsCivilOf c
     lets_place q.weeks ((c.year_day - 1) / 7 + 1) ((days_in_year (pos c.year) - 1 - (c.year_day - 1) % 7) / 7 + 1) ≡ lets_week q e
 lets_week-fields q e c f = grind (arith, nat_tests)
 
--- a conjunction fails at its first part
-pub out_1 : (a b c d e : Bool) → a ≡ false → (a && b && c && d && e) ≡ false
-out_1 a b c d e h = rw h refl
-
 -- a weekday that stands neither alone nor with a number is out
 pub none_nth : (p : Ordinals) (n size : ℕ) → lists_none p ≡ true → lists_nth p n size ≡ false
 none_nth p n size h = grind (arith, nat_tests, and_parts, bit_at-zero, zero_of)

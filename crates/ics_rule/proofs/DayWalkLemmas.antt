@@ -1,14 +1,13 @@
 -- A date by its place in its year, and the days that are left of its month.
-use Rattle.std.proofs.Common.{◌≡◌, ℕ, ◌+◌, ◌-◌, ◌<◌, false, pos, ap, ◌∙◌, arith}
+use Rattle.std.proofs.Common.{◌≡◌, ℕ, ◌+◌, ◌-◌, ◌<◌, false, pos, refl, arith}
 use Rattle.jiff_core.specs.Calendar.{IsCivilDate, days_of_months, days_in_month}
 use Rattle.jiff_core.proofs.CalendarLemmas.{day_count-day_of_year}
-use Rattle.ics_fields.specs.Days.{days_before_year, year_day_of, month_of}
+use Rattle.ics_fields.specs.Days.{days_before_year, year_day_of}
 use Rattle.ics_fields.specs.Fields.{IsCivilOf}
 use Rattle.ics_fields.specs.declared.fields.Civil.{Civil}
 use Rattle.ics_fields.proofs.DayLemmas.{fields_of, day_count_is, year_under_way, Fields}
 use Rattle.ics_rule.specs.declared.effective_rule.EffectiveRule.{EffectiveRule}
-use Rattle.ics_rule.specs.Candidates.{lets, lets_week, lets_weekday, lets_date}
-use Rattle.ics_rule.proofs.DateLemmas.{out_1}
+use Rattle.ics_rule.specs.Candidates.{lets, lets_date}
 
 -- a date by its place in its year
 pub fields_at : (e y m d : ℕ) → IsCivilDate (pos y) m d → e + 1 ≡ days_before_year y + (days_of_months (pos y) (m - 1) + d) → Fields e y m d
@@ -27,4 +26,4 @@ pub month_out : (q : EffectiveRule) {c : Civil} {e : ℕ} (j : ℕ) → IsCivilO
 month_out q {c = c} {e = e} j own h none =
     let p = place_of c e own in
     let f = fields_at (e + j) c.year c.month (c.day + j) (own.date.0, own.date.1, (omega (arith, own.date.2.0), omega (arith, h))) (omega (arith, p)) in
-    out_1 (lets q.months (month_of (e + j))) _ _ (lets_week q (e + j)) (lets_weekday q (e + j)) (ap (lets q.months) f.month ∙ none)
+    rw (f.month, none) refl

@@ -14,13 +14,14 @@ use Rattle.ics_rule.specs.declared.cursor.Cursor.{Cursor}
 use Rattle.ics_rule.specs.Searches.{IsTurned}
 use Rattle.ics_rule.specs.PeriodNumbers.{period}
 use Rattle.ics_rule.specs.Candidates.{lets, lets_date, lets_clock, is_stepped, is_candidate_in, period_in}
-use Rattle.ics_rule.specs.Kept.{count, is_beside, rank, size, is_placed, is_chosen}
-use Rattle.ics_rule.specs.RecurrencePeriods.{first_local, is_listed}
+use Rattle.ics_rule.specs.Kept.{count, is_beside, size, is_placed, is_chosen}
+use Rattle.ics_rule.specs.RecurrencePeriods.{first_local}
 use Rattle.ics_rule.specs.Rounds.{seconds_of}
-use Rattle.ics_rule.specs.OpenPeriods.{per_day, lets_own, lets_within, is_open_period, size_of_open, chosen_of_size, chosen_in_open}
-use Rattle.ics_rule.proofs.Counts.{count-same, count-suc, count-add, count-from, count-none, count-product, count_every}
+use Rattle.ics_rule.specs.OpenPeriods.{per_day, lets_own, lets_within, is_open_period, chosen_in_open}
+use Rattle.ics_rule.proofs.Counts.{count-same, count-suc, count-add, count-none, count-product, count_every}
 use Rattle.ics_rule.proofs.ProductCounts.{count_zero}
-use Rattle.ics_rule.proofs.RankLemmas.{count_flat, count-ranked, rank_listed}
+use Rattle.ics_rule.proofs.RankLemmas.{placed_of, size_decides}
+use Rattle.ics_rule.proofs.ChosenLemmas.{chosen_of_span}
 use Rattle.ics_rule.proofs.StepLemmas.{stepped_parts}
 use Rattle.ics_rule.proofs.CountLemmas.{IsCountedStep}
 use Rattle.ics_rule.proofs.RoundLemmas.{step_repeats}
@@ -105,11 +106,6 @@ module _ (q : EffectiveRule) (start : ℕ) (fine : 0 < seconds_of q.frequency) (
   abbrev is_open : ℕ → Bool
   is_open = is_open_period q (period_in q start)
 
-  -- whether BYSETPOS lets the place of a local in, of those that are let in
-  abbrev chosen_by : Bool → ℕ → Bool
-  chosen_by true k = within k
-  chosen_by false k = within k && is_listed q.positions (count u within) (count k within)
-
   period_of : (p k : ℕ) → k < u → period_in q (p * u + k) ≡ p
   period_of p k l = period_at q p k q.frequency (monday_zero q.week_start) fine unit l
 
@@ -132,33 +128,17 @@ module _ (q : EffectiveRule) (start : ℕ) (fine : 0 < seconds_of q.frequency) (
     beside_in : (m : ℕ) → is_beside q start (p * u + k) m ≡ true → (p * u ≤ m) × (m < p * u + u)
     beside_in m here = grind (arith, and_parts, eqb-true, in_period, period_of)
 
-    rank_at : rank q start (p * u + k) ≡ count (suc k) within
-    rank_at =
-        ap (λ x. count x (is_beside q start (p * u + k))) (let whole : suc (p * u + k) ≡ p * u + suc k = omega arith in whole)
-        ∙ count-from (p * u) (suc k) (is_beside q start (p * u + k))
+    chosen_at : p * u + u ≤ calendar_end → is_chosen q start (p * u + k) ≡ placed_of q.positions (lists_none_wide q.positions) within u k
+    chosen_at top =
+        chosen_of_span q start (p * u) u k within
         (λ m h. false_from_ne_true (is_beside q start (p * u + k) m) (λ here. let low = (beside_in m here).0 in omega (arith, low, h)))
-        ∙ count-same (suc k) (λ j. is_beside q start (p * u + k) (p * u + j)) within (λ j h. beside_at j (omega (arith, h, l)))
-
-    size_at : p * u + u ≤ calendar_end → size q start (p * u + k) ≡ count u within
-    size_at top =
-        count_flat (p * u + u) calendar_end (is_beside q start (p * u + k)) top
-        (λ m h t. false_from_ne_true (is_beside q start (p * u + k) m) (λ here. let high = (beside_in m here).1 in omega (arith, high, h)))
-        ∙ count-from (p * u) u (is_beside q start (p * u + k))
-        (λ m h. false_from_ne_true (is_beside q start (p * u + k) m) (λ here. let low = (beside_in m here).0 in omega (arith, low, h)))
-        ∙ count-same u (λ j. is_beside q start (p * u + k) (p * u + j)) within (λ j h. beside_at j h)
-
-    chosen_at : p * u + u ≤ calendar_end → (b : Bool) → (is_candidate_in q start (p * u + k) && is_placed q start b (p * u + k)) ≡ chosen_by b k
-    chosen_at top true = rw (candidate_at p k l, is) (keep_true (within k))
-    chosen_at top false = rw (candidate_at p k l, is, size_at top, rank_at) (rank_listed q.positions within k (count u within))
+        (λ m h. false_from_ne_true (is_beside q start (p * u + k) m) (λ here. let high = (beside_in m here).1 in omega (arith, high, h)))
+        beside_at l top (candidate_at p k l ∙ ap (λ x. x && within k) is) (lists_none_wide q.positions)
 
   chosen_open : (p : ℕ) → p * u + u ≤ calendar_end → is_open p ≡ true → count u (λ k. is_chosen q start (p * u + k)) ≡ chosen_in_open q
   chosen_open p top is =
-      count-same u (λ k. is_chosen q start (p * u + k)) (chosen_by (lists_none_wide q.positions)) (λ k l. chosen_at p k l is top (lists_none_wide q.positions))
-      ∙ by_places (lists_none_wide q.positions)
-    where
-      by_places : (b : Bool) → count u (chosen_by b) ≡ chosen_of_size q b (size_of_open q)
-      by_places true = refl
-      by_places false = count-ranked u within (is_listed q.positions (count u within))
+      count-same u (λ k. is_chosen q start (p * u + k)) (placed_of q.positions (lists_none_wide q.positions) within u) (λ k l. chosen_at p k l is top)
+      ∙ size_decides q (lists_none_wide q.positions) within u
 
   chosen_closed : (p : ℕ) → is_open p ≡ false → count u (λ k. is_chosen q start (p * u + k)) ≡ 0
   chosen_closed p out = count-none u (λ k. is_chosen q start (p * u + k))

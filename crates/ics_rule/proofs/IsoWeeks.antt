@@ -92,9 +92,11 @@ early_week {n = n} {w = w} e one most week day =
   where
     of_place : {n w weeks : ℕ} (e : ℕ) → 1 ≤ n → n ≤ weeks → weeks ≡ 52 → w < 7 → e + 362 ≡ (n - 1) * 7 + w → (e < 2) × IsWeek 399 n weeks w e
     of_place e one most all week place =
-        let early : e < 2 = omega arith in
-        (early, by_fourth e 146_095 (fourth_early 0 e (omega arith) ∙ omega arith) (omega arith) (omega arith) (omega (arith, place)) (omega (arith, all))
-        (omega (arith, place)))
+        let early : e < 2 = omega arith in (
+          early,
+          by_fourth e 146_095 (fourth_early 0 e (omega arith) ∙ omega arith) (omega arith) (omega arith) (omega (arith, place)) (omega (arith, all))
+              (omega (arith, place)),
+        )
 
 -- no day from 0000-01-01 on is in a week of an earlier year
 no_earlier : (k : ℕ) {n w : ℕ} (e : ℕ) → k < 9998 → (1 ≤ n) × (n ≤ weeks_in_year (negsuc (suc k))) → w < 7 →

@@ -1,7 +1,7 @@
 -- The days that months list, by their dates, and what is left to ask of them.
-use Rattle.std.proofs.Common.{◌≡◌, ℕ, zero, suc, ◌+◌, ◌-◌, ◌*◌, ◌/◌, ◌%◌, ◌<◌, ◌≤◌, ◌⊎◌, inl, inr, Bool, true, false, ◌==◌, ◌||◌, ◌&&◌, nat_lt, nat_le}
+use Rattle.std.proofs.Common.{◌≡◌, ℕ, zero, suc, ◌+◌, ◌-◌, ◌*◌, ◌/◌, ◌%◌, ◌<◌, ◌≤◌, ◌⊎◌, Bool, true, false, ◌==◌, ◌||◌, ◌&&◌, nat_lt, nat_le}
 use Rattle.std.proofs.Common.{pos, refl, sym, ap, ◌∙◌, arith}
-use Rattle.std.proofs.lemmas.Bool.{and_parts, and_right, cases_lt, eq-eqb, le-ltb, lt-ltb, or_left, ltb-true, ltb-false}
+use Rattle.std.proofs.lemmas.Bool.{and_parts, and_right, cases_lt, le-ltb, lt-ltb, or_left, ltb-true, ltb-false}
 use Rattle.std.proofs.lemmas.Bool.Decides.{nat_tests}
 use Rattle.jiff_core.specs.Calendar.{days_in_month, days_in_year}
 use Rattle.jiff_core.proofs.SignedLemmas.{signed_arith}
@@ -22,8 +22,8 @@ use Rattle.ics_rule.proofs.LawLemmas.{year_day_is}
 use Rattle.ics_rule.proofs.Months.{earlier_month, later_month, month_high}
 use Rattle.ics_rule.proofs.PeriodLemmas.{month_positive, month_size, IsPeriodFrom}
 use Rattle.ics_rule.proofs.DayWalkLemmas.{fields_at}
-use Rattle.ics_rule.proofs.RunLemmas.{next_found, all_found, guard, run_facts, run_shown}
-use Rattle.ics_rule.proofs.Tests.{above, and_assoc, below, keep_true, three}
+use Rattle.ics_rule.proofs.RunLemmas.{next_found, all_found, guard, run_facts}
+use Rattle.ics_rule.proofs.Tests.{and_assoc, keep_true, three}
 
 -- the month that a day of its year lies in
 module _ (r : Run) (first y m k : ℕ) (own : IsMonth r first y m) where
@@ -34,22 +34,12 @@ module _ (r : Run) (first y m k : ℕ) (own : IsMonth r first y m) where
 
   run_is_month : first ≡ days_before_year y → k < days_in_year (pos y) → has_run r k ≡ (month_of (first + k) == m)
   run_is_month start inside =
-      let year : year_of (first + k) ≡ y = year_of_is (first + k) y (omega (arith, start)) (let next = days_before_year-next y in
-      omega (arith, next, start, inside)) in
+      let next = days_before_year-next y in
+      let year = year_of_is (first + k) y (omega (arith, start)) (omega (arith, next, start, inside)) in
       let more = days_of_months_more (pos y) m own.low in
-      elim (cases_lt k r.start) [
-        | inl before ↦
-            let early = earlier_month y m own.low own.high (first + k) (omega (arith, own.place, before, start)) in
-            let out : nat_le r.start k ≡ false = grind (arith, nat_tests) in
-            ap (λ x. x && nat_lt (k - r.start) r.len) out ∙ sym (below (month_of (first + k)) m (omega (arith, early, year)))
-        | inr begun ↦ elim (cases_lt (k - r.start) r.len) [
-          | inl there ↦ let f = day_of_run begun there in run_shown r k begun there ∙ sym (eq-eqb (month_of (first + k)) m f.month)
-          | inr past ↦
-              let late = later_month y m own.low own.high (first + k) (omega (arith, own.place, own.size, more, past, start, begun)) in
-              and_right (nat_le r.start k) (nat_lt (k - r.start) r.len) (le-ltb (k - r.start) r.len past)
-              ∙ sym (above (month_of (first + k)) m (omega (arith, late, year)))
-        ]
-      ]
+      let early = earlier_month y m own.low own.high (first + k) in
+      let late = later_month y m own.low own.high (first + k) in
+      grind (arith, nat_tests, day_of_run)
 
   pub run_lists : (q : EffectiveRule) → has_run r k ≡ true → lists_in_month q (weekday_in r (k - r.start)) (k - r.start + 1) r.len
       ≡ lists_in_month q (weekday_of (first + k)) (month_day_of (first + k)) (days_in_month (pos (year_of (first + k))) (month_of (first + k)))

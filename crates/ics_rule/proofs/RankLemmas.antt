@@ -5,7 +5,9 @@ use Rattle.std.proofs.lemmas.Nat.{div-add-mod'}
 use Rattle.std.proofs.Math.Nat.{mod-lt, mul-le-mul_right}
 use Rattle.std.proofs.lemmas.Bool.Decides.{nat_tests}
 use Rattle.ics_fields.specs.Sets.{IsLeastFrom}
+use Rattle.ics_rule.specs.declared.effective_rule.EffectiveRule.{EffectiveRule}
 use Rattle.ics_rule.specs.Kept.{count}
+use Rattle.ics_rule.specs.OpenPeriods.{chosen_of_size}
 use Rattle.ics_rule.specs.RecurrencePeriods.{IsNth, is_listed}
 use Rattle.ics_rule.specs.Candidates.{lists_wide}
 use Rattle.ics_fields.specs.declared.ordinals.WideOrdinals.{WideOrdinals}
@@ -70,6 +72,20 @@ pub rank_listed : (positions : WideOrdinals) (p : ℕ → Bool) (k n : ℕ)
     → (p k && lists_wide positions (count (suc k) p) n) ≡ (p k && is_listed positions n (count k p))
 rank_listed positions p k n = guard (p k) _ _ (λ e. ap (λ x. lists_wide positions x n)
     (let last = count-suc k p in let one = count_one (p k) e in let next : count (suc k) p ≡ count k p + 1 = omega (arith, last, one) in next))
+
+-- of the numbers below len that pass, those at a place that BYSETPOS lists, or all if it is absent
+abbrev pub placed_of : WideOrdinals → Bool → (ℕ → Bool) → ℕ → ℕ → Bool
+placed_of positions true test len k = test k
+placed_of positions false test len k = test k && is_listed positions (count len test) (count k test)
+
+pub placed_out : (positions : WideOrdinals) (b : Bool) (test : ℕ → Bool) (len k : ℕ) → test k ≡ false → placed_of positions b test len k ≡ false
+placed_out positions true test len k e = e
+placed_out positions false test len k e = ap (λ x. x && is_listed positions (count len test) (count k test)) e
+
+-- how many they are depends on how many pass
+pub size_decides : (q : EffectiveRule) (b : Bool) (test : ℕ → Bool) (len : ℕ) → count len (placed_of q.positions b test len) ≡ chosen_of_size q b (count len test)
+size_decides q true test len = refl
+size_decides q false test len = count-ranked len test (is_listed q.positions (count len test))
 
 -- the next of them is the member with the next listed number
 module _ (p listed : ℕ → Bool) (n : ℕ) where
