@@ -173,31 +173,19 @@ year_weekday_listed p e small = nth_weekday_listed (in_year e) _ _ (year_stretch
 -- ---- weeks
 
 -- the calendar repeats after 400 years
-later_cycle : (f : ℕ) → year_of (f + 146_097) ≡ year_of f + 400
-later_cycle f = let u = year_under_way f in year_of_is (f + 146_097) (year_of f + 400) (omega (arith, u.0)) (omega (arith, u.1))
+later : (f g : ℕ) → g ≡ f + 146_097 → (year_day_of g ≡ year_day_of f) × (days_in_year (pos (year_of g)) ≡ days_in_year (pos (year_of f)))
+later f g e =
+    let u = year_under_way f in
+    let cycle = year_of_is g (year_of f + 400) (omega (arith, u.0, e)) (omega (arith, u.1, e)) in
+    grind (arith, nat_tests, days_before_year-next, year_day_is)
 
-later_year_day : (f : ℕ) → year_day_of (f + 146_097) ≡ year_day_of f
-later_year_day f = grind (arith, nat_tests, later_cycle, year_day_is)
-
-later_length : (f : ℕ) → days_in_year (pos (year_of (f + 146_097))) ≡ days_in_year (pos (year_of f))
-later_length f = grind (arith, nat_tests, days_before_year-next, later_cycle)
-
-record IsSameWeek (f g : ℕ) : Type 0 where
-  pub day : year_day_of f ≡ year_day_of g
-  pub length : days_in_year (pos (year_of f)) ≡ days_in_year (pos (year_of g))
-
-same_week : (w e : ℕ) → w < 7 → IsSameWeek (fourth_of_week w e) (fourth_day w e)
+same_week : (w e : ℕ) → w < 7 → (year_day_of (fourth_of_week w e) ≡ year_day_of (fourth_day w e))
+    × (days_in_year (pos (year_of (fourth_of_week w e))) ≡ days_in_year (pos (year_of (fourth_day w e))))
 same_week w e small = elim (cases_lt (7 * week_of w e + w) 9) [
   | inl early ↦
       let same : fourth_of_week w e ≡ fourth_day w e = let own = fourth_early w e early in omega (arith, own) in
-      record { day = ap year_day_of same; length = ap (λ f. days_in_year (pos (year_of f))) same }
-  | inr late ↦
-      let own = fourth_late w e late in
-      let same : fourth_of_week w e ≡ fourth_day w e + 146_097 = omega (arith, own, late) in
-      record {
-        day = ap year_day_of same ∙ later_year_day (fourth_day w e);
-        length = ap (λ f. days_in_year (pos (year_of f))) same ∙ later_length (fourth_day w e);
-      }
+      (ap year_day_of same, ap (λ f. days_in_year (pos (year_of f))) same)
+  | inr late ↦ later (fourth_day w e) (fourth_of_week w e) (let own = fourth_late w e late in omega (arith, own, late))
 ]
 
 week_places : (d len : ℕ) → 1 ≤ d → d ≤ len → (len - d) / 7 + 1 ≡ (len - 1 - (d - 1) % 7) / 7 + 1 + 1 - ((d - 1) / 7 + 1)
@@ -212,5 +200,5 @@ weeks_listed weeks w e small range =
     year_weekday_listed weeks f (omega arith)
     ∙ ap (λ x. contains weeks.front ((year_day_of f - 1) / 7 + 1) || contains weeks.back x)
     (week_places (year_day_of f) (days_in_year (pos (year_of f))) (omega (arith, d.place, d.low)) (omega (arith, d.place, d.size, d.low, d.high)))
-    ∙ ap (λ x. lists weeks ((x - 1) / 7 + 1) ((days_in_year (pos (year_of f)) - 1 - (x - 1) % 7) / 7 + 1)) same.day
-    ∙ ap (λ x. lists weeks (week_number (fourth_day w e)) ((x - 1 - (year_day_of (fourth_day w e) - 1) % 7) / 7 + 1)) same.length
+    ∙ ap (λ x. lists weeks ((x - 1) / 7 + 1) ((days_in_year (pos (year_of f)) - 1 - (x - 1) % 7) / 7 + 1)) same.0
+    ∙ ap (λ x. lists weeks (week_number (fourth_day w e)) ((x - 1 - (year_day_of (fourth_day w e) - 1) % 7) / 7 + 1)) same.1

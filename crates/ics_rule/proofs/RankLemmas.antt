@@ -93,31 +93,12 @@ module _ (p listed : ℕ → Bool) (n : ℕ) where
   test m = p m && listed (count m p)
 
   pub next_ranked : (i m : ℕ) → IsLeastFrom listed (count n p) i → IsNth p i m → IsLeastFrom test n m
-  next_ranked i m next nth = record {
-    passes = and_from (p m) (listed (count m p)) nth.passes (ap listed nth.before ∙ next.passes);
-    low = elim (cases_lt m n) [
-      | inl before ↦ absurd (
-          let more = count_one_more m m p (omega arith) nth.passes in
-          let up = count_mono (suc m) n p before in
-          omega (arith, more, up, nth.before, next.low))
-      | inr after ↦ after
-    ];
-    least = λ o l h. one o l h (p o) refl;
-  }
-    where
-      one : (o : ℕ) → n ≤ o → o < m → (b : Bool) → p o ≡ b → (p o && listed (count o p)) ≡ false
-      one o h l b g = grind (arith, and_right, count_mono, count_one_more)
+  next_ranked i m next nth = grind (arith, nat_tests, and_from, and_right, cases_lt, count_mono, count_one_more)
 
   pub none_ranked : {size : ℕ} (bound : ℕ) → size ≡ count bound p → ((m : ℕ) → bound ≤ m → p m ≡ false)
       → ((k : ℕ) → count n p ≤ k → k < size → listed k ≡ false) → (m : ℕ) → n ≤ m → test m ≡ false
-  none_ranked bound all past none m low = one (p m) refl
-    where
-      one : (b : Bool) → p m ≡ b → (p m && listed (count m p)) ≡ false
-      one false e = ap (λ x. x && listed (count m p)) e
-      one true e = and_right (p m) (listed (count m p)) (elim (cases_lt m bound) [
-        | inl inside ↦
-            let more = count_one_more m m p (omega arith) e in
-            let up = count_mono (suc m) bound p inside in
-            none (count m p) (count_mono n m p low) (omega (arith, more, up, all))
-        | inr outside ↦ absurd (let no = past m outside in cc)
-      ])
+  none_ranked bound all past none m low =
+      let more = count_one_more m m p (omega arith) in
+      let up = count_mono (suc m) bound p in
+      let begun = count_mono n m p low in
+      grind (arith, nat_tests, and_right)

@@ -22,19 +22,15 @@ use Rattle.ics_rule.proofs.Tests.{none_yet, or_false, or_swap}
 
 -- the days between two
 pub between_none : (low m : ℕ) (a : Bool) → a ≡ (a || (nat_le low m && nat_lt m low))
-between_none low m a = let none : (nat_le low m && nat_lt m low) ≡ false = grind (arith, nat_tests) in sym (ap (λ x. a || x) none ∙ or_false a)
+between_none low m a = grind (arith, nat_tests, or_false)
 
 pub between_more : (low k m : ℕ) (a : Bool) {b : Bool} → low ≤ k → b ≡ (a || (nat_le low m && nat_lt m k))
     → ((m == k) || b) ≡ (a || (nat_le low m && nat_lt m (k + 1)))
-between_more low k m a l e = ap (λ x. (m == k) || x) e ∙ or_swap a (m == k) (nat_le low m && nat_lt m k)
-    ∙ ap (λ x. a || x) (let one : ((m == k) || (nat_le low m && nat_lt m k)) ≡ (nat_le low m && nat_lt m (k + 1)) = grind (arith, nat_tests) in one)
+between_more low k m a l e = grind (arith, nat_tests, or_swap)
 
 pub between_done : {low end k : ℕ} (m : ℕ) (a : Bool) {b : Bool} → low ≤ k → end ≤ k → k ≤ max low end → b ≡ (a || (nat_le low m && nat_lt m k)) →
     b ≡ (a || (nat_le low m && nat_lt m end))
 between_done m a l h most e = grind (arith, nat_tests, cases_lt)
-
-pub kept : (old new b : Bool) → new ≡ (old || b) → old ≡ true → new ≡ true
-kept old new b e h = grind arith
 
 pub gained : (old new b : Bool) → new ≡ (old || b) → b ≡ true → new ≡ true
 gained old new b e h = grind arith
