@@ -62,6 +62,10 @@ expands absent Note1 = absent ByMonthDay
 expands absent Note2 = absent ByYearDay && absent ByMonthDay
 expands absent c = false
 
+-- a part that is absent has DTSTART's own, or all
+settled : (a t l : Bool) (own n : ℕ) → ((a || l) && own_if (a && t) own n) ≡ (if a then own_if t own n else l)
+settled a t l own n = grind arith
+
 -- what the parts of the day leave of a field
 module _ (absent : Part → Bool) (f : Frequency) (own n : ℕ) where
   abbrev stays : Part → Bool
@@ -89,23 +93,24 @@ module _ (absent : Part → Bool) (f : Frequency) (own n : ℕ) where
   month_own : own_if (gives_own f ByMonth) own (keep (stays ByMonth) own month_left) ≡ own_if (absent ByMonth && (gives_own f ByMonth && dayless)) own n
   month_own = grind (arith, nat_tests)
 
-  day_listed : (test : ℕ → ℕ → Bool) (own_day day : ℕ) → (cell ByMonthDay f ≡ Nothing → absent ByMonthDay ≡ true)
-      → (absent ByMonthDay || test (month_from (stays ByDay) n) (keep (stays ByDay) own_day day)) ≡ (absent ByMonthDay || test n day)
-  day_listed test own_day day none = grind (arith, nat_tests)
+  months_given : (test : ℕ → Bool) {t : Bool} → t ≡ (gives_own f ByMonth && dayless)
+      → ((absent ByMonth || test month_left) && own_if (gives_own f ByMonth) own (keep (stays ByMonth) own month_left))
+      ≡ (if absent ByMonth then (if t then (n == own) else true) else test n)
+  months_given test taken = rw (month_listed test, month_own, taken) (settled (absent ByMonth) (gives_own f ByMonth && dayless) (test n) own n)
 
-  day_own : (cell ByYearDay f ≡ Nothing → absent ByYearDay ≡ true) → (cell ByWeekNo f ≡ Nothing → absent ByWeekNo ≡ true)
-      → own_if (gives_own f ByMonthDay) own left_by_week ≡ own_if (absent ByMonthDay && (gives_own f ByMonthDay && dayless)) own n
-  day_own year_day week = grind (arith, nat_tests)
+  days_given : (test : ℕ → ℕ → Bool) (own_month month : ℕ) {t : Bool} → (cell ByMonthDay f ≡ Nothing → absent ByMonthDay ≡ true)
+      → (cell ByYearDay f ≡ Nothing → absent ByYearDay ≡ true) → (cell ByWeekNo f ≡ Nothing → absent ByWeekNo ≡ true)
+      → t ≡ (gives_own f ByMonthDay && dayless)
+      → ((absent ByMonthDay || test (keep (stays ByDay) (if absent ByMonth then own_month else month) month) (keep (stays ByDay) own n))
+      && own_if (gives_own f ByMonthDay) own left_by_week)
+      ≡ (if absent ByMonthDay then (if t then (n == own) else true) else test month n)
+  days_given test own_month month day year_day week taken = grind (arith, nat_tests)
 
   weekday_own : (cell ByMonthDay f ≡ Nothing → absent ByMonthDay ≡ true) → (cell ByYearDay f ≡ Nothing → absent ByYearDay ≡ true)
       → (cell ByWeekNo f ≡ Nothing → absent ByWeekNo ≡ true)
       → ((absent ByWeekNo || (left_by_year_day == own)) && own_if (gives_own f ByDay) own left_by_week)
       ≡ own_if (absent ByDay && (gives_own f ByDay || (absent ByMonthDay && absent ByYearDay && not (absent ByWeekNo)))) own n
   weekday_own day year_day week = grind (arith, nat_tests)
-
--- a part that is absent has DTSTART's own, or all
-settled : (a t l : Bool) (own n : ℕ) {e : Bool} → e ≡ t → ((a || l) && own_if (a && t) own n) ≡ (if a then (if e then (n == own) else true) else l)
-settled a t l own n same = grind arith
 
 weekday_settled : (b w day week near far own : Bool) {t : Bool} → ((w || near) && far) ≡ (if t then own else true) → (t ≡ true → b ≡ true)
     → ((b || day) && ((w || (near && week)) && far)) ≡ ((w || week) && (if t then own else (b || day)))
@@ -118,9 +123,6 @@ extracted f r = grind arith
 weekday_taken : (f : Frequency) (r : Recurrence) → (cell ByWeekNo f ≡ Nothing → is_absent r ByWeekNo ≡ true)
     → takes_weekday f r.parts ≡ (is_absent r ByDay && (gives_own f ByDay || (is_absent r ByMonthDay && is_absent r ByYearDay && not (is_absent r ByWeekNo))))
 weekday_taken f r week = grind arith
-
-both : {a a' b b' : Bool} → a ≡ a' → b ≡ b' → (a && b) ≡ (a' && b')
-both a b = rw (a, b) refl
 
 module _ (r : Recurrence) (allowed : IsAllowed r) where
   -- an instance as a part leaves it to the parts before: as it is, or with what DTSTART gives
@@ -178,20 +180,16 @@ module _ (r : Recurrence) (allowed : IsAllowed r) where
     months : Gives (lets_part ByMonth left_by_days) (own_if (gives_own r.parts.frequency ByMonth) (start_of r).month (left ByMonth left_by_days).month)
         (lets (effective r).months i.month)
     months = record {
-      same = both (month_listed (is_absent r) r.parts.frequency (start_of r).month i.month (contains r.parts.months))
-          (month_own (is_absent r) r.parts.frequency (start_of r).month i.month)
-          ∙ settled (is_absent r ByMonth) _ (contains r.parts.months i.month) (start_of r).month i.month (extracted r.parts.frequency r).0
+      same = months_given (is_absent r) r.parts.frequency (start_of r).month i.month (contains r.parts.months) (extracted r.parts.frequency r).0
           ∙ sym (months_let_in r i.month);
     }
 
     month_days : Gives (lets_part ByMonthDay (left ByDay i)) (own_if (gives_own r.parts.frequency ByMonthDay) (start_of r).month_day left_by_days.month_day)
         (lets_place (effective r).month_days i.month_day (days_in_month (pos i.year) i.month))
     month_days = record {
-      same = both (day_listed (is_absent r) r.parts.frequency (start_of r).month i.month
-          (λ month day. lists r.parts.month_days day (days_in_month (pos i.year) month)) (start_of r).month_day i.month_day (allowed.parts ByMonthDay))
-          (day_own (is_absent r) r.parts.frequency (start_of r).month_day i.month_day (allowed.parts ByYearDay) (allowed.parts ByWeekNo))
-          ∙ settled (is_absent r ByMonthDay) _ (lists r.parts.month_days i.month_day (days_in_month (pos i.year) i.month)) (start_of r).month_day i.month_day
-          (extracted r.parts.frequency r).1
+      same = days_given (is_absent r) r.parts.frequency (start_of r).month_day i.month_day
+          (λ month day. lists r.parts.month_days day (days_in_month (pos i.year) month)) (start_of r).month i.month
+          (allowed.parts ByMonthDay) (allowed.parts ByYearDay) (allowed.parts ByWeekNo) (extracted r.parts.frequency r).1
           ∙ sym (month_days_let_in r i.month_day (days_in_month (pos i.year) i.month));
     }
 

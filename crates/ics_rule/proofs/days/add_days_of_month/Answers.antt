@@ -1,4 +1,4 @@
-use Rattle.std.proofs.Common.{inl, inr, ◌∙◌, ◌+◌, ◌-◌, ◌/◌, ◌%◌, pos, ap, refl, arith}
+use Rattle.std.proofs.Common.{inl, inr, ◌∙◌, ◌+◌, ◌%◌, ap, refl, arith}
 use Rattle.jiff_core.proofs.CalendarLemmas.{days_in_month_bounds}
 use Rattle.ics_fields.specs.Sets.{contains_wide}
 use Rattle.ics_rule.proofs.ScanLemmas.{none_has}
@@ -8,24 +8,19 @@ use Rattle.ics_rule.proofs.days.add_days_of_month.Goals as goal
 use Rattle.ics_rule.proofs.days.add_days_of_month.Goals.{then-lets, else-lets}
 
 pub add_days_by_day-requires-clause-size : goal.add_days_by_day-requires-clause-size
-add_days_by_day-requires-clause-size c = let b = days_in_month_bounds (pos ((c.args.number - 1) / 12)) ((c.args.number - 1) % 12 + 1) in
-    omega (arith, b.0, c.requires.span.1.1.1)
+add_days_by_day-requires-clause-size c = grind (arith, days_in_month_bounds)
 
 pub add_days_by_day-requires-clause-days : goal.add_days_by_day-requires-clause-days
-add_days_by_day-requires-clause-days c = let b = days_in_month_bounds (pos ((c.args.number - 1) / 12)) ((c.args.number - 1) % 12 + 1) in
-    omega (arith, b.0, c.requires.span.1.1.1, c.requires.days)
+add_days_by_day-requires-clause-days c = grind (arith, days_in_month_bounds)
 
 pub add_month-requires-clause-some : goal.add_month-requires-clause-some
-add_month-requires-clause-some c = let b = days_in_month_bounds (pos ((c.args.number - 1) / 12)) ((c.args.number - 1) % 12 + 1) in
-    omega (arith, b.1, c.requires.span.1.1.1)
+add_month-requires-clause-some c = grind (arith, days_in_month_bounds)
 
 pub add_month-requires-clause-most : goal.add_month-requires-clause-most
-add_month-requires-clause-most c = let b = days_in_month_bounds (pos ((c.args.number - 1) / 12)) ((c.args.number - 1) % 12 + 1) in
-    omega (arith, b.0, c.requires.span.1.1.1)
+add_month-requires-clause-most c = grind (arith, days_in_month_bounds)
 
 pub add_month-requires-clause-within : goal.add_month-requires-clause-within
-add_month-requires-clause-within c = let b = days_in_month_bounds (pos ((c.args.number - 1) / 12)) ((c.args.number - 1) % 12 + 1) in
-    omega (arith, b.0, c.requires.span.1.1.1)
+add_month-requires-clause-within c = grind (arith, days_in_month_bounds)
 
 pub leave_let_in-requires-clause-numbers : goal.leave_let_in-requires-clause-numbers
 leave_let_in-requires-clause-numbers c = ap (counts_in_month c.args.parts.now) c.requires.frequency
