@@ -1,6 +1,6 @@
 -- The months of a rule with days that each month has.
 use Rattle.std.specs.Option.{is_some}
-use Rattle.std.proofs.Common.{Option, Some, None, ◌≡◌, ℕ, zero, suc, ◌+◌, ◌-◌, ◌*◌, ◌/◌, ◌%◌, ◌<◌, ◌≤◌, Bool, false, ◌&&◌, pos, ap, ◌∙◌}
+use Rattle.std.proofs.Common.{Option, Some, None, ◌≡◌, ℕ, zero, suc, ◌+◌, ◌-◌, ◌*◌, ◌/◌, ◌%◌, ◌<◌, ◌≤◌, Bool, false, ◌&&◌, pos, refl, ap, ◌∙◌}
 use Rattle.std.proofs.Common.{arith}
 use Rattle.std.proofs.lemmas.Bool.{and_right}
 use Rattle.std.proofs.lemmas.Bool.Decides.{nat_tests}
@@ -64,9 +64,7 @@ module _ (q : EffectiveRule) (flat : IsFlat q) where
   allowed_is : (i k : ℕ) → i / 12 ≤ 9_999 → k < days_in_month (pos (i / 12)) (i % 12 + 1) * 86_400 → is_allowed q (month_local i + k) ≡ in_month (i % 12) k
   allowed_is i k year inside =
       let day : (month_start (suc i) * 86_400 + k) / 86_400 ≡ month_start (suc i) + k / 86_400 = omega arith in
-      ap (λ e. lets_date q e && lets_clock q (month_start (suc i) * 86_400 + k)) day
-      ∙ ap (λ x. x && lets_clock q (month_start (suc i) * 86_400 + k)) (date_is i (k / 86_400) year (omega (arith, inside)))
-      ∙ ap (λ x. (lets q.months (i % 12 + 1) && contains q.month_days.front (k / 86_400 + 1)) && x) (clock_of_day q (month_start (suc i)) k)
+      rw (day, date_is i (k / 86_400) year (omega (arith, inside)), clock_of_day q (month_start (suc i)) k) refl
 
   pub month_is : (i : ℕ) → i / 12 ≤ 9_999 → allowed_before q (month_local (suc i)) ≡ allowed_before q (month_local i) + month_adds (i % 12)
   month_is i year =

@@ -180,16 +180,17 @@ module _ (q : EffectiveRule) (y k : ℕ) where
       → b ≡ (nat_lt k len && lets_date q (first + k))
   whole_year {first = first} {len = len} {w = w} by start size weekday new e =
       let r : Run = record { start = 0; len = len; weekday = w } in
-      e ∙ ap (λ x. x || (has_run r k && lists_weekday q.weekdays (weekday_in r (k - 0)) (k - 0 + 1) len)) new
-      ∙ guard (has_run r k) _ (lets_date q (first + k)) (λ h.
-      let inside = run_facts r k h in
-      let place = year_place first y k start (omega (arith, inside.1, size)) in
-      let own : weekday_in r (k - 0) ≡ weekday_of (first + k) = omega (arith, weekday) in
-      let number : k - 0 + 1 ≡ k + 1 = omega arith in
-      ap (λ d. lists_weekday q.weekdays d (k - 0 + 1) len) own
-      ∙ ap (λ n. lists_weekday q.weekdays (weekday_of (first + k)) n len) number
-      ∙ year_exact q (first + k) by place.1 (ap (λ x. days_in_year (pos x)) place.0 ∙ sym size))
-      ∙ ap (λ x. x && lets_date q (first + k)) (run_start k len)
+      rw (
+        e,
+        new,
+        guard (has_run r k) (lists_weekday q.weekdays (weekday_in r (k - 0)) (k - 0 + 1) len) (lets_date q (first + k)) (λ h.
+            let inside = run_facts r k h in
+            let place = year_place first y k start (omega (arith, inside.1, size)) in
+            let own : weekday_in r (k - 0) ≡ weekday_of (first + k) = omega (arith, weekday) in
+            let number : k - 0 + 1 ≡ k + 1 = omega arith in
+            rw (own, number) (year_exact q (first + k) by place.1 (ap (λ x. days_in_year (pos x)) place.0 ∙ sym size))),
+        run_start k len,
+      ) refl
 
 -- a month as a period
 pub span_month : (p first len w : ℕ) → IsSpan Monthly p first len → w ≡ weekday_of first →

@@ -1,7 +1,7 @@
 -- The n-th day of a month or year, and the n-th of its weekday there, by counting.
-use Rattle.std.proofs.Common.{◌≡◌, ◌≢◌, ℕ, zero, suc, ◌+◌, ◌-◌, ◌*◌, ◌/◌, ◌%◌, ◌<◌, ◌≤◌, inl, inr, Bool, true, false, ◌&&◌, ◌||◌, ◌==◌, pos, sym, ap, ◌∙◌}
+use Rattle.std.proofs.Common.{◌≡◌, ◌≢◌, ℕ, zero, suc, ◌+◌, ◌-◌, ◌*◌, ◌/◌, ◌%◌, ◌<◌, ◌≤◌, inl, inr, Bool, true, false, ◌&&◌, ◌||◌, ◌==◌, pos, sym, ap, ◌∙◌, cond}
 use Rattle.std.proofs.Common.{refl, arith}
-use Rattle.std.proofs.lemmas.Bool.{and_right, cases_lt, cases_eq, eq-eqb, ne_eqb}
+use Rattle.std.proofs.lemmas.Bool.{and_right, cases_lt, eq-eqb, ne_eqb}
 use Rattle.std.proofs.lemmas.Bool.Decides.{nat_tests}
 use Rattle.jiff_core.specs.Calendar.{days_in_month, days_in_year, days_of_months}
 use Rattle.jiff_core.proofs.CalendarLemmas.{days_in_month_bounds, days_in_year_bounds}
@@ -15,7 +15,7 @@ use Rattle.ics_rule.specs.Candidates.{lists, lists_wide, lists_nth, fourth_day, 
 use Rattle.ics_rule.specs.Kept.{count}
 use Rattle.ics_rule.specs.RecurrencePeriods.{month_start}
 use Rattle.ics_rule.specs.PlainReading.{is_nth, is_place, is_wide_place, in_year, in_month, with_weekday, fourth_of_week, is_week}
-use Rattle.ics_rule.proofs.Counts.{count-same, count-suc, count-none, count-from, count_every, count_one, count_none_at}
+use Rattle.ics_rule.proofs.Counts.{count-same, count-suc, count-none, count-from, count_every}
 use Rattle.ics_rule.proofs.Months.{month_high}
 use Rattle.ics_rule.proofs.PeriodLemmas.{month_begun, month_begins, month_size, month_positive, fourth_early, fourth_late}
 use Rattle.ics_rule.proofs.RankLemmas.{count_flat}
@@ -36,6 +36,11 @@ pub record IsDayOf (a b e n len span : ℕ) : Type 0 where
   pub size : len ≡ b - a
   pub end : b ≤ e + span
 
+-- one day more may be of a weekday
+one_day : (a w k : ℕ) → w < 7 → (k + 6 - (w + 7 - weekday_of a) % 7) / 7 + cond (weekday_of (a + k) == w && true) 1 0
+    ≡ (suc k + 6 - (w + 7 - weekday_of a) % 7) / 7
+one_day a w k small = grind (arith, nat_tests)
+
 module _ (unit : ℕ → Bool) (a b : ℕ) (stretch : IsStretch unit a b) where
   -- all of them, up to one and from one on
   counted : (n : ℕ) → a ≤ n → n ≤ b → count n unit ≡ n - a
@@ -52,17 +57,8 @@ module _ (unit : ℕ → Bool) (a b : ℕ) (stretch : IsStretch unit a b) where
       ∙ count-none a (λ f. weekday_of f == w && unit f) (λ m l. and_right (weekday_of m == w) (unit m) (stretch.before m l)) ∙ omega arith
   on_weekday w (suc k) small h =
       let more : a + suc k ≡ suc (a + k) = omega arith in
-      let earlier = on_weekday w k small (omega arith) in
-      let last = count-suc (a + k) (λ f. weekday_of f == w && unit f) in
-      ap (λ x. count x (λ f. weekday_of f == w && unit f)) more ∙ (elim (cases_eq (weekday_of (a + k)) w) [
-        | inl own ↦
-            let one = count_one (weekday_of (a + k) == w && unit (a + k))
-            (ap (λ x. x && unit (a + k)) (eq-eqb (weekday_of (a + k)) w own) ∙ stretch.inside (a + k) (omega arith) (omega arith)) in
-            omega (arith, earlier, last, one, own)
-        | inr other ↦
-            let none = count_none_at (weekday_of (a + k) == w && unit (a + k)) (ap (λ x. x && unit (a + k)) (ne_eqb (weekday_of (a + k)) w other)) in
-            omega (arith, earlier, last, none, other)
-      ])
+      let there = stretch.inside (a + k) (omega arith) (omega arith) in
+      rw (more, count-suc (a + k) (λ f. weekday_of f == w && unit f), there, on_weekday w k small (omega arith)) (one_day a w k small)
 
   -- the n-th day of them all, and the n-th of its weekday, from the front and from the end
   module _ {e n len span : ℕ} (d : IsDayOf a b e n len span) where
@@ -198,7 +194,8 @@ weeks_listed weeks w e small range =
     let same = same_week w e small in
     let d = year_day f in
     year_weekday_listed weeks f (omega arith)
-    ∙ ap (λ x. contains weeks.front ((year_day_of f - 1) / 7 + 1) || contains weeks.back x)
-    (week_places (year_day_of f) (days_in_year (pos (year_of f))) (omega (arith, d.place, d.low)) (omega (arith, d.place, d.size, d.low, d.high)))
-    ∙ ap (λ x. lists weeks ((x - 1) / 7 + 1) ((days_in_year (pos (year_of f)) - 1 - (x - 1) % 7) / 7 + 1)) same.0
-    ∙ ap (λ x. lists weeks (week_number (fourth_day w e)) ((x - 1 - (year_day_of (fourth_day w e) - 1) % 7) / 7 + 1)) same.1
+    ∙ rw (
+      week_places (year_day_of f) (days_in_year (pos (year_of f))) (omega (arith, d.place, d.low)) (omega (arith, d.place, d.size, d.low, d.high)),
+      same.0,
+      same.1,
+    ) refl

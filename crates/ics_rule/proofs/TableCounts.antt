@@ -50,14 +50,12 @@ module _ (set : ℕ → Bool) (a b t : ℕ) (clock : t < 86_400) (shown : (m : �
   days_before zero = count-none ((a + 0) * 86_400) set (λ m l. false_from_ne_true (set m) (λ e. let s = shown m e in omega (arith, s.0.0, l)))
   days_before (suc k) =
       let more : (a + suc k) * 86_400 ≡ (a + k) * 86_400 + 86_400 = omega arith in
-      let last = count-suc ((a + k) * 86_400 + t) set in
-      ap (λ x. count x set) more ∙ past_local (a + k) ∙ last
-      ∙ ap (λ x. x + cond (on_day k) 1 0) (to_local (a + k) ∙ days_before k)
+      rw (more, past_local (a + k), count-suc ((a + k) * 86_400 + t) set, to_local (a + k), days_before k) refl
 
   through_day : (k : ℕ) → count (suc ((a + k) * 86_400 + t)) set ≡ count (suc k) on_day
   through_day k =
-      sym (past_local (a + k)) ∙ ap (λ x. count x set) (let more : (a + k) * 86_400 + 86_400 ≡ (a + suc k) * 86_400 = omega arith in more)
-      ∙ days_before (suc k)
+      let more : (a + k) * 86_400 + 86_400 ≡ (a + suc k) * 86_400 = omega arith in
+      sym (past_local (a + k)) ∙ rw more (days_before (suc k))
 
   all_days : a ≤ b → b * 86_400 ≤ calendar_end → count calendar_end set ≡ count (b - a) on_day
   all_days low high =

@@ -1,4 +1,4 @@
-use Rattle.std.proofs.Common.{inl, inr, ◌≡◌, ◌∙◌, ◌+◌, ◌&&◌, nat_lt, ap, sym, arith}
+use Rattle.std.proofs.Common.{inl, inr, ◌≡◌, ◌∙◌, ◌+◌, ◌&&◌, nat_lt, ap, arith}
 use Rattle.ics_fields.specs.Sets.{contains_wide}
 use Rattle.ics_rule.specs.Candidates.{lets_date}
 use Rattle.ics_rule.proofs.RunLemmas.{tested}
@@ -8,8 +8,7 @@ use Rattle.ics_rule.proofs.days.add_days_by_day.Goals.{then-lets_date, else-lets
 use Rattle.ics_rule.proofs.Tests.{none_yet}
 
 pub loop-k-init : goal.loop-k-init
-loop-k-init c = λ m. ap (λ ws. contains_wide ws m) c.requires.empty ∙ none_has m
-    ∙ ap (λ x. x && lets_date c.args.parts.now (c.args.first + m)) (sym (none_yet m))
+loop-k-init c = grind (arith, none_has, none_yet)
 
 pub loop-k-preserved : goal.loop-k-preserved
 loop-k-preserved c = λ m. tested (λ k. lets_date c.args.parts.now (c.args.first + k)) c.loop-k.k m c.lets_date.ensures (c.loop-k.invariant m) (elim c.if-lets_date.branch [

@@ -10,8 +10,7 @@ use Rattle.ics_rule.proofs.days.add_days_of_week.Goals.{then-contains, else-cont
 use Rattle.ics_rule.proofs.Tests.{none_yet, not_false}
 
 pub loop-k-init : goal.loop-k-init
-loop-k-init c = λ m. ap (λ ws. contains_wide ws m) c.requires.empty ∙ none_has m
-    ∙ ap (λ x. x && lets_date c.args.parts.now (c.args.first + m)) (sym (none_yet m))
+loop-k-init c = grind (arith, none_has, none_yet)
 
 pub loop-k-preserved : goal.loop-k-preserved
 loop-k-preserved c = λ m.

@@ -1,4 +1,4 @@
-use Rattle.std.proofs.Common.{inl, inr, ◌∙◌, ◌+◌, ◌&&◌, nat_lt, ap, sym, arith}
+use Rattle.std.proofs.Common.{inl, inr, ◌∙◌, ◌+◌, ap, arith, ◌&&◌, nat_lt}
 use Rattle.ics_fields.specs.Sets.{contains_wide}
 use Rattle.ics_rule.specs.Candidates.{lets_wide_place}
 use Rattle.ics_rule.proofs.RunLemmas.{tested}
@@ -8,8 +8,7 @@ use Rattle.ics_rule.proofs.days.days_by_number.Goals.{then-lets_wide_place, else
 use Rattle.ics_rule.proofs.Tests.{none_yet}
 
 pub loop-k-init : goal.loop-k-init
-loop-k-init c = λ m. ap (λ ws. contains_wide ws m) c.new-days.ensures ∙ none_has m
-    ∙ ap (λ x. x && lets_wide_place c.args.parts.now.year_days (m + 1) c.args.len) (sym (none_yet m))
+loop-k-init c = grind (arith, none_has, none_yet)
 
 pub loop-k-preserved : goal.loop-k-preserved
 loop-k-preserved c = λ m. tested (λ k. lets_wide_place c.args.parts.now.year_days (k + 1) c.args.len) c.loop-k.k m c.lets_wide_place.ensures (c.loop-k.invariant m) (elim c.if-lets_wide_place.branch [
