@@ -1,5 +1,5 @@
 -- The days that are added to a set, of a run in which they have numbers.
-use Rattle.std.proofs.Common.{◌≡◌, ℕ, ◌+◌, ◌-◌, ◌*◌, ◌/◌, ◌^◌, ◌<◌, ◌≤◌, ◌⊎◌, inl, inr, Bool, true, false, not, ◌==◌, ◌||◌, ◌&&◌, nat_lt, nat_le, refl, sym}
+use Rattle.std.proofs.Common.{◌≡◌, ℕ, ◌+◌, ◌-◌, ◌*◌, ◌/◌, ◌^◌, ◌<◌, ◌≤◌, ◌⊎◌, inl, inr, Bool, true, false, ◌==◌, ◌||◌, ◌&&◌, nat_lt, nat_le, refl, sym}
 use Rattle.std.proofs.Common.{ap, ◌∙◌, arith}
 use Rattle.std.proofs.lemmas.Bool.{and_parts, and_right, cases_lt, eq-eqb, eqb-true, le-leb, le-ltb, lt-ltb, or_right}
 use Rattle.std.proofs.lemmas.Bool.Decides.{nat_tests}
@@ -8,7 +8,6 @@ use Rattle.ics_fields.proofs.SetLemmas.{has_above}
 use Rattle.ics_rule.specs.declared.runs.Run.{Run}
 use Rattle.ics_fields.specs.declared.ordinals.Ordinals.{Ordinals}
 use Rattle.ics_fields.specs.declared.ordinals.Weekdays.{Weekdays}
-use Rattle.ics_fields.specs.Ordinals.{lists_none, numbers_of}
 use Rattle.ics_rule.specs.Candidates.{lists, lists_nth}
 use Rattle.ics_rule.specs.Runs.{has_run, weekday_in, lists_weekday}
 use Rattle.ics_rule.specs.NamedWeekdays.{names_weekday}
@@ -105,15 +104,14 @@ module _ (r : Run) (listed : ℕ → Bool) (d p from m : ℕ) (a b : Bool) (own 
       ((n : ℕ) → 1 ≤ n → listed n ≡ (nat_le n count && lists q n count))
       → b ≡ number_found from → b ≡ (a || (has_run r m && ((weekday_in r (m - r.start) == d) && lists_nth q (m - r.start + 1) r.len)))
   number_done q {count = count} size some none is e = e ∙ ap (λ y. a || y) (guard (has_run r m) _ _ (λ h. guard (weekday_in r (m - r.start) == d) _ _ (λ g.
+      let n = (m - r.start) / 7 + 1 in
       let there = run_facts r m h in
       let weekday = eqb-true (weekday_in r (m - r.start)) d g in
-      let in_count : nat_le ((m - r.start) / 7 + 1) count ≡ true = le-leb ((m - r.start) / 7 + 1) count (omega (arith, size, there.1, weekday, own, early)) in
-      let front : (m - r.start) / 7 + 1 ≡ (m - r.start + 1 - 1) / 7 + 1 = omega arith in
-      let back : count + 1 - ((m - r.start) / 7 + 1) ≡ (r.len - (m - r.start + 1)) / 7 + 1 = omega (arith, size, there.1, weekday, own, early) in
-      all_found listed from ((m - r.start) / 7 + 1) (none ((m - r.start) / 7 + 1)) ∙ is ((m - r.start) / 7 + 1) (omega arith)
-      ∙ ap (λ y. y && lists q ((m - r.start) / 7 + 1) count) in_count
-      ∙ ap (λ n. contains q.front n || contains q.back (count + 1 - ((m - r.start) / 7 + 1))) front
-      ∙ ap (λ n. contains q.front ((m - r.start + 1 - 1) / 7 + 1) || contains q.back n) back)))
+      let in_count = le-leb n count (omega (arith, size, there.1, weekday, own, early)) in
+      let front : (m - r.start + 1 - 1) / 7 + 1 ≡ n = omega arith in
+      let back : (r.len - (m - r.start + 1)) / 7 + 1 ≡ count + 1 - n = omega (arith, size, there.1, weekday, own, early) in
+      all_found listed from n (none n) ∙ is n (omega arith) ∙ ap (λ y. y && lists q n count) in_count
+      ∙ sym (ap (λ x. contains q.front x || contains q.back ((r.len - (m - r.start + 1)) / 7 + 1)) front ∙ ap (λ x. contains q.front n || contains q.back x) back))))
 
 -- a weekday without a number has any
 pub each_listed : (a x w : Bool) {plain : Bool} (n : Bool) {new : Bool} → plain ≡ true → new ≡ (a || (x && w)) → new ≡ (a || (x && (w && (plain || n))))
@@ -124,28 +122,19 @@ pub numbered_listed : (a x w : Bool) {plain : Bool} (n : Bool) {new : Bool} → 
 numbered_listed a x w n h e = rw h e
 
 -- a weekday that BYDAY does not list has no day
-unnamed : (w : Weekdays) (d n size : ℕ) → (contains w.plain d || not (lists_none (numbers_of w d))) ≡ false → lists_weekday w d n size ≡ false
-unnamed w d n size h = grind (arith, nat_tests, none_nth, out)
+pub unnamed : (ws : Weekdays) (named : ℕ → Bool) → ((d : ℕ) → named d ≡ (nat_lt d 7 && names_weekday ws d)) → (d n size : ℕ) → d < 7
+    → named d ≡ false → lists_weekday ws d n size ≡ false
+unnamed ws named is d n size small h = grind (arith, nat_tests, in_week, none_nth, out)
 
 -- the days of a run, weekday by weekday of those that BYDAY names
-module _ (ws : Weekdays) (named : ℕ → Bool) (is : (d : ℕ) → named d ≡ (nat_lt d 7 && names_weekday ws d)) (w n size : ℕ) (small : w < 7) (a x : Bool) where
-  abbrev seen_to : ℕ → Bool
-  seen_to d = a || (x && (nat_lt w d && lists_weekday ws w n size))
+module _ (listed named : ℕ → Bool) (w : ℕ) (none : named w ≡ false → listed w ≡ false) (a x : Bool) where
+  pub weekdays_more : {from d : ℕ} {b new : Bool} → IsLeastFrom named from d → new ≡ (b || (x && ((w == d) && listed d)))
+      → b ≡ (a || (x && (nat_lt w from && listed w))) → new ≡ (a || (x && (nat_lt w (d + 1) && listed w)))
+  weekdays_more next e h = grind (arith, nat_tests, above, below, eq-eqb, le-ltb, lt-ltb, three)
 
-  not_seen : named w ≡ false → lists_weekday ws w n size ≡ false
-  not_seen h = unnamed ws w n size (sym (in_week w (names_weekday ws w) small) ∙ sym (is w) ∙ h)
-
-  by_weekday : (listed : ℕ → Bool) {from d : ℕ} {b new : Bool} → (named w ≡ false → listed w ≡ false) → IsLeastFrom named from d
-      → new ≡ (b || (x && ((w == d) && listed d))) → b ≡ (a || (x && (nat_lt w from && listed w))) → new ≡ (a || (x && (nat_lt w (d + 1) && listed w)))
-  by_weekday listed none next e h = grind (arith, nat_tests, above, below, eq-eqb, le-ltb, lt-ltb, three)
-
-  pub weekdays_more : {from d : ℕ} {b new : Bool} → IsLeastFrom named from d → new ≡ (b || (x && ((w == d) && lists_weekday ws d n size)))
-      → b ≡ seen_to from → new ≡ seen_to (d + 1)
-  weekdays_more next e h = by_weekday (λ d. lists_weekday ws d n size) not_seen next e h
-
-  pub weekdays_done : {from : ℕ} {b : Bool} → ((d : ℕ) → from ≤ d → named d ≡ false) → b ≡ seen_to from → b ≡ (a || (x && lists_weekday ws w n size))
-  weekdays_done {from = from} left h =
-      h ∙ ap (λ y. a || (x && y)) (all_found (λ d. lists_weekday ws d n size) from w (λ low. not_seen (left w low)))
+  pub weekdays_done : {from : ℕ} {b : Bool} → ((d : ℕ) → from ≤ d → named d ≡ false) → b ≡ (a || (x && (nat_lt w from && listed w)))
+      → b ≡ (a || (x && listed w))
+  weekdays_done left h = grind (arith, nat_tests, all_found)
 
 pub weekdays_none : (w : ℕ) (a x y : Bool) → a ≡ (a || (x && (nat_lt w 0 && y)))
 weekdays_none w a x y = rw (le-ltb w 0 (omega arith)) (sym (ap (λ y. a || y) (and_false x) ∙ or_false a))
