@@ -14,7 +14,7 @@ use Rattle.ics_rule.specs.declared.cursor.Cursor.{Cursor}
 use Rattle.ics_rule.specs.Searches.{IsTurned}
 use Rattle.ics_rule.specs.PeriodNumbers.{period}
 use Rattle.ics_rule.specs.Candidates.{lets, lets_date, lets_clock, is_stepped, is_candidate_in, period_in}
-use Rattle.ics_rule.specs.Kept.{count, is_beside, size, is_placed, is_chosen}
+use Rattle.ics_rule.specs.Kept.{count, is_beside, is_placed, is_chosen}
 use Rattle.ics_rule.specs.RecurrencePeriods.{first_local}
 use Rattle.ics_rule.specs.Rounds.{seconds_of}
 use Rattle.ics_rule.specs.OpenPeriods.{per_day, lets_own, lets_within, is_open_period, chosen_in_open}

@@ -1,16 +1,12 @@
-use Rattle.std.proofs.Common.{◌∙◌, ◌+◌, ◌&&◌, ◌||◌, nat_lt, ap, sym}
+use Rattle.std.proofs.Common.{arith, ◌∙◌, ◌+◌, ◌&&◌, nat_lt, ap, sym}
 use Rattle.std.proofs.lemmas.Bool.{or_parts}
-use Rattle.ics_fields.specs.Ordinals.{lists_none}
 use Rattle.ics_rule.specs.Candidates.{lets_date}
 use Rattle.ics_rule.specs.Runs.{is_in_month}
 use Rattle.ics_rule.proofs.MonthDays.{month_exact, month_candidate, narrowed}
 use Rattle.ics_rule.proofs.days.leave_let_in.Goals as goal
 
 pub returns-then-is_empty : goal.returns-then-is_empty
-returns-then-is_empty c = λ k. c.requires.listed k ∙ ap (λ x. nat_lt k c.args.len && x)
-    (month_exact c.args.parts.now (c.args.first + k) c.requires.months c.requires.numbers
-    (sym (ap (λ x. x || c.is_empty-2.result) c.is_empty.ensures ∙ ap (λ x. lists_none c.args.parts.now.month_days || x) c.is_empty-2.ensures)
-    ∙ c.if-is_empty.true))
+returns-then-is_empty c = grind (arith, month_exact)
 
 pub returns : goal.returns
 returns c = λ k. c.those_let_in.ensures k ∙ ap (λ x. x && lets_date c.args.parts.now (c.args.first + k)) (c.requires.listed k)

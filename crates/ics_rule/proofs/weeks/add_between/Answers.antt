@@ -10,5 +10,4 @@ pub loop-k-preserved : goal.loop-k-preserved
 loop-k-preserved c = grind (arith, between_more)
 
 pub returns : goal.returns
-returns c = λ m. between_done m (contains_wide c.args.days.now m) c.loop-k.auto.k
-    c.loop-k-test.false c.loop-k.invariant.1 (c.loop-k.invariant.0 m)
+returns c = grind (arith, between_done)
