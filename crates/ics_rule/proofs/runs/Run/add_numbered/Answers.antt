@@ -1,16 +1,11 @@
-use Rattle.std.proofs.Common.{◌∙◌, ◌+◌, ◌-◌, ◌*◌, ◌≤◌, ◌<◌, sym, arith}
+use Rattle.std.proofs.Common.{◌∙◌, ◌+◌, ◌-◌, ◌*◌, ◌≤◌, ◌<◌, arith}
 use Rattle.ics_fields.specs.Sets.{contains, contains_wide}
-use Rattle.ics_rule.specs.Candidates.{lists}
 use Rattle.ics_rule.proofs.RunLemmas.{number_none, number_added, number_done, listed_within}
 use Rattle.ics_rule.proofs.runs.Run.add_numbered.Goals as goal
 use Rattle.ics_rule.proofs.runs.Run.add_numbered.Goals.{In-Some}
 
 inside : (c : In-Some) → (1 ≤ c.in-Some.n) × (c.first_on-first.result + 7 * (c.in-Some.n - 1) < c.args.self.len)
-inside c =
-    let some : 1 ≤ c.in-Some.n = omega (arith, c.loop-n.invariant.1, c.in-Some.ensures.next.low) in
-    let most = listed_within c.in-Some.n c.days_from.result (lists c.args.numbers.now c.in-Some.n c.days_from.result)
-    (sym (c.listed-listed.ensures c.in-Some.n some) ∙ c.in-Some.ensures.next.passes) in
-    (some, omega (arith, some, most, c.days_from.ensures, c.first_on-first.ensures.early, c.requires.some))
+inside c = grind (arith, listed_within)
 
 pub loop-n-init : goal.loop-n-init
 loop-n-init c = grind (arith, number_none)
