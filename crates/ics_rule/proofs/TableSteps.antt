@@ -78,14 +78,10 @@ clock DateTime {takes = takes} {from = from} set own n same date =
     only_number (takes && is_empty set) set own n
     ∙ by_absence (is_empty set) from (contains set n) (n == own) (ap (λ x. x && is_empty set) same) (λ e. refl)
 
-hour_taken : (f : Frequency) (r : Recurrence) → skips_hours f ≡ is_extracted r f ByHour
-hour_taken f r = grind arith
-
-minute_taken : (f : Frequency) (r : Recurrence) → (skips_minutes f ≡ is_extracted r f ByMinute) × (skips_hours f ≡ true → skips_minutes f ≡ true)
-minute_taken f r = grind arith
-
-second_taken : (f : Frequency) (r : Recurrence) → (skips_seconds f ≡ is_extracted r f BySecond) × (skips_hours f ≡ true → skips_seconds f ≡ true)
-second_taken f r = grind arith
+-- whether DTSTART gives the hour, the minute and the second: with the hour it gives all
+clock_taken : (f : Frequency) (r : Recurrence) → (skips_hours f ≡ is_extracted r f ByHour) × (skips_minutes f ≡ is_extracted r f ByMinute)
+    × (skips_seconds f ≡ is_extracted r f BySecond) × (skips_hours f ≡ true → (skips_minutes f ≡ true) × (skips_seconds f ≡ true))
+clock_taken f r = grind arith
 
 -- midnight
 midnight : (d s : ℕ) → s ≡ 0 → ((d * 86_400 + s) / 3_600 % 24 ≡ 0) × (((d * 86_400 + s) / 60 % 60 ≡ 0) × ((d * 86_400 + s) % 60 ≡ 0))
@@ -138,19 +134,19 @@ module _ (r : Recurrence) (n : ℕ) where
   module _ (dates : r.kind ≡ Date → (skips_hours r.parts.frequency ≡ true) × (r.start.second ≡ 0)) where
     pub hours_let_in : lets (effective r).hours n ≡ applies r ByHour (contains r.parts.hours n) (n == (start_of r).hour)
     unfolding effective
-    hours_let_in = clock r.kind r.parts.hours (start_of r).hour n (hour_taken r.parts.frequency r)
+    hours_let_in = clock r.kind r.parts.hours (start_of r).hour n (clock_taken r.parts.frequency r).0
         (λ date. ((dates date).0, (midnight (day_index r.start.day) r.start.second (dates date).1).0))
 
     pub minutes_let_in : lets (effective r).minutes n ≡ applies r ByMinute (contains r.parts.minutes n) (n == (start_of r).minute)
     unfolding effective
     minutes_let_in =
-        let taken = minute_taken r.parts.frequency r in
-        clock r.kind r.parts.minutes (start_of r).minute n taken.0
-        (λ date. (taken.1 (dates date).0, (midnight (day_index r.start.day) r.start.second (dates date).1).1.0))
+        let taken = clock_taken r.parts.frequency r in
+        clock r.kind r.parts.minutes (start_of r).minute n taken.1
+        (λ date. ((taken.3 (dates date).0).0, (midnight (day_index r.start.day) r.start.second (dates date).1).1.0))
 
     pub seconds_let_in : lets (effective r).seconds n ≡ applies r BySecond (contains r.parts.seconds n) (n == (start_of r).second)
     unfolding effective
     seconds_let_in =
-        let taken = second_taken r.parts.frequency r in
-        clock r.kind r.parts.seconds (start_of r).second n taken.0
-        (λ date. (taken.1 (dates date).0, (midnight (day_index r.start.day) r.start.second (dates date).1).1.1))
+        let taken = clock_taken r.parts.frequency r in
+        clock r.kind r.parts.seconds (start_of r).second n taken.2
+        (λ date. ((taken.3 (dates date).0).1, (midnight (day_index r.start.day) r.start.second (dates date).1).1.1))
