@@ -37,7 +37,12 @@ by_fourth {y = y} e f fourth low high number weeks weekday =
     let before = ap days_before_year year in
     let size = ap (λ y. days_in_year (pos y)) year in
     let length = days_before_year-next y in
-    record { year = year; number = omega (arith, fourth, day, before, number); weeks = omega (arith, fourth, day, before, size, length, weeks); weekday = weekday }
+    record {
+      year = year;
+      number = omega (arith, fourth, day, before, number);
+      weeks = omega (arith, fourth, day, before, size, length, weeks);
+      weekday = weekday;
+    }
 
 -- the Thursday f of week n in a year from a up to b, which begins on Monday s, and the next one on t
 record IsThursday (a b s t n f : ℕ) : Type 0 where

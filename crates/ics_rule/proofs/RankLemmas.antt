@@ -83,7 +83,8 @@ placed_out positions true test len k e = e
 placed_out positions false test len k e = ap (λ x. x && is_listed positions (count len test) (count k test)) e
 
 -- how many they are depends on how many pass
-pub size_decides : (q : EffectiveRule) (b : Bool) (test : ℕ → Bool) (len : ℕ) → count len (placed_of q.positions b test len) ≡ chosen_of_size q b (count len test)
+pub size_decides : (q : EffectiveRule) (b : Bool) (test : ℕ → Bool) (len : ℕ)
+    → count len (placed_of q.positions b test len) ≡ chosen_of_size q b (count len test)
 size_decides q true test len = refl
 size_decides q false test len = count-ranked len test (is_listed q.positions (count len test))
 

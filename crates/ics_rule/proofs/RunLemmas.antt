@@ -111,7 +111,8 @@ module _ (r : Run) (listed : ℕ → Bool) (d p from m : ℕ) (a b : Bool) (own 
       let front : (m - r.start + 1 - 1) / 7 + 1 ≡ n = omega arith in
       let back : (r.len - (m - r.start + 1)) / 7 + 1 ≡ count + 1 - n = omega (arith, size, there.1, weekday, own, early) in
       all_found listed from n (none n) ∙ is n (omega arith) ∙ ap (λ y. y && lists q n count) in_count
-      ∙ sym (ap (λ x. contains q.front x || contains q.back ((r.len - (m - r.start + 1)) / 7 + 1)) front ∙ ap (λ x. contains q.front n || contains q.back x) back))))
+      ∙ sym (ap (λ x. contains q.front x || contains q.back ((r.len - (m - r.start + 1)) / 7 + 1)) front
+      ∙ ap (λ x. contains q.front n || contains q.back x) back))))
 
 -- a weekday without a number has any
 pub each_listed : (a x w : Bool) {plain : Bool} (n : Bool) {new : Bool} → plain ≡ true → new ≡ (a || (x && w)) → new ≡ (a || (x && (w && (plain || n))))

@@ -145,7 +145,8 @@ module _ (r : Recurrence) (allowed : IsAllowed r) where
   lets_part part i = is_absent r part || gives r part i
 
   by_cell : (c : Cell) (part : Part) (set : Instances) (back : Bool → Instance) → back false ≡ before r part (back true)
-      → (c ≡ Nothing → is_absent r part ≡ true) → (expands (is_absent r) c ≡ false → is_absent r part ≡ false → gives r part (back true) ≡ is_listed r part (back true))
+      → (c ≡ Nothing → is_absent r part ≡ true)
+      → (expands (is_absent r) c ≡ false → is_absent r part ≡ false → gives r part (back true) ≡ is_listed r part (back true))
       → (if is_absent r part then set (back true) else apply_cell c r part set (back true))
       ≡ ((is_absent r part || gives r part (back true)) && set (back (is_absent r part || not (expands (is_absent r) c))))
   by_cell c part set back own none limits = grind arith
@@ -200,8 +201,10 @@ module _ (r : Recurrence) (allowed : IsAllowed r) where
     weekdays =
         let taken = weekday_taken r.parts.frequency r (allowed.parts ByWeekNo) in
         record {
-          same = weekday_settled (is_absent r ByDay) (is_absent r ByWeekNo) (is_listed r ByDay i) (is_listed r ByWeekNo i) _ _ (i.weekday == (start_of r).weekday)
-              (weekday_own (is_absent r) r.parts.frequency (start_of r).weekday i.weekday (allowed.parts ByMonthDay) (allowed.parts ByYearDay) (allowed.parts ByWeekNo)
+          same = weekday_settled (is_absent r ByDay) (is_absent r ByWeekNo) (is_listed r ByDay i) (is_listed r ByWeekNo i) _ _
+              (i.weekday == (start_of r).weekday)
+              (weekday_own (is_absent r) r.parts.frequency (start_of r).weekday i.weekday
+              (allowed.parts ByMonthDay) (allowed.parts ByYearDay) (allowed.parts ByWeekNo)
               ∙ ap (λ t. own_if t (start_of r).weekday i.weekday) (sym taken))
               (λ t. (and_parts (is_absent r ByDay) _ (sym taken ∙ t)).0);
         }

@@ -11,10 +11,11 @@ pub loop-k-init : goal.loop-k-init
 loop-k-init c = grind (arith, none_has, none_yet)
 
 pub loop-k-preserved : goal.loop-k-preserved
-loop-k-preserved c = λ m. tested (λ k. lets_wide_place c.args.parts.now.year_days (k + 1) c.args.len) c.loop-k.k m c.lets_wide_place.ensures (c.loop-k.invariant m) (elim c.if-lets_wide_place.branch [
-  | then-lets_wide_place w ↦ inl (w.if-lets_wide_place.true, ap (λ ws. contains_wide ws m) w.days-is ∙ w.insert.ensures.members m)
-  | else-lets_wide_place w ↦ inr (w.if-lets_wide_place.false, ap (λ ws. contains_wide ws m) w.days-is)
-])
+loop-k-preserved c = λ m. tested (λ k. lets_wide_place c.args.parts.now.year_days (k + 1) c.args.len) c.loop-k.k m c.lets_wide_place.ensures
+    (c.loop-k.invariant m) (elim c.if-lets_wide_place.branch [
+      | then-lets_wide_place w ↦ inl (w.if-lets_wide_place.true, ap (λ ws. contains_wide ws m) w.days-is ∙ w.insert.ensures.members m)
+      | else-lets_wide_place w ↦ inr (w.if-lets_wide_place.false, ap (λ ws. contains_wide ws m) w.days-is)
+    ])
 
 pub returns : goal.returns
 returns c = λ m. c.loop-k.invariant m ∙ ap (λ k. nat_lt m k && lets_wide_place c.args.parts.now.year_days (m + 1) c.args.len)
