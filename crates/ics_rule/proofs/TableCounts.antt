@@ -92,7 +92,7 @@ module _ (r : Recurrence) (p a b : ℕ) (monthly : IsMonthly r p) (first : month
       let own = monthly.period (e * 86_400 + 32_400) ∙ ap month_number day ∙ in_month e begun before in
       let placed = sym (ap (is_nth r.parts.positions (is_instance r p)) here)
       ∙ nth_by_days (is_instance r p) a b 32_400 (omega arith) shown r.parts.positions (e - a) low high in
-      rw (own, placed) refl
+      rw (own, placed)
 
   pub members_by_days : nat_le a b ≡ true → nat_le (b * 86_400) calendar_end ≡ true
       → filter (λ e. is_member r (e * 86_400 + 32_400)) (days_from a (b - a)) ≡ filter (by_days r p a b) (days_from a (b - a))
