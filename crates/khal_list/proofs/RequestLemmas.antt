@@ -1,7 +1,8 @@
 -- What a refusal of a token or of a format says of an answer to entries.
-use Rattle.std.proofs.Common.{◌≡◌, ◌⊎◌, inl, inr, ℤ, [], None, Some, Ok, Err, Option, Result, refl, sym, ap, ◌∙◌, subst, true≢false}
-use Rattle.std.specs.Prelude.{IsErrOf, IsSome, unwrap_or}
-use Rattle.std.specs.Result.{IsErr, IsErrAnd}
+use Rattle.std.proofs.Common.{◌≡◌, ◌⊎◌, inl, inr, ℤ, None, Some, Err, Option, Result, refl, sym, ap, ◌∙◌, subst}
+use Rattle.std.specs.Prelude.{IsErrOf, IsSome}
+use Rattle.std.specs.Result.{IsErrAnd}
+use Rattle.std.proofs.lemmas.Result.{err_from_is_err_and}
 use Rattle.clap.specs.Words.{Text}
 use Rattle.ics_zone.specs.DisplayTexts.{display_of, said_by}
 use Rattle.ics_zone.specs.JiffZones.{zone_of}
@@ -23,22 +24,18 @@ use Rattle.khal_words.specs.declared.format.FormatFault.{FormatFault}
 use Rattle.khal_words.specs.declared.format.FormatFault.TheVariants as format
 use Rattle.khal_list.specs.declared.request.Request.{Request}
 use Rattle.khal_list.specs.declared.request_fault.RequestFault.{RequestFault}
-
-given_is : (text other : Text) → Some text ≡ Some other → other ≡ text
-given_is text other stands = sym (ap (λ (o : Option Text). unwrap_or o []) stands)
+use Rattle.khal_list.specs.declared.request_fault.RequestFault.TheVariants.{BadToken, BadFormat, Memory}
 
 -- a text that gives a key is a token
 token_of : (given : Option Text) (key : Option Key) → IsKeyOf given key → IsNoKey given → ⊥
-token_of None key p bad = let stands = bad.stands in cc
-token_of (Some text) None p bad = absurd p
-token_of (Some text) (Some key) p bad = bad.none (key_rank key, p.0, given_is text bad.text bad.stands ∙ p.1)
+token_of (Some text) (Some key) p bad = bad.none (key_rank key, p.0, (cc))
+token_of given key p bad = absurd (first_of (assumption, cc bad.stands))
 
 -- and one that gives a key under a day is a token, or one of an entry under a day
 day_token_of : (zone : Display) (window : Window) (given : Option Text) (key : Option DayKey) → IsDayKeyOf zone window given key → IsNoDayKey given → ⊥
-day_token_of zone window None key p bad = let stands = bad.stands in cc
-day_token_of zone window (Some text) None p bad = absurd p
-day_token_of zone window (Some text) (Some key) (inl p) bad = bad.no_day (day_key_rank key, p.0, given_is text bad.text bad.stands ∙ p.1)
-day_token_of zone window (Some text) (Some key) (inr p) bad = bad.none (key_rank key.key, p.0, given_is text bad.text bad.stands ∙ p.1)
+day_token_of zone window (Some text) (Some key) (inl p) bad = bad.no_day (day_key_rank key, p.0, (cc))
+day_token_of zone window (Some text) (Some key) (inr p) bad = bad.none (key_rank key.key, p.0, (cc))
+day_token_of zone window given key p bad = absurd (first_of (assumption, cc bad.stands))
 
 -- what gives the keys after which a listing goes on is a token
 pub good_token : {entries : Entries} (zone : Display) (window : Window) (after : Option Key) (every_day : Option EveryDay) →
@@ -52,27 +49,18 @@ module _ (entries : Entries) (now : ℤ) where
   has_window display window zone ends = record { display = display; zone = zone; some = subst IsSome ends refl }
 
   -- the fault that `?` passes on
-  passed_on : (r : Result Request RequestFault) (fault : RequestFault) → IsErr r → IsErrAnd r (λ f. f ≡ fault) → EntriesAnswer entries now (Err fault) →
+  passed_on : (r : Result Request RequestFault) (fault : RequestFault) → IsErrAnd r (λ f. f ≡ fault) → EntriesAnswer entries now (Err fault) →
       EntriesAnswer entries now r
-  passed_on (Ok request) fault err is h = absurd (true≢false (sym err))
-  passed_on (Err other) fault err is h = subst (λ (f : RequestFault). EntriesAnswer entries now (Err f)) (sym is) h
+  passed_on r fault is h = let e = err_from_is_err_and r is in subst (EntriesAnswer entries now) (sym (e.1 ∙ ap Err e.2)) h
 
-  pub no_token : {T : Type 0} (r : Result Request RequestFault) (fault : TokenFault) → IsErr r × IsErrAnd r (λ f. f ≡ token_fault fault)
+  pub no_token : {T : Type 0} (r : Result Request RequestFault) (fault : TokenFault) → IsErrAnd r (λ f. f ≡ token_fault fault)
       → HasWindow entries now → (IsErrOf {T = T} (Err fault) token.BadToken → IsNoToken entries) → EntriesAnswer entries now r
-  no_token {T} r fault gives window bad = passed_on r (token_fault fault) gives.0 gives.1 (answer fault bad)
-    where
-      answer : (f : TokenFault) → (IsErrOf {T = T} (Err f) token.BadToken → IsNoToken entries) → EntriesAnswer entries now (Err (token_fault f))
-      answer token.BadToken bad = record { window = window; token = bad refl }
-      answer token.Memory bad = tt
+  no_token r token.BadToken gives window bad = passed_on r BadToken gives (record { window = window; token = bad refl })
+  no_token r token.Memory gives window bad = passed_on r Memory gives tt
 
-  pub no_format : {T : Type 0} (r : Result Request RequestFault) (fault : FormatFault) → IsErr r × IsErrAnd r (λ f. f ≡ format_fault fault)
+  pub no_format : {T : Type 0} (r : Result Request RequestFault) (fault : FormatFault) → IsErrAnd r (λ f. f ≡ format_fault fault)
       → HasWindow entries now → (¬ IsNoToken entries)
       → (IsErrOf {T = T} (Err fault) format.BadFormat → (¬ IsFormat entry_name (format_text entries)) ⊎ (¬ IsFormat day_name (day_format_text entries))) →
       EntriesAnswer entries now r
-  no_format {T} r fault gives window token bad = passed_on r (format_fault fault) gives.0 gives.1 (answer fault bad)
-    where
-      answer : (f : FormatFault) → (IsErrOf {T = T} (Err f) format.BadFormat → (¬ IsFormat entry_name (format_text entries))
-          ⊎ (¬ IsFormat day_name (day_format_text entries)))
-          → EntriesAnswer entries now (Err (format_fault f))
-      answer format.BadFormat bad = record { window = window; token = token; none = bad refl }
-      answer format.Memory bad = tt
+  no_format r format.BadFormat gives window token bad = passed_on r BadFormat gives (record { window = window; token = token; none = bad refl })
+  no_format r format.Memory gives window token bad = passed_on r Memory gives tt

@@ -20,13 +20,14 @@ returns-in_default c =
 
 pub returns-in_err-after : goal.returns-in_err-after
 returns-in_err-after c =
-    no_token (subcommand_rows_of c.args.found.now) c.args.now c.from_residual-in_err-after.result c.in_err-after.field-0.0 c.from_residual-in_err-after.ensures
+    no_token (subcommand_rows_of c.args.found.now) c.args.now c.from_residual-in_err-after.result c.in_err-after.field-0.0
+    c.from_residual-in_err-after.ensures.1
     (has_window _ _ c.in_ok-zone.zone c.in-Some.window (search rules) (search rules)) c.in_err-after.ensures.bad
 
 pub returns-in_err-formats : goal.returns-in_err-formats
 returns-in_err-formats c =
     no_format (subcommand_rows_of c.args.found.now) c.args.now c.from_residual-in_err-formats.result c.in_err-formats.field-0.0
-    c.from_residual-in_err-formats.ensures
+    c.from_residual-in_err-formats.ensures.1
     (has_window _ _ c.in_ok-zone.zone c.in-Some.window (search rules) (search rules))
     (good_token c.in_ok-zone.zone c.in-Some.window c.in_ok-after.after.once c.in_ok-after.after.every_day c.in_ok-after.ensures.ok)
     c.in_err-formats.ensures.bad
