@@ -3,7 +3,6 @@ pub mod AnswerLemmas
 pub mod PageLemmas
 pub mod Printed
 pub mod PutLemmas
-pub mod RefusalLemmas
 pub mod RequestLemmas
 pub mod RunLemmas
 pub mod TextExamples
