@@ -1,38 +1,28 @@
-use Rattle.std.proofs.Common.{Some, ◌∙◌, ap, sym}
+use Rattle.std.proofs.Common.{Some, inr, refl, ◌∙◌, ap, sym}
 use Rattle.std.specs.Option.{option_map}
 use Rattle.ics_series.specs.Entry.{key_rank}
 use Rattle.ics_series.specs.Tokens.{spelling}
-use Rattle.khal_list.proofs.RunLemmas.{asked, copied-key, part-once, shows-once, whole-front}
+use Rattle.khal_list.proofs.RunLemmas.{shows-once, whole-front}
 use Rattle.khal_ports.proofs.Written.{on_err}
 use Rattle.khal_list.proofs.running.list_once.Goals as goal
 
 pub returns-in_err-print-clause-err : goal.returns-in_err-print-clause-err
 returns-in_err-print-clause-err g c =
-    let whole = asked c.args.request.now c.requires
-    (copied-key key_rank c.as_ref.result c.args.request.now.after c.as_ref.ensures.value) c.in_ok-agenda.ensures.behind in
-    on_err c.from_residual-in_err-print.result (
-    part-once c.args.request.now whole
-    c.in_err-print.ensures.front)
+    let shows = shows-once c.args.request.now c.as_ref.result c.requires c.as_ref.ensures.value c.in_ok-agenda.ensures.behind refl in
+    on_err c.from_residual-in_err-print.result (inr (_, _, shows, c.in_err-print.ensures.front))
 
 pub returns-in_err-write-in-Some-clause-err : goal.returns-in_err-write-in-Some-clause-err
 returns-in_err-write-in-Some-clause-err g c =
-    let whole = asked c.args.request.now c.requires
-    (copied-key key_rank c.as_ref.result c.args.request.now.after c.as_ref.ensures.value) c.in_ok-agenda.ensures.behind in
-    on_err c.from_residual-in_err-write-in-Some.result (
-    part-once c.args.request.now whole
-    (whole-front (g.O.Sink.taken c.args.out.now) (g.O.Sink.taken c.print.new.out) _ c.in_ok-print.ensures.text))
+    let shows = shows-once c.args.request.now c.as_ref.result c.requires c.as_ref.ensures.value c.in_ok-agenda.ensures.behind refl in
+    on_err c.from_residual-in_err-write-in-Some.result (inr (_, _, shows, whole-front c.in_ok-print.ensures.text))
 
 pub returns-in-None-clause-ok : goal.returns-in-None-clause-ok
 returns-in-None-clause-ok g c =
-    let whole = asked c.args.request.now c.requires
-    (copied-key key_rank c.as_ref.result c.args.request.now.after c.as_ref.ensures.value) c.in_ok-agenda.ensures.behind in
     let token = ap (option_map spelling) (sym (ap (option_map key_rank) c.in-None.is) ∙ c.in_ok-print.ensures.key) in
-    (_, shows-once c.args.request.now whole token, c.in_ok-print.ensures.text)
+    (_, shows-once c.args.request.now c.as_ref.result c.requires c.as_ref.ensures.value c.in_ok-agenda.ensures.behind token, c.in_ok-print.ensures.text)
 
 pub returns-clause-ok : goal.returns-clause-ok
 returns-clause-ok g c =
-    let whole = asked c.args.request.now c.requires
-    (copied-key key_rank c.as_ref.result c.args.request.now.after c.as_ref.ensures.value) c.in_ok-agenda.ensures.behind in
     let token = ap Some c.in_ok-write-in-Some.ensures
     ∙ ap (option_map spelling) (sym (ap (option_map key_rank) c.in-Some.is) ∙ c.in_ok-print.ensures.key) in
-    (_, shows-once c.args.request.now whole token, c.in_ok-print.ensures.text)
+    (_, shows-once c.args.request.now c.as_ref.result c.requires c.as_ref.ensures.value c.in_ok-agenda.ensures.behind token, c.in_ok-print.ensures.text)

@@ -2,33 +2,27 @@ use Rattle.std.proofs.Common.{refl}
 use Rattle.std.specs.Option.{option_map}
 use Rattle.std.specs.String.{string_bytes}
 use Rattle.khal_list.proofs.RunLemmas.{lists, stops, stops-lines, stops-more, stops-reading}
-use Rattle.khal_ports.proofs.Written.{appends-same, on_err}
+use Rattle.khal_ports.proofs.Written.{on_err}
 use Rattle.khal_list.proofs.running.run.Goals as goal
 
 pub returns-in_err-reading-clause-stops : goal.returns-in_err-reading-clause-stops
-returns-in_err-reading-clause-stops g c = on_err c.from_residual.result (stops-reading refl refl c.in_err-reading.ensures.some)
+returns-in_err-reading-clause-stops g c = on_err c.from_residual.result (stops-reading c.in_err-reading.ensures.some)
 
 pub returns-in_err-put_all-clause-stops : goal.returns-in_err-put_all-clause-stops
 returns-in_err-put_all-clause-stops g c =
-    let all = c.in_ok-reading.ensures.all in
-    on_err c.from_residual-in_err-put_all.result (stops-lines refl all.2 all.3 all.4 c.deref.ensures.value c.in_err-put_all.ensures.err)
+    on_err c.from_residual-in_err-put_all.result (stops-lines c.in_ok-reading.ensures.all c.deref.ensures.value refl c.in_err-put_all.ensures.err)
 
 pub returns-in_err-token-clause-stops : goal.returns-in_err-token-clause-stops
 returns-in_err-token-clause-stops g c =
-    let all = c.in_ok-reading.ensures.all in
-    let wrote = appends-same (g.E.Sink.taken c.args.err.now) (g.E.Sink.taken c.put_all.new.sink) c.deref.ensures.value c.in_ok-put_all.ensures.ok in
-    on_err c.from_residual-in_err-token.result (stops (g.E.Sink.taken c.put_all.new.sink) all.2 all.3 all.4 wrote refl c.in_err-token.ensures.err)
+    on_err c.from_residual-in_err-token.result (stops c.in_ok-reading.ensures.all c.deref.ensures.value (g.E.Sink.taken c.put_all.new.sink)
+    c.in_ok-put_all.ensures.ok refl c.in_err-token.ensures.err)
 
 pub returns-in_err-put_more-clause-stops : goal.returns-in_err-put_more-clause-stops
 returns-in_err-put_more-clause-stops g c =
-    let all = c.in_ok-reading.ensures.all in
-    let wrote = appends-same (g.E.Sink.taken c.args.err.now) (g.E.Sink.taken c.put_all.new.sink) c.deref.ensures.value c.in_ok-put_all.ensures.ok in
-    on_err c.from_residual-in_err-put_more.result (stops-more (g.E.Sink.taken c.put_all.new.sink) all.2 all.3 all.4 wrote
-    (option_map string_bytes c.in_ok-token.token) c.in_ok-token.ensures.ok c.in_err-put_more.ensures.err)
+    on_err c.from_residual-in_err-put_more.result (stops-more c.in_ok-reading.ensures.all c.deref.ensures.value (g.E.Sink.taken c.put_all.new.sink)
+    c.in_ok-put_all.ensures.ok (option_map string_bytes c.in_ok-token.token) c.in_ok-token.ensures.ok c.in_err-put_more.ensures.err)
 
 pub returns-clause-lists : goal.returns-clause-lists
 returns-clause-lists g c =
-    let all = c.in_ok-reading.ensures.all in
-    let wrote = appends-same (g.E.Sink.taken c.args.err.now) (g.E.Sink.taken c.put_all.new.sink) c.deref.ensures.value c.in_ok-put_all.ensures.ok in
-    lists (g.E.Sink.taken c.put_all.new.sink) all.2 all.3 all.4 wrote (option_map string_bytes c.in_ok-token.token) c.in_ok-token.ensures.ok
-    c.in_ok-put_more.ensures.ok c.status-status.result c.status-status.ensures
+    lists c.in_ok-reading.ensures.all c.deref.ensures.value (g.E.Sink.taken c.put_all.new.sink) c.in_ok-put_all.ensures.ok
+    (option_map string_bytes c.in_ok-token.token) c.in_ok-token.ensures.ok c.in_ok-put_more.ensures.ok c.status-status.result c.status-status.ensures
