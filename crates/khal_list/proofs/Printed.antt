@@ -1,11 +1,11 @@
 -- What of a list to come is written so far: its first entries.
-use Rattle.std.specs.Prelude.{ℤ, ◌≢◌, Bool, true, nat_lt, if◌then◌else◌}
+use Rattle.std.specs.Prelude.{ℤ, ◌≢◌, Bool, true, if◌then◌else◌}
 use Rattle.std.proofs.Common.{◌≡◌, ℕ, zero, suc, ◌+◌, List, [], ◌∷◌, ◌++◌, Option, Some, None, length, take, refl, sym, ap, ap₂, ◌∙◌, arith, append_assoc}
 use Rattle.std.proofs.Common.{append-nil, length-append}
 use Rattle.std.specs.Io.KnownBytes.{Appends}
 use Rattle.std.specs.Option.{option_map}
 use Rattle.std.proofs.Math.Seq.{take-append-add}
-use Rattle.std.proofs.lemmas.Grind.{common_steps}
+use Rattle.std.proofs.lemmas.Bool.{lt-ltb}
 use Rattle.ics_series.specs.OnDays.{DayRank, day_rank_of, OnDay}
 use Rattle.khal_list.specs.Drawn.{DrewAhead}
 use Rattle.khal_ports.specs.Growth.{TookFront}
@@ -107,38 +107,24 @@ module _ {style : Style} {limit : Option ℕ} {all : List OnDay} {told : Option 
       pub cut-key : left ≡ Some 0 → last ≡ day_key_on limit all
       cut-key none = p.last_is ∙ sym (ap₂ (λ (cut : Bool) (l : List OnDay). if cut then last_day_key l else None) cut-is (first-none none))
         where
-          limit-is : limit ≡ Some (length p.done + 0)
-          limit-is = p.left_is ∙ ap (option_map (λ n. length p.done + n)) none
-
           sizes : length all ≡ length p.done + suc (length es)
           sizes = sym (ap length p.parted) ∙ (length-append p.done coming ∙ ap (λ l. length p.done + length l) gives)
 
-          less : (n k : ℕ) → nat_lt (n + 0) (n + suc k) ≡ true
-          less n k = grind (arith, common_steps)
-
-          more : nat_lt (length p.done + 0) (length all) ≡ true
-          more = ap (nat_lt (length p.done + 0)) sizes ∙ less (length p.done) (length es)
-
           cut-is : is_cut limit all ≡ true
-          cut-is = ap (λ l. is_cut l all) limit-is ∙ more
+          cut-is = ap (λ l. is_cut l all) (p.left_is ∙ ap (option_map (λ n. length p.done + n)) none)
+              ∙ lt-ltb (length p.done + 0) (length all) (omega (arith, sizes))
 
-      module _ (day : ℤ) (bytes : List ℕ) (lower : Option ℕ) (day-is : day ≡ e.day) (bytes-is : bytes ≡ entry_text style before day e.entry) (lower-is : left
-          ≡ option_map (λ n. n + 1) lower) where
-        piece-is : bytes ≡ entry_text style before e.day e.entry
-        piece-is = bytes-is ∙ ap (λ d. entry_text style before d e.entry) day-is
-
+      module _ (lower : Option ℕ) (lower-is : left ≡ option_map (λ n. n + 1) lower) where
         first-lower : (l : Option ℕ) → first_of (option_map (λ n. n + 1) l) (e ∷ es) ≡ e ∷ first_of l es
         first-lower None = refl
         first-lower (Some n) = let more : n + 1 ≡ suc n = omega arith in ap (λ k. take k (e ∷ es)) more
 
-        next : days_text_after style before (first_of left coming) ≡ bytes ++ days_text_after style (Some e.day) (first_of lower es)
-        next =
-            ap (λ l. days_text_after style before (first_of l coming)) lower-is
-            ∙ (ap (λ l. days_text_after style before (first_of (option_map (λ n. n + 1) lower) l)) gives
-            ∙ (ap (days_text_after style before) (first-lower lower)
-            ∙ ap (λ b. b ++ days_text_after style (Some e.day) (first_of lower es)) (sym piece-is)))
+        next : days_text_after style before (first_of left coming) ≡ entry_text style before e.day e.entry
+            ++ days_text_after style (Some e.day) (first_of lower es)
+        next = rw (lower-is, gives, first-lower lower) refl
 
-        pub printed-part : (new : Option (List ℕ)) → TookFront taken new bytes → TookFront told new (days_text style (first_of limit all))
+        pub printed-part : (new : Option (List ℕ)) → TookFront taken new (entry_text style before e.day e.entry) →
+            TookFront told new (days_text style (first_of limit all))
         printed-part new f =
             written-part (days_text_after style (Some e.day) (first_of lower es)) (rw next at written) f
 
@@ -146,18 +132,20 @@ module _ {style : Style} {limit : Option ℕ} {all : List OnDay} {told : Option 
         left-lower None = refl
         left-lower (Some n) = ap Some (omega (arith, length-append p.done (e ∷ [])))
 
-        pub printed-more : (new : Option (List ℕ)) → Appends taken new bytes → Printed style limit all es told new (Some day) lower (Some (day_rank_of e))
+        pub printed-more : (new : Option (List ℕ)) → Appends taken new (entry_text style before e.day e.entry) →
+            Printed style limit all es told new (Some e.day) lower (Some (day_rank_of e))
         printed-more new h = record {
           done = p.done ++ e ∷ [];
           parted = append_assoc p.done (e ∷ []) es ∙ (ap (λ l. p.done ++ l) (sym gives) ∙ p.parted);
-          taken_is = appends-same told new text-is (appends-both told taken new (days_text style p.done) bytes (p.taken_is, h));
-          day_is = ap Some day-is ∙ sym (day-more None p.done e);
+          taken_is = appends-same told new text-is
+              (appends-both told taken new (days_text style p.done) (entry_text style before e.day e.entry) (p.taken_is, h));
+          day_is = sym (day-more None p.done e);
           left_is = p.left_is ∙ (ap (option_map (λ n. length p.done + n)) lower-is ∙ left-lower lower);
           last_is = sym (key-more p.done e);
         }
           where
-            text-is : days_text style p.done ++ bytes ≡ days_text style (p.done ++ e ∷ [])
+            text-is : days_text style p.done ++ entry_text style before e.day e.entry ≡ days_text style (p.done ++ e ∷ [])
             text-is =
-                ap (λ b. days_text style p.done ++ b) (piece-is
-                ∙ (ap (λ d. entry_text style d e.day e.entry) p.day_is ∙ sym (append-nil (entry_text style (last_day None p.done) e.day e.entry))))
+                ap (λ b. days_text style p.done ++ b) (ap (λ d. entry_text style d e.day e.entry) p.day_is
+                ∙ sym (append-nil (entry_text style (last_day None p.done) e.day e.entry)))
                 ∙ sym (text-append style None p.done (e ∷ []))

@@ -1,11 +1,11 @@
 -- What is written of a list to come, and of a feed whose entries are each listed once.
-use Rattle.std.proofs.Common.{◌≡◌, ℕ, List, [], ◌∷◌, ◌++◌, Option, Some, None, Result, Ok, Err, map, take, refl, sym, ap, ap₂, ◌∙◌, subst, zero, suc}
-use Rattle.std.proofs.Common.{true≢false}
+use Rattle.std.proofs.Common.{◌≡◌, ℕ, List, [], ◌∷◌, ◌++◌, Option, Some, None, Result, Ok, Err, map, take, length, refl, sym, ap, ap₂, ◌∙◌, subst}
 use Rattle.std.specs.Prelude.{◌≤◌, Bool, true, false, IfOk, nat_lt, if◌then◌else◌}
 use Rattle.std.specs.Io.KnownBytes.{Appends}
 use Rattle.std.specs.Option.{option_map}
 use Rattle.std.specs.Result.{IsErr}
-use Rattle.std.proofs.lemmas.List.{length-map}
+use Rattle.std.proofs.lemmas.List.{length-map, map-append, take-map, take_at}
+use Rattle.std.proofs.lemmas.Result.{IfOk-from_err, IfOk-weaker}
 use Rattle.ics_series.specs.OnDays.{day_key_rank, DayRank, OnDay}
 use Rattle.ics_series.specs.declared.day_key.DayKey.{DayKey}
 use Rattle.ics_series.specs.Entry.{Entry, key_rank}
@@ -15,6 +15,7 @@ use Rattle.khal_list.specs.Drawn.{DrewAhead, Puts}
 use Rattle.khal_ports.specs.Growth.{TookFront}
 use Rattle.khal_list.specs.Listed.{day_key_on, days_text_of, first_of, is_cut, key_on, last_day_key, last_key, style_of, listing_text}
 use Rattle.khal_list.specs.Text.{Style, days_text, text, under}
+use Rattle.khal_ports.proofs.Written.{on_err}
 
 -- a piece that is added to nothing is all
 pub only-piece : (piece : List ℕ) {old new bytes : List ℕ} → old ≡ [] → new ≡ old ++ piece → bytes ≡ new → bytes ≡ piece
@@ -23,12 +24,7 @@ only-piece piece h k l = l ∙ (k ∙ ap (λ front. front ++ piece) h)
 -- the first entries, each under its day, are the first of those under days
 first-under : (style : Style) (limit : Option ℕ) (list : List Entry) → first_of limit (map (under style) list) ≡ map (under style) (first_of limit list)
 first-under style None list = refl
-first-under style (Some n) list = take-under n list
-  where
-    take-under : (n : ℕ) (list : List Entry) → take n (map (under style) list) ≡ map (under style) (take n list)
-    take-under zero list = refl
-    take-under (suc n) [] = refl
-    take-under (suc n) (e ∷ es) = ap (λ l. under style e ∷ l) (take-under n es)
+first-under style (Some n) list = take-map (under style) n list
 
 -- the key of the last of them, without its day
 last-under : (style : Style) (list : List Entry) → option_map (λ r. r.key) (last_day_key (map (under style) list)) ≡ last_key list
@@ -58,28 +54,16 @@ text-under request list = ap (days_text (style_of request)) (first-under (style_
 abbrev entries : List OnDay → List Entry
 entries list = map (λ p. p.entry) list
 
-entries-both : (xs ys : List OnDay) → entries (xs ++ ys) ≡ entries xs ++ entries ys
-entries-both [] ys = refl
-entries-both (x ∷ xs) ys = ap (λ l. x.entry ∷ l) (entries-both xs ys)
-
 entries-under : (style : Style) (list : List Entry) → entries (map (under style) list) ≡ list
 entries-under style [] = refl
 entries-under style (e ∷ es) = ap (λ l. e ∷ l) (entries-under style es)
 
 -- a front of entries that each stand under their own day
 front-under : (style : Style) (shown rest : List OnDay) (list : List Entry) → shown ++ rest ≡ map (under style) list → shown ≡ map (under style) (entries shown)
-front-under style [] rest list h = refl
-front-under style (p ∷ ps) rest [] h = cc
-front-under style (p ∷ ps) rest (e ∷ es) h = ap₂ (λ (a : OnDay) (l : List OnDay). a ∷ l) first (front-under style ps rest es more)
-  where
-    head-is : p ≡ under style e
-    head-is = cc
-
-    more : ps ++ rest ≡ map (under style) es
-    more = cc
-
-    first : p ≡ under style p.entry
-    first = head-is ∙ sym (ap (λ (q : OnDay). under style q.entry) head-is)
+front-under style shown rest list h =
+    let front : shown ≡ map (under style) (take (length shown) list) =
+    sym (take_at shown rest (length shown) refl) ∙ (ap (take (length shown)) h ∙ take-map (under style) (length shown) list) in
+    front ∙ ap (map (under style)) (sym (ap entries front ∙ entries-under style (take (length shown) list)))
 
 pub drew-under : (style : Style) (old new : List Entry) {rest : List OnDay} {out out' : Option (List ℕ)} → rest ≡ map (under style) new
     → DrewAhead (days_text style) (map (under style) old) rest out out' → DrewAhead (text style) old new out out'
@@ -92,35 +76,34 @@ drew-under style old new {rest = rest} {out = out} {out' = out'} is d = record {
   taken = subst (λ (l : List OnDay). Appends out out' (days_text style l ++ d.part)) (front-under style d.shown (d.ahead ++ rest) old d.given) d.taken;
 }
   where
-    rest-is : entries rest ≡ new
-    rest-is = ap entries is ∙ entries-under style new
-
     given : entries d.shown ++ (entries d.ahead ++ new) ≡ old
     given =
-        ap (λ l. entries d.shown ++ (entries d.ahead ++ l)) (sym rest-is)
-        ∙ (ap (λ l. entries d.shown ++ l) (sym (entries-both d.ahead rest))
-        ∙ (sym (entries-both d.shown (d.ahead ++ rest))
-        ∙ (ap entries d.given ∙ entries-under style old)))
+        ap (λ l. entries d.shown ++ (entries d.ahead ++ l)) (sym (ap entries is ∙ entries-under style new))
+        ∙ (simp map-append at (ap entries d.given) ∙ entries-under style old)
 
--- what a fault leaves
-pub puts-fault : {request : Request} {coming : List OnDay → Type 0} {list rest : List OnDay} {out out' : Option (List ℕ)}
-    (r : Result (Option DayKey) RunFault) → IsErr r
-    → TookFront out out' (days_text_of request list) → coming rest → DrewAhead (days_text (style_of request)) list rest out out' →
-    Puts request coming list out out' r
-puts-fault (Ok key) err front to_come drew = absurd (true≢false (sym err))
-puts-fault {rest = rest} (Err fault) err front to_come drew =
-    record { text = tt; key = tt; front = front; rest = rest; to_come = to_come; drew = drew }
+-- what a fault leaves, and what the limit leaves
+module _ {request : Request} {coming : List OnDay → Type 0} {list rest : List OnDay} {out out' : Option (List ℕ)} (r : Result (Option DayKey) RunFault)
+    (front : TookFront out out' (days_text_of request list)) (to_come : coming rest) (drew : DrewAhead (days_text (style_of request)) list rest out out') where
+  pub puts-fault : IsErr r → Puts request coming list out out' r
+  puts-fault err = record {
+    text = IfOk-from_err r _ err;
+    key = IfOk-from_err r _ err;
+    front = on_err r front;
+    rest = rest;
+    to_come = to_come;
+    drew = drew;
+  }
 
--- what the limit leaves
-pub puts-cut : {request : Request} {coming : List OnDay → Type 0} {list rest : List OnDay} {out out' : Option (List ℕ)} {last : Option DayRank}
-    (r : Result (Option DayKey) RunFault)
-    → IfOk r (λ key. option_map day_key_rank key ≡ last) → Appends out out' (days_text_of request list) × (last ≡ day_key_on request.limit list)
-    → TookFront out out' (days_text_of request list) → coming rest → DrewAhead (days_text (style_of request)) list rest out out' →
-    Puts request coming list out out' r
-puts-cut {rest = rest} (Ok key) is cut front to_come drew =
-    record { text = cut.0; key = is ∙ cut.1; front = tt; rest = rest; to_come = to_come; drew = drew }
-puts-cut {rest = rest} (Err fault) is cut front to_come drew =
-    record { text = tt; key = tt; front = front; rest = rest; to_come = to_come; drew = drew }
+  pub puts-cut : {last : Option DayRank} → IfOk r (λ key. option_map day_key_rank key ≡ last) → Appends out out' (days_text_of request list)
+      → last ≡ day_key_on request.limit list → Puts request coming list out out' r
+  puts-cut is text same = record {
+    text = IfOk-weaker r _ _ (λ key _. text) is;
+    key = IfOk-weaker r _ _ (λ key e. e ∙ same) is;
+    front = on_err r front;
+    rest = rest;
+    to_come = to_come;
+    drew = drew;
+  }
 
 -- what is written of a feed, each of whose entries stands under its own day
 abbrev PutsOnce : Request → List Entry → List Entry → Option (List ℕ) → Option (List ℕ) → Result (Option DayKey) RunFault → Type 0

@@ -11,8 +11,8 @@ use Rattle.khal_list.proofs.printing.put_entries.Goals as goal
 pub returns-in_err-day-clause-puts : goal.returns-in_err-day-clause-puts
 returns-in_err-day-clause-puts g c = λ list a.
     let p = c.loop-count.invariant.printed list a in
-    puts-fault {coming = g.D.Draws.comes c.args.draws.now c.draw.new.source} c.from_residual.result c.from_residual.ensures.0
-    (printed-front p.2) (c.in_err-day.ensures.err p.0 p.1) (drew-none p.2)
+    puts-fault {coming = g.D.Draws.comes c.args.draws.now c.draw.new.source} c.from_residual.result
+    (printed-front p.2) (c.in_err-day.ensures.err p.0 p.1) (drew-none p.2) c.from_residual.ensures.0
 
 pub returns-in-Some-eq0-clause-puts : goal.returns-in-Some-eq0-clause-puts
 returns-in-Some-eq0-clause-puts g c = λ list a.
@@ -20,8 +20,8 @@ returns-in-Some-eq0-clause-puts g c = λ list a.
     let d = rw c.in-Some.is at c.in_ok-day.ensures.ok p.0 p.1 in
     let e = on_day c.in-Some.day (entry_of c.in-Some.occurrence) in
     let none : c.loop-count.left ≡ Some 0 = search rules in
-    puts-cut {coming = g.D.Draws.comes c.args.draws.now c.draw.new.source} c.key_of.result c.key_of.ensures.ok
-    (cut-text p.2 e d.0 d.1 none, cut-key p.2 e d.0 d.1 none) (printed-front p.2) d.2 (drew-one p.2 e d.0 d.1)
+    puts-cut {coming = g.D.Draws.comes c.args.draws.now c.draw.new.source} c.key_of.result (printed-front p.2) d.2 (drew-one p.2 e d.0 d.1)
+    c.key_of.ensures.ok (cut-text p.2 e d.0 d.1 none) (cut-key p.2 e d.0 d.1 none)
 
 pub returns-in_err-put_entry-clause-puts : goal.returns-in_err-put_entry-clause-puts
 returns-in_err-put_entry-clause-puts g c = λ list a.
@@ -33,9 +33,8 @@ returns-in_err-put_entry-clause-puts g c = λ list a.
     let took = rw (to_z-of_z w32 c.in-Some.day fits) at c.in_err-put_entry.ensures.err in
     let lower = fewer c.loop-count.left some in
     puts-fault {coming = g.D.Draws.comes c.args.draws.now c.draw.new.source} c.from_residual-in_err-put_entry.result
-    c.from_residual-in_err-put_entry.ensures.0
-    (printed-part p.2 e d.0 d.1 c.in-Some.day _ lower.0 refl refl lower.1 (g.O.Sink.taken c.put_entry.new.out) took)
-    d.2 (drew-part p.2 e d.0 d.1 (g.O.Sink.taken c.put_entry.new.out) _ took.taken)
+    (printed-part p.2 e d.0 d.1 lower.0 lower.1 (g.O.Sink.taken c.put_entry.new.out) took)
+    d.2 (drew-part p.2 e d.0 d.1 (g.O.Sink.taken c.put_entry.new.out) _ took.taken) c.from_residual-in_err-put_entry.ensures.0
 
 pub loop-count-preserved : goal.loop-count-preserved
 loop-count-preserved g c = record {
@@ -48,7 +47,7 @@ loop-count-preserved g c = record {
         d.0,
         d.2,
         rw kept (
-            printed-more p.2 e d.0 d.1 c.in-Some.day _ c.one_fewer-left.result refl refl c.one_fewer-left.ensures
+            printed-more p.2 e d.0 d.1 c.one_fewer-left.result c.one_fewer-left.ensures
             (g.O.Sink.taken c.put_entry.new.out) (rw kept at c.in_ok-put_entry.ensures.ok)),
       );
 }
@@ -56,8 +55,7 @@ loop-count-preserved g c = record {
 pub returns-clause-puts : goal.returns-clause-puts
 returns-clause-puts g c = λ list a.
     let p = c.loop-count.invariant.printed list a in
-    puts-fault {coming = g.D.Draws.comes c.args.draws.now c.loop-count.source} _ refl
-    (printed-front p.2) p.1 (drew-none p.2)
+    puts-fault {coming = g.D.Draws.comes c.args.draws.now c.loop-count.source} _ (printed-front p.2) p.1 (drew-none p.2) refl
 
 pub returns-in_default-clause-puts : goal.returns-in_default-clause-puts
 returns-in_default-clause-puts g c = grind (ints, arith, common_steps)
