@@ -41,12 +41,11 @@ pub goes-on : {files : List FileSaid} (request : Request) (front : List Entry) (
 goes-on request front o behind h e = ap (λ key. after_key key (front ++ o ∷ behind)) e ∙ behind-entry front o behind h.rises
 
 -- what stands behind the last of some entries
-behind-last : (xs ps ys : List Entry) → Rises entry_cmp (xs ++ (ps ++ ys)) → 1 ≤ length ps → after_key (last_key ps) (xs ++ (ps ++ ys)) ≡ ys
-behind-last xs [] ys h l = absurd (omega arith)
-behind-last xs (p ∷ []) ys h l = behind-entry xs p ys h
-behind-last xs (p ∷ q ∷ ps) ys h l =
-    let regroup : xs ++ (p ∷ ((q ∷ ps) ++ ys)) ≡ (xs ++ p ∷ []) ++ ((q ∷ ps) ++ ys) = sym (append_assoc xs (p ∷ []) ((q ∷ ps) ++ ys)) in
-    ap (after_key (last_key (q ∷ ps))) regroup ∙ behind-last (xs ++ p ∷ []) (q ∷ ps) ys (subst (Rises entry_cmp) regroup h) (omega arith)
+behind-last : (xs ps ys list : List Entry) → list ≡ xs ++ (ps ++ ys) → Rises entry_cmp list → 1 ≤ length ps → after_key (last_key ps) list ≡ ys
+behind-last xs [] ys list e h l = absurd (omega arith)
+behind-last xs (p ∷ []) ys list e h l = ap (after_key (Some (rank_of p))) e ∙ behind-entry xs p ys (subst (Rises entry_cmp) e h)
+behind-last xs (p ∷ q ∷ ps) ys list e h l =
+    behind-last (xs ++ p ∷ []) (q ∷ ps) ys list (e ∙ sym (append_assoc xs (p ∷ []) ((q ∷ ps) ++ ys))) h (omega arith)
 
 -- a page that is cut and what the others list together, or a page that is all
 joined-by : (b : Bool) (limit : ℕ) (rest more : List Entry) → nat_lt limit (length rest) ≡ b → (b ≡ true → more ≡ drop limit rest) →
@@ -54,36 +53,23 @@ joined-by : (b : Bool) (limit : ℕ) (rest more : List Entry) → nat_lt limit (
 joined-by true limit rest more p f = ap (λ l. take limit rest ++ l) (f refl) ∙ take-append-drop limit rest
 joined-by false limit rest more p f = take_all limit rest (ltb-false limit (length rest) p)
 
--- the rest of a listing, whose first entries are these, stands behind a key
-record StandsBehind (key : Option Rank) (xs rest : List Entry) : Type 0 where
-  rises : Rises entry_cmp (xs ++ rest)
-  behind : after_key key (xs ++ rest) ≡ rest
-
--- the pages from a place in the listing on
-joined-from : (limits : List ℕ) {key : Option Rank} {xs : List Entry} (rest : List Entry) → StandsBehind key xs rest → ArePositive limits →
-    length rest ≤ total limits
-    → joined limits key (xs ++ rest) ≡ rest
-joined-from [] [] b p l = refl
-joined-from [] (y ∷ ys) b p l = absurd (omega arith)
-joined-from (limit ∷ limits) {xs = xs} rest b p l =
-    let regroup : xs ++ rest ≡ xs ++ (take limit rest ++ drop limit rest) = ap (λ l. xs ++ l) (sym (take-append-drop limit rest)) in
-    let whole : xs ++ rest ≡ (xs ++ take limit rest) ++ drop limit rest = regroup ∙ sym (append_assoc xs (take limit rest) (drop limit rest)) in
-    ap (λ r. cond (nat_lt limit (length r)) (take limit r ++ joined limits (key_on (Some limit) r) (xs ++ rest)) (take limit r)) b.behind
-    ∙ joined-by (nat_lt limit (length rest)) limit rest (joined limits (key_on (Some limit) rest) (xs ++ rest)) refl
+-- the pages from a place in the listing on, whose rest stands behind a key
+joined-from : (limits : List ℕ) (list : List Entry) (key : Option Rank) (xs rest : List Entry) → Rises entry_cmp list → list ≡ xs ++ rest →
+    after_key key list ≡ rest → ArePositive limits → length rest ≤ total limits → joined limits key list ≡ rest
+joined-from [] list key xs [] h e b p l = refl
+joined-from [] list key xs (y ∷ ys) h e b p l = absurd (omega arith)
+joined-from (limit ∷ limits) list key xs rest h e b p l =
+    ap (λ r. cond (nat_lt limit (length r)) (take limit r ++ joined limits (key_on (Some limit) r) list) (take limit r)) b
+    ∙ joined-by (nat_lt limit (length rest)) limit rest (joined limits (key_on (Some limit) rest) list) refl
     (λ cut.
     let more : limit < length rest = ltb-true limit (length rest) cut in
     let some : 1 ≤ length (take limit rest) = omega (arith, length-take-le limit rest (omega arith), p.0) in
-    let named : key_on (Some limit) rest ≡ last_key (take limit rest) = ap (λ b. cond b (last_key (take limit rest)) None) cut in
-    let found : after_key (last_key (take limit rest)) (xs ++ rest) ≡ drop limit rest =
-    ap (after_key (last_key (take limit rest))) regroup ∙ behind-last xs (take limit rest) (drop limit rest) (subst (Rises entry_cmp) regroup b.rises) some in
-    ap (λ next. joined limits next (xs ++ rest)) named
-    ∙ (ap (joined limits (last_key (take limit rest))) whole
-    ∙ joined-from limits (drop limit rest)
-    (record { rises = subst (Rises entry_cmp) whole b.rises; behind = ap (after_key (last_key (take limit rest))) (sym whole) ∙ found })
-    p.1
-    (omega (arith, l, length-drop limit rest))))
+    let parts : list ≡ xs ++ (take limit rest ++ drop limit rest) = e ∙ ap (λ l. xs ++ l) (sym (take-append-drop limit rest)) in
+    ap (λ b. joined limits (cond b (last_key (take limit rest)) None) list) cut
+    ∙ joined-from limits list _ (xs ++ take limit rest) (drop limit rest) h (parts ∙ sym (append_assoc xs (take limit rest) (drop limit rest)))
+    (behind-last xs (take limit rest) (drop limit rest) list parts h some) p.1 (omega (arith, l, length-drop limit rest)))
 
 pub pages-join : {files : List FileSaid} (request : Request) (list : List Entry) (limits : List ℕ) → IsListingOf files request list → ArePositive limits →
     length list ≤ total limits
     → joined limits None list ≡ list
-pages-join request list limits h p l = joined-from limits {xs = []} list (record { rises = h.rises; behind = refl }) p l
+pages-join request list limits h p l = joined-from limits list None [] list h.rises refl refl p l

@@ -1,7 +1,6 @@
 -- A listing that goes on from a token, and the text of its parts.
-use Rattle.std.proofs.Common.{◌≡◌, ℤ, List, [], ◌∷◌, ◌++◌, Option, Some, None, Bool, true, inl, inr, refl, sym, ◌∙◌, ap, append_assoc, subst, if◌then◌else◌}
+use Rattle.std.proofs.Common.{◌≡◌, ℤ, List, [], ◌∷◌, ◌++◌, Option, Some, None, Bool, inl, inr, refl, sym, ◌∙◌, ap, append_assoc, subst, if◌then◌else◌}
 use Rattle.std.specs.Option.{option_map}
-use Rattle.std.specs.Ordering.{int_eq}
 use Rattle.std.proofs.lemmas.Cmp.{int_eq_equiv}
 use Rattle.clap.specs.Words.{Text}
 use Rattle.ics_zone.specs.declared.display.Display.{Display}
@@ -19,16 +18,11 @@ use Rattle.khal_list.specs.Text.{Style, day_under, entry_text, heading_text, lin
 use Rattle.khal_list.proofs.AnswerLemmas.{no_both}
 use Rattle.khal_list.proofs.PageLemmas.{goes-on}
 
-same-text : (a b : Text) → Some a ≡ Some b → a ≡ b
-same-text a b e = cc
-
 -- the key that the words name is that of the token
 key-named : OneSpelling → (given : Option Text) (key : Option Key) {rank : Rank} → IsKeyOf given key → given ≡ Some (spelling rank) → IsKey rank →
     option_map key_rank key ≡ Some rank
-key-named one None None {rank = rank} h e k = let f : None ≡ Some (spelling rank) = e in cc
-key-named one None (Some key) h e k = absurd h
-key-named one (Some text) None h e k = absurd h
-key-named one (Some text) (Some key) {rank = rank} h e k = ap Some (one (key_rank key) rank h.0 k (sym h.1 ∙ same-text text (spelling rank) e))
+key-named one (Some text) (Some key) {rank = rank} h e k = ap Some (one (key_rank key) rank h.0 k (cc))
+key-named one given key h e k = absurd (first_of (assumption, cc))
 
 pub token-goes-on : OneSpelling → TokenGoesOn
 token-goes-on one words now files request front o behind r once given k listing =
@@ -43,13 +37,9 @@ day-goes-on behind-is files request every_day front p behind listing after =
 module _ (one : OneDaySpelling) (zone : Display) (window : Window) where
   day-key-named : (given : Option Text) (key : Option DayKey) {rank : DayRank} → IsDayKeyOf zone window given key
       → given ≡ Some (day_spelling rank) → IsDayKey rank → option_map day_key_rank key ≡ Some rank
-  day-key-named None None {rank = rank} h e k = let f : None ≡ Some (day_spelling rank) = e in cc
-  day-key-named None (Some key) h e k = absurd h
-  day-key-named (Some text) None h e k = absurd h
-  day-key-named (Some text) (Some key) {rank = rank} (inl h) e k =
-      ap Some (one (day_key_rank key) rank h.0 k (sym h.1 ∙ same-text text (day_spelling rank) e))
-  day-key-named (Some text) (Some key) {rank = rank} (inr h) e k =
-      absurd (no_both rank (key_rank key.key) (sym (same-text text (day_spelling rank) e) ∙ h.1))
+  day-key-named (Some text) (Some key) {rank = rank} (inl h) e k = ap Some (one (day_key_rank key) rank h.0 k (cc))
+  day-key-named (Some text) (Some key) {rank = rank} (inr h) e k = absurd (no_both rank (key_rank key.key) (cc))
+  day-key-named given key h e k = absurd (first_of (assumption, cc))
 
 pub day-token-goes-on : OneDaySpelling → DayListingBehind → DayTokenGoesOn
 day-token-goes-on one behind-is words now files request every_day front p behind r some given k listing =
@@ -73,7 +63,5 @@ text-goes-on style e es =
     let day = day_under style e in
     let rest = text_after style (Some day) es in
     append_assoc (heading_text style day) (line_text style day e) rest
-    ∙ ap (λ t. heading_text style day ++ t) (sym (ap (λ (b : Bool). ((if b then [] else heading_text style day) ++ line_text style day e) ++ rest) (eq-eq day)))
-  where
-    eq-eq : (n : ℤ) → int_eq n n ≡ true
-    eq-eq n = int_eq_equiv.refl n
+    ∙ ap (λ t. heading_text style day ++ t) (sym (ap (λ (b : Bool). ((if b then [] else heading_text style day) ++ line_text style day e) ++ rest)
+    (int_eq_equiv.refl day)))
