@@ -1,6 +1,7 @@
 -- When the instants of a window's ends rise, and when they do not.
-use Rattle.std.proofs.Common.{◌≡◌, ◌≤ℤ◌, ◌<ℤ◌, ◌+ℤ◌, ℤ, Bool, Option, true, false, Some, None, refl, arith, if◌then◌else◌, ◌&&◌}
+use Rattle.std.proofs.Common.{◌≡◌, ◌≤ℤ◌, ◌<ℤ◌, ◌+ℤ◌, ℤ, true, false, Some, None, refl, arith, ◌&&◌}
 use Rattle.std.specs.Prelude.{int_lt, int_le}
+use Rattle.std.proofs.lemmas.Bool.{and_right, false_from_ne_true, true_from_ne_false}
 use Rattle.jiff_core.proofs.SignedLemmas.{signed_arith}
 use Rattle.ics_fields.specs.Locals.{whole_days}
 use Rattle.ics_zone.specs.Displays.{moment_of}
@@ -9,30 +10,12 @@ use Rattle.ics_zone.specs.JiffZones.{zone_of}
 use Rattle.ics_zone.specs.declared.display.Display.{Display}
 use Rattle.khal_list.specs.Windows.{between, first_start, last_end}
 
--- two instants, if they pass a test
-abbrev if_passed : Bool → ℤ → ℤ → Option (ℤ × ℤ)
-if_passed passed x y = if passed then Some (x, y) else None
-
-refused : (passed : Bool) (x y : ℤ) → (passed ≡ true → ⊥) → None ≡ if_passed passed x y
-refused true x y fails = absurd (fails refl)
-refused false x y fails = refl
-
-refused_second : (a b : Bool) (x y : ℤ) → (b ≡ true → ⊥) → None ≡ if_passed (a && b) x y
-refused_second true b x y fails = refused b x y fails
-refused_second false b x y fails = refl
-
-passed_all : {a b c : Bool} (x y : ℤ) → a ≡ true → b ≡ true → c ≡ true → Some (x, y) ≡ if_passed ((a && b) && c) x y
-passed_all x y is_a is_b is_c = rw (is_a, is_b, is_c) refl
-
-true_by : (b : Bool) → (b ≡ false → ⊥) → b ≡ true
-true_by true fails = refl
-true_by false fails = absurd (fails refl)
-
 -- instants that do not rise make no window
 pub between-falling : (zone : Display) (start end : ℤ) → moment_of (zone_of zone) end ≤ℤ moment_of (zone_of zone) start → None ≡ between zone start end
 between-falling zone start end late =
-    refused_second (int_le first_start start && int_le end last_end) _ _ _
-    (λ (rises : int_lt (moment_of (zone_of zone) start) (moment_of (zone_of zone) end) ≡ true). omega (arith, signed_arith))
+    let falls = false_from_ne_true (int_lt (moment_of (zone_of zone) start) (moment_of (zone_of zone) end))
+    (λ (rises : int_lt (moment_of (zone_of zone) start) (moment_of (zone_of zone) end) ≡ true). omega (arith, signed_arith)) in
+    rw (and_right (int_le first_start start && int_le end last_end) _ falls) refl
 
 -- nor do locals of which the start is four days behind the end
 pub between-apart : (zone : Display) (start end : ℤ) → (end +ℤ whole_days 4) ≤ℤ start → None ≡ between zone start end
@@ -45,8 +28,8 @@ between-apart zone start end apart =
 pub between-rising : (zone : Display) (start end : ℤ) → first_start ≤ℤ start → end ≤ℤ last_end → moment_of (zone_of zone) start <ℤ moment_of (zone_of zone) end
     → Some (moment_of (zone_of zone) start, moment_of (zone_of zone) end) ≡ between zone start end
 between-rising zone start end early late rise =
-    let a = true_by (int_le first_start start) (λ (fails : int_le first_start start ≡ false). omega (arith, signed_arith)) in
-    let b = true_by (int_le end last_end) (λ (fails : int_le end last_end ≡ false). omega (arith, signed_arith)) in
-    let c = true_by (int_lt (moment_of (zone_of zone) start) (moment_of (zone_of zone) end))
+    let a = true_from_ne_false (int_le first_start start) (λ (fails : int_le first_start start ≡ false). omega (arith, signed_arith)) in
+    let b = true_from_ne_false (int_le end last_end) (λ (fails : int_le end last_end ≡ false). omega (arith, signed_arith)) in
+    let c = true_from_ne_false (int_lt (moment_of (zone_of zone) start) (moment_of (zone_of zone) end))
     (λ (fails : int_lt (moment_of (zone_of zone) start) (moment_of (zone_of zone) end) ≡ false). omega (arith, signed_arith)) in
-    passed_all _ _ a b c
+    rw (a, b, c) refl
