@@ -1,5 +1,5 @@
-use Rattle.std.proofs.Common.{◌≡◌, ◌++◌, ℕ, ℤ, List, Result, Ok, Err, IfOk, OnOk, if◌then◌else◌, refl, ap, ◌∙◌, arith, FitsSigned, w32, w64, to_z, of_z}
-use Rattle.std.specs.Prelude.{is_ok}
+use Rattle.std.proofs.lemmas.Grind.{common_steps}
+use Rattle.std.proofs.Common.{◌≡◌, ℤ, IfOk, refl, ◌∙◌, arith, FitsSigned, w32, w64, to_z, of_z}
 use Rattle.std.proofs.lemmas.Int.{to_z-of_z}
 use Rattle.jiff.proofs.SpanFacts.{signed_arith}
 use Rattle.jiff.specs.Words as jiff
@@ -16,11 +16,6 @@ text_is d day range same =
     let parts = fields d day range same in
     rw (year_is d day range same, parts.year, parts.month, parts.month_day) refl
 
-added : {T E : Type 0} (r : Result T E) (old : List ℕ) {new part all : List ℕ} → new ≡ (if is_ok r then old ++ part else old) → part ≡ all →
-    OnOk r (new ≡ old ++ all)
-added (Ok x) old grown same = grown ∙ ap (λ t. old ++ t) same
-added (Err x) old grown same = tt
-
 pub returns : goal.returns
 returns c =
     let kept : c.from.result ≡ c.args.day = c.from.ensures ∙ to_z-of_z w32 c.args.day c.ranges.day in
@@ -29,4 +24,4 @@ returns c =
     let found : epoch_day c.unwrap-date.result ≡ to_z w64 (of_z w64 c.from.result) = rw c.unwrap-date.ensures at given in
     let day : epoch_day c.unwrap-date.result ≡ c.args.day = found ∙ (to_z-of_z w64 c.from.result fits ∙ kept) in
     let text = c.as_bytes.ensures.value ∙ (c.as_str.ensures.value ∙ (c.date_text.ensures ∙ text_is c.unwrap-date.result c.args.day c.requires day)) in
-    added c.extend_from_slice.result c.args.text.now.items c.extend_from_slice.ensures.items text
+    grind (arith, common_steps, text, c.extend_from_slice.ensures.items)

@@ -1,5 +1,5 @@
 use Rattle.std.proofs.Common.{◌-ℤ◌, arith}
-use Rattle.jiff_core.proofs.SignedLemmas.{signed_arith}
+use Rattle.std.proofs.lemmas.Int.{ints}
 use Rattle.ics_zone.specs.Near.{moment_near}
 use Rattle.ics_zone.specs.Seconds.{IsNear}
 use Rattle.ics_fields.specs.Locals.{local_seconds}
@@ -10,4 +10,4 @@ pub returns-clause-near : goal.returns-clause-near
 returns-clause-near c =
     let local = local_seconds c.args.local in
     let near : IsNear (c.moment.result -ℤ local) = rw c.moment.ensures.value (moment_near (zone_of c.args.zone) local) in
-    (omega (arith, signed_arith), omega (arith, signed_arith))
+    (omega (arith, ints), omega (arith, ints))
