@@ -1,7 +1,6 @@
 -- When the instants of a window's ends rise, and when they do not.
 use Rattle.std.proofs.Common.{◌≡◌, ◌≤ℤ◌, ◌<ℤ◌, ◌+ℤ◌, ℤ, Some, None, arith}
 use Rattle.std.proofs.lemmas.Int.{ints}
-use Rattle.jiff_core.proofs.SignedLemmas.{signed_arith}
 use Rattle.ics_fields.specs.Locals.{whole_days}
 use Rattle.ics_zone.specs.Displays.{moment_of}
 use Rattle.ics_zone.specs.Near.{moment_near}
@@ -18,7 +17,7 @@ pub between-apart : (zone : Display) (start end : ℤ) → (end +ℤ whole_days 
 between-apart zone start end apart =
     let start_near = moment_near (zone_of zone) start in
     let end_near = moment_near (zone_of zone) end in
-    between-falling zone start end (omega (arith, signed_arith))
+    between-falling zone start end (omega (arith, ints))
 
 -- a window whose start is not too early, whose end is not too late, and whose instants rise
 pub between-rising : (zone : Display) (start end : ℤ) → first_start ≤ℤ start → end ≤ℤ last_end → moment_of (zone_of zone) start <ℤ moment_of (zone_of zone) end
