@@ -1,6 +1,7 @@
 -- Answers to the same words agree.
-use Rattle.std.proofs.Common.{◌≡◌, ◌⊎◌, inl, inr, ℕ, ℤ, pos, Bool, true, false, true≢false, List, Some, None, Ok, Err, Result, Option, IsTrue}
-use Rattle.std.proofs.Common.{◌↔◌, ◌&&◌, ◌+ℤ◌, option_and_then, if◌then◌else◌, arith, refl, sym, ◌∙◌, ap, subst, get_or}
+use Rattle.std.proofs.Common.{◌≡◌, ◌⊎◌, inl, inr, ℕ, ℤ, pos, Bool, true≢false, List, Some, None, Ok, Err, Result, Option}
+use Rattle.std.proofs.Common.{◌&&◌, ◌+ℤ◌, option_and_then, if◌then◌else◌, arith, refl, sym, ◌∙◌, ap, subst, get_or}
+use Rattle.std.proofs.lemmas.Bool.Decides.{same_from_decides}
 use Rattle.std.specs.Prelude.{int_le, int_lt, option_map, unwrap_or, IsSome}
 use Rattle.clap.specs.Words.{Text, IsAmong}
 use Rattle.ics_zone.specs.DisplayTexts.{display_of, said_by}
@@ -55,12 +56,6 @@ module _ {a b : Display} (now : ℤ) (h : Alike a b) where
   same_ends (Span.At text) = λ i. option_and_then (λ local. same_second local i) (option_and_then moment_named (named text))
   same_ends (Span.FromTo start end) =
       λ i. option_and_then (λ from. option_and_then (λ name. same_between from (end_named from name) i) (named end)) (same_start start i)
-
-same_flag : (a b : Bool) (P : Type 0) → IsTrue a ↔ P → IsTrue b ↔ P → a ≡ b
-same_flag true true P p q = refl
-same_flag true false P p q = let no : IsTrue false = q.1 (p.0 refl) in sym no
-same_flag false true P p q = p.1 (q.0 refl)
-same_flag false false P p q = refl
 
 same_limit : (given : Option Text) (a b : Option ℕ) → IsLimitOf given a → IsLimitOf given b → a ≡ b
 same_limit None None None p q = refl
@@ -130,7 +125,7 @@ same_request one {entries = entries} {now = now} {a = a} {b = b} p q =
       zones = p.zones ∙ sym q.zones;
       from = from;
       to = to;
-      notstarted = same_flag a.window.notstarted b.window.notstarted _ p.notstarted q.notstarted;
+      notstarted = same_from_decides a.window.notstarted b.window.notstarted p.notstarted q.notstarted;
       limit = same_limit (limit_text entries) a.limit b.limit p.limit q.limit;
       after = after.0;
       every_day = after.1;
