@@ -2,8 +2,8 @@
 use Rattle.std.proofs.Common.{◌≡◌, ℕ, ◌+◌, ◌-◌, ◌<◌, Bool, true, false, Some, List, [], ◌∷◌, ◌++◌, length, take, drop, get_or, if◌then◌else◌, refl, sym, ap}
 use Rattle.std.proofs.Common.{◌∙◌, append_assoc, append-nil, add-one, arith, length-append, length-drop}
 use Rattle.std.proofs.Math.Seq.{drop-cons}
-use Rattle.std.proofs.lemmas.Bool.{and_parts, or_parts, not-true, both_ways, eqb-true, lt-ltb}
-use Rattle.std.proofs.lemmas.List.{take_all, take-append-drop}
+use Rattle.std.proofs.lemmas.Bool.{and_parts, cond_both, or_parts, not-true, both_ways, eqb-true, lt-ltb}
+use Rattle.std.proofs.lemmas.List.{append_cancel_left, take_all, take_at, take-append-drop}
 use Rattle.std.proofs.lemmas.List.Quantifiers.{position-Some}
 use Rattle.std.specs.Prelude.{◌==◌, not}
 use Rattle.std.specs.List.{position, position_or_len}
@@ -18,33 +18,24 @@ plain_head x xs plain = not-true (is_brace x) (and_parts (not (is_brace x)) (is_
 plain_tail : (x : ℕ) (xs : List ℕ) → is_plain (x ∷ xs) ≡ true → is_plain xs ≡ true
 plain_tail x xs plain = (and_parts (not (is_brace x)) (is_plain xs) plain).1
 
-not_first : (b x : ℕ) (xs : List ℕ) → is_brace b ≡ true → b ≡ x → is_plain (x ∷ xs) ≡ true → ⊥
-not_first b x xs brace same plain = both_ways (is_brace x) (plain_head x xs plain) (ap is_brace (sym same) ∙ brace)
-
-heads : {x y : ℕ} {xs ys : List ℕ} → x ∷ xs ≡ y ∷ ys → x ≡ y
-heads e = cc
-
--- names before closing braces are the same, and so is what comes after them
-module _ (a b : List ℕ) where
-  names_apart : (xs ys : List ℕ) → is_plain xs ≡ true → is_plain ys ≡ true → xs ++ 125 ∷ a ≡ ys ++ 125 ∷ b → (xs ≡ ys) × (a ≡ b)
-  names_apart [] [] p q e = (refl, (cc))
-  names_apart [] (y ∷ ys) p q e = absurd (not_first 125 y ys refl (cc) q)
-  names_apart (x ∷ xs) [] p q e = absurd (not_first 125 x xs refl (cc) p)
-  names_apart (x ∷ xs) (y ∷ ys) p q e =
-      let rest = names_apart xs ys (plain_tail x xs p) (plain_tail y ys q) (cc) in
-      let tail : xs ≡ ys = rest.0 in
-      ((cc), rest.1)
-
 -- a name and a closing brace do not begin with an opening one
 no_brace_first : (xs a b : List ℕ) → is_plain xs ≡ true → 123 ∷ a ≡ xs ++ 125 ∷ b → ⊥
-no_brace_first [] a b plain e = omega (arith, heads e)
-no_brace_first (x ∷ xs) a b plain e = not_first 123 x xs refl (cc) plain
+no_brace_first [] a b plain e = let first : ◌≡◌ {A = ℕ} 123 125 = cc in absurd (omega arith)
+no_brace_first (x ∷ xs) a b plain e = let first : 123 ≡ x = cc in both_ways (is_brace x) (plain_head x xs plain) (ap is_brace (sym first))
 
 closing_after : (xs a : List ℕ) → is_plain xs ≡ true → position_or_len (λ byte. byte == 125) (xs ++ 125 ∷ a) ≡ length xs
 closing_after [] a plain = refl
 closing_after (x ∷ xs) a plain =
     let other : (x == 125) ≡ false = (or_parts (x == 123) (x == 125) (plain_head x xs plain)).1 in
     rw (other, closing_after xs a (plain_tail x xs plain)) (omega arith)
+
+-- names before closing braces are the same, and so is what comes after them
+names_apart : (a b xs ys : List ℕ) → is_plain xs ≡ true → is_plain ys ≡ true → xs ++ 125 ∷ a ≡ ys ++ 125 ∷ b → (xs ≡ ys) × (a ≡ b)
+names_apart a b xs ys p q e =
+    let size : length xs ≡ length ys = sym (closing_after xs a p) ∙ (ap (position_or_len (λ byte. byte == 125)) e ∙ closing_after ys b q) in
+    let same : xs ≡ ys = sym (take_at xs (125 ∷ a) (length ys) size) ∙ (ap (take (length ys)) e ∙ take_at ys (125 ∷ b) (length ys) refl) in
+    let rest : 125 ∷ a ≡ 125 ∷ b = append_cancel_left xs (125 ∷ a) (125 ∷ b) (e ∙ ap (λ front. front ++ 125 ∷ b) (sym same)) in
+    (same, (cc))
 
 -- the first closing brace after a name is the one behind it
 pub closing_behind : (xs a text : List ℕ) → is_plain xs ≡ true → text ≡ xs ++ 125 ∷ a → position (λ byte. byte == 125) text ≡ Some (length xs)
@@ -98,11 +89,7 @@ module _ {F : Type 0} (name : F → List ℕ) (plain : (field : F) → is_plain 
       ∷ (name g ++ 125 ∷ y) = sym (behind f x) ∙ e ∙ behind g y in (cc))
 
   pub no_pieces : (p : Piece F) (x : List ℕ) → written_piece name p ++ x ≡ [] → ⊥
-  no_pieces (Byte b) x e = by_brace (is_brace b) e
-    where
-      by_brace : (s : Bool) → spelled s b ++ x ≡ [] → ⊥
-      by_brace true e = cc
-      by_brace false e = cc
+  no_pieces (Byte b) x e = cond_both (is_brace b) (b ∷ b ∷ []) (b ∷ []) (λ t. t ++ x ≡ [] → ⊥) (λ _ none. cc) (λ _ none. cc) e
   no_pieces (Field f) x e = cc
 
   -- what comes after a piece of a format is a format
@@ -123,9 +110,8 @@ no_format name text some none (p ∷ ps, e) = none p (written name ps) e
 
 one_piece : {F : Type 0} (name : F → List ℕ) → ((f g : F) → name f ≡ name g → f ≡ g) → (p q : Piece F) → Alike name p q → p ≡ q
 one_piece name one (Byte b) (Byte c) e = ap Byte e
-one_piece name one (Byte b) (Field g) e = absurd e
-one_piece name one (Field f) (Byte c) e = absurd e
 one_piece name one (Field f) (Field g) e = ap Field (one f g e)
+one_piece name one p q e = absurd assumption
 
 -- where a name is that of one field, a text is of one list of pieces
 pub one_list : {F : Type 0} (name : F → List ℕ) → ((field : F) → is_plain (name field) ≡ true) → ((f g : F) → name f ≡ name g → f ≡ g) → OneFormat name
