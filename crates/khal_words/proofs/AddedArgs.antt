@@ -1,7 +1,8 @@
 -- What a command has after several arguments were added.
-use Rattle.std.proofs.Common.{◌≡◌, false, List, [], ◌∷◌, map, Ok, Err, Result, refl, sym, ap, ◌∙◌}
+use Rattle.std.proofs.Common.{◌≡◌, false, List, [], ◌∷◌, map, Result, refl, sym, ap, ◌∙◌}
 use Rattle.std.specs.List.{AllByRecursion}
 use Rattle.std.specs.Prelude.{IfOk}
+use Rattle.std.proofs.lemmas.Result.{IfOk-weaker}
 use Rattle.clap.specs.Words.{App, Rule, AddsArg, AddsInTurn, app_of, rule_of}
 use Rattle.clap.specs.declared.builder.arg.Arg.{Arg}
 use Rattle.clap.specs.declared.builder.command.Command.{Command}
@@ -25,15 +26,8 @@ local_after (arg ∷ args) old new adds here local =
 
 module _ {E : Type 0} (args : List Arg) (old : Command) (here : AreLocal args) (r : Result Command E) (adds : IfOk r (λ c. AddsInTurn AddsArg old args c)) where
   pub has_rules : (app : App) (rules : List Rule) → app_of old ≡ app → map rule_of args ≡ rules → IfOk r (λ c. app_of c ≡ with_rules app rules)
-  has_rules app rules was are = go r adds
-    where
-      go : (x : Result Command E) → IfOk x (λ c. AddsInTurn AddsArg old args c) → IfOk x (λ c. app_of c ≡ with_rules app rules)
-      go (Ok c) adds = shape_after args old c adds here ∙ ap (λ (a : App). with_rules a (map rule_of args)) was ∙ ap (with_rules app) are
-      go (Err e) adds = adds
+  has_rules app rules was are = IfOk-weaker r _ _ (λ c adds. shape_after args old c adds here
+      ∙ ap (λ (a : App). with_rules a (map rule_of args)) was ∙ ap (with_rules app) are) adds
 
   pub is_local : (out-Command old).has_globals ≡ false → IfOk r (λ c. (out-Command c).has_globals ≡ false)
-  is_local was = go r adds
-    where
-      go : (x : Result Command E) → IfOk x (λ c. AddsInTurn AddsArg old args c) → IfOk x (λ c. (out-Command c).has_globals ≡ false)
-      go (Ok c) adds = local_after args old c adds here was
-      go (Err e) adds = adds
+  is_local was = IfOk-weaker r _ _ (λ c adds. local_after args old c adds here was) adds

@@ -1,8 +1,8 @@
 -- What parsed digits, and a text without its last byte, say of a window text.
-use Rattle.std.proofs.Common.{◌≡◌, ◌≢◌, ◌<◌, ◌≤◌, ◌-◌, ◌^◌, ◌++◌, ◌∷◌, [], ℕ, pos, true, false, Bool, List, Some, None, length, take, get_or, suc, ◌==◌, refl}
-use Rattle.std.proofs.Common.{ap, sym, ◌∙◌, arith, rules, if◌then◌else◌, ◌&&◌}
+use Rattle.std.proofs.Common.{◌≡◌, ◌≢◌, ◌<◌, ◌≤◌, ◌-◌, ◌^◌, ◌++◌, ◌∷◌, [], ℕ, pos, true, List, Some, None, length, take, get_or, suc, ◌==◌, refl}
+use Rattle.std.proofs.Common.{ap, sym, ◌∙◌, arith, rules}
 use Rattle.std.proofs.Math.Seq.{take-suc, take-length}
-use Rattle.std.proofs.lemmas.Bool.{eqb-true}
+use Rattle.std.proofs.lemmas.Bool.{and_right, eqb-true, false_from_ne_true}
 use Rattle.std.proofs.lemmas.Bool.Decides.{nat_tests}
 use Rattle.std.proofs.lemmas.Str.Parse.{IsNumeralModel, IsDigitsTest, numerals_by_value}
 use Rattle.std.specs.List.{list_all}
@@ -29,27 +29,19 @@ nonempty (c ∷ cs) some = omega arith
 in_bounds : (n : ℕ) → is_number_of_days n ≡ true → (1 ≤ n) × (n ≤ most_days)
 in_bounds n t = grind (arith, nat_tests)
 
-chosen : (digits fits : Bool) (n : ℕ) → (fits ≡ true → ⊥) → None ≡ (if digits && fits then Some n else None)
-chosen true true n refuted = absurd (refuted refl)
-chosen true false n refuted = refl
-chosen false true n refuted = refl
-chosen false false n refuted = refl
-
 -- no digits, or too many, write no number of days
 pub none_said : (ds : List ℕ) → ((0 < length ds) × (digits_value 10 ds < 2 ^ 32) → ⊥) → None ≡ number_said ds
-none_said ds refuted = chosen (list_all is_ascii_digit ds) (is_number_of_days (digits_value 10 ds)) (digits_value 10 ds) (λ fits.
+none_said ds refuted =
+    let fails = false_from_ne_true (is_number_of_days (digits_value 10 ds)) (λ fits.
     let bounds = in_bounds _ fits in
-    refuted (nonempty ds bounds.0, omega arith))
+    refuted (nonempty ds bounds.0, omega arith)) in
+    rw (and_right (list_all is_ascii_digit ds) _ fails) refl
 
 -- the number of parsed digits
 pub number_is : (ds : List ℕ) (n : ℕ) → list_all is_ascii_digit ds ≡ true → n ≡ digits_value 10 ds → 1 ≤ n → n ≤ most_days → Some n ≡ number_said ds
 number_is ds n digits same some few =
     let fits : is_number_of_days n ≡ true = grind (arith, nat_tests) in
     rw (digits, ← same, fits) refl
-
-unless : (b : Bool) (x : List ℕ) → (b ≡ true → ⊥) → None ≡ (if b then Some x else None)
-unless true x refuted = absurd (refuted refl)
-unless false x refuted = refl
 
 -- a text is its front and its last byte
 last_byte : (text : List ℕ) → 0 < length text → text ≡ take (length text - 1) text ++ get_or text (length text - 1) 0 ∷ []
@@ -65,7 +57,7 @@ ends_so (c ∷ cs) last = last_byte (c ∷ cs) (omega arith) ∙ ap (λ b. take 
 -- a text that does not end in `d` has nothing before it
 pub before_d-none : (text : List ℕ) → ((front : List ℕ) → text ≢ front ++ 100 ∷ []) → None ≡ before_d text
 before_d-none text other =
-    unless (get_or text (length text - 1) 0 == 100) _ (λ test. other _ (ends_so text (eqb-true _ _ test)))
+    rw (false_from_ne_true (get_or text (length text - 1) 0 == 100) (λ test. other _ (ends_so text (eqb-true _ _ test)))) refl
 
 has_date_is : (year month day : ℕ) → IsDate (pos year) (pos month) (pos day) → has_date year month day ≡ true
 has_date_is year month day exists = grind (arith, nat_tests, signed_arith)
