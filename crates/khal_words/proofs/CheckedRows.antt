@@ -188,7 +188,8 @@ module _ (id : Text) (parser : ValueParser) (is_parser : ValueParser → Bool) (
         AreChecked (long_met c o v h).0.rows
     takes_long None v h checked none rows = rows
     takes_long (Some a) v h checked none rows =
-        either_way (λ (p : Held × Outcome). p.0.rows) (takes_values a) _ _ (λ n. takes_option a checked v h n rows) (λ n. takes_flag a checked v h _ n rows) none
+        either_way (λ (p : Held × Outcome). p.0.rows) (takes_values a) _ _ (λ n. takes_option a checked v h n rows)
+        (λ n. takes_flag a checked v h _ n rows) none
 
     module _ (rest : Text) (more : Held → Held × Outcome) (fault : Held → Kinds)
         (after : (x : Held) → fault x ≡ [] → AreChecked x.rows → AreChecked (more x).0.rows) where
