@@ -1,8 +1,9 @@
 -- Names that are asked for, each once, and what is found for them.
-use Rattle.std.proofs.Common.{◌≡◌, ◌⊎◌, inl, inr, ℕ, Bool, true, false, true≢false, ◌||◌, ◌&&◌, List, [], ◌∷◌, ◌++◌, Option, Some, None, Ok, Err, refl, sym}
+use Rattle.std.proofs.Common.{◌≡◌, ⊎_elim, inl, inr, ℕ, Bool, true, false, true≢false, ◌||◌, ◌&&◌, List, [], ◌∷◌, ◌++◌, Option, Some, None, Ok, Err, refl, sym}
 use Rattle.std.proofs.Common.{◌∙◌, ap, subst, append_assoc, append-nil}
 use Rattle.std.specs.List.{list_any}
 use Rattle.std.specs.Str.{bytes_eq}
+use Rattle.std.proofs.lemmas.Bool.{cond_both, false_from_ne_true, or_cases, or_left, or_right}
 use Rattle.std.proofs.lemmas.List.{map-append}
 use Rattle.std.proofs.lemmas.List.Folds.{list_any-append}
 use Rattle.std.proofs.lemmas.Slice.Eq.{bytes_eq-Decides}
@@ -12,29 +13,30 @@ use Rattle.std.specs.Option.{option_or}
 use Rattle.khal_reading.specs.Asked.{and_name, and_names, given_files, given_from, is_unread, names_of, was_unread, with_found, Asked, AsksAll, AsksSome}
 use Rattle.khal_reading.specs.Asked.{FindsEach}
 use Rattle.khal_ports.specs.Finds.{found_of, FindAnswer, Found}
-use Rattle.khal_ports.specs.declared.fault.SourceFault.TheVariants.{Device, TooLarge, Memory}
+use Rattle.khal_ports.specs.declared.fault.SourceFault.TheVariants.{Memory}
 
 -- the name is among these
 abbrev pub IsIn : List ℕ → List (List ℕ) → Type 0
 IsIn name names = list_any (bytes_eq name) names ≡ true
 
-or-true : (b : Bool) → (b || true) ≡ true
-or-true true = refl
-or-true false = refl
-
-or-false : (b : Bool) → (b || false) ≡ b
-or-false true = refl
-or-false false = refl
+swap : (a b : Bool) → (b || (a || false)) ≡ (a || b)
+swap true true = refl
+swap false true = refl
+swap a b = refl
 
 pub any-same : {X : Type 0} (s t : X → Bool) (xs : List X) → ((x : X) → s x ≡ t x) → list_any s xs ≡ list_any t xs
 any-same s t [] same = refl
 any-same s t (x ∷ xs) same = rw (same x, any-same s t xs same) refl
 
+-- one more element
+pub any-one : {X : Type 0} (s : X → Bool) (xs : List X) (x : X) → list_any s (xs ++ x ∷ []) ≡ (s x || list_any s xs)
+any-one s xs x = list_any-append s xs (x ∷ []) ∙ swap (s x) (list_any s xs)
+
 pub in-front : (name : List ℕ) (xs ys : List (List ℕ)) → IsIn name xs → IsIn name (xs ++ ys)
-in-front name xs ys h = list_any-append (bytes_eq name) xs ys ∙ rw h refl
+in-front name xs ys h = list_any-append (bytes_eq name) xs ys ∙ or_left _ _ h
 
 pub in-back : (name : List ℕ) (xs ys : List (List ℕ)) → IsIn name ys → IsIn name (xs ++ ys)
-in-back name xs ys h = list_any-append (bytes_eq name) xs ys ∙ rw h (or-true (list_any (bytes_eq name) xs))
+in-back name xs ys h = list_any-append (bytes_eq name) xs ys ∙ or_right _ _ h
 
 -- ---- each name once
 
@@ -42,18 +44,13 @@ and_names-append : (names xs ys : List (List ℕ)) → and_names names (xs ++ ys
 and_names-append names [] ys = refl
 and_names-append names (x ∷ xs) ys = and_names-append (and_name names x) xs ys
 
-pub and_name-old : (names : List (List ℕ)) (name : List ℕ) → IsIn name names → and_name names name ≡ names
-and_name-old names name h = rw h refl
-
 pub and_name-new : (names : List (List ℕ)) (name : List ℕ) → list_any (bytes_eq name) names ≡ false → and_name names name ≡ names ++ name ∷ []
 and_name-new names name h = rw h refl
 
 and_name-more : (names : List (List ℕ)) (name : List ℕ) → (more : List (List ℕ)) × (and_name names name ≡ names ++ more)
-and_name-more names name = go (list_any (bytes_eq name) names) refl
-  where
-    go : (t : Bool) → list_any (bytes_eq name) names ≡ t → (more : List (List ℕ)) × (and_name names name ≡ names ++ more)
-    go true e = ([], and_name-old names name e ∙ sym (append-nil names))
-    go false e = (name ∷ [], and_name-new names name e)
+and_name-more names name =
+    cond_both (list_any (bytes_eq name) names) names (names ++ name ∷ []) (λ all. (more : List (List ℕ)) × (all ≡ names ++ more))
+    (λ _. ([], sym (append-nil names))) (λ _. (name ∷ [], refl))
 
 and_names-more : (names wanted : List (List ℕ)) → (more : List (List ℕ)) × (and_names names wanted ≡ names ++ more)
 and_names-more names [] = ([], sym (append-nil names))
@@ -66,25 +63,16 @@ in-and_names : (name : List ℕ) (names wanted : List (List ℕ)) → IsIn name 
 in-and_names name names wanted h = let all = and_names-more names wanted in subst (IsIn name) (sym all.1) (in-front name names all.0 h)
 
 in-and_name : (name x : List ℕ) (names : List (List ℕ)) → bytes_eq name x ≡ true → IsIn name (and_name names x)
-in-and_name name x names same = go (list_any (bytes_eq x) names) refl
-  where
-    is : name ≡ x
-    is = (bytes_eq-Decides name x).0 same
-
-    go : (t : Bool) → list_any (bytes_eq x) names ≡ t → IsIn name (and_name names x)
-    go true e = subst (IsIn name) (sym (and_name-old names x e)) (subst (λ (n : List ℕ). IsIn n names) (sym is) e)
-    go false e =
-        let last : IsIn name (x ∷ []) = rw same refl in
-        subst (IsIn name) (sym (and_name-new names x e)) (in-back name names (x ∷ []) last)
+in-and_name name x names same =
+    cond_both (list_any (bytes_eq x) names) names (names ++ x ∷ []) (IsIn name)
+    (λ there. subst (λ (n : List ℕ). IsIn n names) (sym ((bytes_eq-Decides name x).0 same)) there)
+    (λ _. in-back name names (x ∷ []) (or_left _ _ same))
 
 -- each of the wanted names is there
 pub wanted-in : (name : List ℕ) (names wanted : List (List ℕ)) → IsIn name wanted → IsIn name (and_names names wanted)
 wanted-in name names [] h = absurd (true≢false (sym h))
-wanted-in name names (x ∷ wanted) h = go (bytes_eq name x) refl (wanted-in name (and_name names x) wanted)
-  where
-    go : (t : Bool) → bytes_eq name x ≡ t → (IsIn name wanted → IsIn name (and_names (and_name names x) wanted)) → IsIn name (and_names names (x ∷ wanted))
-    go true e again = in-and_names name (and_name names x) wanted (in-and_name name x names e)
-    go false e again = let rest : IsIn name wanted = rw e at h in again rest
+wanted-in name names (x ∷ wanted) h =
+    ⊎_elim (λ e. in-and_names name (and_name names x) wanted (in-and_name name x names e)) (λ e. wanted-in name (and_name names x) wanted e) (or_cases _ _ h)
 
 -- ---- what is given
 
@@ -115,11 +103,8 @@ names-append xs ys = map-append (λ (one : Asked). one.0) xs ys
 
 -- a name that is among those before is none that is new
 pub apart : (name new : List ℕ) (names : List (List ℕ)) → IsIn name names → list_any (bytes_eq new) names ≡ false → bytes_eq name new ≡ false
-apart name new names h fresh = go (bytes_eq name new) refl
-  where
-    go : (t : Bool) → bytes_eq name new ≡ t → t ≡ false
-    go true e = absurd (true≢false (sym (subst (λ (n : List ℕ). list_any (bytes_eq n) names ≡ true) ((bytes_eq-Decides name new).0 e) h) ∙ fresh))
-    go false e = refl
+apart name new names h fresh = false_from_ne_true (bytes_eq name new) (λ e.
+    true≢false (sym (subst (λ (n : List ℕ). IsIn n names) ((bytes_eq-Decides name new).0 e) h) ∙ fresh))
 
 pub given-one : (asked : List Asked) (one : Asked) (name : List ℕ) → given_files (asked ++ one ∷ []) name ≡ with_found (given_files asked) one name
 given-one asked one name = ap (λ (files : GivenFiles). files name) (given_from-append no_files asked (one ∷ []))
@@ -129,11 +114,11 @@ pub given-other : (asked : List Asked) (one : Asked) (name : List ℕ) → bytes
 given-other asked one name e = given-one asked one name ∙ with_found-other (given_files asked) one name e
 
 pub unread-one : (asked : List Asked) (one : Asked) (name : List ℕ) →
-    is_unread (asked ++ one ∷ []) name ≡ (is_unread asked name || ((bytes_eq name one.0 && was_unread one.1) || false))
-unread-one asked one name = list_any-append (λ (a : Asked). bytes_eq name a.0 && was_unread a.1) asked (one ∷ [])
+    is_unread (asked ++ one ∷ []) name ≡ ((bytes_eq name one.0 && was_unread one.1) || is_unread asked name)
+unread-one asked one name = any-one (λ (a : Asked). bytes_eq name a.0 && was_unread a.1) asked one
 
 pub unread-other : (asked : List Asked) (one : Asked) (name : List ℕ) → bytes_eq name one.0 ≡ false → is_unread (asked ++ one ∷ []) name ≡ is_unread asked name
-unread-other asked one name e = unread-one asked one name ∙ rw e (or-false (is_unread asked name))
+unread-other asked one name e = unread-one asked one name ∙ rw e refl
 
 -- ---- finds
 
@@ -190,17 +175,8 @@ module _ {Z : Type 0} (finds : Z → List ℕ → FindAnswer → Z → Type 0) w
         rest = h.rest ++ further.0;
         names = sym (append_assoc (names_of (asked ++ more)) h.rest further.0)
             ∙ (ap (λ (front : List (List ℕ)). front ++ further.0) h.names ∙ (sym further.1 ∙ sym (and_names-append (names_of asked) first then)));
-        ended = go h.rest h.ended;
+        ended = ⊎_elim (λ same. inl same) (λ e. inr (e.0, e.1 ++ further.0, ap (λ (all : List (List ℕ)). all ++ further.0) e.2, e.3)) h.ended;
       }
-    where
-      go : (rest : List (List ℕ)) → (after ≡ h.last)
-          ⊎ ((name : List ℕ) × (others : List (List ℕ)) × (rest ≡ name ∷ others) × finds h.last name (Err Memory) after)
-          → (after ≡ h.last) ⊎ ((name : List ℕ) × (others : List (List ℕ))
-          × (rest ++ (and_names-more (and_names (names_of asked) first) then).0 ≡ name ∷ others) × finds h.last name (Err Memory) after)
-      go rest (inl same) = inl same
-      go rest (inr e) =
-          let further = and_names-more (and_names (names_of asked) first) then in
-          inr (e.0, e.1 ++ further.0, ap (λ (all : List (List ℕ)). all ++ further.0) e.2, e.3)
 
   -- a name that is asked for
   pub one-asked : (asked : List Asked) (one : Asked) {before : Z} {answer : FindAnswer} {after : Z} → list_any (bytes_eq one.0) (names_of asked) ≡ false →
@@ -213,10 +189,8 @@ module _ {Z : Type 0} (finds : Z → List ℕ → FindAnswer → Z → Type 0) w
 
   is-memory : (answer : FindAnswer) → None ≡ found_of answer → answer ≡ Err Memory
   is-memory (Err Memory) e = refl
-  is-memory (Err Device) e = cc
-  is-memory (Err TooLarge) e = cc
   is-memory (Ok None) e = cc
-  is-memory (Ok (Some bytes)) e = cc
+  is-memory answer e = cc
 
   -- an allocation failed in the find
   pub one-failed : (asked : List Asked) (name : List ℕ) {before : Z} {answer : FindAnswer} {after : Z} → list_any (bytes_eq name) (names_of asked) ≡ false →

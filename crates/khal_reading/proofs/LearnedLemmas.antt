@@ -1,5 +1,5 @@
 -- What is known of the names that were asked for.
-use Rattle.std.proofs.Common.{◌≡◌, ◌<◌, ◌+◌, ℕ, suc, Bool, true, false, ◌||◌, ◌&&◌, List, [], ◌∷◌, ◌++◌, Some, None, arith, drop, get_or, length, take, refl}
+use Rattle.std.proofs.Common.{◌≡◌, ◌<◌, ◌+◌, ℕ, suc, Bool, false, ◌||◌, ◌&&◌, List, [], ◌∷◌, ◌++◌, Some, None, arith, drop, get_or, length, take}
 use Rattle.std.proofs.Common.{sym, ◌∙◌, ap, subst, append_assoc, append-nil}
 use Rattle.std.proofs.Math.Seq.{take-suc}
 use Rattle.std.proofs.lemmas.List.{take-append-drop}
@@ -8,7 +8,6 @@ use Rattle.std.specs.Cmp.Lexicographic.{slice_cmp}
 use Rattle.std.specs.List.{list_any}
 use Rattle.std.specs.Ordering.{nat_cmp}
 use Rattle.std.specs.Str.{bytes_eq}
-use Rattle.std.proofs.lemmas.List.Folds.{list_any-append}
 use Rattle.ics_calendar.specs.ZoneTables.{given_by}
 use Rattle.khal_reading.specs.declared.answered.Answered.{Answered}
 use Rattle.khal_reading.specs.Asked.{given_files, is_unread, names_of, was_unread, with_found, Asked}
@@ -38,12 +37,6 @@ keeps-then asked more others h k = record {
     still : (name : List ℕ) → IsIn name (names_of asked) → IsIn name (names_of (asked ++ more))
     still name is = subst (IsIn name) (sym (lemma.names-append asked more)) (lemma.in-front name (names_of asked) (names_of more) is)
 
-swap : (a b : Bool) → (a || b) ≡ (b || (a || false))
-swap true true = refl
-swap true false = refl
-swap false true = refl
-swap false false = refl
-
 -- a name more is known
 module _ (asked : List Asked) (one : Asked) (old new : Answered)
     (files : (name : List ℕ) → given_by new.files name ≡ with_found (given_by old.files) one name)
@@ -55,10 +48,8 @@ module _ (asked : List Asked) (one : Asked) (old new : Answered)
     files = λ name. files name ∙ (lemma.with_found-same (given_by old.files) (given_files asked) one name (k.files name)
         ∙ sym (lemma.given-one asked one name));
     names = λ name. names name ∙ (ap (λ (t : Bool). bytes_eq name one.0 || t) (k.names name)
-        ∙ (swap (bytes_eq name one.0) (list_any (bytes_eq name) (names_of asked))
-        ∙ (sym (list_any-append (bytes_eq name) (names_of asked) (one.0 ∷ [])) ∙ ap (list_any (bytes_eq name)) (sym (lemma.names-append asked (one ∷ []))))));
-    unread = λ name. unread name ∙ (ap (λ (t : Bool). (bytes_eq name one.0 && was_unread one.1) || t) (k.unread name)
-        ∙ (swap (bytes_eq name one.0 && was_unread one.1) (is_unread asked name) ∙ sym (lemma.unread-one asked one name)));
+        ∙ sym (ap (list_any (bytes_eq name)) (lemma.names-append asked (one ∷ [])) ∙ lemma.any-one (bytes_eq name) (names_of asked) one.0));
+    unread = λ name. unread name ∙ (ap (λ (t : Bool). (bytes_eq name one.0 && was_unread one.1) || t) (k.unread name) ∙ sym (lemma.unread-one asked one name));
   }
 
 module _ {Z : Type 0} (finds : Z → List ℕ → FindAnswer → Z → Type 0) where
@@ -95,11 +86,14 @@ module _ {Z : Type 0} (finds : Z → List ℕ → FindAnswer → Z → Type 0) w
       LearnsSome finds asked wanted before after
   learns-some asked wanted before after a h = record { more = h.more; asks = lemma.all-some finds h.asks }
 
-  module _ (asked : List Asked) (name : List ℕ) (before after : Z) (old : Answered) (k : Knows asked old)
-      (new-name : contains (slice_cmp nat_cmp) old.names name ≡ false)
-      (answer : FindAnswer) (f : finds before name answer after) where
+  module _ (asked : List Asked) {name slice : List ℕ} (before after : Z) (old : Answered) (k : Knows asked old) {had : Bool}
+      (new-name : had ≡ contains (slice_cmp nat_cmp) old.names name) (not-had : had ≡ false) (same : slice ≡ name)
+      (answer : FindAnswer) (given : finds before slice answer after) where
     fresh : list_any (bytes_eq name) (names_of asked) ≡ false
-    fresh = sym (k.names name) ∙ new-name
+    fresh = sym (k.names name) ∙ sym new-name ∙ not-had
+
+    f : finds before name answer after
+    f = subst (λ (n : List ℕ). finds before n answer after) same given
 
     pub fails : None ≡ found_of answer → LearnsSome finds asked (name ∷ []) before after
     fails is = record { more = []; asks = lemma.one-failed finds asked name fresh f is }
