@@ -1,11 +1,12 @@
 -- What the bytes of a file come to.
-use Rattle.std.proofs.Common.{◌≡◌, ℕ, Bool, true, false, List, [], ◌++◌, Some, None, Result, Ok, Err, All, IfOk, OnErr, if◌then◌else◌, refl, sym, ◌∙◌, ap}
+use Rattle.std.proofs.Common.{◌≡◌, ℕ, Bool, List, [], ◌++◌, Some, None, Result, Ok, Err, All, IfOk, OnErr, if◌then◌else◌, refl, sym, ◌∙◌, ap}
 use Rattle.std.proofs.Common.{subst}
 use Rattle.std.specs.BTreeSet.{contains}
 use Rattle.std.specs.Cmp.Lexicographic.{slice_cmp, nat_list_eq_equiv}
 use Rattle.std.specs.List.{list_any}
 use Rattle.std.specs.Ordering.{nat_cmp}
 use Rattle.std.proofs.lemmas.Map.Views.{All-from_any}
+use Rattle.std.proofs.lemmas.Result.{IfOk-weaker, on_err_weaker}
 use Rattle.ics_event.specs.Event.{FileSaid}
 use Rattle.ics_calendar.specs.Drafts.{IsFaultOf}
 use Rattle.ics_calendar.specs.Files.{draft_of, file_of, DraftSaid, wanted_names}
@@ -33,35 +34,11 @@ OnlyWantedCount = (files others : GivenFiles) (file : List ℕ) → All (λ name
 abbrev pub file_if : Bool → Result FileSaid Refusal → Result FileSaid Refusal
 file_if unread file = if unread then Err None else file
 
-pub file-unread : (asked : List Asked) (bytes : List ℕ) → list_any (is_unread asked) (wanted_names bytes) ≡ true → file_by asked (Some bytes) ≡ Err None
-file-unread asked bytes h = ap (λ (t : Bool). file_if t (file_or_refusal (file_of (given_files asked) bytes))) h
-
-pub file-read : (asked : List Asked) (bytes : List ℕ) → list_any (is_unread asked) (wanted_names bytes) ≡ false →
-    file_by asked (Some bytes) ≡ file_or_refusal (file_of (given_files asked) bytes)
-file-read asked bytes h = ap (λ (t : Bool). file_if t (file_or_refusal (file_of (given_files asked) bytes))) h
-
-none-wanted : (asked : List Asked) (bytes : List ℕ) → wanted_names bytes ≡ [] → list_any (is_unread asked) (wanted_names bytes) ≡ false
-none-wanted asked bytes h = ap (list_any (is_unread asked)) h
+pub file-is : (asked : List Asked) (bytes : List ℕ) {unread : Bool} → list_any (is_unread asked) (wanted_names bytes) ≡ unread →
+    file_by asked (Some bytes) ≡ file_if unread (file_or_refusal (file_of (given_files asked) bytes))
+file-is asked bytes h = ap (λ (t : Bool). file_if t (file_or_refusal (file_of (given_files asked) bytes))) h
 
 module _ {Z : Type 0} (finds : Z → List ℕ → FindAnswer → Z → Type 0) (asked : List Asked) (bytes : List ℕ) (before after : Z) (answered : Answered) where
-  module _ (h : Learns finds asked (wanted_names bytes) before after answered) where
-    lacks-is : list_any (contains (slice_cmp nat_cmp) answered.unread) (wanted_names bytes) ≡ list_any (is_unread (asked ++ h.more)) (wanted_names bytes)
-    lacks-is = any-same (contains (slice_cmp nat_cmp) answered.unread) (is_unread (asked ++ h.more)) (wanted_names bytes) h.knows.unread
-
-    pub settles-unread : list_any (contains (slice_cmp nat_cmp) answered.unread) (wanted_names bytes) ≡ true →
-        Settles finds asked (Some bytes) before after answered (Err None)
-    settles-unread lacks = record { learns = h; outcome_is = sym (file-unread (asked ++ h.more) bytes (sym lacks-is ∙ lacks)) }
-
-    pub settles-read : OnlyWantedCount → list_any (contains (slice_cmp nat_cmp) answered.unread) (wanted_names bytes) ≡ false
-        → (outcome : Result FileSaid Refusal) → outcome ≡ file_or_refusal (file_of (given_by answered.files) bytes) →
-        Settles finds asked (Some bytes) before after answered outcome
-    settles-read count lacks outcome is =
-        let files : file_of (given_by answered.files) bytes ≡ file_of (given_files (asked ++ h.more)) bytes =
-        count (given_by answered.files) (given_files (asked ++ h.more)) bytes
-        (All-from_any nat_list_eq_equiv (λ name. given_by answered.files name ≡ given_files (asked ++ h.more) name) (wanted_names bytes)
-        (λ name _. h.knows.files name)) in
-        record { learns = h; outcome_is = is ∙ (ap file_or_refusal files ∙ sym (file-read (asked ++ h.more) bytes (sym lacks-is ∙ lacks))) }
-
   -- the first round finds a fault
   pub settles-fault : Knows asked answered → before ≡ after → wanted_names bytes ≡ [] → (outcome : Result FileSaid Refusal) →
       ((files : GivenFiles) → outcome ≡ file_or_refusal (file_of files bytes))
@@ -73,32 +50,30 @@ module _ {Z : Type 0} (finds : Z → List ℕ → FindAnswer → Z → Type 0) (
       record {
         learns = h;
         outcome_is = is (given_files (asked ++ h.more))
-            ∙ sym (file-read (asked ++ h.more) bytes (none-wanted (asked ++ h.more) bytes none));
+            ∙ sym (file-is (asked ++ h.more) bytes (ap (list_any (is_unread (asked ++ h.more))) none));
       }
 
--- what holds of a good answer, shown of each
-pub ok-as : {T E : Type 0} {P Q : T → Type 0} (result : Result T E) → ((x : T) → P x → Q x) → IfOk result P → IfOk result Q
-ok-as (Ok x) gives h = gives x h
-ok-as (Err e) gives h = tt
-
--- a draft of these bytes whose names are asked for
-module _ {Z : Type 0} (finds : Z → List ℕ → FindAnswer → Z → Type 0) (asked : List Asked) (bytes : List ℕ) (before after : Z) (answered : Answered)
-    (said : DraftSaid) (d : said ≡ draft_of bytes) (h : Learns finds asked said.wants before after answered)
-    (unread : Bool) (l : unread ≡ list_any (contains (slice_cmp nat_cmp) answered.unread) said.wants) where
-  learned : Learns finds asked (wanted_names bytes) before after answered
-  learned = subst (λ (s : DraftSaid). Learns finds asked s.wants before after answered) d h
-
-  lacking : unread ≡ list_any (contains (slice_cmp nat_cmp) answered.unread) (wanted_names bytes)
-  lacking = l ∙ ap (λ (s : DraftSaid). list_any (contains (slice_cmp nat_cmp) answered.unread) s.wants) d
-
-  pub draft-unread : unread ≡ true → Settles finds asked (Some bytes) before after answered (Err None)
-  draft-unread t = settles-unread finds asked bytes before after answered learned (sym lacking ∙ t)
-
-  pub draft-read : OnlyWantedCount → unread ≡ false → (outcome : Result FileSaid Refusal) → outcome ≡ file_or_refusal (said.says (given_by answered.files)) →
+  -- a draft of these bytes whose names are asked for
+  pub draft-settles : OnlyWantedCount → (said : DraftSaid) → said ≡ draft_of bytes → Learns finds asked said.wants before after answered →
+      (unread : Bool) → unread ≡ list_any (contains (slice_cmp nat_cmp) answered.unread) said.wants
+      → (outcome : Result FileSaid Refusal) → outcome ≡ file_if unread (file_or_refusal (said.says (given_by answered.files))) →
       Settles finds asked (Some bytes) before after answered outcome
-  draft-read count t outcome is =
-      settles-read finds asked bytes before after answered learned count (sym lacking ∙ t) outcome (is
-      ∙ ap (λ (s : DraftSaid). file_or_refusal (s.says (given_by answered.files))) d)
+  draft-settles count said d h unread l outcome is =
+      let learned : Learns finds asked (wanted_names bytes) before after answered =
+      subst (λ (s : DraftSaid). Learns finds asked s.wants before after answered) d h in
+      let all : List Asked = asked ++ learned.more in
+      let lacks : unread ≡ list_any (is_unread all) (wanted_names bytes) =
+      l ∙ (ap (λ (s : DraftSaid). list_any (contains (slice_cmp nat_cmp) answered.unread) s.wants) d
+      ∙ any-same (contains (slice_cmp nat_cmp) answered.unread) (is_unread all) (wanted_names bytes) learned.knows.unread) in
+      let files : file_of (given_by answered.files) bytes ≡ file_of (given_files all) bytes =
+      count (given_by answered.files) (given_files all) bytes
+      (All-from_any nat_list_eq_equiv (λ name. given_by answered.files name ≡ given_files all name) (wanted_names bytes)
+      (λ name _. learned.knows.files name)) in
+      record {
+        learns = learned;
+        outcome_is = is ∙ (ap (λ (s : DraftSaid). file_if unread (file_or_refusal (s.says (given_by answered.files)))) d
+            ∙ (ap (λ f. file_if unread (file_or_refusal f)) files ∙ sym (file-is all bytes (sym lacks))));
+      }
 
 -- nothing is asked for
 pub asks-none : {Z : Type 0} (finds : Z → List ℕ → FindAnswer → Z → Type 0) (asked : List Asked) (wanted : List (List ℕ)) (state : Z) (answered : Answered) →
@@ -112,19 +87,17 @@ module _ {Z : Type 0} (finds : Z → List ℕ → FindAnswer → Z →
   pub bytes-outcome : (result : Result Outcome RunFault) →
       IfOk result (λ outcome. (asked : List Asked) → Knows asked known → Settles finds asked (Some read) before after known' (seen_outcome outcome))
       → IfOk result (λ outcome. IsOutcome finds (Ok bytes) before after known known' (seen_outcome outcome))
-  bytes-outcome (Ok outcome) h = record {
+  bytes-outcome result h = IfOk-weaker result _ _ (λ outcome settles. record {
     given = Some bytes;
     some = refl;
-    settles = λ asked k. subst (λ (b : List ℕ). Settles finds asked (Some b) before after known' (seen_outcome outcome)) same (h asked k);
-  }
-  bytes-outcome (Err fault) h = tt
+    settles = λ asked k. subst (λ (b : List ℕ). Settles finds asked (Some b) before after known' (seen_outcome outcome)) same (settles asked k);
+  }) h
 
   pub bytes-end : (result : Result Outcome RunFault) →
       OnErr result ((asked : List Asked) → Knows asked known → LearnsSome finds asked (wanted_names read) before after)
       → OnErr result (EndsReading finds (Ok bytes) before after known)
-  bytes-end (Ok outcome) h = tt
-  bytes-end (Err fault) h = EndsReading.AfterRead bytes refl
-      (λ asked k. subst (λ (b : List ℕ). LearnsSome finds asked (wanted_names b) before after) same (h asked k))
+  bytes-end result h = on_err_weaker result (λ learns. EndsReading.AfterRead bytes refl
+      (λ asked k. subst (λ (b : List ℕ). LearnsSome finds asked (wanted_names b) before after) same (learns asked k))) h
 
 pub fault-of : (bytes : List ℕ) (fault : FileFault) → IsFaultOf bytes fault → (line : ℕ) (kind : FaultKind) → fault ≡ At line kind
     → ((files : GivenFiles) → file_of files bytes ≡ Err (record { line = line; kind = kind })) × (wanted_names bytes ≡ [])

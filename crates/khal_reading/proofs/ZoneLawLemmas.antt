@@ -1,5 +1,6 @@
 -- Where nothing is found for any name, files are what they are without zone files.
-use Rattle.std.proofs.Common.{◌≡◌, ℕ, Bool, true, false, ◌||◌, ◌&&◌, List, [], ◌∷◌, Some, None, Ok, refl, sym, ◌∙◌, ap}
+use Rattle.std.proofs.Common.{◌≡◌, ℕ, Bool, false, ◌||◌, ◌&&◌, List, [], ◌∷◌, Some, None, Ok, refl, sym, ◌∙◌, ap}
+use Rattle.std.proofs.lemmas.Bool.{and_right}
 use Rattle.std.specs.List.{list_any, AllByRecursion}
 use Rattle.std.specs.Str.{bytes_eq}
 use Rattle.ics_calendar.specs.Files.{file_of, wanted_names}
@@ -7,7 +8,7 @@ use Rattle.ics_calendar.specs.GivenFiles.{no_files, GivenFiles}
 use Rattle.khal_reading.specs.Asked.{given_from, is_unread, was_unread, with_found, Asked, FindsEach}
 use Rattle.khal_reading.specs.Errors.{file_by, file_or_refusal}
 use Rattle.khal_ports.specs.Finds.{found_of, FindAnswer, Found}
-use Rattle.khal_reading.proofs.OutcomeLemmas.{file-read}
+use Rattle.khal_reading.proofs.OutcomeLemmas.{file-is}
 
 one-absent : (answer : FindAnswer) (found : Found) → answer ≡ Ok None → found_of answer ≡ Some found → found ≡ Found.Absent
 one-absent answer found none is = let e : Some Found.Absent ≡ Some found = sym (ap found_of none) ∙ is in cc
@@ -22,15 +23,11 @@ given-absent : (files : GivenFiles) (asked : List Asked) → AllByRecursion (λ 
 given-absent files [] h = refl
 given-absent files ((name, found) ∷ asked) h = ap (λ (f : Found). given_from (with_found files (name, f)) asked) h.0 ∙ given-absent files asked h.1
 
-and-false : (b : Bool) → (b && false) ≡ false
-and-false true = refl
-and-false false = refl
-
 unread-absent : (asked : List Asked) → AllByRecursion (λ one. one.1 ≡ Found.Absent) asked → (name : List ℕ) → is_unread asked name ≡ false
 unread-absent [] h name = refl
 unread-absent ((other, found) ∷ asked) h name =
     ap (λ (f : Found). (bytes_eq name other && was_unread f) || is_unread asked name) h.0
-    ∙ (ap (λ (t : Bool). t || is_unread asked name) (and-false (bytes_eq name other)) ∙ unread-absent asked h.1 name)
+    ∙ (ap (λ (t : Bool). t || is_unread asked name) (and_right (bytes_eq name other) false refl) ∙ unread-absent asked h.1 name)
 
 none-unread : (asked : List Asked) → AllByRecursion (λ one. one.1 ≡ Found.Absent) asked → (names : List (List ℕ)) → list_any (is_unread asked) names ≡ false
 none-unread asked h [] = refl
@@ -39,5 +36,5 @@ none-unread asked h (name ∷ names) = ap (λ (t : Bool). t || list_any (is_unre
 pub same-file : (asked : List Asked) → AllByRecursion (λ one. one.1 ≡ Found.Absent) asked → (bytes : List ℕ) →
     file_by asked (Some bytes) ≡ file_or_refusal (file_of no_files bytes)
 same-file asked h bytes =
-    file-read asked bytes (none-unread asked h (wanted_names bytes))
+    file-is asked bytes (none-unread asked h (wanted_names bytes))
     ∙ ap (λ (files : GivenFiles). file_or_refusal (file_of files bytes)) (given-absent no_files asked h)
