@@ -3,7 +3,7 @@ use Rattle.std.proofs.Common.{◌≡◌, ◌≤◌, inl, inr, ℕ, suc, ◌+◌,
 use Rattle.std.proofs.Common.{arith, length-append, append_assoc, append-nil}
 use Rattle.std.specs.Prelude.{slice_get}
 use Rattle.std.specs.Cmp.Lexicographic.{nat_list_eq_equiv}
-use Rattle.std.specs.List.{list_any}
+use Rattle.std.specs.List.{list_any, AllByRecursion}
 use Rattle.std.specs.Str.{bytes_eq}
 use Rattle.std.proofs.lemmas.Map.Views.{All-from_any}
 use Rattle.ics_event.specs.Event.{FileSaid}
@@ -73,22 +73,26 @@ module _ (count : OnlyWantedCount) (asked more : List Asked) (keeps : Keeps aske
       ap (λ (t : Bool). file_if t (file_or_refusal (file_of (given_files (asked ++ more)) bytes))) unread
       ∙ ap (λ f. file_if (list_any (is_unread asked) (wanted_names bytes)) (file_or_refusal f)) file
 
-  accepted-kept : (contents : List Contents) → ((name : List ℕ) → IsIn name (all_wanted contents) → IsIn name (names_of asked)) →
-      accepted (asked ++ more) contents ≡ accepted asked contents
-  accepted-kept [] in-asked = refl
-  accepted-kept (a ∷ contents) in-asked =
-      ap (λ file. events_first file (accepted (asked ++ more) contents))
-      (file-kept a (λ name h. in-asked name (in-front name (wanted_of a) (all_wanted contents) h)))
-      ∙ ap (events_first (file_by asked a)) (accepted-kept contents (λ name h. in-asked name (in-back name (wanted_of a) (all_wanted contents) h)))
+  outcomes-kept : (contents : List Contents) → ((name : List ℕ) → IsIn name (all_wanted contents) → IsIn name (names_of asked)) →
+      AllByRecursion (λ given. file_by (asked ++ more) given ≡ file_by asked given) contents
+  outcomes-kept [] in-asked = tt
+  outcomes-kept (a ∷ contents) in-asked = (
+    file-kept a (λ name h. in-asked name (in-front name (wanted_of a) (all_wanted contents) h)),
+    outcomes-kept contents (λ name h. in-asked name (in-back name (wanted_of a) (all_wanted contents) h)),
+  )
 
-  lines-kept : (names : List (List ℕ)) (contents : List Contents) → ((name : List ℕ) → IsIn name (all_wanted contents) → IsIn name (names_of asked)) →
-      error_lines names (asked ++ more) contents ≡ error_lines names asked contents
-  lines-kept [] contents in-asked = refl
-  lines-kept (name ∷ names) [] in-asked = refl
-  lines-kept (name ∷ names) (a ∷ contents) in-asked =
-      ap (λ file. error_line name file ++ error_lines names (asked ++ more) contents)
-      (file-kept a (λ n h. in-asked n (in-front n (wanted_of a) (all_wanted contents) h)))
-      ∙ ap (λ rest. error_line name (file_by asked a) ++ rest) (lines-kept names contents (λ n h. in-asked n (in-back n (wanted_of a) (all_wanted contents) h)))
+-- files whose outcomes are the same are accepted alike, and refused in the same lines
+module _ (asked others : List Asked) where
+  accepted-kept : (contents : List Contents) → AllByRecursion (λ given. file_by asked given ≡ file_by others given) contents →
+      accepted asked contents ≡ accepted others contents
+  accepted-kept [] same = refl
+  accepted-kept (a ∷ contents) same = λ i. events_first (same.0 i) (accepted-kept contents same.1 i)
+
+  lines-kept : (names : List (List ℕ)) (contents : List Contents) → AllByRecursion (λ given. file_by asked given ≡ file_by others given) contents →
+      error_lines names asked contents ≡ error_lines names others contents
+  lines-kept [] contents same = refl
+  lines-kept (name ∷ names) [] same = refl
+  lines-kept (name ∷ names) (a ∷ contents) same = λ i. error_line name (same.0 i) ++ lines-kept names contents same.1 i
 
 module _ {S Z : Type 0} (reads : S → ℕ → Answer → S → Type 0) (finds : Z → List ℕ → FindAnswer → Z → Type 0) where
   -- a read of a file gave these contents
@@ -132,18 +136,28 @@ module _ {S Z : Type 0} (reads : S → ℕ → Answer → S → Type 0) (finds :
 
   module _ {names : List (List ℕ)} {before : S} {zones : Z} {i : ℕ} {after : S} {zones' : Z} {answered : Answered} {files : List FileSaid} {errors : List ℕ}
       (d : Done names before zones i after zones' answered files errors) where
-    some-more : {a : Contents} {last : S} → Gave after i a last → suc i ≤ length names → ReadsSome reads names before (d.contents ++ a ∷ []) last
-    some-more {a = a} {last = last} g h = record {
-      last = last;
-      from_first = reads-more before 0 d.contents d.from_first (omega (arith, d.long)) g;
-      ended = inl (refl, omega (arith, length-append d.contents (a ∷ []), d.long, h));
-    }
-
-    -- the next read, in which an allocation failed, or after which one failed
-    pub read-some : {answer : Answer} {last : S} {zones'' : Z} → reads after i answer last → suc i ≤ length names →
-        EndsReading finds answer zones' zones'' answered
-        → (contents : List Contents) × (asked : List Asked) × ReadsSome reads names before contents last
+    -- only the first files are read, and not all their names are asked for
+    abbrev Ended : S → Z → Type 0
+    Ended last zones'' = (contents : List Contents) × (asked : List Asked) × ReadsSome reads names before contents last
         × AsksSome finds [] (all_wanted contents) zones asked zones''
+
+    -- nothing is kept of the next read
+    ends-after : {a : Contents} {last : S} {zones'' : Z} {more : List Asked} → Gave after i a last → suc i ≤ length names →
+        AsksSome finds d.asked (wanted_of a) zones' more zones'' → Ended last zones''
+    ends-after {a = a} {last = last} {zones'' = zones''} {more = more} g h asks = (
+      d.contents ++ a ∷ [],
+      d.asked ++ more,
+      record {
+        last = last;
+        from_first = reads-more before 0 d.contents d.from_first (omega (arith, d.long)) g;
+        ended = inl (refl, omega (arith, length-append d.contents (a ∷ []), d.long, h));
+      },
+      subst (λ wanted. AsksSome finds [] wanted zones (d.asked ++ more) zones'') (sym (all_wanted-more d.contents a)) (all-then-some finds d.asks asks),
+    )
+
+    -- an allocation failed in it, or after it
+    pub read-some : {answer : Answer} {last : S} {zones'' : Z} → reads after i answer last → suc i ≤ length names →
+        EndsReading finds answer zones' zones'' answered → Ended last zones''
     read-some {last = last} r h (EndsReading.InRead memory same) = (
       d.contents,
       d.asked,
@@ -154,28 +168,14 @@ module _ {S Z : Type 0} (reads : S → ℕ → Answer → S → Type 0) (finds :
       },
       subst (λ z. AsksSome finds [] (all_wanted d.contents) zones d.asked z) (sym same) (all-some finds d.asks),
     )
-    read-some {answer = answer} {zones'' = zones''} r h (EndsReading.AfterRead bytes gave learns) =
-        let some = learns d.asked d.knows in (
-          d.contents ++ Some bytes ∷ [],
-          d.asked ++ some.more,
-          some-more (record { answer = answer; read = r; gives = ap contents_of gave }) h,
-          subst (λ wanted. AsksSome finds [] wanted zones (d.asked ++ some.more) zones'') (sym (all_wanted-more d.contents (Some bytes)))
-              (all-then-some finds d.asks some.asks),
-        )
+    read-some {answer = answer} r h (EndsReading.AfterRead bytes gave learns) =
+        ends-after (record { answer = answer; read = r; gives = ap contents_of gave }) h (learns d.asked d.knows).asks
 
-    -- the next read comes to something, and nothing is kept of it
+    -- it comes to something
     pub stops-after : {answer : Answer} {last : S} {zones'' : Z} {answered' : Answered} {file : Result FileSaid Refusal} → reads after i answer last →
-        suc i ≤ length names → IsOutcome finds answer zones' zones'' answered answered' file
-        → (contents : List Contents) × (asked : List Asked) × ReadsSome reads names before contents last
-        × AsksSome finds [] (all_wanted contents) zones asked zones''
-    stops-after {answer = answer} {zones'' = zones''} r h outcome =
-        let learns = (outcome.settles d.asked d.knows).learns in (
-          d.contents ++ outcome.given ∷ [],
-          d.asked ++ learns.more,
-          some-more (record { answer = answer; read = r; gives = outcome.some }) h,
-          subst (λ wanted. AsksSome finds [] wanted zones (d.asked ++ learns.more) zones'') (sym (all_wanted-more d.contents outcome.given))
-              (all-some finds (all-then-all finds d.asks learns.asks)),
-        )
+        suc i ≤ length names → IsOutcome finds answer zones' zones'' answered answered' file → Ended last zones''
+    stops-after {answer = answer} r h outcome =
+        ends-after (record { answer = answer; read = r; gives = outcome.some }) h (all-some finds (outcome.settles d.asked d.knows).learns.asks)
 
     pub done-more : {answer : Answer} {last : S} {zones'' : Z} {answered' : Answered} {name : List ℕ} {file : Result FileSaid Refusal}
         {files' : List FileSaid} {errors' : List ℕ} → OnlyWantedCount → reads after i answer last → slice_get names i ≡ Some name
@@ -187,8 +187,10 @@ module _ {S Z : Type 0} (reads : S → ℕ → Answer → S → Type 0) (finds :
         let settles = outcome.settles d.asked d.knows in
         let learns = settles.learns in
         let all : List Asked = d.asked ++ learns.more in
-        let in-asked : (n : List ℕ) → IsIn n (all_wanted d.contents) →
-        IsIn n (names_of d.asked) = λ n h. subst (IsIn n) (sym d.asks.names) (wanted-in n [] (all_wanted d.contents) h) in
+        let same = outcomes-kept count d.asked learns.more learns.keeps d.contents
+        (λ n h. subst (IsIn n) (sym d.asks.names) (wanted-in n [] (all_wanted d.contents) h)) in
+        let accepted-are = d.kept.files_are ∙ sym (accepted-kept all d.asked d.contents same) in
+        let lines-are = d.kept.errors_are ∙ sym (lines-kept all d.asked names d.contents same) in
         record {
           contents = d.contents ++ a ∷ [];
           asked = all;
@@ -198,12 +200,8 @@ module _ {S Z : Type 0} (reads : S → ℕ → Answer → S → Type 0) (finds :
               (all-then-all finds d.asks learns.asks);
           knows = learns.knows;
           kept = record {
-            files_are = f ∙ (ap (λ x. files ++ events_first x []) settles.outcome_is
-                ∙ (ap (λ x. x ++ events_first (file_by all a) []) (d.kept.files_are
-                ∙ sym (accepted-kept count d.asked learns.more learns.keeps d.contents in-asked)) ∙ sym (accepted-more all d.contents a)));
-            errors_are = e ∙ (ap (λ x. errors ++ error_line name x) settles.outcome_is
-                ∙ (ap (λ x. x ++ error_line name (file_by all a)) (d.kept.errors_are
-                ∙ sym (lines-kept count d.asked learns.more learns.keeps names d.contents in-asked))
-                ∙ sym (error_lines-more names all name d.contents a (ap (slice_get names) d.long ∙ found))));
+            files_are = f ∙ ((λ j. accepted-are j ++ events_first (settles.outcome_is j) []) ∙ sym (accepted-more all d.contents a));
+            errors_are = e ∙ ((λ j. lines-are j ++ error_line name (settles.outcome_is j))
+                ∙ sym (error_lines-more names all name d.contents a (ap (slice_get names) d.long ∙ found)));
           };
         }
