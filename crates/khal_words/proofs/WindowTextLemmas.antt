@@ -1,7 +1,7 @@
 -- What parsed digits, and a text without its last byte, say of a window text.
-use Rattle.std.proofs.Common.{◌≡◌, ◌≢◌, ◌<◌, ◌≤◌, ◌-◌, ◌^◌, ◌++◌, ◌∷◌, [], ℕ, pos, true, List, Some, None, length, take, get_or, suc, ◌==◌, refl}
+use Rattle.std.proofs.Common.{◌≡◌, ◌≢◌, ◌<◌, ◌≤◌, ◌-◌, ◌+◌, ◌^◌, ◌++◌, ◌∷◌, [], ℕ, pos, true, List, Some, None, length, take, get_or, ◌==◌, refl}
 use Rattle.std.proofs.Common.{ap, sym, ◌∙◌, arith, rules}
-use Rattle.std.proofs.Math.Seq.{take-suc, take-length}
+use Rattle.std.proofs.lemmas.List.{take_all, take_more}
 use Rattle.std.proofs.lemmas.Bool.{and_right, eqb-true, false_from_ne_true}
 use Rattle.std.proofs.lemmas.Bool.Decides.{nat_tests}
 use Rattle.std.proofs.lemmas.Str.Parse.{IsNumeralModel, IsDigitsTest, numerals_by_value}
@@ -26,14 +26,11 @@ nonempty : (ds : List ℕ) → 1 ≤ digits_value 10 ds → 0 < length ds
 nonempty [] some = absurd (omega arith)
 nonempty (c ∷ cs) some = omega arith
 
-in_bounds : (n : ℕ) → is_number_of_days n ≡ true → (1 ≤ n) × (n ≤ most_days)
-in_bounds n t = grind (arith, nat_tests)
-
 -- no digits, or too many, write no number of days
 pub none_said : (ds : List ℕ) → ((0 < length ds) × (digits_value 10 ds < 2 ^ 32) → ⊥) → None ≡ number_said ds
 none_said ds refuted =
     let fails = false_from_ne_true (is_number_of_days (digits_value 10 ds)) (λ fits.
-    let bounds = in_bounds _ fits in
+    let bounds : (1 ≤ digits_value 10 ds) × (digits_value 10 ds ≤ most_days) = grind (arith, nat_tests) in
     refuted (nonempty ds bounds.0, omega arith)) in
     rw (and_right (list_all is_ascii_digit ds) _ fails) refl
 
@@ -45,10 +42,7 @@ number_is ds n digits same some few =
 
 -- a text is its front and its last byte
 last_byte : (text : List ℕ) → 0 < length text → text ≡ take (length text - 1) text ++ get_or text (length text - 1) 0 ∷ []
-last_byte text some =
-    let more : suc (length text - 1) ≡ length text = omega arith in
-    let inside : length text - 1 < length text = omega arith in
-    sym (take-length text) ∙ (ap (λ n. take n text) (sym more) ∙ take-suc text (length text - 1) 0 inside)
+last_byte text some = sym (take_all (length text - 1 + 1) text (omega arith)) ∙ take_more text (length text - 1) 0 (omega arith)
 
 ends_so : (text : List ℕ) → get_or text (length text - 1) 0 ≡ 100 → text ≡ take (length text - 1) text ++ 100 ∷ []
 ends_so [] last = let bad : ◌≡◌ {A = ℕ} 0 100 = last in absurd (omega arith)
