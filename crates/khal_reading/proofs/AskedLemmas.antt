@@ -8,7 +8,7 @@ use Rattle.std.proofs.lemmas.List.{map-append}
 use Rattle.std.proofs.lemmas.List.Folds.{list_any-append}
 use Rattle.std.proofs.lemmas.Slice.Eq.{bytes_eq-Decides}
 use Rattle.ics_zone.specs.ZoneFiles.{TzifText}
-use Rattle.ics_calendar.specs.GivenFiles.{no_files, with_file, GivenFiles}
+use Rattle.ics_calendar.specs.GivenFiles.{no_files, GivenFiles}
 use Rattle.std.specs.Option.{option_or}
 use Rattle.khal_reading.specs.Asked.{and_name, and_names, given_files, given_from, is_unread, names_of, was_unread, with_found, Asked, AsksAll, AsksSome}
 use Rattle.khal_reading.specs.Asked.{FindsEach}
@@ -84,19 +84,14 @@ or-none : (given : Option (Option TzifText)) → option_or given None ≡ given
 or-none None = refl
 or-none (Some given) = refl
 
-with_file-other : (files : GivenFiles) (name bytes other : List ℕ) → bytes_eq other name ≡ false → with_file files name bytes other ≡ files other
-with_file-other files name bytes other e = rw e (or-none (files other))
-
 with_found-other : (files : GivenFiles) (one : Asked) (other : List ℕ) → bytes_eq other one.0 ≡ false → with_found files one other ≡ files other
-with_found-other files (name, Found.Given bytes) other e = with_file-other files name bytes other e
-with_found-other files (name, Found.Absent) other e = refl
-with_found-other files (name, Found.Unread) other e = refl
+with_found-other files (name, Found.Given bytes) other e = rw e (or-none (files other))
+with_found-other files one other e = refl
 
 pub with_found-same : (files others : GivenFiles) (one : Asked) (other : List ℕ) → files other ≡ others other →
     with_found files one other ≡ with_found others one other
 with_found-same files others (name, Found.Given bytes) other e = rw e refl
-with_found-same files others (name, Found.Absent) other e = e
-with_found-same files others (name, Found.Unread) other e = e
+with_found-same files others one other e = e
 
 pub names-append : (xs ys : List Asked) → names_of (xs ++ ys) ≡ names_of xs ++ names_of ys
 names-append xs ys = map-append (λ (one : Asked). one.0) xs ys

@@ -82,9 +82,12 @@ module _ {Z : Type 0} (finds : Z → List ℕ → FindAnswer → Z → Type 0) w
       LearnsSome finds asked (first ++ then) before after
   learns-front asked first then before after h = record { more = h.more; asks = lemma.some-front finds then h.asks }
 
-  pub learns-some : (asked : List Asked) (wanted : List (List ℕ)) (before after : Z) (a : Answered) → Learns finds asked wanted before after a →
-      LearnsSome finds asked wanted before after
-  learns-some asked wanted before after a h = record { more = h.more; asks = lemma.all-some finds h.asks }
+  -- nothing is asked for
+  pub learns-nothing : (asked : List Asked) (wanted : List (List ℕ)) (state : Z) → LearnsSome finds asked wanted state state
+  learns-nothing asked wanted state = record {
+    more = [];
+    asks = lemma.some-front finds wanted (lemma.all-some finds (lemma.none-asked finds asked state));
+  }
 
   module _ (asked : List Asked) {name slice : List ℕ} (before after : Z) (old : Answered) (k : Knows asked old) {had : Bool}
       (new-name : had ≡ contains (slice_cmp nat_cmp) old.names name) (not-had : had ≡ false) (same : slice ≡ name)

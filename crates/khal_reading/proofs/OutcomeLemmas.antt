@@ -24,7 +24,7 @@ use Rattle.khal_ports.specs.Finds.{FindAnswer}
 use Rattle.khal_reading.specs.Learned.{Knows, Learns, LearnsSome, Settles}
 use Rattle.khal_reading.specs.Outcomes.{seen_outcome, EndsReading, IsOutcome}
 use Rattle.khal_reading.proofs.AskedLemmas.{any-same}
-use Rattle.khal_reading.proofs.LearnedLemmas.{learns-front, learns-none, learns-some}
+use Rattle.khal_reading.proofs.LearnedLemmas.{learns-none}
 
 -- zone files that agree on the names that a file wants give it one meaning
 abbrev pub OnlyWantedCount : Type 0
@@ -74,12 +74,6 @@ module _ {Z : Type 0} (finds : Z → List ℕ → FindAnswer → Z → Type 0) (
         outcome_is = is ∙ (ap (λ (s : DraftSaid). file_if unread (file_or_refusal (s.says (given_by answered.files)))) d
             ∙ (ap (λ f. file_if unread (file_or_refusal f)) files ∙ sym (file-is all bytes (sym lacks))));
       }
-
--- nothing is asked for
-pub asks-none : {Z : Type 0} (finds : Z → List ℕ → FindAnswer → Z → Type 0) (asked : List Asked) (wanted : List (List ℕ)) (state : Z) (answered : Answered) →
-    Knows asked answered → LearnsSome finds asked wanted state state
-asks-none finds asked wanted state answered k =
-    learns-front finds asked [] wanted state state (learns-some finds asked [] state state answered (learns-none finds asked state answered k))
 
 -- what is read of the bytes of a file
 module _ {Z : Type 0} (finds : Z → List ℕ → FindAnswer → Z →

@@ -2,7 +2,8 @@ use Rattle.std.proofs.Common.{ℕ, refl, sym, ap, ap₂, ◌∙◌, Err}
 use Rattle.ics_calendar.specs.Files.{wanted_names}
 use Rattle.ics_components.specs.declared.fault.FaultKind.{FaultKind}
 use Rattle.khal_reading.specs.Errors.{file_or_refusal}
-use Rattle.khal_reading.proofs.OutcomeLemmas.{asks-none, fault-of, settles-fault}
+use Rattle.khal_reading.proofs.LearnedLemmas.{learns-nothing}
+use Rattle.khal_reading.proofs.OutcomeLemmas.{fault-of, settles-fault}
 use Rattle.khal_reading.proofs.outcome.outcome_of.Goals as goal
 
 pub returns-in-Err-At-clause-ok : goal.returns-in-Err-At-clause-ok
@@ -17,4 +18,4 @@ returns-in-Err-At-clause-ok g c = λ asked k.
     }
 
 pub returns-in-Err-Memory-clause-some : goal.returns-in-Err-Memory-clause-some
-returns-in-Err-Memory-clause-some g c = λ asked k. asks-none g.Z.ZoneSource.finds asked (wanted_names c.args.bytes.now) c.args.zones.now c.args.answered.now k
+returns-in-Err-Memory-clause-some g c = λ asked k. learns-nothing g.Z.ZoneSource.finds asked (wanted_names c.args.bytes.now) c.args.zones.now

@@ -1,9 +1,9 @@
 use Rattle.ics_calendar.specs.Drafts.{draft_said}
-use Rattle.khal_reading.proofs.OutcomeLemmas.{asks-none}
+use Rattle.khal_reading.proofs.LearnedLemmas.{learns-nothing}
 use Rattle.khal_ports.proofs.Written.{on_err}
 use Rattle.khal_reading.proofs.outcome.wants_unread.Goals as goal
 
 pub returns-in_err-wanted-clause-some : goal.returns-in_err-wanted-clause-some
 returns-in_err-wanted-clause-some g c =
     on_err c.from_residual.result (λ asked k.
-    asks-none g.Z.ZoneSource.finds asked (draft_said c.args.draft.now).wants c.args.zones.now c.args.answered.now k)
+    learns-nothing g.Z.ZoneSource.finds asked (draft_said c.args.draft.now).wants c.args.zones.now)
