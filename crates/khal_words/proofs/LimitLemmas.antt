@@ -1,10 +1,10 @@
 -- What clap takes for `--limit`, and the number that `parse` reads from it.
 use Rattle.std.proofs.Common.{◌≡◌, ◌∙◌, ◌<◌, ◌≤◌, ◌^◌, ◌==◌, ◌&&◌, ℕ, pos, Bool}
-use Rattle.std.proofs.Common.{true, false, List, Option, Some, None, Ok, Err, Result}
+use Rattle.std.proofs.Common.{true, false, List, length, Option, Some, None, Ok, Err, Result}
 use Rattle.std.proofs.Common.{option_and_then, arith, refl, sym, ap, subst}
 use Rattle.std.specs.Result.{OkIff, result_ok}
 use Rattle.std.specs.Str.Parse.{IsNumeral, ParsesUnsigned, digits_value, starts_with_minus, without_leading_plus}
-use Rattle.std.proofs.lemmas.Bool.{eqb-true, false_from_ne_true, ltb-true, lt-ltb}
+use Rattle.std.proofs.lemmas.Bool.{eqb-true, false_from_ne_true}
 use Rattle.std.proofs.lemmas.Int.{ints}
 use Rattle.clap.proofs.ValueTestLemmas.{accepts-Accepts}
 use Rattle.clap.proofs.WalkLemmas.{both}
@@ -12,6 +12,8 @@ use Rattle.clap.specs.ValueTests.{accepts}
 use Rattle.clap.specs.declared.builder.value_parser.ValueParser.{ValueParser}
 use Rattle.clap.specs.declared.builder.value_parser.ValueParser.TheVariants as vp
 use Rattle.clap.specs.Words.{IsSignedIn}
+use Rattle.std.specs.Bool.{Decides}
+use Rattle.std.proofs.lemmas.Bool.Decides.{Decides-and, Decides-ltb}
 use Rattle.std.specs.Prelude.{codes}
 use Rattle.khal_words.specs.Entries.{Entries, HasLimit}
 use Rattle.khal_words.specs.Limits.{is_number, number_in, number_of, IsLimit, IsLimitOf}
@@ -32,19 +34,14 @@ limit_parser (vp.Signed (pos low) (pos high)) t =
     ∙ ap (λ (n : ℕ). vp.Signed (pos 1) (pos n)) (eqb-true high 4_294_967_295 bounds.1)
 limit_parser p t = cc
 
-number-is : (digits : List ℕ) → is_number digits ≡ true → IsNumeral 10 digits × (digits_value 10 digits < 2 ^ 32)
-number-is digits t =
-    let parts = both _ _ t in
-    let digit = both _ _ parts.0 in
-    ((ltb-true _ _ digit.0, own.to digits digit.1), ltb-true _ _ parts.1)
-
-pub is-number : (digits : List ℕ) → IsNumeral 10 digits × (digits_value 10 digits < 2 ^ 32) → is_number digits ≡ true
-is-number digits h = rw (lt-ltb _ _ h.0.0, own.from digits h.0.1, lt-ltb _ _ h.1) refl
+number-Decides : (digits : List ℕ) → Decides (is_number digits) (IsNumeral 10 digits × (digits_value 10 digits < 2 ^ 32))
+number-Decides digits =
+    Decides-and _ _ (Decides-and _ _ (Decides-ltb 0 (length digits)) (own.to digits, own.from digits)) (Decides-ltb (digits_value 10 digits) (2 ^ 32))
 
 read : {E : Type 0} (digits : List ℕ) (r : Result ℕ E) → OkIff r (IsNumeral 10 digits × (digits_value 10 digits < 2 ^ 32)) (digits_value 10 digits) →
     result_ok r ≡ number_in digits
-read digits (Ok n) h = rw (is-number digits h.0) (ap Some h.1)
-read digits (Err e) h = rw (false_from_ne_true (is_number digits) (λ t. h (number-is digits t))) refl
+read digits (Ok n) h = rw ((number-Decides digits).1 h.0) (ap Some h.1)
+read digits (Err e) h = rw (false_from_ne_true (is_number digits) (λ t. h ((number-Decides digits).0 t))) refl
 
 pub parsed : {E : Type 0} (text : List ℕ) (r : Result ℕ E) → ParsesUnsigned 32 10 text r → result_ok r ≡ number_of text
 parsed text r h = read (without_leading_plus text) r h
@@ -64,7 +61,7 @@ limit_is text t = go (starts_with_minus text) refl
         let high = rw minus at numeral.3 in
         let some : 1 ≤ digits_value 10 (without_leading_plus text) = omega (arith, ints) in
         let fits : digits_value 10 (without_leading_plus text) < 2 ^ 32 = omega (arith, ints) in
-        (digits_value 10 (without_leading_plus text), rw (is-number (without_leading_plus text) (digits, fits)) refl, some)
+        (digits_value 10 (without_leading_plus text), rw ((number-Decides (without_leading_plus text)).1 (digits, fits)) refl, some)
 
 pub has_limit : (entries : Entries) → HasChecked (codes "limit") limit_range is_limit_parser limit_parser entries → HasLimit entries
 has_limit entries rows text e = limit_is text (text_passes (codes "limit") limit_range is_limit_parser limit_parser entries text rows e)
