@@ -1,28 +1,20 @@
 -- What the bytes of a file come to.
-use Rattle.std.proofs.Common.{◌≡◌, ℕ, Bool, List, [], ◌++◌, Some, None, Result, Ok, Err, All, IfOk, OnErr, if◌then◌else◌, refl, sym, ◌∙◌, ap}
+use Rattle.std.proofs.Common.{◌≡◌, ℕ, Bool, List, [], ◌++◌, Some, None, Result, Err, All, if◌then◌else◌, sym, ◌∙◌, ap}
 use Rattle.std.proofs.Common.{subst}
 use Rattle.std.specs.BTreeSet.{contains}
 use Rattle.std.specs.Cmp.Lexicographic.{slice_cmp, nat_list_eq_equiv}
 use Rattle.std.specs.List.{list_any}
 use Rattle.std.specs.Ordering.{nat_cmp}
 use Rattle.std.proofs.lemmas.Map.Views.{All-from_any}
-use Rattle.std.proofs.lemmas.Result.{IfOk-weaker, on_err_weaker}
 use Rattle.ics_event.specs.Event.{FileSaid}
-use Rattle.ics_calendar.specs.Drafts.{IsFaultOf}
 use Rattle.ics_calendar.specs.Files.{draft_of, file_of, DraftSaid, wanted_names}
 use Rattle.ics_calendar.specs.GivenFiles.{GivenFiles}
 use Rattle.ics_calendar.specs.ZoneTables.{given_by}
-use Rattle.ics_components.specs.declared.fault.FaultKind.{FaultKind}
-use Rattle.ics_components.specs.declared.fault.FileFault.{FileFault}
-use Rattle.ics_components.specs.declared.fault.FileFault.TheVariants.{At}
 use Rattle.khal_reading.specs.declared.answered.Answered.{Answered}
-use Rattle.khal_ports.specs.declared.fault.RunFault.{RunFault}
-use Rattle.khal_reading.specs.declared.outcome.Outcome.{Outcome}
 use Rattle.khal_reading.specs.Asked.{given_files, is_unread, Asked}
 use Rattle.khal_reading.specs.Errors.{file_by, file_or_refusal, Refusal}
 use Rattle.khal_ports.specs.Finds.{FindAnswer}
-use Rattle.khal_reading.specs.Learned.{Knows, Learns, LearnsSome, Settles}
-use Rattle.khal_reading.specs.Outcomes.{seen_outcome, EndsReading, IsOutcome}
+use Rattle.khal_reading.specs.Learned.{Knows, Learns, Settles}
 use Rattle.khal_reading.proofs.AskedLemmas.{any-same}
 use Rattle.khal_reading.proofs.LearnedLemmas.{learns-none}
 
@@ -74,25 +66,3 @@ module _ {Z : Type 0} (finds : Z → List ℕ → FindAnswer → Z → Type 0) (
         outcome_is = is ∙ (ap (λ (s : DraftSaid). file_if unread (file_or_refusal (s.says (given_by answered.files)))) d
             ∙ (ap (λ f. file_if unread (file_or_refusal f)) files ∙ sym (file-is all bytes (sym lacks))));
       }
-
--- what is read of the bytes of a file
-module _ {Z : Type 0} (finds : Z → List ℕ → FindAnswer → Z →
-    Type 0) (before after : Z) (known known' : Answered) (bytes read : List ℕ) (same : read ≡ bytes) where
-  pub bytes-outcome : (result : Result Outcome RunFault) →
-      IfOk result (λ outcome. (asked : List Asked) → Knows asked known → Settles finds asked (Some read) before after known' (seen_outcome outcome))
-      → IfOk result (λ outcome. IsOutcome finds (Ok bytes) before after known known' (seen_outcome outcome))
-  bytes-outcome result h = IfOk-weaker result _ _ (λ outcome settles. record {
-    given = Some bytes;
-    some = refl;
-    settles = λ asked k. subst (λ (b : List ℕ). Settles finds asked (Some b) before after known' (seen_outcome outcome)) same (settles asked k);
-  }) h
-
-  pub bytes-end : (result : Result Outcome RunFault) →
-      OnErr result ((asked : List Asked) → Knows asked known → LearnsSome finds asked (wanted_names read) before after)
-      → OnErr result (EndsReading finds (Ok bytes) before after known)
-  bytes-end result h = on_err_weaker result (λ learns. EndsReading.AfterRead bytes refl
-      (λ asked k. subst (λ (b : List ℕ). LearnsSome finds asked (wanted_names b) before after) same (learns asked k))) h
-
-pub fault-of : (bytes : List ℕ) (fault : FileFault) → IsFaultOf bytes fault → (line : ℕ) (kind : FaultKind) → fault ≡ At line kind
-    → ((files : GivenFiles) → file_of files bytes ≡ Err (record { line = line; kind = kind })) × (wanted_names bytes ≡ [])
-fault-of bytes fault h line kind e = subst (IsFaultOf bytes) e h

@@ -18,11 +18,10 @@ module _ (asked : List Asked) where
   lines-any : (names : List (List ℕ)) (contents : List Contents) → length contents ≡ length names
       → (list_any (λ given. is_err (file_by asked given)) contents ≡ true) ↔ (error_lines names asked contents ≢ [])
   lines-any [] [] h = (λ e _. cc, λ f. absurd (f refl))
-  lines-any [] (given ∷ contents) h = absurd (omega (arith, h))
-  lines-any (name ∷ names) [] h = absurd (omega (arith, h))
   lines-any (name ∷ names) (given ∷ contents) h =
       line-more name (file_by asked given) (error_lines names asked contents) (list_any (λ given. is_err (file_by asked given)) contents)
       (lines-any names contents (omega (arith, h)))
+  lines-any names contents h = absurd (omega (arith, h))
 
   pub lines-refused : (names : List (List ℕ)) (contents : List Contents) (P : Type 0) → length contents ≡ length names →
       P ↔ (error_lines names asked contents ≢ [])

@@ -1,14 +1,15 @@
-use Rattle.std.proofs.Common.{ℕ, refl, sym, ap, ap₂, ◌∙◌, Err}
+use Rattle.std.proofs.Common.{ℕ, refl, sym, ap, ap₂, ◌∙◌, subst, Err}
+use Rattle.ics_calendar.specs.Drafts.{IsFaultOf}
 use Rattle.ics_calendar.specs.Files.{wanted_names}
 use Rattle.ics_components.specs.declared.fault.FaultKind.{FaultKind}
 use Rattle.khal_reading.specs.Errors.{file_or_refusal}
 use Rattle.khal_reading.proofs.LearnedLemmas.{learns-nothing}
-use Rattle.khal_reading.proofs.OutcomeLemmas.{fault-of, settles-fault}
+use Rattle.khal_reading.proofs.OutcomeLemmas.{settles-fault}
 use Rattle.khal_reading.proofs.outcome.outcome_of.Goals as goal
 
 pub returns-in-Err-At-clause-ok : goal.returns-in-Err-At-clause-ok
 returns-in-Err-At-clause-ok g c = λ asked k.
-    let fault = fault-of c.args.bytes.now c.in-Err-At.field-0 c.in-Err-At.ensures.fault c.in-Err-At.line c.in-Err-At.kind c.in-Err-At.field-0-is in
+    let fault = subst (IsFaultOf c.args.bytes.now) c.in-Err-At.field-0-is c.in-Err-At.ensures.fault in
     let base = settles-fault g.Z.ZoneSource.finds asked c.args.bytes.now c.args.zones.now c.args.zones.now c.args.answered.now k refl fault.1 _
     (λ files. sym (ap file_or_refusal (fault.0 files))) in
     record {
