@@ -1,8 +1,7 @@
 -- What is known of the names that were asked for.
-use Rattle.std.proofs.Common.{◌≡◌, ◌<◌, ◌+◌, ℕ, suc, Bool, false, ◌||◌, ◌&&◌, List, [], ◌∷◌, ◌++◌, Some, None, arith, drop, get_or, length, take}
+use Rattle.std.proofs.Common.{◌≡◌, ◌<◌, ◌+◌, ℕ, Bool, false, ◌||◌, ◌&&◌, List, [], ◌∷◌, ◌++◌, Some, None, drop, get_or, length, take}
 use Rattle.std.proofs.Common.{sym, ◌∙◌, ap, subst, append_assoc, append-nil}
-use Rattle.std.proofs.Math.Seq.{take-suc}
-use Rattle.std.proofs.lemmas.List.{take-append-drop}
+use Rattle.std.proofs.lemmas.List.{take-append-drop, take_more}
 use Rattle.std.specs.BTreeSet.{contains}
 use Rattle.std.specs.Cmp.Lexicographic.{slice_cmp}
 use Rattle.std.specs.List.{list_any}
@@ -123,25 +122,10 @@ module _ {Z : Type 0} (finds : Z → List ℕ → FindAnswer → Z → Type 0) w
 
 -- ---- a loop over names
 
-next-front : (names : List (List ℕ)) (i : ℕ) (name : List ℕ) → i < length names → name ≡ get_or names i name → take i names ++ name ∷ [] ≡ take (i + 1) names
-next-front names i name h e =
-    let next : suc i ≡ i + 1 = omega arith in
-    ap (λ (n : List ℕ). take i names ++ n ∷ []) e ∙ (sym (take-suc names i name h) ∙ ap (λ (k : ℕ). take k names) next)
+pub next-front : (names : List (List ℕ)) (i : ℕ) (name : List ℕ) → i < length names → name ≡ get_or names i name →
+    take i names ++ name ∷ [] ≡ take (i + 1) names
+next-front names i name h e = ap (λ (n : List ℕ). take i names ++ n ∷ []) e ∙ sym (take_more names i name h)
 
-front-all : (names : List (List ℕ)) (i : ℕ) (name : List ℕ) → i < length names → name ≡ get_or names i name →
+pub front-all : (names : List (List ℕ)) (i : ℕ) (name : List ℕ) → i < length names → name ≡ get_or names i name →
     (take i names ++ name ∷ []) ++ drop (i + 1) names ≡ names
 front-all names i name h e = ap (λ (front : List (List ℕ)). front ++ drop (i + 1) names) (next-front names i name h e) ∙ take-append-drop (i + 1) names
-
-module _ {Z : Type 0} (finds : Z → List ℕ → FindAnswer → Z → Type 0) (asked : List Asked) (names : List (List ℕ)) (i : ℕ) (name : List ℕ)
-    (inside : i < length names) (is : name ≡ get_or names i name) (before middle after : Z) (a : Answered)
-    (h : Learns finds asked (take i names) before middle a) where
-  pub learns-next : (b : Answered) → Learns finds (asked ++ h.more) (name ∷ []) middle after b → Learns finds asked (take (i + 1) names) before after b
-  learns-next b k =
-      subst (λ (front : List (List ℕ)). Learns finds asked front before after b) (next-front names i name inside is)
-      (learns-then finds h k)
-
-  pub fails-next : LearnsSome finds (asked ++ h.more) (name ∷ []) middle after → LearnsSome finds asked names before after
-  fails-next k =
-      subst (λ (all : List (List ℕ)). LearnsSome finds asked all before after) (front-all names i name inside is)
-      (learns-front finds asked (take i names ++ name ∷ []) (drop (i + 1) names) before after
-      (learns-then-some finds h k))
