@@ -1,6 +1,7 @@
 -- The years, months and days that a day number has.
 use Rattle.std.proofs.Common.{◌≡◌, ℕ, zero, suc, ◌+◌, ◌-◌, ◌*◌, ◌/◌, ◌<◌, ◌≤◌, ◌⊎◌, inl, inr, true, false, nat_le, refl, sym, ap, arith, ℤ, pos, negsuc, ◌+ℤ◌}
 use Rattle.std.proofs.Common.{unsigned_abs}
+use Rattle.std.proofs.lemmas.Bool.{le-leb, lt-leb}
 use Rattle.std.proofs.lemmas.Bool.Decides.{nat_tests}
 use Rattle.jiff_core.specs.Calendar.{days_in_year, days_of_months, day_of_year, day_count, IsCivilDate}
 use Rattle.jiff_core.proofs.SignedLemmas.{signed_arith, one_part}
@@ -28,23 +29,17 @@ days_before_year_later y (suc k) = let e : y + suc k ≡ suc (y + k) = omega ari
 pub days_before_year_mono : (y later : ℕ) → y ≤ later → days_before_year y ≤ days_before_year later
 days_before_year_mono y later h = let e : y + (later - y) ≡ later = omega arith in rw e at (days_before_year_later y (later - y))
 
+by_order : (a b : ℕ) → a ≤ b → (a ≡ b) ⊎ (a < b)
+by_order a b h = grind arith
+
 -- the search finds the year that is under way
 pub year_from_is : (e y n : ℕ) → days_before_year y ≤ e → e < days_before_year (suc y) → y ≤ n → year_from e n ≡ y
 year_from_is e y zero low high h = omega arith
 year_from_is e y (suc n) low high h = elim (by_order y (suc n) h) [
-  | inl same ↦ let begun : nat_le (days_before_year (suc n)) e ≡ true = rw same at (le_true low) in rw (begun, year_from) (sym same)
-  | inr less ↦ let later : nat_le (days_before_year (suc n)) e ≡ false = le_false (let m = days_before_year_mono (suc y) (suc n) less in omega arith) in
+  | inl same ↦ let begun : nat_le (days_before_year (suc n)) e ≡ true = rw same at (le-leb _ _ low) in rw (begun, year_from) (sym same)
+  | inr less ↦ let later : nat_le (days_before_year (suc n)) e ≡ false = lt-leb _ _ (let m = days_before_year_mono (suc y) (suc n) less in omega arith) in
       rw (later, year_from) (year_from_is e y n low high (omega arith))
 ]
-  where
-    by_order : (a b : ℕ) → a ≤ b → (a ≡ b) ⊎ (a < b)
-    by_order a b h = grind arith
-
-    le_true : {a b : ℕ} → a ≤ b → nat_le a b ≡ true
-    le_true {a} {b} h = grind (arith, nat_tests)
-
-    le_false : {a b : ℕ} → b < a → nat_le a b ≡ false
-    le_false {a} {b} h = grind (arith, nat_tests)
 
 -- a day lies in the year that has begun and whose next has not
 pub year_of_is : (e y : ℕ) → days_before_year y ≤ e → e < days_before_year (suc y) → year_of e ≡ y
@@ -76,20 +71,11 @@ month_from_is : {y n m : ℕ} (top : ℕ) → IsInMonth y n m → m ≤ top → 
 month_from_is zero is h = absurd (omega arith)
 month_from_is {y} {n} {m} (suc top) is h = elim (by_order m (suc top) h) [
   | inl same ↦ let back : m - 1 ≡ top = omega arith in
-      let begun : nat_le (days_of_months (pos y) top + 1) n ≡ true = le_true (let l = rw back at is.low in omega arith) in rw (begun, month_from) (sym same)
+      let begun : nat_le (days_of_months (pos y) top + 1) n ≡ true = le-leb _ _ (let l = rw back at is.low in omega arith) in rw (begun, month_from) (sym same)
   | inr less ↦ let later : nat_le (days_of_months (pos y) top + 1) n ≡ false =
-      le_false (let k = days_of_months_mono (pos y) m top (omega arith) in omega arith) in
+      lt-leb _ _ (let k = days_of_months_mono (pos y) m top (omega arith) in omega arith) in
       rw (later, month_from) (month_from_is top is (omega arith))
 ]
-  where
-    by_order : (a b : ℕ) → a ≤ b → (a ≡ b) ⊎ (a < b)
-    by_order a b h = grind arith
-
-    le_true : {a b : ℕ} → a ≤ b → nat_le a b ≡ true
-    le_true {a} {b} h = grind (arith, nat_tests)
-
-    le_false : {a b : ℕ} → b < a → nat_le a b ≡ false
-    le_false {a} {b} h = grind (arith, nat_tests)
 
 -- the years as the calendar counts them
 pub day_count_is : (y : ℕ) → day_count (pos y) 1 1 ≡ days_before_year y + 3_652_425

@@ -1,10 +1,9 @@
 -- Places keep within their range.
-use Rattle.std.proofs.Common.{◌≡◌, ℕ, zero, suc, ◌<◌, ◌≤◌, ◌/◌, ◌⊎◌, inl, inr, ◌≢◌, length, get_or-set_same, get_or-set_other, sym, ◌∙◌, arith}
-use Rattle.std.proofs.lemmas.Bool.Decides.{nat_tests}
-use Rattle.std.proofs.lemmas.Bool.{false≢true}
-use Rattle.std.proofs.lemmas.List.{set_past, get_or_past}
+use Rattle.std.proofs.Common.{ℕ, ◌<◌, ◌≤◌, ◌/◌, inl, inr, length, get_or-set_same, get_or-set_other, sym, subst, ◌∙◌, arith}
+use Rattle.std.proofs.lemmas.Bool.{cases_eq, cases_lt, false≢true}
+use Rattle.std.proofs.lemmas.List.{set_past}
 use Rattle.jiff_core.specs.declared.civil.weekday.Weekday.{Weekday}
-use Rattle.jiff_core.specs.declared.civil.weekday.Weekday.TheVariants.{Monday, Tuesday, Wednesday, Thursday, Friday, Saturday, Sunday}
+use Rattle.jiff_core.specs.declared.civil.weekday.Weekday.TheVariants.{Monday}
 use Rattle.jiff_core.specs.Weekday.{monday_zero}
 use Rattle.ics_fields.specs.declared.frequency.Frequency.{Frequency}
 use Rattle.ics_fields.specs.declared.ordinals.Side.{Side}
@@ -16,7 +15,7 @@ use Rattle.ics_fields.specs.Sets.{contains, contains_wide, none_wide, with_numbe
 use Rattle.ics_fields.specs.Ordinals.{no_ordinals, no_wide_ordinals, no_weekdays, numbers_of}
 use Rattle.ics_fields.specs.Ordinals.{with_ordinal, with_wide_ordinal, with_weekday, with_numbered_weekday}
 use Rattle.ics_fields.specs.RuleParts.{every, ArePlaces, AreWidePlaces, IsRuleParts}
-use Rattle.ics_fields.proofs.SetLemmas.{IsFrom, within_more, contains-with_number, contains_wide-with_number, has_none, none_wide_has}
+use Rattle.ics_fields.proofs.SetLemmas.{IsFrom, within_more, contains-with_number, contains_wide-with_number, has_none, none_wide_has, same_at}
 
 pub ordinals_more : (side : Side) {n high : ℕ} {p : Ordinals} → n < 64 → IsFrom 1 high n → ArePlaces p high → ArePlaces (with_ordinal side n p) high
 ordinals_more Front {n} {high} {p} s is own = record {
@@ -42,12 +41,7 @@ wide_ordinals_more Back {n} {high} {p} s f b is own = record {
 -- a weekday is one of seven
 pub monday_zero_small : (d : Weekday) → monday_zero d ≤ 6
 monday_zero_small Monday = omega arith
-monday_zero_small Tuesday = omega arith
-monday_zero_small Wednesday = omega arith
-monday_zero_small Thursday = omega arith
-monday_zero_small Friday = omega arith
-monday_zero_small Saturday = omega arith
-monday_zero_small Sunday = omega arith
+monday_zero_small d = omega arith
 
 pub weekdays_more : (d : Weekday) (w : Weekdays) → IsWithin 0 6 (contains w.plain) → IsWithin 0 6 (contains (with_weekday d w).plain)
 weekdays_more d w own =
@@ -58,19 +52,13 @@ weekdays_more d w own =
 -- the numbers of one weekday, and those of the others
 pub numbered_more : (d : Weekday) (side : Side) {n : ℕ} (w : Weekdays) → IsFrom 1 53 n → ((k : ℕ) → ArePlaces (numbers_of w k) 53)
     → (k : ℕ) → ArePlaces (numbers_of (with_numbered_weekday d side n w) k) 53
-numbered_more d side {n} w is own k = elim (by_place (monday_zero d) (length w.numbered)) [
-  | inl inside ↦ elim (same_or_not k (monday_zero d)) [
+numbered_more d side {n} w is own k = elim (cases_lt (monday_zero d) (length w.numbered)) [
+  | inl inside ↦ elim (cases_eq k (monday_zero d)) [
     | inl same ↦ rw (same, get_or-set_same) (ordinals_more side (omega arith) is (own (monday_zero d)))
     | inr other ↦ rw (get_or-set_other) (own k)
   ]
   | inr past ↦ rw (set_past w.numbered (monday_zero d) (with_ordinal side n (numbers_of w (monday_zero d))) past) (own k)
 ]
-  where
-    by_place : (a b : ℕ) → (a < b) ⊎ (b ≤ a)
-    by_place a b = grind arith
-
-    same_or_not : (m n : ℕ) → (m ≡ n) ⊎ (m ≢ n)
-    same_or_not m n = grind (arith, nat_tests)
 
 -- a part that is absent is in any range
 none_within : (low high : ℕ) → IsWithin low high (contains 0)
@@ -86,15 +74,7 @@ none_placed_wide : (high : ℕ) → AreWidePlaces no_wide_ordinals high
 none_placed_wide high = record { front = none_within_wide 1 high; back = none_within_wide 1 high }
 
 none_numbered : (w : ℕ) → ArePlaces (numbers_of no_weekdays w) 53
-none_numbered zero = none_placed 53
-none_numbered (suc zero) = none_placed 53
-none_numbered (suc (suc zero)) = none_placed 53
-none_numbered (suc (suc (suc zero))) = none_placed 53
-none_numbered (suc (suc (suc (suc zero)))) = none_placed 53
-none_numbered (suc (suc (suc (suc (suc zero))))) = none_placed 53
-none_numbered (suc (suc (suc (suc (suc (suc zero)))))) = none_placed 53
-none_numbered (suc (suc (suc (suc (suc (suc (suc w))))))) =
-    rw (get_or_past no_weekdays.numbered (suc (suc (suc (suc (suc (suc (suc w))))))) no_ordinals (omega arith)) (none_placed 53)
+none_numbered w = subst (λ p. ArePlaces p 53) (sym (same_at 7 w no_ordinals)) (none_placed 53)
 
 -- the rule with FREQ alone
 pub every_kept : (f : Frequency) → IsRuleParts (every f)

@@ -1,20 +1,18 @@
 -- What adding a member does to a set.
-use Rattle.std.proofs.Common.{◌≡◌, refl, ℕ, zero, suc, ◌+◌, ◌-◌, ◌*◌, ◌/◌, ◌%◌, ◌^◌, ◌<◌, ◌≤◌, ◌⊎◌, inl, inr, ◌==◌, ◌||◌, ◌&&◌, nat_lt, ◌≢◌}
-use Rattle.std.proofs.Common.{Bool, true, false, List, length, get_or, set, ap, sym, subst, ◌∙◌, arith, w64, bit_or, get_or-set_same, get_or-set_other}
+use Rattle.std.proofs.Common.{◌≡◌, refl, ℕ, zero, suc, ◌+◌, ◌-◌, ◌*◌, ◌/◌, ◌%◌, ◌^◌, ◌<◌, ◌≤◌, inl, inr, ◌==◌, ◌||◌, ◌&&◌, nat_lt, ◌≢◌}
+use Rattle.std.proofs.Common.{Bool, true, false, List, length, get_or, set, replicate, ⊎_elim}
+use Rattle.std.proofs.Common.{ap, sym, subst, ◌∙◌, arith, w64, bit_or, get_or-set_same, get_or-set_other}
 use Rattle.std.proofs.lemmas.Bool.Decides.{nat_tests}
 use Rattle.std.proofs.lemmas.Nat.Bits.{bit_at_set_same, bit_at_set_other, bit_at_above, bit_at-zero, bit_at-trailing_zeros, bit_at_cat_low, bit_at_ones}
-use Rattle.std.proofs.lemmas.List.{get_or_past}
+use Rattle.std.proofs.lemmas.Bool.{and_right, both_ways, cases_eq, cases_lt, eqb-true, le-ltb, or_cases}
 use Rattle.std.proofs.lemmas.Nat.{one_shl, pow-add, div-add-mod'}
 use Rattle.std.proofs.Math.Nat.{div-div-eq-div-mul, div-le_self}
 use Rattle.std.specs.Int.{trailing_zeros}
 use Rattle.ics_fields.specs.Sets.{contains, contains_wide, none_wide, with_number, with_wide_number, IsWithin, IsLeastFrom}
 
-same_or_not : (m n : ℕ) → (m ≡ n) ⊎ (m ≢ n)
-same_or_not m n = grind (arith, nat_tests)
-
 -- a word with the bit n set
 pub contains-or_bit : (s n m : ℕ) → n < 64 → contains (bit_or s (1 * 2 ^ n % 18446744073709551616)) m ≡ (m == n) || contains s m
-contains-or_bit s n m h = elim (same_or_not m n) [
+contains-or_bit s n m h = elim (cases_eq m n) [
   | inl e ↦ rw e (let one = bit_at_set_same w64 s n h in grind (arith, nat_tests))
   | inr ne ↦ let other = bit_at_set_other w64 s n h m ne in grind (arith, nat_tests)
 ]
@@ -36,7 +34,7 @@ has_digit ws n = contains (get_or ws (n / 64) 0) (n % 64)
 -- words of which one has the bit set
 has_digit-set : (ws : List ℕ) (n m : ℕ) → n / 64 < length ws →
     has_digit (set ws (n / 64) (bit_or (get_or ws (n / 64) 0) (1 * 2 ^ (n % 64) % 18446744073709551616))) m ≡ (m == n) || has_digit ws m
-has_digit-set ws n m h = elim (same_or_not (m / 64) (n / 64)) [
+has_digit-set ws n m h = elim (cases_eq (m / 64) (n / 64)) [
   | inl e ↦ rw (e, get_or-set_same) (contains-or_bit (get_or ws (n / 64) 0) (n % 64) (m % 64) (omega arith)
       ∙ ap (λ b. b || contains (get_or ws (n / 64) 0) (m % 64)) (same_in_word m n e))
   | inr ne ↦ rw (get_or-set_other) (let differ : m ≢ n = λ e. ne (ap (λ x. x / 64) e) in grind (arith, nat_tests))
@@ -56,10 +54,7 @@ contains_wide-set ws n m h low = ap (λ x. nat_lt m 384 && x) (has_digit-set ws 
 
 -- no member lies past the end
 pub wide_past : (ws : List ℕ) (m : ℕ) → 384 ≤ m → contains_wide ws m ≡ false
-wide_past ws m h = ap (λ x. x && has_digit ws m) (outside m h)
-  where
-    outside : (m : ℕ) → 384 ≤ m → nat_lt m 384 ≡ false
-    outside m h = grind (arith, nat_tests)
+wide_past ws m h = ap (λ x. x && has_digit ws m) (le-ltb m 384 h)
 
 pub with_wide_number-is : (ws : List ℕ) (n : ℕ) → set ws (n / 64) (bit_or (get_or ws (n / 64) 0) (1 * 2 ^ (n % 64) % 18446744073709551616))
     ≡ with_wide_number n ws
@@ -77,14 +72,8 @@ pub record IsFrom (low high n : ℕ) : Type 0 where
 -- a number in its range keeps a set in it
 pub within_more : {low high n : ℕ} (test more : ℕ → Bool) → ((m : ℕ) → more m ≡ (m == n) || test m) → IsWithin low high test → IsFrom low high n →
     IsWithin low high more
-within_more {low} {high} {n} test more each own is m e = cases m (test m) refl (sym (each m) ∙ e)
-  where
-    cases : (m : ℕ) (b : Bool) → test m ≡ b → ((m == n) || test m) ≡ true → (low ≤ m) × (m ≤ high)
-    cases m true e t = own m e
-    cases m false e t = let same : m ≡ n = fact m n (test m) e t in (omega arith, omega arith)
-      where
-        fact : (a b : ℕ) (c : Bool) → c ≡ false → ((a == b) || c) ≡ true → a ≡ b
-        fact a b c p q = grind (arith, nat_tests)
+within_more {low} {high} {n} test more each own is m e =
+    ⊎_elim (λ here. let same : m ≡ n = eqb-true m n here in (omega arith, omega arith)) (λ old. own m old) (or_cases (m == n) (test m) (sym (each m) ∙ e))
 
 -- the digits of a shifted word are those further on
 contains-shift : (s n i : ℕ) → contains (s / 2 ^ n) i ≡ contains s (n + i)
@@ -118,13 +107,7 @@ next_member s n h some =
 
 -- members lie below the size of the word
 pub member_below : (s k m : ℕ) → s < 2 ^ k → contains s m ≡ true → m < k
-member_below s k m h t = elim (by_order m k) [ inl l ↦ l | inr g ↦ absurd (true_or_false (contains s m) t (has_above s k m h g)) ]
-  where
-    by_order : (m k : ℕ) → (m < k) ⊎ (k ≤ m)
-    by_order m k = grind arith
-
-    true_or_false : (b : Bool) → b ≡ true → b ≡ false → ⊥
-    true_or_false b p q = cc
+member_below s k m h t = ⊎_elim (λ l. l) (λ g. absurd (both_ways (contains s m) (has_above s k m h g) t)) (cases_lt m k)
 
 -- the members below a size
 pub contains-front : (s k m : ℕ) → m < k → contains (s % 2 ^ k) m ≡ contains s m
@@ -137,19 +120,11 @@ contains-below k m h = ap (λ x. x == 1) (bit_at_ones k m h)
 abbrev pub NoneBelow : List ℕ → ℕ → ℕ → Type 0
 NoneBelow ws n bound = (m : ℕ) → n ≤ m → m < bound → contains_wide ws m ≡ false
 
--- the empty list of words has no member
-none_word : (k : ℕ) → get_or none_wide k 0 ≡ 0
-none_word zero = refl
-none_word (suc zero) = refl
-none_word (suc (suc zero)) = refl
-none_word (suc (suc (suc zero))) = refl
-none_word (suc (suc (suc (suc zero)))) = refl
-none_word (suc (suc (suc (suc (suc zero))))) = refl
-none_word (suc (suc (suc (suc (suc (suc k)))))) = get_or_past none_wide (suc (suc (suc (suc (suc (suc k)))))) 0 (omega arith)
+-- a list of one thing has it at each place, and past its end by default
+pub same_at : {A : Type 0} (n k : ℕ) (x : A) → get_or (replicate n x) k x ≡ x
+same_at zero k x = refl
+same_at (suc n) zero x = refl
+same_at (suc n) (suc k) x = same_at n k x
 
 pub none_wide_has : (n : ℕ) → contains_wide none_wide n ≡ false
-none_wide_has n = ap (λ x. nat_lt n 384 && x) (ap (λ x. contains x (n % 64)) (none_word (n / 64)) ∙ has_none (n % 64)) ∙ never (nat_lt n 384)
-  where
-    never : (b : Bool) → (b && false) ≡ false
-    never true = refl
-    never false = refl
+none_wide_has n = ap (λ x. nat_lt n 384 && x) (ap (λ x. contains x (n % 64)) (same_at 6 (n / 64) 0) ∙ has_none (n % 64)) ∙ and_right (nat_lt n 384) false refl
