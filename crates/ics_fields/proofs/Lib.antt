@@ -2,4 +2,3 @@ pub mod DayLemmas
 pub mod LocalLemmas
 pub mod SetLemmas
 pub mod PlaceLemmas
-pub mod Examples
