@@ -1,7 +1,7 @@
 -- The years, months and days that a day number has.
 use Rattle.std.proofs.Common.{◌≡◌, ℕ, zero, suc, ◌+◌, ◌-◌, ◌*◌, ◌/◌, ◌<◌, ◌≤◌, ◌⊎◌, inl, inr, true, false, nat_le, refl, sym, ap, arith, ℤ, pos, negsuc, ◌+ℤ◌}
 use Rattle.std.proofs.Common.{unsigned_abs}
-use Rattle.std.proofs.lemmas.Bool.{le-leb, lt-leb}
+use Rattle.std.proofs.lemmas.Bool.{cases_order, le-leb, lt-leb}
 use Rattle.std.proofs.lemmas.Bool.Decides.{nat_tests}
 use Rattle.jiff_core.specs.Calendar.{days_in_year, days_of_months, day_of_year, day_count, IsCivilDate}
 use Rattle.jiff_core.proofs.SignedLemmas.{signed_arith, one_part}
@@ -21,32 +21,10 @@ days_before_year-next y = grind (arith, nat_tests)
 pub days_before_year_low : (y : ℕ) → 365 * y ≤ days_before_year y
 days_before_year_low y = omega arith
 
-pub days_before_year_later : (y k : ℕ) → days_before_year y ≤ days_before_year (y + k)
-days_before_year_later y zero = let e : y + 0 ≡ y = omega arith in rw e (omega arith)
-days_before_year_later y (suc k) = let e : y + suc k ≡ suc (y + k) = omega arith in
-    rw e (let next = days_before_year-next (y + k) in let up = days_before_year_later y k in omega arith)
-
 pub days_before_year_mono : (y later : ℕ) → y ≤ later → days_before_year y ≤ days_before_year later
-days_before_year_mono y later h = let e : y + (later - y) ≡ later = omega arith in rw e at (days_before_year_later y (later - y))
+days_before_year_mono y later h = omega arith
 
-by_order : (a b : ℕ) → a ≤ b → (a ≡ b) ⊎ (a < b)
-by_order a b h = grind arith
-
--- the search finds the year that is under way
-pub year_from_is : (e y n : ℕ) → days_before_year y ≤ e → e < days_before_year (suc y) → y ≤ n → year_from e n ≡ y
-year_from_is e y zero low high h = omega arith
-year_from_is e y (suc n) low high h = elim (by_order y (suc n) h) [
-  | inl same ↦ let begun : nat_le (days_before_year (suc n)) e ≡ true = rw same at (le-leb _ _ low) in rw (begun, year_from) (sym same)
-  | inr less ↦ let later : nat_le (days_before_year (suc n)) e ≡ false = lt-leb _ _ (let m = days_before_year_mono (suc y) (suc n) less in omega arith) in
-      rw (later, year_from) (year_from_is e y n low high (omega arith))
-]
-
--- a day lies in the year that has begun and whose next has not
-pub year_of_is : (e y : ℕ) → days_before_year y ≤ e → e < days_before_year (suc y) → year_of e ≡ y
-unfolding year_of
-year_of_is e y low high = year_from_is e y (e / 365) low high (let l = days_before_year_low y in omega arith)
-
--- each day lies in one
+-- each day lies in a year that has begun and whose next has not
 year_from_under_way : (e n : ℕ) → e < days_before_year (suc n) → (days_before_year (year_from e n) ≤ e) × (e < days_before_year (suc (year_from e n)))
 year_from_under_way e zero h = (omega arith, h)
 year_from_under_way e (suc n) h = elim (cases (days_before_year (suc n)) e) [
@@ -60,6 +38,16 @@ year_from_under_way e (suc n) h = elim (cases (days_before_year (suc n)) e) [
 pub year_under_way : (e : ℕ) → (days_before_year (year_of e) ≤ e) × (e < days_before_year (suc (year_of e)))
 unfolding year_of
 year_under_way e = year_from_under_way e (e / 365) (let l = days_before_year_low (suc (e / 365)) in omega arith)
+
+-- and in one such year
+pub year_of_is : (e y : ℕ) → days_before_year y ≤ e → e < days_before_year (suc y) → year_of e ≡ y
+year_of_is e y low high =
+    let here = year_under_way e in
+    elim (cases_order (year_of e) y) [
+      | inl same ↦ same
+      | inr (inl before) ↦ let m = days_before_year_mono (suc (year_of e)) y before in absurd (omega arith)
+      | inr (inr after) ↦ let m = days_before_year_mono (suc y) (year_of e) after in absurd (omega arith)
+    ]
 
 -- and so for months: day n of a year lies in its month m
 record IsInMonth (y n m : ℕ) : Type 0 where
@@ -76,6 +64,9 @@ month_from_is {y} {n} {m} (suc top) is h = elim (by_order m (suc top) h) [
       lt-leb _ _ (let k = days_of_months_mono (pos y) m top (omega arith) in omega arith) in
       rw (later, month_from) (month_from_is top is (omega arith))
 ]
+  where
+    by_order : (a b : ℕ) → a ≤ b → (a ≡ b) ⊎ (a < b)
+    by_order a b h = grind arith
 
 -- the years as the calendar counts them
 pub day_count_is : (y : ℕ) → day_count (pos y) 1 1 ≡ days_before_year y + 3_652_425
