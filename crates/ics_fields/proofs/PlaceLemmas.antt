@@ -1,5 +1,5 @@
 -- Places keep within their range.
-use Rattle.std.proofs.Common.{ℕ, ◌<◌, ◌≤◌, ◌/◌, inl, inr, length, get_or-set_same, get_or-set_other, sym, subst, ◌∙◌, arith}
+use Rattle.std.proofs.Common.{ℕ, List, ◌<◌, ◌≤◌, ◌/◌, inl, inr, length, get_or-set_same, get_or-set_other, sym, subst, ◌∙◌, arith}
 use Rattle.std.proofs.lemmas.Bool.{cases_eq, cases_lt, false≢true}
 use Rattle.std.proofs.lemmas.List.{set_past}
 use Rattle.jiff_core.specs.declared.civil.weekday.Weekday.{Weekday}
@@ -17,26 +17,23 @@ use Rattle.ics_fields.specs.Ordinals.{with_ordinal, with_wide_ordinal, with_week
 use Rattle.ics_fields.specs.RuleParts.{every, ArePlaces, AreWidePlaces, IsRuleParts}
 use Rattle.ics_fields.proofs.SetLemmas.{IsFrom, within_more, contains-with_number, contains_wide-with_number, has_none, none_wide_has, same_at}
 
+-- a set keeps within its range when a number of it is added
+number_more : {low high n : ℕ} (s : ℕ) → n < 64 → IsFrom low high n → IsWithin low high (contains s) → IsWithin low high (contains (with_number n s))
+number_more {n = n} s small is own = within_more (contains s) (contains (with_number n s)) (λ m. contains-with_number s n m small) own is
+
+wide_number_more : {low high n : ℕ} (ws : List ℕ) → n < 384 → n / 64 < length ws → IsFrom low high n → IsWithin low high (contains_wide ws) →
+    IsWithin low high (contains_wide (with_wide_number n ws))
+wide_number_more {n = n} ws small inside is own =
+    within_more (contains_wide ws) (contains_wide (with_wide_number n ws)) (λ m. contains_wide-with_number ws n m inside small) own is
+
 pub ordinals_more : (side : Side) {n high : ℕ} {p : Ordinals} → n < 64 → IsFrom 1 high n → ArePlaces p high → ArePlaces (with_ordinal side n p) high
-ordinals_more Front {n} {high} {p} s is own = record {
-  front = within_more (contains p.front) (contains (with_number n p.front)) (λ m. contains-with_number p.front n m s) own.front is;
-  back = own.back;
-}
-ordinals_more Back {n} {high} {p} s is own = record {
-  front = own.front;
-  back = within_more (contains p.back) (contains (with_number n p.back)) (λ m. contains-with_number p.back n m s) own.back is;
-}
+ordinals_more Front {p = p} s is own = record { front = number_more p.front s is own.front; back = own.back }
+ordinals_more Back {p = p} s is own = record { front = own.front; back = number_more p.back s is own.back }
 
 pub wide_ordinals_more : (side : Side) {n high : ℕ} {p : WideOrdinals} → n < 384 → n / 64 < length p.front → n / 64 < length p.back → IsFrom 1 high n →
     AreWidePlaces p high → AreWidePlaces (with_wide_ordinal side n p) high
-wide_ordinals_more Front {n} {high} {p} s f b is own = record {
-  front = within_more (contains_wide p.front) (contains_wide (with_wide_number n p.front)) (λ m. contains_wide-with_number p.front n m f s) own.front is;
-  back = own.back;
-}
-wide_ordinals_more Back {n} {high} {p} s f b is own = record {
-  front = own.front;
-  back = within_more (contains_wide p.back) (contains_wide (with_wide_number n p.back)) (λ m. contains_wide-with_number p.back n m b s) own.back is;
-}
+wide_ordinals_more Front {p = p} s f b is own = record { front = wide_number_more p.front s f is own.front; back = own.back }
+wide_ordinals_more Back {p = p} s f b is own = record { front = own.front; back = wide_number_more p.back s b is own.back }
 
 -- a weekday is one of seven
 pub monday_zero_small : (d : Weekday) → monday_zero d ≤ 6
@@ -46,8 +43,7 @@ monday_zero_small d = omega arith
 pub weekdays_more : (d : Weekday) (w : Weekdays) → IsWithin 0 6 (contains w.plain) → IsWithin 0 6 (contains (with_weekday d w).plain)
 weekdays_more d w own =
     let small = monday_zero_small d in
-    within_more (contains w.plain) (contains (with_number (monday_zero d) w.plain))
-    (λ m. contains-with_number w.plain (monday_zero d) m (omega (arith, small))) own (record { first = omega arith; last = small })
+    number_more w.plain (omega (arith, small)) (record { first = omega arith; last = small }) own
 
 -- the numbers of one weekday, and those of the others
 pub numbered_more : (d : Weekday) (side : Side) {n : ℕ} (w : Weekdays) → IsFrom 1 53 n → ((k : ℕ) → ArePlaces (numbers_of w k) 53)
