@@ -1,7 +1,7 @@
 -- What adding a member does to a set.
 use Rattle.std.proofs.Common.{◌≡◌, refl, ℕ, zero, suc, ◌+◌, ◌-◌, ◌*◌, ◌/◌, ◌%◌, ◌^◌, ◌<◌, ◌≤◌, inl, inr, ◌==◌, ◌||◌, ◌&&◌, nat_lt, ◌≢◌}
 use Rattle.std.proofs.Common.{Bool, true, false, List, length, get_or, set, replicate, ⊎_elim}
-use Rattle.std.proofs.Common.{ap, sym, subst, ◌∙◌, arith, w64, bit_or, get_or-set_same, get_or-set_other}
+use Rattle.std.proofs.Common.{ap, sym, ◌∙◌, arith, w64, bit_or, get_or-set_same, get_or-set_other}
 use Rattle.std.proofs.lemmas.Bool.Decides.{nat_tests}
 use Rattle.std.proofs.lemmas.Nat.Bits.{bit_at_set_same, bit_at_set_other, bit_at_above, bit_at-zero, bit_at-trailing_zeros, bit_at_cat_low, bit_at_ones}
 use Rattle.std.proofs.lemmas.Bool.{and_right, both_ways, cases_eq, cases_lt, eqb-true, le-ltb, or_cases}
@@ -42,15 +42,10 @@ has_digit-set ws n m h = elim (cases_eq (m / 64) (n / 64)) [
 
 pub contains_wide-set : (ws : List ℕ) (n m : ℕ) → n / 64 < length ws → n < 384 →
     contains_wide (set ws (n / 64) (bit_or (get_or ws (n / 64) 0) (1 * 2 ^ (n % 64) % 18446744073709551616))) m ≡ (m == n) || contains_wide ws m
-contains_wide-set ws n m h low = ap (λ x. nat_lt m 384 && x) (has_digit-set ws n m h)
-    ∙ cases (nat_lt m 384) (m == n) (has_digit ws m) (λ out. apart m n low out)
+contains_wide-set ws n m h low = ap (λ x. nat_lt m 384 && x) (has_digit-set ws n m h) ∙ within m n (has_digit ws m) low
   where
-    apart : (m n : ℕ) → n < 384 → nat_lt m 384 ≡ false → (m == n) ≡ false
-    apart m n h o = grind (arith, nat_tests)
-
-    cases : (a b c : Bool) → (a ≡ false → b ≡ false) → (a && (b || c)) ≡ (b || (a && c))
-    cases true b c h = refl
-    cases false b c h = rw (h refl) refl
+    within : (m n : ℕ) (b : Bool) → n < 384 → (nat_lt m 384 && ((m == n) || b)) ≡ ((m == n) || (nat_lt m 384 && b))
+    within m n b low = grind (arith, nat_tests)
 
 -- no member lies past the end
 pub wide_past : (ws : List ℕ) (m : ℕ) → 384 ≤ m → contains_wide ws m ≡ false
@@ -87,11 +82,13 @@ has_above s k m h l = ap (λ x. x == 1) (bit_at_above s k m h l)
 pub has_none : (n : ℕ) → contains 0 n ≡ false
 has_none n = ap (λ x. x == 1) (bit_at-zero n)
 
+-- the digits from n on are those of the shifted word
+contains-later : (s n m : ℕ) → n ≤ m → contains s m ≡ contains (s / 2 ^ n) (m - n)
+contains-later s n m l = let e : m ≡ n + (m - n) = omega arith in ap (contains s) e ∙ sym (contains-shift s n (m - n))
+
 -- a set whose shifted word is 0 has no later member
 pub none_later : (s n m : ℕ) → s / 2 ^ n ≡ 0 → n ≤ m → contains s m ≡ false
-none_later s n m h l =
-    let e : n + (m - n) ≡ m = omega arith in
-    subst (λ x. contains s x ≡ false) e (sym (contains-shift s n (m - n)) ∙ ap (λ x. contains x (m - n)) h ∙ has_none (m - n))
+none_later s n m h l = contains-later s n m l ∙ (ap (λ x. contains x (m - n)) h ∙ has_none (m - n))
 
 -- the lowest digit of the shifted word is the next member
 pub next_member : (s n : ℕ) → s < 2 ^ 64 → s / 2 ^ n ≢ 0 → IsLeastFrom (contains s) n (n + trailing_zeros w64 (s / 2 ^ n))
@@ -101,8 +98,7 @@ next_member s n h some =
     record {
       passes = sym (contains-shift s n (trailing_zeros w64 (s / 2 ^ n))) ∙ ap (λ x. x == 1) first.1;
       low = omega arith;
-      least = λ m l u. let e : n + (m - n) ≡ m = omega arith in
-          subst (λ x. contains s x ≡ false) e (sym (contains-shift s n (m - n)) ∙ ap (λ x. x == 1) (first.2 (m - n) (omega arith)));
+      least = λ m l u. contains-later s n m l ∙ ap (λ x. x == 1) (first.2 (m - n) (omega arith));
     }
 
 -- members lie below the size of the word
