@@ -3,6 +3,7 @@ use Rattle.std.proofs.Common.{◌≡◌, ℕ, Bool, true, false, List, [], ◌�
 use Rattle.std.specs.Prelude.{codes, get_or, option_map, ◌==◌}
 use Rattle.std.specs.Str.{bytes_eq}
 use Rattle.std.specs.List.{All}
+use Rattle.std.proofs.lemmas.Bool.{and_parts}
 use Rattle.std.proofs.lemmas.List.Elements.{All-nil, All-cons, All-push, All-append, All-head, All-tail, All-map, All-filter}
 use Rattle.ics_values.specs.declared.stamp.Stamp.{Stamp}
 use Rattle.ics_values.specs.declared.stamp.Stamp.TheVariants as stamp
@@ -44,9 +45,8 @@ use Rattle.ics_components.proofs.Judged.{check_in}
 use Rattle.ics_components.proofs.NameLemmas.{equal}
 use Rattle.ics_components.proofs.Order.{ended_as, ended_from, end-name}
 use Rattle.ics_components.proofs.PassLemmas.{AreTogether, checks_from, checks_on, later_by}
-use Rattle.ics_components.proofs.Rows.{Readings, builder_at, frame_at}
-use Rattle.ics_components.proofs.Sound.{both-true, dated-said, one-ended}
-use Rattle.ics_components.proofs.Table.{frame_of, readings}
+use Rattle.ics_components.proofs.Sound.{dated-said, one-ended}
+use Rattle.ics_components.proofs.Table.{Readings, builder_at, frame_at, frame_of, readings}
 
 -- THE CHECK that a line leaves, where it stands directly in an event of that calendar.
 abbrev content_check : ℕ → Option Parts → Option DeferredCheck
@@ -138,7 +138,7 @@ module _ (P : DeferredCheck → Type 0) where
       IfSome (later_by l.content (frame_of whole l.path own)) P → EachZone P (event_ended (calendar_of l.path) (collected_of own))
   event-awaited whole own l t s h c =
       let k : ℕ = calendar_of l.path in
-      let closing = both-true (is_closing l) _ t in
+      let closing = and_parts (is_closing l) _ t in
       let inside : is_event_context (context_of l.path) ≡ true = closing.1 in
       let places : All (λ (m : Placed). m.path ≡ l.path) own = together-in is_event_context l.path own refl inside h in
       let leave : All (Leaves k) own =
@@ -154,7 +154,7 @@ module _ (P : DeferredCheck → Type 0) where
         recurrence = first-seen k _ (named-seen k (codes "RECURRENCE-ID") refl own leave);
         length =
             length-looked k (first_dated (codes "DTSTART") own) (first_dated (codes "DTEND") own) (collected_of own).duration
-            (end-seen whole own l.path l.content (both-true (is_end l) _ closing.0).0 inside c);
+            (end-seen whole own l.path l.content (and_parts (is_end l) _ closing.0).0 inside c);
       }
 
   pub events-awaited : (whole before lines : List Placed) → All IsSeen before → All (λ w. P w.check) (checks_from whole before lines) →

@@ -12,8 +12,6 @@ use Rattle.ics_values.specs.Plain.{text_of}
 use Rattle.ics_values.specs.Rules.{rule_of}
 use Rattle.ics_values.specs.Stamps.{stamp_of}
 use Rattle.ics_fields.specs.Observances.{ObservanceSaid}
-use Rattle.ics_components.specs.declared.event_builder.EventBuilder.{EventBuilder}
-use Rattle.ics_components.specs.declared.component.Component.{Component}
 use Rattle.ics_components.specs.declared.component.Component.TheVariants as component
 use Rattle.ics_components.specs.declared.component.Context.{Context}
 use Rattle.ics_components.specs.declared.component.Context.TheVariants as context
@@ -23,7 +21,7 @@ use Rattle.ics_components.specs.declared.builder.ObservanceBuilder.{ObservanceBu
 use Rattle.ics_components.specs.declared.builder.Builder.{Builder}
 use Rattle.ics_components.specs.declared.builder.Builder.TheVariants as builder
 use Rattle.ics_components.specs.declared.builder.ZoneBuilder.{ZoneBuilder}
-use Rattle.ics_components.specs.Components.{component_of, context_in, is_zone_context, is_observance_context}
+use Rattle.ics_components.specs.Components.{is_zone_context, is_observance_context}
 use Rattle.ics_components.specs.DateValues.{rdates_of}
 use Rattle.ics_components.specs.Names.{name_of}
 use Rattle.ics_components.specs.PlacedLines.{Placed, Open, property_name, value, context_of, in_zone, is_begin, component, is_named, all_named}
@@ -31,15 +29,14 @@ use Rattle.ics_components.proofs.Built.{collected_of, zone_of, observance_of}
 use Rattle.ics_components.specs.Lines.{or_first, event_note, zone_note, observance_note, builder_note, joined}
 use Rattle.ics_components.specs.Builders.{observance_ended}
 use Rattle.ics_components.specs.Observances.{local_in, onset_in, offset_in, daily_in, onset_on, offset_on, daily_on, onsets_by, begins_in_zone}
-use Rattle.ics_components.proofs.NameLemmas.{Tells, tells, TellsComponent, tells_component}
+use Rattle.ics_components.proofs.NameLemmas.{Tells, tells, context-tests}
 use Rattle.ics_components.proofs.EventBuilderLemmas.{collected_of-more, kept-more, parts_at}
-use Rattle.ics_components.proofs.Rows.{Readings, builder_at}
-use Rattle.ics_components.proofs.Table.{readings, own, parts}
+use Rattle.ics_components.proofs.Table.{Readings, builder_at, readings, own, parts}
 use Rattle.ics_components.proofs.Order.{inside}
 
 zone-noted : (n : Name) (u : List ℕ) (v : Parts) (had : ZoneBuilder) → Tells u n →
     record had { name = cond (bytes_eq u (codes "TZID")) (or_first had.name (text_of v.value)) had.name } ≡ zone_note n v had
-zone-noted name.Other u v had e = rw e.no_tzid refl
+zone-noted name.Other u v had e = simp e
 zone-noted name.Tzid u v had e = rw e refl
 zone-noted _ u v had e = rw e refl
 
@@ -68,7 +65,7 @@ observance-noted : (n : Name) (u : List ℕ) (v : Parts) (had : ObservanceBuilde
       rule = cond (bytes_eq u (codes "RRULE")) (or_first had.rule (daily_in (rule_of v.value))) had.rule;
       rdates = cond (bytes_eq u (codes "RDATE")) (had.rdates ++ filter_map local_in (rdates_of false v.value)) had.rdates;
     } ≡ observance_note n v had
-observance-noted name.Other u v had e = simp (e.no_dtstart, e.no_offset_from, e.no_offset_to, e.no_rrule, e.no_rdate) refl
+observance-noted name.Other u v had e = simp e
 observance-noted _ u v had e = rw e refl
 
 pub observance_of-more : (ls : List Placed) (l : Placed) →
@@ -102,39 +99,17 @@ parts-same whole ls l e =
     ∙ ap (λ t. parts whole ls ++ cond t (own whole l ∷ []) []) (and-false (in_zone l)) ∙ append-nil (parts whole ls)
 
 -- an observance begins exactly on a STANDARD or DAYLIGHT in a time zone
-observance-begins : (q : Context) (w : List ℕ) →
-    is_observance_context (context_in q (component_of w)) ≡ (is_zone_context q && (bytes_eq w (codes "STANDARD") || bytes_eq w (codes "DAYLIGHT")))
-observance-begins q w = by_context q (component_of w) (tells_component w)
-  where
-    by_context : (q : Context) (c : Component) → TellsComponent w c →
-        is_observance_context (context_in q c) ≡ (is_zone_context q && (bytes_eq w (codes "STANDARD") || bytes_eq w (codes "DAYLIGHT")))
-    by_context context.Outside component.Calendar e = refl
-    by_context context.Outside _ e = refl
-    by_context context.Calendar component.Event e = refl
-    by_context context.Calendar _ e = refl
-    by_context context.Zone (component.Other n) e = rw (e.0.no_standard, e.0.no_daylight) refl
-    by_context context.Zone component.Standard e = rw e refl
-    by_context context.Zone component.Daylight e = rw e refl
-    by_context context.Zone _ e = rw e refl
-    by_context _ c e = refl
-
 observance-is : (l : Placed) → is_begin l ≡ true → begins_in_zone l ≡ is_observance_context (context_of (inside l))
 observance-is l e =
     ap (λ t. in_zone l && ((t && bytes_eq (component l) (codes "STANDARD")) || (t && bytes_eq (component l) (codes "DAYLIGHT")))) e
-    ∙ sym (observance-begins (context_of l.path) (component l))
+    ∙ sym (context-tests (context_of l.path) (component l)).2
 
 -- what stands in another component changes nothing but observances
-event-still : (s : Builder) (had : EventBuilder) → joined s (builder.Event had) ≡ builder.Event had
-event-still (builder.Observance o) had = refl
-event-still _ had = refl
-
-observance-still : (s : Builder) (had : ObservanceBuilder) → joined s (builder.Observance had) ≡ builder.Observance had
-observance-still (builder.Observance o) had = refl
-observance-still _ had = refl
-
-pub nothing-still : (s : Builder) → joined s builder.Nothing ≡ builder.Nothing
-nothing-still (builder.Observance o) = refl
-nothing-still _ = refl
+pub still : (s : Builder) (q : Context) (g : Readings) → is_zone_context q ≡ false → joined s (builder_at q g) ≡ builder_at q g
+still (builder.Observance o) context.Zone g e = cc
+still (builder.Observance o) context.Event g e = refl
+still (builder.Observance o) _ g e = refl
+still _ q g e = refl
 
 -- WHAT IS COLLECTED of a component.
 module _ (whole : List Placed) (k : List Open) (ls : List Placed) where
@@ -153,10 +128,10 @@ module _ (whole : List Placed) (k : List Open) (ls : List Placed) where
       builder_at q (readings whole k (ls ++ b ∷ [])) ≡ joined (builder_at (context_of (inside b)) g) (builder_at q (readings whole k ls))
   builder-begun context.Event b g n e o =
       ap builder.Event (collected_of-more ls b ∙ ap (λ n. event_note n (parts_at b) (collected_of ls)) n)
-      ∙ sym (event-still (builder_at (context_of (inside b)) g) (collected_of ls))
+      ∙ sym (still (builder_at (context_of (inside b)) g) context.Event (readings whole k ls) refl)
   builder-begun context.Observance b g n e o =
       ap builder.Observance (observance_of-more ls b ∙ ap (λ n. observance_note n (parts_at b) (observance_of ls)) n)
-      ∙ sym (observance-still (builder_at (context_of (inside b)) g) (observance_of ls))
+      ∙ sym (still (builder_at (context_of (inside b)) g) context.Observance (readings whole k ls) refl)
   builder-begun context.Zone b g n e o =
       ap builder.Zone (zone_of-more (parts whole (ls ++ b ∷ [])) ls b ∙ ap (λ n. zone_note n (parts_at b) (zone_of (parts whole (ls ++ b ∷ [])) ls)) n)
       ∙ ap (λ os. builder.Zone (zone_of os ls)) (parts-more whole ls b ∙ ap (λ t. parts whole ls ++ cond t (own whole b ∷ []) []) (observance-is b e))
@@ -166,4 +141,4 @@ module _ (whole : List Placed) (k : List Open) (ls : List Placed) where
           ≡ joined (builder_at p g) (builder.Zone (zone_of (parts whole ls) ls))
       by_context context.Observance = ap (λ p. builder.Zone (zone_of (parts whole ls ++ p ∷ []) ls)) o
       by_context _ = ap (λ os. builder.Zone (zone_of os ls)) (append-nil (parts whole ls))
-  builder-begun _ b g n e o = sym (nothing-still (builder_at (context_of (inside b)) g))
+  builder-begun _ b g n e o = sym (still (builder_at (context_of (inside b)) g) context.Outside g refl)

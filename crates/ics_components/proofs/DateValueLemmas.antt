@@ -1,5 +1,5 @@
 -- The values of RDATE and EXDATE, as they are read.
-use Rattle.std.proofs.Common.{◌≡◌, ℕ, ◌+◌, Bool, true, false, ◌==◌, ◌&&◌, ◌||◌, not, List, [], ◌∷◌, length, take, drop, refl, sym, ap, ◌∙◌, cond, arith, inl}
+use Rattle.std.proofs.Common.{rules, ◌≡◌, ℕ, ◌+◌, Bool, true, false, ◌==◌, ◌&&◌, ◌||◌, not, List, [], ◌∷◌, length, take, drop, refl, sym, ap, ◌∙◌, cond, arith, inl}
 use Rattle.std.proofs.Common.{inr, map, Option, Some, None, Result, Ok, Err, append_assoc, subst, Bor}
 use Rattle.std.specs.Prelude.{nat_lt, filter_map, ◌++◌, if◌then◌else◌}
 use Rattle.std.specs.List.{list_any, position, position_or_len}
@@ -20,7 +20,6 @@ use Rattle.ics_components.specs.DateValues.{has_far_stamp, has_bad_duration, has
 use Rattle.ics_values.specs.declared.duration.DurationFault.TheVariants as duration_fault
 use Rattle.ics_values.specs.declared.stamp.Stamp.TheVariants.{Floating}
 use Rattle.ics_fields.specs.declared.local.Local.{Local}
-use Rattle.ics_components.specs.declared.date_list.ListedDate.{ListedDate}
 use Rattle.ics_components.specs.declared.fault.FaultKind.{FaultKind}
 use Rattle.ics_components.specs.declared.fault.FaultKind.TheVariants.{BadStamp, BadDuration, YearRange, NumberTooLarge, ObservanceField}
 use Rattle.ics_components.specs.Lines.{dates_fault, first, fault_if, unless, lesser, judged, onset_judged}
@@ -150,26 +149,10 @@ onsets-row vs =
     (fault_if ObservanceField (list_any is_not_local vs))
 
 dates-append : (vs ws : List DateValue) → dates_fault (vs ++ ws) ≡ least (dates_fault vs) (dates_fault ws)
-dates-append vs ws = least-append (date_tests []) vs ws rising
-  where
-    rising : IsRising (date_tests [])
-    rising = (
-      ((refl, refl), ((refl, refl), ((refl, refl), ((refl, refl), tt)))),
-      (((refl, refl), ((refl, refl), ((refl, refl), tt))), (((refl, refl), ((refl, refl), tt)), (((refl, refl), tt), tt))),
-    )
+dates-append vs ws = least-append (date_tests []) vs ws (search rules)
 
 onsets-append : (vs ws : List DateValue) → onsets_fault (vs ++ ws) ≡ least (onsets_fault vs) (onsets_fault ws)
-onsets-append vs ws =
-    sym (onsets-row (vs ++ ws)) ∙ least-append onset_tests vs ws rising ∙ rw (onsets-row vs, onsets-row ws) refl
-  where
-    rising : IsRising onset_tests
-    rising = (
-      ((refl, refl), ((refl, refl), ((refl, refl), ((refl, refl), ((refl, refl), tt))))),
-      (
-        ((refl, refl), ((refl, refl), ((refl, refl), ((refl, refl), tt)))),
-        (((refl, refl), ((refl, refl), ((refl, refl), tt))), (((refl, refl), ((refl, refl), tt)), (((refl, refl), tt), tt))),
-      ),
-    )
+onsets-append vs ws = sym (onsets-row (vs ++ ws)) ∙ least-append onset_tests vs ws (search rules) ∙ rw (onsets-row vs, onsets-row ws)
 
 -- A VALUE says something, or has a least fault.
 judged-is : (v : DateValue) → judged v ≡ unless (dates_fault (v ∷ [])) (listed_in v)
@@ -183,42 +166,6 @@ judged-is (Lasting (Ok s) (Err duration_fault.BadDuration)) = refl
 judged-is (Lasting (Err stamp.BadStamp) (Err duration_fault.BadDuration)) = refl
 judged-is (Lasting (Err stamp.YearRange) (Err duration_fault.BadDuration)) = refl
 judged-is (Lasting _ _) = refl
-
-unless-ok : {X : Type 0} (o : Option FaultKind) (x y : X) → unless o x ≡ Ok y → (o ≡ None) × (x ≡ y)
-unless-ok None x y e = (refl, cc)
-unless-ok (Some k) x y e = cc
-
-unless-err : {X : Type 0} (o : Option FaultKind) (x : X) (k : FaultKind) → unless o x ≡ Err k → o ≡ Some k
-unless-err None x k e = cc
-unless-err (Some j) x k e = cc
-
--- what is read of values of a line of an event: the least fault, and what they say if they have none
-pub record IsListed (vs : List DateValue) (o : Option FaultKind) (ls : List ListedDate) : Type 0 where
-  pub fault : o ≡ dates_fault vs
-  pub values : o ≡ None → ls ≡ map listed_in vs
-
-module _ {A : Type 0} (f : A → DateValue) (ys : List A) (y : A) {o : Option FaultKind} where
-  pub listed-ok : {ls : List ListedDate} {x : ListedDate} → IsListed (map f ys) o ls → judged (f y) ≡ Ok x →
-      IsListed (map f (ys ++ y ∷ [])) o (ls ++ x ∷ [])
-  listed-ok {ls} {x} h e =
-      let fine = unless-ok (dates_fault (f y ∷ [])) (listed_in (f y)) x (sym (judged-is (f y)) ∙ e) in
-      rw (map-append f ys (y ∷ [])) (record {
-        fault = h.fault ∙ sym (dates-append (map f ys) (f y ∷ []) ∙ ap (least (dates_fault (map f ys))) fine.0);
-        values = λ none. rw (map-append listed_in (map f ys) (f y ∷ []), h.values none, fine.1) refl;
-      })
-
-  pub listed-err : {ls : List ListedDate} {k : FaultKind} → IsListed (map f ys) o ls → judged (f y) ≡ Err k →
-      IsListed (map f (ys ++ y ∷ [])) (Some (lesser o k)) ls
-  listed-err {ls} {k} h e =
-      let bad = unless-err (dates_fault (f y ∷ [])) (listed_in (f y)) k (sym (judged-is (f y)) ∙ e) in
-      rw (map-append f ys (y ∷ [])) (record {
-        fault = rw h.fault (sym (dates-append (map f ys) (f y ∷ []) ∙ ap (least (dates_fault (map f ys))) bad));
-        values = λ none. cc;
-      })
-
-pub listed-all : (f : List ℕ → DateValue) (ys : List (Bor (List ℕ))) {texts : List (List ℕ)} {o : Option FaultKind} {ls : List ListedDate} →
-    map (λ y. y.now) ys ≡ texts → IsListed (map (λ y. f y.now) ys) o ls → IsListed (map f texts) o ls
-listed-all f ys {o = o} {ls = ls} e h = subst (λ vs. IsListed vs o ls) (sym (map-map f (λ y. y.now) ys) ∙ ap (map f) e) h
 
 -- a value of an RDATE of an observance; a PERIOD is no local
 period-said : (v : DateValue) → is_not_local v ≡ true → local_in v ≡ None → onset_judged (Ok (listed_in v)) ≡ Err ObservanceField →
@@ -237,34 +184,71 @@ onset-said (At _) = (refl, refl)
 onset-said (Between r q) = period-said (Between r q) refl refl refl
 onset-said (Lasting r d) = period-said (Lasting r d) refl refl refl
 
--- what is read of values of a line of an observance, behind the locals that it has
-pub record AreOnsets (had : List Local) (vs : List DateValue) (o : Option FaultKind) (ls : List Local) : Type 0 where
-  pub fault : o ≡ onsets_fault vs
-  pub locals : ls ≡ had ++ filter_map local_in vs
+-- WHAT IS READ of the values of a line: the least fault, and what those say that have none, behind what was there.
+pub record IsRead {X : Type 0} (read : DateValue → Result X FaultKind) (least_of : List DateValue → Option FaultKind) (had : List X) (vs : List DateValue)
+    (o : Option FaultKind) (ls : List X) : Type 0 where
+  pub fault : o ≡ least_of vs
+  pub said : ls ≡ had ++ filter_map (λ v. result_ok (read v)) vs
 
-module _ {A : Type 0} (f : A → DateValue) (ys : List A) (y : A) {had ls : List Local} {o : Option FaultKind} where
-  pub onsets-ok : {x : Local} → AreOnsets had (map f ys) o ls → onset_judged (judged (f y)) ≡ Ok x →
-      AreOnsets had (map f (ys ++ y ∷ [])) o (ls ++ x ∷ [])
-  onsets-ok {x} h e =
-      let said = onset-said (f y) in
-      let fine : onsets_fault (f y ∷ []) ≡ None = rw e at said.0 in
-      let local : local_in (f y) ≡ Some x = rw e at said.1 in
+-- a reader of values, whose least fault of values is the lesser of theirs
+pub record IsReader {X : Type 0} (read : DateValue → Result X FaultKind) (least_of : List DateValue → Option FaultKind) : Type 0 where
+  pub one : (v : DateValue) → least_of (v ∷ []) ≡ result_err (read v)
+  pub append : (vs ws : List DateValue) → least_of (vs ++ ws) ≡ least (least_of vs) (least_of ws)
+
+module _ {X A : Type 0} {read : DateValue → Result X FaultKind} {least_of : List DateValue → Option FaultKind} (is : IsReader read least_of)
+    (f : A → DateValue) (ys : List A) (y : A) {had ls : List X} {o : Option FaultKind} where
+  pub read-ok : {x : X} → IsRead read least_of had (map f ys) o ls → read (f y) ≡ Ok x → IsRead read least_of had (map f (ys ++ y ∷ [])) o (ls ++ x ∷ [])
+  read-ok {x} h e =
       rw (map-append f ys (y ∷ [])) (record {
-        fault = h.fault ∙ sym (onsets-append (map f ys) (f y ∷ []) ∙ ap (least (onsets_fault (map f ys))) fine);
-        locals = rw (filter_map-append local_in (map f ys) (f y ∷ []), h.locals, local) (append_assoc had (filter_map local_in (map f ys)) (x ∷ []));
+        fault = h.fault ∙ sym (is.append (map f ys) (f y ∷ []) ∙ ap (least (least_of (map f ys))) (is.one (f y) ∙ ap result_err e));
+        said =
+            rw (filter_map-append (λ v. result_ok (read v)) (map f ys) (f y ∷ []), e, h.said)
+            (append_assoc had (filter_map (λ v. result_ok (read v)) (map f ys)) (x ∷ []));
       })
 
-  pub onsets-err : {k : FaultKind} → AreOnsets had (map f ys) o ls → onset_judged (judged (f y)) ≡ Err k →
-      AreOnsets had (map f (ys ++ y ∷ [])) (Some (lesser o k)) ls
-  onsets-err {k} h e =
-      let said = onset-said (f y) in
-      let bad : onsets_fault (f y ∷ []) ≡ Some k = rw e at said.0 in
-      let none : local_in (f y) ≡ None = rw e at said.1 in
+  pub read-err : {k : FaultKind} → IsRead read least_of had (map f ys) o ls → read (f y) ≡ Err k →
+      IsRead read least_of had (map f (ys ++ y ∷ [])) (Some (lesser o k)) ls
+  read-err {k} h e =
       rw (map-append f ys (y ∷ [])) (record {
-        fault = rw h.fault (sym (onsets-append (map f ys) (f y ∷ []) ∙ ap (least (onsets_fault (map f ys))) bad));
-        locals = rw (filter_map-append local_in (map f ys) (f y ∷ []), none, append-nil (filter_map local_in (map f ys))) h.locals;
+        fault = rw h.fault (sym (is.append (map f ys) (f y ∷ []) ∙ ap (least (least_of (map f ys))) (is.one (f y) ∙ ap result_err e)));
+        said =
+            rw (filter_map-append (λ v. result_ok (read v)) (map f ys) (f y ∷ []), e, append-nil (filter_map (λ v. result_ok (read v)) (map f ys))) h.said;
       })
 
-pub onsets-all : (f : List ℕ → DateValue) (ys : List (Bor (List ℕ))) {texts : List (List ℕ)} {o : Option FaultKind} {had ls : List Local} →
-    map (λ y. y.now) ys ≡ texts → AreOnsets had (map (λ y. f y.now) ys) o ls → AreOnsets had (map f texts) o ls
-onsets-all f ys {o = o} {had = had} {ls = ls} e h = subst (λ vs. AreOnsets had vs o ls) (sym (map-map f (λ y. y.now) ys) ∙ ap (map f) e) h
+pub read-all : {X : Type 0} (read : DateValue → Result X FaultKind) (least_of : List DateValue → Option FaultKind) (f : List ℕ → DateValue)
+    (ys : List (Bor (List ℕ))) {texts : List (List ℕ)} {o : Option FaultKind} {had ls : List X} → map (λ y. y.now) ys ≡ texts →
+    IsRead read least_of had (map (λ y. f y.now) ys) o ls → IsRead read least_of had (map f texts) o ls
+read-all read least_of f ys {o = o} {had = had} {ls = ls} e h =
+    subst (λ vs. IsRead read least_of had vs o ls) (sym (map-map f (λ y. y.now) ys) ∙ ap (map f) e) h
+
+-- of an event
+err-unless : {X : Type 0} (o : Option FaultKind) (x : X) → o ≡ result_err (unless o x)
+err-unless None x = refl
+err-unless (Some k) x = refl
+
+pub dates-read : IsReader judged dates_fault
+dates-read = record {
+  one = λ v. err-unless (dates_fault (v ∷ [])) (listed_in v) ∙ ap result_err (sym (judged-is v));
+  append = dates-append;
+}
+
+least-none : (o p : Option FaultKind) → least o p ≡ None → (o ≡ None) × (p ≡ None)
+least-none o None e = (e, refl)
+least-none o (Some k) e = cc
+
+pub dates-said : (vs : List DateValue) → dates_fault vs ≡ None → filter_map (λ v. result_ok (judged v)) vs ≡ map listed_in vs
+dates-said [] e = refl
+dates-said (v ∷ vs) e =
+    let none = least-none (dates_fault (v ∷ [])) (dates_fault vs) (sym (dates-append (v ∷ []) vs) ∙ e) in
+    rw (judged-is v ∙ ap (λ o. unless o (listed_in v)) none.0, dates-said vs none.1)
+
+-- of an observance
+abbrev pub onset_read : DateValue → Result Local FaultKind
+onset_read v = onset_judged (judged v)
+
+pub onsets-read : IsReader onset_read onsets_fault
+onsets-read = record { one = λ v. (onset-said v).0; append = onsets-append }
+
+pub locals-said : (vs : List DateValue) → filter_map (λ v. result_ok (onset_read v)) vs ≡ filter_map local_in vs
+locals-said [] = refl
+locals-said (v ∷ vs) = rw ((onset-said v).1, locals-said vs)

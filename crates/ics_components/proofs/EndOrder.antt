@@ -2,6 +2,7 @@
 use Rattle.std.proofs.Common.{◌≡◌, ℕ, Bool, true, false, ◌&&◌, List, [], ◌∷◌, ◌++◌, refl, sym, ap, ◌∙◌, map, filter, cond}
 use Rattle.std.specs.Prelude.{codes, unwrap_or}
 use Rattle.std.specs.Str.{bytes_eq}
+use Rattle.std.proofs.lemmas.Bool.{and_parts}
 use Rattle.ics_components.specs.Lines.{event_note, zone_note}
 use Rattle.ics_components.specs.declared.component.Component.{Component}
 use Rattle.ics_components.specs.declared.component.Context.{Context}
@@ -10,7 +11,7 @@ use Rattle.ics_components.specs.Names.{name_of}
 use Rattle.ics_components.specs.PlacedLines.{Placed, Open, property_name, context_of, is_begin, component, calendar_of, begins, lines_in}
 use Rattle.ics_components.proofs.Built.{collected_of, zone_of}
 use Rattle.ics_components.specs.Builders.{event_ended, zone_ended}
-use Rattle.ics_components.proofs.NameLemmas.{TellsComponent, tells_component, context-in-outside, tells}
+use Rattle.ics_components.proofs.NameLemmas.{context-in-outside, context-tests, tells}
 use Rattle.ics_components.proofs.EventBuilderLemmas.{collected_of-more, parts_at}
 use Rattle.ics_components.proofs.Ended.{events, zones}
 use Rattle.ics_components.proofs.Order.{open_as, IsSort, Sort, inside, begun}
@@ -39,9 +40,9 @@ calendar-from context.Zone kind.Standard e = cc
 calendar-from context.Zone _ e = cc
 calendar-from _ c e = cc
 
-calendar-no-event : (q : Context) → is_calendar_context q ≡ true → is_event_context q ≡ false
-calendar-no-event context.Event e = cc
-calendar-no-event _ e = refl
+calendar-alone : (q : Context) → is_calendar_context q ≡ true → (is_event_context q ≡ false) × (is_zone_context q ≡ false)
+calendar-alone context.Calendar e = (refl, refl)
+calendar-alone _ e = cc
 
 -- a calendar stands in nothing
 module _ {X : Type 0} (s : Sort X) (out : (q : Context) → is_calendar_context q ≡ true → s.stands_at q ≡ false) where
@@ -58,32 +59,23 @@ reorder true false c = refl
 reorder false true c = refl
 reorder false false c = refl
 
--- an event begins exactly on a VEVENT in a calendar
-event-begins : (q : Context) (w : List ℕ) → is_event_context (context_in q (component_of w)) ≡ (is_calendar_context q && bytes_eq w (codes "VEVENT"))
-event-begins q w = by_context q (component_of w) (tells_component w)
-  where
-    by_context : (q : Context) (c : Component) → TellsComponent w c → is_event_context (context_in q c) ≡ (is_calendar_context q && bytes_eq w (codes "VEVENT"))
-    by_context context.Outside kind.Calendar e = refl
-    by_context context.Outside _ e = refl
-    by_context context.Calendar (kind.Other n) e = sym e.0.no_event
-    by_context context.Calendar kind.Event e = rw e refl
-    by_context context.Calendar _ e = rw e refl
-    by_context context.Zone kind.Standard e = refl
-    by_context context.Zone _ e = refl
-    by_context _ c e = refl
-
-first-true : (a b : Bool) → (a && b) ≡ true → a ≡ true
-first-true true b e = refl
-first-true false b e = cc
+-- a kind of components with one name that begin directly in a calendar
+in-calendar : {X : Type 0} (s : Sort X) (word : List ℕ) → ((q : Context) → is_calendar_context q ≡ true → s.stands_at q ≡ false) →
+    ((l : Placed) → s.begins l ≡ (is_calendar_context (context_of l.path) && begins word l)) →
+    ((q : Context) (w : List ℕ) → s.stands_at (context_in q (component_of w)) ≡ (is_calendar_context q && bytes_eq w word)) →
+    ((path : List Open) (ls : List Placed) (l : Placed) → name_of (property_name l.content) ≡ name.End → s.by path (ls ++ l ∷ []) ≡ s.by path ls) → IsSort s
+in-calendar s word out here inside_at at_end = record {
+  starts =
+      λ l. here l ∙ reorder (is_calendar_context (context_of l.path)) (is_begin l) (bytes_eq (component l) word)
+      ∙ ap (λ t. is_begin l && t) (sym (inside_at (context_of l.path) (component l)));
+  alone = λ whole l e. calendar-holds s out whole l.path (and_parts _ _ (sym (inside_at (context_of l.path) (component l)) ∙ e)).0;
+  ends = at_end;
+}
 
 pub events-are : IsSort events
-events-are = record {
-  starts =
-      λ l. reorder (is_calendar_context (context_of l.path)) (is_begin l) (bytes_eq (component l) (codes "VEVENT"))
-      ∙ ap (λ t. is_begin l && t) (sym (event-begins (context_of l.path) (component l)));
-  alone = λ whole l e. calendar-holds events calendar-no-event whole l.path (first-true _ _ (sym (event-begins (context_of l.path) (component l)) ∙ e));
-  ends = λ path ls l e. ap (event_ended (calendar_of path)) (event-end ls l e);
-}
+events-are =
+    in-calendar events (codes "VEVENT") (λ q e. (calendar-alone q e).0) (λ l. refl) (λ q w. (context-tests q w).0)
+    (λ path ls l e. ap (event_ended (calendar_of path)) (event-end ls l e))
 
 -- In a file without faults the time zones end in the order in which they begin.
 -- an END adds nothing to its zone
@@ -95,34 +87,10 @@ zone-end whole ls l e =
     ap (λ os. zone_of os (ls ++ l ∷ [])) (parts-same whole ls l not_begin) ∙ zone_of-more (parts whole ls) ls l
     ∙ ap (λ n. zone_note n (parts_at l) (zone_of (parts whole ls) ls)) e
 
--- a time zone begins exactly on a VTIMEZONE in a calendar
-zone-begins : (q : Context) (w : List ℕ) → is_zone_context (context_in q (component_of w)) ≡ (is_calendar_context q && bytes_eq w (codes "VTIMEZONE"))
-zone-begins q w = by_context q (component_of w) (tells_component w)
-  where
-    by_context : (q : Context) (c : Component) → TellsComponent w c →
-        is_zone_context (context_in q c) ≡ (is_calendar_context q && bytes_eq w (codes "VTIMEZONE"))
-    by_context context.Outside kind.Calendar e = refl
-    by_context context.Outside _ e = refl
-    by_context context.Calendar (kind.Other n) e = sym e.0.no_zone
-    by_context context.Calendar kind.Zone e = rw e refl
-    by_context context.Calendar _ e = rw e refl
-    by_context context.Zone kind.Standard e = refl
-    by_context context.Zone _ e = refl
-    by_context _ c e = refl
-
-calendar-no-zone : (q : Context) → is_calendar_context q ≡ true → is_zone_context q ≡ false
-calendar-no-zone context.Calendar e = refl
-calendar-no-zone context.Zone e = cc
-calendar-no-zone _ e = refl
-
 pub zones-are : (whole : List Placed) → IsSort (zones whole)
-zones-are whole = record {
-  starts =
-      λ l. reorder (is_calendar_context (context_of l.path)) (is_begin l) (bytes_eq (component l) (codes "VTIMEZONE"))
-      ∙ ap (λ t. is_begin l && t) (sym (zone-begins (context_of l.path) (component l)));
-  alone = λ all l e. calendar-holds (zones whole) calendar-no-zone all l.path (first-true _ _ (sym (zone-begins (context_of l.path) (component l)) ∙ e));
-  ends = λ path ls l e. ap (zone_ended (calendar_of path)) (zone-end whole ls l e);
-}
+zones-are whole =
+    in-calendar (zones whole) (codes "VTIMEZONE") (λ q e. (calendar-alone q e).1) (λ l. refl) (λ q w. (context-tests q w).1)
+    (λ path ls l e. ap (zone_ended (calendar_of path)) (zone-end whole ls l e))
 
 -- what begins directly in a calendar belongs to that
 pub calendar-inside : (l : Placed) → is_calendar_context (context_of l.path) ≡ true → calendar_of (inside l) ≡ calendar_of l.path
@@ -133,18 +101,22 @@ calendar-inside l = by_path l.path
     by_path [] e = cc
     by_path (c ∷ cs) e = refl
 
+-- what is read of the components that begin on lines, where it is the same of each
+pub begun-same : {X Y : Type 0} (s : Sort X) (whole : List Placed) (f : X → Y) (g : Placed → Y) →
+    ((l : Placed) → s.begins l ≡ true → f (s.by (inside l) (lines_in l.number whole)) ≡ g l) → (ls : List Placed) →
+    map f (begun s whole ls) ≡ map g (filter s.begins ls)
+begun-same s whole f g h [] = refl
+begun-same s whole f g h (l ∷ ls) = by_test (s.begins l) refl (begun-same s whole f g h ls)
+  where
+    by_test : (t : Bool) → s.begins l ≡ t → map f (begun s whole ls) ≡ map g (filter s.begins ls) →
+        map f (map (λ l. s.by (inside l) (lines_in l.number whole)) (cond t (l ∷ filter s.begins ls) (filter s.begins ls)))
+        ≡ map g (cond t (l ∷ filter s.begins ls) (filter s.begins ls))
+    by_test true e again = rw (h l e, again)
+    by_test false e again = again
+
 -- the names of the zones
 pub names-begun : (whole ls : List Placed) → map (name_by whole) (filter begins_zone ls) ≡ map (λ z. z.name) (begun (zones whole) whole ls)
-names-begun whole [] = refl
-names-begun whole (l ∷ ls) = by_test (names-begun whole ls) (is_calendar_context (context_of l.path)) refl (begins (codes "VTIMEZONE") l)
-  where
-    by_test : map (name_by whole) (filter begins_zone ls) ≡ map (λ z. z.name) (begun (zones whole) whole ls) → (q : Bool) →
-        is_calendar_context (context_of l.path) ≡ q → (t : Bool) →
-        map (name_by whole) (cond (q && t) (l ∷ filter begins_zone ls) (filter begins_zone ls))
-        ≡ map (λ z. z.name) (map (λ l. (zones whole).by (inside l) (lines_in l.number whole))
-        (cond (q && t) (l ∷ filter begins_zone ls) (filter begins_zone ls)))
-    by_test rest true e true =
-        let name : ℕ → ZoneName = λ k. record { calendar = k; name = unwrap_or (first_text (codes "TZID") (lines_in l.number whole)) [] } in
-        ap (λ xs. name (calendar_of l.path) ∷ xs) rest ∙ ap (λ k. name k ∷ map (λ z. z.name) (begun (zones whole) whole ls)) (sym (calendar-inside l e))
-    by_test rest true e false = rest
-    by_test rest false e t = rest
+names-begun whole ls =
+    sym (begun-same (zones whole) whole (λ z. z.name) (name_by whole) (λ l e.
+    let name : ℕ → ZoneName = λ k. record { calendar = k; name = unwrap_or (first_text (codes "TZID") (lines_in l.number whole)) [] } in
+    ap name (calendar-inside l (and_parts _ _ e).0)) ls)

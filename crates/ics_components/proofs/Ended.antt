@@ -16,7 +16,7 @@ use Rattle.ics_components.specs.declared.gathered.EndedEvent.{EndedEvent}
 use Rattle.ics_components.specs.declared.gathered.EndedZone.{EndedZone}
 use Rattle.ics_components.specs.Components.{component_of, is_event_context, is_zone_context}
 use Rattle.ics_components.specs.Names.{name_of}
-use Rattle.ics_components.specs.PlacedLines.{Placed, Open, context_of, calendar_of, is_end, is_closing}
+use Rattle.ics_components.specs.PlacedLines.{Placed, Open, context_of, calendar_of, is_end, is_closing, lines_in}
 use Rattle.ics_components.specs.PlacedLines.{begins_event}
 use Rattle.ics_components.specs.Observances.{begins_zone}
 use Rattle.ics_components.proofs.Built.{collected_of, zone_of}
@@ -25,9 +25,8 @@ use Rattle.ics_components.specs.Gathered.{zones_of_end, events_of_end}
 use Rattle.ics_components.specs.Pass.{bottom}
 use Rattle.ics_components.proofs.Judged.{ended_in, ends, ends-is, ends-lowest}
 use Rattle.ics_components.proofs.NameLemmas.{tells}
-use Rattle.ics_components.proofs.Rows.{Readings, frame_at}
-use Rattle.ics_components.proofs.Table.{parts, readings, frame_of}
-use Rattle.ics_components.proofs.Bundles.{Bundle, Keeps, top_lines}
+use Rattle.ics_components.proofs.Table.{Readings, frame_at, parts, readings, frame_of}
+use Rattle.ics_components.proofs.Bundles.{Bundle, open_of, opens, top_lines}
 use Rattle.ics_components.proofs.Order.{Sort, ended_as}
 use Rattle.ics_components.proofs.Frames.{frames_of, end-is, with}
 
@@ -85,13 +84,10 @@ module _ {X : Type 0} (whole : List Placed) (s : Sort X) (pick : Ended → List 
       ∙ ap (λ t. pick (cond t (ended_in f) ended.Nothing)) (sym (end-is u (name_of u) (tells u)) ∙ is-closing (bytes_eq u (codes "END")) (bytes_eq w c.name) m)
       ∙ picks.inside (bytes_eq u (codes "END") && bytes_eq w c.name) c cs ls
 
-  pub picked-same : (before : List Placed) (path : List Open) (bundles : List Bundle) → Keeps before [] path bundles →
-      IsMatched (with line path v) →
-      pick (ends (name_of (map upper v.name)) (frames_of whole path bundles)) ≡ ended_as s (top_lines bundles) (with line path v)
-  picked-same before [] bundles k m =
+  pub picked-same : (before : List Placed) (bundles : List Bundle) → IsMatched (with line (opens bundles) v) →
+      pick (ends (name_of (map upper v.name)) (frames_of whole bundles)) ≡ ended_as s (top_lines before bundles) (with line (opens bundles) v)
+  picked-same before [] m =
       ap pick (ends-lowest (name_of (map upper v.name)) bottom) ∙ picks.nothing
-      ∙ sym (ap (λ t. cond (t && s.stands_at context.Outside) (s.by [] (top_lines bundles) ∷ []) []) (and-false (bytes_eq (map upper v.name) (codes "END"))))
-  picked-same before (c ∷ cs) [] k m = absurd k
-  picked-same before (c ∷ []) (b ∷ bs) k m = picked-inside c [] b.lines bottom [] m
-  picked-same before (c ∷ e ∷ es) (b ∷ []) k m = absurd k.1
-  picked-same before (c ∷ e ∷ es) (b ∷ d ∷ ds) k m = picked-inside c (e ∷ es) b.lines (frame_of whole (e ∷ es) d.lines) (frames_of whole es ds) m
+      ∙ sym (ap (λ t. cond (t && s.stands_at context.Outside) (s.by [] (lines_in 0 before) ∷ []) []) (and-false (bytes_eq (map upper v.name) (codes "END"))))
+  picked-same before (b ∷ []) m = picked-inside (open_of b) [] b.lines bottom [] m
+  picked-same before (b ∷ d ∷ ds) m = picked-inside (open_of b) (opens (d ∷ ds)) b.lines (frame_of whole (opens (d ∷ ds)) d.lines) (frames_of whole ds) m

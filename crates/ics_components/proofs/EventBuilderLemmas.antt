@@ -32,24 +32,14 @@ named-more f n ls l = ap (map f) (filter-append (is_named n) ls (l ∷ [])) ∙ 
 -- what is kept of the first line of a name, with one line more
 pub kept-more : {X : Type 0} (f : Placed → X) (n : List ℕ) (ls : List Placed) (l : Placed) →
     option_map f (first_named n (ls ++ l ∷ [])) ≡ cond (is_named n l) (or_first (option_map f (first_named n ls)) (f l)) (option_map f (first_named n ls))
-kept-more f n [] l = last (is_named n l)
+kept-more f n ls l = rw (filter-append (is_named n) ls (l ∷ [])) (by_first (all_named n ls) (is_named n l))
   where
-    last : (t : Bool) → option_map f (first_of (cond t (l ∷ []) [])) ≡ cond t (Some (f l)) None
-    last true = refl
-    last false = refl
-kept-more f n (k ∷ ks) l = by_test (is_named n k) (kept-more f n ks l)
-  where
-    by_test : (t : Bool) → option_map f (first_named n (ks ++ l ∷ []))
-        ≡ cond (is_named n l) (or_first (option_map f (first_named n ks)) (f l)) (option_map f (first_named n ks)) →
-        option_map f (first_of (cond t (k ∷ all_named n (ks ++ l ∷ [])) (all_named n (ks ++ l ∷ []))))
-        ≡ cond (is_named n l) (or_first (option_map f (first_of (cond t (k ∷ all_named n ks) (all_named n ks)))) (f l))
-        (option_map f (first_of (cond t (k ∷ all_named n ks) (all_named n ks))))
-    by_test true ih = either (is_named n l)
-      where
-        either : (t : Bool) → Some (f k) ≡ cond t (Some (f k)) (Some (f k))
-        either true = refl
-        either false = refl
-    by_test false ih = ih
+    by_first : (ks : List Placed) (t : Bool) →
+        option_map f (first_of (ks ++ cond t (l ∷ []) [])) ≡ cond t (or_first (option_map f (first_of ks)) (f l)) (option_map f (first_of ks))
+    by_first [] true = refl
+    by_first [] false = refl
+    by_first (k ∷ ks) true = refl
+    by_first (k ∷ ks) false = refl
 
 abbrev pub raw_name : Option Parts → List ℕ
 raw_name None = []
@@ -75,22 +65,7 @@ noted : (n : Name) (u : List ℕ) (v : Parts) (had : EventBuilder) → Tells u n
       description = cond (bytes_eq u (codes "DESCRIPTION")) (or_first had.description (text_of v.value)) had.description;
       cancelled = cond (bytes_eq u (codes "STATUS")) (or_first had.cancelled (is_cancelled v.value)) had.cancelled;
     } ≡ event_note n v had
-noted name.Other u v had e =
-    simp (
-      e.no_uid,
-      e.no_dtstart,
-      e.no_dtend,
-      e.no_duration,
-      e.no_rrule,
-      e.no_rdate,
-      e.no_exdate,
-      e.no_recurrence_id,
-      e.no_sequence,
-      e.no_summary,
-      e.no_location,
-      e.no_description,
-      e.no_status,
-    ) refl
+noted name.Other u v had e = simp e
 noted _ u v had e = rw e refl
 
 -- WHAT IS COLLECTED of an event, with one line more.

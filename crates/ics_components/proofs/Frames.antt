@@ -1,5 +1,5 @@
 -- The components that are open, as the pass holds them, stand for the path before a line and the lines beside it.
-use Rattle.std.proofs.Common.{◌≡◌, ℕ, ◌+◌, Bool, true, false, List, [], ◌∷◌, ◌++◌, drop, map, refl, sym, ap, subst, ◌∙◌, arith, cond, Some}
+use Rattle.std.proofs.Common.{◌≡◌, ℕ, ◌+◌, true, false, List, [], ◌∷◌, ◌++◌, drop, map, refl, sym, ap, ◌∙◌, arith, Some}
 use Rattle.std.specs.Prelude.{length, codes}
 use Rattle.std.specs.Str.{bytes_eq}
 use Rattle.std.proofs.lemmas.List.{append-nil}
@@ -14,48 +14,40 @@ use Rattle.ics_components.specs.declared.name.Name.{Name}
 use Rattle.ics_components.specs.declared.name.Name.TheVariants as name
 use Rattle.ics_components.specs.Components.{component_of, context_in}
 use Rattle.ics_components.specs.Names.{name_of}
-use Rattle.ics_components.specs.PlacedLines.{Placed, Open, context_of, property_name, is_begin, is_end, component, path_behind, innermost, calendar_of}
+use Rattle.ics_components.specs.PlacedLines.{Placed, Open, context_of, property_name, is_begin, is_end, component, path_behind, calendar_of}
 use Rattle.ics_components.specs.PlacedLines.{lines_in}
 use Rattle.ics_components.specs.Builders.{fresh, observance_ended}
 use Rattle.ics_components.proofs.Built.{observance_of}
 use Rattle.ics_components.specs.Pass.{bottom}
-use Rattle.ics_components.specs.Lines.{calendar_in, opened, observance_note, joined}
-use Rattle.ics_components.proofs.Judged.{fault_in, fault_on, check_in, check_on, noted, closed, behind, IsBased, is_begin_name}
+use Rattle.ics_components.specs.Lines.{opened, observance_note, joined}
+use Rattle.ics_components.proofs.Judged.{fault_in, fault_on, check_in, check_on, noted, closed, behind, end-inside, is_begin_name}
 use Rattle.ics_components.proofs.Judged.{is_end_name}
-use Rattle.ics_components.proofs.NameLemmas.{Tells, tells, context-in-outside}
+use Rattle.ics_components.proofs.NameLemmas.{Tells, tells, equal, context-in-outside}
 use Rattle.ics_components.proofs.EventBuilderLemmas.{parts_at}
-use Rattle.ics_components.proofs.Rows.{Readings, builder_at, frame_at}
-use Rattle.ics_components.proofs.Table.{own, readings, frame_of}
-use Rattle.ics_components.proofs.BuilderLemmas.{observance_of-more, builder-more, builder-begun, nothing-still}
-use Rattle.ics_components.proofs.Bundles.{Bundle, IsKept, Keeps, top_lines, add_line, close, bundles_behind, path-of}
+use Rattle.ics_components.proofs.Table.{Readings, builder_at, frame_at, own, readings, frame_of}
+use Rattle.ics_components.proofs.BuilderLemmas.{observance_of-more, builder-more, builder-begun, still}
+use Rattle.ics_components.proofs.Bundles.{Bundle, IsKept, Keeps, opens, top_lines, add_line, close, bundles_behind}
 
--- the frames that a path and the bundles of lines stand for, in a file of all these lines
-abbrev pub frames_of : List Placed → List Open → List Bundle → List Frame
-frames_of whole [] bundles = bottom ∷ []
-frames_of whole (c ∷ cs) [] = bottom ∷ []
-frames_of whole (c ∷ cs) (b ∷ bs) = frame_of whole (c ∷ cs) b.lines ∷ frames_of whole cs bs
+-- the frames that the bundles of lines stand for, in a file of all these lines
+abbrev pub frames_of : List Placed → List Bundle → List Frame
+frames_of whole [] = bottom ∷ []
+frames_of whole (b ∷ bs) = frame_of whole (opens (b ∷ bs)) b.lines ∷ frames_of whole bs
 
 pub begin-is : (u : List ℕ) (n : Name) → Tells u n → bytes_eq u (codes "BEGIN") ≡ is_begin_name n
-begin-is u name.Other e = e.no_begin
+begin-is u name.Other e = e (codes "BEGIN") refl
 begin-is u name.Begin e = rw e refl
 begin-is u _ e = rw e refl
 
 pub end-is : (u : List ℕ) (n : Name) → Tells u n → bytes_eq u (codes "END") ≡ is_end_name n
-end-is u name.Other e = e.no_end
+end-is u name.Other e = e (codes "END") refl
 end-is u name.End e = rw e refl
 end-is u _ e = rw e refl
 
-begin-only : (n : Name) → is_begin_name n ≡ true → n ≡ name.Begin
-begin-only name.Begin e = refl
-begin-only _ e = cc
+begin-named : (l : Placed) → is_begin l ≡ true → name_of (property_name l.content) ≡ name.Begin
+begin-named l e = rw (equal (property_name l.content) (codes "BEGIN") e)
 
-pub begin-named : (l : Placed) → is_begin l ≡ true → name_of (property_name l.content) ≡ name.Begin
-begin-named l e =
-    begin-only (name_of (property_name l.content))
-    (sym (begin-is (property_name l.content) (name_of (property_name l.content)) (tells (property_name l.content))) ∙ e)
-
-abbrev pub top_of : List Placed → List Open → List Bundle → Frame
-top_of whole path bundles = frame_of whole path (top_lines bundles)
+abbrev pub top_of : List Placed → List Placed → List Bundle → Frame
+top_of whole before bundles = frame_of whole (opens bundles) (top_lines before bundles)
 
 abbrev pub with : Line → List Open → Parts → Placed
 with line path v = record { number = line.number; content = Some v; path = path }
@@ -64,148 +56,105 @@ with line path v = record { number = line.number; content = Some v; path = path 
 observance-end : (ls : List Placed) (l : Placed) → name_of (property_name l.content) ≡ name.End → observance_of (ls ++ l ∷ []) ≡ observance_of ls
 observance-end ls l e = observance_of-more ls l ∙ ap (λ n. observance_note n (parts_at l) (observance_of ls)) e
 
--- all lines stand before the line, which ends the innermost component, or in another
-abbrev pub Closes : List Placed → List Placed → Placed → Type 0
-Closes whole before l = (c : Open) (cs : List Open) → l.path ≡ c ∷ cs → path_behind l ≡ cs → lines_in c.begun whole ≡ lines_in c.begun before ++ l ∷ []
+-- where the line ends the innermost component, all lines in that stand before it
+abbrev pub Closes : List Placed → List Placed → Placed → List Bundle → Type 0
+Closes whole before l [] = Unit {0}
+Closes whole before l (f ∷ fs) = path_behind l ≡ opens fs → lines_in f.begin.number whole ≡ lines_in f.begin.number before ++ l ∷ []
 
 module _ (whole before : List Placed) where
   -- a line joins the innermost component
-  added : (l : Placed) (path : List Open) (bundles : List Bundle) → Keeps before [] path bundles → is_begin l ≡ false →
-      frames_of whole path (add_line l bundles) ≡ noted (name_of (property_name l.content)) (parts_at l) (frames_of whole path bundles)
-  added l [] bundles k e = refl
-  added l (c ∷ cs) [] k e = absurd k
-  added l (c ∷ cs) (b ∷ bs) k e =
-      let q : Context = context_of (c ∷ cs) in
-      ap (λ s. record { component = component_of c.name; context = q; calendar = calendar_of (c ∷ cs); builder = s } ∷ frames_of whole cs bs)
-      (builder-more whole (c ∷ cs) b.lines q l e)
+  added : (l : Placed) (bundles : List Bundle) → is_begin l ≡ false →
+      frames_of whole (add_line l bundles) ≡ noted (name_of (property_name l.content)) (parts_at l) (frames_of whole bundles)
+  added l [] e = refl
+  added l (b ∷ bs) e =
+      let path : List Open = opens (b ∷ bs) in
+      ap (λ s. record { component = component_of (component b.begin); context = context_of path; calendar = calendar_of path; builder = s } ∷ frames_of whole bs)
+      (builder-more whole path b.lines (context_of path) l e)
 
   fresh-at : (c : Component) (q : Context) (path : List Open) →
       frame_at c q (readings whole path []) ≡ record { component = c; context = q; calendar = calendar_of path; builder = fresh q }
   fresh-at c context.Event path = refl
   fresh-at c _ path = refl
 
-  calendar-is : (name : List ℕ) (number : ℕ) (path : List Open) (bundles : List Bundle) → Keeps before [] path bundles →
-      calendar_of (record { name = name; begun = number } ∷ path) ≡ calendar_in number (frames_of whole path bundles)
-  calendar-is name number [] bundles k = refl
-  calendar-is name number (c ∷ cs) [] k = absurd k
-  calendar-is name number (c ∷ []) (b ∷ bs) k = refl
-  calendar-is name number (c ∷ d ∷ ds) (b ∷ []) k = absurd k.1
-  calendar-is name number (c ∷ d ∷ ds) (b ∷ e ∷ es) k = refl
-
-  opened-over : (number : ℕ) (c : Component) (path : List Open) (bundles : List Bundle) → Keeps before [] path bundles →
+  opened-over : (f : Bundle) (c : Component) (bundles : List Bundle) →
       record {
         component = c;
-        context = context_in (context_of path) c;
-        calendar = calendar_in number (frames_of whole path bundles);
-        builder = fresh (context_in (context_of path) c);
-      } ∷ frames_of whole path bundles
-      ≡ opened number c (frames_of whole path bundles)
-  opened-over number c [] bundles k = refl
-  opened-over number c (d ∷ ds) [] k = absurd k
-  opened-over number c (d ∷ ds) (b ∷ bs) k = refl
+        context = context_in (context_of (opens bundles)) c;
+        calendar = calendar_of (opens (f ∷ bundles));
+        builder = fresh (context_in (context_of (opens bundles)) c);
+      } ∷ frames_of whole bundles
+      ≡ opened f.begin.number c (frames_of whole bundles)
+  opened-over f c [] = refl
+  opened-over f c (b ∷ []) = refl
+  opened-over f c (b ∷ d ∷ ds) = refl
 
-  begun : (l : Placed) (path : List Open) (bundles : List Bundle) → Keeps before [] path bundles →
-      frames_of whole (record { name = component l; begun = l.number } ∷ path) (record { begin = l; lines = [] } ∷ bundles)
-      ≡ opened l.number (component_of (component l)) (frames_of whole path bundles)
-  begun l path bundles k =
+  begun : (l : Placed) (bundles : List Bundle) →
+      frames_of whole (record { begin = l; lines = [] } ∷ bundles) ≡ opened l.number (component_of (component l)) (frames_of whole bundles)
+  begun l bundles =
       let c : Component = component_of (component l) in
-      let q : Context = context_in (context_of path) c in
-      ap (λ (f : Frame). f ∷ frames_of whole path bundles) (fresh-at c q (record { name = component l; begun = l.number } ∷ path))
-      ∙ ap (λ (m : ℕ). record { component = c; context = q; calendar = m; builder = fresh q } ∷ frames_of whole path bundles)
-      (calendar-is (component l) l.number path bundles k)
-      ∙ opened-over l.number c path bundles k
+      let new : Bundle = record { begin = l; lines = [] } in
+      ap (λ (f : Frame). f ∷ frames_of whole bundles) (fresh-at c (context_in (context_of (opens bundles)) c) (opens (new ∷ bundles)))
+      ∙ opened-over new c bundles
 
   -- what is collected of a component that ends, and of the one that it stands in
-  closed-in : (l : Placed) {c : Open} {cs : List Open} {f : Bundle} (g : Bundle) → name_of (property_name l.content) ≡ name.End →
-      lines_in c.begun whole ≡ lines_in c.begun before ++ l ∷ [] → IsKept before [] c cs f →
-      builder_at (context_of cs) (readings whole cs (g.lines ++ f.begin ∷ []))
-      ≡ joined (builder_at (context_of (c ∷ cs)) (readings whole (c ∷ cs) f.lines)) (builder_at (context_of cs) (readings whole cs g.lines))
-  closed-in l {c} {cs} {f} g n w kept =
-      let inner : Readings = readings whole (c ∷ cs) f.lines in
-      let number : f.begin.number ≡ c.begun = ap innermost kept.opened in
-      let all : lines_in f.begin.number whole ≡ f.lines ++ l ∷ [] =
-      ap (λ m. lines_in m whole) number ∙ w ∙ ap (λ ls. ls ++ l ∷ []) (kept.lines ∙ append-nil f.lines) in
+  closed-in : (l : Placed) (f g : Bundle) (gs : List Bundle) → name_of (property_name l.content) ≡ name.End →
+      lines_in f.begin.number whole ≡ f.lines ++ l ∷ [] → IsKept f (g ∷ gs) →
+      builder_at (context_of (opens (g ∷ gs))) (readings whole (opens (g ∷ gs)) (g.lines ++ f.begin ∷ []))
+      ≡ joined (builder_at (context_of (opens (f ∷ g ∷ gs))) (readings whole (opens (f ∷ g ∷ gs)) f.lines))
+      (builder_at (context_of (opens (g ∷ gs))) (readings whole (opens (g ∷ gs)) g.lines))
+  closed-in l f g gs n w kept =
+      let outer : List Open = opens (g ∷ gs) in
+      let inner : Readings = readings whole (opens (f ∷ g ∷ gs)) f.lines in
       let same : own whole f.begin ≡ observance_ended inner.observance =
-      ap (λ ls. observance_ended (observance_of ls)) all ∙ ap observance_ended (observance-end f.lines l n) in
-      ap (λ q. builder_at q (readings whole cs (g.lines ++ f.begin ∷ []))) (sym (ap context_of (path-of f.begin c cs kept.opened)))
-      ∙ builder-begun whole cs g.lines (context_of f.begin.path) f.begin inner (begin-named f.begin kept.begins) kept.begins same
-      ∙ ap (λ (path : List Open). joined (builder_at (context_of path) inner) (builder_at (context_of (drop 1 path)) (readings whole cs g.lines))) kept.opened
+      ap (λ ls. observance_ended (observance_of ls)) w ∙ ap observance_ended (observance-end f.lines l n) in
+      builder-begun whole outer g.lines (context_of outer) f.begin inner (begin-named f.begin kept.begins) kept.begins same
+      ∙ ap (λ (path : List Open). joined (builder_at (context_of (record { name = component f.begin; begun = f.begin.number } ∷ path)) inner)
+      (builder_at (context_of outer) (readings whole outer g.lines))) kept.stands
 
-  closed-over : (l : Placed) (path : List Open) (bundles : List Bundle) → Keeps before [] path bundles → name_of (property_name l.content) ≡ name.End →
-      ((c : Open) (cs : List Open) → path ≡ c ∷ cs → lines_in c.begun whole ≡ lines_in c.begun before ++ l ∷ []) →
-      frames_of whole (drop 1 path) (close l bundles) ≡ closed (frames_of whole path bundles)
-  closed-over l [] bundles k n w = refl
-  closed-over l (c ∷ cs) [] k n w = absurd k
-  closed-over l (c ∷ []) (f ∷ []) k n w = absurd k.1
-  closed-over l (c ∷ d ∷ ds) (f ∷ []) k n w = absurd k.1
-  closed-over l (c ∷ []) (f ∷ g ∷ gs) k n w =
-      ap (λ s. record bottom { builder = s } ∷ []) (sym (nothing-still (builder_at (context_of (c ∷ [])) (readings whole (c ∷ []) f.lines))))
-  closed-over l (c ∷ d ∷ ds) (f ∷ g ∷ gs) k n w =
-      ap (λ s. record { component = component_of d.name; context = context_of (d ∷ ds); calendar = calendar_of (d ∷ ds); builder = s } ∷ frames_of whole ds gs)
-      (closed-in l g n (w c (d ∷ ds) refl) k.0)
+  closed-over : (l : Placed) (bundles : List Bundle) → Keeps before [] bundles → name_of (property_name l.content) ≡ name.End →
+      path_behind l ≡ drop 1 (opens bundles) → Closes whole before l bundles → frames_of whole (close bundles) ≡ closed (frames_of whole bundles)
+  closed-over l [] k n moved w = refl
+  closed-over l (f ∷ []) k n moved w =
+      ap (λ s. record bottom { builder = s } ∷ [])
+      (sym (still (builder_at (context_of (opens (f ∷ []))) (readings whole (opens (f ∷ [])) f.lines)) context.Outside (readings whole [] []) refl))
+  closed-over l (f ∷ g ∷ gs) k n moved w =
+      let path : List Open = opens (g ∷ gs) in
+      ap (λ s. record { component = component_of (component g.begin); context = context_of path; calendar = calendar_of path; builder = s } ∷ frames_of whole gs)
+      (closed-in l f g gs n (w moved ∙ ap (λ ls. ls ++ l ∷ []) (k.0 ∙ append-nil f.lines)) k.1)
 
   -- a line keeps the frames
-  pub frames-behind : (line : Line) (path : List Open) (v : Parts) (bundles : List Bundle) → Keeps before [] path bundles →
-      Closes whole before (with line path v) →
-      frames_of whole (path_behind (with line path v)) (bundles_behind (with line path v) bundles)
-      ≡ behind line.number (name_of (map upper v.name)) v (frames_of whole path bundles)
-  frames-behind line path v bundles k w = by_name (name_of (map upper v.name)) refl
+  pub frames-behind : (line : Line) (v : Parts) (bundles : List Bundle) → Keeps before [] bundles →
+      Closes whole before (with line (opens bundles) v) bundles →
+      frames_of whole (bundles_behind (with line (opens bundles) v) bundles) ≡ behind line.number (name_of (map upper v.name)) v (frames_of whole bundles)
+  frames-behind line v bundles k w = by_name (name_of u) refl (begin-is u (name_of u) (tells u)) (end-is u (name_of u) (tells u))
     where
       l : Placed
-      l = with line path v
+      l = with line (opens bundles) v
 
       u : List ℕ
       u = map upper v.name
 
-      Shown : Name → Bool → Bool → Type 0
-      Shown n b e =
-          frames_of whole (cond b (record { name = component l; begun = l.number } ∷ path) (cond e (drop 1 path) path))
-          (cond b (record { begin = l; lines = [] } ∷ bundles) (cond e (close l bundles) (add_line l bundles)))
-          ≡ behind line.number n v (frames_of whole path bundles)
+      by_name : (n : Name) → name_of u ≡ n → is_begin l ≡ is_begin_name n → is_end l ≡ is_end_name n →
+          frames_of whole (bundles_behind l bundles) ≡ behind line.number n v (frames_of whole bundles)
+      by_name name.Begin m b e = rw b (begun l bundles)
+      by_name name.End m b e = rw (b, e) (closed-over l bundles k m (rw (b, e)) w)
+      by_name _ m b e = rw (b, e) (added l bundles b ∙ ap (λ n. noted n v (frames_of whole bundles)) m)
 
-      shown : {n : Name} → name_of u ≡ n → (b e : Bool) → is_begin_name n ≡ b → is_end_name n ≡ e → Shown n b e → Shown n (is_begin l) (is_end l)
-      shown {n} m b e p q s =
-          let at_begin : is_begin l ≡ b = begin-is u (name_of u) (tells u) ∙ ap is_begin_name m ∙ p in
-          let at_end : is_end l ≡ e = end-is u (name_of u) (tells u) ∙ ap is_end_name m ∙ q in
-          subst (λ (t : Bool). Shown n t (is_end l)) (sym at_begin) (subst (λ (t : Bool). Shown n b t) (sym at_end) s)
-
-      by_name : (n : Name) → name_of u ≡ n → frames_of whole (path_behind l) (bundles_behind l bundles) ≡ behind line.number n v (frames_of whole path bundles)
-      by_name name.Begin m = shown m true false refl refl (begun l path bundles k)
-      by_name name.End m =
-          let not_begin : is_begin l ≡ false = begin-is u (name_of u) (tells u) ∙ ap is_begin_name m in
-          let at_end : is_end l ≡ true = end-is u (name_of u) (tells u) ∙ ap is_end_name m in
-          let out : path_behind l ≡ drop 1 path =
-          ap (λ t. cond t (record { name = component l; begun = l.number } ∷ path) (cond (is_end l) (drop 1 path) path)) not_begin
-          ∙ ap (λ t. cond t (drop 1 path) path) at_end in
-          shown m false true refl refl (closed-over l path bundles k m (λ c cs p. w c cs p (out ∙ ap (drop 1) p)))
-      by_name _ m =
-          let not_begin : is_begin l ≡ false = begin-is u (name_of u) (tells u) ∙ ap is_begin_name m in
-          shown m false false refl refl (added l path bundles k not_begin ∙ ap (λ n. noted n v (frames_of whole path bundles)) m)
-
-  length-frames : (path : List Open) (bundles : List Bundle) (up : List Placed) → Keeps before up path bundles →
-      length (frames_of whole path bundles) ≡ length path + 1
-  length-frames [] bundles up k = refl
-  length-frames (c ∷ cs) [] up k = absurd k
-  length-frames (c ∷ cs) (b ∷ bs) up k = let again = length-frames cs bs (b.begin ∷ []) k.1 in omega (arith, again)
+  length-frames : (bundles : List Bundle) → length (frames_of whole bundles) ≡ length (opens bundles) + 1
+  length-frames [] = refl
+  length-frames (b ∷ bs) = let again = length-frames bs in omega (arith, again)
 
   -- the faults of a line read the innermost frame alone
-  pub fault-top : (n : Name) (v : Parts) (path : List Open) (bundles : List Bundle) → Keeps before [] path bundles →
-      fault_on n v (frames_of whole path bundles) ≡ fault_in n v (top_of whole path bundles) (length path)
-  fault-top n v [] bundles k = refl
-  fault-top n v (c ∷ cs) [] k = absurd k
-  fault-top n v (c ∷ cs) (b ∷ bs) k =
-      let long : length (frames_of whole cs bs) ≡ length (c ∷ cs) = let n = length-frames cs bs (b.begin ∷ []) k.1 in omega (arith, n) in
-      ap (λ m. fault_in n v (frame_of whole (c ∷ cs) b.lines) m) long
+  pub fault-top : (n : Name) (v : Parts) (bundles : List Bundle) →
+      fault_on n v (frames_of whole bundles) ≡ fault_in n v (top_of whole before bundles) (length (opens bundles))
+  fault-top name.End v [] = refl
+  fault-top name.End v (b ∷ []) = sym (end-inside _ _ _ (context-in-outside context.Outside (component_of (component b.begin))))
+  fault-top name.End v (b ∷ d ∷ ds) = sym (end-inside _ _ _ (context-in-outside (context_of (opens (d ∷ ds))) (component_of (component b.begin))))
+  fault-top _ v [] = refl
+  fault-top n v (b ∷ bs) =
+      let long : length (frames_of whole bs) ≡ length (opens (b ∷ bs)) = let n = length-frames bs in omega (arith, n) in
+      ap (λ m. fault_in n v (frame_of whole (opens (b ∷ bs)) b.lines) m) long
 
-  pub check-top : (n : Name) (v : Parts) (path : List Open) (bundles : List Bundle) → Keeps before [] path bundles →
-      check_on n v (frames_of whole path bundles) ≡ check_in n v (top_of whole path bundles)
-  check-top n v [] bundles k = refl
-  check-top n v (c ∷ cs) [] k = absurd k
-  check-top n v (c ∷ cs) (b ∷ bs) k = refl
-
-  pub based : (path : List Open) (bundles : List Bundle) (up : List Placed) → Keeps before up path bundles → IsBased (frames_of whole path bundles)
-  based [] bundles up k = refl
-  based (c ∷ cs) [] up k = absurd k
-  based (c ∷ []) (b ∷ bs) up k = (context-in-outside context.Outside (component_of c.name), based [] bs (b.begin ∷ []) k.1)
-  based (c ∷ d ∷ ds) (b ∷ []) up k = absurd k.1
-  based (c ∷ d ∷ ds) (b ∷ e ∷ es) up k = (context-in-outside (context_of (d ∷ ds)) (component_of c.name), based (d ∷ ds) (e ∷ es) (b.begin ∷ []) k.1)
+  pub check-top : (n : Name) (v : Parts) (bundles : List Bundle) → check_on n v (frames_of whole bundles) ≡ check_in n v (top_of whole before bundles)
+  check-top n v [] = refl
+  check-top n v (b ∷ bs) = refl

@@ -1,6 +1,6 @@
 -- What a line makes of the components that are open, told apart: the fault on it, and what stands behind it where there is none.
-use Rattle.std.proofs.Common.{◌≡◌, ◌≢◌, ℕ, Bool, true, false, List, [], ◌∷◌, map, refl, sym, ap, cond, Option, Some, None}
-use Rattle.std.specs.Prelude.{length, nat_le}
+use Rattle.std.proofs.Common.{◌≡◌, ◌≢◌, ℕ, Bool, true, false, List, [], ◌∷◌, map, refl, cond, Option, Some, None}
+use Rattle.std.specs.Prelude.{nat_le}
 use Rattle.std.specs.Str.{bytes_eq}
 use Rattle.ics_text.specs.Bytes.{upper}
 use Rattle.ics_text.specs.ContentLines.{Parts}
@@ -19,7 +19,7 @@ use Rattle.ics_components.specs.declared.builder.Builder.{Builder}
 use Rattle.ics_components.specs.Components.{component_of, component_name}
 use Rattle.ics_components.specs.Lines.{unless, first, fault_if, builder_fault, builder_note, builder_check, passed, fault_at_end_of, ended_as, joined}
 use Rattle.ics_components.specs.Lines.{end_check}
-use Rattle.ics_components.specs.Lines.{opened, outside_fault, named_line}
+use Rattle.ics_components.specs.Lines.{opened, outside_fault, begin_fault, frame_fault, named_line}
 
 abbrev pub ended_in : Frame → Ended
 ended_in f = ended_as f.calendar f.builder
@@ -40,8 +40,11 @@ check_in name.End c f = end_check f.calendar f.builder
 check_in n c f = builder_check f.calendar n c f.builder
 
 abbrev pub fault_on : Name → Parts → List Frame → Option FaultKind
-fault_on n c [] = None
-fault_on n c (f ∷ fs) = fault_in n c f (length fs)
+fault_on name.Begin c frames = begin_fault (component_of (map upper c.value)) frames
+fault_on name.End c (f ∷ g ∷ gs) = frame_fault (map upper c.value) f
+fault_on name.End c _ = Some kind.NotCalendar
+fault_on n c [] = Some kind.NotCalendar
+fault_on n c (f ∷ fs) = builder_fault f.context n c f.builder
 
 abbrev pub check_on : Name → Parts → List Frame → Option DeferredCheck
 check_on n c [] = None
@@ -68,28 +71,17 @@ ends _ _ = ended.Nothing
 abbrev pub passing : Name → Parts → List Frame → Passed
 passing n c frames = passed (ends n frames) (check_on n c frames)
 
--- Outside all components stands the lowest frame alone.
-abbrev pub IsBased : List Frame → Type 0
-IsBased [] = ⊥
-IsBased (f ∷ []) = f.context ≡ context.Outside
-IsBased (f ∷ g ∷ gs) = (f.context ≢ context.Outside) × IsBased (g ∷ gs)
+pub line-is : (number : ℕ) (n : Name) (c : Parts) (frames : List Frame) →
+    named_line number n c frames ≡ unless (fault_on n c frames) (behind number n c frames, passing n c frames)
+line-is number name.End c (f ∷ g ∷ gs) = refl
+line-is number name.End c _ = refl
+line-is number _ c [] = refl
+line-is number _ c (f ∷ fs) = refl
 
-end-inside : (q : Context) (matches : Bool) (s : Builder) → q ≢ context.Outside →
+pub end-inside : (q : Context) (matches : Bool) (s : Builder) → q ≢ context.Outside →
     end_fault_at q matches s ≡ cond matches (fault_at_end_of s) (Some kind.BadNesting)
 end-inside context.Outside matches s n = absurd (n refl)
 end-inside _ matches s n = refl
-
-pub line-is : (number : ℕ) (n : Name) (c : Parts) (frames : List Frame) → IsBased frames →
-    named_line number n c frames ≡ unless (fault_on n c frames) (behind number n c frames, passing n c frames)
-line-is number n c [] b = absurd b
-line-is number name.Begin c (f ∷ fs) b = refl
-line-is number name.End c (f ∷ []) b =
-    ap (λ q. unless (end_fault_at q (bytes_eq (map upper c.value) (component_name f.component)) f.builder)
-    (f ∷ [], passed ended.Nothing (end_check f.calendar f.builder))) (sym b)
-line-is number name.End c (f ∷ g ∷ gs) b =
-    ap (λ o. unless o (closed (f ∷ g ∷ gs), passed (ended_in f) (end_check f.calendar f.builder)))
-    (sym (end-inside f.context (bytes_eq (map upper c.value) (component_name f.component)) f.builder b.0))
-line-is number _ c (f ∷ fs) b = refl
 
 -- the same by whether a component begins or ends there
 abbrev pub is_begin_name : Name → Bool

@@ -1,7 +1,6 @@
 pub mod NameLemmas
 pub mod DateValueLemmas
 pub mod Judged
-pub mod Rows
 pub mod Table
 pub mod Built
 mod BuilderLemmas

@@ -1,9 +1,10 @@
 -- One pass with the components that are open finds the first fault of round one, and gathers what the lines say.
-use Rattle.std.proofs.Common.{◌≡◌, ℕ, ◌+◌, ◌<◌, ◌≤◌, List, [], ◌∷◌, ◌++◌, map, refl, sym, ap, subst, ◌∙◌, append_assoc, arith, cond, Option, Some, None}
+use Rattle.std.proofs.Common.{◌≡◌, ℕ, ◌+◌, ◌<◌, ◌≤◌, List, [], ◌∷◌, ◌++◌, map, refl, sym, ap, ◌∙◌, append_assoc, arith, cond, Option, Some, None}
 use Rattle.std.proofs.Common.{Result}
 use Rattle.std.proofs.Common.{◌^◌, Err}
 use Rattle.std.specs.Prelude.{find, length}
 use Rattle.std.proofs.lemmas.List.{append-nil}
+use Rattle.std.proofs.lemmas.List.Elements.{All-nil, All-push, All-weaker}
 use Rattle.ics_text.specs.Bytes.{upper}
 use Rattle.ics_text.specs.Unfolded.{Line, Rises, Within}
 use Rattle.ics_text.specs.ContentLines.{Parts, content_of}
@@ -26,35 +27,27 @@ use Rattle.ics_components.specs.Gathered.{nothing_gathered, zones_of_end, events
 use Rattle.ics_components.specs.Lines.{unless as fine}
 use Rattle.ics_components.specs.Names.{name_of}
 use Rattle.ics_components.specs.Pass.{bottom, is_lowest, at_end, unless, Going, on_line, on_content, pass, NumbersFit}
-use Rattle.ics_components.proofs.Judged.{fault_in, fault_on, check_in, check_on, behind, ends, passing, line-is}
+use Rattle.ics_components.proofs.Judged.{fault_in, fault_on, check_in, behind, ends, passing, line-is}
 use Rattle.ics_components.proofs.Table.{parts, any-part, frame_of, IsAsked, least-same}
-use Rattle.ics_components.proofs.Bundles.{Bundle, Keeps, Together, Before, falls, top_beside, together, together-in, zone-lines, bundles_behind, keeps}
-use Rattle.ics_components.proofs.Bundles.{Before-more}
-use Rattle.ics_components.proofs.Bundles.{Before-later}
-use Rattle.ics_components.proofs.Bundles.{innermost-behind}
-use Rattle.ics_components.proofs.Frames.{frames_of, top_of, with, Closes, frames-behind, fault-top, check-top, based}
+use Rattle.ics_components.proofs.Bundles.{Bundle, Keeps, Together, Before, falls, open_of, opens, opens-behind, top_beside, together, together-in, zone-lines}
+use Rattle.ics_components.proofs.Bundles.{bundles_behind, keeps}
+use Rattle.ics_components.proofs.Frames.{frames_of, top_of, with, Closes, frames-behind, fault-top, check-top}
 use Rattle.ics_components.proofs.Order.{last-more}
-use Rattle.ics_components.proofs.Order.{Falls, Absent, below, gone, lines_in-whole}
+use Rattle.ics_components.proofs.Order.{falls-behind, lines_in-whole}
 use Rattle.ics_components.proofs.Order.{Sort, ended_as, ended_from, nested}
 use Rattle.ics_components.proofs.Ended.{events, zones, Picks, events-picked, zones-picked, picked-same, IsMatched}
 
 -- WHERE THE LINES END.
-lowest-is : (whole before up : List Placed) (path : List Open) (bundles : List Bundle) → Keeps before up path bundles →
-    is_lowest (frames_of whole path bundles) ≡ no_open path
-lowest-is whole before up [] bundles k = refl
-lowest-is whole before up (c ∷ cs) [] k = absurd k
-lowest-is whole before up (c ∷ []) (b ∷ bs) k = refl
-lowest-is whole before up (c ∷ d ∷ ds) (b ∷ []) k = absurd k.1
-lowest-is whole before up (c ∷ d ∷ ds) (b ∷ e ∷ es) k = refl
+lowest-is : (whole : List Placed) (bundles : List Bundle) → is_lowest (frames_of whole bundles) ≡ no_open (opens bundles)
+lowest-is whole [] = refl
+lowest-is whole (b ∷ []) = refl
+lowest-is whole (b ∷ d ∷ ds) = refl
 
-fault_at_end-more : (before : List Placed) (l : Placed) → fault_at_end (before ++ l ∷ []) ≡ end_fault (Some l)
-fault_at_end-more before l = ap end_fault (last-more before l)
-
-end-is-known : (whole before : List Placed) (l : Placed) (bundles : List Bundle) → Keeps (before ++ l ∷ []) [] (path_behind l) bundles →
-    at_end (frames_of whole (path_behind l) bundles) (Some l.number) ≡ fault_at_end (before ++ l ∷ [])
-end-is-known whole before l bundles k =
-    ap (λ t. cond t None (Some (record { line = l.number + 1; kind = BadNesting }))) (lowest-is whole (before ++ l ∷ []) [] (path_behind l) bundles k)
-    ∙ sym (fault_at_end-more before l)
+end-is-known : (whole before : List Placed) (l : Placed) (bundles : List Bundle) → opens bundles ≡ path_behind l →
+    at_end (frames_of whole bundles) (Some l.number) ≡ fault_at_end (before ++ l ∷ [])
+end-is-known whole before l bundles at =
+    ap (λ t. cond t None (Some (record { line = l.number + 1; kind = BadNesting }))) (lowest-is whole bundles ∙ ap no_open at)
+    ∙ sym (ap end_fault (last-more before l))
 
 -- WHAT IS GATHERED of the lines, given those before.
 abbrev pub later_by : Option Parts → Frame → Option DeferredCheck
@@ -96,12 +89,12 @@ passes : {X : Type 0} (number : ℕ) (kind : Option FaultKind) (first : Option F
 passes number (Some k) first x = refl
 passes number None first x = refl
 
--- Where the pass is: at lines behind those before them, with the components that are open, and a bundle of lines for each.
-record IsAt (whole before : List Placed) (bundles : List Bundle) (path : List Open) (n : ℕ) (lines : List Line) : Type 0 where
-  pub parts : whole ≡ before ++ placed_from path lines
-  pub kept : Keeps before [] path bundles
+-- Where the pass is: at lines behind those before them, with a bundle of lines for each component that is open.
+record IsAt (whole before : List Placed) (bundles : List Bundle) (n : ℕ) (lines : List Line) : Type 0 where
+  pub parts : whole ≡ before ++ placed_from (opens bundles) lines
+  pub kept : Keeps before [] bundles
   pub earlier : Before (n + 1) before
-  pub inner : innermost path ≤ n
+  pub inner : innermost (opens bundles) ≤ n
   pub rises : Rises n lines
 
 abbrev pub with_content : Line → List Open → Option Parts → Placed
@@ -110,79 +103,75 @@ with_content line path o = record { number = line.number; content = o; path = pa
 -- the same on a line and before those behind it
 record IsOn (whole before : List Placed) (bundles : List Bundle) (l : Placed) (lines : List Line) : Type 0 where
   pub parts : whole ≡ before ++ l ∷ placed_from (path_behind l) lines
-  pub kept : Keeps before [] l.path bundles
+  pub place : opens bundles ≡ l.path
+  pub kept : Keeps before [] bundles
   pub earlier : Before l.number before
   pub inner : innermost l.path < l.number
   pub rises : Rises l.number lines
 
-on-line : (line : Line) {lines : List Line} {whole before : List Placed} {bundles : List Bundle} {path : List Open} {n : ℕ} →
-    IsAt whole before bundles path n (line ∷ lines) → IsOn whole before bundles (with_content line path (content_of line.bytes)) lines
+later : (m n : ℕ) (before : List Placed) → m ≤ n → Before m before → Before n before
+later m n before le = All-weaker (λ l. innermost l.path < m) (λ l. innermost l.path < n) (λ l h. omega (arith, h, le)) before
+
+on-line : (line : Line) {lines : List Line} {whole before : List Placed} {bundles : List Bundle} {n : ℕ} →
+    IsAt whole before bundles n (line ∷ lines) → IsOn whole before bundles (with_content line (opens bundles) (content_of line.bytes)) lines
 on-line line {before = before} {n = n} at = record {
   parts = at.parts;
+  place = refl;
   kept = at.kept;
-  earlier = Before-later (n + 1) line.number before (omega (arith, at.rises.0)) at.earlier;
+  earlier = later (n + 1) line.number before (omega (arith, at.rises.0)) at.earlier;
   inner = omega (arith, at.inner, at.rises.0);
   rises = at.rises.1;
 }
 
 at-next : {whole before : List Placed} {bundles : List Bundle} (l : Placed) {lines : List Line} → IsOn whole before bundles l lines →
-    IsAt whole (before ++ l ∷ []) (bundles_behind l bundles) (path_behind l) l.number lines
+    IsAt whole (before ++ l ∷ []) (bundles_behind l bundles) l.number lines
 at-next {before = before} {bundles = bundles} l {lines} on = record {
-  parts = on.parts ∙ sym (append_assoc before (l ∷ []) (placed_from (path_behind l) lines));
-  kept = keeps before l bundles on.earlier on.inner on.kept;
-  earlier = Before-more (l.number + 1) before l (Before-later l.number (l.number + 1) before (omega arith) on.earlier) (omega (arith, on.inner));
-  inner = innermost-behind l on.inner bundles before on.kept;
+  parts = rw (opens-behind l bundles on.place) (on.parts ∙ sym (append_assoc before (l ∷ []) (placed_from (path_behind l) lines)));
+  kept = keeps before l bundles on.earlier on.inner on.place on.kept;
+  earlier =
+      All-push (λ k. innermost k.path < l.number + 1) before l (later l.number (l.number + 1) before (omega arith) on.earlier) (omega (arith, on.inner));
+  inner = rw (opens-behind l bundles on.place) (falls-behind l (rw on.place at (falls before [] bundles on.kept)) on.inner).1;
   rises = on.rises;
 }
 
 abbrev Known : List Line → Type 0
 Known lines =
-    (whole before : List Placed) (bundles : List Bundle) (path : List Open) (n : ℕ) (last : Option ℕ) (had : GatheredSeen) →
-    IsAt whole before bundles path n lines → at_end (frames_of whole path bundles) last ≡ fault_at_end before →
-    pass (frames_of whole path bundles) last had lines
-    ≡ unless (first_from stands fault_at_end before (placed_from path lines)) (gathered_from whole had before (placed_from path lines))
+    (whole before : List Placed) (bundles : List Bundle) (n : ℕ) (last : Option ℕ) (had : GatheredSeen) →
+    IsAt whole before bundles n lines → at_end (frames_of whole bundles) last ≡ fault_at_end before →
+    pass (frames_of whole bundles) last had lines
+    ≡ unless (first_from stands fault_at_end before (placed_from (opens bundles) lines)) (gathered_from whole had before (placed_from (opens bundles) lines))
 
-module _ (whole before : List Placed) (line : Line) (path : List Open) (v : Parts) (bundles : List Bundle) (k : Keeps before [] path bundles) where
+-- the lines of a component all stand before its END
+closes-here : (whole before : List Placed) (l : Placed) (bundles : List Bundle) (lines : List Line) → IsOn whole before bundles l lines →
+    Closes whole before l bundles
+closes-here whole before l [] lines on = tt
+closes-here whole before l (f ∷ fs) lines on =
+    λ e. ap (lines_in f.begin.number) on.parts
+    ∙ lines_in-whole before l lines (open_of f) (opens fs) (sym on.place) e (falls before [] (f ∷ fs) on.kept) on.inner on.rises
+
+module _ (whole before : List Placed) (line : Line) (v : Parts) (bundles : List Bundle) (k : Keeps before [] bundles) where
   abbrev l : Placed
-  l = with line path v
+  l = with line (opens bundles) v
 
   abbrev n : Name
   n = name_of (map upper v.name)
 
-  abbrev frames : List Frame
-  frames = frames_of whole path bundles
-
-  beside-top : top_of whole path bundles ≡ frame_of whole path (beside before l)
-  beside-top = ap (frame_of whole path) (top_beside before l bundles k)
+  beside-top : top_of whole before bundles ≡ frame_of whole (opens bundles) (beside before l)
+  beside-top = ap (frame_of whole (opens bundles)) (top_beside before bundles k)
 
   -- a line adds what ends there as its component says, and what is checked there in the second round
-  ends-same : {X : Type 0} (s : Sort X) (pick : Ended → List X) → Picks whole s pick → IsMatched l → pick (ends n frames) ≡ ended_as s (beside before l) l
-  ends-same s pick picks m =
-      picked-same whole s pick picks line v before path bundles k m ∙ ap (λ ls. ended_as s ls l) (top_beside before l bundles k)
+  ends-same : {X : Type 0} (s : Sort X) (pick : Ended → List X) → Picks whole s pick → IsMatched l →
+      pick (ends n (frames_of whole bundles)) ≡ ended_as s (beside before l) l
+  ends-same s pick picks m = picked-same whole s pick picks line v before bundles m ∙ ap (λ ls. ended_as s ls l) (top_beside before bundles k)
 
   gathered-step : (had : GatheredSeen) (rest : List Placed) → IsMatched l →
-      gathered_from whole (and_passed line.number (passing n v frames) had) (before ++ l ∷ []) rest ≡ gathered_from whole had before (l ∷ rest)
+      gathered_from whole (and_passed line.number (passing n v (frames_of whole bundles)) had) (before ++ l ∷ []) rest
+      ≡ gathered_from whole had before (l ∷ rest)
   gathered-step had rest m =
-      three
-      (further had.zones (ended_as (zones whole) (beside before l) l) (zones_of_end (ends n frames)) (ended_from (zones whole) (before ++ l ∷ []) rest)
-      (ends-same (zones whole) zones_of_end (zones-picked whole) m))
-      (further had.events (ended_as events (beside before l) l) (events_of_end (ends n frames)) (ended_from events (before ++ l ∷ []) rest)
-      (ends-same events events_of_end (events-picked whole) m))
-      (further had.checks (checks_on whole (beside before l) l) (checks_of line.number (check_on n v frames)) (checks_from whole (before ++ l ∷ []) rest)
-      (ap (checks_of line.number) (check-top whole before n v path bundles k ∙ ap (check_in n v) beside-top)))
-
-  -- the lines of a component all stand before its END
-  closes-here : (lines : List Line) → whole ≡ before ++ l ∷ placed_from (path_behind l) lines → innermost path < line.number →
-      Rises line.number lines → Closes whole before l
-  closes-here lines w less r c cs p e =
-      let rest : List Placed = placed_from (path_behind l) lines in
-      let f : Falls (c ∷ cs) = subst (λ (q : List Open). Falls q) p (falls before [] path bundles k) in
-      let at : innermost path ≡ c.begun = ap innermost p in
-      let absent : Absent c.begun (path_behind l) = subst (λ (q : List Open). Absent c.begun q) (sym e) (below c.begun cs f.1 f.0) in
-      let none : lines_in c.begun rest ≡ [] =
-      gone c.begun (omega (arith, f.0)) line.number (path_behind l) lines (omega (arith, at, less)) absent r in
-      ap (lines_in c.begun) w ∙ ap (λ b. lines_in b (before ++ l ∷ rest)) (sym at) ∙ lines_in-whole before l rest (ap (λ b. lines_in b rest) at ∙ none)
-      ∙ ap (λ b. lines_in b before ++ l ∷ []) at
+      three (further had.zones _ _ (ended_from (zones whole) (before ++ l ∷ []) rest) (ends-same (zones whole) zones_of_end (zones-picked whole) m))
+      (further had.events _ _ (ended_from events (before ++ l ∷ []) rest) (ends-same events events_of_end (events-picked whole) m))
+      (further had.checks _ _ (checks_from whole (before ++ l ∷ []) rest)
+      (ap (checks_of line.number) (check-top whole before n v bundles ∙ ap (check_in n v) beside-top)))
 
 -- a line without a fault, and one with
 pub on-line-is : (number : ℕ) (o : Option FaultKind) (fs : List Frame) (p : Passed) (had : GatheredSeen) (later : Going) →
@@ -194,79 +183,73 @@ where-fine : {X : Type 0} (number : ℕ) (kind : Option FaultKind) (a b : Result
 where-fine number None a b e = e refl
 where-fine number (Some k) a b e = refl
 
-step : (line : Line) {lines : List Line} → Known lines → (o : Option Parts) {whole before : List Placed} {bundles : List Bundle} {path : List Open} →
-    IsOn whole before bundles (with_content line path o) lines → (had : GatheredSeen) →
-    on_content line.number o (frames_of whole path bundles) had (λ frames had. pass frames (Some line.number) had lines)
-    ≡ unless (first_from stands fault_at_end before (with_content line path o ∷ placed_from (path_behind (with_content line path o)) lines))
-    (gathered_from whole had before (with_content line path o ∷ placed_from (path_behind (with_content line path o)) lines))
+step : (line : Line) {lines : List Line} → Known lines → (o : Option Parts) {whole before : List Placed} {bundles : List Bundle} →
+    IsOn whole before bundles (with_content line (opens bundles) o) lines → (had : GatheredSeen) →
+    on_content line.number o (frames_of whole bundles) had (λ frames had. pass frames (Some line.number) had lines)
+    ≡ unless (first_from stands fault_at_end before (with_content line (opens bundles) o ∷ placed_from (path_behind (with_content line (opens bundles) o)) lines))
+    (gathered_from whole had before (with_content line (opens bundles) o ∷ placed_from (path_behind (with_content line (opens bundles) o)) lines))
 step line again None on had = refl
-step line {lines} again (Some v) {whole} {before} {bundles} {path} on had =
+step line {lines} again (Some v) {whole} {before} {bundles} on had =
+    let path : List Open = opens bundles in
     let l : Placed = with line path v in
     let m : Name = name_of (map upper v.name) in
-    let frames : List Frame = frames_of whole path bundles in
+    let frames : List Frame = frames_of whole bundles in
     let go : Going = λ frames had. pass frames (Some line.number) had lines in
-    let next : IsAt whole (before ++ l ∷ []) (bundles_behind l bundles) (path_behind l) line.number lines = at-next l on in
     let asked : IsAsked whole path (beside before l) =
-    λ z. zone-lines path z (beside before l) (together-in is_zone_context path (beside before l) refl z (together before l bundles on.kept))
+    λ z. zone-lines path z (beside before l) (together-in is_zone_context path (beside before l) refl z (together before bundles on.kept))
     ∙ any-part whole (beside before l) in
     let first : Option FaultKind = find (λ kind. stands kind (beside before l) l) kinds in
     let least : fault_on m v frames ≡ first =
-    fault-top whole before m v path bundles on.kept
-    ∙ ap (λ f. fault_in m v f (length path)) (beside-top whole before line path v bundles on.kept)
+    fault-top whole before m v bundles
+    ∙ ap (λ f. fault_in m v f (length path)) (beside-top whole before line v bundles on.kept)
     ∙ sym (least-same whole path line.number v (beside before l) asked) in
     let rest : List Placed = placed_from (path_behind l) lines in
     let first_behind : Option Fault = first_from stands fault_at_end (before ++ l ∷ []) rest in
     let now : GatheredSeen = and_passed line.number (passing m v frames) had in
-    ap (λ r. on_line line.number r had go) (line-is line.number m v frames (based whole before path bundles [] on.kept))
+    let moved = opens-behind l bundles refl in
+    ap (λ r. on_line line.number r had go) (line-is line.number m v frames)
     ∙ on-line-is line.number (fault_on m v frames) (behind line.number m v frames) (passing m v frames) had go
     ∙ ap (λ k. refused line.number k (go (behind line.number m v frames) now)) least
-    ∙ ap (λ fs. refused line.number first (go fs now))
-    (sym (frames-behind whole before line path v bundles on.kept (closes-here whole before line path v bundles on.kept lines on.parts on.inner on.rises)))
+    ∙ ap (λ fs. refused line.number first (go fs now)) (sym (frames-behind whole before line v bundles on.kept (closes-here whole before l bundles lines on)))
     ∙ ap (refused line.number first)
-    (again whole (before ++ l ∷ []) (bundles_behind l bundles) (path_behind l) line.number (Some line.number) now next
-    (end-is-known whole before l (bundles_behind l bundles) next.kept))
+    (rw moved at (again whole (before ++ l ∷ []) (bundles_behind l bundles) line.number (Some line.number) now (at-next l on)
+    (end-is-known whole before l (bundles_behind l bundles) moved)))
     ∙ where-fine line.number first (unless first_behind (gathered_from whole now (before ++ l ∷ []) rest))
     (unless first_behind (gathered_from whole had before (l ∷ rest)))
-    (λ none. ap (unless first_behind) (gathered-step whole before line path v bundles on.kept had rest (nested (λ kind. stands kind (beside before l) l) none)))
+    (λ none. ap (unless first_behind) (gathered-step whole before line v bundles on.kept had rest (nested (λ kind. stands kind (beside before l) l) none)))
     ∙ passes line.number first first_behind (gathered_from whole had before (l ∷ rest))
 
 -- THE PASS SAYS WHAT THE LINES ARE.
 pass-lines : (lines : List Line) → Known lines
-pass-lines [] whole before bundles path n last had at e =
+pass-lines [] whole before bundles n last had at e =
     ap (λ f. unless f had) e ∙ ap (unless (fault_at_end before)) (gathered-none whole had before)
-pass-lines (line ∷ lines) whole before bundles path n last had at e =
-    step line (pass-lines lines) (content_of line.bytes) (on-line line at) had
+pass-lines (line ∷ lines) whole before bundles n last had at e = step line (pass-lines lines) (content_of line.bytes) (on-line line at) had
 
 -- THE LINES DIRECTLY IN A COMPONENT stand before the same path.
 abbrev pub AreTogether : List Placed → List Placed → Type 0
 AreTogether before [] = Unit {0}
 AreTogether before (l ∷ ls) = Together l.path (beside before l) × AreTogether (before ++ l ∷ []) ls
 
-all-together : (lines : List Line) (whole before : List Placed) (bundles : List Bundle) (path : List Open) (n : ℕ) → IsAt whole before bundles path n lines →
-    AreTogether before (placed_from path lines)
-all-together [] whole before bundles path n at = tt
-all-together (line ∷ lines) whole before bundles path n at =
-    let l : Placed = with_content line path (content_of line.bytes) in (
-      together before l bundles at.kept,
-      all-together lines whole (before ++ l ∷ []) (bundles_behind l bundles) (path_behind l) line.number (at-next l (on-line line at)),
+all-together : (lines : List Line) (whole before : List Placed) (bundles : List Bundle) (n : ℕ) → IsAt whole before bundles n lines →
+    AreTogether before (placed_from (opens bundles) lines)
+all-together [] whole before bundles n at = tt
+all-together (line ∷ lines) whole before bundles n at =
+    let l : Placed = with_content line (opens bundles) (content_of line.bytes) in (
+      together before bundles at.kept,
+      rw (opens-behind l bundles refl) at (all-together lines whole (before ++ l ∷ []) (bundles_behind l bundles) line.number (at-next l (on-line line at))),
     )
 
--- below all components
-nowhere : Placed
-nowhere = record { number = 0; content = None; path = [] }
-
-first-at : (lines : List Line) → Rises 0 lines → IsAt (placed_from [] lines) [] (record { begin = nowhere; lines = [] } ∷ []) [] 0 lines
-first-at lines r = record { parts = refl; kept = refl; earlier = tt; inner = omega arith; rises = r }
+first-at : (lines : List Line) → Rises 0 lines → IsAt (placed_from [] lines) [] [] 0 lines
+first-at lines r = record { parts = refl; kept = tt; earlier = All-nil (λ l. innermost l.path < 1); inner = omega arith; rises = r }
 
 pub pass-whole : (lines : List Line) → Rises 0 lines →
     pass (bottom ∷ []) None nothing_gathered lines
     ≡ unless (first_fault (placed_from [] lines)) (gathered_from (placed_from [] lines) nothing_gathered [] (placed_from [] lines))
 pass-whole lines r =
-    pass-lines lines (placed_from [] lines) [] (record { begin = nowhere; lines = [] } ∷ []) [] 0 None nothing_gathered (first-at lines r) refl
+    pass-lines lines (placed_from [] lines) [] [] 0 None nothing_gathered (first-at lines r) refl
 
 pub together-whole : (lines : List Line) → Rises 0 lines → AreTogether [] (placed_from [] lines)
-together-whole lines r =
-    all-together lines (placed_from [] lines) [] (record { begin = nowhere; lines = [] } ∷ []) [] 0 (first-at lines r)
+together-whole lines r = all-together lines (placed_from [] lines) [] [] 0 (first-at lines r)
 
 -- there is a number after that of each line
 pub fits-from_within : (n : ℕ) (lines : List Line) → n + 1 < 2 ^ 64 → Within n lines → NumbersFit lines

@@ -29,7 +29,7 @@ sound-pass lines g r e = by_first (first_fault whole) refl (sym (pass-whole line
         let none = (finds-none stands fault_at_end [] whole h).0 in
         record {
           zones = zones-sound whole [] whole none (together-whole lines r);
-          whole = events-whole [] whole none;
+          whole = events-whole [] whole none (together-whole lines r);
           awaited =
               events-awaited Checked whole [] whole (All-nil (IsSeen Checked))
               (all-checks Checked (checks_from whole [] whole) (All-contains_itself (map (λ w. w.check) (checks_from whole [] whole))))

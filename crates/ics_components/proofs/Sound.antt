@@ -1,8 +1,9 @@
 -- What ends on the lines of a file is in order, by what its lines say of it.
-use Rattle.std.proofs.Common.{◌≡◌, ◌≢◌, ◌≤◌, ◌+◌, ◌*◌, ℕ, ℤ, pos, neg_ℤ, Bool, true, false, ◌&&◌, ◌||◌, not, nat_le, IsTrue, List, [], ◌∷◌, ◌++◌, map, get_or}
+use Rattle.std.proofs.Common.{◌≡◌, ◌≢◌, ◌≤◌, ◌+◌, ◌*◌, ℕ, ℤ, pos, neg_ℤ, Bool, true, false, ◌&&◌, not, nat_le, IsTrue, List, [], ◌∷◌, ◌++◌, map, get_or}
 use Rattle.std.proofs.Common.{refl, sym, ◌∙◌, ◌==◌, length, subst, arith, cond, Option, Some, None, is_some, IfSome, Result, Ok, Err}
 use Rattle.std.specs.Prelude.{codes, drop, take, find, filter, filter_map, flat_map, int_le, option_map, unwrap_or}
 use Rattle.std.specs.List.{All, list_all, list_any}
+use Rattle.std.proofs.lemmas.Bool.{and_parts, or_parts, not-false}
 use Rattle.std.proofs.lemmas.Bool.Decides.{nat_tests}
 use Rattle.std.proofs.lemmas.Int.{ints}
 use Rattle.std.proofs.lemmas.List.Elements.{All-nil, All-cons, All-append, All-head, All-tail, All-map}
@@ -24,25 +25,24 @@ use Rattle.ics_values.specs.declared.rule_text.RuleFault.{RuleFault}
 use Rattle.ics_values.specs.declared.stamp.Stamp.{Stamp}
 use Rattle.ics_values.specs.declared.stamp.Stamp.TheVariants.{Floating}
 use Rattle.ics_values.specs.declared.stamp.StampFault.{StampFault}
-use Rattle.ics_components.specs.Builders.{zone_ended, event_ended}
+use Rattle.ics_components.specs.Builders.{event_ended}
 use Rattle.ics_components.specs.Components.{is_zone_context}
 use Rattle.ics_components.specs.DateValues.{At, Between, Lasting, date_time_of, has_slash, rdate_of}
 use Rattle.ics_components.specs.Faults.{stands, kinds, dated_on, duration_on, rdates_on, exdates_on, first_text, first_dated, rule_on}
 use Rattle.ics_components.specs.FirstFault.{NoneStand}
 use Rattle.ics_components.specs.GivenTimes.{dated_in, given_length}
 use Rattle.ics_components.specs.Observances.{local_in, onset_in, offset_in, daily_in, onset_on, offset_on, daily_on, onsets_by, observance_by, begins_in_zone}
-use Rattle.ics_components.specs.PlacedLines.{Placed, value, params_of, beside, lines_in, calendar_of, has, first_named, all_named, in_zone, ends_event}
+use Rattle.ics_components.specs.PlacedLines.{Placed, context_of, value, params_of, beside, lines_in, calendar_of, has, first_named, all_named, in_zone, ends_event}
 use Rattle.ics_components.specs.PlacedLines.{ends_zone, is_closing, begins_observance}
 use Rattle.ics_components.specs.Sound.{IsSoundStamp, IsSoundList, IsSoundLength, IsWhole, IsSoundObservance, IsSoundZone}
 use Rattle.ics_components.specs.Values.{zone_name, lasting_of, is_lasting, is_filled, ends_badly}
 use Rattle.ics_components.specs.declared.dated.Dated.{Dated}
 use Rattle.ics_components.specs.declared.fault.FaultKind.{FaultKind}
 use Rattle.ics_components.specs.declared.fault.FaultKind.TheVariants.{NoObservance, MissingUid, MissingStart, BadEnd}
-use Rattle.ics_components.specs.declared.gathered.EndedZone.{EndedZone}
-use Rattle.ics_components.proofs.Built.{collected_of, zone_of}
+use Rattle.ics_components.proofs.Built.{collected_of}
 use Rattle.ics_components.proofs.Ended.{events, zones}
 use Rattle.ics_components.proofs.Listed.{All-flat_map}
-use Rattle.ics_components.proofs.Order.{ended_as, ended_from, none-found}
+use Rattle.ics_components.proofs.Order.{Sort, ended_as, ended_from, none-found}
 use Rattle.ics_components.proofs.SoundValues.{day-zero, stamp-range, sound-stamp, sound-lasting, sound-rdates, sound-exdates}
 use Rattle.ics_components.proofs.Table.{own as observance_at, parts, any-part, has-first}
 use Rattle.ics_components.proofs.Bundles.{Together, together-in, zone-lines}
@@ -180,22 +180,7 @@ here : (t b : Bool) → t ≡ true → (t && b) ≡ false → b ≡ false
 here true b e h = h
 here false b e h = cc
 
-pub both-true : (a b : Bool) → (a && b) ≡ true → (a ≡ true) × (b ≡ true)
-both-true true b e = (refl, e)
-both-true false b e = cc
-
-not-false : (b : Bool) → not b ≡ false → b ≡ true
-not-false true h = refl
-not-false false h = cc
-
-second : (a b : Bool) → (a || b) ≡ false → b ≡ false
-second true b h = cc
-second false b h = h
-
 -- A TIME ZONE that ends has an observance.
-abbrev IsSoundEnded : EndedZone → Type 0
-IsSoundEnded zone = IsSoundZone zone.observances
-
 not-empty : (os : List ObservanceSaid) → not (length os == 0) ≡ true → os ≢ []
 not-empty [] h = cc
 not-empty (o ∷ os) h = λ e. cc
@@ -203,7 +188,7 @@ not-empty (o ∷ os) h = λ e. cc
 zone-sound : (whole own : List Placed) (l : Placed) → ends_zone l ≡ true → find (λ kind. stands kind own l) kinds ≡ None → Together l.path own →
     IsSoundZone (parts whole own)
 zone-sound whole own l t e h =
-    let z : in_zone l ≡ true = (both-true (is_closing l) (in_zone l) t).1 in
+    let z : in_zone l ≡ true = (and_parts (is_closing l) (in_zone l) t).1 in
     let some : list_any begins_observance own ≡ true =
     not-false _ (here (ends_zone l) _ t (none-found (λ kind. stands kind own l) (take 7 kinds) (drop 8 kinds) NoObservance e)) in
     let there : not (length (parts whole own) == 0) ≡ true =
@@ -213,15 +198,6 @@ zone-sound whole own l t e h =
       filled = not-empty (parts whole own) there;
       sound = All-map IsSoundObservance (observance_at whole) begun (λ i d lt. observance-sound (lines_in (get_or begun i d).number whole));
     }
-
-pub zones-sound : (whole before lines : List Placed) → NoneStand stands before lines → AreTogether before lines →
-    All (λ z. IsSoundZone z.observances) (ended_from (zones whole) before lines)
-zones-sound whole before [] n h = All-nil IsSoundEnded
-zones-sound whole before (l ∷ ls) n h =
-    let own : List Placed = beside before l in
-    All-append IsSoundEnded (ended_as (zones whole) own l) (ended_from (zones whole) (before ++ l ∷ []) ls)
-    (one-ended IsSoundEnded (ends_zone l) (zone_ended (calendar_of l.path) (zone_of (parts whole own) own)) (λ t. zone-sound whole own l t n.0 h.0))
-    (zones-sound whole (before ++ l ∷ []) ls n.1 h.1)
 
 -- AN EVENT is in order as far as locals say.
 pub dated-said : (name : List ℕ) (own : List Placed) → IfSome (first_dated name own) IsSoundDated
@@ -254,7 +230,7 @@ event-whole own l t e =
     let times =
     times-sound (first_dated (codes "DTSTART") own) (first_dated (codes "DTEND") own) (collected_of own).duration
     (dated-said (codes "DTSTART") own) (dated-said (codes "DTEND") own) lasting (has-first dated_on (codes "DTSTART") own ∙ started)
-    (second _ _ (here (ends_event l) _ t (none-found at (take 16 kinds) (drop 17 kinds) BadEnd e))) in
+    (or_parts _ _ (here (ends_event l) _ t (none-found at (take 16 kinds) (drop 17 kinds) BadEnd e))).1 in
     record {
       named =
           filled-not-empty (first_text (codes "UID") own)
@@ -272,10 +248,20 @@ event-whole own l t e =
       recurrence = dated-said (codes "RECURRENCE-ID") own;
     }
 
-pub events-whole : (before lines : List Placed) → NoneStand stands before lines → All IsWhole (ended_from events before lines)
-events-whole before [] n = All-nil IsWhole
-events-whole before (l ∷ ls) n =
-    let own : List Placed = beside before l in
-    All-append IsWhole (ended_as events own l) (ended_from events (before ++ l ∷ []) ls)
-    (one-ended IsWhole (ends_event l) (event_ended (calendar_of l.path) (collected_of own)) (λ t. event-whole own l t n.0))
-    (events-whole (before ++ l ∷ []) ls n.1)
+-- WHAT ENDS on the lines is in order, where none has a fault.
+module _ {X : Type 0} (s : Sort X) (P : X → Type 0)
+    (each : (own : List Placed) (l : Placed) → (is_closing l && s.stands_at (context_of l.path)) ≡ true → find (λ kind. stands kind own l) kinds ≡ None →
+    Together l.path own → P (s.by l.path own)) where
+  ended-sound : (before lines : List Placed) → NoneStand stands before lines → AreTogether before lines → All P (ended_from s before lines)
+  ended-sound before [] n h = All-nil P
+  ended-sound before (l ∷ ls) n h =
+      All-append P (ended_as s (beside before l) l) (ended_from s (before ++ l ∷ []) ls)
+      (one-ended P (is_closing l && s.stands_at (context_of l.path)) (s.by l.path (beside before l)) (λ t. each (beside before l) l t n.0 h.0))
+      (ended-sound (before ++ l ∷ []) ls n.1 h.1)
+
+pub zones-sound : (whole before lines : List Placed) → NoneStand stands before lines → AreTogether before lines →
+    All (λ z. IsSoundZone z.observances) (ended_from (zones whole) before lines)
+zones-sound whole = ended-sound (zones whole) (λ z. IsSoundZone z.observances) (zone-sound whole)
+
+pub events-whole : (before lines : List Placed) → NoneStand stands before lines → AreTogether before lines → All IsWhole (ended_from events before lines)
+events-whole = ended-sound events IsWhole (λ own l t e h. event-whole own l t e)

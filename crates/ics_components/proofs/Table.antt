@@ -1,81 +1,70 @@
 -- The table of faults and the pass find one fault on a line.
-use Rattle.std.proofs.Common.{◌≡◌, ℕ, Bool, true, false, List, [], ◌∷◌, map, refl, sym, ap, ◌∙◌, arith, cond, suc, Some, inl, inr}
-use Rattle.std.specs.Prelude.{codes, length, find, filter, not, ◌==◌, nat_le, ◌&&◌, ◌||◌, is_some, option_map}
+use Rattle.std.proofs.Common.{rules, ◌≡◌, ℕ, Bool, true, false, List, [], ◌∷◌, map, refl, sym, ap, ◌∙◌, arith, cond, suc, Option, Some, None, Result, Ok, Err}
+use Rattle.std.proofs.Common.{ℤ, inl, inr}
+use Rattle.std.specs.Prelude.{codes, length, find, filter, not, nat_le, ◌==◌, ◌||◌, is_some, option_map}
 use Rattle.std.specs.List.{list_any}
 use Rattle.std.specs.Str.{bytes_eq}
+use Rattle.std.proofs.Math.Bool.{and-true, and_assoc, or_comm}
 use Rattle.std.proofs.lemmas.Bool.Decides.{eqb_tells}
 use Rattle.ics_text.specs.Bytes.{upper}
 use Rattle.ics_text.specs.ContentLines.{Parts}
-use Rattle.ics_values.specs.Integers.{integer_of}
-use Rattle.ics_values.specs.Plain.{text_of}
+use Rattle.ics_values.specs.Rules.{rule_of}
 use Rattle.ics_fields.specs.Observances.{ObservanceSaid}
+use Rattle.ics_fields.specs.RuleParts.{RuleParts}
+use Rattle.ics_values.specs.declared.duration.Duration.{Duration}
+use Rattle.ics_values.specs.declared.duration.DurationFault.{DurationFault}
+use Rattle.ics_values.specs.declared.duration.DurationFault.TheVariants as duration_fault
+use Rattle.ics_values.specs.declared.integer.IntegerFault.{IntegerFault}
+use Rattle.ics_values.specs.declared.integer.IntegerFault.TheVariants as integer_fault
+use Rattle.ics_values.specs.declared.offset.BadOffset.{BadOffset as OffsetFault}
+use Rattle.ics_values.specs.declared.rule_text.RuleFault.{RuleFault}
+use Rattle.ics_values.specs.declared.rule_text.RuleFault.TheVariants as rule_fault
+use Rattle.ics_values.specs.declared.stamp.Stamp.{Stamp}
+use Rattle.ics_values.specs.declared.stamp.StampFault.{StampFault}
+use Rattle.ics_values.specs.declared.stamp.StampFault.TheVariants as stamp_fault
+use Rattle.ics_components.specs.declared.builder.Builder.{Builder}
+use Rattle.ics_components.specs.declared.builder.Builder.TheVariants as builder
+use Rattle.ics_components.specs.declared.builder.ObservanceBuilder.{ObservanceBuilder}
+use Rattle.ics_components.specs.declared.builder.ZoneBuilder.{ZoneBuilder}
 use Rattle.ics_components.specs.declared.component.Component.{Component}
 use Rattle.ics_components.specs.declared.component.Component.TheVariants as component
 use Rattle.ics_components.specs.declared.component.Context.{Context}
 use Rattle.ics_components.specs.declared.component.Context.TheVariants as context
+use Rattle.ics_components.specs.declared.event_builder.EventBuilder.{EventBuilder}
+use Rattle.ics_components.specs.declared.fault.FaultKind.{FaultKind}
+use Rattle.ics_components.specs.declared.fault.FaultKind.TheVariants.{BadStamp, BadDuration, BadOffset, BadRule, YearRange, NumberTooLarge, NotCalendar, TooDeep}
 use Rattle.ics_components.specs.declared.frame.Frame.{Frame}
 use Rattle.ics_components.specs.declared.name.Name.{Name}
 use Rattle.ics_components.specs.declared.name.Name.TheVariants as name
 use Rattle.ics_components.specs.Components.{component_of, component_name, is_outside_context, is_zone_context}
 use Rattle.ics_components.specs.Names.{name_of}
-use Rattle.ics_components.specs.PlacedLines.{Placed, Open, context_of, value, closes, begins_observance, calendar_of}
-use Rattle.ics_components.specs.PlacedLines.{lines_in, has, has_all, is_named, first_named}
-use Rattle.ics_components.specs.PlacedLines.{first_of, all_named}
-use Rattle.ics_components.specs.Values.{ok_or_zero, is_filled, ends_badly}
-use Rattle.ics_components.specs.Faults.{dated_on, duration_on, parts_on, first_text, first_dated, field_names, stands, kinds}
+use Rattle.ics_components.specs.PlacedLines.{Placed, Open, context_of, closes, begins_observance, calendar_of, lines_in, has, is_named, first_named, first_of as first_line}
+use Rattle.ics_components.specs.PlacedLines.{all_named}
+use Rattle.ics_components.specs.Values.{is_bad_stamp, is_far_stamp, is_bad_duration, is_large_duration, is_bad_offset, is_bad_rule, is_large_rule, is_fine_rule}
+use Rattle.ics_components.specs.Values.{is_large_integer}
+use Rattle.ics_components.specs.Faults.{stands, kinds}
+use Rattle.ics_components.specs.Lines.{first, fault_if, stamp_fault_of, duration_fault_of, rule_fault_of, number_fault_of, offset_fault_of, outside_fault}
+use Rattle.ics_components.specs.Observances.{observance_by, begins_in_zone}
 use Rattle.ics_components.proofs.Built.{collected_of, zone_of, observance_of}
-use Rattle.ics_components.specs.Observances.{onset_on, offset_on, daily_on, observance_by, begins_in_zone}
 use Rattle.ics_components.proofs.Judged.{fault_in}
-use Rattle.ics_components.proofs.NameLemmas.{Tells, tells, component_name-of}
-use Rattle.ics_components.proofs.Rows.{Readings, flat, bad_end_of, has_observance, has_fields, is_bare, asked-same, frame_at, flat_of, fault_of, start_flag}
-use Rattle.ics_components.proofs.Rows.{rule_flag, at-dtstart, at-dtend, at-duration, at-rrule, at-recurrence_id, at-sequence, at-rdate, at-exdate}
-use Rattle.ics_components.proofs.Rows.{at-offset_from, at-offset_to, at-end}
-use Rattle.ics_components.proofs.Rows.{at-begin, at-other}
+use Rattle.ics_components.proofs.NameLemmas.{Tells, tells, TellsComponent, tells_component, component_name-of}
 
--- what the pass keeps of a name, where it keeps anything
-abbrev flag : Name → Context → Readings → Bool → Bool
-flag name.Uid q g h = is_some g.event.uid
-flag name.Dtstart q g h = start_flag q g
-flag name.Dtend q g h = is_some g.event.end
-flag name.Duration q g h = is_some g.event.duration
-flag name.Rrule q g h = rule_flag q g
-flag name.RecurrenceId q g h = is_some g.event.recurrence
-flag name.Sequence q g h = is_some g.event.sequence
-flag name.Tzid q g h = is_some g.zone.name
-flag name.OffsetFrom q g h = is_some g.observance.from
-flag name.OffsetTo q g h = is_some g.observance.to
-flag _ q g h = h
+-- what is collected of some lines of a calendar, read as those of an event, of a time zone and of an observance
+pub record Readings : Type 0 where
+  pub calendar : ℕ
+  pub event : EventBuilder
+  pub zone : ZoneBuilder
+  pub observance : ObservanceBuilder
 
-module _ (v : Parts) (c : Component) (cl : Bool) (depth : ℕ) (g : Readings) (h : Bool) where
-  same : (n : Name) (q : Context) (u : List ℕ) → Tells u n → flag n q g h ≡ h →
-      (is_outside_context q ≡ false → bytes_eq (map upper v.value) (component_name c) ≡ cl) → flat_of u v q cl depth g h ≡ fault_of n v c q depth g
-  same name.Begin q u e f m = rw e (at-begin v c cl depth g q h)
-  same name.End q u e f m = rw e (at-end v c cl depth g q cl h m)
-  same name.Uid context.Event u e f m = rw (e, ← f) refl
-  same name.Dtstart q u e f m = rw (e, ← f) (at-dtstart v c cl depth g q)
-  same name.Dtend q u e f m = rw (e, ← f) (at-dtend v c cl depth g q)
-  same name.Duration q u e f m = rw (e, ← f) (at-duration v c cl depth g q)
-  same name.Rrule q u e f m = rw (e, ← f) (at-rrule v c cl depth g q)
-  same name.RecurrenceId q u e f m = rw (e, ← f) (at-recurrence_id v c cl depth g q)
-  same name.Sequence q u e f m = rw (e, ← f) (at-sequence v c cl depth g q)
-  same name.Tzid context.Zone u e f m = rw (e, ← f) refl
-  same name.OffsetFrom q u e f m = rw (e, ← f) (at-offset_from v c cl depth g q)
-  same name.OffsetTo q u e f m = rw (e, ← f) (at-offset_to v c cl depth g q)
-  same name.Rdate q u e f m = rw e (at-rdate v c cl depth g q h)
-  same name.Exdate q u e f m = rw e (at-exdate v c cl depth g q h)
-  same name.Other q u e f m = at-other v c cl depth g u q h e
-  same _ context.Event u e f m = rw e refl
-  same _ _ u e f m = rw e refl
+abbrev pub builder_at : Context → Readings → Builder
+builder_at context.Event g = builder.Event g.event
+builder_at context.Zone g = builder.Zone g.zone
+builder_at context.Observance g = builder.Observance g.observance
+builder_at _ g = builder.Nothing
 
--- a line has the name exactly where the first such line says something
-pub has-first : {X : Type 0} (f : Placed → X) (n : List ℕ) (ls : List Placed) → is_some (option_map f (first_named n ls)) ≡ has n ls
-has-first f n [] = refl
-has-first f n (k ∷ ks) = by_test (is_named n k) (has-first f n ks)
-  where
-    by_test : (t : Bool) → is_some (option_map f (first_named n ks)) ≡ has n ks →
-        is_some (option_map f (first_of (cond t (k ∷ all_named n ks) (all_named n ks)))) ≡ (t || has n ks)
-    by_test true ih = refl
-    by_test false ih = ih
+-- the frame of a component, with what is collected of it
+abbrev pub frame_at : Component → Context → Readings → Frame
+frame_at c q g = record { component = c; context = q; calendar = g.calendar; builder = builder_at q g }
 
 -- the observances that begin on the lines, in a file of all these lines
 abbrev pub own : List Placed → Placed → ObservanceSaid
@@ -100,65 +89,6 @@ any-part whole (l ∷ ls) = by_test (begins_in_zone l) (any-part whole ls)
 abbrev pub readings : List Placed → List Open → List Placed → Readings
 readings whole path ls = record { calendar = calendar_of path; event = collected_of ls; zone = zone_of (parts whole ls) ls; observance = observance_of ls }
 
--- of these lines in these components
-module _ (whole : List Placed) (k : List Open) (ls : List Placed) where
-  start-flag-is : (q : Context) → start_flag q (readings whole k ls) ≡ has (codes "DTSTART") ls
-  start-flag-is context.Observance = has-first onset_on (codes "DTSTART") ls
-  start-flag-is _ = has-first dated_on (codes "DTSTART") ls
-
-  rule-flag-is : (q : Context) → rule_flag q (readings whole k ls) ≡ has (codes "RRULE") ls
-  rule-flag-is context.Observance = has-first daily_on (codes "RRULE") ls
-  rule-flag-is _ = has-first parts_on (codes "RRULE") ls
-
-  flag-readings : (n : Name) (q : Context) (u : List ℕ) → Tells u n →
-      flag n q (readings whole k ls) (has u ls) ≡ has u ls
-  flag-readings name.Uid q u e = rw e (has-first (λ line. text_of (value line)) (codes "UID") ls)
-  flag-readings name.Dtstart q u e = rw e (start-flag-is q)
-  flag-readings name.Dtend q u e = rw e (has-first dated_on (codes "DTEND") ls)
-  flag-readings name.Duration q u e = rw e (has-first duration_on (codes "DURATION") ls)
-  flag-readings name.Rrule q u e = rw e (rule-flag-is q)
-  flag-readings name.RecurrenceId q u e = rw e (has-first dated_on (codes "RECURRENCE-ID") ls)
-  flag-readings name.Sequence q u e = rw e (has-first (λ line. ok_or_zero (integer_of (value line))) (codes "SEQUENCE") ls)
-  flag-readings name.Tzid q u e = rw e (has-first (λ line. text_of (value line)) (codes "TZID") ls)
-  flag-readings name.OffsetFrom q u e = rw e (has-first offset_on (codes "TZOFFSETFROM") ls)
-  flag-readings name.OffsetTo q u e = rw e (has-first offset_on (codes "TZOFFSETTO") ls)
-  flag-readings _ q u e = refl
-
-  -- the fields of a component of a time zone are all there
-  fields-are : (q : Context) → has_all (field_names q) ls ≡ has_fields q (readings whole k ls)
-  fields-are context.Zone = ap (λ t. t && true) (sym (has-first (λ line. text_of (value line)) (codes "TZID") ls))
-  fields-are context.Observance =
-      ap (λ t. t && (has (codes "TZOFFSETFROM") ls && (has (codes "TZOFFSETTO") ls && true))) (sym (has-first onset_on (codes "DTSTART") ls))
-      ∙ ap (λ t. is_some (observance_of ls).start && (t && (has (codes "TZOFFSETTO") ls && true))) (sym (has-first offset_on (codes "TZOFFSETFROM") ls))
-      ∙ ap (λ t. is_some (observance_of ls).start && (is_some (observance_of ls).from && (t && true))) (sym (has-first offset_on (codes "TZOFFSETTO") ls))
-  fields-are _ = refl
-
-  -- what the table reads of the lines beside, as the pass keeps it
-  tests-same : (u : List ℕ) (v : Parts) (q : Context) (cl deep : Bool) →
-      (is_zone_context q ≡ true → list_any begins_observance ls ≡ has_observance (readings whole k ls)) →
-      flat u (map upper v.value) v q cl deep (is_filled (first_text (codes "UID") ls)) (has (codes "DTSTART") ls)
-      ((has (codes "DTEND") ls && has (codes "DURATION") ls) || ends_badly (first_dated (codes "DTSTART") ls) (first_dated (codes "DTEND") ls))
-      (is_bare u q cl (list_any begins_observance ls)) (has_all (field_names q) ls) (has u ls)
-      ≡ flat u (map upper v.value) v q cl deep (is_filled (collected_of ls).uid) (is_some (collected_of ls).start) (bad_end_of (collected_of ls))
-      (is_bare u q cl (has_observance (readings whole k ls))) (has_fields q (readings whole k ls)) (has u ls)
-  tests-same u v q cl deep asked =
-      let h : Bool = has u ls in
-      let bad : Bool = ends_badly (first_dated (codes "DTSTART") ls) (first_dated (codes "DTEND") ls) in
-      let filled : Bool = is_filled (first_text (codes "UID") ls) in
-      let bare : Bool = is_bare u q cl (list_any begins_observance ls) in
-      let all : Bool = has_all (field_names q) ls in
-      ap (λ s. flat u (map upper v.value) v q cl deep filled s ((has (codes "DTEND") ls && has (codes "DURATION") ls) || bad) bare all h)
-      (sym (has-first dated_on (codes "DTSTART") ls))
-      ∙ ap (λ a. flat u (map upper v.value) v q cl deep filled (is_some (collected_of ls).start) ((a && has (codes "DURATION") ls) || bad) bare all h)
-      (sym (has-first dated_on (codes "DTEND") ls))
-      ∙ ap (λ a. flat u (map upper v.value) v q cl deep filled (is_some (collected_of ls).start) ((is_some (collected_of ls).end && a) || bad) bare all h)
-      (sym (has-first duration_on (codes "DURATION") ls))
-      ∙ ap (λ a. flat u (map upper v.value) v q cl deep filled (is_some (collected_of ls).start) (bad_end_of (collected_of ls)) bare a h)
-      (fields-are q)
-      ∙ ap (λ b. flat u (map upper v.value) v q cl deep filled (is_some (collected_of ls).start) (bad_end_of (collected_of ls)) b
-      (has_fields q (readings whole k ls)) h)
-      (asked-same u q cl (list_any begins_observance ls) (has_observance (readings whole k ls)) asked)
-
 -- the innermost component of a path; below all there is none
 abbrev pub top_component : List Open → Component
 top_component [] = component.Other []
@@ -172,19 +102,93 @@ frame_of whole path ls = frame_at (top_component path) (context_of path) (readin
 abbrev pub IsAsked : List Placed → List Open → List Placed → Type 0
 IsAsked whole path ls = is_zone_context (context_of path) ≡ true → list_any begins_observance ls ≡ not (length (parts whole ls) == 0)
 
+-- a line has the name exactly where the first such line says something
+pub has-first : {X : Type 0} (f : Placed → X) (n : List ℕ) (ls : List Placed) → is_some (option_map f (first_named n ls)) ≡ has n ls
+has-first f n [] = refl
+has-first f n (k ∷ ks) = by_test (is_named n k) (has-first f n ks)
+  where
+    by_test : (t : Bool) → is_some (option_map f (first_named n ks)) ≡ has n ks →
+        is_some (option_map f (first_line (cond t (k ∷ all_named n ks) (all_named n ks)))) ≡ (t || has n ks)
+    by_test true ih = refl
+    by_test false ih = ih
+
+-- FAULTS BY TESTS, the least first. What a value meets stands before what its line meets.
+first-cond : (t : Bool) (o p m : Option FaultKind) → first (cond t o p) m ≡ cond t (first o m) (first p m)
+first-cond true o p m = refl
+first-cond false o p m = refl
+
+or-cond : (a b : Bool) (x y : Option FaultKind) → cond (a || b) x y ≡ cond a x (cond b x y)
+or-cond true b x y = refl
+or-cond false b x y = refl
+
+not-cond : (t : Bool) (x y : Option FaultKind) → cond (not t) x y ≡ cond t y x
+not-cond true x y = refl
+not-cond false x y = refl
+
+stamp-is : (r : Result Stamp StampFault) → stamp_fault_of r ≡ cond (is_bad_stamp r) (Some BadStamp) (cond (is_far_stamp r) (Some YearRange) None)
+stamp-is (Err stamp_fault.BadStamp) = refl
+stamp-is _ = refl
+
+duration-is : (d : Result Duration DurationFault) →
+    duration_fault_of d ≡ cond (is_bad_duration d) (Some BadDuration) (cond (is_large_duration d) (Some NumberTooLarge) None)
+duration-is (Err duration_fault.BadDuration) = refl
+duration-is _ = refl
+
+rule-is : (r : Result RuleParts RuleFault) → rule_fault_of r ≡ cond (is_bad_rule r) (Some BadRule) (cond (is_large_rule r) (Some NumberTooLarge) None)
+rule-is (Err rule_fault.BadRule) = refl
+rule-is _ = refl
+
+number-is : (n : Result ℕ IntegerFault) → number_fault_of n ≡ cond (is_large_integer n) (Some NumberTooLarge) None
+number-is (Err integer_fault.NumberTooLarge) = refl
+number-is _ = refl
+
+offset-is : (o : Result ℤ OffsetFault) → offset_fault_of o ≡ cond (is_bad_offset o) (Some BadOffset) None
+offset-is (Ok o) = refl
+offset-is (Err f) = refl
+
+ruleset by_tests = (first-cond, or-cond, not-cond, stamp-is, duration-is, rule-is, number-is, offset-is, has-first)
+
+-- only a calendar begins outside all components
+outside-first : (w : List ℕ) (m : Option FaultKind) →
+    first (outside_fault context.Outside (component_of w)) m ≡ cond (bytes_eq w (codes "VCALENDAR")) m (Some NotCalendar)
+outside-first w m = by_component (component_of w) (tells_component w)
+  where
+    by_component : (c : Component) → TellsComponent w c → first (outside_fault context.Outside c) m ≡ cond (bytes_eq w (codes "VCALENDAR")) m (Some NotCalendar)
+    by_component (component.Other n) e = rw (e.0 (codes "VCALENDAR") refl)
+    by_component _ e = rw e
+
+closed-by : (path : List Open) (w : List ℕ) → is_outside_context (context_of path) ≡ false →
+    bytes_eq w (component_name (top_component path)) ≡ closes path w
+closed-by [] w e = cc
+closed-by (c ∷ cs) w e = ap (bytes_eq w) (component_name-of c.name)
+
 -- THE LEAST FAULT ON A LINE, of the table and of the pass.
+module _ (whole : List Placed) (path : List Open) (number : ℕ) (v : Parts) (ls : List Placed) (asked : IsAsked whole path ls) where
+  abbrev Same : Name → Type 0
+  Same n =
+      find (λ k. stands k ls (record { number = number; content = Some v; path = path })) kinds ≡ fault_in n v (frame_of whole path ls) (length path)
+
+  ended : (q : Context) (t : Bool) → map upper v.name ≡ codes "END" → context_of path ≡ q → closes path (map upper v.value) ≡ t →
+      (is_outside_context q ≡ false → bytes_eq (map upper v.value) (component_name (top_component path)) ≡ t) → Same name.End
+  ended context.Outside true e c m s = rw (e, c, m)
+  ended context.Outside false e c m s = rw (e, c, m)
+  ended context.Zone true e c m s = rw (e, asked (ap is_zone_context c), c, m, s refl) (simp (by_tests, and-true))
+  ended context.Observance true e c m s = rw (e, c, m, s refl) (simp (by_tests, and-true, and_assoc))
+  ended _ true e c m s = rw (e, c, m, s refl) (first_of (simp by_tests, search rules))
+  ended _ false e c m s = rw (e, c, m, s refl)
+
+  same : (n : Name) (q : Context) → Tells (map upper v.name) n → context_of path ≡ q → Same n
+  same name.Begin context.Outside e c =
+      rw (e, c, outside-first (map upper v.value) (fault_if TooDeep (nat_le 32 (length path)))) (simp by_tests)
+  same name.Begin _ e c = rw (e, c)
+  same name.End q e c = ended q (closes path (map upper v.value)) e c refl (λ o. closed-by path (map upper v.value) (ap is_outside_context c ∙ o))
+  same name.Rrule context.Observance e c = rw (e, c, or_comm (has (codes "RRULE") ls) (is_fine_rule (rule_of v.value))) (simp by_tests)
+  same name.Other context.Outside e c = rw c (simp e)
+  same name.Other _ e c = rw c (simp e)
+  same _ context.Event e c = rw (e, c) (first_of (simp by_tests, search rules))
+  same _ _ e c = rw (e, c) (first_of (simp by_tests, search rules))
+
 pub least-same : (whole : List Placed) (path : List Open) (number : ℕ) (v : Parts) (ls : List Placed) → IsAsked whole path ls →
     find (λ k. stands k ls (record { number = number; content = Some v; path = path })) kinds
     ≡ fault_in (name_of (map upper v.name)) v (frame_of whole path ls) (length path)
-least-same whole [] number v ls asked =
-    let u : List ℕ = map upper v.name in
-    tests-same whole [] ls u v context.Outside false (nat_le 32 0) asked
-    ∙ same v (component.Other []) false 0 (readings whole [] ls) (has u ls) (name_of u) context.Outside u (tells u)
-    (flag-readings whole [] ls (name_of u) context.Outside u (tells u)) (λ e. cc)
-least-same whole (c ∷ cs) number v ls asked =
-    let u : List ℕ = map upper v.name in
-    let cl : Bool = closes (c ∷ cs) (map upper v.value) in
-    tests-same whole (c ∷ cs) ls u v (context_of (c ∷ cs)) cl (nat_le 32 (length (c ∷ cs))) asked
-    ∙ same v (component_of c.name) cl (length (c ∷ cs)) (readings whole (c ∷ cs) ls) (has u ls) (name_of u) (context_of (c ∷ cs)) u (tells u)
-    (flag-readings whole (c ∷ cs) ls (name_of u) (context_of (c ∷ cs)) u (tells u))
-    (λ e. ap (bytes_eq (map upper v.value)) (component_name-of c.name))
+least-same whole path number v ls asked = same whole path number v ls asked (name_of (map upper v.name)) (context_of path) (tells (map upper v.name)) refl

@@ -1,39 +1,34 @@
 -- The names of the properties that a file is read for (RFC 5545, section 3.8).
 -- These are the words of the code alone. No public contract cites them.
-use Rattle.std.specs.Prelude.{ℕ, Bool, true, false, List, codes, if◌then◌else◌}
+use Rattle.std.specs.Prelude.{ℕ, Bool, true, false, List, [], ◌∷◌, ◌++◌, codes, if◌then◌else◌}
 use Rattle.std.specs.Str.{bytes_eq}
 use Rattle.ics_components.specs.declared.name.Name.{Name}
 use Rattle.ics_components.specs.declared.name.Name.TheVariants as name
 
--- what a name in upper case stands for, if it is none of the first ones
-abbrev pub other_name_of : List ℕ → Name
-other_name_of u =
-    if bytes_eq u (codes "EXRULE") then name.Exrule
-    else if bytes_eq u (codes "VERSION") then name.Version
-    else if bytes_eq u (codes "SUMMARY") then name.Summary
-    else if bytes_eq u (codes "LOCATION") then name.Location
-    else if bytes_eq u (codes "DESCRIPTION") then name.Description
-    else if bytes_eq u (codes "STATUS") then name.Status
-    else if bytes_eq u (codes "TZID") then name.Tzid
-    else if bytes_eq u (codes "TZOFFSETFROM") then name.OffsetFrom
-    else if bytes_eq u (codes "TZOFFSETTO") then name.OffsetTo
-    else name.Other
+-- what a word stands for, or another thing where it is none of a table
+abbrev pub named_in : {X : Type 0} → List (List ℕ × X) → X → List ℕ → X
+named_in [] other u = other
+named_in (n ∷ ns) other u = if bytes_eq u n.0 then n.1 else named_in ns other u
 
--- what a name in upper case stands for
+-- the words in upper case, in the order in which a name is compared with them
+abbrev pub first_words : List (List ℕ × Name)
+first_words =
+    (codes "BEGIN", name.Begin) ∷ (codes "END", name.End) ∷ (codes "UID", name.Uid) ∷ (codes "DTSTART", name.Dtstart) ∷ (codes "DTEND", name.Dtend)
+    ∷ (codes "DURATION", name.Duration) ∷ (codes "RRULE", name.Rrule) ∷ (codes "RECURRENCE-ID", name.RecurrenceId) ∷ (codes "SEQUENCE", name.Sequence)
+    ∷ (codes "RDATE", name.Rdate) ∷ (codes "EXDATE", name.Exdate) ∷ []
+
+abbrev pub other_words : List (List ℕ × Name)
+other_words =
+    (codes "EXRULE", name.Exrule) ∷ (codes "VERSION", name.Version) ∷ (codes "SUMMARY", name.Summary) ∷ (codes "LOCATION", name.Location)
+    ∷ (codes "DESCRIPTION", name.Description) ∷ (codes "STATUS", name.Status) ∷ (codes "TZID", name.Tzid) ∷ (codes "TZOFFSETFROM", name.OffsetFrom)
+    ∷ (codes "TZOFFSETTO", name.OffsetTo) ∷ []
+
+-- what a name in upper case stands for, if it is none of the first ones, and whatever it is
+abbrev pub other_name_of : List ℕ → Name
+other_name_of u = named_in other_words name.Other u
+
 abbrev pub name_of : List ℕ → Name
-name_of u =
-    if bytes_eq u (codes "BEGIN") then name.Begin
-    else if bytes_eq u (codes "END") then name.End
-    else if bytes_eq u (codes "UID") then name.Uid
-    else if bytes_eq u (codes "DTSTART") then name.Dtstart
-    else if bytes_eq u (codes "DTEND") then name.Dtend
-    else if bytes_eq u (codes "DURATION") then name.Duration
-    else if bytes_eq u (codes "RRULE") then name.Rrule
-    else if bytes_eq u (codes "RECURRENCE-ID") then name.RecurrenceId
-    else if bytes_eq u (codes "SEQUENCE") then name.Sequence
-    else if bytes_eq u (codes "RDATE") then name.Rdate
-    else if bytes_eq u (codes "EXDATE") then name.Exdate
-    else other_name_of u
+name_of u = named_in (first_words ++ other_words) name.Other u
 
 -- whether an event has dates from a property of that name
 abbrev pub gives_dates : Name → Bool

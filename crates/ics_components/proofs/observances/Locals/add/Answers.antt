@@ -1,30 +1,30 @@
 use Rattle.std.proofs.Common.{◌==◌, ◌++◌, ◌∙◌, sym, ap, false, rules, tests}
 use Rattle.std.proofs.lemmas.Iterator.Splits.{YieldsList-from_slice_split}
 use Rattle.std.proofs.lemmas.Iterator.Consumers.{YieldsList-end}
-use Rattle.ics_components.specs.DateValues.{rdate_of}
+use Rattle.ics_components.specs.DateValues.{rdate_of, rdates_of}
 use Rattle.ics_components.specs.Lines.{locals_of}
-use Rattle.ics_components.proofs.DateValueLemmas.{onsets-ok, onsets-err, onsets-all}
+use Rattle.ics_components.proofs.DateValueLemmas.{read-ok, read-err, read-all, onset_read, onsets_fault, onsets-read, locals-said}
 use Rattle.ics_components.proofs.observances.Locals.add.Goals as goal
 
 pub values-preserved-in-Continue-1 : goal.values-preserved-in-Continue-1
 values-preserved-in-Continue-1 c =
-    rw c.in_ok-push-in-Ok.ensures.items (onsets-ok _ c.values.yielded c.in-Some.value c.values.invariant (sym c.onset.ensures ∙ c.in-Ok.is))
+    rw c.in_ok-push-in-Ok.ensures.items (read-ok onsets-read _ c.values.yielded c.in-Some.value c.values.invariant (sym c.onset.ensures ∙ c.in-Ok.is))
 
 pub values-preserved : goal.values-preserved
-values-preserved c = rw c.lesser.ensures (onsets-err _ c.values.yielded c.in-Some.value c.values.invariant (sym c.onset.ensures ∙ c.in-Err.is))
+values-preserved c = rw c.lesser.ensures (read-err onsets-read _ c.values.yielded c.in-Some.value c.values.invariant (sym c.onset.ensures ∙ c.in-Err.is))
 
 pub returns-in-Some-least : goal.returns-in-Some-least
 returns-in-Some-least c =
     let road = YieldsList-from_slice_split _ (λ b. b == 44) c.args.text.now (cc) (cc) (cc) (λ x r q k. search (rules, tests)) in
     let last = YieldsList-end road c.values.yielded _ c.values.yielded_by _ _ c.in-None.is c.next.ensures.steps in
-    let all = onsets-all (rdate_of false) c.values.yielded last.0 c.values.invariant in
+    let all = read-all onset_read onsets_fault (rdate_of false) c.values.yielded last.0 c.values.invariant in
     sym all.fault ∙ c.in-Some-least.is
 
 pub returns-in-None-least : goal.returns-in-None-least
 returns-in-None-least c =
     let road = YieldsList-from_slice_split _ (λ b. b == 44) c.args.text.now (cc) (cc) (cc) (λ x r q k. search (rules, tests)) in
     let last = YieldsList-end road c.values.yielded _ c.values.yielded_by _ _ c.in-None.is c.next.ensures.steps in
-    let all = onsets-all (rdate_of false) c.values.yielded last.0 c.values.invariant in (
+    let all = read-all onset_read onsets_fault (rdate_of false) c.values.yielded last.0 c.values.invariant in (
       sym all.fault ∙ c.in-None-least.is,
-      all.locals ∙ ap (λ had. had ++ locals_of c.args.text.now) c.self.view_is,
+      (rw (locals-said (rdates_of false c.args.text.now)) at all.said) ∙ ap (λ had. had ++ locals_of c.args.text.now) c.self.view_is,
     )
