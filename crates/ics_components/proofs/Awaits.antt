@@ -4,7 +4,7 @@ use Rattle.std.specs.Prelude.{codes, get_or, option_map, ◌==◌}
 use Rattle.std.specs.Str.{bytes_eq}
 use Rattle.std.specs.List.{All}
 use Rattle.std.proofs.lemmas.Bool.{and_parts}
-use Rattle.std.proofs.lemmas.List.Elements.{All-nil, All-cons, All-push, All-append, All-head, All-tail, All-map, All-filter}
+use Rattle.std.proofs.lemmas.List.Elements.{All-nil, All-cons, All-push, All-append, All-head, All-tail, All-map, All-filter, filter_passes}
 use Rattle.ics_values.specs.declared.stamp.Stamp.{Stamp}
 use Rattle.ics_values.specs.declared.stamp.Stamp.TheVariants as stamp
 use Rattle.ics_values.specs.declared.duration.Duration.{Duration}
@@ -104,18 +104,13 @@ module _ (P : DeferredCheck → Type 0) where
 
   named-seen : (k : ℕ) (u : List ℕ) → bytes_eq [] u ≡ false → (ls : List Placed) → All (Leaves k) ls →
       All (Gives k u) (all_named u ls)
-  named-seen k u z [] h = All-nil (Gives k u)
-  named-seen k u z (l ∷ ls) h = by_test (is_named u l) refl (named-seen k u z ls (All-tail (Leaves k) l ls h))
+  named-seen k u z ls h =
+      λ i d lt. by_content (get_or (all_named u ls) i d).content (filter_passes (is_named u) ls i d lt) (All-filter (is_named u) (Leaves k) ls h i d lt)
     where
       by_content : (o : Option Parts) → bytes_eq (property_name o) u ≡ true → IfSome (content_check k o) P →
           IfSome (event_check k (name_of u) (record { name = raw_name o; params = params_of o; value = value_of o })) P
       by_content None e h = cc
       by_content (Some v) e h = subst (λ n. IfSome (event_check k (name_of n) v) P) (equal (map upper v.name) u e) h
-
-      by_test : (t : Bool) → is_named u l ≡ t → All (Gives k u) (all_named u ls) →
-          All (Gives k u) (cond t (l ∷ all_named u ls) (all_named u ls))
-      by_test true e r = All-cons (Gives k u) l (all_named u ls) (by_content l.content e (All-head (Leaves k) l ls h)) r
-      by_test false e r = r
 
   first-seen : (k : ℕ) (ls : List Placed) → All (λ l. IfSome (used_zone k (dated_on l)) P) ls → IfSome (used_in k (option_map dated_on (first_of ls))) P
   first-seen k [] h = tt

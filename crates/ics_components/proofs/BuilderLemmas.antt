@@ -1,6 +1,6 @@
 -- A line changes what is collected of a component as the pass notes it.
 use Rattle.std.proofs.Common.{◌≡◌, ℕ, Bool, true, false, List, [], ◌∷◌, ◌++◌, map, filter, refl, sym, ap, ◌∙◌, cond}
-use Rattle.std.specs.Prelude.{codes, ◌&&◌, ◌||◌, flat_map, filter_map}
+use Rattle.std.specs.Prelude.{codes, flat_map, filter_map}
 use Rattle.std.specs.Str.{bytes_eq}
 use Rattle.std.proofs.lemmas.List.{append-nil, map-append}
 use Rattle.std.proofs.lemmas.List.Concat.{flat_map-append, flat_map-cons}
@@ -92,17 +92,11 @@ parts-more whole ls l =
     by_test false = refl
 
 pub parts-same : (whole ls : List Placed) (l : Placed) → is_begin l ≡ false → parts whole (ls ++ l ∷ []) ≡ parts whole ls
-parts-same whole ls l e =
-    parts-more whole ls l
-    ∙ ap (λ t. parts whole ls ++ cond (in_zone l && ((t && bytes_eq (component l) (codes "STANDARD")) || (t && bytes_eq (component l) (codes "DAYLIGHT"))))
-    (own whole l ∷ []) []) e
-    ∙ ap (λ t. parts whole ls ++ cond t (own whole l ∷ []) []) (and-false (in_zone l)) ∙ append-nil (parts whole ls)
+parts-same whole ls l e = rw (parts-more whole ls l, e, and-false (in_zone l)) (append-nil (parts whole ls))
 
 -- an observance begins exactly on a STANDARD or DAYLIGHT in a time zone
 observance-is : (l : Placed) → is_begin l ≡ true → begins_in_zone l ≡ is_observance_context (context_of (inside l))
-observance-is l e =
-    ap (λ t. in_zone l && ((t && bytes_eq (component l) (codes "STANDARD")) || (t && bytes_eq (component l) (codes "DAYLIGHT")))) e
-    ∙ sym (context-tests (context_of l.path) (component l)).2
+observance-is l e = rw e (sym (context-tests (context_of l.path) (component l)).2)
 
 -- what stands in another component changes nothing but observances
 pub still : (s : Builder) (q : Context) (g : Readings) → is_zone_context q ≡ false → joined s (builder_at q g) ≡ builder_at q g

@@ -1,7 +1,7 @@
 -- Where the lines of a component stand, and in which order components begin and end in a file without faults.
 use Rattle.std.proofs.Common.{◌≡◌, List, [], ◌∷◌, ◌++◌, refl, Some, ◌≢◌, ℕ, ◌<◌, ◌≤◌, Bool, true, false, ◌==◌, drop, ap, ◌∙◌, arith, cond}
-use Rattle.std.proofs.Common.{◌+◌, ◌&&◌, take, map, filter, sym, append_assoc, Option, None}
-use Rattle.std.proofs.lemmas.Bool.{eq-eqb, ne_eqb}
+use Rattle.std.proofs.Common.{◌&&◌, take, map, filter, sym, append_assoc, Option, None}
+use Rattle.std.proofs.lemmas.Bool.{eq-eqb, ne_eqb, not-false}
 use Rattle.std.proofs.lemmas.List.Elements.{filter-append}
 use Rattle.std.specs.Prelude.{find, codes, not}
 use Rattle.std.specs.Str.{bytes_eq}
@@ -144,14 +144,6 @@ pub found-none : (number : ℕ) (kind : Option FaultKind) (later : Option Fault)
 found-none number (Some k) later e = cc
 found-none number None later e = (refl, e)
 
-open-none : (path : List Open) → no_open path ≡ true → path ≡ []
-open-none [] e = refl
-open-none (c ∷ cs) e = cc
-
-unended : (t : Bool) (f : Fault) → cond t None (Some f) ≡ None → t ≡ true
-unended true f e = refl
-unended false f e = cc
-
 begin-no-end : (u : List ℕ) → bytes_eq u (codes "BEGIN") ≡ true → bytes_eq u (codes "END") ≡ false
 begin-no-end u e = rw (equal u (codes "BEGIN") e)
 
@@ -160,9 +152,11 @@ end-name u e = rw (equal u (codes "END") e)
 
 -- where no fault stands at the end, nothing is open behind the last line
 last-open : (before : List Placed) (l : Placed) → fault_at_end (before ++ l ∷ []) ≡ None → path_behind l ≡ []
-last-open before l e =
-    open-none (path_behind l) (unended (no_open (path_behind l)) (record { line = l.number + 1; kind = BadNesting })
-    (sym (ap end_fault (last-more before l)) ∙ e))
+last-open before l e = by_path (path_behind l) _ (sym (ap end_fault (last-more before l)) ∙ e)
+  where
+    by_path : (path : List Open) (f : Fault) → cond (no_open path) None (Some f) ≡ None → path ≡ []
+    by_path [] f e = refl
+    by_path (c ∷ cs) f e = cc
 
 -- Where lines stand in a file: behind those before them, in components of which each began behind those that it stands in, and before them.
 pub record IsPlaced (whole before : List Placed) (path : List Open) (n : ℕ) (lines : List Line) : Type 0 where
@@ -228,14 +222,9 @@ module _ {X : Type 0} (s : Sort X) (i : IsSort s) (whole before : List Placed) (
       nest : (is_end (here line path) && not (is_closing (here line path))) ≡ false
       nest = nested (λ kind. stands kind (beside before (here line path)) (here line path)) none
 
-      matches : (e c : Bool) → (e && not (e && c)) ≡ false → e ≡ true → c ≡ true
-      matches true true h g = refl
-      matches true false h g = cc
-      matches false c h g = cc
-
       by_tests : (b e : Bool) → is_begin (here line path) ≡ b → is_end (here line path) ≡ e → Steps path
       by_tests true e b h = begins path b
-      by_tests false true b e = ends n path is b e (matches (is_end (here line path)) (closes path (component (here line path))) nest e)
+      by_tests false true b e = ends n path is b e (not-false _ (rw e at nest))
       by_tests false false b e = rw (i.starts (here line path), b, e)
 
 pub ordered : {X : Type 0} (s : Sort X) → IsSort s → (lines : List Line) → Ordered s lines

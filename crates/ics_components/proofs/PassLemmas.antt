@@ -1,7 +1,6 @@
 -- One pass with the components that are open finds the first fault of round one, and gathers what the lines say.
 use Rattle.std.proofs.Common.{◌≡◌, ℕ, ◌+◌, ◌<◌, ◌≤◌, List, [], ◌∷◌, ◌++◌, map, refl, sym, ap, ◌∙◌, append_assoc, arith, cond, Option, Some, None}
-use Rattle.std.proofs.Common.{Result}
-use Rattle.std.proofs.Common.{◌^◌, Err}
+use Rattle.std.proofs.Common.{◌^◌}
 use Rattle.std.specs.Prelude.{find, length}
 use Rattle.std.proofs.lemmas.List.{append-nil}
 use Rattle.std.proofs.lemmas.List.Elements.{All-nil, All-push, All-weaker}
@@ -16,17 +15,16 @@ use Rattle.ics_components.specs.declared.gathered.EndedEvent.{EndedEvent}
 use Rattle.ics_components.specs.declared.gathered.EndedZone.{EndedZone}
 use Rattle.ics_components.specs.declared.gathered.LineCheck.{LineCheck}
 use Rattle.ics_components.specs.declared.deferred_check.DeferredCheck.{DeferredCheck}
-use Rattle.ics_components.specs.declared.gathered.Passed.{Passed}
 use Rattle.ics_components.specs.declared.name.Name.{Name}
 use Rattle.ics_components.specs.PlacedLines.{Placed, Open, path_behind, placed_from, innermost, lines_in, beside}
 use Rattle.ics_components.specs.Components.{is_zone_context}
 use Rattle.ics_components.specs.Faults.{stands, kinds}
-use Rattle.ics_components.specs.FirstFault.{Fault, found, first_from, first_fault, fault_at_end, end_fault, no_open}
+use Rattle.ics_components.specs.FirstFault.{found, first_from, first_fault, fault_at_end, end_fault, no_open}
 use Rattle.ics_components.specs.GatheredSeen.{GatheredSeen}
 use Rattle.ics_components.specs.Gathered.{nothing_gathered, zones_of_end, events_of_end, checks_of, and_passed}
 use Rattle.ics_components.specs.Lines.{unless as fine}
 use Rattle.ics_components.specs.Names.{name_of}
-use Rattle.ics_components.specs.Pass.{bottom, is_lowest, at_end, unless, Going, on_line, on_content, pass, NumbersFit}
+use Rattle.ics_components.specs.Pass.{bottom, is_lowest, at_end, unless, on_line, on_content, pass, NumbersFit}
 use Rattle.ics_components.proofs.Judged.{fault_in, fault_on, check_in, behind, ends, passing, line-is}
 use Rattle.ics_components.proofs.Table.{parts, any-part, frame_of, IsAsked, least-same}
 use Rattle.ics_components.proofs.Bundles.{Bundle, Keeps, Together, Before, falls, open_of, opens, opens-behind, top_beside, together, together-in, zone-lines}
@@ -80,15 +78,6 @@ module _ {X : Type 0} where
   further had here more rest e = ap (λ m. (had ++ m) ++ rest) e ∙ append_assoc had here rest
 
 -- THE PASS.
-abbrev pub refused : {X : Type 0} → ℕ → Option FaultKind → Result X Fault → Result X Fault
-refused number (Some kind) later = Err (record { line = number; kind = kind })
-refused number None later = later
-
-passes : {X : Type 0} (number : ℕ) (kind : Option FaultKind) (first : Option Fault) (x : X) →
-    refused number kind (unless first x) ≡ unless (found number kind first) x
-passes number (Some k) first x = refl
-passes number None first x = refl
-
 -- Where the pass is: at lines behind those before them, with a bundle of lines for each component that is open.
 record IsAt (whole before : List Placed) (bundles : List Bundle) (n : ℕ) (lines : List Line) : Type 0 where
   pub parts : whole ≡ before ++ placed_from (opens bundles) lines
@@ -149,39 +138,58 @@ closes-here whole before l (f ∷ fs) lines on =
     λ e. ap (lines_in f.begin.number) on.parts
     ∙ lines_in-whole before l lines (open_of f) (opens fs) (sym on.place) e (falls before [] (f ∷ fs) on.kept) on.inner on.rises
 
-module _ (whole before : List Placed) (line : Line) (v : Parts) (bundles : List Bundle) (k : Keeps before [] bundles) where
+-- A line with parts, before lines of which it is known.
+module _ (line : Line) {lines : List Line} (again : Known lines) (v : Parts) {whole before : List Placed} {bundles : List Bundle}
+    (on : IsOn whole before bundles (with line (opens bundles) v) lines) (had : GatheredSeen) where
   abbrev l : Placed
   l = with line (opens bundles) v
 
   abbrev n : Name
   n = name_of (map upper v.name)
 
+  abbrev frames : List Frame
+  frames = frames_of whole bundles
+
+  abbrev rest : List Placed
+  rest = placed_from (path_behind l) lines
+
+  abbrev now : GatheredSeen
+  now = and_passed line.number (passing n v frames) had
+
   beside-top : top_of whole before bundles ≡ frame_of whole (opens bundles) (beside before l)
-  beside-top = ap (frame_of whole (opens bundles)) (top_beside before bundles k)
+  beside-top = ap (frame_of whole (opens bundles)) (top_beside before bundles on.kept)
 
   -- a line adds what ends there as its component says, and what is checked there in the second round
-  ends-same : {X : Type 0} (s : Sort X) (pick : Ended → List X) → Picks whole s pick → IsMatched l →
-      pick (ends n (frames_of whole bundles)) ≡ ended_as s (beside before l) l
-  ends-same s pick picks m = picked-same whole s pick picks line v before bundles m ∙ ap (λ ls. ended_as s ls l) (top_beside before bundles k)
+  ends-same : {X : Type 0} (s : Sort X) (pick : Ended → List X) → Picks whole s pick → IsMatched l → pick (ends n frames) ≡ ended_as s (beside before l) l
+  ends-same s pick picks m = picked-same whole s pick picks line v before bundles m ∙ ap (λ ls. ended_as s ls l) (top_beside before bundles on.kept)
 
-  gathered-step : (had : GatheredSeen) (rest : List Placed) → IsMatched l →
-      gathered_from whole (and_passed line.number (passing n v (frames_of whole bundles)) had) (before ++ l ∷ []) rest
-      ≡ gathered_from whole had before (l ∷ rest)
-  gathered-step had rest m =
+  gathered-step : IsMatched l → gathered_from whole now (before ++ l ∷ []) rest ≡ gathered_from whole had before (l ∷ rest)
+  gathered-step m =
       three (further had.zones _ _ (ended_from (zones whole) (before ++ l ∷ []) rest) (ends-same (zones whole) zones_of_end (zones-picked whole) m))
       (further had.events _ _ (ended_from events (before ++ l ∷ []) rest) (ends-same events events_of_end (events-picked whole) m))
       (further had.checks _ _ (checks_from whole (before ++ l ∷ []) rest)
       (ap (checks_of line.number) (check-top whole before n v bundles ∙ ap (check_in n v) beside-top)))
 
--- a line without a fault, and one with
-pub on-line-is : (number : ℕ) (o : Option FaultKind) (fs : List Frame) (p : Passed) (had : GatheredSeen) (later : Going) →
-    on_line number (fine o (fs, p)) had later ≡ refused number o (later fs (and_passed number p had))
-on-line-is number None fs p had later = refl
-on-line-is number (Some k) fs p had later = refl
+  least : fault_on n v frames ≡ find (λ kind. stands kind (beside before l) l) kinds
+  least =
+      let asked : IsAsked whole (opens bundles) (beside before l) =
+      λ z. zone-lines (opens bundles) z (beside before l) (together-in is_zone_context (opens bundles) (beside before l) refl z (together before bundles on.kept))
+      ∙ any-part whole (beside before l) in
+      fault-top whole before n v bundles ∙ ap (λ f. fault_in n v f (length (opens bundles))) beside-top
+      ∙ sym (least-same whole (opens bundles) line.number v (beside before l) asked)
 
-where-fine : {X : Type 0} (number : ℕ) (kind : Option FaultKind) (a b : Result X Fault) → (kind ≡ None → a ≡ b) → refused number kind a ≡ refused number kind b
-where-fine number None a b e = e refl
-where-fine number (Some k) a b e = refl
+  -- with its least fault, and where it has none
+  by_first : (o : Option FaultKind) → find (λ kind. stands kind (beside before l) l) kinds ≡ o →
+      on_line line.number (fine o (behind line.number n v frames, passing n v frames)) had (λ frames had. pass frames (Some line.number) had lines)
+      ≡ unless (found line.number o (first_from stands fault_at_end (before ++ l ∷ []) rest)) (gathered_from whole had before (l ∷ rest))
+  by_first (Some k) e = refl
+  by_first None e =
+      let moved = opens-behind l bundles refl in
+      ap (λ fs. pass fs (Some line.number) now lines)
+      (sym (frames-behind whole before line v bundles on.kept (closes-here whole before l bundles lines on)))
+      ∙ (rw moved at (again whole (before ++ l ∷ []) (bundles_behind l bundles) line.number (Some line.number) now (at-next l on)
+      (end-is-known whole before l (bundles_behind l bundles) moved)))
+      ∙ ap (unless (first_from stands fault_at_end (before ++ l ∷ []) rest)) (gathered-step (nested (λ kind. stands kind (beside before l) l) e))
 
 step : (line : Line) {lines : List Line} → Known lines → (o : Option Parts) {whole before : List Placed} {bundles : List Bundle} →
     IsOn whole before bundles (with_content line (opens bundles) o) lines → (had : GatheredSeen) →
@@ -190,34 +198,12 @@ step : (line : Line) {lines : List Line} → Known lines → (o : Option Parts) 
     (gathered_from whole had before (with_content line (opens bundles) o ∷ placed_from (path_behind (with_content line (opens bundles) o)) lines))
 step line again None on had = refl
 step line {lines} again (Some v) {whole} {before} {bundles} on had =
-    let path : List Open = opens bundles in
-    let l : Placed = with line path v in
-    let m : Name = name_of (map upper v.name) in
+    let l : Placed = with line (opens bundles) v in
+    let n : Name = name_of (map upper v.name) in
     let frames : List Frame = frames_of whole bundles in
-    let go : Going = λ frames had. pass frames (Some line.number) had lines in
-    let asked : IsAsked whole path (beside before l) =
-    λ z. zone-lines path z (beside before l) (together-in is_zone_context path (beside before l) refl z (together before bundles on.kept))
-    ∙ any-part whole (beside before l) in
-    let first : Option FaultKind = find (λ kind. stands kind (beside before l) l) kinds in
-    let least : fault_on m v frames ≡ first =
-    fault-top whole before m v bundles
-    ∙ ap (λ f. fault_in m v f (length path)) (beside-top whole before line v bundles on.kept)
-    ∙ sym (least-same whole path line.number v (beside before l) asked) in
-    let rest : List Placed = placed_from (path_behind l) lines in
-    let first_behind : Option Fault = first_from stands fault_at_end (before ++ l ∷ []) rest in
-    let now : GatheredSeen = and_passed line.number (passing m v frames) had in
-    let moved = opens-behind l bundles refl in
-    ap (λ r. on_line line.number r had go) (line-is line.number m v frames)
-    ∙ on-line-is line.number (fault_on m v frames) (behind line.number m v frames) (passing m v frames) had go
-    ∙ ap (λ k. refused line.number k (go (behind line.number m v frames) now)) least
-    ∙ ap (λ fs. refused line.number first (go fs now)) (sym (frames-behind whole before line v bundles on.kept (closes-here whole before l bundles lines on)))
-    ∙ ap (refused line.number first)
-    (rw moved at (again whole (before ++ l ∷ []) (bundles_behind l bundles) line.number (Some line.number) now (at-next l on)
-    (end-is-known whole before l (bundles_behind l bundles) moved)))
-    ∙ where-fine line.number first (unless first_behind (gathered_from whole now (before ++ l ∷ []) rest))
-    (unless first_behind (gathered_from whole had before (l ∷ rest)))
-    (λ none. ap (unless first_behind) (gathered-step whole before line v bundles on.kept had rest (nested (λ kind. stands kind (beside before l) l) none)))
-    ∙ passes line.number first first_behind (gathered_from whole had before (l ∷ rest))
+    ap (λ r. on_line line.number r had (λ frames had. pass frames (Some line.number) had lines))
+    (line-is line.number n v frames ∙ ap (λ o. fine o (behind line.number n v frames, passing n v frames)) (least line again v on had))
+    ∙ by_first line again v on had (find (λ kind. stands kind (beside before l) l) kinds) refl
 
 -- THE PASS SAYS WHAT THE LINES ARE.
 pass-lines : (lines : List Line) → Known lines
