@@ -12,7 +12,6 @@ use Rattle.ics_values.specs.Plain.{text_of}
 use Rattle.ics_values.specs.Rules.{rule_of}
 use Rattle.ics_values.specs.Stamps.{stamp_of}
 use Rattle.ics_fields.specs.Observances.{ObservanceSaid}
-use Rattle.ics_components.specs.declared.component.Component.TheVariants as component
 use Rattle.ics_components.specs.declared.component.Context.{Context}
 use Rattle.ics_components.specs.declared.component.Context.TheVariants as context
 use Rattle.ics_components.specs.declared.name.Name.{Name}
