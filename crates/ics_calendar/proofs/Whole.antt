@@ -40,7 +40,7 @@ settled-gathered files file r = by_fold (begins_with_fold file)
         decide o (later_fault files (placed file)) (said_of files (placed file))
         ≡ says_by (drafted_of (unless o (gathered_from (placed file) nothing_gathered [] (placed file)))) files
     by_first (Some fault) e = refl
-    by_first None e = sym (settled-is files (unfolded file) r e)
+    by_first None e = sym (settled-is (unfolded file) r e files)
 
     by_fold : (t : Bool) → cond t (Err bad_fold) (decide (first_fault (placed file)) (later_fault files (placed file)) (said_of files (placed file)))
         ≡ says_by (drafted_of (cond t (Err bad_fold) (pass (bottom ∷ []) None nothing_gathered (unfolded file)))) files
