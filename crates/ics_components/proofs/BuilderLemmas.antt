@@ -27,7 +27,7 @@ use Rattle.ics_components.specs.PlacedLines.{Placed, Open, property_name, value,
 use Rattle.ics_components.proofs.Built.{collected_of, zone_of, observance_of}
 use Rattle.ics_components.specs.Lines.{or_first, event_note, zone_note, observance_note, builder_note, joined}
 use Rattle.ics_components.specs.Builders.{observance_ended}
-use Rattle.ics_components.specs.Observances.{local_in, onset_in, offset_in, daily_in, onset_on, offset_on, daily_on, onsets_by, begins_in_zone}
+use Rattle.ics_components.specs.Observances.{local_in, onset_in, offset_in, daily_in, begins_in_zone}
 use Rattle.ics_components.proofs.NameLemmas.{Tells, tells, context-tests}
 use Rattle.ics_components.proofs.EventBuilderLemmas.{collected_of-more, kept-more, parts_at}
 use Rattle.ics_components.proofs.Table.{Readings, builder_at, readings, own, parts}
@@ -70,13 +70,7 @@ observance-noted _ u v had e = rw e refl
 pub observance_of-more : (ls : List Placed) (l : Placed) →
     observance_of (ls ++ l ∷ []) ≡ observance_note (name_of (property_name l.content)) (parts_at l) (observance_of ls)
 observance_of-more ls l =
-    rw (
-      kept-more onset_on (codes "DTSTART") ls l,
-      kept-more offset_on (codes "TZOFFSETFROM") ls l,
-      kept-more offset_on (codes "TZOFFSETTO") ls l,
-      kept-more daily_on (codes "RRULE") ls l,
-      listed-more onsets_by (codes "RDATE") ls l,
-    )
+    simp (kept-more, listed-more)
     (observance-noted (name_of (property_name l.content)) (property_name l.content) (parts_at l) (observance_of ls) (tells (property_name l.content)))
 
 -- THE OBSERVANCES of a time zone, with one line more.

@@ -1,17 +1,17 @@
 -- The values of RDATE and EXDATE, as they are read.
-use Rattle.std.proofs.Common.{rules, ◌≡◌, ℕ, ◌+◌, Bool, true, false, ◌==◌, ◌&&◌, ◌||◌, not, List, [], ◌∷◌, length, take, drop, refl, sym, ap, ◌∙◌, cond, arith, inl}
-use Rattle.std.proofs.Common.{inr, map, Option, Some, None, Result, Ok, Err, append_assoc, subst, Bor}
+use Rattle.std.proofs.Common.{rules, ◌≡◌, ℕ, ◌+◌, Bool, true, false, ◌==◌, ◌&&◌, ◌||◌, not, List, [], ◌∷◌, length, take, drop, refl, sym, ap, ◌∙◌, cond, arith}
+use Rattle.std.proofs.Common.{map, Option, Some, None, Result, Ok, Err, append_assoc, subst, Bor}
 use Rattle.std.specs.Prelude.{nat_lt, filter_map, ◌++◌, if◌then◌else◌}
 use Rattle.std.specs.List.{list_any, position, position_or_len}
 use Rattle.std.specs.Result.{result_ok, result_err}
-use Rattle.std.proofs.lemmas.Bool.Decides.{eqb_tells, nat_tests}
+use Rattle.std.proofs.lemmas.Bool.{ne_eqb}
+use Rattle.std.proofs.lemmas.Bool.Decides.{nat_tests}
 use Rattle.std.proofs.lemmas.List.{append-nil, map-append}
 use Rattle.std.proofs.lemmas.List.Elements.{filter_map-append}
 use Rattle.std.proofs.lemmas.List.Folds.{list_any-append}
 use Rattle.std.proofs.lemmas.Simd.{map-map}
-use Rattle.ics_values.specs.Digits.{are_digits}
 use Rattle.ics_values.specs.Periods.{first_half, second_half}
-use Rattle.ics_values.specs.Stamps.{is_date_time_form, date_exists, time_exists, is_stamp_year, year_of, stamp_said, stamp_of}
+use Rattle.ics_values.specs.Stamps.{is_date_time_form, date_exists, time_exists, stamp_of}
 use Rattle.ics_values.specs.declared.stamp.Stamp.{Stamp}
 use Rattle.ics_values.specs.declared.stamp.StampFault.{StampFault}
 use Rattle.ics_values.specs.declared.stamp.StampFault.TheVariants as stamp
@@ -27,20 +27,13 @@ use Rattle.ics_components.specs.Observances.{local_in}
 
 -- a stamp whose text has not the length of a DATE is a DATE-TIME
 pub date_time-is : (zoned : Bool) (text : List ℕ) → (length text ≡ 8 → ⊥) → stamp_of zoned text ≡ date_time_of zoned text
-date_time-is zoned text other = elim (eqb_tells (length text) 8) [
-  | inl e ↦ absurd (other e.1)
-  | inr e ↦
-      by_tests (length text == 8) (is_date_time_form text) (cond (not (is_stamp_year (year_of text))) (Err stamp.YearRange) (Ok (stamp_said zoned text))) e.0
-]
+date_time-is zoned text other =
+    rw (ne_eqb (length text) 8 other) (by_form (is_date_time_form text) (date_exists text) (time_exists text) _)
   where
-    exists : Bool → Bool → Bool
-    exists n f = ((n && are_digits text) && date_exists text) || (f && date_exists text && time_exists text)
-
-    by_tests : (n f : Bool) (r : Result Stamp StampFault) → n ≡ false →
-        cond (not (exists n f)) (Err stamp.BadStamp) r ≡ cond f (cond (not (exists n f)) (Err stamp.BadStamp) r) (Err stamp.BadStamp)
-    by_tests true f r e = cc
-    by_tests false true r e = refl
-    by_tests false false r e = refl
+    by_form : (f d t : Bool) (r : Result Stamp StampFault) →
+        cond (not (f && d && t)) (Err stamp.BadStamp) r ≡ cond f (cond (not (f && d && t)) (Err stamp.BadStamp) r) (Err stamp.BadStamp)
+    by_form true d t r = refl
+    by_form false d t r = refl
 
 -- an element passes exactly where there is a first that does
 any-first : (p : ℕ → Bool) (xs : List ℕ) → list_any p xs ≡ nat_lt (position_or_len p xs) (length xs)

@@ -15,7 +15,6 @@ use Rattle.ics_components.specs.DateLists.{rdate_list, exdate_list}
 use Rattle.ics_components.specs.Names.{name_of}
 use Rattle.ics_components.specs.PlacedLines.{Placed, property_name, value, value_of, params_of, is_named, first_named, first_of, all_named}
 use Rattle.ics_components.specs.Values.{dated_of, lasting_of, duration_in, rule_in, ok_or_zero, is_cancelled}
-use Rattle.ics_components.specs.Faults.{dated_on, duration_on, parts_on, rdates_on, exdates_on}
 use Rattle.ics_components.proofs.Built.{collected_of}
 use Rattle.ics_components.specs.Lines.{or_first, event_note}
 use Rattle.ics_components.proofs.NameLemmas.{Tells, tells}
@@ -72,19 +71,5 @@ noted _ u v had e = rw e refl
 pub collected_of-more : (ls : List Placed) (l : Placed) →
     collected_of (ls ++ l ∷ []) ≡ event_note (name_of (property_name l.content)) (parts_at l) (collected_of ls)
 collected_of-more ls l =
-    rw (
-      kept-more (λ l. text_of (value l)) (codes "UID") ls l,
-      kept-more dated_on (codes "DTSTART") ls l,
-      kept-more dated_on (codes "DTEND") ls l,
-      kept-more duration_on (codes "DURATION") ls l,
-      kept-more parts_on (codes "RRULE") ls l,
-      named-more rdates_on (codes "RDATE") ls l,
-      named-more exdates_on (codes "EXDATE") ls l,
-      kept-more dated_on (codes "RECURRENCE-ID") ls l,
-      kept-more (λ l. ok_or_zero (integer_of (value l))) (codes "SEQUENCE") ls l,
-      kept-more (λ l. text_of (value l)) (codes "SUMMARY") ls l,
-      kept-more (λ l. text_of (value l)) (codes "LOCATION") ls l,
-      kept-more (λ l. text_of (value l)) (codes "DESCRIPTION") ls l,
-      kept-more (λ l. is_cancelled (value l)) (codes "STATUS") ls l,
-    )
+    simp (kept-more, named-more)
     (noted (name_of (property_name l.content)) (property_name l.content) (parts_at l) (collected_of ls) (tells (property_name l.content)))

@@ -1,15 +1,12 @@
 -- What the walk over the lines finds is the first fault, and it finds one where there is one.
 use Rattle.std.proofs.Common.{◌≡◌, ◌⊎◌, List, [], ◌∷◌, ◌++◌, refl, sym, ap, ◌∙◌, Option, Some, None, append_assoc, inl, inr}
+use Rattle.std.proofs.lemmas.List.{append-nil}
 use Rattle.ics_components.specs.declared.fault.FaultKind.{FaultKind}
 use Rattle.ics_components.specs.PlacedLines.{Placed}
 use Rattle.ics_components.specs.FirstFault.{Fault, Round, found, first_from, least_on, NoneStand, IsFirst}
 
 abbrev AtEnd : Type 0
 AtEnd = List Placed → Option Fault
-
-append-nil : (xs : List Placed) → xs ++ [] ≡ xs
-append-nil [] = refl
-append-nil (x ∷ xs) = ap (λ r. x ∷ r) (append-nil xs)
 
 -- the first fault is on a line, or else it stands at the end
 abbrev pub Finds : Round → AtEnd → List Placed → List Placed → Fault → Type 0

@@ -1,9 +1,9 @@
 -- What ends on the lines of a file is in order, by what its lines say of it.
-use Rattle.std.proofs.Common.{◌≡◌, ◌≢◌, ◌≤◌, ◌+◌, ◌*◌, ℕ, ℤ, pos, neg_ℤ, Bool, true, false, ◌&&◌, not, nat_le, IsTrue, List, [], ◌∷◌, ◌++◌, map, get_or}
-use Rattle.std.proofs.Common.{refl, sym, ◌∙◌, ◌==◌, length, subst, arith, cond, Option, Some, None, is_some, IfSome, Result, Ok, Err}
+use Rattle.std.proofs.Common.{◌≡◌, ◌≢◌, ◌≤◌, ◌+◌, ◌*◌, nat_le, ℕ, pos, neg_ℤ, Bool, true, false, ◌&&◌, not, IsTrue, List, [], ◌∷◌, ◌++◌, map, get_or}
+use Rattle.std.proofs.Common.{refl, sym, ◌∙◌, ◌==◌, length, arith, cond, Option, Some, None, is_some, IfSome, Result, Ok, Err}
 use Rattle.std.specs.Prelude.{codes, drop, take, find, filter, filter_map, flat_map, int_le, option_map, unwrap_or}
 use Rattle.std.specs.List.{All, list_all, list_any}
-use Rattle.std.proofs.lemmas.Bool.{and_parts, or_parts, not-false}
+use Rattle.std.proofs.lemmas.Bool.{and_parts, or_parts, not-false, cond_both}
 use Rattle.std.proofs.lemmas.Bool.Decides.{nat_tests}
 use Rattle.std.proofs.lemmas.Int.{ints}
 use Rattle.std.proofs.lemmas.List.Elements.{All-nil, All-cons, All-append, All-head, All-tail, All-map}
@@ -11,7 +11,8 @@ use Rattle.jiff_core.specs.Calendar.{IsWithin}
 use Rattle.ics_fields.specs.Days.{IsStampDay}
 use Rattle.ics_fields.specs.Locals.{local_at}
 use Rattle.ics_fields.specs.Observances.{ObservanceSaid, is_finer_than_daily, is_finer_rule}
-use Rattle.ics_fields.specs.RuleParts.{RuleParts}
+use Rattle.ics_fields.specs.RuleParts.{RuleParts, every}
+use Rattle.ics_fields.specs.declared.frequency.Frequency.TheVariants.{Daily}
 use Rattle.ics_fields.specs.Years.{is_stamp_local}
 use Rattle.ics_fields.specs.declared.local.Local.{Local}
 use Rattle.ics_values.specs.Offsets.{is_offset_form, is_offset_text, offset_hours, offset_minutes, offset_seconds, offset_size, offset_said, offset_of}
@@ -20,7 +21,6 @@ use Rattle.ics_values.specs.RuleTexts.{pieces}
 use Rattle.ics_values.specs.Stamps.{stamp_of}
 use Rattle.ics_values.specs.Texts.{begins, is_minus, with_sign}
 use Rattle.ics_values.specs.declared.duration.Duration.{Duration}
-use Rattle.ics_values.specs.declared.offset.BadOffset.{BadOffset}
 use Rattle.ics_values.specs.declared.rule_text.RuleFault.{RuleFault}
 use Rattle.ics_values.specs.declared.stamp.Stamp.{Stamp}
 use Rattle.ics_values.specs.declared.stamp.Stamp.TheVariants.{Floating}
@@ -66,15 +66,6 @@ sign-within : (negative : Bool) (n : ℕ) → n ≤ 86_399 → IsWithin 86_399 (
 sign-within true n h = (omega (arith, ints, h), omega (arith, ints, h))
 sign-within false n h = (omega (arith, ints, h), omega (arith, ints, h))
 
-offset-within : (text : List ℕ) (o : ℤ) → offset_of text ≡ Ok o → IsWithin 86_399 o
-offset-within text o e = by_test (is_offset_text text) refl e
-  where
-    by_test : (t : Bool) → is_offset_text text ≡ t → cond {A = Result ℤ BadOffset} t (Ok (offset_said text)) (Err (record {})) ≡ Ok o → IsWithin 86_399 o
-    by_test true t e =
-        let said : offset_said text ≡ o = cc in
-        subst (λ (o : ℤ). IsWithin 86_399 o) said (sign-within (begins is_minus text) (offset_size text) (offset-small text t))
-    by_test false t e = cc
-
 -- WHAT AN OBSERVANCE'S VALUES SAY.
 onset-sound : (text : List ℕ) → IsSoundLocal (onset_in (stamp_of false text))
 onset-sound text = by_result (stamp_of false text) refl
@@ -87,19 +78,14 @@ zero-within : IsWithin 86_399 (pos 0)
 zero-within = (omega (arith, ints), omega (arith, ints))
 
 offset-sound : (text : List ℕ) → IsWithin 86_399 (offset_in (offset_of text))
-offset-sound text = by_result (offset_of text) refl
-  where
-    by_result : (r : Result ℤ BadOffset) → offset_of text ≡ r → IsWithin 86_399 (offset_in r)
-    by_result (Ok o) e = offset-within text o e
-    by_result (Err fault) e = zero-within
+offset-sound text =
+    cond_both (is_offset_text text) (Ok (offset_said text)) (Err (record {})) (λ o. IsWithin 86_399 (offset_in o))
+    (λ t. sign-within (begins is_minus text) (offset_size text) (offset-small text t)) (λ e. zero-within)
 
 daily-sound : (r : Result RuleParts RuleFault) → is_finer_than_daily (daily_in r).frequency ≡ false
 daily-sound (Err fault) = refl
-daily-sound (Ok parts) = by_test (is_finer_than_daily parts.frequency) refl
-  where
-    by_test : (t : Bool) → is_finer_than_daily parts.frequency ≡ t → is_finer_than_daily (daily_in (Ok parts)).frequency ≡ false
-    by_test true e = rw e refl
-    by_test false e = rw e e
+daily-sound (Ok parts) =
+    cond_both (is_finer_than_daily parts.frequency) (every Daily) parts (λ r. is_finer_than_daily r.frequency ≡ false) (λ e. refl) (λ e. e)
 
 abbrev AreIn : Option Local → Type 0
 AreIn o = IfSome o IsSoundLocal

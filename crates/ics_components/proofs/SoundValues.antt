@@ -1,6 +1,7 @@
 -- What is read of a value is in order.
 use Rattle.std.proofs.Common.{◌≡◌, ap, ◌∙◌, ℕ, Bool, true, false, not, List, [], ◌∷◌, refl, sym, subst, cond, Result, Ok, Err, map, ℤ, pos, arith}
 use Rattle.std.specs.List.{All}
+use Rattle.std.proofs.lemmas.Bool.{cond_both}
 use Rattle.std.proofs.lemmas.Int.{ints}
 use Rattle.std.proofs.lemmas.List.Elements.{All-nil, All-cons}
 use Rattle.ics_values.specs.Digits.{number_at}
@@ -48,18 +49,12 @@ sound-stamp zoned text = by_result (stamp_of zoned text) refl
     by_result (Err fault) e = day-zero
 
 sound-date_time : (zoned : Bool) (text : List ℕ) → IsSoundStamp (stamp_in (date_time_of zoned text))
-sound-date_time zoned text = by_test (is_date_time_form text)
-  where
-    by_test : (t : Bool) → IsSoundStamp (stamp_in (cond t (stamp_of zoned text) (Err stamp.BadStamp)))
-    by_test true = sound-stamp zoned text
-    by_test false = day-zero
+sound-date_time zoned text =
+    cond_both (is_date_time_form text) (stamp_of zoned text) (Err stamp.BadStamp) (λ r. IsSoundStamp (stamp_in r)) (λ e. sound-stamp zoned text) (λ e. day-zero)
 
 allowed-sound : (minus : Bool) (r : Result Duration DurationFault) → is_lasting (duration_in (allowed minus r)) ≡ true
-allowed-sound minus (Ok d) = by_test (is_lasting d) refl
-  where
-    by_test : (t : Bool) → is_lasting d ≡ t → is_lasting (duration_in (cond t (Ok d) (Err duration.BadDuration))) ≡ true
-    by_test true e = e
-    by_test false e = refl
+allowed-sound minus (Ok d) =
+    cond_both (is_lasting d) (Ok d) (Err duration.BadDuration) (λ r. is_lasting (duration_in r) ≡ true) (λ e. e) (λ e. refl)
 allowed-sound minus (Err duration.BadDuration) = refl
 allowed-sound true (Err duration.NumberTooLarge) = refl
 allowed-sound false (Err duration.NumberTooLarge) = refl
@@ -68,19 +63,14 @@ pub sound-lasting : (text : List ℕ) → is_lasting (duration_in (lasting_of te
 sound-lasting text = allowed-sound (begins is_minus text) (duration_of text)
 
 sound-period : (zoned : Bool) (start end : List ℕ) → IsSoundValue (listed_in (period_of zoned start end))
-sound-period zoned start end = by_test (lasts end)
-  where
-    by_test : (t : Bool) → IsSoundValue (listed_in
-        (cond t (Lasting (date_time_of zoned start) (lasting_of end)) (Between (date_time_of zoned start) (date_time_of zoned end))))
-    by_test true = (sound-date_time zoned start, sound-lasting end)
-    by_test false = (sound-date_time zoned start, sound-date_time zoned end)
+sound-period zoned start end =
+    cond_both (lasts end) (Lasting (date_time_of zoned start) (lasting_of end)) (Between (date_time_of zoned start) (date_time_of zoned end))
+    (λ v. IsSoundValue (listed_in v)) (λ e. (sound-date_time zoned start, sound-lasting end)) (λ e. (sound-date_time zoned start, sound-date_time zoned end))
 
 sound-rdate : (zoned : Bool) (text : List ℕ) → IsSoundValue (listed_in (rdate_of zoned text))
-sound-rdate zoned text = by_test (has_slash text)
-  where
-    by_test : (t : Bool) → IsSoundValue (listed_in (cond t (period_of zoned (first_half text) (second_half text)) (At (stamp_of zoned text))))
-    by_test true = sound-period zoned (first_half text) (second_half text)
-    by_test false = sound-stamp zoned text
+sound-rdate zoned text =
+    cond_both (has_slash text) (period_of zoned (first_half text) (second_half text)) (At (stamp_of zoned text)) (λ v. IsSoundValue (listed_in v))
+    (λ e. sound-period zoned (first_half text) (second_half text)) (λ e. sound-stamp zoned text)
 
 sound-values : (of : List ℕ → DateValue) → ((text : List ℕ) → IsSoundValue (listed_in (of text))) → (texts : List (List ℕ)) →
     All IsSoundValue (map listed_in (map of texts))
