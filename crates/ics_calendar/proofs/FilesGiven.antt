@@ -1,5 +1,5 @@
 -- Time zones with those of zone files: one name at a time, and what holds of them still.
-use Rattle.std.proofs.Common.{◌≡◌, ℕ, ◌+◌, ◌<◌, ◌≤◌, Bool, true, false, ◌&&◌, ◌||◌, List, [], ◌∷◌, ◌++◌, length}
+use Rattle.std.proofs.Common.{◌≡◌, ℕ, ◌+◌, ◌<◌, Bool, true, false, ◌&&◌, ◌||◌, List, [], ◌∷◌, ◌++◌, length}
 use Rattle.std.proofs.Common.{refl, sym, ap, ◌∙◌, arith, cond, Option, Some, None}
 use Rattle.std.proofs.Common.{append_assoc, is_some, IfSome, subst}
 use Rattle.std.specs.Prelude.{not, get_or, ◌==◌}
@@ -10,6 +10,7 @@ use Rattle.std.specs.Str.{bytes_eq}
 use Rattle.std.proofs.Math.Bool.{or-false}
 use Rattle.std.proofs.Math.Path.{fun_ext}
 use Rattle.std.proofs.lemmas.List.{append-nil, length-append}
+use Rattle.std.proofs.lemmas.Option.{cond_some}
 use Rattle.std.proofs.lemmas.List.Elements.{All-head, All-tail}
 use Rattle.std.proofs.lemmas.List.Quantifiers.{position-Some}
 use Rattle.ics_zone.specs.ZoneFiles.{TzifText, zone_file}
@@ -85,68 +86,20 @@ module _ (known : KnownZones) (files : GivenFiles) (n : List ℕ) where
       (zones-further (given_zones files rest) (files n))
       (λ name. bad-further (bytes_eq name) (known.is_bad name) (bad_names files rest) (files n))
 
--- FILES THAT AGREE on the names give the same.
-agree-given : (files others : GivenFiles) (names : List (List ℕ)) → All (λ name. files name ≡ others name) names →
-    given_names files names ≡ given_names others names
-agree-given files others [] h = refl
-agree-given files others (n ∷ ns) h =
-    ap (λ o. cond (is_some (zone_in o)) (n ∷ given_names files ns) (given_names files ns)) (All-head (λ name. files name ≡ others name) n ns h)
-    ∙ ap (λ ms. cond (is_some (zone_in (others n))) (n ∷ ms) ms) (agree-given files others ns (All-tail (λ name. files name ≡ others name) n ns h))
-
-agree-zones : (files others : GivenFiles) (names : List (List ℕ)) → All (λ name. files name ≡ others name) names →
-    given_zones files names ≡ given_zones others names
-agree-zones files others [] h = refl
-agree-zones files others (n ∷ ns) h =
-    ap (λ o. cons_option (zone_in o) (given_zones files ns)) (All-head (λ name. files name ≡ others name) n ns h)
-    ∙ ap (cons_option (zone_in (others n))) (agree-zones files others ns (All-tail (λ name. files name ≡ others name) n ns h))
-
-agree-bad : (files others : GivenFiles) (names : List (List ℕ)) → All (λ name. files name ≡ others name) names → bad_names files names ≡ bad_names others names
-agree-bad files others [] h = refl
-agree-bad files others (n ∷ ns) h =
-    ap (λ o. cond (is_refused o) (n ∷ bad_names files ns) (bad_names files ns)) (All-head (λ name. files name ≡ others name) n ns h)
-    ∙ ap (λ ms. cond (is_refused (others n)) (n ∷ ms) ms) (agree-bad files others ns (All-tail (λ name. files name ≡ others name) n ns h))
-
+-- FILES THAT AGREE on the names give the same, one name at a time.
 pub with-agreed : (known : KnownZones) (files others : GivenFiles) (names : List (List ℕ)) → All (λ name. files name ≡ others name) names →
     with_files known files names ≡ with_files known others names
-with-agreed known files others names h =
-    same-known (with_files known files names) (with_files known others names)
-    (λ used. ap (λ ms. option_or (known.index used) (position_from (bytes_eq used.name) (length known.zones) ms)) (agree-given files others names h))
-    (ap (λ (zs : List ZoneSaid). known.zones ++ zs) (agree-zones files others names h))
-    (λ name. ap (λ ms. known.is_bad name || list_any (bytes_eq name) ms) (agree-bad files others names h))
+with-agreed known files others [] h = refl
+with-agreed known files others (n ∷ ns) h =
+    let same : with_files known files (n ∷ []) ≡ with_files known others (n ∷ []) = rw (All-head (λ name. files name ≡ others name) n ns h) in
+    sym (with-further known files n ns)
+    ∙ with-agreed (with_files known files (n ∷ [])) files others ns (All-tail (λ name. files name ≡ others name) n ns h)
+    ∙ ap (λ known. with_files known others ns) same ∙ with-further known others n ns
 
 -- no files give nothing
 pub with-no-files : (known : KnownZones) (names : List (List ℕ)) → with_files known no_files names ≡ known
 with-no-files known [] = with-none known no_files
 with-no-files known (n ∷ ns) = with-no-files known ns
-
--- THE INDICES.
-bounds : (p : List ℕ → Bool) (n : ℕ) (xs : List (List ℕ)) → IfSome (position_from p n xs) (λ i. (n ≤ i) × (i < n + length xs))
-bounds p n [] = tt
-bounds p n (x ∷ xs) = by_test (p x) (position_from p (n + 1) xs) (bounds p (n + 1) xs)
-  where
-    later : (o : Option ℕ) → IfSome o (λ i. (n + 1 ≤ i) × (i < n + 1 + length xs)) → IfSome o (λ i. (n ≤ i) × (i < n + length (x ∷ xs)))
-    later (Some i) h = (omega (arith, h.0), omega (arith, h.1))
-    later None h = tt
-
-    by_test : (t : Bool) (o : Option ℕ) → IfSome o (λ i. (n + 1 ≤ i) × (i < n + 1 + length xs)) →
-        IfSome (cond t (Some n) o) (λ i. (n ≤ i) × (i < n + length (x ∷ xs)))
-    by_test true o h = (omega arith, omega arith)
-    by_test false o h = later o h
-
-bound-at : (p : List ℕ → Bool) (n : ℕ) (xs : List (List ℕ)) {i : ℕ} → position_from p n xs ≡ Some i → (n ≤ i) × (i < n + length xs)
-bound-at p n xs e = subst (λ o. IfSome o (λ i. (n ≤ i) × (i < n + length xs))) e (bounds p n xs)
-
-single-at : (a b : List ℕ) (n : ℕ) (xs : List (List ℕ)) {i : ℕ} → position_from (bytes_eq a) n xs ≡ Some i → position_from (bytes_eq b) n xs ≡ Some i → a ≡ b
-single-at a b n [] e f = cc
-single-at a b n (x ∷ xs) {i} e f = by_tests (single-at a b (n + 1) xs) (bytes_eq a x) (bytes_eq b x) (refl, refl) e f
-  where
-    by_tests : (position_from (bytes_eq a) (n + 1) xs ≡ Some i → position_from (bytes_eq b) (n + 1) xs ≡ Some i → a ≡ b) →
-        (s t : Bool) → (bytes_eq a x ≡ s) × (bytes_eq b x ≡ t)
-        → cond s (Some n) (position_from (bytes_eq a) (n + 1) xs) ≡ Some i → cond t (Some n) (position_from (bytes_eq b) (n + 1) xs) ≡ Some i → a ≡ b
-    by_tests again true true h e f = (bytes_decides a x).0 h.0 ∙ sym ((bytes_decides b x).0 h.1)
-    by_tests again true false h e f = let same : n ≡ i = cc in let later = bound-at (bytes_eq b) (n + 1) xs f in absurd (omega (arith, same, later.0))
-    by_tests again false true h e f = let same : n ≡ i = cc in let later = bound-at (bytes_eq a) (n + 1) xs e in absurd (omega (arith, same, later.0))
-    by_tests again false false h e f = again e f
 
 -- A NAME IN A TABLE of VTIMEZONEs.
 same-text : (a b : ZoneName) → is_same a b ≡ true → a.name ≡ b.name
@@ -169,47 +122,62 @@ table-known names zones long = record {
     by_index used (Some i) e = subst (λ n. i < n) long (position-Some (is_same used) names i used e).0
     by_index used None e = tt
 
--- and behind it those of zone files
-as-many : (files : GivenFiles) (names : List (List ℕ)) → length (given_names files names) ≡ length (given_zones files names)
-as-many files [] = refl
-as-many files (n ∷ ns) = by_given (files n) (as-many files ns)
-  where
-    by_given : (o : Option (Option TzifText)) → length (given_names files ns) ≡ length (given_zones files ns) →
-        length (cond (is_some (zone_in o)) (n ∷ given_names files ns) (given_names files ns)) ≡ length (cons_option (zone_in o) (given_zones files ns))
-    by_given (Some (Some file)) e = omega (arith, e)
-    by_given (Some None) e = e
-    by_given None e = e
-
-module _ (known : KnownZones) (files : GivenFiles) (names : List (List ℕ)) (table : IsTable known) where
-  abbrev from_file : ZoneName → Option ℕ
-  from_file used = position_from (bytes_eq used.name) (length known.zones) (given_names files names)
-
+-- and with those of zone files, one name at a time
+module _ (known : KnownZones) (table : IsTable known) where
   below-here : (used : ZoneName) (i : ℕ) → known.index used ≡ Some i → i < length known.zones
   below-here used i e = subst (λ o. IfSome o (λ i. i < length known.zones)) e (table.below used)
 
-  below-both : (used : ZoneName) (k : Option ℕ) → known.index used ≡ k → (o : Option ℕ) → from_file used ≡ o →
-      IfSome (option_or k o) (λ i. i < length (known.zones ++ given_zones files names))
-  below-both used (Some i) e o f =
-      let all = length-append known.zones (given_zones files names) in omega (arith, all, below-here used i e)
-  below-both used None e (Some i) f =
-      let all = length-append known.zones (given_zones files names) in
-      omega (arith, all, as-many files names, (bound-at (bytes_eq used.name) (length known.zones) (given_names files names) f).1)
-  below-both used None e None f = tt
+  -- a file for a name, behind the zones that are known
+  module _ (file : ZoneSaid) (n : List ℕ) where
+    abbrev from_file : ZoneName → Option ℕ
+    from_file used = cond (bytes_eq used.name n) (Some (length known.zones)) None
 
-  single-both : (a b : ZoneName) {k l : Option ℕ} {i : ℕ} → known.index a ≡ k → known.index b ≡ l →
-      option_or k (from_file a) ≡ Some i → option_or l (from_file b) ≡ Some i → a.name ≡ b.name
-  single-both a b {k = Some j} {l = Some m} {i} e f g h = table.single a b i (e ∙ g) (f ∙ h)
-  single-both a b {k = Some j} {l = None} {i} e f g h =
-      absurd (omega (arith, below-here a i (e ∙ g), (bound-at (bytes_eq b.name) (length known.zones) (given_names files names) h).0))
-  single-both a b {k = None} {l = Some m} {i} e f g h =
-      absurd (omega (arith, below-here b i (f ∙ h), (bound-at (bytes_eq a.name) (length known.zones) (given_names files names) g).0))
-  single-both a b {k = None} {l = None} e f g h = single-at a.name b.name (length known.zones) (given_names files names) g h
+    below-file : (used : ZoneName) (k : Option ℕ) → known.index used ≡ k → IfSome (option_or k (from_file used)) (λ i. i < length (known.zones ++ file ∷ []))
+    below-file used (Some i) e = let all = length-append known.zones (file ∷ []) in omega (arith, all, below-here used i e)
+    below-file used None e = by_test (bytes_eq used.name n)
+      where
+        by_test : (t : Bool) → IfSome (cond t (Some (length known.zones)) None) (λ i. i < length (known.zones ++ file ∷ []))
+        by_test true = let all = length-append known.zones (file ∷ []) in omega (arith, all)
+        by_test false = tt
 
-  pub table-with : IsTable (with_files known files names)
-  table-with = record {
-    below = λ used. below-both used (known.index used) refl (from_file used) refl;
-    single = λ a b i. single-both a b refl refl;
-  }
+    named-file : (used : ZoneName) {i : ℕ} → from_file used ≡ Some i → (i ≡ length known.zones) × (used.name ≡ n)
+    named-file used e = let at = cond_some (bytes_eq used.name n) (length known.zones) _ e in (sym at.1, (bytes_decides used.name n).0 at.0)
+
+    single-file : (a b : ZoneName) {k l : Option ℕ} {i : ℕ} → known.index a ≡ k → known.index b ≡ l →
+        option_or k (from_file a) ≡ Some i → option_or l (from_file b) ≡ Some i → a.name ≡ b.name
+    single-file a b {k = Some j} {l = Some m} {i} e f g h = table.single a b i (e ∙ g) (f ∙ h)
+    single-file a b {k = Some j} {l = None} {i} e f g h = absurd (omega (arith, below-here a i (e ∙ g), (named-file b h).0))
+    single-file a b {k = None} {l = Some m} {i} e f g h = absurd (omega (arith, below-here b i (f ∙ h), (named-file a g).0))
+    single-file a b {k = None} {l = None} e f g h = (named-file a g).1 ∙ sym (named-file b h).1
+
+  table-one : (files : GivenFiles) (n : List ℕ) → IsTable (with_files known files (n ∷ []))
+  table-one files n = by_given (files n)
+    where
+      By : Option (Option TzifText) → Type 0
+      By o = IsTable (record {
+        index = λ used. option_or (known.index used) (position_from (bytes_eq used.name) (length known.zones) (cond (is_some (zone_in o)) (n ∷ []) []));
+        zones = known.zones ++ cons_option (zone_in o) [];
+        is_bad = λ name. known.is_bad name || list_any (bytes_eq name) (cond (is_refused o) (n ∷ []) []);
+      })
+
+      none : (o : Option (Option TzifText)) → zone_in o ≡ None → By o
+      none o e = record {
+        below = λ used. rw (e, append-nil known.zones, or-none (known.index used)) (table.below used);
+        single = λ a b i. rw (e, or-none (known.index a), or-none (known.index b)) (table.single a b i);
+      }
+
+      by_given : (o : Option (Option TzifText)) → By o
+      by_given (Some (Some file)) = record {
+        below = λ used. below-file (ZoneSaid.ByFile file) n used (known.index used) refl;
+        single = λ a b i. single-file (ZoneSaid.ByFile file) n a b refl refl;
+      }
+      by_given (Some None) = none (Some None) refl
+      by_given None = none None refl
+
+pub table-with : (known : KnownZones) (files : GivenFiles) (names : List (List ℕ)) → IsTable known → IsTable (with_files known files names)
+table-with known files [] t = subst (λ k. IsTable k) (sym (with-none known files)) t
+table-with known files (n ∷ ns) t =
+    subst (λ k. IsTable k) (with-further known files n ns) (table-with (with_files known files (n ∷ [])) files ns (table-one known t files n))
 
 -- ONE FILE, PAIR OR NAME MORE.
 or-turned : (t b : Bool) → cond t true b ≡ (b || t)
