@@ -70,11 +70,6 @@ override = refl
 master : recurrences (zoned []) ≡ None ∷ []
 master = refl
 
--- the second calendar has a zone of its own of that name, and a zone may stand behind its use
-of_two_calendars : exdates (calendar (zone (codes "A")) ++ calendar (event (codes "EXDATE;TZID=A:20240106T100000" ∷ []) ++ zone (codes "A")))
-    ≡ (time (Zoned (local_at (pos 19_728) 36_000)) (Some 1) ∷ []) ∷ []
-of_two_calendars = refl
-
 -- zones that the calendar has not
 unknown_date : fault (calendar (event (codes "RDATE;TZID=A:20240106,20240107T100000Z,20240108T100000" ∷ []) ++ zone (codes "B"))) ≡ at 5 UnknownZone
 unknown_date = refl

