@@ -2,7 +2,7 @@
 use Rattle.std.proofs.Common.{◌≡◌, ℕ, List, [], ◌∷◌, ◌++◌, map, refl, Option, Some, None, inl, inr, sym, ap, ◌∙◌, subst, arith, ℤ, pos, negsuc, ◌-ℤ◌}
 use Rattle.std.specs.Prelude.{codes, slice_get}
 use Rattle.std.proofs.lemmas.Int.{ints}
-use Rattle.std.proofs.lemmas.Option.{slice_get_within}
+use Rattle.std.proofs.lemmas.Option.{same_Some, slice_get_within}
 use Rattle.ics_fields.specs.declared.local.Local.{Local}
 use Rattle.ics_zone.specs.Moments.{zone_moment}
 use Rattle.ics_zone.specs.Observances.{ObservanceSaid, IsZone, IsObservanceSaid}
@@ -20,7 +20,6 @@ use Rattle.ics_components.specs.declared.deferred_check.Instant.TheVariants.{Utc
 use Rattle.ics_components.specs.declared.deferred_check.DeferredCheck.TheVariants.{Ends}
 use Rattle.ics_components.specs.declared.deferred_check.ZoneName.{ZoneName}
 use Rattle.ics_calendar.specs.DeferredChecks.{KnownZones, known_zones, judged}
-use Rattle.ics_calendar.proofs.EventSound.{some-same}
 
 -- Worked events in time zones. What is expected is counted by hand.
 abbrev event : List (List ℕ) → List (List ℕ)
@@ -71,7 +70,7 @@ unknown_end = refl
 only : (p q : ObservanceSaid) (i : ℕ) → slice_get (p ∷ []) i ≡ Some q → p ≡ q
 only p q i h =
     let zero_at : i ≡ 0 = omega (arith, slice_get_within (p ∷ []) i q h) in
-    some-same p q (subst (λ k. slice_get (p ∷ []) k ≡ Some q) zero_at h)
+    same_Some p q (subst (λ k. slice_get (p ∷ []) k ≡ Some q) zero_at h)
 
 module _ (p : ObservanceSaid) (one : p.offset_from ≡ p.offset_to) (facts : IsObservanceSaid p) where
   zone-facts : IsZone (p ∷ [])

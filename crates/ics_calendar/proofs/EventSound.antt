@@ -9,7 +9,7 @@ use Rattle.std.proofs.lemmas.List.Elements.{All-nil, All-cons, All-head, All-tai
 use Rattle.std.specs.Option.{option_and_then}
 use Rattle.std.specs.Str.{bytes_eq}
 use Rattle.std.specs.Cmp.Lexicographic.{bytes_decides}
-use Rattle.std.proofs.lemmas.Option.{slice_get-get_or}
+use Rattle.std.proofs.lemmas.Option.{same_Some, slice_get-get_or}
 use Rattle.ics_values.specs.declared.duration.Duration.{Duration}
 use Rattle.ics_values.specs.declared.stamp.Stamp.{Stamp}
 use Rattle.ics_values.specs.declared.stamp.Stamp.TheVariants.{Date, Floating, Utc, Zoned}
@@ -30,7 +30,7 @@ use Rattle.ics_calendar.specs.Settled.{event_of}
 use Rattle.ics_components.specs.DateLists.{zone_listed}
 use Rattle.ics_calendar.specs.ListedTimes.{rdate_in, exdate_in, first_stamp}
 use Rattle.ics_components.specs.DateValues.{has_zoned}
-use Rattle.ics_calendar.specs.DeferredChecks.{KnownZones, judged, moment_at, moment_there, are_out}
+use Rattle.ics_calendar.specs.DeferredChecks.{KnownZones, judged, moment_at, moment_there, moment_of}
 use Rattle.ics_components.specs.ZoneNames.{zone_used}
 use Rattle.ics_components.specs.SecondRound.{used_zone, used_in, listed_zone, instant_on, both_compared, ends_in}
 use Rattle.ics_calendar.specs.Ready.{IsReady}
@@ -44,6 +44,7 @@ use Rattle.ics_calendar.specs.Drafts.{IsTable}
 use Rattle.ics_components.specs.declared.gathered.GivenLength.TheVariants as given
 use Rattle.ics_components.specs.declared.date_list.ListedDate.TheVariants as value
 use Rattle.ics_components.specs.declared.deferred_check.DeferredCheck.TheVariants as check
+use Rattle.ics_components.specs.declared.deferred_check.Instant.{Instant}
 use Rattle.ics_components.specs.declared.deferred_check.Instant.TheVariants as instant
 
 -- A STAMP, in the zone that it names.
@@ -110,28 +111,24 @@ module _ (known : KnownZones) where
   length-sound k s given.Open h u l = tt
 
   -- WHAT A LINE LISTS, in the zone that it names.
-  fine-first : (name : ZoneName) (a b : Bool) → IsFine known (fault_by (a || b) name) → IsFine known (fault_by a name)
-  fine-first name true b h = h
-  fine-first name false b h = tt
-
-  fine-rest : (name : ZoneName) (a b : Bool) → IsFine known (fault_by (a || b) name) → IsFine known (fault_by b name)
-  fine-rest name true true h = h
-  fine-rest name true false h = tt
-  fine-rest name false b h = h
+  fine-both : (name : ZoneName) (a b : Bool) → IsFine known (fault_by (a || b) name) → IsFine known (fault_by a name) × IsFine known (fault_by b name)
+  fine-both name true true h = (h, h)
+  fine-both name true false h = (h, tt)
+  fine-both name false b h = (tt, h)
 
   rdate-is : (name : ZoneName) (v : ListedDate) → IsSoundValue v → IsFine known (fault_by (has_zoned v) name) →
       IsRdate (rdate_in (known.index name) v)
   rdate-is name (value.At r) h k = stamp-time name r h k
   rdate-is name (value.Between r q) h k = (
-    stamp-time name r h.0 (fine-first name (is_zoned r) (is_zoned q) k),
-    stamp-time name q h.1 (fine-rest name (is_zoned r) (is_zoned q) k),
+    stamp-time name r h.0 (fine-both name (is_zoned r) (is_zoned q) k).0,
+    stamp-time name q h.1 (fine-both name (is_zoned r) (is_zoned q) k).1,
   )
   rdate-is name (value.Lasting r d) h k = (stamp-time name r h.0 k, lasting-is d h.1)
 
   exdate-is : (name : ZoneName) (v : ListedDate) → IsSoundValue v → IsFine known (fault_by (has_zoned v) name) →
       IsTime (exdate_in (known.index name) v)
   exdate-is name (value.At r) h k = stamp-time name r h k
-  exdate-is name (value.Between r q) h k = stamp-time name r h.0 (fine-first name (is_zoned r) (is_zoned q) k)
+  exdate-is name (value.Between r q) h k = stamp-time name r h.0 (fine-both name (is_zoned r) (is_zoned q) k).0
   exdate-is name (value.Lasting r d) h k = stamp-time name r h.0 k
 
   -- each value of a list, and each list
@@ -141,8 +138,8 @@ module _ (known : KnownZones) where
         (values : List ListedDate) → All IsSoundValue values → IsFine known (fault_by (list_any has_zoned values) name) → All P (map f values)
     values-are f name each [] h k = All-nil P
     values-are f name each (v ∷ vs) h k =
-        All-cons P (f v) (map f vs) (each v (All-head IsSoundValue v vs h) (fine-first name (has_zoned v) (list_any has_zoned vs) k))
-        (values-are f name each vs (All-tail IsSoundValue v vs h) (fine-rest name (has_zoned v) (list_any has_zoned vs) k))
+        let fine = fine-both name (has_zoned v) (list_any has_zoned vs) k in
+        All-cons P (f v) (map f vs) (each v (All-head IsSoundValue v vs h) fine.0) (values-are f name each vs (All-tail IsSoundValue v vs h) fine.1)
 
     lists-are : (f : Option ℕ → ListedDate → A) (calendar : ℕ) →
         ((name : ZoneName) (v : ListedDate) → IsSoundValue v → IsFine known (fault_by (has_zoned v) name) → P (f (known.index name) v)) →
@@ -169,9 +166,6 @@ module _ (known : KnownZones) where
   }
 
 -- THE ZONES OF ITS FILE.
-pub some-same : {X : Type 0} (x y : X) → Some x ≡ Some y → x ≡ y
-some-same x y h = cc
-
 fine-end : (t : Bool) → cond t (Some BadEnd) None ≡ None → t ≡ false
 fine-end true e = cc
 fine-end false e = refl
@@ -193,27 +187,15 @@ module _ (known : KnownZones) (table : IsTable known) where
       by_zone (Some z) f = rw f refl
       by_zone None f = let g = slice_get-get_or known.zones i (ZoneSaid.ByObservances []) below in cc
 
-  not-out : (a b : Option ℤ) {x y : ℤ} → a ≡ Some x → b ≡ Some y → cond (are_out a b) (Some BadEnd) None ≡ None → is_out x y ≡ false
-  not-out a b {x} {y} e f h =
-      fine-end (is_out x y) (ap (λ o. cond (are_out (Some x) o) (Some BadEnd) None) (sym f) ∙ ap (λ o. cond (are_out o b) (Some BadEnd) None) (sym e) ∙ h)
+  -- instants that are checked as an end and its start
+  instants-within : (s t : Instant) {x y : ℤ} → moment_of known s ≡ Some x → moment_of known t ≡ Some y → IsFine known (Some (check.Ends s t)) → IsWithin x y
+  instants-within s t {x} {y} e f h = out-within x y (fine-end (is_out x y) (rw (e, f) at h))
 
   abbrev time : Stamp → Option ℕ → Time
   time s o = record { stamp = s; zone = o }
 
   abbrev Within : Stamp → Option ℕ → Stamp → Option ℕ → Type 0
   Within s o t p = IsWithin (compared (is_one_zone o p) known.zones (time s o)) (compared (is_one_zone o p) known.zones (time t p))
-
-  first-zoned : (used : ZoneName) (a b : Local) {i : ℕ} → known.index used ≡ Some i →
-      IsFine known (Some (check.Ends (instant.Zoned a used) (instant.Utc b))) → Within (Zoned a) (Some i) (Utc b) None
-  first-zoned used a b {i} e h =
-      out-within (moment_in known.zones (Some i) (Zoned a)) (local_seconds b)
-      (not-out (moment_there known used a) (Some (local_seconds b)) (local-there used a i e) refl h)
-
-  second-zoned : (used : ZoneName) (a b : Local) {j : ℕ} → known.index used ≡ Some j →
-      IsFine known (Some (check.Ends (instant.Utc a) (instant.Zoned b used))) → Within (Utc a) None (Zoned b) (Some j)
-  second-zoned used a b {j} f h =
-      out-within (local_seconds a) (moment_in known.zones (Some j) (Zoned b))
-      (not-out (Some (local_seconds a)) (moment_there known used b) refl (local-there used b j f) h)
 
   -- the name of a zoned stamp is known
   index-is : (used : ZoneName) → IsFine known (Some (check.Zone used)) → (i : ℕ) × (known.index used ≡ Some i)
@@ -244,11 +226,10 @@ module _ (known : KnownZones) (table : IsTable known) where
             cc
         by_tests false true t z l h =
             let same : x ≡ y = (bytes_decides x y).0 z in
-            let one : i ≡ j = some-same i j (sym e ∙ ap (λ w. known.index (named k w)) same ∙ f) in
+            let one : i ≡ j = same_Some i j (sym e ∙ ap (λ w. known.index (named k w)) same ∙ f) in
             absurd (grind (arith, nat_tests, t, one))
         by_tests false false t z l h =
-            out-within (moment_in known.zones (Some i) (Zoned a)) (moment_in known.zones (Some j) (Zoned b))
-            (not-out (moment_there known (named k x) a) (moment_there known (named k y) b) (local-there (named k x) a i e) (local-there (named k y) b j f) h)
+            instants-within (instant.Zoned a (named k x)) (instant.Zoned b (named k y)) (local-there (named k x) a i e) (local-there (named k y) b j f) h
 
     within : (r q : Stamp) → is_bad_end (bytes_eq x y) r q ≡ false →
         IsFine known (cond (is_zoned r) (Some (check.Zone (named k x))) None) → IsFine known (cond (is_zoned q) (Some (check.Zone (named k y))) None) →
@@ -258,8 +239,10 @@ module _ (known : KnownZones) (table : IsTable known) where
         let i = index-is (named k x) u in
         let j = index-is (named k y) v in
         rw (i.1, j.1) (both-zoned a b i.1 j.1 l h)
-    within (Zoned a) (Utc b) l u v h g = let i = index-is (named k x) u in rw i.1 (first-zoned (named k x) a b i.1 h)
-    within (Utc a) (Zoned b) l u v h g = let j = index-is (named k y) v in rw j.1 (second-zoned (named k y) a b j.1 h)
+    within (Zoned a) (Utc b) l u v h g =
+        let i = index-is (named k x) u in rw i.1 (instants-within (instant.Zoned a (named k x)) (instant.Utc b) (local-there (named k x) a i.0 i.1) refl h)
+    within (Utc a) (Zoned b) l u v h g =
+        let j = index-is (named k y) v in rw j.1 (instants-within (instant.Utc a) (instant.Zoned b (named k y)) refl (local-there (named k y) b j.0 j.1) h)
     within (Date a) (Zoned b) l u v h g = cc
     within (Floating a) (Zoned b) l u v h g = cc
     within _ _ l u v h g = cc

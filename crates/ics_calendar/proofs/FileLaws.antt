@@ -13,7 +13,7 @@ use Rattle.ics_values.specs.declared.duration.Duration.{Duration}
 use Rattle.ics_values.specs.declared.duration.DurationFault.{DurationFault}
 use Rattle.ics_values.specs.declared.period.Period.{Period}
 use Rattle.ics_values.specs.declared.period.PeriodFault.{PeriodFault}
-use Rattle.ics_values.specs.declared.period.PeriodFault.TheVariants.{BadStamp, BadDuration, YearRange, NumberTooLarge}
+use Rattle.ics_values.specs.declared.period.PeriodFault.TheVariants.{BadStamp}
 use Rattle.ics_values.specs.declared.stamp.Stamp.{Stamp}
 use Rattle.ics_values.specs.declared.stamp.StampFault.{StampFault}
 use Rattle.ics_values.specs.Texts.{begins, is_minus}
@@ -125,11 +125,9 @@ halves-agree zoned one two {p} {v} h k = by_form (lasts two) (ap (λ x. both x (
 
 -- a text without a second half is no PERIOD
 no-period : (a : Result Stamp PeriodFault) (zoned : Bool) (p : Period) → both a (period.end_of zoned []) ≡ Ok p → ⊥
-no-period (Ok s) zoned p h = let f : Err BadStamp ≡ Ok p = h in cc
-no-period (Err BadStamp) zoned p h = let f : Err BadStamp ≡ Ok p = h in cc
-no-period (Err BadDuration) zoned p h = let f : Err BadDuration ≡ Ok p = h in cc
-no-period (Err YearRange) zoned p h = let f : Err BadStamp ≡ Ok p = h in cc
-no-period (Err NumberTooLarge) zoned p h = let f : Err NumberTooLarge ≡ Ok p = h in cc
+no-period (Ok s) zoned p h = cc
+no-period (Err BadStamp) zoned p h = cc
+no-period _ zoned p h = cc
 
 pub one-period : OnePeriod
 one-period zoned text p v h k = by_slash (has_slash text) refl k
