@@ -2,7 +2,7 @@
 use Rattle.std.proofs.Common.{◌≡◌, List, [], ◌∷◌, ◌++◌, inl, inr, refl, sym, ◌∙◌, ap, subst, append_assoc, ℕ, Bool, true, false, ◌+◌, ◌==◌, not}
 use Rattle.std.proofs.Common.{length, Some, Ok, Err, Result, cond, drop_of_length-le, arith, suc, ◌&&◌, Option, None}
 use Rattle.std.specs.List.{list_any, position_or_len, All}
-use Rattle.std.proofs.lemmas.Bool.{or_parts}
+use Rattle.std.proofs.lemmas.Bool.{and_parts, or_parts}
 use Rattle.std.specs.Prelude.{◌≢◌, find}
 use Rattle.ics_text.specs.Unfolded.{Line, unfolded, begins_with_fold}
 use Rattle.ics_text.specs.ContentLines.{content_of}
@@ -169,17 +169,14 @@ at-end-other line None e = let other : NotCalendar ≡ BadZoneFile = ap kind_in 
 at-end-other line (Some l) e = by_test (no_open (path_behind l)) e
   where
     by_test : (t : Bool) → cond t None (Some (record { line = l.number + 1; kind = BadNesting })) ≢ Some (bad_file line)
-    by_test true e = let other : BadNesting ≡ BadZoneFile = ap kind_in e in cc
+    by_test true e = cc
     by_test false e = let other : BadNesting ≡ BadZoneFile = ap kind_in e in cc
-
-never : (b : Bool) → (b && false) ≡ true → ⊥
-never true e = cc
-never false e = cc
 
 none-later : (lines : List Placed) (before : List Placed) (line : Placed) → stands_later (zones_with no_files lines) BadZoneFile before line ≡ true → ⊥
 none-later lines before line e =
-    never (is_in_unknown_zone (zones_on lines) line)
-    (subst (λ (known : KnownZones). (is_in_unknown_zone known line && known.is_bad (tzid_on line)) ≡ true) (zones-alone lines) e)
+    let never : false ≡ true =
+    (and_parts (is_in_unknown_zone (zones_on lines) line) false
+    (subst (λ (known : KnownZones). (is_in_unknown_zone known line && known.is_bad (tzid_on line)) ≡ true) (zones-alone lines) e)).1 in cc
 
 pub no-bad-file : (file : List ℕ) (line : ℕ) → file_of no_files file ≢ Err (bad_file line)
 no-bad-file file line e = by_cause (subst (λ (r : Result FileSaid Fault). IsFile no_files file r) e (is-file no_files file))

@@ -1,7 +1,8 @@
 -- Worked faults of time zones and their observances. What is expected comes from a separate program.
-use Rattle.std.proofs.Common.{◌≡◌, ℕ, List, [], ◌∷◌, ◌++◌, refl, None}
+use Rattle.std.proofs.Common.{◌≡◌, ℕ, List, [], ◌∷◌, ◌++◌, map, refl, Option, None}
 use Rattle.std.specs.Prelude.{codes}
 use Rattle.ics_values.specs.Rules.{rule_of}
+use Rattle.ics_components.specs.declared.fault.Fault.{Fault}
 use Rattle.ics_components.specs.declared.fault.FaultKind.TheVariants.{BadDuration, BadNesting, BadOffset, BadRule, BadStamp, NoObservance, NumberTooLarge}
 use Rattle.ics_components.specs.declared.fault.FaultKind.TheVariants.{ObservanceField, UnknownZone, YearRange, ZoneRule}
 use Rattle.ics_calendar.proofs.ExampleFiles.{calendar, fault, at}
@@ -12,6 +13,13 @@ zone lines = calendar (codes "BEGIN:VTIMEZONE" ∷ lines ++ codes "END:VTIMEZONE
 -- the observance of line 4
 abbrev standard : List (List ℕ) → List ℕ
 standard lines = zone (codes "TZID:E" ∷ codes "BEGIN:STANDARD" ∷ lines ++ codes "END:STANDARD" ∷ [])
+
+-- rows of the lines of that observance, each with the fault of the file
+abbrev Row : Type 0
+Row = List (List ℕ) × Option Fault
+
+abbrev Faults : List Row → Type 0
+Faults rows = map (λ (row : Row). fault (standard row.0)) rows ≡ map (λ (row : Row). row.1) rows
 
 -- its three fields, on lines 5 to 7
 abbrev fields : List (List ℕ)
@@ -30,56 +38,45 @@ no_name = refl
 crossed : fault (zone (codes "TZID:E" ∷ codes "BEGIN:STANDARD" ∷ codes "END:DAYLIGHT" ∷ [])) ≡ at 5 BadNesting
 crossed = refl
 
--- a field that is missing, or there twice
-two_offsets : fault (standard (codes "TZOFFSETTO:-0500" ∷ codes "TZOFFSETTO:-0500" ∷ [])) ≡ at 6 ObservanceField
-two_offsets = refl
-
-bad_offset : fault (standard (codes "TZOFFSETTO:-5" ∷ [])) ≡ at 5 BadOffset
-bad_offset = refl
-
-bad_second_offset : fault (standard (codes "TZOFFSETFROM:+0100" ∷ codes "TZOFFSETFROM:+2400" ∷ [])) ≡ at 6 BadOffset
-bad_second_offset = refl
+-- an offset that is there twice, and bad ones
+offsets : Faults (
+    (codes "TZOFFSETTO:-0500" ∷ codes "TZOFFSETTO:-0500" ∷ [], at 6 ObservanceField)
+    ∷ (codes "TZOFFSETTO:-5" ∷ [], at 5 BadOffset)
+    ∷ (codes "TZOFFSETFROM:+0100" ∷ codes "TZOFFSETFROM:+2400" ∷ [], at 6 BadOffset)
+    ∷ []
+    )
+offsets = refl
 
 -- stamps are local, whatever TZID stands beside them
-date_start : fault (standard (codes "DTSTART:20071104" ∷ [])) ≡ at 5 ObservanceField
-date_start = refl
-
-utc_start : fault (standard (codes "DTSTART:20071104T020000Z" ∷ [])) ≡ at 5 ObservanceField
-utc_start = refl
-
-far_utc_start : fault (standard (codes "DTSTART:99990101T020000Z" ∷ [])) ≡ at 5 YearRange
-far_utc_start = refl
-
-bad_start : fault (standard (codes "DTSTART:2007" ∷ [])) ≡ at 5 BadStamp
-bad_start = refl
-
-tzid_beside : fault (standard (codes "DTSTART;TZID=X:20071104T020000" ∷ codes "TZOFFSETFROM:-0400" ∷ codes "TZOFFSETTO:-0500" ∷ [])) ≡ None
-tzid_beside = refl
+starts : Faults (
+    (codes "DTSTART:20071104" ∷ [], at 5 ObservanceField)
+    ∷ (codes "DTSTART:20071104T020000Z" ∷ [], at 5 ObservanceField)
+    ∷ (codes "DTSTART:99990101T020000Z" ∷ [], at 5 YearRange)
+    ∷ (codes "DTSTART:2007" ∷ [], at 5 BadStamp)
+    ∷ (codes "DTSTART;TZID=X:20071104T020000" ∷ codes "TZOFFSETFROM:-0400" ∷ codes "TZOFFSETTO:-0500" ∷ [], None)
+    ∷ []
+    )
+starts = refl
 
 -- RDATE
-good_dates : fault (standard (fields ++ codes "RDATE:20081102T020000,20091101T020000" ∷ codes "RDATE:20101107T020000" ∷ [])) ≡ None
-good_dates = refl
-
-date_among : fault (standard (codes "RDATE:20081102T020000,20091101" ∷ [])) ≡ at 5 ObservanceField
-date_among = refl
-
-period : fault (standard (codes "RDATE:20081102T020000/PT1H" ∷ [])) ≡ at 5 ObservanceField
-period = refl
-
-bad_period : fault (standard (codes "RDATE:20081102T020000/PT" ∷ [])) ≡ at 5 BadDuration
-bad_period = refl
-
-large_period : fault (standard (codes "RDATE:20081102T020000/P4294967296D" ∷ [])) ≡ at 5 NumberTooLarge
-large_period = refl
+dates : Faults (
+    (fields ++ codes "RDATE:20081102T020000,20091101T020000" ∷ codes "RDATE:20101107T020000" ∷ [], None)
+    ∷ (codes "RDATE:20081102T020000,20091101" ∷ [], at 5 ObservanceField)
+    ∷ (codes "RDATE:20081102T020000/PT1H" ∷ [], at 5 ObservanceField)
+    ∷ (codes "RDATE:20081102T020000/PT" ∷ [], at 5 BadDuration)
+    ∷ (codes "RDATE:20081102T020000/P4294967296D" ∷ [], at 5 NumberTooLarge)
+    ∷ []
+    )
+dates = refl
 
 -- RRULE
-two_rules : fault (standard (codes "RRULE:FREQ=DAILY" ∷ codes "RRULE:FREQ=DAILY" ∷ [])) ≡ at 6 ZoneRule
+rules : Faults (
+    (codes "RRULE:FREQ=DAILY" ∷ codes "RRULE:FREQ=DAILY" ∷ [], at 6 ZoneRule)
+    ∷ (codes "RRULE:FREQ=DAILY" ∷ codes "RRULE:FREQ" ∷ [], at 6 BadRule)
+    ∷ []
+    )
 unfolding rule_of
-two_rules = refl
-
-bad_rule : fault (standard (codes "RRULE:FREQ=DAILY" ∷ codes "RRULE:FREQ" ∷ [])) ≡ at 6 BadRule
-unfolding rule_of
-bad_rule = refl
+rules = refl
 
 -- New York from 2007 on
 abbrev new_york : List (List ℕ)
