@@ -1,10 +1,11 @@
 -- The second round checks the zones of each event's stamps, and its end against its start.
-use Rattle.std.proofs.Common.{◌≡◌, ℕ, Bool, true, false, List, [], ◌∷◌, ◌++◌, map, refl, subst, cond, Option, Some, None, IfSome}
+use Rattle.std.proofs.Common.{◌≡◌, ℕ, Bool, true, false, List, [], ◌∷◌, ◌++◌, map, refl, subst, cond, Option, Some, None, IfSome, sym, ◌∙◌, Ok}
 use Rattle.std.specs.Prelude.{codes, get_or, option_map, ◌==◌}
 use Rattle.std.specs.Str.{bytes_eq}
-use Rattle.std.specs.List.{All}
+use Rattle.std.specs.List.{All, Contains}
 use Rattle.std.proofs.lemmas.Bool.{and_parts}
 use Rattle.std.proofs.lemmas.List.Elements.{All-nil, All-cons, All-push, All-append, All-head, All-tail, All-map, All-filter, filter_passes}
+use Rattle.std.proofs.lemmas.List.Elements.{All-contains_itself}
 use Rattle.ics_values.specs.declared.stamp.Stamp.{Stamp}
 use Rattle.ics_values.specs.declared.stamp.Stamp.TheVariants as stamp
 use Rattle.ics_values.specs.declared.duration.Duration.{Duration}
@@ -24,13 +25,12 @@ use Rattle.ics_components.specs.declared.name.Name.{Name}
 use Rattle.ics_components.specs.declared.name.Name.TheVariants as name
 use Rattle.ics_components.specs.Builders.{event_ended}
 use Rattle.ics_components.specs.Components.{is_event_context}
-use Rattle.ics_components.specs.Faults.{first_dated, dated_on, rdates_on, exdates_on}
+use Rattle.ics_components.specs.Faults.{first_dated, dated_on, rdates_on, exdates_on, stands}
 use Rattle.ics_components.specs.Names.{name_of}
 use Rattle.ics_components.specs.PlacedLines.{Placed, Open, beside, innermost, calendar_of, context_of, property_name, params_of, value_of, is_named}
-use Rattle.ics_components.specs.PlacedLines.{all_named, first_of}
-use Rattle.ics_components.specs.PlacedLines.{ends_event, is_closing, is_end}
+use Rattle.ics_components.specs.PlacedLines.{all_named, first_of, ends_event, is_closing, is_end, placed_from}
 use Rattle.ics_fields.specs.Locals.{local_seconds}
-use Rattle.ics_components.specs.Gathered.{IsSoundInstant, IsSoundCheck, checks_of}
+use Rattle.ics_components.specs.Gathered.{IsSoundInstant, IsSoundCheck, checks_of, IsSoundGathered, nothing_gathered}
 use Rattle.ics_components.specs.ZoneNames.{zone_used, are_of_one_zone}
 use Rattle.ics_components.specs.Lines.{event_check, end_check}
 use Rattle.ics_components.specs.SecondRound.{used_zone, used_in, listed_zone, instant_on, instant_in, both_compared, ends_in}
@@ -40,13 +40,18 @@ use Rattle.ics_components.specs.Values.{is_out}
 use Rattle.ics_components.proofs.Bundles.{Together, together-in}
 use Rattle.ics_components.proofs.Built.{collected_of}
 use Rattle.ics_components.proofs.Ended.{events}
-use Rattle.ics_components.proofs.EventBuilderLemmas.{parts_at, raw_name}
+use Rattle.ics_components.proofs.BuilderLemmas.{parts_at, raw_name}
 use Rattle.ics_components.proofs.Judged.{check_in}
 use Rattle.ics_components.proofs.NameLemmas.{equal}
 use Rattle.ics_components.proofs.Order.{ended_as, ended_from, end-name}
-use Rattle.ics_components.proofs.PassLemmas.{AreTogether, checks_from, checks_on, later_by}
-use Rattle.ics_components.proofs.Sound.{dated-said, one-ended}
+use Rattle.ics_components.proofs.PassLemmas.{AreTogether, checks_from, checks_on, later_by, gathered_from, pass-whole, together-whole}
+use Rattle.ics_components.proofs.Sound.{dated-said, one-ended, zones-sound, events-whole}
 use Rattle.ics_components.proofs.Table.{Readings, builder_at, frame_at, frame_of, readings}
+use Rattle.ics_text.specs.Unfolded.{Line, Rises}
+use Rattle.ics_components.specs.FirstFault.{Fault, first_fault, fault_at_end}
+use Rattle.ics_components.specs.GatheredSeen.{GatheredSeen}
+use Rattle.ics_components.specs.Pass.{bottom, unless, pass}
+use Rattle.ics_components.proofs.Firsts.{finds-none}
 
 -- THE CHECK that a line leaves, where it stands directly in an event of that calendar.
 abbrev content_check : ℕ → Option Parts → Option DeferredCheck
@@ -229,3 +234,31 @@ checks-sound whole before (l ∷ ls) =
     by_content (Some v) =
         one-sound l.number (check_in (name_of (map upper v.name)) v (frame_of whole l.path (beside before l)))
         (check-sound _ (context_of l.path) whole l.path (beside before l) (name_of (map upper v.name)) v)
+
+-- What is gathered is sound, where the first round finds nothing.
+pub sound-pass : (lines : List Line) (g : GatheredSeen) → Rises 0 lines → pass (bottom ∷ []) None nothing_gathered lines ≡ Ok g → IsSoundGathered g
+sound-pass lines g r e = by_first (first_fault whole) refl (sym (pass-whole lines r) ∙ e)
+  where
+    whole : List Placed
+    whole = placed_from [] lines
+
+    Checked : DeferredCheck → Type 0
+    Checked = Contains (map (λ w. w.check) (checks_from whole [] whole))
+
+    gathered : first_fault whole ≡ None → IsSoundGathered (gathered_from whole nothing_gathered [] whole)
+    gathered h =
+        let none = (finds-none stands fault_at_end [] whole h).0 in
+        record {
+          zones = zones-sound whole [] whole none (together-whole lines r);
+          whole = events-whole [] whole none (together-whole lines r);
+          awaited =
+              events-awaited Checked whole [] whole (All-nil (IsSeen Checked))
+              (all-checks Checked (checks_from whole [] whole) (All-contains_itself (map (λ w. w.check) (checks_from whole [] whole))))
+              (together-whole lines r);
+          sound = checks-sound whole [] whole;
+        }
+
+    by_first : (o : Option Fault) → first_fault whole ≡ o → unless o (gathered_from whole nothing_gathered [] whole) ≡ Ok g → IsSoundGathered g
+    by_first (Some f) h k = cc
+    by_first None h k =
+        let same : gathered_from whole nothing_gathered [] whole ≡ g = cc in subst (λ (g : GatheredSeen). IsSoundGathered g) same (gathered h)

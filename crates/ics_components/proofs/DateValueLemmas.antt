@@ -36,7 +36,7 @@ date_time-is zoned text other =
     by_form false d t r = refl
 
 -- an element passes exactly where there is a first that does
-any-first : (p : ℕ → Bool) (xs : List ℕ) → list_any p xs ≡ nat_lt (position_or_len p xs) (length xs)
+pub any-first : (p : ℕ → Bool) (xs : List ℕ) → list_any p xs ≡ nat_lt (position_or_len p xs) (length xs)
 any-first p [] = refl
 any-first p (x ∷ xs) = by_test (p x) (any-first p xs)
   where

@@ -12,13 +12,12 @@ use Rattle.ics_components.specs.PlacedLines.{Placed, Open, property_name, contex
 use Rattle.ics_components.proofs.Built.{collected_of, zone_of}
 use Rattle.ics_components.specs.Builders.{event_ended, zone_ended}
 use Rattle.ics_components.proofs.NameLemmas.{context-in-outside, context-tests, tells}
-use Rattle.ics_components.proofs.EventBuilderLemmas.{collected_of-more, parts_at}
+use Rattle.ics_components.proofs.BuilderLemmas.{collected_of-more, parts_at, zone_of-more, parts-same}
 use Rattle.ics_components.proofs.Ended.{events, zones}
 use Rattle.ics_components.proofs.Order.{open_as, IsSort, Sort, inside, begun}
 use Rattle.ics_components.specs.declared.deferred_check.ZoneName.{ZoneName}
 use Rattle.ics_components.specs.Faults.{first_text}
 use Rattle.ics_components.specs.Observances.{begins_zone, name_by}
-use Rattle.ics_components.proofs.BuilderLemmas.{zone_of-more, parts-same}
 use Rattle.ics_components.proofs.Judged.{is_begin_name}
 use Rattle.ics_components.proofs.Frames.{begin-is}
 use Rattle.ics_components.proofs.Table.{parts}

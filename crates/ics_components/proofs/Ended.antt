@@ -16,8 +16,7 @@ use Rattle.ics_components.specs.declared.gathered.EndedEvent.{EndedEvent}
 use Rattle.ics_components.specs.declared.gathered.EndedZone.{EndedZone}
 use Rattle.ics_components.specs.Components.{component_of, is_event_context, is_zone_context}
 use Rattle.ics_components.specs.Names.{name_of}
-use Rattle.ics_components.specs.PlacedLines.{Placed, Open, context_of, calendar_of, is_end, is_closing, lines_in}
-use Rattle.ics_components.specs.PlacedLines.{begins_event}
+use Rattle.ics_components.specs.PlacedLines.{Placed, Open, context_of, calendar_of, is_end, is_closing, lines_in, begins_event}
 use Rattle.ics_components.specs.Observances.{begins_zone}
 use Rattle.ics_components.proofs.Built.{collected_of, zone_of}
 use Rattle.ics_components.specs.Builders.{event_ended, zone_ended}

@@ -14,18 +14,15 @@ use Rattle.ics_components.specs.declared.name.Name.{Name}
 use Rattle.ics_components.specs.declared.name.Name.TheVariants as name
 use Rattle.ics_components.specs.Components.{component_of, context_in}
 use Rattle.ics_components.specs.Names.{name_of}
-use Rattle.ics_components.specs.PlacedLines.{Placed, Open, context_of, property_name, is_begin, is_end, component, path_behind, calendar_of}
-use Rattle.ics_components.specs.PlacedLines.{lines_in}
+use Rattle.ics_components.specs.PlacedLines.{Placed, Open, context_of, property_name, is_begin, is_end, component, path_behind, calendar_of, lines_in}
 use Rattle.ics_components.specs.Builders.{fresh, observance_ended}
 use Rattle.ics_components.proofs.Built.{observance_of}
 use Rattle.ics_components.specs.Pass.{bottom}
 use Rattle.ics_components.specs.Lines.{opened, observance_note, joined}
-use Rattle.ics_components.proofs.Judged.{fault_in, fault_on, check_in, check_on, noted, closed, behind, end-inside, is_begin_name}
-use Rattle.ics_components.proofs.Judged.{is_end_name}
+use Rattle.ics_components.proofs.Judged.{fault_in, fault_on, check_in, check_on, noted, closed, behind, end-inside, is_begin_name, is_end_name}
 use Rattle.ics_components.proofs.NameLemmas.{Tells, tells, equal, context-in-outside}
-use Rattle.ics_components.proofs.EventBuilderLemmas.{parts_at}
+use Rattle.ics_components.proofs.BuilderLemmas.{parts_at, observance_of-more, builder-more, builder-begun, still}
 use Rattle.ics_components.proofs.Table.{Readings, builder_at, frame_at, own, readings, frame_of}
-use Rattle.ics_components.proofs.BuilderLemmas.{observance_of-more, builder-more, builder-begun, still}
 use Rattle.ics_components.proofs.Bundles.{Bundle, IsKept, Keeps, opens, top_lines, add_line, close, bundles_behind}
 
 -- the frames that the bundles of lines stand for, in a file of all these lines

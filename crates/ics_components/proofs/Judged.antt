@@ -18,8 +18,7 @@ use Rattle.ics_components.specs.declared.name.Name.TheVariants as name
 use Rattle.ics_components.specs.declared.builder.Builder.{Builder}
 use Rattle.ics_components.specs.Components.{component_of, component_name}
 use Rattle.ics_components.specs.Lines.{unless, first, fault_if, builder_fault, builder_note, builder_check, passed, fault_at_end_of, ended_as, joined}
-use Rattle.ics_components.specs.Lines.{end_check}
-use Rattle.ics_components.specs.Lines.{opened, outside_fault, begin_fault, frame_fault, named_line}
+use Rattle.ics_components.specs.Lines.{end_check, opened, outside_fault, begin_fault, frame_fault, named_line}
 
 abbrev pub ended_in : Frame → Ended
 ended_in f = ended_as f.calendar f.builder

@@ -3,8 +3,7 @@ pub mod DateValueLemmas
 pub mod Judged
 pub mod Table
 pub mod Built
-mod BuilderLemmas
-pub mod EventBuilderLemmas
+pub mod BuilderLemmas
 pub mod Bundles
 pub mod Frames
 pub mod Order
@@ -12,8 +11,6 @@ pub mod Ended
 pub mod PassLemmas
 pub mod EndOrder
 pub mod Firsts
-pub mod SoundValues
 pub mod Sound
 pub mod Listed
 pub mod Awaits
-pub mod PassSound

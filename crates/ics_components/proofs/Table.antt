@@ -1,11 +1,11 @@
 -- The table of faults and the pass find one fault on a line.
 use Rattle.std.proofs.Common.{rules, ◌≡◌, ℕ, Bool, true, false, List, [], ◌∷◌, map, refl, sym, ap, ◌∙◌, arith, cond, suc, Option, Some, None, Result, Ok, Err}
-use Rattle.std.proofs.Common.{ℤ, inl, inr}
+use Rattle.std.proofs.Common.{ℤ}
 use Rattle.std.specs.Prelude.{codes, length, find, filter, not, nat_le, ◌==◌, ◌||◌, is_some, option_map}
 use Rattle.std.specs.List.{list_any}
 use Rattle.std.specs.Str.{bytes_eq}
 use Rattle.std.proofs.Math.Bool.{and-true, and_assoc, or_comm}
-use Rattle.std.proofs.lemmas.Bool.Decides.{eqb_tells}
+use Rattle.std.proofs.lemmas.Bool.{ne_eqb}
 use Rattle.ics_text.specs.Bytes.{upper}
 use Rattle.ics_text.specs.ContentLines.{Parts}
 use Rattle.ics_values.specs.Rules.{rule_of}
@@ -73,16 +73,13 @@ own whole l = observance_by (lines_in l.number whole)
 abbrev pub parts : List Placed → List Placed → List ObservanceSaid
 parts whole ls = map (own whole) (filter begins_in_zone ls)
 
-some-more : (n : ℕ) → not (suc n == 0) ≡ true
-some-more n = elim (eqb_tells (suc n) 0) [ inl e ↦ absurd (omega (arith, e.1)) | inr e ↦ ap not e.0 ]
-
 pub any-part : (whole ls : List Placed) → list_any begins_in_zone ls ≡ not (length (parts whole ls) == 0)
 any-part whole [] = refl
 any-part whole (l ∷ ls) = by_test (begins_in_zone l) (any-part whole ls)
   where
     by_test : (t : Bool) → list_any begins_in_zone ls ≡ not (length (parts whole ls) == 0) →
         (t || list_any begins_in_zone ls) ≡ not (length (map (own whole) (cond t (l ∷ filter begins_in_zone ls) (filter begins_in_zone ls))) == 0)
-    by_test true e = sym (some-more (length (map (own whole) (filter begins_in_zone ls))))
+    by_test true e = sym (ap not (ne_eqb (suc (length (parts whole ls))) 0 (λ e. omega (arith, e))))
     by_test false e = e
 
 -- what is collected of some lines, where these components are open

@@ -6,7 +6,7 @@ use Rattle.ics_components.specs.FirstFault.{Fault}
 use Rattle.ics_components.specs.Gathered.{nothing_gathered, IsSoundGathered}
 use Rattle.ics_components.specs.GatheredSeen.{GatheredSeen}
 use Rattle.ics_components.specs.Pass.{pass, bottom}
-use Rattle.ics_components.proofs.PassSound.{sound-pass}
+use Rattle.ics_components.proofs.Awaits.{sound-pass}
 use Rattle.ics_components.proofs.PassLemmas.{fits-from_within}
 use Rattle.ics_components.proofs.first_round.gather.Goals as goal
 
