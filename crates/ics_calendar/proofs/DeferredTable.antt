@@ -1,6 +1,5 @@
 -- The table of the second round and the pass find one fault on a line, and ask for one time zone.
-use Rattle.std.proofs.Common.{◌≡◌, ◌⊎◌, inl, inr, ℕ, Bool, true, false, ◌&&◌, List, map, refl, sym, ap, ◌∙◌, cond, Option, Some, None}
-use Rattle.std.proofs.Common.{is_some, ℤ}
+use Rattle.std.proofs.Common.{◌≡◌, ◌⊎◌, inl, inr, ℕ, Bool, true, false, ◌&&◌, List, map, refl, sym, ap, ◌∙◌, cond, Option, Some, None, is_some, ℤ}
 use Rattle.std.specs.Prelude.{find, not}
 use Rattle.std.specs.Option.{option_and_then}
 use Rattle.std.proofs.Math.Bool.{or-false}
@@ -28,9 +27,8 @@ use Rattle.ics_components.specs.PlacedLines.{Placed, Open, context_of, closes, e
 use Rattle.ics_components.specs.Values.{dated_of, is_out}
 use Rattle.ics_components.specs.Faults.{kinds}
 use Rattle.ics_calendar.specs.LaterFaults.{is_in_zone, is_in_unknown_zone, stands_later, tzid_on}
-use Rattle.ics_calendar.specs.DeferredChecks.{KnownZones, are_out, moment_on, moment_in, ends_badly_later, moment_of, judged}
+use Rattle.ics_calendar.specs.DeferredChecks.{KnownZones, are_out, moment_on, moment_in, ends_badly_later, moment_of, judged, unknown_in}
 use Rattle.ics_components.specs.ZoneNames.{zone_used, are_of_one_zone}
-use Rattle.ics_calendar.specs.DeferredChecks.{unknown_in}
 use Rattle.ics_components.specs.SecondRound.{instant_on, instant_in, both_compared, ends_in}
 use Rattle.ics_components.proofs.Judged.{check_in}
 use Rattle.ics_components.proofs.Ended.{IsMatched}

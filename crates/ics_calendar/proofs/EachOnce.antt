@@ -1,7 +1,6 @@
 -- A list of names with a set of the names seen so far beside it has each name once, in the order of their first places.
-use Rattle.std.proofs.Common.{◌≡◌, ℕ, ◌+◌, ◌<◌, Bool, true, false, ◌||◌, List, [], ◌∷◌, ◌++◌, filter, drop, length, get_or}
-use Rattle.std.proofs.Common.{refl, sym, ap, ◌∙◌, cond, append_assoc}
-use Rattle.std.proofs.Common.{add-one, drop-cons, Option, Some, None}
+use Rattle.std.proofs.Common.{◌≡◌, ℕ, ◌+◌, ◌<◌, Bool, true, false, ◌||◌, List, [], ◌∷◌, ◌++◌, filter, drop, length, get_or, refl, sym, ap, ◌∙◌, cond}
+use Rattle.std.proofs.Common.{append_assoc, add-one, drop-cons, Option, Some, None}
 use Rattle.std.specs.Prelude.{not}
 use Rattle.std.specs.List.{cons_option}
 use Rattle.std.specs.Str.{bytes_eq}

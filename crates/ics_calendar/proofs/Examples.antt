@@ -6,8 +6,7 @@ use Rattle.ics_fields.specs.RuleParts.{RuleParts, every}
 use Rattle.ics_values.specs.Rules.{rule_of}
 use Rattle.ics_fields.specs.declared.frequency.Frequency.TheVariants.{Daily}
 use Rattle.ics_values.specs.declared.stamp.Stamp.TheVariants.{Utc}
-use Rattle.ics_components.specs.declared.fault.FaultKind.TheVariants.{BadLine, BadNesting, NotCalendar, Repeated}
-use Rattle.ics_components.specs.declared.fault.FaultKind.TheVariants.{UnknownZone}
+use Rattle.ics_components.specs.declared.fault.FaultKind.TheVariants.{BadLine, BadNesting, NotCalendar, Repeated, UnknownZone}
 use Rattle.ics_event.specs.declared.time.Length.TheVariants.{Until}
 use Rattle.ics_calendar.specs.Files.{file_of}
 use Rattle.ics_calendar.specs.GivenFiles.{no_files}

@@ -1,8 +1,8 @@
 -- The laws of what a file is.
-use Rattle.std.proofs.Common.{◌≡◌, List, [], ◌∷◌, ◌++◌, inl, inr, refl, sym, ◌∙◌, ap, subst, append_assoc, ℕ, Bool, true, false, ◌+◌, ◌==◌, not}
-use Rattle.std.proofs.Common.{length, Some, Ok, Err, Result, cond, drop_of_length-le, arith, suc, ◌&&◌, Option, None}
-use Rattle.std.specs.List.{list_any, position_or_len, All}
-use Rattle.std.proofs.lemmas.Bool.{and_parts, or_parts}
+use Rattle.std.proofs.Common.{◌≡◌, List, [], ◌∷◌, ◌++◌, inl, inr, refl, sym, ◌∙◌, ap, subst, append_assoc, ℕ, Bool, true, false, ◌+◌, ◌==◌, Some}
+use Rattle.std.proofs.Common.{Ok, Err, Result, cond, drop_of_length-le, arith, ◌&&◌, Option, None}
+use Rattle.std.specs.List.{All}
+use Rattle.std.proofs.lemmas.Bool.{and_parts, ltb-false}
 use Rattle.std.specs.Prelude.{◌≢◌, find}
 use Rattle.ics_text.specs.Unfolded.{Line, unfolded, begins_with_fold}
 use Rattle.ics_text.specs.ContentLines.{content_of}
@@ -22,11 +22,9 @@ use Rattle.ics_values.specs.declared.duration.DurationFault.TheVariants as durat
 use Rattle.ics_values.specs.declared.stamp.StampFault.TheVariants as stamp
 use Rattle.ics_components.specs.Faults.{stands, kinds}
 use Rattle.ics_calendar.specs.LaterFaults.{stands_later, is_in_unknown_zone, tzid_on}
-use Rattle.ics_calendar.specs.Files.{FaultsLookBack, IsFile, file_of, decide, events_of, said_of, wanted_names, wanted_on}
-use Rattle.ics_components.specs.FirstFault.{bad_fold}
+use Rattle.ics_calendar.specs.Files.{FaultsLookBack, IsFile, file_of, decide, events_of, said_of, wanted_names, wanted_on, later_fault}
+use Rattle.ics_components.specs.FirstFault.{bad_fold, Round, IsFirst, first_fault, first_from, end_fault, last_of, no_open}
 use Rattle.ics_components.specs.declared.fault.Fault.{Fault}
-use Rattle.ics_components.specs.FirstFault.{Round, IsFirst, first_fault, first_from, end_fault, last_of, no_open}
-use Rattle.ics_calendar.specs.Files.{later_fault}
 use Rattle.ics_components.specs.PlacedLines.{Open, Placed, placed, placed_from, path_behind, beside}
 use Rattle.ics_components.specs.declared.date_list.ListedDate.{ListedDate}
 use Rattle.ics_components.specs.DateValues.{At, Between, Lasting, date_time_of, has_slash, listed_by, listed_said, period_of, OnePeriod}
@@ -38,6 +36,7 @@ use Rattle.ics_event.specs.Event.{FileSaid}
 use Rattle.ics_calendar.specs.GivenFiles.{GivenFiles, no_files}
 use Rattle.ics_calendar.specs.Wanted.{each_once, unknown_names, zones_with}
 use Rattle.ics_calendar.specs.Zones.{zones_on}
+use Rattle.ics_components.proofs.DateValueLemmas.{any-first}
 use Rattle.ics_calendar.proofs.FilesGiven.{with-no-files, with-agreed}
 use Rattle.ics_calendar.proofs.Whole.{is-file}
 
@@ -75,17 +74,9 @@ look-back files file longer more fault e f h =
     inr (f, inl (inl (subst (λ (ls : List Placed). IsFirst stands [] ls fault) (sym split) first)))
 
 -- A file reads of a PERIOD what the reader of periods does.
--- where no byte passes, nothing stands after the first that does
-none-passes : (p : ℕ → Bool) (xs : List ℕ) → list_any p xs ≡ false → position_or_len p xs ≡ length xs
-none-passes p [] h = refl
-none-passes p (x ∷ xs) h = by_test (p x) (or_parts (p x) (list_any p xs) h).0 (none-passes p xs (or_parts (p x) (list_any p xs) h).1)
-  where
-    by_test : (t : Bool) → t ≡ false → position_or_len p xs ≡ length xs → cond (not t) (1 + position_or_len p xs) 0 ≡ suc (length xs)
-    by_test true e k = cc
-    by_test false e k = omega (arith, k)
-
+-- a text without a `/` has no second half
 no-second-half : (text : List ℕ) → has_slash text ≡ false → second_half text ≡ []
-no-second-half text h = drop_of_length-le text (omega (arith, none-passes (λ b. b == 47) text h))
+no-second-half text h = let none = ltb-false _ _ (sym (any-first (λ b. b == 47) text) ∙ h) in drop_of_length-le text (omega (arith, none))
 
 -- a half is a stamp with a time, or the fault that it has
 half-is : (zoned : Bool) (text : List ℕ) → half_of zoned text ≡ stamp_half (date_time_of zoned text)

@@ -13,32 +13,28 @@ use Rattle.ics_components.specs.declared.gathered.EndedZone.{EndedZone}
 use Rattle.ics_components.specs.declared.gathered.LineCheck.{LineCheck}
 use Rattle.ics_components.specs.declared.deferred_check.DeferredCheck.{DeferredCheck}
 use Rattle.ics_components.specs.declared.deferred_check.ZoneName.{ZoneName}
-use Rattle.ics_calendar.specs.Settled.{event_of}
+use Rattle.ics_calendar.specs.Settled.{event_of, first_judged, settled_by, known_in, drafted, all_unknown}
 use Rattle.ics_components.specs.Faults.{stands}
 use Rattle.ics_calendar.specs.LaterFaults.{stands_later, is_in_unknown_zone, tzid_on}
-use Rattle.ics_calendar.specs.Files.{DraftSaid, event_by, said_of, decide}
-use Rattle.ics_components.specs.PlacedLines.{begins_event}
+use Rattle.ics_calendar.specs.Files.{DraftSaid, event_by, said_of, decide, later_fault}
+use Rattle.ics_components.specs.PlacedLines.{begins_event, Placed, Open, path_behind, placed_from, beside, calendar_of, lines_in}
 use Rattle.ics_components.specs.FirstFault.{found, least_on, first_from, first_fault, fault_at_end}
-use Rattle.ics_calendar.specs.Files.{later_fault}
-use Rattle.ics_calendar.specs.Settled.{first_judged, settled_by, known_in, drafted, all_unknown}
 use Rattle.ics_components.specs.Gathered.{nothing_gathered, checks_of}
 use Rattle.ics_components.specs.GatheredSeen.{GatheredSeen}
 use Rattle.ics_calendar.specs.DeferredChecks.{KnownZones, known_zones, with_files, judged, unknown_in}
 use Rattle.ics_calendar.specs.GivenFiles.{GivenFiles}
 use Rattle.ics_calendar.specs.Wanted.{each_once, unknown_names, zones_with}
 use Rattle.ics_components.proofs.Judged.{check_in}
-use Rattle.ics_components.specs.PlacedLines.{Placed, Open, path_behind, placed_from, beside, calendar_of, lines_in}
 use Rattle.ics_components.specs.Names.{name_of}
 use Rattle.ics_components.specs.Observances.{begins_zone, zone_by, zone_names}
 use Rattle.ics_calendar.specs.Zones.{zones_on}
 use Rattle.ics_components.proofs.Ended.{events, zones, IsMatched}
-use Rattle.ics_components.proofs.EndOrder.{events-are}
+use Rattle.ics_components.proofs.EndOrder.{events-are, zones-are, names-begun, calendar-inside, begun-same}
 use Rattle.ics_components.proofs.Frames.{with}
 use Rattle.ics_calendar.proofs.DeferredTable.{later-same, asked-same}
 use Rattle.ics_components.proofs.Order.{found-none, inside, begun, IsPlaced, ordered, nested}
 use Rattle.ics_components.proofs.PassLemmas.{checks_from, gathered_from, lists, three, with_content}
 use Rattle.ics_components.proofs.Table.{frame_of}
-use Rattle.ics_components.proofs.EndOrder.{zones-are, names-begun, calendar-inside, begun-same}
 
 -- What holds of no lines, and of a line that matches before those of which it holds, holds of lines without a fault of the first round.
 each-line : (P : List Placed → List Placed → Type 0) → ((before : List Placed) → P before []) →

@@ -9,11 +9,9 @@ use Rattle.ics_zone.specs.ZoneSaid.{ZoneSaid, said_moment, zone_said}
 use Rattle.ics_zone.specs.declared.zone.ZoneKind.{ZoneKind}
 use Rattle.ics_fields.specs.declared.local.Local.{Local}
 use Rattle.ics_components.specs.declared.gathered.LineCheck.{LineCheck}
-use Rattle.ics_components.specs.declared.deferred_check.DeferredCheck.{DeferredCheck}
-use Rattle.ics_calendar.specs.Settled.{event_of}
+use Rattle.ics_calendar.specs.Settled.{event_of, known_in, first_judged}
 use Rattle.ics_event.specs.Event.{AreEventsOf}
 use Rattle.ics_fields.specs.Locals.{local_seconds}
-use Rattle.ics_calendar.specs.Settled.{known_in, first_judged}
 use Rattle.ics_components.specs.Gathered.{IsSoundGathered}
 use Rattle.ics_components.specs.GatheredSeen.{GatheredSeen}
 use Rattle.ics_calendar.specs.DeferredChecks.{KnownZones, moment_at, judged, with_files}
@@ -38,10 +36,6 @@ none-judged : (known : KnownZones) (ws : List LineCheck) → first_judged known 
 none-judged known [] e = tt
 none-judged known (w ∷ ws) e = let n = found-none w.line (judged known w.check) (first_judged known ws) e in (n.0, none-judged known ws n.1)
 
-awaited-fine : (known : KnownZones) (bare_checks : List DeferredCheck) → All (λ l. judged known l ≡ None) bare_checks → (l : DeferredCheck) →
-    Contains bare_checks l → judged known l ≡ None
-awaited-fine known bare_checks h l c = All-contains (λ l. judged known l ≡ None) bare_checks l h c
-
 pub ready : (known : KnownZones) (g : GatheredSeen) → IsSoundGathered g → first_judged known g.checks ≡ None → All (IsReady known) g.events
 ready known g s n =
     let fine : All (λ l. judged known l ≡ None) (map (λ w. w.check) g.checks) =
@@ -50,7 +44,8 @@ ready known g s n =
     λ i d l.
     record {
       whole = s.whole i d l;
-      zones = each-weaker (Contains (map (λ w. w.check) g.checks)) (λ l. judged known l ≡ None) (awaited-fine known _ fine) _ (s.awaited i d l);
+      zones = each-weaker (Contains (map (λ w. w.check) g.checks)) (λ l. judged known l ≡ None)
+          (λ l c. All-contains (λ l. judged known l ≡ None) (map (λ w. w.check) g.checks) l fine c) _ (s.awaited i d l);
     }
 
 pub events-here : (known : KnownZones) (g : GatheredSeen) → IsSoundDraft known g → first_judged known g.checks ≡ None →

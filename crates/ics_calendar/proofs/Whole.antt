@@ -1,6 +1,5 @@
 -- What the pass over a file's lines says is what the file is and wants.
-use Rattle.std.proofs.Common.{◌≡◌, ◌⊎◌, ℕ, Bool, true, false, List, [], ◌∷◌, refl, sym, ap, ◌∙◌, cond, Option, Some, None, Result, Ok}
-use Rattle.std.proofs.Common.{Err, inl, inr}
+use Rattle.std.proofs.Common.{◌≡◌, ◌⊎◌, ℕ, Bool, true, false, List, [], ◌∷◌, refl, sym, ap, ◌∙◌, cond, Option, Some, None, Result, Ok, Err, inl, inr}
 use Rattle.std.proofs.Math.Path.{fun_ext}
 use Rattle.ics_text.specs.Unfolded.{Rises, unfolded, begins_with_fold}
 use Rattle.ics_components.specs.declared.fault.FileFault.{FileFault}
@@ -9,12 +8,10 @@ use Rattle.ics_calendar.specs.Drafts.{IsFaultOf}
 use Rattle.ics_event.specs.Event.{FileSaid}
 use Rattle.ics_components.specs.Faults.{stands}
 use Rattle.ics_calendar.specs.LaterFaults.{stands_later}
-use Rattle.ics_calendar.specs.GivenFiles.{GivenFiles}
+use Rattle.ics_calendar.specs.GivenFiles.{GivenFiles, no_files}
 use Rattle.ics_components.specs.declared.fault.Fault.{Fault}
-use Rattle.ics_components.specs.FirstFault.{IsFirst, IsFirstOrLast, NoneStand, first_fault, fault_at_end}
-use Rattle.ics_calendar.specs.Files.{later_fault}
-use Rattle.ics_calendar.specs.Files.{DraftSaid, IsFile, file_of, draft_of, decide, said_of, wanted_names, wanted_on, SaysFile}
-use Rattle.ics_components.specs.FirstFault.{bad_fold}
+use Rattle.ics_components.specs.FirstFault.{IsFirst, IsFirstOrLast, NoneStand, first_fault, fault_at_end, bad_fold}
+use Rattle.ics_calendar.specs.Files.{later_fault, DraftSaid, IsFile, file_of, draft_of, decide, said_of, wanted_names, wanted_on, SaysFile}
 use Rattle.ics_calendar.specs.Settled.{drafted_of}
 use Rattle.ics_components.specs.Gathered.{nothing_gathered}
 use Rattle.ics_components.specs.Pass.{pass, bottom, unless, gathered_of}
@@ -33,32 +30,30 @@ abbrev pub wants_by : Result DraftSaid Fault → List (List ℕ)
 wants_by (Ok draft) = draft.wants
 wants_by (Err fault) = []
 
-pub settled-gathered : (files : GivenFiles) (file : List ℕ) → Rises 0 (unfolded file) → file_of files file ≡ says_by (drafted_of (gathered_of file)) files
-settled-gathered files file r = by_fold (begins_with_fold file)
+gathered-both : (files : GivenFiles) (file : List ℕ) → Rises 0 (unfolded file) →
+    (file_of files file ≡ says_by (drafted_of (gathered_of file)) files) × (wanted_names file ≡ wants_by (drafted_of (gathered_of file)))
+gathered-both files file r = by_fold (begins_with_fold file)
   where
-    by_first : (o : Option Fault) → first_fault (placed file) ≡ o →
-        decide o (later_fault files (placed file)) (said_of files (placed file))
-        ≡ says_by (drafted_of (unless o (gathered_from (placed file) nothing_gathered [] (placed file)))) files
-    by_first (Some fault) e = refl
-    by_first None e = sym (settled-is (unfolded file) r e files)
+    Both : Option Fault → Result DraftSaid Fault → Type 0
+    Both first draft =
+        (decide first (later_fault files (placed file)) (said_of files (placed file)) ≡ says_by draft files) × (wanted_on first (placed file) ≡ wants_by draft)
 
-    by_fold : (t : Bool) → cond t (Err bad_fold) (decide (first_fault (placed file)) (later_fault files (placed file)) (said_of files (placed file)))
-        ≡ says_by (drafted_of (cond t (Err bad_fold) (pass (bottom ∷ []) None nothing_gathered (unfolded file)))) files
-    by_fold true = refl
-    by_fold false = by_first (first_fault (placed file)) refl ∙ ap (λ g. says_by (drafted_of g) files) (sym (pass-whole (unfolded file) r))
+    by_first : (o : Option Fault) → first_fault (placed file) ≡ o → Both o (drafted_of (unless o (gathered_from (placed file) nothing_gathered [] (placed file))))
+    by_first (Some fault) e = (refl, refl)
+    by_first None e = (sym (settled-is (unfolded file) r e files), sym (wanted-is (unfolded file) r e))
+
+    by_fold : (t : Bool) → (cond t (Err bad_fold) (decide (first_fault (placed file)) (later_fault files (placed file)) (said_of files (placed file)))
+        ≡ says_by (drafted_of (cond t (Err bad_fold) (pass (bottom ∷ []) None nothing_gathered (unfolded file)))) files)
+        × (cond t [] (wanted_on (first_fault (placed file)) (placed file))
+        ≡ wants_by (drafted_of (cond t (Err bad_fold) (pass (bottom ∷ []) None nothing_gathered (unfolded file)))))
+    by_fold true = (refl, refl)
+    by_fold false = rw (pass-whole (unfolded file) r) (by_first (first_fault (placed file)) refl)
+
+pub settled-gathered : (files : GivenFiles) (file : List ℕ) → Rises 0 (unfolded file) → file_of files file ≡ says_by (drafted_of (gathered_of file)) files
+settled-gathered files file r = (gathered-both files file r).0
 
 pub wanted-gathered : (file : List ℕ) → Rises 0 (unfolded file) → wanted_names file ≡ wants_by (drafted_of (gathered_of file))
-wanted-gathered file r = by_fold (begins_with_fold file)
-  where
-    by_first : (o : Option Fault) → first_fault (placed file) ≡ o →
-        wanted_on o (placed file) ≡ wants_by (drafted_of (unless o (gathered_from (placed file) nothing_gathered [] (placed file))))
-    by_first (Some fault) e = refl
-    by_first None e = sym (wanted-is (unfolded file) r e)
-
-    by_fold : (t : Bool) → cond t [] (wanted_on (first_fault (placed file)) (placed file))
-        ≡ wants_by (drafted_of (cond t (Err bad_fold) (pass (bottom ∷ []) None nothing_gathered (unfolded file))))
-    by_fold true = refl
-    by_fold false = by_first (first_fault (placed file)) refl ∙ ap (λ g. wants_by (drafted_of g)) (sym (pass-whole (unfolded file) r))
+wanted-gathered file r = (gathered-both no_files file r).1
 
 -- THE DRAFT, and a fault of the first round.
 pub draft-gathered : (file : List ℕ) (draft : DraftSaid) → Rises 0 (unfolded file) → Ok draft ≡ drafted_of (gathered_of file) → draft ≡ draft_of file
