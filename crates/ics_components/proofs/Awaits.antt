@@ -3,7 +3,7 @@ use Rattle.std.proofs.Common.{◌≡◌, ℕ, Bool, true, false, List, [], ◌�
 use Rattle.std.specs.Prelude.{codes, get_or, option_map, ◌==◌}
 use Rattle.std.specs.Str.{bytes_eq}
 use Rattle.std.specs.List.{All, Contains}
-use Rattle.std.proofs.lemmas.Bool.{and_parts}
+use Rattle.std.proofs.lemmas.Bool.{and_parts, cond_both}
 use Rattle.std.proofs.lemmas.List.Elements.{All-nil, All-cons, All-push, All-append, All-head, All-tail, All-map, All-filter, filter_passes}
 use Rattle.std.proofs.lemmas.List.Elements.{All-contains_itself}
 use Rattle.ics_values.specs.declared.stamp.Stamp.{Stamp}
@@ -180,21 +180,16 @@ instant-sound name (stamp.Zoned local) h = h
 instant-sound name _ h = tt
 
 compared-sound : (a b : Option Instant) → IfSome a IsSoundInstant → IfSome b IsSoundInstant → IfSome (both_compared a b) IsSoundCheck
-compared-sound (Some (instant.Utc a)) (Some (instant.Utc b)) h k = by_test (is_out (local_seconds a) (local_seconds b))
-  where
-    by_test : (t : Bool) → IfSome (cond t (Some check.End) None) IsSoundCheck
-    by_test true = tt
-    by_test false = tt
+compared-sound (Some (instant.Utc a)) (Some (instant.Utc b)) h k =
+    cond_both (is_out (local_seconds a) (local_seconds b)) (Some check.End) None (λ o. IfSome o IsSoundCheck) (λ e. tt) (λ e. tt)
 compared-sound (Some _) (Some _) h k = (h, k)
 compared-sound _ _ h k = tt
 
 ends-sound : (calendar : ℕ) (start end : Option Dated) → IfSome start (λ d. IsSoundStamp d.stamp) → IfSome end (λ d. IsSoundStamp d.stamp) →
     IfSome (ends_in calendar start end) IsSoundCheck
-ends-sound k (Some a) (Some b) h i = by_test (are_of_one_zone a b)
-  where
-    by_test : (t : Bool) → IfSome (cond t None (both_compared (instant_in k a) (instant_in k b))) IsSoundCheck
-    by_test true = tt
-    by_test false = compared-sound (instant_in k a) (instant_in k b) (instant-sound (zone_used k a) a.stamp h) (instant-sound (zone_used k b) b.stamp i)
+ends-sound k (Some a) (Some b) h i =
+    cond_both (are_of_one_zone a b) None (both_compared (instant_in k a) (instant_in k b)) (λ o. IfSome o IsSoundCheck) (λ e. tt)
+    (λ e. compared-sound (instant_in k a) (instant_in k b) (instant-sound (zone_used k a) a.stamp h) (instant-sound (zone_used k b) b.stamp i))
 ends-sound k _ _ h i = tt
 
 zone-sound : (used : Bool) (name : ZoneName) → IfSome (cond used (Some (check.Zone name)) None) IsSoundCheck

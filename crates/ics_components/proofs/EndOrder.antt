@@ -2,6 +2,7 @@
 use Rattle.std.proofs.Common.{◌≡◌, ℕ, Bool, true, false, ◌&&◌, List, [], ◌∷◌, ◌++◌, refl, sym, ap, ◌∙◌, map, filter, cond}
 use Rattle.std.specs.Prelude.{codes, unwrap_or}
 use Rattle.std.specs.Str.{bytes_eq}
+use Rattle.std.proofs.Math.Bool.{and_assoc, and_comm}
 use Rattle.std.proofs.lemmas.Bool.{and_parts}
 use Rattle.ics_components.specs.Lines.{event_note, zone_note}
 use Rattle.ics_components.specs.declared.component.Component.{Component}
@@ -51,13 +52,6 @@ module _ {X : Type 0} (s : Sort X) (out : (q : Context) → is_calendar_context 
   calendar-holds whole (c ∷ d ∷ ds) e =
       absurd (context-in-outside (context_of ds) (component_of d.name) (calendar-from (context_of (d ∷ ds)) (component_of c.name) e))
 
--- in another order
-reorder : (a b c : Bool) → (a && (b && c)) ≡ (b && (a && c))
-reorder true true c = refl
-reorder true false c = refl
-reorder false true c = refl
-reorder false false c = refl
-
 -- a kind of components with one name that begin directly in a calendar
 in-calendar : {X : Type 0} (s : Sort X) (word : List ℕ) → ((q : Context) → is_calendar_context q ≡ true → s.stands_at q ≡ false) →
     ((l : Placed) → s.begins l ≡ (is_calendar_context (context_of l.path) && begins word l)) →
@@ -65,7 +59,8 @@ in-calendar : {X : Type 0} (s : Sort X) (word : List ℕ) → ((q : Context) →
     ((path : List Open) (ls : List Placed) (l : Placed) → name_of (property_name l.content) ≡ name.End → s.by path (ls ++ l ∷ []) ≡ s.by path ls) → IsSort s
 in-calendar s word out here inside_at at_end = record {
   starts =
-      λ l. here l ∙ reorder (is_calendar_context (context_of l.path)) (is_begin l) (bytes_eq (component l) word)
+      λ l. let here_at : Bool = is_calendar_context (context_of l.path) in let named : Bool = bytes_eq (component l) word in
+      here l ∙ sym (and_assoc here_at (is_begin l) named) ∙ ap (λ t. t && named) (and_comm here_at (is_begin l)) ∙ and_assoc (is_begin l) here_at named
       ∙ ap (λ t. is_begin l && t) (sym (inside_at (context_of l.path) (component l)));
   alone = λ whole l e. calendar-holds s out whole l.path (and_parts _ _ (sym (inside_at (context_of l.path) (component l)) ∙ e)).0;
   ends = at_end;
