@@ -3,7 +3,7 @@ use Rattle.std.proofs.Common.{◌≡◌, ◌⊎◌, inl, inr, ℕ, Bool, true, f
 use Rattle.std.specs.Prelude.{find, not}
 use Rattle.std.specs.Option.{option_and_then}
 use Rattle.std.proofs.Math.Bool.{or-false}
-use Rattle.std.proofs.lemmas.Bool.{not-false}
+use Rattle.std.proofs.lemmas.Bool.{not-false, cond_both}
 use Rattle.ics_text.specs.Bytes.{upper}
 use Rattle.ics_text.specs.Unfolded.{Line}
 use Rattle.ics_text.specs.ContentLines.{Parts}
@@ -97,20 +97,15 @@ in-zone known true used = by_tests (is_some (known.index used)) (known.is_bad us
 no-zone : (index : ZoneName → Option ℕ) (calendar : ℕ) (start end : Option Dated) → option_and_then (unknown_in index) (ends_in calendar start end) ≡ None
 no-zone index k None end = refl
 no-zone index k (Some a) None = refl
-no-zone index k (Some a) (Some b) = by_test (are_of_one_zone a b)
+no-zone index k (Some a) (Some b) =
+    cond_both (are_of_one_zone a b) None (both_compared (instant_in k a) (instant_in k b)) (λ o. option_and_then (unknown_in index) o ≡ None)
+    (λ e. refl) (λ e. by_instants (instant_in k a) (instant_in k b))
   where
     by_instants : (s t : Option Instant) → option_and_then (unknown_in index) (both_compared s t) ≡ None
-    by_instants (Some (instant.Utc a)) (Some (instant.Utc b)) = when (is_out (local_seconds a) (local_seconds b))
-      where
-        when : (t : Bool) → option_and_then (unknown_in index) (cond t (Some check.End) None) ≡ None
-        when true = refl
-        when false = refl
+    by_instants (Some (instant.Utc a)) (Some (instant.Utc b)) =
+        cond_both (is_out (local_seconds a) (local_seconds b)) (Some check.End) None (λ o. option_and_then (unknown_in index) o ≡ None) (λ e. refl) (λ e. refl)
     by_instants (Some (instant.Zoned a name)) None = refl
     by_instants _ _ = refl
-
-    by_test : (t : Bool) → option_and_then (unknown_in index) (cond t None (both_compared (instant_in k a) (instant_in k b))) ≡ None
-    by_test true = refl
-    by_test false = by_instants (instant_in k a) (instant_in k b)
 
 module _ (whole : List Placed) (line : Line) (parts : Parts) (ls : List Placed) (path : List Open) where
   abbrev l : Placed

@@ -1,12 +1,12 @@
 -- Time zones with those of zone files: one name at a time, and what holds of them still.
-use Rattle.std.proofs.Common.{◌≡◌, ℕ, ◌+◌, ◌<◌, Bool, true, false, ◌&&◌, ◌||◌, List, [], ◌∷◌, ◌++◌, length, refl, sym, ap, ◌∙◌, arith, cond, Option, Some, None}
+use Rattle.std.proofs.Common.{◌≡◌, ℕ, ◌<◌, Bool, true, false, ◌&&◌, ◌||◌, List, [], ◌∷◌, ◌++◌, length, refl, sym, ap, ◌∙◌, arith, cond, Option, Some, None}
 use Rattle.std.proofs.Common.{append_assoc, is_some, IfSome, subst}
 use Rattle.std.specs.Prelude.{not, get_or, ◌==◌}
 use Rattle.std.specs.Cmp.Lexicographic.{bytes_decides, nat_list_eq_equiv}
 use Rattle.std.specs.List.{All, list_any, position_from, cons_option}
 use Rattle.std.specs.Option.{option_or}
 use Rattle.std.specs.Str.{bytes_eq}
-use Rattle.std.proofs.Math.Bool.{or-false}
+use Rattle.std.proofs.Math.Bool.{or-false, or_assoc}
 use Rattle.std.proofs.Math.Path.{fun_ext}
 use Rattle.std.proofs.lemmas.List.{append-nil, length-append}
 use Rattle.std.proofs.lemmas.Option.{cond_some}
@@ -17,7 +17,7 @@ use Rattle.ics_zone.specs.ZoneSaid.{ZoneSaid}
 use Rattle.ics_components.specs.declared.deferred_check.ZoneName.{ZoneName}
 use Rattle.ics_calendar.specs.DeferredChecks.{KnownZones, known_zones, is_same, zone_index, with_files}
 use Rattle.ics_calendar.specs.Drafts.{IsTable}
-use Rattle.ics_calendar.specs.GivenFiles.{GivenFiles, no_files, with_file, files_by, zone_in, is_refused, given_names, given_zones, bad_names}
+use Rattle.ics_calendar.specs.GivenFiles.{GivenFiles, no_files, with_file, files_by, zone_in, is_refused}
 use Rattle.ics_calendar.specs.ZoneTables.{put_given}
 
 pub or-none : {X : Type 0} (o : Option X) → option_or o None ≡ o
@@ -34,56 +34,22 @@ same-known a b e f g =
 
 -- NO NAME, and one name before others.
 pub with-none : (known : KnownZones) (files : GivenFiles) → with_files known files [] ≡ known
-with-none known files =
-    same-known (with_files known files []) known (λ used. or-none (known.index used)) (append-nil known.zones) (λ name. or-false (known.is_bad name))
+with-none known files = simp (append-nil, or-none, or-false)
 
-module _ (known : KnownZones) (files : GivenFiles) (n : List ℕ) where
-  abbrev zones_of_one : Option (Option TzifText) → List ZoneSaid
-  zones_of_one o = cons_option (zone_in o) []
+-- a place that is given where there is none, and then another
+or-placed : {X : Type 0} (k r : Option X) (t : Bool) (x : X) → option_or (option_or k (cond t (Some x) None)) r ≡ option_or k (cond t (Some x) r)
+or-placed (Some y) r t x = refl
+or-placed None r true x = refl
+or-placed None r false x = refl
 
-  abbrev names_of_one : Option (Option TzifText) → List (List ℕ)
-  names_of_one o = cond (is_some (zone_in o)) (n ∷ []) []
-
-  abbrev bad_of_one : Option (Option TzifText) → List (List ℕ)
-  bad_of_one o = cond (is_refused o) (n ∷ []) []
-
-  index-further : (rest : List (List ℕ)) (p : List ℕ → Bool) (k : Option ℕ) (o : Option (Option TzifText)) →
-      option_or (option_or k (position_from p (length known.zones) (names_of_one o)))
-      (position_from p (length (known.zones ++ zones_of_one o)) rest)
-      ≡ option_or k (position_from p (length known.zones) (cond (is_some (zone_in o)) (n ∷ rest) rest))
-  index-further rest p (Some i) o = refl
-  index-further rest p None (Some (Some file)) = by_test (p n)
-    where
-      long : length (known.zones ++ ZoneSaid.ByFile file ∷ []) ≡ length known.zones + 1
-      long = length-append known.zones (ZoneSaid.ByFile file ∷ [])
-
-      by_test : (t : Bool) →
-          option_or (cond t (Some (length known.zones)) None) (position_from p (length (known.zones ++ ZoneSaid.ByFile file ∷ [])) rest)
-          ≡ cond t (Some (length known.zones)) (position_from p (length known.zones + 1) rest)
-      by_test true = refl
-      by_test false = ap (λ l. position_from p l rest) long
-  index-further rest p None (Some None) = ap (λ (zs : List ZoneSaid). position_from p (length zs) rest) (append-nil known.zones)
-  index-further rest p None None = ap (λ (zs : List ZoneSaid). position_from p (length zs) rest) (append-nil known.zones)
-
-  zones-further : (more : List ZoneSaid) (o : Option (Option TzifText)) →
-      (known.zones ++ zones_of_one o) ++ more ≡ known.zones ++ cons_option (zone_in o) more
-  zones-further more (Some (Some file)) = append_assoc known.zones (ZoneSaid.ByFile file ∷ []) more
-  zones-further more (Some None) = append_assoc known.zones [] more
-  zones-further more None = append_assoc known.zones [] more
-
-  bad-further : (q : List ℕ → Bool) (b : Bool) (rest : List (List ℕ)) (o : Option (Option TzifText)) →
-      ((b || list_any q (bad_of_one o)) || list_any q rest) ≡ (b || list_any q (cond (is_refused o) (n ∷ rest) rest))
-  bad-further q true rest o = refl
-  bad-further q false rest (Some (Some file)) = refl
-  bad-further q false rest (Some None) = ap (λ t. t || list_any q rest) (or-false (q n))
-  bad-further q false rest None = refl
-
-  pub with-further : (rest : List (List ℕ)) → with_files (with_files known files (n ∷ [])) files rest ≡ with_files known files (n ∷ rest)
-  with-further rest =
-      same-known (with_files (with_files known files (n ∷ [])) files rest) (with_files known files (n ∷ rest))
-      (λ used. index-further (given_names files rest) (bytes_eq used.name) (known.index used) (files n))
-      (zones-further (given_zones files rest) (files n))
-      (λ name. bad-further (bytes_eq name) (known.is_bad name) (bad_names files rest) (files n))
+pub with-further : (known : KnownZones) (files : GivenFiles) (n : List ℕ) (rest : List (List ℕ)) →
+    with_files (with_files known files (n ∷ [])) files rest ≡ with_files known files (n ∷ rest)
+with-further known files n rest = by_given (files n) refl
+  where
+    by_given : (o : Option (Option TzifText)) → files n ≡ o → with_files (with_files known files (n ∷ [])) files rest ≡ with_files known files (n ∷ rest)
+    by_given (Some (Some file)) e = rw e (simp (append_assoc, length-append, or-placed, or-false))
+    by_given (Some None) e = rw e (simp (append-nil, or-none, or-false, or_assoc))
+    by_given None e = rw e (simp (append-nil, or-none, or-false))
 
 -- FILES THAT AGREE on the names give the same, one name at a time.
 pub with-agreed : (known : KnownZones) (files others : GivenFiles) (names : List (List ℕ)) → All (λ name. files name ≡ others name) names →
