@@ -1,5 +1,5 @@
 -- A line changes what is collected of a component as the pass notes it.
-use Rattle.std.proofs.Common.{◌≡◌, ℕ, Bool, true, false, List, [], ◌∷◌, ◌++◌, map, refl, ap, ◌∙◌, cond, Option, Some, None, filter, sym}
+use Rattle.std.proofs.Common.{◌≡◌, ℕ, Bool, true, false, List, [], ◌∷◌, ◌++◌, map, refl, ap, ◌∙◌, cond, Option, Some, None, sym}
 use Rattle.std.specs.Prelude.{codes, option_map, flat_map, filter_map}
 use Rattle.std.specs.Str.{bytes_eq}
 use Rattle.std.proofs.lemmas.List.{append-nil, map-append}
@@ -136,9 +136,7 @@ observance_of-more ls l =
 -- THE OBSERVANCES of a time zone, with one line more.
 parts-more : (whole ls : List Placed) (l : Placed) → parts whole (ls ++ l ∷ []) ≡ parts whole ls ++ cond (begins_in_zone l) (own whole l ∷ []) []
 parts-more whole ls l =
-    ap (map (own whole)) (filter-append begins_in_zone ls (l ∷ []))
-    ∙ map-append (own whole) (filter begins_in_zone ls) (cond (begins_in_zone l) (l ∷ []) [])
-    ∙ ap (λ os. parts whole ls ++ os) (by_test (begins_in_zone l))
+    simp (filter-append, map-append) (ap (λ os. parts whole ls ++ os) (by_test (begins_in_zone l)))
   where
     by_test : (t : Bool) → map (own whole) (cond t (l ∷ []) []) ≡ cond t (own whole l ∷ []) []
     by_test true = refl

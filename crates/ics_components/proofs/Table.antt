@@ -1,6 +1,5 @@
 -- The table of faults and the pass find one fault on a line.
-use Rattle.std.proofs.Common.{rules, ◌≡◌, ℕ, Bool, true, false, List, [], ◌∷◌, map, refl, sym, ap, ◌∙◌, arith, cond, suc, Option, Some, None, Result, Ok, Err}
-use Rattle.std.proofs.Common.{ℤ}
+use Rattle.std.proofs.Common.{rules, ◌≡◌, ℕ, Bool, true, false, List, [], ◌∷◌, map, refl, sym, ap, ◌∙◌, arith, cond, suc, Option, Some, None, Result, Err}
 use Rattle.std.specs.Prelude.{codes, length, find, filter, not, nat_le, ◌==◌, ◌||◌, is_some, option_map}
 use Rattle.std.specs.List.{list_any}
 use Rattle.std.specs.Str.{bytes_eq}
@@ -11,17 +10,8 @@ use Rattle.ics_text.specs.ContentLines.{Parts}
 use Rattle.ics_values.specs.Rules.{rule_of}
 use Rattle.ics_fields.specs.Observances.{ObservanceSaid}
 use Rattle.ics_fields.specs.RuleParts.{RuleParts}
-use Rattle.ics_values.specs.declared.duration.Duration.{Duration}
-use Rattle.ics_values.specs.declared.duration.DurationFault.{DurationFault}
-use Rattle.ics_values.specs.declared.duration.DurationFault.TheVariants as duration_fault
-use Rattle.ics_values.specs.declared.integer.IntegerFault.{IntegerFault}
-use Rattle.ics_values.specs.declared.integer.IntegerFault.TheVariants as integer_fault
-use Rattle.ics_values.specs.declared.offset.BadOffset.{BadOffset as OffsetFault}
 use Rattle.ics_values.specs.declared.rule_text.RuleFault.{RuleFault}
 use Rattle.ics_values.specs.declared.rule_text.RuleFault.TheVariants as rule_fault
-use Rattle.ics_values.specs.declared.stamp.Stamp.{Stamp}
-use Rattle.ics_values.specs.declared.stamp.StampFault.{StampFault}
-use Rattle.ics_values.specs.declared.stamp.StampFault.TheVariants as stamp_fault
 use Rattle.ics_components.specs.declared.builder.Builder.{Builder}
 use Rattle.ics_components.specs.declared.builder.Builder.TheVariants as builder
 use Rattle.ics_components.specs.declared.builder.ObservanceBuilder.{ObservanceBuilder}
@@ -32,7 +22,7 @@ use Rattle.ics_components.specs.declared.component.Context.{Context}
 use Rattle.ics_components.specs.declared.component.Context.TheVariants as context
 use Rattle.ics_components.specs.declared.event_builder.EventBuilder.{EventBuilder}
 use Rattle.ics_components.specs.declared.fault.FaultKind.{FaultKind}
-use Rattle.ics_components.specs.declared.fault.FaultKind.TheVariants.{BadStamp, BadDuration, BadOffset, BadRule, YearRange, NumberTooLarge, NotCalendar, TooDeep}
+use Rattle.ics_components.specs.declared.fault.FaultKind.TheVariants.{BadRule, NumberTooLarge, NotCalendar, TooDeep}
 use Rattle.ics_components.specs.declared.frame.Frame.{Frame}
 use Rattle.ics_components.specs.declared.name.Name.{Name}
 use Rattle.ics_components.specs.declared.name.Name.TheVariants as name
@@ -40,10 +30,9 @@ use Rattle.ics_components.specs.Components.{component_of, component_name, is_out
 use Rattle.ics_components.specs.Names.{name_of}
 use Rattle.ics_components.specs.PlacedLines.{Placed, Open, context_of, closes, begins_observance, calendar_of, lines_in, has, is_named, first_named, first_of as first_line}
 use Rattle.ics_components.specs.PlacedLines.{all_named}
-use Rattle.ics_components.specs.Values.{is_bad_stamp, is_far_stamp, is_bad_duration, is_large_duration, is_bad_offset, is_bad_rule, is_large_rule, is_fine_rule}
-use Rattle.ics_components.specs.Values.{is_large_integer}
+use Rattle.ics_components.specs.Values.{is_bad_rule, is_large_rule, is_fine_rule}
 use Rattle.ics_components.specs.Faults.{stands, kinds}
-use Rattle.ics_components.specs.Lines.{first, fault_if, stamp_fault_of, duration_fault_of, rule_fault_of, number_fault_of, offset_fault_of, outside_fault}
+use Rattle.ics_components.specs.Lines.{first, fault_if, rule_fault_of, outside_fault}
 use Rattle.ics_components.specs.Observances.{observance_by, begins_in_zone}
 use Rattle.ics_components.proofs.Built.{collected_of, zone_of, observance_of}
 use Rattle.ics_components.proofs.Judged.{fault_in}
@@ -122,28 +111,11 @@ not-cond : (t : Bool) (x y : Option FaultKind) → cond (not t) x y ≡ cond t y
 not-cond true x y = refl
 not-cond false x y = refl
 
-stamp-is : (r : Result Stamp StampFault) → stamp_fault_of r ≡ cond (is_bad_stamp r) (Some BadStamp) (cond (is_far_stamp r) (Some YearRange) None)
-stamp-is (Err stamp_fault.BadStamp) = refl
-stamp-is _ = refl
-
-duration-is : (d : Result Duration DurationFault) →
-    duration_fault_of d ≡ cond (is_bad_duration d) (Some BadDuration) (cond (is_large_duration d) (Some NumberTooLarge) None)
-duration-is (Err duration_fault.BadDuration) = refl
-duration-is _ = refl
-
 rule-is : (r : Result RuleParts RuleFault) → rule_fault_of r ≡ cond (is_bad_rule r) (Some BadRule) (cond (is_large_rule r) (Some NumberTooLarge) None)
 rule-is (Err rule_fault.BadRule) = refl
 rule-is _ = refl
 
-number-is : (n : Result ℕ IntegerFault) → number_fault_of n ≡ cond (is_large_integer n) (Some NumberTooLarge) None
-number-is (Err integer_fault.NumberTooLarge) = refl
-number-is _ = refl
-
-offset-is : (o : Result ℤ OffsetFault) → offset_fault_of o ≡ cond (is_bad_offset o) (Some BadOffset) None
-offset-is (Ok o) = refl
-offset-is (Err f) = refl
-
-ruleset by_tests = (first-cond, or-cond, not-cond, stamp-is, duration-is, rule-is, number-is, offset-is, has-first)
+ruleset by_tests = (first-cond, or-cond, not-cond, rule-is, has-first)
 
 -- only a calendar begins outside all components
 outside-first : (w : List ℕ) (m : Option FaultKind) →

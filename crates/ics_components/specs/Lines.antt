@@ -18,7 +18,6 @@ use Rattle.ics_values.specs.declared.duration.Duration.{Duration}
 use Rattle.ics_values.specs.declared.duration.DurationFault.{DurationFault}
 use Rattle.ics_values.specs.declared.duration.DurationFault.TheVariants as duration
 use Rattle.ics_values.specs.declared.integer.IntegerFault.{IntegerFault}
-use Rattle.ics_values.specs.declared.integer.IntegerFault.TheVariants as integer
 use Rattle.ics_fields.specs.declared.local.Local.{Local}
 use Rattle.ics_values.specs.declared.offset.BadOffset.{BadOffset}
 use Rattle.ics_values.specs.declared.rule_text.RuleFault.{RuleFault}
@@ -60,7 +59,7 @@ use Rattle.ics_components.specs.DateValues.{DateValue, At, Between, Lasting, rda
 use Rattle.ics_components.specs.DateValues.{has_far_stamp, has_bad_duration, has_large_duration, is_not_local}
 use Rattle.ics_components.specs.Names.{name_of, gives_dates}
 use Rattle.ics_components.specs.Values.{zone_name, stamp_read, dated_of, lasting_of, duration_in, rule_in, ok_or_zero, is_cancelled, is_fine_rule, is_filled}
-use Rattle.ics_components.specs.Values.{ends_badly}
+use Rattle.ics_components.specs.Values.{ends_badly, is_bad_stamp, is_far_stamp, is_bad_duration, is_large_duration, is_bad_offset, is_large_integer}
 use Rattle.ics_components.specs.Observances.{local_in, onset_in, offset_in, daily_in}
 use Rattle.ics_components.specs.SecondRound.{used_zone, listed_zone, ends_in}
 
@@ -126,25 +125,21 @@ rule_kind rule.BadRule = kind.BadRule
 rule_kind rule.NumberTooLarge = kind.NumberTooLarge
 
 abbrev pub stamp_fault_of : Result Stamp StampFault → Option FaultKind
-stamp_fault_of (Ok s) = None
-stamp_fault_of (Err fault) = Some (stamp_kind fault)
+stamp_fault_of r = if is_bad_stamp r then Some kind.BadStamp else if is_far_stamp r then Some kind.YearRange else None
 
 abbrev pub duration_fault_of : Result Duration DurationFault → Option FaultKind
-duration_fault_of (Ok d) = None
-duration_fault_of (Err fault) = Some (duration_kind fault)
+duration_fault_of d = if is_bad_duration d then Some kind.BadDuration else if is_large_duration d then Some kind.NumberTooLarge else None
 
 abbrev pub rule_fault_of : Result RuleParts RuleFault → Option FaultKind
 rule_fault_of (Ok parts) = None
 rule_fault_of (Err fault) = Some (rule_kind fault)
 
 abbrev pub offset_fault_of : Result ℤ BadOffset → Option FaultKind
-offset_fault_of (Ok offset) = None
-offset_fault_of (Err fault) = Some kind.BadOffset
+offset_fault_of o = fault_if kind.BadOffset (is_bad_offset o)
 
 -- a SEQUENCE that is no number counts as 0
 abbrev pub number_fault_of : Result ℕ IntegerFault → Option FaultKind
-number_fault_of (Err integer.NumberTooLarge) = Some kind.NumberTooLarge
-number_fault_of _ = None
+number_fault_of n = fault_if kind.NumberTooLarge (is_large_integer n)
 
 -- the lesser of two faults, of which the first may not be there
 abbrev pub lesser : Option FaultKind → FaultKind → FaultKind
