@@ -106,16 +106,11 @@ first-is file f (inr r) = found-at-end stands fault_at_end [] (placed file) r.0 
 
 whole-is : (files : GivenFiles) (file : List ℕ) {first later : Option Fault} → begins_with_fold file ≡ false → first_fault (placed file) ≡ first →
     later_fault files (placed file) ≡ later → file_of files file ≡ decide first later (said_of files (placed file))
-whole-is files file {first} b e g =
-    ap (λ t. cond t (Err bad_fold) (decide (first_fault (placed file)) (later_fault files (placed file)) (said_of files (placed file)))) b
-    ∙ ap (λ f. decide f (later_fault files (placed file)) (said_of files (placed file))) e
-    ∙ ap (λ f. decide first f (said_of files (placed file))) g
+whole-is files file b e g = rw (b, e, g)
 
 -- and it is nothing else
 pub file-is : (files : GivenFiles) (file : List ℕ) (answer : Result FileSaid Fault) → IsFile files file answer → file_of files file ≡ answer
-file-is files file (Err f) (inl h) =
-    ap (λ t. cond t (Err bad_fold) (decide (first_fault (placed file)) (later_fault files (placed file)) (said_of files (placed file)))) h.0
-    ∙ ap (λ (g : Fault). Err g) (sym h.1)
+file-is files file (Err f) (inl h) = rw h.0 (ap (λ (g : Fault). Err g) (sym h.1))
 file-is files file (Err f) (inr h) = by_round h.1
   where
     by_round : IsFirstOrLast (placed file) f
