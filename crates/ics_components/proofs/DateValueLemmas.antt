@@ -127,19 +127,13 @@ onset_tests = date_tests ((ObservanceField, is_not_local) ∷ [])
 abbrev pub onsets_fault : List DateValue → Option FaultKind
 onsets_fault vs = first (dates_fault vs) (fault_if ObservanceField (list_any is_not_local vs))
 
-pub dates-row : (a b c d : Bool) (m : Option FaultKind) →
-    cond a (Some BadStamp) (cond b (Some BadDuration) (cond c (Some YearRange) (cond d (Some NumberTooLarge) m)))
-    ≡ first (cond a (Some BadStamp) (cond b (Some BadDuration) (cond c (Some YearRange) (cond d (Some NumberTooLarge) None)))) m
-dates-row true b c d m = refl
-dates-row false true c d m = refl
-dates-row false false true d m = refl
-dates-row false false false true m = refl
-dates-row false false false false m = refl
+-- what stands behind several kinds stands behind the last of them
+pub first-cond : (t : Bool) (o p m : Option FaultKind) → first (cond t o p) m ≡ cond t (first o m) (first p m)
+first-cond true o p m = refl
+first-cond false o p m = refl
 
 onsets-row : (vs : List DateValue) → least_in onset_tests vs ≡ onsets_fault vs
-onsets-row vs =
-    dates-row (list_any has_bad_stamp vs) (list_any has_bad_duration vs) (list_any has_far_stamp vs) (list_any has_large_duration vs)
-    (fault_if ObservanceField (list_any is_not_local vs))
+onsets-row vs = simp first-cond
 
 dates-append : (vs ws : List DateValue) → dates_fault (vs ++ ws) ≡ least (dates_fault vs) (dates_fault ws)
 dates-append vs ws = least-append (date_tests []) vs ws (search rules)

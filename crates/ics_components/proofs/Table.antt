@@ -35,6 +35,7 @@ use Rattle.ics_components.specs.Faults.{stands, kinds}
 use Rattle.ics_components.specs.Lines.{first, fault_if, rule_fault_of, outside_fault}
 use Rattle.ics_components.specs.Observances.{observance_by, begins_in_zone}
 use Rattle.ics_components.proofs.Built.{collected_of, zone_of, observance_of}
+use Rattle.ics_components.proofs.DateValueLemmas.{first-cond}
 use Rattle.ics_components.proofs.Judged.{fault_in}
 use Rattle.ics_components.proofs.NameLemmas.{Tells, tells, TellsComponent, tells_component, component_name-of}
 
@@ -99,10 +100,6 @@ has-first f n (k ∷ ks) = by_test (is_named n k) (has-first f n ks)
     by_test false ih = ih
 
 -- FAULTS BY TESTS, the least first. What a value meets stands before what its line meets.
-first-cond : (t : Bool) (o p m : Option FaultKind) → first (cond t o p) m ≡ cond t (first o m) (first p m)
-first-cond true o p m = refl
-first-cond false o p m = refl
-
 or-cond : (a b : Bool) (x y : Option FaultKind) → cond (a || b) x y ≡ cond a x (cond b x y)
 or-cond true b x y = refl
 or-cond false b x y = refl
