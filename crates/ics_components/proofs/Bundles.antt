@@ -61,7 +61,8 @@ abbrev pub top_lines : List Placed → List Bundle → List Placed
 top_lines before [] = lines_in 0 before
 top_lines before (f ∷ fs) = f.lines
 
-pub top_beside : (before : List Placed) (bundles : List Bundle) → Keeps before [] bundles → top_lines before bundles ≡ lines_in (innermost (opens bundles)) before
+pub top_beside : (before : List Placed) (bundles : List Bundle) → Keeps before [] bundles →
+    top_lines before bundles ≡ lines_in (innermost (opens bundles)) before
 top_beside before [] k = refl
 top_beside before (f ∷ fs) k = sym (k.0 ∙ append-nil f.lines)
 

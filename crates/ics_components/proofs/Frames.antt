@@ -65,7 +65,8 @@ module _ (whole before : List Placed) where
   added l [] e = refl
   added l (b ∷ bs) e =
       let path : List Open = opens (b ∷ bs) in
-      ap (λ s. record { component = component_of (component b.begin); context = context_of path; calendar = calendar_of path; builder = s } ∷ frames_of whole bs)
+      ap (λ s. record { component = component_of (component b.begin); context = context_of path; calendar = calendar_of path; builder = s }
+      ∷ frames_of whole bs)
       (builder-more whole path b.lines (context_of path) l e)
 
   fresh-at : (c : Component) (q : Context) (path : List Open) →
@@ -116,7 +117,8 @@ module _ (whole before : List Placed) where
       (sym (still (builder_at (context_of (opens (f ∷ []))) (readings whole (opens (f ∷ [])) f.lines)) context.Outside (readings whole [] []) refl))
   closed-over l (f ∷ g ∷ gs) k n moved w =
       let path : List Open = opens (g ∷ gs) in
-      ap (λ s. record { component = component_of (component g.begin); context = context_of path; calendar = calendar_of path; builder = s } ∷ frames_of whole gs)
+      ap (λ s. record { component = component_of (component g.begin); context = context_of path; calendar = calendar_of path; builder = s }
+      ∷ frames_of whole gs)
       (closed-in l f g gs n (w moved ∙ ap (λ ls. ls ++ l ∷ []) (k.0 ∙ append-nil f.lines)) k.1)
 
   -- a line keeps the frames

@@ -63,7 +63,8 @@ falls-behind l f h = by_kind (is_begin l) (is_end l)
     out [] f h = (tt, omega arith)
     out (c ∷ cs) f h = (f.1, omega (arith, f.0, h))
 
-    by_kind : (b e : Bool) → Falls (cond b (inside l) (cond e (drop 1 l.path) l.path)) × (innermost (cond b (inside l) (cond e (drop 1 l.path) l.path)) ≤ l.number)
+    by_kind : (b e : Bool) → Falls (cond b (inside l) (cond e (drop 1 l.path) l.path))
+        × (innermost (cond b (inside l) (cond e (drop 1 l.path) l.path)) ≤ l.number)
     by_kind true e = ((h, f), omega arith)
     by_kind false true = out l.path f h
     by_kind false false = (f, omega (arith, h))

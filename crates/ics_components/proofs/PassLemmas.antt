@@ -170,7 +170,8 @@ module _ (line : Line) {lines : List Line} (again : Known lines) (v : Parts) {wh
   least : fault_on n v frames ≡ find (λ kind. stands kind (beside before l) l) kinds
   least =
       let asked : IsAsked whole (opens bundles) (beside before l) =
-      λ z. zone-lines (opens bundles) z (beside before l) (together-in is_zone_context (opens bundles) (beside before l) refl z (together before bundles on.kept))
+      λ z. zone-lines (opens bundles) z (beside before l)
+      (together-in is_zone_context (opens bundles) (beside before l) refl z (together before bundles on.kept))
       ∙ any-part whole (beside before l) in
       fault-top whole before n v bundles ∙ ap (λ f. fault_in n v f (length (opens bundles))) beside-top
       ∙ sym (least-same whole (opens bundles) line.number v (beside before l) asked)
@@ -191,7 +192,8 @@ module _ (line : Line) {lines : List Line} (again : Known lines) (v : Parts) {wh
 step : (line : Line) {lines : List Line} → Known lines → (o : Option Parts) {whole before : List Placed} {bundles : List Bundle} →
     IsOn whole before bundles (with_content line (opens bundles) o) lines → (had : GatheredSeen) →
     on_content line.number o (frames_of whole bundles) had (λ frames had. pass frames (Some line.number) had lines)
-    ≡ unless (first_from stands fault_at_end before (with_content line (opens bundles) o ∷ placed_from (path_behind (with_content line (opens bundles) o)) lines))
+    ≡ unless (first_from stands fault_at_end before (with_content line (opens bundles) o
+    ∷ placed_from (path_behind (with_content line (opens bundles) o)) lines))
     (gathered_from whole had before (with_content line (opens bundles) o ∷ placed_from (path_behind (with_content line (opens bundles) o)) lines))
 step line again None on had = refl
 step line {lines} again (Some v) {whole} {before} {bundles} on had =

@@ -28,8 +28,8 @@ use Rattle.ics_components.specs.declared.name.Name.{Name}
 use Rattle.ics_components.specs.declared.name.Name.TheVariants as name
 use Rattle.ics_components.specs.Components.{component_of, component_name, is_outside_context, is_zone_context}
 use Rattle.ics_components.specs.Names.{name_of}
-use Rattle.ics_components.specs.PlacedLines.{Placed, Open, context_of, closes, begins_observance, calendar_of, lines_in, has, is_named, first_named, first_of as first_line}
-use Rattle.ics_components.specs.PlacedLines.{all_named}
+use Rattle.ics_components.specs.PlacedLines.{Placed, Open, context_of, closes, begins_observance, calendar_of, lines_in, has, is_named, first_named}
+use Rattle.ics_components.specs.PlacedLines.{first_of as first_line, all_named}
 use Rattle.ics_components.specs.Values.{is_bad_rule, is_large_rule, is_fine_rule}
 use Rattle.ics_components.specs.Faults.{stands, kinds}
 use Rattle.ics_components.specs.Lines.{first, fault_if, rule_fault_of, outside_fault}
