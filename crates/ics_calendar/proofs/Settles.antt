@@ -99,8 +99,8 @@ asks : (whole : List Placed) (known : KnownZones) (lines : List Line) (before : 
     first_from stands fault_at_end before (placed_from path lines) ≡ None →
     all_unknown known.index (checks_from whole before (placed_from path lines)) ≡ map tzid_on (filter (is_in_unknown_zone known) (placed_from path lines))
 asks whole known =
-    each-line (λ before lines. all_unknown known.index (checks_from whole before lines) ≡ map tzid_on (filter (is_in_unknown_zone known) lines)) (λ before. refl)
-    (λ before line v path rest m again.
+    each-line (λ before lines. all_unknown known.index (checks_from whole before lines) ≡ map tzid_on (filter (is_in_unknown_zone known) lines))
+    (λ before. refl) (λ before line v path rest m again.
     let l : Placed = with line path v in
     asked-first known.index line.number (check_in (name_of (map upper v.name)) v (frame_of whole path (beside before l)))
     (checks_from whole (before ++ l ∷ []) rest)

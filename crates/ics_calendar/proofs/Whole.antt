@@ -38,7 +38,8 @@ gathered-both files file r = by_fold (begins_with_fold file)
     Both first draft =
         (decide first (later_fault files (placed file)) (said_of files (placed file)) ≡ says_by draft files) × (wanted_on first (placed file) ≡ wants_by draft)
 
-    by_first : (o : Option Fault) → first_fault (placed file) ≡ o → Both o (drafted_of (unless o (gathered_from (placed file) nothing_gathered [] (placed file))))
+    by_first : (o : Option Fault) → first_fault (placed file) ≡ o →
+        Both o (drafted_of (unless o (gathered_from (placed file) nothing_gathered [] (placed file))))
     by_first (Some fault) e = (refl, refl)
     by_first None e = (sym (settled-is (unfolded file) r e files), sym (wanted-is (unfolded file) r e))
 
