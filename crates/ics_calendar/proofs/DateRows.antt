@@ -10,7 +10,7 @@ use Rattle.ics_event.specs.declared.time.Rdate.{Rdate}
 use Rattle.ics_event.specs.declared.time.Rdate.TheVariants.{At, Span}
 use Rattle.ics_event.specs.declared.time.Time.{Time}
 use Rattle.ics_event.specs.Event.{EventSeen}
-use Rattle.ics_calendar.proofs.ExampleFiles.{calendar, events, zone, fault, at}
+use Rattle.ics_calendar.proofs.ExampleFiles.{calendar, events, zone, fault, at, Faults}
 
 abbrev event : List (List ℕ) → List (List ℕ)
 event lines = codes "BEGIN:VEVENT" ∷ codes "UID:a" ∷ codes "DTSTART:20240105T100000Z" ∷ lines ++ codes "END:VEVENT" ∷ []
@@ -74,28 +74,21 @@ master = refl
 unknown_date : fault (calendar (event (codes "RDATE;TZID=A:20240106,20240107T100000Z,20240108T100000" ∷ []) ++ zone (codes "B"))) ≡ at 5 UnknownZone
 unknown_date = refl
 
-unknown_end : fault (calendar (event (codes "RDATE;TZID=A:20240106T100000Z/20240106T110000" ∷ []))) ≡ at 5 UnknownZone
-unknown_end = refl
-
 unknown_exception : fault (calendar (zone (codes "A")) ++ calendar (event (codes "EXDATE;TZID=A:20240106T100000" ∷ []))) ≡ at 15 UnknownZone
 unknown_exception = refl
 
-unknown_identifier : fault (calendar (event (codes "RECURRENCE-ID;TZID=A:20240106T100000" ∷ []))) ≡ at 5 UnknownZone
-unknown_identifier = refl
-
-empty_name : fault (calendar (event (codes "EXDATE;TZID=:20240106T100000" ∷ []))) ≡ at 5 UnknownZone
-empty_name = refl
-
-none_needed : fault (calendar (event (codes "RDATE;TZID=A:20240106,20240107T100000Z,20240108T100000Z/PT1H" ∷ codes "EXDATE;TZID=A:20240106"
-    ∷ codes "RECURRENCE-ID;TZID=A:20240106" ∷ []))) ≡ None
-none_needed = refl
-
--- any other fault comes first, and of those of the second round the first line
-bad_date_behind : fault (calendar (event (codes "EXDATE;TZID=A:20240106T100000" ∷ codes "RDATE:x" ∷ []))) ≡ at 6 BadStamp
-bad_date_behind = refl
-
+-- of the faults of the second round the one on the first line comes first
 end_behind : fault (calendar (event (codes "DTEND;TZID=B:20240105T100000" ∷ codes "EXDATE;TZID=A:20240106T100000" ∷ []) ++ zone (codes "B"))) ≡ at 6 UnknownZone
 end_behind = refl
 
-two_identifiers : fault (calendar (event (codes "RECURRENCE-ID:20240106" ∷ codes "RECURRENCE-ID:20240107" ∷ []))) ≡ at 6 Repeated
-two_identifiers = refl
+-- an event in a calendar without zones, where any other fault comes first
+alone : Faults (λ lines. calendar (event lines)) (
+    (codes "RDATE;TZID=A:20240106T100000Z/20240106T110000" ∷ [], at 5 UnknownZone)
+    ∷ (codes "RECURRENCE-ID;TZID=A:20240106T100000" ∷ [], at 5 UnknownZone)
+    ∷ (codes "EXDATE;TZID=:20240106T100000" ∷ [], at 5 UnknownZone)
+    ∷ (codes "RDATE;TZID=A:20240106,20240107T100000Z,20240108T100000Z/PT1H" ∷ codes "EXDATE;TZID=A:20240106" ∷ codes "RECURRENCE-ID;TZID=A:20240106" ∷ [], None)
+    ∷ (codes "EXDATE;TZID=A:20240106T100000" ∷ codes "RDATE:x" ∷ [], at 6 BadStamp)
+    ∷ (codes "RECURRENCE-ID:20240106" ∷ codes "RECURRENCE-ID:20240107" ∷ [], at 6 Repeated)
+    ∷ []
+    )
+alone = refl

@@ -1,5 +1,5 @@
 -- Files for worked examples, and their first faults.
-use Rattle.std.proofs.Common.{ℕ, List, [], ◌∷◌, ◌++◌, Option, Some, None, Result, Ok, Err}
+use Rattle.std.proofs.Common.{◌≡◌, ℕ, List, [], ◌∷◌, ◌++◌, map, Option, Some, None, Result, Ok, Err}
 use Rattle.std.specs.Prelude.{codes}
 use Rattle.std.specs.List.{flat_map}
 use Rattle.ics_components.specs.declared.fault.FaultKind.{FaultKind}
@@ -40,3 +40,10 @@ events file = events_of (zones_on (placed file)).index (placed file)
 
 abbrev pub at : ℕ → FaultKind → Option Fault
 at line kind = Some (record { line = line; kind = kind })
+
+-- rows of lines, each with the fault of the file that is made of them
+abbrev pub Row : Type 0
+Row = List (List ℕ) × Option Fault
+
+abbrev pub Faults : (List (List ℕ) → List ℕ) → List Row → Type 0
+Faults file rows = map (λ (row : Row). fault (file row.0)) rows ≡ map (λ (row : Row). row.1) rows

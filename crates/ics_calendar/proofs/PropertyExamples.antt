@@ -1,25 +1,22 @@
 -- Worked faults of the properties of an event. What is expected comes from a separate program.
-use Rattle.std.proofs.Common.{◌≡◌, ℕ, List, [], ◌∷◌, ◌++◌, map, refl, Option, None}
+use Rattle.std.proofs.Common.{◌≡◌, ℕ, List, [], ◌∷◌, ◌++◌, refl, Option, None}
 use Rattle.std.specs.Prelude.{codes}
 use Rattle.ics_values.specs.Rules.{rule_of}
 use Rattle.ics_components.specs.declared.fault.Fault.{Fault}
 use Rattle.ics_components.specs.declared.fault.FaultKind.TheVariants.{BadDuration, BadEnd, BadLine, BadRule, BadStamp, MissingStart, MissingUid}
 use Rattle.ics_components.specs.declared.fault.FaultKind.TheVariants.{NumberTooLarge, Repeated, UnknownZone, YearRange}
-use Rattle.ics_calendar.proofs.ExampleFiles.{event, fault, at}
+use Rattle.ics_calendar.proofs.ExampleFiles.{event, fault, at, Row, Faults}
 
--- rows of the lines of an event behind its UID, each with the fault of the file
-abbrev Row : Type 0
-Row = List (List ℕ) × Option Fault
-
-abbrev Faults : List Row → Type 0
-Faults rows = map (λ (row : Row). fault (event (codes "UID:a" ∷ row.0))) rows ≡ map (λ (row : Row). row.1) rows
+-- an event by its lines behind its UID
+abbrev named : List (List ℕ) → List ℕ
+named lines = event (codes "UID:a" ∷ lines)
 
 -- a row of an event that begins on a day
 abbrev on_day : List (List ℕ) → Option Fault → Row
 on_day lines fault = (codes "DTSTART:20240105" ∷ lines, fault)
 
 -- stamps, and a bad one before a repeated one
-stamps : Faults (
+stamps : Faults named (
     (codes "DTSTART:00001231" ∷ [], at 4 YearRange)
     ∷ (codes "DTSTART:98991231" ∷ [], None)
     ∷ on_day (codes "DTSTART:x" ∷ []) (at 5 BadStamp)
@@ -30,7 +27,7 @@ stamps : Faults (
 stamps = refl
 
 -- durations
-durations : Faults (
+durations : Faults named (
     on_day (codes "DURATION:P1D" ∷ []) None
     ∷ on_day (codes "DURATION:P1" ∷ []) (at 5 BadDuration)
     ∷ on_day (codes "DURATION:-PT0S" ∷ []) None
@@ -46,7 +43,7 @@ durations : Faults (
 durations = refl
 
 -- numbers
-numbers : Faults (
+numbers : Faults named (
     on_day (codes "SEQUENCE:+4294967296" ∷ []) (at 5 NumberTooLarge)
     ∷ on_day (codes "SEQUENCE:one" ∷ []) None
     ∷ on_day (codes "SEQUENCE:one" ∷ codes "SEQUENCE:2" ∷ []) (at 6 Repeated)
@@ -55,7 +52,7 @@ numbers : Faults (
 numbers = refl
 
 -- ends
-ends : Faults (
+ends : Faults named (
     (codes "DTSTART:20240105T100000" ∷ codes "DTEND:20240105T095959" ∷ [], at 6 BadEnd)
     ∷ (codes "DTSTART:20240105T100000" ∷ codes "DTEND:20240105T100000" ∷ [], None)
     ∷ on_day (codes "DTEND:20240106T000000" ∷ []) (at 6 BadEnd)
@@ -72,7 +69,7 @@ utc_end_and_junk : fault (event (codes "UID:a" ∷ codes "DTSTART:20240105T10000
 utc_end_and_junk = refl
 
 -- what is missing
-missing : Faults (
+missing : Faults named (
     (codes "RECURRENCE-ID;RANGE=X:x" ∷ [], at 4 BadStamp)
     ∷ []
     )
@@ -85,7 +82,7 @@ second_uid : fault (event (codes "UID:" ∷ codes "UID:a" ∷ codes "DTSTART:202
 second_uid = refl
 
 -- rules: a bad one and a number too large before a repeated one, and one of an alarm that is not looked at
-rules : Faults (
+rules : Faults named (
     on_day (codes "RRULE:FREQ=DAILY;COUNT=4294967296;UNTIL=20240105" ∷ []) (at 5 BadRule)
     ∷ on_day (codes "RRULE:FREQ=DAILY" ∷ codes "rrule:FREQ=DAILY" ∷ []) (at 6 Repeated)
     ∷ on_day (codes "RRULE:FREQ=DAILY" ∷ codes "RRULE:" ∷ []) (at 6 BadRule)
@@ -98,7 +95,7 @@ unfolding rule_of
 rules = refl
 
 -- dates: the least fault of all values of a line
-dates : Faults (
+dates : Faults named (
     on_day (codes "RDATE:" ∷ []) (at 5 BadStamp)
     ∷ on_day (codes "EXDATE:" ∷ []) (at 5 BadStamp)
     ∷ on_day (codes "RDATE:00000101,junk" ∷ []) (at 5 BadStamp)

@@ -1,11 +1,10 @@
 -- Worked faults of time zones and their observances. What is expected comes from a separate program.
-use Rattle.std.proofs.Common.{◌≡◌, ℕ, List, [], ◌∷◌, ◌++◌, map, refl, Option, None}
+use Rattle.std.proofs.Common.{◌≡◌, ℕ, List, [], ◌∷◌, ◌++◌, refl, None}
 use Rattle.std.specs.Prelude.{codes}
 use Rattle.ics_values.specs.Rules.{rule_of}
-use Rattle.ics_components.specs.declared.fault.Fault.{Fault}
 use Rattle.ics_components.specs.declared.fault.FaultKind.TheVariants.{BadDuration, BadNesting, BadOffset, BadRule, BadStamp, NoObservance, NumberTooLarge}
 use Rattle.ics_components.specs.declared.fault.FaultKind.TheVariants.{ObservanceField, UnknownZone, YearRange, ZoneRule}
-use Rattle.ics_calendar.proofs.ExampleFiles.{calendar, fault, at}
+use Rattle.ics_calendar.proofs.ExampleFiles.{calendar, fault, at, Faults}
 
 abbrev zone : List (List ℕ) → List ℕ
 zone lines = calendar (codes "BEGIN:VTIMEZONE" ∷ lines ++ codes "END:VTIMEZONE" ∷ [])
@@ -13,13 +12,6 @@ zone lines = calendar (codes "BEGIN:VTIMEZONE" ∷ lines ++ codes "END:VTIMEZONE
 -- the observance of line 4
 abbrev standard : List (List ℕ) → List ℕ
 standard lines = zone (codes "TZID:E" ∷ codes "BEGIN:STANDARD" ∷ lines ++ codes "END:STANDARD" ∷ [])
-
--- rows of the lines of that observance, each with the fault of the file
-abbrev Row : Type 0
-Row = List (List ℕ) × Option Fault
-
-abbrev Faults : List Row → Type 0
-Faults rows = map (λ (row : Row). fault (standard row.0)) rows ≡ map (λ (row : Row). row.1) rows
 
 -- its three fields, on lines 5 to 7
 abbrev fields : List (List ℕ)
@@ -39,7 +31,7 @@ crossed : fault (zone (codes "TZID:E" ∷ codes "BEGIN:STANDARD" ∷ codes "END:
 crossed = refl
 
 -- an offset that is there twice, and bad ones
-offsets : Faults (
+offsets : Faults standard (
     (codes "TZOFFSETTO:-0500" ∷ codes "TZOFFSETTO:-0500" ∷ [], at 6 ObservanceField)
     ∷ (codes "TZOFFSETTO:-5" ∷ [], at 5 BadOffset)
     ∷ (codes "TZOFFSETFROM:+0100" ∷ codes "TZOFFSETFROM:+2400" ∷ [], at 6 BadOffset)
@@ -48,7 +40,7 @@ offsets : Faults (
 offsets = refl
 
 -- stamps are local, whatever TZID stands beside them
-starts : Faults (
+starts : Faults standard (
     (codes "DTSTART:20071104" ∷ [], at 5 ObservanceField)
     ∷ (codes "DTSTART:20071104T020000Z" ∷ [], at 5 ObservanceField)
     ∷ (codes "DTSTART:99990101T020000Z" ∷ [], at 5 YearRange)
@@ -59,7 +51,7 @@ starts : Faults (
 starts = refl
 
 -- RDATE
-dates : Faults (
+dates : Faults standard (
     (fields ++ codes "RDATE:20081102T020000,20091101T020000" ∷ codes "RDATE:20101107T020000" ∷ [], None)
     ∷ (codes "RDATE:20081102T020000,20091101" ∷ [], at 5 ObservanceField)
     ∷ (codes "RDATE:20081102T020000/PT1H" ∷ [], at 5 ObservanceField)
@@ -70,7 +62,7 @@ dates : Faults (
 dates = refl
 
 -- RRULE
-rules : Faults (
+rules : Faults standard (
     (codes "RRULE:FREQ=DAILY" ∷ codes "RRULE:FREQ=DAILY" ∷ [], at 6 ZoneRule)
     ∷ (codes "RRULE:FREQ=DAILY" ∷ codes "RRULE:FREQ" ∷ [], at 6 BadRule)
     ∷ []
