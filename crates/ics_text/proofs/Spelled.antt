@@ -174,10 +174,10 @@ onto : (p q : ScanState) → On p ≡ On q → p ≡ q
 onto p q e = cc
 
 -- where a byte goes by a test
-on_test : (P : ScanState → Type 0) {q : ScanState} (b : Bool) (p : ScanState) (other : Move) → (if b then On p else other) ≡ On q
+on_test : (P : ScanState → Type 0) {q : ScanState} {other : Move} (b : Bool) (p : ScanState) → (if b then On p else other) ≡ On q
     → (b ≡ true → P p) → (b ≡ false → other ≡ On q → P q) → P q
-on_test P {q} true p other e f g = subst P (onto p q e) (f refl)
-on_test P false p other e f g = g refl e
+on_test P {q} true p e f g = subst P (onto p q e) (f refl)
+on_test P false p e f g = g refl e
 
 -- the parameter that begins behind `;`
 abbrev pub begun : Tail → Param
@@ -195,53 +195,53 @@ Ends b t q = TailOk q t → (vs : List Parameter) × (ps : List Param) × AllByR
 
 back-ends : (b : ℕ) (q : ScanState) (t : Tail) → ends_value b ≡ On q → Ends b t q
 unfolding Ends
-back-ends b q t s = on_test (λ q. Ends b t q) (b == 44) BeforeValue _ s
+back-ends b q t s = on_test (λ q. Ends b t q) (b == 44) BeforeValue s
     (λ h ok.
     (t.first ∷ t.vs, t.ps, (ok.0, ok.1.values), ok.1.params, more-value t.first t.vs t.ps ∙ ap (λ c. c ∷ tail_text BeforeValue t) (sym (eqb-true b 44 h))))
-    (λ h e. on_test (λ q. Ends b t q) (b == 59) BeforeParam _ e
+    (λ h e. on_test (λ q. Ends b t q) (b == 59) BeforeParam e
     (λ k ok. ([], begun t ∷ t.ps, tt, begun-ok t ok, begun-text b t (eqb-true b 59 k)))
     (λ k e. absurd (no_end (b == 58) q e)))
 
 back : (state : ScanState) (b : ℕ) (q : ScanState) (t : Tail) → step state b ≡ On q → Back state b t q
 unfolding Ends none
-back Start b q t s = on_test (Back Start b t) (is_name_byte b) InName Refused s
+back Start b q t s = on_test (Back Start b t) (is_name_byte b) InName s
     (λ h ok. (record t { bytes = b ∷ t.bytes }, (record { some = nonempty b t.bytes; bytes = all-cons is_name_byte b t.bytes h ok.0 }, ok.1), refl))
     (λ h e. absurd (refused q e))
-back InName b q t s = on_test (Back InName b t) (is_name_byte b) InName _ s
+back InName b q t s = on_test (Back InName b t) (is_name_byte b) InName s
     (λ h ok. (record t { bytes = b ∷ t.bytes }, (all-cons is_name_byte b t.bytes h ok.0, ok.1), refl))
-    (λ h e. on_test (Back InName b t) (b == 59) BeforeParam (if b == 58 then Value else Refused) e
+    (λ h e. on_test (Back InName b t) (b == 59) BeforeParam e
     (λ k ok. (record { bytes = []; first = none; vs = []; ps = begun t ∷ t.ps }, (refl, begun-ok t ok), begun-text b t (eqb-true b 59 k)))
     (λ k e. absurd (no_end (b == 58) q e)))
-back BeforeParam b q t s = on_test (Back BeforeParam b t) (is_name_byte b) InParam Refused s
+back BeforeParam b q t s = on_test (Back BeforeParam b t) (is_name_byte b) InParam s
     (λ h ok. (record t { bytes = b ∷ t.bytes }, (record { some = nonempty b t.bytes; bytes = all-cons is_name_byte b t.bytes h ok.0 }, ok.1, ok.2), refl))
     (λ h e. absurd (refused q e))
-back InParam b q t s = on_test (Back InParam b t) (is_name_byte b) InParam (if b == 61 then On BeforeValue else Refused) s
+back InParam b q t s = on_test (Back InParam b t) (is_name_byte b) InParam s
     (λ h ok. (record t { bytes = b ∷ t.bytes }, (all-cons is_name_byte b t.bytes h ok.0, ok.1, ok.2), refl))
-    (λ h e. on_test (Back InParam b t) (b == 61) BeforeValue Refused e
+    (λ h e. on_test (Back InParam b t) (b == 61) BeforeValue e
     (λ k ok. (record t { bytes = [] }, (refl, ok.0, ok.1), ap (λ c. c ∷ tail_text BeforeValue t) (sym (eqb-true b 61 k))))
     (λ k e. absurd (refused q e)))
 back AfterQuotes b q t s = λ ok.
     let (vs, ps, hv, hp, e) = back-ends b q t s ok in
     (record { bytes = []; first = none; vs = vs; ps = ps }, record { values = hv; params = hp }, e)
-back InPlain b q t s = on_test (Back InPlain b t) (is_plain_byte b) InPlain (ends_value b) s
+back InPlain b q t s = on_test (Back InPlain b t) (is_plain_byte b) InPlain s
     (λ h ok. (record t { bytes = b ∷ t.bytes }, (all-cons is_plain_byte b t.bytes h ok.0, ok.1), refl))
     (λ h e ok.
     let (vs, ps, hv, hp, same) = back-ends b q t e ok in
     (record { bytes = []; first = none; vs = vs; ps = ps }, (refl, record { values = hv; params = hp }), same))
-back BeforeValue b q t s = on_test (Back BeforeValue b t) (b == 34) InQuotes (in_value b) s
+back BeforeValue b q t s = on_test (Back BeforeValue b t) (b == 34) InQuotes s
     (λ h ok. (
       record t { first = record { quoted = true; bytes = t.bytes } },
       (ok.0, ok.1),
       ap (λ r. 34 ∷ r) (append_assoc t.bytes (34 ∷ []) (more t.vs t.ps)) ∙ ap (λ c. c ∷ tail_text InQuotes t) (sym (eqb-true b 34 h)),
     ))
-    (λ h e. on_test (Back BeforeValue b t) (is_plain_byte b) InPlain (ends_value b) e
+    (λ h e. on_test (Back BeforeValue b t) (is_plain_byte b) InPlain e
     (λ k ok. (record t { first = record { quoted = false; bytes = b ∷ t.bytes } }, (all-cons is_plain_byte b t.bytes k ok.0, ok.1), refl))
     (λ k e ok.
     let (vs, ps, hv, hp, same) = back-ends b q t e ok in
     (record { bytes = []; first = none; vs = vs; ps = ps }, (refl, record { values = hv; params = hp }), same)))
-back InQuotes b q t s = on_test (Back InQuotes b t) (b == 34) AfterQuotes _ s
+back InQuotes b q t s = on_test (Back InQuotes b t) (b == 34) AfterQuotes s
     (λ h ok. (record t { bytes = [] }, (refl, ok), ap (λ c. c ∷ tail_text AfterQuotes t) (sym (eqb-true b 34 h))))
-    (λ h e. on_test (Back InQuotes b t) (is_quoted_byte b) InQuotes Refused e
+    (λ h e. on_test (Back InQuotes b t) (is_quoted_byte b) InQuotes e
     (λ k ok. (record t { bytes = b ∷ t.bytes }, (all-cons is_quoted_byte b t.bytes k ok.0, ok.1), refl))
     (λ k e. absurd (refused q e)))
 
