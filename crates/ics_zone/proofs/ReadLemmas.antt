@@ -68,10 +68,10 @@ offsets_moved zone old new moved have i p there =
 abbrev pub both_offsets : List Observance → List ℤ
 both_offsets observances = flat_map (λ o. o.offset_to ∷ o.offset_from ∷ []) observances
 
-pub both_more : {o : Observance} {old one new : List ℤ} (observances : List Observance) (k : ℕ) → k < length observances → o ≡ get_or observances k o
+pub both_more : {o : Observance} {old one new : List ℤ} (observances : List Observance) {k : ℕ} → k < length observances → o ≡ get_or observances k o
     → one ≡ old ++ o.offset_to ∷ [] → new ≡ one ++ o.offset_from ∷ [] → old ≡ both_offsets (take k observances)
     → new ≡ both_offsets (take (k + 1) observances)
-both_more {o = o} observances k inside at first second before =
+both_more {o = o} observances {k} inside at first second before =
     rw (second, first, before, take_more observances k o inside, ← at)
     (append_assoc (both_offsets (take k observances)) (o.offset_to ∷ []) (o.offset_from ∷ [])
     ∙ flat_map_more (λ (o : Observance). o.offset_to ∷ o.offset_from ∷ []) [] (take k observances) o)

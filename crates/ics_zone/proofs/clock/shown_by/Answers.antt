@@ -12,10 +12,10 @@ abs-is (pos n) h = refl
 abs-is (negsuc n) h = absurd (omega (arith, ints))
 
 -- the sum that is clamped twice
-shown_by : (offset moment near shown : ℤ) → IsWithin 86_399 offset → near ≡ int_max (negsuc 99_999_999_999) (int_min moment (pos 400_000_000_000))
+shown_by : {offset moment near : ℤ} (shown : ℤ) → IsWithin 86_399 offset → near ≡ int_max (negsuc 99_999_999_999) (int_min moment (pos 400_000_000_000))
     → shown ≡ int_max (pos 0) (int_min (near +ℤ offset +ℤ pos epoch +ℤ pos 1) (pos rules_end)) → unsigned_abs shown ≤ rules_end
     → IsShownBy offset moment (unsigned_abs shown)
-shown_by offset moment near shown short near_is shown_is bound =
+shown_by shown short near_is shown_is bound =
     let is = abs-is shown (omega (arith, ints, clamps, shown_is)) in
     record {
       bound = bound;
@@ -29,5 +29,5 @@ returns c =
     let near = simp to_z-of_z at c.clamp-moment.ensures.value in
     let sum = c.from.ensures in
     let shown = c.clamp.ensures.value in
-    shown_by c.args.offset c.args.moment c.clamp-moment.result (to_z w64 (of_z w64 c.clamp.result)) c.requires near
+    shown_by (to_z w64 (of_z w64 c.clamp.result)) c.requires near
     (omega (arith, ints, clamps, near, sum, shown, c.requires.0, c.requires.1)) (search rules)

@@ -9,7 +9,7 @@ pub loop-observance-preserved : goal.loop-observance-preserved
 loop-observance-preserved c =
     let to : SFits w32 c.observance-item.result.offset_to = search rules in
     let from : SFits w32 c.observance-item.result.offset_from = search rules in
-    both_more c.args.observances.now c.loop-observance.observance-index c.loop-observance-test.true c.observance-item.is
+    both_more c.args.observances.now c.loop-observance-test.true c.observance-item.is
     (simp to_z-of_z at c.in_ok-push.ensures.items) (simp to_z-of_z at c.in_ok-push-2.ensures.items) c.loop-observance.invariant
 
 pub returns : goal.returns
