@@ -20,6 +20,18 @@ unfolding count
 count-add a zero p = let e : a + 0 ≡ a = omega arith in rw e (omega arith)
 count-add a (suc n) p = let e : a + suc n ≡ suc (a + n) = omega arith in rw e (omega (arith, count-add a n p))
 
+-- what agrees from one number on counts alike from there
+pub count_between : {from before : ℕ} (total : ℕ) (f g : ℕ → Bool) → from ≤ before → ((m : ℕ) → from ≤ m → m < before → f m ≡ g m) → total + count from f
+    ≡ count before f → total + count from g ≡ count before g
+count_between {from = from} {before = before} total f g h same e =
+    let whole : from + (before - from) ≡ before = omega (arith, h) in
+    let one = count-add from (before - from) f in
+    let other = count-add from (before - from) g in
+    let rest = count-same (before - from) (λ k. f (from + k)) (λ k. g (from + k)) (λ k l. same (from + k) (omega arith) (omega (arith, l, h))) in
+    let a = ap (λ x. count x f) whole in
+    let b = ap (λ x. count x g) whole in
+    omega (arith, one, other, rest, a, b, e)
+
 -- a test that nothing passes
 pub count-none : (n : ℕ) (p : ℕ → Bool) → ((m : ℕ) → m < n → p m ≡ false) → count n p ≡ 0
 unfolding count

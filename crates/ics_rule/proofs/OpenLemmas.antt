@@ -4,7 +4,7 @@ use Rattle.std.proofs.Common.{sym, ap, ◌∙◌, arith}
 use Rattle.std.proofs.lemmas.Bool.{and_left, and_parts, and_right, cases_lt, false_from_ne_true}
 use Rattle.std.proofs.lemmas.Bool.Decides.{nat_tests}
 use Rattle.std.proofs.lemmas.Nat.{div-add-mod', mod-mul-add, le-div, div_below}
-use Rattle.std.proofs.Math.Nat.{add-mul, mod-lt, mul_comm, mul_assoc}
+use Rattle.std.proofs.Math.Nat.{add-mul, mod-lt, mul_comm, mul_assoc, mul-le-mul_right}
 use Rattle.ics_fields.specs.declared.frequency.Frequency.{Frequency}
 use Rattle.ics_fields.specs.Sets.{IsLeastFrom}
 use Rattle.ics_rule.specs.declared.effective_rule.EffectiveRule.{EffectiveRule}
@@ -12,7 +12,7 @@ use Rattle.ics_rule.specs.Candidates.{lets_date, is_stepped}
 use Rattle.ics_rule.specs.Kept.{count}
 use Rattle.ics_rule.specs.Rounds.{seconds_of}
 use Rattle.ics_rule.specs.OpenPeriods.{per_day, lets_own, is_open_period}
-use Rattle.ics_rule.proofs.Counts.{count-same, count-suc, count-add, count-none, count-product, count_most, count_none_at, count_one}
+use Rattle.ics_rule.proofs.Counts.{count-same, count-suc, count-add, count-none, count-product, count_between, count_most}
 use Rattle.ics_rule.proofs.RankLemmas.{count_flat}
 use Rattle.ics_rule.proofs.StepLemmas.{stepped_parts, stepped_shown, step_on, none_between}
 use Rattle.ics_rule.proofs.RoundLemmas.{step_repeats}
@@ -28,68 +28,60 @@ unfolding count
 count-sum zero f g h same = refl
 count-sum (suc n) f g h same = let before = count-sum n f g h same in let one = same n in omega (arith, before, one)
 
--- what agrees from one number on counts alike from there
-pub count_between : {from before : ℕ} (total : ℕ) (f g : ℕ → Bool) → from ≤ before → ((m : ℕ) → from ≤ m → m < before → f m ≡ g m) → total + count from f
-    ≡ count before f → total + count from g ≡ count before g
-count_between {from = from} {before = before} total f g h same e =
-    let whole : from + (before - from) ≡ before = omega (arith, h) in
-    let one = count-add from (before - from) f in
-    let other = count-add from (before - from) g in
-    let rest = count-same (before - from) (λ k. f (from + k)) (λ k. g (from + k)) (λ k l. same (from + k) (omega arith) (omega (arith, l, h))) in
-    let a = ap (λ x. count x f) whole in
-    let b = ap (λ x. count x g) whole in
-    omega (arith, one, other, rest, a, b, e)
-
 -- a walk from step to step that counts those that pass a test
 pub record IsStepWalk (a i : ℕ) (g : ℕ → Bool) (from before number total : ℕ) : Type 0 where
+  pub some : 1 ≤ i
   pub step : is_stepped a i number ≡ true
-  pub passed : total + count from (λ p. is_stepped a i p && g p) ≡ count number (λ p. is_stepped a i p && g p)
-  pub none : (m : ℕ) → before ≤ m → m < number → (is_stepped a i m && g m) ≡ false
+  pub passed : total + count from (λ p. is_stepped a i p && g p) ≡ count (min number before) (λ p. is_stepped a i p && g p)
 
-module _ (a i : ℕ) (some : 1 ≤ i) (g : ℕ → Bool) (from before : ℕ) where
+pub walk_first : {a i from before number : ℕ} {g : ℕ → Bool} → 1 ≤ i → from ≤ before → IsLeastFrom (is_stepped a i) from number →
+    IsStepWalk a i g from before number 0
+walk_first {a = a} {i = i} {from = from} {before = before} {number = number} {g = g} some h least = record {
+  some = some;
+  step = least.passes;
+  passed =
+      let flat = count_flat from (min number before) (λ p. is_stepped a i p && g p) (omega (arith, h, least.low))
+      (λ m l u. and_left (is_stepped a i m) (g m) (least.least m l (omega (arith, u)))) in
+      omega (arith, flat);
+}
+
+module _ {a i : ℕ} {g : ℕ → Bool} {from before number total : ℕ} (walk : IsStepWalk a i g from before number total) where
   abbrev stepped : ℕ → Bool
   stepped p = is_stepped a i p && g p
 
-  pub walk_first : (number : ℕ) → from ≤ before → IsLeastFrom (is_stepped a i) from number → IsStepWalk a i g from before number 0
-  walk_first number h least = grind (arith, nat_tests, and_left, count_flat)
+  pub walk_small : total ≤ number
+  walk_small = let most = count_most (min number before) stepped in omega (arith, most, walk.passed)
 
-  module _ (number total : ℕ) (walk : IsStepWalk a i g from before number total) where
-    pub walk_small : total ≤ number
-    walk_small = let most = count_most number stepped in let t = walk.passed in omega (arith, most, t)
+  -- to a later step, where none between passes
+  walk_to : {next new : ℕ} (b : Bool) → g number ≡ b → new ≡ total + cond b 1 0 → number < before → is_stepped a i next ≡ true → number < next
+      → ((m : ℕ) → number < m → m < next → stepped m ≡ false) → IsStepWalk a i g from before next new
+  walk_to {next = next} b e is h step later none = record {
+    some = walk.some;
+    step = step;
+    passed =
+        let flat = count_flat (suc number) (min next before) stepped (omega (arith, h, later)) (λ m l u. none m l (omega (arith, u))) in
+        let last = count-suc number stepped in
+        let here : ◌≡◌ {A = ℕ} (cond (stepped number) 1 0) (cond b 1 0) = rw (walk.step, e) refl in
+        let own = ap (λ x. count x stepped) (let same : min number before ≡ number = omega (arith, h) in same) in
+        omega (arith, flat, last, here, own, is, walk.passed);
+  }
 
-    step_next : count (number + i) stepped ≡ count number stepped + cond (g number) 1 0
-    step_next =
-        let more : suc number ≤ number + i = omega (arith, some) in
-        count_flat (suc number) (number + i) stepped more (λ m l u. and_left (is_stepped a i m) (g m) (none_between i some a number m walk.step l u))
-        ∙ count-suc number stepped ∙ ap (λ x. count number stepped + cond x 1 0) (and_true (is_stepped a i number) (g number) walk.step)
+  pub walk_on : {new : ℕ} (b : Bool) → g number ≡ b → new ≡ total + cond b 1 0 → number < before → IsStepWalk a i g from before (number + i) new
+  walk_on b e is h = walk_to b e is h (step_on i walk.some a number walk.step) (omega (arith, walk.some))
+      (λ m l u. and_left (is_stepped a i m) (g m) (none_between i walk.some a number m walk.step l u))
 
-    none_next : number < before → (m : ℕ) → before ≤ m → m < number + i → (is_stepped a i m && g m) ≡ false
-    none_next h m l u = and_left (is_stepped a i m) (g m) (none_between i some a number m walk.step (omega (arith, h, l)) u)
+  -- past numbers of which none passes, to the next step
+  pub walk_past : {out next : ℕ} → g number ≡ false → ((j : ℕ) → j < out → g (number + j) ≡ false) → 1 ≤ out
+      → IsLeastFrom (is_stepped a i) (number + out) next → number < before → IsStepWalk a i g from before next total
+  walk_past {out = out} e none some least h = walk_to false e (omega arith) h least.passes (omega (arith, least.low, some))
+      (λ m l u. elim (cases_lt m (number + out)) [
+        | inl early ↦ and_right (is_stepped a i m) (g m) (ap g (let same : m ≡ number + (m - number) = omega (arith, l) in same)
+            ∙ none (m - number) (omega (arith, early, l)))
+        | inr late ↦ and_left (is_stepped a i m) (g m) (least.least m late u)
+      ])
 
-    pub walk_in : number < before → g number ≡ true → IsStepWalk a i g from before (number + i) (total + 1)
-    walk_in h e = grind (arith, nat_tests, count_one, none_next, step_next, step_on)
-
-    pub walk_out : number < before → g number ≡ false → IsStepWalk a i g from before (number + i) total
-    walk_out h e = grind (arith, nat_tests, count_none_at, none_next, step_next, step_on)
-
-    -- past numbers of which none passes, to the next step
-    pub walk_past : (out next : ℕ) → ((j : ℕ) → j < out → g (number + j) ≡ false) → IsLeastFrom (is_stepped a i) (number + out) next → number < before →
-        IsStepWalk a i g from before next total
-    walk_past out next none least h = record {
-      step = least.passes;
-      passed = let flat = count_flat number next stepped (let low = least.low in omega (arith, low)) closed in let t = walk.passed in omega (arith, flat, t);
-      none = λ m l u. closed m (omega (arith, h, l)) u;
-    }
-      where
-        closed : (m : ℕ) → number ≤ m → m < next → stepped m ≡ false
-        closed m l u = elim (cases_lt m (number + out)) [
-          | inl early ↦ and_right (is_stepped a i m) (g m) (ap g (let same : m ≡ number + (m - number) = omega (arith, l) in same)
-              ∙ none (m - number) (omega (arith, early, l)))
-          | inr late ↦ and_left (is_stepped a i m) (g m) (least.least m late u)
-        ]
-
-    pub walk_done : before ≤ number → total + count from stepped ≡ count before stepped
-    walk_done h = walk.passed ∙ count_flat before number stepped h (λ m l u. walk.none m l u)
+  pub walk_done : before ≤ number → total + count from stepped ≡ count before stepped
+  walk_done h = walk.passed ∙ ap (λ x. count x stepped) (let all : min number before ≡ before = omega (arith, h) in all)
 
 -- before the first nothing is a step
 pub none_stepped : (a i : ℕ) (g : ℕ → Bool) → count a (λ p. is_stepped a i p && g p) ≡ 0
@@ -136,128 +128,118 @@ module _ (i : ℕ) (some : 1 ≤ i) (from j : ℕ) (less : j < i) where
       at : (a : Bool) (x : ℕ) → cond ((a && nat_lt x (j + 1)) && b) 1 0 ≡ cond ((a && nat_lt x j) && b) 1 0 + cond ((a && (x == j)) && b) 1 0
       at a x = grind (arith, nat_tests)
 
-module _ (q : EffectiveRule) (first : ℕ) (fine : 0 < seconds_of q.frequency) (unit : seconds_of q.frequency ≤ 86_400) where
-  abbrev u : ℕ
-  u = seconds_of q.frequency
+-- the periods let in on the days, from one on, with places before another
+abbrev pub placed : EffectiveRule → ℕ → ℕ → ℕ → ℕ → Bool
+placed q first from j p =
+    (nat_le from (p / per_day q.frequency) && nat_lt ((p / per_day q.frequency - from) % q.interval) j) && is_open_period q first p
 
+-- the periods of whole days, from one on and before another, of days of a rule that begins earlier
+pub record IsDayRun (q : EffectiveRule) (first from before : ℕ) : Type 0 where
+  pub fine : 0 < seconds_of q.frequency
+  pub unit : seconds_of q.frequency ≤ 86_400
+  pub some : 1 ≤ q.interval
+  pub later : first < from * per_day q.frequency
+  pub order : from ≤ before
+
+module _ {q : EffectiveRule} {first from before : ℕ} (run : IsDayRun q first from before) where
   abbrev d : ℕ
   d = per_day q.frequency
 
-  abbrev own : ℕ → Bool
-  own p = lets_own q.frequency q (p * u)
+  -- a step whose time is let in
+  abbrev timely : ℕ → Bool
+  timely p = is_stepped first q.interval p && lets_own q.frequency q (p * seconds_of q.frequency)
+
+  pub placed_none : 0 ≡ count (before * d) (placed q first from 0)
+  placed_none = sym (count-none (before * d) (placed q first from 0) (λ p l. ap (λ x. x && is_open_period q first p)
+      (and_right (nat_le from (p / d)) (nat_lt ((p / d - from) % q.interval) 0) (none_yet ((p / d - from) % q.interval)))))
 
   -- a step some runs of days later has the same clock
-  step_later : (x t : ℕ) → first ≤ x → (is_stepped first q.interval (x + q.interval * t * d) && own (x + q.interval * t * d))
-      ≡ (is_stepped first q.interval x && own x)
-  step_later x t low = grind (arith, nat_tests, add-mul, day_seconds, mul_assoc, own_day, step_repeats)
+  step_later : (x t : ℕ) → first ≤ x → timely (x + q.interval * t * d) ≡ timely x
+  step_later x t low =
+      let fine = run.fine in let unit = run.unit in grind (arith, nat_tests, add-mul, day_seconds, mul_assoc, own_day, step_repeats)
 
-  module _ (some : 1 ≤ q.interval) (from before : ℕ) (later : first < from * d) (order : from ≤ before) where
-    -- the periods let in on the days with places before one
-    abbrev placed : ℕ → ℕ → Bool
-    placed j p = (nat_le from (p / d) && nat_lt ((p / d - from) % q.interval) j) && is_open_period q first p
+  -- of the days with one place each has as many
+  module _ {j : ℕ} (less : j < q.interval) where
+    abbrev on_day : ℕ → Bool
+    on_day e = is_stepped (from + j) q.interval e && lets_date q e
 
-    pub placed_none : 0 ≡ count (before * d) (placed 0)
-    placed_none = sym (count-none (before * d) (placed 0) (λ p l. ap (λ x. x && is_open_period q first p)
-        (and_right (nat_le from (p / d)) (nat_lt ((p / d - from) % q.interval) 0) (none_yet ((p / d - from) % q.interval)))))
+    abbrev times : ℕ → Bool
+    times k = timely ((from + j) * d + k)
 
-    -- of the days with one place each has as many
-    module _ (j : ℕ) (less : j < q.interval) where
-      one_place : (p : ℕ) → (is_stepped (from + j) q.interval (p / d) && is_open_period q first p)
-          ≡ ((is_stepped (from + j) q.interval (p / d) && lets_date q (p / d)) &&
-          (is_stepped first q.interval ((from + j) * d + p % d) && own ((from + j) * d + p % d)))
-      one_place p =
-          guard (is_stepped (from + j) q.interval (p / d)) (is_open_period q first p) _ (λ e.
-          let parts = stepped_parts (from + j) q.interval (p / d) e in
-          let days = div-add-mod' (p / d - (from + j)) q.interval in
-          let whole = div-add-mod' p d in
-          let t = (p / d - (from + j)) / q.interval in
-          let day : p / d ≡ (from + j) + q.interval * t = (let swap = mul_comm q.interval t in omega (arith, parts.0, parts.1, days, swap)) in
-          let same : p ≡ (from + j) * d + p % d + q.interval * t * d = (
-          let wide = ap (λ x. x * d) day in
-          let spread : ((from + j) + q.interval * t) * d ≡ (from + j) * d + q.interval * t * d = add-mul (from + j) (q.interval * t) d in
-          omega (arith, whole, wide, spread)) in
-          let low : first ≤ (from + j) * d + p % d = (let spread : (from + j) * d ≡ from * d + j * d = add-mul from j d in omega (arith, later, spread)) in
-          turn (is_stepped first q.interval p) (lets_date q (p / d)) (own p)
-          ∙ ap (λ x. lets_date q (p / d) && (is_stepped first q.interval x && own x)) same
-          ∙ ap (λ x. lets_date q (p / d) && x) (step_later ((from + j) * d + p % d) t low))
-          ∙ sym (and_assoc (is_stepped (from + j) q.interval (p / d)) (lets_date q (p / d)) _)
-        where
-          turn : (a b c : Bool) → (a && (b && c)) ≡ (b && (a && c))
-          turn a b c = grind arith
-
-      place_count : count (before * d) (λ p. is_stepped (from + j) q.interval (p / d) && is_open_period q first p)
-          ≡ count before (λ e. is_stepped (from + j) q.interval e && lets_date q e) * count d
-          (λ k. is_stepped first q.interval ((from + j) * d + k) && own ((from + j) * d + k))
-      place_count = count-same (before * d) (λ p. is_stepped (from + j) q.interval (p / d) && is_open_period q first p)
-          (λ p. (is_stepped (from + j) q.interval (p / d) && lets_date q (p / d)) &&
-          (is_stepped first q.interval ((from + j) * d + p % d) && own ((from + j) * d + p % d))) (λ p l. one_place p)
-          ∙ count-product before d (λ e. is_stepped (from + j) q.interval e && lets_date q e)
-          (λ k. is_stepped first q.interval ((from + j) * d + k) && own ((from + j) * d + k))
-
-      pub placed_more : (total days steps : ℕ) → total ≡ count (before * d) (placed j) → days
-          ≡ count before (λ e. is_stepped (from + j) q.interval e && lets_date q e)
-          → steps + count ((from + j) * d) (λ p. is_stepped first q.interval p && own p)
-          ≡ count ((from + j + 1) * d) (λ p. is_stepped first q.interval p && own p)
-          → total + days * steps ≡ count (before * d) (placed (j + 1))
-      placed_more total days steps et ed es =
-          let sum = count-sum (before * d) (placed j) (λ p. is_stepped (from + j) q.interval (p / d) && is_open_period q first p) (placed (j + 1))
-          (λ p. place_more q.interval some from j less (p / d) (is_open_period q first p)) in
-          let day = count-add ((from + j) * d) d (λ p. is_stepped first q.interval p && own p) in
-          let end = ap (λ x. count x (λ p. is_stepped first q.interval p && own p))
-          (let same : (from + j + 1) * d ≡ (from + j) * d + d = omega arith in same) in
-          let one : steps ≡ count d (λ k. is_stepped first q.interval ((from + j) * d + k) && own ((from + j) * d + k)) = omega (arith, day, end, es) in
-          let product : days * steps ≡ count before (λ e. is_stepped (from + j) q.interval e && lets_date q e) * count d
-          (λ k. is_stepped first q.interval ((from + j) * d + k) && own ((from + j) * d + k))
-          = ap (λ x. x * steps) ed ∙ ap (λ x. count before (λ e. is_stepped (from + j) q.interval e && lets_date q e) * x) one in
-          omega (arith, sum, product, place_count, et)
-
-      -- a place whose days are all out
-      pub placed_out : (total : ℕ) → total ≡ count (before * d) (placed j) → 0 ≡ count before (λ e. is_stepped (from + j) q.interval e && lets_date q e)
-          → total ≡ count (before * d) (placed (j + 1))
-      placed_out total et ed =
-          let sum = count-sum (before * d) (placed j) (λ p. is_stepped (from + j) q.interval (p / d) && is_open_period q first p) (placed (j + 1))
-          (λ p. place_more q.interval some from j less (p / d) (is_open_period q first p)) in
-          let product = place_count ∙ ap (λ x. x * count d (λ k. is_stepped first q.interval ((from + j) * d + k) && own ((from + j) * d + k))) (sym ed) in
-          omega (arith, sum, product, et)
-
-    pub placed_all : (total j : ℕ) → j ≡ min q.interval (before - from) → total ≡ count (before * d) (placed j)
-        → total + count (from * d) (is_open_period q first) ≡ count (before * d) (is_open_period q first)
-    placed_all total j ej et =
-        let wide : from * d + (before - from) * d ≡ before * d =
-        (let spread : (from + (before - from)) * d ≡ from * d + (before - from) * d = add-mul from (before - from) d
-        in let back = ap (λ x. x * d) (let all : from + (before - from) ≡ before = omega (arith, order) in all) in omega (arith, spread, back)) in
-        let mine = count-add (from * d) ((before - from) * d) (placed j) in
-        let all = count-add (from * d) ((before - from) * d) (is_open_period q first) in
-        let none = count-none (from * d) (placed j) (λ p l. early p l) in
-        let same = count-same ((before - from) * d) (λ k. placed j (from * d + k)) (λ k. is_open_period q first (from * d + k))
-        (λ k l. inside (from * d + k) (omega arith) (omega (arith, l, wide))) in
-        let a = ap (λ x. count x (placed j)) wide in
-        let b = ap (λ x. count x (is_open_period q first)) wide in
-        omega (arith, mine, all, none, same, a, b, et)
+    one_place : (p : ℕ) → (is_stepped (from + j) q.interval (p / d) && is_open_period q first p) ≡ (on_day (p / d) && times (p % d))
+    one_place p =
+        guard (is_stepped (from + j) q.interval (p / d)) (is_open_period q first p) _ (λ e.
+        let parts = stepped_parts (from + j) q.interval (p / d) e in
+        let days = div-add-mod' (p / d - (from + j)) q.interval in
+        let whole = div-add-mod' p d in
+        let t = (p / d - (from + j)) / q.interval in
+        let day : p / d ≡ (from + j) + q.interval * t = (let swap = mul_comm q.interval t in omega (arith, parts.0, parts.1, days, swap)) in
+        let same : p ≡ (from + j) * d + p % d + q.interval * t * d =
+        (let wide = ap (λ x. x * d) day in let spread = add-mul (from + j) (q.interval * t) d in omega (arith, whole, wide, spread)) in
+        let low : first ≤ (from + j) * d + p % d = (let spread = add-mul from j d in omega (arith, run.later, spread)) in
+        turn (is_stepped first q.interval p) (lets_date q (p / d)) (lets_own q.frequency q (p * seconds_of q.frequency))
+        ∙ ap (λ x. lets_date q (p / d) && timely x) same
+        ∙ ap (λ x. lets_date q (p / d) && x) (step_later ((from + j) * d + p % d) t low))
+        ∙ sym (and_assoc (is_stepped (from + j) q.interval (p / d)) (lets_date q (p / d)) _)
       where
-        positive : 1 ≤ d
-        positive = (day_some q.frequency).0
+        turn : (a b c : Bool) → (a && (b && c)) ≡ (b && (a && c))
+        turn a b c = grind arith
 
-        early : (p : ℕ) → p < from * d → placed j p ≡ false
-        early p l = grind (arith, nat_tests, div_below, positive)
+    placed_next : {total : ℕ} → total ≡ count (before * d) (placed q first from j)
+        → total + count before on_day * count d times ≡ count (before * d) (placed q first from (j + 1))
+    placed_next et =
+        let sum = count-sum (before * d) (placed q first from j) (λ p. is_stepped (from + j) q.interval (p / d) && is_open_period q first p)
+        (placed q first from (j + 1)) (λ p. place_more q.interval run.some from j less (p / d) (is_open_period q first p)) in
+        let own = count-same (before * d) (λ p. is_stepped (from + j) q.interval (p / d) && is_open_period q first p)
+        (λ p. on_day (p / d) && times (p % d)) (λ p l. one_place p) ∙ count-product before d on_day times in
+        omega (arith, sum, own, et)
 
-        inside : (p : ℕ) → from * d ≤ p → p < before * d → placed j p ≡ is_open_period q first p
-        inside p l h = grind (arith, nat_tests, div-add-mod', div_below, le-div, mod-lt, positive)
+    pub placed_more : {total days unit : ℕ} (steps : ℕ) → total ≡ count (before * d) (placed q first from j) → days ≡ count before on_day
+        → unit ≡ seconds_of q.frequency
+        → steps + count ((from + j) * (86_400 / unit)) timely ≡ count ((from + j + 1) * (86_400 / unit)) timely
+        → total + days * steps ≡ count (before * d) (placed q first from (j + 1))
+    placed_more steps et ed eu es =
+        let own = rw (eu, (day_seconds q.frequency run.fine run.unit).1) at es in
+        let day = count-add ((from + j) * d) d timely in
+        let end = ap (λ x. count x timely) (let same : (from + j + 1) * d ≡ (from + j) * d + d = omega arith in same) in
+        let one : steps ≡ count d times = omega (arith, day, end, own) in
+        rw (ed, one) (placed_next et)
 
-  -- within one day
-  module _ (from before total : ℕ) (order : from ≤ before) (day : before ≤ (from / d + 1) * d) where
-    same_day : (m : ℕ) → from ≤ m → m < before → m / d ≡ from / d
-    same_day m l h = grind (arith, nat_tests, day_some, div-add-mod', div_below, le-div)
+    -- a place whose days are all out
+    pub placed_out : {total : ℕ} → total ≡ count (before * d) (placed q first from j) → 0 ≡ count before on_day
+        → total ≡ count (before * d) (placed q first from (j + 1))
+    placed_out et ed = let next = placed_next et in let none = ap (λ x. x * count d times) ed in omega (arith, next, none)
 
-    pub day_in : lets_date q (from / d) ≡ true → total + count from (λ p. is_stepped first q.interval p && own p)
-        ≡ count before (λ p. is_stepped first q.interval p && own p)
-        → total + count from (is_open_period q first) ≡ count before (is_open_period q first)
-    day_in is = count_between total (λ p. is_stepped first q.interval p && own p) (is_open_period q first) order
-        (λ m l h. ap (λ x. is_stepped first q.interval m && x) (sym (and_true (lets_date q (m / d)) (own m) (ap (lets_date q) (same_day m l h) ∙ is))))
+  pub placed_all : {total j : ℕ} → j ≡ min q.interval (before - from) → total ≡ count (before * d) (placed q first from j)
+      → total + count (from * d) (is_open_period q first) ≡ count (before * d) (is_open_period q first)
+  placed_all {total = total} {j = j} ej et =
+      let none = count-none (from * d) (placed q first from j) early in
+      count_between total (placed q first from j) (is_open_period q first) (mul-le-mul_right d run.order) inside (omega (arith, none, et))
+    where
+      positive : 1 ≤ d
+      positive = (day_some q.frequency).0
 
-    pub day_out : lets_date q (from / d) ≡ false → 0 + count from (is_open_period q first) ≡ count before (is_open_period q first)
-    day_out out =
-        let flat = count_flat from before (is_open_period q first) order
-        (λ m l h. and_right (is_stepped first q.interval m) (lets_date q (m / d) && own m)
-        (and_left (lets_date q (m / d)) (own m) (ap (lets_date q) (same_day m l h) ∙ out))) in
-        omega (arith, flat)
+      early : (p : ℕ) → p < from * d → placed q first from j p ≡ false
+      early p l = grind (arith, nat_tests, div_below, positive)
+
+      inside : (p : ℕ) → from * d ≤ p → p < before * d → placed q first from j p ≡ is_open_period q first p
+      inside p l h = let some = run.some in grind (arith, nat_tests, div-add-mod', div_below, le-div, mod-lt, positive)
+
+-- within one day
+module _ (q : EffectiveRule) (first : ℕ) {from before : ℕ} (order : from ≤ before) (day : before ≤ (from / per_day q.frequency + 1) * per_day q.frequency) where
+  same_day : (m : ℕ) → from ≤ m → m < before → m / per_day q.frequency ≡ from / per_day q.frequency
+  same_day m l h = grind (arith, nat_tests, day_some, div-add-mod', div_below, le-div)
+
+  pub day_in : (total : ℕ) → lets_date q (from / per_day q.frequency) ≡ true
+      → total + count from (λ p. is_stepped first q.interval p && lets_own q.frequency q (p * seconds_of q.frequency))
+      ≡ count before (λ p. is_stepped first q.interval p && lets_own q.frequency q (p * seconds_of q.frequency))
+      → total + count from (is_open_period q first) ≡ count before (is_open_period q first)
+  day_in total is = count_between total _ (is_open_period q first) order
+      (λ m l h. ap (λ x. is_stepped first q.interval m && x)
+      (sym (and_true (lets_date q (m / per_day q.frequency)) _ (ap (lets_date q) (same_day m l h) ∙ is))))
+
+  pub day_out : lets_date q (from / per_day q.frequency) ≡ false → 0 + count from (is_open_period q first) ≡ count before (is_open_period q first)
+  day_out out =
+      let flat = count_flat from before (is_open_period q first) order
+      (λ m l h. and_right (is_stepped first q.interval m) _ (and_left (lets_date q (m / per_day q.frequency)) _ (ap (lets_date q) (same_day m l h) ∙ out))) in
+      omega (arith, flat)

@@ -1,12 +1,12 @@
 -- The periods of a day or less that a rule lets in repeat with the calendar.
-use Rattle.std.proofs.Common.{◌≡◌, ℕ, ◌+◌, ◌*◌, ◌/◌, ◌<◌, ◌≤◌, ap, arith}
+use Rattle.std.proofs.Common.{◌≡◌, ℕ, zero, suc, ◌+◌, ◌*◌, ◌/◌, ◌<◌, ◌≤◌, Bool, ap, ◌∙◌, arith}
 use Rattle.ics_fields.specs.declared.frequency.Frequency.{Frequency}
 use Rattle.ics_rule.specs.declared.effective_rule.EffectiveRule.{EffectiveRule}
 use Rattle.ics_rule.specs.Kept.{count}
 use Rattle.ics_rule.specs.Rounds.{seconds_of, calendar_periods, IsCalendarRound}
 use Rattle.ics_rule.specs.OpenPeriods.{per_day, is_open_period}
-use Rattle.ics_rule.proofs.Counts.{count-add}
-use Rattle.ics_rule.proofs.RoundLemmas.{count_rounds}
+use Rattle.ics_rule.proofs.Counts.{count-same, count-add}
+use Rattle.ics_rule.proofs.RoundLemmas.{repeats_often}
 use Rattle.ics_rule.proofs.OpenLemmas.{own_day}
 use Rattle.ics_rule.proofs.CycleLemmas.{date_again}
 use Rattle.ics_rule.proofs.CalendarRounds.{calendar_step}
@@ -17,6 +17,18 @@ day_again f p k h u = grind arith
 second_again : (f : Frequency) (p k : ℕ) → 0 < seconds_of f → seconds_of f ≤ 86_400 →
     (p + k * calendar_periods f) * seconds_of f ≡ p * seconds_of f + 146_097 * k * 86_400
 second_again f p k h u = grind arith
+
+-- the members of whole rounds, of a test that repeats after each
+count_rounds : (f : ℕ → Bool) {a : ℕ} (s : ℕ) → ((n : ℕ) → a ≤ n → f (n + s) ≡ f n) → (j : ℕ)
+    → count (a + j * s) f ≡ count a f + j * count s (λ k. f (a + k))
+count_rounds f {a = a} s on zero = ap (λ x. count x f) (let same : a + 0 * s ≡ a = omega arith in same) ∙ omega arith
+count_rounds f {a = a} s on (suc j) =
+    let whole = ap (λ x. count x f) (let all : a + suc j * s ≡ a + j * s + s = omega arith in all) in
+    let last = count-add (a + j * s) s f in
+    let same = count-same s (λ k. f (a + j * s + k)) (λ k. f (a + k)) (λ k l. ap f (let order : a + j * s + k ≡ a + k + j * s = omega arith in order)
+    ∙ repeats_often f {low = a} s on j (a + k) (omega arith)) in
+    let more : suc j * count s (λ k. f (a + k)) ≡ j * count s (λ k. f (a + k)) + count s (λ k. f (a + k)) = omega arith in
+    omega (arith, last, whole, same, more, count_rounds f {a = a} s on j)
 
 module _ (q : EffectiveRule) (first periods : ℕ) (round : IsCalendarRound q periods) (fine : 0 < seconds_of q.frequency)
     (unit : seconds_of q.frequency ≤ 86_400) where
@@ -30,8 +42,7 @@ module _ (q : EffectiveRule) (first periods : ℕ) (round : IsCalendarRound q pe
         → rest + count (from + rounds * periods) (is_open_period q first) ≡ count before (is_open_period q first)
         → rounds * one + rest + count from (is_open_period q first) ≡ count before (is_open_period q first)
     open_rounds before rounds one rest eo er =
-        let all = count_rounds (is_open_period q first) from periods (from + rounds * periods) (λ n l h. open_again n (omega (arith, low, l))) rounds
-        (omega arith) in
+        let all = count_rounds (is_open_period q first) {a = from} periods (λ n l. open_again n (omega (arith, low, l))) rounds in
         let add = count-add from periods (is_open_period q first) in
         let product = ap (λ x. rounds * x) (let same : one ≡ count periods (λ k. is_open_period q first (from + k)) = omega (arith, add, eo) in same) in
         omega (arith, all, product, er)

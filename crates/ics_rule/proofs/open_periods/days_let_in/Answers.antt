@@ -1,48 +1,38 @@
-use Rattle.std.proofs.Common.{◌∙◌, ◌<◌, ◌&&◌, sym, subst, arith}
+use Rattle.std.proofs.Common.{◌∙◌, ◌<◌, ◌&&◌, true, false, refl, sym, subst, arith}
 use Rattle.ics_rule.specs.Candidates.{lets_date, is_stepped}
 use Rattle.ics_rule.proofs.Counts.{count_most}
 use Rattle.ics_rule.proofs.PassLemmas.{one_out}
-use Rattle.ics_rule.proofs.OpenLemmas.{walk_first, walk_small, walk_in, walk_out, walk_past, walk_done, none_stepped, step_begins}
+use Rattle.ics_rule.proofs.OpenLemmas.{walk_first, walk_small, walk_on, walk_past, walk_done, none_stepped, step_begins}
 use Rattle.ics_rule.proofs.open_periods.days_let_in.Goals as goal
 
 pub loop-day-init : goal.loop-day-init
-loop-day-init c = walk_first c.args.from c.args.parts.now.interval c.requires.interval
-    (lets_date c.args.parts.now) c.args.from c.args.before c.args.from c.requires.order
-    (step_begins c.args.from c.args.parts.now.interval c.requires.interval)
+loop-day-init c = walk_first c.requires.interval c.requires.order (step_begins c.args.from c.args.parts.now.interval c.requires.interval)
 
 pub overflow_add-total : goal.overflow_add-total
-overflow_add-total c =
-    let small = walk_small c.args.from c.args.parts.now.interval c.requires.interval
-    (lets_date c.args.parts.now) c.args.from c.args.before c.loop-day.day c.loop-day.total c.loop-day.invariant in
-    omega (arith, small, c.loop-day-test.true, c.requires.before)
+overflow_add-total c = let small = walk_small c.loop-day.invariant in omega (arith, small, c.loop-day-test.true, c.requires.before)
 
 pub loop-day-preserved-then-lets_date : goal.loop-day-preserved-then-lets_date
-loop-day-preserved-then-lets_date c = walk_in c.args.from c.args.parts.now.interval c.requires.interval
-    (lets_date c.args.parts.now) c.args.from c.args.before c.loop-day.day c.loop-day.total c.loop-day.invariant c.loop-day-test.true
-    (sym c.lets_date.ensures ∙ c.if-lets_date.true)
+loop-day-preserved-then-lets_date c =
+    walk_on c.loop-day.invariant true (sym c.lets_date.ensures ∙ c.if-lets_date.true) refl c.loop-day-test.true
 
 pub loop-day-preserved-then-leaves_months : goal.loop-day-preserved-then-leaves_months
-loop-day-preserved-then-leaves_months c = walk_past c.args.from c.args.parts.now.interval c.requires.interval
-    (lets_date c.args.parts.now) c.args.from c.args.before c.loop-day.day c.loop-day.total c.loop-day.invariant c.max-closed.result c.next_step-day.result
-    (λ j h. one_out (lets_date c.args.parts.now) c.loop-day.day (sym c.lets_date.ensures ∙ c.if-lets_date.false)
-    c.days_of_closed_month.ensures.none j (subst (λ x. j < x) c.max-closed.ensures h))
-    c.next_step-day.ensures c.loop-day-test.true
+loop-day-preserved-then-leaves_months c =
+    let here = sym c.lets_date.ensures ∙ c.if-lets_date.false in
+    walk_past c.loop-day.invariant here
+    (λ j h. one_out (lets_date c.args.parts.now) c.loop-day.day here c.days_of_closed_month.ensures.none j (subst (λ x. j < x) c.max-closed.ensures h))
+    (omega (arith, c.max-closed.ensures)) c.next_step-day.ensures c.loop-day-test.true
 
 pub loop-day-preserved : goal.loop-day-preserved
-loop-day-preserved c = walk_out c.args.from c.args.parts.now.interval c.requires.interval
-    (lets_date c.args.parts.now) c.args.from c.args.before c.loop-day.day c.loop-day.total c.loop-day.invariant c.loop-day-test.true
-    (sym c.lets_date.ensures ∙ c.if-lets_date.false)
+loop-day-preserved c = walk_on c.loop-day.invariant false (sym c.lets_date.ensures ∙ c.if-lets_date.false) (omega arith) c.loop-day-test.true
 
 pub returns-clause-value : goal.returns-clause-value
 returns-clause-value c =
     let none = none_stepped c.args.from c.args.parts.now.interval (lets_date c.args.parts.now) in
-    let all = walk_done c.args.from c.args.parts.now.interval c.requires.interval
-    (lets_date c.args.parts.now) c.args.from c.args.before c.loop-day.day c.loop-day.total c.loop-day.invariant c.loop-day-test.false in
+    let all = walk_done c.loop-day.invariant c.loop-day-test.false in
     omega (arith, none, all)
 
 pub returns-clause-bound : goal.returns-clause-bound
 returns-clause-bound c =
-    let all = walk_done c.args.from c.args.parts.now.interval c.requires.interval
-    (lets_date c.args.parts.now) c.args.from c.args.before c.loop-day.day c.loop-day.total c.loop-day.invariant c.loop-day-test.false in
+    let all = walk_done c.loop-day.invariant c.loop-day-test.false in
     let most = count_most c.args.before (λ e. is_stepped c.args.from c.args.parts.now.interval e && lets_date c.args.parts.now e) in
     omega (arith, all, most)
