@@ -8,10 +8,10 @@ use Rattle.ics_fields.specs.declared.frequency.Frequency.TheVariants.{Monthly, Y
 use Rattle.ics_fields.specs.Days.{days_before_year, year_of, month_of}
 use Rattle.ics_rule.specs.declared.effective_rule.EffectiveRule.{EffectiveRule}
 use Rattle.ics_rule.specs.PeriodNumbers.{period, day_of}
-use Rattle.ics_rule.specs.Candidates.{lets, lets_date, lets_clock, is_stepped, period_in}
+use Rattle.ics_rule.specs.Candidates.{lets_date, lets_clock, is_stepped, period_in}
 use Rattle.ics_rule.specs.RecurrencePeriods.{first_local}
 use Rattle.ics_rule.specs.Rounds.{calendar_periods, IsCalendarRound, IsRound, IsEvenRound}
-use Rattle.ics_rule.proofs.RoundLemmas.{clock_alike, let_in_alike, step_repeats}
+use Rattle.ics_rule.proofs.RoundLemmas.{clock_same, let_in_alike, step_repeats}
 use Rattle.ics_rule.proofs.EvenLemmas.{even_of_round}
 use Rattle.ics_rule.proofs.CycleLemmas.{years_again, months_again, year_again, month_again, date_again}
 
@@ -43,10 +43,7 @@ first_again Yearly w p k h =
 first_again f w p k h = omega arith
 
 clock_again : (q : EffectiveRule) (n k : ℕ) → lets_clock q (n + k * 12_622_780_800) ≡ lets_clock q n
-clock_again q n k = clock_alike q (n + k * 12_622_780_800) n
-    (let same : (n + k * 12_622_780_800) / 3_600 % 24 ≡ n / 3_600 % 24 = omega arith in ap (lets q.hours) same)
-    (let same : (n + k * 12_622_780_800) / 60 % 60 ≡ n / 60 % 60 = omega arith in ap (lets q.minutes) same)
-    (let same : (n + k * 12_622_780_800) % 60 ≡ n % 60 = omega arith in ap (lets q.seconds) same)
+clock_again q n k = clock_same q (n + k * 12_622_780_800) n (omega arith) (omega arith) (omega arith)
 
 some_periods : (f : Frequency) → 1 ≤ calendar_periods f
 some_periods f = grind arith
