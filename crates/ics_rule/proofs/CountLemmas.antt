@@ -1,5 +1,5 @@
 -- What a rule chooses is counted period by period.
-use Rattle.std.proofs.Common.{◌≡◌, ◌≢◌, ℕ, suc, ◌+◌, ◌-◌, ◌<◌, ◌≤◌, inl, inr, Bool, true, false, ◌&&◌, Some, refl, sym, subst, ap, ◌∙◌, arith}
+use Rattle.std.proofs.Common.{◌≡◌, ◌≢◌, ℕ, suc, ◌+◌, ◌-◌, ◌<◌, ◌≤◌, inl, inr, Bool, true, false, ◌&&◌, refl, sym, ap, ◌∙◌, arith}
 use Rattle.std.proofs.lemmas.Bool.{cases_lt, ne_eqb, false_from_ne_true}
 use Rattle.std.proofs.lemmas.Bool.Decides.{nat_tests}
 use Rattle.jiff_core.specs.Weekday.{monday_zero}
@@ -12,8 +12,8 @@ use Rattle.ics_rule.specs.Kept.{count, is_chosen}
 use Rattle.ics_rule.specs.RecurrencePeriods.{first_local, IsPeriodOf, is_taken}
 use Rattle.ics_rule.specs.Cursors.{IsCounted}
 use Rattle.ics_rule.specs.Searches.{is_few, IsPassed, AllCounted, IsTurned, after_look}
-use Rattle.ics_rule.proofs.PeriodLemmas.{begun, begins, first_in, period_mono, week_small, before_first, before_next}
-use Rattle.ics_rule.proofs.Counts.{count-same, count-add, count-none, count_mono, count_most}
+use Rattle.ics_rule.proofs.PeriodLemmas.{begun, begins, first_in, period_mono, week_small, before_first}
+use Rattle.ics_rule.proofs.Counts.{count_between, count-none, count_mono, count_most}
 use Rattle.ics_rule.proofs.RankLemmas.{count_flat}
 use Rattle.ics_rule.proofs.StepLemmas.{stepped_parts, none_between}
 use Rattle.ics_rule.proofs.ChosenLemmas.{no_step, taken_is}
@@ -37,55 +37,31 @@ pub first_mono : (q : EffectiveRule) (a b : ℕ) → period_in q 0 ≤ b → a �
     first_local q.frequency (monday_zero q.week_start) a ≤ first_local q.frequency (monday_zero q.week_start) b
 first_mono q a b low h = grind (arith, nat_tests, begun, first_in, week_small)
 
-module _ (q : EffectiveRule) (start : ℕ) (p : RecurrencePeriod) (own : IsPeriodOf q p) (step : is_stepped (period_in q start) q.interval p.number ≡ true)
-    (some : 1 ≤ q.interval) where
+module _ (q : EffectiveRule) (start : ℕ) (p : RecurrencePeriod) (own : IsPeriodOf q p) (step : is_stepped (period_in q start) q.interval p.number ≡ true) where
   abbrev taken : ℕ → Bool
   taken = is_taken q.positions (lists_none_wide q.positions) p
 
   abbrev first : ℕ
   first = first_local q.frequency (monday_zero q.week_start) p.number
 
-  abbrev next : ℕ
-  next = first_local q.frequency (monday_zero q.week_start) (p.number + q.interval)
+  pub none_taken : (m : ℕ) → period_in q m ≢ p.number → taken m ≡ false
+  none_taken m other = taken_is q start p own step m ∙ ap (λ x. x && is_chosen q start m) (ne_eqb (period_in q m) p.number other)
 
-  out : (m : ℕ) → period_in q m ≢ p.number → taken m ≡ false
-  out m other = taken_is q start p own step m ∙ ap (λ x. x && is_chosen q start m) (ne_eqb (period_in q m) p.number other)
-
-  -- from this period's first local to the next one's the two agree
-  same_here : (m : ℕ) → first ≤ m → m < next → is_chosen q start m ≡ taken m
-  same_here m l h =
-      let low = begins q.frequency (monday_zero q.week_start) p.number m l in
-      elim (cases_lt p.number (period_in q m)) [
-        | inl later ↦
-            let before = before_first q.frequency (monday_zero q.week_start) (p.number + q.interval) m h in
-            no_step q start m (none_between q.interval some (period_in q start) p.number (period_in q m) step later before)
-            ∙ sym (out m (λ e. omega (arith, e, later)))
-        | inr same ↦ sym (taken_is q start p own step m ∙ within_here q start p.number m (omega (arith, same, low)))
-      ]
-
-  pub chosen_before : (n : ℕ) → first ≤ n → n ≤ next → count n (is_chosen q start) ≡ count first (is_chosen q start) + count n taken
-  chosen_before n l h =
-      let whole : first + (n - first) ≡ n = omega arith in
-      let chosen = count-add first (n - first) (is_chosen q start) in
-      let took = count-add first (n - first) taken in
-      let none = count-none first taken (λ m less. out m (λ e. let late = begun q.frequency (monday_zero q.week_start) p.number m (omega (arith, e)) in
+  -- up to a local before which a later period has nothing that is chosen, from the period's first local on what is chosen is taken
+  pub chosen_before : (n : ℕ) → first ≤ n → ((m : ℕ) → m < n → p.number < period_in q m → is_chosen q start m ≡ false)
+      → count n (is_chosen q start) ≡ count first (is_chosen q start) + count n taken
+  chosen_before n l none =
+      let before = count-none first taken (λ m less. none_taken m (λ e. let late = begun q.frequency (monday_zero q.week_start) p.number m (omega (arith, e)) in
       omega (arith, late, less))) in
-      let same = count-same (n - first) (λ k. is_chosen q start (first + k)) (λ k. taken (first + k))
-      (λ k less. same_here (first + k) (omega arith) (omega arith)) in
-      let a = ap (λ x. count x (is_chosen q start)) whole in
-      let b = ap (λ x. count x taken) whole in
-      omega (arith, chosen, took, none, same, a, b)
-
-  pub first_next : first ≤ next
-  first_next = first_mono q p.number (p.number + q.interval) (let low = step_low q start p.number step in omega (arith, low)) (omega arith)
-
-  -- the whole period
-  pub chosen_all : (end : ℕ) → next ≤ end → count next (is_chosen q start) ≡ count first (is_chosen q start) + count end taken
-  chosen_all end h =
-      let own = chosen_before next first_next (omega arith) in
-      let flat = count_flat next end taken h (λ m l u. out m (λ e. let late = begins q.frequency (monday_zero q.week_start) (p.number + q.interval) m l in
-      omega (arith, late, e, some))) in
-      omega (arith, own, flat)
+      let all = count_between (count n taken) taken (is_chosen q start) l agree (omega (arith, before)) in
+      omega (arith, all)
+    where
+      agree : (m : ℕ) → first ≤ m → m < n → taken m ≡ is_chosen q start m
+      agree m low h = elim (cases_lt p.number (period_in q m)) [
+        | inl later ↦ none_taken m (λ e. omega (arith, e, later)) ∙ sym (none m h later)
+        | inr same ↦ let from = begins q.frequency (monday_zero q.week_start) p.number m low in
+            taken_is q start p own step m ∙ within_here q start p.number m (omega (arith, same, from))
+      ]
 
 -- the last local of the calendar
 abbrev pub last_local : ℕ
@@ -104,12 +80,15 @@ chosen_passed : {q : EffectiveRule} {start c number before counted limit : ℕ} 
     count (first_local q.frequency (monday_zero q.week_start) number) (is_chosen q start) ≡ counted + before
 chosen_passed {q = q} {start = start} {number = number} {o = o} left =
     let low = step_low q start o.number left.counted.step in
-    let up = first_mono q (o.number + q.interval) number (omega (arith, low, left.passed.up)) left.passed.up in
-    let all = chosen_all q start o left.own left.counted.step left.some last_local (omega (arith, up, left.reach)) in
-    let flat = count_flat (first_local q.frequency (monday_zero q.week_start) (o.number + q.interval))
-    (first_local q.frequency (monday_zero q.week_start) number) (is_chosen q start) up
-    (λ m l u. left.passed.none m (begins q.frequency (monday_zero q.week_start) (o.number + q.interval) m l)
-    (before_first q.frequency (monday_zero q.week_start) number m u)) in
+    let up = first_mono q o.number number (omega (arith, low, left.passed.up)) (omega (arith, left.passed.up)) in
+    let all = chosen_before q start o left.own left.counted.step (first_local q.frequency (monday_zero q.week_start) number) up
+    (λ m u later. elim (cases_lt (period_in q m) (o.number + q.interval)) [
+      | inl between ↦ no_step q start m (none_between q.interval left.some (period_in q start) o.number (period_in q m) left.counted.step later between)
+      | inr past ↦ left.passed.none m past (before_first q.frequency (monday_zero q.week_start) number m u)
+    ]) in
+    let flat = count_flat (first_local q.frequency (monday_zero q.week_start) number) last_local (is_taken q.positions (lists_none_wide q.positions) o)
+    (omega (arith, left.reach)) (λ m l u. none_taken q start o left.own left.counted.step m
+    (λ e. let late = begins q.frequency (monday_zero q.week_start) number m l in omega (arith, late, e, left.passed.up, left.some))) in
     omega (arith, all, flat, left.counted.total, left.taken)
 
 -- a count past the limit keeps nothing more
@@ -120,56 +99,48 @@ module _ (q : EffectiveRule) (start c limit : ℕ) (most : limit + 1 ≡ c + cou
   pub are_few : (n : ℕ) → count n (is_chosen q start) < limit → is_few q start c n ≡ true
   are_few n h = grind (arith, nat_tests)
 
--- the period with a number is held, and nothing is counted yet
-pub record IsFirstLook (q : EffectiveRule) (first : ℕ) (cursor : Cursor) (p : RecurrencePeriod) : Type 0 where
-  pub held : cursor.held ≡ Some p
-  pub product : IsPeriodOf q p
-  pub number : p.number ≡ first
-  pub none : cursor.counted ≡ 0
-
 -- the first look, at the start's period
-pub turned_first : {q : EffectiveRule} {start c number : ℕ} {cursor : Cursor} {p : RecurrencePeriod} → 1 ≤ q.interval → 1 ≤ c →
-    number ≡ period_in q start → is_stepped (period_in q start) q.interval number ≡ true → IsFirstLook q number cursor p
-    → cursor.limit ≡ c - 1 + count (start + 1) (is_taken q.positions (lists_none_wide q.positions) p) → IsTurned q start c number cursor p
-turned_first {q = q} {start = start} {p = p} some positive e step look limit = record {
-  held = look.held;
-  product = look.product;
-  number = look.number;
+pub turned_first : {q : EffectiveRule} {start c number limit : ℕ} (was : Cursor) {p : RecurrencePeriod} → 1 ≤ c → number ≡ period_in q start →
+    is_stepped (period_in q start) q.interval number ≡ true → IsPeriodOf q p → p.number ≡ number
+    → limit ≡ c - 1 + count (start + 1) (is_taken q.positions (lists_none_wide q.positions) p)
+    → IsTurned q start c number (record (after_look was p 0) { limit = limit }) p
+turned_first {q = q} {start = start} was {p = p} positive e step own same limit = record {
+  held = refl;
+  product = own;
+  number = same;
   counted = record {
     step = here;
-    total = look.none ∙ sym (none_before_first q start)
-        ∙ ap (λ x. count (first_local q.frequency (monday_zero q.week_start) x) (is_chosen q start)) (sym (look.number ∙ e));
+    total = sym back;
     most =
-        let low = begun q.frequency (monday_zero q.week_start) p.number start (omega (arith, look.number, e)) in
-        let high = before_next q.frequency (monday_zero q.week_start) (p.number + q.interval) start (omega (arith, look.number, e, some)) in
-        let chosen = chosen_before q start p look.product here some (start + 1) (omega (arith, low)) (omega (arith, high)) in
-        let none = none_before_first q start in
-        let back = ap (λ x. count (first_local q.frequency (monday_zero q.week_start) x) (is_chosen q start)) (look.number ∙ e) in
-        let one : start + 1 ≡ suc start = omega arith in
-        let same_one = ap (λ x. count x (is_chosen q start)) one in
-        omega (arith, chosen, none, back, same_one, limit, positive);
+        let low = begun q.frequency (monday_zero q.week_start) p.number start (omega (arith, same, e)) in
+        let chosen = chosen_before q start p own here (start + 1) (omega (arith, low)) (λ m u later. absurd (
+        let up = period_mono q.frequency (monday_zero q.week_start) m start (omega (arith, u)) in omega (arith, up, later, same, e))) in
+        let one = ap (λ x. count x (is_chosen q start)) (let next : start + 1 ≡ suc start = omega arith in next) in
+        omega (arith, chosen, back, one, limit, positive);
   };
 }
   where
     here : is_stepped (period_in q start) q.interval p.number ≡ true
-    here = ap (is_stepped (period_in q start) q.interval) look.number ∙ step
+    here = ap (is_stepped (period_in q start) q.interval) same ∙ step
+
+    back : count (first_local q.frequency (monday_zero q.week_start) p.number) (is_chosen q start) ≡ 0
+    back = ap (λ x. count (first_local q.frequency (monday_zero q.week_start) x) (is_chosen q start)) (same ∙ e) ∙ none_before_first q start
 
 -- each further look
-pub turned_on : {q : EffectiveRule} {start c number before : ℕ} {cursor : Cursor} {o p : RecurrencePeriod} (was : Cursor) →
+pub turned_on : {q : EffectiveRule} {start c number before : ℕ} {o p : RecurrencePeriod} (was : Cursor) →
     IsLeft q start c number before was.counted was.limit o
-    → is_stepped (period_in q start) q.interval number ≡ true → IsPeriodOf q p → p.number ≡ number → cursor ≡ after_look was p (was.counted + before) →
-    IsTurned q start c number cursor p
-turned_on {q = q} {start = start} {c = c} {number = number} {p = p} was left step product same look =
-    subst (λ (x : Cursor). IsTurned q start c number x p) (sym look) (record {
-      held = refl;
-      product = product;
-      number = same;
-      counted = record {
-        step = ap (is_stepped (period_in q start) q.interval) same ∙ step;
-        total = sym (chosen_passed left) ∙ ap (λ x. count (first_local q.frequency (monday_zero q.week_start) x) (is_chosen q start)) (sym same);
-        most = left.counted.most;
-      };
-    })
+    → is_stepped (period_in q start) q.interval number ≡ true → IsPeriodOf q p → p.number ≡ number
+    → IsTurned q start c number (after_look was p (was.counted + before)) p
+turned_on {q = q} {start = start} was left step product same = record {
+  held = refl;
+  product = product;
+  number = same;
+  counted = record {
+    step = ap (is_stepped (period_in q start) q.interval) same ∙ step;
+    total = sym (chosen_passed left) ∙ ap (λ x. count (first_local q.frequency (monday_zero q.week_start) x) (is_chosen q start)) (sym same);
+    most = left.counted.most;
+  };
+}
 
 pub counted_out : {q : EffectiveRule} {start c number before counted limit : ℕ} {o : RecurrencePeriod} →
     IsLeft q start c number before counted limit o → limit ≤ counted + before → AllCounted q start c number

@@ -1,6 +1,6 @@
 -- What a cursor looks at.
 use Rattle.std.proofs.Common.{◌≡◌, ℕ, zero, suc, ◌+◌, ◌-◌, ◌<◌, ◌≤◌, inl, inr, Bool, true, false, ◌==◌, nat_le, nat_lt, ◌&&◌, Option, Some, None, MatchOption}
-use Rattle.std.proofs.Common.{cond, refl, sym, subst, ap, ◌∙◌, arith}
+use Rattle.std.proofs.Common.{cond, max, refl, sym, subst, ap, ◌∙◌, arith}
 use Rattle.std.proofs.lemmas.Bool.{and_from, and_parts, cases_lt, eq-eqb, eqb-true, leb-true}
 use Rattle.std.proofs.lemmas.Bool.Decides.{nat_tests}
 use Rattle.jiff_core.specs.Weekday.{monday_zero}
@@ -11,11 +11,11 @@ use Rattle.ics_rule.specs.declared.cursor.Cursor.{Cursor}
 use Rattle.ics_rule.specs.Candidates.{is_stepped, period_in}
 use Rattle.ics_rule.specs.Kept.{count, is_chosen}
 use Rattle.ics_rule.specs.RecurrencePeriods.{first_local, IsPeriodOf}
-use Rattle.ics_rule.specs.Cursors.{is_met, fresh, HasBegun, HeldBy, CountedBy, IsCursorIn, HasLookedIn, looks_from, period_count, steps_of, IsCursorOf}
+use Rattle.ics_rule.specs.Cursors.{is_met, fresh, HeldBy, CountedBy, IsCursorIn, HasLookedIn, looks_from, period_count, steps_of, IsCursorOf}
 use Rattle.ics_rule.specs.Cursors.{HasLooked}
 use Rattle.ics_rule.specs.EffectiveRules.{effective}
 use Rattle.ics_rule.specs.Recurrence.{Recurrence}
-use Rattle.ics_rule.specs.Searches.{IsNextOpen, is_chosen_within, is_wanted, IsNextWanted, HasMoved, IsWalked, HoldsPeriodOf, LooksOrStays, LooksAt, after_look}
+use Rattle.ics_rule.specs.Searches.{IsNextOpen, is_chosen_within, is_few, is_wanted, NoneWanted, HasMoved, IsWalked, LooksOrStays, LooksAt, after_look}
 use Rattle.ics_rule.proofs.PeriodLemmas.{begun, first_in, period_mono, period_small, week_small, before_next}
 use Rattle.ics_rule.proofs.Counts.{count-suc, count_some, count_mono, count_most, count_one_more, count_every}
 use Rattle.ics_rule.proofs.RankLemmas.{found}
@@ -112,35 +112,23 @@ counted_at : (q : EffectiveRule) (start : ℕ) (o : Option ℕ) (c : Cursor) (pl
 counted_at q start None c place h = tt
 counted_at q start (Some k) c place h = h
 
+pub own_moved : {q : EffectiveRule} {start : ℕ} {o : Option ℕ} {stop : ℕ} {before now : Cursor} (place : ℕ) → HasMoved q start o stop before now →
+    HeldBy q now.held place → CountedBy q start o now → place < calendar_end → IsCursorIn q start o (record now { place = place })
+own_moved {q = q} {start = start} {o = o} {now = now} place moved held counted h =
+    record { inside = h; held = held; begun = moved.begun; steps = moved.steps; counted = counted_at q start o now place counted }
+
 pub own_at : {q : EffectiveRule} {start : ℕ} {o : Option ℕ} {c : Cursor} (place : ℕ) → IsCursorIn q start o c → c.place ≤ place → place < calendar_end →
     IsCursorIn q start o (record c { place = place })
-own_at {q = q} {start = start} {o = o} {c = c} place own l h = record {
-  inside = h;
-  held = held_mono q c.held c.place place own.held l;
-  begun = own.begun;
-  steps = own.steps;
-  counted = counted_at q start o c place own.counted;
-}
+own_at {q = q} {c = c} place own l h = own_moved place (moved_none 0 own) (held_mono q c.held c.place place own.held l) own.counted h
 
 pub own_walked : {q : EffectiveRule} {start : ℕ} {o : Option ℕ} {stop : ℕ} {found : Option ℕ} {before now : Cursor} (place : ℕ) →
     IsWalked q start o stop found before now → stop ≤ place → place < calendar_end → IsCursorIn q start o (record now { place = place })
-own_walked {q = q} {start = start} {o = o} {stop = stop} {now = now} place walked l h = record {
-  inside = h;
-  held = held_mono q now.held stop place walked.held l;
-  begun = walked.moved.begun;
-  steps = walked.moved.steps;
-  counted = counted_at q start o now place walked.counted;
-}
+own_walked {q = q} {stop = stop} {now = now} place walked l h = own_moved place walked.moved (held_mono q now.held stop place walked.held l) walked.counted h
 
 pub own_found : {q : EffectiveRule} {start : ℕ} {o : Option ℕ} {stop n : ℕ} {before now : Cursor} → IsWalked q start o stop (Some n) before now →
     n + 1 < calendar_end → IsCursorIn q start o (record now { place = n + 1 })
-own_found {q = q} {start = start} {o = o} {n = n} {now = now} walked h = record {
-  inside = h;
-  held = held_mono q now.held n (n + 1) walked.found.0 (omega arith);
-  begun = walked.moved.begun;
-  steps = walked.moved.steps;
-  counted = counted_at q start o now (n + 1) walked.counted;
-}
+own_found {q = q} {n = n} {now = now} walked h =
+    own_moved (n + 1) walked.moved (held_mono q now.held n (n + 1) walked.found.0 (omega arith)) walked.counted h
 
 -- an answer in a later period than the place has taken a look
 pub counts_look : {q : EffectiveRule} {start : ℕ} {o : Option ℕ} {stop n : ℕ} {before now : Cursor} → IsCursorIn q start o before →
@@ -189,26 +177,18 @@ pub looked_found : {q : EffectiveRule} {start : ℕ} {o : Option ℕ} {stop n : 
     → start ≤ n → before.place ≤ n → n + 1 ≤ b → HasLookedIn q start o before a b → HasLookedIn q start o (record now { place = n + 1 }) a b
 looked_found {q = q} {start = start} {o = o} {stop = stop} {n = n} {before = before} {now = now} {a = a} {b = b} walked after low soon few = record {
   low = (let up = looks_mono o start before.place (n + 1) (omega (arith, low)) in omega (arith, few.low, up));
-  few = elim (cases_lt b stop) [
-    | inl early ↦
-        let wide = count_within (fresh before.held) (is_met q start a b) (is_met q start a stop) (λ p l met. met_wide p met early) in
-        let most = walked.moved.looked a stop (omega arith) (record { low = few.low; few = omega (arith, few.few, wide) }) in
-        let near = count_within (fresh now.held) (is_met q start a stop) (is_met q start a b)
-        (λ p l met. met_soon q start a b stop p begins (omega (arith, soon)) (below now.held walked.found.0 p l) met) in
-        omega (arith, most, near)
-    | inr late ↦ walked.moved.looked a b late few
-  ];
+  few =
+      let wide = count_within (fresh before.held) (is_met q start a b) (is_met q start a (max b stop))
+      (λ p l met. met_later q start a b (max b stop) p (omega arith) met) in
+      let most = walked.moved.looked a (max b stop) (omega arith) (record { low = few.low; few = omega (arith, few.few, wide) }) in
+      let near = count_within (fresh now.held) (is_met q start a (max b stop)) (is_met q start a b)
+      (λ p l met. met_soon q start a b (max b stop) p (begins o few.low) (omega (arith, soon)) (below now.held walked.found.0 p l) met) in
+      omega (arith, most, near);
 }
   where
-    begins : a ≤ n
-    begins = let m = looks_from_low o in omega (arith, few.low, m)
-      where
-        looks_from_low : (o : Option ℕ) → looks_from o start before.place ≤ n
-        looks_from_low None = low
-        looks_from_low (Some c) = after
-
-    met_wide : (p : ℕ) → is_met q start a b p ≡ true → b < stop → is_met q start a stop p ≡ true
-    met_wide p met early = met_later q start a b stop p (omega (arith, early)) met
+    begins : (o : Option ℕ) → a ≤ looks_from o start before.place → a ≤ n
+    begins None from = omega (arith, from, low)
+    begins (Some c) from = omega (arith, from, after)
 
     below : (held : Option RecurrencePeriod) → HeldBy q held n → (p : ℕ) → p < fresh held → p ≤ period_in q n
     below None h p l = absurd (omega (arith, l))
@@ -242,113 +222,119 @@ module _ {q : EffectiveRule} (start : ℕ) (some : 1 ≤ q.interval) where
     | inr past ↦ not_let_in q start n (is_next.none n past u)
   ]
 
--- how far a walk over the periods has come: nothing from the place on is chosen in a period before this one
-pub record IsWalk (q : EffectiveRule) (start stop number : ℕ) (before now : Cursor) : Type 0 where
+-- nor is it wanted where it is not chosen
+pub not_wanted : (q : EffectiveRule) (start : ℕ) (o : Option ℕ) (n : ℕ) → is_chosen q start n ≡ false → is_wanted q start o n ≡ false
+not_wanted q start None n none = none
+not_wanted q start (Some c) n none = ap (λ x. x && is_few q start c n) none
+
+-- a period is held from a look at it on, up to the one with a number, and to that of a bound
+abbrev pub IsHeldTo : EffectiveRule → ℕ → ℕ → Option RecurrencePeriod → Type 0
+IsHeldTo q number stop held = MatchOption held (Unit {0}) (λ p. IsPeriodOf q p × ((p.number ≤ number) × (p.number ≤ period_in q stop)))
+
+-- how far a walk over the periods has come: nothing from the place on is wanted in a period before this one
+pub record IsWalk (q : EffectiveRule) (start : ℕ) (o : Option ℕ) (stop number : ℕ) (before now : Cursor) : Type 0 where
   pub some : 1 ≤ q.interval
+  pub late : looks_from o start before.place ≤ before.place
   pub early : before.place < stop
   pub step : is_stepped (period_in q start) q.interval number ≡ true
-  pub low : period_in q before.place ≤ number
-  pub none : (n : ℕ) → before.place ≤ n → period_in q n < number → is_chosen q start n ≡ false
-  pub held : MatchOption now.held (Unit {0}) (λ p. IsPeriodOf q p × ((p.number ≤ number) × (p.number ≤ period_in q stop)))
-  pub moved : HasMoved q start None stop before now
+  pub low : period_in q (looks_from o start before.place) ≤ number
+  pub none : (n : ℕ) → before.place ≤ n → period_in q n < number → is_wanted q start o n ≡ false
+  pub held : IsHeldTo q number stop now.held
+  pub counted : CountedBy q start o now
+  pub moved : HasMoved q start o stop before now
 
--- it begins at the first step from the place on
+-- without COUNT it begins at the first step from the place on
 pub walk_begins : {q : EffectiveRule} {start stop first own number : ℕ} {c : Cursor} → 1 ≤ q.interval → first ≡ period_in q start → own ≡ period_in q c.place →
-    IsLeastFrom (is_stepped first q.interval) own number → c.place < stop → IsCursorIn q start None c → IsWalk q start stop number c c
+    IsLeastFrom (is_stepped first q.interval) own number → c.place < stop → IsCursorIn q start None c → IsWalk q start None stop number c c
 walk_begins {q = q} {start = start} {stop = stop} {first = first} {number = number} {c = c} some ef eo is h own =
     let next = subst (λ x. IsLeastFrom (is_stepped x q.interval) (period_in q c.place) number) ef
     (subst (λ x. IsLeastFrom (is_stepped first q.interval) x number) eo is) in record {
       some = some;
+      late = omega arith;
       early = h;
       step = next.passes;
       low = next.low;
       none = λ n l u. no_step q start n (next.least (period_in q n) (period_mono q.frequency (monday_zero q.week_start) c.place n l) u);
       held = held_in c.held own.held;
+      counted = tt;
       moved = moved_none stop own;
     }
   where
-    held_in : (o : Option RecurrencePeriod) → HeldBy q o c.place
-        → MatchOption o (Unit {0}) (λ p. IsPeriodOf q p × ((p.number ≤ number) × (p.number ≤ period_in q stop)))
+    held_in : (o : Option RecurrencePeriod) → HeldBy q o c.place → IsHeldTo q number stop o
     held_in None g = tt
-    held_in (Some p) g = (
-      g.0,
-      (
-        omega (arith, g.1, is.low, eo),
-        (let m = period_mono q.frequency (monday_zero q.week_start) c.place stop (omega (arith, h)) in omega (arith, g.1, m)),
-      ),
-    )
+    held_in (Some p) g =
+        let up = period_mono q.frequency (monday_zero q.week_start) c.place stop (omega (arith, h)) in
+        (g.0, (omega (arith, g.1, is.low, eo), omega (arith, g.1, up)))
 
-module _ {q : EffectiveRule} {start stop number : ℕ} {before now : Cursor} (walk : IsWalk q start stop number before now) where
+module _ {q : EffectiveRule} {start : ℕ} {o : Option ℕ} {stop number : ℕ} {before now : Cursor} (walk : IsWalk q start o stop number before now) where
   -- past the bound's period nothing is left
-  pub walk_ends : period_in q (stop - 1) < number → IsNextWanted q start None before.place stop None
+  pub walk_ends : period_in q (stop - 1) < number → NoneWanted q start o before.place stop
   walk_ends past n l u = walk.none n l (let m = period_mono q.frequency (monday_zero q.week_start) n (stop - 1) (omega arith) in omega (arith, m))
 
-  pub walk_ended : IsWalked q start None stop None before now
+  pub walk_ended : IsWalked q start o stop None before now
   walk_ended = grind (arith, nat_tests)
 
-  -- where a walk looks
-  pub walk_low : period_in q 0 ≤ number
-  walk_low = let m = period_mono q.frequency (monday_zero q.week_start) 0 before.place (omega arith) in omega (arith, m, walk.low)
+  -- nothing is wanted before the next that this period has
+  pub walk_until : {place n : ℕ} → place ≡ before.place → IsLeastFrom (is_chosen_within q start number) place n → (m : ℕ) → before.place ≤ m → m < n →
+      is_wanted q start o m ≡ false
+  walk_until {n = n} e next m l u = elim (cases_lt (period_in q m) number) [
+    | inl less ↦ walk.none m l less
+    | inr more ↦
+        let here = within_facts q start number n next.passes in
+        let top = period_mono q.frequency (monday_zero q.week_start) m n (omega arith) in
+        not_wanted q start o m (sym (within_here q start number m (omega (arith, more, top, here.0))) ∙ next.least m (omega (arith, l, e)) u)
+  ]
 
-  -- what a look finds is the next
-  pub walk_finds : {n : ℕ} → IsLeastFrom (is_chosen_within q start number) now.place n → IsLeastFrom (is_wanted q start None) before.place n
-  walk_finds {n = n} next = let here = within_facts q start number n next.passes in record {
-    passes = here.1;
-    low = omega (arith, next.low, walk.moved.place);
-    least = λ m l u. elim (cases_lt (period_in q m) number) [
-      | inl less ↦ walk.none m l less
-      | inr more ↦
-          let top = period_mono q.frequency (monday_zero q.week_start) m n (omega arith) in
-          let same : period_in q m ≡ number = omega (arith, more, top, here.0) in
-          sym (within_here q start number m same) ∙ next.least m (omega (arith, l, walk.moved.place)) u
-    ];
-  }
+  -- and that is the next if it is wanted
+  pub walk_finds : {place n : ℕ} → place ≡ before.place → IsLeastFrom (is_chosen_within q start number) place n → is_wanted q start o n ≡ true →
+      IsLeastFrom (is_wanted q start o) before.place n
+  walk_finds e next wanted = record { passes = wanted; low = omega (arith, next.low, e); least = walk_until e next }
 
   -- a look in a period
-  module _ {after : Cursor} (at : LooksAt number now after) (held : MatchOption after.held ⊥ (λ p. IsPeriodOf q p × (p.number ≡ number)))
-      (top : number ≤ period_in q (stop - 1)) where
-    moved : HasMoved q start None stop before after
-    moved = moved_on walk.moved at (λ a b s few. meets q start a b {place = before.place} {stop = stop}
-        record { from = few.low; some = walk.early; to = s } number walk.step walk.low top)
+  module _ {after : Cursor} (at : LooksAt number now after) {p : RecurrencePeriod} (held : after.held ≡ Some p) (own : IsPeriodOf q p)
+      (same : p.number ≡ number) (counted : CountedBy q start o after) (top : number ≤ period_in q (stop - 1)) where
+    moved : HasMoved q start o stop before after
+    moved = moved_on walk.moved at (λ a b s few. meets q start a b {place = looks_from o start before.place} {stop = stop}
+        record { from = few.low; some = omega (arith, walk.late, walk.early); to = s } number walk.step walk.low top)
 
     top_stop : number ≤ period_in q stop
     top_stop = let m = period_mono q.frequency (monday_zero q.week_start) (stop - 1) stop (omega arith) in omega (arith, m, top)
 
-    pub walk_found : {n : ℕ} → IsLeastFrom (is_chosen_within q start number) now.place n → IsWalked q start None stop (Some n) before after
-    walk_found {n = n} next = record { moved = moved; held = below after.held held; found = here after.held held moved.begun; counted = tt }
-      where
-        below : (o : Option RecurrencePeriod) → MatchOption o ⊥ (λ p. IsPeriodOf q p × (p.number ≡ number)) → HeldBy q o stop
-        below None h = absurd h
-        below (Some p) h = (h.0, omega (arith, h.1, top_stop))
+    held_at : (n : ℕ) → number ≤ period_in q n → HeldBy q after.held n
+    held_at n h = rw held (own, omega (arith, same, h))
 
-        here : (o : Option RecurrencePeriod) → MatchOption o ⊥ (λ p. IsPeriodOf q p × (p.number ≡ number)) → HasBegun o after.steps →
-            HeldBy q o n × ((1 ≤ after.steps) × HoldsPeriodOf q o n)
-        here None h some = absurd h
-        here (Some p) h some = let own = within_facts q start number n next.passes in ((h.0, omega (arith, h.1, own.0)), (some, h.1 ∙ sym own.0))
+    -- finds what is next, or none
+    pub walk_found : {n : ℕ} → period_in q n ≡ number → IsWalked q start o stop (Some n) before after
+    walk_found {n = n} here = record {
+      moved = moved;
+      held = held_at stop top_stop;
+      found = (held_at n (omega (arith, here)), (rw held at moved.begun, rw held (same ∙ sym here)));
+      counted = counted;
+    }
+
+    pub walk_stopped : IsWalked q start o stop None before after
+    walk_stopped = record { moved = moved; held = held_at stop top_stop; found = tt; counted = counted }
 
     -- and where it finds none the walk goes on
-    pub walk_goes_on : {first next : ℕ} → first ≡ period_in q start → ((n : ℕ) → now.place ≤ n → is_chosen_within q start number n ≡ false)
-        → IsNextOpen q first (number + q.interval) next → IsWalk q start stop next before after
+    pub walk_goes_on : {first next : ℕ} → first ≡ period_in q start → ((n : ℕ) → before.place ≤ n → is_chosen_within q start number n ≡ false)
+        → IsNextOpen q first (number + q.interval) next → IsWalk q start o stop next before after
     walk_goes_on {next = next} ef none is = let is_next = subst (λ x. IsNextOpen q x (number + q.interval) next) ef is in record {
       some = walk.some;
+      late = walk.late;
       early = walk.early;
       step = is_next.step;
       low = omega (arith, walk.low, is_next.low);
       none = λ n l u. elim (cases_lt (period_in q n) number) [
         | inl less ↦ walk.none n l less
-        | inr more ↦ elim (cases_lt number (period_in q n)) [
+        | inr more ↦ not_wanted q start o n (elim (cases_lt number (period_in q n)) [
           | inl later ↦ passed_over start walk.some walk.step is_next n later u
-          | inr same ↦ sym (within_here q start number n (omega arith)) ∙ none n (omega (arith, l, walk.moved.place))
-        ]
+          | inr here ↦ sym (within_here q start number n (omega arith)) ∙ none n l
+        ])
       ];
-      held = past after.held held is_next.low;
+      held = rw held (own, (omega (arith, same, is_next.low), omega (arith, same, top_stop)));
+      counted = counted;
       moved = moved;
     }
-      where
-        past : (o : Option RecurrencePeriod) → MatchOption o ⊥ (λ p. IsPeriodOf q p × (p.number ≡ number)) → number + q.interval ≤ next →
-            MatchOption o (Unit {0}) (λ p. IsPeriodOf q p × ((p.number ≤ next) × (p.number ≤ period_in q stop)))
-        past None h l = absurd h
-        past (Some p) h l = (h.0, (omega (arith, h.1, l), omega (arith, h.1, top_stop)))
 
 pub walk_reach : (q : EffectiveRule) (number stop : ℕ) → number ≤ period_in q (stop - 1) → first_local q.frequency (monday_zero q.week_start) number ≤ stop
 walk_reach q number stop h = let b = begun q.frequency (monday_zero q.week_start) number (stop - 1) h in omega (arith, b)

@@ -1,5 +1,5 @@
 -- The calendar repeats after 400 years, which are 146,097 days.
-use Rattle.std.proofs.Common.{◌≡◌, ℕ, zero, suc, ◌+◌, ◌*◌, ◌≤◌, inl, inr, cond, ◌||◌, ◌==◌, pos, refl, ap}
+use Rattle.std.proofs.Common.{◌≡◌, ℕ, zero, suc, ◌+◌, ◌-◌, ◌*◌, ◌≤◌, inl, inr, cond, ◌||◌, ◌==◌, pos, refl, ap}
 use Rattle.std.proofs.Common.{◌∙◌, arith}
 use Rattle.std.proofs.lemmas.Bool.{cases_lt}
 use Rattle.jiff_core.specs.Calendar.{is_leap_year, days_in_year, days_in_month, days_of_months}
@@ -48,8 +48,7 @@ module _ (k : ℕ) where
 
   pub month_again : (e : ℕ) → month_of (e + 146_097 * k) ≡ month_of e
   unfolding month_of
-  month_again e = ap (λ y. month_from y (year_day_of (e + 146_097 * k)) 12) (year_again e)
-      ∙ ap (λ d. month_from (year_of e + 400 * k) d 12) (year_day_again e) ∙ month_from_again (year_of e) (year_day_of e) 12
+  month_again e = rw (year_again e, year_day_again e) (month_from_again (year_of e) (year_day_of e) 12)
 
   pub month_day_again : (e : ℕ) → month_day_of (e + 146_097 * k) ≡ month_day_of e
   unfolding month_day_of
@@ -59,11 +58,10 @@ module _ (k : ℕ) where
   weekday_again e = omega arith
 
   own_year_size : (e : ℕ) → days_in_year (pos (year_of (e + 146_097 * k))) ≡ days_in_year (pos (year_of e))
-  own_year_size e = ap (λ y. days_in_year (pos y)) (year_again e) ∙ year_size_again (year_of e)
+  own_year_size e = rw (year_again e, year_size_again (year_of e)) refl
 
   own_month_size : (e : ℕ) → days_in_month (pos (year_of (e + 146_097 * k))) (month_of (e + 146_097 * k)) ≡ days_in_month (pos (year_of e)) (month_of e)
-  own_month_size e = ap (λ y. days_in_month (pos y) (month_of (e + 146_097 * k))) (year_again e)
-      ∙ ap (λ m. days_in_month (pos (year_of e + 400 * k)) m) (month_again e) ∙ month_size_again (year_of e) (month_of e)
+  own_month_size e = rw (year_again e, month_again e, month_size_again (year_of e) (month_of e)) refl
 
   place_of_week : (p : Ordinals) (f : ℕ) → lets_place p (week_number (f + 146_097 * k)) (weeks_of_year (f + 146_097 * k))
       ≡ lets_place p (week_number f) (weeks_of_year f)
@@ -72,28 +70,24 @@ module _ (k : ℕ) where
   nth_in_month : (p : Ordinals) (e : ℕ) →
       lists_nth p (month_day_of (e + 146_097 * k)) (days_in_month (pos (year_of (e + 146_097 * k))) (month_of (e + 146_097 * k)))
       ≡ lists_nth p (month_day_of e) (days_in_month (pos (year_of e)) (month_of e))
-  nth_in_month p e = ap (λ d. lists_nth p d (days_in_month (pos (year_of (e + 146_097 * k))) (month_of (e + 146_097 * k)))) (month_day_again e)
-      ∙ ap (λ n. lists_nth p (month_day_of e) n) (own_month_size e)
+  nth_in_month p e = rw (month_day_again e, own_month_size e) refl
 
   numbered_again : (f : Frequency) (q : EffectiveRule) (p : Ordinals) (e : ℕ) → lets_numbered f q p (e + 146_097 * k) ≡ lets_numbered f q p e
   numbered_again f q p e = grind (arith, nth_in_month, own_year_size, year_day_again)
 
--- the week of a day, also where its fourth day is taken 400 years later
+-- the fourth day of a week is so much later too, or 400 years less where it is first taken 400 years later
+fourth_again : (w k e : ℕ) → 1 ≤ k → (j : ℕ) × (fourth_day w (e + 146_097 * k) ≡ fourth_day w e + 146_097 * j)
+fourth_again w k e some =
+    let other = fourth_late w (e + 146_097 * k) (omega (arith, some)) in
+    elim (cases_lt (7 * week_of w e + w) 9) [
+      | inl early ↦ (k - 1, let own = fourth_early w e early in omega (arith, own, other, some))
+      | inr late ↦ (k, let own = fourth_late w e late in omega (arith, own, other, late))
+    ]
+
 week_place : (p : Ordinals) (w k e : ℕ) → 1 ≤ k → lets_place p (week_number (fourth_day w (e + 146_097 * k))) (weeks_of_year (fourth_day w (e + 146_097 * k)))
     ≡ lets_place p (week_number (fourth_day w e)) (weeks_of_year (fourth_day w e))
-week_place p w zero e some = absurd (omega (arith, some))
-week_place p w (suc k) e some = elim (cases_lt (7 * week_of w e + w) 9) [
-  | inl early ↦
-      let own = fourth_early w e early in
-      let other = fourth_late w (e + 146_097 * suc k) (omega arith) in
-      ap (λ f. lets_place p (week_number f) (weeks_of_year f)) (let same : fourth_day w (e + 146_097 * suc k) ≡ fourth_day w e + 146_097 * k =
-      omega (arith, own, other) in same) ∙ place_of_week k p (fourth_day w e)
-  | inr late ↦
-      let own = fourth_late w e late in
-      let other = fourth_late w (e + 146_097 * suc k) (omega arith) in
-      ap (λ f. lets_place p (week_number f) (weeks_of_year f)) (let same : fourth_day w (e + 146_097 * suc k) ≡ fourth_day w e + 146_097 * suc k =
-      omega (arith, own, other, late) in same) ∙ place_of_week (suc k) p (fourth_day w e)
-]
+week_place p w k e some = let f = fourth_again w k e some in
+    ap (λ f. lets_place p (week_number f) (weeks_of_year f)) f.1 ∙ place_of_week f.0 p (fourth_day w e)
 
 -- a rule allows the same dates
 pub date_again : (q : EffectiveRule) (k e : ℕ) → 1 ≤ k → lets_date q (e + 146_097 * k) ≡ lets_date q e

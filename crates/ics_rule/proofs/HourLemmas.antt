@@ -1,7 +1,7 @@
 -- The locals of an hour that a rule keeps.
-use Rattle.std.proofs.Common.{◌≡◌, ℕ, suc, ◌+◌, ◌*◌, ◌<◌, ◌≤◌, ◌⊎◌, inl, inr, ◌/◌, ◌%◌, Bool, true, false, ◌&&◌, nat_lt, nat_le, Some, None, Option}
-use Rattle.std.proofs.Common.{refl, sym, subst, ◌∙◌, arith}
-use Rattle.std.proofs.lemmas.Bool.{and_from, cases_lt, or_right}
+use Rattle.std.proofs.Common.{◌≡◌, ℕ, suc, ◌+◌, ◌*◌, ◌<◌, ◌≤◌, inl, inr, ◌/◌, ◌%◌, true, false, ◌&&◌, nat_lt, Some, None, Option}
+use Rattle.std.proofs.Common.{sym, subst, ap, ◌∙◌, arith}
+use Rattle.std.proofs.lemmas.Bool.{and_from, cases_lt, false_from_ne_true, or_right}
 use Rattle.std.proofs.lemmas.Bool.Decides.{nat_tests}
 use Rattle.ics_fields.specs.declared.frequency.Frequency.{Frequency}
 use Rattle.ics_fields.specs.declared.until.Until.{Until}
@@ -20,18 +20,11 @@ use Rattle.ics_rule.specs.declared.hour.HourTimes.{HourTimes}
 use Rattle.ics_rule.specs.HoursKept.{KeepsEnds, KeepsTimes}
 use Rattle.ics_rule.specs.Next.{NoneKept}
 use Rattle.ics_rule.proofs.Counts.{count_mono}
-use Rattle.ics_rule.proofs.KeptLemmas.{and_true, or_true}
+use Rattle.ics_rule.proofs.KeptLemmas.{and_true}
 use Rattle.ics_rule.proofs.NextLemmas.{kept_later}
 
 less_up : (a b c : ℕ) → a ≤ b → nat_lt b c ≡ true → nat_lt a c ≡ true
 less_up a b c l h = grind (arith, nat_tests)
-
-most_up : (a b c : ℕ) → a ≤ b → nat_le b c ≡ true → nat_le a c ≡ true
-most_up a b c l h = grind (arith, nat_tests)
-
-false_or_true : (b : Bool) → (b ≡ false) ⊎ (b ≡ true)
-false_or_true true = inr refl
-false_or_true false = inl refl
 
 -- the locals of a day lie in one period, but under a rule that repeats more often than daily
 same_period : (f : Frequency) (w n m : ℕ) → skips_hours f ≡ true → day_of n ≡ day_of m → period f w n ≡ period f w m
@@ -39,7 +32,7 @@ same_period f w n m h l = grind (arith, nat_tests)
 
 -- UNTIL lets in what is earlier than a local that it lets in
 until_up : (k : Kind) (u : Option Until) (n m : ℕ) → n ≤ m → is_by_until k u m ≡ true → is_by_until k u n ≡ true
-until_up k u n m h l = grind (arith, nat_tests, most_up)
+until_up k u n m h l = grind (arith, nat_tests)
 
 module _ (q : EffectiveRule) (start : ℕ) where
   wanted_chosen : (o : Option ℕ) (n : ℕ) → is_wanted q start o n ≡ true → is_chosen q start n ≡ true
@@ -68,12 +61,9 @@ kept_clock r n after early kept =
     (and_true {a = in_step (effective r) (number r.start) n && lets_date (effective r) (day_of n)}
     (and_true {a = is_candidate_in (effective r) (number r.start) n} chosen).0).1
 
-false_not_true : (b : Bool) → b ≡ false → b ≡ true → ⊥
-false_not_true b p q = absurd (cc)
-
 -- a part that lists something lets in only what it lists
 listed : (s n : ℕ) → is_empty s ≡ false → lets s n ≡ true → contains s n ≡ true
-listed s n some let_in = elim (or_true let_in) [ inl none ↦ absurd (false_not_true (is_empty s) some none) | inr h ↦ h ]
+listed s n some let_in = grind (arith, nat_tests)
 
 -- the times of an hour that a rule's parts list
 abbrev times_of : EffectiveRule → HourTimes
@@ -119,7 +109,7 @@ module _ (r : Recurrence) (hour : ℕ) (bounds : KeepsBounds r (effective r) hou
   kept_product : (n : ℕ) → n / 3_600 ≡ hour → is_kept r n ≡ true →
       (contains (effective r).minutes (minute_of n) && contains (effective r).seconds (second_of n)) ≡ true
   kept_product n at keeps = elim (cases_lt n kept) [
-    | inl before ↦ absurd (false_not_true (is_kept r n) (ends.next.least n (omega (arith, at)) before) keeps)
+    | inl before ↦ absurd (let none = ends.next.least n (omega (arith, at)) before in cc)
     | inr from ↦ (
         let clock = and_true {a = lets (effective r).hours (hour_of n) && lets (effective r).minutes (minute_of n)}
         (kept_clock r n (omega (arith, ends.after, from)) (omega (arith, bounds.early, at)) keeps) in
@@ -135,16 +125,13 @@ module _ (r : Recurrence) (hour : ℕ) (bounds : KeepsBounds r (effective r) hou
 -- of an hour after the start that BYHOUR leaves out, no local is kept
 pub left_out : (r : Recurrence) {q : EffectiveRule} → q ≡ effective r → (hour : ℕ) → hour < 85_913_808 → number r.start < hour * 3_600
     → lets q.hours (hour % 24) ≡ false → NoneKept r (hour * 3_600) (hour * 3_600 + 3_600)
-left_out r {q = q} whole hour early after out n from to = elim (false_or_true (is_kept r n)) [
-  | inl none ↦ none
-  | inr kept ↦ absurd (
-      let clock = and_true {a = lets (effective r).hours (hour_of n) && lets (effective r).minutes (minute_of n)}
-      (kept_clock r n (omega (arith, after, from)) (omega (arith, early, to)) kept) in
-      let at : n / 3_600 ≡ hour = omega (arith, from, to) in
-      let here = (and_true {a = lets (effective r).hours (hour_of n)} clock.0).0 in
-      false_not_true (lets q.hours (hour % 24)) out
-      (subst (λ (x : EffectiveRule). lets x.hours (hour % 24) ≡ true) (sym whole) (subst (λ h. lets (effective r).hours (h % 24) ≡ true) at here)))
-]
+left_out r {q = q} whole hour early after out n from to = false_from_ne_true (is_kept r n) (λ kept.
+    let clock = and_true {a = lets (effective r).hours (hour_of n) && lets (effective r).minutes (minute_of n)}
+    (kept_clock r n (omega (arith, after, from)) (omega (arith, early, to)) kept) in
+    let here = (and_true {a = lets (effective r).hours (hour_of n)} clock.0).0 in
+    let at = ap (λ h. lets (effective r).hours (h % 24)) (let same : n / 3_600 ≡ hour = omega (arith, from, to) in same) in
+    let own = ap (λ (x : EffectiveRule). lets x.hours (hour % 24)) whole in
+    cc)
 
 -- the same, said of the parts that a rule holds
 pub held_times : {r : Recurrence} {q : EffectiveRule} {hour : ℕ} → q ≡ effective r → KeepsBounds r q hour → KeepsTimes r hour (times_of q)
@@ -153,4 +140,4 @@ held_times {r = r} {hour = hour} whole bounds = subst (λ (x : EffectiveRule). K
 
 -- a member of a set is not above the last
 pub not_above : (s most n : ℕ) → ((k : ℕ) → most < k → contains s k ≡ false) → contains s n ≡ true → n ≤ most
-not_above s most n is h = grind (arith, nat_tests, cases_lt, false_not_true)
+not_above s most n is h = grind (arith, nat_tests, cases_lt)

@@ -1,6 +1,6 @@
 -- What the definitions mean, in other words.
-use Rattle.std.proofs.Common.{◌≡◌, ◌≢◌, ℕ, zero, suc, ◌+◌, ◌-◌, ◌*◌, ◌%◌, ◌<◌, ◌≤◌, inl, inr, Bool, true, cond, Some, pos, refl, ap, arith}
-use Rattle.std.proofs.lemmas.Bool.{cases_lt, le-ltb, eqb-true, ltb-true}
+use Rattle.std.proofs.Common.{◌≡◌, ◌≢◌, ℕ, zero, suc, ◌+◌, ◌-◌, ◌*◌, ◌%◌, ◌<◌, ◌≤◌, Bool, true, cond, Some, pos, refl, ap, arith}
+use Rattle.std.proofs.lemmas.Bool.{le-ltb, eqb-true, ltb-true}
 use Rattle.jiff_core.specs.Calendar.{days_in_year}
 use Rattle.jiff_core.proofs.CalendarLemmas.{days_in_year_bounds}
 use Rattle.ics_fields.specs.Days.{days_before_year, year_of, year_day_of}
@@ -10,6 +10,7 @@ use Rattle.ics_rule.specs.PeriodNumbers.{week_of}
 use Rattle.ics_rule.specs.Candidates.{fourth_day, week_number, weeks_of_year}
 use Rattle.ics_rule.specs.Kept.{count, is_in_rule, is_kept}
 use Rattle.ics_rule.proofs.Counts.{count-none}
+use Rattle.ics_rule.proofs.PeriodLemmas.{year_begins}
 use Rattle.ics_rule.proofs.KeptLemmas.{and_true, or_true}
 use Rattle.ics_rule.proofs.NextLemmas.{in_rule_start, in_rule_earlier}
 
@@ -48,13 +49,8 @@ unfolding year_day_of
 week_first f other =
     let u = year_under_way f in
     let v = year_under_way (f + 7) in
-    let later : suc (year_of f) ≤ year_of (f + 7) = (elim (cases_lt (year_of (f + 7)) (suc (year_of f))) [
-      | inl less ↦ absurd (elim (cases_lt (year_of (f + 7)) (year_of f)) [
-        | inl before ↦ let m = days_before_year_mono (suc (year_of (f + 7))) (year_of f) before in omega (arith, m, u.0, v.1)
-        | inr after ↦ other (omega (arith, less, after))
-      ])
-      | inr more ↦ more
-    ]) in
+    let up = year_begins (year_of f) (f + 7) (omega (arith, u.0)) in
+    let later : suc (year_of f) ≤ year_of (f + 7) = omega (arith, up, other) in
     let m = days_before_year_mono (suc (year_of f)) (year_of (f + 7)) later in
     omega (arith, u.1, v.0, m)
 

@@ -1,6 +1,6 @@
 -- What a rule keeps: the start, and of the later locals that it has those that UNTIL lets through.
 use Rattle.std.proofs.Common.{◌≡◌, ℕ, suc, ◌+◌, ◌-◌, ◌<◌, ◌≤◌, inl, inr, Bool, true, false, ◌&&◌, ◌||◌, ◌==◌, nat_lt, min, max, Some, None, Option}
-use Rattle.std.proofs.Common.{MatchOption, ap, ◌∙◌, arith}
+use Rattle.std.proofs.Common.{MatchOption, sym, ap, ◌∙◌, arith}
 use Rattle.std.proofs.lemmas.Bool.{and_from, and_right, cases_lt, le-ltb, lt-ltb}
 use Rattle.std.proofs.lemmas.Bool.Decides.{nat_tests}
 use Rattle.ics_rule.specs.Recurrence.{Recurrence}
@@ -10,7 +10,7 @@ use Rattle.ics_rule.specs.EffectiveRules.{effective}
 use Rattle.ics_rule.specs.Kept.{count, is_chosen, is_kept, is_in_rule, is_by_until, is_counted}
 use Rattle.ics_rule.specs.Searches.{is_few, is_wanted, NoneWanted, IsNextBefore}
 use Rattle.ics_rule.specs.Next.{NoneKept, IsNextKept}
-use Rattle.ics_rule.proofs.Counts.{count-suc, count-add, count-none, count-same, count_one}
+use Rattle.ics_rule.proofs.Counts.{count-suc, count-none, count_between, count_mono, count_one}
 use Rattle.ics_rule.proofs.Tests.{and_false, keep_true, self_test, unequal}
 
 -- what the rule has: the start, nothing before it, and later what it chooses
@@ -31,18 +31,14 @@ in_rule_later r n h = grind (arith, nat_tests, lt-ltb, unequal)
 pub members_before : (r : Recurrence) (n : ℕ) → number r.start < n
     → count n (is_in_rule r) + count (suc (number r.start)) (is_chosen (effective r) (number r.start)) ≡ count n (is_chosen (effective r) (number r.start)) + 1
 members_before r n h =
-    let whole : suc (number r.start) + (n - suc (number r.start)) ≡ n = omega arith in
-    let members = count-add (suc (number r.start)) (n - suc (number r.start)) (is_in_rule r) in
-    let chosen = count-add (suc (number r.start)) (n - suc (number r.start)) (is_chosen (effective r) (number r.start)) in
-    let same = count-same (n - suc (number r.start)) (λ k. is_in_rule r (suc (number r.start) + k))
-    (λ k. is_chosen (effective r) (number r.start) (suc (number r.start) + k))
-    (λ k l. in_rule_later r (suc (number r.start) + k) (omega arith)) in
+    let chosen = is_chosen (effective r) (number r.start) in
+    let more = count_mono (suc (number r.start)) n chosen h in
+    let all = count_between (count n chosen - count (suc (number r.start)) chosen) chosen (is_in_rule r) h (λ m l u. sym (in_rule_later r m l))
+    (omega (arith, more)) in
     let none = count-none (number r.start) (is_in_rule r) (λ m l. in_rule_earlier r m l) in
     let last = count-suc (number r.start) (is_in_rule r) in
     let one = count_one (is_in_rule r (number r.start)) (in_rule_start r) in
-    let a = ap (λ x. count x (is_in_rule r)) whole in
-    let b = ap (λ x. count x (is_chosen (effective r) (number r.start))) whole in
-    omega (arith, members, chosen, same, none, last, one, a, b)
+    omega (arith, more, all, none, last, one)
 
 counted_is_few : (r : Recurrence) (c n : ℕ) → number r.start < n → is_counted r (Some c) n ≡ is_few (effective r) (number r.start) c n
 counted_is_few r c n h = grind (arith, nat_tests, members_before)

@@ -1,5 +1,5 @@
 -- Steps over periods that hold nothing.
-use Rattle.std.proofs.Common.{◌≡◌, ℕ, ◌+◌, ◌-◌, ◌*◌, ◌/◌, ◌%◌, ◌<◌, ◌≤◌, inl, inr, Bool, true, false, ◌||◌, ◌&&◌, ◌==◌, max, sym, subst, ap, ◌∙◌, arith}
+use Rattle.std.proofs.Common.{◌≡◌, ℕ, ◌+◌, ◌-◌, ◌*◌, ◌/◌, ◌%◌, ◌<◌, ◌≤◌, inl, inr, Bool, true, false, ◌||◌, ◌&&◌, ◌==◌, max, refl, sym, subst, ap, ◌∙◌, arith}
 use Rattle.std.proofs.lemmas.Bool.{and_right, cases_lt}
 use Rattle.jiff_core.specs.Weekday.{monday_zero}
 use Rattle.ics_fields.specs.Sets.{contains, IsLeastFrom}
@@ -45,12 +45,7 @@ module _ (q : EffectiveRule) (hours minutes seconds : ℕ)
       let hour : n % 86_400 / 60 / 60 ≡ n / 3_600 % 24 = omega arith in
       let minute : n % 86_400 / 60 % 60 ≡ n / 60 % 60 = omega arith in
       let second : n % 86_400 % 60 ≡ n % 60 = omega arith in
-      ap (λ x. (contains hours x && contains minutes (n % 86_400 / 60 % 60)) && contains seconds (n % 86_400 % 60)) hour
-      ∙ ap (λ x. (contains hours (n / 3_600 % 24) && contains minutes x) && contains seconds (n % 86_400 % 60)) minute
-      ∙ ap (λ x. (contains hours (n / 3_600 % 24) && contains minutes (n / 60 % 60)) && contains seconds x) second
-      ∙ ap (λ x. (x && contains minutes (n / 60 % 60)) && contains seconds (n % 60)) (h (n / 3_600 % 24) (omega arith))
-      ∙ ap (λ x. (lets q.hours (n / 3_600 % 24) && x) && contains seconds (n % 60)) (i (n / 60 % 60) (omega arith))
-      ∙ ap (λ x. (lets q.hours (n / 3_600 % 24) && lets q.minutes (n / 60 % 60)) && x) (s (n % 60) (omega arith))
+      rw (hour, minute, second, h (n / 3_600 % 24) (omega arith), i (n / 60 % 60) (omega arith), s (n % 60) (omega arith)) refl
 
   pub second_next : (n : ℕ) {t : ℕ} → t < 86_400 → IsLeastFrom (has_time hours minutes seconds) (n % 86_400) t → (m : ℕ) → n ≤ m → m < n / 86_400 * 86_400 + t →
       lets_clock q m ≡ false

@@ -1,28 +1,27 @@
 -- What looks up to its place leave of a cursor under COUNT.
-use Rattle.std.proofs.Common.{◌≡◌, ℕ, ◌+◌, ◌-◌, ◌*◌, ◌/◌, ◌<◌, ◌≤◌, inl, inr, true, false, Option, Some, None, MatchOption, is_some, min, sym, subst}
-use Rattle.std.proofs.Common.{ap, ◌∙◌, arith}
-use Rattle.std.proofs.lemmas.Bool.{cases_lt, false_from_ne_true}
+use Rattle.std.proofs.Common.{◌≡◌, ℕ, ◌+◌, ◌-◌, ◌*◌, ◌/◌, ◌<◌, ◌≤◌, inl, inr, true, false, ◌&&◌, Option, Some, None, MatchOption, is_some, min, refl, sym}
+use Rattle.std.proofs.Common.{subst, ap, ◌∙◌, arith}
+use Rattle.std.proofs.lemmas.Bool.{cases_lt, ne_eqb}
 use Rattle.jiff_core.specs.Weekday.{monday_zero}
-use Rattle.ics_fields.specs.Ordinals.{lists_none_wide}
 use Rattle.ics_rule.specs.declared.effective_rule.EffectiveRule.{EffectiveRule}
 use Rattle.ics_rule.specs.declared.recurrence_period.RecurrencePeriod.{RecurrencePeriod}
 use Rattle.ics_rule.specs.declared.cursor.Cursor.{Cursor}
 use Rattle.ics_rule.specs.Candidates.{is_stepped, period_in}
 use Rattle.ics_rule.specs.Kept.{count, is_chosen}
-use Rattle.ics_rule.specs.RecurrencePeriods.{first_local, IsPeriodOf, is_taken}
-use Rattle.ics_rule.specs.Cursors.{fresh, HeldBy, CountedBy, IsCounted, IsCursorIn}
-use Rattle.ics_rule.specs.Searches.{IsNextWanted, LooksAt, IsTurned, IsNextOpen, after_look, IsTurnOf}
+use Rattle.ics_rule.specs.RecurrencePeriods.{first_local, IsPeriodOf}
+use Rattle.ics_rule.specs.Cursors.{fresh, HeldBy, IsCursorIn}
+use Rattle.ics_rule.specs.Searches.{is_chosen_within, IsNextWanted, IsNextOpen, after_look}
 use Rattle.ics_rule.specs.Rounds.{IsEvenRound, HasRound, IsPassedTo, CountsFrom, HasCountedTo}
 use Rattle.std.proofs.lemmas.Nat.{div-add-mod'}
 use Rattle.std.proofs.Math.Nat.{mul-le-mul_right}
-use Rattle.ics_rule.proofs.PeriodLemmas.{begun, begins, period_mono, before_first}
+use Rattle.ics_rule.proofs.PeriodLemmas.{begun, period_mono, before_next}
 use Rattle.ics_rule.proofs.Counts.{count_most}
 use Rattle.ics_rule.proofs.CountLemmas.{IsCountedStep, none_before_first}
-use Rattle.ics_rule.proofs.RoundLemmas.{repeats_often, none_after}
+use Rattle.ics_rule.proofs.RoundLemmas.{repeats_often}
+use Rattle.ics_rule.proofs.EvenLemmas.{even_round, none_after}
 use Rattle.ics_rule.proofs.StepLemmas.{stepped_parts, none_between}
-use Rattle.ics_rule.proofs.ChosenLemmas.{taken_within}
-use Rattle.ics_rule.proofs.CursorLemmas.{IsWalk, walk_ends, meets, moved_none, moved_on, looks_once, within_facts}
-use Rattle.ics_rule.proofs.CountingLemmas.{IsCounting, counting_stopped, step_first}
+use Rattle.ics_rule.proofs.CursorLemmas.{IsHeldTo, IsWalk, walk_ends, meets, moved_none, moved_on, own_moved, looks_once}
+use Rattle.ics_rule.proofs.CountingLemmas.{IsCounting, step_first}
 use Rattle.ics_rule.specs.PeriodNumbers.{rules_end}
 use Rattle.ics_fields.specs.Locals.{calendar_end}
 
@@ -36,53 +35,27 @@ passed_none {cursor = cursor} own = record { own = own; moved = moved_none (curs
 -- a walk up to the place that has not come past it
 pub counting_passed : {q : EffectiveRule} {start c number : ℕ} {before now : Cursor} → IsCounting q start c (before.place + 1) number before now →
     number ≤ period_in q before.place → before.place < calendar_end → IsPassedTo q start c before now
-counting_passed {q = q} {start = start} {c = c} {number = number} {before = before} {now = now} walk h inside = record {
-  own = record {
-    inside = omega (arith, walk.moved.place, inside);
-    held = here now.held walk.turn;
-    begun = walk.moved.begun;
-    steps = walk.moved.steps;
-    counted = known now.held walk.turn;
-  };
-  moved = walk.moved;
+counting_passed {q = q} {number = number} {before = before} {now = now} counting h inside = record {
+  own = own_moved now.place counting.walk.moved (here now.held counting.walk.held) counting.walk.counted
+      (omega (arith, counting.walk.moved.place, inside));
+  moved = counting.walk.moved;
 }
   where
-    here : (o : Option RecurrencePeriod) → IsTurnOf q start c number (record now { held = o }) → HeldBy q o now.place
+    here : (o : Option RecurrencePeriod) → IsHeldTo q number (before.place + 1) o → HeldBy q o now.place
     here None t = tt
-    here (Some p) t = (
-      t.0,
-      (let place = ap (period_in q) walk.moved.place in
-          elim t.1.1 [ inl same ↦ omega (arith, same, h, place) | inr on ↦ (let up = on.up in omega (arith, up, h, place)) ]),
-    )
+    here (Some p) t = (t.0, (let place = ap (period_in q) counting.walk.moved.place in omega (arith, t.1.0, h, place)))
 
-    known : (o : Option RecurrencePeriod) →
-        IsTurnOf q start c number (record now { held = o })
-        → MatchOption o (Unit {0}) (IsCounted q start c now.counted now.limit)
-    known None t = tt
-    known (Some p) t = t.1.0
-
--- an earlier period takes nothing from the place on
-pub none_taken : {q : EffectiveRule} {start c number : ℕ} {cursor : Cursor} {p : RecurrencePeriod} (place : ℕ) → IsTurned q start c number cursor p →
-    number < period_in q place → (m : ℕ) → place ≤ m → is_taken q.positions (lists_none_wide q.positions) p m ≡ false
-none_taken {q = q} {start = start} {number = number} {p = p} place turned h m l =
-    false_from_ne_true (is_taken q.positions (lists_none_wide q.positions) p m) (λ yes.
-    let step = ap (is_stepped (period_in q start) q.interval) (sym turned.number) ∙ turned.counted.step in
-    let here = within_facts q start number m (sym (taken_within start turned.product turned.number step m) ∙ yes) in
-    let up = period_mono q.frequency (monday_zero q.week_start) place m l in
-    omega (arith, here.0, up, h))
+-- a period before that of the place has nothing from the place on
+pub none_within : (q : EffectiveRule) (start : ℕ) {number : ℕ} (place : ℕ) → number < period_in q place → (m : ℕ) → place ≤ m →
+    is_chosen_within q start number m ≡ false
+none_within q start {number = number} place h m l = ap (λ x. x && is_chosen q start m) (ne_eqb (period_in q m) number (λ same.
+    let up = period_mono q.frequency (monday_zero q.week_start) place m l in omega (arith, same, up, h)))
 
 -- a step that is not passed
 pub not_past : {q : EffectiveRule} {first number next end : ℕ} → 1 ≤ q.interval → is_stepped first q.interval number ≡ true →
     is_stepped first q.interval end ≡ true → number < end
     → IsNextOpen q first (number + q.interval) next → IsNextOpen q first (number + q.interval) (min end next)
 not_past some here there h is_next = grind (arith, cases_lt, here, none_between)
-
--- a walk up to the place that turns to a period
-pub counted_to : {q : EffectiveRule} {start c number : ℕ} {before now after : Cursor} {p : RecurrencePeriod} →
-    IsCounting q start c (before.place + 1) number before now
-    → IsTurned q start c number after p → LooksAt number now after → number ≤ period_in q before.place → HasCountedTo q start c number before after
-counted_to {q = q} {number = number} {before = before} {p = p} walk turned at top =
-    record { period = p; turned = turned; walked = counting_stopped walk turned at (top_of q before.place number top) }
 
 -- an answer that is there, and one that is not
 pub there : (A : Type 0) (P : RecurrencePeriod → Type 0) (o : Option RecurrencePeriod) → MatchOption o A P → is_some o ≡ true → (p : RecurrencePeriod) × P p
@@ -97,30 +70,22 @@ not_there A P (Some p) h none = absurd (cc)
 pub passed_on : {q : EffectiveRule} {start c number target total : ℕ} {before after now : Cursor} {p : RecurrencePeriod} →
     HasCountedTo q start c number before after → IsCountedStep q start number target before.place total → start < before.place
     → before.place < calendar_end → now ≡ after_look after p total → IsPeriodOf q p × (p.number ≡ target) → IsPassedTo q start c before now
-passed_on {q = q} {start = start} {c = c} {target = target} {total = total} {before = before} {after = after} {now = now} {p = p} to is late inside e own =
+passed_on {q = q} {start = start} {c = c} {target = target} {total = total} {before = before} {after = after} {p = p} to is late inside e own =
     let same = own.1 in
-    let moved = moved_on to.walked.moved (looks_once total after p first_fresh e same) (λ a b l few.
+    let fresh_target = subst (λ o. fresh o ≤ target) (sym to.turned.held) (omega (arith, to.turned.number, is.later)) in
+    let moved = moved_on to.walked.moved (looks_once total after p fresh_target refl same) (λ a b l few.
     meets q start a b {place = start} {stop = before.place + 1}
     record { from = few.low; some = omega (arith, late); to = l } target is.step (stepped_parts (period_in q start) q.interval target is.step).0
     (top_of q before.place target is.top)) in
-    record {
-      own = record {
-        inside = omega (arith, moved.place, inside);
-        held = subst (λ (x : Cursor). HeldBy q x.held x.place) (sym e)
-            (own.0, (let place = ap (period_in q) to.walked.moved.place in omega (arith, same, is.top, place)));
-        begun = moved.begun;
-        steps = moved.steps;
-        counted = subst (λ (x : Cursor). CountedBy q start (Some c) x) (sym e) (record {
-          step = ap (is_stepped (period_in q start) q.interval) same ∙ is.step;
-          total = is.total ∙ ap (λ x. count (first_local q.frequency (monday_zero q.week_start) x) (is_chosen q start)) (sym same);
-          most = to.turned.counted.most;
-        });
-      };
+    let place = ap (period_in q) to.walked.moved.place in
+    subst (IsPassedTo q start c before) (sym e) (record {
+      own = own_moved after.place moved (own.0, omega (arith, same, is.top, place)) (record {
+        step = ap (is_stepped (period_in q start) q.interval) same ∙ is.step;
+        total = is.total ∙ ap (λ x. count (first_local q.frequency (monday_zero q.week_start) x) (is_chosen q start)) (sym same);
+        most = to.turned.counted.most;
+      }) (omega (arith, moved.place, inside));
       moved = moved;
-    }
-  where
-    first_fresh : fresh after.held ≤ target
-    first_fresh = subst (λ o. fresh o ≤ target) (sym to.turned.held) (omega (arith, to.turned.number, is.later))
+    })
 
 -- a walk up to a period
 pub counting_at : {q : EffectiveRule} {start c stop number : ℕ} {before now : Cursor} (end : ℕ) → IsCounting q start c stop number before now → number ≡ end →
@@ -130,11 +95,12 @@ counting_at {q = q} {start = start} {c = c} {stop = stop} {before = before} {now
 -- steps are few
 pub counting_room : {q : EffectiveRule} {start c stop number : ℕ} {before now : Cursor} → IsCounting q start c stop number before now →
     now.steps ≤ number + 1
-counting_room {q = q} {start = start} {c = c} {number = number} {now = now} walk = let low = below now.held walk.turn in omega (arith, walk.moved.steps, low)
+counting_room {q = q} {stop = stop} {number = number} {now = now} counting =
+    let low = below now.held counting.walk.held in omega (arith, counting.walk.moved.steps, low)
   where
-    below : (o : Option RecurrencePeriod) → IsTurnOf q start c number (record now { held = o }) → fresh o ≤ number + 1
+    below : (o : Option RecurrencePeriod) → IsHeldTo q number stop o → fresh o ≤ number + 1
     below None t = omega arith
-    below (Some p) t = elim t.1.1 [ inl same ↦ omega (arith, same) | inr on ↦ (let up = on.up in omega (arith, up)) ]
+    below (Some p) t = omega (arith, t.1.0)
 
 pub turned_room : {q : EffectiveRule} {start c number : ℕ} {before after : Cursor} → HasCountedTo q start c number before after →
     after.steps ≤ number + 1
@@ -211,7 +177,7 @@ pub target_in : (own begin : ℕ) {ahead : ℕ} (round : ℕ) → ahead ≡ own 
 target_in own begin {ahead = ahead} round e some = let whole = div-add-mod' ahead round in omega (arith, whole, e, some)
 
 -- a walk that finds nothing in a round finds nothing later
-pub walk_rounds_end : {q : EffectiveRule} {start stop number : ℕ} {before now : Cursor} {begin end : ℕ} → IsWalk q start stop number before now →
+pub walk_rounds_end : {q : EffectiveRule} {start stop number : ℕ} {before now : Cursor} {begin end : ℕ} → IsWalk q start None stop number before now →
     stop ≤ rules_end → end < number → period_in q start ≤ begin → period_in q before.place ≤ begin
     → (end < period_in q (stop - 1) → HasRound q begin end) → IsNextWanted q start None before.place stop None
 walk_rounds_end {q = q} {start = start} {stop = stop} {number = number} {before = before} {begin = begin} {end = end} walk h past low here round =
@@ -224,13 +190,9 @@ walk_rounds_end {q = q} {start = start} {stop = stop} {number = number} {before 
     by_round is = λ n l u. elim (cases_lt (period_in q n) number) [
       | inl less ↦ walk.none n l less
       | inr more ↦ let far = is.far in let some = is.some in
-          none_after q start is.periods is.seconds is.round {begin = begin + 1} (omega (arith, some)) (omega (arith, low))
-          (λ m lm um. walk.none m
-          (elim (cases_lt m before.place) [
-            | inl early ↦ absurd (let up = period_mono q.frequency (monday_zero q.week_start) m before.place (omega (arith, early)) in
-                let b = begins q.frequency (monday_zero q.week_start) (begin + 1) m lm in omega (arith, up, b, here))
-            | inr late ↦ late
-          ])
-          (let b = before_first q.frequency (monday_zero q.week_start) (begin + 1 + is.periods) m um in omega (arith, b, past, far)))
-          n (begun q.frequency (monday_zero q.week_start) (begin + 1) n (omega (arith, more, past, far))) (omega (arith, u, h))
+          none_after q start is.periods (even_round is.round) {begin = begin + 1} (omega (arith, some)) (omega (arith, low)) (λ m lm um.
+          let place = before_next q.frequency (monday_zero q.week_start) (begin + 1) before.place (omega (arith, here)) in
+          let from = begun q.frequency (monday_zero q.week_start) (begin + 1) m lm in
+          walk.none m (omega (arith, place, from)) (omega (arith, um, past, far)))
+          n (omega (arith, more, past, far)) (omega (arith, u, h))
     ]

@@ -30,7 +30,7 @@ fourth_late w e late = ap (λ b. cond b (7 * week_of w e + w + 146_088) (7 * wee
 year_begun : (p e : ℕ) → p ≤ year_of e → days_before_year p ≤ e
 year_begun p e h = let u = year_under_way e in let m = days_before_year_mono p (year_of e) h in omega (arith, u.0, m)
 
-year_begins : (p e : ℕ) → days_before_year p ≤ e → p ≤ year_of e
+pub year_begins : (p e : ℕ) → days_before_year p ≤ e → p ≤ year_of e
 year_begins p e h = elim (cases_lt (year_of e) p) [
   | inl less ↦ absurd (let u = year_under_way e in let m = days_before_year_mono (suc (year_of e)) p less in omega (arith, u.1, m))
   | inr more ↦ more

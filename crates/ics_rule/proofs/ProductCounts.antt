@@ -11,7 +11,8 @@ use Rattle.ics_rule.specs.declared.recurrence_period.RecurrencePeriod.{Recurrenc
 use Rattle.ics_rule.specs.Kept.{count}
 use Rattle.ics_rule.specs.RecurrencePeriods.{has_minute, has_second, has_day, holds, IsNth}
 use Rattle.ics_rule.proofs.ScanLemmas.{day_before}
-use Rattle.ics_rule.proofs.Counts.{count-same, count-add, count-from, count-up_to, count-all, count-product, count-none, count_none_at, count_one}
+use Rattle.ics_rule.proofs.Counts.{count-same, count-add, count-from, count-up_to, count-all, count-product, count_none_at, count_one}
+use Rattle.ics_rule.proofs.RankLemmas.{count_flat}
 use Rattle.ics_fields.specs.Locals.{calendar_end}
 
 -- how many pass before the t-th of block d: the blocks before it, and what passes in it
@@ -79,16 +80,10 @@ nth_of_days p k n nth = record { passes = day_at p n ∙ nth.passes; before = da
 -- the days before one
 pub days_before : (p : RecurrencePeriod) (day skipped : ℕ) → skipped ≡ min (day - p.first_day) 384 →
     count skipped (contains_wide p.days) ≡ count day (has_day p)
-days_before p day skipped e = elim (cases_lt day p.first_day) [
-  | inl early ↦ let none : skipped ≡ 0 = omega (arith, e) in ap (λ x. count x (contains_wide p.days)) none ∙ sym (count_zero (contains_wide p.days))
-      ∙ sym (count-none day (has_day p) (λ m l. day_before p m (omega arith)))
-  | inr late ↦ let whole : p.first_day + (day - p.first_day) ≡ day = omega arith in elim (cases_lt 384 (day - p.first_day)) [
-    | inl far ↦ let top : skipped ≡ 384 = omega (arith, e) in let all : 384 + (day - p.first_day - 384) ≡ day - p.first_day = omega arith in
-        ap (λ x. count x (contains_wide p.days)) top ∙ sym (count-up_to 384 (day - p.first_day - 384) (contains_wide p.days) (λ k l u. wide_past p.days k l))
-        ∙ ap (λ x. count x (contains_wide p.days)) all ∙ sym (days_from_first p (day - p.first_day)) ∙ ap (λ x. count x (has_day p)) whole
-    | inr near ↦ let same : skipped ≡ day - p.first_day = omega (arith, e) in
-        ap (λ x. count x (contains_wide p.days)) same ∙ sym (days_from_first p (day - p.first_day)) ∙ ap (λ x. count x (has_day p)) whole
-  ]
+days_before p day skipped e = sym (days_from_first p skipped) ∙ elim (cases_lt day (p.first_day + skipped)) [
+  | inl early ↦ count_flat day (p.first_day + skipped) (has_day p) (omega (arith, early)) (λ m l u. day_before p m (omega (arith, e, early, l, u)))
+  | inr late ↦ sym (count_flat (p.first_day + skipped) day (has_day p) late (λ m l u.
+      and_right (nat_le p.first_day m) (contains_wide p.days (m - p.first_day)) (wide_past p.days (m - p.first_day) (omega (arith, e, l, u)))))
 ]
 
 -- the k-th number of a product, by dividing by the size of a block

@@ -5,15 +5,14 @@ use Rattle.std.proofs.lemmas.Bool.{and_parts, cases_lt, eq-eqb, eqb-true}
 use Rattle.std.proofs.lemmas.Bool.Decides.{nat_tests}
 use Rattle.jiff_core.specs.Weekday.{monday_zero}
 use Rattle.ics_fields.specs.declared.frequency.Frequency.{Frequency}
-use Rattle.ics_fields.specs.declared.frequency.Frequency.TheVariants.{Secondly, Minutely, Hourly, Daily, Weekly, Monthly, Yearly}
+use Rattle.ics_fields.specs.declared.frequency.Frequency.TheVariants.{Secondly, Minutely, Hourly}
 use Rattle.ics_rule.specs.declared.effective_rule.EffectiveRule.{EffectiveRule}
 use Rattle.ics_fields.specs.Sets.{contains, contains_wide}
-use Rattle.ics_fields.specs.Days.{days_before_year}
 use Rattle.ics_rule.specs.PeriodNumbers.{period}
 use Rattle.ics_rule.specs.EffectiveRules.{skips_hours, skips_minutes, skips_seconds}
 use Rattle.ics_rule.specs.Candidates.{lets, lets_date, lets_clock}
 use Rattle.ics_rule.specs.declared.recurrence_period.RecurrencePeriod.{RecurrencePeriod}
-use Rattle.ics_rule.specs.RecurrencePeriods.{first_local, month_start, has_day, has_second, holds, is_let_in}
+use Rattle.ics_rule.specs.RecurrencePeriods.{first_local, has_day, has_second, holds, is_let_in}
 use Rattle.ics_rule.proofs.PeriodLemmas.{begun, begins, IsPeriodFrom, before_first, before_next}
 use Rattle.ics_rule.proofs.Tests.{and_assoc, iff}
 
@@ -91,10 +90,7 @@ span_low Hourly w p n h =
     let own = whole_hour (p * 3_600) in
     let same : n / 3_600 ≡ p = omega (arith, day, hour, whole, own) in
     (omega arith, omega arith)
-span_low Daily w p n h = whole_days p (p + 1) n _ h
-span_low Weekly w p n h = whole_days (7 * p - (12 - w)) (7 * (p + 1) - (12 - w)) n _ h
-span_low Monthly w p n h = whole_days (month_start p) (month_start (p + 1)) n _ h
-span_low Yearly w p n h = whole_days (days_before_year p) (days_before_year (p + 1)) n _ h
+span_low f w p n h = whole_days _ _ n _ h
 
 fixed : {d a b c : Bool} → d ≡ true → a ≡ true → b ≡ true → c ≡ true → (d && (a && b && c)) ≡ true
 fixed {a = a} {b = b} {c = c} p q r s = ap (λ x. x && (a && b && c)) p ∙ ap (λ x. x && b && c) q ∙ ap (λ x. x && c) r ∙ s
@@ -115,10 +111,7 @@ span_high Hourly w p n l h =
     let same : n / 3_600 ≡ p = omega arith in
     fixed
     (day_one (p * 3_600) ((p + 1) * 3_600) n (omega arith) (omega arith)) (eq-eqb (n / 3_600 % 24) (p * 3_600 / 3_600 % 24) (omega arith)) refl refl
-span_high Daily w p n l h = days_whole p (p + 1) n l h
-span_high Weekly w p n l h = days_whole (7 * p - (12 - w)) (7 * (p + 1) - (12 - w)) n l h
-span_high Monthly w p n l h = days_whole (month_start p) (month_start (p + 1)) n l h
-span_high Yearly w p n l h = days_whole (days_before_year p) (days_before_year (p + 1)) n l h
+span_high f w p n l h = days_whole _ _ n l h
 
 -- they say that a local lies in the period
 pub span_is : (f : Frequency) (w p n : ℕ) → span_test f (first_local f w p) (first_local f w (p + 1)) n ≡ (period f w n == p)

@@ -1,18 +1,18 @@
 -- The next number that passes a test of its part / k and a test of its part % k.
-use Rattle.std.proofs.Common.{◌≡◌, ℕ, suc, ◌+◌, ◌-◌, ◌*◌, ◌/◌, ◌%◌, ◌^◌, ◌<◌, ◌≤◌, ◌⊎◌, inl, inr, ◌≢◌, Bool, true, false, ◌==◌, ◌||◌, ◌&&◌, nat_lt}
-use Rattle.std.proofs.Common.{nat_le, get_or, pos, refl, sym, ap, ◌∙◌, arith}
+use Rattle.std.proofs.Common.{◌≡◌, ℕ, ◌+◌, ◌-◌, ◌*◌, ◌/◌, ◌%◌, ◌^◌, ◌<◌, ◌≤◌, ◌⊎◌, inl, inr, ◌≢◌, Bool, true, false, ◌==◌, ◌||◌, ◌&&◌, nat_lt}
+use Rattle.std.proofs.Common.{nat_le, pos, sym, ap, ◌∙◌, arith}
 use Rattle.std.proofs.lemmas.Bool.{and_from, and_left, and_parts, and_right, cases_eq, lt-ltb, ne_eqb}
 use Rattle.std.proofs.lemmas.Bool.Decides.{nat_tests}
-use Rattle.std.proofs.lemmas.List.{get_or_past}
 use Rattle.std.proofs.lemmas.Nat.{div-mul-add, mod-mul-add, div-add-mod', le-div}
-use Rattle.std.proofs.lemmas.Nat.Bits.{bit_at-pow_other, bit_at-pow_same, bit_at-zero}
+use Rattle.std.proofs.lemmas.Nat.Bits.{bit_at-pow_other, bit_at-pow_same}
 use Rattle.std.proofs.Math.Nat.{mod-lt, mul-le-mul_right}
 use Rattle.jiff_core.specs.Calendar.{days_of_months, days_in_month}
 use Rattle.jiff_core.proofs.CalendarLemmas.{days_of_months_more}
 use Rattle.ics_fields.proofs.SetLemmas.{member_below}
+pub use Rattle.ics_fields.proofs.SetLemmas.{none_wide_has as none_has}
 use Rattle.ics_rule.specs.declared.recurrence_period.RecurrencePeriod.{RecurrencePeriod}
 use Rattle.ics_rule.specs.RecurrencePeriods.{has_minute, has_time, has_day}
-use Rattle.ics_fields.specs.Sets.{contains, contains_wide, none_wide, only, IsLeastFrom}
+use Rattle.ics_fields.specs.Sets.{contains, contains_wide, only, IsLeastFrom}
 use Rattle.ics_rule.proofs.Tests.{keep_true, self_test}
 
 three : (a b : ℕ) → a ≤ b → (a ≡ b) ⊎ (a + 1 ≤ b)
@@ -60,15 +60,6 @@ contains-only h m = grind (arith, nat_tests, bit_at-pow_other, bit_at-pow_same, 
 
 pub own_only : (f : ℕ → Bool) (own m : ℕ) → f own ≡ true → (m == own) ≡ ((m == own) && f m)
 own_only f own m h = grind (arith, nat_tests, and_left, cases_eq, keep_true, ne_eqb)
-
--- no number is a member of the empty set
-none_get : (i : ℕ) → get_or none_wide i 0 ≡ 0
-none_get (suc (suc (suc (suc (suc (suc i)))))) = get_or_past none_wide (suc (suc (suc (suc (suc (suc i)))))) 0 (omega arith)
-none_get i = refl
-
-pub none_has : (m : ℕ) → contains_wide none_wide m ≡ false
-none_has m = and_right (nat_lt m 384) (contains (get_or none_wide (m / 64) 0) (m % 64)) (ap (λ x. contains x (m % 64)) (none_get (m / 64))
-    ∙ ap (λ x. x == 1) (bit_at-zero (m % 64)))
 
 -- the test of one number more
 grow : (m k : ℕ) → m ≢ k → nat_lt m k ≡ nat_lt m (k + 1)

@@ -6,13 +6,13 @@ use Rattle.ics_rule.specs.Searches.{IsNextOpen, IsTurned}
 use Rattle.ics_rule.specs.Rounds.{IsPassedTo}
 use Rattle.ics_rule.proofs.PeriodLemmas.{begun}
 use Rattle.ics_rule.proofs.StepLemmas.{step_on}
-use Rattle.ics_rule.proofs.CountingLemmas.{counting_begins, counting_goes_on}
-use Rattle.ics_rule.proofs.PassedLemmas.{top_of, passed_none, counting_passed, counting_room, counted_to, counting_at, there, not_there, none_taken, not_past}
+use Rattle.ics_rule.proofs.CountingLemmas.{counting_begins, counting_goes_on, counting_stopped}
+use Rattle.ics_rule.proofs.PassedLemmas.{top_of, passed_none, counting_passed, counting_room, counting_at, there, not_there, none_within, not_past}
 use Rattle.ics_rule.proofs.cursor.Cursor.turn_through.Goals as goal
 
 pub loop-number-init : goal.loop-number-init
 loop-number-init c = record {
-  walk = counting_begins (passed_none c.requires.own) c.requires.first c.requires.begin
+  counting = counting_begins (passed_none c.requires.own) c.requires.first c.requires.begin
       c.requires.interval c.requires.after (omega arith);
   high = c.requires.order;
 }
@@ -22,25 +22,25 @@ turn_to-requires-clause-reach c = let r = begun c.args.parts.now.frequency (mond
     (omega (arith, c.loop-number.invariant.high, c.requires.end)) in omega (arith, r, c.requires.place)
 
 pub turn_to-requires-clause-room : goal.turn_to-requires-clause-room
-turn_to-requires-clause-room c = let r = counting_room c.loop-number.invariant.walk in
+turn_to-requires-clause-room c = let r = counting_room c.loop-number.invariant.counting in
     omega (arith, r, c.loop-number-test.true, c.requires.end, c.period_of-last.ensures.value, c.period_of-last.ensures.small)
 
 pub next_open_step-requires-clause-step : goal.next_open_step-requires-clause-step
 next_open_step-requires-clause-step c = ap (λ x. is_stepped x c.args.parts.now.interval (c.loop-number.number + c.args.parts.now.interval)) c.requires.first
-    ∙ step_on c.args.parts.now.interval c.requires.interval (period_in c.args.parts.now c.args.start) c.loop-number.number c.loop-number.invariant.walk.step
+    ∙ step_on c.args.parts.now.interval c.requires.interval (period_in c.args.parts.now c.args.start) c.loop-number.number
+    c.loop-number.invariant.counting.walk.step
 
 pub loop-number-preserved : goal.loop-number-preserved
 loop-number-preserved c =
-    let walk = c.loop-number.invariant.walk in
+    let counting = c.loop-number.invariant.counting in
     let here = there _ (IsTurned c.args.parts.now c.args.start c.args.count c.loop-number.number c.turn_to.new.self) c.turn_to.result c.turn_to.ensures.turned
     (c.is_none.ensures ∙ ap not c.if-is_none.false) in
     record {
-      walk = counting_goes_on walk here.1 c.turn_to.ensures.looks
+      counting = counting_goes_on counting here.1 c.turn_to.ensures.looks
           (top_of c.args.parts.now c.args.self.now.place c.loop-number.number (omega (arith, c.loop-number-test.true, c.requires.end))) c.requires.first
-          (λ m l. none_taken c.args.self.now.place here.1 (omega (arith, c.loop-number-test.true, c.requires.end)) m
-          (omega (arith, l, c.turn_to.ensures.looks.place, walk.moved.place)))
+          (none_within c.args.parts.now c.args.start c.args.self.now.place (omega (arith, c.loop-number-test.true, c.requires.end)))
           (subst (IsNextOpen c.args.parts.now c.args.first (c.loop-number.number + c.args.parts.now.interval)) (sym c.min-number.ensures)
-          (not_past c.requires.interval (ap (λ x. is_stepped x c.args.parts.now.interval c.loop-number.number) c.requires.first ∙ walk.step)
+          (not_past c.requires.interval (ap (λ x. is_stepped x c.args.parts.now.interval c.loop-number.number) c.requires.first ∙ counting.walk.step)
           (ap (λ x. is_stepped x c.args.parts.now.interval c.args.end) c.requires.first ∙ c.requires.step) c.loop-number-test.true c.next_open_step.ensures));
       high = omega (arith, c.min-number.ensures);
     }
@@ -50,33 +50,37 @@ turn_to-requires-2-clause-reach c = let r = begun c.args.parts.now.frequency (mo
     c.requires.end in omega (arith, r, c.requires.place)
 
 pub turn_to-requires-2-clause-room : goal.turn_to-requires-2-clause-room
-turn_to-requires-2-clause-room c = let r = counting_room c.loop-number.invariant.walk in
+turn_to-requires-2-clause-room c = let r = counting_room c.loop-number.invariant.counting in
     omega (arith, r, c.loop-number.invariant.high, c.requires.end, c.period_of-last.ensures.value, c.period_of-last.ensures.small)
 
 pub turn_to-requires-2-clause-turn : goal.turn_to-requires-2-clause-turn
 turn_to-requires-2-clause-turn c =
-    (counting_at c.args.end c.loop-number.invariant.walk (omega (arith, c.loop-number.invariant.high, c.loop-number-test.false))).turn
+    (counting_at c.args.end c.loop-number.invariant.counting (omega (arith, c.loop-number.invariant.high, c.loop-number-test.false))).turn
 
 pub returns-then-is_none-clause-out : goal.returns-then-is_none-clause-out
 returns-then-is_none-clause-out c = λ out.
     let same = not_there _ (IsTurned c.args.parts.now c.args.start c.args.count c.loop-number.number c.turn_to.new.self) c.turn_to.result
     c.turn_to.ensures.turned (c.is_none.ensures ∙ ap not c.if-is_none.true) in
     subst (IsPassedTo c.args.parts.now c.args.start c.args.count c.args.self.now) (sym same.1)
-    (counting_passed c.loop-number.invariant.walk (omega (arith, c.loop-number-test.true, c.requires.end)) c.requires.own.inside)
+    (counting_passed c.loop-number.invariant.counting (omega (arith, c.loop-number-test.true, c.requires.end)) c.requires.own.inside)
 
 pub returns-clause-out : goal.returns-clause-out
 returns-clause-out c = λ out.
     let same = not_there _ (IsTurned c.args.parts.now c.args.start c.args.count c.args.end c.turn_to-2.new.self) c.turn_to-2.result
     c.turn_to-2.ensures.turned (sym c.is_some.ensures ∙ out) in
     subst (IsPassedTo c.args.parts.now c.args.start c.args.count c.args.self.now) (sym same.1)
-    (counting_passed c.loop-number.invariant.walk (omega (arith, c.loop-number.invariant.high, c.requires.end)) c.requires.own.inside)
+    (counting_passed c.loop-number.invariant.counting (omega (arith, c.loop-number.invariant.high, c.requires.end)) c.requires.own.inside)
 
 pub returns-clause-counted : goal.returns-clause-counted
 returns-clause-counted c = λ some.
     let here = there _ (IsTurned c.args.parts.now c.args.start c.args.count c.args.end c.turn_to-2.new.self) c.turn_to-2.result c.turn_to-2.ensures.turned
     (sym c.is_some.ensures ∙ some) in
-    counted_to (counting_at c.args.end c.loop-number.invariant.walk (omega (arith, c.loop-number.invariant.high, c.loop-number-test.false))) here.1
-    c.turn_to-2.ensures.looks c.requires.end
+    let counting = counting_at c.args.end c.loop-number.invariant.counting (omega (arith, c.loop-number.invariant.high, c.loop-number-test.false)) in
+    record {
+      period = here.0;
+      turned = here.1;
+      walked = counting_stopped counting here.1 c.turn_to-2.ensures.looks (top_of c.args.parts.now c.args.self.now.place c.args.end c.requires.end);
+    }
 
 pub next_open_step-requires-clause-first : goal.next_open_step-requires-clause-first
 next_open_step-requires-clause-first c = grind (arith, common_steps)

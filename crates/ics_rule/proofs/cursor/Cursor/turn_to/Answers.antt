@@ -1,16 +1,9 @@
-use Rattle.std.proofs.Common.{◌≡◌, ◌+◌, ◌-◌, ℕ, ◌⊎◌, inl, inr, ap, refl, arith}
-use Rattle.ics_rule.specs.declared.effective_rule.EffectiveRule.{EffectiveRule}
-use Rattle.ics_rule.specs.declared.cursor.Cursor.{Cursor}
+use Rattle.std.proofs.Common.{◌+◌, ◌-◌, inl, inr, ap, refl, arith}
 use Rattle.ics_rule.specs.Searches.{IsPassed}
 use Rattle.ics_rule.proofs.CursorLemmas.{looks_none, looks_once, fresh_some, fresh_none}
 use Rattle.ics_rule.proofs.CountLemmas.{IsLeft, step_low, turned_first, turned_on, counted_out, counted_small}
 use Rattle.ics_rule.proofs.cursor.Cursor.turn_to.Goals as goal
 use Rattle.ics_rule.proofs.cursor.Cursor.turn_to.Goals.{After-taken_before-before}
-
--- the period held is the one before
-step_before : (q : EffectiveRule) (start a b : ℕ) → (a ≡ b) ⊎ IsPassed q start (a + q.interval) b → (a ≡ b → ⊥) → IsPassed q start (a + q.interval) b
-step_before q start a b (inl same) other = absurd (other same)
-step_before q start a b (inr on) other = on
 
 pub look_at-period-requires-clause-low : goal.look_at-period-requires-clause-low
 look_at-period-requires-clause-low c = step_low c.args.parts.now c.args.start c.args.number c.requires.step
@@ -18,14 +11,7 @@ look_at-period-requires-clause-low c = step_low c.args.parts.now c.args.start c.
 pub look_at-requires-clause-low : goal.look_at-requires-clause-low
 look_at-requires-clause-low c = step_low c.args.parts.now c.args.start c.args.number c.requires.step
 
-pub overflow_add-self-in-Some : goal.overflow_add-self-in-Some
-overflow_add-self-in-Some c =
-    let turn = rw c.in-Some.is at c.requires.turn in
-    let on = step_before c.args.parts.now c.args.start c.in-Some.period.number c.args.number turn.1.1 c.if-period-number.false in
-    let small = counted_small c.args.number turn.1.0 (omega (arith, on.up)) c.requires.step c.requires.reach in
-    omega (arith, small, c.taken_before-before.ensures.bound)
-
--- and left for a later one
+-- the period held is left for a later one
 left : (c : After-taken_before-before) → IsLeft c.args.parts.now c.args.start c.args.count c.args.number c.taken_before-before.result
     c.args.self.now.counted c.args.self.now.limit c.in-Some.period
 left c =
@@ -33,10 +19,16 @@ left c =
       some = c.requires.interval;
       own = turn.0;
       counted = turn.1.0;
-      passed = step_before c.args.parts.now c.args.start c.in-Some.period.number c.args.number turn.1.1 c.if-period-number.false;
+      passed = elim turn.1.1 [ inl same ↦ absurd (c.if-period-number.false same) | inr on ↦ on ];
       reach = omega (arith, c.requires.reach);
       taken = c.taken_before-before.ensures.value;
     }
+
+pub overflow_add-self-in-Some : goal.overflow_add-self-in-Some
+overflow_add-self-in-Some c =
+    let is = left c in
+    let small = counted_small c.args.number is.counted (let up = is.passed.up in omega (arith, up)) c.requires.step c.requires.reach in
+    omega (arith, small, c.taken_before-before.ensures.bound)
 
 pub returns-then-self-before-clause-turned : goal.returns-then-self-before-clause-turned
 returns-then-self-before-clause-turned c =
@@ -45,12 +37,8 @@ returns-then-self-before-clause-turned c =
 pub returns-in-None-clause-turned : goal.returns-in-None-clause-turned
 returns-in-None-clause-turned c =
     let turn = rw c.in-None.is at c.requires.turn in
-    turned_first c.requires.interval c.requires.count turn c.requires.step (record {
-      held = ap (λ (s : Cursor). s.held) c.look_at-period.ensures.cursor;
-      product = c.look_at-period.ensures.product;
-      number = c.look_at-period.ensures.number;
-      none = ap (λ (s : Cursor). s.counted) c.look_at-period.ensures.cursor;
-    }) (ap (λ x. c.args.count - 1 + x) c.taken_before.ensures.value)
+    rw c.look_at-period.ensures.cursor (turned_first c.args.self.now c.requires.count turn c.requires.step c.look_at-period.ensures.product
+    c.look_at-period.ensures.number (ap (λ x. c.args.count - 1 + x) c.taken_before.ensures.value))
 
 pub returns-in-None-clause-looks : goal.returns-in-None-clause-looks
 returns-in-None-clause-looks c =
@@ -59,15 +47,14 @@ returns-in-None-clause-looks c =
     record { place = at.place; looks = at.looks; begun = at.begun; steps = at.steps }
 
 pub returns-else-self-before-clause-turned : goal.returns-else-self-before-clause-turned
-returns-else-self-before-clause-turned c = turned_on c.args.self.now (left (goal.at.returns-else-self-before-clause-turned c).After-taken_before-before)
-    c.requires.step c.look_at.ensures.product c.look_at.ensures.number c.look_at.ensures.cursor
+returns-else-self-before-clause-turned c = rw c.look_at.ensures.cursor (turned_on c.args.self.now
+    (left (goal.at.returns-else-self-before-clause-turned c).After-taken_before-before) c.requires.step c.look_at.ensures.product c.look_at.ensures.number)
 
 pub returns-else-self-before-clause-looks : goal.returns-else-self-before-clause-looks
 returns-else-self-before-clause-looks c =
-    let turn = rw c.in-Some.is at c.requires.turn in
-    let on = step_before c.args.parts.now c.args.start c.in-Some.period.number c.args.number turn.1.1 c.if-period-number.false in
+    let up = IsPassed.up (IsLeft.passed (left (goal.at.returns-else-self-before-clause-looks c).After-taken_before-before)) in
     looks_once (c.args.self.now.counted + c.taken_before-before.result) c.args.self.now c.look_at.result
-    (fresh_some c.args.number c.args.self.now.held c.in-Some.period c.in-Some.is (omega (arith, on.up)) c.if-period-number.false) c.look_at.ensures.cursor
+    (fresh_some c.args.number c.args.self.now.held c.in-Some.period c.in-Some.is (omega (arith, up)) c.if-period-number.false) c.look_at.ensures.cursor
     c.look_at.ensures.number
 
 pub returns-then-period-number-clause-looks : goal.returns-then-period-number-clause-looks

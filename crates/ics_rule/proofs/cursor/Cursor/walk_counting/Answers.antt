@@ -1,10 +1,10 @@
-use Rattle.std.proofs.Common.{◌∙◌, ◌+◌, Some, ap, arith}
+use Rattle.std.proofs.Common.{◌∙◌, ◌+◌, Some, sym, ap, arith}
 use Rattle.ics_rule.specs.Candidates.{is_stepped, period_in}
 use Rattle.ics_rule.proofs.StepLemmas.{step_on}
-use Rattle.ics_rule.proofs.CursorLemmas.{walk_reach}
+use Rattle.ics_rule.proofs.ChosenLemmas.{taken_within}
+use Rattle.ics_rule.proofs.CursorLemmas.{walk_reach, walk_ends, walk_ended}
 use Rattle.ics_rule.proofs.CountLemmas.{counted_small}
-use Rattle.ics_rule.proofs.CountingLemmas.{counting_begins, counting_ends, counting_out, counting_finds, counting_found, counting_stops, counting_stopped}
-use Rattle.ics_rule.proofs.CountingLemmas.{counting_goes_on, counting_ended}
+use Rattle.ics_rule.proofs.CountingLemmas.{counting_begins, counting_out, counting_finds, counting_found, counting_stops, counting_stopped, counting_goes_on}
 use Rattle.ics_rule.proofs.NeverLemmas.{none_wanted, none_walked}
 use Rattle.ics_rule.proofs.cursor.Cursor.walk_counting.Goals as goal
 
@@ -23,7 +23,7 @@ pub overflow_add-earlier : goal.overflow_add-earlier
 overflow_add-earlier c =
     let r = walk_reach c.args.parts.now c.loop-number.number c.args.stop (omega (arith, c.loop-number-test.true, c.period_of-last.ensures.value)) in
     let small = counted_small c.loop-number.number c.in_ok-period.ensures.turned.counted (omega (arith, c.in_ok-period.ensures.turned.number))
-    c.loop-number.invariant.step (omega (arith, r, c.requires.stop)) in
+    c.loop-number.invariant.walk.step (omega (arith, r, c.requires.stop)) in
     omega (arith, small, c.taken_before.ensures.bound, c.in-Some.ensures.small)
 
 pub returns-then-earlier-self-clause-next : goal.returns-then-earlier-self-clause-next
@@ -47,15 +47,20 @@ returns-else-earlier-self-clause-walked c = counting_stopped c.loop-number.invar
 pub next_open_step-number-requires-clause-step : goal.next_open_step-number-requires-clause-step
 next_open_step-number-requires-clause-step c =
     ap (λ x. is_stepped x c.args.parts.now.interval (c.loop-number.number + c.args.parts.now.interval)) c.period_of-first.ensures.value
-    ∙ step_on c.args.parts.now.interval c.requires.interval (period_in c.args.parts.now c.args.start) c.loop-number.number c.loop-number.invariant.step
+    ∙ step_on c.args.parts.now.interval c.requires.interval (period_in c.args.parts.now c.args.start) c.loop-number.number c.loop-number.invariant.walk.step
 
 pub loop-number-preserved : goal.loop-number-preserved
-loop-number-preserved c = counting_goes_on c.loop-number.invariant c.in_ok-period.ensures.turned c.turn_to.ensures.looks
-    (omega (arith, c.loop-number-test.true, c.period_of-last.ensures.value)) c.period_of-first.ensures.value c.in_default.ensures.next
+loop-number-preserved c =
+    let turned = c.in_ok-period.ensures.turned in
+    let walk = c.loop-number.invariant.walk in
+    counting_goes_on c.loop-number.invariant turned c.turn_to.ensures.looks
+    (omega (arith, c.loop-number-test.true, c.period_of-last.ensures.value)) c.period_of-first.ensures.value
+    (λ n l. sym (taken_within c.args.start turned.product turned.number walk.step n)
+    ∙ c.in_default.ensures.next n (omega (arith, l, c.turn_to.ensures.looks.place, walk.moved.place)))
     c.next_open_step-number.ensures
 
 pub returns-clause-next : goal.returns-clause-next
-returns-clause-next c = counting_ends c.loop-number.invariant (omega (arith, c.period_of-last.ensures.value, c.loop-number-test.false))
+returns-clause-next c = walk_ends c.loop-number.invariant.walk (omega (arith, c.period_of-last.ensures.value, c.loop-number-test.false))
 
 pub returns-then-chooses_none-clause-next : goal.returns-then-chooses_none-clause-next
 returns-then-chooses_none-clause-next c = none_wanted c.args.parts.now c.args.start (Some c.args.count) c.args.self.now.place c.requires.stop
@@ -65,8 +70,8 @@ pub returns-then-chooses_none-clause-walked : goal.returns-then-chooses_none-cla
 returns-then-chooses_none-clause-walked c = none_walked c.args.stop c.requires.place c.requires.own
 
 pub returns-clause-walked : goal.returns-clause-walked
-returns-clause-walked c = counting_ended c.loop-number.invariant
+returns-clause-walked c = walk_ended c.loop-number.invariant.walk
 
 pub returns-in_err-period-clause-walked : goal.returns-in_err-period-clause-walked
 returns-in_err-period-clause-walked c =
-    rw (c.from_residual.ensures, c.in_err-period.ensures.turned.1) (counting_ended c.loop-number.invariant)
+    rw (c.from_residual.ensures, c.in_err-period.ensures.turned.1) (walk_ended c.loop-number.invariant.walk)

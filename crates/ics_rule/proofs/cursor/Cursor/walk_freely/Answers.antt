@@ -1,7 +1,9 @@
-use Rattle.std.proofs.Common.{◌∙◌, ◌+◌, None, ap, arith}
+use Rattle.std.proofs.Common.{◌≡◌, ◌∙◌, ◌+◌, Option, Some, None, MatchOption, refl, ap, arith}
+use Rattle.ics_rule.specs.declared.recurrence_period.RecurrencePeriod.{RecurrencePeriod}
 use Rattle.ics_rule.specs.Candidates.{is_stepped, period_in}
 use Rattle.ics_rule.proofs.StepLemmas.{step_on}
-use Rattle.ics_rule.proofs.CursorLemmas.{walk_begins, walk_goes_on, walk_ended, walk_finds, walk_found, walk_low, walk_reach}
+use Rattle.ics_rule.proofs.CursorLemmas.{within_facts, walk_begins, walk_goes_on, walk_ended, walk_finds, walk_found, walk_reach}
+use Rattle.ics_rule.proofs.CountLemmas.{step_low}
 use Rattle.ics_rule.proofs.PassedLemmas.{walk_rounds_end}
 use Rattle.ics_rule.proofs.NeverLemmas.{none_wanted, none_walked}
 use Rattle.ics_rule.proofs.cursor.Cursor.walk_freely.Goals as goal
@@ -11,18 +13,28 @@ loop-number-init c = walk_begins c.requires.interval c.period_of-first.ensures.v
     c.requires.own
 
 pub find-requires-clause-low : goal.find-requires-clause-low
-find-requires-clause-low c = walk_low c.loop-number.invariant
+find-requires-clause-low c = step_low c.args.parts.now c.args.start c.loop-number.number c.loop-number.invariant.step
 
 pub find-requires-clause-reach : goal.find-requires-clause-reach
 find-requires-clause-reach c = let r = walk_reach c.args.parts.now c.loop-number.number c.args.stop
     (omega (arith, c.loop-number-test.true, c.last_to_look_at-end.ensures.high, c.period_of-last.ensures.value)) in omega (arith, r, c.requires.stop)
 
 pub returns-in-Some-clause-next : goal.returns-in-Some-clause-next
-returns-in-Some-clause-next c = walk_finds c.loop-number.invariant c.in-Some.ensures.next
+returns-in-Some-clause-next c =
+    let here = within_facts c.args.parts.now c.args.start c.loop-number.number c.in-Some.n c.in-Some.ensures.next.passes in
+    walk_finds c.loop-number.invariant c.loop-number.invariant.moved.place c.in-Some.ensures.next here.1
+
+-- the period that a look leaves held
+held : {P : RecurrencePeriod → Type 0} (o : Option RecurrencePeriod) → MatchOption o ⊥ P → (p : RecurrencePeriod) × ((o ≡ Some p) × P p)
+held None none = absurd none
+held (Some p) is = (p, (refl, is))
 
 pub returns-in-Some-clause-walked : goal.returns-in-Some-clause-walked
-returns-in-Some-clause-walked c = walk_found c.loop-number.invariant c.find.ensures.looks c.find.ensures.held
-    (omega (arith, c.loop-number-test.true, c.last_to_look_at-end.ensures.high, c.period_of-last.ensures.value)) c.in-Some.ensures.next
+returns-in-Some-clause-walked c =
+    let here = within_facts c.args.parts.now c.args.start c.loop-number.number c.in-Some.n c.in-Some.ensures.next.passes in
+    let own = held c.find.new.self.held c.find.ensures.held in
+    walk_found c.loop-number.invariant c.find.ensures.looks own.1.0 own.1.1.0 own.1.1.1 tt
+    (omega (arith, c.loop-number-test.true, c.last_to_look_at-end.ensures.high, c.period_of-last.ensures.value)) here.0
 
 pub next_open_step-number-requires-clause-step : goal.next_open_step-number-requires-clause-step
 next_open_step-number-requires-clause-step c =
@@ -30,9 +42,11 @@ next_open_step-number-requires-clause-step c =
     ∙ step_on c.args.parts.now.interval c.requires.interval (period_in c.args.parts.now c.args.start) c.loop-number.number c.loop-number.invariant.step
 
 pub loop-number-preserved : goal.loop-number-preserved
-loop-number-preserved c = walk_goes_on c.loop-number.invariant c.find.ensures.looks c.find.ensures.held
+loop-number-preserved c =
+    let own = held c.find.new.self.held c.find.ensures.held in
+    walk_goes_on c.loop-number.invariant c.find.ensures.looks own.1.0 own.1.1.0 own.1.1.1 tt
     (omega (arith, c.loop-number-test.true, c.last_to_look_at-end.ensures.high, c.period_of-last.ensures.value)) c.period_of-first.ensures.value
-    c.in_default.ensures.next c.next_open_step-number.ensures
+    (λ n l. c.in_default.ensures.next n (omega (arith, l, c.loop-number.invariant.moved.place))) c.next_open_step-number.ensures
 
 pub returns-clause-next : goal.returns-clause-next
 returns-clause-next c = walk_rounds_end {begin = c.max.result} {end = c.last_to_look_at-end.result} c.loop-number.invariant c.requires.stop

@@ -1,7 +1,7 @@
-use Rattle.std.proofs.Common.{◌≡◌, ◌∙◌, sym, ap, false, arith}
+use Rattle.std.proofs.Common.{◌≡◌, ◌∙◌, sym, false, arith}
 use Rattle.ics_fields.specs.Ordinals.{lists_none_wide}
 use Rattle.ics_rule.specs.Kept.{count}
-use Rattle.ics_rule.specs.RecurrencePeriods.{holds, is_listed, is_taken}
+use Rattle.ics_rule.specs.RecurrencePeriods.{holds, is_listed}
 use Rattle.ics_rule.proofs.Counts.{count_mono}
 use Rattle.ics_rule.proofs.RankLemmas.{count-ranked}
 use Rattle.ics_fields.specs.Locals.{calendar_end}
@@ -14,9 +14,5 @@ listed_below-requires-clause-some c = let more = count_mono c.args.n calendar_en
 pub returns-else-is_empty-clause-value : goal.returns-else-is_empty-clause-value
 returns-else-is_empty-clause-value c =
     let some : lists_none_wide c.args.positions.now ≡ false = sym c.is_empty.ensures ∙ c.if-is_empty.false in
-    c.listed_below.ensures.value
-    ∙ ap (λ positions. count c.rank_before-rank.result (is_listed positions c.size.result)) c.positions.view_is
-    ∙ ap (λ x. count x (is_listed c.args.positions.now c.size.result)) c.rank_before-rank.ensures.value
-    ∙ ap (λ x. count (count c.args.n (holds c.args.self.now)) (is_listed c.args.positions.now x)) c.size.ensures.value
-    ∙ sym (count-ranked c.args.n (holds c.args.self.now) (is_listed c.args.positions.now (count calendar_end (holds c.args.self.now))))
-    ∙ ap (λ b. count c.args.n (is_taken c.args.positions.now b c.args.self.now)) (sym some)
+    rw some ((rw (c.positions.view_is, c.rank_before-rank.ensures.value, c.size.ensures.value) at c.listed_below.ensures.value)
+    ∙ sym (count-ranked c.args.n (holds c.args.self.now) (is_listed c.args.positions.now (count calendar_end (holds c.args.self.now)))))
