@@ -1,6 +1,5 @@
 -- Which weekdays BYDAY names, as a set.
-use Rattle.std.proofs.Common.{◌≡◌, ℕ, zero, suc, ◌+◌, ◌<◌, ◌≤◌, inl, inr, Bool, true, false, ◌==◌, ◌&&◌, nat_lt, if◌then◌else◌, refl, sym, ap, ◌∙◌, arith}
-use Rattle.std.proofs.lemmas.Bool.{cases_Bool}
+use Rattle.std.proofs.Common.{◌≡◌, ℕ, zero, suc, ◌+◌, ◌<◌, ◌≤◌, Bool, true, false, ◌==◌, ◌&&◌, nat_lt, refl, sym, ap, ◌∙◌, arith}
 use Rattle.std.proofs.lemmas.Bool.Decides.{nat_tests}
 use Rattle.std.proofs.lemmas.Nat.Bits.{bit_at-zero}
 use Rattle.ics_fields.specs.declared.ordinals.Weekdays.{Weekdays}
@@ -26,16 +25,7 @@ unfolding named_below
 is_named w zero d h =
     let none : nat_lt d 0 ≡ false = grind (arith, nat_tests) in
     ap (λ x. x == 1) (bit_at-zero d) ∙ ap (λ x. x && names_weekday w d) (sym none)
-is_named w (suc n) d h =
-    let old = is_named w n d (omega (arith, h)) in
-    let next : n + 1 ≡ suc n = omega arith in
-    elim (cases_Bool (names_weekday w n)) [
-      | inl there ↦ ap (λ b. contains (if b then with_number n (named_below w n) else named_below w n) d) there
-          ∙ contains-with_number (named_below w n) n d (omega (arith, h))
-          ∙ one_more (names_weekday w) n d _ there old ∙ ap (λ x. nat_lt d x && names_weekday w d) next
-      | inr not_there ↦ ap (λ b. contains (if b then with_number n (named_below w n) else named_below w n) d) not_there
-          ∙ no_more (names_weekday w) n d _ not_there old ∙ ap (λ x. nat_lt d x && names_weekday w d) next
-    ]
+is_named w (suc n) d h = let before = is_named w n d (omega (arith, h)) in grind (arith, nat_tests, contains-with_number, no_more, one_more)
 
 pub named_small : (d : ℕ) (b h : Bool) → h ≡ true → h ≡ (nat_lt d 7 && b) → d < 7
 named_small d b h there e = grind (arith, nat_tests)

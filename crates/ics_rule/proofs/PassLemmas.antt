@@ -7,6 +7,7 @@ use Rattle.ics_rule.specs.declared.effective_rule.EffectiveRule.{EffectiveRule}
 use Rattle.ics_rule.specs.Candidates.{lets, lets_date, lets_clock, is_stepped, period_in}
 use Rattle.ics_rule.specs.RecurrencePeriods.{first_local, has_time}
 use Rattle.ics_rule.specs.Searches.{NoneLetIn, IsNextOpen}
+use Rattle.ics_rule.proofs.ScanLemmas.{time_at}
 use Rattle.ics_rule.proofs.PeriodLemmas.{begun, begins, period_mono}
 
 -- the step of a local before which the rule lets nothing in
@@ -41,11 +42,8 @@ module _ (q : EffectiveRule) (hours minutes seconds : ℕ)
     (i : (m : ℕ) → m < 60 → contains minutes m ≡ ((true || (m == 0)) && lets q.minutes m))
     (s : (m : ℕ) → m < 60 → contains seconds m ≡ ((true || (m == 0)) && lets q.seconds m)) where
   clock_is : (n : ℕ) → has_time hours minutes seconds (n % 86_400) ≡ lets_clock q n
-  clock_is n =
-      let hour : n % 86_400 / 60 / 60 ≡ n / 3_600 % 24 = omega arith in
-      let minute : n % 86_400 / 60 % 60 ≡ n / 60 % 60 = omega arith in
-      let second : n % 86_400 % 60 ≡ n % 60 = omega arith in
-      rw (hour, minute, second, h (n / 3_600 % 24) (omega arith), i (n / 60 % 60) (omega arith), s (n % 60) (omega arith)) refl
+  clock_is n = time_at hours minutes seconds n
+      ∙ rw (h (n / 3_600 % 24) (omega arith), i (n / 60 % 60) (omega arith), s (n % 60) (omega arith)) refl
 
   pub second_next : (n : ℕ) {t : ℕ} → t < 86_400 → IsLeastFrom (has_time hours minutes seconds) (n % 86_400) t → (m : ℕ) → n ≤ m → m < n / 86_400 * 86_400 + t →
       lets_clock q m ≡ false

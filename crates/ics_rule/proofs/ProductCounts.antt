@@ -55,8 +55,7 @@ whole_size p = count-product 3_652_425 86_400 (has_day p) (has_second p)
 
 -- its days, by their places in the set
 day_at : (p : RecurrencePeriod) (k : ℕ) → has_day p (p.first_day + k) ≡ contains_wide p.days k
-day_at p k = let low : nat_le p.first_day (p.first_day + k) ≡ true = grind (arith, nat_tests) in let back : p.first_day + k - p.first_day ≡ k = omega arith in
-    ap (λ x. x && contains_wide p.days (p.first_day + k - p.first_day)) low ∙ ap (contains_wide p.days) back
+day_at p k = grind (arith, nat_tests)
 
 pub days_from_first : (p : RecurrencePeriod) (n : ℕ) → count (p.first_day + n) (has_day p) ≡ count n (contains_wide p.days)
 days_from_first p n = count-from p.first_day n (has_day p) (day_before p)

@@ -1,6 +1,6 @@
 -- The next number that passes a test of its part / k and a test of its part % k.
 use Rattle.std.proofs.Common.{◌≡◌, ℕ, ◌+◌, ◌-◌, ◌*◌, ◌/◌, ◌%◌, ◌^◌, ◌<◌, ◌≤◌, ◌⊎◌, inl, inr, ◌≢◌, Bool, true, false, ◌==◌, ◌||◌, ◌&&◌, nat_lt}
-use Rattle.std.proofs.Common.{nat_le, pos, sym, ap, ◌∙◌, arith}
+use Rattle.std.proofs.Common.{pos, refl, sym, ap, ◌∙◌, arith}
 use Rattle.std.proofs.lemmas.Bool.{and_from, and_left, and_parts, and_right, cases_eq, lt-ltb, ne_eqb}
 use Rattle.std.proofs.lemmas.Bool.Decides.{nat_tests}
 use Rattle.std.proofs.lemmas.Nat.{div-mul-add, mod-mul-add, div-add-mod', le-div}
@@ -12,7 +12,7 @@ use Rattle.ics_fields.proofs.SetLemmas.{member_below}
 pub use Rattle.ics_fields.proofs.SetLemmas.{none_wide_has as none_has}
 use Rattle.ics_rule.specs.declared.recurrence_period.RecurrencePeriod.{RecurrencePeriod}
 use Rattle.ics_rule.specs.RecurrencePeriods.{has_minute, has_time, has_day}
-use Rattle.ics_fields.specs.Sets.{contains, contains_wide, only, IsLeastFrom}
+use Rattle.ics_fields.specs.Sets.{contains, only, IsLeastFrom}
 use Rattle.ics_rule.proofs.Tests.{keep_true, self_test}
 
 three : (a b : ℕ) → a ≤ b → (a ≡ b) ⊎ (a + 1 ≤ b)
@@ -84,6 +84,15 @@ pub second_below : (hours minutes seconds t : ℕ) → hours < 2 ^ 24 → has_ti
 second_below hours minutes seconds t h e = let l =
     minute_below hours minutes (t / 60) h (and_parts (has_minute hours minutes (t / 60)) (contains seconds (t % 60)) e).0 in omega (arith, l)
 
+-- a time of day by its readings
+pub time_at : (hours minutes seconds n : ℕ) → has_time hours minutes seconds (n % 86_400)
+    ≡ ((contains hours (n / 3_600 % 24) && contains minutes (n / 60 % 60)) && contains seconds (n % 60))
+time_at hours minutes seconds n =
+    let hour : n % 86_400 / 60 / 60 ≡ n / 3_600 % 24 = omega arith in
+    let minute : n % 86_400 / 60 % 60 ≡ n / 60 % 60 = omega arith in
+    let second : n % 86_400 % 60 ≡ n % 60 = omega arith in
+    rw (hour, minute, second) refl
+
 -- one month more
 pub months_more : (y n : ℕ) → days_of_months (pos y) n + days_in_month (pos y) (n + 1) ≡ days_of_months (pos y) (n + 1)
 months_more y n = let more = days_of_months_more (pos y) (n + 1) (omega arith) in let back : n + 1 - 1 ≡ n = omega arith in let more' = rw back at more in
@@ -91,7 +100,7 @@ months_more y n = let more = days_of_months_more (pos y) (n + 1) (omega arith) i
 
 -- a product has no day before its first
 pub day_before : (p : RecurrencePeriod) (m : ℕ) → m < p.first_day → has_day p m ≡ false
-day_before p m h = let none : nat_le p.first_day m ≡ false = grind (arith, nat_tests) in ap (λ x. x && contains_wide p.days (m - p.first_day)) none
+day_before p m h = grind (arith, nat_tests)
 
 pub minute_true : (hours minutes m : ℕ) {a b : Bool} → m ≤ 1440 → a ≡ (nat_lt (m / 60) 64 && contains hours (m / 60)) →
     b ≡ (nat_lt (m % 60) 64 && contains minutes (m % 60)) → has_minute hours minutes m ≡ (a && b)
