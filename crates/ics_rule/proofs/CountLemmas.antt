@@ -1,6 +1,6 @@
 -- What a rule chooses is counted period by period.
 use Rattle.std.proofs.Common.{◌≡◌, ◌≢◌, ℕ, suc, ◌+◌, ◌-◌, ◌<◌, ◌≤◌, inl, inr, Bool, true, false, ◌&&◌, refl, sym, ap, ◌∙◌, arith}
-use Rattle.std.proofs.lemmas.Bool.{cases_lt, ne_eqb, false_from_ne_true}
+use Rattle.std.proofs.lemmas.Bool.{cases_lt, ne_eqb}
 use Rattle.std.proofs.lemmas.Bool.Decides.{nat_tests}
 use Rattle.jiff_core.specs.Weekday.{monday_zero}
 use Rattle.ics_fields.specs.Ordinals.{lists_none_wide}
@@ -26,11 +26,8 @@ step_low q start number step = grind (arith, nat_tests, period_mono, stepped_par
 
 -- before the start's period nothing is chosen
 pub none_before_first : (q : EffectiveRule) (start : ℕ) → count (first_local q.frequency (monday_zero q.week_start) (period_in q start)) (is_chosen q start) ≡ 0
-none_before_first q start = count-none (first_local q.frequency (monday_zero q.week_start) (period_in q start)) (is_chosen q start) (λ m l. no_step q start m
-    (false_from_ne_true (is_stepped (period_in q start) q.interval (period_in q m)) (λ yes.
-    let parts = stepped_parts (period_in q start) q.interval (period_in q m) yes in
-    let late = begun q.frequency (monday_zero q.week_start) (period_in q start) m parts.0 in
-    omega (arith, late, l))))
+none_before_first q start = count-none (first_local q.frequency (monday_zero q.week_start) (period_in q start)) (is_chosen q start)
+    (λ m l. grind (arith, nat_tests, begun, no_step, stepped_parts))
 
 -- a later period begins later
 pub first_mono : (q : EffectiveRule) (a b : ℕ) → period_in q 0 ≤ b → a ≤ b →

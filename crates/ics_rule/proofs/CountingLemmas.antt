@@ -1,6 +1,6 @@
 -- How far a walk under COUNT has come.
-use Rattle.std.proofs.Common.{◌≡◌, ℕ, ◌+◌, ◌-◌, ◌*◌, ◌%◌, ◌<◌, ◌≤◌, inl, inr, Bool, true, false, Option, Some, None, MatchOption}
-use Rattle.std.proofs.Common.{sym, subst, ap, ◌∙◌, arith}
+use Rattle.std.proofs.Common.{◌≡◌, ℕ, ◌+◌, ◌-◌, ◌*◌, ◌%◌, ◌<◌, ◌≤◌, inl, inr, Bool, true, false, Some, None, MatchOption}
+use Rattle.std.proofs.Common.{subst, ap, ◌∙◌, arith}
 use Rattle.std.proofs.lemmas.Bool.{and_from, and_right, cases_lt}
 use Rattle.std.proofs.lemmas.Nat.{mod-mul-add}
 use Rattle.jiff_core.specs.Weekday.{monday_zero}
@@ -12,14 +12,14 @@ use Rattle.ics_rule.specs.declared.cursor.Cursor.{Cursor}
 use Rattle.ics_rule.specs.Candidates.{is_stepped, period_in}
 use Rattle.ics_rule.specs.Kept.{count, is_chosen}
 use Rattle.ics_rule.specs.RecurrencePeriods.{is_taken}
-use Rattle.ics_rule.specs.Cursors.{HeldBy, CountedBy, IsCounted}
+use Rattle.ics_rule.specs.Cursors.{CountedBy}
 use Rattle.ics_rule.specs.Searches.{is_chosen_within, is_few, is_wanted, NoneWanted, IsWalked, LooksAt, IsTurnOf, IsNextOpen}
 use Rattle.ics_rule.specs.Searches.{AllCounted, IsTurned}
 use Rattle.ics_rule.specs.Rounds.{IsPassedTo}
 use Rattle.ics_rule.proofs.PeriodLemmas.{begun, period_mono}
 use Rattle.ics_rule.proofs.StepLemmas.{stepped_parts, stepped_shown}
 use Rattle.ics_rule.proofs.ChosenLemmas.{not_let_in, taken_within}
-use Rattle.ics_rule.proofs.CursorLemmas.{IsHeldTo, IsWalk, walk_until, walk_finds, walk_found, walk_stopped, walk_goes_on, next_same, within_facts}
+use Rattle.ics_rule.proofs.CursorLemmas.{IsWalk, walk_until, walk_finds, walk_found, walk_stopped, walk_goes_on, next_same, within_facts}
 use Rattle.ics_rule.proofs.CountLemmas.{chosen_before, not_few, are_few}
 
 -- a walk under COUNT: the turn is that of its period
@@ -33,38 +33,27 @@ step_first f i some = stepped_shown f i f (omega arith) (let none : f - f ≡ 0 
 pub counting_begins : {q : EffectiveRule} {start c : ℕ} {before cursor : Cursor} {first number stop : ℕ} → IsPassedTo q start c before cursor →
     first ≡ period_in q start → MatchOption cursor.held (number ≡ first) (λ p. number ≡ p.number)
     → 1 ≤ q.interval → start < before.place → before.place < stop → IsCounting q start c stop number before cursor
-counting_begins {q = q} {start = start} {c = c} {before = before} {cursor = cursor} {first = first} {number = number} {stop = stop} passed ef is some late
-    early =
-    let own = parts cursor.held (subst (HeldBy q cursor.held) passed.moved.place passed.own.held) passed.own.counted is in
-    let m = passed.moved in record {
+counting_begins {q = q} {start = start} {before = before} {number = number} {stop = stop} passed ef is some late early =
+    let own = passed.own in
+    let m = passed.moved in
+    let place = m.place in
+    let from = period_mono q.frequency (monday_zero q.week_start) start before.place (omega (arith, late)) in
+    let to = period_mono q.frequency (monday_zero q.week_start) before.place stop (omega (arith, early)) in
+    let step : is_stepped (period_in q start) q.interval number ≡ true = grind (arith, step_first) in
+    let top : number ≤ period_in q before.place = grind arith in record {
       walk = record {
         some = some;
         late = omega (arith, late);
         early = early;
-        step = own.0;
-        low = (stepped_parts (period_in q start) q.interval number own.0).0;
-        none = λ n l u. absurd (let up = period_mono q.frequency (monday_zero q.week_start) before.place n l in omega (arith, up, u, own.1.0));
-        held = own.1.1.0;
+        step = step;
+        low = (stepped_parts (period_in q start) q.interval number step).0;
+        none = λ n l u. absurd (let up = period_mono q.frequency (monday_zero q.week_start) before.place n l in omega (arith, up, u, top));
+        held = grind arith;
         counted = passed.own.counted;
         moved = record { place = m.place; looks = m.looks; begun = m.begun; steps = m.steps; looked = λ a b s few. m.looked a b (omega (arith, early, s)) few };
       };
-      turn = own.1.1.1;
+      turn = grind arith;
     }
-  where
-    parts : (o : Option RecurrencePeriod) → HeldBy q o before.place → MatchOption o (Unit {0}) (IsCounted q start c cursor.counted cursor.limit)
-        → MatchOption o (number ≡ first) (λ p. number ≡ p.number) → (is_stepped (period_in q start) q.interval number ≡ true)
-        × ((number ≤ period_in q before.place) × (IsHeldTo q number stop o × IsTurnOf q start c number (record cursor { held = o })))
-    parts None held counted is =
-        let here = is ∙ ef in
-        let up = period_mono q.frequency (monday_zero q.week_start) start before.place (omega (arith, late)) in (
-          ap (is_stepped (period_in q start) q.interval) here ∙ step_first (period_in q start) q.interval some,
-          (omega (arith, here, up), (tt, here)),
-        )
-    parts (Some p) held counted is =
-        let up = period_mono q.frequency (monday_zero q.week_start) before.place stop (omega (arith, early)) in (
-          ap (is_stepped (period_in q start) q.interval) is ∙ counted.step,
-          (omega (arith, held.1, is), ((held.0, (omega (arith, is), omega (arith, held.1, up))), (held.0, (counted, inl (sym is))))),
-        )
 
 module _ {q : EffectiveRule} {start c stop number : ℕ} {before now : Cursor} (counting : IsCounting q start c stop number before now) where
   abbrev walk : IsWalk q start (Some c) stop number before now

@@ -1,7 +1,7 @@
 -- What a cursor looks at.
-use Rattle.std.proofs.Common.{◌≡◌, ℕ, zero, suc, ◌+◌, ◌-◌, ◌<◌, ◌≤◌, inl, inr, Bool, true, false, ◌==◌, nat_le, nat_lt, ◌&&◌, Option, Some, None, MatchOption}
+use Rattle.std.proofs.Common.{◌≡◌, ℕ, zero, suc, ◌+◌, ◌-◌, ◌<◌, ◌≤◌, inl, inr, Bool, true, false, ◌==◌, nat_le, ◌&&◌, Option, Some, None, MatchOption}
 use Rattle.std.proofs.Common.{cond, max, refl, sym, subst, ap, ◌∙◌, arith}
-use Rattle.std.proofs.lemmas.Bool.{and_from, and_parts, cases_lt, eq-eqb, eqb-true, leb-true}
+use Rattle.std.proofs.lemmas.Bool.{and_parts, cases_lt, eq-eqb, eqb-true, leb-true}
 use Rattle.std.proofs.lemmas.Bool.Decides.{nat_tests}
 use Rattle.jiff_core.specs.Weekday.{monday_zero}
 use Rattle.ics_fields.specs.Sets.{IsLeastFrom, IsNextIn}
@@ -33,13 +33,8 @@ pub record IsWithin (a b place stop : ℕ) : Type 0 where
 module _ (q : EffectiveRule) (start a b : ℕ) where
   met_by : (p n : ℕ) → a ≤ n → n < b → period_in q n ≡ p → is_stepped (period_in q start) q.interval p ≡ true →
       is_met q start a b p ≡ true
-  met_by p n l u e step = and_from _ _ step (positive _ (count_some b n (λ m. nat_le a m && period_in q m == p) u (both a n (period_in q n) p l e)))
-    where
-      both : (x n y z : ℕ) → x ≤ n → y ≡ z → (nat_le x n && (y == z)) ≡ true
-      both x n y z h e = grind (arith, nat_tests)
-
-      positive : (n : ℕ) → 0 < n → nat_lt 0 n ≡ true
-      positive n h = grind (arith, nat_tests)
+  met_by p n l u e step =
+      let some = count_some b n (λ m. nat_le a m && period_in q m == p) u (grind (arith, nat_tests)) in grind (arith, nat_tests)
 
   -- so is one from that of a place to that of a bound
   pub meets : {place stop : ℕ} → IsWithin a b place stop → (p : ℕ)
@@ -75,8 +70,7 @@ pub looks_once : {number : ℕ} (counted : ℕ) (before : Cursor) {now : Cursor}
 looks_once counted before p h e same = grind (arith, nat_tests, begun, count_one_more)
 
 pub never_fewer : (before now : Cursor) → LooksOrStays before now → before.steps ≤ now.steps
-never_fewer before now (inl same) = omega (arith, same.1)
-never_fewer before now (inr more) = omega (arith, more)
+never_fewer before now looks = grind arith
 
 then_looks : (a b c : Cursor) → LooksOrStays a b → LooksOrStays b c → LooksOrStays a c
 then_looks a b c h l = grind (arith, nat_tests)
@@ -104,13 +98,11 @@ moved_on {q = q} {start = start} {before = before} {now = now} {after = after} m
 
 -- what is held stays so at a later place
 pub held_mono : (q : EffectiveRule) (held : Option RecurrencePeriod) (n m : ℕ) → HeldBy q held n → n ≤ m → HeldBy q held m
-held_mono q None n m h l = tt
-held_mono q (Some p) n m h l = (h.0, (let up = period_mono q.frequency (monday_zero q.week_start) n m l in omega (arith, h.1, up)))
+held_mono q held n m h l = let up = period_mono q.frequency (monday_zero q.week_start) n m l in grind arith
 
 -- a later place with the same period
 counted_at : (q : EffectiveRule) (start : ℕ) (o : Option ℕ) (c : Cursor) (place : ℕ) → CountedBy q start o c → CountedBy q start o (record c { place = place })
-counted_at q start None c place h = tt
-counted_at q start (Some k) c place h = h
+counted_at q start o c place h = grind arith
 
 pub own_moved : {q : EffectiveRule} {start : ℕ} {o : Option ℕ} {stop : ℕ} {before now : Cursor} (place : ℕ) → HasMoved q start o stop before now →
     HeldBy q now.held place → CountedBy q start o now → place < calendar_end → IsCursorIn q start o (record now { place = place })
@@ -137,8 +129,7 @@ counts_look own walked later = grind (arith, nat_tests)
 
 -- places only rise
 looks_mono : (o : Option ℕ) (start a b : ℕ) → a ≤ b → looks_from o start a ≤ looks_from o start b
-looks_mono None start a b h = h
-looks_mono (Some c) start a b h = omega arith
+looks_mono o start a b h = grind arith
 
 pub looked_walked : {q : EffectiveRule} {start : ℕ} {o : Option ℕ} {stop : ℕ} {found : Option ℕ} {before now : Cursor} {a b : ℕ} (place : ℕ) →
     IsWalked q start o stop found before now → before.place ≤ place → stop ≤ b
@@ -182,22 +173,19 @@ looked_found {q = q} {start = start} {o = o} {stop = stop} {n = n} {before = bef
       (λ p l met. met_later q start a b (max b stop) p (omega arith) met) in
       let most = walked.moved.looked a (max b stop) (omega arith) (record { low = few.low; few = omega (arith, few.few, wide) }) in
       let near = count_within (fresh now.held) (is_met q start a (max b stop)) (is_met q start a b)
-      (λ p l met. met_soon q start a b (max b stop) p (begins o few.low) (omega (arith, soon)) (below now.held walked.found.0 p l) met) in
+      (λ p l met. met_soon q start a b (max b stop) p begins (omega (arith, soon)) (below now.held walked.found.0 p l) met) in
       omega (arith, most, near);
 }
   where
-    begins : (o : Option ℕ) → a ≤ looks_from o start before.place → a ≤ n
-    begins None from = omega (arith, from, low)
-    begins (Some c) from = omega (arith, from, after)
+    begins : a ≤ n
+    begins = let from = few.low in grind arith
 
     below : (held : Option RecurrencePeriod) → HeldBy q held n → (p : ℕ) → p < fresh held → p ≤ period_in q n
-    below None h p l = absurd (omega (arith, l))
-    below (Some k) h p l = omega (arith, h.1, l)
+    below held h p l = grind arith
 
 -- a cursor's steps are counted periods
 fresh_small : (q : EffectiveRule) (held : Option RecurrencePeriod) (n : ℕ) → HeldBy q held n → n < calendar_end → fresh held ≤ calendar_end
-fresh_small q None n h l = omega arith
-fresh_small q (Some p) n h l = let s = period_small q.frequency (monday_zero q.week_start) n l in omega (arith, h.1, s)
+fresh_small q held n h l = grind (arith, period_small)
 
 pub few_steps : (r : Recurrence) (c : Cursor) (a b : ℕ) → IsCursorOf r c → HasLooked r c a b → steps_of c ≤ period_count r a b
 unfolding period_count IsCursorOf HasLooked
@@ -255,16 +243,10 @@ walk_begins {q = q} {start = start} {stop = stop} {first = first} {number = numb
       step = next.passes;
       low = next.low;
       none = λ n l u. no_step q start n (next.least (period_in q n) (period_mono q.frequency (monday_zero q.week_start) c.place n l) u);
-      held = held_in c.held own.held;
+      held = (let held = own.held in let up = period_mono q.frequency (monday_zero q.week_start) c.place stop (omega (arith, h)) in grind arith);
       counted = tt;
       moved = moved_none stop own;
     }
-  where
-    held_in : (o : Option RecurrencePeriod) → HeldBy q o c.place → IsHeldTo q number stop o
-    held_in None g = tt
-    held_in (Some p) g =
-        let up = period_mono q.frequency (monday_zero q.week_start) c.place stop (omega (arith, h)) in
-        (g.0, (omega (arith, g.1, is.low, eo), omega (arith, g.1, up)))
 
 module _ {q : EffectiveRule} {start : ℕ} {o : Option ℕ} {stop number : ℕ} {before now : Cursor} (walk : IsWalk q start o stop number before now) where
   -- past the bound's period nothing is left
@@ -342,10 +324,8 @@ walk_reach q number stop h = let b = begun q.frequency (monday_zero q.week_start
 -- a cursor that has looked at nothing
 pub cursor_begins : (q : EffectiveRule) (start : ℕ) (o : Option ℕ) (place : ℕ) → place < calendar_end →
     IsCursorIn q start o (record { place = place; steps = 0; held = None; counted = 0; limit = 0 })
-cursor_begins q start None place h = record { inside = h; held = tt; begun = tt; steps = omega arith; counted = tt }
-cursor_begins q start (Some c) place h = record { inside = h; held = tt; begun = tt; steps = omega arith; counted = tt }
+cursor_begins q start o place h = grind arith
 
 pub looked_none : (q : EffectiveRule) (start : ℕ) (o : Option ℕ) {place from : ℕ} (b : ℕ) → place ≡ from →
     HasLookedIn q start o (record { place = place; steps = 0; held = None; counted = 0; limit = 0 }) (looks_from o start from) b
-looked_none q start None b e = record { low = omega (arith, e); few = omega arith }
-looked_none q start (Some c) b e = record { low = omega arith; few = omega arith }
+looked_none q start o b e = grind arith

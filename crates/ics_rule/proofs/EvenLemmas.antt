@@ -40,6 +40,25 @@ pub record IsEven (q : EffectiveRule) (start periods : ℕ) : Type 0 where
   pub step : (first p : ℕ) → first ≤ p → is_stepped first q.interval (p + periods) ≡ is_stepped first q.interval p
   pub size : (x : ℕ) → 2 ≤ x → IsStep q start x → IsEarly q (x + periods) → count longest (let_at q (x + periods)) ≡ count longest (let_at q x)
 
+-- a function that grows at each number from one on as it does so many later grows as much from round to round
+module _ (f : ℕ → ℕ) (periods begin top : ℕ)
+    (on : (x : ℕ) → begin ≤ x → x + periods ≤ top → f (suc x) + f (x + periods) ≡ f (suc (x + periods)) + f x) where
+  apart : (j : ℕ) → begin + j + periods ≤ suc top → f (begin + j) + f (begin + periods) ≡ f (begin + j + periods) + f begin
+  apart zero h = let same : begin + 0 ≡ begin = omega arith in rw same (omega arith)
+  apart (suc j) h =
+      let one : begin + suc j ≡ suc (begin + j) = omega arith in
+      let other : suc (begin + j) + periods ≡ suc (begin + j + periods) = omega arith in
+      rw (one, other) (omega (arith, on (begin + j) (omega arith) (omega (arith, h)), apart j (omega (arith, h))))
+
+  all_rounds : {before one : ℕ} → before ≡ f begin → one ≡ f (begin + periods) → before ≤ one
+      → (r : ℕ) → begin + r * periods ≤ suc top → before + r * (one - before) ≡ f (begin + r * periods)
+  all_rounds eb eo grows zero h = let same : begin + 0 * periods ≡ begin = omega arith in rw same (omega (arith, eb))
+  all_rounds {before = before} {one = one} eb eo grows (suc r) h =
+      let next : begin + suc r * periods ≡ begin + r * periods + periods = omega arith in
+      let more : suc r * (one - before) ≡ r * (one - before) + (one - before) = omega arith in
+      let rest = all_rounds eb eo grows r (omega (arith, h, next)) in
+      rw next (omega (arith, apart (r * periods) (omega (arith, h, next)), rest, more, eb, eo, grows))
+
 module _ (q : EffectiveRule) (start : ℕ) where
   abbrev first : ℕ → ℕ
   first p = first_local q.frequency (monday_zero q.week_start) p
@@ -83,35 +102,10 @@ module _ (q : EffectiveRule) (start : ℕ) where
             let other = none_adds {x = x + periods} (omega (arith, low)) (even.step (period_in q start) x low ∙ out) in
             omega (arith, one, other)
 
-    -- and so do those from one to another
-    apart : {top : ℕ} → IsEarly q top → (j p : ℕ) → 2 ≤ p → period_in q start ≤ p → p + j + periods ≤ suc top →
-        chosen_to q start (p + j) + chosen_to q start (p + periods) ≡ chosen_to q start (p + j + periods) + chosen_to q start p
-    apart early zero p some low h =
-        let one = ap (chosen_to q start) (let same : p + 0 ≡ p = omega arith in same) in
-        let other = ap (chosen_to q start) (let same : p + 0 + periods ≡ p + periods = omega arith in same) in
-        omega (arith, one, other)
-    apart {top = top} early (suc j) p some low h =
-        let order = up {a = p + j + periods} {b = top} (omega (arith, low, h)) (omega (arith, h)) in
-        let last = period_even (p + j) (omega (arith, some)) (omega (arith, low)) (omega (arith, order, early)) in
-        let before = apart {top = top} early j p some low (omega (arith, h)) in
-        let one = ap (chosen_to q start) (let same : p + suc j ≡ suc (p + j) = omega arith in same) in
-        let other = ap (chosen_to q start) (let same : p + suc j + periods ≡ suc (p + j + periods) = omega arith in same) in
-        omega (arith, last, before, one, other)
-
-    -- so rounds add as much as the first
-    all_rounds : {begin before one : ℕ} → 2 ≤ begin → period_in q start ≤ begin → before ≡ chosen_to q start begin
-        → one ≡ chosen_to q start (begin + periods) → before ≤ one
-        → (r : ℕ) → IsEarly q (begin + r * periods) → before + r * (one - before) ≡ chosen_to q start (begin + r * periods)
-    all_rounds {begin = begin} some low eb eo grows zero early =
-        let same = ap (chosen_to q start) (let same : begin + 0 * periods ≡ begin = omega arith in same) in omega (arith, same, eb)
-    all_rounds {begin = begin} {before = before} {one = one} some low eb eo grows (suc r) early =
-        let next : begin + suc r * periods ≡ begin + r * periods + periods = omega arith in
-        let order = up {a = begin + r * periods} {b = begin + suc r * periods} (omega (arith, low)) (omega (arith, next)) in
-        let last = apart {top = begin + suc r * periods} early (r * periods) begin some low (omega (arith, next)) in
-        let rest = all_rounds {begin = begin} some low eb eo grows r (omega (arith, order, early)) in
-        let end = ap (chosen_to q start) next in
-        let more : suc r * (one - before) ≡ r * (one - before) + (one - before) = omega arith in
-        omega (arith, last, rest, end, more, eb, eo, grows)
+    steady : {begin top : ℕ} → 2 ≤ begin → period_in q start ≤ begin → IsEarly q top → (x : ℕ) → begin ≤ x → x + periods ≤ top
+        → chosen_to q start (suc x) + chosen_to q start (x + periods) ≡ chosen_to q start (suc (x + periods)) + chosen_to q start x
+    steady {top = top} some low early x l h = let order = up {a = x + periods} {b = top} (omega (arith, low, l, h)) h in
+        period_even x (omega (arith, some, l)) (omega (arith, low, l)) (omega (arith, order, early))
 
     pub even_is : IsEvenRound q start periods
     even_is = record {
@@ -121,8 +115,11 @@ module _ (q : EffectiveRule) (start : ℕ) where
           let low = (stepped_parts (period_in q start) q.interval begin are.step).0 in
           let order = up {a = begin} {b = begin + periods} (omega (arith, low)) (omega arith) in
           let more = count_mono (first begin) (first (begin + periods)) (is_chosen q start) order in
-          let grows : before ≤ one = omega (arith, are.before_first, are.before_second, more) in
-          (grows, all_rounds {begin = begin} are.low low are.before_first are.before_second grows rounds are.early);
+          let grows : before ≤ one = omega (arith, are.before_first, are.before_second, more) in (
+            grows,
+            all_rounds (chosen_to q start) periods begin (begin + rounds * periods) (steady are.low low are.early)
+                are.before_first are.before_second grows rounds (omega arith),
+          );
     }
 
     -- where nothing is chosen in a round, nothing is later
@@ -138,7 +135,7 @@ module _ (q : EffectiveRule) (start : ℕ) where
           let flat = count_flat (first begin) (first (begin + periods)) (is_chosen q start)
           (up {a = begin} {b = begin + periods} (omega (arith, low)) (omega arith)) (λ m l u. none m
           (begins q.frequency (monday_zero q.week_start) begin m l) (before_first q.frequency (monday_zero q.week_start) (begin + periods) m u)) in
-          let same = apart {top = y} (omega (arith, own, u)) j begin some low (omega (arith, far)) in
+          let same = apart (chosen_to q start) periods begin y (steady some low (omega (arith, own, u))) j (omega (arith, far)) in
           let end = ap (chosen_to q start) (let all : begin + j + periods ≡ suc y = omega (arith, far) in all) in
           let order = up {a = begin + j} {b = y} (omega (arith, low, far)) (omega (arith, far, even.some)) in
           let less = count_mono (first (begin + j)) n (is_chosen q start) (omega (arith, order, own)) in

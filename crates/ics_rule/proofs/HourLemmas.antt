@@ -1,5 +1,5 @@
 -- The locals of an hour that a rule keeps.
-use Rattle.std.proofs.Common.{◌≡◌, ℕ, suc, ◌+◌, ◌*◌, ◌<◌, ◌≤◌, inl, inr, ◌/◌, ◌%◌, true, false, ◌&&◌, nat_lt, Some, None, Option}
+use Rattle.std.proofs.Common.{◌≡◌, ℕ, ◌+◌, ◌*◌, ◌<◌, ◌≤◌, inl, inr, ◌/◌, ◌%◌, true, false, ◌&&◌, Some, None, Option}
 use Rattle.std.proofs.Common.{sym, subst, ap, ◌∙◌, arith}
 use Rattle.std.proofs.lemmas.Bool.{and_from, cases_lt, false_from_ne_true, or_right}
 use Rattle.std.proofs.lemmas.Bool.Decides.{nat_tests}
@@ -13,7 +13,7 @@ use Rattle.ics_rule.specs.Recurrence.{Recurrence}
 use Rattle.ics_rule.specs.PeriodNumbers.{period, day_of, hour_of, minute_of, second_of, rules_end}
 use Rattle.ics_fields.specs.Locals.{number}
 use Rattle.ics_rule.specs.EffectiveRules.{effective, skips_hours}
-use Rattle.ics_rule.specs.Candidates.{lets, in_step, lets_date, lets_clock, is_candidate_in}
+use Rattle.ics_rule.specs.Candidates.{lets, lets_clock}
 use Rattle.ics_rule.specs.Kept.{count, is_chosen, is_kept, is_by_until}
 use Rattle.ics_rule.specs.Searches.{is_few, is_wanted}
 use Rattle.ics_rule.specs.declared.hour.HourTimes.{HourTimes}
@@ -22,9 +22,6 @@ use Rattle.ics_rule.specs.Next.{NoneKept}
 use Rattle.ics_rule.proofs.Counts.{count_mono}
 use Rattle.ics_rule.proofs.KeptLemmas.{and_true}
 use Rattle.ics_rule.proofs.NextLemmas.{kept_later}
-
-less_up : (a b c : ℕ) → a ≤ b → nat_lt b c ≡ true → nat_lt a c ≡ true
-less_up a b c l h = grind (arith, nat_tests)
 
 -- the locals of a day lie in one period, but under a rule that repeats more often than daily
 same_period : (f : Frequency) (w n m : ℕ) → skips_hours f ≡ true → day_of n ≡ day_of m → period f w n ≡ period f w m
@@ -36,17 +33,15 @@ until_up k u n m h l = grind (arith, nat_tests)
 
 module _ (q : EffectiveRule) (start : ℕ) where
   wanted_chosen : (o : Option ℕ) (n : ℕ) → is_wanted q start o n ≡ true → is_chosen q start n ≡ true
-  wanted_chosen None n h = h
-  wanted_chosen (Some c) n h = (and_true h).0
+  wanted_chosen o n h = grind (arith, and_true)
+
+  few_up : (k n m : ℕ) → n ≤ m → is_few q start k m ≡ true → is_few q start k n ≡ true
+  few_up k n m l h = grind (arith, nat_tests, count_mono)
 
   -- COUNT lets in what is earlier than a local that it lets in
   wanted_up : (o : Option ℕ) (n m : ℕ) → n ≤ m → is_wanted q start o m ≡ true → is_chosen q start n ≡ true → is_wanted q start o n ≡ true
   wanted_up None n m l h c = c
-  wanted_up (Some k) n m l h c =
-      let more = count_mono n m (is_chosen q start) l in
-      and_from (is_chosen q start n) (is_few q start k n) c
-      (less_up (count n (is_chosen q start) + 1) (count m (is_chosen q start) + 1) (k + count (suc start) (is_chosen q start))
-      (omega (arith, more)) (and_true h).1)
+  wanted_up (Some k) n m l h c = and_from (is_chosen q start n) (is_few q start k n) c (few_up k n m l (and_true h).1)
 
   -- on the day of one that is chosen, without BYSETPOS, each local that the parts of the clock let in is
   module _ (coarse : skips_hours q.frequency ≡ true) (free : lists_none_wide q.positions ≡ true) where
@@ -55,11 +50,7 @@ module _ (q : EffectiveRule) (start : ℕ) where
 
 -- the parts of the clock let a kept local in
 pub kept_clock : (r : Recurrence) (n : ℕ) → number r.start < n → n < rules_end → is_kept r n ≡ true → lets_clock (effective r) n ≡ true
-kept_clock r n after early kept =
-    let wanted = (and_true (sym (kept_later r n after early) ∙ kept)).0 in
-    let chosen = wanted_chosen (effective r) (number r.start) r.parts.count n wanted in
-    (and_true {a = in_step (effective r) (number r.start) n && lets_date (effective r) (day_of n)}
-    (and_true {a = is_candidate_in (effective r) (number r.start) n} chosen).0).1
+kept_clock r n after early kept = grind (arith, and_true, kept_later, wanted_chosen)
 
 -- a part that lists something lets in only what it lists
 listed : (s n : ℕ) → is_empty s ≡ false → lets s n ≡ true → contains s n ≡ true
@@ -111,11 +102,9 @@ module _ (r : Recurrence) (hour : ℕ) (bounds : KeepsBounds r (effective r) hou
   kept_product n at keeps = elim (cases_lt n kept) [
     | inl before ↦ absurd (let none = ends.next.least n (omega (arith, at)) before in cc)
     | inr from ↦ (
-        let clock = and_true {a = lets (effective r).hours (hour_of n) && lets (effective r).minutes (minute_of n)}
-        (kept_clock r n (omega (arith, ends.after, from)) (omega (arith, bounds.early, at)) keeps) in
-        and_from (contains (effective r).minutes (minute_of n)) (contains (effective r).seconds (second_of n))
-        (listed (effective r).minutes (minute_of n) ends.first_time.minute (and_true {a = lets (effective r).hours (hour_of n)} clock.0).1)
-        (listed (effective r).seconds (second_of n) ends.first_time.second clock.1))
+        let clock = kept_clock r n (omega (arith, ends.after, from)) (omega (arith, bounds.early, at)) keeps in
+        let times = ends.first_time in
+        grind (arith, listed))
   ]
 
   -- of the locals of the hour the rule keeps those that its parts list

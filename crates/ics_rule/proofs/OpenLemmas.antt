@@ -113,9 +113,7 @@ module _ (i : ℕ) (some : 1 ≤ i) (from j : ℕ) (less : j < i) where
 
   place_stepped : (e : ℕ) → from ≤ e → (e - from) % i ≡ j → is_stepped (from + j) i e ≡ true
   place_stepped e l h =
-      let whole = div-add-mod' (e - from) i in
-      stepped_shown (from + j) i e (omega (arith, whole, l, h))
-      (let back : e - (from + j) ≡ (e - from) / i * i + 0 = omega (arith, whole, l, h) in ap (λ x. x % i) back ∙ mod-mul-add ((e - from) / i) i 0 some)
+      let whole = div-add-mod' (e - from) i in stepped_shown (from + j) i e (omega (arith, whole, l, h)) (grind (arith, div-add-mod', mod-mul-add))
 
   -- one place more
   place_more : (e : ℕ) (b : Bool) → cond ((nat_le from e && nat_lt ((e - from) % i) (j + 1)) && b) 1 0

@@ -1,7 +1,8 @@
 -- What looks up to its place leave of a cursor under COUNT.
-use Rattle.std.proofs.Common.{◌≡◌, ℕ, ◌+◌, ◌-◌, ◌*◌, ◌/◌, ◌<◌, ◌≤◌, inl, inr, true, false, ◌&&◌, Option, Some, None, MatchOption, is_some, min, refl, sym}
+use Rattle.std.proofs.Common.{◌≡◌, ℕ, ◌+◌, ◌-◌, ◌*◌, ◌/◌, ◌<◌, ◌≤◌, inl, inr, true, false, Option, Some, None, MatchOption, is_some, min, refl, sym}
 use Rattle.std.proofs.Common.{subst, ap, ◌∙◌, arith}
-use Rattle.std.proofs.lemmas.Bool.{cases_lt, ne_eqb}
+use Rattle.std.proofs.lemmas.Bool.{cases_lt}
+use Rattle.std.proofs.lemmas.Bool.Decides.{nat_tests}
 use Rattle.jiff_core.specs.Weekday.{monday_zero}
 use Rattle.ics_rule.specs.declared.effective_rule.EffectiveRule.{EffectiveRule}
 use Rattle.ics_rule.specs.declared.recurrence_period.RecurrencePeriod.{RecurrencePeriod}
@@ -9,7 +10,7 @@ use Rattle.ics_rule.specs.declared.cursor.Cursor.{Cursor}
 use Rattle.ics_rule.specs.Candidates.{is_stepped, period_in}
 use Rattle.ics_rule.specs.Kept.{count, is_chosen}
 use Rattle.ics_rule.specs.RecurrencePeriods.{first_local, IsPeriodOf}
-use Rattle.ics_rule.specs.Cursors.{fresh, HeldBy, IsCursorIn}
+use Rattle.ics_rule.specs.Cursors.{fresh, IsCursorIn}
 use Rattle.ics_rule.specs.Searches.{is_chosen_within, IsNextWanted, IsNextOpen, after_look}
 use Rattle.ics_rule.specs.Rounds.{IsEvenRound, HasRound, IsPassedTo, CountsFrom, HasCountedTo}
 use Rattle.std.proofs.lemmas.Nat.{div-add-mod'}
@@ -20,7 +21,7 @@ use Rattle.ics_rule.proofs.CountLemmas.{IsCountedStep, none_before_first}
 use Rattle.ics_rule.proofs.RoundLemmas.{repeats_often}
 use Rattle.ics_rule.proofs.EvenLemmas.{even_round, none_after}
 use Rattle.ics_rule.proofs.StepLemmas.{stepped_parts, none_between}
-use Rattle.ics_rule.proofs.CursorLemmas.{IsHeldTo, IsWalk, walk_ends, meets, moved_none, moved_on, own_moved, looks_once}
+use Rattle.ics_rule.proofs.CursorLemmas.{IsWalk, walk_ends, meets, moved_none, moved_on, own_moved, looks_once}
 use Rattle.ics_rule.proofs.CountingLemmas.{IsCounting, step_first}
 use Rattle.ics_rule.specs.PeriodNumbers.{rules_end}
 use Rattle.ics_fields.specs.Locals.{calendar_end}
@@ -36,20 +37,15 @@ passed_none {cursor = cursor} own = record { own = own; moved = moved_none (curs
 pub counting_passed : {q : EffectiveRule} {start c number : ℕ} {before now : Cursor} → IsCounting q start c (before.place + 1) number before now →
     number ≤ period_in q before.place → before.place < calendar_end → IsPassedTo q start c before now
 counting_passed {q = q} {number = number} {before = before} {now = now} counting h inside = record {
-  own = own_moved now.place counting.walk.moved (here now.held counting.walk.held) counting.walk.counted
-      (omega (arith, counting.walk.moved.place, inside));
+  own = own_moved now.place counting.walk.moved (let held = counting.walk.held in let place = counting.walk.moved.place in grind arith)
+      counting.walk.counted (omega (arith, counting.walk.moved.place, inside));
   moved = counting.walk.moved;
 }
-  where
-    here : (o : Option RecurrencePeriod) → IsHeldTo q number (before.place + 1) o → HeldBy q o now.place
-    here None t = tt
-    here (Some p) t = (t.0, (let place = ap (period_in q) counting.walk.moved.place in omega (arith, t.1.0, h, place)))
 
 -- a period before that of the place has nothing from the place on
 pub none_within : (q : EffectiveRule) (start : ℕ) {number : ℕ} (place : ℕ) → number < period_in q place → (m : ℕ) → place ≤ m →
     is_chosen_within q start number m ≡ false
-none_within q start {number = number} place h m l = ap (λ x. x && is_chosen q start m) (ne_eqb (period_in q m) number (λ same.
-    let up = period_mono q.frequency (monday_zero q.week_start) place m l in omega (arith, same, up, h)))
+none_within q start place h m l = let up = period_mono q.frequency (monday_zero q.week_start) place m l in grind (arith, nat_tests)
 
 -- a step that is not passed
 pub not_past : {q : EffectiveRule} {first number next end : ℕ} → 1 ≤ q.interval → is_stepped first q.interval number ≡ true →
@@ -57,14 +53,10 @@ pub not_past : {q : EffectiveRule} {first number next end : ℕ} → 1 ≤ q.int
     → IsNextOpen q first (number + q.interval) next → IsNextOpen q first (number + q.interval) (min end next)
 not_past some here there h is_next = grind (arith, cases_lt, here, none_between)
 
--- an answer that is there, and one that is not
+-- an answer that is there
 pub there : (A : Type 0) (P : RecurrencePeriod → Type 0) (o : Option RecurrencePeriod) → MatchOption o A P → is_some o ≡ true → (p : RecurrencePeriod) × P p
 there A P None h some = absurd (cc)
 there A P (Some p) h some = (p, h)
-
-pub not_there : (A : Type 0) (P : RecurrencePeriod → Type 0) (o : Option RecurrencePeriod) → MatchOption o A P → is_some o ≡ false → A
-not_there A P None h none = h
-not_there A P (Some p) h none = absurd (cc)
 
 -- and looks on, at a later step
 pub passed_on : {q : EffectiveRule} {start c number target total : ℕ} {before after now : Cursor} {p : RecurrencePeriod} →
@@ -95,12 +87,7 @@ counting_at {q = q} {start = start} {c = c} {stop = stop} {before = before} {now
 -- steps are few
 pub counting_room : {q : EffectiveRule} {start c stop number : ℕ} {before now : Cursor} → IsCounting q start c stop number before now →
     now.steps ≤ number + 1
-counting_room {q = q} {stop = stop} {number = number} {now = now} counting =
-    let low = below now.held counting.walk.held in omega (arith, counting.walk.moved.steps, low)
-  where
-    below : (o : Option RecurrencePeriod) → IsHeldTo q number stop o → fresh o ≤ number + 1
-    below None t = omega arith
-    below (Some p) t = omega (arith, t.1.0)
+counting_room counting = let held = counting.walk.held in let few = counting.walk.moved.steps in grind arith
 
 pub turned_room : {q : EffectiveRule} {start c number : ℕ} {before after : Cursor} → HasCountedTo q start c number before after →
     after.steps ≤ number + 1

@@ -87,8 +87,7 @@ month_size p =
     ]))
 
 month_length : (p : ℕ) → (month_start (suc p) < month_start (suc (suc p))) × (month_start (suc (suc p)) ≤ month_start (suc p) + 31)
-month_length p = let size = month_size p in let bounds = days_in_month_bounds (pos (p / 12)) (p % 12 + 1) in
-    (omega (arith, size, bounds.1), omega (arith, size, bounds.0))
+month_length p = grind (arith, days_in_month_bounds, month_size)
 
 -- a local is no earlier than the first of its period and of those before
 pub begun : (f : Frequency) (w p n : ℕ) → p ≤ period f w n → first_local f w p ≤ n

@@ -1,13 +1,12 @@
 use Rattle.std.proofs.lemmas.Grind.{common_steps}
-use Rattle.std.proofs.Common.{◌∙◌, ◌+◌, not, sym, subst, ap, arith}
+use Rattle.std.proofs.Common.{◌≡◌, ◌∙◌, ◌+◌, not, sym, subst, ap, arith}
 use Rattle.jiff_core.specs.Weekday.{monday_zero}
 use Rattle.ics_rule.specs.Candidates.{is_stepped, period_in}
 use Rattle.ics_rule.specs.Searches.{IsNextOpen, IsTurned}
-use Rattle.ics_rule.specs.Rounds.{IsPassedTo}
 use Rattle.ics_rule.proofs.PeriodLemmas.{begun}
 use Rattle.ics_rule.proofs.StepLemmas.{step_on}
 use Rattle.ics_rule.proofs.CountingLemmas.{counting_begins, counting_goes_on, counting_stopped}
-use Rattle.ics_rule.proofs.PassedLemmas.{top_of, passed_none, counting_passed, counting_room, counting_at, there, not_there, none_within, not_past}
+use Rattle.ics_rule.proofs.PassedLemmas.{top_of, passed_none, counting_passed, counting_room, counting_at, there, none_within, not_past}
 use Rattle.ics_rule.proofs.cursor.Cursor.turn_through.Goals as goal
 
 pub loop-number-init : goal.loop-number-init
@@ -59,17 +58,13 @@ turn_to-requires-2-clause-turn c =
 
 pub returns-then-is_none-clause-out : goal.returns-then-is_none-clause-out
 returns-then-is_none-clause-out c = λ out.
-    let same = not_there _ (IsTurned c.args.parts.now c.args.start c.args.count c.loop-number.number c.turn_to.new.self) c.turn_to.result
-    c.turn_to.ensures.turned (c.is_none.ensures ∙ ap not c.if-is_none.true) in
-    subst (IsPassedTo c.args.parts.now c.args.start c.args.count c.args.self.now) (sym same.1)
-    (counting_passed c.loop-number.invariant.counting (omega (arith, c.loop-number-test.true, c.requires.end)) c.requires.own.inside)
+    let same : c.turn_to.new.self ≡ c.loop-number.self = grind arith in
+    rw same (counting_passed c.loop-number.invariant.counting (omega (arith, c.loop-number-test.true, c.requires.end)) c.requires.own.inside)
 
 pub returns-clause-out : goal.returns-clause-out
 returns-clause-out c = λ out.
-    let same = not_there _ (IsTurned c.args.parts.now c.args.start c.args.count c.args.end c.turn_to-2.new.self) c.turn_to-2.result
-    c.turn_to-2.ensures.turned (sym c.is_some.ensures ∙ out) in
-    subst (IsPassedTo c.args.parts.now c.args.start c.args.count c.args.self.now) (sym same.1)
-    (counting_passed c.loop-number.invariant.counting (omega (arith, c.loop-number.invariant.high, c.requires.end)) c.requires.own.inside)
+    let same : c.turn_to-2.new.self ≡ c.loop-number.self = grind arith in
+    rw same (counting_passed c.loop-number.invariant.counting (omega (arith, c.loop-number.invariant.high, c.requires.end)) c.requires.own.inside)
 
 pub returns-clause-counted : goal.returns-clause-counted
 returns-clause-counted c = λ some.
