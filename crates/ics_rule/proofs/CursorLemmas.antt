@@ -53,13 +53,6 @@ module _ (q : EffectiveRule) (start a b : ℕ) where
 pub next_same : (f g : ℕ → Bool) (place : ℕ) (o : Option ℕ) → ((n : ℕ) → f n ≡ g n) → IsNextIn f place o → IsNextIn g place o
 next_same f g place o h l = grind (arith, nat_tests)
 
-pub fresh_some : (number : ℕ) (held : Option RecurrencePeriod) (p : RecurrencePeriod) → held ≡ Some p → p.number ≤ number → (p.number ≡ number → ⊥) →
-    fresh held ≤ number
-fresh_some number held p e h other = rw e (grind (arith, nat_tests))
-
-pub fresh_none : (number : ℕ) (held : Option RecurrencePeriod) → held ≡ None → fresh held ≤ number
-fresh_none number held e = subst (λ o. fresh o ≤ number) (sym e) (omega arith)
-
 -- no look, and one that no earlier look has reached
 pub looks_none : (number : ℕ) (c : Cursor) → LooksAt number c c
 looks_none number c = record { place = refl; looks = inl (refl, refl); begun = λ some. some; steps = λ met here few. few }

@@ -1,5 +1,5 @@
 -- What looks up to its place leave of a cursor under COUNT.
-use Rattle.std.proofs.Common.{◌≡◌, ℕ, ◌+◌, ◌-◌, ◌*◌, ◌/◌, ◌<◌, ◌≤◌, inl, inr, true, false, Option, Some, None, MatchOption, is_some, min, refl, sym}
+use Rattle.std.proofs.Common.{◌≡◌, ℕ, ◌+◌, ◌-◌, ◌*◌, ◌<◌, ◌≤◌, inl, inr, true, false, Option, Some, None, MatchOption, is_some, min, refl, sym}
 use Rattle.std.proofs.Common.{subst, ap, ◌∙◌, arith}
 use Rattle.std.proofs.lemmas.Bool.{cases_lt}
 use Rattle.std.proofs.lemmas.Bool.Decides.{nat_tests}
@@ -13,7 +13,6 @@ use Rattle.ics_rule.specs.RecurrencePeriods.{first_local, IsPeriodOf}
 use Rattle.ics_rule.specs.Cursors.{fresh, IsCursorIn}
 use Rattle.ics_rule.specs.Searches.{is_chosen_within, IsNextWanted, IsNextOpen, after_look}
 use Rattle.ics_rule.specs.Rounds.{IsEvenRound, HasRound, IsPassedTo, CountsFrom, HasCountedTo}
-use Rattle.std.proofs.lemmas.Nat.{div-add-mod'}
 use Rattle.std.proofs.Math.Nat.{mul-le-mul_right}
 use Rattle.ics_rule.proofs.PeriodLemmas.{begun, period_mono, before_next}
 use Rattle.ics_rule.proofs.Counts.{count_most}
@@ -102,11 +101,6 @@ pub counts_from : {q : EffectiveRule} {start c first begin before : ℕ} {cursor
     first ≡ period_in q start → CountsFrom first begin before cursor → IsRoundsBegin q start begin before
 counts_from some own ef is = grind (arith, none_before_first, step_first)
 
--- two rounds ahead
-pub round_small : (ahead round : ℕ) → 2 ≤ ahead / round → round + round ≤ ahead
-round_small ahead round h = let whole = div-add-mod' ahead round in let more = mul-le-mul_right {m = 2} {n = ahead / round} round h in
-    omega (arith, whole, more)
-
 -- where the first round ends, and the last
 pub first_step : {q : EffectiveRule} {start begin before round : ℕ} → IsEvenRound q start round → IsRoundsBegin q start begin before →
     is_stepped (period_in q start) q.interval (begin + round) ≡ true
@@ -156,12 +150,6 @@ total_small {q = q} {start = start} {target = target} is =
     let most = count_most (first_local q.frequency (monday_zero q.week_start) target) (is_chosen q start) in
     let low = counted_reach is in
     omega (arith, most, low, is.total)
-
-pub end_in : (own begin : ℕ) {ahead : ℕ} (round : ℕ) → ahead ≡ own - begin → 2 ≤ ahead → 2 ≤ ahead / round → begin + round ≤ own
-end_in own begin {ahead = ahead} round e some h = let small = round_small ahead round h in omega (arith, small, e, some)
-
-pub target_in : (own begin : ℕ) {ahead : ℕ} (round : ℕ) → ahead ≡ own - begin → 2 ≤ ahead → begin + ahead / round * round ≤ own
-target_in own begin {ahead = ahead} round e some = let whole = div-add-mod' ahead round in omega (arith, whole, e, some)
 
 -- a walk that finds nothing in a round finds nothing later
 pub walk_rounds_end : {q : EffectiveRule} {start stop number : ℕ} {before now : Cursor} {begin end : ℕ} → IsWalk q start None stop number before now →

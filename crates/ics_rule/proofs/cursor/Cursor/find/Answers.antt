@@ -1,10 +1,10 @@
-use Rattle.std.proofs.Common.{◌∙◌, ap}
+use Rattle.std.proofs.Common.{◌∙◌, ap, arith}
 use Rattle.ics_fields.specs.Ordinals.{lists_none_wide}
 use Rattle.ics_rule.specs.declared.cursor.Cursor.{Cursor}
 use Rattle.ics_rule.specs.RecurrencePeriods.{is_taken}
 use Rattle.ics_rule.specs.Searches.{is_chosen_within, after_look}
 use Rattle.ics_rule.proofs.ChosenLemmas.{taken_within}
-use Rattle.ics_rule.proofs.CursorLemmas.{next_same, looks_none, looks_once, fresh_some, fresh_none}
+use Rattle.ics_rule.proofs.CursorLemmas.{next_same, looks_none, looks_once}
 use Rattle.ics_rule.proofs.cursor.Cursor.find.Goals as goal
 use Rattle.ics_rule.proofs.cursor.Cursor.find.Goals.{in-Some+else-period-number, in_default}
 
@@ -27,11 +27,11 @@ returns-clause-looks c = elim c.match-self.branch [
   | in-Some+else-period-number w ↦
       let own = rw w.in-Some.is at c.requires.held in
       looks_once 0 c.args.self.now c.look_at.result
-      (fresh_some c.args.number c.args.self.now.held w.in-Some.period w.in-Some.is own.1 w.if-period-number.false)
+      (grind arith)
       (c.look_at.ensures.cursor ∙ ap (λ (s : Cursor). after_look s c.look_at.result 0) w.self-is) c.look_at.ensures.number
   | in_default w ↦
       looks_once 0 c.args.self.now c.look_at.result
-      (fresh_none c.args.number c.args.self.now.held w.in_default.is)
+      (grind arith)
       (c.look_at.ensures.cursor ∙ ap (λ (s : Cursor). after_look s c.look_at.result 0) w.self-is) c.look_at.ensures.number
 ]
 

@@ -1,6 +1,4 @@
-use Rattle.std.proofs.Common.{◌≡◌, ◌+◌, ◌*◌, ◌/◌, subst, arith}
-use Rattle.ics_rule.specs.Kept.{count}
-use Rattle.ics_rule.specs.OpenPeriods.{is_open_period}
+use Rattle.std.proofs.Common.{◌+◌, ◌*◌, ◌/◌, arith}
 use Rattle.ics_rule.proofs.CountLemmas.{IsCountedStep, step_low}
 use Rattle.ics_rule.proofs.EachLemmas.{open_end}
 use Rattle.ics_rule.proofs.PassedLemmas.{counts_from, counted_reach, turned_room, total_small, passed_on}
@@ -22,10 +20,7 @@ ends c =
       far = c.if-steps-lt-A_SHORT_WALK.false;
       inside = c.requires.own.inside;
       size = c.chosen_in_open.ensures;
-      total = subst (λ x. c.open_between-number.result + count c.counted_from-begin.result.0 (is_open_period c.args.parts.now x)
-          ≡ count (c.counted_from-begin.result.0 + c.saturating_sub.result / c.args.parts.now.interval * c.args.parts.now.interval)
-          (is_open_period c.args.parts.now x))
-          c.requires.first c.open_between-number.ensures;
+      total = rw c.requires.first at c.open_between-number.ensures;
     } to.turned
 
 pub turn_through-requires-clause-step : goal.turn_through-requires-clause-step

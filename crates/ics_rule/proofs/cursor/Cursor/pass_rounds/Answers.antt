@@ -1,23 +1,16 @@
-use Rattle.std.proofs.Common.{◌∙◌, ◌+◌, ◌-◌, ◌*◌, ◌/◌, ◌≤◌, ap, arith}
-use Rattle.jiff_core.specs.Weekday.{monday_zero}
-use Rattle.ics_rule.specs.Kept.{count, is_chosen}
-use Rattle.ics_rule.specs.RecurrencePeriods.{first_local}
+use Rattle.std.proofs.Common.{◌+◌, ◌-◌, ◌*◌, ◌/◌, ◌≤◌, arith}
+use Rattle.std.proofs.lemmas.Nat.{div-add-mod'}
+use Rattle.std.proofs.Math.Nat.{mul-le-mul_right}
 use Rattle.ics_rule.proofs.CountLemmas.{IsCountedStep, step_low}
-use Rattle.ics_rule.proofs.PassedLemmas.{counts_from, end_in, target_in, first_step, rounds_end, counted_reach, turned_room, total_small, passed_on}
+use Rattle.ics_rule.proofs.PassedLemmas.{counts_from, first_step, rounds_end, counted_reach, turned_room, total_small, passed_on}
 use Rattle.ics_rule.proofs.cursor.Cursor.pass_rounds.Goals as goal
 use Rattle.ics_rule.proofs.cursor.Cursor.pass_rounds.Goals.{Else-not-turn_through}
 
 pub overflow_add-end : goal.overflow_add-end
-overflow_add-end c =
-    let e = end_in c.period_of.result c.counted_from-begin.result.0 c.in-Some.round c.saturating_sub-ahead.ensures
-    c.if-ahead-lt2.false c.if-rounds-lt2.false in
-    omega (arith, e, c.period_of.ensures.small)
+overflow_add-end c = grind (arith, div-add-mod', mul-le-mul_right)
 
 pub turn_through-requires-clause-end : goal.turn_through-requires-clause-end
-turn_through-requires-clause-end c =
-    let e = end_in c.period_of.result c.counted_from-begin.result.0 c.in-Some.round c.saturating_sub-ahead.ensures
-    c.if-ahead-lt2.false c.if-rounds-lt2.false in
-    omega (arith, e, c.period_of.ensures.value)
+turn_through-requires-clause-end c = grind (arith, div-add-mod', mul-le-mul_right)
 
 pub turn_through-requires-clause-step : goal.turn_through-requires-clause-step
 turn_through-requires-clause-step c = first_step (c.in-Some.ensures c.args.start)
@@ -30,18 +23,15 @@ ends : (c : Else-not-turn_through) → (c.counted_from-begin.result.1 ≤ c.turn
     (c.counted_from-begin.result.1 + c.saturating_sub-ahead.result / c.in-Some.round * (c.turn_through.new.self.counted - c.counted_from-begin.result.1))
 ends c =
     let turned = (c.turn_through.ensures.counted c.if-not-turn_through.false).turned in
-    let top = target_in c.period_of.result c.counted_from-begin.result.0 c.in-Some.round c.saturating_sub-ahead.ensures
-    c.if-ahead-lt2.false in
     rounds_end record {
       even = c.in-Some.ensures c.args.start;
       from = counts_from c.requires.interval c.requires.own c.requires.first c.counted_from-begin.ensures;
       low = c.if-begin-lt2.false;
       some = c.if-rounds-lt2.false;
-      top = omega (arith, top, c.period_of.ensures.value);
+      top = grind (arith, div-add-mod');
       early = c.requires.place;
     }
-    (turned.counted.total ∙ ap (λ x. count (first_local c.args.parts.now.frequency (monday_zero c.args.parts.now.week_start) x)
-    (is_chosen c.args.parts.now c.args.start)) turned.number)
+    (rw turned.number at turned.counted.total)
 
 pub overflow_sub-total : goal.overflow_sub-total
 overflow_sub-total c = (ends c).0

@@ -1,8 +1,7 @@
 use Rattle.std.proofs.lemmas.Grind.{common_steps}
-use Rattle.std.proofs.Common.{◌≡◌, ◌∙◌, ◌+◌, not, sym, subst, ap, arith}
+use Rattle.std.proofs.Common.{◌≡◌, ◌∙◌, not, sym, ap, arith}
 use Rattle.jiff_core.specs.Weekday.{monday_zero}
-use Rattle.ics_rule.specs.Candidates.{is_stepped, period_in}
-use Rattle.ics_rule.specs.Searches.{IsNextOpen, IsTurned}
+use Rattle.ics_rule.specs.Searches.{IsTurned}
 use Rattle.ics_rule.proofs.PeriodLemmas.{begun}
 use Rattle.ics_rule.proofs.StepLemmas.{step_on}
 use Rattle.ics_rule.proofs.CountingLemmas.{counting_begins, counting_goes_on, counting_stopped}
@@ -25,9 +24,7 @@ turn_to-requires-clause-room c = let r = counting_room c.loop-number.invariant.c
     omega (arith, r, c.loop-number-test.true, c.requires.end, c.period_of-last.ensures.value, c.period_of-last.ensures.small)
 
 pub next_open_step-requires-clause-step : goal.next_open_step-requires-clause-step
-next_open_step-requires-clause-step c = ap (λ x. is_stepped x c.args.parts.now.interval (c.loop-number.number + c.args.parts.now.interval)) c.requires.first
-    ∙ step_on c.args.parts.now.interval c.requires.interval (period_in c.args.parts.now c.args.start) c.loop-number.number
-    c.loop-number.invariant.counting.walk.step
+next_open_step-requires-clause-step c = let step = c.loop-number.invariant.counting.walk.step in grind (arith, step_on)
 
 pub loop-number-preserved : goal.loop-number-preserved
 loop-number-preserved c =
@@ -38,9 +35,8 @@ loop-number-preserved c =
       counting = counting_goes_on counting here.1 c.turn_to.ensures.looks
           (top_of c.args.parts.now c.args.self.now.place c.loop-number.number (omega (arith, c.loop-number-test.true, c.requires.end))) c.requires.first
           (none_within c.args.parts.now c.args.start c.args.self.now.place (omega (arith, c.loop-number-test.true, c.requires.end)))
-          (subst (IsNextOpen c.args.parts.now c.args.first (c.loop-number.number + c.args.parts.now.interval)) (sym c.min-number.ensures)
-          (not_past c.requires.interval (ap (λ x. is_stepped x c.args.parts.now.interval c.loop-number.number) c.requires.first ∙ counting.walk.step)
-          (ap (λ x. is_stepped x c.args.parts.now.interval c.args.end) c.requires.first ∙ c.requires.step) c.loop-number-test.true c.next_open_step.ensures));
+          (rw c.min-number.ensures (not_past c.requires.interval (rw c.requires.first counting.walk.step) (rw c.requires.first c.requires.step)
+          c.loop-number-test.true c.next_open_step.ensures));
       high = omega (arith, c.min-number.ensures);
     }
 

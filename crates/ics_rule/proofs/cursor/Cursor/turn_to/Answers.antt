@@ -1,6 +1,6 @@
 use Rattle.std.proofs.Common.{◌+◌, ◌-◌, inl, inr, ap, refl, arith}
 use Rattle.ics_rule.specs.Searches.{IsPassed}
-use Rattle.ics_rule.proofs.CursorLemmas.{looks_none, looks_once, fresh_some, fresh_none}
+use Rattle.ics_rule.proofs.CursorLemmas.{looks_none, looks_once}
 use Rattle.ics_rule.proofs.CountLemmas.{IsLeft, step_low, turned_first, turned_on, counted_out, counted_small}
 use Rattle.ics_rule.proofs.cursor.Cursor.turn_to.Goals as goal
 use Rattle.ics_rule.proofs.cursor.Cursor.turn_to.Goals.{After-taken_before-before}
@@ -42,8 +42,7 @@ returns-in-None-clause-turned c =
 
 pub returns-in-None-clause-looks : goal.returns-in-None-clause-looks
 returns-in-None-clause-looks c =
-    let at = looks_once 0 c.args.self.now c.look_at-period.result
-    (fresh_none c.args.number c.args.self.now.held c.in-None.is) c.look_at-period.ensures.cursor c.look_at-period.ensures.number in
+    let at = looks_once 0 c.args.self.now c.look_at-period.result (grind arith) c.look_at-period.ensures.cursor c.look_at-period.ensures.number in
     record { place = at.place; looks = at.looks; begun = at.begun; steps = at.steps }
 
 pub returns-else-self-before-clause-turned : goal.returns-else-self-before-clause-turned
@@ -53,8 +52,7 @@ returns-else-self-before-clause-turned c = rw c.look_at.ensures.cursor (turned_o
 pub returns-else-self-before-clause-looks : goal.returns-else-self-before-clause-looks
 returns-else-self-before-clause-looks c =
     let up = IsPassed.up (IsLeft.passed (left (goal.at.returns-else-self-before-clause-looks c).After-taken_before-before)) in
-    looks_once (c.args.self.now.counted + c.taken_before-before.result) c.args.self.now c.look_at.result
-    (fresh_some c.args.number c.args.self.now.held c.in-Some.period c.in-Some.is (omega (arith, up)) c.if-period-number.false) c.look_at.ensures.cursor
+    looks_once (c.args.self.now.counted + c.taken_before-before.result) c.args.self.now c.look_at.result (grind arith) c.look_at.ensures.cursor
     c.look_at.ensures.number
 
 pub returns-then-period-number-clause-looks : goal.returns-then-period-number-clause-looks

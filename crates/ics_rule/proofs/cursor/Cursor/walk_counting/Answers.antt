@@ -1,5 +1,4 @@
-use Rattle.std.proofs.Common.{◌∙◌, ◌+◌, Some, sym, ap, arith}
-use Rattle.ics_rule.specs.Candidates.{is_stepped, period_in}
+use Rattle.std.proofs.Common.{◌∙◌, Some, sym, arith}
 use Rattle.ics_rule.proofs.StepLemmas.{step_on}
 use Rattle.ics_rule.proofs.ChosenLemmas.{taken_within}
 use Rattle.ics_rule.proofs.CursorLemmas.{walk_reach, walk_ends, walk_ended}
@@ -13,8 +12,7 @@ loop-number-init c = counting_begins c.pass_periods.ensures c.period_of-first.en
     c.counted_from-number.ensures.number c.requires.interval c.requires.after c.requires.place
 
 pub turn_to-requires-clause-reach : goal.turn_to-requires-clause-reach
-turn_to-requires-clause-reach c = let r = walk_reach c.args.parts.now c.loop-number.number c.args.stop
-    (omega (arith, c.loop-number-test.true, c.period_of-last.ensures.value)) in omega (arith, r, c.requires.stop)
+turn_to-requires-clause-reach c = grind (arith, walk_reach)
 
 pub returns-in_err-period-clause-next : goal.returns-in_err-period-clause-next
 returns-in_err-period-clause-next c = rw c.from_residual.ensures (counting_out c.loop-number.invariant c.in_err-period.ensures.turned.0)
@@ -45,9 +43,7 @@ returns-else-earlier-self-clause-walked c = counting_stopped c.loop-number.invar
     (omega (arith, c.loop-number-test.true, c.period_of-last.ensures.value))
 
 pub next_open_step-number-requires-clause-step : goal.next_open_step-number-requires-clause-step
-next_open_step-number-requires-clause-step c =
-    ap (λ x. is_stepped x c.args.parts.now.interval (c.loop-number.number + c.args.parts.now.interval)) c.period_of-first.ensures.value
-    ∙ step_on c.args.parts.now.interval c.requires.interval (period_in c.args.parts.now c.args.start) c.loop-number.number c.loop-number.invariant.walk.step
+next_open_step-number-requires-clause-step c = let step = c.loop-number.invariant.walk.step in grind (arith, step_on)
 
 pub loop-number-preserved : goal.loop-number-preserved
 loop-number-preserved c =

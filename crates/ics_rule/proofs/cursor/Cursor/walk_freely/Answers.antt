@@ -1,6 +1,5 @@
-use Rattle.std.proofs.Common.{◌≡◌, ◌∙◌, ◌+◌, Option, Some, None, MatchOption, refl, ap, arith}
+use Rattle.std.proofs.Common.{◌≡◌, Option, Some, None, MatchOption, refl, arith}
 use Rattle.ics_rule.specs.declared.recurrence_period.RecurrencePeriod.{RecurrencePeriod}
-use Rattle.ics_rule.specs.Candidates.{is_stepped, period_in}
 use Rattle.ics_rule.proofs.StepLemmas.{step_on}
 use Rattle.ics_rule.proofs.CursorLemmas.{within_facts, walk_begins, walk_goes_on, walk_ended, walk_finds, walk_found, walk_reach}
 use Rattle.ics_rule.proofs.CountLemmas.{step_low}
@@ -16,8 +15,7 @@ pub find-requires-clause-low : goal.find-requires-clause-low
 find-requires-clause-low c = step_low c.args.parts.now c.args.start c.loop-number.number c.loop-number.invariant.step
 
 pub find-requires-clause-reach : goal.find-requires-clause-reach
-find-requires-clause-reach c = let r = walk_reach c.args.parts.now c.loop-number.number c.args.stop
-    (omega (arith, c.loop-number-test.true, c.last_to_look_at-end.ensures.high, c.period_of-last.ensures.value)) in omega (arith, r, c.requires.stop)
+find-requires-clause-reach c = grind (arith, walk_reach)
 
 pub returns-in-Some-clause-next : goal.returns-in-Some-clause-next
 returns-in-Some-clause-next c =
@@ -37,9 +35,7 @@ returns-in-Some-clause-walked c =
     (omega (arith, c.loop-number-test.true, c.last_to_look_at-end.ensures.high, c.period_of-last.ensures.value)) here.0
 
 pub next_open_step-number-requires-clause-step : goal.next_open_step-number-requires-clause-step
-next_open_step-number-requires-clause-step c =
-    ap (λ x. is_stepped x c.args.parts.now.interval (c.loop-number.number + c.args.parts.now.interval)) c.period_of-first.ensures.value
-    ∙ step_on c.args.parts.now.interval c.requires.interval (period_in c.args.parts.now c.args.start) c.loop-number.number c.loop-number.invariant.step
+next_open_step-number-requires-clause-step c = let step = c.loop-number.invariant.step in grind (arith, step_on)
 
 pub loop-number-preserved : goal.loop-number-preserved
 loop-number-preserved c =
