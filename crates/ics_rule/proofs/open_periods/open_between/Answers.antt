@@ -14,16 +14,10 @@ all c = open_rounds c.args.parts.now c.args.first c.in-Some.round c.in-Some.ensu
     c.open_by_days-rest.ensures
 
 pub overflow_mul-result : goal.overflow_mul-result
-overflow_mul-result c =
-    let most = count_most c.args.before (is_open_period c.args.parts.now c.args.first) in
-    let whole = all c in
-    omega (arith, whole, most, c.ranges.before)
+overflow_mul-result c = grind (arith, all, count_most)
 
 pub overflow_add-result : goal.overflow_add-result
-overflow_add-result c =
-    let most = count_most c.args.before (is_open_period c.args.parts.now c.args.first) in
-    let whole = all c in
-    omega (arith, whole, most, c.ranges.before)
+overflow_add-result c = grind (arith, all, count_most)
 
 pub returns : goal.returns
 returns c = all c

@@ -1,4 +1,4 @@
-use Rattle.std.proofs.Common.{◌<◌, ◌*◌, ◌/◌, ◌%◌, ◌∙◌, subst, sym, ap, arith}
+use Rattle.std.proofs.Common.{◌<◌, ◌/◌, ◌%◌, arith}
 use Rattle.ics_fields.specs.Sets.{contains_wide}
 use Rattle.ics_rule.specs.Kept.{count}
 use Rattle.ics_rule.specs.RecurrencePeriods.{IsNth}
@@ -11,8 +11,7 @@ use Rattle.ics_rule.proofs.recurrence_period.RecurrencePeriod.nth.Goals.{After-s
 index : (c : After-seconds_below-size) → (c.args.k / c.seconds_below-size.result < count 384 (contains_wide c.args.self.now.days))
     × (c.args.k % c.seconds_below-size.result < c.seconds_below-size.result)
 index c = block_index c.args.k (count 384 (contains_wide c.args.self.now.days)) c.seconds_below-size.result
-    (subst (λ x. c.args.k < x) (product_size c.args.self.now c.requires.own.1.first
-    ∙ ap (λ x. count 384 (contains_wide c.args.self.now.days) * x) (sym c.seconds_below-size.ensures.value)) c.requires.index)
+    (rw c.seconds_below-size.ensures.value (rw (product_size c.args.self.now c.requires.own.1.first) at c.requires.index))
 
 pub nonzero_div-k : goal.nonzero_div-k
 nonzero_div-k c = let i = index (goal.at.nonzero_div-k c).After-seconds_below-size in omega (arith, i.1)
@@ -21,11 +20,10 @@ pub nth_day-requires : goal.nth_day-requires
 nth_day-requires c = (index (goal.at.nth_day-requires c).After-seconds_below-size).0
 
 pub nonzero_rem-k : goal.nonzero_rem-k
-nonzero_rem-k c = let i = index (goal.at.nonzero_rem-k c).After-seconds_below-size in omega (arith, i.1)
+nonzero_rem-k c = grind (arith, index)
 
 pub nth_second-requires-clause-index : goal.nth_second-requires-clause-index
-nth_second-requires-clause-index c = let i = index (goal.at.nth_second-requires-clause-index c).After-seconds_below-size in
-    subst (λ x. c.args.k % c.seconds_below-size.result < x) (c.seconds_below-size.ensures.value ∙ clock_size c.args.self.now) i.1
+nth_second-requires-clause-index c = grind (arith, clock_size, index)
 
 pub returns-clause-nth : goal.returns-clause-nth
 returns-clause-nth c = nth-product 86_400 c.args.k c.seconds_below-size.ensures.value

@@ -1,6 +1,5 @@
 use Rattle.std.proofs.Common.{◌∙◌, ◌/◌, min, sym, ap, arith}
 use Rattle.ics_rule.specs.RecurrencePeriods.{has_day, has_second}
-use Rattle.ics_rule.specs.RecurrencePeriods.{holds}
 use Rattle.ics_rule.proofs.Counts.{count_most}
 use Rattle.ics_rule.proofs.ProductCounts.{count_taken, count_left, days_before}
 use Rattle.ics_rule.proofs.recurrence_period.RecurrencePeriod.rank_before.Goals as goal
@@ -20,9 +19,7 @@ returns-else-has_day-clause-value c = count_left c.args.n 86_400 (has_day c.args
     c.seconds_below.ensures.value
 
 pub returns-then-has_day-clause-bound : goal.returns-then-has_day-clause-bound
-returns-then-has_day-clause-bound c = let most = count_most c.args.n (holds c.args.self.now) in let same = returns-then-has_day-clause-value c in
-    omega (arith, most, same)
+returns-then-has_day-clause-bound c = grind (arith, count_most, returns-then-has_day-clause-value)
 
 pub returns-else-has_day-clause-bound : goal.returns-else-has_day-clause-bound
-returns-else-has_day-clause-bound c = let most = count_most c.args.n (holds c.args.self.now) in let same = returns-else-has_day-clause-value c in
-    omega (arith, most, same)
+returns-else-has_day-clause-bound c = grind (arith, count_most, returns-else-has_day-clause-value)
