@@ -1,11 +1,10 @@
 -- Whole rounds of the calendar are rounds of each rule.
-use Rattle.std.proofs.Common.{◌≡◌, ℕ, zero, suc, ◌+◌, ◌-◌, ◌*◌, ◌/◌, ◌%◌, ◌≤◌, Option, Some, None, MatchOption, sym, ap, ◌∙◌, arith}
+use Rattle.std.proofs.Common.{◌≡◌, ℕ, ◌+◌, ◌-◌, ◌*◌, ◌/◌, ◌%◌, ◌≤◌, Option, Some, None, MatchOption, sym, ap, ◌∙◌, arith}
 use Rattle.std.proofs.lemmas.Nat.{div-add-mod'}
 use Rattle.std.proofs.Math.Nat.{mul_comm}
 use Rattle.jiff_core.specs.Weekday.{monday_zero}
 use Rattle.ics_fields.specs.declared.frequency.Frequency.{Frequency}
 use Rattle.ics_fields.specs.declared.frequency.Frequency.TheVariants.{Monthly, Yearly}
-use Rattle.ics_fields.specs.Days.{days_before_year, year_of, month_of}
 use Rattle.ics_rule.specs.declared.effective_rule.EffectiveRule.{EffectiveRule}
 use Rattle.ics_rule.specs.PeriodNumbers.{period, day_of}
 use Rattle.ics_rule.specs.Candidates.{lets_date, lets_clock, is_stepped, period_in}
@@ -13,33 +12,23 @@ use Rattle.ics_rule.specs.RecurrencePeriods.{first_local}
 use Rattle.ics_rule.specs.Rounds.{calendar_periods, IsCalendarRound, IsRound, IsEvenRound}
 use Rattle.ics_rule.proofs.RoundLemmas.{clock_same, let_in_alike, step_repeats}
 use Rattle.ics_rule.proofs.EvenLemmas.{even_of_round}
+use Rattle.ics_rule.proofs.Tests.{positive}
 use Rattle.ics_rule.proofs.CycleLemmas.{years_again, months_again, year_again, month_again, date_again}
 
 period_again : (f : Frequency) (w n k : ℕ) → period f w (n + k * 12_622_780_800) ≡ period f w n + k * calendar_periods f
 period_again Monthly w n k =
     let day : (n + k * 12_622_780_800) / 86_400 ≡ n / 86_400 + 146_097 * k = omega arith in
-    let year = ap year_of day ∙ year_again k (n / 86_400) in
-    let month = ap month_of day ∙ month_again k (n / 86_400) in
-    omega (arith, year, month)
+    rw day (omega (arith, year_again k (n / 86_400), month_again k (n / 86_400)))
 period_again Yearly w n k =
-    let day : (n + k * 12_622_780_800) / 86_400 ≡ n / 86_400 + 146_097 * k = omega arith in
-    let year = ap year_of day ∙ year_again k (n / 86_400) in
-    omega (arith, year)
+    let day : (n + k * 12_622_780_800) / 86_400 ≡ n / 86_400 + 146_097 * k = omega arith in rw day (omega (arith, year_again k (n / 86_400)))
 period_again f w n k = omega arith
 
 first_again : (f : Frequency) (w p k : ℕ) → 2 ≤ p → first_local f w (p + k * calendar_periods f) ≡ first_local f w p + k * 12_622_780_800
-first_again Monthly w zero k h = absurd (omega (arith, h))
-first_again Monthly w (suc p) k h =
-    let back : suc p - 1 ≡ p = omega arith in
-    let year : (suc p + k * 4_800 - 1) / 12 ≡ p / 12 + 400 * k = omega arith in
-    let month : (suc p + k * 4_800 - 1) % 12 ≡ p % 12 = omega arith in
-    let before = years_again k (p / 12) in
-    let inside = months_again k (p / 12) (p % 12) in
-    rw back (rw year (rw month (omega (arith, before, inside))))
-first_again Yearly w p k h =
-    let before = years_again k p in
-    let same = ap days_before_year (let order : p + k * 400 ≡ p + 400 * k = omega arith in order) in
-    omega (arith, before, same)
+first_again Monthly w p k h =
+    let year : (p + k * 4_800 - 1) / 12 ≡ (p - 1) / 12 + 400 * k = omega arith in
+    let month : (p + k * 4_800 - 1) % 12 ≡ (p - 1) % 12 = omega arith in
+    rw (year, month) (omega (arith, years_again k ((p - 1) / 12), months_again k ((p - 1) / 12) ((p - 1) % 12)))
+first_again Yearly w p k h = let order : p + k * 400 ≡ p + 400 * k = omega arith in rw order (omega (arith, years_again k p))
 first_again f w p k h = omega arith
 
 clock_again : (q : EffectiveRule) (n k : ℕ) → lets_clock q (n + k * 12_622_780_800) ≡ lets_clock q n
@@ -60,7 +49,7 @@ calendar_step q periods round first p l =
 
 pub calendar_is : (q : EffectiveRule) (periods : ℕ) (round : IsCalendarRound q periods) → IsRound q periods (round.cycles * 12_622_780_800)
 calendar_is q periods round = record {
-  some = positive round.cycles (calendar_periods q.frequency) periods round.whole round.some (some_periods q.frequency);
+  some = (let some = positive round.cycles (calendar_periods q.frequency) round.some (some_periods q.frequency) in omega (arith, some, round.whole));
   step = calendar_step q periods round;
   period = λ n. period_again q.frequency (monday_zero q.week_start) n round.cycles ∙ ap (λ x. period_in q n + x) (sym round.whole);
   first = λ p l. ap (λ x. first_local q.frequency (monday_zero q.week_start) (p + x)) round.whole
@@ -70,9 +59,6 @@ calendar_is q periods round = record {
       ∙ date_again q round.cycles (day_of n) round.some)
       (clock_again q n round.cycles);
 }
-  where
-    positive : (a b c : ℕ) → c ≡ a * b → 1 ≤ a → 1 ≤ b → 1 ≤ c
-    positive a b c h l g = grind arith
 
 pub even_of_calendar : (q : EffectiveRule) (o : Option ℕ) → MatchOption o (Unit {0}) (IsCalendarRound q) →
     MatchOption o (Unit {0}) (λ k. (start : ℕ) → IsEvenRound q start k)

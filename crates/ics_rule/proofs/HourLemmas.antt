@@ -1,6 +1,6 @@
 -- The locals of an hour that a rule keeps.
 use Rattle.std.proofs.Common.{◌≡◌, ℕ, ◌+◌, ◌*◌, ◌<◌, ◌≤◌, inl, inr, ◌/◌, ◌%◌, true, false, ◌&&◌, Some, None, Option}
-use Rattle.std.proofs.Common.{sym, subst, ap, ◌∙◌, arith}
+use Rattle.std.proofs.Common.{sym, subst, ◌∙◌, arith}
 use Rattle.std.proofs.lemmas.Bool.{and_from, cases_lt, false_from_ne_true, or_right}
 use Rattle.std.proofs.lemmas.Bool.Decides.{nat_tests}
 use Rattle.ics_fields.specs.declared.frequency.Frequency.{Frequency}
@@ -115,12 +115,9 @@ module _ (r : Recurrence) (hour : ℕ) (bounds : KeepsBounds r (effective r) hou
 pub left_out : (r : Recurrence) {q : EffectiveRule} → q ≡ effective r → (hour : ℕ) → hour < 85_913_808 → number r.start < hour * 3_600
     → lets q.hours (hour % 24) ≡ false → NoneKept r (hour * 3_600) (hour * 3_600 + 3_600)
 left_out r {q = q} whole hour early after out n from to = false_from_ne_true (is_kept r n) (λ kept.
-    let clock = and_true {a = lets (effective r).hours (hour_of n) && lets (effective r).minutes (minute_of n)}
-    (kept_clock r n (omega (arith, after, from)) (omega (arith, early, to)) kept) in
-    let here = (and_true {a = lets (effective r).hours (hour_of n)} clock.0).0 in
-    let at = ap (λ h. lets (effective r).hours (h % 24)) (let same : n / 3_600 ≡ hour = omega (arith, from, to) in same) in
-    let own = ap (λ (x : EffectiveRule). lets x.hours (hour % 24)) whole in
-    cc)
+    let clock = kept_clock r n (omega (arith, after, from)) (omega (arith, early, to)) kept in
+    let at : n / 3_600 ≡ hour = omega (arith, from, to) in
+    grind arith)
 
 -- the same, said of the parts that a rule holds
 pub held_times : {r : Recurrence} {q : EffectiveRule} {hour : ℕ} → q ≡ effective r → KeepsBounds r q hour → KeepsTimes r hour (times_of q)

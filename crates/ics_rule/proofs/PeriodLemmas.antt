@@ -31,10 +31,7 @@ year_begun : (p e : ℕ) → p ≤ year_of e → days_before_year p ≤ e
 year_begun p e h = let u = year_under_way e in let m = days_before_year_mono p (year_of e) h in omega (arith, u.0, m)
 
 pub year_begins : (p e : ℕ) → days_before_year p ≤ e → p ≤ year_of e
-year_begins p e h = elim (cases_lt (year_of e) p) [
-  | inl less ↦ absurd (let u = year_under_way e in let m = days_before_year_mono (suc (year_of e)) p less in omega (arith, u.1, m))
-  | inr more ↦ more
-]
+year_begins p e h = let u = year_under_way e in grind (arith, cases_lt, days_before_year_mono)
 
 year_length : (p : ℕ) → (days_before_year p < days_before_year (suc p)) × (days_before_year (suc p) ≤ days_before_year p + 366)
 year_length p = let next = days_before_year-next p in let b = days_in_year_bounds (pos p) in (omega (arith, next, b.1), omega (arith, next, b.0))
@@ -62,8 +59,7 @@ month_begins p e h = grind (arith, cases_lt, later_month, month_positive, year_b
 -- the day after the first k months of year y, and the next month's
 month_at : (y k : ℕ) → k < 12 →
     (days_before_year y + days_of_months (pos y) (k + 1) ≡ days_before_year y + days_of_months (pos y) k + days_in_month (pos y) (k + 1))
-month_at y k h = let more = days_of_months_more (pos y) (k + 1) (omega arith) in let back : k + 1 - 1 ≡ k = omega arith in let more' = rw back at more in
-    omega (arith, more')
+month_at y k h = grind (arith, days_of_months_more)
 
 pub month_size : (p : ℕ) → month_start (suc (suc p)) ≡ month_start (suc p) + days_in_month (pos (p / 12)) (p % 12 + 1)
 month_size p =
@@ -130,11 +126,7 @@ next_first f w p h l = grind (arith, is_short, lasts)
 
 -- a period's number is no more than its locals allow
 pub period_small : (f : Frequency) (w n : ℕ) → n < calendar_end → period f w n < calendar_end
-period_small Monthly w n h = let b = month_begun (month_number (n / 86_400)) (n / 86_400) (omega arith) in
-    let l = days_before_year_low ((month_number (n / 86_400) - 1) / 12) in omega (arith, b, l)
-period_small Yearly w n h = let b = year_begun (year_of (n / 86_400)) (n / 86_400) (omega arith) in let l = days_before_year_low (year_of (n / 86_400)) in
-    omega (arith, b, l)
-period_small f w n h = omega arith
+period_small f w n h = let b = begun f w (period f w n) n (omega arith) in grind (arith, days_before_year_low)
 
 -- local b is the first of the period with a number and local e that of the next, and the rules have not ended at b
 pub record IsPeriodFrom (f : Frequency) (w p b e : ℕ) : Type 0 where

@@ -1,4 +1,4 @@
-use Rattle.std.proofs.Common.{◌≡◌, ℕ, ◌*◌, Option, Some, None, MatchOption, sym, subst, arith}
+use Rattle.std.proofs.Common.{◌≡◌, ℕ, Option, Some, None, MatchOption, arith}
 use Rattle.ics_rule.specs.declared.effective_rule.EffectiveRule.{EffectiveRule}
 use Rattle.ics_rule.specs.Rounds.{seconds_of, IsRound, IsEvenRound}
 use Rattle.ics_rule.proofs.EvenLemmas.{even_of_round, even_months, even_years, is_monthly}
@@ -15,9 +15,8 @@ returns c = λ start.
     let flat = c.is_flat.ensures c.if-not-is_flat.false in
     let even : seconds_of c.args.parts.now.frequency ≡ 0 = omega (arith, c.seconds_of.ensures.value, c.if-seconds_of-gt0.false) in
     elim c.match-parts.branch [
-      | in-Yearly w ↦ subst (λ n. IsEvenRound c.args.parts.now start (c.args.parts.now.interval * n)) (sym w.steps-is)
-          (even_years c.args.parts.now start c.requires.interval flat w.in-Yearly.is)
-      | in_default w ↦ subst (λ n. IsEvenRound c.args.parts.now start (c.args.parts.now.interval * n)) (sym w.steps-is)
+      | in-Yearly w ↦ rw w.steps-is (even_years c.args.parts.now start c.requires.interval flat w.in-Yearly.is)
+      | in_default w ↦ rw w.steps-is
           (even_months c.args.parts.now start c.requires.interval flat (is_monthly c.args.parts.now.frequency even w.in_default.not-Yearly))
     ]
 

@@ -17,8 +17,7 @@ returns-then-start-end-clause-own c = own_at (c.args.start + 1)
     c.requires.own (omega (arith, c.if-place-start.true)) (omega (arith, c.if-start-end.true, c.requires.end))
 
 pub returns-then-place-start-clause-next : goal.returns-then-place-start-clause-next
-returns-then-place-start-clause-next c =
-    (none_early c.args.rule.now c.args.self.now.place c.args.end (omega (arith, c.requires.start, c.if-start-end.false)), c.max-self.ensures)
+returns-then-place-start-clause-next c = grind (arith, none_early)
 
 pub returns-then-place-start-clause-own : goal.returns-then-place-start-clause-own
 returns-then-place-start-clause-own c = own_at c.max-self.result
