@@ -20,17 +20,14 @@ use Rattle.ics_rule.proofs.CountLemmas.{IsCountedStep, none_before_first}
 use Rattle.ics_rule.proofs.RoundLemmas.{repeats_often}
 use Rattle.ics_rule.proofs.EvenLemmas.{even_round, none_after}
 use Rattle.ics_rule.proofs.StepLemmas.{stepped_parts, none_between}
-use Rattle.ics_rule.proofs.CursorLemmas.{IsWalk, walk_ends, meets, moved_none, moved_on, own_moved, looks_once}
+use Rattle.ics_rule.proofs.CursorLemmas.{IsWalk, walk_ends, meets, moved_on, own_moved, looks_once}
 use Rattle.ics_rule.proofs.CountingLemmas.{IsCounting, step_first}
 use Rattle.ics_rule.specs.PeriodNumbers.{rules_end}
 use Rattle.ics_fields.specs.Locals.{calendar_end}
 
 -- the period of a place is that of the last local before the next
 pub top_of : (q : EffectiveRule) (place number : ℕ) → number ≤ period_in q place → number ≤ period_in q (place + 1 - 1)
-top_of q place number h = subst (λ x. number ≤ period_in q x) (let back : place ≡ place + 1 - 1 = omega arith in back) h
-
-pub passed_none : {q : EffectiveRule} {start c : ℕ} {cursor : Cursor} → IsCursorIn q start (Some c) cursor → IsPassedTo q start c cursor cursor
-passed_none {cursor = cursor} own = record { own = own; moved = moved_none (cursor.place + 1) own }
+top_of q place number h = grind arith
 
 -- a walk up to the place that has not come past it
 pub counting_passed : {q : EffectiveRule} {start c number : ℕ} {before now : Cursor} → IsCounting q start c (before.place + 1) number before now →
@@ -77,11 +74,6 @@ passed_on {q = q} {start = start} {c = c} {target = target} {total = total} {bef
       }) (omega (arith, moved.place, inside));
       moved = moved;
     })
-
--- a walk up to a period
-pub counting_at : {q : EffectiveRule} {start c stop number : ℕ} {before now : Cursor} (end : ℕ) → IsCounting q start c stop number before now → number ≡ end →
-    IsCounting q start c stop end before now
-counting_at {q = q} {start = start} {c = c} {stop = stop} {before = before} {now = now} end walk e = subst (λ x. IsCounting q start c stop x before now) e walk
 
 -- steps are few
 pub counting_room : {q : EffectiveRule} {start c stop number : ℕ} {before now : Cursor} → IsCounting q start c stop number before now →

@@ -1,6 +1,4 @@
-use Rattle.std.proofs.Common.{◌∙◌, ◌+◌, refl, ap, sym, arith}
-use Rattle.ics_rule.specs.Recurrence.{Recurrence}
-use Rattle.ics_rule.specs.Kept.{is_by_until}
+use Rattle.std.proofs.Common.{◌+◌, refl, arith}
 use Rattle.ics_rule.proofs.NextLemmas.{next_start, none_early, kept_answer}
 use Rattle.ics_rule.proofs.CursorLemmas.{own_at}
 use Rattle.ics_rule.proofs.cursor.Cursor.next_number.Goals as goal
@@ -27,6 +25,5 @@ pub returns-clause-next : goal.returns-clause-next
 returns-clause-next c =
     kept_answer c.args.rule.now c.args.self.now.place c.args.end c.until_end.result
     (omega (arith, c.requires.start, c.if-place-start.false)) c.requires.end
-    (λ n h. sym (ap (λ (r : Recurrence). is_by_until r.kind r.parts.until n) c.rule.view_is)
-    ∙ ap (λ u. is_by_until c.rule.inside.kind u n) (sym c.until.ensures.value) ∙ c.until_end.ensures n h)
+    (λ n h. let ends = c.until_end.ensures n h in grind arith)
     c.search.result c.search.new.self.place (rw (c.requires.start, c.min-stop.ensures) at c.search.ensures.next)

@@ -1,27 +1,25 @@
 use Rattle.std.proofs.lemmas.Grind.{common_steps}
 use Rattle.std.proofs.Common.{◌≡◌, ◌∙◌, not, sym, ap, arith}
-use Rattle.jiff_core.specs.Weekday.{monday_zero}
 use Rattle.ics_rule.specs.Searches.{IsTurned}
 use Rattle.ics_rule.proofs.PeriodLemmas.{begun}
 use Rattle.ics_rule.proofs.StepLemmas.{step_on}
+use Rattle.ics_rule.proofs.CursorLemmas.{moved_none}
 use Rattle.ics_rule.proofs.CountingLemmas.{counting_begins, counting_goes_on, counting_stopped}
-use Rattle.ics_rule.proofs.PassedLemmas.{top_of, passed_none, counting_passed, counting_room, counting_at, there, none_within, not_past}
+use Rattle.ics_rule.proofs.PassedLemmas.{top_of, counting_passed, counting_room, there, none_within, not_past}
 use Rattle.ics_rule.proofs.cursor.Cursor.turn_through.Goals as goal
 
 pub loop-number-init : goal.loop-number-init
 loop-number-init c = record {
-  counting = counting_begins (passed_none c.requires.own) c.requires.first c.requires.begin
+  counting = counting_begins (record { own = c.requires.own; moved = moved_none _ c.requires.own }) c.requires.first c.requires.begin
       c.requires.interval c.requires.after (omega arith);
   high = c.requires.order;
 }
 
 pub turn_to-requires-clause-reach : goal.turn_to-requires-clause-reach
-turn_to-requires-clause-reach c = let r = begun c.args.parts.now.frequency (monday_zero c.args.parts.now.week_start) c.loop-number.number c.args.self.now.place
-    (omega (arith, c.loop-number.invariant.high, c.requires.end)) in omega (arith, r, c.requires.place)
+turn_to-requires-clause-reach c = let high = c.loop-number.invariant.high in grind (arith, begun)
 
 pub turn_to-requires-clause-room : goal.turn_to-requires-clause-room
-turn_to-requires-clause-room c = let r = counting_room c.loop-number.invariant.counting in
-    omega (arith, r, c.loop-number-test.true, c.requires.end, c.period_of-last.ensures.value, c.period_of-last.ensures.small)
+turn_to-requires-clause-room c = let few = counting_room c.loop-number.invariant.counting in grind arith
 
 pub next_open_step-requires-clause-step : goal.next_open_step-requires-clause-step
 next_open_step-requires-clause-step c = let step = c.loop-number.invariant.counting.walk.step in grind (arith, step_on)
@@ -41,16 +39,16 @@ loop-number-preserved c =
     }
 
 pub turn_to-requires-2-clause-reach : goal.turn_to-requires-2-clause-reach
-turn_to-requires-2-clause-reach c = let r = begun c.args.parts.now.frequency (monday_zero c.args.parts.now.week_start) c.args.end c.args.self.now.place
-    c.requires.end in omega (arith, r, c.requires.place)
+turn_to-requires-2-clause-reach c = grind (arith, begun)
 
 pub turn_to-requires-2-clause-room : goal.turn_to-requires-2-clause-room
-turn_to-requires-2-clause-room c = let r = counting_room c.loop-number.invariant.counting in
-    omega (arith, r, c.loop-number.invariant.high, c.requires.end, c.period_of-last.ensures.value, c.period_of-last.ensures.small)
+turn_to-requires-2-clause-room c =
+    let few = counting_room c.loop-number.invariant.counting in let high = c.loop-number.invariant.high in grind arith
 
 pub turn_to-requires-2-clause-turn : goal.turn_to-requires-2-clause-turn
 turn_to-requires-2-clause-turn c =
-    (counting_at c.args.end c.loop-number.invariant.counting (omega (arith, c.loop-number.invariant.high, c.loop-number-test.false))).turn
+    let same : c.loop-number.number ≡ c.args.end = omega (arith, c.loop-number.invariant.high, c.loop-number-test.false) in
+    rw same at c.loop-number.invariant.counting.turn
 
 pub returns-then-is_none-clause-out : goal.returns-then-is_none-clause-out
 returns-then-is_none-clause-out c = λ out.
@@ -66,7 +64,8 @@ pub returns-clause-counted : goal.returns-clause-counted
 returns-clause-counted c = λ some.
     let here = there _ (IsTurned c.args.parts.now c.args.start c.args.count c.args.end c.turn_to-2.new.self) c.turn_to-2.result c.turn_to-2.ensures.turned
     (sym c.is_some.ensures ∙ some) in
-    let counting = counting_at c.args.end c.loop-number.invariant.counting (omega (arith, c.loop-number.invariant.high, c.loop-number-test.false)) in
+    let same : c.loop-number.number ≡ c.args.end = omega (arith, c.loop-number.invariant.high, c.loop-number-test.false) in
+    let counting = rw same at c.loop-number.invariant.counting in
     record {
       period = here.0;
       turned = here.1;
