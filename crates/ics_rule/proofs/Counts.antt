@@ -42,10 +42,6 @@ count-none (suc n) p h = rw (h n (omega arith)) (omega (arith, count-none n p (�
 pub count-from : (a n : ℕ) (p : ℕ → Bool) → ((m : ℕ) → m < a → p m ≡ false) → count (a + n) p ≡ count n (λ k. p (a + k))
 count-from a n p h = omega (arith, count-add a n p, count-none a p h)
 
--- nor behind
-pub count-up_to : (a n : ℕ) (p : ℕ → Bool) → ((m : ℕ) → a ≤ m → m < a + n → p m ≡ false) → count (a + n) p ≡ count a p
-count-up_to a n p h = omega (arith, count-add a n p, count-none n (λ k. p (a + k)) (λ k l. h (a + k) (omega arith) (omega arith)))
-
 -- a test that does not read the number
 pub count-all : (b : Bool) (n : ℕ) (q : ℕ → Bool) → count n (λ k. b && q k) ≡ cond b 1 0 * count n q
 unfolding count

@@ -1,5 +1,5 @@
 -- Rounds of periods in which a rule allows as many locals have as many chosen locals.
-use Rattle.std.proofs.Common.{◌≡◌, ℕ, zero, suc, ◌+◌, ◌-◌, ◌*◌, ◌/◌, ◌%◌, ◌<◌, ◌≤◌, ◌≢◌, inl, inr, Bool, true, false, ◌&&◌, ◌==◌, refl, sym, subst, ap, ◌∙◌}
+use Rattle.std.proofs.Common.{◌≡◌, ℕ, zero, suc, ◌+◌, ◌-◌, ◌*◌, ◌/◌, ◌%◌, ◌<◌, ◌≤◌, ◌≢◌, inl, inr, Bool, true, false, ◌==◌, refl, sym, subst, ap, ◌∙◌}
 use Rattle.std.proofs.Common.{arith}
 use Rattle.std.proofs.lemmas.Bool.{cases_lt, false_from_ne_true}
 use Rattle.std.proofs.lemmas.Bool.Decides.{nat_tests}
@@ -10,9 +10,9 @@ use Rattle.ics_fields.specs.Days.{days_before_year}
 use Rattle.ics_fields.specs.Ordinals.{lists_none_wide}
 use Rattle.ics_fields.proofs.DayLemmas.{days_before_year_low}
 use Rattle.ics_rule.specs.declared.effective_rule.EffectiveRule.{EffectiveRule}
-use Rattle.ics_rule.specs.Candidates.{is_stepped, period_in, lets_date, lets_clock}
+use Rattle.ics_rule.specs.Candidates.{is_stepped, period_in}
 use Rattle.ics_rule.specs.Kept.{count, is_chosen}
-use Rattle.ics_rule.specs.RecurrencePeriods.{first_local, is_let_in}
+use Rattle.ics_rule.specs.RecurrencePeriods.{first_local}
 use Rattle.ics_rule.specs.Rounds.{seconds_of, IsFlat, IsRound, IsEvenRound, chosen_to}
 use Rattle.ics_rule.proofs.Counts.{count-same, count_mono, count_one_more}
 use Rattle.ics_rule.proofs.RankLemmas.{count_flat}
@@ -23,7 +23,7 @@ use Rattle.ics_rule.proofs.StepLemmas.{stepped_parts}
 use Rattle.ics_rule.proofs.RoundLemmas.{step_repeats}
 use Rattle.ics_rule.proofs.FlatLemmas.{allowed_before, month_local, month_adds, month_is, year_is}
 use Rattle.ics_rule.proofs.SizeLemmas.{let_at, longest, chosen_of, period_adds, size_adds}
-use Rattle.ics_rule.specs.PeriodNumbers.{day_of, rules_end}
+use Rattle.ics_rule.specs.PeriodNumbers.{rules_end}
 use Rattle.ics_rule.proofs.Tests.{positive}
 
 -- a period is the start's or later, by a multiple of the interval
@@ -157,10 +157,7 @@ even_round {q = q} {periods = periods} {seconds = seconds} round = record {
       let first = round.first x some in
       let m = first_local q.frequency (monday_zero q.week_start) x + k in
       let later : first_local q.frequency (monday_zero q.week_start) (x + periods) + k ≡ m + seconds = omega (arith, first) in
-      ap (is_let_in q (x + periods)) later
-      ∙ ap (λ y. y == x + periods && (lets_date q (day_of (m + seconds)) && lets_clock q (m + seconds))) (round.period m)
-      ∙ ap (λ y. y && (lets_date q (day_of (m + seconds)) && lets_clock q (m + seconds))) (shift_test (period_in q m) x periods)
-      ∙ ap (λ y. period_in q m == x && y) (round.let_in m));
+      rw (later, round.period m, shift_test (period_in q m) x periods, round.let_in m) refl);
 }
 
 -- a round of what a rule allows is one

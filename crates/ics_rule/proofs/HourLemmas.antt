@@ -1,6 +1,6 @@
 -- The locals of an hour that a rule keeps.
 use Rattle.std.proofs.Common.{◌≡◌, ℕ, ◌+◌, ◌*◌, ◌<◌, ◌≤◌, inl, inr, ◌/◌, ◌%◌, true, false, ◌&&◌, Some, None, Option}
-use Rattle.std.proofs.Common.{sym, subst, ◌∙◌, arith}
+use Rattle.std.proofs.Common.{sym, ◌∙◌, arith}
 use Rattle.std.proofs.lemmas.Bool.{and_from, cases_lt, false_from_ne_true, or_right}
 use Rattle.std.proofs.lemmas.Bool.Decides.{nat_tests}
 use Rattle.ics_fields.specs.declared.frequency.Frequency.{Frequency}
@@ -121,8 +121,7 @@ left_out r {q = q} whole hour early after out n from to = false_from_ne_true (is
 
 -- the same, said of the parts that a rule holds
 pub held_times : {r : Recurrence} {q : EffectiveRule} {hour : ℕ} → q ≡ effective r → KeepsBounds r q hour → KeepsTimes r hour (times_of q)
-held_times {r = r} {hour = hour} whole bounds = subst (λ (x : EffectiveRule). KeepsTimes r hour (times_of x)) (sym whole)
-    (keeps_times r hour (subst (λ (x : EffectiveRule). KeepsBounds r x hour) whole bounds))
+held_times {r = r} {hour = hour} whole bounds = rw whole (keeps_times r hour (rw whole at bounds))
 
 -- a member of a set is not above the last
 pub not_above : (s most n : ℕ) → ((k : ℕ) → most < k → contains s k ≡ false) → contains s n ≡ true → n ≤ most

@@ -1,6 +1,6 @@
 -- What a rule keeps: the start, and of the later locals that it has those that UNTIL lets through.
 use Rattle.std.proofs.Common.{◌≡◌, ℕ, suc, ◌+◌, ◌-◌, ◌<◌, ◌≤◌, inl, inr, Bool, true, false, ◌&&◌, ◌||◌, ◌==◌, nat_lt, min, max, Some, None, Option}
-use Rattle.std.proofs.Common.{MatchOption, sym, ap, ◌∙◌, arith}
+use Rattle.std.proofs.Common.{MatchOption, refl, sym, ap, ◌∙◌, arith}
 use Rattle.std.proofs.lemmas.Bool.{and_from, and_right, cases_lt, le-ltb, lt-ltb}
 use Rattle.std.proofs.lemmas.Bool.Decides.{nat_tests}
 use Rattle.ics_rule.specs.Recurrence.{Recurrence}
@@ -11,13 +11,12 @@ use Rattle.ics_rule.specs.Kept.{count, is_chosen, is_kept, is_in_rule, is_by_unt
 use Rattle.ics_rule.specs.Searches.{is_few, is_wanted, NoneWanted, IsNextBefore}
 use Rattle.ics_rule.specs.Next.{NoneKept, IsNextKept}
 use Rattle.ics_rule.proofs.Counts.{count-suc, count-none, count_between, count_mono, count_one}
-use Rattle.ics_rule.proofs.Tests.{and_false, keep_true, self_test, unequal}
+use Rattle.ics_rule.proofs.Tests.{keep_true, self_test, unequal}
 
 -- what the rule has: the start, nothing before it, and later what it chooses
 pub in_rule_start : (r : Recurrence) → is_in_rule r (number r.start) ≡ true
 unfolding is_in_rule
-in_rule_start r = ap (λ b. b || (nat_lt (number r.start) (number r.start) && is_chosen (effective r) (number r.start) (number r.start)))
-    (self_test (number r.start))
+in_rule_start r = rw (self_test (number r.start)) refl
 
 pub in_rule_earlier : (r : Recurrence) (n : ℕ) → n < number r.start → is_in_rule r n ≡ false
 unfolding is_in_rule
@@ -62,13 +61,11 @@ kept_later r n l e = by_count r.parts.count
 -- none is kept before the start, and the start is
 pub kept_earlier : (r : Recurrence) (n : ℕ) → n < number r.start → is_kept r n ≡ false
 unfolding is_kept
-kept_earlier r n l = rw (unequal n (number r.start) (inl l), in_rule_earlier r n l)
-    (ap (λ x. x && is_by_until r.kind r.parts.until n && is_counted r r.parts.count n) (and_false (nat_lt n rules_end)))
+kept_earlier r n l = rw (unequal n (number r.start) (inl l), in_rule_earlier r n l) (grind arith)
 
 pub kept_start : (r : Recurrence) → is_kept r (number r.start) ≡ true
 unfolding is_kept
-kept_start r = ap (λ b. b || (nat_lt (number r.start) rules_end && is_in_rule r (number r.start) && is_by_until r.kind r.parts.until (number r.start)
-    && is_counted r r.parts.count (number r.start))) (self_test (number r.start))
+kept_start r = rw (self_test (number r.start)) refl
 
 -- the start is the next kept
 pub next_start : (r : Recurrence) (place end : ℕ) → place ≤ number r.start → number r.start < end → IsNextKept r place end (number r.start)

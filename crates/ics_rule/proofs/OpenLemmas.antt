@@ -36,14 +36,7 @@ pub record IsStepWalk (a i : ℕ) (g : ℕ → Bool) (from before number total :
 
 pub walk_first : {a i from before number : ℕ} {g : ℕ → Bool} → 1 ≤ i → from ≤ before → IsLeastFrom (is_stepped a i) from number →
     IsStepWalk a i g from before number 0
-walk_first {a = a} {i = i} {from = from} {before = before} {number = number} {g = g} some h least = record {
-  some = some;
-  step = least.passes;
-  passed =
-      let flat = count_flat from (min number before) (λ p. is_stepped a i p && g p) (omega (arith, h, least.low))
-      (λ m l u. and_left (is_stepped a i m) (g m) (least.least m l (omega (arith, u)))) in
-      omega (arith, flat);
-}
+walk_first some h least = grind (arith, nat_tests, and_left, count_flat)
 
 module _ {a i : ℕ} {g : ℕ → Bool} {from before number total : ℕ} (walk : IsStepWalk a i g from before number total) where
   abbrev stepped : ℕ → Bool

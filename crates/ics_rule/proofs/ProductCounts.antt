@@ -11,7 +11,7 @@ use Rattle.ics_rule.specs.declared.recurrence_period.RecurrencePeriod.{Recurrenc
 use Rattle.ics_rule.specs.Kept.{count}
 use Rattle.ics_rule.specs.RecurrencePeriods.{has_minute, has_second, has_day, holds, IsNth}
 use Rattle.ics_rule.proofs.ScanLemmas.{day_before}
-use Rattle.ics_rule.proofs.Counts.{count-same, count-add, count-from, count-up_to, count-all, count-product, count_none_at, count_one}
+use Rattle.ics_rule.proofs.Counts.{count-same, count-add, count-from, count-all, count-product, count_none_at, count_one}
 use Rattle.ics_rule.proofs.RankLemmas.{count_flat}
 use Rattle.ics_fields.specs.Locals.{calendar_end}
 
@@ -62,10 +62,9 @@ days_from_first p n = count-from p.first_day n (has_day p) (day_before p)
     ∙ count-same n (λ k. has_day p (p.first_day + k)) (contains_wide p.days) (λ k l. day_at p k)
 
 pub days_in_all : (p : RecurrencePeriod) → p.first_day ≤ 3_600_000 → count 3_652_425 (has_day p) ≡ count 384 (contains_wide p.days)
-days_in_all p h =
-    let all : p.first_day + (384 + (3_652_425 - 384 - p.first_day)) ≡ 3_652_425 = omega arith in
-    sym (ap (λ x. count x (has_day p)) all) ∙ days_from_first p (384 + (3_652_425 - 384 - p.first_day))
-    ∙ count-up_to 384 (3_652_425 - 384 - p.first_day) (contains_wide p.days) (λ k l u. wide_past p.days k l)
+days_in_all p h = count_flat (p.first_day + 384) 3_652_425 (has_day p) (omega (arith, h)) (λ m l u.
+    and_right (nat_le p.first_day m) (contains_wide p.days (m - p.first_day)) (wide_past p.days (m - p.first_day) (omega (arith, l))))
+    ∙ days_from_first p 384
 
 -- its size by the sizes of its sets
 pub product_size : (p : RecurrencePeriod) → p.first_day ≤ 3_600_000 →

@@ -86,18 +86,13 @@ pub round_is : {q : EffectiveRule} {seconds unit : ℕ} → unit ≡ seconds_of 
     → ((n : ℕ) → (lets_date q (day_of (n + seconds)) && lets_clock q (n + seconds)) ≡ (lets_date q (day_of n) && lets_clock q n))
     → IsRound q (q.interval * (seconds / unit)) (q.interval * (seconds / unit) * unit)
 round_is {q = q} {seconds = seconds} {unit = unit} e fine whole some steps on = record {
-  some = positive q.interval (seconds / unit) steps (let parts = div-add-mod' seconds unit in
-      above (seconds / unit) unit seconds (omega (arith, parts, whole)) some);
+  some = positive q.interval (seconds / unit) steps (grind (arith, div-add-mod'));
   step = step_repeats q.interval (seconds / unit);
   period = λ n. ap (λ x. period_in q (n + q.interval * (seconds / unit) * x)) e
       ∙ unit_period q.frequency (monday_zero q.week_start) n (q.interval * (seconds / unit)) (subst (λ x. 0 < x) e fine);
   first = λ p l. unit_first q.frequency (monday_zero q.week_start) p (q.interval * (seconds / unit)) (subst (λ x. 0 < x) e fine) l
       ∙ ap (λ x. first_local q.frequency (monday_zero q.week_start) p + q.interval * (seconds / unit) * x) (sym e);
-  let_in = λ n. ap (λ x. lets_date q (day_of (n + x)) && lets_clock q (n + x)) (mul_assoc q.interval (seconds / unit) unit
-      ∙ ap (λ x. q.interval * x) (let parts = div-add-mod' seconds unit in let all : seconds / unit * unit ≡ seconds = omega (arith, parts, whole) in all))
-      ∙ repeats_often (λ n. lets_date q (day_of n) && lets_clock q n) {low = 0} seconds (λ n l. on n) q.interval n (omega arith);
+  let_in = λ n.
+      let whole : q.interval * (seconds / unit) * unit ≡ q.interval * seconds = grind (arith, div-add-mod', mul_assoc) in
+      rw whole (repeats_often (λ n. lets_date q (day_of n) && lets_clock q n) {low = 0} seconds (λ n l. on n) q.interval n (omega arith));
 }
-  where
-    above : (d u s : ℕ) → d * u ≡ s → 1 ≤ s → 1 ≤ d
-    above zero u s h l = absurd (omega (arith, h, l))
-    above (suc d) u s h l = omega arith
