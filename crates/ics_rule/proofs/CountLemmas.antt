@@ -156,7 +156,4 @@ pub record IsCountedStep (q : EffectiveRule) (start number target place chosen :
 pub counted_small : {q : EffectiveRule} {start c counted limit : ℕ} {o : RecurrencePeriod} (number : ℕ) → IsCounted q start c counted limit o →
     o.number ≤ number → is_stepped (period_in q start) q.interval number ≡ true
     → first_local q.frequency (monday_zero q.week_start) number ≤ rules_end → counted ≤ rules_end
-counted_small {q = q} {start = start} {o = o} number known l step h =
-    let most = count_most (first_local q.frequency (monday_zero q.week_start) o.number) (is_chosen q start) in
-    let up = first_mono q o.number number (step_low q start number step) l in
-    omega (arith, most, up, known.total)
+counted_small number known l step h = let total = known.total in grind (arith, count_most, first_mono, step_low)

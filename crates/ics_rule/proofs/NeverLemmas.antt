@@ -1,5 +1,5 @@
 -- What BYSETPOS can't list.
-use Rattle.std.proofs.Common.{◌≡◌, ℕ, ◌+◌, ◌-◌, ◌*◌, ◌<◌, ◌≤◌, false, ◌&&◌, ◌||◌, Option, Some, None, refl, sym, ap, ◌∙◌}
+use Rattle.std.proofs.Common.{◌≡◌, ℕ, ◌+◌, ◌-◌, ◌*◌, ◌<◌, ◌≤◌, false, ◌||◌, Option, None, refl, sym, ap, ◌∙◌}
 use Rattle.std.proofs.Common.{arith}
 use Rattle.std.proofs.lemmas.Bool.{false_from_ne_true}
 use Rattle.jiff_core.specs.Weekday.{monday_zero}
@@ -13,12 +13,12 @@ use Rattle.ics_rule.specs.Candidates.{period_in}
 use Rattle.ics_rule.specs.Kept.{count, is_chosen}
 use Rattle.ics_rule.specs.RecurrencePeriods.{first_local, is_listed}
 use Rattle.ics_rule.specs.Cursors.{IsCursorIn}
-use Rattle.ics_rule.specs.Searches.{is_few, NoneWanted, IsWalked}
+use Rattle.ics_rule.specs.Searches.{NoneWanted, IsWalked}
 use Rattle.ics_rule.proofs.Counts.{count-none, count_most, count_some}
 use Rattle.ics_rule.specs.Rounds.{seconds_of}
 use Rattle.ics_rule.specs.OpenPeriods.{per_day, is_open_period, size_of_open, chosen_of_size, chosen_in_open}
 use Rattle.ics_rule.proofs.EachLemmas.{total_between}
-use Rattle.ics_rule.proofs.CursorLemmas.{held_mono, moved_none}
+use Rattle.ics_rule.proofs.CursorLemmas.{held_mono, moved_none, not_wanted}
 use Rattle.ics_fields.specs.Locals.{calendar_end}
 
 -- BYSETPOS lists only places that are greater than the size of each period that the rule lets in, where a period is a day or less
@@ -54,8 +54,7 @@ never_chosen q past start n inside = false_from_ne_true (is_chosen q start n) (�
 -- so a walk finds nothing
 pub none_wanted : (q : EffectiveRule) (start : ℕ) (o : Option ℕ) (place : ℕ) {stop : ℕ} → stop ≤ rules_end →
     ((n : ℕ) → n < calendar_end → is_chosen q start n ≡ false) → NoneWanted q start o place stop
-none_wanted q start None place h none n l u = none n (omega (arith, u, h))
-none_wanted q start (Some c) place h none n l u = ap (λ x. x && is_few q start c n) (none n (omega (arith, u, h)))
+none_wanted q start o place h none n l u = not_wanted q start o n (none n (omega (arith, u, h)))
 
 pub none_walked : {q : EffectiveRule} {start : ℕ} {o : Option ℕ} {cursor : Cursor} (stop : ℕ) → cursor.place < stop → IsCursorIn q start o cursor →
     IsWalked q start o stop None cursor cursor

@@ -17,7 +17,7 @@ use Rattle.ics_rule.proofs.RankLemmas.{count_flat}
 use Rattle.ics_rule.proofs.StepLemmas.{stepped_parts, stepped_shown, step_on, none_between}
 use Rattle.ics_rule.proofs.RoundLemmas.{step_repeats}
 use Rattle.ics_rule.proofs.RunLemmas.{guard}
-use Rattle.ics_rule.proofs.Tests.{and_assoc, iff, none_yet}
+use Rattle.ics_rule.proofs.Tests.{and_assoc, iff}
 
 and_true : (a b : Bool) → a ≡ true → (a && b) ≡ b
 and_true a b h = ap (λ x. x && b) h
@@ -141,8 +141,7 @@ module _ {q : EffectiveRule} {first from before : ℕ} (run : IsDayRun q first f
   timely p = is_stepped first q.interval p && lets_own q.frequency q (p * seconds_of q.frequency)
 
   pub placed_none : 0 ≡ count (before * d) (placed q first from 0)
-  placed_none = sym (count-none (before * d) (placed q first from 0) (λ p l. ap (λ x. x && is_open_period q first p)
-      (and_right (nat_le from (p / d)) (nat_lt ((p / d - from) % q.interval) 0) (none_yet ((p / d - from) % q.interval)))))
+  placed_none = sym (count-none (before * d) (placed q first from 0) (λ p l. grind (arith, nat_tests)))
 
   -- a step some runs of days later has the same clock
   step_later : (x t : ℕ) → first ≤ x → timely (x + q.interval * t * d) ≡ timely x
@@ -226,11 +225,9 @@ module _ (q : EffectiveRule) (first : ℕ) {from before : ℕ} (order : from ≤
       ≡ count before (λ p. is_stepped first q.interval p && lets_own q.frequency q (p * seconds_of q.frequency))
       → total + count from (is_open_period q first) ≡ count before (is_open_period q first)
   day_in total is = count_between total _ (is_open_period q first) order
-      (λ m l h. ap (λ x. is_stepped first q.interval m && x)
-      (sym (and_true (lets_date q (m / per_day q.frequency)) _ (ap (lets_date q) (same_day m l h) ∙ is))))
+      (λ m l h. let same = same_day m l h in grind arith)
 
   pub day_out : lets_date q (from / per_day q.frequency) ≡ false → 0 + count from (is_open_period q first) ≡ count before (is_open_period q first)
   day_out out =
-      let flat = count_flat from before (is_open_period q first) order
-      (λ m l h. and_right (is_stepped first q.interval m) _ (and_left (lets_date q (m / per_day q.frequency)) _ (ap (lets_date q) (same_day m l h) ∙ out))) in
+      let flat = count_flat from before (is_open_period q first) order (λ m l h. let same = same_day m l h in grind arith) in
       omega (arith, flat)

@@ -138,10 +138,7 @@ pub counted_reach : {q : EffectiveRule} {start number target place chosen : ℕ}
 counted_reach {q = q} {target = target} {place = place} is = begun q.frequency (monday_zero q.week_start) target place is.top
 
 pub total_small : {q : EffectiveRule} {start number target place chosen : ℕ} → IsCountedStep q start number target place chosen → chosen ≤ place
-total_small {q = q} {start = start} {target = target} is =
-    let most = count_most (first_local q.frequency (monday_zero q.week_start) target) (is_chosen q start) in
-    let low = counted_reach is in
-    omega (arith, most, low, is.total)
+total_small is = let low = counted_reach is in let total = is.total in grind (arith, count_most)
 
 -- a walk that finds nothing in a round finds nothing later
 pub walk_rounds_end : {q : EffectiveRule} {start stop number : ℕ} {before now : Cursor} {begin end : ℕ} → IsWalk q start None stop number before now →

@@ -11,12 +11,7 @@ short y (suc zero) h = let none = days_of_months-zero (pos y) in let more = mont
 short y (suc (suc n)) h = absurd (omega (arith, h))
 
 long : (y n : ℕ) → 2 ≤ n → n ≤ 12 → (153 * n - 304) / 5 + days_in_year (pos y) - 306 ≡ days_of_months (pos y) n
-long y n low high =
-    let late = days_of_months-late (pos y) (n + 1) (omega (arith, low)) (omega (arith, high)) in
-    let back : n + 1 - 1 ≡ n = omega arith in
-    let late' = rw back at late in
-    let leap = days_in_year-leap_day (pos y) in
-    omega (arith, late', leap, low)
+long y n low high = let late = days_of_months-late (pos y) (n + 1) (omega (arith, low)) (omega (arith, high)) in grind (arith, days_in_year-leap_day)
 
 pub returns-then-months-lt2-clause-value : goal.returns-then-months-lt2-clause-value
 returns-then-months-lt2-clause-value c = λ y h. short y c.args.months c.if-months-lt2.true
