@@ -1,4 +1,4 @@
-use Rattle.std.proofs.Common.{◌<◌, ◌*◌, ◌/◌, ◌%◌, subst, sym, arith}
+use Rattle.std.proofs.Common.{◌<◌, ◌/◌, ◌%◌, arith}
 use Rattle.ics_fields.specs.Sets.{contains}
 use Rattle.ics_fields.proofs.SetLemmas.{member_below}
 use Rattle.ics_rule.specs.Kept.{count}
@@ -12,14 +12,13 @@ use Rattle.ics_rule.proofs.ranks.nth_minute.Goals.{After-members_below-size}
 index : (c : After-members_below-size) → (c.args.k / c.members_below-size.result < count 24 (contains c.args.hours))
     × (c.args.k % c.members_below-size.result < c.members_below-size.result)
 index c = block_index c.args.k (count 24 (contains c.args.hours)) c.members_below-size.result
-    (subst (λ x. c.args.k < count 24 (contains c.args.hours) * x) (sym c.members_below-size.ensures.value) c.requires.index)
+    (rw c.members_below-size.ensures.value c.requires.index)
 
 pub nth_member-requires : goal.nth_member-requires
-nth_member-requires c = let i = index c in let more = count_mono 24 64 (contains c.args.hours) (omega arith) in omega (arith, i.0, more)
+nth_member-requires c = grind (arith, count_mono, index)
 
 pub nth_member-requires-2 : goal.nth_member-requires-2
-nth_member-requires-2 c = let i = index (goal.at.nth_member-requires-2 c).After-members_below-size in
-    let more = count_mono 60 64 (contains c.args.minutes) (omega arith) in omega (arith, i.1, more, c.members_below-size.ensures.value)
+nth_member-requires-2 c = grind (arith, count_mono, index)
 
 pub returns-clause-nth : goal.returns-clause-nth
 returns-clause-nth c = nth-product 60 c.args.k c.members_below-size.ensures.value
