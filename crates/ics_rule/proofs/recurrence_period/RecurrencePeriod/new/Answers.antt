@@ -1,4 +1,4 @@
-use Rattle.std.proofs.Common.{◌<◌, ◌≤◌, ◌+◌, ◌*◌, ◌/◌, refl, arith}
+use Rattle.std.proofs.Common.{◌<◌, ◌≤◌, ◌+◌, ◌*◌, refl, arith}
 use Rattle.jiff_core.specs.Weekday.{monday_zero}
 use Rattle.ics_rule.proofs.PeriodLemmas.{IsPeriodFrom, next_first, period_fits, week_small}
 use Rattle.ics_rule.proofs.ProductLemmas.{product_is}
@@ -39,20 +39,14 @@ add_days_let_in-requires-clause-span c = period_span c.args.parts.now.frequency 
 
 pub returns-clause-product : goal.returns-clause-product
 returns-clause-product c = record {
-  members = product_is c.args.parts.now record {
-    number = c.args.number;
-    first_day = c.first_local-begin.result / 86_400;
-    days = c.add_days_let_in.new.days;
-    hours = c.clock_of-clock.result.hours;
-    minutes = c.clock_of-clock.result.minutes;
-    seconds = c.clock_of-clock.result.seconds;
-  } (from (goal.at.returns-clause-product c).After-first_local-end) record {
-    first = refl;
-    days = c.add_days_let_in.ensures;
-    hours = c.clock_of-clock.ensures.hours;
-    minutes = c.clock_of-clock.ensures.minutes;
-    seconds = c.clock_of-clock.ensures.seconds;
-  };
+  members = product_is c.args.parts.now record { number = c.args.number; first_day = _; days = _; hours = _; minutes = _; seconds = _ }
+      (from (goal.at.returns-clause-product c).After-first_local-end) record {
+        first = refl;
+        days = c.add_days_let_in.ensures;
+        hours = c.clock_of-clock.ensures.hours;
+        minutes = c.clock_of-clock.ensures.minutes;
+        seconds = c.clock_of-clock.ensures.seconds;
+      };
   first = omega (arith, c.requires.reach, c.first_local-begin.ensures);
   hours = c.clock_of-clock.ensures.hours_bound;
   minutes = c.clock_of-clock.ensures.minutes_bound;
