@@ -23,12 +23,6 @@ use Rattle.ics_rule.proofs.StepLemmas.{none_between}
 use Rattle.ics_rule.proofs.ChosenLemmas.{no_step, not_let_in}
 use Rattle.ics_fields.specs.Locals.{calendar_end, number}
 
--- a place from a on, and a bound after it up to b
-pub record IsWithin (a b place stop : ℕ) : Type 0 where
-  pub from : a ≤ place
-  pub some : place < stop
-  pub to : stop ≤ b
-
 -- a period that lies a multiple of the interval from the start's is met by a local of it
 module _ (q : EffectiveRule) (start a b : ℕ) where
   met_by : (p n : ℕ) → a ≤ n → n < b → period_in q n ≡ p → is_stepped (period_in q start) q.interval p ≡ true →
@@ -37,16 +31,16 @@ module _ (q : EffectiveRule) (start a b : ℕ) where
       let some = count_some b n (λ m. nat_le a m && period_in q m == p) u (grind (arith, nat_tests)) in grind (arith, nat_tests)
 
   -- so is one from that of a place to that of a bound
-  pub meets : {place stop : ℕ} → IsWithin a b place stop → (p : ℕ)
+  pub meets : {place stop : ℕ} → a ≤ place → place < stop → stop ≤ b → (p : ℕ)
       → is_stepped (period_in q start) q.interval p ≡ true → period_in q place ≤ p → p ≤ period_in q (stop - 1) → is_met q start a b p ≡ true
-  meets {place = place} {stop = stop} within p step low high = elim (cases_lt (period_in q place) p) [
+  meets {place = place} {stop = stop} from some to p step low high = elim (cases_lt (period_in q place) p) [
     | inl later ↦
         let none : period_in q 0 ≤ p = (let m = period_mono q.frequency (monday_zero q.week_start) 0 place (omega arith) in omega (arith, m)) in
         let end = begun q.frequency (monday_zero q.week_start) p (stop - 1) high in
         met_by p (first_local q.frequency (monday_zero q.week_start) p)
-        (let after = before_next q.frequency (monday_zero q.week_start) p place later in omega (arith, after, within.from))
-        (omega (arith, end)) (first_in q.frequency (monday_zero q.week_start) p (week_small q.week_start) none) step
-    | inr same ↦ met_by p place within.from (omega (arith, within.some, within.to)) (omega (arith, same, low)) step
+        (let after = before_next q.frequency (monday_zero q.week_start) p place later in omega (arith, after, from))
+        (omega (arith, end, to)) (first_in q.frequency (monday_zero q.week_start) p (week_small q.week_start) none) step
+    | inr same ↦ met_by p place from (omega (arith, some, to)) (omega (arith, same, low)) step
   ]
 
 -- the next number that passes one of two tests that agree
@@ -270,7 +264,7 @@ module _ {q : EffectiveRule} {start : ℕ} {o : Option ℕ} {stop number : ℕ} 
       (same : p.number ≡ number) (counted : CountedBy q start o after) (top : number ≤ period_in q (stop - 1)) where
     moved : HasMoved q start o stop before after
     moved = moved_on walk.moved at (λ a b s few. meets q start a b {place = looks_from o start before.place} {stop = stop}
-        record { from = few.low; some = omega (arith, walk.late, walk.early); to = s } number walk.step walk.low top)
+        few.low (omega (arith, walk.late, walk.early)) s number walk.step walk.low top)
 
     top_stop : number ≤ period_in q stop
     top_stop = let m = period_mono q.frequency (monday_zero q.week_start) (stop - 1) stop (omega arith) in omega (arith, m, top)

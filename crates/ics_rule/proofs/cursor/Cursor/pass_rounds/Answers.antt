@@ -23,15 +23,8 @@ ends : (c : Else-not-turn_through) → (c.counted_from-begin.result.1 ≤ c.turn
     (c.counted_from-begin.result.1 + c.saturating_sub-ahead.result / c.in-Some.round * (c.turn_through.new.self.counted - c.counted_from-begin.result.1))
 ends c =
     let turned = (c.turn_through.ensures.counted c.if-not-turn_through.false).turned in
-    rounds_end record {
-      even = c.in-Some.ensures c.args.start;
-      from = counts_from c.requires.interval c.requires.own c.requires.first c.counted_from-begin.ensures;
-      low = c.if-begin-lt2.false;
-      some = c.if-rounds-lt2.false;
-      top = grind (arith, div-add-mod');
-      early = c.requires.place;
-    }
-    (rw turned.number at turned.counted.total)
+    rounds_end (c.in-Some.ensures c.args.start) (counts_from c.requires.interval c.requires.own c.requires.first c.counted_from-begin.ensures)
+    c.if-begin-lt2.false c.if-rounds-lt2.false (grind (arith, div-add-mod')) c.requires.place (rw turned.number at turned.counted.total)
 
 pub overflow_sub-total : goal.overflow_sub-total
 overflow_sub-total c = (ends c).0
