@@ -15,7 +15,7 @@ use Rattle.ics_rule.specs.Cursors.{is_met, fresh, HeldBy, CountedBy, IsCursorIn,
 use Rattle.ics_rule.specs.Cursors.{HasLooked}
 use Rattle.ics_rule.specs.EffectiveRules.{effective}
 use Rattle.ics_rule.specs.Recurrence.{Recurrence}
-use Rattle.ics_rule.specs.Searches.{IsNextOpen, is_chosen_within, is_few, is_wanted, NoneWanted, HasMoved, IsWalked, LooksOrStays, LooksAt, after_look}
+use Rattle.ics_rule.specs.Searches.{IsNextOpen, is_chosen_within, is_few, is_wanted, NoneWanted, HasMoved, IsWalked, LooksAt, after_look}
 use Rattle.ics_rule.proofs.PeriodLemmas.{begun, first_in, period_mono, period_small, week_small, before_next}
 use Rattle.ics_rule.proofs.Counts.{count-suc, count_some, count_mono, count_most, count_one_more, count_every}
 use Rattle.ics_rule.proofs.RankLemmas.{found}
@@ -56,12 +56,6 @@ pub looks_once : {number : ℕ} (counted : ℕ) (before : Cursor) {now : Cursor}
     p.number ≡ number → LooksAt number before now
 looks_once counted before p h e same = grind (arith, nat_tests, begun, count_one_more)
 
-pub never_fewer : (before now : Cursor) → LooksOrStays before now → before.steps ≤ now.steps
-never_fewer before now looks = grind arith
-
-then_looks : (a b c : Cursor) → LooksOrStays a b → LooksOrStays b c → LooksOrStays a c
-then_looks a b c h l = grind (arith, nat_tests)
-
 -- a cursor before its looks
 pub moved_none : {q : EffectiveRule} {start : ℕ} {o : Option ℕ} {c : Cursor} (stop : ℕ) → IsCursorIn q start o c → HasMoved q start o stop c c
 moved_none stop own =
@@ -73,7 +67,7 @@ pub moved_on : {q : EffectiveRule} {start : ℕ} {o : Option ℕ} {stop number :
     → ((a b : ℕ) → stop ≤ b → HasLookedIn q start o before a b → is_met q start a b number ≡ true) → HasMoved q start o stop before after
 moved_on {q = q} {start = start} {before = before} {now = now} {after = after} moved at met = record {
   place = at.place ∙ moved.place;
-  looks = then_looks before now after moved.looks at.looks;
+  looks = (let first = moved.looks in let last = at.looks in grind (arith, nat_tests));
   begun = at.begun moved.begun;
   steps =
       let all = count_every (fresh now.held) in
@@ -87,14 +81,11 @@ moved_on {q = q} {start = start} {before = before} {now = now} {after = after} m
 pub held_mono : (q : EffectiveRule) (held : Option RecurrencePeriod) (n m : ℕ) → HeldBy q held n → n ≤ m → HeldBy q held m
 held_mono q held n m h l = let up = period_mono q.frequency (monday_zero q.week_start) n m l in grind arith
 
--- a later place with the same period
-counted_at : (q : EffectiveRule) (start : ℕ) (o : Option ℕ) (c : Cursor) (place : ℕ) → CountedBy q start o c → CountedBy q start o (record c { place = place })
-counted_at q start o c place h = grind arith
-
+-- and a cursor at a later place is one of the rule
 pub own_moved : {q : EffectiveRule} {start : ℕ} {o : Option ℕ} {stop : ℕ} {before now : Cursor} (place : ℕ) → HasMoved q start o stop before now →
     HeldBy q now.held place → CountedBy q start o now → place < calendar_end → IsCursorIn q start o (record now { place = place })
 own_moved {q = q} {start = start} {o = o} {now = now} place moved held counted h =
-    record { inside = h; held = held; begun = moved.begun; steps = moved.steps; counted = counted_at q start o now place counted }
+    record { inside = h; held = held; begun = moved.begun; steps = moved.steps; counted = grind arith }
 
 pub own_at : {q : EffectiveRule} {start : ℕ} {o : Option ℕ} {c : Cursor} (place : ℕ) → IsCursorIn q start o c → c.place ≤ place → place < calendar_end →
     IsCursorIn q start o (record c { place = place })
@@ -109,19 +100,11 @@ pub own_found : {q : EffectiveRule} {start : ℕ} {o : Option ℕ} {stop n : ℕ
 own_found {q = q} {n = n} {now = now} walked h =
     own_moved (n + 1) walked.moved (held_mono q now.held n (n + 1) walked.found.0 (omega arith)) walked.counted h
 
--- an answer in a later period than the place has taken a look
-pub counts_look : {q : EffectiveRule} {start : ℕ} {o : Option ℕ} {stop n : ℕ} {before now : Cursor} → IsCursorIn q start o before →
-    IsWalked q start o stop (Some n) before now → period_in q before.place < period_in q n → before.steps < now.steps
-counts_look own walked later = grind (arith, nat_tests)
-
 -- places only rise
-looks_mono : (o : Option ℕ) (start a b : ℕ) → a ≤ b → looks_from o start a ≤ looks_from o start b
-looks_mono o start a b h = grind arith
-
 pub looked_walked : {q : EffectiveRule} {start : ℕ} {o : Option ℕ} {stop : ℕ} {found : Option ℕ} {before now : Cursor} {a b : ℕ} (place : ℕ) →
     IsWalked q start o stop found before now → before.place ≤ place → stop ≤ b
     → HasLookedIn q start o before a b → HasLookedIn q start o (record now { place = place }) a b
-looked_walked place walked l s few = grind (arith, nat_tests, looks_mono)
+looked_walked place walked l s few = grind (arith, nat_tests)
 
 -- one that passes a test is among those counted
 counted_one : (n : ℕ) (test : ℕ → Bool) → 0 < count n test → (m : ℕ) × ((m < n) × (test m ≡ true))
@@ -154,7 +137,7 @@ module _ (q : EffectiveRule) (start a b : ℕ) where
 pub looked_found : {q : EffectiveRule} {start : ℕ} {o : Option ℕ} {stop n : ℕ} {before now : Cursor} {a b : ℕ} → IsWalked q start o stop (Some n) before now
     → start ≤ n → before.place ≤ n → n + 1 ≤ b → HasLookedIn q start o before a b → HasLookedIn q start o (record now { place = n + 1 }) a b
 looked_found {q = q} {start = start} {o = o} {stop = stop} {n = n} {before = before} {now = now} {a = a} {b = b} walked after low soon few = record {
-  low = (let up = looks_mono o start before.place (n + 1) (omega (arith, low)) in omega (arith, few.low, up));
+  low = (let from = few.low in grind arith);
   few =
       let wide = count_within (fresh before.held) (is_met q start a b) (is_met q start a (max b stop))
       (λ p l met. met_later q start a b (max b stop) p (omega arith) met) in
@@ -171,14 +154,13 @@ looked_found {q = q} {start = start} {o = o} {stop = stop} {n = n} {before = bef
     below held h p l = grind arith
 
 -- a cursor's steps are counted periods
-fresh_small : (q : EffectiveRule) (held : Option RecurrencePeriod) (n : ℕ) → HeldBy q held n → n < calendar_end → fresh held ≤ calendar_end
-fresh_small q held n h l = grind (arith, period_small)
-
 pub few_steps : (r : Recurrence) (c : Cursor) (a b : ℕ) → IsCursorOf r c → HasLooked r c a b → steps_of c ≤ period_count r a b
 unfolding period_count IsCursorOf HasLooked
 few_steps r c a b own looked =
     let q = effective r in
-    let more = count_mono (fresh c.held) calendar_end (is_met q (number r.start) a b) (fresh_small q c.held c.place own.held own.inside) in
+    let held = own.held in
+    let inside = own.inside in
+    let more = count_mono (fresh c.held) calendar_end (is_met q (number r.start) a b) (grind (arith, period_small)) in
     omega (arith, looked.few, more)
 
 pub within_here : (q : EffectiveRule) (start number n : ℕ) → period_in q n ≡ number → is_chosen_within q start number n ≡ is_chosen q start n
@@ -307,12 +289,3 @@ module _ {q : EffectiveRule} {start : ℕ} {o : Option ℕ} {stop number : ℕ} 
 
 pub walk_reach : (q : EffectiveRule) (number stop : ℕ) → number ≤ period_in q (stop - 1) → first_local q.frequency (monday_zero q.week_start) number ≤ stop
 walk_reach q number stop h = let b = begun q.frequency (monday_zero q.week_start) number (stop - 1) h in omega (arith, b)
-
--- a cursor that has looked at nothing
-pub cursor_begins : (q : EffectiveRule) (start : ℕ) (o : Option ℕ) (place : ℕ) → place < calendar_end →
-    IsCursorIn q start o (record { place = place; steps = 0; held = None; counted = 0; limit = 0 })
-cursor_begins q start o place h = grind arith
-
-pub looked_none : (q : EffectiveRule) (start : ℕ) (o : Option ℕ) {place from : ℕ} (b : ℕ) → place ≡ from →
-    HasLookedIn q start o (record { place = place; steps = 0; held = None; counted = 0; limit = 0 }) (looks_from o start from) b
-looked_none q start o b e = grind arith

@@ -32,12 +32,8 @@ module _ (k : ℕ) where
   years_again y = omega arith
 
   pub year_again : (e : ℕ) → year_of (e + 146_097 * k) ≡ year_of e + 400 * k
-  year_again e =
-      let under = year_under_way e in
-      let low = years_again (year_of e) in
-      let high = years_again (suc (year_of e)) in
-      let next = ap days_before_year (let same : suc (year_of e) + 400 * k ≡ suc (year_of e + 400 * k) = omega arith in same) in
-      year_of_is (e + 146_097 * k) (year_of e + 400 * k) (omega (arith, under.0, low)) (omega (arith, under.1, high, next))
+  year_again e = let under = year_under_way e in
+      year_of_is (e + 146_097 * k) (year_of e + 400 * k) (omega (arith, under.0)) (omega (arith, under.1))
 
   pub year_day_again : (e : ℕ) → year_day_of (e + 146_097 * k) ≡ year_day_of e
   unfolding year_day_of

@@ -71,9 +71,6 @@ kept_start r = rw (self_test (number r.start)) refl
 pub next_start : (r : Recurrence) (place end : ℕ) → place ≤ number r.start → number r.start < end → IsNextKept r place end (number r.start)
 next_start r place end l e = record { kept = kept_start r; from_place = l; in_bound = e; least = λ n low high. kept_earlier r n high }
 
-pub none_early : (r : Recurrence) (place end : ℕ) → end ≤ number r.start → NoneKept r place end
-none_early r place end h n low high = kept_earlier r n (omega arith)
-
 -- what is next before UNTIL and the bound is the next kept
 module _ (r : Recurrence) (place end until : ℕ) (after : number r.start < place) (early : end ≤ rules_end)
     (ends : (n : ℕ) → n < rules_end → is_by_until r.kind r.parts.until n ≡ nat_lt n until) where

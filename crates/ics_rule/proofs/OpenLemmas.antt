@@ -81,9 +81,6 @@ pub none_stepped : (a i : ℕ) (g : ℕ → Bool) → count a (λ p. is_stepped 
 none_stepped a i g = count-none a (λ p. is_stepped a i p && g p)
     (λ m l. and_left (is_stepped a i m) (g m) (false_from_ne_true (is_stepped a i m) (λ yes. let parts = stepped_parts a i m yes in omega (arith, parts.0, l))))
 
-pub step_begins : (a i : ℕ) → 1 ≤ i → IsLeastFrom (is_stepped a i) a a
-step_begins a i some = grind (arith, nat_tests, mod-mul-add, stepped_shown)
-
 -- A period of a day or less, in its day.
 module _ (f : Frequency) (q : EffectiveRule) (fine : 0 < seconds_of f) (unit : seconds_of f ≤ 86_400) where
   pub own_day : (n d : ℕ) → lets_own f q (n + d * 86_400) ≡ lets_own f q n

@@ -1,7 +1,5 @@
-use Rattle.std.proofs.Common.{◌∙◌, ap, sym, arith}
+use Rattle.std.proofs.Common.{◌∙◌, sym, arith}
 use Rattle.std.proofs.lemmas.Bool.{and_parts}
-use Rattle.ics_fields.specs.Sets.{contains_wide}
-use Rattle.ics_rule.specs.declared.effective_rule.EffectiveRule.{EffectiveRule}
 use Rattle.ics_rule.proofs.NeverLemmas.{never_chosen}
 use Rattle.ics_rule.proofs.never.chooses_none.Goals as goal
 
@@ -13,8 +11,6 @@ returns c = λ both.
       fine = omega (arith, c.if-unit-eq0.false, c.seconds_of-unit.ensures.value);
       unit = omega (arith, c.if-unit-gt86400.false, c.seconds_of-unit.ensures.value);
       some = sym c.is_empty.ensures ∙ c.if-is_empty.false;
-      front = λ k low high. sym (ap (λ (q : EffectiveRule). contains_wide q.positions.front k) c.parts.view_is)
-          ∙ c.is_past.ensures past.0 k low (omega (arith, most, high));
-      back = λ k low high. sym (ap (λ (q : EffectiveRule). contains_wide q.positions.back k) c.parts.view_is)
-          ∙ c.is_past-2.ensures past.1 k low (omega (arith, most, high));
+      front = λ k low high. let none = c.is_past.ensures past.0 k low (omega (arith, most, high)) in grind arith;
+      back = λ k low high. let none = c.is_past-2.ensures past.1 k low (omega (arith, most, high)) in grind arith;
     }

@@ -1,12 +1,15 @@
 use Rattle.std.proofs.Common.{◌∙◌, ◌<◌, ◌&&◌, true, false, refl, sym, subst, arith}
 use Rattle.ics_rule.specs.Candidates.{lets_date, is_stepped}
+use Rattle.std.proofs.lemmas.Bool.Decides.{nat_tests}
+use Rattle.std.proofs.lemmas.Nat.{mod-mul-add}
+use Rattle.ics_rule.proofs.StepLemmas.{stepped_shown}
 use Rattle.ics_rule.proofs.Counts.{count_most}
 use Rattle.ics_rule.proofs.PassLemmas.{one_out}
-use Rattle.ics_rule.proofs.OpenLemmas.{walk_first, walk_small, walk_on, walk_past, walk_done, none_stepped, step_begins}
+use Rattle.ics_rule.proofs.OpenLemmas.{walk_first, walk_small, walk_on, walk_past, walk_done, none_stepped}
 use Rattle.ics_rule.proofs.open_periods.days_let_in.Goals as goal
 
 pub loop-day-init : goal.loop-day-init
-loop-day-init c = walk_first c.requires.interval c.requires.order (step_begins c.args.from c.args.parts.now.interval c.requires.interval)
+loop-day-init c = walk_first c.requires.interval c.requires.order (grind (arith, nat_tests, mod-mul-add, stepped_shown))
 
 pub overflow_add-total : goal.overflow_add-total
 overflow_add-total c = let small = walk_small c.loop-day.invariant in omega (arith, small, c.loop-day-test.true, c.requires.before)

@@ -1,5 +1,5 @@
 use Rattle.std.proofs.Common.{◌+◌, refl, arith}
-use Rattle.ics_rule.proofs.NextLemmas.{next_start, none_early, kept_answer}
+use Rattle.ics_rule.proofs.NextLemmas.{next_start, kept_earlier, kept_answer}
 use Rattle.ics_rule.proofs.CursorLemmas.{own_at}
 use Rattle.ics_rule.proofs.cursor.Cursor.next_number.Goals as goal
 
@@ -15,7 +15,7 @@ returns-then-start-end-clause-own c = own_at (c.args.start + 1)
     c.requires.own (omega (arith, c.if-place-start.true)) (omega (arith, c.if-start-end.true, c.requires.end))
 
 pub returns-then-place-start-clause-next : goal.returns-then-place-start-clause-next
-returns-then-place-start-clause-next c = grind (arith, none_early)
+returns-then-place-start-clause-next c = grind (arith, kept_earlier)
 
 pub returns-then-place-start-clause-own : goal.returns-then-place-start-clause-own
 returns-then-place-start-clause-own c = own_at c.max-self.result

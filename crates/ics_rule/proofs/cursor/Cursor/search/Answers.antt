@@ -1,5 +1,5 @@
 use Rattle.std.proofs.Common.{arith}
-use Rattle.ics_rule.proofs.CursorLemmas.{own_at, own_walked, own_found, looked_found, looked_walked, counts_look, never_fewer}
+use Rattle.ics_rule.proofs.CursorLemmas.{own_at, own_walked, own_found, looked_found, looked_walked}
 use Rattle.ics_rule.proofs.cursor.Cursor.search.Goals as goal
 
 pub returns-then-stop-place-clause-own : goal.returns-then-stop-place-clause-own
@@ -17,14 +17,14 @@ returns-then-n-stop-clause-looked c = λ a b h few. looked_found c.in-Some.ensur
     (omega (arith, c.in-Some.ensures.next.low, c.requires.after)) (omega (arith, c.in-Some.ensures.next.low)) (omega (arith, h)) few
 
 pub returns-then-n-stop-clause-counts : goal.returns-then-n-stop-clause-counts
-returns-then-n-stop-clause-counts c = λ after later. counts_look c.requires.own c.in-Some.ensures.walked later
+returns-then-n-stop-clause-counts c = λ after later. let walked = c.in-Some.ensures.walked in grind arith
 
 pub returns-clause-looked : goal.returns-clause-looked
 returns-clause-looked c = λ a b h few. looked_walked c.args.end c.walk.ensures.walked
     (omega (arith, c.if-stop-place.false, c.requires.stop)) (omega (arith, c.requires.stop, h)) few
 
 pub returns-then-n-stop-clause-rise : goal.returns-then-n-stop-clause-rise
-returns-then-n-stop-clause-rise c = never_fewer c.args.self.now c.walk.new.self c.in-Some.ensures.walked.moved.looks
+returns-then-n-stop-clause-rise c = let looks = c.in-Some.ensures.walked.moved.looks in grind arith
 
 pub returns-clause-rise : goal.returns-clause-rise
-returns-clause-rise c = never_fewer c.args.self.now c.walk.new.self c.walk.ensures.walked.moved.looks
+returns-clause-rise c = let looks = c.walk.ensures.walked.moved.looks in grind arith
