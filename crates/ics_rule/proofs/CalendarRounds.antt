@@ -7,7 +7,7 @@ use Rattle.ics_fields.specs.declared.frequency.Frequency.{Frequency}
 use Rattle.ics_fields.specs.declared.frequency.Frequency.TheVariants.{Monthly, Yearly}
 use Rattle.ics_rule.specs.declared.effective_rule.EffectiveRule.{EffectiveRule}
 use Rattle.ics_rule.specs.PeriodNumbers.{period, day_of}
-use Rattle.ics_rule.specs.Candidates.{lets_date, lets_clock, is_stepped, period_in}
+use Rattle.ics_rule.specs.Candidates.{lets_date, is_stepped, period_in}
 use Rattle.ics_rule.specs.RecurrencePeriods.{first_local}
 use Rattle.ics_rule.specs.Rounds.{calendar_periods, IsCalendarRound, IsRound, IsEvenRound}
 use Rattle.ics_rule.proofs.RoundLemmas.{clock_same, let_in_alike, step_repeats}
@@ -30,9 +30,6 @@ first_again Monthly w p k h =
     rw (year, month) (omega (arith, years_again k ((p - 1) / 12), months_again k ((p - 1) / 12) ((p - 1) % 12)))
 first_again Yearly w p k h = let order : p + k * 400 ≡ p + 400 * k = omega arith in rw order (omega (arith, years_again k p))
 first_again f w p k h = omega arith
-
-clock_again : (q : EffectiveRule) (n k : ℕ) → lets_clock q (n + k * 12_622_780_800) ≡ lets_clock q n
-clock_again q n k = clock_same q (n + k * 12_622_780_800) n (omega arith) (omega arith) (omega arith)
 
 some_periods : (f : Frequency) → 1 ≤ calendar_periods f
 some_periods f = grind arith
@@ -57,7 +54,7 @@ calendar_is q periods round = record {
   let_in = λ n. let_in_alike q (n + round.cycles * 12_622_780_800) n
       (ap (lets_date q) (let day : (n + round.cycles * 12_622_780_800) / 86_400 ≡ n / 86_400 + 146_097 * round.cycles = omega arith in day)
       ∙ date_again q round.cycles (day_of n) round.some)
-      (clock_again q n round.cycles);
+      (clock_same q (n + round.cycles * 12_622_780_800) n (omega arith) (omega arith) (omega arith));
 }
 
 pub even_of_calendar : (q : EffectiveRule) (o : Option ℕ) → MatchOption o (Unit {0}) (IsCalendarRound q) →

@@ -1,10 +1,9 @@
 -- Rounds of periods in which a rule allows as many locals have as many chosen locals.
-use Rattle.std.proofs.Common.{◌≡◌, ℕ, zero, suc, ◌+◌, ◌-◌, ◌*◌, ◌/◌, ◌%◌, ◌<◌, ◌≤◌, ◌≢◌, inl, inr, Bool, true, false, ◌==◌, refl, sym, subst, ap, ◌∙◌}
+use Rattle.std.proofs.Common.{◌≡◌, ℕ, zero, suc, ◌+◌, ◌-◌, ◌*◌, ◌/◌, ◌%◌, ◌<◌, ◌≤◌, inl, inr, Bool, true, false, ◌==◌, refl, sym, subst, ap, ◌∙◌}
 use Rattle.std.proofs.Common.{arith}
 use Rattle.std.proofs.lemmas.Bool.{cases_lt, false_from_ne_true}
 use Rattle.std.proofs.lemmas.Bool.Decides.{nat_tests}
 use Rattle.jiff_core.specs.Weekday.{monday_zero}
-use Rattle.ics_fields.specs.declared.frequency.Frequency.{Frequency}
 use Rattle.ics_fields.specs.declared.frequency.Frequency.TheVariants.{Monthly, Yearly}
 use Rattle.ics_fields.specs.Days.{days_before_year}
 use Rattle.ics_fields.specs.Ordinals.{lists_none_wide}
@@ -13,7 +12,7 @@ use Rattle.ics_rule.specs.declared.effective_rule.EffectiveRule.{EffectiveRule}
 use Rattle.ics_rule.specs.Candidates.{is_stepped, period_in}
 use Rattle.ics_rule.specs.Kept.{count, is_chosen}
 use Rattle.ics_rule.specs.RecurrencePeriods.{first_local}
-use Rattle.ics_rule.specs.Rounds.{seconds_of, IsFlat, IsRound, IsEvenRound, chosen_to}
+use Rattle.ics_rule.specs.Rounds.{IsFlat, IsRound, IsEvenRound, chosen_to}
 use Rattle.ics_rule.proofs.Counts.{count-same, count_mono, count_one_more}
 use Rattle.ics_rule.proofs.RankLemmas.{count_flat}
 use Rattle.ics_rule.proofs.PeriodLemmas.{begun, begins, before_first, before_next, period_mono}
@@ -163,10 +162,6 @@ even_round {q = q} {periods = periods} {seconds = seconds} round = record {
 -- a round of what a rule allows is one
 pub even_of_round : (q : EffectiveRule) (start periods seconds : ℕ) → IsRound q periods seconds → IsEvenRound q start periods
 even_of_round q start periods seconds round = even_is q start periods (even_round round)
-
--- only months and years differ in their seconds
-pub is_monthly : (f : Frequency) → seconds_of f ≡ 0 → f ≢ Yearly → f ≡ Monthly
-is_monthly f h l = grind arith
 
 -- so is one after which periods add as many allowed locals
 even_by : {q : EffectiveRule} {start : ℕ} (steps : ℕ) (size : ℕ → ℕ) → 1 ≤ q.interval → 1 ≤ steps

@@ -1,24 +1,12 @@
 -- Which weekdays BYDAY names, as a set.
-use Rattle.std.proofs.Common.{◌≡◌, ℕ, zero, suc, ◌+◌, ◌<◌, ◌≤◌, Bool, true, false, ◌==◌, ◌&&◌, nat_lt, refl, sym, ap, ◌∙◌, arith}
+use Rattle.std.proofs.Common.{◌≡◌, ℕ, zero, suc, ◌<◌, ◌≤◌, Bool, true, false, ◌==◌, ◌&&◌, nat_lt, sym, ap, ◌∙◌, arith}
 use Rattle.std.proofs.lemmas.Bool.Decides.{nat_tests}
 use Rattle.std.proofs.lemmas.Nat.Bits.{bit_at-zero}
 use Rattle.ics_fields.specs.declared.ordinals.Weekdays.{Weekdays}
-use Rattle.ics_fields.specs.Sets.{contains, with_number}
+use Rattle.ics_fields.specs.Sets.{contains}
 use Rattle.ics_fields.proofs.SetLemmas.{contains-with_number}
 use Rattle.ics_rule.specs.NamedWeekdays.{names_weekday, named_below}
 use Rattle.ics_rule.proofs.ScanLemmas.{one_more, no_more}
-
-pub named_none : (w : Weekdays) → 0 ≡ named_below w 0
-unfolding named_below
-named_none w = refl
-
-pub named_more : (w : Weekdays) (d : ℕ) {s new : ℕ} → s ≡ named_below w d → names_weekday w d ≡ true → new ≡ with_number d s → new ≡ named_below w (d + 1)
-unfolding named_below
-named_more w d h there e = grind (arith, nat_tests)
-
-pub named_less : (w : Weekdays) (d s : ℕ) → s ≡ named_below w d → names_weekday w d ≡ false → s ≡ named_below w (d + 1)
-unfolding named_below
-named_less w d s h not_there = grind (arith, nat_tests)
 
 pub is_named : (w : Weekdays) (n d : ℕ) → n ≤ 64 → contains (named_below w n) d ≡ (nat_lt d n && names_weekday w d)
 unfolding named_below

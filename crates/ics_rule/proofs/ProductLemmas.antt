@@ -69,9 +69,6 @@ product_is q {number = number} {b = b} {e = e} p from is n =
     let span = ap (λ z. span_test q.frequency z e n) from.begin
     ∙ ap (λ z. span_test q.frequency (first_local q.frequency (monday_zero q.week_start) number) z n) from.end
     ∙ span_is q.frequency (monday_zero q.week_start) number n in
-    ap (λ z. z && has_second p (n % 86_400)) (day_holds is n)
-    ∙ ap (λ z. (day_test b e n && lets_date q (n / 86_400)) && z) (clock_holds is n)
-    ∙ exchange (day_test b e n) (lets_date q (n / 86_400))
+    rw (day_holds is n, clock_holds is n, ← span) (exchange (day_test b e n) (lets_date q (n / 86_400))
     ((skips_hours q.frequency || (n / 3_600 % 24 == b / 3_600 % 24)) && (skips_minutes q.frequency || (n / 60 % 60 == b / 60 % 60))
-    && (skips_seconds q.frequency || (n % 60 == b % 60))) (lets_clock q n)
-    ∙ ap (λ z. z && (lets_date q (n / 86_400) && lets_clock q n)) span
+    && (skips_seconds q.frequency || (n % 60 == b % 60))) (lets_clock q n))

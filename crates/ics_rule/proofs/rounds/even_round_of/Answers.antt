@@ -1,7 +1,7 @@
 use Rattle.std.proofs.Common.{◌≡◌, ℕ, Option, Some, None, MatchOption, arith}
 use Rattle.ics_rule.specs.declared.effective_rule.EffectiveRule.{EffectiveRule}
 use Rattle.ics_rule.specs.Rounds.{seconds_of, IsRound, IsEvenRound}
-use Rattle.ics_rule.proofs.EvenLemmas.{even_of_round, even_months, even_years, is_monthly}
+use Rattle.ics_rule.proofs.EvenLemmas.{even_of_round, even_months, even_years}
 use Rattle.ics_rule.proofs.rounds.even_round_of.Goals as goal
 use Rattle.ics_rule.proofs.rounds.even_round_of.Goals.{in-Yearly, in_default}
 
@@ -17,7 +17,7 @@ returns c = λ start.
     elim c.match-parts.branch [
       | in-Yearly w ↦ rw w.steps-is (even_years c.args.parts.now start c.requires.interval flat w.in-Yearly.is)
       | in_default w ↦ rw w.steps-is
-          (even_months c.args.parts.now start c.requires.interval flat (is_monthly c.args.parts.now.frequency even w.in_default.not-Yearly))
+          (even_months c.args.parts.now start c.requires.interval flat (let other = w.in_default.not-Yearly in grind arith))
     ]
 
 pub returns-then-seconds_of-gt0 : goal.returns-then-seconds_of-gt0
