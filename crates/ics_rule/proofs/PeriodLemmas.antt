@@ -1,9 +1,9 @@
 -- A period is the locals from its first on and before the next period's first.
-use Rattle.std.proofs.Common.{◌≡◌, ℕ, zero, suc, ◌+◌, ◌-◌, ◌*◌, ◌/◌, ◌%◌, ◌<◌, ◌≤◌, inl, inr, sym, subst, ap, cond, arith, pos}
+use Rattle.std.proofs.Common.{◌≡◌, ℕ, zero, suc, ◌+◌, ◌-◌, ◌*◌, ◌/◌, ◌%◌, ◌<◌, ◌≤◌, inl, inr, ap, cond, arith, pos}
 use Rattle.std.proofs.lemmas.Bool.{cases_lt, le-ltb, lt-ltb}
 use Rattle.jiff_core.specs.declared.civil.weekday.Weekday.{Weekday}
 use Rattle.jiff_core.specs.Weekday.{monday_zero}
-use Rattle.jiff_core.specs.Calendar.{days_of_months, days_in_month}
+use Rattle.jiff_core.specs.Calendar.{days_in_month}
 use Rattle.jiff_core.proofs.CalendarLemmas.{days_of_months_more, days_of_months_all, days_of_months-zero, days_in_month_bounds, days_in_year_bounds}
 use Rattle.ics_fields.specs.Days.{days_before_year, year_of, month_of}
 use Rattle.ics_fields.proofs.DayLemmas.{year_under_way, days_before_year_low, days_before_year_mono, days_before_year-next}
@@ -41,14 +41,8 @@ pub month_begun : (p e : ℕ) → p ≤ month_number e → month_start p ≤ e
 month_begun zero e h = let none = days_of_months-zero (pos ((0 - 1) / 12)) in omega (arith, none)
 month_begun (suc p) e h =
     let back : suc p - 1 ≡ p = omega arith in
-    rw back (elim (cases_lt e (days_before_year (p / 12) + days_of_months (pos (p / 12)) (p % 12))) [
-      | inl less ↦ absurd (
-          let same : p % 12 + 1 - 1 ≡ p % 12 = omega arith in
-          let before = earlier_month (p / 12) (p % 12 + 1) (omega arith) (omega arith) e
-          (subst (λ k. e < days_before_year (p / 12) + days_of_months (pos (p / 12)) k) (sym same) less) in
-          omega (arith, before))
-      | inr more ↦ more
-    ])
+    let same : p % 12 + 1 - 1 ≡ p % 12 = omega arith in
+    rw back (grind (arith, cases_lt, earlier_month))
 
 pub month_positive : (e : ℕ) → 0 < month_of e
 month_positive e = month_of_high e 0 (let none = days_of_months-zero (pos (year_of e)) in let u = year_under_way e in omega (arith, none, u.0)) (omega arith)
@@ -56,31 +50,25 @@ month_positive e = month_of_high e 0 (let none = days_of_months-zero (pos (year_
 pub month_begins : (p e : ℕ) → month_start p ≤ e → p ≤ month_number e
 month_begins p e h = grind (arith, cases_lt, later_month, month_positive, year_begins)
 
--- the day after the first k months of year y, and the next month's
-month_at : (y k : ℕ) → k < 12 →
-    (days_before_year y + days_of_months (pos y) (k + 1) ≡ days_before_year y + days_of_months (pos y) k + days_in_month (pos y) (k + 1))
-month_at y k h = grind (arith, days_of_months_more)
-
 pub month_size : (p : ℕ) → month_start (suc (suc p)) ≡ month_start (suc p) + days_in_month (pos (p / 12)) (p % 12 + 1)
 month_size p =
     let one : suc p - 1 ≡ p = omega arith in
     let two : suc (suc p) - 1 ≡ suc p = omega arith in
-    let more = month_at (p / 12) (p % 12) (omega arith) in
-    rw one (rw two (elim (cases_lt (p % 12) 11) [
+    let back : p % 12 + 1 - 1 ≡ p % 12 = omega arith in
+    let more = rw back at (days_of_months_more (pos (p / 12)) (p % 12 + 1) (omega arith)) in
+    rw (one, two) (elim (cases_lt (p % 12) 11) [
       | inl inside ↦
           let year : suc p / 12 ≡ p / 12 = omega arith in
           let month : suc p % 12 ≡ p % 12 + 1 = omega arith in
-          rw year (rw month more)
+          rw (year, month) (omega (arith, more))
       | inr last ↦
           let year : suc p / 12 ≡ suc (p / 12) = omega arith in
           let month : suc p % 12 ≡ 0 = omega arith in
           let december : p % 12 + 1 ≡ 12 = omega arith in
-          let next = days_before_year-next (p / 12) in
-          let all = days_of_months_all (pos (p / 12)) in
-          let none = days_of_months-zero (pos (suc (p / 12))) in
-          let more' = ap (days_of_months (pos (p / 12))) december in
-          rw year (rw month (omega (arith, more, next, all, none, more')))
-    ]))
+          let full = rw december at more in
+          rw (year, month, december)
+          (omega (arith, full, days_before_year-next (p / 12), days_of_months_all (pos (p / 12)), days_of_months-zero (pos (suc (p / 12)))))
+    ])
 
 month_length : (p : ℕ) → (month_start (suc p) < month_start (suc (suc p))) × (month_start (suc (suc p)) ≤ month_start (suc p) + 31)
 month_length p = grind (arith, days_in_month_bounds, month_size)

@@ -1,5 +1,5 @@
 -- Steps by the interval.
-use Rattle.std.proofs.Common.{◌≡◌, ℕ, ◌+◌, ◌-◌, ◌*◌, ◌/◌, ◌%◌, ◌<◌, ◌≤◌, inl, inr, true, false, subst, arith}
+use Rattle.std.proofs.Common.{◌≡◌, ℕ, ◌+◌, ◌-◌, ◌*◌, ◌/◌, ◌%◌, ◌<◌, ◌≤◌, inl, inr, true, false, arith}
 use Rattle.std.proofs.lemmas.Bool.{cases_lt, false_from_ne_true}
 use Rattle.std.proofs.lemmas.Bool.Decides.{nat_tests}
 use Rattle.std.proofs.lemmas.Nat.{div-mul-add, mod-mul-add, div-add-mod', le-div}
@@ -22,8 +22,7 @@ module _ (i : ℕ) (some : 1 ≤ i) where
   ceil_high d = let whole = div-add-mod' (d + (i - 1)) i in let rest : (d + (i - 1)) % i < i = mod-lt (d + (i - 1)) some in omega (arith, whole, rest)
 
   ceil_low : (d k : ℕ) → d ≤ k * i → ceil d ≤ k
-  ceil_low d k h = let low = le-div (ceil d) (k * i + (i - 1)) i some (let whole = div-add-mod' (d + (i - 1)) i in omega (arith, whole)) in
-      let back = div-mul-add k i (i - 1) (omega arith) in subst (λ x. ceil d ≤ x) back low
+  ceil_low d k h = grind (arith, div-add-mod', div-mul-add, le-div)
 
   -- the next step
   pub next_stepped : (first own : ℕ) → first < own → IsLeastFrom (is_stepped first i) own (first + ceil (own - first) * i)
