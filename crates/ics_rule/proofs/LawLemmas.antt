@@ -28,15 +28,12 @@ count_cases : {x y c : ℕ} (k m : Bool) → (k ≡ true → m ≡ true) → (k 
     (x + cond k 1 0 ≤ c) × (x + cond k 1 0 ≤ y + cond m 1 0)
 count_cases k m h l g = grind arith
 
-kept_both : (r : Recurrence) (c : ℕ) → r.parts.count ≡ Some c → 1 ≤ c → (n : ℕ) → (count n (is_kept r) ≤ c) × (count n (is_kept r) ≤ count n (is_in_rule r))
+-- under COUNT n at most n are kept
+pub kept_both : (r : Recurrence) (c : ℕ) → r.parts.count ≡ Some c → 1 ≤ c → (n : ℕ) → (count n (is_kept r) ≤ c) × (count n (is_kept r) ≤ count n (is_in_rule r))
 unfolding count
 kept_both r c e some zero = (omega arith, omega arith)
 kept_both r c e some (suc n) = count_cases (is_kept r n) (is_in_rule r n) (kept_in_rule r n)
     (kept_few r c n e some) (kept_both r c e some n)
-
--- under COUNT n at most n are kept
-pub kept_most : (r : Recurrence) (c n : ℕ) → r.parts.count ≡ Some c → 1 ≤ c → count n (is_kept r) ≤ c
-kept_most r c n e some = (kept_both r c e some n).0
 
 -- the weeks of a year are numbered one after the other
 pub week_next : (f : ℕ) → year_of (f + 7) ≡ year_of f → week_number (f + 7) ≡ week_number f + 1

@@ -1,14 +1,14 @@
 -- What a rule chooses repeats after a round of periods.
 use Rattle.std.proofs.Common.{◌≡◌, ℕ, zero, suc, ◌+◌, ◌-◌, ◌*◌, ◌/◌, ◌%◌, ◌<◌, ◌≤◌, ◌⊎◌, inl, inr, Bool, true, ◌&&◌, ◌==◌, nat_le, refl, sym, subst, ap, ◌∙◌}
 use Rattle.std.proofs.Common.{arith}
-use Rattle.std.proofs.lemmas.Bool.{le-leb, or_left}
+use Rattle.std.proofs.lemmas.Bool.{le-leb}
 use Rattle.std.proofs.lemmas.Bool.Decides.{nat_tests}
 use Rattle.std.proofs.lemmas.Nat.{div-add-mod'}
 use Rattle.std.proofs.Math.Nat.{add-mul-mod_self_right, mul_assoc, mul_comm}
 use Rattle.jiff_core.specs.Weekday.{monday_zero}
 use Rattle.ics_fields.specs.declared.frequency.Frequency.{Frequency}
 use Rattle.ics_fields.specs.declared.ordinals.Ordinals.{Ordinals}
-use Rattle.ics_fields.specs.Sets.{contains, is_empty}
+use Rattle.ics_fields.specs.Sets.{is_empty}
 use Rattle.ics_fields.specs.Ordinals.{lists_no_weekday}
 use Rattle.ics_fields.specs.Days.{weekday_of}
 use Rattle.ics_rule.specs.declared.effective_rule.EffectiveRule.{EffectiveRule}
@@ -24,12 +24,9 @@ use Rattle.ics_rule.proofs.Tests.{positive}
 numbered_alike : (f : Frequency) (q : EffectiveRule) (p : Ordinals) (d e : ℕ) → 0 < seconds_of f → lets_numbered f q p d ≡ lets_numbered f q p e
 numbered_alike f q p d e h = grind (arith, nat_tests)
 
-date_repeats : (q : EffectiveRule) (d e : ℕ) → names_weekdays_alone q ≡ true → 0 < seconds_of q.frequency → weekday_of d ≡ weekday_of e →
-    lets_date q d ≡ lets_date q e
-date_repeats q d e alone fine same = grind (arith, nat_tests, numbered_alike, weekdays_alone)
-
-date_free : (q : EffectiveRule) (d e : ℕ) → names_weekdays_alone q ≡ true → lists_no_weekday q.weekdays ≡ true → lets_date q d ≡ lets_date q e
-date_free q d e alone none = grind (arith, nat_tests, weekdays_alone)
+date_alike : (q : EffectiveRule) (d e : ℕ) → names_weekdays_alone q ≡ true → 0 < seconds_of q.frequency →
+    (lists_no_weekday q.weekdays ≡ true) ⊎ (weekday_of d ≡ weekday_of e) → lets_date q d ≡ lets_date q e
+date_alike q d e alone fine same = grind (arith, nat_tests, numbered_alike, weekdays_alone)
 
 pub clock_alike : (q : EffectiveRule) (n m : ℕ) → lets q.hours (hour_of n) ≡ lets q.hours (hour_of m) →
     lets q.minutes (minute_of n) ≡ lets q.minutes (minute_of m) → lets q.seconds (second_of n) ≡ lets q.seconds (second_of m)
@@ -40,8 +37,7 @@ pub clock_same : (q : EffectiveRule) (n m : ℕ) → hour_of n ≡ hour_of m →
 clock_same q n m h i s = rw (h, i, s) refl
 
 lets_alike : (s a b : ℕ) → (is_empty s ≡ true) ⊎ (a ≡ b) → lets s a ≡ lets s b
-lets_alike s a b (inl none) = or_left (is_empty s) (contains s a) none ∙ sym (or_left (is_empty s) (contains s b) none)
-lets_alike s a b (inr same) = ap (lets s) same
+lets_alike s a b h = grind (arith, nat_tests)
 
 pub let_in_alike : (q : EffectiveRule) (n m : ℕ) → lets_date q (day_of n) ≡ lets_date q (day_of m) → lets_clock q n ≡ lets_clock q m →
     (lets_date q (day_of n) && lets_clock q n) ≡ (lets_date q (day_of m) && lets_clock q m)
@@ -53,10 +49,7 @@ pub repeats : (q : EffectiveRule) (s : ℕ) → names_weekdays_alone q ≡ true 
     → (is_empty q.minutes ≡ true) ⊎ (s % 3_600 ≡ 0) → (is_empty q.seconds ≡ true) ⊎ (s % 60 ≡ 0)
     → (n : ℕ) → (lets_date q (day_of (n + s)) && lets_clock q (n + s)) ≡ (lets_date q (day_of n) && lets_clock q n)
 repeats q s alone fine w h i e n = let_in_alike q (n + s) n
-    (elim w [
-      | inl none ↦ date_free q (day_of (n + s)) (day_of n) alone none
-      | inr whole ↦ date_repeats q (day_of (n + s)) (day_of n) alone fine (omega (arith, whole))
-    ])
+    (date_alike q (day_of (n + s)) (day_of n) alone fine (elim w [ inl none ↦ inl none | inr whole ↦ inr (omega (arith, whole)) ]))
     (clock_alike q (n + s) n
     (lets_alike q.hours (hour_of (n + s)) (hour_of n) (elim h [ inl none ↦ inl none | inr whole ↦ inr (omega (arith, whole)) ]))
     (lets_alike q.minutes (minute_of (n + s)) (minute_of n) (elim i [ inl none ↦ inl none | inr whole ↦ inr (omega (arith, whole)) ]))

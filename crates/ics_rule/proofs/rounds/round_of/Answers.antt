@@ -1,11 +1,10 @@
-use Rattle.std.proofs.Common.{◌*◌, ◌/◌, arith}
+use Rattle.std.proofs.Common.{arith}
 use Rattle.ics_rule.proofs.RoundLemmas.{round_is}
 use Rattle.ics_rule.proofs.rounds.round_of.Goals as goal
 
 pub returns-then-seconds-unit-eq0 : goal.returns-then-seconds-unit-eq0
 returns-then-seconds-unit-eq0 c = (
-  c.args.parts.now.interval * (c.repeat_seconds-seconds.result / c.seconds_of-unit.result) * c.seconds_of-unit.result,
-  round_is c.seconds_of-unit.ensures.value (omega (arith, c.if-unit-eq0.false))
-      c.if-seconds-unit-eq0.true c.repeat_seconds-seconds.ensures.some c.requires.interval
-      c.repeat_seconds-seconds.ensures.repeat,
+  _,
+  round_is c.seconds_of-unit.ensures.value (omega (arith, c.if-unit-eq0.false)) c.if-seconds-unit-eq0.true
+      c.repeat_seconds-seconds.ensures.some c.requires.interval c.repeat_seconds-seconds.ensures.repeat,
 )
