@@ -19,9 +19,6 @@ use Rattle.ics_rule.proofs.RoundLemmas.{step_repeats}
 use Rattle.ics_rule.proofs.RunLemmas.{guard}
 use Rattle.ics_rule.proofs.Tests.{and_assoc, iff}
 
-and_true : (a b : Bool) → a ≡ true → (a && b) ≡ b
-and_true a b h = ap (λ x. x && b) h
-
 -- counts of tests of which each number passes as many
 count-sum : (n : ℕ) (f g h : ℕ → Bool) → ((m : ℕ) → cond (h m) 1 0 ≡ cond (f m) 1 0 + cond (g m) 1 0) → count n h ≡ count n f + count n g
 unfolding count

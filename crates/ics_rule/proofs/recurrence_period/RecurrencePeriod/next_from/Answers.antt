@@ -3,7 +3,7 @@ use Rattle.std.proofs.lemmas.Bool.{and_right}
 use Rattle.ics_rule.specs.RecurrencePeriods.{has_day, has_second, holds}
 use Rattle.ics_rule.proofs.ScanLemmas.{next_here, next_later, none_later, block_out, block_done, second_below}
 use Rattle.ics_rule.proofs.recurrence_period.RecurrencePeriod.next_from.Goals as goal
-use Rattle.ics_rule.proofs.recurrence_period.RecurrencePeriod.next_from.Goals.{Joined-has_day, then-has_day+in_default, else-has_day}
+use Rattle.ics_rule.proofs.recurrence_period.RecurrencePeriod.next_from.Goals.{Joined-has_day}
 
 none_here : (c : Joined-has_day) → (m : ℕ) → c.args.n ≤ m → m / 86_400 ≡ c.args.n / 86_400 → holds c.args.self.now m ≡ false
 none_here c = grind (arith, block_done, block_out, second_below)
