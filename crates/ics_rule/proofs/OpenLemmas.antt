@@ -118,7 +118,7 @@ abbrev pub placed : EffectiveRule → ℕ → ℕ → ℕ → ℕ → Bool
 placed q first from j p =
     (nat_le from (p / per_day q.frequency) && nat_lt ((p / per_day q.frequency - from) % q.interval) j) && is_open_period q first p
 
--- the periods of whole days, from one on and before another, of days of a rule that begins earlier
+-- whole days, from one on and before another, of a rule that begins earlier
 pub record IsDayRun (q : EffectiveRule) (first from before : ℕ) : Type 0 where
   pub fine : 0 < seconds_of q.frequency
   pub unit : seconds_of q.frequency ≤ 86_400
