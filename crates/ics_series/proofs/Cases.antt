@@ -3,7 +3,7 @@ use lib.Signed.{mag}
 use Rattle.std.proofs.Common.{◌≡◌, ℕ, suc, ◌<◌, ◌≤◌, ℤ, ◌⊎◌, Bool, true, false, not, Some, refl, arith, w64, to_z, of_z}
 use Rattle.std.specs.Ordering.{int_eq, is_eq, is_gt, ordering_then}
 use Rattle.std.specs.declared.cmp.Ordering.{Ordering}
-use Rattle.std.specs.declared.cmp.Ordering.TheVariants.{Equal, Greater}
+use Rattle.std.specs.declared.cmp.Ordering.TheVariants.{Less, Equal, Greater}
 use Rattle.std.proofs.lemmas.Int.{ints}
 
 pub some-same : {X : Type 0} (x y : X) → Some x ≡ Some y → x ≡ y
@@ -26,6 +26,10 @@ eq-Equal _ e = let f : false ≡ true = e in cc
 pub up-to-front : (c d : Ordering) → is_gt (ordering_then c d) ≡ false → is_gt c ≡ false
 up-to-front Greater d h = h
 up-to-front _ d h = refl
+
+pub less-by : (c : Ordering) → is_gt c ≡ false → is_eq c ≡ false → c ≡ Less
+less-by Less g e = refl
+less-by _ g e = cc
 
 pub below-or-last : (m n : ℕ) → m < suc n → (m < n) ⊎ (m ≡ n)
 below-or-last m n l = grind arith

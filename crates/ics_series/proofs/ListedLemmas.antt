@@ -42,31 +42,22 @@ module _ (clocks : Clocks) (w : Window) (first : Time) where
       (in-front (not (is_past w (time_of (given_by first r)))) s (start_by clocks (Listed place) (given_by first r))
       (listed_from clocks w first (place + 1) rdates) m)
 
-  front-in : (b : Bool) (x : Start) (xs : List Start) → b ≡ true → IsIn x (with_front b x xs)
-  front-in true x xs e = inl refl
-  front-in false x xs e = let f : false ≡ true = e in absurd cc
-
   rest-in : (b : Bool) (s x : Start) (xs : List Start) → IsIn s xs → IsIn s (with_front b x xs)
   rest-in true s x xs m = inr m
   rest-in false s x xs m = m
 
   -- each of them that can begin before the window's end is there
-  pub in-listed : (place k : ℕ) (rdates : List Rdate) (r : Rdate) → slice_get rdates k ≡ Some r → is_past w (time_of (given_by first r)) ≡ false
-      → IsIn (start_by clocks (Listed (place + k)) (given_by first r)) (listed_from clocks w first place rdates)
-  in-listed place k [] r e p = let f : None ≡ Some r = e in absurd cc
-  in-listed place zero (q ∷ rdates) r e p =
-      let same : q ≡ r = some-same q r e in
-      let wanted : not (is_past w (time_of (given_by first q))) ≡ true = ap (λ x. not (is_past w (time_of (given_by first x)))) same ∙ ap not p in
-      let is : start_by clocks (Listed (place + 0)) (given_by first r) ≡ start_by clocks (Listed place) (given_by first q) =
-      ap (λ n. start_by clocks (Listed n) (given_by first r)) (omega arith) ∙ ap (λ x. start_by clocks (Listed place) (given_by first x)) (sym same) in
-      subst (λ s. IsIn s (listed_from clocks w first place (q ∷ rdates))) (sym is)
-      (front-in (not (is_past w (time_of (given_by first q)))) (start_by clocks (Listed place) (given_by first q))
-      (listed_from clocks w first (place + 1) rdates) wanted)
-  in-listed place (suc k) (q ∷ rdates) r e p =
-      subst (λ n. IsIn (start_by clocks (Listed n) (given_by first r)) (listed_from clocks w first place (q ∷ rdates))) (moved place k)
-      (rest-in (not (is_past w (time_of (given_by first q)))) (start_by clocks (Listed (place + 1 + k)) (given_by first r))
-      (start_by clocks (Listed place) (given_by first q))
-      (listed_from clocks w first (place + 1) rdates) (in-listed (place + 1) k rdates r e p))
-    where
-      moved : (a b : ℕ) → (a + 1) + b ≡ a + suc b
-      moved a b = omega arith
+  pub in-listed : (place k : ℕ) (rdates : List Rdate) (r : Rdate) {at : ℕ} → at ≡ place + k → slice_get rdates k ≡ Some r →
+      is_past w (time_of (given_by first r)) ≡ false → IsIn (start_by clocks (Listed at) (given_by first r)) (listed_from clocks w first place rdates)
+  in-listed place k [] r a e p = let f : None ≡ Some r = e in absurd cc
+  in-listed place zero (q ∷ rdates) r {at = at} a e p =
+      let same : r ≡ q = some-same r q (sym e) in
+      let here : at ≡ place = omega (arith, a) in
+      subst (λ b. IsIn (start_by clocks (Listed at) (given_by first r)) (with_front b (start_by clocks (Listed place) (given_by first q))
+      (listed_from clocks w first (place + 1) rdates)))
+      (ap not (sym p) ∙ ap (λ x. not (is_past w (time_of (given_by first x)))) same)
+      (inl (λ i. start_by clocks (Listed (here i)) (given_by first (same i))))
+  in-listed place (suc k) (q ∷ rdates) r {at = at} a e p =
+      rest-in (not (is_past w (time_of (given_by first q)))) (start_by clocks (Listed at) (given_by first r))
+      (start_by clocks (Listed place) (given_by first q)) (listed_from clocks w first (place + 1) rdates)
+      (in-listed (place + 1) k rdates r (omega (arith, a)) e p)

@@ -1,10 +1,15 @@
 -- There is one listing at most.
-use Rattle.std.proofs.Common.{◌≡◌, List, [], ◌∷◌, inl, inr, ⊎_elim, refl, sym, ◌∙◌, ap}
+use Rattle.std.specs.Prelude.{slice_get}
+use Rattle.std.proofs.Common.{◌≡◌, ℕ, ◌<◌, List, [], ◌∷◌, Some, get_or, inl, inr, ⊎_elim, false, refl, sym, ◌∙◌, ap}
 use Rattle.std.specs.Cmp.{IsTotalOrder}
-use Rattle.std.specs.Ordering.{ordering_reverse}
-use Rattle.std.proofs.lemmas.Cmp.{tied_itself}
+use Rattle.std.specs.List.{AllByRecursion}
+use Rattle.std.specs.List.Sorted.{IsStrictlySortedBy}
+use Rattle.std.specs.Ordering.{is_gt, nat_cmp, ordering_reverse, MatchOrdering}
+use Rattle.std.proofs.lemmas.Cmp.{alike_right, ranked, tied_itself}
+use Rattle.std.proofs.lemmas.Map.Keys.{Less-from_sorted}
+use Rattle.std.proofs.lemmas.Option.{get_or_from_slice_get, slice_get_within}
 use Rattle.std.specs.declared.cmp.Ordering.{Ordering}
-use Rattle.std.specs.declared.cmp.Ordering.TheVariants.{Less}
+use Rattle.std.specs.declared.cmp.Ordering.TheVariants.{Less, Equal, Greater}
 use Rattle.ics_series.specs.Rising.{IsBefore, Rises}
 use Rattle.ics_series.specs.Listing.{IsIn, IsListing}
 
@@ -18,6 +23,36 @@ module _ {A : Type 0} (R : A → A → Ordering) (o : IsTotalOrder R) where
 
   pub not-both-less : (x y : A) → R x y ≡ Less → R y x ≡ Less → ⊥
   not-both-less x y h k = let t = o.antisymm x y ∙ ap ordering_reverse k in cc
+
+  -- what comes before y comes before what y is not after
+  pub less-up-to : (x y z : A) → R x y ≡ Less → is_gt (R y z) ≡ false → R x z ≡ Less
+  less-up-to x y z l g = by (R y z) refl g
+    where
+      by : (c : Ordering) → R y z ≡ c → is_gt c ≡ false → R x z ≡ Less
+      by Less e g = o.trans x y z l e
+      by Equal e g = sym (alike_right o y z x e) ∙ l
+      by Greater e g = cc
+
+  -- as std says it
+  pub strictly-sorted : (xs : List A) → Rises R xs → IsStrictlySortedBy R xs
+  unfolding IsStrictlySortedBy
+  strictly-sorted [] h = tt
+  strictly-sorted (x ∷ xs) h = (each xs h.0, strictly-sorted xs h.1)
+    where
+      each : (ys : List A) → IsBefore R x ys → AllByRecursion (λ y. R x y ≡ Less) ys
+      each [] h = tt
+      each (y ∷ ys) h = (h.0, each ys h.1)
+
+  -- of two places in a rising list
+  pub rises-by_place : (xs : List A) (i j : ℕ) {x y : A} → Rises R xs → slice_get xs i ≡ Some x → slice_get xs j ≡ Some y → R x y ≡ nat_cmp i j
+  rises-by_place xs i j {x = x} {y = y} r p q =
+      sym (λ t. R (get_or_from_slice_get xs i x x p t) (get_or_from_slice_get xs j y x q t)) ∙ by (nat_cmp i j) (ranked i j (nat_cmp i j) refl)
+    where
+      by : (c : Ordering) → MatchOrdering c (i < j) (i ≡ j) (j < i) → R (get_or xs i x) (get_or xs j x) ≡ c
+      by Less m = Less-from_sorted R xs i j x (strictly-sorted xs r) m (slice_get_within xs j y q)
+      by Equal m = ap (λ n. R (get_or xs i x) (get_or xs n x)) (sym m) ∙ tied_itself o (get_or xs i x)
+      by Greater m =
+          o.antisymm (get_or xs i x) (get_or xs j x) ∙ ap ordering_reverse (Less-from_sorted R xs j i x (strictly-sorted xs r) m (slice_get_within xs i x p))
 
   -- the first of two rising lists with the same members is the same
   same-first : {x y : A} (xs ys : List A) → IsBefore R x xs → IsBefore R y ys → IsIn x (y ∷ ys) → IsIn y (x ∷ xs) → x ≡ y

@@ -1,6 +1,6 @@
 -- One version of a subject counts, and an event has one occurrence at most with a start.
-use Rattle.std.proofs.Common.{◌≡◌, ℕ, List, refl, sym, ◌∙◌, ap}
-use Rattle.std.specs.Prelude.{ℤ, slice_get}
+use Rattle.std.proofs.Common.{◌≡◌, List, refl, sym, ◌∙◌, ap}
+use Rattle.std.specs.Prelude.{slice_get}
 use Rattle.std.specs.Cmp.{IsTotalOrder}
 use Rattle.std.specs.Ordering.{nat_cmp, ordering_reverse, ordering_then}
 use Rattle.std.proofs.lemmas.Cmp.{nat_cmp_total, on_total, then_total}
@@ -8,7 +8,6 @@ use Rattle.std.proofs.lemmas.Map.Lookups.{exact_unsigned}
 use Rattle.std.specs.declared.cmp.Ordering.{Ordering}
 use Rattle.std.specs.declared.cmp.Ordering.TheVariants.{Less, Equal, Greater}
 use Rattle.ics_event.specs.Event.{FileSaid}
-use Rattle.ics_event.specs.declared.event.Event.{Event}
 use Rattle.ics_series.specs.Chosen.{subject_of, IsChosen}
 use Rattle.ics_series.specs.Clocks.{Clock}
 use Rattle.ics_series.specs.Entry.{Entry}
@@ -41,15 +40,12 @@ same-event {files = files} {p = p} h k e f =
     let file : h.within.0 ≡ k.within.0 = some-same _ _ (sym h.within.1 ∙ (ap (slice_get files) e ∙ k.within.1)) in
     some-same _ _ (sym h.within.2 ∙ (ap (λ x. slice_get x.events p.place) file ∙ (ap (slice_get k.within.0.events) f ∙ k.within.2)))
 
-abbrev pub make : ℕ → ℕ → Event → Placed
-make file place event = record { file = file; place = place; event = event }
-
 -- of one place there is one event
 pub same-placed : (files : List FileSaid) (p q : Placed) → IsPlaced files p → IsPlaced files q → placed_cmp p q ≡ Equal → p ≡ q
 same-placed files p q h k e =
     let places = same-places p q e in
     let event = same-event h k places.0 places.1 in
-    ap (λ f. make f p.place p.event) places.0 ∙ (ap (λ n. make q.file n p.event) places.1 ∙ ap (make q.file q.place) event)
+    λ i. record { file = places.0 i; place = places.1 i; event = event i }
 
 -- of a subject one version counts
 pub one-chosen : {files : List FileSaid} {display : Clock} {p q : Placed} → IsChosen files display p → IsChosen files display q →
@@ -59,7 +55,4 @@ one-chosen {files = files} {p = p} {q = q} h k u =
     (tied-by p q (placed_cmp p q) refl (h.greatest q k.placed (sym u)) (k.greatest p h.placed u))
 
 pub same-entry : (o q : Entry) → o.start ≡ q.start → o.finish ≡ q.finish → o.recurrence ≡ q.recurrence → o.event ≡ q.event → o ≡ q
-same-entry o q a b c d =
-    let build : ℤ → ℤ → ℤ → Event → Entry = λ s f r e. record { start = s; finish = f; recurrence = r; event = e } in
-    ap (λ s. build s o.finish o.recurrence o.event) a ∙ (ap (λ f. build q.start f o.recurrence o.event) b
-    ∙ (ap (λ r. build q.start q.finish r o.event) c ∙ ap (λ e. build q.start q.finish q.recurrence e) d))
+same-entry o q a b c d = λ i. record { start = a i; finish = b i; recurrence = c i; event = d i }

@@ -5,7 +5,7 @@ use Rattle.std.specs.List.{AllByRecursion}
 use Rattle.std.specs.Ordering.{nat_cmp}
 use Rattle.std.specs.declared.cmp.Ordering.TheVariants.{Less, Equal}
 use Rattle.std.proofs.Common.{◌≡◌, ℕ, ℤ, ◌+◌, ◌≤◌, List, [], ◌∷◌, map, ◌⊎◌, inl, inr, ⊎_elim, Option, refl, sym, ◌∙◌, ap, subst, arith}
-use Rattle.std.proofs.lemmas.Cmp.{nat_list_cmp_total, tied_itself}
+use Rattle.std.proofs.lemmas.Cmp.{nat_list_cmp_total, on_total, tied_itself}
 use Rattle.std.proofs.lemmas.List.Sums.{sum_by-cons}
 use Rattle.ics_event.specs.Event.{FileSaid}
 use Rattle.ics_series.specs.declared.window.Window.{Window}
@@ -17,9 +17,11 @@ use Rattle.ics_series.specs.HeldMost.{held_most, most_in_days, Master}
 use Rattle.ics_series.specs.Listing.{IsIn, IsListing}
 use Rattle.ics_series.specs.OnDays.{IsNearDay}
 use Rattle.ics_series.specs.PlacedEvents.{Placed, clocks_at}
-use Rattle.ics_series.specs.Rising.{IsBefore, Rises}
+use Rattle.ics_series.specs.Rising.{Rises}
 use Rattle.ics_series.specs.Sources.{master_at, master_of, recurring, uid_cmp, AreSources, IsFrom, IsMasterOf, Recurring, Source}
 use Rattle.ics_series.specs.Versions.{by_subject}
+use Rattle.ics_series.proofs.ListingLemmas.{before-in}
+use Rattle.ics_series.proofs.SortLemmas.{all-as, all-in, in-all}
 
 -- a list without one of its members
 record Rest {A : Type 0} (f : A → ℕ) (x : A) (xs : List A) : Type 0 where
@@ -44,8 +46,7 @@ without f x (y ∷ ys) (inr m) =
 
 same-master : (files : List FileSaid) (display : Clock) (m : Recurring) (by : Placed) → m.clocks ≡ clocks_at files display by.file → m.event ≡ by.event
     → master_of m ≡ master_at files display by
-same-master files display m by clocks event =
-    ap (λ c. record { clocks = c; event = m.event }) clocks ∙ ap (λ e. record { clocks = clocks_at files display by.file; event = e }) event
+same-master files display m by clocks event = λ i. record { clocks = clocks i; event = event i }
 
 module _ (files : List FileSaid) (display : Clock) where
   -- a master of the folder
@@ -83,70 +84,52 @@ module _ (files : List FileSaid) (display : Clock) where
     sums-within [] masters r h = omega arith
     sums-within (m ∷ ms) masters r h =
         let w = without (λ p. f (master_at files display p)) h.0.by masters h.0.stands in
-        let rest = sums-within ms w.rest r.1 (still h.0 w ms r.0 h.1) in
+        let uids = on_total (λ (n : Recurring). n.event.uid) nat_list_cmp_total in
+        let rest = sums-within ms w.rest r.1 (in-all (IsAmong w.rest) ms (λ n k. let o = all-in (IsAmong masters) ms h.1 n k in record {
+          by = o.by;
+          stands = ⊎_elim (λ s. absurd (behind m n h.0.by h.0.same (o.same ∙ ap (master_at files display) s) (before-in uid_cmp uids m n ms r.0 k))) (λ i. i)
+              (w.others o.by o.stands);
+          same = o.same;
+        })) in
         omega (arith, sum_by-cons f (master_of m) (map master_of ms), ap f h.0.same, rest, as-sums masters, as-sums w.rest, w.sum)
-      where
-        still : (a : IsAmong masters m) (w : Rest (λ p. f (master_at files display p)) a.by masters) → (ns : List Recurring) → IsBefore uid_cmp m ns
-            → AllByRecursion (IsAmong masters) ns → AllByRecursion (IsAmong w.rest) ns
-        still a w [] b k = tt
-        still a w (n ∷ ns) b k = (
-          record {
-            by = k.0.by;
-            stands = ⊎_elim (λ s. absurd (behind m n a.by a.same (k.0.same ∙ ap (master_at files display) s) b.0)) (λ i. i) (w.others k.0.by k.0.stands);
-            same = k.0.same;
-          },
-          still a w ns b.1 k.1,
-        )
-
-  among : (masters : List Placed) → IsListing (by_subject files display) (IsMaster files display) masters → (ms : List Recurring)
-      → AllByRecursion IsOfFolder ms → AllByRecursion (IsAmong masters) ms
-  among masters all [] h = tt
-  among masters all (m ∷ ms) h = (record { by = h.0.by; stands = (all.exact h.0.by).1 h.0.is; same = h.0.same }, among masters all ms h.1)
 
   -- A sum over some masters of the folder, each with a UID of its own, is at most that over all of them.
   pub sum-of-masters : (f : Master → ℕ) (ms : List Recurring) (masters : List Placed) → Rises uid_cmp ms → AllByRecursion IsOfFolder ms
       → IsListing (by_subject files display) (IsMaster files display) masters → sum_by f (map master_of ms) ≤ sum_by f (map (master_at files display) masters)
-  sum-of-masters f ms masters rise are all = sums-within f ms masters rise (among masters all ms are)
+  sum-of-masters f ms masters rise are all =
+      sums-within f ms masters rise (all-as IsOfFolder (IsAmong masters) ms
+      (λ m h. record { by = h.by; stands = (all.exact h.by).1 h.is; same = h.same }) are)
 
   pub held-of-masters : (ms : List Recurring) (masters : List Placed) → Rises uid_cmp ms → AllByRecursion IsOfFolder ms
       → IsListing (by_subject files display) (IsMaster files display) masters → held_most (map master_of ms) ≤ held_most (map (master_at files display) masters)
   unfolding held_most
   held-of-masters ms masters rise are all = omega (arith, sum-of-masters (λ m. 2 + most_in_days m.clocks m.event) ms masters rise are all)
 
-  -- the masters of a listing are masters of the folder
-  masters-of : (w : Window) (after : Option Rank) (ms : List Recurring) → AllByRecursion (IsMasterOf files display w after) ms → AllByRecursion IsOfFolder ms
-  masters-of w after [] h = tt
-  masters-of w after (m ∷ ms) h = (
-    record { by = h.0.by; is = h.0.is; same = same-master files display m h.0.by h.0.clocks h.0.event },
-    masters-of w after ms h.1,
-  )
-
--- and so are those that are searched near a day
+-- those that are searched near a day are masters of the folder
 pub day-masters : (s : Scope) (day : ℤ) (ms : List Recurring) → AllByRecursion (IsDayMaster s day) ms → AllByRecursion (IsOfFolder s.files s.display) ms
-day-masters s day [] h = tt
-day-masters s day (m ∷ ms) h = (record { by = h.0.by; is = h.0.is; same = h.0.searched.same }, day-masters s day ms h.1)
+day-masters s day ms =
+    all-as (IsDayMaster s day) (IsOfFolder s.files s.display) ms (λ m h. record { by = h.by; is = h.is; same = h.searched.same })
 
 -- those of a listing are searched in its window, from an instant on
 pub searched-masters : (s : Scope) {day : ℤ} {n : Window} (after : Option Rank) → IsNearDay s.window day n
     → ((since : ℤ) → IsFrom after since → IsFromStart s.after day since)
     → (ms : List Recurring) → AllByRecursion (IsMasterOf s.files s.display n after) ms → AllByRecursion (IsDayMaster s day) ms
-searched-masters s after near from [] h = tt
-searched-masters s {day = day} after near from (m ∷ ms) h = (
-  record {
-    by = h.0.by;
-    is = h.0.is;
-    searched = record {
-      same = same-master s.files s.display m h.0.by h.0.clocks h.0.event;
-      near = subst (IsNearDay s.window day) (sym h.0.window) near;
-      from = from m.since h.0.since;
-    };
-  },
-  searched-masters s after near from ms h.1,
-)
+searched-masters s {day = day} {n = n} after near from ms =
+    all-as (IsMasterOf s.files s.display n after) (IsDayMaster s day) ms (λ m h. record {
+      by = h.by;
+      is = h.is;
+      searched = record {
+        same = same-master s.files s.display m h.by h.clocks h.event;
+        near = subst (IsNearDay s.window day) (sym h.window) near;
+        from = from m.since h.since;
+      };
+    })
 
 module _ (files : List FileSaid) (display : Clock) (w : Window) (after : Option Rank) where
   pub most-of-masters : (sources : List Source) (masters : List Placed) → AreSources files display w after sources →
       IsListing (by_subject files display) (IsMaster files display) masters
       → held_most (map master_of (recurring sources)) ≤ held_most (map (master_at files display) masters)
   most-of-masters sources masters are all =
-      held-of-masters files display (recurring sources) masters are.apart.1.1 (masters-of files display w after (recurring sources) are.each) all
+      held-of-masters files display (recurring sources) masters are.apart.1.1
+      (all-as (IsMasterOf files display w after) (IsOfFolder files display) (recurring sources)
+      (λ m h. record { by = h.by; is = h.is; same = same-master files display m h.by h.clocks h.event }) are.each) all

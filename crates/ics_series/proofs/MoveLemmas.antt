@@ -6,13 +6,13 @@ use Rattle.std.proofs.lemmas.Cmp.{nat_cmp_total, tied_itself}
 use Rattle.std.proofs.lemmas.Bool.Decides.{nat_tests}
 use Rattle.std.proofs.lemmas.Map.Lookups.{exact_unsigned}
 use Rattle.std.specs.declared.cmp.Ordering.{Ordering}
-use Rattle.std.specs.declared.cmp.Ordering.TheVariants.{Less, Equal, Greater}
+use Rattle.std.specs.declared.cmp.Ordering.TheVariants.{Equal}
 use Rattle.ics_event.specs.Event.{FileSaid}
 use Rattle.ics_series.specs.Chosen.{overridden, subject_of, IsChosen, IsMaster, IsOverride, IsOverridden, SubjectSeen}
 use Rattle.ics_series.specs.Clocks.{Clock, Clocks, clocks_of}
 use Rattle.ics_series.specs.Entry.{Entry}
 use Rattle.ics_series.specs.Laws.{AddedFiles, AreApart, AreReordered, HaveApartVersions, OrderOfFiles}
-use Rattle.ics_series.specs.Occurs.{Occurs, IsOf, IsMoved, IsOfMaster, IsOfOverride}
+use Rattle.ics_series.specs.Occurs.{Occurs, IsOf, IsMoved}
 use Rattle.ics_series.specs.PlacedEvents.{Placed, IsPlaced, clocks_at, placed_cmp, zones_of}
 
 -- the event, in the file that its own has become
@@ -25,6 +25,15 @@ record IsMove (files others : List FileSaid) (display : Clock) (to : ℕ → ℕ
   orders : (p q : Placed) → IsPlaced files p → IsPlaced files q → subject_of files display p ≡ subject_of files display q →
       placed_cmp p q ≡ placed_cmp (move to p) (move to q)
   meets : (p q : Placed) → IsPlaced files p → IsPlaced others q → q.event.uid ≡ p.event.uid → (r : Placed) × IsPlaced files r × (move to r ≡ q)
+
+-- what gives an occurrence
+abbrev giver : (files : List FileSaid) (display : Clock) (o : Entry) → Occurs files display o → Placed
+giver files display o (inl h) = h.master
+giver files display o (inr h) = h.override
+
+giver-placed : (files : List FileSaid) (display : Clock) (o : Entry) (h : Occurs files display o) → IsPlaced files (giver files display o h)
+giver-placed files display o (inl h) = h.is.chosen.placed
+giver-placed files display o (inr h) = h.is.chosen.placed
 
 module _ (files others : List FileSaid) (display : Clock) (to : ℕ → ℕ) (m : IsMove files others display to) where
   moved-placed : (p : Placed) → IsPlaced files p → IsPlaced others (move to p)
@@ -97,26 +106,23 @@ module _ (files others : List FileSaid) (display : Clock) (to : ℕ → ℕ) (m 
     of = subst (λ (c : Clocks). IsMoved c h.override.event o) (sym (same-clocks h.override h.is.chosen.placed)) h.of;
   })
 
-  -- a master or an override among the others that is one of the files' own
-  own-master : (o : Entry) (p : Placed) → IsPlaced files p → (h : IsOfMaster others display o) → move to p ≡ h.master → Occurs files display o
-  own-master o p n h e =
-      let of : IsOf (clocks_at others display (to p.file)) p.event o = subst (λ (q : Placed). IsOf (clocks_at others display q.file) q.event o) (sym e) h.of in
-      let is : IsMaster others display (move to p) = subst (λ (q : Placed). IsMaster others display q) (sym e) h.is in
+  -- of what occurs among the others, what gives it is one of the files' own
+  occurs-here : (o : Entry) (h : Occurs others display o) → ((p : Placed) × IsPlaced files p × (move to p ≡ giver others display o h)) → Occurs files display o
+  occurs-here o (inl h) own =
+      let is : IsMaster others display (move to own.0) = subst (IsMaster others display) (sym own.2) h.is in
       inl (record {
-        master = p;
-        is = record { chosen = chosen-here p n is.chosen; single = is.single };
-        of = subst (λ (c : Clocks). IsOf c p.event o) (same-clocks p n) of;
+        master = own.0;
+        is = record { chosen = chosen-here own.0 own.1 is.chosen; single = is.single };
+        of = subst (λ (c : Clocks). IsOf c own.0.event o) (same-clocks own.0 own.1)
+            (subst (λ (q : Placed). IsOf (clocks_at others display q.file) q.event o) (sym own.2) h.of);
         kept = λ k. h.kept (overridden-there o.event.uid o.recurrence k);
       })
-
-  own-override : (o : Entry) (p : Placed) → IsPlaced files p → (h : IsOfOverride others display o) → move to p ≡ h.override → Occurs files display o
-  own-override o p n h e =
-      let of : IsMoved (clocks_at others display (to p.file)) p.event o =
-      subst (λ (q : Placed). IsMoved (clocks_at others display q.file) q.event o) (sym e) h.of in
+  occurs-here o (inr h) own =
       inr (record {
-        override = p;
-        is = override-here p o.recurrence n (subst (λ (q : Placed). IsOverride others display q o.recurrence) (sym e) h.is);
-        of = subst (λ (c : Clocks). IsMoved c p.event o) (same-clocks p n) of;
+        override = own.0;
+        is = override-here own.0 o.recurrence own.1 (subst (λ (q : Placed). IsOverride others display q o.recurrence) (sym own.2) h.is);
+        of = subst (λ (c : Clocks). IsMoved c own.0.event o) (same-clocks own.0 own.1)
+            (subst (λ (q : Placed). IsMoved (clocks_at others display q.file) q.event o) (sym own.2) h.of);
       })
 
 module _ {A : Type 0} where
@@ -163,10 +169,11 @@ module _ (files more : List FileSaid) (display : Clock) (apart : AreApart files 
   }
 
   occurs-one : (o : Entry) → Occurs (files ++ more) display o → Occurs files display o ⊎ Occurs more display o
-  occurs-one o (inl h) = ⊎_elim (λ n. inl (own-master files (files ++ more) display (λ k. k) first-stay o h.master n h refl))
-      (λ s. inr (own-master more (files ++ more) display (λ k. length files + k) others-behind o s.0 s.1 h s.2)) (whose h.master h.is.chosen.placed)
-  occurs-one o (inr h) = ⊎_elim (λ n. inl (own-override files (files ++ more) display (λ k. k) first-stay o h.override n h refl))
-      (λ s. inr (own-override more (files ++ more) display (λ k. length files + k) others-behind o s.0 s.1 h s.2)) (whose h.override h.is.chosen.placed)
+  occurs-one o h =
+      let q = giver (files ++ more) display o h in
+      ⊎_elim
+      (λ n. inl (occurs-here files (files ++ more) display (λ k. k) first-stay o h (q, n, refl)))
+      (λ s. inr (occurs-here more (files ++ more) display (λ k. length files + k) others-behind o h s)) (whose q (giver-placed (files ++ more) display o h))
 
   occurs-both : (o : Entry) → Occurs files display o ⊎ Occurs more display o → Occurs (files ++ more) display o
   occurs-both o (inl h) = occurs-there files (files ++ more) display (λ k. k) first-stay o h
@@ -182,58 +189,39 @@ added-files files more display w apart o = (
 by-sequence : (p q : Placed) (to : ℕ → ℕ) → (p.event.sequence ≡ q.event.sequence → p.file ≡ q.file) → placed_cmp p q ≡ placed_cmp (move to p) (move to q)
 by-sequence p q to h = by (nat_cmp p.event.sequence q.event.sequence) refl
   where
+    tied : (a b : ℕ) → a ≡ b → nat_cmp a b ≡ Equal
+    tied a b e = ap (nat_cmp a) (sym e) ∙ tied_itself nat_cmp_total a
+
     by : (c : Ordering) → nat_cmp p.event.sequence q.event.sequence ≡ c
         → ordering_then c (ordering_then (nat_cmp p.file q.file) (nat_cmp p.place q.place))
         ≡ ordering_then c (ordering_then (nat_cmp (to p.file) (to q.file)) (nat_cmp p.place q.place))
-    by Less e = refl
-    by Greater e = refl
     by Equal e =
-        let same : p.file ≡ q.file = h (exact_unsigned p.event.sequence q.event.sequence e) in
-        let one : nat_cmp p.file q.file ≡ Equal = ap (nat_cmp p.file) (sym same) ∙ tied_itself nat_cmp_total p.file in
-        let two : nat_cmp (to p.file) (to q.file) ≡ Equal = ap (λ n. nat_cmp (to p.file) (to n)) (sym same) ∙ tied_itself nat_cmp_total (to p.file) in
-        ap (λ c. ordering_then c (nat_cmp p.place q.place)) (one ∙ sym two)
+        let same = h (exact_unsigned p.event.sequence q.event.sequence e) in
+        ap (λ c. ordering_then c (nat_cmp p.place q.place)) (tied p.file q.file same ∙ sym (tied (to p.file) (to q.file) (ap to same)))
+    by _ e = refl
 
-abbrev reordered-back : (files others : List FileSaid) → AreReordered files others → AreReordered others files
-reordered-back files others m = record {
-  there = m.back;
-  back = m.there;
-  moved = λ k. sym (m.moved (m.back k)) ∙ ap (slice_get others) (m.from k);
-  from = m.to;
-  to = m.from;
-}
-
--- the same event in the other order
-there-placed : (files others : List FileSaid) (m : AreReordered files others) (p : Placed) → IsPlaced files p → IsPlaced others (move m.there p)
-there-placed files others m p h = record { within = (h.within.0, m.moved p.file ∙ h.within.1, h.within.2) }
-
-there-subject : (files others : List FileSaid) (display : Clock) (m : AreReordered files others) (p : Placed) →
-    subject_of others display (move m.there p) ≡ subject_of files display p
-there-subject files others display m p = ap (λ o. record { uid = p.event.uid; recurrence = overridden (clocks_of display (zones_of o)) p.event })
-    (m.moved p.file)
-
-apart-there : (files others : List FileSaid) (display : Clock) → AreReordered files others → HaveApartVersions files display → HaveApartVersions others display
-apart-there files others display m apart p q h k u e =
-    let b = reordered-back files others m in
-    sym (m.from p.file)
-    ∙ ap m.there (apart (move m.back p) (move m.back q) (there-placed others files b p h) (there-placed others files b q k)
-    (there-subject others files display b p ∙ u ∙ sym (there-subject others files display b q)) e)
-    ∙ m.from q.file
-
-reordered-move : (files others : List FileSaid) (display : Clock) (m : AreReordered files others) → HaveApartVersions files display →
-    IsMove files others display m.there
-reordered-move files others display m apart = record {
-  keeps = λ k f e. m.moved k ∙ e;
-  orders = λ p q h k u. by-sequence p q m.there (λ e. apart p q h k u e);
-  meets = λ p q h k u. (
+module _ (files others : List FileSaid) (display : Clock) (m : AreReordered files others) where
+  own-place : (q : Placed) → IsPlaced others q → (r : Placed) × IsPlaced files r × (move m.there r ≡ q)
+  own-place q k = (
     move m.back q,
-    there-placed others files (reordered-back files others m) q k,
+    record { within = (k.within.0, sym (m.moved (m.back q.file)) ∙ (ap (slice_get others) (m.from q.file) ∙ k.within.1), k.within.2) },
     ap (λ (n : ℕ). record { file = n; place = q.place; event = q.event }) (m.from q.file),
-  );
-}
+  )
+
+  reordered-move : HaveApartVersions files display → IsMove files others display m.there
+  reordered-move apart = record {
+    keeps = λ k f e. m.moved k ∙ e;
+    orders = λ p q h k u. by-sequence p q m.there (λ e. apart p q h k u e);
+    meets = λ p q h k u. own-place q k;
+  }
 
 pub order-of-files : OrderOfFiles
-order-of-files files others display w m apart o = (
-  (λ h. (occurs-there files others display m.there (reordered-move files others display m apart) o h.0, h.1)),
-  λ h. let b = reordered-back files others m in
-      (occurs-there others files display m.back (reordered-move others files display b (apart-there files others display m apart)) o h.0, h.1),
-)
+order-of-files files others display w m apart o =
+    let by = reordered-move files others display m apart in (
+      (λ h. (occurs-there files others display m.there by o h.0, h.1)),
+      λ h. (
+        occurs-here files others display m.there by o h.0
+            (own-place files others display m (giver others display o h.0) (giver-placed others display o h.0)),
+        h.1,
+      ),
+    )

@@ -1,17 +1,17 @@
 -- Behind a master stand its overrides, in the order of the instances that they override.
-use Rattle.std.specs.Prelude.{⊤, ◌||◌, ◌&&◌, slice_get, if◌then◌else◌}
+use Rattle.std.specs.Prelude.{slice_get, if◌then◌else◌}
 use Rattle.std.proofs.Common.{◌≡◌, ◌+◌, add-one, ℕ, zero, suc, ◌<◌, ◌≤◌, ℤ, List, [], ◌∷◌, ◌++◌, map, length, get_or, drop, Option, Some, None, Bool, true}
-use Rattle.std.proofs.Common.{false, refl, sym}
-use Rattle.std.proofs.Common.{◌∙◌, ap, subst}
+use Rattle.std.proofs.Common.{false, ◌⊎◌, inl, inr, ⊎_elim, refl, sym, ◌∙◌, ap, subst}
+use Rattle.std.specs.Cmp.{IsTotalOrder}
 use Rattle.std.specs.Cmp.Lexicographic.{slice_cmp}
 use Rattle.std.specs.List.{cons_option, filter_map, list_any}
 use Rattle.std.specs.List.Sorted.{IsSorted}
 use Rattle.std.specs.Option.{option_cmp, option_map}
-use Rattle.std.specs.Ordering.{int_cmp, int_eq, is_eq, nat_cmp, on, ordering_reverse, ordering_then}
+use Rattle.std.specs.Ordering.{int_cmp, int_eq, is_eq, is_gt, nat_cmp, on, ordering_reverse, ordering_then}
 use Rattle.std.specs.Str.{bytes_eq}
 use Rattle.std.specs.declared.cmp.Ordering.{Ordering}
-use Rattle.std.specs.declared.cmp.Ordering.TheVariants.{Less, Equal, Greater}
-use Rattle.std.proofs.lemmas.Cmp.{alike_right, int_cmp_total, nat_list_cmp_total, on_total, tied_itself}
+use Rattle.std.specs.declared.cmp.Ordering.TheVariants.{Less, Greater}
+use Rattle.std.proofs.lemmas.Cmp.{eq_by_cmp_equiv, int_cmp_total, nat_list_cmp_total, on_total, tied_itself}
 use Rattle.std.proofs.Math.ListN.{drop_of_length-le}
 use Rattle.std.proofs.Math.Seq.{drop-cons}
 use Rattle.std.proofs.lemmas.List.{append-nil, append_assoc}
@@ -22,14 +22,19 @@ use Rattle.ics_event.specs.Event.{FileSaid}
 use Rattle.ics_series.specs.declared.version.Version.{Version}
 use Rattle.ics_series.specs.Chosen.{SubjectSeen}
 use Rattle.ics_series.specs.Clocks.{Clock}
+use Rattle.ics_series.specs.Listing.{IsIn, IsListing}
 use Rattle.ics_series.specs.Overridden.{instance_of, AreOverridden}
 use Rattle.ics_series.specs.Rising.{IsBefore, Rises}
-use Rattle.ics_series.specs.Versions.{is_named, seen, subject_cmp, subject_seen, AreChosen}
-use Rattle.ics_series.proofs.Cases.{some-same, eq-Equal}
-use Rattle.ics_series.proofs.FoundLemmas.{both-tie}
-use Rattle.ics_series.proofs.OverrideLemmas.{chosen-rises, map-rises, rises-sorted}
-use Rattle.ics_series.proofs.PickLemmas.{rises-picked}
-use Rattle.ics_series.proofs.VersionLemmas.{subject_total}
+use Rattle.ics_series.specs.Versions.{is_named, seen, subject_cmp, subject_seen, AreChosen, Label}
+use Rattle.ics_series.proofs.Cases.{eq-Equal, less-by, some-same, up-to-front}
+use Rattle.ics_series.proofs.GivenLemmas.{in-map, map-in}
+use Rattle.ics_series.proofs.ListingLemmas.{before-in, less-up-to, not-both-less, not-less-itself}
+use Rattle.ics_series.proofs.OverrideLemmas.{chosen-rises, rises-on, rises-sorted}
+use Rattle.ics_series.proofs.PickLemmas.{listing-picked}
+use Rattle.ics_series.proofs.RuleLocalLemmas.{same-test}
+use Rattle.ics_series.proofs.SeriesLemmas.{among-in, in-among}
+use Rattle.ics_series.proofs.SortLemmas.{any-in, get-in, in-any}
+use Rattle.ics_series.proofs.VersionLemmas.{exact-subject, subject_total}
 
 -- by subject
 abbrev pub version_cmp : Version → Version → Ordering
@@ -37,19 +42,31 @@ version_cmp = on (λ v. subject_seen v.subject) subject_cmp
 
 -- the versions that count stand in the order of their subjects
 pub chosen-order : {files : List FileSaid} {display : Clock} {vs : List Version} → AreChosen files display vs → Rises version_cmp vs
-chosen-order {vs = vs} h = map-rises seen (on (λ l. l.subject) subject_cmp) vs (chosen-rises h)
+chosen-order {vs = vs} h = (rises-on seen (on (λ l. l.subject) subject_cmp) vs).0 (chosen-rises h)
 
 -- The end of a rising list.
-module _ {A : Type 0} (R : A → A → Ordering) where
+module _ {A : Type 0} (R : A → A → Ordering) (o : IsTotalOrder R) where
   behind-rises : (xs : List A) (i : ℕ) (x : A) → Rises R xs → slice_get xs i ≡ Some x → IsBefore R x (drop (suc i) xs) × Rises R (drop (suc i) xs)
   behind-rises [] i x r e = let f : None ≡ Some x = e in absurd cc
   behind-rises (y ∷ ys) zero x r e = (subst (λ z. IsBefore R z ys) (some-same y x e) r.0, r.1)
   behind-rises (y ∷ ys) (suc i) x r e = behind-rises ys i x r.1 e
 
-  before-there : (y : A) (ys : List A) (i : ℕ) (x : A) → IsBefore R y ys → slice_get ys i ≡ Some x → R y x ≡ Less
-  before-there y [] i x b e = let f : None ≡ Some x = e in absurd cc
-  before-there y (z ∷ zs) zero x b e = ap (R y) (some-same x z (sym e)) ∙ b.0
-  before-there y (z ∷ zs) (suc i) x b e = before-there y zs i x b.1 e
+  -- what comes after the value at a place stands behind it
+  in-behind : (xs : List A) (i : ℕ) (x v : A) → Rises R xs → slice_get xs i ≡ Some x → R x v ≡ Less → IsIn v xs → IsIn v (drop (suc i) xs)
+  in-behind [] i x v r e l m = absurd m
+  in-behind (y ∷ ys) zero x v r e l m =
+      ⊎_elim (λ s. absurd (not-less-itself R o x (ap (R x) (sym (s ∙ some-same y x e)) ∙ l))) (λ n. n) m
+  in-behind (y ∷ ys) (suc i) x v r e l m =
+      ⊎_elim (λ s. absurd (not-both-less R o y x (before-in R o y x ys r.0 (get-in x ys i e)) (ap (R x) (sym s) ∙ l)))
+      (λ n. in-behind ys i x v r.1 e l n) m
+
+drop-in : {A : Type 0} (n : ℕ) (xs : List A) (v : A) → IsIn v (drop n xs) → IsIn v xs
+drop-in zero xs v m = m
+drop-in (suc n) [] v m = m
+drop-in (suc n) (x ∷ xs) v m = inr (drop-in n xs v m)
+
+version_total : IsTotalOrder version_cmp
+version_total = on_total (λ v. subject_seen v.subject) subject_total
 
 module _ (uid : List ℕ) where
   abbrev master : SubjectSeen
@@ -62,45 +79,41 @@ module _ (uid : List ℕ) where
   abbrev pub found : List Version → List ℤ
   found vs = filter_map (λ v. instance_of uid (subject_seen v.subject)) vs
 
-  -- What is named.
-  named-one : (t : ℤ) (s : SubjectSeen) (rest : List ℤ) →
-      list_any (λ x. int_eq x t) (cons_option (instance_of uid s) rest) ≡ (is_eq (subject_cmp s (instance t)) || list_any (λ x. int_eq x t) rest)
-  named-one t s rest =
-      by (bytes_eq s.uid uid) s.recurrence
-      ∙ ap (λ b. b || list_any (λ x. int_eq x t) rest)
-      (ap (λ b. b && is_eq (option_cmp int_cmp s.recurrence (Some t))) (sym (is_eq-slice_cmp s.uid uid))
-      ∙ both-tie (slice_cmp nat_cmp s.uid uid) (option_cmp int_cmp s.recurrence (Some t)))
+  -- what is overridden tells the subject, unless that is of another UID
+  subject-by : (s : SubjectSeen) → (s ≡ record { uid = uid; recurrence = instance_of uid s })
+      ⊎ ((is_eq (slice_cmp nat_cmp s.uid uid) ≡ false) × (instance_of uid s ≡ None))
+  subject-by s = by (bytes_eq s.uid uid) refl
     where
-      by : (b : Bool) (r : Option ℤ) → list_any (λ x. int_eq x t) (cons_option (if b then r else None) rest)
-          ≡ ((b && is_eq (option_cmp int_cmp r (Some t))) || list_any (λ x. int_eq x t) rest)
-      by true (Some x) = refl
-      by true None = refl
-      by false r = refl
+      by : (b : Bool) → bytes_eq s.uid uid ≡ b → (s ≡ record { uid = uid; recurrence = if b then s.recurrence else None })
+          ⊎ ((is_eq (slice_cmp nat_cmp s.uid uid) ≡ false) × ((if b then s.recurrence else None) ≡ None))
+      by true e = inl (ap (λ u. record { uid = u; recurrence = s.recurrence })
+          (exact_bytes s.uid uid (eq-Equal (slice_cmp nat_cmp s.uid uid) (is_eq-slice_cmp s.uid uid ∙ e))))
+      by false e = inr (is_eq-slice_cmp s.uid uid ∙ e, refl)
 
-  named-found : (t : ℤ) (vs : List Version) → list_any (λ x. int_eq x t) (found vs) ≡ is_named (instance t) (map seen vs)
-  named-found t [] = refl
-  named-found t (v ∷ vs) = named-one t (subject_seen v.subject) (found vs)
-      ∙ ap (λ b. is_eq (subject_cmp (subject_seen v.subject) (instance t)) || b) (named-found t vs)
+  own-instance : (s : SubjectSeen) (t : ℤ) → instance_of uid s ≡ Some t → s ≡ instance t
+  own-instance s t e =
+      ⊎_elim (λ k. k ∙ ap (λ r. record { uid = uid; recurrence = r }) e) (λ k. let f : None ≡ Some t = sym k.1 ∙ e in absurd cc) (subject-by s)
 
-  -- those before an override of the master do not name it
-  less-named : (t : ℤ) (v : Version) (b : Bool) → subject_cmp (subject_seen v.subject) (instance t) ≡ Less →
-      (is_eq (subject_cmp (subject_seen v.subject) (instance t)) || b) ≡ b
-  less-named t v b l = ap (λ c. is_eq c || b) l
+  instance-own : (t : ℤ) → instance_of uid (instance t) ≡ Some t
+  instance-own t = ap (λ b. if b then Some t else None) (sym (is_eq-slice_cmp uid uid) ∙ ap is_eq (tied_itself nat_list_cmp_total uid))
 
   master-less : (t : ℤ) → subject_cmp master (instance t) ≡ Less
   master-less t = ap (λ c. ordering_then c Less) (tied_itself nat_list_cmp_total uid)
 
-  named-behind : (t : ℤ) (vs : List Version) (i : ℕ) {x : Version} → Rises version_cmp vs → slice_get vs i ≡ Some x → subject_seen x.subject ≡ master →
-      is_named (instance t) (map seen vs) ≡ is_named (instance t) (map seen (drop (suc i) vs))
-  named-behind t [] i {x = x} r e m = let f : None ≡ Some x = e in absurd cc
-  named-behind t (v ∷ vs) zero {x = x} r e m =
-      less-named t v (is_named (instance t) (map seen vs)) (ap (λ s. subject_cmp s (instance t)) (ap (λ (y : Version). subject_seen y.subject) (some-same v x e)
-      ∙ m) ∙ master-less t)
-  named-behind t (v ∷ vs) (suc i) {x = x} r e m =
-      let less = before-there version_cmp v vs i x r.0 e in
-      let above : subject_cmp (subject_seen x.subject) (instance t) ≡ Less = ap (λ s. subject_cmp s (instance t)) m ∙ master-less t in
-      less-named t v (is_named (instance t) (map seen vs)) (subject_total.trans (subject_seen v.subject) (subject_seen x.subject) (instance t) less above)
-      ∙ named-behind t vs i r.1 e m
+  instances-rise : (v w : Version) {t u : ℤ} → instance_of uid (subject_seen v.subject) ≡ Some t → instance_of uid (subject_seen w.subject) ≡ Some u →
+      version_cmp v w ≡ Less → int_cmp t u ≡ Less
+  instances-rise v w {t = t} {u = u} e f l =
+      let a = own-instance (subject_seen v.subject) t e in
+      let b = own-instance (subject_seen w.subject) u f in
+      sym ((λ i. subject_cmp (a i) (b i)) ∙ ap (λ c. ordering_then c (int_cmp t u)) (tied_itself nat_list_cmp_total uid)) ∙ l
+
+  -- the instances stand in order
+  found-listing : (vs : List Version) → Rises version_cmp vs →
+      IsListing int_cmp (λ t. (v : Version) × IsIn v vs × (instance_of uid (subject_seen v.subject) ≡ Some t)) (found vs)
+  found-listing vs r =
+      listing-picked (λ v. instance_of uid (subject_seen v.subject)) version_cmp version_total int_cmp (λ v. IsIn v vs)
+      (λ x z y v p q e f l. instances-rise x z e f l) (λ t. (v : Version) × IsIn v vs × (instance_of uid (subject_seen v.subject) ≡ Some t)) vs
+      (record { rises = r; exact = λ v. (λ m. m, λ m. m) }) (λ v t m e. (v, m, e)) (λ t k. k)
 
   -- Where they end.
   abbrev IsLater : SubjectSeen → Type 0
@@ -112,56 +125,21 @@ module _ (uid : List ℕ) where
       ap (λ b. if b then s.recurrence else None) (sym (is_eq-slice_cmp s.uid uid) ∙ ap is_eq turned)
 
   not-instance : (s : SubjectSeen) → subject_cmp master s ≡ Less → instance_of uid s ≡ None → IsLater s
-  not-instance s l n = by (slice_cmp nat_cmp uid s.uid) s.recurrence refl refl
-    where
-      by : (c : Ordering) (r : Option ℤ) → slice_cmp nat_cmp uid s.uid ≡ c → s.recurrence ≡ r → c ≡ Less
-      by Less r e q = refl
-      by Greater r e q = let f : Greater ≡ Less = ap (λ c. ordering_then c (option_cmp int_cmp None s.recurrence)) (sym e) ∙ l in absurd cc
-      by Equal None e q = let f : Equal ≡ Less = (λ i. ordering_then (sym e i) (option_cmp int_cmp None (sym q i))) ∙ l in absurd cc
-      by Equal (Some t) e q =
-          let own : bytes_eq s.uid uid ≡ true = sym (is_eq-slice_cmp s.uid uid) ∙ ap is_eq (nat_list_cmp_total.antisymm s.uid uid ∙ ap ordering_reverse e) in
-          let f : Some t ≡ None = sym ((λ i. if own i then q i else None)) ∙ n in
-          absurd cc
-
-  later-still : (s r : SubjectSeen) → IsLater s → subject_cmp s r ≡ Less → IsLater r
-  later-still s r l h = by (slice_cmp nat_cmp s.uid r.uid) refl
-    where
-      by : (c : Ordering) → slice_cmp nat_cmp s.uid r.uid ≡ c → IsLater r
-      by Less e = nat_list_cmp_total.trans uid s.uid r.uid l e
-      by Equal e = sym (alike_right nat_list_cmp_total s.uid r.uid uid e) ∙ l
-      by Greater e = let f : Greater ≡ Less = ap (λ c. ordering_then c (option_cmp int_cmp s.recurrence r.recurrence)) (sym e) ∙ h in absurd cc
+  not-instance s l n =
+      let low = up-to-front (slice_cmp nat_cmp uid s.uid) (option_cmp int_cmp None s.recurrence) (ap is_gt l) in
+      less-by (slice_cmp nat_cmp uid s.uid) low
+      (⊎_elim
+      (λ k. absurd (not-less-itself subject_cmp subject_total master
+      (ap (subject_cmp master) (sym (k ∙ ap (λ r. record { uid = uid; recurrence = r }) n)) ∙ l)))
+      (λ k. (eq_by_cmp_equiv nat_list_cmp_total).symm uid s.uid ∙ k.0) (subject-by s))
 
   none-behind : (v : Version) (vs : List Version) → IsLater (subject_seen v.subject) → IsBefore version_cmp v vs → found vs ≡ []
   none-behind v [] l b = refl
   none-behind v (x ∷ xs) l b =
-      ap (λ o. cons_option o (found xs)) (none-later (subject_seen x.subject) (later-still (subject_seen v.subject) (subject_seen x.subject) l b.0))
-      ∙ none-behind v xs l b.1
-
-  none-from : (v : Version) (vs : List Version) → subject_cmp master (subject_seen v.subject) ≡ Less → instance_of uid (subject_seen v.subject) ≡ None →
-      IsBefore version_cmp v vs → found (v ∷ vs) ≡ []
-  none-from v vs l n b = ap (λ o. cons_option o (found vs)) n ∙ none-behind v vs (not-instance (subject_seen v.subject) l n) b
-
-  -- Their order.
-  own-uid : (s : SubjectSeen) (t : ℤ) → instance_of uid s ≡ Some t → (s.uid ≡ uid) × (s.recurrence ≡ Some t)
-  own-uid s t = by (bytes_eq s.uid uid) refl
-    where
-      by : (b : Bool) → bytes_eq s.uid uid ≡ b → (if b then s.recurrence else None) ≡ Some t → (s.uid ≡ uid) × (s.recurrence ≡ Some t)
-      by true e h = (exact_bytes s.uid uid (eq-Equal (slice_cmp nat_cmp s.uid uid) (is_eq-slice_cmp s.uid uid ∙ e)), h)
-      by false e h = let f : None ≡ Some t = h in absurd cc
-
-  instances-rise : (v w : Version) {t u : ℤ} → instance_of uid (subject_seen v.subject) ≡ Some t → instance_of uid (subject_seen w.subject) ≡ Some u →
-      version_cmp v w ≡ Less → int_cmp t u ≡ Less
-  instances-rise v w {t = t} {u = u} e f l =
-      let a = own-uid (subject_seen v.subject) t e in
-      let b = own-uid (subject_seen w.subject) u f in
-      sym ((λ i. ordering_then (slice_cmp nat_cmp (a.0 i) (b.0 i)) (option_cmp int_cmp (a.1 i) (b.1 i)))
-      ∙ ap (λ c. ordering_then c (int_cmp t u)) (tied_itself nat_list_cmp_total uid)) ∙ l
-
-  found-sorted : (vs : List Version) → Rises version_cmp vs → IsSorted int_cmp (found vs)
-  found-sorted vs r =
-      rises-sorted int_cmp int_cmp_total (found vs)
-      (rises-picked (λ v. instance_of uid (subject_seen v.subject)) version_cmp (on_total (λ v. subject_seen v.subject) subject_total) int_cmp (λ v. ⊤)
-      (λ x z y v p q e f l. instances-rise x z e f l) vs (λ x m. tt) r)
+      let s = subject_seen v.subject in
+      let r = subject_seen x.subject in
+      let up = up-to-front (slice_cmp nat_cmp s.uid r.uid) (option_cmp int_cmp s.recurrence r.recurrence) (ap is_gt b.0) in
+      ap (λ o. cons_option o (found xs)) (none-later r (less-up-to (slice_cmp nat_cmp) nat_list_cmp_total uid s.uid r.uid l up)) ∙ none-behind v xs l b.1
 
 -- The loop over the versions behind a master.
 module _ (uid : List ℕ) (behind : List Version) (i : ℕ) (d : Version) where
@@ -183,17 +161,36 @@ module _ (uid : List ℕ) (versions behind : List Version) (place : ℕ) (order 
       by None e h = let f : None ≡ Some (master uid) = h in absurd cc
 
   behind-master : IsBefore version_cmp own.0 behind × Rises version_cmp behind
-  behind-master = subst (λ vs. IsBefore version_cmp own.0 vs × Rises version_cmp vs) (sym rest) (behind-rises version_cmp versions place own.0 order own.1)
+  behind-master =
+      subst (λ vs. IsBefore version_cmp own.0 vs × Rises version_cmp vs) (sym rest) (behind-rises version_cmp version_total versions place own.0 order own.1)
 
   -- what is found of them is sorted
   pub overridden-sorted : (instants : List ℤ) → instants ≡ found uid behind → IsSorted int_cmp instants
-  overridden-sorted instants e = subst (IsSorted int_cmp) (sym e) (found-sorted uid behind behind-master.1)
+  overridden-sorted instants e =
+      subst (IsSorted int_cmp) (sym e) (rises-sorted int_cmp int_cmp_total (found uid behind) (found-listing uid behind behind-master.1).rises)
 
   -- and is all that is overridden
   pub overridden-all : (instants : List ℤ) → instants ≡ found uid behind → AreOverridden uid (map seen versions) instants
-  overridden-all instants e = λ t.
-      ap (list_any (λ x. int_eq x t)) e ∙ (named-found uid t behind
-      ∙ (ap (λ vs. is_named (instance uid t) (map seen vs)) rest ∙ sym (named-behind uid t versions place order own.1 own.2)))
+  overridden-all instants e t =
+      let listing = found-listing uid behind behind-master.1 in
+      same-test (list_any (λ x. int_eq x t) instants) (is_named (instance uid t) (map seen versions))
+      (λ among.
+      let k = (listing.exact t).0 (subst (IsIn t) e (among-in t instants among)) in
+      in-any is_it (seen k.0) (map seen versions)
+      (ap (λ s. is_eq (subject_cmp s (instance uid t))) (own-instance uid (subject_seen k.0.subject) t k.2)
+      ∙ ap is_eq (tied_itself subject_total (instance uid t)))
+      (map-in seen k.0 versions (drop-in (suc place) versions k.0 (subst (IsIn k.0) rest k.1))))
+      (λ named.
+      let l = any-in is_it (map seen versions) named in
+      let v = in-map seen l.0 versions l.1 in
+      let same = exact-subject (subject_seen v.0.subject) (instance uid t)
+      (eq-Equal (subject_cmp (subject_seen v.0.subject) (instance uid t)) (ap is_it (sym v.2) ∙ l.2)) in
+      let there = in-behind version_cmp version_total versions place own.0 v.0 order own.1 ((λ i. subject_cmp (own.2 i) (same i)) ∙ master-less uid t) v.1 in
+      in-among t instants
+      (subst (IsIn t) (sym e) ((listing.exact t).1 (v.0, subst (IsIn v.0) (sym rest) there, ap (instance_of uid) same ∙ instance-own uid t))))
+    where
+      is_it : Label → Bool
+      is_it l = is_eq (subject_cmp l.subject (instance uid t))
 
   -- from the first of another UID on nothing is found
   pub found-stops : (i : ℕ) (d : Version) (instants : List ℤ) → i < length behind → instants ++ found uid (drop i behind) ≡ found uid behind →
@@ -201,11 +198,11 @@ module _ (uid : List ℕ) (versions behind : List Version) (place : ℕ) (order 
   found-stops i d instants l whole none =
       let v = get_or behind i d in
       let here = slice_get-get_or behind i d l in
+      let later = not-instance uid (subject_seen v.subject) (ap (λ s. subject_cmp s (subject_seen v.subject)) (sym own.2)
+      ∙ before-in version_cmp version_total own.0 v behind behind-master.0 (get-in v behind i here)) none in
       let stops : found uid (drop i behind) ≡ [] =
-      ap (found uid) (drop-cons behind i d l)
-      ∙ none-from uid v (drop (suc i) behind) (ap (λ s. subject_cmp s (subject_seen v.subject)) (sym own.2)
-      ∙ before-there version_cmp own.0 behind i v behind-master.0 here) none
-      (behind-rises version_cmp behind i v behind-master.1 here).0 in
+      ap (found uid) (drop-cons behind i d l) ∙ (ap (λ o. cons_option o (found uid (drop (suc i) behind))) none
+      ∙ none-behind uid v (drop (suc i) behind) later (behind-rises version_cmp version_total behind i v behind-master.1 here).0) in
       sym (append-nil instants) ∙ (ap (λ xs. instants ++ xs) (sym stops) ∙ whole)
 
   -- and past the last nothing

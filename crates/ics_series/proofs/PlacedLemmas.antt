@@ -6,7 +6,6 @@ use Rattle.ics_event.specs.declared.event.Event.{Event}
 use Rattle.ics_series.specs.Listing.{IsIn}
 use Rattle.ics_series.specs.PlacedEvents.{Placed, IsPlaced}
 use Rattle.ics_series.specs.Versions.{placed_from, placed_in}
-use Rattle.ics_series.proofs.MasterLemmas.{make}
 use Rattle.ics_series.proofs.Cases.{some-same}
 
 module _ {A : Type 0} where
@@ -22,66 +21,45 @@ module _ {A : Type 0} where
   in-append x [] ys m = inr m
   in-append x (z ∷ zs) ys m = ⊎_elim (λ e. inl (inl e)) (λ n. ⊎_elim (λ a. inl (inr a)) inr (in-append x zs ys n)) m
 
--- it stands among the events of a file, of which the first stands at a place
-record IsAmong (file place : ℕ) (events : List Event) (p : Placed) : Type 0 where
-  in_file : p.file ≡ file
-  from : ℕ
-  at : p.place ≡ place + from
-  is : slice_get events from ≡ Some p.event
+-- A file's events, of which the first stands at a place.
+placed_from-in : (file place : ℕ) (events : List Event) (p : Placed) → IsIn p (placed_from file place events) →
+    (k : ℕ) × (p.file ≡ file) × (p.place ≡ place + k) × (slice_get events k ≡ Some p.event)
+placed_from-in file place [] p m = absurd m
+placed_from-in file place (e ∷ es) p (inl s) = (0, ap (λ q. q.file) s, ap (λ q. q.place) s ∙ omega arith, ap (λ q. Some q.event) (sym s))
+placed_from-in file place (e ∷ es) p (inr n) = let h = placed_from-in file (place + 1) es p n in (suc h.0, h.1, omega (arith, h.2), h.3)
 
-placed_from-among : (file place : ℕ) (events : List Event) (p : Placed) → IsIn p (placed_from file place events) → IsAmong file place events p
-placed_from-among file place [] p m = absurd m
-placed_from-among file place (e ∷ es) p m =
+in-placed_from : (file place k : ℕ) (events : List Event) (event : Event) {at : ℕ} → at ≡ place + k → slice_get events k ≡ Some event →
+    IsIn (record { file = file; place = at; event = event }) (placed_from file place events)
+in-placed_from file place k [] event a e = let f : None ≡ Some event = e in cc
+in-placed_from file place zero (x ∷ xs) event a e =
+    let same = some-same event x (sym e) in
+    let here = a ∙ omega arith in
+    inl (λ i. record { file = file; place = here i; event = same i })
+in-placed_from file place (suc k) (x ∷ xs) event a e = inr (in-placed_from file (place + 1) k xs event (omega (arith, a)) e)
+
+-- The events of files, of which the first has a number.
+placed_in-in : (file : ℕ) (files : List FileSaid) (p : Placed) → IsIn p (placed_in file files) →
+    (k : ℕ) × (of : FileSaid) × (p.file ≡ file + k) × (slice_get files k ≡ Some of) × (slice_get of.events p.place ≡ Some p.event)
+placed_in-in file [] p m = absurd m
+placed_in-in file (f ∷ fs) p m =
     ⊎_elim
-    (λ s. record { in_file = ap (λ q. q.file) s; from = 0; at = ap (λ q. q.place) s ∙ omega arith; is = ap (λ q. Some q.event) (sym s) })
-    (λ n. let h = placed_from-among file (place + 1) es p n in record { in_file = h.in_file; from = suc h.from; at = omega (arith, h.at); is = h.is })
-    m
-
-among-placed_from : (file place : ℕ) (events : List Event) (event : Event) (k : ℕ) → slice_get events k ≡ Some event →
-    IsIn (make file (place + k) event) (placed_from file place events)
-among-placed_from file place [] event k e = let f : None ≡ Some event = e in cc
-among-placed_from file place (x ∷ xs) event zero e =
-    inl (ap (λ n. make file n event) (omega arith) ∙ ap (make file place) (some-same event x (sym e)))
-among-placed_from file place (x ∷ xs) event (suc k) e =
-    inr (subst (λ n. IsIn (make file n event) (placed_from file (place + 1) xs)) (omega arith) (among-placed_from file (place + 1) xs event k e))
-
-record IsAmongFiles (file : ℕ) (files : List FileSaid) (p : Placed) : Type 0 where
-  from : ℕ
-  in_file : p.file ≡ file + from
-  of : FileSaid
-  is_file : slice_get files from ≡ Some of
-  is : slice_get of.events p.place ≡ Some p.event
-
-placed_in-among : (file : ℕ) (files : List FileSaid) (p : Placed) → IsIn p (placed_in file files) → IsAmongFiles file files p
-placed_in-among file [] p m = absurd m
-placed_in-among file (f ∷ fs) p m =
-    ⊎_elim
-    (λ a. let h = placed_from-among file 0 f.events p a in
-    record { from = 0; in_file = omega (arith, h.in_file); of = f; is_file = refl; is = ap (slice_get f.events) (omega (arith, h.at)) ∙ h.is })
-    (λ n. let h = placed_in-among (file + 1) fs p n in
-    record { from = suc h.from; in_file = omega (arith, h.in_file); of = h.of; is_file = h.is_file; is = h.is })
+    (λ a. let h = placed_from-in file 0 f.events p a in (0, f, omega (arith, h.1), refl, ap (slice_get f.events) (omega (arith, h.2)) ∙ h.3))
+    (λ n. let h = placed_in-in (file + 1) fs p n in (suc h.0, h.1, omega (arith, h.2), h.3, h.4))
     (in-append p (placed_from file 0 f.events) (placed_in (file + 1) fs) m)
 
-among-placed_in : (file : ℕ) (files : List FileSaid) (k place : ℕ) {of : FileSaid} {event : Event} → slice_get files k ≡ Some of →
-    slice_get of.events place ≡ Some event
-    → IsIn (make (file + k) place event) (placed_in file files)
-among-placed_in file [] k place {of = of} h e = let f : None ≡ Some of = h in cc
-among-placed_in file (f ∷ fs) zero place {of = of} {event = event} h e =
+in-placed_in : (file k : ℕ) (files : List FileSaid) {of : FileSaid} (p : Placed) → p.file ≡ file + k → slice_get files k ≡ Some of →
+    slice_get of.events p.place ≡ Some p.event → IsIn p (placed_in file files)
+in-placed_in file k [] {of = of} p a h e = let f : None ≡ Some of = h in absurd cc
+in-placed_in file zero (f ∷ fs) {of = of} p a h e =
     let same : f ≡ of = some-same f of h in
-    in-append_left (make (file + 0) place event) (placed_from file 0 f.events) (placed_in (file + 1) fs)
-    (subst (λ n. IsIn (make n place event) (placed_from file 0 f.events)) (omega arith)
-    (subst (λ n. IsIn (make file n event) (placed_from file 0 f.events)) (omega arith)
-    (among-placed_from file 0 f.events event place (ap (λ x. slice_get x.events place) same ∙ e))))
-among-placed_in file (f ∷ fs) (suc k) place {event = event} h e =
-    in-append_right (make (file + suc k) place event) (placed_from file 0 f.events) (placed_in (file + 1) fs)
-    (subst (λ n. IsIn (make n place event) (placed_in (file + 1) fs)) (omega arith) (among-placed_in (file + 1) fs k place h e))
+    in-append_left p (placed_from file 0 f.events) (placed_in (file + 1) fs)
+    (subst (λ n. IsIn (record { file = n; place = p.place; event = p.event }) (placed_from file 0 f.events)) (omega (arith, a))
+    (in-placed_from file 0 p.place f.events p.event (omega arith) (ap (λ x. slice_get x.events p.place) same ∙ e)))
+in-placed_in file (suc k) (f ∷ fs) p a h e =
+    in-append_right p (placed_from file 0 f.events) (placed_in (file + 1) fs) (in-placed_in (file + 1) k fs p (omega (arith, a)) h e)
 
 pub placed-in : (files : List FileSaid) (p : Placed) → IsPlaced files p → IsIn p (placed_in 0 files)
-placed-in files p h =
-    subst (λ n. IsIn (make n p.place p.event) (placed_in 0 files)) (omega arith)
-    (among-placed_in 0 files p.file p.place h.within.1 h.within.2)
+placed-in files p h = in-placed_in 0 p.file files p (omega arith) h.within.1 h.within.2
 
 pub in-placed : (files : List FileSaid) (p : Placed) → IsIn p (placed_in 0 files) → IsPlaced files p
-in-placed files p m =
-    let h = placed_in-among 0 files p m in
-    record { within = (h.of, ap (slice_get files) (omega (arith, h.in_file)) ∙ h.is_file, h.is) }
+in-placed files p m = let h = placed_in-in 0 files p m in record { within = (h.1, ap (slice_get files) (omega (arith, h.2)) ∙ h.3, h.4) }

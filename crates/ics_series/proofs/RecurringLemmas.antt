@@ -1,12 +1,11 @@
 -- What a master gives that recurs: of the occurrences to come those of its event.
-use Rattle.std.specs.Prelude.{◌≤ℤ◌, ◌||◌, ◌&&◌, ◌==◌, int_le, neg_ℤ, not, slice_get, is_none, is_some}
-use Rattle.std.proofs.Common.{◌≡◌, ◌<◌, ◌<ℤ◌, ℕ, zero, suc, ℤ, pos, List, [], ◌∷◌, map, length, get_or, inl, inr, Option, Some, None, Bool, true, false, refl}
+use Rattle.std.specs.Prelude.{◌≤ℤ◌, ◌||◌, ◌&&◌, ◌==◌, int_le, not, is_none, is_some}
+use Rattle.std.proofs.Common.{◌≡◌, ◌<ℤ◌, ℤ, List, [], map, length, Option, Some, None, Bool, true, false, refl}
 use Rattle.std.proofs.Common.{sym, ◌∙◌, ap, subst, arith}
-use Rattle.std.specs.List.{filter, list_any}
+use Rattle.std.specs.List.{list_any}
 use Rattle.std.specs.Option.{option_map}
 use Rattle.std.specs.Ordering.{int_eq}
 use Rattle.std.proofs.lemmas.Int.{ints}
-use Rattle.std.proofs.lemmas.Option.{slice_get-get_or}
 use Rattle.ics_event.specs.Event.{FileSaid, IsEvent}
 use Rattle.ics_event.specs.declared.event.Event.{Event}
 use Rattle.ics_event.specs.declared.time.Time.{Time}
@@ -18,26 +17,23 @@ use Rattle.ics_series.specs.Clocks.{Clock, Clocks, instant}
 use Rattle.ics_series.specs.Entry.{Entry, Rank, entry_cmp}
 use Rattle.ics_series.specs.Listing.{IsIn, IsListing}
 use Rattle.ics_series.specs.Masters.{IsOfVersion, IsSince, Recurs}
-use Rattle.ics_series.specs.Meets.{IsEventMet}
 use Rattle.ics_series.specs.After.{is_after}
 use Rattle.ics_series.specs.Occurs.{IsOf}
 use Rattle.ics_series.specs.Overridden.{AreOverridden, is_kept}
 use Rattle.ics_series.specs.PlacedEvents.{Placed, clocks_at}
-use Rattle.ics_series.specs.SeriesStarts.{IsSeriesMet}
+use Rattle.ics_series.specs.SeriesStarts.{given_of, IsSeriesMet}
 use Rattle.ics_series.specs.Singles.{is_single}
 use Rattle.ics_series.specs.Spots.{event_at}
 use Rattle.ics_series.specs.Starts.{time_of}
 use Rattle.ics_series.specs.Versions.{is_named, label_of, seen, AreChosen, Label}
 use Rattle.ics_series.specs.FileZones.{clocks_in}
-use Rattle.ics_series.proofs.SeriesLemmas.{in-among, among-in}
+use Rattle.ics_series.proofs.SeriesLemmas.{in-among, not-among, series-listing as listing-by}
 use Rattle.ics_series.proofs.Cases.{not-true, some-same}
-use Rattle.ics_series.proofs.AfterLemmas.{since-none}
-use Rattle.ics_series.proofs.PickLemmas.{listing-filter}
 use Rattle.ics_series.proofs.GivenLemmas.{in-map, placed-event, IsGiven, IsGivenBy}
 use Rattle.ics_series.proofs.StartSourceLemmas.{gives-value, rdate-time}
 use Rattle.ics_series.proofs.InstantLemmas.{late}
 use Rattle.ics_series.proofs.ToComeLemmas.{come-listed, is-after, listed-given, to-come}
-use Rattle.ics_series.proofs.WholeLemmas.{whole-listing}
+use Rattle.ics_series.proofs.WholeLemmas.{whole-starts}
 use Rattle.ics_series.specs.WindowBounds.{occurrence_first}
 
 -- an event that recurs is a master
@@ -47,14 +43,6 @@ recurring-master event = by event.recurrence ((is_none event.rule && length even
     by : (r : Option Time) (b : Bool) → (is_some r || b) ≡ false → r ≡ None
     by None b e = refl
     by (Some time) b e = let f : true ≡ false = e in absurd cc
-
--- Instants among others.
-pub not-among : (t : ℤ) (instants : List ℤ) → (IsIn t instants → ⊥) → list_any (λ x. int_eq x t) instants ≡ false
-not-among t instants n = by (list_any (λ x. int_eq x t) instants) refl
-  where
-    by : (b : Bool) → list_any (λ x. int_eq x t) instants ≡ b → b ≡ false
-    by true e = absurd (n (among-in t instants e))
-    by false e = refl
 
 -- an occurrence begins after the last two days of the year 0000 have begun
 pub of-late : (zones : FileZones) (event : Event) (o : Entry) → IsEvent event → IsOf (clocks_in zones) event o → occurrence_first ≤ℤ o.start
@@ -157,15 +145,6 @@ module _ {files : List FileSaid} {display : Clock} {vs : List Version} {label : 
           exact = λ o. (λ m. met-come o ((k.exact o).0 m), λ h. (k.exact o).1 (come-met o h));
         }
 
--- what stands at a place of a list
-pub there-in : {A B : Type 0} (f : A → B) (xs : List A) (k : ℕ) (x : A) → slice_get xs k ≡ Some x → IsIn (f x) (map f xs)
-there-in f [] k x e = let n : None ≡ Some x = e in absurd cc
-there-in f (y ∷ ys) zero x e = let s : y ≡ x = cc in inl (ap f (sym s))
-there-in f (y ∷ ys) (suc k) x e = inr (there-in f ys k x e)
-
-pub version-there : {A : Type 0} (xs : List A) (k : ℕ) (d x : A) → k < length xs → slice_get xs k ≡ Some x → get_or xs k d ≡ x
-version-there xs k d x l e = some-same (get_or xs k d) x (sym (slice_get-get_or xs k d l) ∙ e)
-
 -- an event that starts once does not recur
 pub not-single : {files : List FileSaid} {u v : Version} {event : Event} → u ≡ v → event_at files u.spot ≡ Some event → is_single event ≡ true →
     Recurs files (seen v) → ⊥
@@ -178,28 +157,13 @@ pub single-none : (files : List FileSaid) (display : Clock) (w : Window) (label 
     (list : List Entry) × IsListing entry_cmp (IsOfVersion files display w None label) list
 single-none files display w label n = ([], record { rises = tt; exact = λ o. (λ m. absurd m, λ h. absurd (n h.by)) })
 
-abbrev least : ℤ
-least = neg_ℤ (pos 9_223_372_036_854_775_808)
-
 -- a version whose event recurs has a list of all its occurrences that meet the window
 pub whole-version : {files : List FileSaid} {display : Clock} {vs : List Version} {label : Label} {zones : FileZones} {instants : List ℤ}
     (chosen : AreChosen files display vs) → IsIn label (map seen vs) → (r : Recurs files label) → IsRead files display vs label r.event zones instants →
     (w : Window) → (list : List Entry) × IsListing entry_cmp (IsOfVersion files display w None label) list
 whole-version {zones = zones} {instants = instants} chosen there r read w =
-    let whole = whole-listing zones w r.event read.is_event in
-    let kept = listing-filter (λ o. not (list_any (λ x. int_eq x o.start) instants)) entry_cmp (IsEventMet (clocks_in zones) r.event w)
-    (IsSeriesMet (clocks_in zones) r.event w least instants) whole.0 whole.1 to from in (
-      filter (λ o. not (list_any (λ x. int_eq x o.start) instants)) whole.0,
-      series-listing chosen there r read w None least (since-none None r.event.uid refl) kept,
+    let starts = whole-starts (clocks_in zones) w r.event occurrence_first read.is_event in (
+      given_of (clocks_in zones) w r.event occurrence_first instants starts.0,
+      series-listing chosen there r read w None occurrence_first (λ o u e low high. sym (true_int_le occurrence_first o.start low))
+          (listing-by (clocks_in zones) w r.event occurrence_first instants starts.0 starts.1),
     )
-  where
-    low : (o : Entry) → IsEventMet (clocks_in zones) r.event w o → least ≤ℤ o.start
-    low o m = let l = of-late zones r.event o read.is_event m.0 in omega (arith, ints, l)
-
-    to : (o : Entry) → IsEventMet (clocks_in zones) r.event w o → not (list_any (λ x. int_eq x o.start) instants) ≡ true →
-        IsSeriesMet (clocks_in zones) r.event w least instants o
-    to o m t = (m, (low o m, λ n. let f : true ≡ false = sym (in-among o.start instants n) ∙ not-true (list_any (λ x. int_eq x o.start) instants) t in cc))
-
-    from : (o : Entry) → IsSeriesMet (clocks_in zones) r.event w least instants o → IsEventMet (clocks_in zones) r.event w o
-        × (not (list_any (λ x. int_eq x o.start) instants) ≡ true)
-    from o m = (m.0, ap not (not-among o.start instants m.1.1))

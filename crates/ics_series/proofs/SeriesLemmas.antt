@@ -1,14 +1,14 @@
 -- What a series gives.
-use Rattle.std.specs.Prelude.{◌≤ℤ◌, ◌<ℤ◌, ◌&&◌, ◌||◌, not, int_le, slice_get}
-use Rattle.std.proofs.Common.{◌≡◌, ℕ, zero, suc, ℤ, ◌-ℤ◌, List, [], ◌∷◌, drop, Bool, true, false, Option, Some, None, option_map, ◌⊎◌, inl, inr, ⊎_elim, refl}
+use Rattle.std.specs.Prelude.{◌≤ℤ◌, ◌<ℤ◌, ◌&&◌, not, int_le, slice_get}
+use Rattle.std.proofs.Common.{◌≡◌, ℕ, zero, suc, ℤ, ◌-ℤ◌, List, [], ◌∷◌, drop, true, false, Option, Some, None, option_map, ◌⊎◌, inl, inr, refl}
 use Rattle.std.proofs.Common.{sym, ◌∙◌, ap, subst, arith}
 use Rattle.std.proofs.lemmas.Int.{ints}
-use Rattle.std.specs.List.{cons_option, list_any}
+use Rattle.std.specs.List.{cons_option}
 use Rattle.std.specs.Cmp.Lexicographic.{slice_cmp}
 use Rattle.std.specs.Ordering.{int_cmp, int_eq, nat_cmp, on, ordering_then, then_cmp}
 use Rattle.std.specs.declared.cmp.Ordering.{Ordering}
 use Rattle.std.specs.declared.cmp.Ordering.TheVariants.{Less}
-use Rattle.std.proofs.lemmas.Bool.{and_from}
+use Rattle.std.proofs.lemmas.Bool.{and_from, false_from_ne_true}
 use Rattle.ics_fields.specs.Days.{IsDayNumber}
 use Rattle.ics_fields.specs.declared.local.Local.{Local}
 use Rattle.ics_rule.specs.Cursors.{place_of}
@@ -52,6 +52,7 @@ use Rattle.ics_series.proofs.RuleLocalLemmas.{kept-ruled}
 use Rattle.ics_series.proofs.RuleStartLemmas.{rises-to_come}
 use Rattle.ics_series.proofs.GivenLemmas.{entry_start_cmp}
 use Rattle.ics_series.proofs.RuleStepLemmas.{left-near}
+use Rattle.ics_series.proofs.SortLemmas.{any-in, in-any}
 
 -- Both kinds of starts rise.
 rises-drop : {A : Type 0} (R : A → A → Ordering) (n : ℕ) (xs : List A) → Rises R xs → Rises R (drop n xs)
@@ -127,29 +128,15 @@ module _ (zones : FileZones) (w : Window) (event : Event) where
       let gives = known-gives s.source s.given sound.start k.gives in
       record { gives = gives; value = gives-value (clocks_in zones) event s.source s.given sound.start sound.rdates gives; moment = k.moment }
 
--- One of some passes a test.
-any-in : {A : Type 0} (p : A → Bool) (xs : List A) → list_any p xs ≡ true → (x : A) × IsIn x xs × (p x ≡ true)
-any-in p [] e = let f : false ≡ true = e in absurd cc
-any-in {A = A} p (x ∷ xs) e = by (p x) refl (any-in p xs) e
-  where
-    by : (b : Bool) → p x ≡ b → (list_any p xs ≡ true → (y : A) × IsIn y xs × (p y ≡ true)) → (b || list_any p xs) ≡ true →
-        (y : A) × IsIn y (x ∷ xs) × (p y ≡ true)
-    by true e ih h = (x, inl refl, e)
-    by false e ih h = let k = ih h in (k.0, inr k.1, k.2)
-
-in-any : {A : Type 0} (p : A → Bool) (x : A) (xs : List A) → p x ≡ true → IsIn x xs → list_any p xs ≡ true
-in-any p x [] is m = absurd m
-in-any p x (y ∷ ys) is m = ⊎_elim (λ e. ap (λ b. b || list_any p ys) (ap p (sym e) ∙ is)) (λ n. or_right (p y) (in-any p x ys is n)) m
-  where
-    or_right : (b : Bool) {c : Bool} → c ≡ true → (b || c) ≡ true
-    or_right true e = refl
-    or_right false e = e
-
+-- Whether an instant is among some.
 pub among-in : (t : ℤ) (xs : List ℤ) → is_among xs t ≡ true → IsIn t xs
 among-in t xs e = let k = any-in (λ x. int_eq x t) xs e in subst (λ x. IsIn x xs) (equal-true k.0 t k.2) k.1
 
 pub in-among : (t : ℤ) (xs : List ℤ) → IsIn t xs → is_among xs t ≡ true
 in-among t xs m = in-any (λ x. int_eq x t) t xs (true-equal t t refl) m
+
+pub not-among : (t : ℤ) (xs : List ℤ) → (IsIn t xs → ⊥) → is_among xs t ≡ false
+not-among t xs n = false_from_ne_true (is_among xs t) (λ e. n (among-in t xs e))
 
 -- Wanted is what is shown from an instant on, but for the instants of overrides.
 module _ (clocks : Clocks) (w : Window) (event : Event) (since : ℤ) (overridden : List ℤ) where
@@ -165,11 +152,7 @@ module _ (clocks : Clocks) (w : Window) (event : Event) (since : ℤ) (overridde
       is_wanted clocks w event since overridden o ≡ true
   is-wanted o shown late none =
       and_from (int_le since o.start && not (is_among overridden o.start)) (is_shown clocks w event o)
-      (and_from (int_le since o.start) (not (is_among overridden o.start)) (true_int_le since o.start late) (by (is_among overridden o.start) refl)) shown
-    where
-      by : (b : Bool) → is_among overridden o.start ≡ b → not b ≡ true
-      by true e = absurd (none (among-in o.start overridden e))
-      by false e = refl
+      (and_from (int_le since o.start) (not (is_among overridden o.start)) (true_int_le since o.start late) (ap not (not-among o.start overridden none))) shown
 
   -- what starts later goes later
   later-entry : (a b : Entry) → entry_start_cmp a b ≡ Less → entry_cmp a b ≡ Less

@@ -1,6 +1,6 @@
 -- What an event gives at its DTSTART; what the versions that count give whose events start once, sorted by key, is their listing.
 use Rattle.std.specs.Prelude.{◌==◌, ◌&&◌, ◌||◌, not, is_none, is_some, if◌then◌else◌, int_lt}
-use Rattle.std.proofs.Common.{◌≡◌, ℤ, List, [], ◌∷◌, map, length, inl, inr, ⊎_elim, Option, Some, None, Bool, true, false, refl, sym, ◌∙◌, ap, subst, arith}
+use Rattle.std.proofs.Common.{◌≡◌, ℤ, List, [], map, length, inl, ⊎_elim, Option, Some, None, Bool, true, false, refl, sym, ◌∙◌, ap, subst, arith}
 use Rattle.std.specs.List.{filter, filter_map, list_any}
 use Rattle.std.specs.List.Sorted.{IsPermutation}
 use Rattle.std.specs.Option.{option_and_then, option_map}
@@ -25,13 +25,13 @@ use Rattle.ics_series.specs.Entry.{Entry, Rank, entry_cmp}
 use Rattle.ics_series.specs.EntryLaws.{entry_total}
 use Rattle.ics_series.specs.Exclusions.{excludes}
 use Rattle.ics_series.specs.Finish.{finish}
-use Rattle.ics_series.specs.Listing.{IsIn, IsListing}
+use Rattle.ics_series.specs.Listing.{IsListing}
 use Rattle.ics_series.specs.Meeting.{is_met, is_under_way}
 use Rattle.ics_series.specs.Overridden.{is_kept}
 use Rattle.ics_series.specs.After.{is_after}
 use Rattle.ics_series.specs.Occurs.{IsInstance}
 use Rattle.ics_series.specs.PlacedEvents.{Placed, clocks_at}
-use Rattle.ics_series.specs.Singles.{entry_first, is_single, is_to_come, single_at, single_entry, single_of, AreSingle, IsSingleToCome, begun_first}
+use Rattle.ics_series.specs.Singles.{entry_first, is_single, is_to_come, single_at, single_entry, single_of, IsSingleToCome, begun_first}
 use Rattle.ics_series.specs.Starts.{local_of, recurrence_by, GivesStart, IsNotAfter}
 use Rattle.ics_series.specs.Versions.{by_subject, is_named, is_override, label_of, seen, subject_cmp, AreChosen, Label}
 use Rattle.ics_series.specs.Spots.{event_at}
@@ -65,41 +65,26 @@ module _ (files : List FileSaid) (display : Clock) (w : Window) (overrides : Lis
   at-event : single_at files display w overrides after label ≡ single_of label_clocks w overrides after label.subject.recurrence event
   at-event = ap (option_and_then (single_of label_clocks w overrides after label.subject.recurrence)) stands
 
-  begun-is : (o : Entry) → Some o ≡ begun_first label_clocks w event label.subject.recurrence → o ≡ label_first
-  begun-is o = by (int_lt (instant label_clocks event.start) w.to)
-    where
-      by : (b : Bool) → Some o ≡ (if b then Some label_first else None) → o ≡ label_first
-      by true e = cc
-      by false e = let f : Some o ≡ None = e in absurd cc
-
-  by-test : (single comes : Bool) → is_single event ≡ single → is_to_come w overrides after label_first ≡ comes →
-      single_at files display w overrides after label ≡ (if single && comes then Some label_first else None)
-  by-test single comes s c = at-event ∙ (λ i. if s i && c i then Some label_first else None)
-
-  pub gives-single : (o : Entry) → is_single event ≡ true → Some o ≡ begun_first label_clocks w event label.subject.recurrence →
-      is_to_come w overrides after o ≡ true → Some o ≡ single_at files display w overrides after label
-  gives-single o s b c = let is = begun-is o b in ap Some is ∙ sym (by-test true true s (ap (is_to_come w overrides after) (sym is) ∙ c))
-
-  pub gives-none : (o : Entry) → is_single event ≡ true → Some o ≡ begun_first label_clocks w event label.subject.recurrence →
-      is_to_come w overrides after o ≡ false → None ≡ single_at files display w overrides after label
-  gives-none o s b c = let is = begun-is o b in sym (by-test true false s (ap (is_to_come w overrides after) (sym is) ∙ c))
-
   pub gives-other : is_single event ≡ false → None ≡ single_at files display w overrides after label
-  gives-other s = sym (by-test false (is_to_come w overrides after label_first) s refl)
+  gives-other s = sym (at-event ∙ ap (λ b. if b && is_to_come w overrides after label_first then Some label_first else None) s)
 
-  pub gives-late : None ≡ begun_first label_clocks w event label.subject.recurrence → None ≡ single_at files display w overrides after label
-  gives-late = by (int_lt (instant label_clocks event.start) w.to) refl
+  -- what has begun, if it is to come
+  pub gives-begun : {clocks : Clocks} (begun : Option Entry) → is_single event ≡ true → clocks ≡ label_clocks
+      → begun ≡ begun_first clocks w event label.subject.recurrence
+      → option_and_then (λ o. if is_to_come w overrides after o then Some o else None) begun ≡ single_at files display w overrides after label
+  gives-begun begun s same b =
+      ap (option_and_then (λ o. if is_to_come w overrides after o then Some o else None))
+      (b ∙ ap (λ clocks. begun_first clocks w event label.subject.recurrence) same)
+      ∙ (by (int_lt (instant label_clocks event.start) w.to) refl
+      ∙ sym (at-event ∙ ap (λ b. if b && is_to_come w overrides after label_first then Some label_first else None) s))
     where
-      unless : (s : Bool) → (if s && false then Some label_first else None) ≡ None
-      unless true = refl
-      unless false = refl
-
-      by : (b : Bool) → int_lt (instant label_clocks event.start) w.to ≡ b → None ≡ (if b then Some label_first else None) →
-          None ≡ single_at files display w overrides after label
-      by true e n = let f : None ≡ Some label_first = n in absurd cc
-      by false e n =
-          let late = ap (λ b. ((b && is_under_way w label_first.start label_first.finish) && is_after after label_first) && is_kept overrides label_first) e in
-          sym (by-test (is_single event) false refl late ∙ unless (is_single event))
+      by : (b : Bool) → int_lt (instant label_clocks event.start) w.to ≡ b
+          → option_and_then (λ o. if is_to_come w overrides after o then Some o else None) (if b then Some label_first else None)
+          ≡ (if is_to_come w overrides after label_first then Some label_first else None)
+      by true e = refl
+      by false e =
+          sym (ap (λ b. if ((b && is_under_way w label_first.start label_first.finish) && is_after after label_first) && is_kept overrides label_first
+          then Some label_first else None) e)
 
 -- An event that starts once, and is no override.
 module _ (clocks : Clocks) (event : Event) (rule : event.rule ≡ None) (rdates : event.rdates ≡ []) (exdates : event.exdates ≡ []) where
@@ -229,6 +214,11 @@ module _ (files : List FileSaid) (display : Clock) (w : Window) (after : Option 
       (kept-same o ∙ listed.1) in
       (p, listed.0.chosen, is-given p listed.0.chosen single (ap (is_to_come w os after) (sym is) ∙ comes) ∙ ap Some (sym is))
 
+  given-listing : IsListing given_cmp (IsSingleToCome files display w after) (filter_map given chosen.chosen)
+  given-listing =
+      listing-picked given (by_subject files display) (group-total files display) given_cmp (IsChosen files display) subjects-keep
+      (IsSingleToCome files display w after) chosen.chosen chosen.listing given-come come-given
+
 -- The versions that count give the listing.
 module _ (w : Window) (after : Option Rank) where
   pub singles-listing : {files : List FileSaid} {display : Clock} {vs : List Version} (os : List Version)
@@ -236,35 +226,17 @@ module _ (w : Window) (after : Option Rank) where
       → map single_entry given ≡ filter_map (single_at files display w (map seen os) after) (map seen vs) → IsPermutation given sorted
       → Climbs (on single_entry entry_cmp) sorted → IsListing entry_cmp (IsSingleToCome files display w after) (map single_entry sorted)
   singles-listing {files = files} {display = display} {vs = vs} os {given = given} {sorted = sorted} chosen overrides are p climbs =
-      let label = label_of files display in
       let one = single_at files display w (map seen os) after in
       let picked : filter_map (λ p. single_at files display w (map seen os) after (label_of files display p)) chosen.chosen ≡ map single_entry given =
-      sym (filter_map-map label one chosen.chosen) ∙ (ap (filter_map one) (sym chosen.are) ∙ sym are) in
-      let found = listing-picked (λ p. one (label p)) (by_subject files display) (group-total files display) given_cmp (IsChosen files display)
-      (subjects-keep files display w after vs (map seen os) chosen overrides) (IsSingleToCome files display w after) chosen.chosen chosen.listing
-      (given-come files display w after vs (map seen os) chosen overrides) (come-given files display w after vs (map seen os) chosen overrides) in
+      sym (filter_map-map (label_of files display) one chosen.chosen) ∙ (ap (filter_map one) (sym chosen.are) ∙ sym are) in
       listing-sorted given_cmp given_total entry_cmp (IsSingleToCome files display w after) (λ x y a b e. tied-given files display w after x y a.0 b.0 e)
-      (map single_entry given) (map single_entry sorted) (subst (IsListing given_cmp (IsSingleToCome files display w after)) picked found)
+      (map single_entry given) (map single_entry sorted)
+      (subst (IsListing given_cmp (IsSingleToCome files display w after)) picked (given-listing files display w after vs (map seen os) chosen overrides))
       (IsPermutation-map single_entry given sorted p) (map-climbs single_entry entry_cmp sorted climbs)
 
 -- and all that meet the window have a list
 pub singles-whole : (files : List FileSaid) (display : Clock) (w : Window) (vs : List Version) → AreChosen files display vs →
     (list : List Entry) × IsListing entry_cmp (IsSingleToCome files display w None) list
 singles-whole files display w vs chosen =
-    let os = filter is_override (map seen vs) in
-    let one = single_at files display w (filter is_override (map seen vs)) None in
-    let found = listing-picked (λ p. one (label_of files display p)) (by_subject files display) (group-total files display) given_cmp (IsChosen files display)
-    (subjects-keep files display w None vs os chosen refl) (IsSingleToCome files display w None) chosen.chosen chosen.listing
-    (given-come files display w None vs os chosen refl) (come-given files display w None vs os chosen refl) in
     listing-ordered entry_cmp entry_total given_cmp given_total (IsSingleToCome files display w None)
-    (λ x y a b e. tied-given files display w None x y a.0 b.0 e)
-    (filter_map (λ p. one (label_of files display p)) chosen.chosen) found
-
--- what holds of each occurrence of a list
-pub are-single : (list : List Entry) → ((o : Entry) → IsIn o list → is_single o.event ≡ true) → AreSingle list
-are-single [] h = tt
-are-single (x ∷ xs) h = (h x (inl refl), are-single xs (λ o m. h o (inr m)))
-
-pub single-in : (list : List Entry) → AreSingle list → (o : Entry) → IsIn o list → is_single o.event ≡ true
-single-in [] h o m = absurd m
-single-in (x ∷ xs) h o m = ⊎_elim (λ e. ap (λ (y : Entry). is_single y.event) e ∙ h.0) (λ n. single-in xs h.1 o n) m
+    (λ x y a b e. tied-given files display w None x y a.0 b.0 e) _ (given-listing files display w None vs (filter is_override (map seen vs)) chosen refl)

@@ -1,22 +1,27 @@
 -- What a sort leaves: the same members, none of them after a later one.
-use Rattle.std.specs.Prelude.{⊤, zero, suc}
-use Rattle.std.proofs.Common.{◌≡◌, ℕ, ◌+◌, ◌<◌, ◌≤◌, List, [], ◌∷◌, map, length, get_or, set, inl, inr, ⊎_elim, false, refl, sym, ◌∙◌, ap, arith}
+use Rattle.std.specs.Prelude.{⊤, ◌↔◌, zero, suc, slice_get}
+use Rattle.std.proofs.Common.{◌≡◌, ℕ, ◌<◌, ◌≤◌, List, [], ◌∷◌, map, length, get_or, set, inl, inr, ⊎_elim, Bool, true, false, Some, refl, sym, ◌∙◌, ap}
+use Rattle.std.proofs.Common.{subst, arith}
 use Rattle.std.specs.Cmp.{IsTotalOrder}
-use Rattle.std.specs.List.{Contains, swap, sum_by}
+use Rattle.std.specs.List.{list_any, swap, AllByRecursion, Contains, IsDistinct}
 use Rattle.std.specs.Fn.{Called}
-use Rattle.std.specs.List.Sorted.{IsPermutation, IsSorted, IsSortedByClosure}
-use Rattle.std.specs.Ordering.{is_gt, is_lt, on, ordering_reverse}
+use Rattle.std.specs.List.Sorted.{apply_swaps, IsPermutation, IsSorted, IsSortedByClosure, SwapsInRange}
+use Rattle.std.specs.Ordering.{eq_by_cmp, is_eq, is_gt, is_lt, on, ordering_reverse}
 use Rattle.std.specs.declared.cmp.Ordering.{Ordering}
 use Rattle.std.specs.declared.cmp.Ordering.TheVariants.{Less, Equal, Greater}
-use Rattle.std.proofs.lemmas.Cmp.{tied_itself}
-use Rattle.std.proofs.lemmas.List.Sorted.{Contains-permutation, IsPermutation-keeps, IsPermutation-refl, IsPermutation-swap, IsPermutation-sym}
-use Rattle.std.proofs.lemmas.List.Sorted.{IsPermutation-trans, answers_always, ranks_by, sorted_far, sum_by-IsPermutation}
-use Rattle.std.proofs.lemmas.List.{get_or-map, length-map, map-set}
-use Rattle.std.proofs.lemmas.List.Sums.{sum_by-cons}
+use Rattle.std.proofs.lemmas.Cmp.{eq_by_cmp_equiv}
+use Rattle.std.proofs.lemmas.List.Folds.{Any-from_list_any, list_any-from_Any}
+use Rattle.std.proofs.lemmas.List.Sorted.{Contains-permutation, IsPermutation-sym}
+use Rattle.std.proofs.lemmas.List.Sorted.{answers_always, ranks_by, sorted_far}
+use Rattle.std.proofs.Math.ListN.{get_or-map}
+use Rattle.std.proofs.lemmas.List.{length-map, map-set}
+use Rattle.std.proofs.lemmas.Map.Keys.{IsDistinct-from_sorted, IsDistinct-head, IsDistinct-IsPermutation, IsDistinct-tail}
+use Rattle.std.proofs.lemmas.Option.{get_or_from_slice_get, slice_get_within}
 use denote.Param.Members.{Mut}
 use denote.Ref.{Bor}
 use Rattle.ics_series.specs.Rising.{IsBefore, Rises}
 use Rattle.ics_series.specs.Listing.{IsIn, IsListing}
+use Rattle.ics_series.proofs.ListingLemmas.{strictly-sorted}
 
 -- x is not after any of the list
 abbrev pub IsUpTo : {A : Type 0} → (A → A → Ordering) → A → List A → Type 0
@@ -42,6 +47,30 @@ module _ {A : Type 0} where
   contains-in x [] m = absurd m
   contains-in x (y ∷ ys) m =
       ⊎_elim (λ e. (0, omega arith, sym e)) (λ n. let c = contains-in x ys n in (suc c.0, omega (arith, c.1), c.2)) m
+
+  pub get-in : (x : A) (xs : List A) (k : ℕ) → slice_get xs k ≡ Some x → IsIn x xs
+  get-in x xs k e = in-contains x xs (k, slice_get_within xs k x e, get_or_from_slice_get xs k x x e)
+
+  -- one of a list passes a test
+  pub any-in : (test : A → Bool) (xs : List A) → list_any test xs ≡ true → (x : A) × IsIn x xs × (test x ≡ true)
+  any-in test xs e = let k = Any-from_list_any test xs e in (k.1, in-contains k.1 xs (k.0, k.2, k.3), k.4)
+
+  pub in-any : (test : A → Bool) (x : A) (xs : List A) → test x ≡ true → IsIn x xs → list_any test xs ≡ true
+  in-any test x xs is m = let k = contains-in x xs m in list_any-from_Any test xs (k.0, x, k.1, k.2, is)
+
+  -- what holds of all of a list
+  pub all-as : (P Q : A → Type 0) (xs : List A) → ((x : A) → P x → Q x) → AllByRecursion P xs → AllByRecursion Q xs
+  all-as P Q [] f h = tt
+  all-as P Q (x ∷ xs) f h = (f x h.0, all-as P Q xs f h.1)
+
+  pub all-in : (P : A → Type 0) (xs : List A) → AllByRecursion P xs → (x : A) → IsIn x xs → P x
+  all-in P [] h x m = absurd m
+  all-in P (y ∷ ys) h x (inl e) = subst P (sym e) h.0
+  all-in P (y ∷ ys) h x (inr n) = all-in P ys h.1 x n
+
+  pub in-all : (P : A → Type 0) (xs : List A) → ((x : A) → IsIn x xs → P x) → AllByRecursion P xs
+  in-all P [] f = tt
+  in-all P (x ∷ xs) f = (f x (inl refl), in-all P xs (λ y m. f y (inr m)))
 
   pub in-permutation : (x : A) (xs ys : List A) → IsPermutation xs ys → IsIn x xs → IsIn x ys
   in-permutation x xs ys p m = in-contains x ys (Contains-permutation xs ys x p (contains-in x xs m))
@@ -81,115 +110,67 @@ module _ {A : Type 0} (R : A → A → Ordering) (o : IsTotalOrder R) where
 
 -- A list that is mapped.
 module _ {A B : Type 0} (f : A → B) where
-  pub up-to-map : (R : B → B → Ordering) (x : A) (ys : List A) → IsUpTo R (f x) (map f ys) → IsUpTo (on f R) x ys
-  up-to-map R x [] h = tt
-  up-to-map R x (y ∷ ys) h = (h.0, up-to-map R x ys h.1)
+  up-to-on : (R : B → B → Ordering) (x : A) (ys : List A) → IsUpTo R (f x) (map f ys) ↔ IsUpTo (on f R) x ys
+  up-to-on R x [] = (λ h. h, λ h. h)
+  up-to-on R x (y ∷ ys) = let k = up-to-on R x ys in (λ h. (h.0, k.0 h.1), λ h. (h.0, k.1 h.1))
+
+  climbs-on : (R : B → B → Ordering) (xs : List A) → Climbs R (map f xs) ↔ Climbs (on f R) xs
+  climbs-on R [] = (λ h. h, λ h. h)
+  climbs-on R (x ∷ xs) =
+      let k = up-to-on R x xs in let l = climbs-on R xs in (λ h. (k.0 h.0, l.0 h.1), λ h. (k.1 h.0, l.1 h.1))
 
   pub climbs-map : (R : B → B → Ordering) (xs : List A) → Climbs R (map f xs) → Climbs (on f R) xs
-  climbs-map R [] h = tt
-  climbs-map R (x ∷ xs) h = (up-to-map R x xs h.0, climbs-map R xs h.1)
-
-  pub map-up-to : (R : B → B → Ordering) (x : A) (ys : List A) → IsUpTo (on f R) x ys → IsUpTo R (f x) (map f ys)
-  map-up-to R x [] h = tt
-  map-up-to R x (y ∷ ys) h = (h.0, map-up-to R x ys h.1)
+  climbs-map R xs = (climbs-on R xs).0
 
   pub map-climbs : (R : B → B → Ordering) (xs : List A) → Climbs (on f R) xs → Climbs R (map f xs)
-  map-climbs R [] h = tt
-  map-climbs R (x ∷ xs) h = (map-up-to R x xs h.0, map-climbs R xs h.1)
+  map-climbs R xs = (climbs-on R xs).1
 
-  map-swap : (xs : List A) (i j : ℕ) → i < length xs → j < length xs → map f (swap xs i j) ≡ swap (map f xs) i j
-  map-swap [] i j p q = refl
-  map-swap (x ∷ xs) i j p q =
+  map-swap : (xs : List A) (i j : ℕ) → map f (swap xs i j) ≡ swap (map f xs) i j
+  map-swap [] i j = refl
+  map-swap (x ∷ xs) i j =
       let d = get_or (x ∷ xs) in
-      map-set f (set (x ∷ xs) i (d j x)) j (d i x)
-      ∙ (ap (λ l. set l j (f (d i x))) (map-set f (x ∷ xs) i (d j x))
-      ∙ (ap (λ y. set (set (map f (x ∷ xs)) i y) j (f (d i x))) (sym (get_or-map f (x ∷ xs) j x (f x) q))
-      ∙ ap (λ y. set (set (map f (x ∷ xs)) i (get_or (map f (x ∷ xs)) j (f x))) j y) (sym (get_or-map f (x ∷ xs) i x (f x) p))))
+      let first = map-set f (x ∷ xs) i (d j x) ∙ ap (set (map f (x ∷ xs)) i) (sym (get_or-map f (x ∷ xs) j x)) in
+      map-set f (set (x ∷ xs) i (d j x)) j (d i x) ∙ (λ k. set (first k) j (sym (get_or-map f (x ∷ xs) i x) k))
+
+  map-swaps : (xs : List A) (moves : List (ℕ × ℕ)) → map f (apply_swaps xs moves) ≡ apply_swaps (map f xs) moves
+  map-swaps xs [] = refl
+  map-swaps xs (m ∷ moves) = map-swap (apply_swaps xs moves) m.0 m.1 ∙ ap (λ l. swap l m.0 m.1) (map-swaps xs moves)
 
   -- where a mapped list was put in another order, so can be the list itself
   pub followed : (xs : List A) (ys zs : List B) → ys ≡ map f xs → IsPermutation ys zs → (ws : List A) × IsPermutation xs ws × (map f ws ≡ zs)
-  followed xs ys zs e p =
-      IsPermutation-keeps ys (λ l. (ws : List A) × IsPermutation xs ws × (map f ws ≡ l)) (xs, IsPermutation-refl xs, sym e)
-      (λ l i j a b h.
-      let same = ap length h.2 in
-      let long = sym (length-map h.0 f) ∙ same in (
-        swap h.0 i j,
-        IsPermutation-trans xs h.0 (swap h.0 i j) h.1 (IsPermutation-swap h.0 (swap h.0 i j) i j (omega (arith, a, long)) (omega (arith, b, long)) refl),
-        map-swap h.0 i j (omega (arith, a, long)) (omega (arith, b, long)) ∙ ap (λ m. swap m i j) h.2,
-      ))
-      zs p
+  followed xs ys zs e p = (
+    apply_swaps xs p.moves,
+    record { moves = p.moves; below = subst (λ n. SwapsInRange n p.moves) (ap length e ∙ length-map xs f) p.below; is = refl },
+    map-swaps xs p.moves ∙ sym (p.is ∙ ap (λ l. apply_swaps l p.moves) e),
+  )
 
 -- A list whose members differ by one order, put in the order of another that ties no more.
-abbrev tie : Ordering → ℕ
-tie Equal = 1
-tie _ = 0
-
 module _ {A : Type 0} (R : A → A → Ordering) (o : IsTotalOrder R) where
-  -- how many of the list tie with x
-  ties_of : A → List A → ℕ
-  ties_of x xs = sum_by (λ y. tie (R x y)) xs
-
-  ties_of-cons : (x y : A) (ys : List A) → ties_of x (y ∷ ys) ≡ tie (R x y) + ties_of x ys
-  unfolding ties_of
-  ties_of-cons x y ys = sum_by-cons (λ z. tie (R x z)) y ys
-
-  ties_of-nil : (x : A) → ties_of x [] ≡ 0
-  unfolding ties_of
-  ties_of-nil x = refl
-
-  ties_of-permutation : (x : A) (xs ys : List A) → IsPermutation xs ys → ties_of x ys ≡ ties_of x xs
-  unfolding ties_of
-  ties_of-permutation x xs ys p = sum_by-IsPermutation (λ z. tie (R x z)) xs ys p
-
-  -- what is not after the first of a rising list ties with none behind it
-  none-tied : (x y : A) (ys : List A) → ((z : A) → R y z ≡ Less → R x z ≡ Less) → IsBefore R y ys → ties_of x ys ≡ 0
-  none-tied x y [] f h = ties_of-nil x
-  none-tied x y (z ∷ zs) f h = omega (arith, ties_of-cons x z zs, ap tie (f z h.0), none-tied x y zs f h.1)
-
-  -- of a rising list at most one ties with x
-  one-tie : (x : A) (xs : List A) → Rises R xs → ties_of x xs ≤ 1
-  one-tie x [] h = omega (arith, ties_of-nil x)
-  one-tie x (y ∷ ys) h = by (R x y) refl (one-tie x ys h.1)
-    where
-      by : (c : Ordering) → R x y ≡ c → ties_of x ys ≤ 1 → ties_of x (y ∷ ys) ≤ 1
-      by Equal e ih =
-          omega (arith, ties_of-cons x y ys, ap tie e, none-tied x y ys (λ z l. o.congr x y z e ∙ l) h.0)
-      by _ e ih = omega (arith, ties_of-cons x y ys, ap tie e)
-
-  some-tie : (x y : A) (ys : List A) → R x y ≡ Equal → IsIn y ys → 1 ≤ ties_of x ys
-  some-tie x y [] e m = absurd m
-  some-tie x y (z ∷ zs) e m =
-      ⊎_elim (λ s. omega (arith, ties_of-cons x z zs, ap tie (ap (R x) (sym s) ∙ e)))
-      (λ n. omega (arith, ties_of-cons x z zs, some-tie x y zs e n)) m
-
   -- S orders what P holds of, and ties no more there than R does
   module _ (S : A → A → Ordering) (P : A → Type 0) (finer : (x y : A) → P x → P y → S x y ≡ Equal → R x y ≡ Equal) where
-    module _ (x : A) (ys : List A) (all : (y : A) → IsIn y (x ∷ ys) → P y) (t : ties_of x (x ∷ ys) ≤ 1) where
-      before-all : (zs : List A) → ((y : A) → IsIn y zs → IsIn y ys) → IsUpTo S x zs → IsBefore S x zs
-      before-all [] f h = tt
-      before-all (z ∷ zs) f h =
-          (by (S x z) refl, before-all zs (λ y m. f y (inr m)) h.1)
-        where
-          by : (c : Ordering) → S x z ≡ c → S x z ≡ Less
-          by Less e = e
-          by Equal e =
-              let there = f z (inl refl) in
-              let some = some-tie x z ys (finer x z (all x (inl refl)) (all z (inr there)) e) there in
-              absurd (omega (arith, ties_of-cons x x ys, ap tie (tied_itself o x), some, t))
-          by Greater e = let no : is_gt Greater ≡ false = ap is_gt (sym e) ∙ h.0 in cc
+    before-climbing : (x : A) (ys : List A) → P x → ((y : A) → IsIn y ys → P y) → IsUpTo S x ys → AllByRecursion (λ y. eq_by_cmp R x y ≡ false) ys →
+        IsBefore S x ys
+    before-climbing x [] p all h d = tt
+    before-climbing x (y ∷ ys) p all h d = (by (S x y) refl h.0, before-climbing x ys p (λ z m. all z (inr m)) h.1 d.1)
+      where
+        by : (c : Ordering) → S x y ≡ c → is_gt (S x y) ≡ false → S x y ≡ Less
+        by Less e g = e
+        by Equal e g = let f : is_eq Equal ≡ false = ap is_eq (sym (finer x y p (all y (inl refl)) e)) ∙ d.0 in absurd cc
+        by Greater e g = let f : is_gt Greater ≡ false = ap is_gt (sym e) ∙ g in absurd cc
 
-    rises-climbing : (xs : List A) → ((x : A) → IsIn x xs → P x) → Climbs S xs → ((x : A) → ties_of x xs ≤ 1) → Rises S xs
-    rises-climbing [] all h t = tt
-    rises-climbing (x ∷ xs) all h t = (
-      before-all x xs all (t x) xs (λ y m. m) h.0,
-      rises-climbing xs (λ y m. all y (inr m)) h.1 (λ y. omega (arith, ties_of-cons y x xs, t y)),
+    rises-climbing : (xs : List A) → ((x : A) → IsIn x xs → P x) → Climbs S xs → IsDistinct (eq_by_cmp R) xs → Rises S xs
+    rises-climbing [] all h d = tt
+    rises-climbing (x ∷ xs) all h d = (
+      before-climbing x xs (all x (inl refl)) (λ y m. all y (inr m)) h.0 (IsDistinct-head (eq_by_cmp R) x xs d),
+      rises-climbing xs (λ y m. all y (inr m)) h.1 (IsDistinct-tail (eq_by_cmp R) x xs d),
     )
 
     -- a listing by R, sorted by S, is the listing by S
     pub listing-sorted : (xs ys : List A) → IsListing R P xs → IsPermutation xs ys → Climbs S ys → IsListing S P ys
     listing-sorted xs ys l p h =
         let back : (x : A) → IsIn x ys → P x = λ x m. (l.exact x).0 (in-permutation x ys xs (IsPermutation-sym xs ys p) m) in
+        let apart = IsDistinct-from_sorted R xs (strictly-sorted R o xs l.rises) in
         record {
-          rises = rises-climbing ys back h (λ x. omega (arith, ties_of-permutation x xs ys p, one-tie x xs l.rises));
+          rises = rises-climbing ys back h (IsDistinct-IsPermutation (eq_by_cmp R) (eq_by_cmp_equiv o).symm xs ys p apart);
           exact = λ x. (λ m. back x m, λ m. in-permutation x xs ys p ((l.exact x).1 m));
         }

@@ -76,10 +76,8 @@ module _ (zones : FileZones) (w : Window) (event : Event) where
       let same = ap (λ x. instant (clocks_in zones) (time_of x)) g.2 in
       let past : is_past w time ≡ false =
       less-le (w.to +ℤ whole_days 2) (stamp_seconds time.stamp) (omega (arith, ints, same, early, instant-near zones time)) in
-      let there = in-listed (clocks_in zones) w event.start 0 place event.rdates g.0 g.1 past in
-      inr (subst (λ s. IsIn s (listed_from (clocks_in zones) w event.start 0 event.rdates))
-      (ap (λ n. start_by (clocks_in zones) (Listed n) (given_by event.start g.0)) (omega arith)
-      ∙ ap (start_by (clocks_in zones) (Listed place)) (sym g.2)) there)
+      inr (subst (λ v. IsIn (start_by (clocks_in zones) (Listed place) v) (listed_from (clocks_in zones) w event.start 0 event.rdates)) (sym g.2)
+      (in-listed (clocks_in zones) w event.start 0 place event.rdates g.0 (omega arith) g.1 past))
 
   pub sought-early : (t : ℤ) → IsSought (clocks_in zones) event w t → t <ℤ w.to
   sought-early t s = omega (arith, ints, s.starts, s.meets.begun)

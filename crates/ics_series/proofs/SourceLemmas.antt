@@ -18,7 +18,6 @@ use Rattle.ics_event.specs.Event.{FileSaid}
 use Rattle.ics_event.specs.declared.event.Event.{Event}
 use Rattle.ics_series.specs.declared.version.Version.{Version}
 use Rattle.ics_series.specs.declared.window.Window.{Window}
-use Rattle.ics_series.specs.Chosen.{SubjectSeen}
 use Rattle.ics_series.specs.Clocks.{Clock}
 use Rattle.ics_series.specs.Entry.{Rank}
 use Rattle.ics_series.specs.Listing.{IsIn}
@@ -33,7 +32,9 @@ use Rattle.ics_series.proofs.ListingLemmas.{before-in}
 use Rattle.ics_series.proofs.OverrideLemmas.{chosen-rises}
 use Rattle.ics_series.proofs.PlacedLemmas.{in-append_left, in-append_right}
 use Rattle.ics_series.proofs.PushLemmas.{taken}
-use Rattle.ics_series.proofs.RecurringLemmas.{own-clocks, own-event, own-subject, recurring-master, own, there-in}
+use Rattle.ics_series.proofs.RecurringLemmas.{own-clocks, own-event, own-subject, recurring-master, own}
+use Rattle.ics_series.proofs.GivenLemmas.{map-in}
+use Rattle.ics_series.proofs.SortLemmas.{all-as, get-in}
 use Rattle.ics_series.proofs.VersionLemmas.{subject_total}
 
 -- one more behind all of a rising list
@@ -46,24 +47,17 @@ module _ {A : Type 0} (R : A → A → Ordering) where
   rises-more [] y r h = (tt, tt)
   rises-more (x ∷ xs) y r h = (before-more x xs y r.0 h.0, rises-more xs y r.1 h.1)
 
-all-as : {X : Type 0} (P Q : X → Type 0) (xs : List X) → ((x : X) → P x → Q x) → AllByRecursion P xs → AllByRecursion Q xs
-all-as P Q [] f h = tt
-all-as P Q (x ∷ xs) f h = (f x h.0, all-as P Q xs f h.1)
-
 -- those that stand before a place come before what stands there
 module _ {A B : Type 0} (R : B → B → Ordering) (o : IsTotalOrder R) (f : A → B) where
   before-at : (xs : List A) (i : ℕ) {v : A} (y : B) → slice_get xs i ≡ Some v → Rises R (map f xs) → IsIn y (map f (take i xs)) → R y (f v) ≡ Less
   before-at [] i {v = v} y e r m = let n : None ≡ Some v = e in absurd cc
   before-at (x ∷ xs) zero y e r m = absurd m
   before-at (x ∷ xs) (suc i) {v = v} y e r m =
-      ⊎_elim (λ s. ap (λ z. R z (f v)) s ∙ before-in R o (f x) (f v) (map f xs) r.0 (there-in f xs i v e)) (λ n. before-at xs i y e r.1 n) m
+      ⊎_elim (λ s. ap (λ z. R z (f v)) s ∙ before-in R o (f x) (f v) (map f xs) r.0 (map-in f v xs (get-in v xs i e))) (λ n. before-at xs i y e r.1 n) m
 
 then-none : (c : Ordering) → ordering_then c Equal ≡ c
 then-none Less = refl
 then-none _ = refl
-
-abbrev master : List ℕ → SubjectSeen
-master uid = record { uid = uid; recurrence = None }
 
 -- masters are ordered by their UIDs
 masters-less : (a b : List ℕ) → subject_cmp (record { uid = a; recurrence = None }) (record { uid = b; recurrence = None }) ≡ Less →
@@ -119,7 +113,7 @@ module _ {files : List FileSaid} {display : Clock} {w : Window} {after : Option 
         (chosen-rises chosen) h.stands in
         masters-less m.event.uid n.event.uid
         (ap (λ s. subject_cmp s (record { uid = n.event.uid; recurrence = None })) (sym (subject-of h.label (in-taken vs i h.label h.stands) m h.is))
-        ∙ (ap (subject_cmp h.label.subject) (sym (subject-of (seen v) (there-in seen vs i v there) n k)) ∙ before))
+        ∙ (ap (subject_cmp h.label.subject) (sym (subject-of (seen v) (map-in seen v vs (get-in v vs i there)) n k)) ∙ before))
 
     pub sources-more : (i : ℕ) {v : Version} {m : Recurring} {before now new : List Source} → slice_get vs i ≡ Some v →
         HasSources files display w after (map seen (take i vs)) before now → IsSourceOf files display w after (seen v) m

@@ -40,11 +40,6 @@ module _ (one other : List ℕ) where
       let rests : xs ++ (46 ∷ one) ≡ ys ++ (46 ∷ other) = cc in
       let r = one-cut xs ys h.1 k.1 rests in (cc, r.1)
 
-same-rank : (a b : Rank) → a.start ≡ b.start → a.uid ≡ b.uid → a.recurrence ≡ b.recurrence → a ≡ b
-same-rank a b p q r =
-    let make : ℤ → List ℕ → ℤ → Rank = λ s u t. record { start = s; uid = u; recurrence = t } in
-    ap (λ s. make s a.uid a.recurrence) p ∙ (ap (λ u. make b.start u a.recurrence) q ∙ ap (λ t. make b.start b.uid t) r)
-
 -- no two keys share a spelling
 pub one-spelling : (a b : Rank) → IsKey a → IsKey b → spelling a ≡ spelling b → a ≡ b
 one-spelling a b h k e =
@@ -55,8 +50,9 @@ one-spelling a b h k e =
     let second = one-cut (encode_lower a.uid) (encode_lower b.uid) (signed_decimal a.recurrence) (signed_decimal b.recurrence)
     (no-point-list a.recurrence h.recurrence) (no-point-list b.recurrence k.recurrence) first.1 in
     let uid : a.uid ≡ b.uid = let q = sym (decode_of-encode_lower a.uid h.uid) ∙ (ap decode_of second.1 ∙ decode_of-encode_lower b.uid k.uid) in cc in
-    same-rank a b (signed_decimal_injective a.start b.start h.start.sfits k.start.sfits first.0) uid
-    (signed_decimal_injective a.recurrence b.recurrence h.recurrence.sfits k.recurrence.sfits second.0)
+    let start = signed_decimal_injective a.start b.start h.start.sfits k.start.sfits first.0 in
+    let recurrence = signed_decimal_injective a.recurrence b.recurrence h.recurrence.sfits k.recurrence.sfits second.0 in
+    λ i. record { start = start i; uid = uid i; recurrence = recurrence i }
 
 -- Keys under days.
 fits-wider : (z : ℤ) → FitsSigned w32 z → FitsSigned w64 z
@@ -67,11 +63,6 @@ fits-wider (negsuc n) f = record { sfits = omega (arith, f.sfits) }
 abbrev fields : Rank → List ℕ
 fields key = signed_decimal key.start ++ (46 ∷ (signed_decimal key.recurrence ++ (46 ∷ encode_lower key.uid)))
 
-same-day-rank : (a b : DayRank) → a.day ≡ b.day → a.key ≡ b.key → a ≡ b
-same-day-rank a b p q =
-    let make : ℤ → Rank → DayRank = λ d k. record { day = d; key = k } in
-    ap (λ d. make d a.key) p ∙ ap (make b.day) q
-
 -- no two keys under days share a spelling
 pub one-day-spelling : (a b : DayRank) → IsDayKey a → IsDayKey b → day_spelling a ≡ day_spelling b → a ≡ b
 one-day-spelling a b h k e =
@@ -80,5 +71,6 @@ one-day-spelling a b h k e =
     let wide-other = fits-wider b.day k.day in
     let first = one-cut (fields a.key) (fields b.key) (signed_decimal a.day) (signed_decimal b.day) (no-point-list a.day wide) (no-point-list b.day wide-other)
     inner in
-    same-day-rank a b (signed_decimal_injective a.day b.day wide.sfits wide-other.sfits first.0)
-    (one-spelling a.key b.key h.is_key k.is_key (ap (λ t. codes "K1." ++ t) first.1))
+    let day = signed_decimal_injective a.day b.day wide.sfits wide-other.sfits first.0 in
+    let key = one-spelling a.key b.key h.is_key k.is_key (ap (λ t. codes "K1." ++ t) first.1) in
+    λ i. record { day = day i; key = key i }

@@ -1,18 +1,19 @@
 -- Which lead wins a tournament, and how one is put right from a lead upwards.
 use Rattle.std.specs.Prelude.{nat_lt, slice_index, slice_index_or}
-use Rattle.std.proofs.Common.{◌≡◌, ◌≢◌, ℕ, zero, suc, ◌+◌, ◌*◌, ◌/◌, ◌-◌, ◌<◌, ◌≤◌, Bool, true, false, cond, ◌⊎◌, inl, inr, ⊎_elim, List, length, get_or}
+use Rattle.std.proofs.Common.{◌≡◌, ◌≢◌, ℕ, zero, suc, ◌+◌, ◌*◌, ◌/◌, ◌-◌, ◌<◌, ◌≤◌, false, cond, ◌⊎◌, inl, inr, ⊎_elim, List, length, get_or}
 use Rattle.std.proofs.Common.{replicate, set, Option, Some, None, refl, sym, ◌∙◌, ap, arith, length-set, get_or-set_same}
 use Rattle.std.specs.Cmp.{IsTotalOrder}
 use Rattle.std.specs.List.{All}
 use Rattle.std.specs.Ordering.{is_gt, is_lt, nat_cmp, ordering_reverse, ordering_then}
 use Rattle.std.specs.declared.cmp.Ordering.{Ordering}
 use Rattle.std.specs.declared.cmp.Ordering.TheVariants.{Less, Equal, Greater}
-use Rattle.std.proofs.lemmas.Bool.{cases_eq, cases_lt}
+use Rattle.std.proofs.lemmas.Bool.{cases_cond, cases_eq, cases_lt}
 use Rattle.std.proofs.lemmas.Bool.Decides.{nat_tests}
 use Rattle.std.proofs.lemmas.Cmp.{nat_cmp_total, on_total, then_total, tied_itself, tied_back, upto}
 use Rattle.std.proofs.lemmas.List.{get_or-replicate, get_or-set_other, length-replicate}
 use Rattle.ics_series.specs.Entry.{Entry}
 use Rattle.ics_series.specs.EntryLaws.{entry_total}
+use Rattle.ics_series.proofs.Cases.{here-or-later}
 use Rattle.ics_series.specs.Tournament.{above, first_below, first_of, head_cmp, lead_cmp, winner, AreSettled, AreSettledBut, AreSettledWhere}
 
 pub head_total : IsTotalOrder head_cmp
@@ -60,10 +61,6 @@ module _ (heads : List (Option Entry)) (a b : ℕ) where
   pub first_of-first : (is_gt (lead_cmp heads (first_of heads a b) a) ≡ false) × (is_gt (lead_cmp heads (first_of heads a b) b) ≡ false)
   first_of-first = first_by (lead_cmp heads a b) refl
 
-one_of : (b : Bool) (x y : ℕ) → (cond b x y ≡ x) ⊎ (cond b x y ≡ y)
-one_of true x y = inl refl
-one_of false x y = inr refl
-
 -- where nothing has been played yet
 pub zeros-within : (n : ℕ) (winners : List ℕ) → winners ≡ replicate n 0 → All (λ lead. lead < n) winners
 zeros-within n winners e k d l =
@@ -110,10 +107,7 @@ module _ (heads : List (Option Entry)) (winners : List ℕ) (settled : AreSettle
       (λ e. ap (λ k. is_gt (lead_cmp heads (winner winners 1) (winner winners k))) (sym e) ∙ ap is_gt (tied_itself (lead_total heads) (winner winners 1)))
       (λ l. upto (lead_total heads) (winner winners 1) (winner winners (node / 2)) (winner winners node)
       (over_all fuel (node / 2) (omega arith) (omega arith) (omega arith)) (over node l high))
-      (first_or node low)
-    where
-      first_or : (node : ℕ) → 0 < node → (1 ≡ node) ⊎ (1 < node)
-      first_or node low = ⊎_elim (λ l. inr l) (λ l. inl (omega arith)) (cases_lt 1 node)
+      (here-or-later 1 node (omega arith))
 
   -- no lead goes before the winner of all
   pub wins : (lead : ℕ) → lead < length winners → is_gt (lead_cmp heads (winner winners 1) lead) ≡ false
@@ -130,9 +124,8 @@ module _ (heads : List (Option Entry)) (winners : List ℕ) (settled : AreSettle
   from_below : (node : ℕ) → 0 < node → node < length winners → (winner winners node ≡ winner winners (2 * node))
       ⊎ (winner winners node ≡ winner winners (2 * node + 1))
   from_below node low high =
-      let is : winner winners node ≡ first_below heads winners node = winner-node winners node high ∙ settled node low high in
-      ⊎_elim (λ e. inl (is ∙ e)) (λ e. inr (is ∙ e))
-      (one_of (is_lt (lead_cmp heads (winner winners (2 * node)) (winner winners (2 * node + 1)))) (winner winners (2 * node)) (winner winners (2 * node + 1)))
+      cases_cond (is_lt (lead_cmp heads (winner winners (2 * node)) (winner winners (2 * node + 1)))) (winner winners (2 * node)) (winner winners (2 * node + 1))
+      (winner winners node) (winner-node winners node high ∙ settled node low high)
 
   rise : (node child : ℕ) → child / 2 ≡ node → winner winners node ≡ winner winners child
       → ((steps : ℕ) × (above steps (length winners + winner winners child) ≡ child)) →
@@ -153,15 +146,10 @@ module _ (heads : List (Option Entry)) (winners : List ℕ) (settled : AreSettle
       (λ l. (zero, leaf node l))
       (cases_lt node (length winners))
 
-  pub stands : (node : ℕ) → 0 < node → node < 2 * length winners → (steps : ℕ) × (above steps (length winners + winner winners node) ≡ node)
-  stands node low high = stands_by (2 * length winners) node low high (omega arith)
-
 first_of-same : (heads news : List (Option Entry)) (a b : ℕ) → slice_index_or news a None ≡ slice_index_or heads a None →
     slice_index_or news b None ≡ slice_index_or heads b None
     → first_of news a b ≡ first_of heads a b
-first_of-same heads news a b p q =
-    ap (λ h. cond (is_lt (ordering_then (head_cmp h (slice_index_or news b None)) (nat_cmp a b))) a b) p
-    ∙ ap (λ h. cond (is_lt (ordering_then (head_cmp (slice_index_or heads a None) h) (nat_cmp a b))) a b) q
+first_of-same heads news a b p q = λ i. cond (is_lt (ordering_then (head_cmp (p i) (q i)) (nat_cmp a b))) a b
 
 -- where only one lead has changed, all is right but for what stands above it
 pub settled_but : (heads news : List (Option Entry)) (winners : List ℕ) (lead : ℕ) →
@@ -170,7 +158,7 @@ pub settled_but : (heads news : List (Option Entry)) (winners : List ℕ) (lead 
 settled_but heads news winners lead same settled node low high apart =
     let other : (child : ℕ) → child / 2 ≡ node → child < 2 * length winners → 0 < child → winner winners child ≢ lead =
     λ child up within low e.
-    let p = stands heads winners settled child low within in
+    let p = stands_by heads winners settled (2 * length winners) child low within (omega arith) in
     apart p.0
     (ap (λ k. above (suc p.0) (length winners + k)) (sym e) ∙ (above-suc p.0 (length winners + winner winners child) ∙ (ap (λ k. k / 2) p.1 ∙ up))) in
     settled node low high
@@ -181,8 +169,7 @@ settled_but heads news winners lead same settled node low high apart =
 -- a node's winner is not read where another is
 winner-set : (winners : List ℕ) (node w k : ℕ) → k ≢ node → winner (set winners node w) k ≡ winner winners k
 winner-set winners node w k h =
-    ap (λ n. cond (nat_lt k n) (slice_index (set winners node w) k) (k - n)) (length-set winners node w)
-    ∙ ap (λ x. cond (nat_lt k (length winners)) x (k - length winners)) (get_or-set_other winners node k w 0 h)
+    let long = length-set winners node w in λ i. cond (nat_lt k (long i)) (get_or-set_other winners node k w 0 h i) (k - long i)
 
 -- after a node is put right
 module _ (heads : List (Option Entry)) (winners : List ℕ) (node : ℕ) where

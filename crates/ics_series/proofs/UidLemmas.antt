@@ -1,17 +1,15 @@
 -- The order of the UIDs that leads give, where their places tell it, as those of the masters' feeds do.
-use Rattle.std.specs.Prelude.{slice_index_or}
+use Rattle.std.specs.Prelude.{slice_get, slice_index_or}
 use Rattle.std.proofs.Common.{◌≡◌, ℕ, zero, suc, ◌<◌, ◌≤◌, inl, inr, List, [], ◌∷◌, length, get_or, set, map, Option, Some, None, sym, ◌∙◌, ap, subst, arith}
-use Rattle.std.proofs.Common.{ℤ, ◌++◌, refl}
+use Rattle.std.proofs.Common.{◌++◌, drop, refl}
 use Rattle.std.specs.Option.{option_map}
 use Rattle.std.specs.declared.cmp.Ordering.{Ordering}
 use Rattle.std.proofs.lemmas.List.{get_or-map, get_or_past}
 use Rattle.std.specs.List.{flat_map}
 use Rattle.std.specs.Cmp.Lexicographic.{slice_cmp}
-use Rattle.std.specs.Ordering.{nat_cmp, ordering_reverse}
-use Rattle.std.specs.declared.cmp.Ordering.TheVariants.{Less, Equal}
+use Rattle.std.specs.Ordering.{nat_cmp}
 use Rattle.std.proofs.lemmas.Bool.Decides.{nat_tests}
-use Rattle.std.proofs.lemmas.Cmp.{nat_list_cmp_total, on_total, tied_itself}
-use Rattle.ics_event.specs.declared.event.Event.{Event}
+use Rattle.std.proofs.lemmas.Cmp.{nat_list_cmp_total, on_total}
 use Rattle.ics_series.specs.declared.occurrence.Occurrence.{Occurrence}
 use Rattle.ics_series.specs.Entry.{Entry, entry_of}
 use Rattle.ics_series.specs.Leads.{listed}
@@ -19,15 +17,13 @@ use Rattle.ics_series.specs.Listing.{IsIn}
 use Rattle.ics_series.specs.Uids.{AreHeadsSorted, AreSortedFrom, IsLastSorted, IsPlaceOrder, IsUidOrder, entry_uid_cmp}
 use Rattle.ics_series.specs.declared.part.Part.{Part}
 use Rattle.ics_series.specs.declared.part.Part.TheVariants.{Singles, Series}
-use Rattle.ics_series.specs.declared.window.Window.{Window}
-use Rattle.ics_series.specs.Clocks.{Clocks}
 use Rattle.ics_series.specs.AgendaParts.{part_coming, part_sources}
-use Rattle.ics_series.specs.Rising.{IsBefore, Rises}
-use Rattle.ics_series.specs.SeriesFeed.{series_left, source_of}
+use Rattle.ics_series.specs.Rising.{Rises}
+use Rattle.ics_series.specs.SeriesFeed.{series_left}
 use Rattle.ics_series.specs.Sources.{uid_cmp, Recurring, Source}
 use Rattle.ics_series.specs.Sources.Source.{Of, Once}
 use Rattle.ics_series.specs.FileZones.{clocks_in}
-use Rattle.ics_series.proofs.ListingLemmas.{before-in}
+use Rattle.ics_series.proofs.ListingLemmas.{rises-by_place}
 use Rattle.ics_series.proofs.SeriesLemmas.{given-own}
 
 -- no list stands past all of them
@@ -42,16 +38,16 @@ module _ (from i j : ℕ) (heads : List (Option Entry)) where
   head-order {a = a} {b = b} (Some order) h p q k = k.1.1 ∙ sym (h i j a b k.0 k.1.0 p q)
 
 -- where no list has more than it had
-abbrev AreFewer : List (List Entry) → List (List Entry) → Type 0
-AreFewer old new = (i : ℕ) (a : Entry) → IsIn a (get_or new i []) → IsIn a (get_or old i [])
+pub record AreFewer (old new : List (List Entry)) : Type 0 where
+  had : (i : ℕ) (a : Entry) → IsIn a (get_or new i []) → IsIn a (get_or old i [])
 
-module _ (from : ℕ) (old new : List (List Entry)) (fewer : AreFewer old new) where
+module _ {old new : List (List Entry)} (fewer : AreFewer old new) (from : ℕ) where
   pub fewer-sorted : AreSortedFrom from old → AreSortedFrom from new
-  fewer-sorted h i a m j b low high n = h i a (fewer i a m) j b low high (fewer j b n)
+  fewer-sorted h i a m j b low high n = h i a (fewer.had i a m) j b low high (fewer.had j b n)
 
   pub fewer-last : (i : ℕ) (last : Option Occurrence) → IsLastSorted from i last old → IsLastSorted from i last new
   fewer-last i None h = tt
-  fewer-last i (Some o) h = λ j b low high n. h j b low high (fewer j b n)
+  fewer-last i (Some o) h = λ j b low high n. h j b low high (fewer.had j b n)
 
 headed-in : (head : Option Occurrence) (rest : List Entry) (a : Entry) → option_map entry_of head ≡ Some a → IsIn a (listed head rest)
 headed-in None rest a e = let no : None ≡ Some a = e in absurd cc
@@ -94,7 +90,8 @@ module _ {X : Type 0} (head : X → Option Occurrence) (rest : X → List Entry)
   module _ (old new : X) where
     fewer-set : (xs : List X) (lead : ℕ) → old ≡ get_or xs lead old →
         ((a : Entry) → IsIn a (listed (head new) (rest new)) → IsIn a (listed (head old) (rest old)))
-        → AreFewer (map (λ x. listed (head x) (rest x)) xs) (map (λ x. listed (head x) (rest x)) (set xs lead new))
+        → (i : ℕ) (a : Entry) → IsIn a (get_or (map (λ x. listed (head x) (rest x)) (set xs lead new)) i []) →
+        IsIn a (get_or (map (λ x. listed (head x) (rest x)) xs) i [])
     fewer-set (x ∷ xs) zero read f zero a m = subst (λ y. IsIn a (listed (head y) (rest y))) read (f a m)
     fewer-set (x ∷ xs) (suc lead) read f (suc i) a m = fewer-set xs lead read f i a m
     fewer-set _ _ read f _ a m = m
@@ -102,99 +99,59 @@ module _ {X : Type 0} (head : X → Option Occurrence) (rest : X → List Entry)
     module _ (xs : List X) (lead : ℕ) (read : old ≡ get_or xs lead old) where
       pub fewer-drawn-in : listed (head new) (rest new) ≡ rest old
           → AreFewer (map (λ x. listed (head x) (rest x)) xs) (map (λ x. listed (head x) (rest x)) (set xs lead new))
-      fewer-drawn-in drawn = fewer-set xs lead read (λ a m. rest-in (head old) (rest old) a (subst (IsIn a) drawn m))
+      fewer-drawn-in drawn = record { had = fewer-set xs lead read (λ a m. rest-in (head old) (rest old) a (subst (IsIn a) drawn m)) }
 
       pub fewer-kept-in : head new ≡ head old → rest new ≡ rest old
           → AreFewer (map (λ x. listed (head x) (rest x)) xs) (map (λ x. listed (head x) (rest x)) (set xs lead new))
-      fewer-kept-in same left = fewer-set xs lead read (λ a m. subst (IsIn a) (ap (λ h. listed h (rest new)) same ∙ ap (listed (head old)) left) m)
+      fewer-kept-in same left = record {
+        had = fewer-set xs lead read (λ a m. subst (IsIn a) (ap (λ h. listed h (rest new)) same ∙ ap (listed (head old)) left) m);
+      }
 
 -- The feeds of the masters that recur, each of one UID, in the order of their UIDs.
-same-rest : (a b : Source) (xs ys : List Source) → a ∷ xs ≡ b ∷ ys → xs ≡ ys
-same-rest a b xs ys e = cc
+same-master : {a b : Recurring} {xs ys : List Source} → Of a ∷ xs ≡ Of b ∷ ys → a ≡ b
+same-master e = cc
 
-same-master : (a b : Recurring) (xs ys : List Source) → Of a ∷ xs ≡ Of b ∷ ys → a ≡ b
-same-master a b xs ys e = cc
+no-source : {a : Source} {xs : List Source} → a ∷ xs ≡ [] → ⊥
+no-source e = cc
 
--- the sources of a series, before others
-module _ (clocks : Clocks) (event : Event) (w : Window) (since : ℤ) (xs : List Source) where
-  abbrev own : Recurring
-  own = record { clocks = clocks; event = event; window = w; since = since }
-
-  own-master : (m : Recurring) (ys : List Source) → source_of clocks event w since ++ xs ≡ Of m ∷ ys → event ≡ m.event
-  own-master m ys e = ap (λ (r : Recurring). r.event) (same-master own m xs ys e)
-
-  own-rest : (s : Source) (ys : List Source) → source_of clocks event w since ++ xs ≡ s ∷ ys → xs ≡ ys
-  own-rest s ys e = same-rest (Of own) s xs ys e
-
-  own-some : source_of clocks event w since ++ xs ≡ [] → ⊥
-  own-some e = let no : Of own ∷ xs ≡ [] = e in absurd cc
+rest-sources : (p : Part) {source : Source} {xs ys : List Source} → part_sources p ++ xs ≡ source ∷ ys → xs ≡ ys
+rest-sources (Singles s) e = ap (drop 1) e
+rest-sources (Series s) e = ap (drop 1) e
 
 -- what a feed gives is of its one master
-own-uid : (p : Part) (a : Entry) {m : Recurring} (xs : List Source) {ys : List Source} → part_sources p ++ xs ≡ Of m ∷ ys → IsIn a (part_coming p) →
-    a.event ≡ m.event
-own-uid (Singles s) a {m = m} xs {ys = ys} e n = let no : Once ∷ xs ≡ Of m ∷ ys = e in absurd cc
-own-uid (Series s) a {m = m} xs {ys = ys} e n =
-    given-own (clocks_in s.value.zones) s.value.window s.value.event.now s.value.since s.value.overridden.items (series_left s.value) a n
-    ∙ own-master (clocks_in s.value.zones) s.value.event.now s.value.window s.value.since xs m ys e
-
--- the rest of the sources is that of the rest
-rest-sources : (p : Part) (source : Source) (xs ys : List Source) → part_sources p ++ xs ≡ source ∷ ys → xs ≡ ys
-rest-sources (Singles s) source xs ys e = same-rest Once source xs ys e
-rest-sources (Series s) source xs ys e = own-rest (clocks_in s.value.zones) s.value.event.now s.value.window s.value.since xs source ys e
-
-no-source : (p : Part) (xs : List Source) → part_sources p ++ xs ≡ [] → ⊥
-no-source (Singles s) xs e = let no : Once ∷ xs ≡ [] = e in absurd cc
-no-source (Series s) xs e = own-some (clocks_in s.value.zones) s.value.event.now s.value.window s.value.since xs e
-
--- the master of an occurrence is one of these
-record HasMaster (ms : List Recurring) (a : Entry) : Type 0 where
+record HasMaster (ms : List Recurring) (i : ℕ) (a : Entry) : Type 0 where
   master : Recurring
-  stands : IsIn master ms
+  stands : slice_get ms i ≡ Some master
   event : a.event ≡ master.event
 
--- so it is for what stands in the list of one of the feeds
 master-in : (ps : List Part) (ms : List Recurring) (i : ℕ) (a : Entry) → flat_map part_sources ps ≡ map Of ms → IsIn a (get_or (map part_coming ps) i []) →
-    HasMaster ms a
+    HasMaster ms i a
 master-in [] ms i a e n = absurd n
-master-in (p ∷ ps) [] i a e n = absurd (no-source p (flat_map part_sources ps) e)
-master-in (p ∷ ps) (m ∷ ms) zero a e n = record { master = m; stands = inl refl; event = own-uid p a (flat_map part_sources ps) e n }
 master-in (p ∷ ps) (m ∷ ms) (suc i) a e n =
-    let found = master-in ps ms i a (rest-sources p (Of m) (flat_map part_sources ps) (map Of ms) e) n in
-    record { master = found.master; stands = inr found.stands; event = found.event }
-
-alike : (a b : Entry) (m : Recurring) → a.event ≡ m.event → b.event ≡ m.event → entry_uid_cmp a b ≡ Equal
-alike a b m p q =
-    ap (λ (e : Event). slice_cmp nat_cmp e.uid b.event.uid) p
-    ∙ (ap (λ (e : Event). slice_cmp nat_cmp m.event.uid e.uid) q ∙ tied_itself nat_list_cmp_total m.event.uid)
-
-apart : (a b : Entry) (m : Recurring) {ms : List Recurring} → a.event ≡ m.event → IsBefore uid_cmp m ms → HasMaster ms b → entry_uid_cmp a b ≡ Less
-apart a b m {ms = ms} p before later =
-    ap (λ (e : Event). slice_cmp nat_cmp e.uid b.event.uid) p
-    ∙ (ap (λ (e : Event). slice_cmp nat_cmp m.event.uid e.uid) later.event
-    ∙ before-in uid_cmp (on_total (λ (r : Recurring). r.event.uid) nat_list_cmp_total) m later.master ms before later.stands)
+    let k = master-in ps ms i a (rest-sources p e) n in record { master = k.master; stands = k.stands; event = k.event }
+master-in (Series s ∷ ps) (m ∷ ms) zero a e n =
+    let s = s.value in record {
+      master = m;
+      stands = refl;
+      event = given-own (clocks_in s.zones) s.window s.event.now s.since s.overridden.items (series_left s) a n
+          ∙ ap (λ (r : Recurring). r.event) (same-master e);
+    }
+master-in (Singles s ∷ ps) (m ∷ ms) zero a e n = let no : Once ∷ flat_map part_sources ps ≡ Of m ∷ map Of ms = e in absurd cc
+master-in (Singles s ∷ ps) [] i a e n = absurd (no-source e)
+master-in (Series s ∷ ps) [] i a e n = absurd (no-source e)
 
 -- the order of two UIDs is that of their feeds
-by-place : (ps : List Part) (ms : List Recurring) → flat_map part_sources ps ≡ map Of ms → Rises uid_cmp ms → AreSortedFrom 0 (map part_coming ps)
-by-place [] ms e r i a n j b low high k = absurd n
-by-place (p ∷ ps) [] e r i a n j b low high k = absurd (no-source p (flat_map part_sources ps) e)
-by-place (p ∷ ps) (m ∷ ms) e r zero a n zero b low high k =
-    alike a b m (own-uid p a (flat_map part_sources ps) e n) (own-uid p b (flat_map part_sources ps) e k) ∙ grind (arith, nat_tests)
-by-place (p ∷ ps) (m ∷ ms) e r zero a n (suc j) b low high k =
-    apart a b m (own-uid p a (flat_map part_sources ps) e n) r.0 (master-in ps ms j b (rest-sources p (Of m) (flat_map part_sources ps) (map Of ms) e) k)
-    ∙ grind (arith, nat_tests)
-by-place (p ∷ ps) (m ∷ ms) e r (suc i) a n zero b low high k =
-    nat_list_cmp_total.antisymm a.event.uid b.event.uid
-    ∙ (ap ordering_reverse (apart b a m (own-uid p b (flat_map part_sources ps) e k) r.0
-    (master-in ps ms i a (rest-sources p (Of m) (flat_map part_sources ps) (map Of ms) e) n))
-    ∙ grind (arith, nat_tests))
-by-place (p ∷ ps) (m ∷ ms) e r (suc i) a n (suc j) b low high k =
-    by-place ps ms (rest-sources p (Of m) (flat_map part_sources ps) (map Of ms) e) r.1 i a n j b (omega arith) (omega arith) k ∙ grind (arith, nat_tests)
+by-place : (ps : List Part) (ms : List Recurring) → flat_map part_sources ps ≡ map Of ms → Rises uid_cmp ms → (i j : ℕ) (a b : Entry)
+    → IsIn a (get_or (map part_coming ps) i []) → IsIn b (get_or (map part_coming ps) j []) → entry_uid_cmp a b ≡ nat_cmp i j
+by-place ps ms e r i j a b n k =
+    let x = master-in ps ms i a e n in
+    let y = master-in ps ms j b e k in
+    (λ t. slice_cmp nat_cmp (x.event t).uid (y.event t).uid)
+    ∙ rises-by_place uid_cmp (on_total (λ (m : Recurring). m.event.uid) nat_list_cmp_total) ms i j r x.stands y.stands
 
 -- behind the feed of the events that start once
 pub parts-sorted : (ps : List Part) (ms : List Recurring) → flat_map part_sources ps ≡ Once ∷ map Of ms → Rises uid_cmp ms →
     AreSortedFrom 1 (map part_coming ps)
 parts-sorted [] ms e r i a n j b low high k = absurd n
-parts-sorted (p ∷ ps) ms e r zero a n j b low high k = absurd (omega arith)
-parts-sorted (p ∷ ps) ms e r (suc i) a n zero b low high k = absurd (omega arith)
-parts-sorted (p ∷ ps) ms e r (suc i) a n (suc j) b low high k =
-    by-place ps ms (rest-sources p Once (flat_map part_sources ps) (map Of ms) e) r i a n j b (omega arith) (omega arith) k ∙ grind (arith, nat_tests)
+parts-sorted (p ∷ ps) ms e r (suc i) a n (suc j) b low high k = by-place ps ms (rest-sources p e) r i j a b n k ∙ grind (arith, nat_tests)
+parts-sorted (p ∷ ps) ms e r _ a n _ b low high k = absurd (omega arith)

@@ -1,5 +1,5 @@
 -- The versions of files, one file after the other; of sorted versions the last of each subject is the one that counts.
-use Rattle.std.specs.Prelude.{◌≢◌, slice_get}
+use Rattle.std.specs.Prelude.{slice_get}
 use Rattle.std.proofs.Common.{◌≡◌, ℕ, ℤ, List, [], ◌∷◌, Option, Some, None, ◌⊎◌, inl, inr, ⊎_elim, Bool, true, false, cond, refl, sym, ◌∙◌, ap, subst, ◌+◌}
 use Rattle.std.proofs.Common.{suc, ◌++◌, map, drop, option_map, arith}
 use Rattle.std.specs.Cmp.{IsTotalOrder}
@@ -8,7 +8,7 @@ use Rattle.std.specs.Option.{option_cmp}
 use Rattle.std.specs.Ordering.{int_cmp, nat_cmp, is_eq, is_gt, ordering_then, ordering_reverse}
 use Rattle.std.specs.declared.cmp.Ordering.{Ordering}
 use Rattle.std.specs.declared.cmp.Ordering.TheVariants.{Less, Equal, Greater}
-use Rattle.std.proofs.lemmas.Cmp.{alike_right, int_cmp_total, nat_list_cmp_total, on_total, then_total, tied_itself}
+use Rattle.std.proofs.lemmas.Cmp.{int_cmp_total, nat_list_cmp_total, on_total, then_total, tied_itself}
 use Rattle.std.proofs.lemmas.Map.Lookups.{exact_bytes, exact_signed}
 use Rattle.std.proofs.Math.Seq.{drop-cons}
 use Rattle.std.proofs.lemmas.List.{append_assoc, map-append}
@@ -20,12 +20,13 @@ use Rattle.ics_zone.specs.ZoneSaid.{zone_said}
 use Rattle.ics_series.specs.Chosen.{subject_of, IsChosen, SubjectSeen}
 use Rattle.ics_series.specs.Clocks.{Clock, Clocks, clocks_of}
 use Rattle.ics_series.specs.Listing.{IsIn, IsListing}
-use Rattle.ics_series.specs.Rising.{IsBefore, Rises}
 use Rattle.ics_series.specs.PlacedEvents.{Placed, IsPlaced, placed_cmp, clocks_at, zones_of}
 use Rattle.ics_series.specs.Versions.{by_subject, subject_cmp, version_cmp, lasts, is_followed, label_by, label_of, placed_from, placed_in, Label}
-use Rattle.ics_series.proofs.MasterLemmas.{placed_total, second-equal, tied-by, same-placed}
-use Rattle.ics_series.proofs.SortLemmas.{IsUpTo, Climbs, up-to-in}
-use Rattle.ics_series.proofs.Cases.{eq-Equal}
+use Rattle.ics_series.proofs.MasterLemmas.{placed_total, second-equal, same-placed}
+use Rattle.ics_series.proofs.SortLemmas.{Climbs, up-to-in}
+use Rattle.ics_series.proofs.Cases.{eq-Equal, less-by, up-to-front}
+use Rattle.ics_series.proofs.HeldLemmas.{before-all}
+use Rattle.ics_series.proofs.ListingLemmas.{less-up-to, not-less-itself}
 
 module _ (files : List FileEvents) (display : Clock) where
   abbrev said : List FileSaid
@@ -78,8 +79,7 @@ exact-subject a b e =
     let both = second-equal (slice_cmp nat_cmp a.uid b.uid) (option_cmp int_cmp a.recurrence b.recurrence) e in
     let uid = exact_bytes a.uid b.uid both.0 in
     let recurrence = exact-option a.recurrence b.recurrence both.1 in
-    let build : List ℕ → Option ℤ → SubjectSeen = λ u r. record { uid = u; recurrence = r } in
-    ap (λ u. build u a.recurrence) uid ∙ ap (build b.uid) recurrence
+    λ i. record { uid = uid i; recurrence = recurrence i }
 
 module _ (files : List FileSaid) (display : Clock) where
   abbrev group : Placed → Placed → Ordering
@@ -91,130 +91,95 @@ module _ (files : List FileSaid) (display : Clock) where
   pub group-total : IsTotalOrder group
   group-total = on_total (subject_of files display) subject_total
 
-  -- no version of its subject in the list is greater
+  order-total : IsTotalOrder order
+  order-total = then_total group-total placed_total
+
+  -- what of the list comes after it is of a later subject
   abbrev IsTop : List Placed → Placed → Type 0
-  IsTop xs e = (q : Placed) → IsIn q xs → subject_of files display q ≡ subject_of files display e → placed_cmp e q ≢ Less
+  IsTop xs e = IsIn e xs × ((q : Placed) → IsIn q xs → order e q ≡ Less → group e q ≡ Less)
 
-  same-group : (p q : Placed) → subject_of files display p ≡ subject_of files display q → group p q ≡ Equal
-  same-group p q e = ap (subject_cmp (subject_of files display p)) (sym e) ∙ tied_itself subject_total (subject_of files display p)
-
-  -- of versions of one subject in order, the first is not greater
-  not-greater : (p q : Placed) → group p q ≡ Equal → is_gt (order p q) ≡ false → placed_cmp q p ≢ Less
-  not-greater p q e g l =
-      let f : placed_cmp p q ≡ Greater = placed_total.antisymm p q ∙ ap ordering_reverse l in
-      let v : is_gt (order p q) ≡ true = ap (λ c. is_gt (ordering_then c (placed_cmp p q))) e ∙ ap is_gt f in
-      cc
-
-  -- what is not after another, by version, is not after it by subject
-  group-up-to : (p q : Placed) (c : Ordering) → group p q ≡ c → is_gt (order p q) ≡ false → (group p q ≡ Less) ⊎ (group p q ≡ Equal)
-  group-up-to p q Less e g = inl e
-  group-up-to p q Equal e g = inr e
-  group-up-to p q Greater e g =
-      let v : is_gt (order p q) ≡ true = ap (λ c. is_gt (ordering_then c (placed_cmp p q))) e in
-      absurd cc
+  not-back : (p q : Placed) → is_gt (order p q) ≡ false → order q p ≡ Less → ⊥
+  not-back p q g l = let f : is_gt Greater ≡ false = ap is_gt (sym (order-total.antisymm p q ∙ ap ordering_reverse l)) ∙ g in absurd cc
 
   -- a test of one subject
-  abbrev SameGroup : (Placed → Placed → Bool) → Type 0
-  SameGroup same = (p q : Placed) → same p q ≡ is_eq (group p q)
-
-  module _ (same : Placed → Placed → Bool) (ties : SameGroup same) where
+  module _ (same : Placed → Placed → Bool) (ties : (p q : Placed) → same p q ≡ is_eq (group p q)) where
     abbrev IsFollowed : Bool → Placed → List Placed → Type 0
     IsFollowed true x xs = (y : Placed) × IsIn y xs × (group x y ≡ Equal)
     IsFollowed false x xs = (y : Placed) → IsIn y xs → group x y ≡ Less
-
-    untied : (c : Ordering) → is_eq c ≡ false → (c ≡ Less) ⊎ (c ≡ Equal) → c ≡ Less
-    untied c e h = ⊎_elim (λ l. l) (λ q. let f : is_eq Equal ≡ false = ap is_eq (sym q) ∙ e in absurd cc) h
-
-    -- all behind the next come after what comes before the next
-    module _ (x y : Placed) (l : group x y ≡ Less) where
-      after-next : (z : Placed) (zs : List Placed) → IsUpTo order y zs → IsIn z (y ∷ zs) → group x z ≡ Less
-      after-next z zs h m =
-          ⊎_elim (λ s. ap (group x) s ∙ l)
-          (λ n. ⊎_elim (λ k. group-total.trans x y z l k) (λ e. sym (alike_right group-total y z x e) ∙ l)
-          (group-up-to y z (group y z) refl (up-to-in order y z zs h n)))
-          m
 
     followed-by : (x : Placed) (xs : List Placed) (b : Bool) → is_followed same x xs ≡ b → Climbs order (x ∷ xs) → IsFollowed b x xs
     followed-by x [] true e h = let f : false ≡ true = e in absurd cc
     followed-by x [] false e h = λ y m. absurd m
     followed-by x (y ∷ ys) true e h = (y, inl refl, eq-Equal (group x y) (sym (ties x y) ∙ e))
     followed-by x (y ∷ ys) false e h =
-        λ z m. after-next x y (untied (group x y) (sym (ties x y) ∙ e) (group-up-to x y (group x y) refl h.0.0)) z ys h.1.0 m
+        let next = less-by (group x y) (up-to-front (group x y) (placed_cmp x y) h.0.0) (sym (ties x y) ∙ e) in
+        λ z m. ⊎_elim (λ s. ap (group x) s ∙ next)
+        (λ n. less-up-to group group-total x y z next (up-to-front (group y z) (placed_cmp y z) (up-to-in order y z ys h.1.0 n))) m
 
-    -- The members.
-    in-lasts : (e : Placed) (xs : List Placed) → Climbs order xs → IsIn e (lasts same xs) → IsIn e xs × IsTop xs e
-    in-lasts e [] h m = absurd m
-    in-lasts e (x ∷ xs) h m = by (is_followed same x xs) (followed-by x xs (is_followed same x xs) refl h) (in-lasts e xs h.1) m
+    -- of a list in order the last of each subject are the listing of those that no other of their subject follows
+    lasts-listing : (xs : List Placed) → Climbs order xs → ((p q : Placed) → IsIn p xs → IsIn q xs → order p q ≡ Equal → p ≡ q)
+        → IsListing group (IsTop xs) (lasts same xs)
+    lasts-listing [] h one = record { rises = tt; exact = λ e. (λ m. absurd m, λ t. absurd t.0) }
+    lasts-listing (x ∷ xs) h one =
+        by (is_followed same x xs) (followed-by x xs (is_followed same x xs) refl h) (lasts-listing xs h.1 (λ p q m n. one p q (inr m) (inr n)))
       where
-        by : (b : Bool) → IsFollowed b x xs → (IsIn e (lasts same xs) → IsIn e xs × IsTop xs e) → IsIn e (cond b (lasts same xs) (x ∷ lasts same xs)) →
-            IsIn e (x ∷ xs) × IsTop (x ∷ xs) e
-        by true f ih m =
-            let k = ih m in (
-              inr k.0,
-              λ q n u. ⊎_elim (λ s. subst (λ w. placed_cmp e w ≢ Less) (sym s)
-                  (not-greater x e (same-group x e (subst (λ w. subject_of files display w ≡ subject_of files display e) s u)) (up-to-in order x e xs h.0 k.0)))
-                  (λ r. k.1 q r u) n,
-            )
-        by false f ih m =
-            ⊎_elim
-            (λ s. (
+        behind : (e : Placed) → IsTop xs e → IsTop (x ∷ xs) e
+        behind e t = (
+          inr t.0,
+          λ q n l. ⊎_elim (λ s. absurd (not-back x e (up-to-in order x e xs h.0 t.0) (ap (order e) (sym s) ∙ l))) (λ k. t.1 q k l) n,
+        )
+
+        itself : (y : Placed) (c : Ordering) → order x y ≡ c → IsIn y xs → (c ≡ Less → ⊥) → IsIn x xs
+        itself y Less e n not = absurd (not refl)
+        itself y Equal e n not = subst (λ z. IsIn z xs) (sym (one x y (inl refl) (inr n) e)) n
+        itself y Greater e n not = let f : is_gt Greater ≡ false = ap is_gt (sym e) ∙ up-to-in order x y xs h.0 n in absurd cc
+
+        by : (b : Bool) → IsFollowed b x xs → IsListing group (IsTop xs) (lasts same xs) →
+            IsListing group (IsTop (x ∷ xs)) (cond b (lasts same xs) (x ∷ lasts same xs))
+        by true f l = record {
+          rises = l.rises;
+          exact = λ e. (
+            λ m. behind e ((l.exact e).0 m),
+            λ t. (l.exact e).1 (
+              ⊎_elim (λ s. subst (λ z. IsIn z xs) (sym s) (itself f.0 (order x f.0) refl f.1
+                  (λ less. let k : group x f.0 ≡ Less = subst (λ z. order z f.0 ≡ Less → group z f.0 ≡ Less) s (t.1 f.0 (inr f.1)) less in cc)))
+                  (λ n. n) t.0,
+              λ q k. t.1 q (inr k),
+            ),
+          );
+        }
+        by false f l = record {
+          rises = (before-all group group-total x (lasts same xs) (λ y m. f y ((l.exact y).0 m).0), l.rises);
+          exact = λ e. (
+            ⊎_elim (λ s. (
               inl s,
-              λ q n u. ⊎_elim (λ t l. let t2 : placed_cmp e q ≡ Equal = ap (placed_cmp e) (t ∙ sym s) ∙ tied_itself placed_total e in cc)
-                  (λ r l.
-                  let a : group x q ≡ Less = f q r in
-                  let b : group x q ≡ Equal = same-group x q (ap (subject_of files display) (sym s) ∙ sym u) in cc) n,
+              λ q n less. ⊎_elim (λ k. absurd (not-less-itself order order-total e (ap (order e) (s ∙ sym k) ∙ less)))
+                  (λ k. ap (λ z. group z q) s ∙ f q k) n,
             ))
-            (λ n. let k = ih n in (
-              inr k.0,
-              λ q w u. ⊎_elim (λ t l. let a : group x e ≡ Less = f e k.0 in
-                  let b : group x e ≡ Equal = same-group x e (ap (subject_of files display) (sym t) ∙ u) in cc)
-                  (λ r. k.1 q r u) w,
-            ))
-            m
+                (λ m. behind e ((l.exact e).0 m)),
+            λ t. ⊎_elim inl (λ n. inr ((l.exact e).1 (n, λ q k. t.1 q (inr k)))) t.0,
+          );
+        }
 
-    abbrev AreApart : List Placed → Type 0
-    AreApart xs = (p q : Placed) → IsIn p xs → IsIn q xs → placed_cmp p q ≡ Equal → p ≡ q
+    tied : (e q : Placed) → subject_of files display q ≡ subject_of files display e → group e q ≡ Equal
+    tied e q u = ap (subject_cmp (subject_of files display e)) u ∙ tied_itself subject_total (subject_of files display e)
 
-    lasts-in : (e : Placed) (xs : List Placed) → Climbs order xs → AreApart xs → IsIn e xs → IsTop xs e → IsIn e (lasts same xs)
-    lasts-in e [] h a m t = absurd m
-    lasts-in e (x ∷ xs) h a m t =
-        by (is_followed same x xs) (followed-by x xs (is_followed same x xs) refl h) (lasts-in e xs h.1 (λ p q m n. a p q (inr m) (inr n)))
-      where
-        by : (b : Bool) → IsFollowed b x xs → (IsIn e xs → IsTop xs e → IsIn e (lasts same xs)) → IsIn e (cond b (lasts same xs) (x ∷ lasts same xs))
-        by true f ih =
-            let y = f.0 in
-            ⊎_elim
-            (λ s.
-            let uid : subject_of files display x ≡ subject_of files display y = exact-subject (subject_of files display x) (subject_of files display y) f.2 in
-            let up : placed_cmp x y ≢ Less = subst (λ w. placed_cmp w y ≢ Less) s (t y (inr f.1) (sym uid ∙ ap (subject_of files display) (sym s))) in
-            let down : placed_cmp y x ≢ Less = not-greater x y f.2 (up-to-in order x y xs h.0 f.1) in
-            let one : x ≡ y = a x y (inl refl) (inr f.1) (tied-by x y (placed_cmp x y) refl up down) in
-            ih (subst (λ w. IsIn w xs) (sym (s ∙ one)) f.1) (λ q n u. t q (inr n) u))
-            (λ n. ih n (λ q r u. t q (inr r) u))
-            m
-        by false f ih = ⊎_elim inl (λ n. inr (ih n (λ q r u. t q (inr r) u))) m
-
-    -- The order.
-    before-lasts : (x : Placed) (xs : List Placed) → ((y : Placed) → IsIn y xs → group x y ≡ Less) → IsBefore group x xs
-    before-lasts x [] f = tt
-    before-lasts x (y ∷ ys) f = (f y (inl refl), before-lasts x ys (λ z m. f z (inr m)))
-
-    rises-lasts-by : (x : Placed) (xs : List Placed) (b : Bool) → IsFollowed b x xs → Climbs order xs → Rises group (lasts same xs) →
-        Rises group (cond b (lasts same xs) (x ∷ lasts same xs))
-    rises-lasts-by x xs true f h r = r
-    rises-lasts-by x xs false f h r = (before-lasts x (lasts same xs) (λ y m. f y (in-lasts y xs h m).0), r)
-
-    rises-lasts : (xs : List Placed) → Climbs order xs → Rises group (lasts same xs)
-    rises-lasts [] h = tt
-    rises-lasts (x ∷ xs) h = rises-lasts-by x xs (is_followed same x xs) (followed-by x xs (is_followed same x xs) refl h) h.1 (rises-lasts xs h.1)
+    top-by : (e q : Placed) (c : Ordering) → group e q ≡ c → IsChosen files display e → IsPlaced files q → ordering_then c (placed_cmp e q) ≡ Less → c ≡ Less
+    top-by e q Equal is k n l = absurd (k.greatest q n (sym (exact-subject (subject_of files display e) (subject_of files display q) is)) l)
+    top-by e q _ is k n l = l
 
     -- of all that stand in a folder, in order, the last of each subject are those that count
     pub lasts-chosen : (xs : List Placed) → Climbs order xs → ((p : Placed) → IsIn p xs → IsPlaced files p) → ((p : Placed) → IsPlaced files p → IsIn p xs)
         → IsListing group (IsChosen files display) (lasts same xs)
-    lasts-chosen xs h f g = record {
-      rises = rises-lasts xs h;
-      exact = λ e. (
-        λ m. let k = in-lasts e xs h m in record { placed = f e k.0; greatest = λ q r u. k.1 q (g q r) u },
-        λ k. lasts-in e xs h (λ p q m n t. same-placed files p q (f p m) (f q n) t) (g e k.placed) (λ q n u. k.greatest q (f q n) u),
-      );
-    }
+    lasts-chosen xs h f g =
+        let l = lasts-listing xs h (λ p q m n t. same-placed files p q (f p m) (f q n) (second-equal (group p q) (placed_cmp p q) t).1) in record {
+          rises = l.rises;
+          exact = λ e. (
+            λ m. let t = (l.exact e).0 m in record {
+              placed = f e t.0;
+              greatest = λ q r u c. let k = t.1 q (g q r) (ap (λ o. ordering_then o (placed_cmp e q)) (tied e q u) ∙ c) in
+                  let n = tied e q u in cc;
+            },
+            λ k. (l.exact e).1 (g e k.placed, λ q n. top-by e q (group e q) refl k (f q n)),
+          );
+        }

@@ -5,7 +5,7 @@ use Rattle.std.specs.List.{flat_map}
 use Rattle.std.specs.Option.{option_map}
 use Rattle.std.proofs.lemmas.List.{append-nil, map-append}
 use Rattle.std.proofs.lemmas.List.Concat.{flat_map-append}
-use Rattle.std.proofs.lemmas.Option.{slice_get-get_or}
+use Rattle.std.proofs.lemmas.Option.{slice_get-get_or, MatchOption-at_none, MatchOption-at_some}
 use Rattle.ics_event.specs.Event.{said_by}
 use Rattle.ics_series.specs.declared.part.Part.{Part}
 use Rattle.ics_series.specs.declared.part.Part.TheVariants as part
@@ -20,7 +20,7 @@ use Rattle.ics_series.specs.SeriesFeed.{series_left, series_of, series_sources}
 use Rattle.ics_series.specs.Sources.{Recurring}
 use Rattle.ics_series.specs.Sources.Source.{Of}
 use Rattle.ics_series.specs.Versions.{seen}
-use Rattle.ics_series.proofs.PushLemmas.{lists-none, matched, matched-none, versions-all, versions-more, versions-skip}
+use Rattle.ics_series.proofs.PushLemmas.{lists-none, versions-all, versions-more, versions-skip}
 use Rattle.ics_series.proofs.SourceLemmas.{sources-all, sources-more, sources-none, sources-skip}
 use Rattle.ics_series.proofs.masters.push_series.Goals as goal
 use Rattle.ics_series.proofs.masters.push_series.Goals.{in-Some+in_ok-new+in_ok-push, in_default}
@@ -56,7 +56,7 @@ loop-place-preserved c =
                 (option_map (λ key. key_rank key.now) c.args.after) (seen (get_or c.args.chosen.now c.loop-place.place none)) m
                 × (series_sources series ≡ Of m ∷ [])) =
                 c.in_ok-series.ensures.sources (get_or c.args.chosen.now c.loop-place.place none) there in
-                let m = matched _ _ c.in_ok-series.field-0 w.in-Some.series w.in-Some.is given in
+                let m = MatchOption-at_some _ _ w.in-Some.series w.in-Some.is given in
                 sources-more c.requires.chosen k there c.loop-place.invariant.sources m.1
                 (ap (λ (p : Vec Part Global). flat_map part_sources p.items) w.parts-is ∙ (ap (flat_map part_sources) (w.in_ok-push.ensures.items)
                 ∙ (flat_map-append part_sources c.loop-place.parts.items (part.Series w.in_ok-new.field-0 ∷ [])
@@ -76,7 +76,7 @@ loop-place-preserved c =
                 (IsOfVersion (map said_by c.args.files.now) (display_clock c.args.display.now) c.args.window
                 (option_map (λ key. key_rank key.now) c.args.after) (seen (get_or c.args.chosen.now c.loop-place.place none)))
                 (series_of s (series_left s)))
-                (sym value) (matched _ _ c.in_ok-series.field-0 w.in-Some.series w.in-Some.is given) in
+                (sym value) (MatchOption-at_some _ _ w.in-Some.series w.in-Some.is given) in
                 versions-more vs k there c.loop-place.invariant.lists listing
                 (ap (λ (p : Vec Part Global). map part_coming p.items) w.parts-is
                 ∙ (ap (map part_coming) w.in_ok-push.ensures.items
@@ -86,7 +86,7 @@ loop-place-preserved c =
                 (option_map (λ key. key_rank key.now) c.args.after) (map seen (take (c.loop-place.place + 1) c.args.chosen.now))
                 (map part_coming c.args.parts.now.items) (map part_coming p.items))
                 (sym w.parts-is)
-                (versions-skip vs k there c.loop-place.invariant.lists (matched-none _ _ c.in_ok-series.field-0 w.in_default.is given))
+                (versions-skip vs k there c.loop-place.invariant.lists (MatchOption-at_none _ _ w.in_default.is given))
           ];
       whole = λ w.
           let whole : HasWhole (map said_by c.args.files.now) (display_clock c.args.display.now) w (seen (get_or c.args.chosen.now c.loop-place.place none)) =

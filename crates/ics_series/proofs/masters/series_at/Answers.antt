@@ -1,6 +1,6 @@
 use Rattle.std.proofs.Common.{◌≡◌, ◌∙◌, rules, [], get_or, map, Some, None, ℤ, w64, to_z, of_z, refl, sym, ap, subst}
 use Rattle.std.specs.Option.{option_map}
-use Rattle.std.proofs.lemmas.Option.{slice_get-get_or}
+use Rattle.std.proofs.lemmas.Option.{get_or_from_slice_get, slice_get-get_or}
 use Rattle.ics_event.specs.Event.{said_by, IsEventOf}
 use Rattle.ics_event.specs.declared.event.Event.{Event}
 use Rattle.ics_series.specs.declared.version.Version.{Version}
@@ -13,9 +13,10 @@ use Rattle.ics_series.specs.SeriesFeed.{series_left, series_of}
 use Rattle.ics_series.specs.Sources.{IsFrom, Recurring}
 use Rattle.ics_series.specs.Versions.{seen, subject_seen}
 use Rattle.ics_series.specs.FileZones.{clocks_in}
-use Rattle.ics_series.proofs.GivenLemmas.{stands}
+use Rattle.ics_series.proofs.GivenLemmas.{map-in, stands}
 use Rattle.ics_series.proofs.OverriddenLemmas.{chosen-order}
-use Rattle.ics_series.proofs.RecurringLemmas.{IsRead, not-single, own-subject, series-listing, single-none, there-in, version-there, whole-version}
+use Rattle.ics_series.proofs.RecurringLemmas.{IsRead, not-single, own-subject, series-listing, single-none, whole-version}
+use Rattle.ics_series.proofs.SortLemmas.{get-in}
 use Rattle.ics_series.proofs.ZoneLemmas.{own-event}
 use Rattle.ics_series.proofs.masters.series_at.Goals as goal
 
@@ -30,11 +31,11 @@ pub returns-then-is_single : goal.returns-then-is_single
 returns-then-is_single c = record {
   sources = λ version there. tt;
   series = λ version there.
-      not-single (version-there c.args.chosen.now c.args.place none version c.requires.within there) c.event-event.ensures.event
+      not-single (get_or_from_slice_get c.args.chosen.now c.args.place version none there) c.event-event.ensures.event
       (sym c.is_single.ensures ∙ c.if-is_single.true);
   whole = λ version there w.
       single-none (map said_by c.args.files.now) (display_clock c.args.display.now) w (seen version)
-      (not-single (version-there c.args.chosen.now c.args.place none version c.requires.within there) c.event-event.ensures.event
+      (not-single (get_or_from_slice_get c.args.chosen.now c.args.place version none there) c.event-event.ensures.event
       (sym c.is_single.ensures ∙ c.if-is_single.true));
 }
 
@@ -49,7 +50,7 @@ overridden_instants-requires-clause-master c =
     record { event = c.event-event.result.now; stands = c.event-event.ensures.event; recurs = sym c.is_single.ensures ∙ c.if-is_single.false } in
     let uid : c.as_slice-2.result.now ≡ c.event-event.result.now.uid = c.as_slice-2.ensures ∙ ap (λ (e : Event). e.uid) c.event.view_is in
     ap (option_map (λ (v : Version). subject_seen v.subject)) there
-    ∙ ap Some (own-subject c.requires.chosen (there-in seen c.args.chosen.now c.args.place v there) r
+    ∙ ap Some (own-subject c.requires.chosen (map-in seen v c.args.chosen.now (get-in v c.args.chosen.now c.args.place there)) r
     ∙ ap (λ u. record { uid = u; recurrence = None }) (sym uid))
 
 pub new-requires-clause-own : goal.new-requires-clause-own
@@ -61,7 +62,8 @@ pub returns : goal.returns
 returns c =
     let after = option_map (λ key. key_rank key.now) c.args.after in
     let v = get_or c.args.chosen.now c.args.place none in
-    let stands = there-in seen c.args.chosen.now c.args.place v (slice_get-get_or c.args.chosen.now c.args.place none c.requires.within) in
+    let stands = map-in seen v c.args.chosen.now
+    (get-in v c.args.chosen.now c.args.place (slice_get-get_or c.args.chosen.now c.args.place none c.requires.within)) in
     let r : Recurs (map said_by c.args.files.now) (seen (get_or c.args.chosen.now c.args.place none)) =
     record { event = c.event-event.result.now; stands = c.event-event.ensures.event; recurs = sym c.is_single.ensures ∙ c.if-is_single.false } in
     let uid : c.as_slice.result.now ≡ c.event-event.result.now.uid = c.as_slice.ensures ∙ ap (λ (e : Event). e.uid) c.event.view_is in
@@ -101,7 +103,7 @@ returns c =
       series = λ version there.
           subst (λ (v : Version). IsListing entry_cmp (IsOfVersion (map said_by c.args.files.now) (display_clock c.args.display.now) c.args.window
           (option_map (λ key. key_rank key.now) c.args.after) (seen v)) (series_of c.in_ok-series.series (series_left c.in_ok-series.series)))
-          (version-there c.args.chosen.now c.args.place none version c.requires.within there)
+          (get_or_from_slice_get c.args.chosen.now c.args.place version none there)
           (series-listing c.requires.chosen stands r read c.args.window after (to_z w64 (of_z w64 c.since_of-since.result)) since
           c.in_ok-series.ensures.listing);
       sources = λ version there. (
@@ -114,11 +116,11 @@ returns c =
               window = c.args.window;
               since = to_z w64 (of_z w64 c.since_of-since.result);
             }))
-            (version-there c.args.chosen.now c.args.place none version c.requires.within there) is,
+            (get_or_from_slice_get c.args.chosen.now c.args.place version none there) is,
         c.in_ok-series.ensures.sources,
       );
       whole = λ version there w.
           subst (λ (v : Version). HasWhole (map said_by c.args.files.now) (display_clock c.args.display.now) w (seen v))
-          (version-there c.args.chosen.now c.args.place none version c.requires.within there)
+          (get_or_from_slice_get c.args.chosen.now c.args.place version none there)
           (whole-version c.requires.chosen stands r read w);
     }

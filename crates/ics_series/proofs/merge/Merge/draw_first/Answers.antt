@@ -3,7 +3,7 @@ use Rattle.std.proofs.Common.{◌≡◌, ◌+◌, ◌<◌, ◌++◌, All, length
 use Rattle.std.specs.Option.{option_map}
 use Rattle.std.proofs.lemmas.List.{length-map}
 use Rattle.ics_series.specs.Entry.{entry_cmp, entry_of}
-use Rattle.ics_series.specs.Leads.{listed, ComeAfter}
+use Rattle.ics_series.specs.Leads.{ComeAfter}
 use Rattle.ics_series.specs.Merged.{merged}
 use Rattle.ics_series.specs.Tournament.{above, winner, AreSettled, AreSettledBut}
 use Rattle.ics_series.specs.Uids.{AreHeadsSorted}
@@ -26,6 +26,8 @@ invariant_of-self g c =
     let new = c.draw.new.self in
     let lead = c.winner-lead.result in
     let long = length-set self.leads.items lead new in
+    let fewer = fewer-kept-in (λ x. x.head) (λ x. g.F.Coming.coming x.feed) old new self.leads.items lead c.index_mut.ensures.value c.in_err-draw.ensures.head
+    c.in_err-draw.ensures.rest in
     record {
       same_length = self.same_length ∙ sym long;
       within = subst (λ n. All (λ l. l < n) self.winners.items) (sym long) self.within;
@@ -43,14 +45,8 @@ invariant_of-self g c =
           (winner self.winners.items 1)
           (c.winner-lead.ensures ∙ ap (λ ws. winner ws 1) c.deref.ensures.value) c.requires).1
           c.draw.ensures.near self.near;
-      sorted = fewer-sorted self.sorted_from (map (λ x. listed x.head (g.F.Coming.coming x.feed)) self.leads.items)
-          (map (λ x. listed x.head (g.F.Coming.coming x.feed)) (set self.leads.items lead new))
-          (fewer-kept-in (λ x. x.head) (λ x. g.F.Coming.coming x.feed) old new self.leads.items lead c.index_mut.ensures.value c.in_err-draw.ensures.head
-          c.in_err-draw.ensures.rest) self.sorted;
-      last_sorted = fewer-last self.sorted_from (map (λ x. listed x.head (g.F.Coming.coming x.feed)) self.leads.items)
-          (map (λ x. listed x.head (g.F.Coming.coming x.feed)) (set self.leads.items lead new))
-          (fewer-kept-in (λ x. x.head) (λ x. g.F.Coming.coming x.feed) old new self.leads.items lead c.index_mut.ensures.value c.in_err-draw.ensures.head
-          c.in_err-draw.ensures.rest) self.source self.last self.last_sorted;
+      sorted = fewer-sorted fewer self.sorted_from self.sorted;
+      last_sorted = fewer-last fewer self.sorted_from self.source self.last self.last_sorted;
     }
 
 pub returns-in_err-draw-clause-same : goal.returns-in_err-draw-clause-same
@@ -77,10 +73,8 @@ replay-requires-clause-sorted g c =
     let leads = set self.leads.items lead new in
     subst (λ ls. AreHeadsSorted self.sorted_from (map (λ x. option_map entry_of x.head) ls)) (sym c.deref-2.ensures.value)
     (heads-sorted (λ x. x.head) (λ x. g.F.Coming.coming x.feed) self.sorted_from leads
-    (fewer-sorted self.sorted_from (map (λ x. listed x.head (g.F.Coming.coming x.feed)) self.leads.items)
-    (map (λ x. listed x.head (g.F.Coming.coming x.feed)) leads)
-    (fewer-drawn-in (λ x. x.head) (λ x. g.F.Coming.coming x.feed) c.index_mut.result.now new self.leads.items lead c.index_mut.ensures.value
-    c.in_ok-draw.ensures.drawn) self.sorted))
+    (fewer-sorted (fewer-drawn-in (λ x. x.head) (λ x. g.F.Coming.coming x.feed) c.index_mut.result.now new self.leads.items lead c.index_mut.ensures.value
+    c.in_ok-draw.ensures.drawn) self.sorted_from self.sorted))
 
 pub replay-requires-clause-settled : goal.replay-requires-clause-settled
 replay-requires-clause-settled g c =
@@ -107,6 +101,8 @@ invariant_of-self-2 g c =
     let kept = c.replay.auto.winners in
     let back : take self.winners.len (replayed ++ drop (length replayed) self.winners.items) ≡ replayed =
     written-back self.winners.items replayed self.winners.len self.winners.ok.0 (kept ∙ ap length c.deref_mut.ensures.value) in
+    let fewer = fewer-drawn-in (λ x. x.head) (λ x. g.F.Coming.coming x.feed) c.index_mut.result.now new self.leads.items lead c.index_mut.ensures.value
+    c.in_ok-draw.ensures.drawn in
     record {
       same_length = ap length back ∙ (kept ∙ (ap length c.deref_mut.ensures.value ∙ (self.same_length ∙ sym (length-set self.leads.items lead new))));
       within =
@@ -122,14 +118,8 @@ invariant_of-self-2 g c =
           (c.winner-lead.ensures ∙ ap (λ ws. winner ws 1) c.deref.ensures.value) c.requires c.index_mut.result.now.ahead)) self.follows;
       near = near-drawn (λ x. x.head) (λ x. g.F.Coming.coming x.feed) (λ x. g.F.Coming.near x.feed) self.last self.leads.items lead c.index_mut.result.now new
           c.in_ok-draw.ensures.drawn c.draw.ensures.near self.near;
-      sorted = fewer-sorted self.sorted_from (map (λ x. listed x.head (g.F.Coming.coming x.feed)) self.leads.items)
-          (map (λ x. listed x.head (g.F.Coming.coming x.feed)) leads)
-          (fewer-drawn-in (λ x. x.head) (λ x. g.F.Coming.coming x.feed) c.index_mut.result.now new self.leads.items lead c.index_mut.ensures.value
-          c.in_ok-draw.ensures.drawn) self.sorted;
-      last_sorted = fewer-last self.sorted_from (map (λ x. listed x.head (g.F.Coming.coming x.feed)) self.leads.items)
-          (map (λ x. listed x.head (g.F.Coming.coming x.feed)) leads)
-          (fewer-drawn-in (λ x. x.head) (λ x. g.F.Coming.coming x.feed) c.index_mut.result.now new self.leads.items lead c.index_mut.ensures.value
-          c.in_ok-draw.ensures.drawn) self.source self.last self.last_sorted;
+      sorted = fewer-sorted fewer self.sorted_from self.sorted;
+      last_sorted = fewer-last fewer self.sorted_from self.source self.last self.last_sorted;
     }
 
 pub returns-clause-same : goal.returns-clause-same

@@ -1,4 +1,4 @@
-use Rattle.std.proofs.Common.{List, map, ◌∙◌, ap, sym, subst, rules}
+use Rattle.std.proofs.Common.{◌≡◌, true, List, map, ◌∙◌, ap, sym, subst, rules}
 use Rattle.std.specs.Ordering.{on}
 use Rattle.std.proofs.lemmas.Cmp.{on_total}
 use Rattle.std.specs.Option.{option_map}
@@ -8,12 +8,12 @@ use Rattle.ics_series.specs.Clocks.{display_clock}
 use Rattle.ics_series.specs.Entry.{entry_cmp, key_rank}
 use Rattle.ics_series.specs.Listing.{IsListing}
 use Rattle.ics_series.specs.Rising.{Rises}
-use Rattle.ics_series.specs.Singles.{single_entry, AreSingle, IsSingleToCome}
+use Rattle.ics_series.specs.Singles.{is_single, single_entry, AreSingle, IsSingleToCome}
 use Rattle.ics_series.specs.Versions.{seen}
 use Rattle.ics_series.specs.EntryLaws.{entry_total}
 use Rattle.ics_series.proofs.OverrideLemmas.{overrides-sorted}
-use Rattle.ics_series.proofs.SinglesLemmas.{are-single, singles-listing}
-use Rattle.ics_series.proofs.SortLemmas.{climbs-by}
+use Rattle.ics_series.proofs.SinglesLemmas.{singles-listing}
+use Rattle.ics_series.proofs.SortLemmas.{climbs-by, in-all}
 use Rattle.ics_series.proofs.singles.Singles.new.Goals as goal
 
 pub to_come-requires-clause-overrides : goal.to_come-requires-clause-overrides
@@ -28,7 +28,7 @@ invariant_of-result c =
     (λ f a r f' k. search rules)) in
     record {
       single = subst (λ (xs : List Single). AreSingle (map single_entry xs)) (sym c.into_iter.ensures.rest)
-          (are-single (map single_entry c.sort_unstable_by.new.self.items) (λ o m. ((listing.exact o).0 m).1));
+          (in-all (λ o. is_single o.event ≡ true) (map single_entry c.sort_unstable_by.new.self.items) (λ o m. ((listing.exact o).0 m).1));
       rising = subst (λ (xs : List Single). Rises entry_cmp (map single_entry xs)) (sym c.into_iter.ensures.rest) listing.rises;
     }
 

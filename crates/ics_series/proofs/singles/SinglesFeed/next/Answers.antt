@@ -1,12 +1,12 @@
 use Rattle.std.proofs.lemmas.Grind.{common_steps}
-use Rattle.std.proofs.Common.{map, arith}
+use Rattle.std.proofs.Common.{◌≡◌, true, map, arith}
 use Rattle.std.specs.Vec.Iter.{into_iter_items}
-use Rattle.ics_series.specs.Singles.{single_entry}
-use Rattle.ics_series.proofs.SinglesLemmas.{single-in}
+use Rattle.ics_series.specs.Singles.{is_single, single_entry}
+use Rattle.ics_series.proofs.SortLemmas.{all-in}
 use Rattle.ics_series.proofs.singles.SinglesFeed.next.Goals as goal
 
 pub returns-in-Some-clause-near : goal.returns-in-Some-clause-near
-returns-in-Some-clause-near c = single-in (map single_entry (into_iter_items c.args.self.now.rest)) c.args.self.now.single
+returns-in-Some-clause-near c = all-in (λ o. is_single o.event ≡ true) (map single_entry (into_iter_items c.args.self.now.rest)) c.args.self.now.single
 
 pub returns-in-None-clause-ok : goal.returns-in-None-clause-ok
 returns-in-None-clause-ok c = grind (arith, common_steps)

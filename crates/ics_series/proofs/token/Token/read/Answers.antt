@@ -1,5 +1,5 @@
 use Rattle.std.proofs.lemmas.Grind.{common_steps}
-use Rattle.std.proofs.Common.{rules, ℕ, ◌≡◌, List, Ok, true, false, sym, ◌∙◌, ap, subst, ⊎_elim, arith}
+use Rattle.std.proofs.Common.{rules, ◌≡◌, Ok, true, false, sym, ◌∙◌, ap, subst, ⊎_elim, arith}
 use Rattle.std.specs.Prelude.{ℤ, FitsSigned, nat_eq}
 use Rattle.std.specs.Int.{w64}
 use mir.Val.{to_z, of_z}
@@ -8,7 +8,6 @@ use Rattle.std.proofs.lemmas.Int.{to_z-of_z}
 use Rattle.std.proofs.lemmas.Cmp.{nat_list_eq_equiv}
 use Rattle.hex.specs.Hex.{decode_of, encode_lower}
 use Rattle.hex.proofs.HexLemmas.{decode_of-encode_lower, decode_of-ok}
-use Rattle.ics_series.specs.Entry.{Rank}
 use Rattle.ics_series.specs.Tokens.{spelling}
 use Rattle.ics_series.specs.declared.token.TokenFault.TheVariants.{BadToken}
 use Rattle.ics_series.proofs.token.Token.read.Goals as goal
@@ -24,14 +23,6 @@ returns-in-Err-clause-bad c bad token =
     let text : decode_of c.as_bytes.result.now ≡ Ok key.uid = ap decode_of (c.as_bytes.ensures.value ∙ parts.2) ∙ decode_of-encode_lower key.uid k.uid in
     ⊎_elim other (λ d. let q = sym text ∙ d in cc) c.in-Err.ensures.err
 
--- a key of these parts
-spelled-of : {start recurrence : ℤ} {uid : List ℕ} (key : Rank) → start ≡ key.start → recurrence ≡ key.recurrence → uid ≡ key.uid
-    → spelling (record { start = start; uid = uid; recurrence = recurrence }) ≡ spelling key
-spelled-of {recurrence = recurrence} {uid = uid} key p q r =
-    ap (λ z. spelling (record { start = z; uid = uid; recurrence = recurrence })) p
-    ∙ (ap (λ z. spelling (record { start = key.start; uid = uid; recurrence = z })) q
-    ∙ ap (λ u. spelling (record { start = key.start; uid = u; recurrence = key.recurrence })) r)
-
 back : (z y : ℤ) → z ≡ y → FitsSigned w64 y → to_z w64 (of_z w64 z) ≡ y
 back z y e f = to_z-of_z w64 z (subst (FitsSigned w64) (sym e) f) ∙ e
 
@@ -43,9 +34,9 @@ returns-else-eq-clause-bad c bad token =
     let parts = c.in-Some.ensures key.start key.recurrence (encode_lower key.uid) k.start k.recurrence e in
     let text : decode_of c.as_bytes.result.now ≡ Ok key.uid = ap decode_of (c.as_bytes.ensures.value ∙ parts.2) ∙ decode_of-encode_lower key.uid k.uid in
     let uid : c.in-Ok.uid.items ≡ key.uid = let q = sym c.in-Ok.ensures.ok ∙ text in cc in
-    let spelled = c.in_ok-spelled.ensures
-    ∙ spelled-of key (back c.in-Some.start key.start parts.0 k.start) (back c.in-Some.recurrence key.recurrence parts.1 k.recurrence)
-    uid in
+    let start = back c.in-Some.start key.start parts.0 k.start in
+    let recurrence = back c.in-Some.recurrence key.recurrence parts.1 k.recurrence in
+    let spelled = c.in_ok-spelled.ensures ∙ (λ i. spelling (record { start = start i; uid = uid i; recurrence = recurrence i })) in
     let same : c.as_str.result.now ≡ c.args.text.now = c.as_str.ensures.value ∙ (spelled ∙ sym e) in
     let yes : c.eq.result ≡ true = c.eq.ensures ∙ (ap (λ t. pointwise nat_eq t c.args.text.now) same ∙ nat_list_eq_equiv.refl c.args.text.now) in
     let no : c.eq.result ≡ false = c.if-eq.false in cc
