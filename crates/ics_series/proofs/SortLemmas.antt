@@ -10,6 +10,7 @@ use Rattle.std.specs.Ordering.{eq_by_cmp, is_eq, is_gt, is_lt, on, ordering_reve
 use Rattle.std.specs.declared.cmp.Ordering.{Ordering}
 use Rattle.std.specs.declared.cmp.Ordering.TheVariants.{Less, Equal, Greater}
 use Rattle.std.proofs.lemmas.Cmp.{eq_by_cmp_equiv}
+use Rattle.std.proofs.lemmas.List.Elements.{recursion_from_All}
 use Rattle.std.proofs.lemmas.List.Folds.{Any-from_list_any, list_any-from_Any}
 use Rattle.std.proofs.lemmas.List.Sorted.{Contains-permutation, IsPermutation-sym}
 use Rattle.std.proofs.lemmas.List.Sorted.{answers_always, ranks_by, sorted_far}
@@ -25,8 +26,7 @@ use Rattle.ics_series.proofs.ListingLemmas.{strictly-sorted}
 
 -- x is not after any of the list
 abbrev pub IsUpTo : {A : Type 0} → (A → A → Ordering) → A → List A → Type 0
-IsUpTo R x [] = ⊤
-IsUpTo R x (y ∷ ys) = (is_gt (R x y) ≡ false) × IsUpTo R x ys
+IsUpTo R x ys = AllByRecursion (λ y. is_gt (R x y) ≡ false) ys
 
 -- none is after a later one
 abbrev pub Climbs : {A : Type 0} → (A → A → Ordering) → List A → Type 0
@@ -76,8 +76,7 @@ module _ {A : Type 0} where
   in-permutation x xs ys p m = in-contains x ys (Contains-permutation xs ys x p (contains-in x xs m))
 
   pub up-to-in : (R : A → A → Ordering) (x y : A) (ys : List A) → IsUpTo R x ys → IsIn y ys → is_gt (R x y) ≡ false
-  up-to-in R x y [] h m = absurd m
-  up-to-in R x y (z ∷ zs) h m = ⊎_elim (λ e. ap (λ w. is_gt (R x w)) e ∙ h.0) (λ n. up-to-in R x y zs h.1 n) m
+  up-to-in R x y ys h = all-in (λ z. is_gt (R x z) ≡ false) ys h y
 
 -- A list in order.
 module _ {A : Type 0} (R : A → A → Ordering) (o : IsTotalOrder R) where
@@ -88,14 +87,11 @@ module _ {A : Type 0} (R : A → A → Ordering) (o : IsTotalOrder R) where
       turned Less d e h = let f : is_lt Less ≡ false = h in cc
       turned _ d e h = ap is_gt e
 
-  up-to : (x : A) (xs : List A) → ((j : ℕ) (d : A) → j < length xs → is_lt (R (get_or xs j d) x) ≡ false) → IsUpTo R x xs
-  up-to x [] h = tt
-  up-to x (y ∷ ys) h = (not-after x y (h 0 x (omega arith)), up-to x ys (λ j d l. h (suc j) d (omega arith)))
-
   climbs : (xs : List A) → ((i j : ℕ) (d : A) → i ≤ j → j < length xs → is_lt (R (get_or xs j d) (get_or xs i d)) ≡ false) → Climbs R xs
   climbs [] h = tt
   climbs (x ∷ xs) h =
-      (up-to x xs (λ j d l. h 0 (suc j) d (omega arith) (omega arith)), climbs xs (λ i j d a b. h (suc i) (suc j) d (omega arith) (omega arith)))
+      let first = recursion_from_All (λ y. is_gt (R x y) ≡ false) xs (λ j d l. not-after x (get_or xs j d) (h 0 (suc j) d (omega arith) (omega arith))) in
+      (first, climbs xs (λ i j d a b. h (suc i) (suc j) d (omega arith) (omega arith)))
 
   pub climbs-sorted : (xs : List A) → IsSorted R xs → Climbs R xs
   climbs-sorted xs h = climbs xs (λ i j d a b. sorted_far (λ x y. is_lt (R x y)) (ranks_by o (λ x. x)) xs h i j d a b)

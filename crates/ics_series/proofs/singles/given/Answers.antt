@@ -4,7 +4,7 @@ use Rattle.std.specs.Option.{option_map}
 use Rattle.ics_event.specs.Event.{said_by}
 use Rattle.ics_series.specs.Clocks.{display_clock}
 use Rattle.ics_series.specs.Entry.{key_rank}
-use Rattle.ics_series.specs.Singles.{is_single, is_to_come, single_entry}
+use Rattle.ics_series.specs.Singles.{is_to_come, single_entry}
 use Rattle.ics_series.specs.Versions.{seen}
 use Rattle.ics_series.proofs.SinglesLemmas.{gives-begun, gives-other}
 use Rattle.ics_series.proofs.singles.given.Goals as goal

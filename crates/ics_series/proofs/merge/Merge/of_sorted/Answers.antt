@@ -65,19 +65,15 @@ winners-requires g c =
     (heads-sorted (λ x. x.head) (λ x. g.F.Coming.coming x.feed) c.args.sorted_from c.loop-feed.leads.items
     (subst (AreSortedFrom c.args.sorted_from) (sym (c.loop-feed.invariant.coming ∙ ap (map g.F.Coming.coming) all)) c.requires))
 
-pub returns-clause-coming : goal.returns-clause-coming
-returns-clause-coming g c =
+pub returns : goal.returns
+returns g c =
     let all : c.loop-feed.yielded ≡ c.args.feeds.items = sym (map-id c.loop-feed.yielded)
     ∙ (YieldsList-end (YieldsList-from_vec c.args.feeds.items (cc) (cc)) c.loop-feed.yielded _ c.loop-feed.yielded_by c.next.result c.next.new.self
     c.in-None.is c.next.ensures.steps).0 in
-    ap (merged entry_cmp) (c.loop-feed.invariant.coming ∙ ap (map g.F.Coming.coming) all)
-
-pub returns-clause-sources : goal.returns-clause-sources
-returns-clause-sources g c =
-    let all : c.loop-feed.yielded ≡ c.args.feeds.items = sym (map-id c.loop-feed.yielded)
-    ∙ (YieldsList-end (YieldsList-from_vec c.args.feeds.items (cc) (cc)) c.loop-feed.yielded _ c.loop-feed.yielded_by c.next.result c.next.new.self
-    c.in-None.is c.next.ensures.steps).0 in
-    c.loop-feed.invariant.sources ∙ ap (flat_map g.F.Coming.sources) all
+    record {
+      coming = ap (merged entry_cmp) (c.loop-feed.invariant.coming ∙ ap (map g.F.Coming.coming) all);
+      sources = c.loop-feed.invariant.sources ∙ ap (flat_map g.F.Coming.sources) all;
+    }
 
 pub invariant_of-push : goal.invariant_of-push
 invariant_of-push g c = grind (arith, common_steps)

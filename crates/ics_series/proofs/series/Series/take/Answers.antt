@@ -1,11 +1,14 @@
 use Rattle.std.proofs.lemmas.Grind.{common_steps}
-use Rattle.std.proofs.Common.{◌≡◌, [], ◌∷◌, sym, ◌∙◌, ap, refl, subst, arith}
-use Rattle.ics_series.specs.Entry.{entry_cmp}
+use Rattle.std.proofs.Common.{◌≡◌, [], ◌∷◌, Option, sym, ◌∙◌, ap, refl, subst, arith}
+use Rattle.ics_series.specs.declared.rule_starts.RuleStarts.{RuleStarts}
+use Rattle.ics_series.specs.declared.series.Series.{Series}
+use Rattle.ics_series.specs.Entry.{entry_cmp, Entry}
 use Rattle.ics_series.specs.Found.{moment_cmp}
+use Rattle.ics_series.specs.Listing.{IsIn}
 use Rattle.ics_series.specs.Merged.{union}
 use Rattle.ics_series.specs.Rising.{Rises}
 use Rattle.ics_series.specs.SeriesFeed.{series_left, series_of}
-use Rattle.ics_series.specs.SeriesStarts.{first_of, given_of, left, listed_left, rule_left, AreKnown, IsAskedNear, IsFirstOf, IsTaken}
+use Rattle.ics_series.specs.SeriesStarts.{first_of, given_of, left, listed_left, rule_asked, rule_left, AreKnown, HasSameRule, IsAskedNear, IsFirstOf, IsTaken}
 use Rattle.ics_series.specs.FileZones.{clocks_in}
 use Rattle.ics_series.specs.MergedLaws.{rises-union}
 use Rattle.ics_series.proofs.FirstLemmas.{moment_total}
@@ -95,30 +98,26 @@ returns-in_default-clause-taken c =
     let before : left s.rule_starts s.listed ≡ [] = sym (ap (λ xs. union moment_cmp xs (listed_left s.listed)) c.peek_rule.ensures.same) ∙ empty in
     subst (λ o. IsTaken (left s.rule_starts s.listed) o (left c.peek_rule.new.rule s.listed)) (sym c.in_default.is) (before, empty)
 
+-- what is still to come is near, however far the rule was read
+near : (s : Series) (rule : Option RuleStarts) → HasSameRule s.rule_starts rule → rule_left rule ≡ rule_left s.rule_starts
+    → (o : Entry) → IsIn o (series_of s (series_left s))
+    → (o.event ≡ s.event.now) × IsAskedNear (clocks_in s.zones) s.event.now (rule_asked rule) o.start
+near s rule same left o m = (
+  given-own (clocks_in s.zones) s.window s.event.now s.since s.overridden.items (series_left s) o m,
+  asked-near (clocks_in s.zones) s.event.now s.rule_starts rule same left (series_of s (series_left s)) s.ruled o m,
+)
+
 pub returns-in_err-ruled-clause-near : goal.returns-in_err-ruled-clause-near
-returns-in_err-ruled-clause-near c = λ o m.
-    let s = c.args.self.now in (
-      given-own (clocks_in s.zones) s.window s.event.now s.since s.overridden.items (series_left s) o m,
-      asked-near (clocks_in s.zones) s.event.now s.rule_starts c.peek_rule.new.rule c.peek_rule.ensures.rule c.peek_rule.ensures.same
-          (series_of s (series_left s)) s.ruled o m,
-    )
+returns-in_err-ruled-clause-near c = near c.args.self.now c.peek_rule.new.rule c.peek_rule.ensures.rule c.peek_rule.ensures.same
 
 pub returns-in-Some-clause-near : goal.returns-in-Some-clause-near
 returns-in-Some-clause-near c = λ o m.
-    let s = c.args.self.now in (
-      given-own (clocks_in s.zones) s.window s.event.now s.since s.overridden.items (series_left s) o m,
-      subst (λ day. IsAskedNear (clocks_in s.zones) s.event.now day o.start) (sym c.pass_rule.ensures.asked)
-          (asked-near (clocks_in s.zones) s.event.now s.rule_starts c.peek_rule.new.rule c.peek_rule.ensures.rule c.peek_rule.ensures.same
-          (series_of s (series_left s)) s.ruled o m),
-    )
+    let s = c.args.self.now in
+    let k = near s c.peek_rule.new.rule c.peek_rule.ensures.rule c.peek_rule.ensures.same o m in
+    (k.0, subst (λ day. IsAskedNear (clocks_in s.zones) s.event.now day o.start) (sym c.pass_rule.ensures.asked) k.1)
 
 pub returns-in_default-clause-near : goal.returns-in_default-clause-near
-returns-in_default-clause-near c = λ o m.
-    let s = c.args.self.now in (
-      given-own (clocks_in s.zones) s.window s.event.now s.since s.overridden.items (series_left s) o m,
-      asked-near (clocks_in s.zones) s.event.now s.rule_starts c.peek_rule.new.rule c.peek_rule.ensures.rule c.peek_rule.ensures.same
-          (series_of s (series_left s)) s.ruled o m,
-    )
+returns-in_default-clause-near c = near c.args.self.now c.peek_rule.new.rule c.peek_rule.ensures.rule c.peek_rule.ensures.same
 
 pub returns-in-Some-clause-same : goal.returns-in-Some-clause-same
 returns-in-Some-clause-same c = grind (arith, common_steps)
