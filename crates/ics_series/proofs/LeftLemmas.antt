@@ -33,20 +33,15 @@ module _ {A : Type 0} (R : A → A → Ordering) (o : IsTotalOrder R) where
   cut-own : (s : A) (xs : List A) → cut R s (s ∷ xs) ≡ xs
   cut-own s xs = ap (λ c. by_order c (s ∷ xs) xs (s ∷ xs)) (tied_itself o s)
 
-  pub begins-alone : (s : A) (ys : List A) → union R [] (s ∷ ys) ≡ s ∷ union R (cut R s []) (cut R s (s ∷ ys))
-  begins-alone s ys = ap (λ zs. s ∷ zs) (sym (cut-own s ys))
-
   pub begins-first : (s : A) (xs ys : List A) → Rises R (s ∷ xs) → IsBefore R s (cut R s ys) → union R (s ∷ xs) ys ≡ s ∷ union R (cut R s (s ∷ xs)) (cut R s ys)
   begins-first s xs ys r h =
       put-front R o s s (union R xs ys) (tied_itself o s) (front-union R o s xs ys r.0 h)
       ∙ ap (λ zs. s ∷ zs) (cut-union R o s xs ys r.0 h ∙ ap (λ zs. union R zs (cut R s ys)) (sym (cut-own s xs)))
 
-  pub begins-second : (s x : A) (xs ys : List A) → Rises R (x ∷ xs) → R s x ≡ Less →
-      union R (x ∷ xs) (s ∷ ys) ≡ s ∷ union R (cut R s (x ∷ xs)) (cut R s (s ∷ ys))
-  begins-second s x xs ys r l =
-      let before : IsBefore R s (x ∷ xs) = (l, before-trans R o s x xs l r.0) in
-      union-front R o s (x ∷ xs) ys before
-      ∙ ap (λ zs. s ∷ zs) (ap (λ zs. union R zs ys) (sym (cut-before R o s (x ∷ xs) before)) ∙ ap (union R (cut R s (x ∷ xs))) (sym (cut-own s ys)))
+  pub begins-second : (s : A) (xs ys : List A) → IsBefore R s xs → union R xs (s ∷ ys) ≡ s ∷ union R (cut R s xs) (cut R s (s ∷ ys))
+  begins-second s xs ys before =
+      union-front R o s xs ys before
+      ∙ ap (λ zs. s ∷ zs) (ap (λ zs. union R zs ys) (sym (cut-before R o s xs before)) ∙ ap (union R (cut R s xs)) (sym (cut-own s ys)))
 
   -- what is not after the first of a rising list comes before all of it but for one of its key
   pub not-after-front : (x y : A) (ys : List A) → (R x y ≡ Greater → ⊥) → Rises R (y ∷ ys) → IsBefore R x (cut R x (y ∷ ys))
@@ -74,12 +69,13 @@ earlier (Some a) (Some b) = if int_lt b.moment a.moment then Some b else Some a
 
 first-of : (xs ys : List Start) → Rises moment_cmp xs → Rises moment_cmp ys → IsFirstOf (earlier (slice_get xs 0) (slice_get ys 0)) xs ys
 first-of [] [] r k = refl
-first-of [] (y ∷ ys) r k = begins-alone moment_cmp moment_total y ys
+first-of [] (y ∷ ys) r k = begins-second moment_cmp moment_total y [] ys tt
 first-of (x ∷ xs) [] r k = begins-first moment_cmp moment_total x xs [] r tt
 first-of (x ∷ xs) (y ∷ ys) r k = by (int_lt y.moment x.moment) refl
   where
     by : (b : Bool) → int_lt y.moment x.moment ≡ b → IsFirstOf (if b then Some y else Some x) (x ∷ xs) (y ∷ ys)
-    by true t = begins-second moment_cmp moment_total y x xs ys r (less-by x y t)
+    by true t = let less = less-by x y t in
+        begins-second moment_cmp moment_total y (x ∷ xs) ys (less, before-trans moment_cmp moment_total y x xs less r.0)
     by false f = begins-first moment_cmp moment_total x xs (y ∷ ys) r (not-after-front moment_cmp moment_total x y ys (not-greater-by x y f) k)
 
 -- of the first of both kinds the earlier one is the first

@@ -1,12 +1,13 @@
 -- What the masters of a listing may hold is no more than what all masters of the folder may.
 use Rattle.std.specs.Prelude.{sum_by}
 use Rattle.std.specs.Cmp.Lexicographic.{slice_cmp}
-use Rattle.std.specs.List.{AllByRecursion}
+use Rattle.std.specs.List.{sum, AllByRecursion}
 use Rattle.std.specs.Ordering.{nat_cmp}
 use Rattle.std.specs.declared.cmp.Ordering.TheVariants.{Less, Equal}
-use Rattle.std.proofs.Common.{◌≡◌, ℕ, ℤ, ◌+◌, ◌≤◌, List, [], ◌∷◌, map, ◌⊎◌, inl, inr, ⊎_elim, Option, refl, sym, ◌∙◌, ap, subst, arith}
+use Rattle.std.proofs.Common.{◌≡◌, ℕ, ℤ, ◌+◌, ◌≤◌, List, [], ◌∷◌, map, ◌⊎◌, inl, inr, ⊎_elim, Option, sym, ◌∙◌, ap, subst, arith}
 use Rattle.std.proofs.lemmas.Cmp.{nat_list_cmp_total, on_total, tied_itself}
-use Rattle.std.proofs.lemmas.List.Sums.{sum_by-cons}
+use Rattle.std.proofs.lemmas.List.Sums.{sum-map, sum_by-cons}
+use Rattle.std.proofs.lemmas.Simd.{map-map}
 use Rattle.ics_event.specs.Event.{FileSaid}
 use Rattle.ics_series.specs.declared.window.Window.{Window}
 use Rattle.ics_series.specs.Chosen.{IsMaster}
@@ -70,14 +71,9 @@ module _ (files : List FileSaid) (display : Clock) where
 
   module _ (f : Master → ℕ) where
     as-sums : (ps : List Placed) → sum_by f (map (master_at files display) ps) ≡ sum_by (λ p. f (master_at files display p)) ps
-    as-sums [] = refl
-    as-sums (p ∷ ps) =
-        omega (
-          arith,
-          sum_by-cons f (master_at files display p) (map (master_at files display) ps),
-          sum_by-cons (λ q. f (master_at files display q)) p ps,
-          as-sums ps,
-        )
+    as-sums ps =
+        sym (sum-map f (map (master_at files display) ps))
+        ∙ (ap sum (map-map f (master_at files display) ps) ∙ sum-map (λ p. f (master_at files display p)) ps)
 
     sums-within : (ms : List Recurring) (masters : List Placed) → Rises uid_cmp ms → AllByRecursion (IsAmong masters) ms
         → sum_by f (map master_of ms) ≤ sum_by f (map (master_at files display) masters)

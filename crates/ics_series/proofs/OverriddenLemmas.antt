@@ -164,13 +164,8 @@ module _ (uid : List ℕ) (versions behind : List Version) (place : ℕ) (order 
   behind-master =
       subst (λ vs. IsBefore version_cmp own.0 vs × Rises version_cmp vs) (sym rest) (behind-rises version_cmp version_total versions place own.0 order own.1)
 
-  -- what is found of them is sorted
-  pub overridden-sorted : (instants : List ℤ) → instants ≡ found uid behind → IsSorted int_cmp instants
-  overridden-sorted instants e =
-      subst (IsSorted int_cmp) (sym e) (rises-sorted int_cmp int_cmp_total (found uid behind) (found-listing uid behind behind-master.1).rises)
-
-  -- and is all that is overridden
-  pub overridden-all : (instants : List ℤ) → instants ≡ found uid behind → AreOverridden uid (map seen versions) instants
+  -- what is found of them is all that is overridden, and is sorted
+  overridden-all : (instants : List ℤ) → instants ≡ found uid behind → AreOverridden uid (map seen versions) instants
   overridden-all instants e t =
       let listing = found-listing uid behind behind-master.1 in
       same-test (list_any (λ x. int_eq x t) instants) (is_named (instance uid t) (map seen versions))
@@ -192,9 +187,15 @@ module _ (uid : List ℕ) (versions behind : List Version) (place : ℕ) (order 
       is_it : Label → Bool
       is_it l = is_eq (subject_cmp l.subject (instance uid t))
 
+  overridden-by : (instants : List ℤ) → instants ≡ found uid behind → AreOverridden uid (map seen versions) instants × IsSorted int_cmp instants
+  overridden-by instants e = (
+    overridden-all instants e,
+    subst (IsSorted int_cmp) (sym e) (rises-sorted int_cmp int_cmp_total (found uid behind) (found-listing uid behind behind-master.1).rises),
+  )
+
   -- from the first of another UID on nothing is found
   pub found-stops : (i : ℕ) (d : Version) (instants : List ℤ) → i < length behind → instants ++ found uid (drop i behind) ≡ found uid behind →
-      instance_of uid (subject_seen (get_or behind i d).subject) ≡ None → instants ≡ found uid behind
+      instance_of uid (subject_seen (get_or behind i d).subject) ≡ None → AreOverridden uid (map seen versions) instants × IsSorted int_cmp instants
   found-stops i d instants l whole none =
       let v = get_or behind i d in
       let here = slice_get-get_or behind i d l in
@@ -203,8 +204,10 @@ module _ (uid : List ℕ) (versions behind : List Version) (place : ℕ) (order 
       let stops : found uid (drop i behind) ≡ [] =
       ap (found uid) (drop-cons behind i d l) ∙ (ap (λ o. cons_option o (found uid (drop (suc i) behind))) none
       ∙ none-behind uid v (drop (suc i) behind) later (behind-rises version_cmp version_total behind i v behind-master.1 here).0) in
-      sym (append-nil instants) ∙ (ap (λ xs. instants ++ xs) (sym stops) ∙ whole)
+      overridden-by instants (sym (append-nil instants) ∙ (ap (λ xs. instants ++ xs) (sym stops) ∙ whole))
 
   -- and past the last nothing
-  pub found-ends : (i : ℕ) (instants : List ℤ) → length behind ≤ i → instants ++ found uid (drop i behind) ≡ found uid behind → instants ≡ found uid behind
-  found-ends i instants l whole = sym (append-nil instants) ∙ (ap (λ vs. instants ++ found uid vs) (sym (drop_of_length-le behind l)) ∙ whole)
+  pub found-ends : (i : ℕ) (instants : List ℤ) → length behind ≤ i → instants ++ found uid (drop i behind) ≡ found uid behind →
+      AreOverridden uid (map seen versions) instants × IsSorted int_cmp instants
+  found-ends i instants l whole =
+      overridden-by instants (sym (append-nil instants) ∙ (ap (λ vs. instants ++ found uid vs) (sym (drop_of_length-le behind l)) ∙ whole))

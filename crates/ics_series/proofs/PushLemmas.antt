@@ -34,12 +34,12 @@ module _ {files : List FileSaid} {display : Clock} {w : Window} {after : Option 
 
   module _ (vs : List Version) (i : ℕ) where
     -- a version whose event does not recur has none
-    pub versions-skip : {v : Version} {before now : List (List Entry)} → slice_get vs i ≡ Some v →
+    pub versions-skip : {v : Version} {before now new : List (List Entry)} → slice_get vs i ≡ Some v →
         HasLists files display w after (map seen (take i vs)) before now
-        → (Recurs files (seen v) → ⊥) → HasLists files display w after (map seen (take (i + 1) vs)) before now
-    versions-skip {v = v} {before = before} {now = now} there h n =
+        → (Recurs files (seen v) → ⊥) → new ≡ now → HasLists files display w after (map seen (take (i + 1) vs)) before new
+    versions-skip {v = v} {before = before} {new = new} there h n e =
         let labels = map seen (take i vs) in
-        subst (λ ls. HasLists files display w after ls before now) (taken vs i there)
+        subst (λ ls. HasLists files display w after ls before new) (taken vs i there)
         (record {
           more = h.more;
           are = record {
@@ -48,7 +48,7 @@ module _ {files : List FileSaid} {display : Clock} {w : Window} {after : Option 
             every = λ k m r. ⊎_elim (λ a. h.are.every k a r) (⊎_elim (λ e. absurd (n (subst (Recurs files) e r))) (λ b. absurd b))
                 (in-append k labels (seen v ∷ []) m);
           };
-          behind = h.behind;
+          behind = e ∙ h.behind;
         })
 
     -- the list of a version stands behind those of the versions before it

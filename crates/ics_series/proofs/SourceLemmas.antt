@@ -136,16 +136,17 @@ module _ {files : List FileSaid} {display : Clock} {w : Window} {after : Option 
               ∙ (append_assoc before (map Of h.more) (Of m ∷ []) ∙ ap (λ xs. before ++ xs) (sym (map-append Of h.more (m ∷ [])))));
         })
 
-    pub sources-skip : (i : ℕ) {v : Version} {before now : List Source} → slice_get vs i ≡ Some v →
-        HasSources files display w after (map seen (take i vs)) before now → HasSources files display w after (map seen (take (i + 1) vs)) before now
-    sources-skip i {v = v} {before = before} {now = now} there h =
-        subst (λ ls. HasSources files display w after ls before now) (taken vs i there)
+    pub sources-skip : (i : ℕ) {v : Version} {before now new : List Source} → slice_get vs i ≡ Some v →
+        HasSources files display w after (map seen (take i vs)) before now → new ≡ now →
+        HasSources files display w after (map seen (take (i + 1) vs)) before new
+    sources-skip i {v = v} {before = before} {new = new} there h e =
+        subst (λ ls. HasSources files display w after ls before new) (taken vs i there)
         (record {
           more = h.more;
           each = all-as (IsSource files display w after (map seen (take i vs))) (IsSource files display w after (map seen (take i vs) ++ seen v ∷ [])) h.more
               (wider (map seen (take i vs)) (seen v)) h.each;
           rises = h.rises;
-          behind = h.behind;
+          behind = e ∙ h.behind;
         })
 
     pub sources-all : (i : ℕ) {before now : List Source} → length vs ≤ i → HasSources files display w after (map seen (take i vs)) before now →

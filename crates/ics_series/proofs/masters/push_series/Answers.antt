@@ -1,25 +1,16 @@
 use Rattle.std.proofs.lemmas.Grind.{common_steps}
-use Rattle.std.proofs.Common.{◌≡◌, ◌+◌, [], ◌∷◌, ◌++◌, None, Vec, Global, map, get_or, take, refl, ap, sym, subst, ◌∙◌, arith}
+use Rattle.std.proofs.Common.{◌≡◌, ◌+◌, [], ◌∷◌, ◌++◌, None, Vec, Global, map, get_or, refl, ap, ◌∙◌, arith}
 use Rattle.std.specs.Prelude.{MatchOption}
 use Rattle.std.specs.List.{flat_map}
-use Rattle.std.specs.Option.{option_map}
 use Rattle.std.proofs.lemmas.List.{append-nil, map-append}
 use Rattle.std.proofs.lemmas.List.Concat.{flat_map-append}
 use Rattle.std.proofs.lemmas.Option.{slice_get-get_or, MatchOption-at_none, MatchOption-at_some}
-use Rattle.ics_event.specs.Event.{said_by}
 use Rattle.ics_series.specs.declared.part.Part.{Part}
 use Rattle.ics_series.specs.declared.part.Part.TheVariants as part
 use Rattle.ics_series.specs.declared.series.Series.{Series}
 use Rattle.ics_series.specs.declared.version.Version.{Version}
-use Rattle.ics_series.specs.Clocks.{display_clock}
-use Rattle.ics_series.specs.Entry.{entry_cmp, key_rank}
-use Rattle.ics_series.specs.Listing.{IsListing}
-use Rattle.ics_series.specs.Masters.{HasLists, HasSources, HasWhole, IsOfVersion, IsSourceOf, Recurs}
 use Rattle.ics_series.specs.AgendaParts.{part_coming, part_sources}
 use Rattle.ics_series.specs.SeriesFeed.{series_left, series_of, series_sources}
-use Rattle.ics_series.specs.Sources.{Recurring}
-use Rattle.ics_series.specs.Sources.Source.{Of}
-use Rattle.ics_series.specs.Versions.{seen}
 use Rattle.ics_series.proofs.PushLemmas.{lists-none, versions-all, versions-more, versions-skip}
 use Rattle.ics_series.proofs.SourceLemmas.{sources-all, sources-more, sources-none, sources-skip}
 use Rattle.ics_series.proofs.masters.push_series.Goals as goal
@@ -39,58 +30,39 @@ pub loop-place-preserved : goal.loop-place-preserved
 loop-place-preserved c =
     let vs = c.args.chosen.now in
     let k = c.loop-place.place in
+    let v = get_or c.args.chosen.now c.loop-place.place none in
     let there = slice_get-get_or vs k none c.loop-place-test.true in
-    let given : MatchOption c.in_ok-series.field-0
-    (Recurs (map said_by c.args.files.now) (seen (get_or c.args.chosen.now c.loop-place.place none)) → ⊥)
-    (λ (series : Series). IsListing entry_cmp (IsOfVersion (map said_by c.args.files.now) (display_clock c.args.display.now) c.args.window
-    (option_map (λ key. key_rank key.now) c.args.after) (seen (get_or c.args.chosen.now c.loop-place.place none)))
-    (series_of series (series_left series))) =
-    c.in_ok-series.ensures.series (get_or c.args.chosen.now c.loop-place.place none) there in
     record {
       sources =
           elim c.match-branch-2.branch [
             | in-Some+in_ok-new+in_ok-push w ↦
                 let value : w.in_ok-new.field-0.value ≡ w.in-Some.series = w.in_ok-new.ensures.ok in
-                let given : MatchOption c.in_ok-series.field-0 (Unit {0}) (λ (series : Series). (m : Recurring)
-                × IsSourceOf (map said_by c.args.files.now) (display_clock c.args.display.now) c.args.window
-                (option_map (λ key. key_rank key.now) c.args.after) (seen (get_or c.args.chosen.now c.loop-place.place none)) m
-                × (series_sources series ≡ Of m ∷ [])) =
-                c.in_ok-series.ensures.sources (get_or c.args.chosen.now c.loop-place.place none) there in
-                let m = MatchOption-at_some _ _ w.in-Some.series w.in-Some.is given in
+                let m = MatchOption-at_some _ _ w.in-Some.series w.in-Some.is (c.in_ok-series.ensures.sources v there) in
                 sources-more c.requires.chosen k there c.loop-place.invariant.sources m.1
                 (ap (λ (p : Vec Part Global). flat_map part_sources p.items) w.parts-is ∙ (ap (flat_map part_sources) (w.in_ok-push.ensures.items)
                 ∙ (flat_map-append part_sources c.loop-place.parts.items (part.Series w.in_ok-new.field-0 ∷ [])
                 ∙ ap (λ xs. flat_map part_sources c.loop-place.parts.items ++ xs) (append-nil (series_sources w.in_ok-new.field-0.value)
                 ∙ (ap series_sources value ∙ m.2)))))
             | in_default w ↦
-                subst (λ (p : Vec Part Global). HasSources (map said_by c.args.files.now) (display_clock c.args.display.now) c.args.window
-                (option_map (λ key. key_rank key.now) c.args.after) (map seen (take (c.loop-place.place + 1) c.args.chosen.now))
-                (flat_map part_sources c.args.parts.now.items) (flat_map part_sources p.items))
-                (sym w.parts-is) (sources-skip c.requires.chosen k there c.loop-place.invariant.sources)
+                sources-skip c.requires.chosen k there c.loop-place.invariant.sources
+                (ap (λ (p : Vec Part Global). flat_map part_sources p.items) w.parts-is)
           ];
       lists =
           elim c.match-branch-2.branch [
             | in-Some+in_ok-new+in_ok-push w ↦
                 let value : w.in_ok-new.field-0.value ≡ w.in-Some.series = w.in_ok-new.ensures.ok in
-                let listing = subst (λ (s : Series). IsListing entry_cmp
-                (IsOfVersion (map said_by c.args.files.now) (display_clock c.args.display.now) c.args.window
-                (option_map (λ key. key_rank key.now) c.args.after) (seen (get_or c.args.chosen.now c.loop-place.place none)))
-                (series_of s (series_left s)))
-                (sym value) (MatchOption-at_some _ _ w.in-Some.series w.in-Some.is given) in
-                versions-more vs k there c.loop-place.invariant.lists listing
-                (ap (λ (p : Vec Part Global). map part_coming p.items) w.parts-is
-                ∙ (ap (map part_coming) w.in_ok-push.ensures.items
-                ∙ map-append part_coming c.loop-place.parts.items (part.Series w.in_ok-new.field-0 ∷ [])))
+                versions-more vs k there c.loop-place.invariant.lists
+                (MatchOption-at_some _ _ w.in-Some.series w.in-Some.is (c.in_ok-series.ensures.series v there))
+                (ap (λ (p : Vec Part Global). map part_coming p.items) w.parts-is ∙ (ap (map part_coming) w.in_ok-push.ensures.items
+                ∙ (map-append part_coming c.loop-place.parts.items (part.Series w.in_ok-new.field-0 ∷ [])
+                ∙ ap (λ (s : Series). map part_coming c.loop-place.parts.items ++ series_of s (series_left s) ∷ []) value)))
             | in_default w ↦
-                subst (λ (p : Vec Part Global). HasLists (map said_by c.args.files.now) (display_clock c.args.display.now) c.args.window
-                (option_map (λ key. key_rank key.now) c.args.after) (map seen (take (c.loop-place.place + 1) c.args.chosen.now))
-                (map part_coming c.args.parts.now.items) (map part_coming p.items))
-                (sym w.parts-is)
-                (versions-skip vs k there c.loop-place.invariant.lists (MatchOption-at_none _ _ w.in_default.is given))
+                versions-skip vs k there c.loop-place.invariant.lists
+                (MatchOption-at_none _ _ w.in_default.is (c.in_ok-series.ensures.series v there))
+                (ap (λ (p : Vec Part Global). map part_coming p.items) w.parts-is)
           ];
       whole = λ w.
-          let whole : HasWhole (map said_by c.args.files.now) (display_clock c.args.display.now) w (seen (get_or c.args.chosen.now c.loop-place.place none)) =
-          c.in_ok-series.ensures.whole (get_or c.args.chosen.now c.loop-place.place none) there w in
+          let whole = c.in_ok-series.ensures.whole v there w in
           let lists = c.loop-place.invariant.whole w in (lists.0 ++ whole.0 ∷ [], versions-more vs k there lists.1 whole.1 refl);
     }
 

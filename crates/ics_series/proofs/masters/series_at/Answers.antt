@@ -10,7 +10,7 @@ use Rattle.ics_series.specs.Listing.{IsListing}
 use Rattle.ics_series.specs.Masters.{HasWhole, IsOfVersion, IsSince, IsSourceOf, Recurs}
 use Rattle.ics_series.specs.Overridden.{AreOverridden}
 use Rattle.ics_series.specs.SeriesFeed.{series_left, series_of}
-use Rattle.ics_series.specs.Sources.{IsFrom, Recurring}
+use Rattle.ics_series.specs.Sources.{IsFrom}
 use Rattle.ics_series.specs.Versions.{seen, subject_seen}
 use Rattle.ics_series.specs.FileZones.{clocks_in}
 use Rattle.ics_series.proofs.GivenLemmas.{map-in, stands}
@@ -79,26 +79,6 @@ returns c =
       overridden = subst (λ u. AreOverridden u (map seen c.args.chosen.now) c.in_ok-overridden.overridden.items) uid-2
           c.in_ok-overridden.ensures.overridden;
     } in
-    let m : Recurring = record {
-      clocks = clocks_in c.zones-zones.result;
-      event = c.event-event.result.now;
-      window = c.args.window;
-      since = to_z w64 (of_z w64 c.since_of-since.result);
-    } in
-    let is : IsSourceOf (map said_by c.args.files.now) (display_clock c.args.display.now) c.args.window (option_map (λ key. key_rank key.now) c.args.after)
-    (seen (get_or c.args.chosen.now c.args.place none))
-    (record {
-      clocks = clocks_in c.zones-zones.result;
-      event = c.event-event.result.now;
-      window = c.args.window;
-      since = to_z w64 (of_z w64 c.since_of-since.result);
-    }) = record {
-      stands = c.event-event.ensures.event;
-      recurs = r.recurs;
-      clocks = c.zones-zones.ensures.clocks;
-      window = refl;
-      since = subst (IsFrom (option_map (λ key. key_rank key.now) c.args.after)) (sym fits) c.since_of-since.ensures.from;
-    } in
     record {
       series = λ version there.
           subst (λ (v : Version). IsListing entry_cmp (IsOfVersion (map said_by c.args.files.now) (display_clock c.args.display.now) c.args.window
@@ -107,7 +87,12 @@ returns c =
           (series-listing c.requires.chosen stands r read c.args.window after (to_z w64 (of_z w64 c.since_of-since.result)) since
           c.in_ok-series.ensures.listing);
       sources = λ version there. (
-        m,
+        record {
+          clocks = clocks_in c.zones-zones.result;
+          event = c.event-event.result.now;
+          window = c.args.window;
+          since = to_z w64 (of_z w64 c.since_of-since.result);
+        },
         subst (λ (v : Version). IsSourceOf (map said_by c.args.files.now) (display_clock c.args.display.now) c.args.window
             (option_map (λ key. key_rank key.now) c.args.after) (seen v)
             (record {
@@ -116,7 +101,13 @@ returns c =
               window = c.args.window;
               since = to_z w64 (of_z w64 c.since_of-since.result);
             }))
-            (get_or_from_slice_get c.args.chosen.now c.args.place version none there) is,
+            (get_or_from_slice_get c.args.chosen.now c.args.place version none there) (record {
+              stands = c.event-event.ensures.event;
+              recurs = r.recurs;
+              clocks = c.zones-zones.ensures.clocks;
+              window = refl;
+              since = subst (IsFrom (option_map (λ key. key_rank key.now) c.args.after)) (sym fits) c.since_of-since.ensures.from;
+            }),
         c.in_ok-series.ensures.sources,
       );
       whole = λ version there w.

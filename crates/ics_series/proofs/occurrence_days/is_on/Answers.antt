@@ -2,31 +2,23 @@ use Rattle.std.specs.Prelude.{◌&&◌, ◌≤ℤ◌, ◌<ℤ◌, int_le, if◌t
 use Rattle.std.proofs.Common.{◌≡◌, ℤ, pos, ◌-ℤ◌, true, false, nat_eq, rules, sym, ◌∙◌, ap, to_z, of_z, w32, w64, arith}
 use Rattle.std.specs.Int.{int_max, int_min}
 use Rattle.std.specs.Ordering.{int_eq}
-use Rattle.std.proofs.lemmas.Bool.{and_from, and_parts}
+use Rattle.std.proofs.lemmas.Bool.{and_parts}
 use Rattle.std.proofs.lemmas.Int.{int_max_is, int_min_is, ints}
 use mir.Val.{SFits}
-use Rattle.ics_zone.proofs.Cases.{int_le_true, true_int_le}
+use Rattle.ics_zone.proofs.Cases.{int_le_true}
 use Rattle.ics_series.specs.declared.window.Window.{Window}
 use Rattle.ics_series.specs.Clocks.{Clock, display_clock}
 use Rattle.ics_series.specs.OnDays.{date_at, end_day, first_day, is_on, last_day}
 use Rattle.ics_series.specs.Entry.{Entry, entry_of}
 use Rattle.ics_series.specs.WindowBounds.{occurrence_first}
-use Rattle.ics_series.proofs.Cases.{equal-true, true-equal}
-use Rattle.ics_series.proofs.RuleLocalLemmas.{same-test}
+use Rattle.ics_series.proofs.Cases.{equal-true}
 use Rattle.ics_series.proofs.occurrence_days.is_on.Goals as goal
 
 same-value : (a b : ℤ) → SFits w32 a → SFits w32 b → nat_eq (of_z w32 a) (of_z w32 b) ≡ int_eq a b
 same-value a b f g = search rules
 
 both : (a b : ℤ) → int_eq a b ≡ (int_le b a && int_le a b)
-both a b =
-    same-test (int_eq a b) (int_le b a && int_le a b)
-    (λ e. let s = equal-true a b e in
-    and_from (int_le b a) (int_le a b) (true_int_le b a (omega (arith, ints, s))) (true_int_le a b (omega (arith, ints, s))))
-    (λ e. let p = and_parts (int_le b a) (int_le a b) e in
-    let l = int_le_true b a p.0 in
-    let m = int_le_true a b p.1 in
-    true-equal a b (omega (arith, ints, l, m)))
+both a b = grind (arith, ints)
 
 -- an occurrence of no length has one day
 one-day : (clock : Clock) (w : Window) (o : Entry) (day : ℤ) {first : ℤ} → int_eq o.finish o.start ≡ true → first ≡ first_day clock w o →

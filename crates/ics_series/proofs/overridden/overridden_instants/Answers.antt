@@ -1,7 +1,7 @@
 use Rattle.std.proofs.Common.{◌≡◌, rules, ◌+◌, ◌-◌, suc, length, take, drop, add-one, List, [], ◌∷◌, ◌++◌, ℕ, None, w64, to_z, of_z, ◌∙◌, ap, sym}
 use Rattle.std.proofs.lemmas.List.{take_rest}
 use Rattle.ics_series.specs.declared.version.Version.{Version}
-use Rattle.ics_series.proofs.OverriddenLemmas.{found-ends, found-step, found-stops, overridden-all, overridden-sorted}
+use Rattle.ics_series.proofs.OverriddenLemmas.{found-ends, found-step, found-stops}
 use Rattle.ics_series.proofs.overridden.overridden_instants.Goals as goal
 
 abbrev none : Version
@@ -16,18 +16,12 @@ rest versions place = take_rest versions (place + 1) ∙ ap (λ n. drop n versio
 
 pub returns-in_default : goal.returns-in_default
 returns-in_default c =
-    let uid = c.args.uid.now in
     let versions = c.args.versions.now in
     let place = c.args.place in
-    let all = found-stops uid versions (behind versions place) place c.requires.order c.requires.master (rest versions place) c.loop-version.version-index none
-    c.loop-version.instants.items c.loop-version-test.true c.loop-version.invariant
+    let all = found-stops c.args.uid.now versions (behind versions place) place c.requires.order c.requires.master (rest versions place)
+    c.loop-version.version-index none c.loop-version.instants.items c.loop-version-test.true c.loop-version.invariant
     (sym c.instance_of.ensures ∙ c.in_default.is) in
-    record {
-      overridden = overridden-all uid versions (behind versions place) place c.requires.order c.requires.master (rest versions place)
-          c.loop-version.instants.items all;
-      sorted = overridden-sorted uid versions (behind versions place) place c.requires.order c.requires.master (rest versions place)
-          c.loop-version.instants.items all;
-    }
+    record { overridden = all.0; sorted = all.1 }
 
 pub loop-version-preserved : goal.loop-version-preserved
 loop-version-preserved c =
@@ -38,14 +32,8 @@ loop-version-preserved c =
 
 pub returns : goal.returns
 returns c =
-    let uid = c.args.uid.now in
     let versions = c.args.versions.now in
     let place = c.args.place in
-    let all = found-ends uid versions (behind versions place) place c.requires.order c.requires.master (rest versions place) c.loop-version.version-index
-    c.loop-version.instants.items c.loop-version-test.false c.loop-version.invariant in
-    record {
-      overridden = overridden-all uid versions (behind versions place) place c.requires.order c.requires.master (rest versions place)
-          c.loop-version.instants.items all;
-      sorted = overridden-sorted uid versions (behind versions place) place c.requires.order c.requires.master (rest versions place)
-          c.loop-version.instants.items all;
-    }
+    let all = found-ends c.args.uid.now versions (behind versions place) place c.requires.order c.requires.master (rest versions place)
+    c.loop-version.version-index c.loop-version.instants.items c.loop-version-test.false c.loop-version.invariant in
+    record { overridden = all.0; sorted = all.1 }

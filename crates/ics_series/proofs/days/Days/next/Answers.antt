@@ -71,27 +71,3 @@ loop-occurrence-preserved c = record {
       (c.in_ok-occurrence.ensures.ok list (c.loop-occurrence.invariant.ahead list a)) in
       c.turn.ensures.ahead list (subst (λ l. IsAhead c.next_today.new.self l) (sym gives.2) gives.1);
 }
-
-pub returns-in_err-occurrence-clause-scope : goal.returns-in_err-occurrence-clause-scope
-returns-in_err-occurrence-clause-scope c = c.next_today.ensures.scope ∙ c.loop-occurrence.invariant.scope
-
-pub returns-in_err-occurrence-clause-looked : goal.returns-in_err-occurrence-clause-looked
-returns-in_err-occurrence-clause-looked c = omega (arith, c.next_today.ensures.looked, c.loop-occurrence.invariant.looked)
-
-pub returns-in-Some-clause-scope : goal.returns-in-Some-clause-scope
-returns-in-Some-clause-scope c = c.next_today.ensures.scope ∙ c.loop-occurrence.invariant.scope
-
-pub returns-in-Some-clause-looked : goal.returns-in-Some-clause-looked
-returns-in-Some-clause-looked c = omega (arith, c.next_today.ensures.looked, c.loop-occurrence.invariant.looked)
-
-pub returns-then-last-self-clause-scope : goal.returns-then-last-self-clause-scope
-returns-then-last-self-clause-scope c = c.next_today.ensures.scope ∙ c.loop-occurrence.invariant.scope
-
-pub returns-then-last-self-clause-looked : goal.returns-then-last-self-clause-looked
-returns-then-last-self-clause-looked c = omega (arith, c.next_today.ensures.looked, c.loop-occurrence.invariant.looked)
-
-pub returns-in_err-turn-clause-scope : goal.returns-in_err-turn-clause-scope
-returns-in_err-turn-clause-scope c = c.turn.ensures.scope ∙ (c.next_today.ensures.scope ∙ c.loop-occurrence.invariant.scope)
-
-pub returns-in_err-turn-clause-looked : goal.returns-in_err-turn-clause-looked
-returns-in_err-turn-clause-looked c = omega (arith, c.turn.ensures.counted, c.next_today.ensures.looked, c.loop-occurrence.invariant.looked)

@@ -5,7 +5,7 @@ use Rattle.std.proofs.lemmas.List.{length-map}
 use Rattle.ics_series.specs.Entry.{entry_cmp, entry_of}
 use Rattle.ics_series.specs.Leads.{ComeAfter}
 use Rattle.ics_series.specs.Merged.{merged}
-use Rattle.ics_series.specs.Tournament.{above, winner, AreSettled, AreSettledBut}
+use Rattle.ics_series.specs.Tournament.{winner, AreSettled}
 use Rattle.ics_series.specs.Uids.{AreHeadsSorted}
 use Rattle.ics_series.proofs.LeadLemmas.{fewer-drawn, given-read, given-within, heads-kept, settled-drawn, to_come-drawn, to_come-kept, written-back}
 use Rattle.ics_series.proofs.LeadNearLemmas.{flat-set, near-drawn, near-kept}
@@ -86,10 +86,7 @@ replay-requires-clause-settled g c =
     let drawn = settled-drawn (λ x. x.head) (λ x. g.F.Coming.coming x.feed) self.leads.items lead c.index_mut.result.now new c.index_mut.ensures.value winners
     self.settled in
     let long = self.same_length ∙ sym (length-set self.leads.items lead new) in
-    subst (λ ws. AreSettledBut (above 1 (length c.deref-2.result.now + lead)) (map (λ x. option_map entry_of x.head) c.deref-2.result.now) ws)
-    (sym c.deref_mut.ensures.value)
-    (subst (λ ls. AreSettledBut (above 1 (length ls + lead)) (map (λ x. option_map entry_of x.head) ls) winners) (sym c.deref-2.ensures.value)
-    (subst (λ n. AreSettledBut (above 1 (n + lead)) (map (λ x. option_map entry_of x.head) leads) winners) long drawn))
+    rw (c.deref_mut.ensures.value, c.deref-2.ensures.value, ← long) drawn
 
 pub invariant_of-self-2 : goal.invariant_of-self-2
 invariant_of-self-2 g c =
