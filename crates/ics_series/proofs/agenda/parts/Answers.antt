@@ -6,10 +6,9 @@ use Rattle.ics_event.specs.Event.{said_by}
 use Rattle.ics_series.specs.declared.part.Part.TheVariants as part
 use Rattle.ics_series.specs.Clocks.{display_clock}
 use Rattle.ics_series.specs.Entry.{key_rank}
-use Rattle.ics_series.specs.Masters.{HasLists, HasSources}
 use Rattle.ics_series.specs.AgendaParts.{part_coming, part_sources}
 use Rattle.ics_series.specs.Sources.Source.{Once}
-use Rattle.ics_series.specs.Versions.{seen, AreChosen}
+use Rattle.ics_series.specs.Versions.{AreChosen}
 use Rattle.ics_series.proofs.PartLemmas.{pushed-listing, whole-parts}
 use Rattle.ics_series.proofs.UidLemmas.{parts-sorted}
 use Rattle.ics_series.proofs.SourceLemmas.{sources-behind}
@@ -25,14 +24,10 @@ returns c =
     let singles = part_coming (part.Singles c.in_ok-singles.singles) in
     let first : map part_coming c.push.new.self.items ≡ part_coming (part.Singles c.in_ok-singles.singles) ∷ [] =
     ap (map part_coming) (c.in_ok-push.ensures.items ∙ ap (λ xs. xs ++ part.Singles c.in_ok-singles.singles ∷ []) c.new-parts.ensures.items) in
-    let pushed = subst (λ lists. HasLists (map said_by c.args.files.now) (display_clock c.args.display.now) c.args.window
-    (option_map (λ key. key_rank key.now) c.args.after) (map seen c.deref-2.result.now) lists (map part_coming c.push_series.new.parts.items)) first
-    c.in_ok-push_series.ensures.lists in
+    let pushed = rw first at c.in_ok-push_series.ensures.lists in
     let once : flat_map part_sources c.push.new.self.items ≡ Once ∷ [] =
     ap (flat_map part_sources) (c.in_ok-push.ensures.items ∙ ap (λ xs. xs ++ part.Singles c.in_ok-singles.singles ∷ []) c.new-parts.ensures.items) in
-    let sources = subst (λ before. HasSources (map said_by c.args.files.now) (display_clock c.args.display.now) c.args.window
-    (option_map (λ key. key_rank key.now) c.args.after) (map seen c.deref-2.result.now) before (flat_map part_sources c.push_series.new.parts.items)) once
-    c.in_ok-push_series.ensures.sources in
+    let sources = rw once at c.in_ok-push_series.ensures.sources in
     record {
       sources = sources-behind chosen sources;
       listing = pushed-listing files display c.args.window after singles chosen c.in_ok-singles.ensures pushed;

@@ -5,11 +5,9 @@ use Rattle.ics_event.specs.Event.{said_by, IsEventOf}
 use Rattle.ics_event.specs.declared.event.Event.{Event}
 use Rattle.ics_series.specs.declared.version.Version.{Version}
 use Rattle.ics_series.specs.Clocks.{display_clock}
-use Rattle.ics_series.specs.Entry.{entry_cmp, key_rank}
-use Rattle.ics_series.specs.Listing.{IsListing}
-use Rattle.ics_series.specs.Masters.{HasWhole, IsOfVersion, IsSince, IsSourceOf, Recurs}
+use Rattle.ics_series.specs.Entry.{key_rank}
+use Rattle.ics_series.specs.Masters.{IsSince, Recurs}
 use Rattle.ics_series.specs.Overridden.{AreOverridden}
-use Rattle.ics_series.specs.SeriesFeed.{series_left, series_of}
 use Rattle.ics_series.specs.Sources.{IsFrom}
 use Rattle.ics_series.specs.Versions.{seen, subject_seen}
 use Rattle.ics_series.specs.FileZones.{clocks_in}
@@ -81,9 +79,7 @@ returns c =
     } in
     record {
       series = λ version there.
-          subst (λ (v : Version). IsListing entry_cmp (IsOfVersion (map said_by c.args.files.now) (display_clock c.args.display.now) c.args.window
-          (option_map (λ key. key_rank key.now) c.args.after) (seen v)) (series_of c.in_ok-series.series (series_left c.in_ok-series.series)))
-          (get_or_from_slice_get c.args.chosen.now c.args.place version none there)
+          rw (← get_or_from_slice_get c.args.chosen.now c.args.place version none there)
           (series-listing c.requires.chosen stands r read c.args.window after (to_z w64 (of_z w64 c.since_of-since.result)) since
           c.in_ok-series.ensures.listing);
       sources = λ version there. (
@@ -93,15 +89,8 @@ returns c =
           window = c.args.window;
           since = to_z w64 (of_z w64 c.since_of-since.result);
         },
-        subst (λ (v : Version). IsSourceOf (map said_by c.args.files.now) (display_clock c.args.display.now) c.args.window
-            (option_map (λ key. key_rank key.now) c.args.after) (seen v)
+        rw (← get_or_from_slice_get c.args.chosen.now c.args.place version none there)
             (record {
-              clocks = clocks_in c.zones-zones.result;
-              event = c.event-event.result.now;
-              window = c.args.window;
-              since = to_z w64 (of_z w64 c.since_of-since.result);
-            }))
-            (get_or_from_slice_get c.args.chosen.now c.args.place version none there) (record {
               stands = c.event-event.ensures.event;
               recurs = r.recurs;
               clocks = c.zones-zones.ensures.clocks;
@@ -111,7 +100,5 @@ returns c =
         c.in_ok-series.ensures.sources,
       );
       whole = λ version there w.
-          subst (λ (v : Version). HasWhole (map said_by c.args.files.now) (display_clock c.args.display.now) w (seen v))
-          (get_or_from_slice_get c.args.chosen.now c.args.place version none there)
-          (whole-version c.requires.chosen stands r read w);
+          rw (← get_or_from_slice_get c.args.chosen.now c.args.place version none there) (whole-version c.requires.chosen stands r read w);
     }

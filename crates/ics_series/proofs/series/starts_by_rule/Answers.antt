@@ -1,13 +1,11 @@
 use Rattle.std.proofs.lemmas.Grind.{common_steps}
-use Rattle.std.proofs.Common.{◌≡◌, ◌≤ℤ◌, ◌+ℤ◌, ◌-ℤ◌, w64, to_z, of_z, ◌∙◌, sym, ap, subst, rules, arith}
+use Rattle.std.proofs.Common.{◌≡◌, ◌+ℤ◌, w64, to_z, of_z, ◌∙◌, ap, rules, arith}
 use Rattle.std.specs.Int.{int_max, int_min}
 use Rattle.std.proofs.lemmas.Int.{int_max_is, int_min_is, ints}
 use denote.Ref.{Bor}
 use mir.Val.{SFits}
-use Rattle.ics_fields.specs.Days.{IsDayNumber}
-use Rattle.ics_fields.specs.declared.local.Local.{Local}
 use Rattle.ics_event.specs.declared.event.Event.{Event}
-use Rattle.ics_fields.specs.Locals.{local_seconds, whole_days}
+use Rattle.ics_fields.specs.Locals.{whole_days}
 use Rattle.ics_series.specs.declared.window.Window.{Window}
 use Rattle.ics_series.specs.SeriesStarts.{first_asked}
 use Rattle.ics_series.specs.Starts.{local_of}
@@ -53,21 +51,15 @@ returns c =
         zones_are = c.new.ensures.zones;
         event_is = ap (λ (b : Bor Event). b.now) c.new.ensures.event;
         window_is = c.new.ensures.window;
-        day = subst (λ (l : Local). IsDayNumber l.day) (sym c.new.ensures.from) c.first_nearby-from.ensures.day;
-        late = subst (λ (l : Local). int_max (local_seconds (local_of event.start.stamp))
-            (first_asked clocks c.args.window event c.args.since c.args.listed.now -ℤ whole_days 7) ≤ℤ local_seconds l) (sym c.new.ensures.from)
-            (subst (λ t. int_max (local_seconds (local_of event.start.stamp)) (t -ℤ whole_days 7) ≤ℤ local_seconds c.first_nearby-from.result) first
-            (subst (λ (l : Local). int_max (local_seconds l) (to_z w64 (of_z w64 c.max.result) -ℤ whole_days 7) ≤ℤ local_seconds c.first_nearby-from.result)
-            local c.first_nearby-from.ensures.late));
+        day = rw c.new.ensures.from c.first_nearby-from.ensures.day;
+        late = rw (c.new.ensures.from, ← first, ← local) c.first_nearby-from.ensures.late;
       };
       from = record {
         rule = c.new-rule.result;
         has = search rules;
         from = c.first_nearby-from.result;
         day = c.first_nearby-from.ensures.day;
-        low = subst (λ t. local_seconds c.first_nearby-from.result ≤ℤ int_max (local_seconds (local_of event.start.stamp)) (t -ℤ whole_days 6)) first
-            (subst (λ (l : Local). local_seconds c.first_nearby-from.result ≤ℤ int_max (local_seconds l) (to_z w64 (of_z w64 c.max.result) -ℤ whole_days 6))
-            local c.first_nearby-from.ensures.low);
+        low = rw (← first, ← local) c.first_nearby-from.ensures.low;
         gives = c.new.ensures.left;
       };
     }

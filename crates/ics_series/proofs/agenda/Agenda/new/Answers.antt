@@ -2,21 +2,16 @@ use Rattle.std.proofs.Common.{map, sym, subst}
 use Rattle.std.specs.Option.{option_map}
 use Rattle.ics_event.specs.Event.{said_by}
 use Rattle.ics_series.specs.Clocks.{display_clock}
-use Rattle.ics_series.specs.Entry.{entry_cmp, key_rank}
-use Rattle.ics_series.specs.Listing.{IsListing}
-use Rattle.ics_series.specs.Meets.{IsToCome}
-use Rattle.ics_series.specs.Sources.{AreApart, AreSources}
+use Rattle.ics_series.specs.Entry.{key_rank}
+use Rattle.ics_series.specs.Sources.{AreApart}
 use Rattle.ics_series.proofs.PartLemmas.{behind-key}
 use Rattle.ics_series.proofs.agenda.Agenda.new.Goals as goal
 
 pub returns : goal.returns
 returns c =
-    let listing = subst (IsListing entry_cmp (IsToCome (map said_by c.args.files.now) (display_clock c.args.display.now) c.args.window
-    (option_map (λ key. key_rank key.now) c.args.after)))
-    (sym c.in_ok-merge.ensures.coming) c.in_ok-parts.ensures.listing in
+    let listing = rw (← c.in_ok-merge.ensures.coming) at c.in_ok-parts.ensures.listing in
     record {
-      sources = subst (AreSources (map said_by c.args.files.now) (display_clock c.args.display.now) c.args.window
-          (option_map (λ key. key_rank key.now) c.args.after)) (sym c.in_ok-merge.ensures.sources) c.in_ok-parts.ensures.sources;
+      sources = rw c.in_ok-merge.ensures.sources c.in_ok-parts.ensures.sources;
       listing = listing;
       behind = behind-key (map said_by c.args.files.now) (display_clock c.args.display.now) c.args.window (option_map (λ key. key_rank key.now) c.args.after)
           (c.in_ok-parts.ensures.whole c.args.window) listing;

@@ -1,10 +1,8 @@
-use Rattle.std.proofs.Common.{map, Some, ap, sym, subst, ◌∙◌, rules}
+use Rattle.std.proofs.Common.{Some, ap, sym, subst, ◌∙◌, rules}
 use Rattle.std.specs.Option.{option_map}
 use Rattle.ics_series.specs.Entry.{entry_of}
-use Rattle.ics_series.specs.Leads.{listed}
 use Rattle.ics_series.specs.Listing.{IsIn}
 use Rattle.ics_series.specs.Tournament.{winner}
-use Rattle.ics_series.specs.Uids.{IsLastSorted}
 use Rattle.ics_series.proofs.LeadLemmas.{first-comes, nothing-comes, uncut-first, wins-leads}
 use Rattle.ics_series.proofs.LeadNearLemmas.{near-each, near-past, near-to_come, near-whole}
 use Rattle.ics_series.proofs.UidLemmas.{given-sorted}
@@ -22,8 +20,7 @@ invariant_of-self-clause-follows g c =
 pub invariant_of-self-clause-last_sorted : goal.invariant_of-self-clause-last_sorted
 invariant_of-self-clause-last_sorted g c =
     let self = c.skip_given.new.self in
-    subst (λ source. IsLastSorted self.sorted_from source (Some c.in-Some.first) (map (λ x. listed x.head (g.F.Coming.coming x.feed)) self.leads.items))
-    (sym (c.winner-self.ensures ∙ ap (λ ws. winner ws 1) c.deref.ensures.value))
+    rw (c.winner-self.ensures ∙ ap (λ ws. winner ws 1) c.deref.ensures.value)
     (given-sorted (λ x. x.head) (λ x. g.F.Coming.coming x.feed) self.sorted_from (winner self.winners.items 1) self.leads.items c.in-Some.first
     (sym c.first.ensures ∙ ap (option_map entry_of) c.in-Some.is) self.sorted)
 
