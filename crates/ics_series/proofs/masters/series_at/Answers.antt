@@ -1,4 +1,4 @@
-use Rattle.std.proofs.Common.{◌≡◌, ◌∙◌, rules, [], get_or, map, Some, None, ℤ, w64, to_z, of_z, refl, sym, ap, subst}
+use Rattle.std.proofs.Common.{◌≡◌, ◌∙◌, rules, [], get_or, map, Some, None, w64, to_z, of_z, refl, sym, ap, subst}
 use Rattle.std.specs.Option.{option_map}
 use Rattle.std.proofs.lemmas.Option.{get_or_from_slice_get, slice_get-get_or}
 use Rattle.ics_event.specs.Event.{said_by, IsEventOf}
@@ -6,8 +6,7 @@ use Rattle.ics_event.specs.declared.event.Event.{Event}
 use Rattle.ics_series.specs.declared.version.Version.{Version}
 use Rattle.ics_series.specs.Clocks.{display_clock}
 use Rattle.ics_series.specs.Entry.{key_rank}
-use Rattle.ics_series.specs.Masters.{IsSince, Recurs}
-use Rattle.ics_series.specs.Overridden.{AreOverridden}
+use Rattle.ics_series.specs.Masters.{Recurs}
 use Rattle.ics_series.specs.Sources.{IsFrom}
 use Rattle.ics_series.specs.Versions.{seen, subject_seen}
 use Rattle.ics_series.specs.FileZones.{clocks_in}
@@ -67,15 +66,12 @@ returns c =
     let uid : c.as_slice.result.now ≡ c.event-event.result.now.uid = c.as_slice.ensures ∙ ap (λ (e : Event). e.uid) c.event.view_is in
     let uid-2 : c.as_slice-2.result.now ≡ c.event-event.result.now.uid = c.as_slice-2.ensures ∙ ap (λ (e : Event). e.uid) c.event.view_is in
     let fits : to_z w64 (of_z w64 c.since_of-since.result) ≡ c.since_of-since.result = search rules in
-    let since : IsSince (option_map (λ key. key_rank key.now) c.args.after) c.event-event.result.now.uid (to_z w64 (of_z w64 c.since_of-since.result)) =
-    subst (λ (t : ℤ). IsSince (option_map (λ key. key_rank key.now) c.args.after) c.event-event.result.now.uid t) (sym fits)
-    (subst (λ u. IsSince (option_map (λ key. key_rank key.now) c.args.after) u c.since_of-since.result) uid c.since_of-since.ensures.since) in
+    let since = rw (uid, ← fits) at c.since_of-since.ensures.since in
     let read : IsRead (map said_by c.args.files.now) (display_clock c.args.display.now) c.args.chosen.now (seen (get_or c.args.chosen.now c.args.place none))
     c.event-event.result.now c.zones-zones.result c.in_ok-overridden.overridden.items = record {
       clocks = c.zones-zones.ensures.clocks;
       is_event = search rules;
-      overridden = subst (λ u. AreOverridden u (map seen c.args.chosen.now) c.in_ok-overridden.overridden.items) uid-2
-          c.in_ok-overridden.ensures.overridden;
+      overridden = rw (← uid-2) c.in_ok-overridden.ensures.overridden;
     } in
     record {
       series = λ version there.

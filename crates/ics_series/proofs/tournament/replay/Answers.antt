@@ -1,9 +1,9 @@
 use Rattle.std.proofs.lemmas.Grind.{common_steps}
-use Rattle.std.proofs.Common.{◌≡◌, ◌<◌, ◌/◌, length, map, set, sym, ◌∙◌, ap, subst, arith}
+use Rattle.std.proofs.Common.{◌≡◌, ◌<◌, length, map, set, ◌∙◌, ap, arith}
 use Rattle.std.specs.Option.{option_map}
 use Rattle.std.proofs.lemmas.List.Elements.{All-set}
 use Rattle.ics_series.specs.Entry.{entry_of}
-use Rattle.ics_series.specs.Tournament.{above, AreSettledBut}
+use Rattle.ics_series.specs.Tournament.{above}
 use Rattle.ics_series.proofs.TournamentLemmas.{above-zero, settle_up}
 use Rattle.ics_series.proofs.tournament.replay.Goals as goal
 
@@ -15,7 +15,7 @@ loop-node-preserved g c =
       leads = All-set (λ lead. lead < length c.args.leads.now) c.loop-node.winners c.loop-node.node c.first_below.result c.first_below.ensures.lead
           c.loop-node.invariant.leads;
       settled =
-          subst (λ w. AreSettledBut (c.loop-node.node / 2) heads (set c.loop-node.winners c.loop-node.node w)) (sym c.first_below.ensures.first)
+          rw c.first_below.ensures.first
           (settle_up heads c.loop-node.winners c.loop-node.node (omega arith) (omega arith) c.loop-node.invariant.settled);
     }
 

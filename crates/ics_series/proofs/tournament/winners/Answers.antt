@@ -1,10 +1,9 @@
 use Rattle.std.proofs.lemmas.Grind.{common_steps}
-use Rattle.std.proofs.Common.{◌≡◌, ◌-◌, ◌<◌, ◌≤◌, length, map, set, sym, ap, ◌∙◌, subst, arith, length-set}
+use Rattle.std.proofs.Common.{◌≡◌, ◌-◌, ◌<◌, length, map, set, ap, ◌∙◌, arith, length-set}
 use Rattle.std.specs.Option.{option_map}
 use Rattle.std.proofs.lemmas.List.{length-replicate}
 use Rattle.std.proofs.lemmas.List.Elements.{All-set}
 use Rattle.ics_series.specs.Entry.{entry_of}
-use Rattle.ics_series.specs.Tournament.{first_below, AreSettledWhere}
 use Rattle.ics_series.proofs.TournamentLemmas.{settle_down, zeros-within}
 use Rattle.ics_series.proofs.tournament.winners.Goals as goal
 
@@ -28,8 +27,7 @@ loop-node-preserved g c =
       same_length = length-set winners node c.first_below.result ∙ c.loop-node.invariant.same_length;
       leads = All-set (λ lead. lead < length c.args.leads.now) winners node c.first_below.result c.first_below.ensures.lead c.loop-node.invariant.leads;
       settled =
-          subst (λ w. AreSettledWhere (λ k. node ≤ k) heads (set winners node w))
-          (sym (c.first_below.ensures.first ∙ ap (λ ws. first_below heads ws node) lent))
+          rw (c.first_below.ensures.first, lent)
           (settle_down heads winners node (omega arith) (omega (arith, c.loop-node.invariant.same_length))
           (λ k low high most. c.loop-node.invariant.settled k low high (omega arith)));
     }

@@ -7,9 +7,9 @@ use Rattle.ics_zone.specs.Near.{offset_near}
 use Rattle.ics_zone.specs.JiffZones.{zone_of}
 use Rattle.ics_series.specs.Ahead.{agenda_coming}
 use Rattle.ics_series.specs.Clocks.{display_clock}
-use Rattle.ics_series.specs.DaySteps.{agenda_sources, scope_in, IsFromStart, begin_day}
+use Rattle.ics_series.specs.DaySteps.{agenda_sources, scope_in, IsFromStart}
 use Rattle.ics_series.specs.Entry.{key_rank}
-use Rattle.ics_series.specs.OnDays.{first_near, Begins, IsBehindKey, day_key_rank}
+use Rattle.ics_series.specs.OnDays.{first_near, day_key_rank}
 use Rattle.ics_series.specs.Sources.{IsFrom}
 use Rattle.ics_series.proofs.AheadLemmas.{begun-ahead}
 use Rattle.ics_series.proofs.DayStepLemmas.{begun-by, first-masters, from-start}
@@ -23,8 +23,7 @@ returns c =
     let key = option_map (λ key. key_rank key.now) c.begin-day.result.1 in
     let xs = c.in_ok-agenda.ensures.whole c.args.window in
     let fits : to_z w32 (of_z w32 c.begin-day.result.0) ≡ c.begin-day.result.0 = search rules in
-    let begins = subst (λ (d : ℤ). Begins c.args.window (option_map (λ key. day_key_rank key.now) c.args.after) d
-    (option_map (λ key. key_rank key.now) c.begin-day.result.1)) (sym fits) c.begin-day.ensures.begins in
+    let begins = rw (← fits) at c.begin-day.ensures.begins in
     let begun = begun-ahead files display (offset_near (zone_of c.args.display.now)) c.args.window after (to_z w32 (of_z w32 c.begin-day.result.0)) key begins
     xs.0 (agenda_coming c.in_ok-agenda.agenda) (agenda_sources c.in_ok-agenda.agenda) xs.1 c.in_ok-agenda.ensures.agenda in
     (begun.0, begun.1, begun.2, ap (scope_in (map said_by c.args.files.now) (display_clock c.args.display.now) c.args.window) c.day_and_start.ensures)
@@ -36,8 +35,7 @@ invariant_of-result c =
     let scope = scope_in (map said_by c.args.files.now) (display_clock c.args.display.now) c.args.window c.day_and_start.result in
     let fits : to_z w32 (of_z w32 c.begin-day.result.0) ≡ c.begin-day.result.0 = search rules in
     let low = c.begin-day.ensures.begins.low in
-    let behind = subst (λ (d : ℤ). IsBehindKey (option_map (λ key. day_key_rank key.now) c.args.after) d
-    (option_map (λ key. key_rank key.now) c.begin-day.result.1)) (sym fits) c.begin-day.ensures.behind in
+    let behind = rw (← fits) at c.begin-day.ensures.behind in
     let given = sym c.day_and_start.ensures in
     let first : first_near c.args.window ≤ℤ to_z w32 (of_z w32 c.begin-day.result.0) = omega (arith, ints, low, fits) in
     let from = subst (λ (a : Option (ℤ × ℤ)). (since : ℤ) → IsFrom (option_map (λ key. key_rank key.now) c.begin-day.result.1) since → IsFromStart a
@@ -45,8 +43,7 @@ invariant_of-result c =
     (from-start after (to_z w32 (of_z w32 c.begin-day.result.0)) key behind) in
     record {
       not_before = first;
-      begun = subst (λ (a : Option (ℤ × ℤ)). begin_day c.args.window a ≤ℤ to_z w32 (of_z w32 c.begin-day.result.0)) given
-          (begun-by c.args.window after (to_z w32 (of_z w32 c.begin-day.result.0)) key behind first);
+      begun = rw c.day_and_start.ensures (begun-by c.args.window after (to_z w32 (of_z w32 c.begin-day.result.0)) key behind first);
       masters = ∣ first-masters scope from c.in_ok-agenda.ensures.agenda ∣₁;
       before = λ masters most n all bounds is. omega arith;
       past = λ l. refl;

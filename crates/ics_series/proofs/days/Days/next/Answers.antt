@@ -1,5 +1,5 @@
 use Rattle.std.specs.Prelude.{◌≤ℤ◌, ◌<ℤ◌}
-use Rattle.std.proofs.Common.{rules, ◌≡◌, ◌<◌, ◌∷◌, ℤ, pos, ◌+ℤ◌, List, map, Option, None, sym, ◌∙◌, ap, subst, arith, to_z, of_z, w32}
+use Rattle.std.proofs.Common.{rules, ◌≡◌, ◌<◌, ◌∷◌, ℤ, pos, ◌+ℤ◌, map, None, sym, ◌∙◌, ap, subst, arith, to_z, of_z, w32}
 use Rattle.std.proofs.lemmas.Int.{ints}
 use borrow.Author.Gap.{gap, gap_up, read_sfits}
 use mir.Val.{SFits}
@@ -7,11 +7,10 @@ use Rattle.ics_event.specs.Event.{said_by}
 use Rattle.ics_zone.specs.Near.{offset_near}
 use Rattle.ics_zone.specs.JiffZones.{zone_of}
 use Rattle.ics_zone.proofs.Cases.{true_int_lt}
-use Rattle.ics_series.specs.declared.occurrence.Occurrence.{Occurrence}
-use Rattle.ics_series.specs.Ahead.{agenda_coming, GivesToday, IsAhead}
+use Rattle.ics_series.specs.Ahead.{agenda_coming, IsAhead}
 use Rattle.ics_series.specs.Clocks.{display_clock}
 use Rattle.ics_series.specs.Entry.{entry_of}
-use Rattle.ics_series.specs.OnDays.{last_near, on_day, OnDay}
+use Rattle.ics_series.specs.OnDays.{last_near, on_day}
 use Rattle.ics_series.proofs.AheadLemmas.{ahead-ended, on-err}
 use Rattle.ics_series.proofs.days.Days.next.Goals as goal
 
@@ -30,9 +29,7 @@ loop-occurrence-smaller c =
 
 pub returns-in-Some-clause-ok : goal.returns-in-Some-clause-ok
 returns-in-Some-clause-ok c = λ list a.
-    let gives = subst (λ (g : Option Occurrence). (rest : List OnDay) × IsAhead c.next_today.new.self rest
-    × GivesToday c.next_today.new.self.day list g rest) c.in-Some.is
-    (c.in_ok-occurrence.ensures.ok list (c.loop-occurrence.invariant.ahead list a)) in
+    let gives = rw c.in-Some.is at (c.in_ok-occurrence.ensures.ok list (c.loop-occurrence.invariant.ahead list a)) in
     let fits : to_z w32 (of_z w32 c.next_today.new.self.day) ≡ c.next_today.new.self.day = search rules in
     (gives.0, gives.2 ∙ ap (λ d. on_day d (entry_of c.in-Some.occurrence) ∷ gives.0) (sym fits), gives.1)
 
@@ -40,9 +37,7 @@ pub returns-then-last-self-clause-ok : goal.returns-then-last-self-clause-ok
 returns-then-last-self-clause-ok c = λ list a.
     let new = c.next_today.new.self in
     let none : c.in_ok-occurrence.field-0 ≡ None = search rules in
-    let gives = subst (λ (g : Option Occurrence). (rest : List OnDay) × IsAhead c.next_today.new.self rest
-    × GivesToday c.next_today.new.self.day list g rest) none
-    (c.in_ok-occurrence.ensures.ok list (c.loop-occurrence.invariant.ahead list a)) in
+    let gives = rw none at (c.in_ok-occurrence.ensures.ok list (c.loop-occurrence.invariant.ahead list a)) in
     let same = ap last_near (c.next_today.ensures.window ∙ c.loop-occurrence.invariant.window) in
     let past : last_near c.next_today.new.self.window ≤ℤ c.next_today.new.self.day =
     omega (arith, ints, same, c.last_near-last.ensures, c.last_near-last.type_inv, c.if-last-self.true) in
@@ -53,9 +48,7 @@ returns-then-last-self-clause-ok c = λ list a.
 pub returns-in_err-turn-clause-err : goal.returns-in_err-turn-clause-err
 returns-in_err-turn-clause-err c = λ list a.
     let none : c.in_ok-occurrence.field-0 ≡ None = search rules in
-    let gives = subst (λ (g : Option Occurrence). (rest : List OnDay) × IsAhead c.next_today.new.self rest
-    × GivesToday c.next_today.new.self.day list g rest) none
-    (c.in_ok-occurrence.ensures.ok list (c.loop-occurrence.invariant.ahead list a)) in
+    let gives = rw none at (c.in_ok-occurrence.ensures.ok list (c.loop-occurrence.invariant.ahead list a)) in
     on-err (IsAhead c.turn.new.self list) c.from_residual-in_err-turn.result
     (c.turn.ensures.ahead list (subst (λ l. IsAhead c.next_today.new.self l) (sym gives.2) gives.1))
 
@@ -66,8 +59,6 @@ loop-occurrence-preserved c = record {
   looked = omega (arith, c.turn.ensures.counted, c.next_today.ensures.looked, c.loop-occurrence.invariant.looked);
   ahead = λ list a.
       let none : c.in_ok-occurrence.field-0 ≡ None = search rules in
-      let gives = subst (λ (g : Option Occurrence). (rest : List OnDay) × IsAhead c.next_today.new.self rest
-      × GivesToday c.next_today.new.self.day list g rest) none
-      (c.in_ok-occurrence.ensures.ok list (c.loop-occurrence.invariant.ahead list a)) in
+      let gives = rw none at (c.in_ok-occurrence.ensures.ok list (c.loop-occurrence.invariant.ahead list a)) in
       c.turn.ensures.ahead list (subst (λ l. IsAhead c.next_today.new.self l) (sym gives.2) gives.1);
 }

@@ -102,12 +102,8 @@ invariant_of-self-2 g c =
     c.in_ok-draw.ensures.drawn in
     record {
       same_length = ap length back ∙ (kept ∙ (ap length c.deref_mut.ensures.value ∙ (self.same_length ∙ sym (length-set self.leads.items lead new))));
-      within =
-          subst (λ ws. All (λ l. l < length leads) ws) (sym back)
-          (subst (λ ls. All (λ l. l < length ls) replayed) c.deref-2.ensures.value c.replay.ensures.leads);
-      settled =
-          subst (λ ws. AreSettled (map (λ x. option_map entry_of x.head) leads) ws) (sym back)
-          (subst (λ ls. AreSettled (map (λ x. option_map entry_of x.head) ls) replayed) c.deref-2.ensures.value c.replay.ensures.settled);
+      within = rw (back, ← c.deref-2.ensures.value) c.replay.ensures.leads;
+      settled = rw (back, ← c.deref-2.ensures.value) c.replay.ensures.settled;
       follows =
           subst (ComeAfter self.last)
           (sym (to_come-drawn (λ x. x.head) (λ x. g.F.Coming.coming x.feed) self.leads.items lead c.index_mut.result.now new c.index_mut.ensures.value

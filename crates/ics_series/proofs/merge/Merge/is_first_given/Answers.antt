@@ -1,9 +1,7 @@
-use Rattle.std.proofs.Common.{map, get_or, None, sym, ◌∙◌, ap, subst}
+use Rattle.std.proofs.Common.{map, get_or, None, sym, ◌∙◌, ap}
 use Rattle.std.specs.Option.{option_map}
 use Rattle.ics_series.specs.Entry.{entry_of}
-use Rattle.ics_series.specs.Leads.{listed}
 use Rattle.ics_series.specs.Tournament.{winner}
-use Rattle.ics_series.specs.Uids.{IsLastSorted}
 use Rattle.ics_series.proofs.UidLemmas.{last-order}
 use Rattle.ics_series.proofs.merge.Merge.is_first_given.Goals as goal
 
@@ -12,8 +10,7 @@ compare-requires g c =
     let self = c.args.self.now in
     last-order (λ x. x.head) (λ x. g.F.Coming.coming x.feed) self.sorted_from self.source c.winner-lead.result self.leads.items c.in-Some-Some.last
     c.order_by_place-uids.result
-    (subst (λ o. IsLastSorted self.sorted_from self.source o (map (λ x. listed x.head (g.F.Coming.coming x.feed)) self.leads.items)) c.in-Some-Some.is-0
-    self.last_sorted)
+    (rw c.in-Some-Some.is-0 at self.last_sorted)
     (ap (λ i. get_or (map (λ x. option_map entry_of x.head) self.leads.items) i None) (c.winner-lead.ensures ∙ ap (λ ws. winner ws 1) c.deref.ensures.value)
     ∙ (sym c.first.ensures ∙ ap (option_map entry_of) c.in-Some-Some.is-1))
     c.order_by_place-uids.ensures

@@ -1,14 +1,11 @@
-use Rattle.std.proofs.Common.{◌≡◌, refl, w64, to_z, of_z, get_or, sym, ◌∙◌, ap, subst, arith}
+use Rattle.std.proofs.Common.{◌≡◌, refl, w64, to_z, of_z, get_or, ◌∙◌, ap, subst, arith}
 use Rattle.std.proofs.lemmas.Int.{ints}
 use Rattle.std.proofs.lemmas.List.Elements.{Contains-get_or}
 use mir.Val.{SFits}
 use Rattle.ics_series.specs.declared.start.Start.{Start}
-use Rattle.ics_series.specs.Entry.{entry_cmp}
-use Rattle.ics_series.specs.Found.{AreFirsts, AreStartsSince}
-use Rattle.ics_series.specs.Listing.{IsIn, IsListing}
-use Rattle.ics_series.specs.Rising.{Rises}
+use Rattle.ics_series.specs.Listing.{IsIn}
 use Rattle.ics_series.specs.SeriesFeed.{source_of}
-use Rattle.ics_series.specs.SeriesStarts.{given_of, left, listed_apart, listed_left, HasRuled, IsSeriesMet}
+use Rattle.ics_series.specs.SeriesStarts.{given_of, left, listed_left}
 use Rattle.ics_series.specs.FileZones.{clocks_in}
 use Rattle.ics_series.proofs.SeriesLemmas.{known-start, series-listing}
 use Rattle.ics_series.proofs.OwnRuleLemmas.{own-rule-as}
@@ -33,28 +30,23 @@ invariant_of-result c =
     let fits : SFits w64 c.args.since = c.ranges.since in
     let since : to_z w64 (of_z w64 c.args.since) ≡ c.args.since = omega (arith, ints) in
     let sound = c.requires.own.is_event in
-    let firsts : AreFirsts (listed_apart (clocks_in c.args.zones) c.args.window c.args.event.now c.args.event.now.rule) (listed_left c.in_ok-new.field-0) =
-    subst (λ xs. AreFirsts xs (listed_left c.in_ok-new.field-0)) c.in_ok-listed.ensures c.in_ok-new.ensures in
+    let firsts = rw c.in_ok-listed.ensures at c.in_ok-new.ensures in
     let ruled = ruled-as clocks event w c.starts_by_rule-rule_starts.result since
     (c.deref.ensures.value ∙ c.in_ok-listed.ensures) c.starts_by_rule-rule_starts.ensures.from in
-    let starts : AreStartsSince (clocks_in c.args.zones) c.args.event.now c.args.window c.args.since
-    (left c.starts_by_rule-rule_starts.result c.in_ok-new.field-0) =
+    let starts =
     starts-since c.args.zones w event sound c.args.since c.starts_by_rule-rule_starts.result (listed_left c.in_ok-new.field-0) firsts ruled in
     record {
       in_order = c.requires.order;
       own = c.requires.own;
       taken_out = c.in_ok-exclusions.ensures;
       known = known-left c.args.zones w event sound c.args.since c.starts_by_rule-rule_starts.result (listed_left c.in_ok-new.field-0) firsts ruled;
-      ruled = subst (λ t. HasRuled (clocks_in c.args.zones) c.args.event.now c.starts_by_rule-rule_starts.result
-          (given_of (clocks_in c.args.zones) c.args.window c.args.event.now t c.args.overridden.items
-          (left c.starts_by_rule-rule_starts.result c.in_ok-new.field-0))) (sym since)
+      ruled = rw since
           (has-ruled c.args.zones w event sound c.args.since c.starts_by_rule-rule_starts.result c.args.overridden.items
           (given_of clocks w event c.args.since c.args.overridden.items (left c.starts_by_rule-rule_starts.result c.in_ok-new.field-0)) ruled
           (series-listing clocks w event c.args.since c.args.overridden.items (left c.starts_by_rule-rule_starts.result c.in_ok-new.field-0) starts));
       own_rule = own-rule-as c.args.zones event w c.starts_by_rule-rule_starts.result refl
           (c.deref.ensures.value ∙ c.in_ok-listed.ensures) c.starts_by_rule-rule_starts.ensures.own;
-      rising = subst (λ t. Rises entry_cmp (given_of (clocks_in c.args.zones) c.args.window c.args.event.now t c.args.overridden.items
-          (left c.starts_by_rule-rule_starts.result c.in_ok-new.field-0))) (sym since)
+      rising = rw since
           (series-listing clocks w event c.args.since c.args.overridden.items (left c.starts_by_rule-rule_starts.result c.in_ok-new.field-0) starts).rises;
     }
 
@@ -66,16 +58,12 @@ returns-clause-listing c =
     let fits : SFits w64 c.args.since = c.ranges.since in
     let since : to_z w64 (of_z w64 c.args.since) ≡ c.args.since = omega (arith, ints) in
     let sound = c.requires.own.is_event in
-    let firsts : AreFirsts (listed_apart (clocks_in c.args.zones) c.args.window c.args.event.now c.args.event.now.rule) (listed_left c.in_ok-new.field-0) =
-    subst (λ xs. AreFirsts xs (listed_left c.in_ok-new.field-0)) c.in_ok-listed.ensures c.in_ok-new.ensures in
+    let firsts = rw c.in_ok-listed.ensures at c.in_ok-new.ensures in
     let ruled = ruled-as clocks event w c.starts_by_rule-rule_starts.result since
     (c.deref.ensures.value ∙ c.in_ok-listed.ensures) c.starts_by_rule-rule_starts.ensures.from in
-    let starts : AreStartsSince (clocks_in c.args.zones) c.args.event.now c.args.window c.args.since
-    (left c.starts_by_rule-rule_starts.result c.in_ok-new.field-0) =
+    let starts =
     starts-since c.args.zones w event sound c.args.since c.starts_by_rule-rule_starts.result (listed_left c.in_ok-new.field-0) firsts ruled in
-    subst (λ t. IsListing entry_cmp (IsSeriesMet (clocks_in c.args.zones) c.args.event.now c.args.window c.args.since c.args.overridden.items)
-    (given_of (clocks_in c.args.zones) c.args.window c.args.event.now t c.args.overridden.items (left c.starts_by_rule-rule_starts.result c.in_ok-new.field-0)))
-    (sym since)
+    rw since
     (series-listing clocks w event c.args.since c.args.overridden.items (left c.starts_by_rule-rule_starts.result c.in_ok-new.field-0) starts)
 
 pub returns-clause-sources : goal.returns-clause-sources

@@ -1,14 +1,9 @@
-use Rattle.std.proofs.Common.{◌≡◌, true, List, map, ◌∙◌, ap, sym, subst, rules}
+use Rattle.std.proofs.Common.{◌≡◌, true, map, ◌∙◌, ap, rules}
 use Rattle.std.specs.Ordering.{on}
 use Rattle.std.proofs.lemmas.Cmp.{on_total}
 use Rattle.std.specs.Option.{option_map}
-use Rattle.ics_event.specs.Event.{said_by}
-use Rattle.ics_series.specs.declared.single.Single.{Single}
-use Rattle.ics_series.specs.Clocks.{display_clock}
 use Rattle.ics_series.specs.Entry.{entry_cmp, key_rank}
-use Rattle.ics_series.specs.Listing.{IsListing}
-use Rattle.ics_series.specs.Rising.{Rises}
-use Rattle.ics_series.specs.Singles.{is_single, single_entry, AreSingle, IsSingleToCome}
+use Rattle.ics_series.specs.Singles.{is_single, single_entry}
 use Rattle.ics_series.specs.Versions.{seen}
 use Rattle.ics_series.specs.EntryLaws.{entry_total}
 use Rattle.ics_series.proofs.OverrideLemmas.{overrides-sorted}
@@ -27,9 +22,9 @@ invariant_of-result c =
     (climbs-by (on single_entry entry_cmp) (on_total single_entry entry_total) c.sort_unstable_by.new.self.items c.sort_unstable_by.ensures.sorted
     (λ f a r f' k. search rules)) in
     record {
-      single = subst (λ (xs : List Single). AreSingle (map single_entry xs)) (sym c.into_iter.ensures.rest)
+      single = rw c.into_iter.ensures.rest
           (in-all (λ o. is_single o.event ≡ true) (map single_entry c.sort_unstable_by.new.self.items) (λ o m. ((listing.exact o).0 m).1));
-      rising = subst (λ (xs : List Single). Rises entry_cmp (map single_entry xs)) (sym c.into_iter.ensures.rest) listing.rises;
+      rising = rw c.into_iter.ensures.rest listing.rises;
     }
 
 pub returns : goal.returns
@@ -38,5 +33,4 @@ returns c =
     (ap (map seen) c.deref.ensures.value ∙ c.in_ok-overrides.ensures) c.in_ok-singles.ensures c.sort_unstable_by.ensures.permutation
     (climbs-by (on single_entry entry_cmp) (on_total single_entry entry_total) c.sort_unstable_by.new.self.items c.sort_unstable_by.ensures.sorted
     (λ f a r f' k. search rules)) in
-    subst (λ (xs : List Single). IsListing entry_cmp (IsSingleToCome (map said_by c.args.files.now) (display_clock c.args.display.now) c.args.window.now
-    (option_map (λ key. key_rank key.now) c.args.after)) (map single_entry xs)) (sym c.into_iter.ensures.rest) listing
+    rw c.into_iter.ensures.rest listing
