@@ -1,6 +1,6 @@
 -- The starts at DTSTART and by RDATEs, and with them those by the rule.
 use Rattle.std.specs.Prelude.{slice_get, not}
-use Rattle.std.proofs.Common.{◌≡◌, ℕ, zero, suc, ◌+◌, List, [], ◌∷◌, Bool, true, false, Some, None, ◌⊎◌, inl, inr, ⊎_elim, refl, sym, ◌∙◌, ap, subst, arith}
+use Rattle.std.proofs.Common.{◌≡◌, ℕ, zero, suc, ◌+◌, List, [], ◌∷◌, Bool, true, false, Some, None, ◌⊎◌, inl, inr, ⊎_elim, refl, sym, ◌∙◌, ap, arith}
 use Rattle.ics_event.specs.declared.time.Rdate.{Rdate}
 use Rattle.ics_event.specs.declared.time.Time.{Time}
 use Rattle.ics_series.specs.declared.start.StartSource.TheVariants.{Listed}
@@ -53,10 +53,8 @@ module _ (clocks : Clocks) (w : Window) (first : Time) where
   in-listed place zero (q ∷ rdates) r {at = at} a e p =
       let same : r ≡ q = some-same r q (sym e) in
       let here : at ≡ place = omega (arith, a) in
-      subst (λ b. IsIn (start_by clocks (Listed at) (given_by first r)) (with_front b (start_by clocks (Listed place) (given_by first q))
-      (listed_from clocks w first (place + 1) rdates)))
-      (ap not (sym p) ∙ ap (λ x. not (is_past w (time_of (given_by first x)))) same)
-      (inl (λ i. start_by clocks (Listed (here i)) (given_by first (same i))))
+      let wanted : not (is_past w (time_of (given_by first q))) ≡ true = ap (λ x. not (is_past w (time_of (given_by first x)))) (sym same) ∙ ap not p in
+      rw wanted (inl (λ i. start_by clocks (Listed (here i)) (given_by first (same i))))
   in-listed place (suc k) (q ∷ rdates) r {at = at} a e p =
       rest-in (not (is_past w (time_of (given_by first q)))) (start_by clocks (Listed at) (given_by first r))
       (start_by clocks (Listed place) (given_by first q)) (listed_from clocks w first (place + 1) rdates)

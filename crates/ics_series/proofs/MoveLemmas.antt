@@ -113,16 +113,14 @@ module _ (files others : List FileSaid) (display : Clock) (to : ℕ → ℕ) (m 
       inl (record {
         master = own.0;
         is = record { chosen = chosen-here own.0 own.1 is.chosen; single = is.single };
-        of = subst (λ (c : Clocks). IsOf c own.0.event o) (same-clocks own.0 own.1)
-            (subst (λ (q : Placed). IsOf (clocks_at others display q.file) q.event o) (sym own.2) h.of);
+        of = rw (← own.2, same-clocks own.0 own.1) at h.of;
         kept = λ k. h.kept (overridden-there o.event.uid o.recurrence k);
       })
   occurs-here o (inr h) own =
       inr (record {
         override = own.0;
         is = override-here own.0 o.recurrence own.1 (subst (λ (q : Placed). IsOverride others display q o.recurrence) (sym own.2) h.is);
-        of = subst (λ (c : Clocks). IsMoved c own.0.event o) (same-clocks own.0 own.1)
-            (subst (λ (q : Placed). IsMoved (clocks_at others display q.file) q.event o) (sym own.2) h.of);
+        of = rw (← own.2, same-clocks own.0 own.1) at h.of;
       })
 
 module _ {A : Type 0} where

@@ -108,8 +108,7 @@ module _ {files : List FileSaid} {display : Clock} {vs : List Version} {label : 
           chosen = (chosen.listing.exact own.0).0 own.1;
           is = (
             subst (λ r. IsGivenBy (clocks_at files display own.0.file) own.0.event (option_map (instant (clocks_at files display own.0.file)) r) o)
-                (sym (ap (λ (v : Event). v.recurrence) own-event ∙ recurring-master event r.recurs))
-                (subst (λ v. IsOf (clocks_at files display own.0.file) v o) (sym own-event) (subst (λ k. IsOf k event o) (sym own-clocks) of)),
+                (sym (ap (λ (v : Event). v.recurrence) own-event ∙ recurring-master event r.recurs)) (rw (own-event, own-clocks) of),
             m.0.1,
           );
         } in

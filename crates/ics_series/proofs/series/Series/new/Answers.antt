@@ -33,8 +33,8 @@ invariant_of-result c =
     let firsts = rw c.in_ok-listed.ensures at c.in_ok-new.ensures in
     let ruled = ruled-as clocks event w c.starts_by_rule-rule_starts.result since
     (c.deref.ensures.value ∙ c.in_ok-listed.ensures) c.starts_by_rule-rule_starts.ensures.from in
-    let starts =
-    starts-since c.args.zones w event sound c.args.since c.starts_by_rule-rule_starts.result (listed_left c.in_ok-new.field-0) firsts ruled in
+    let listing = series-listing clocks w event c.args.since c.args.overridden.items (left c.starts_by_rule-rule_starts.result c.in_ok-new.field-0)
+    (starts-since c.args.zones w event sound c.args.since c.starts_by_rule-rule_starts.result (listed_left c.in_ok-new.field-0) firsts ruled) in
     record {
       in_order = c.requires.order;
       own = c.requires.own;
@@ -42,16 +42,14 @@ invariant_of-result c =
       known = known-left c.args.zones w event sound c.args.since c.starts_by_rule-rule_starts.result (listed_left c.in_ok-new.field-0) firsts ruled;
       ruled = rw since
           (has-ruled c.args.zones w event sound c.args.since c.starts_by_rule-rule_starts.result c.args.overridden.items
-          (given_of clocks w event c.args.since c.args.overridden.items (left c.starts_by_rule-rule_starts.result c.in_ok-new.field-0)) ruled
-          (series-listing clocks w event c.args.since c.args.overridden.items (left c.starts_by_rule-rule_starts.result c.in_ok-new.field-0) starts));
+          (given_of clocks w event c.args.since c.args.overridden.items (left c.starts_by_rule-rule_starts.result c.in_ok-new.field-0)) ruled listing);
       own_rule = own-rule-as c.args.zones event w c.starts_by_rule-rule_starts.result refl
           (c.deref.ensures.value ∙ c.in_ok-listed.ensures) c.starts_by_rule-rule_starts.ensures.own;
-      rising = rw since
-          (series-listing clocks w event c.args.since c.args.overridden.items (left c.starts_by_rule-rule_starts.result c.in_ok-new.field-0) starts).rises;
+      rising = rw since listing.rises;
     }
 
-pub returns-clause-listing : goal.returns-clause-listing
-returns-clause-listing c =
+pub returns : goal.returns
+returns c =
     let w = c.args.window in
     let event = c.args.event.now in
     let clocks = clocks_in c.args.zones in
@@ -61,13 +59,9 @@ returns-clause-listing c =
     let firsts = rw c.in_ok-listed.ensures at c.in_ok-new.ensures in
     let ruled = ruled-as clocks event w c.starts_by_rule-rule_starts.result since
     (c.deref.ensures.value ∙ c.in_ok-listed.ensures) c.starts_by_rule-rule_starts.ensures.from in
-    let starts =
-    starts-since c.args.zones w event sound c.args.since c.starts_by_rule-rule_starts.result (listed_left c.in_ok-new.field-0) firsts ruled in
-    rw since
-    (series-listing clocks w event c.args.since c.args.overridden.items (left c.starts_by_rule-rule_starts.result c.in_ok-new.field-0) starts)
-
-pub returns-clause-sources : goal.returns-clause-sources
-returns-clause-sources c =
-    let fits : SFits w64 c.args.since = c.ranges.since in
-    let since : to_z w64 (of_z w64 c.args.since) ≡ c.args.since = omega (arith, ints) in
-    ap (source_of (clocks_in c.args.zones) c.args.event.now c.args.window) since
+    let starts = starts-since c.args.zones w event sound c.args.since c.starts_by_rule-rule_starts.result (listed_left c.in_ok-new.field-0) firsts ruled in
+    record {
+      listing = rw since
+          (series-listing clocks w event c.args.since c.args.overridden.items (left c.starts_by_rule-rule_starts.result c.in_ok-new.field-0) starts);
+      sources = ap (source_of clocks event w) since;
+    }
