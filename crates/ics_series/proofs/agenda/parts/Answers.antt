@@ -1,14 +1,11 @@
 use Rattle.std.proofs.lemmas.Grind.{common_steps}
-use Rattle.std.proofs.Common.{◌≡◌, ◌∙◌, [], ◌∷◌, ◌++◌, map, ap, sym, subst, arith}
-use Rattle.std.specs.List.{flat_map}
+use Rattle.std.proofs.Common.{◌∙◌, [], ◌∷◌, ◌++◌, map, ap, arith}
 use Rattle.std.specs.Option.{option_map}
 use Rattle.ics_event.specs.Event.{said_by}
 use Rattle.ics_series.specs.declared.part.Part.TheVariants as part
 use Rattle.ics_series.specs.Clocks.{display_clock}
 use Rattle.ics_series.specs.Entry.{key_rank}
-use Rattle.ics_series.specs.AgendaParts.{part_coming, part_sources}
-use Rattle.ics_series.specs.Sources.Source.{Once}
-use Rattle.ics_series.specs.Versions.{AreChosen}
+use Rattle.ics_series.specs.AgendaParts.{part_coming}
 use Rattle.ics_series.proofs.PartLemmas.{pushed-listing, whole-parts}
 use Rattle.ics_series.proofs.UidLemmas.{parts-sorted}
 use Rattle.ics_series.proofs.SourceLemmas.{sources-behind}
@@ -19,15 +16,11 @@ returns c =
     let files = map said_by c.args.files.now in
     let display = display_clock c.args.display.now in
     let after = option_map (λ key. key_rank key.now) c.args.after in
-    let chosen : AreChosen (map said_by c.args.files.now) (display_clock c.args.display.now) c.deref-2.result.now =
-    subst (AreChosen (map said_by c.args.files.now) (display_clock c.args.display.now)) (sym c.deref-2.ensures.value) c.in_ok-chosen.ensures in
+    let chosen = rw (← c.deref-2.ensures.value) at c.in_ok-chosen.ensures in
     let singles = part_coming (part.Singles c.in_ok-singles.singles) in
-    let first : map part_coming c.push.new.self.items ≡ part_coming (part.Singles c.in_ok-singles.singles) ∷ [] =
-    ap (map part_coming) (c.in_ok-push.ensures.items ∙ ap (λ xs. xs ++ part.Singles c.in_ok-singles.singles ∷ []) c.new-parts.ensures.items) in
-    let pushed = rw first at c.in_ok-push_series.ensures.lists in
-    let once : flat_map part_sources c.push.new.self.items ≡ Once ∷ [] =
-    ap (flat_map part_sources) (c.in_ok-push.ensures.items ∙ ap (λ xs. xs ++ part.Singles c.in_ok-singles.singles ∷ []) c.new-parts.ensures.items) in
-    let sources = rw once at c.in_ok-push_series.ensures.sources in
+    let items = c.in_ok-push.ensures.items ∙ ap (λ xs. xs ++ part.Singles c.in_ok-singles.singles ∷ []) c.new-parts.ensures.items in
+    let pushed = rw items at c.in_ok-push_series.ensures.lists in
+    let sources = rw items at c.in_ok-push_series.ensures.sources in
     record {
       sources = sources-behind chosen sources;
       listing = pushed-listing files display c.args.window after singles chosen c.in_ok-singles.ensures pushed;

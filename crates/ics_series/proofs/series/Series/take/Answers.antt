@@ -2,13 +2,12 @@ use Rattle.std.proofs.lemmas.Grind.{common_steps}
 use Rattle.std.proofs.Common.{◌≡◌, [], ◌∷◌, Option, sym, ◌∙◌, ap, refl, subst, arith}
 use Rattle.ics_series.specs.declared.rule_starts.RuleStarts.{RuleStarts}
 use Rattle.ics_series.specs.declared.series.Series.{Series}
-use Rattle.ics_series.specs.Entry.{entry_cmp, Entry}
+use Rattle.ics_series.specs.Entry.{Entry}
 use Rattle.ics_series.specs.Found.{moment_cmp}
 use Rattle.ics_series.specs.Listing.{IsIn}
 use Rattle.ics_series.specs.Merged.{union}
-use Rattle.ics_series.specs.Rising.{Rises}
 use Rattle.ics_series.specs.SeriesFeed.{series_left, series_of}
-use Rattle.ics_series.specs.SeriesStarts.{first_of, given_of, left, listed_left, rule_asked, rule_left, AreKnown, HasSameRule, IsAskedNear, IsFirstOf, IsTaken}
+use Rattle.ics_series.specs.SeriesStarts.{first_of, given_of, left, listed_left, rule_asked, rule_left, HasSameRule, IsAskedNear, IsFirstOf}
 use Rattle.ics_series.specs.FileZones.{clocks_in}
 use Rattle.ics_series.specs.MergedLaws.{rises-union}
 use Rattle.ics_series.proofs.FirstLemmas.{moment_total}
@@ -19,19 +18,18 @@ use Rattle.ics_series.proofs.series.Series.take.Goals as goal
 pub invariant_of-self : goal.invariant_of-self
 invariant_of-self c =
     let s = c.args.self.now in
-    let same : left c.peek_rule.new.rule s.listed ≡ left s.rule_starts s.listed =
-    ap (λ xs. union moment_cmp xs (listed_left s.listed)) c.peek_rule.ensures.same in
+    let same = ap (λ xs. union moment_cmp xs (listed_left s.listed)) c.peek_rule.ensures.same in
     record {
       in_order = s.in_order;
       own = s.own;
       taken_out = s.taken_out;
-      known = subst (AreKnown (clocks_in s.zones) s.event.now s.window) (sym same) s.known;
+      known = rw same s.known;
       ruled = ruled-same (clocks_in s.zones) s.event.now s.rule_starts c.peek_rule.new.rule
           c.peek_rule.ensures.rule c.peek_rule.ensures.same
           (ap (given_of (clocks_in s.zones) s.window s.event.now s.since s.overridden.items) same) s.ruled;
       own_rule = own-rule-same s.zones s.event.now s.window (first_of (clocks_in s.zones) s.window s.event.now s.since) s.rule_starts c.peek_rule.new.rule
           c.peek_rule.ensures.rule s.own_rule;
-      rising = subst (λ xs. Rises entry_cmp (given_of (clocks_in s.zones) s.window s.event.now s.since s.overridden.items xs)) (sym same) s.rising;
+      rising = rw same s.rising;
     }
 
 pub invariant_of-self-in-Some : goal.invariant_of-self-in-Some
@@ -66,19 +64,18 @@ invariant_of-self-in-Some c =
 pub invariant_of-self-in_default : goal.invariant_of-self-in_default
 invariant_of-self-in_default c =
     let s = c.args.self.now in
-    let same : left c.peek_rule.new.rule s.listed ≡ left s.rule_starts s.listed =
-    ap (λ xs. union moment_cmp xs (listed_left s.listed)) c.peek_rule.ensures.same in
+    let same = ap (λ xs. union moment_cmp xs (listed_left s.listed)) c.peek_rule.ensures.same in
     record {
       in_order = s.in_order;
       own = s.own;
       taken_out = s.taken_out;
-      known = subst (AreKnown (clocks_in s.zones) s.event.now s.window) (sym same) s.known;
+      known = rw same s.known;
       ruled = ruled-same (clocks_in s.zones) s.event.now s.rule_starts c.peek_rule.new.rule
           c.peek_rule.ensures.rule c.peek_rule.ensures.same
           (ap (given_of (clocks_in s.zones) s.window s.event.now s.since s.overridden.items) same) s.ruled;
       own_rule = own-rule-same s.zones s.event.now s.window (first_of (clocks_in s.zones) s.window s.event.now s.since) s.rule_starts c.peek_rule.new.rule
           c.peek_rule.ensures.rule s.own_rule;
-      rising = subst (λ xs. Rises entry_cmp (given_of (clocks_in s.zones) s.window s.event.now s.since s.overridden.items xs)) (sym same) s.rising;
+      rising = rw same s.rising;
     }
 
 pub returns-in-Some-clause-taken : goal.returns-in-Some-clause-taken
@@ -96,7 +93,7 @@ returns-in_default-clause-taken c =
     (c.earlier_of-first.ensures (rule_left c.peek_rule.new.rule) (listed_left s.listed) (rises-rule c.peek_rule.new.rule) (rises-listed s.listed)
     c.in_ok-ruled.ensures.first c.peek.ensures) in
     let before : left s.rule_starts s.listed ≡ [] = sym (ap (λ xs. union moment_cmp xs (listed_left s.listed)) c.peek_rule.ensures.same) ∙ empty in
-    subst (λ o. IsTaken (left s.rule_starts s.listed) o (left c.peek_rule.new.rule s.listed)) (sym c.in_default.is) (before, empty)
+    rw c.in_default.is (before, empty)
 
 -- what is still to come is near, however far the rule was read
 near : (s : Series) (rule : Option RuleStarts) → HasSameRule s.rule_starts rule → rule_left rule ≡ rule_left s.rule_starts
