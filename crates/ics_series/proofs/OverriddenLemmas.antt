@@ -1,7 +1,7 @@
 -- Behind a master stand its overrides, in the order of the instances that they override.
 use Rattle.std.specs.Prelude.{slice_get, if◌then◌else◌}
 use Rattle.std.proofs.Common.{◌≡◌, ◌+◌, add-one, ℕ, zero, suc, ◌<◌, ◌≤◌, ℤ, List, [], ◌∷◌, ◌++◌, map, length, get_or, drop, Option, Some, None, Bool, true}
-use Rattle.std.proofs.Common.{false, ◌⊎◌, inl, inr, ⊎_elim, refl, sym, ◌∙◌, ap, subst}
+use Rattle.std.proofs.Common.{◌⊎◌, inr, ⊎_elim, refl, sym, ◌∙◌, ap, subst}
 use Rattle.std.specs.Cmp.{IsTotalOrder}
 use Rattle.std.specs.Cmp.Lexicographic.{slice_cmp}
 use Rattle.std.specs.List.{cons_option, filter_map, list_any}
@@ -12,6 +12,7 @@ use Rattle.std.specs.Str.{bytes_eq}
 use Rattle.std.specs.declared.cmp.Ordering.{Ordering}
 use Rattle.std.specs.declared.cmp.Ordering.TheVariants.{Less, Greater}
 use Rattle.std.proofs.lemmas.Cmp.{eq_by_cmp_equiv, int_cmp_total, nat_list_cmp_total, on_total, tied_itself}
+use Rattle.std.proofs.lemmas.Bool.{cases_Bool}
 use Rattle.std.proofs.Math.ListN.{drop_of_length-le}
 use Rattle.std.proofs.Math.Seq.{drop-cons}
 use Rattle.std.proofs.lemmas.List.{append-nil, append_assoc}
@@ -79,20 +80,14 @@ module _ (uid : List ℕ) where
   abbrev pub found : List Version → List ℤ
   found vs = filter_map (λ v. instance_of uid (subject_seen v.subject)) vs
 
-  -- what is overridden tells the subject, unless that is of another UID
-  subject-by : (s : SubjectSeen) → (s ≡ record { uid = uid; recurrence = instance_of uid s })
-      ⊎ ((is_eq (slice_cmp nat_cmp s.uid uid) ≡ false) × (instance_of uid s ≡ None))
-  subject-by s = by (bytes_eq s.uid uid) refl
-    where
-      by : (b : Bool) → bytes_eq s.uid uid ≡ b → (s ≡ record { uid = uid; recurrence = if b then s.recurrence else None })
-          ⊎ ((is_eq (slice_cmp nat_cmp s.uid uid) ≡ false) × ((if b then s.recurrence else None) ≡ None))
-      by true e = inl (ap (λ u. record { uid = u; recurrence = s.recurrence })
-          (exact_bytes s.uid uid (eq-Equal (slice_cmp nat_cmp s.uid uid) (is_eq-slice_cmp s.uid uid ∙ e))))
-      by false e = inr (is_eq-slice_cmp s.uid uid ∙ e, refl)
+  same-uid : (s : SubjectSeen) → bytes_eq s.uid uid ≡ true → s.uid ≡ uid
+  same-uid s y = exact_bytes s.uid uid (eq-Equal (slice_cmp nat_cmp s.uid uid) (is_eq-slice_cmp s.uid uid ∙ y))
 
+  -- what is overridden tells the subject
   own-instance : (s : SubjectSeen) (t : ℤ) → instance_of uid s ≡ Some t → s ≡ instance t
   own-instance s t e =
-      ⊎_elim (λ k. k ∙ ap (λ r. record { uid = uid; recurrence = r }) e) (λ k. let f : None ≡ Some t = sym k.1 ∙ e in absurd cc) (subject-by s)
+      ⊎_elim (λ y. let r = rw y at e in let u = same-uid s y in λ i. record { uid = u i; recurrence = r i })
+      (λ n. let f : None ≡ Some t = rw n at e in absurd cc) (cases_Bool (bytes_eq s.uid uid))
 
   instance-own : (t : ℤ) → instance_of uid (instance t) ≡ Some t
   instance-own t = ap (λ b. if b then Some t else None) (sym (is_eq-slice_cmp uid uid) ∙ ap is_eq (tied_itself nat_list_cmp_total uid))
@@ -129,9 +124,9 @@ module _ (uid : List ℕ) where
       let low = up-to-front (slice_cmp nat_cmp uid s.uid) (option_cmp int_cmp None s.recurrence) (ap is_gt l) in
       less-by (slice_cmp nat_cmp uid s.uid) low
       (⊎_elim
-      (λ k. absurd (not-less-itself subject_cmp subject_total master
-      (ap (subject_cmp master) (sym (k ∙ ap (λ r. record { uid = uid; recurrence = r }) n)) ∙ l)))
-      (λ k. (eq_by_cmp_equiv nat_list_cmp_total).symm uid s.uid ∙ k.0) (subject-by s))
+      (λ y. let r = rw y at n in let u = same-uid s y in
+      absurd (not-less-itself subject_cmp subject_total master (sym (λ i. subject_cmp master (record { uid = u i; recurrence = r i })) ∙ l)))
+      (λ k. (eq_by_cmp_equiv nat_list_cmp_total).symm uid s.uid ∙ (is_eq-slice_cmp s.uid uid ∙ k)) (cases_Bool (bytes_eq s.uid uid)))
 
   none-behind : (v : Version) (vs : List Version) → IsLater (subject_seen v.subject) → IsBefore version_cmp v vs → found vs ≡ []
   none-behind v [] l b = refl

@@ -5,7 +5,7 @@ use Rattle.std.proofs.lemmas.List.{length-map}
 use Rattle.ics_series.specs.Entry.{entry_cmp, entry_of}
 use Rattle.ics_series.specs.Leads.{ComeAfter}
 use Rattle.ics_series.specs.Merged.{merged}
-use Rattle.ics_series.specs.Tournament.{winner, AreSettled}
+use Rattle.ics_series.specs.Tournament.{winner}
 use Rattle.ics_series.specs.Uids.{AreHeadsSorted}
 use Rattle.ics_series.proofs.LeadLemmas.{fewer-drawn, given-read, given-within, heads-kept, settled-drawn, to_come-drawn, to_come-kept, written-back}
 use Rattle.ics_series.proofs.LeadNearLemmas.{flat-set, near-drawn, near-kept}
@@ -31,8 +31,8 @@ invariant_of-self g c =
     record {
       same_length = self.same_length ∙ sym long;
       within = subst (λ n. All (λ l. l < n) self.winners.items) (sym long) self.within;
-      settled = subst (λ hs. AreSettled hs self.winners.items)
-          (sym (heads-kept (λ x. x.head) (λ x. g.F.Coming.coming x.feed) self.leads.items lead old new c.index_mut.ensures.value c.in_err-draw.ensures.head))
+      settled =
+          rw (heads-kept (λ x. x.head) (λ x. g.F.Coming.coming x.feed) self.leads.items lead old new c.index_mut.ensures.value c.in_err-draw.ensures.head)
           self.settled;
       follows =
           subst (ComeAfter self.last)
