@@ -1,7 +1,7 @@
 -- Behind a master stand its overrides, in the order of the instances that they override.
 use Rattle.std.specs.Prelude.{slice_get, if◌then◌else◌}
 use Rattle.std.proofs.Common.{◌≡◌, ◌+◌, add-one, ℕ, zero, suc, ◌<◌, ◌≤◌, ℤ, List, [], ◌∷◌, ◌++◌, map, length, get_or, drop, Option, Some, None, Bool, true}
-use Rattle.std.proofs.Common.{◌⊎◌, inr, ⊎_elim, refl, sym, ◌∙◌, ap, subst}
+use Rattle.std.proofs.Common.{inr, ⊎_elim, refl, sym, ◌∙◌, ap, subst}
 use Rattle.std.specs.Cmp.{IsTotalOrder}
 use Rattle.std.specs.Cmp.Lexicographic.{slice_cmp}
 use Rattle.std.specs.List.{cons_option, filter_map, list_any}
@@ -141,9 +141,7 @@ module _ (uid : List ℕ) (behind : List Version) (i : ℕ) (d : Version) where
   pub found-step : (before : List ℤ) {after total : List ℤ} {t : ℤ} → i < length behind → instance_of uid (subject_seen (get_or behind i d).subject) ≡ Some t
       → after ≡ before ++ t ∷ [] → before ++ found uid (drop i behind) ≡ total → after ++ found uid (drop (i + 1) behind) ≡ total
   found-step before {after = after} {t = t} l some more whole =
-      let rest = found uid (drop (suc i) behind) in
-      ap (λ n. after ++ found uid (drop n behind)) (add-one i) ∙ (ap (λ xs. xs ++ rest) more ∙ (append_assoc before (t ∷ []) rest
-      ∙ (ap (λ o. before ++ cons_option o rest) (sym some) ∙ (ap (λ vs. before ++ found uid vs) (sym (drop-cons behind i d l)) ∙ whole))))
+      let left = rw (drop-cons behind i d l, some) at whole in rw (add-one i, more, append_assoc before (t ∷ []) (found uid (drop (suc i) behind))) left
 
 module _ (uid : List ℕ) (versions behind : List Version) (place : ℕ) (order : Rises version_cmp versions)
     (there : option_map (λ v. subject_seen v.subject) (slice_get versions place) ≡ Some (master uid)) (rest : behind ≡ drop (suc place) versions) where

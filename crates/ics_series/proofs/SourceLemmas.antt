@@ -172,7 +172,7 @@ module _ {files : List FileSaid} {display : Clock} {w : Window} {after : Option 
         (record {
           apart = (
             omega (arith, sum_by-cons (λ s. cond (is_once s) 1 0) Once (map Of h.more), none-once h.more),
-            subst (λ ms. AllByRecursion (λ m. is_single m.event ≡ false) ms × Rises uid_cmp ms) (sym (recurring-of h.more))
+            rw (recurring-of h.more)
                 (all-as (IsSource files display w after (map seen vs)) (λ m. is_single m.event ≡ false) h.more (λ m s. s.is.recurs) h.each, h.rises),
           );
           each = subst (AllByRecursion (IsMasterOf files display w after)) (sym (recurring-of h.more))

@@ -1,7 +1,7 @@
 -- The versions of files, one file after the other; of sorted versions the last of each subject is the one that counts.
 use Rattle.std.specs.Prelude.{slice_get}
 use Rattle.std.proofs.Common.{◌≡◌, ℕ, ℤ, List, [], ◌∷◌, Option, Some, None, inl, inr, ⊎_elim, Bool, true, false, cond, refl, sym, ◌∙◌, ap, subst, ◌+◌}
-use Rattle.std.proofs.Common.{suc, ◌++◌, map, drop, option_map, arith}
+use Rattle.std.proofs.Common.{add-one, ◌++◌, map, drop, option_map}
 use Rattle.std.specs.Cmp.{IsTotalOrder}
 use Rattle.std.specs.Cmp.Lexicographic.{options_total, slice_cmp}
 use Rattle.std.specs.Option.{option_cmp}
@@ -53,16 +53,13 @@ module _ (files : List FileEvents) (display : Clock) where
       let rest = map (label_of said display) (placed_in (number + 1) (map said_by (drop (number + 1) files))) in
       let next : drop number files ≡ file ∷ drop (number + 1) files =
       drop-cons files number file (slice_get_within files number file there)
-      ∙ (λ i. get_or_from_slice_get files number file file there i ∷ drop (add-one-of number i) files) in
+      ∙ (λ i. get_or_from_slice_get files number file file there i ∷ drop (sym (add-one number) i) files) in
       let placed : map (label_of said display) (placed_in number (map said_by (drop number files))) ≡ here ++ rest =
       ap (λ fs. map (label_of said display) (placed_in number (map said_by fs))) next
       ∙ map-append (label_of said display) (placed_from number 0 file.events) (placed_in (number + 1) (map said_by (drop (number + 1) files))) in
       ap (λ l. l ++ rest) (more
       ∙ ap (λ l. before ++ l) (labels-from (clocks_of display (map zone_said file.zones)) number 0 file.events (clocks-there number file there)))
       ∙ (append_assoc before here rest ∙ (ap (λ l. before ++ l) (sym placed) ∙ whole))
-    where
-      add-one-of : (n : ℕ) → suc n ≡ n + 1
-      add-one-of n = omega arith
 
 pub subject_total : IsTotalOrder subject_cmp
 subject_total = then_total (on_total (λ s. s.uid) nat_list_cmp_total) (on_total (λ s. s.recurrence) (options_total int_cmp_total))

@@ -1,5 +1,5 @@
-use Rattle.std.specs.Prelude.{◌≤ℤ◌, ℤ, Option}
-use Rattle.std.proofs.Common.{rules, ◌≡◌, map, refl, sym, ap, subst, arith, to_z, of_z, w32}
+use Rattle.std.specs.Prelude.{◌≤ℤ◌}
+use Rattle.std.proofs.Common.{rules, ◌≡◌, map, refl, ap, arith, to_z, of_z, w32}
 use Rattle.std.specs.Option.{option_map}
 use Rattle.std.proofs.lemmas.Int.{ints}
 use Rattle.ics_event.specs.Event.{said_by}
@@ -7,10 +7,9 @@ use Rattle.ics_zone.specs.Near.{offset_near}
 use Rattle.ics_zone.specs.JiffZones.{zone_of}
 use Rattle.ics_series.specs.Ahead.{agenda_coming}
 use Rattle.ics_series.specs.Clocks.{display_clock}
-use Rattle.ics_series.specs.DaySteps.{agenda_sources, scope_in, IsFromStart}
+use Rattle.ics_series.specs.DaySteps.{agenda_sources, scope_in}
 use Rattle.ics_series.specs.Entry.{key_rank}
 use Rattle.ics_series.specs.OnDays.{first_near, day_key_rank}
-use Rattle.ics_series.specs.Sources.{IsFrom}
 use Rattle.ics_series.proofs.AheadLemmas.{begun-ahead}
 use Rattle.ics_series.proofs.DayStepLemmas.{begun-by, first-masters, from-start}
 use Rattle.ics_series.proofs.days.Days.new.Goals as goal
@@ -36,11 +35,8 @@ invariant_of-result c =
     let fits : to_z w32 (of_z w32 c.begin-day.result.0) ≡ c.begin-day.result.0 = search rules in
     let low = c.begin-day.ensures.begins.low in
     let behind = rw (← fits) at c.begin-day.ensures.behind in
-    let given = sym c.day_and_start.ensures in
     let first : first_near c.args.window ≤ℤ to_z w32 (of_z w32 c.begin-day.result.0) = omega (arith, ints, low, fits) in
-    let from = subst (λ (a : Option (ℤ × ℤ)). (since : ℤ) → IsFrom (option_map (λ key. key_rank key.now) c.begin-day.result.1) since → IsFromStart a
-    (to_z w32 (of_z w32 c.begin-day.result.0)) since) given
-    (from-start after (to_z w32 (of_z w32 c.begin-day.result.0)) key behind) in
+    let from = rw (← c.day_and_start.ensures) at (from-start after (to_z w32 (of_z w32 c.begin-day.result.0)) key behind) in
     record {
       not_before = first;
       begun = rw c.day_and_start.ensures (begun-by c.args.window after (to_z w32 (of_z w32 c.begin-day.result.0)) key behind first);

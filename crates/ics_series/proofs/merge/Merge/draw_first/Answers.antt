@@ -3,7 +3,6 @@ use Rattle.std.proofs.Common.{◌≡◌, ◌+◌, ◌<◌, ◌++◌, All, length
 use Rattle.std.specs.Option.{option_map}
 use Rattle.std.proofs.lemmas.List.{length-map}
 use Rattle.ics_series.specs.Entry.{entry_cmp, entry_of}
-use Rattle.ics_series.specs.Leads.{ComeAfter}
 use Rattle.ics_series.specs.Merged.{merged}
 use Rattle.ics_series.specs.Tournament.{winner}
 use Rattle.ics_series.specs.Uids.{AreHeadsSorted}
@@ -34,10 +33,8 @@ invariant_of-self g c =
       settled =
           rw (heads-kept (λ x. x.head) (λ x. g.F.Coming.coming x.feed) self.leads.items lead old new c.index_mut.ensures.value c.in_err-draw.ensures.head)
           self.settled;
-      follows =
-          subst (ComeAfter self.last)
-          (sym (to_come-kept (λ x. x.head) (λ x. g.F.Coming.coming x.feed) self.leads.items lead old new c.index_mut.ensures.value self.last
-          c.in_err-draw.ensures.head c.in_err-draw.ensures.rest)) self.follows;
+      follows = rw (to_come-kept (λ x. x.head) (λ x. g.F.Coming.coming x.feed) self.leads.items lead old new c.index_mut.ensures.value self.last
+          c.in_err-draw.ensures.head c.in_err-draw.ensures.rest) self.follows;
       near =
           near-kept (λ x. x.head) (λ x. g.F.Coming.coming x.feed) (λ x. g.F.Coming.near x.feed) self.last self.leads.items lead old new
           c.in_err-draw.ensures.head c.in_err-draw.ensures.rest old.ahead
@@ -105,10 +102,9 @@ invariant_of-self-2 g c =
       within = rw (back, ← c.deref-2.ensures.value) c.replay.ensures.leads;
       settled = rw (back, ← c.deref-2.ensures.value) c.replay.ensures.settled;
       follows =
-          subst (ComeAfter self.last)
-          (sym (to_come-drawn (λ x. x.head) (λ x. g.F.Coming.coming x.feed) self.leads.items lead c.index_mut.result.now new c.index_mut.ensures.value
+          rw (to_come-drawn (λ x. x.head) (λ x. g.F.Coming.coming x.feed) self.leads.items lead c.index_mut.result.now new c.index_mut.ensures.value
           c.in_ok-draw.ensures.drawn self.last (winner self.winners.items 1)
-          (c.winner-lead.ensures ∙ ap (λ ws. winner ws 1) c.deref.ensures.value) c.requires c.index_mut.result.now.ahead)) self.follows;
+          (c.winner-lead.ensures ∙ ap (λ ws. winner ws 1) c.deref.ensures.value) c.requires c.index_mut.result.now.ahead) self.follows;
       near = near-drawn (λ x. x.head) (λ x. g.F.Coming.coming x.feed) (λ x. g.F.Coming.near x.feed) self.last self.leads.items lead c.index_mut.result.now new
           c.in_ok-draw.ensures.drawn c.draw.ensures.near self.near;
       sorted = fewer-sorted fewer self.sorted_from self.sorted;
