@@ -124,8 +124,9 @@ module _ (heads : List (Option Entry)) (winners : List ℕ) (settled : AreSettle
   from_below : (node : ℕ) → 0 < node → node < length winners → (winner winners node ≡ winner winners (2 * node))
       ⊎ (winner winners node ≡ winner winners (2 * node + 1))
   from_below node low high =
-      cases_cond (is_lt (lead_cmp heads (winner winners (2 * node)) (winner winners (2 * node + 1)))) (winner winners (2 * node)) (winner winners (2 * node + 1))
-      (winner winners node) (winner-node winners node high ∙ settled node low high)
+      let a = winner winners (2 * node) in
+      let b = winner winners (2 * node + 1) in
+      cases_cond (is_lt (lead_cmp heads a b)) a b (winner winners node) (winner-node winners node high ∙ settled node low high)
 
   rise : (node child : ℕ) → child / 2 ≡ node → winner winners node ≡ winner winners child
       → ((steps : ℕ) × (above steps (length winners + winner winners child) ≡ child)) →

@@ -29,24 +29,21 @@ one-day clock w o day {first = first} e f =
     ∙ ap (λ b. int_le (first_day clock w o) day
     && int_le day (if b then first_day clock w o else int_max (first_day clock w o) (end_day clock w o))) (sym e))
 
-pub returns-then-occurrence-clause-on : goal.returns-then-occurrence-clause-on
-returns-then-occurrence-clause-on c =
+pub returns-then-occurrence : goal.returns-then-occurrence
+returns-then-occurrence c =
     let o = c.args.occurrence.now in
     let fits : SFits w32 c.date_at-first.result = search rules in
     let once : nat_eq (of_z w32 c.args.day) (of_z w32 c.date_at-first.result) ≡ int_eq c.args.day c.date_at-first.result =
     same-value c.args.day c.date_at-first.result c.ranges.day fits in
     let none : int_eq o.finish o.start ≡ true = grind (arith, ints, c.if-occurrence.true) in
     let first : c.date_at-first.result ≡ first_day (display_clock c.args.display.now) c.args.window.now (entry_of c.args.occurrence.now) = search rules in
-    once ∙ one-day (display_clock c.args.display.now) c.args.window.now (entry_of o) c.args.day none first
-
-pub returns-then-occurrence-clause-within : goal.returns-then-occurrence-clause-within
-returns-then-occurrence-clause-within c = λ is.
-    let fits : SFits w32 c.date_at-first.result = search rules in
-    let once : nat_eq (of_z w32 c.args.day) (of_z w32 c.date_at-first.result) ≡ int_eq c.args.day c.date_at-first.result =
-    same-value c.args.day c.date_at-first.result c.ranges.day fits in
-    let same = equal-true c.args.day c.date_at-first.result (sym once ∙ is) in
-    let first = c.date_at-first.ensures.within in
-    (omega (arith, ints, same, first.0), omega (arith, ints, same, first.1))
+    record {
+      on = once ∙ one-day (display_clock c.args.display.now) c.args.window.now (entry_of o) c.args.day none first;
+      within = λ is.
+          let same = equal-true c.args.day c.date_at-first.result (sym once ∙ is) in
+          let first = c.date_at-first.ensures.within in
+          (omega (arith, ints, same, first.0), omega (arith, ints, same, first.1));
+    }
 
 pub overflow_sub-end : goal.overflow_sub-end
 overflow_sub-end c =
