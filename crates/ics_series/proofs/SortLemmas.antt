@@ -5,7 +5,7 @@ use Rattle.std.proofs.Common.{subst, arith}
 use Rattle.std.specs.Cmp.{IsTotalOrder}
 use Rattle.std.specs.List.{list_any, swap, AllByRecursion, Contains, IsDistinct}
 use Rattle.std.specs.Fn.{Called}
-use Rattle.std.specs.List.Sorted.{apply_swaps, IsPermutation, IsSorted, IsSortedByClosure, SwapsInRange}
+use Rattle.std.specs.List.Sorted.{apply_swaps, IsPermutation, IsSortedByClosure, SwapsInRange}
 use Rattle.std.specs.Ordering.{eq_by_cmp, is_eq, is_gt, is_lt, on, ordering_reverse}
 use Rattle.std.specs.declared.cmp.Ordering.{Ordering}
 use Rattle.std.specs.declared.cmp.Ordering.TheVariants.{Less, Equal, Greater}
@@ -93,16 +93,13 @@ module _ {A : Type 0} (R : A → A → Ordering) (o : IsTotalOrder R) where
       let first = recursion_from_All (λ y. is_gt (R x y) ≡ false) xs (λ j d l. not-after x (get_or xs j d) (h 0 (suc j) d (omega arith) (omega arith))) in
       (first, climbs xs (λ i j d a b. h (suc i) (suc j) d (omega arith) (omega arith)))
 
-  pub climbs-sorted : (xs : List A) → IsSorted R xs → Climbs R xs
-  climbs-sorted xs h = climbs xs (λ i j d a b. sorted_far (λ x y. is_lt (R x y)) (ranks_by o (λ x. x)) xs h i j d a b)
-
   -- what a sort by a function leaves
   pub climbs-by : {F : Type 0} {g : Mut F (Bor A × (Bor A × Unit {0})) Ordering} {f : F} (xs : List A) → IsSortedByClosure g f xs
       → ((f : F) (a : Bor A × (Bor A × Unit {0})) (r : Ordering) (f' : F) → Called g f a r f' → r ≡ R a.0.now a.1.0.now) → Climbs R xs
   climbs-by {g = g} {f = f} xs s h =
-      climbs-sorted xs
-      (s (λ x y. is_lt (R x y)) (ranks_by o (λ x. x))
-      (answers_always g (λ a r. is_lt r ≡ is_lt (R a.0.now a.1.0.now)) f (λ k a r f' c. ap is_lt (h k a r f' c))))
+      let sorted = s (λ x y. is_lt (R x y)) (ranks_by o (λ x. x))
+      (answers_always g (λ a r. is_lt r ≡ is_lt (R a.0.now a.1.0.now)) f (λ k a r f' c. ap is_lt (h k a r f' c))) in
+      climbs xs (λ i j d a b. sorted_far (λ x y. is_lt (R x y)) (ranks_by o (λ x. x)) xs sorted i j d a b)
 
 -- A list that is mapped.
 module _ {A B : Type 0} (f : A → B) where
