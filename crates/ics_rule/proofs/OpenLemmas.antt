@@ -43,9 +43,9 @@ module _ {a i : ℕ} {g : ℕ → Bool} {from before number total : ℕ} (walk :
   walk_small = let most = count_most (min number before) stepped in omega (arith, most, walk.passed)
 
   -- to a later step, where none between passes
-  walk_to : {next new : ℕ} (b : Bool) → g number ≡ b → new ≡ total + cond b 1 0 → number < before → is_stepped a i next ≡ true → number < next
+  walk_to : {next new : ℕ} {b : Bool} → g number ≡ b → new ≡ total + cond b 1 0 → number < before → is_stepped a i next ≡ true → number < next
       → ((m : ℕ) → number < m → m < next → stepped m ≡ false) → IsStepWalk a i g from before next new
-  walk_to {next = next} b e is h step later none = record {
+  walk_to {next = next} {b = b} e is h step later none = record {
     some = walk.some;
     step = step;
     passed =
@@ -57,13 +57,13 @@ module _ {a i : ℕ} {g : ℕ → Bool} {from before number total : ℕ} (walk :
   }
 
   pub walk_on : {new : ℕ} (b : Bool) → g number ≡ b → new ≡ total + cond b 1 0 → number < before → IsStepWalk a i g from before (number + i) new
-  walk_on b e is h = walk_to b e is h (step_on i walk.some a number walk.step) (omega (arith, walk.some))
+  walk_on b e is h = walk_to e is h (step_on i walk.some a number walk.step) (omega (arith, walk.some))
       (λ m l u. and_left (is_stepped a i m) (g m) (none_between i walk.some a number m walk.step l u))
 
   -- past numbers of which none passes, to the next step
   pub walk_past : {out next : ℕ} → g number ≡ false → ((j : ℕ) → j < out → g (number + j) ≡ false) → 1 ≤ out
       → IsLeastFrom (is_stepped a i) (number + out) next → number < before → IsStepWalk a i g from before next total
-  walk_past {out = out} e none some least h = walk_to false e (omega arith) h least.passes (omega (arith, least.low, some))
+  walk_past {out = out} e none some least h = walk_to e (omega arith) h least.passes (omega (arith, least.low, some))
       (λ m l u. elim (cases_lt m (number + out)) [
         | inl early ↦ and_right (is_stepped a i m) (g m) (ap g (let same : m ≡ number + (m - number) = omega (arith, l) in same)
             ∙ none (m - number) (omega (arith, early, l)))
