@@ -98,10 +98,10 @@ module _ (q : EffectiveRule) (start c limit : ℕ) (most : limit + 1 ≡ c + cou
 
 -- the first look, at the start's period
 pub turned_first : {q : EffectiveRule} {start c number limit : ℕ} (was : Cursor) {p : RecurrencePeriod} → 1 ≤ c → number ≡ period_in q start →
-    is_stepped (period_in q start) q.interval number ≡ true → IsPeriodOf q p → p.number ≡ number
+    is_stepped (period_in q start) q.interval number ≡ true → IsPeriodOf q p × (p.number ≡ number)
     → limit ≡ c - 1 + count (start + 1) (is_taken q.positions (lists_none_wide q.positions) p)
     → IsTurned q start c number (record (after_look was p 0) { limit = limit }) p
-turned_first {q = q} {start = start} was {p = p} positive e step own same limit = record {
+turned_first {q = q} {start = start} was {p = p} positive e step (own, same) limit = record {
   held = refl;
   product = own;
   number = same;

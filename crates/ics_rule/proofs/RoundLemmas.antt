@@ -24,10 +24,6 @@ use Rattle.ics_rule.proofs.Tests.{positive}
 numbered_alike : (f : Frequency) (q : EffectiveRule) (p : Ordinals) (d e : ℕ) → 0 < seconds_of f → lets_numbered f q p d ≡ lets_numbered f q p e
 numbered_alike f q p d e h = grind (arith, nat_tests)
 
-date_alike : (q : EffectiveRule) (d e : ℕ) → names_weekdays_alone q ≡ true → 0 < seconds_of q.frequency →
-    (lists_no_weekday q.weekdays ≡ true) ⊎ (weekday_of d ≡ weekday_of e) → lets_date q d ≡ lets_date q e
-date_alike q d e alone fine same = grind (arith, nat_tests, numbered_alike, weekdays_alone)
-
 pub clock_alike : (q : EffectiveRule) (n m : ℕ) → lets q.hours (hour_of n) ≡ lets q.hours (hour_of m) →
     lets q.minutes (minute_of n) ≡ lets q.minutes (minute_of m) → lets q.seconds (second_of n) ≡ lets q.seconds (second_of m)
     → lets_clock q n ≡ lets_clock q m
@@ -43,17 +39,21 @@ pub let_in_alike : (q : EffectiveRule) (n m : ℕ) → lets_date q (day_of n) �
     (lets_date q (day_of n) && lets_clock q n) ≡ (lets_date q (day_of m) && lets_clock q m)
 let_in_alike q n m d c = ap (λ x. x && lets_clock q n) d ∙ ap (λ x. lets_date q (day_of m) && x) c
 
--- so many seconds later a rule that names weekdays alone lets in the same, where each part is absent or they are a multiple of its cycle
-pub repeats : (q : EffectiveRule) (s : ℕ) → names_weekdays_alone q ≡ true → 0 < seconds_of q.frequency →
-    (lists_no_weekday q.weekdays ≡ true) ⊎ (s % 604_800 ≡ 0) → (is_empty q.hours ≡ true) ⊎ (s % 86_400 ≡ 0)
-    → (is_empty q.minutes ≡ true) ⊎ (s % 3_600 ≡ 0) → (is_empty q.seconds ≡ true) ⊎ (s % 60 ≡ 0)
-    → (n : ℕ) → (lets_date q (day_of (n + s)) && lets_clock q (n + s)) ≡ (lets_date q (day_of n) && lets_clock q n)
-repeats q s alone fine w h i e n = let_in_alike q (n + s) n
-    (date_alike q (day_of (n + s)) (day_of n) alone fine (elim w [ inl none ↦ inl none | inr whole ↦ inr (omega (arith, whole)) ]))
-    (clock_alike q (n + s) n
-    (lets_alike q.hours (hour_of (n + s)) (hour_of n) (elim h [ inl none ↦ inl none | inr whole ↦ inr (omega (arith, whole)) ]))
-    (lets_alike q.minutes (minute_of (n + s)) (minute_of n) (elim i [ inl none ↦ inl none | inr whole ↦ inr (omega (arith, whole)) ]))
-    (lets_alike q.seconds (second_of (n + s)) (second_of n) (elim e [ inl none ↦ inl none | inr whole ↦ inr (omega (arith, whole)) ])))
+-- Of the parts of the date a rule names weekdays alone, and its periods last alike.
+module _ (q : EffectiveRule) (alone : names_weekdays_alone q ≡ true) (fine : 0 < seconds_of q.frequency) where
+  date_alike : (d e : ℕ) → (lists_no_weekday q.weekdays ≡ true) ⊎ (weekday_of d ≡ weekday_of e) → lets_date q d ≡ lets_date q e
+  date_alike d e same = grind (arith, nat_tests, numbered_alike, weekdays_alone)
+
+  -- so many seconds later it lets in the same, where each part is absent or they are a multiple of its cycle
+  pub repeats : (s : ℕ) → (lists_no_weekday q.weekdays ≡ true) ⊎ (s % 604_800 ≡ 0) → (is_empty q.hours ≡ true) ⊎ (s % 86_400 ≡ 0)
+      → (is_empty q.minutes ≡ true) ⊎ (s % 3_600 ≡ 0) → (is_empty q.seconds ≡ true) ⊎ (s % 60 ≡ 0)
+      → (n : ℕ) → (lets_date q (day_of (n + s)) && lets_clock q (n + s)) ≡ (lets_date q (day_of n) && lets_clock q n)
+  repeats s w h i e n = let_in_alike q (n + s) n
+      (date_alike (day_of (n + s)) (day_of n) (elim w [ inl none ↦ inl none | inr whole ↦ inr (omega (arith, whole)) ]))
+      (clock_alike q (n + s) n
+      (lets_alike q.hours (hour_of (n + s)) (hour_of n) (elim h [ inl none ↦ inl none | inr whole ↦ inr (omega (arith, whole)) ]))
+      (lets_alike q.minutes (minute_of (n + s)) (minute_of n) (elim i [ inl none ↦ inl none | inr whole ↦ inr (omega (arith, whole)) ]))
+      (lets_alike q.seconds (second_of (n + s)) (second_of n) (elim e [ inl none ↦ inl none | inr whole ↦ inr (omega (arith, whole)) ])))
 
 -- periods that last alike
 unit_period : (f : Frequency) (w n j : ℕ) → 0 < seconds_of f → period f w (n + j * seconds_of f) ≡ period f w n + j

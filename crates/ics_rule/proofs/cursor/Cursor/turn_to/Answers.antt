@@ -37,8 +37,8 @@ returns-then-self-before-clause-turned c =
 pub returns-in-None-clause-turned : goal.returns-in-None-clause-turned
 returns-in-None-clause-turned c =
     let turn = rw c.in-None.is at c.requires.turn in
-    rw c.look_at-period.ensures.cursor (turned_first c.args.self.now c.requires.count turn c.requires.step c.look_at-period.ensures.product
-    c.look_at-period.ensures.number (ap (λ x. c.args.count - 1 + x) c.taken_before.ensures.value))
+    rw c.look_at-period.ensures.cursor (turned_first c.args.self.now c.requires.count turn c.requires.step
+    (c.look_at-period.ensures.product, c.look_at-period.ensures.number) (ap (λ x. c.args.count - 1 + x) c.taken_before.ensures.value))
 
 pub returns-in-None-clause-looks : goal.returns-in-None-clause-looks
 returns-in-None-clause-looks c =
