@@ -40,9 +40,9 @@ taken_out positions true p n e = e
 taken_out positions false p n e = ap (λ x. x && is_listed positions (count calendar_end (holds p)) (count n (holds p))) e
 
 -- what stands beside n is what the rule lets in in the period of n
-pub beside_let_in : (q : EffectiveRule) (start number n m : ℕ) → is_stepped (period_in q start) q.interval number ≡ true → period_in q n ≡ number →
+pub beside_let_in : (q : EffectiveRule) (start n m : ℕ) {number : ℕ} → is_stepped (period_in q start) q.interval number ≡ true → period_in q n ≡ number →
     is_beside q start n m ≡ is_let_in q number m
-beside_let_in q start number n m step here = ap (λ x. is_candidate_in q start m && period_in q m == x) here
+beside_let_in q start n m {number = number} step here = ap (λ x. is_candidate_in q start m && period_in q m == x) here
     ∙ swapped (is_candidate_in q start m) (period_in q m == number) (lets_date q (day_of m) && lets_clock q m)
     (λ e. let_in q start number m step (eqb-true (period_in q m) number e) ∙ ap (λ x. x && (lets_date q (day_of m) && lets_clock q m)) e)
 
@@ -94,7 +94,7 @@ module _ (q : EffectiveRule) (start : ℕ) (p : RecurrencePeriod) (own : IsPerio
 
   -- what stands beside n is what the product holds
   beside : (n m : ℕ) → period_in q n ≡ p.number → is_beside q start n m ≡ holds p m
-  beside n m here = beside_let_in q start p.number n m step here ∙ sym (own.members m)
+  beside n m here = beside_let_in q start n m step here ∙ sym (own.members m)
 
   chosen_here : (n : ℕ) → period_in q n ≡ p.number → (b : Bool) → is_taken q.positions b p n ≡ (is_candidate_in q start n && is_placed q start b n)
   chosen_here n here true = sym (keep_true (is_candidate_in q start n) ∙ candidate_here n here)

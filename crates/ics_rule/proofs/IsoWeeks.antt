@@ -29,27 +29,27 @@ record IsWeek (y n all w e : ℕ) : Type 0 where
   pub weeks : weeks_of_year (fourth_day 0 e) ≡ all
   pub weekday : weekday_of e ≡ w
 
-by_fourth : {y n all w : ℕ} (e f : ℕ) → fourth_day 0 e ≡ f → days_before_year y ≤ f → f < days_before_year (suc y) → (f - days_before_year y) / 7 + 1 ≡ n
-    → (days_before_year (suc y) - days_before_year y - 1 - (f - days_before_year y) % 7) / 7 + 1 ≡ all → weekday_of e ≡ w → IsWeek y n all w e
-by_fourth {y = y} e f fourth low high number weeks weekday =
-    let year = ap year_of fourth ∙ year_of_is f y low high in
-    let day = year_day_is (fourth_day 0 e) in
-    let before = ap days_before_year year in
-    let size = ap (λ y. days_in_year (pos y)) year in
-    let length = days_before_year-next y in
-    record {
-      year = year;
-      number = omega (arith, fourth, day, before, number);
-      weeks = omega (arith, fourth, day, before, size, length, weeks);
-      weekday = weekday;
-    }
-
 -- the Thursday f of week n in a year from a up to b, which begins on Monday s, and the next one on t
 record IsThursday (a b s t n f : ℕ) : Type 0 where
   pub low : a ≤ f
   pub high : f < b
   pub place : (f - a) / 7 + 1 ≡ n
   pub weeks : s + 7 * ((b - a - 1 - (f - a) % 7) / 7 + 1) ≡ t
+
+by_fourth : {y n all w s t : ℕ} (e f : ℕ) → fourth_day 0 e ≡ f → IsThursday (days_before_year y) (days_before_year (suc y)) s t n f → s + 7 * all ≡ t
+    → weekday_of e ≡ w → IsWeek y n all w e
+by_fourth {y = y} e f fourth own end weekday =
+    let year = ap year_of fourth ∙ year_of_is f y own.low own.high in
+    let day = year_day_is (fourth_day 0 e) in
+    let before = ap days_before_year year in
+    let size = ap (λ y. days_in_year (pos y)) year in
+    let length = days_before_year-next y in
+    record {
+      year = year;
+      number = omega (arith, fourth, day, before, own.place);
+      weeks = omega (arith, fourth, day, before, size, length, own.weeks, end);
+      weekday = weekday;
+    }
 
 thursday : {a b s t n f : ℕ} → s ≡ a + 3 - (a + 1) % 7 → t ≡ b + 3 - (b + 1) % 7 → a + 365 ≤ b → 1 ≤ n → s + 7 * n ≤ t → f ≡ s + 3 + 7 * (n - 1) →
     IsThursday a b s t n f
@@ -76,7 +76,7 @@ later_week y {n = n} {w = w} e range within week day =
         let late : 2 ≤ e = omega arith in
         let fourth : fourth_day 0 e ≡ 7 * ((e + 12) / 7) - 9 = fourth_late 0 e (omega arith) ∙ omega arith in
         let own = thursday refl refl (omega (arith, length)) one (omega arith) (omega (arith, fourth, place)) in
-        (late, by_fourth e (fourth_day 0 e) refl own.low own.high own.place (omega (arith, own.weeks, end)) (omega (arith, place)))
+        (late, by_fourth e (fourth_day 0 e) refl own end (omega (arith, place)))
 
 -- week 52 of the year -1 is named one cycle of the calendar later
 early_week : {n w : ℕ} (e : ℕ) → 1 ≤ n → n ≤ weeks_in_year (negsuc 0) → w < 7 → iso_year_start (negsuc 0) +ℤ pos ((n - 1) * 7 + w) ≡ pos e -ℤ pos 719_528
@@ -99,8 +99,8 @@ early_week {n = n} {w = w} e one most week day =
     of_place e one most all week place =
         let early : e < 2 = omega arith in (
           early,
-          by_fourth e 146_095 (fourth_early 0 e (omega arith) ∙ omega arith) (omega arith) (omega arith) (omega (arith, place)) (omega (arith, all))
-              (omega (arith, place)),
+          by_fourth {s = 0} {t = 364} e 146_095 (fourth_early 0 e (omega arith) ∙ omega arith)
+              (record { low = omega arith; high = omega arith; place = omega (arith, place); weeks = omega arith }) (omega (arith, all)) (omega (arith, place)),
         )
 
 -- no day from 0000-01-01 on is in a week of an earlier year

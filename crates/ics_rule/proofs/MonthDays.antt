@@ -50,22 +50,24 @@ abbrev pub seen_months : EffectiveRule → (ℕ → Bool) → ℕ → ℕ → Bo
 seen_months q months from e =
     nat_lt (month_of e) from && (months (month_of e) && lists_in_month q (weekday_of e) (month_day_of e) (days_in_month (pos (year_of e)) (month_of e)))
 
+-- with the run of one more month
+module _ (f a l t : Bool) where
+  one_further : {i h s b b' x : Bool} → b' ≡ (b || (h && x)) → b ≡ (i && (f && (a && l))) → (i ≡ true → h ≡ s) → (i ≡ false → h ≡ false)
+      → (h ≡ true → x ≡ l) → (s || (f && a)) ≡ (t && a) → b' ≡ (i && (t && (a && l)))
+  one_further more e inside past here next = grind arith
+
 module _ (q : EffectiveRule) (k : ℕ) where
   pub month_step : {r : Run} {months : ℕ → Bool} {first y m from len : ℕ} {b new : Bool} → IsMonth r first y m
-      → first ≡ days_before_year y → len ≡ days_in_year (pos y) → r.start + r.len ≤ len → IsLeastFrom months from m
+      → (first ≡ days_before_year y) × (len ≡ days_in_year (pos y)) → r.start + r.len ≤ len → IsLeastFrom months from m
       → b ≡ (nat_lt k len && seen_months q months from (first + k))
       → new ≡ (b || (has_run r k && lists_in_month q (weekday_in r (k - r.start)) (k - r.start + 1) r.len))
       → new ≡ (nat_lt k len && seen_months q months (m + 1) (first + k))
-  month_step {r = r} {months = months} {first = first} {y = y} {m = m} {from = from} {len = len} own start size most next e more =
-      gather (nat_lt (month_of (first + k)) from) (months (month_of (first + k))) _ _ more e
-      (λ inside. run_is_month r first y m k own start (let l = ltb-true k len inside in omega (arith, l, size)))
+  month_step {r = r} {months = months} {first = first} {y = y} {m = m} {from = from} {len = len} own span most next e more =
+      one_further (nat_lt (month_of (first + k)) from) (months (month_of (first + k))) _ _ more e
+      (λ inside. run_is_month r first y m k own span.0 (let l = ltb-true k len inside in omega (arith, l, span.1)))
       (λ past. and_right (nat_le r.start k) (nat_lt (k - r.start) r.len)
       (le-ltb (k - r.start) r.len (let far = ltb-false k len past in omega (arith, far, most))))
       (run_lists r first y m k own q) (next_found months from m (month_of (first + k)) next)
-    where
-      gather : (f a l t : Bool) {i h s b b' x : Bool} → b' ≡ (b || (h && x)) → b ≡ (i && (f && (a && l))) → (i ≡ true → h ≡ s) → (i ≡ false → h ≡ false)
-          → (h ≡ true → x ≡ l) → (s || (f && a)) ≡ (t && a) → b' ≡ (i && (t && (a && l)))
-      gather f a l t more e inside past here next = grind arith
 
 pub months_none : (q : EffectiveRule) (months : ℕ → Bool) (e : ℕ) (a : Bool) → false ≡ (a && seen_months q months 1 e)
 months_none q months e a = grind (arith, nat_tests, and_right, le-ltb, month_positive)
@@ -135,9 +137,9 @@ pub year_exact : (q : EffectiveRule) (e : ℕ) {n size : ℕ} → GoesByYears q 
 year_exact q e by day len = grind (arith, nat_tests, and_parts, goes, three_parts)
 
 -- what is asked of each candidate
-pub asked_more : (some f : ℕ → Bool) (from n k : ℕ) {old t new : Bool} → IsLeastFrom some from n → t ≡ f n → old ≡ (some k && (nat_lt k from && f k))
+pub asked_more : (some f : ℕ → Bool) {from n : ℕ} (k : ℕ) {old t new : Bool} → IsLeastFrom some from n → t ≡ f n → old ≡ (some k && (nat_lt k from && f k))
     → ((t ≡ true) × (new ≡ ((k == n) || old))) ⊎ ((t ≡ false) × (new ≡ old)) → new ≡ (some k && (nat_lt k (n + 1) && f k))
-asked_more some f from n k next test h e = grind (arith, nat_tests, three, cases_lt)
+asked_more some f k next test h e = grind (arith, nat_tests, three, cases_lt)
 
 pub asked_none : (some f : ℕ → Bool) (k : ℕ) → false ≡ (some k && (nat_lt k 0 && f k))
 asked_none some f k = sym (and_right (some k) (nat_lt k 0 && f k) (ap (λ x. x && f k) (le-ltb k 0 (omega arith))))

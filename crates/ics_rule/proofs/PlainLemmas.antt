@@ -114,7 +114,7 @@ module _ (r : Recurrence) (plain : HasPlainReading r) where
   chosen n low small =
       chosen_by (effective r) start n (in_turn n) (all_apply r n) (occurs_in r (period_at r n)) (candidate n small)
       (ap (λ x. x && all_apply r n) (self_test (period_at r n)))
-      (λ step m l. beside_let_in (effective r) start (period_at r n) n m step refl
+      (λ step m l. beside_let_in (effective r) start n m step refl
       ∙ ap (λ x. period_at r m == period_at r n && x) (parts_apply m (omega (arith, l, small))))
       ∙ ap (λ x. x && (all_apply r n && position_applies r n)) (turns n low)
 

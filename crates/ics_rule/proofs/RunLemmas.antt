@@ -123,9 +123,9 @@ pub numbered_listed : (a x w : Bool) {plain : Bool} (n : Bool) {new : Bool} → 
 numbered_listed a x w n h e = rw h e
 
 -- a weekday that BYDAY does not list has no day
-pub unnamed : (ws : Weekdays) (named : ℕ → Bool) → ((d : ℕ) → named d ≡ (nat_lt d 7 && names_weekday ws d)) → (d n size : ℕ) → d < 7
-    → named d ≡ false → lists_weekday ws d n size ≡ false
-unnamed ws named is d n size small h = grind (arith, nat_tests, in_week, none_nth, out)
+module _ (ws : Weekdays) (named : ℕ → Bool) (is : (d : ℕ) → named d ≡ (nat_lt d 7 && names_weekday ws d)) where
+  pub unnamed : (d n size : ℕ) → d < 7 → named d ≡ false → lists_weekday ws d n size ≡ false
+  unnamed d n size small h = grind (arith, nat_tests, in_week, none_nth, out)
 
 -- the days of a run, weekday by weekday of those that BYDAY names
 module _ (listed named : ℕ → Bool) (w : ℕ) (none : named w ≡ false → listed w ≡ false) (a x : Bool) where

@@ -52,7 +52,7 @@ module _ (q : EffectiveRule) (start x : ℕ) (step : is_stepped (period_in q sta
 
   chosen_in : (k : ℕ) → k < longest → period_in q (a + k) ≡ x → is_chosen q start (a + k) ≡ chosen_at k
   chosen_in k l here =
-      let beside = λ (m : ℕ). beside_let_in q start x (a + k) m step here in
+      let beside = λ (m : ℕ). beside_let_in q start (a + k) m step here in
       chosen_of_span q start a longest k t (λ m h. beside m ∙ none_before m h) (λ m h. beside m ∙ none_late m h) (λ j h. beside (a + j)) l inside
       (let_in q start x (a + k) step here) (lists_none_wide q.positions)
 

@@ -50,10 +50,10 @@ record GivesWeekdays (day week own weeks days : Bool) : Type 0 where
 
 -- the tests in the order of the steps, and by subject
 in_order : (y per : Bool) {s mi h b d w m o om od ow oh omi os m' d' w' b' h' mi' s' : Bool} → o ≡ (om && (od && (ow && (oh && (omi && os)))))
-    → Gives m om m' → Gives d od d' → GivesWeekdays b w ow w' b' → Gives h oh h' → Gives mi omi mi' → Gives s os s'
+    → (Gives m om m') × (Gives d od d') × (GivesWeekdays b w ow w' b') → (Gives h oh h') × (Gives mi omi mi') × (Gives s os s')
     → (s && (mi && (h && (b && (d && (y && (w && (m && (per && o)))))))))
     ≡ (per && (((((m' && d') && y) && w') && b') && ((h' && mi') && s')))
-in_order y per own month month_day weekday hour minute second = iff _ _ (λ e. grind arith) (λ e. grind (arith, and_parts))
+in_order y per own (month, month_day, weekday) (hour, minute, second) = iff _ _ (λ e. grind arith) (λ e. grind (arith, and_parts))
 
 -- a part expands under a cell of the table, by which parts are absent
 abbrev expands : (Part → Bool) → Cell → Bool
@@ -98,23 +98,23 @@ module _ (absent : Part → Bool) (f : Frequency) (own n : ℕ) where
       ≡ (if absent ByMonth then (if t then (n == own) else true) else test n)
   months_given test taken = rw (month_listed test, month_own, taken) (settled (absent ByMonth) (gives_own f ByMonth && dayless) (test n) own n)
 
-  days_given : (test : ℕ → ℕ → Bool) (own_month month : ℕ) {t : Bool} → (cell ByMonthDay f ≡ Nothing → absent ByMonthDay ≡ true)
-      → (cell ByYearDay f ≡ Nothing → absent ByYearDay ≡ true) → (cell ByWeekNo f ≡ Nothing → absent ByWeekNo ≡ true)
+  days_given : (test : ℕ → ℕ → Bool) (own_month month : ℕ) {t : Bool} → ((part : Part) → cell part f ≡ Nothing → absent part ≡ true)
       → t ≡ (gives_own f ByMonthDay && dayless)
       → ((absent ByMonthDay || test (keep (stays ByDay) (if absent ByMonth then own_month else month) month) (keep (stays ByDay) own n))
       && own_if (gives_own f ByMonthDay) own left_by_week)
       ≡ (if absent ByMonthDay then (if t then (n == own) else true) else test month n)
-  days_given test own_month month day year_day week taken = grind (arith, nat_tests)
+  days_given test own_month month out taken = grind (arith, nat_tests, out ByMonthDay, out ByYearDay, out ByWeekNo)
 
-  weekday_own : (cell ByMonthDay f ≡ Nothing → absent ByMonthDay ≡ true) → (cell ByYearDay f ≡ Nothing → absent ByYearDay ≡ true)
-      → (cell ByWeekNo f ≡ Nothing → absent ByWeekNo ≡ true)
+  weekday_own : ((part : Part) → cell part f ≡ Nothing → absent part ≡ true)
       → ((absent ByWeekNo || (left_by_year_day == own)) && own_if (gives_own f ByDay) own left_by_week)
       ≡ own_if (absent ByDay && (gives_own f ByDay || (absent ByMonthDay && absent ByYearDay && not (absent ByWeekNo)))) own n
-  weekday_own day year_day week = grind (arith, nat_tests)
+  weekday_own out = grind (arith, nat_tests, out ByMonthDay, out ByYearDay, out ByWeekNo)
 
-weekday_settled : (b w day week near far own : Bool) {t : Bool} → ((w || near) && far) ≡ (if t then own else true) → (t ≡ true → b ≡ true)
-    → ((b || day) && ((w || (near && week)) && far)) ≡ ((w || week) && (if t then own else (b || day)))
-weekday_settled b w day week near far own e h = grind arith
+  weekdays_given : (day week : Bool) {t : Bool} → ((part : Part) → cell part f ≡ Nothing → absent part ≡ true)
+      → t ≡ (absent ByDay && (gives_own f ByDay || (absent ByMonthDay && absent ByYearDay && not (absent ByWeekNo))))
+      → ((absent ByDay || day) && ((absent ByWeekNo || ((left_by_year_day == own) && week)) && own_if (gives_own f ByDay) own left_by_week))
+      ≡ ((absent ByWeekNo || week) && (if t then (n == own) else (absent ByDay || day)))
+  weekdays_given day week out taken = grind (arith, weekday_own out, taken)
 
 extracted : (f : Frequency) (r : Recurrence) → (is_extracted r f ByMonth ≡ (gives_own f ByMonth && is_dayless r))
     × (is_extracted r f ByMonthDay ≡ (gives_own f ByMonthDay && is_dayless r))
@@ -144,12 +144,12 @@ module _ (r : Recurrence) (allowed : IsAllowed r) where
   abbrev lets_part : Part → Instances
   lets_part part i = is_absent r part || gives r part i
 
-  by_cell : (c : Cell) (part : Part) (set : Instances) (back : Bool → Instance) → back false ≡ before r part (back true)
+  by_cell : {c : Cell} (part : Part) (set : Instances) (back : Bool → Instance) → back false ≡ before r part (back true)
       → (c ≡ Nothing → is_absent r part ≡ true)
       → (expands (is_absent r) c ≡ false → is_absent r part ≡ false → gives r part (back true) ≡ is_listed r part (back true))
       → (if is_absent r part then set (back true) else apply_cell c r part set (back true))
       ≡ ((is_absent r part || gives r part (back true)) && set (back (is_absent r part || not (expands (is_absent r) c))))
-  by_cell c part set back own none limits = grind arith
+  by_cell part set back own none limits = grind arith
 
   -- BYWEEKNO is absent if it does not expand
   week_out : expands (is_absent r) (cell ByWeekNo r.parts.frequency) ≡ false → is_absent r ByWeekNo ≡ false → ⊥
@@ -157,8 +157,8 @@ module _ (r : Recurrence) (allowed : IsAllowed r) where
 
   step : (part : Part) (set : Instances) (i : Instance) → apply r set part i ≡ (lets_part part i && set (left part i))
   step ByWeekNo set i =
-      by_cell (cell ByWeekNo r.parts.frequency) ByWeekNo set (λ kept. from ByWeekNo kept i) refl (allowed.parts ByWeekNo) (λ h some. absurd (week_out h some))
-  step part set i = by_cell (cell part r.parts.frequency) part set (λ kept. from part kept i) refl (allowed.parts part) (λ h some. refl)
+      by_cell ByWeekNo set (λ kept. from ByWeekNo kept i) refl (allowed.parts ByWeekNo) (λ h some. absurd (week_out h some))
+  step part set i = by_cell part set (λ kept. from part kept i) refl (allowed.parts part) (λ h some. refl)
 
   -- the parts applied, the last of them first, and their tests
   abbrev applied : Instances → List Part → Instances
@@ -190,7 +190,7 @@ module _ (r : Recurrence) (allowed : IsAllowed r) where
     month_days = record {
       same = days_given (is_absent r) r.parts.frequency (start_of r).month_day i.month_day
           (λ month day. lists r.parts.month_days day (days_in_month (pos i.year) month)) (start_of r).month i.month
-          (allowed.parts ByMonthDay) (allowed.parts ByYearDay) (allowed.parts ByWeekNo) (extracted r.parts.frequency r).1
+          allowed.parts (extracted r.parts.frequency r).1
           ∙ sym (month_days_let_in r i.month_day (days_in_month (pos i.year) i.month));
     }
 
@@ -198,16 +198,10 @@ module _ (r : Recurrence) (allowed : IsAllowed r) where
     weekdays : GivesWeekdays (lets_part ByDay i) (lets_part ByWeekNo (left ByYearDay (left ByMonthDay (left ByDay i))))
         (own_if (gives_own r.parts.frequency ByDay) (start_of r).weekday left_by_days.weekday) (is_absent r ByWeekNo || is_listed r ByWeekNo i)
         (if takes_weekday r.parts.frequency r.parts then (i.weekday == (start_of r).weekday) else lets_part ByDay i)
-    weekdays =
-        let taken = weekday_taken r.parts.frequency r (allowed.parts ByWeekNo) in
-        record {
-          same = weekday_settled (is_absent r ByDay) (is_absent r ByWeekNo) (is_listed r ByDay i) (is_listed r ByWeekNo i) _ _
-              (i.weekday == (start_of r).weekday)
-              (weekday_own (is_absent r) r.parts.frequency (start_of r).weekday i.weekday
-              (allowed.parts ByMonthDay) (allowed.parts ByYearDay) (allowed.parts ByWeekNo)
-              ∙ ap (λ t. own_if t (start_of r).weekday i.weekday) (sym taken))
-              (λ t. (and_parts (is_absent r ByDay) _ (sym taken ∙ t)).0);
-        }
+    weekdays = record {
+      same = weekdays_given (is_absent r) r.parts.frequency (start_of r).weekday i.weekday (is_listed r ByDay i) (is_listed r ByWeekNo i)
+          allowed.parts (weekday_taken r.parts.frequency r (allowed.parts ByWeekNo));
+    }
 
     hours : Gives (lets_part ByHour i) (own_if (skips_hours r.parts.frequency) (start_of r).hour (left ByHour i).hour) (lets (effective r).hours i.hour)
     hours = record { same = grind (arith, nat_tests, hours_let_in r i.hour allowed.dates) }
@@ -228,6 +222,5 @@ module _ (r : Recurrence) (allowed : IsAllowed r) where
       let j = left ByHour (left ByMinute (left BySecond i)) in
       steps (λ j. j.period == p && own_instance r.parts.frequency (start_of r) j)
       (BySecond ∷ ByMinute ∷ ByHour ∷ ByDay ∷ ByMonthDay ∷ ByYearDay ∷ ByWeekNo ∷ ByMonth ∷ []) i
-      ∙ in_order _ _ (owned r.parts.frequency (start_of r) (left ByMonth (left_by_days j))) (months j) (month_days j)
-      (record { same = (weekdays j).same ∙ ap (λ x. lets_week (effective r) (day_of n) && x) (sym (weekdays_let_in r n _ _ _ allowed.numbers)) })
-      (hours i) (minutes i) (seconds i)
+      ∙ in_order _ _ (owned r.parts.frequency (start_of r) (left ByMonth (left_by_days j)))
+      (months j, month_days j, record { same = (weekdays j).same ∙ ap (λ x. lets_week (effective r) (day_of n) && x) (sym (weekdays_let_in r n _ _ _ allowed.numbers)) }) (hours i, minutes i, seconds i)

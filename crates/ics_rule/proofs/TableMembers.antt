@@ -23,7 +23,7 @@ module _ (r : Recurrence) (allowed : IsAllowed r) where
   chosen n =
       let set = is_instance r (period_of r n) in
       chosen_by (effective r) (number r.start) n (is_period r (period_of r n)) (set n) set (candidates_by_table n) refl
-      (λ step m l. beside_let_in (effective r) (number r.start) (period_of r n) n m step refl ∙ sym (instances_by_table r allowed (period_of r n) m))
+      (λ step m l. beside_let_in (effective r) (number r.start) n m step refl ∙ sym (instances_by_table r allowed (period_of r n) m))
 
   pub members_by_table : (n : ℕ) → is_in_rule r n ≡ is_member r n
   unfolding is_in_rule

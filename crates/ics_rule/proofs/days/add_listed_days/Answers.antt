@@ -38,7 +38,7 @@ add_month-requires-clause-within c = let b = days_in_year_bounds (pos (year_of c
 
 pub loop-month-preserved : goal.loop-month-preserved
 loop-month-preserved c = (
-  λ k. month_step c.args.parts.now k (c.month_run.ensures.month (year_of c.args.first) c.requires.span) c.requires.span.1.0 c.requires.span.1.1
+  λ k. month_step c.args.parts.now k (c.month_run.ensures.month (year_of c.args.first) c.requires.span) c.requires.span.1
       (c.month_run.ensures.within (year_of c.args.first) c.requires.span) c.in-Some.ensures.next (c.loop-month.invariant.0 k) (c.add_month.ensures k),
   omega arith,
 )

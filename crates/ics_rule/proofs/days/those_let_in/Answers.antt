@@ -11,7 +11,7 @@ loop-k-init c = λ k. ap (λ ws. contains_wide ws k) c.new-days.ensures ∙ none
     ∙ asked_none (contains_wide c.args.some.now) (λ m. lets_date c.args.parts.now (c.args.first + m)) k
 
 pub loop-k-preserved : goal.loop-k-preserved
-loop-k-preserved c = λ k. asked_more (contains_wide c.args.some.now) (λ m. lets_date c.args.parts.now (c.args.first + m)) c.loop-k.from c.in-Some.k k
+loop-k-preserved c = λ k. asked_more (contains_wide c.args.some.now) (λ m. lets_date c.args.parts.now (c.args.first + m)) k
     c.in-Some.ensures.next c.lets_date.ensures (c.loop-k.invariant k) (elim c.if-lets_date.branch [
       | then-lets_date w ↦ inl (w.if-lets_date.true, ap (λ ws. contains_wide ws k) w.days-is ∙ w.insert.ensures.members k)
       | else-lets_date w ↦ inr (w.if-lets_date.false, ap (λ ws. contains_wide ws k) w.days-is)
