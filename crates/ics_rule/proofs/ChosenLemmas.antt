@@ -67,26 +67,27 @@ by_parts : (step i : Bool) {c placed nth : Bool} → c ≡ (step && i) → (step
 by_parts step i h l = grind arith
 
 -- a candidate is chosen by its place in the set that stands beside it
-pub chosen_by : (q : EffectiveRule) (start n : ℕ) (step i : Bool) (set : ℕ → Bool) → is_candidate_in q start n ≡ (step && i) → set n ≡ i
-    → (step ≡ true → (m : ℕ) → m < max (suc n) calendar_end → is_beside q start n m ≡ set m)
-    → is_chosen q start n ≡ (step && (i && (lists_none_wide q.positions || is_nth q.positions set n)))
-chosen_by q start n step i set candidate here beside =
-    by_parts step i candidate (λ s e. nth_placed q start n set (beside s) (here ∙ e) (lists_none_wide q.positions))
+module _ (q : EffectiveRule) (start n : ℕ) (step i : Bool) (set : ℕ → Bool) where
+  pub chosen_by : is_candidate_in q start n ≡ (step && i) → set n ≡ i
+      → (step ≡ true → (m : ℕ) → m < max (suc n) calendar_end → is_beside q start n m ≡ set m)
+      → is_chosen q start n ≡ (step && (i && (lists_none_wide q.positions || is_nth q.positions set n)))
+  chosen_by candidate here beside =
+      by_parts step i candidate (λ s e. nth_placed q start n set (beside s) (here ∙ e) (lists_none_wide q.positions))
 
 -- and, of a period whose locals are the first len from a on, by their places in it
-pub chosen_of_span : (q : EffectiveRule) (start a len k : ℕ) (test : ℕ → Bool) → ((m : ℕ) → m < a → is_beside q start (a + k) m ≡ false)
-    → ((m : ℕ) → a + len ≤ m → is_beside q start (a + k) m ≡ false) → ((j : ℕ) → j < len → is_beside q start (a + k) (a + j) ≡ test j)
-    → k < len → a + len ≤ calendar_end → is_candidate_in q start (a + k) ≡ test k
-    → (b : Bool) → (is_candidate_in q start (a + k) && is_placed q start b (a + k)) ≡ placed_of q.positions b test len k
-chosen_of_span q start a len k test before after there inside top candidate true = keep_true (is_candidate_in q start (a + k)) ∙ candidate
-chosen_of_span q start a len k test before after there inside top candidate false =
-    let beside : ℕ → Bool = is_beside q start (a + k) in
-    let place : rank q start (a + k) ≡ count (suc k) test =
-    ap (λ x. count x beside) (let whole : suc (a + k) ≡ a + suc k = omega arith in whole) ∙ count-from a (suc k) beside before
-    ∙ count-same (suc k) (λ j. beside (a + j)) test (λ j l. there j (omega (arith, l, inside))) in
-    let all : size q start (a + k) ≡ count len test =
-    count_flat (a + len) calendar_end beside top (λ m l h. after m l) ∙ count-from a len beside before ∙ count-same len (λ j. beside (a + j)) test there in
-    rw (candidate, place, all) (rank_listed q.positions test k (count len test))
+module _ (q : EffectiveRule) (start a len k : ℕ) (test : ℕ → Bool) (before : (m : ℕ) → m < a → is_beside q start (a + k) m ≡ false)
+    (after : (m : ℕ) → a + len ≤ m → is_beside q start (a + k) m ≡ false) (there : (j : ℕ) → j < len → is_beside q start (a + k) (a + j) ≡ test j) where
+  pub chosen_of_span : k < len → a + len ≤ calendar_end → is_candidate_in q start (a + k) ≡ test k
+      → (b : Bool) → (is_candidate_in q start (a + k) && is_placed q start b (a + k)) ≡ placed_of q.positions b test len k
+  chosen_of_span inside top candidate true = keep_true (is_candidate_in q start (a + k)) ∙ candidate
+  chosen_of_span inside top candidate false =
+      let beside : ℕ → Bool = is_beside q start (a + k) in
+      let place : rank q start (a + k) ≡ count (suc k) test =
+      ap (λ x. count x beside) (let whole : suc (a + k) ≡ a + suc k = omega arith in whole) ∙ count-from a (suc k) beside before
+      ∙ count-same (suc k) (λ j. beside (a + j)) test (λ j l. there j (omega (arith, l, inside))) in
+      let all : size q start (a + k) ≡ count len test =
+      count_flat (a + len) calendar_end beside top (λ m l h. after m l) ∙ count-from a len beside before ∙ count-same len (λ j. beside (a + j)) test there in
+      rw (candidate, place, all) (rank_listed q.positions test k (count len test))
 
 module _ (q : EffectiveRule) (start : ℕ) (p : RecurrencePeriod) (own : IsPeriodOf q p) (step : is_stepped (period_in q start) q.interval p.number ≡ true) where
   candidate_here : (n : ℕ) → period_in q n ≡ p.number → is_candidate_in q start n ≡ holds p n

@@ -137,16 +137,16 @@ pub year_exact : (q : EffectiveRule) (e : ℕ) {n size : ℕ} → GoesByYears q 
 year_exact q e by day len = grind (arith, nat_tests, and_parts, goes, three_parts)
 
 -- what is asked of each candidate
-pub asked_more : (some f : ℕ → Bool) {from n : ℕ} (k : ℕ) {old t new : Bool} → IsLeastFrom some from n → t ≡ f n → old ≡ (some k && (nat_lt k from && f k))
-    → ((t ≡ true) × (new ≡ ((k == n) || old))) ⊎ ((t ≡ false) × (new ≡ old)) → new ≡ (some k && (nat_lt k (n + 1) && f k))
-asked_more some f k next test h e = grind (arith, nat_tests, three, cases_lt)
+module _ (some f : ℕ → Bool) where
+  pub asked_more : {from n : ℕ} (k : ℕ) {old t new : Bool} → IsLeastFrom some from n → t ≡ f n → old ≡ (some k && (nat_lt k from && f k))
+      → ((t ≡ true) × (new ≡ ((k == n) || old))) ⊎ ((t ≡ false) × (new ≡ old)) → new ≡ (some k && (nat_lt k (n + 1) && f k))
+  asked_more k next test h e = grind (arith, nat_tests, three, cases_lt)
 
-pub asked_none : (some f : ℕ → Bool) (k : ℕ) → false ≡ (some k && (nat_lt k 0 && f k))
-asked_none some f k = sym (and_right (some k) (nat_lt k 0 && f k) (ap (λ x. x && f k) (le-ltb k 0 (omega arith))))
+  pub asked_none : (k : ℕ) → false ≡ (some k && (nat_lt k 0 && f k))
+  asked_none k = sym (and_right (some k) (nat_lt k 0 && f k) (ap (λ x. x && f k) (le-ltb k 0 (omega arith))))
 
-pub asked_all : (some f : ℕ → Bool) (from k : ℕ) {b : Bool} → ((m : ℕ) → from ≤ m → some m ≡ false) → b ≡ (some k && (nat_lt k from && f k)) →
-    b ≡ (some k && f k)
-asked_all some f from k none e = grind (arith, nat_tests, cases_lt, lt-ltb)
+  pub asked_all : (from k : ℕ) {b : Bool} → ((m : ℕ) → from ≤ m → some m ≡ false) → b ≡ (some k && (nat_lt k from && f k)) → b ≡ (some k && f k)
+  asked_all from k none e = grind (arith, nat_tests, cases_lt, lt-ltb)
 
 -- candidates of which all that passes is one
 pub candidates : (some test inside : Bool) → (some ≡ true → inside ≡ true) → (inside ≡ true → test ≡ true → some ≡ true) → (some && test) ≡ (inside && test)

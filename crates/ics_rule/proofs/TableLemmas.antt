@@ -222,5 +222,8 @@ module _ (r : Recurrence) (allowed : IsAllowed r) where
       let j = left ByHour (left ByMinute (left BySecond i)) in
       steps (λ j. j.period == p && own_instance r.parts.frequency (start_of r) j)
       (BySecond ∷ ByMinute ∷ ByHour ∷ ByDay ∷ ByMonthDay ∷ ByYearDay ∷ ByWeekNo ∷ ByMonth ∷ []) i
-      ∙ in_order _ _ (owned r.parts.frequency (start_of r) (left ByMonth (left_by_days j)))
-      (months j, month_days j, record { same = (weekdays j).same ∙ ap (λ x. lets_week (effective r) (day_of n) && x) (sym (weekdays_let_in r n _ _ _ allowed.numbers)) }) (hours i, minutes i, seconds i)
+      ∙ in_order _ _ (owned r.parts.frequency (start_of r) (left ByMonth (left_by_days j))) (
+        months j,
+        month_days j,
+        record { same = (weekdays j).same ∙ ap (λ x. lets_week (effective r) (day_of n) && x) (sym (weekdays_let_in r n _ _ _ allowed.numbers)) },
+      ) (hours i, minutes i, seconds i)

@@ -92,10 +92,11 @@ no_month_taken : (f : Frequency) (r : Recurrence) → is_absent r ByDay ≡ fals
 no_month_taken f r h = grind (arith, and_right)
 
 -- BYDAY counts in its unit
-by_unit : (f : Frequency) (r : Recurrence) (q : EffectiveRule) (p : Ordinals) (n h m s : ℕ) → lists_none q.weeks ≡ is_absent r ByWeekNo
-    → is_empty q.months ≡ is_absent r ByMonth → (weekday_unit r f ≡ Weekly → lists_none p ≡ true)
-    → lets_numbered f q p (day_of n) ≡ lists_nth_in (weekday_unit r f) p (record (instance_of r.parts n) { hour = h; minute = m; second = s })
-by_unit f r q p n h m s weeks months none = grind arith
+module _ (f : Frequency) (r : Recurrence) (q : EffectiveRule) (weeks : lists_none q.weeks ≡ is_absent r ByWeekNo)
+    (months : is_empty q.months ≡ is_absent r ByMonth) where
+  by_unit : (p : Ordinals) (n h m s : ℕ) → (weekday_unit r f ≡ Weekly → lists_none p ≡ true)
+      → lets_numbered f q p (day_of n) ≡ lists_nth_in (weekday_unit r f) p (record (instance_of r.parts n) { hour = h; minute = m; second = s })
+  by_unit p n h m s none = grind arith
 
 module _ (r : Recurrence) (n : ℕ) where
   pub months_let_in : lets (effective r).months n ≡ applies r ByMonth (contains r.parts.months n) (n == (start_of r).month)
@@ -125,8 +126,8 @@ module _ (r : Recurrence) (n : ℕ) where
       only_this_weekday (takes_weekday f r.parts) r.parts.weekdays own w
       (λ p. lets_numbered f (effective r) p (day_of n)) (none_numbered f (effective r) no_ordinals (day_of n) refl)
       ∙ ap (λ x. if takes_weekday f r.parts then (w == own) else x)
-      (sooner b plain (λ some. by_unit f r (effective r) numbers n h m s refl
-      (ap (λ t. is_empty (if t then only (start_of r).month else r.parts.months)) (no_month_taken f r some)) (λ unit. none unit w)))
+      (sooner b plain (λ some. by_unit f r (effective r) refl
+      (ap (λ t. is_empty (if t then only (start_of r).month else r.parts.months)) (no_month_taken f r some)) numbers n h m s (λ unit. none unit w)))
     where
       sooner : (b plain : Bool) {x y : Bool} → (b ≡ false → x ≡ y) → (b || plain || x) ≡ (b || (plain || y))
       sooner b plain h = grind arith
