@@ -105,16 +105,11 @@ module _ (absent : Part → Bool) (f : Frequency) (own n : ℕ) where
       ≡ (if absent ByMonthDay then (if t then (n == own) else true) else test month n)
   days_given test own_month month out taken = grind (arith, nat_tests, out ByMonthDay, out ByYearDay, out ByWeekNo)
 
-  weekday_own : ((part : Part) → cell part f ≡ Nothing → absent part ≡ true)
-      → ((absent ByWeekNo || (left_by_year_day == own)) && own_if (gives_own f ByDay) own left_by_week)
-      ≡ own_if (absent ByDay && (gives_own f ByDay || (absent ByMonthDay && absent ByYearDay && not (absent ByWeekNo)))) own n
-  weekday_own out = grind (arith, nat_tests, out ByMonthDay, out ByYearDay, out ByWeekNo)
-
   weekdays_given : (day week : Bool) {t : Bool} → ((part : Part) → cell part f ≡ Nothing → absent part ≡ true)
       → t ≡ (absent ByDay && (gives_own f ByDay || (absent ByMonthDay && absent ByYearDay && not (absent ByWeekNo))))
       → ((absent ByDay || day) && ((absent ByWeekNo || ((left_by_year_day == own) && week)) && own_if (gives_own f ByDay) own left_by_week))
       ≡ ((absent ByWeekNo || week) && (if t then (n == own) else (absent ByDay || day)))
-  weekdays_given day week out taken = grind (arith, weekday_own out, taken)
+  weekdays_given day week out taken = grind (arith, nat_tests, out ByMonthDay, out ByYearDay, out ByWeekNo)
 
 extracted : (f : Frequency) (r : Recurrence) → (is_extracted r f ByMonth ≡ (gives_own f ByMonth && is_dayless r))
     × (is_extracted r f ByMonthDay ≡ (gives_own f ByMonthDay && is_dayless r))
