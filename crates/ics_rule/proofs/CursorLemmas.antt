@@ -31,9 +31,9 @@ module _ (q : EffectiveRule) (start a b : ℕ) where
       let some = count_some b n (λ m. nat_le a m && period_in q m == p) u (grind (arith, nat_tests)) in grind (arith, nat_tests)
 
   -- so is one from that of a place to that of a bound
-  pub meets : {place stop : ℕ} → a ≤ place → place < stop → stop ≤ b → (p : ℕ)
+  pub meets : {place stop p : ℕ} → a ≤ place → place < stop → stop ≤ b
       → is_stepped (period_in q start) q.interval p ≡ true → period_in q place ≤ p → p ≤ period_in q (stop - 1) → is_met q start a b p ≡ true
-  meets {place = place} {stop = stop} from some to p step low high = elim (cases_lt (period_in q place) p) [
+  meets {place = place} {stop = stop} {p = p} from some to step low high = elim (cases_lt (period_in q place) p) [
     | inl later ↦
         let none : period_in q 0 ≤ p = (let m = period_mono q.frequency (monday_zero q.week_start) 0 place (omega arith) in omega (arith, m)) in
         let end = begun q.frequency (monday_zero q.week_start) p (stop - 1) high in
@@ -246,7 +246,7 @@ module _ {q : EffectiveRule} {start : ℕ} {o : Option ℕ} {stop number : ℕ} 
       (same : p.number ≡ number) (counted : CountedBy q start o after) (top : number ≤ period_in q (stop - 1)) where
     moved : HasMoved q start o stop before after
     moved = moved_on walk.moved at (λ a b s few. meets q start a b {place = looks_from o start before.place} {stop = stop}
-        few.low (omega (arith, walk.late, walk.early)) s number walk.step walk.low top)
+        few.low (omega (arith, walk.late, walk.early)) s walk.step walk.low top)
 
     top_stop : number ≤ period_in q stop
     top_stop = let m = period_mono q.frequency (monday_zero q.week_start) (stop - 1) stop (omega arith) in omega (arith, m, top)

@@ -63,7 +63,7 @@ passed_on {q = q} {start = start} {c = c} {target = target} {total = total} {bef
     let fresh_target = subst (λ o. fresh o ≤ target) (sym to.turned.held) (omega (arith, to.turned.number, is.later)) in
     let moved = moved_on to.walked.moved (looks_once total after p fresh_target refl same) (λ a b l few.
     meets q start a b {place = start} {stop = before.place + 1}
-    few.low (omega (arith, late)) l target is.step (stepped_parts (period_in q start) q.interval target is.step).0
+    few.low (omega (arith, late)) l is.step (stepped_parts (period_in q start) q.interval target is.step).0
     (top_of q before.place target is.top)) in
     let place = ap (period_in q) to.walked.moved.place in
     subst (IsPassedTo q start c before) (sym e) (record {
@@ -100,24 +100,24 @@ first_step {q = q} {start = start} {begin = begin} is from =
     is.step (period_in q start) begin (stepped_parts (period_in q start) q.interval begin from.step).0 ∙ from.step
 
 pub rounds_end : {q : EffectiveRule} {start begin round rounds before one place : ℕ} → IsEvenRound q start round → IsRoundsBegin q start begin before →
-    2 ≤ begin → 2 ≤ rounds → begin + rounds * round ≤ period_in q place → place < rules_end
+    (2 ≤ begin) × (2 ≤ rounds) → begin + rounds * round ≤ period_in q place → place < rules_end
     → one ≡ count (first_local q.frequency (monday_zero q.week_start) (begin + round)) (is_chosen q start)
     → (before ≤ one) × IsCountedStep q start (begin + round) (begin + rounds * round) place (before + rounds * (one - before))
-rounds_end {q = q} {start = start} {begin = begin} {round = round} {rounds = rounds} {before = before} {one = one} {place = place} even from low some top
+rounds_end {q = q} {start = start} {begin = begin} {round = round} {rounds = rounds} {before = before} {one = one} {place = place} even from some top
     early e =
     let first = (stepped_parts (period_in q start) q.interval begin from.step).0 in
     let reach = begun q.frequency (monday_zero q.week_start) (begin + rounds * round) place top in
     let counts = even.total begin rounds before one record {
-      low = low;
+      low = some.0;
       step = from.step;
-      some = omega (arith, some);
+      some = omega (arith, some.1);
       early = omega (arith, reach, early);
       before_first = from.total;
       before_second = e;
     } in (
       counts.0,
       record {
-        later = (let up = mul-le-mul_right {m = 2} {n = rounds} round some in omega (arith, up, even.some));
+        later = (let up = mul-le-mul_right {m = 2} {n = rounds} round some.1 in omega (arith, up, even.some));
         step = repeats_often (is_stepped (period_in q start) q.interval) {low = period_in q start} round (even.step (period_in q start)) rounds begin first
             ∙ from.step;
         top = top;

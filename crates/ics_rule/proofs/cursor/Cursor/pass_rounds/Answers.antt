@@ -24,7 +24,7 @@ ends : (c : Else-not-turn_through) → (c.counted_from-begin.result.1 ≤ c.turn
 ends c =
     let turned = (c.turn_through.ensures.counted c.if-not-turn_through.false).turned in
     rounds_end (c.in-Some.ensures c.args.start) (counts_from c.requires.interval c.requires.own c.requires.first c.counted_from-begin.ensures)
-    c.if-begin-lt2.false c.if-rounds-lt2.false (grind (arith, div-add-mod')) c.requires.place (rw turned.number at turned.counted.total)
+    (c.if-begin-lt2.false, c.if-rounds-lt2.false) (grind (arith, div-add-mod')) c.requires.place (rw turned.number at turned.counted.total)
 
 pub overflow_sub-total : goal.overflow_sub-total
 overflow_sub-total c = (ends c).0
