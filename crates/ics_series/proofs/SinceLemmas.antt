@@ -118,11 +118,12 @@ module _ (zones : FileZones) (w : Window) (event : Event) where
 abbrev pub IsRuled : Clocks → Event → Window → ℤ → List Start → Option RuleStarts → Type 0
 IsRuled clocks event w since listed o = MatchOption o (event.rule ≡ None) (λ s. IsRuleFrom clocks event w since listed (starts_left s))
 
-pub ruled-as : (clocks : Clocks) (event : Event) (w : Window) {t since : ℤ} {given listed : List Start} (o : Option RuleStarts) → t ≡ since
-    → given ≡ listed → IsRuled clocks event w t given o → IsRuled clocks event w since listed o
-ruled-as clocks event w {t = t} {listed = listed} o e f h = subst (λ x. IsRuled clocks event w x listed o) e (subst (λ xs. IsRuled clocks event w t xs o) f h)
-
 module _ (zones : FileZones) (w : Window) (event : Event) (sound : IsEvent event) (since : ℤ) where
+  pub ruled-as : {t : ℤ} {given listed : List Start} (o : Option RuleStarts) → t ≡ since → given ≡ listed → IsRuled (clocks_in zones) event w t given o
+      → IsRuled (clocks_in zones) event w since listed o
+  ruled-as {t = t} {listed = listed} o e f h =
+      subst (λ x. IsRuled (clocks_in zones) event w x listed o) e (subst (λ xs. IsRuled (clocks_in zones) event w t xs o) f h)
+
   abbrev by_rdates : List Start
   by_rdates = listed_from (clocks_in zones) w event.start 0 event.rdates
 

@@ -31,7 +31,7 @@ invariant_of-result c =
     let since : to_z w64 (of_z w64 c.args.since) ≡ c.args.since = omega (arith, ints) in
     let sound = c.requires.own.is_event in
     let firsts = rw c.in_ok-listed.ensures at c.in_ok-new.ensures in
-    let ruled = ruled-as clocks event w c.starts_by_rule-rule_starts.result since
+    let ruled = ruled-as c.args.zones w event sound c.args.since c.starts_by_rule-rule_starts.result since
     (c.deref.ensures.value ∙ c.in_ok-listed.ensures) c.starts_by_rule-rule_starts.ensures.from in
     let listing = series-listing clocks w event c.args.since c.args.overridden.items (left c.starts_by_rule-rule_starts.result c.in_ok-new.field-0)
     (starts-since c.args.zones w event sound c.args.since c.starts_by_rule-rule_starts.result (listed_left c.in_ok-new.field-0) firsts ruled) in
@@ -57,7 +57,7 @@ returns c =
     let since : to_z w64 (of_z w64 c.args.since) ≡ c.args.since = omega (arith, ints) in
     let sound = c.requires.own.is_event in
     let firsts = rw c.in_ok-listed.ensures at c.in_ok-new.ensures in
-    let ruled = ruled-as clocks event w c.starts_by_rule-rule_starts.result since
+    let ruled = ruled-as c.args.zones w event sound c.args.since c.starts_by_rule-rule_starts.result since
     (c.deref.ensures.value ∙ c.in_ok-listed.ensures) c.starts_by_rule-rule_starts.ensures.from in
     let starts = starts-since c.args.zones w event sound c.args.since c.starts_by_rule-rule_starts.result (listed_left c.in_ok-new.field-0) firsts ruled in
     record {
