@@ -190,19 +190,18 @@ module _ (zones : FileZones) (event : Event) where
           by Equal = refl
           by _ = come-first s held place r (settled (s ∷ held) b)
 
-    -- each start still to come begins no more than three days before the day that is not asked for yet
-    pub near-left : (day : ℤ) (held : List Start) (place : ℕ) {asked : ℤ} → IsDayNumber day → asked ≤ℤ (day +ℤ pos 1) → midnight_number day ≤ place
-        → AreHeld (clocks_in zones) event rule w asked held
-        → (s : Start) → IsIn s (to_come (clocks_in zones) event rule w held place) → (midnight asked -ℤ whole_days 3) ≤ℤ s.moment
-    unfolding to_come
-    near-left day held place d soon read are s m =
-        ⊎_elim (λ n. (are s n).late)
-        (λ n.
-        let f = found-is place s n.1 in
-        let late = late-numbered day f.by d (omega (arith, read, f.from_place)) in
-        let is = ap (λ (x : Start). x.moment) f.is in
-        omega (arith, ints, late, is, soon))
-        (union-in moment_cmp moment_total s held (found (clocks_in zones) event rule w place) (rises-found (clocks_in zones) event rule w place) m)
+      -- each start still to come begins no more than three days before the day that is not asked for yet
+      pub near-left : (held : List Start) {asked : ℤ} → asked ≤ℤ (day +ℤ pos 1) → AreHeld (clocks_in zones) event rule w asked held
+          → (s : Start) → IsIn s (to_come (clocks_in zones) event rule w held place) → (midnight asked -ℤ whole_days 3) ≤ℤ s.moment
+      unfolding to_come
+      near-left held soon are s m =
+          ⊎_elim (λ n. (are s n).late)
+          (λ n.
+          let f = found-is place s n.1 in
+          let late = late-numbered day f.by d (omega (arith, read, f.from_place)) in
+          let is = ap (λ (x : Start). x.moment) f.is in
+          omega (arith, ints, late, is, soon))
+          (union-in moment_cmp moment_total s held (found (clocks_in zones) event rule w place) (rises-found (clocks_in zones) event rule w place) m)
 
 -- The first of a list goes where a start is at its instant, and else nothing does.
 pub cut-first : (t : Start) {held : List Start} {d : Start} → IsFirst d held → t.moment ≡ d.moment → drop 1 held ≡ cut moment_cmp t held

@@ -64,7 +64,7 @@ module _ (s : RuleStarts) where
   asked-number = number-day s.asked (omega (arith, ints, s.low, s.asked_on), omega (arith, ints, s.asked_end, end-days.1))
 
   pub left-near : (t : Start) → IsIn t (starts_left s) → (midnight s.asked -ℤ whole_days 3) ≤ℤ t.moment
-  left-near = near-left s.zones s.event.now s.rule s.window s.day s.held.items (place_of s.cursor) day-days s.asked_soon s.read s.are
+  left-near = near-left s.zones s.event.now s.rule s.window s.day s.end (place_of s.cursor) day-days end-days s.after s.read s.held.items s.asked_soon s.are
 
 -- What is known of the starts once a day more is read, up to and with a local.
 pub record IsRead (s : RuleStarts) (day asked : ℤ) (place known : ℕ) (held : List Start) : Type 0 where
