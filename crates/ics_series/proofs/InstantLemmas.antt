@@ -133,22 +133,22 @@ module _ (zones : FileZones) where
   zoned-near false x y a b within = omega (arith, ints, within.short, zone-moment own x a, zone-moment own y b)
 
   -- by the kinds, zones and reach of a start and its end
-  stamps-near : (i j : Option ℕ) (s e : Stamp) → is_some i ≡ is_zoned s → is_some j ≡ is_zoned e → IsEnd s e
-      → ((is_some i || is_some j) ≡ true → IsWithin (compared (is_one_zone i j) own (time_by i s)) (compared (is_one_zone i j) own (time_by j e)))
+  stamps-near : (i j : Option ℕ) (s e : Stamp) → (is_some i ≡ is_zoned s) × (is_some j ≡ is_zoned e) → IsEnd s e
+      × ((is_some i || is_some j) ≡ true → IsWithin (compared (is_one_zone i j) own (time_by i s)) (compared (is_one_zone i j) own (time_by j e)))
       → moment_of-stamp j e ≤ℤ (moment_of-stamp i s +ℤ whole_days 36_529)
-  stamps-near None (Some y) (Utc a) (Zoned b) p q end within = let short = (within refl).short in omega (arith, ints, short, zone-moment own y b)
-  stamps-near (Some x) None (Zoned a) (Utc b) p q end within = let short = (within refl).short in omega (arith, ints, short, zone-moment own x a)
-  stamps-near (Some x) (Some y) (Zoned a) (Zoned b) p q end within = zoned-near (x == y) x y a b (within refl)
-  stamps-near i j (Date a) (Date b) p q end within = written-near i j (Date a) (Date b) end
-  stamps-near i j (Floating a) (Floating b) p q end within = written-near i j (Floating a) (Floating b) end
-  stamps-near i j (Utc a) (Utc b) p q end within = written-near i j (Utc a) (Utc b) end
-  stamps-near i j (Utc a) (Zoned b) p q end within = absurd cc
-  stamps-near i j (Zoned a) (Utc b) p q end within = absurd cc
-  stamps-near i j (Zoned a) (Zoned b) p q end within = absurd cc
-  stamps-near i j _ _ p q end within = absurd end
+  stamps-near None (Some y) (Utc a) (Zoned b) kinds reach = let short = (reach.1 refl).short in omega (arith, ints, short, zone-moment own y b)
+  stamps-near (Some x) None (Zoned a) (Utc b) kinds reach = let short = (reach.1 refl).short in omega (arith, ints, short, zone-moment own x a)
+  stamps-near (Some x) (Some y) (Zoned a) (Zoned b) kinds reach = zoned-near (x == y) x y a b (reach.1 refl)
+  stamps-near i j (Date a) (Date b) kinds reach = written-near i j (Date a) (Date b) reach.0
+  stamps-near i j (Floating a) (Floating b) kinds reach = written-near i j (Floating a) (Floating b) reach.0
+  stamps-near i j (Utc a) (Utc b) kinds reach = written-near i j (Utc a) (Utc b) reach.0
+  stamps-near i j (Utc a) (Zoned b) kinds reach = let p = kinds.0 in let q = kinds.1 in absurd cc
+  stamps-near i j (Zoned a) (Utc b) kinds reach = let p = kinds.0 in let q = kinds.1 in absurd cc
+  stamps-near i j (Zoned a) (Zoned b) kinds reach = let p = kinds.0 in let q = kinds.1 in absurd cc
+  stamps-near i j _ _ kinds reach = absurd reach.0
 
   pub ends-near : (first : Time) (length : Length) → IsTime first → IsLength first.stamp length → EndsWithin own first length →
       EndsNear (clocks_in zones) first length
   ends-near first Open t l h = tt
   ends-near first (Lasting duration) t l h = tt
-  ends-near first (Until end) t l h = stamps-near first.zone end.zone first.stamp end.stamp t.zone l.0.zone l.1 h
+  ends-near first (Until end) t l h = stamps-near first.zone end.zone first.stamp end.stamp (t.zone, l.0.zone) (l.1, h)
