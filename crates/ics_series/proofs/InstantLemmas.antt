@@ -132,23 +132,27 @@ module _ (zones : FileZones) where
   zoned-near true x y a b within = written-near (Some x) (Some y) (Zoned a) (Zoned b) within
   zoned-near false x y a b within = omega (arith, ints, within.short, zone-moment own x a, zone-moment own y b)
 
+  -- what is known of the zones and the reach of a start and its end
+  record AreEnds (i j : Option ℕ) (s e : Stamp) : Type 0 where
+    zoned : (is_some i ≡ is_zoned s) × (is_some j ≡ is_zoned e)
+    end : IsEnd s e
+    within : (is_some i || is_some j) ≡ true → IsWithin (compared (is_one_zone i j) own (time_by i s)) (compared (is_one_zone i j) own (time_by j e))
+
   -- by the kinds, zones and reach of a start and its end
-  stamps-near : (i j : Option ℕ) (s e : Stamp) → (is_some i ≡ is_zoned s) × (is_some j ≡ is_zoned e) → IsEnd s e
-      × ((is_some i || is_some j) ≡ true → IsWithin (compared (is_one_zone i j) own (time_by i s)) (compared (is_one_zone i j) own (time_by j e)))
-      → moment_of-stamp j e ≤ℤ (moment_of-stamp i s +ℤ whole_days 36_529)
-  stamps-near None (Some y) (Utc a) (Zoned b) kinds reach = let short = (reach.1 refl).short in omega (arith, ints, short, zone-moment own y b)
-  stamps-near (Some x) None (Zoned a) (Utc b) kinds reach = let short = (reach.1 refl).short in omega (arith, ints, short, zone-moment own x a)
-  stamps-near (Some x) (Some y) (Zoned a) (Zoned b) kinds reach = zoned-near (x == y) x y a b (reach.1 refl)
-  stamps-near i j (Date a) (Date b) kinds reach = written-near i j (Date a) (Date b) reach.0
-  stamps-near i j (Floating a) (Floating b) kinds reach = written-near i j (Floating a) (Floating b) reach.0
-  stamps-near i j (Utc a) (Utc b) kinds reach = written-near i j (Utc a) (Utc b) reach.0
-  stamps-near i j (Utc a) (Zoned b) kinds reach = let p = kinds.0 in let q = kinds.1 in absurd cc
-  stamps-near i j (Zoned a) (Utc b) kinds reach = let p = kinds.0 in let q = kinds.1 in absurd cc
-  stamps-near i j (Zoned a) (Zoned b) kinds reach = let p = kinds.0 in let q = kinds.1 in absurd cc
-  stamps-near i j _ _ kinds reach = absurd reach.0
+  stamps-near : (i j : Option ℕ) (s e : Stamp) → AreEnds i j s e → moment_of-stamp j e ≤ℤ (moment_of-stamp i s +ℤ whole_days 36_529)
+  stamps-near None (Some y) (Utc a) (Zoned b) are = let short = (are.within refl).short in omega (arith, ints, short, zone-moment own y b)
+  stamps-near (Some x) None (Zoned a) (Utc b) are = let short = (are.within refl).short in omega (arith, ints, short, zone-moment own x a)
+  stamps-near (Some x) (Some y) (Zoned a) (Zoned b) are = zoned-near (x == y) x y a b (are.within refl)
+  stamps-near i j (Date a) (Date b) are = written-near i j (Date a) (Date b) are.end
+  stamps-near i j (Floating a) (Floating b) are = written-near i j (Floating a) (Floating b) are.end
+  stamps-near i j (Utc a) (Utc b) are = written-near i j (Utc a) (Utc b) are.end
+  stamps-near i j (Utc a) (Zoned b) are = let p = are.zoned.0 in let q = are.zoned.1 in absurd cc
+  stamps-near i j (Zoned a) (Utc b) are = let p = are.zoned.0 in let q = are.zoned.1 in absurd cc
+  stamps-near i j (Zoned a) (Zoned b) are = let p = are.zoned.0 in let q = are.zoned.1 in absurd cc
+  stamps-near i j _ _ are = absurd are.end
 
   pub ends-near : (first : Time) (length : Length) → IsTime first → IsLength first.stamp length → EndsWithin own first length →
       EndsNear (clocks_in zones) first length
   ends-near first Open t l h = tt
   ends-near first (Lasting duration) t l h = tt
-  ends-near first (Until end) t l h = stamps-near first.zone end.zone first.stamp end.stamp (t.zone, l.0.zone) (l.1, h)
+  ends-near first (Until end) t l h = stamps-near first.zone end.zone first.stamp end.stamp (record { zoned = (t.zone, l.0.zone); end = l.1; within = h })
