@@ -46,7 +46,7 @@ use Rattle.ics_components.proofs.NameLemmas.{equal}
 use Rattle.ics_components.proofs.Order.{ended_as, ended_from, end-name}
 use Rattle.ics_components.proofs.PassLemmas.{AreTogether, checks_from, checks_on, later_by, gathered_from, pass-whole, together-whole}
 use Rattle.ics_components.proofs.Sound.{dated-said, one-ended, zones-sound, events-whole}
-use Rattle.ics_components.proofs.Table.{Readings, builder_at, frame_at, frame_of, readings}
+use Rattle.ics_components.proofs.Table.{builder_at, frame_at, frame_of, readings}
 use Rattle.ics_text.specs.Unfolded.{Line, Rises}
 use Rattle.ics_components.specs.FirstFault.{Fault, first_fault, fault_at_end}
 use Rattle.ics_components.specs.GatheredSeen.{GatheredSeen}
@@ -83,13 +83,6 @@ module _ (P : DeferredCheck → Type 0) where
   abbrev pub IsSeen : Placed → Type 0
   IsSeen l = is_event_context (context_of l.path) ≡ true → Leaves (calendar_of l.path) l
 
-  check-there : (c : Component) (q : Context) (g : Readings) (n : Name) (v : Parts) → is_event_context q ≡ true → IfSome (check_in n v (frame_at c q g)) P →
-      IfSome (event_check g.calendar n v) P
-  check-there c context.Event g name.Begin v e h = tt
-  check-there c context.Event g name.End v e h = tt
-  check-there c context.Event g _ v e h = h
-  check-there c _ g n v e h = cc
-
   first-check : (number : ℕ) (o : Option DeferredCheck) (rest : List LineCheck) → All (λ w. P w.check) (checks_of number o ++ rest) →
       IfSome o P × All (λ w. P w.check) rest
   first-check number None rest h = (tt, h)
@@ -99,9 +92,16 @@ module _ (P : DeferredCheck → Type 0) where
   line-seen : (whole own : List Placed) (l : Placed) → IfSome (later_by l.content (frame_of whole l.path own)) P → IsSeen l
   line-seen whole own l h e = by_content l.content h
     where
+      by_context : (c : Component) (q : Context) (n : Name) (v : Parts) → is_event_context q ≡ true →
+          IfSome (check_in n v (frame_at c q (readings whole l.path own))) P → IfSome (event_check (calendar_of l.path) n v) P
+      by_context c context.Event name.Begin v e h = tt
+      by_context c context.Event name.End v e h = tt
+      by_context c context.Event _ v e h = h
+      by_context c _ n v e h = cc
+
       by_content : (o : Option Parts) → IfSome (later_by o (frame_of whole l.path own)) P → IfSome (content_check (calendar_of l.path) o) P
       by_content None h = tt
-      by_content (Some v) h = check-there _ (context_of l.path) (readings whole l.path own) (name_of (map upper v.name)) v e h
+      by_content (Some v) h = by_context _ (context_of l.path) (name_of (map upper v.name)) v e h
 
   -- and thus of what the lines of a name leave
   abbrev Gives : ℕ → List ℕ → Placed → Type 0
@@ -121,41 +121,43 @@ module _ (P : DeferredCheck → Type 0) where
   first-seen k [] h = tt
   first-seen k (l ∷ ls) h = All-head (λ l. IfSome (used_zone k (dated_on l)) P) l ls h
 
-  -- the length of an event is checked on its END
-  end-seen : (whole own : List Placed) (path : List Open) (o : Option Parts) → bytes_eq (property_name o) (codes "END") ≡ true →
-      is_event_context (context_of path) ≡ true → IfSome (later_by o (frame_of whole path own)) P →
-      IfSome (ends_in (calendar_of path) (first_dated (codes "DTSTART") own) (first_dated (codes "DTEND") own)) P
-  end-seen whole own path None e q h = cc
-  end-seen whole own path (Some v) e q h =
-      by_context (context_of path) q (subst (λ n. IfSome (check_in n v (frame_of whole path own)) P) (end-name (map upper v.name) e) h)
-    where
-      by_context : (q : Context) → is_event_context q ≡ true → IfSome (end_check (calendar_of path) (builder_at q (readings whole path own))) P →
-          IfSome (ends_in (calendar_of path) (first_dated (codes "DTSTART") own) (first_dated (codes "DTEND") own)) P
-      by_context context.Event e h = h
-      by_context _ e h = cc
+  module _ (whole own : List Placed) where
+    -- the length of an event is checked on its END
+    end-seen : (path : List Open) (o : Option Parts) → bytes_eq (property_name o) (codes "END") ≡ true →
+        is_event_context (context_of path) ≡ true → IfSome (later_by o (frame_of whole path own)) P →
+        IfSome (ends_in (calendar_of path) (first_dated (codes "DTSTART") own) (first_dated (codes "DTEND") own)) P
+    end-seen path None e q h = cc
+    end-seen path (Some v) e q h =
+        by_context (context_of path) q (subst (λ n. IfSome (check_in n v (frame_of whole path own)) P) (end-name (map upper v.name) e) h)
+      where
+        by_context : (q : Context) → is_event_context q ≡ true → IfSome (end_check (calendar_of path) (builder_at q (readings whole path own))) P →
+            IfSome (ends_in (calendar_of path) (first_dated (codes "DTSTART") own) (first_dated (codes "DTEND") own)) P
+        by_context context.Event e h = h
+        by_context _ e h = cc
 
-  event-awaited : (whole own : List Placed) (l : Placed) → ends_event l ≡ true → All IsSeen own → Together l.path own →
-      IfSome (later_by l.content (frame_of whole l.path own)) P → EachZone P (event_ended (calendar_of l.path) (collected_of own))
-  event-awaited whole own l t s h c =
-      let k : ℕ = calendar_of l.path in
-      let closing = and_parts (is_closing l) _ t in
-      let inside : is_event_context (context_of l.path) ≡ true = closing.1 in
-      let places : All (λ (m : Placed). m.path ≡ l.path) own = together-in is_event_context l.path own refl inside h in
-      let leave : All (Leaves k) own =
-      λ i d lt. subst (λ (p : List Open). is_event_context (context_of p) ≡ true → Leaves (calendar_of p) (get_or own i d)) (places i d lt) (s i d lt) inside in
-      let end : IfSome (used_in k (first_dated (codes "DTEND") own)) P = first-seen k _ (named-seen k (codes "DTEND") refl own leave) in
-      record {
-        start = start-looked k (first_dated (codes "DTSTART") own) (first-seen k _ (named-seen k (codes "DTSTART") refl own leave));
-        end = end-looked k (first_dated (codes "DTEND") own) (collected_of own).duration end;
-        rdates =
-            All-map (λ list. IfSome (listed_zone k list) P) rdates_on (all_named (codes "RDATE") own) (named-seen k (codes "RDATE") refl own leave);
-        exdates =
-            All-map (λ list. IfSome (listed_zone k list) P) exdates_on (all_named (codes "EXDATE") own) (named-seen k (codes "EXDATE") refl own leave);
-        recurrence = first-seen k _ (named-seen k (codes "RECURRENCE-ID") refl own leave);
-        length =
-            length-looked k (first_dated (codes "DTSTART") own) (first_dated (codes "DTEND") own) (collected_of own).duration
-            (end-seen whole own l.path l.content (and_parts (is_end l) _ closing.0).0 inside c);
-      }
+    event-awaited : (l : Placed) → ends_event l ≡ true → All IsSeen own → Together l.path own →
+        IfSome (later_by l.content (frame_of whole l.path own)) P → EachZone P (event_ended (calendar_of l.path) (collected_of own))
+    event-awaited l t s h c =
+        let k : ℕ = calendar_of l.path in
+        let closing = and_parts (is_closing l) _ t in
+        let inside : is_event_context (context_of l.path) ≡ true = closing.1 in
+        let places : All (λ (m : Placed). m.path ≡ l.path) own = together-in is_event_context l.path own refl inside h in
+        let leave : All (Leaves k) own =
+        λ i d lt.
+        subst (λ (p : List Open). is_event_context (context_of p) ≡ true → Leaves (calendar_of p) (get_or own i d)) (places i d lt) (s i d lt) inside in
+        let end : IfSome (used_in k (first_dated (codes "DTEND") own)) P = first-seen k _ (named-seen k (codes "DTEND") refl own leave) in
+        record {
+          start = start-looked k (first_dated (codes "DTSTART") own) (first-seen k _ (named-seen k (codes "DTSTART") refl own leave));
+          end = end-looked k (first_dated (codes "DTEND") own) (collected_of own).duration end;
+          rdates =
+              All-map (λ list. IfSome (listed_zone k list) P) rdates_on (all_named (codes "RDATE") own) (named-seen k (codes "RDATE") refl own leave);
+          exdates =
+              All-map (λ list. IfSome (listed_zone k list) P) exdates_on (all_named (codes "EXDATE") own) (named-seen k (codes "EXDATE") refl own leave);
+          recurrence = first-seen k _ (named-seen k (codes "RECURRENCE-ID") refl own leave);
+          length =
+              length-looked k (first_dated (codes "DTSTART") own) (first_dated (codes "DTEND") own) (collected_of own).duration
+              (end-seen l.path l.content (and_parts (is_end l) _ closing.0).0 inside c);
+        }
 
   pub events-awaited : (whole before lines : List Placed) → All IsSeen before → All (λ w. P w.check) (checks_from whole before lines) →
       AreTogether before lines → All (EachZone P) (ended_from events before lines)
@@ -196,21 +198,6 @@ zone-sound : (used : Bool) (name : ZoneName) → IfSome (cond used (Some (check.
 zone-sound true name = tt
 zone-sound false name = tt
 
-check-sound : (c : Component) (q : Context) (whole : List Placed) (path : List Open) (own : List Placed) (n : Name) (v : Parts) →
-    IfSome (check_in n v (frame_at c q (readings whole path own))) IsSoundCheck
-check-sound c context.Event whole path own name.Begin v = tt
-check-sound c context.Event whole path own name.End v =
-    ends-sound (calendar_of path) (first_dated (codes "DTSTART") own) (first_dated (codes "DTEND") own) (dated-said (codes "DTSTART") own)
-    (dated-said (codes "DTEND") own)
-check-sound c context.Event whole path own name.Dtstart v = zone-sound _ _
-check-sound c context.Event whole path own name.Dtend v = zone-sound _ _
-check-sound c context.Event whole path own name.RecurrenceId v = zone-sound _ _
-check-sound c context.Event whole path own name.Rdate v = zone-sound _ _
-check-sound c context.Event whole path own name.Exdate v = zone-sound _ _
-check-sound c context.Event whole path own _ v = tt
-check-sound c _ whole path own name.Begin v = tt
-check-sound c _ whole path own _ v = tt
-
 abbrev pub IsSoundLine : LineCheck → Type 0
 IsSoundLine late = IsSoundCheck late.check
 
@@ -224,11 +211,28 @@ checks-sound whole before (l ∷ ls) =
     All-append IsSoundLine (checks_on whole (beside before l) l) (checks_from whole (before ++ l ∷ []) ls) (by_content l.content)
     (checks-sound whole (before ++ l ∷ []) ls)
   where
-    by_content : (o : Option Parts) → All IsSoundLine (checks_of l.number (later_by o (frame_of whole l.path (beside before l))))
+    own : List Placed
+    own = beside before l
+
+    by_context : (c : Component) (q : Context) (n : Name) (v : Parts) → IfSome (check_in n v (frame_at c q (readings whole l.path own))) IsSoundCheck
+    by_context c context.Event name.Begin v = tt
+    by_context c context.Event name.End v =
+        ends-sound (calendar_of l.path) (first_dated (codes "DTSTART") own) (first_dated (codes "DTEND") own) (dated-said (codes "DTSTART") own)
+        (dated-said (codes "DTEND") own)
+    by_context c context.Event name.Dtstart v = zone-sound _ _
+    by_context c context.Event name.Dtend v = zone-sound _ _
+    by_context c context.Event name.RecurrenceId v = zone-sound _ _
+    by_context c context.Event name.Rdate v = zone-sound _ _
+    by_context c context.Event name.Exdate v = zone-sound _ _
+    by_context c context.Event _ v = tt
+    by_context c _ name.Begin v = tt
+    by_context c _ _ v = tt
+
+    by_content : (o : Option Parts) → All IsSoundLine (checks_of l.number (later_by o (frame_of whole l.path own)))
     by_content None = All-nil IsSoundLine
     by_content (Some v) =
-        one-sound l.number (check_in (name_of (map upper v.name)) v (frame_of whole l.path (beside before l)))
-        (check-sound _ (context_of l.path) whole l.path (beside before l) (name_of (map upper v.name)) v)
+        one-sound l.number (check_in (name_of (map upper v.name)) v (frame_of whole l.path own))
+        (by_context _ (context_of l.path) (name_of (map upper v.name)) v)
 
 -- What is gathered is sound, where the first round finds nothing.
 pub sound-pass : (lines : List Line) (g : GatheredSeen) → Rises 0 lines → pass (bottom ∷ []) None nothing_gathered lines ≡ Ok g → IsSoundGathered g

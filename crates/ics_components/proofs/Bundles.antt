@@ -125,6 +125,22 @@ opens-behind l bundles at = by_kind (is_begin l) (is_end l)
     by_kind false true = opens-closed bundles ∙ ap (drop 1) at
     by_kind false false = opens-added l bundles ∙ at
 
+-- a line is added to the innermost bundle
+joined : (before : List Placed) (l : Placed) (bundles : List Bundle) → opens bundles ≡ l.path → Keeps before (l ∷ []) bundles →
+    Keeps before [] (add_line l bundles)
+joined before l [] e k = tt
+joined before l (f ∷ fs) e k =
+    let kept : IsKept f fs = k.1 in (
+      k.0 ∙ sym (append-nil (f.lines ++ l ∷ [])),
+      record {
+        less = kept.less;
+        stands = kept.stands;
+        begins = kept.begins;
+        places = All-push (λ l. l.path ≡ opens (f ∷ fs)) f.lines l kept.places (sym e);
+      },
+      k.2,
+    )
+
 module _ (before : List Placed) (l : Placed) where
   -- a line deeper in leaves the bundles below alone
   below : (up : List Placed) (bundles : List Bundle) → innermost (opens bundles) < innermost l.path → Keeps before up bundles →
@@ -144,45 +160,28 @@ module _ (before : List Placed) (l : Placed) where
         below (f.begin ∷ []) fs (omega (arith, at, k.1.less)) k.2,
       )
 
--- it is added
-joined : (before : List Placed) (l : Placed) (bundles : List Bundle) → opens bundles ≡ l.path → Keeps before (l ∷ []) bundles →
-    Keeps before [] (add_line l bundles)
-joined before l [] e k = tt
-joined before l (f ∷ fs) e k =
-    let kept : IsKept f fs = k.1 in (
-      k.0 ∙ sym (append-nil (f.lines ++ l ∷ [])),
-      record {
-        less = kept.less;
-        stands = kept.stands;
-        begins = kept.begins;
-        places = All-push (λ l. l.path ≡ opens (f ∷ fs)) f.lines l kept.places (sym e);
-      },
-      k.2,
-    )
+  closed : (bundles : List Bundle) → opens bundles ≡ l.path → Keeps before [] bundles → Keeps (before ++ l ∷ []) [] (close bundles)
+  closed [] e k = tt
+  closed (f ∷ fs) e k =
+      let at : innermost l.path ≡ f.begin.number = ap innermost (sym e) in
+      joined (before ++ l ∷ []) f.begin fs (sym k.1.stands) (below (f.begin ∷ []) fs (omega (arith, at, k.1.less)) k.2)
 
-closed : (before : List Placed) (l : Placed) (bundles : List Bundle) → opens bundles ≡ l.path → Keeps before [] bundles →
-    Keeps (before ++ l ∷ []) [] (close bundles)
-closed before l [] e k = tt
-closed before l (f ∷ fs) e k =
-    let at : innermost l.path ≡ f.begin.number = ap innermost (sym e) in
-    joined (before ++ l ∷ []) f.begin fs (sym k.1.stands) (below before l (f.begin ∷ []) fs (omega (arith, at, k.1.less)) k.2)
-
--- a line keeps the bundles
-pub keeps : (before : List Placed) (l : Placed) (bundles : List Bundle) → Before l.number before → innermost l.path < l.number →
-    opens bundles ≡ l.path → Keeps before [] bundles → Keeps (before ++ l ∷ []) [] (bundles_behind l bundles)
-keeps before l bundles h less at k = by_kind (is_begin l) (is_end l) refl
-  where
-    by_kind : (b e : Bool) → is_begin l ≡ b →
-        Keeps (before ++ l ∷ []) [] (cond b (record { begin = l; lines = [] } ∷ bundles) (cond e (close bundles) (add_line l bundles)))
-    by_kind true e b = (
-      lines_in-new l.number (before ++ l ∷ []) (All-push (λ k. innermost k.path < l.number) before l h less),
-      record {
-        less = rw at less;
-        stands = sym at;
-        begins = b;
-        places = All-nil (λ k. k.path ≡ opens (record { begin = l; lines = [] } ∷ bundles));
-      },
-      here before l bundles at k,
-    )
-    by_kind false true b = closed before l bundles at k
-    by_kind false false b = joined (before ++ l ∷ []) l bundles at (here before l bundles at k)
+  -- a line keeps the bundles
+  pub keeps : (bundles : List Bundle) → Before l.number before → innermost l.path < l.number →
+      opens bundles ≡ l.path → Keeps before [] bundles → Keeps (before ++ l ∷ []) [] (bundles_behind l bundles)
+  keeps bundles h less at k = by_kind (is_begin l) (is_end l) refl
+    where
+      by_kind : (b e : Bool) → is_begin l ≡ b →
+          Keeps (before ++ l ∷ []) [] (cond b (record { begin = l; lines = [] } ∷ bundles) (cond e (close bundles) (add_line l bundles)))
+      by_kind true e b = (
+        lines_in-new l.number (before ++ l ∷ []) (All-push (λ k. innermost k.path < l.number) before l h less),
+        record {
+          less = rw at less;
+          stands = sym at;
+          begins = b;
+          places = All-nil (λ k. k.path ≡ opens (record { begin = l; lines = [] } ∷ bundles));
+        },
+        here bundles at k,
+      )
+      by_kind false true b = closed bundles at k
+      by_kind false false b = joined (before ++ l ∷ []) l bundles at (here bundles at k)

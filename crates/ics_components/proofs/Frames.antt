@@ -95,12 +95,12 @@ module _ (whole before : List Placed) where
       ∙ opened-over new c bundles
 
   -- what is collected of a component that ends, and of the one that it stands in
-  closed-in : (l : Placed) (f g : Bundle) (gs : List Bundle) → name_of (property_name l.content) ≡ name.End →
+  closed-in : (l : Placed) (f : Bundle) {g : Bundle} {gs : List Bundle} → name_of (property_name l.content) ≡ name.End →
       lines_in f.begin.number whole ≡ f.lines ++ l ∷ [] → IsKept f (g ∷ gs) →
       builder_at (context_of (opens (g ∷ gs))) (readings whole (opens (g ∷ gs)) (g.lines ++ f.begin ∷ []))
       ≡ joined (builder_at (context_of (opens (f ∷ g ∷ gs))) (readings whole (opens (f ∷ g ∷ gs)) f.lines))
       (builder_at (context_of (opens (g ∷ gs))) (readings whole (opens (g ∷ gs)) g.lines))
-  closed-in l f g gs n w kept =
+  closed-in l f {g = g} {gs = gs} n w kept =
       let outer : List Open = opens (g ∷ gs) in
       let inner : Readings = readings whole (opens (f ∷ g ∷ gs)) f.lines in
       let same : own whole f.begin ≡ observance_ended inner.observance =
@@ -119,7 +119,7 @@ module _ (whole before : List Placed) where
       let path : List Open = opens (g ∷ gs) in
       ap (λ s. record { component = component_of (component g.begin); context = context_of path; calendar = calendar_of path; builder = s }
       ∷ frames_of whole gs)
-      (closed-in l f g gs n (w moved ∙ ap (λ ls. ls ++ l ∷ []) (k.0 ∙ append-nil f.lines)) k.1)
+      (closed-in l f n (w moved ∙ ap (λ ls. ls ++ l ∷ []) (k.0 ∙ append-nil f.lines)) k.1)
 
   -- a line keeps the frames
   pub frames-behind : (line : Line) (v : Parts) (bundles : List Bundle) → Keeps before [] bundles →

@@ -1,5 +1,5 @@
 -- Where the lines of a component stand, and in which order components begin and end in a file without faults.
-use Rattle.std.proofs.Common.{◌≡◌, List, [], ◌∷◌, ◌++◌, refl, Some, ◌≢◌, ℕ, ◌<◌, ◌≤◌, Bool, true, false, ◌==◌, drop, ap, ◌∙◌, arith, cond}
+use Rattle.std.proofs.Common.{◌≡◌, List, [], ◌∷◌, ◌++◌, refl, subst, Some, ◌≢◌, ℕ, ◌<◌, ◌≤◌, Bool, true, false, ◌==◌, drop, ap, ◌∙◌, arith, cond}
 use Rattle.std.proofs.Common.{◌&&◌, take, map, filter, sym, append_assoc, Option, None}
 use Rattle.std.proofs.lemmas.Bool.{eq-eqb, ne_eqb, not-false}
 use Rattle.std.proofs.lemmas.List.Elements.{filter-append}
@@ -86,16 +86,15 @@ module _ (b : ℕ) (some : 0 < b) where
       (gone line.number (path_behind l) lines (omega (arith, h, r.0)) (absent-behind b l (omega (arith, h, r.0)) a) r.1)
 
 -- what stands directly in a component stands there before its END
-pub lines_in-whole : (before : List Placed) (l : Placed) (lines : List Line) (c : Open) (cs : List Open) → l.path ≡ c ∷ cs → path_behind l ≡ cs →
-    Falls (c ∷ cs) → innermost l.path < l.number → Rises l.number lines →
-    lines_in c.begun (before ++ l ∷ placed_from (path_behind l) lines) ≡ lines_in c.begun before ++ l ∷ []
-lines_in-whole before l lines c cs at moved f less r =
+pub lines_in-whole : (before : List Placed) (l : Placed) (lines : List Line) {c : Open} → l.path ≡ c ∷ path_behind l → Falls (inside l) →
+    Rises l.number lines → lines_in c.begun (before ++ l ∷ placed_from (path_behind l) lines) ≡ lines_in c.begun before ++ l ∷ []
+lines_in-whole before l lines {c = c} at f r =
     let inner : innermost l.path ≡ c.begun = ap innermost at in
-    let absent : Absent c.begun (path_behind l) = rw moved (below c.begun cs f.1 f.0) in
+    let out : Falls (c ∷ path_behind l) = subst Falls at f.1 in
     rw (
       filter-append (λ k. innermost k.path == c.begun) before (l ∷ placed_from (path_behind l) lines),
       eq-eqb (innermost l.path) c.begun inner,
-      gone c.begun (omega (arith, f.0)) l.number (path_behind l) lines (omega (arith, inner, less)) absent r,
+      gone c.begun (omega (arith, out.0)) l.number (path_behind l) lines (omega (arith, inner, f.0)) (below c.begun (path_behind l) out.1 out.0) r,
     )
 
 -- In a file without faults the components of a kind end in the order in which they begin.
@@ -200,10 +199,10 @@ module _ {X : Type 0} (s : Sort X) (i : IsSort s) (whole before : List Placed) (
   ends n [] is b e m = cc
   ends n (c ∷ cs) is b e m =
       let l : Placed = here line (c ∷ cs) in
-      let moved : path_behind l ≡ cs = rw (b, e) in
+      let moved : l.path ≡ c ∷ path_behind l = rw (b, e) in
       let own : lines_in c.begun whole ≡ lines_in c.begun before ++ l ∷ [] =
       ap (lines_in c.begun) is.parts
-      ∙ lines_in-whole before l lines c cs refl moved is.falls (omega (arith, is.inner, is.rises.0)) is.rises.1 in
+      ∙ lines_in-whole before l lines moved (omega (arith, is.inner, is.rises.0), is.falls) is.rises.1 in
       rw (
         i.starts l,
         b,

@@ -1,5 +1,5 @@
 -- One pass with the components that are open finds the first fault of round one, and gathers what the lines say.
-use Rattle.std.proofs.Common.{◌≡◌, ℕ, ◌+◌, ◌<◌, ◌≤◌, List, [], ◌∷◌, ◌++◌, map, refl, sym, ap, ◌∙◌, append_assoc, arith, cond, Option, Some, None, ◌^◌}
+use Rattle.std.proofs.Common.{◌≡◌, ℕ, ◌+◌, ◌<◌, ◌≤◌, List, [], ◌∷◌, ◌++◌, map, refl, subst, sym, ap, ◌∙◌, append_assoc, arith, cond, Option, Some, None, ◌^◌}
 use Rattle.std.specs.Prelude.{find, length}
 use Rattle.std.proofs.lemmas.List.{append-nil}
 use Rattle.std.proofs.lemmas.List.Elements.{All-nil, All-push, All-weaker}
@@ -29,7 +29,7 @@ use Rattle.ics_components.proofs.Table.{parts, any-part, frame_of, IsAsked, leas
 use Rattle.ics_components.proofs.Bundles.{Bundle, Keeps, Together, Before, falls, open_of, opens, opens-behind, top_beside, together, together-in, zone-lines}
 use Rattle.ics_components.proofs.Bundles.{bundles_behind, keeps}
 use Rattle.ics_components.proofs.Frames.{frames_of, top_of, with, Closes, frames-behind, fault-top, check-top}
-use Rattle.ics_components.proofs.Order.{last-more, falls-behind, lines_in-whole, Sort, ended_as, ended_from, nested}
+use Rattle.ics_components.proofs.Order.{last-more, Falls, falls-behind, lines_in-whole, Sort, ended_as, ended_from, nested}
 use Rattle.ics_components.proofs.Ended.{events, zones, Picks, events-picked, zones-picked, picked-same, IsMatched}
 
 -- WHERE THE LINES END.
@@ -133,7 +133,8 @@ closes-here : (whole before : List Placed) (l : Placed) (bundles : List Bundle) 
 closes-here whole before l [] lines on = tt
 closes-here whole before l (f ∷ fs) lines on =
     λ e. ap (lines_in f.begin.number) on.parts
-    ∙ lines_in-whole before l lines (open_of f) (opens fs) (sym on.place) e (falls before [] (f ∷ fs) on.kept) on.inner on.rises
+    ∙ lines_in-whole before l lines (sym on.place ∙ ap (λ p. open_of f ∷ p) (sym e))
+    (on.inner, subst Falls on.place (falls before [] (f ∷ fs) on.kept)) on.rises
 
 -- A line with parts, before lines of which it is known.
 module _ (line : Line) {lines : List Line} (again : Known lines) (v : Parts) {whole before : List Placed} {bundles : List Bundle}

@@ -268,21 +268,13 @@ length-sound d (Some e) duration a b f = (a, f)
 length-sound d None (Some e) a b f = b
 length-sound d None None a b f = tt
 
-times-sound : (start end : Option Dated) (duration : Option Duration) → IfSome start IsSoundDated → IfSome end IsSoundDated →
-    IfSome duration (λ d. is_lasting d ≡ true) → is_some start ≡ true → ends_badly start end ≡ false →
-    IsSoundStamp (dated_in start).stamp × IsSoundLength (dated_in start) (given_length end duration)
-times-sound None end duration h a b t f = cc
-times-sound (Some d) end duration h a b t f = (h, length-sound d end duration a b f)
-
 event-whole : (own : List Placed) (l : Placed) → ends_event l ≡ true → find (λ kind. stands kind own l) kinds ≡ None →
     IsWhole (event_ended (calendar_of l.path) (collected_of own))
 event-whole own l t e =
     let at : FaultKind → Bool = λ kind. stands kind own l in
-    let lasting = some-said (λ d. is_lasting d ≡ true) duration_on (λ l. sound-lasting (value l)) (first_named (codes "DURATION") own) in
     let started : has (codes "DTSTART") own ≡ true = not-false _ (here (ends_event l) _ t (none-found at (take 14 kinds) (drop 15 kinds) MissingStart e)) in
     let times =
-    times-sound (first_dated (codes "DTSTART") own) (first_dated (codes "DTEND") own) (collected_of own).duration
-    (dated-said (codes "DTSTART") own) (dated-said (codes "DTEND") own) lasting (has-first dated_on (codes "DTSTART") own ∙ started)
+    by_start (first_dated (codes "DTSTART") own) (dated-said (codes "DTSTART") own) (has-first dated_on (codes "DTSTART") own ∙ started)
     (or_parts _ _ (here (ends_event l) _ t (none-found at (take 16 kinds) (drop 17 kinds) BadEnd e))).1 in
     record {
       named =
@@ -300,6 +292,16 @@ event-whole own l t e =
           sound-exdates (is_some (zone_name (params_of line.content))) (value line));
       recurrence = dated-said (codes "RECURRENCE-ID") own;
     }
+  where
+    end : Option Dated
+    end = first_dated (codes "DTEND") own
+
+    by_start : (start : Option Dated) → IfSome start IsSoundDated → is_some start ≡ true → ends_badly start end ≡ false →
+        IsSoundStamp (dated_in start).stamp × IsSoundLength (dated_in start) (given_length end (collected_of own).duration)
+    by_start None h t f = cc
+    by_start (Some d) h t f =
+        let lasting = some-said (λ d. is_lasting d ≡ true) duration_on (λ l. sound-lasting (value l)) (first_named (codes "DURATION") own) in
+        (h, length-sound d end (collected_of own).duration (dated-said (codes "DTEND") own) lasting f)
 
 -- WHAT ENDS on the lines is in order, where none has a fault.
 module _ {X : Type 0} (s : Sort X) (P : X → Type 0)
