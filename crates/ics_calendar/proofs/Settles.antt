@@ -37,25 +37,25 @@ use Rattle.ics_components.proofs.PassLemmas.{checks_from, gathered_from, lists, 
 use Rattle.ics_components.proofs.Table.{frame_of}
 
 -- What holds of no lines, and of a line that matches before those of which it holds, holds of lines without a fault of the first round.
-each-line : (P : List Placed → List Placed → Type 0) → ((before : List Placed) → P before []) →
-    ((before : List Placed) (line : Line) (v : Parts) (path : List Open) (rest : List Placed) → IsMatched (with line path v) →
-    P (before ++ with line path v ∷ []) rest → P before (with line path v ∷ rest)) →
-    (lines : List Line) (before : List Placed) (path : List Open) → first_from stands fault_at_end before (placed_from path lines) ≡ None →
-    P before (placed_from path lines)
-each-line P none more [] before path e = none before
-each-line P none more (line ∷ lines) before path e = by_content (each-line P none more lines) (content_of line.bytes) e
-  where
-    at : Option Parts → List Placed
-    at o = with_content line path o ∷ placed_from (path_behind (with_content line path o)) lines
+module _ (P : List Placed → List Placed → Type 0) (none : (before : List Placed) → P before [])
+    (more : (before : List Placed) (line : Line) (v : Parts) (path : List Open) (rest : List Placed) → IsMatched (with line path v) →
+    P (before ++ with line path v ∷ []) rest → P before (with line path v ∷ rest)) where
+  each-line : (lines : List Line) (before : List Placed) (path : List Open) → first_from stands fault_at_end before (placed_from path lines) ≡ None →
+      P before (placed_from path lines)
+  each-line [] before path e = none before
+  each-line (line ∷ lines) before path e = by_content (each-line lines) (content_of line.bytes) e
+    where
+      at : Option Parts → List Placed
+      at o = with_content line path o ∷ placed_from (path_behind (with_content line path o)) lines
 
-    by_content : ((before : List Placed) (path : List Open) → first_from stands fault_at_end before (placed_from path lines) ≡ None →
-        P before (placed_from path lines)) → (o : Option Parts) → first_from stands fault_at_end before (at o) ≡ None → P before (at o)
-    by_content again None e = cc
-    by_content again (Some v) e =
-        let l : Placed = with line path v in
-        let rest : List Placed = placed_from (path_behind l) lines in
-        let none = found-none line.number (least_on stands before l) (first_from stands fault_at_end (before ++ l ∷ []) rest) e in
-        more before line v path rest (nested (λ kind. stands kind (beside before l) l) none.0) (again (before ++ l ∷ []) (path_behind l) none.1)
+      by_content : ((before : List Placed) (path : List Open) → first_from stands fault_at_end before (placed_from path lines) ≡ None →
+          P before (placed_from path lines)) → (o : Option Parts) → first_from stands fault_at_end before (at o) ≡ None → P before (at o)
+      by_content again None e = cc
+      by_content again (Some v) e =
+          let l : Placed = with line path v in
+          let rest : List Placed = placed_from (path_behind l) lines in
+          let none = found-none line.number (least_on stands before l) (first_from stands fault_at_end (before ++ l ∷ []) rest) e in
+          more before line v path rest (nested (λ kind. stands kind (beside before l) l) none.0) (again (before ++ l ∷ []) (path_behind l) none.1)
 
 -- THE DEFERRED CHECKS, judged in order, give the first fault of the second round.
 found-checks : (known : KnownZones) (number : ℕ) (o : Option DeferredCheck) (ws : List LineCheck) →
