@@ -40,36 +40,42 @@ pub goes-on : {files : List FileSaid} (request : Request) (front : List Entry) (
     → option_map key_rank request.after ≡ Some (rank_of o) → asked_after request (front ++ o ∷ behind) ≡ behind
 goes-on request front o behind h e = ap (λ key. after_key key (front ++ o ∷ behind)) e ∙ behind-entry front o behind h.rises
 
--- what stands behind the last of some entries
-behind-last : (xs ps ys list : List Entry) → list ≡ xs ++ (ps ++ ys) → Rises entry_cmp list → 1 ≤ length ps → after_key (last_key ps) list ≡ ys
-behind-last xs [] ys list e h l = absurd (omega arith)
-behind-last xs (p ∷ []) ys list e h l = ap (after_key (Some (rank_of p))) e ∙ behind-entry xs p ys (subst (Rises entry_cmp) e h)
-behind-last xs (p ∷ q ∷ ps) ys list e h l =
-    behind-last (xs ++ p ∷ []) (q ∷ ps) ys list (e ∙ sym (append_assoc xs (p ∷ []) ((q ∷ ps) ++ ys))) h (omega arith)
-
 -- a page that is cut and what the others list together, or a page that is all
 joined-by : (b : Bool) (limit : ℕ) (rest more : List Entry) → nat_lt limit (length rest) ≡ b → (b ≡ true → more ≡ drop limit rest) →
     cond b (take limit rest ++ more) (take limit rest) ≡ rest
 joined-by true limit rest more p f = ap (λ l. take limit rest ++ l) (f refl) ∙ take-append-drop limit rest
 joined-by false limit rest more p f = take_all limit rest (ltb-false limit (length rest) p)
 
--- the pages from a place in the listing on, whose rest stands behind a key
-joined-from : (limits : List ℕ) (list : List Entry) (key : Option Rank) (xs rest : List Entry) → Rises entry_cmp list → list ≡ xs ++ rest →
-    after_key key list ≡ rest → ArePositive limits → length rest ≤ total limits → joined limits key list ≡ rest
-joined-from [] list key xs [] h e b p l = refl
-joined-from [] list key xs (y ∷ ys) h e b p l = absurd (omega arith)
-joined-from (limit ∷ limits) list key xs rest h e b p l =
-    ap (λ r. cond (nat_lt limit (length r)) (take limit r ++ joined limits (key_on (Some limit) r) list) (take limit r)) b
-    ∙ joined-by (nat_lt limit (length rest)) limit rest (joined limits (key_on (Some limit) rest) list) refl
-    (λ cut.
-    let more : limit < length rest = ltb-true limit (length rest) cut in
-    let some : 1 ≤ length (take limit rest) = omega (arith, length-take-le limit rest (omega arith), p.0) in
-    let parts : list ≡ xs ++ (take limit rest ++ drop limit rest) = e ∙ ap (λ l. xs ++ l) (sym (take-append-drop limit rest)) in
-    ap (λ b. joined limits (cond b (last_key (take limit rest)) None) list) cut
-    ∙ joined-from limits list _ (xs ++ take limit rest) (drop limit rest) h (parts ∙ sym (append_assoc xs (take limit rest) (drop limit rest)))
-    (behind-last xs (take limit rest) (drop limit rest) list parts h some) p.1 (omega (arith, l, length-drop limit rest)))
+-- of a listing
+module _ (list : List Entry) (h : Rises entry_cmp list) where
+  -- what stands behind the last of some entries
+  behind-last : (xs ps ys : List Entry) → list ≡ xs ++ (ps ++ ys) → 1 ≤ length ps → after_key (last_key ps) list ≡ ys
+  behind-last xs [] ys e l = absurd (omega arith)
+  behind-last xs (p ∷ []) ys e l = ap (after_key (Some (rank_of p))) e ∙ behind-entry xs p ys (subst (Rises entry_cmp) e h)
+  behind-last xs (p ∷ q ∷ ps) ys e l = behind-last (xs ++ p ∷ []) (q ∷ ps) ys (e ∙ sym (append_assoc xs (p ∷ []) ((q ∷ ps) ++ ys))) (omega arith)
+
+  -- a place in the listing whose rest stands behind a key
+  abbrev StandsAt : Option Rank → List Entry → Type 0
+  StandsAt key rest = (xs : List Entry) × (list ≡ xs ++ rest) × (after_key key list ≡ rest)
+
+  -- the pages from a place on
+  joined-from : (limits : List ℕ) (key : Option Rank) (rest : List Entry) → StandsAt key rest → ArePositive limits → length rest ≤ total limits →
+      joined limits key list ≡ rest
+  joined-from [] key [] at_place p l = refl
+  joined-from [] key (y ∷ ys) at_place p l = absurd (omega arith)
+  joined-from (limit ∷ limits) key rest (xs, e, b) p l =
+      ap (λ r. cond (nat_lt limit (length r)) (take limit r ++ joined limits (key_on (Some limit) r) list) (take limit r)) b
+      ∙ joined-by (nat_lt limit (length rest)) limit rest (joined limits (key_on (Some limit) rest) list) refl
+      (λ cut.
+      let more : limit < length rest = ltb-true limit (length rest) cut in
+      let some : 1 ≤ length (take limit rest) = omega (arith, length-take-le limit rest (omega arith), p.0) in
+      let parts : list ≡ xs ++ (take limit rest ++ drop limit rest) = e ∙ ap (λ l. xs ++ l) (sym (take-append-drop limit rest)) in
+      let place : StandsAt (last_key (take limit rest)) (drop limit rest) =
+      (xs ++ take limit rest, parts ∙ sym (append_assoc xs (take limit rest) (drop limit rest)), behind-last xs _ _ parts some) in
+      ap (λ b. joined limits (cond b (last_key (take limit rest)) None) list) cut
+      ∙ joined-from limits _ (drop limit rest) place p.1 (omega (arith, l, length-drop limit rest)))
 
 pub pages-join : {files : List FileSaid} (request : Request) (list : List Entry) (limits : List ℕ) → IsListingOf files request list → ArePositive limits →
     length list ≤ total limits
     → joined limits None list ≡ list
-pages-join request list limits h p l = joined-from limits list None [] list h.rises refl refl p l
+pages-join request list limits h p l = joined-from list h.rises limits None list ([], refl, refl) p l

@@ -43,12 +43,12 @@ copied-key rank None key h = ap (option_map rank) h
 copied-key rank (Some k) key h = ap (option_map rank) h
 
 -- the text of what an agenda of these files has to come after the key that is lent is what the request shows once
-pub shows-once : {files : List FileSaid} {display : Display} (request : Request) (lent : Option (Bor Key)) {coming : List Entry} {token : Option (List ℕ)} →
+pub shows-once : {files : List FileSaid} {display : Display} {request : Request} (lent : Option (Bor Key)) {coming : List Entry} {token : Option (List ℕ)} →
     display ≡ request.zone → option_copied lent ≡ request.after
     → (list : List Entry) × IsListing entry_cmp (IsListed files (display_clock display) request.window) list
     × (coming ≡ after_key (option_map (λ k. key_rank k.now) lent) list)
     → token ≡ option_map spelling (key_on request.limit coming) → ShowsOnce files request (listing_text request coming) token
-shows-once request lent zone key whole is =
+shows-once {request = request} lent zone key whole is =
     let coming = whole.2 ∙ ap (λ k. after_key k whole.0) (copied-key key_rank lent request.after key) in
     record {
       list = whole.0;
@@ -58,12 +58,12 @@ shows-once request lent zone key whole is =
     }
 
 -- the text of what is to come under each day is what the request shows under each day
-pub shows-days : {files : List FileSaid} {display : Display} (request : Request) (every_day : EveryDay) (lent : Option (Bor DayKey)) {list : List OnDay}
+pub shows-days : {files : List FileSaid} {display : Display} {request : Request} {every_day : EveryDay} (lent : Option (Bor DayKey)) {list : List OnDay}
     {token : Option (List ℕ)} → display ≡ request.zone → option_copied lent ≡ every_day.after
     → IsListing on_day_cmp (IsOnDay files (display_clock display) request.window) list
     → token ≡ option_map day_spelling (day_key_on request.limit (after_day_key (option_map (λ k. day_key_rank k.now) lent) list)) →
     ShowsDays files request every_day (days_text_of request (after_day_key (option_map (λ k. day_key_rank k.now) lent) list)) token
-shows-days request every_day lent {list = list} zone key listing is =
+shows-days {request = request} {every_day = every_day} lent {list = list} zone key listing is =
     let same = copied-key day_key_rank lent every_day.after key in
     record {
       list = list;

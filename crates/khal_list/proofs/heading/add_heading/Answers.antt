@@ -2,13 +2,13 @@ use Rattle.std.proofs.lemmas.Grind.{common_steps}
 use Rattle.std.proofs.Common.{w32, arith}
 use Rattle.std.proofs.lemmas.Int.{to_z-of_z, ints}
 use Rattle.khal_list.specs.Text.{day_field_text}
-use Rattle.khal_list.proofs.AddedLemmas.{filled_line}
+use Rattle.khal_list.proofs.AddedLemmas.{two_added, whole_added}
 use Rattle.khal_list.proofs.heading.add_heading.Goals as goal
 
 pub returns : goal.returns
 returns c =
-    filled_line (day_field_text c.args.day) c.deref-piece-items.result.now c.loop-piece.piece-index c.args.text.now.items _ _
-    c.loop-piece-test.false (rw (to_z-of_z w32 c.args.day c.ranges.day) at c.loop-piece.invariant) c.in_ok-push.ensures.items
+    two_added _ _ _ (whole_added (day_field_text c.args.day) c.deref-piece-items.result.now c.loop-piece.piece-index _ c.loop-piece-test.false
+    (rw (to_z-of_z w32 c.args.day c.ranges.day) at c.loop-piece.invariant)) c.in_ok-push.ensures.items
 
 pub loop-piece-preserved : goal.loop-piece-preserved
 loop-piece-preserved c = grind (ints, arith, common_steps)
