@@ -149,10 +149,11 @@ module _ (id : Text) (parser : ValueParser) (is_parser : ValueParser → Bool) (
       cond_both (p y) (Some y) (find p ys) (Passes test) (λ _. parts.0) (λ _. found_passes test p ys parts.1)
 
   -- where a test chooses between two ways, and the chosen one does not fail, it leaves checked rows
-  either_way : {X : Type 0} (rows : X → List Row) (b : Bool) (x y : X) {f g : Kinds} → (f ≡ [] → AreChecked (rows x)) → (g ≡ [] → AreChecked (rows y)) →
-      cond b f g ≡ [] → AreChecked (rows (cond b x y))
-  either_way rows true x y p q none = p none
-  either_way rows false x y p q none = q none
+  module _ {X : Type 0} (rows : X → List Row) where
+    either_way : (b : Bool) (x y : X) {f g : Kinds} → (f ≡ [] → AreChecked (rows x)) → (g ≡ [] → AreChecked (rows y)) → cond b f g ≡ []
+        → AreChecked (rows (cond b x y))
+    either_way true x y p q none = p none
+    either_way false x y p q none = q none
 
   -- ---- the walk
 
@@ -174,15 +175,15 @@ module _ (id : Text) (parser : ValueParser) (is_parser : ValueParser → Bool) (
         → AreChecked (reacted c a texts h).rows
     reacts a texts h checked none rows = uses again a checked texts (settled c h).rows (then_none _ _ none) (settles h (first_none _ _ none) rows)
 
-    takes_option : (a : Rule) → is_checked a ≡ true → (v : Option Text) (h : Held) → option_fault c again a v h ≡ [] → AreChecked h.rows
-        → AreChecked (option_met c a v h).0.rows
-    takes_option a checked (Some v) h none rows = reacts a (v ∷ []) h checked none rows
-    takes_option a checked None h none rows = settles h none rows
+    module _ (a : Rule) (checked : is_checked a ≡ true) where
+      takes_option : (v : Option Text) (h : Held) → option_fault c again a v h ≡ [] → AreChecked h.rows → AreChecked (option_met c a v h).0.rows
+      takes_option (Some v) h none rows = reacts a (v ∷ []) h checked none rows
+      takes_option None h none rows = settles h none rows
 
-    takes_flag : (a : Rule) → is_checked a ≡ true → (v : Option Text) (h : Held) (k : ErrorKind) →
-        cond (is_some v) (k ∷ []) (react_fault c again a [] h) ≡ [] → AreChecked h.rows → AreChecked (flag_met c a v h).0.rows
-    takes_flag a checked (Some v) h k none rows = rows
-    takes_flag a checked None h k none rows = reacts a [] h checked none rows
+      takes_flag : (v : Option Text) (h : Held) (k : ErrorKind) → cond (is_some v) (k ∷ []) (react_fault c again a [] h) ≡ [] → AreChecked h.rows
+          → AreChecked (flag_met c a v h).0.rows
+      takes_flag (Some v) h k none rows = rows
+      takes_flag None h k none rows = reacts a [] h checked none rows
 
     takes_long : (o : Option Rule) (v : Option Text) (h : Held) → Passes is_checked o → long_fault c again o v h ≡ [] → AreChecked h.rows →
         AreChecked (long_met c o v h).0.rows

@@ -30,8 +30,8 @@ closing_after (x ∷ xs) a plain =
     rw (other, closing_after xs a (plain_tail x xs plain)) (omega arith)
 
 -- names before closing braces are the same, and so is what comes after them
-names_apart : (a b xs ys : List ℕ) → is_plain xs ≡ true → is_plain ys ≡ true → xs ++ 125 ∷ a ≡ ys ++ 125 ∷ b → (xs ≡ ys) × (a ≡ b)
-names_apart a b xs ys p q e =
+names_apart : {a b : List ℕ} (xs ys : List ℕ) → is_plain xs ≡ true → is_plain ys ≡ true → xs ++ 125 ∷ a ≡ ys ++ 125 ∷ b → (xs ≡ ys) × (a ≡ b)
+names_apart {a = a} {b = b} xs ys p q e =
     let size : length xs ≡ length ys = sym (closing_after xs a p) ∙ (ap (position_or_len (λ byte. byte == 125)) e ∙ closing_after ys b q) in
     let same : xs ≡ ys = sym (take_at xs (125 ∷ a) (length ys) size) ∙ (ap (take (length ys)) e ∙ take_at ys (125 ∷ b) (length ys) refl) in
     let rest : 125 ∷ a ≡ 125 ∷ b = append_cancel_left xs (125 ∷ a) (125 ∷ b) (e ∙ ap (λ front. front ++ 125 ∷ b) (sym same)) in
@@ -85,7 +85,7 @@ module _ {F : Type 0} (name : F → List ℕ) (plain : (field : F) → is_plain 
   pieces_apart (Byte b) (Byte c) x y e = bytes_apart b x y c (is_brace b) (is_brace c) refl refl e
   pieces_apart (Byte b) (Field g) x y e = absurd (no_field b x y (is_brace b) (name g) (plain g) refl (e ∙ behind g y))
   pieces_apart (Field f) (Byte c) x y e = absurd (no_field c y x (is_brace c) (name f) (plain f) refl (sym e ∙ behind f x))
-  pieces_apart (Field f) (Field g) x y e = names_apart x y (name f) (name g) (plain f) (plain g) (let whole : 123 ∷ (name f ++ 125 ∷ x) ≡ 123
+  pieces_apart (Field f) (Field g) x y e = names_apart (name f) (name g) (plain f) (plain g) (let whole : 123 ∷ (name f ++ 125 ∷ x) ≡ 123
       ∷ (name g ++ 125 ∷ y) = sym (behind f x) ∙ e ∙ behind g y in (cc))
 
   pub no_pieces : (p : Piece F) (x : List ℕ) → written_piece name p ++ x ≡ [] → ⊥
