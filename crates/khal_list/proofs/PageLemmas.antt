@@ -63,17 +63,14 @@ module _ (list : List Entry) (h : Rises entry_cmp list) where
       joined limits key list ≡ rest
   joined-from [] key [] at_place p l = refl
   joined-from [] key (y ∷ ys) at_place p l = absurd (omega arith)
-  joined-from (limit ∷ limits) key rest (xs, e, b) p l =
-      ap (λ r. cond (nat_lt limit (length r)) (take limit r ++ joined limits (key_on (Some limit) r) list) (take limit r)) b
-      ∙ joined-by (nat_lt limit (length rest)) limit rest (joined limits (key_on (Some limit) rest) list) refl
-      (λ cut.
+  joined-from (limit ∷ limits) key rest (xs, e, b) p l = rw b (joined-by _ limit rest (joined limits (key_on (Some limit) rest) list) refl (λ cut.
       let more : limit < length rest = ltb-true limit (length rest) cut in
       let some : 1 ≤ length (take limit rest) = omega (arith, length-take-le limit rest (omega arith), p.0) in
       let parts : list ≡ xs ++ (take limit rest ++ drop limit rest) = e ∙ ap (λ l. xs ++ l) (sym (take-append-drop limit rest)) in
       let place : StandsAt (last_key (take limit rest)) (drop limit rest) =
       (xs ++ take limit rest, parts ∙ sym (append_assoc xs (take limit rest) (drop limit rest)), behind-last xs _ _ parts some) in
       ap (λ b. joined limits (cond b (last_key (take limit rest)) None) list) cut
-      ∙ joined-from limits _ (drop limit rest) place p.1 (omega (arith, l, length-drop limit rest)))
+      ∙ joined-from limits _ (drop limit rest) place p.1 (omega (arith, l, length-drop limit rest))))
 
 pub pages-join : {files : List FileSaid} (request : Request) (list : List Entry) (limits : List ℕ) → IsListingOf files request list → ArePositive limits →
     length list ≤ total limits
