@@ -46,11 +46,11 @@ module _ {Z : Type 0} (finds : Z → List ℕ → FindAnswer → Z → Type 0) (
       }
 
   -- a draft of these bytes whose names are asked for
-  pub draft-settles : OnlyWantedCount → (said : DraftSaid) → said ≡ draft_of bytes → Learns finds asked said.wants before after answered →
+  pub draft-settles : OnlyWantedCount → {said : DraftSaid} → said ≡ draft_of bytes → Learns finds asked said.wants before after answered →
       (unread : Bool) → unread ≡ list_any (contains (slice_cmp nat_cmp) answered.unread) said.wants
-      → (outcome : Result FileSaid Refusal) → outcome ≡ file_if unread (file_or_refusal (said.says (given_by answered.files))) →
+      → {outcome : Result FileSaid Refusal} → outcome ≡ file_if unread (file_or_refusal (said.says (given_by answered.files))) →
       Settles finds asked (Some bytes) before after answered outcome
-  draft-settles count said d h unread l outcome is =
+  draft-settles count d h unread l is =
       let learned : Learns finds asked (wanted_names bytes) before after answered =
       subst (λ (s : DraftSaid). Learns finds asked s.wants before after answered) d h in
       let all : List Asked = asked ++ learned.more in
