@@ -14,7 +14,7 @@ use Rattle.ics_series.specs.declared.occurrence.Occurrence.{Occurrence}
 use Rattle.ics_series.specs.Entry.{Entry, entry_of}
 use Rattle.ics_series.specs.Leads.{listed}
 use Rattle.ics_series.specs.Listing.{IsIn}
-use Rattle.ics_series.specs.Uids.{AreHeadsSorted, AreSortedFrom, IsLastSorted, IsPlaceOrder, IsUidOrder, entry_uid_cmp}
+use Rattle.ics_series.specs.Uids.{AreHeadsSorted, AreSortedFrom, IsLastSorted, IsPlaceOrder, IsUidOrder}
 use Rattle.ics_series.specs.declared.part.Part.{Part}
 use Rattle.ics_series.specs.declared.part.Part.TheVariants.{Singles, Series}
 use Rattle.ics_series.specs.AgendaParts.{part_coming, part_sources}
@@ -88,23 +88,22 @@ module _ {X : Type 0} (head : X → Option Occurrence) (rest : X → List Entry)
 
   -- where one lead has drawn, or could not
   module _ (old new : X) where
-    fewer-set : (xs : List X) (lead : ℕ) → old ≡ get_or xs lead old →
-        ((a : Entry) → IsIn a (listed (head new) (rest new)) → IsIn a (listed (head old) (rest old)))
-        → (i : ℕ) (a : Entry) → IsIn a (get_or (map (λ x. listed (head x) (rest x)) (set xs lead new)) i []) →
-        IsIn a (get_or (map (λ x. listed (head x) (rest x)) xs) i [])
-    fewer-set (x ∷ xs) zero read f zero a m = subst (λ y. IsIn a (listed (head y) (rest y))) read (f a m)
-    fewer-set (x ∷ xs) (suc lead) read f (suc i) a m = fewer-set xs lead read f i a m
-    fewer-set _ _ read f _ a m = m
+    module _ (f : (a : Entry) → IsIn a (listed (head new) (rest new)) → IsIn a (listed (head old) (rest old))) where
+      fewer-set : (xs : List X) (lead : ℕ) → old ≡ get_or xs lead old → (i : ℕ) (a : Entry)
+          → IsIn a (get_or (map (λ x. listed (head x) (rest x)) (set xs lead new)) i []) → IsIn a (get_or (map (λ x. listed (head x) (rest x)) xs) i [])
+      fewer-set (x ∷ xs) zero read zero a m = subst (λ y. IsIn a (listed (head y) (rest y))) read (f a m)
+      fewer-set (x ∷ xs) (suc lead) read (suc i) a m = fewer-set xs lead read i a m
+      fewer-set _ _ read _ a m = m
 
     module _ (xs : List X) (lead : ℕ) (read : old ≡ get_or xs lead old) where
       pub fewer-drawn-in : listed (head new) (rest new) ≡ rest old
           → AreFewer (map (λ x. listed (head x) (rest x)) xs) (map (λ x. listed (head x) (rest x)) (set xs lead new))
-      fewer-drawn-in drawn = record { had = fewer-set xs lead read (λ a m. rest-in (head old) (rest old) a (subst (IsIn a) drawn m)) }
+      fewer-drawn-in drawn = record { had = fewer-set (λ a m. rest-in (head old) (rest old) a (subst (IsIn a) drawn m)) xs lead read }
 
       pub fewer-kept-in : head new ≡ head old → rest new ≡ rest old
           → AreFewer (map (λ x. listed (head x) (rest x)) xs) (map (λ x. listed (head x) (rest x)) (set xs lead new))
       fewer-kept-in same left = record {
-        had = fewer-set xs lead read (λ a m. subst (IsIn a) (ap (λ h. listed h (rest new)) same ∙ ap (listed (head old)) left) m);
+        had = fewer-set (λ a m. subst (IsIn a) (ap (λ h. listed h (rest new)) same ∙ ap (listed (head old)) left) m) xs lead read;
       }
 
 -- The feeds of the masters that recur, each of one UID, in the order of their UIDs.
@@ -140,18 +139,14 @@ master-in (Singles s ∷ ps) (m ∷ ms) zero a e n = let no : Once ∷ flat_map 
 master-in (Singles s ∷ ps) [] i a e n = absurd (no-source e)
 master-in (Series s ∷ ps) [] i a e n = absurd (no-source e)
 
--- the order of two UIDs is that of their feeds
-by-place : (ps : List Part) (ms : List Recurring) → flat_map part_sources ps ≡ map Of ms → Rises uid_cmp ms → (i j : ℕ) (a b : Entry)
-    → IsIn a (get_or (map part_coming ps) i []) → IsIn b (get_or (map part_coming ps) j []) → entry_uid_cmp a b ≡ nat_cmp i j
-by-place ps ms e r i j a b n k =
-    let x = master-in ps ms i a e n in
-    let y = master-in ps ms j b e k in
-    (λ t. slice_cmp nat_cmp (x.event t).uid (y.event t).uid)
-    ∙ rises-by_place uid_cmp (on_total (λ (m : Recurring). m.event.uid) nat_list_cmp_total) ms i j r x.stands y.stands
-
--- behind the feed of the events that start once
+-- behind the feed of the events that start once, the order of two UIDs is that of their feeds
 pub parts-sorted : (ps : List Part) (ms : List Recurring) → flat_map part_sources ps ≡ Once ∷ map Of ms → Rises uid_cmp ms →
     AreSortedFrom 1 (map part_coming ps)
 parts-sorted [] ms e r i a n j b low high k = absurd n
-parts-sorted (p ∷ ps) ms e r (suc i) a n (suc j) b low high k = by-place ps ms (rest-sources p e) r i j a b n k ∙ grind (arith, nat_tests)
+parts-sorted (p ∷ ps) ms e r (suc i) a n (suc j) b low high k =
+    let x = master-in ps ms i a (rest-sources p e) n in
+    let y = master-in ps ms j b (rest-sources p e) k in
+    (λ t. slice_cmp nat_cmp (x.event t).uid (y.event t).uid)
+    ∙ rises-by_place uid_cmp (on_total (λ (m : Recurring). m.event.uid) nat_list_cmp_total) ms i j r x.stands y.stands
+    ∙ grind (arith, nat_tests)
 parts-sorted (p ∷ ps) ms e r _ a n _ b low high k = absurd (omega arith)
