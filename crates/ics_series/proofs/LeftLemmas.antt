@@ -79,9 +79,9 @@ first-of (x ∷ xs) (y ∷ ys) r k = by (int_lt y.moment x.moment) refl
     by false f = begins-first moment_cmp moment_total x xs (y ∷ ys) r (not-after-front moment_cmp moment_total x y ys (not-greater-by x y f) k)
 
 -- of the first of both kinds the earlier one is the first
-pub first-by : (ruled listed first : Option Start) → earlier ruled listed ≡ first → (xs ys : List Start) → Rises moment_cmp xs
-    → Rises moment_cmp ys → ruled ≡ slice_get xs 0 → listed ≡ slice_get ys 0 → IsFirstOf first xs ys
-first-by ruled listed first is xs ys r k e f = subst (λ o. IsFirstOf o xs ys) ((λ i. earlier (sym e i) (sym f i)) ∙ is) (first-of xs ys r k)
+module _ {ruled listed first : Option Start} (is : earlier ruled listed ≡ first) where
+  pub first-by : (xs ys : List Start) → Rises moment_cmp xs → Rises moment_cmp ys → ruled ≡ slice_get xs 0 → listed ≡ slice_get ys 0 → IsFirstOf first xs ys
+  first-by xs ys r k e f = subst (λ o. IsFirstOf o xs ys) ((λ i. earlier (sym e i) (sym f i)) ∙ is) (first-of xs ys r k)
 
 pub none-in : (xs : List Start) → length xs ≡ 0 → (s : Start) → IsIn s xs → ⊥
 none-in [] e s m = m
