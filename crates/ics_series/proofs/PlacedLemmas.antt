@@ -28,14 +28,14 @@ placed_from-in file place [] p m = absurd m
 placed_from-in file place (e ∷ es) p (inl s) = (0, ap (λ q. q.file) s, ap (λ q. q.place) s ∙ omega arith, ap (λ q. Some q.event) (sym s))
 placed_from-in file place (e ∷ es) p (inr n) = let h = placed_from-in file (place + 1) es p n in (suc h.0, h.1, omega (arith, h.2), h.3)
 
-in-placed_from : (file place k : ℕ) (events : List Event) (event : Event) {at : ℕ} → at ≡ place + k → slice_get events k ≡ Some event →
+in-placed_from : (file place k : ℕ) (events : List Event) {event : Event} {at : ℕ} → at ≡ place + k → slice_get events k ≡ Some event →
     IsIn (record { file = file; place = at; event = event }) (placed_from file place events)
-in-placed_from file place k [] event a e = let f : None ≡ Some event = e in cc
-in-placed_from file place zero (x ∷ xs) event a e =
+in-placed_from file place k [] {event = event} a e = let f : None ≡ Some event = e in cc
+in-placed_from file place zero (x ∷ xs) {event = event} a e =
     let same = some-same event x (sym e) in
     let here = a ∙ omega arith in
     inl (λ i. record { file = file; place = here i; event = same i })
-in-placed_from file place (suc k) (x ∷ xs) event a e = inr (in-placed_from file (place + 1) k xs event (omega (arith, a)) e)
+in-placed_from file place (suc k) (x ∷ xs) a e = inr (in-placed_from file (place + 1) k xs (omega (arith, a)) e)
 
 -- The events of files, of which the first has a number.
 placed_in-in : (file : ℕ) (files : List FileSaid) (p : Placed) → IsIn p (placed_in file files) →
@@ -47,19 +47,20 @@ placed_in-in file (f ∷ fs) p m =
     (λ n. let h = placed_in-in (file + 1) fs p n in (suc h.0, h.1, omega (arith, h.2), h.3, h.4))
     (in-append p (placed_from file 0 f.events) (placed_in (file + 1) fs) m)
 
-in-placed_in : (file k : ℕ) (files : List FileSaid) {of : FileSaid} (p : Placed) → p.file ≡ file + k → slice_get files k ≡ Some of →
-    slice_get of.events p.place ≡ Some p.event → IsIn p (placed_in file files)
-in-placed_in file k [] {of = of} p a h e = let f : None ≡ Some of = h in absurd cc
-in-placed_in file zero (f ∷ fs) {of = of} p a h e =
+in-placed_in : (file : ℕ) (files : List FileSaid) (p : Placed) →
+    (k : ℕ) × (of : FileSaid) × (p.file ≡ file + k) × (slice_get files k ≡ Some of) × (slice_get of.events p.place ≡ Some p.event) →
+    IsIn p (placed_in file files)
+in-placed_in file [] p (k, of, a, h, e) = let f : None ≡ Some of = h in absurd cc
+in-placed_in file (f ∷ fs) p (zero, of, a, h, e) =
     let same : f ≡ of = some-same f of h in
     in-append_left p (placed_from file 0 f.events) (placed_in (file + 1) fs)
     (subst (λ n. IsIn (record { file = n; place = p.place; event = p.event }) (placed_from file 0 f.events)) (omega (arith, a))
-    (in-placed_from file 0 p.place f.events p.event (omega arith) (ap (λ x. slice_get x.events p.place) same ∙ e)))
-in-placed_in file (suc k) (f ∷ fs) p a h e =
-    in-append_right p (placed_from file 0 f.events) (placed_in (file + 1) fs) (in-placed_in (file + 1) k fs p (omega (arith, a)) h e)
+    (in-placed_from file 0 p.place f.events (omega arith) (ap (λ x. slice_get x.events p.place) same ∙ e)))
+in-placed_in file (f ∷ fs) p (suc k, of, a, h, e) =
+    in-append_right p (placed_from file 0 f.events) (placed_in (file + 1) fs) (in-placed_in (file + 1) fs p (k, of, omega (arith, a), h, e))
 
 pub placed-in : (files : List FileSaid) (p : Placed) → IsPlaced files p → IsIn p (placed_in 0 files)
-placed-in files p h = in-placed_in 0 p.file files p (omega arith) h.within.1 h.within.2
+placed-in files p h = in-placed_in 0 files p (p.file, h.within.0, omega arith, h.within.1, h.within.2)
 
 pub in-placed : (files : List FileSaid) (p : Placed) → IsIn p (placed_in 0 files) → IsPlaced files p
 in-placed files p m = let h = placed_in-in 0 files p m in record { within = (h.1, ap (slice_get files) (omega (arith, h.2)) ∙ h.3, h.4) }
