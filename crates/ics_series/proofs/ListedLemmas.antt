@@ -47,15 +47,15 @@ module _ (clocks : Clocks) (w : Window) (first : Time) where
   rest-in false s x xs m = m
 
   -- each of them that can begin before the window's end is there
-  pub in-listed : (place k : ℕ) (rdates : List Rdate) (r : Rdate) {at : ℕ} → at ≡ place + k → slice_get rdates k ≡ Some r →
+  pub in-listed : (place k : ℕ) (rdates : List Rdate) {r : Rdate} {at : ℕ} → at ≡ place + k → slice_get rdates k ≡ Some r →
       is_past w (time_of (given_by first r)) ≡ false → IsIn (start_by clocks (Listed at) (given_by first r)) (listed_from clocks w first place rdates)
-  in-listed place k [] r a e p = let f : None ≡ Some r = e in absurd cc
-  in-listed place zero (q ∷ rdates) r {at = at} a e p =
+  in-listed place k [] {r = r} a e p = let f : None ≡ Some r = e in absurd cc
+  in-listed place zero (q ∷ rdates) {r = r} {at = at} a e p =
       let same : r ≡ q = some-same r q (sym e) in
       let here : at ≡ place = omega (arith, a) in
       let wanted : not (is_past w (time_of (given_by first q))) ≡ true = ap (λ x. not (is_past w (time_of (given_by first x)))) (sym same) ∙ ap not p in
       rw wanted (inl (λ i. start_by clocks (Listed (here i)) (given_by first (same i))))
-  in-listed place (suc k) (q ∷ rdates) r {at = at} a e p =
+  in-listed place (suc k) (q ∷ rdates) {r = r} {at = at} a e p =
       rest-in (not (is_past w (time_of (given_by first q)))) (start_by clocks (Listed at) (given_by first r))
       (start_by clocks (Listed place) (given_by first q)) (listed_from clocks w first (place + 1) rdates)
-      (in-listed (place + 1) k rdates r (omega (arith, a)) e p)
+      (in-listed (place + 1) k rdates (omega (arith, a)) e p)

@@ -53,13 +53,13 @@ module _ {A : Type 0} (R : A → A → Ordering) (o : IsTotalOrder R) where
   behind-rises (y ∷ ys) (suc i) x r e = behind-rises ys i x r.1 e
 
   -- what comes after the value at a place stands behind it
-  in-behind : (xs : List A) (i : ℕ) (x v : A) → Rises R xs → slice_get xs i ≡ Some x → R x v ≡ Less → IsIn v xs → IsIn v (drop (suc i) xs)
-  in-behind [] i x v r e l m = absurd m
-  in-behind (y ∷ ys) zero x v r e l m =
+  in-behind : (xs : List A) (i : ℕ) {x v : A} → Rises R xs → slice_get xs i ≡ Some x → IsIn v xs → R x v ≡ Less → IsIn v (drop (suc i) xs)
+  in-behind [] i r e m l = absurd m
+  in-behind (y ∷ ys) zero {x = x} r e m l =
       ⊎_elim (λ s. absurd (not-less-itself R o x (ap (R x) (sym (s ∙ some-same y x e)) ∙ l))) (λ n. n) m
-  in-behind (y ∷ ys) (suc i) x v r e l m =
+  in-behind (y ∷ ys) (suc i) {x = x} r e m l =
       ⊎_elim (λ s. absurd (not-both-less R o y x (before-in R o y x ys r.0 (get-in x ys i e)) (ap (R x) (sym s) ∙ l)))
-      (λ n. in-behind ys i x v r.1 e l n) m
+      (λ n. in-behind ys i r.1 e n l) m
 
 drop-in : {A : Type 0} (n : ℕ) (xs : List A) (v : A) → IsIn v (drop n xs) → IsIn v xs
 drop-in zero xs v m = m
@@ -173,7 +173,7 @@ module _ (uid : List ℕ) (versions behind : List Version) (place : ℕ) (order 
       let v = in-map seen l.0 versions l.1 in
       let same = exact-subject (subject_seen v.0.subject) (instance uid t)
       (eq-Equal (subject_cmp (subject_seen v.0.subject) (instance uid t)) (ap is_it (sym v.2) ∙ l.2)) in
-      let there = in-behind version_cmp version_total versions place own.0 v.0 order own.1 ((λ i. subject_cmp (own.2 i) (same i)) ∙ master-less uid t) v.1 in
+      let there = in-behind version_cmp version_total versions place order own.1 v.1 ((λ i. subject_cmp (own.2 i) (same i)) ∙ master-less uid t) in
       in-among t instants
       (subst (IsIn t) (sym e) ((listing.exact t).1 (v.0, subst (IsIn v.0) (sym rest) there, ap (instance_of uid) same ∙ instance-own uid t))))
     where

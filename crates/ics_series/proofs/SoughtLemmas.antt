@@ -77,7 +77,7 @@ module _ (zones : FileZones) (w : Window) (event : Event) where
       let past : is_past w time ≡ false =
       less-le (w.to +ℤ whole_days 2) (stamp_seconds time.stamp) (omega (arith, ints, same, early, instant-near zones time)) in
       inr (subst (λ v. IsIn (start_by (clocks_in zones) (Listed place) v) (listed_from (clocks_in zones) w event.start 0 event.rdates)) (sym g.2)
-      (in-listed (clocks_in zones) w event.start 0 place event.rdates g.0 (omega arith) g.1 past))
+      (in-listed (clocks_in zones) w event.start 0 place event.rdates (omega arith) g.1 past))
 
   pub sought-early : (t : ℤ) → IsSought (clocks_in zones) event w t → t <ℤ w.to
   sought-early t s = omega (arith, ints, s.starts, s.meets.begun)

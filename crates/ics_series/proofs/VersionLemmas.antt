@@ -161,9 +161,9 @@ module _ (files : List FileSaid) (display : Clock) where
     tied : (e q : Placed) → subject_of files display q ≡ subject_of files display e → group e q ≡ Equal
     tied e q u = ap (subject_cmp (subject_of files display e)) u ∙ tied_itself subject_total (subject_of files display e)
 
-    top-by : (e q : Placed) (c : Ordering) → group e q ≡ c → IsChosen files display e → IsPlaced files q → ordering_then c (placed_cmp e q) ≡ Less → c ≡ Less
-    top-by e q Equal is k n l = absurd (k.greatest q n (sym (exact-subject (subject_of files display e) (subject_of files display q) is)) l)
-    top-by e q _ is k n l = l
+    top-by : {e q : Placed} (c : Ordering) → group e q ≡ c → IsChosen files display e → IsPlaced files q → ordering_then c (placed_cmp e q) ≡ Less → c ≡ Less
+    top-by {e = e} {q = q} Equal is k n l = absurd (k.greatest q n (sym (exact-subject (subject_of files display e) (subject_of files display q) is)) l)
+    top-by _ is k n l = l
 
     -- of all that stand in a folder, in order, the last of each subject are those that count
     pub lasts-chosen : (xs : List Placed) → Climbs order xs → ((p : Placed) → IsIn p xs → IsPlaced files p) → ((p : Placed) → IsPlaced files p → IsIn p xs)
@@ -177,6 +177,6 @@ module _ (files : List FileSaid) (display : Clock) where
               greatest = λ q r u c. let k = t.1 q (g q r) (ap (λ o. ordering_then o (placed_cmp e q)) (tied e q u) ∙ c) in
                   let n = tied e q u in cc;
             },
-            λ k. (l.exact e).1 (g e k.placed, λ q n. top-by e q (group e q) refl k (f q n)),
+            λ k. (l.exact e).1 (g e k.placed, λ q n. top-by (group e q) refl k (f q n)),
           );
         }

@@ -15,15 +15,15 @@ use Rattle.ics_series.proofs.AheadLemmas.{ahead-ended, on-err}
 use Rattle.ics_series.proofs.days.Days.next.Goals as goal
 
 -- the next day is nearer to the last
-nearer : (day next last : ℤ) → next ≡ day +ℤ pos 1 → day <ℤ last → SFits w32 day → SFits w32 last → gap next last < gap day last
-nearer day next last e l f g =
+nearer : (day last : ℤ) {next : ℤ} → next ≡ day +ℤ pos 1 → day <ℤ last → SFits w32 day → SFits w32 last → gap next last < gap day last
+nearer day last e l f g =
     let same : to_z w32 (of_z w32 (day +ℤ pos 1)) ≡ day +ℤ pos 1 = omega (arith, ints, l, f, g) in
     subst (λ d. gap d last < gap day last) (same ∙ sym e) (gap_up w32 day last (true_int_lt day last l) f g)
 
 pub loop-occurrence-smaller : goal.loop-occurrence-smaller
 loop-occurrence-smaller c =
     let fits : SFits w32 c.loop-occurrence.self.day = search rules in
-    nearer c.loop-occurrence.self.day c.turn.new.self.day (to_z w32 (of_z w32 c.last_near-last.result))
+    nearer c.loop-occurrence.self.day (to_z w32 (of_z w32 c.last_near-last.result))
     (c.in_ok-turn.ensures.day ∙ ap (λ d. d +ℤ pos 1) c.next_today.ensures.day) (omega (arith, ints, c.if-last-self.false, c.next_today.ensures.day)) fits
     (read_sfits w32 (of_z w32 c.last_near-last.result))
 
