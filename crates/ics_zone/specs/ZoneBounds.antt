@@ -5,7 +5,8 @@ use Rattle.std.proofs.lemmas.Int.{ints}
 use Rattle.jiff_core.specs.Calendar.{IsWithin}
 use Rattle.ics_zone.specs.declared.observance.Observance.{Observance}
 use Rattle.ics_zone.specs.Observances.{ObservanceSaid, observance_said, observances_said, IsObservanceSaid, IsZone, is_onset}
-use Rattle.ics_zone.specs.ZoneOffsets.{last_below, first_below, instant, instants_to, if_onset, last_at, first_at, in_force, last_midnight, earliest, offset_by, zone_offset}
+use Rattle.ics_zone.specs.ZoneOffsets.{last_below, first_below, instant, instants_to, if_onset, last_at, first_at, in_force, last_midnight, earliest}
+use Rattle.ics_zone.specs.ZoneOffsets.{offset_by, zone_offset}
 use Rattle.ics_zone.specs.Moments.{shown, near, if_so, within_a_day, first_time, first_later, moment_from, moment_by, zone_moment}
 use Rattle.ics_zone.specs.Near.{file_offset_near, file_moment_near}
 use Rattle.ics_zone.specs.Seconds.{IsNear}
