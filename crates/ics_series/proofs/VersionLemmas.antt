@@ -146,7 +146,7 @@ module _ (files : List FileSaid) (display : Clock) where
           );
         }
         by false f l = record {
-          rises = (before-all group group-total x (lasts same xs) (λ y m. f y ((l.exact y).0 m).0), l.rises);
+          rises = (before-all group x (lasts same xs) (λ y m. f y ((l.exact y).0 m).0), l.rises);
           exact = λ e. (
             ⊎_elim (λ s. (
               inl s,
