@@ -1,9 +1,10 @@
 -- An event that no fault of either round stands on is one, of the zones of its file.
 use Rattle.std.proofs.Common.{◌≡◌, ℕ, ◌≤◌, Bool, true, false, not, ◌&&◌, ◌||◌, ◌==◌, nat_le, IsTrue, List, [], ◌∷◌, refl, arith, cond, Option, Some}
-use Rattle.std.proofs.Common.{None, is_some, IfSome, int_lt, ℤ, pos, ◌+ℤ◌, ◌*ℤ◌, ◌<◌, length, get_or, sym, ap, ◌∙◌, subst}
-use Rattle.std.specs.Prelude.{flat_map, map, option_map, slice_get}
+use Rattle.std.proofs.Common.{None, is_some, IfSome, int_lt, ℤ, pos, ◌+ℤ◌, ◌*ℤ◌, ◌<◌, length, get_or, sym, ap, ◌∙◌}
+use Rattle.std.specs.Prelude.{flat_map, map, option_map}
 use Rattle.std.specs.List.{All, list_any}
-use Rattle.std.proofs.lemmas.Bool.Decides.{nat_tests}
+use Rattle.std.proofs.lemmas.Bool.{or_parts}
+use Rattle.std.proofs.lemmas.Bool.Decides.{nat_tests, same_from_decides, Decides-eqb}
 use Rattle.std.proofs.lemmas.Int.{ints}
 use Rattle.std.proofs.lemmas.List.Elements.{All-nil, All-cons, All-head, All-tail, All-map}
 use Rattle.std.specs.Option.{option_and_then}
@@ -38,6 +39,7 @@ use Rattle.ics_components.specs.Sound.{end_of, IsSoundStamp, IsSoundLength, IsSo
 use Rattle.ics_calendar.specs.Times.{time_on, length_of}
 use Rattle.ics_components.specs.Values.{length_in_seconds, is_lasting, is_out, is_bad_end, tzid}
 use Rattle.ics_components.proofs.Listed.{All-flat_map}
+use Rattle.ics_calendar.proofs.FilesGiven.{below-here}
 use Rattle.ics_event.specs.declared.time.Length.TheVariants.{Until}
 use Rattle.ics_event.specs.declared.time.Time.{Time}
 use Rattle.ics_calendar.specs.Drafts.{IsTable}
@@ -58,12 +60,9 @@ known-zone false true e = cc
 known-zone false false e = cc
 
 pub out-within : (start end : ℤ) → is_out start end ≡ false → IsWithin start end
-out-within start end h = by_tests (int_lt end start) (int_lt (start +ℤ pos longest) end) refl refl h
-  where
-    by_tests : (a b : Bool) → int_lt end start ≡ a → int_lt (start +ℤ pos longest) end ≡ b → (a || b) ≡ false → IsWithin start end
-    by_tests false false p q h = record { forward = omega (arith, ints); short = omega (arith, ints) }
-    by_tests false true p q h = cc
-    by_tests true b p q h = cc
+out-within start end h =
+    let parts = or_parts (int_lt end start) (int_lt (start +ℤ pos longest) end) h in
+    record { forward = omega (arith, ints, parts); short = omega (arith, ints, parts) }
 
 -- what is checked of a start and its end
 abbrev pub check_between : ZoneName → ZoneName → Stamp → Stamp → Option DeferredCheck
@@ -128,8 +127,7 @@ module _ (known : KnownZones) where
   exdate-is : (name : ZoneName) (v : ListedDate) → IsSoundValue v → IsFine known (fault_by (has_zoned v) name) →
       IsTime (exdate_in (known.index name) v)
   exdate-is name (value.At r) h k = stamp-time name r h k
-  exdate-is name (value.Between r q) h k = stamp-time name r h.0 (fine-both name (is_zoned r) (is_zoned q) k).0
-  exdate-is name (value.Lasting r d) h k = stamp-time name r h.0 k
+  exdate-is name v h k = (rdate-is name v h k).0
 
   -- each value of a list, and each list
   module _ {A : Type 0} (P : A → Type 0) where
@@ -146,7 +144,7 @@ module _ (known : KnownZones) where
         (lists : List DateList) → All IsSoundList lists → All (λ list. IsFine known (listed_zone calendar list)) lists →
         All P (flat_map (λ list. map (f (known.index (zone_listed calendar list))) list.values) lists)
     lists-are f calendar each lists h k =
-        All-flat_map P (λ list. map (f (known.index (zone_listed calendar list))) list.values) lists
+        All-flat_map P _ lists
         (λ i d l. values-are (f (known.index (zone_listed calendar (get_or lists i d)))) (zone_listed calendar (get_or lists i d))
         (each (zone_listed calendar (get_or lists i d))) (get_or lists i d).values (h i d l) (k i d l))
 
@@ -178,14 +176,8 @@ module _ (known : KnownZones) (table : IsTable known) where
   local-there : (used : ZoneName) (local : Local) (i : ℕ) → known.index used ≡ Some i →
       moment_there known used local ≡ Some (moment_in known.zones (Some i) (Zoned local))
   local-there used local i e =
-      ap (option_and_then (moment_at known.zones local)) e ∙ by_zone (slice_get known.zones i) refl
-    where
-      below : i < length known.zones
-      below = subst (λ o. IfSome o (λ i. i < length known.zones)) e (table.below used)
-
-      by_zone : (o : Option ZoneSaid) → slice_get known.zones i ≡ o → moment_at known.zones local i ≡ Some (moment_in known.zones (Some i) (Zoned local))
-      by_zone (Some z) f = rw f refl
-      by_zone None f = let g = slice_get-get_or known.zones i (ZoneSaid.ByObservances []) below in cc
+      ap (option_and_then (moment_at known.zones local)) e
+      ∙ rw (slice_get-get_or known.zones i (ZoneSaid.ByObservances []) (below-here known table used i e)) refl
 
   -- instants that are checked as an end and its start
   instants-within : (s t : Instant) {x y : ℤ} → moment_of known s ≡ Some x → moment_of known t ≡ Some y → IsFine known (Some (check.Ends s t)) → IsWithin x y
@@ -213,22 +205,21 @@ module _ (known : KnownZones) (table : IsTable known) where
     both-zoned : (a b : Local) {i j : ℕ} → known.index (named k x) ≡ Some i → known.index (named k y) ≡ Some j →
         is_bad_end (bytes_eq x y) (Zoned a) (Zoned b) ≡ false → IsFine known (check_between (named k x) (named k y) (Zoned a) (Zoned b)) →
         Within (Zoned a) (Some i) (Zoned b) (Some j)
-    both-zoned a b {i} {j} e f l h = by_tests (i == j) (bytes_eq x y) refl refl l h
+    both-zoned a b {i} {j} e f l h = rw one (by_test (bytes_eq x y) l h)
       where
-        by_tests : (t z : Bool) → (i == j) ≡ t → bytes_eq x y ≡ z → is_bad_end z (Zoned a) (Zoned b) ≡ false →
-            IsFine known (cond z None (Some (check.Ends (instant.Zoned a (named k x)) (instant.Zoned b (named k y))))) →
+        one : (i == j) ≡ bytes_eq x y
+        one =
+            same_from_decides (i == j) (bytes_eq x y) (
+              λ t. table.single (named k x) (named k y) i e (f ∙ ap (λ (n : ℕ). Some n) (sym ((Decides-eqb i j).0 t))),
+              λ same. (Decides-eqb i j).1 (same_Some i j (sym e ∙ ap (λ w. known.index (named k w)) same ∙ f)),
+            )
+            (bytes_decides x y)
+
+        by_test : (t : Bool) → is_bad_end t (Zoned a) (Zoned b) ≡ false →
+            IsFine known (cond t None (Some (check.Ends (instant.Zoned a (named k x)) (instant.Zoned b (named k y))))) →
             IsWithin (compared t known.zones (time (Zoned a) (Some i))) (compared t known.zones (time (Zoned b) (Some j)))
-        by_tests true true t z l h = out-within (local_seconds a) (local_seconds b) l
-        by_tests true false t z l h =
-            let one : i ≡ j = grind (arith, nat_tests, t) in
-            let same : x ≡ y = table.single (named k x) (named k y) i e (f ∙ ap (λ (n : ℕ). Some n) (sym one)) in
-            let told : bytes_eq x y ≡ true = (bytes_decides x y).1 same in
-            cc
-        by_tests false true t z l h =
-            let same : x ≡ y = (bytes_decides x y).0 z in
-            let one : i ≡ j = same_Some i j (sym e ∙ ap (λ w. known.index (named k w)) same ∙ f) in
-            absurd (grind (arith, nat_tests, t, one))
-        by_tests false false t z l h =
+        by_test true l h = out-within (local_seconds a) (local_seconds b) l
+        by_test false l h =
             instants-within (instant.Zoned a (named k x)) (instant.Zoned b (named k y)) (local-there (named k x) a i e) (local-there (named k y) b j f) h
 
     within : (r q : Stamp) → is_bad_end (bytes_eq x y) r q ≡ false →
@@ -262,44 +253,33 @@ module _ (known : KnownZones) (table : IsTable known) where
 
   -- in one calendar
   module _ (k : ℕ) where
-    ends-within : (start : Dated) (length : GivenLength) → IsSoundLength start length →
-        IsFine known (used_zone k start) → IsFine known (used_in k (end_of length)) → IsFine known (ends_in k (Some start) (end_of length)) →
-        EndsWithin known.zones (time_on known.index k start) (length_of known.index k length)
-    ends-within s (given.Until e) h u v w = within k (tzid s) (tzid e) s.stamp e.stamp h.1 u v w
-    ends-within s (given.Lasting d) h u v w = tt
-    ends-within s given.Open h u v w = tt
-
     time-below : (d : Dated) → TimeBelow (length known.zones) (time_on known.index k d)
     time-below d = stamp-below (zone_used k d) d.stamp
 
-    ends-below : (l : GivenLength) → EndsBelow (length known.zones) (length_of known.index k l)
-    ends-below (given.Until d) = time-below d
-    ends-below (given.Lasting d) = tt
-    ends-below given.Open = tt
-
-    lists-below : {A : Type 0} (P : A → Type 0) (f : Option ℕ → ListedDate → A) → ((used : ZoneName) (v : ListedDate) → P (f (known.index used) v)) →
-        (lists : List DateList) →
-        All P (flat_map (λ list. map (f (known.index (zone_listed k list))) list.values) lists)
-    lists-below P f each lists =
-        All-flat_map P (λ list. map (f (known.index (zone_listed k list))) list.values) lists
-        (λ i d l. All-map P (f (known.index (zone_listed k (get_or lists i d)))) (get_or lists i d).values
-        (λ j e m. each (zone_listed k (get_or lists i d)) (get_or (get_or lists i d).values j e)))
+    ends-of : (s : Dated) (l : GivenLength) → IsSoundLength s l →
+        IsFine known (used_zone k s) → IsFine known (used_in k (end_of l)) → IsFine known (ends_in k (Some s) (end_of l)) →
+        EndsBelow (length known.zones) (length_of known.index k l) × EndsWithin known.zones (time_on known.index k s) (length_of known.index k l)
+    ends-of s (given.Until e) h u v w = (time-below e, within k (tzid s) (tzid e) s.stamp e.stamp h.1 u v w)
+    ends-of s _ h u v w = (tt, tt)
 
     recurrence-below : (o : Option Dated) → IfSome (option_map (time_on known.index k) o) (TimeBelow (length known.zones))
     recurrence-below None = tt
-    recurrence-below (Some d) = stamp-below (zone_used k d) d.stamp
+    recurrence-below (Some d) = time-below d
 
   event-of : (e : EndedEvent) → IsReady known e → IsEventOf known.zones (event_of known.index e)
-  event-of e r = record {
-    below = record {
-      start = time-below e.calendar e.start;
-      length = ends-below e.calendar e.length;
-      rdates = lists-below e.calendar (RdateBelow (length known.zones)) rdate_in rdate-below e.rdates;
-      exdates = lists-below e.calendar (TimeBelow (length known.zones)) exdate_in exdate-below e.exdates;
-      recurrence = recurrence-below e.calendar e.recurrence;
-    };
-    short = ends-within e.calendar e.start e.length r.whole.length r.zones.start r.zones.end r.zones.length;
-  }
+  event-of e r =
+      let zones : ℕ = length known.zones in
+      let ends = ends-of e.calendar e.start e.length r.whole.length r.zones.start r.zones.end r.zones.length in
+      record {
+        below = record {
+          start = time-below e.calendar e.start;
+          length = ends.0;
+          rdates = lists-are known (RdateBelow zones) rdate_in e.calendar (λ used v h n. rdate-below used v) e.rdates r.whole.rdates r.zones.rdates;
+          exdates = lists-are known (TimeBelow zones) exdate_in e.calendar (λ used v h n. exdate-below used v) e.exdates r.whole.exdates r.zones.exdates;
+          recurrence = recurrence-below e.calendar e.recurrence;
+        };
+        short = ends.1;
+      }
 
   -- THE EVENTS of a file.
   pub events-of : (events : List EndedEvent) → All (IsReady known) events → AreEventsOf known.zones (map (event_of known.index) events)

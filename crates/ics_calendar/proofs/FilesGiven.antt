@@ -8,7 +8,7 @@ use Rattle.std.specs.Option.{option_or}
 use Rattle.std.specs.Str.{bytes_eq}
 use Rattle.std.proofs.Math.Bool.{or-false, or_assoc}
 use Rattle.std.proofs.Math.Path.{fun_ext}
-use Rattle.std.proofs.lemmas.List.{append-nil, length-append}
+use Rattle.std.proofs.lemmas.List.{append-nil, length-append, nil_from_length}
 use Rattle.std.proofs.lemmas.Option.{cond_some}
 use Rattle.std.proofs.lemmas.List.Elements.{All-head, All-tail}
 use Rattle.std.proofs.lemmas.List.Quantifiers.{position-Some}
@@ -89,7 +89,7 @@ table-known names zones long = record {
 
 -- and with those of zone files, one name at a time
 module _ (known : KnownZones) (table : IsTable known) where
-  below-here : (used : ZoneName) (i : ℕ) → known.index used ≡ Some i → i < length known.zones
+  pub below-here : (used : ZoneName) (i : ℕ) → known.index used ≡ Some i → i < length known.zones
   below-here used i e = subst (λ o. IfSome o (λ i. i < length known.zones)) e (table.below used)
 
   -- a file for a name, behind the zones that are known
@@ -160,8 +160,7 @@ with-bad known files n bad e h =
     (λ q. rw e (h q ∙ or-turned (bytes_eq n q) (known.is_bad q) ∙ ap (λ t. known.is_bad q || t) (nat_list_eq_equiv.symm n q ∙ sym (or-false (bytes_eq q n)))))
 
 pub with-nothing : (known : KnownZones) (files : GivenFiles) (names : List (List ℕ)) → length names ≡ 0 → known ≡ with_files known files names
-with-nothing known files [] e = sym (with-none known files)
-with-nothing known files (n ∷ ns) e = absurd (omega (arith, e))
+with-nothing known files names e = rw (nil_from_length names e) (sym (with-none known files))
 
 -- a place is put for a name that has none
 pub given-new : (index : List ℕ → Option ℕ) (name : List ℕ) (place : ℕ) (used : List ℕ) → is_some (index name) ≡ false →
@@ -193,10 +192,4 @@ file-new files name bytes other h =
 -- a pair more is given
 pub pair-further : (files : GivenFiles) (p : List ℕ × List ℕ) (rest : List (List ℕ × List ℕ)) (name : List ℕ) →
     option_or (with_file files p.0 p.1 name) (files_by rest name) ≡ option_or (files name) (files_by (p ∷ rest) name)
-pair-further files p rest name = by_old (files name) (bytes_eq name p.0)
-  where
-    by_old : (o : Option (Option TzifText)) (t : Bool) →
-        option_or (option_or o (cond t (Some (zone_file p.1)) None)) (files_by rest name) ≡ option_or o (cond t (Some (zone_file p.1)) (files_by rest name))
-    by_old (Some x) t = refl
-    by_old None true = refl
-    by_old None false = refl
+pair-further files p rest name = or-placed (files name) (files_by rest name) (bytes_eq name p.0) (zone_file p.1)
