@@ -138,34 +138,22 @@ module _ (whole : List Placed) (line : Line) (parts : Parts) (ls : List Placed) 
   leaves _ context.Event e c m = inr (rw e, rw (e, c))
   leaves _ _ e c m = inr (rw e, rw c)
 
-  here : IsMatched l → Leaves (name_of (map upper parts.name))
-  here m = leaves (name_of (map upper parts.name)) (context_of path) (tells (map upper parts.name)) refl m
+  pub left-on : IsMatched l → Leaves (name_of (map upper parts.name))
+  left-on m = leaves (name_of (map upper parts.name)) (context_of path) (tells (map upper parts.name)) refl m
 
-  -- as it is judged, and as it asks for a time zone
-  judged-left : (known : KnownZones) (n : Name) → Leaves n → find (λ kind. stands_later known kind ls l) kinds ≡ option_and_then (judged known) (left n)
-  judged-left known n (inl h) = rw (h.0, h.1, h.2) (ends-judged known g.calendar g.event.start g.event.end)
-  judged-left known n (inr h) = rw (h.0, h.1) (in-zone known (is_in_zone l) used)
+  -- WHAT THE SECOND ROUND FINDS on a line, of the table and of the pass.
+  pub later-same : (known : KnownZones) (n : Name) → Leaves n → find (λ kind. stands_later known kind ls l) kinds ≡ option_and_then (judged known) (left n)
+  later-same known n (inl h) = rw (h.0, h.1, h.2) (ends-judged known g.calendar g.event.start g.event.end)
+  later-same known n (inr h) = rw (h.0, h.1) (in-zone known (is_in_zone l) used)
 
-  asked-left : (known : KnownZones) (n : Name) → Leaves n →
+  -- WHAT IT ASKS FOR on a line.
+  pub asked-same : (known : KnownZones) (n : Name) → Leaves n →
       cond (is_in_unknown_zone known l) (Some (tzid_on l)) None ≡ option_and_then (unknown_in known.index) (left n)
-  asked-left known n (inl h) = rw (h.1, h.2) (sym (no-zone known.index g.calendar g.event.start g.event.end))
-  asked-left known n (inr h) = rw h.1 (by_zone (is_in_zone l))
+  asked-same known n (inl h) = rw (h.1, h.2) (sym (no-zone known.index g.calendar g.event.start g.event.end))
+  asked-same known n (inr h) = rw h.1 (by_zone (is_in_zone l))
     where
       by_zone : (z : Bool) →
           cond (z && not (is_some (known.index used))) (Some used.name) None
           ≡ option_and_then (unknown_in known.index) (cond z (Some (check.Zone used)) None)
       by_zone true = turned (is_some (known.index used)) used.name
       by_zone false = refl
-
-module _ (whole : List Placed) (known : KnownZones) (line : Line) (parts : Parts) (ls : List Placed) (path : List Open) where
-  -- WHAT THE SECOND ROUND FINDS on a line, of the table and of the pass.
-  pub later-same : IsMatched (with line path parts) →
-      find (λ kind. stands_later known kind ls (with line path parts)) kinds
-      ≡ option_and_then (judged known) (check_in (name_of (map upper parts.name)) parts (frame_of whole path ls))
-  later-same m = judged-left whole line parts ls path known (name_of (map upper parts.name)) (here whole line parts ls path m)
-
-  -- WHAT IT ASKS FOR on a line.
-  pub asked-same : IsMatched (with line path parts) →
-      cond (is_in_unknown_zone known (with line path parts)) (Some (tzid_on (with line path parts))) None
-      ≡ option_and_then (unknown_in known.index) (check_in (name_of (map upper parts.name)) parts (frame_of whole path ls))
-  asked-same m = asked-left whole line parts ls path known (name_of (map upper parts.name)) (here whole line parts ls path m)

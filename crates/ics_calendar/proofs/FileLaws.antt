@@ -3,6 +3,7 @@ use Rattle.std.proofs.Common.{◌≡◌, List, [], ◌∷◌, ◌++◌, inl, inr
 use Rattle.std.proofs.Common.{Ok, Err, Result, cond, drop_of_length-le, arith, ◌&&◌, Option, None}
 use Rattle.std.specs.List.{All}
 use Rattle.std.proofs.lemmas.Bool.{and_parts, ltb-false}
+use Rattle.std.proofs.lemmas.Option.{same_Some}
 use Rattle.std.specs.Prelude.{◌≢◌, find}
 use Rattle.ics_text.specs.Unfolded.{Line, unfolded, begins_with_fold}
 use Rattle.ics_text.specs.ContentLines.{content_of}
@@ -150,24 +151,18 @@ first-stands : (round : Round) (lines : List Placed) (line : ℕ) (h : IsFirst r
 first-stands round lines line h = found-is (λ kind. round kind (beside h.front h.line) h.line) kinds BadZoneFile h.least
 
 -- WHERE NO FILE IS GIVEN, none is bad.
-kind_in : Option Fault → FaultKind
-kind_in (Some fault) = fault.kind
-kind_in None = BadNesting
-
 at-end-other : (line : ℕ) (o : Option Placed) → end_fault o ≢ Some (bad_file line)
-unfolding kind_in
-at-end-other line None e = let other : NotCalendar ≡ BadZoneFile = ap kind_in e in cc
+at-end-other line None e = let other : NotCalendar ≡ BadZoneFile = ap (λ (f : Fault). f.kind) (same_Some _ (bad_file line) e) in cc
 at-end-other line (Some l) e = by_test (no_open (path_behind l)) e
   where
     by_test : (t : Bool) → cond t None (Some (record { line = l.number + 1; kind = BadNesting })) ≢ Some (bad_file line)
     by_test true e = cc
-    by_test false e = let other : BadNesting ≡ BadZoneFile = ap kind_in e in cc
+    by_test false e = let other : BadNesting ≡ BadZoneFile = ap (λ (f : Fault). f.kind) (same_Some _ (bad_file line) e) in cc
 
 none-later : (lines : List Placed) (before : List Placed) (line : Placed) → stands_later (zones_with no_files lines) BadZoneFile before line ≡ true → ⊥
 none-later lines before line e =
-    let never : false ≡ true =
-    (and_parts (is_in_unknown_zone (zones_on lines) line) false
-    (subst (λ (known : KnownZones). (is_in_unknown_zone known line && known.is_bad (tzid_on line)) ≡ true) (zones-alone lines) e)).1 in cc
+    let never = and_parts (is_in_unknown_zone (zones_on lines) line) false
+    (subst (λ (known : KnownZones). (is_in_unknown_zone known line && known.is_bad (tzid_on line)) ≡ true) (zones-alone lines) e) in cc
 
 pub no-bad-file : (file : List ℕ) (line : ℕ) → file_of no_files file ≢ Err (bad_file line)
 no-bad-file file line e = by_cause (subst (λ (r : Result FileSaid Fault). IsFile no_files file r) e (is-file no_files file))
@@ -186,7 +181,7 @@ decided_by known lines =
 
 pub only-wanted : (files others : GivenFiles) (file : List ℕ) → All (λ name. files name ≡ others name) (wanted_names file) →
     file_of files file ≡ file_of others file
-only-wanted files others file h = by_fold (begins_with_fold file) refl h
+only-wanted files others file = by_fold (begins_with_fold file)
   where
     by_first : (o : Option Fault) → All (λ name. files name ≡ others name) (wanted_on o (placed file)) →
         decide o (later_fault files (placed file)) (said_of files (placed file)) ≡ decide o (later_fault others (placed file)) (said_of others (placed file))
@@ -194,9 +189,8 @@ only-wanted files others file h = by_fold (begins_with_fold file) refl h
     by_first None h =
         ap (λ known. decided_by known (placed file)) (with-agreed (zones_on (placed file)) files others (each_once (unknown_names (placed file))) h)
 
-    by_fold : (t : Bool) → begins_with_fold file ≡ t →
-        All (λ name. files name ≡ others name) (cond t [] (wanted_on (first_fault (placed file)) (placed file))) →
+    by_fold : (t : Bool) → All (λ name. files name ≡ others name) (cond t [] (wanted_on (first_fault (placed file)) (placed file))) →
         cond t (Err bad_fold) (decide (first_fault (placed file)) (later_fault files (placed file)) (said_of files (placed file)))
         ≡ cond t (Err bad_fold) (decide (first_fault (placed file)) (later_fault others (placed file)) (said_of others (placed file)))
-    by_fold true e h = refl
-    by_fold false e h = by_first (first_fault (placed file)) h
+    by_fold true h = refl
+    by_fold false h = by_first (first_fault (placed file)) h

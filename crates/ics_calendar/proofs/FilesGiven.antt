@@ -6,9 +6,10 @@ use Rattle.std.specs.Cmp.Lexicographic.{bytes_decides, nat_list_eq_equiv}
 use Rattle.std.specs.List.{All, list_any, position_from, cons_option}
 use Rattle.std.specs.Option.{option_or}
 use Rattle.std.specs.Str.{bytes_eq}
-use Rattle.std.proofs.Math.Bool.{or-false, or_assoc}
+use Rattle.std.proofs.Math.Bool.{or-false, or_assoc, or_comm}
+use Rattle.std.proofs.lemmas.Bool.{and_parts}
 use Rattle.std.proofs.Math.Path.{fun_ext}
-use Rattle.std.proofs.lemmas.List.{append-nil, length-append, nil_from_length}
+use Rattle.std.proofs.lemmas.List.{append-nil, length-append}
 use Rattle.std.proofs.lemmas.Option.{cond_some}
 use Rattle.std.proofs.lemmas.List.Elements.{All-head, All-tail}
 use Rattle.std.proofs.lemmas.List.Quantifiers.{position-Some}
@@ -68,12 +69,7 @@ with-no-files known (n ∷ ns) = with-no-files known ns
 
 -- A NAME IN A TABLE of VTIMEZONEs.
 same-text : (a b : ZoneName) → is_same a b ≡ true → a.name ≡ b.name
-same-text a b h = by_tests (a.calendar == b.calendar) (bytes_eq a.name b.name) refl h
-  where
-    by_tests : (s t : Bool) → bytes_eq a.name b.name ≡ t → (s && t) ≡ true → a.name ≡ b.name
-    by_tests true true e h = (bytes_decides a.name b.name).0 e
-    by_tests true false e h = cc
-    by_tests false t e h = cc
+same-text a b h = (bytes_decides a.name b.name).0 (and_parts (a.calendar == b.calendar) (bytes_eq a.name b.name) h).1
 
 pub table-known : (names : List ZoneName) (zones : List ZoneSaid) → length names ≡ length zones → IsTable (known_zones names zones)
 table-known names zones long = record {
@@ -145,10 +141,9 @@ table-with known files (n ∷ ns) t =
     subst (λ k. IsTable k) (with-further known files n ns) (table-with (with_files known files (n ∷ [])) files ns (table-one known t files n))
 
 -- ONE FILE, PAIR OR NAME MORE.
-or-turned : (t b : Bool) → cond t true b ≡ (b || t)
-or-turned true true = refl
-or-turned true false = refl
-or-turned false b = sym (or-false b)
+pub or-is : (t b : Bool) → cond t true b ≡ (t || b)
+or-is true b = refl
+or-is false b = refl
 
 -- a name for which a file is given that is no zone file
 pub with-bad : (known : KnownZones) (files : GivenFiles) (n : List ℕ) (bad : List ℕ → Bool) → files n ≡ Some None →
@@ -157,37 +152,32 @@ pub with-bad : (known : KnownZones) (files : GivenFiles) (n : List ℕ) (bad : L
 with-bad known files n bad e h =
     same-known (record { index = known.index; zones = known.zones; is_bad = bad }) (with_files known files (n ∷ []))
     (λ used. rw e (sym (or-none (known.index used)))) (rw e (sym (append-nil known.zones)))
-    (λ q. rw e (h q ∙ or-turned (bytes_eq n q) (known.is_bad q) ∙ ap (λ t. known.is_bad q || t) (nat_list_eq_equiv.symm n q ∙ sym (or-false (bytes_eq q n)))))
+    (λ q. rw e (h q ∙ or-is (bytes_eq n q) (known.is_bad q) ∙ or_comm (bytes_eq n q) (known.is_bad q)
+    ∙ ap (λ t. known.is_bad q || t) (nat_list_eq_equiv.symm n q ∙ sym (or-false (bytes_eq q n)))))
 
-pub with-nothing : (known : KnownZones) (files : GivenFiles) (names : List (List ℕ)) → length names ≡ 0 → known ≡ with_files known files names
-with-nothing known files names e = rw (nil_from_length names e) (sym (with-none known files))
+-- What is put for a name that has nothing, as something says that puts it there and nothing elsewhere.
+module _ {X : Type 0} (put : Option X → Bool → Option X) (x : X) (there : put None true ≡ Some x) (elsewhere : (o : Option X) → put o false ≡ o) where
+  put-new : (had : List ℕ → Option X) (name used : List ℕ) → is_some (had name) ≡ false →
+      cond (bytes_eq name used) (Some x) (had used) ≡ put (had used) (bytes_eq used name)
+  put-new had name used h = ap (λ t. cond t (Some x) (had used)) (nat_list_eq_equiv.symm name used) ∙ by_test (bytes_eq used name) refl
+    where
+      by_none : (o : Option X) → is_some o ≡ false → Some x ≡ put o true
+      by_none None e = sym there
+      by_none (Some y) e = cc
 
--- a place is put for a name that has none
+      by_test : (t : Bool) → bytes_eq used name ≡ t → cond t (Some x) (had used) ≡ put (had used) t
+      by_test true e = by_none (had used) (ap (λ n. is_some (had n)) ((bytes_decides used name).0 e) ∙ h)
+      by_test false e = sym (elsewhere (had used))
+
+-- a place, and a file
 pub given-new : (index : List ℕ → Option ℕ) (name : List ℕ) (place : ℕ) (used : List ℕ) → is_some (index name) ≡ false →
     cond (bytes_eq name used) (Some place) (index used) ≡ put_given index name place used
-given-new index name place used h =
-    ap (λ t. cond t (Some place) (index used)) (nat_list_eq_equiv.symm name used) ∙ by_test (bytes_eq used name) refl
-  where
-    by_test : (t : Bool) → bytes_eq used name ≡ t → cond t (Some place) (index used) ≡ cond (t && not (is_some (index used))) (Some place) (index used)
-    by_test true e =
-        let new : is_some (index used) ≡ false = ap (λ n. is_some (index n)) ((bytes_decides used name).0 e) ∙ h in
-        sym (ap (λ t. cond (not t) (Some place) (index used)) new)
-    by_test false e = refl
+given-new index name place used = put-new (λ o t. cond (t && not (is_some o)) (Some place) o) place refl (λ o. refl) index name used
 
--- a file is given for a name that has none
 pub file-new : (files : GivenFiles) (name bytes other : List ℕ) → is_some (files name) ≡ false →
     cond (bytes_eq name other) (Some (zone_file bytes)) (files other) ≡ with_file files name bytes other
-file-new files name bytes other h =
-    ap (λ t. cond t (Some (zone_file bytes)) (files other)) (nat_list_eq_equiv.symm name other) ∙ by_test (bytes_eq other name) refl
-  where
-    by_old : (o : Option (Option TzifText)) → is_some o ≡ false → Some (zone_file bytes) ≡ option_or o (Some (zone_file bytes))
-    by_old None e = refl
-    by_old (Some o) e = cc
-
-    by_test : (t : Bool) → bytes_eq other name ≡ t →
-        cond t (Some (zone_file bytes)) (files other) ≡ option_or (files other) (cond t (Some (zone_file bytes)) None)
-    by_test true e = by_old (files other) (ap (λ n. is_some (files n)) ((bytes_decides other name).0 e) ∙ h)
-    by_test false e = sym (or-none (files other))
+file-new files name bytes other =
+    put-new (λ o t. option_or o (cond t (Some (zone_file bytes)) None)) (zone_file bytes) refl or-none files name other
 
 -- a pair more is given
 pub pair-further : (files : GivenFiles) (p : List ℕ × List ℕ) (rest : List (List ℕ × List ℕ)) (name : List ℕ) →

@@ -31,7 +31,7 @@ use Rattle.ics_calendar.specs.Zones.{zones_on}
 use Rattle.ics_components.proofs.Ended.{events, zones, IsMatched}
 use Rattle.ics_components.proofs.EndOrder.{events-are, zones-are, names-begun, calendar-inside, begun-same}
 use Rattle.ics_components.proofs.Frames.{with}
-use Rattle.ics_calendar.proofs.DeferredTable.{later-same, asked-same}
+use Rattle.ics_calendar.proofs.DeferredTable.{left-on, later-same, asked-same}
 use Rattle.ics_components.proofs.Order.{found-none, inside, begun, IsPlaced, ordered, nested}
 use Rattle.ics_components.proofs.PassLemmas.{checks_from, gathered_from, lists, three, with_content}
 use Rattle.ics_components.proofs.Table.{frame_of}
@@ -72,7 +72,7 @@ judges whole known =
     let l : Placed = with line path v in
     let checks : List LineCheck = checks_from whole (before ++ l ∷ []) rest in
     found-checks known line.number (check_in (name_of (map upper v.name)) v (frame_of whole path (beside before l))) checks
-    ∙ ap (λ k. found line.number k (first_judged known checks)) (sym (later-same whole known line v (beside before l) path m))
+    ∙ ap (λ k. found line.number k (first_judged known checks)) (sym (later-same whole line v (beside before l) path known _ (left-on whole line v (beside before l) path m)))
     ∙ ap (found line.number (least_on (stands_later known) before l)) again)
 
 -- THE TIME ZONES, by what is gathered.
@@ -105,7 +105,7 @@ asks whole known =
     asked-first known.index line.number (check_in (name_of (map upper v.name)) v (frame_of whole path (beside before l)))
     (checks_from whole (before ++ l ∷ []) rest)
     ∙ ap (λ o. cons_option o (all_unknown known.index (checks_from whole (before ++ l ∷ []) rest)))
-    (sym (asked-same whole known line v (beside before l) path m))
+    (sym (asked-same whole line v (beside before l) path known _ (left-on whole line v (beside before l) path m)))
     ∙ by_test l (all_unknown known.index (checks_from whole (before ++ l ∷ []) rest)) (filter (is_in_unknown_zone known) rest) again
     (is_in_unknown_zone known l))
   where

@@ -1,9 +1,7 @@
 -- A table of the names of time zones gives the index of the first zone of each.
-use Rattle.std.proofs.Common.{◌≡◌, ℕ, Bool, true, false, ◌&&◌, ◌==◌, List, [], ◌∷◌, length, arith, refl, sym, ap, ◌∙◌, cond, Option, Some, None, is_some}
+use Rattle.std.proofs.Common.{◌≡◌, ℕ, Bool, true, false, ◌&&◌, ◌==◌, refl, sym, ap, ◌∙◌, cond, Option, Some, is_some}
 use Rattle.std.specs.Cmp.{nat_eq_equiv, unsigned_ties}
 use Rattle.std.specs.Cmp.Lexicographic.{slice_cmp, nat_list_eq_equiv, texts_ties}
-use Rattle.std.specs.List.{position_from}
-use Rattle.std.specs.Option.{option_or}
 use Rattle.std.specs.Ordering.{is_eq, nat_cmp, ordering_then}
 use Rattle.std.specs.declared.cmp.Ordering.{Ordering}
 use Rattle.std.specs.declared.cmp.Ordering.TheVariants.{Less, Equal, Greater}
@@ -23,12 +21,6 @@ ties name used =
     ∙ (ap (λ t. t && is_eq (slice_cmp nat_cmp name.name used.name))
     (sym (unsigned_ties name.calendar used.calendar) ∙ nat_eq_equiv.symm name.calendar used.calendar)
     ∙ ap (λ t. (used.calendar == name.calendar) && t) (sym (texts_ties name.name used.name) ∙ nat_list_eq_equiv.symm name.name used.name))
-
--- no zone is to come
-pub or-none : (o : Option ℕ) (p : ZoneName → Bool) (n : ℕ) (zs : List ZoneName) → length zs ≡ 0 → o ≡ option_or o (position_from p n zs)
-or-none (Some i) p n zs e = refl
-or-none None p n [] e = refl
-or-none None p n (z ∷ zs) e = absurd (omega (arith, e))
 
 module _ (index : ZoneName → Option ℕ) (name : ZoneName) (place : ℕ) where
   pub put-new : (used : ZoneName) → is_some (index name) ≡ false → cond (is_eq (name_cmp name used)) (Some place) (index used) ≡ put_first index name place used

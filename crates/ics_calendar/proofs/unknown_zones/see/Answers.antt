@@ -1,13 +1,10 @@
-use Rattle.std.proofs.Common.{◌≡◌, Bool, true, false, ◌||◌, cond, refl, ap, ◌∙◌, bytes_eq}
+use Rattle.std.proofs.Common.{Bool, true, cond, ap, ◌∙◌, bytes_eq}
 use Rattle.std.specs.BTreeSet.{contains}
 use Rattle.std.specs.Cmp.Lexicographic.{slice_cmp, nat_list_eq_equiv}
 use Rattle.std.specs.Ordering.{nat_cmp}
 use Rattle.std.proofs.lemmas.Map.Text.{is_eq-slice_cmp}
+use Rattle.ics_calendar.proofs.FilesGiven.{or-is}
 use Rattle.ics_calendar.proofs.unknown_zones.see.Goals as goal
-
-or-is : (a b : Bool) → cond a true b ≡ (a || b)
-or-is true b = refl
-or-is false b = refl
 
 pub returns-clause-seen : goal.returns-clause-seen
 returns-clause-seen c = λ other.

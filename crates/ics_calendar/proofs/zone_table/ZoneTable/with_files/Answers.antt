@@ -1,8 +1,9 @@
-use Rattle.std.proofs.Common.{rules, ◌≡◌, ◌∷◌, length, ap, ◌∙◌}
+use Rattle.std.proofs.Common.{rules, ◌≡◌, ◌∷◌, [], sym, ap, ◌∙◌}
+use Rattle.std.proofs.lemmas.List.{nil_from_length}
 use Rattle.ics_calendar.specs.DeferredChecks.{KnownZones, with_files}
 use Rattle.ics_calendar.specs.GivenFiles.{GivenFiles}
 use Rattle.ics_calendar.specs.ZoneTables.{known_by, given_by}
-use Rattle.ics_calendar.proofs.FilesGiven.{with-further, with-nothing}
+use Rattle.ics_calendar.proofs.FilesGiven.{with-further, with-none}
 use Rattle.ics_calendar.proofs.zone_table.ZoneTable.with_files.Goals as goal
 
 pub loop-name-preserved : goal.loop-name-preserved
@@ -15,5 +16,5 @@ loop-name-preserved c =
 
 pub returns : goal.returns
 returns c =
-    let none : length c.loop-name.name-iterator.rest.items ≡ 0 = search rules in
-    with-nothing (known_by c.loop-name.table) (given_by c.args.files.now) c.loop-name.name-iterator.rest.items none ∙ c.loop-name.invariant
+    let none : c.loop-name.name-iterator.rest.items ≡ [] = nil_from_length c.loop-name.name-iterator.rest.items (search rules) in
+    sym (with-none (known_by c.loop-name.table) (given_by c.args.files.now)) ∙ rw none at c.loop-name.invariant
