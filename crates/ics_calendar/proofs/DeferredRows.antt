@@ -126,17 +126,9 @@ east-moment : (local : ℤ) → zone_moment (east ∷ []) local ≡ local -ℤ p
 unfolding east
 east-moment = moment-is east refl (record { start_in = (omega (arith, ints), omega (arith, ints)); from_in = omega (arith, ints); to_in = omega (arith, ints) })
 
--- an end that is later on its clock, and earlier as an instant
-bad_end : judged known (Ends (Zoned ten (named (codes "W"))) (Zoned eleven (named (codes "E")))) ≡ Some BadEnd
-bad_end = rw (west-moment _, east-moment _) refl
-
--- an end that is earlier on its clock, and later as an instant
-good_end : judged known (Ends (Zoned ten (named (codes "E"))) (Zoned nine (named (codes "W")))) ≡ None
-good_end = rw (west-moment _, east-moment _) refl
-
--- against a time of UTC
-bad_utc_end : judged known (Ends (Zoned ten (named (codes "W"))) (Utc eleven)) ≡ Some BadEnd
-bad_utc_end = rw (west-moment _) refl
-
-good_utc_start : judged known (Ends (Utc ten) (Zoned nine (named (codes "W")))) ≡ None
-good_utc_start = rw (west-moment _) refl
+-- An end is later on its clock, and earlier as an instant, or earlier on its clock, and later as an instant, and each against a time of UTC.
+ends_judged : map (judged known) (
+    Ends (Zoned ten (named (codes "W"))) (Zoned eleven (named (codes "E"))) ∷ Ends (Zoned ten (named (codes "E"))) (Zoned nine (named (codes "W")))
+    ∷ Ends (Zoned ten (named (codes "W"))) (Utc eleven) ∷ Ends (Utc ten) (Zoned nine (named (codes "W"))) ∷ []
+    ) ≡ Some BadEnd ∷ None ∷ Some BadEnd ∷ None ∷ []
+ends_judged = simp (west-moment, east-moment)

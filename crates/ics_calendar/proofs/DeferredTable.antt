@@ -1,5 +1,5 @@
 -- The table of the second round and the pass find one fault on a line, and ask for one time zone.
-use Rattle.std.proofs.Common.{◌≡◌, ◌⊎◌, inl, inr, ℕ, Bool, true, false, ◌&&◌, List, map, refl, sym, ap, ◌∙◌, cond, Option, Some, None, is_some, ℤ}
+use Rattle.std.proofs.Common.{◌≡◌, ◌⊎◌, inl, inr, ℕ, Bool, true, false, ◌&&◌, List, map, refl, sym, cond, Option, Some, None, is_some, ℤ}
 use Rattle.std.specs.Prelude.{find, not}
 use Rattle.std.specs.Option.{option_and_then}
 use Rattle.std.proofs.Math.Bool.{or-false}
@@ -27,7 +27,7 @@ use Rattle.ics_components.specs.PlacedLines.{Placed, Open, context_of, closes, e
 use Rattle.ics_components.specs.Values.{dated_of, is_out}
 use Rattle.ics_components.specs.Faults.{kinds}
 use Rattle.ics_calendar.specs.LaterFaults.{is_in_zone, is_in_unknown_zone, stands_later, tzid_on}
-use Rattle.ics_calendar.specs.DeferredChecks.{KnownZones, are_out, moment_on, moment_in, ends_badly_later, moment_of, judged, unknown_in}
+use Rattle.ics_calendar.specs.DeferredChecks.{KnownZones, are_out, moment_on, ends_badly_later, moment_of, judged, unknown_in}
 use Rattle.ics_components.specs.ZoneNames.{zone_used, are_of_one_zone}
 use Rattle.ics_components.specs.SecondRound.{instant_on, instant_in, both_compared, ends_in}
 use Rattle.ics_components.proofs.Judged.{check_in}
@@ -63,10 +63,8 @@ ends-judged : (known : KnownZones) (calendar : ℕ) (start end : Option Dated) �
 ends-judged known k None end = refl
 ends-judged known k (Some a) None = refl
 ends-judged known k (Some a) (Some b) =
-    ap (λ o. cond (not (are_of_one_zone a b) && are_out o (moment_in known k b)) (Some BadEnd) None) (moment-is known (zone_used k a) a.stamp)
-    ∙ ap (λ o. cond (not (are_of_one_zone a b) && are_out (option_and_then (moment_of known) (instant_in k a)) o) (Some BadEnd) None)
-    (moment-is known (zone_used k b) b.stamp)
-    ∙ by_test (are_of_one_zone a b)
+    rw (moment-is known (zone_used k a) a.stamp, moment-is known (zone_used k b) b.stamp)
+    (by_test (are_of_one_zone a b))
   where
     by_test : (t : Bool) → cond (not t && are_out (option_and_then (moment_of known) (instant_in k a)) (option_and_then (moment_of known) (instant_in k b)))
         (Some BadEnd) None

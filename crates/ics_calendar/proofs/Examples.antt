@@ -10,49 +10,39 @@ use Rattle.ics_components.specs.declared.fault.FaultKind.TheVariants.{BadLine, B
 use Rattle.ics_event.specs.declared.time.Length.TheVariants.{Until}
 use Rattle.ics_calendar.specs.Files.{file_of}
 use Rattle.ics_calendar.specs.GivenFiles.{no_files}
-use Rattle.ics_calendar.proofs.ExampleFiles.{text, calendar, event, events, fault, at}
+use Rattle.ics_calendar.proofs.ExampleFiles.{text, calendar, event, events, fault, at, Faults}
 
--- what begins a file
-no_bytes : fault [] ≡ at 1 NotCalendar
-no_bytes = refl
+-- what begins a file, components, and nesting to depth 32
+files : Faults text (
+    ([], at 1 NotCalendar)
+    ∷ (codes "END:VCALENDAR" ∷ [], at 1 NotCalendar)
+    ∷ (codes "BEGIN:VCALENDAR" ∷ codes "END:VCALENDAR " ∷ [], at 2 BadNesting)
+    ∷ (codes "BEGIN;X=1:VCALENDAR" ∷ codes "END;X=1:VCALENDAR" ∷ [], None)
+    ∷ (codes "BEGIN:VCALENDAR" ∷ codes "X:a" ∷ codes " b" ∷ codes " c" ∷ [], at 3 BadNesting)
+    ∷ (codes "BEGIN:VCALENDAR" ∷ replicate 31 (codes "BEGIN:X"), at 33 BadNesting)
+    ∷ []
+    )
+files = refl
 
-end_outside : fault (text (codes "END:VCALENDAR" ∷ [])) ≡ at 1 NotCalendar
-end_outside = refl
-
--- components
-space_behind : fault (text (codes "BEGIN:VCALENDAR" ∷ codes "END:VCALENDAR " ∷ [])) ≡ at 2 BadNesting
-space_behind = refl
-
-inner_calendar : fault (calendar (codes "BEGIN:VCALENDAR" ∷ codes "BEGIN:VEVENT" ∷ codes "DTSTART:x" ∷ codes "END:VEVENT" ∷ codes "END:VCALENDAR" ∷ [])) ≡ None
-inner_calendar = refl
-
-parameters : fault (text (codes "BEGIN;X=1:VCALENDAR" ∷ codes "END;X=1:VCALENDAR" ∷ [])) ≡ None
-parameters = refl
-
-folded_end : fault (text (codes "BEGIN:VCALENDAR" ∷ codes "X:a" ∷ codes " b" ∷ codes " c" ∷ [])) ≡ at 3 BadNesting
-folded_end = refl
+-- an event, and a time zone elsewhere than in a calendar, are not looked at
+calendars : Faults calendar (
+    (codes "BEGIN:VCALENDAR" ∷ codes "BEGIN:VEVENT" ∷ codes "DTSTART:x" ∷ codes "END:VEVENT" ∷ codes "END:VCALENDAR" ∷ [], None)
+    ∷ (codes "BEGIN:X" ∷ codes "BEGIN:VTIMEZONE" ∷ codes "TZID:E" ∷ codes "END:VTIMEZONE" ∷ codes "END:X" ∷ [], None)
+    ∷ []
+    )
+calendars = refl
 
 -- a line that is no content line goes before what stands on later lines
 junk_behind : fault (event (codes "UID:a" ∷ codes "DTSTART;TZID=XX:20240105T100000" ∷ []) ++ codes "junk") ≡ at 7 BadLine
 junk_behind = refl
 
-two_uids : fault (event (codes "UID:a" ∷ codes "UID:b" ∷ codes "DTSTART;TZID=XX:20240105T100000" ∷ [])) ≡ at 4 Repeated
-two_uids = refl
-
-end_zone : fault (event (codes "UID:a" ∷ codes "DTSTART;TZID=XX:20240105T100000" ∷ codes "DTEND;TZID=YY:20240105T110000" ∷ [])) ≡ at 4 UnknownZone
-end_zone = refl
-
--- other faults
-version_inside : fault (event (codes "UID:a" ∷ codes "DTSTART:20240105" ∷ codes "VERSION:1.0" ∷ [])) ≡ None
-version_inside = refl
-
--- a time zone elsewhere than in a calendar is not looked at
-zone_elsewhere : fault (calendar (codes "BEGIN:X" ∷ codes "BEGIN:VTIMEZONE" ∷ codes "TZID:E" ∷ codes "END:VTIMEZONE" ∷ codes "END:X" ∷ [])) ≡ None
-zone_elsewhere = refl
-
--- nesting, to depth 32
-deep_enough : fault (text (codes "BEGIN:VCALENDAR" ∷ replicate 31 (codes "BEGIN:X"))) ≡ at 33 BadNesting
-deep_enough = refl
+of_one_event : Faults event (
+    (codes "UID:a" ∷ codes "UID:b" ∷ codes "DTSTART;TZID=XX:20240105T100000" ∷ [], at 4 Repeated)
+    ∷ (codes "UID:a" ∷ codes "DTSTART;TZID=XX:20240105T100000" ∷ codes "DTEND;TZID=YY:20240105T110000" ∷ [], at 4 UnknownZone)
+    ∷ (codes "UID:a" ∷ codes "DTSTART:20240105" ∷ codes "VERSION:1.0" ∷ [], None)
+    ∷ []
+    )
+of_one_event = refl
 
 -- what an accepted file gives
 abbrev standup : List ℕ

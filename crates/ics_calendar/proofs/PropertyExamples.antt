@@ -75,11 +75,12 @@ missing : Faults named (
     )
 missing = refl
 
-no_uid : fault (event (codes "DTSTART:20240105" ∷ [])) ≡ at 4 MissingUid
-no_uid = refl
-
-second_uid : fault (event (codes "UID:" ∷ codes "UID:a" ∷ codes "DTSTART:20240105" ∷ [])) ≡ at 4 Repeated
-second_uid = refl
+uids : Faults event (
+    (codes "DTSTART:20240105" ∷ [], at 4 MissingUid)
+    ∷ (codes "UID:" ∷ codes "UID:a" ∷ codes "DTSTART:20240105" ∷ [], at 4 Repeated)
+    ∷ []
+    )
+uids = refl
 
 -- rules: a bad one and a number too large before a repeated one, and one of an alarm that is not looked at
 rules : Faults named (

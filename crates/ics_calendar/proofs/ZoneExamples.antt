@@ -17,18 +17,15 @@ standard lines = zone (codes "TZID:E" ∷ codes "BEGIN:STANDARD" ∷ lines ++ co
 abbrev fields : List (List ℕ)
 fields = codes "DTSTART:20071104T020000" ∷ codes "TZOFFSETFROM:-0400" ∷ codes "TZOFFSETTO:-0500" ∷ []
 
-nothing_at_all : fault (zone []) ≡ at 3 NoObservance
-nothing_at_all = refl
-
-two_names : fault (zone (codes "TZID:E" ∷ codes "TZID:E" ∷ [])) ≡ at 4 ObservanceField
-two_names = refl
-
-no_name : fault (zone (codes "BEGIN:DAYLIGHT" ∷ fields ++ codes "END:DAYLIGHT" ∷ [])) ≡ at 8 ObservanceField
-no_name = refl
-
--- the END of another part
-crossed : fault (zone (codes "TZID:E" ∷ codes "BEGIN:STANDARD" ∷ codes "END:DAYLIGHT" ∷ [])) ≡ at 5 BadNesting
-crossed = refl
+-- no name, or two, and the END of another part
+names : Faults zone (
+    ([], at 3 NoObservance)
+    ∷ (codes "TZID:E" ∷ codes "TZID:E" ∷ [], at 4 ObservanceField)
+    ∷ (codes "BEGIN:DAYLIGHT" ∷ fields ++ codes "END:DAYLIGHT" ∷ [], at 8 ObservanceField)
+    ∷ (codes "TZID:E" ∷ codes "BEGIN:STANDARD" ∷ codes "END:DAYLIGHT" ∷ [], at 5 BadNesting)
+    ∷ []
+    )
+names = refl
 
 -- an offset that is there twice, and bad ones
 offsets : Faults standard (
@@ -95,11 +92,10 @@ known name = codes "BEGIN:VTIMEZONE" ∷ name ++ codes "BEGIN:STANDARD" ∷ fiel
 abbrev used : List ℕ → List (List ℕ)
 used start = codes "BEGIN:VEVENT" ∷ codes "UID:a" ∷ start ∷ codes "END:VEVENT" ∷ []
 
-other_zone : fault (calendar (known (codes "TZID:E" ∷ []) ++ used (codes "DTSTART;TZID=e:20240105T100000"))) ≡ at 12 UnknownZone
-other_zone = refl
-
-escaped : fault (calendar (known (codes "TZID:E\\,F" ∷ []) ++ used (codes "DTSTART;TZID=\"E,F\":20240105T100000"))) ≡ None
-escaped = refl
-
-not_a_zone : fault (calendar (codes "TZID:E" ∷ used (codes "DTSTART;TZID=E:20240105T100000"))) ≡ at 5 UnknownZone
-not_a_zone = refl
+uses : Faults calendar (
+    (known (codes "TZID:E" ∷ []) ++ used (codes "DTSTART;TZID=e:20240105T100000"), at 12 UnknownZone)
+    ∷ (known (codes "TZID:E\\,F" ∷ []) ++ used (codes "DTSTART;TZID=\"E,F\":20240105T100000"), None)
+    ∷ (codes "TZID:E" ∷ used (codes "DTSTART;TZID=E:20240105T100000"), at 5 UnknownZone)
+    ∷ []
+    )
+uses = refl
