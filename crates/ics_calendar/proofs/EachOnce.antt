@@ -1,5 +1,5 @@
 -- A list of names with a set of the names seen so far beside it has each name once, in the order of their first places.
-use Rattle.std.proofs.Common.{◌≡◌, ℕ, ◌+◌, ◌<◌, Bool, true, false, ◌||◌, List, [], ◌∷◌, ◌++◌, filter, drop, length, get_or, refl, sym, ap, ◌∙◌, cond}
+use Rattle.std.proofs.Common.{◌≡◌, ℕ, ◌+◌, ◌<◌, Bool, true, false, ◌||◌, List, [], ◌∷◌, ◌++◌, filter, drop, length, get_or, refl, ap, cond}
 use Rattle.std.proofs.Common.{append_assoc, add-one, drop-cons, Option, Some, None}
 use Rattle.std.specs.Prelude.{not}
 use Rattle.std.specs.List.{cons_option}
@@ -51,15 +51,12 @@ module _ (index : ZoneName → Option ℕ) (checks : List LineCheck) (i : ℕ) (
 
   module _ (seen : List ℕ → Bool) (had all : List (List ℕ)) (so_far : had ++ unseen seen (each_once (all_unknown index (drop i checks))) ≡ all) where
     pub passed-over : None ≡ unknown_in index w.check → had ++ unseen seen (each_once after) ≡ all
-    passed-over e = ap (λ ns. had ++ unseen seen (each_once ns)) (sym (next None e)) ∙ so_far
+    passed-over e = rw (← next None e) so_far
 
     module _ (now : List ℕ → Bool) (name : List ℕ) (more : (q : List ℕ) → now q ≡ (bytes_eq q name || seen q)) where
       pub again : Some name ≡ unknown_in index w.check → not (seen name) ≡ false → had ++ unseen now (each_once after) ≡ all
-      again e s =
-          ap (λ ns. had ++ ns) (sym (seen-again seen now name more after s))
-          ∙ ap (λ ns. had ++ unseen seen (each_once ns)) (sym (next (Some name) e)) ∙ so_far
+      again e s = rw (← seen-again seen now name more after s) (rw (next (Some name) e) at so_far)
 
       pub added : Some name ≡ unknown_in index w.check → not (seen name) ≡ true → (had ++ name ∷ []) ++ unseen now (each_once after) ≡ all
       added e s =
-          append_assoc had (name ∷ []) (unseen now (each_once after)) ∙ ap (λ ns. had ++ ns) (sym (first-seen seen now name more after s))
-          ∙ ap (λ ns. had ++ unseen seen (each_once ns)) (sym (next (Some name) e)) ∙ so_far
+          rw (append_assoc had (name ∷ []) (unseen now (each_once after)), ← first-seen seen now name more after s) (rw (next (Some name) e) at so_far)

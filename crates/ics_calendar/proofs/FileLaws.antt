@@ -70,9 +70,8 @@ first-before round before xs ys fault h = record {
 
 pub look-back : FaultsLookBack
 look-back files file longer more fault e f h =
-    let split : placed longer ≡ placed file ++ behind [] (unfolded file) more = ap (placed_from []) e ∙ placed-split [] (unfolded file) more in
     let first = first-before stands [] (placed file) (behind [] (unfolded file) more) fault h in
-    inr (f, inl (inl (subst (λ (ls : List Placed). IsFirst stands [] ls fault) (sym split) first)))
+    inr (f, inl (inl (rw (e, placed-split [] (unfolded file) more) first)))
 
 -- A file reads of a PERIOD what the reader of periods does.
 -- a text without a `/` has no second half
@@ -140,7 +139,7 @@ found-is p [] kind e = cc
 found-is p (k ∷ ks) kind e = by_test (found-is p ks kind) (p k) refl e
   where
     by_test : (find p ks ≡ Some kind → p kind ≡ true) → (t : Bool) → p k ≡ t → cond t (Some k) (find p ks) ≡ Some kind → p kind ≡ true
-    by_test again true h e = let same : k ≡ kind = cc in subst (λ (k : FaultKind). p k ≡ true) same h
+    by_test again true h e = rw (same_Some k kind e) at h
     by_test again false h e = again e
 
 abbrev bad_file : ℕ → Fault

@@ -8,7 +8,6 @@ use Rattle.std.specs.Option.{option_or}
 use Rattle.std.specs.Str.{bytes_eq}
 use Rattle.std.proofs.Math.Bool.{or-false, or_assoc, or_comm}
 use Rattle.std.proofs.lemmas.Bool.{and_parts}
-use Rattle.std.proofs.Math.Path.{fun_ext}
 use Rattle.std.proofs.lemmas.List.{append-nil, length-append}
 use Rattle.std.proofs.lemmas.Option.{cond_some}
 use Rattle.std.proofs.lemmas.List.Elements.{All-head, All-tail}
@@ -28,10 +27,7 @@ or-none (Some i) = refl
 pub same-known : (a b : KnownZones) → ((used : ZoneName) → a.index used ≡ b.index used) → a.zones ≡ b.zones →
     ((name : List ℕ) → a.is_bad name ≡ b.is_bad name) →
     a ≡ b
-same-known a b e f g =
-    ap (λ (i : ZoneName → Option ℕ). record { index = i; zones = a.zones; is_bad = a.is_bad }) (fun_ext e)
-    ∙ ap (λ (zs : List ZoneSaid). record { index = b.index; zones = zs; is_bad = a.is_bad }) f
-    ∙ ap (λ (bad : List ℕ → Bool). record { index = b.index; zones = b.zones; is_bad = bad }) (fun_ext g)
+same-known a b e f g = λ i. record { index = λ used. e used i; zones = f i; is_bad = λ name. g name i }
 
 -- NO NAME, and one name before others.
 pub with-none : (known : KnownZones) (files : GivenFiles) → with_files known files [] ≡ known

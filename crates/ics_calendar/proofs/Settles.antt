@@ -13,7 +13,7 @@ use Rattle.ics_components.specs.declared.gathered.EndedZone.{EndedZone}
 use Rattle.ics_components.specs.declared.gathered.LineCheck.{LineCheck}
 use Rattle.ics_components.specs.declared.deferred_check.DeferredCheck.{DeferredCheck}
 use Rattle.ics_components.specs.declared.deferred_check.ZoneName.{ZoneName}
-use Rattle.ics_calendar.specs.Settled.{event_of, first_judged, settled_by, known_in, drafted, all_unknown}
+use Rattle.ics_calendar.specs.Settled.{event_of, first_judged, known_in, drafted, all_unknown}
 use Rattle.ics_components.specs.Faults.{stands}
 use Rattle.ics_calendar.specs.LaterFaults.{stands_later, is_in_unknown_zone, tzid_on}
 use Rattle.ics_calendar.specs.Files.{DraftSaid, event_by, said_of, decide, later_fault}
@@ -21,12 +21,12 @@ use Rattle.ics_components.specs.PlacedLines.{begins_event, Placed, Open, path_be
 use Rattle.ics_components.specs.FirstFault.{found, least_on, first_from, first_fault, fault_at_end}
 use Rattle.ics_components.specs.Gathered.{nothing_gathered, checks_of}
 use Rattle.ics_components.specs.GatheredSeen.{GatheredSeen}
-use Rattle.ics_calendar.specs.DeferredChecks.{KnownZones, known_zones, with_files, judged, unknown_in}
+use Rattle.ics_calendar.specs.DeferredChecks.{KnownZones, judged, unknown_in}
 use Rattle.ics_calendar.specs.GivenFiles.{GivenFiles}
 use Rattle.ics_calendar.specs.Wanted.{each_once, unknown_names, zones_with}
 use Rattle.ics_components.proofs.Judged.{check_in}
 use Rattle.ics_components.specs.Names.{name_of}
-use Rattle.ics_components.specs.Observances.{begins_zone, zone_by, zone_names}
+use Rattle.ics_components.specs.Observances.{begins_zone, zone_by}
 use Rattle.ics_calendar.specs.Zones.{zones_on}
 use Rattle.ics_components.proofs.Ended.{events, zones, IsMatched}
 use Rattle.ics_components.proofs.EndOrder.{events-are, zones-are, names-begun, calendar-inside, begun-same}
@@ -141,9 +141,7 @@ module _ (lines : List Line) (r : Rises 0 lines) (first : first_fault (placed_fr
   -- what the draft says, of the zones and the checks of the lines
   draft-is : drafted (known_in gathered) gathered ≡ drafted (zones_on whole) (lists zs es ws)
   draft-is =
-      ap (λ g. drafted (known_in g) g) gathered-is
-      ∙ ap (λ ns. drafted (known_zones ns (map (λ z. ZoneSaid.ByObservances z.observances) zs)) (lists zs es ws)) (sym (names-begun whole whole))
-      ∙ ap (λ ps. drafted (known_zones (zone_names whole) ps) (lists zs es ws)) (zones-begun whole whole)
+      ap (λ g. drafted (known_in g) g) gathered-is ∙ rw (← names-begun whole whole, zones-begun whole whole) refl
 
   -- WHAT IS WANTED, and what is settled with zone files.
   pub wanted-is : (drafted (known_in gathered) gathered).wants ≡ each_once (unknown_names whole)
@@ -153,6 +151,4 @@ module _ (lines : List Line) (r : Rises 0 lines) (first : first_fault (placed_fr
   settled-is files =
       let known : KnownZones = zones_with files whole in
       ap (λ (d : DraftSaid). d.says files) draft-is
-      ∙ ap (λ ns. settled_by (with_files (zones_on whole) files (each_once ns)) (lists zs es ws)) (asks whole (zones_on whole) lines [] [] first)
-      ∙ ap (λ f. decide None f (record { zones = known.zones; events = map (event_of known.index) es })) (judges whole known lines [] [] first)
-      ∙ ap (λ es. decide None (later_fault files whole) (record { zones = known.zones; events = es })) (events-begun known.index whole whole)
+      ∙ rw (asks whole (zones_on whole) lines [] [] first, judges whole known lines [] [] first, events-begun known.index whole whole) refl

@@ -1,6 +1,5 @@
 -- What the pass over a file's lines says is what the file is and wants.
 use Rattle.std.proofs.Common.{◌≡◌, ◌⊎◌, ℕ, Bool, true, false, List, [], ◌∷◌, refl, sym, ap, ◌∙◌, cond, Option, Some, None, Result, Ok, Err, inl, inr}
-use Rattle.std.proofs.Math.Path.{fun_ext}
 use Rattle.ics_text.specs.Unfolded.{Rises, unfolded, begins_with_fold}
 use Rattle.ics_components.specs.declared.fault.FileFault.{FileFault}
 use Rattle.ics_components.specs.declared.fault.FileFault.TheVariants.{Memory, At}
@@ -58,10 +57,10 @@ wanted-gathered file r = (gathered-both no_files file r).1
 
 -- THE DRAFT, and a fault of the first round.
 pub draft-gathered : (file : List ℕ) (draft : DraftSaid) → Rises 0 (unfolded file) → Ok draft ≡ drafted_of (gathered_of file) → draft ≡ draft_of file
-draft-gathered file draft r e =
-    ap (λ (s : GivenFiles → Result FileSaid Fault). record { wants = draft.wants; says = s })
-    (fun_ext (λ files. ap (λ d. says_by d files) e ∙ sym (settled-gathered files file r)))
-    ∙ ap (λ names. record { wants = names; says = λ files. file_of files file }) (ap wants_by e ∙ sym (wanted-gathered file r))
+draft-gathered file draft r e = λ i. record {
+  wants = (ap wants_by e ∙ sym (wanted-gathered file r)) i;
+  says = λ files. (ap (λ d. says_by d files) e ∙ sym (settled-gathered files file r)) i;
+}
 
 pub fault-gathered : (file : List ℕ) (fault : Fault) → Rises 0 (unfolded file) → Err fault ≡ drafted_of (gathered_of file) →
     ((files : GivenFiles) → file_of files file ≡ Err fault) × (wanted_names file ≡ [])
