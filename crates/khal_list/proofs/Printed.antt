@@ -84,7 +84,7 @@ module _ {style : Style} {limit : Option ℕ} {all : List OnDay} {told : Option 
       taken = appends-same told taken (sym (append-nil (days_text style p.done))) p.taken_is;
     }
 
-    module _ (e : OnDay) (es : List OnDay) (gives : coming ≡ e ∷ es) where
+    module _ {e : OnDay} {es : List OnDay} (gives : coming ≡ e ∷ es) where
       pub drew-part : (new : Option (List ℕ)) (part : List ℕ) → Appends taken new part → DrewAhead (days_text style) all es told new
       drew-part new part h = record {
         shown = p.done;

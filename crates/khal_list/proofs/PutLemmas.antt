@@ -1,6 +1,6 @@
 -- What is written of a list to come, and of a feed whose entries are each listed once.
 use Rattle.std.proofs.Common.{◌≡◌, ℕ, List, [], ◌∷◌, ◌++◌, Option, Some, None, Result, Ok, Err, map, take, length, refl, sym, ap, ap₂, ◌∙◌, subst}
-use Rattle.std.specs.Prelude.{◌≤◌, Bool, true, false, IfOk, nat_lt, if◌then◌else◌}
+use Rattle.std.specs.Prelude.{◌≤◌, Bool, true, false, IfOk, OnOk, nat_lt, if◌then◌else◌}
 use Rattle.std.specs.Io.KnownBytes.{Appends}
 use Rattle.std.specs.Option.{option_map}
 use Rattle.std.specs.Result.{IsErr}
@@ -16,10 +16,6 @@ use Rattle.khal_ports.specs.Growth.{TookFront}
 use Rattle.khal_list.specs.Listed.{day_key_on, days_text_of, first_of, is_cut, key_on, last_day_key, last_key, style_of, listing_text}
 use Rattle.khal_list.specs.Text.{Style, days_text, text, under}
 use Rattle.khal_ports.proofs.Written.{on_err}
-
--- a piece that is added to nothing is all
-pub only-piece : (piece : List ℕ) {old new bytes : List ℕ} → old ≡ [] → new ≡ old ++ piece → bytes ≡ new → bytes ≡ piece
-only-piece piece h k l = l ∙ (k ∙ ap (λ front. front ++ piece) h)
 
 -- the first entries, each under its day, are the first of those under days
 first-under : (style : Style) (limit : Option ℕ) (list : List Entry) → first_of limit (map (under style) list) ≡ map (under style) (first_of limit list)
@@ -84,26 +80,16 @@ drew-under style old new {rest = rest} {out = out} {out' = out'} is d = record {
 -- what a fault leaves, and what the limit leaves
 module _ {request : Request} {coming : List OnDay → Type 0} {list rest : List OnDay} {out out' : Option (List ℕ)} (r : Result (Option DayKey) RunFault)
     (front : TookFront out out' (days_text_of request list)) (to_come : coming rest) (drew : DrewAhead (days_text (style_of request)) list rest out out') where
+  puts : OnOk r (Appends out out' (days_text_of request list)) → IfOk r (λ key. option_map day_key_rank key ≡ day_key_on request.limit list) →
+      Puts request coming list out out' r
+  puts text key = record { text = text; key = key; front = on_err r front; rest = rest; to_come = to_come; drew = drew }
+
   pub puts-fault : IsErr r → Puts request coming list out out' r
-  puts-fault err = record {
-    text = IfOk-from_err r _ err;
-    key = IfOk-from_err r _ err;
-    front = on_err r front;
-    rest = rest;
-    to_come = to_come;
-    drew = drew;
-  }
+  puts-fault err = puts (IfOk-from_err r _ err) (IfOk-from_err r _ err)
 
   pub puts-cut : {last : Option DayRank} → IfOk r (λ key. option_map day_key_rank key ≡ last) → Appends out out' (days_text_of request list)
       → last ≡ day_key_on request.limit list → Puts request coming list out out' r
-  puts-cut is text same = record {
-    text = IfOk-weaker r _ _ (λ key _. text) is;
-    key = IfOk-weaker r _ _ (λ key e. e ∙ same) is;
-    front = on_err r front;
-    rest = rest;
-    to_come = to_come;
-    drew = drew;
-  }
+  puts-cut is text same = puts (IfOk-weaker r _ _ (λ key _. text) is) (IfOk-weaker r _ _ (λ key e. e ∙ same) is)
 
 -- what is written of a feed, each of whose entries stands under its own day
 abbrev PutsOnce : Request → List Entry → List Entry → Option (List ℕ) → Option (List ℕ) → Result (Option DayKey) RunFault → Type 0

@@ -1,6 +1,7 @@
 -- A listing that goes on from a token, and the text of its parts.
-use Rattle.std.proofs.Common.{◌≡◌, ℤ, List, [], ◌∷◌, ◌++◌, Option, Some, None, Bool, inl, inr, refl, sym, ◌∙◌, ap, append_assoc, subst, if◌then◌else◌}
+use Rattle.std.proofs.Common.{◌≡◌, ℤ, List, [], ◌∷◌, ◌++◌, Option, Some, None, map, inl, inr, refl, ◌∙◌, ap, append_assoc, subst}
 use Rattle.std.specs.Option.{option_map}
+use Rattle.std.proofs.lemmas.List.{map-append}
 use Rattle.std.proofs.lemmas.Cmp.{int_eq_equiv}
 use Rattle.clap.specs.Words.{Text}
 use Rattle.ics_zone.specs.declared.display.Display.{Display}
@@ -14,9 +15,11 @@ use Rattle.ics_series.specs.declared.key.Key.{Key}
 use Rattle.khal_words.specs.Entries.{entries_of}
 use Rattle.khal_list.specs.Pages.{DayGoesOn, DayTokenGoesOn, TextGoesOn, TextSplits, TokenGoesOn, last_day}
 use Rattle.khal_list.specs.RequestOf.{after_text, IsAfterBy, IsDayKeyOf, IsKeyOf}
-use Rattle.khal_list.specs.Text.{Style, day_under, entry_text, heading_text, line_text, text_after}
+use Rattle.khal_list.specs.Text.{Style, day_under, days_text, heading_text, line_text, text, text_after, under}
 use Rattle.khal_list.proofs.AnswerLemmas.{no_both}
 use Rattle.khal_list.proofs.PageLemmas.{goes-on}
+use Rattle.khal_list.proofs.Printed.{text-append}
+use Rattle.khal_list.proofs.Printed as Printed
 
 -- the key that the words name is that of the token
 key-named : OneSpelling → (given : Option Text) (key : Option Key) {rank : Rank} → IsKeyOf given key → given ≡ Some (spelling rank) → IsKey rank →
@@ -47,21 +50,16 @@ day-token-goes-on one behind-is words now files request every_day front p behind
     day-goes-on behind-is files request every_day front p behind listing
     (day-key-named one request.zone request.window (after_text (entries_of words)) every_day.after after.2 given k)
 
-splits-after : (style : Style) (before : Option ℤ) (front rest : List Entry) →
-    text_after style before (front ++ rest) ≡ text_after style before front ++ text_after style (last_day style before front) rest
-splits-after style before [] rest = refl
-splits-after style before (e ∷ es) rest =
-    ap (λ t. entry_text style before (day_under style e) e ++ t) (splits-after style (Some (day_under style e)) es rest)
-    ∙ sym (append_assoc (entry_text style before (day_under style e) e) (text_after style (Some (day_under style e)) es)
-    (text_after style (last_day style (Some (day_under style e)) es) rest))
+last-under : (style : Style) (before : Option ℤ) (front : List Entry) → Printed.last_day before (map (under style) front) ≡ last_day style before front
+last-under style before [] = refl
+last-under style before (e ∷ es) = last-under style (Some (day_under style e)) es
 
 pub text-splits : TextSplits
-text-splits style front rest = splits-after style None front rest
+text-splits style front rest =
+    ap (days_text style) (map-append (under style) front rest) ∙ text-append style None (map (under style) front) (map (under style) rest)
+    ∙ ap (λ day. text style front ++ text_after style day rest) (last-under style None front)
 
 pub text-goes-on : TextGoesOn
 text-goes-on style e es =
     let day = day_under style e in
-    let rest = text_after style (Some day) es in
-    append_assoc (heading_text style day) (line_text style day e) rest
-    ∙ ap (λ t. heading_text style day ++ t) (sym (ap (λ (b : Bool). ((if b then [] else heading_text style day) ++ line_text style day e) ++ rest)
-    (int_eq_equiv.refl day)))
+    rw (append_assoc (heading_text style day) (line_text style day e) (text_after style (Some day) es), int_eq_equiv.refl day) refl

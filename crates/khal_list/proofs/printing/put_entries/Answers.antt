@@ -2,8 +2,6 @@ use Rattle.std.proofs.lemmas.Grind.{common_steps}
 use Rattle.std.proofs.Common.{rules, ◌≡◌, Some, refl, w32, arith}
 use Rattle.std.specs.Prelude.{FitsSigned, ◌≢◌}
 use Rattle.std.proofs.lemmas.Int.{to_z-of_z, ints}
-use Rattle.ics_series.specs.Entry.{entry_of}
-use Rattle.ics_series.specs.OnDays.{on_day}
 use Rattle.khal_list.proofs.Printed.{cut-key, cut-text, drew-none, drew-one, drew-part, fewer, printed-front, printed-more, printed-part}
 use Rattle.khal_list.proofs.PutLemmas.{puts-cut, puts-fault}
 use Rattle.khal_list.proofs.printing.put_entries.Goals as goal
@@ -18,36 +16,33 @@ pub returns-in-Some-eq0-clause-puts : goal.returns-in-Some-eq0-clause-puts
 returns-in-Some-eq0-clause-puts g c = λ list a.
     let p = c.loop-count.invariant.printed list a in
     let d = rw c.in-Some.is at c.in_ok-day.ensures.ok p.0 p.1 in
-    let e = on_day c.in-Some.day (entry_of c.in-Some.occurrence) in
     let none : c.loop-count.left ≡ Some 0 = search rules in
-    puts-cut {coming = g.D.Draws.comes c.args.draws.now c.draw.new.source} c.key_of.result (printed-front p.2) d.2 (drew-one p.2 e d.0 d.1)
-    c.key_of.ensures.ok (cut-text p.2 e d.0 d.1 none) (cut-key p.2 e d.0 d.1 none)
+    puts-cut {coming = g.D.Draws.comes c.args.draws.now c.draw.new.source} c.key_of.result (printed-front p.2) d.2 (drew-one p.2 d.1)
+    c.key_of.ensures.ok (cut-text p.2 d.1 none) (cut-key p.2 d.1 none)
 
 pub returns-in_err-put_entry-clause-puts : goal.returns-in_err-put_entry-clause-puts
 returns-in_err-put_entry-clause-puts g c = λ list a.
     let p = c.loop-count.invariant.printed list a in
     let d = rw c.in-Some.is at c.in_ok-day.ensures.ok p.0 p.1 in
-    let e = on_day c.in-Some.day (entry_of c.in-Some.occurrence) in
     let some : c.loop-count.left ≢ Some 0 = search rules in
     let fits : FitsSigned w32 c.in-Some.day = search rules in
     let took = rw (to_z-of_z w32 c.in-Some.day fits) at c.in_err-put_entry.ensures.err in
     let lower = fewer c.loop-count.left some in
     puts-fault {coming = g.D.Draws.comes c.args.draws.now c.draw.new.source} c.from_residual-in_err-put_entry.result
-    (printed-part p.2 e d.0 d.1 lower.0 lower.1 (g.O.Sink.taken c.put_entry.new.out) took)
-    d.2 (drew-part p.2 e d.0 d.1 (g.O.Sink.taken c.put_entry.new.out) _ took.taken) c.from_residual-in_err-put_entry.ensures.0
+    (printed-part p.2 d.1 lower.0 lower.1 (g.O.Sink.taken c.put_entry.new.out) took)
+    d.2 (drew-part p.2 d.1 (g.O.Sink.taken c.put_entry.new.out) _ took.taken) c.from_residual-in_err-put_entry.ensures.0
 
 pub loop-count-preserved : goal.loop-count-preserved
 loop-count-preserved g c = record {
   printed = λ list a.
       let p = c.loop-count.invariant.printed list a in
       let d = rw c.in-Some.is at c.in_ok-day.ensures.ok p.0 p.1 in
-      let e = on_day c.in-Some.day (entry_of c.in-Some.occurrence) in
       let fits : FitsSigned w32 c.in-Some.day = search rules in
       let kept = to_z-of_z w32 c.in-Some.day fits in (
         d.0,
         d.2,
         rw kept (
-            printed-more p.2 e d.0 d.1 c.one_fewer-left.result c.one_fewer-left.ensures
+            printed-more p.2 d.1 c.one_fewer-left.result c.one_fewer-left.ensures
             (g.O.Sink.taken c.put_entry.new.out) (rw kept at c.in_ok-put_entry.ensures.ok)),
       );
 }
