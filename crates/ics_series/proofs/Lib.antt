@@ -46,7 +46,6 @@ pub mod RecurringLemmas
 pub mod RuleDayLemmas
 pub mod RuleLocalLemmas
 pub mod RuleReadLemmas
-mod RuleStartExamples
 pub mod RuleStartLemmas
 pub mod RuleStepLemmas
 pub mod SeriesLemmas
