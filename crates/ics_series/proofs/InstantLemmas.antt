@@ -1,7 +1,7 @@
 -- Where instants lie.
 use Rattle.std.specs.Prelude.{slice_get, ◌==◌, ◌||◌}
 use Rattle.std.proofs.Common.{◌≡◌, ℕ, Bool, zero, suc, ◌+◌, ◌*◌, ℤ, pos, neg_ℤ, ◌+ℤ◌, ◌-ℤ◌, ◌<ℤ◌, ◌≤ℤ◌, true, false, List, [], ◌∷◌, map, Option, Some, None}
-use Rattle.std.proofs.Common.{is_some, refl, sym, ◌∙◌, ap, subst, arith}
+use Rattle.std.proofs.Common.{is_some, refl, sym, ◌∙◌, ap, subst, arith, rules}
 use Rattle.std.specs.Int.{int_max}
 use Rattle.std.proofs.lemmas.Int.{int_max_is, ints}
 use Rattle.ics_values.specs.declared.duration.Duration.{Duration}
@@ -146,10 +146,7 @@ module _ (zones : FileZones) where
   stamps-near i j (Date a) (Date b) are = written-near i j (Date a) (Date b) are.end
   stamps-near i j (Floating a) (Floating b) are = written-near i j (Floating a) (Floating b) are.end
   stamps-near i j (Utc a) (Utc b) are = written-near i j (Utc a) (Utc b) are.end
-  stamps-near i j (Utc a) (Zoned b) are = let p = are.zoned.0 in let q = are.zoned.1 in absurd cc
-  stamps-near i j (Zoned a) (Utc b) are = let p = are.zoned.0 in let q = are.zoned.1 in absurd cc
-  stamps-near i j (Zoned a) (Zoned b) are = let p = are.zoned.0 in let q = are.zoned.1 in absurd cc
-  stamps-near i j _ _ are = absurd are.end
+  stamps-near i j _ _ are = let p = are.zoned.0 in let q = are.zoned.1 in let e = are.end in absurd (search rules)
 
   pub ends-near : (first : Time) (length : Length) → IsTime first → IsLength first.stamp length → EndsWithin own first length →
       EndsNear (clocks_in zones) first length

@@ -102,14 +102,14 @@ module _ (files : List FileSaid) (display : Clock) (near : (t : ℤ) → IsNear 
 
 -- What of a rising list is greater than one of it stands behind it.
 module _ {A : Type 0} (R : A → A → Ordering) (o : IsTotalOrder R) where
-  abbrev greater : A → List A → List A
+  abbrev pub greater : A → List A → List A
   greater x list = filter (λ y. is_lt (R x y)) list
 
   keeps-greater : (x : A) (ys : List A) → IsBefore R x ys → greater x ys ≡ ys
   keeps-greater x [] h = refl
   keeps-greater x (y ∷ ys) h = ap (λ c. cond (is_lt c) (y ∷ greater x ys) (greater x ys)) h.0 ∙ ap (λ l. y ∷ l) (keeps-greater x ys h.1)
 
-  greater-behind : (front : List A) (x : A) (behind : List A) → Rises R (front ++ x ∷ behind) → greater x (front ++ x ∷ behind) ≡ behind
+  pub greater-behind : (front : List A) (x : A) (behind : List A) → Rises R (front ++ x ∷ behind) → greater x (front ++ x ∷ behind) ≡ behind
   greater-behind [] x behind h = rw (tied_itself o x) (keeps-greater x behind h.0)
   greater-behind (y ∷ ys) x behind h =
       rw (over R o y x (before-in R o y x (ys ++ x ∷ behind) h.0 (in-append_right x ys (x ∷ behind) (inl refl)))) (greater-behind ys x behind h.1)

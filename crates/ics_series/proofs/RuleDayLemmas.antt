@@ -1,8 +1,7 @@
 -- The starts of a rule by the days of their locals.
-use Rattle.std.specs.Prelude.{◌≤ℤ◌, ◌<ℤ◌, int_lt, not, slice_get}
-use Rattle.std.proofs.Common.{◌≡◌, ℕ, zero, suc, ◌+◌, ◌-◌, ◌<◌, ◌≤◌, ℤ, pos, ◌+ℤ◌, ◌-ℤ◌, Bool, true, false, ◌&&◌, List, [], ◌∷◌, length, get_or, drop}
-use Rattle.std.proofs.Common.{◌⊎◌, ⊎_elim, refl, sym, ◌∙◌, ap, subst, arith}
-use Rattle.std.proofs.lemmas.Bool.{false_from_ne_true}
+use Rattle.std.specs.Prelude.{◌≤ℤ◌, ◌<ℤ◌}
+use Rattle.std.proofs.Common.{◌≡◌, ℕ, zero, suc, ◌+◌, ◌-◌, ◌<◌, ◌≤◌, ℤ, pos, ◌+ℤ◌, ◌-ℤ◌, true, List, [], ◌∷◌, length, get_or, drop}
+use Rattle.std.proofs.Common.{◌⊎◌, ⊎_elim, refl, sym, ◌∙◌, ap, arith}
 use Rattle.std.proofs.lemmas.Int.{ints}
 use Rattle.std.specs.Cmp.{int_cmp_is}
 use Rattle.std.specs.declared.cmp.Ordering.{Ordering}
@@ -16,7 +15,7 @@ use Rattle.ics_rule.specs.PeriodNumbers.{rules_end}
 use Rattle.ics_rule.specs.Recurrence.{Recurrence}
 use Rattle.ics_rule.proofs.KeptLemmas.{and_true}
 use Rattle.ics_event.specs.declared.event.Event.{Event}
-use Rattle.ics_zone.proofs.Cases.{int_lt_true, int_le_true}
+use Rattle.ics_zone.proofs.Cases.{int_lt_true}
 use Rattle.ics_event.specs.Event.{stamp_seconds}
 use Rattle.ics_fields.specs.Locals.{local_seconds, midnight, whole_days}
 use Rattle.ics_series.specs.declared.start.Start.{Start}
@@ -25,18 +24,14 @@ use Rattle.ics_series.specs.declared.zones.FileZones.{FileZones}
 use Rattle.ics_series.specs.Found.{moment_cmp, start_at}
 use Rattle.ics_series.specs.Listing.{IsIn}
 use Rattle.ics_series.specs.Merged.{by_order, cut, union}
-use Rattle.ics_series.specs.Rising.{IsBefore, Rises}
-use Rattle.ics_series.specs.RuleStarts.{found, found_in, gives, is_behind, is_ready, lets_until, local_numbered, midnight_number, moment_numbered, to_come}
-use Rattle.ics_series.specs.RuleStarts.{AreHeld}
+use Rattle.ics_series.specs.RuleStarts.{found, found_in, gives, lets_until, local_numbered, midnight_number, moment_numbered, to_come}
 use Rattle.ics_series.specs.Starts.{stamp_at, time_at}
 use Rattle.ics_series.specs.FileZones.{clocks_in}
-use Rattle.ics_series.proofs.BeginsLemmas.{before-union}
 use Rattle.ics_series.proofs.FirstLemmas.{moment_total, same-moment, tied-moment}
 use Rattle.ics_series.proofs.StartSourceLemmas.{written-at}
-use Rattle.ics_series.proofs.HeldLemmas.{before-all, put-before}
 use Rattle.ics_series.proofs.InstantLemmas.{instant-near}
-use Rattle.ics_series.proofs.RuleStartLemmas.{found-none, put-both, rises-found, rises-found_in}
-use Rattle.ics_series.proofs.UnionLemmas.{put-in, union-in}
+use Rattle.ics_series.proofs.RuleStartLemmas.{put-both, rises-found_in}
+use Rattle.ics_series.proofs.UnionLemmas.{put-in}
 
 -- Numbers and days.
 pub number-day : (day : ℤ) → IsDayNumber day → pos (midnight_number day) ≡ midnight day +ℤ pos 62_167_219_200
@@ -92,13 +87,6 @@ module _ (zones : FileZones) (event : Event) where
         let wrote = written-at event.start.stamp (local_numbered n) in
         omega (arith, ints, early, near.0, wrote.1, seconds-numbered n, w.not_late)
 
-    -- no local from a day on does that begins two days after the window's end
-    pub none-past : (end : ℤ) (n : ℕ) → IsDayNumber end → (w.to +ℤ whole_days 2) ≤ℤ midnight end → midnight_number end ≤ n →
-        gives (clocks_in zones) event rule w n ≡ false
-    none-past end n h after l =
-        false_from_ne_true (gives (clocks_in zones) event rule w n)
-        (λ e. let soon = (given-parts n e).2 in let late = late-numbered end n h l in omega (arith, ints, soon, late, after))
-
     -- What the locals from one on give.
     pub record IsFound (from : ℕ) (s : Start) : Type 0 where
       pub by : ℕ
@@ -124,84 +112,10 @@ module _ (zones : FileZones) (event : Event) where
     unfolding found
     found-is from s m = found_in-is from (rules_end - from) s m
 
-    -- a start two days or more before a day comes before all that the locals from the day on give
-    ready-before : (day : ℤ) (place : ℕ) (s : Start) → IsDayNumber day → midnight_number day ≤ place → s.moment ≤ℤ (midnight day -ℤ whole_days 2)
-        → IsBefore moment_cmp s (found (clocks_in zones) event rule w place)
-    ready-before day place s h read l =
-        before-all moment_cmp s (found (clocks_in zones) event rule w place)
-        (λ t m.
-        let f = found-is place t m in
-        let late = late-numbered day f.by h (omega (arith, read, f.from_place)) in
-        let is = ap (λ (x : Start). x.moment) f.is in
-        less-start s t (omega (arith, ints, late, is, l)))
-
-    abbrev Settled : List Start → ℕ → Type 0
-    Settled [] place = found (clocks_in zones) event rule w place ≡ []
-    Settled (s ∷ held) place = IsBefore moment_cmp s (found (clocks_in zones) event rule w place)
-
-    come-first : (s : Start) (held : List Start) (place : ℕ) → Rises moment_cmp (s ∷ held) → IsBefore moment_cmp s (found (clocks_in zones) event rule w place)
-        → to_come (clocks_in zones) event rule w (s ∷ held) place ≡ s ∷ to_come (clocks_in zones) event rule w held place
-    unfolding to_come
-    come-first s held place r b =
-        put-before moment_cmp moment_total s (union moment_cmp held (found (clocks_in zones) event rule w place))
-        (before-union moment_cmp moment_total s held (found (clocks_in zones) event rule w place) r.0 b)
-
     pub come-empty : (held : List Start) (place from : ℕ) → held ≡ [] → place ≡ from →
         to_come (clocks_in zones) event rule w held place ≡ found (clocks_in zones) event rule w from
     unfolding to_come
     come-empty held place from h e = ap (λ xs. union moment_cmp xs (found (clocks_in zones) event rule w place)) h ∙ ap (found (clocks_in zones) event rule w) e
-
-    -- Where no day more has to be read the first that is held is the first still to come.
-    module _ (day end : ℤ) (place : ℕ) (d : IsDayNumber day) (e : IsDayNumber end) (after : (w.to +ℤ whole_days 2) ≤ℤ midnight end)
-        (read : midnight_number day ≤ place) where
-      past-end : end ≤ℤ day → found (clocks_in zones) event rule w place ≡ []
-      past-end l =
-          found-none (clocks_in zones) event rule w place
-          (λ n low. none-past end n e after (omega (arith, ints, number-day day d, number-day end e, read, low, l)))
-
-      settled : (held : List Start) → is_behind day end held ≡ false → Settled held place
-      settled held b = ⊎_elim (λ l. past held (past-end l)) (ready held) (sides (is_ready day held) b)
-        where
-          sides : (r : Bool) → (int_lt day end && not r) ≡ false → (end ≤ℤ day) ⊎ (r ≡ true)
-          sides r h = grind (arith, ints)
-
-          past : (xs : List Start) → found (clocks_in zones) event rule w place ≡ [] → Settled xs place
-          past [] e = e
-          past (x ∷ xs) e = subst (IsBefore moment_cmp x) (sym e) tt
-
-          ready : (xs : List Start) → is_ready day xs ≡ true → Settled xs place
-          ready [] r = cc
-          ready (x ∷ xs) r = ready-before day place x d read (int_le_true x.moment (midnight day -ℤ whole_days 2) r)
-
-      pub first-held : (held : List Start) → Rises moment_cmp held → is_behind day end held ≡ false
-          → slice_get held 0 ≡ slice_get (to_come (clocks_in zones) event rule w held place) 0
-      first-held [] r b = sym (ap (λ (xs : List Start). slice_get xs 0) (come-empty [] place place refl refl ∙ settled [] b))
-      first-held (s ∷ held) r b = sym (ap (λ (xs : List Start). slice_get xs 0) (come-first s held place r (settled (s ∷ held) b)))
-
-      -- a start leaves of what is held what it leaves of all that is still to come
-      pub passed : (t : Start) (held : List Start) → Rises moment_cmp held → is_behind day end held ≡ false
-          → to_come (clocks_in zones) event rule w (cut moment_cmp t held) place ≡ cut moment_cmp t (to_come (clocks_in zones) event rule w held place)
-      passed t [] r b = rw (come-empty [] place place refl refl ∙ settled [] b) refl
-      passed t (s ∷ held) r b = rw (come-first s held place r (settled (s ∷ held) b)) (by (moment_cmp t s))
-        where
-          by : (c : Ordering) → to_come (clocks_in zones) event rule w (by_order c (s ∷ held) held (s ∷ held)) place
-              ≡ by_order c (s ∷ to_come (clocks_in zones) event rule w held place) (to_come (clocks_in zones) event rule w held place)
-              (s ∷ to_come (clocks_in zones) event rule w held place)
-          by Equal = refl
-          by _ = come-first s held place r (settled (s ∷ held) b)
-
-      -- each start still to come begins no more than three days before the day that is not asked for yet
-      pub near-left : (held : List Start) {asked : ℤ} → asked ≤ℤ (day +ℤ pos 1) → AreHeld (clocks_in zones) event rule w asked held
-          → (s : Start) → IsIn s (to_come (clocks_in zones) event rule w held place) → (midnight asked -ℤ whole_days 3) ≤ℤ s.moment
-      unfolding to_come
-      near-left held soon are s m =
-          ⊎_elim (λ n. (are s n).late)
-          (λ n.
-          let f = found-is place s n.1 in
-          let late = late-numbered day f.by d (omega (arith, read, f.from_place)) in
-          let is = ap (λ (x : Start). x.moment) f.is in
-          omega (arith, ints, late, is, soon))
-          (union-in moment_cmp moment_total s held (found (clocks_in zones) event rule w place) (rises-found (clocks_in zones) event rule w place) m)
 
 -- The first of a list goes where a start is at its instant, and else nothing does.
 pub cut-first : (t : Start) {held : List Start} {d : Start} → IsFirst d held → t.moment ≡ d.moment → drop 1 held ≡ cut moment_cmp t held

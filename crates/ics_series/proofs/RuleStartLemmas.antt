@@ -49,10 +49,6 @@ module _ (clocks : Clocks) (event : Event) (rule : Recurrence) (w : Window) wher
   unfolding found
   found-skipped from to l h none = found_in-skipped to (rules_end - to) from (rules_end - from) l (omega (arith, l, h)) none
 
-  pub found-none : (from : ℕ) → ((n : ℕ) → from ≤ n → gives clocks event rule w n ≡ false) → found clocks event rule w from ≡ []
-  unfolding found
-  found-none from none = found_in-skipped (from + (rules_end - from)) 0 from (rules_end - from) (omega arith) (omega arith) (λ n a b. none n a)
-
   pub found-first : (from : ℕ) → from < rules_end → found clocks event rule w from
       ≡ with_put (gives clocks event rule w from) (start_at clocks event (local_numbered from)) (found clocks event rule w (from + 1))
   unfolding found

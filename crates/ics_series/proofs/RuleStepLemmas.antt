@@ -1,7 +1,10 @@
 -- One step of reading the starts of a rule: a kept local more, or none up to a bound.
-use Rattle.std.specs.Prelude.{◌≤ℤ◌, ◌<ℤ◌, slice_get}
+use Rattle.std.specs.Prelude.{◌≤ℤ◌, ◌<ℤ◌, int_lt, not, slice_get}
+use Rattle.std.specs.declared.cmp.Ordering.{Ordering}
+use Rattle.std.specs.declared.cmp.Ordering.TheVariants.{Equal}
 use lib.Signed.{mag}
-use Rattle.std.proofs.Common.{◌≡◌, ℕ, ◌+◌, ◌<◌, ◌≤◌, w32, to_z, of_z, max, ℤ, pos, ◌+ℤ◌, ◌-ℤ◌, false, List, length, ⊎_elim, refl, sym, ◌∙◌, ap, subst, arith}
+use Rattle.std.proofs.Common.{◌≡◌, ℕ, ◌+◌, ◌<◌, ◌≤◌, w32, to_z, of_z, max, ℤ, pos, ◌+ℤ◌, ◌-ℤ◌, Bool, true, false, ◌&&◌, List, [], ◌∷◌, length, inl, ⊎_elim}
+use Rattle.std.proofs.Common.{refl, sym, ◌∙◌, ap, subst, arith}
 use Rattle.std.proofs.lemmas.Int.{ints}
 use Rattle.ics_fields.specs.Days.{IsDayNumber}
 use Rattle.ics_fields.specs.declared.local.Local.{Local}
@@ -13,18 +16,23 @@ use Rattle.ics_series.specs.declared.start.Start.{Start}
 use Rattle.ics_series.specs.Found.{moment_cmp, start_at}
 use Rattle.ics_series.specs.HeldMost.{most_in_days}
 use Rattle.ics_series.specs.Listing.{IsIn}
-use Rattle.ics_series.specs.Merged.{cut}
+use Rattle.ics_series.specs.Merged.{by_order, cut}
 use Rattle.ics_series.specs.Rising.{Rises}
 use Rattle.ics_series.specs.RuleFeed.{starts_left}
-use Rattle.ics_series.specs.RuleStarts.{gives, is_behind, midnight_number, steps_left, to_come, with_held, AreHeld, IsHeld}
+use Rattle.ics_series.specs.RuleStarts.{found, gives, is_behind, is_ready, midnight_number, steps_left, to_come, with_held, AreHeld, IsHeld}
 use Rattle.ics_series.specs.Starts.{time_at}
 use Rattle.ics_series.specs.FileZones.{clocks_in, IsTimeOf}
 use Rattle.ics_series.proofs.StartSourceLemmas.{kept-time}
 use Rattle.ics_series.proofs.HeldMostLemmas.{held-in-days}
-use Rattle.ics_series.proofs.RuleDayLemmas.{first-held, near-left, number-day, passed}
+use Rattle.ics_series.proofs.RuleDayLemmas.{found-is, given-parts, late-numbered, less-start, number-day}
 use Rattle.ics_series.proofs.RuleLocalLemmas.{numbered-number}
 use Rattle.ics_series.proofs.RuleReadLemmas.{held-in, held-on, is-held, rises-held}
-use Rattle.ics_series.proofs.RuleStartLemmas.{come-none, come-one}
+use Rattle.ics_series.proofs.RuleStartLemmas.{come-none, come-one, rises-found}
+use Rattle.ics_series.proofs.UnionLemmas.{union-in}
+use Rattle.ics_series.proofs.HeldLemmas.{before-all, put-before}
+use Rattle.ics_series.proofs.BeginsLemmas.{before-union}
+use Rattle.ics_series.proofs.FirstLemmas.{moment_total}
+use Rattle.ics_zone.proofs.Cases.{int_le_true}
 use Rattle.ics_rule.specs.PeriodNumbers.{rules_end}
 
 -- a number that fits in an i32 is read back
@@ -36,6 +44,13 @@ day-back day h = omega (arith, ints, h.0, h.1)
 
 pub next-back : (day : ℤ) → IsDayNumber day → to_z w32 (of_z w32 (to_z w32 (of_z w32 day) +ℤ pos 1)) ≡ day +ℤ pos 1
 next-back day h = omega (arith, ints, h.0, h.1)
+
+no-member : (xs : List Start) → ((x : Start) → IsIn x xs → ⊥) → xs ≡ []
+no-member [] none = refl
+no-member (x ∷ xs) none = absurd (none x (inl refl))
+
+ready-by : (day end : ℤ) (ready : Bool) → (int_lt day end && not ready) ≡ false → day <ℤ end → ready ≡ true
+ready-by day end ready h l = grind (arith, ints)
 
 module _ (s : RuleStarts) where
   pub day-days : IsDayNumber s.day
@@ -50,21 +65,65 @@ module _ (s : RuleStarts) where
       held-in-days s.zones s.event.now s.rule s.window s.time.is_time s.of s.held.items (omega (arith, ints, s.low, s.asked_on))
       (omega (arith, ints, s.asked_end, end-days.1)) s.rises s.are
 
+  -- what is still to come where this is held, and what the locals give that are not read yet
+  abbrev left : List Start → List Start
+  left held = to_come (clocks_in s.zones) s.event.now s.rule s.window held (place_of s.cursor)
+
+  abbrev unread : List Start
+  unread = found (clocks_in s.zones) s.event.now s.rule s.window (place_of s.cursor)
+
+  -- that begins less than two days before the day, and none of it from the end on
+  found-late : (t : Start) → IsIn t unread → ((midnight s.day -ℤ whole_days 2) <ℤ t.moment) × (s.day <ℤ s.end)
+  found-late t m =
+      let f = found-is s.zones s.event.now s.rule s.window (place_of s.cursor) t m in
+      let late = late-numbered s.zones s.event.now s.day f.by day-days (omega (arith, s.read, f.from_place)) in
+      let soon = (given-parts s.zones s.event.now s.rule s.window f.by f.given).2 in
+      (omega (arith, ints, late, ap (λ (x : Start). x.moment) f.is), omega (arith, ints, late, soon, s.after))
+
   -- where no day more has to be read the first that is held is the first still to come
+  abbrev in_front : List Start → List Start
+  in_front [] = []
+  in_front (x ∷ xs) = x ∷ left xs
+
+  settled : (held : List Start) → Rises moment_cmp held → is_behind s.day s.end held ≡ false → left held ≡ in_front held
+  unfolding to_come
+  settled [] r b = no-member unread (λ t m. let no : false ≡ true = ready-by s.day s.end false b (found-late t m).1 in absurd cc)
+  settled (x ∷ xs) r b =
+      put-before moment_cmp moment_total x (left xs) (before-union moment_cmp moment_total x xs unread r.0
+      (before-all moment_cmp x unread (λ t m.
+      let late = found-late t m in
+      let ready = int_le_true x.moment (midnight s.day -ℤ whole_days 2) (ready-by s.day s.end (is_ready s.day (x ∷ xs)) b late.1) in
+      less-start x t (omega (arith, ints, late.0, ready)))))
+
+  first-of : (held : List Start) → left held ≡ in_front held → slice_get held 0 ≡ slice_get (left held) 0
+  first-of [] e = rw e refl
+  first-of (x ∷ xs) e = rw e refl
+
   pub first-left : is_behind s.day s.end s.held.items ≡ false → slice_get s.held.items 0 ≡ slice_get (starts_left s) 0
-  first-left ready = first-held s.zones s.event.now s.rule s.window s.day s.end (place_of s.cursor) day-days end-days s.after s.read s.held.items s.rises ready
+  first-left ready = first-of s.held.items (settled s.held.items s.rises ready)
 
   -- a start leaves of what is held what it leaves of all that is still to come
+  passed : (t : Start) (held : List Start) → left held ≡ in_front held → left (cut moment_cmp t held) ≡ cut moment_cmp t (left held)
+  passed t [] e = rw e refl
+  passed t (x ∷ xs) e = rw e (by (moment_cmp t x))
+    where
+      by : (c : Ordering) → left (by_order c (x ∷ xs) xs (x ∷ xs)) ≡ by_order c (x ∷ left xs) (left xs) (x ∷ left xs)
+      by Equal = refl
+      by _ = e
+
   pub passed-left : (t : Start) (new : List Start) → new ≡ cut moment_cmp t s.held.items → is_behind s.day s.end s.held.items ≡ false
-      → to_come (clocks_in s.zones) s.event.now s.rule s.window new (place_of s.cursor) ≡ cut moment_cmp t (starts_left s)
-  passed-left t new is ready =
-      rw is (passed s.zones s.event.now s.rule s.window s.day s.end (place_of s.cursor) day-days end-days s.after s.read t s.held.items s.rises ready)
+      → left new ≡ cut moment_cmp t (starts_left s)
+  passed-left t new is ready = rw is (passed t s.held.items (settled s.held.items s.rises ready))
 
   pub asked-number : pos (midnight_number s.asked) ≡ midnight s.asked +ℤ pos 62_167_219_200
   asked-number = number-day s.asked (omega (arith, ints, s.low, s.asked_on), omega (arith, ints, s.asked_end, end-days.1))
 
+  -- each start still to come begins no more than three days before the day that is not asked for yet
   pub left-near : (t : Start) → IsIn t (starts_left s) → (midnight s.asked -ℤ whole_days 3) ≤ℤ t.moment
-  left-near = near-left s.zones s.event.now s.rule s.window s.day s.end (place_of s.cursor) day-days end-days s.after s.read s.held.items s.asked_soon s.are
+  unfolding to_come
+  left-near t m =
+      ⊎_elim (λ n. (s.are t n).late) (λ n. let late = (found-late t n.1).0 in omega (arith, ints, late, s.asked_soon))
+      (union-in moment_cmp moment_total t s.held.items unread (rises-found (clocks_in s.zones) s.event.now s.rule s.window (place_of s.cursor)) m)
 
 -- What is known of the starts once a day more is read, up to and with a local.
 pub record IsRead (s : RuleStarts) (day asked : ℤ) (place known : ℕ) (held : List Start) : Type 0 where
@@ -79,7 +138,7 @@ pub record IsRead (s : RuleStarts) (day asked : ℤ) (place known : ℕ) (held :
   pub same : to_come (clocks_in s.zones) s.event.now s.rule s.window held place ≡ starts_left s
   pub less : steps_left day s.end place < steps_left s.day s.end (place_of s.cursor)
 
-module _ (s : RuleStarts) (b : ℤ) (fits : mag b < 2_147_483_648) (later : s.day <ℤ b) (within : b ≤ℤ s.end) (at : Local)
+module _ (s : RuleStarts) {b : ℤ} (fits : mag b < 2_147_483_648) (later : s.day <ℤ b) (within : b ≤ℤ s.end) {at : Local}
     (is : at ≡ local_at (to_z w32 (of_z w32 b)) 0) where
   abbrev bound : ℤ
   bound = to_z w32 (of_z w32 b)

@@ -30,18 +30,18 @@ invariant_of-self c =
 pub next-requires-clause-bound : goal.next-requires-clause-bound
 next-requires-clause-bound c =
     let b = c.bound-bound in
-    bound-days c.args.self.now b.result b.type_inv b.ensures.later b.ensures.within c.at.result c.at.ensures
+    bound-days c.args.self.now b.type_inv b.ensures.later b.ensures.within c.at.ensures
 
 pub next-requires-clause-early : goal.next-requires-clause-early
 next-requires-clause-early c =
     let b = c.bound-bound in
-    bound-early c.args.self.now b.result b.type_inv b.ensures.later b.ensures.within c.at.result c.at.ensures
+    bound-early c.args.self.now b.type_inv b.ensures.later b.ensures.within c.at.ensures
 
 pub invariant_of-self-in-None : goal.invariant_of-self-in-None
 invariant_of-self-in-None c =
     let s = c.args.self.now in
     let b = c.bound-bound in
-    let r = none-read s b.result b.type_inv b.ensures.later b.ensures.within c.at.result c.at.ensures c.reserve.ensures.items b.ensures.held
+    let r = none-read s b.type_inv b.ensures.later b.ensures.within c.at.ensures c.reserve.ensures.items b.ensures.held
     c.in-None.ensures.next in
     record {
       of = s.of;
@@ -64,14 +64,14 @@ invariant_of-self-in-None c =
 pub hold-requires-clause-time : goal.hold-requires-clause-time
 hold-requires-clause-time c =
     let b = c.bound-bound in
-    one-time c.args.self.now b.result b.type_inv b.ensures.later b.ensures.within c.at.result c.at.ensures c.in-Some.local c.in-Some.ensures.day
+    one-time c.args.self.now b.type_inv b.ensures.later b.ensures.within c.at.ensures c.in-Some.local c.in-Some.ensures.day
     c.in-Some.ensures.next
 
 pub invariant_of-self-in-Some : goal.invariant_of-self-in-Some
 invariant_of-self-in-Some c =
     let s = c.args.self.now in
     let b = c.bound-bound in
-    let r = one-read s b.result b.type_inv b.ensures.later b.ensures.within c.at.result c.at.ensures c.in-Some.local c.in-Some.ensures.day
+    let r = one-read s b.type_inv b.ensures.later b.ensures.within c.at.ensures c.in-Some.local c.in-Some.ensures.day
     c.in-Some.ensures.next c.reserve.ensures.items b.ensures.held c.hold.ensures in
     record {
       of = s.of;
@@ -94,13 +94,13 @@ invariant_of-self-in-Some c =
 pub returns-in-None : goal.returns-in-None
 returns-in-None c =
     let b = c.bound-bound in
-    let r = none-read c.args.self.now b.result b.type_inv b.ensures.later b.ensures.within c.at.result c.at.ensures c.reserve.ensures.items b.ensures.held
+    let r = none-read c.args.self.now b.type_inv b.ensures.later b.ensures.within c.at.ensures c.reserve.ensures.items b.ensures.held
     c.in-None.ensures.next in
     record { same = r.same; source = record { zones = refl; event = refl; window = refl; rule = refl; from = refl; end = refl }; less = r.less }
 
 pub returns-in-Some : goal.returns-in-Some
 returns-in-Some c =
     let b = c.bound-bound in
-    let r = one-read c.args.self.now b.result b.type_inv b.ensures.later b.ensures.within c.at.result c.at.ensures c.in-Some.local c.in-Some.ensures.day
+    let r = one-read c.args.self.now b.type_inv b.ensures.later b.ensures.within c.at.ensures c.in-Some.local c.in-Some.ensures.day
     c.in-Some.ensures.next c.reserve.ensures.items b.ensures.held c.hold.ensures in
     record { same = r.same; source = record { zones = refl; event = refl; window = refl; rule = refl; from = refl; end = refl }; less = r.less }
