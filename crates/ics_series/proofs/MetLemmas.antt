@@ -1,6 +1,6 @@
 -- The occurrences of one event that meet a window.
 use Rattle.std.specs.Prelude.{◌&&◌, not, if◌then◌else◌}
-use Rattle.std.proofs.Common.{◌≡◌, ℤ, List, [], ◌∷◌, Option, Some, None, ⊎_elim, Bool, true, false, refl, sym, ◌∙◌, ap, subst}
+use Rattle.std.proofs.Common.{◌≡◌, ℤ, List, [], ◌∷◌, Option, Some, None, ⊎_elim, Bool, true, refl, sym, ◌∙◌, ap, subst, arith}
 use Rattle.std.specs.List.{filter_map}
 use Rattle.std.proofs.lemmas.Bool.{cond_both}
 use Rattle.std.proofs.lemmas.Cmp.{tied_back}
@@ -39,10 +39,7 @@ module _ (clocks : Clocks) (w : Window) (event : Event) (s : Start) where
   shown-by {out = out} e = ap (λ c. if is_met w from && not c then Some from else None) e ∙ by (is_met w from) out
     where
       by : (b c : Bool) → (if b && not c then Some from else None) ≡ (if c then None else if b then Some from else None)
-      by true true = refl
-      by true false = refl
-      by false true = refl
-      by false false = refl
+      by b c = grind arith
 
   pub unmet : met_by clocks w event s ≡ None → shown_by clocks w event s ≡ None
   unmet e = shown-by refl ∙ cond_both (is_excluded clocks event from.start) None (met_by clocks w event s) (λ o. o ≡ None) (λ _. refl) (λ _. e)

@@ -1,6 +1,6 @@
 -- Midnights before and after an instant; the days of an occurrence lie near the instants at which it meets the window.
 use Rattle.std.specs.Prelude.{◌<ℤ◌, ◌≤ℤ◌, int_le, if◌then◌else◌}
-use Rattle.std.proofs.Common.{◌≡◌, List, ℤ, pos, ◌+ℤ◌, ◌-ℤ◌, ◌⊎◌, inl, inr, ⊎_elim, Bool, true, false, refl, sym, ◌∙◌, arith, negsuc, ◌*ℤ◌}
+use Rattle.std.proofs.Common.{◌≡◌, List, ℤ, pos, ◌+ℤ◌, ◌-ℤ◌, ◌⊎◌, inl, inr, ⊎_elim, true, false, refl, sym, ◌∙◌, arith, negsuc, ◌*ℤ◌}
 use Rattle.std.specs.Int.{int_max, int_min, int_div_euclid}
 use Rattle.std.specs.Ordering.{int_eq}
 use Rattle.std.proofs.lemmas.Int.{int_max_is, int_min_is, ints}
@@ -41,6 +41,11 @@ lasts-from from start finish forward l =
     ⊎_elim inl (λ past. inr (omega (arith, ints, past, l, forward, int_max_is), omega (arith, ints, past, l, forward, int_max_is)))
     (less_or_not_z from finish)
 
+-- what is not past the greater of two, or past the first where there is but that, is not past the first, or not past the second, which is there
+of-last : (a b finish start day : ℤ) → start ≤ℤ finish → day ≤ℤ (if int_eq finish start then a else int_max a b)
+    → (day ≤ℤ a) ⊎ ((start <ℤ finish) × (day ≤ℤ b))
+of-last a b finish start day l h = grind (arith, ints, int_max_is)
+
 module _ (clock : Clock) (near : (t : ℤ) → IsNear (clock.offset t)) where
   -- the date that a clock shows is less than two days off
   date-near : (t : ℤ) → (midnight (date_at clock t) ≤ℤ (t +ℤ pos 172_799)) × (t <ℤ (midnight (date_at clock t) +ℤ pos 259_199))
@@ -58,18 +63,7 @@ module _ (clock : Clock) (near : (t : ℤ) → IsNear (clock.offset t)) where
 
     -- a day is not past that of the later of its start and the window's, or of an occurrence that lasts not past that of its last second
     by-length : (day ≤ℤ first_day clock w o) ⊎ ((o.start <ℤ o.finish) × (day ≤ℤ end_day clock w o))
-    by-length = by (int_eq o.finish o.start) refl at-last
-      where
-        of-max : (a b : ℤ) → day ≤ℤ int_max a b → (day ≤ℤ a) ⊎ (day ≤ℤ b)
-        of-max a b h = grind (arith, ints, int_max_is)
-
-        apart : int_eq o.finish o.start ≡ false → o.start <ℤ o.finish
-        apart f = grind (arith, ints, forward)
-
-        by : (b : Bool) → int_eq o.finish o.start ≡ b → day ≤ℤ (if b then first_day clock w o else int_max (first_day clock w o) (end_day clock w o))
-            → (day ≤ℤ first_day clock w o) ⊎ ((o.start <ℤ o.finish) × (day ≤ℤ end_day clock w o))
-        by true e h = inl h
-        by false e h = ⊎_elim inl (λ k. inr (apart e, k)) (of-max (first_day clock w o) (end_day clock w o) h)
+    by-length = of-last (first_day clock w o) (end_day clock w o) o.finish o.start day forward at-last
 
     pub near-start : o.start <ℤ midnight (day +ℤ pos 3)
     near-start = omega (arith, ints, (date-near (int_max o.start w.from)).1, at-first, int_max_is o.start w.from)

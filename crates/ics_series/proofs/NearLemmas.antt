@@ -49,11 +49,9 @@ module _ (zones : FileZones) where
   end-bound first given _ (Lasting duration) = later-bound given.zone given.stamp duration (instant (clocks_in zones) given)
 
   seconds-least : (first : Time) (s : Stamp) (length : Length) → pos 0 ≤ℤ seconds_by (clocks_in zones) first s length
-  seconds-least first (Date day) Open = omega (arith, ints)
-  seconds-least first (Date day) (Until end) = omega (arith, ints, int_max_is (pos 1) (day_of end.stamp -ℤ day))
-  seconds-least first (Date day) (Lasting duration) = omega (arith, ints, int_max_is (pos 1) (pos duration.days))
-  seconds-least first _ (Until end) = omega (arith, ints, int_max_is (pos 0) (instant (clocks_in zones) end -ℤ instant (clocks_in zones) first))
-  seconds-least first _ _ = omega (arith, ints)
+  seconds-least first (Date day) (Until end) = omega (arith, ints, int_max_is)
+  seconds-least first _ (Until end) = omega (arith, ints, int_max_is)
+  seconds-least first _ _ = omega (arith, ints, int_max_is)
 
   -- what meets the window begins at most four days before an event of this length can
   pub meets-late : (event : Event) (w : Window) (given : Time) → Meets w (entry_from (clocks_in zones) event (At given))

@@ -30,31 +30,24 @@ module _ (clocks : Clocks) (event : Event) (rule : Recurrence) (w : Window) wher
   abbrev pub NoneGives : ℕ → ℕ → Type 0
   NoneGives from to = (n : ℕ) → from ≤ n → n < to → gives clocks event rule w n ≡ false
 
-  module _ (to m : ℕ) where
-    same-found : (from n : ℕ) → from ≡ to → n ≡ m → found_in clocks event rule w from n ≡ found_in clocks event rule w to m
-    same-found from n p q = λ i. found_in clocks event rule w (p i) (q i)
-
-    found_in-skipped : (from n : ℕ) → from ≤ to → from + n ≡ to + m → NoneGives from to →
-        found_in clocks event rule w from n ≡ found_in clocks event rule w to m
-    found_in-skipped from zero l e none = same-found from 0 (omega (arith, l, e)) (omega (arith, l, e))
-    found_in-skipped from (suc n) l e none =
-        ⊎_elim
-        (λ same. same-found from (suc n) same (omega (arith, same, e)))
-        (λ less. ap (λ b. with_put b (start_at clocks event (local_numbered from)) (found_in clocks event rule w (from + 1) n)) (none from (omega arith) less)
-        ∙ found_in-skipped (from + 1) n (omega (arith, less)) (omega (arith, e)) (λ k a b. none k (omega (arith, a)) b))
-        (here-or-later from to l)
-
-  -- locals that give none may be passed over
-  pub found-skipped : (from to : ℕ) → from ≤ to → to ≤ rules_end → NoneGives from to → found clocks event rule w from ≡ found clocks event rule w to
-  unfolding found
-  found-skipped from to l h none = found_in-skipped to (rules_end - to) from (rules_end - from) l (omega (arith, l, h)) none
-
-  pub found-first : (from : ℕ) → from < rules_end → found clocks event rule w from
+  found-first : (from : ℕ) → from < rules_end → found clocks event rule w from
       ≡ with_put (gives clocks event rule w from) (start_at clocks event (local_numbered from)) (found clocks event rule w (from + 1))
   unfolding found
   found-first from l =
       let one : rules_end - from ≡ suc (rules_end - (from + 1)) = omega (arith, l) in
       ap (λ k. found_in clocks event rule w from k) one
+
+  -- locals that give none may be passed over
+  found-skipped : (from to : ℕ) → from ≤ to → to ≤ rules_end → NoneGives from to → found clocks event rule w from ≡ found clocks event rule w to
+  found-skipped from zero l h none = ap (found clocks event rule w) (omega (arith, l))
+  found-skipped from (suc to) l h none =
+      ⊎_elim (ap (found clocks event rule w))
+      (λ less.
+      let next : found clocks event rule w (to + 1) ≡ found clocks event rule w (suc to) = ap (found clocks event rule w) (omega arith) in
+      found-skipped from to (omega (arith, less)) (omega (arith, h)) (λ n a b. none n a (omega (arith, b)))
+      ∙ (found-first to (omega (arith, h))
+      ∙ (ap (λ b. with_put b (start_at clocks event (local_numbered to)) (found clocks event rule w (to + 1))) (none to (omega (arith, less)) (omega arith)) ∙ next)))
+      (here-or-later from (suc to) l)
 
   unkept : (n : ℕ) → is_kept rule n ≡ false → gives clocks event rule w n ≡ false
   unfolding gives

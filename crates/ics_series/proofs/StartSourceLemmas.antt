@@ -66,9 +66,10 @@ pub written-at : (s : Stamp) (a : Local) → (stamp_seconds (stamp_at s a) ≤�
 written-at (Date day) a = (omega (arith, ints), omega (arith, ints, a.second_in))
 written-at _ a = (omega (arith, ints), omega (arith, ints))
 
-stamp_day-own : (s : Stamp) → stamp_day s ≡ (local_of s).day
-stamp_day-own (Date day) = refl
-stamp_day-own _ = refl
+-- a stamp's day is that of its local
+stamp_days : (s : Stamp) → (stamp_day s ≡ (local_of s).day) × (stamp_day s ≡ day_of s)
+stamp_days (Date day) = (refl, refl)
+stamp_days _ = (refl, refl)
 
 -- Times.
 pub own-time : (time : Time) → time_at time (local_of time.stamp) ≡ time
@@ -82,7 +83,7 @@ pub time-at : (time : Time) (a : Local) → IsTime time → IsStampDay a.day →
 time-at time a h d = stamp-time time.stamp time.zone a h.zone d
 
 pub own-day : (time : Time) → IsTime time → IsStampDay (local_of time.stamp).day
-own-day time h = subst IsStampDay (stamp_day-own time.stamp) h.years
+own-day time h = subst IsStampDay (stamp_days time.stamp).0 h.years
 
 pub calendar-day : (d : ℤ) → IsStampDay d → IsDayNumber d
 calendar-day d h = (omega (arith, ints, h.0), omega (arith, ints, h.1))
@@ -161,12 +162,8 @@ pub rdate-below : (zones : ℕ) (r : Rdate) → RdateBelow zones r → TimeBelow
 rdate-below zones (At time) h = h
 rdate-below zones (Span start lasts) h = h.0
 
-stamp_day-is : (s : Stamp) → stamp_day s ≡ day_of s
-stamp_day-is (Date day) = refl
-stamp_day-is _ = refl
-
 pub day-years : (time : Time) → IsTime time → IsStampDay (day_of time.stamp)
-day-years time h = subst IsStampDay (stamp_day-is time.stamp) h.years
+day-years time h = subst IsStampDay (stamp_days time.stamp).1 h.years
 
 pub date-time : (time : Time) → IsTime time → IsTime (date_only time)
 date-time time h = record { years = day-years time h; zone = refl }

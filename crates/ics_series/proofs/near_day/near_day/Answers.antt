@@ -1,13 +1,12 @@
 use lib.Signed.{mag}
 use Rattle.std.specs.Prelude.{◌≤ℤ◌, ◌<ℤ◌}
-use Rattle.std.proofs.Common.{◌≡◌, ◌<◌, ◌∙◌, refl, ℤ, pos, ◌+ℤ◌, ◌-ℤ◌, ◌*ℤ◌, arith, to_z, of_z, w32, w64}
+use Rattle.std.proofs.Common.{◌≡◌, ◌<◌, refl, ℤ, pos, ◌+ℤ◌, ◌-ℤ◌, ◌*ℤ◌, arith, to_z, of_z, w32, w64}
 use Rattle.std.specs.Int.{int_max, int_min}
 use Rattle.std.proofs.lemmas.Int.{int_max_is, int_min_is, ints}
 use Rattle.ics_fields.specs.Locals.{midnight}
 use Rattle.ics_series.specs.declared.window.Window.{Window}
 use Rattle.ics_series.specs.OnDays.{first_near, last_near}
 use Rattle.ics_series.specs.WindowBounds.{window_first, window_last}
-use Rattle.ics_series.proofs.Cases.{moment-back}
 use Rattle.ics_series.proofs.NearDayLemmas.{day-within}
 use Rattle.ics_series.proofs.near_day.near_day.Goals as goal
 
@@ -15,22 +14,16 @@ module _ (w : Window) (day : ℤ) (low : first_near w ≤ℤ day) (high : day �
   from-is : {r : ℤ} → mag r < 9_223_372_036_854_775_808
       → r ≡ int_max (to_z w64 (of_z w64 w.from)) (to_z w64 (of_z w64 (to_z w64 (of_z w64 (to_z w64 (of_z w64 d) -ℤ pos 2)) *ℤ pos 86_400)))
       → to_z w64 (of_z w64 r) ≡ int_max w.from (midnight (day -ℤ pos 2))
-  from-is {r = r} fits value =
+  from-is fits value =
       let within = day-within w day low high in
-      let own : to_z w64 (of_z w64 w.from) ≡ w.from = omega (arith, ints, w.not_early, w.ordered, w.not_late) in
-      let near : to_z w64 (of_z w64 (to_z w64 (of_z w64 (to_z w64 (of_z w64 d) -ℤ pos 2)) *ℤ pos 86_400)) ≡ midnight (day -ℤ pos 2) =
-      omega (arith, ints, e, within.0, within.1, w.not_early, w.not_late) in
-      moment-back r fits ∙ (value ∙ (λ i. int_max (own i) (near i)))
+      omega (arith, ints, fits, value, e, within.0, within.1, w.not_early, w.ordered, w.not_late, int_max_is)
 
   to-is : {r : ℤ} → mag r < 9_223_372_036_854_775_808
       → r ≡ int_min (to_z w64 (of_z w64 w.to)) (to_z w64 (of_z w64 (to_z w64 (of_z w64 (to_z w64 (of_z w64 d) +ℤ pos 3)) *ℤ pos 86_400)))
       → to_z w64 (of_z w64 r) ≡ int_min w.to (midnight (day +ℤ pos 3))
-  to-is {r = r} fits value =
+  to-is fits value =
       let within = day-within w day low high in
-      let own : to_z w64 (of_z w64 w.to) ≡ w.to = omega (arith, ints, w.not_early, w.ordered, w.not_late) in
-      let near : to_z w64 (of_z w64 (to_z w64 (of_z w64 (to_z w64 (of_z w64 d) +ℤ pos 3)) *ℤ pos 86_400)) ≡ midnight (day +ℤ pos 3) =
-      omega (arith, ints, e, within.0, within.1, w.not_early, w.not_late) in
-      moment-back r fits ∙ (value ∙ (λ i. int_min (own i) (near i)))
+      omega (arith, ints, fits, value, e, within.0, within.1, w.not_early, w.ordered, w.not_late, int_min_is)
 
   bounds : {from to : ℤ} → from ≡ int_max w.from (midnight (day -ℤ pos 2)) → to ≡ int_min w.to (midnight (day +ℤ pos 3)) →
       (from <ℤ to) × ((window_first ≤ℤ from) × (to ≤ℤ window_last))
