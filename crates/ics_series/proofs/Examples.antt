@@ -33,22 +33,10 @@ use Rattle.ics_series.specs.declared.start.Start.{Start}
 use Rattle.ics_series.specs.Meeting.{is_met}
 use Rattle.ics_series.specs.PlacedEvents.{Placed, placed_cmp}
 use Rattle.ics_series.proofs.Cases.{some-same}
+use Rattle.ics_series.proofs.HeldMostExamples.{starting}
 
 abbrev event_of : ℕ → Stamp → Length → Event
-event_of sequence start length = record {
-  uid = 117 ∷ [];
-  sequence = sequence;
-  start = record { stamp = start; zone = None };
-  length = length;
-  rule = None;
-  rdates = [];
-  exdates = [];
-  recurrence = None;
-  title = [];
-  location = [];
-  description = [];
-  cancelled = false;
-}
+event_of sequence start length = record (starting start) { sequence = sequence; length = length }
 
 -- a second of 2024-01-05, and of 2007-03-10, the day before the clock springs forward
 abbrev friday : ℕ → Local

@@ -96,26 +96,18 @@ in-firsts : (last : Option ℤ) (s : Start) (xs : List Start) → Climbs start_c
 in-firsts last s [] h m = absurd m
 in-firsts last s (x ∷ xs) h m =
     let firsts = firsts_after (Some x.moment) xs in
+    let rest : (Some x.moment ≡ Some s.moment) ⊎ HasStart (firsts_after (Some x.moment) xs) s.source s.moment =
+    ⊎_elim (λ is. inl (ap (λ t. Some t.moment) (sym is))) (λ n. in-firsts (Some x.moment) s xs h.1 n) m in
+    let up-to : is_gt (start_cmp x s) ≡ false =
+    ⊎_elim (λ is. ap (λ t. is_gt (start_cmp x t)) is ∙ ap is_gt (tied_itself start_total x)) (λ n. up-to-in start_cmp x s xs h.0 n) m in
     cond_both (option_eq int_eq last (Some x.moment)) firsts (x ∷ firsts) (λ zs. (last ≡ Some s.moment) ⊎ HasStart zs s.source s.moment)
-    (λ e.
-    let at = at-true last x.moment e in
-    ⊎_elim (λ same. inl (at ∙ ap (λ t. Some t.moment) (sym same)))
-    (λ n. ⊎_elim (λ f. inl (at ∙ f)) inr (in-firsts (Some x.moment) s xs h.1 n)) m)
+    (λ e. ⊎_elim (λ f. inl (at-true last x.moment e ∙ f)) inr rest)
     (λ e. inr (⊎_elim
-    (λ is. record {
-      start = x;
-      stands = inl refl;
-      same = ap (λ t. t.moment) (sym is);
-      earlier = source-order x.source s.source (ap (λ t. is_gt (source_cmp x.source t.source)) is ∙ ap is_gt (tied_itself source_total x.source));
-    })
-    (λ n. ⊎_elim
     (λ f.
     let same = some-same x.moment s.moment f in
-    let back : is_gt (source_cmp x.source s.source) ≡ false = rw (same-moment x s same) at (up-to-in start_cmp x s xs h.0 n) in
-    record { start = x; stands = inl refl; same = same; earlier = source-order x.source s.source back })
+    record { start = x; stands = inl refl; same = same; earlier = source-order x.source s.source (rw (same-moment x s same) at up-to) })
     (λ f. record { start = f.start; stands = inr f.stands; same = f.same; earlier = f.earlier })
-    (in-firsts (Some x.moment) s xs h.1 n))
-    m))
+    rest))
 
 -- of starts in any order, sorted, the first of each run
 pub firsts-of : (xs ys : List Start) → IsPermutation xs ys → Climbs start_cmp ys → AreFirsts xs (firsts_after None ys)

@@ -91,11 +91,10 @@ module _ (clocks : Clocks) (event : Event) (rule : Recurrence) (has : recurrence
         or_left (number local == number rule.start)
             (is_until (until_moment rule) (instant clocks (time_at event.start local))) (eq-eqb (number local) (number rule.start) first),
       ))
-      (λ r. subst (λ (q : Recurrence).
-      (is_kept q (number local) ≡ true) × (lets_until q (number local) (instant clocks (time_at event.start local)) ≡ true))
-      (some-same r.rule rule (sym r.has ∙ has)) (
-        r.kept,
-        or_right (number local == number r.rule.start) (is_until (until_moment r.rule) (instant clocks (time_at event.start local)))
-            (until-true (until_moment r.rule) (instant clocks (time_at event.start local)) r.until),
+      (λ r.
+      let same : r.rule ≡ rule = some-same r.rule rule (sym r.has ∙ has) in (
+        rw same at r.kept,
+        or_right (number local == number rule.start) (is_until (until_moment rule) (instant clocks (time_at event.start local)))
+            (rw same at (until-true (until_moment r.rule) (instant clocks (time_at event.start local)) r.until)),
       ))
       k

@@ -35,13 +35,6 @@ use Rattle.ics_series.specs.Starts.{IsNotAfter}
 use Rattle.ics_series.proofs.Cases.{some-same}
 
 -- Locals.
-pub same-local : (a b : Local) → a.day ≡ b.day → a.second ≡ b.second → a ≡ b
-same-local a b d e = λ i. record {
-  day = d i;
-  second = e i;
-  second_in = is_prop→PathP (λ j. e j < 86_400) (λ j. hlevel props) a.second_in b.second_in i;
-}
-
 pub index-is : (d : ℤ) → IsDayNumber d → pos (day_index d) ≡ d +ℤ pos 719_528
 index-is d h = omega (arith, ints, h.0)
 
@@ -51,7 +44,10 @@ number-seconds a h = omega (arith, ints, index-is a.day h)
 
 -- two locals with the same seconds are the same
 pub same-seconds : (a b : Local) → local_seconds a ≡ local_seconds b → a ≡ b
-same-seconds a b e = same-local a b (omega (arith, ints, a.second_in, b.second_in)) (omega (arith, ints, a.second_in, b.second_in))
+same-seconds a b e =
+    let day : a.day ≡ b.day = omega (arith, ints, a.second_in, b.second_in) in
+    let second : a.second ≡ b.second = omega (arith, ints, a.second_in, b.second_in) in
+    λ i. record { day = day i; second = second i; second_in = is_prop→PathP (λ j. second j < 86_400) (λ j. hlevel props) a.second_in b.second_in i }
 
 pub same-number : (a b : Local) → IsDayNumber a.day → IsDayNumber b.day → number a ≡ number b → a ≡ b
 same-number a b h k e = same-seconds a b (omega (arith, ints, number-seconds a h, number-seconds b k))
@@ -121,13 +117,11 @@ kept-time event {rule = rule} a h e d k =
     let there = number-seconds a d in
     let late = kept-late rule (number a) k in
     let second = (local_of event.start.stamp).second_in in
-    time-at event.start a h (⊎_elim
-    (λ same. (
-      omega (arith, ints, own.0, start, first, there, same, a.second_in, second),
-      omega (arith, ints, own.1, start, first, there, same, a.second_in, second),
-    ))
-    (λ early. (omega (arith, ints, own.0, start, first, there, late, a.second_in, second), omega (arith, ints, there, early, a.second_in)))
-    (kept-early rule (number a) k))
+    time-at event.start a h (
+      omega (arith, ints, own.0, start, first, there, late, a.second_in, second),
+      ⊎_elim (λ same. omega (arith, ints, own.1, start, first, there, same, a.second_in, second)) (λ early. omega (arith, ints, there, early, a.second_in))
+          (kept-early rule (number a) k),
+    )
 
 -- two of which none is after the other are the same
 pub same-source : (g k : StartSource) → IsNotAfter g k → IsNotAfter k g → g ≡ k

@@ -1,4 +1,4 @@
-use Rattle.std.proofs.Common.{rules, ◌≡◌, ◌+ℤ◌, ℕ, ℤ, ◌<◌, pos, arith, w32, w64}
+use Rattle.std.proofs.Common.{rules, ◌≡◌, ◌+ℤ◌, ℕ, ℤ, ◌<◌, pos, arith, to_z, of_z, w32, w64}
 use Rattle.std.specs.Prelude.{◌≤ℤ◌, ◌<ℤ◌, ◌-ℤ◌, FitsSigned}
 use Rattle.std.proofs.lemmas.Int.{ints, to_z-of_z}
 use Rattle.ics_fields.specs.Days.{IsDayNumber}
@@ -10,22 +10,19 @@ use Rattle.ics_series.specs.WindowBounds.{occurrence_first, occurrence_end}
 use Rattle.ics_series.proofs.near_day.date_at.Goals as goal
 
 -- a local near an instant of those years lies in the years 0000 to 9999, and so does the day before
-day_within : (day : ℤ) {second : ℕ} {moment offset : ℤ} → second < 86_400 → seconds_at day second ≡ moment +ℤ offset → IsNear offset
-    → occurrence_first ≤ℤ moment → moment <ℤ occurrence_end → IsDayNumber (day -ℤ pos 1) × IsDayNumber day
-day_within day small same near early late = ((omega (arith, ints), omega (arith, ints)), (omega (arith, ints), omega (arith, ints)))
+day_within : {day : ℤ} {second : ℕ} {moment offset : ℤ} → FitsSigned w32 day → second < 86_400 → seconds_at day second ≡ moment +ℤ offset → IsNear offset
+    → occurrence_first ≤ℤ moment → moment <ℤ occurrence_end
+    → IsDayNumber (to_z w32 (of_z w32 day) -ℤ pos 1) × IsDayNumber (to_z w32 (of_z w32 day))
+day_within fits small same near early late = ((omega (arith, ints), omega (arith, ints)), (omega (arith, ints), omega (arith, ints)))
 
 pub returns-clause-within : goal.returns-clause-within
 returns-clause-within c =
-    let moment = c.args.moment in
     let fits : FitsSigned w32 c.local.result.day = search rules in
-    rw (to_z-of_z w32 c.local.result.day fits)
-    (day_within c.local.result.day c.local.result.second_in (rw (to_z-of_z w64 moment c.ranges.moment) at c.local.ensures)
-    (offset_near (zone_of c.args.display.now) moment) c.requires.early c.requires.late).1
+    (day_within fits c.local.result.second_in (rw (to_z-of_z w64 c.args.moment c.ranges.moment) at c.local.ensures)
+    (offset_near (zone_of c.args.display.now) c.args.moment) c.requires.early c.requires.late).1
 
 pub returns-clause-before : goal.returns-clause-before
 returns-clause-before c =
-    let moment = c.args.moment in
     let fits : FitsSigned w32 c.local.result.day = search rules in
-    rw (to_z-of_z w32 c.local.result.day fits)
-    (day_within c.local.result.day c.local.result.second_in (rw (to_z-of_z w64 moment c.ranges.moment) at c.local.ensures)
-    (offset_near (zone_of c.args.display.now) moment) c.requires.early c.requires.late).0
+    (day_within fits c.local.result.second_in (rw (to_z-of_z w64 c.args.moment c.ranges.moment) at c.local.ensures)
+    (offset_near (zone_of c.args.display.now) c.args.moment) c.requires.early c.requires.late).0

@@ -32,11 +32,7 @@ returns-else-day-first c =
     let low = int_max_is (local_seconds c.args.first) (c.args.earliest -ℤ whole_days 6) in
     let first = c.requires.first in
     record {
-      day = (
-        omega (arith, ints, day, under.0, under.1, first.0, first.1, c.requires.late, c.requires.early),
-        omega
-            (arith, ints, day, under.0, under.1, first.0, first.1, c.requires.late, c.requires.early),
-      );
+      day = (omega (arith, ints, day, under, first), omega (arith, ints, day, under, first));
       late = omega (arith, ints, late, at, under.0, under.1, c.args.first.second_in, first.0, first.1, c.requires.late, c.requires.early);
       low = omega (arith, ints, low, at, under.0, under.1, first.0, first.1, c.requires.late, c.requires.early);
     }

@@ -41,8 +41,7 @@ pub invariant_of-self-in-None : goal.invariant_of-self-in-None
 invariant_of-self-in-None c =
     let s = c.args.self.now in
     let b = c.bound-bound in
-    let r = none-read s b.type_inv b.ensures.later b.ensures.within c.at.ensures c.reserve.ensures.items b.ensures.held
-    c.in-None.ensures.next in
+    let r = none-read s b.type_inv b.ensures.later b.ensures.within c.at.ensures c.reserve.ensures.items b.ensures.held c.in-None.ensures.next in
     record {
       of = s.of;
       rises = r.rises;
@@ -64,8 +63,7 @@ invariant_of-self-in-None c =
 pub hold-requires-clause-time : goal.hold-requires-clause-time
 hold-requires-clause-time c =
     let b = c.bound-bound in
-    one-time c.args.self.now b.type_inv b.ensures.later b.ensures.within c.at.ensures c.in-Some.local c.in-Some.ensures.day
-    c.in-Some.ensures.next
+    one-time c.args.self.now b.type_inv b.ensures.later b.ensures.within c.at.ensures c.in-Some.local c.in-Some.ensures.day c.in-Some.ensures.next
 
 pub invariant_of-self-in-Some : goal.invariant_of-self-in-Some
 invariant_of-self-in-Some c =
@@ -94,8 +92,7 @@ invariant_of-self-in-Some c =
 pub returns-in-None : goal.returns-in-None
 returns-in-None c =
     let b = c.bound-bound in
-    let r = none-read c.args.self.now b.type_inv b.ensures.later b.ensures.within c.at.ensures c.reserve.ensures.items b.ensures.held
-    c.in-None.ensures.next in
+    let r = none-read c.args.self.now b.type_inv b.ensures.later b.ensures.within c.at.ensures c.reserve.ensures.items b.ensures.held c.in-None.ensures.next in
     record { same = r.same; source = record { zones = refl; event = refl; window = refl; rule = refl; from = refl; end = refl }; less = r.less }
 
 pub returns-in-Some : goal.returns-in-Some
