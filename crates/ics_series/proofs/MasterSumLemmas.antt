@@ -1,13 +1,13 @@
 -- What the masters of a listing may hold is no more than what all masters of the folder may.
 use Rattle.std.specs.Prelude.{sum_by}
 use Rattle.std.specs.Cmp.Lexicographic.{slice_cmp}
-use Rattle.std.specs.List.{sum, AllByRecursion}
-use Rattle.std.specs.Ordering.{nat_cmp}
-use Rattle.std.specs.declared.cmp.Ordering.TheVariants.{Less, Equal}
-use Rattle.std.proofs.Common.{◌≡◌, ℕ, ℤ, ◌+◌, ◌≤◌, List, [], ◌∷◌, map, ◌⊎◌, inl, inr, ⊎_elim, Option, sym, ◌∙◌, ap, subst, arith}
-use Rattle.std.proofs.lemmas.Cmp.{nat_list_cmp_total, on_total, tied_itself}
-use Rattle.std.proofs.lemmas.List.Sums.{sum-map, sum_by-cons}
-use Rattle.std.proofs.lemmas.Simd.{map-map}
+use Rattle.std.specs.Cmp.{IsTotalOrder}
+use Rattle.std.specs.List.{AllByRecursion}
+use Rattle.std.specs.Ordering.{nat_cmp, on}
+use Rattle.std.specs.declared.cmp.Ordering.{Ordering}
+use Rattle.std.proofs.Common.{◌≡◌, ℕ, ℤ, ◌+◌, ◌≤◌, List, [], ◌∷◌, map, ◌⊎◌, inl, inr, ⊎_elim, Option, refl, sym, ◌∙◌, ap, subst, arith}
+use Rattle.std.proofs.lemmas.Cmp.{nat_list_cmp_total, on_total}
+use Rattle.std.proofs.lemmas.List.Sums.{sum_by-cons}
 use Rattle.ics_event.specs.Event.{FileSaid}
 use Rattle.ics_series.specs.declared.window.Window.{Window}
 use Rattle.ics_series.specs.Chosen.{IsMaster}
@@ -21,8 +21,10 @@ use Rattle.ics_series.specs.PlacedEvents.{Placed, clocks_at}
 use Rattle.ics_series.specs.Rising.{Rises}
 use Rattle.ics_series.specs.Sources.{master_at, master_of, recurring, uid_cmp, AreSources, IsFrom, IsMasterOf, Recurring, Source}
 use Rattle.ics_series.specs.Versions.{by_subject}
-use Rattle.ics_series.proofs.ListingLemmas.{before-in}
-use Rattle.ics_series.proofs.SortLemmas.{all-as, all-in, in-all}
+use Rattle.ics_series.proofs.GivenLemmas.{in-map, map-in}
+use Rattle.ics_series.proofs.ListingLemmas.{before-in, not-less-itself}
+use Rattle.ics_series.proofs.OverrideLemmas.{rises-on}
+use Rattle.ics_series.proofs.SortLemmas.{all-as, all-in}
 
 -- a list without one of its members
 record Rest {A : Type 0} (f : A → ℕ) (x : A) (xs : List A) : Type 0 where
@@ -49,6 +51,23 @@ same-master : (files : List FileSaid) (display : Clock) (m : Recurring) (by : Pl
     → master_of m ≡ master_at files display by
 same-master files display m by clocks event = λ i. record { clocks = clocks i; event = event i }
 
+-- by the bytes of the UID
+abbrev master_cmp : Master → Master → Ordering
+master_cmp = on (λ m. m.event.uid) (slice_cmp nat_cmp)
+
+master_total : IsTotalOrder master_cmp
+master_total = on_total (λ (m : Master). m.event.uid) nat_list_cmp_total
+
+-- of masters that rise, and stand among others, the sum is at most that over those
+sums-within : (f : Master → ℕ) (ms all : List Master) → Rises master_cmp ms → ((m : Master) → IsIn m ms → IsIn m all) → sum_by f ms ≤ sum_by f all
+sums-within f [] all r h = omega arith
+sums-within f (m ∷ ms) all r h =
+    let w = without f m all (h m (inl refl)) in
+    let rest = sums-within f ms w.rest r.1 (λ n k. ⊎_elim
+    (λ s. absurd (not-less-itself master_cmp master_total m (ap (master_cmp m) (sym s) ∙ before-in master_cmp master_total m n ms r.0 k))) (λ i. i)
+    (w.others n (h n (inr k)))) in
+    omega (arith, sum_by-cons f m ms, rest, w.sum)
+
 module _ (files : List FileSaid) (display : Clock) where
   -- a master of the folder
   pub record IsOfFolder (m : Recurring) : Type 0 where
@@ -56,45 +75,14 @@ module _ (files : List FileSaid) (display : Clock) where
     is : IsMaster files display by
     same : master_of m ≡ master_at files display by
 
-  -- a master of the listing is one of these
-  record IsAmong (masters : List Placed) (m : Recurring) : Type 0 where
-    by : Placed
-    stands : IsIn by masters
-    same : master_of m ≡ master_at files display by
-
-  behind : (m n : Recurring) (by : Placed) → master_of m ≡ master_at files display by → master_of n ≡ master_at files display by → uid_cmp m n ≡ Less → ⊥
-  behind m n by p q l =
-      let same : uid_cmp m n ≡ Equal = ap (slice_cmp nat_cmp m.event.uid) (ap (λ (v : Master). v.event.uid) (q ∙ sym p))
-      ∙ tied_itself nat_list_cmp_total m.event.uid in
-      let no : Less ≡ Equal = sym l ∙ same in
-      absurd cc
-
-  module _ (f : Master → ℕ) where
-    as-sums : (ps : List Placed) → sum_by f (map (master_at files display) ps) ≡ sum_by (λ p. f (master_at files display p)) ps
-    as-sums ps =
-        sym (sum-map f (map (master_at files display) ps))
-        ∙ (ap sum (map-map f (master_at files display) ps) ∙ sum-map (λ p. f (master_at files display p)) ps)
-
-    sums-within : (ms : List Recurring) (masters : List Placed) → Rises uid_cmp ms → AllByRecursion (IsAmong masters) ms
-        → sum_by f (map master_of ms) ≤ sum_by f (map (master_at files display) masters)
-    sums-within [] masters r h = omega arith
-    sums-within (m ∷ ms) masters r h =
-        let w = without (λ p. f (master_at files display p)) h.0.by masters h.0.stands in
-        let uids = on_total (λ (n : Recurring). n.event.uid) nat_list_cmp_total in
-        let rest = sums-within ms w.rest r.1 (in-all (IsAmong w.rest) ms (λ n k. let o = all-in (IsAmong masters) ms h.1 n k in record {
-          by = o.by;
-          stands = ⊎_elim (λ s. absurd (behind m n h.0.by h.0.same (o.same ∙ ap (master_at files display) s) (before-in uid_cmp uids m n ms r.0 k))) (λ i. i)
-              (w.others o.by o.stands);
-          same = o.same;
-        })) in
-        omega (arith, sum_by-cons f (master_of m) (map master_of ms), ap f h.0.same, rest, as-sums masters, as-sums w.rest, w.sum)
-
   -- A sum over some masters of the folder, each with a UID of its own, is at most that over all of them.
   pub sum-of-masters : (f : Master → ℕ) (ms : List Recurring) (masters : List Placed) → Rises uid_cmp ms → AllByRecursion IsOfFolder ms
       → IsListing (by_subject files display) (IsMaster files display) masters → sum_by f (map master_of ms) ≤ sum_by f (map (master_at files display) masters)
   sum-of-masters f ms masters rise are all =
-      sums-within f ms masters rise (all-as IsOfFolder (IsAmong masters) ms
-      (λ m h. record { by = h.by; stands = (all.exact h.by).1 h.is; same = h.same }) are)
+      sums-within f (map master_of ms) (map (master_at files display) masters) ((rises-on master_of master_cmp ms).1 rise) (λ m k.
+      let n = in-map master_of m ms k in
+      let h = all-in IsOfFolder ms are n.0 n.1 in
+      subst (λ v. IsIn v (map (master_at files display) masters)) (sym (n.2 ∙ h.same)) (map-in (master_at files display) h.by masters ((all.exact h.by).1 h.is)))
 
   pub held-of-masters : (ms : List Recurring) (masters : List Placed) → Rises uid_cmp ms → AllByRecursion IsOfFolder ms
       → IsListing (by_subject files display) (IsMaster files display) masters → held_most (map master_of ms) ≤ held_most (map (master_at files display) masters)

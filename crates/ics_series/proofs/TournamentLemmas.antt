@@ -1,45 +1,38 @@
 -- Which lead wins a tournament, and how one is put right from a lead upwards.
 use Rattle.std.specs.Prelude.{nat_lt, slice_index, slice_index_or}
 use Rattle.std.proofs.Common.{◌≡◌, ◌≢◌, ℕ, zero, suc, ◌+◌, ◌*◌, ◌/◌, ◌-◌, ◌<◌, ◌≤◌, false, cond, ◌⊎◌, inl, inr, ⊎_elim, List, length, get_or}
-use Rattle.std.proofs.Common.{replicate, set, Option, Some, None, refl, sym, ◌∙◌, ap, arith, length-set, get_or-set_same}
+use Rattle.std.proofs.Common.{replicate, set, Option, Some, None, refl, sym, ◌∙◌, ap, subst, arith, length-set, get_or-set_same}
 use Rattle.std.specs.Cmp.{IsTotalOrder}
 use Rattle.std.specs.List.{All}
+use Rattle.std.specs.Cmp.Lexicographic.{options_total}
+use Rattle.std.specs.Option.{option_cmp}
 use Rattle.std.specs.Ordering.{is_gt, is_lt, nat_cmp, ordering_reverse, ordering_then}
 use Rattle.std.specs.declared.cmp.Ordering.{Ordering}
 use Rattle.std.specs.declared.cmp.Ordering.TheVariants.{Less, Equal, Greater}
 use Rattle.std.proofs.lemmas.Bool.{cases_cond, cases_eq, cases_lt}
 use Rattle.std.proofs.lemmas.Bool.Decides.{nat_tests}
-use Rattle.std.proofs.lemmas.Cmp.{nat_cmp_total, on_total, then_total, tied_itself, tied_back, upto}
+use Rattle.std.proofs.lemmas.Cmp.{alike_right, nat_cmp_total, on_total, then_total, tied_itself, tied_back, upto}
 use Rattle.std.proofs.lemmas.List.{get_or-replicate, get_or-set_other, length-replicate}
-use Rattle.ics_series.specs.Entry.{Entry}
+use Rattle.ics_series.specs.Entry.{Entry, entry_cmp}
 use Rattle.ics_series.specs.EntryLaws.{entry_total}
 use Rattle.ics_series.proofs.Cases.{here-or-later}
 use Rattle.ics_series.specs.Tournament.{above, first_below, first_of, head_cmp, lead_cmp, winner, AreSettled, AreSettledBut, AreSettledWhere}
 
-pub head_total : IsTotalOrder head_cmp
-head_total = record {
-  antisymm = turned;
-  trans = chained;
-  congr = tied;
+turned_total : {A : Type 0} {R : A → A → Ordering} → IsTotalOrder R → IsTotalOrder (λ x y. R y x)
+turned_total o = record {
+  antisymm = λ x y. o.antisymm y x;
+  trans = λ x y z p q. o.trans z y x q p;
+  congr = λ x y z p. sym (alike_right o y x z p);
 }
+
+-- what holds nothing goes last
+pub head_total : IsTotalOrder head_cmp
+head_total = subst IsTotalOrder (λ i x y. same x y i) (turned_total (options_total (turned_total entry_total)))
   where
-    turned : (x y : Option Entry) → head_cmp x y ≡ ordering_reverse (head_cmp y x)
-    turned None None = refl
-    turned (Some x) (Some y) = entry_total.antisymm x y
-    turned _ _ = refl
-
-    chained : (x y z : Option Entry) → head_cmp x y ≡ Less → head_cmp y z ≡ Less → head_cmp x z ≡ Less
-    chained None None z p q = cc
-    chained (Some x) None None p q = cc
-    chained (Some x) (Some y) None p q = refl
-    chained (Some x) (Some y) (Some z) p q = entry_total.trans x y z p q
-    chained _ _ _ p q = cc
-
-    tied : (x y z : Option Entry) → head_cmp x y ≡ Equal → head_cmp x z ≡ head_cmp y z
-    tied None None z p = refl
-    tied (Some x) (Some y) None p = refl
-    tied (Some x) (Some y) (Some z) p = entry_total.congr x y z p
-    tied _ _ z p = cc
+    same : (x y : Option Entry) → option_cmp (λ a b. entry_cmp b a) y x ≡ head_cmp x y
+    same None None = refl
+    same (Some x) (Some y) = refl
+    same _ _ = refl
 
 pub lead_total : (heads : List (Option Entry)) → IsTotalOrder (lead_cmp heads)
 lead_total heads = then_total (on_total (λ lead. slice_index_or heads lead None) head_total) nat_cmp_total
