@@ -1,6 +1,6 @@
 -- There is one listing at most.
-use Rattle.std.specs.Prelude.{slice_get}
-use Rattle.std.proofs.Common.{◌≡◌, ℕ, ◌<◌, List, [], ◌∷◌, Some, get_or, inl, inr, ⊎_elim, false, refl, sym, ◌∙◌, ap}
+use Rattle.std.specs.Prelude.{slice_get, zero, suc}
+use Rattle.std.proofs.Common.{◌≡◌, ℕ, ◌<◌, List, [], ◌∷◌, ◌++◌, Some, None, drop, get_or, take, inl, inr, ⊎_elim, false, refl, sym, ◌∙◌, ap}
 use Rattle.std.specs.Cmp.{IsTotalOrder}
 use Rattle.std.specs.List.{AllByRecursion}
 use Rattle.std.specs.List.Sorted.{IsStrictlySortedBy}
@@ -12,6 +12,14 @@ use Rattle.std.specs.declared.cmp.Ordering.{Ordering}
 use Rattle.std.specs.declared.cmp.Ordering.TheVariants.{Less, Equal, Greater}
 use Rattle.ics_series.specs.Rising.{IsBefore, Rises}
 use Rattle.ics_series.specs.Listing.{IsIn, IsListing}
+use Rattle.ics_series.proofs.Cases.{some-same}
+use Rattle.ics_series.proofs.PlacedLemmas.{in-append, in-append_right}
+
+-- a list at one of its places
+pub split-at : {A : Type 0} (xs : List A) (i : ℕ) {x : A} → slice_get xs i ≡ Some x → xs ≡ take i xs ++ x ∷ drop (suc i) xs
+split-at [] i {x = x} e = let f : None ≡ Some x = e in absurd cc
+split-at (y ∷ ys) zero {x = x} e = ap (λ z. z ∷ ys) (some-same y x e)
+split-at (y ∷ ys) (suc i) e = ap (λ zs. y ∷ zs) (split-at ys i e)
 
 module _ {A : Type 0} (R : A → A → Ordering) (o : IsTotalOrder R) where
   pub before-in : (x y : A) (ys : List A) → IsBefore R x ys → IsIn y ys → R x y ≡ Less
@@ -20,6 +28,17 @@ module _ {A : Type 0} (R : A → A → Ordering) (o : IsTotalOrder R) where
 
   pub not-less-itself : (x : A) → R x x ≡ Less → ⊥
   not-less-itself x h = let t = tied_itself o x in cc
+
+  -- the end of a rising list rises, and what stands before it comes before it
+  pub rises-end : (front back : List A) → Rises R (front ++ back) → Rises R back
+  rises-end [] back r = r
+  rises-end (x ∷ xs) back r = rises-end xs back r.1
+
+  pub front-before : (front behind : List A) {x y : A} → Rises R (front ++ y ∷ behind) → IsIn x front → R x y ≡ Less
+  front-before [] behind r m = absurd m
+  front-before (z ∷ zs) behind {y = y} r m =
+      ⊎_elim (λ e. ap (λ v. R v y) e ∙ before-in z y (zs ++ y ∷ behind) r.0 (in-append_right y zs (y ∷ behind) (inl refl)))
+      (λ k. front-before zs behind r.1 k) m
 
   pub not-both-less : (x y : A) → R x y ≡ Less → R y x ≡ Less → ⊥
   not-both-less x y h k = let t = o.antisymm x y ∙ ap ordering_reverse k in cc
@@ -62,6 +81,11 @@ module _ {A : Type 0} (R : A → A → Ordering) (o : IsTotalOrder R) where
   -- what stands behind the first is not the first
   tail-in : {x y : A} (e : A) (ys : List A) → x ≡ y → R x e ≡ Less → IsIn e (y ∷ ys) → IsIn e ys
   tail-in {x = x} e ys s l n = ⊎_elim (λ p. absurd (not-less-itself x (ap (R x) (s ∙ sym p) ∙ l))) (λ k. k) n
+
+  -- what comes after one of a rising list stands behind it
+  pub after-in : (front behind : List A) {x y : A} → Rises R (front ++ y ∷ behind) → IsIn x (front ++ y ∷ behind) → R y x ≡ Less → IsIn x behind
+  after-in front behind {x = x} {y = y} r m l =
+      ⊎_elim (λ f. absurd (not-both-less x y (front-before front behind r f) l)) (tail-in x behind refl l) (in-append x front (y ∷ behind) m)
 
   pub one-rising : (xs ys : List A) → Rises R xs → Rises R ys → ((e : A) → IsIn e xs → IsIn e ys) → ((e : A) → IsIn e ys → IsIn e xs) → xs ≡ ys
   one-rising [] [] h k f g = refl

@@ -8,23 +8,42 @@ use Rattle.std.proofs.lemmas.Map.Lookups.{exact_unsigned}
 use Rattle.std.specs.declared.cmp.Ordering.{Ordering}
 use Rattle.std.specs.declared.cmp.Ordering.TheVariants.{Equal}
 use Rattle.ics_event.specs.Event.{FileSaid}
-use Rattle.ics_series.specs.Chosen.{overridden, subject_of, IsChosen, IsMaster, IsOverride, IsOverridden, SubjectSeen}
-use Rattle.ics_series.specs.Clocks.{Clock, Clocks, clocks_of}
+use Rattle.ics_event.specs.declared.event.Event.{Event}
+use Rattle.ics_series.specs.Chosen.{subject_by, subject_of, IsChosen, IsOverride, IsOverridden, SubjectSeen}
+use Rattle.ics_series.specs.Clocks.{Clock, clocks_of}
 use Rattle.ics_series.specs.Entry.{Entry}
 use Rattle.ics_series.specs.Laws.{AddedFiles, AreApart, AreReordered, HaveApartVersions, OrderOfFiles}
-use Rattle.ics_series.specs.Occurs.{Occurs, IsOf, IsMoved}
+use Rattle.ics_series.specs.Occurs.{Occurs}
 use Rattle.ics_series.specs.PlacedEvents.{Placed, IsPlaced, clocks_at, placed_cmp, zones_of}
 
 -- the event, in the file that its own has become
 abbrev move : (ℕ → ℕ) → Placed → Placed
 move to p = record { file = to p.file; place = p.place; event = p.event }
 
+-- an event of the files, and what it becomes
+abbrev Moved : List FileSaid → (ℕ → ℕ) → Placed → Placed → Type 0
+Moved files to p x = IsPlaced files p × (move to p ≡ x)
+
 -- Files stand among others as numbered by `to`: each is there, versions of a subject keep their order, and no other event has a UID of theirs.
 record IsMove (files others : List FileSaid) (display : Clock) (to : ℕ → ℕ) : Type 0 where
   keeps : (k : ℕ) (f : FileSaid) → slice_get files k ≡ Some f → slice_get others (to k) ≡ Some f
   orders : (p q : Placed) → IsPlaced files p → IsPlaced files q → subject_of files display p ≡ subject_of files display q →
       placed_cmp p q ≡ placed_cmp (move to p) (move to q)
-  meets : (p q : Placed) → IsPlaced files p → IsPlaced others q → q.event.uid ≡ p.event.uid → (r : Placed) × IsPlaced files r × (move to r ≡ q)
+  meets : (p q : Placed) → IsPlaced files p → IsPlaced others q → q.event.uid ≡ p.event.uid → (r : Placed) × Moved files to r q
+
+-- an event of files, and the same event of others
+record IsSame (files others : List FileSaid) (display : Clock) (p x : Placed) : Type 0 where
+  placed : IsPlaced files p
+  there : IsPlaced others x
+  clocks : clocks_at files display p.file ≡ clocks_at others display x.file
+  event : p.event ≡ x.event
+
+-- Events of files and of others that are the same: on both sides each event with the UID of one of them is one of them.
+record IsMatch (files others : List FileSaid) (display : Clock) (R : Placed → Placed → Type 0) : Type 0 where
+  same : (p x : Placed) → R p x → IsSame files others display p x
+  orders : (p q x y : Placed) → R p x → R q y → subject_of files display p ≡ subject_of files display q → placed_cmp p q ≡ placed_cmp x y
+  there : (p q x : Placed) → R p x → IsPlaced files q → q.event.uid ≡ p.event.uid → (y : Placed) × R q y
+  here : (p x y : Placed) → R p x → IsPlaced others y → y.event.uid ≡ x.event.uid → (q : Placed) × R q y
 
 -- what gives an occurrence
 abbrev giver : (files : List FileSaid) (display : Clock) (o : Entry) → Occurs files display o → Placed
@@ -35,93 +54,65 @@ giver-placed : (files : List FileSaid) (display : Clock) (o : Entry) (h : Occurs
 giver-placed files display o (inl h) = h.is.chosen.placed
 giver-placed files display o (inr h) = h.is.chosen.placed
 
-module _ (files others : List FileSaid) (display : Clock) (to : ℕ → ℕ) (m : IsMove files others display to) where
-  moved-placed : (p : Placed) → IsPlaced files p → IsPlaced others (move to p)
-  moved-placed p h = record { within = (h.within.0, m.keeps p.file h.within.0 h.within.1, h.within.2) }
+module _ {files others : List FileSaid} {display : Clock} {R : Placed → Placed → Type 0} (m : IsMatch files others display R) where
+  same-subject : (p x : Placed) → R p x → subject_of files display p ≡ subject_of others display x
+  same-subject p x r = let s = m.same p x r in λ i. subject_by (s.clocks i) (s.event i)
 
-  same-clocks : (p : Placed) → IsPlaced files p → clocks_at others display (to p.file) ≡ clocks_at files display p.file
-  same-clocks p h = ap (λ o. clocks_of display (zones_of o)) (m.keeps p.file h.within.0 h.within.1 ∙ sym h.within.1)
-
-  same-subject : (p : Placed) → IsPlaced files p → subject_of others display (move to p) ≡ subject_of files display p
-  same-subject p h = ap (λ (c : Clocks). record { uid = p.event.uid; recurrence = overridden c p.event }) (same-clocks p h)
-
-  chosen-there : (p : Placed) → IsChosen files display p → IsChosen others display (move to p)
-  chosen-there p h = record {
-    placed = moved-placed p h.placed;
-    greatest = λ q k u.
-        let r = m.meets p q h.placed k (ap (λ (s : SubjectSeen). s.uid) u) in
-        let same : subject_of files display r.0 ≡ subject_of files display p =
-        sym (same-subject r.0 r.1) ∙ ap (subject_of others display) r.2 ∙ u ∙ same-subject p h.placed in
-        λ l. h.greatest r.0 r.1 same (m.orders p r.0 h.placed r.1 (sym same) ∙ ap (placed_cmp (move to p)) r.2 ∙ l);
+  turned : IsMatch others files display (λ x p. R p x)
+  turned = record {
+    same = λ x p r. let s = m.same p x r in record { placed = s.there; there = s.placed; clocks = sym s.clocks; event = sym s.event };
+    orders = λ x y p q r s u. sym (m.orders p q x y r s (same-subject p x r ∙ u ∙ sym (same-subject q y s)));
+    there = λ x y p r k e. m.here p x y r k e;
+    here = λ x p q r k e. m.there p q x r k e;
   }
 
-  chosen-here : (p : Placed) → IsPlaced files p → IsChosen others display (move to p) → IsChosen files display p
-  chosen-here p h k = record {
-    placed = h;
-    greatest = λ q n u l.
-        k.greatest (move to q) (moved-placed q n) (same-subject q n ∙ u ∙ sym (same-subject p h)) (sym (m.orders p q h n (sym u)) ∙ l);
+  chosen-there : (p x : Placed) → R p x → IsChosen files display p → IsChosen others display x
+  chosen-there p x r h = record {
+    placed = (m.same p x r).there;
+    greatest = λ y k u l.
+        let q = m.here p x y r k (ap (λ (s : SubjectSeen). s.uid) u) in
+        let same = same-subject q.0 y q.1 ∙ u ∙ sym (same-subject p x r) in
+        h.greatest q.0 (m.same q.0 y q.1).placed same (m.orders p q.0 x y r q.1 (sym same) ∙ l);
   }
 
-  override-there : (p : Placed) (r : ℤ) → IsOverride files display p r → IsOverride others display (move to p) r
-  override-there p r h = record {
-    chosen = chosen-there p h.chosen;
-    of = ap (λ (c : Clocks). overridden c p.event) (same-clocks p h.chosen.placed) ∙ h.of;
+  override-there : (p x : Placed) (t : ℤ) → R p x → IsOverride files display p t → IsOverride others display x t
+  override-there p x t r h = record {
+    chosen = chosen-there p x r h.chosen;
+    of = ap (λ (s : SubjectSeen). s.recurrence) (sym (same-subject p x r)) ∙ h.of;
   }
 
-  override-here : (p : Placed) (r : ℤ) → IsPlaced files p → IsOverride others display (move to p) r → IsOverride files display p r
-  override-here p r h k = record {
-    chosen = chosen-here p h k.chosen;
-    of = sym (ap (λ (c : Clocks). overridden c p.event) (same-clocks p h)) ∙ k.of;
-  }
+  overridden-there : (p x : Placed) (uid : List ℕ) (t : ℤ) → R p x → uid ≡ p.event.uid → IsOverridden files display uid t → IsOverridden others display uid t
+  overridden-there p x uid t r e h =
+      let y = m.there p h.by x r h.is.chosen.placed (h.same ∙ e) in
+      record { by = y.0; is = override-there h.by y.0 t y.1 h.is; same = ap (λ (s : SubjectSeen). s.uid) (sym (same-subject h.by y.0 y.1)) ∙ h.same }
 
-  overridden-there : (uid : List ℕ) (r : ℤ) → IsOverridden files display uid r → IsOverridden others display uid r
-  overridden-there uid r h = record { by = move to h.by; is = override-there h.by r h.is; same = h.same }
+-- what occurs in the files, given by an event of the others too, occurs among them
+occurs-there : {files others : List FileSaid} {display : Clock} {R : Placed → Placed → Type 0} (m : IsMatch files others display R) (o : Entry)
+    (h : Occurs files display o) (x : Placed) → R (giver files display o h) x → Occurs others display o
+occurs-there m o (inl h) x r =
+    let s = m.same h.master x r in
+    inl (record {
+      master = x;
+      is = record { chosen = chosen-there m h.master x r h.is.chosen; single = ap (λ (e : Event). e.recurrence) (sym s.event) ∙ h.is.single };
+      of = rw (s.clocks, s.event) at h.of;
+      kept = λ k. h.kept (overridden-there (turned m) x h.master o.event.uid o.recurrence r (ap (λ (e : Event). e.uid) (h.of.event ∙ s.event)) k);
+    })
+occurs-there m o (inr h) x r =
+    let s = m.same h.override x r in
+    inr (record { override = x; is = override-there m h.override x o.recurrence r h.is; of = rw (s.clocks, s.event) at h.of })
 
-  overridden-here : (p : Placed) (uid : List ℕ) (r : ℤ) → IsPlaced files p → uid ≡ p.event.uid → IsOverridden others display uid r →
-      IsOverridden files display uid r
-  overridden-here p uid r h e k =
-      let own = m.meets p k.by h k.is.chosen.placed (k.same ∙ e) in
-      record {
-        by = own.0;
-        is = override-here own.0 r own.1 (subst (λ (q : Placed). IsOverride others display q r) (sym own.2) k.is);
-        same = ap (λ (q : Placed). q.event.uid) own.2 ∙ k.same;
-      }
-
-  uid-of : (o : Entry) (p : Placed) → o.event ≡ p.event → o.event.uid ≡ p.event.uid
-  uid-of o p e = ap (λ e. e.uid) e
-
-  -- what occurs in the files occurs among the others
-  occurs-there : (o : Entry) → Occurs files display o → Occurs others display o
-  occurs-there o (inl h) =
-      let p = h.is.chosen.placed in
-      inl (record {
-        master = move to h.master;
-        is = record { chosen = chosen-there h.master h.is.chosen; single = h.is.single };
-        of = subst (λ (c : Clocks). IsOf c h.master.event o) (sym (same-clocks h.master p)) h.of;
-        kept = λ k. h.kept (overridden-here h.master o.event.uid o.recurrence p (uid-of o h.master h.of.event) k);
-      })
-  occurs-there o (inr h) = inr (record {
-    override = move to h.override;
-    is = override-there h.override o.recurrence h.is;
-    of = subst (λ (c : Clocks). IsMoved c h.override.event o) (sym (same-clocks h.override h.is.chosen.placed)) h.of;
-  })
-
-  -- of what occurs among the others, what gives it is one of the files' own
-  occurs-here : (o : Entry) (h : Occurs others display o) → ((p : Placed) × IsPlaced files p × (move to p ≡ giver others display o h)) → Occurs files display o
-  occurs-here o (inl h) own =
-      let is : IsMaster others display (move to own.0) = subst (IsMaster others display) (sym own.2) h.is in
-      inl (record {
-        master = own.0;
-        is = record { chosen = chosen-here own.0 own.1 is.chosen; single = is.single };
-        of = rw (← own.2, same-clocks own.0 own.1) at h.of;
-        kept = λ k. h.kept (overridden-there o.event.uid o.recurrence k);
-      })
-  occurs-here o (inr h) own =
-      inr (record {
-        override = own.0;
-        is = override-here own.0 o.recurrence own.1 (subst (λ (q : Placed). IsOverride others display q o.recurrence) (sym own.2) h.is);
-        of = rw (← own.2, same-clocks own.0 own.1) at h.of;
-      })
+matched : {files others : List FileSaid} {display : Clock} {to : ℕ → ℕ} → IsMove files others display to → IsMatch files others display (Moved files to)
+matched {others = others} {display = display} {to = to} m = record {
+  same = λ p x r. let keeps = m.keeps p.file r.0.within.0 r.0.within.1 in record {
+    placed = r.0;
+    there = subst (IsPlaced others) r.1 (record { within = (r.0.within.0, keeps, r.0.within.2) });
+    clocks = ap (λ o. clocks_of display (zones_of o)) (r.0.within.1 ∙ sym keeps) ∙ ap (λ (q : Placed). clocks_at others display q.file) r.1;
+    event = ap (λ (q : Placed). q.event) r.1;
+  };
+  orders = λ p q x y r s u. m.orders p q r.0 s.0 u ∙ (λ i. placed_cmp (r.1 i) (s.1 i));
+  there = λ p q x r k e. (move to q, (k, refl));
+  here = λ p x y r k e. m.meets p y r.0 k (e ∙ sym (ap (λ (q : Placed). q.event.uid) r.1));
+}
 
 module _ {A : Type 0} where
   get-left : (xs ys : List A) (k : ℕ) (x : A) → slice_get xs k ≡ Some x → slice_get (xs ++ ys) k ≡ Some x
@@ -145,17 +136,17 @@ cmp-behind n a b = grind (arith, nat_tests)
 
 module _ (files more : List FileSaid) (display : Clock) (apart : AreApart files more) where
   -- an event of all files is one of the first or one of those behind
-  whose : (q : Placed) → IsPlaced (files ++ more) q → IsPlaced files q ⊎ ((r : Placed) × IsPlaced more r × (move (λ k. length files + k) r ≡ q))
+  whose : (q : Placed) → IsPlaced (files ++ more) q → IsPlaced files q ⊎ ((r : Placed) × Moved more (λ k. length files + k) r q)
   whose q h = ⊎_elim (λ e. inl (record { within = (h.within.0, e, h.within.2) }))
       (λ s. let r : Placed = record { file = s.0; place = q.place; event = q.event } in
-      inr (r, record { within = (h.within.0, s.2, h.within.2) }, ap (λ (n : ℕ). record { file = n; place = q.place; event = q.event }) (sym s.1)))
+      inr (r, (record { within = (h.within.0, s.2, h.within.2) }, ap (λ (n : ℕ). record { file = n; place = q.place; event = q.event }) (sym s.1))))
       (get-split files more q.file h.within.0 h.within.1)
 
   first-stay : IsMove files (files ++ more) display (λ k. k)
   first-stay = record {
     keeps = λ k f e. get-left files more k f e;
     orders = λ p q h k u. refl;
-    meets = λ p q h k u. ⊎_elim (λ n. (q, n, refl)) (λ s. absurd (apart p s.0 h s.1 (sym u ∙ sym (ap (λ (x : Placed). x.event.uid) s.2)))) (whose q k);
+    meets = λ p q h k u. ⊎_elim (λ n. (q, (n, refl))) (λ s. absurd (apart p s.0 h s.1.0 (sym u ∙ sym (ap (λ (x : Placed). x.event.uid) s.1.1)))) (whose q k);
   }
 
   others-behind : IsMove more (files ++ more) display (λ k. length files + k)
@@ -169,13 +160,13 @@ module _ (files more : List FileSaid) (display : Clock) (apart : AreApart files 
   occurs-one : (o : Entry) → Occurs (files ++ more) display o → Occurs files display o ⊎ Occurs more display o
   occurs-one o h =
       let q = giver (files ++ more) display o h in
-      ⊎_elim
-      (λ n. inl (occurs-here files (files ++ more) display (λ k. k) first-stay o h (q, n, refl)))
-      (λ s. inr (occurs-here more (files ++ more) display (λ k. length files + k) others-behind o h s)) (whose q (giver-placed (files ++ more) display o h))
+      ⊎_elim (λ n. inl (occurs-there (turned (matched first-stay)) o h q (n, refl))) (λ s. inr (occurs-there (turned (matched others-behind)) o h s.0 s.1))
+      (whose q (giver-placed (files ++ more) display o h))
 
   occurs-both : (o : Entry) → Occurs files display o ⊎ Occurs more display o → Occurs (files ++ more) display o
-  occurs-both o (inl h) = occurs-there files (files ++ more) display (λ k. k) first-stay o h
-  occurs-both o (inr h) = occurs-there more (files ++ more) display (λ k. length files + k) others-behind o h
+  occurs-both o (inl h) = occurs-there (matched first-stay) o h (giver files display o h) (giver-placed files display o h, refl)
+  occurs-both o (inr h) =
+      occurs-there (matched others-behind) o h (move (λ k. length files + k) (giver more display o h)) (giver-placed more display o h, refl)
 
 pub added-files : AddedFiles
 added-files files more display w apart o = (
@@ -199,11 +190,13 @@ by-sequence p q to h = by (nat_cmp p.event.sequence q.event.sequence) refl
     by _ e = refl
 
 module _ (files others : List FileSaid) (display : Clock) (m : AreReordered files others) where
-  own-place : (q : Placed) → IsPlaced others q → (r : Placed) × IsPlaced files r × (move m.there r ≡ q)
+  own-place : (q : Placed) → IsPlaced others q → (r : Placed) × Moved files m.there r q
   own-place q k = (
     move m.back q,
-    record { within = (k.within.0, sym (m.moved (m.back q.file)) ∙ (ap (slice_get others) (m.from q.file) ∙ k.within.1), k.within.2) },
-    ap (λ (n : ℕ). record { file = n; place = q.place; event = q.event }) (m.from q.file),
+    (
+      record { within = (k.within.0, sym (m.moved (m.back q.file)) ∙ (ap (slice_get others) (m.from q.file) ∙ k.within.1), k.within.2) },
+      ap (λ (n : ℕ). record { file = n; place = q.place; event = q.event }) (m.from q.file),
+    ),
   )
 
   reordered-move : HaveApartVersions files display → IsMove files others display m.there
@@ -215,11 +208,9 @@ module _ (files others : List FileSaid) (display : Clock) (m : AreReordered file
 
 pub order-of-files : OrderOfFiles
 order-of-files files others display w m apart o =
-    let by = reordered-move files others display m apart in (
-      (λ h. (occurs-there files others display m.there by o h.0, h.1)),
-      λ h. (
-        occurs-here files others display m.there by o h.0
-            (own-place files others display m (giver others display o h.0) (giver-placed others display o h.0)),
-        h.1,
-      ),
+    let by = matched (reordered-move files others display m apart) in (
+      (λ h. (occurs-there by o h.0 (move m.there (giver files display o h.0)) (giver-placed files display o h.0, refl), h.1)),
+      λ h.
+          let own = own-place files others display m (giver others display o h.0) (giver-placed others display o h.0) in
+          (occurs-there (turned by) o h.0 own.0 own.1, h.1),
     )

@@ -1,7 +1,7 @@
 -- Behind a master stand its overrides, in the order of the instances that they override.
 use Rattle.std.specs.Prelude.{slice_get, if◌then◌else◌}
-use Rattle.std.proofs.Common.{◌≡◌, ◌+◌, add-one, ℕ, zero, suc, ◌<◌, ◌≤◌, ℤ, List, [], ◌∷◌, ◌++◌, map, length, get_or, drop, Option, Some, None, Bool, true}
-use Rattle.std.proofs.Common.{inr, ⊎_elim, refl, sym, ◌∙◌, ap, subst}
+use Rattle.std.proofs.Common.{◌≡◌, ◌+◌, add-one, ℕ, suc, ◌<◌, ◌≤◌, ℤ, List, [], ◌∷◌, ◌++◌, map, length, get_or, drop, take, Option, Some, None, Bool, true}
+use Rattle.std.proofs.Common.{⊎_elim, refl, sym, ◌∙◌, ap, subst}
 use Rattle.std.specs.Cmp.{IsTotalOrder}
 use Rattle.std.specs.Cmp.Lexicographic.{slice_cmp}
 use Rattle.std.specs.List.{cons_option, filter_map, list_any}
@@ -15,7 +15,7 @@ use Rattle.std.proofs.lemmas.Cmp.{eq_by_cmp_equiv, int_cmp_total, nat_list_cmp_t
 use Rattle.std.proofs.lemmas.Bool.{cases_Bool}
 use Rattle.std.proofs.Math.ListN.{drop_of_length-le}
 use Rattle.std.proofs.Math.Seq.{drop-cons}
-use Rattle.std.proofs.lemmas.List.{append-nil, append_assoc}
+use Rattle.std.proofs.lemmas.List.{append-nil, append_assoc, take-append-drop}
 use Rattle.std.proofs.lemmas.Map.Lookups.{exact_bytes}
 use Rattle.std.proofs.lemmas.Map.Text.{is_eq-slice_cmp}
 use Rattle.std.proofs.lemmas.Option.{slice_get-get_or}
@@ -27,11 +27,12 @@ use Rattle.ics_series.specs.Listing.{IsIn, IsListing}
 use Rattle.ics_series.specs.Overridden.{instance_of, AreOverridden}
 use Rattle.ics_series.specs.Rising.{IsBefore, Rises}
 use Rattle.ics_series.specs.Versions.{is_named, seen, subject_cmp, subject_seen, AreChosen, Label}
-use Rattle.ics_series.proofs.Cases.{eq-Equal, less-by, some-same, up-to-front}
+use Rattle.ics_series.proofs.Cases.{eq-Equal, less-by, up-to-front}
 use Rattle.ics_series.proofs.GivenLemmas.{in-map, map-in}
-use Rattle.ics_series.proofs.ListingLemmas.{before-in, less-up-to, not-both-less, not-less-itself}
+use Rattle.ics_series.proofs.ListingLemmas.{after-in, before-in, less-up-to, not-less-itself, rises-end, split-at}
 use Rattle.ics_series.proofs.OverrideLemmas.{chosen-rises, rises-on, rises-sorted}
 use Rattle.ics_series.proofs.PickLemmas.{listing-picked}
+use Rattle.ics_series.proofs.PlacedLemmas.{in-append_right}
 use Rattle.ics_series.proofs.RuleLocalLemmas.{same-test}
 use Rattle.ics_series.proofs.SeriesLemmas.{among-in, in-among}
 use Rattle.ics_series.proofs.SortLemmas.{any-in, get-in, in-any}
@@ -48,23 +49,12 @@ chosen-order {vs = vs} h = (rises-on seen (on (λ l. l.subject) subject_cmp) vs)
 -- The end of a rising list.
 module _ {A : Type 0} (R : A → A → Ordering) (o : IsTotalOrder R) where
   behind-rises : (xs : List A) (i : ℕ) (x : A) → Rises R xs → slice_get xs i ≡ Some x → IsBefore R x (drop (suc i) xs) × Rises R (drop (suc i) xs)
-  behind-rises [] i x r e = let f : None ≡ Some x = e in absurd cc
-  behind-rises (y ∷ ys) zero x r e = (subst (λ z. IsBefore R z ys) (some-same y x e) r.0, r.1)
-  behind-rises (y ∷ ys) (suc i) x r e = behind-rises ys i x r.1 e
+  behind-rises xs i x r e = rises-end R o (take i xs) (x ∷ drop (suc i) xs) (subst (Rises R) (split-at xs i e) r)
 
   -- what comes after the value at a place stands behind it
   in-behind : (xs : List A) (i : ℕ) {x v : A} → Rises R xs → slice_get xs i ≡ Some x → IsIn v xs → R x v ≡ Less → IsIn v (drop (suc i) xs)
-  in-behind [] i r e m l = absurd m
-  in-behind (y ∷ ys) zero {x = x} r e m l =
-      ⊎_elim (λ s. absurd (not-less-itself R o x (ap (R x) (sym (s ∙ some-same y x e)) ∙ l))) (λ n. n) m
-  in-behind (y ∷ ys) (suc i) {x = x} r e m l =
-      ⊎_elim (λ s. absurd (not-both-less R o y x (before-in R o y x ys r.0 (get-in x ys i e)) (ap (R x) (sym s) ∙ l)))
-      (λ n. in-behind ys i r.1 e n l) m
-
-drop-in : {A : Type 0} (n : ℕ) (xs : List A) (v : A) → IsIn v (drop n xs) → IsIn v xs
-drop-in zero xs v m = m
-drop-in (suc n) [] v m = m
-drop-in (suc n) (x ∷ xs) v m = inr (drop-in n xs v m)
+  in-behind xs i {v = v} r e m l =
+      let s = split-at xs i e in after-in R o (take i xs) (drop (suc i) xs) (subst (Rises R) s r) (subst (IsIn v) s m) l
 
 version_total : IsTotalOrder version_cmp
 version_total = on_total (λ v. subject_seen v.subject) subject_total
@@ -167,7 +157,8 @@ module _ (uid : List ℕ) (versions behind : List Version) (place : ℕ) (order 
       in-any is_it (seen k.0) (map seen versions)
       (ap (λ s. is_eq (subject_cmp s (instance uid t))) (own-instance uid (subject_seen k.0.subject) t k.2)
       ∙ ap is_eq (tied_itself subject_total (instance uid t)))
-      (map-in seen k.0 versions (drop-in (suc place) versions k.0 (subst (IsIn k.0) rest k.1))))
+      (map-in seen k.0 versions (subst (IsIn k.0) (take-append-drop (suc place) versions)
+      (in-append_right k.0 (take (suc place) versions) (drop (suc place) versions) (subst (IsIn k.0) rest k.1)))))
       (λ named.
       let l = any-in is_it (map seen versions) named in
       let v = in-map seen l.0 versions l.1 in

@@ -1,8 +1,9 @@
 -- What a series gives.
 use Rattle.std.specs.Prelude.{◌≤ℤ◌, ◌<ℤ◌, ◌&&◌, not, int_le, slice_get}
-use Rattle.std.proofs.Common.{◌≡◌, ℕ, zero, suc, ℤ, ◌-ℤ◌, List, [], ◌∷◌, drop, true, false, Option, Some, None, option_map, ◌⊎◌, inl, inr, refl}
+use Rattle.std.proofs.Common.{◌≡◌, ℤ, ◌-ℤ◌, List, [], ◌∷◌, take, true, false, Option, Some, None, option_map, ◌⊎◌, inl, inr, refl}
 use Rattle.std.proofs.Common.{sym, ◌∙◌, ap, subst, arith}
 use Rattle.std.proofs.lemmas.Int.{ints}
+use Rattle.std.proofs.lemmas.List.{take-append-drop}
 use Rattle.std.specs.List.{cons_option}
 use Rattle.std.specs.Cmp.Lexicographic.{slice_cmp}
 use Rattle.std.specs.Ordering.{int_cmp, int_eq, nat_cmp, on, ordering_then, then_cmp}
@@ -45,7 +46,7 @@ use Rattle.ics_series.proofs.Cases.{equal-true, not-true, true-equal, some-same}
 use Rattle.ics_series.proofs.FirstLemmas.{int-less, moment_total, tied-moment}
 use Rattle.ics_series.proofs.StartSourceLemmas.{gives-value}
 use Rattle.ics_series.proofs.LeftLemmas.{member-cut}
-use Rattle.ics_series.proofs.ListingLemmas.{before-in}
+use Rattle.ics_series.proofs.ListingLemmas.{before-in, rises-end}
 use Rattle.ics_series.proofs.MeetingLemmas.{met-shown}
 use Rattle.ics_series.proofs.MetLemmas.{found-is, in-picked, is-found, listing-picked}
 use Rattle.ics_series.proofs.RuleLocalLemmas.{kept-ruled}
@@ -55,17 +56,14 @@ use Rattle.ics_series.proofs.RuleStepLemmas.{left-near}
 use Rattle.ics_series.proofs.SortLemmas.{any-in, in-any}
 
 -- Both kinds of starts rise.
-rises-drop : {A : Type 0} (R : A → A → Ordering) (n : ℕ) (xs : List A) → Rises R xs → Rises R (drop n xs)
-rises-drop R zero xs r = r
-rises-drop R (suc n) [] r = tt
-rises-drop R (suc n) (x ∷ xs) r = rises-drop R n xs r.1
-
 pub rises-rule : (o : Option RuleStarts) → Rises moment_cmp (rule_left o)
 rises-rule None = tt
 rises-rule (Some s) = rises-to_come (clocks_in s.zones) s.event.now s.rule s.window s.held.items (place_of s.cursor)
 
 pub rises-listed : (s : ListedStarts) → Rises moment_cmp (listed_left s)
-rises-listed s = rises-drop moment_cmp s.gone s.starts.items s.rises
+rises-listed s =
+    rises-end moment_cmp moment_total (take s.gone s.starts.items) (listed_left s)
+    (subst (Rises moment_cmp) (sym (take-append-drop s.gone s.starts.items)) s.rises)
 
 -- What is known of some starts and what they give, where one of them goes.
 module _ (clocks : Clocks) (w : Window) (event : Event) where
@@ -93,9 +91,7 @@ pub both-passed : {rule rule' rule'' listed' : List Start} {t : Start} (listed :
     listed' ≡ cut moment_cmp t listed
     → union moment_cmp rule' listed ≡ t ∷ union moment_cmp (cut moment_cmp t rule') (cut moment_cmp t listed)
     → union moment_cmp rule listed ≡ t ∷ union moment_cmp rule'' listed'
-both-passed {rule'' = rule''} {t = t} listed a b c h =
-    ap (λ xs. union moment_cmp xs listed) (sym a)
-    ∙ (h ∙ ap (λ xs. t ∷ xs) (ap (λ xs. union moment_cmp xs (cut moment_cmp t listed)) (sym b) ∙ ap (union moment_cmp rule'') (sym c)))
+both-passed listed a b c h = rw (b, c, ← a) h
 
 -- What is known of a start makes it one of the event.
 module _ (zones : FileZones) (w : Window) (event : Event) where

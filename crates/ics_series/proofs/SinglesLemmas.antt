@@ -110,9 +110,6 @@ module _ (clocks : Clocks) (event : Event) (rule : event.rule ≡ None) (rdates 
 three-true : (a b c : Bool) → ((a && b) && c) ≡ true → (a ≡ true) × (b ≡ true) × (c ≡ true)
 three-true a b c e = let outer = and_parts (a && b) c e in let inner = and_parts a b outer.0 in (inner.0, inner.1, outer.1)
 
-true-three : (a b c : Bool) → a ≡ true → b ≡ true → c ≡ true → ((a && b) && c) ≡ true
-true-three a b c e f g = λ i. (e i && f i) && g i
-
 -- what is given is of the event that gives it
 pub given-event : (clocks : Clocks) (event : Event) (recurrence : Option ℤ) (o : Entry) → IsGivenBy clocks event recurrence o → o.event ≡ event
 given-event clocks event None o h = h.event
@@ -210,8 +207,7 @@ module _ (files : List FileSaid) (display : Clock) (w : Window) (after : Option 
       let single : is_single listed.0.by.event ≡ true = ap is_single (sym event) ∙ t.1 in
       let is = given-first (clocks_by p) p.event single o listed.0.is.0 in
       let comes : is_to_come w os after o ≡ true =
-      true-three (is_met w o) (is_after after o) (is_kept os o) (meets-is_met w o listed.0.is.1) (is-after files display w vs chosen after o t.0)
-      (kept-same o ∙ listed.1) in
+      (λ i. (meets-is_met w o listed.0.is.1 i && is-after files display w vs chosen after o t.0 i) && (kept-same o ∙ listed.1) i) in
       (p, listed.0.chosen, is-given p listed.0.chosen single (ap (is_to_come w os after) (sym is) ∙ comes) ∙ ap Some (sym is))
 
   given-listing : IsListing given_cmp (IsSingleToCome files display w after) (filter_map given chosen.chosen)

@@ -7,11 +7,11 @@ use Rattle.std.specs.Int.{saturate_signed, w64}
 use Rattle.std.specs.Ordering.{nat_cmp, on, ordering_then}
 use Rattle.std.specs.declared.cmp.Ordering.{Ordering}
 use Rattle.std.specs.declared.cmp.Ordering.TheVariants.{Less, Equal}
-use Rattle.std.proofs.Common.{◌≡◌, ℕ, zero, suc, ◌+◌, ◌≤◌, ℤ, pos, ◌+ℤ◌, false, cond, List, [], ◌∷◌, ◌++◌, map, length, take, inl, inr, ⊎_elim}
+use Rattle.std.proofs.Common.{◌≡◌, ℕ, suc, ◌+◌, ◌≤◌, ℤ, pos, ◌+ℤ◌, false, cond, List, [], ◌∷◌, ◌++◌, map, length, drop, take, inl}
 use Rattle.std.proofs.Common.{Option, Some, None, refl, sym, ◌∙◌, ap, subst, arith}
 use Rattle.std.proofs.lemmas.Cmp.{on_total}
 use Rattle.std.proofs.lemmas.Int.{ints}
-use Rattle.std.proofs.lemmas.List.{append-nil, append_assoc, map-append, take_all}
+use Rattle.std.proofs.lemmas.List.{append-nil, append_assoc, map-append, take-append-drop, take_all}
 use Rattle.std.proofs.lemmas.List.Sums.{sum_by-cons}
 use mir.Val.{SFits}
 use Rattle.ics_event.specs.Event.{FileSaid}
@@ -28,7 +28,7 @@ use Rattle.ics_series.specs.Sources.{is_once, recurring, uid_cmp, AreSources, Is
 use Rattle.ics_series.specs.Sources.Source.{Of, Once}
 use Rattle.ics_series.specs.Versions.{seen, subject_cmp, AreChosen, Label}
 use Rattle.ics_series.proofs.LeadNearLemmas.{all-pushed}
-use Rattle.ics_series.proofs.ListingLemmas.{before-in}
+use Rattle.ics_series.proofs.ListingLemmas.{front-before, split-at}
 use Rattle.ics_series.proofs.OverrideLemmas.{chosen-rises}
 use Rattle.ics_series.proofs.PlacedLemmas.{in-append_left, in-append_right}
 use Rattle.ics_series.proofs.PushLemmas.{taken}
@@ -50,10 +50,9 @@ module _ {A : Type 0} (R : A → A → Ordering) where
 -- those that stand before a place come before what stands there
 module _ {A B : Type 0} (R : B → B → Ordering) (o : IsTotalOrder R) (f : A → B) where
   before-at : (xs : List A) (i : ℕ) {v : A} (y : B) → slice_get xs i ≡ Some v → Rises R (map f xs) → IsIn y (map f (take i xs)) → R y (f v) ≡ Less
-  before-at [] i {v = v} y e r m = let n : None ≡ Some v = e in absurd cc
-  before-at (x ∷ xs) zero y e r m = absurd m
-  before-at (x ∷ xs) (suc i) {v = v} y e r m =
-      ⊎_elim (λ s. ap (λ z. R z (f v)) s ∙ before-in R o (f x) (f v) (map f xs) r.0 (map-in f v xs (get-in v xs i e))) (λ n. before-at xs i y e r.1 n) m
+  before-at xs i {v = v} y e r m =
+      front-before R o (map f (take i xs)) (map f (drop (suc i) xs))
+      (subst (Rises R) (ap (map f) (split-at xs i e) ∙ map-append f (take i xs) (v ∷ drop (suc i) xs)) r) m
 
 then-none : (c : Ordering) → ordering_then c Equal ≡ c
 then-none Less = refl
@@ -79,9 +78,9 @@ pub from-none : (after : Option Rank) (t : ℤ) → after ≡ None → IsFrom af
 from-none after t e = subst (λ a. IsFrom a t) (sym e) tt
 
 in-taken : (vs : List Version) (i : ℕ) (l : Label) → IsIn l (map seen (take i vs)) → IsIn l (map seen vs)
-in-taken (x ∷ xs) (suc i) l m = ⊎_elim inl (λ n. inr (in-taken xs i l n)) m
-in-taken [] (suc i) l m = absurd m
-in-taken _ _ l m = absurd m
+in-taken vs i l m =
+    subst (IsIn l) (sym (map-append seen (take i vs) (drop i vs)) ∙ ap (map seen) (take-append-drop i vs))
+    (in-append_left l (map seen (take i vs)) (map seen (drop i vs)) m)
 
 recurring-of : (ms : List Recurring) → recurring (map Of ms) ≡ ms
 recurring-of [] = refl

@@ -40,11 +40,14 @@ module _ (one other : List ℕ) where
       let rests : xs ++ (46 ∷ one) ≡ ys ++ (46 ∷ other) = cc in
       let r = one-cut xs ys h.1 k.1 rests in (cc, r.1)
 
+-- what stands behind the mark of a key's token
+abbrev fields : Rank → List ℕ
+fields key = signed_decimal key.start ++ (46 ∷ (signed_decimal key.recurrence ++ (46 ∷ encode_lower key.uid)))
+
 -- no two keys share a spelling
 pub one-spelling : (a b : Rank) → IsKey a → IsKey b → spelling a ≡ spelling b → a ≡ b
 one-spelling a b h k e =
-    let inner : signed_decimal a.start ++ (46 ∷ (signed_decimal a.recurrence ++ (46 ∷ encode_lower a.uid)))
-    ≡ signed_decimal b.start ++ (46 ∷ (signed_decimal b.recurrence ++ (46 ∷ encode_lower b.uid))) = ap (drop 3) e in
+    let inner : fields a ≡ fields b = ap (drop 3) e in
     let first = one-cut (signed_decimal a.recurrence ++ (46 ∷ encode_lower a.uid)) (signed_decimal b.recurrence ++ (46 ∷ encode_lower b.uid))
     (signed_decimal a.start) (signed_decimal b.start) (no-point-list a.start h.start) (no-point-list b.start k.start) inner in
     let second = one-cut (encode_lower a.uid) (encode_lower b.uid) (signed_decimal a.recurrence) (signed_decimal b.recurrence)
@@ -58,10 +61,6 @@ one-spelling a b h k e =
 fits-wider : (z : ℤ) → FitsSigned w32 z → FitsSigned w64 z
 fits-wider (pos n) f = record { sfits = omega (arith, f.sfits) }
 fits-wider (negsuc n) f = record { sfits = omega (arith, f.sfits) }
-
--- what stands behind the mark of a key's token
-abbrev fields : Rank → List ℕ
-fields key = signed_decimal key.start ++ (46 ∷ (signed_decimal key.recurrence ++ (46 ∷ encode_lower key.uid)))
 
 -- no two keys under days share a spelling
 pub one-day-spelling : (a b : DayRank) → IsDayKey a → IsDayKey b → day_spelling a ≡ day_spelling b → a ≡ b
