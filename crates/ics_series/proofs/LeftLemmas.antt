@@ -1,22 +1,23 @@
 -- The starts still to come of a rule and of those that are known from the first, as one list.
 use Rattle.std.specs.Prelude.{int_lt, slice_get, if◌then◌else◌}
-use Rattle.std.proofs.Common.{◌≡◌, ℤ, List, [], ◌∷◌, Bool, true, false, Option, Some, None, length, inl, inr, ⊎_elim, refl, sym, ◌∙◌, ap, subst}
+use Rattle.std.proofs.Common.{◌≡◌, ℤ, List, [], ◌∷◌, Bool, true, false, Option, Some, None, length, inl, inr, ⊎_elim, refl, sym, ◌∙◌, ap, subst, arith}
 use Rattle.std.specs.Cmp.{IsTotalOrder}
 use Rattle.std.specs.declared.cmp.Ordering.{Ordering}
 use Rattle.std.specs.declared.cmp.Ordering.TheVariants.{Less, Equal, Greater}
 use Rattle.std.proofs.lemmas.Cmp.{tied_itself}
-use Rattle.ics_zone.proofs.Cases.{int_lt_true, true_int_lt}
+use Rattle.std.proofs.lemmas.Int.{ints}
+use Rattle.ics_zone.proofs.Cases.{int_lt_true}
 use Rattle.ics_series.specs.declared.start.StartSource.{StartSource}
 use Rattle.ics_series.specs.declared.start.Start.{Start}
 use Rattle.ics_series.specs.Found.{moment_cmp, HasStart}
 use Rattle.ics_series.specs.Listing.{IsIn}
 use Rattle.ics_series.specs.Merged.{by_order, cut, put, union}
-use Rattle.ics_series.specs.MergedLaws.{back, before-tied, before-trans}
+use Rattle.ics_series.specs.MergedLaws.{before-tied, before-trans}
 use Rattle.ics_series.specs.Rising.{IsBefore, Rises}
 use Rattle.ics_series.specs.SeriesStarts.{IsFirstOf}
 use Rattle.ics_series.specs.Starts.{IsNotAfter}
 use Rattle.ics_series.proofs.BeginsLemmas.{cut-before, cut-union, front-union, put-front, union-front}
-use Rattle.ics_series.proofs.FirstLemmas.{int-less, moment_total, tied-moment}
+use Rattle.ics_series.proofs.FirstLemmas.{moment_total, tied-moment}
 use Rattle.ics_series.proofs.RuleDayLemmas.{less-start}
 use Rattle.ics_series.proofs.UnionLemmas.{in-union, itself-put, member-put}
 
@@ -56,10 +57,7 @@ less-by : (a b : Start) → int_lt b.moment a.moment ≡ true → moment_cmp b a
 less-by a b e = less-start b a (int_lt_true b.moment a.moment e)
 
 not-greater-by : (a b : Start) → int_lt b.moment a.moment ≡ false → moment_cmp a b ≡ Greater → ⊥
-not-greater-by a b e g =
-    let later = int-less b.moment a.moment (back moment_cmp moment_total a b g) in
-    let f : true ≡ false = sym (true_int_lt b.moment a.moment later) ∙ e in
-    cc
+not-greater-by a b e g = grind (arith, ints)
 
 -- the first of two starts; if both are at one instant, the first of them
 abbrev pub earlier : Option Start → Option Start → Option Start

@@ -31,10 +31,8 @@ meets-is_met w o m = grind (arith, ints, m.begun, m.lasting, m.started)
 
 pub shown-met : (clocks : Clocks) (w : Window) (event : Event) (o : Entry) → is_shown clocks w event o ≡ true →
     Meets w o × (is_excluded clocks event o.start ≡ false)
-shown-met clocks w event o e =
-    let parts = and_parts (is_met w o) (not (is_excluded clocks event o.start)) e in
-    (is_met-meets w o parts.0, not-true (is_excluded clocks event o.start) parts.1)
+shown-met clocks w event o e = (is_met-meets w o (grind arith), grind arith)
 
 pub met-shown : (clocks : Clocks) (w : Window) (event : Event) (o : Entry) → Meets w o → is_excluded clocks event o.start ≡ false →
     is_shown clocks w event o ≡ true
-met-shown clocks w event o m e = and_from (is_met w o) (not (is_excluded clocks event o.start)) (meets-is_met w o m) (ap not e)
+met-shown clocks w event o m e = grind (arith, meets-is_met w o m)

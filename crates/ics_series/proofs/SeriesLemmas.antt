@@ -146,9 +146,7 @@ module _ (clocks : Clocks) (w : Window) (event : Event) (since : ℤ) (overridde
 
   pub is-wanted : (o : Entry) → is_shown clocks w event o ≡ true → since ≤ℤ o.start → (IsIn o.start overridden → ⊥) →
       is_wanted clocks w event since overridden o ≡ true
-  is-wanted o shown late none =
-      and_from (int_le since o.start && not (is_among overridden o.start)) (is_shown clocks w event o)
-      (and_from (int_le since o.start) (not (is_among overridden o.start)) (true_int_le since o.start late) (ap not (not-among o.start overridden none))) shown
+  is-wanted o shown late none = let apart = not-among o.start overridden none in grind (arith, ints)
 
   -- what starts later goes later
   later-entry : (a b : Entry) → entry_start_cmp a b ≡ Less → entry_cmp a b ≡ Less

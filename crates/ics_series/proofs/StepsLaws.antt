@@ -3,9 +3,9 @@ use Rattle.std.specs.Prelude.{◌≤ℤ◌, sum_by}
 use Rattle.std.specs.Cmp.Lexicographic.{slice_cmp}
 use Rattle.std.specs.List.{flat_map, AllByRecursion}
 use Rattle.std.specs.Ordering.{nat_cmp}
-use Rattle.std.specs.declared.cmp.Ordering.TheVariants.{Less, Equal}
+use Rattle.std.specs.declared.cmp.Ordering.TheVariants.{Less}
 use Rattle.std.proofs.Common.{◌≡◌, ℕ, ◌+◌, ◌≤◌, ◌+ℤ◌, true, false, List, [], ◌∷◌, ◌++◌, map, Option, Some, None, ⊎_elim, sym, ◌∙◌, ap, arith}
-use Rattle.std.proofs.lemmas.Cmp.{nat_list_cmp_total, tied_itself}
+use Rattle.std.proofs.lemmas.Cmp.{nat_list_cmp_total}
 use Rattle.std.proofs.lemmas.Int.{ints}
 use Rattle.std.proofs.lemmas.List.Sums.{sum_by-cons}
 use Rattle.ics_rule.specs.Cursors.{looks_from, period_count, steps_of}
@@ -34,6 +34,7 @@ use Rattle.ics_series.specs.Starts.{recurrence_of}
 use Rattle.ics_series.specs.Steps.{HasStepBound}
 use Rattle.ics_series.specs.FileZones.{clocks_in}
 use Rattle.ics_series.proofs.StartSourceLemmas.{number-seconds}
+use Rattle.ics_series.proofs.ListingLemmas.{not-less-itself}
 use Rattle.ics_series.proofs.MergedMembers.{from-one, IsInOne}
 use Rattle.ics_series.proofs.PeriodCountLemmas.{periods-within}
 use Rattle.ics_series.proofs.RuleStepLemmas.{asked-number}
@@ -89,9 +90,7 @@ IsOfPart (OfSeries s) e = e.event ≡ s.value.event.now
 
 not-itself : (m n : Recurring) (e : Entry) → e.event ≡ m.event → e.event ≡ n.event → uid_cmp m n ≡ Less → ⊥
 not-itself m n e p q l =
-    let same : uid_cmp m n ≡ Equal = ap (slice_cmp nat_cmp m.event.uid) (ap (λ (v : Event). v.uid) (sym q ∙ p)) ∙ tied_itself nat_list_cmp_total m.event.uid in
-    let no : Less ≡ Equal = sym l ∙ same in
-    absurd cc
+    not-less-itself (slice_cmp nat_cmp) nat_list_cmp_total m.event.uid (ap (λ (v : Event). slice_cmp nat_cmp m.event.uid v.uid) (sym p ∙ q) ∙ l)
 
 not-single : (e : Entry) (event : Event) → e.event ≡ event → is_single e.event ≡ true → is_single event ≡ false → ⊥
 not-single e event p s r = let no : true ≡ false = sym s ∙ (ap is_single p ∙ r) in absurd cc

@@ -24,22 +24,18 @@ returns-in_err-single c =
 
 pub returns-then-is_to_come : goal.returns-then-is_to_come
 returns-then-is_to_come c =
-    let o = single_entry c.in_ok-single.single in
-    let overrides = map seen c.args.overrides.now in
-    let after = option_map (λ key. key_rank key.now) c.args.after in
-    ap (λ b. if b then Some o else None)
-    (sym (ap (is_to_come c.args.window.now overrides after) (sym c.occurrence.ensures) ∙ (sym c.is_to_come.ensures ∙ c.if-is_to_come.true)))
-    ∙ gives-begun (map said_by c.args.files.now) (display_clock c.args.display.now) c.args.window.now overrides after (seen c.args.version.now)
-    c.event-event.result.now c.event-event.ensures.event (Some o) (sym c.is_single.ensures ∙ c.if-not-is_single.false) c.zones-zones.ensures.clocks
-    c.in_ok-single.ensures
+    let comes = ap (is_to_come c.args.window.now (map seen c.args.overrides.now) (option_map (λ key. key_rank key.now) c.args.after))
+    (sym c.occurrence.ensures) ∙ (sym c.is_to_come.ensures ∙ c.if-is_to_come.true) in
+    rw comes at
+    (gives-begun (map said_by c.args.files.now) (display_clock c.args.display.now) c.args.window.now (map seen c.args.overrides.now)
+    (option_map (λ key. key_rank key.now) c.args.after) (seen c.args.version.now) c.event-event.result.now c.event-event.ensures.event
+    (Some (single_entry c.in_ok-single.single)) (sym c.is_single.ensures ∙ c.if-not-is_single.false) c.zones-zones.ensures.clocks c.in_ok-single.ensures)
 
 pub returns-else-is_to_come : goal.returns-else-is_to_come
 returns-else-is_to_come c =
-    let o = single_entry c.in_ok-single.single in
-    let overrides = map seen c.args.overrides.now in
-    let after = option_map (λ key. key_rank key.now) c.args.after in
-    ap (λ b. if b then Some o else None)
-    (sym (ap (is_to_come c.args.window.now overrides after) (sym c.occurrence.ensures) ∙ (sym c.is_to_come.ensures ∙ c.if-is_to_come.false)))
-    ∙ gives-begun (map said_by c.args.files.now) (display_clock c.args.display.now) c.args.window.now overrides after (seen c.args.version.now)
-    c.event-event.result.now c.event-event.ensures.event (Some o) (sym c.is_single.ensures ∙ c.if-not-is_single.false) c.zones-zones.ensures.clocks
-    c.in_ok-single.ensures
+    let comes = ap (is_to_come c.args.window.now (map seen c.args.overrides.now) (option_map (λ key. key_rank key.now) c.args.after))
+    (sym c.occurrence.ensures) ∙ (sym c.is_to_come.ensures ∙ c.if-is_to_come.false) in
+    rw comes at
+    (gives-begun (map said_by c.args.files.now) (display_clock c.args.display.now) c.args.window.now (map seen c.args.overrides.now)
+    (option_map (λ key. key_rank key.now) c.args.after) (seen c.args.version.now) c.event-event.result.now c.event-event.ensures.event
+    (Some (single_entry c.in_ok-single.single)) (sym c.is_single.ensures ∙ c.if-not-is_single.false) c.zones-zones.ensures.clocks c.in_ok-single.ensures)

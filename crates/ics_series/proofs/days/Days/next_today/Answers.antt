@@ -13,13 +13,10 @@ returns-then-met-on-clause-ok c = λ list a.
     let self = c.loop-occurrence.self in
     let gives = rw c.in-Some.is at c.in_ok-occurrence.ensures.ok in
     let fits : to_z w32 (of_z w32 c.loop-occurrence.self.day) ≡ c.loop-occurrence.self.day = search rules in
-    let today : (c.is_met-met.result && c.is_on-on.result)
-    ≡ is_today (display_clock c.loop-occurrence.self.display.now) c.loop-occurrence.self.window c.loop-occurrence.self.day
-    (entry_of c.in-Some.occurrence) = (λ i. c.is_met-met.ensures i && c.is_on-on.ensures.on i)
-    ∙ ap (λ day. is_today (display_clock c.loop-occurrence.self.display.now) c.loop-occurrence.self.window day (entry_of c.in-Some.occurrence)) fits in
+    let on = rw fits at c.is_on-on.ensures.on in
     ahead-given (map said_by self.files.now) (display_clock self.display.now) self.window self.day (entry_of c.in-Some.occurrence) (agenda_coming self.agenda)
     (agenda_coming c.next.new.self) gives
-    (sym today ∙ c.if-met-on.true) list (c.loop-occurrence.invariant.ahead list a)
+    (sym (λ i. c.is_met-met.ensures i && on i) ∙ c.if-met-on.true) list (c.loop-occurrence.invariant.ahead list a)
 
 pub loop-occurrence-preserved : goal.loop-occurrence-preserved
 loop-occurrence-preserved c = record {
@@ -31,13 +28,10 @@ loop-occurrence-preserved c = record {
       let self = c.loop-occurrence.self in
       let gives = rw c.in-Some.is at c.in_ok-occurrence.ensures.ok in
       let fits : to_z w32 (of_z w32 c.loop-occurrence.self.day) ≡ c.loop-occurrence.self.day = search rules in
-      let today : (c.is_met-met.result && c.is_on-on.result)
-      ≡ is_today (display_clock c.loop-occurrence.self.display.now) c.loop-occurrence.self.window c.loop-occurrence.self.day
-      (entry_of c.in-Some.occurrence) = (λ i. c.is_met-met.ensures i && c.is_on-on.ensures.on i)
-      ∙ ap (λ day. is_today (display_clock c.loop-occurrence.self.display.now) c.loop-occurrence.self.window day (entry_of c.in-Some.occurrence)) fits in
+      let on = rw fits at c.is_on-on.ensures.on in
       ahead-skipped (map said_by self.files.now) (display_clock self.display.now) self.window self.day (entry_of c.in-Some.occurrence)
       (agenda_coming self.agenda) (agenda_coming c.next.new.self) gives
-      (sym today ∙ c.if-met-on.false) list (c.loop-occurrence.invariant.ahead list a);
+      (sym (λ i. c.is_met-met.ensures i && on i) ∙ c.if-met-on.false) list (c.loop-occurrence.invariant.ahead list a);
 }
 
 pub returns-then-met-on-clause-within : goal.returns-then-met-on-clause-within

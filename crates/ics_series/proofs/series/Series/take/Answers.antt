@@ -15,31 +15,36 @@ use Rattle.ics_series.proofs.OwnRuleLemmas.{own-rule-same}
 use Rattle.ics_series.proofs.SeriesLemmas.{asked-near, both-passed, given-own, known-rest, rises-listed, rises-rest, rises-rule, ruled-rest, ruled-same}
 use Rattle.ics_series.proofs.series.Series.take.Goals as goal
 
+-- the series with its rule read on, where the starts that are left stay the same
+abbrev read : (s : Series) (rule : Option RuleStarts) → HasSameRule s.rule_starts rule → rule_left rule ≡ rule_left s.rule_starts → Series
+read s rule same left = record s {
+  rule_starts = rule;
+  known = rw left s.known;
+  ruled = ruled-same (clocks_in s.zones) s.event.now s.rule_starts rule same left
+      (ap (λ xs. given_of (clocks_in s.zones) s.window s.event.now s.since s.overridden.items (union moment_cmp xs (listed_left s.listed))) left) s.ruled;
+  own_rule = own-rule-same s.zones s.event.now s.window (first_of (clocks_in s.zones) s.window s.event.now s.since) s.rule_starts rule same s.own_rule;
+  rising = rw left s.rising;
+}
+
 pub invariant_of-self : goal.invariant_of-self
 invariant_of-self c =
-    let s = c.args.self.now in
-    let same = ap (λ xs. union moment_cmp xs (listed_left s.listed)) c.peek_rule.ensures.same in
-    record {
+    let s = read c.args.self.now c.peek_rule.new.rule c.peek_rule.ensures.rule c.peek_rule.ensures.same in record {
       in_order = s.in_order;
       own = s.own;
       taken_out = s.taken_out;
-      known = rw same s.known;
-      ruled = ruled-same (clocks_in s.zones) s.event.now s.rule_starts c.peek_rule.new.rule
-          c.peek_rule.ensures.rule c.peek_rule.ensures.same
-          (ap (given_of (clocks_in s.zones) s.window s.event.now s.since s.overridden.items) same) s.ruled;
-      own_rule = own-rule-same s.zones s.event.now s.window (first_of (clocks_in s.zones) s.window s.event.now s.since) s.rule_starts c.peek_rule.new.rule
-          c.peek_rule.ensures.rule s.own_rule;
-      rising = rw same s.rising;
+      known = s.known;
+      ruled = s.ruled;
+      own_rule = s.own_rule;
+      rising = s.rising;
     }
 
 pub invariant_of-self-in-Some : goal.invariant_of-self-in-Some
 invariant_of-self-in-Some c =
-    let s = c.args.self.now in
-    let first = subst (λ o. IsFirstOf o (rule_left c.peek_rule.new.rule) (listed_left s.listed)) c.in-Some.is
-    (c.earlier_of-first.ensures (rule_left c.peek_rule.new.rule) (listed_left s.listed) (rises-rule c.peek_rule.new.rule) (rises-listed s.listed)
-    c.in_ok-ruled.ensures.first c.peek.ensures) in
+    let s = read c.args.self.now c.peek_rule.new.rule c.peek_rule.ensures.rule c.peek_rule.ensures.same in
+    let first = rw c.in-Some.is at (c.earlier_of-first.ensures (rule_left s.rule_starts) (listed_left s.listed) (rises-rule s.rule_starts)
+    (rises-listed s.listed) c.in_ok-ruled.ensures.first c.peek.ensures) in
     let taken : left s.rule_starts s.listed ≡ c.in-Some.start ∷ left c.pass_rule.new.rule c.pass.new.self =
-    both-passed (listed_left s.listed) c.peek_rule.ensures.same c.pass_rule.ensures.left c.pass.ensures first in
+    both-passed (listed_left s.listed) refl c.pass_rule.ensures.left c.pass.ensures first in
     record {
       in_order = s.in_order;
       own = s.own;
@@ -52,46 +57,36 @@ invariant_of-self-in-Some c =
             rises = rises-union moment_cmp moment_total (rule_left s.rule_starts) (listed_left s.listed) (rises-listed s.listed);
             known = s.known;
           })
-          (ruled-same (clocks_in s.zones) s.event.now s.rule_starts c.peek_rule.new.rule
-          {coming = given_of (clocks_in s.zones) s.window s.event.now s.since s.overridden.items (left s.rule_starts s.listed)}
-          c.peek_rule.ensures.rule c.peek_rule.ensures.same refl s.ruled);
+          s.ruled;
       own_rule = own-rule-same s.zones s.event.now s.window (first_of (clocks_in s.zones) s.window s.event.now s.since) c.peek_rule.new.rule
-          c.pass_rule.new.rule c.pass_rule.ensures.rule (own-rule-same s.zones s.event.now s.window (first_of (clocks_in s.zones) s.window s.event.now s.since)
-          s.rule_starts c.peek_rule.new.rule c.peek_rule.ensures.rule s.own_rule);
+          c.pass_rule.new.rule c.pass_rule.ensures.rule s.own_rule;
       rising = rises-rest (clocks_in s.zones) s.window s.event.now s.since s.overridden.items taken s.rising;
     }
 
 pub invariant_of-self-in_default : goal.invariant_of-self-in_default
 invariant_of-self-in_default c =
-    let s = c.args.self.now in
-    let same = ap (λ xs. union moment_cmp xs (listed_left s.listed)) c.peek_rule.ensures.same in
-    record {
+    let s = read c.args.self.now c.peek_rule.new.rule c.peek_rule.ensures.rule c.peek_rule.ensures.same in record {
       in_order = s.in_order;
       own = s.own;
       taken_out = s.taken_out;
-      known = rw same s.known;
-      ruled = ruled-same (clocks_in s.zones) s.event.now s.rule_starts c.peek_rule.new.rule
-          c.peek_rule.ensures.rule c.peek_rule.ensures.same
-          (ap (given_of (clocks_in s.zones) s.window s.event.now s.since s.overridden.items) same) s.ruled;
-      own_rule = own-rule-same s.zones s.event.now s.window (first_of (clocks_in s.zones) s.window s.event.now s.since) s.rule_starts c.peek_rule.new.rule
-          c.peek_rule.ensures.rule s.own_rule;
-      rising = rw same s.rising;
+      known = s.known;
+      ruled = s.ruled;
+      own_rule = s.own_rule;
+      rising = s.rising;
     }
 
 pub returns-in-Some-clause-taken : goal.returns-in-Some-clause-taken
 returns-in-Some-clause-taken c =
     let s = c.args.self.now in
-    let first = subst (λ o. IsFirstOf o (rule_left c.peek_rule.new.rule) (listed_left s.listed)) c.in-Some.is
-    (c.earlier_of-first.ensures (rule_left c.peek_rule.new.rule) (listed_left s.listed) (rises-rule c.peek_rule.new.rule) (rises-listed s.listed)
-    c.in_ok-ruled.ensures.first c.peek.ensures) in
+    let first = rw c.in-Some.is at (c.earlier_of-first.ensures (rule_left c.peek_rule.new.rule) (listed_left s.listed) (rises-rule c.peek_rule.new.rule)
+    (rises-listed s.listed) c.in_ok-ruled.ensures.first c.peek.ensures) in
     both-passed (listed_left s.listed) c.peek_rule.ensures.same c.pass_rule.ensures.left c.pass.ensures first
 
 pub returns-in_default-clause-taken : goal.returns-in_default-clause-taken
 returns-in_default-clause-taken c =
     let s = c.args.self.now in
-    let empty = subst (λ o. IsFirstOf o (rule_left c.peek_rule.new.rule) (listed_left s.listed)) c.in_default.is
-    (c.earlier_of-first.ensures (rule_left c.peek_rule.new.rule) (listed_left s.listed) (rises-rule c.peek_rule.new.rule) (rises-listed s.listed)
-    c.in_ok-ruled.ensures.first c.peek.ensures) in
+    let empty = rw c.in_default.is at (c.earlier_of-first.ensures (rule_left c.peek_rule.new.rule) (listed_left s.listed) (rises-rule c.peek_rule.new.rule)
+    (rises-listed s.listed) c.in_ok-ruled.ensures.first c.peek.ensures) in
     let before : left s.rule_starts s.listed ≡ [] = sym (ap (λ xs. union moment_cmp xs (listed_left s.listed)) c.peek_rule.ensures.same) ∙ empty in
     rw c.in_default.is (before, empty)
 
