@@ -1,5 +1,5 @@
 -- What a rule chooses within a period is what the product that holds the period takes.
-use Rattle.std.proofs.Common.{◌≡◌, ℕ, suc, ◌+◌, ◌-◌, ◌<◌, ◌≤◌, max, Bool, true, false, ◌&&◌, ◌||◌, ◌==◌, refl, sym, ap, ◌∙◌, arith}
+use Rattle.std.proofs.Common.{◌≡◌, ℕ, suc, ◌+◌, ◌-◌, ◌<◌, max, Bool, true, false, ◌&&◌, ◌||◌, ◌==◌, refl, sym, ap, ◌∙◌, arith}
 use Rattle.std.proofs.lemmas.Bool.{and_right, eq-eqb, eqb-true}
 use Rattle.ics_fields.specs.declared.ordinals.WideOrdinals.{WideOrdinals}
 use Rattle.ics_fields.specs.Ordinals.{lists_none_wide}
@@ -11,9 +11,9 @@ use Rattle.ics_rule.specs.Kept.{count, is_beside, rank, size, is_placed, is_chos
 use Rattle.ics_rule.specs.RecurrencePeriods.{holds, is_let_in, IsPeriodOf, is_listed, is_taken}
 use Rattle.ics_rule.specs.Searches.{is_chosen_within}
 use Rattle.ics_rule.specs.ByTable.{is_nth}
-use Rattle.ics_rule.proofs.Counts.{count-same, count-suc, count-from, count_one}
+use Rattle.ics_rule.proofs.Counts.{count-same, count-suc, count_one}
 use Rattle.ics_fields.specs.Locals.{calendar_end}
-use Rattle.ics_rule.proofs.RankLemmas.{count_flat, rank_listed, placed_of}
+use Rattle.ics_rule.proofs.RankLemmas.{rank_listed}
 use Rattle.ics_rule.proofs.Tests.{and_assoc, keep_true, swapped}
 
 -- outside of the steps nothing is chosen
@@ -73,21 +73,6 @@ module _ (q : EffectiveRule) (start n : ℕ) (step i : Bool) (set : ℕ → Bool
       → is_chosen q start n ≡ (step && (i && (lists_none_wide q.positions || is_nth q.positions set n)))
   chosen_by candidate here beside =
       by_parts step i candidate (λ s e. nth_placed q start n set (beside s) (here ∙ e) (lists_none_wide q.positions))
-
--- and, of a period whose locals are the first len from a on, by their places in it
-module _ (q : EffectiveRule) (start a len k : ℕ) (test : ℕ → Bool) (before : (m : ℕ) → m < a → is_beside q start (a + k) m ≡ false)
-    (after : (m : ℕ) → a + len ≤ m → is_beside q start (a + k) m ≡ false) (there : (j : ℕ) → j < len → is_beside q start (a + k) (a + j) ≡ test j) where
-  pub chosen_of_span : k < len → a + len ≤ calendar_end → is_candidate_in q start (a + k) ≡ test k
-      → (b : Bool) → (is_candidate_in q start (a + k) && is_placed q start b (a + k)) ≡ placed_of q.positions b test len k
-  chosen_of_span inside top candidate true = keep_true (is_candidate_in q start (a + k)) ∙ candidate
-  chosen_of_span inside top candidate false =
-      let beside : ℕ → Bool = is_beside q start (a + k) in
-      let place : rank q start (a + k) ≡ count (suc k) test =
-      ap (λ x. count x beside) (let whole : suc (a + k) ≡ a + suc k = omega arith in whole) ∙ count-from a (suc k) beside before
-      ∙ count-same (suc k) (λ j. beside (a + j)) test (λ j l. there j (omega (arith, l, inside))) in
-      let all : size q start (a + k) ≡ count len test =
-      count_flat (a + len) calendar_end beside top (λ m l h. after m l) ∙ count-from a len beside before ∙ count-same len (λ j. beside (a + j)) test there in
-      rw (candidate, place, all) (rank_listed q.positions test k (count len test))
 
 module _ (q : EffectiveRule) (start : ℕ) (p : RecurrencePeriod) (own : IsPeriodOf q p) (step : is_stepped (period_in q start) q.interval p.number ≡ true) where
   candidate_here : (n : ℕ) → period_in q n ≡ p.number → is_candidate_in q start n ≡ holds p n

@@ -1,6 +1,6 @@
 -- What a cursor looks at.
 use Rattle.std.proofs.Common.{◌≡◌, ℕ, zero, suc, ◌+◌, ◌-◌, ◌<◌, ◌≤◌, inl, inr, Bool, true, false, ◌==◌, nat_le, ◌&&◌, Option, Some, None, MatchOption}
-use Rattle.std.proofs.Common.{cond, max, refl, sym, subst, ap, ◌∙◌, arith}
+use Rattle.std.proofs.Common.{max, refl, sym, subst, ap, ◌∙◌, arith}
 use Rattle.std.proofs.lemmas.Bool.{and_parts, cases_lt, eq-eqb, eqb-true, leb-true}
 use Rattle.std.proofs.lemmas.Bool.Decides.{nat_tests}
 use Rattle.jiff_core.specs.Weekday.{monday_zero}
@@ -113,16 +113,8 @@ counted_one n test h = let first = found test 1 n (omega arith) h in (first.0, (
 -- where one test implies another, no more pass it
 pub count_within : (n : ℕ) (f g : ℕ → Bool) → ((m : ℕ) → m < n → f m ≡ true → g m ≡ true) → count n f ≤ count n g
 count_within zero f g h = let e = count_most 0 f in omega (arith, e)
-count_within (suc n) f g h =
-    let less = count_within n f g (λ m l. h m (omega arith)) in
-    let one = count-suc n f in
-    let other = count-suc n g in
-    let last = cond_within (f n) (g n) (h n (omega arith)) in
-    omega (arith, less, one, other, last)
-  where
-    cond_within : (a b : Bool) → (a ≡ true → b ≡ true) → cond a 1 0 ≤ cond b 1 0
-    cond_within false b h = omega arith
-    cond_within true b h = let e : ◌≡◌ {A = ℕ} (cond b 1 0) 1 = ap (λ z. cond z 1 0) (h refl) in omega (arith, e)
+count_within (suc n) f g h = let less = count_within n f g (λ m l. h m (omega arith)) in let last = h n (omega arith) in
+    grind (arith, count-suc n f, count-suc n g)
 
 -- what is met before some bound and is not past the period of n is met before each bound past n
 module _ (q : EffectiveRule) (start a b : ℕ) where

@@ -1,7 +1,6 @@
 -- What each period of a day or less has that a rule lets in.
 use Rattle.std.proofs.Common.{◌≡◌, ℕ, zero, suc, ◌+◌, ◌-◌, ◌*◌, ◌/◌, ◌%◌, ◌<◌, ◌≤◌, Bool, true, false, ◌&&◌, refl, sym, ap, ◌∙◌, cond}
 use Rattle.std.proofs.Common.{arith}
-use Rattle.std.proofs.lemmas.Bool.{and_parts, eq-eqb, eqb-true, false_from_ne_true}
 use Rattle.std.proofs.lemmas.Nat.{div-add-mod'}
 use Rattle.std.proofs.Math.Nat.{mul-le-mul_right, mul_comm, add-mul}
 use Rattle.jiff_core.specs.Weekday.{monday_zero}
@@ -13,27 +12,23 @@ use Rattle.ics_rule.specs.declared.recurrence_period.RecurrencePeriod.{Recurrenc
 use Rattle.ics_rule.specs.declared.cursor.Cursor.{Cursor}
 use Rattle.ics_rule.specs.Searches.{IsTurned}
 use Rattle.ics_rule.specs.PeriodNumbers.{period}
-use Rattle.ics_rule.specs.Candidates.{lets, lets_date, lets_clock, is_stepped, is_candidate_in, period_in}
-use Rattle.ics_rule.specs.Kept.{count, is_beside, is_placed, is_chosen}
-use Rattle.ics_rule.specs.RecurrencePeriods.{first_local}
-use Rattle.ics_rule.specs.Rounds.{seconds_of}
-use Rattle.ics_rule.specs.OpenPeriods.{per_day, lets_own, lets_within, is_open_period, chosen_in_open}
-use Rattle.ics_rule.proofs.Counts.{count-same, count-suc, count-add, count-none, count-product, count_every}
+use Rattle.ics_rule.specs.Candidates.{lets, lets_date, lets_clock, is_stepped, period_in}
+use Rattle.ics_rule.specs.Kept.{count, is_chosen}
+use Rattle.ics_rule.specs.RecurrencePeriods.{first_local, is_listed}
+use Rattle.ics_rule.specs.Rounds.{seconds_of, chosen_to}
+use Rattle.ics_rule.specs.OpenPeriods.{per_day, lets_own, lets_within, is_open_period, size_of_open, chosen_of_size, chosen_in_open}
+use Rattle.ics_rule.proofs.Counts.{count-same, count-suc, count-all, count-product, count_every, count_most}
 use Rattle.ics_rule.proofs.ProductCounts.{count_zero}
-use Rattle.ics_rule.proofs.RankLemmas.{placed_of, size_decides}
-use Rattle.ics_rule.proofs.ChosenLemmas.{chosen_of_span}
+use Rattle.ics_rule.proofs.SizeLemmas.{let_at, longest, counted, none_adds, period_adds}
 use Rattle.ics_rule.proofs.StepLemmas.{stepped_parts}
 use Rattle.ics_rule.proofs.CountLemmas.{IsCountedStep}
 use Rattle.ics_rule.proofs.RoundLemmas.{step_repeats}
 use Rattle.ics_fields.specs.Locals.{calendar_end}
-use Rattle.ics_rule.proofs.Tests.{keep_true}
+use Rattle.ics_rule.proofs.Tests.{and_assoc, self_test}
 
 -- the clock is a period's own and what is within it
 pub clock_split : (f : Frequency) (q : EffectiveRule) (n : ℕ) → lets_clock q n ≡ (lets_own f q n && lets_within f q n)
 clock_split f q n = grind arith
-
-regroup : (a b c d : Bool) → (a && b && (c && d)) ≡ ((a && (b && c)) && d)
-regroup a b c d = grind arith
 
 -- a period's locals, by their place in it
 module _ (q : EffectiveRule) (p k : ℕ) where
@@ -106,67 +101,57 @@ module _ (q : EffectiveRule) (start : ℕ) (fine : 0 < seconds_of q.frequency) (
   abbrev is_open : ℕ → Bool
   is_open = is_open_period q (period_in q start)
 
-  period_of : (p k : ℕ) → k < u → period_in q (p * u + k) ≡ p
-  period_of p k l = period_at q p k q.frequency (monday_zero q.week_start) fine unit l
+  -- a day and the hour, minute and second of a period are let in
+  abbrev lets_some : ℕ → Bool
+  lets_some p = lets_date q (p / per_day q.frequency) && lets_own q.frequency q (p * u)
 
-  candidate_at : (p k : ℕ) → k < u → is_candidate_in q start (p * u + k) ≡ (is_open p && within k)
-  candidate_at p k l =
+  spans : (p : ℕ) → first_local q.frequency (monday_zero q.week_start) p + u ≡ first_local q.frequency (monday_zero q.week_start) (suc p)
+  spans p = rw (first_at q.frequency (monday_zero q.week_start) p fine unit, first_at q.frequency (monday_zero q.week_start) (suc p) fine unit) (omega arith)
+
+  let_in_at : (p k : ℕ) → k < u → let_at q p k ≡ (lets_some p && within k)
+  let_in_at p k l =
       rw (
-        period_of p k l,
+        first_at q.frequency (monday_zero q.week_start) p fine unit,
+        period_at q p k q.frequency (monday_zero q.week_start) fine unit l,
         day_at q p k q.frequency fine unit l,
         clock_split q.frequency q (p * u + k),
         own_at q p k q.frequency fine unit l,
         within_at q p k q.frequency fine unit l,
+        self_test p,
       )
-      (regroup (is_stepped (period_in q start) q.interval p) (lets_date q (p / per_day q.frequency)) (lets_own q.frequency q (p * u)) (within k))
+      (sym (and_assoc (lets_date q (p / per_day q.frequency)) (lets_own q.frequency q (p * u)) (within k)))
 
-  -- what stands beside a local of an is_open period
-  module _ (p k : ℕ) (l : k < u) (is : is_open p ≡ true) where
-    beside_at : (j : ℕ) → j < u → is_beside q start (p * u + k) (p * u + j) ≡ within j
-    beside_at j h = grind (arith, candidate_at, eq-eqb, keep_true, period_of)
-
-    beside_in : (m : ℕ) → is_beside q start (p * u + k) m ≡ true → (p * u ≤ m) × (m < p * u + u)
-    beside_in m here = grind (arith, and_parts, eqb-true, in_period, period_of)
-
-    chosen_at : p * u + u ≤ calendar_end → is_chosen q start (p * u + k) ≡ placed_of q.positions (lists_none_wide q.positions) within u k
-    chosen_at top =
-        chosen_of_span q start (p * u) u k within
-        (λ m h. false_from_ne_true (is_beside q start (p * u + k) m) (λ here. let low = (beside_in m here).0 in omega (arith, low, h)))
-        (λ m h. false_from_ne_true (is_beside q start (p * u + k) m) (λ here. let high = (beside_in m here).1 in omega (arith, high, h)))
-        beside_at l top (candidate_at p k l ∙ ap (λ x. x && within k) is) (lists_none_wide q.positions)
-
-  chosen_open : (p : ℕ) → p * u + u ≤ calendar_end → is_open p ≡ true → count u (λ k. is_chosen q start (p * u + k)) ≡ chosen_in_open q
-  chosen_open p top is =
-      count-same u (λ k. is_chosen q start (p * u + k)) (placed_of q.positions (lists_none_wide q.positions) within u) (λ k l. chosen_at p k l is top)
-      ∙ size_decides q (lists_none_wide q.positions) within u
-
-  chosen_closed : (p : ℕ) → is_open p ≡ false → count u (λ k. is_chosen q start (p * u + k)) ≡ 0
-  chosen_closed p out = count-none u (λ k. is_chosen q start (p * u + k))
-      (λ k l. ap (λ x. x && is_placed q start (lists_none_wide q.positions) (p * u + k)) (candidate_at p k l ∙ ap (λ x. x && within k) out))
+  size_at : (p : ℕ) → count longest (let_at q p) ≡ cond (lets_some p) 1 0 * size_of_open q
+  size_at p = counted q start p u (spans p) ∙ count-same u (let_at q p) (λ k. lets_some p && within k) (let_in_at p) ∙ count-all (lets_some p) u within
 
   -- what is chosen in whole periods
-  total_open : (p : ℕ) → p * u ≤ calendar_end → count (p * u) (is_chosen q start) ≡ count p is_open * chosen_in_open q
-  total_open zero top = let none : 0 * u ≡ 0 = omega arith in ap (λ x. count x (is_chosen q start)) none ∙ sym (count_zero (is_chosen q start))
-      ∙ (let product : 0 ≡ 0 * chosen_in_open q = omega arith in product) ∙ ap (λ x. x * chosen_in_open q) (count_zero is_open)
+  open_adds : (p : ℕ) → suc p * u ≤ calendar_end → chosen_to q start (suc p) ≡ chosen_to q start p + cond (is_open p) 1 0 * chosen_in_open q
+  open_adds p top = by_step (is_stepped (period_in q start) q.interval p) refl
+    where
+      sized : (b c : Bool) → chosen_of_size q c (cond b 1 0 * size_of_open q) ≡ cond b 1 0 * chosen_of_size q c (size_of_open q)
+      sized true c = ap (chosen_of_size q c) (let one : 1 * size_of_open q ≡ size_of_open q = omega arith in one) ∙ omega arith
+      sized false true = refl
+      sized false false = let most = count_most (0 * size_of_open q) (is_listed q.positions (0 * size_of_open q)) in omega (arith, most)
+
+      by_step : (s : Bool) → is_stepped (period_in q start) q.interval p ≡ s
+          → chosen_to q start (suc p) ≡ chosen_to q start p + cond (s && lets_some p) 1 0 * chosen_in_open q
+      by_step true step = period_adds q start p u (spans p) step (rw (first_at q.frequency (monday_zero q.week_start) p fine unit) (omega (arith, top)))
+          ∙ ap (λ n. chosen_to q start p + n) (ap (chosen_of_size q (lists_none_wide q.positions)) (size_at p) ∙ sized (lets_some p) (lists_none_wide q.positions))
+      by_step false out = none_adds q start p u (spans p) out ∙ omega arith
+
+  pub total_open : (p : ℕ) → p * u ≤ calendar_end → chosen_to q start p ≡ count p is_open * chosen_in_open q
+  total_open zero top = let most = count_most (0 * u) (is_chosen q start) in
+      rw (first_at q.frequency (monday_zero q.week_start) 0 fine unit) (omega (arith, most, ap (λ x. x * chosen_in_open q) (count_zero is_open)))
   total_open (suc p) top =
-      let wide : suc p * u ≡ p * u + u = omega arith in
-      let all = ap (λ x. count x (is_chosen q start)) wide in
-      let parts = count-add (p * u) u (is_chosen q start) in
-      let own = times (is_open p) (chosen_open p (omega (arith, wide, top))) (chosen_closed p) in
       let more = ap (λ x. x * chosen_in_open q) (count-suc p is_open) in
       let spread = add-mul (count p is_open) (cond (is_open p) 1 0) (chosen_in_open q) in
-      omega (arith, all, parts, own, more, spread, total_open p (omega (arith, wide, top)))
-    where
-      times : (b : Bool) {x n : ℕ} → (b ≡ true → x ≡ n) → (b ≡ false → x ≡ 0) → x ≡ cond b 1 0 * n
-      times true h l = h refl ∙ omega arith
-      times false h l = l refl ∙ omega arith
+      omega (arith, open_adds p top, total_open p (omega (arith, top)), more, spread)
 
   -- from one period to another
   pub total_between : {begin target counted each : ℕ} (number : ℕ) → each ≡ chosen_in_open q → number + count begin is_open ≡ count target is_open
       → target * u ≤ calendar_end → begin ≤ target
-      → counted ≡ count (first_local q.frequency (monday_zero q.week_start) begin) (is_chosen q start) → counted + each * number
-      ≡ count (first_local q.frequency (monday_zero q.week_start) target) (is_chosen q start)
-  total_between number ee en top up ec = grind (arith, first_at, mul-le-mul_right, mul_comm, total_open)
+      → counted ≡ chosen_to q start begin → counted + each * number ≡ chosen_to q start target
+  total_between number ee en top up ec = grind (arith, mul-le-mul_right, mul_comm, total_open)
 
 -- whole intervals from a step on, up to the period of a place, with the number of the periods that are open
 pub record IsOpenRun (q : EffectiveRule) (start begin ahead place each number : ℕ) : Type 0 where
@@ -197,7 +182,7 @@ open_end {q = q} {start = start} {begin = begin} {ahead = ahead} {place = place}
       top = top;
       total = total_between q start run.fine run.unit number run.size run.total
           (omega (arith, high, own.0, run.inside)) (omega arith)
-          (turned.counted.total ∙ ap (λ x. count (first_local q.frequency (monday_zero q.week_start) x) (is_chosen q start)) turned.number);
+          (turned.counted.total ∙ ap (chosen_to q start) turned.number);
     }
 
 -- of the frequencies whose periods are a day or less the day is the one that is no part of a day

@@ -12,16 +12,16 @@ use Rattle.ics_rule.specs.declared.effective_rule.EffectiveRule.{EffectiveRule}
 use Rattle.ics_rule.specs.Candidates.{is_stepped, period_in}
 use Rattle.ics_rule.specs.Kept.{count, is_chosen}
 use Rattle.ics_rule.specs.RecurrencePeriods.{first_local}
+use Rattle.ics_rule.specs.OpenPeriods.{chosen_of_size}
 use Rattle.ics_rule.specs.Rounds.{IsFlat, IsRound, IsEvenRound, chosen_to}
 use Rattle.ics_rule.proofs.Counts.{count-same, count_mono, count_one_more}
 use Rattle.ics_rule.proofs.RankLemmas.{count_flat}
-use Rattle.ics_rule.proofs.PeriodLemmas.{begun, begins, before_first, before_next, period_mono}
-use Rattle.ics_rule.proofs.ChosenLemmas.{no_step}
+use Rattle.ics_rule.proofs.PeriodLemmas.{begun, begins, before_first, before_next, is_short, period_mono}
 use Rattle.ics_rule.proofs.CountLemmas.{first_mono}
 use Rattle.ics_rule.proofs.StepLemmas.{stepped_parts}
 use Rattle.ics_rule.proofs.RoundLemmas.{step_repeats}
 use Rattle.ics_rule.proofs.FlatLemmas.{allowed_before, month_local, month_adds, month_is, year_is}
-use Rattle.ics_rule.proofs.SizeLemmas.{let_at, longest, chosen_of, period_adds, size_adds}
+use Rattle.ics_rule.proofs.SizeLemmas.{let_at, longest, none_adds, period_adds, size_adds}
 use Rattle.ics_rule.specs.PeriodNumbers.{rules_end}
 use Rattle.ics_rule.proofs.Tests.{positive}
 
@@ -67,20 +67,16 @@ module _ (q : EffectiveRule) (start : ℕ) where
   up {a = a} {b = b} low order =
       let least = period_mono q.frequency (monday_zero q.week_start) 0 start (omega arith) in first_mono q a b (omega (arith, least, low)) order
 
-  -- a step adds what its size decides, and another period nothing
-  step_adds : {x : ℕ} → period_in q start ≤ x → IsEarly q x → IsStep q start x →
-      chosen_to q start (suc x) ≡ chosen_to q start x + chosen_of q (lists_none_wide q.positions) (count longest (let_at q x))
-  step_adds {x = x} low early step =
-      let more = up {a = x} {b = suc x} (omega (arith, low)) (omega arith) in
-      period_adds q start x step (omega (arith, early)) (first (suc x) - first x) (omega (arith, more))
+  spans : {x : ℕ} → period_in q start ≤ x → first x + (first (suc x) - first x) ≡ first (suc x)
+  spans {x = x} low = let more = up {a = x} {b = suc x} (omega (arith, low)) (omega arith) in omega (arith, more)
 
-  none_adds : {x : ℕ} → period_in q start ≤ x → is_stepped (period_in q start) q.interval x ≡ false → chosen_to q start (suc x) ≡ chosen_to q start x
-  none_adds {x = x} low out =
-      count_flat (first x) (first (suc x)) (is_chosen q start) (up {a = x} {b = suc x} (omega (arith, low)) (omega arith)) (λ m l u. no_step q start m (
-      let from = begins q.frequency (monday_zero q.week_start) x m l in
-      let before = before_first q.frequency (monday_zero q.week_start) (suc x) m u in
-      let same : period_in q m ≡ x = omega (arith, from, before) in
-      ap (is_stepped (period_in q start) q.interval) same ∙ out))
+  step_adds : {x : ℕ} → period_in q start ≤ x → IsEarly q x → IsStep q start x →
+      chosen_to q start (suc x) ≡ chosen_to q start x + chosen_of_size q (lists_none_wide q.positions) (count longest (let_at q x))
+  step_adds {x = x} low early step = let short = is_short q.frequency (monday_zero q.week_start) x in
+      period_adds q start x (first (suc x) - first x) (spans low) step (omega (arith, early, short))
+
+  no_step_adds : {x : ℕ} → period_in q start ≤ x → is_stepped (period_in q start) q.interval x ≡ false → chosen_to q start (suc x) ≡ chosen_to q start x
+  no_step_adds {x = x} low out = none_adds q start x (first (suc x) - first x) (spans low) out
 
   module _ (periods : ℕ) (even : IsEven q start periods) where
     -- so many periods later a period adds as much
@@ -94,11 +90,11 @@ module _ (q : EffectiveRule) (start : ℕ) where
             let order = up {a = x} {b = x + periods} (omega (arith, low)) (omega arith) in
             let one = step_adds {x = x} low (omega (arith, order, high)) step in
             let other = step_adds {x = x + periods} (omega (arith, low)) high (even.step (period_in q start) x low ∙ step) in
-            let same = ap (chosen_of q (lists_none_wide q.positions)) (even.size x some step high) in
+            let same = ap (chosen_of_size q (lists_none_wide q.positions)) (even.size x some step high) in
             omega (arith, one, other, same)
         by_step false out =
-            let one = none_adds {x = x} low out in
-            let other = none_adds {x = x + periods} (omega (arith, low)) (even.step (period_in q start) x low ∙ out) in
+            let one = no_step_adds {x = x} low out in
+            let other = no_step_adds {x = x + periods} (omega (arith, low)) (even.step (period_in q start) x low ∙ out) in
             omega (arith, one, other)
 
     steady : {begin top : ℕ} → 2 ≤ begin → period_in q start ≤ begin → IsEarly q top → (x : ℕ) → begin ≤ x → x + periods ≤ top
@@ -183,9 +179,7 @@ even_by {q = q} {start = start} steps size some positive_steps adds on = even_is
     size_is : (x : ℕ) → 1 ≤ x → IsStep q start x → IsEarly q x → count longest (let_at q x) ≡ size x
     size_is x low step early =
         let first = (stepped_parts (period_in q start) q.interval x step).0 in
-        let more = up q start {a = x} {b = suc x} (omega (arith, first)) (omega arith) in
-        let all = size_adds q start x step (omega (arith, early))
-        (first_local q.frequency (monday_zero q.week_start) (suc x) - first_local q.frequency (monday_zero q.week_start) x) (omega (arith, more)) in
+        let all = size_adds q start x _ (spans q start first) in
         let own = adds x low early in
         omega (arith, all, own)
 

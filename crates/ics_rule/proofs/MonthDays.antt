@@ -19,8 +19,8 @@ use Rattle.ics_rule.specs.RecurrencePeriods.{month_start}
 use Rattle.ics_rule.specs.Candidates.{lets, lets_place, lets_wide_place, lets_week, lets_weekday, lets_numbered, lets_date, lists_nth}
 use Rattle.ics_rule.specs.Runs.{has_run, weekday_in, lists_weekday, lists_in_month, is_in_month, goes_by_months, counts_in_month, IsMonth, IsSpan}
 use Rattle.ics_rule.proofs.LawLemmas.{year_day_is}
-use Rattle.ics_rule.proofs.Months.{earlier_month, later_month, month_high}
-use Rattle.ics_rule.proofs.PeriodLemmas.{month_positive, month_size, IsPeriodFrom}
+use Rattle.ics_rule.proofs.Months.{month_past, month_high, month_positive}
+use Rattle.ics_rule.proofs.PeriodLemmas.{month_size, IsPeriodFrom}
 use Rattle.ics_rule.proofs.DayWalkLemmas.{fields_at}
 use Rattle.ics_rule.proofs.RunLemmas.{next_found, all_found, guard, run_facts}
 use Rattle.ics_rule.proofs.Tests.{and_assoc, keep_true, three}
@@ -37,8 +37,8 @@ module _ (r : Run) (first y m k : ℕ) (own : IsMonth r first y m) where
       let next = days_before_year-next y in
       let year = year_of_is (first + k) y (omega (arith, start)) (omega (arith, next, start, inside)) in
       let more = days_of_months_more (pos y) m own.low in
-      let early = earlier_month y m own.low own.high (first + k) in
-      let late = later_month y m own.low own.high (first + k) in
+      let early = (month_past y (m - 1) (first + k) (omega (arith, own.high))).0 in
+      let late = (month_past y m (first + k) own.high).1 in
       grind (arith, nat_tests, day_of_run)
 
   pub run_lists : (q : EffectiveRule) → has_run r k ≡ true → lists_in_month q (weekday_in r (k - r.start)) (k - r.start + 1) r.len

@@ -1,5 +1,5 @@
 -- What BYSETPOS can't list.
-use Rattle.std.proofs.Common.{◌≡◌, ℕ, ◌+◌, ◌-◌, ◌*◌, ◌<◌, ◌≤◌, false, ◌||◌, Option, None, refl, sym, ap, ◌∙◌}
+use Rattle.std.proofs.Common.{◌≡◌, ℕ, ◌+◌, ◌-◌, ◌*◌, ◌<◌, ◌≤◌, false, ◌||◌, Option, None, sym, ap, ◌∙◌}
 use Rattle.std.proofs.Common.{arith}
 use Rattle.std.proofs.lemmas.Bool.{false_from_ne_true}
 use Rattle.jiff_core.specs.Weekday.{monday_zero}
@@ -14,10 +14,10 @@ use Rattle.ics_rule.specs.Kept.{count, is_chosen}
 use Rattle.ics_rule.specs.RecurrencePeriods.{first_local, is_listed}
 use Rattle.ics_rule.specs.Cursors.{IsCursorIn}
 use Rattle.ics_rule.specs.Searches.{NoneWanted, IsWalked}
-use Rattle.ics_rule.proofs.Counts.{count-none, count_most, count_some}
+use Rattle.ics_rule.proofs.Counts.{count-none, count_some}
 use Rattle.ics_rule.specs.Rounds.{seconds_of}
 use Rattle.ics_rule.specs.OpenPeriods.{per_day, is_open_period, size_of_open, chosen_of_size, chosen_in_open}
-use Rattle.ics_rule.proofs.EachLemmas.{total_between}
+use Rattle.ics_rule.proofs.EachLemmas.{total_open}
 use Rattle.ics_rule.proofs.CursorLemmas.{held_mono, moved_none, not_wanted}
 use Rattle.ics_fields.specs.Locals.{calendar_end}
 
@@ -30,8 +30,8 @@ pub record IsPast (q : EffectiveRule) : Type 0 where
   pub back : (k : ℕ) → 1 ≤ k → k ≤ size_of_open q → contains_wide q.positions.back k ≡ false
 
 -- the periods of the calendar fill it
-filled : (f : Frequency) (w : ℕ) → 0 < seconds_of f → seconds_of f ≤ 86_400 → (first_local f w 0 ≡ 0)
-    × ((first_local f w (3_652_425 * per_day f) ≡ calendar_end) × (3_652_425 * per_day f * seconds_of f ≤ calendar_end))
+filled : (f : Frequency) (w : ℕ) → 0 < seconds_of f → seconds_of f ≤ 86_400
+    → (first_local f w (3_652_425 * per_day f) ≡ calendar_end) × (3_652_425 * per_day f * seconds_of f ≤ calendar_end)
 filled f w h u = grind arith
 
 -- then all of them together have nothing that is chosen
@@ -39,17 +39,15 @@ pub never_chosen : (q : EffectiveRule) → IsPast q → (start n : ℕ) → n < 
 never_chosen q past start n inside = false_from_ne_true (is_chosen q start n) (λ yes.
     let periods = 3_652_425 * per_day q.frequency in
     let fills = filled q.frequency (monday_zero q.week_start) past.fine past.unit in
-    let end = ap (λ x. count x (is_chosen q start)) fills.1.0 in
+    let end = ap (λ x. count x (is_chosen q start)) fills.0 in
     let none : 0 ≡ chosen_in_open q = sym (ap (λ b. chosen_of_size q b (size_of_open q)) past.some
     ∙ count-none (size_of_open q) (is_listed q.positions (size_of_open q)) (λ k l.
     ap (λ x. x || contains_wide q.positions.back (size_of_open q + 1 - (k + 1))) (past.front (k + 1) (omega arith) (omega (arith, l)))
     ∙ past.back (size_of_open q + 1 - (k + 1)) (omega (arith, l)) (omega arith))) in
-    let empty = count_most 0 (is_open_period q (period_in q start)) in
-    let total = total_between q start past.fine past.unit {begin = 0} {target = periods} (count periods (is_open_period q (period_in q start))) none
-    (omega (arith, empty)) (omega (arith, fills.1.1)) (omega arith) refl in
-    let before = count_most (first_local q.frequency (monday_zero q.week_start) 0) (is_chosen q start) in
+    let total = total_open q start past.fine past.unit periods fills.1 in
+    let nothing = ap (λ x. count periods (is_open_period q (period_in q start)) * x) none in
     let one = count_some calendar_end n (is_chosen q start) inside yes in
-    omega (arith, fills.0, end, total, before, one))
+    omega (arith, end, total, nothing, one))
 
 -- so a walk finds nothing
 pub none_wanted : (q : EffectiveRule) (start : ℕ) (o : Option ℕ) (place : ℕ) {stop : ℕ} → stop ≤ rules_end →

@@ -16,8 +16,8 @@ use Rattle.ics_rule.specs.Kept.{count}
 use Rattle.ics_rule.specs.RecurrencePeriods.{month_start}
 use Rattle.ics_rule.specs.PlainReading.{is_nth, is_place, is_wide_place, in_year, in_month, with_weekday, fourth_of_week, is_week}
 use Rattle.ics_rule.proofs.Counts.{count-same, count-suc, count-none, count-from, count_every}
-use Rattle.ics_rule.proofs.Months.{month_high}
-use Rattle.ics_rule.proofs.PeriodLemmas.{month_begun, month_begins, month_size, month_positive, fourth_early, fourth_late}
+use Rattle.ics_rule.proofs.Months.{month_high, month_positive}
+use Rattle.ics_rule.proofs.PeriodLemmas.{month_begun, month_begins, month_size, fourth_early, fourth_late}
 use Rattle.ics_rule.proofs.RankLemmas.{count_flat}
 use Rattle.ics_rule.proofs.LawLemmas.{year_day_is}
 use Rattle.ics_fields.specs.Locals.{calendar_end}

@@ -5,14 +5,14 @@ use Rattle.jiff_core.specs.declared.civil.weekday.Weekday.{Weekday}
 use Rattle.jiff_core.specs.Weekday.{monday_zero}
 use Rattle.jiff_core.specs.Calendar.{days_in_month}
 use Rattle.jiff_core.proofs.CalendarLemmas.{days_of_months_more, days_of_months_all, days_of_months-zero, days_in_month_bounds, days_in_year_bounds}
-use Rattle.ics_fields.specs.Days.{days_before_year, year_of, month_of}
+use Rattle.ics_fields.specs.Days.{days_before_year, year_of}
 use Rattle.ics_fields.proofs.DayLemmas.{year_under_way, days_before_year_low, days_before_year_mono, days_before_year-next}
 use Rattle.ics_fields.specs.declared.frequency.Frequency.{Frequency}
 use Rattle.ics_fields.specs.declared.frequency.Frequency.TheVariants.{Monthly, Yearly}
 use Rattle.ics_rule.specs.PeriodNumbers.{period, month_number, week_of, rules_end}
 use Rattle.ics_rule.specs.Candidates.{fourth_day}
 use Rattle.ics_rule.specs.RecurrencePeriods.{month_start, first_local}
-use Rattle.ics_rule.proofs.Months.{earlier_month, later_month, month_of_high}
+use Rattle.ics_rule.proofs.Months.{month_past, month_positive}
 use Rattle.ics_fields.specs.Locals.{calendar_end}
 
 -- weeks start on one of seven weekdays
@@ -41,14 +41,10 @@ pub month_begun : (p e : ℕ) → p ≤ month_number e → month_start p ≤ e
 month_begun zero e h = let none = days_of_months-zero (pos ((0 - 1) / 12)) in omega (arith, none)
 month_begun (suc p) e h =
     let back : suc p - 1 ≡ p = omega arith in
-    let same : p % 12 + 1 - 1 ≡ p % 12 = omega arith in
-    rw back (grind (arith, cases_lt, earlier_month))
-
-pub month_positive : (e : ℕ) → 0 < month_of e
-month_positive e = month_of_high e 0 (let none = days_of_months-zero (pos (year_of e)) in let u = year_under_way e in omega (arith, none, u.0)) (omega arith)
+    rw back (grind (arith, cases_lt, month_past (p / 12) (p % 12) e (omega arith)))
 
 pub month_begins : (p e : ℕ) → month_start p ≤ e → p ≤ month_number e
-month_begins p e h = grind (arith, cases_lt, later_month, month_positive, year_begins)
+month_begins p e h = let past = (month_past ((p - 1) / 12) ((p - 1) % 12) e (omega arith)).1 h in omega (arith, past)
 
 pub month_size : (p : ℕ) → month_start (suc (suc p)) ≡ month_start (suc p) + days_in_month (pos (p / 12)) (p % 12 + 1)
 month_size p =

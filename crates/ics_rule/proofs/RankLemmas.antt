@@ -78,10 +78,6 @@ abbrev pub placed_of : WideOrdinals → Bool → (ℕ → Bool) → ℕ → ℕ 
 placed_of positions true test len k = test k
 placed_of positions false test len k = test k && is_listed positions (count len test) (count k test)
 
-pub placed_out : (positions : WideOrdinals) (b : Bool) (test : ℕ → Bool) (len k : ℕ) → test k ≡ false → placed_of positions b test len k ≡ false
-placed_out positions true test len k e = e
-placed_out positions false test len k e = ap (λ x. x && is_listed positions (count len test) (count k test)) e
-
 -- how many they are depends on how many pass
 pub size_decides : (q : EffectiveRule) (b : Bool) (test : ℕ → Bool) (len : ℕ)
     → count len (placed_of q.positions b test len) ≡ chosen_of_size q b (count len test)
