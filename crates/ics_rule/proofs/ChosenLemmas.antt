@@ -8,12 +8,12 @@ use Rattle.ics_rule.specs.declared.recurrence_period.RecurrencePeriod.{Recurrenc
 use Rattle.ics_rule.specs.PeriodNumbers.{day_of}
 use Rattle.ics_rule.specs.Candidates.{is_stepped, is_candidate_in, period_in, lets_date, lets_clock}
 use Rattle.ics_rule.specs.Kept.{count, is_beside, rank, size, is_placed, is_chosen}
-use Rattle.ics_rule.specs.RecurrencePeriods.{holds, is_let_in, IsPeriodOf, is_listed, is_taken}
+use Rattle.ics_rule.specs.RecurrencePeriods.{holds, is_let_in, IsPeriodOf, is_taken}
 use Rattle.ics_rule.specs.Searches.{is_chosen_within}
 use Rattle.ics_rule.specs.ByTable.{is_nth}
 use Rattle.ics_rule.proofs.Counts.{count-same, count-suc, count_one}
 use Rattle.ics_fields.specs.Locals.{calendar_end}
-use Rattle.ics_rule.proofs.RankLemmas.{rank_listed}
+use Rattle.ics_rule.proofs.RankLemmas.{rank_listed, placed_of}
 use Rattle.ics_rule.proofs.Tests.{and_assoc, keep_true, swapped}
 
 -- outside of the steps nothing is chosen
@@ -36,8 +36,11 @@ pub let_in : (q : EffectiveRule) (start number n : ℕ) → is_stepped (period_i
 let_in q start number n step e = grind (arith, eq-eqb)
 
 taken_out : (positions : WideOrdinals) (b : Bool) (p : RecurrencePeriod) (n : ℕ) → holds p n ≡ false → is_taken positions b p n ≡ false
-taken_out positions true p n e = e
-taken_out positions false p n e = ap (λ x. x && is_listed positions (count calendar_end (holds p)) (count n (holds p))) e
+taken_out positions b p n e = grind arith
+
+taken_placed : (positions : WideOrdinals) (b : Bool) (p : RecurrencePeriod) (n : ℕ) → is_taken positions b p n ≡ placed_of positions b (holds p) calendar_end n
+taken_placed positions true p n = refl
+taken_placed positions false p n = refl
 
 -- what stands beside n is what the rule lets in in the period of n
 pub beside_let_in : (q : EffectiveRule) (start n m : ℕ) {number : ℕ} → is_stepped (period_in q start) q.interval number ≡ true → period_in q n ≡ number →
@@ -48,11 +51,17 @@ beside_let_in q start n m {number = number} step here = ap (λ x. is_candidate_i
 
 -- the places of n, by the set that stands beside it
 module _ (q : EffectiveRule) (start n : ℕ) (set : ℕ → Bool) (same : (m : ℕ) → m < max (suc n) calendar_end → is_beside q start n m ≡ set m) where
-  pub ranked : rank q start n ≡ count (suc n) set
+  ranked : rank q start n ≡ count (suc n) set
   ranked = count-same (suc n) (is_beside q start n) set (λ m l. same m (omega (arith, l)))
 
-  pub sized : size q start n ≡ count calendar_end set
+  sized : size q start n ≡ count calendar_end set
   sized = count-same calendar_end (is_beside q start n) set (λ m l. same m (omega (arith, l)))
+
+  -- a candidate is chosen by its place among them
+  pub placed_is : is_candidate_in q start n ≡ set n → (b : Bool)
+      → (is_candidate_in q start n && is_placed q start b n) ≡ placed_of q.positions b set calendar_end n
+  placed_is here true = keep_true (is_candidate_in q start n) ∙ here
+  placed_is here false = rw (here, ranked, sized) (rank_listed q.positions set n (count calendar_end set))
 
   -- they are those of the nth of the set
   nth_placed : set n ≡ true → (b : Bool) → is_placed q start b n ≡ (b || is_nth q.positions set n)
@@ -74,33 +83,20 @@ module _ (q : EffectiveRule) (start n : ℕ) (step i : Bool) (set : ℕ → Bool
   chosen_by candidate here beside =
       by_parts step i candidate (λ s e. nth_placed q start n set (beside s) (here ∙ e) (lists_none_wide q.positions))
 
-module _ (q : EffectiveRule) (start : ℕ) (p : RecurrencePeriod) (own : IsPeriodOf q p) (step : is_stepped (period_in q start) q.interval p.number ≡ true) where
-  candidate_here : (n : ℕ) → period_in q n ≡ p.number → is_candidate_in q start n ≡ holds p n
-  candidate_here n here = let_in q start p.number n step here ∙ sym (own.members n)
+-- what a product of a step takes is what is chosen within its period
+module _ {q : EffectiveRule} (start : ℕ) {p : RecurrencePeriod} {number : ℕ} (own : IsPeriodOf q p) (same : p.number ≡ number)
+    (step : is_stepped (period_in q start) q.interval number ≡ true) where
+  holds_is : (n : ℕ) → holds p n ≡ is_let_in q number n
+  holds_is n = own.members n ∙ ap (λ x. is_let_in q x n) same
 
-  -- what stands beside n is what the product holds
-  beside : (n m : ℕ) → period_in q n ≡ p.number → is_beside q start n m ≡ holds p m
-  beside n m here = beside_let_in q start n m step here ∙ sym (own.members m)
-
-  chosen_here : (n : ℕ) → period_in q n ≡ p.number → (b : Bool) → is_taken q.positions b p n ≡ (is_candidate_in q start n && is_placed q start b n)
-  chosen_here n here true = sym (keep_true (is_candidate_in q start n) ∙ candidate_here n here)
-  chosen_here n here false =
-      rw (candidate_here n here, ranked q start n (holds p) (λ m l. beside n m here), sized q start n (holds p) (λ m l. beside n m here))
-      (sym (rank_listed q.positions (holds p) n (count calendar_end (holds p))))
-
-  pub taken_is : (n : ℕ) → is_taken q.positions (lists_none_wide q.positions) p n ≡ is_chosen_within q start p.number n
-  taken_is n =
-      apart (period_in q n == p.number) (is_chosen q start n)
-      (λ e. chosen_here n (eqb-true (period_in q n) p.number e) (lists_none_wide q.positions))
-      (λ e. taken_out q.positions (lists_none_wide q.positions) p n (own.members n ∙ ap (λ x. x && (lets_date q (day_of n) && lets_clock q n)) e))
+  pub taken_within : (n : ℕ) → is_taken q.positions (lists_none_wide q.positions) p n ≡ is_chosen_within q start number n
+  taken_within n =
+      apart (period_in q n == number) (is_chosen q start n)
+      (λ e. let here = eqb-true (period_in q n) number e in
+      taken_placed q.positions (lists_none_wide q.positions) p n ∙ sym (placed_is q start n (holds p) (λ m l. beside_let_in q start n m step here ∙ sym (holds_is m))
+      (let_in q start number n step here ∙ sym (holds_is n)) (lists_none_wide q.positions)))
+      (λ e. taken_out q.positions (lists_none_wide q.positions) p n (holds_is n ∙ ap (λ x. x && (lets_date q (day_of n) && lets_clock q n)) e))
     where
       apart : (e c : Bool) {t : Bool} → (e ≡ true → t ≡ c) → (e ≡ false → t ≡ false) → t ≡ (e && c)
       apart true c h l = h refl
       apart false c h l = l refl
-
--- the same of a period by its number
-pub taken_within : {q : EffectiveRule} (start : ℕ) {p : RecurrencePeriod} {number : ℕ} → IsPeriodOf q p → p.number ≡ number →
-    is_stepped (period_in q start) q.interval number ≡ true
-    → (n : ℕ) → is_taken q.positions (lists_none_wide q.positions) p n ≡ is_chosen_within q start number n
-taken_within {q = q} start {p = p} own e step n =
-    taken_is q start p own (ap (is_stepped (period_in q start) q.interval) e ∙ step) n ∙ ap (λ x. is_chosen_within q start x n) e

@@ -16,7 +16,7 @@ use Rattle.ics_rule.proofs.PeriodLemmas.{begun, begins, first_in, period_mono, w
 use Rattle.ics_rule.proofs.Counts.{count_between, count-none, count_mono, count_most}
 use Rattle.ics_rule.proofs.RankLemmas.{count_flat}
 use Rattle.ics_rule.proofs.StepLemmas.{stepped_parts, none_between}
-use Rattle.ics_rule.proofs.ChosenLemmas.{no_step, taken_is}
+use Rattle.ics_rule.proofs.ChosenLemmas.{no_step, taken_within}
 use Rattle.ics_rule.proofs.CursorLemmas.{within_here}
 use Rattle.ics_rule.specs.PeriodNumbers.{rules_end}
 
@@ -42,7 +42,7 @@ module _ (q : EffectiveRule) (start : ℕ) (p : RecurrencePeriod) (own : IsPerio
   first = first_local q.frequency (monday_zero q.week_start) p.number
 
   pub none_taken : (m : ℕ) → period_in q m ≢ p.number → taken m ≡ false
-  none_taken m other = taken_is q start p own step m ∙ ap (λ x. x && is_chosen q start m) (ne_eqb (period_in q m) p.number other)
+  none_taken m other = taken_within start own refl step m ∙ ap (λ x. x && is_chosen q start m) (ne_eqb (period_in q m) p.number other)
 
   -- up to a local before which a later period has nothing that is chosen, from the period's first local on what is chosen is taken
   pub chosen_before : (n : ℕ) → first ≤ n → ((m : ℕ) → m < n → p.number < period_in q m → is_chosen q start m ≡ false)
@@ -57,7 +57,7 @@ module _ (q : EffectiveRule) (start : ℕ) (p : RecurrencePeriod) (own : IsPerio
       agree m low h = elim (cases_lt p.number (period_in q m)) [
         | inl later ↦ none_taken m (λ e. omega (arith, e, later)) ∙ sym (none m h later)
         | inr same ↦ let from = begins q.frequency (monday_zero q.week_start) p.number m low in
-            taken_is q start p own step m ∙ within_here q start p.number m (omega (arith, same, from))
+            taken_within start own refl step m ∙ within_here q start p.number m (omega (arith, same, from))
       ]
 
 -- the last local of the calendar

@@ -82,23 +82,14 @@ pub held_mono : (q : EffectiveRule) (held : Option RecurrencePeriod) (n m : ℕ)
 held_mono q held n m h l = let up = period_mono q.frequency (monday_zero q.week_start) n m l in grind arith
 
 -- and a cursor at a later place is one of the rule
-pub own_moved : {q : EffectiveRule} {start : ℕ} {o : Option ℕ} {stop : ℕ} {before now : Cursor} (place : ℕ) → HasMoved q start o stop before now →
-    HeldBy q now.held place → CountedBy q start o now → place < calendar_end → IsCursorIn q start o (record now { place = place })
-own_moved {q = q} {start = start} {o = o} {now = now} place moved held counted h =
-    record { inside = h; held = held; begun = moved.begun; steps = moved.steps; counted = grind arith }
+pub own_moved : {q : EffectiveRule} {start : ℕ} {o : Option ℕ} {stop n : ℕ} {before now : Cursor} (place : ℕ) → HasMoved q start o stop before now →
+    HeldBy q now.held n → n ≤ place → CountedBy q start o now → place < calendar_end → IsCursorIn q start o (record now { place = place })
+own_moved {q = q} {n = n} {now = now} place moved held l counted h =
+    record { inside = h; held = held_mono q now.held n place held l; begun = moved.begun; steps = moved.steps; counted = grind arith }
 
 pub own_at : {q : EffectiveRule} {start : ℕ} {o : Option ℕ} {c : Cursor} (place : ℕ) → IsCursorIn q start o c → c.place ≤ place → place < calendar_end →
     IsCursorIn q start o (record c { place = place })
-own_at {q = q} {c = c} place own l h = own_moved place (moved_none 0 own) (held_mono q c.held c.place place own.held l) own.counted h
-
-pub own_walked : {q : EffectiveRule} {start : ℕ} {o : Option ℕ} {stop : ℕ} {found : Option ℕ} {before now : Cursor} (place : ℕ) →
-    IsWalked q start o stop found before now → stop ≤ place → place < calendar_end → IsCursorIn q start o (record now { place = place })
-own_walked {q = q} {stop = stop} {now = now} place walked l h = own_moved place walked.moved (held_mono q now.held stop place walked.held l) walked.counted h
-
-pub own_found : {q : EffectiveRule} {start : ℕ} {o : Option ℕ} {stop n : ℕ} {before now : Cursor} → IsWalked q start o stop (Some n) before now →
-    n + 1 < calendar_end → IsCursorIn q start o (record now { place = n + 1 })
-own_found {q = q} {n = n} {now = now} walked h =
-    own_moved (n + 1) walked.moved (held_mono q now.held n (n + 1) walked.found.0 (omega arith)) walked.counted h
+own_at {c = c} place own l h = own_moved {n = c.place} place (moved_none 0 own) own.held l own.counted h
 
 -- places only rise
 pub looked_walked : {q : EffectiveRule} {start : ℕ} {o : Option ℕ} {stop : ℕ} {found : Option ℕ} {before now : Cursor} {a b : ℕ} (place : ℕ) →

@@ -53,15 +53,15 @@ module _ (k : ℕ) where
   pub weekday_again : (e : ℕ) → weekday_of (e + 146_097 * k) ≡ weekday_of e
   weekday_again e = omega arith
 
-  own_year_size : (e : ℕ) → days_in_year (pos (year_of (e + 146_097 * k))) ≡ days_in_year (pos (year_of e))
-  own_year_size e = rw (year_again e, year_size_again (year_of e)) refl
+  pub year_size_of : (e : ℕ) → days_in_year (pos (year_of (e + 146_097 * k))) ≡ days_in_year (pos (year_of e))
+  year_size_of e = rw (year_again e, year_size_again (year_of e)) refl
 
   own_month_size : (e : ℕ) → days_in_month (pos (year_of (e + 146_097 * k))) (month_of (e + 146_097 * k)) ≡ days_in_month (pos (year_of e)) (month_of e)
   own_month_size e = rw (year_again e, month_again e, month_size_again (year_of e) (month_of e)) refl
 
   place_of_week : (p : Ordinals) (f : ℕ) → lets_place p (week_number (f + 146_097 * k)) (weeks_of_year (f + 146_097 * k))
       ≡ lets_place p (week_number f) (weeks_of_year f)
-  place_of_week p f = grind (arith, own_year_size, year_day_again)
+  place_of_week p f = grind (arith, year_size_of, year_day_again)
 
   nth_in_month : (p : Ordinals) (e : ℕ) →
       lists_nth p (month_day_of (e + 146_097 * k)) (days_in_month (pos (year_of (e + 146_097 * k))) (month_of (e + 146_097 * k)))
@@ -69,7 +69,7 @@ module _ (k : ℕ) where
   nth_in_month p e = rw (month_day_again e, own_month_size e) refl
 
   numbered_again : (f : Frequency) (q : EffectiveRule) (p : Ordinals) (e : ℕ) → lets_numbered f q p (e + 146_097 * k) ≡ lets_numbered f q p e
-  numbered_again f q p e = grind (arith, nth_in_month, own_year_size, year_day_again)
+  numbered_again f q p e = grind (arith, nth_in_month, year_size_of, year_day_again)
 
 -- the fourth day of a week is so much later too, or 400 years less where it is first taken 400 years later
 fourth_again : (w k e : ℕ) → 1 ≤ k → (j : ℕ) × (fourth_day w (e + 146_097 * k) ≡ fourth_day w e + 146_097 * j)
@@ -87,4 +87,4 @@ week_place p w k e some = let f = fourth_again w k e some in
 
 -- a rule allows the same dates
 pub date_again : (q : EffectiveRule) (k e : ℕ) → 1 ≤ k → lets_date q (e + 146_097 * k) ≡ lets_date q e
-date_again q k e some = grind (arith, month_again, month_day_again, numbered_again, own_month_size, own_year_size, week_place, weekday_again, year_day_again)
+date_again q k e some = grind (arith, month_again, month_day_again, numbered_again, own_month_size, year_size_of, week_place, weekday_again, year_day_again)

@@ -1,5 +1,5 @@
 -- Rounds of periods in which a rule allows as many locals have as many chosen locals.
-use Rattle.std.proofs.Common.{◌≡◌, ℕ, zero, suc, ◌+◌, ◌-◌, ◌*◌, ◌/◌, ◌%◌, ◌<◌, ◌≤◌, inl, inr, Bool, true, false, ◌==◌, refl, sym, subst, ap, ◌∙◌}
+use Rattle.std.proofs.Common.{◌≡◌, ℕ, zero, suc, ◌+◌, ◌-◌, ◌*◌, ◌/◌, ◌%◌, ◌<◌, ◌≤◌, inl, inr, Bool, true, false, ◌==◌, refl, sym, ap, ◌∙◌}
 use Rattle.std.proofs.Common.{arith}
 use Rattle.std.proofs.lemmas.Bool.{cases_lt, false_from_ne_true}
 use Rattle.std.proofs.lemmas.Bool.Decides.{nat_tests}
@@ -193,21 +193,20 @@ even_months q start some flat monthly = even_by 12 (λ x. month_adds q flat ((x 
     adds zero low early = absurd (omega (arith, low))
     adds (suc i) low early =
         let back : suc i - 1 ≡ i = omega arith in
-        let reach = subst (λ f. first_local f (monday_zero q.week_start) (suc i) ≤ rules_end) monthly early in
+        let first = λ (x : ℕ). ap (λ f. first_local f (monday_zero q.week_start) x) monthly in
         let long = days_before_year_low (i / 12) in
-        subst (λ f. allowed_before q (first_local f (monday_zero q.week_start) (suc (suc i)))
-        ≡ allowed_before q (first_local f (monday_zero q.week_start) (suc i)) + month_adds q flat ((suc i - 1) % 12)) (sym monthly)
-        (month_is q flat i (omega (arith, rw back at reach, long)) ∙ ap (λ x. allowed_before q (month_local i) + month_adds q flat (x % 12)) (sym back))
+        rw (first (suc (suc i)), first (suc i))
+        (month_is q flat i (omega (arith, rw back at (rw (first (suc i)) at early), long))
+        ∙ ap (λ x. allowed_before q (month_local i) + month_adds q flat (x % 12)) (sym back))
 
 -- and a year is one
 pub even_years : (q : EffectiveRule) (start : ℕ) → 1 ≤ q.interval → IsFlat q → q.frequency ≡ Yearly → IsEvenRound q start (q.interval * 1)
 even_years q start some flat yearly = even_by 1 (λ x. first) some (omega arith) (λ x low early.
-    let reach = subst (λ f. first_local f (monday_zero q.week_start) x ≤ rules_end) yearly early in
+    let own = λ (y : ℕ). ap (λ f. first_local f (monday_zero q.week_start) y) yearly in
     let long = days_before_year_low x in
-    let one = year_is q flat x (omega (arith, reach, long)) in
+    let one = year_is q flat x (omega (arith, rw (own x) at early, long)) in
     let zero = year_is q flat 0 (omega arith) in
-    subst (λ f. allowed_before q (first_local f (monday_zero q.week_start) (suc x))
-    ≡ allowed_before q (first_local f (monday_zero q.week_start) x) + first) (sym yearly) (omega (arith, one, zero)))
+    rw (own (suc x), own x) (omega (arith, one, zero)))
     (λ x low. refl)
   where
     first : ℕ

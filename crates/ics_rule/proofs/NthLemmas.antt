@@ -18,6 +18,7 @@ use Rattle.ics_rule.specs.PlainReading.{is_nth, is_place, is_wide_place, in_year
 use Rattle.ics_rule.proofs.Counts.{count-same, count-suc, count-none, count-from, count_every}
 use Rattle.ics_rule.proofs.Months.{month_high, month_positive}
 use Rattle.ics_rule.proofs.PeriodLemmas.{month_begun, month_begins, month_size, fourth_early, fourth_late}
+use Rattle.ics_rule.proofs.CycleLemmas.{year_day_again, year_size_of}
 use Rattle.ics_rule.proofs.RankLemmas.{count_flat}
 use Rattle.ics_rule.proofs.LawLemmas.{year_day_is}
 use Rattle.ics_fields.specs.Locals.{calendar_end}
@@ -168,20 +169,11 @@ year_weekday_listed p e small = nth_weekday_listed (in_year e) _ _ (year_stretch
 
 -- ---- weeks
 
--- the calendar repeats after 400 years
-later : (f g : ℕ) → g ≡ f + 146_097 → (year_day_of g ≡ year_day_of f) × (days_in_year (pos (year_of g)) ≡ days_in_year (pos (year_of f)))
-later f g e =
-    let u = year_under_way f in
-    let cycle = year_of_is g (year_of f + 400) (omega (arith, u.0, e)) (omega (arith, u.1, e)) in
-    grind (arith, nat_tests, days_before_year-next, year_day_is)
-
-same_week : (w e : ℕ) → w < 7 → (year_day_of (fourth_of_week w e) ≡ year_day_of (fourth_day w e))
-    × (days_in_year (pos (year_of (fourth_of_week w e))) ≡ days_in_year (pos (year_of (fourth_day w e))))
-same_week w e small = elim (cases_lt (7 * week_of w e + w) 9) [
-  | inl early ↦
-      let same : fourth_of_week w e ≡ fourth_day w e = let own = fourth_early w e early in omega (arith, own) in
-      (ap year_day_of same, ap (λ f. days_in_year (pos (year_of f))) same)
-  | inr late ↦ later (fourth_day w e) (fourth_of_week w e) (let own = fourth_late w e late in omega (arith, own, late))
+-- the fourth day of a week, or that 400 years later
+fourth_later : (w e : ℕ) → w < 7 → (j : ℕ) × (fourth_of_week w e ≡ fourth_day w e + 146_097 * j)
+fourth_later w e small = elim (cases_lt (7 * week_of w e + w) 9) [
+  | inl early ↦ (0, let own = fourth_early w e early in omega (arith, own))
+  | inr late ↦ (1, let own = fourth_late w e late in omega (arith, own, late))
 ]
 
 week_places : (d len : ℕ) → 1 ≤ d → d ≤ len → (len - d) / 7 + 1 ≡ (len - 1 - (d - 1) % 7) / 7 + 1 + 1 - ((d - 1) / 7 + 1)
@@ -190,12 +182,13 @@ week_places d len low high = omega arith
 pub weeks_listed : (weeks : Ordinals) (w e : ℕ) → w < 7 → e < 3_800_000
     → is_week weeks (fourth_of_week w e) ≡ lists weeks (week_number (fourth_day w e)) (weeks_of_year (fourth_day w e))
 weeks_listed weeks w e small range =
-    let f = fourth_of_week w e in
-    let same = same_week w e small in
+    let f = fourth_day w e in
+    let later = fourth_later w e small in
     let d = year_day f in
-    year_weekday_listed weeks f (omega arith)
+    year_weekday_listed weeks (fourth_of_week w e) (omega arith)
     ∙ rw (
+      later.1,
+      year_day_again later.0 f,
+      year_size_of later.0 f,
       week_places (year_day_of f) (days_in_year (pos (year_of f))) (omega (arith, d.place, d.low)) (omega (arith, d.place, d.size, d.low, d.high)),
-      same.0,
-      same.1,
     ) refl

@@ -16,8 +16,7 @@ use Rattle.ics_rule.proofs.Counts.{count-same, count-suc, count-add, count-none,
 use Rattle.ics_rule.proofs.RankLemmas.{count_flat}
 use Rattle.ics_rule.proofs.StepLemmas.{stepped_parts, stepped_shown, step_on, none_between}
 use Rattle.ics_rule.proofs.RoundLemmas.{step_repeats}
-use Rattle.ics_rule.proofs.RunLemmas.{guard}
-use Rattle.ics_rule.proofs.Tests.{and_assoc, iff}
+use Rattle.ics_rule.proofs.Tests.{iff}
 
 -- counts of tests of which each number passes as many
 count-sum : (n : ℕ) (f g h : ℕ → Bool) → ((m : ℕ) → cond (h m) 1 0 ≡ cond (f m) 1 0 + cond (g m) 1 0) → count n h ≡ count n f + count n g
@@ -150,9 +149,8 @@ module _ {q : EffectiveRule} {first from before : ℕ} (run : IsDayRun q first f
     abbrev times : ℕ → Bool
     times k = timely ((from + j) * d + k)
 
-    one_place : (p : ℕ) → (is_stepped (from + j) q.interval (p / d) && is_open_period q first p) ≡ (on_day (p / d) && times (p % d))
-    one_place p =
-        guard (is_stepped (from + j) q.interval (p / d)) (is_open_period q first p) _ (λ e.
+    same_time : (p : ℕ) → is_stepped (from + j) q.interval (p / d) ≡ true → timely p ≡ timely ((from + j) * d + p % d)
+    same_time p e =
         let parts = stepped_parts (from + j) q.interval (p / d) e in
         let days = div-add-mod' (p / d - (from + j)) q.interval in
         let whole = div-add-mod' p d in
@@ -161,13 +159,13 @@ module _ {q : EffectiveRule} {first from before : ℕ} (run : IsDayRun q first f
         let same : p ≡ (from + j) * d + p % d + q.interval * t * d =
         (let wide = ap (λ x. x * d) day in let spread = add-mul (from + j) (q.interval * t) d in omega (arith, whole, wide, spread)) in
         let low : first ≤ (from + j) * d + p % d = (let spread = add-mul from j d in omega (arith, run.later, spread)) in
-        turn (is_stepped first q.interval p) (lets_date q (p / d)) (lets_own q.frequency q (p * seconds_of q.frequency))
-        ∙ ap (λ x. lets_date q (p / d) && timely x) same
-        ∙ ap (λ x. lets_date q (p / d) && x) (step_later ((from + j) * d + p % d) t low))
-        ∙ sym (and_assoc (is_stepped (from + j) q.interval (p / d)) (lets_date q (p / d)) _)
+        ap timely same ∙ step_later ((from + j) * d + p % d) t low
+
+    one_place : (p : ℕ) → (is_stepped (from + j) q.interval (p / d) && is_open_period q first p) ≡ (on_day (p / d) && times (p % d))
+    one_place p = in_order (is_stepped (from + j) q.interval (p / d)) (is_stepped first q.interval p) (lets_date q (p / d)) _ (same_time p)
       where
-        turn : (a b c : Bool) → (a && (b && c)) ≡ (b && (a && c))
-        turn a b c = grind arith
+        in_order : (s a b c : Bool) {t : Bool} → (s ≡ true → (a && c) ≡ t) → (s && (a && (b && c))) ≡ ((s && b) && t)
+        in_order s a b c h = grind arith
 
     placed_next : {total : ℕ} → total ≡ count (before * d) (placed q first from j)
         → total + count before on_day * count d times ≡ count (before * d) (placed q first from (j + 1))

@@ -33,8 +33,8 @@ top_of q place number h = grind arith
 pub counting_passed : {q : EffectiveRule} {start c number : ℕ} {before now : Cursor} → IsCounting q start c (before.place + 1) number before now →
     number ≤ period_in q before.place → before.place < calendar_end → IsPassedTo q start c before now
 counting_passed {q = q} {number = number} {before = before} {now = now} counting h inside = record {
-  own = own_moved now.place counting.walk.moved (let held = counting.walk.held in let place = counting.walk.moved.place in grind arith)
-      counting.walk.counted (omega (arith, counting.walk.moved.place, inside));
+  own = own_moved {n = now.place} now.place counting.walk.moved
+      (let held = counting.walk.held in let place = counting.walk.moved.place in grind arith) (omega arith) counting.walk.counted (omega (arith, counting.walk.moved.place, inside));
   moved = counting.walk.moved;
 }
 
@@ -67,7 +67,7 @@ passed_on {q = q} {start = start} {c = c} {target = target} {total = total} {bef
     (top_of q before.place target is.top)) in
     let place = ap (period_in q) to.walked.moved.place in
     subst (IsPassedTo q start c before) (sym e) (record {
-      own = own_moved after.place moved (own.0, omega (arith, same, is.top, place)) (record {
+      own = own_moved {n = after.place} after.place moved (own.0, omega (arith, same, is.top, place)) (omega arith) (record {
         step = ap (is_stepped (period_in q start) q.interval) same ∙ is.step;
         total = is.total ∙ ap (λ x. count (first_local q.frequency (monday_zero q.week_start) x) (is_chosen q start)) (sym same);
         most = to.turned.counted.most;

@@ -1,5 +1,5 @@
 -- Of the size of a period, the number of locals that a rule allows there, depends how many are chosen.
-use Rattle.std.proofs.Common.{◌≡◌, ℕ, suc, ◌+◌, ◌*◌, ◌<◌, ◌≤◌, ◌⊎◌, inl, inr, Bool, true, false, ◌&&◌, sym, ap, ◌∙◌, arith}
+use Rattle.std.proofs.Common.{◌≡◌, ℕ, suc, ◌+◌, ◌*◌, ◌<◌, ◌≤◌, ◌⊎◌, inl, inr, Bool, true, false, ◌&&◌, refl, sym, ap, ◌∙◌, arith}
 use Rattle.std.proofs.lemmas.Bool.{eq-eqb, ne_eqb}
 use Rattle.jiff_core.specs.Weekday.{monday_zero}
 use Rattle.ics_fields.specs.Ordinals.{lists_none_wide}
@@ -11,11 +11,10 @@ use Rattle.ics_rule.specs.RecurrencePeriods.{first_local, is_let_in}
 use Rattle.ics_rule.specs.Rounds.{chosen_to}
 use Rattle.ics_rule.specs.OpenPeriods.{chosen_of_size}
 use Rattle.ics_rule.proofs.Counts.{count-same, count-add, count-from, count-none}
-use Rattle.ics_rule.proofs.RankLemmas.{count_flat, placed_of, rank_listed, size_decides}
+use Rattle.ics_rule.proofs.RankLemmas.{count_flat, placed_of, size_decides}
 use Rattle.ics_rule.proofs.PeriodLemmas.{begun, begins, is_short, before_first, before_next}
-use Rattle.ics_rule.proofs.ChosenLemmas.{no_step, let_in, beside_let_in, ranked, sized}
+use Rattle.ics_rule.proofs.ChosenLemmas.{no_step, let_in, beside_let_in, placed_is}
 use Rattle.ics_rule.proofs.FlatLemmas.{is_allowed, allowed_before}
-use Rattle.ics_rule.proofs.Tests.{keep_true}
 use Rattle.ics_fields.specs.Locals.{calendar_end}
 
 -- no period is longer
@@ -70,15 +69,16 @@ module _ (q : EffectiveRule) (start x len : ℕ)
   -- and a step adds what its size decides
   module _ (step : is_stepped (period_in q start) q.interval x ≡ true) (inside : a + len ≤ calendar_end) where
     chosen_in : (b : Bool) (k : ℕ) → k < len → (is_candidate_in q start (a + k) && is_placed q start b (a + k)) ≡ placed_of q.positions b t len k
-    chosen_in true k l = keep_true (is_candidate_in q start (a + k)) ∙ let_in q start x (a + k) step (here k l)
-    chosen_in false k l =
-        let beside = λ (m : ℕ). beside_let_in q start (a + k) m step (here k l) in
-        let next : suc (a + k) ≡ a + suc k = omega arith in
-        let before = λ (n : ℕ). count-from a n (is_let_in q x) (λ m h. out m (inl h)) in
-        let place = ranked q start (a + k) (is_let_in q x) (λ m h. beside m) ∙ ap (λ y. count y (is_let_in q x)) next ∙ before (suc k) in
-        let all = sized q start (a + k) (is_let_in q x) (λ m h. beside m)
-        ∙ count_flat (a + len) calendar_end (is_let_in q x) inside (λ m h u. out m (inr h)) ∙ before len in
-        rw (let_in q start x (a + k) step (here k l), place, all) (rank_listed q.positions t k (count len t))
+    chosen_in b k l = placed_is q start (a + k) (is_let_in q x) (λ m h. beside_let_in q start (a + k) m step (here k l))
+        (let_in q start x (a + k) step (here k l)) b ∙ shifted b
+      where
+        before : (n : ℕ) → count (a + n) (is_let_in q x) ≡ count n t
+        before n = count-from a n (is_let_in q x) (λ m h. out m (inl h))
+
+        shifted : (b : Bool) → placed_of q.positions b (is_let_in q x) calendar_end (a + k) ≡ placed_of q.positions b t len k
+        shifted true = refl
+        shifted false = let all = count_flat (a + len) calendar_end (is_let_in q x) inside (λ m h u. out m (inr h)) ∙ before len in
+            rw (before k, all) refl
 
     pub period_adds : chosen_to q start (suc x) ≡ chosen_to q start x + chosen_of_size q (lists_none_wide q.positions) (count longest t)
     period_adds =

@@ -83,38 +83,29 @@ pub record IsYearOfWeeks (q : EffectiveRule) (first len fourth : ℕ) : Type 0 w
 pub week_near : (q : EffectiveRule) {first len fourth : ℕ} (k : ℕ) → IsYearOfWeeks q first len fourth → k < len → lets_week q (first + k) ≡ true
     → IsFound q.weeks fourth len k
 week_near q {first = first} {len = len} {fourth = fourth} k is inside h =
-    let start = is.start in
-    let size = is.size in
-    let place = is.place in
     let w = monday_zero q.week_start in
     let small : w < 7 = week_small q.week_start in
-    elim (cases_lt (7 * week_of w (first + k) + w) 9) [
-      | inl early ↦ inl (omega (arith, early, small))
-      | inr late ↦
-          let f = 7 * week_of w (first + k) + w - 9 in
-          elim (cases_lt f first) [
-            | inl before ↦ inl (omega (arith, before, late, small))
-            | inr begun ↦ elim (cases_lt f (first + len)) [
-              | inr past ↦ inr (inl (omega (arith, past, late, small)))
-              | inl there ↦
-                  let next = days_before_year-next (year_of first) in
-                  let year : year_of f ≡ year_of first = year_of_is f (year_of first) (omega (arith, begun, start)) (omega (arith, there, next, start, size)) in
-                  let h' = subst (λ x. lets_place q.weeks (week_number x) (weeks_of_year x) ≡ true) (fourth_late w (first + k) late) h in
-                  let listed = listed_week q is.some (f - first) year (omega (arith, begun, start)) (omega (arith, there, begun, size)) h' in
-                  let bounds = days_in_year_bounds (pos (year_of first)) in
-                  let aligned : (f - first) % 7 ≡ fourth = omega (arith, begun, place, late, small) in
-                  inr (inr (
-                    (f - first) / 7 + 1,
-                    record {
-                      low = omega arith;
-                      high = omega (arith, there, begun, size, bounds.0);
-                      listed = listed;
-                      from = omega (arith, aligned, begun, late, small);
-                      before = omega (arith, aligned, begun, late, small);
-                    },
-                  ))
-            ]
-          ]
+    elim (cases_lt (7 * week_of w (first + k) + w) (first + 9)) [
+      | inl before ↦ inl (omega (arith, before, small))
+      | inr late ↦ let f = 7 * week_of w (first + k) + w - 9 in elim (cases_lt f (first + len)) [
+        | inr past ↦ inr (inl (omega (arith, past, late, small)))
+        | inl there ↦
+            let next = days_before_year-next (year_of first) in
+            let year : year_of f ≡ year_of first = year_of_is f (year_of first) (omega (arith, late, is.start)) (omega (arith, there, next, is.start, is.size)) in
+            let h' = subst (λ x. lets_place q.weeks (week_number x) (weeks_of_year x) ≡ true) (fourth_late w (first + k) (omega (arith, late))) h in
+            let bounds = days_in_year_bounds (pos (year_of first)) in
+            let aligned : (f - first) % 7 ≡ fourth = omega (arith, late, is.place, small) in
+            inr (inr (
+              (f - first) / 7 + 1,
+              record {
+                low = omega arith;
+                high = omega (arith, there, late, is.size, bounds.0);
+                listed = listed_week q is.some (f - first) year (omega (arith, late, is.start)) (omega (arith, there, late, is.size)) h';
+                from = omega (arith, aligned, late, small);
+                before = omega (arith, aligned, late, small);
+              },
+            ))
+      ]
     ]
 
 -- how far a walk over the weeks has come

@@ -4,19 +4,18 @@ use Rattle.ics_rule.specs.OpenPeriods.{per_day}
 use Rattle.ics_rule.proofs.Counts.{count_most}
 use Rattle.ics_rule.proofs.OpenLemmas.{IsDayRun, day_some, placed, placed_none, placed_more, placed_out, placed_all}
 use Rattle.ics_rule.proofs.open_periods.open_of_days.Goals as goal
-use Rattle.ics_rule.proofs.open_periods.open_of_days.Goals.{then-days-gt0, else-days-gt0, After-steps_let_in}
+use Rattle.ics_rule.proofs.open_periods.open_of_days.Goals.{then-days-gt0, else-days-gt0, After-min-j-end, After-steps_let_in}
+
+run : (c : After-min-j-end) → IsDayRun c.args.parts.now c.args.first c.args.from c.args.before
+run c = record { fine = c.requires.fine; unit = c.requires.unit; some = c.requires.interval; later = c.requires.first; order = c.requires.order }
 
 pub loop-j-init : goal.loop-j-init
-loop-j-init c =
-    let run : IsDayRun c.args.parts.now c.args.first c.args.from c.args.before =
-    record { fine = c.requires.fine; unit = c.requires.unit; some = c.requires.interval; later = c.requires.first; order = c.requires.order } in
-    placed_none run
+loop-j-init c = placed_none (run c)
 
 -- the sum of the days so far is small
-small : (c : After-steps_let_in) → c.loop-j.total + c.days_let_in-days.result * c.steps_let_in.result ≤ 3_579_743 * 86_400
-small c =
-    let run : IsDayRun c.args.parts.now c.args.first c.args.from c.args.before =
-    record { fine = c.requires.fine; unit = c.requires.unit; some = c.requires.interval; later = c.requires.first; order = c.requires.order } in
+small : (c : After-steps_let_in) → IsDayRun c.args.parts.now c.args.first c.args.from c.args.before
+    → c.loop-j.total + c.days_let_in-days.result * c.steps_let_in.result ≤ 3_579_743 * 86_400
+small c run =
     let all = placed_more run (omega (arith, c.loop-j-test.true, c.min-j-end.ensures)) c.steps_let_in.result c.loop-j.invariant
     c.days_let_in-days.ensures.value c.seconds_of-per_day.ensures.value c.steps_let_in.ensures in
     let most = count_most (c.args.before * per_day c.args.parts.now.frequency) (placed c.args.parts.now c.args.first c.args.from (c.loop-j.j + 1)) in
@@ -24,16 +23,14 @@ small c =
     omega (arith, all, most, high)
 
 pub overflow_mul-total : goal.overflow_mul-total
-overflow_mul-total c = let sum = small c in omega (arith, sum)
+overflow_mul-total c = let sum = small c (run (goal.at.overflow_mul-total c).After-min-j-end) in omega (arith, sum)
 
 pub overflow_add-total : goal.overflow_add-total
-overflow_add-total c = let sum = small c in omega (arith, sum)
+overflow_add-total c = let sum = small c (run (goal.at.overflow_add-total c).After-min-j-end) in omega (arith, sum)
 
 pub loop-j-preserved : goal.loop-j-preserved
 loop-j-preserved c =
-    let run : IsDayRun c.args.parts.now c.args.first c.args.from c.args.before =
-    record { fine = c.requires.fine; unit = c.requires.unit; some = c.requires.interval; later = c.requires.first; order = c.requires.order } in
-    elim c.if-days-gt0.branch [
+    let run = run (goal.at.loop-j-preserved c).After-min-j-end in elim c.if-days-gt0.branch [
       | then-days-gt0 w ↦ w.total-is ∙ placed_more run (omega (arith, c.loop-j-test.true, c.min-j-end.ensures)) w.steps_let_in.result c.loop-j.invariant
           c.days_let_in-days.ensures.value c.seconds_of-per_day.ensures.value w.steps_let_in.ensures
       | else-days-gt0 w ↦ w.total-is ∙ placed_out run (omega (arith, c.loop-j-test.true, c.min-j-end.ensures)) c.loop-j.invariant
@@ -41,7 +38,5 @@ loop-j-preserved c =
     ]
 
 pub returns : goal.returns
-returns c =
-    let run : IsDayRun c.args.parts.now c.args.first c.args.from c.args.before =
-    record { fine = c.requires.fine; unit = c.requires.unit; some = c.requires.interval; later = c.requires.first; order = c.requires.order } in
-    placed_all run (omega (arith, c.loop-j-test.false, c.loop-j.auto.j-end, c.min-j-end.ensures)) c.loop-j.invariant
+returns c = placed_all (run (goal.at.returns c).After-min-j-end)
+    (omega (arith, c.loop-j-test.false, c.loop-j.auto.j-end, c.min-j-end.ensures)) c.loop-j.invariant
