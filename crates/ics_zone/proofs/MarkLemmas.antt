@@ -110,8 +110,8 @@ module _ (zone : List ObservanceSaid) (list : List Onsets) (all : AreOnsetsOfAll
         let low = found.1.1.1.0 in
         (found.0, (found.1.0, (found.1.1.0, (omega (arith, low), found.1.1.1.1)))))
     | inr here ↦ (
-        let there = observance_here zone list all k o inside at_place in
-        let of = onsets_here zone list all k o inside at_place in
+        let there = observance_here all inside at_place in
+        let of = onsets_here all inside at_place in
         let to = of.to in
         let low = here.1 in
         (k, (there.0, ((there.1, of.known (after +ℤ pos 1 +ℤ pos m) here.0), (omega (arith), omega (arith, ints, to, low))))))
@@ -123,7 +123,7 @@ module _ (zone : List ObservanceSaid) (list : List Onsets) (all : AreOnsetsOfAll
     | inl more ↦ old i s p (omega (arith, more)) h late (omega (arith, ints, early, less)) later
     | inr not_more ↦ (
         let same : i ≡ k = omega (arith, from, not_more) in
-        let of = onsets_at zone list all k o inside at_place p (subst (λ n. slice_get zone n ≡ Some p) same h.0) in
+        let of = onsets_at all inside at_place p (subst (λ n. slice_get zone n ≡ Some p) same h.0) in
         let to = of.to in
         let m = natural (s -ℤ (after +ℤ pos 1)) in
         let is = natural-is (s -ℤ (after +ℤ pos 1)) (omega (arith, ints, late)) in

@@ -52,7 +52,7 @@ pub record IsLastOnset (k : ℕ) (o : Onsets) (t : ℤ) (e : Latest) : Type 0 wh
   pub offset : e.offset ≡ o.offset_to
   pub last : IsLast (Has o) t e.at
 
-module _ (zone : List ObservanceSaid) (list : List Onsets) (all : AreOnsetsOfAll zone list) (k : ℕ) (o : Onsets) (inside : k < length list)
+module _ {zone : List ObservanceSaid} {list : List Onsets} {k : ℕ} {o : Onsets} (all : AreOnsetsOfAll zone list) (inside : k < length list)
     (at_place : o ≡ get_or list k o) where
   -- what is there is kept of the observance there
   pub onsets_at : (p : ObservanceSaid) → slice_get zone k ≡ Some p → AreOnsetsOf p o
@@ -65,13 +65,11 @@ module _ (zone : List ObservanceSaid) (list : List Onsets) (all : AreOnsetsOfAll
   onsets_here = onsets_at observance_here.0 observance_here.1
 
   -- an onset of the observances up to here is of one before, or of this one
-  module _ {A : Type 0} (i : ℕ) (s : ℤ) (p : ObservanceSaid) (h : IsOnset zone i s p) (early : i < k + 1) (before : i < k → A) (now : AreOnsetsOf p o → Has o s
-      → i ≡ k → A) where
-    split : A
-    split = elim (below_or_at i k (omega arith)) [
-      | inl less ↦ before less
-      | inr same ↦ (let of = onsets_at p (rw same at h.0) in now of (of.complete s h.1) same)
-    ]
+  split : (i : ℕ) (s : ℤ) (p : ObservanceSaid) → IsOnset zone i s p → i < k + 1 → (i < k) ⊎ ((i ≡ k) × (Has o s × (o.offset_to ≡ p.offset_to)))
+  split i s p h early = elim (below_or_at i k (omega arith)) [
+    | inl less ↦ inl less
+    | inr same ↦ inr (let of = onsets_at p (rw same at h.0) in (same, (of.complete s h.1, of.to)))
+  ]
 
   module _ (t : ℤ) where
     -- the greatest onset stays so where none of this observance is later
@@ -82,8 +80,7 @@ module _ (zone : List ObservanceSaid) (list : List Onsets) (all : AreOnsetsOfAll
       offset = before.offset;
       before = let n = before.before in omega (arith, n);
       not_after = before.not_after;
-      greatest = λ i s p l h early. split i s p h l (λ less. before.greatest i s p less h early)
-          (λ of contains same. rw same (not_later s contains early));
+      greatest = λ i s p l h early. let at = split i s p h l in let low = before.greatest i s p in grind (arith, ints);
     }
 
     this_one : {e : Latest} → IsLastOnset k o t e
@@ -97,13 +94,11 @@ module _ (zone : List ObservanceSaid) (list : List Onsets) (all : AreOnsetsOfAll
           offset = its.offset ∙ onsets_here.to;
           before = omega (arith, place);
           not_after = last.not_after;
-          greatest = λ i s p l h early. split i s p h l
-              (λ less. not_later_by s e.at i e.place (none i s p less h early) (omega (arith, place, less)))
-              (λ of contains same. not_later_by s e.at i e.place (last.last s contains early) (omega (arith, place, same)));
+          greatest = λ i s p l h early. let at = split i s p h l in let low = none i s p in let here = last.last s in grind (arith, ints, less_or_not_z);
         }
 
     pub latest_none : (old : Option Latest) → IsLatestOf zone t k old → ((u : ℤ) → Has o u → t <ℤ u) → IsLatestOf zone t (k + 1) old
-    latest_none None before none = λ i s p l h. split i s p h l (λ less. before i s p less h) (λ of contains same. none s contains)
+    latest_none None before none = λ i s p l h. let at = split i s p h l in let low = before i s p in grind (arith, ints)
     latest_none (Some f) before none = wider before (λ s contains early. absurd (let late = none s contains in omega (arith, ints, late, early)))
 
     pub latest_some : {e new : Latest} (old : Option Latest) → IsLatestOf zone t k old
@@ -124,8 +119,7 @@ module _ (zone : List ObservanceSaid) (list : List Onsets) (all : AreOnsetsOfAll
 
       pub within_none : (old : Option Latest) → IsBegun old → IsLatestWithin zone after t k old
           → ((u : ℤ) → Has o u → u ≤ℤ t → u ≤ℤ from) → IsLatestWithin zone after t (k + 1) old
-      within_none None begun before none = λ i s p l h early. split i s p h l (λ less. before i s p less h early)
-          (λ of contains same. let out = none s contains early in omega (arith, ints, out, begun))
+      within_none None begun before none = λ i s p l h early. let at = split i s p h l in let low = before i s p in grind (arith, ints)
       within_none (Some f) begun before none =
           (wider before.0 (λ s contains early. inl (let out = none s contains early in let is = begun before.1 in omega (arith, ints, out, is))), before.1)
 
@@ -141,22 +135,17 @@ module _ (zone : List ObservanceSaid) (list : List Onsets) (all : AreOnsetsOfAll
 
   pub between_more : (after next new : ℤ) → new ≤ℤ next → ((t : ℤ) → Has o t → after <ℤ t → new ≤ℤ t) → NoneBetweenTo zone k after next
       → NoneBetweenTo zone (k + 1) after new
-  between_more after next new less first before i s p l h late = split i s p h l
-      (λ low. let none = before i s p low h late in omega (arith, ints, none, less))
-      (λ of contains same. first s contains late)
+  between_more after next new less first before i s p l h late = let at = split i s p h l in let none = before i s p in grind (arith, ints)
 
   -- the onsets of one more are less than another
   module _ (offset t at : ℤ) (place : ℕ) (before : AreLessTo zone k offset t at place) where
     pub less_other : (o.offset_to ≡ offset → ⊥) → AreLessTo zone (k + 1) offset t at place
-    less_other other i s p l h is early = split i s p h l
-        (λ low. before i s p low h is early)
-        (λ of contains same. absurd (other (of.to ∙ is)))
+    less_other other i s p l h is early = let here = split i s p h l in let low = before i s p in grind (arith, ints)
 
     pub less_more : (at_once : Bool) → (at_once ≡ false → k < place)
         → ((s : ℤ) → Has o s → s ≤ℤ t → (s <ℤ at) ⊎ ((s ≡ at) × (at_once ≡ false))) → AreLessTo zone (k + 1) offset t at place
-    less_more at_once lower less i s p l h is early = split i s p h l
-        (λ low. before i s p low h is early)
-        (λ of contains same. let small = less s contains early in grind (arith, ints))
+    less_more at_once lower less i s p l h is early =
+        let here = split i s p h l in let low = before i s p in let small = less s in grind (arith, ints)
 
   -- where its last onset is greater than all those of the observances with an offset, it overrides them
   pub overridden_by : {t at : ℤ} (offset : ℤ) (count : ℕ) → length list ≤ count → IsLast (Has o) t at → AreLessTo zone count offset t at k
@@ -179,9 +168,7 @@ module _ (zone : List ObservanceSaid) (list : List Onsets) (all : AreOnsetsOfAll
       in_bound = omega arith;
       observance = observance_here.0;
       onset = (observance_here.1, onsets_here.known at is);
-      least = λ i s p l h. split i s p h l
-          (λ early. inl (let low = before.least i s p early h in grind (arith, ints)))
-          (λ of contains same. not_later_by at s k i (least s contains) (omega (arith, same)));
+      least = λ i s p l h. let here = split i s p h l in let low = before.least i s p in let high = least s in grind (arith, ints, less_or_not_z);
       is = from ∙ onsets_here.from;
     }
 
@@ -191,23 +178,19 @@ module _ (zone : List ObservanceSaid) (list : List Onsets) (all : AreOnsetsOfAll
       in_bound = let n = before.in_bound in omega (arith, n);
       observance = before.observance;
       onset = before.onset;
-      least = λ i s p l h. split i s p h l (λ early. before.least i s p early h)
-          (λ of contains same. not_later_by first s before.place i (let low = least s contains in omega (arith, ints, low, more))
-          (let n = before.in_bound in omega (arith, n, same)));
       is = before.is;
+      least = λ i s p l h. let here = split i s p h l in let low = before.least i s p in let high = least s in let n = before.in_bound in
+          grind (arith, ints, less_or_not_z);
     }
 
   -- the next onset of this observance that shows a later local
   module _ (local after from next : ℤ) (past : from ≡ int_max after (local -ℤ o.offset_to)) (before : IsNextPastTo zone k local after next) where
     pub past_now : (new : ℤ) → new ≤ℤ next → ((t : ℤ) → Has o t → from <ℤ t → new ≤ℤ t) → IsNextPastTo zone (k + 1) local after new
-    past_now new less first i s p l h late early = split i s p h l
-        (λ low. before i s p low h late (omega (arith, ints, early, less)))
-        (λ of contains same. let to = of.to in let n = first s contains in grind (arith, ints, clamps, less_or_not_z))
+    past_now new less first i s p l h late early =
+        let here = split i s p h l in let low = before i s p in grind (arith, ints, clamps, less_or_not_z)
 
     pub past_before : after <ℤ next → next ≤ℤ from → IsNextPastTo zone (k + 1) local after next
-    past_before more none i s p l h late early = split i s p h l
-        (λ low. before i s p low h late early)
-        (λ of contains same. let to = of.to in omega (arith, ints, clamps, past, none, early, more, to))
+    past_before more none i s p l h late early = let here = split i s p h l in let low = before i s p in grind (arith, ints, clamps)
 
 -- no observance is before the first
 pub first_of : {zone : List ObservanceSaid} {list : List Onsets} {o : Onsets} {at offset : ℤ} → AreOnsetsOfAll zone list → 0 < length list
@@ -215,8 +198,8 @@ pub first_of : {zone : List ObservanceSaid} {list : List Onsets} {o : Onsets} {a
 first_of {zone = zone} {list = list} {o = o} {at = at} all inside at_place is from = record {
   place = 0;
   in_bound = omega arith;
-  observance = (observance_here zone list all 0 o inside at_place).0;
-  onset = ((observance_here zone list all 0 o inside at_place).1, (onsets_here zone list all 0 o inside at_place).known at is);
+  observance = (observance_here all inside at_place).0;
+  onset = ((observance_here all inside at_place).1, (onsets_here all inside at_place).known at is);
   least = λ i s p l h. absurd (omega (arith, l));
-  is = from ∙ (onsets_here zone list all 0 o inside at_place).from;
+  is = from ∙ (onsets_here all inside at_place).from;
 }

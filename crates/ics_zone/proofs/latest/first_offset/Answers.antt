@@ -10,7 +10,7 @@ loop-place-init c = λ zone all.
 
 pub loop-place-preserved-then-first-at : goal.loop-place-preserved-then-first-at
 loop-place-preserved-then-first-at c = λ zone all.
-    first_before zone c.args.onsets.now all c.loop-place.place c.index-onsets-place.result c.loop-place-test.true c.index-onsets-place.is
+    first_before all c.loop-place-test.true c.index-onsets-place.is
     (to_z w64 c.loop-place.first-bits) c.first-at.result c.first-at.ensures.is c.first-at.ensures.first (to_z w32 c.loop-place.offset-bits)
     (c.loop-place.invariant zone all)
     (omega (arith, ints, c.if-first-at.true, to_z-of_z w64 c.first-at.result (search rules)))
@@ -19,7 +19,7 @@ pub loop-place-preserved : goal.loop-place-preserved
 loop-place-preserved c = λ zone all.
     let small : SFits w64 c.first-at.result = search rules in
     rw (to_z-of_z w64 c.first-at.result small)
-    (first_now zone c.args.onsets.now all c.loop-place.place c.index-onsets-place.result c.loop-place-test.true c.index-onsets-place.is
+    (first_now all c.loop-place-test.true c.index-onsets-place.is
     (to_z w64 c.loop-place.first-bits) c.first-at.result c.first-at.ensures.is c.first-at.ensures.first (to_z w32 c.loop-place.offset-bits) _
     (c.loop-place.invariant zone all)
     (omega (arith, ints, c.if-first-at.false, to_z-of_z w64 c.first-at.result small)) (to_z-of_z w32 c.index-onsets-place.result.offset_from (search rules)))

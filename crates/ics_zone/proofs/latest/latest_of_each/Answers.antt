@@ -5,14 +5,14 @@ use Rattle.ics_zone.proofs.latest.latest_of_each.Goals as goal
 
 pub loop-place-preserved-in_default : goal.loop-place-preserved-in_default
 loop-place-preserved-in_default c = λ zone all.
-    latest_none zone c.args.onsets.now all c.loop-place.place c.index-onsets-place.result c.loop-place-test.true c.index-onsets-place.is
+    latest_none all c.loop-place-test.true c.index-onsets-place.is
     (to_z w64 (of_z w64 c.args.moment))
     c.loop-place.latest (c.loop-place.invariant zone all) (search rules)
 
 pub loop-place-preserved : goal.loop-place-preserved
 loop-place-preserved c = λ zone all.
     let offset : SFits w32 c.index-onsets-place.result.offset_to = search rules in
-    latest_some zone c.args.onsets.now all c.loop-place.place c.index-onsets-place.result c.loop-place-test.true c.index-onsets-place.is
+    latest_some all c.loop-place-test.true c.index-onsets-place.is
     (to_z w64 (of_z w64 c.args.moment)) c.loop-place.latest (c.loop-place.invariant zone all) c.later.ensures (record {
       place = refl;
       offset = to_z-of_z w32 c.index-onsets-place.result.offset_to offset;

@@ -5,7 +5,7 @@ use Rattle.ics_zone.proofs.latest.latest_within.Goals as goal
 
 pub loop-place-preserved-in_default : goal.loop-place-preserved-in_default
 loop-place-preserved-in_default c = λ zone all.
-    within_none zone c.args.onsets.now all c.loop-place.place c.index-onsets-place.result c.loop-place-test.true c.index-onsets-place.is
+    within_none all c.loop-place-test.true c.index-onsets-place.is
     (to_z w64 (of_z w64 c.args.moment)) (to_z w64 (of_z w64 c.args.after)) (to_z w64 (of_z w64 c.begun-from.result))
     c.loop-place.latest (search rules) (c.loop-place.invariant zone all) (search rules)
 
@@ -13,7 +13,7 @@ pub loop-place-preserved : goal.loop-place-preserved
 loop-place-preserved c = λ zone all.
     let at : SFits w64 c.in-Some.at = search rules in
     let offset : SFits w32 c.index-onsets-place.result.offset_to = search rules in
-    within_some zone c.args.onsets.now all c.loop-place.place c.index-onsets-place.result c.loop-place-test.true c.index-onsets-place.is
+    within_some all c.loop-place-test.true c.index-onsets-place.is
     (to_z w64 (of_z w64 c.args.moment)) (to_z w64 (of_z w64 c.args.after)) (to_z w64 (of_z w64 c.begun-from.result))
     c.loop-place.latest (search rules) (c.loop-place.invariant zone all) c.later.ensures (record {
       place = refl;

@@ -14,7 +14,7 @@ loop-one-preserved c =
     rw (to_z-of_z w64 c.next-next.result (search rules), to_z-of_z w64 c.args.after fits) (record {
       later = after;
       in_bound = omega (arith, ints, bound, c.loop-one.invariant.in_bound);
-      none = λ zone all. between_more zone c.args.onsets.now all c.loop-one.one-index c.one-item.result c.loop-one-test.true c.one-item.is
+      none = λ zone all. between_more all c.loop-one-test.true c.one-item.is
           c.args.after (to_z w64 c.loop-one.next-bits) c.next-next.result bound first (none zone all);
     })
 

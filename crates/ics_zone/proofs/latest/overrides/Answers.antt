@@ -15,7 +15,7 @@ loop-other-preserved-then-one-offset c =
     let other : c.index-onsets-other.result.offset_to ≢ c.args.offset = search rules in
     let before = simp to_z-of_z at c.loop-other.invariant in
     rw (to_z-of_z w32 c.args.offset offset, to_z-of_z w64 c.args.moment moment, to_z-of_z w64 c.in-Some.at at) (λ zone all.
-    less_other zone c.args.onsets.now all c.loop-other.other c.index-onsets-other.result c.loop-other-test.true c.index-onsets-other.is
+    less_other all c.loop-other-test.true c.index-onsets-other.is
     c.args.offset c.args.moment c.in-Some.at c.args.place (before zone all) other)
 
 pub loop-other-preserved : goal.loop-other-preserved
@@ -26,7 +26,7 @@ loop-other-preserved c =
     let before = simp to_z-of_z at c.loop-other.invariant in
     let less = simp to_z-of_z at (c.has_not_less.ensures c.if-has_not_less.false) in
     rw (to_z-of_z w32 c.args.offset offset, to_z-of_z w64 c.args.moment moment, to_z-of_z w64 c.in-Some.at at) (λ zone all.
-    less_more zone c.args.onsets.now all c.loop-other.other c.index-onsets-other.result c.loop-other-test.true c.index-onsets-other.is
+    less_more all c.loop-other-test.true c.index-onsets-other.is
     c.args.offset c.args.moment c.in-Some.at c.args.place (before zone all) (nat_le c.args.place c.loop-other.other)
     (λ e. not_le c.args.place c.loop-other.other e) less)
 
@@ -39,5 +39,5 @@ returns c =
     let before = simp to_z-of_z at c.loop-other.invariant in
     let last = simp to_z-of_z at c.in-Some.ensures in
     λ e zone all.
-    overridden_by zone c.args.onsets.now all c.args.place c.index-onsets-place.result inside c.index-onsets-place.is
+    overridden_by all inside c.index-onsets-place.is
     c.args.offset c.loop-other.other c.loop-other-test.false last (before zone all)
