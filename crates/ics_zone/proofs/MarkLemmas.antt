@@ -100,7 +100,7 @@ IsClearFrom zone place local after next =
     (i : ℕ) (s : ℤ) (p : ObservanceSaid) → place ≤ i → IsOnset zone i s p → after <ℤ s → s <ℤ next → local <ℤ (s +ℤ p.offset_to)
     → (j : ℕ) × ((q : ObservanceSaid) × (IsOnset zone j s q × ((i < j) × ((s +ℤ q.offset_to) ≤ℤ local))))
 
-module _ (zone : List ObservanceSaid) (list : List Onsets) (all : AreOnsetsOfAll zone list) (k : ℕ) (o : Onsets) (inside : k < length list)
+module _ {zone : List ObservanceSaid} {list : List Onsets} {k : ℕ} {o : Onsets} (all : AreOnsetsOfAll zone list) (inside : k < length list)
     (at_place : o ≡ get_or list k o) (local after : ℤ) (before now : List ℕ) (over : AreOverrides zone (k + 1) local (after +ℤ pos 1) before)
     (marks : AreMarks o local (after +ℤ pos 1) before now) where
   overrides_more : AreOverrides zone k local (after +ℤ pos 1) now

@@ -133,12 +133,12 @@ module _ {zone : List ObservanceSaid} {list : List Onsets} {k : ℕ} {o : Onsets
           )
       within_some (Some f) begun before is its in_window = (latest_some (Some f) before.0 is its, let late = before.1 in grind (arith, ints))
 
-  pub between_more : (after next new : ℤ) → new ≤ℤ next → ((t : ℤ) → Has o t → after <ℤ t → new ≤ℤ t) → NoneBetweenTo zone k after next
+  pub between_more : {after next new : ℤ} → new ≤ℤ next → ((t : ℤ) → Has o t → after <ℤ t → new ≤ℤ t) → NoneBetweenTo zone k after next
       → NoneBetweenTo zone (k + 1) after new
-  between_more after next new less first before i s p l h late = let at = split i s p h l in let none = before i s p in grind (arith, ints)
+  between_more less first before i s p l h late = let at = split i s p h l in let none = before i s p in grind (arith, ints)
 
   -- the onsets of one more are less than another
-  module _ (offset t at : ℤ) (place : ℕ) (before : AreLessTo zone k offset t at place) where
+  module _ {offset t at : ℤ} {place : ℕ} (before : AreLessTo zone k offset t at place) where
     pub less_other : (o.offset_to ≡ offset → ⊥) → AreLessTo zone (k + 1) offset t at place
     less_other other i s p l h is early = let here = split i s p h l in let low = before i s p in grind (arith, ints)
 
@@ -148,9 +148,9 @@ module _ {zone : List ObservanceSaid} {list : List Onsets} {k : ℕ} {o : Onsets
         let here = split i s p h l in let low = before i s p in let small = less s in grind (arith, ints)
 
   -- where its last onset is greater than all those of the observances with an offset, it overrides them
-  pub overridden_by : {t at : ℤ} (offset : ℤ) (count : ℕ) → length list ≤ count → IsLast (Has o) t at → AreLessTo zone count offset t at k
+  pub overridden_by : {t at offset : ℤ} {count : ℕ} → length list ≤ count → IsLast (Has o) t at → AreLessTo zone count offset t at k
       → IsOverridden zone t offset
-  overridden_by {at = at} offset count past last less = record {
+  overridden_by {at = at} past last less = record {
     place = k;
     at = at;
     observance = observance_here.0;
@@ -161,9 +161,9 @@ module _ {zone : List ObservanceSaid} {list : List Onsets} {k : ℕ} {o : Onsets
   }
 
   -- the first onset of this observance is the least of all, or it is not
-  module _ (first at : ℤ) (is : Has o at) (least : (t : ℤ) → Has o t → at ≤ℤ t) where
-    pub first_now : (offset new : ℤ) → IsFirst zone k first offset → at <ℤ first → new ≡ o.offset_from → IsFirst zone (k + 1) at new
-    first_now offset new before less from = record {
+  module _ {first at offset : ℤ} (is : Has o at) (least : (t : ℤ) → Has o t → at ≤ℤ t) (before : IsFirst zone k first offset) where
+    pub first_now : {new : ℤ} → at <ℤ first → new ≡ o.offset_from → IsFirst zone (k + 1) at new
+    first_now less from = record {
       place = k;
       in_bound = omega arith;
       observance = observance_here.0;
@@ -172,8 +172,8 @@ module _ {zone : List ObservanceSaid} {list : List Onsets} {k : ℕ} {o : Onsets
       is = from ∙ onsets_here.from;
     }
 
-    pub first_before : (offset : ℤ) → IsFirst zone k first offset → first ≤ℤ at → IsFirst zone (k + 1) first offset
-    first_before offset before more = record {
+    pub first_before : first ≤ℤ at → IsFirst zone (k + 1) first offset
+    first_before more = record {
       place = before.place;
       in_bound = let n = before.in_bound in omega (arith, n);
       observance = before.observance;
@@ -184,9 +184,9 @@ module _ {zone : List ObservanceSaid} {list : List Onsets} {k : ℕ} {o : Onsets
     }
 
   -- the next onset of this observance that shows a later local
-  module _ (local after from next : ℤ) (past : from ≡ int_max after (local -ℤ o.offset_to)) (before : IsNextPastTo zone k local after next) where
-    pub past_now : (new : ℤ) → new ≤ℤ next → ((t : ℤ) → Has o t → from <ℤ t → new ≤ℤ t) → IsNextPastTo zone (k + 1) local after new
-    past_now new less first i s p l h late early =
+  module _ {local after from next : ℤ} (past : from ≡ int_max after (local -ℤ o.offset_to)) (before : IsNextPastTo zone k local after next) where
+    pub past_now : {new : ℤ} → new ≤ℤ next → ((t : ℤ) → Has o t → from <ℤ t → new ≤ℤ t) → IsNextPastTo zone (k + 1) local after new
+    past_now less first i s p l h late early =
         let here = split i s p h l in let low = before i s p in grind (arith, ints, clamps, less_or_not_z)
 
     pub past_before : after <ℤ next → next ≤ℤ from → IsNextPastTo zone (k + 1) local after next

@@ -1,4 +1,4 @@
-use Rattle.std.proofs.Common.{rules, arith, SFits, w32, w64, to_z, refl}
+use Rattle.std.proofs.Common.{rules, arith, SFits, w32, w64, refl}
 use Rattle.std.proofs.lemmas.Int.{ints, to_z-of_z}
 use Rattle.ics_zone.proofs.ZoneSteps.{first_of, first_now, first_before}
 use Rattle.ics_zone.proofs.latest.first_offset.Goals as goal
@@ -10,16 +10,12 @@ loop-place-init c = λ zone all.
 
 pub loop-place-preserved-then-first-at : goal.loop-place-preserved-then-first-at
 loop-place-preserved-then-first-at c = λ zone all.
-    first_before all c.loop-place-test.true c.index-onsets-place.is
-    (to_z w64 c.loop-place.first-bits) c.first-at.result c.first-at.ensures.is c.first-at.ensures.first (to_z w32 c.loop-place.offset-bits)
-    (c.loop-place.invariant zone all)
+    first_before all c.loop-place-test.true c.index-onsets-place.is c.first-at.ensures.is c.first-at.ensures.first (c.loop-place.invariant zone all)
     (omega (arith, ints, c.if-first-at.true, to_z-of_z w64 c.first-at.result (search rules)))
 
 pub loop-place-preserved : goal.loop-place-preserved
 loop-place-preserved c = λ zone all.
     let small : SFits w64 c.first-at.result = search rules in
     rw (to_z-of_z w64 c.first-at.result small)
-    (first_now all c.loop-place-test.true c.index-onsets-place.is
-    (to_z w64 c.loop-place.first-bits) c.first-at.result c.first-at.ensures.is c.first-at.ensures.first (to_z w32 c.loop-place.offset-bits) _
-    (c.loop-place.invariant zone all)
-    (omega (arith, ints, c.if-first-at.false, to_z-of_z w64 c.first-at.result small)) (to_z-of_z w32 c.index-onsets-place.result.offset_from (search rules)))
+    (first_now all c.loop-place-test.true c.index-onsets-place.is c.first-at.ensures.is c.first-at.ensures.first (c.loop-place.invariant zone all)
+    (omega (arith, ints, c.if-first-at.false)) (to_z-of_z w32 c.index-onsets-place.result.offset_from (search rules)))

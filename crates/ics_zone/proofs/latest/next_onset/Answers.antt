@@ -1,4 +1,4 @@
-use Rattle.std.proofs.Common.{rules, arith, SFits, w64, to_z}
+use Rattle.std.proofs.Common.{rules, arith, SFits, w64}
 use Rattle.std.proofs.lemmas.Int.{ints, to_z-of_z}
 use Rattle.std.proofs.lemmas.Option.{slice_get_within}
 use Rattle.ics_zone.proofs.ZoneSteps.{between_more}
@@ -7,15 +7,12 @@ use Rattle.ics_zone.proofs.latest.next_onset.Goals as goal
 pub loop-one-preserved : goal.loop-one-preserved
 loop-one-preserved c =
     let fits : SFits w64 c.args.after = c.ranges.after in
-    let after = simp to_z-of_z at c.next-next.ensures.after in
-    let bound = c.next-next.ensures.bound in
     let first = simp to_z-of_z at c.next-next.ensures.next in
     let none = simp to_z-of_z at c.loop-one.invariant.none in
     rw (to_z-of_z w64 c.next-next.result (search rules), to_z-of_z w64 c.args.after fits) (record {
-      later = after;
-      in_bound = omega (arith, ints, bound, c.loop-one.invariant.in_bound);
-      none = λ zone all. between_more all c.loop-one-test.true c.one-item.is
-          c.args.after (to_z w64 c.loop-one.next-bits) c.next-next.result bound first (none zone all);
+      later = simp to_z-of_z at c.next-next.ensures.after;
+      in_bound = omega (arith, ints, c.next-next.ensures.bound, c.loop-one.invariant.in_bound);
+      none = λ zone all. between_more all c.loop-one-test.true c.one-item.is c.next-next.ensures.bound first (none zone all);
     })
 
 pub returns-clause-next : goal.returns-clause-next

@@ -15,9 +15,7 @@ loop-place-preserved-then-next-from c =
     record {
       later = c.loop-place.invariant.later;
       in_bound = c.loop-place.invariant.in_bound;
-      none = λ zone all. past_before all c.loop-place-test.true c.index-onsets-place.is
-          (to_z w64 (of_z w64 c.args.seconds)) (to_z w64 (of_z w64 c.args.after)) c.max-from.result (to_z w64 c.loop-place.next-bits) from
-          (c.loop-place.invariant.none zone all)
+      none = λ zone all. past_before all c.loop-place-test.true c.index-onsets-place.is from (c.loop-place.invariant.none zone all)
           c.loop-place.invariant.later (omega (arith, ints, c.if-next-from.true, to_z-of_z w64 c.max-from.result (search rules)));
     }
 
@@ -37,10 +35,8 @@ loop-place-preserved c =
     rw (to_z-of_z w64 c.next-next.result (search rules)) (record {
       later = omega (arith, ints, clamps, after, from);
       in_bound = omega (arith, ints, bound, c.loop-place.invariant.in_bound);
-      none = λ zone all. past_now all c.loop-place-test.true c.index-onsets-place.is
-          (to_z w64 (of_z w64 c.args.seconds)) (to_z w64 (of_z w64 c.args.after)) c.max-from.result (to_z w64 c.loop-place.next-bits) from
-          (c.loop-place.invariant.none zone all)
-          c.next-next.result bound (rw (to_z-of_z w64 c.max-from.result small) at c.next-next.ensures.next);
+      none = λ zone all. past_now all c.loop-place-test.true c.index-onsets-place.is from (c.loop-place.invariant.none zone all) bound
+          (rw (to_z-of_z w64 c.max-from.result small) at c.next-next.ensures.next);
     })
 
 pub returns-clause-next : goal.returns-clause-next

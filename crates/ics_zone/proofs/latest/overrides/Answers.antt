@@ -15,8 +15,7 @@ loop-other-preserved-then-one-offset c =
     let other : c.index-onsets-other.result.offset_to ≢ c.args.offset = search rules in
     let before = simp to_z-of_z at c.loop-other.invariant in
     rw (to_z-of_z w32 c.args.offset offset, to_z-of_z w64 c.args.moment moment, to_z-of_z w64 c.in-Some.at at) (λ zone all.
-    less_other all c.loop-other-test.true c.index-onsets-other.is
-    c.args.offset c.args.moment c.in-Some.at c.args.place (before zone all) other)
+    less_other all c.loop-other-test.true c.index-onsets-other.is (before zone all) other)
 
 pub loop-other-preserved : goal.loop-other-preserved
 loop-other-preserved c =
@@ -26,8 +25,7 @@ loop-other-preserved c =
     let before = simp to_z-of_z at c.loop-other.invariant in
     let less = simp to_z-of_z at (c.has_not_less.ensures c.if-has_not_less.false) in
     rw (to_z-of_z w32 c.args.offset offset, to_z-of_z w64 c.args.moment moment, to_z-of_z w64 c.in-Some.at at) (λ zone all.
-    less_more all c.loop-other-test.true c.index-onsets-other.is
-    c.args.offset c.args.moment c.in-Some.at c.args.place (before zone all) (nat_le c.args.place c.loop-other.other)
+    less_more all c.loop-other-test.true c.index-onsets-other.is (before zone all) (nat_le c.args.place c.loop-other.other)
     (λ e. not_le c.args.place c.loop-other.other e) less)
 
 pub returns : goal.returns
@@ -38,6 +36,4 @@ returns c =
     let inside : c.args.place < length c.args.onsets.now = search rules in
     let before = simp to_z-of_z at c.loop-other.invariant in
     let last = simp to_z-of_z at c.in-Some.ensures in
-    λ e zone all.
-    overridden_by all inside c.index-onsets-place.is
-    c.args.offset c.loop-other.other c.loop-other-test.false last (before zone all)
+    λ e zone all. overridden_by all inside c.index-onsets-place.is c.loop-other-test.false last (before zone all)
