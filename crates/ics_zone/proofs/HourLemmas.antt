@@ -1,5 +1,5 @@
 -- What two hours tell of the onsets of a rule.
-use Rattle.std.proofs.Common.{◌≡◌, ℕ, ◌+◌, ◌-◌, ◌*◌, ◌/◌, ◌%◌, ◌<◌, ◌&&◌, nat_lt, inl, inr, refl, true, false, sym, subst, ap, ◌∙◌, arith}
+use Rattle.std.proofs.Common.{◌≡◌, ℕ, ◌+◌, ◌-◌, ◌*◌, ◌/◌, ◌%◌, ◌<◌, ◌&&◌, inl, inr, refl, true, false, sym, subst, ap, ◌∙◌, arith}
 use Rattle.std.proofs.Common.{Some, List, length, set, ℤ, pos, ◌+ℤ◌, ◌-ℤ◌, ◌<ℤ◌, ◌≤ℤ◌, if◌then◌else◌, int_lt}
 use Rattle.std.proofs.lemmas.Bool.{cases_lt, cases_eq, eq-eqb, ne_eqb, and_parts, and_from}
 use Rattle.std.proofs.lemmas.Int.{ints}
@@ -17,7 +17,7 @@ use Rattle.ics_zone.specs.Hours.{keeps_time, keeps, AreHoursOf, IsToldAt, IsTold
 use Rattle.ics_zone.specs.Marks.{is_marked, IsMarked}
 use Rattle.ics_zone.proofs.Cases.{int_lt_true, true_int_lt}
 use Rattle.ics_zone.proofs.KeptLemmas.{to_kept, from_kept}
-use Rattle.ics_zone.proofs.MinuteLemmas.{marked-set_same, marked-set_other}
+use Rattle.ics_zone.proofs.MinuteLemmas.{IsFront, front_is, marked-set_same, marked-set_other}
 use Rattle.ics_zone.proofs.OnsetLemmas.{natural-is}
 
 -- an hour and the next
@@ -55,32 +55,17 @@ pub keeps_nothing : (hours : Hours) → ((n : ℕ) → keeps_time hours.here n �
     → (n : ℕ) → keeps hours n ≡ false
 keeps_nothing hours here next n = grind (arith, ints)
 
--- a part of the word of a minute: the seconds that are kept of the first `size`, which are those before a count
-pub record IsFrontOf (hours : Hours) (local minute : ℕ) (count : ℤ) (size word part : ℕ) : Type 0 where
-  pub is_word : (n : ℕ) → n < 60 → contains word n ≡ keeps hours (local + minute * 60 + n)
-  pub is_size : (n : ℕ) → n < 60 → nat_lt n size ≡ int_lt (pos (minute * 60 + n)) count
-  pub is_part : (n : ℕ) → contains part n ≡ (nat_lt n size && contains word n)
-
 -- the words of an hour, with one minute more
-pub words_more : {hours : Hours} {local minute : ℕ} {count : ℤ} {size word part : ℕ} (marks : List ℕ) → minute < length marks
-    → IsFrontOf hours local minute count size word part
+pub words_more : {minute : ℕ} {count : ℤ} {size word part : ℕ} (hours : Hours) (local : ℕ) (marks : List ℕ) → minute < length marks
+    → IsFront minute count size word part → ((n : ℕ) → n < 60 → contains word n ≡ keeps hours (local + minute * 60 + n))
     → ((k : ℕ) → k < minute * 60 → is_marked marks k ≡ (int_lt (pos k) count && keeps hours (local + k))) → (k : ℕ) → k < (minute + 1) * 60
     → is_marked (set marks minute part) k ≡ (int_lt (pos k) count && keeps hours (local + k))
-words_more {hours = hours} {local = local} {minute = minute} {count = count} {word = word} {part = part} marks inside front old k early =
-    elim (cases_eq (k / 60) minute) [
-      | inl e ↦ (
-          let here : minute * 60 + k % 60 ≡ k = omega (arith, e) in
-          let there : local + minute * 60 + k % 60 ≡ local + k = omega (arith, e) in
-          rw (
-            marked-set_same marks minute part k inside e,
-            front.is_part (k % 60),
-            front.is_size (k % 60) (omega arith),
-            front.is_word (k % 60) (omega arith),
-            there,
-            here,
-          ) refl)
-      | inr ne ↦ marked-set_other marks minute part k ne ∙ old k (omega (arith, ne, early))
-    ]
+words_more {minute = minute} {part = part} hours local marks inside front is_word old k early = elim (cases_eq (k / 60) minute) [
+  | inl e ↦ (
+      let there : local + minute * 60 + k % 60 ≡ local + k = omega (arith, e) in
+      rw (marked-set_same marks minute part k inside e, front_is front k e, is_word (k % 60) (omega arith), there) refl)
+  | inr ne ↦ marked-set_other marks minute part k ne ∙ old k (omega (arith, ne, early))
+]
 
 -- two hours tell of each instant of an hour whether the rule has an onset there
 pub told_by : {s : Onsets} {r : Recurrence} {hours : Hours} (from : ℤ) (local : ℕ) → s.rule ≡ Some r → from ≡ instant_by s.offset_from local

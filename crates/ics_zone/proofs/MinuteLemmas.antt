@@ -1,6 +1,6 @@
 -- The marks of an hour, minute by minute.
 use Rattle.std.proofs.Common.{◌≡◌, ◌≢◌, ℕ, ◌*◌, ◌/◌, ◌%◌, ◌^◌, ◌<◌, inl, inr, refl, ◌==◌, ◌||◌, ap, ◌∙◌, arith, List, length, get_or, set, get_or-set_same}
-use Rattle.std.proofs.Common.{get_or-set_other, bit_or}
+use Rattle.std.proofs.Common.{get_or-set_other, bit_or, ℤ, pos, ◌+◌, ◌&&◌, nat_lt, int_lt}
 use Rattle.std.proofs.lemmas.Bool.{cases_eq}
 use Rattle.std.proofs.lemmas.Bool.Decides.{nat_tests}
 use Rattle.ics_fields.specs.Sets.{contains}
@@ -14,6 +14,17 @@ module _ (marks : List ℕ) (minute word k : ℕ) where
 
   pub marked-set_other : k / 60 ≢ minute → is_marked (set marks minute word) k ≡ is_marked marks k
   marked-set_other ne = rw (get_or-set_other) refl
+
+-- the first seconds of the word of a minute, those before a count
+pub record IsFront (minute : ℕ) (count : ℤ) (size word part : ℕ) : Type 0 where
+  pub is_size : (n : ℕ) → n < 60 → nat_lt n size ≡ int_lt (pos (minute * 60 + n)) count
+  pub is_part : (n : ℕ) → contains part n ≡ (nat_lt n size && contains word n)
+
+pub front_is : {minute : ℕ} {count : ℤ} {size word part : ℕ} → IsFront minute count size word part
+    → (k : ℕ) → k / 60 ≡ minute → contains part (k % 60) ≡ (int_lt (pos k) count && contains word (k % 60))
+front_is {minute = minute} front k e =
+    let here : minute * 60 + k % 60 ≡ k = omega (arith, e) in
+    rw (front.is_part (k % 60), front.is_size (k % 60) (omega arith), here) refl
 
 same_in_minute : (m n : ℕ) → m / 60 ≡ n / 60 → (m % 60 == n % 60) ≡ (m == n)
 same_in_minute m n e = grind (arith, nat_tests)

@@ -34,9 +34,7 @@ loop-place-preserved c =
       most = omega (arith, ints, c.clear-clear.ensures.most, c.loop-place.invariant.most);
       clears = λ zone all.
           let was = rw again at (before zone all) in
-          clears_more all (omega (arith, again, c.loop-place.auto.place))
-          c.index-onsets-place.is c.args.seconds c.args.after c.loop-place.over c.clear-clear.new.over was.0 marks
-          (c.args.after +ℤ pos 1 +ℤ to_z w64 c.loop-place.clear-bits) (c.args.after +ℤ pos 1 +ℤ c.clear-clear.result)
+          clears_more all (omega (arith, again, c.loop-place.auto.place)) c.index-onsets-place.is _ _ _ was.0 marks
           (omega (arith, ints, c.clear-clear.ensures.most)) clear was.1;
     })
 

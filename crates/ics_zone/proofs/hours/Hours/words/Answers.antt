@@ -2,7 +2,8 @@ use Rattle.std.proofs.Common.{rules, arith, ◌+◌, pos, int_lt, sym, ◌∙◌
 use Rattle.std.proofs.lemmas.Int.{to_z-of_z}
 use Rattle.std.proofs.lemmas.Bool.{and_right}
 use Rattle.ics_zone.specs.Hours.{keeps}
-use Rattle.ics_zone.proofs.HourLemmas.{IsFrontOf, words_more, keeps_nothing}
+use Rattle.ics_zone.proofs.HourLemmas.{words_more, keeps_nothing}
+use Rattle.ics_zone.proofs.MinuteLemmas.{IsFront}
 use Rattle.ics_zone.proofs.MarkLemmas.{none_marked}
 use Rattle.ics_zone.proofs.hours.Hours.words.Goals as goal
 
@@ -13,11 +14,12 @@ returns-then-is_empty-2 c = λ k low.
 
 pub loop-minute-preserved : goal.loop-minute-preserved
 loop-minute-preserved c =
-    let front : IsFrontOf c.args.self.now c.args.local c.loop-minute.minute (to_z w64 (of_z w64 c.args.count)) c.first_of.result c.minute_from-word.result
-    c.front.result = record { is_word = c.minute_from-word.ensures; is_size = c.first_of.ensures.first; is_part = c.front.ensures.members } in
+    let front : IsFront c.loop-minute.minute (to_z w64 (of_z w64 c.args.count)) c.first_of.result c.minute_from-word.result c.front.result =
+    record { is_size = c.first_of.ensures.first; is_part = c.front.ensures.members } in
     record {
       length = search rules;
-      words = words_more c.loop-minute.words (omega (arith, c.loop-minute.invariant.length, c.loop-minute-test.true)) front c.loop-minute.invariant.words;
+      words = words_more _ _ c.loop-minute.words (omega (arith, c.loop-minute.invariant.length, c.loop-minute-test.true)) front c.minute_from-word.ensures
+          c.loop-minute.invariant.words;
     }
 
 pub returns : goal.returns

@@ -1,6 +1,7 @@
-use Rattle.std.proofs.Common.{rules, arith, SFits, w32, w64, inl}
+use Rattle.std.proofs.Common.{rules, arith, SFits, w32, w64, inl, pos, ◌+ℤ◌, ◌≤ℤ◌, ◌<◌, ◌+◌, ◌*◌}
 use Rattle.std.proofs.lemmas.Int.{ints, clamps, to_z-of_z}
 use Rattle.std.proofs.lemmas.List.{length-set}
+use Rattle.ics_zone.specs.OnsetSets.{Has}
 use Rattle.ics_zone.proofs.MarkLemmas.{IsMinute, marks_minute, clear_minute}
 use Rattle.ics_zone.proofs.onsets.Onsets.clear.Goals as goal
 use Rattle.ics_zone.proofs.onsets.Onsets.clear.Goals.{After-front}
@@ -9,38 +10,40 @@ pub returns-in-Some-clause-some : goal.returns-in-Some-clause-some
 returns-in-Some-clause-some c = omega (arith, ints, clamps, c.min.ensures.value, c.requires.some, c.from-in-Some.ensures)
 
 -- the minute that a turn of the loop looks at
-minute_of : (c : After-front) → IsMinute c.args.self.now c.args.seconds c.args.from c.seconds_to-low.result c.within-onsets.result c.args.over.now
-    c.loop-minute.over c.loop-minute.minute c.first_of.result c.front.result
-minute_of c =
-    record {
-      known = rw (to_z-of_z w64 c.args.from c.ranges.from) at c.within-onsets.ensures.known;
-      complete = rw (to_z-of_z w64 c.args.from c.ranges.from) at c.within-onsets.ensures.complete;
-      down = λ k h. let early = c.seconds_to-low.ensures.first k h in omega (arith, ints, early, c.requires.local, c.from.ensures);
-      is_size = rw (to_z-of_z w64 c.seconds_to-low.result (search rules)) at c.first_of.ensures.first;
-      is_part = c.front.ensures.members;
-      small = omega (arith, c.loop-minute-test.true);
-      inside = omega (arith, c.loop-minute.invariant.length, c.loop-minute-test.true);
-      marks = rw (to_z-of_z w64 c.args.from c.ranges.from, to_z-of_z w64 c.args.seconds c.ranges.seconds) at c.loop-minute.invariant.marks;
-      clear = rw (to_z-of_z w64 c.args.from c.ranges.from, to_z-of_z w64 c.args.seconds c.ranges.seconds) at c.loop-minute.invariant.clear;
-    }
+minute_of : (c : After-front)
+    → IsMinute (λ k. Has c.args.self.now (c.args.from +ℤ pos k) × ((c.args.from +ℤ pos k +ℤ c.args.self.now.offset_to) ≤ℤ c.args.seconds))
+    c.seconds_to-low.result c.within-onsets.result c.loop-minute.over c.loop-minute.minute c.first_of.result c.front.result
+minute_of c = record {
+  front = record { is_size = rw (to_z-of_z w64 c.seconds_to-low.result (search rules)) at c.first_of.ensures.first; is_part = c.front.ensures.members };
+  new = λ k e early m. (
+    rw (to_z-of_z w64 c.args.from c.ranges.from) at c.within-onsets.ensures.known k (omega (arith, e, c.loop-minute-test.true)) m,
+    (let low = c.seconds_to-low.ensures.first k early in omega (arith, ints, low, c.requires.local, c.from.ensures)),
+  );
+  inside = omega (arith, c.loop-minute.invariant.length, c.loop-minute-test.true);
+}
 
 pub returns-in-Some-clause-marks : goal.returns-in-Some-clause-marks
-returns-in-Some-clause-marks c = marks_minute (minute_of (goal.at.returns-in-Some-clause-marks c).After-front)
+returns-in-Some-clause-marks c = marks_minute (minute_of (goal.at.returns-in-Some-clause-marks c).After-front) _
+    (rw (to_z-of_z w64 c.args.from c.ranges.from, to_z-of_z w64 c.args.seconds c.ranges.seconds) at c.loop-minute.invariant.marks)
 
 pub returns-in-Some-clause-clear : goal.returns-in-Some-clause-clear
 returns-in-Some-clause-clear c = λ k contains early later.
     let small = c.in-Some.ensures.0 in
-    clear_minute (minute_of (goal.at.returns-in-Some-clause-clear c).After-front) c.in-Some.second (omega (arith, small)) c.in-Some.ensures.1 k
-    (omega (arith, ints, clamps, early, small, c.min.ensures.value, c.requires.most, c.requires.some, c.loop-minute-test.true, c.from-in-Some.ensures)) contains
-    later
+    let bound = c.min.ensures.value in
+    let complete = rw (to_z-of_z w64 c.args.from c.ranges.from) at c.within-onsets.ensures.complete in
+    let low : k < c.loop-minute.minute * 60 + c.in-Some.second =
+    omega (arith, ints, clamps, early, small, bound, c.requires.most, c.requires.some, c.loop-minute-test.true, c.from-in-Some.ensures) in
+    clear_minute (minute_of (goal.at.returns-in-Some-clause-clear c).After-front) c.in-Some.second (omega (arith, small)) c.loop-minute.invariant.clear
+    c.in-Some.ensures.1 k low (complete k (omega (arith, low, small, c.loop-minute-test.true)) contains)
 
 pub loop-minute-preserved : goal.loop-minute-preserved
 loop-minute-preserved c =
     let minute = minute_of (goal.at.loop-minute-preserved c).After-front in
+    let marks = rw (to_z-of_z w64 c.args.from c.ranges.from, to_z-of_z w64 c.args.seconds c.ranges.seconds) at c.loop-minute.invariant.marks in
     rw (to_z-of_z w64 c.args.from c.ranges.from, to_z-of_z w64 c.args.seconds c.ranges.seconds) (record {
       length = search rules;
-      marks = marks_minute minute;
-      clear = λ k early. clear_minute minute 60 (omega arith) c.in_default.ensures k (omega (arith, early));
+      marks = marks_minute minute _ marks;
+      clear = λ k early. clear_minute minute 60 (omega arith) c.loop-minute.invariant.clear c.in_default.ensures k (omega (arith, early));
     })
 
 pub returns-clause-marks : goal.returns-clause-marks
@@ -48,8 +51,9 @@ returns-clause-marks c = rw (to_z-of_z w64 c.args.from c.ranges.from, to_z-of_z 
 
 pub returns-clause-clear : goal.returns-clause-clear
 returns-clause-clear c = λ k contains early later.
-    let clear = rw (to_z-of_z w64 c.args.from c.ranges.from, to_z-of_z w64 c.args.seconds c.ranges.seconds) at c.loop-minute.invariant.clear in
-    clear k (omega (arith, ints, early, c.requires.most, c.loop-minute-test.false)) contains later
+    let low : k < 3_600 = omega (arith, ints, early, c.requires.most) in
+    let complete = rw (to_z-of_z w64 c.args.from c.ranges.from) at c.within-onsets.ensures.complete in
+    c.loop-minute.invariant.clear k (omega (arith, low, c.loop-minute-test.false)) (complete k low contains)
 
 pub within-onsets-requires-clause-near : goal.within-onsets-requires-clause-near
 within-onsets-requires-clause-near c = rw (to_z-of_z w64 c.args.from c.ranges.from) c.requires.near

@@ -1,5 +1,4 @@
-use Rattle.std.proofs.Common.{◌≡◌, ℕ, ◌*◌, ◌<◌, length, pos, ◌+ℤ◌, ◌<ℤ◌}
-use Rattle.ics_zone.specs.OnsetSets.{Has}
+use Rattle.std.proofs.Common.{◌≡◌, ℕ, ◌*◌, ◌<◌, length}
 use Rattle.ics_zone.specs.Marks.{IsMarked, AreMarks}
 use Rattle.ics_zone.proofs.onsets.Onsets.clear.Given as goal
 
@@ -7,5 +6,5 @@ abbrev pub invariant-loop-minute : goal.invariant-loop-minute
 invariant-loop-minute l = record {
   length : length l.over ≡ 60;
   marks : AreMarks l.self l.fn.seconds l.fn.from l.initial.over l.over;
-  clear : (k : ℕ) → k < l.minute * 60 → Has l.self (l.fn.from +ℤ pos k) → l.fn.seconds <ℤ (l.fn.from +ℤ pos k +ℤ l.self.offset_to) → IsMarked l.over k;
+  clear : (k : ℕ) → k < l.minute * 60 → IsMarked l.onsets k → IsMarked l.over k;
 }
