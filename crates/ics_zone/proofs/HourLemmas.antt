@@ -90,7 +90,7 @@ module _ (s : Onsets) (hours : Hours) (t : ℤ) (told : IsToldAt s hours t) (n :
 
   told_kept : IsKeptAt s t → keeps hours n ≡ true
   told_kept h =
-      let k = from_kept s told.rule told.is_rule t h in
+      let k = from_kept s told.is_rule t h in
       let is = k.is in
       let same : k.local ≡ told.local = (let is_too = told.is in omega (arith, ints, is, is_too)) in
       ap (keeps hours) same_local ∙ sym told.same ∙ subst (λ m. is_kept told.rule m ≡ true) same k.kept
@@ -111,6 +111,6 @@ module _ (s : Onsets) (hours : Hours) (from : ℤ) (local : ℕ) (count : ℤ) (
   pub told_complete : (k : ℕ) → k < 3_600 → IsKeptAt s (from +ℤ pos k) → IsMarked marks k
   told_complete k low h =
       let t = told_at k low in
-      let by_end = (from_kept s t.rule t.is_rule (from +ℤ pos k) h).by_end in
+      let by_end = (from_kept s t.is_rule (from +ℤ pos k) h).by_end in
       words k low ∙ and_from (int_lt (pos k) count) (keeps hours (local + k)) (true_int_lt (pos k) count (up k low by_end))
       (told_kept s hours (from +ℤ pos k) t (local + k) (omega (arith, ints, at)) h)

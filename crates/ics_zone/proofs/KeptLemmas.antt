@@ -1,5 +1,5 @@
 -- The last and the next onset of a rule.
-use Rattle.std.proofs.Common.{◌≡◌, ℕ, ◌<◌, inl, inr, sym, subst, arith, Option, Some, Contains, ℤ, ◌<ℤ◌, ◌≤ℤ◌, MatchOption}
+use Rattle.std.proofs.Common.{◌≡◌, ℕ, ◌+◌, ◌<◌, ◌≤◌, inl, inr, sym, subst, arith, true, Option, Some, Contains, ℤ, ◌<ℤ◌, ◌≤ℤ◌, MatchOption}
 use Rattle.std.proofs.lemmas.Bool.{cases_lt}
 use Rattle.std.proofs.lemmas.Int.{ints}
 use Rattle.ics_rule.specs.Recurrence.{Recurrence}
@@ -11,61 +11,63 @@ use Rattle.ics_zone.specs.Latest.{IsLastKept, IsLast}
 use Rattle.ics_zone.specs.OnsetSets.{IsShownBy, IsShownTo, IsKeptBy, IsKeptAt, Has}
 use Rattle.ics_zone.proofs.Cases.{less_or_not_z, not_both}
 
-module _ (s : Onsets) (r : Recurrence) (contains : s.rule ≡ Some r) where
+-- where none is kept from a place on and before an end, a kept local before the end is before the place
+below : (r : Recurrence) (from end n : ℕ) → NoneKept r from end → is_kept r n ≡ true → n < end → n < from
+below r from end n none kept early = grind (arith, cases_lt)
+
+module _ (s : Onsets) {r : Recurrence} (contains : s.rule ≡ Some r) where
   pub to_kept : (t : ℤ) → IsKeptBy s.offset_from s.until r t → IsKeptAt s t
   to_kept t h = subst (λ (o : Option Recurrence). MatchOption o ⊥ (λ r. IsKeptBy s.offset_from s.until r t)) (sym contains) h
 
   pub from_kept : (t : ℤ) → IsKeptAt s t → IsKeptBy s.offset_from s.until r t
   from_kept t h = subst (λ (o : Option Recurrence). MatchOption o ⊥ (λ r. IsKeptBy s.offset_from s.until r t)) contains h
 
-  module _ (t : ℤ) (end : ℕ) (shown : IsShownTo s.offset_from s.until t end) where
-    -- an onset that is not after t is of a local before the end
+  module _ {t : ℤ} {end : ℕ} (shown : IsShownTo s.offset_from s.until t end) where
+    -- a kept local before the end is one of an onset, and an onset that is not after t is of such a local
+    kept_at : {n : ℕ} {u : ℤ} → is_kept r n ≡ true → n < end → u ≡ instant_by s.offset_from n → IsKeptAt s u
+    kept_at {n = n} {u = u} kept inside is = to_kept u (record {
+      local = n;
+      early = let bound = shown.bound in omega (arith, bound, inside);
+      kept = kept;
+      is = is;
+      by_end = let by_until = shown.by_until n inside in omega (arith, ints, by_until, is);
+    })
+
     before_end : (u : ℤ) (k : IsKeptBy s.offset_from s.until r u) → u ≤ℤ t → k.local < end
     before_end u k l = let b = k.is in let e = k.by_end in grind (arith, ints, cases_lt)
 
-    pub last_of_rule : (n : ℕ) → IsLastKept r end n → (u : ℤ) → u ≡ instant_by s.offset_from n → IsLast (IsKeptAt s) t u
-    last_of_rule n found u is =
-        let early = shown.shown n found.in_bound in
-        let by_until = shown.by_until n found.in_bound in
-        record {
-          is = to_kept u (record {
-            local = n;
-            early = (let a = found.in_bound in let b = shown.bound in omega (arith, a, b));
-            kept = found.kept;
-            is = is;
-            by_end = omega (arith, ints, by_until, is);
-          });
-          not_after = omega (arith, ints, early, is);
-          last = λ v h l.
-              let k = from_kept v h in
-              let inside = before_end v k l in
-              let at = k.is in
-              elim (cases_lt n k.local) [
-                | inl more ↦ absurd (not_both (is_kept r k.local) k.kept (found.last k.local (omega (arith, more)) inside))
-                | inr less ↦ omega (arith, ints, at, is, less)
-              ];
-        }
+    pub last_of_rule : {n : ℕ} {u : ℤ} → IsLastKept r end n → u ≡ instant_by s.offset_from n → IsLast (IsKeptAt s) t u
+    last_of_rule {n = n} found is = record {
+      is = kept_at found.kept found.in_bound is;
+      not_after = let early = shown.shown n found.in_bound in omega (arith, ints, early, is);
+      last = λ v h l.
+          let k = from_kept v h in
+          let at = k.is in
+          let low = below r (n + 1) end k.local found.last k.kept (before_end v k l) in
+          omega (arith, ints, at, is, low);
+    }
 
     pub none_of_rule : NoneKept r 0 end → (u : ℤ) → IsKeptAt s u → t <ℤ u
     none_of_rule none u h =
         let k = from_kept u h in let kept = k.kept in let b = k.is in let e = k.by_end in let early = k.early in grind (arith, ints, cases_lt)
 
     -- the first after another instant
-    module _ (after : ℤ) (from : ℕ) (past : IsShownBy s.offset_from after from) where
-      pub next_of_rule : {u : ℤ} (n : ℕ) → IsNextKept r from end n → u ≡ instant_by s.offset_from n → (v : ℤ) → IsKeptAt s v → after <ℤ v → u ≤ℤ v
-      next_of_rule n found is v h l =
+    module _ {after : ℤ} {from : ℕ} (past : IsShownBy s.offset_from after from) where
+      pub next_of_rule : {n : ℕ} {u : ℤ} → IsNextKept r from end n → u ≡ instant_by s.offset_from n
+          → (after <ℤ u) × ((u ≤ℤ t) × (((v : ℤ) → IsKeptAt s v → after <ℤ v → u ≤ℤ v) × IsKeptAt s u))
+      next_of_rule {n = n} {u = u} found is =
+          let bound = shown.bound in
+          let inside = found.in_bound in
+          let late = past.later n found.from_place (omega (arith, bound, inside)) in
+          let early = shown.shown n inside in
+          let next : (v : ℤ) → IsKeptAt s v → after <ℤ v → u ≤ℤ v = λ v h l.
           let k = from_kept v h in
           let at = k.is in
           elim (cases_lt k.local n) [
+            | inl less ↦ (let before = past.shown k.local (below r from n k.local found.least k.kept less) in absurd (omega (arith, ints, before, at, l)))
             | inr more ↦ omega (arith, ints, at, is, more)
-            | inl less ↦ elim (cases_lt k.local from) [
-              | inl low ↦ absurd (let a = past.shown k.local low in omega (arith, ints, a, at, l))
-              | inr high ↦ absurd (not_both (is_kept r k.local) k.kept (found.least k.local high less))
-            ]
-          ]
-
-      pub bound_of_rule : (n : ℕ) → IsNextKept r from end n → (u : ℤ) → u ≡ instant_by s.offset_from n → u ≤ℤ t
-      bound_of_rule n found u is = let a = shown.shown n found.in_bound in omega (arith, ints, a, is)
+          ] in
+          (omega (arith, ints, late, is), (omega (arith, ints, early, is), (next, kept_at found.kept inside is)))
 
       pub no_next_of_rule : NoneKept r from end → (v : ℤ) → IsKeptAt s v → after <ℤ v → t ≤ℤ v
       no_next_of_rule none v h l =

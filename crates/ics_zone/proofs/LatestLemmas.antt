@@ -4,6 +4,8 @@ use Rattle.std.proofs.lemmas.Bool.{cases_lt}
 use Rattle.std.specs.Int.{int_max}
 use Rattle.std.proofs.lemmas.Int.{ints}
 use Rattle.std.proofs.lemmas.List.{get_or_default}
+use Rattle.ics_zone.specs.declared.onsets.Onsets.{Onsets}
+use Rattle.ics_zone.specs.OnsetSets.{IsKeptAt, Has}
 use Rattle.ics_zone.specs.Latest.{IsInOrder, IsPassed, IsLast}
 use Rattle.ics_zone.proofs.Cases.{less_or_not_z}
 
@@ -31,22 +33,17 @@ module _ (list : List ℤ) (up : IsInOrder list) (t : ℤ) (k : ℕ) (passed : I
       let at = h.2 in
       grind (arith, ints, cases_lt)
 
--- the greater of two
-pub later_of : (a b m : ℤ) → m ≡ int_max a b → ((m ≡ a) × (b ≤ℤ m)) ⊎ ((m ≡ b) × (a ≤ℤ m))
-later_of a b m e = grind (arith, ints, less_or_not_z)
+-- the last of the listed onsets and of those of the rule
+module _ (s : Onsets) {t : ℤ} where
+  pub last_of_both : {a b m : ℤ} → IsLast (Contains s.listed.items) t a → IsLast (IsKeptAt s) t b → m ≡ int_max a b → IsLast (Has s) t m
+  last_of_both x y is = grind (arith, ints, less_or_not_z)
 
--- the last of two sets together
-module _ (a b : ℤ → Type 0) (t : ℤ) where
-  pub last_of_both : (s u m : ℤ) → IsLast a t s → IsLast b t u → ((m ≡ s) × (u ≤ℤ m)) ⊎ ((m ≡ u) × (s ≤ℤ m)) → IsLast (λ v. a v ⊎ b v) t m
-  last_of_both s u m h l g = grind (arith, ints)
+  pub last_of_first : {a : ℤ} → IsLast (Contains s.listed.items) t a → ((u : ℤ) → IsKeptAt s u → t <ℤ u) → IsLast (Has s) t a
+  last_of_first x none = grind (arith, ints)
 
-  pub last_of_first : (s : ℤ) → IsLast a t s → ((u : ℤ) → b u → t <ℤ u) → IsLast (λ v. a v ⊎ b v) t s
-  last_of_first s x none = grind (arith, ints)
+  -- the rule may have none but before an instant
+  pub first_after : {after a : ℤ} → IsLast (Contains s.listed.items) t a → after <ℤ a → ((u : ℤ) → IsKeptAt s u → u ≤ℤ t → u ≤ℤ after) → IsLast (Has s) t a
+  first_after x late none = grind (arith, ints)
 
-  pub last_of_second : (s : ℤ) → ((u : ℤ) → a u → t <ℤ u) → IsLast b t s → IsLast (λ v. a v ⊎ b v) t s
-  last_of_second s none x = grind (arith, ints)
-
--- the last of two sets together, where the second has none after an instant
-module _ (a b : ℤ → Type 0) (after t : ℤ) where
-  pub first_after : (s : ℤ) → IsLast a t s → after <ℤ s → ((u : ℤ) → b u → u ≤ℤ t → u ≤ℤ after) → IsLast (λ v. a v ⊎ b v) t s
-  first_after s x late none = grind (arith, ints)
+pub last_of_second : {t s : ℤ} (a b : ℤ → Type 0) → ((u : ℤ) → a u → t <ℤ u) → IsLast b t s → IsLast (λ v. a v ⊎ b v) t s
+last_of_second a b none x = grind (arith, ints)

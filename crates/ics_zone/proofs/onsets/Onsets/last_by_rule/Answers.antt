@@ -9,11 +9,9 @@ returns-in-Some-last_kept c =
     let fits : SFits w64 c.args.moment = c.ranges.moment in
     let shown = simp to_z-of_z at c.shown_to-end.ensures in
     rw (to_z-of_z w64 c.instant.result (search rules))
-    (last_of_rule c.args.self.now c.in-Some.rule c.in-Some.is c.args.moment c.shown_to-end.result shown
-    c.in-Some-last_kept.kept c.in-Some-last_kept.ensures c.instant.result (simp to_z-of_z at c.instant.ensures))
+    (last_of_rule c.args.self.now c.in-Some.is shown c.in-Some-last_kept.ensures (simp to_z-of_z at c.instant.ensures))
 
 pub returns-in-None : goal.returns-in-None
 returns-in-None c =
     let fits : SFits w64 c.args.moment = c.ranges.moment in
-    let shown = simp to_z-of_z at c.shown_to-end.ensures in
-    none_of_rule c.args.self.now c.in-Some.rule c.in-Some.is c.args.moment c.shown_to-end.result shown c.in-None.ensures
+    none_of_rule c.args.self.now c.in-Some.is (simp to_z-of_z at c.shown_to-end.ensures) c.in-None.ensures

@@ -10,8 +10,7 @@ returns-then-last-after c =
     let past : SFits w64 c.args.after = c.ranges.after in
     let shown = simp to_z-of_z at c.shown_to-end.ensures in
     rw (to_z-of_z w64 c.instant-last.result (search rules)) (
-      last_of_rule c.args.self.now c.in-Some.rule c.in-Some.is c.args.moment c.shown_to-end.result shown
-          c.in_ok-kept.kept c.in_ok-kept.ensures c.instant-last.result (simp to_z-of_z at c.instant-last.ensures),
+      last_of_rule c.args.self.now c.in-Some.is shown c.in_ok-kept.ensures (simp to_z-of_z at c.instant-last.ensures),
       (let late = simp to_z-of_z at c.if-last-after.true in omega (arith, ints, late)),
     )
 
@@ -22,8 +21,7 @@ returns-else-last-after c = λ u h l.
     let past : SFits w64 c.args.after = c.ranges.after in
     let shown = simp to_z-of_z at c.shown_to-end.ensures in
     let small : SFits w64 c.instant-last.result = search rules in
-    let last = last_of_rule c.args.self.now c.in-Some.rule c.in-Some.is c.args.moment c.shown_to-end.result shown
-    c.in_ok-kept.kept c.in_ok-kept.ensures c.instant-last.result (simp to_z-of_z at c.instant-last.ensures) in
+    let last = last_of_rule c.args.self.now c.in-Some.is shown c.in_ok-kept.ensures (simp to_z-of_z at c.instant-last.ensures) in
     let low = last.last u h l in
     let late = simp to_z-of_z at c.if-last-after.false in
     omega (arith, ints, low, late)
