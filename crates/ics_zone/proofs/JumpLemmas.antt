@@ -1,5 +1,5 @@
 -- The offset in force, and the instant at which a clock jumps over a local.
-use Rattle.std.proofs.Common.{◌≡◌, ◌≢◌, ℕ, ◌<◌, ◌⊎◌, inl, inr, Bool, true, false, cond, refl, sym, ◌∙◌, arith, List, [], ◌∷◌, ◌++◌, length}
+use Rattle.std.proofs.Common.{◌≡◌, ◌≢◌, ℕ, zero, suc, ◌<◌, inl, inr, Bool, true, false, cond, refl, sym, ◌∙◌, arith, List, [], ◌∷◌, ◌++◌, length}
 use Rattle.std.proofs.Common.{Some, None, All, Contains, ℤ, pos, ◌+ℤ◌, ◌-ℤ◌, ◌<ℤ◌, ◌≤ℤ◌}
 use Rattle.std.proofs.lemmas.Int.{ints}
 use Rattle.std.specs.List.Sorted.{IsPermutation}
@@ -22,6 +22,18 @@ use Rattle.ics_zone.proofs.Cases.{less_or_not_z}
 not_empty : (zone : List ObservanceSaid) → 0 < length zone → zone ≢ []
 not_empty [] h e = omega arith
 not_empty (p ∷ zone) h e = cc
+
+-- what a clock shows of a local that it skips
+module _ (offset : ℤ → ℤ) (local : ℤ) (skipped : (t : ℤ) → shown offset t ≢ local) where
+  unless_later : (t : ℤ) → shown offset t ≤ℤ local → shown offset t <ℤ local
+  unless_later t h = grind (arith, ints, less_or_not_z)
+
+  module _ (next : ℤ) (before : (s : ℤ) → s <ℤ next → shown offset s <ℤ local) where
+    pub jump_at_next : local <ℤ shown offset next → IsJump offset local next
+    jump_at_next later = record { is_later = later; first = λ s l. let low = before s in grind (arith, ints, less_or_not_z) }
+
+    pub earlier_at_next : shown offset next ≤ℤ local → (s : ℤ) → s ≤ℤ next → shown offset s <ℤ local
+    earlier_at_next not_later s l = let low = before s in grind (arith, ints, less_or_not_z, unless_later)
 
 module _ (observances : List Observance) (some : 0 < length (observances_said observances)) where
   abbrev zone : List ObservanceSaid
@@ -70,25 +82,6 @@ module _ (observances : List Observance) (some : 0 < length (observances_said ob
     | inr h ↦ rw (h.2) (have h.1.place h.0 h.1.onset.0).from
   ]
 
-  -- an offset holds from its onset on
-  holds_since : (s : ℤ) (p : ObservanceSaid) (f : IsInForce zone s p) (t : ℤ) → f.since ≤ℤ t → t ≤ℤ s → p.offset_to ≡ zone_offset zone t
-  holds_since s p f t low high = in_force_is t p (record {
-    place = f.place;
-    since = f.since;
-    onset = f.onset;
-    not_after = low;
-    greatest = λ i u q h l. f.greatest i u q h (omega (arith, ints, l, high));
-  })
-
-  holds_before : (s : ℤ) (p : ObservanceSaid) → IsBeforeAll zone s p → (t : ℤ) → t ≤ℤ s → p.offset_from ≡ zone_offset zone t
-  holds_before s p f t high = before_all_is t p (record {
-    place = f.place;
-    first = f.first;
-    onset = f.onset;
-    before = let b = f.before in omega (arith, ints, b, high);
-    least = f.least;
-  })
-
   -- where a greater onset overrides all those of the observances with an offset, the zone has another
   pub overridden_other : (t offset : ℤ) → IsOverridden zone t offset → zone_offset zone t ≢ offset
   overridden_other t offset over e = elim (is_offset t) [
@@ -106,53 +99,55 @@ module _ (observances : List Observance) (some : 0 < length (observances_said ob
   greater_at : (t : ℤ) (i j : ℕ) → i < j → IsNotLater t j t i → ⊥
   greater_at t i j less later = grind (arith, ints)
 
-  module _ (local : ℤ) (skipped : (t : ℤ) → shown (zone_offset zone) t ≢ local) where
-    -- under one offset the clock does not pass the local, since it would show it
-    not_crossed : (offset a s : ℤ) → ((t : ℤ) → a ≤ℤ t → t ≤ℤ s → offset ≡ zone_offset zone t) → (a +ℤ offset) ≤ℤ local → local ≤ℤ (s +ℤ offset) → ⊥
-    not_crossed offset a s holds low high =
-        let same = holds (local -ℤ offset) (omega (arith, ints, low)) (omega (arith, ints, high)) in
-        skipped (local -ℤ offset) (omega (arith, ints, same))
+  module _ (local : ℤ) (skipped : (t : ℤ) → shown (zone_offset zone) t ≢ local) (after next : ℤ)
+      (earlier : (t : ℤ) → t ≤ℤ after → shown (zone_offset zone) t <ℤ local) (none : IsClear zone local after next) where
+    -- a second after an earlier local the clock shows none later: under the same offset it would show this one, and no onset moves it on
+    one_more : (s : ℤ) → after <ℤ s → s <ℤ next → shown (zone_offset zone) (s -ℤ pos 1) <ℤ local → IsOffset zone s (zone_offset zone s)
+        → shown (zone_offset zone) s ≤ℤ local
+    one_more s late early before (inl h) =
+        let f = h.1 in
+        let is = h.2 in
+        let until = f.not_after in
+        elim (less_or_not_z f.since s) [
+          | inl old ↦ (
+              let same = in_force_is (s -ℤ pos 1) h.0 (record {
+                place = f.place;
+                since = f.since;
+                onset = f.onset;
+                not_after = omega (arith, ints, old);
+                greatest = λ i u q g l. f.greatest i u q g (omega (arith, ints, l));
+              }) in
+              omega (arith, ints, same, is, before))
+          | inr now ↦ elim (less_or_not_z local (f.since +ℤ h.0.offset_to)) [
+            | inr low ↦ omega (arith, ints, now, until, is, low)
+            | inl past ↦ absurd (
+                let over = none f.place f.since h.0 f.onset (omega (arith, ints, now, late)) (omega (arith, ints, until, early)) past in
+                greater_at f.since f.place over.0 over.1.1.1.0 (f.greatest over.0 f.since over.1.0 over.1.1.0 until))
+          ]
+        ]
+    one_more s late early before (inr h) =
+        let f = h.1 in
+        let is = h.2 in
+        let same = before_all_is (s -ℤ pos 1) h.0 (record {
+          place = f.place;
+          first = f.first;
+          onset = f.onset;
+          before = let b = f.before in omega (arith, ints, b);
+          least = f.least;
+        }) in
+        omega (arith, ints, same, is, before)
 
-    less_or_more : (t : ℤ) → (shown (zone_offset zone) t <ℤ local) ⊎ (local <ℤ shown (zone_offset zone) t)
-    less_or_more t = grind (arith, ints, less_or_not_z)
+    -- so it shows earlier ones second by second, up to the next onset that may show a later one
+    counted : (n : ℕ) (s : ℤ) → s ≡ after +ℤ pos n → s <ℤ next → shown (zone_offset zone) s <ℤ local
+    counted zero s is early = earlier s (omega (arith, ints, is))
+    counted (suc n) s is early = unless_later (zone_offset zone) local skipped s
+        (one_more s (omega (arith, ints, is)) early (counted n (s -ℤ pos 1) (omega (arith, ints, is)) (omega (arith, ints, early))) (is_offset s))
 
-    module _ (after next : ℤ) (earlier : (t : ℤ) → t ≤ℤ after → shown (zone_offset zone) t <ℤ local) (none : IsClear zone local after next) where
-      -- nor does it in a span of one offset that begins at an instant up to which it shows earlier ones
-      steady_past : (offset s : ℤ) → after <ℤ s → ((t : ℤ) → after ≤ℤ t → t ≤ℤ s → offset ≡ zone_offset zone t) → local <ℤ shown (zone_offset zone) s → ⊥
-      steady_past offset s late holds more =
-          let same = holds after (omega (arith, ints)) (omega (arith, ints, late)) in
-          let here = holds s (omega (arith, ints, late)) (omega (arith, ints)) in
-          let before = earlier after (omega (arith, ints)) in
-          not_crossed offset after s holds (omega (arith, ints, same, before)) (omega (arith, ints, here, more))
-
-      not_past : (s : ℤ) → after <ℤ s → s <ℤ next → IsOffset zone s (zone_offset zone s) → local <ℤ shown (zone_offset zone) s → ⊥
-      not_past s late early (inl h) more = elim (less_or_not_z after h.1.since) [
-        | inr old ↦ steady_past h.0.offset_to s late (λ t a b. holds_since s h.0 h.1 t (omega (arith, ints, old, a)) b) more
-        | inl new ↦ (
-            let f = h.1 in
-            let here = h.2 in
-            let until = f.not_after in
-            elim (less_or_not_z local (f.since +ℤ h.0.offset_to)) [
-              | inr low ↦ not_crossed h.0.offset_to f.since s (λ t a b. holds_since s h.0 f t a b) low (omega (arith, ints, here, more))
-              | inl past ↦ (
-                  let over = none f.place f.since h.0 f.onset new (omega (arith, ints, until, early)) past in
-                  greater_at f.since f.place over.0 over.1.1.1.0 (f.greatest over.0 f.since over.1.0 over.1.1.0 until))
-            ])
-      ]
-      not_past s late early (inr h) more = steady_past h.0.offset_from s late (λ t a b. holds_before s h.0 h.1 t b) more
-
-      -- the clock shows earlier locals up to the next onset that may show a later one
-      pub earlier_before_next : (s : ℤ) → s <ℤ next → shown (zone_offset zone) s <ℤ local
-      earlier_before_next s early = elim (less_or_not_z after s) [
-        | inr old ↦ earlier s old
-        | inl late ↦ elim (less_or_more s) [ inl less ↦ less | inr more ↦ absurd (not_past s late early (is_offset s) more) ]
-      ]
-
-      pub jump_at_next : local <ℤ shown (zone_offset zone) next → IsJump (zone_offset zone) local next
-      jump_at_next later = record { is_later = later; first = λ s l. grind (arith, ints, less_or_not_z, earlier_before_next) }
-
-      pub earlier_at_next : shown (zone_offset zone) next ≤ℤ local → (s : ℤ) → s ≤ℤ next → shown (zone_offset zone) s <ℤ local
-      earlier_at_next not_later s l = grind (arith, ints, less_or_not_z, less_or_more, earlier_before_next)
+    pub earlier_before_next : (s : ℤ) → s <ℤ next → shown (zone_offset zone) s <ℤ local
+    earlier_before_next s early = elim (less_or_not_z after s) [
+      | inr old ↦ earlier s old
+      | inl late ↦ (let is = natural-is (s -ℤ after) (omega (arith, ints, late)) in counted (natural (s -ℤ after)) s (omega (arith, ints, is)) early)
+    ]
 
 -- where no onset shows a later local, none is to be overridden
 pub past_clear : (zone : List ObservanceSaid) (local after next : ℤ) → IsNextPast zone local after next → IsClear zone local after next

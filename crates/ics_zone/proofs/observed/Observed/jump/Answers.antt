@@ -1,9 +1,12 @@
-use Rattle.std.proofs.Common.{rules, arith, pos, ◌+ℤ◌, ◌-ℤ◌, SFits, w64, to_z, of_z}
+use Rattle.std.proofs.Common.{rules, arith, ℤ, pos, ◌+ℤ◌, ◌-ℤ◌, ◌<ℤ◌, SFits, w64, to_z, of_z}
 use Rattle.std.proofs.lemmas.Int.{ints, to_z-of_z}
+use Rattle.ics_zone.specs.Moments.{shown}
+use Rattle.ics_zone.specs.ZoneOffsets.{zone_offset}
 use Rattle.ics_zone.specs.Observances.{observances_said}
 use Rattle.ics_zone.proofs.ZoneSteps.{all_sound}
-use Rattle.ics_zone.proofs.JumpLemmas.{jump_at_next, earlier_at_next, past_clear, earlier_before, later_after, natural_less}
+use Rattle.ics_zone.proofs.JumpLemmas.{jump_at_next, earlier_at_next, earlier_before_next, past_clear, earlier_before, later_after, natural_less}
 use Rattle.ics_zone.proofs.observed.Observed.jump.Goals as goal
+use Rattle.ics_zone.proofs.observed.Observed.jump.Goals.{After-is_past}
 
 pub loop-after-init : goal.loop-after-init
 loop-after-init c = record {
@@ -16,19 +19,23 @@ loop-after-init c = record {
 pub next_past-after-requires-clause-sound : goal.next_past-after-requires-clause-sound
 next_past-after-requires-clause-sound c = rw c.deref.ensures.value (all_sound _ _ c.self.invariant.asked)
 
+-- before the next onset that shows a later local the clock shows earlier ones
+before_next : (c : After-is_past) (s : ℤ) → s <ℤ c.next_past-after.result → shown (zone_offset (observances_said c.args.self.now)) s <ℤ c.args.seconds
+before_next c =
+    let fits : SFits w64 c.args.seconds = c.ranges.seconds in
+    let known = rw c.self.view_is at c.self.invariant in
+    let none = rw c.deref.ensures.value at (simp to_z-of_z at c.next_past-after.ensures.next) in
+    earlier_before_next c.args.self.now known.some c.args.seconds c.requires.skipped (to_z w64 c.loop-after.after-bits) c.next_past-after.result
+    (simp to_z-of_z at c.loop-after.invariant.earlier)
+    (past_clear (observances_said c.args.self.now) c.args.seconds _ _ (none (observances_said c.args.self.now) known.asked))
+
 pub returns-then-is_past-clause-jump : goal.returns-then-is_past-clause-jump
 returns-then-is_past-clause-jump c =
     let fits : SFits w64 c.args.seconds = c.ranges.seconds in
     let next : SFits w64 c.next_past-after.result = search rules in
-    let known = rw c.self.view_is at c.self.invariant in
-    let none = rw c.deref.ensures.value at (simp to_z-of_z at c.next_past-after.ensures.next) in
-    let earlier = simp to_z-of_z at c.loop-after.invariant.earlier in
-    let later = rw c.if-is_past.true at (simp to_z-of_z at c.is_past.ensures) in
     rw (to_z-of_z w64 c.next_past-after.result next)
-    (jump_at_next c.args.self.now known.some c.args.seconds c.requires.skipped
-    (to_z w64 c.loop-after.after-bits) c.next_past-after.result earlier
-    (past_clear (observances_said c.args.self.now) c.args.seconds (to_z w64 c.loop-after.after-bits) c.next_past-after.result
-    (none (observances_said c.args.self.now) known.asked)) later)
+    (jump_at_next (zone_offset (observances_said c.args.self.now)) c.args.seconds c.requires.skipped c.next_past-after.result
+    (before_next (goal.at.returns-then-is_past-clause-jump c).After-is_past) (rw c.if-is_past.true at (simp to_z-of_z at c.is_past.ensures)))
 
 pub loop-after-smaller : goal.loop-after-smaller
 loop-after-smaller c =
@@ -49,16 +56,9 @@ pub clear_hours-after-requires-clause-earlier : goal.clear_hours-after-requires-
 clear_hours-after-requires-clause-earlier c =
     let fits : SFits w64 c.args.seconds = c.ranges.seconds in
     let next : SFits w64 c.next_past-after.result = search rules in
-    let known = rw c.self.view_is at c.self.invariant in
-    let none = rw c.deref.ensures.value at (simp to_z-of_z at c.next_past-after.ensures.next) in
-    let earlier = simp to_z-of_z at c.loop-after.invariant.earlier in
-    let not_later = rw c.if-is_past.false at (simp to_z-of_z at c.is_past.ensures) in
     rw (to_z-of_z w64 c.next_past-after.result next, to_z-of_z w64 c.args.seconds fits)
-    (earlier_at_next c.args.self.now known.some c.args.seconds c.requires.skipped
-    (to_z w64 c.loop-after.after-bits) c.next_past-after.result earlier
-    (past_clear (observances_said c.args.self.now) c.args.seconds (to_z w64 c.loop-after.after-bits) c.next_past-after.result
-    (none (observances_said c.args.self.now) known.asked))
-    not_later)
+    (earlier_at_next (zone_offset (observances_said c.args.self.now)) c.args.seconds c.requires.skipped c.next_past-after.result
+    (before_next (goal.at.clear_hours-after-requires-clause-earlier c).After-is_past) (rw c.if-is_past.false at (simp to_z-of_z at c.is_past.ensures)))
 
 pub returns-clause-jump : goal.returns-clause-jump
 returns-clause-jump c =
