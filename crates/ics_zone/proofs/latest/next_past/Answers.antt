@@ -1,4 +1,3 @@
-use Rattle.std.proofs.lemmas.Grind.{common_steps}
 use Rattle.std.proofs.Common.{rules, arith, SFits, w32, w64, to_z, of_z, sym, subst, ◌≡◌, ◌-ℤ◌}
 use Rattle.std.specs.Int.{int_max}
 use Rattle.std.proofs.lemmas.Int.{ints, clamps, to_z-of_z}
@@ -39,14 +38,14 @@ loop-place-preserved c =
           (rw (to_z-of_z w64 c.max-from.result small) at c.next-next.ensures.next);
     })
 
-pub returns-clause-next : goal.returns-clause-next
-returns-clause-next c = λ zone all i s p h late early.
+pub returns : goal.returns
+returns c =
     let none = rw (to_z-of_z w64 c.args.seconds c.ranges.seconds, to_z-of_z w64 c.args.after c.ranges.after) at c.loop-place.invariant.none in
-    none zone all i s p (let within = slice_get_within zone i p h.0 in let n = all.same_length in omega (arith, within, n, c.loop-place-test.false)) h late
-    early
-
-pub returns-clause-after : goal.returns-clause-after
-returns-clause-after c = grind (arith, common_steps)
-
-pub returns-clause-bound : goal.returns-clause-bound
-returns-clause-bound c = grind (arith, common_steps)
+    record {
+      after = omega (arith, ints, c.loop-place.invariant.later);
+      bound = omega (arith, ints, c.loop-place.invariant.in_bound);
+      next = λ zone all i s p h late early.
+          let within = slice_get_within zone i p h.0 in
+          let n = all.same_length in
+          none zone all i s p (omega (arith, within, n, c.loop-place-test.false)) h late early;
+    }

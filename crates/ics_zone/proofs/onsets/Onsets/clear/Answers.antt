@@ -6,9 +6,6 @@ use Rattle.ics_zone.proofs.MarkLemmas.{IsMinute, marks_minute, clear_minute}
 use Rattle.ics_zone.proofs.onsets.Onsets.clear.Goals as goal
 use Rattle.ics_zone.proofs.onsets.Onsets.clear.Goals.{After-front}
 
-pub returns-in-Some-clause-some : goal.returns-in-Some-clause-some
-returns-in-Some-clause-some c = omega (arith, ints, clamps, c.min.ensures.value, c.requires.some, c.from-in-Some.ensures)
-
 -- the minute that a turn of the loop looks at
 minute_of : (c : After-front)
     → IsMinute (λ k. Has c.args.self.now (c.args.from +ℤ pos k) × ((c.args.from +ℤ pos k +ℤ c.args.self.now.offset_to) ≤ℤ c.args.seconds))
@@ -22,19 +19,24 @@ minute_of c = record {
   inside = omega (arith, c.loop-minute.invariant.length, c.loop-minute-test.true);
 }
 
-pub returns-in-Some-clause-marks : goal.returns-in-Some-clause-marks
-returns-in-Some-clause-marks c = marks_minute (minute_of (goal.at.returns-in-Some-clause-marks c).After-front) _
-    (rw (to_z-of_z w64 c.args.from c.ranges.from, to_z-of_z w64 c.args.seconds c.ranges.seconds) at c.loop-minute.invariant.marks)
-
-pub returns-in-Some-clause-clear : goal.returns-in-Some-clause-clear
-returns-in-Some-clause-clear c = λ k contains early later.
+pub returns-in-Some : goal.returns-in-Some
+returns-in-Some c =
+    let minute = minute_of (goal.at.returns-in-Some c).After-front in
     let small = c.in-Some.ensures.0 in
-    let bound = c.min.ensures.value in
+    let least = c.min.ensures.value in
     let complete = rw (to_z-of_z w64 c.args.from c.ranges.from) at c.within-onsets.ensures.complete in
-    let low : k < c.loop-minute.minute * 60 + c.in-Some.second =
-    omega (arith, ints, clamps, early, small, bound, c.requires.most, c.requires.some, c.loop-minute-test.true, c.from-in-Some.ensures) in
-    clear_minute (minute_of (goal.at.returns-in-Some-clause-clear c).After-front) c.in-Some.second (omega (arith, small)) c.loop-minute.invariant.clear
-    c.in-Some.ensures.1 k low (complete k (omega (arith, low, small, c.loop-minute-test.true)) contains)
+    record {
+      length = simp length-set c.loop-minute.invariant.length;
+      some = omega (arith, ints, clamps, least, c.requires.some, c.from-in-Some.ensures);
+      most = omega (arith, ints, c.min.ensures.self_bound);
+      marks = marks_minute minute _
+          (rw (to_z-of_z w64 c.args.from c.ranges.from, to_z-of_z w64 c.args.seconds c.ranges.seconds) at c.loop-minute.invariant.marks);
+      clear = λ k contains early later.
+          let low : k < c.loop-minute.minute * 60 + c.in-Some.second =
+          omega (arith, ints, clamps, early, small, least, c.requires.most, c.requires.some, c.loop-minute-test.true, c.from-in-Some.ensures) in
+          clear_minute minute c.in-Some.second (omega (arith, small)) c.loop-minute.invariant.clear c.in-Some.ensures.1 k low
+          (complete k (omega (arith, low, small, c.loop-minute-test.true)) contains);
+    }
 
 pub loop-minute-preserved : goal.loop-minute-preserved
 loop-minute-preserved c =
@@ -46,14 +48,18 @@ loop-minute-preserved c =
       clear = λ k early. clear_minute minute 60 (omega arith) c.loop-minute.invariant.clear c.in_default.ensures k (omega (arith, early));
     })
 
-pub returns-clause-marks : goal.returns-clause-marks
-returns-clause-marks c = rw (to_z-of_z w64 c.args.from c.ranges.from, to_z-of_z w64 c.args.seconds c.ranges.seconds) at c.loop-minute.invariant.marks
-
-pub returns-clause-clear : goal.returns-clause-clear
-returns-clause-clear c = λ k contains early later.
-    let low : k < 3_600 = omega (arith, ints, early, c.requires.most) in
+pub returns : goal.returns
+returns c =
     let complete = rw (to_z-of_z w64 c.args.from c.ranges.from) at c.within-onsets.ensures.complete in
-    c.loop-minute.invariant.clear k (omega (arith, low, c.loop-minute-test.false)) (complete k low contains)
+    record {
+      length = c.loop-minute.invariant.length;
+      some = rw (to_z-of_z w64 c.args.most c.ranges.most) c.requires.some;
+      most = omega (arith, ints);
+      marks = rw (to_z-of_z w64 c.args.from c.ranges.from, to_z-of_z w64 c.args.seconds c.ranges.seconds) at c.loop-minute.invariant.marks;
+      clear = λ k contains early later.
+          let low : k < 3_600 = omega (arith, ints, early, c.requires.most) in
+          c.loop-minute.invariant.clear k (omega (arith, low, c.loop-minute-test.false)) (complete k low contains);
+    }
 
 pub within-onsets-requires-clause-near : goal.within-onsets-requires-clause-near
 within-onsets-requires-clause-near c = rw (to_z-of_z w64 c.args.from c.ranges.from) c.requires.near
@@ -82,15 +88,3 @@ overflow_mul-minute c = omega (arith, ints, c.loop-minute-test.true)
 
 pub overflow_add-minute : goal.overflow_add-minute
 overflow_add-minute c = let small = c.in-Some.ensures.0 in omega (arith, ints, small, c.loop-minute-test.true, c.from-in-Some.ensures)
-
-pub returns-in-Some-clause-length : goal.returns-in-Some-clause-length
-returns-in-Some-clause-length c = simp length-set c.loop-minute.invariant.length
-
-pub returns-in-Some-clause-most : goal.returns-in-Some-clause-most
-returns-in-Some-clause-most c = omega (arith, ints, c.min.ensures.self_bound)
-
-pub returns-clause-some : goal.returns-clause-some
-returns-clause-some c = rw (to_z-of_z w64 c.args.most c.ranges.most) c.requires.some
-
-pub returns-clause-most : goal.returns-clause-most
-returns-clause-most c = omega (arith, ints)
