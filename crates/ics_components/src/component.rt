@@ -20,7 +20,7 @@ pub enum Component {
 
 /// Where a line stands: outside all components, directly in a calendar, directly in an event or a time zone of one,
 /// directly in an observance of a time zone, or anywhere else.
-#[derive(Clone, Copy, PartialEq, Eq)]
+#[derive(Clone, Copy)]
 pub enum Context {
     Outside,
     Calendar,

@@ -7,7 +7,7 @@ use ics_values::Local;
 use std::alloc::AllocError;
 
 /// The TZID of a time zone (RFC 5545, section 3.8.3.1), and the number of the BEGIN line of the calendar that it belongs to.
-#[derive(PartialEq, Eq, PartialOrd, Ord, Drop)]
+#[derive(Drop, PartialEq, Eq, PartialOrd, Ord)]
 pub struct ZoneName {
     pub calendar: u64,
     pub name: Tzid,

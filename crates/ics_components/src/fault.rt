@@ -57,7 +57,7 @@ pub enum FaultKind {
 }
 
 /// Why a file is refused: its first fault, or a failed allocation.
-#[derive(Clone, Copy, Debug, PartialEq, Eq, thiserror::Error)]
+#[derive(Clone, Copy, Debug, thiserror::Error)]
 pub enum FileFault {
     #[error("{}", self.name())]
     Memory,

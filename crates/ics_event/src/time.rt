@@ -4,14 +4,14 @@ ghost use Rattle.ics_event.specs.Event.{time_in};
 use ics_values::{Duration, Stamp, is_zoned};
 
 /// A stamp and, for a local one with a TZID, the index of its zone among those of the file.
-#[derive(Clone, Copy, Debug, PartialEq, Eq)]
+#[derive(Clone, Copy)]
 pub struct Time {
     pub stamp: Stamp,
     pub zone: Option<u32>,
 }
 
 /// The length of an event (RFC 5545, section 3.6.1): given by no property, by DTEND or by DURATION.
-#[derive(Clone, Copy, Debug, PartialEq, Eq)]
+#[derive(Clone, Copy)]
 pub enum Length {
     Open,
     Until(Time),
@@ -20,7 +20,7 @@ pub enum Length {
 
 /// A further start of an event, given by a value of an RDATE (RFC 5545, section 3.8.5.2): a stamp, or a PERIOD with its own
 /// length.
-#[derive(Clone, Copy, Debug, PartialEq, Eq)]
+#[derive(Clone, Copy)]
 pub enum Rdate {
     At(Time),
     Span(Time, Length),

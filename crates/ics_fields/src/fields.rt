@@ -2,7 +2,7 @@
 use jiff_core::civil::Weekday;
 
 /// A day in the Gregorian calendar.
-#[derive(Clone, Copy, Debug, PartialEq, Eq)]
+#[derive(Clone, Copy)]
 pub struct Civil {
     /// 0 to 9999.
     pub year: u16,

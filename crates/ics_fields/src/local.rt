@@ -10,7 +10,7 @@ const DAY: i64 = 86_400;
 pub const EPOCH_DAY: i32 = 719_528;
 
 /// A date and a time of day without a zone: a day, counted from 1970-01-01, and a second of it, 0 to 86,399.
-#[derive(Clone, Copy, Debug, PartialEq, Eq, PartialOrd, Ord)]
+#[derive(Clone, Copy, PartialEq, Eq, PartialOrd, Ord)]
 pub struct Local {
     pub day: i32,
     pub second: u32,

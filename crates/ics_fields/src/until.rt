@@ -3,7 +3,7 @@
 use crate::local::Local;
 
 /// UNTIL, by the form of its text (RFC 5545, 3.3.10).
-#[derive(Clone, Copy, Debug, PartialEq, Eq)]
+#[derive(Clone, Copy)]
 pub enum Until {
     /// A day, counted from 1970-01-01.
     Date(i32),

@@ -10,7 +10,7 @@ use std::cmp::Ordering;
 
 /// Identifies an occurrence of a folder, and orders it among the others: by its start, then by the bytes
 /// of its UID, then by its recurrence.
-#[derive(Debug, Drop, PartialEq, Eq, PartialOrd, Ord)]
+#[derive(Drop, PartialEq, Eq, PartialOrd, Ord)]
 pub struct Key {
     pub start: Moment,
     pub uid: Vec<u8>,

@@ -14,7 +14,7 @@ use std::alloc::{AllocError, Global};
 use thiserror::Error;
 
 /// Why a text is not read as a key.
-#[derive(Clone, Copy, Debug, PartialEq, Eq, Error)]
+#[derive(Clone, Copy, Debug, Error)]
 pub enum TokenFault {
     /// The text is not a token.
     #[error("no token")]

@@ -8,7 +8,7 @@ use ics_values::Moment;
 /// The instants from `from` on and before `to`, in seconds since 1970-01-01T00:00:00 UTC.
 ///
 /// `from` is earlier than `to`. Both are from 0000-12-31T00:00 to 9800-01-03T00:00 UTC.
-#[derive(Clone, Copy, Debug, PartialEq, Eq)]
+#[derive(Clone, Copy)]
 pub struct Window {
     pub from: Moment,
     pub to: Moment,

@@ -1,7 +1,7 @@
 ghost use Rattle.std.specs.Prelude.{◌≡◌, codes};
 
 /// The file begins with SPACE or HTAB, so its first line continues no line (RFC 5545, section 3.1).
-#[derive(Clone, Copy, Debug, PartialEq, Eq)]
+#[derive(Clone, Copy)]
 pub struct BadFold;
 
 impl BadFold {
@@ -14,7 +14,7 @@ impl BadFold {
 }
 
 /// The line is not a content line (RFC 5545, section 3.1).
-#[derive(Clone, Copy, Debug, PartialEq, Eq)]
+#[derive(Clone, Copy)]
 pub struct BadLine;
 
 impl BadLine {

@@ -8,7 +8,7 @@ use crate::sign::{is_negative, unsigned};
 use thiserror::Error;
 
 /// A DURATION (RFC 5545, section 3.3.6): nominal days, of which a week has seven, and exact seconds.
-#[derive(Clone, Copy, Debug, PartialEq, Eq)]
+#[derive(Clone, Copy)]
 pub struct Duration {
     /// Whether the text began with a minus, even if both numbers are zero.
     pub negative: bool,
@@ -17,7 +17,7 @@ pub struct Duration {
 }
 
 /// Why a text is not a duration.
-#[derive(Clone, Copy, Debug, PartialEq, Eq, Error)]
+#[derive(Clone, Copy, Debug, Error)]
 #[error("{}", self.name())]
 pub enum DurationFault {
     BadDuration,

@@ -7,7 +7,7 @@ use crate::digits::{are_digits, number_within};
 use thiserror::Error;
 
 /// Why a text is not a number.
-#[derive(Clone, Copy, Debug, PartialEq, Eq, Error)]
+#[derive(Clone, Copy, Debug, Error)]
 #[error("{}", self.name())]
 pub enum IntegerFault {
     NotDigits,

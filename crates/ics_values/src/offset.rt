@@ -8,7 +8,7 @@ use crate::sign::{is_negative, is_sign, with_sign};
 use thiserror::Error;
 
 /// The text is not an offset from UTC (RFC 5545, section 3.3.14).
-#[derive(Clone, Copy, Debug, PartialEq, Eq, Error)]
+#[derive(Clone, Copy, Debug, Error)]
 #[error("{}", self.name())]
 pub struct BadOffset;
 

@@ -10,21 +10,21 @@ use crate::stamp::{Stamp, StampFault, is_date_time_form, read_stamp};
 use thiserror::Error;
 
 /// The end of a PERIOD: a stamp, or a duration from the start.
-#[derive(Clone, Copy, Debug, PartialEq, Eq)]
+#[derive(Clone, Copy)]
 pub enum PeriodEnd {
     At(Stamp),
     Lasting(Duration),
 }
 
 /// A PERIOD (RFC 5545, section 3.3.9). Its end may be before its start.
-#[derive(Clone, Copy, Debug, PartialEq, Eq)]
+#[derive(Clone, Copy)]
 pub struct Period {
     pub start: Stamp,
     pub end: PeriodEnd,
 }
 
 /// Why a text is not a period.
-#[derive(Clone, Copy, Debug, PartialEq, Eq, Error)]
+#[derive(Clone, Copy, Debug, Error)]
 #[error("{}", self.name())]
 pub enum PeriodFault {
     BadStamp,

@@ -15,7 +15,7 @@ use ics_fields::{BitSet, Frequency, Parts};
 use thiserror::Error;
 
 /// Why a text is not a recurrence rule.
-#[derive(Clone, Copy, Debug, PartialEq, Eq, Error)]
+#[derive(Clone, Copy, Debug, Error)]
 #[error("{}", self.name())]
 pub enum RuleFault {
     /// The text is not of the grammar, a part is out of its range or occurs twice, FREQ is missing, or both UNTIL and COUNT are there.

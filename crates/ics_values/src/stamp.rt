@@ -12,7 +12,7 @@ use ics_fields::Local;
 use thiserror::Error;
 
 /// A DATE or a DATE-TIME (RFC 5545, sections 3.3.4 and 3.3.5). Days are counted from 1970-01-01.
-#[derive(Clone, Copy, Debug, PartialEq, Eq)]
+#[derive(Clone, Copy)]
 pub enum Stamp {
     /// A day without a time.
     Date(i32),
@@ -25,7 +25,7 @@ pub enum Stamp {
 }
 
 /// Why a text is not a stamp.
-#[derive(Clone, Copy, Debug, PartialEq, Eq, Error)]
+#[derive(Clone, Copy, Debug, Error)]
 #[error("{}", self.name())]
 pub enum StampFault {
     BadStamp,

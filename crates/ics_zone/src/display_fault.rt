@@ -5,7 +5,7 @@ ghost use Rattle.ics_zone.specs.DisplayFaults.{display_fault_name};
 use thiserror::Error;
 
 /// Why a text is not a display zone.
-#[derive(Clone, Copy, Debug, PartialEq, Eq, Error)]
+#[derive(Clone, Copy, Debug, Error)]
 pub enum DisplayFault {
     #[error("no display zone")]
     BadZone,

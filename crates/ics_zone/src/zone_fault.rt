@@ -5,7 +5,7 @@ ghost use Rattle.ics_zone.specs.ZoneFaults.{zone_fault_name};
 use thiserror::Error;
 
 /// Why observances do not make a zone.
-#[derive(Clone, Copy, Debug, PartialEq, Eq, Error)]
+#[derive(Clone, Copy, Debug, Error)]
 pub enum ZoneFault {
     #[error("no STANDARD or DAYLIGHT part")]
     NoObservance,

@@ -3,7 +3,7 @@ ghost use Rattle.std.specs.Prelude.{◌≡◌};
 ghost use Rattle.ics_zone.specs.ZoneFileFaults.{zone_file_fault_name};
 
 /// Why bytes are not a zone file.
-#[derive(Clone, Copy, Debug, PartialEq, Eq, thiserror::Error)]
+#[derive(Clone, Copy, Debug, thiserror::Error)]
 pub enum ZoneFileFault {
     #[error("no zone file")]
     BadZoneFile,

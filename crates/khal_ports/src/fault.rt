@@ -7,7 +7,7 @@ use std::alloc::{AllocError, AllocFailed};
 use thiserror::Error;
 
 /// Why a file was not read.
-#[derive(Clone, Copy, Debug, PartialEq, Eq, Error)]
+#[derive(Clone, Copy, Debug, Error)]
 #[error("{}", self.name())]
 pub enum SourceFault {
     /// The device failed.
@@ -31,7 +31,7 @@ impl SourceFault {
 }
 
 /// Why a sink took no bytes.
-#[derive(Clone, Copy, Debug, PartialEq, Eq, Error)]
+#[derive(Clone, Copy, Debug, Error)]
 #[error("{}", self.name())]
 pub enum SinkFault {
     /// The device failed.
@@ -52,7 +52,7 @@ impl SinkFault {
 }
 
 /// Why a run ended before its end.
-#[derive(Clone, Copy, Debug, PartialEq, Eq, Error)]
+#[derive(Clone, Copy, Debug, Error)]
 #[error("{}", self.name())]
 pub enum RunFault {
     /// An output failed, or was given bytes and took none.

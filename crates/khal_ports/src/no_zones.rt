@@ -6,7 +6,7 @@ use crate::zone_source::ZoneSource;
 use std::alloc::Global;
 
 /// No zone files: there is none for any name.
-#[derive(Clone, Copy, Debug, PartialEq, Eq)]
+#[derive(Clone, Copy)]
 pub struct NoZones;
 
 impl ZoneSource for NoZones {

@@ -8,7 +8,7 @@ use ics_calendar::FaultKind;
 use std::alloc::{AllocError, Global};
 
 /// Why a file is not listed.
-#[derive(Clone, Copy, Debug, PartialEq, Eq)]
+#[derive(Clone, Copy)]
 pub(crate) enum Refusal {
     /// Its first fault.
     At { line: u64, kind: FaultKind },

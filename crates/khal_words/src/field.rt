@@ -3,7 +3,7 @@ ghost use Rattle.std.specs.Prelude.{◌≡◌, ◌≢◌, ◌↔◌, IfSome, IsN
 ghost use Rattle.khal_words.specs.Formats.{entry_name, day_name, entry_names_plain, day_names_plain};
 
 /// What a placeholder names of an entry.
-#[derive(Clone, Copy, Debug, PartialEq, Eq)]
+#[derive(Clone, Copy)]
 pub enum EntryField {
     /// The times in eleven columns.
     Cell,
@@ -25,7 +25,7 @@ pub enum EntryField {
 }
 
 /// What a placeholder names of a day.
-#[derive(Clone, Copy, Debug, PartialEq, Eq)]
+#[derive(Clone, Copy)]
 pub enum DayField {
     /// The weekday, `Monday` to `Sunday`.
     Name,

@@ -8,7 +8,7 @@ use std::alloc::Global;
 use thiserror::Error;
 
 /// Why a text is not a format.
-#[derive(Clone, Copy, Debug, PartialEq, Eq, Error)]
+#[derive(Clone, Copy, Debug, Error)]
 pub enum FormatFault {
     /// A brace is neither doubled nor part of a placeholder, or a placeholder is unknown.
     #[error("no format")]
@@ -32,7 +32,7 @@ impl FormatFault {
 }
 
 /// A piece of a format.
-#[derive(Clone, Copy, Debug, PartialEq, Eq)]
+#[derive(Clone, Copy)]
 pub enum Piece<F> {
     /// A byte that is written as it is.
     Byte(u8),
