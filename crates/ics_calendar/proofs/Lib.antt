@@ -6,11 +6,4 @@ pub mod Whole
 pub mod EventSound
 pub mod ZoneTables
 pub mod Settling
-mod ExampleFiles
-mod PropertyExamples
-mod ZoneExamples
-mod ZoneRows
-mod DateRows
-mod DeferredRows
-mod Examples
 pub mod FileLaws

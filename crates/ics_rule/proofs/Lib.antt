@@ -17,7 +17,6 @@ pub mod NextLemmas
 pub mod CountLemmas
 pub mod CountingLemmas
 pub mod Samples
-pub mod Examples
 pub mod KeptLemmas
 pub mod DayWalkLemmas
 pub mod LawLemmas

@@ -23,22 +23,13 @@ tu = 1
 abbrev pub fr : ℕ
 fr = 4
 
-abbrev pub su : ℕ
-su = 6
-
--- the n-th such weekday from the front, and from the end
+-- the n-th such weekday from the front
 abbrev pub nth_weekday : ℕ → ℕ → Weekdays
 nth_weekday n w = record no_weekdays { numbered = set no_weekdays.numbered w (record no_ordinals { front = only n }) }
 
-abbrev pub nth_last_weekday : ℕ → ℕ → Weekdays
-nth_last_weekday n w = record no_weekdays { numbered = set no_weekdays.numbered w (record no_ordinals { back = only n }) }
-
--- a date and a time of day
+-- a date, and with a time of day a local
 abbrev pub date : ℕ → ℕ → ℕ → ℕ
 date y m d = days_before_year y + days_of_months (pos y) (m - 1) + d - 1
-
-abbrev pub at : ℕ → ℕ → ℕ → ℕ → ℕ → ℕ
-at y m d h i = date y m d * 86_400 + h * 3_600 + i * 60
 
 abbrev pub local : ℕ → ℕ → ℕ → ℕ → ℕ → Local
 local y m d h i = record { day = pos (date y m d) -ℤ pos 719_528; second = (h * 3_600 + i * 60) % 86_400; second_in = omega arith }

@@ -1,5 +1,5 @@
 -- Which locals a rule keeps (RFC 5545, 3.3.10).
-use Rattle.std.specs.Prelude.{ℕ, zero, suc, ◌+◌, Bool, true, false, ◌&&◌, ◌||◌, ◌==◌, nat_le, nat_lt, if◌then◌else◌, Option, Some, None, ℤ, ⊤}
+use Rattle.std.specs.Prelude.{ℕ, zero, suc, ◌+◌, Bool, true, false, ◌&&◌, ◌||◌, ◌==◌, nat_le, nat_lt, if◌then◌else◌, Option, Some, None, ℤ}
 use Rattle.ics_fields.specs.declared.until.Until.{Until}
 use Rattle.ics_fields.specs.declared.until.Until.TheVariants as until
 use Rattle.ics_fields.specs.Days.{day_index}
@@ -75,8 +75,3 @@ until_moment_of Date u = None
 
 unfoldable pub until_moment : Recurrence → Option ℤ
 until_moment r = until_moment_of r.kind r.parts.until
-
--- what a proof unfolds to compute with a given rule
-unfoldable pub rules_on_literals : ⊤
-unfolding effective is_candidate is_in_rule is_kept
-rules_on_literals = tt

@@ -4,14 +4,12 @@ pub mod AheadLemmas
 pub mod BeginsLemmas
 pub mod Cases
 pub mod DayStepLemmas
-mod Examples
 pub mod ExclusionLemmas
 pub mod FirstLemmas
 pub mod FoundLemmas
 pub mod GivenLemmas
 pub mod StartSourceLemmas
 pub mod HeldLemmas
-mod HeldMostExamples
 pub mod HeldMostLaws
 pub mod HeldMostLemmas
 pub mod HoldingLaws
@@ -32,7 +30,6 @@ pub mod NearLemmas
 pub mod OccursLemmas
 pub mod OnDayLemmas
 pub mod OverriddenLemmas
-mod OverrideExamples
 pub mod OverrideLemmas
 pub mod OwnRuleLemmas
 pub mod PartLemmas

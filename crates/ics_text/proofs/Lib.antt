@@ -1,5 +1,3 @@
-pub mod LineExamples
-pub mod ContentExamples
 pub mod Cuts
 pub mod Joins
 pub mod Spelled

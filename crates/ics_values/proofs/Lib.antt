@@ -5,8 +5,6 @@ pub mod SaysLemmas
 pub mod ListedLemmas
 pub mod RuleSays
 pub mod AbsentLemmas
-pub mod RuleExamples
 pub mod StampLemmas
 pub mod TextLemmas
 pub mod LawLemmas
-pub mod Examples

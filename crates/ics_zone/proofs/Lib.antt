@@ -1,6 +1,4 @@
 pub mod Cases
-pub mod Examples
-pub mod FileExamples
 pub mod Readings
 pub mod FileReads
 pub mod TableLemmas
@@ -10,7 +8,6 @@ pub mod SearchLemmas
 pub mod OffsetLaws
 pub mod OnsetLemmas
 pub mod MomentLemmas
-pub mod ZoneExamples
 pub mod LatestLemmas
 pub mod KeptLemmas
 pub mod SixtyLemmas
@@ -23,4 +20,3 @@ pub mod ZoneSteps
 pub mod JumpLemmas
 pub mod CandidateLemmas
 pub mod ReadLemmas
-pub mod NewYork

@@ -5,6 +5,5 @@ pub mod Printed
 pub mod PutLemmas
 pub mod RequestLemmas
 pub mod RunLemmas
-pub mod TextExamples
 pub mod TokenPages
 pub mod WindowLemmas

@@ -2,10 +2,11 @@
 
 use crate::row::shown_bytes;
 use ics_text::{Lines, Logical, content};
+use percent_encoding::{CONTROLS, percent_encode};
 use std::alloc::{AllocError, Global};
 use std::io;
 
-/// Prints the lines of a file, each with the number of its first physical line.
+/// Prints the lines of a file, each with the number of its first physical line. Bytes that are controls or not of ASCII stand as `%0D`.
 pub fn lines(rt: HostRuntime, file: &[u8]) -> io::Result<()> {
     let Ok(mut lines) = Lines::new(file) else {
         return println!(rt; "BadFold");
@@ -25,7 +26,9 @@ fn print_line(rt: HostRuntime, line: &Logical<'_>) -> io::Result<()> {
     } else {
         " folded"
     };
-    println!(rt; "{}{folds}: {}", line.number(), shown_bytes(line.bytes()))
+    let mut shown = String::new(rt.alloc());
+    percent_encode(line.bytes(), CONTROLS).append_to(&mut shown)?;
+    println!(rt; "{}{folds}: {shown}", line.number())
 }
 
 /// The parts of a content line.

@@ -24,7 +24,7 @@
 //! - `rule DTSTART RRULE FROM BEFORE [LEAST MOST]` lists a rule's locals, and bounds the periods that were
 //!   looked at; `admits DTSTART RRULE LOCAL` asks one, and `until DTSTART RRULE` for its last instant.
 //! - `clock TIME [ZONE]` and `instant LOCAL [ZONE]` ask a display zone, or else the last file's first zone.
-//! - `stamp`, `zoned`, `duration`, `offset`, `period`, `integer` and `text` read a value.
+//! - `stamp`, `zoned`, `duration`, `offset`, `period`, `integer`, `recur` and `text` read a value.
 #![tactic(auto)]
 
 mod counts;

@@ -2,8 +2,8 @@
 
 use crate::shown::stamp_text;
 use ics_values::{
-    Duration, Period, PeriodEnd, read_duration, read_integer, read_offset, read_period, read_stamp,
-    text_bytes,
+    Duration, Period, PeriodEnd, read_duration, read_integer, read_offset, read_period, read_rule,
+    read_stamp, text_bytes,
 };
 use percent_encoding::{CONTROLS, percent_encode};
 use std::alloc::{AllocError, Global};
@@ -17,6 +17,7 @@ pub fn value(alloc: Global, kind: &str, text: &str) -> Result<String, AllocError
         "offset" => offset(alloc, text),
         "period" => period(alloc, text),
         "integer" => integer(alloc, text),
+        "recur" => recur(alloc, text),
         "text" => plain(alloc, text),
         _ => format!(in alloc; "no kind {kind}"),
     }
@@ -71,6 +72,15 @@ fn integer(alloc: Global, text: &str) -> Result<String, AllocError> {
         Ok(number) => format!(in alloc; "{number}"),
         Err(fault) => String::from_str(alloc, fault.name()),
     }
+}
+
+/// Whether a text is a recurrence rule, or its fault.
+fn recur(alloc: Global, text: &str) -> Result<String, AllocError> {
+    let answer = match read_rule(text.as_bytes()) {
+        Ok(_) => "valid",
+        Err(fault) => fault.name(),
+    };
+    String::from_str(alloc, answer)
 }
 
 /// A text without its escapes. Its line feeds stand as `%0a` again.

@@ -3,5 +3,4 @@ pub mod LearnedLemmas
 pub mod OutcomeLemmas
 pub mod ReadLemmas
 pub mod RefusedLemmas
-pub mod ShownExamples
 pub mod ZoneLawLemmas
