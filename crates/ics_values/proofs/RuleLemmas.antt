@@ -37,152 +37,107 @@ abbrev is_seen : ℕ → Option PartName → Bool
 is_seen seen None = false
 is_seen seen (Some name) = contains seen (row name)
 
-abbrev are_fresh : ℕ → List Part → Bool
-are_fresh seen ps = list_all (λ p. not (is_seen seen p.name)) ps
-
-abbrev with_row : ℕ → Option PartName → ℕ
-with_row seen None = seen
-with_row seen (Some name) = with_number (row name) seen
-
-abbrev rows_of : ℕ → List Part → ℕ
-rows_of seen ps = fold (λ s p. with_row s p.name) seen ps
-
--- a part, but where its number is too large
-abbrev kept : RuleParts → Part → RuleParts
-kept rule p = if is_large p.name p.value then rule else with_part rule p
-
-abbrev draft_with : Draft → List Part → Draft
-draft_with d ps = record { parts = fold kept d.parts ps; seen = rows_of d.seen ps; too_large = has_large_number ps || d.too_large }
+-- the parts are in order, and no name of them was read
+abbrev are_new : ℕ → List Part → Bool
+are_new seen ps = list_all (λ p. not (is_seen seen p.name) && is_part p) ps
 
 is_seen-with_number : (seen : ℕ) (name : PartName) (other : Option PartName) →
     is_seen (with_number (row name) seen) other ≡ is_name name other || is_seen seen other
 is_seen-with_number seen name None = refl
 is_seen-with_number seen name (Some other) = contains-with_number seen (row name) (row other) (row_small name)
 
--- those that are fresh once a name was read
-are_fresh-with_number : (seen : ℕ) (name : PartName) (ps : List Part) →
-    are_fresh (with_number (row name) seen) ps ≡ not (list_any (λ q. is_name name q.name) ps) && are_fresh seen ps
-are_fresh-with_number seen name [] = refl
-are_fresh-with_number seen name (p ∷ ps) =
-    rw (is_seen-with_number seen name p.name, are_fresh-with_number seen name ps)
-    (by_tests (is_name name p.name) (is_seen seen p.name) (list_any (λ q. is_name name q.name) ps) (are_fresh seen ps))
+-- those that are new once a name was read
+are_new-with_number : (seen : ℕ) (name : PartName) (ps : List Part) →
+    are_new (with_number (row name) seen) ps ≡ not (list_any (λ q. is_name name q.name) ps) && are_new seen ps
+are_new-with_number seen name [] = refl
+are_new-with_number seen name (p ∷ ps) =
+    rw (is_seen-with_number seen name p.name, are_new-with_number seen name ps)
+    (by_tests (is_name name p.name) (is_seen seen p.name) (is_part p) (list_any (λ q. is_name name q.name) ps) (are_new seen ps))
   where
-    by_tests : (n s b c : Bool) → (not (n || s) && (not b && c)) ≡ (not (n || b) && (not s && c))
-    by_tests n s b c = grind (arith, nat_tests)
+    by_tests : (n s i b c : Bool) → ((not (n || s) && i) && (not b && c)) ≡ (not (n || b) && ((not s && i) && c))
+    by_tests n s i b c = grind (arith, nat_tests)
 
--- the draft behind all of the parts, if they are in order, none stands twice and all are fresh
-abbrev whole : Draft → List Part → Option Draft
-whole d ps = if list_all is_part ps && none_twice ps && are_fresh d.seen ps then Some (draft_with d ps) else None
-
-regroup : (all once named other : Bool) (o : Option Draft) →
-    cond (all && once && (not named && other)) o None ≡ cond (all && (not named && once) && other) o None
-regroup all once named other o = grind (arith, nat_tests)
-
--- the draft behind a part whose number is too large, and behind any other
-abbrev marked : Draft → PartName → Draft
-marked d name = record { parts = d.parts; seen = with_number (row name) d.seen; too_large = true }
-
-abbrev filled : Draft → PartName → List ℕ → Draft
-filled d name value = record { parts = with_value name value d.parts; seen = with_number (row name) d.seen; too_large = d.too_large }
-
--- one part more, by its name
-whole_more : (d : Draft) (name : Option PartName) (value : List ℕ) (ps : List Part) (rest : Draft → Option Draft) → ((e : Draft) → rest e ≡ whole e ps)
-    → option_and_then rest (named_taken name value d) ≡ whole d (record { name = name; value = value } ∷ ps)
-whole_more d None value ps rest h = refl
-whole_more d (Some name) value ps rest h = by_tests (contains d.seen (row name)) (fits name value) (is_large (Some name) value)
-  where
-    by_tests : (s f l : Bool) →
-        option_and_then rest (cond s None (cond (not f) None (cond l (Some (marked d name)) (Some (filled d name value)))))
-        ≡ cond (f && list_all is_part ps && (not (list_any (λ q. is_name name q.name) ps) && none_twice ps) && (not s && are_fresh d.seen ps))
-        (Some (record {
-          parts = fold kept (cond l d.parts (with_value name value d.parts)) ps;
-          seen = rows_of (with_number (row name) d.seen) ps;
-          too_large = (l || has_large_number ps) || d.too_large;
-        })) None
-    by_tests true f l = rw (and_right (f && list_all is_part ps && (not (list_any (λ q. is_name name q.name) ps) && none_twice ps)) false refl) refl
-    by_tests false false l = refl
-    by_tests false true true =
-        h (marked d name) ∙ rw (are_fresh-with_number d.seen name ps, or_right (has_large_number ps) true refl)
-        (regroup (list_all is_part ps) (none_twice ps) (list_any (λ q. is_name name q.name) ps) (are_fresh d.seen ps) _)
-    by_tests false true false =
-        h (filled d name value) ∙ rw (are_fresh-with_number d.seen name ps)
-        (regroup (list_all is_part ps) (none_twice ps) (list_any (λ q. is_name name q.name) ps) (are_fresh d.seen ps) _)
-
--- parts that are read one after another
-walk-parts : (d : Draft) (texts : List (List ℕ)) → walk part_taken d texts ≡ whole d (map part_of texts)
-walk-parts d [] = refl
-walk-parts d (text ∷ texts) = whole_more d (part_of text).name (part_of text).value (map part_of texts) (λ e. walk part_taken e texts) (λ e. walk-parts e texts)
-
--- FREQ was read, and not both UNTIL and COUNT
-abbrev is_whole : Draft → Bool
-is_whole draft = contains draft.seen (row part.Freq) && not (contains draft.seen (row part.Until) && contains draft.seen (row part.Count))
-
--- what the finished draft says, or None where a part was refused
-abbrev pub answer_of : Option Draft → Result RuleParts RuleFault
-answer_of None = Err BadRule
-answer_of (Some d) = if not (is_whole d) then Err BadRule else if d.too_large then Err NumberTooLarge else Ok d.parts
-
-all_fresh : (ps : List Part) → are_fresh 0 ps ≡ true
-all_fresh [] = refl
-all_fresh (p ∷ ps) = ap (λ t. not t && are_fresh 0 ps) (unseen p.name) ∙ all_fresh ps
+all_new : (ps : List Part) → are_new 0 ps ≡ list_all is_part ps
+all_new [] = refl
+all_new (p ∷ ps) = rw (unseen p.name, all_new ps) refl
   where
     unseen : (name : Option PartName) → is_seen 0 name ≡ false
     unseen None = refl
     unseen (Some name) = has_none (row name)
 
-same : (a b : ℕ) → (a == b) ≡ (b == a)
-same a b = grind (arith, nat_tests)
+-- the name was read, or one of the parts that are still to be read has it
+abbrev given : ℕ → List Part → PartName → Bool
+given seen ps name = contains seen (row name) || has_part name ps
 
--- the rows that were read are those of the parts
-contains-with_row : (o : Option PartName) (seen : ℕ) (name : PartName) → contains (with_row seen o) (row name) ≡ is_name name o || contains seen (row name)
-contains-with_row None seen name = refl
-contains-with_row (Some other) seen name = contains-with_number seen (row other) (row name) (row_small other)
-    ∙ ap (λ t. t || contains seen (row name)) (same (row name) (row other))
-
-contains-rows_of : (ps : List Part) (seen : ℕ) (name : PartName) → contains (rows_of seen ps) (row name) ≡ has_part name ps || contains seen (row name)
-contains-rows_of [] seen name = refl
-contains-rows_of (p ∷ ps) seen name =
-    contains-rows_of ps (with_row seen p.name) name ∙ ap (λ t. has_part name ps || t) (contains-with_row p.name seen name)
-    ∙ by_tests (is_name name p.name) (contains seen (row name)) (has_part name ps)
+given-with_number : (seen : ℕ) (name other : PartName) (ps : List Part) →
+    given (with_number (row name) seen) ps other ≡ contains seen (row other) || (is_name other (Some name) || has_part other ps)
+given-with_number seen name other ps =
+    rw (contains-with_number seen (row name) (row other) (row_small name))
+    (by_tests (row other) (row name) (contains seen (row other)) (has_part other ps))
   where
-    by_tests : (n s r : Bool) → (r || (n || s)) ≡ ((n || r) || s)
-    by_tests n s r = grind (arith, nat_tests)
+    by_tests : (a b : ℕ) (s h : Bool) → (((a == b) || s) || h) ≡ (s || ((b == a) || h))
+    by_tests a b s h = grind (arith, nat_tests)
 
--- the name was read where one of the parts has it
-seen-has_part : (ps : List Part) (name : PartName) → contains (rows_of 0 ps) (row name) ≡ has_part name ps
-seen-has_part ps name = contains-rows_of ps 0 name ∙ by_test (has_part name ps) (contains 0 (row name)) (has_none (row name))
-  where
-    by_test : (a b : Bool) → b ≡ false → (a || b) ≡ a
-    by_test a b h = grind (arith, nat_tests)
+-- all is in order: a part has FREQ, and not both UNTIL and COUNT stand there
+abbrev in_order : ℕ → List Part → Bool
+in_order seen ps =
+    are_new seen ps && none_twice ps && given seen ps part.Freq && not (given seen ps part.Until && given seen ps part.Count)
 
--- where no number is too large, each part is kept
-fold-kept : (ps : List Part) (rule : RuleParts) → has_large_number ps ≡ false → fold kept rule ps ≡ fold with_part rule ps
-fold-kept [] rule h = refl
-fold-kept (p ∷ ps) rule h =
-    let small = or_parts (is_large p.name p.value) (has_large_number ps) h in
-    let this = small.0 in
-    rw this (fold-kept ps (with_part rule p) small.1)
+regroup : (new named once : Bool) → (new && (not named && once)) ≡ ((not named && new) && once)
+regroup new named once = grind (arith, nat_tests)
 
--- what the parts say, and what the draft behind all of them does
-answer-whole : (ps : List Part) →
-    (if not (are_parts ps) then Err BadRule else if has_large_number ps then Err NumberTooLarge else Ok (rule_said ps)) ≡ answer_of (whole no_parts ps)
-answer-whole ps =
-    by_tests (list_all is_part ps && none_twice ps) (has_part part.Freq ps) (not (has_part part.Until ps && has_part part.Count ps)) (has_large_number ps)
-    whole_is (fold-kept ps (every Yearly))
-    ∙ ap (λ t. answer_of (cond (list_all is_part ps && none_twice ps && t) (Some (draft_with no_parts ps)) None)) (sym (all_fresh ps))
-  where
-    whole_is : is_whole (draft_with no_parts ps) ≡ has_part part.Freq ps && not (has_part part.Until ps && has_part part.Count ps)
-    whole_is = rw (seen-has_part ps part.Freq, seen-has_part ps part.Until, seen-has_part ps part.Count) refl
+in_order-part : (seen : ℕ) (name : PartName) (value : List ℕ) (ps : List Part) → contains seen (row name) ≡ false → fits name value ≡ true →
+    in_order seen (record { name = Some name; value = value } ∷ ps) ≡ in_order (with_number (row name) seen) ps
+in_order-part seen name value ps s f =
+    rw (
+      s,
+      f,
+      are_new-with_number seen name ps,
+      given-with_number seen name part.Freq ps,
+      given-with_number seen name part.Until ps,
+      given-with_number seen name part.Count ps,
+      regroup (are_new seen ps) (list_any (λ q. is_name name q.name) ps) (none_twice ps),
+    ) refl
 
-    by_tests : (all q r l : Bool) → is_whole (draft_with no_parts ps) ≡ (q && r) → (l ≡ false → fold kept (every Yearly) ps ≡ rule_said ps)
-        → cond (not (all && q && r)) (Err BadRule) (cond l (Err NumberTooLarge) (Ok (rule_said ps)))
-        ≡ answer_of (cond (all && true) (Some (record { parts = fold kept (every Yearly) ps; seen = rows_of 0 ps; too_large = l || false })) None)
-    by_tests false q r l w k = refl
-    by_tests true q r true w k = ap (λ t. cond (not t) (Err BadRule) (Err NumberTooLarge)) (sym w)
-    by_tests true q r false w k =
-        ap (λ t. cond (not t) (Err BadRule) (Ok (rule_said ps))) (sym w)
-        ∙ ap (λ (s : RuleParts). cond (not (is_whole (draft_with no_parts ps))) (Err BadRule) (Ok s)) (sym (k refl))
+-- what the parts that were read say together with those still to be read
+abbrev told : Draft → List Part → Result RuleParts RuleFault
+told d ps =
+    if not (in_order d.seen ps) then Err BadRule
+    else if d.too_large || has_large_number ps then Err NumberTooLarge
+    else Ok (fold with_part d.parts ps)
+
+-- what the finished draft says, or None where a part was refused
+abbrev pub answer_of : Option Draft → Result RuleParts RuleFault
+answer_of None = Err BadRule
+answer_of (Some d) =
+    if not (contains d.seen (row part.Freq) && not (contains d.seen (row part.Until) && contains d.seen (row part.Count))) then Err BadRule
+    else if d.too_large then Err NumberTooLarge
+    else Ok d.parts
+
+-- one part more, by its name
+told-part : (d : Draft) (name : Option PartName) (value : List ℕ) (ps : List Part) (rest : Draft → Option Draft)
+    → ((e : Draft) → told e ps ≡ answer_of (rest e))
+    → told d (record { name = name; value = value } ∷ ps) ≡ answer_of (option_and_then rest (named_taken name value d))
+told-part d None value ps rest h = refl
+told-part d (Some name) value ps rest h = elim (cases_Bool (contains d.seen (row name))) [
+  | inl s ↦ rw s refl
+  | inr s ↦ elim (cases_Bool (fits name value)) [
+    | inr f ↦ rw (s, f) refl
+    | inl f ↦ rw (in_order-part d.seen name value ps s f, s, f) (elim (cases_Bool (is_large (Some name) value)) [
+      | inl l ↦ rw (l, or_right d.too_large true refl, ← h) refl
+      | inr l ↦ rw (l, ← h) refl
+    ])
+  ]
+]
+
+or_none : (t : Bool) → (t || false) ≡ t
+or_none t = grind (arith, nat_tests)
+
+-- parts that are read one after another
+told-walk : (d : Draft) (texts : List (List ℕ)) → told d (map part_of texts) ≡ answer_of (walk part_taken d texts)
+told-walk d [] = simp or_none
+told-walk d (text ∷ texts) = told-part d (part_of text).name (part_of text).value (map part_of texts) _ (λ e. told-walk e texts)
 
 pub rule_of-walk : (text : List ℕ) → rule_of text ≡ answer_of (walk part_taken no_parts (pieces 59 (without_last text)))
 unfolding rule_of
-rule_of-walk text = answer-whole (map part_of (pieces 59 (without_last text))) ∙ ap answer_of (sym (walk-parts no_parts (pieces 59 (without_last text))))
+rule_of-walk text = rw (← all_new (map part_of (pieces 59 (without_last text)))) (told-walk no_parts (pieces 59 (without_last text)))
