@@ -1,9 +1,11 @@
--- The rule of a text says what each part of the text says.
-use Rattle.std.proofs.Common.{◌≡◌, ℕ, Bool, true, false, ◌&&◌, ◌==◌, List, [], ◌∷◌, Option, Some, None, Ok, Err, cond, get_or, refl, ap, subst}
+-- The rule of a text says what each part of the text says, and has no number in a list exactly where its part is absent.
+use Rattle.std.proofs.Common.{◌≡◌, ◌<◌, ℕ, length, Bool, true, false, ◌&&◌, ◌==◌, List, [], ◌∷◌, Option, Some, None, Ok, Err, cond, get_or, refl, ap, subst}
 use Rattle.std.proofs.Common.{inl, inr, sym, ◌∙◌, lit<, arith, not, fold, min, option_map, option_and_then, unwrap_or, is_some}
 use Rattle.std.specs.List.{list_any, list_all}
 use Rattle.std.specs.Option.{option_map_or}
 use Rattle.std.proofs.lemmas.Bool.{and_parts, cases_Bool, eqb-true, false≢true}
+use Rattle.std.proofs.lemmas.Bool.Decides.{nat_tests}
+use Rattle.std.proofs.lemmas.List.Splits.{length-slice_split}
 use Rattle.jiff_core.specs.declared.civil.weekday.Weekday.{Weekday}
 use Rattle.jiff_core.specs.declared.civil.weekday.Weekday.TheVariants.{Monday}
 use Rattle.jiff_core.specs.Weekday.{monday_zero}
@@ -16,15 +18,17 @@ use Rattle.ics_values.specs.declared.part_name.ListName.TheVariants.{BySecond, B
 use Rattle.ics_values.specs.declared.part_name.PartName.{PartName}
 use Rattle.ics_values.specs.declared.part_name.PartName.TheVariants as part
 use Rattle.ics_values.specs.Digits.{number_of}
-use Rattle.ics_fields.specs.Ordinals.{no_ordinals, no_wide_ordinals, no_weekdays, numbers_of}
+use Rattle.ics_fields.specs.Sets.{is_empty}
+use Rattle.ics_fields.specs.Ordinals.{lists_none, lists_none_wide, lists_no_weekday, no_ordinals, no_wide_ordinals, no_weekdays, numbers_of}
 use Rattle.ics_fields.specs.RuleParts.{RuleParts, every}
 use Rattle.ics_values.specs.RuleTexts.{Part, pieces, row, fits, fits_list, fits_name, is_part, is_name, has_part, none_twice, are_parts, parts_of}
 use Rattle.ics_values.specs.RuleTexts.{frequency_of, weekday_of, until_of}
 use Rattle.ics_values.specs.Rules.{has_large_number, rule_said, rule_of}
-use Rattle.ics_values.specs.RuleLaws.{value_of, items_of, has_place, has_wide_place, Says}
+use Rattle.ics_values.specs.RuleLaws.{value_of, items_of, has_place, has_wide_place, lists_nothing, Says}
 use Rattle.ics_fields.proofs.SetLemmas.{has_none, none_wide_has}
 use Rattle.ics_values.proofs.SaysLemmas.{said, value_there, parts_said}
-use Rattle.ics_values.proofs.ListedLemmas.{Adds, gathered_all, number_high, adds_number, adds_place, adds_wide_place, adds_weekday, adds_numbered}
+use Rattle.ics_values.proofs.ListedLemmas.{Adds, IsWide, gathered, or_false, number_high, adds_number, adds_place, adds_wide_place, adds_weekday, adds_numbered}
+use Rattle.ics_values.proofs.ListedLemmas.{Fills, fills_number, fills_place, fills_wide_place, fills_day}
 
 -- names of one row are one
 abbrev names : List PartName
@@ -105,32 +109,67 @@ parts_are ps h =
     let parts = and_parts (list_all is_part ps) (none_twice ps) front.0 in
     record { each = parts.0; once = parts.1; frequency = front.1 }
 
-pub says : (ps : List Part) → AreParts ps → Says ps (said ps (every Yearly))
-says ps h = record {
-  frequency = frequency_is (value_of part.Freq ps) (value_there part.Freq ps ∙ h.frequency)
-      ∙ sym (said_there frequency_of Yearly (value_of part.Freq ps) (value_passes part.Freq ps h.each));
-  until = until_is (value_of part.Until ps);
-  count = count_is (value_of part.Count ps);
-  interval = refl;
-  week_start = said_there weekday_of Monday (value_of part.Wkst ps) (value_passes part.Wkst ps h.each);
-  seconds = λ n. listed BySecond (adds_number (λ i. min (number_of i) 59) (fits_list BySecond) (λ i fit. let last = number_high 0 60 i fit in omega arith) n)
-      0 tt (has_none n);
-  minutes = λ n. listed ByMinute (adds_number number_of (fits_list ByMinute) (λ i fit. let last = number_high 0 59 i fit in omega arith) n) 0 tt (has_none n);
-  hours = λ n. listed ByHour (adds_number number_of (fits_list ByHour) (λ i fit. let last = number_high 0 23 i fit in omega arith) n) 0 tt (has_none n);
-  months = λ n. listed ByMonth (adds_number number_of (fits_list ByMonth) (λ i fit. let last = number_high 1 12 i fit in omega arith) n) 0 tt (has_none n);
-  month_days = λ side n. listed ByMonthDay (adds_place 31 (lit< tt) side n) no_ordinals tt (none_here side n);
-  weeks = λ side n. listed ByWeekNo (adds_place 53 (lit< tt) side n) no_ordinals tt (none_here side n);
-  year_days = λ side n. listed ByYearDay (adds_wide_place 366 (lit< tt) side n) no_wide_ordinals (record { front = refl; back = refl }) (none_wide_here side n);
-  positions = λ side n. listed BySetPos (adds_wide_place 366 (lit< tt) side n) no_wide_ordinals (record { front = refl; back = refl }) (none_wide_here side n);
-  weekdays = λ day. listed ByDay (adds_weekday day) no_weekdays tt (has_none (monday_zero day));
-  numbered = λ day side n. listed ByDay (adds_numbered day side n) no_weekdays refl (none_numbered day side n);
-}
+turned : (a b : Bool) → not a ≡ b → a ≡ not b
+turned a b h = grind (arith, nat_tests)
+
+-- a part has one item or more
+items_there : (o : Option (List ℕ)) → list_any (λ i. true) (option_map_or (pieces 44) o []) ≡ is_some o
+items_there None = refl
+items_there (Some v) = some (pieces 44 v) (omega (arith, length-slice_split (λ b. b == 44) v))
   where
-    -- a list sees what its items test for
-    listed : {A : Type 0} (list : ListName) {step : A → List ℕ → A} {sees : A → Bool} {test : List ℕ → Bool} {Fine : A → Type 0}
-        → Adds step sees test (fits_list list) Fine → (none : A) → Fine none → sees none ≡ false
-        → sees (fold step none (items_of list ps)) ≡ list_any test (items_of list ps)
-    listed list adds none fine empty = gathered_all adds (items_of list ps) (items_fit list ps h.each) none fine empty
+    some : (items : List (List ℕ)) → 0 < length items → list_any (λ i. true) items ≡ true
+    some [] l = absurd (omega arith)
+    some (i ∷ items) l = refl
+
+none_is_wide : IsWide no_wide_ordinals
+none_is_wide = record { front = refl; back = refl }
+
+module _ (ps : List Part) (h : AreParts ps) where
+  -- a list sees what its items test for
+  listed : {A : Type 0} (list : ListName) {step : A → List ℕ → A} {sees : A → Bool} {test : List ℕ → Bool} {Fine : A → Type 0}
+      → Adds step sees test (fits_list list) Fine → (none : A) → Fine none → sees none ≡ false
+      → sees (fold step none (items_of list ps)) ≡ list_any test (items_of list ps)
+  listed list {sees = sees} {test = test} adds none fine empty =
+      gathered adds (items_of list ps) (items_fit list ps h.each) none fine ∙ or_false (list_any test (items_of list ps)) (sees none) empty
+
+  pub says : Says ps (said ps (every Yearly))
+  says = record {
+    frequency = frequency_is (value_of part.Freq ps) (value_there part.Freq ps ∙ h.frequency)
+        ∙ sym (said_there frequency_of Yearly (value_of part.Freq ps) (value_passes part.Freq ps h.each));
+    until = until_is (value_of part.Until ps);
+    count = count_is (value_of part.Count ps);
+    interval = refl;
+    week_start = said_there weekday_of Monday (value_of part.Wkst ps) (value_passes part.Wkst ps h.each);
+    seconds = λ n. listed BySecond (adds_number (λ i. min (number_of i) 59) (fits_list BySecond) (λ i fit. let last = number_high 0 60 i fit in omega arith) n)
+        0 tt (has_none n);
+    minutes = λ n. listed ByMinute (adds_number number_of (fits_list ByMinute) (λ i fit. let last = number_high 0 59 i fit in omega arith) n) 0 tt (has_none n);
+    hours = λ n. listed ByHour (adds_number number_of (fits_list ByHour) (λ i fit. let last = number_high 0 23 i fit in omega arith) n) 0 tt (has_none n);
+    months = λ n. listed ByMonth (adds_number number_of (fits_list ByMonth) (λ i fit. let last = number_high 1 12 i fit in omega arith) n) 0 tt (has_none n);
+    month_days = λ side n. listed ByMonthDay (adds_place 31 (lit< tt) side n) no_ordinals tt (none_here side n);
+    weeks = λ side n. listed ByWeekNo (adds_place 53 (lit< tt) side n) no_ordinals tt (none_here side n);
+    year_days = λ side n. listed ByYearDay (adds_wide_place 366 (lit< tt) side n) no_wide_ordinals none_is_wide (none_wide_here side n);
+    positions = λ side n. listed BySetPos (adds_wide_place 366 (lit< tt) side n) no_wide_ordinals none_is_wide (none_wide_here side n);
+    weekdays = λ day. listed ByDay (adds_weekday day) no_weekdays tt (has_none (monday_zero day));
+    numbered = λ day side n. listed ByDay (adds_numbered day side n) no_weekdays refl (none_numbered day side n);
+  }
+
+  -- and it is empty exactly where its part is absent
+  filled : {A : Type 0} (list : ListName) {step : A → List ℕ → A} (empty : A → Bool) {Fine : A → Type 0}
+      → Fills step empty (fits_list list) Fine → (none : A) → Fine none → empty none ≡ true
+      → empty (fold step none (items_of list ps)) ≡ not (has_part (part.List list) ps)
+  filled list empty fills none fine e =
+      turned _ _ (listed list fills none fine (ap not e) ∙ items_there (value_of (part.List list) ps) ∙ value_there (part.List list) ps)
+
+  pub absent : (list : ListName) → lists_nothing list (said ps (every Yearly)) ≡ not (has_part (part.List list) ps)
+  absent BySecond = filled BySecond is_empty (fills_number (λ i. min (number_of i) 59) (fits_list BySecond)) 0 tt refl
+  absent ByMinute = filled ByMinute is_empty (fills_number number_of (fits_list ByMinute)) 0 tt refl
+  absent ByHour = filled ByHour is_empty (fills_number number_of (fits_list ByHour)) 0 tt refl
+  absent ByMonth = filled ByMonth is_empty (fills_number number_of (fits_list ByMonth)) 0 tt refl
+  absent ByDay = filled ByDay lists_no_weekday fills_day no_weekdays refl refl
+  absent ByMonthDay = filled ByMonthDay lists_none (fills_place (fits_list ByMonthDay)) no_ordinals tt refl
+  absent ByWeekNo = filled ByWeekNo lists_none (fills_place (fits_list ByWeekNo)) no_ordinals tt refl
+  absent ByYearDay = filled ByYearDay lists_none_wide (fills_wide_place 366 (lit< tt)) no_wide_ordinals none_is_wide refl
+  absent BySetPos = filled BySetPos lists_none_wide (fills_wide_place 366 (lit< tt)) no_wide_ordinals none_is_wide refl
 
 -- a rule of a text has these parts, and is what they say
 pub of_rule : (text : List ℕ) (rule : RuleParts) → rule_of text ≡ Ok rule → AreParts (parts_of text) × (said (parts_of text) (every Yearly) ≡ rule)

@@ -3,8 +3,7 @@ use Rattle.ics_values.specs.declared.part_name.PartName.TheVariants as part
 use Rattle.ics_fields.specs.RuleParts.{RuleParts}
 use Rattle.ics_values.specs.RuleTexts.{has_part, parts_of}
 use Rattle.ics_values.specs.RuleLaws.{lists_nothing}
-use Rattle.ics_values.proofs.RuleSays.{of_rule}
-use Rattle.ics_values.proofs.AbsentLemmas.{absent}
+use Rattle.ics_values.proofs.RuleSays.{of_rule, absent}
 use Rattle.ics_values.proofs.rule_law.absent_is_empty.Goals as goal
 
 pub returns : goal.returns
