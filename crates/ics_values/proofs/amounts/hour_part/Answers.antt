@@ -1,4 +1,4 @@
-use Rattle.std.proofs.Common.{◌≡◌, ◌==◌, false, length, rules, arith}
+use Rattle.std.proofs.Common.{rules, arith}
 use Rattle.std.proofs.lemmas.Grind.{common_steps}
 use Rattle.ics_values.specs.Durations.{minute_shapes}
 use Rattle.ics_values.proofs.ShapeLemmas.{no_shape-behind}
@@ -6,8 +6,7 @@ use Rattle.ics_values.proofs.amounts.hour_part.Goals as goal
 
 pub returns-in_err-amounts : goal.returns-in_err-amounts
 returns-in_err-amounts c =
-    let some : (length c.in_ok-hours.hours.rest.now == 0) ≡ false = search rules in
-    rw c.from_residual-in_err-amounts.ensures (no_shape-behind minute_shapes c.in_ok-hours.ensures some c.in_err-amounts.ensures)
+    rw c.from_residual-in_err-amounts.ensures (no_shape-behind minute_shapes c.in_ok-hours.ensures (search rules) c.in_err-amounts.ensures)
 
 pub returns-then-is_empty : goal.returns-then-is_empty
 returns-then-is_empty c = grind (arith, common_steps)

@@ -1,9 +1,6 @@
-use Rattle.std.proofs.Common.{◌≡◌, ◌==◌, false, [], length, refl, rules}
+use Rattle.std.proofs.Common.{[], refl, rules}
 use Rattle.ics_values.proofs.ShapeLemmas.{no_shape-behind}
 use Rattle.ics_values.proofs.amounts.week_part.Goals as goal
 
 pub returns-then-not-is_empty : goal.returns-then-not-is_empty
-returns-then-not-is_empty c =
-    let rest = c.in_ok-weeks.weeks.rest.now in
-    let some : (length rest == 0) ≡ false = search rules in
-    no_shape-behind [] c.in_ok-weeks.ensures some refl
+returns-then-not-is_empty c = no_shape-behind [] c.in_ok-weeks.ensures (search rules) refl

@@ -27,27 +27,25 @@ amount-unsigned unit (b ∷ bs) low = elim (cases_Bool (is_sign b)) [ inl h ↦ 
     behind_sign : is_sign b ≡ true → amount unit (b ∷ bs) ≡ amount unit bs
     behind_sign h = grind (arith, nat_tests)
 
--- a number fits where that of the text does
-fits : (unit : ℕ) (text : List ℕ) (n : ℕ) → 57 < unit → n ≡ capped (amount unit (unsigned text)) →
-    nat_le n greatest_number ≡ nat_le (amount unit text) greatest_number
-fits unit text n low is = rw (is, sym (amount-unsigned unit text low)) (grind (arith, nat_tests))
+has_unsigned : (text : List ℕ) (a : Amounts) → HasAmounts (unsigned text) a → HasAmounts text a
+has_unsigned text a has = record {
+  weeks = rw (amount-unsigned 87 text (lit< tt)) has.weeks;
+  days = rw (amount-unsigned 68 text (lit< tt)) has.days;
+  hours = rw (amount-unsigned 72 text (lit< tt)) has.hours;
+  minutes = rw (amount-unsigned 77 text (lit< tt)) has.minutes;
+  seconds = rw (amount-unsigned 83 text (lit< tt)) has.seconds;
+}
 
-refused : (text : List ℕ) (a : Amounts) → is_duration_text text ≡ true → HasAmounts (unsigned text) a → each_fits a ≡ false →
-    Err NumberTooLarge ≡ duration_of text
+-- a number that is held fits where that of the text does
+capped_fits : (n : ℕ) → nat_le (capped n) greatest_number ≡ nat_le n greatest_number
+capped_fits n = grind (arith, nat_tests)
+
+refused : (text : List ℕ) (a : Amounts) → is_duration_text text ≡ true → HasAmounts text a → each_fits a ≡ false → Err NumberTooLarge ≡ duration_of text
 refused text a ordered has large =
-    let same : each_fits a ≡ amounts_fit text = rw (
-      fits 87 text a.weeks (lit< tt) has.weeks,
-      fits 68 text a.days (lit< tt) has.days,
-      fits 72 text a.hours (lit< tt) has.hours,
-      fits 77 text a.minutes (lit< tt) has.minutes,
-      fits 83 text a.seconds (lit< tt) has.seconds,
-    ) refl in
+    let same : each_fits a ≡ amounts_fit text = rw (has.weeks, has.days, has.hours, has.minutes, has.seconds) (simp capped_fits) in
     rw (ordered, sym same ∙ large) refl
 
-number : (unit : ℕ) (text : List ℕ) (n : ℕ) → 57 < unit → n ≡ capped (amount unit (unsigned text)) → n ≤ greatest_number → amount unit text ≡ n
-number unit text n low is small = let e = amount-unsigned unit text low in omega arith
-
-said : (text : List ℕ) (a : Amounts) → is_duration_text text ≡ true → HasAmounts (unsigned text) a → each_fits a ≡ true →
+said : (text : List ℕ) (a : Amounts) → is_duration_text text ≡ true → HasAmounts text a → each_fits a ≡ true →
     duration_of text ≡ Ok (record {
       negative = begins is_minus text;
       days = 7 * a.weeks + a.days;
@@ -55,23 +53,23 @@ said : (text : List ℕ) (a : Amounts) → is_duration_text text ≡ true → Ha
     })
 said text a ordered has fits =
     let small = are_small a fits in
-    let w : weeks text ≡ a.weeks = number 87 text a.weeks (lit< tt) has.weeks small.weeks in
-    let d : days text ≡ a.days = number 68 text a.days (lit< tt) has.days small.days in
-    let h : hours text ≡ a.hours = number 72 text a.hours (lit< tt) has.hours small.hours in
-    let m : minutes text ≡ a.minutes = number 77 text a.minutes (lit< tt) has.minutes small.minutes in
-    let s : seconds text ≡ a.seconds = number 83 text a.seconds (lit< tt) has.seconds small.seconds in
+    let w : weeks text ≡ a.weeks = omega arith in
+    let d : days text ≡ a.days = omega arith in
+    let h : hours text ≡ a.hours = omega arith in
+    let m : minutes text ≡ a.minutes = omega arith in
+    let s : seconds text ≡ a.seconds = omega arith in
     rw (ordered, w, d, h, m, s, fits) refl
 
 pub returns-then-not-fit-clause-value : goal.returns-then-not-fit-clause-value
 returns-then-not-fit-clause-value c =
     let reads = rw c.unsigned.ensures at c.in-Some.ensures in
-    refused c.args.text.now c.in-Some.amounts reads.0 reads.1 (sym c.if-not-fit.ensures)
+    refused c.args.text.now c.in-Some.amounts reads.0 (has_unsigned c.args.text.now c.in-Some.amounts reads.1) (sym c.if-not-fit.ensures)
 
 pub returns-clause-value : goal.returns-clause-value
 returns-clause-value c =
     let text = c.args.text.now in
     let reads = rw c.unsigned.ensures at c.in-Some.ensures in
-    rw c.is_negative.ensures (sym (said text c.in-Some.amounts reads.0 reads.1 (sym c.if-not-fit.ensures)))
+    rw c.is_negative.ensures (sym (said text c.in-Some.amounts reads.0 (has_unsigned text c.in-Some.amounts reads.1) (sym c.if-not-fit.ensures)))
 
 pub returns-clause-range : goal.returns-clause-range
 returns-clause-range c =
