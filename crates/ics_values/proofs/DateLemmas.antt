@@ -1,10 +1,11 @@
 -- The dates that there are, and their day numbers, are jiff's.
-use Rattle.std.proofs.Common.{◌≡◌, ℕ, zero, suc, ◌-◌, ◌≤◌, ◌<◌, true, ◌&&◌, nat_le, Some, take, map, sym, ap, subst, arith, ℤ, pos, sum}
+use Rattle.std.proofs.Common.{◌≡◌, ◌↔◌, ℕ, zero, suc, ◌-◌, ◌≤◌, ◌<◌, true, ◌&&◌, nat_le, Some, take, map, sym, ap, subst, arith, ℤ, pos, sum}
+use Rattle.std.proofs.lemmas.Int.{ints}
 use Rattle.std.proofs.lemmas.Bool.Decides.{nat_tests}
-use Rattle.jiff_core.specs.Calendar.{days_in_month, days_of_months, days_from_civil, IsCivilDate}
+use Rattle.jiff_core.specs.Calendar.{days_in_month, days_of_months, days_from_civil, IsCivilDate, IsDate}
 use Rattle.jiff_core.proofs.SignedLemmas.{signed_arith}
 use Rattle.jiff_core.proofs.CalendarLemmas.{days_from_civil-day_count, day_count-day_of_year}
-use Rattle.ics_values.specs.Dates.{is_date, months, day_number, date_day}
+use Rattle.ics_values.specs.Dates.{is_date, months, day_number, date_day, IsJiffsDate}
 use Rattle.jiff_core.specs.declared.civil.date.Date.{Date}
 use Rattle.jiff_core.specs.Date.{epoch_day}
 use Rattle.jiff_core.proofs.DateLemmas.{civil}
@@ -16,31 +17,23 @@ days_of-months y (suc (suc (suc (suc (suc (suc (suc (suc (suc (suc (suc zero))))
 days_of-months y _ h = grind arith
 
 -- what the test of a date says
-pub record Parts (y m d : ℕ) : Type 0 where
-  pub month_low : 1 ≤ m
-  pub month_high : m ≤ 12
-  pub day_low : 1 ≤ d
-  pub day_high : d ≤ days_in_month (pos y) m
+abbrev pub HasDay : ℕ → ℕ → ℕ → Type 0
+HasDay y m d = ((1 ≤ m) × (m ≤ 12)) × ((1 ≤ d) × (d ≤ days_in_month (pos y) m))
 
-pub parts : (y m d : ℕ) → is_date y m d ≡ true → Parts y m d
-parts y m d h =
-    let p = by_tests 1 m 12 d (days_in_month (pos y) m) h in
-    record { month_low = p.0; month_high = p.1; day_low = p.2; day_high = p.3 }
+pub parts : (y m d : ℕ) → (is_date y m d ≡ true) ↔ HasDay y m d
+parts y m d = (by_tests 1 m 12 d (days_in_month (pos y) m), from_tests 1 m 12 d (days_in_month (pos y) m))
   where
-    by_tests : (one m twelve d last : ℕ) → (nat_le one m && nat_le m twelve && nat_le one d && nat_le d last) ≡ true → (one ≤ m) × (m ≤ twelve) × (one ≤ d)
-        × (d ≤ last)
+    by_tests : (one m twelve d last : ℕ) → (nat_le one m && nat_le m twelve && nat_le one d && nat_le d last) ≡ true
+        → ((one ≤ m) × (m ≤ twelve)) × ((one ≤ d) × (d ≤ last))
     by_tests one m twelve d last h = grind (arith, nat_tests)
 
-pub is_date-parts : (y m d : ℕ) → Parts y m d → is_date y m d ≡ true
-is_date-parts y m d p = by_tests 1 12 (days_in_month (pos y) m) (p.month_low, p.month_high, p.day_low, p.day_high)
-  where
-    by_tests : (one twelve last : ℕ) → (one ≤ m) × (m ≤ twelve) × (one ≤ d) × (d ≤ last) →
-        (nat_le one m && nat_le m twelve && nat_le one d && nat_le d last) ≡ true
-    by_tests one twelve last h = let month_low = h.0 in let month_high = h.1 in let day_low = h.2 in let day_high = h.3 in grind (arith, nat_tests)
+    from_tests : (one m twelve d last : ℕ) → ((one ≤ m) × (m ≤ twelve)) × ((one ≤ d) × (d ≤ last))
+        → (nat_le one m && nat_le m twelve && nat_le one d && nat_le d last) ≡ true
+    from_tests one m twelve d last h = let ((month_low, month_high), (day_low, day_high)) = h in grind (arith, nat_tests)
 
 pub day_number-days_from_civil : (y m d : ℕ) → is_date y m d ≡ true → day_number y m d ≡ days_from_civil (pos y) m d
 day_number-days_from_civil y m d h =
-    let p = parts y m d h in
+    let ((month_low, month_high), (day_low, day_high)) = (parts y m d).0 h in
     let months_before = days_of-months (pos y) (m - 1) (omega arith) in
     let whole = day_count-day_of_year (pos y) m d (omega arith) in
     let start = day_count_is y in
@@ -51,6 +44,17 @@ day_number-days_from_civil y m d h =
 pub date_day-found : (date : Date) (y : ℕ) → date.year ≡ pos y → date_day y date.month date.day ≡ Some (epoch_day date)
 date_day-found date y same =
     let c : IsCivilDate (pos y) date.month date.day = subst (λ (z : ℤ). IsCivilDate z date.month date.day) same (civil date) in
-    let there = is_date-parts y date.month date.day (record { month_low = c.1.0; month_high = c.1.1; day_low = c.2.0; day_high = c.2.1 }) in
+    let there = (parts y date.month date.day).1 (c.1, c.2) in
     let number = day_number-days_from_civil y date.month date.day there in
     rw (there, number) (ap (λ (z : ℤ). Some (days_from_civil z date.month date.day)) (sym same))
+
+pub is_jiffs : (y m d : ℕ) → y ≤ 9999 → IsJiffsDate y m d
+is_jiffs y m d year = record {
+  exists = (
+    (λ h. let ((month_low, month_high), (day_low, day_high)) = (parts y m d).0 h in
+        ((omega (arith, ints), omega (arith, ints)), (omega (arith, ints), omega (arith, ints)), (omega (arith, ints), omega (arith, ints)))),
+    (λ (h : IsDate (pos y) (pos m) (pos d)). (parts y m d).1
+        ((omega (arith, ints, h.1.0), omega (arith, ints, h.1.1)), (omega (arith, ints, h.2.0), omega (arith, ints, h.2.1)))),
+  );
+  number = day_number-days_from_civil y m d;
+}

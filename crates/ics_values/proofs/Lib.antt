@@ -4,7 +4,5 @@ pub mod RuleLemmas
 pub mod SaysLemmas
 pub mod ListedLemmas
 pub mod RuleSays
-pub mod AbsentLemmas
 pub mod StampLemmas
 pub mod TextLemmas
-pub mod LawLemmas

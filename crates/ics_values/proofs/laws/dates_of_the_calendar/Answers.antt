@@ -1,4 +1,4 @@
-use Rattle.ics_values.proofs.LawLemmas.{is_jiffs}
+use Rattle.ics_values.proofs.DateLemmas.{is_jiffs}
 use Rattle.ics_values.proofs.laws.dates_of_the_calendar.Goals as goal
 
 pub returns : goal.returns

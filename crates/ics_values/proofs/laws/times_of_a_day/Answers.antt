@@ -1,4 +1,4 @@
-use Rattle.ics_values.proofs.LawLemmas.{second_kept}
+use Rattle.ics_values.proofs.StampLemmas.{second_kept}
 use Rattle.ics_values.proofs.laws.times_of_a_day.Goals as goal
 
 pub returns : goal.returns
