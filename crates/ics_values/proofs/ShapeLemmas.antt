@@ -23,15 +23,6 @@ digit_count-yes b bs h = rw h (omega arith)
 digit_count-no : (b : ℕ) (bs : List ℕ) → is_digit b ≡ false → digit_count (b ∷ bs) ≡ 0
 digit_count-no b bs h = rw h refl
 
-shape-no : (b : ℕ) (bs : List ℕ) → is_digit b ≡ false → shape (b ∷ bs) ≡ upper b ∷ shape bs
-shape-no b bs h = rw h refl
-
-shape-last : (b : ℕ) (bs : List ℕ) → is_digit b ≡ true → begins is_digit bs ≡ false → shape (b ∷ bs) ≡ 48 ∷ shape bs
-shape-last b bs h k = rw (h, k) refl
-
-shape-more : (b : ℕ) (bs : List ℕ) → is_digit b ≡ true → begins is_digit bs ≡ true → shape (b ∷ bs) ≡ shape bs
-shape-more b bs h k = rw (h, k) refl
-
 -- the digits that begin a text
 pub digit_count-digits : (text : List ℕ) → list_all is_digit (take (digit_count text) text) ≡ true
 digit_count-digits [] = refl
@@ -44,15 +35,9 @@ digit_count-digits (b ∷ bs) = elim (cases_Bool (is_digit b)) [
 pub digit_count-all : (text : List ℕ) → list_all is_digit text ≡ (digit_count text == length text)
 digit_count-all [] = refl
 digit_count-all (b ∷ bs) = elim (cases_Bool (is_digit b)) [
-  | inl h ↦ rw (digit_count-yes b bs h, h) (digit_count-all bs ∙ one_more (digit_count bs) (length bs))
-  | inr h ↦ rw (digit_count-no b bs h, h) (none_there (length bs))
+  | inl h ↦ rw (digit_count-yes b bs h, h) (grind (arith, nat_tests, digit_count-all bs))
+  | inr h ↦ rw (digit_count-no b bs h, h) (grind (arith, nat_tests))
 ]
-  where
-    one_more : (m n : ℕ) → (m == n) ≡ (suc m == suc n)
-    one_more m n = grind (arith, nat_tests)
-
-    none_there : (n : ℕ) → false ≡ (0 == suc n)
-    none_there n = grind (arith, nat_tests)
 
 pub digit_count-none : (text : List ℕ) → begins is_digit text ≡ false → digit_count text ≡ 0
 digit_count-none [] h = refl
@@ -68,34 +53,29 @@ digit_count-some text h = true_from_ne_false (begins is_digit text) (λ k. h (di
 -- they are one `0` of its shape
 pub shape-digits : (text : List ℕ) → begins is_digit text ≡ true → shape text ≡ 48 ∷ shape (drop (digit_count text) text)
 shape-digits [] h = cc
-shape-digits (b ∷ bs) h = rw (digit_count-yes b bs h) (elim (cases_Bool (begins is_digit bs)) [
-  | inl k ↦ shape-more b bs h k ∙ shape-digits bs k
-  | inr k ↦ rw (digit_count-none bs k) (shape-last b bs h k)
+shape-digits (b ∷ bs) h = rw (digit_count-yes b bs h, h) (elim (cases_Bool (begins is_digit bs)) [
+  | inl k ↦ rw k (shape-digits bs k)
+  | inr k ↦ rw (k, digit_count-none bs k) refl
 ])
 
 -- and the number before what is behind them
-amount_from-no : (unit b : ℕ) (bs : List ℕ) (n : ℕ) → (upper b == unit) ≡ false → is_digit b ≡ true →
-    amount_from unit (b ∷ bs) n ≡ amount_from unit bs (10 * n + (b - 48))
-amount_from-no unit b bs n h k = rw (h, k) refl
-
 pub amount_from-digits : (unit : ℕ) (text : List ℕ) (n : ℕ) → 57 < unit →
     amount_from unit text n ≡ amount_from unit (drop (digit_count text) text) (fold (λ n b. 10 * n + (b - 48)) n (take (digit_count text) text))
 amount_from-digits unit [] n low = refl
 amount_from-digits unit (b ∷ bs) n low = elim (cases_Bool (is_digit b)) [
-  | inl h ↦ rw (digit_count-yes b bs h)
-      (amount_from-no unit b bs n (upper-unit b unit h low) h ∙ amount_from-digits unit bs (10 * n + (b - 48)) low)
+  | inl h ↦ rw (digit_count-yes b bs h, upper-unit b unit h low, h) (amount_from-digits unit bs (10 * n + (b - 48)) low)
   | inr h ↦ rw (digit_count-no b bs h) refl
 ]
 
 -- the fronts that a shape has not
 pub lacks-zero : (unit : ℕ) (text : List ℕ) → begins is_digit text ≡ false → begins_with (48 ∷ unit ∷ []) (shape text) ≡ false
 lacks-zero unit [] h = refl
-lacks-zero unit (b ∷ bs) h = rw (shape-no b bs h) (rw (upper-not_zero b h) refl)
+lacks-zero unit (b ∷ bs) h = rw (h, upper-not_zero b h) refl
 
 pub lacks-letter : (letter b : ℕ) (bs : List ℕ) → 57 < letter → (upper b == letter) ≡ false → begins_with (letter ∷ []) (shape (b ∷ bs)) ≡ false
 lacks-letter letter b bs low other = elim (cases_Bool (is_digit b)) [
   | inl h ↦ rw (shape-digits (b ∷ bs) h, ne_eqb 48 letter (omega arith)) refl
-  | inr h ↦ rw (shape-no b bs h, other) refl
+  | inr h ↦ rw (h, other) refl
 ]
 
 bytes_eq-front : (front s x : List ℕ) → bytes_eq (front ++ s) (front ++ x) ≡ bytes_eq s x
@@ -128,7 +108,7 @@ pub shape-some : (text : List ℕ) → (length text == 0) ≡ false → bytes_eq
 shape-some [] h = cc
 shape-some (b ∷ bs) h = elim (cases_Bool (is_digit b)) [
   | inl d ↦ rw (shape-digits (b ∷ bs) d) refl
-  | inr o ↦ rw (shape-no b bs o) refl
+  | inr o ↦ rw o refl
 ]
 
 -- what is behind a number and its unit has none of the shapes
@@ -145,7 +125,3 @@ is_amount unit text rest low h letter = record {
   number = ap capped (sym (amount_from-digits unit text 0 low ∙ letter.own (number_of (take (digit_count text) text))));
   others = λ other high ne. amount_from-digits other text 0 high ∙ letter.others other (number_of (take (digit_count text) text)) ne;
 }
-
-pub lacks-unit : (unit : ℕ) (text : List ℕ) → begins is_digit text ≡ true → begins_with (unit ∷ []) (shape (drop (digit_count text) text)) ≡ false →
-    begins_with (48 ∷ unit ∷ []) (shape text) ≡ false
-lacks-unit unit text h k = rw (shape-digits text h) k

@@ -3,7 +3,7 @@ use Rattle.ics_values.specs.Digits.{digit_count, number_of}
 use Rattle.ics_values.specs.Texts.{begins_with}
 use Rattle.ics_values.specs.Durations.{shape}
 use Rattle.ics_values.specs.Amounts.{IsLetter, capped}
-use Rattle.ics_values.proofs.ShapeLemmas.{digit_count-digits, digit_count-zero, digit_count-some, lacks-zero, lacks-unit, is_amount}
+use Rattle.ics_values.proofs.ShapeLemmas.{digit_count-digits, digit_count-zero, digit_count-some, lacks-zero, shape-digits, is_amount}
 use Rattle.ics_values.proofs.amounts.read_amount.Goals as goal
 
 pub returns-then-count-eq0 : goal.returns-then-count-eq0
@@ -15,7 +15,7 @@ returns-in_err-rest c =
     let some : digit_count text ≢ 0 = subst (λ (n : ℕ). n ≢ 0) c.digit_count-count.ensures.value c.if-count-eq0.false in
     let behind = c.split_at.ensures.back ∙ ap (λ n. drop n text) c.digit_count-count.ensures.value in
     let lacks : begins_with (c.args.unit ∷ []) (shape (drop (digit_count text) text)) ≡ false = rw behind at c.in_err-rest.ensures in
-    rw c.from_residual.ensures (lacks-unit c.args.unit text (digit_count-some text some) lacks)
+    rw (c.from_residual.ensures, shape-digits text (digit_count-some text some)) lacks
 
 pub capped_number-requires : goal.capped_number-requires
 capped_number-requires c = rw (c.split_at.ensures.front, c.digit_count-count.ensures.value) (digit_count-digits c.args.text.now)
