@@ -1,6 +1,6 @@
 -- A line leads to its colon exactly where it is spelled as a content line.
-use Rattle.std.proofs.Common.{◌≡◌, ◌≢◌, ℕ, suc, ◌+◌, Bool, true, false, List, [], ◌∷◌, ◌++◌, length, refl, sym, ap, ◌∙◌, append_assoc, add-one, Option, Some}
-use Rattle.std.proofs.Common.{None, subst, ◌==◌, option_map, if◌then◌else◌}
+use Rattle.std.proofs.Common.{◌≡◌, ◌≢◌, ℕ, suc, ◌+◌, Bool, true, false, List, [], ◌∷◌, ◌++◌, drop, length, refl, sym, ap, ◌∙◌, append_assoc, add-one, Option}
+use Rattle.std.proofs.Common.{Some, None, subst, ◌==◌, option_map, if◌then◌else◌}
 use Rattle.std.specs.List.{flat_map, AllByRecursion, list_all}
 use Rattle.std.proofs.lemmas.Bool.{eqb-true, and_parts, true_from_ne_false}
 use Rattle.ics_text.specs.Bytes.{comma, is_name_byte, is_quoted_byte, is_plain_byte}
@@ -25,99 +25,6 @@ more-value v vs ps = simp append_assoc
 
 pub params-param : (p : Param) (ps : List Param) → params_text (p ∷ ps) ≡ 59 ∷ body p.name p.first p.others ps
 params-param p ps = simp append_assoc
-
--- a text leads from a place to the colon behind it
-abbrev pub Comes : ScanState → List ℕ → List ℕ → Type 0
-Comes state rest text = colon_from (text ++ 58 ∷ rest) state ≡ Some (length text)
-
--- a place stays as it is behind bytes of one kind
-record Stays (p : ℕ → Bool) (state : ScanState) : Type 0 where
-  stays : (b : ℕ) → p b ≡ true → step state b ≡ On state
-
-stays-name : Stays is_name_byte InName
-stays-name = record { stays = λ b h. rw h refl }
-
-stays-param : Stays is_name_byte InParam
-stays-param = record { stays = λ b h. rw h refl }
-
-stays-plain : Stays is_plain_byte InPlain
-stays-plain = record { stays = λ b h. rw h refl }
-
-stays-quotes : Stays is_quoted_byte InQuotes
-stays-quotes = record { stays = λ b h. rw (h, quoted-no_quote b h) refl }
-
--- the rest of the line is what stands behind the colon
-module _ (rest : List ℕ) where
-  next : (state : ScanState) (b : ℕ) {q : ScanState} (text : List ℕ) → step state b ≡ On q → Comes q rest text → Comes state rest (b ∷ text)
-  next state b text s c = rw (s, c, add-one) refl
-
-  run : {p : ℕ → Bool} {state : ScanState} → Stays p state → (bs text : List ℕ) → list_all p bs ≡ true → Comes state rest text → Comes state rest (bs ++ text)
-  run s [] text h c = c
-  run {p} {state} s (b ∷ bs) text h c =
-      let parts = and_parts (p b) (list_all p bs) h in
-      next state b (bs ++ text) (s.stays b parts.0) (run s bs text parts.1 c)
-
-  -- behind a value without quotes all is as behind one with them
-  plain-ends : (vs : List Parameter) (ps : List Param) → Comes AfterQuotes rest (more vs ps) → Comes InPlain rest (more vs ps)
-  plain-ends [] [] c = c
-  plain-ends _ _ c = c
-
-  empty-ends : (vs : List Parameter) (ps : List Param) → Comes AfterQuotes rest (more vs ps) → Comes BeforeValue rest (more vs ps)
-  empty-ends [] [] c = c
-  empty-ends _ _ c = c
-
-  plain-comes : (bytes : List ℕ) (vs : List Parameter) (ps : List Param) → list_all is_plain_byte bytes ≡ true → Comes AfterQuotes rest (more vs ps) →
-      Comes BeforeValue rest (bytes ++ more vs ps)
-  plain-comes [] vs ps h c = empty-ends vs ps c
-  plain-comes (b ∷ bs) vs ps h c =
-      let parts = and_parts (is_plain_byte b) (list_all is_plain_byte bs) h in
-      let first : step BeforeValue b ≡ On InPlain = rw (parts.0, (plain-no_sign b parts.0).quote) refl in
-      next BeforeValue b (bs ++ more vs ps) first (run stays-plain bs (more vs ps) parts.1 (plain-ends vs ps c))
-
-  value-comes : (quoted : Bool) (bytes : List ℕ) (vs : List Parameter) (ps : List Param) → IsValue (record { quoted = quoted; bytes = bytes }) →
-      Comes AfterQuotes rest (more vs ps) →
-      Comes BeforeValue rest (value_text (record { quoted = quoted; bytes = bytes }) ++ more vs ps)
-  value-comes false bytes vs ps h c = plain-comes bytes vs ps h c
-  value-comes true bytes vs ps h c =
-      rw (append_assoc bytes (34 ∷ []) (more vs ps))
-      (next BeforeValue 34 (bytes ++ (34 ∷ more vs ps)) refl
-      (run stays-quotes bytes (34 ∷ more vs ps) h (next InQuotes 34 (more vs ps) refl c)))
-
-  body-comes : {name : List ℕ} (v : Parameter) (vs : List Parameter) (ps : List Param) → IsName name → IsValue v → Comes AfterQuotes rest (more vs ps) →
-      Comes BeforeParam rest (body name v vs ps)
-  body-comes {name = []} v vs ps n h c = absurd (n.some refl)
-  body-comes {name = b ∷ bs} v vs ps n h c =
-      let parts = and_parts (is_name_byte b) (list_all is_name_byte bs) n.bytes in
-      let first : step BeforeParam b ≡ On InParam = rw parts.0 refl in
-      next BeforeParam b (bs ++ (61 ∷ (value_text v ++ more vs ps))) first
-      (run stays-param bs (61 ∷ (value_text v ++ more vs ps)) parts.1
-      (next InParam 61 (value_text v ++ more vs ps) refl (value-comes v.quoted v.bytes vs ps h c)))
-
-  values-come : (vs : List Parameter) (ps : List Param) → AllByRecursion IsValue vs → Comes AfterQuotes rest (params_text ps) →
-      Comes AfterQuotes rest (more vs ps)
-  values-come [] ps h c = c
-  values-come (v ∷ vs) ps h c =
-      subst (Comes AfterQuotes rest) (sym (more-value v vs ps))
-      (next AfterQuotes 44 (value_text v ++ more vs ps) refl (value-comes v.quoted v.bytes vs ps h.0 (values-come vs ps h.1 c)))
-
-  params-come : (ps : List Param) → AllByRecursion IsParam ps → Comes AfterQuotes rest (params_text ps)
-  params-come [] h = refl
-  params-come (p ∷ ps) h =
-      subst (Comes AfterQuotes rest) (sym (params-param p ps)) (next AfterQuotes 59 (body p.name p.first p.others ps) refl
-      (body-comes p.first p.others ps h.0.name h.0.first (values-come p.others ps h.0.others (params-come ps h.1))))
-
-  name-ends : (ps : List Param) → Comes AfterQuotes rest (params_text ps) → Comes InName rest (params_text ps)
-  name-ends [] c = c
-  name-ends (p ∷ ps) c = c
-
-  -- what is spelled as a content line leads to its colon
-  pub comes : (name : List ℕ) (ps : List Param) → IsName name → AllByRecursion IsParam ps → Comes Start rest (name ++ params_text ps)
-  comes [] ps n h = absurd (n.some refl)
-  comes (b ∷ bs) ps n h =
-      let parts = and_parts (is_name_byte b) (list_all is_name_byte bs) n.bytes in
-      let first : step Start b ≡ On InName = rw parts.0 refl in
-      next Start b (bs ++ params_text ps) first
-      (run stays-name bs (params_text ps) parts.1 (name-ends ps (params-come ps h)))
 
 -- What the text from a place up to the colon is made of: bytes of what the place stands in, a value, values and parameters behind them.
 pub record Tail : Type 0 where
@@ -150,33 +57,108 @@ TailOk InPlain t = (list_all is_plain_byte t.bytes ≡ true) × Rest t.vs t.ps
 TailOk InQuotes t = (list_all is_quoted_byte t.bytes ≡ true) × Rest t.vs t.ps
 TailOk AfterQuotes t = Rest t.vs t.ps
 
+none : Parameter
+none = record { quoted = false; bytes = [] }
+
+abbrev tail_of : List ℕ → Parameter → List Parameter → List Param → Tail
+tail_of bytes v vs ps = record { bytes = bytes; first = v; vs = vs; ps = ps }
+
+-- a text leads on by one byte to a text of the next place, and an empty one to the colon
+abbrev OnTo : Move → List ℕ → Type 0
+OnTo m text = (q : ScanState) × (t : Tail) × (m ≡ On q) × TailOk q t × (text ≡ tail_text q t)
+
+abbrev Ahead : (ℕ → Move) → List ℕ → Type 0
+Ahead move [] = move 58 ≡ Value
+Ahead move (b ∷ text) = OnTo (move b) text
+
+ends-ahead : (vs : List Parameter) (ps : List Param) → Rest vs ps → Ahead ends_value (more vs ps)
+ends-ahead [] [] ok = refl
+ends-ahead [] (p ∷ ps) ok = (
+  BeforeParam,
+  tail_of p.name p.first p.others ps,
+  refl,
+  (ok.params.0.name, ok.params.0.first, record { values = ok.params.0.others; params = ok.params.1 }),
+  ap (drop 1) (params-param p ps),
+)
+ends-ahead (v ∷ vs) ps ok =
+    (BeforeValue, tail_of [] v vs ps, refl, (ok.values.0, record { values = ok.values.1; params = ok.params }), append_assoc (value_text v) _ _)
+
+-- behind a value without quotes all is as behind one with them
+plain-ahead : (vs : List Parameter) (ps : List Param) → Ahead ends_value (more vs ps) → Ahead in_value (more vs ps)
+plain-ahead [] [] h = h
+plain-ahead _ _ h = h
+
+empty-ahead : (vs : List Parameter) (ps : List Param) → Ahead ends_value (more vs ps) → Ahead (step BeforeValue) (more vs ps)
+empty-ahead [] [] h = h
+empty-ahead _ _ h = h
+
+name-ahead : (ps : List Param) → Ahead ends_value (params_text ps) → Ahead (step InName) (params_text ps)
+name-ahead [] h = h
+name-ahead (p ∷ ps) h = h
+
+value-ahead : (quoted : Bool) (bytes : List ℕ) (vs : List Parameter) (ps : List Param) → IsValue (record { quoted = quoted; bytes = bytes }) → Rest vs ps
+    → Ahead (step BeforeValue) (value_text (record { quoted = quoted; bytes = bytes }) ++ more vs ps)
+value-ahead true bytes vs ps h ok = (InQuotes, tail_of bytes none vs ps, refl, (h, ok), append_assoc bytes (34 ∷ []) (more vs ps))
+value-ahead false [] vs ps h ok = empty-ahead vs ps (ends-ahead vs ps ok)
+value-ahead false (b ∷ bs) vs ps h ok =
+    let parts = and_parts (is_plain_byte b) (list_all is_plain_byte bs) h in
+    (InPlain, tail_of bs none vs ps, rw (parts.0, (plain-no_sign b parts.0).quote) refl, (parts.1, ok), refl)
+
+forth : (state : ScanState) (bytes : List ℕ) (v : Parameter) (vs : List Parameter) (ps : List Param) → TailOk state (tail_of bytes v vs ps)
+    → Ahead (step state) (tail_text state (tail_of bytes v vs ps))
+forth Start [] v vs ps ok = absurd (ok.0.some refl)
+forth Start (b ∷ bs) v vs ps ok =
+    let parts = and_parts (is_name_byte b) (list_all is_name_byte bs) ok.0.bytes in (InName, tail_of bs v vs ps, rw parts.0 refl, (parts.1, ok.1), refl)
+forth InName [] v vs ps ok = name-ahead ps (ends-ahead [] ps (record { values = tt; params = ok.1 }))
+forth InName (b ∷ bs) v vs ps ok =
+    let parts = and_parts (is_name_byte b) (list_all is_name_byte bs) ok.0 in (InName, tail_of bs v vs ps, rw parts.0 refl, (parts.1, ok.1), refl)
+forth BeforeParam [] v vs ps ok = absurd (ok.0.some refl)
+forth BeforeParam (b ∷ bs) v vs ps ok =
+    let parts = and_parts (is_name_byte b) (list_all is_name_byte bs) ok.0.bytes in (InParam, tail_of bs v vs ps, rw parts.0 refl, (parts.1, ok.1, ok.2), refl)
+forth InParam [] v vs ps ok = (BeforeValue, tail_of [] v vs ps, refl, (ok.1, ok.2), refl)
+forth InParam (b ∷ bs) v vs ps ok =
+    let parts = and_parts (is_name_byte b) (list_all is_name_byte bs) ok.0 in (InParam, tail_of bs v vs ps, rw parts.0 refl, (parts.1, ok.1, ok.2), refl)
+forth BeforeValue bytes v vs ps ok = value-ahead v.quoted v.bytes vs ps ok.0 ok.1
+forth InPlain [] v vs ps ok = plain-ahead vs ps (ends-ahead vs ps ok.1)
+forth InPlain (b ∷ bs) v vs ps ok =
+    let parts = and_parts (is_plain_byte b) (list_all is_plain_byte bs) ok.0 in (InPlain, tail_of bs v vs ps, rw parts.0 refl, (parts.1, ok.1), refl)
+forth InQuotes [] v vs ps ok = (AfterQuotes, tail_of [] v vs ps, refl, ok.1, refl)
+forth InQuotes (b ∷ bs) v vs ps ok =
+    let parts = and_parts (is_quoted_byte b) (list_all is_quoted_byte bs) ok.0 in
+    (InQuotes, tail_of bs v vs ps, rw (parts.0, quoted-no_quote b parts.0) refl, (parts.1, ok.1), refl)
+forth AfterQuotes bytes v vs ps ok = ends-ahead vs ps ok
+
+-- a text leads from a place to the colon behind it
+abbrev pub Comes : ScanState → List ℕ → List ℕ → Type 0
+Comes state rest text = colon_from (text ++ 58 ∷ rest) state ≡ Some (length text)
+
+leads : (rest text : List ℕ) (state : ScanState) (t : Tail) → TailOk state t → text ≡ tail_text state t → Comes state rest text
+leads rest [] state t ok e =
+    let h : step state 58 ≡ Value = subst (Ahead (step state)) (sym e) (forth state t.bytes t.first t.vs t.ps ok) in rw h refl
+leads rest (b ∷ text) state t ok e =
+    let ahead : OnTo (step state b) text = subst (Ahead (step state)) (sym e) (forth state t.bytes t.first t.vs t.ps ok) in
+    let (q, u, s, fine, is) = ahead in
+    rw (s, leads rest text q u fine is, add-one) refl
+
+-- what is spelled as a content line leads to its colon
+pub comes : (rest name : List ℕ) (ps : List Param) → IsName name → AllByRecursion IsParam ps → Comes Start rest (name ++ params_text ps)
+comes rest name ps n h = leads rest (name ++ params_text ps) Start (tail_of name none [] ps) (n, h) refl
+
 -- a text of one place, with a byte in front of it, is a text of the place before
 abbrev pub Back : ScanState → ℕ → Tail → ScanState → Type 0
 Back state b t q = TailOk q t → (u : Tail) × TailOk state u × (tail_text state u ≡ b ∷ tail_text q t)
 
-none : Parameter
-none = record { quoted = false; bytes = [] }
-
-nonempty : (b : ℕ) (bs : List ℕ) → (b ∷ bs) ≢ []
-nonempty b bs h = cc
-
 all-cons : (p : ℕ → Bool) (b : ℕ) (bs : List ℕ) → p b ≡ true → list_all p bs ≡ true → list_all p (b ∷ bs) ≡ true
 all-cons p b bs h k = rw (h, k) refl
-
-refused : (q : ScanState) → Refused ≡ On q → ⊥
-refused q e = cc
 
 no_end : (t : Bool) (q : ScanState) → (if t then Value else Refused) ≡ On q → ⊥
 no_end true q e = cc
 no_end false q e = cc
 
-onto : (p q : ScanState) → On p ≡ On q → p ≡ q
-onto p q e = cc
-
 -- where a byte goes by a test
 on_test : (P : ScanState → Type 0) {q : ScanState} {other : Move} (b : Bool) (p : ScanState) → (if b then On p else other) ≡ On q
     → (b ≡ true → P p) → (b ≡ false → other ≡ On q → P q) → P q
-on_test P {q} true p e f g = subst P (onto p q e) (f refl)
+on_test P {q} true p e f g = let same : p ≡ q = cc in subst P same (f refl)
 on_test P false p e f g = g refl e
 
 -- the parameter that begins behind `;`
@@ -205,21 +187,21 @@ back-ends b q t s = on_test (λ q. Ends b t q) (b == 44) BeforeValue s
 back : (state : ScanState) (b : ℕ) (q : ScanState) (t : Tail) → step state b ≡ On q → Back state b t q
 unfolding Ends none
 back Start b q t s = on_test (Back Start b t) (is_name_byte b) InName s
-    (λ h ok. (record t { bytes = b ∷ t.bytes }, (record { some = nonempty b t.bytes; bytes = all-cons is_name_byte b t.bytes h ok.0 }, ok.1), refl))
-    (λ h e. absurd (refused q e))
+    (λ h ok. (record t { bytes = b ∷ t.bytes }, (record { some = λ e. cc; bytes = all-cons is_name_byte b t.bytes h ok.0 }, ok.1), refl))
+    (λ h e. cc)
 back InName b q t s = on_test (Back InName b t) (is_name_byte b) InName s
     (λ h ok. (record t { bytes = b ∷ t.bytes }, (all-cons is_name_byte b t.bytes h ok.0, ok.1), refl))
     (λ h e. on_test (Back InName b t) (b == 59) BeforeParam e
     (λ k ok. (record { bytes = []; first = none; vs = []; ps = begun t ∷ t.ps }, (refl, begun-ok t ok), begun-text b t (eqb-true b 59 k)))
     (λ k e. absurd (no_end (b == 58) q e)))
 back BeforeParam b q t s = on_test (Back BeforeParam b t) (is_name_byte b) InParam s
-    (λ h ok. (record t { bytes = b ∷ t.bytes }, (record { some = nonempty b t.bytes; bytes = all-cons is_name_byte b t.bytes h ok.0 }, ok.1, ok.2), refl))
-    (λ h e. absurd (refused q e))
+    (λ h ok. (record t { bytes = b ∷ t.bytes }, (record { some = λ e. cc; bytes = all-cons is_name_byte b t.bytes h ok.0 }, ok.1, ok.2), refl))
+    (λ h e. cc)
 back InParam b q t s = on_test (Back InParam b t) (is_name_byte b) InParam s
     (λ h ok. (record t { bytes = b ∷ t.bytes }, (all-cons is_name_byte b t.bytes h ok.0, ok.1, ok.2), refl))
     (λ h e. on_test (Back InParam b t) (b == 61) BeforeValue e
     (λ k ok. (record t { bytes = [] }, (refl, ok.0, ok.1), ap (λ c. c ∷ tail_text BeforeValue t) (sym (eqb-true b 61 k))))
-    (λ k e. absurd (refused q e)))
+    (λ k e. cc))
 back AfterQuotes b q t s = λ ok.
     let (vs, ps, hv, hp, e) = back-ends b q t s ok in
     (record { bytes = []; first = none; vs = vs; ps = ps }, record { values = hv; params = hp }, e)
@@ -243,7 +225,7 @@ back InQuotes b q t s = on_test (Back InQuotes b t) (b == 34) AfterQuotes s
     (λ h ok. (record t { bytes = [] }, (refl, ok), ap (λ c. c ∷ tail_text AfterQuotes t) (sym (eqb-true b 34 h))))
     (λ h e. on_test (Back InQuotes b t) (is_quoted_byte b) InQuotes e
     (λ k ok. (record t { bytes = b ∷ t.bytes }, (all-cons is_quoted_byte b t.bytes k ok.0, ok.1), refl))
-    (λ k e. absurd (refused q e)))
+    (λ k e. cc))
 
 -- where the byte is the colon before the value, nothing may be missing
 abbrev Stops : ScanState → ℕ → Type 0
