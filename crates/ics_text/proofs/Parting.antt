@@ -66,69 +66,20 @@ name-length name (p ∷ ps) value h =
     subst (λ t. prefix_len is_name_byte t ≡ length name) (sym (append_assoc name (params_text (p ∷ ps)) (58 ∷ value)))
     (prefix_len-front is_name_byte name 59 _ h refl)
 
--- the slices of a line that is spelled so
-pub record Sliced (line name params value : List ℕ) (len k : ℕ) : Type 0 where
-  pub order : len ≤ k
-  pub within : k < length line
-  pub name_is : take len line ≡ name
-  pub params_are : take (k - len) (drop len line) ≡ params
-  pub value_is : drop (k + 1) line ≡ value
-
-slices : {line name params value : List ℕ} (c : IsContent line name params value) (k : ℕ) → k ≡ length (name ++ params) →
-    Sliced line name params value (prefix_len is_name_byte line) k
-slices {line} {name} {params} {value} c k at =
+-- where a line is a content line, the slices before and behind its colon are its parts
+slices : {line name params value : List ℕ} (c : IsContent line name params value) →
+    cut_at line (length (name ++ params)) ≡ record { name = name; params = params; value = value }
+slices {line} {name} {params} {value} c =
     let e : line ≡ (name ++ params) ++ 58 ∷ value = c.spelled in
     let l = ap (prefix_len is_name_byte) e ∙ (rw (← c.params_ok.spelled) at (name-length name c.ps value c.name_ok.bytes)) in
     let whole : (name ++ params) ++ 58 ∷ value ≡ name ++ (params ++ 58 ∷ value) = append_assoc name params (58 ∷ value) in
-    let size : k ≡ length name + length params = at ∙ length-append name params in
-    let rest : k - prefix_len is_name_byte line ≡ length params = omega arith in
-    let after : k + 1 ≡ length ((name ++ params) ++ 58 ∷ []) = ap (λ n. n + 1) at ∙ sym (length-append (name ++ params) (58 ∷ [])) in
-    record {
-      order = omega arith;
-      within = omega (arith, ap length e, length-append (name ++ params) (58 ∷ value));
-      name_is = rw (l, e, whole) (take-append_seam name (params ++ 58 ∷ value));
-      params_are = rw rest (rw (l, e, whole) (rw (drop-append_seam name (params ++ 58 ∷ value)) (take-append_seam params (58 ∷ value))));
-      value_is = rw (after, e) (ap (drop (length ((name ++ params) ++ 58 ∷ []))) (sym (append_assoc (name ++ params) (58 ∷ []) value))
-          ∙ drop-append_seam ((name ++ params) ++ 58 ∷ []) value);
-    }
-
--- where the walk comes to the colon, the slices are the parts of a content line
-pub record Read (line : List ℕ) (len k : ℕ) : Type 0 where
-  pub name : List ℕ
-  pub params : List ℕ
-  pub value : List ℕ
-  pub content : IsContent line name params value
-  pub sliced : Sliced line name params value len k
-
-pub read : (line : List ℕ) (k : ℕ) → colon_from line Start ≡ Some k → Read line (prefix_len is_name_byte line) k
-read line k e =
-    let f = found line Start k e in
-    let t = f.tail in
-    let c : IsContent line t.bytes (params_text t.ps) f.behind =
-    record { ps = t.ps; name_ok = f.ok.0; params_ok = record { in_order = f.ok.1; spelled = refl }; spelled = f.text } in
-    record { name = t.bytes; params = params_text t.ps; value = f.behind; content = c; sliced = slices c k f.count }
-
--- where a line is a content line, the walk comes to its colon
-walks : (line name params value : List ℕ) (c : IsContent line name params value) → colon_from line Start ≡ Some (length (name ++ params))
-walks line name params value c =
-    ap (λ l. colon_from l Start) c.spelled ∙ rw c.params_ok.spelled (comes value name c.ps c.name_ok c.params_ok.in_order)
-
-pub is_content : (line : List ℕ) (k : ℕ) → colon_from line Start ≡ Some k → let p = cut_at line k in IsContent line p.name p.params p.value
-is_content line k e =
-    let r = read line k e in
-    let s = r.sliced in
-    rw (s.name_is, s.params_are, s.value_is) r.content
-
-pub same_parts : {line name params value : List ℕ} (k : ℕ) → colon_from line Start ≡ Some k → IsContent line name params value →
-    let p = cut_at line k in (name ≡ p.name) × (params ≡ p.params) × (value ≡ p.value)
-same_parts {line} {name} {params} {value} k e c =
-    let w = walks line name params value c in
-    let count : k ≡ length (name ++ params) = cc in
-    let s = slices c k count in
-    (sym s.name_is, sym s.params_are, sym s.value_is)
-
-pub refuses : (line : List ℕ) → None ≡ colon_from line Start → (name params value : List ℕ) → IsContent line name params value → ⊥
-refuses line e name params value c = let w = walks line name params value c in cc
+    let rest : length (name ++ params) - prefix_len is_name_byte line ≡ length params = omega (arith, l, length-append name params) in
+    let name_is : take (prefix_len is_name_byte line) line ≡ name = rw (l, e, whole) (take-append_seam name (params ++ 58 ∷ value)) in
+    let params_are : take (length (name ++ params) - prefix_len is_name_byte line) (drop (prefix_len is_name_byte line) line) ≡ params =
+    rw rest (rw (l, e, whole) (rw (drop-append_seam name (params ++ 58 ∷ value)) (take-append_seam params (58 ∷ value)))) in
+    let value_is : drop (length (name ++ params) + 1) line ≡ value =
+    rw e (sym (drop-drop 1 (length (name ++ params)) ((name ++ params) ++ 58 ∷ value)) ∙ ap (drop 1) (drop-append_seam (name ++ params) (58 ∷ value))) in
+    rw (name_is, params_are, value_is) refl
 
 -- the slices of what stands behind the name are slices of the line
 pub slices_behind : {name behind : List ℕ} (line : List ℕ) (k : ℕ) → name ≡ take (prefix_len is_name_byte line) line
@@ -142,18 +93,32 @@ slices_behind {name} {behind} line k name_is behind_is =
     rw (take_rest behind (k + 1), name_is, behind_is, drop-drop (k + 1) len line, after)
     (ap (λ n. record { name = take len line; params = take n (drop len line); value = drop (k + len + 1) line }) between)
 
-computed : (line : List ℕ) (parts : Parts) (k : Option ℕ) → k ≡ colon_from line Start →
-    option_map (cut_at line) k ≡ Some parts → IsContent line parts.name parts.params parts.value
+-- what the walk finds is a content line
+computed : (line : List ℕ) (parts : Parts) (k : Option ℕ) → colon_from line Start ≡ k → option_map (cut_at line) k ≡ Some parts →
+    IsContent line parts.name parts.params parts.value
 computed line parts None e h = cc
 computed line parts (Some k) e h =
-    let same : cut_at line k ≡ parts = cc in
-    subst (λ (p : Parts). IsContent line p.name p.params p.value) same (is_content line k (sym e))
+    let f = found line Start k e in
+    let t = f.tail in
+    let c : IsContent line t.bytes (params_text t.ps) f.behind =
+    record { ps = t.ps; name_ok = f.ok.0; params_ok = record { in_order = f.ok.1; spelled = refl }; spelled = f.text } in
+    let cut : cut_at line k ≡ parts = cc in
+    subst (λ (p : Parts). IsContent line p.name p.params p.value) (sym (slices c) ∙ sym (ap (cut_at line) f.count) ∙ cut) c
 
-related : (line : List ℕ) (parts : Parts) (k : Option ℕ) → k ≡ colon_from line Start →
-    IsContent line parts.name parts.params parts.value → option_map (cut_at line) k ≡ Some parts
-related line parts None e h = absurd (refuses line e parts.name parts.params parts.value h)
-related line parts (Some k) e h = let same = same_parts k (sym e) h in
-    rw (← same.0, ← same.1, ← same.2) refl
+-- where a line is a content line, the walk comes to its colon
+walks : {line name params value : List ℕ} (c : IsContent line name params value) → colon_from line Start ≡ Some (length (name ++ params))
+walks {value = value} c = ap (λ l. colon_from l Start) c.spelled ∙ rw c.params_ok.spelled (comes value _ c.ps c.name_ok c.params_ok.in_order)
+
+related : (line : List ℕ) (parts : Parts) → IsContent line parts.name parts.params parts.value → content_of line ≡ Some parts
+related line parts c = ap (option_map (cut_at line)) (walks c) ∙ ap Some (slices c)
 
 pub content-grammar : (line : List ℕ) (parts : Parts) → content_of line ≡ Some parts ↔ IsContent line parts.name parts.params parts.value
-content-grammar line parts = (computed line parts (colon_from line Start) refl, related line parts (colon_from line Start) refl)
+content-grammar line parts = (computed line parts (colon_from line Start) refl, related line parts)
+
+pub refuses : (line : List ℕ) → content_of line ≡ None → (name params value : List ℕ) → IsContent line name params value → ⊥
+refuses line none name params value c = let some = related line (record { name = name; params = params; value = value }) c in cc
+
+pub one_reading : {name params value : List ℕ} (line : List ℕ) (parts : Parts) → content_of line ≡ Some parts → IsContent line name params value →
+    (name ≡ parts.name) × (params ≡ parts.params) × (value ≡ parts.value)
+one_reading {name} {params} {value} line parts e c =
+    let same = related line (record { name = name; params = params; value = value }) c in (cc, cc, cc)
