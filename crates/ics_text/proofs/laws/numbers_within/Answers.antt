@@ -1,5 +1,5 @@
-use Rattle.ics_text.proofs.Rising.{unfolded-within}
+use Rattle.ics_text.proofs.Rising.{placed}
 use Rattle.ics_text.proofs.laws.numbers_within.Goals as goal
 
 pub returns : goal.returns
-returns c = unfolded-within
+returns c = λ file. (placed file).2
