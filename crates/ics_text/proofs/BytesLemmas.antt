@@ -16,11 +16,7 @@ pub record IsNoSign (b : ℕ) : Type 0 where
   pub semicolon : (b == 59) ≡ false
 
 pub plain-no_sign : (b : ℕ) → is_plain_byte b ≡ true → IsNoSign b
-plain-no_sign b h =
-    let last = and_parts (is_quoted_byte b && not (b == 59) && not (b == 58)) (not (b == 44)) h in
-    let middle = and_parts (is_quoted_byte b && not (b == 59)) (not (b == 58)) last.0 in
-    let first = and_parts (is_quoted_byte b) (not (b == 59)) middle.0 in
-    record { quote = quoted-no_quote b first.0; comma = not-true (b == 44) last.1; semicolon = not-true (b == 59) first.1 }
+plain-no_sign b h = record { quote = grind (arith, nat_tests); comma = grind (arith, nat_tests); semicolon = grind (arith, nat_tests) }
 
 pub name-no_quote : (b : ℕ) → is_name_byte b ≡ true → (b == 34) ≡ false
 name-no_quote b h = grind (arith, nat_tests)

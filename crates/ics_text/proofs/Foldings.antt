@@ -1,9 +1,10 @@
 -- Unfolding undoes folding.
-use Rattle.std.proofs.Common.{◌≡◌, ◌≢◌, ℕ, ◌+◌, Bool, true, false, ◌&&◌, ◌==◌, List, [], ◌∷◌, ◌++◌, length, map, refl, sym, ap, subst, ◌∙◌, arith, inl, inr}
+use Rattle.std.proofs.Common.{◌≡◌, ◌≢◌, ℕ, ◌+◌, Bool, true, false, ◌&&◌, ◌==◌, List, [], ◌∷◌, ◌++◌, length, map, refl, sym, ap, ◌∙◌, arith}
 use Rattle.std.specs.Prelude.{not, filter}
 use Rattle.std.specs.List.{AllByRecursion, flat_map}
 use Rattle.std.proofs.lemmas.List.{append_assoc, append-nil}
-use Rattle.std.proofs.lemmas.Bool.Decides.{eqb_tells}
+use Rattle.std.proofs.lemmas.List.Folds.{list_all-append}
+use Rattle.std.proofs.lemmas.Bool.Decides.{nat_tests}
 use Rattle.ics_text.specs.Bytes.{is_blank, is_empty}
 use Rattle.ics_text.specs.Unfolded.{physical_lines, numbered, joined, goes_on, is_line, lines_from, unfolded, without_mark}
 use Rattle.ics_text.specs.Folding.{Fold, Written, line_end, fold_text, written_text, folded_bytes, is_folded, folded_lines, StandsBefore, AreFolds, IsWritten}
@@ -17,32 +18,22 @@ fold_line f = f.blank ∷ f.bytes
 abbrev physical_of : Written → List (List ℕ)
 physical_of w = w.first ∷ map fold_line w.folds
 
-no_lf-cr : (bs : List ℕ) → no_lf (bs ++ (13 ∷ [])) ≡ no_lf bs
-no_lf-cr [] = refl
-no_lf-cr (b ∷ bs) = ap (λ t. not (b == 10) && t) (no_lf-cr bs)
-
 -- bytes and their line end are one physical line
 one_line : (with_cr : Bool) (bytes tail : List ℕ) → StandsBefore with_cr bytes →
     physical_lines (bytes ++ (line_end with_cr ++ tail)) ≡ bytes ∷ physical_lines tail
 one_line true bytes tail h =
     ap physical_lines (sym (append_assoc bytes (13 ∷ []) (10 ∷ tail)))
-    ∙ front (bytes ++ (13 ∷ [])) tail (no_lf-cr bytes ∙ h.no_lf)
+    ∙ front (bytes ++ (13 ∷ [])) tail (rw (list_all-append (λ b. not (b == 10)) bytes (13 ∷ []), h.no_lf) refl)
     ∙ ap (λ line. line ∷ physical_lines tail) (without_cr-append bytes)
 one_line false bytes tail h =
     front bytes tail h.no_lf
     ∙ ap (λ line. line ∷ physical_lines tail) (without_cr-keeps bytes (h.no_cr refl))
 
-cr_no_blank : (b : ℕ) → b ≡ 13 → is_blank b ≡ true → ⊥
-cr_no_blank b e h = let no : is_blank 13 ≡ true = subst (λ x. is_blank x ≡ true) e h in cc
-
 blank_no_lf : (b : ℕ) → is_blank b ≡ true → (b == 10) ≡ false
-blank_no_lf b h = elim (eqb_tells b 10) [
-  | inl e ↦ let no : is_blank 10 ≡ true = subst (λ x. is_blank x ≡ true) e.1 h in cc
-  | inr n ↦ n.0
-]
+blank_no_lf b h = grind (arith, nat_tests)
 
 no_cr-blank : (b : ℕ) (bytes : List ℕ) → is_blank b ≡ true → ((front : List ℕ) → bytes ≢ front ++ (13 ∷ [])) → (front : List ℕ) → b ∷ bytes ≢ front ++ (13 ∷ [])
-no_cr-blank b bytes blank h [] = λ e. let same : b ≡ 13 = cc in cr_no_blank b same blank
+no_cr-blank b bytes blank h [] = λ e. let same : b ≡ 13 = cc in let no : is_blank 13 ≡ true = rw same at blank in cc
 no_cr-blank b bytes blank h (c ∷ front) = λ e. h front cc
 
 stands-blank : (with_cr : Bool) (b : ℕ) (bytes : List ℕ) → is_blank b ≡ true → StandsBefore with_cr bytes → StandsBefore with_cr (b ∷ bytes)
@@ -73,15 +64,13 @@ all_lines (w ∷ ws) h =
     ∙ ap (λ lines. w.first ∷ lines) (sym (append_assoc (map fold_line w.folds) (flat_map physical_of ws) ([] ∷ [])))
 
 -- each fold has its blank
-abbrev HaveBlanks : List Fold → Type 0
-HaveBlanks = AllByRecursion (λ f. is_blank f.blank ≡ true)
-
-blanks : (bytes : List ℕ) (fs : List Fold) (with_cr : Bool) → AreFolds bytes fs with_cr → HaveBlanks fs
+blanks : (bytes : List ℕ) (fs : List Fold) (with_cr : Bool) → AreFolds bytes fs with_cr → AllByRecursion (λ f. is_blank f.blank ≡ true) fs
 blanks bytes [] with_cr h = tt
 blanks bytes (f ∷ fs) with_cr h = (h.1.0, blanks f.bytes fs with_cr h.1.1)
 
 -- a line is joined of its first bytes and its folds, where what follows does not go on with it
-joins : (n : ℕ) (bytes : List ℕ) (fs : List Fold) (rest : List (List ℕ)) → HaveBlanks fs → ((m : ℕ) → goes_on (numbered m rest) ≡ false) →
+joins : (n : ℕ) (bytes : List ℕ) (fs : List Fold) (rest : List (List ℕ)) → AllByRecursion (λ f. is_blank f.blank ≡ true) fs →
+    ((m : ℕ) → goes_on (numbered m rest) ≡ false) →
     joined (numbered n (bytes ∷ (map fold_line fs ++ rest)))
     ≡ record { number = n; bytes = bytes ++ flat_map (λ f. f.bytes) fs; folded = is_folded fs } ∷ joined (numbered (n + 1 + length fs) rest)
 joins n bytes [] rest h ends = rw (ends (n + 1))

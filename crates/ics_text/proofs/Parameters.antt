@@ -99,7 +99,7 @@ others_text vs = flat_map (λ v. comma ∷ value_text v) vs
 
 -- a parameter's text, of which the `;` is left off
 abbrev pub text_of : Param → List ℕ
-text_of p = (p.name ++ equals ∷ value_text p.first) ++ others_text p.others
+text_of p = p.name ++ (equals ∷ (value_text p.first ++ others_text p.others))
 
 passes-others : (vs : List Value) → AllByRecursion IsValue vs → Passes 59 (others_text vs)
 passes-others [] ok = record { on = λ rest. refl }
@@ -109,18 +109,18 @@ passes-others (v ∷ vs) ok =
 
 passes-text : (p : Param) → IsParam p → Passes 59 (text_of p)
 passes-text p ok =
-    passes-both 59 (p.name ++ 61 ∷ value_text p.first) (others_text p.others)
-    (passes-both 59 p.name (61 ∷ value_text p.first)
+    passes-both 59 p.name (61 ∷ (value_text p.first ++ others_text p.others))
     (passes-run 59 is_name_byte name-no_quote name-no_semicolon p.name ok.name.bytes)
-    (passes-byte 59 61 (value_text p.first) refl refl (passes-value 59 semicolon-parts p.first.quoted p.first.bytes ok.first)))
-    (passes-others p.others ok.others)
+    (passes-byte 59 61 (value_text p.first ++ others_text p.others) refl refl
+    (passes-both 59 (value_text p.first) (others_text p.others)
+    (passes-value 59 semicolon-parts p.first.quoted p.first.bytes ok.first) (passes-others p.others ok.others)))
 
 -- the pieces of the parameters are an empty one and the parameters' texts
 pub pieces-params : (ps : List Param) → AllByRecursion IsParam ps → pieces 59 false (params_text ps) ≡ [] ∷ map text_of ps
 pieces-params [] ok = refl
-pieces-params (p ∷ ps) ok =
-    ap (λ (t : List (List ℕ)). [] ∷ t) ((passes-text p ok.0).on (params_text ps) ∙ ap (in_front (text_of p)) (pieces-params ps ok.1)
-    ∙ in_front-empty (text_of p) (map text_of ps))
+pieces-params (p ∷ ps) ok = rw (append_assoc p.name (61 ∷ value_text p.first) (others_text p.others))
+    (ap (λ (t : List (List ℕ)). [] ∷ t) ((passes-text p ok.0).on (params_text ps) ∙ ap (in_front (text_of p)) (pieces-params ps ok.1)
+    ∙ in_front-empty (text_of p) (map text_of ps)))
 
 -- the pieces of the values are the values
 pub pieces-values : (v : Value) (vs : List Value) → IsValue v → AllByRecursion IsValue vs →
@@ -141,19 +141,13 @@ without_quotes-value false (b ∷ bs) ok = rw ((plain-no_sign b (and_parts (is_p
 
 -- the name of a parameter ends at the equals sign
 name-ends : (p : Param) → IsParam p → prefix_len is_name_byte (text_of p) ≡ length p.name
-name-ends p ok = rw (append_assoc p.name (61 ∷ value_text p.first) (others_text p.others))
-    (prefix_len-front is_name_byte p.name 61 (value_text p.first ++ others_text p.others) ok.name.bytes refl)
+name-ends p ok = prefix_len-front is_name_byte p.name 61 (value_text p.first ++ others_text p.others) ok.name.bytes refl
 
 pub name-part : (p : Param) → IsParam p → take_while is_name_byte (text_of p) ≡ p.name
-name-part p ok =
-    rw (name-ends p ok, append_assoc p.name (61 ∷ value_text p.first) (others_text p.others))
-    (take-append_seam p.name (61 ∷ value_text p.first ++ others_text p.others))
+name-part p ok = rw (name-ends p ok) (take-append_seam p.name (61 ∷ (value_text p.first ++ others_text p.others)))
 
 pub values-part : (p : Param) → IsParam p → drop 1 (after_name (text_of p)) ≡ value_text p.first ++ others_text p.others
-values-part p ok =
-    let behind : drop (length p.name) (text_of p) ≡ 61 ∷ (value_text p.first ++ others_text p.others) =
-    rw (append_assoc p.name (61 ∷ value_text p.first) (others_text p.others)) (drop-append_seam p.name (61 ∷ (value_text p.first ++ others_text p.others))) in
-    rw (name-ends p ok, behind) refl
+values-part p ok = rw (name-ends p ok, drop-append_seam p.name (61 ∷ (value_text p.first ++ others_text p.others))) refl
 
 value-part : (p : Param) → IsParam p → first_of_text (text_of p) ≡ p.first.bytes
 value-part p ok = rw (values-part p ok, pieces-values p.first p.others ok.first ok.others) (without_quotes-value p.first.quoted p.first.bytes ok.first)
