@@ -5,7 +5,9 @@ use Rattle.std.specs.List.{list_all}
 use Rattle.std.proofs.lemmas.Bool.{and_parts, and_right, not-true, false_from_ne_true}
 use Rattle.std.proofs.lemmas.Bool.Decides.{eqb_tells}
 use Rattle.std.proofs.lemmas.Grind.{common_steps}
-use Rattle.std.proofs.lemmas.List.{take_all}
+use Rattle.std.proofs.lemmas.List.{length-take, get_or-take}
+use Rattle.std.proofs.lemmas.List.Elements.{All-from_get_or}
+use Rattle.std.proofs.lemmas.List.Sums.{list_all-from_AllPass}
 use Rattle.ics_text.specs.Bytes.{begins}
 use Rattle.ics_text.specs.Unfolded.{physical_lines, onto_first}
 use Rattle.ics_text.specs.Reading.{without_cr}
@@ -59,15 +61,13 @@ front (b ∷ c ∷ cs) tail h =
     ∙ ap (onto_first b) (front (c ∷ cs) tail (tail_no_lf b (c ∷ cs) h))
 
 -- what a search for the first LF says
-pub no_lf-take : (bs : List ℕ) (n : ℕ) → ((k : ℕ) → 0 ≤ k → k < n → (get_or bs k 0 == 10) ≡ true → ⊥) → no_lf (take n bs) ≡ true
-no_lf-take bs zero none = refl
-no_lf-take [] (suc n) none = refl
-no_lf-take (b ∷ bs) (suc n) none =
-    let e : (b == 10) ≡ false = false_from_ne_true (b == 10) (none 0 (omega arith) (omega arith)) in
-    rw e (no_lf-take bs n (λ k l h. none (suc k) (omega arith) (omega arith)))
-
 pub no_lf-from : (bs : List ℕ) → ((k : ℕ) → 0 ≤ k → k < length bs → (get_or bs k 0 == 10) ≡ true → ⊥) → no_lf bs ≡ true
-no_lf-from bs none = rw (take_all (length bs) bs (omega arith)) at (no_lf-take bs (length bs) none)
+no_lf-from bs none = list_all-from_AllPass (λ b. not (b == 10)) bs
+    (All-from_get_or (λ b. not (b == 10) ≡ true) bs 0 (λ k h. ap not (false_from_ne_true (get_or bs k 0 == 10) (none k (omega arith) h))))
+
+pub no_lf-take : (bs : List ℕ) (n : ℕ) → ((k : ℕ) → 0 ≤ k → k < n → (get_or bs k 0 == 10) ≡ true → ⊥) → no_lf (take n bs) ≡ true
+no_lf-take bs n none = no_lf-from (take n bs) (λ k l h.
+    let below : k < n = omega (arith, length-take n bs) in rw (get_or-take n bs k 0 below) (none k l below))
 
 -- the bytes before a place, the byte there, and those behind it
 pub parted : (bs : List ℕ) (n : ℕ) → n < length bs → bs ≡ take n bs ++ get_or bs n 0 ∷ drop (n + 1) bs

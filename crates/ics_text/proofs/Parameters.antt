@@ -1,7 +1,7 @@
 -- The search for a parameter finds the first value of the first parameter of its name.
 use Rattle.std.proofs.Common.{◌≡◌, ◌≢◌, ℕ, ◌+◌, Bool, true, false, ◌==◌, ◌&&◌, List, [], ◌∷◌, suc, refl, sym, ap, ◌∙◌, cond, Option, Some, None, add-one}
-use Rattle.std.proofs.Common.{◌-◌, ◌++◌, length, drop, map, append_assoc, length-append, arith, not, option_map}
-use Rattle.std.proofs.lemmas.Bool.{eqb-true, and_parts, and_right, ne_eqb}
+use Rattle.std.proofs.Common.{◌-◌, ◌++◌, length, drop, map, append_assoc, length-append, arith, not, option_map, inl, inr}
+use Rattle.std.proofs.lemmas.Bool.{eqb-true, and_parts, and_right, cases_Bool, ne_eqb}
 use Rattle.ics_text.specs.Unfolded.{onto_first}
 use Rattle.ics_text.specs.Bytes.{dquote, comma, equals, is_name_byte, is_quoted_byte, is_plain_byte}
 use Rattle.ics_text.specs.ContentLines.{pieces, turned, Value, Param, value_text, params_text, IsValue, IsParam, IsParams, first_value, without_quotes}
@@ -21,15 +21,12 @@ no_quote sep b ne e = ne_eqb b 34 (λ is. ne (sym (eqb-true b sep e) ∙ is))
 
 pub cut-pieces : (sep : ℕ) (quoted : Bool) (text : List ℕ) → sep ≢ 34 → pieces sep quoted text ≡ pieces_by sep text (cut_from sep quoted text)
 cut-pieces sep quoted [] ne = refl
-cut-pieces sep quoted (b ∷ bs) ne = one quoted (b == sep) (no_quote sep b ne) (cut-pieces sep (turned quoted b) bs ne)
-  where
-    one : (quoted t : Bool) → (t ≡ true → (b == dquote) ≡ false) →
-        pieces sep (turned quoted b) bs ≡ pieces_by sep bs (cut_from sep (turned quoted b) bs) →
-        cond (t && not quoted) ([] ∷ pieces sep (turned quoted b) bs) (onto_first b (pieces sep (turned quoted b) bs))
-        ≡ pieces_by sep (b ∷ bs) (cond (t && not quoted) (Some 0) (option_map (λ n. n + 1) (cut_from sep (turned quoted b) bs)))
-    one false true f ih = rw (f refl) refl
-    one true true f ih = ap (onto_first b) ih ∙ onto-by sep b bs (cut_from sep (turned true b) bs)
-    one quoted false f ih = ap (onto_first b) ih ∙ onto-by sep b bs (cut_from sep (turned quoted b) bs)
+cut-pieces sep true (b ∷ bs) ne =
+    rw (and_right (b == sep) false refl) (ap (onto_first b) (cut-pieces sep (turned true b) bs ne) ∙ onto-by sep b bs (cut_from sep (turned true b) bs))
+cut-pieces sep false (b ∷ bs) ne = elim (cases_Bool (b == sep)) [
+  | inl is ↦ rw (is, no_quote sep b ne is) refl
+  | inr not ↦ rw not (ap (onto_first b) (cut-pieces sep (turned false b) bs ne) ∙ onto-by sep b bs (cut_from sep (turned false b) bs))
+]
 
 -- a text in front of the first piece
 abbrev in_front : List ℕ → List (List ℕ) → List (List ℕ)
@@ -73,25 +70,19 @@ in_quotes sep (b ∷ bs) rest h =
     rw (quoted-no_quote b parts.0, and_right (b == sep) false refl)
     (ap (onto_first b) (in_quotes sep bs rest parts.1))
 
--- what a separator is: no quote, and no byte of a value without quotes
-record Parts (sep : ℕ) : Type 0 where
-  no_quote : (34 == sep) ≡ false
-  not_plain : (b : ℕ) → is_plain_byte b ≡ true → (b == sep) ≡ false
-
-semicolon-parts : Parts 59
-semicolon-parts = record { no_quote = refl; not_plain = λ b h. (plain-no_sign b h).semicolon }
-
-comma-parts : Parts 44
-comma-parts = record { no_quote = refl; not_plain = λ b h. (plain-no_sign b h).comma }
-
-passes-value : (sep : ℕ) → Parts sep → (quoted : Bool) (bytes : List ℕ) → IsValue (record { quoted = quoted; bytes = bytes }) →
-    Passes sep (value_text (record { quoted = quoted; bytes = bytes }))
-passes-value sep p false bytes ok = passes-run sep is_plain_byte (λ b h. (plain-no_sign b h).quote) p.not_plain bytes ok
-passes-value sep p true bytes ok = record {
-  on = λ rest.
-      rw (append_assoc bytes (34 ∷ []) rest, p.no_quote)
-      (ap (onto_first 34) (in_quotes sep bytes rest ok));
+-- nor in a value, where the separator is no quote and no byte of a value without quotes
+passes-value : (sep : ℕ) → (34 == sep) ≡ false → ((b : ℕ) → is_plain_byte b ≡ true → (b == sep) ≡ false) → (quoted : Bool) (bytes : List ℕ)
+    → IsValue (record { quoted = quoted; bytes = bytes }) → Passes sep (value_text (record { quoted = quoted; bytes = bytes }))
+passes-value sep no_quote no_sep false bytes ok = passes-run sep is_plain_byte (λ b h. (plain-no_sign b h).quote) no_sep bytes ok
+passes-value sep no_quote no_sep true bytes ok = record {
+  on = λ rest. rw (append_assoc bytes (34 ∷ []) rest, no_quote) (ap (onto_first 34) (in_quotes sep bytes rest ok));
 }
+
+semicolon-passes : (v : Value) → IsValue v → Passes 59 (value_text v)
+semicolon-passes v = passes-value 59 refl (λ b h. (plain-no_sign b h).semicolon) v.quoted v.bytes
+
+comma-passes : (v : Value) → IsValue v → Passes 44 (value_text v)
+comma-passes v = passes-value 44 refl (λ b h. (plain-no_sign b h).comma) v.quoted v.bytes
 
 -- the values behind the first, each with its comma
 abbrev pub others_text : List Value → List ℕ
@@ -105,7 +96,7 @@ passes-others : (vs : List Value) → AllByRecursion IsValue vs → Passes 59 (o
 passes-others [] ok = record { on = λ rest. refl }
 passes-others (v ∷ vs) ok =
     passes-both 59 (44 ∷ value_text v) (others_text vs)
-    (passes-byte 59 44 (value_text v) refl refl (passes-value 59 semicolon-parts v.quoted v.bytes ok.0)) (passes-others vs ok.1)
+    (passes-byte 59 44 (value_text v) refl refl (semicolon-passes v ok.0)) (passes-others vs ok.1)
 
 passes-text : (p : Param) → IsParam p → Passes 59 (text_of p)
 passes-text p ok =
@@ -113,7 +104,7 @@ passes-text p ok =
     (passes-run 59 is_name_byte name-no_quote name-no_semicolon p.name ok.name.bytes)
     (passes-byte 59 61 (value_text p.first ++ others_text p.others) refl refl
     (passes-both 59 (value_text p.first) (others_text p.others)
-    (passes-value 59 semicolon-parts p.first.quoted p.first.bytes ok.first) (passes-others p.others ok.others)))
+    (semicolon-passes p.first ok.first) (passes-others p.others ok.others)))
 
 -- the pieces of the parameters are an empty one and the parameters' texts
 pub pieces-params : (ps : List Param) → AllByRecursion IsParam ps → pieces 59 false (params_text ps) ≡ [] ∷ map text_of ps
@@ -125,9 +116,9 @@ pieces-params (p ∷ ps) ok = rw (append_assoc p.name (61 ∷ value_text p.first
 -- the pieces of the values are the values
 pub pieces-values : (v : Value) (vs : List Value) → IsValue v → AllByRecursion IsValue vs →
     pieces 44 false (value_text v ++ others_text vs) ≡ value_text v ∷ map value_text vs
-pieces-values v [] ok more = (passes-value 44 comma-parts v.quoted v.bytes ok).on [] ∙ in_front-empty (value_text v) []
+pieces-values v [] ok more = (comma-passes v ok).on [] ∙ in_front-empty (value_text v) []
 pieces-values v (w ∷ ws) ok more =
-    (passes-value 44 comma-parts v.quoted v.bytes ok).on (others_text (w ∷ ws))
+    (comma-passes v ok).on (others_text (w ∷ ws))
     ∙ ap (λ (ts : List (List ℕ)). in_front (value_text v) ([] ∷ ts)) (pieces-values w ws more.0 more.1)
     ∙ in_front-empty (value_text v) (map value_text (w ∷ ws))
 
