@@ -10,7 +10,7 @@ use Rattle.std.proofs.lemmas.Bool.{and_parts, cases_Bool}
 use Rattle.std.proofs.lemmas.List.{take_rest, drop-drop}
 use Rattle.std.proofs.Math.Seq.{take-append_seam, drop-append_seam}
 use Rattle.ics_text.specs.ContentLines.{Param, params_text, IsContent, Parts, cut_at, content_of}
-use Rattle.ics_text.proofs.Spelled.{found, comes}
+use Rattle.ics_text.proofs.Spelled.{Found, found, comes}
 
 -- a walk from a place that has come to byte i
 abbrev pub walked : List ℕ → ScanState → ℕ → ScanState → Type 0
@@ -98,7 +98,7 @@ computed : (line : List ℕ) (parts : Parts) (k : Option ℕ) → colon_from lin
     IsContent line parts.name parts.params parts.value
 computed line parts None e h = cc
 computed line parts (Some k) e h =
-    let f = found line Start k e in
+    let f : Found Start line k = rw e at (found line Start) in
     let t = f.tail in
     let c : IsContent line t.bytes (params_text t.ps) f.behind =
     record { ps = t.ps; name_ok = f.ok.0; params_ok = record { in_order = f.ok.1; spelled = refl }; spelled = f.text } in

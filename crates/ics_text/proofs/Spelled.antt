@@ -1,6 +1,6 @@
 -- A line leads to its colon exactly where it is spelled as a content line.
 use Rattle.std.proofs.Common.{◌≡◌, ◌≢◌, ℕ, suc, ◌+◌, Bool, true, false, List, [], ◌∷◌, ◌++◌, drop, length, refl, sym, ap, ◌∙◌, append_assoc, add-one, Option}
-use Rattle.std.proofs.Common.{Some, None, subst, ◌==◌, option_map, if◌then◌else◌}
+use Rattle.std.proofs.Common.{Some, None, IfSome, subst, ◌==◌, option_map, if◌then◌else◌}
 use Rattle.std.specs.List.{flat_map, AllByRecursion, list_all}
 use Rattle.std.proofs.lemmas.Bool.{eqb-true, and_parts, true_from_ne_false}
 use Rattle.ics_text.specs.Bytes.{comma, is_name_byte, is_quoted_byte, is_plain_byte}
@@ -57,7 +57,7 @@ TailOk InPlain t = (list_all is_plain_byte t.bytes ≡ true) × Rest t.vs t.ps
 TailOk InQuotes t = (list_all is_quoted_byte t.bytes ≡ true) × Rest t.vs t.ps
 TailOk AfterQuotes t = Rest t.vs t.ps
 
-none : Parameter
+abbrev none : Parameter
 none = record { quoted = false; bytes = [] }
 
 abbrev tail_of : List ℕ → Parameter → List Parameter → List Param → Tail
@@ -172,27 +172,25 @@ begun-text : (b : ℕ) (t : Tail) → b ≡ 59 → params_text (begun t ∷ t.ps
 begun-text b t e = params-param (begun t) t.ps ∙ ap (λ c. c ∷ tail_text BeforeParam t) (sym e)
 
 -- a byte that ends a value
-Ends : ℕ → Tail → ScanState → Type 0
-Ends b t q = TailOk q t → (vs : List Parameter) × (ps : List Param) × AllByRecursion IsValue vs × AllByRecursion IsParam ps × (more vs ps ≡ b ∷ tail_text q t)
-
-back-ends : (b : ℕ) (q : ScanState) (t : Tail) → ends_value b ≡ On q → Ends b t q
-unfolding Ends
-back-ends b q t s = on_test (λ q. Ends b t q) (b == 44) BeforeValue s
-    (λ h ok.
-    (t.first ∷ t.vs, t.ps, (ok.0, ok.1.values), ok.1.params, more-value t.first t.vs t.ps ∙ ap (λ c. c ∷ tail_text BeforeValue t) (sym (eqb-true b 44 h))))
-    (λ h e. on_test (λ q. Ends b t q) (b == 59) BeforeParam e
-    (λ k ok. ([], begun t ∷ t.ps, tt, begun-ok t ok, begun-text b t (eqb-true b 59 k)))
+back-ends : (b : ℕ) (q : ScanState) (t : Tail) → ends_value b ≡ On q → Back AfterQuotes b t q
+back-ends b q t s = on_test (Back AfterQuotes b t) (b == 44) BeforeValue s
+    (λ h ok. (
+      tail_of [] none (t.first ∷ t.vs) t.ps,
+      record { values = (ok.0, ok.1.values); params = ok.1.params },
+      more-value t.first t.vs t.ps ∙ ap (λ c. c ∷ tail_text BeforeValue t) (sym (eqb-true b 44 h)),
+    ))
+    (λ h e. on_test (Back AfterQuotes b t) (b == 59) BeforeParam e
+    (λ k ok. (tail_of [] none [] (begun t ∷ t.ps), record { values = tt; params = begun-ok t ok }, begun-text b t (eqb-true b 59 k)))
     (λ k e. absurd (no_end (b == 58) q e)))
 
 back : (state : ScanState) (b : ℕ) (q : ScanState) (t : Tail) → step state b ≡ On q → Back state b t q
-unfolding Ends none
 back Start b q t s = on_test (Back Start b t) (is_name_byte b) InName s
     (λ h ok. (record t { bytes = b ∷ t.bytes }, (record { some = λ e. cc; bytes = all-cons is_name_byte b t.bytes h ok.0 }, ok.1), refl))
     (λ h e. cc)
 back InName b q t s = on_test (Back InName b t) (is_name_byte b) InName s
     (λ h ok. (record t { bytes = b ∷ t.bytes }, (all-cons is_name_byte b t.bytes h ok.0, ok.1), refl))
     (λ h e. on_test (Back InName b t) (b == 59) BeforeParam e
-    (λ k ok. (record { bytes = []; first = none; vs = []; ps = begun t ∷ t.ps }, (refl, begun-ok t ok), begun-text b t (eqb-true b 59 k)))
+    (λ k ok. (tail_of [] none [] (begun t ∷ t.ps), (refl, begun-ok t ok), begun-text b t (eqb-true b 59 k)))
     (λ k e. absurd (no_end (b == 58) q e)))
 back BeforeParam b q t s = on_test (Back BeforeParam b t) (is_name_byte b) InParam s
     (λ h ok. (record t { bytes = b ∷ t.bytes }, (record { some = λ e. cc; bytes = all-cons is_name_byte b t.bytes h ok.0 }, ok.1, ok.2), refl))
@@ -202,14 +200,10 @@ back InParam b q t s = on_test (Back InParam b t) (is_name_byte b) InParam s
     (λ h e. on_test (Back InParam b t) (b == 61) BeforeValue e
     (λ k ok. (record t { bytes = [] }, (refl, ok.0, ok.1), ap (λ c. c ∷ tail_text BeforeValue t) (sym (eqb-true b 61 k))))
     (λ k e. cc))
-back AfterQuotes b q t s = λ ok.
-    let (vs, ps, hv, hp, e) = back-ends b q t s ok in
-    (record { bytes = []; first = none; vs = vs; ps = ps }, record { values = hv; params = hp }, e)
+back AfterQuotes b q t s = back-ends b q t s
 back InPlain b q t s = on_test (Back InPlain b t) (is_plain_byte b) InPlain s
     (λ h ok. (record t { bytes = b ∷ t.bytes }, (all-cons is_plain_byte b t.bytes h ok.0, ok.1), refl))
-    (λ h e ok.
-    let (vs, ps, hv, hp, same) = back-ends b q t e ok in
-    (record { bytes = []; first = none; vs = vs; ps = ps }, (refl, record { values = hv; params = hp }), same))
+    (λ h e ok. let (u, rest, same) = back-ends b q t e ok in (record u { bytes = [] }, (refl, rest), same))
 back BeforeValue b q t s = on_test (Back BeforeValue b t) (b == 34) InQuotes s
     (λ h ok. (
       record t { first = record { quoted = true; bytes = t.bytes } },
@@ -218,9 +212,7 @@ back BeforeValue b q t s = on_test (Back BeforeValue b t) (b == 34) InQuotes s
     ))
     (λ h e. on_test (Back BeforeValue b t) (is_plain_byte b) InPlain e
     (λ k ok. (record t { first = record { quoted = false; bytes = b ∷ t.bytes } }, (all-cons is_plain_byte b t.bytes k ok.0, ok.1), refl))
-    (λ k e ok.
-    let (vs, ps, hv, hp, same) = back-ends b q t e ok in
-    (record { bytes = []; first = none; vs = vs; ps = ps }, (refl, record { values = hv; params = hp }), same)))
+    (λ k e ok. let (u, rest, same) = back-ends b q t e ok in (record u { first = none }, (refl, rest), same)))
 back InQuotes b q t s = on_test (Back InQuotes b t) (b == 34) AfterQuotes s
     (λ h ok. (record t { bytes = [] }, (refl, ok), ap (λ c. c ∷ tail_text AfterQuotes t) (sym (eqb-true b 34 h))))
     (λ h e. on_test (Back InQuotes b t) (is_quoted_byte b) InQuotes e
@@ -248,14 +240,13 @@ ends-colon b s = is_colon b (value_last (b == 59) BeforeParam _ (value_last (b =
 value-colon : (b : ℕ) → in_value b ≡ Value → b ≡ 58
 value-colon b s = ends-colon b (value_last (is_plain_byte b) InPlain _ s)
 
-nothing : Tail
-nothing = record { bytes = []; first = none; vs = []; ps = [] }
+abbrev nothing : Tail
+nothing = tail_of [] none [] []
 
 no_rest : Rest [] []
 no_rest = record { values = tt; params = tt }
 
 stop : (state : ScanState) (b : ℕ) → step state b ≡ Value → Stops state b
-unfolding nothing none
 stop Start b s = absurd (refused_no (value_last (is_name_byte b) InName Refused s))
 stop InName b s = (is_colon b (value_last (b == 59) BeforeParam _ (value_last (is_name_byte b) InName _ s)), (nothing, (refl, tt), refl))
 stop BeforeParam b s = absurd (refused_no (value_last (is_name_byte b) InParam Refused s))
@@ -273,30 +264,25 @@ pub record Found (state : ScanState) (bs : List ℕ) (k : ℕ) : Type 0 where
   pub count : k ≡ length (tail_text state tail)
 
 -- what leads to its colon is spelled so
-pub found : (bs : List ℕ) (state : ScanState) (k : ℕ) → colon_from bs state ≡ Some k → Found state bs k
-found [] state k e = cc
-found (b ∷ bs) state k e = went (step state b) refl e (found bs)
+pub found : (bs : List ℕ) (state : ScanState) → IfSome (colon_from bs state) (Found state bs)
+found [] state = tt
+found (b ∷ bs) state = went (step state b) refl (found bs)
   where
-    came : (q : ScanState) (o : Option ℕ) → step state b ≡ On q → colon_from bs q ≡ o → option_map (λ n. n + 1) o ≡ Some k →
-        ((j : ℕ) → colon_from bs q ≡ Some j → Found q bs j) → Found state (b ∷ bs) k
-    came q None s c e ih = cc
-    came q (Some j) s c e ih =
-        let f = ih j c in
+    came : (q : ScanState) (o : Option ℕ) → step state b ≡ On q → IfSome o (Found q bs) → IfSome (option_map (λ n. n + 1) o) (Found state (b ∷ bs))
+    came q None s f = tt
+    came q (Some j) s f =
         let (u, ok, text) = back state b q f.tail s f.ok in
-        let count : j + 1 ≡ k = cc in
         record {
           tail = u;
           behind = f.behind;
           ok = ok;
           text = ap (λ r. b ∷ r) f.text ∙ ap (λ r. r ++ 58 ∷ f.behind) (sym text);
-          count = sym count ∙ add-one j ∙ ap suc f.count ∙ ap length (sym text);
+          count = add-one j ∙ ap suc f.count ∙ ap length (sym text);
         }
 
-    went : (m : Move) → step state b ≡ m → counted m (colon_from bs) ≡ Some k → ((q : ScanState) (j : ℕ) → colon_from bs q ≡ Some j → Found q bs j) →
-        Found state (b ∷ bs) k
-    went (On q) s e ih = came q (colon_from bs q) s refl e (ih q)
-    went Value s e ih =
+    went : (m : Move) → step state b ≡ m → ((q : ScanState) → IfSome (colon_from bs q) (Found q bs)) → IfSome (counted m (colon_from bs)) (Found state (b ∷ bs))
+    went (On q) s later = came q (colon_from bs q) s (later q)
+    went Value s later =
         let (colon, (t, ok, text)) = stop state b s in
-        let zero_is : 0 ≡ k = cc in
-        record { tail = t; behind = bs; ok = ok; text = ap (λ c. c ∷ bs) colon ∙ ap (λ r. r ++ 58 ∷ bs) (sym text); count = sym zero_is ∙ ap length (sym text) }
-    went Refused s e ih = cc
+        record { tail = t; behind = bs; ok = ok; text = ap (λ c. c ∷ bs) colon ∙ ap (λ r. r ++ 58 ∷ bs) (sym text); count = ap length (sym text) }
+    went Refused s later = tt
