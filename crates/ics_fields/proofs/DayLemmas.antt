@@ -1,8 +1,8 @@
 -- The years, months and days that a day number has.
 use Rattle.std.proofs.Common.{◌≡◌, ℕ, zero, suc, ◌+◌, ◌-◌, ◌*◌, ◌/◌, ◌<◌, ◌≤◌, ◌⊎◌, inl, inr, true, false, nat_le, refl, sym, ap, arith, ℤ, pos, negsuc, ◌+ℤ◌}
 use Rattle.std.proofs.Common.{unsigned_abs}
-use Rattle.std.proofs.lemmas.Bool.{cases_order, le-leb, lt-leb}
-use Rattle.std.proofs.lemmas.Bool.Decides.{nat_tests}
+use Rattle.std.proofs.lemmas.Bool.{cases_eq, cases_order, le-leb, lt-leb}
+use Rattle.std.proofs.lemmas.Bool.Decides.{nat_tests, leb_tells}
 use Rattle.jiff_core.specs.Calendar.{days_in_year, days_of_months, day_of_year, day_count, IsCivilDate}
 use Rattle.jiff_core.proofs.SignedLemmas.{signed_arith, one_part}
 use Rattle.jiff_core.proofs.MarchLemmas.{day_count-early}
@@ -27,13 +27,10 @@ days_before_year_mono y later h = omega arith
 -- each day lies in a year that has begun and whose next has not
 year_from_under_way : (e n : ℕ) → e < days_before_year (suc n) → (days_before_year (year_from e n) ≤ e) × (e < days_before_year (suc (year_from e n)))
 year_from_under_way e zero h = (omega arith, h)
-year_from_under_way e (suc n) h = elim (cases (days_before_year (suc n)) e) [
+year_from_under_way e (suc n) h = elim (leb_tells (days_before_year (suc n)) e) [
   | inl begun ↦ rw (begun.0, year_from) (begun.1, h)
   | inr later ↦ rw (later.0, year_from) (year_from_under_way e n later.1)
 ]
-  where
-    cases : (a b : ℕ) → ((nat_le a b ≡ true) × (a ≤ b)) ⊎ ((nat_le a b ≡ false) × (b < a))
-    cases a b = grind (arith, nat_tests)
 
 pub year_under_way : (e : ℕ) → (days_before_year (year_of e) ≤ e) × (e < days_before_year (suc (year_of e)))
 unfolding year_of
@@ -57,16 +54,13 @@ record IsInMonth (y n m : ℕ) : Type 0 where
 
 month_from_is : {y n m : ℕ} (top : ℕ) → IsInMonth y n m → m ≤ top → month_from y n top ≡ m
 month_from_is zero is h = absurd (omega arith)
-month_from_is {y} {n} {m} (suc top) is h = elim (by_order m (suc top) h) [
+month_from_is {y} {n} {m} (suc top) is h = elim (cases_eq m (suc top)) [
   | inl same ↦ let back : m - 1 ≡ top = omega arith in
       let begun : nat_le (days_of_months (pos y) top + 1) n ≡ true = le-leb _ _ (let l = rw back at is.low in omega arith) in rw (begun, month_from) (sym same)
   | inr less ↦ let later : nat_le (days_of_months (pos y) top + 1) n ≡ false =
       lt-leb _ _ (let k = days_of_months_mono (pos y) m top (omega arith) in omega arith) in
       rw (later, month_from) (month_from_is top is (omega arith))
 ]
-  where
-    by_order : (a b : ℕ) → a ≤ b → (a ≡ b) ⊎ (a < b)
-    by_order a b h = grind arith
 
 -- the years as the calendar counts them
 pub day_count_is : (y : ℕ) → day_count (pos y) 1 1 ≡ days_before_year y + 3_652_425
