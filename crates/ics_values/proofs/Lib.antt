@@ -1,7 +1,6 @@
 pub mod DateLemmas
 pub mod ShapeLemmas
 pub mod RuleLemmas
-pub mod SaysLemmas
 pub mod ListedLemmas
 pub mod RuleSays
 pub mod StampLemmas
