@@ -1,6 +1,6 @@
 -- A set to which the items of a list were added has the numbers that stand in the list, and its own.
 use Rattle.std.proofs.Common.{◌≡◌, ℕ, zero, suc, ◌<◌, ◌≤◌, ◌/◌, ◌%◌, ◌^◌, Bool, true, false, ◌&&◌, ◌||◌, ◌==◌, List, [], ◌∷◌, length}
-use Rattle.std.proofs.Common.{Option, Some, None, cond, refl, sym, ap, ◌∙◌, inl, inr, get_or-set_same, get_or-set_other, set, arith, not, fold, nat_le, is_some}
+use Rattle.std.proofs.Common.{Option, Some, None, cond, refl, ap, ◌∙◌, inl, inr, get_or-set_same, get_or-set_other, set, arith, not, fold, nat_le, is_some}
 use Rattle.std.specs.List.{list_any, list_all}
 use Rattle.std.proofs.Math.ListN.{length-set}
 use Rattle.std.proofs.lemmas.Bool.{and_parts, and_left, and_right, cond_both, leb-true, cases_eq, ne_eqb, eq-eqb}

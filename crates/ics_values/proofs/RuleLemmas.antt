@@ -1,11 +1,10 @@
 -- Parts that are read one after another say what they say together.
-use Rattle.std.proofs.Common.{◌≡◌, ◌<◌, ℕ, Bool, true, false, ◌&&◌, ◌||◌, ◌==◌, List, [], ◌∷◌, map, Option, Some, None, Result, Ok, Err, cond, refl, sym, ap}
-use Rattle.std.proofs.Common.{◌∙◌, arith, inl, inr, lit<, not, fold, option_and_then, if◌then◌else◌}
+use Rattle.std.proofs.Common.{◌≡◌, ◌<◌, ℕ, Bool, true, false, ◌&&◌, ◌||◌, ◌==◌, List, [], ◌∷◌, map, Option, Some, None, Result, Ok, Err, refl}
+use Rattle.std.proofs.Common.{arith, inl, inr, lit<, not, fold, option_and_then, if◌then◌else◌}
 use Rattle.std.specs.List.{list_any, list_all}
-use Rattle.std.proofs.lemmas.Bool.{and_right, cases_Bool, or_parts, or_right}
+use Rattle.std.proofs.lemmas.Bool.{cases_Bool, or_right}
 use Rattle.std.proofs.lemmas.Bool.Decides.{nat_tests}
 use Rattle.ics_values.specs.declared.rule_text.Draft.{Draft}
-use Rattle.ics_fields.specs.declared.frequency.Frequency.TheVariants.{Yearly}
 use Rattle.ics_values.specs.declared.part_name.ListName.{ListName}
 use Rattle.ics_values.specs.declared.part_name.ListName.TheVariants.{BySecond}
 use Rattle.ics_values.specs.declared.part_name.PartName.{PartName}
@@ -13,9 +12,9 @@ use Rattle.ics_values.specs.declared.part_name.PartName.TheVariants as part
 use Rattle.ics_values.specs.declared.rule_text.RuleFault.{RuleFault}
 use Rattle.ics_values.specs.declared.rule_text.RuleFault.TheVariants.{BadRule, NumberTooLarge}
 use Rattle.ics_fields.specs.Sets.{contains, with_number}
-use Rattle.ics_fields.specs.RuleParts.{RuleParts, every}
-use Rattle.ics_values.specs.RuleTexts.{Part, pieces, row, fits, fits_list, part_of, without_last, is_part, is_name, has_part, none_twice, are_parts}
-use Rattle.ics_values.specs.Rules.{with_item, with_value, with_part, is_large, has_large_number, rule_said, rule_of}
+use Rattle.ics_fields.specs.RuleParts.{RuleParts}
+use Rattle.ics_values.specs.RuleTexts.{Part, pieces, row, fits, fits_list, part_of, without_last, is_part, is_name, has_part, none_twice}
+use Rattle.ics_values.specs.Rules.{with_item, with_part, is_large, has_large_number, rule_of}
 use Rattle.ics_values.specs.RuleDrafts.{walk, item_taken, named_taken, part_taken, no_parts}
 use Rattle.ics_fields.proofs.SetLemmas.{contains-with_number, has_none}
 

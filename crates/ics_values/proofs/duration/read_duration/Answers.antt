@@ -9,14 +9,8 @@ use Rattle.ics_values.specs.declared.duration.DurationFault.TheVariants.{NumberT
 use Rattle.ics_values.specs.Amounts.{HasAmounts, capped, each_fits}
 use Rattle.ics_values.proofs.duration.read_duration.Goals as goal
 
-record AreSmall (a : Amounts) : Type 0 where
-  weeks : a.weeks ≤ greatest_number
-  days : a.days ≤ greatest_number
-  hours : a.hours ≤ greatest_number
-  minutes : a.minutes ≤ greatest_number
-  seconds : a.seconds ≤ greatest_number
-
-are_small : (a : Amounts) → each_fits a ≡ true → AreSmall a
+are_small : (a : Amounts) → each_fits a ≡ true → (a.weeks ≤ greatest_number) × (a.days ≤ greatest_number) × (a.hours ≤ greatest_number)
+    × (a.minutes ≤ greatest_number) × (a.seconds ≤ greatest_number)
 are_small a h = grind (arith, nat_tests)
 
 -- the sign before a text is no unit and no digit
@@ -52,7 +46,7 @@ said : (text : List ℕ) (a : Amounts) → is_duration_text text ≡ true → Ha
       seconds = 3600 * a.hours + 60 * a.minutes + a.seconds;
     })
 said text a ordered has fits =
-    let small = are_small a fits in
+    let (few_weeks, few_days, few_hours, few_minutes, few_seconds) = are_small a fits in
     let w : weeks text ≡ a.weeks = omega arith in
     let d : days text ≡ a.days = omega arith in
     let h : hours text ≡ a.hours = omega arith in
@@ -73,5 +67,5 @@ returns-clause-value c =
 
 pub returns-clause-range : goal.returns-clause-range
 returns-clause-range c =
-    let small : AreSmall c.in-Some.amounts = are_small c.in-Some.amounts (sym c.if-not-fit.ensures) in
+    let (weeks, days, hours, minutes, seconds) = are_small c.in-Some.amounts (sym c.if-not-fit.ensures) in
     record { days = omega arith; seconds = omega arith }
