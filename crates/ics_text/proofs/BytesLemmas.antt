@@ -1,5 +1,5 @@
 -- What the tests of bytes tell of separators and quotes.
-use Rattle.std.proofs.Common.{◌≡◌, ℕ, Bool, true, false, ◌==◌, ◌&&◌, arith, List, [], ◌∷◌, map, refl, not, ◌↔◌, IsTrue, bytes_eq}
+use Rattle.std.proofs.Common.{◌≡◌, ℕ, Bool, true, false, ◌==◌, arith, List, [], ◌∷◌, map, refl, not, ◌↔◌, IsTrue, bytes_eq}
 use Rattle.std.specs.Char.{to_ascii_lowercase}
 use Rattle.std.proofs.lemmas.Bool.{and_parts, not-true}
 use Rattle.std.proofs.lemmas.Bool.Decides.{nat_tests, same_from_decides}

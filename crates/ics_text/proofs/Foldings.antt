@@ -1,5 +1,5 @@
 -- Unfolding undoes folding.
-use Rattle.std.proofs.Common.{◌≡◌, ◌≢◌, ℕ, ◌+◌, Bool, true, false, ◌&&◌, ◌==◌, List, [], ◌∷◌, ◌++◌, length, map, refl, sym, ap, ◌∙◌, arith}
+use Rattle.std.proofs.Common.{◌≡◌, ◌≢◌, ℕ, ◌+◌, Bool, true, false, ◌==◌, List, [], ◌∷◌, ◌++◌, length, map, refl, sym, ap, ◌∙◌, arith}
 use Rattle.std.specs.Prelude.{not, filter}
 use Rattle.std.specs.List.{AllByRecursion, flat_map}
 use Rattle.std.proofs.lemmas.List.{append_assoc, append-nil}
@@ -8,7 +8,7 @@ use Rattle.std.proofs.lemmas.Bool.Decides.{nat_tests}
 use Rattle.ics_text.specs.Bytes.{is_blank, is_empty}
 use Rattle.ics_text.specs.Unfolded.{physical_lines, numbered, joined, goes_on, is_line, lines_from, unfolded, without_mark}
 use Rattle.ics_text.specs.Folding.{Fold, Written, line_end, fold_text, written_text, folded_bytes, is_folded, folded_lines, StandsBefore, AreFolds, IsWritten}
-use Rattle.ics_text.proofs.Cuts.{without_cr-append, without_cr-keeps, no_lf, front}
+use Rattle.ics_text.proofs.Cuts.{without_cr-append, without_cr-keeps, front}
 
 -- a fold as a physical line
 abbrev fold_line : Fold → List ℕ

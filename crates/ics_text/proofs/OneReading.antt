@@ -20,14 +20,16 @@ same-value v w ok_v ok_w e =
     let bytes : v.bytes ≡ w.bytes = sym (without_quotes-value v.quoted v.bytes ok_v) ∙ ap without_quotes e ∙ without_quotes-value w.quoted w.bytes ok_w in
     ap (λ (q : Bool). record { quoted = q; bytes = v.bytes }) quoted ∙ ap (λ (b : List ℕ). record { quoted = w.quoted; bytes = b }) bytes
 
-same-values : (vs ws : List Value) → AllByRecursion IsValue vs → AllByRecursion IsValue ws → map value_text vs ≡ map value_text ws → vs ≡ ws
-same-values [] [] ok_v ok_w e = refl
-same-values [] (w ∷ ws) ok_v ok_w e = cc
-same-values (v ∷ vs) [] ok_v ok_w e = cc
-same-values (v ∷ vs) (w ∷ ws) ok_v ok_w e =
-    let first = same-value v w ok_v.0 ok_w.0 (cc) in
-    let more = same-values vs ws ok_v.1 ok_w.1 (cc) in
-    cc
+-- lists are one where their texts are, if each text has one reading
+module _ {A : Type 0} (text : A → List ℕ) (Ok : A → Type 0) (one : (x y : A) → Ok x → Ok y → text x ≡ text y → x ≡ y) where
+  same-list : (xs ys : List A) → AllByRecursion Ok xs → AllByRecursion Ok ys → map text xs ≡ map text ys → xs ≡ ys
+  same-list [] [] ok_x ok_y e = refl
+  same-list [] (y ∷ ys) ok_x ok_y e = cc
+  same-list (x ∷ xs) [] ok_x ok_y e = cc
+  same-list (x ∷ xs) (y ∷ ys) ok_x ok_y e =
+      let first = one x y ok_x.0 ok_y.0 (cc) in
+      let more = same-list xs ys ok_x.1 ok_y.1 (cc) in
+      cc
 
 same-parts : (p q : Param) → p.name ≡ q.name → p.first ≡ q.first → p.others ≡ q.others → p ≡ q
 same-parts p q name first others =
@@ -42,22 +44,14 @@ same-param p q ok_p ok_q e =
     sym (values-part p ok_p) ∙ ap (λ t. drop 1 (after_name t)) e ∙ values-part q ok_q in
     let texts : map value_text (p.first ∷ p.others) ≡ map value_text (q.first ∷ q.others) =
     sym (pieces-values p.first p.others ok_p.first ok_p.others) ∙ ap (pieces 44 false) text ∙ pieces-values q.first q.others ok_q.first ok_q.others in
-    let values = same-values (p.first ∷ p.others) (q.first ∷ q.others) (ok_p.first, ok_p.others) (ok_q.first, ok_q.others) texts in
+    let values : p.first ∷ p.others ≡ q.first ∷ q.others =
+    same-list value_text IsValue same-value _ _ (ok_p.first, ok_p.others) (ok_q.first, ok_q.others) texts in
     let first : p.first ≡ q.first = cc in
     let others : p.others ≡ q.others = cc in
     same-parts p q name first others
-
-same-all : (ps qs : List Param) → AllByRecursion IsParam ps → AllByRecursion IsParam qs → map text_of ps ≡ map text_of qs → ps ≡ qs
-same-all [] [] ok_p ok_q e = refl
-same-all [] (q ∷ qs) ok_p ok_q e = cc
-same-all (p ∷ ps) [] ok_p ok_q e = cc
-same-all (p ∷ ps) (q ∷ qs) ok_p ok_q e =
-    let first = same-param p q ok_p.0 ok_q.0 (cc) in
-    let more = same-all ps qs ok_p.1 ok_q.1 (cc) in
-    cc
 
 pub same-params : (text : List ℕ) (ps qs : List Param) → IsParams text ps → IsParams text qs → ps ≡ qs
 same-params text ps qs p q =
     let texts : [] ∷ map text_of ps ≡ [] ∷ map text_of qs =
     sym (pieces-params ps p.in_order) ∙ ap (pieces 59 false) (sym p.spelled ∙ q.spelled) ∙ pieces-params qs q.in_order in
-    same-all ps qs p.in_order q.in_order (cc)
+    same-list text_of IsParam same-param ps qs p.in_order q.in_order (cc)

@@ -1,5 +1,5 @@
 -- The search for a parameter finds the first value of the first parameter of its name.
-use Rattle.std.proofs.Common.{◌≡◌, ◌≢◌, ℕ, ◌+◌, Bool, true, false, ◌==◌, ◌&&◌, List, [], ◌∷◌, suc, refl, sym, ap, ◌∙◌, cond, Option, Some, None, add-one}
+use Rattle.std.proofs.Common.{◌≡◌, ◌≢◌, ℕ, ◌+◌, Bool, true, false, ◌==◌, List, [], ◌∷◌, suc, refl, sym, ap, ◌∙◌, Option, Some, None, add-one}
 use Rattle.std.proofs.Common.{◌-◌, ◌++◌, length, drop, map, append_assoc, length-append, arith, not, option_map, inl, inr}
 use Rattle.std.proofs.lemmas.Bool.{eqb-true, and_parts, and_right, cases_Bool, ne_eqb}
 use Rattle.ics_text.specs.Unfolded.{onto_first}

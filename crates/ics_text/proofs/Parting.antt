@@ -1,5 +1,5 @@
 -- The walk to the colon of a content line, its parts as slices, and that they are what its grammar relates.
-use Rattle.std.proofs.Common.{◌≡◌, ℕ, suc, ◌+◌, ◌<◌, Bool, true, false, List, [], ◌∷◌, drop, refl, ap, ◌∙◌, arith, Option, Some, None, one-add, ◌-◌, ◌≤◌}
+use Rattle.std.proofs.Common.{◌≡◌, ℕ, suc, ◌+◌, ◌<◌, Bool, true, false, List, [], ◌∷◌, drop, refl, ap, ◌∙◌, arith, Option, Some, None, one-add, ◌-◌}
 use Rattle.std.proofs.Common.{◌++◌, length, take, sym, append_assoc, subst, length-append, inl, inr, option_map, ◌↔◌}
 use Rattle.std.specs.List.{prefix_len, list_all}
 use Rattle.ics_text.specs.Bytes.{is_name_byte}
