@@ -129,10 +129,8 @@ forth InQuotes (b ∷ bs) v vs ps ok =
 forth AfterQuotes bytes v vs ps ok = ends-ahead vs ps ok
 
 -- a text leads from a place to the colon behind it
-abbrev pub Comes : ScanState → List ℕ → List ℕ → Type 0
-Comes state rest text = colon_from (text ++ 58 ∷ rest) state ≡ Some (length text)
-
-leads : (rest text : List ℕ) (state : ScanState) (t : Tail) → TailOk state t → text ≡ tail_text state t → Comes state rest text
+leads : (rest text : List ℕ) (state : ScanState) (t : Tail) → TailOk state t → text ≡ tail_text state t
+    → colon_from (text ++ 58 ∷ rest) state ≡ Some (length text)
 leads rest [] state t ok e =
     let h : step state 58 ≡ Value = subst (Ahead (step state)) (sym e) (forth state t.bytes t.first t.vs t.ps ok) in rw h refl
 leads rest (b ∷ text) state t ok e =
@@ -141,7 +139,8 @@ leads rest (b ∷ text) state t ok e =
     rw (s, leads rest text q u fine is, add-one) refl
 
 -- what is spelled as a content line leads to its colon
-pub comes : (rest name : List ℕ) (ps : List Param) → IsName name → AllByRecursion IsParam ps → Comes Start rest (name ++ params_text ps)
+pub comes : (rest name : List ℕ) (ps : List Param) → IsName name → AllByRecursion IsParam ps →
+    colon_from ((name ++ params_text ps) ++ 58 ∷ rest) Start ≡ Some (length (name ++ params_text ps))
 comes rest name ps n h = leads rest (name ++ params_text ps) Start (tail_of name none [] ps) (n, h) refl
 
 -- a text of one place, with a byte in front of it, is a text of the place before
