@@ -62,11 +62,6 @@ plain_text-escaped (b ∷ bs) = by_tests (plain_text-escaped bs) (stands_for_its
     by_tests later false false h k = rw (h, k) (rw (plain b h) (ap (λ t. b ∷ t) later))
 
 -- worked cases
-escapes : text_of (codes "a\\,b\\\\n\\nc\\x\\") ≡ codes "a,b\\n" ++ 10 ∷ codes "c\\x\\"
+escapes : text_of (codes "a\\,b\\\\n\\nc\\x\\") ∷ text_of (codes "\\N\\;;") ∷ escaped (codes "a,b;" ++ 10 ∷ codes "\\") ∷ []
+    ≡ (codes "a,b\\n" ++ 10 ∷ codes "c\\x\\") ∷ (10 ∷ codes ";;") ∷ codes "a\\,b\\;\\n\\\\" ∷ []
 escapes = refl
-
-capital : text_of (codes "\\N\\;;") ≡ 10 ∷ codes ";;"
-capital = refl
-
-writing : escaped (codes "a,b;" ++ 10 ∷ codes "\\") ≡ codes "a\\,b\\;\\n\\\\"
-writing = refl
