@@ -6,4 +6,5 @@ pub mod Whole
 pub mod EventSound
 pub mod ZoneTables
 pub mod Settling
+mod FaultRows
 pub mod FileLaws
