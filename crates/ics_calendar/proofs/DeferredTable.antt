@@ -1,9 +1,9 @@
 -- The table of the second round and the pass find one fault on a line, and ask for one time zone.
-use Rattle.std.proofs.Common.{◌≡◌, ◌⊎◌, inl, inr, ℕ, Bool, true, false, ◌&&◌, List, map, refl, sym, cond, Option, Some, None, is_some, ℤ}
+use Rattle.std.proofs.Common.{◌≡◌, ◌⊎◌, inl, inr, ℕ, Bool, true, false, ◌&&◌, List, map, refl, sym, cond, Option, Some, None, is_some, arith}
 use Rattle.std.specs.Prelude.{find, not}
 use Rattle.std.specs.Option.{option_and_then}
 use Rattle.std.proofs.Math.Bool.{or-false}
-use Rattle.std.proofs.lemmas.Bool.{not-false, cond_both}
+use Rattle.std.proofs.lemmas.Bool.{not-false}
 use Rattle.ics_text.specs.Bytes.{upper}
 use Rattle.ics_text.specs.Unfolded.{Line}
 use Rattle.ics_text.specs.ContentLines.{Parts}
@@ -12,19 +12,16 @@ use Rattle.ics_values.specs.declared.stamp.Stamp.TheVariants as stamp
 use Rattle.ics_components.specs.declared.component.Context.{Context}
 use Rattle.ics_components.specs.declared.component.Context.TheVariants as context
 use Rattle.ics_components.specs.declared.dated.Dated.{Dated}
-use Rattle.ics_components.specs.declared.fault.FaultKind.{FaultKind}
 use Rattle.ics_components.specs.declared.fault.FaultKind.TheVariants.{BadEnd, UnknownZone, BadZoneFile}
 use Rattle.ics_components.specs.declared.deferred_check.Instant.{Instant}
-use Rattle.ics_components.specs.declared.deferred_check.Instant.TheVariants as instant
 use Rattle.ics_components.specs.declared.deferred_check.DeferredCheck.{DeferredCheck}
 use Rattle.ics_components.specs.declared.deferred_check.DeferredCheck.TheVariants as check
 use Rattle.ics_components.specs.declared.deferred_check.ZoneName.{ZoneName}
 use Rattle.ics_components.specs.declared.name.Name.{Name}
 use Rattle.ics_components.specs.declared.name.Name.TheVariants as name
-use Rattle.ics_fields.specs.Locals.{local_seconds}
 use Rattle.ics_components.specs.Names.{name_of}
 use Rattle.ics_components.specs.PlacedLines.{Placed, Open, context_of, closes, ends_event}
-use Rattle.ics_components.specs.Values.{dated_of, is_out}
+use Rattle.ics_components.specs.Values.{dated_of}
 use Rattle.ics_components.specs.Faults.{kinds}
 use Rattle.ics_calendar.specs.LaterFaults.{is_in_zone, is_in_unknown_zone, stands_later, tzid_on}
 use Rattle.ics_calendar.specs.DeferredChecks.{KnownZones, are_out, moment_on, ends_badly_later, moment_of, judged, unknown_in}
@@ -36,74 +33,39 @@ use Rattle.ics_components.proofs.NameLemmas.{Tells, tells}
 use Rattle.ics_components.proofs.Table.{Readings, readings, frame_of}
 use Rattle.ics_components.proofs.Frames.{with}
 
--- AN END against its start, as the table finds it and as it is judged.
+-- AN END against its start, as the table finds it, as it is judged, and as it asks for no time zone.
 moment-is : (known : KnownZones) (name : ZoneName) (s : Stamp) → moment_on known name s ≡ option_and_then (moment_of known) (instant_on name s)
 moment-is known name (stamp.Utc local) = refl
 moment-is known name _ = refl
 
-out-none : (o : Option ℤ) → are_out o None ≡ false
-out-none None = refl
-out-none (Some t) = refl
+abbrev EndsAs : KnownZones → Bool → Option DeferredCheck → Type 0
+EndsAs known t check =
+    (cond t (Some BadEnd) None ≡ option_and_then (judged known) check) × (option_and_then (unknown_in known.index) check ≡ None)
 
-compared-judged : (known : KnownZones) (a b : Option Instant) →
-    cond (are_out (option_and_then (moment_of known) a) (option_and_then (moment_of known) b)) (Some BadEnd) None
-    ≡ option_and_then (judged known) (both_compared a b)
-compared-judged known None b = refl
-compared-judged known (Some a) None = rw (out-none (moment_of known a)) refl
-compared-judged known (Some (instant.Utc a)) (Some (instant.Utc b)) = when (is_out (local_seconds a) (local_seconds b))
-  where
-    when : (t : Bool) → cond t (Some BadEnd) None ≡ option_and_then (judged known) (cond t (Some check.End) None)
-    when true = refl
-    when false = refl
-compared-judged known (Some (instant.Zoned a name)) (Some (instant.Utc b)) = refl
-compared-judged known (Some _) (Some _) = refl
+compared-as : (known : KnownZones) (one : Bool) (a b : Option Instant) →
+    EndsAs known (not one && are_out (option_and_then (moment_of known) a) (option_and_then (moment_of known) b)) (cond one None (both_compared a b))
+compared-as known one a b = (grind arith, grind arith)
 
-ends-judged : (known : KnownZones) (calendar : ℕ) (start end : Option Dated) →
-    cond (ends_badly_later known calendar start end) (Some BadEnd) None ≡ option_and_then (judged known) (ends_in calendar start end)
-ends-judged known k None end = refl
-ends-judged known k (Some a) None = refl
-ends-judged known k (Some a) (Some b) =
+ends-as : (known : KnownZones) (calendar : ℕ) (start end : Option Dated) →
+    EndsAs known (ends_badly_later known calendar start end) (ends_in calendar start end)
+ends-as known k (Some a) (Some b) =
     rw (moment-is known (zone_used k a) a.stamp, moment-is known (zone_used k b) b.stamp)
-    (by_test (are_of_one_zone a b))
-  where
-    by_test : (t : Bool) → cond (not t && are_out (option_and_then (moment_of known) (instant_in k a)) (option_and_then (moment_of known) (instant_in k b)))
-        (Some BadEnd) None
-        ≡ option_and_then (judged known) (cond t None (both_compared (instant_in k a) (instant_in k b)))
-    by_test true = refl
-    by_test false = compared-judged known (instant_in k a) (instant_in k b)
+    (compared-as known (are_of_one_zone a b) (instant_in k a) (instant_in k b))
+ends-as known k (Some a) None = (refl, refl)
+ends-as known k None end = (refl, refl)
 
--- THE SECOND ROUND. The kinds of a time zone that is not known.
-abbrev unknown_flat : (zoned has bad : Bool) → Option FaultKind
-unknown_flat zoned has bad = cond ((zoned && not has) && not bad) (Some UnknownZone) (cond ((zoned && not has) && bad) (Some BadZoneFile) None)
+-- THE SECOND ROUND. A time zone that is not known, as the table finds it, as it is judged, and as it is asked for.
+module _ (known : KnownZones) (zoned : Bool) (used : ZoneName) where
+  abbrev unknown : Bool
+  unknown = zoned && not (is_some (known.index used))
 
-turned : {X : Type 0} (t : Bool) (x : X) → cond (not t) (Some x) None ≡ cond t None (Some x)
-turned true x = refl
-turned false x = refl
+  abbrev later : Option DeferredCheck
+  later = cond zoned (Some (check.Zone used)) None
 
--- as it is judged
-in-zone : (known : KnownZones) (zoned : Bool) (used : ZoneName) →
-    unknown_flat zoned (is_some (known.index used)) (known.is_bad used.name) ≡ option_and_then (judged known) (cond zoned (Some (check.Zone used)) None)
-in-zone known false used = refl
-in-zone known true used = by_tests (is_some (known.index used)) (known.is_bad used.name)
-  where
-    by_tests : (has bad : Bool) → unknown_flat true has bad ≡ cond has None (cond bad (Some BadZoneFile) (Some UnknownZone))
-    by_tests true bad = refl
-    by_tests false true = refl
-    by_tests false false = refl
-
--- as it asks for a time zone
-no-zone : (index : ZoneName → Option ℕ) (calendar : ℕ) (start end : Option Dated) → option_and_then (unknown_in index) (ends_in calendar start end) ≡ None
-no-zone index k None end = refl
-no-zone index k (Some a) None = refl
-no-zone index k (Some a) (Some b) =
-    cond_both (are_of_one_zone a b) None (both_compared (instant_in k a) (instant_in k b)) (λ o. option_and_then (unknown_in index) o ≡ None)
-    (λ e. refl) (λ e. by_instants (instant_in k a) (instant_in k b))
-  where
-    by_instants : (s t : Option Instant) → option_and_then (unknown_in index) (both_compared s t) ≡ None
-    by_instants (Some (instant.Utc a)) (Some (instant.Utc b)) =
-        cond_both (is_out (local_seconds a) (local_seconds b)) (Some check.End) None (λ o. option_and_then (unknown_in index) o ≡ None) (λ e. refl) (λ e. refl)
-    by_instants (Some (instant.Zoned a name)) None = refl
-    by_instants _ _ = refl
+  zone-as : (cond (unknown && not (known.is_bad used.name)) (Some UnknownZone) (cond (unknown && known.is_bad used.name) (Some BadZoneFile) None)
+      ≡ option_and_then (judged known) later)
+      × (cond unknown (Some used.name) None ≡ option_and_then (unknown_in known.index) later)
+  zone-as = (grind arith, grind arith)
 
 module _ (whole : List Placed) (line : Line) (parts : Parts) (ls : List Placed) (path : List Open) where
   abbrev l : Placed
@@ -136,22 +98,16 @@ module _ (whole : List Placed) (line : Line) (parts : Parts) (ls : List Placed) 
   leaves _ context.Event e c m = inr (rw e, rw (e, c))
   leaves _ _ e c m = inr (rw e, rw c)
 
-  pub left-on : IsMatched l → Leaves (name_of (map upper parts.name))
-  left-on m = leaves (name_of (map upper parts.name)) (context_of path) (tells (map upper parts.name)) refl m
+  -- WHAT THE SECOND ROUND FINDS on a line, of the table and of the pass, and what it asks for.
+  abbrev Found : KnownZones → Name → Type 0
+  Found known n =
+      (find (λ kind. stands_later known kind ls l) kinds ≡ option_and_then (judged known) (left n))
+      × (cond (is_in_unknown_zone known l) (Some (tzid_on l)) None ≡ option_and_then (unknown_in known.index) (left n))
 
-  -- WHAT THE SECOND ROUND FINDS on a line, of the table and of the pass.
-  pub later-same : (known : KnownZones) (n : Name) → Leaves n → find (λ kind. stands_later known kind ls l) kinds ≡ option_and_then (judged known) (left n)
-  later-same known n (inl h) = rw (h.0, h.1, h.2) (ends-judged known g.calendar g.event.start g.event.end)
-  later-same known n (inr h) = rw (h.0, h.1) (in-zone known (is_in_zone l) used)
+  found : (known : KnownZones) (n : Name) → Leaves n → Found known n
+  found known n (inl h) = let ends = ends-as known g.calendar g.event.start g.event.end in (rw (h.0, h.1, h.2) ends.0, rw (h.1, h.2) (sym ends.1))
+  found known n (inr h) = let zone = zone-as known (is_in_zone l) used in (rw (h.0, h.1) zone.0, rw h.1 zone.1)
 
-  -- WHAT IT ASKS FOR on a line.
-  pub asked-same : (known : KnownZones) (n : Name) → Leaves n →
-      cond (is_in_unknown_zone known l) (Some (tzid_on l)) None ≡ option_and_then (unknown_in known.index) (left n)
-  asked-same known n (inl h) = rw (h.1, h.2) (sym (no-zone known.index g.calendar g.event.start g.event.end))
-  asked-same known n (inr h) = rw h.1 (by_zone (is_in_zone l))
-    where
-      by_zone : (z : Bool) →
-          cond (z && not (is_some (known.index used))) (Some used.name) None
-          ≡ option_and_then (unknown_in known.index) (cond z (Some (check.Zone used)) None)
-      by_zone true = turned (is_some (known.index used)) used.name
-      by_zone false = refl
+  pub same-on : (known : KnownZones) → IsMatched l → Found known (name_of (map upper parts.name))
+  same-on known m =
+      found known (name_of (map upper parts.name)) (leaves (name_of (map upper parts.name)) (context_of path) (tells (map upper parts.name)) refl m)
