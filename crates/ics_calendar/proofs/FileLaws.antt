@@ -1,9 +1,10 @@
 -- The laws of what a file is.
-use Rattle.std.proofs.Common.{◌≡◌, List, [], ◌∷◌, ◌++◌, inl, inr, refl, sym, ◌∙◌, ap, subst, append_assoc, ℕ, Bool, true, false, ◌+◌, ◌==◌, Some}
+use Rattle.std.proofs.Common.{◌≡◌, List, [], ◌∷◌, ◌++◌, inl, inr, refl, sym, ◌∙◌, ap, append_assoc, ℕ, Bool, true, false, ◌==◌, Some}
 use Rattle.std.proofs.Common.{Ok, Err, Result, cond, drop_of_length-le, arith, ◌&&◌, Option, None}
 use Rattle.std.specs.List.{All}
-use Rattle.std.proofs.lemmas.Bool.{and_parts, ltb-false}
-use Rattle.std.proofs.lemmas.Option.{same_Some}
+use Rattle.std.proofs.lemmas.Bool.{cases_Bool, ltb-false}
+use Rattle.std.proofs.Math.Bool.{and-false}
+use Rattle.std.specs.Option.{option_map}
 use Rattle.std.specs.Prelude.{◌≢◌, find}
 use Rattle.ics_text.specs.Unfolded.{Line, unfolded, begins_with_fold}
 use Rattle.ics_text.specs.ContentLines.{content_of}
@@ -18,20 +19,18 @@ use Rattle.ics_values.specs.declared.period.PeriodFault.TheVariants.{BadStamp}
 use Rattle.ics_values.specs.declared.stamp.Stamp.{Stamp}
 use Rattle.ics_values.specs.declared.stamp.StampFault.{StampFault}
 use Rattle.ics_values.specs.Texts.{begins, is_minus}
-use Rattle.ics_values.specs.Periods as period
-use Rattle.ics_values.specs.declared.duration.DurationFault.TheVariants as duration
 use Rattle.ics_values.specs.declared.stamp.StampFault.TheVariants as stamp
 use Rattle.ics_components.specs.Faults.{stands, kinds}
 use Rattle.ics_calendar.specs.LaterFaults.{stands_later, is_in_unknown_zone, tzid_on}
-use Rattle.ics_calendar.specs.Files.{FaultsLookBack, IsFile, file_of, decide, events_of, said_of, wanted_names, wanted_on, later_fault}
-use Rattle.ics_components.specs.FirstFault.{bad_fold, Round, IsFirst, first_fault, first_from, end_fault, last_of, no_open}
+use Rattle.ics_calendar.specs.Files.{FaultsLookBack, file_of, decide, events_of, said_of, wanted_names, wanted_on, later_fault}
+use Rattle.ics_components.specs.FirstFault.{bad_fold, found, least_on, fault_at_end, Round, IsFirst, first_fault, first_from, end_fault, last_of}
 use Rattle.ics_components.specs.declared.fault.Fault.{Fault}
 use Rattle.ics_components.specs.PlacedLines.{Open, Placed, placed, placed_from, path_behind, beside}
 use Rattle.ics_components.specs.declared.date_list.ListedDate.{ListedDate}
-use Rattle.ics_components.specs.DateValues.{At, Between, Lasting, date_time_of, has_slash, listed_by, listed_said, period_of, OnePeriod}
-use Rattle.ics_components.specs.Values.{allowed, is_lasting, lasting_of}
+use Rattle.ics_components.specs.DateValues.{DateValue, Between, Lasting, date_time_of, has_slash, listed_by, listed_said, OnePeriod}
+use Rattle.ics_components.specs.Values.{allowed}
 use Rattle.ics_components.specs.declared.fault.FaultKind.{FaultKind}
-use Rattle.ics_components.specs.declared.fault.FaultKind.TheVariants.{BadZoneFile, BadNesting, NotCalendar}
+use Rattle.ics_components.specs.declared.fault.FaultKind.TheVariants.{BadZoneFile}
 use Rattle.ics_calendar.specs.DeferredChecks.{KnownZones}
 use Rattle.ics_event.specs.Event.{FileSaid}
 use Rattle.ics_calendar.specs.GivenFiles.{GivenFiles, no_files}
@@ -39,39 +38,27 @@ use Rattle.ics_calendar.specs.Wanted.{each_once, unknown_names, zones_with}
 use Rattle.ics_calendar.specs.Zones.{zones_on}
 use Rattle.ics_components.proofs.DateValueLemmas.{any-first}
 use Rattle.ics_calendar.proofs.FilesGiven.{with-no-files, with-agreed}
-use Rattle.ics_calendar.proofs.Whole.{is-file}
 
--- A fault of the first round is found without the lines behind it.
-abbrev here : List Open → Line → Placed
-here path line = record { number = line.number; content = content_of line.bytes; path = path }
-
--- where lines stand behind others
-behind : List Open → List Line → List Line → List Placed
-behind path [] ys = placed_from path ys
-behind path (line ∷ xs) ys = behind (path_behind (here path line)) xs ys
-
--- lines in their places, and then those behind them
-placed-split : (path : List Open) (xs ys : List Line) → placed_from path (xs ++ ys) ≡ placed_from path xs ++ behind path xs ys
-unfolding behind
-placed-split path [] ys = refl
-placed-split path (line ∷ xs) ys = ap (λ (ls : List Placed). here path line ∷ ls) (placed-split (path_behind (here path line)) xs ys)
-
--- the first fault of some lines is that of these lines and more
-first-before : (round : Round) (before xs ys : List Placed) (fault : Fault) → IsFirst round before xs fault → IsFirst round before (xs ++ ys) fault
-first-before round before xs ys fault h = record {
-  front = h.front;
-  line = h.line;
-  rest = h.rest ++ ys;
-  parts = ap (λ (ls : List Placed). ls ++ ys) h.parts ∙ append_assoc h.front (h.line ∷ h.rest) ys;
-  earlier = h.earlier;
-  number = h.number;
-  least = h.least;
-}
+-- A fault of the first round is found without the lines behind it: they stand behind those before them, in their places.
+placed-split : (path : List Open) (xs ys : List Line) → (rest : List Placed) × (placed_from path (xs ++ ys) ≡ placed_from path xs ++ rest)
+placed-split path [] ys = (placed_from path ys, refl)
+placed-split path (line ∷ xs) ys =
+    let l : Placed = record { number = line.number; content = content_of line.bytes; path = path } in
+    let split = placed-split (path_behind l) xs ys in (split.0, ap (λ (ls : List Placed). l ∷ ls) split.1)
 
 pub look-back : FaultsLookBack
 look-back files file longer more fault e f h =
-    let first = first-before stands [] (placed file) (behind [] (unfolded file) more) fault h in
-    inr (f, inl (inl (rw (e, placed-split [] (unfolded file) more) first)))
+    let split = placed-split [] (unfolded file) more in
+    let first : IsFirst stands [] (placed file ++ split.0) fault = record {
+      front = h.front;
+      line = h.line;
+      rest = h.rest ++ split.0;
+      parts = ap (λ (ls : List Placed). ls ++ split.0) h.parts ∙ append_assoc h.front (h.line ∷ h.rest) split.0;
+      earlier = h.earlier;
+      number = h.number;
+      least = h.least;
+    } in
+    inr (f, inl (inl (rw (e, split.1) first)))
 
 -- A file reads of a PERIOD what the reader of periods does.
 -- a text without a `/` has no second half
@@ -79,55 +66,31 @@ no-second-half : (text : List ℕ) → has_slash text ≡ false → second_half 
 no-second-half text h = let none = ltb-false _ _ (sym (any-first (λ b. b == 47) text) ∙ h) in drop_of_length-le text (omega (arith, none))
 
 -- a half is a stamp with a time, or the fault that it has
-half-is : (zoned : Bool) (text : List ℕ) → half_of zoned text ≡ stamp_half (date_time_of zoned text)
-half-is zoned text = by_form (is_date_time_form text)
-  where
-    by_form : (t : Bool) → cond t (stamp_half (stamp_of zoned text)) (Err BadStamp) ≡ stamp_half (cond t (stamp_of zoned text) (Err stamp.BadStamp))
-    by_form true = refl
-    by_form false = refl
+half-is : (form : Bool) (s : Result Stamp StampFault) → cond form (stamp_half s) (Err BadStamp) ≡ stamp_half (cond form s (Err stamp.BadStamp))
+half-is true s = refl
+half-is false s = refl
 
-lasting-agrees : (a : Result Stamp StampFault) (d : Result Duration DurationFault) (minus : Bool) {p : Period} {v : ListedDate} →
-    both (stamp_half a) (lasting_end d) ≡ Ok p
-    → listed_said (Lasting a (allowed minus d)) ≡ Some v → v ≡ listed_by p
-lasting-agrees (Ok s) (Ok d) minus {p} {v} h k = by_test (is_lasting d) k
-  where
-    by_test : (t : Bool) → listed_said (Lasting (Ok s) (cond t (Ok d) (Err duration.BadDuration))) ≡ Some v → v ≡ listed_by p
-    by_test true e = cc
-    by_test false e = cc
-lasting-agrees (Ok s) (Err duration.BadDuration) minus h k = cc
-lasting-agrees _ _ minus h k = cc
+-- by its halves, where the second is a duration or a stamp: if both accept them, they read the same
+abbrev Agree : Result Period PeriodFault → DateValue → Type 0
+Agree period value = (p : Period) (v : ListedDate) → period ≡ Ok p → listed_said value ≡ Some v → v ≡ listed_by p
 
-between-agrees : (a b : Result Stamp StampFault) {p : Period} {v : ListedDate} → both (stamp_half a) (at_end (stamp_half b)) ≡ Ok p →
-    listed_said (Between a b) ≡ Some v → v ≡ listed_by p
-between-agrees (Ok s) (Err stamp.BadStamp) h k = cc
-between-agrees _ _ h k = cc
+halves-agree : (t minus : Bool) (a b : Result Stamp StampFault) (d : Result Duration DurationFault) →
+    Agree (both (stamp_half a) (cond t (lasting_end d) (at_end (stamp_half b)))) (cond t (Lasting a (allowed minus d)) (Between a b))
+halves-agree t minus a b d p v h k = grind arith
 
--- by the halves of the text
-halves-agree : (zoned : Bool) (one two : List ℕ) {p : Period} {v : ListedDate} → both (half_of zoned one) (period.end_of zoned two) ≡ Ok p →
-    listed_said (period_of zoned one two) ≡ Some v → v ≡ listed_by p
-halves-agree zoned one two {p} {v} h k = by_form (lasts two) (ap (λ x. both x (period.end_of zoned two)) (sym (half-is zoned one)) ∙ h) k
-  where
-    by_form : (t : Bool) → both (stamp_half (date_time_of zoned one)) (cond t (lasting_end (duration_of two)) (at_end (half_of zoned two))) ≡ Ok p
-        → listed_said (cond t (Lasting (date_time_of zoned one) (lasting_of two)) (Between (date_time_of zoned one) (date_time_of zoned two))) ≡ Some v
-        → v ≡ listed_by p
-    by_form true f g = lasting-agrees (date_time_of zoned one) (duration_of two) (begins is_minus two) f g
-    by_form false f g = between-agrees (date_time_of zoned one) (date_time_of zoned two)
-        (ap (λ x. both (stamp_half (date_time_of zoned one)) (at_end x)) (sym (half-is zoned two)) ∙ f) g
-
--- a text without a second half is no PERIOD
-no-period : (a : Result Stamp PeriodFault) (zoned : Bool) (p : Period) → both a (period.end_of zoned []) ≡ Ok p → ⊥
-no-period (Ok s) zoned p h = cc
-no-period (Err BadStamp) zoned p h = cc
-no-period _ zoned p h = cc
+no-period : (a : Result Stamp PeriodFault) (p : Period) → both a (Err BadStamp) ≡ Ok p → ⊥
+no-period a p h = grind arith
 
 pub one-period : OnePeriod
-one-period zoned text p v h k = by_slash (has_slash text) refl k
-  where
-    by_slash : (t : Bool) → has_slash text ≡ t →
-        listed_said (cond t (period_of zoned (first_half text) (second_half text)) (At (stamp_of zoned text))) ≡ Some v → v ≡ listed_by p
-    by_slash true e k = halves-agree zoned (first_half text) (second_half text) h k
-    by_slash false e k = absurd (no-period (half_of zoned (first_half text)) zoned p
-        (ap (λ x. both (half_of zoned (first_half text)) (period.end_of zoned x)) (sym (no-second-half text e)) ∙ h))
+one-period zoned text p v h k = elim (cases_Bool (has_slash text)) [
+  | inl e ↦ halves-agree (lasts (second_half text)) (begins is_minus (second_half text)) (date_time_of zoned (first_half text))
+      (date_time_of zoned (second_half text)) (duration_of (second_half text)) p v
+      (rw (
+        ← half-is (is_date_time_form (first_half text)) (stamp_of zoned (first_half text)),
+        ← half-is (is_date_time_form (second_half text)) (stamp_of zoned (second_half text)),
+      ) h) (rw e at k)
+  | inr e ↦ absurd (no-period (half_of zoned (first_half text)) p (rw (no-second-half text e) at h))
+]
 
 -- What a file is with no zone files, and with files that agree on the names that it wants.
 pub zones-alone : (lines : List Placed) → zones_with no_files lines ≡ zones_on lines
@@ -136,42 +99,47 @@ zones-alone lines = with-no-files (zones_on lines) (each_once (unknown_names lin
 -- what is found is so
 found-is : (p : FaultKind → Bool) (ks : List FaultKind) (kind : FaultKind) → find p ks ≡ Some kind → p kind ≡ true
 found-is p [] kind e = cc
-found-is p (k ∷ ks) kind e = by_test (found-is p ks kind) (p k) refl e
+found-is p (k ∷ ks) kind e = let again = found-is p ks kind in grind (arith, again)
+
+-- WHERE NO FILE IS GIVEN, none is bad: a fault of a kind that a round never finds is never its first.
+abbrev kind_of : Option Fault → Option FaultKind
+kind_of o = option_map (λ (f : Fault). f.kind) o
+
+abbrev kind_in : Result FileSaid Fault → Option FaultKind
+kind_in (Ok said) = None
+kind_in (Err fault) = Some fault.kind
+
+last-other : (o : Option Placed) → kind_of (end_fault o) ≢ Some BadZoneFile
+last-other o e = grind arith
+
+first-other : (round : Round) (last : List Placed → Option Fault) → ((beside : List Placed) (l : Placed) → round BadZoneFile beside l ≡ false) →
+    ((lines : List Placed) → kind_of (last lines) ≢ Some BadZoneFile) → (before lines : List Placed) →
+    kind_of (first_from round last before lines) ≢ Some BadZoneFile
+first-other round last never end before [] e = end before e
+first-other round last never end before (l ∷ ls) e = by_least (least_on round before l) refl (first-other round last never end (before ++ l ∷ []) ls) e
   where
-    by_test : (find p ks ≡ Some kind → p kind ≡ true) → (t : Bool) → p k ≡ t → cond t (Some k) (find p ks) ≡ Some kind → p kind ≡ true
-    by_test again true h e = rw (same_Some k kind e) at h
-    by_test again false h e = again e
+    by_least : (o : Option FaultKind) → least_on round before l ≡ o → kind_of (first_from round last (before ++ l ∷ []) ls) ≢ Some BadZoneFile →
+        kind_of (found l.number o (first_from round last (before ++ l ∷ []) ls)) ≢ Some BadZoneFile
+    by_least None h again e = again e
+    by_least (Some kind) h again e =
+        let so = found-is (λ kind. round kind (beside before l) l) kinds BadZoneFile (h ∙ e) in
+        let other : false ≡ true = sym (never (beside before l) l) ∙ so in cc
 
-abbrev bad_file : ℕ → Fault
-bad_file line = record { line = line; kind = BadZoneFile }
+decided-other : (t : Bool) (first later : Option Fault) (said : FileSaid) → kind_of first ≢ Some BadZoneFile → kind_of later ≢ Some BadZoneFile →
+    kind_in (cond t (Err bad_fold) (decide first later said)) ≢ Some BadZoneFile
+decided-other true first later said n m e = cc
+decided-other false (Some f) later said n m e = n e
+decided-other false None (Some f) said n m e = m e
+decided-other false None None said n m e = cc
 
-first-stands : (round : Round) (lines : List Placed) (line : ℕ) (h : IsFirst round [] lines (bad_file line)) →
-    round BadZoneFile (beside h.front h.line) h.line ≡ true
-first-stands round lines line h = found-is (λ kind. round kind (beside h.front h.line) h.line) kinds BadZoneFile h.least
-
--- WHERE NO FILE IS GIVEN, none is bad.
-at-end-other : (line : ℕ) (o : Option Placed) → end_fault o ≢ Some (bad_file line)
-at-end-other line None e = let other : NotCalendar ≡ BadZoneFile = ap (λ (f : Fault). f.kind) (same_Some _ (bad_file line) e) in cc
-at-end-other line (Some l) e = by_test (no_open (path_behind l)) e
-  where
-    by_test : (t : Bool) → cond t None (Some (record { line = l.number + 1; kind = BadNesting })) ≢ Some (bad_file line)
-    by_test true e = cc
-    by_test false e = let other : BadNesting ≡ BadZoneFile = ap (λ (f : Fault). f.kind) (same_Some _ (bad_file line) e) in cc
-
-none-later : (lines : List Placed) (before : List Placed) (line : Placed) → stands_later (zones_with no_files lines) BadZoneFile before line ≡ true → ⊥
-none-later lines before line e =
-    let never = and_parts (is_in_unknown_zone (zones_on lines) line) false
-    (subst (λ (known : KnownZones). (is_in_unknown_zone known line && known.is_bad (tzid_on line)) ≡ true) (zones-alone lines) e) in cc
-
-pub no-bad-file : (file : List ℕ) (line : ℕ) → file_of no_files file ≢ Err (bad_file line)
-no-bad-file file line e = by_cause (subst (λ (r : Result FileSaid Fault). IsFile no_files file r) e (is-file no_files file))
-  where
-    by_cause : IsFile no_files file (Err (bad_file line)) → ⊥
-    by_cause (inl h) = let same : BadZoneFile ≡ bad_fold.kind = ap (λ (f : Fault). f.kind) h.1 in cc
-    by_cause (inr (b, inl (inl h))) = let never : false ≡ true = first-stands stands (placed file) line h in cc
-    by_cause (inr (b, inl (inr h))) = at-end-other line (last_of (placed file)) h.1
-    by_cause (inr (b, inr h)) =
-        none-later (placed file) (beside h.2.front h.2.line) h.2.line (first-stands (stands_later (zones_with no_files (placed file))) (placed file) line h.2)
+pub no-bad-file : (file : List ℕ) (line : ℕ) → file_of no_files file ≢ Err (record { line = line; kind = BadZoneFile })
+no-bad-file file line e =
+    decided-other (begins_with_fold file) (first_fault (placed file)) (later_fault no_files (placed file)) (said_of no_files (placed file))
+    (first-other stands fault_at_end (λ beside l. refl) (λ lines. last-other (last_of lines)) [] (placed file))
+    (first-other (stands_later (zones_with no_files (placed file))) (λ before. None)
+    (λ beside l. ap (λ (known : KnownZones). is_in_unknown_zone known l && known.is_bad (tzid_on l)) (zones-alone (placed file))
+    ∙ and-false (is_in_unknown_zone (zones_on (placed file)) l)) (λ lines e. cc) [] (placed file))
+    (ap kind_in e)
 
 -- FILES THAT AGREE on the wanted names.
 abbrev decided_by : KnownZones → List Placed → Result FileSaid Fault
@@ -180,16 +148,12 @@ decided_by known lines =
 
 pub only-wanted : (files others : GivenFiles) (file : List ℕ) → All (λ name. files name ≡ others name) (wanted_names file) →
     file_of files file ≡ file_of others file
-only-wanted files others file = by_fold (begins_with_fold file)
+only-wanted files others file = by_first (begins_with_fold file) (first_fault (placed file))
   where
-    by_first : (o : Option Fault) → All (λ name. files name ≡ others name) (wanted_on o (placed file)) →
-        decide o (later_fault files (placed file)) (said_of files (placed file)) ≡ decide o (later_fault others (placed file)) (said_of others (placed file))
-    by_first (Some fault) h = refl
-    by_first None h =
+    by_first : (t : Bool) (o : Option Fault) → All (λ name. files name ≡ others name) (cond t [] (wanted_on o (placed file))) →
+        cond t (Err bad_fold) (decide o (later_fault files (placed file)) (said_of files (placed file)))
+        ≡ cond t (Err bad_fold) (decide o (later_fault others (placed file)) (said_of others (placed file)))
+    by_first true o h = refl
+    by_first false (Some fault) h = refl
+    by_first false None h =
         ap (λ known. decided_by known (placed file)) (with-agreed (zones_on (placed file)) files others (each_once (unknown_names (placed file))) h)
-
-    by_fold : (t : Bool) → All (λ name. files name ≡ others name) (cond t [] (wanted_on (first_fault (placed file)) (placed file))) →
-        cond t (Err bad_fold) (decide (first_fault (placed file)) (later_fault files (placed file)) (said_of files (placed file)))
-        ≡ cond t (Err bad_fold) (decide (first_fault (placed file)) (later_fault others (placed file)) (said_of others (placed file)))
-    by_fold true h = refl
-    by_fold false h = by_first (first_fault (placed file)) h
