@@ -1,9 +1,7 @@
-use Rattle.std.proofs.Common.{ℕ, List, Option, Some, is_some, sym, ap, cond, ◌∙◌}
+use Rattle.std.proofs.Common.{ap, cond, Option, Some, sym, ◌∙◌}
 use Rattle.std.specs.Cmp.Lexicographic.{slice_cmp}
-use Rattle.std.specs.Str.{bytes_eq}
 use Rattle.std.specs.Ordering.{is_eq, nat_cmp}
-use Rattle.std.proofs.lemmas.Map.Text.{is_eq-slice_cmp}
-use Rattle.ics_zone.specs.ZoneFiles.{TzifText, zone_file}
+use Rattle.ics_zone.specs.ZoneFiles.{TzifText}
 use Rattle.ics_calendar.specs.GivenFiles.{GivenFiles}
 use Rattle.ics_calendar.specs.ZoneTables.{given_by}
 use Rattle.ics_calendar.proofs.FilesGiven.{file-new}
@@ -14,7 +12,4 @@ returns-clause-added c = λ other.
     let files : GivenFiles = given_by c.args.self.now in
     c.in_ok-insert.ensures.updates.0 other
     ∙ ap (λ (file : Option TzifText). cond (is_eq (slice_cmp nat_cmp c.in_ok-name.name other)) (Some file) (files other)) c.in_ok-file.ensures
-    ∙ ap (λ t. cond t (Some (zone_file c.args.bytes.now)) (files other))
-    (is_eq-slice_cmp c.in_ok-name.name other ∙ ap (λ (n : List ℕ). bytes_eq n other) c.in_ok-name.ensures)
-    ∙ file-new files c.args.name.now c.args.bytes.now other
-    (ap (λ n. is_some (files n)) (sym c.in_ok-name.ensures) ∙ sym c.contains_key.ensures ∙ c.if-contains_key.false)
+    ∙ file-new files c.in_ok-name.ensures c.args.bytes.now other (sym c.contains_key.ensures ∙ c.if-contains_key.false)

@@ -1,8 +1,7 @@
-use Rattle.std.proofs.Common.{◌≡◌, sym, ap, cond, true, Some, None, Option, ◌∙◌}
+use Rattle.std.proofs.Common.{sym, ap, Some, Option, ◌∙◌}
 use Rattle.std.specs.BTreeSet.{contains}
 use Rattle.std.specs.Cmp.Lexicographic.{slice_cmp}
 use Rattle.std.specs.Ordering.{nat_cmp}
-use Rattle.std.proofs.lemmas.Map.Text.{is_eq-slice_cmp}
 use Rattle.ics_zone.specs.ZoneFiles.{TzifText}
 use Rattle.ics_calendar.specs.ZoneTables.{known_by, given_by}
 use Rattle.ics_calendar.proofs.FilesGiven.{with-bad}
@@ -10,8 +9,5 @@ use Rattle.ics_calendar.proofs.zone_table.ZoneTable.add.Goals as goal
 
 pub returns-in_ok-insert-in-Some-None : goal.returns-in_ok-insert-in-Some-None
 returns-in_ok-insert-in-Some-None c =
-    let refused : given_by c.args.files.now c.args.name ≡ Some None =
-    sym c.in-Some-None.ensures ∙ ap (λ (o : Option TzifText). Some o) c.in-Some-None.field-0-is in
-    with-bad (known_by c.args.self.now) (given_by c.args.files.now) c.args.name (contains (slice_cmp nat_cmp) c.insert.new.self) refused
-    (λ q. c.in_ok-insert-in-Some-None.ensures.updates.0 q
-    ∙ ap (λ t. cond t true (contains (slice_cmp nat_cmp) c.args.self.now.refused q)) (is_eq-slice_cmp c.args.name q))
+    with-bad (known_by c.args.self.now) (given_by c.args.files.now) c.args.name (contains (slice_cmp nat_cmp) c.insert.new.self)
+    (sym c.in-Some-None.ensures ∙ ap (λ (o : Option TzifText). Some o) c.in-Some-None.field-0-is) c.in_ok-insert-in-Some-None.ensures.updates.0
