@@ -1,10 +1,10 @@
 -- What is gathered of a file, settled: its first fault of the second round, or what it says.
 use Rattle.std.proofs.Common.{◌≡◌, ℕ, ◌<◌, List, [], ◌∷◌, map, length, get_or, sym, ap, ◌∙◌, Some, None}
-use Rattle.std.specs.List.{All, AllByRecursion, Contains}
+use Rattle.std.specs.List.{All, Contains}
 use Rattle.std.specs.Option.{option_map}
 use Rattle.std.proofs.lemmas.List.{length-map}
 use Rattle.std.proofs.lemmas.Option.{slice_get-map, slice_get-get_or}
-use Rattle.std.proofs.lemmas.List.Elements.{All-nil, All-map, All-contains, All-from_recursion}
+use Rattle.std.proofs.lemmas.List.Elements.{All-nil, All-cons, All-contains}
 use Rattle.ics_zone.specs.ZoneSaid.{ZoneSaid, said_moment, zone_said}
 use Rattle.ics_zone.specs.declared.zone.ZoneKind.{ZoneKind}
 use Rattle.ics_fields.specs.declared.local.Local.{Local}
@@ -32,21 +32,18 @@ moment-here zones local i d l =
     (slice_get-map zone_said zones i ∙ ap (option_map zone_said) (slice_get-get_or zones i d l))
 
 -- THE DEFERRED CHECKS, where none finds a fault.
-none-judged : (known : KnownZones) (ws : List LineCheck) → first_judged known ws ≡ None → AllByRecursion (λ w. judged known w.check ≡ None) ws
-none-judged known [] e = tt
-none-judged known (w ∷ ws) e = let n = found-none w.line (judged known w.check) (first_judged known ws) e in (n.0, none-judged known ws n.1)
+none-judged : (known : KnownZones) (ws : List LineCheck) → first_judged known ws ≡ None → All (λ l. judged known l ≡ None) (map (λ w. w.check) ws)
+none-judged known [] e = All-nil (λ l. judged known l ≡ None)
+none-judged known (w ∷ ws) e =
+    let n = found-none w.line (judged known w.check) (first_judged known ws) e in
+    All-cons (λ l. judged known l ≡ None) w.check (map (λ w. w.check) ws) n.0 (none-judged known ws n.1)
 
 pub ready : (known : KnownZones) (g : GatheredSeen) → IsSoundGathered g → first_judged known g.checks ≡ None → All (IsReady known) g.events
-ready known g s n =
-    let fine : All (λ l. judged known l ≡ None) (map (λ w. w.check) g.checks) =
-    All-map (λ l. judged known l ≡ None) (λ w. w.check) g.checks
-    (All-from_recursion (λ w. judged known w.check ≡ None) g.checks (none-judged known g.checks n)) in
-    λ i d l.
-    record {
-      whole = s.whole i d l;
-      zones = each-weaker (Contains (map (λ w. w.check) g.checks)) (λ l. judged known l ≡ None)
-          (λ l c. All-contains (λ l. judged known l ≡ None) (map (λ w. w.check) g.checks) l fine c) _ (s.awaited i d l);
-    }
+ready known g s n = λ i d l. record {
+  whole = s.whole i d l;
+  zones = each-weaker (Contains (map (λ w. w.check) g.checks)) (λ l. judged known l ≡ None)
+      (λ l c. All-contains (λ l. judged known l ≡ None) (map (λ w. w.check) g.checks) l (none-judged known g.checks n) c) _ (s.awaited i d l);
+}
 
 pub events-here : (known : KnownZones) (g : GatheredSeen) → IsSoundDraft known g → first_judged known g.checks ≡ None →
     AreEventsOf known.zones (map (event_of known.index) g.events)
