@@ -1,7 +1,10 @@
 -- What is known of the names that were asked for.
 use Rattle.std.proofs.Common.{◌≡◌, ◌<◌, ◌+◌, ℕ, Bool, false, ◌||◌, ◌&&◌, List, [], ◌∷◌, ◌++◌, Some, None, drop, get_or, length, take}
 use Rattle.std.proofs.Common.{sym, ◌∙◌, ap, subst, append_assoc, append-nil}
-use Rattle.std.proofs.lemmas.List.{take-append-drop, take_more}
+use Rattle.std.proofs.Math.Bool.{or-false}
+use Rattle.std.proofs.lemmas.List.{append_cancel_left, take-append-drop, take_more}
+use Rattle.std.proofs.lemmas.List.Folds.{list_any-append}
+use Rattle.ics_calendar.specs.GivenFiles.{GivenFiles, no_files}
 use Rattle.std.specs.BTreeSet.{contains}
 use Rattle.std.specs.Cmp.Lexicographic.{slice_cmp}
 use Rattle.std.specs.List.{list_any}
@@ -9,32 +12,11 @@ use Rattle.std.specs.Ordering.{nat_cmp}
 use Rattle.std.specs.Str.{bytes_eq}
 use Rattle.ics_calendar.specs.ZoneTables.{given_by}
 use Rattle.khal_reading.specs.declared.answered.Answered.{Answered}
-use Rattle.khal_reading.specs.Asked.{given_files, is_unread, names_of, was_unread, with_found, Asked}
+use Rattle.khal_reading.specs.Asked.{given_files, is_unread, names_of, was_unread, with_found, Asked, AsksAll}
 use Rattle.khal_ports.specs.Finds.{found_of, FindAnswer, Found}
 use Rattle.khal_reading.specs.Learned.{Keeps, Knows, Learns, LearnsSome}
 use Rattle.khal_reading.proofs.AskedLemmas as lemma
 use Rattle.khal_reading.proofs.AskedLemmas.{IsIn}
-
-keeps-none : (asked : List Asked) → Keeps asked []
-keeps-none asked = record {
-  files = λ name _. ap (λ (all : List Asked). given_files all name) (append-nil asked);
-  unread = λ name _. ap (λ (all : List Asked). is_unread all name) (append-nil asked);
-}
-
-keeps-one : (asked : List Asked) (one : Asked) → list_any (bytes_eq one.0) (names_of asked) ≡ false → Keeps asked (one ∷ [])
-keeps-one asked one fresh = record {
-  files = λ name h. lemma.given-other asked one name (lemma.apart name one.0 (names_of asked) h fresh);
-  unread = λ name h. lemma.unread-other asked one name (lemma.apart name one.0 (names_of asked) h fresh);
-}
-
-pub keeps-then : (asked more others : List Asked) → Keeps asked more → Keeps (asked ++ more) others → Keeps asked (more ++ others)
-keeps-then asked more others h k = record {
-  files = λ name is. ap (λ (all : List Asked). given_files all name) (sym (append_assoc asked more others)) ∙ (k.files name (still name is) ∙ h.files name is);
-  unread = λ name is. ap (λ (all : List Asked). is_unread all name) (sym (append_assoc asked more others)) ∙ (k.unread name (still name is) ∙ h.unread name is);
-}
-  where
-    still : (name : List ℕ) → IsIn name (names_of asked) → IsIn name (names_of (asked ++ more))
-    still name is = subst (IsIn name) (sym (lemma.names-append asked more)) (lemma.in-front name (names_of asked) (names_of more) is)
 
 -- a name more is known
 module _ (asked : List Asked) (one : Asked) (old new : Answered)
@@ -52,12 +34,27 @@ module _ (asked : List Asked) (one : Asked) (old new : Answered)
   }
 
 module _ {Z : Type 0} (finds : Z → List ℕ → FindAnswer → Z → Type 0) where
+  -- what is asked for next has no name that was asked for
+  keeps-all : {asked : List Asked} {wanted : List (List ℕ)} {before : Z} {more : List Asked} {after : Z} → AsksAll finds asked wanted before more after →
+      Keeps asked more
+  keeps-all {asked} {wanted} {more = more} h = record {
+    files = λ name is. ap (λ (f : GivenFiles). f name) (lemma.given_from-append no_files asked more)
+        ∙ lemma.given-kept (given_files asked) more name (new name is);
+    unread = λ name is. list_any-append _ asked more ∙ (ap (λ (t : Bool). is_unread asked name || t) (lemma.unread-kept more name (new name is))
+        ∙ or-false (is_unread asked name));
+  }
+    where
+      new : (name : List ℕ) → IsIn name (names_of asked) → list_any (bytes_eq name) (names_of more) ≡ false
+      new name is =
+          let all = lemma.and_names-more (names_of asked) wanted in
+          rw (append_cancel_left (names_of asked) (names_of more) all.0 (sym (lemma.names-append asked more) ∙ h.names ∙ all.1)) (all.2 name is)
+
   pub learns-none : (asked : List Asked) (state : Z) (answered : Answered) → Knows asked answered → Learns finds asked [] state state answered
   learns-none asked state answered k = record {
     more = [];
     asks = lemma.none-asked finds asked state;
     knows = subst (λ (all : List Asked). Knows all answered) (sym (append-nil asked)) k;
-    keeps = keeps-none asked;
+    keeps = keeps-all (lemma.none-asked finds asked state);
   }
 
   pub learns-then : {asked : List Asked} {first then : List (List ℕ)} {before middle after : Z} {a b : Answered}
@@ -66,20 +63,8 @@ module _ {Z : Type 0} (finds : Z → List ℕ → FindAnswer → Z → Type 0) w
     more = h.more ++ k.more;
     asks = lemma.all-then-all finds h.asks k.asks;
     knows = subst (λ (all : List Asked). Knows all b) (append_assoc asked h.more k.more) k.knows;
-    keeps = keeps-then asked h.more k.more h.keeps k.keeps;
+    keeps = keeps-all (lemma.all-then-all finds h.asks k.asks);
   }
-
-  pub learns-then-some : {asked : List Asked} {first then : List (List ℕ)} {before middle after : Z} {a : Answered}
-      → (h : Learns finds asked first before middle a) → LearnsSome finds (asked ++ h.more) then middle after →
-      LearnsSome finds asked (first ++ then) before after
-  learns-then-some h k = record {
-    more = h.more ++ k.more;
-    asks = lemma.all-then-some finds h.asks k.asks;
-  }
-
-  pub learns-front : (asked : List Asked) (first then : List (List ℕ)) (before after : Z) → LearnsSome finds asked first before after →
-      LearnsSome finds asked (first ++ then) before after
-  learns-front asked first then before after h = record { more = h.more; asks = lemma.some-front finds then h.asks }
 
   -- nothing is asked for
   pub learns-nothing : (asked : List Asked) (wanted : List (List ℕ)) (state : Z) → LearnsSome finds asked wanted state state
@@ -117,15 +102,5 @@ module _ {Z : Type 0} (finds : Z → List ℕ → FindAnswer → Z → Type 0) w
         more = (name, found) ∷ [];
         asks = lemma.one-asked finds asked (name, found) fresh f (sym is);
         knows = knows-one asked (name, found) old new files names unread k;
-        keeps = keeps-one asked (name, found) fresh;
+        keeps = keeps-all (lemma.one-asked finds asked (name, found) fresh f (sym is));
       }
-
--- ---- a loop over names
-
-pub next-front : (names : List (List ℕ)) (i : ℕ) (name : List ℕ) → i < length names → name ≡ get_or names i name →
-    take i names ++ name ∷ [] ≡ take (i + 1) names
-next-front names i name h e = ap (λ (n : List ℕ). take i names ++ n ∷ []) e ∙ sym (take_more names i name h)
-
-pub front-all : (names : List (List ℕ)) (i : ℕ) (name : List ℕ) → i < length names → name ≡ get_or names i name →
-    (take i names ++ name ∷ []) ++ drop (i + 1) names ≡ names
-front-all names i name h e = ap (λ (front : List (List ℕ)). front ++ drop (i + 1) names) (next-front names i name h e) ∙ take-append-drop (i + 1) names

@@ -15,7 +15,7 @@ use Rattle.khal_reading.specs.Asked.{given_files, is_unread, Asked}
 use Rattle.khal_reading.specs.Errors.{file_by, file_or_refusal, Refusal}
 use Rattle.khal_ports.specs.Finds.{FindAnswer}
 use Rattle.khal_reading.specs.Learned.{Knows, Learns, Settles}
-use Rattle.khal_reading.proofs.AskedLemmas.{any-same}
+use Rattle.khal_reading.proofs.AskedLemmas.{any-kept}
 use Rattle.khal_reading.proofs.LearnedLemmas.{learns-none}
 
 -- zone files that agree on the names that a file wants give it one meaning
@@ -26,24 +26,14 @@ OnlyWantedCount = (files others : GivenFiles) (file : List ℕ) → All (λ name
 abbrev pub file_if : Bool → Result FileSaid Refusal → Result FileSaid Refusal
 file_if unread file = if unread then Err None else file
 
-pub file-is : (asked : List Asked) (bytes : List ℕ) {unread : Bool} → list_any (is_unread asked) (wanted_names bytes) ≡ unread →
-    file_by asked (Some bytes) ≡ file_if unread (file_or_refusal (file_of (given_files asked) bytes))
-file-is asked bytes h = ap (λ (t : Bool). file_if t (file_or_refusal (file_of (given_files asked) bytes))) h
-
 module _ {Z : Type 0} (finds : Z → List ℕ → FindAnswer → Z → Type 0) (asked : List Asked) (bytes : List ℕ) (before after : Z) (answered : Answered) where
   -- the first round finds a fault
   pub settles-fault : Knows asked answered → before ≡ after → wanted_names bytes ≡ [] → (outcome : Result FileSaid Refusal) →
       ((files : GivenFiles) → outcome ≡ file_or_refusal (file_of files bytes))
       → Settles finds asked (Some bytes) before after answered outcome
   settles-fault k same none outcome is =
-      let h : Learns finds asked (wanted_names bytes) before after answered =
-      subst (λ (w : List (List ℕ)). Learns finds asked w before after answered) (sym none)
-      (subst (λ (z : Z). Learns finds asked [] before z answered) same (learns-none finds asked before answered k)) in
-      record {
-        learns = h;
-        outcome_is = is (given_files (asked ++ h.more))
-            ∙ sym (file-is (asked ++ h.more) bytes (ap (list_any (is_unread (asked ++ h.more))) none));
-      }
+      let h : Learns finds asked (wanted_names bytes) before after answered = rw (none, ← same) (learns-none finds asked before answered k) in
+      record { learns = h; outcome_is = rw none (is (given_files (asked ++ h.more))) }
 
   -- a draft of these bytes whose names are asked for
   pub draft-settles : OnlyWantedCount → {said : DraftSaid} → said ≡ draft_of bytes → Learns finds asked said.wants before after answered →
@@ -51,18 +41,12 @@ module _ {Z : Type 0} (finds : Z → List ℕ → FindAnswer → Z → Type 0) (
       → {outcome : Result FileSaid Refusal} → outcome ≡ file_if unread (file_or_refusal (said.says (given_by answered.files))) →
       Settles finds asked (Some bytes) before after answered outcome
   draft-settles count d h unread l is =
-      let learned : Learns finds asked (wanted_names bytes) before after answered =
-      subst (λ (s : DraftSaid). Learns finds asked s.wants before after answered) d h in
+      let learned : Learns finds asked (wanted_names bytes) before after answered = rw d at h in
       let all : List Asked = asked ++ learned.more in
       let lacks : unread ≡ list_any (is_unread all) (wanted_names bytes) =
-      l ∙ (ap (λ (s : DraftSaid). list_any (contains (slice_cmp nat_cmp) answered.unread) s.wants) d
-      ∙ any-same (contains (slice_cmp nat_cmp) answered.unread) (is_unread all) (wanted_names bytes) learned.knows.unread) in
+      (rw d at l) ∙ any-kept (contains (slice_cmp nat_cmp) answered.unread) (is_unread all) (wanted_names bytes) (λ name _. learned.knows.unread name) in
       let files : file_of (given_by answered.files) bytes ≡ file_of (given_files all) bytes =
       count (given_by answered.files) (given_files all) bytes
       (All-from_any nat_list_eq_equiv (λ name. given_by answered.files name ≡ given_files all name) (wanted_names bytes)
       (λ name _. learned.knows.files name)) in
-      record {
-        learns = learned;
-        outcome_is = is ∙ (ap (λ (s : DraftSaid). file_if unread (file_or_refusal (s.says (given_by answered.files)))) d
-            ∙ (ap (λ f. file_if unread (file_or_refusal f)) files ∙ sym (file-is all bytes (sym lacks))));
-      }
+      record { learns = learned; outcome_is = rw (← lacks, ← files) (rw d at is) }

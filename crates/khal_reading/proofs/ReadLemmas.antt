@@ -17,7 +17,7 @@ use Rattle.khal_reading.specs.Learned.{Keeps, Knows}
 use Rattle.khal_reading.specs.Outcomes.{EndsReading, IsOutcome, IsReading}
 use Rattle.khal_ports.specs.Reads.{ReadsFrom, ReadsSome}
 use Rattle.khal_ports.specs.declared.fault.SourceFault.TheVariants.{Memory}
-use Rattle.khal_reading.proofs.AskedLemmas.{all-some, all-then-all, all-then-some, in-back, in-front, wanted-in, IsIn}
+use Rattle.khal_reading.proofs.AskedLemmas.{any-kept, all-some, all-then-all, all-then-some, in-back, in-front, wanted-in, IsIn}
 use Rattle.khal_reading.proofs.OutcomeLemmas.{OnlyWantedCount, file_if}
 
 events_first-append : (file : Result FileSaid Refusal) (xs ys : List FileSaid) → events_first file (xs ++ ys) ≡ events_first file xs ++ ys
@@ -28,8 +28,7 @@ accepted-more : (asked : List Asked) (contents : List Contents) (a : Contents) �
     accepted asked (contents ++ a ∷ []) ≡ accepted asked contents ++ events_first (file_by asked a) []
 accepted-more asked [] a = refl
 accepted-more asked (b ∷ contents) a =
-    ap (events_first (file_by asked b)) (accepted-more asked contents a)
-    ∙ events_first-append (file_by asked b) (accepted asked contents) (events_first (file_by asked a) [])
+    rw (accepted-more asked contents a) (events_first-append (file_by asked b) (accepted asked contents) (events_first (file_by asked a) []))
 
 error_lines-none : (names : List (List ℕ)) (asked : List Asked) → error_lines names asked [] ≡ []
 error_lines-none [] asked = refl
@@ -39,39 +38,26 @@ error_lines-more : (names : List (List ℕ)) (asked : List Asked) (name : List �
     slice_get names (length contents) ≡ Some name
     → error_lines names asked (contents ++ a ∷ []) ≡ error_lines names asked contents ++ error_line name (file_by asked a)
 error_lines-more [] asked name contents a found = cc
-error_lines-more (first ∷ names) asked name [] a found =
-    let same : first ≡ name = cc in
-    ap (λ rest. error_line first (file_by asked a) ++ rest) (error_lines-none names asked)
-    ∙ (append-nil (error_line first (file_by asked a)) ∙ ap (λ n. error_line n (file_by asked a)) same)
-error_lines-more (first ∷ names) asked name (b ∷ contents) a found =
-    ap (λ rest. error_line first (file_by asked b) ++ rest) (error_lines-more names asked name contents a found)
-    ∙ sym (append_assoc (error_line first (file_by asked b)) (error_lines names asked contents) (error_line name (file_by asked a)))
+error_lines-more (first ∷ names) asked name [] a found = let same : first ≡ name = cc in rw (error_lines-none names asked, append-nil, same)
+error_lines-more (first ∷ names) asked name (b ∷ contents) a found = rw (error_lines-more names asked name contents a found, append_assoc)
 
 all_wanted-more : (contents : List Contents) (a : Contents) → all_wanted (contents ++ a ∷ []) ≡ all_wanted contents ++ wanted_of a
 all_wanted-more [] a = append-nil (wanted_of a)
-all_wanted-more (b ∷ contents) a = ap (λ rest. wanted_of b ++ rest) (all_wanted-more contents a)
-    ∙ sym (append_assoc (wanted_of b) (all_wanted contents) (wanted_of a))
+all_wanted-more (b ∷ contents) a = rw (all_wanted-more contents a, append_assoc)
 
 -- ---- what is asked for later changes no outcome
-
-any-kept : (s t : List ℕ → Bool) (names : List (List ℕ)) → ((name : List ℕ) → IsIn name names → s name ≡ t name) → list_any s names ≡ list_any t names
-any-kept s t [] same = refl
-any-kept s t (x ∷ xs) same =
-    let first : IsIn x (x ∷ xs) = ap (λ (b : Bool). b || list_any (bytes_eq x) xs) (nat_list_eq_equiv.refl x) in
-    ap (λ (b : Bool). b || list_any s xs) (same x first) ∙ ap (λ (b : Bool). t x || b) (any-kept s t xs (λ name h. same name (in-back name (x ∷ []) xs h)))
 
 module _ (count : OnlyWantedCount) (asked more : List Asked) (keeps : Keeps asked more) where
   file-kept : (given : Contents) → ((name : List ℕ) → IsIn name (wanted_of given) → IsIn name (names_of asked)) →
       file_by (asked ++ more) given ≡ file_by asked given
   file-kept None in-asked = refl
   file-kept (Some bytes) in-asked =
-      let unread : list_any (is_unread (asked ++ more)) (wanted_names bytes) ≡ list_any (is_unread asked) (wanted_names bytes) =
-      any-kept (is_unread (asked ++ more)) (is_unread asked) (wanted_names bytes) (λ name h. keeps.unread name (in-asked name h)) in
-      let file : file_of (given_files (asked ++ more)) bytes ≡ file_of (given_files asked) bytes = count (given_files (asked ++ more)) (given_files asked) bytes
-      (All-from_any nat_list_eq_equiv (λ name. given_files (asked ++ more) name ≡ given_files asked name) (wanted_names bytes)
-      (λ name h. keeps.files name (in-asked name h))) in
-      ap (λ (t : Bool). file_if t (file_or_refusal (file_of (given_files (asked ++ more)) bytes))) unread
-      ∙ ap (λ f. file_if (list_any (is_unread asked) (wanted_names bytes)) (file_or_refusal f)) file
+      rw (
+        any-kept (is_unread (asked ++ more)) (is_unread asked) (wanted_names bytes) (λ name h. keeps.unread name (in-asked name h)),
+        count (given_files (asked ++ more)) (given_files asked) bytes
+            (All-from_any nat_list_eq_equiv (λ name. given_files (asked ++ more) name ≡ given_files asked name) (wanted_names bytes)
+            (λ name h. keeps.files name (in-asked name h))),
+      )
 
   outcomes-kept : (contents : List Contents) → ((name : List ℕ) → IsIn name (all_wanted contents) → IsIn name (names_of asked)) →
       AllByRecursion (λ given. file_by (asked ++ more) given ≡ file_by asked given) contents

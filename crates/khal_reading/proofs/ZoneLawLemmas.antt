@@ -1,6 +1,7 @@
 -- Where nothing is found for any name, files are what they are without zone files.
-use Rattle.std.proofs.Common.{◌≡◌, ℕ, Bool, false, ◌||◌, ◌&&◌, List, [], ◌∷◌, Some, None, Ok, refl, sym, ◌∙◌, ap}
-use Rattle.std.proofs.lemmas.Bool.{and_right}
+use Rattle.std.proofs.Common.{◌≡◌, get_or, ℕ, Bool, false, ◌||◌, ◌&&◌, List, [], ◌∷◌, Some, None, Ok, refl, sym, ◌∙◌, ap}
+use Rattle.std.proofs.Math.Bool.{and-false}
+use Rattle.std.proofs.lemmas.List.Folds.{list_any_none}
 use Rattle.std.specs.List.{list_any, AllByRecursion}
 use Rattle.std.specs.Str.{bytes_eq}
 use Rattle.ics_calendar.specs.Files.{file_of, wanted_names}
@@ -8,7 +9,6 @@ use Rattle.ics_calendar.specs.GivenFiles.{no_files, GivenFiles}
 use Rattle.khal_reading.specs.Asked.{given_from, is_unread, was_unread, with_found, Asked, FindsEach}
 use Rattle.khal_reading.specs.Errors.{file_by, file_or_refusal}
 use Rattle.khal_ports.specs.Finds.{found_of, FindAnswer, Found}
-use Rattle.khal_reading.proofs.OutcomeLemmas.{file-is}
 
 one-absent : (answer : FindAnswer) (found : Found) → answer ≡ Ok None → found_of answer ≡ Some found → found ≡ Found.Absent
 one-absent answer found none is = let e : Some Found.Absent ≡ Some found = sym (ap found_of none) ∙ is in cc
@@ -21,20 +21,13 @@ each-absent finds none before (one ∷ asked) after h = (one-absent h.0 one.1 (n
 
 given-absent : (files : GivenFiles) (asked : List Asked) → AllByRecursion (λ one. one.1 ≡ Found.Absent) asked → given_from files asked ≡ files
 given-absent files [] h = refl
-given-absent files ((name, found) ∷ asked) h = ap (λ (f : Found). given_from (with_found files (name, f)) asked) h.0 ∙ given-absent files asked h.1
+given-absent files ((name, found) ∷ asked) h = rw h.0 (given-absent files asked h.1)
 
 unread-absent : (asked : List Asked) → AllByRecursion (λ one. one.1 ≡ Found.Absent) asked → (name : List ℕ) → is_unread asked name ≡ false
 unread-absent [] h name = refl
-unread-absent ((other, found) ∷ asked) h name =
-    ap (λ (f : Found). (bytes_eq name other && was_unread f) || is_unread asked name) h.0
-    ∙ (ap (λ (t : Bool). t || is_unread asked name) (and_right (bytes_eq name other) false refl) ∙ unread-absent asked h.1 name)
-
-none-unread : (asked : List Asked) → AllByRecursion (λ one. one.1 ≡ Found.Absent) asked → (names : List (List ℕ)) → list_any (is_unread asked) names ≡ false
-none-unread asked h [] = refl
-none-unread asked h (name ∷ names) = ap (λ (t : Bool). t || list_any (is_unread asked) names) (unread-absent asked h name) ∙ none-unread asked h names
+unread-absent ((other, found) ∷ asked) h name = rw (h.0, and-false) (unread-absent asked h.1 name)
 
 pub same-file : (asked : List Asked) → AllByRecursion (λ one. one.1 ≡ Found.Absent) asked → (bytes : List ℕ) →
     file_by asked (Some bytes) ≡ file_or_refusal (file_of no_files bytes)
 same-file asked h bytes =
-    file-is asked bytes (none-unread asked h (wanted_names bytes))
-    ∙ ap (λ (files : GivenFiles). file_or_refusal (file_of files bytes)) (given-absent no_files asked h)
+    rw (list_any_none (is_unread asked) (wanted_names bytes) (λ i d l. unread-absent asked h (get_or (wanted_names bytes) i d)), given-absent no_files asked h)
