@@ -1,5 +1,5 @@
 -- Worked files and their first faults. What is expected comes from a separate program.
-use Rattle.std.proofs.Common.{◌≡◌, ℕ, List, [], ◌∷◌, ◌++◌, refl, None}
+use Rattle.std.proofs.Common.{ℕ, List, [], ◌∷◌, ◌++◌, refl, None}
 use Rattle.std.specs.Prelude.{codes, replicate}
 use Rattle.std.specs.List.{concat}
 use Rattle.ics_values.specs.Rules.{rule_of}

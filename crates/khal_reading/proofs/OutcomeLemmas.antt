@@ -1,6 +1,5 @@
 -- What the bytes of a file come to.
-use Rattle.std.proofs.Common.{◌≡◌, ℕ, Bool, List, [], ◌++◌, Some, None, Result, Err, All, if◌then◌else◌, sym, ◌∙◌, ap}
-use Rattle.std.proofs.Common.{subst}
+use Rattle.std.proofs.Common.{◌≡◌, ℕ, Bool, List, [], ◌++◌, Some, None, Result, Err, All, if◌then◌else◌, ◌∙◌}
 use Rattle.std.specs.BTreeSet.{contains}
 use Rattle.std.specs.Cmp.Lexicographic.{slice_cmp, nat_list_eq_equiv}
 use Rattle.std.specs.List.{list_any}
@@ -12,7 +11,7 @@ use Rattle.ics_calendar.specs.GivenFiles.{GivenFiles}
 use Rattle.ics_calendar.specs.ZoneTables.{given_by}
 use Rattle.khal_reading.specs.declared.answered.Answered.{Answered}
 use Rattle.khal_reading.specs.Asked.{given_files, is_unread, Asked}
-use Rattle.khal_reading.specs.Errors.{file_by, file_or_refusal, Refusal}
+use Rattle.khal_reading.specs.Errors.{file_or_refusal, Refusal}
 use Rattle.khal_ports.specs.Finds.{FindAnswer}
 use Rattle.khal_reading.specs.Learned.{Knows, Learns, Settles}
 use Rattle.khal_reading.proofs.AskedLemmas.{any-kept}

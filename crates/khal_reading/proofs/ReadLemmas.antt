@@ -1,24 +1,23 @@
 -- One read more.
-use Rattle.std.proofs.Common.{◌≡◌, ◌≤◌, inl, inr, ℕ, suc, ◌+◌, Bool, ◌||◌, List, [], ◌∷◌, ◌++◌, Result, Ok, Err, Some, None, length, refl, sym, ◌∙◌, ap, subst}
+use Rattle.std.proofs.Common.{◌≡◌, ◌≤◌, inl, inr, ℕ, suc, ◌+◌, List, [], ◌∷◌, ◌++◌, Result, Ok, Err, Some, None, length, refl, sym, ◌∙◌, ap, subst}
 use Rattle.std.proofs.Common.{arith, length-append, append_assoc, append-nil}
 use Rattle.std.specs.Prelude.{slice_get}
 use Rattle.std.specs.Cmp.Lexicographic.{nat_list_eq_equiv}
-use Rattle.std.specs.List.{list_any, AllByRecursion}
-use Rattle.std.specs.Str.{bytes_eq}
+use Rattle.std.specs.List.{AllByRecursion}
 use Rattle.std.proofs.lemmas.Map.Views.{All-from_any}
 use Rattle.ics_event.specs.Event.{FileSaid}
-use Rattle.ics_calendar.specs.Files.{file_of, wanted_names}
+use Rattle.ics_calendar.specs.Files.{wanted_names}
 use Rattle.khal_reading.specs.declared.answered.Answered.{Answered}
 use Rattle.khal_ports.specs.Answers.{Answer, Contents, contents_of}
 use Rattle.khal_reading.specs.Asked.{all_wanted, given_files, is_unread, names_of, wanted_of, Asked, AsksAll, AsksSome}
-use Rattle.khal_reading.specs.Errors.{Refusal, file_by, file_or_refusal, events_first, accepted, error_line, error_lines}
+use Rattle.khal_reading.specs.Errors.{Refusal, file_by, events_first, accepted, error_line, error_lines}
 use Rattle.khal_ports.specs.Finds.{FindAnswer}
 use Rattle.khal_reading.specs.Learned.{Keeps, Knows}
 use Rattle.khal_reading.specs.Outcomes.{EndsReading, IsOutcome, IsReading}
 use Rattle.khal_ports.specs.Reads.{ReadsFrom, ReadsSome}
 use Rattle.khal_ports.specs.declared.fault.SourceFault.TheVariants.{Memory}
 use Rattle.khal_reading.proofs.AskedLemmas.{any-kept, all-some, all-then-all, all-then-some, in-back, in-front, wanted-in, IsIn}
-use Rattle.khal_reading.proofs.OutcomeLemmas.{OnlyWantedCount, file_if}
+use Rattle.khal_reading.proofs.OutcomeLemmas.{OnlyWantedCount}
 
 events_first-append : (file : Result FileSaid Refusal) (xs ys : List FileSaid) → events_first file (xs ++ ys) ≡ events_first file xs ++ ys
 events_first-append (Ok file) xs ys = refl

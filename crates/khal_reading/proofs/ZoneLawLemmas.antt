@@ -1,12 +1,11 @@
 -- Where nothing is found for any name, files are what they are without zone files.
-use Rattle.std.proofs.Common.{◌≡◌, get_or, ℕ, Bool, false, ◌||◌, ◌&&◌, List, [], ◌∷◌, Some, None, Ok, refl, sym, ◌∙◌, ap}
+use Rattle.std.proofs.Common.{◌≡◌, get_or, ℕ, false, List, [], ◌∷◌, Some, None, Ok, refl, sym, ◌∙◌, ap}
 use Rattle.std.proofs.Math.Bool.{and-false}
 use Rattle.std.proofs.lemmas.List.Folds.{list_any_none}
-use Rattle.std.specs.List.{list_any, AllByRecursion}
-use Rattle.std.specs.Str.{bytes_eq}
+use Rattle.std.specs.List.{AllByRecursion}
 use Rattle.ics_calendar.specs.Files.{file_of, wanted_names}
 use Rattle.ics_calendar.specs.GivenFiles.{no_files, GivenFiles}
-use Rattle.khal_reading.specs.Asked.{given_from, is_unread, was_unread, with_found, Asked, FindsEach}
+use Rattle.khal_reading.specs.Asked.{given_from, is_unread, Asked, FindsEach}
 use Rattle.khal_reading.specs.Errors.{file_by, file_or_refusal}
 use Rattle.khal_ports.specs.Finds.{found_of, FindAnswer, Found}
 

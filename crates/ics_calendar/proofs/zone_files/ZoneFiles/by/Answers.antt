@@ -1,6 +1,6 @@
-use Rattle.std.proofs.Common.{◌≡◌, ℕ, ◌+◌, List, ◌∷◌, map, drop, add-one, drop-cons, refl, sym, ap, ◌∙◌}
+use Rattle.std.proofs.Common.{◌≡◌, ◌+◌, ◌∷◌, map, drop, add-one, drop-cons, ap, ◌∙◌}
 use Rattle.std.specs.Option.{option_or}
-use Rattle.ics_calendar.specs.GivenFiles.{GivenFiles, files_by}
+use Rattle.ics_calendar.specs.GivenFiles.{files_by}
 use Rattle.ics_calendar.specs.ZoneTables.{given_by}
 use Rattle.ics_calendar.proofs.FilesGiven.{pair-further}
 use Rattle.ics_calendar.proofs.zone_files.ZoneFiles.by.Goals as goal
