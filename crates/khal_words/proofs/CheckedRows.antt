@@ -1,24 +1,22 @@
 -- Each row of an argument in a walk in which nothing fails holds values that this argument takes.
-use Rattle.std.proofs.Common.{◌≡◌, ◌∙◌, ◌&&◌, ◌||◌, ◌++◌, ℕ, zero, suc, Bool, cond, true, false, not, List, [], ◌∷◌, length}
-use Rattle.std.proofs.Common.{drop, Option, Some, None, is_some, refl, sym, ap, subst}
-use Rattle.std.specs.Prelude.{IfSome, encode_utf8, find, fold, option_and_then, slice_get}
+use Rattle.std.proofs.Common.{◌≡◌, ◌∙◌, ◌&&◌, ◌++◌, ℕ, zero, suc, Bool, cond, true, false, List, [], ◌∷◌, length}
+use Rattle.std.proofs.Common.{drop, Option, Some, None, is_some, refl, sym, ap, IfSome, find, fold, option_and_then, slice_get, option_map, encode_utf8, chars, bytes_eq}
 use Rattle.std.specs.List.{AllByRecursion, list_all}
-use Rattle.std.specs.Option.{option_map, option_map_or}
-use Rattle.std.specs.Str.{bytes_eq, chars}
-use Rattle.std.proofs.lemmas.Bool.{and_from, cond_both, not-true, true≢false}
+use Rattle.std.specs.Option.{option_map_or}
+use Rattle.std.proofs.lemmas.Bool.{and_from, cond_both, true≢false}
 use Rattle.std.proofs.lemmas.List.Folds.{list_all-append}
 use Rattle.std.proofs.lemmas.Slice.Eq.{bytes_eq-Decides}
 use Rattle.clap.specs.Faults.{action_fault, bundle_fault, bundle_step_fault, entered_fault, fault_of, flag_word_fault, flags_fault, level_fault, long_fault}
-use Rattle.clap.specs.Faults.{option_fault, other_fault, positional_fault, react_fault, settle_fault, short_fault, step_fault, turn_fault, use_fault}
-use Rattle.clap.specs.Faults.{values_fault, walk_fault, word_fault}
+use Rattle.clap.specs.Faults.{option_fault, other_fault, positional_fault, react_fault, repeat_fault, set_fault, settle_fault, short_fault, step_fault, stray_fault}
+use Rattle.clap.specs.Faults.{turn_fault, use_fault, values_fault, walk_fault, word_fault}
 use Rattle.clap.specs.Facts.{parser_of_value}
-use Rattle.clap.specs.Kinds.{Kinds, or_else}
+use Rattle.clap.specs.Kinds.{Kinds, or_else, values_kinds}
 use Rattle.clap.specs.Lexer.{long_of, short_of}
 use Rattle.clap.specs.Simple.{App, Shape, built, entered, label_of, rows_at, subcommand_of}
 use Rattle.clap.specs.Walk.{Held, Names, Outcome, Row, Rule, Step, Text, Waiting, Walk, action_of, after_flag, after_step, answers_to, arg_by_id, arg_by_index}
-use Rattle.clap.specs.Walk.{arg_by_long, arg_by_short, at_row, attached_value, bundle_met, bundle_step, default_rows, done, first_of, flag_met, has_row, idle}
+use Rattle.clap.specs.Walk.{arg_by_long, arg_by_short, attached_value, bundle_met, bundle_step, default_rows, done, first_of, flag_met, has_row}
 use Rattle.clap.specs.Walk.{is_pending, long_met, long_or_other, more_values, nothing_held, option, one_of, option_met, option_word, plain, plain_word}
-use Rattle.clap.specs.Walk.{positional, reacted, reading_by, row_text, rows_after, settled, settled_rows, short_met, short_or_plain, subcommand_met}
+use Rattle.clap.specs.Walk.{reacted, reading_by, row_text, settled, settled_rows, short_met, short_or_plain, subcommand_met}
 use Rattle.clap.specs.Walk.{subcommand_or_other, takes_several, takes_values, to_positional, used, used_as, used_by_id, value, values_or_missing, waits, walk}
 use Rattle.clap.specs.Walk.{walk_from, walked, walked_from, with_default, with_values, without, word_met}
 use Rattle.clap.specs.Values.{read_as, reading_of}
@@ -29,206 +27,163 @@ use Rattle.clap.specs.declared.builder.value_parser.Reading.{Reading}
 use Rattle.clap.specs.declared.builder.value_parser.ValueParser.{ValueParser}
 use Rattle.clap.specs.declared.error.kind.ErrorKind.{ErrorKind}
 use Rattle.clap.specs.declared.parser.matches.ValueSource.{ValueSource}
-use Rattle.clap.specs.declared.parser.matches.ValueSource.TheVariants.{CommandLine}
+use Rattle.clap.specs.declared.parser.matches.ValueSource.TheVariants.{CommandLine, DefaultValue}
 use Rattle.clap.proofs.WalkLemmas.{both}
 
-first_none : (a b : Kinds) → or_else a b ≡ [] → a ≡ []
-first_none [] b e = refl
-first_none (k ∷ ks) b e = e
+both_none : (a b : Kinds) → or_else a b ≡ [] → (a ≡ []) × (b ≡ [])
+both_none [] b e = (refl, e)
+both_none (k ∷ ks) b e = cc
 
-then_none : (a b : Kinds) → or_else a b ≡ [] → b ≡ []
-then_none [] b e = e
-then_none (k ∷ ks) b e = cc
-
-tested : (t : Bool) (k : ErrorKind) → cond t [] (k ∷ []) ≡ [] → t ≡ true
-tested true k e = refl
-tested false k e = cc
+-- what a search finds is as each element is
+found : {X : Type 0} (P : X → Type 0) (p : X → Bool) (xs : List X) → AllByRecursion P xs → IfSome (find p xs) P
+found P p [] h = tt
+found P p (x ∷ xs) h = cond_both (p x) (Some x) (find p xs) (λ o. IfSome o P) (λ _. h.0) (λ _. found P p xs h.1)
 
 abbrev pub is_count : ArgAction → Bool
 is_count Count = true
 is_count _ = false
 
 -- the argument of this name has this parser
-module _ (id : Text) (parser : ValueParser) (is_parser : ValueParser → Bool) (sound : (q : ValueParser) → is_parser q ≡ true → q ≡ parser) where
+module _ (id : Text) (parser : ValueParser) where
   -- it takes these texts
   abbrev pub Pass : List Text → Type 0
   Pass texts = list_all (accepts false parser) texts ≡ true
 
-  -- the row is of another argument, or has been read so and holds texts that it takes
-  abbrev pub Checked : Row → Type 0
-  Checked r = r.id ≡ id → (r.reading ≡ reading_of parser) × Pass r.values
-
+  -- each row is of another argument, or has been read so and holds texts that it takes
   abbrev pub AreChecked : List Row → Type 0
-  AreChecked rows = AllByRecursion Checked rows
+  AreChecked rows = AllByRecursion (λ r. r.id ≡ id → (r.reading ≡ reading_of parser) × Pass r.values) rows
 
-  -- an argument does not count, and has another name, or heeds case and has this parser, which takes its defaults
-  abbrev pub is_checked : Rule → Bool
-  is_checked a = not (is_count (action_of a))
-      && (not (bytes_eq a.id id) || (not a.ignore_case && (is_parser (parser_of_value a.parser) && list_all (accepts false parser) a.defaults)))
+  -- the argument heeds case and has this parser, which takes its defaults
+  abbrev pub Takes : Rule → Type 0
+  Takes a = (a.ignore_case ≡ false) × (parser_of_value a.parser ≡ parser) × Pass a.defaults
 
-  record Takes (a : Rule) : Type 0 where
-    case : a.ignore_case ≡ false
-    parses : parser_of_value a.parser ≡ parser
-    defaults : Pass a.defaults
+  -- an argument does not count, and has another name or is so
+  abbrev pub Fits : Rule → Type 0
+  Fits a = (is_count (action_of a) ≡ false) × cond (bytes_eq a.id id) (Takes a) (Unit {0})
 
-  must_take : (a : Rule) → is_checked a ≡ true → a.id ≡ id → Takes a
-  must_take a t same =
-      let named = rw ((bytes_eq-Decides a.id id).1 same) at (both (not (is_count (action_of a))) _ t).1 in
-      let case = both (not a.ignore_case) _ named in
-      let parses = both (is_parser (parser_of_value a.parser)) _ case.1 in
-      record { case = not-true _ case.0; parses = sound _ parses.0; defaults = parses.1 }
+  abbrev pub AllFit : List Rule → Type 0
+  AllFit rules = AllByRecursion Fits rules
 
-  all_pass : (a : Rule) (texts : List Text) → Takes a → values_fault a texts ≡ [] → Pass texts
-  all_pass a [] t e = refl
-  all_pass a (text ∷ rest) t e =
-      let passed : accepts a.ignore_case (parser_of_value a.parser) text ≡ true = tested _ _ (first_none _ _ e) in
-      and_from _ _ (rw (t.case, t.parses) at passed) (all_pass a rest t (then_none _ _ e))
+  -- if nothing of this fails, checked rows are followed by checked ones
+  abbrev Keeps : Kinds → List Row → List Row → Type 0
+  Keeps fault old new = fault ≡ [] → AreChecked old → AreChecked new
 
-  -- ---- rows
+  all_pass : (texts : List Text) → values_kinds false parser texts ≡ [] → Pass texts
+  all_pass [] e = refl
+  all_pass (text ∷ rest) e = let none = both_none _ _ e in and_from _ _
+      (cond_both _ _ _ (λ kinds. kinds ≡ [] → accepts false parser text ≡ true) (λ is _. is) (λ _ no. cc) none.0) (all_pass rest none.1)
 
-  joined : {X : Type 0} (P : X → Type 0) (xs ys : List X) → AllByRecursion P xs → AllByRecursion P ys → AllByRecursion P (xs ++ ys)
-  joined P [] ys h k = k
-  joined P (x ∷ xs) ys h k = (h.0, joined P xs ys h.1 k)
-
-  module _ (of : Text) where
-    module _ (change : Row → List Row) (missing : List Row) (f : (r : Row) → Checked r → bytes_eq r.id of ≡ true → AreChecked (change r))
-        (m : AreChecked missing) where
-      changed : (rows : List Row) → AreChecked rows → AreChecked (at_row of change missing rows)
-      changed [] h = m
-      changed (r ∷ rs) h = cond_both (bytes_eq r.id of) (change r ++ rs) (r ∷ at_row of change missing rs) AreChecked
-          (λ t. joined Checked (change r) rs (f r h.0 t) h.1) (λ _. (h.0, changed rs h.1))
-
-    removed : (rows : List Row) → AreChecked rows → AreChecked (without of rows)
-    removed rows h = changed (λ _. []) [] (λ r c same. tt) tt rows h
-
-    added : (by : Reading) (s : ValueSource) (texts : List Text) (rows : List Row) → (of ≡ id → (by ≡ reading_of parser) × Pass texts)
-        → AreChecked rows → AreChecked (with_values of by s texts rows)
-    added by s texts rows pass h =
-        changed (more_values s texts) (record { id = of; values = texts; count = None; source = Some s; reading = by } ∷ [])
-        (λ r c same. (
-          λ e.
-              let old = c e in (
-                old.0,
-                list_all-append (accepts false parser) r.values texts
-                    ∙ and_from _ _ old.1 (pass (sym ((bytes_eq-Decides r.id of).0 same) ∙ e)).1,
-              ),
-          tt,
-        )) (pass, tt) rows h
+  removed : (of : Text) (rows : List Row) → AreChecked rows → AreChecked (without of rows)
+  removed of [] h = tt
+  removed of (r ∷ rs) h = cond_both (bytes_eq r.id of) rs (r ∷ without of rs) AreChecked (λ _. h.1) (λ _. (h.0, removed of rs h.1))
 
   -- ---- one use of an argument
 
-  module _ (again : Bool) (a : Rule) (checked : is_checked a ≡ true) where
-    pass : (texts : List Text) → values_fault a texts ≡ [] → a.id ≡ id → (reading_by a ≡ reading_of parser) × Pass texts
-    pass texts none same = let must = must_take a checked same in (ap reading_of must.parses, all_pass a texts must none)
+  module _ (a : Rule) (fits : Fits a) where
+    must_take : a.id ≡ id → Takes a
+    must_take same = rw ((bytes_eq-Decides a.id id).1 same) at fits.1
 
-    sets : (texts : List Text) (rows : List Row) → values_fault a texts ≡ [] → AreChecked rows →
-        AreChecked (with_values a.id (reading_by a) CommandLine texts (without a.id rows))
-    sets texts rows none h = added a.id (reading_by a) CommandLine texts (without a.id rows) (pass texts none) (removed a.id rows h)
+    added : (s : ValueSource) (texts : List Text) (rows : List Row) → (a.id ≡ id → Pass texts) → AreChecked rows
+        → AreChecked (with_values a.id (reading_by a) s texts rows)
+    added s texts [] pass h = (λ same. (ap reading_of (must_take same).1, pass same), tt)
+    added s texts (r ∷ rs) pass h =
+        cond_both (bytes_eq r.id a.id) (more_values s texts r ++ rs) (r ∷ with_values a.id (reading_by a) s texts rs) AreChecked (λ t. (
+          λ e. (
+            (h.0 e).0,
+            list_all-append (accepts false parser) r.values texts
+                ∙ and_from _ _ (h.0 e).1 (pass (sym ((bytes_eq-Decides r.id a.id).0 t) ∙ e)),
+          ),
+          h.1,
+        )) (λ _. (h.0, added s texts rs pass h.1))
 
-    acts : (x : ArgAction) (texts : List Text) (rows : List Row) → is_count x ≡ false → action_fault x again a texts rows ≡ [] → AreChecked rows
-        → AreChecked (used_as x a.id (reading_by a) texts rows)
-    acts Set texts rows t none h = sets texts rows (then_none _ _ none) h
-    acts SetTrue texts rows t none h = sets texts rows (then_none _ _ none) h
-    acts SetFalse texts rows t none h = sets texts rows (then_none _ _ none) h
-    acts Append texts rows t none h = added a.id (reading_by a) CommandLine texts rows (pass texts none) h
-    acts Count texts rows t none h = absurd (true≢false t)
-    acts x texts rows t none h = h
+    uses : (again : Bool) (texts : List Text) (rows : List Row) → Keeps (use_fault again a texts rows) rows (used a texts rows)
+    uses again texts rows none = acts (action_of a) (values_or_missing a texts) fits.0 (both_none _ _ none).1
+      where
+        puts : (given : List Text) (old : List Row) → AreChecked old → values_fault a given ≡ [] → AreChecked (with_values a.id (reading_by a) CommandLine given old)
+        puts given old h none = added CommandLine given old (λ same. let takes = must_take same in all_pass given (rw (takes.0, takes.1) at none)) h
 
-    uses : (texts : List Text) (rows : List Row) → use_fault again a texts rows ≡ [] → AreChecked rows → AreChecked (used a texts rows)
-    uses texts rows none h =
-        acts (action_of a) (values_or_missing a texts) rows (not-true _ (both (not (is_count (action_of a))) _ checked).0) (then_none _ _ none) h
+        sets : (given : List Text) → Keeps (set_fault again a given rows) rows (with_values a.id (reading_by a) CommandLine given (without a.id rows))
+        sets given none h = puts given (without a.id rows) (removed a.id rows h) (both_none (repeat_fault again a.id rows) (values_fault a given) none).1
 
-  -- what a search finds among elements that pass a test passes it too
-  abbrev Passes : {X : Type 0} → (X → Bool) → Option X → Type 0
-  Passes test o = IfSome o (λ x. test x ≡ true)
+        acts : (x : ArgAction) (given : List Text) → is_count x ≡ false → Keeps (action_fault x again a given rows) rows (used_as x a.id (reading_by a) given rows)
+        acts Set given t = sets given
+        acts SetTrue given t = sets given
+        acts SetFalse given t = sets given
+        acts Append given t = λ none h. puts given rows h none
+        acts Count given t = absurd (true≢false t)
+        acts x given t = λ none h. h
 
-  found_passes : {X : Type 0} (test p : X → Bool) (xs : List X) → list_all test xs ≡ true → Passes test (find p xs)
-  found_passes test p [] t = tt
-  found_passes test p (y ∷ ys) t =
-      let parts = both (test y) _ t in
-      cond_both (p y) (Some y) (find p ys) (Passes test) (λ _. parts.0) (λ _. found_passes test p ys parts.1)
+    default_put : (rows : List Row) → AreChecked rows → AreChecked (with_default rows a)
+    default_put rows h =
+        cond_both (has_row a.id rows) rows (default_rows a.id (reading_by a) a.defaults rows) AreChecked (λ _. h)
+        (λ _. put a.defaults (λ same. (must_take same).2))
+      where
+        put : (texts : List Text) → (a.id ≡ id → Pass texts) → AreChecked (default_rows a.id (reading_by a) texts rows)
+        put [] pass = h
+        put (text ∷ rest) pass = added DefaultValue (text ∷ rest) rows pass h
 
-  -- where a test chooses between two ways, and the chosen one does not fail, it leaves checked rows
-  module _ {X : Type 0} (rows : X → List Row) where
-    either_way : (b : Bool) (x y : X) {f g : Kinds} → (f ≡ [] → AreChecked (rows x)) → (g ≡ [] → AreChecked (rows y)) → cond b f g ≡ []
-        → AreChecked (rows (cond b x y))
-    either_way true x y p q none = p none
-    either_way false x y p q none = q none
+  -- the chosen one of two ways keeps checked rows, if each does
+  either_way : {X : Type 0} {f g : Kinds} (old : List Row) (rows : X → List Row) (b : Bool) (x y : X) → Keeps f old (rows x) → Keeps g old (rows y) →
+      Keeps (cond b f g) old (rows (cond b x y))
+  either_way old rows true x y p q = p
+  either_way old rows false x y p q = q
 
   -- ---- the walk
 
-  module _ (c : List Rule) (again : Bool) (all : list_all is_checked c ≡ true) where
-    settles : (h : Held) → settle_fault c again h ≡ [] → AreChecked h.rows → AreChecked (settled c h).rows
-    settles h none rows = go h.pending none
+  module _ (c : List Rule) (again : Bool) (all : AllFit c) where
+    settles : (p : Option (Text × List Text)) (rows : List Row) → Keeps (settle_fault c again (record nothing_held { rows = rows; pending = p })) rows
+        (settled_rows c p rows)
+    settles None rows = λ _ h. h
+    settles (Some p) rows = by_id (arg_by_id c p.0) (found Fits _ c all)
       where
-        by_id : (texts : List Text) (o : Option Rule) → Passes is_checked o → option_map_or (λ a. use_fault again a texts h.rows) o [] ≡ [] →
-            AreChecked (used_by_id o texts h.rows)
-        by_id texts None checked none = rows
-        by_id texts (Some a) checked none = uses again a checked texts h.rows none rows
+        by_id : (o : Option Rule) → IfSome o Fits → Keeps (option_map_or (λ a. use_fault again a p.1 rows) o []) rows (used_by_id o p.1 rows)
+        by_id None fits = λ _ h. h
+        by_id (Some a) fits = uses a fits again p.1 rows
 
-        go : (p : Option (Text × List Text)) → option_map_or (λ p. option_map_or (λ a. use_fault again a p.1 h.rows) (arg_by_id c p.0) []) p [] ≡ []
-            → AreChecked (settled_rows c p h.rows)
-        go None none = rows
-        go (Some p) none = by_id p.1 (arg_by_id c p.0) (found_passes is_checked _ c all) none
+    module _ (a : Rule) (fits : Fits a) where
+      reacts : (texts : List Text) (h : Held) → Keeps (react_fault c again a texts h) h.rows (reacted c a texts h).rows
+      reacts texts h none rows = let none = both_none _ _ none in uses a fits again texts (settled c h).rows none.1 (settles h.pending h.rows none.0 rows)
 
-    reacts : (a : Rule) (texts : List Text) (h : Held) → is_checked a ≡ true → react_fault c again a texts h ≡ [] → AreChecked h.rows
-        → AreChecked (reacted c a texts h).rows
-    reacts a texts h checked none rows = uses again a checked texts (settled c h).rows (then_none _ _ none) (settles h (first_none _ _ none) rows)
+      takes_option : (v : Option Text) (h : Held) → Keeps (option_fault c again a v h) h.rows (option_met c a v h).0.rows
+      takes_option (Some v) h = reacts (v ∷ []) h
+      takes_option None h = settles h.pending h.rows
 
-    module _ (a : Rule) (checked : is_checked a ≡ true) where
-      takes_option : (v : Option Text) (h : Held) → option_fault c again a v h ≡ [] → AreChecked h.rows → AreChecked (option_met c a v h).0.rows
-      takes_option (Some v) h none rows = reacts a (v ∷ []) h checked none rows
-      takes_option None h none rows = settles h none rows
+      takes_flag : (v : Option Text) (h : Held) (k : ErrorKind) → Keeps (cond (is_some v) (k ∷ []) (react_fault c again a [] h)) h.rows
+          (flag_met c a v h).0.rows
+      takes_flag (Some v) h k = λ _ h. h
+      takes_flag None h k = reacts [] h
 
-      takes_flag : (v : Option Text) (h : Held) (k : ErrorKind) → cond (is_some v) (k ∷ []) (react_fault c again a [] h) ≡ [] → AreChecked h.rows
-          → AreChecked (flag_met c a v h).0.rows
-      takes_flag (Some v) h k none rows = rows
-      takes_flag None h k none rows = reacts a [] h checked none rows
-
-    takes_long : (o : Option Rule) (v : Option Text) (h : Held) → Passes is_checked o → long_fault c again o v h ≡ [] → AreChecked h.rows →
-        AreChecked (long_met c o v h).0.rows
-    takes_long None v h checked none rows = rows
-    takes_long (Some a) v h checked none rows =
-        either_way (λ (p : Held × Outcome). p.0.rows) (takes_values a) _ _ (λ n. takes_option a checked v h n rows)
-        (λ n. takes_flag a checked v h _ n rows) none
-
-    module _ (rest : Text) (more : Held → Held × Outcome) (fault : Held → Kinds)
-        (after : (x : Held) → fault x ≡ [] → AreChecked x.rows → AreChecked (more x).0.rows) where
-      takes_short : (o : Option Rule) (h : Held) → Passes is_checked o → short_fault c again o rest h fault ≡ [] → AreChecked h.rows →
-          AreChecked (short_met c o rest h more).0.rows
-      takes_short None h checked none rows = rows
-      takes_short (Some a) h checked none rows =
-          either_way (λ (p : Held × Outcome). p.0.rows) (takes_values a) _ _ (λ n. takes_option a checked (attached_value rest) h n rows)
-          (λ n. after (reacted c a [] h) (then_none _ _ n) (reacts a [] h checked (first_none _ _ n) rows)) none
+    takes_long : (o : Option Rule) (v : Option Text) (h : Held) → IfSome o Fits → Keeps (long_fault c again o v h) h.rows (long_met c o v h).0.rows
+    takes_long None v h fits = λ _ h. h
+    takes_long (Some a) v h fits = either_way _ (λ (p : Held × Outcome). p.0.rows) (takes_values a) _ _ (takes_option a fits v h) (takes_flag a fits v h _)
 
     -- that of a bundle of flags
     abbrev TakesBundle : ℕ → Type 0
-    TakesBundle k = (flags : Text) (skip : ℕ) (so_far : Outcome) (h : Held) → flags_fault c again k flags skip h ≡ [] → AreChecked h.rows
-        → AreChecked (bundle_met c k flags skip so_far h).0.rows
+    TakesBundle k = (flags : Text) (skip : ℕ) (so_far : Outcome) (h : Held) → Keeps (flags_fault c again k flags skip h) h.rows
+        (bundle_met c k flags skip so_far h).0.rows
 
     takes_bundle : (k : ℕ) → TakesBundle k
     unfolding bundle_met flags_fault
-    takes_bundle zero flags skip so_far h none rows = rows
-    takes_bundle (suc k) flags skip so_far h none rows = go (λ rest n o x e r. takes_bundle k rest n o x e r) (slice_get (chars flags) 0) skip none
+    takes_bundle zero flags skip so_far h = λ _ h. h
+    takes_bundle (suc k) flags skip so_far h = go (takes_bundle k) (slice_get (chars flags) 0) skip
       where
-        go : TakesBundle k → (o : Option ℕ) (n : ℕ) → bundle_step_fault c again o flags n h (flags_fault c again k) ≡ []
-            → AreChecked (bundle_step c o flags n so_far h (bundle_met c k)).0.rows
-        go more None n none = rows
-        go more (Some x) zero none =
-            let rest = drop (length (encode_utf8 x)) flags in
-            takes_short rest (bundle_met c k rest 0 done) (flags_fault c again k rest 0) (more rest 0 done) (arg_by_short c x) h
-            (found_passes is_checked _ c all) none rows
-        go more (Some x) (suc n) none = more (drop (length (encode_utf8 x)) flags) n so_far h none rows
+        short : TakesBundle k → (rest : Text) (o : Option Rule) → IfSome o Fits → Keeps (short_fault c again o rest h (flags_fault c again k rest 0)) h.rows
+            (short_met c o rest h (bundle_met c k rest 0 done)).0.rows
+        short more rest None fits = λ _ h. h
+        short more rest (Some a) fits =
+            either_way _ (λ (p : Held × Outcome). p.0.rows) (takes_values a) _ _ (takes_option a fits (attached_value rest) h) (λ none rows.
+            let none = both_none _ _ none in more rest 0 done (reacted c a [] h) none.1 (reacts a fits [] h none.0 rows))
+
+        go : TakesBundle k → (o : Option ℕ) (n : ℕ) → Keeps (bundle_step_fault c again o flags n h (flags_fault c again k)) h.rows
+            (bundle_step c o flags n so_far h (bundle_met c k)).0.rows
+        go more None n = λ _ h. h
+        go more (Some x) zero = short more (drop (length (encode_utf8 x)) flags) (arg_by_short c x) (found Fits _ c all)
+        go more (Some x) (suc n) = more (drop (length (encode_utf8 x)) flags) n so_far h
 
   -- a word that is no flag changes no row
   stays : (c : List Rule) (waiting : Waiting) (word : Text) (h : Held) → AreChecked h.rows → AreChecked (plain_word c waiting word h).0.rows
-  stays c idle word h rows = rows
-  stays c positional word h rows = rows
-  stays c (option id) word h rows = go (arg_by_id c id)
-    where
-      go : (o : Option Rule) → AreChecked (option_word o id word h).0.rows
-      go None = rows
-      go (Some a) = rows
+  stays c (option id) word h rows = elim (arg_by_id c id) as (λ o. AreChecked (option_word o id word h).0.rows) [ None ↦ rows | Some a ↦ rows ]
+  stays c waiting word h rows = rows
 
   stays_after : (c : List Rule) (waiting : Waiting) (word : Text) (h : Held) (outcome : Outcome) → AreChecked h.rows →
       AreChecked (after_flag c waiting word h outcome).0.rows
@@ -236,136 +191,97 @@ module _ (id : Text) (parser : ValueParser) (is_parser : ValueParser → Bool) (
   stays_after c waiting word h (waits id) rows = rows
   stays_after c waiting word h outcome rows = stays c waiting word h rows
 
-  module _ (s : Shape) (names : Names) (all : list_all is_checked s.rules ≡ true) where
-    takes_flags : (waiting : Waiting) (word : Text) (h : Held) (o : Option (Text × Option Text)) → flag_word_fault s.rules s.args_override_self o word h ≡ [] →
-        AreChecked h.rows → AreChecked (long_or_other s.rules waiting word o h).0.rows
-    takes_flags waiting word h (Some p) none rows =
-        stays_after s.rules waiting word _ _ (takes_long s.rules s.args_override_self all (arg_by_long s.rules p.0) p.1 h
-        (found_passes is_checked _ s.rules all) none rows)
-    takes_flags waiting word h None none rows = go (short_of word) none
-      where
-        go : (o : Option Text) → option_map_or (λ flags. bundle_fault s.rules s.args_override_self flags h) o [] ≡ [] →
-            AreChecked (short_or_plain s.rules waiting word o h).0.rows
-        go None none = stays s.rules waiting word h rows
-        go (Some flags) none = stays_after s.rules waiting word _ _
-            (takes_bundle s.rules s.args_override_self all (length flags) flags h.skip plain (record h { skip = 0 }) none rows)
+  module _ (s : Shape) (names : Names) (all : AllFit s.rules) where
+    module _ (waiting : Waiting) (word : Text) (h : Held) where
+      takes_flags : (o : Option (Text × Option Text)) → Keeps (flag_word_fault s.rules s.args_override_self o word h) h.rows
+          (long_or_other s.rules waiting word o h).0.rows
+      takes_flags (Some p) = λ none rows.
+          stays_after s.rules waiting word _ _ (takes_long s.rules s.args_override_self all (arg_by_long s.rules p.0) p.1 h (found Fits _ s.rules all) none rows)
+      takes_flags None = go (short_of word)
+        where
+          go : (o : Option Text) → Keeps (option_map_or (λ flags. bundle_fault s.rules s.args_override_self flags h) o []) h.rows
+              (short_or_plain s.rules waiting word o h).0.rows
+          go None = λ none. stays s.rules waiting word h
+          go (Some flags) = λ none rows. stays_after s.rules waiting word _ _
+              (takes_bundle s.rules s.args_override_self all (length flags) flags h.skip plain (record h { skip = 0 }) none rows)
 
-    module _ (waiting : Waiting) (position : ℕ) (word : Text) (h : Held) (rows : AreChecked h.rows) where
-      takes_other : (o : Option Text) → other_fault s o word h ≡ [] → AreChecked (subcommand_or_other s.rules o waiting position word h).0.rows
-      takes_other (Some name) none = rows
-      takes_other None none =
-          either_way (λ (p : Held × Step). p.0.rows) (bytes_eq word (45 ∷ 45 ∷ [])) _ _ (λ _. rows) (λ n. takes_flags waiting word h (long_of word) n rows) none
+      takes_other : (position : ℕ) (o : Option Text) → Keeps (other_fault s o word h) h.rows (subcommand_or_other s.rules o waiting position word h).0.rows
+      takes_other position (Some name) = λ _ h. h
+      takes_other position None =
+          either_way _ (λ (p : Held × Step). p.0.rows) (bytes_eq word (45 ∷ 45 ∷ [])) _ _ (λ _ rows. rows) (takes_flags (long_of word))
 
-      takes_word : (is_trailing : Bool) → word_fault s names is_trailing waiting word h ≡ []
-          → AreChecked (word_met s.rules names is_trailing waiting position word h).0.rows
-      takes_word true none = rows
-      takes_word false none = takes_other (subcommand_met names waiting word) none
+      takes_word : (position : ℕ) (is_trailing : Bool) → Keeps (word_fault s names is_trailing waiting word h) h.rows
+          (word_met s.rules names is_trailing waiting position word h).0.rows
+      takes_word position true = λ _ h. h
+      takes_word position false = takes_other position (subcommand_met names waiting word)
 
-    takes_step : (w : Walk) (word : Text) (h : Held) (step : Step) → step_fault s w.position h step ≡ [] → AreChecked h.rows
-        → AreChecked (after_step s.rules word w h step).held.rows
-    takes_step w word h value none rows = go (arg_by_index s.rules w.position) _ none
-      where
-        go : (o : Option Rule) (stray : Kinds) → option_map_or (λ a. positional_fault s.rules s.args_override_self a h) o stray ≡ []
-            → AreChecked (to_positional s.rules o word w h).held.rows
-        go None stray none = rows
-        go (Some a) stray none =
-            either_way (λ (k : Held). k.rows) (is_pending a h.pending && takes_several a) _ _ (λ _. rows)
-            (λ n. settles s.rules s.args_override_self all h n rows) none
-    takes_step w word h step none rows = rows
+    module _ (w : Walk) (word : Text) where
+      takes_step : (h : Held) (step : Step) → Keeps (step_fault s w.position h step) h.rows (after_step s.rules word w h step).held.rows
+      takes_step h value = go (arg_by_index s.rules w.position)
+        where
+          go : (o : Option Rule) → Keeps (option_map_or (λ a. positional_fault s.rules s.args_override_self a h) o (stray_fault s)) h.rows
+              (to_positional s.rules o word w h).held.rows
+          go None = λ _ h. h
+          go (Some a) = either_way _ (λ (k : Held). k.rows) (is_pending a h.pending && takes_several a) _ _ (λ _ rows. rows)
+              (settles s.rules s.args_override_self all h.pending h.rows)
+      takes_step h step = λ _ h. h
 
-    takes_turn : (w : Walk) (word : Text) → turn_fault s names w word ≡ [] → AreChecked w.held.rows → AreChecked (walked s.rules names w word).held.rows
-    unfolding walked
-    takes_turn w word none rows = go w.stopped none
-      where
-        go : (o : Option (Text × List Text)) → cond (is_some o) [] (or_else (word_fault s names w.is_trailing w.waiting word w.held)
-            (step_fault s w.position (word_met s.rules names w.is_trailing w.waiting w.position word w.held).0
-            (word_met s.rules names w.is_trailing w.waiting w.position word w.held).1)) ≡ []
-            → AreChecked (walked_from s.rules names o w word).held.rows
-        go (Some p) none = rows
-        go None none = takes_step w word _ _ (then_none _ _ none) (takes_word w.waiting w.position word w.held rows w.is_trailing (first_none _ _ none))
+      takes_turn : Keeps (turn_fault s names w word) w.held.rows (walked s.rules names w word).held.rows
+      unfolding walked
+      takes_turn = go w.stopped _ (λ none rows.
+          let none = both_none _ _ none in takes_step _ _ none.1 (takes_word w.waiting word w.held w.position w.is_trailing none.0 rows))
+        where
+          go : (o : Option (Text × List Text)) (fault : Kinds) → Keeps fault w.held.rows (walked_from s.rules names None w word).held.rows →
+              Keeps (cond (is_some o) [] fault) w.held.rows (walked_from s.rules names o w word).held.rows
+          go (Some p) fault met = λ _ h. h
+          go None fault met = met
 
-    walks : (words : List Text) (w : Walk) → walk_fault s names w words ≡ [] → AreChecked w.held.rows →
-        AreChecked (fold (walked s.rules names) w words).held.rows
+    walks : (words : List Text) (w : Walk) → Keeps (walk_fault s names w words) w.held.rows (fold (walked s.rules names) w words).held.rows
     unfolding walk_fault
     walks [] w none rows = rows
-    walks (word ∷ rest) w none rows = walks rest (walked s.rules names w word) (then_none _ _ none) (takes_turn w word (first_none _ _ none) rows)
+    walks (word ∷ rest) w none rows = let none = both_none _ _ none in walks rest (walked s.rules names w word) none.1 (takes_turn w word none.0 rows)
 
   -- ---- after the walk
 
-  default_put : (rows : List Row) (a : Rule) → is_checked a ≡ true → AreChecked rows → AreChecked (with_default rows a)
-  default_put rows a checked h =
-      cond_both (has_row a.id rows) rows (default_rows a.id (reading_by a) a.defaults rows) AreChecked (λ _. h) (λ _. put a.defaults refl)
+  defaults_put : (rules : List Rule) (rows : List Row) → AllFit rules → AreChecked rows → AreChecked (fold with_default rows rules)
+  defaults_put [] rows all h = h
+  defaults_put (a ∷ rest) rows all h = defaults_put rest (with_default rows a) all.1 (default_put a all.0 rows h)
+
+  -- ---- the text of the argument
+
+  -- it is one that the argument takes, and is read as the parser says
+  abbrev pub Reads : Option Text → Option Text → Type 0
+  Reads given read = IfSome given (λ text. accepts false parser text ≡ true) × (read ≡ option_map (read_as (reading_of parser)) given)
+
+  reads_row : (by : Reading) (texts : List Text) → by ≡ reading_of parser → Pass texts → Reads (slice_get texts 0) (option_map (read_as by) (slice_get texts 0))
+  reads_row by [] is pass = (tt, refl)
+  reads_row by (x ∷ xs) is pass = ((both _ _ pass).0, ap (λ (r : Reading). Some (read_as r x)) is)
+
+  reads_rows : (rows : List Row) → AreChecked rows → Reads (first_of id rows) (one_of id rows)
+  reads_rows [] h = (tt, refl)
+  reads_rows (r ∷ rs) h =
+      cond_both (bytes_eq r.id id) (Some r) (find (λ x. bytes_eq x.id id) rs)
+      (λ (o : Option Row). Reads (option_and_then (λ x. slice_get x.values 0) o) (option_and_then row_text o))
+      (λ t. let checked = h.0 ((bytes_eq-Decides r.id id).0 t) in reads_row r.reading r.values checked.0 checked.1) (λ _. reads_rows rs h.1)
+
+  -- so are the texts that `get_str` and `get_one` give
+  abbrev pub ReadsIn : Option (Text × List Row) → Type 0
+  ReadsIn entries = Reads (option_and_then (λ f. first_of id f.1) entries) (option_and_then (λ f. one_of id f.1) entries)
+
+  -- and so they are of words that clap takes
+  pub reads : (a : App) (words : List Text) → AllByRecursion (λ s. AllFit s.rules) (built a).subs → fault_of a words ≡ [] → ReadsIn (subcommand_of a words)
+  reads a words all none = enters _ (both_none _ _ (both_none _ _ none).1).0
     where
-      put : (texts : List Text) → a.defaults ≡ texts → AreChecked (default_rows a.id (reading_by a) texts rows)
-      put [] is = h
-      put (text ∷ rest) is = added a.id (reading_by a) _ (text ∷ rest) rows
-          (λ same. let must = must_take a checked same in (ap reading_of must.parses, subst Pass is must.defaults)) h
+      go : (words : List Text) (o : Option Shape) → IfSome o (λ s. AllFit s.rules) → option_map_or (λ s. level_fault s [] nothing_held words false []) o [] ≡ [] →
+          ReadsIn (option_map (λ s. rows_at s words) o)
+      go words None fits none = (tt, refl)
+      go words (Some s) fits none =
+          let end = (walk s.rules [] nothing_held words).held in
+          let first = both_none _ _ none in
+          let after = both_none _ _ first.1 in
+          reads_rows _ (defaults_put s.rules (settled s.rules end).rows fits
+          (settles s.rules s.args_override_self fits end.pending end.rows after.0 (walks s [] fits words (walk_from nothing_held) first.0 tt)))
 
-  defaults_put : (rules : List Rule) (rows : List Row) → list_all is_checked rules ≡ true → AreChecked rows → AreChecked (fold with_default rows rules)
-  defaults_put [] rows t h = h
-  defaults_put (a ∷ rest) rows t h = let parts = both (is_checked a) _ t in defaults_put rest (with_default rows a) parts.1 (default_put rows a parts.0 h)
-
-  level_rows : (s : Shape) (words : List Text) (has : Bool) (below : Kinds) → list_all is_checked s.rules ≡ true →
-      level_fault s [] nothing_held words has below ≡ [] → AreChecked (rows_after s.rules [] words)
-  level_rows s words has below all none =
-      let end = (walk s.rules [] nothing_held words).held in
-      let after = then_none _ _ (then_none _ _ none) in
-      let rows = walks s [] all words (walk_from nothing_held) (first_none _ _ none) tt in
-      defaults_put s.rules (settled s.rules end).rows all (settles s.rules s.args_override_self all end (first_none _ _ after) rows)
-
-  -- ---- the rows of the subcommand
-
-  abbrev pub has_checked_rules : Shape → Bool
-  has_checked_rules s = list_all is_checked s.rules
-
-  -- what was found holds checked rows
-  abbrev pub HasChecked : Option (Text × List Row) → Type 0
-  HasChecked found = IfSome found (λ f. AreChecked f.1)
-
-  -- what the words that clap takes give
-  pub rows_checked : (a : App) (words : List Text) → list_all has_checked_rules (built a).subs ≡ true → fault_of a words ≡ []
-      → HasChecked (subcommand_of a words)
-  rows_checked a words all none = enters _ (first_none _ _ (then_none _ _ none))
-    where
-      enters : (stop : Option (Text × List Text)) → entered_fault (built a) stop ≡ [] → HasChecked (entered (built a) stop)
-      enters None none = tt
-      enters (Some p) none = go (find (λ s. answers_to p.0 (label_of s)) (built a).subs) (found_passes has_checked_rules _ (built a).subs all) none
-        where
-          go : (o : Option Shape) → Passes has_checked_rules o → option_map_or (λ s. level_fault s [] nothing_held p.1 false []) o [] ≡ [] →
-              HasChecked (option_map (λ s. rows_at s p.1) o)
-          go None checked none = tt
-          go (Some s) checked none = level_rows s p.1 false [] checked none
-
-  -- the row of the argument
-  abbrev Holds : Option Row → Type 0
-  Holds o = IfSome o (λ r. (r.reading ≡ reading_of parser) × Pass r.values)
-
-  found_row : (rows : List Row) → AreChecked rows → Holds (find (λ r. bytes_eq r.id id) rows)
-  found_row [] h = tt
-  found_row (r ∷ rs) h =
-      cond_both (bytes_eq r.id id) (Some r) (find (λ x. bytes_eq x.id id) rs) Holds (λ t. h.0 ((bytes_eq-Decides r.id id).0 t)) (λ _. found_row rs h.1)
-
-  -- the text that `get_str` gives passes
-  pub text_passes : (found : Option (Text × List Row)) (text : Text) → HasChecked found → option_and_then (λ f. first_of id f.1) found ≡ Some text
-      → accepts false parser text ≡ true
-  text_passes None text h e = cc
-  text_passes (Some f) text h e = go (find (λ r. bytes_eq r.id id) f.1) (found_row f.1 h) e
-    where
-      head : (texts : List Text) → Pass texts → slice_get texts 0 ≡ Some text → accepts false parser text ≡ true
-      head [] pass e = cc
-      head (x ∷ xs) pass e = sym (ap (λ o. option_map_or (accepts false parser) o true) e) ∙ (both (accepts false parser x) _ pass).0
-
-      go : (o : Option Row) → Holds o → option_and_then (λ (r : Row). slice_get r.values 0) o ≡ Some text → accepts false parser text ≡ true
-      go None holds e = cc
-      go (Some r) holds e = head r.values holds.1 e
-
-  -- the text that `get_one` reads
-  pub text_read : (found : Option (Text × List Row)) → HasChecked found →
-      option_and_then (λ f. one_of id f.1) found ≡ option_map (read_as (reading_of parser)) (option_and_then (λ f. first_of id f.1) found)
-  text_read None h = refl
-  text_read (Some f) h = go (find (λ r. bytes_eq r.id id) f.1) (found_row f.1 h)
-    where
-      go : (o : Option Row) → Holds o →
-          option_and_then row_text o ≡ option_map (read_as (reading_of parser)) (option_and_then (λ (r : Row). slice_get r.values 0) o)
-      go None holds = refl
-      go (Some r) holds = ap (λ (by : Reading). option_map (read_as by) (slice_get r.values 0)) holds.0
+      enters : (stop : Option (Text × List Text)) → entered_fault (built a) stop ≡ [] → ReadsIn (entered (built a) stop)
+      enters None none = (tt, refl)
+      enters (Some p) none = go p.1 (find (λ s. answers_to p.0 (label_of s)) (built a).subs) (found (λ (s : Shape). AllFit s.rules) _ (built a).subs all) none

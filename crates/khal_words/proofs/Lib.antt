@@ -4,5 +4,4 @@ pub mod FlagLemmas
 pub mod FormatLemmas
 pub mod LimitLemmas
 pub mod NameLemmas
-pub mod TakenLemmas
 pub mod WindowTextLemmas

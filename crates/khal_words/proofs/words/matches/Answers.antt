@@ -1,11 +1,47 @@
-use Rattle.khal_words.proofs.TakenLemmas.{entries, faults, tested}
+use Rattle.std.proofs.Common.{◌≡◌, true, rules, List, [], Ok, Err, Result, refl, IfOk, codes, sym, subst}
+use Rattle.std.proofs.lemmas.Result.{IfOk-weaker}
+use Rattle.clap.specs.Words.{App, Text, HasMatchesOf, FailsBy, fault_of, is_simple_and_free, subcommand_of, subcommand_rows_of}
+use Rattle.clap.specs.declared.builder.value_parser.ValueParser.TheVariants as vp
+use Rattle.clap.specs.declared.error.Error.{Error}
+use Rattle.clap.specs.declared.parser.matches.ArgMatches.{ArgMatches}
+use Rattle.khal_words.specs.Commands.{khal_app}
+use Rattle.khal_words.specs.Entries.{AreTested}
+use Rattle.khal_words.proofs.CheckedRows.{reads}
+use Rattle.khal_words.proofs.FlagLemmas.{flag_of}
+use Rattle.khal_words.proofs.LimitLemmas.{has_limit, limit_range}
 use Rattle.khal_words.proofs.words.matches.Goals as goal
+
+-- the entries of words that clap takes are tested
+tested : (words : List Text) → fault_of khal_app words ≡ [] → AreTested (subcommand_of khal_app words)
+tested words none =
+    let entries = subcommand_of khal_app words in
+    record {
+      limit = has_limit entries (reads (codes "limit") limit_range khal_app words (search rules) none);
+      notstarted = flag_of (codes "notstarted") entries (reads _ vp.Bool khal_app words (search rules) none);
+      every_day = flag_of (codes "every-day") entries (reads _ vp.Bool khal_app words (search rules) none);
+    }
+
+-- clap's model covers this command
+module _ (app : App) (words : List Text) (r : Result ArgMatches Error) (is : app ≡ khal_app) where
+  entries : IfOk r (HasMatchesOf app words) → IfOk r (λ m. subcommand_rows_of m ≡ subcommand_of khal_app words)
+  entries h = IfOk-weaker r _ _ (λ m h. (subst (λ (a : App). HasMatchesOf a words m) is h refl).1) h
+
+  faults : (is_simple_and_free app ≡ true → FailsBy (fault_of app words) r) → FailsBy (fault_of khal_app words) r
+  faults h = subst (λ (a : App). is_simple_and_free a ≡ true → FailsBy (fault_of a words) r) is h refl
+
+  taken : IfOk r (HasMatchesOf app words) → (is_simple_and_free app ≡ true → FailsBy (fault_of app words) r) → IfOk r (λ m. AreTested (subcommand_rows_of m))
+  taken h k = go r (entries h) (faults k)
+    where
+      go : (x : Result ArgMatches Error) → IfOk x (λ m. subcommand_rows_of m ≡ subcommand_of khal_app words) → FailsBy (fault_of khal_app words) x →
+          IfOk x (λ m. AreTested (subcommand_rows_of m))
+      go (Ok m) same none = subst AreTested (sym same) (tested words none)
+      go (Err e) same none = tt
 
 pub returns-clause-entries : goal.returns-clause-entries
 returns-clause-entries c = entries _ _ _ c.in_ok-command.ensures.shape c.try_get_matches_from.ensures.matches
 
 pub returns-clause-tested : goal.returns-clause-tested
-returns-clause-tested c = tested _ _ _ c.in_ok-command.ensures.shape c.try_get_matches_from.ensures.matches c.try_get_matches_from.ensures.kinds
+returns-clause-tested c = taken _ _ _ c.in_ok-command.ensures.shape c.try_get_matches_from.ensures.matches c.try_get_matches_from.ensures.kinds
 
 pub returns-clause-faults : goal.returns-clause-faults
 returns-clause-faults c = faults _ _ _ c.in_ok-command.ensures.shape c.try_get_matches_from.ensures.kinds
