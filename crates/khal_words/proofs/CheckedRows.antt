@@ -65,8 +65,8 @@ module _ (id : Text) (parser : ValueParser) where
   AllFit rules = AllByRecursion Fits rules
 
   -- if nothing of this fails, checked rows are followed by checked ones
-  abbrev Keeps : Kinds → List Row → List Row → Type 0
-  Keeps fault old new = fault ≡ [] → AreChecked old → AreChecked new
+  abbrev KeepsRows : Kinds → List Row → List Row → Type 0
+  KeepsRows fault old new = fault ≡ [] → AreChecked old → AreChecked new
 
   all_pass : (texts : List Text) → values_kinds false parser texts ≡ [] → Pass texts
   all_pass [] e = refl
@@ -96,16 +96,16 @@ module _ (id : Text) (parser : ValueParser) where
           h.1,
         )) (λ _. (h.0, added s texts rs pass h.1))
 
-    uses : (again : Bool) (texts : List Text) (rows : List Row) → Keeps (use_fault again a texts rows) rows (used a texts rows)
+    uses : (again : Bool) (texts : List Text) (rows : List Row) → KeepsRows (use_fault again a texts rows) rows (used a texts rows)
     uses again texts rows none = acts (action_of a) (values_or_missing a texts) fits.0 (both_none _ _ none).1
       where
         puts : (given : List Text) (old : List Row) → AreChecked old → values_fault a given ≡ [] → AreChecked (with_values a.id (reading_by a) CommandLine given old)
         puts given old h none = added CommandLine given old (λ same. let takes = must_take same in all_pass given (rw (takes.0, takes.1) at none)) h
 
-        sets : (given : List Text) → Keeps (set_fault again a given rows) rows (with_values a.id (reading_by a) CommandLine given (without a.id rows))
+        sets : (given : List Text) → KeepsRows (set_fault again a given rows) rows (with_values a.id (reading_by a) CommandLine given (without a.id rows))
         sets given none h = puts given (without a.id rows) (removed a.id rows h) (both_none (repeat_fault again a.id rows) (values_fault a given) none).1
 
-        acts : (x : ArgAction) (given : List Text) → is_count x ≡ false → Keeps (action_fault x again a given rows) rows (used_as x a.id (reading_by a) given rows)
+        acts : (x : ArgAction) (given : List Text) → is_count x ≡ false → KeepsRows (action_fault x again a given rows) rows (used_as x a.id (reading_by a) given rows)
         acts Set given t = sets given
         acts SetTrue given t = sets given
         acts SetFalse given t = sets given
@@ -122,60 +122,62 @@ module _ (id : Text) (parser : ValueParser) where
         put [] pass = h
         put (text ∷ rest) pass = added DefaultValue (text ∷ rest) rows pass h
 
-  -- the chosen one of two ways keeps checked rows, if each does
-  either_way : {X : Type 0} {f g : Kinds} (old : List Row) (rows : X → List Row) (b : Bool) (x y : X) → Keeps f old (rows x) → Keeps g old (rows y) →
-      Keeps (cond b f g) old (rows (cond b x y))
-  either_way old rows true x y p q = p
-  either_way old rows false x y p q = q
+  abbrev Keeps : Kinds → Held → Held → Type 0
+  Keeps fault h k = KeepsRows fault h.rows k.rows
+
+  -- the chosen one of two ways does so, if each does
+  either_way : {X : Type 0} {f g : Kinds} (h : Held) (held : X → Held) (b : Bool) (x y : X) → Keeps f h (held x) × Keeps g h (held y) →
+      Keeps (cond b f g) h (held (cond b x y))
+  either_way h held true x y ways = ways.0
+  either_way h held false x y ways = ways.1
 
   -- ---- the walk
 
   module _ (c : List Rule) (again : Bool) (all : AllFit c) where
-    settles : (p : Option (Text × List Text)) (rows : List Row) → Keeps (settle_fault c again (record nothing_held { rows = rows; pending = p })) rows
+    settles : (p : Option (Text × List Text)) (rows : List Row) → KeepsRows (settle_fault c again (record nothing_held { rows = rows; pending = p })) rows
         (settled_rows c p rows)
     settles None rows = λ _ h. h
     settles (Some p) rows = by_id (arg_by_id c p.0) (found Fits _ c all)
       where
-        by_id : (o : Option Rule) → IfSome o Fits → Keeps (option_map_or (λ a. use_fault again a p.1 rows) o []) rows (used_by_id o p.1 rows)
+        by_id : (o : Option Rule) → IfSome o Fits → KeepsRows (option_map_or (λ a. use_fault again a p.1 rows) o []) rows (used_by_id o p.1 rows)
         by_id None fits = λ _ h. h
         by_id (Some a) fits = uses a fits again p.1 rows
 
     module _ (a : Rule) (fits : Fits a) where
-      reacts : (texts : List Text) (h : Held) → Keeps (react_fault c again a texts h) h.rows (reacted c a texts h).rows
+      reacts : (texts : List Text) (h : Held) → Keeps (react_fault c again a texts h) h (reacted c a texts h)
       reacts texts h none rows = let none = both_none _ _ none in uses a fits again texts (settled c h).rows none.1 (settles h.pending h.rows none.0 rows)
 
-      takes_option : (v : Option Text) (h : Held) → Keeps (option_fault c again a v h) h.rows (option_met c a v h).0.rows
+      takes_option : (v : Option Text) (h : Held) → Keeps (option_fault c again a v h) h (option_met c a v h).0
       takes_option (Some v) h = reacts (v ∷ []) h
       takes_option None h = settles h.pending h.rows
 
-      takes_flag : (v : Option Text) (h : Held) (k : ErrorKind) → Keeps (cond (is_some v) (k ∷ []) (react_fault c again a [] h)) h.rows
-          (flag_met c a v h).0.rows
+      takes_flag : (v : Option Text) (h : Held) (k : ErrorKind) → Keeps (cond (is_some v) (k ∷ []) (react_fault c again a [] h)) h (flag_met c a v h).0
       takes_flag (Some v) h k = λ _ h. h
       takes_flag None h k = reacts [] h
 
-    takes_long : (o : Option Rule) (v : Option Text) (h : Held) → IfSome o Fits → Keeps (long_fault c again o v h) h.rows (long_met c o v h).0.rows
+    takes_long : (o : Option Rule) (v : Option Text) (h : Held) → IfSome o Fits → Keeps (long_fault c again o v h) h (long_met c o v h).0
     takes_long None v h fits = λ _ h. h
-    takes_long (Some a) v h fits = either_way _ (λ (p : Held × Outcome). p.0.rows) (takes_values a) _ _ (takes_option a fits v h) (takes_flag a fits v h _)
+    takes_long (Some a) v h fits = either_way h (λ (p : Held × Outcome). p.0) (takes_values a) _ _ (takes_option a fits v h, takes_flag a fits v h _)
 
     -- that of a bundle of flags
     abbrev TakesBundle : ℕ → Type 0
-    TakesBundle k = (flags : Text) (skip : ℕ) (so_far : Outcome) (h : Held) → Keeps (flags_fault c again k flags skip h) h.rows
-        (bundle_met c k flags skip so_far h).0.rows
+    TakesBundle k = (flags : Text) (skip : ℕ) (so_far : Outcome) (h : Held) → Keeps (flags_fault c again k flags skip h) h (bundle_met c k flags skip so_far h).0
 
     takes_bundle : (k : ℕ) → TakesBundle k
     unfolding bundle_met flags_fault
     takes_bundle zero flags skip so_far h = λ _ h. h
     takes_bundle (suc k) flags skip so_far h = go (takes_bundle k) (slice_get (chars flags) 0) skip
       where
-        short : TakesBundle k → (rest : Text) (o : Option Rule) → IfSome o Fits → Keeps (short_fault c again o rest h (flags_fault c again k rest 0)) h.rows
-            (short_met c o rest h (bundle_met c k rest 0 done)).0.rows
+        short : TakesBundle k → (rest : Text) (o : Option Rule) → IfSome o Fits → Keeps (short_fault c again o rest h (flags_fault c again k rest 0)) h (short_met c o rest h (bundle_met c k rest 0 done)).0
         short more rest None fits = λ _ h. h
         short more rest (Some a) fits =
-            either_way _ (λ (p : Held × Outcome). p.0.rows) (takes_values a) _ _ (takes_option a fits (attached_value rest) h) (λ none rows.
-            let none = both_none _ _ none in more rest 0 done (reacted c a [] h) none.1 (reacts a fits [] h none.0 rows))
+            either_way h (λ (p : Held × Outcome). p.0) (takes_values a) _ _ (
+              takes_option a fits (attached_value rest) h,
+              λ none rows.
+                  let none = both_none _ _ none in more rest 0 done (reacted c a [] h) none.1 (reacts a fits [] h none.0 rows),
+            )
 
-        go : TakesBundle k → (o : Option ℕ) (n : ℕ) → Keeps (bundle_step_fault c again o flags n h (flags_fault c again k)) h.rows
-            (bundle_step c o flags n so_far h (bundle_met c k)).0.rows
+        go : TakesBundle k → (o : Option ℕ) (n : ℕ) → Keeps (bundle_step_fault c again o flags n h (flags_fault c again k)) h (bundle_step c o flags n so_far h (bundle_met c k)).0
         go more None n = λ _ h. h
         go more (Some x) zero = short more (drop (length (encode_utf8 x)) flags) (arg_by_short c x) (found Fits _ c all)
         go more (Some x) (suc n) = more (drop (length (encode_utf8 x)) flags) n so_far h
@@ -193,50 +195,46 @@ module _ (id : Text) (parser : ValueParser) where
 
   module _ (s : Shape) (names : Names) (all : AllFit s.rules) where
     module _ (waiting : Waiting) (word : Text) (h : Held) where
-      takes_flags : (o : Option (Text × Option Text)) → Keeps (flag_word_fault s.rules s.args_override_self o word h) h.rows
-          (long_or_other s.rules waiting word o h).0.rows
+      takes_flags : (o : Option (Text × Option Text)) → Keeps (flag_word_fault s.rules s.args_override_self o word h) h (long_or_other s.rules waiting word o h).0
       takes_flags (Some p) = λ none rows.
           stays_after s.rules waiting word _ _ (takes_long s.rules s.args_override_self all (arg_by_long s.rules p.0) p.1 h (found Fits _ s.rules all) none rows)
       takes_flags None = go (short_of word)
         where
-          go : (o : Option Text) → Keeps (option_map_or (λ flags. bundle_fault s.rules s.args_override_self flags h) o []) h.rows
-              (short_or_plain s.rules waiting word o h).0.rows
+          go : (o : Option Text) → Keeps (option_map_or (λ flags. bundle_fault s.rules s.args_override_self flags h) o []) h (short_or_plain s.rules waiting word o h).0
           go None = λ none. stays s.rules waiting word h
           go (Some flags) = λ none rows. stays_after s.rules waiting word _ _
               (takes_bundle s.rules s.args_override_self all (length flags) flags h.skip plain (record h { skip = 0 }) none rows)
 
-      takes_other : (position : ℕ) (o : Option Text) → Keeps (other_fault s o word h) h.rows (subcommand_or_other s.rules o waiting position word h).0.rows
+      takes_other : (position : ℕ) (o : Option Text) → Keeps (other_fault s o word h) h (subcommand_or_other s.rules o waiting position word h).0
       takes_other position (Some name) = λ _ h. h
       takes_other position None =
-          either_way _ (λ (p : Held × Step). p.0.rows) (bytes_eq word (45 ∷ 45 ∷ [])) _ _ (λ _ rows. rows) (takes_flags (long_of word))
+          either_way h (λ (p : Held × Step). p.0) (bytes_eq word (45 ∷ 45 ∷ [])) _ _ (λ _ rows. rows, takes_flags (long_of word))
 
-      takes_word : (position : ℕ) (is_trailing : Bool) → Keeps (word_fault s names is_trailing waiting word h) h.rows
-          (word_met s.rules names is_trailing waiting position word h).0.rows
+      takes_word : (position : ℕ) (is_trailing : Bool) → Keeps (word_fault s names is_trailing waiting word h) h (word_met s.rules names is_trailing waiting position word h).0
       takes_word position true = λ _ h. h
       takes_word position false = takes_other position (subcommand_met names waiting word)
 
     module _ (w : Walk) (word : Text) where
-      takes_step : (h : Held) (step : Step) → Keeps (step_fault s w.position h step) h.rows (after_step s.rules word w h step).held.rows
+      takes_step : (h : Held) (step : Step) → Keeps (step_fault s w.position h step) h (after_step s.rules word w h step).held
       takes_step h value = go (arg_by_index s.rules w.position)
         where
-          go : (o : Option Rule) → Keeps (option_map_or (λ a. positional_fault s.rules s.args_override_self a h) o (stray_fault s)) h.rows
-              (to_positional s.rules o word w h).held.rows
+          go : (o : Option Rule) → Keeps (option_map_or (λ a. positional_fault s.rules s.args_override_self a h) o (stray_fault s)) h (to_positional s.rules o word w h).held
           go None = λ _ h. h
-          go (Some a) = either_way _ (λ (k : Held). k.rows) (is_pending a h.pending && takes_several a) _ _ (λ _ rows. rows)
-              (settles s.rules s.args_override_self all h.pending h.rows)
+          go (Some a) = either_way h (λ (k : Held). k) (is_pending a h.pending && takes_several a) _ _
+              (λ _ rows. rows, settles s.rules s.args_override_self all h.pending h.rows)
       takes_step h step = λ _ h. h
 
-      takes_turn : Keeps (turn_fault s names w word) w.held.rows (walked s.rules names w word).held.rows
+      takes_turn : Keeps (turn_fault s names w word) w.held (walked s.rules names w word).held
       unfolding walked
       takes_turn = go w.stopped _ (λ none rows.
           let none = both_none _ _ none in takes_step _ _ none.1 (takes_word w.waiting word w.held w.position w.is_trailing none.0 rows))
         where
-          go : (o : Option (Text × List Text)) (fault : Kinds) → Keeps fault w.held.rows (walked_from s.rules names None w word).held.rows →
-              Keeps (cond (is_some o) [] fault) w.held.rows (walked_from s.rules names o w word).held.rows
+          go : (o : Option (Text × List Text)) (fault : Kinds) → Keeps fault w.held (walked_from s.rules names None w word).held →
+              Keeps (cond (is_some o) [] fault) w.held (walked_from s.rules names o w word).held
           go (Some p) fault met = λ _ h. h
           go None fault met = met
 
-    walks : (words : List Text) (w : Walk) → Keeps (walk_fault s names w words) w.held.rows (fold (walked s.rules names) w words).held.rows
+    walks : (words : List Text) (w : Walk) → Keeps (walk_fault s names w words) w.held (fold (walked s.rules names) w words).held
     unfolding walk_fault
     walks [] w none rows = rows
     walks (word ∷ rest) w none rows = let none = both_none _ _ none in walks rest (walked s.rules names w word) none.1 (takes_turn w word none.0 rows)
