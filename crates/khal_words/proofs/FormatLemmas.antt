@@ -60,9 +60,8 @@ spelled brace b = if brace then b ∷ b ∷ [] else b ∷ []
 module _ (b : ℕ) (x y : List ℕ) where
   bytes_apart : (c : ℕ) (s t : Bool) → is_brace b ≡ s → is_brace c ≡ t → spelled s b ++ x ≡ spelled t c ++ y → (b ≡ c) × (x ≡ y)
   bytes_apart c true true p q e = ((cc), (cc))
-  bytes_apart c true false p q e = let same : b ≡ c = cc in absurd (both_ways (is_brace c) q (ap is_brace (sym same) ∙ p))
-  bytes_apart c false true p q e = let same : b ≡ c = cc in absurd (both_ways (is_brace b) p (ap is_brace same ∙ q))
   bytes_apart c false false p q e = ((cc), (cc))
+  bytes_apart c s t p q e = absurd (cc)
 
   no_field : (s : Bool) (xs : List ℕ) → is_plain xs ≡ true → is_brace b ≡ s → spelled s b ++ x ≡ 123 ∷ (xs ++ 125 ∷ y) → ⊥
   no_field true xs plain p e = let first : 123 ≡ b = cc in let after : b ∷ x ≡ xs ++ 125 ∷ y = cc in
