@@ -13,9 +13,8 @@ abbrev named : {F : Type 0} → (F → List ℕ) → List F → F → List ℕ �
 named name fields last text = unwrap_or (find (λ field. bytes_eq text (name field)) fields) last
 
 -- so it is that of one
-one_name : {F : Type 0} (name : F → List ℕ) (fields : List F) (last : F) → ((f : F) → named name fields last (name f) ≡ f) → (f g : F)
-    → name f ≡ name g → f ≡ g
-one_name name fields last back f g e = sym (back f) ∙ ap (named name fields last) e ∙ back g
+one_name : {F : Type 0} (name : F → List ℕ) (of : List ℕ → F) → ((f : F) → of (name f) ≡ f) → (f g : F) → name f ≡ name g → f ≡ g
+one_name name of back f g e = sym (back f) ∙ ap of e ∙ back g
 
 abbrev entry_fields : List EntryField
 entry_fields = entry.Cell ∷ entry.Title ∷ entry.StartTime ∷ entry.EndTime ∷ entry.StartDate ∷ entry.EndDate ∷ entry.Location ∷ entry.Description ∷ entry.Uid ∷ []
@@ -29,7 +28,7 @@ day_back day.Name = refl
 day_back day.Date = refl
 
 pub returns-clause-entries : goal.returns-clause-entries
-returns-clause-entries c = one_list entry_name entry_names_plain (one_name entry_name entry_fields entry.Cancelled entry_back)
+returns-clause-entries c = one_list entry_name entry_names_plain (one_name entry_name (named entry_name entry_fields entry.Cancelled) entry_back)
 
 pub returns-clause-days : goal.returns-clause-days
-returns-clause-days c = one_list day_name day_names_plain (one_name day_name (day.Name ∷ []) day.Date day_back)
+returns-clause-days c = one_list day_name day_names_plain (one_name day_name (named day_name (day.Name ∷ []) day.Date) day_back)
