@@ -1,9 +1,9 @@
 -- A text is that of pieces in one way.
-use Rattle.std.proofs.Common.{◌≡◌, ℕ, ◌+◌, ◌-◌, ◌<◌, Bool, true, false, Some, List, [], ◌∷◌, ◌++◌, length, take, drop, get_or, if◌then◌else◌, refl, sym, ap}
+use Rattle.std.proofs.Common.{◌≡◌, ℕ, ◌+◌, ◌-◌, ◌<◌, Bool, true, false, Some, List, [], ◌∷◌, ◌++◌, length, take, drop, get_or, if◌then◌else◌, refl, sym, ap, ap₂}
 use Rattle.std.proofs.Common.{◌∙◌, append_assoc, append-nil, add-one, arith, length-append, length-drop}
-use Rattle.std.proofs.Math.Seq.{drop-cons}
+use Rattle.std.proofs.Math.Seq.{drop-append_seam, drop-cons, take-append_seam}
 use Rattle.std.proofs.lemmas.Bool.{and_parts, cond_both, or_parts, not-true, both_ways, eqb-true, lt-ltb}
-use Rattle.std.proofs.lemmas.List.{append_cancel_left, take_all, take_at, take-append-drop}
+use Rattle.std.proofs.lemmas.List.{take_all, take-append-drop}
 use Rattle.std.proofs.lemmas.List.Quantifiers.{position-Some}
 use Rattle.std.specs.Prelude.{◌==◌, not}
 use Rattle.std.specs.List.{position, position_or_len}
@@ -12,30 +12,26 @@ use Rattle.khal_words.specs.declared.format.Piece.TheVariants.{Byte, Field}
 use Rattle.khal_words.specs.Formats.{is_brace, is_plain, written, written_piece, IsFormat, OneFormat}
 
 -- no byte of a text without braces is one
-plain_head : (x : ℕ) (xs : List ℕ) → is_plain (x ∷ xs) ≡ true → is_brace x ≡ false
-plain_head x xs plain = not-true (is_brace x) (and_parts (not (is_brace x)) (is_plain xs) plain).0
-
-plain_tail : (x : ℕ) (xs : List ℕ) → is_plain (x ∷ xs) ≡ true → is_plain xs ≡ true
-plain_tail x xs plain = (and_parts (not (is_brace x)) (is_plain xs) plain).1
+plain_parts : (x : ℕ) (xs : List ℕ) → is_plain (x ∷ xs) ≡ true → (is_brace x ≡ false) × (is_plain xs ≡ true)
+plain_parts x xs plain = let parts = and_parts (not (is_brace x)) (is_plain xs) plain in (not-true (is_brace x) parts.0, parts.1)
 
 -- a name and a closing brace do not begin with an opening one
 no_brace_first : (xs a b : List ℕ) → is_plain xs ≡ true → 123 ∷ a ≡ xs ++ 125 ∷ b → ⊥
 no_brace_first [] a b plain e = let first : ◌≡◌ {A = ℕ} 123 125 = cc in absurd (omega arith)
-no_brace_first (x ∷ xs) a b plain e = let first : 123 ≡ x = cc in both_ways (is_brace x) (plain_head x xs plain) (ap is_brace (sym first))
+no_brace_first (x ∷ xs) a b plain e = let first : 123 ≡ x = cc in both_ways (is_brace x) (plain_parts x xs plain).0 (ap is_brace (sym first))
 
 closing_after : (xs a : List ℕ) → is_plain xs ≡ true → position_or_len (λ byte. byte == 125) (xs ++ 125 ∷ a) ≡ length xs
 closing_after [] a plain = refl
 closing_after (x ∷ xs) a plain =
-    let other : (x == 125) ≡ false = (or_parts (x == 123) (x == 125) (plain_head x xs plain)).1 in
-    rw (other, closing_after xs a (plain_tail x xs plain)) (omega arith)
+    let other : (x == 125) ≡ false = (or_parts (x == 123) (x == 125) (plain_parts x xs plain).0).1 in
+    rw (other, closing_after xs a (plain_parts x xs plain).1) (omega arith)
 
 -- names before closing braces are the same, and so is what comes after them
 names_apart : {a b : List ℕ} (xs ys : List ℕ) → is_plain xs ≡ true → is_plain ys ≡ true → xs ++ 125 ∷ a ≡ ys ++ 125 ∷ b → (xs ≡ ys) × (a ≡ b)
 names_apart {a = a} {b = b} xs ys p q e =
     let size : length xs ≡ length ys = sym (closing_after xs a p) ∙ (ap (position_or_len (λ byte. byte == 125)) e ∙ closing_after ys b q) in
-    let same : xs ≡ ys = sym (take_at xs (125 ∷ a) (length ys) size) ∙ (ap (take (length ys)) e ∙ take_at ys (125 ∷ b) (length ys) refl) in
-    let rest : 125 ∷ a ≡ 125 ∷ b = append_cancel_left xs (125 ∷ a) (125 ∷ b) (e ∙ ap (λ front. front ++ 125 ∷ b) (sym same)) in
-    (same, (cc))
+    let rest : 125 ∷ a ≡ 125 ∷ b = sym (drop-append_seam xs (125 ∷ a)) ∙ ap₂ drop size e ∙ drop-append_seam ys (125 ∷ b) in
+    (sym (take-append_seam xs (125 ∷ a)) ∙ ap₂ take size e ∙ take-append_seam ys (125 ∷ b), (cc))
 
 -- the first closing brace after a name is the one behind it
 pub closing_behind : (xs a text : List ℕ) → is_plain xs ≡ true → text ≡ xs ++ 125 ∷ a → position (λ byte. byte == 125) text ≡ Some (length xs)

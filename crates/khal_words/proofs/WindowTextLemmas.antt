@@ -40,25 +40,20 @@ number_is ds n digits same some few =
     let fits : is_number_of_days n ≡ true = grind (arith, nat_tests) in
     rw (digits, ← same, fits) refl
 
--- a text is its front and its last byte
-last_byte : (text : List ℕ) → 0 < length text → text ≡ take (length text - 1) text ++ get_or text (length text - 1) 0 ∷ []
-last_byte text some = sym (take_all (length text - 1 + 1) text (omega arith)) ∙ take_more text (length text - 1) 0 (omega arith)
-
+-- a text that ends in `d` is its front and the `d`
 ends_so : (text : List ℕ) → get_or text (length text - 1) 0 ≡ 100 → text ≡ take (length text - 1) text ++ 100 ∷ []
 ends_so [] last = let bad : ◌≡◌ {A = ℕ} 0 100 = last in absurd (omega arith)
-ends_so (c ∷ cs) last = last_byte (c ∷ cs) (omega arith) ∙ ap (λ b. take (length (c ∷ cs) - 1) (c ∷ cs) ++ b ∷ []) last
+ends_so (c ∷ cs) last =
+    rw (← last) (sym (take_all (length (c ∷ cs) - 1 + 1) (c ∷ cs) (omega arith)) ∙ take_more (c ∷ cs) (length (c ∷ cs) - 1) 0 (omega arith))
 
 -- a text that does not end in `d` has nothing before it
 pub before_d-none : (text : List ℕ) → ((front : List ℕ) → text ≢ front ++ 100 ∷ []) → None ≡ before_d text
 before_d-none text other =
     rw (false_from_ne_true (get_or text (length text - 1) 0 == 100) (λ test. other _ (ends_so text (eqb-true _ _ test)))) refl
 
-has_date_is : (year month day : ℕ) → IsDate (pos year) (pos month) (pos day) → has_date year month day ≡ true
-has_date_is year month day exists = grind (arith, nat_tests, signed_arith)
-
 -- the number of a date that the calendar has
 pub day_number_is : (year month day : ℕ) → IsDate (pos year) (pos month) (pos day) → day_number year month day ≡ Some (days_from_civil (pos year) month day)
-day_number_is year month day exists = rw (has_date_is year month day exists) refl
+day_number_is year month day exists = let has : has_date year month day ≡ true = grind (arith, nat_tests, signed_arith) in rw has refl
 
 -- the number of a date with these parts
 pub day_is : (year month day : ℕ) (date : Date) → IsYmd (pos year) (pos month) (pos day) date → epoch_day date ≡ days_from_civil (pos year) month day
