@@ -2,7 +2,7 @@
 use Rattle.std.proofs.Common.{◌≡◌, ◌<◌, ◌^◌, ℕ, pos, Bool}
 use Rattle.std.proofs.Common.{true, false, List, length, Option, Some, None, Ok, Err, Result}
 use Rattle.std.proofs.Common.{option_and_then, arith, refl, ap}
-use Rattle.std.specs.Result.{OkIff, result_ok}
+use Rattle.std.specs.Result.{result_ok}
 use Rattle.std.specs.Str.Parse.{IsNumeral, ParsesUnsigned, digits_value, starts_with_minus, without_leading_plus}
 use Rattle.std.proofs.lemmas.Bool.{false_from_ne_true}
 use Rattle.std.proofs.lemmas.Int.{ints}
@@ -14,7 +14,7 @@ use Rattle.std.specs.Bool.{Decides}
 use Rattle.std.proofs.lemmas.Bool.Decides.{Decides-and, Decides-ltb}
 use Rattle.std.specs.Prelude.{codes}
 use Rattle.khal_words.specs.Entries.{Entries, HasLimit}
-use Rattle.khal_words.specs.Limits.{is_number, number_in, number_of, IsLimit, IsLimitOf}
+use Rattle.khal_words.specs.Limits.{is_number, number_of, IsLimit, IsLimitOf}
 use Rattle.khal_words.proofs.CheckedRows.{ReadsIn}
 use Rattle.khal_words.proofs.WindowTextLemmas.{own}
 
@@ -25,13 +25,9 @@ number-Decides : (digits : List ℕ) → Decides (is_number digits) (IsNumeral 1
 number-Decides digits =
     Decides-and _ _ (Decides-and _ _ (Decides-ltb 0 (length digits)) (own.to digits, own.from digits)) (Decides-ltb (digits_value 10 digits) (2 ^ 32))
 
-read : {E : Type 0} (digits : List ℕ) (r : Result ℕ E) → OkIff r (IsNumeral 10 digits × (digits_value 10 digits < 2 ^ 32)) (digits_value 10 digits) →
-    result_ok r ≡ number_in digits
-read digits (Ok n) h = rw ((number-Decides digits).1 h.0) (ap Some h.1)
-read digits (Err e) h = rw (false_from_ne_true (is_number digits) (λ t. h ((number-Decides digits).0 t))) refl
-
 pub parsed : {E : Type 0} (text : List ℕ) (r : Result ℕ E) → ParsesUnsigned 32 10 text r → result_ok r ≡ number_of text
-parsed text r h = read (without_leading_plus text) r h
+parsed text (Ok n) h = rw ((number-Decides (without_leading_plus text)).1 h.0) (ap Some h.1)
+parsed text (Err e) h = let digits = without_leading_plus text in rw (false_from_ne_true (is_number digits) (λ t. h ((number-Decides digits).0 t))) refl
 
 -- a text that the parser of `--limit` takes
 limit_is : (text : List ℕ) → IsSignedIn (pos 1) (pos 4_294_967_295) text → (minus : Bool) → starts_with_minus text ≡ minus → IsLimit text
