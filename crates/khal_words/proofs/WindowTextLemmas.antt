@@ -1,10 +1,10 @@
 -- What parsed digits, and a text without its last byte, say of a window text.
 use Rattle.std.proofs.Common.{◌≡◌, ◌≢◌, ◌<◌, ◌≤◌, ◌-◌, ◌+◌, ◌^◌, ◌++◌, ◌∷◌, [], ℕ, pos, true, List, Some, None, length, take, get_or, ◌==◌, refl}
-use Rattle.std.proofs.Common.{ap, sym, ◌∙◌, arith, rules}
+use Rattle.std.proofs.Common.{sym, ◌∙◌, arith, rules}
 use Rattle.std.proofs.lemmas.List.{take_all, take_more}
 use Rattle.std.proofs.lemmas.Bool.{and_right, eqb-true, false_from_ne_true}
 use Rattle.std.proofs.lemmas.Bool.Decides.{nat_tests}
-use Rattle.std.proofs.lemmas.Str.Parse.{IsNumeralModel, IsDigitsTest, numerals_by_value}
+use Rattle.std.proofs.lemmas.Str.Parse.{IsNumeralModel, numerals_by_value}
 use Rattle.std.specs.List.{list_all}
 use Rattle.std.specs.Char.{is_ascii_digit}
 use Rattle.std.specs.Str.Parse.{digits_value}
@@ -14,12 +14,9 @@ use Rattle.jiff_core.specs.Date.{IsYmd, epoch_day}
 use Rattle.jiff_core.specs.declared.civil.date.Date.{Date}
 use Rattle.khal_words.specs.WindowTexts.{has_date, day_number, before_d, most_days, number_said, is_number_of_days}
 
-tells : IsDigitsTest (λ ds. list_all is_ascii_digit ds ≡ true)
-tells = search rules
-
 -- digits as this crate tests them
 pub own : IsNumeralModel (λ ds. list_all is_ascii_digit ds ≡ true) (digits_value 10)
-own = numerals_by_value _ tells
+own = numerals_by_value _ (search rules)
 
 -- digits that write a number past 0 are not none
 nonempty : (ds : List ℕ) → 1 ≤ digits_value 10 ds → 0 < length ds

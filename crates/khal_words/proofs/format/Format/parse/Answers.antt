@@ -1,6 +1,6 @@
-use Rattle.std.proofs.Common.{rules, arith, ◌≡◌, ◌<◌, ◌∷◌, ◌++◌, [], length, refl, ap, sym, ◌∙◌, append_assoc}
+use Rattle.std.proofs.Common.{rules, arith, ◌≡◌, ◌<◌, ◌∷◌, ◌++◌, [], length, refl, append_assoc}
 use Rattle.std.proofs.lemmas.Grind.{common_steps}
-use Rattle.khal_words.specs.Formats.{written, written_piece}
+use Rattle.khal_words.specs.Formats.{written_piece}
 use Rattle.khal_words.proofs.FormatLemmas.{format_behind, no_format, written-last}
 use Rattle.khal_words.proofs.format.Format.parse.Goals as goal
 
@@ -18,10 +18,7 @@ loop-rest-preserved g c =
     let next : c.loop-rest.rest.now ≡ written_piece name piece ++ after = c.in-Some.ensures.some in
     let added : c.push.new.self.items ≡ c.loop-rest.pieces.items ++ piece ∷ [] = search rules in
     record {
-      whole =
-          c.loop-rest.invariant.whole ∙ ap (λ t. written name c.loop-rest.pieces.items ++ t) next
-          ∙ (sym (append_assoc (written name c.loop-rest.pieces.items) (written_piece name piece) after)
-          ∙ ap (λ t. t ++ after) (sym (written-last name plain c.loop-rest.pieces.items piece) ∙ ap (written name) (sym added)));
+      whole = rw (added, written-last name plain c.loop-rest.pieces.items piece, append_assoc, ← next) c.loop-rest.invariant.whole;
       left = λ is. format_behind name plain piece after c.loop-rest.rest.now next (c.loop-rest.invariant.left is);
     }
 
