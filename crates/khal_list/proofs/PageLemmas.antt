@@ -29,11 +29,10 @@ before-later x o (z ∷ zs) ys h = before-later x o zs ys h.1
 
 -- of a rising list what stands behind an entry
 behind-entry : (xs : List Entry) (o : Entry) (ys : List Entry) → Rises entry_cmp (xs ++ o ∷ ys) → after_key (Some (rank_of o)) (xs ++ o ∷ ys) ≡ ys
-behind-entry [] o ys h =
-    ap (λ c. cond (is_lt c) (o ∷ after_key (Some (rank_of o)) ys) (after_key (Some (rank_of o)) ys)) (tied_itself entry_total o) ∙ keeps-later o ys h.0
+behind-entry [] o ys h = rw (tied_itself entry_total o) (keeps-later o ys h.0)
 behind-entry (x ∷ xs) o ys h =
     let later : rank_cmp (rank_of o) (rank_of x) ≡ Greater = entry_total.antisymm o x ∙ ap ordering_reverse (before-later x o xs ys h.0) in
-    ap (λ c. cond (is_lt c) (x ∷ after_key (Some (rank_of o)) (xs ++ o ∷ ys)) (after_key (Some (rank_of o)) (xs ++ o ∷ ys))) later ∙ behind-entry xs o ys h.1
+    rw later (behind-entry xs o ys h.1)
 
 pub goes-on : {files : List FileSaid} (request : Request) (front : List Entry) (o : Entry) (behind : List Entry) →
     IsListingOf files request (front ++ o ∷ behind)

@@ -1,6 +1,6 @@
 -- What of a list to come is written so far: its first entries.
 use Rattle.std.specs.Prelude.{ℤ, ◌≢◌, Bool, true, if◌then◌else◌}
-use Rattle.std.proofs.Common.{◌≡◌, ℕ, zero, suc, ◌+◌, List, [], ◌∷◌, ◌++◌, Option, Some, None, length, take, refl, sym, ap, ap₂, ◌∙◌, arith, append_assoc}
+use Rattle.std.proofs.Common.{◌≡◌, ℕ, zero, suc, pred, ◌+◌, List, [], ◌∷◌, ◌++◌, Option, Some, None, length, take, refl, sym, ap, ap₂, ◌∙◌, arith, append_assoc}
 use Rattle.std.proofs.Common.{append-nil, length-append}
 use Rattle.std.specs.Io.KnownBytes.{Appends}
 use Rattle.std.specs.Option.{option_map}
@@ -21,11 +21,7 @@ last_day before (p ∷ ps) = last_day (Some p.day) ps
 pub text-append : (style : Style) (before : Option ℤ) (xs ys : List OnDay)
     → days_text_after style before (xs ++ ys) ≡ days_text_after style before xs ++ days_text_after style (last_day before xs) ys
 text-append style before [] ys = refl
-text-append style before (x ∷ xs) ys =
-    let first = entry_text style before x.day x.entry in
-    let day = Some x.day in
-    ap (λ t. first ++ t) (text-append style day xs ys)
-    ∙ sym (append_assoc first (days_text_after style day xs) (days_text_after style (last_day day xs) ys))
+text-append style before (x ∷ xs) ys = simp (text-append style (Some x.day) xs ys, append_assoc)
 
 day-more : (before : Option ℤ) (xs : List OnDay) (e : OnDay) → last_day before (xs ++ e ∷ []) ≡ Some e.day
 day-more before [] e = refl
@@ -38,14 +34,8 @@ key-more (x ∷ y ∷ ys) e = key-more (y ∷ ys) e
 
 -- a limit of which some entries take their part
 first-behind : (limit left : Option ℕ) (xs ys : List OnDay) → limit ≡ option_map (λ n. length xs + n) left → first_of limit (xs ++ ys) ≡ xs ++ first_of left ys
-first-behind limit None xs ys h = ap (λ l. first_of l (xs ++ ys)) h
-first-behind limit (Some n) xs ys h = ap (λ l. first_of l (xs ++ ys)) h ∙ take-append-add xs ys n
-
--- a limit of which something is left
-pub fewer : (left : Option ℕ) → left ≢ Some 0 → (lower : Option ℕ) × (left ≡ option_map (λ n. n + 1) lower)
-fewer None h = (None, refl)
-fewer (Some zero) h = absurd (h refl)
-fewer (Some (suc n)) h = (Some n, ap Some (omega arith))
+first-behind limit None xs ys h = rw h refl
+first-behind limit (Some n) xs ys h = rw h (take-append-add xs ys n)
 
 -- of a list that was to come some entries are written, and the others are to come
 pub record Printed (style : Style) (limit : Option ℕ) (all coming : List OnDay) (told taken : Option (List ℕ)) (before : Option ℤ) (left : Option ℕ)
@@ -61,14 +51,13 @@ module _ {style : Style} {limit : Option ℕ} {all : List OnDay} {told : Option 
   module _ {coming : List OnDay} {taken : Option (List ℕ)} {before : Option ℤ} {left : Option ℕ} {last : Option DayRank}
       (p : Printed style limit all coming told taken before left last) where
     first-is : first_of limit all ≡ p.done ++ first_of left coming
-    first-is = ap (first_of limit) (sym p.parted) ∙ first-behind limit left p.done coming p.left_is
+    first-is = rw (← p.parted) (first-behind limit left p.done coming p.left_is)
 
     written : Written told taken (days_text_after style before (first_of left coming)) (days_text style (first_of limit all))
     written = record {
       done = days_text style p.done;
       taken = p.taken_is;
-      whole_is = ap (λ d. days_text style p.done ++ days_text_after style d (first_of left coming)) p.day_is
-          ∙ (sym (text-append style None p.done (first_of left coming)) ∙ ap (days_text style) (sym first-is));
+      whole_is = rw (first-is, text-append style None p.done (first_of left coming), ← p.day_is) refl;
     }
 
     pub printed-front : TookFront told taken (days_text style (first_of limit all))
@@ -105,29 +94,24 @@ module _ {style : Style} {limit : Option ℕ} {all : List OnDay} {told : Option 
       cut-text none = appends-same told taken (ap (days_text style) (sym (first-none none))) p.taken_is
 
       pub cut-key : left ≡ Some 0 → last ≡ day_key_on limit all
-      cut-key none = p.last_is ∙ sym (ap₂ (λ (cut : Bool) (l : List OnDay). if cut then last_day_key l else None) cut-is (first-none none))
+      cut-key none = rw (cut-is, first-none none) p.last_is
         where
-          sizes : length all ≡ length p.done + suc (length es)
-          sizes = sym (ap length p.parted) ∙ (length-append p.done coming ∙ ap (λ l. length p.done + length l) gives)
-
           cut-is : is_cut limit all ≡ true
           cut-is = ap (λ l. is_cut l all) (p.left_is ∙ ap (option_map (λ n. length p.done + n)) none)
-              ∙ lt-ltb (length p.done + 0) (length all) (omega (arith, sizes))
+              ∙ lt-ltb (length p.done + 0) (length all) (omega (arith, simp length-append at (ap length p.parted), ap length gives))
+
+      -- a limit of which something is left
+      first-lower : (l : Option ℕ) → l ≢ Some 0 → first_of l (e ∷ es) ≡ e ∷ first_of (option_map pred l) es
+      first-lower None some = refl
+      first-lower (Some zero) some = absurd (some refl)
+      first-lower (Some (suc n)) some = refl
+
+      pub printed-part : left ≢ Some 0 → (new : Option (List ℕ)) → TookFront taken new (entry_text style before e.day e.entry) →
+          TookFront told new (days_text style (first_of limit all))
+      printed-part some new f =
+          written-part (days_text_after style (Some e.day) (first_of (option_map pred left) es)) (rw (gives, first-lower left some) at written) f
 
       module _ (lower : Option ℕ) (lower-is : left ≡ option_map (λ n. n + 1) lower) where
-        first-lower : (l : Option ℕ) → first_of (option_map (λ n. n + 1) l) (e ∷ es) ≡ e ∷ first_of l es
-        first-lower None = refl
-        first-lower (Some n) = let more : n + 1 ≡ suc n = omega arith in ap (λ k. take k (e ∷ es)) more
-
-        next : days_text_after style before (first_of left coming) ≡ entry_text style before e.day e.entry
-            ++ days_text_after style (Some e.day) (first_of lower es)
-        next = rw (lower-is, gives, first-lower lower) refl
-
-        pub printed-part : (new : Option (List ℕ)) → TookFront taken new (entry_text style before e.day e.entry) →
-            TookFront told new (days_text style (first_of limit all))
-        printed-part new f =
-            written-part (days_text_after style (Some e.day) (first_of lower es)) (rw next at written) f
-
         left-lower : (l : Option ℕ) → option_map (λ n. length p.done + n) (option_map (λ n. n + 1) l) ≡ option_map (λ n. length (p.done ++ e ∷ []) + n) l
         left-lower None = refl
         left-lower (Some n) = ap Some (omega (arith, length-append p.done (e ∷ [])))
@@ -145,7 +129,4 @@ module _ {style : Style} {limit : Option ℕ} {all : List OnDay} {told : Option 
         }
           where
             text-is : days_text style p.done ++ entry_text style before e.day e.entry ≡ days_text style (p.done ++ e ∷ [])
-            text-is =
-                ap (λ b. days_text style p.done ++ b) (ap (λ d. entry_text style d e.day e.entry) p.day_is
-                ∙ sym (append-nil (entry_text style (last_day None p.done) e.day e.entry)))
-                ∙ sym (text-append style None p.done (e ∷ []))
+            text-is = rw (text-append style None p.done (e ∷ []), p.day_is, append-nil) refl

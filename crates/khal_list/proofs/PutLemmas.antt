@@ -34,9 +34,7 @@ cut-under style (Some n) list = ap (nat_lt n) (length-map list (under style))
 
 key-under : (style : Style) (limit : Option ℕ) (list : List Entry) → option_map (λ r. r.key) (day_key_on limit (map (under style) list)) ≡ key_on limit list
 key-under style limit list =
-    ap₂ (λ (cut : Bool) (all : List OnDay). option_map (λ r. r.key) (if cut then last_day_key all else None)) (cut-under style limit list)
-    (first-under style limit list)
-    ∙ chosen (is_cut limit list)
+    rw (cut-under style limit list, first-under style limit list) (chosen (is_cut limit list))
   where
     chosen : (cut : Bool) → option_map (λ r. r.key) (if cut then last_day_key (map (under style) (first_of limit list)) else None)
         ≡ (if cut then last_key (first_of limit list) else None)
@@ -67,15 +65,10 @@ drew-under style old new {rest = rest} {out = out} {out' = out'} is d = record {
   shown = entries d.shown;
   ahead = entries d.ahead;
   part = d.part;
-  given = given;
+  given = rw (← entries-under style new, ← is) (simp map-append at (ap entries d.given) ∙ entries-under style old);
   few = subst (λ n. n ≤ 1) (sym (length-map d.ahead (λ (p : OnDay). p.entry))) d.few;
   taken = subst (λ (l : List OnDay). Appends out out' (days_text style l ++ d.part)) (front-under style d.shown (d.ahead ++ rest) old d.given) d.taken;
 }
-  where
-    given : entries d.shown ++ (entries d.ahead ++ new) ≡ old
-    given =
-        ap (λ l. entries d.shown ++ (entries d.ahead ++ l)) (sym (ap entries is ∙ entries-under style new))
-        ∙ (simp map-append at (ap entries d.given) ∙ entries-under style old)
 
 -- what a fault leaves, and what the limit leaves
 module _ {request : Request} {coming : List OnDay → Type 0} {list rest : List OnDay} {out out' : Option (List ℕ)} (r : Result (Option DayKey) RunFault)
@@ -104,11 +97,8 @@ module _ (request : Request) (old new : List Entry) {out out' : Option (List ℕ
   text-once key p = subst (λ t. Appends out out' t) (text-under request old) p.text
 
   pub key-once : (key : Option DayKey) → PutsOnce request old new out out' (Ok key) → option_map (λ (k : DayKey). key_rank k.key) key ≡ key_on request.limit old
-  key-once key p = key-of key ∙ (ap (option_map (λ r. r.key)) p.key ∙ key-under (style_of request) request.limit old)
-    where
-      key-of : (key : Option DayKey) → option_map (λ (k : DayKey). key_rank k.key) key ≡ option_map (λ r. r.key) (option_map day_key_rank key)
-      key-of None = refl
-      key-of (Some k) = refl
+  key-once None p = ap (option_map (λ r. r.key)) p.key ∙ key-under (style_of request) request.limit old
+  key-once (Some key) p = ap (option_map (λ r. r.key)) p.key ∙ key-under (style_of request) request.limit old
 
   pub drew-once : (result : Result (Option DayKey) RunFault) → PutsOnce request old new out out' result → DrewAhead (text (style_of request)) old new out out'
   drew-once result p = drew-under (style_of request) old new p.to_come p.drew
