@@ -1,9 +1,7 @@
 pub mod AddedLemmas
-pub mod AnswerLemmas
 pub mod PageLemmas
 pub mod Printed
 pub mod PutLemmas
 pub mod RequestLemmas
 pub mod RunLemmas
 pub mod TokenPages
-pub mod WindowLemmas

@@ -1,5 +1,5 @@
 -- What a refusal of a token or of a format says of an answer to entries.
-use Rattle.std.proofs.Common.{◌≡◌, ◌⊎◌, inl, inr, ℤ, None, Some, Err, Option, Result, refl, sym, ap, ◌∙◌, subst}
+use Rattle.std.proofs.Common.{◌≡◌, ◌⊎◌, inl, inr, ℕ, ℤ, None, Some, Err, Option, Result, refl, sym, ap, ◌∙◌, subst, arith, get_or}
 use Rattle.std.specs.Prelude.{IsErrOf, IsSome}
 use Rattle.std.specs.Result.{IsErrAnd}
 use Rattle.std.proofs.lemmas.Result.{err_from_is_err_and}
@@ -7,8 +7,9 @@ use Rattle.clap.specs.Words.{Text}
 use Rattle.ics_zone.specs.DisplayTexts.{display_of, said_by}
 use Rattle.ics_zone.specs.JiffZones.{zone_of}
 use Rattle.ics_zone.specs.declared.display.Display.{Display}
-use Rattle.ics_series.specs.OnDays.{day_key_rank}
-use Rattle.ics_series.specs.Entry.{key_rank}
+use Rattle.ics_series.specs.OnDays.{day_key_rank, DayRank}
+use Rattle.ics_series.specs.Entry.{key_rank, Rank}
+use Rattle.ics_series.specs.Tokens.{day_spelling, spelling}
 use Rattle.ics_series.specs.declared.day_key.DayKey.{DayKey}
 use Rattle.ics_series.specs.declared.key.Key.{Key}
 use Rattle.ics_series.specs.declared.token.TokenFault.{TokenFault}
@@ -25,6 +26,10 @@ use Rattle.khal_words.specs.declared.format.FormatFault.TheVariants as format
 use Rattle.khal_list.specs.declared.request.Request.{Request}
 use Rattle.khal_list.specs.declared.request_fault.RequestFault.{RequestFault}
 use Rattle.khal_list.specs.declared.request_fault.RequestFault.TheVariants.{BadToken, BadFormat, Memory}
+
+-- no key's token is one of a key under a day
+pub no_both : (k : DayRank) (l : Rank) → day_spelling k ≡ spelling l → ⊥
+no_both k l h = let digits : ◌≡◌ {A = ℕ} 50 49 = ap (λ (text : Text). get_or text 1 0) h in absurd (omega arith)
 
 -- a text that gives a key is a token
 token_of : (given : Option Text) (key : Option Key) → IsKeyOf given key → IsNoKey given → ⊥

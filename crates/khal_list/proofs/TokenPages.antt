@@ -16,9 +16,9 @@ use Rattle.khal_words.specs.Entries.{entries_of}
 use Rattle.khal_list.specs.Pages.{DayGoesOn, DayTokenGoesOn, TextGoesOn, TextSplits, TokenGoesOn, last_day}
 use Rattle.khal_list.specs.RequestOf.{after_text, IsAfterBy, IsDayKeyOf, IsKeyOf}
 use Rattle.khal_list.specs.Text.{Style, day_under, days_text, heading_text, line_text, text, text_after, under}
-use Rattle.khal_list.proofs.AnswerLemmas.{no_both}
 use Rattle.khal_list.proofs.PageLemmas.{goes-on}
 use Rattle.khal_list.proofs.Printed.{text-append}
+use Rattle.khal_list.proofs.RequestLemmas.{no_both}
 use Rattle.khal_list.proofs.Printed as Printed
 
 -- the key that the words name is that of the token
@@ -56,8 +56,7 @@ last-under style before (e ∷ es) = last-under style (Some (day_under style e))
 
 pub text-splits : TextSplits
 text-splits style front rest =
-    ap (days_text style) (map-append (under style) front rest) ∙ text-append style None (map (under style) front) (map (under style) rest)
-    ∙ ap (λ day. text style front ++ text_after style day rest) (last-under style None front)
+    rw (map-append (under style) front rest, text-append style None (map (under style) front) (map (under style) rest), last-under style None front) refl
 
 pub text-goes-on : TextGoesOn
 text-goes-on style e es =
