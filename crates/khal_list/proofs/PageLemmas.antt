@@ -2,7 +2,7 @@
 use Rattle.std.proofs.Common.{◌≡◌, ℕ, ◌≤◌, ◌<◌, List, [], ◌∷◌, ◌++◌, Option, Some, None, Bool, true, false, cond, length, take, drop, refl, sym, ◌∙◌, ap}
 use Rattle.std.proofs.Common.{subst, arith, append_assoc, nat_lt}
 use Rattle.std.specs.Option.{option_map}
-use Rattle.std.specs.Ordering.{is_lt, ordering_reverse}
+use Rattle.std.specs.Ordering.{ordering_reverse}
 use Rattle.std.proofs.lemmas.Bool.{ltb-false, ltb-true}
 use Rattle.std.proofs.lemmas.Cmp.{tied_itself}
 use Rattle.std.proofs.lemmas.List.{take_all, take-append-drop, length-drop, length-take-le}
@@ -20,8 +20,7 @@ use Rattle.khal_list.specs.Pages.{joined, total, ArePositive}
 -- of what comes after an entry all has a greater key
 keeps-later : (o : Entry) (ys : List Entry) → IsBefore entry_cmp o ys → after_key (Some (rank_of o)) ys ≡ ys
 keeps-later o [] h = refl
-keeps-later o (y ∷ ys) h =
-    ap (λ c. cond (is_lt c) (y ∷ after_key (Some (rank_of o)) ys) (after_key (Some (rank_of o)) ys)) h.0 ∙ ap (λ l. y ∷ l) (keeps-later o ys h.1)
+keeps-later o (y ∷ ys) h = rw h.0 (ap (λ l. y ∷ l) (keeps-later o ys h.1))
 
 before-later : (x o : Entry) (xs ys : List Entry) → IsBefore entry_cmp x (xs ++ o ∷ ys) → entry_cmp x o ≡ Less
 before-later x o [] ys h = h.0

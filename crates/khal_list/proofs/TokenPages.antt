@@ -15,7 +15,7 @@ use Rattle.ics_series.specs.declared.key.Key.{Key}
 use Rattle.khal_words.specs.Entries.{entries_of}
 use Rattle.khal_list.specs.Pages.{DayGoesOn, DayTokenGoesOn, TextGoesOn, TextSplits, TokenGoesOn, last_day}
 use Rattle.khal_list.specs.RequestOf.{after_text, IsAfterBy, IsDayKeyOf, IsKeyOf}
-use Rattle.khal_list.specs.Text.{Style, day_under, days_text, heading_text, line_text, text, text_after, under}
+use Rattle.khal_list.specs.Text.{Style, day_under, heading_text, line_text, text, text_after, under}
 use Rattle.khal_list.proofs.PageLemmas.{goes-on}
 use Rattle.khal_list.proofs.Printed.{text-append}
 use Rattle.khal_list.proofs.RequestLemmas.{no_both}

@@ -1,5 +1,5 @@
 use Rattle.std.proofs.Common.{◌≡◌, ◌⊎◌, inl, inr, ℕ, ℤ, pos, Bool, true≢false, List, Some, None, Ok, Err, Result, Option}
-use Rattle.std.proofs.Common.{◌&&◌, ◌+ℤ◌, option_and_then, if◌then◌else◌, arith, refl, sym, ◌∙◌, ap, subst, get_or}
+use Rattle.std.proofs.Common.{◌&&◌, ◌+ℤ◌, option_and_then, if◌then◌else◌, refl, sym, ◌∙◌, ap, subst}
 use Rattle.std.proofs.lemmas.Bool.Decides.{same_from_decides}
 use Rattle.std.specs.Prelude.{int_le, int_lt, option_map, unwrap_or, IsSome}
 use Rattle.clap.specs.Words.{Text, IsAmong}
@@ -7,10 +7,9 @@ use Rattle.ics_zone.specs.DisplayTexts.{display_of, said_by}
 use Rattle.ics_zone.specs.Displays.{offset_of, moment_of}
 use Rattle.ics_zone.specs.JiffZones.{zone_of, zone_by}
 use Rattle.ics_zone.specs.declared.display.Display.{Display}
-use Rattle.ics_zone.specs.declared.display.Kind.{Kind}
 use Rattle.ics_zone.specs.declared.display.Kind.TheVariants.{Fixed, Posix}
 use Rattle.ics_series.specs.OnDays.{day_key_rank, DayRank}
-use Rattle.ics_series.specs.Tokens.{day_spelling, OneDaySpelling, spelling, OneSpelling}
+use Rattle.ics_series.specs.Tokens.{OneDaySpelling, OneSpelling}
 use Rattle.ics_series.specs.Entry.{key_rank, Rank}
 use Rattle.ics_series.specs.declared.day_key.DayKey.{DayKey}
 use Rattle.ics_series.specs.declared.window.Window.{Window}
@@ -22,7 +21,7 @@ use Rattle.khal_words.specs.Limits.{IsLimitOf}
 use Rattle.khal_list.specs.RequestOf.{RequestOf, IsAfterBy, IsDayKeyBy, IsDayKeyOf, IsRequest, IsBadWindow, IsKeyOf, HasWindow, IsNoToken}
 use Rattle.khal_list.specs.RequestOf.{after_text, day_from, zone_text}
 use Rattle.khal_words.specs.WindowTexts.{named}
-use Rattle.khal_list.specs.Windows.{between, end_named, ends_of, first_start, last_end, midnight_before, moment_named, second_at, start_said}
+use Rattle.khal_list.specs.Windows.{end_named, ends_of, first_start, last_end, midnight_before, moment_named, start_said}
 use Rattle.khal_list.specs.declared.every_day.EveryDay.{EveryDay}
 use Rattle.khal_list.specs.declared.request.Request.{Request}
 use Rattle.khal_list.specs.declared.request_fault.RequestFault.{RequestFault}
@@ -133,7 +132,8 @@ module _ (one : Readings) (words : List Text) (now : ℤ) where
   no_window : HasWindow entries now → IsBadWindow entries now → ⊥
   no_window has bad =
       let zone = has.zone ∙ sym bad.zone in
-      let same = same_ends has.display bad.display now (λ t. one.offset has.display bad.display t zone) (λ l. one.moment has.display bad.display l zone) (span_of entries) in
+      let offset = λ (t : ℤ). one.offset has.display bad.display t zone in
+      let same = same_ends has.display bad.display now offset (λ l. one.moment has.display bad.display l zone) (span_of entries) in
       let some : IsSome {T = ℤ × ℤ} None = subst IsSome (same ∙ bad.none) has.some in
       absurd (true≢false (sym some))
 
