@@ -1,14 +1,14 @@
 -- Each row of an argument in a walk in which nothing fails holds values that this argument takes.
-use Rattle.std.proofs.Common.{◌≡◌, ◌∙◌, ◌&&◌, ◌++◌, ℕ, zero, suc, Bool, cond, true, false, List, [], ◌∷◌, length}
-use Rattle.std.proofs.Common.{drop, Option, Some, None, is_some, refl, sym, ap, IfSome, find, fold, option_and_then, slice_get, option_map, encode_utf8, chars, bytes_eq}
+use Rattle.std.proofs.Common.{◌≡◌, ◌∙◌, ◌&&◌, ◌++◌, ℕ, zero, suc, Bool, cond, true, false, List, [], ◌∷◌, length, encode_utf8}
+use Rattle.std.proofs.Common.{drop, Option, Some, None, is_some, refl, sym, ap, IfSome, find, fold, option_and_then, slice_get, option_map, chars, bytes_eq}
 use Rattle.std.specs.List.{AllByRecursion, list_all}
 use Rattle.std.specs.Option.{option_map_or}
 use Rattle.std.proofs.lemmas.Bool.{and_from, cond_both, true≢false}
 use Rattle.std.proofs.lemmas.List.Folds.{list_all-append}
 use Rattle.std.proofs.lemmas.Slice.Eq.{bytes_eq-Decides}
 use Rattle.clap.specs.Faults.{action_fault, bundle_fault, bundle_step_fault, entered_fault, fault_of, flag_word_fault, flags_fault, level_fault, long_fault}
-use Rattle.clap.specs.Faults.{option_fault, other_fault, positional_fault, react_fault, repeat_fault, set_fault, settle_fault, short_fault, step_fault, stray_fault}
-use Rattle.clap.specs.Faults.{turn_fault, use_fault, values_fault, walk_fault, word_fault}
+use Rattle.clap.specs.Faults.{option_fault, other_fault, positional_fault, react_fault, repeat_fault, set_fault, settle_fault, short_fault, step_fault}
+use Rattle.clap.specs.Faults.{stray_fault, turn_fault, use_fault, values_fault, walk_fault, word_fault}
 use Rattle.clap.specs.Facts.{parser_of_value}
 use Rattle.clap.specs.Kinds.{Kinds, or_else, values_kinds}
 use Rattle.clap.specs.Lexer.{long_of, short_of}
@@ -99,13 +99,15 @@ module _ (id : Text) (parser : ValueParser) where
     uses : (again : Bool) (texts : List Text) (rows : List Row) → KeepsRows (use_fault again a texts rows) rows (used a texts rows)
     uses again texts rows none = acts (action_of a) (values_or_missing a texts) fits.0 (both_none _ _ none).1
       where
-        puts : (given : List Text) (old : List Row) → AreChecked old → values_fault a given ≡ [] → AreChecked (with_values a.id (reading_by a) CommandLine given old)
+        puts : (given : List Text) (old : List Row) → AreChecked old → values_fault a given ≡ [] →
+            AreChecked (with_values a.id (reading_by a) CommandLine given old)
         puts given old h none = added CommandLine given old (λ same. let takes = must_take same in all_pass given (rw (takes.0, takes.1) at none)) h
 
         sets : (given : List Text) → KeepsRows (set_fault again a given rows) rows (with_values a.id (reading_by a) CommandLine given (without a.id rows))
         sets given none h = puts given (without a.id rows) (removed a.id rows h) (both_none (repeat_fault again a.id rows) (values_fault a given) none).1
 
-        acts : (x : ArgAction) (given : List Text) → is_count x ≡ false → KeepsRows (action_fault x again a given rows) rows (used_as x a.id (reading_by a) given rows)
+        acts : (x : ArgAction) (given : List Text) → is_count x ≡ false →
+            KeepsRows (action_fault x again a given rows) rows (used_as x a.id (reading_by a) given rows)
         acts Set given t = sets given
         acts SetTrue given t = sets given
         acts SetFalse given t = sets given
@@ -161,14 +163,16 @@ module _ (id : Text) (parser : ValueParser) where
 
     -- that of a bundle of flags
     abbrev TakesBundle : ℕ → Type 0
-    TakesBundle k = (flags : Text) (skip : ℕ) (so_far : Outcome) (h : Held) → Keeps (flags_fault c again k flags skip h) h (bundle_met c k flags skip so_far h).0
+    TakesBundle k = (flags : Text) (skip : ℕ) (so_far : Outcome) (h : Held) →
+        Keeps (flags_fault c again k flags skip h) h (bundle_met c k flags skip so_far h).0
 
     takes_bundle : (k : ℕ) → TakesBundle k
     unfolding bundle_met flags_fault
     takes_bundle zero flags skip so_far h = λ _ h. h
     takes_bundle (suc k) flags skip so_far h = go (takes_bundle k) (slice_get (chars flags) 0) skip
       where
-        short : TakesBundle k → (rest : Text) (o : Option Rule) → IfSome o Fits → Keeps (short_fault c again o rest h (flags_fault c again k rest 0)) h (short_met c o rest h (bundle_met c k rest 0 done)).0
+        short : TakesBundle k → (rest : Text) (o : Option Rule) → IfSome o Fits →
+            Keeps (short_fault c again o rest h (flags_fault c again k rest 0)) h (short_met c o rest h (bundle_met c k rest 0 done)).0
         short more rest None fits = λ _ h. h
         short more rest (Some a) fits =
             either_way h (λ (p : Held × Outcome). p.0) (takes_values a) _ _ (
@@ -177,7 +181,8 @@ module _ (id : Text) (parser : ValueParser) where
                   let none = both_none _ _ none in more rest 0 done (reacted c a [] h) none.1 (reacts a fits [] h none.0 rows),
             )
 
-        go : TakesBundle k → (o : Option ℕ) (n : ℕ) → Keeps (bundle_step_fault c again o flags n h (flags_fault c again k)) h (bundle_step c o flags n so_far h (bundle_met c k)).0
+        go : TakesBundle k → (o : Option ℕ) (n : ℕ) →
+            Keeps (bundle_step_fault c again o flags n h (flags_fault c again k)) h (bundle_step c o flags n so_far h (bundle_met c k)).0
         go more None n = λ _ h. h
         go more (Some x) zero = short more (drop (length (encode_utf8 x)) flags) (arg_by_short c x) (found Fits _ c all)
         go more (Some x) (suc n) = more (drop (length (encode_utf8 x)) flags) n so_far h
@@ -195,12 +200,14 @@ module _ (id : Text) (parser : ValueParser) where
 
   module _ (s : Shape) (names : Names) (all : AllFit s.rules) where
     module _ (waiting : Waiting) (word : Text) (h : Held) where
-      takes_flags : (o : Option (Text × Option Text)) → Keeps (flag_word_fault s.rules s.args_override_self o word h) h (long_or_other s.rules waiting word o h).0
-      takes_flags (Some p) = λ none rows.
-          stays_after s.rules waiting word _ _ (takes_long s.rules s.args_override_self all (arg_by_long s.rules p.0) p.1 h (found Fits _ s.rules all) none rows)
+      takes_flags : (o : Option (Text × Option Text)) →
+          Keeps (flag_word_fault s.rules s.args_override_self o word h) h (long_or_other s.rules waiting word o h).0
+      takes_flags (Some p) = λ none rows. stays_after s.rules waiting word _ _
+          (takes_long s.rules s.args_override_self all (arg_by_long s.rules p.0) p.1 h (found Fits _ s.rules all) none rows)
       takes_flags None = go (short_of word)
         where
-          go : (o : Option Text) → Keeps (option_map_or (λ flags. bundle_fault s.rules s.args_override_self flags h) o []) h (short_or_plain s.rules waiting word o h).0
+          go : (o : Option Text) →
+              Keeps (option_map_or (λ flags. bundle_fault s.rules s.args_override_self flags h) o []) h (short_or_plain s.rules waiting word o h).0
           go None = λ none. stays s.rules waiting word h
           go (Some flags) = λ none rows. stays_after s.rules waiting word _ _
               (takes_bundle s.rules s.args_override_self all (length flags) flags h.skip plain (record h { skip = 0 }) none rows)
@@ -210,7 +217,8 @@ module _ (id : Text) (parser : ValueParser) where
       takes_other position None =
           either_way h (λ (p : Held × Step). p.0) (bytes_eq word (45 ∷ 45 ∷ [])) _ _ (λ _ rows. rows, takes_flags (long_of word))
 
-      takes_word : (position : ℕ) (is_trailing : Bool) → Keeps (word_fault s names is_trailing waiting word h) h (word_met s.rules names is_trailing waiting position word h).0
+      takes_word : (position : ℕ) (is_trailing : Bool) →
+          Keeps (word_fault s names is_trailing waiting word h) h (word_met s.rules names is_trailing waiting position word h).0
       takes_word position true = λ _ h. h
       takes_word position false = takes_other position (subcommand_met names waiting word)
 
@@ -218,7 +226,8 @@ module _ (id : Text) (parser : ValueParser) where
       takes_step : (h : Held) (step : Step) → Keeps (step_fault s w.position h step) h (after_step s.rules word w h step).held
       takes_step h value = go (arg_by_index s.rules w.position)
         where
-          go : (o : Option Rule) → Keeps (option_map_or (λ a. positional_fault s.rules s.args_override_self a h) o (stray_fault s)) h (to_positional s.rules o word w h).held
+          go : (o : Option Rule) →
+              Keeps (option_map_or (λ a. positional_fault s.rules s.args_override_self a h) o (stray_fault s)) h (to_positional s.rules o word w h).held
           go None = λ _ h. h
           go (Some a) = either_way h (λ (k : Held). k) (is_pending a h.pending && takes_several a) _ _
               (λ _ rows. rows, settles s.rules s.args_override_self all h.pending h.rows)
@@ -270,8 +279,8 @@ module _ (id : Text) (parser : ValueParser) where
   pub reads : (a : App) (words : List Text) → AllByRecursion (λ s. AllFit s.rules) (built a).subs → fault_of a words ≡ [] → ReadsIn (subcommand_of a words)
   reads a words all none = enters _ (both_none _ _ (both_none _ _ none).1).0
     where
-      go : (words : List Text) (o : Option Shape) → IfSome o (λ s. AllFit s.rules) → option_map_or (λ s. level_fault s [] nothing_held words false []) o [] ≡ [] →
-          ReadsIn (option_map (λ s. rows_at s words) o)
+      go : (words : List Text) (o : Option Shape) → IfSome o (λ s. AllFit s.rules) →
+          option_map_or (λ s. level_fault s [] nothing_held words false []) o [] ≡ [] → ReadsIn (option_map (λ s. rows_at s words) o)
       go words None fits none = (tt, refl)
       go words (Some s) fits none =
           let end = (walk s.rules [] nothing_held words).held in

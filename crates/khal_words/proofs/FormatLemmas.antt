@@ -1,6 +1,6 @@
 -- A text is that of pieces in one way.
-use Rattle.std.proofs.Common.{◌≡◌, ℕ, ◌+◌, ◌-◌, ◌<◌, Bool, true, false, Some, List, [], ◌∷◌, ◌++◌, length, take, drop, get_or, if◌then◌else◌, refl, sym, ap, ap₂}
-use Rattle.std.proofs.Common.{◌∙◌, append_assoc, append-nil, add-one, arith, length-append, length-drop}
+use Rattle.std.proofs.Common.{◌≡◌, ℕ, ◌+◌, ◌-◌, ◌<◌, Bool, true, false, Some, List, [], ◌∷◌, ◌++◌, length, take, drop, get_or, if◌then◌else◌, refl, sym, ap}
+use Rattle.std.proofs.Common.{ap₂, ◌∙◌, append_assoc, append-nil, add-one, arith, length-append, length-drop}
 use Rattle.std.proofs.Math.Seq.{drop-append_seam, drop-cons, take-append_seam}
 use Rattle.std.proofs.lemmas.Bool.{and_parts, cond_both, or_parts, not-true, both_ways, eqb-true, lt-ltb}
 use Rattle.std.proofs.lemmas.List.{take_all, take-append-drop}

@@ -17,7 +17,8 @@ one_name : {F : Type 0} (name : F → List ℕ) (of : List ℕ → F) → ((f : 
 one_name name of back f g e = sym (back f) ∙ ap of e ∙ back g
 
 abbrev entry_fields : List EntryField
-entry_fields = entry.Cell ∷ entry.Title ∷ entry.StartTime ∷ entry.EndTime ∷ entry.StartDate ∷ entry.EndDate ∷ entry.Location ∷ entry.Description ∷ entry.Uid ∷ []
+entry_fields =
+    entry.Cell ∷ entry.Title ∷ entry.StartTime ∷ entry.EndTime ∷ entry.StartDate ∷ entry.EndDate ∷ entry.Location ∷ entry.Description ∷ entry.Uid ∷ []
 
 entry_back : (field : EntryField) → named entry_name entry_fields entry.Cancelled (entry_name field) ≡ field
 entry_back entry.Cell = refl

@@ -1,15 +1,18 @@
-use Rattle.std.proofs.Common.{◌≡◌, true, rules, List, [], Ok, Err, Result, refl, IfOk, codes, sym, subst}
+use Rattle.std.proofs.Common.{◌≡◌, ◌∙◌, true, rules, List, [], Ok, Err, Result, refl, IfOk, codes, sym, subst}
+use Rattle.std.proofs.lemmas.Iterator.Adapters.{option_map_id}
 use Rattle.std.proofs.lemmas.Result.{IfOk-weaker}
 use Rattle.clap.specs.Words.{App, Text, HasMatchesOf, FailsBy, fault_of, is_simple_and_free, subcommand_of, subcommand_rows_of}
 use Rattle.clap.specs.declared.builder.value_parser.ValueParser.TheVariants as vp
 use Rattle.clap.specs.declared.error.Error.{Error}
 use Rattle.clap.specs.declared.parser.matches.ArgMatches.{ArgMatches}
 use Rattle.khal_words.specs.Commands.{khal_app}
-use Rattle.khal_words.specs.Entries.{AreTested}
-use Rattle.khal_words.proofs.CheckedRows.{reads}
-use Rattle.khal_words.proofs.FlagLemmas.{flag_of}
+use Rattle.khal_words.specs.Entries.{AreTested, Entries, IsFlag}
+use Rattle.khal_words.proofs.CheckedRows.{ReadsIn, reads}
 use Rattle.khal_words.proofs.LimitLemmas.{has_limit, limit_range}
 use Rattle.khal_words.proofs.words.matches.Goals as goal
+
+flag_of : (id : Text) (entries : Entries) → ReadsIn id vp.Bool entries → IsFlag id entries
+flag_of id entries reads = record { read = reads.1 ∙ option_map_id _; text = λ text e. rw e at reads.0 }
 
 -- the entries of words that clap takes are tested
 tested : (words : List Text) → fault_of khal_app words ≡ [] → AreTested (subcommand_of khal_app words)
