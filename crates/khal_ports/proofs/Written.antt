@@ -3,8 +3,7 @@ use Rattle.std.proofs.Common.{◌≡◌, ◌+◌, ℕ, List, [], ◌++◌, Optio
 use Rattle.std.proofs.Common.{append_assoc, append-nil, length-append}
 use Rattle.std.specs.Prelude.{OnErr}
 use Rattle.std.specs.Io.KnownBytes.{Appends}
-use Rattle.std.proofs.lemmas.List.{take-append-drop, take_at, drop-take}
-use Rattle.std.proofs.lemmas.Grind.{common_steps}
+use Rattle.std.proofs.lemmas.List.{take-append-drop, take_at}
 use Rattle.khal_ports.specs.Growth.{TookFront}
 
 pub on_err : {T E : Type 0} {P : Type 0} (result : Result T E) → P → OnErr result P
@@ -21,12 +20,6 @@ pub record Written (told new : Option (List ℕ)) (rest whole : List ℕ) : Type
 pub appends-none : (told : Option (List ℕ)) → Appends told told []
 appends-none None = tt
 appends-none (Some bytes) = sym (append-nil bytes)
-
--- the next n bytes after the first d
-pub take-more : (d n : ℕ) (xs : List ℕ) → take d xs ++ take n (drop d xs) ≡ take (d + n) xs
-take-more d n xs =
-    let same : take d (take (d + n) xs) ≡ take d xs = grind (arith, common_steps) in
-    rw (← drop-take d n xs, ← same) (take-append-drop d (take (d + n) xs))
 
 -- two texts after one another are one
 pub appends-both : (told middle new : Option (List ℕ)) (first second : List ℕ) → Appends told middle first × Appends middle new second →
@@ -54,6 +47,5 @@ written-part {told = told} {middle = middle} {new = new} {piece = piece} rest w 
     written-front {rest = left ++ rest} (record {
       done = w.done ++ front;
       taken = appends-both told middle new w.done front (w.taken, f.taken);
-      whole_is = append_assoc w.done front (left ++ rest) ∙ (ap (λ t. w.done ++ t) (sym (append_assoc front left rest)
-          ∙ ap (λ p. p ++ rest) (take-append-drop f.count piece)) ∙ w.whole_is);
+      whole_is = rw (append_assoc, ← append_assoc front left rest, take-append-drop) w.whole_is;
     })

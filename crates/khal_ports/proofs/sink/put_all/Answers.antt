@@ -1,7 +1,8 @@
-use Rattle.std.proofs.Common.{◌≡◌, ◌≤◌, ◌-◌, ℕ, List, length, take, drop, arith, length-drop}
+use Rattle.std.proofs.Common.{◌≡◌, ◌≤◌, ◌-◌, ℕ, List, length, take, drop, sym, arith, length-drop}
 use Rattle.std.specs.Io.KnownBytes.{Appends}
 use Rattle.std.proofs.lemmas.Grind.{common_steps}
-use Rattle.khal_ports.proofs.Written.{appends-both, appends-same, take-more}
+use Rattle.std.proofs.Math.Seq.{take-add}
+use Rattle.khal_ports.proofs.Written.{appends-both, appends-same}
 use Rattle.khal_ports.proofs.sink.put_all.Goals as goal
 
 pub loop-done-preserved : goal.loop-done-preserved
@@ -17,5 +18,5 @@ loop-done-preserved g c =
     let took : Appends told new (take n (drop d xs)) = rw whole at c.in-Ok.ensures.took in
     record {
       within = omega (arith, length-drop d xs);
-      taken = appends-same first new (take-more d n xs) (appends-both first told new (take d xs) (take n (drop d xs)) (c.loop-done.invariant.taken, took));
+      taken = appends-same first new (sym (take-add d n xs)) (appends-both first told new (take d xs) (take n (drop d xs)) (c.loop-done.invariant.taken, took));
     }
