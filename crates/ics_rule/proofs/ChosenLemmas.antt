@@ -93,7 +93,8 @@ module _ {q : EffectiveRule} (start : ℕ) {p : RecurrencePeriod} {number : ℕ}
   taken_within n =
       apart (period_in q n == number) (is_chosen q start n)
       (λ e. let here = eqb-true (period_in q n) number e in
-      taken_placed q.positions (lists_none_wide q.positions) p n ∙ sym (placed_is q start n (holds p) (λ m l. beside_let_in q start n m step here ∙ sym (holds_is m))
+      taken_placed q.positions (lists_none_wide q.positions) p n
+      ∙ sym (placed_is q start n (holds p) (λ m l. beside_let_in q start n m step here ∙ sym (holds_is m))
       (let_in q start number n step here ∙ sym (holds_is n)) (lists_none_wide q.positions)))
       (λ e. taken_out q.positions (lists_none_wide q.positions) p n (holds_is n ∙ ap (λ x. x && (lets_date q (day_of n) && lets_clock q n)) e))
     where

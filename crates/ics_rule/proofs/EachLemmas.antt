@@ -136,7 +136,8 @@ module _ (q : EffectiveRule) (start : ℕ) (fine : 0 < seconds_of q.frequency) (
       by_step : (s : Bool) → is_stepped (period_in q start) q.interval p ≡ s
           → chosen_to q start (suc p) ≡ chosen_to q start p + cond (s && lets_some p) 1 0 * chosen_in_open q
       by_step true step = period_adds q start p u (spans p) step (rw (first_at q.frequency (monday_zero q.week_start) p fine unit) (omega (arith, top)))
-          ∙ ap (λ n. chosen_to q start p + n) (ap (chosen_of_size q (lists_none_wide q.positions)) (size_at p) ∙ sized (lets_some p) (lists_none_wide q.positions))
+          ∙ ap (λ n. chosen_to q start p + n) (ap (chosen_of_size q (lists_none_wide q.positions)) (size_at p)
+          ∙ sized (lets_some p) (lists_none_wide q.positions))
       by_step false out = none_adds q start p u (spans p) out ∙ omega arith
 
   pub total_open : (p : ℕ) → p * u ≤ calendar_end → chosen_to q start p ≡ count p is_open * chosen_in_open q

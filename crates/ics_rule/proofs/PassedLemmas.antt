@@ -34,7 +34,8 @@ pub counting_passed : {q : EffectiveRule} {start c number : ℕ} {before now : C
     number ≤ period_in q before.place → before.place < calendar_end → IsPassedTo q start c before now
 counting_passed {q = q} {number = number} {before = before} {now = now} counting h inside = record {
   own = own_moved {n = now.place} now.place counting.walk.moved
-      (let held = counting.walk.held in let place = counting.walk.moved.place in grind arith) (omega arith) counting.walk.counted (omega (arith, counting.walk.moved.place, inside));
+      (let held = counting.walk.held in let place = counting.walk.moved.place in grind arith) (omega arith)
+      counting.walk.counted (omega (arith, counting.walk.moved.place, inside));
   moved = counting.walk.moved;
 }
 

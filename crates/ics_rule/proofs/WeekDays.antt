@@ -91,7 +91,8 @@ week_near q {first = first} {len = len} {fourth = fourth} k is inside h =
         | inr past ↦ inr (inl (omega (arith, past, late, small)))
         | inl there ↦
             let next = days_before_year-next (year_of first) in
-            let year : year_of f ≡ year_of first = year_of_is f (year_of first) (omega (arith, late, is.start)) (omega (arith, there, next, is.start, is.size)) in
+            let year : year_of f ≡ year_of first =
+            year_of_is f (year_of first) (omega (arith, late, is.start)) (omega (arith, there, next, is.start, is.size)) in
             let h' = subst (λ x. lets_place q.weeks (week_number x) (weeks_of_year x) ≡ true) (fourth_late w (first + k) (omega (arith, late))) h in
             let bounds = days_in_year_bounds (pos (year_of first)) in
             let aligned : (f - first) % 7 ≡ fourth = omega (arith, late, is.place, small) in

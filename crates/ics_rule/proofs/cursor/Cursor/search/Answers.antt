@@ -8,7 +8,8 @@ returns-then-stop-place-clause-own c = own_at c.max-self.result
 
 pub returns-then-n-stop-clause-own : goal.returns-then-n-stop-clause-own
 returns-then-n-stop-clause-own c = let walked = c.in-Some.ensures.walked in
-    own_moved {n = c.in-Some.n} (c.in-Some.n + 1) walked.moved walked.found.0 (omega arith) walked.counted (omega (arith, c.requires.end, c.requires.stop, c.if-n-stop.true))
+    own_moved {n = c.in-Some.n} (c.in-Some.n + 1) walked.moved walked.found.0 (omega arith) walked.counted
+    (omega (arith, c.requires.end, c.requires.stop, c.if-n-stop.true))
 
 pub returns-clause-own : goal.returns-clause-own
 returns-clause-own c = let walked = c.walk.ensures.walked in
