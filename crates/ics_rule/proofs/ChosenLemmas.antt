@@ -1,6 +1,6 @@
 -- What a rule chooses within a period is what the product that holds the period takes.
 use Rattle.std.proofs.Common.{◌≡◌, ℕ, suc, ◌+◌, ◌-◌, ◌<◌, max, Bool, true, false, ◌&&◌, ◌||◌, ◌==◌, refl, sym, ap, ◌∙◌, arith}
-use Rattle.std.proofs.lemmas.Bool.{and_right, eq-eqb, eqb-true}
+use Rattle.std.proofs.lemmas.Bool.{eq-eqb, eqb-true}
 use Rattle.ics_fields.specs.declared.ordinals.WideOrdinals.{WideOrdinals}
 use Rattle.ics_fields.specs.Ordinals.{lists_none_wide}
 use Rattle.ics_rule.specs.declared.effective_rule.EffectiveRule.{EffectiveRule}
@@ -14,7 +14,7 @@ use Rattle.ics_rule.specs.ByTable.{is_nth}
 use Rattle.ics_rule.proofs.Counts.{count-same, count-suc, count_one}
 use Rattle.ics_fields.specs.Locals.{calendar_end}
 use Rattle.ics_rule.proofs.RankLemmas.{rank_listed, placed_of}
-use Rattle.ics_rule.proofs.Tests.{and_assoc, keep_true, swapped}
+use Rattle.ics_rule.proofs.Tests.{keep_true, swapped}
 
 -- outside of the steps nothing is chosen
 pub no_step : (q : EffectiveRule) (start n : ℕ) → is_stepped (period_in q start) q.interval (period_in q n) ≡ false → is_chosen q start n ≡ false
@@ -23,12 +23,10 @@ no_step q start n e = ap (λ x. x && lets_date q (day_of n) && lets_clock q n &&
 -- nor is what a rule leaves out in a step
 pub not_let_in : (q : EffectiveRule) (start n : ℕ) →
     (is_stepped (period_in q start) q.interval (period_in q n) ≡ true → (lets_date q (day_of n) && lets_clock q n) ≡ false) → is_chosen q start n ≡ false
-not_let_in q start n none = by_step (is_stepped (period_in q start) q.interval (period_in q n)) refl
+not_let_in q start n none = left (is_stepped (period_in q start) q.interval (period_in q n)) (lets_date q (day_of n)) (lets_clock q n) _ none
   where
-    by_step : (b : Bool) → is_stepped (period_in q start) q.interval (period_in q n) ≡ b → is_chosen q start n ≡ false
-    by_step true e = ap (λ x. x && is_placed q start (lists_none_wide q.positions) n)
-        (and_assoc (is_stepped (period_in q start) q.interval (period_in q n)) (lets_date q (day_of n)) (lets_clock q n) ∙ and_right _ _ (none e))
-    by_step false e = no_step q start n e
+    left : (s a b p : Bool) → (s ≡ true → (a && b) ≡ false) → (s && a && b && p) ≡ false
+    left s a b p h = grind arith
 
 -- the candidates of a period that lies a multiple of the interval from the start's are what the rule lets in there
 pub let_in : (q : EffectiveRule) (start number n : ℕ) → is_stepped (period_in q start) q.interval number ≡ true → period_in q n ≡ number →

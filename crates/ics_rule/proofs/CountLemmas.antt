@@ -26,8 +26,7 @@ step_low q start number step = grind (arith, nat_tests, period_mono, stepped_par
 
 -- before the start's period nothing is chosen
 pub none_before_first : (q : EffectiveRule) (start : ℕ) → count (first_local q.frequency (monday_zero q.week_start) (period_in q start)) (is_chosen q start) ≡ 0
-none_before_first q start = count-none (first_local q.frequency (monday_zero q.week_start) (period_in q start)) (is_chosen q start)
-    (λ m l. grind (arith, nat_tests, begun, no_step, stepped_parts))
+none_before_first q start = count-none _ (is_chosen q start) (λ m l. grind (arith, nat_tests, begun, no_step, stepped_parts))
 
 -- a later period begins later
 pub first_mono : (q : EffectiveRule) (a b : ℕ) → period_in q 0 ≤ b → a ≤ b →

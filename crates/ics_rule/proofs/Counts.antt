@@ -52,13 +52,17 @@ count-all false n q = count-none n (λ k. false) (λ m l. refl) ∙ omega arith
 one_more : (d b : ℕ) (p : ℕ → Bool) → count (suc d * b) p ≡ count (d * b) p + count b (λ k. p (d * b + k))
 one_more d b p = let e : suc d * b ≡ d * b + b = omega arith in rw e (count-add (d * b) b p)
 
--- a test of the part / b and of the part % b is counted as a product
+-- a test of the part / b and of the part % b is counted as a product, and so are the first t of block d
+pub count-block : (d b t : ℕ) (p q : ℕ → Bool) → t ≤ b → count t (λ k. p ((d * b + k) / b) && q ((d * b + k) % b)) ≡ cond (p d) 1 0 * count t q
+count-block d b t p q h =
+    count-same t (λ k. p ((d * b + k) / b) && q ((d * b + k) % b)) (λ k. p d && q k)
+    (λ k l. rw (div-mul-add d b k (omega arith), mod-mul-add d b k (omega arith)) refl) ∙ count-all (p d) t q
+
 pub count-product : (d b : ℕ) (p q : ℕ → Bool) → count (d * b) (λ m. p (m / b) && q (m % b)) ≡ count d p * count b q
 count-product zero b p q = let e : 0 * b ≡ 0 = omega arith in rw e (unfold count in omega arith)
 count-product (suc d) b p q =
-    let block = count-same b (λ k. p ((d * b + k) / b) && q ((d * b + k) % b)) (λ k. p d && q k)
-    (λ k l. ap (λ x. p x && q ((d * b + k) % b)) (div-mul-add d b k l) ∙ ap (λ x. p d && q x) (mod-mul-add d b k l)) in
-    omega (arith, one_more d b (λ m. p (m / b) && q (m % b)), count-product d b p q, block, count-all (p d) b q, ap (λ x. x * count b q) (count-suc d p))
+    let block = count-block d b b p q (omega arith) in
+    omega (arith, one_more d b (λ m. p (m / b) && q (m % b)), count-product d b p q, block, ap (λ x. x * count b q) (count-suc d p))
 
 -- more of the numbers, more that pass
 pub count_one : (b : Bool) → b ≡ true → ◌≡◌ {A = ℕ} (cond b 1 0) 1
@@ -69,13 +73,7 @@ count_none_at b e = let f : Bool → ℕ = λ z. cond z 1 0 in ap f e
 
 -- a test that a number below n passes is counted
 pub count_some : (n m : ℕ) (test : ℕ → Bool) → m < n → test m ≡ true → 0 < count n test
-count_some n m test h e =
-    let parts = count-add (suc m) (n - suc m) test in
-    let last = count-suc m test in
-    let one = count_one (test m) e in
-    let all : suc m + (n - suc m) ≡ n = omega arith in
-    let same = ap (λ x. count x test) all in
-    omega (arith, parts, last, one, same)
+count_some n m test h e = let parts = count-add (suc m) (n - suc m) test in grind (arith, count-suc, count_one)
 
 pub count_mono : (n m : ℕ) (test : ℕ → Bool) → n ≤ m → count n test ≤ count m test
 count_mono n m test h =

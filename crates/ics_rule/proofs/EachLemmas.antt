@@ -1,16 +1,12 @@
 -- What each period of a day or less has that a rule lets in.
-use Rattle.std.proofs.Common.{◌≡◌, ℕ, zero, suc, ◌+◌, ◌-◌, ◌*◌, ◌/◌, ◌%◌, ◌<◌, ◌≤◌, Bool, true, false, ◌&&◌, refl, sym, ap, ◌∙◌, cond}
+use Rattle.std.proofs.Common.{◌≡◌, ℕ, zero, suc, ◌+◌, ◌*◌, ◌/◌, ◌%◌, ◌<◌, ◌≤◌, Bool, true, false, ◌&&◌, refl, sym, ap, ◌∙◌, cond}
 use Rattle.std.proofs.Common.{arith}
-use Rattle.std.proofs.lemmas.Nat.{div-add-mod'}
 use Rattle.std.proofs.Math.Nat.{mul-le-mul_right, mul_comm, add-mul}
 use Rattle.jiff_core.specs.Weekday.{monday_zero}
 use Rattle.ics_fields.specs.declared.frequency.Frequency.{Frequency}
 use Rattle.ics_fields.specs.declared.frequency.Frequency.TheVariants.{Secondly, Minutely, Hourly, Daily}
 use Rattle.ics_fields.specs.Ordinals.{lists_none_wide}
 use Rattle.ics_rule.specs.declared.effective_rule.EffectiveRule.{EffectiveRule}
-use Rattle.ics_rule.specs.declared.recurrence_period.RecurrencePeriod.{RecurrencePeriod}
-use Rattle.ics_rule.specs.declared.cursor.Cursor.{Cursor}
-use Rattle.ics_rule.specs.Searches.{IsTurned}
 use Rattle.ics_rule.specs.PeriodNumbers.{period}
 use Rattle.ics_rule.specs.Candidates.{lets, lets_date, lets_clock, is_stepped, period_in}
 use Rattle.ics_rule.specs.Kept.{count, is_chosen}
@@ -20,9 +16,6 @@ use Rattle.ics_rule.specs.OpenPeriods.{per_day, lets_own, lets_within, is_open_p
 use Rattle.ics_rule.proofs.Counts.{count-same, count-suc, count-all, count-product, count_every, count_most}
 use Rattle.ics_rule.proofs.ProductCounts.{count_zero}
 use Rattle.ics_rule.proofs.SizeLemmas.{let_at, longest, counted, none_adds, period_adds}
-use Rattle.ics_rule.proofs.StepLemmas.{stepped_parts}
-use Rattle.ics_rule.proofs.CountLemmas.{IsCountedStep}
-use Rattle.ics_rule.proofs.RoundLemmas.{step_repeats}
 use Rattle.ics_fields.specs.Locals.{calendar_end}
 use Rattle.ics_rule.proofs.Tests.{and_assoc, self_test}
 
@@ -153,38 +146,6 @@ module _ (q : EffectiveRule) (start : ℕ) (fine : 0 < seconds_of q.frequency) (
       → target * u ≤ calendar_end → begin ≤ target
       → counted ≡ chosen_to q start begin → counted + each * number ≡ chosen_to q start target
   total_between number ee en top up ec = grind (arith, mul-le-mul_right, mul_comm, total_open)
-
--- whole intervals from a step on, up to the period of a place, with the number of the periods that are open
-pub record IsOpenRun (q : EffectiveRule) (start begin ahead place each number : ℕ) : Type 0 where
-  pub fine : 0 < seconds_of q.frequency
-  pub unit : seconds_of q.frequency ≤ 86_400
-  pub some : 1 ≤ q.interval
-  pub whole : ahead ≡ period_in q place - begin
-  pub far : 64 ≤ ahead / q.interval
-  pub inside : place < calendar_end
-  pub size : each ≡ chosen_in_open q
-  pub total : number + count begin (is_open_period q (period_in q start))
-      ≡ count (begin + ahead / q.interval * q.interval) (is_open_period q (period_in q start))
-
-pub open_end : {q : EffectiveRule} {start c begin ahead place each number : ℕ} {cursor : Cursor} {p : RecurrencePeriod} →
-    IsOpenRun q start begin ahead place each number → IsTurned q start c begin cursor p
-    → IsCountedStep q start begin (begin + ahead / q.interval * q.interval) place (cursor.counted + each * number)
-open_end {q = q} {start = start} {begin = begin} {ahead = ahead} {place = place} {each = each} {number = number} {cursor = cursor} run turned =
-    let step = ap (is_stepped (period_in q start) q.interval) (sym turned.number) ∙ turned.counted.step in
-    let whole = div-add-mod' ahead q.interval in
-    let up = mul-le-mul_right {m = 64} {n = ahead / q.interval} q.interval run.far in
-    let own = in_period q.frequency (monday_zero q.week_start) place run.fine run.unit in
-    let top : begin + ahead / q.interval * q.interval ≤ period_in q place = omega (arith, whole, run.whole, up, run.some) in
-    let high = mul-le-mul_right (seconds_of q.frequency) top in
-    record {
-      later = omega (arith, up, run.some);
-      step = ap (λ x. is_stepped (period_in q start) q.interval (begin + x)) (mul_comm (ahead / q.interval) q.interval)
-          ∙ step_repeats q.interval (ahead / q.interval) (period_in q start) begin (stepped_parts (period_in q start) q.interval begin step).0 ∙ step;
-      top = top;
-      total = total_between q start run.fine run.unit number run.size run.total
-          (omega (arith, high, own.0, run.inside)) (omega arith)
-          (turned.counted.total ∙ ap (chosen_to q start) turned.number);
-    }
 
 -- of the frequencies whose periods are a day or less the day is the one that is no part of a day
 pub daily : (f : Frequency) → 0 < seconds_of f → seconds_of f ≤ 86_400 → (f ≡ Secondly → ⊥) → (f ≡ Minutely → ⊥) → (f ≡ Hourly → ⊥) → f ≡ Daily

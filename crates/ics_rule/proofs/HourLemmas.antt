@@ -15,7 +15,7 @@ use Rattle.ics_fields.specs.Locals.{number}
 use Rattle.ics_rule.specs.EffectiveRules.{effective, skips_hours}
 use Rattle.ics_rule.specs.Candidates.{lets, lets_clock}
 use Rattle.ics_rule.specs.Kept.{is_chosen, is_kept, is_by_until}
-use Rattle.ics_rule.specs.Searches.{is_few, is_wanted}
+use Rattle.ics_rule.specs.Searches.{is_wanted}
 use Rattle.ics_rule.specs.declared.hour.HourTimes.{HourTimes}
 use Rattle.ics_rule.specs.HoursKept.{KeepsEnds, KeepsTimes}
 use Rattle.ics_rule.specs.Next.{NoneKept}
@@ -35,13 +35,10 @@ module _ (q : EffectiveRule) (start : ℕ) where
   wanted_chosen : (o : Option ℕ) (n : ℕ) → is_wanted q start o n ≡ true → is_chosen q start n ≡ true
   wanted_chosen o n h = grind (arith, and_true)
 
-  few_up : (k n m : ℕ) → n ≤ m → is_few q start k m ≡ true → is_few q start k n ≡ true
-  few_up k n m l h = grind (arith, nat_tests, count_mono)
-
   -- COUNT lets in what is earlier than a local that it lets in
   wanted_up : (o : Option ℕ) (n m : ℕ) → n ≤ m → is_wanted q start o m ≡ true → is_chosen q start n ≡ true → is_wanted q start o n ≡ true
   wanted_up None n m l h c = c
-  wanted_up (Some k) n m l h c = and_from (is_chosen q start n) (is_few q start k n) c (few_up k n m l (and_true h).1)
+  wanted_up (Some k) n m l h c = let fewer = count_mono n m (is_chosen q start) l in grind (arith, nat_tests, and_true)
 
   -- on the day of one that is chosen, without BYSETPOS, each local that the parts of the clock let in is
   module _ (coarse : skips_hours q.frequency ≡ true) (free : lists_none_wide q.positions ≡ true) where

@@ -1,5 +1,5 @@
 -- What the definitions mean, in other words.
-use Rattle.std.proofs.Common.{◌≡◌, ◌≢◌, ℕ, zero, suc, ◌+◌, ◌-◌, ◌*◌, ◌%◌, ◌<◌, ◌≤◌, Bool, true, cond, Some, pos, refl, ap, arith}
+use Rattle.std.proofs.Common.{◌≡◌, ◌≢◌, ℕ, zero, suc, ◌+◌, ◌-◌, ◌*◌, ◌%◌, ◌<◌, ◌≤◌, Bool, true, cond, Some, pos, refl, arith}
 use Rattle.std.proofs.lemmas.Bool.{le-ltb, eqb-true, ltb-true}
 use Rattle.jiff_core.specs.Calendar.{days_in_year}
 use Rattle.jiff_core.proofs.CalendarLemmas.{days_in_year_bounds}
@@ -44,12 +44,7 @@ week_next f e = grind (arith, year_under_way)
 pub week_first : (f : ℕ) → year_of (f + 7) ≢ year_of f → week_number (f + 7) ≡ 1
 unfolding year_day_of
 week_first f other =
-    let u = year_under_way f in
-    let v = year_under_way (f + 7) in
-    let up = year_begins (year_of f) (f + 7) (omega (arith, u.0)) in
-    let later : suc (year_of f) ≤ year_of (f + 7) = omega (arith, up, other) in
-    let m = days_before_year_mono (suc (year_of f)) (year_of (f + 7)) later in
-    omega (arith, u.1, v.0, m)
+    grind (arith, days_before_year_mono (suc (year_of f)) (year_of (f + 7)), year_begins (year_of f) (f + 7), year_under_way f, year_under_way (f + 7))
 
 -- the fourth day of a week lies in it, three days after its first
 pub week_fourth : (w e : ℕ) → w < 7 → 9 ≤ 7 * week_of w e + w → (week_of w (fourth_day w e) ≡ week_of w e) × ((fourth_day w e + (12 - w)) % 7 ≡ 3)
@@ -78,13 +73,12 @@ last_week_is : (f : ℕ) → last_week f ≡ days_before_year (year_of f) + (yea
 last_week_is f = refl
 
 pub weeks_there : (f : ℕ) → (year_of (last_week f) ≡ year_of f) × ((last_week f % 7 ≡ f % 7) × (week_number (last_week f) ≡ weeks_of_year f))
-weeks_there f =
-    let own = year_day_is f in
-    let low = year_day_low f in
-    let next = days_before_year-next (year_of f) in
-    let bounds = days_in_year_bounds (pos (year_of f)) in
-    let same = last_week_is f in
-    let year = year_of_is (last_week f) (year_of f) (omega (arith, same)) (omega (arith, same, next, bounds.1)) in
-    let last = year_day_is (last_week f) in
-    let years = ap days_before_year year in
-    (year, (omega (arith, same, own, low), omega (arith, same, last, years, bounds.1)))
+weeks_there f = grind (
+  arith,
+  days_before_year-next (year_of f),
+  days_in_year_bounds (pos (year_of f)),
+  last_week_is f,
+  year_day_is,
+  year_day_low f,
+  year_of_is (last_week f) (year_of f),
+)

@@ -1,5 +1,5 @@
 -- The days that months list, by their dates, and what is left to ask of them.
-use Rattle.std.proofs.Common.{◌≡◌, ℕ, zero, suc, ◌+◌, ◌-◌, ◌*◌, ◌/◌, ◌%◌, ◌<◌, ◌≤◌, ◌⊎◌, Bool, true, false, ◌==◌, ◌||◌, ◌&&◌, nat_lt, nat_le}
+use Rattle.std.proofs.Common.{◌≡◌, ℕ, zero, suc, ◌+◌, ◌-◌, ◌/◌, ◌%◌, ◌<◌, ◌≤◌, ◌⊎◌, Bool, true, false, ◌==◌, ◌||◌, ◌&&◌, nat_lt, nat_le}
 use Rattle.std.proofs.Common.{pos, refl, sym, ap, ◌∙◌, arith}
 use Rattle.std.proofs.lemmas.Bool.{and_parts, and_right, cases_lt, le-ltb, lt-ltb, or_left, ltb-true, ltb-false}
 use Rattle.std.proofs.lemmas.Bool.Decides.{nat_tests}
@@ -15,7 +15,6 @@ use Rattle.ics_fields.specs.Days.{days_before_year, year_of, year_day_of, month_
 use Rattle.ics_fields.proofs.DayLemmas.{Fields, days_before_year-next, days_before_year_low, year_of_is}
 use Rattle.ics_rule.specs.declared.effective_rule.EffectiveRule.{EffectiveRule}
 use Rattle.ics_rule.specs.declared.runs.Run.{Run}
-use Rattle.ics_rule.specs.RecurrencePeriods.{month_start}
 use Rattle.ics_rule.specs.Candidates.{lets, lets_place, lets_wide_place, lets_week, lets_weekday, lets_numbered, lets_date, lists_nth}
 use Rattle.ics_rule.specs.Runs.{has_run, weekday_in, lists_weekday, lists_in_month, is_in_month, goes_by_months, counts_in_month, IsMonth, IsSpan}
 use Rattle.ics_rule.proofs.LawLemmas.{year_day_is}
@@ -201,19 +200,8 @@ span_month p first len w span weekday = grind (arith, nat_tests)
 
 -- and the period that a rule's code looks at
 pub period_span : (f : Frequency) (w p : ℕ) {b e : ℕ} → IsPeriodFrom f w p b e → IsSpan f p (b / 86_400) ((e + 86_399) / 86_400 - b / 86_400)
-period_span Yearly w p is =
-    let next = days_before_year-next p in
-    let one = ap days_before_year (let same : p + 1 ≡ suc p = omega arith in same) in
-    let long = days_before_year_low p in
-    (omega (arith, is.begin, is.early, long), (omega (arith, is.begin), omega (arith, is.begin, is.end, next, one)))
+period_span Yearly w p is = grind (arith, days_before_year-next p, days_before_year_low p)
 period_span Monthly w zero is = absurd (let some = month_positive (0 / 86_400) in omega (arith, some, is.some))
-period_span Monthly w (suc p) {b = b} {e = e} is =
-    let back : suc p - 1 ≡ p = omega arith in
-    let size = month_size p in
-    let one = ap month_start (let same : suc p + 1 ≡ suc (suc p) = omega arith in same) in
-    let long = days_before_year_low (p / 12) in
-    let begun : b ≡ month_start (suc p) * 86_400 = is.begin in
-    let ended : e ≡ month_start (suc (suc p)) * 86_400 = is.end ∙ ap (λ x. x * 86_400) one in
-    let year : p / 12 ≤ 9_999 = omega (arith, rw back at begun, is.early, long) in
-    (omega arith, (rw back year, (omega (arith, begun), rw back (omega (arith, begun, ended, size)))))
+period_span Monthly w (suc p) is =
+    let back : suc p - 1 ≡ p = omega arith in rw back (grind (arith, days_before_year_low (p / 12), month_size p))
 period_span f w p is = tt

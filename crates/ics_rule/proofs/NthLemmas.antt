@@ -51,15 +51,19 @@ module _ (unit : ℕ → Bool) (a b : ℕ) (stretch : IsStretch unit a b) where
       ∙ count-same (n - a) (λ k. unit (a + k)) (λ k. true) (λ k l. stretch.inside (a + k) (omega arith) (omega arith)) ∙ count_every (n - a)
 
   -- those of a weekday
-  on_weekday : (w k : ℕ) → w < 7 → a + k ≤ b → count (a + k) (λ f. weekday_of f == w && unit f) ≡ (k + 6 - (w + 7 - weekday_of a) % 7) / 7
-  on_weekday w zero small h =
+  first_days : (w k : ℕ) → w < 7 → a + k ≤ b → count (a + k) (λ f. weekday_of f == w && unit f) ≡ (k + 6 - (w + 7 - weekday_of a) % 7) / 7
+  first_days w zero small h =
       let start : a + 0 ≡ a = omega arith in
       ap (λ x. count x (λ f. weekday_of f == w && unit f)) start
       ∙ count-none a (λ f. weekday_of f == w && unit f) (λ m l. and_right (weekday_of m == w) (unit m) (stretch.before m l)) ∙ omega arith
-  on_weekday w (suc k) small h =
+  first_days w (suc k) small h =
       let more : a + suc k ≡ suc (a + k) = omega arith in
       let there = stretch.inside (a + k) (omega arith) (omega arith) in
-      rw (more, count-suc (a + k) (λ f. weekday_of f == w && unit f), there, on_weekday w k small (omega arith)) (one_day a w k small)
+      rw (more, count-suc (a + k) (λ f. weekday_of f == w && unit f), there, first_days w k small (omega arith)) (one_day a w k small)
+
+  on_weekday : (w n : ℕ) → w < 7 → a ≤ n → n ≤ b → count n (λ f. weekday_of f == w && unit f) ≡ (n - a + 6 - (w + 7 - weekday_of a) % 7) / 7
+  on_weekday w n small low high = let whole : a + (n - a) ≡ n = omega (arith, low) in
+      sym (ap (λ x. count x (λ f. weekday_of f == w && unit f)) whole) ∙ first_days w (n - a) small (omega (arith, whole, high))
 
   -- the n-th day of them all, and the n-th of its weekday, from the front and from the end
   module _ {e n len span : ℕ} (d : IsDayOf a b e n len span) where
@@ -77,22 +81,15 @@ module _ (unit : ℕ → Bool) (a b : ℕ) (stretch : IsStretch unit a b) where
         omega (arith, all, flat, earlier, d.place, d.size, d.low, d.high)
 
     pub weekday_nth : count (suc e) alike ≡ (n - 1) / 7 + 1
-    weekday_nth =
-        let all : a + suc (e - a) ≡ suc e = omega (arith, d.low) in
-        let here = on_weekday (weekday_of e) (suc (e - a)) (omega arith) (omega (arith, d.low, d.high)) in
-        sym (ap (λ x. count x alike) all) ∙ here ∙ omega (arith, d.place, d.low)
+    weekday_nth = on_weekday (weekday_of e) (suc e) (omega arith) (omega (arith, d.low)) (omega (arith, d.high)) ∙ omega (arith, d.place, d.low)
 
     pub weekday_last : (end : ℕ) → e + span ≤ end → count end alike - count e alike ≡ (len - n) / 7 + 1
     weekday_last end past =
-        let whole : a + (b - a) ≡ b = omega (arith, d.low, d.high) in
-        let front : a + (e - a) ≡ e = omega (arith, d.low) in
-        let all = on_weekday (weekday_of e) (b - a) (omega arith) (omega (arith, whole)) in
-        let earlier = on_weekday (weekday_of e) (e - a) (omega arith) (omega (arith, front, d.high)) in
+        let all = on_weekday (weekday_of e) b (omega arith) (omega (arith, d.low, d.high)) (omega arith) in
+        let earlier = on_weekday (weekday_of e) e (omega arith) d.low (omega (arith, d.high)) in
         let flat =
         count_flat b end alike (omega (arith, d.end, past)) (λ m l h. and_right (weekday_of m == weekday_of e) (unit m) (stretch.after m l)) in
-        let whole' = ap (λ x. count x alike) whole in
-        let front' = ap (λ x. count x alike) front in
-        omega (arith, all, earlier, flat, whole', front', d.place, d.size, d.low, d.high)
+        omega (arith, all, earlier, flat, d.place, d.size, d.low, d.high)
 
     -- what places list
     module _ (plus minus : ℕ → Bool) (small : e + span ≤ calendar_end) where

@@ -43,6 +43,4 @@ module _ (q : EffectiveRule) (first periods : ℕ) (round : IsCalendarRound q pe
         → rounds * one + rest + count from (is_open_period q first) ≡ count before (is_open_period q first)
     open_rounds before rounds one rest eo er =
         let all = count_rounds (is_open_period q first) {a = from} periods (λ n l. open_again n (omega (arith, low, l))) rounds in
-        let add = count-add from periods (is_open_period q first) in
-        let product = ap (λ x. rounds * x) (let same : one ≡ count periods (λ k. is_open_period q first (from + k)) = omega (arith, add, eo) in same) in
-        omega (arith, all, product, er)
+        let one_is : one ≡ count periods (λ k. is_open_period q first (from + k)) = grind (arith, count-add) in rw one_is (omega (arith, all, er))

@@ -32,12 +32,7 @@ top_of q place number h = grind arith
 -- a walk up to the place that has not come past it
 pub counting_passed : {q : EffectiveRule} {start c number : ℕ} {before now : Cursor} → IsCounting q start c (before.place + 1) number before now →
     number ≤ period_in q before.place → before.place < calendar_end → IsPassedTo q start c before now
-counting_passed {q = q} {number = number} {before = before} {now = now} counting h inside = record {
-  own = own_moved {n = now.place} now.place counting.walk.moved
-      (let held = counting.walk.held in let place = counting.walk.moved.place in grind arith) (omega arith)
-      counting.walk.counted (omega (arith, counting.walk.moved.place, inside));
-  moved = counting.walk.moved;
-}
+counting_passed counting h inside = grind (arith, own_moved)
 
 -- a period before that of the place has nothing from the place on
 pub none_within : (q : EffectiveRule) (start : ℕ) {number : ℕ} (place : ℕ) → number < period_in q place → (m : ℕ) → place ≤ m →

@@ -50,20 +50,19 @@ pub month_size : (p : ℕ) → month_start (suc (suc p)) ≡ month_start (suc p)
 month_size p =
     let one : suc p - 1 ≡ p = omega arith in
     let two : suc (suc p) - 1 ≡ suc p = omega arith in
-    let back : p % 12 + 1 - 1 ≡ p % 12 = omega arith in
-    let more = rw back at (days_of_months_more (pos (p / 12)) (p % 12 + 1) (omega arith)) in
+    let more = days_of_months_more (pos (p / 12)) (p % 12 + 1) (omega arith) in
     rw (one, two) (elim (cases_lt (p % 12) 11) [
       | inl inside ↦
           let year : suc p / 12 ≡ p / 12 = omega arith in
           let month : suc p % 12 ≡ p % 12 + 1 = omega arith in
-          rw (year, month) (omega (arith, more))
+          let back : p % 12 + 1 - 1 ≡ p % 12 = omega arith in
+          rw (year, month) (omega (arith, rw back at more))
       | inr last ↦
           let year : suc p / 12 ≡ suc (p / 12) = omega arith in
           let month : suc p % 12 ≡ 0 = omega arith in
-          let december : p % 12 + 1 ≡ 12 = omega arith in
-          let full = rw december at more in
+          let december : p % 12 ≡ 11 = omega arith in
           rw (year, month, december)
-          (omega (arith, full, days_before_year-next (p / 12), days_of_months_all (pos (p / 12)), days_of_months-zero (pos (suc (p / 12)))))
+          (omega (arith, rw december at more, days_before_year-next (p / 12), days_of_months_all (pos (p / 12)), days_of_months-zero (pos (suc (p / 12)))))
     ])
 
 month_length : (p : ℕ) → (month_start (suc p) < month_start (suc (suc p))) × (month_start (suc (suc p)) ≤ month_start (suc p) + 31)

@@ -11,19 +11,14 @@ use Rattle.ics_rule.specs.declared.recurrence_period.RecurrencePeriod.{Recurrenc
 use Rattle.ics_rule.specs.Kept.{count}
 use Rattle.ics_rule.specs.RecurrencePeriods.{has_minute, has_second, has_day, holds, IsNth}
 use Rattle.ics_rule.proofs.ScanLemmas.{day_before}
-use Rattle.ics_rule.proofs.Counts.{count-same, count-add, count-from, count-all, count-product, count_none_at, count_one}
+use Rattle.ics_rule.proofs.Counts.{count-same, count-add, count-from, count-block, count-product, count_none_at, count_one}
 use Rattle.ics_rule.proofs.RankLemmas.{count_flat}
 use Rattle.ics_fields.specs.Locals.{calendar_end}
 
 -- how many pass before the t-th of block d: the blocks before it, and what passes in it
 pub count-place : (d b t : ℕ) (p q : ℕ → Bool) → t ≤ b → count (d * b + t) (λ m. p (m / b) && q (m % b)) ≡ count d p * count b q + cond (p d) 1 0 * count t q
 count-place d b t p q h =
-    let parts = count-add (d * b) t (λ m. p (m / b) && q (m % b)) in
-    let whole = count-product d b p q in
-    let block = count-same t (λ k. p ((d * b + k) / b) && q ((d * b + k) % b)) (λ k. p d && q k)
-    (λ k l. ap (λ x. p x && q ((d * b + k) % b)) (div-mul-add d b k (omega arith)) ∙ ap (λ x. p d && q x) (mod-mul-add d b k (omega arith))) in
-    let own = count-all (p d) t q in
-    omega (arith, parts, whole, block, own)
+    omega (arith, count-add (d * b) t (λ m. p (m / b) && q (m % b)), count-product d b p q, count-block d b t p q h)
 
 module _ (n b : ℕ) (p q : ℕ → Bool) (some : 0 < b) where
   count-at : count n (λ m. p (m / b) && q (m % b)) ≡ count (n / b) p * count b q + cond (p (n / b)) 1 0 * count (n % b) q

@@ -1,5 +1,5 @@
 -- What a rule allows repeats after a round of periods.
-use Rattle.std.proofs.Common.{◌≡◌, ℕ, zero, suc, ◌+◌, ◌-◌, ◌*◌, ◌/◌, ◌%◌, ◌<◌, ◌≤◌, ◌⊎◌, inl, inr, Bool, true, ◌&&◌, ◌==◌, nat_le, refl, sym, subst, ap, ◌∙◌}
+use Rattle.std.proofs.Common.{◌≡◌, ℕ, zero, suc, ◌+◌, ◌-◌, ◌*◌, ◌/◌, ◌%◌, ◌<◌, ◌≤◌, ◌⊎◌, Bool, true, ◌&&◌, ◌==◌, nat_le, refl, sym, subst, ap, ◌∙◌}
 use Rattle.std.proofs.Common.{arith}
 use Rattle.std.proofs.lemmas.Bool.{le-leb}
 use Rattle.std.proofs.lemmas.Bool.Decides.{nat_tests}
@@ -48,12 +48,7 @@ module _ (q : EffectiveRule) (alone : names_weekdays_alone q ≡ true) (fine : 0
   pub repeats : (s : ℕ) → (lists_no_weekday q.weekdays ≡ true) ⊎ (s % 604_800 ≡ 0) → (is_empty q.hours ≡ true) ⊎ (s % 86_400 ≡ 0)
       → (is_empty q.minutes ≡ true) ⊎ (s % 3_600 ≡ 0) → (is_empty q.seconds ≡ true) ⊎ (s % 60 ≡ 0)
       → (n : ℕ) → (lets_date q (day_of (n + s)) && lets_clock q (n + s)) ≡ (lets_date q (day_of n) && lets_clock q n)
-  repeats s w h i e n = let_in_alike q (n + s) n
-      (date_alike (day_of (n + s)) (day_of n) (elim w [ inl none ↦ inl none | inr whole ↦ inr (omega (arith, whole)) ]))
-      (clock_alike q (n + s) n
-      (lets_alike q.hours (hour_of (n + s)) (hour_of n) (elim h [ inl none ↦ inl none | inr whole ↦ inr (omega (arith, whole)) ]))
-      (lets_alike q.minutes (minute_of (n + s)) (minute_of n) (elim i [ inl none ↦ inl none | inr whole ↦ inr (omega (arith, whole)) ]))
-      (lets_alike q.seconds (second_of (n + s)) (second_of n) (elim e [ inl none ↦ inl none | inr whole ↦ inr (omega (arith, whole)) ])))
+  repeats s w h i e n = let_in_alike q (n + s) n (grind (arith, date_alike (day_of (n + s)) (day_of n))) (grind (arith, clock_alike q (n + s) n, lets_alike))
 
 -- periods that last alike
 unit_period : (f : Frequency) (w n j : ℕ) → 0 < seconds_of f → period f w (n + j * seconds_of f) ≡ period f w n + j

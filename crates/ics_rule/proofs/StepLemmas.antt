@@ -1,6 +1,6 @@
 -- Steps by the interval.
-use Rattle.std.proofs.Common.{◌≡◌, ℕ, ◌+◌, ◌-◌, ◌*◌, ◌/◌, ◌%◌, ◌<◌, ◌≤◌, inl, inr, true, false, arith}
-use Rattle.std.proofs.lemmas.Bool.{cases_lt, false_from_ne_true}
+use Rattle.std.proofs.Common.{◌≡◌, ℕ, ◌+◌, ◌-◌, ◌*◌, ◌/◌, ◌%◌, ◌<◌, ◌≤◌, true, false, ap, arith}
+use Rattle.std.proofs.lemmas.Bool.{false_from_ne_true}
 use Rattle.std.proofs.lemmas.Bool.Decides.{nat_tests}
 use Rattle.std.proofs.lemmas.Nat.{div-mul-add, mod-mul-add, div-add-mod', le-div}
 use Rattle.std.proofs.Math.Nat.{mul-le-mul_right, mod-lt}
@@ -35,9 +35,7 @@ module _ (i : ℕ) (some : 1 ≤ i) where
 
   pub none_between : (first p m : ℕ) → is_stepped first i p ≡ true → p < m → m < p + i → is_stepped first i m ≡ false
   none_between first p m h l u = false_from_ne_true (is_stepped first i m) (λ yes.
-      let a = stepped_parts first i p h in let b = stepped_parts first i m yes in
-      let wa = div-add-mod' (p - first) i in let wb = div-add-mod' (m - first) i in
-      elim (cases_lt ((p - first) / i) ((m - first) / i)) [
-        | inl less ↦ let up = mul-le-mul_right {m = (p - first) / i + 1} {n = (m - first) / i} i (omega arith) in omega (arith, a.0, a.1, b.0, b.1, wa, wb, up)
-        | inr more ↦ let up = mul-le-mul_right i more in omega (arith, a.0, a.1, b.0, b.1, wa, wb, up)
-      ])
+      let a = stepped_parts first i p h in
+      let b = stepped_parts first i m yes in
+      let same : m - first ≡ (p - first) / i * i + (m - p) = (let whole = div-add-mod' (p - first) i in omega (arith, a.0, a.1, whole, l)) in
+      omega (arith, l, b.1, ap (λ x. x % i) same, mod-mul-add ((p - first) / i) i (m - p) (omega (arith, u))))

@@ -1,6 +1,13 @@
-use Rattle.std.proofs.Common.{◌+◌, ◌*◌, ◌/◌, arith}
+use Rattle.std.proofs.Common.{◌+◌, ◌*◌, ◌/◌, ◌<◌, ◌≤◌, ◌∙◌, sym, ap, arith}
+use Rattle.std.proofs.lemmas.Nat.{div-add-mod'}
+use Rattle.std.proofs.Math.Nat.{mul-le-mul_right, mul_comm}
+use Rattle.jiff_core.specs.Weekday.{monday_zero}
+use Rattle.ics_rule.specs.Candidates.{is_stepped, period_in}
+use Rattle.ics_rule.specs.Rounds.{seconds_of, chosen_to}
+use Rattle.ics_rule.proofs.StepLemmas.{stepped_parts}
+use Rattle.ics_rule.proofs.RoundLemmas.{step_repeats}
 use Rattle.ics_rule.proofs.CountLemmas.{IsCountedStep, step_low}
-use Rattle.ics_rule.proofs.EachLemmas.{open_end}
+use Rattle.ics_rule.proofs.EachLemmas.{in_period, total_between}
 use Rattle.ics_rule.proofs.PassedLemmas.{counts_from, counted_reach, turned_room, total_small, passed_on}
 use Rattle.ics_rule.proofs.cursor.Cursor.pass_open.Goals as goal
 use Rattle.ics_rule.proofs.cursor.Cursor.pass_open.Goals.{After-chosen_in_open}
@@ -10,18 +17,29 @@ ends : (c : After-chosen_in_open) → IsCountedStep c.args.parts.now c.args.star
     (c.counted_from-begin.result.0 + c.saturating_sub.result / c.args.parts.now.interval * c.args.parts.now.interval) c.args.self.now.place
     (c.turn_through.new.self.counted + c.chosen_in_open.result * c.open_between-number.result)
 ends c =
-    let to = c.turn_through.ensures.counted c.if-not-turn_through.false in
-    let same = c.period_of.ensures.value in
-    open_end record {
-      fine = omega (arith, c.if-unit-eq0.false, c.seconds_of-unit.ensures.value);
-      unit = omega (arith, c.if-unit-gt86400.false, c.seconds_of-unit.ensures.value);
-      some = c.requires.interval;
-      whole = omega (arith, c.saturating_sub.ensures, same);
-      far = c.if-steps-lt-A_SHORT_WALK.false;
-      inside = c.requires.own.inside;
-      size = c.chosen_in_open.ensures;
-      total = rw c.requires.first at c.open_between-number.ensures;
-    } to.turned
+    let q = c.args.parts.now in
+    let start = c.args.start in
+    let place = c.args.self.now.place in
+    let begin = c.counted_from-begin.result.0 in
+    let steps = c.saturating_sub.result / q.interval in
+    let turned = (c.turn_through.ensures.counted c.if-not-turn_through.false).turned in
+    let fine : 0 < seconds_of q.frequency = omega (arith, c.if-unit-eq0.false, c.seconds_of-unit.ensures.value) in
+    let unit : seconds_of q.frequency ≤ 86_400 = omega (arith, c.if-unit-gt86400.false, c.seconds_of-unit.ensures.value) in
+    let step = ap (is_stepped (period_in q start) q.interval) (sym turned.number) ∙ turned.counted.step in
+    let whole = div-add-mod' c.saturating_sub.result q.interval in
+    let up = mul-le-mul_right {m = 64} {n = steps} q.interval c.if-steps-lt-A_SHORT_WALK.false in
+    let own = in_period q.frequency (monday_zero q.week_start) place fine unit in
+    let top : begin + steps * q.interval ≤ period_in q place =
+    omega (arith, whole, c.saturating_sub.ensures, c.period_of.ensures.value, up, c.requires.interval) in
+    let high = mul-le-mul_right (seconds_of q.frequency) top in
+    record {
+      later = omega (arith, up, c.requires.interval);
+      step = ap (λ x. is_stepped (period_in q start) q.interval (begin + x)) (mul_comm steps q.interval)
+          ∙ step_repeats q.interval steps (period_in q start) begin (stepped_parts (period_in q start) q.interval begin step).0 ∙ step;
+      top = top;
+      total = total_between q start fine unit c.open_between-number.result c.chosen_in_open.ensures (rw c.requires.first at c.open_between-number.ensures)
+          (omega (arith, high, own.0, c.requires.own.inside)) (omega arith) (turned.counted.total ∙ ap (chosen_to q start) turned.number);
+    }
 
 pub turn_through-requires-clause-step : goal.turn_through-requires-clause-step
 turn_through-requires-clause-step c = (counts_from c.requires.interval c.requires.own c.requires.first c.counted_from-begin.ensures).step
