@@ -38,11 +38,9 @@ some_periods f = grind arith
 pub calendar_step : (q : EffectiveRule) (periods : ℕ) → IsCalendarRound q periods → (first p : ℕ) → first ≤ p →
     is_stepped first q.interval (p + periods) ≡ is_stepped first q.interval p
 calendar_step q periods round first p l =
-    let parts = div-add-mod' periods q.interval in
-    let swap = mul_comm q.interval (periods / q.interval) in
-    let whole = round.step in
-    ap (λ x. is_stepped first q.interval (p + x)) (let same : periods ≡ q.interval * (periods / q.interval) = omega (arith, parts, swap, whole) in same)
-    ∙ step_repeats q.interval (periods / q.interval) first p l
+    let whole : periods ≡ q.interval * (periods / q.interval) =
+    omega (arith, div-add-mod' periods q.interval, mul_comm q.interval (periods / q.interval), round.step) in
+    rw whole (step_repeats q.interval (periods / q.interval) first p l)
 
 pub calendar_is : (q : EffectiveRule) (periods : ℕ) (round : IsCalendarRound q periods) → IsRound q periods (round.cycles * 12_622_780_800)
 calendar_is q periods round = record {

@@ -24,13 +24,8 @@ count-add a (suc n) p = let e : a + suc n ≡ suc (a + n) = omega arith in rw e 
 pub count_between : {from before : ℕ} (total : ℕ) (f g : ℕ → Bool) → from ≤ before → ((m : ℕ) → from ≤ m → m < before → f m ≡ g m) → total + count from f
     ≡ count before f → total + count from g ≡ count before g
 count_between {from = from} {before = before} total f g h same e =
-    let whole : from + (before - from) ≡ before = omega (arith, h) in
-    let one = count-add from (before - from) f in
-    let other = count-add from (before - from) g in
     let rest = count-same (before - from) (λ k. f (from + k)) (λ k. g (from + k)) (λ k l. same (from + k) (omega arith) (omega (arith, l, h))) in
-    let a = ap (λ x. count x f) whole in
-    let b = ap (λ x. count x g) whole in
-    omega (arith, one, other, rest, a, b, e)
+    grind (arith, count-add from (before - from) f, count-add from (before - from) g)
 
 -- a test that nothing passes
 pub count-none : (n : ℕ) (p : ℕ → Bool) → ((m : ℕ) → m < n → p m ≡ false) → count n p ≡ 0
@@ -73,13 +68,10 @@ count_none_at b e = let f : Bool → ℕ = λ z. cond z 1 0 in ap f e
 
 -- a test that a number below n passes is counted
 pub count_some : (n m : ℕ) (test : ℕ → Bool) → m < n → test m ≡ true → 0 < count n test
-count_some n m test h e = let parts = count-add (suc m) (n - suc m) test in grind (arith, count-suc, count_one)
+count_some n m test h e = grind (arith, count-add (suc m) (n - suc m) test, count-suc, count_one)
 
 pub count_mono : (n m : ℕ) (test : ℕ → Bool) → n ≤ m → count n test ≤ count m test
-count_mono n m test h =
-    let parts = count-add n (m - n) test in
-    let same = ap (λ x. count x test) (let all : n + (m - n) ≡ m = omega arith in all) in
-    omega (arith, parts, same)
+count_mono n m test h = grind (arith, count-add n (m - n) test)
 
 pub count_one_more : (n m : ℕ) (test : ℕ → Bool) → n ≤ m → test m ≡ true → count n test + 1 ≤ count (suc m) test
 count_one_more n m test h e = grind (arith, count-suc, count_mono, count_one)
@@ -87,13 +79,9 @@ count_one_more n m test h e = grind (arith, count-suc, count_mono, count_one)
 pub count_most : (n : ℕ) (test : ℕ → Bool) → count n test ≤ n
 unfolding count
 count_most zero test = omega arith
-count_most (suc n) test = let less = count_most n test in let one = at_most (test n) in omega (arith, less, one)
-  where
-    at_most : (b : Bool) → cond b 1 0 ≤ 1
-    at_most true = omega arith
-    at_most false = omega arith
+count_most (suc n) test = grind (arith, count_most n test)
 
 pub count_every : (n : ℕ) → count n (λ m. true) ≡ n
 unfolding count
 count_every zero = refl
-count_every (suc n) = let less = count_every n in omega (arith, less)
+count_every (suc n) = omega (arith, count_every n)

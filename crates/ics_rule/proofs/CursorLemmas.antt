@@ -164,8 +164,7 @@ module _ {q : EffectiveRule} (start : ℕ) (some : 1 ≤ q.interval) where
 
 -- nor is it wanted where it is not chosen
 pub not_wanted : (q : EffectiveRule) (start : ℕ) (o : Option ℕ) (n : ℕ) → is_chosen q start n ≡ false → is_wanted q start o n ≡ false
-not_wanted q start None n none = none
-not_wanted q start (Some c) n none = ap (λ x. x && is_few q start c n) none
+not_wanted q start o n none = grind arith
 
 -- a period is held from a look at it on, up to the one with a number, and to that of a bound
 abbrev pub IsHeldTo : EffectiveRule → ℕ → ℕ → Option RecurrencePeriod → Type 0

@@ -1,5 +1,5 @@
 -- What each period of a day or less has that a rule lets in.
-use Rattle.std.proofs.Common.{◌≡◌, ℕ, zero, suc, ◌+◌, ◌*◌, ◌/◌, ◌%◌, ◌<◌, ◌≤◌, Bool, true, false, ◌&&◌, refl, sym, ap, ◌∙◌, cond}
+use Rattle.std.proofs.Common.{◌≡◌, ℕ, zero, suc, ◌+◌, ◌*◌, ◌/◌, ◌%◌, ◌<◌, ◌≤◌, Bool, true, false, not, ◌&&◌, ◌||◌, refl, sym, ap, ◌∙◌, cond}
 use Rattle.std.proofs.Common.{arith}
 use Rattle.std.proofs.Math.Nat.{mul-le-mul_right, mul_comm, add-mul}
 use Rattle.jiff_core.specs.Weekday.{monday_zero}
@@ -7,7 +7,8 @@ use Rattle.ics_fields.specs.declared.frequency.Frequency.{Frequency}
 use Rattle.ics_fields.specs.declared.frequency.Frequency.TheVariants.{Secondly, Minutely, Hourly, Daily}
 use Rattle.ics_fields.specs.Ordinals.{lists_none_wide}
 use Rattle.ics_rule.specs.declared.effective_rule.EffectiveRule.{EffectiveRule}
-use Rattle.ics_rule.specs.PeriodNumbers.{period}
+use Rattle.ics_rule.specs.PeriodNumbers.{period, hour_of, minute_of, second_of}
+use Rattle.ics_rule.specs.EffectiveRules.{skips_hours, skips_minutes, skips_seconds}
 use Rattle.ics_rule.specs.Candidates.{lets, lets_date, lets_clock, is_stepped, period_in}
 use Rattle.ics_rule.specs.Kept.{count, is_chosen}
 use Rattle.ics_rule.specs.RecurrencePeriods.{first_local, is_listed}
@@ -15,13 +16,16 @@ use Rattle.ics_rule.specs.Rounds.{seconds_of, chosen_to}
 use Rattle.ics_rule.specs.OpenPeriods.{per_day, lets_own, lets_within, is_open_period, size_of_open, chosen_of_size, chosen_in_open}
 use Rattle.ics_rule.proofs.Counts.{count-same, count-suc, count-all, count-product, count_every, count_most}
 use Rattle.ics_rule.proofs.ProductCounts.{count_zero}
-use Rattle.ics_rule.proofs.SizeLemmas.{let_at, longest, counted, none_adds, period_adds}
+use Rattle.ics_rule.proofs.SizeLemmas.{let_at, longest, counted, chosen_adds}
 use Rattle.ics_fields.specs.Locals.{calendar_end}
 use Rattle.ics_rule.proofs.Tests.{and_assoc, self_test}
 
 -- the clock is a period's own and what is within it
 pub clock_split : (f : Frequency) (q : EffectiveRule) (n : ℕ) → lets_clock q n ≡ (lets_own f q n && lets_within f q n)
 clock_split f q n = grind arith
+
+part_alike : (b : Bool) (s m n : ℕ) → (b ≡ false → m ≡ n) → (b || lets s m) ≡ (b || lets s n)
+part_alike b s m n same = grind arith
 
 -- a period's locals, by their place in it
 module _ (q : EffectiveRule) (p k : ℕ) where
@@ -32,28 +36,18 @@ module _ (q : EffectiveRule) (p k : ℕ) where
   day_at f h u l = grind arith
 
   own_at : (f : Frequency) → 0 < seconds_of f → seconds_of f ≤ 86_400 → k < seconds_of f → lets_own f q (p * seconds_of f + k) ≡ lets_own f q (p * seconds_of f)
-  own_at Secondly h u l = ap (lets_own Secondly q) (let same : p * 1 + k ≡ p * 1 = omega (arith, l) in same)
-  own_at Minutely h u l =
-      let hour : (p * 60 + k) / 3_600 % 24 ≡ p * 60 / 3_600 % 24 = omega (arith, l) in
-      let minute : (p * 60 + k) / 60 % 60 ≡ p * 60 / 60 % 60 = omega (arith, l) in
-      rw (hour, minute) refl
-  own_at Hourly h u l = let hour : (p * 3_600 + k) / 3_600 % 24 ≡ p * 3_600 / 3_600 % 24 = omega (arith, l) in ap (λ x. lets q.hours x && true && true) hour
-  own_at Daily h u l = refl
-  own_at f h u l = absurd (omega (arith, h, u))
+  own_at f h u l = rw (
+    part_alike (skips_hours f) q.hours (hour_of (p * seconds_of f + k)) (hour_of (p * seconds_of f)) (λ fine. grind arith),
+    part_alike (skips_minutes f) q.minutes (minute_of (p * seconds_of f + k)) (minute_of (p * seconds_of f)) (λ fine. grind arith),
+    part_alike (skips_seconds f) q.seconds (second_of (p * seconds_of f + k)) (second_of (p * seconds_of f)) (λ fine. grind arith),
+  ) refl
 
   pub within_at : (f : Frequency) → 0 < seconds_of f → seconds_of f ≤ 86_400 → k < seconds_of f → lets_within f q (p * seconds_of f + k) ≡ lets_within f q k
-  within_at Secondly h u l = refl
-  within_at Minutely h u l = let second : (p * 60 + k) % 60 ≡ k % 60 = omega arith in ap (lets q.seconds) second
-  within_at Hourly h u l =
-      let minute : (p * 3_600 + k) / 60 % 60 ≡ k / 60 % 60 = omega arith in
-      let second : (p * 3_600 + k) % 60 ≡ k % 60 = omega arith in
-      rw (minute, second) refl
-  within_at Daily h u l =
-      let hour : (p * 86_400 + k) / 3_600 % 24 ≡ k / 3_600 % 24 = omega arith in
-      let minute : (p * 86_400 + k) / 60 % 60 ≡ k / 60 % 60 = omega arith in
-      let second : (p * 86_400 + k) % 60 ≡ k % 60 = omega arith in
-      rw (hour, minute, second) refl
-  within_at f h u l = absurd (omega (arith, h, u))
+  within_at f h u l = rw (
+    part_alike (not (skips_hours f)) q.hours (hour_of (p * seconds_of f + k)) (hour_of k) (λ coarse. grind arith),
+    part_alike (not (skips_minutes f)) q.minutes (minute_of (p * seconds_of f + k)) (minute_of k) (λ coarse. grind arith),
+    part_alike (not (skips_seconds f)) q.seconds (second_of (p * seconds_of f + k)) (second_of k) (λ coarse. grind arith),
+  ) refl
 
 pub in_period : (f : Frequency) (w n : ℕ) → 0 < seconds_of f → seconds_of f ≤ 86_400 → (period f w n * seconds_of f ≤ n)
     × (n < period f w n * seconds_of f + seconds_of f)
@@ -119,19 +113,13 @@ module _ (q : EffectiveRule) (start : ℕ) (fine : 0 < seconds_of q.frequency) (
 
   -- what is chosen in whole periods
   open_adds : (p : ℕ) → suc p * u ≤ calendar_end → chosen_to q start (suc p) ≡ chosen_to q start p + cond (is_open p) 1 0 * chosen_in_open q
-  open_adds p top = by_step (is_stepped (period_in q start) q.interval p) refl
+  open_adds p top =
+      chosen_adds q start p u (spans p) (rw (first_at q.frequency (monday_zero q.week_start) p fine unit) (omega (arith, top)))
+      ∙ rw (size_at p) (sized (is_stepped (period_in q start) q.interval p) (lets_some p) (lists_none_wide q.positions))
     where
-      sized : (b c : Bool) → chosen_of_size q c (cond b 1 0 * size_of_open q) ≡ cond b 1 0 * chosen_of_size q c (size_of_open q)
-      sized true c = ap (chosen_of_size q c) (let one : 1 * size_of_open q ≡ size_of_open q = omega arith in one) ∙ omega arith
-      sized false true = refl
-      sized false false = let most = count_most (0 * size_of_open q) (is_listed q.positions (0 * size_of_open q)) in omega (arith, most)
-
-      by_step : (s : Bool) → is_stepped (period_in q start) q.interval p ≡ s
-          → chosen_to q start (suc p) ≡ chosen_to q start p + cond (s && lets_some p) 1 0 * chosen_in_open q
-      by_step true step = period_adds q start p u (spans p) step (rw (first_at q.frequency (monday_zero q.week_start) p fine unit) (omega (arith, top)))
-          ∙ ap (λ n. chosen_to q start p + n) (ap (chosen_of_size q (lists_none_wide q.positions)) (size_at p)
-          ∙ sized (lets_some p) (lists_none_wide q.positions))
-      by_step false out = none_adds q start p u (spans p) out ∙ omega arith
+      sized : (s b c : Bool) → chosen_to q start p + cond s (chosen_of_size q c (cond b 1 0 * size_of_open q)) 0
+          ≡ chosen_to q start p + cond (s && b) 1 0 * chosen_of_size q c (size_of_open q)
+      sized s b c = grind (arith, count_most)
 
   pub total_open : (p : ℕ) → p * u ≤ calendar_end → chosen_to q start p ≡ count p is_open * chosen_in_open q
   total_open zero top = let most = count_most (0 * u) (is_chosen q start) in

@@ -1,5 +1,5 @@
 -- Rounds of periods in which a rule allows as many locals have as many chosen locals.
-use Rattle.std.proofs.Common.{◌≡◌, ℕ, zero, suc, ◌+◌, ◌-◌, ◌*◌, ◌/◌, ◌%◌, ◌<◌, ◌≤◌, inl, inr, Bool, true, false, ◌==◌, refl, sym, ap, ◌∙◌}
+use Rattle.std.proofs.Common.{◌≡◌, ℕ, zero, suc, ◌+◌, ◌-◌, ◌*◌, ◌/◌, ◌%◌, ◌<◌, ◌≤◌, inl, inr, Bool, true, false, ◌==◌, cond, refl, sym, ap, ◌∙◌}
 use Rattle.std.proofs.Common.{arith}
 use Rattle.std.proofs.lemmas.Bool.{cases_lt, false_from_ne_true}
 use Rattle.std.proofs.lemmas.Bool.Decides.{nat_tests}
@@ -21,7 +21,7 @@ use Rattle.ics_rule.proofs.CountLemmas.{first_mono}
 use Rattle.ics_rule.proofs.StepLemmas.{stepped_parts}
 use Rattle.ics_rule.proofs.RoundLemmas.{step_repeats}
 use Rattle.ics_rule.proofs.FlatLemmas.{allowed_before, month_local, month_adds, month_is, year_is}
-use Rattle.ics_rule.proofs.SizeLemmas.{let_at, longest, none_adds, period_adds, size_adds}
+use Rattle.ics_rule.proofs.SizeLemmas.{let_at, longest, chosen_adds, size_adds}
 use Rattle.ics_rule.specs.PeriodNumbers.{rules_end}
 use Rattle.ics_rule.proofs.Tests.{positive}
 
@@ -51,12 +51,14 @@ module _ (f : ℕ → ℕ) (periods begin top : ℕ)
 
   all_rounds : {before one : ℕ} → before ≡ f begin → one ≡ f (begin + periods) → before ≤ one
       → (r : ℕ) → begin + r * periods ≤ suc top → before + r * (one - before) ≡ f (begin + r * periods)
-  all_rounds eb eo grows zero h = let same : begin + 0 * periods ≡ begin = omega arith in rw same (omega (arith, eb))
+  all_rounds eb eo grows zero h = grind arith
   all_rounds {before = before} {one = one} eb eo grows (suc r) h =
       let next : begin + suc r * periods ≡ begin + r * periods + periods = omega arith in
       let more : suc r * (one - before) ≡ r * (one - before) + (one - before) = omega arith in
-      let rest = all_rounds eb eo grows r (omega (arith, h, next)) in
-      rw next (omega (arith, apart (r * periods) (omega (arith, h, next)), rest, more, eb, eo, grows))
+      rw next (grind (arith, apart (r * periods), all_rounds eb eo grows r))
+
+as_much : (s : Bool) (a c : ℕ) {m n : ℕ} → (s ≡ true → n ≡ m) → a + cond s m 0 + c ≡ c + cond s n 0 + a
+as_much s a c size = grind arith
 
 module _ (q : EffectiveRule) (start : ℕ) where
   abbrev first : ℕ → ℕ
@@ -70,32 +72,22 @@ module _ (q : EffectiveRule) (start : ℕ) where
   spans : {x : ℕ} → period_in q start ≤ x → first x + (first (suc x) - first x) ≡ first (suc x)
   spans {x = x} low = let more = up {a = x} {b = suc x} (omega (arith, low)) (omega arith) in omega (arith, more)
 
-  step_adds : {x : ℕ} → period_in q start ≤ x → IsEarly q x → IsStep q start x →
-      chosen_to q start (suc x) ≡ chosen_to q start x + chosen_of_size q (lists_none_wide q.positions) (count longest (let_at q x))
-  step_adds {x = x} low early step = let short = is_short q.frequency (monday_zero q.week_start) x in
-      period_adds q start x (first (suc x) - first x) (spans low) step (omega (arith, early, short))
-
-  no_step_adds : {x : ℕ} → period_in q start ≤ x → is_stepped (period_in q start) q.interval x ≡ false → chosen_to q start (suc x) ≡ chosen_to q start x
-  no_step_adds {x = x} low out = none_adds q start x (first (suc x) - first x) (spans low) out
+  adds : {x : ℕ} → period_in q start ≤ x → IsEarly q x → chosen_to q start (suc x) ≡ chosen_to q start x
+      + cond (is_stepped (period_in q start) q.interval x) (chosen_of_size q (lists_none_wide q.positions) (count longest (let_at q x))) 0
+  adds {x = x} low early = let short = is_short q.frequency (monday_zero q.week_start) x in
+      chosen_adds q start x (first (suc x) - first x) (spans low) (omega (arith, early, short))
 
   module _ (periods : ℕ) (even : IsEven q start periods) where
     -- so many periods later a period adds as much
     period_even : (x : ℕ) → 2 ≤ x → period_in q start ≤ x → IsEarly q (x + periods)
         → chosen_to q start (suc x) + chosen_to q start (x + periods) ≡ chosen_to q start (suc (x + periods)) + chosen_to q start x
-    period_even x some low high = by_step (is_stepped (period_in q start) q.interval x) refl
-      where
-        by_step : (b : Bool) → is_stepped (period_in q start) q.interval x ≡ b
-            → chosen_to q start (suc x) + chosen_to q start (x + periods) ≡ chosen_to q start (suc (x + periods)) + chosen_to q start x
-        by_step true step =
-            let order = up {a = x} {b = x + periods} (omega (arith, low)) (omega arith) in
-            let one = step_adds {x = x} low (omega (arith, order, high)) step in
-            let other = step_adds {x = x + periods} (omega (arith, low)) high (even.step (period_in q start) x low ∙ step) in
-            let same = ap (chosen_of_size q (lists_none_wide q.positions)) (even.size x some step high) in
-            omega (arith, one, other, same)
-        by_step false out =
-            let one = no_step_adds {x = x} low out in
-            let other = no_step_adds {x = x + periods} (omega (arith, low)) (even.step (period_in q start) x low ∙ out) in
-            omega (arith, one, other)
+    period_even x some low high =
+        let order = up {a = x} {b = x + periods} (omega (arith, low)) (omega arith) in
+        let one = adds {x = x} low (omega (arith, order, high)) in
+        let other = adds {x = x + periods} (omega (arith, low)) high in
+        rw (one, other, even.step (period_in q start) x low)
+        (as_much (is_stepped (period_in q start) q.interval x) (chosen_to q start x) (chosen_to q start (x + periods))
+        (λ step. ap (chosen_of_size q (lists_none_wide q.positions)) (even.size x some step high)))
 
     steady : {begin top : ℕ} → 2 ≤ begin → period_in q start ≤ begin → IsEarly q top → (x : ℕ) → begin ≤ x → x + periods ≤ top
         → chosen_to q start (suc x) + chosen_to q start (x + periods) ≡ chosen_to q start (suc (x + periods)) + chosen_to q start x

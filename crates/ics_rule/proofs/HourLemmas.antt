@@ -96,13 +96,7 @@ module _ (r : Recurrence) (hour : ℕ) (bounds : KeepsBounds r (effective r) hou
 
   kept_product : (n : ℕ) → n / 3_600 ≡ hour → is_kept r n ≡ true →
       (contains (effective r).minutes (minute_of n) && contains (effective r).seconds (second_of n)) ≡ true
-  kept_product n at keeps = elim (cases_lt n kept) [
-    | inl before ↦ absurd (let none = ends.next.least n (omega (arith, at)) before in cc)
-    | inr from ↦ (
-        let clock = kept_clock r n (omega (arith, ends.after, from)) (omega (arith, bounds.early, at)) keeps in
-        let times = ends.first_time in
-        grind (arith, listed))
-  ]
+  kept_product n at keeps = let none = ends.next.least n in let times = ends.first_time in grind (arith, cases_lt, kept_clock r n, listed)
 
   -- of the locals of the hour the rule keeps those that its parts list
   keeps_times : KeepsTimes r hour (times_of (effective r))

@@ -21,7 +21,7 @@ use Rattle.ics_rule.proofs.LawLemmas.{year_day_is}
 use Rattle.ics_rule.proofs.Months.{month_past, month_high, month_positive}
 use Rattle.ics_rule.proofs.PeriodLemmas.{month_size, IsPeriodFrom}
 use Rattle.ics_rule.proofs.DayWalkLemmas.{fields_at}
-use Rattle.ics_rule.proofs.RunLemmas.{next_found, all_found, guard, run_facts}
+use Rattle.ics_rule.proofs.RunLemmas.{next_found, guard, run_facts}
 use Rattle.ics_rule.proofs.Tests.{and_assoc, keep_true, three}
 
 -- the month that a day of its year lies in
@@ -69,16 +69,16 @@ module _ (q : EffectiveRule) (k : ℕ) where
       (run_lists r first y m k own q) (next_found months from m (month_of (first + k)) next)
 
 pub months_none : (q : EffectiveRule) (months : ℕ → Bool) (e : ℕ) (a : Bool) → false ≡ (a && seen_months q months 1 e)
-months_none q months e a = grind (arith, nat_tests, and_right, le-ltb, month_positive)
+months_none q months e a = grind (arith, nat_tests, month_positive)
 
 pub months_done : (q : EffectiveRule) (months : ℕ → Bool) {from : ℕ} (e : ℕ) (a : Bool) → ((n : ℕ) → from ≤ n → months n ≡ false) →
     ((n : ℕ) → n < 13 → months n ≡ lets q.months n)
     → (a && seen_months q months from e) ≡ (a && is_in_month q e)
-months_done q months e a none is = grind (arith, nat_tests, all_found, and_assoc, month_high)
+months_done q months e a none is = grind (arith, nat_tests, month_high)
 
 -- a run that begins with the period
 run_start : (k len : ℕ) → (nat_le 0 k && nat_lt (k - 0) len) ≡ nat_lt k len
-run_start k len = let low : nat_le 0 k ≡ true = grind (arith, nat_tests) in let back : k - 0 ≡ k = omega arith in rw (low, back) refl
+run_start k len = grind (arith, nat_tests)
 
 -- one month alone, if BYMONTH lists it
 pub month_alone : (q : EffectiveRule) {first len y m w : ℕ} (k : ℕ) {old among new : Bool} → IsMonth (record { start = 0; len = len; weekday = w }) first y m →
@@ -139,13 +139,13 @@ year_exact q e by day len = grind (arith, nat_tests, and_parts, goes, three_part
 module _ (some f : ℕ → Bool) where
   pub asked_more : {from n : ℕ} (k : ℕ) {old t new : Bool} → IsLeastFrom some from n → t ≡ f n → old ≡ (some k && (nat_lt k from && f k))
       → ((t ≡ true) × (new ≡ ((k == n) || old))) ⊎ ((t ≡ false) × (new ≡ old)) → new ≡ (some k && (nat_lt k (n + 1) && f k))
-  asked_more k next test h e = grind (arith, nat_tests, three, cases_lt)
+  asked_more k next test h e = grind (arith, nat_tests)
 
   pub asked_none : (k : ℕ) → false ≡ (some k && (nat_lt k 0 && f k))
-  asked_none k = sym (and_right (some k) (nat_lt k 0 && f k) (ap (λ x. x && f k) (le-ltb k 0 (omega arith))))
+  asked_none k = grind (arith, nat_tests)
 
   pub asked_all : (from k : ℕ) {b : Bool} → ((m : ℕ) → from ≤ m → some m ≡ false) → b ≡ (some k && (nat_lt k from && f k)) → b ≡ (some k && f k)
-  asked_all from k none e = grind (arith, nat_tests, cases_lt, lt-ltb)
+  asked_all from k none e = grind (arith, nat_tests)
 
 -- candidates of which all that passes is one
 pub candidates : (some test inside : Bool) → (some ≡ true → inside ≡ true) → (inside ≡ true → test ≡ true → some ≡ true) → (some && test) ≡ (inside && test)
@@ -156,19 +156,17 @@ narrowed inside some test a = grind arith
 
 -- what the parts of the date say apart
 pub number_let_in : (q : EffectiveRule) (e : ℕ) → lets_date q e ≡ true → lets_wide_place q.year_days (year_day_of e) (days_in_year (pos (year_of e))) ≡ true
-number_let_in q e h = (and_parts _ (lets_wide_place q.year_days (year_day_of e) (days_in_year (pos (year_of e))))
-    (and_parts _ (lets_week q e) (and_parts _ (lets_weekday q e) h).0).0).1
+number_let_in q e h = grind (arith, and_parts)
 
 pub week_let_in : (q : EffectiveRule) (e : ℕ) → lets_date q e ≡ true → lets_week q e ≡ true
-week_let_in q e h = (and_parts _ (lets_week q e) (and_parts _ (lets_weekday q e) h).0).1
+week_let_in q e h = grind (arith, and_parts)
 
 -- the days of a year by their numbers
 pub year_place : (first y k : ℕ) → first ≡ days_before_year y → k < days_in_year (pos y) → (year_of (first + k) ≡ y) × (year_day_of (first + k) ≡ k + 1)
 year_place first y k start inside = grind (arith, nat_tests, days_before_year-next, year_day_is, year_of_is)
 
 pub year_starts : (first y : ℕ) → first ≡ days_before_year y → year_of first ≡ y
-year_starts first y start = year_of_is first y (omega (arith, start)) (let next = days_before_year-next y in let some = days_in_year_bounds (pos y) in
-    omega (arith, next, start, some.1))
+year_starts first y start = grind (arith, days_before_year-next y, days_in_year_bounds (pos y), year_of_is first y)
 
 module _ (q : EffectiveRule) (y k : ℕ) where
   pub number_listed : {first len : ℕ} → first ≡ days_before_year y → len ≡ days_in_year (pos y) → nat_lt k len ≡ true →

@@ -63,11 +63,7 @@ module _ {a i : ℕ} {g : ℕ → Bool} {from before number total : ℕ} (walk :
   pub walk_past : {out next : ℕ} → g number ≡ false → ((j : ℕ) → j < out → g (number + j) ≡ false) → 1 ≤ out
       → IsLeastFrom (is_stepped a i) (number + out) next → number < before → IsStepWalk a i g from before next total
   walk_past {out = out} e none some least h = walk_to e (omega arith) h least.passes (omega (arith, least.low, some))
-      (λ m l u. elim (cases_lt m (number + out)) [
-        | inl early ↦ and_right (is_stepped a i m) (g m) (ap g (let same : m ≡ number + (m - number) = omega (arith, l) in same)
-            ∙ none (m - number) (omega (arith, early, l)))
-        | inr late ↦ and_left (is_stepped a i m) (g m) (least.least m late u)
-      ])
+      (λ m l u. let early = none (m - number) in grind (arith, cases_lt))
 
   pub walk_done : before ≤ number → total + count from stepped ≡ count before stepped
   walk_done h = walk.passed ∙ ap (λ x. count x stepped) (let all : min number before ≡ before = omega (arith, h) in all)
@@ -75,7 +71,7 @@ module _ {a i : ℕ} {g : ℕ → Bool} {from before number total : ℕ} (walk :
 -- before the first nothing is a step
 pub none_stepped : (a i : ℕ) (g : ℕ → Bool) → count a (λ p. is_stepped a i p && g p) ≡ 0
 none_stepped a i g = count-none a (λ p. is_stepped a i p && g p)
-    (λ m l. and_left (is_stepped a i m) (g m) (false_from_ne_true (is_stepped a i m) (λ yes. let parts = stepped_parts a i m yes in omega (arith, parts.0, l))))
+    (λ m l. grind (arith, nat_tests))
 
 -- A period of a day or less, in its day.
 module _ (f : Frequency) (q : EffectiveRule) (fine : 0 < seconds_of f) (unit : seconds_of f ≤ 86_400) where
@@ -104,13 +100,7 @@ module _ (i : ℕ) (some : 1 ≤ i) (from j : ℕ) (less : j < i) where
   -- one place more
   place_more : (e : ℕ) (b : Bool) → cond ((nat_le from e && nat_lt ((e - from) % i) (j + 1)) && b) 1 0
       ≡ cond ((nat_le from e && nat_lt ((e - from) % i) j) && b) 1 0 + cond (is_stepped (from + j) i e && b) 1 0
-  place_more e b = rw here (at (nat_le from e) ((e - from) % i))
-    where
-      here : is_stepped (from + j) i e ≡ (nat_le from e && ((e - from) % i == j))
-      here = iff _ _ (λ h. let place = stepped_place e h in grind (arith, nat_tests)) (λ h. grind (arith, nat_tests, and_parts, place_stepped))
-
-      at : (a : Bool) (x : ℕ) → cond ((a && nat_lt x (j + 1)) && b) 1 0 ≡ cond ((a && nat_lt x j) && b) 1 0 + cond ((a && (x == j)) && b) 1 0
-      at a x = grind (arith, nat_tests)
+  place_more e b = grind (arith, nat_tests, place_stepped, stepped_place)
 
 -- the periods let in on the days, from one on, with places before another
 abbrev pub placed : EffectiveRule → ℕ → ℕ → ℕ → ℕ → Bool

@@ -26,15 +26,12 @@ step_open {q = q} {number = number} {place = place} e up none least = record {
 
 -- one more number is left out
 pub one_out : (f : ℕ → Bool) (e : ℕ) {k : ℕ} → f e ≡ false → ((j : ℕ) → j < k → f (e + j) ≡ false) → (j : ℕ) → j < max k 1 → f (e + j) ≡ false
-one_out f e here none j h = grind (arith, cases_lt)
+one_out f e here none j h = grind arith
 
 -- and a walk over them goes on
 pub out_on : (f : ℕ → Bool) {from e k : ℕ} → ((m : ℕ) → from ≤ m → m < e → f m ≡ false) → ((j : ℕ) → j < k → f (e + j) ≡ false) → (m : ℕ) → from ≤ m →
     m < e + k → f m ≡ false
-out_on f {e = e} before none m l h = elim (cases_lt m e) [
-  | inl less ↦ before m l less
-  | inr more ↦ subst (λ x. f x ≡ false) (let same : e + (m - e) ≡ m = omega (arith, more) in same) (none (m - e) (omega (arith, h, more)))
-]
+out_on f {e = e} before none m l h = let rest = none (m - e) in grind (arith, cases_lt)
 
 -- the readings of a whole day that the parts let in
 module _ (q : EffectiveRule) (hours minutes seconds : ℕ)

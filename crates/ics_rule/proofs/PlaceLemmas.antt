@@ -40,11 +40,7 @@ module _ (q : EffectiveRule) (start n : ℕ) where
   rank_alone k m o a b = alone (is_beside q start n) k m o (ranked k m a) (ranked k o b)
 
   pub rank_within : (k m : ℕ) → m < calendar_end → HasRank q start n k m → (1 ≤ k) × (k ≤ size q start n)
-  rank_within k m inside h =
-      let r = ranked k m h in
-      let up = count_one_more m m (is_beside q start n) (omega arith) h.0 in
-      let all = count_mono (suc m) calendar_end (is_beside q start n) inside in
-      (omega (arith, up, r.1), omega (arith, all, r.1))
+  rank_within k m inside h = grind (arith, count_mono (suc m) calendar_end, count_one_more m m, ranked k m h)
 
 -- ---- COUNT alone
 

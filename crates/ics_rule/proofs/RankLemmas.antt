@@ -17,10 +17,8 @@ use Rattle.ics_rule.proofs.Counts.{count-suc, count-add, count-none, count_mono,
 -- what no number between two passes counts alike up to both
 pub count_flat : (a b : ℕ) (test : ℕ → Bool) → a ≤ b → ((m : ℕ) → a ≤ m → m < b → test m ≡ false) → count b test ≡ count a test
 count_flat a b test h none =
-    let parts = count-add a (b - a) test in
     let rest = count-none (b - a) (λ k. test (a + k)) (λ k l. none (a + k) (omega arith) (omega arith)) in
-    let same = ap (λ x. count x test) (let all : a + (b - a) ≡ b = omega arith in all) in
-    omega (arith, parts, rest, same)
+    grind (arith, count-add a (b - a) test)
 
 -- a walk from member to member that counts them
 module _ (test : ℕ → Bool) (place passed n : ℕ) (next : IsLeastFrom test place n) (own : passed ≡ count place test) where
@@ -28,11 +26,7 @@ module _ (test : ℕ → Bool) (place passed n : ℕ) (next : IsLeastFrom test p
   before_next = count_flat place n test next.low next.least ∙ sym own
 
   pub nth_next : passed + 1 ≡ count (n + 1) test
-  nth_next =
-      let last = count-suc n test in
-      let one = count_one (test n) next.passes in
-      let same = ap (λ x. count x test) (let e : suc n ≡ n + 1 = omega arith in e) in
-      omega (arith, before_next, last, one, same)
+  nth_next = grind (arith, before_next, count-suc n test, count_one (test n) next.passes)
 
 pub nth_done : (test : ℕ → Bool) (place passed bound : ℕ) → ((m : ℕ) → place ≤ m → test m ≡ false) → passed ≡ count place test → count bound test ≤ passed
 nth_done test place passed bound none own = grind (arith, cases_lt, count_flat, count_mono)
@@ -70,8 +64,7 @@ found test k (suc end) low high = elim (cases_lt (count end test) k) [
 -- the rank of one that passes is one more than how many pass before it
 pub rank_listed : (positions : WideOrdinals) (p : ℕ → Bool) (k n : ℕ)
     → (p k && lists_wide positions (count (suc k) p) n) ≡ (p k && is_listed positions n (count k p))
-rank_listed positions p k n = guard (p k) _ _ (λ e. ap (λ x. lists_wide positions x n)
-    (let last = count-suc k p in let one = count_one (p k) e in let next : count (suc k) p ≡ count k p + 1 = omega (arith, last, one) in next))
+rank_listed positions p k n = grind (arith, count-suc k p, count_one (p k))
 
 -- of the numbers below len that pass, those at a place that BYSETPOS lists, or all if it is absent
 abbrev pub placed_of : WideOrdinals → Bool → (ℕ → Bool) → ℕ → ℕ → Bool

@@ -65,10 +65,8 @@ repeats_often f a on (suc j) n l = ap f (let same : n + suc j * a ≡ n + j * a 
 
 pub step_repeats : (i d first p : ℕ) → first ≤ p → is_stepped first i (p + i * d) ≡ is_stepped first i p
 step_repeats i d first p l =
-    let some : nat_le first (p + i * d) ≡ nat_le first p = le-leb first (p + i * d) (omega (arith, l)) ∙ sym (le-leb first p l) in
-    let rest : p + i * d - first ≡ p - first + d * i = (let swap = mul_comm i d in omega (arith, l, swap)) in
-    ap (λ x. x && ((p + i * d - first) % i == 0)) some ∙ ap (λ x. nat_le first p && (x % i == 0)) rest
-    ∙ ap (λ x. nat_le first p && (x == 0)) (add-mul-mod_self_right (p - first) d i)
+    let rest : p + i * d - first ≡ p - first + d * i = omega (arith, l, mul_comm i d) in
+    rw (rest, add-mul-mod_self_right (p - first) d i) (grind (arith, nat_tests))
 
 pub round_is : {q : EffectiveRule} {seconds unit : ℕ} → unit ≡ seconds_of q.frequency → 0 < unit → seconds % unit ≡ 0 → 1 ≤ seconds → 1 ≤ q.interval
     → ((n : ℕ) → (lets_date q (day_of (n + seconds)) && lets_clock q (n + seconds)) ≡ (lets_date q (day_of n) && lets_clock q n))

@@ -1,7 +1,5 @@
 -- The days that are added to a set, of a run in which they have numbers.
-use Rattle.std.proofs.Common.{◌≡◌, ℕ, ◌+◌, ◌-◌, ◌*◌, ◌/◌, ◌^◌, ◌<◌, ◌≤◌, ◌⊎◌, inl, inr, Bool, true, false, ◌==◌, ◌||◌, ◌&&◌, nat_lt, nat_le, refl, sym}
-use Rattle.std.proofs.Common.{ap, ◌∙◌, arith}
-use Rattle.std.proofs.lemmas.Bool.{and_parts, and_right, cases_lt, eq-eqb, eqb-true, le-leb, le-ltb, lt-ltb, or_right}
+use Rattle.std.proofs.Common.{◌≡◌, ℕ, ◌+◌, ◌-◌, ◌*◌, ◌/◌, ◌^◌, ◌<◌, ◌≤◌, ◌⊎◌, Bool, true, false, ◌==◌, ◌||◌, ◌&&◌, nat_lt, nat_le, arith}
 use Rattle.std.proofs.lemmas.Bool.Decides.{nat_tests}
 use Rattle.ics_fields.specs.Sets.{contains, IsLeastFrom}
 use Rattle.ics_fields.proofs.SetLemmas.{has_above}
@@ -11,69 +9,44 @@ use Rattle.ics_fields.specs.declared.ordinals.Weekdays.{Weekdays}
 use Rattle.ics_rule.specs.Candidates.{lists, lists_nth}
 use Rattle.ics_rule.specs.Runs.{has_run, weekday_in, lists_weekday}
 use Rattle.ics_rule.specs.NamedWeekdays.{names_weekday}
-use Rattle.ics_rule.proofs.DateLemmas.{none_nth, in_week}
-use Rattle.ics_rule.proofs.ScanLemmas.{one_more, no_more}
-use Rattle.ics_rule.proofs.Tests.{above, and_false, below, iff, keep_true, or_false, or_swap, three}
-
--- of three tests of which the second fails, the third does not count
-out : (x y z : Bool) → (x && false && y) ≡ (x && false && z)
-out x y z = grind arith
+use Rattle.ics_rule.proofs.DateLemmas.{none_nth}
 
 -- the members found before a place, and the next
 pub next_found : (f : ℕ → Bool) (from k x : ℕ) → IsLeastFrom f from k → ((x == k) || (nat_lt x from && f x)) ≡ (nat_lt x (k + 1) && f x)
-next_found f from k x next = grind (arith, nat_tests, above, and_false, below, cases_lt, eq-eqb, le-ltb, lt-ltb, three)
-
--- where none is left, all are found
-pub all_found : (f : ℕ → Bool) (from x : ℕ) → (from ≤ x → f x ≡ false) → (nat_lt x from && f x) ≡ f x
-all_found f from x none = grind (arith, nat_tests, and_false, cases_lt, lt-ltb)
+next_found f from k x next = grind (arith, nat_tests)
 
 -- at first those from the front alone
 pub listed_first : (s : ℕ) (back : ℕ → Bool) (size : ℕ) {n k : ℕ} → 1 ≤ n → ((m : ℕ) → m < size + 1 → contains k m ≡ contains s m) → k < 2 ^ (size + 1)
     → contains k n ≡ (nat_le n size && (contains s n || (nat_lt (size + 1 - n) 1 && back (size + 1 - n))))
-listed_first s back size one members bound = grind (arith, nat_tests, cases_lt, has_above, le-ltb, or_false, out)
+listed_first s back size one members bound = grind (arith, nat_tests, has_above)
 
 -- the numbers that are listed from the end
 module _ (front back : ℕ → Bool) (size : ℕ) where
   pub listed_more : {from k n : ℕ} {b : Bool} → 1 ≤ n → 1 ≤ k → k ≤ size → IsLeastFrom back from k
       → b ≡ (nat_le n size && (front n || (nat_lt (size + 1 - n) from && back (size + 1 - n))))
       → ((n == size + 1 - k) || b) ≡ (nat_le n size && (front n || (nat_lt (size + 1 - n) (k + 1) && back (size + 1 - n))))
-  listed_more one some most next e = grind (arith, nat_tests, above, cases_lt, next_found, or_swap, out)
+  listed_more one some most next e = grind (arith, nat_tests)
 
   pub listed_done : (from : ℕ) {n : ℕ} {b : Bool} → 1 ≤ n → ((x : ℕ) → from ≤ x → x ≤ size → back x ≡ false)
       → b ≡ (nat_le n size && (front n || (nat_lt (size + 1 - n) from && back (size + 1 - n))))
       → b ≡ (nat_le n size && (front n || back (size + 1 - n)))
-  listed_done from {n = n} one none e =
-      e ∙ ap (λ x. nat_le n size && (front n || x)) (all_found back from (size + 1 - n) (λ h. none (size + 1 - n) h (omega (arith, one))))
+  listed_done from one none e = grind (arith, nat_tests)
 
 -- the days of a run on a weekday, seven by seven
 module _ (r : Run) (d p m : ℕ) (a b : Bool) (own : weekday_in r p ≡ d) where
-  abbrev day_test : ℕ → ℕ → Bool
-  day_test k i = nat_lt i k && (weekday_in r i == d)
-
   abbrev found : ℕ → Bool
-  found k = a || (has_run r m && day_test k (m - r.start))
-
-  -- a day of the run is before the place, after it by less than a week, or later
-  between : (i : ℕ) → p < i → i < p + 7 → (weekday_in r i == d) ≡ false
-  between i h l = grind (arith, nat_tests, above, below, three)
-
-  seven : (i : ℕ) → (i < p) ⊎ (p < i) → day_test p i ≡ day_test (p + 7) i
-  seven i h = grind (arith, nat_tests, and_right, between, cases_lt, le-ltb, lt-ltb)
-
-  others : (m < r.start) ⊎ ((m - r.start < p) ⊎ (p < m - r.start)) → found p ≡ found (p + 7)
-  others (inl low) = let out : nat_le r.start m ≡ false = grind (arith, nat_tests) in rw out refl
-  others (inr apart) = ap (λ x. a || (has_run r m && x)) (seven (m - r.start) apart)
+  found k = a || (has_run r m && (nat_lt (m - r.start) k && (weekday_in r (m - r.start) == d)))
 
   pub weekday_added : p < r.len → b ≡ found p → ((m == r.start + p) || b) ≡ found (p + 7)
-  weekday_added inside e = grind (arith, nat_tests, above, below, cases_lt, eq-eqb, lt-ltb, or_right, others, out, three)
+  weekday_added inside e = grind (arith, nat_tests)
 
   -- no day of the run comes before the first on the weekday
   pub weekday_first : p < 7 → (a ≡ found p)
-  weekday_first h = grind (arith, nat_tests, above, and_right, below, cases_lt, le-ltb, or_false, three)
+  weekday_first h = grind (arith, nat_tests)
 
   -- where the place is past the run, each day of it was seen
   pub weekday_done : r.len ≤ p → b ≡ found p → b ≡ (a || (has_run r m && (weekday_in r (m - r.start) == d)))
-  weekday_done h e = grind (arith, nat_tests, cases_lt, le-ltb, lt-ltb, out)
+  weekday_done h e = grind (arith, nat_tests)
 
 pub guard : (a b c : Bool) → (a ≡ true → b ≡ c) → (a && b) ≡ (a && c)
 guard a b c h = grind arith
@@ -81,42 +54,26 @@ guard a b c h = grind arith
 pub run_facts : (r : Run) (k : ℕ) → has_run r k ≡ true → (r.start ≤ k) × (k - r.start < r.len)
 run_facts r k h = grind (arith, nat_tests)
 
-pub run_shown : (r : Run) (k : ℕ) → r.start ≤ k → k - r.start < r.len → has_run r k ≡ true
-run_shown r k h l = grind (arith, nat_tests)
-
 -- the days of a run on a weekday by their numbers: the n-th comes n - 1 weeks after the first
 module _ (r : Run) (listed : ℕ → Bool) (d p from m : ℕ) (a b : Bool) (own : weekday_in r p ≡ d) (early : p < 7) where
   abbrev number_found : ℕ → Bool
   number_found k = a || (has_run r m && ((weekday_in r (m - r.start) == d) && (nat_lt ((m - r.start) / 7 + 1) k && listed ((m - r.start) / 7 + 1))))
 
-  number_place : (n : ℕ) → 1 ≤ n → p + 7 * (n - 1) < r.len →
-      (m == r.start + (p + 7 * (n - 1))) ≡ (has_run r m && ((weekday_in r (m - r.start) == d) && ((m - r.start) / 7 + 1 == n)))
-  number_place n some inside = grind (arith, nat_tests, and_parts, early, eq-eqb, eqb-true, iff, run_facts, run_shown)
-
   pub number_added : (n : ℕ) → 1 ≤ n → p + 7 * (n - 1) < r.len → IsLeastFrom listed from n → b ≡ number_found from →
       ((m == r.start + (p + 7 * (n - 1))) || b) ≡ number_found (n + 1)
-  number_added n some inside next e = grind (arith, nat_tests, next_found, number_place)
+  number_added n some inside next e = grind (arith, nat_tests)
 
   pub number_none : a ≡ number_found 1
-  number_none = grind (arith, nat_tests, and_right, le-ltb, or_false)
+  number_none = grind (arith, nat_tests)
 
   pub number_done : (q : Ordinals) {count : ℕ} → count ≡ (r.len - 1 - p) / 7 + 1 → p < r.len → ((n : ℕ) → from ≤ n → listed n ≡ false) →
       ((n : ℕ) → 1 ≤ n → listed n ≡ (nat_le n count && lists q n count))
       → b ≡ number_found from → b ≡ (a || (has_run r m && ((weekday_in r (m - r.start) == d) && lists_nth q (m - r.start + 1) r.len)))
-  number_done q {count = count} size some none is e = e ∙ ap (λ y. a || y) (guard (has_run r m) _ _ (λ h. guard (weekday_in r (m - r.start) == d) _ _ (λ g.
-      let n = (m - r.start) / 7 + 1 in
-      let there = run_facts r m h in
-      let weekday = eqb-true (weekday_in r (m - r.start)) d g in
-      let in_count = le-leb n count (omega (arith, size, there.1, weekday, own, early)) in
-      let front : (m - r.start + 1 - 1) / 7 + 1 ≡ n = omega arith in
-      let back : (r.len - (m - r.start + 1)) / 7 + 1 ≡ count + 1 - n = omega (arith, size, there.1, weekday, own, early) in
-      all_found listed from n (none n) ∙ is n (omega arith) ∙ ap (λ y. y && lists q n count) in_count
-      ∙ sym (ap (λ x. contains q.front x || contains q.back ((r.len - (m - r.start + 1)) / 7 + 1)) front
-      ∙ ap (λ x. contains q.front n || contains q.back x) back))))
+  number_done q size some none is e = grind (arith, nat_tests)
 
 -- a weekday without a number has any
 pub each_listed : (a x w : Bool) {plain : Bool} (n : Bool) {new : Bool} → plain ≡ true → new ≡ (a || (x && w)) → new ≡ (a || (x && (w && (plain || n))))
-each_listed a x w n h e = e ∙ rw h (ap (λ y. a || (x && y)) (sym (keep_true w)))
+each_listed a x w n h e = grind arith
 
 pub numbered_listed : (a x w : Bool) {plain : Bool} (n : Bool) {new : Bool} → plain ≡ false → new ≡ (a || (x && (w && n)))
     → new ≡ (a || (x && (w && (plain || n))))
@@ -125,20 +82,20 @@ numbered_listed a x w n h e = rw h e
 -- a weekday that BYDAY does not list has no day
 module _ (ws : Weekdays) (named : ℕ → Bool) (is : (d : ℕ) → named d ≡ (nat_lt d 7 && names_weekday ws d)) where
   pub unnamed : (d n size : ℕ) → d < 7 → named d ≡ false → lists_weekday ws d n size ≡ false
-  unnamed d n size small h = grind (arith, nat_tests, in_week, none_nth, out)
+  unnamed d n size small h = grind (arith, nat_tests, none_nth)
 
 -- the days of a run, weekday by weekday of those that BYDAY names
 module _ (listed named : ℕ → Bool) (w : ℕ) (none : named w ≡ false → listed w ≡ false) (a x : Bool) where
   pub weekdays_more : {from d : ℕ} {b new : Bool} → IsLeastFrom named from d → new ≡ (b || (x && ((w == d) && listed d)))
       → b ≡ (a || (x && (nat_lt w from && listed w))) → new ≡ (a || (x && (nat_lt w (d + 1) && listed w)))
-  weekdays_more next e h = grind (arith, nat_tests, above, below, eq-eqb, le-ltb, lt-ltb, three)
+  weekdays_more next e h = grind (arith, nat_tests)
 
   pub weekdays_done : {from : ℕ} {b : Bool} → ((d : ℕ) → from ≤ d → named d ≡ false) → b ≡ (a || (x && (nat_lt w from && listed w)))
       → b ≡ (a || (x && listed w))
-  weekdays_done left h = grind (arith, nat_tests, all_found)
+  weekdays_done left h = grind (arith, nat_tests)
 
 pub weekdays_none : (w : ℕ) (a x y : Bool) → a ≡ (a || (x && (nat_lt w 0 && y)))
-weekdays_none w a x y = rw (le-ltb w 0 (omega arith)) (sym (ap (λ y. a || y) (and_false x) ∙ or_false a))
+weekdays_none w a x y = grind (arith, nat_tests)
 
 -- the days of a month by their numbers
 module _ (r : Run) (listed : ℕ → Bool) (from m : ℕ) (a b : Bool) where
@@ -146,21 +103,20 @@ module _ (r : Run) (listed : ℕ → Bool) (from m : ℕ) (a b : Bool) where
   day_found k = a || (has_run r m && (nat_lt (m - r.start + 1) k && listed (m - r.start + 1)))
 
   pub day_added : (n : ℕ) → 1 ≤ n → n ≤ r.len → IsLeastFrom listed from n → b ≡ day_found from → ((m == r.start + n - 1) || b) ≡ day_found (n + 1)
-  day_added n some most next e = grind (arith, nat_tests, above, below, cases_lt, next_found, three)
+  day_added n some most next e = grind (arith, nat_tests)
 
   pub day_none : a ≡ day_found 1
-  day_none = rw (le-ltb (m - r.start + 1) 1 (omega arith)) (sym (ap (λ y. a || y) (and_false (has_run r m)) ∙ or_false a))
+  day_none = grind (arith, nat_tests)
 
   pub day_done : (lists : ℕ → Bool) → ((n : ℕ) → from ≤ n → listed n ≡ false) → ((n : ℕ) → 1 ≤ n → listed n ≡ (nat_le n r.len && lists n)) → b ≡ day_found from
       → b ≡ (a || (has_run r m && lists (m - r.start + 1)))
-  day_done lists none is e = grind (arith, nat_tests, all_found, cases_lt, le-ltb, out)
+  day_done lists none is e = grind (arith, nat_tests)
 
 -- a listed number is one of so many
 pub listed_within : (n size : ℕ) (b : Bool) → (nat_le n size && b) ≡ true → n ≤ size
-listed_within n size b h = grind (arith, nat_tests, cases_lt, out)
+listed_within n size b h = grind (arith, nat_tests)
 
 -- a set of the numbers that pass a test, walked number by number
 pub tested : (f : ℕ → Bool) (k m : ℕ) {old t new : Bool} → t ≡ f k → old ≡ (nat_lt m k && f m)
     → ((t ≡ true) × (new ≡ ((m == k) || old))) ⊎ ((t ≡ false) × (new ≡ old)) → new ≡ (nat_lt m (k + 1) && f m)
-tested f k m e h (inl more) = more.1 ∙ one_more f k m _ (sym e ∙ more.0) h
-tested f k m e h (inr same) = same.1 ∙ no_more f k m _ (sym e ∙ same.0) h
+tested f k m e h w = grind (arith, nat_tests)

@@ -20,10 +20,10 @@ three a b h = grind arith
 
 module _ (k : ℕ) (some : 0 < k) where
   div_mono : (x m : ℕ) → x ≤ m → x / k ≤ m / k
-  div_mono x m h = le-div (x / k) m k some (let whole = div-add-mod' x k in omega (arith, whole))
+  div_mono x m h = grind (arith, div-add-mod', le-div)
 
   same_block : (x m : ℕ) → m / k ≡ x / k → x ≤ m → x % k ≤ m % k
-  same_block x m e h = let a = div-add-mod' x k in let b = div-add-mod' m k in let c = ap (λ z. z * k) e in omega (arith, a, b, c)
+  same_block x m e h = grind (arith, div-add-mod')
 
   before_block : (m hi lo : ℕ) → lo < k → m < hi * k + lo → (m / k < hi) ⊎ ((m / k ≡ hi) × (m % k < lo))
   before_block m hi lo l h = grind (arith, nat_tests, div-add-mod', div-mul-add, div_mono, three)
@@ -31,58 +31,43 @@ module _ (k : ℕ) (some : 0 < k) where
   module _ (A B : ℕ → Bool) (small : (m : ℕ) → B m ≡ true → m < k) where
     -- in the block that the place lies in
     pub next_here : (x lo : ℕ) → A (x / k) ≡ true → IsLeastFrom B (x % k) lo → IsLeastFrom (λ n. A (n / k) && B (n % k)) x (x / k * k + lo)
-    next_here x lo a next = grind (arith, nat_tests, and_from, and_right, before_block, div-add-mod', div-mul-add, div_mono, mod-mul-add, same_block)
+    next_here x lo a next = grind (arith, nat_tests, before_block, div-add-mod', div-mul-add, div_mono, mod-mul-add, same_block)
 
     -- in a later block
     pub next_later : (x hi lo : ℕ) → ((m : ℕ) → x ≤ m → m / k ≡ x / k → (A (m / k) && B (m % k)) ≡ false) → IsLeastFrom A (x / k + 1) hi → IsLeastFrom B 0 lo →
         IsLeastFrom (λ n. A (n / k) && B (n % k)) x (hi * k + lo)
     next_later x hi lo none next first =
-        grind (arith, nat_tests, and_from, and_left, and_right, before_block, div-add-mod', div-mul-add, div_mono, mod-lt, mod-mul-add, mul-le-mul_right, three)
+        grind (arith, nat_tests, before_block, div-add-mod', div-mul-add, div_mono, mod-lt, mod-mul-add, mul-le-mul_right, three)
 
     -- in no block
     pub none_later : (x : ℕ) → ((m : ℕ) → x ≤ m → m / k ≡ x / k → (A (m / k) && B (m % k)) ≡ false) → ((a : ℕ) → x / k + 1 ≤ a → A a ≡ false) →
         (m : ℕ) → x ≤ m → (A (m / k) && B (m % k)) ≡ false
-    none_later x here later m low = elim (three (x / k) (m / k) (div_mono x m low)) [
-      | inl same ↦ here m low (sym same)
-      | inr more ↦ and_left (A (m / k)) (B (m % k)) (later (m / k) more)
-    ]
+    none_later x here later m low = grind (arith, div_mono, three)
 
     -- what is left where the block of the place is done
     pub block_out : (x : ℕ) → A (x / k) ≡ false → (m : ℕ) → x ≤ m → m / k ≡ x / k → (A (m / k) && B (m % k)) ≡ false
-    block_out x a m low same = and_left (A (m / k)) (B (m % k)) (ap A same ∙ a)
+    block_out x a m low same = grind arith
 
     pub block_done : (x : ℕ) → ((m : ℕ) → x % k ≤ m → B m ≡ false) → (m : ℕ) → x ≤ m → m / k ≡ x / k → (A (m / k) && B (m % k)) ≡ false
-    block_done x b m low same = and_right (A (m / k)) (B (m % k)) (b (m % k) (same_block x m same low))
+    block_done x b m low same = grind (arith, same_block)
 
 -- the set of one number, and the empty set
 pub contains-only : (h m : ℕ) → contains (only h) m ≡ (m == h)
-contains-only h m = grind (arith, nat_tests, bit_at-pow_other, bit_at-pow_same, cases_eq, ne_eqb, self_test)
+contains-only h m = grind (arith, nat_tests, bit_at-pow_other, bit_at-pow_same)
 
 pub own_only : (f : ℕ → Bool) (own m : ℕ) → f own ≡ true → (m == own) ≡ ((m == own) && f m)
-own_only f own m h = grind (arith, nat_tests, and_left, cases_eq, keep_true, ne_eqb)
-
--- the test of one number more
-grow : (m k : ℕ) → m ≢ k → nat_lt m k ≡ nat_lt m (k + 1)
-grow m k o = grind (arith, nat_tests)
-
-pub one_more : (f : ℕ → Bool) (k m : ℕ) (b : Bool) → f k ≡ true → b ≡ (nat_lt m k && f m) → ((m == k) || b) ≡ (nat_lt m (k + 1) && f m)
-one_more f k m b h e = grind (arith, nat_tests, cases_eq, grow, lt-ltb, ne_eqb, self_test)
-
-pub no_more : (f : ℕ → Bool) (k m : ℕ) (b : Bool) → f k ≡ false → b ≡ (nat_lt m k && f m) → b ≡ (nat_lt m (k + 1) && f m)
-no_more f k m b h e = grind (arith, nat_tests, and_right, cases_eq, grow)
+own_only f own m h = grind (arith, nat_tests)
 
 -- what the test of one word says below 64
 pub in_word : (n : ℕ) (b : Bool) → n < 64 → (nat_lt n 64 && b) ≡ b
-in_word n b h = ap (λ x. x && b) (lt-ltb n 64 h)
+in_word n b h = grind (arith, nat_tests)
 
 -- minutes and seconds of the product lie in the day
 pub minute_below : (hours minutes m : ℕ) → hours < 2 ^ 24 → has_minute hours minutes m ≡ true → m < 1440
-minute_below hours minutes m h e = let l = member_below hours 24 (m / 60) h (and_parts (contains hours (m / 60)) (contains minutes (m % 60)) e).0 in
-    omega (arith, l)
+minute_below hours minutes m h e = grind (arith, member_below hours 24 (m / 60))
 
 pub second_below : (hours minutes seconds t : ℕ) → hours < 2 ^ 24 → has_time hours minutes seconds t ≡ true → t < 86_400
-second_below hours minutes seconds t h e = let l =
-    minute_below hours minutes (t / 60) h (and_parts (has_minute hours minutes (t / 60)) (contains seconds (t % 60)) e).0 in omega (arith, l)
+second_below hours minutes seconds t h e = grind (arith, minute_below hours minutes (t / 60))
 
 -- a time of day by its readings
 pub time_at : (hours minutes seconds n : ℕ) → has_time hours minutes seconds (n % 86_400)

@@ -1,6 +1,7 @@
 -- Of the size of a period, the number of locals that a rule allows there, depends how many are chosen.
-use Rattle.std.proofs.Common.{◌≡◌, ℕ, suc, ◌+◌, ◌*◌, ◌<◌, ◌≤◌, ◌⊎◌, inl, inr, Bool, true, false, ◌&&◌, refl, sym, ap, ◌∙◌, arith}
-use Rattle.std.proofs.lemmas.Bool.{eq-eqb, ne_eqb}
+use Rattle.std.proofs.Common.{◌≡◌, ℕ, suc, ◌+◌, ◌*◌, ◌<◌, ◌≤◌, ◌⊎◌, inl, inr, Bool, true, false, ◌&&◌, cond, refl, sym, ap, ◌∙◌, arith}
+use Rattle.std.proofs.lemmas.Bool.{eq-eqb}
+use Rattle.std.proofs.lemmas.Bool.Decides.{nat_tests}
 use Rattle.jiff_core.specs.Weekday.{monday_zero}
 use Rattle.ics_fields.specs.Ordinals.{lists_none_wide}
 use Rattle.ics_rule.specs.declared.effective_rule.EffectiveRule.{EffectiveRule}
@@ -34,16 +35,10 @@ module _ (q : EffectiveRule) (start x len : ℕ)
   t k = let_at q x k
 
   here : (k : ℕ) → k < len → period_in q (a + k) ≡ x
-  here k l =
-      let low = begins q.frequency (monday_zero q.week_start) x (a + k) (omega arith) in
-      let high = before_first q.frequency (monday_zero q.week_start) (suc x) (a + k) (omega (arith, e, l)) in
-      omega (arith, low, high)
+  here k l = grind (arith, before_first, begins)
 
   out : (n : ℕ) → (n < a) ⊎ (a + len ≤ n) → is_let_in q x n ≡ false
-  out n h = ap (λ y. y && (lets_date q (day_of n) && lets_clock q n)) (ne_eqb (period_in q n) x (λ same.
-      let low = begun q.frequency (monday_zero q.week_start) x n (omega (arith, same)) in
-      let high = before_next q.frequency (monday_zero q.week_start) (suc x) n (omega (arith, same)) in
-      elim h [ inl early ↦ omega (arith, low, early) | inr late ↦ omega (arith, high, e, late) ]))
+  out n h = grind (arith, nat_tests, before_next, begun)
 
   pub counted : count longest t ≡ count len t
   counted = let short = is_short q.frequency (monday_zero q.week_start) x in
@@ -86,3 +81,8 @@ module _ (q : EffectiveRule) (start x len : ℕ)
         (chosen_in (lists_none_wide q.positions)) in
         let decided = size_decides q (lists_none_wide q.positions) t len in
         omega (arith, adds (is_chosen q start), same, decided, ap (chosen_of_size q (lists_none_wide q.positions)) counted)
+
+  -- so a period adds as many as its size decides if it is a step, and else none
+  pub chosen_adds : a + len ≤ calendar_end → chosen_to q start (suc x)
+      ≡ chosen_to q start x + cond (is_stepped (period_in q start) q.interval x) (chosen_of_size q (lists_none_wide q.positions) (count longest t)) 0
+  chosen_adds inside = grind (arith, none_adds, period_adds)

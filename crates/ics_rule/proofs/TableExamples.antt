@@ -23,24 +23,48 @@ use Rattle.ics_rule.proofs.Samples.{on_weekdays, nth_weekday, date, local, rule,
 abbrev listed : RuleParts → ℕ → ℕ → ℕ → ℕ → ℕ → List ℕ
 listed p year month day first span = filter (λ e. is_member (rule p (local year month day 9 0) DateTime) (e * 86_400 + 32_400)) (days_from first span)
 
--- every other day
-every_other_day : listed (record (every Daily) { interval = 2 }) 1997 9 2 (date 1997 9 2) 9 ≡ map (date 1997 9) (2 ∷ 4 ∷ 6 ∷ 8 ∷ 10 ∷ [])
-unfolding days_on_literals
-every_other_day = refl
+-- what a rule lists on the first days of a month, as it is and as it has to be
+abbrev row : RuleParts → ℕ × ℕ × ℕ → ℕ × ℕ → ℕ → List ℕ → List ℕ × List ℕ
+row p start month span days = (listed p start.0 start.1 start.2 (date month.0 month.1 1) span, map (date month.0 month.1) days)
 
--- every other week on Monday, Wednesday and Friday, weeks from Sunday
-every_other_week : listed
-    (record (every Weekly) { interval = 2; week_start = Sunday; weekdays = on_weekdays (only mo + only 2 + only fr) }) 1997 9 1 (date 1997 9 1) 30
-    ≡ map (date 1997 9) (1 ∷ 3 ∷ 5 ∷ 15 ∷ 17 ∷ 19 ∷ 29 ∷ [])
-unfolding days_on_literals
-every_other_week = refl
+abbrev AreListed : List (List ℕ × List ℕ) → Type 0
+AreListed rows = map (λ row. row.0) rows ≡ map (λ row. row.1) rows
 
--- the first Friday of the month
-first_friday : listed (record (every Monthly) { weekdays = nth_weekday 1 fr }) 1997 9 5 (date 1997 10 1) 31 ≡ map (date 1997 10) (3 ∷ [])
+examples : AreListed (
+    -- every other day
+    row (record (every Daily) { interval = 2 }) (1997, 9, 2) (1997, 9) 10 (2 ∷ 4 ∷ 6 ∷ 8 ∷ 10 ∷ [])
+    -- every other week on Monday, Wednesday and Friday, weeks from Sunday
+    ∷ row (record (every Weekly) { interval = 2; week_start = Sunday; weekdays = on_weekdays (only mo + only 2 + only fr) })
+    (1997, 9, 1) (1997, 9) 30 (1 ∷ 3 ∷ 5 ∷ 15 ∷ 17 ∷ 19 ∷ 29 ∷ [])
+    -- the first Friday of the month
+    ∷ row (record (every Monthly) { weekdays = nth_weekday 1 fr }) (1997, 9, 5) (1997, 10) 31 (3 ∷ [])
+    -- the third-to-the-last day of the month
+    ∷ row (record (every Monthly) { month_days = record no_ordinals { back = only 3 } }) (1997, 9, 28) (1998, 2) 28 (26 ∷ [])
+    -- the first and last day of the month
+    ∷ row (record (every Monthly) { month_days = record { front = only 1; back = only 1 } }) (1997, 9, 30) (1997, 10) 31 (1 ∷ 31 ∷ [])
+    -- every June and July
+    ∷ row (record (every Yearly) { months = only 6 + only 7 }) (1997, 6, 10) (1998, 7) 31 (10 ∷ [])
+    -- every third year on the 1st, 100th and 200th day
+    ∷ row (record (every Yearly) {
+      interval = 3;
+      year_days = with_wide_ordinal Front 1 (with_wide_ordinal Front 100 (with_wide_ordinal Front 200 no_wide_ordinals));
+    }) (1997, 1, 1) (2000, 4) 30 (9 ∷ [])
+    -- every 20th Monday of the year
+    ∷ row (record (every Yearly) { weekdays = nth_weekday 20 mo }) (1997, 5, 19) (1998, 5) 31 (18 ∷ [])
+    -- Monday of week number 20
+    ∷ row (record (every Yearly) { weeks = record no_ordinals { front = only 20 }; weekdays = on_weekdays (only mo) }) (1997, 5, 12) (1999, 5) 31 (17 ∷ [])
+    -- every Thursday in March
+    ∷ row (record (every Yearly) { months = only 3; weekdays = on_weekdays (only 3) }) (1997, 3, 13) (1998, 3) 31 (5 ∷ 12 ∷ 19 ∷ 26 ∷ [])
+    -- the first Tuesday after a Monday in November, every four years
+    ∷ row
+    (record (every Yearly) { interval = 4; months = only 11; weekdays = on_weekdays (only tu); month_days = record no_ordinals { front = 2 ^ 9 - 2 ^ 2 } })
+    (1996, 11, 5) (2000, 11) 30 (7 ∷ [])
+    ∷ []
+    )
 unfolding days_on_literals
-first_friday = refl
+examples = refl
 
--- which the table allows
+-- the table allows the first Friday of the month
 first_friday_allowed : IsAllowed (rule (record (every Monthly) { weekdays = nth_weekday 1 fr }) (local 1997 9 5 9 0) DateTime)
 first_friday_allowed = record { parts = parts; numbers = λ e. absurd (cc); dates = λ e. absurd (cc) }
   where
@@ -48,55 +72,6 @@ first_friday_allowed = record { parts = parts; numbers = λ e. absurd (cc); date
         → is_absent (rule (record (every Monthly) { weekdays = nth_weekday 1 fr }) (local 1997 9 5 9 0) DateTime) part ≡ true
     parts ByDay e = absurd (cc)
     parts part e = refl
-
--- the third-to-the-last day of the month
-third_last : listed (record (every Monthly) { month_days = record no_ordinals { back = only 3 } }) 1997 9 28 (date 1998 2 1) 28 ≡ map (date 1998 2) (26 ∷ [])
-unfolding days_on_literals
-third_last = refl
-
--- the first and last day of the month
-first_and_last : listed (record (every Monthly) { month_days = record { front = only 1; back = only 1 } }) 1997 9 30 (date 1997 10 1) 31
-    ≡ map (date 1997 10) (1 ∷ 31 ∷ [])
-unfolding days_on_literals
-first_and_last = refl
-
--- every June and July
-june_and_july : listed (record (every Yearly) { months = only 6 + only 7 }) 1997 6 10 (date 1998 7 1) 31 ≡ map (date 1998 7) (10 ∷ [])
-unfolding days_on_literals
-june_and_july = refl
-
--- every third year on the 1st, 100th and 200th day
-third_years : listed
-    (record (every Yearly) { interval = 3; year_days = with_wide_ordinal Front 1 (with_wide_ordinal Front 100 (with_wide_ordinal Front 200 no_wide_ordinals)) })
-    1997 1 1 (date 2000 4 1) 30
-    ≡ map (date 2000 4) (9 ∷ [])
-unfolding days_on_literals
-third_years = refl
-
--- every 20th Monday of the year
-twentieth_monday : listed (record (every Yearly) { weekdays = nth_weekday 20 mo }) 1997 5 19 (date 1998 5 1) 31 ≡ map (date 1998 5) (18 ∷ [])
-unfolding days_on_literals
-twentieth_monday = refl
-
--- Monday of week number 20
-week_20 : listed (record (every Yearly) { weeks = record no_ordinals { front = only 20 }; weekdays = on_weekdays (only mo) }) 1997 5 12 (date 1999 5 1) 31
-    ≡ map (date 1999 5) (17 ∷ [])
-unfolding days_on_literals
-week_20 = refl
-
--- every Thursday in March
-march_thursdays : listed (record (every Yearly) { months = only 3; weekdays = on_weekdays (only 3) }) 1997 3 13 (date 1998 3 1) 31
-    ≡ map (date 1998 3) (5 ∷ 12 ∷ 19 ∷ 26 ∷ [])
-unfolding days_on_literals
-march_thursdays = refl
-
--- the first Tuesday after a Monday in November, every four years
-election_day : listed
-    (record (every Yearly) { interval = 4; months = only 11; weekdays = on_weekdays (only tu); month_days = record no_ordinals { front = 2 ^ 9 - 2 ^ 2 } })
-    1996 11 5 (date 2000 11 1) 30
-    ≡ map (date 2000 11) (7 ∷ [])
-unfolding days_on_literals
-election_day = refl
 
 -- ---- BYSETPOS, counted by days: each instance is at 9:00 in the month
 

@@ -16,34 +16,19 @@ use Rattle.ics_rule.specs.PeriodNumbers.{week_of}
 use Rattle.ics_rule.specs.Candidates.{week_number, weeks_of_year, lets_place, lets_week}
 use Rattle.ics_rule.specs.Runs.{may_list_week}
 use Rattle.ics_rule.proofs.PeriodLemmas.{week_small, fourth_late}
-use Rattle.ics_rule.proofs.RunLemmas.{next_found, all_found}
 use Rattle.ics_rule.proofs.LawLemmas.{year_day_is}
-use Rattle.ics_rule.proofs.Tests.{none_yet, or_false, or_swap}
 
 -- the days between two
 pub between_none : (low m : ℕ) (a : Bool) → a ≡ (a || (nat_le low m && nat_lt m low))
-between_none low m a = grind (arith, nat_tests, or_false)
+between_none low m a = grind (arith, nat_tests)
 
 pub between_more : (low k m : ℕ) (a : Bool) {b : Bool} → low ≤ k → b ≡ (a || (nat_le low m && nat_lt m k))
     → ((m == k) || b) ≡ (a || (nat_le low m && nat_lt m (k + 1)))
-between_more low k m a l e = grind (arith, nat_tests, or_swap)
+between_more low k m a l e = grind (arith, nat_tests)
 
 pub between_done : {low end k : ℕ} (m : ℕ) (a : Bool) {b : Bool} → low ≤ k → end ≤ k → k ≤ max low end → b ≡ (a || (nat_le low m && nat_lt m k)) →
     b ≡ (a || (nat_le low m && nat_lt m end))
-between_done m a l h most e = grind (arith, nat_tests, cases_lt)
-
-pub gained : (old new b : Bool) → new ≡ (old || b) → b ≡ true → new ≡ true
-gained old new b e h = grind arith
-
-pub either : (old new b : Bool) → new ≡ (old || b) → new ≡ true → (old ≡ true) ⊎ (b ≡ true)
-either true new b e h = inl refl
-either false new b e h = inr (sym e ∙ h)
-
-pub between_shown : (low end m : ℕ) → low ≤ m → m < end → (nat_le low m && nat_lt m end) ≡ true
-between_shown low end m l h = grind (arith, nat_tests)
-
-pub between_facts : (low end m : ℕ) → (nat_le low m && nat_lt m end) ≡ true → (low ≤ m) × (m < end)
-between_facts low end m h = grind (arith, nat_tests)
+between_done m a l h most e = grind (arith, nat_tests)
 
 -- day k of a year is near its end, or lies in week n, of which the fourth day comes `fourth` days after the year's first and n - 1 weeks later
 pub record IsNear (weeks : Ordinals) (fourth k n : ℕ) : Type 0 where
@@ -62,16 +47,9 @@ module _ (q : EffectiveRule) (some : lists_none q.weeks ≡ false) where
       → lets_place q.weeks (week_number f) (weeks_of_year f) ≡ true → may_list_week q.weeks (j / 7 + 1) ≡ true
   listed_week {f = f} {y = y} j year place inside h =
       let day : year_day_of f - 1 ≡ j = (let d = year_day_is f in let same = ap days_before_year year in omega (arith, d, same, place)) in
-      let bounds = days_in_year_bounds (pos y) in
       let own = rw (day, year) at h in
-      let back = (days_in_year (pos y) - 1 - j % 7) / 7 + 1 + 1 - (j / 7 + 1) in
-      either_back (contains q.weeks.front (j / 7 + 1)) (elim (cases_lt ((days_in_year (pos y) - 1 - j % 7) / 7 + 1) 53) [
-        | inl fewer ↦ inl (let at : back ≡ 53 - (j / 7 + 1) = omega (arith, fewer, bounds.0, bounds.1) in ap (contains q.weeks.back) at)
-        | inr more ↦ inr (let at : back ≡ 54 - (j / 7 + 1) = omega (arith, more, bounds.0, bounds.1) in ap (contains q.weeks.back) at)
-      ]) some own
-    where
-      either_back : {n b c x : Bool} (a : Bool) → (x ≡ b) ⊎ (x ≡ c) → n ≡ false → (n || (a || x)) ≡ true → (a || b || c) ≡ true
-      either_back a back h l = grind arith
+      let weeks = cases_lt ((days_in_year (pos y) - 1 - j % 7) / 7 + 1) 53 in
+      grind (arith, days_in_year_bounds (pos y))
 
 -- a year of so many days from a first, of a rule with BYWEEKNO; the fourth day of the first whole week comes `fourth` days after the year's first
 pub record IsYearOfWeeks (q : EffectiveRule) (first len fourth : ℕ) : Type 0 where
@@ -119,12 +97,12 @@ pub record IsCover (weeks : Ordinals) (fourth len n : ℕ) (days : List ℕ) : T
 pub cover_starts : {weeks : Ordinals} {fourth len : ℕ} (none front : List ℕ) {both : List ℕ} → 3 ≤ len → ((m : ℕ) → contains_wide none m ≡ false)
     → ((m : ℕ) → contains_wide front m ≡ (contains_wide none m || (nat_le 0 m && nat_lt m 3)))
     → ((m : ℕ) → contains_wide both m ≡ (contains_wide front m || (nat_le (len - 3) m && nat_lt m len))) → IsCover weeks fourth len 1 both
-cover_starts none front long empty f b = grind (arith, nat_tests, between_facts, between_shown, either, gained)
+cover_starts none front long empty f b = grind (arith, nat_tests)
 
 pub cover_adds : {weeks : Ordinals} {fourth len n low end : ℕ} {days more : List ℕ} → low ≡ 7 * n + fourth - 3 - 7 → end ≡ min (7 * n + fourth - 3) len
     → ((m : ℕ) → contains_wide more m ≡ (contains_wide days m || (nat_le low m && nat_lt m end))) → IsCover weeks fourth len n days →
     IsCover weeks fourth len (n + 1) more
-cover_adds el ee added cover = grind (arith, nat_tests, between_facts, between_shown, cases_lt, either, gained)
+cover_adds el ee added cover = grind (arith, nat_tests, cases_lt)
 
 pub cover_jumps : {weeks : Ordinals} {fourth len from n : ℕ} {days : List ℕ} → ((j : ℕ) → from ≤ j → j < n → may_list_week weeks j ≡ false)
     → IsCover weeks fourth len from days → IsCover weeks fourth len n days
@@ -141,12 +119,12 @@ seen_weeks front back from n = front n || (nat_lt (53 - n) from && back (53 - n)
 -- the same for the weeks of a year, by the places that are listed from the front and from the end
 module _ (front back : ℕ → Bool) where
   pub weeks_first : (n : ℕ) → front n ≡ seen_weeks front back 0 n
-  weeks_first n = rw (none_yet (53 - n), none_yet (54 - n)) (sym (or_false (front n || false) ∙ or_false (front n)))
+  weeks_first n = grind (arith, nat_tests)
 
   pub weeks_more : {from k : ℕ} (n : ℕ) {b : Bool} → 1 ≤ n → n ≤ 53 → k ≤ 53 → IsLeastFrom back from k
       → b ≡ seen_weeks front back from n → ((n == 54 - k) || ((n == 53 - k) || b)) ≡ seen_weeks front back (k + 1) n
-  weeks_more n one most some next e = grind (arith, nat_tests, next_found)
+  weeks_more n one most some next e = grind (arith, nat_tests)
 
   pub weeks_done : (from n : ℕ) {b : Bool} → 1 ≤ n → n ≤ 53 → ((x : ℕ) → from ≤ x → x ≤ 53 → back x ≡ false)
       → b ≡ seen_weeks front back from n → b ≡ (front n || back (53 - n) || back (54 - n))
-  weeks_done from n one most none e = grind (arith, nat_tests, all_found)
+  weeks_done from n one most none e = grind (arith, nat_tests)
