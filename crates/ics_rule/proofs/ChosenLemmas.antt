@@ -65,9 +65,8 @@ module _ (q : EffectiveRule) (start n : ℕ) (set : ℕ → Bool) (same : (m : �
   nth_placed : set n ≡ true → (b : Bool) → is_placed q start b n ≡ (b || is_nth q.positions set n)
   nth_placed here true = refl
   nth_placed here false =
-      let last = count-suc n set in
-      let one = count_one (set n) here in
-      let from_end : size q start n + 1 - rank q start n ≡ count calendar_end set - count n set = omega (arith, ranked, sized, last, one) in
+      let from_end : size q start n + 1 - rank q start n ≡ count calendar_end set - count n set =
+      omega (arith, ranked, sized, count-suc n set, count_one (set n) here) in
       rw (from_end, ranked) refl
 
 by_parts : (step i : Bool) {c placed nth : Bool} → c ≡ (step && i) → (step ≡ true → i ≡ true → placed ≡ nth) → (c && placed) ≡ (step && (i && nth))

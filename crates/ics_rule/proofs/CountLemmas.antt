@@ -100,27 +100,18 @@ pub turned_first : {q : EffectiveRule} {start c number limit : ℕ} (was : Curso
     is_stepped (period_in q start) q.interval number ≡ true → IsPeriodOf q p × (p.number ≡ number)
     → limit ≡ c - 1 + count (start + 1) (is_taken q.positions (lists_none_wide q.positions) p)
     → IsTurned q start c number (record (after_look was p 0) { limit = limit }) p
-turned_first {q = q} {start = start} was {p = p} positive e step (own, same) limit = record {
-  held = refl;
-  product = own;
-  number = same;
-  counted = record {
-    step = here;
-    total = sym back;
-    most =
-        let low = begun q.frequency (monday_zero q.week_start) p.number start (omega (arith, same, e)) in
-        let chosen = chosen_before q start p own here (start + 1) (omega (arith, low)) (λ m u later. absurd (
-        let up = period_mono q.frequency (monday_zero q.week_start) m start (omega (arith, u)) in omega (arith, up, later, same, e))) in
-        let one = ap (λ x. count x (is_chosen q start)) (let next : start + 1 ≡ suc start = omega arith in next) in
-        omega (arith, chosen, back, one, limit, positive);
-  };
-}
-  where
-    here : is_stepped (period_in q start) q.interval p.number ≡ true
-    here = ap (is_stepped (period_in q start) q.interval) same ∙ step
-
-    back : count (first_local q.frequency (monday_zero q.week_start) p.number) (is_chosen q start) ≡ 0
-    back = ap (λ x. count (first_local q.frequency (monday_zero q.week_start) x) (is_chosen q start)) (same ∙ e) ∙ none_before_first q start
+turned_first {q = q} {start = start} was {p = p} positive e step (own, same) limit =
+    let here : is_stepped (period_in q start) q.interval p.number ≡ true = rw same step in
+    let back : count (first_local q.frequency (monday_zero q.week_start) p.number) (is_chosen q start) ≡ 0 = rw (same, e) (none_before_first q start) in
+    let low = begun q.frequency (monday_zero q.week_start) p.number start (omega (arith, same, e)) in
+    let chosen = chosen_before q start p own here (start + 1) (omega (arith, low)) (λ m u later. absurd (
+    let up = period_mono q.frequency (monday_zero q.week_start) m start (omega (arith, u)) in omega (arith, up, later, same, e))) in
+    let one = ap (λ x. count x (is_chosen q start)) (let next : start + 1 ≡ suc start = omega arith in next) in record {
+      held = refl;
+      product = own;
+      number = same;
+      counted = record { step = here; total = sym back; most = omega (arith, chosen, back, one, limit, positive) };
+    }
 
 -- each further look
 pub turned_on : {q : EffectiveRule} {start c number before : ℕ} {o p : RecurrencePeriod} (was : Cursor) →

@@ -1,6 +1,6 @@
 -- How far a walk under COUNT has come.
 use Rattle.std.proofs.Common.{◌≡◌, ℕ, ◌+◌, ◌-◌, ◌*◌, ◌%◌, ◌<◌, ◌≤◌, inl, inr, Bool, true, false, Some, None, MatchOption}
-use Rattle.std.proofs.Common.{subst, ap, ◌∙◌, arith}
+use Rattle.std.proofs.Common.{ap, ◌∙◌, arith}
 use Rattle.std.proofs.lemmas.Bool.{and_from, and_right, cases_lt}
 use Rattle.std.proofs.lemmas.Nat.{mod-mul-add}
 use Rattle.jiff_core.specs.Weekday.{monday_zero}
@@ -113,10 +113,10 @@ module _ {q : EffectiveRule} {start c stop number : ℕ} {before now : Cursor} (
     counting_stopped = walk_stopped walk at turned.held turned.product turned.number known top
 
     -- or the walk goes on
-    pub counting_goes_on : {first next : ℕ} → first ≡ period_in q start → ((m : ℕ) → before.place ≤ m → is_chosen_within q start number m ≡ false)
-        → IsNextOpen q first (number + q.interval) next → IsCounting q start c stop next before after
-    counting_goes_on {next = next} ef none is = let is_next = subst (λ x. IsNextOpen q x (number + q.interval) next) ef is in record {
-      walk = walk_goes_on walk at turned.held turned.product turned.number known top ef none is;
+    pub counting_goes_on : {next : ℕ} → ((m : ℕ) → before.place ≤ m → is_chosen_within q start number m ≡ false)
+        → IsNextOpen q (period_in q start) (number + q.interval) next → IsCounting q start c stop next before after
+    counting_goes_on none is_next = record {
+      walk = walk_goes_on walk at turned.held turned.product turned.number known top none is_next;
       turn = rw turned.held (
         turned.product,
         (

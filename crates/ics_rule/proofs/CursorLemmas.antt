@@ -1,7 +1,7 @@
 -- What a cursor looks at.
 use Rattle.std.proofs.Common.{◌≡◌, ℕ, zero, suc, ◌+◌, ◌-◌, ◌<◌, ◌≤◌, inl, inr, Bool, true, false, ◌==◌, nat_le, ◌&&◌, Option, Some, None, MatchOption}
-use Rattle.std.proofs.Common.{max, refl, sym, subst, ap, ◌∙◌, arith}
-use Rattle.std.proofs.lemmas.Bool.{and_parts, cases_lt, eq-eqb, eqb-true, leb-true}
+use Rattle.std.proofs.Common.{max, refl, sym, ap, ◌∙◌, arith}
+use Rattle.std.proofs.lemmas.Bool.{and_parts, cases_lt, eq-eqb}
 use Rattle.std.proofs.lemmas.Bool.Decides.{nat_tests}
 use Rattle.jiff_core.specs.Weekday.{monday_zero}
 use Rattle.ics_fields.specs.Sets.{IsLeastFrom, IsNextIn}
@@ -15,7 +15,7 @@ use Rattle.ics_rule.specs.Cursors.{is_met, fresh, HeldBy, CountedBy, IsCursorIn,
 use Rattle.ics_rule.specs.Cursors.{HasLooked}
 use Rattle.ics_rule.specs.EffectiveRules.{effective}
 use Rattle.ics_rule.specs.Recurrence.{Recurrence}
-use Rattle.ics_rule.specs.Searches.{IsNextOpen, is_chosen_within, is_few, is_wanted, NoneWanted, HasMoved, IsWalked, LooksAt, after_look}
+use Rattle.ics_rule.specs.Searches.{IsNextOpen, is_chosen_within, is_wanted, NoneWanted, HasMoved, IsWalked, LooksAt, after_look}
 use Rattle.ics_rule.proofs.PeriodLemmas.{begun, first_in, period_mono, period_small, week_small, before_next}
 use Rattle.ics_rule.proofs.Counts.{count-suc, count_some, count_mono, count_most, count_one_more, count_every}
 use Rattle.ics_rule.proofs.RankLemmas.{found}
@@ -110,7 +110,7 @@ count_within (suc n) f g h = let less = count_within n f g (λ m l. h m (omega a
 -- what is met before some bound and is not past the period of n is met before each bound past n
 module _ (q : EffectiveRule) (start a b : ℕ) where
   met_soon : (c : ℕ) {n : ℕ} (p : ℕ) → a ≤ n → n < b → p ≤ period_in q n → is_met q start a c p ≡ true → is_met q start a b p ≡ true
-  met_soon c p low high here met = grind (arith, nat_tests, and_parts, cases_lt, counted_one, eqb-true, leb-true, met_by, period_mono)
+  met_soon c p low high here met = grind (arith, nat_tests, and_parts, cases_lt, counted_one, met_by, period_mono)
 
   -- and what is met before a bound is met before a later one
   met_later : (c p : ℕ) → b ≤ c → is_met q start a b p ≡ true → is_met q start a c p ≡ true
@@ -140,17 +140,14 @@ looked_found {q = q} {start = start} {o = o} {stop = stop} {n = n} {before = bef
 pub few_steps : (r : Recurrence) (c : Cursor) (a b : ℕ) → IsCursorOf r c → HasLooked r c a b → steps_of c ≤ period_count r a b
 unfolding period_count IsCursorOf HasLooked
 few_steps r c a b own looked =
-    let q = effective r in
-    let held = own.held in
-    let inside = own.inside in
-    let more = count_mono (fresh c.held) calendar_end (is_met q (number r.start) a b) (grind (arith, period_small)) in
+    let more = count_mono (fresh c.held) calendar_end (is_met (effective r) (number r.start) a b) (grind (arith, period_small)) in
     omega (arith, looked.few, more)
 
 pub within_here : (q : EffectiveRule) (start number n : ℕ) → period_in q n ≡ number → is_chosen_within q start number n ≡ is_chosen q start n
 within_here q start number n e = ap (λ x. x && is_chosen q start n) (eq-eqb (period_in q n) number e)
 
 pub within_facts : (q : EffectiveRule) (start number n : ℕ) → is_chosen_within q start number n ≡ true → (period_in q n ≡ number) × (is_chosen q start n ≡ true)
-within_facts q start number n h = grind (arith, nat_tests, and_parts, eqb-true)
+within_facts q start number n h = grind (arith, nat_tests, and_parts)
 
 -- nothing is chosen between a step and the next that may be open
 module _ {q : EffectiveRule} (start : ℕ) (some : 1 ≤ q.interval) where
@@ -183,21 +180,20 @@ pub record IsWalk (q : EffectiveRule) (start : ℕ) (o : Option ℕ) (stop numbe
   pub moved : HasMoved q start o stop before now
 
 -- without COUNT it begins at the first step from the place on
-pub walk_begins : {q : EffectiveRule} {start stop first own number : ℕ} {c : Cursor} → 1 ≤ q.interval → first ≡ period_in q start → own ≡ period_in q c.place →
-    IsLeastFrom (is_stepped first q.interval) own number → c.place < stop → IsCursorIn q start None c → IsWalk q start None stop number c c
-walk_begins {q = q} {start = start} {stop = stop} {first = first} {number = number} {c = c} some ef eo is h own =
-    let next = subst (λ x. IsLeastFrom (is_stepped x q.interval) (period_in q c.place) number) ef
-    (subst (λ x. IsLeastFrom (is_stepped first q.interval) x number) eo is) in record {
-      some = some;
-      late = omega arith;
-      early = h;
-      step = next.passes;
-      low = next.low;
-      none = λ n l u. no_step q start n (next.least (period_in q n) (period_mono q.frequency (monday_zero q.week_start) c.place n l) u);
-      held = (let held = own.held in let up = period_mono q.frequency (monday_zero q.week_start) c.place stop (omega (arith, h)) in grind arith);
-      counted = tt;
-      moved = moved_none stop own;
-    }
+pub walk_begins : {q : EffectiveRule} {start stop number : ℕ} {c : Cursor} → 1 ≤ q.interval →
+    IsLeastFrom (is_stepped (period_in q start) q.interval) (period_in q c.place) number
+    → c.place < stop → IsCursorIn q start None c → IsWalk q start None stop number c c
+walk_begins {q = q} {start = start} {stop = stop} {c = c} some next h own = record {
+  some = some;
+  late = omega arith;
+  early = h;
+  step = next.passes;
+  low = next.low;
+  none = λ n l u. no_step q start n (next.least (period_in q n) (period_mono q.frequency (monday_zero q.week_start) c.place n l) u);
+  held = (let held = own.held in let up = period_mono q.frequency (monday_zero q.week_start) c.place stop (omega (arith, h)) in grind arith);
+  counted = tt;
+  moved = moved_none stop own;
+}
 
 module _ {q : EffectiveRule} {start : ℕ} {o : Option ℕ} {stop number : ℕ} {before now : Cursor} (walk : IsWalk q start o stop number before now) where
   -- past the bound's period nothing is left
@@ -249,9 +245,9 @@ module _ {q : EffectiveRule} {start : ℕ} {o : Option ℕ} {stop number : ℕ} 
     walk_stopped = record { moved = moved; held = held_at stop top_stop; found = tt; counted = counted }
 
     -- and where it finds none the walk goes on
-    pub walk_goes_on : {first next : ℕ} → first ≡ period_in q start → ((n : ℕ) → before.place ≤ n → is_chosen_within q start number n ≡ false)
-        → IsNextOpen q first (number + q.interval) next → IsWalk q start o stop next before after
-    walk_goes_on {next = next} ef none is = let is_next = subst (λ x. IsNextOpen q x (number + q.interval) next) ef is in record {
+    pub walk_goes_on : {next : ℕ} → ((n : ℕ) → before.place ≤ n → is_chosen_within q start number n ≡ false)
+        → IsNextOpen q (period_in q start) (number + q.interval) next → IsWalk q start o stop next before after
+    walk_goes_on none is_next = record {
       some = walk.some;
       late = walk.late;
       early = walk.early;

@@ -1,6 +1,6 @@
 -- The months of a rule with days that each month has.
 use Rattle.std.specs.Option.{is_some}
-use Rattle.std.proofs.Common.{Option, Some, None, ◌≡◌, ℕ, zero, suc, ◌+◌, ◌-◌, ◌*◌, ◌/◌, ◌%◌, ◌<◌, ◌≤◌, Bool, false, ◌&&◌, pos, refl, ap, ◌∙◌}
+use Rattle.std.proofs.Common.{Option, Some, None, ◌≡◌, ℕ, zero, suc, ◌+◌, ◌-◌, ◌*◌, ◌/◌, ◌%◌, ◌<◌, ◌≤◌, Bool, false, ◌&&◌, pos, refl, ap}
 use Rattle.std.proofs.Common.{arith}
 use Rattle.std.proofs.lemmas.Bool.{and_right}
 use Rattle.std.proofs.lemmas.Bool.Decides.{nat_tests}
@@ -85,13 +85,11 @@ module _ (q : EffectiveRule) (flat : IsFlat q) where
   months_add (suc m) = months_add m + month_adds m
 
   months_are : (y m : ℕ) → y ≤ 9_999 → m ≤ 12 → allowed_before q (month_local (12 * y + m)) ≡ allowed_before q (month_local (12 * y)) + months_add m
-  months_are y zero year h = ap (λ x. allowed_before q (month_local x)) (let same : 12 * y + 0 ≡ 12 * y = omega arith in same) ∙ omega arith
+  months_are y zero year h = let same : 12 * y + 0 ≡ 12 * y = omega arith in rw same (omega arith)
   months_are y (suc m) year h =
-      let before = months_are y m year (omega (arith, h)) in
-      let next = ap (λ x. allowed_before q (month_local x)) (let same : 12 * y + suc m ≡ suc (12 * y + m) = omega arith in same) in
-      let one = month_is (12 * y + m) (omega (arith, year, h)) in
-      let own = ap month_adds (let same : (12 * y + m) % 12 ≡ m = omega (arith, h) in same) in
-      omega (arith, before, next, one, own)
+      let next : 12 * y + suc m ≡ suc (12 * y + m) = omega arith in
+      let own : (12 * y + m) % 12 ≡ m = omega (arith, h) in
+      rw (next, month_is (12 * y + m) (omega (arith, year, h)), months_are y m year (omega (arith, h)), own) (omega arith)
 
   year_local : (y : ℕ) → month_local (12 * y) ≡ days_before_year y * 86_400
   year_local y =
@@ -103,8 +101,5 @@ module _ (q : EffectiveRule) (flat : IsFlat q) where
 
   pub year_is : (y : ℕ) → y ≤ 9_999 → allowed_before q (days_before_year (suc y) * 86_400) ≡ allowed_before q (days_before_year y * 86_400) + months_add 12
   year_is y h =
-      let all = months_are y 12 h (omega arith) in
-      let next = ap (λ x. allowed_before q (month_local x)) (let same : 12 * y + 12 ≡ 12 * suc y = omega arith in same) in
-      let one = ap (allowed_before q) (year_local y) in
-      let other = ap (allowed_before q) (year_local (suc y)) in
-      omega (arith, all, next, one, other)
+      let next : 12 * suc y ≡ 12 * y + 12 = omega arith in
+      rw (← (year_local y), ← (year_local (suc y)), next) (months_are y 12 h (omega arith))

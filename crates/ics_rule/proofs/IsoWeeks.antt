@@ -124,6 +124,16 @@ pub record IsIsoWeek (d : ISOWeekDate) (e : ℕ) : Type 0 where
   pub weeks : weeks_in_year d.year ≡ weeks_of_year (fourth_day 0 e)
   pub weekday : monday_zero d.weekday ≡ weekday_of e
 
+of_week : {d : ISOWeekDate} {e y : ℕ} {x : ℤ} → IsWeek y d.week (weeks_in_year x) (monday_zero d.weekday) e → d.year ≡ x
+    → (2 ≤ e → x ≡ pos (year_of (fourth_day 0 e))) → (e < 2 → x +ℤ pos 400 ≡ pos (year_of (fourth_day 0 e))) → IsIsoWeek d e
+of_week week is year cycle = record {
+  year = rw is year;
+  cycle = rw is cycle;
+  number = sym week.number;
+  weeks = ap weeks_in_year is ∙ sym week.weeks;
+  weekday = sym week.weekday;
+}
+
 pub iso_week : (d : ISOWeekDate) (e : ℕ) → IsDay d e → IsIsoWeek d e
 unfolding days_from_iso
 iso_week d e day = by_year d.year refl
@@ -133,22 +143,10 @@ iso_week d e day = by_year d.year refl
         let range = rw is at d.year_in in
         let r = later_week y e (omega (arith, signed_arith, range)) (rw is at d.week_in) (week_small d.weekday)
         (rw is at day) in
-        record {
-          year = λ late. is ∙ ap pos (sym r.1.year);
-          cycle = λ early. absurd (omega (arith, r.0, early));
-          number = sym r.1.number;
-          weeks = ap weeks_in_year is ∙ sym r.1.weeks;
-          weekday = sym r.1.weekday;
-        }
+        of_week r.1 is (λ late. ap pos (sym r.1.year)) (λ early. absurd (omega (arith, r.0, early)))
     by_year (negsuc zero) is =
         let r = early_week e d.week_in.0 (rw is at d.week_in.1) (week_small d.weekday) (rw is at day) in
-        record {
-          year = λ late. absurd (omega (arith, r.0, late));
-          cycle = λ early. ap (λ y. y +ℤ pos 400) is ∙ ap pos (sym r.1.year);
-          number = sym r.1.number;
-          weeks = ap weeks_in_year is ∙ sym r.1.weeks;
-          weekday = sym r.1.weekday;
-        }
+        of_week r.1 is (λ late. absurd (omega (arith, r.0, late))) (λ early. ap pos (sym r.1.year))
     by_year (negsuc (suc k)) is =
         let range = rw is at d.year_in in
         absurd (no_earlier k e (omega (arith, signed_arith, range)) (rw is at d.week_in) (week_small d.weekday)

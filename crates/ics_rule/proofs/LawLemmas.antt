@@ -1,5 +1,5 @@
 -- What the definitions mean, in other words.
-use Rattle.std.proofs.Common.{◌≡◌, ◌≢◌, ℕ, zero, suc, ◌+◌, ◌-◌, ◌*◌, ◌%◌, ◌<◌, ◌≤◌, Bool, true, cond, Some, pos, refl, arith}
+use Rattle.std.proofs.Common.{◌≡◌, ◌≢◌, ℕ, zero, suc, ◌+◌, ◌-◌, ◌*◌, ◌%◌, ◌<◌, ◌≤◌, Bool, true, cond, Some, pos, arith}
 use Rattle.std.proofs.lemmas.Bool.{le-ltb, eqb-true, ltb-true}
 use Rattle.jiff_core.specs.Calendar.{days_in_year}
 use Rattle.jiff_core.proofs.CalendarLemmas.{days_in_year_bounds}
@@ -69,16 +69,6 @@ year_day_low f = omega arith
 abbrev pub last_week : ℕ → ℕ
 last_week f = days_before_year (year_of f) + (year_day_of f - 1) % 7 + 7 * (weeks_of_year f - 1)
 
-last_week_is : (f : ℕ) → last_week f ≡ days_before_year (year_of f) + (year_day_of f - 1) % 7 + 7 * (weeks_of_year f - 1)
-last_week_is f = refl
-
 pub weeks_there : (f : ℕ) → (year_of (last_week f) ≡ year_of f) × ((last_week f % 7 ≡ f % 7) × (week_number (last_week f) ≡ weeks_of_year f))
-weeks_there f = grind (
-  arith,
-  days_before_year-next (year_of f),
-  days_in_year_bounds (pos (year_of f)),
-  last_week_is f,
-  year_day_is,
-  year_day_low f,
-  year_of_is (last_week f) (year_of f),
-)
+weeks_there f = let year = year_of_is (last_week f) (year_of f) in
+    grind (arith, days_before_year-next (year_of f), days_in_year_bounds (pos (year_of f)), year_day_is, year_day_low f)

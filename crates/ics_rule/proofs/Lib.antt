@@ -1,6 +1,5 @@
 pub mod Tests
 pub mod DateLemmas
-pub mod EffectiveLemmas
 pub mod HourLemmas
 pub mod Counts
 pub mod Months
@@ -11,7 +10,6 @@ pub mod ScanLemmas
 pub mod RankLemmas
 pub mod StepLemmas
 pub mod ChosenLemmas
-pub mod CallLemmas
 pub mod CursorLemmas
 pub mod NextLemmas
 pub mod CountLemmas
@@ -29,10 +27,8 @@ mod NeverLemmas
 mod OpenLemmas
 mod TableSteps
 mod TableLemmas
-mod TableMembers
 mod TableExamples
 mod RunLemmas
-mod PartLemmas
 mod MonthDays
 mod WeekDays
 mod PlainLemmas

@@ -1,7 +1,7 @@
 -- The days that months list, by their dates, and what is left to ask of them.
 use Rattle.std.proofs.Common.{◌≡◌, ℕ, zero, suc, ◌+◌, ◌-◌, ◌/◌, ◌%◌, ◌<◌, ◌≤◌, ◌⊎◌, Bool, true, false, ◌==◌, ◌||◌, ◌&&◌, nat_lt, nat_le}
 use Rattle.std.proofs.Common.{pos, refl, sym, ap, ◌∙◌, arith}
-use Rattle.std.proofs.lemmas.Bool.{and_parts, and_right, cases_lt, le-ltb, lt-ltb, or_left, ltb-true, ltb-false}
+use Rattle.std.proofs.lemmas.Bool.{and_parts, and_right, le-ltb, ltb-true, ltb-false}
 use Rattle.std.proofs.lemmas.Bool.Decides.{nat_tests}
 use Rattle.jiff_core.specs.Calendar.{days_in_month, days_in_year}
 use Rattle.jiff_core.proofs.SignedLemmas.{signed_arith}
@@ -22,7 +22,6 @@ use Rattle.ics_rule.proofs.Months.{month_past, month_high, month_positive}
 use Rattle.ics_rule.proofs.PeriodLemmas.{month_size, IsPeriodFrom}
 use Rattle.ics_rule.proofs.DayWalkLemmas.{fields_at}
 use Rattle.ics_rule.proofs.RunLemmas.{next_found, guard, run_facts}
-use Rattle.ics_rule.proofs.Tests.{and_assoc, keep_true, three}
 
 -- the month that a day of its year lies in
 module _ (r : Run) (first y m k : ℕ) (own : IsMonth r first y m) where
@@ -87,12 +86,10 @@ pub month_alone : (q : EffectiveRule) {first len y m w : ℕ} (k : ℕ) {old amo
     && lists_in_month q (weekday_in (record { start = 0; len = len; weekday = w }) (k - 0)) (k - 0 + 1) len)))) ⊎ ((among ≡ false) × (new ≡ old))
     → new ≡ (nat_lt k len && is_in_month q (first + k))
 month_alone q {first = first} {len = len} {y = y} {m = m} {w = w} k own none among e =
+    let r : Run = record { start = 0; len = len; weekday = w } in
     gather (run_start k len) (λ h. let inside = run_facts r k h in let f = day_of_run r first y m k own inside.0 inside.1 in ap (lets q.months) f.month)
     (run_lists r first y m k own q) none among e
   where
-    r : Run
-    r = record { start = 0; len = len; weekday = w }
-
     gather : {h i l m' m'' x x' a b : Bool} → h ≡ i → (h ≡ true → m'' ≡ m') → (h ≡ true → x ≡ x') → a ≡ false → l ≡ m' →
         ((l ≡ true) × (b ≡ (a || (h && x)))) ⊎ ((l ≡ false) × (b ≡ a)) → b ≡ (i && (m'' && x'))
     gather same month listed none among e = grind arith
@@ -106,7 +103,7 @@ goes q h = grind (arith, nat_tests)
 pub three_parts : (q : EffectiveRule) (e : ℕ) → goes_by_months q ≡ true
     → lets_date q e ≡ (lets q.months (month_of e)
     && (lets_place q.month_days (month_day_of e) (days_in_month (pos (year_of e)) (month_of e)) && lets_weekday q e))
-three_parts q e h = grind (arith, nat_tests, and_assoc, goes, keep_true, or_left)
+three_parts q e h = grind (arith, nat_tests, goes)
 
 module _ (q : EffectiveRule) (p : Ordinals) (e : ℕ) where
   numbers_in_month : (f : Frequency) → counts_in_month q f ≡ true → lists_none q.weeks ≡ true →

@@ -1,7 +1,7 @@
 -- What a rule keeps: the start, and of the later locals that it has those that UNTIL lets through.
 use Rattle.std.proofs.Common.{◌≡◌, ℕ, suc, ◌+◌, ◌-◌, ◌<◌, ◌≤◌, inl, inr, Bool, true, false, ◌&&◌, ◌||◌, ◌==◌, nat_lt, min, max, Some, None, Option}
 use Rattle.std.proofs.Common.{MatchOption, refl, sym, ap, ◌∙◌, arith}
-use Rattle.std.proofs.lemmas.Bool.{and_from, and_right, cases_lt, le-ltb, lt-ltb}
+use Rattle.std.proofs.lemmas.Bool.{and_right, cases_lt, le-ltb, lt-ltb}
 use Rattle.std.proofs.lemmas.Bool.Decides.{nat_tests}
 use Rattle.ics_rule.specs.Recurrence.{Recurrence}
 use Rattle.ics_rule.specs.PeriodNumbers.{rules_end}
@@ -20,11 +20,11 @@ in_rule_start r = rw (self_test (number r.start)) refl
 
 pub in_rule_earlier : (r : Recurrence) (n : ℕ) → n < number r.start → is_in_rule r n ≡ false
 unfolding is_in_rule
-in_rule_earlier r n h = grind (arith, nat_tests, le-ltb, unequal)
+in_rule_earlier r n h = grind (arith, nat_tests)
 
 pub in_rule_later : (r : Recurrence) (n : ℕ) → number r.start < n → is_in_rule r n ≡ is_chosen (effective r) (number r.start) n
 unfolding is_in_rule
-in_rule_later r n h = grind (arith, nat_tests, lt-ltb, unequal)
+in_rule_later r n h = grind (arith, nat_tests)
 
 -- how many members come before a later local, by what the rule chooses
 pub members_before : (r : Recurrence) (n : ℕ) → number r.start < n
@@ -35,9 +35,7 @@ members_before r n h =
     let all = count_between (count n chosen - count (suc (number r.start)) chosen) chosen (is_in_rule r) h (λ m l u. sym (in_rule_later r m l))
     (omega (arith, more)) in
     let none = count-none (number r.start) (is_in_rule r) (λ m l. in_rule_earlier r m l) in
-    let last = count-suc (number r.start) (is_in_rule r) in
-    let one = count_one (is_in_rule r (number r.start)) (in_rule_start r) in
-    omega (arith, more, all, none, last, one)
+    omega (arith, more, all, none, count-suc (number r.start) (is_in_rule r), count_one (is_in_rule r (number r.start)) (in_rule_start r))
 
 counted_is_few : (r : Recurrence) (c n : ℕ) → number r.start < n → is_counted r (Some c) n ≡ is_few (effective r) (number r.start) c n
 counted_is_few r c n h = grind (arith, nat_tests, members_before)
@@ -85,7 +83,7 @@ module _ (r : Recurrence) (place end until : ℕ) (after : number r.start < plac
   ]
 
   pub next_kept : (n : ℕ) → IsNextBefore (effective r) (number r.start) r.parts.count place (min end until) n → IsNextKept r place end n
-  next_kept n next = grind (arith, nat_tests, and_from, kept_later, lt-ltb, none_at)
+  next_kept n next = grind (arith, nat_tests, kept_later, none_at)
 
   -- the answer of a search, as one of the rule
   pub kept_answer : (o : Option ℕ) (now : ℕ)

@@ -115,7 +115,7 @@ year_day e = grind (arith, nat_tests, days_before_year-next, days_in_year_bounds
 -- ---- the month of a day
 
 in_month_same : (f e : ℕ) → year_of f * 12 + month_of f ≡ year_of e * 12 + month_of e → (year_of f == year_of e && month_of f == month_of e) ≡ true
-in_month_same f e h = grind (arith, nat_tests, eq-eqb, month_high, month_positive)
+in_month_same f e h = grind (arith, nat_tests, month_high, month_positive)
 
 in_month_apart : (y m z k : ℕ) → y * 12 + m ≢ z * 12 + k → (y == z && m == k) ≡ false
 in_month_apart y m z k h = grind (arith, nat_tests)

@@ -1,7 +1,7 @@
 -- The periods that a rule lets in, counted step by step and by whole days.
-use Rattle.std.proofs.Common.{◌≡◌, ℕ, zero, suc, ◌+◌, ◌-◌, ◌*◌, ◌/◌, ◌%◌, ◌<◌, ◌≤◌, inl, inr, Bool, true, false, cond, ◌&&◌, ◌==◌, nat_le, nat_lt, min, refl}
+use Rattle.std.proofs.Common.{◌≡◌, ℕ, zero, suc, ◌+◌, ◌-◌, ◌*◌, ◌/◌, ◌%◌, ◌<◌, ◌≤◌, Bool, true, false, cond, ◌&&◌, nat_le, nat_lt, min, refl}
 use Rattle.std.proofs.Common.{sym, ap, ◌∙◌, arith}
-use Rattle.std.proofs.lemmas.Bool.{and_left, and_parts, and_right, cases_lt, false_from_ne_true}
+use Rattle.std.proofs.lemmas.Bool.{and_left, cases_lt}
 use Rattle.std.proofs.lemmas.Bool.Decides.{nat_tests}
 use Rattle.std.proofs.lemmas.Nat.{div-add-mod', mod-mul-add, le-div, div_below}
 use Rattle.std.proofs.Math.Nat.{add-mul, mod-lt, mul_comm, mul_assoc, mul-le-mul_right}
@@ -16,7 +16,6 @@ use Rattle.ics_rule.proofs.Counts.{count-same, count-suc, count-add, count-none,
 use Rattle.ics_rule.proofs.RankLemmas.{count_flat}
 use Rattle.ics_rule.proofs.StepLemmas.{stepped_parts, stepped_shown, step_on, none_between}
 use Rattle.ics_rule.proofs.RoundLemmas.{step_repeats}
-use Rattle.ics_rule.proofs.Tests.{iff}
 
 -- counts of tests of which each number passes as many
 count-sum : (n : ℕ) (f g h : ℕ → Bool) → ((m : ℕ) → cond (h m) 1 0 ≡ cond (f m) 1 0 + cond (g m) 1 0) → count n h ≡ count n f + count n g
@@ -32,7 +31,7 @@ pub record IsStepWalk (a i : ℕ) (g : ℕ → Bool) (from before number total :
 
 pub walk_first : {a i from before number : ℕ} {g : ℕ → Bool} → 1 ≤ i → from ≤ before → IsLeastFrom (is_stepped a i) from number →
     IsStepWalk a i g from before number 0
-walk_first some h least = grind (arith, nat_tests, and_left, count_flat)
+walk_first some h least = grind (arith, nat_tests, count_flat)
 
 module _ {a i : ℕ} {g : ℕ → Bool} {from before number total : ℕ} (walk : IsStepWalk a i g from before number total) where
   abbrev stepped : ℕ → Bool

@@ -21,14 +21,12 @@ second_again f p k h u = grind arith
 -- the members of whole rounds, of a test that repeats after each
 count_rounds : (f : ℕ → Bool) {a : ℕ} (s : ℕ) → ((n : ℕ) → a ≤ n → f (n + s) ≡ f n) → (j : ℕ)
     → count (a + j * s) f ≡ count a f + j * count s (λ k. f (a + k))
-count_rounds f {a = a} s on zero = ap (λ x. count x f) (let same : a + 0 * s ≡ a = omega arith in same) ∙ omega arith
+count_rounds f {a = a} s on zero = let same : a + 0 * s ≡ a = omega arith in rw same (omega arith)
 count_rounds f {a = a} s on (suc j) =
-    let whole = ap (λ x. count x f) (let all : a + suc j * s ≡ a + j * s + s = omega arith in all) in
-    let last = count-add (a + j * s) s f in
+    let whole : a + suc j * s ≡ a + j * s + s = omega arith in
     let same = count-same s (λ k. f (a + j * s + k)) (λ k. f (a + k)) (λ k l. ap f (let order : a + j * s + k ≡ a + k + j * s = omega arith in order)
     ∙ repeats_often f {low = a} s on j (a + k) (omega arith)) in
-    let more : suc j * count s (λ k. f (a + k)) ≡ j * count s (λ k. f (a + k)) + count s (λ k. f (a + k)) = omega arith in
-    omega (arith, last, whole, same, more, count_rounds f {a = a} s on j)
+    rw (whole, count-add (a + j * s) s f, same, count_rounds f {a = a} s on j) (omega arith)
 
 module _ (q : EffectiveRule) (first periods : ℕ) (round : IsCalendarRound q periods) (fine : 0 < seconds_of q.frequency)
     (unit : seconds_of q.frequency ≤ 86_400) where

@@ -10,17 +10,16 @@ use Rattle.ics_fields.specs.Locals.{number, calendar_end}
 use Rattle.ics_rule.specs.Candidates.{is_candidate_in, period_in}
 use Rattle.ics_rule.specs.Kept.{count, is_beside, rank, size, is_in_rule, is_kept}
 use Rattle.ics_rule.specs.Ranks.{HasRank}
-use Rattle.ics_rule.proofs.Counts.{count-suc, count-none, count_mono, count_one_more, count_one, count_none_at}
+use Rattle.ics_rule.proofs.Counts.{count-suc, count-none, count_mono, count_one_more}
 use Rattle.ics_rule.proofs.KeptLemmas.{and_true}
 use Rattle.ics_rule.proofs.NextLemmas.{in_rule_start, in_rule_earlier}
 use Rattle.ics_rule.proofs.RankLemmas.{IsAt, found}
-use Rattle.ics_rule.proofs.Tests.{three}
 
 -- ---- the k-th of those that pass
 
 -- no more than one is the k-th
 alone : (test : ℕ → Bool) (k m o : ℕ) → IsAt test k m → IsAt test k o → m ≡ o
-alone test k m o a b = grind (arith, nat_tests, count_one_more, three)
+alone test k m o a b = grind (arith, nat_tests, count_one_more)
 
 -- ---- the candidates of a period
 
@@ -54,11 +53,8 @@ module _ (r : Recurrence) (c : ℕ) (counted : r.parts.count ≡ Some c) (some :
   pub kept_number : (n : ℕ) → n ≤ rules_end → count n (is_kept r) ≡ min (count n (is_in_rule r)) c
   kept_number zero inside = unfold count in omega arith
   kept_number (suc n) inside =
-      let earlier = kept_number n (omega (arith, inside)) in
-      let kept = count-suc n (is_kept r) in
-      let members = count-suc n (is_in_rule r) in
-      kept ∙ one_more (is_kept r n) (is_in_rule r n) (count n (is_kept r)) (count n (is_in_rule r)) (kept_first n (omega (arith, inside))) earlier
-      ∙ ap (λ z. min z c) (sym members)
+      rw (count-suc n (is_kept r), count-suc n (is_in_rule r), kept_first n (omega (arith, inside)), kept_number n (omega (arith, inside)))
+      (one_more (is_in_rule r n) (count n (is_in_rule r)))
     where
-      one_more : (k m : Bool) (x y : ℕ) → k ≡ (m && nat_lt y c) → x ≡ min y c → x + cond k 1 0 ≡ min (y + cond m 1 0) c
-      one_more k m x y h l = grind (arith, nat_tests, count_none_at, count_one)
+      one_more : (m : Bool) (y : ℕ) → min y c + cond (m && nat_lt y c) 1 0 ≡ min (y + cond m 1 0) c
+      one_more m y = grind (arith, nat_tests)

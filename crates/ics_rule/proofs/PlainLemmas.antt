@@ -27,7 +27,7 @@ use Rattle.ics_rule.specs.PlainReading.{is_plain_member, is_few_members, is_plai
 use Rattle.ics_rule.proofs.Counts.{count-same, count-none}
 use Rattle.ics_rule.proofs.PeriodLemmas.{week_small, period_mono}
 use Rattle.ics_rule.proofs.ChosenLemmas.{beside_let_in, chosen_by}
-use Rattle.ics_rule.proofs.TableSteps.{by_absence, months_let_in, month_days_let_in, weekdays_let_in, hours_let_in, minutes_let_in, seconds_let_in}
+use Rattle.ics_rule.proofs.TableSteps.{by_absence, months_let_in, month_days_let_in, weekdays_let_in, clock_let_in}
 use Rattle.ics_rule.proofs.NthLemmas.{month_days_listed, year_days_listed, month_weekday_listed, year_weekday_listed, weeks_listed}
 use Rattle.ics_rule.proofs.Tests.{zero_of, self_test, and_assoc, unequal}
 
@@ -89,9 +89,9 @@ module _ (r : Recurrence) (plain : HasPlainReading r) where
         year_day n (omega (arith, small)),
         week n (omega (arith, small)),
         weekday n (omega (arith, small)),
-        hours_let_in r (hour_of n) plain.dates,
-        minutes_let_in r (minute_of n) plain.dates,
-        seconds_let_in r (second_of n) plain.dates,
+        (clock_let_in r (hour_of n) plain.dates).0,
+        (clock_let_in r (minute_of n) plain.dates).1,
+        (clock_let_in r (second_of n) plain.dates).2,
       ) refl
 
   -- the periods

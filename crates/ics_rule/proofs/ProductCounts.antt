@@ -56,10 +56,11 @@ pub days_from_first : (p : RecurrencePeriod) (n : ℕ) → count (p.first_day + 
 days_from_first p n = count-from p.first_day n (has_day p) (day_before p)
     ∙ count-same n (λ k. has_day p (p.first_day + k)) (contains_wide p.days) (λ k l. day_at p k)
 
+day_past : (p : RecurrencePeriod) (m : ℕ) → p.first_day + 384 ≤ m → has_day p m ≡ false
+day_past p m h = and_right (nat_le p.first_day m) (contains_wide p.days (m - p.first_day)) (wide_past p.days (m - p.first_day) (omega arith))
+
 pub days_in_all : (p : RecurrencePeriod) → p.first_day ≤ 3_600_000 → count 3_652_425 (has_day p) ≡ count 384 (contains_wide p.days)
-days_in_all p h = count_flat (p.first_day + 384) 3_652_425 (has_day p) (omega (arith, h)) (λ m l u.
-    and_right (nat_le p.first_day m) (contains_wide p.days (m - p.first_day)) (wide_past p.days (m - p.first_day) (omega (arith, l))))
-    ∙ days_from_first p 384
+days_in_all p h = count_flat (p.first_day + 384) 3_652_425 (has_day p) (omega (arith, h)) (λ m l u. day_past p m l) ∙ days_from_first p 384
 
 -- its size by the sizes of its sets
 pub product_size : (p : RecurrencePeriod) → p.first_day ≤ 3_600_000 →
@@ -75,8 +76,7 @@ pub days_before : (p : RecurrencePeriod) (day skipped : ℕ) → skipped ≡ min
     count skipped (contains_wide p.days) ≡ count day (has_day p)
 days_before p day skipped e = sym (days_from_first p skipped) ∙ elim (cases_lt day (p.first_day + skipped)) [
   | inl early ↦ count_flat day (p.first_day + skipped) (has_day p) (omega (arith, early)) (λ m l u. day_before p m (omega (arith, e, early, l, u)))
-  | inr late ↦ sym (count_flat (p.first_day + skipped) day (has_day p) late (λ m l u.
-      and_right (nat_le p.first_day m) (contains_wide p.days (m - p.first_day)) (wide_past p.days (m - p.first_day) (omega (arith, e, l, u)))))
+  | inr late ↦ sym (count_flat (p.first_day + skipped) day (has_day p) late (λ m l u. day_past p m (omega (arith, e, l, u))))
 ]
 
 -- the k-th number of a product, by dividing by the size of a block
@@ -86,8 +86,7 @@ nth-product b k es l high low = grind (arith, nat_tests, count-place, count_one,
 
 -- nothing stands past the calendar
 pub holds_past : (p : RecurrencePeriod) → p.first_day ≤ 3_600_000 → (m : ℕ) → calendar_end ≤ m → holds p m ≡ false
-holds_past p h m late = ap (λ x. x && has_second p (m % 86_400))
-    (and_right (nat_le p.first_day (m / 86_400)) (contains_wide p.days (m / 86_400 - p.first_day)) (wide_past p.days (m / 86_400 - p.first_day) (omega arith)))
+holds_past p h m late = ap (λ x. x && has_second p (m % 86_400)) (day_past p (m / 86_400) (omega arith))
 
 pub next_small : (p : RecurrencePeriod) (n : ℕ) (o : Option ℕ) → p.first_day ≤ 3_600_000 → IsNextIn (holds p) n o → IfSome o (λ m. m < calendar_end)
 next_small p n o h l = grind (arith, nat_tests, cases_lt, holds_past)

@@ -1,6 +1,6 @@
 -- Members by their number, and the members at listed places.
-use Rattle.std.proofs.Common.{◌≡◌, ℕ, zero, suc, ◌+◌, ◌-◌, ◌*◌, ◌/◌, ◌%◌, ◌<◌, ◌≤◌, inl, inr, Bool, true, false, cond, ◌&&◌, refl, sym, ap, ◌∙◌, arith}
-use Rattle.std.proofs.lemmas.Bool.{and_from, and_right, cases_lt}
+use Rattle.std.proofs.Common.{◌≡◌, ℕ, zero, suc, ◌+◌, ◌-◌, ◌*◌, ◌/◌, ◌%◌, ◌<◌, ◌≤◌, inl, inr, Bool, true, false, cond, ◌&&◌, refl, sym, ◌∙◌, arith}
+use Rattle.std.proofs.lemmas.Bool.{cases_lt}
 use Rattle.std.proofs.lemmas.Nat.{div-add-mod'}
 use Rattle.std.proofs.Math.Nat.{mod-lt, mul-le-mul_right}
 use Rattle.std.proofs.lemmas.Bool.Decides.{nat_tests}
@@ -11,7 +11,6 @@ use Rattle.ics_rule.specs.OpenPeriods.{chosen_of_size}
 use Rattle.ics_rule.specs.RecurrencePeriods.{IsNth, is_listed}
 use Rattle.ics_rule.specs.Candidates.{lists_wide}
 use Rattle.ics_fields.specs.declared.ordinals.WideOrdinals.{WideOrdinals}
-use Rattle.ics_rule.proofs.RunLemmas.{guard}
 use Rattle.ics_rule.proofs.Counts.{count-suc, count-add, count-none, count_mono, count_one_more, count_one, count_none_at}
 
 -- what no number between two passes counts alike up to both
@@ -83,7 +82,7 @@ module _ (p listed : ℕ → Bool) (n : ℕ) where
   test m = p m && listed (count m p)
 
   pub next_ranked : (i m : ℕ) → IsLeastFrom listed (count n p) i → IsNth p i m → IsLeastFrom test n m
-  next_ranked i m next nth = grind (arith, nat_tests, and_from, and_right, cases_lt, count_mono, count_one_more)
+  next_ranked i m next nth = grind (arith, nat_tests, cases_lt, count_mono, count_one_more)
 
   pub none_ranked : {size : ℕ} (bound : ℕ) → size ≡ count bound p → ((m : ℕ) → bound ≤ m → p m ≡ false)
       → ((k : ℕ) → count n p ≤ k → k < size → listed k ≡ false) → (m : ℕ) → n ≤ m → test m ≡ false
@@ -91,4 +90,4 @@ module _ (p listed : ℕ → Bool) (n : ℕ) where
       let more = count_one_more m m p (omega arith) in
       let up = count_mono (suc m) bound p in
       let begun = count_mono n m p low in
-      grind (arith, nat_tests, and_right)
+      grind (arith, nat_tests)

@@ -120,3 +120,6 @@ listed_within n size b h = grind (arith, nat_tests)
 pub tested : (f : ℕ → Bool) (k m : ℕ) {old t new : Bool} → t ≡ f k → old ≡ (nat_lt m k && f m)
     → ((t ≡ true) × (new ≡ ((m == k) || old))) ⊎ ((t ≡ false) × (new ≡ old)) → new ≡ (nat_lt m (k + 1) && f m)
 tested f k m e h w = grind (arith, nat_tests)
+
+pub named_small : (d : ℕ) (b h : Bool) → h ≡ true → h ≡ (nat_lt d 7 && b) → d < 7
+named_small d b h there e = grind (arith, nat_tests)

@@ -1,7 +1,6 @@
 -- The next number that passes a test of its part / k and a test of its part % k.
-use Rattle.std.proofs.Common.{◌≡◌, ℕ, ◌+◌, ◌*◌, ◌/◌, ◌%◌, ◌^◌, ◌<◌, ◌≤◌, ◌⊎◌, inl, inr, ◌≢◌, Bool, true, false, ◌==◌, ◌||◌, ◌&&◌, nat_lt}
-use Rattle.std.proofs.Common.{pos, refl, sym, ap, ◌∙◌, arith}
-use Rattle.std.proofs.lemmas.Bool.{and_from, and_left, and_parts, and_right, cases_eq, lt-ltb, ne_eqb}
+use Rattle.std.proofs.Common.{◌≡◌, ℕ, ◌+◌, ◌*◌, ◌/◌, ◌%◌, ◌^◌, ◌<◌, ◌≤◌, ◌⊎◌, Bool, true, false, ◌==◌, ◌&&◌, nat_lt}
+use Rattle.std.proofs.Common.{pos, arith}
 use Rattle.std.proofs.lemmas.Bool.Decides.{nat_tests}
 use Rattle.std.proofs.lemmas.Nat.{div-mul-add, mod-mul-add, div-add-mod', le-div}
 use Rattle.std.proofs.lemmas.Nat.Bits.{bit_at-pow_other, bit_at-pow_same}
@@ -13,10 +12,6 @@ pub use Rattle.ics_fields.proofs.SetLemmas.{none_wide_has as none_has}
 use Rattle.ics_rule.specs.declared.recurrence_period.RecurrencePeriod.{RecurrencePeriod}
 use Rattle.ics_rule.specs.RecurrencePeriods.{has_minute, has_time, has_day}
 use Rattle.ics_fields.specs.Sets.{contains, only, IsLeastFrom}
-use Rattle.ics_rule.proofs.Tests.{keep_true, self_test}
-
-three : (a b : ℕ) → a ≤ b → (a ≡ b) ⊎ (a + 1 ≤ b)
-three a b h = grind arith
 
 module _ (k : ℕ) (some : 0 < k) where
   div_mono : (x m : ℕ) → x ≤ m → x / k ≤ m / k
@@ -26,7 +21,7 @@ module _ (k : ℕ) (some : 0 < k) where
   same_block x m e h = grind (arith, div-add-mod')
 
   before_block : (m hi lo : ℕ) → lo < k → m < hi * k + lo → (m / k < hi) ⊎ ((m / k ≡ hi) × (m % k < lo))
-  before_block m hi lo l h = grind (arith, nat_tests, div-add-mod', div-mul-add, div_mono, three)
+  before_block m hi lo l h = grind (arith, nat_tests, div-add-mod', div-mul-add, div_mono)
 
   module _ (A B : ℕ → Bool) (small : (m : ℕ) → B m ≡ true → m < k) where
     -- in the block that the place lies in
@@ -37,12 +32,12 @@ module _ (k : ℕ) (some : 0 < k) where
     pub next_later : (x hi lo : ℕ) → ((m : ℕ) → x ≤ m → m / k ≡ x / k → (A (m / k) && B (m % k)) ≡ false) → IsLeastFrom A (x / k + 1) hi → IsLeastFrom B 0 lo →
         IsLeastFrom (λ n. A (n / k) && B (n % k)) x (hi * k + lo)
     next_later x hi lo none next first =
-        grind (arith, nat_tests, before_block, div-add-mod', div-mul-add, div_mono, mod-lt, mod-mul-add, mul-le-mul_right, three)
+        grind (arith, nat_tests, before_block, div-add-mod', div-mul-add, div_mono, mod-lt, mod-mul-add, mul-le-mul_right)
 
     -- in no block
     pub none_later : (x : ℕ) → ((m : ℕ) → x ≤ m → m / k ≡ x / k → (A (m / k) && B (m % k)) ≡ false) → ((a : ℕ) → x / k + 1 ≤ a → A a ≡ false) →
         (m : ℕ) → x ≤ m → (A (m / k) && B (m % k)) ≡ false
-    none_later x here later m low = grind (arith, div_mono, three)
+    none_later x here later m low = let up = div_mono x m low in grind (arith, here m low)
 
     -- what is left where the block of the place is done
     pub block_out : (x : ℕ) → A (x / k) ≡ false → (m : ℕ) → x ≤ m → m / k ≡ x / k → (A (m / k) && B (m % k)) ≡ false
@@ -72,11 +67,7 @@ second_below hours minutes seconds t h e = grind (arith, minute_below hours minu
 -- a time of day by its readings
 pub time_at : (hours minutes seconds n : ℕ) → has_time hours minutes seconds (n % 86_400)
     ≡ ((contains hours (n / 3_600 % 24) && contains minutes (n / 60 % 60)) && contains seconds (n % 60))
-time_at hours minutes seconds n =
-    let hour : n % 86_400 / 60 / 60 ≡ n / 3_600 % 24 = omega arith in
-    let minute : n % 86_400 / 60 % 60 ≡ n / 60 % 60 = omega arith in
-    let second : n % 86_400 % 60 ≡ n % 60 = omega arith in
-    rw (hour, minute, second) refl
+time_at hours minutes seconds n = grind arith
 
 -- one month more
 pub months_more : (y n : ℕ) → days_of_months (pos y) n + days_in_month (pos y) (n + 1) ≡ days_of_months (pos y) (n + 1)

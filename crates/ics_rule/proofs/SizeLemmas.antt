@@ -5,8 +5,7 @@ use Rattle.std.proofs.lemmas.Bool.Decides.{nat_tests}
 use Rattle.jiff_core.specs.Weekday.{monday_zero}
 use Rattle.ics_fields.specs.Ordinals.{lists_none_wide}
 use Rattle.ics_rule.specs.declared.effective_rule.EffectiveRule.{EffectiveRule}
-use Rattle.ics_rule.specs.PeriodNumbers.{day_of}
-use Rattle.ics_rule.specs.Candidates.{lets_date, lets_clock, is_stepped, is_candidate_in, period_in}
+use Rattle.ics_rule.specs.Candidates.{is_stepped, is_candidate_in, period_in}
 use Rattle.ics_rule.specs.Kept.{count, is_placed, is_chosen}
 use Rattle.ics_rule.specs.RecurrencePeriods.{first_local, is_let_in}
 use Rattle.ics_rule.specs.Rounds.{chosen_to}

@@ -27,7 +27,7 @@ module _ (i : ℕ) (some : 1 ≤ i) where
   -- the next step
   pub next_stepped : (first own : ℕ) → first < own → IsLeastFrom (is_stepped first i) own (first + ceil (own - first) * i)
   next_stepped first own h =
-      grind (arith, nat_tests, ceil_high, ceil_low, div-add-mod', false_from_ne_true, mod-mul-add, mul-le-mul_right, stepped_parts, stepped_shown)
+      grind (arith, nat_tests, ceil_high, ceil_low, div-add-mod', mod-mul-add, mul-le-mul_right, stepped_parts, stepped_shown)
 
   -- a step further is the next
   pub step_on : (first p : ℕ) → is_stepped first i p ≡ true → is_stepped first i (p + i) ≡ true

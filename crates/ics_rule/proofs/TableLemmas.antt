@@ -10,14 +10,14 @@ use Rattle.ics_fields.specs.Sets.{contains}
 use Rattle.ics_rule.specs.Recurrence.{Recurrence}
 use Rattle.ics_rule.specs.PeriodNumbers.{day_of}
 use Rattle.ics_rule.specs.EffectiveRules.{takes_weekday, skips_hours, skips_minutes, skips_seconds, effective}
-use Rattle.ics_rule.specs.Candidates.{lets, lets_place, lets_week, lists}
+use Rattle.ics_rule.specs.Candidates.{lets, lets_week, lists}
 use Rattle.ics_rule.specs.RecurrencePeriods.{is_let_in}
 use Rattle.ics_rule.specs.PlainReading.{is_extracted, is_dayless}
 use Rattle.ics_rule.specs.Table.{Part, ByMonth, ByWeekNo, ByYearDay, ByMonthDay, ByDay, ByHour, ByMinute, BySecond, Cell, Nothing, Expand, Note1, Note2}
 use Rattle.ics_rule.specs.Table.{cell}
 use Rattle.ics_rule.specs.ByTable.{Instance, Instances, instance_of, start_of, is_absent, is_listed, own_instance, before, gives, on_own_day, apply_cell, apply}
 use Rattle.ics_rule.specs.ByTable.{is_instance, IsAllowed}
-use Rattle.ics_rule.proofs.TableSteps.{months_let_in, month_days_let_in, weekdays_let_in, hours_let_in, minutes_let_in, seconds_let_in}
+use Rattle.ics_rule.proofs.TableSteps.{months_let_in, month_days_let_in, weekdays_let_in, clock_let_in}
 use Rattle.ics_rule.proofs.Tests.{iff}
 
 -- a field as it is, or as DTSTART gives it
@@ -173,52 +173,35 @@ module _ (r : Recurrence) (allowed : IsAllowed r) where
     abbrev left_by_days : Instance
     left_by_days = left ByWeekNo (left ByYearDay (left ByMonthDay (left ByDay i)))
 
-    months : Gives (lets_part ByMonth left_by_days) (own_if (gives_own r.parts.frequency ByMonth) (start_of r).month (left ByMonth left_by_days).month)
-        (lets (effective r).months i.month)
-    months = record {
-      same = months_given (is_absent r) r.parts.frequency (start_of r).month i.month (contains r.parts.months) (extracted r.parts.frequency r).0
-          ∙ sym (months_let_in r i.month);
-    }
-
-    month_days : Gives (lets_part ByMonthDay (left ByDay i)) (own_if (gives_own r.parts.frequency ByMonthDay) (start_of r).month_day left_by_days.month_day)
-        (lets_place (effective r).month_days i.month_day (days_in_month (pos i.year) i.month))
-    month_days = record {
-      same = days_given (is_absent r) r.parts.frequency (start_of r).month_day i.month_day
-          (λ month day. lists r.parts.month_days day (days_in_month (pos i.year) month)) (start_of r).month i.month
-          allowed.parts (extracted r.parts.frequency r).1
-          ∙ sym (month_days_let_in r i.month_day (days_in_month (pos i.year) i.month));
-    }
-
-    -- BYDAY, and the weekday that DTSTART gives in a week
-    weekdays : GivesWeekdays (lets_part ByDay i) (lets_part ByWeekNo (left ByYearDay (left ByMonthDay (left ByDay i))))
-        (own_if (gives_own r.parts.frequency ByDay) (start_of r).weekday left_by_days.weekday) (is_absent r ByWeekNo || is_listed r ByWeekNo i)
-        (if takes_weekday r.parts.frequency r.parts then (i.weekday == (start_of r).weekday) else lets_part ByDay i)
-    weekdays = record {
-      same = weekdays_given (is_absent r) r.parts.frequency (start_of r).weekday i.weekday (is_listed r ByDay i) (is_listed r ByWeekNo i)
-          allowed.parts (weekday_taken r.parts.frequency r (allowed.parts ByWeekNo));
-    }
-
     hours : Gives (lets_part ByHour i) (own_if (skips_hours r.parts.frequency) (start_of r).hour (left ByHour i).hour) (lets (effective r).hours i.hour)
-    hours = record { same = grind (arith, nat_tests, hours_let_in r i.hour allowed.dates) }
+    hours = record { same = grind (arith, nat_tests, (clock_let_in r i.hour allowed.dates).0) }
 
     minutes : Gives (lets_part ByMinute i) (own_if (skips_minutes r.parts.frequency) (start_of r).minute (left ByMinute i).minute)
         (lets (effective r).minutes i.minute)
-    minutes = record { same = grind (arith, nat_tests, minutes_let_in r i.minute allowed.dates) }
+    minutes = record { same = grind (arith, nat_tests, (clock_let_in r i.minute allowed.dates).1) }
 
     seconds : Gives (lets_part BySecond i) (own_if (skips_seconds r.parts.frequency) (start_of r).second (left BySecond i).second)
         (lets (effective r).seconds i.second)
-    seconds = record { same = grind (arith, nat_tests, seconds_let_in r i.second allowed.dates) }
+    seconds = record { same = grind (arith, nat_tests, (clock_let_in r i.second allowed.dates).2) }
 
   -- the instances that the table gives in a period are what the rule lets in there
   pub instances_by_table : (p n : ℕ) → is_instance r p n ≡ is_let_in (effective r) p n
   unfolding effective
   instances_by_table p n =
+      let f = r.parts.frequency in
+      let s = start_of r in
       let i = instance_of r.parts n in
       let j = left ByHour (left ByMinute (left BySecond i)) in
-      steps (λ j. j.period == p && own_instance r.parts.frequency (start_of r) j)
-      (BySecond ∷ ByMinute ∷ ByHour ∷ ByDay ∷ ByMonthDay ∷ ByYearDay ∷ ByWeekNo ∷ ByMonth ∷ []) i
-      ∙ in_order _ _ (owned r.parts.frequency (start_of r) (left ByMonth (left_by_days j))) (
-        months j,
-        month_days j,
-        record { same = (weekdays j).same ∙ ap (λ x. lets_week (effective r) (day_of n) && x) (sym (weekdays_let_in r n _ _ _ allowed.numbers)) },
+      steps (λ j. j.period == p && own_instance f s j) (BySecond ∷ ByMinute ∷ ByHour ∷ ByDay ∷ ByMonthDay ∷ ByYearDay ∷ ByWeekNo ∷ ByMonth ∷ []) i
+      ∙ in_order _ _ (owned f s (left ByMonth (left_by_days j))) (
+        record { same = months_given (is_absent r) f s.month i.month (contains r.parts.months) (extracted f r).0 ∙ sym (months_let_in r i.month) },
+        record {
+          same = days_given (is_absent r) f s.month_day i.month_day (λ month day. lists r.parts.month_days day (days_in_month (pos i.year) month))
+              s.month i.month allowed.parts (extracted f r).1 ∙ sym (month_days_let_in r i.month_day (days_in_month (pos i.year) i.month));
+        },
+        record {
+          same = weekdays_given (is_absent r) f s.weekday i.weekday (is_listed r ByDay j) (is_listed r ByWeekNo j) allowed.parts
+              (weekday_taken f r (allowed.parts ByWeekNo))
+              ∙ ap (λ x. lets_week (effective r) (day_of n) && x) (sym (weekdays_let_in r n _ _ _ allowed.numbers));
+        },
       ) (hours i, minutes i, seconds i)

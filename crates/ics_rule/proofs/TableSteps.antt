@@ -25,7 +25,6 @@ use Rattle.ics_rule.specs.ByTable.{instance_of, start_of, is_absent, is_listed, 
 use Rattle.ics_rule.specs.PlainReading.{applies, is_extracted}
 use Rattle.ics_rule.proofs.DateLemmas.{none_numbered}
 use Rattle.ics_rule.proofs.ScanLemmas.{contains-only}
-use Rattle.ics_rule.proofs.Tests.{or_false}
 
 none_only : (s : ℕ) → is_empty (only s) ≡ false
 none_only s = grind (arith, nat_tests, pow_pos)
@@ -40,7 +39,7 @@ only_number false s own n = refl
 
 only_day : (t : Bool) (p : Ordinals) (own n size : ℕ) →
     lets_place (if t then only_place own else p) n size ≡ (if t then (n == own) else lets_place p n size)
-only_day true p own n size = rw (none_only own, has_none (size + 1 - n), contains-only own n) (or_false (n == own))
+only_day true p own n size = rw (none_only own, has_none (size + 1 - n), contains-only own n) (grind arith)
 only_day false p own n size = refl
 
 no_number : (n : ℕ) → numbers_of no_weekdays n ≡ no_ordinals
@@ -51,7 +50,7 @@ only_this_weekday : (t : Bool) (ws : Weekdays) (own n : ℕ) (test : Ordinals �
     → (lists_no_weekday (if t then only_weekday own else ws) || contains (if t then only_weekday own else ws).plain n
     || test (numbers_of (if t then only_weekday own else ws) n))
     ≡ (if t then (n == own) else (lists_no_weekday ws || contains ws.plain n || test (numbers_of ws n)))
-only_this_weekday true ws own n test h = rw (none_only own, no_number n, h, contains-only own n) (or_false (n == own))
+only_this_weekday true ws own n test h = rw (none_only own, no_number n, h, contains-only own n) (grind arith)
 only_this_weekday false ws own n test h = refl
 
 -- a part that is absent takes DTSTART's own, or all
@@ -133,21 +132,15 @@ module _ (r : Recurrence) (n : ℕ) where
       sooner b plain h = grind arith
 
   module _ (dates : r.kind ≡ Date → (skips_hours r.parts.frequency ≡ true) × (r.start.second ≡ 0)) where
-    pub hours_let_in : lets (effective r).hours n ≡ applies r ByHour (contains r.parts.hours n) (n == (start_of r).hour)
+    -- the hours, the minutes and the seconds
+    pub clock_let_in : (lets (effective r).hours n ≡ applies r ByHour (contains r.parts.hours n) (n == (start_of r).hour))
+        × (lets (effective r).minutes n ≡ applies r ByMinute (contains r.parts.minutes n) (n == (start_of r).minute))
+        × (lets (effective r).seconds n ≡ applies r BySecond (contains r.parts.seconds n) (n == (start_of r).second))
     unfolding effective
-    hours_let_in = clock r.kind r.parts.hours (start_of r).hour n (clock_taken r.parts.frequency r).0
-        (λ date. ((dates date).0, (midnight (day_index r.start.day) r.start.second (dates date).1).0))
-
-    pub minutes_let_in : lets (effective r).minutes n ≡ applies r ByMinute (contains r.parts.minutes n) (n == (start_of r).minute)
-    unfolding effective
-    minutes_let_in =
+    clock_let_in =
         let taken = clock_taken r.parts.frequency r in
-        clock r.kind r.parts.minutes (start_of r).minute n taken.1
-        (λ date. ((taken.3 (dates date).0).0, (midnight (day_index r.start.day) r.start.second (dates date).1).1.0))
-
-    pub seconds_let_in : lets (effective r).seconds n ≡ applies r BySecond (contains r.parts.seconds n) (n == (start_of r).second)
-    unfolding effective
-    seconds_let_in =
-        let taken = clock_taken r.parts.frequency r in
-        clock r.kind r.parts.seconds (start_of r).second n taken.2
-        (λ date. ((taken.3 (dates date).0).1, (midnight (day_index r.start.day) r.start.second (dates date).1).1.1))
+        let zero = λ (date : r.kind ≡ Date). midnight (day_index r.start.day) r.start.second (dates date).1 in (
+          clock r.kind r.parts.hours (start_of r).hour n taken.0 (λ date. ((dates date).0, (zero date).0)),
+          clock r.kind r.parts.minutes (start_of r).minute n taken.1 (λ date. ((taken.3 (dates date).0).0, (zero date).1.0)),
+          clock r.kind r.parts.seconds (start_of r).second n taken.2 (λ date. ((taken.3 (dates date).0).1, (zero date).1.1)),
+        )

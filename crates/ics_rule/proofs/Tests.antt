@@ -1,12 +1,9 @@
 -- Facts about tests and orders that several proofs cite.
-use Rattle.std.proofs.Common.{◌≡◌, ℕ, ◌*◌, ◌==◌, ◌<◌, ◌≤◌, ◌⊎◌, Bool, true, false, not, ◌&&◌, ◌||◌, nat_lt, arith}
+use Rattle.std.proofs.Common.{◌≡◌, ℕ, ◌*◌, ◌==◌, ◌<◌, ◌≤◌, ◌⊎◌, Bool, true, false, not, ◌&&◌, arith}
 use Rattle.std.proofs.lemmas.Bool.Decides.{nat_tests}
 
 pub keep_true : (b : Bool) → (b && true) ≡ b
 keep_true b = grind arith
-
-pub and_false : (b : Bool) → (b && false) ≡ false
-and_false b = grind arith
 
 pub not_false : (b : Bool) → not b ≡ false → b ≡ true
 not_false b h = grind arith
@@ -17,17 +14,8 @@ zero_of s h = grind (arith, nat_tests)
 pub positive : (a b : ℕ) → 1 ≤ a → 1 ≤ b → 1 ≤ a * b
 positive a b h l = grind (arith, nat_tests)
 
-pub above : (a b : ℕ) → b < a → (a == b) ≡ false
-above a b h = grind (arith, nat_tests)
-
-pub below : (a b : ℕ) → a < b → (a == b) ≡ false
-below a b h = grind (arith, nat_tests)
-
 pub three : (a b : ℕ) → (a < b) ⊎ ((a ≡ b) ⊎ (b < a))
 three a b = grind arith
-
-pub third : (a b c d : Bool) → (a && b && c && d) ≡ true → c ≡ true
-third a b c d h = grind arith
 
 pub unequal : (a b : ℕ) → (a < b) ⊎ (b < a) → (a == b) ≡ false
 unequal a b h = grind (arith, nat_tests)
@@ -41,14 +29,5 @@ iff a b p q = grind arith
 pub and_assoc : (a b c : Bool) → (a && b && c) ≡ (a && (b && c))
 and_assoc a b c = grind arith
 
-pub or_false : (a : Bool) → (a || false) ≡ a
-or_false a = grind arith
-
-pub or_swap : (a b c : Bool) → (b || (a || c)) ≡ (a || (b || c))
-or_swap a b c = grind arith
-
 pub swapped : (a c b : Bool) → (c ≡ true → a ≡ b) → (a && c) ≡ (c && b)
 swapped a c b h = grind arith
-
-pub none_yet : (a : ℕ) → nat_lt a 0 ≡ false
-none_yet a = grind (arith, nat_tests)

@@ -1,13 +1,13 @@
 -- The days of a year that may lie in a listed week.
 use Rattle.std.proofs.Common.{◌≡◌, ℕ, ◌+◌, ◌-◌, ◌*◌, ◌/◌, ◌%◌, ◌<◌, ◌≤◌, ◌⊎◌, inl, inr, Bool, true, false, ◌==◌, ◌||◌, ◌&&◌, nat_lt, nat_le, max, min, List}
-use Rattle.std.proofs.Common.{pos, refl, sym, subst, ap, ◌∙◌, arith}
+use Rattle.std.proofs.Common.{pos, subst, ap, arith}
 use Rattle.std.proofs.lemmas.Bool.{cases_lt}
 use Rattle.std.proofs.lemmas.Bool.Decides.{nat_tests}
 use Rattle.jiff_core.specs.Calendar.{days_in_year}
 use Rattle.jiff_core.specs.Weekday.{monday_zero}
 use Rattle.jiff_core.proofs.CalendarLemmas.{days_in_year_bounds}
 use Rattle.ics_fields.specs.declared.ordinals.Ordinals.{Ordinals}
-use Rattle.ics_fields.specs.Sets.{contains, contains_wide, IsLeastFrom}
+use Rattle.ics_fields.specs.Sets.{contains_wide, IsLeastFrom}
 use Rattle.ics_fields.specs.Ordinals.{lists_none}
 use Rattle.ics_fields.specs.Days.{days_before_year, year_of, year_day_of, weekday_of}
 use Rattle.ics_fields.proofs.DayLemmas.{days_before_year-next, year_of_is}

@@ -1,14 +1,14 @@
 use Rattle.std.proofs.Common.{inl, inr, ◌≡◌, ◌∙◌, ◌+◌, ◌&&◌, nat_lt, ap, arith}
+use Rattle.std.proofs.lemmas.Bool.Decides.{nat_tests}
 use Rattle.ics_fields.specs.Sets.{contains_wide}
 use Rattle.ics_rule.specs.Candidates.{lets_date}
 use Rattle.ics_rule.proofs.RunLemmas.{tested}
 use Rattle.ics_rule.proofs.ScanLemmas.{none_has}
 use Rattle.ics_rule.proofs.days.add_days_by_day.Goals as goal
 use Rattle.ics_rule.proofs.days.add_days_by_day.Goals.{then-lets_date, else-lets_date}
-use Rattle.ics_rule.proofs.Tests.{none_yet}
 
 pub loop-k-init : goal.loop-k-init
-loop-k-init c = grind (arith, none_has, none_yet)
+loop-k-init c = grind (arith, nat_tests, none_has)
 
 pub loop-k-preserved : goal.loop-k-preserved
 loop-k-preserved c = λ m. tested (λ k. lets_date c.args.parts.now (c.args.first + k)) c.loop-k.k m c.lets_date.ensures

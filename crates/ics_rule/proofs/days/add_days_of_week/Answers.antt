@@ -1,4 +1,5 @@
 use Rattle.std.proofs.Common.{inl, inr, ◌≡◌, ◌∙◌, ◌+◌, ◌&&◌, not, nat_lt, ap, sym, arith}
+use Rattle.std.proofs.lemmas.Bool.Decides.{nat_tests}
 use Rattle.std.proofs.lemmas.Bool.{or_parts}
 use Rattle.ics_fields.specs.Sets.{contains_wide}
 use Rattle.ics_rule.specs.Candidates.{lets_date}
@@ -7,10 +8,10 @@ use Rattle.ics_rule.proofs.RunLemmas.{tested}
 use Rattle.ics_rule.proofs.ScanLemmas.{none_has}
 use Rattle.ics_rule.proofs.days.add_days_of_week.Goals as goal
 use Rattle.ics_rule.proofs.days.add_days_of_week.Goals.{then-contains, else-contains}
-use Rattle.ics_rule.proofs.Tests.{none_yet, not_false}
+use Rattle.ics_rule.proofs.Tests.{not_false}
 
 pub loop-k-init : goal.loop-k-init
-loop-k-init c = grind (arith, none_has, none_yet)
+loop-k-init c = grind (arith, nat_tests, none_has)
 
 pub loop-k-preserved : goal.loop-k-preserved
 loop-k-preserved c = λ m.

@@ -1,14 +1,14 @@
 use Rattle.std.proofs.Common.{inl, inr, ◌∙◌, ◌+◌, ap, arith, ◌&&◌, nat_lt}
+use Rattle.std.proofs.lemmas.Bool.Decides.{nat_tests}
 use Rattle.ics_fields.specs.Sets.{contains_wide}
 use Rattle.ics_rule.specs.Candidates.{lets_wide_place}
 use Rattle.ics_rule.proofs.RunLemmas.{tested}
 use Rattle.ics_rule.proofs.ScanLemmas.{none_has}
 use Rattle.ics_rule.proofs.days.days_by_number.Goals as goal
 use Rattle.ics_rule.proofs.days.days_by_number.Goals.{then-lets_wide_place, else-lets_wide_place}
-use Rattle.ics_rule.proofs.Tests.{none_yet}
 
 pub loop-k-init : goal.loop-k-init
-loop-k-init c = grind (arith, none_has, none_yet)
+loop-k-init c = grind (arith, nat_tests, none_has)
 
 pub loop-k-preserved : goal.loop-k-preserved
 loop-k-preserved c = λ m. tested (λ k. lets_wide_place c.args.parts.now.year_days (k + 1) c.args.len) c.loop-k.k m c.lets_wide_place.ensures

@@ -1,14 +1,14 @@
-use Rattle.std.proofs.Common.{inl, inr, ◌∙◌, ◌+◌, ap}
+use Rattle.std.proofs.Common.{inl, inr, ◌∙◌, ◌+◌, ap, arith}
+use Rattle.std.proofs.lemmas.Bool.Decides.{nat_tests}
 use Rattle.ics_fields.specs.Sets.{contains_wide}
 use Rattle.ics_rule.specs.Candidates.{lets_date}
 use Rattle.ics_rule.proofs.ScanLemmas.{none_has}
-use Rattle.ics_rule.proofs.MonthDays.{asked_none, asked_more, asked_all}
+use Rattle.ics_rule.proofs.MonthDays.{asked_more, asked_all}
 use Rattle.ics_rule.proofs.days.those_let_in.Goals as goal
 use Rattle.ics_rule.proofs.days.those_let_in.Goals.{then-lets_date, else-lets_date}
 
 pub loop-k-init : goal.loop-k-init
-loop-k-init c = λ k. ap (λ ws. contains_wide ws k) c.new-days.ensures ∙ none_has k
-    ∙ asked_none (contains_wide c.args.some.now) (λ m. lets_date c.args.parts.now (c.args.first + m)) k
+loop-k-init c = grind (arith, nat_tests, none_has)
 
 pub loop-k-preserved : goal.loop-k-preserved
 loop-k-preserved c = λ k. asked_more (contains_wide c.args.some.now) (λ m. lets_date c.args.parts.now (c.args.first + m)) k

@@ -4,7 +4,7 @@ use Rattle.ics_rule.proofs.WeekDays.{weeks_first, weeks_more, weeks_done}
 use Rattle.ics_rule.proofs.weeks.listed_weeks.Goals as goal
 
 pub loop-n-init : goal.loop-n-init
-loop-n-init c = λ n l h. weeks_first (contains c.args.weeks.now.front) (contains c.args.weeks.now.back) n
+loop-n-init c = grind (arith, weeks_first)
 
 pub loop-n-preserved : goal.loop-n-preserved
 loop-n-preserved c = λ n l h. c.insert-in-Some.ensures.members n ∙ ap (λ x. (n == 54 - c.in-Some.n) || x) (c.insert.ensures.members n)

@@ -31,10 +31,10 @@ loop-number-preserved c =
     (c.is_none.ensures ∙ ap not c.if-is_none.false) in
     record {
       counting = counting_goes_on counting here.1 c.turn_to.ensures.looks
-          (top_of c.args.parts.now c.args.self.now.place c.loop-number.number (omega (arith, c.loop-number-test.true, c.requires.end))) c.requires.first
+          (top_of c.args.parts.now c.args.self.now.place c.loop-number.number (omega (arith, c.loop-number-test.true, c.requires.end)))
           (none_within c.args.parts.now c.args.start c.args.self.now.place (omega (arith, c.loop-number-test.true, c.requires.end)))
-          (rw c.min-number.ensures (not_past c.requires.interval (rw c.requires.first counting.walk.step) (rw c.requires.first c.requires.step)
-          c.loop-number-test.true c.next_open_step.ensures));
+          (rw c.min-number.ensures (not_past c.requires.interval counting.walk.step c.requires.step c.loop-number-test.true
+          (rw c.requires.first at c.next_open_step.ensures)));
       high = omega (arith, c.min-number.ensures);
     }
 

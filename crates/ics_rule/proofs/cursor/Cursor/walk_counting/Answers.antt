@@ -50,10 +50,10 @@ loop-number-preserved c =
     let turned = c.in_ok-period.ensures.turned in
     let walk = c.loop-number.invariant.walk in
     counting_goes_on c.loop-number.invariant turned c.turn_to.ensures.looks
-    (omega (arith, c.loop-number-test.true, c.period_of-last.ensures.value)) c.period_of-first.ensures.value
+    (omega (arith, c.loop-number-test.true, c.period_of-last.ensures.value))
     (λ n l. sym (taken_within c.args.start turned.product turned.number walk.step n)
     ∙ c.in_default.ensures.next n (omega (arith, l, c.turn_to.ensures.looks.place, walk.moved.place)))
-    c.next_open_step-number.ensures
+    (rw c.period_of-first.ensures.value at c.next_open_step-number.ensures)
 
 pub returns-clause-next : goal.returns-clause-next
 returns-clause-next c = walk_ends c.loop-number.invariant.walk (omega (arith, c.period_of-last.ensures.value, c.loop-number-test.false))

@@ -8,8 +8,8 @@ use Rattle.ics_rule.proofs.NeverLemmas.{none_wanted, none_walked}
 use Rattle.ics_rule.proofs.cursor.Cursor.walk_freely.Goals as goal
 
 pub loop-number-init : goal.loop-number-init
-loop-number-init c = walk_begins c.requires.interval c.period_of-first.ensures.value c.period_of-own.ensures.value c.next_step-number.ensures c.requires.place
-    c.requires.own
+loop-number-init c = walk_begins c.requires.interval
+    (rw (c.period_of-first.ensures.value, c.period_of-own.ensures.value) at c.next_step-number.ensures) c.requires.place c.requires.own
 
 pub find-requires-clause-low : goal.find-requires-clause-low
 find-requires-clause-low c = step_low c.args.parts.now c.args.start c.loop-number.number c.loop-number.invariant.step
@@ -41,8 +41,9 @@ pub loop-number-preserved : goal.loop-number-preserved
 loop-number-preserved c =
     let own = held c.find.new.self.held c.find.ensures.held in
     walk_goes_on c.loop-number.invariant c.find.ensures.looks own.1.0 own.1.1.0 own.1.1.1 tt
-    (omega (arith, c.loop-number-test.true, c.last_to_look_at-end.ensures.high, c.period_of-last.ensures.value)) c.period_of-first.ensures.value
-    (λ n l. c.in_default.ensures.next n (omega (arith, l, c.loop-number.invariant.moved.place))) c.next_open_step-number.ensures
+    (omega (arith, c.loop-number-test.true, c.last_to_look_at-end.ensures.high, c.period_of-last.ensures.value))
+    (λ n l. c.in_default.ensures.next n (omega (arith, l, c.loop-number.invariant.moved.place)))
+    (rw c.period_of-first.ensures.value at c.next_open_step-number.ensures)
 
 pub returns-clause-next : goal.returns-clause-next
 returns-clause-next c = walk_rounds_end {begin = c.max.result} {end = c.last_to_look_at-end.result} c.loop-number.invariant c.requires.stop

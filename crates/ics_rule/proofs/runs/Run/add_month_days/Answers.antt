@@ -12,7 +12,7 @@ pub loop-n-init : goal.loop-n-init
 loop-n-init c = grind (arith, day_none)
 
 pub insert-requires : goal.insert-requires
-insert-requires c = let i = inside (goal.at.insert-requires c).In-Some in omega (arith, i.0, i.1, c.requires.within)
+insert-requires c = grind (arith, inside)
 
 pub loop-n-preserved : goal.loop-n-preserved
 loop-n-preserved c = let i = inside (goal.at.loop-n-preserved c).In-Some in (

@@ -3,8 +3,7 @@ use Rattle.std.proofs.Math.Nat.{mod-lt}
 use Rattle.ics_fields.specs.Sets.{contains, contains_wide}
 use Rattle.ics_rule.specs.NamedWeekdays.{names_weekday}
 use Rattle.ics_rule.specs.Runs.{has_run, weekday_in, lists_weekday}
-use Rattle.ics_rule.proofs.PartLemmas.{named_small}
-use Rattle.ics_rule.proofs.RunLemmas.{unnamed, weekdays_none, weekdays_more, weekdays_done}
+use Rattle.ics_rule.proofs.RunLemmas.{named_small, unnamed, weekdays_none, weekdays_more, weekdays_done}
 use Rattle.ics_rule.proofs.runs.Run.add_weekdays.Goals as goal
 use Rattle.ics_rule.proofs.runs.Run.add_weekdays.Goals.{After-named-named}
 
