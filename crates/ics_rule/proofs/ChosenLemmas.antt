@@ -37,8 +37,7 @@ taken_out : (positions : WideOrdinals) (b : Bool) (p : RecurrencePeriod) (n : �
 taken_out positions b p n e = grind arith
 
 taken_placed : (positions : WideOrdinals) (b : Bool) (p : RecurrencePeriod) (n : ℕ) → is_taken positions b p n ≡ placed_of positions b (holds p) calendar_end n
-taken_placed positions true p n = refl
-taken_placed positions false p n = refl
+taken_placed positions b p n = grind arith
 
 -- what stands beside n is what the rule lets in in the period of n
 pub beside_let_in : (q : EffectiveRule) (start n m : ℕ) {number : ℕ} → is_stepped (period_in q start) q.interval number ≡ true → period_in q n ≡ number →

@@ -24,8 +24,7 @@ use Rattle.ics_rule.proofs.MonthDays.{three_parts, goes}
 
 -- where there is no next member, none is left
 pub none_from : (test : ℕ → Bool) {n : ℕ} (o : Option ℕ) → is_some o ≡ false → IsNextIn test n o → (m : ℕ) → n ≤ m → test m ≡ false
-none_from test None e next = next
-none_from test (Some x) e next = absurd (cc)
+none_from test o e next m l = grind arith
 
 -- what a rule allows, apart from the interval
 abbrev pub is_allowed : EffectiveRule → ℕ → Bool

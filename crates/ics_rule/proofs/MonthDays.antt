@@ -138,9 +138,6 @@ module _ (some f : ℕ → Bool) where
       → ((t ≡ true) × (new ≡ ((k == n) || old))) ⊎ ((t ≡ false) × (new ≡ old)) → new ≡ (some k && (nat_lt k (n + 1) && f k))
   asked_more k next test h e = grind (arith, nat_tests)
 
-  pub asked_none : (k : ℕ) → false ≡ (some k && (nat_lt k 0 && f k))
-  asked_none k = grind (arith, nat_tests)
-
   pub asked_all : (from k : ℕ) {b : Bool} → ((m : ℕ) → from ≤ m → some m ≡ false) → b ≡ (some k && (nat_lt k from && f k)) → b ≡ (some k && f k)
   asked_all from k none e = grind (arith, nat_tests)
 

@@ -63,9 +63,6 @@ module _ (r : Run) (listed : ℕ → Bool) (d p from m : ℕ) (a b : Bool) (own 
       ((m == r.start + (p + 7 * (n - 1))) || b) ≡ number_found (n + 1)
   number_added n some inside next e = grind (arith, nat_tests)
 
-  pub number_none : a ≡ number_found 1
-  number_none = grind (arith, nat_tests)
-
   pub number_done : (q : Ordinals) {count : ℕ} → count ≡ (r.len - 1 - p) / 7 + 1 → p < r.len → ((n : ℕ) → from ≤ n → listed n ≡ false) →
       ((n : ℕ) → 1 ≤ n → listed n ≡ (nat_le n count && lists q n count))
       → b ≡ number_found from → b ≡ (a || (has_run r m && ((weekday_in r (m - r.start) == d) && lists_nth q (m - r.start + 1) r.len)))
@@ -94,9 +91,6 @@ module _ (listed named : ℕ → Bool) (w : ℕ) (none : named w ≡ false → l
       → b ≡ (a || (x && listed w))
   weekdays_done left h = grind (arith, nat_tests)
 
-pub weekdays_none : (w : ℕ) (a x y : Bool) → a ≡ (a || (x && (nat_lt w 0 && y)))
-weekdays_none w a x y = grind (arith, nat_tests)
-
 -- the days of a month by their numbers
 module _ (r : Run) (listed : ℕ → Bool) (from m : ℕ) (a b : Bool) where
   abbrev day_found : ℕ → Bool
@@ -104,9 +98,6 @@ module _ (r : Run) (listed : ℕ → Bool) (from m : ℕ) (a b : Bool) where
 
   pub day_added : (n : ℕ) → 1 ≤ n → n ≤ r.len → IsLeastFrom listed from n → b ≡ day_found from → ((m == r.start + n - 1) || b) ≡ day_found (n + 1)
   day_added n some most next e = grind (arith, nat_tests)
-
-  pub day_none : a ≡ day_found 1
-  day_none = grind (arith, nat_tests)
 
   pub day_done : (lists : ℕ → Bool) → ((n : ℕ) → from ≤ n → listed n ≡ false) → ((n : ℕ) → 1 ≤ n → listed n ≡ (nat_le n r.len && lists n)) → b ≡ day_found from
       → b ≡ (a || (has_run r m && lists (m - r.start + 1)))

@@ -7,10 +7,11 @@ use Rattle.ics_rule.specs.Candidates.{is_candidate, in_step, lets_date, lets_clo
 use Rattle.ics_rule.proofs.rule.Rule.admits.Goals as goal
 
 -- a candidate by its parts: the three tests together
-by_parts : (r : Recurrence) (n : ℕ) {q : EffectiveRule} {s : ℕ} {a b k : Bool} → q ≡ effective r → s ≡ number r.start
-    → a ≡ in_step q s n → b ≡ lets_date q (n / 86_400) → k ≡ lets_clock q (n / 86_400 * 86_400 + n % 86_400) → (a && b && k) ≡ is_candidate r n
-unfolding is_candidate
-by_parts r n eq es ea eb ek = let whole : n / 86_400 * 86_400 + n % 86_400 ≡ n = omega arith in rw (ea, eb, ek, whole, eq, es)
+module _ (r : Recurrence) (n : ℕ) where
+  by_parts : {q : EffectiveRule} {s : ℕ} {a b k : Bool} → q ≡ effective r → s ≡ number r.start
+      → a ≡ in_step q s n → b ≡ lets_date q (n / 86_400) → k ≡ lets_clock q (n / 86_400 * 86_400 + n % 86_400) → (a && b && k) ≡ is_candidate r n
+  unfolding is_candidate
+  by_parts eq es ea eb ek = let whole : n / 86_400 * 86_400 + n % 86_400 ≡ n = omega arith in rw (ea, eb, ek, whole, eq, es)
 
 pub returns : goal.returns
 returns c =

@@ -1,7 +1,8 @@
 use Rattle.std.proofs.Common.{◌∙◌, ◌≤◌, arith}
+use Rattle.std.proofs.lemmas.Bool.Decides.{nat_tests}
 use Rattle.ics_fields.specs.Sets.{contains, contains_wide}
 use Rattle.ics_rule.specs.Candidates.{lists}
-use Rattle.ics_rule.proofs.RunLemmas.{day_none, day_added, day_done, listed_within}
+use Rattle.ics_rule.proofs.RunLemmas.{day_added, day_done, listed_within}
 use Rattle.ics_rule.proofs.runs.Run.add_month_days.Goals as goal
 use Rattle.ics_rule.proofs.runs.Run.add_month_days.Goals.{In-Some}
 
@@ -9,7 +10,7 @@ inside : (c : In-Some) → (1 ≤ c.in-Some.n) × (c.in-Some.n ≤ c.args.self.l
 inside c = grind (arith, listed_within)
 
 pub loop-n-init : goal.loop-n-init
-loop-n-init c = grind (arith, day_none)
+loop-n-init c = grind (arith, nat_tests)
 
 pub insert-requires : goal.insert-requires
 insert-requires c = grind (arith, inside)

@@ -1,6 +1,7 @@
 use Rattle.std.proofs.Common.{◌∙◌, ◌+◌, ◌-◌, ◌*◌, ◌≤◌, ◌<◌, arith}
+use Rattle.std.proofs.lemmas.Bool.Decides.{nat_tests}
 use Rattle.ics_fields.specs.Sets.{contains, contains_wide}
-use Rattle.ics_rule.proofs.RunLemmas.{number_none, number_added, number_done, listed_within}
+use Rattle.ics_rule.proofs.RunLemmas.{number_added, number_done, listed_within}
 use Rattle.ics_rule.proofs.runs.Run.add_numbered.Goals as goal
 use Rattle.ics_rule.proofs.runs.Run.add_numbered.Goals.{In-Some}
 
@@ -8,7 +9,7 @@ inside : (c : In-Some) → (1 ≤ c.in-Some.n) × (c.first_on-first.result + 7 *
 inside c = grind (arith, listed_within)
 
 pub loop-n-init : goal.loop-n-init
-loop-n-init c = grind (arith, number_none)
+loop-n-init c = grind (arith, nat_tests)
 
 pub insert-requires : goal.insert-requires
 insert-requires c = grind (arith, inside)

@@ -1,14 +1,15 @@
 use Rattle.std.proofs.Common.{◌≡◌, ℕ, ◌+◌, ◌-◌, false, arith}
+use Rattle.std.proofs.lemmas.Bool.Decides.{nat_tests}
 use Rattle.std.proofs.Math.Nat.{mod-lt}
 use Rattle.ics_fields.specs.Sets.{contains, contains_wide}
 use Rattle.ics_rule.specs.NamedWeekdays.{names_weekday}
 use Rattle.ics_rule.specs.Runs.{has_run, weekday_in, lists_weekday}
-use Rattle.ics_rule.proofs.RunLemmas.{named_small, unnamed, weekdays_none, weekdays_more, weekdays_done}
+use Rattle.ics_rule.proofs.RunLemmas.{named_small, unnamed, weekdays_more, weekdays_done}
 use Rattle.ics_rule.proofs.runs.Run.add_weekdays.Goals as goal
 use Rattle.ics_rule.proofs.runs.Run.add_weekdays.Goals.{After-named-named}
 
 pub loop-weekday-init : goal.loop-weekday-init
-loop-weekday-init c = grind (arith, weekdays_none)
+loop-weekday-init c = grind (arith, nat_tests)
 
 pub add_weekday-requires-clause-weekday : goal.add_weekday-requires-clause-weekday
 add_weekday-requires-clause-weekday c = named_small c.in-Some.weekday (names_weekday c.args.weekdays.now c.in-Some.weekday)
