@@ -124,7 +124,7 @@ turned_on {q = q} {start = start} was left step product same = record {
   number = same;
   counted = record {
     step = ap (is_stepped (period_in q start) q.interval) same ∙ step;
-    total = sym (chosen_passed left) ∙ ap (λ x. count (first_local q.frequency (monday_zero q.week_start) x) (is_chosen q start)) (sym same);
+    total = rw same (sym (chosen_passed left));
     most = left.counted.most;
   };
 }

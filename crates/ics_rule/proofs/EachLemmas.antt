@@ -24,6 +24,7 @@ use Rattle.ics_rule.proofs.Tests.{and_assoc, self_test}
 pub clock_split : (f : Frequency) (q : EffectiveRule) (n : ℕ) → lets_clock q n ≡ (lets_own f q n && lets_within f q n)
 clock_split f q n = grind arith
 
+-- a part that is not asked lets all in, and else numbers that are one are let in alike
 part_alike : (b : Bool) (s m n : ℕ) → (b ≡ false → m ≡ n) → (b || lets s m) ≡ (b || lets s n)
 part_alike b s m n same = grind arith
 

@@ -57,6 +57,7 @@ module _ (f : ℕ → ℕ) (periods begin top : ℕ)
       let more : suc r * (one - before) ≡ r * (one - before) + (one - before) = omega arith in
       rw next (grind (arith, apart (r * periods), all_rounds eb eo grows r))
 
+-- two periods that are both steps or both not, of one size, add as much
 as_much : (s : Bool) (a c : ℕ) {m n : ℕ} → (s ≡ true → n ≡ m) → a + cond s m 0 + c ≡ c + cond s n 0 + a
 as_much s a c size = grind arith
 

@@ -124,6 +124,7 @@ pub record IsIsoWeek (d : ISOWeekDate) (e : ℕ) : Type 0 where
   pub weeks : weeks_in_year d.year ≡ weeks_of_year (fourth_day 0 e)
   pub weekday : monday_zero d.weekday ≡ weekday_of e
 
+-- the week of a day in a year, with that year as ISO 8601 has it
 of_week : {d : ISOWeekDate} {e y : ℕ} {x : ℤ} → IsWeek y d.week (weeks_in_year x) (monday_zero d.weekday) e → d.year ≡ x
     → (2 ≤ e → x ≡ pos (year_of (fourth_day 0 e))) → (e < 2 → x +ℤ pos 400 ≡ pos (year_of (fourth_day 0 e))) → IsIsoWeek d e
 of_week week is year cycle = record {

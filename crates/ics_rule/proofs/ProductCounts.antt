@@ -56,6 +56,7 @@ pub days_from_first : (p : RecurrencePeriod) (n : ℕ) → count (p.first_day + 
 days_from_first p n = count-from p.first_day n (has_day p) (day_before p)
     ∙ count-same n (λ k. has_day p (p.first_day + k)) (contains_wide p.days) (λ k l. day_at p k)
 
+-- a product has no day past the 384 of its set
 day_past : (p : RecurrencePeriod) (m : ℕ) → p.first_day + 384 ≤ m → has_day p m ≡ false
 day_past p m h = and_right (nat_le p.first_day m) (contains_wide p.days (m - p.first_day)) (wide_past p.days (m - p.first_day) (omega arith))
 

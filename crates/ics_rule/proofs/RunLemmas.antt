@@ -68,14 +68,6 @@ module _ (r : Run) (listed : ℕ → Bool) (d p from m : ℕ) (a b : Bool) (own 
       → b ≡ number_found from → b ≡ (a || (has_run r m && ((weekday_in r (m - r.start) == d) && lists_nth q (m - r.start + 1) r.len)))
   number_done q size some none is e = grind (arith, nat_tests)
 
--- a weekday without a number has any
-pub each_listed : (a x w : Bool) {plain : Bool} (n : Bool) {new : Bool} → plain ≡ true → new ≡ (a || (x && w)) → new ≡ (a || (x && (w && (plain || n))))
-each_listed a x w n h e = grind arith
-
-pub numbered_listed : (a x w : Bool) {plain : Bool} (n : Bool) {new : Bool} → plain ≡ false → new ≡ (a || (x && (w && n)))
-    → new ≡ (a || (x && (w && (plain || n))))
-numbered_listed a x w n h e = rw h e
-
 -- a weekday that BYDAY does not list has no day
 module _ (ws : Weekdays) (named : ℕ → Bool) (is : (d : ℕ) → named d ≡ (nat_lt d 7 && names_weekday ws d)) where
   pub unnamed : (d n size : ℕ) → d < 7 → named d ≡ false → lists_weekday ws d n size ≡ false

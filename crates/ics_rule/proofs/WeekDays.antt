@@ -19,9 +19,6 @@ use Rattle.ics_rule.proofs.PeriodLemmas.{week_small, fourth_late}
 use Rattle.ics_rule.proofs.LawLemmas.{year_day_is}
 
 -- the days between two
-pub between_none : (low m : ℕ) (a : Bool) → a ≡ (a || (nat_le low m && nat_lt m low))
-between_none low m a = grind (arith, nat_tests)
-
 pub between_more : (low k m : ℕ) (a : Bool) {b : Bool} → low ≤ k → b ≡ (a || (nat_le low m && nat_lt m k))
     → ((m == k) || b) ≡ (a || (nat_le low m && nat_lt m (k + 1)))
 between_more low k m a l e = grind (arith, nat_tests)
@@ -118,9 +115,6 @@ seen_weeks front back from n = front n || (nat_lt (53 - n) from && back (53 - n)
 
 -- the same for the weeks of a year, by the places that are listed from the front and from the end
 module _ (front back : ℕ → Bool) where
-  pub weeks_first : (n : ℕ) → front n ≡ seen_weeks front back 0 n
-  weeks_first n = grind (arith, nat_tests)
-
   pub weeks_more : {from k : ℕ} (n : ℕ) {b : Bool} → 1 ≤ n → n ≤ 53 → k ≤ 53 → IsLeastFrom back from k
       → b ≡ seen_weeks front back from n → ((n == 54 - k) || ((n == 53 - k) || b)) ≡ seen_weeks front back (k + 1) n
   weeks_more n one most some next e = grind (arith, nat_tests)

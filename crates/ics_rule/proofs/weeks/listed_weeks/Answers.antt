@@ -1,10 +1,11 @@
 use Rattle.std.proofs.Common.{◌∙◌, ◌-◌, ◌==◌, ◌||◌, ap, arith}
+use Rattle.std.proofs.lemmas.Bool.Decides.{nat_tests}
 use Rattle.ics_fields.specs.Sets.{contains}
-use Rattle.ics_rule.proofs.WeekDays.{weeks_first, weeks_more, weeks_done}
+use Rattle.ics_rule.proofs.WeekDays.{weeks_more, weeks_done}
 use Rattle.ics_rule.proofs.weeks.listed_weeks.Goals as goal
 
 pub loop-n-init : goal.loop-n-init
-loop-n-init c = grind (arith, weeks_first)
+loop-n-init c = grind (arith, nat_tests)
 
 pub loop-n-preserved : goal.loop-n-preserved
 loop-n-preserved c = λ n l h. c.insert-in-Some.ensures.members n ∙ ap (λ x. (n == 54 - c.in-Some.n) || x) (c.insert.ensures.members n)
