@@ -40,10 +40,7 @@ module _ (offset : ℤ → ℤ) (local : ℤ) (offsets : List ℤ) (k : ℕ) (e 
       | inl less ↦ (let one : m ≡ f = omega (arith, ints, clamps, min, less) in rw one before.shows)
       | inr more ↦ (let one : m ≡ t = omega (arith, ints, clamps, min, more) in rw one (omega (arith, ints, is, same)))
     ];
-    least = λ j d l shows. elim (below_or_at j k (omega arith)) [
-      | inl early ↦ (let low = before.least j d early shows in omega (arith, ints, clamps, low, min))
-      | inr at_k ↦ (let there = here j d at_k in omega (arith, ints, clamps, there, min, is))
-    ];
+    least = λ j d l shows. let low = before.least j d in let there = here j d in grind (arith, ints, clamps, below_or_at);
   }
 
 -- where each offset is among them, the least is the first instant that shows the local

@@ -1,10 +1,11 @@
 -- What a zone file says is what jiff answers for a table that was read from it.
-use Rattle.std.proofs.Common.{Decides, ◌≡◌, ℕ, zero, suc, ◌+◌, ◌-◌, ℤ, pos, Bool, true, false, cond, int_le, List, [], ◌∷◌, map, length, get_or}
+use Rattle.std.proofs.Common.{Decides, ◌≡◌, ℕ, ◌+◌, ◌-◌, ℤ, pos, Bool, true, false, cond, int_le, List, [], ◌∷◌, map, length, get_or}
 use Rattle.std.proofs.Common.{Option, Some, None, option_map, refl, sym, ap, ap₂, ◌∙◌, arith, if◌then◌else◌, vec_len}
 use Rattle.std.proofs.lemmas.Bool.{and_parts, false_from_ne_true}
 use Rattle.std.proofs.lemmas.Bool.Decides.{nat_tests}
 use Rattle.std.proofs.lemmas.Slice.Eq.{bytes_eq-Decides}
 use Rattle.std.specs.List.{prefix_len}
+use Rattle.std.proofs.Math.ListN.{get_or-map}
 use Rattle.std.proofs.lemmas.List.{length-map}
 use Rattle.jiff.specs.Words.{nanos_of_seconds, civil_nanos, civil_seconds}
 use Rattle.jiff.proofs.SpanFacts.{signed_arith}
@@ -95,14 +96,9 @@ prefix_len-map : {A B : Type 0} (f : A → B) (p : B → Bool) (xs : List A) →
 prefix_len-map f p [] = refl
 prefix_len-map f p (x ∷ xs) = ap (λ (n : ℕ). cond (p (f x)) (1 + n) 0) (prefix_len-map f p xs)
 
-get_or-view : {A B : Type 0} (f : A → B) (xs : List A) (k : ℕ) (d : A) → get_or (map f xs) k (f d) ≡ f (get_or xs k d)
-get_or-view f [] k d = refl
-get_or-view f (x ∷ xs) zero d = refl
-get_or-view f (x ∷ xs) (suc k) d = get_or-view f xs k d
-
 module _ (z : Tzif) where
   row_is : (k : ℕ) → row_at (tzif_view z) k ≡ transition_text (Table.transition_at z k)
-  row_is k = get_or-view transition_text z.transitions.items k (Table.no_transition z)
+  row_is k = get_or-map transition_text z.transitions.items k (Table.no_transition z)
 
   offset_after_is : (count : ℕ) → offset_after (tzif_view z) count ≡ (Table.type_after z count).offset.seconds
   offset_after_is count = grind (arith, nat_tests, row_is)

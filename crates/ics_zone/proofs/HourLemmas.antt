@@ -18,16 +18,15 @@ use Rattle.ics_zone.specs.Marks.{is_marked, IsMarked}
 use Rattle.ics_zone.proofs.Cases.{int_lt_true, true_int_lt}
 use Rattle.ics_zone.proofs.KeptLemmas.{to_kept, from_kept}
 use Rattle.ics_zone.proofs.MinuteLemmas.{IsFront, front_is, marked-set_same, marked-set_other}
-use Rattle.ics_zone.proofs.OnsetLemmas.{natural-is}
+use Rattle.ics_zone.specs.Searches.{natural-is}
 
 -- an hour and the next
 pub hours_of : (r : Recurrence) (local : ℕ) (here next : Times) → ((n : ℕ) → n / 3_600 ≡ local / 3_600 → is_kept r n ≡ keeps_time here n)
     → ((n : ℕ) → n / 3_600 ≡ local / 3_600 + 1 → is_kept r n ≡ keeps_time next n)
     → AreHoursOf r local (record { hour = local / 3_600; here = here; next = next })
 hours_of r local here next now later n from early = elim (cases_eq (n / 3_600) (local / 3_600)) [
-  | inl e ↦ now n e ∙ sym (ap (λ b. if b then keeps_time here n else keeps_time next n) (eq-eqb (n / 3_600) (local / 3_600) e))
-  | inr ne ↦ later n (omega (arith, from, early, ne))
-      ∙ sym (ap (λ b. if b then keeps_time here n else keeps_time next n) (ne_eqb (n / 3_600) (local / 3_600) ne))
+  | inl e ↦ rw (eq-eqb (n / 3_600) (local / 3_600) e) (now n e)
+  | inr ne ↦ rw (ne_eqb (n / 3_600) (local / 3_600) ne) (later n (omega (arith, from, early, ne)))
 ]
 
 -- a word of the minute that begins at a local: its seconds are the last of one minute of the clock and the first of the next
@@ -56,16 +55,17 @@ pub keeps_nothing : (hours : Hours) → ((n : ℕ) → keeps_time hours.here n �
 keeps_nothing hours here next n = grind (arith, ints)
 
 -- the words of an hour, with one minute more
-pub words_more : {minute : ℕ} {count : ℤ} {size word part : ℕ} (hours : Hours) (local : ℕ) (marks : List ℕ) → minute < length marks
-    → IsFront minute count size word part → ((n : ℕ) → n < 60 → contains word n ≡ keeps hours (local + minute * 60 + n))
-    → ((k : ℕ) → k < minute * 60 → is_marked marks k ≡ (int_lt (pos k) count && keeps hours (local + k))) → (k : ℕ) → k < (minute + 1) * 60
-    → is_marked (set marks minute part) k ≡ (int_lt (pos k) count && keeps hours (local + k))
-words_more {minute = minute} {part = part} hours local marks inside front is_word old k early = elim (cases_eq (k / 60) minute) [
-  | inl e ↦ (
-      let there : local + minute * 60 + k % 60 ≡ local + k = omega (arith, e) in
-      rw (marked-set_same marks minute part k inside e, front_is front k e, is_word (k % 60) (omega arith), there) refl)
-  | inr ne ↦ marked-set_other marks minute part k ne ∙ old k (omega (arith, ne, early))
-]
+module _ (hours : Hours) (local : ℕ) (marks : List ℕ) where
+  pub words_more : {minute : ℕ} {count : ℤ} {size word part : ℕ} → minute < length marks
+      → IsFront minute count size word part → ((n : ℕ) → n < 60 → contains word n ≡ keeps hours (local + minute * 60 + n))
+      → ((k : ℕ) → k < minute * 60 → is_marked marks k ≡ (int_lt (pos k) count && keeps hours (local + k))) → (k : ℕ) → k < (minute + 1) * 60
+      → is_marked (set marks minute part) k ≡ (int_lt (pos k) count && keeps hours (local + k))
+  words_more {minute = minute} {part = part} inside front is_word old k early = elim (cases_eq (k / 60) minute) [
+    | inl e ↦ (
+        let there : local + minute * 60 + k % 60 ≡ local + k = omega (arith, e) in
+        rw (marked-set_same marks minute part k inside e, front_is front k e, is_word (k % 60) (omega arith), there) refl)
+    | inr ne ↦ marked-set_other marks minute part k ne ∙ old k (omega (arith, ne, early))
+  ]
 
 -- two hours tell of each instant of an hour whether the rule has an onset there
 pub told_by : {s : Onsets} {r : Recurrence} {hours : Hours} (from : ℤ) (local : ℕ) → s.rule ≡ Some r → from ≡ instant_by s.offset_from local
@@ -98,19 +98,22 @@ module _ (s : Onsets) (hours : Hours) (t : ℤ) (told : IsToldAt s hours t) (n :
 -- what the words of an hour tell of the onsets of a rule
 module _ (s : Onsets) (hours : Hours) (from : ℤ) (local : ℕ) (count : ℤ) (marks : List ℕ) (told : IsTold s (from -ℤ pos 1) (from +ℤ pos 3_600) hours)
     (at : from ≡ instant_by s.offset_from local) (words : (k : ℕ) → k < 3_600 → is_marked marks k ≡ (int_lt (pos k) count && keeps hours (local + k)))
-    (down : (k : ℕ) → k < 3_600 → pos k <ℤ count → (from +ℤ pos k) ≤ℤ s.until)
+    (down : (k : ℕ) → pos k <ℤ count → (from +ℤ pos k) ≤ℤ s.until)
     (up : (k : ℕ) → k < 3_600 → (from +ℤ pos k) ≤ℤ s.until → pos k <ℤ count) where
   told_at : (k : ℕ) → k < 3_600 → IsToldAt s hours (from +ℤ pos k)
   told_at k low = told (from +ℤ pos k) (omega (arith, ints)) (omega (arith, ints, low))
 
-  pub told_known : (k : ℕ) → k < 3_600 → IsMarked marks k → IsKeptAt s (from +ℤ pos k)
-  told_known k low m =
+  known : (k : ℕ) → k < 3_600 → IsMarked marks k → IsKeptAt s (from +ℤ pos k)
+  known k low m =
       let both = and_parts (int_lt (pos k) count) (keeps hours (local + k)) (sym (words k low) ∙ m) in
-      kept_told s hours (from +ℤ pos k) (told_at k low) (local + k) (omega (arith, ints, at)) both.1 (down k low (int_lt_true (pos k) count both.0))
+      kept_told s hours (from +ℤ pos k) (told_at k low) (local + k) (omega (arith, ints, at)) both.1 (down k (int_lt_true (pos k) count both.0))
 
-  pub told_complete : (k : ℕ) → k < 3_600 → IsKeptAt s (from +ℤ pos k) → IsMarked marks k
-  told_complete k low h =
+  complete : (k : ℕ) → k < 3_600 → IsKeptAt s (from +ℤ pos k) → IsMarked marks k
+  complete k low h =
       let t = told_at k low in
       let by_end = (from_kept s t.is_rule (from +ℤ pos k) h).by_end in
       words k low ∙ and_from (int_lt (pos k) count) (keeps hours (local + k)) (true_int_lt (pos k) count (up k low by_end))
       (told_kept s hours (from +ℤ pos k) t (local + k) (omega (arith, ints, at)) h)
+
+  pub words_tell : ((k : ℕ) → k < 3_600 → IsMarked marks k → IsKeptAt s (from +ℤ pos k)) × ((k : ℕ) → k < 3_600 → IsKeptAt s (from +ℤ pos k) → IsMarked marks k)
+  words_tell = (known, complete)

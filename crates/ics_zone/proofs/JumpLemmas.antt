@@ -16,7 +16,8 @@ use Rattle.ics_zone.specs.Moments.{shown, IsFirstTime}
 use Rattle.ics_zone.specs.ZoneOnsets.{HaveOffsets, IsKnown, IsLatest, IsLatestOf, IsFirstOffset, IsNextPast, IsClear, IsJump, IsSteady, IsOverridden}
 use Rattle.ics_zone.specs.ZoneBounds.{zone_facts, zone_short}
 use Rattle.ics_zone.proofs.OffsetLaws.{offset_unique}
-use Rattle.ics_zone.proofs.OnsetLemmas.{natural-is, offset_found}
+use Rattle.ics_zone.specs.Searches.{natural-is}
+use Rattle.ics_zone.proofs.OnsetLemmas.{offset_found}
 use Rattle.ics_zone.proofs.Cases.{less_or_not_z}
 
 not_empty : (zone : List ObservanceSaid) → 0 < length zone → zone ≢ []

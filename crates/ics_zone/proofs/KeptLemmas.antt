@@ -12,8 +12,9 @@ use Rattle.ics_zone.specs.OnsetSets.{IsShownBy, IsShownTo, IsKeptBy, IsKeptAt, H
 use Rattle.ics_zone.proofs.Cases.{less_or_not_z, not_both}
 
 -- where none is kept from a place on and before an end, a kept local before the end is before the place
-below : (r : Recurrence) (from end n : ℕ) → NoneKept r from end → is_kept r n ≡ true → n < end → n < from
-below r from end n none kept early = grind (arith, cases_lt)
+module _ (r : Recurrence) (from end : ℕ) where
+  below : (n : ℕ) → NoneKept r from end → is_kept r n ≡ true → n < end → n < from
+  below n none kept early = grind (arith, cases_lt)
 
 module _ (s : Onsets) {r : Recurrence} (contains : s.rule ≡ Some r) where
   pub to_kept : (t : ℤ) → IsKeptBy s.offset_from s.until r t → IsKeptAt s t

@@ -4,7 +4,6 @@ pub mod FileReads
 pub mod TableLemmas
 pub mod FileLemmas
 pub mod SameZones
-pub mod SearchLemmas
 pub mod OffsetLaws
 pub mod OnsetLemmas
 pub mod MomentLemmas

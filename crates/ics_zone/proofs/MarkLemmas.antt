@@ -14,7 +14,7 @@ use Rattle.ics_zone.specs.Marks.{is_marked, IsMarked, IsAsked, AreMarks, AreClea
 use Rattle.ics_zone.proofs.Cases.{less_or_not_z, not_both, int_lt_true}
 use Rattle.ics_zone.proofs.SixtyLemmas.{contains-none, contains-or}
 use Rattle.ics_zone.proofs.MinuteLemmas.{IsFront, front_is, marked-set_same, marked-set_other}
-use Rattle.ics_zone.proofs.OnsetLemmas.{natural-is}
+use Rattle.ics_zone.specs.Searches.{natural-is}
 use Rattle.ics_zone.proofs.ZoneSteps.{observance_here, onsets_here, onsets_at}
 
 -- an onset more that is marked
@@ -49,15 +49,16 @@ module _ {New : ℕ → Type 0} {low : ℤ} {onsets was : List ℕ} {minute size
   marks_minute before old k m = let new = h.new in grind (arith, ints, cases_eq, in_minute, marked-set_other, or_cases, and_parts, int_lt_true)
 
   -- the first seconds of the minute are marked too where there are onsets
-  pub clear_minute : (bound : ℕ) → bound ≤ 60 → ((k : ℕ) → k < minute * 60 → IsMarked onsets k → IsMarked was k)
-      → ((n : ℕ) → n < bound → contains (get_or onsets minute 0) n ≡ true → contains (get_or with_minute minute 0) n ≡ true)
-      → (k : ℕ) → k < minute * 60 + bound → IsMarked onsets k → IsMarked with_minute k
-  clear_minute bound most old first k early m = elim (cases_lt k (minute * 60)) [
-    | inl less ↦ stay_minute k (old k less m)
-    | inr more ↦ (
-        let e : k / 60 ≡ minute = omega (arith, more, early, most) in
-        rw e (first (k % 60) (omega (arith, e, more, early)) (rw e at m)))
-  ]
+  module _ (bound : ℕ) (most : bound ≤ 60) where
+    pub clear_minute : ((k : ℕ) → k < minute * 60 → IsMarked onsets k → IsMarked was k)
+        → ((n : ℕ) → n < bound → contains (get_or onsets minute 0) n ≡ true → contains (get_or with_minute minute 0) n ≡ true)
+        → (k : ℕ) → k < minute * 60 + bound → IsMarked onsets k → IsMarked with_minute k
+    clear_minute old first k early m = elim (cases_lt k (minute * 60)) [
+      | inl less ↦ stay_minute k (old k less m)
+      | inr more ↦ (
+          let e : k / 60 ≡ minute = omega (arith, more, early, most) in
+          rw e (first (k % 60) (omega (arith, e, more, early)) (rw e at m)))
+    ]
 
 -- an observance past a place has an onset at an instant, which shows no later local
 abbrev IsOver : List ObservanceSaid → ℕ → ℤ → ℤ → Type 0

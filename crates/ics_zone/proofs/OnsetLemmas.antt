@@ -11,21 +11,14 @@ use Rattle.ics_fields.proofs.DayLemmas.{day_index_parts}
 use Rattle.ics_fields.specs.Locals.{number}
 use Rattle.ics_zone.specs.Observances.{ObservanceSaid, IsObservanceSaid, IsZone, epoch, instant_by, is_begin, test_at, is_onset}
 use Rattle.ics_zone.specs.ZoneOffsets.{IsOnset, IsInForce, IsBeforeAll, IsOffset, instant, natural, instants_to, if_onset, last_at, first_at, in_force}
-use Rattle.ics_zone.specs.ZoneOffsets.{earliest, offset_by, zone_offset}
+use Rattle.ics_zone.specs.ZoneOffsets.{last_midnight, earliest, offset_by, zone_offset}
 use Rattle.ics_zone.specs.ZoneBounds.{if_onset-some}
-use Rattle.ics_zone.proofs.SearchLemmas.{last_below-none, last_below-some, first_below-none, first_below-some}
+use Rattle.ics_zone.specs.Searches.{last_below-is, first_below-is, natural-is}
 use Rattle.ics_zone.proofs.Cases.{less_or_not_z, less_same_or_more}
 
 -- the seconds of a local from 1970-01-01 on, by its number
 pub number-seconds : (l : Local) → IsStampDay l.day → pos (number l) ≡ l.day *ℤ pos 86_400 +ℤ pos l.second +ℤ pos epoch
 number-seconds l h = grind (arith, ints, day_index_parts)
-
-pub natural-is : (z : ℤ) → pos 0 ≤ℤ z → pos (natural z) ≡ z
-natural-is (pos n) h = refl
-natural-is (negsuc n) h = absurd (omega (arith, ints))
-
-test_at-is : (z : ℤ) (n : ℕ) (test : ℕ → Bool) → z ≡ pos n → test_at z test ≡ test n
-test_at-is z n test e = ap (λ x. test_at x test) e
 
 test_at-true : (z : ℤ) (test : ℕ → Bool) → test_at z test ≡ true → (n : ℕ) × (z ≡ pos n) × (test n ≡ true)
 test_at-true (pos n) test e = (n, refl, e)
@@ -38,7 +31,7 @@ onset-local p t e = let found = test_at-true (t +ℤ p.offset_from +ℤ pos epoc
 
 pub local-onset : (p : ObservanceSaid) (t : ℤ) (n : ℕ) → t ≡ instant_by p.offset_from n → is_onset p t ≡ is_begin p n
 unfolding is_onset
-local-onset p t n e = test_at-is (t +ℤ p.offset_from +ℤ pos epoch) n (is_begin p) (omega (arith, ints))
+local-onset p t n e = let at : t +ℤ p.offset_from +ℤ pos epoch ≡ pos n = omega (arith, ints) in rw at refl
 
 -- an observance begins at its DTSTART
 pub start_is_onset : (p : ObservanceSaid) → is_onset p (instant_by p.offset_from (number p.start)) ≡ true
@@ -76,7 +69,7 @@ module _ (zone : List ObservanceSaid) (facts : IsZone zone) where
   last_at-some : (t : ℤ) (p : ObservanceSaid) → last_at zone t ≡ Some p →
       (i : ℕ) × IsOnset zone i t p × ((j : ℕ) (q : ObservanceSaid) → IsOnset zone j t q → j ≤ i)
   last_at-some t p e =
-      let found = last_below-some (λ i. if_onset (slice_get zone i) t) (length zone) p e in
+      let found = rw e at (last_below-is (λ i. if_onset (slice_get zone i) t) (length zone)) in
       let onset = if_onset-some (slice_get zone found.place) t p found.gives in (
         found.place,
         (onset.0, onset.1),
@@ -86,7 +79,7 @@ module _ (zone : List ObservanceSaid) (facts : IsZone zone) where
   first_at-some : (t : ℤ) (p : ObservanceSaid) → first_at zone t ≡ Some p →
       (i : ℕ) × IsOnset zone i t p × ((j : ℕ) (q : ObservanceSaid) → IsOnset zone j t q → i ≤ j)
   first_at-some t p e =
-      let found = first_below-some (λ i. if_onset (slice_get zone i) t) (length zone) p e in
+      let found = rw e at (first_below-is (λ i. if_onset (slice_get zone i) t) (length zone)) in
       let onset = if_onset-some (slice_get zone found.place) t p found.gives in (
         found.place,
         (onset.0, onset.1),
@@ -95,16 +88,19 @@ module _ (zone : List ObservanceSaid) (facts : IsZone zone) where
 
   last_at-none : (t : ℤ) (i : ℕ) (p : ObservanceSaid) → last_at zone t ≡ None → IsOnset zone i t p → ⊥
   last_at-none t i p none h = if_onset-none (slice_get zone i) t p h.0 h.1
-      (last_below-none (λ i. if_onset (slice_get zone i) t) (length zone) none i (slice_get_within zone i p h.0))
+      ((rw none at (last_below-is (λ i. if_onset (slice_get zone i) t) (length zone))) i (slice_get_within zone i p h.0))
 
   first_at-none : (t : ℤ) (i : ℕ) (p : ObservanceSaid) → first_at zone t ≡ None → IsOnset zone i t p → ⊥
   first_at-none t i p none h = if_onset-none (slice_get zone i) t p h.0 h.1
-      (first_below-none (λ i. if_onset (slice_get zone i) t) (length zone) none i (slice_get_within zone i p h.0))
+      ((rw none at (first_below-is (λ i. if_onset (slice_get zone i) t) (length zone))) i (slice_get_within zone i p h.0))
+
+  numbered : (i : ℕ) (s : ℤ) (p : ObservanceSaid) → IsOnset zone i s p → (k : ℕ) × ((s ≡ instant k) × IsOnset zone i (instant k) p)
+  numbered i s p h = let k = onset_number p (facts i p h.0) s h.1 in let at = k.1 in (k.0, (k.1, (h.0, rw at at h.1)))
 
   in_force-some : (t : ℤ) (p : ObservanceSaid) → in_force zone t ≡ Some p → IsInForce zone t p
   unfolding in_force
   in_force-some t p e =
-      let found = last_below-some (λ k. last_at zone (instant k)) (instants_to t) p e in
+      let found = rw e at (last_below-is (λ k. last_at zone (instant k)) (instants_to t)) in
       let last = last_at-some (instant found.place) p found.gives in
       record {
         place = last.0;
@@ -112,13 +108,12 @@ module _ (zone : List ObservanceSaid) (facts : IsZone zone) where
         onset = last.1;
         not_after = from_instants t found.place found.in_bound;
         greatest = λ i s q h l.
-            let k = onset_number q (facts i q h.0) s h.1 in
-            let at = k.1 in
-            let there : IsOnset zone i (instant k.0) q = (h.0, rw at at h.1) in
+            let k = numbered i s q h in
+            let at = k.1.0 in
             elim (less_same_or_more k.0 found.place) [
               | inl less ↦ inl (omega (arith, ints, at, less))
-              | inr (inl same) ↦ inr (omega (arith, ints, at, same), last.2 i q (rw same at there))
-              | inr (inr more) ↦ absurd (last_at-none (instant k.0) i q (found.later k.0 more (in_instants t k.0 (omega (arith, ints, at, l)))) there)
+              | inr (inl same) ↦ inr (omega (arith, ints, at, same), last.2 i q (rw same at k.1.1))
+              | inr (inr more) ↦ absurd (last_at-none (instant k.0) i q (found.later k.0 more (in_instants t k.0 (omega (arith, ints, at, l)))) k.1.1)
             ];
       }
 
@@ -127,17 +122,16 @@ module _ (zone : List ObservanceSaid) (facts : IsZone zone) where
   in_force-none t i s p none h = elim (less_or_not_z t s) [
     | inl l ↦ l
     | inr l ↦ absurd (
-        let k = onset_number p (facts i p h.0) s h.1 in
-        let at = k.1 in
+        let k = numbered i s p h in
+        let at = k.1.0 in
         last_at-none (instant k.0) i p
-        (last_below-none (λ k. last_at zone (instant k)) (instants_to t) none k.0 (in_instants t k.0 (omega (arith, ints, at, l))))
-        (h.0, rw at at h.1))
+        ((rw none at (last_below-is (λ k. last_at zone (instant k)) (instants_to t))) k.0 (in_instants t k.0 (omega (arith, ints, at, l)))) k.1.1)
   ]
 
   earliest-some : (t : ℤ) (p : ObservanceSaid) → in_force zone t ≡ None → earliest zone ≡ Some p → IsBeforeAll zone t p
   unfolding earliest
   earliest-some t p none e =
-      let found = first_below-some (λ k. first_at zone (instant k)) (instants_to (pos 253_402_214_400)) p e in
+      let found = rw e at (first_below-is (λ k. first_at zone (instant k)) (instants_to last_midnight)) in
       let first = first_at-some (instant found.place) p found.gives in
       record {
         place = first.0;
@@ -145,13 +139,12 @@ module _ (zone : List ObservanceSaid) (facts : IsZone zone) where
         onset = first.1;
         before = in_force-none t first.0 (instant found.place) p none first.1;
         least = λ i s q h.
-            let k = onset_number q (facts i q h.0) s h.1 in
-            let at = k.1 in
-            let there : IsOnset zone i (instant k.0) q = (h.0, rw at at h.1) in
+            let k = numbered i s q h in
+            let at = k.1.0 in
             elim (less_same_or_more found.place k.0) [
               | inl less ↦ inl (omega (arith, ints, at, less))
-              | inr (inl same) ↦ inr (omega (arith, ints, at, same), first.2 i q (rw (sym same) at there))
-              | inr (inr more) ↦ absurd (first_at-none (instant k.0) i q (found.earlier k.0 more) there)
+              | inr (inl same) ↦ inr (omega (arith, ints, at, same), first.2 i q (rw (sym same) at k.1.1))
+              | inr (inr more) ↦ absurd (first_at-none (instant k.0) i q (found.earlier k.0 more) k.1.1)
             ];
       }
 
@@ -167,9 +160,9 @@ earliest-none p zone facts none =
     let days = is.start_in in
     let second = p.start.second_in in
     let shift = is.from_in in
-    let early : instant k.0 ≤ℤ pos 253_402_214_400 = omega (arith, ints, at, seconds, days.0, days.1, second, shift.0, shift.1) in
+    let early : instant k.0 ≤ℤ last_midnight = omega (arith, ints, at, seconds, days.0, days.1, second, shift.0, shift.1) in
     first_at-none (p ∷ zone) facts (instant k.0) 0 p
-    (first_below-none (λ k. first_at (p ∷ zone) (instant k)) (instants_to (pos 253_402_214_400)) none k.0 (in_instants (pos 253_402_214_400) k.0 early))
+    ((rw none at (first_below-is (λ k. first_at (p ∷ zone) (instant k)) (instants_to last_midnight))) k.0 (in_instants last_midnight k.0 early))
     (refl, rw at at start)
 
 pub offset_found : (zone : List ObservanceSaid) → IsZone zone → (t : ℤ) → zone ≢ [] → IsOffset zone t (zone_offset zone t)

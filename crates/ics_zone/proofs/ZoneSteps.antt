@@ -42,10 +42,6 @@ pub within_is : {zone : List ObservanceSaid} {t : ℤ} {count : ℕ} {o : Option
     → IsLatest zone t count l
 within_is {zone = zone} {t = t} {count = count} after e h = (subst (λ x. IsLatestWithin zone after t count x) e h).0
 
--- before an instant, or at it
-not_later_by : (s t : ℤ) (i j : ℕ) → s ≤ℤ t → i ≤ j → IsNotLater s i t j
-not_later_by s t i j l h = grind (arith, ints, less_or_not_z)
-
 -- the last onset of the observance at a place that is not after an instant, with that place and the offset after it
 pub record IsLastOnset (k : ℕ) (o : Onsets) (t : ℤ) (e : Latest) : Type 0 where
   pub place : e.place ≡ k
@@ -160,17 +156,22 @@ module _ {zone : List ObservanceSaid} {list : List Onsets} {k : ℕ} {o : Onsets
         is early;
   }
 
-  -- the first onset of this observance is the least of all, or it is not
+  -- its first onset is the least of all, where it is not later than those of the observances before
+  pub first_here : {at new : ℤ} {count : ℕ} → k ≤ count → Has o at → new ≡ o.offset_from
+      → ((i : ℕ) (s : ℤ) (p : ObservanceSaid) → i < count → IsOnset zone i s p → IsNotLater at k s i) → IsFirst zone count at new
+  first_here {at = at} in_bound is from least = record {
+    place = k;
+    in_bound = in_bound;
+    observance = observance_here.0;
+    onset = (observance_here.1, onsets_here.known at is);
+    least = least;
+    is = from ∙ onsets_here.from;
+  }
+
   module _ {first at offset : ℤ} (is : Has o at) (least : (t : ℤ) → Has o t → at ≤ℤ t) (before : IsFirst zone k first offset) where
     pub first_now : {new : ℤ} → at <ℤ first → new ≡ o.offset_from → IsFirst zone (k + 1) at new
-    first_now less from = record {
-      place = k;
-      in_bound = omega arith;
-      observance = observance_here.0;
-      onset = (observance_here.1, onsets_here.known at is);
-      least = λ i s p l h. let here = split i s p h l in let low = before.least i s p in let high = least s in grind (arith, ints, less_or_not_z);
-      is = from ∙ onsets_here.from;
-    }
+    first_now less from = first_here (omega arith) is from (λ i s p l h.
+        let here = split i s p h l in let low = before.least i s p in let high = least s in grind (arith, ints, less_or_not_z))
 
     pub first_before : first ≤ℤ at → IsFirst zone (k + 1) first offset
     first_before more = record {
@@ -191,15 +192,3 @@ module _ {zone : List ObservanceSaid} {list : List Onsets} {k : ℕ} {o : Onsets
 
     pub past_before : after <ℤ next → next ≤ℤ from → IsNextPastTo zone (k + 1) local after next
     past_before more none i s p l h late early = let here = split i s p h l in let low = before i s p in grind (arith, ints, clamps)
-
--- no observance is before the first
-pub first_of : {zone : List ObservanceSaid} {list : List Onsets} {o : Onsets} {at offset : ℤ} → AreOnsetsOfAll zone list → 0 < length list
-    → o ≡ get_or list 0 o → Has o at → offset ≡ o.offset_from → IsFirst zone 0 at offset
-first_of {zone = zone} {list = list} {o = o} {at = at} all inside at_place is from = record {
-  place = 0;
-  in_bound = omega arith;
-  observance = (observance_here all inside at_place).0;
-  onset = ((observance_here all inside at_place).1, (onsets_here all inside at_place).known at is);
-  least = λ i s p l h. absurd (omega (arith, l));
-  is = from ∙ (onsets_here all inside at_place).from;
-}

@@ -8,7 +8,9 @@ pub mod ZoneFiles
 pub mod FileBounds
 pub mod Observances
 pub mod ZoneOffsets
+pub mod Searches
 pub mod Moments
+pub mod MomentSearch
 pub mod ZoneFaults
 pub mod ZoneFileFaults
 pub mod ZoneSaid

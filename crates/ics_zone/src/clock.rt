@@ -1,13 +1,10 @@
 //! Locals as numbers, and the instants at which a clock shows them.
 ghost use Rattle.std.specs.Prelude.{◌≡◌, pos, ◌≤◌, ◌<◌, ◌^◌, ◌+ℤ◌, ◌≤ℤ◌};
 ghost use Rattle.jiff_core.specs.Calendar.{IsWithin};
-ghost use Rattle.ics_fields.specs.Days.{IsDayNumber};
-ghost use Rattle.ics_fields.specs.Locals.{number};
 ghost use Rattle.ics_zone.specs.Observances.{epoch, instant_by};
-ghost use Rattle.ics_rule.specs.PeriodNumbers.{rules_end};
 ghost use Rattle.ics_zone.specs.OnsetSets.{IsSearched, IsShownBy};
 
-use ics_fields::{Local, Moment};
+use ics_fields::Moment;
 
 /// The seconds from 0000-01-01 to 1970-01-01.
 pub(crate) const EPOCH: i64 = 62_167_219_200;

@@ -1,12 +1,12 @@
 use Rattle.std.proofs.Common.{rules, arith, SFits, w32, w64, refl}
 use Rattle.std.proofs.lemmas.Int.{ints, to_z-of_z}
-use Rattle.ics_zone.proofs.ZoneSteps.{first_of, first_now, first_before}
+use Rattle.ics_zone.proofs.ZoneSteps.{first_here, first_now, first_before}
 use Rattle.ics_zone.proofs.latest.first_offset.Goals as goal
 
 pub loop-place-init : goal.loop-place-init
 loop-place-init c = λ zone all.
     rw (to_z-of_z w64 c.first-first.result (search rules), to_z-of_z w32 c.index-onsets-0.result.offset_from (search rules))
-    (first_of all c.requires.some c.index-onsets-0.is c.first-first.ensures.is refl)
+    (first_here all c.requires.some c.index-onsets-0.is (omega arith) c.first-first.ensures.is refl (λ i s p l h. absurd (omega (arith, l))))
 
 pub loop-place-preserved-then-first-at : goal.loop-place-preserved-then-first-at
 loop-place-preserved-then-first-at c = λ zone all.

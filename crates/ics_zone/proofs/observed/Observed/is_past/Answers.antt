@@ -8,10 +8,7 @@ use Rattle.ics_zone.proofs.observed.Observed.is_past.Goals as goal
 
 -- what the test of two locals tells
 later_shown : (seconds shown a b : ℤ) → a ≡ seconds → b ≡ shown → MatchBool (int_lt a b) (seconds <ℤ shown) (shown ≤ℤ seconds)
-later_shown seconds shown a b x y = elim (less_or_not_z a b) [
-  | inl less ↦ rw (true_int_lt a b less) (omega (arith, ints, x, y, less))
-  | inr more ↦ rw (false_int_lt a b more) (omega (arith, ints, x, y, more))
-]
+later_shown seconds shown a b x y = grind (arith, ints, less_or_not_z, true_int_lt, false_int_lt)
 
 pub overflow_add-result : goal.overflow_add-result
 overflow_add-result c =

@@ -1,4 +1,4 @@
-use Rattle.std.proofs.Common.{rules, SFits, w32, w64}
+use Rattle.std.proofs.Common.{rules, w32, w64}
 use Rattle.std.proofs.lemmas.Int.{to_z-of_z}
 use Rattle.ics_zone.proofs.JumpLemmas.{is_offset}
 use Rattle.ics_zone.proofs.observed.Observed.offset.Goals as goal
@@ -9,6 +9,5 @@ returns-in-Some-clause-means c =
     (is_offset c.args.self.now c.held_over.ensures.some c.args.moment)
 
 pub returns-in-None-clause-means : goal.returns-in-None-clause-means
-returns-in-None-clause-means c =
-    let fits : SFits w64 c.args.moment = c.ranges.moment in
-    rw (to_z-of_z w32 c.offset_of_latest.result (search rules)) (simp to_z-of_z at c.offset_of_latest.ensures.means)
+returns-in-None-clause-means c = rw (to_z-of_z w32 c.offset_of_latest.result (search rules))
+    (rw (to_z-of_z w64 c.args.moment c.ranges.moment) at c.offset_of_latest.ensures.means)

@@ -1,17 +1,19 @@
-use Rattle.std.proofs.lemmas.Grind.{common_steps}
 use Rattle.std.proofs.Common.{rules, SFits, w64, arith}
-use Rattle.std.proofs.lemmas.Int.{to_z-of_z}
+use Rattle.std.proofs.lemmas.Int.{ints, clamps, to_z-of_z}
 use Rattle.ics_zone.proofs.LatestLemmas.{last_of_both, first_after}
 use Rattle.ics_zone.proofs.onsets.Onsets.last_after.Goals as goal
 
-pub returns-in-Some-Some-clause-last : goal.returns-in-Some-Some-clause-last
-returns-in-Some-Some-clause-last c =
+pub returns-in-Some-Some : goal.returns-in-Some-Some
+returns-in-Some-Some c =
     let a : SFits w64 c.in-Some-Some.listed = search rules in
     let b : SFits w64 c.in-Some-Some.kept = search rules in
     let fits : SFits w64 c.args.moment = c.ranges.moment in
     let listed = simp to_z-of_z at c.in-Some-Some.ensures in
     let kept = simp to_z-of_z at c.in-Some-Some.ensures' in
-    rw (to_z-of_z w64 c.max.result (search rules)) (last_of_both c.args.self.now listed.0 kept.0 (simp to_z-of_z at c.max.ensures.value))
+    let max = simp to_z-of_z at c.max.ensures.value in
+    let late = listed.1 in
+    rw (to_z-of_z w64 c.max.result (search rules))
+    (record { last = last_of_both c.args.self.now listed.0 kept.0 max; after = omega (arith, ints, clamps, late, max) })
 
 pub returns-in-Some-None-clause-last : goal.returns-in-Some-None-clause-last
 returns-in-Some-None-clause-last c =
@@ -19,6 +21,3 @@ returns-in-Some-None-clause-last c =
     let listed = simp to_z-of_z at c.in-Some-None.ensures in
     rw (to_z-of_z w64 c.in-Some-None.listed (search rules))
     (first_after c.args.self.now listed.0 listed.1 (simp to_z-of_z at c.in-Some-None.ensures'))
-
-pub returns-in-Some-Some-clause-after : goal.returns-in-Some-Some-clause-after
-returns-in-Some-Some-clause-after c = grind (arith, common_steps)

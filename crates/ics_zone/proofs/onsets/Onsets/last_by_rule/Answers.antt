@@ -12,6 +12,4 @@ returns-in-Some-last_kept c =
     (last_of_rule c.args.self.now c.in-Some.is shown c.in-Some-last_kept.ensures (simp to_z-of_z at c.instant.ensures))
 
 pub returns-in-None : goal.returns-in-None
-returns-in-None c =
-    let fits : SFits w64 c.args.moment = c.ranges.moment in
-    none_of_rule c.args.self.now c.in-Some.is (simp to_z-of_z at c.shown_to-end.ensures) c.in-None.ensures
+returns-in-None c = none_of_rule c.args.self.now c.in-Some.is (rw (to_z-of_z w64 c.args.moment c.ranges.moment) at c.shown_to-end.ensures) c.in-None.ensures

@@ -1,18 +1,16 @@
-use Rattle.std.proofs.Common.{rules, arith, SFits, w64}
+use Rattle.std.proofs.Common.{rules, arith, w64}
 use Rattle.std.proofs.lemmas.Int.{to_z-of_z}
 use Rattle.ics_zone.proofs.LatestLemmas.{none_listed, last_listed}
 use Rattle.ics_zone.proofs.onsets.Onsets.last_listed.Goals as goal
 
 pub returns-then-passed-eq0 : goal.returns-then-passed-eq0
 returns-then-passed-eq0 c =
-    let fits : SFits w64 c.args.moment = c.ranges.moment in
-    let passed = rw c.deref.ensures.value at (simp to_z-of_z at c.passed-passed.ensures) in
+    let passed = rw (c.deref.ensures.value, to_z-of_z w64 c.args.moment c.ranges.moment) at c.passed-passed.ensures in
     none_listed c.args.self.now.listed.items c.requires.in_order c.args.moment _ passed c.if-passed-eq0.true
 
 pub returns-else-passed-eq0 : goal.returns-else-passed-eq0
 returns-else-passed-eq0 c =
-    let fits : SFits w64 c.args.moment = c.ranges.moment in
-    let passed = rw c.deref.ensures.value at (simp to_z-of_z at c.passed-passed.ensures) in
+    let passed = rw (c.deref.ensures.value, to_z-of_z w64 c.args.moment c.ranges.moment) at c.passed-passed.ensures in
     rw (to_z-of_z w64 c.index.result.now (search rules))
     (last_listed c.args.self.now.listed.items c.requires.in_order c.args.moment _ passed (omega (arith, c.if-passed-eq0.false)) c.index.result.now
     c.index.ensures)

@@ -1,6 +1,6 @@
 use Rattle.std.proofs.Common.{rules, arith, SFits, w32, w64}
 use Rattle.std.proofs.lemmas.Int.{ints, to_z-of_z}
-use Rattle.ics_zone.proofs.HourLemmas.{told_known, told_complete}
+use Rattle.ics_zone.proofs.HourLemmas.{words_tell}
 use Rattle.ics_zone.proofs.onsets.Onsets.told_within.Goals as goal
 
 pub shown_at-local-requires-clause-low : goal.shown_at-local-requires-clause-low
@@ -29,14 +29,7 @@ returns c =
     let offset : SFits w32 c.args.self.now.offset_from = search rules in
     let until : SFits w64 c.args.self.now.until = search rules in
     let count : SFits w64 c.seconds_to.result = search rules in
-    let told = simp to_z-of_z at c.in_ok-hours.ensures in
-    let shown = simp to_z-of_z at c.shown_at-local.ensures in
-    let first = simp to_z-of_z at c.seconds_to.ensures.first in
-    let all = simp to_z-of_z at c.seconds_to.ensures.all in
-    let words = simp to_z-of_z at c.words.ensures in
-    record {
-      known = told_known c.args.self.now c.in_ok-hours.hours c.args.from c.shown_at-local.result c.seconds_to.result c.words.result told shown words
-          (λ k low h. first k h) all;
-      complete = told_complete c.args.self.now c.in_ok-hours.hours c.args.from c.shown_at-local.result c.seconds_to.result c.words.result told shown words
-          (λ k low h. first k h) all;
-    }
+    let told = words_tell c.args.self.now c.in_ok-hours.hours c.args.from c.shown_at-local.result c.seconds_to.result c.words.result
+    (simp to_z-of_z at c.in_ok-hours.ensures) (simp to_z-of_z at c.shown_at-local.ensures) (simp to_z-of_z at c.words.ensures)
+    (simp to_z-of_z at c.seconds_to.ensures.first) (simp to_z-of_z at c.seconds_to.ensures.all) in
+    record { known = told.0; complete = told.1 }

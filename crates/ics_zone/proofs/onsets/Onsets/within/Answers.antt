@@ -1,4 +1,4 @@
-use Rattle.std.proofs.Common.{inl, inr, SFits, w64, replicate}
+use Rattle.std.proofs.Common.{inl, inr, w64, replicate}
 use Rattle.std.proofs.lemmas.Int.{to_z-of_z}
 use Rattle.ics_zone.specs.Marks.{is_marked}
 use Rattle.ics_zone.proofs.Cases.{not_both}
@@ -7,8 +7,7 @@ use Rattle.ics_zone.proofs.onsets.Onsets.within.Goals as goal
 
 pub returns-in-None-clause-known : goal.returns-in-None-clause-known
 returns-in-None-clause-known c = λ k low m.
-    let fits : SFits w64 c.args.from = c.ranges.from in
-    let known = simp to_z-of_z at c.mark_each-in-None.ensures.known in
+    let known = rw (to_z-of_z w64 c.args.from c.ranges.from) at c.mark_each-in-None.ensures.known in
     elim (known k m) [
       | inl old ↦ absurd (not_both (is_marked (replicate 60 0) k) old (none_marked 60 k))
       | inr h ↦ h
