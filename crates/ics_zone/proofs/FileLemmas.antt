@@ -52,20 +52,13 @@ info_view info = record { seconds = info.offset.seconds; dst = info.dst; name = 
 pub rule_type_is : (rule : TimeZone) (n : ℤ) → rule_type (tz_view rule) n ≡ info_view (Posix.info_at rule n)
 rule_type_is rule n = by rule.dst
   where
-    in_year : (b : Bool) (d : Dst) → (if b then daylight_type (dst_view d) else standard_type (tz_view rule))
-        ≡ info_view (match_some (if b then Some d else None) (std_info rule) dst_info)
-    in_year b d = grind (arith, nat_tests)
-
     by : (dst : Option Dst) → type_by (tz_view rule) (option_map dst_view dst) n
         ≡ info_view (match_some (Posix.dst_at_by rule.std_offset dst n) (std_info rule) dst_info)
     by None = refl
-    by (Some d) = rw (window_is (year_of_nanos n) d rule.std_offset) (in_year (in_window (utc_window d (year_of_nanos n) rule.std_offset) n) d)
+    by (Some d) = rw (window_is (year_of_nanos n) d rule.std_offset) (grind (arith, nat_tests))
 
 pub rule_offset_is : (rule : TimeZone) (n : ℤ) → (rule_type (tz_view rule) n).seconds ≡ (Posix.offset_at rule n).seconds
-rule_offset_is rule n = ap (λ t. t.seconds) (rule_type_is rule n) ∙ by (Posix.dst_at rule n)
-  where
-    by : (dst : Option Dst) → (match_some dst (std_info rule) dst_info).offset.seconds ≡ (match_some dst rule.std_offset (λ d. d.offset)).seconds
-    by dst = grind (arith, nat_tests)
+rule_offset_is rule n = grind (arith, nat_tests, rule_type_is)
 
 -- the offset that is taken of two cases
 of_case : (b : Bool) (x y : AmbiguousOffset) → (compatible_offset (if b then x else y)).seconds
@@ -109,56 +102,34 @@ module _ (z : Tzif) where
       length-map z.transitions.items transition_text ∙ sym z.transitions.ok.0 in
       rw same (grind (arith, nat_tests))
 
-  by_rule : (rule : Option TimeZone) (before : ℤ) (type : LocalTimeType) (n : ℤ) → before ≡ type.offset.seconds
-      → match_some (option_map tz_view rule) before (λ r. (rule_type r n).seconds) ≡ (match_some rule type.offset (λ r. Posix.offset_at r n)).seconds
-  by_rule None before type n e = e
-  by_rule (Some rule) before type n e = rule_offset_is rule n
-
   -- the offset that jiff gives at an instant
   pub file_offset_is : (t : ℤ) → file_offset (tzif_view z) t ≡ (Table.offset_at z (nanos_of_seconds t)).seconds
   unfolding file_offset
   file_offset_is t =
       let second : Table.floor_second (nanos_of_seconds t) ≡ t = omega (arith, signed_arith) in
       let count : count_at (tzif_view z) t ≡ Table.count_at z t = prefix_len-map transition_text (λ row. int_le row.second t) z.transitions.items in
-      rw (second, count, rule_after_is (Table.count_at z t))
-      (by_rule (Table.rule_after z (Table.count_at z t)) _ (Table.type_after z (Table.count_at z t)) (nanos_of_seconds t)
-      (offset_after_is (Table.count_at z t)))
+      rw (second, count, rule_after_is (Table.count_at z t)) (grind (arith, nat_tests, rule_offset_is, offset_after_is))
 
   -- that of a local, in a part of the table
   inside_is : (count : ℕ) (local : ℤ) → is_inside (tzif_view z) count local ≡ Table.is_inside z count local
   inside_is count local = grind (arith, nat_tests, row_is)
 
   module _ (dt : DateTime) (local : ℤ) (same : civil_nanos dt ≡ nanos_of_seconds local) where
-    read_by_rule : (rule : Option TimeZone) (before : ℤ) (type : LocalTimeType) → before ≡ type.offset.seconds
-        → match_some (option_map tz_view rule) before (λ r. rule_reading r.std_seconds r.dst (nanos_of_seconds local))
-        ≡ (compatible_offset (match_some rule (Unambiguous type.offset) (λ r. Posix.ambiguous_at r dt))).seconds
-    read_by_rule None before type e = e
-    read_by_rule (Some rule) before type e = rule_reading_is rule.std_offset rule.dst dt local same
-
     past_is : (count : ℕ) → match_some (rule_after (tzif_view z) count) (offset_after (tzif_view z) count)
         (λ r. rule_reading r.std_seconds r.dst (nanos_of_seconds local))
         ≡ (compatible_offset (Table.ambiguous_after z count dt)).seconds
-    past_is count = rw (rule_after_is count) (read_by_rule (Table.rule_after z count) _ (Table.type_after z count) (offset_after_is count))
-
-    at_row : (t : Transition) → t.before.seconds ≡ (compatible_offset (Table.offsets_in t)).seconds
-    at_row t = grind (arith, nat_tests)
-
-    after_is : (count : ℕ) → reading_after (tzif_view z) count local
-        ≡ (compatible_offset (if Table.is_inside z count local then Table.offsets_in (Table.transition_at z (count - 1))
-        else Table.ambiguous_after z count dt)).seconds
-    after_is count = rw (inside_is count local, of_case (Table.is_inside z count local))
-        (ap₂ (λ (x y : ℤ). if Table.is_inside z count local then x else y)
-        (ap (λ r. r.before) (row_is (count - 1)) ∙ at_row (Table.transition_at z (count - 1))) (past_is count))
+    past_is count =
+        let by = λ (r : TimeZone). rule_reading_is r.std_offset r.dst dt local same in grind (arith, nat_tests, rule_after_is, offset_after_is)
 
     -- the offset of a local that jiff's compatible strategy takes
     pub file_reading_is : file_reading (tzif_view z) local ≡ (compatible_offset (Table.ambiguous_at z dt)).seconds
     unfolding file_reading
     file_reading_is =
-        let sub = dt.time.subsec_in in
-        let second : civil_seconds dt ≡ local = omega (arith, signed_arith, civil_nanos-civil_seconds dt, same) in
+        let second : civil_seconds dt ≡ local = omega (arith, signed_arith, civil_nanos-civil_seconds dt) in
         let count : civil_count_at (tzif_view z) local ≡ Table.civil_count_at z local =
         prefix_len-map transition_text (λ row. int_le (civil_start row) local) z.transitions.items in
-        rw (second, count) (after_is (Table.civil_count_at z local))
+        let n = Table.civil_count_at z local in
+        rw (second, count, inside_is n local, past_is n, row_is (n - 1), of_case (Table.is_inside z n local)) (grind (arith, nat_tests))
 
 -- two flags, and two types, are the same
 is_flag-Decides : (a b : DstFlag) → Decides (is_flag a b) (a ≡ b)
@@ -169,11 +140,5 @@ row_agrees : (rule : TimeZone) (row : TransitionText)
     → Decides (is_type (rule_type (tz_view rule) (nanos_of_seconds row.second)) row.after) (RowAgrees rule row)
 row_agrees rule row = grind (arith, nat_tests, and_parts, bytes_eq-Decides, is_flag-Decides, rule_type_is)
 
-pub agrees_yes : (rule : TimeZone) (rows : List TransitionText) → FooterAgrees rows rule → agrees (Some (tz_view rule)) rows ≡ true
-agrees_yes rule rows h = grind (arith, nat_tests, row_agrees)
-
-pub agrees_no : (rule : TimeZone) (rows : List TransitionText) → (FooterAgrees rows rule → ⊥) → agrees (Some (tz_view rule)) rows ≡ false
-agrees_no rule rows h = false_from_ne_true (agrees (Some (tz_view rule)) rows) (λ e. h (holds e))
-  where
-    holds : agrees (Some (tz_view rule)) rows ≡ true → FooterAgrees rows rule
-    holds e l = grind (arith, nat_tests, row_agrees)
+pub agrees-Decides : (rule : TimeZone) (rows : List TransitionText) → Decides (agrees (Some (tz_view rule)) rows) (FooterAgrees rows rule)
+agrees-Decides rule rows = (λ e l. grind (arith, nat_tests, row_agrees), λ h. grind (arith, nat_tests, row_agrees))

@@ -11,17 +11,13 @@ use Rattle.jiff_tz.specs.TzifText.{TransitionText}
 use Rattle.jiff_tz.specs.declared.posix.TimeZone.{TimeZone}
 use Rattle.jiff_tz.specs.declared.tzif.Tzif.{Tzif}
 use Rattle.ics_zone.specs.ZoneFiles.{agrees, zone_file}
-use Rattle.ics_zone.proofs.FileLemmas.{agrees_yes, agrees_no}
-
-agrees_with : (rule : Option TimeZone) (rows : List TransitionText) → IfSome rule (λ tz. FooterAgrees rows tz) → agrees (option_map tz_view rule) rows ≡ true
-agrees_with None rows h = refl
-agrees_with (Some rule) rows h = agrees_yes rule rows h
+use Rattle.ics_zone.proofs.FileLemmas.{agrees-Decides}
 
 -- a table is what the file says
 pub file_read : (bytes : List ℕ) (z : Tzif) → length bytes ≤ 1_048_576 → read_tzif bytes ≡ Ok (tzif_view z) → RuleAgrees z
     → zone_file bytes ≡ Some (tzif_view z)
-file_read bytes z short read agree = grind (arith, nat_tests, agrees_with)
+file_read bytes z short read agree = grind (arith, nat_tests, agrees-Decides)
 
 -- bytes for which the reader fails, and not for want of memory, are no zone file
 pub file_refused : (bytes : List ℕ) (e : Error) → IsParseFailure e bytes → (e ≡ OutOfMemory → ⊥) → zone_file bytes ≡ None
-file_refused bytes e failure other = grind (arith, nat_tests, agrees_no)
+file_refused bytes e failure other = grind (arith, nat_tests, agrees-Decides)

@@ -58,14 +58,12 @@ module _ (observances : List Observance) (some : 0 < length (observances_said ob
     since = e.at;
     onset = h.onset;
     not_after = low;
-    greatest = λ i s p g l. elim (less_or_not_z t s) [
-      | inl late ↦ absurd (let n = none i s p g late in omega (arith, ints, n, l, high))
-      | inr early ↦ h.greatest i s p (slice_get_within zone i p g.0) g early
-    ];
+    greatest = λ i s p g l.
+        let n = none i s p g in let within = slice_get_within zone i p g.0 in let all = h.greatest i s p in grind (arith, ints, less_or_not_z);
   })
 
   pub latest_is : (t : ℤ) (e : Latest) → IsLatestOf zone t (length zone) (Some e) → e.offset ≡ zone_offset zone t
-  latest_is t e h = steady_since t (t +ℤ pos 1) (λ i s p g l. omega (arith, ints, l)) e h t h.not_after (omega (arith, ints))
+  latest_is t e h = steady_since t (t +ℤ pos 1) (λ i s p g l. omega (arith, ints)) e h t h.not_after (omega (arith, ints))
 
   pub none_is : (t offset : ℤ) → IsLatestOf zone t (length zone) None → IsFirstOffset zone offset → offset ≡ zone_offset zone t
   none_is t offset h first = first.1.is ∙ before_all_is t first.1.observance (record {
@@ -91,8 +89,6 @@ module _ (observances : List Observance) (some : 0 < length (observances_said ob
         let less = over.greater h.1.place h.1.since h.0 h.1.onset (sym h.2 ∙ e) h.1.not_after in
         grind (arith, ints))
     | inr h ↦ (
-        let late = h.1.before in
-        let early = over.not_after in
         let least = h.1.least over.place over.at over.observance over.onset in
         grind (arith, ints))
   ]
@@ -107,7 +103,6 @@ module _ (observances : List Observance) (some : 0 < length (observances_said ob
         → shown (zone_offset zone) s ≤ℤ local
     one_more s late early before (inl h) =
         let f = h.1 in
-        let is = h.2 in
         let until = f.not_after in
         elim (less_or_not_z f.since s) [
           | inl old ↦ (
@@ -115,67 +110,61 @@ module _ (observances : List Observance) (some : 0 < length (observances_said ob
                 place = f.place;
                 since = f.since;
                 onset = f.onset;
-                not_after = omega (arith, ints, old);
-                greatest = λ i u q g l. f.greatest i u q g (omega (arith, ints, l));
+                not_after = omega (arith, ints);
+                greatest = λ i u q g l. f.greatest i u q g (omega (arith, ints));
               }) in
-              omega (arith, ints, same, is, before))
+              omega (arith, ints))
           | inr now ↦ elim (less_or_not_z local (f.since +ℤ h.0.offset_to)) [
-            | inr low ↦ omega (arith, ints, now, until, is, low)
+            | inr low ↦ omega (arith, ints)
             | inl past ↦ absurd (
-                let over = none f.place f.since h.0 f.onset (omega (arith, ints, now, late)) (omega (arith, ints, until, early)) past in
+                let over = none f.place f.since h.0 f.onset (omega (arith, ints)) (omega (arith, ints)) past in
                 greater_at f.since f.place over.0 over.1.1.1.0 (f.greatest over.0 f.since over.1.0 over.1.1.0 until))
           ]
         ]
     one_more s late early before (inr h) =
         let f = h.1 in
-        let is = h.2 in
-        let same = before_all_is (s -ℤ pos 1) h.0 (record {
-          place = f.place;
-          first = f.first;
-          onset = f.onset;
-          before = let b = f.before in omega (arith, ints, b);
-          least = f.least;
-        }) in
-        omega (arith, ints, same, is, before)
+        let same = before_all_is (s -ℤ pos 1) h.0
+        (record { place = f.place; first = f.first; onset = f.onset; before = omega (arith, ints); least = f.least }) in
+        omega (arith, ints)
 
     -- so it shows earlier ones second by second, up to the next onset that may show a later one
     counted : (n : ℕ) (s : ℤ) → s ≡ after +ℤ pos n → s <ℤ next → shown (zone_offset zone) s <ℤ local
-    counted zero s is early = earlier s (omega (arith, ints, is))
+    counted zero s is early = earlier s (omega (arith, ints))
     counted (suc n) s is early = unless_later (zone_offset zone) local skipped s
-        (one_more s (omega (arith, ints, is)) early (counted n (s -ℤ pos 1) (omega (arith, ints, is)) (omega (arith, ints, early))) (is_offset s))
+        (one_more s (omega (arith, ints)) early (counted n (s -ℤ pos 1) (omega (arith, ints)) (omega (arith, ints))) (is_offset s))
 
     pub earlier_before_next : (s : ℤ) → s <ℤ next → shown (zone_offset zone) s <ℤ local
     earlier_before_next s early = elim (less_or_not_z after s) [
       | inr old ↦ earlier s old
-      | inl late ↦ (let is = natural-is (s -ℤ after) (omega (arith, ints, late)) in counted (natural (s -ℤ after)) s (omega (arith, ints, is)) early)
+      | inl late ↦ (let is = natural-is (s -ℤ after) (omega (arith, ints)) in counted (natural (s -ℤ after)) s (omega (arith, ints)) early)
     ]
 
 -- where no onset shows a later local, none is to be overridden
 pub past_clear : (zone : List ObservanceSaid) (local after next : ℤ) → IsNextPast zone local after next → IsClear zone local after next
-past_clear zone local after next none i s p h late early past = absurd (let low = none i s p h late early in omega (arith, ints, low, past))
+past_clear zone local after next none i s p h late early past = absurd (let low = none i s p h late early in omega (arith, ints))
 
 -- a day before a local the clock shows earlier ones, and a day after it later ones
 module _ (observances : List Observance) (local : ℤ) where
   pub earlier_before : (t : ℤ) → t ≤ℤ (local -ℤ pos 86_400) → shown (zone_offset (observances_said observances)) t <ℤ local
-  earlier_before t h = let bound = zone_short observances t in omega (arith, ints, bound.0, bound.1)
+  earlier_before t h = let bound = zone_short observances t in omega (arith, ints)
 
   pub later_after : (t : ℤ) → (local +ℤ pos 86_400) ≤ℤ t → local <ℤ shown (zone_offset (observances_said observances)) t
-  later_after t h = let bound = zone_short observances t in omega (arith, ints, bound.0, bound.1)
+  later_after t h = let bound = zone_short observances t in omega (arith, ints)
 
 -- a local is shown once where the offset holds within a day of it
 pub shown_once : {from next value : ℤ} (observances : List Observance) (local : ℤ) → IsSteady (zone_offset (observances_said observances)) from next value
     → from ≤ℤ (local -ℤ pos 86_400) → (local +ℤ pos 86_400) <ℤ next
     → IsFirstTime (zone_offset (observances_said observances)) local (local -ℤ value)
 shown_once {value = value} observances local steady low high =
-    let here = steady local (omega (arith, ints, low)) (omega (arith, ints, high)) in
+    let here = steady local (omega (arith, ints)) (omega (arith, ints)) in
     let bound = zone_short observances local in
-    let is = steady (local -ℤ value) (omega (arith, ints, low, here, bound.1)) (omega (arith, ints, high, here, bound.0)) in
+    let is = steady (local -ℤ value) (omega (arith, ints)) (omega (arith, ints)) in
     record {
-      shows = omega (arith, ints, is);
+      shows = omega (arith, ints);
       first = λ s shows.
           let near = zone_short observances s in
-          let same = steady s (omega (arith, ints, low, shows, near.1)) (omega (arith, ints, high, shows, near.0)) in
-          omega (arith, ints, same, shows);
+          let same = steady s (omega (arith, ints)) (omega (arith, ints)) in
+          omega (arith, ints);
     }
 
 -- the measure of that search

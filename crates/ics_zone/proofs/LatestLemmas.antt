@@ -16,21 +16,19 @@ module _ (list : List ℤ) (up : IsInOrder list) (t : ℤ) (k : ℕ) (passed : I
 
   pub last_listed : 0 < k → (s : ℤ) → s ≡ get_or list (k - 1) s → IsLast (Contains list) t s
   last_listed some s is =
-      let bound = passed.bound in
       let inside : k - 1 < length list = omega arith in
       let early = passed.before (k - 1) s (omega arith) (omega arith) in
       record {
         is = (k - 1, inside, sym is);
-        not_after = omega (arith, ints, early, is);
+        not_after = omega (arith, ints);
         last = λ u h l.
-            let same = get_or_default list (k - 1) u s inside in let at = h.2 in let within = h.1 in grind (arith, ints, cases_lt);
+            let same = get_or_default list (k - 1) u s inside in grind (arith, ints, cases_lt);
       }
 
   -- the first that is not passed
   pub next_listed : (s : ℤ) → k < length list → s ≡ get_or list k s → (u : ℤ) → Contains list u → t <ℤ u → s ≤ℤ u
   next_listed s inside is u h l =
       let same = get_or_default list k u s inside in
-      let at = h.2 in
       grind (arith, ints, cases_lt)
 
 -- the last of the listed onsets and of those of the rule

@@ -40,13 +40,13 @@ module _ {New : ℕ → Type 0} {low : ℤ} {onsets was : List ℕ} {minute size
   with_minute = set was minute (bit_or (get_or was minute 0) part)
 
   in_minute : (k : ℕ) → k / 60 ≡ minute → is_marked with_minute k ≡ (is_marked was k || (int_lt (pos k) low && is_marked onsets k))
-  in_minute k e = let inside = h.inside in let part = front_is h.front k e in grind (arith, ints, contains-or, marked-set_same)
+  in_minute k e = let part = front_is h.front k e in grind (arith, ints, contains-or, marked-set_same)
 
   stay_minute : (k : ℕ) → IsMarked was k → IsMarked with_minute k
   stay_minute k m = grind (arith, ints, cases_eq, in_minute, marked-set_other, or_left)
 
   pub marks_minute : (before : List ℕ) → ((k : ℕ) → IsMarked was k → IsMarked before k ⊎ New k) → (k : ℕ) → IsMarked with_minute k → IsMarked before k ⊎ New k
-  marks_minute before old k m = let new = h.new in grind (arith, ints, cases_eq, in_minute, marked-set_other, or_cases, and_parts, int_lt_true)
+  marks_minute before old k m = grind (arith, ints, cases_eq, in_minute, marked-set_other, or_cases, and_parts, int_lt_true)
 
   -- the first seconds of the minute are marked too where there are onsets
   module _ (bound : ℕ) (most : bound ≤ 60) where
@@ -55,9 +55,7 @@ module _ {New : ℕ → Type 0} {low : ℤ} {onsets was : List ℕ} {minute size
         → (k : ℕ) → k < minute * 60 + bound → IsMarked onsets k → IsMarked with_minute k
     clear_minute old first k early m = elim (cases_lt k (minute * 60)) [
       | inl less ↦ stay_minute k (old k less m)
-      | inr more ↦ (
-          let e : k / 60 ≡ minute = omega (arith, more, early, most) in
-          rw e (first (k % 60) (omega (arith, e, more, early)) (rw e at m)))
+      | inr more ↦ (let e : k / 60 ≡ minute = omega arith in rw e (first (k % 60) (omega arith) (rw e at m)))
     ]
 
 -- an observance past a place has an onset at an instant, which shows no later local
@@ -78,13 +76,11 @@ module _ {zone : List ObservanceSaid} {list : List Onsets} {k : ℕ} {o : Onsets
     (marks : AreMarks o local (after +ℤ pos 1) before now) where
   overrides_more : AreOverrides zone k local (after +ℤ pos 1) now
   overrides_more m i h early = elim (marks m h) [
-    | inl old ↦ over m i old (omega (arith, early))
+    | inl old ↦ over m i old (omega arith)
     | inr here ↦ (
         let there = observance_here all inside at_place in
         let of = onsets_here all inside at_place in
-        let to = of.to in
-        let low = here.1 in
-        (k, (there.0, ((there.1, of.known (after +ℤ pos 1 +ℤ pos m) here.0), (early, omega (arith, ints, to, low))))))
+        (k, (there.0, ((there.1, of.known (after +ℤ pos 1 +ℤ pos m) here.0), (early, omega (arith, ints))))))
   ]
 
   pub clears_more : {next new : ℤ} → new ≤ℤ next → AreClear o local (after +ℤ pos 1) now new → IsClearFrom zone (k + 1) local after next
@@ -92,16 +88,15 @@ module _ {zone : List ObservanceSaid} {list : List Onsets} {k : ℕ} {o : Onsets
   clears_more less clear old = (
     overrides_more,
     λ i s p from h late early later. elim (cases_lt k i) [
-      | inl more ↦ old i s p (omega (arith, more)) h late (omega (arith, ints, early, less)) later
+      | inl more ↦ old i s p (omega arith) h late (omega (arith, ints)) later
       | inr not_more ↦ (
-          let same : i ≡ k = omega (arith, from, not_more) in
+          let same : i ≡ k = omega arith in
           let of = onsets_at all inside at_place p (rw same at h.0) in
-          let to = of.to in
           let m = natural (s -ℤ (after +ℤ pos 1)) in
-          let at : after +ℤ pos 1 +ℤ pos m ≡ s = (let is = natural-is (s -ℤ (after +ℤ pos 1)) (omega (arith, ints, late)) in omega (arith, ints, is)) in
-          elim (marks m (clear m (rw at (of.complete s h.1)) (omega (arith, ints, at, early)) (omega (arith, ints, at, later, to)))) [
-            | inl mark ↦ rw at at (over m i mark (omega (arith, same)))
-            | inr now_low ↦ absurd (let low = now_low.1 in omega (arith, ints, low, at, later, to))
+          let at : after +ℤ pos 1 +ℤ pos m ≡ s = omega (arith, ints, natural-is (s -ℤ (after +ℤ pos 1)) (omega (arith, ints))) in
+          elim (marks m (clear m (rw at (of.complete s h.1)) (omega (arith, ints)) (omega (arith, ints)))) [
+            | inl mark ↦ rw at at (over m i mark (omega arith))
+            | inr now_low ↦ absurd (omega (arith, ints))
           ])
     ],
   )

@@ -23,7 +23,7 @@ pub record IsFront (minute : ℕ) (count : ℤ) (size word part : ℕ) : Type 0 
 pub front_is : {minute : ℕ} {count : ℤ} {size word part : ℕ} → IsFront minute count size word part
     → (k : ℕ) → k / 60 ≡ minute → contains part (k % 60) ≡ (int_lt (pos k) count && contains word (k % 60))
 front_is {minute = minute} front k e =
-    let here : minute * 60 + k % 60 ≡ k = omega (arith, e) in
+    let here : minute * 60 + k % 60 ≡ k = omega arith in
     rw (front.is_part (k % 60), front.is_size (k % 60) (omega arith), here) refl
 
 same_in_minute : (m n : ℕ) → m / 60 ≡ n / 60 → (m % 60 == n % 60) ≡ (m == n)

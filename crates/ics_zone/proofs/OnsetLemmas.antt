@@ -27,7 +27,7 @@ test_at-true (negsuc n) test e = absurd (cc)
 -- an onset is the instant of a local at which the observance begins, and the other way round
 pub onset-local : (p : ObservanceSaid) (t : ℤ) → is_onset p t ≡ true → (n : ℕ) × (t ≡ instant_by p.offset_from n) × (is_begin p n ≡ true)
 unfolding is_onset
-onset-local p t e = let found = test_at-true (t +ℤ p.offset_from +ℤ pos epoch) (is_begin p) e in (found.0, let at = found.1 in omega (arith, ints, at), found.2)
+onset-local p t e = let found = test_at-true (t +ℤ p.offset_from +ℤ pos epoch) (is_begin p) e in (found.0, omega (arith, ints), found.2)
 
 pub local-onset : (p : ObservanceSaid) (t : ℤ) (n : ℕ) → t ≡ instant_by p.offset_from n → is_onset p t ≡ is_begin p n
 unfolding is_onset
@@ -43,20 +43,18 @@ start_is_onset p =
 pub onset_number : (p : ObservanceSaid) → IsObservanceSaid p → (t : ℤ) → is_onset p t ≡ true → (k : ℕ) × (t ≡ instant k)
 onset_number p facts t e =
     let found = onset-local p t e in
-    let at = found.1 in
-    let bound = facts.from_in in
-    let is = natural-is (t +ℤ pos (epoch + 86_400)) (omega (arith, ints, at, bound.0, bound.1)) in
-    (natural (t +ℤ pos (epoch + 86_400)), omega (arith, ints, is))
+    let is = natural-is (t +ℤ pos (epoch + 86_400)) (omega (arith, ints)) in
+    (natural (t +ℤ pos (epoch + 86_400)), omega (arith, ints))
 
 pub in_instants : (t : ℤ) (k : ℕ) → instant k ≤ℤ t → k < instants_to t
-in_instants t k h = let is = natural-is (t +ℤ pos (epoch + 86_401)) (omega (arith, ints)) in omega (arith, ints, is)
+in_instants t k h = let is = natural-is (t +ℤ pos (epoch + 86_401)) (omega (arith, ints)) in omega (arith, ints)
 
 natural-below : (z : ℤ) (k : ℕ) → k < natural z → pos k <ℤ z
 natural-below (pos n) k h = omega (arith, ints)
 natural-below (negsuc n) k h = absurd (omega arith)
 
 pub from_instants : (t : ℤ) (k : ℕ) → k < instants_to t → instant k ≤ℤ t
-from_instants t k h = let below = natural-below (t +ℤ pos (epoch + 86_401)) k h in omega (arith, ints, below)
+from_instants t k h = let below = natural-below (t +ℤ pos (epoch + 86_401)) k h in omega (arith, ints)
 
 some_is_not_none : (p : ObservanceSaid) → Some p ≡ None → ⊥
 some_is_not_none p e = cc
@@ -73,7 +71,7 @@ module _ (zone : List ObservanceSaid) (facts : IsZone zone) where
       let onset = if_onset-some (slice_get zone found.place) t p found.gives in (
         found.place,
         (onset.0, onset.1),
-        λ j q h. let there = h.0 in let is = h.1 in let within = slice_get_within zone j q h.0 in let later = found.later in grind (arith, ints, if_onset-none),
+        λ j q h. let within = slice_get_within zone j q h.0 in grind (arith, ints, if_onset-none),
       )
 
   first_at-some : (t : ℤ) (p : ObservanceSaid) → first_at zone t ≡ Some p →
@@ -83,7 +81,7 @@ module _ (zone : List ObservanceSaid) (facts : IsZone zone) where
       let onset = if_onset-some (slice_get zone found.place) t p found.gives in (
         found.place,
         (onset.0, onset.1),
-        λ j q h. let there = h.0 in let is = h.1 in let earlier = found.earlier in grind (arith, ints, if_onset-none),
+        λ j q h. grind (arith, ints, if_onset-none),
       )
 
   last_at-none : (t : ℤ) (i : ℕ) (p : ObservanceSaid) → last_at zone t ≡ None → IsOnset zone i t p → ⊥
@@ -108,25 +106,15 @@ module _ (zone : List ObservanceSaid) (facts : IsZone zone) where
         onset = last.1;
         not_after = from_instants t found.place found.in_bound;
         greatest = λ i s q h l.
-            let k = numbered i s q h in
-            let at = k.1.0 in
-            elim (less_same_or_more k.0 found.place) [
-              | inl less ↦ inl (omega (arith, ints, at, less))
-              | inr (inl same) ↦ inr (omega (arith, ints, at, same), last.2 i q (rw same at k.1.1))
-              | inr (inr more) ↦ absurd (last_at-none (instant k.0) i q (found.later k.0 more (in_instants t k.0 (omega (arith, ints, at, l)))) k.1.1)
-            ];
+            let k = numbered i s q h in let later = found.later k.0 in let same = last.2 i q in grind (arith, ints, last_at-none, in_instants);
       }
 
   in_force-none : (t : ℤ) (i : ℕ) (s : ℤ) (p : ObservanceSaid) → in_force zone t ≡ None → IsOnset zone i s p → t <ℤ s
   unfolding in_force
-  in_force-none t i s p none h = elim (less_or_not_z t s) [
-    | inl l ↦ l
-    | inr l ↦ absurd (
-        let k = numbered i s p h in
-        let at = k.1.0 in
-        last_at-none (instant k.0) i p
-        ((rw none at (last_below-is (λ k. last_at zone (instant k)) (instants_to t))) k.0 (in_instants t k.0 (omega (arith, ints, at, l)))) k.1.1)
-  ]
+  in_force-none t i s p none h =
+      let k = numbered i s p h in
+      let all = (rw none at (last_below-is (λ k. last_at zone (instant k)) (instants_to t))) k.0 in
+      grind (arith, ints, last_at-none, in_instants)
 
   earliest-some : (t : ℤ) (p : ObservanceSaid) → in_force zone t ≡ None → earliest zone ≡ Some p → IsBeforeAll zone t p
   unfolding earliest
@@ -139,13 +127,7 @@ module _ (zone : List ObservanceSaid) (facts : IsZone zone) where
         onset = first.1;
         before = in_force-none t first.0 (instant found.place) p none first.1;
         least = λ i s q h.
-            let k = numbered i s q h in
-            let at = k.1.0 in
-            elim (less_same_or_more found.place k.0) [
-              | inl less ↦ inl (omega (arith, ints, at, less))
-              | inr (inl same) ↦ inr (omega (arith, ints, at, same), first.2 i q (rw (sym same) at k.1.1))
-              | inr (inr more) ↦ absurd (first_at-none (instant k.0) i q (found.earlier k.0 more) k.1.1)
-            ];
+            let k = numbered i s q h in let earlier = found.earlier k.0 in let same = first.2 i q in grind (arith, ints, first_at-none);
       }
 
 -- a zone with an observance has a least onset
@@ -155,15 +137,11 @@ earliest-none p zone facts none =
     let is = facts 0 p refl in
     let start = start_is_onset p in
     let k = onset_number p is (instant_by p.offset_from (number p.start)) start in
-    let at = k.1 in
     let seconds = number-seconds p.start is.start_in in
-    let days = is.start_in in
-    let second = p.start.second_in in
-    let shift = is.from_in in
-    let early : instant k.0 ≤ℤ last_midnight = omega (arith, ints, at, seconds, days.0, days.1, second, shift.0, shift.1) in
+    let early : instant k.0 ≤ℤ last_midnight = omega (arith, ints) in
     first_at-none (p ∷ zone) facts (instant k.0) 0 p
     ((rw none at (first_below-is (λ k. first_at (p ∷ zone) (instant k)) (instants_to last_midnight))) k.0 (in_instants last_midnight k.0 early))
-    (refl, rw at at start)
+    (refl, let at = k.1 in rw at at start)
 
 pub offset_found : (zone : List ObservanceSaid) → IsZone zone → (t : ℤ) → zone ≢ [] → IsOffset zone t (zone_offset zone t)
 unfolding zone_offset

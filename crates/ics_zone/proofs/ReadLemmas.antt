@@ -1,68 +1,31 @@
 -- What a zone holds of its observances, one after another.
-use Rattle.std.proofs.Common.{◌≡◌, ℕ, zero, suc, ◌+◌, ◌-◌, ◌<◌, ◌≤◌, inl, inr, refl, sym, subst, ◌∙◌, arith, List, [], ◌∷◌, ◌++◌, length, map, take, int_eq}
-use Rattle.std.proofs.Common.{get_or, Some, Contains, slice_get, ℤ}
-use Rattle.std.specs.List.{dedup, flat_map}
-use Rattle.std.specs.List.Sorted.{IsPermutation}
-use Rattle.std.proofs.lemmas.Bool.Decides.{Decides-int_eq}
-use Rattle.std.proofs.lemmas.Cmp.{int_eq_equiv}
+use Rattle.std.proofs.Common.{◌≡◌, ℕ, zero, suc, ◌+◌, ◌<◌, refl, ◌∙◌, arith, List, [], ◌∷◌, ◌++◌, length, map, take, get_or, Some, Contains, slice_get, ℤ}
+use Rattle.std.specs.List.{flat_map, AllZip}
 use Rattle.std.proofs.lemmas.List.Elements.{Contains-append_right}
-use Rattle.std.proofs.lemmas.List.Kept.{Contains-dedup}
-use Rattle.std.proofs.lemmas.List.Sorted.{Contains-permutation}
-use Rattle.std.proofs.lemmas.List.{append_assoc, flat_map_more, length-map, length-append, get_or_append_left, get_or-append_right, take_more}
-use Rattle.std.proofs.lemmas.Option.{slice_get_within, slice_get_read, slice_get-map}
+use Rattle.std.proofs.lemmas.List.{append_assoc, flat_map_more, take_more}
+use Rattle.std.proofs.lemmas.Slice.Zip.{AllZip-long}
 use Rattle.ics_zone.specs.declared.observance.Observance.{Observance}
 use Rattle.ics_zone.specs.declared.onsets.Onsets.{Onsets}
 use Rattle.ics_zone.specs.Observances.{ObservanceSaid, observance_said}
 use Rattle.ics_zone.specs.OnsetSets.{AreOnsetsOf}
 use Rattle.ics_zone.specs.ZoneOnsets.{AreOnsetsOfAll, HaveOffsets}
-use Rattle.ics_zone.proofs.Cases.{below_or_at}
 
--- the observances before a place have been read
-pub record AreOnsetsTo (observances : List Observance) (count : ℕ) (list : List Onsets) : Type 0 where
-  pub same_length : length list ≡ count
-  pub each : (i : ℕ) (p : ObservanceSaid) (d : Onsets) → i < count → slice_get (map observance_said observances) i ≡ Some p → AreOnsetsOf p (get_or list i d)
+-- where all were read in order, those at a place are of the observance there
+onsets_each : (zone : List ObservanceSaid) (list : List Onsets) → AllZip AreOnsetsOf zone list
+    → (i : ℕ) (p : ObservanceSaid) (d : Onsets) → slice_get zone i ≡ Some p → AreOnsetsOf p (get_or list i d)
+onsets_each [] list all i p d there = absurd (cc)
+onsets_each (q ∷ zone) [] all i p d there = absurd all
+onsets_each (q ∷ zone) (x ∷ list) all zero p d there = let same : q ≡ p = cc in rw (← same) all.0
+onsets_each (q ∷ zone) (x ∷ list) all (suc i) p d there = onsets_each zone list all.1 i p d there
 
-module _ (observances : List Observance) (k : ℕ) (o : Observance) (inside : k < length observances) (at : o ≡ get_or observances k o) where
-  observance_here : (i : ℕ) (p : ObservanceSaid) → i ≡ k → slice_get (map observance_said observances) i ≡ Some p → observance_said o ≡ p
-  observance_here i p same there = grind (arith, slice_get-map, slice_get_read)
+pub onsets_of_all : (zone : List ObservanceSaid) (list : List Onsets) → AllZip AreOnsetsOf zone list → AreOnsetsOfAll zone list
+onsets_of_all zone list all = record { same_length = AllZip-long AreOnsetsOf zone list all; each = onsets_each zone list all }
 
-  pub onsets_more : (old new : List Onsets) (x : Onsets) → new ≡ old ++ x ∷ [] → AreOnsetsOf (observance_said o) x → AreOnsetsTo observances k old
-      → AreOnsetsTo observances (k + 1) new
-  onsets_more old new x then of before = subst (λ (list : List Onsets). AreOnsetsTo observances (k + 1) list) (sym then) (record {
-    same_length = let n = before.same_length in omega (arith, n, length-append old (x ∷ []));
-    each = λ i p d l there. elim (below_or_at i k (omega arith)) [
-      | inl less ↦ (let left = get_or_append_left old (x ∷ []) d i (let n = before.same_length in omega (arith, n, less)) in rw left
-          (before.each i p d less there))
-      | inr same ↦ (
-          let n = before.same_length in
-          let zero : i - length old ≡ 0 = omega (arith, n, same) in
-          let right = get_or-append_right old (x ∷ []) (length old) i d refl (omega (arith, n, same)) in
-          rw (right, zero) (subst (λ p. AreOnsetsOf p x) (observance_here i p same there) of))
-    ];
-  })
-
-pub onsets_end : (observances : List Observance) (k : ℕ) (list : List Onsets) → length observances ≤ k → k ≤ length observances → AreOnsetsTo observances k list
-    → AreOnsetsOfAll (map observance_said observances) list
-onsets_end observances k list past low all = record {
-  same_length = let n = all.same_length in omega (arith, n, past, low, length-map observances observance_said);
-  each = λ i p d there. all.each i p d (let h = slice_get_within (map observance_said observances) i p there in omega
-      (arith, h, past, length-map observances observance_said)) there;
-}
-
--- without those that stand twice they are the same offsets
-pub offsets_once : (zone : List ObservanceSaid) (old new : List ℤ) → new ≡ dedup int_eq old → HaveOffsets old zone → HaveOffsets new zone
-offsets_once zone old new is have i p there =
-    let h = have i p there in
-    rw is (record { from = once p.offset_from h.from; to = once p.offset_to h.to })
-  where
-    once : (t : ℤ) → Contains old t → Contains (dedup int_eq old) t
-    once = Contains-dedup int_eq_equiv (λ x y e. (Decides-int_eq x y).0 e) old
-
--- moved about they are the same offsets
-pub offsets_moved : (zone : List ObservanceSaid) (old new : List ℤ) → IsPermutation old new → HaveOffsets old zone → HaveOffsets new zone
-offsets_moved zone old new moved have i p there =
-    let h = have i p there in
-    record { from = Contains-permutation old new p.offset_from moved h.from; to = Contains-permutation old new p.offset_to moved h.to }
+-- more offsets are there too
+pub offsets_within : (zone : List ObservanceSaid) (old new : List ℤ) → ((t : ℤ) → Contains old t → Contains new t) → HaveOffsets old zone
+    → HaveOffsets new zone
+offsets_within zone old new within have i p there =
+    let h = have i p there in record { from = within p.offset_from h.from; to = within p.offset_to h.to }
 
 -- the offsets of observances, one after another
 abbrev pub both_offsets : List Observance → List ℤ
@@ -80,10 +43,5 @@ pub have_both : (observances : List Observance) → HaveOffsets (both_offsets ob
 have_both [] i p e = absurd (cc)
 have_both (o ∷ observances) zero p e =
     let same : observance_said o ≡ p = cc in rw (← same) (record { from = (1, omega arith, refl); to = (0, omega arith, refl) })
-have_both (o ∷ observances) (suc i) p e =
-    let h = have_both observances i p e in
-    let own : List ℤ = o.offset_to ∷ o.offset_from ∷ [] in
-    record {
-      from = Contains-append_right own (both_offsets observances) p.offset_from h.from;
-      to = Contains-append_right own (both_offsets observances) p.offset_to h.to;
-    }
+have_both (o ∷ observances) (suc i) p e = offsets_within (map observance_said observances) (both_offsets observances) (both_offsets (o ∷ observances))
+    (Contains-append_right (o.offset_to ∷ o.offset_from ∷ []) (both_offsets observances)) (have_both observances) i p e

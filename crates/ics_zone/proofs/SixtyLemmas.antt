@@ -33,8 +33,7 @@ same m n b is = grind (arith, nat_tests)
 
 module _ (set word n : ℕ) (old : (m : ℕ) → contains word m ≡ (nat_lt m n && contains set m)) where
   pub word_more : n < 64 → contains set n ≡ true → (m : ℕ) → contains (bit_or word (1 * 2 ^ n % 18446744073709551616)) m ≡ (nat_lt m (n + 1) && contains set m)
-  word_more small is m =
-      contains-or_bit word n m small ∙ ap (λ b. (m == n) || b) (old m) ∙ more m n (contains set m) (λ e. subst (λ x. contains set x ≡ true) (sym e) is)
+  word_more small is m = let was = old m in grind (arith, nat_tests, contains-or_bit, more)
 
   pub word_same : contains set n ≡ false → (m : ℕ) → contains word m ≡ (nat_lt m (n + 1) && contains set m)
   word_same is m = old m ∙ same m n (contains set m) (λ e. subst (λ x. contains set x ≡ false) (sym e) is)
@@ -57,28 +56,22 @@ module _ (here next from first part : ℕ) (small : from < 60) (is_first : (n : 
   pub shifted_next : (n m : ℕ) → m < from → n + from ≡ m + 60
       → contains (bit_or (first / 2 ^ from) (part * 2 ^ (60 - from) % 18446744073709551616)) n ≡ contains next m
   shifted_next n m low at =
-      let past = is_first (n + from) ∙ ap (λ b. b && contains here (n + from)) (le-ltb (n + from) 60 (omega arith)) in
-      let none = bit_zero first (n + from) past in
+      let past = is_first (n + from) in
+      let own = is_part m in
       let there = bit_at_cat_high part (60 - from) 0 n (pow_pos (60 - from)) (omega arith) in
       let place : n - (60 - from) ≡ m = omega arith in
-      let one : bit_at (part * 2 ^ (60 - from) + 0) n ≡ bit_at part m = there ∙ ap (bit_at part) place in
-      ap (λ x. x == 1) (joined_bit n ∙ omega (arith, none, one)) ∙ is_part m ∙ ap (λ b. b && contains next m) (lt-ltb m from low)
+      grind (arith, nat_tests, bit_zero, joined_bit, le-ltb, lt-ltb)
 
 -- the seconds of a word that another does not have
 module _ (word other rest : ℕ) (fits : other < 18446744073709551616)
     (is : (n : ℕ) → contains rest n ≡ (nat_lt n 60 && contains (bit_and word (18446744073709551615 - other)) n)) where
-  outside : (n : ℕ) → n < 60 → contains (bit_and word (18446744073709551615 - other)) n ≡ false → contains word n ≡ true → contains other n ≡ true
-  outside n low none there =
-      let neither = bit_zero (bit_and word (18446744073709551615 - other)) n none in
+  pub all_inside : (n : ℕ) → n < 60 → contains rest n ≡ false → contains word n ≡ true → contains other n ≡ true
+  all_inside n low none there =
+      let part = is n in
       let both = bit_at_and word (18446744073709551615 - other) n in
       let not = bit_at_not w64 other n fits (omega arith) in
-      let one = bit_one word n there in
       let small = bit_at-lt other n in
-      let set : bit_at other n ≡ 1 = omega (arith, neither, both, not, one, small) in
-      ap (λ x. x == 1) set
-
-  pub all_inside : (n : ℕ) → n < 60 → contains rest n ≡ false → contains word n ≡ true → contains other n ≡ true
-  all_inside n low none = outside n low (sym (ap (λ b. b && contains (bit_and word (18446744073709551615 - other)) n) (lt-ltb n 60 low)) ∙ sym (is n) ∙ none)
+      grind (arith, nat_tests, lt-ltb, bit_zero, bit_one)
 
   pub first_place : rest ≢ 0 → rest < 18446744073709551616
       → (trailing_zeros w64 rest < 60) × ((n : ℕ) → n < trailing_zeros w64 rest → contains word n ≡ true → contains other n ≡ true)
@@ -87,7 +80,7 @@ module _ (word other rest : ℕ) (fits : other < 18446744073709551616)
       let there : (nat_lt (trailing_zeros w64 rest) 60 && contains (bit_and word (18446744073709551615 - other)) (trailing_zeros w64 rest)) ≡ true =
       sym (is (trailing_zeros w64 rest)) ∙ ap (λ x. x == 1) first.1 in
       let low : trailing_zeros w64 rest < 60 = ltb-true (trailing_zeros w64 rest) 60 (and_parts _ _ there).0 in
-      (low, λ n less. all_inside n (omega (arith, less, low)) (ap (λ x. x == 1) (first.2 n less)))
+      (low, λ n less. all_inside n (omega arith) (ap (λ x. x == 1) (first.2 n less)))
 
 -- so many seconds of a minute
 pub first_seconds : (n size : ℕ) (at count : ℤ) → (n < size → at <ℤ count) → (at <ℤ count → n < size) → nat_lt n size ≡ int_lt at count

@@ -31,5 +31,5 @@ module _ (zone : TimeZone) (table : Bor Tzif) (is : zone ≡ kind.Tzif table) wh
 pub one_read : (table : Tzif) (local t : ℤ) → IsRead table local t → t ≡ file_moment (tzif_view table) local
 one_read table local t h =
     let offset : ℤ = (compatible_offset (Table.ambiguous_at table h.shown)).seconds in
-    let is : t ≡ local -ℤ offset = omega (arith, signed_arith, h.same, h.picked) in
+    let is : t ≡ local -ℤ offset = omega (arith, signed_arith) in
     is ∙ ap (λ n. local -ℤ n) (sym (file_reading_is table h.shown local h.same))

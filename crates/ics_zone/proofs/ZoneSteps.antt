@@ -21,7 +21,7 @@ observance_there (p ∷ zone) (suc k) h = observance_there zone k (omega arith)
 
 -- what is kept of each observance is sound
 pub all_sound : (zone : List ObservanceSaid) (list : List Onsets) → AreOnsetsOfAll zone list → All IsSound list
-all_sound zone list all k d h = let here = observance_there zone k (let n = all.same_length in omega (arith, n, h)) in (all.each k here.0 d here.1).sound
+all_sound zone list all k d h = let here = observance_there zone k (omega arith) in (all.each k here.0 d here.1).sound
 
 -- of the observances before a place: no onset between two instants begins an offset that shows a later local
 abbrev pub IsNextPastTo : List ObservanceSaid → ℕ → ℤ → ℤ → ℤ → Type 0
@@ -55,7 +55,7 @@ module _ {zone : List ObservanceSaid} {list : List Onsets} {k : ℕ} {o : Onsets
   onsets_at p there = rw at_place (all.each k p o there)
 
   pub observance_here : (p : ObservanceSaid) × (slice_get zone k ≡ Some p)
-  observance_here = observance_there zone k (let n = all.same_length in omega (arith, n, inside))
+  observance_here = observance_there zone k (omega arith)
 
   pub onsets_here : AreOnsetsOf observance_here.0 o
   onsets_here = onsets_at observance_here.0 observance_here.1
@@ -74,39 +74,34 @@ module _ {zone : List ObservanceSaid} {list : List Onsets} {k : ℕ} {o : Onsets
       observance = before.observance;
       onset = before.onset;
       offset = before.offset;
-      before = let n = before.before in omega (arith, n);
+      before = omega arith;
       not_after = before.not_after;
       greatest = λ i s p l h early. let at = split i s p h l in let low = before.greatest i s p in grind (arith, ints);
     }
 
     this_one : {e : Latest} → IsLastOnset k o t e
         → ((i : ℕ) (s : ℤ) (p : ObservanceSaid) → i < k → IsOnset zone i s p → s ≤ℤ t → s ≤ℤ e.at) → IsLatest zone t (k + 1) e
-    this_one {e = e} its none =
-        let last = its.last in
-        let place = its.place in
-        record {
-          observance = observance_here.0;
-          onset = (ap (slice_get zone) place ∙ observance_here.1, onsets_here.known e.at last.is);
-          offset = its.offset ∙ onsets_here.to;
-          before = omega (arith, place);
-          not_after = last.not_after;
-          greatest = λ i s p l h early. let at = split i s p h l in let low = none i s p in let here = last.last s in grind (arith, ints, less_or_not_z);
-        }
+    this_one {e = e} its none = let last = its.last in record {
+      observance = observance_here.0;
+      onset = (ap (slice_get zone) its.place ∙ observance_here.1, onsets_here.known e.at last.is);
+      offset = its.offset ∙ onsets_here.to;
+      before = omega arith;
+      not_after = last.not_after;
+      greatest = λ i s p l h early. let at = split i s p h l in let low = none i s p in let here = last.last s in grind (arith, ints, less_or_not_z);
+    }
 
     pub latest_none : (old : Option Latest) → IsLatestOf zone t k old → ((u : ℤ) → Has o u → t <ℤ u) → IsLatestOf zone t (k + 1) old
     latest_none None before none = λ i s p l h. let at = split i s p h l in let low = before i s p in grind (arith, ints)
-    latest_none (Some f) before none = wider before (λ s contains early. absurd (let late = none s contains in omega (arith, ints, late, early)))
+    latest_none (Some f) before none = wider before (λ s contains early. absurd (let late = none s contains in omega (arith, ints)))
 
     pub latest_some : {e new : Latest} (old : Option Latest) → IsLatestOf zone t k old
         → MatchOption old (new ≡ e) (λ f. ((new ≡ e) × (f.at ≤ℤ e.at)) ⊎ ((new ≡ f) × (e.at <ℤ f.at))) → IsLastOnset k o t e → IsLatest zone t (k + 1) new
     latest_some None before is its =
-        rw is (this_one its (λ i s p l h early. absurd (let late = before i s p l h in omega (arith, ints, late, early))))
+        rw is (this_one its (λ i s p l h early. absurd (let late = before i s p l h in omega (arith, ints))))
     latest_some (Some f) before (inl is) its =
-        let no_later = is.1 in
         rw (is.0) (this_one its (λ i s p l h early. let low = before.greatest i s p l h early in grind (arith, ints)))
     latest_some (Some f) before (inr is) its =
-        let later = is.1 in
-        rw (is.0) (wider before (λ s contains early. inl (let low = its.last.last s contains early in omega (arith, ints, low, later))))
+        rw (is.0) (wider before (λ s contains early. inl (let low = its.last.last s contains early in omega (arith, ints))))
 
     -- the same after an instant, where the next are looked at from the greatest on
     module _ (after from : ℤ) where
@@ -117,17 +112,14 @@ module _ {zone : List ObservanceSaid} {list : List Onsets} {k : ℕ} {o : Onsets
           → ((u : ℤ) → Has o u → u ≤ℤ t → u ≤ℤ from) → IsLatestWithin zone after t (k + 1) old
       within_none None begun before none = λ i s p l h early. let at = split i s p h l in let low = before i s p in grind (arith, ints)
       within_none (Some f) begun before none =
-          (wider before.0 (λ s contains early. inl (let out = none s contains early in let is = begun before.1 in omega (arith, ints, out, is))), before.1)
+          (wider before.0 (λ s contains early. inl (let out = none s contains early in let is = begun before.1 in omega (arith, ints))), before.1)
 
       pub within_some : {e new : Latest} (old : Option Latest) → IsBegun old → IsLatestWithin zone after t k old
           → MatchOption old (new ≡ e) (λ f. ((new ≡ e) × (f.at ≤ℤ e.at)) ⊎ ((new ≡ f) × (e.at <ℤ f.at))) → IsLastOnset k o t e → from <ℤ e.at
           → IsLatest zone t (k + 1) new × (after <ℤ new.at)
       within_some None begun before is its in_window =
-          rw is (
-            this_one its (λ i s p l h early. let out = before i s p l h early in omega (arith, ints, out, in_window, begun)),
-            omega (arith, ints, in_window, begun),
-          )
-      within_some (Some f) begun before is its in_window = (latest_some (Some f) before.0 is its, let late = before.1 in grind (arith, ints))
+          rw is (this_one its (λ i s p l h early. let out = before i s p l h early in omega (arith, ints)), omega (arith, ints))
+      within_some (Some f) begun before is its in_window = (latest_some (Some f) before.0 is its, grind (arith, ints))
 
   pub between_more : {after next new : ℤ} → new ≤ℤ next → ((t : ℤ) → Has o t → after <ℤ t → new ≤ℤ t) → NoneBetweenTo zone k after next
       → NoneBetweenTo zone (k + 1) after new
@@ -152,8 +144,7 @@ module _ {zone : List ObservanceSaid} {list : List Onsets} {k : ℕ} {o : Onsets
     observance = observance_here.0;
     onset = (observance_here.1, onsets_here.known at last.is);
     not_after = last.not_after;
-    greater = λ i s p h is early. less i s p (let within = slice_get_within zone i p h.0 in let n = all.same_length in omega (arith, within, n, past)) h
-        is early;
+    greater = λ i s p h is early. less i s p (omega (arith, slice_get_within zone i p h.0)) h is early;
   }
 
   -- its first onset is the least of all, where it is not later than those of the observances before
@@ -176,12 +167,11 @@ module _ {zone : List ObservanceSaid} {list : List Onsets} {k : ℕ} {o : Onsets
     pub first_before : first ≤ℤ at → IsFirst zone (k + 1) first offset
     first_before more = record {
       place = before.place;
-      in_bound = let n = before.in_bound in omega (arith, n);
+      in_bound = omega arith;
       observance = before.observance;
       onset = before.onset;
       is = before.is;
-      least = λ i s p l h. let here = split i s p h l in let low = before.least i s p in let high = least s in let n = before.in_bound in
-          grind (arith, ints, less_or_not_z);
+      least = λ i s p l h. let here = split i s p h l in let low = before.least i s p in let high = least s in grind (arith, ints, less_or_not_z);
     }
 
   -- the next onset of this observance that shows a later local

@@ -36,35 +36,34 @@ module _ (P : ℤ → Type 0) (local : ℤ) (test : ℤ → Bool) (means : (s : 
   tried_at : (s : ℤ) → P s → (k : ℕ) × ((s ≡ near local k) × (tried k ≡ None → ⊥))
   tried_at s h =
       let low = late s h in
-      let is = natural-is (s -ℤ local +ℤ pos 86_400) (omega (arith, ints, low)) in
-      let at : s ≡ near local (natural (s -ℤ local +ℤ pos 86_400)) = omega (arith, ints, is) in
+      let is = natural-is (s -ℤ local +ℤ pos 86_400) (omega (arith, ints)) in
+      let at : s ≡ near local (natural (s -ℤ local +ℤ pos 86_400)) = omega (arith, ints) in
       (natural (s -ℤ local +ℤ pos 86_400), (at, if_so-none _ _ (sym (ap test at) ∙ (means s).1 h)))
 
   least-is : (found : Option ℤ) → MatchOption found (NoneGiven 172_801 tried) (IsFirstGiven 172_801 tried) → IsLeastOf P local found
-  least-is None none = λ s high h. let k = tried_at s h in let at = k.1.0 in k.1.1 (none k.0 (omega (arith, ints, at, high)))
+  least-is None none = λ s high h. let k = tried_at s h in k.1.1 (none k.0 (omega (arith, ints)))
   least-is (Some t) first =
       let so = if_so-some _ _ t first.gives in
-      ((means t).0 (sym (ap test so.1) ∙ so.0), λ s h. let k = tried_at s h in let at = k.1.0 in let is = so.1 in let earlier = first.earlier k.0 in let no = k.1.1 in
-      grind (arith, ints))
+      ((means t).0 (sym (ap test so.1) ∙ so.0), λ s h. let k = tried_at s h in let earlier = first.earlier k.0 in grind (arith, ints))
 
 module _ (offset : ℤ → ℤ) (short : (t : ℤ) → IsWithin 86_399 (offset t)) where
   pub moment_found : (local : ℤ) → IsMomentBy offset local (moment_by offset local)
   unfolding moment_by
   moment_found local = by (first_time offset local) (first_later offset local)
-      (least-is (λ s. shown offset s ≡ local) local _ (λ s. Decides-int_eq (shown offset s) local) (λ s is. let bound = short s in omega (arith, ints, is, bound.1)) _
+      (least-is (λ s. shown offset s ≡ local) local _ (λ s. Decides-int_eq (shown offset s) local) (λ s is. let bound = short s in omega (arith, ints)) _
       (first_below-is _ 172_801))
-      (least-is (λ s. local <ℤ shown offset s) local _ (λ s. Decides-int_lt local (shown offset s)) (λ s is. let bound = short s in omega (arith, ints, is, bound.1)) _
+      (least-is (λ s. local <ℤ shown offset s) local _ (λ s. Decides-int_lt local (shown offset s)) (λ s is. let bound = short s in omega (arith, ints)) _
       (first_below-is _ 172_801))
     where
       by : (time later : Option ℤ) → IsLeastOf (λ s. shown offset s ≡ local) local time → IsLeastOf (λ s. local <ℤ shown offset s) local later
           → IsMomentBy offset local (moment_from offset local time later)
       by (Some t) later is past = inl (record { shows = is.0; first = is.1 })
       by None (Some u) none past = inr (record {
-        skipped = λ s is. let bound = short s in none s (omega (arith, ints, is, bound.0)) is;
+        skipped = λ s is. let bound = short s in none s (omega (arith, ints)) is;
         past = u;
         is_later = past.0;
         first = past.1;
         before = refl;
       })
       by None None none past =
-          absurd (let bound = short (local +ℤ pos 86_400) in past (local +ℤ pos 86_400) (omega (arith, ints)) (omega (arith, ints, bound.0)))
+          absurd (let bound = short (local +ℤ pos 86_400) in past (local +ℤ pos 86_400) (omega (arith, ints)) (omega (arith, ints)))

@@ -62,14 +62,14 @@ pub zone_short : (zone : List Observance) (t : ℤ) → IsWithin 86_399 (zone_of
 zone_short zone = zone_offset_short (observances_said zone) (zone_facts zone)
 
 pub zone_offset_near : (zone : List Observance) (t : ℤ) → IsNear (zone_offset (observances_said zone) t)
-zone_offset_near zone t = let bound = zone_short zone t in (omega (arith, ints, bound.0), omega (arith, ints, bound.1))
+zone_offset_near zone t = let bound = zone_short zone t in (omega (arith, ints), omega (arith, ints))
 
 -- the instant of a local is near it
 moment_near_by : (offset : ℤ → ℤ) (short : (t : ℤ) → IsWithin 86_399 (offset t)) (local t : ℤ) → IsMomentBy offset local t → IsNear (t -ℤ local)
 moment_near_by offset short local t (inl h) =
-    let is = h.shows in let bound = short t in (omega (arith, ints, is, bound.0, bound.1), omega (arith, ints, is, bound.0, bound.1))
+    let bound = short t in (omega (arith, ints), omega (arith, ints))
 moment_near_by offset short local t (inr h) =
-    let is = h.before in let bound = short (h.past -ℤ pos 1) in (omega (arith, ints, is, bound.0, bound.1), omega (arith, ints, is, bound.0, bound.1))
+    let bound = short (h.past -ℤ pos 1) in (omega (arith, ints), omega (arith, ints))
 
 pub zone_moment_near : (zone : List Observance) (local : ℤ) → IsNear (zone_moment (observances_said zone) local -ℤ local)
 zone_moment_near zone local = moment_near_by (zone_offset (observances_said zone)) (zone_short zone) local (zone_moment (observances_said zone) local)

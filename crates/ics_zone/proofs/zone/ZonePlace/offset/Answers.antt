@@ -15,17 +15,10 @@ returns-in-ByObservances-clause-means c =
     let kind : c.args.self.now ≡ ByObservances c.in-ByObservances.observed = sym c.self.view_is ∙ c.in-ByObservances.is in
     rw (kind, to_z-of_z w32 c.offset.result (search rules)) (simp to_z-of_z at c.offset.ensures.means)
 
-pub returns-in-ByFile-clause-means : goal.returns-in-ByFile-clause-means
-returns-in-ByFile-clause-means c =
+pub returns-in-ByFile : goal.returns-in-ByFile
+returns-in-ByFile c =
     let fits : SFits w64 c.args.moment = c.ranges.moment in
     let kind : c.args.self.now ≡ ByFile c.in-ByFile.table = sym c.self.view_is ∙ c.in-ByFile.is in
+    let is = (simp to_z-of_z at c.offset_at.ensures) ∙ table_offset (plain_zone c.tzif.result) _ c.tzif.ensures c.args.moment in
     rw (kind, to_z-of_z w32 c.offset_at.result (search rules), ← c.deref.ensures)
-    ((simp to_z-of_z at c.offset_at.ensures) ∙ table_offset (plain_zone c.tzif.result) _ c.tzif.ensures c.args.moment)
-
-pub returns-in-ByFile-clause-value : goal.returns-in-ByFile-clause-value
-returns-in-ByFile-clause-value c =
-    let fits : SFits w64 c.args.moment = c.ranges.moment in
-    let kind : c.args.self.now ≡ ByFile c.in-ByFile.table = sym c.self.view_is ∙ c.in-ByFile.is in
-    rw (kind, to_z-of_z w32 c.offset_at.result (search rules), ← c.deref.ensures)
-    ((simp to_z-of_z at c.offset_at.ensures) ∙ table_offset (plain_zone c.tzif.result) _ c.tzif.ensures c.args.moment
-    ∙ sym (file_offset_is c.deref.result.now c.args.moment))
+    (record { means = is; value = is ∙ sym (file_offset_is c.deref.result.now c.args.moment) })
