@@ -36,28 +36,19 @@ module _ (offset : ℤ → ℤ) (local : ℤ) (offsets : List ℤ) (k : ℕ) (e 
       → MatchOption found (m ≡ t) (λ f. m ≡ int_min f t) → IsLeastOf offset local offsets (k + 1) m
   first_moves None m before is same min = grind (arith, ints, below_or_at, here)
   first_moves {t = t} (Some f) m before is same min = record {
-    shows = elim (less_or_not_z f t) [
-      | inl less ↦ (let one : m ≡ f = omega (arith, ints, clamps) in rw one before.shows)
-      | inr more ↦ (let one : m ≡ t = omega (arith, ints, clamps) in rw one (omega (arith, ints)))
-    ];
+    shows = grind (arith, ints, clamps, less_or_not_z);
     least = λ j d l shows. let low = before.least j d in let there = here j d in grind (arith, ints, clamps, below_or_at);
   }
 
 -- where each offset is among them, the least is the first instant that shows the local
 module _ (offset : ℤ → ℤ) (local : ℤ) (offsets : List ℤ) (contains : (t : ℤ) → Contains offsets (offset t)) (k : ℕ) (all : length offsets ≤ k) where
   candidate : (s : ℤ) → shown offset s ≡ local → s ≡ local -ℤ get_or offsets (contains s).0 (offset s)
-  candidate s shows = let at = (contains s).2 in omega (arith, ints, shows)
+  candidate s shows = omega (arith, ints, (contains s).2)
 
   pub first_found : (found : Option ℤ) → IsFirstOf offset local offsets k found
       → MatchOption found ((t : ℤ) → shown offset t ≢ local) (IsFirstTime offset local)
-  first_found None none = λ t shows.
-      let inside = (contains t).1 in
-      none (contains t).0 (offset t) (omega arith) (ap (shown offset) (sym (candidate t shows)) ∙ shows)
+  first_found None none = λ t shows. let at = contains t in none at.0 (offset t) (omega arith) (ap (shown offset) (sym (candidate t shows)) ∙ shows)
   first_found (Some t) found = record {
     shows = found.shows;
-    first = λ s shows.
-        let inside = (contains s).1 in
-        let is = candidate s shows in
-        let low = found.least (contains s).0 (offset s) (omega arith) (ap (shown offset) (sym is) ∙ shows) in
-        omega (arith, ints);
+    first = λ s shows. let at = contains s in let is = candidate s shows in let low = found.least at.0 (offset s) in grind (arith, ints);
   }

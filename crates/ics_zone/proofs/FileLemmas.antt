@@ -118,8 +118,7 @@ module _ (z : Tzif) where
     past_is : (count : ℕ) → match_some (rule_after (tzif_view z) count) (offset_after (tzif_view z) count)
         (λ r. rule_reading r.std_seconds r.dst (nanos_of_seconds local))
         ≡ (compatible_offset (Table.ambiguous_after z count dt)).seconds
-    past_is count =
-        let by = λ (r : TimeZone). rule_reading_is r.std_offset r.dst dt local same in grind (arith, nat_tests, rule_after_is, offset_after_is)
+    past_is count = let by = λ (r : TimeZone). rule_reading_is r.std_offset r.dst dt local same in grind (arith, nat_tests, rule_after_is, offset_after_is)
 
     -- the offset of a local that jiff's compatible strategy takes
     pub file_reading_is : file_reading (tzif_view z) local ≡ (compatible_offset (Table.ambiguous_at z dt)).seconds

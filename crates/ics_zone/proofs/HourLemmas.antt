@@ -89,8 +89,7 @@ module _ (s : Onsets) (hours : Hours) (t : ℤ) (told : IsToldAt s hours t) (n :
 -- what the words of an hour tell of the onsets of a rule
 module _ (s : Onsets) (hours : Hours) (from : ℤ) (local : ℕ) (count : ℤ) (marks : List ℕ) (told : IsTold s (from -ℤ pos 1) (from +ℤ pos 3_600) hours)
     (at : from ≡ instant_by s.offset_from local) (words : (k : ℕ) → k < 3_600 → is_marked marks k ≡ (int_lt (pos k) count && keeps hours (local + k)))
-    (down : (k : ℕ) → pos k <ℤ count → (from +ℤ pos k) ≤ℤ s.until)
-    (up : (k : ℕ) → k < 3_600 → (from +ℤ pos k) ≤ℤ s.until → pos k <ℤ count) where
+    (down : (k : ℕ) → pos k <ℤ count → (from +ℤ pos k) ≤ℤ s.until) (up : (k : ℕ) → k < 3_600 → (from +ℤ pos k) ≤ℤ s.until → pos k <ℤ count) where
   told_at : (k : ℕ) → k < 3_600 → IsToldAt s hours (from +ℤ pos k)
   told_at k low = told (from +ℤ pos k) (omega (arith, ints)) (omega (arith, ints, low))
 

@@ -66,12 +66,12 @@ module _ (observances : List Observance) (some : 0 < length (observances_said ob
   latest_is t e h = steady_since t (t +ℤ pos 1) (λ i s p g l. omega (arith, ints)) e h t h.not_after (omega (arith, ints))
 
   pub none_is : (t offset : ℤ) → IsLatestOf zone t (length zone) None → IsFirstOffset zone offset → offset ≡ zone_offset zone t
-  none_is t offset h first = first.1.is ∙ before_all_is t first.1.observance (record {
-    place = first.1.place;
-    first = first.0;
-    onset = first.1.onset;
-    before = h first.1.place first.0 first.1.observance (slice_get_within zone first.1.place first.1.observance first.1.onset.0) first.1.onset;
-    least = λ i s p g. first.1.least i s p (slice_get_within zone i p g.0) g;
+  none_is t offset h (at, f) = f.is ∙ before_all_is t f.observance (record {
+    place = f.place;
+    first = at;
+    onset = f.onset;
+    before = h f.place at f.observance (slice_get_within zone f.place f.observance f.onset.0) f.onset;
+    least = λ i s p g. f.least i s p (slice_get_within zone i p g.0) g;
   })
 
   -- each offset of the zone is one of its observances
@@ -86,11 +86,8 @@ module _ (observances : List Observance) (some : 0 < length (observances_said ob
   overridden_other t offset over e = elim (is_offset t) [
     | inl h ↦ (
         let not_later = h.1.greatest over.place over.at over.observance over.onset over.not_after in
-        let less = over.greater h.1.place h.1.since h.0 h.1.onset (sym h.2 ∙ e) h.1.not_after in
-        grind (arith, ints))
-    | inr h ↦ (
-        let least = h.1.least over.place over.at over.observance over.onset in
-        grind (arith, ints))
+        let less = over.greater h.1.place h.1.since h.0 h.1.onset (sym h.2 ∙ e) h.1.not_after in grind (arith, ints))
+    | inr h ↦ (let least = h.1.least over.place over.at over.observance over.onset in grind (arith, ints))
   ]
 
   greater_at : (t : ℤ) (i j : ℕ) → i < j → IsNotLater t j t i → ⊥
@@ -101,29 +98,25 @@ module _ (observances : List Observance) (some : 0 < length (observances_said ob
     -- a second after an earlier local the clock shows none later: under the same offset it would show this one, and no onset moves it on
     one_more : (s : ℤ) → after <ℤ s → s <ℤ next → shown (zone_offset zone) (s -ℤ pos 1) <ℤ local → IsOffset zone s (zone_offset zone s)
         → shown (zone_offset zone) s ≤ℤ local
-    one_more s late early before (inl h) =
-        let f = h.1 in
-        let until = f.not_after in
-        elim (less_or_not_z f.since s) [
-          | inl old ↦ (
-              let same = in_force_is (s -ℤ pos 1) h.0 (record {
-                place = f.place;
-                since = f.since;
-                onset = f.onset;
-                not_after = omega (arith, ints);
-                greatest = λ i u q g l. f.greatest i u q g (omega (arith, ints));
-              }) in
-              omega (arith, ints))
-          | inr now ↦ elim (less_or_not_z local (f.since +ℤ h.0.offset_to)) [
-            | inr low ↦ omega (arith, ints)
-            | inl past ↦ absurd (
-                let over = none f.place f.since h.0 f.onset (omega (arith, ints)) (omega (arith, ints)) past in
-                greater_at f.since f.place over.0 over.1.1.1.0 (f.greatest over.0 f.since over.1.0 over.1.1.0 until))
-          ]
-        ]
-    one_more s late early before (inr h) =
-        let f = h.1 in
-        let same = before_all_is (s -ℤ pos 1) h.0
+    one_more s late early before (inl (p, f, is)) = elim (less_or_not_z f.since s) [
+      | inl old ↦ (
+          let same = in_force_is (s -ℤ pos 1) p (record {
+            place = f.place;
+            since = f.since;
+            onset = f.onset;
+            not_after = omega (arith, ints);
+            greatest = λ i u q g l. f.greatest i u q g (omega (arith, ints));
+          }) in
+          omega (arith, ints))
+      | inr now ↦ elim (less_or_not_z local (f.since +ℤ p.offset_to)) [
+        | inr low ↦ omega (arith, ints)
+        | inl past ↦ absurd (
+            let over = none f.place f.since p f.onset (omega (arith, ints)) (omega (arith, ints)) past in
+            greater_at f.since f.place over.0 over.1.1.1.0 (f.greatest over.0 f.since over.1.0 over.1.1.0 f.not_after))
+      ]
+    ]
+    one_more s late early before (inr (p, f, is)) =
+        let same = before_all_is (s -ℤ pos 1) p
         (record { place = f.place; first = f.first; onset = f.onset; before = omega (arith, ints); least = f.least }) in
         omega (arith, ints)
 
@@ -168,8 +161,8 @@ shown_once {value = value} observances local steady low high =
     }
 
 -- the measure of that search
-pub natural_less : (a b : ℤ) → pos 0 ≤ℤ a → a <ℤ b → natural a < natural b
-natural_less a b low less = grind (arith, ints, natural-is)
+pub natural_less : (end at next : ℤ) → next ≤ℤ end → at <ℤ next → natural (end -ℤ next) < natural (end -ℤ at)
+natural_less end at next low less = grind (arith, ints, natural-is)
 
 -- the spans that are held may be others
 known_of : {zone : List ObservanceSaid} {onsets : List Onsets} {offsets : List ℤ} {was now : List Steady} → IsKnown zone onsets offsets was

@@ -1,12 +1,12 @@
 -- The last of a set of instants, and the next.
-use Rattle.std.proofs.Common.{◌≡◌, ℕ, ◌<◌, ◌-◌, ◌⊎◌, sym, arith, List, length, get_or, Contains, ℤ, ◌<ℤ◌, ◌≤ℤ◌}
+use Rattle.std.proofs.Common.{◌≡◌, ℕ, ◌<◌, ◌-◌, ◌⊎◌, inl, inr, sym, arith, List, length, get_or, Contains, Option, Some, None, ℤ, ◌<ℤ◌, ◌≤ℤ◌}
 use Rattle.std.proofs.lemmas.Bool.{cases_lt}
 use Rattle.std.specs.Int.{int_max}
 use Rattle.std.proofs.lemmas.Int.{ints}
 use Rattle.std.proofs.lemmas.List.{get_or_default}
 use Rattle.ics_zone.specs.declared.onsets.Onsets.{Onsets}
 use Rattle.ics_zone.specs.OnsetSets.{IsKeptAt, Has}
-use Rattle.ics_zone.specs.Latest.{IsInOrder, IsPassed, IsLast}
+use Rattle.ics_zone.specs.Latest.{IsInOrder, IsPassed, IsLast, IsLastOf}
 use Rattle.ics_zone.proofs.Cases.{less_or_not_z}
 
 module _ (list : List ℤ) (up : IsInOrder list) (t : ℤ) (k : ℕ) (passed : IsPassed list t k) where
@@ -21,15 +21,12 @@ module _ (list : List ℤ) (up : IsInOrder list) (t : ℤ) (k : ℕ) (passed : I
       record {
         is = (k - 1, inside, sym is);
         not_after = omega (arith, ints);
-        last = λ u h l.
-            let same = get_or_default list (k - 1) u s inside in grind (arith, ints, cases_lt);
+        last = λ u h l. let same = get_or_default list (k - 1) u s inside in grind (arith, ints, cases_lt);
       }
 
   -- the first that is not passed
   pub next_listed : (s : ℤ) → k < length list → s ≡ get_or list k s → (u : ℤ) → Contains list u → t <ℤ u → s ≤ℤ u
-  next_listed s inside is u h l =
-      let same = get_or_default list k u s inside in
-      grind (arith, ints, cases_lt)
+  next_listed s inside is u h l = let same = get_or_default list k u s inside in grind (arith, ints, cases_lt)
 
 -- the last of the listed onsets and of those of the rule
 module _ (s : Onsets) {t : ℤ} where
@@ -43,5 +40,6 @@ module _ (s : Onsets) {t : ℤ} where
   pub first_after : {after a : ℤ} → IsLast (Contains s.listed.items) t a → after <ℤ a → ((u : ℤ) → IsKeptAt s u → u ≤ℤ t → u ≤ℤ after) → IsLast (Has s) t a
   first_after x late none = grind (arith, ints)
 
-pub last_of_second : {t s : ℤ} (a b : ℤ → Type 0) → ((u : ℤ) → a u → t <ℤ u) → IsLast b t s → IsLast (λ v. a v ⊎ b v) t s
-last_of_second a b none x = grind (arith, ints)
+pub last_of_second : {t : ℤ} (a b : ℤ → Type 0) (second : Option ℤ) → ((u : ℤ) → a u → t <ℤ u) → IsLastOf b t second → IsLastOf (λ v. a v ⊎ b v) t second
+last_of_second a b (Some s) none x = grind (arith, ints)
+last_of_second a b None none x = λ u h. elim h [ inl p ↦ none u p | inr p ↦ x u p ]

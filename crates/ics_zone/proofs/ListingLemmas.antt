@@ -34,7 +34,7 @@ module _ (p : ObservanceSaid) where
 
   known : (locals : List Local) (t : ℤ) → Contains (instants_of p locals) t
       → (n : ℕ) × ((t ≡ instant_by p.offset_from n) × (list_any (λ l. number l == n) locals ≡ true))
-  known [] t h = let inside = h.1 in absurd (omega arith)
+  known [] t h = absurd (omega (arith, h.1))
   known (l ∷ locals) t (zero, inside, is) = (number l, (sym is, or_left (number l == number l) _ (eq-eqb (number l) (number l) refl)))
   known (l ∷ locals) t (suc k, inside, is) =
       let later = known locals t (k, omega arith, is) in (later.0, (later.1.0, or_right (number l == later.0) _ later.1.1))
@@ -43,7 +43,7 @@ module _ (p : ObservanceSaid) where
   complete [] n e = absurd (false≢true e)
   complete (l ∷ locals) n e = elim (or_cases (number l == n) _ e) [
     | inl here ↦ (0, omega arith, ap (instant_by p.offset_from) (eqb-true (number l) n here))
-    | inr later ↦ (let c = complete locals n later in (suc c.0, omega (arith), c.2))
+    | inr later ↦ (let c = complete locals n later in (suc c.0, omega arith, c.2))
   ]
 
   pub listing_of : {sorted : List ℤ} (i : ℕ) → length p.rdates ≤ i → IsPermutation (instants_of p (p.start ∷ take i p.rdates)) sorted

@@ -33,8 +33,4 @@ same_in_minute m n e = grind (arith, nat_tests)
 pub marked-set_bit : (marks : List ℕ) (second k : ℕ) → second / 60 < length marks
     → is_marked (set marks (second / 60) (bit_or (get_or marks (second / 60) 0) (1 * 2 ^ (second % 60) % 18446744073709551616))) k
     ≡ ((k == second) || is_marked marks k)
-marked-set_bit marks second k h = elim (cases_eq (k / 60) (second / 60)) [
-  | inl e ↦ rw (e, get_or-set_same) (contains-or_bit (get_or marks (second / 60) 0) (second % 60) (k % 60) (omega arith)
-      ∙ ap (λ b. b || contains (get_or marks (second / 60) 0) (k % 60)) (same_in_minute k second e))
-  | inr ne ↦ rw (get_or-set_other) (let differ : k ≢ second = λ e. ne (ap (λ x. x / 60) e) in grind (arith, nat_tests))
-]
+marked-set_bit marks second k h = grind (arith, nat_tests, cases_eq, marked-set_same, marked-set_other, contains-or_bit, same_in_minute)

@@ -11,8 +11,7 @@ one_onset zone x y h l = grind (arith, ints)
 
 -- an onset that is not after t lies after no onset that comes before all
 not_both : (zone : List ObservanceSaid) (t : ℤ) (p q : ObservanceSaid) → IsInForce zone t p → IsBeforeAll zone t q → ⊥
-not_both zone t p q x y =
-    let least = y.least x.place x.since p x.onset in grind (arith, ints)
+not_both zone t p q x y = let least = y.least x.place x.since p x.onset in grind (arith, ints)
 
 pub offset_unique : (zone : List ObservanceSaid) (t a b : ℤ) → IsOffset zone t a → IsOffset zone t b → a ≡ b
 offset_unique zone t a b (inl (p, x, e)) (inl (q, y, f)) = e ∙ ap (λ p. p.offset_to) (one_onset zone x.onset y.onset

@@ -35,8 +35,7 @@ local-onset p t n e = let at : t +ℤ p.offset_from +ℤ pos epoch ≡ pos n = o
 
 -- an observance begins at its DTSTART
 pub start_is_onset : (p : ObservanceSaid) → is_onset p (instant_by p.offset_from (number p.start)) ≡ true
-start_is_onset p =
-    local-onset p (instant_by p.offset_from (number p.start)) (number p.start) refl
+start_is_onset p = local-onset p (instant_by p.offset_from (number p.start)) (number p.start) refl
     ∙ or_left _ _ ((Decides-eqb (number p.start) (number p.start)).1 refl)
 
 -- each onset has a number among the instants
@@ -56,21 +55,17 @@ natural-below (negsuc n) k h = absurd (omega arith)
 pub from_instants : (t : ℤ) (k : ℕ) → k < instants_to t → instant k ≤ℤ t
 from_instants t k h = let below = natural-below (t +ℤ pos (epoch + 86_401)) k h in omega (arith, ints)
 
-some_is_not_none : (p : ObservanceSaid) → Some p ≡ None → ⊥
-some_is_not_none p e = cc
-
 if_onset-none : (o : Option ObservanceSaid) (t : ℤ) (p : ObservanceSaid) → o ≡ Some p → is_onset p t ≡ true → if_onset o t ≡ None → ⊥
-if_onset-none o t p e is none = grind (arith, ints, some_is_not_none)
+if_onset-none o t p e is none = grind (arith, ints)
 
 module _ (zone : List ObservanceSaid) (facts : IsZone zone) where
   -- the last and the first onset of an instant
   last_at-some : (t : ℤ) (p : ObservanceSaid) → last_at zone t ≡ Some p →
       (i : ℕ) × IsOnset zone i t p × ((j : ℕ) (q : ObservanceSaid) → IsOnset zone j t q → j ≤ i)
   last_at-some t p e =
-      let found = rw e at (last_below-is (λ i. if_onset (slice_get zone i) t) (length zone)) in
-      let onset = if_onset-some (slice_get zone found.place) t p found.gives in (
+      let found = rw e at (last_below-is (λ i. if_onset (slice_get zone i) t) (length zone)) in (
         found.place,
-        (onset.0, onset.1),
+        if_onset-some (slice_get zone found.place) t p found.gives,
         λ j q h. let within = slice_get_within zone j q h.0 in grind (arith, ints, if_onset-none),
       )
 
@@ -78,11 +73,7 @@ module _ (zone : List ObservanceSaid) (facts : IsZone zone) where
       (i : ℕ) × IsOnset zone i t p × ((j : ℕ) (q : ObservanceSaid) → IsOnset zone j t q → i ≤ j)
   first_at-some t p e =
       let found = rw e at (first_below-is (λ i. if_onset (slice_get zone i) t) (length zone)) in
-      let onset = if_onset-some (slice_get zone found.place) t p found.gives in (
-        found.place,
-        (onset.0, onset.1),
-        λ j q h. grind (arith, ints, if_onset-none),
-      )
+      (found.place, if_onset-some (slice_get zone found.place) t p found.gives, λ j q h. grind (arith, ints, if_onset-none))
 
   last_at-none : (t : ℤ) (i : ℕ) (p : ObservanceSaid) → last_at zone t ≡ None → IsOnset zone i t p → ⊥
   last_at-none t i p none h = if_onset-none (slice_get zone i) t p h.0 h.1

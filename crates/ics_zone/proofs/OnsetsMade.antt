@@ -1,5 +1,5 @@
 -- What a zone holds of an observance has its onsets.
-use Rattle.std.proofs.Common.{◌≡◌, ℕ, ◌<◌, ◌≤◌, ◌⊎◌, inl, inr, Bool, true, ◌||◌, ◌&&◌, ◌==◌, int_le, refl, sym, ap, subst, ◌∙◌, arith, get_or, Option, Some, None}
+use Rattle.std.proofs.Common.{◌≡◌, ℕ, ◌<◌, ◌⊎◌, inl, inr, Bool, true, ◌||◌, ◌&&◌, ◌==◌, int_le, refl, sym, ap, subst, ◌∙◌, arith, get_or, Option, Some, None}
 use Rattle.std.proofs.Common.{option_map, Contains, IfSome, ℤ, ◌≤ℤ◌, MatchOption}
 use Rattle.std.proofs.lemmas.Bool.{or_cases, or_left, or_right, and_parts, and_from}
 use Rattle.std.specs.List.{list_any}

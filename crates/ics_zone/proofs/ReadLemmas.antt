@@ -11,21 +11,21 @@ use Rattle.ics_zone.specs.OnsetSets.{AreOnsetsOf}
 use Rattle.ics_zone.specs.ZoneOnsets.{AreOnsetsOfAll, HaveOffsets}
 
 -- where all were read in order, those at a place are of the observance there
-onsets_each : (zone : List ObservanceSaid) (list : List Onsets) → AllZip AreOnsetsOf zone list
-    → (i : ℕ) (p : ObservanceSaid) (d : Onsets) → slice_get zone i ≡ Some p → AreOnsetsOf p (get_or list i d)
-onsets_each [] list all i p d there = absurd (cc)
-onsets_each (q ∷ zone) [] all i p d there = absurd all
-onsets_each (q ∷ zone) (x ∷ list) all zero p d there = let same : q ≡ p = cc in rw (← same) all.0
-onsets_each (q ∷ zone) (x ∷ list) all (suc i) p d there = onsets_each zone list all.1 i p d there
+module _ (p : ObservanceSaid) (d : Onsets) where
+  onsets_each : (zone : List ObservanceSaid) (list : List Onsets) → AllZip AreOnsetsOf zone list → (i : ℕ) → slice_get zone i ≡ Some p
+      → AreOnsetsOf p (get_or list i d)
+  onsets_each [] list all i there = absurd (cc)
+  onsets_each (q ∷ zone) [] all i there = absurd all
+  onsets_each (q ∷ zone) (x ∷ list) all zero there = let same : q ≡ p = cc in rw (← same) all.0
+  onsets_each (q ∷ zone) (x ∷ list) all (suc i) there = onsets_each zone list all.1 i there
 
 pub onsets_of_all : (zone : List ObservanceSaid) (list : List Onsets) → AllZip AreOnsetsOf zone list → AreOnsetsOfAll zone list
-onsets_of_all zone list all = record { same_length = AllZip-long AreOnsetsOf zone list all; each = onsets_each zone list all }
+onsets_of_all zone list all = record { same_length = AllZip-long AreOnsetsOf zone list all; each = λ i p d. onsets_each p d zone list all i }
 
 -- more offsets are there too
 pub offsets_within : (zone : List ObservanceSaid) (old new : List ℤ) → ((t : ℤ) → Contains old t → Contains new t) → HaveOffsets old zone
     → HaveOffsets new zone
-offsets_within zone old new within have i p there =
-    let h = have i p there in record { from = within p.offset_from h.from; to = within p.offset_to h.to }
+offsets_within zone old new within have i p there = let h = have i p there in record { from = within p.offset_from h.from; to = within p.offset_to h.to }
 
 -- the offsets of observances, one after another
 abbrev pub both_offsets : List Observance → List ℤ

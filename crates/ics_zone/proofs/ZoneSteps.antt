@@ -37,11 +37,6 @@ abbrev pub AreLessTo : List ObservanceSaid → ℕ → ℤ → ℤ → ℤ → �
 AreLessTo zone count offset t at place =
     (i : ℕ) (s : ℤ) (p : ObservanceSaid) → i < count → IsOnset zone i s p → p.offset_to ≡ offset → s ≤ℤ t → (s <ℤ at) ⊎ ((s ≡ at) × (i < place))
 
--- the greatest onset of a window is the greatest
-pub within_is : {zone : List ObservanceSaid} {t : ℤ} {count : ℕ} {o : Option Latest} {l : Latest} (after : ℤ) → o ≡ Some l → IsLatestWithin zone after t count o
-    → IsLatest zone t count l
-within_is {zone = zone} {t = t} {count = count} after e h = (subst (λ x. IsLatestWithin zone after t count x) e h).0
-
 -- the last onset of the observance at a place that is not after an instant, with that place and the offset after it
 pub record IsLastOnset (k : ℕ) (o : Onsets) (t : ℤ) (e : Latest) : Type 0 where
   pub place : e.place ≡ k
@@ -96,8 +91,7 @@ module _ {zone : List ObservanceSaid} {list : List Onsets} {k : ℕ} {o : Onsets
 
     pub latest_some : {e new : Latest} (old : Option Latest) → IsLatestOf zone t k old
         → MatchOption old (new ≡ e) (λ f. ((new ≡ e) × (f.at ≤ℤ e.at)) ⊎ ((new ≡ f) × (e.at <ℤ f.at))) → IsLastOnset k o t e → IsLatest zone t (k + 1) new
-    latest_some None before is its =
-        rw is (this_one its (λ i s p l h early. absurd (let late = before i s p l h in omega (arith, ints))))
+    latest_some None before is its = rw is (this_one its (λ i s p l h early. absurd (let late = before i s p l h in omega (arith, ints))))
     latest_some (Some f) before (inl is) its =
         rw (is.0) (this_one its (λ i s p l h early. let low = before.greatest i s p l h early in grind (arith, ints)))
     latest_some (Some f) before (inr is) its =

@@ -23,8 +23,7 @@ Decides-int_lt s t = grind (arith, ints)
 
 -- the least instant of a kind, or None and none is up to a day after the local
 abbrev IsLeastOf : (ℤ → Type 0) → ℤ → Option ℤ → Type 0
-IsLeastOf P local found =
-    MatchOption found ((s : ℤ) → s ≤ℤ (local +ℤ pos 86_400) → P s → ⊥) (λ t. P t × ((s : ℤ) → P s → t ≤ℤ s))
+IsLeastOf P local found = MatchOption found ((s : ℤ) → s ≤ℤ (local +ℤ pos 86_400) → P s → ⊥) (λ t. P t × ((s : ℤ) → P s → t ≤ℤ s))
 
 -- the first instant near the local that passes a test is the least of its kind, where none is more than a day before the local
 module _ (P : ℤ → Type 0) (local : ℤ) (test : ℤ → Bool) (means : (s : ℤ) → Decides (test s) (P s))
@@ -65,5 +64,4 @@ module _ (offset : ℤ → ℤ) (short : (t : ℤ) → IsWithin 86_399 (offset t
         first = past.1;
         before = refl;
       })
-      by None None none past =
-          absurd (let bound = short (local +ℤ pos 86_400) in past (local +ℤ pos 86_400) (omega (arith, ints)) (omega (arith, ints)))
+      by None None none past = absurd (let bound = short (local +ℤ pos 86_400) in past (local +ℤ pos 86_400) (omega (arith, ints)) (omega (arith, ints)))

@@ -66,10 +66,8 @@ zone_offset_near zone t = let bound = zone_short zone t in (omega (arith, ints),
 
 -- the instant of a local is near it
 moment_near_by : (offset : ℤ → ℤ) (short : (t : ℤ) → IsWithin 86_399 (offset t)) (local t : ℤ) → IsMomentBy offset local t → IsNear (t -ℤ local)
-moment_near_by offset short local t (inl h) =
-    let bound = short t in (omega (arith, ints), omega (arith, ints))
-moment_near_by offset short local t (inr h) =
-    let bound = short (h.past -ℤ pos 1) in (omega (arith, ints), omega (arith, ints))
+moment_near_by offset short local t (inl h) = let bound = short t in (omega (arith, ints), omega (arith, ints))
+moment_near_by offset short local t (inr h) = let bound = short (h.past -ℤ pos 1) in (omega (arith, ints), omega (arith, ints))
 
 pub zone_moment_near : (zone : List Observance) (local : ℤ) → IsNear (zone_moment (observances_said zone) local -ℤ local)
 zone_moment_near zone local = moment_near_by (zone_offset (observances_said zone)) (zone_short zone) local (zone_moment (observances_said zone) local)

@@ -16,18 +16,10 @@ shown_by : {offset moment near : ℤ} (shown : ℤ) → IsWithin 86_399 offset �
     → shown ≡ int_max (pos 0) (int_min (near +ℤ offset +ℤ pos epoch +ℤ pos 1) (pos rules_end)) → unsigned_abs shown ≤ rules_end
     → IsShownBy offset moment (unsigned_abs shown)
 shown_by shown short near_is shown_is bound =
-    let is = abs-is shown (omega (arith, ints, clamps, shown_is)) in
-    record {
-      bound = bound;
-      shown = λ n l. omega (arith, ints, clamps, is, near_is, shown_is, short.0, short.1, l);
-      later = λ n l e. omega (arith, ints, clamps, is, near_is, shown_is, short.0, short.1, l, e);
-    }
+    let is = abs-is shown (omega (arith, ints, clamps)) in
+    record { bound = bound; shown = λ n l. omega (arith, ints, clamps); later = λ n l e. omega (arith, ints, clamps) }
 
 pub returns : goal.returns
 returns c =
-    let fits : SFits w64 c.args.moment = c.ranges.moment in
-    let near = simp to_z-of_z at c.clamp-moment.ensures.value in
-    let sum = c.from.ensures in
-    let shown = c.clamp.ensures.value in
-    shown_by (to_z w64 (of_z w64 c.clamp.result)) c.requires near
-    (omega (arith, ints, clamps, near, sum, shown, c.requires.0, c.requires.1)) (search rules)
+    let near = simp (to_z-of_z, c.ranges.moment) at c.clamp-moment.ensures.value in
+    shown_by (to_z w64 (of_z w64 c.clamp.result)) c.requires near (omega (arith, ints, clamps)) (search rules)

@@ -4,8 +4,8 @@ use Rattle.ics_zone.proofs.display_text.read_offset.Goals as goal
 
 -- a text of another length says no offset
 not_six : (text : List ℕ) → (length text < 6) ⊎ (7 ≤ length text) → None ≡ offset_said text
-not_six (a ∷ b ∷ c ∷ d ∷ e ∷ f ∷ []) (inl h) = absurd (omega (arith, h))
-not_six (a ∷ b ∷ c ∷ d ∷ e ∷ f ∷ []) (inr h) = absurd (omega (arith, h))
+not_six (a ∷ b ∷ c ∷ d ∷ e ∷ f ∷ []) (inl h) = absurd (omega arith)
+not_six (a ∷ b ∷ c ∷ d ∷ e ∷ f ∷ []) (inr h) = absurd (omega arith)
 not_six _ h = refl
 
 pub returns-in_default-clause-value : goal.returns-in_default-clause-value

@@ -13,34 +13,29 @@ loop-place-init c = record {
     overrides_none zone (length c.args.onsets.now) 60 (to_z w64 (of_z w64 c.args.seconds)) (to_z w64 (of_z w64 c.args.after) +ℤ pos 1),
     λ i s p from h late early later. absurd (
         let within = slice_get_within zone i p h.0 in
-        let n = all.same_length in
-        omega (arith, within, n, from)),
+        omega arith),
   );
 }
 
 pub loop-place-preserved : goal.loop-place-preserved
 loop-place-preserved c =
-    let fits : SFits w64 c.args.after = c.ranges.after in
-    let local : SFits w64 c.args.seconds = c.ranges.seconds in
-    let from : SFits w64 (c.args.after +ℤ pos 1) = omega (arith, ints, c.requires.bound, c.requires.high, c.requires.low) in
-    let marks = simp to_z-of_z at c.clear-clear.ensures.marks in
-    let clear = simp to_z-of_z at c.clear-clear.ensures.clear in
-    let before = simp to_z-of_z at c.loop-place.invariant.clears in
+    let from : SFits w64 (c.args.after +ℤ pos 1) = omega (arith, ints) in
+    let marks = simp (to_z-of_z, from, c.ranges.after, c.ranges.seconds) at c.clear-clear.ensures.marks in
+    let clear = simp (to_z-of_z, from, c.ranges.after, c.ranges.seconds) at c.clear-clear.ensures.clear in
+    let before = simp (to_z-of_z, c.ranges.after, c.ranges.seconds) at c.loop-place.invariant.clears in
     let k = c.loop-place.place - 1 in
-    let again : c.loop-place.place ≡ k + 1 = omega (arith, c.loop-place-test.true) in
-    rw (to_z-of_z w64 c.clear-clear.result (search rules), to_z-of_z w64 c.args.after fits, to_z-of_z w64 c.args.seconds local) (record {
+    let again : c.loop-place.place ≡ k + 1 = omega arith in
+    rw (to_z-of_z w64 c.clear-clear.result (search rules), to_z-of_z w64 c.args.after c.ranges.after, to_z-of_z w64 c.args.seconds c.ranges.seconds)
+    (record {
       length = c.clear-clear.ensures.length;
-      some = omega (arith, ints, c.clear-clear.ensures.some);
-      most = omega (arith, ints, c.clear-clear.ensures.most, c.loop-place.invariant.most);
+      some = omega (arith, ints);
+      most = omega (arith, ints);
       clears = λ zone all.
           let was = rw again at (before zone all) in
-          clears_more all (omega (arith, again, c.loop-place.auto.place)) c.index-onsets-place.is _ _ _ was.0 marks
-          (omega (arith, ints, c.clear-clear.ensures.most)) clear was.1;
+          clears_more all (omega arith) c.index-onsets-place.is _ _ _ was.0 marks (omega (arith, ints)) clear was.1;
     })
 
 pub returns-clause-clear : goal.returns-clause-clear
 returns-clause-clear c = λ zone all i s p h late early later.
-    let fits : SFits w64 c.args.after = c.ranges.after in
-    let local : SFits w64 c.args.seconds = c.ranges.seconds in
-    let clears = simp to_z-of_z at c.loop-place.invariant.clears in
-    (clears zone all).1 i s p (omega (arith, c.loop-place-test.false)) h late (omega (arith, ints, early)) later
+    let clears = simp (to_z-of_z, c.ranges.after, c.ranges.seconds) at c.loop-place.invariant.clears in
+    (clears zone all).1 i s p (omega arith) h late (omega (arith, ints)) later

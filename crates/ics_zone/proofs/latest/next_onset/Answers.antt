@@ -6,17 +6,15 @@ use Rattle.ics_zone.proofs.latest.next_onset.Goals as goal
 
 pub loop-one-preserved : goal.loop-one-preserved
 loop-one-preserved c =
-    let fits : SFits w64 c.args.after = c.ranges.after in
-    let first = simp to_z-of_z at c.next-next.ensures.next in
-    let none = simp to_z-of_z at c.loop-one.invariant.none in
-    rw (to_z-of_z w64 c.next-next.result (search rules), to_z-of_z w64 c.args.after fits) (record {
-      later = simp to_z-of_z at c.next-next.ensures.after;
-      in_bound = omega (arith, ints, c.next-next.ensures.bound, c.loop-one.invariant.in_bound);
+    let first = simp (to_z-of_z, c.ranges.after) at c.next-next.ensures.next in
+    let none = simp (to_z-of_z, c.ranges.after) at c.loop-one.invariant.none in
+    rw (to_z-of_z w64 c.next-next.result (search rules), to_z-of_z w64 c.args.after c.ranges.after) (record {
+      later = simp (to_z-of_z, c.ranges.after) at c.next-next.ensures.after;
+      in_bound = omega (arith, ints);
       none = λ zone all. between_more all c.loop-one-test.true c.one-item.is c.next-next.ensures.bound first (none zone all);
     })
 
 pub returns-clause-next : goal.returns-clause-next
 returns-clause-next c = λ zone all i s p h late.
-    let fits : SFits w64 c.args.after = c.ranges.after in
-    let none = simp to_z-of_z at c.loop-one.invariant.none in
-    none zone all i s p (let within = slice_get_within zone i p h.0 in let n = all.same_length in omega (arith, within, n, c.loop-one-test.false)) h late
+    let none = simp (to_z-of_z, c.ranges.after) at c.loop-one.invariant.none in
+    none zone all i s p (let within = slice_get_within zone i p h.0 in omega arith) h late

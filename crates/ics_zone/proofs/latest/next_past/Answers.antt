@@ -8,14 +8,13 @@ use Rattle.ics_zone.proofs.latest.next_past.Goals as goal
 
 pub loop-place-preserved-then-next-from : goal.loop-place-preserved-then-next-from
 loop-place-preserved-then-next-from c =
-    let offset : SFits w32 c.index-onsets-place.result.offset_to = search rules in
     let from : c.max-from.result ≡ int_max (to_z w64 (of_z w64 c.args.after)) (to_z w64 (of_z w64 c.args.seconds) -ℤ c.index-onsets-place.result.offset_to) =
-    (let max = c.max-from.ensures.value in let is = c.from.ensures in omega (arith, ints, clamps, max, is, offset, c.requires.bound.0, c.requires.bound.1)) in
+    (omega (arith, ints, clamps)) in
     record {
       later = c.loop-place.invariant.later;
       in_bound = c.loop-place.invariant.in_bound;
       none = λ zone all. past_before all c.loop-place-test.true c.index-onsets-place.is from (c.loop-place.invariant.none zone all)
-          c.loop-place.invariant.later (omega (arith, ints, c.if-next-from.true, to_z-of_z w64 c.max-from.result (search rules)));
+          c.loop-place.invariant.later (omega (arith, ints, to_z-of_z w64 c.max-from.result (search rules)));
     }
 
 pub next-next-requires-clause-sound : goal.next-next-requires-clause-sound
@@ -24,16 +23,14 @@ next-next-requires-clause-sound c = subst IsSound (sym c.index-onsets-place.is)
 
 pub loop-place-preserved : goal.loop-place-preserved
 loop-place-preserved c =
-    let offset : SFits w32 c.index-onsets-place.result.offset_to = search rules in
     let small : SFits w64 c.max-from.result = search rules in
-    let max = c.max-from.ensures.value in
     let from : c.max-from.result ≡ int_max (to_z w64 (of_z w64 c.args.after)) (to_z w64 (of_z w64 c.args.seconds) -ℤ c.index-onsets-place.result.offset_to) =
-    (let is = c.from.ensures in omega (arith, ints, clamps, max, is, offset, c.requires.bound.0, c.requires.bound.1)) in
+    (omega (arith, ints, clamps)) in
     let after = rw (to_z-of_z w64 c.max-from.result small) at c.next-next.ensures.after in
     let bound = c.next-next.ensures.bound in
     rw (to_z-of_z w64 c.next-next.result (search rules)) (record {
-      later = omega (arith, ints, clamps, after, from);
-      in_bound = omega (arith, ints, bound, c.loop-place.invariant.in_bound);
+      later = omega (arith, ints, clamps);
+      in_bound = omega (arith, ints);
       none = λ zone all. past_now all c.loop-place-test.true c.index-onsets-place.is from (c.loop-place.invariant.none zone all) bound
           (rw (to_z-of_z w64 c.max-from.result small) at c.next-next.ensures.next);
     })
@@ -42,10 +39,9 @@ pub returns : goal.returns
 returns c =
     let none = rw (to_z-of_z w64 c.args.seconds c.ranges.seconds, to_z-of_z w64 c.args.after c.ranges.after) at c.loop-place.invariant.none in
     record {
-      after = omega (arith, ints, c.loop-place.invariant.later);
-      bound = omega (arith, ints, c.loop-place.invariant.in_bound);
+      after = omega (arith, ints);
+      bound = omega (arith, ints);
       next = λ zone all i s p h late early.
           let within = slice_get_within zone i p h.0 in
-          let n = all.same_length in
-          none zone all i s p (omega (arith, within, n, c.loop-place-test.false)) h late early;
+          none zone all i s p (omega arith) h late early;
     }

@@ -13,8 +13,7 @@ loop-observance-preserved c =
       map_more observance_said c.args.observances.now c.loop-observance.observance-index c.observance-item.result
           c.loop-observance-test.true,
       ← c.observance-item.is,
-    )
-    (all_zipped_more AreOnsetsOf _ _ _ _ c.loop-observance.invariant c.in_ok-of.ensures)
+    ) (all_zipped_more AreOnsetsOf _ _ _ _ c.loop-observance.invariant c.in_ok-of.ensures)
 
 pub returns : goal.returns
 returns c = onsets_of_all _ _ (rw (take_all c.loop-observance.observance-index c.args.observances.now c.loop-observance-test.false) at

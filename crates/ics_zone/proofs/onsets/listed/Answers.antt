@@ -25,7 +25,7 @@ in_calendar local e =
     let tests : (int_le (year_begin 1) local.day ≡ true) × (int_le local.day (before_year 9_900) ≡ true) = and_true e in
     let low = int_le_true (year_begin 1) local.day tests.0 in
     let high = int_le_true local.day (before_year 9_900) tests.1 in
-    (omega (arith, ints, low), omega (arith, ints, high))
+    (omega (arith, ints), omega (arith, ints))
 
 pub number-requires-in-loop-rdate : goal.number-requires-in-loop-rdate
 number-requires-in-loop-rdate c =

@@ -10,7 +10,7 @@ parted : (list : List ℤ) (t : ℤ) → IsInOrder list → IsPartitionedBy (λ 
 parted list t up i j d l h e =
     let later = up i j d l h in
     let by = int_le_true (get_or list j d) t e in
-    true_int_le (get_or list i d) t (omega (arith, ints, later, by))
+    true_int_le (get_or list i d) t (omega (arith, ints))
 
 passed_is : (list : List ℤ) (t : ℤ) (k : ℕ) → k ≤ length list
     → IsPartitionPoint (λ s. int_le s t ≡ true) (λ s. int_le s t ≡ false) list k → IsPassed list t k

@@ -5,6 +5,4 @@ use Rattle.ics_zone.proofs.sixty.first_of.Goals as goal
 
 pub returns-clause-first : goal.returns-clause-first
 returns-clause-first c = λ n low.
-    first_seconds n _ (pos (c.args.minute * 60 + n)) c.args.count
-    (λ less. omega (arith, ints, clamps, less, c.clamp.ensures.value, c.clamp-2.ensures.value))
-    (λ less. omega (arith, ints, clamps, less, c.clamp.ensures.value, c.clamp-2.ensures.value))
+    first_seconds n _ (pos (c.args.minute * 60 + n)) c.args.count (λ less. omega (arith, ints, clamps)) (λ less. omega (arith, ints, clamps))

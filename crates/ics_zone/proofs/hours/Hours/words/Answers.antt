@@ -18,12 +18,11 @@ loop-minute-preserved c =
     record { is_size = c.first_of.ensures.first; is_part = c.front.ensures.members } in
     record {
       length = search rules;
-      words = words_more _ _ c.loop-minute.words (omega (arith, c.loop-minute.invariant.length, c.loop-minute-test.true)) front c.minute_from-word.ensures
+      words = words_more _ _ c.loop-minute.words (omega arith) front c.minute_from-word.ensures
           c.loop-minute.invariant.words;
     }
 
 pub returns : goal.returns
 returns c = λ k low.
-    let fits : SFits w64 c.args.count = c.ranges.count in
-    let words = simp to_z-of_z at c.loop-minute.invariant.words in
-    words k (omega (arith, low, c.loop-minute-test.false))
+    let words = simp (to_z-of_z, c.ranges.count) at c.loop-minute.invariant.words in
+    words k (omega arith)

@@ -7,17 +7,8 @@ use Rattle.ics_zone.proofs.observed.Observed.across_gap.Goals as goal
 
 pub returns : goal.returns
 returns c =
-    let fits : SFits w64 c.args.seconds = c.ranges.seconds in
-    let past : SFits w64 c.jump-past.result = search rules in
-    let at : to_z w64 (of_z w64 (to_z w64 (of_z w64 c.jump-past.result) -ℤ pos 1)) ≡ c.jump-past.result -ℤ pos 1 =
-    omega (arith, ints, c.jump-past.ensures.low, c.jump-past.ensures.high, c.requires.bound) in
+    let at : to_z w64 (of_z w64 (to_z w64 (of_z w64 c.jump-past.result) -ℤ pos 1)) ≡ c.jump-past.result -ℤ pos 1 = omega (arith, ints) in
     let short = zone_short c.args.self.now (c.jump-past.result -ℤ pos 1) in
     let before : c.offset.result ≡ zone_offset (observances_said c.args.self.now) (c.jump-past.result -ℤ pos 1) = search (rules, at, c.offset.ensures.value) in
-    let jump = simp to_z-of_z at c.jump-past.ensures.jump in
-    record {
-      skipped = c.requires.skipped;
-      past = c.jump-past.result;
-      is_later = jump.is_later;
-      first = jump.first;
-      before = omega (arith, ints, c.from.ensures, before, short, c.requires.bound);
-    }
+    let jump = simp (to_z-of_z, c.ranges.seconds) at c.jump-past.ensures.jump in
+    record { skipped = c.requires.skipped; past = c.jump-past.result; is_later = jump.is_later; first = jump.first; before = omega (arith, ints) }

@@ -10,17 +10,11 @@ clear_after-clear-requires-clause-sound c = rw c.deref.ensures.value (all_sound 
 
 pub returns-clause-earlier : goal.returns-clause-earlier
 returns-clause-earlier c = λ t l.
-    let fits : SFits w64 c.args.seconds = c.ranges.seconds in
-    let small : SFits w64 c.args.after = c.ranges.after in
-    let few : SFits w64 c.clear_after-clear.result = search rules in
     let known = rw c.self.view_is at c.self.invariant in
-    let clear = rw c.deref.ensures.value at (simp to_z-of_z at c.clear_after-clear.ensures.clear) in
+    let clear = rw c.deref.ensures.value at (simp (to_z-of_z, c.ranges.seconds, c.ranges.after) at c.clear_after-clear.ensures.clear) in
     earlier_before_next c.args.self.now known.some c.args.seconds c.requires.skipped
     c.args.after (c.args.after +ℤ c.clear_after-clear.result +ℤ pos 1) c.requires.earlier (clear (observances_said c.args.self.now) known.asked) t
-    (let least = c.min.ensures in omega (arith, ints, clamps, l, least))
+    (omega (arith, ints, clamps))
 
 pub returns-clause-low : goal.returns-clause-low
-returns-clause-low c =
-    let few : SFits w64 c.clear_after-clear.result = search rules in
-    let least = c.min.ensures.value in
-    omega (arith, ints, clamps, least, c.clear_after-clear.ensures.some, c.clear_after-clear.ensures.most, c.requires.low, c.requires.high, c.requires.bound)
+returns-clause-low c = omega (arith, ints, clamps)

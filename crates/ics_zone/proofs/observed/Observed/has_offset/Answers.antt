@@ -10,9 +10,7 @@ overrides-requires c = rw c.deref.ensures.value (all_sound _ _ c.self.invariant.
 
 pub returns-then-overrides : goal.returns-then-overrides
 returns-then-overrides c =
-    let fits : SFits w64 c.args.moment = c.ranges.moment in
-    let small : SFits w32 c.args.offset = c.ranges.offset in
     let known = rw c.self.view_is at c.self.invariant in
-    let over = rw c.deref.ensures.value at (simp to_z-of_z at c.overrides.ensures) in
+    let over = rw c.deref.ensures.value at (simp (to_z-of_z, c.ranges.moment, c.ranges.offset) at c.overrides.ensures) in
     overridden_other c.args.self.now known.some c.args.moment c.args.offset
     (over c.if-overrides.true (observances_said c.args.self.now) known.asked)

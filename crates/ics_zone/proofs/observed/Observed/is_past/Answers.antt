@@ -11,15 +11,10 @@ later_shown : (seconds shown a b : ℤ) → a ≡ seconds → b ≡ shown → Ma
 later_shown seconds shown a b x y = grind (arith, ints, less_or_not_z, true_int_lt, false_int_lt)
 
 pub overflow_add-result : goal.overflow_add-result
-overflow_add-result c =
-    let offset : SFits w32 c.offset.result = search rules in
-    omega (arith, ints, c.requires, c.from.ensures)
+overflow_add-result c = omega (arith, ints)
 
 pub returns : goal.returns
 returns c =
-    let moment : SFits w64 c.args.moment = c.ranges.moment in
-    let offset : SFits w32 c.offset.result = search rules in
-    let value = simp to_z-of_z at c.offset.ensures.value in
+    let value = simp (to_z-of_z, c.ranges.moment) at c.offset.ensures.value in
     later_shown c.args.seconds (shown (zone_offset (observances_said c.args.self.now)) c.args.moment) (to_z w64 (of_z w64 c.args.seconds))
-    (to_z w64 (of_z w64 (to_z w64 (of_z w64 c.args.moment) +ℤ to_z w64 (of_z w64 c.from.result)))) (omega (arith, ints))
-    (omega (arith, ints, value, c.from.ensures, c.requires))
+    (to_z w64 (of_z w64 (to_z w64 (of_z w64 c.args.moment) +ℤ to_z w64 (of_z w64 c.from.result)))) (omega (arith, ints)) (omega (arith, ints))

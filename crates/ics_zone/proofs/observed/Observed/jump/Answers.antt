@@ -10,10 +10,9 @@ use Rattle.ics_zone.proofs.observed.Observed.jump.Goals.{After-is_past}
 
 pub loop-after-init : goal.loop-after-init
 loop-after-init c = record {
-  low = omega (arith, ints, c.requires.bound.0, c.requires.bound.1);
-  high = omega (arith, ints, c.requires.bound.0, c.requires.bound.1);
-  earlier = λ t h. earlier_before c.args.self.now (to_z w64 (of_z w64 c.args.seconds)) t
-      (omega (arith, ints, h, c.requires.bound.0, c.requires.bound.1));
+  low = omega (arith, ints);
+  high = omega (arith, ints);
+  earlier = λ t h. earlier_before c.args.self.now (to_z w64 (of_z w64 c.args.seconds)) t (omega (arith, ints));
 }
 
 pub next_past-after-requires-clause-sound : goal.next_past-after-requires-clause-sound
@@ -22,50 +21,42 @@ next_past-after-requires-clause-sound c = rw c.deref.ensures.value (all_sound _ 
 -- before the next onset that shows a later local the clock shows earlier ones
 before_next : (c : After-is_past) (s : ℤ) → s <ℤ c.next_past-after.result → shown (zone_offset (observances_said c.args.self.now)) s <ℤ c.args.seconds
 before_next c =
-    let fits : SFits w64 c.args.seconds = c.ranges.seconds in
     let known = rw c.self.view_is at c.self.invariant in
-    let none = rw c.deref.ensures.value at (simp to_z-of_z at c.next_past-after.ensures.next) in
+    let none = rw c.deref.ensures.value at (simp (to_z-of_z, c.ranges.seconds) at c.next_past-after.ensures.next) in
     earlier_before_next c.args.self.now known.some c.args.seconds c.requires.skipped (to_z w64 c.loop-after.after-bits) c.next_past-after.result
-    (simp to_z-of_z at c.loop-after.invariant.earlier)
+    (simp (to_z-of_z, c.ranges.seconds) at c.loop-after.invariant.earlier)
     (past_clear (observances_said c.args.self.now) c.args.seconds _ _ (none (observances_said c.args.self.now) known.asked))
 
 pub returns-then-is_past-clause-jump : goal.returns-then-is_past-clause-jump
 returns-then-is_past-clause-jump c =
-    let fits : SFits w64 c.args.seconds = c.ranges.seconds in
     let next : SFits w64 c.next_past-after.result = search rules in
     rw (to_z-of_z w64 c.next_past-after.result next)
     (jump_at_next (zone_offset (observances_said c.args.self.now)) c.args.seconds c.requires.skipped c.next_past-after.result
-    (before_next (goal.at.returns-then-is_past-clause-jump c).After-is_past) (rw c.if-is_past.true at (simp to_z-of_z at c.is_past.ensures)))
+    (before_next (goal.at.returns-then-is_past-clause-jump c).After-is_past)
+    (rw c.if-is_past.true at (simp (to_z-of_z, next, c.ranges.seconds) at c.is_past.ensures)))
 
 pub loop-after-smaller : goal.loop-after-smaller
-loop-after-smaller c =
-    natural_less ((to_z w64 (of_z w64 c.args.seconds) +ℤ pos 86_401) -ℤ to_z w64 (of_z w64 c.clear_hours-after.result))
-    ((to_z w64 (of_z w64 c.args.seconds) +ℤ pos 86_401) -ℤ to_z w64 c.loop-after.after-bits)
-    (omega (arith, ints, c.clear_hours-after.ensures.high))
-    (omega (arith, ints, c.next_past-after.ensures.after, c.clear_hours-after.ensures.low))
+loop-after-smaller c = natural_less (to_z w64 (of_z w64 c.args.seconds) +ℤ pos 86_401) (to_z w64 c.loop-after.after-bits)
+    (to_z w64 (of_z w64 c.clear_hours-after.result)) (omega (arith, ints)) (omega (arith, ints))
 
 pub loop-after-preserved : goal.loop-after-preserved
 loop-after-preserved c =
-    rw (to_z-of_z w64 c.clear_hours-after.result (search rules)) (record {
-      low = omega (arith, ints, c.loop-after.invariant.low, c.next_past-after.ensures.after, c.clear_hours-after.ensures.low);
-      high = omega (arith, ints, c.clear_hours-after.ensures.high);
-      earlier = c.clear_hours-after.ensures.earlier;
-    })
+    rw (to_z-of_z w64 c.clear_hours-after.result (search rules))
+    (record { low = omega (arith, ints); high = omega (arith, ints); earlier = c.clear_hours-after.ensures.earlier })
 
 pub clear_hours-after-requires-clause-earlier : goal.clear_hours-after-requires-clause-earlier
 clear_hours-after-requires-clause-earlier c =
-    let fits : SFits w64 c.args.seconds = c.ranges.seconds in
     let next : SFits w64 c.next_past-after.result = search rules in
-    rw (to_z-of_z w64 c.next_past-after.result next, to_z-of_z w64 c.args.seconds fits)
+    rw (to_z-of_z w64 c.next_past-after.result next, to_z-of_z w64 c.args.seconds c.ranges.seconds)
     (earlier_at_next (zone_offset (observances_said c.args.self.now)) c.args.seconds c.requires.skipped c.next_past-after.result
-    (before_next (goal.at.clear_hours-after-requires-clause-earlier c).After-is_past) (rw c.if-is_past.false at (simp to_z-of_z at c.is_past.ensures)))
+    (before_next (goal.at.clear_hours-after-requires-clause-earlier c).After-is_past)
+    (rw c.if-is_past.false at (simp (to_z-of_z, next, c.ranges.seconds) at c.is_past.ensures)))
 
 pub returns-clause-jump : goal.returns-clause-jump
 returns-clause-jump c =
-    let fits : SFits w64 c.args.seconds = c.ranges.seconds in
-    let earlier = simp to_z-of_z at c.loop-after.invariant.earlier in
+    let earlier = simp (to_z-of_z, c.ranges.seconds) at c.loop-after.invariant.earlier in
     absurd (
     let more = later_after c.args.self.now c.args.seconds (to_z w64 c.loop-after.after-bits)
-    (omega (arith, ints, c.loop-after-test.false, c.requires.bound.0, c.requires.bound.1)) in
+    (omega (arith, ints)) in
     let less = earlier (to_z w64 c.loop-after.after-bits) (omega (arith, ints)) in
-    omega (arith, ints, more, less))
+    omega (arith, ints))

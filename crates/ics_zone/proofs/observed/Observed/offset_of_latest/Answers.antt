@@ -13,9 +13,8 @@ first_offset-requires-clause-sound c = rw c.deref-in-None.ensures.value (all_sou
 
 pub returns-in-Some : goal.returns-in-Some
 returns-in-Some c =
-    let fits : SFits w64 c.args.moment = c.ranges.moment in
     let known = rw c.self.view_is at c.self.invariant in
-    let found = rw c.deref.ensures.value at (simp to_z-of_z at c.latest_of.ensures) in
+    let found = rw c.deref.ensures.value at (simp (to_z-of_z, c.ranges.moment) at c.latest_of.ensures) in
     let value = latest_is c.args.self.now known.some c.args.moment c.in-Some.latest
     (rw c.in-Some.is at (found (observances_said c.args.self.now) known.asked)) in
     rw (to_z-of_z w32 c.in-Some.latest.offset (search rules), value)
@@ -23,9 +22,8 @@ returns-in-Some c =
 
 pub returns-in-None : goal.returns-in-None
 returns-in-None c =
-    let fits : SFits w64 c.args.moment = c.ranges.moment in
     let known = rw c.self.view_is at c.self.invariant in
-    let found = rw c.deref.ensures.value at (simp to_z-of_z at c.latest_of.ensures) in
+    let found = rw c.deref.ensures.value at (simp (to_z-of_z, c.ranges.moment) at c.latest_of.ensures) in
     let first = rw c.deref-in-None.ensures.value at c.first_offset.ensures in
     let value = none_is c.args.self.now known.some c.args.moment c.first_offset.result
     (rw c.in-None.is at (found (observances_said c.args.self.now) known.asked)) (first (observances_said c.args.self.now) known.asked) in

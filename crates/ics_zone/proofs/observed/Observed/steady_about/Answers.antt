@@ -13,13 +13,13 @@ next_onset-next-requires-clause-sound c = rw c.deref-2.ensures.value (all_sound 
 
 pub returns : goal.returns
 returns c =
-    let fits : SFits w64 c.args.near = c.ranges.near in
-    let at : SFits w64 c.in_ok-latest.latest.at = search rules in
-    let small : SFits w32 c.in_ok-latest.latest.offset = search rules in
     let known = rw c.self.view_is at c.self.invariant in
-    let found = rw c.deref.ensures.value at (simp to_z-of_z at c.in_ok-latest.ensures) in
-    let none = rw c.deref-2.ensures.value at (simp to_z-of_z at c.next_onset-next.ensures.next) in
-    rw (to_z-of_z w64 c.next_onset-next.result (search rules), to_z-of_z w64 c.in_ok-latest.latest.at at, to_z-of_z w32 c.in_ok-latest.latest.offset small)
-    (steady_since c.args.self.now known.some c.args.near c.next_onset-next.result
-    (none (observances_said c.args.self.now) known.asked)
+    let found = rw c.deref.ensures.value at (simp (to_z-of_z, c.ranges.near) at c.in_ok-latest.ensures) in
+    let none = rw c.deref-2.ensures.value at (simp (to_z-of_z, c.ranges.near) at c.next_onset-next.ensures.next) in
+    rw (
+      to_z-of_z w64 c.next_onset-next.result (search rules),
+      to_z-of_z w64 c.in_ok-latest.latest.at (search rules),
+      to_z-of_z w32 c.in_ok-latest.latest.offset (search rules),
+    )
+    (steady_since c.args.self.now known.some c.args.near c.next_onset-next.result (none (observances_said c.args.self.now) known.asked)
     c.in_ok-latest.latest (found (observances_said c.args.self.now) known.asked))

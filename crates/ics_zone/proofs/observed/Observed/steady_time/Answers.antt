@@ -8,12 +8,8 @@ use Rattle.ics_zone.proofs.observed.Observed.steady_time.Goals as goal
 
 pub returns : goal.returns
 returns c =
-    let fits : SFits w64 c.args.seconds = c.ranges.seconds in
-    let offset : SFits w32 c.in_ok-steady.steady.offset = search rules in
-    let about = simp to_z-of_z at c.in_ok-steady.ensures.over in
+    let about = c.in_ok-steady.ensures.over in
     let is : to_z w64 (of_z w64 (to_z w64 (of_z w64 c.args.seconds) -ℤ to_z w64 (of_z w64 c.from.result))) ≡ c.args.seconds -ℤ c.in_ok-steady.steady.offset =
-    omega (arith, ints, c.from.ensures, c.requires.bound.0, c.requires.bound.1, offset) in
+    omega (arith, ints) in
     subst (IsFirstTime (zone_offset (observances_said c.args.self.now)) c.args.seconds) (sym is)
-    (shown_once c.args.self.now c.args.seconds c.in_ok-steady.ensures.steady
-    (omega (arith, ints, about.0, c.requires.bound.0, c.requires.bound.1))
-    (omega (arith, ints, about.1, c.requires.bound.0, c.requires.bound.1)))
+    (shown_once c.args.self.now c.args.seconds c.in_ok-steady.ensures.steady (omega (arith, ints)) (omega (arith, ints)))

@@ -10,12 +10,9 @@ latest_of-requires c = rw c.deref.ensures.value (all_sound _ _ c.self.invariant.
 
 pub returns-clause-steady : goal.returns-clause-steady
 returns-clause-steady c =
-    let fits : SFits w64 c.args.to = c.ranges.to in
-    let at : SFits w64 c.in_ok-latest.latest.at = search rules in
     let known = rw c.self.view_is at c.self.invariant in
-    let found = rw c.deref.ensures.value at (simp to_z-of_z at c.in_ok-latest.ensures) in
-    let next : to_z w64 (of_z w64 (to_z w64 (of_z w64 c.args.to) +ℤ pos 1)) ≡ c.args.to +ℤ pos 1 = omega (arith, ints, c.requires.0, c.requires.1) in
-    rw (next, to_z-of_z w64 c.in_ok-latest.latest.at at, to_z-of_z w32 c.in_ok-latest.latest.offset (search rules))
-    (steady_since c.args.self.now known.some c.args.to (c.args.to +ℤ pos 1)
-    (λ i s p h l. omega (arith, ints, l))
+    let found = rw c.deref.ensures.value at (simp (to_z-of_z, c.ranges.to) at c.in_ok-latest.ensures) in
+    let next : to_z w64 (of_z w64 (to_z w64 (of_z w64 c.args.to) +ℤ pos 1)) ≡ c.args.to +ℤ pos 1 = omega (arith, ints) in
+    rw (next, to_z-of_z w64 c.in_ok-latest.latest.at (search rules), to_z-of_z w32 c.in_ok-latest.latest.offset (search rules))
+    (steady_since c.args.self.now known.some c.args.to (c.args.to +ℤ pos 1) (λ i s p h l. omega (arith, ints))
     c.in_ok-latest.latest (found (observances_said c.args.self.now) known.asked))

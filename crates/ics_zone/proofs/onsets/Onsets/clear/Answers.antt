@@ -13,29 +13,26 @@ minute_of : (c : After-front)
 minute_of c = record {
   front = record { is_size = rw (to_z-of_z w64 c.seconds_to-low.result (search rules)) at c.first_of.ensures.first; is_part = c.front.ensures.members };
   new = λ k e early m. (
-    rw (to_z-of_z w64 c.args.from c.ranges.from) at c.within-onsets.ensures.known k (omega (arith, e, c.loop-minute-test.true)) m,
-    (let low = c.seconds_to-low.ensures.first k early in omega (arith, ints, low, c.requires.local, c.from.ensures)),
+    rw (to_z-of_z w64 c.args.from c.ranges.from) at c.within-onsets.ensures.known k (omega arith) m,
+    (let low = c.seconds_to-low.ensures.first k early in omega (arith, ints)),
   );
-  inside = omega (arith, c.loop-minute.invariant.length, c.loop-minute-test.true);
+  inside = omega arith;
 }
 
 pub returns-in-Some : goal.returns-in-Some
 returns-in-Some c =
     let minute = minute_of (goal.at.returns-in-Some c).After-front in
-    let small = c.in-Some.ensures.0 in
-    let least = c.min.ensures.value in
     let complete = rw (to_z-of_z w64 c.args.from c.ranges.from) at c.within-onsets.ensures.complete in
     record {
       length = simp length-set c.loop-minute.invariant.length;
-      some = omega (arith, ints, clamps, least, c.requires.some, c.from-in-Some.ensures);
-      most = omega (arith, ints, c.min.ensures.self_bound);
+      some = omega (arith, ints, clamps);
+      most = omega (arith, ints);
       marks = marks_minute minute _
           (rw (to_z-of_z w64 c.args.from c.ranges.from, to_z-of_z w64 c.args.seconds c.ranges.seconds) at c.loop-minute.invariant.marks);
       clear = λ k contains early later.
-          let low : k < c.loop-minute.minute * 60 + c.in-Some.second =
-          omega (arith, ints, clamps, early, small, least, c.requires.most, c.requires.some, c.loop-minute-test.true, c.from-in-Some.ensures) in
-          clear_minute minute c.in-Some.second (omega (arith, small)) c.loop-minute.invariant.clear c.in-Some.ensures.1 k low
-          (complete k (omega (arith, low, small, c.loop-minute-test.true)) contains);
+          let small = c.in-Some.ensures.0 in
+          let low : k < c.loop-minute.minute * 60 + c.in-Some.second = omega (arith, ints, clamps) in
+          clear_minute minute c.in-Some.second (omega arith) c.loop-minute.invariant.clear c.in-Some.ensures.1 k low (complete k (omega arith) contains);
     }
 
 pub loop-minute-preserved : goal.loop-minute-preserved
@@ -45,7 +42,7 @@ loop-minute-preserved c =
     rw (to_z-of_z w64 c.args.from c.ranges.from, to_z-of_z w64 c.args.seconds c.ranges.seconds) (record {
       length = search rules;
       marks = marks_minute minute _ marks;
-      clear = λ k early. clear_minute minute 60 (omega arith) c.loop-minute.invariant.clear c.in_default.ensures k (omega (arith, early));
+      clear = λ k early. clear_minute minute 60 (omega arith) c.loop-minute.invariant.clear c.in_default.ensures k (omega arith);
     })
 
 pub returns : goal.returns
@@ -57,8 +54,8 @@ returns c =
       most = omega (arith, ints);
       marks = rw (to_z-of_z w64 c.args.from c.ranges.from, to_z-of_z w64 c.args.seconds c.ranges.seconds) at c.loop-minute.invariant.marks;
       clear = λ k contains early later.
-          let low : k < 3_600 = omega (arith, ints, early, c.requires.most) in
-          c.loop-minute.invariant.clear k (omega (arith, low, c.loop-minute-test.false)) (complete k low contains);
+          let low : k < 3_600 = omega (arith, ints) in
+          c.loop-minute.invariant.clear k (omega arith) (complete k low contains);
     }
 
 pub within-onsets-requires-clause-near : goal.within-onsets-requires-clause-near
@@ -68,23 +65,18 @@ pub seconds_to-low-requires : goal.seconds_to-low-requires
 seconds_to-low-requires c = rw (to_z-of_z w64 c.args.from c.ranges.from) c.requires.near
 
 pub overflow_sub-seconds : goal.overflow_sub-seconds
-overflow_sub-seconds c =
-    let to : SFits w32 c.args.self.now.offset_to = search rules in
-    omega (arith, ints, c.requires.local, c.from.ensures)
+overflow_sub-seconds c = omega (arith, ints)
 
 pub loop-minute-init : goal.loop-minute-init
 loop-minute-init c =
-    rw (to_z-of_z w64 c.args.from c.ranges.from, to_z-of_z w64 c.args.seconds c.ranges.seconds) (record {
-      length = c.requires.length;
-      marks = λ k marked. inl marked;
-      clear = λ k early. absurd (omega (arith, early));
-    })
+    rw (to_z-of_z w64 c.args.from c.ranges.from, to_z-of_z w64 c.args.seconds c.ranges.seconds)
+    (record { length = c.requires.length; marks = λ k marked. inl marked; clear = λ k early. absurd (omega arith) })
 
 pub bounds-over-minute-in-loop-minute-2 : goal.bounds-over-minute-in-loop-minute-2
-bounds-over-minute-in-loop-minute-2 c = simp length-set (omega (arith, c.loop-minute.invariant.length, c.loop-minute-test.true))
+bounds-over-minute-in-loop-minute-2 c = simp length-set (omega arith)
 
 pub overflow_mul-minute : goal.overflow_mul-minute
-overflow_mul-minute c = omega (arith, ints, c.loop-minute-test.true)
+overflow_mul-minute c = omega (arith, ints)
 
 pub overflow_add-minute : goal.overflow_add-minute
-overflow_add-minute c = let small = c.in-Some.ensures.0 in omega (arith, ints, small, c.loop-minute-test.true, c.from-in-Some.ensures)
+overflow_add-minute c = omega (arith, ints)

@@ -9,9 +9,8 @@ first_is : (s : Onsets) → IsSound s → (f : ℤ) → f ≡ get_or s.listed.it
 first_is s sound f is t (inl h) =
     let low = sound.in_order 0 h.0 t (omega arith) h.1 in
     let same = get_or_default s.listed.items 0 t f sound.some in
-    let at = h.2 in
-    omega (arith, ints, low, same, at, is)
-first_is s sound f is t (inr h) = let low = sound.first t f h in omega (arith, ints, low, is)
+    omega (arith, ints)
+first_is s sound f is t (inr h) = let low = sound.first t f h in omega (arith, ints)
 
 pub returns-clause-first : goal.returns-clause-first
 returns-clause-first c = rw (to_z-of_z w64 c.index.result.now (search rules)) (first_is c.args.self.now c.requires c.index.result.now c.index.ensures)

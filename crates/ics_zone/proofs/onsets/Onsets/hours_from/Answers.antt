@@ -6,9 +6,7 @@ use Rattle.ics_zone.proofs.HourLemmas.{told_by}
 use Rattle.ics_zone.proofs.onsets.Onsets.hours_from.Goals as goal
 
 pub returns : goal.returns
-returns c = IfSome_then c.of.result c.of.ensures (λ hours. told_by c.args.from _ c.in-Some.is
-    (omega (arith, ints, c.if-local-lt0.false, c.from.ensures, c.requires.near, c.requires.sound.from_in))
-    (omega (arith, ints, c.if-local-lt0.false, c.if-local-ge-LAST.false)))
+returns c = IfSome_then c.of.result c.of.ensures (λ hours. told_by c.args.from _ c.in-Some.is (omega (arith, ints)) (omega (arith, ints)))
 
 pub returns-in_default : goal.returns-in_default
 returns-in_default c = grind (arith, common_steps)

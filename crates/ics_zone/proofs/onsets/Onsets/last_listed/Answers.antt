@@ -12,5 +12,5 @@ pub returns-else-passed-eq0 : goal.returns-else-passed-eq0
 returns-else-passed-eq0 c =
     let passed = rw (c.deref.ensures.value, to_z-of_z w64 c.args.moment c.ranges.moment) at c.passed-passed.ensures in
     rw (to_z-of_z w64 c.index.result.now (search rules))
-    (last_listed c.args.self.now.listed.items c.requires.in_order c.args.moment _ passed (omega (arith, c.if-passed-eq0.false)) c.index.result.now
+    (last_listed c.args.self.now.listed.items c.requires.in_order c.args.moment _ passed (omega arith) c.index.result.now
     c.index.ensures)

@@ -5,12 +5,11 @@ use Rattle.ics_zone.proofs.onsets.Onsets.next.Goals as goal
 
 pub returns : goal.returns
 returns c =
-    let fits : SFits w64 c.args.after = c.ranges.after in
     let kept : SFits w64 c.next_by_rule-kept.result = search rules in
-    let bound = simp to_z-of_z at c.next_listed.ensures.bound in
+    let bound = simp (to_z-of_z, kept) at c.next_listed.ensures.bound in
     rw (to_z-of_z w64 c.next_listed.result (search rules)) (record {
-      after = simp to_z-of_z at c.next_listed.ensures.after;
-      bound = omega (arith, ints, bound, c.next_by_rule-kept.ensures.bound);
-      next = earlier_of c.args.self.now c.args.after bound (simp to_z-of_z at c.next_listed.ensures.next)
-          (simp to_z-of_z at c.next_by_rule-kept.ensures.next);
+      after = simp (to_z-of_z, c.ranges.after) at c.next_listed.ensures.after;
+      bound = omega (arith, ints);
+      next = earlier_of c.args.self.now c.args.after bound (simp (to_z-of_z, c.ranges.after) at c.next_listed.ensures.next)
+          (simp (to_z-of_z, c.ranges.after) at c.next_by_rule-kept.ensures.next);
     })

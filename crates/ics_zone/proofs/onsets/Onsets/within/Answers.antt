@@ -1,14 +1,10 @@
-use Rattle.std.proofs.Common.{inl, inr, w64, replicate}
+use Rattle.std.proofs.Common.{arith, w64}
 use Rattle.std.proofs.lemmas.Int.{to_z-of_z}
-use Rattle.ics_zone.specs.Marks.{is_marked}
-use Rattle.ics_zone.proofs.Cases.{not_both}
 use Rattle.ics_zone.proofs.MarkLemmas.{none_marked}
 use Rattle.ics_zone.proofs.onsets.Onsets.within.Goals as goal
 
 pub returns-in-None-clause-known : goal.returns-in-None-clause-known
 returns-in-None-clause-known c = λ k low m.
-    let known = rw (to_z-of_z w64 c.args.from c.ranges.from) at c.mark_each-in-None.ensures.known in
-    elim (known k m) [
-      | inl old ↦ absurd (not_both (is_marked (replicate 60 0) k) old (none_marked 60 k))
-      | inr h ↦ h
-    ]
+    let known = rw (to_z-of_z w64 c.args.from c.ranges.from) at c.mark_each-in-None.ensures.known k m in
+    let none = none_marked 60 k in
+    grind arith

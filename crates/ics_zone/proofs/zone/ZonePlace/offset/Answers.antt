@@ -11,14 +11,12 @@ offset_at-requires c = rw (to_z-of_z w64 c.args.moment c.ranges.moment) c.requir
 
 pub returns-in-ByObservances-clause-means : goal.returns-in-ByObservances-clause-means
 returns-in-ByObservances-clause-means c =
-    let fits : SFits w64 c.args.moment = c.ranges.moment in
     let kind : c.args.self.now ≡ ByObservances c.in-ByObservances.observed = sym c.self.view_is ∙ c.in-ByObservances.is in
-    rw (kind, to_z-of_z w32 c.offset.result (search rules)) (simp to_z-of_z at c.offset.ensures.means)
+    rw (kind, to_z-of_z w32 c.offset.result (search rules)) (simp (to_z-of_z, c.ranges.moment) at c.offset.ensures.means)
 
 pub returns-in-ByFile : goal.returns-in-ByFile
 returns-in-ByFile c =
-    let fits : SFits w64 c.args.moment = c.ranges.moment in
     let kind : c.args.self.now ≡ ByFile c.in-ByFile.table = sym c.self.view_is ∙ c.in-ByFile.is in
-    let is = (simp to_z-of_z at c.offset_at.ensures) ∙ table_offset (plain_zone c.tzif.result) _ c.tzif.ensures c.args.moment in
+    let is = (simp (to_z-of_z, c.ranges.moment) at c.offset_at.ensures) ∙ table_offset (plain_zone c.tzif.result) _ c.tzif.ensures c.args.moment in
     rw (kind, to_z-of_z w32 c.offset_at.result (search rules), ← c.deref.ensures)
     (record { means = is; value = is ∙ sym (file_offset_is c.deref.result.now c.args.moment) })
