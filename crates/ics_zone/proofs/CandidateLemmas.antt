@@ -1,5 +1,5 @@
 -- The first instant that shows a local is the local less one of the offsets.
-use Rattle.std.proofs.Common.{◌≡◌, ◌≢◌, ℕ, ◌+◌, ◌<◌, ◌≤◌, inl, inr, Bool, true, false, sym, ap, ◌∙◌, arith, List, length, get_or, Option, Some, None, Contains}
+use Rattle.std.proofs.Common.{◌≡◌, ◌≢◌, ℕ, ◌+◌, ◌<◌, ◌≤◌, Bool, true, false, sym, ap, ◌∙◌, arith, List, length, get_or, Option, Some, None, Contains}
 use Rattle.std.proofs.Common.{ℤ, ◌-ℤ◌, ◌≤ℤ◌, MatchOption}
 use Rattle.std.specs.Int.{int_min}
 use Rattle.std.proofs.lemmas.Int.{ints, clamps}

@@ -6,9 +6,6 @@ use Rattle.std.proofs.lemmas.Bool.Decides.{nat_tests}
 pub less_or_not_z : (a b : ℤ) → (a <ℤ b) ⊎ (b ≤ℤ a)
 less_or_not_z a b = grind (arith, ints)
 
-pub less_same_or_more : (a b : ℕ) → (a < b) ⊎ (a ≡ b) ⊎ (b < a)
-less_same_or_more a b = grind (arith, nat_tests)
-
 pub below_or_at : (a b : ℕ) → a ≤ b → (a < b) ⊎ (a ≡ b)
 below_or_at a b h = grind (arith, nat_tests)
 

@@ -1,7 +1,7 @@
 -- What a zone file says is what jiff answers for a table that was read from it.
-use Rattle.std.proofs.Common.{Decides, ◌≡◌, ℕ, ◌+◌, ◌-◌, ℤ, pos, Bool, true, false, cond, int_le, List, [], ◌∷◌, map, length, get_or}
+use Rattle.std.proofs.Common.{Decides, ◌≡◌, ℕ, ◌+◌, ◌-◌, ℤ, pos, Bool, true, false, cond, int_le, List, [], ◌∷◌, map, length}
 use Rattle.std.proofs.Common.{Option, Some, None, option_map, refl, sym, ap, ap₂, ◌∙◌, arith, if◌then◌else◌, vec_len}
-use Rattle.std.proofs.lemmas.Bool.{and_parts, false_from_ne_true}
+use Rattle.std.proofs.lemmas.Bool.{and_parts}
 use Rattle.std.proofs.lemmas.Bool.Decides.{nat_tests}
 use Rattle.std.proofs.lemmas.Slice.Eq.{bytes_eq-Decides}
 use Rattle.std.specs.List.{prefix_len}
@@ -24,18 +24,15 @@ use Rattle.jiff_tz.specs.Abbreviation.{abbreviation_text}
 use Rattle.jiff_tz.specs.Year.{year_of_nanos}
 use Rattle.jiff_tz.proofs.YearLemmas.{year_of_nanos-civil}
 use Rattle.jiff_tz.specs.declared.ambiguous.AmbiguousOffset.{AmbiguousOffset}
-use Rattle.jiff_tz.specs.declared.ambiguous.AmbiguousOffset.TheVariants.{Unambiguous}
 use Rattle.jiff_tz.specs.declared.info.Dst.{Dst as DstFlag}
 use Rattle.jiff_tz.specs.declared.info.OffsetInfo.{OffsetInfo}
 use Rattle.jiff_tz.specs.declared.posix.DayTime.{DayTime}
 use Rattle.jiff_tz.specs.declared.posix.Dst.{Dst}
 use Rattle.jiff_tz.specs.declared.posix.TimeZone.{TimeZone}
 use Rattle.jiff_tz.specs.declared.tzif.Tzif.{Tzif}
-use Rattle.jiff_tz.specs.declared.tzif.transition.Transition.{Transition}
-use Rattle.jiff_tz.specs.declared.tzif.transition.LocalTimeType.{LocalTimeType}
-use Rattle.ics_zone.specs.ZoneFiles.{rule_moment, daylight_window, daylight_type, standard_type, is_inside, rule_type, type_by, rule_reading, compatible_by}
+use Rattle.ics_zone.specs.ZoneFiles.{rule_moment, daylight_window, is_inside, rule_type, type_by, rule_reading, compatible_by}
 use Rattle.ics_zone.specs.ZoneFiles.{row_at, offset_after, rule_after, count_at, civil_count_at, file_offset, file_reading}
-use Rattle.ics_zone.specs.ZoneFiles.{reading_after, is_flag, is_type, agrees}
+use Rattle.ics_zone.specs.ZoneFiles.{is_flag, is_type, agrees}
 
 moment_is : (year ahead : ℤ) (d : DayTime) → rule_moment year ahead (day_time_view d) ≡ rule_nanos year d ahead
 unfolding rule_nanos

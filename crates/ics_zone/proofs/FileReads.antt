@@ -1,16 +1,12 @@
 -- What jiff's reader answers for the bytes of a zone file, and what the file says.
-use Rattle.std.proofs.Common.{◌≡◌, ℕ, ◌≤◌, true, List, length, Option, Some, None, option_map, IfSome, Ok, refl, arith}
+use Rattle.std.proofs.Common.{◌≡◌, ℕ, ◌≤◌, List, length, Some, None, Ok, arith}
 use Rattle.std.proofs.lemmas.Bool.Decides.{nat_tests}
 use Rattle.jiff_core.specs.declared.error.Error.{Error}
 use Rattle.jiff_core.specs.declared.error.Error.TheVariants.{OutOfMemory}
-use Rattle.jiff_tz.specs.PosixText.{tz_view}
 use Rattle.jiff_tz.specs.Tzif.{tzif_view, RuleAgrees, IsParseFailure}
-use Rattle.jiff_tz.specs.TzifAgree.{FooterAgrees}
 use Rattle.jiff_tz.specs.TzifReader.{read_tzif}
-use Rattle.jiff_tz.specs.TzifText.{TransitionText}
-use Rattle.jiff_tz.specs.declared.posix.TimeZone.{TimeZone}
 use Rattle.jiff_tz.specs.declared.tzif.Tzif.{Tzif}
-use Rattle.ics_zone.specs.ZoneFiles.{agrees, zone_file}
+use Rattle.ics_zone.specs.ZoneFiles.{zone_file}
 use Rattle.ics_zone.proofs.FileLemmas.{agrees-Decides}
 
 -- a table is what the file says

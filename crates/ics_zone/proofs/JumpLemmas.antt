@@ -11,7 +11,7 @@ use Rattle.ics_zone.specs.declared.latest.Steady.{Steady}
 use Rattle.ics_zone.specs.declared.observance.Observance.{Observance}
 use Rattle.ics_zone.specs.declared.onsets.Onsets.{Onsets}
 use Rattle.ics_zone.specs.Observances.{ObservanceSaid, observances_said}
-use Rattle.ics_zone.specs.ZoneOffsets.{natural, IsOnset, IsNotLater, IsInForce, IsBeforeAll, IsOffset, zone_offset}
+use Rattle.ics_zone.specs.ZoneOffsets.{natural, IsOnset, IsInForce, IsBeforeAll, IsOffset, zone_offset}
 use Rattle.ics_zone.specs.Moments.{shown, IsFirstTime}
 use Rattle.ics_zone.specs.ZoneOnsets.{HaveOffsets, IsKnown, IsLatest, IsLatestOf, IsFirstOffset, IsNextPast, IsClear, IsJump, IsSteady, IsOverridden}
 use Rattle.ics_zone.specs.ZoneBounds.{zone_facts, zone_short}
@@ -90,9 +90,6 @@ module _ (observances : List Observance) (some : 0 < length (observances_said ob
     | inr h ↦ (let least = h.1.least over.place over.at over.observance over.onset in grind (arith, ints))
   ]
 
-  greater_at : (t : ℤ) (i j : ℕ) → i < j → IsNotLater t j t i → ⊥
-  greater_at t i j less later = grind (arith, ints)
-
   module _ (local : ℤ) (skipped : (t : ℤ) → shown (zone_offset zone) t ≢ local) (after next : ℤ)
       (earlier : (t : ℤ) → t ≤ℤ after → shown (zone_offset zone) t <ℤ local) (none : IsClear zone local after next) where
     -- a second after an earlier local the clock shows none later: under the same offset it would show this one, and no onset moves it on
@@ -112,7 +109,7 @@ module _ (observances : List Observance) (some : 0 < length (observances_said ob
         | inr low ↦ omega (arith, ints)
         | inl past ↦ absurd (
             let over = none f.place f.since p f.onset (omega (arith, ints)) (omega (arith, ints)) past in
-            greater_at f.since f.place over.0 over.1.1.1.0 (f.greatest over.0 f.since over.1.0 over.1.1.0 f.not_after))
+            let not_greater = f.greatest over.0 f.since over.1.0 over.1.1.0 f.not_after in grind (arith, ints))
       ]
     ]
     one_more s late early before (inr (p, f, is)) =
@@ -135,14 +132,6 @@ module _ (observances : List Observance) (some : 0 < length (observances_said ob
 -- where no onset shows a later local, none is to be overridden
 pub past_clear : (zone : List ObservanceSaid) (local after next : ℤ) → IsNextPast zone local after next → IsClear zone local after next
 past_clear zone local after next none i s p h late early past = absurd (let low = none i s p h late early in omega (arith, ints))
-
--- a day before a local the clock shows earlier ones, and a day after it later ones
-module _ (observances : List Observance) (local : ℤ) where
-  pub earlier_before : (t : ℤ) → t ≤ℤ (local -ℤ pos 86_400) → shown (zone_offset (observances_said observances)) t <ℤ local
-  earlier_before t h = let bound = zone_short observances t in omega (arith, ints)
-
-  pub later_after : (t : ℤ) → (local +ℤ pos 86_400) ≤ℤ t → local <ℤ shown (zone_offset (observances_said observances)) t
-  later_after t h = let bound = zone_short observances t in omega (arith, ints)
 
 -- a local is shown once where the offset holds within a day of it
 pub shown_once : {from next value : ℤ} (observances : List Observance) (local : ℤ) → IsSteady (zone_offset (observances_said observances)) from next value

@@ -1,5 +1,5 @@
 -- The last and the next onset of a rule.
-use Rattle.std.proofs.Common.{◌≡◌, ℕ, ◌+◌, ◌<◌, ◌≤◌, inl, inr, sym, subst, arith, true, Option, Some, Contains, ℤ, ◌<ℤ◌, ◌≤ℤ◌, MatchOption}
+use Rattle.std.proofs.Common.{◌≡◌, ℕ, ◌+◌, ◌<◌, inl, inr, sym, subst, arith, true, Option, Some, Contains, ℤ, ◌<ℤ◌, ◌≤ℤ◌, MatchOption}
 use Rattle.std.proofs.lemmas.Bool.{cases_lt}
 use Rattle.std.proofs.lemmas.Int.{ints}
 use Rattle.ics_rule.specs.Recurrence.{Recurrence}
@@ -9,7 +9,7 @@ use Rattle.ics_zone.specs.declared.onsets.Onsets.{Onsets}
 use Rattle.ics_zone.specs.Observances.{instant_by}
 use Rattle.ics_zone.specs.Latest.{IsLastKept, IsLast}
 use Rattle.ics_zone.specs.OnsetSets.{IsShownBy, IsShownTo, IsKeptBy, IsKeptAt, Has}
-use Rattle.ics_zone.proofs.Cases.{less_or_not_z, not_both}
+use Rattle.ics_zone.proofs.Cases.{less_or_not_z}
 
 -- where none is kept from a place on and before an end, a kept local before the end is before the place
 module _ (r : Recurrence) (from end : ℕ) where

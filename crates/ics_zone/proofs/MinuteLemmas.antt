@@ -1,5 +1,5 @@
 -- The marks of an hour, minute by minute.
-use Rattle.std.proofs.Common.{◌≡◌, ◌≢◌, ℕ, ◌*◌, ◌/◌, ◌%◌, ◌^◌, ◌<◌, inl, inr, refl, ◌==◌, ◌||◌, ap, ◌∙◌, arith, List, length, get_or, set, get_or-set_same}
+use Rattle.std.proofs.Common.{◌≡◌, ◌≢◌, ℕ, ◌*◌, ◌/◌, ◌%◌, ◌^◌, ◌<◌, refl, ◌==◌, ◌||◌, arith, List, length, get_or, set, get_or-set_same}
 use Rattle.std.proofs.Common.{get_or-set_other, bit_or, ℤ, pos, ◌+◌, ◌&&◌, nat_lt, int_lt}
 use Rattle.std.proofs.lemmas.Bool.{cases_eq}
 use Rattle.std.proofs.lemmas.Bool.Decides.{nat_tests}

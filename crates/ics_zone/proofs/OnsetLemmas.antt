@@ -1,5 +1,5 @@
 -- Bounds of the onsets of a zone; the searches find the greatest and the least.
-use Rattle.std.proofs.Common.{◌≡◌, ◌≢◌, ℕ, ◌+◌, ◌<◌, ◌≤◌, inl, inr, Bool, true, refl, sym, ap, ◌∙◌, arith, List, [], ◌∷◌, length, Option, Some, None}
+use Rattle.std.proofs.Common.{◌≡◌, ◌≢◌, ℕ, ◌+◌, ◌<◌, ◌≤◌, inl, inr, Bool, true, refl, ◌∙◌, arith, List, [], ◌∷◌, length, Option, Some, None}
 use Rattle.std.proofs.Common.{slice_get, ℤ, pos, negsuc, ◌+ℤ◌, ◌*ℤ◌, ◌<ℤ◌, ◌≤ℤ◌}
 use Rattle.std.proofs.lemmas.Bool.{or_left}
 use Rattle.std.proofs.lemmas.Int.{ints}
@@ -14,7 +14,6 @@ use Rattle.ics_zone.specs.ZoneOffsets.{IsOnset, IsInForce, IsBeforeAll, IsOffset
 use Rattle.ics_zone.specs.ZoneOffsets.{last_midnight, earliest, offset_by, zone_offset}
 use Rattle.ics_zone.specs.ZoneBounds.{if_onset-some}
 use Rattle.ics_zone.specs.Searches.{last_below-is, first_below-is, natural-is}
-use Rattle.ics_zone.proofs.Cases.{less_or_not_z, less_same_or_more}
 
 -- the seconds of a local from 1970-01-01 on, by its number
 pub number-seconds : (l : Local) → IsStampDay l.day → pos (number l) ≡ l.day *ℤ pos 86_400 +ℤ pos l.second +ℤ pos epoch

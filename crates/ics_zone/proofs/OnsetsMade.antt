@@ -2,16 +2,15 @@
 use Rattle.std.proofs.Common.{◌≡◌, ℕ, ◌<◌, ◌⊎◌, inl, inr, Bool, true, ◌||◌, ◌&&◌, ◌==◌, int_le, refl, sym, ap, subst, ◌∙◌, arith, get_or, Option, Some, None}
 use Rattle.std.proofs.Common.{option_map, Contains, IfSome, ℤ, ◌≤ℤ◌, MatchOption}
 use Rattle.std.proofs.lemmas.Bool.{or_cases, or_left, or_right, and_parts, and_from}
-use Rattle.std.specs.List.{list_any}
 use Rattle.std.proofs.lemmas.Int.{ints}
 use Rattle.std.proofs.lemmas.Bool.Decides.{Decides-eqb, nat_tests}
 use Rattle.std.proofs.lemmas.List.{get_or_default}
 use Rattle.ics_fields.specs.RuleParts.{RuleParts}
 use Rattle.ics_rule.specs.Recurrence.{Recurrence}
 use Rattle.ics_fields.specs.Locals.{number}
-use Rattle.ics_rule.specs.Kept.{is_in_rule, is_kept, until_moment}
+use Rattle.ics_rule.specs.Kept.{is_in_rule, is_kept}
 use Rattle.ics_zone.specs.declared.onsets.Onsets.{Onsets}
-use Rattle.ics_zone.specs.Observances.{ObservanceSaid, IsObservanceSaid, instant_by, rule_from, is_until, is_by_rule, is_onset}
+use Rattle.ics_zone.specs.Observances.{ObservanceSaid, IsObservanceSaid, instant_by, rule_from, is_by_rule, is_onset}
 use Rattle.ics_zone.specs.OnsetSets.{IsKeptBy, AreOnsetsOf, IsListing, IsEnd, is_listed}
 use Rattle.ics_zone.proofs.Cases.{int_le_true, true_int_le}
 use Rattle.ics_zone.proofs.OnsetLemmas.{onset-local, local-onset}

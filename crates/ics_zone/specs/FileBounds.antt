@@ -1,20 +1,19 @@
 -- The offsets of a rule and of a zone file are less than two days.
-use Rattle.std.specs.Prelude.{not, int_lt, ℕ, zero, suc, ◌-◌, ◌==◌, ℤ, pos, Bool, true, false, List, [], ◌∷◌, map, length, get_or, Option, Some, None}
+use Rattle.std.specs.Prelude.{ℕ, ◌-◌, ◌==◌, ℤ, Bool, true, false, map, length, get_or, Option, Some, None}
 use Rattle.std.specs.Prelude.{option_map, if◌then◌else◌}
 use Rattle.std.proofs.Common.{◌≡◌}
 use Rattle.std.proofs.Math.ListN.{get_or-map}
 use Rattle.jiff_core.specs.Timestamp.{IsOffsetSeconds, nanos_of_seconds}
 use Rattle.jiff_core.specs.declared.offset.Offset.{Offset}
-use Rattle.jiff_tz.specs.PosixRule.{match_some, in_window, in_span, saturating_add, saturating_sub}
-use Rattle.jiff_tz.specs.PosixText.{TzText, day_time_view, dst_view, tz_view}
+use Rattle.jiff_tz.specs.PosixRule.{match_some, in_window}
+use Rattle.jiff_tz.specs.PosixText.{TzText, dst_view, tz_view}
 use Rattle.jiff_tz.specs.Tzif.{tzif_view, no_transition}
 use Rattle.jiff_tz.specs.TzifText.{transition_text}
 use Rattle.jiff_tz.specs.Year.{year_of_nanos}
 use Rattle.jiff_tz.specs.declared.posix.Dst.{Dst}
 use Rattle.jiff_tz.specs.declared.posix.TimeZone.{TimeZone}
 use Rattle.jiff_tz.specs.declared.tzif.Tzif.{Tzif}
-use Rattle.jiff_tz.specs.declared.tzif.transition.Transition.{Transition}
-use Rattle.ics_zone.specs.ZoneFiles.{shift, rule_moment, daylight_window, daylight_type, standard_type, type_by, rule_type, compatible_by, rule_reading}
+use Rattle.ics_zone.specs.ZoneFiles.{daylight_window, daylight_type, standard_type, type_by, rule_type, rule_reading}
 use Rattle.ics_zone.specs.ZoneFiles.{offset_after, rule_after, count_at, civil_count_at, is_inside, reading_after, file_offset, file_reading}
 
 either : (b : Bool) (x y : ℤ) → IsOffsetSeconds x → IsOffsetSeconds y → IsOffsetSeconds (if b then x else y)

@@ -15,9 +15,6 @@ if_so-some false t s e = absurd (cc)
 if_so-none : (b : Bool) (t : ℤ) → b ≡ true → if_so b t ≡ None → ⊥
 if_so-none b t is e = grind (arith, ints)
 
-less_or_not : (s t : ℤ) → (t ≤ℤ s → ⊥) → s <ℤ t
-less_or_not s t h = grind (arith, ints)
-
 Decides-int_lt : (s t : ℤ) → Decides (int_lt s t) (s <ℤ t)
 Decides-int_lt s t = grind (arith, ints)
 

@@ -14,12 +14,6 @@ use Rattle.ics_zone.specs.Seconds.{IsNear}
 use Rattle.ics_zone.specs.ZoneFiles.{file_offset, file_moment}
 use Rattle.jiff_tz.specs.Tzif.{tzif_view}
 
-short_near : (n : ℤ) → IsOffsetSeconds n → IsNear n
-short_near n bound = (omega (arith, signed_arith), omega (arith, signed_arith))
-
-moved_near : (n local : ℤ) → IsOffsetSeconds n → IsNear (local -ℤ n -ℤ local)
-moved_near n local bound = (omega (arith, signed_arith), omega (arith, signed_arith))
-
 -- jiff's offsets are less than two days
 offset_bound : (zone : TimeZone) (n : ℤ) → IsOffsetSeconds (offset_at zone n)
 unfolding offset_at
@@ -37,14 +31,14 @@ reading_bound (Posix rule) local = rule_short rule.std_offset rule.dst (nanos_of
 reading_bound (Tzif table) local = file_reading_short table.now local
 
 pub offset_near : (zone : TimeZone) (moment : ℤ) → IsNear (offset_of zone moment)
-offset_near zone moment = short_near (offset_of zone moment) (offset_bound zone (nanos_of_seconds moment))
+offset_near zone moment = let bound = offset_bound zone (nanos_of_seconds moment) in (omega (arith, signed_arith), omega (arith, signed_arith))
 
 pub moment_near : (zone : TimeZone) (local : ℤ) → IsNear (moment_of zone local -ℤ local)
-moment_near zone local = moved_near (reading_of zone local) local (reading_bound zone local)
+moment_near zone local = let bound = reading_bound zone local in (omega (arith, signed_arith), omega (arith, signed_arith))
 
 -- the same of a zone file
 pub file_offset_near : (table : Rows) (moment : ℤ) → IsNear (file_offset (tzif_view table) moment)
-file_offset_near table moment = short_near (file_offset (tzif_view table) moment) (file_offset_short table moment)
+file_offset_near table moment = let bound = file_offset_short table moment in (omega (arith, signed_arith), omega (arith, signed_arith))
 
 pub file_moment_near : (table : Rows) (local : ℤ) → IsNear (file_moment (tzif_view table) local -ℤ local)
-file_moment_near table local = moved_near _ local (file_reading_short table local)
+file_moment_near table local = let bound = file_reading_short table local in (omega (arith, signed_arith), omega (arith, signed_arith))

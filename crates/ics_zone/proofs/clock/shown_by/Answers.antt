@@ -1,4 +1,4 @@
-use Rattle.std.proofs.Common.{◌≡◌, ◌≤◌, ℤ, pos, negsuc, ◌+ℤ◌, ◌≤ℤ◌, arith, rules, refl, SFits, w64, to_z, of_z, unsigned_abs}
+use Rattle.std.proofs.Common.{◌≡◌, ◌≤◌, ℤ, pos, negsuc, ◌+ℤ◌, arith, rules, w64, to_z, of_z, unsigned_abs}
 use Rattle.std.specs.Int.{int_max, int_min}
 use Rattle.jiff_core.specs.Calendar.{IsWithin}
 use Rattle.std.proofs.lemmas.Int.{ints, clamps, to_z-of_z}
@@ -7,17 +7,11 @@ use Rattle.ics_rule.specs.PeriodNumbers.{rules_end}
 use Rattle.ics_zone.specs.OnsetSets.{IsShownBy}
 use Rattle.ics_zone.proofs.clock.shown_by.Goals as goal
 
-abs-is : (z : ℤ) → pos 0 ≤ℤ z → pos (unsigned_abs z) ≡ z
-abs-is (pos n) h = refl
-abs-is (negsuc n) h = absurd (omega (arith, ints))
-
 -- the sum that is clamped twice
 shown_by : {offset moment near : ℤ} (shown : ℤ) → IsWithin 86_399 offset → near ≡ int_max (negsuc 99_999_999_999) (int_min moment (pos 400_000_000_000))
     → shown ≡ int_max (pos 0) (int_min (near +ℤ offset +ℤ pos epoch +ℤ pos 1) (pos rules_end)) → unsigned_abs shown ≤ rules_end
     → IsShownBy offset moment (unsigned_abs shown)
-shown_by shown short near_is shown_is bound =
-    let is = abs-is shown (omega (arith, ints, clamps)) in
-    record { bound = bound; shown = λ n l. omega (arith, ints, clamps); later = λ n l e. omega (arith, ints, clamps) }
+shown_by shown short near_is shown_is bound = record { bound = bound; shown = λ n l. omega (arith, ints, clamps); later = λ n l e. omega (arith, ints, clamps) }
 
 pub returns : goal.returns
 returns c =

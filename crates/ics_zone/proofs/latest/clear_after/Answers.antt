@@ -11,9 +11,7 @@ loop-place-init c = record {
   most = omega (arith, ints);
   clears = λ zone all. (
     overrides_none zone (length c.args.onsets.now) 60 (to_z w64 (of_z w64 c.args.seconds)) (to_z w64 (of_z w64 c.args.after) +ℤ pos 1),
-    λ i s p from h late early later. absurd (
-        let within = slice_get_within zone i p h.0 in
-        omega arith),
+    λ i s p from h late early later. absurd (omega (arith, slice_get_within zone i p h.0)),
   );
 }
 

@@ -1,4 +1,4 @@
-use Rattle.std.proofs.Common.{rules, arith, SFits, w64}
+use Rattle.std.proofs.Common.{rules, arith, w64}
 use Rattle.std.proofs.lemmas.Int.{ints, to_z-of_z}
 use Rattle.std.proofs.lemmas.Option.{slice_get_within}
 use Rattle.ics_zone.proofs.ZoneSteps.{between_more}
@@ -17,4 +17,4 @@ loop-one-preserved c =
 pub returns-clause-next : goal.returns-clause-next
 returns-clause-next c = λ zone all i s p h late.
     let none = simp (to_z-of_z, c.ranges.after) at c.loop-one.invariant.none in
-    none zone all i s p (let within = slice_get_within zone i p h.0 in omega arith) h late
+    none zone all i s p (omega (arith, slice_get_within zone i p h.0)) h late

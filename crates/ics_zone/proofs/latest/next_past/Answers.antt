@@ -1,4 +1,4 @@
-use Rattle.std.proofs.Common.{rules, arith, SFits, w32, w64, to_z, of_z, sym, subst, ◌≡◌, ◌-ℤ◌}
+use Rattle.std.proofs.Common.{rules, arith, SFits, w64, to_z, of_z, sym, subst, ◌≡◌, ◌-ℤ◌}
 use Rattle.std.specs.Int.{int_max}
 use Rattle.std.proofs.lemmas.Int.{ints, clamps, to_z-of_z}
 use Rattle.std.proofs.lemmas.Option.{slice_get_within}
@@ -9,7 +9,7 @@ use Rattle.ics_zone.proofs.latest.next_past.Goals as goal
 pub loop-place-preserved-then-next-from : goal.loop-place-preserved-then-next-from
 loop-place-preserved-then-next-from c =
     let from : c.max-from.result ≡ int_max (to_z w64 (of_z w64 c.args.after)) (to_z w64 (of_z w64 c.args.seconds) -ℤ c.index-onsets-place.result.offset_to) =
-    (omega (arith, ints, clamps)) in
+    omega (arith, ints, clamps) in
     record {
       later = c.loop-place.invariant.later;
       in_bound = c.loop-place.invariant.in_bound;
@@ -25,8 +25,7 @@ pub loop-place-preserved : goal.loop-place-preserved
 loop-place-preserved c =
     let small : SFits w64 c.max-from.result = search rules in
     let from : c.max-from.result ≡ int_max (to_z w64 (of_z w64 c.args.after)) (to_z w64 (of_z w64 c.args.seconds) -ℤ c.index-onsets-place.result.offset_to) =
-    (omega (arith, ints, clamps)) in
-    let after = rw (to_z-of_z w64 c.max-from.result small) at c.next-next.ensures.after in
+    omega (arith, ints, clamps) in
     let bound = c.next-next.ensures.bound in
     rw (to_z-of_z w64 c.next-next.result (search rules)) (record {
       later = omega (arith, ints, clamps);
@@ -41,7 +40,5 @@ returns c =
     record {
       after = omega (arith, ints);
       bound = omega (arith, ints);
-      next = λ zone all i s p h late early.
-          let within = slice_get_within zone i p h.0 in
-          none zone all i s p (omega arith) h late early;
+      next = λ zone all i s p h late early. none zone all i s p (omega (arith, slice_get_within zone i p h.0)) h late early;
     }

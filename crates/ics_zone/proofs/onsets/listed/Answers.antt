@@ -1,31 +1,23 @@
-use Rattle.std.proofs.Common.{rules, arith, SFits, w32, w64, ◌≡◌, true, ◌∙◌, ◌++◌, [], ◌∷◌, List, ℤ, ap}
-use Rattle.std.specs.Prelude.{int_le}
+use Rattle.std.proofs.Common.{refl, rules, arith, SFits, w32, w64, ◌≡◌, true, ◌∙◌, ap}
 use Rattle.std.proofs.lemmas.Int.{ints, to_z-of_z}
+use Rattle.std.proofs.lemmas.Bool.Decides.{nat_tests}
 use Rattle.std.proofs.lemmas.List.Sums.{AllPass-from_list_all}
-use Rattle.ics_fields.specs.Days.{year_begin, before_year, IsDayNumber}
+use Rattle.ics_fields.specs.Days.{IsDayNumber}
 use Rattle.ics_fields.specs.Years.{is_stamp_local}
 use Rattle.ics_fields.specs.declared.local.Local.{Local}
-use Rattle.ics_rule.proofs.KeptLemmas.{and_true}
 use Rattle.ics_zone.specs.Observances.{observance_said}
-use Rattle.ics_zone.proofs.Cases.{int_le_true}
 use Rattle.ics_zone.proofs.ListingLemmas.{instants_more, listing_of}
 use Rattle.ics_zone.proofs.onsets.listed.Goals as goal
 
 pub loop-rdate-init : goal.loop-rdate-init
 loop-rdate-init c =
     let from : SFits w32 c.args.observance.now.offset_from = search rules in
-    let small : SFits w64 c.instant.result = search rules in
-    let items = simp to_z-of_z at c.in_ok-push.ensures.items in
-    let at = simp (to_z-of_z, c.number.ensures.value) at c.instant.ensures in
-    items ∙ ap (λ (old : List ℤ). old ++ c.instant.result ∷ []) c.new-listed.ensures.items ∙ ap (λ (t : ℤ). t ∷ []) at
+    let at = simp (to_z-of_z, from, c.number.ensures.value) at c.instant.ensures in
+    rw (c.in_ok-push.ensures.items, c.new-listed.ensures.items, to_z-of_z w64 c.instant.result (search rules), at) refl
 
 -- each RDATE is in the years of stamps
 in_calendar : (local : Local) → is_stamp_local local ≡ true → IsDayNumber local.day
-in_calendar local e =
-    let tests : (int_le (year_begin 1) local.day ≡ true) × (int_le local.day (before_year 9_900) ≡ true) = and_true e in
-    let low = int_le_true (year_begin 1) local.day tests.0 in
-    let high = int_le_true local.day (before_year 9_900) tests.1 in
-    (omega (arith, ints), omega (arith, ints))
+in_calendar local e = (grind (arith, ints, nat_tests), grind (arith, ints, nat_tests))
 
 pub number-requires-in-loop-rdate : goal.number-requires-in-loop-rdate
 number-requires-in-loop-rdate c =

@@ -7,10 +7,7 @@ use Rattle.ics_zone.proofs.Cases.{int_le_true, int_le_false, true_int_le}
 use Rattle.ics_zone.proofs.onsets.passed.Goals as goal
 
 parted : (list : List ℤ) (t : ℤ) → IsInOrder list → IsPartitionedBy (λ s. int_le s t) list
-parted list t up i j d l h e =
-    let later = up i j d l h in
-    let by = int_le_true (get_or list j d) t e in
-    true_int_le (get_or list i d) t (omega (arith, ints))
+parted list t up i j d l h e = let later = up i j d l h in grind (arith, ints, int_le_true, true_int_le)
 
 passed_is : (list : List ℤ) (t : ℤ) (k : ℕ) → k ≤ length list
     → IsPartitionPoint (λ s. int_le s t ≡ true) (λ s. int_le s t ≡ false) list k → IsPassed list t k

@@ -1,4 +1,4 @@
-use Rattle.std.proofs.Common.{rules, arith, ◌+◌, pos, int_lt, sym, ◌∙◌, SFits, w64, to_z, of_z}
+use Rattle.std.proofs.Common.{rules, arith, ◌+◌, pos, int_lt, sym, ◌∙◌, w64, to_z, of_z}
 use Rattle.std.proofs.lemmas.Int.{to_z-of_z}
 use Rattle.std.proofs.lemmas.Bool.{and_right}
 use Rattle.ics_zone.specs.Hours.{keeps}
@@ -18,11 +18,8 @@ loop-minute-preserved c =
     record { is_size = c.first_of.ensures.first; is_part = c.front.ensures.members } in
     record {
       length = search rules;
-      words = words_more _ _ c.loop-minute.words (omega arith) front c.minute_from-word.ensures
-          c.loop-minute.invariant.words;
+      words = words_more _ _ c.loop-minute.words (omega arith) front c.minute_from-word.ensures c.loop-minute.invariant.words;
     }
 
 pub returns : goal.returns
-returns c = λ k low.
-    let words = simp (to_z-of_z, c.ranges.count) at c.loop-minute.invariant.words in
-    words k (omega arith)
+returns c = λ k low. let words = simp (to_z-of_z, c.ranges.count) at c.loop-minute.invariant.words in words k (omega arith)

@@ -1,4 +1,4 @@
-use Rattle.std.proofs.Common.{rules, arith, ◌≡◌, pos, ◌-ℤ◌, SFits, w64, to_z, of_z}
+use Rattle.std.proofs.Common.{rules, arith, ◌≡◌, pos, ◌-ℤ◌, w64, to_z, of_z}
 use Rattle.std.proofs.lemmas.Int.{ints, to_z-of_z}
 use Rattle.ics_zone.specs.ZoneOffsets.{zone_offset}
 use Rattle.ics_zone.specs.Observances.{observances_said}

@@ -1,4 +1,4 @@
-use Rattle.std.proofs.Common.{rules, arith, pos, ◌+ℤ◌, ◌-ℤ◌, SFits, w64, to_z, of_z}
+use Rattle.std.proofs.Common.{rules, arith, pos, ◌+ℤ◌, w64, to_z, of_z}
 use Rattle.std.proofs.lemmas.Int.{ints, to_z-of_z}
 use Rattle.ics_zone.proofs.JumpLemmas.{natural_less}
 use Rattle.ics_zone.proofs.observed.Observed.clear_hours.Goals as goal

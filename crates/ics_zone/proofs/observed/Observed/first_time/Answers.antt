@@ -1,4 +1,4 @@
-use Rattle.std.proofs.Common.{rules, arith, pos, ◌-ℤ◌, get_or, SFits, w32, w64, to_z, of_z}
+use Rattle.std.proofs.Common.{rules, arith, pos, ◌-ℤ◌, get_or, w32, w64, to_z, of_z}
 use Rattle.std.proofs.lemmas.Int.{ints, to_z-of_z}
 use Rattle.ics_zone.specs.ZoneOffsets.{zone_offset}
 use Rattle.ics_zone.specs.Observances.{observances_said}
@@ -20,8 +20,7 @@ loop-offset-preserved c =
     let is = simp (to_z-of_z w32 (get_or c.as_slice-offsets.result.now c.loop-offset.offset-index (pos 0)) (search rules)) at c.in-Some-shown_with.ensures in
     rw (to_z-of_z w64 c.earlier.result (search rules))
     (first_moves (zone_offset (observances_said c.args.self.now)) _ _ _ (pos 0) c.loop-offset-test.true c.loop-offset.first c.earlier.result
-    c.loop-offset.invariant is.0 is.1
-    (simp (to_z-of_z w64 c.in-Some-shown_with.moment (search rules)) at c.earlier.ensures))
+    c.loop-offset.invariant is.0 is.1 (simp (to_z-of_z w64 c.in-Some-shown_with.moment (search rules)) at c.earlier.ensures))
 
 pub returns : goal.returns
 returns c =

@@ -1,10 +1,11 @@
-use Rattle.std.proofs.Common.{rules, arith, ℤ, pos, ◌+ℤ◌, ◌-ℤ◌, ◌<ℤ◌, SFits, w64, to_z, of_z}
+use Rattle.std.proofs.Common.{rules, arith, ℤ, pos, ◌+ℤ◌, ◌<ℤ◌, SFits, w64, to_z, of_z}
 use Rattle.std.proofs.lemmas.Int.{ints, to_z-of_z}
 use Rattle.ics_zone.specs.Moments.{shown}
 use Rattle.ics_zone.specs.ZoneOffsets.{zone_offset}
 use Rattle.ics_zone.specs.Observances.{observances_said}
+use Rattle.ics_zone.specs.ZoneBounds.{zone_short}
 use Rattle.ics_zone.proofs.ZoneSteps.{all_sound}
-use Rattle.ics_zone.proofs.JumpLemmas.{jump_at_next, earlier_at_next, earlier_before_next, past_clear, earlier_before, later_after, natural_less}
+use Rattle.ics_zone.proofs.JumpLemmas.{jump_at_next, earlier_at_next, earlier_before_next, past_clear, natural_less}
 use Rattle.ics_zone.proofs.observed.Observed.jump.Goals as goal
 use Rattle.ics_zone.proofs.observed.Observed.jump.Goals.{After-is_past}
 
@@ -12,7 +13,7 @@ pub loop-after-init : goal.loop-after-init
 loop-after-init c = record {
   low = omega (arith, ints);
   high = omega (arith, ints);
-  earlier = λ t h. earlier_before c.args.self.now (to_z w64 (of_z w64 c.args.seconds)) t (omega (arith, ints));
+  earlier = λ t h. let bound = zone_short c.args.self.now t in omega (arith, ints);
 }
 
 pub next_past-after-requires-clause-sound : goal.next_past-after-requires-clause-sound
@@ -54,9 +55,6 @@ clear_hours-after-requires-clause-earlier c =
 
 pub returns-clause-jump : goal.returns-clause-jump
 returns-clause-jump c =
-    let earlier = simp (to_z-of_z, c.ranges.seconds) at c.loop-after.invariant.earlier in
-    absurd (
-    let more = later_after c.args.self.now c.args.seconds (to_z w64 c.loop-after.after-bits)
-    (omega (arith, ints)) in
-    let less = earlier (to_z w64 c.loop-after.after-bits) (omega (arith, ints)) in
-    omega (arith, ints))
+    let bound = zone_short c.args.self.now (to_z w64 c.loop-after.after-bits) in
+    let less = c.loop-after.invariant.earlier (to_z w64 c.loop-after.after-bits) (omega (arith, ints)) in
+    absurd (omega (arith, ints))

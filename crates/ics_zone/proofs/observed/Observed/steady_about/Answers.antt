@@ -1,4 +1,4 @@
-use Rattle.std.proofs.Common.{rules, SFits, w32, w64}
+use Rattle.std.proofs.Common.{rules, w32, w64}
 use Rattle.std.proofs.lemmas.Int.{to_z-of_z}
 use Rattle.ics_zone.specs.Observances.{observances_said}
 use Rattle.ics_zone.proofs.ZoneSteps.{all_sound}

@@ -1,5 +1,5 @@
-use Rattle.std.proofs.Common.{rules, arith, sym, subst, ◌≡◌, ◌-ℤ◌, SFits, w32, w64, to_z, of_z}
-use Rattle.std.proofs.lemmas.Int.{ints, to_z-of_z}
+use Rattle.std.proofs.Common.{arith, sym, subst, ◌≡◌, ◌-ℤ◌, w64, to_z, of_z}
+use Rattle.std.proofs.lemmas.Int.{ints}
 use Rattle.ics_zone.specs.ZoneOffsets.{zone_offset}
 use Rattle.ics_zone.specs.Observances.{observances_said}
 use Rattle.ics_zone.specs.Moments.{IsFirstTime}

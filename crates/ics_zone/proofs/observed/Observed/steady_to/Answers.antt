@@ -1,4 +1,4 @@
-use Rattle.std.proofs.Common.{rules, arith, ◌≡◌, pos, ◌+ℤ◌, SFits, w32, w64, to_z, of_z}
+use Rattle.std.proofs.Common.{rules, arith, ◌≡◌, pos, ◌+ℤ◌, w32, w64, to_z, of_z}
 use Rattle.std.proofs.lemmas.Int.{ints, to_z-of_z}
 use Rattle.ics_zone.specs.Observances.{observances_said}
 use Rattle.ics_zone.proofs.ZoneSteps.{all_sound}

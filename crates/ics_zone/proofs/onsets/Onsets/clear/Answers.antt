@@ -1,4 +1,4 @@
-use Rattle.std.proofs.Common.{rules, arith, SFits, w32, w64, inl, pos, ◌+ℤ◌, ◌≤ℤ◌, ◌<◌, ◌+◌, ◌*◌}
+use Rattle.std.proofs.Common.{rules, arith, w64, inl, pos, ◌+ℤ◌, ◌≤ℤ◌, ◌<◌, ◌+◌, ◌*◌}
 use Rattle.std.proofs.lemmas.Int.{ints, clamps, to_z-of_z}
 use Rattle.std.proofs.lemmas.List.{length-set}
 use Rattle.ics_zone.specs.OnsetSets.{Has}

@@ -1,12 +1,11 @@
 use Rattle.std.proofs.lemmas.Grind.{common_steps}
-use Rattle.std.proofs.Common.{rules, arith, SFits, w64, length, ◌<◌, ◌≡◌, sym}
+use Rattle.std.proofs.Common.{rules, arith, w64, length, ◌<◌, ◌≡◌, sym}
 use Rattle.std.proofs.lemmas.Int.{ints, clamps, to_z-of_z}
 use Rattle.ics_zone.proofs.LatestLemmas.{next_listed}
 use Rattle.ics_zone.proofs.onsets.Onsets.next_listed.Goals as goal
 
 pub returns : goal.returns
 returns c =
-    let listed : SFits w64 c.index.result.now = search rules in
     let passed = rw c.deref.ensures.value at (simp (to_z-of_z, c.ranges.after) at c.passed-passed.ensures) in
     let inside : c.passed-passed.result < length c.args.self.now.listed.items = search rules in
     let late = passed.later c.passed-passed.result c.index.result.now (omega arith) inside in

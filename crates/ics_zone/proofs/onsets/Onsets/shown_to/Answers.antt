@@ -1,5 +1,5 @@
-use Rattle.std.proofs.Common.{rules, arith, SFits, w32, w64}
-use Rattle.std.proofs.lemmas.Int.{ints, clamps, to_z-of_z}
+use Rattle.std.proofs.Common.{arith}
+use Rattle.std.proofs.lemmas.Int.{ints, clamps}
 use Rattle.ics_zone.proofs.onsets.Onsets.shown_to.Goals as goal
 
 pub returns : goal.returns

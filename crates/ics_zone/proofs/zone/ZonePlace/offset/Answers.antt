@@ -1,4 +1,4 @@
-use Rattle.std.proofs.Common.{rules, ◌≡◌, sym, ◌∙◌, SFits, w32, w64}
+use Rattle.std.proofs.Common.{rules, ◌≡◌, sym, ◌∙◌, w32, w64}
 use Rattle.std.proofs.lemmas.Int.{to_z-of_z}
 use Rattle.jiff.specs.Words.{plain_zone}
 use Rattle.ics_zone.specs.declared.zone.ZoneKind.TheVariants.{ByObservances, ByFile}
