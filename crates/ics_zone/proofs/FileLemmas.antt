@@ -26,17 +26,12 @@ use Rattle.jiff_tz.proofs.YearLemmas.{year_of_nanos-civil}
 use Rattle.jiff_tz.specs.declared.ambiguous.AmbiguousOffset.{AmbiguousOffset}
 use Rattle.jiff_tz.specs.declared.info.Dst.{Dst as DstFlag}
 use Rattle.jiff_tz.specs.declared.info.OffsetInfo.{OffsetInfo}
-use Rattle.jiff_tz.specs.declared.posix.DayTime.{DayTime}
 use Rattle.jiff_tz.specs.declared.posix.Dst.{Dst}
 use Rattle.jiff_tz.specs.declared.posix.TimeZone.{TimeZone}
 use Rattle.jiff_tz.specs.declared.tzif.Tzif.{Tzif}
 use Rattle.ics_zone.specs.ZoneFiles.{rule_moment, daylight_window, is_inside, rule_type, type_by, rule_reading, compatible_by}
 use Rattle.ics_zone.specs.ZoneFiles.{row_at, offset_after, rule_after, count_at, civil_count_at, file_offset, file_reading}
 use Rattle.ics_zone.specs.ZoneFiles.{is_flag, is_type, agrees}
-
-moment_is : (year ahead : ℤ) (d : DayTime) → rule_moment year ahead (day_time_view d) ≡ rule_nanos year d ahead
-unfolding rule_nanos
-moment_is year ahead d = refl
 
 pub window_is : (year : ℤ) (d : Dst) (std : Offset) → daylight_window year std.seconds (dst_view d) ≡ utc_window d year std
 unfolding utc_window rule_nanos
@@ -73,13 +68,13 @@ compatible_is std dst w n = simp (of_case, same_case)
 
 pub rule_reading_is : (std : Offset) (dst : Option Dst) (dt : DateTime) (local : ℤ) → civil_nanos dt ≡ nanos_of_seconds local
     → rule_reading std.seconds (option_map dst_view dst) (nanos_of_seconds local) ≡ (compatible_offset (Posix.ambiguous_at_by std dst dt)).seconds
+unfolding rule_nanos
 rule_reading_is std None dt local e = refl
 rule_reading_is std (Some d) dt local e =
     ap₂ (λ (year : ℤ) (n : ℤ). compatible_by std.seconds d.offset.seconds
     (rule_moment year (pos 0) (day_time_view d.rule.start), rule_moment year (pos 0) (day_time_view d.rule.end)) n)
     (sym (year_of_nanos-civil dt (nanos_of_seconds local) e)) (sym e)
-    ∙ rw (moment_is dt.date.year (pos 0) d.rule.start, moment_is dt.date.year (pos 0) d.rule.end)
-    (compatible_is std d.offset (rule_nanos dt.date.year d.rule.start (pos 0), rule_nanos dt.date.year d.rule.end (pos 0)) (civil_nanos dt))
+    ∙ compatible_is std d.offset (rule_nanos dt.date.year d.rule.start (pos 0), rule_nanos dt.date.year d.rule.end (pos 0)) (civil_nanos dt)
 
 -- a property of the rows, told of what they say
 prefix_len-map : {A B : Type 0} (f : A → B) (p : B → Bool) (xs : List A) → prefix_len p (map f xs) ≡ prefix_len (λ x. p (f x)) xs
