@@ -48,26 +48,18 @@ any-first p (x ∷ xs) = by_test (p x) (any-first p xs)
 abbrev is_slash : ℕ → Bool
 is_slash b = b == 47
 
--- a value with a `/`, and one without
-pub rdate-period : (zoned : Bool) (text : List ℕ) (i : ℕ) → position (λ b. b == 47) text ≡ Some i →
-    period_of zoned (take i text) (drop (i + 1) text) ≡ rdate_of zoned text
-rdate-period zoned text i e = by_test (nat_lt (position_or_len is_slash text) (length text)) (any-first is_slash text) e
-  where
-    by_test : (t : Bool) → list_any is_slash text ≡ t → cond t (Some (position_or_len is_slash text)) None ≡ Some i →
-        period_of zoned (take i text) (drop (i + 1) text) ≡ rdate_of zoned text
-    by_test true h e =
-        let first : position_or_len is_slash text ≡ i = cc in
-        ap (λ n. period_of zoned (take n text) (drop (n + 1) text)) (sym first)
-        ∙ ap (λ t. cond t (period_of zoned (first_half text) (second_half text)) (At (stamp_of zoned text))) (sym h)
-    by_test false h e = cc
+-- a value with a `/` at that place, and one without
+abbrev pub rdate_at : Bool → List ℕ → Option ℕ → DateValue
+rdate_at zoned text (Some i) = period_of zoned (take i text) (drop (i + 1) text)
+rdate_at zoned text None = At (stamp_of zoned text)
 
-pub rdate-stamp : (zoned : Bool) (text : List ℕ) → position (λ b. b == 47) text ≡ None → At (stamp_of zoned text) ≡ rdate_of zoned text
-rdate-stamp zoned text e = by_test (nat_lt (position_or_len is_slash text) (length text)) (any-first is_slash text) e
+pub rdate-is : (zoned : Bool) (text : List ℕ) {o : Option ℕ} → position (λ b. b == 47) text ≡ o → rdate_at zoned text o ≡ rdate_of zoned text
+rdate-is zoned text e =
+    ap (rdate_at zoned text) (sym e) ∙ by_test (nat_lt (position_or_len is_slash text) (length text)) (any-first is_slash text)
   where
-    by_test : (t : Bool) → list_any is_slash text ≡ t → cond t (Some (position_or_len is_slash text)) None ≡ None →
-        At (stamp_of zoned text) ≡ rdate_of zoned text
-    by_test true h e = cc
-    by_test false h e = ap (λ t. cond t (period_of zoned (first_half text) (second_half text)) (At (stamp_of zoned text))) (sym h)
+    by_test : (t : Bool) → list_any is_slash text ≡ t → rdate_at zoned text (cond t (Some (position_or_len is_slash text)) None) ≡ rdate_of zoned text
+    by_test true h = rw h refl
+    by_test false h = rw h refl
 
 -- THE LESSER OF TWO FAULTS, where each may not be there
 abbrev pub least : Option FaultKind → Option FaultKind → Option FaultKind
@@ -145,31 +137,24 @@ onsets-append vs ws = sym (onsets-row (vs ++ ws)) ∙ least-append onset_tests v
 judged-is : (v : DateValue) → judged v ≡ unless (dates_fault (v ∷ [])) (listed_in v)
 judged-is (At (Err stamp.BadStamp)) = refl
 judged-is (At _) = refl
-judged-is (Between (Ok s) (Err stamp.BadStamp)) = refl
 judged-is (Between (Err stamp.BadStamp) (Err stamp.BadStamp)) = refl
-judged-is (Between (Err stamp.YearRange) (Err stamp.BadStamp)) = refl
+judged-is (Between _ (Err stamp.BadStamp)) = refl
 judged-is (Between _ _) = refl
-judged-is (Lasting (Ok s) (Err duration_fault.BadDuration)) = refl
 judged-is (Lasting (Err stamp.BadStamp) (Err duration_fault.BadDuration)) = refl
-judged-is (Lasting (Err stamp.YearRange) (Err duration_fault.BadDuration)) = refl
+judged-is (Lasting _ (Err duration_fault.BadDuration)) = refl
 judged-is (Lasting _ _) = refl
 
 -- a value of an RDATE of an observance; a PERIOD is no local
-period-said : (v : DateValue) → is_not_local v ≡ true → local_in v ≡ None → onset_judged (Ok (listed_in v)) ≡ Err ObservanceField →
-    (onsets_fault (v ∷ []) ≡ result_err (onset_judged (judged v))) × (local_in v ≡ result_ok (onset_judged (judged v)))
-period-said v other none refused = rw (judged-is v, other, none) (by_fault (dates_fault (v ∷ [])))
-  where
-    by_fault : (o : Option FaultKind) → (first o (Some ObservanceField) ≡ result_err (onset_judged (unless o (listed_in v))))
-        × (None ≡ result_ok (onset_judged (unless o (listed_in v))))
-    by_fault None = rw refused (refl, refl)
-    by_fault (Some kind) = (refl, refl)
-
 onset-said : (v : DateValue) → (onsets_fault (v ∷ []) ≡ result_err (onset_judged (judged v))) × (local_in v ≡ result_ok (onset_judged (judged v)))
 onset-said (At (Ok (Floating local))) = (refl, refl)
 onset-said (At (Err stamp.BadStamp)) = (refl, refl)
 onset-said (At _) = (refl, refl)
-onset-said (Between r q) = period-said (Between r q) refl refl refl
-onset-said (Lasting r d) = period-said (Lasting r d) refl refl refl
+onset-said (Between (Err stamp.BadStamp) (Err stamp.BadStamp)) = (refl, refl)
+onset-said (Between _ (Err stamp.BadStamp)) = (refl, refl)
+onset-said (Between _ _) = (refl, refl)
+onset-said (Lasting (Err stamp.BadStamp) (Err duration_fault.BadDuration)) = (refl, refl)
+onset-said (Lasting _ (Err duration_fault.BadDuration)) = (refl, refl)
+onset-said (Lasting _ _) = (refl, refl)
 
 -- WHAT IS READ of the values of a line: the least fault, and what those say that have none, behind what was there.
 pub record IsRead {X : Type 0} (read : DateValue → Result X FaultKind) (least_of : List DateValue → Option FaultKind) (had : List X) (vs : List DateValue)
@@ -182,25 +167,27 @@ pub record IsReader {X : Type 0} (read : DateValue → Result X FaultKind) (leas
   pub one : (v : DateValue) → least_of (v ∷ []) ≡ result_err (read v)
   pub append : (vs ws : List DateValue) → least_of (vs ++ ws) ≡ least (least_of vs) (least_of ws)
 
-module _ {X A : Type 0} {read : DateValue → Result X FaultKind} {least_of : List DateValue → Option FaultKind} (is : IsReader read least_of)
-    (f : A → DateValue) (ys : List A) (y : A) {had ls : List X} {o : Option FaultKind} where
-  pub read-ok : {x : X} → IsRead read least_of had (map f ys) o ls → read (f y) ≡ Ok x → IsRead read least_of had (map f (ys ++ y ∷ [])) o (ls ++ x ∷ [])
-  read-ok {x} h e =
-      rw (map-append f ys (y ∷ [])) (record {
-        fault = h.fault ∙ sym (is.append (map f ys) (f y ∷ []) ∙ ap (least (least_of (map f ys))) (is.one (f y) ∙ ap result_err e));
-        said =
-            rw (filter_map-append (λ v. result_ok (read v)) (map f ys) (f y ∷ []), e, h.said)
-            (append_assoc had (filter_map (λ v. result_ok (read v)) (map f ys)) (x ∷ []));
-      })
+-- what is kept, with what one value more says
+abbrev pub and_read : {X : Type 0} → List X → Result X FaultKind → List X
+and_read ls (Ok x) = ls ++ x ∷ []
+and_read ls (Err k) = ls
 
-  pub read-err : {k : FaultKind} → IsRead read least_of had (map f ys) o ls → read (f y) ≡ Err k →
-      IsRead read least_of had (map f (ys ++ y ∷ [])) (Some (lesser o k)) ls
-  read-err {k} h e =
-      rw (map-append f ys (y ∷ [])) (record {
-        fault = rw h.fault (sym (is.append (map f ys) (f y ∷ []) ∙ ap (least (least_of (map f ys))) (is.one (f y) ∙ ap result_err e)));
-        said =
-            rw (filter_map-append (λ v. result_ok (read v)) (map f ys) (f y ∷ []), e, append-nil (filter_map (λ v. result_ok (read v)) (map f ys))) h.said;
-      })
+pub read-more : {X A : Type 0} {read : DateValue → Result X FaultKind} {least_of : List DateValue → Option FaultKind} → IsReader read least_of →
+    (f : A → DateValue) (ys : List A) (y : A) {had ls : List X} {o : Option FaultKind} (r : Result X FaultKind) →
+    IsRead read least_of had (map f ys) o ls → read (f y) ≡ r → IsRead read least_of had (map f (ys ++ y ∷ [])) (least o (result_err r)) (and_read ls r)
+read-more {X = X} {read = read} {least_of = least_of} is f ys y {had} r h e =
+    rw (map-append f ys (y ∷ [])) (record {
+      fault = rw h.fault (sym (is.append (map f ys) (f y ∷ []) ∙ ap (least (least_of (map f ys))) (is.one (f y) ∙ ap result_err e)));
+      said = ap (λ ls. and_read ls r) h.said ∙ by_result r e;
+    })
+  where
+    by_result : (r : Result X FaultKind) → read (f y) ≡ r →
+        and_read (had ++ filter_map (λ v. result_ok (read v)) (map f ys)) r ≡ had ++ filter_map (λ v. result_ok (read v)) (map f ys ++ f y ∷ [])
+    by_result (Ok x) e =
+        rw (filter_map-append (λ v. result_ok (read v)) (map f ys) (f y ∷ []), e)
+        (append_assoc had (filter_map (λ v. result_ok (read v)) (map f ys)) (x ∷ []))
+    by_result (Err k) e =
+        rw (filter_map-append (λ v. result_ok (read v)) (map f ys) (f y ∷ []), e, append-nil (filter_map (λ v. result_ok (read v)) (map f ys))) refl
 
 pub read-all : {X : Type 0} (read : DateValue → Result X FaultKind) (least_of : List DateValue → Option FaultKind) (f : List ℕ → DateValue)
     (ys : List (Bor (List ℕ))) {texts : List (List ℕ)} {o : Option FaultKind} {had ls : List X} → map (λ y. y.now) ys ≡ texts →

@@ -2,7 +2,7 @@ use Rattle.std.proofs.Common.{◌∙◌, ◌+◌, sym, ap, take}
 use Rattle.std.proofs.lemmas.List.{take_rest}
 use Rattle.ics_components.specs.DateValues.{period_of}
 use Rattle.ics_components.specs.Lines.{judged}
-use Rattle.ics_components.proofs.DateValueLemmas.{rdate-period, rdate-stamp}
+use Rattle.ics_components.proofs.DateValueLemmas.{rdate-is}
 use Rattle.ics_components.proofs.date_values.rdate.Goals as goal
 
 pub returns-in-Some : goal.returns-in-Some
@@ -10,8 +10,8 @@ returns-in-Some c =
     c.period.ensures
     ∙ ap judged (
     ap (period_of c.args.zoned (take c.in-Some.i c.args.text.now)) (take_rest c.args.text.now (c.in-Some.i + 1))
-    ∙ rdate-period c.args.zoned c.args.text.now c.in-Some.i (sym c.slash.ensures ∙ c.in-Some.is)
+    ∙ rdate-is c.args.zoned c.args.text.now (sym c.slash.ensures ∙ c.in-Some.is)
     )
 
 pub returns-in-None : goal.returns-in-None
-returns-in-None c = c.at.ensures ∙ ap judged (rdate-stamp c.args.zoned c.args.text.now (sym c.slash.ensures ∙ c.in-None.is))
+returns-in-None c = c.at.ensures ∙ ap judged (rdate-is c.args.zoned c.args.text.now (sym c.slash.ensures ∙ c.in-None.is))
