@@ -1,11 +1,11 @@
 -- The second round checks the zones of each event's stamps, and its end against its start.
-use Rattle.std.proofs.Common.{◌≡◌, ℕ, Bool, true, false, List, [], ◌∷◌, ◌++◌, map, refl, subst, cond, Option, Some, None, IfSome, sym, ◌∙◌, Ok}
+use Rattle.std.proofs.Common.{◌≡◌, ℕ, Bool, true, false, List, [], ◌∷◌, ◌++◌, map, refl, subst, cond, Option, Some, None, IfSome, IfOk, sym, rules}
 use Rattle.std.specs.Prelude.{codes, get_or, option_map, ◌==◌}
 use Rattle.std.specs.Str.{bytes_eq}
 use Rattle.std.specs.List.{All, Contains}
 use Rattle.std.proofs.lemmas.Bool.{and_parts, cond_both}
 use Rattle.std.proofs.lemmas.List.Elements.{All-nil, All-cons, All-push, All-append, All-head, All-tail, All-map, All-filter, filter_passes}
-use Rattle.std.proofs.lemmas.List.Elements.{All-contains_itself}
+use Rattle.std.proofs.lemmas.List.{length-map, get_or-map}
 use Rattle.ics_values.specs.declared.stamp.Stamp.{Stamp}
 use Rattle.ics_values.specs.declared.stamp.Stamp.TheVariants as stamp
 use Rattle.ics_values.specs.declared.duration.Duration.{Duration}
@@ -40,48 +40,48 @@ use Rattle.ics_components.specs.Values.{is_out}
 use Rattle.ics_components.proofs.Bundles.{Together, together-in}
 use Rattle.ics_components.proofs.Built.{collected_of}
 use Rattle.ics_components.proofs.Ended.{events}
-use Rattle.ics_components.proofs.BuilderLemmas.{parts_at, raw_name}
+use Rattle.ics_components.proofs.BuilderLemmas.{parts_at}
 use Rattle.ics_components.proofs.Judged.{check_in}
 use Rattle.ics_components.proofs.NameLemmas.{equal}
 use Rattle.ics_components.proofs.Order.{ended_as, ended_from, end-name}
 use Rattle.ics_components.proofs.PassLemmas.{AreTogether, checks_from, checks_on, later_by, gathered_from, pass-whole, together-whole}
 use Rattle.ics_components.proofs.Sound.{dated-said, one-ended, zones-sound, events-whole}
-use Rattle.ics_components.proofs.Table.{builder_at, frame_at, frame_of, readings}
+use Rattle.ics_components.proofs.Table.{builder_at, frame_at, frame_of, readings, top_component}
 use Rattle.ics_text.specs.Unfolded.{Line, Rises}
 use Rattle.ics_components.specs.FirstFault.{Fault, first_fault, fault_at_end}
 use Rattle.ics_components.specs.GatheredSeen.{GatheredSeen}
 use Rattle.ics_components.specs.Pass.{bottom, unless, pass}
 use Rattle.ics_components.proofs.Firsts.{finds-none}
 
--- THE CHECK that a line leaves, where it stands directly in an event of that calendar.
-abbrev content_check : ℕ → Option Parts → Option DeferredCheck
-content_check calendar None = None
-content_check calendar (Some v) = event_check calendar (name_of (map upper v.name)) v
+-- the DTEND of an event that has ended
+end-given : (o : Option Dated) (d : Option Duration) → end_of (given_length o d) ≡ o
+end-given (Some e) d = refl
+end-given None (Some d) = refl
+end-given None None = refl
+
+is-event : (q : Context) → is_event_context q ≡ true → q ≡ context.Event
+is-event context.Event e = refl
+is-event _ e = cc
 
 -- Of what the second round checks this holds.
 module _ (P : DeferredCheck → Type 0) where
-  -- of the start, the end and the length of an event that has ended
+  -- of the start and the length of an event that has ended
   start-looked : (k : ℕ) (o : Option Dated) → IfSome (used_in k o) P → IfSome (used_zone k (dated_in o)) P
   start-looked k (Some d) h = h
   start-looked k None h = tt
 
-  end-looked : (k : ℕ) (o : Option Dated) (d : Option Duration) → IfSome (used_in k o) P → IfSome (used_in k (end_of (given_length o d))) P
-  end-looked k (Some e) d h = h
-  end-looked k None (Some d) h = tt
-  end-looked k None None h = tt
+  length-looked : (k : ℕ) (s e : Option Dated) → IfSome (ends_in k s e) P → IfSome (ends_in k (Some (dated_in s)) e) P
+  length-looked k (Some s) (Some e) h = h
+  length-looked k None (Some e) h = tt
+  length-looked k s None h = tt
 
-  length-looked : (k : ℕ) (s e : Option Dated) (d : Option Duration) → IfSome (ends_in k s e) P →
-      IfSome (ends_in k (Some (dated_in s)) (end_of (given_length e d))) P
-  length-looked k (Some s) (Some e) d h = h
-  length-looked k s None (Some d) h = tt
-  length-looked k _ _ _ h = tt
+  -- of what a line with that name leaves in an event of that calendar
+  abbrev Gives : ℕ → List ℕ → Placed → Type 0
+  Gives k name l = IfSome (event_check k (name_of name) (parts_at l)) P
 
-  abbrev Leaves : ℕ → Placed → Type 0
-  Leaves calendar l = IfSome (content_check calendar l.content) P
-
-  -- it holds of what a line leaves, if it stands in an event
+  -- of what a line leaves, if it stands in an event
   abbrev pub IsSeen : Placed → Type 0
-  IsSeen l = is_event_context (context_of l.path) ≡ true → Leaves (calendar_of l.path) l
+  IsSeen l = context_of l.path ≡ context.Event → Gives (calendar_of l.path) (property_name l.content) l
 
   first-check : (number : ℕ) (o : Option DeferredCheck) (rest : List LineCheck) → All (λ w. P w.check) (checks_of number o ++ rest) →
       IfSome o P × All (λ w. P w.check) rest
@@ -90,32 +90,19 @@ module _ (P : DeferredCheck → Type 0) where
       let one : LineCheck = record { line = number; check = c } in (All-head (λ w. P w.check) one rest h, All-tail (λ w. P w.check) one rest h)
 
   line-seen : (whole own : List Placed) (l : Placed) → IfSome (later_by l.content (frame_of whole l.path own)) P → IsSeen l
-  line-seen whole own l h e = by_content l.content h
+  line-seen whole own l h q =
+      by_content l.content (subst (λ q. IfSome (later_by l.content (frame_at (top_component l.path) q (readings whole l.path own))) P) q h)
     where
-      by_context : (c : Component) (q : Context) (n : Name) (v : Parts) → is_event_context q ≡ true →
-          IfSome (check_in n v (frame_at c q (readings whole l.path own))) P → IfSome (event_check (calendar_of l.path) n v) P
-      by_context c context.Event name.Begin v e h = tt
-      by_context c context.Event name.End v e h = tt
-      by_context c context.Event _ v e h = h
-      by_context c _ n v e h = cc
+      by_name : (n : Name) (v : Parts) → IfSome (check_in n v (frame_at (top_component l.path) context.Event (readings whole l.path own))) P →
+          IfSome (event_check (calendar_of l.path) n v) P
+      by_name name.Begin v h = tt
+      by_name name.End v h = tt
+      by_name _ v h = h
 
-      by_content : (o : Option Parts) → IfSome (later_by o (frame_of whole l.path own)) P → IfSome (content_check (calendar_of l.path) o) P
+      by_content : (o : Option Parts) → IfSome (later_by o (frame_at (top_component l.path) context.Event (readings whole l.path own))) P →
+          Gives (calendar_of l.path) (property_name o) (record { number = l.number; content = o; path = l.path })
       by_content None h = tt
-      by_content (Some v) h = by_context _ (context_of l.path) (name_of (map upper v.name)) v e h
-
-  -- and thus of what the lines of a name leave
-  abbrev Gives : ℕ → List ℕ → Placed → Type 0
-  Gives calendar name l = IfSome (event_check calendar (name_of name) (parts_at l)) P
-
-  named-seen : (k : ℕ) (u : List ℕ) → bytes_eq [] u ≡ false → (ls : List Placed) → All (Leaves k) ls →
-      All (Gives k u) (all_named u ls)
-  named-seen k u z ls h =
-      λ i d lt. by_content (get_or (all_named u ls) i d).content (filter_passes (is_named u) ls i d lt) (All-filter (is_named u) (Leaves k) ls h i d lt)
-    where
-      by_content : (o : Option Parts) → bytes_eq (property_name o) u ≡ true → IfSome (content_check k o) P →
-          IfSome (event_check k (name_of u) (record { name = raw_name o; params = params_of o; value = value_of o })) P
-      by_content None e h = cc
-      by_content (Some v) e h = subst (λ n. IfSome (event_check k (name_of n) v) P) (equal (map upper v.name) u e) h
+      by_content (Some v) h = by_name (name_of (map upper v.name)) v h
 
   first-seen : (k : ℕ) (ls : List Placed) → All (λ l. IfSome (used_zone k (dated_on l)) P) ls → IfSome (used_in k (option_map dated_on (first_of ls))) P
   first-seen k [] h = tt
@@ -123,41 +110,51 @@ module _ (P : DeferredCheck → Type 0) where
 
   module _ (whole own : List Placed) where
     -- the length of an event is checked on its END
-    end-seen : (path : List Open) (o : Option Parts) → bytes_eq (property_name o) (codes "END") ≡ true →
-        is_event_context (context_of path) ≡ true → IfSome (later_by o (frame_of whole path own)) P →
+    end-seen : (path : List Open) (o : Option Parts) → bytes_eq (property_name o) (codes "END") ≡ true → context_of path ≡ context.Event →
+        IfSome (later_by o (frame_of whole path own)) P →
         IfSome (ends_in (calendar_of path) (first_dated (codes "DTSTART") own) (first_dated (codes "DTEND") own)) P
     end-seen path None e q h = cc
     end-seen path (Some v) e q h =
-        by_context (context_of path) q (subst (λ n. IfSome (check_in n v (frame_of whole path own)) P) (end-name (map upper v.name) e) h)
-      where
-        by_context : (q : Context) → is_event_context q ≡ true → IfSome (end_check (calendar_of path) (builder_at q (readings whole path own))) P →
-            IfSome (ends_in (calendar_of path) (first_dated (codes "DTSTART") own) (first_dated (codes "DTEND") own)) P
-        by_context context.Event e h = h
-        by_context _ e h = cc
+        subst (λ q. IfSome (end_check (calendar_of path) (builder_at q (readings whole path own))) P) q
+        (subst (λ n. IfSome (check_in n v (frame_of whole path own)) P) (end-name (map upper v.name) e) h)
 
     event-awaited : (l : Placed) → ends_event l ≡ true → All IsSeen own → Together l.path own →
         IfSome (later_by l.content (frame_of whole l.path own)) P → EachZone P (event_ended (calendar_of l.path) (collected_of own))
-    event-awaited l t s h c =
-        let k : ℕ = calendar_of l.path in
-        let closing = and_parts (is_closing l) _ t in
-        let inside : is_event_context (context_of l.path) ≡ true = closing.1 in
-        let places : All (λ (m : Placed). m.path ≡ l.path) own = together-in is_event_context l.path own refl inside h in
-        let leave : All (Leaves k) own =
-        λ i d lt.
-        subst (λ (p : List Open). is_event_context (context_of p) ≡ true → Leaves (calendar_of p) (get_or own i d)) (places i d lt) (s i d lt) inside in
-        let end : IfSome (used_in k (first_dated (codes "DTEND") own)) P = first-seen k _ (named-seen k (codes "DTEND") refl own leave) in
-        record {
-          start = start-looked k (first_dated (codes "DTSTART") own) (first-seen k _ (named-seen k (codes "DTSTART") refl own leave));
-          end = end-looked k (first_dated (codes "DTEND") own) (collected_of own).duration end;
-          rdates =
-              All-map (λ list. IfSome (listed_zone k list) P) rdates_on (all_named (codes "RDATE") own) (named-seen k (codes "RDATE") refl own leave);
-          exdates =
-              All-map (λ list. IfSome (listed_zone k list) P) exdates_on (all_named (codes "EXDATE") own) (named-seen k (codes "EXDATE") refl own leave);
-          recurrence = first-seen k _ (named-seen k (codes "RECURRENCE-ID") refl own leave);
-          length =
-              length-looked k (first_dated (codes "DTSTART") own) (first_dated (codes "DTEND") own) (collected_of own).duration
-              (end-seen l.path l.content (and_parts (is_end l) _ closing.0).0 inside c);
-        }
+    event-awaited l t s h c = record {
+      start = start-looked k start (first-seen k _ (named (codes "DTSTART")));
+      end = rw (end-given end (collected_of own).duration) (first-seen k _ (named (codes "DTEND")));
+      rdates = All-map (λ list. IfSome (listed_zone k list) P) rdates_on (all_named (codes "RDATE") own) (named (codes "RDATE"));
+      exdates = All-map (λ list. IfSome (listed_zone k list) P) exdates_on (all_named (codes "EXDATE") own) (named (codes "EXDATE"));
+      recurrence = first-seen k _ (named (codes "RECURRENCE-ID"));
+      length =
+          rw (end-given end (collected_of own).duration)
+          (length-looked k start end (end-seen l.path l.content (and_parts (is_end l) _ (and_parts (is_closing l) _ t).0).0 inside c));
+    }
+      where
+        k : ℕ
+        k = calendar_of l.path
+
+        start : Option Dated
+        start = first_dated (codes "DTSTART") own
+
+        end : Option Dated
+        end = first_dated (codes "DTEND") own
+
+        inside : context_of l.path ≡ context.Event
+        inside = is-event _ (and_parts (is_closing l) _ t).1
+
+        places : All (λ m. m.path ≡ l.path) own
+        places = together-in is_event_context l.path own refl (and_parts (is_closing l) _ t).1 h
+
+        -- what the lines of a name leave
+        named : (u : List ℕ) → All (Gives k u) (all_named u own)
+        named u =
+            λ i d lt.
+            let m : Placed = get_or (all_named u own) i d in
+            let place : m.path ≡ l.path = All-filter (is_named u) (λ m. m.path ≡ l.path) own places i d lt in
+            let left = All-filter (is_named u) IsSeen own s i d lt in
+            subst (λ w. Gives k w m) (equal (property_name m.content) u (filter_passes (is_named u) own i d lt))
+            (subst (λ p. context_of p ≡ context.Event → Gives (calendar_of p) (property_name m.content) m) place left inside)
 
   pub events-awaited : (whole before lines : List Placed) → All IsSeen before → All (λ w. P w.check) (checks_from whole before lines) →
       AreTogether before lines → All (EachZone P) (ended_from events before lines)
@@ -171,10 +168,8 @@ module _ (P : DeferredCheck → Type 0) where
       (events-awaited whole (before ++ l ∷ []) ls (All-push IsSeen before l s (line-seen whole own l r.0)) r.1 h.1)
 
 -- all checks are among them
-pub all-checks : (P : DeferredCheck → Type 0) (checks : List LineCheck) → All P (map (λ w. w.check) checks) → All (λ w. P w.check) checks
-all-checks P [] h = All-nil (λ w. P w.check)
-all-checks P (w ∷ ws) h =
-    All-cons (λ w. P w.check) w ws (All-head P w.check (map (λ w. w.check) ws) h) (all-checks P ws (All-tail P w.check (map (λ w. w.check) ws) h))
+all-checks : (checks : List LineCheck) → All (λ w. Contains (map (λ w. w.check) checks) w.check) checks
+all-checks checks = λ i d lt. (i, simp length-map lt, get_or-map (λ w. w.check) checks i d _ lt)
 
 -- WHAT THE SECOND ROUND LOOKS AT lies in the years of stamps.
 instant-sound : (name : ZoneName) (r : Stamp) → IsSoundStamp r → IfSome (instant_on name r) IsSoundInstant
@@ -215,16 +210,10 @@ checks-sound whole before (l ∷ ls) =
     own = beside before l
 
     by_context : (c : Component) (q : Context) (n : Name) (v : Parts) → IfSome (check_in n v (frame_at c q (readings whole l.path own))) IsSoundCheck
-    by_context c context.Event name.Begin v = tt
     by_context c context.Event name.End v =
         ends-sound (calendar_of l.path) (first_dated (codes "DTSTART") own) (first_dated (codes "DTEND") own) (dated-said (codes "DTSTART") own)
         (dated-said (codes "DTEND") own)
-    by_context c context.Event name.Dtstart v = zone-sound _ _
-    by_context c context.Event name.Dtend v = zone-sound _ _
-    by_context c context.Event name.RecurrenceId v = zone-sound _ _
-    by_context c context.Event name.Rdate v = zone-sound _ _
-    by_context c context.Event name.Exdate v = zone-sound _ _
-    by_context c context.Event _ v = tt
+    by_context c context.Event _ v = search (rules, zone-sound)
     by_context c _ name.Begin v = tt
     by_context c _ _ v = tt
 
@@ -235,8 +224,8 @@ checks-sound whole before (l ∷ ls) =
         (by_context _ (context_of l.path) (name_of (map upper v.name)) v)
 
 -- What is gathered is sound, where the first round finds nothing.
-pub sound-pass : (lines : List Line) (g : GatheredSeen) → Rises 0 lines → pass (bottom ∷ []) None nothing_gathered lines ≡ Ok g → IsSoundGathered g
-sound-pass lines g r e = by_first (first_fault whole) refl (sym (pass-whole lines r) ∙ e)
+pub sound-pass : (lines : List Line) → Rises 0 lines → IfOk (pass (bottom ∷ []) None nothing_gathered lines) IsSoundGathered
+sound-pass lines r = subst (λ g. IfOk g IsSoundGathered) (sym (pass-whole lines r)) (by_fault (first_fault whole) refl)
   where
     whole : List Placed
     whole = placed_from [] lines
@@ -244,20 +233,14 @@ sound-pass lines g r e = by_first (first_fault whole) refl (sym (pass-whole line
     Checked : DeferredCheck → Type 0
     Checked = Contains (map (λ w. w.check) (checks_from whole [] whole))
 
-    gathered : first_fault whole ≡ None → IsSoundGathered (gathered_from whole nothing_gathered [] whole)
-    gathered h =
+    by_fault : (o : Option Fault) → first_fault whole ≡ o → IfOk (unless o (gathered_from whole nothing_gathered [] whole)) IsSoundGathered
+    by_fault (Some f) h = tt
+    by_fault None h =
         let none = (finds-none stands fault_at_end [] whole h).0 in
         record {
           zones = zones-sound whole [] whole none (together-whole lines r);
           whole = events-whole [] whole none (together-whole lines r);
           awaited =
-              events-awaited Checked whole [] whole (All-nil (IsSeen Checked))
-              (all-checks Checked (checks_from whole [] whole) (All-contains_itself (map (λ w. w.check) (checks_from whole [] whole))))
-              (together-whole lines r);
+              events-awaited Checked whole [] whole (All-nil (IsSeen Checked)) (all-checks (checks_from whole [] whole)) (together-whole lines r);
           sound = checks-sound whole [] whole;
         }
-
-    by_first : (o : Option Fault) → first_fault whole ≡ o → unless o (gathered_from whole nothing_gathered [] whole) ≡ Ok g → IsSoundGathered g
-    by_first (Some f) h k = cc
-    by_first None h k =
-        let same : gathered_from whole nothing_gathered [] whole ≡ g = cc in subst (λ (g : GatheredSeen). IsSoundGathered g) same (gathered h)

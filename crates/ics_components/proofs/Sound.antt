@@ -4,8 +4,8 @@ use Rattle.std.proofs.Common.{◌+◌, ◌*◌, nat_le, neg_ℤ, ◌&&◌, IsTru
 use Rattle.std.specs.List.{All, list_all, list_any}
 use Rattle.std.proofs.lemmas.Bool.{cond_both, and_parts, or_parts, not-false}
 use Rattle.std.proofs.lemmas.Int.{ints}
-use Rattle.std.proofs.lemmas.List.Elements.{All-nil, All-cons, All-append, All-head, All-tail, All-map}
-use Rattle.ics_values.specs.Digits.{number_at}
+use Rattle.std.proofs.lemmas.List.Elements.{All-nil, All-cons, All-append, All-tail, All-map, All-weaker}
+use Rattle.std.proofs.lemmas.List.Sums.{list_all-from_AllPass}
 use Rattle.ics_values.specs.Durations.{duration_of}
 use Rattle.ics_values.specs.Periods.{first_half, second_half, lasts}
 use Rattle.ics_values.specs.RuleTexts.{pieces}
@@ -21,6 +21,7 @@ use Rattle.ics_values.specs.declared.stamp.StampFault.TheVariants as stamp
 use Rattle.ics_values.proofs.StampLemmas.{stamp_day-said, date_of-stamp, day_number_range, stamp_years}
 use Rattle.ics_components.specs.DateValues.{DateValue, At, Between, Lasting, date_time_of, period_of, has_slash, rdate_of, exdate_of, rdates_of, exdates_of}
 use Rattle.ics_components.specs.DateValues.{listed_in}
+use Rattle.ics_components.specs.declared.date_list.ListedDate.TheVariants as listed
 use Rattle.ics_components.specs.Sound.{IsSoundStamp, IsSoundValue, IsSoundList, IsSoundLength, IsWhole, IsSoundObservance, IsSoundZone}
 use Rattle.ics_components.specs.Values.{stamp_in, duration_in, lasting_of, is_lasting, allowed, zone_name, is_filled, ends_badly}
 use Rattle.std.specs.Prelude.{codes, drop, take, find, filter, filter_map, flat_map, int_le, option_map, unwrap_or}
@@ -44,6 +45,7 @@ use Rattle.ics_components.specs.Observances.{local_in, onset_in, offset_in, dail
 use Rattle.ics_components.specs.PlacedLines.{Placed, context_of, value, params_of, beside, lines_in, calendar_of, has, first_named, all_named, in_zone}
 use Rattle.ics_components.specs.PlacedLines.{ends_event, ends_zone, is_closing, begins_observance}
 use Rattle.ics_components.specs.declared.dated.Dated.{Dated}
+use Rattle.ics_components.specs.declared.date_list.DateList.{DateList}
 use Rattle.ics_components.specs.declared.fault.FaultKind.{FaultKind}
 use Rattle.ics_components.specs.declared.fault.FaultKind.TheVariants.{NoObservance, MissingUid, MissingStart, BadEnd}
 use Rattle.ics_components.proofs.Built.{collected_of}
@@ -54,30 +56,21 @@ use Rattle.ics_components.proofs.Table.{own as observance_at, parts, any-part, h
 use Rattle.ics_components.proofs.Bundles.{Together, together-in, zone-lines}
 use Rattle.ics_components.proofs.PassLemmas.{AreTogether}
 
--- A stamp lies in the years of stamps.
-pub stamp-range : (zoned : Bool) (text : List ℕ) (s : Stamp) → stamp_of zoned text ≡ Ok s → IsStampDay (stamp_day s)
-stamp-range zoned text s e = by_tests (is_stamp_text text) (is_stamp_year (year_of text)) refl refl e
-  where
-    by_tests : (t y : Bool) → is_stamp_text text ≡ t → is_stamp_year (year_of text) ≡ y →
-        cond (not t) (Err stamp.BadStamp) (cond (not y) (Err stamp.YearRange) (Ok (stamp_said zoned text))) ≡ Ok s → IsStampDay (stamp_day s)
-    by_tests true true t y e =
-        let years = stamp_years (year_of text) y in
-        let said : stamp_said zoned text ≡ s = cc in
-        subst (λ (d : ℤ). IsStampDay d) (sym (stamp_day-said zoned text) ∙ ap stamp_day said)
-        (day_number_range (year_of text) (number_at text 4 6) (number_at text 6 8) (date_of-stamp text t) years.0 years.1)
-    by_tests true false t y e = cc
-    by_tests false y t h e = cc
-
 -- WHAT A VALUE SAYS.
 pub day-zero : IsStampDay (pos 0)
 day-zero = (omega (arith, ints), omega (arith, ints))
 
+-- A stamp lies in the years of stamps.
 pub sound-stamp : (zoned : Bool) (text : List ℕ) → IsSoundStamp (stamp_in (stamp_of zoned text))
-sound-stamp zoned text = by_result (stamp_of zoned text) refl
+sound-stamp zoned text = by_tests (is_stamp_text text) (is_stamp_year (year_of text)) refl refl
   where
-    by_result : (r : Result Stamp StampFault) → stamp_of zoned text ≡ r → IsSoundStamp (stamp_in r)
-    by_result (Ok s) e = stamp-range zoned text s e
-    by_result (Err fault) e = day-zero
+    by_tests : (t y : Bool) → is_stamp_text text ≡ t → is_stamp_year (year_of text) ≡ y →
+        IsSoundStamp (stamp_in (cond (not t) (Err stamp.BadStamp) (cond (not y) (Err stamp.YearRange) (Ok (stamp_said zoned text)))))
+    by_tests true true t y =
+        let years = stamp_years (year_of text) y in
+        subst (λ (d : ℤ). IsStampDay d) (sym (stamp_day-said zoned text)) (day_number_range (year_of text) _ _ (date_of-stamp text t) years.0 years.1)
+    by_tests true false t y = day-zero
+    by_tests false y t h = day-zero
 
 sound-date_time : (zoned : Bool) (text : List ℕ) → IsSoundStamp (stamp_in (date_time_of zoned text))
 sound-date_time zoned text =
@@ -105,8 +98,7 @@ sound-rdate zoned text =
 
 sound-values : (of : List ℕ → DateValue) → ((text : List ℕ) → IsSoundValue (listed_in (of text))) → (texts : List (List ℕ)) →
     All IsSoundValue (map listed_in (map of texts))
-sound-values of each [] = All-nil IsSoundValue
-sound-values of each (t ∷ ts) = All-cons IsSoundValue (listed_in (of t)) (map listed_in (map of ts)) (each t) (sound-values of each ts)
+sound-values of each texts = All-map IsSoundValue listed_in (map of texts) (All-map (λ v. IsSoundValue (listed_in v)) of texts (λ i d lt. each _))
 
 pub sound-rdates : (zoned : Bool) (text : List ℕ) → All IsSoundValue (map listed_in (rdates_of zoned text))
 sound-rdates zoned text = sound-values (rdate_of zoned) (sound-rdate zoned) (pieces 44 text)
@@ -134,15 +126,12 @@ sign-within true n h = (omega (arith, ints, h), omega (arith, ints, h))
 sign-within false n h = (omega (arith, ints, h), omega (arith, ints, h))
 
 -- WHAT AN OBSERVANCE'S VALUES SAY.
-onset-sound : (text : List ℕ) → IsSoundLocal (onset_in (stamp_of false text))
-onset-sound text = by_result (stamp_of false text) refl
-  where
-    by_result : (r : Result Stamp StampFault) → stamp_of false text ≡ r → IsSoundLocal (onset_in r)
-    by_result (Ok (Floating local)) e = stamp-range false text (Floating local) e
-    by_result _ e = day-zero
+onset-sound : (r : Result Stamp StampFault) → IsSoundStamp (stamp_in r) → IsSoundLocal (onset_in r)
+onset-sound (Ok (Floating local)) h = h
+onset-sound _ h = day-zero
 
 zero-within : IsWithin 86_399 (pos 0)
-zero-within = (omega (arith, ints), omega (arith, ints))
+zero-within = sign-within false 0 (omega arith)
 
 offset-sound : (text : List ℕ) → IsWithin 86_399 (offset_in (offset_of text))
 offset-sound text =
@@ -154,84 +143,47 @@ daily-sound (Err fault) = refl
 daily-sound (Ok parts) =
     cond_both (is_finer_than_daily parts.frequency) (every Daily) parts (λ r. is_finer_than_daily r.frequency ≡ false) (λ e. refl) (λ e. e)
 
-abbrev AreIn : Option Local → Type 0
-AreIn o = IfSome o IsSoundLocal
+locals-sound : (vs : List DateValue) → All IsSoundValue (map listed_in vs) → All IsSoundLocal (filter_map local_in vs)
+locals-sound [] h = All-nil IsSoundLocal
+locals-sound (At (Ok (Floating local)) ∷ vs) h =
+    All-cons IsSoundLocal local (filter_map local_in vs) (h 0 (listed.At (Floating local)) (omega arith))
+    (locals-sound vs (All-tail IsSoundValue (listed.At (Floating local)) (map listed_in vs) h))
+locals-sound (v ∷ vs) h = locals-sound vs (All-tail IsSoundValue (listed_in v) (map listed_in vs) h)
 
-local-sound : (text : List ℕ) → AreIn (local_in (rdate_of false text))
-local-sound text = by_tests (has_slash text) (lasts (second_half text))
-  where
-    by_stamp : (r : Result Stamp StampFault) → stamp_of false text ≡ r → AreIn (local_in (At r))
-    by_stamp (Ok (Floating local)) e = stamp-range false text (Floating local) e
-    by_stamp _ e = tt
-
-    by_tests : (t l : Bool) → AreIn (local_in (cond t
-        (cond l (Lasting (date_time_of false (first_half text)) (lasting_of (second_half text)))
-        (Between (date_time_of false (first_half text)) (date_time_of false (second_half text)))) (At (stamp_of false text))))
-    by_tests true true = tt
-    by_tests true false = tt
-    by_tests false l = by_stamp (stamp_of false text) refl
-
-locals-sound : (texts : List (List ℕ)) → All IsSoundLocal (filter_map local_in (map (rdate_of false) texts))
-locals-sound [] = All-nil IsSoundLocal
-locals-sound (t ∷ ts) = by_local (locals-sound ts) (local_in (rdate_of false t)) refl (local-sound t)
-  where
-    rest : List Local
-    rest = filter_map local_in (map (rdate_of false) ts)
-
-    by_local : All IsSoundLocal (filter_map local_in (map (rdate_of false) ts)) → (o : Option Local) → local_in (rdate_of false t) ≡ o → AreIn o →
-        All IsSoundLocal (filter_map local_in (map (rdate_of false) (t ∷ ts)))
-    by_local again None e h = rw e again
-    by_local again (Some l) e h = rw e (All-cons IsSoundLocal l rest h again)
-
--- WHAT THE FIRST LINE of a name says, if there is one.
-some-said : {X : Type 0} (P : X → Type 0) (f : Placed → X) → ((l : Placed) → P (f l)) → (o : Option Placed) → IfSome (option_map f o) P
-some-said P f h None = tt
-some-said P f h (Some l) = h l
-
-said-or : {X : Type 0} (P : X → Type 0) (f : Placed → X) (x : X) → ((l : Placed) → P (f l)) → P x → (o : Option Placed) → P (unwrap_or (option_map f o) x)
-said-or P f x h k None = k
-said-or P f x h k (Some l) = h l
+-- what the first line of a name says, if there is one
+by_first : {X : Type 0} (P : Option X → Type 0) (f : Placed → X) → P None → ((l : Placed) → P (Some (f l))) → (o : Option Placed) → P (option_map f o)
+by_first P f none some None = none
+by_first P f none some (Some l) = some l
 
 -- AN OBSERVANCE is one that a time zone may have.
-local-tests : (local : Local) → IsStampDay local.day → is_stamp_local local ≡ true
-local-tests local h = by_tests (int_le (neg_ℤ (pos 719_162)) local.day) (int_le local.day (pos 2_896_372)) refl refl
-  where
-    by_tests : (a b : Bool) → int_le (neg_ℤ (pos 719_162)) local.day ≡ a → int_le local.day (pos 2_896_372) ≡ b → (a && b) ≡ true
-    by_tests true true p q = refl
-    by_tests true false p q = absurd (omega (arith, ints, q, h.1))
-    by_tests false b p q = absurd (omega (arith, ints, p, h.0))
-
-locals-tests : (locals : List Local) → All IsSoundLocal locals → IsTrue (list_all is_stamp_local locals)
-locals-tests [] h = refl
-locals-tests (l ∷ ls) h = rw (local-tests l (All-head IsSoundLocal l ls h)) (locals-tests ls (All-tail IsSoundLocal l ls h))
-
-rule-daily : (o : Option Placed) → is_finer_rule (option_map daily_on o) ≡ false
-rule-daily None = refl
-rule-daily (Some l) = daily-sound (rule_on l)
+local-test : (local : Local) → IsSoundLocal local → is_stamp_local local ≡ true
+local-test local h = grind (arith, ints)
 
 observance-sound : (own : List Placed) → IsSoundObservance (observance_by own)
 observance-sound own =
     let rdates : List Placed = all_named (codes "RDATE") own in
     record {
       bounds = record {
-        start_in = said-or IsSoundLocal onset_on (local_at (pos 0) 0) (λ l. onset-sound (value l)) day-zero (first_named (codes "DTSTART") own);
-        from_in = said-or (IsWithin 86_399) offset_on (pos 0) (λ l. offset-sound (value l)) zero-within (first_named (codes "TZOFFSETFROM") own);
-        to_in = said-or (IsWithin 86_399) offset_on (pos 0) (λ l. offset-sound (value l)) zero-within (first_named (codes "TZOFFSETTO") own);
+        start_in =
+            by_first (λ o. IsSoundLocal (unwrap_or o (local_at (pos 0) 0))) onset_on day-zero (λ l. onset-sound (stamp_of false (value l)) (sound-stamp false (value l)))
+            (first_named (codes "DTSTART") own);
+        from_in = offset (codes "TZOFFSETFROM");
+        to_in = offset (codes "TZOFFSETTO");
       };
       rdates =
-          locals-tests (flat_map onsets_by rdates) (All-flat_map IsSoundLocal onsets_by rdates (λ i d l. locals-sound (pieces 44 (value (get_or rdates i d)))));
-      daily = rule-daily (first_named (codes "RRULE") own);
+          list_all-from_AllPass is_stamp_local (flat_map onsets_by rdates)
+          (All-weaker IsSoundLocal (λ l. is_stamp_local l ≡ true) local-test (flat_map onsets_by rdates) (All-flat_map IsSoundLocal onsets_by rdates
+          (λ i d lt. locals-sound (rdates_of false (value (get_or rdates i d))) (sound-rdates false (value (get_or rdates i d))))));
+      daily = by_first (λ o. is_finer_rule o ≡ false) daily_on refl (λ l. daily-sound (rule_on l)) (first_named (codes "RRULE") own);
     }
+  where
+    offset : (name : List ℕ) → IsWithin 86_399 (unwrap_or (option_map offset_on (first_named name own)) (pos 0))
+    offset name = by_first (λ o. IsWithin 86_399 (unwrap_or o (pos 0))) offset_on zero-within (λ l. offset-sound (value l)) (first_named name own)
 
 -- what ends on a line, if it does
 pub one-ended : {X : Type 0} (P : X → Type 0) (t : Bool) (x : X) → (t ≡ true → P x) → All P (cond t (x ∷ []) [])
 one-ended P true x h = All-cons P x [] (h refl) (All-nil P)
 one-ended P false x h = All-nil P
-
--- what no fault on its END says
-here : (t b : Bool) → t ≡ true → (t && b) ≡ false → b ≡ false
-here true b e h = h
-here false b e h = cc
 
 -- A TIME ZONE that ends has an observance.
 not-empty : (os : List ObservanceSaid) → not (length os == 0) ≡ true → os ≢ []
@@ -243,7 +195,7 @@ zone-sound : (whole own : List Placed) (l : Placed) → ends_zone l ≡ true →
 zone-sound whole own l t e h =
     let z : in_zone l ≡ true = (and_parts (is_closing l) (in_zone l) t).1 in
     let some : list_any begins_observance own ≡ true =
-    not-false _ (here (ends_zone l) _ t (none-found (λ kind. stands kind own l) (take 7 kinds) (drop 8 kinds) NoObservance e)) in
+    not-false _ (rw t at (none-found (λ kind. stands kind own l) (take 7 kinds) (drop 8 kinds) NoObservance e)) in
     let there : not (length (parts whole own) == 0) ≡ true =
     sym (zone-lines l.path z own (together-in is_zone_context l.path own refl z h) ∙ any-part whole own) ∙ some in
     let begun : List Placed = filter begins_in_zone own in
@@ -254,54 +206,47 @@ zone-sound whole own l t e h =
 
 -- AN EVENT is in order as far as locals say.
 pub dated-said : (name : List ℕ) (own : List Placed) → IfSome (first_dated name own) IsSoundDated
-dated-said name own =
-    some-said IsSoundDated dated_on (λ l. sound-stamp (is_some (zone_name (params_of l.content))) (value l)) (first_named name own)
+dated-said name own = by_first (λ o. IfSome o IsSoundDated) dated_on tt (λ l. sound-stamp _ (value l)) (first_named name own)
 
 filled-not-empty : (o : Option (List ℕ)) → is_filled o ≡ true → unwrap_or o [] ≢ []
 filled-not-empty (Some (b ∷ bs)) e = λ h. cc
 filled-not-empty (Some []) e = cc
 filled-not-empty None e = cc
 
-length-sound : (start : Dated) (end : Option Dated) (duration : Option Duration) → IfSome end IsSoundDated → IfSome duration (λ d. is_lasting d ≡ true) →
-    ends_badly (Some start) end ≡ false → IsSoundLength start (given_length end duration)
-length-sound d (Some e) duration a b f = (a, f)
-length-sound d None (Some e) a b f = b
-length-sound d None None a b f = tt
+start-sound : (start : Option Dated) → IfSome start IsSoundDated → IsSoundDated (dated_in start)
+start-sound (Some d) h = h
+start-sound None h = day-zero
 
-event-whole : (own : List Placed) (l : Placed) → ends_event l ≡ true → find (λ kind. stands kind own l) kinds ≡ None →
+length-sound : (start end : Option Dated) (duration : Option Duration) → IfSome end IsSoundDated → IfSome duration (λ d. is_lasting d ≡ true) →
+    (is_some start ≡ true) × (ends_badly start end ≡ false) → IsSoundLength (dated_in start) (given_length end duration)
+length-sound (Some d) (Some e) duration a b f = (a, f.1)
+length-sound None (Some e) duration a b f = let some = f.0 in cc
+length-sound start None (Some e) a b f = b
+length-sound start None None a b f = tt
+
+event-whole : (own : List Placed) (l : Placed) → ends_event l ≡ true → find (λ kind. stands kind own l) kinds ≡ None → Together l.path own →
     IsWhole (event_ended (calendar_of l.path) (collected_of own))
-event-whole own l t e =
+event-whole own l t e h =
     let at : FaultKind → Bool = λ kind. stands kind own l in
-    let started : has (codes "DTSTART") own ≡ true = not-false _ (here (ends_event l) _ t (none-found at (take 14 kinds) (drop 15 kinds) MissingStart e)) in
-    let times =
-    by_start (first_dated (codes "DTSTART") own) (dated-said (codes "DTSTART") own) (has-first dated_on (codes "DTSTART") own ∙ started)
-    (or_parts _ _ (here (ends_event l) _ t (none-found at (take 16 kinds) (drop 17 kinds) BadEnd e))).1 in
+    let filled : is_filled (first_text (codes "UID") own) ≡ true =
+    not-false _ (rw t at (none-found at (take 13 kinds) (drop 14 kinds) MissingUid e)) in
+    let started : has (codes "DTSTART") own ≡ true = not-false _ (rw t at (none-found at (take 14 kinds) (drop 15 kinds) MissingStart e)) in
     record {
-      named =
-          filled-not-empty (first_text (codes "UID") own)
-          (not-false _ (here (ends_event l) _ t (none-found at (take 13 kinds) (drop 14 kinds) MissingUid e)));
-      start = times.0;
-      length = times.1;
-      rdates =
-          All-map IsSoundList rdates_on (all_named (codes "RDATE") own)
-          (λ i d lt. let line : Placed = get_or (all_named (codes "RDATE") own) i d in
-          sound-rdates (is_some (zone_name (params_of line.content))) (value line));
-      exdates =
-          All-map IsSoundList exdates_on (all_named (codes "EXDATE") own)
-          (λ i d lt. let line : Placed = get_or (all_named (codes "EXDATE") own) i d in
-          sound-exdates (is_some (zone_name (params_of line.content))) (value line));
+      named = filled-not-empty (first_text (codes "UID") own) filled;
+      start = start-sound (first_dated (codes "DTSTART") own) (dated-said (codes "DTSTART") own);
+      length =
+          length-sound (first_dated (codes "DTSTART") own) (first_dated (codes "DTEND") own) (collected_of own).duration (dated-said (codes "DTEND") own)
+          (by_first (λ o. IfSome o (λ d. is_lasting d ≡ true)) duration_on tt (λ l. sound-lasting (value l)) (first_named (codes "DURATION") own)) (
+            has-first dated_on (codes "DTSTART") own ∙ started,
+            (or_parts _ _ (rw t at (none-found at (take 16 kinds) (drop 17 kinds) BadEnd e))).1,
+          );
+      rdates = lists rdates_on (λ l. sound-rdates (is_some (zone_name (params_of l.content))) (value l)) (codes "RDATE");
+      exdates = lists exdates_on (λ l. sound-exdates (is_some (zone_name (params_of l.content))) (value l)) (codes "EXDATE");
       recurrence = dated-said (codes "RECURRENCE-ID") own;
     }
   where
-    end : Option Dated
-    end = first_dated (codes "DTEND") own
-
-    by_start : (start : Option Dated) → IfSome start IsSoundDated → is_some start ≡ true → ends_badly start end ≡ false →
-        IsSoundStamp (dated_in start).stamp × IsSoundLength (dated_in start) (given_length end (collected_of own).duration)
-    by_start None h t f = cc
-    by_start (Some d) h t f =
-        let lasting = some-said (λ d. is_lasting d ≡ true) duration_on (λ l. sound-lasting (value l)) (first_named (codes "DURATION") own) in
-        (h, length-sound d end (collected_of own).duration (dated-said (codes "DTEND") own) lasting f)
+    lists : (f : Placed → DateList) → ((l : Placed) → IsSoundList (f l)) → (name : List ℕ) → All IsSoundList (map f (all_named name own))
+    lists f each name = All-map IsSoundList f (all_named name own) (λ i d lt. each (get_or (all_named name own) i d))
 
 -- WHAT ENDS on the lines is in order, where none has a fault.
 module _ {X : Type 0} (s : Sort X) (P : X → Type 0)
@@ -319,4 +264,4 @@ pub zones-sound : (whole before lines : List Placed) → NoneStand stands before
 zones-sound whole = ended-sound (zones whole) (λ z. IsSoundZone z.observances) (zone-sound whole)
 
 pub events-whole : (before lines : List Placed) → NoneStand stands before lines → AreTogether before lines → All IsWhole (ended_from events before lines)
-events-whole = ended-sound events IsWhole (λ own l t e h. event-whole own l t e)
+events-whole = ended-sound events IsWhole event-whole
