@@ -19,7 +19,7 @@ use Rattle.ics_components.specs.Values.{dated_of, lasting_of, duration_in, rule_
 use Rattle.ics_components.proofs.Built.{collected_of, zone_of, observance_of}
 use Rattle.ics_components.specs.Lines.{or_first, event_note, zone_note, observance_note, builder_note, joined}
 use Rattle.ics_components.proofs.NameLemmas.{Tells, tells, context-tests}
-use Rattle.std.proofs.lemmas.List.Concat.{flat_map-append, flat_map-cons}
+use Rattle.std.proofs.lemmas.List.Concat.{flat_map-append}
 use Rattle.std.proofs.Math.Bool.{and-false}
 use Rattle.ics_values.specs.Offsets.{offset_of}
 use Rattle.ics_values.specs.Stamps.{stamp_of}
@@ -37,26 +37,29 @@ use Rattle.ics_components.specs.Observances.{local_in, onset_in, offset_in, dail
 use Rattle.ics_components.proofs.Table.{Readings, builder_at, readings, own, parts}
 use Rattle.ics_components.proofs.Order.{inside}
 
--- what all lines of a name say, with one line more
+-- what is made of all lines of a name, with one line more
+all-more : {Y : Type 0} (made : List Placed → Y) (and_one : Y → Y) (n : List ℕ) (ls : List Placed) (l : Placed) →
+    ((ks : List Placed) → made (ks ++ l ∷ []) ≡ and_one (made ks)) →
+    made (all_named n (ls ++ l ∷ [])) ≡ cond (is_named n l) (and_one (made (all_named n ls))) (made (all_named n ls))
+all-more made and_one n ls l more = ap made (filter-append (is_named n) ls (l ∷ [])) ∙ by_test (is_named n l)
+  where
+    by_test : (t : Bool) → made (all_named n ls ++ cond t (l ∷ []) []) ≡ cond t (and_one (made (all_named n ls))) (made (all_named n ls))
+    by_test true = more (all_named n ls)
+    by_test false = ap made (append-nil (all_named n ls))
+
+-- what they say, what is kept of the first, and what they list
 named-more : {X : Type 0} (f : Placed → X) (n : List ℕ) (ls : List Placed) (l : Placed) →
     map f (all_named n (ls ++ l ∷ [])) ≡ cond (is_named n l) (map f (all_named n ls) ++ f l ∷ []) (map f (all_named n ls))
-named-more f n ls l = ap (map f) (filter-append (is_named n) ls (l ∷ [])) ∙ by_test (is_named n l)
-  where
-    by_test : (t : Bool) → map f (all_named n ls ++ cond t (l ∷ []) []) ≡ cond t (map f (all_named n ls) ++ f l ∷ []) (map f (all_named n ls))
-    by_test true = map-append f (all_named n ls) (l ∷ [])
-    by_test false = ap (map f) (append-nil (all_named n ls))
+named-more f n ls l = all-more (map f) (λ xs. xs ++ f l ∷ []) n ls l (λ ks. map-append f ks (l ∷ []))
 
--- what is kept of the first line of a name, with one line more
-pub kept-more : {X : Type 0} (f : Placed → X) (n : List ℕ) (ls : List Placed) (l : Placed) →
+kept-more : {X : Type 0} (f : Placed → X) (n : List ℕ) (ls : List Placed) (l : Placed) →
     option_map f (first_named n (ls ++ l ∷ [])) ≡ cond (is_named n l) (or_first (option_map f (first_named n ls)) (f l)) (option_map f (first_named n ls))
-kept-more f n ls l = rw (filter-append (is_named n) ls (l ∷ [])) (by_first (all_named n ls) (is_named n l))
-  where
-    by_first : (ks : List Placed) (t : Bool) →
-        option_map f (first_of (ks ++ cond t (l ∷ []) [])) ≡ cond t (or_first (option_map f (first_of ks)) (f l)) (option_map f (first_of ks))
-    by_first [] true = refl
-    by_first [] false = refl
-    by_first (k ∷ ks) true = refl
-    by_first (k ∷ ks) false = refl
+kept-more f n ls l = all-more (λ ks. option_map f (first_of ks)) (λ o. or_first o (f l)) n ls l (elim [ [] ↦ refl | k ∷ ks ↦ refl ])
+
+listed-more : {X : Type 0} (f : Placed → List X) (n : List ℕ) (ls : List Placed) (l : Placed) →
+    flat_map f (all_named n (ls ++ l ∷ [])) ≡ cond (is_named n l) (flat_map f (all_named n ls) ++ f l) (flat_map f (all_named n ls))
+listed-more f n ls l =
+    all-more (flat_map f) (λ xs. xs ++ f l) n ls l (λ ks. flat_map-append f ks (l ∷ []) ∙ ap (λ xs. flat_map f ks ++ xs) (append-nil (f l)))
 
 abbrev pub raw_name : Option Parts → List ℕ
 raw_name None = []
@@ -96,7 +99,6 @@ collected_of-more ls l =
 zone-noted : (n : Name) (u : List ℕ) (v : Parts) (had : ZoneBuilder) → Tells u n →
     record had { name = cond (bytes_eq u (codes "TZID")) (or_first had.name (text_of v.value)) had.name } ≡ zone_note n v had
 zone-noted name.Other u v had e = simp e
-zone-noted name.Tzid u v had e = rw e refl
 zone-noted _ u v had e = rw e refl
 
 pub zone_of-more : (os : List ObservanceSaid) (ls : List Placed) (l : Placed) →
@@ -104,17 +106,6 @@ pub zone_of-more : (os : List ObservanceSaid) (ls : List Placed) (l : Placed) �
 zone_of-more os ls l =
     rw (kept-more (λ l. text_of (value l)) (codes "TZID") ls l)
     (zone-noted (name_of (property_name l.content)) (property_name l.content) (parts_at l) (zone_of os ls) (tells (property_name l.content)))
-
--- what all lines of a name list, with one line more
-listed-more : {X : Type 0} (f : Placed → List X) (n : List ℕ) (ls : List Placed) (l : Placed) →
-    flat_map f (all_named n (ls ++ l ∷ [])) ≡ cond (is_named n l) (flat_map f (all_named n ls) ++ f l) (flat_map f (all_named n ls))
-listed-more f n ls l = ap (flat_map f) (filter-append (is_named n) ls (l ∷ [])) ∙ by_test (is_named n l)
-  where
-    by_test : (t : Bool) → flat_map f (all_named n ls ++ cond t (l ∷ []) []) ≡ cond t (flat_map f (all_named n ls) ++ f l) (flat_map f (all_named n ls))
-    by_test true =
-        flat_map-append f (all_named n ls) (l ∷ [])
-        ∙ ap (λ xs. flat_map f (all_named n ls) ++ xs) (flat_map-cons f l [] ∙ append-nil (f l))
-    by_test false = ap (flat_map f) (append-nil (all_named n ls))
 
 observance-noted : (n : Name) (u : List ℕ) (v : Parts) (had : ObservanceBuilder) → Tells u n →
     record {

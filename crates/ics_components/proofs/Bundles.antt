@@ -130,16 +130,9 @@ joined : (before : List Placed) (l : Placed) (bundles : List Bundle) → opens b
     Keeps before [] (add_line l bundles)
 joined before l [] e k = tt
 joined before l (f ∷ fs) e k =
-    let kept : IsKept f fs = k.1 in (
-      k.0 ∙ sym (append-nil (f.lines ++ l ∷ [])),
-      record {
-        less = kept.less;
-        stands = kept.stands;
-        begins = kept.begins;
-        places = All-push (λ l. l.path ≡ opens (f ∷ fs)) f.lines l kept.places (sym e);
-      },
-      k.2,
-    )
+    let kept : IsKept f fs = k.1 in
+    let places = All-push (λ l. l.path ≡ opens (f ∷ fs)) f.lines l kept.places (sym e) in
+    (k.0 ∙ sym (append-nil (f.lines ++ l ∷ [])), record { less = kept.less; stands = kept.stands; begins = kept.begins; places = places }, k.2)
 
 module _ (before : List Placed) (l : Placed) where
   -- a line deeper in leaves the bundles below alone

@@ -20,8 +20,7 @@ use Rattle.ics_components.specs.declared.deferred_check.ZoneName.{ZoneName}
 use Rattle.ics_components.specs.Faults.{first_text}
 use Rattle.ics_components.specs.Observances.{begins_zone, name_by}
 use Rattle.ics_components.proofs.Judged.{is_begin_name}
-use Rattle.ics_components.proofs.Frames.{begin-is}
-use Rattle.ics_components.proofs.Table.{parts}
+use Rattle.ics_components.proofs.Table.{parts, marks}
 use Rattle.ics_components.specs.declared.component.Component.TheVariants as kind
 use Rattle.ics_components.specs.declared.component.Context.TheVariants as context
 use Rattle.ics_components.specs.declared.name.Name.TheVariants as name
@@ -34,11 +33,8 @@ event-end ls l e = collected_of-more ls l ∙ ap (λ n. event_note n (parts_at l
 -- only a calendar holds events, and it stands in none
 pub calendar-from : (q : Context) (c : Component) → is_calendar_context (context_in q c) ≡ true → q ≡ context.Outside
 calendar-from context.Outside c e = refl
-calendar-from context.Calendar kind.Event e = cc
-calendar-from context.Calendar _ e = cc
-calendar-from context.Zone kind.Standard e = cc
-calendar-from context.Zone _ e = cc
-calendar-from _ c e = cc
+calendar-from _ kind.Event e = cc
+calendar-from _ _ e = cc
 
 calendar-alone : (q : Context) → is_calendar_context q ≡ true → (is_event_context q ≡ false) × (is_zone_context q ≡ false)
 calendar-alone context.Calendar e = (refl, refl)
@@ -76,8 +72,8 @@ events-are =
 zone-end : (whole ls : List Placed) (l : Placed) → name_of (property_name l.content) ≡ name.End →
     zone_of (parts whole (ls ++ l ∷ [])) (ls ++ l ∷ []) ≡ zone_of (parts whole ls) ls
 zone-end whole ls l e =
-    let not_begin : is_begin l ≡ false =
-    begin-is (property_name l.content) (name_of (property_name l.content)) (tells (property_name l.content)) ∙ ap is_begin_name e in
+    let u : List ℕ = property_name l.content in
+    let not_begin : is_begin l ≡ false = (marks u (name_of u) (tells u)).0 ∙ ap is_begin_name e in
     ap (λ os. zone_of os (ls ++ l ∷ [])) (parts-same whole ls l not_begin) ∙ zone_of-more (parts whole ls) ls l
     ∙ ap (λ n. zone_note n (parts_at l) (zone_of (parts whole ls) ls)) e
 

@@ -1,5 +1,5 @@
 -- The components that are open, as the pass holds them, stand for the path before a line and the lines beside it.
-use Rattle.std.proofs.Common.{◌≡◌, ℕ, ◌+◌, true, false, List, [], ◌∷◌, ◌++◌, drop, map, refl, sym, ap, ◌∙◌, arith, Some}
+use Rattle.std.proofs.Common.{◌≡◌, ℕ, suc, true, false, List, [], ◌∷◌, ◌++◌, drop, map, refl, sym, ap, ◌∙◌, Some}
 use Rattle.std.specs.Prelude.{length, codes}
 use Rattle.std.specs.Str.{bytes_eq}
 use Rattle.std.proofs.lemmas.List.{append-nil}
@@ -22,23 +22,13 @@ use Rattle.ics_components.specs.Lines.{opened, observance_note, joined}
 use Rattle.ics_components.proofs.Judged.{fault_in, fault_on, check_in, check_on, noted, closed, behind, end-inside, is_begin_name, is_end_name}
 use Rattle.ics_components.proofs.NameLemmas.{Tells, tells, equal, context-in-outside}
 use Rattle.ics_components.proofs.BuilderLemmas.{parts_at, observance_of-more, builder-more, builder-begun, still}
-use Rattle.ics_components.proofs.Table.{Readings, builder_at, frame_at, own, readings, frame_of}
+use Rattle.ics_components.proofs.Table.{Readings, builder_at, frame_at, own, readings, frame_of, marks}
 use Rattle.ics_components.proofs.Bundles.{Bundle, IsKept, Keeps, opens, top_lines, add_line, close, bundles_behind}
 
 -- the frames that the bundles of lines stand for, in a file of all these lines
 abbrev pub frames_of : List Placed → List Bundle → List Frame
 frames_of whole [] = bottom ∷ []
 frames_of whole (b ∷ bs) = frame_of whole (opens (b ∷ bs)) b.lines ∷ frames_of whole bs
-
-pub begin-is : (u : List ℕ) (n : Name) → Tells u n → bytes_eq u (codes "BEGIN") ≡ is_begin_name n
-begin-is u name.Other e = e (codes "BEGIN") refl
-begin-is u name.Begin e = rw e refl
-begin-is u _ e = rw e refl
-
-pub end-is : (u : List ℕ) (n : Name) → Tells u n → bytes_eq u (codes "END") ≡ is_end_name n
-end-is u name.Other e = e (codes "END") refl
-end-is u name.End e = rw e refl
-end-is u _ e = rw e refl
 
 begin-named : (l : Placed) → is_begin l ≡ true → name_of (property_name l.content) ≡ name.Begin
 begin-named l e = rw (equal (property_name l.content) (codes "BEGIN") e)
@@ -65,9 +55,7 @@ module _ (whole before : List Placed) where
   added l [] e = refl
   added l (b ∷ bs) e =
       let path : List Open = opens (b ∷ bs) in
-      ap (λ s. record { component = component_of (component b.begin); context = context_of path; calendar = calendar_of path; builder = s }
-      ∷ frames_of whole bs)
-      (builder-more whole path b.lines (context_of path) l e)
+      ap (λ s. record (frame_of whole path b.lines) { builder = s } ∷ frames_of whole bs) (builder-more whole path b.lines (context_of path) l e)
 
   fresh-at : (c : Component) (q : Context) (path : List Open) →
       frame_at c q (readings whole path []) ≡ record { component = c; context = q; calendar = calendar_of path; builder = fresh q }
@@ -116,16 +104,14 @@ module _ (whole before : List Placed) where
       ap (λ s. record bottom { builder = s } ∷ [])
       (sym (still (builder_at (context_of (opens (f ∷ []))) (readings whole (opens (f ∷ [])) f.lines)) context.Outside (readings whole [] []) refl))
   closed-over l (f ∷ g ∷ gs) k n moved w =
-      let path : List Open = opens (g ∷ gs) in
-      ap (λ s. record { component = component_of (component g.begin); context = context_of path; calendar = calendar_of path; builder = s }
-      ∷ frames_of whole gs)
+      ap (λ s. record (frame_of whole (opens (g ∷ gs)) g.lines) { builder = s } ∷ frames_of whole gs)
       (closed-in l f n (w moved ∙ ap (λ ls. ls ++ l ∷ []) (k.0 ∙ append-nil f.lines)) k.1)
 
   -- a line keeps the frames
   pub frames-behind : (line : Line) (v : Parts) (bundles : List Bundle) → Keeps before [] bundles →
       Closes whole before (with line (opens bundles) v) bundles →
       frames_of whole (bundles_behind (with line (opens bundles) v) bundles) ≡ behind line.number (name_of (map upper v.name)) v (frames_of whole bundles)
-  frames-behind line v bundles k w = by_name (name_of u) refl (begin-is u (name_of u) (tells u)) (end-is u (name_of u) (tells u))
+  frames-behind line v bundles k w = by_name (name_of u) refl (marks u (name_of u) (tells u))
     where
       l : Placed
       l = with line (opens bundles) v
@@ -133,15 +119,15 @@ module _ (whole before : List Placed) where
       u : List ℕ
       u = map upper v.name
 
-      by_name : (n : Name) → name_of u ≡ n → is_begin l ≡ is_begin_name n → is_end l ≡ is_end_name n →
+      by_name : (n : Name) → name_of u ≡ n → (is_begin l ≡ is_begin_name n) × (is_end l ≡ is_end_name n) →
           frames_of whole (bundles_behind l bundles) ≡ behind line.number n v (frames_of whole bundles)
-      by_name name.Begin m b e = rw b (begun l bundles)
-      by_name name.End m b e = rw (b, e) (closed-over l bundles k m (rw (b, e)) w)
-      by_name _ m b e = rw (b, e) (added l bundles b ∙ ap (λ n. noted n v (frames_of whole bundles)) m)
+      by_name name.Begin m t = rw t.0 (begun l bundles)
+      by_name name.End m t = rw (t.0, t.1) (closed-over l bundles k m (rw (t.0, t.1)) w)
+      by_name _ m t = rw (t.0, t.1) (added l bundles t.0 ∙ ap (λ n. noted n v (frames_of whole bundles)) m)
 
-  length-frames : (bundles : List Bundle) → length (frames_of whole bundles) ≡ length (opens bundles) + 1
+  length-frames : (bundles : List Bundle) → length (frames_of whole bundles) ≡ suc (length (opens bundles))
   length-frames [] = refl
-  length-frames (b ∷ bs) = let again = length-frames bs in omega (arith, again)
+  length-frames (b ∷ bs) = ap suc (length-frames bs)
 
   -- the faults of a line read the innermost frame alone
   pub fault-top : (n : Name) (v : Parts) (bundles : List Bundle) →
@@ -150,9 +136,7 @@ module _ (whole before : List Placed) where
   fault-top name.End v (b ∷ []) = sym (end-inside _ _ _ (context-in-outside context.Outside (component_of (component b.begin))))
   fault-top name.End v (b ∷ d ∷ ds) = sym (end-inside _ _ _ (context-in-outside (context_of (opens (d ∷ ds))) (component_of (component b.begin))))
   fault-top _ v [] = refl
-  fault-top n v (b ∷ bs) =
-      let long : length (frames_of whole bs) ≡ length (opens (b ∷ bs)) = let n = length-frames bs in omega (arith, n) in
-      ap (λ m. fault_in n v (frame_of whole (opens (b ∷ bs)) b.lines) m) long
+  fault-top n v (b ∷ bs) = ap (fault_in n v (frame_of whole (opens (b ∷ bs)) b.lines)) (length-frames bs)
 
   pub check-top : (n : Name) (v : Parts) (bundles : List Bundle) → check_on n v (frames_of whole bundles) ≡ check_in n v (top_of whole before bundles)
   check-top n v [] = refl

@@ -90,11 +90,3 @@ is_begin_name _ = false
 abbrev pub is_end_name : Name → Bool
 is_end_name name.End = true
 is_end_name _ = false
-
-pub ends-is : (n : Name) (f g : Frame) (gs : List Frame) → ends n (f ∷ g ∷ gs) ≡ cond (is_end_name n) (ended_in f) ended.Nothing
-ends-is name.End f g gs = refl
-ends-is _ f g gs = refl
-
-pub ends-lowest : (n : Name) (f : Frame) → ends n (f ∷ []) ≡ ended.Nothing
-ends-lowest name.End f = refl
-ends-lowest _ f = refl

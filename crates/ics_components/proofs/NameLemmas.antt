@@ -92,12 +92,8 @@ component_name-of u = named (component_of u) (tells_component u)
 -- no component stands outside all components
 pub context-in-outside : (q : Context) (c : Component) → context_in q c ≢ context.Outside
 context-in-outside context.Outside component.Calendar = λ e. cc
-context-in-outside context.Outside _ = λ e. cc
-context-in-outside context.Calendar component.Event = λ e. cc
-context-in-outside context.Calendar _ = λ e. cc
-context-in-outside context.Zone component.Standard = λ e. cc
-context-in-outside context.Zone _ = λ e. cc
-context-in-outside _ c = λ e. cc
+context-in-outside _ component.Calendar = λ e. cc
+context-in-outside _ _ = λ e. cc
 
 -- a component begins where its lines are read exactly by its name
 pub context-tests : (q : Context) (w : List ℕ) →

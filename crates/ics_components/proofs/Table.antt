@@ -1,6 +1,6 @@
 -- The table of faults and the pass find one fault on a line.
 use Rattle.std.proofs.Common.{rules, ◌≡◌, ℕ, Bool, true, false, List, [], ◌∷◌, map, refl, sym, ap, ◌∙◌, arith, cond, suc, Option, Some, None, Result, Err}
-use Rattle.std.specs.Prelude.{codes, length, find, filter, not, nat_le, ◌==◌, ◌||◌, is_some, option_map}
+use Rattle.std.specs.Prelude.{codes, length, find, filter, not, nat_le, ◌==◌, ◌&&◌, ◌||◌, is_some, option_map}
 use Rattle.std.specs.List.{list_any}
 use Rattle.std.specs.Str.{bytes_eq}
 use Rattle.std.proofs.Math.Bool.{and-true, and_assoc, or_comm}
@@ -22,21 +22,21 @@ use Rattle.ics_components.specs.declared.component.Context.{Context}
 use Rattle.ics_components.specs.declared.component.Context.TheVariants as context
 use Rattle.ics_components.specs.declared.event_builder.EventBuilder.{EventBuilder}
 use Rattle.ics_components.specs.declared.fault.FaultKind.{FaultKind}
-use Rattle.ics_components.specs.declared.fault.FaultKind.TheVariants.{BadRule, NumberTooLarge, NotCalendar, TooDeep}
+use Rattle.ics_components.specs.declared.fault.FaultKind.TheVariants.{BadRule, NumberTooLarge, NotCalendar, TooDeep, ObservanceField, OldVersion}
 use Rattle.ics_components.specs.declared.frame.Frame.{Frame}
 use Rattle.ics_components.specs.declared.name.Name.{Name}
 use Rattle.ics_components.specs.declared.name.Name.TheVariants as name
-use Rattle.ics_components.specs.Components.{component_of, component_name, is_outside_context, is_zone_context}
+use Rattle.ics_components.specs.Components.{component_of, component_name, is_outside_context, is_event_context, is_zone_context, is_observance_context}
 use Rattle.ics_components.specs.Names.{name_of}
 use Rattle.ics_components.specs.PlacedLines.{Placed, Open, context_of, closes, begins_observance, calendar_of, lines_in, has, is_named, first_named}
 use Rattle.ics_components.specs.PlacedLines.{first_of as first_line, all_named}
 use Rattle.ics_components.specs.Values.{is_bad_rule, is_large_rule, is_fine_rule}
 use Rattle.ics_components.specs.Faults.{stands, kinds}
-use Rattle.ics_components.specs.Lines.{first, fault_if, rule_fault_of, outside_fault}
+use Rattle.ics_components.specs.Lines.{first, fault_if, rule_fault_of, outside_fault, builder_fault, calendar_fault, zone_fault}
 use Rattle.ics_components.specs.Observances.{observance_by, begins_in_zone}
 use Rattle.ics_components.proofs.Built.{collected_of, zone_of, observance_of}
 use Rattle.ics_components.proofs.DateValueLemmas.{first-cond}
-use Rattle.ics_components.proofs.Judged.{fault_in}
+use Rattle.ics_components.proofs.Judged.{fault_in, is_begin_name, is_end_name}
 use Rattle.ics_components.proofs.NameLemmas.{Tells, tells, TellsComponent, tells_component, component_name-of}
 
 -- what is collected of some lines of a calendar, read as those of an event, of a time zone and of an observance
@@ -123,6 +123,29 @@ outside-first w m = by_component (component_of w) (tells_component w)
     by_component (component.Other n) e = rw (e.0 (codes "VCALENDAR") refl)
     by_component _ e = rw e
 
+-- whether a component begins or ends on a line, by its name
+pub marks : (u : List ℕ) (n : Name) → Tells u n → (bytes_eq u (codes "BEGIN") ≡ is_begin_name n) × (bytes_eq u (codes "END") ≡ is_end_name n)
+marks u name.Other e = (e (codes "BEGIN") refl, e (codes "END") refl)
+marks u _ e = rw e (refl, refl)
+
+-- a line that begins and ends none
+inner-fault : (n : Name) (v : Parts) (f : Frame) (depth : ℕ) → (is_begin_name n ≡ false) × (is_end_name n ≡ false) →
+    builder_fault f.context n v f.builder ≡ fault_in n v f depth
+inner-fault name.Begin v f depth k = let no = k.0 in cc
+inner-fault name.End v f depth k = let no = k.1 in cc
+inner-fault _ v f depth k = refl
+
+version-row : (u : List ℕ) (v : Parts) (n : Name) → Tells u n →
+    fault_if OldVersion (bytes_eq u (codes "VERSION") && bytes_eq v.value (codes "1.0")) ≡ calendar_fault n v
+version-row u v name.Other e = rw (e (codes "VERSION") refl)
+version-row u v _ e = rw e
+
+tzid-row : (u : List ℕ) (v : Parts) (os : List ObservanceSaid) (ls : List Placed) (n : Name) → Tells u n →
+    fault_if ObservanceField ((bytes_eq u (codes "TZID") || false) && has u ls) ≡ zone_fault n v (zone_of os ls)
+tzid-row u v os ls name.Other e = rw (e (codes "TZID") refl)
+tzid-row u v os ls name.Tzid e = rw e (simp has-first)
+tzid-row u v os ls _ e = rw e
+
 closed-by : (path : List Open) (w : List ℕ) → is_outside_context (context_of path) ≡ false →
     bytes_eq w (component_name (top_component path)) ≡ closes path w
 closed-by [] w e = cc
@@ -134,25 +157,53 @@ module _ (whole : List Placed) (path : List Open) (number : ℕ) (v : Parts) (ls
   Same n =
       find (λ k. stands k ls (record { number = number; content = Some v; path = path })) kinds ≡ fault_in n v (frame_of whole path ls) (length path)
 
-  ended : (q : Context) (t : Bool) → map upper v.name ≡ codes "END" → context_of path ≡ q → closes path (map upper v.value) ≡ t →
-      (is_outside_context q ≡ false → bytes_eq (map upper v.value) (component_name (top_component path)) ≡ t) → Same name.End
-  ended context.Outside true e c m s = rw (e, c, m)
-  ended context.Outside false e c m s = rw (e, c, m)
-  ended context.Zone true e c m s = rw (e, asked (ap is_zone_context c), c, m, s refl) (simp (by_tests, and-true))
-  ended context.Observance true e c m s = rw (e, c, m, s refl) (simp (by_tests, and-true, and_assoc))
-  ended _ true e c m s = rw (e, c, m, s refl) (first_of (simp by_tests, search rules))
-  ended _ false e c m s = rw (e, c, m, s refl)
+  -- the same of a line with that name in upper case, which the table then computes
+  abbrev Reads : List ℕ → Name → Type 0
+  Reads w n =
+      find (λ k. stands k ls (record { number = number; content = Some (record v { name = w }); path = path })) kinds
+      ≡ fault_in n v (frame_of whole path ls) (length path)
+
+  read : (w : List ℕ) (n : Name) → map upper v.name ≡ w → map upper w ≡ w → Reads w n → Same n
+  read w n e i r = rw (e, ← i) r
+
+  ended : (q : Context) (t : Bool) → context_of path ≡ q → closes path (map upper v.value) ≡ t →
+      (is_outside_context q ≡ false → bytes_eq (map upper v.value) (component_name (top_component path)) ≡ t) → Reads (codes "END") name.End
+  ended context.Outside true c m s = rw (c, m)
+  ended context.Outside false c m s = rw (c, m)
+  ended context.Zone true c m s = rw (asked (ap is_zone_context c), c, m, s refl) (simp (by_tests, and-true))
+  ended context.Observance true c m s = rw (c, m, s refl) (simp (by_tests, and-true, and_assoc))
+  ended _ true c m s = rw (c, m, s refl) (first_of (simp by_tests, search rules))
+  ended _ false c m s = rw (c, m, s refl)
+
+  -- where no event and no observance is read
+  plain : (n : Name) (q : Context) → Tells (map upper v.name) n → (is_begin_name n ≡ false) × (is_end_name n ≡ false) → context_of path ≡ q →
+      (is_event_context q || is_observance_context q) ≡ false → Same n
+  plain n q e k c o = by_context q c o ((marks (map upper v.name) n e).0 ∙ k.0) ((marks (map upper v.name) n e).1 ∙ k.1)
+    where
+      inner : (q : Context) → builder_fault q n v (builder_at q (readings whole path ls)) ≡ fault_in n v (frame_at (top_component path) q (readings whole path ls)) (length path)
+      inner q = inner-fault n v (frame_at (top_component path) q (readings whole path ls)) (length path) k
+
+      by_context : (q : Context) → context_of path ≡ q → (is_event_context q || is_observance_context q) ≡ false →
+          bytes_eq (map upper v.name) (codes "BEGIN") ≡ false → bytes_eq (map upper v.name) (codes "END") ≡ false → Same n
+      by_context context.Event c o b d = cc
+      by_context context.Observance c o b d = cc
+      by_context context.Calendar c o b d = rw (c, b, d) (version-row (map upper v.name) v n e ∙ inner context.Calendar)
+      by_context context.Zone c o b d = rw (c, b, d) (tzid-row (map upper v.name) v (parts whole ls) ls n e ∙ inner context.Zone)
+      by_context q c o b d = rw (c, b, d) (inner q)
 
   same : (n : Name) (q : Context) → Tells (map upper v.name) n → context_of path ≡ q → Same n
   same name.Begin context.Outside e c =
-      rw (e, c, outside-first (map upper v.value) (fault_if TooDeep (nat_le 32 (length path)))) (simp by_tests)
-  same name.Begin _ e c = rw (e, c)
-  same name.End q e c = ended q (closes path (map upper v.value)) e c refl (λ o. closed-by path (map upper v.value) (ap is_outside_context c ∙ o))
-  same name.Rrule context.Observance e c = rw (e, c, or_comm (has (codes "RRULE") ls) (is_fine_rule (rule_of v.value))) (simp by_tests)
-  same name.Other context.Outside e c = rw c (simp e)
-  same name.Other _ e c = rw c (simp e)
-  same _ context.Event e c = rw (e, c) (first_of (simp by_tests, search rules))
-  same _ _ e c = rw (e, c) (first_of (simp by_tests, search rules))
+      read _ name.Begin e refl (rw (c, outside-first (map upper v.value) (fault_if TooDeep (nat_le 32 (length path)))) (simp by_tests))
+  same name.Begin _ e c = read _ name.Begin e refl (rw c)
+  same name.End q e c =
+      read _ name.End e refl (ended q (closes path (map upper v.value)) c refl (λ o. closed-by path (map upper v.value) (ap is_outside_context c ∙ o)))
+  same name.Rrule context.Observance e c =
+      read _ name.Rrule e refl (rw (c, or_comm (has (codes "RRULE") ls) (is_fine_rule (rule_of v.value))) (simp by_tests))
+  same name.Other context.Event e c = rw c (simp e)
+  same name.Other context.Observance e c = rw c (simp e)
+  same n context.Event e c = read _ n e refl (rw c (first_of (simp by_tests, search rules)))
+  same n context.Observance e c = read _ n e refl (rw c (first_of (simp by_tests, search rules)))
+  same n q e c = plain n q e (refl, refl) c refl
 
 pub least-same : (whole : List Placed) (path : List Open) (number : ℕ) (v : Parts) (ls : List Placed) → IsAsked whole path ls →
     find (λ k. stands k ls (record { number = number; content = Some v; path = path })) kinds
