@@ -27,8 +27,8 @@ use Rattle.ics_components.specs.Builders.{event_ended}
 use Rattle.ics_components.specs.Components.{is_event_context}
 use Rattle.ics_components.specs.Faults.{first_dated, dated_on, rdates_on, exdates_on, stands}
 use Rattle.ics_components.specs.Names.{name_of}
-use Rattle.ics_components.specs.PlacedLines.{Placed, Open, beside, innermost, calendar_of, context_of, property_name, params_of, value_of, is_named}
-use Rattle.ics_components.specs.PlacedLines.{all_named, first_of, ends_event, is_closing, is_end, placed_from}
+use Rattle.ics_components.specs.PlacedLines.{Placed, Open, beside, innermost, calendar_of, context_of, property_name, is_named}
+use Rattle.ics_components.specs.PlacedLines.{all_named, first_of as first_line, ends_event, is_closing, is_end, placed_from}
 use Rattle.ics_fields.specs.Locals.{local_seconds}
 use Rattle.ics_components.specs.Gathered.{IsSoundInstant, IsSoundCheck, checks_of, IsSoundGathered, nothing_gathered}
 use Rattle.ics_components.specs.ZoneNames.{zone_used, are_of_one_zone}
@@ -38,7 +38,6 @@ use Rattle.ics_components.specs.Sound.{EachZone, end_of, IsSoundStamp}
 use Rattle.ics_components.specs.GivenTimes.{dated_in, given_length}
 use Rattle.ics_components.specs.Values.{is_out}
 use Rattle.ics_components.proofs.Bundles.{Together, together-in}
-use Rattle.ics_components.proofs.Built.{collected_of}
 use Rattle.ics_components.proofs.Ended.{events}
 use Rattle.ics_components.proofs.BuilderLemmas.{parts_at}
 use Rattle.ics_components.proofs.Judged.{check_in}
@@ -46,10 +45,9 @@ use Rattle.ics_components.proofs.NameLemmas.{equal}
 use Rattle.ics_components.proofs.Order.{ended_as, ended_from, end-name}
 use Rattle.ics_components.proofs.PassLemmas.{AreTogether, checks_from, checks_on, later_by, gathered_from, pass-whole, together-whole}
 use Rattle.ics_components.proofs.Sound.{dated-said, one-ended, zones-sound, events-whole}
-use Rattle.ics_components.proofs.Table.{builder_at, frame_at, frame_of, readings, top_component}
+use Rattle.ics_components.proofs.Table.{builder_at, frame_at, frame_of, readings, top_component, collected_of}
 use Rattle.ics_text.specs.Unfolded.{Line, Rises}
 use Rattle.ics_components.specs.FirstFault.{Fault, first_fault, fault_at_end}
-use Rattle.ics_components.specs.GatheredSeen.{GatheredSeen}
 use Rattle.ics_components.specs.Pass.{bottom, unless, pass}
 use Rattle.ics_components.proofs.Firsts.{finds-none}
 
@@ -104,7 +102,7 @@ module _ (P : DeferredCheck → Type 0) where
       by_content None h = tt
       by_content (Some v) h = by_name (name_of (map upper v.name)) v h
 
-  first-seen : (k : ℕ) (ls : List Placed) → All (λ l. IfSome (used_zone k (dated_on l)) P) ls → IfSome (used_in k (option_map dated_on (first_of ls))) P
+  first-seen : (k : ℕ) (ls : List Placed) → All (λ l. IfSome (used_zone k (dated_on l)) P) ls → IfSome (used_in k (option_map dated_on (first_line ls))) P
   first-seen k [] h = tt
   first-seen k (l ∷ ls) h = All-head (λ l. IfSome (used_zone k (dated_on l)) P) l ls h
 
@@ -213,7 +211,7 @@ checks-sound whole before (l ∷ ls) =
     by_context c context.Event name.End v =
         ends-sound (calendar_of l.path) (first_dated (codes "DTSTART") own) (first_dated (codes "DTEND") own) (dated-said (codes "DTSTART") own)
         (dated-said (codes "DTEND") own)
-    by_context c context.Event _ v = search (rules, zone-sound)
+    by_context c context.Event _ v = first_of (search rules, search (rules, zone-sound))
     by_context c _ name.Begin v = tt
     by_context c _ _ v = tt
 

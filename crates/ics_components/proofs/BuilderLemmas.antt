@@ -16,7 +16,6 @@ use Rattle.ics_components.specs.Names.{name_of}
 use Rattle.ics_components.specs.PlacedLines.{Placed, property_name, value, value_of, params_of, is_named, first_named, first_of, all_named, Open, context_of}
 use Rattle.ics_components.specs.PlacedLines.{in_zone, is_begin, component}
 use Rattle.ics_components.specs.Values.{dated_of, lasting_of, duration_in, rule_in, ok_or_zero, is_cancelled}
-use Rattle.ics_components.proofs.Built.{collected_of, zone_of, observance_of}
 use Rattle.ics_components.specs.Lines.{or_first, event_note, zone_note, observance_note, builder_note, joined}
 use Rattle.ics_components.proofs.NameLemmas.{Tells, tells, context-tests}
 use Rattle.std.proofs.lemmas.List.Concat.{flat_map-append}
@@ -34,7 +33,7 @@ use Rattle.ics_components.specs.Components.{is_zone_context, is_observance_conte
 use Rattle.ics_components.specs.DateValues.{rdates_of}
 use Rattle.ics_components.specs.Builders.{observance_ended}
 use Rattle.ics_components.specs.Observances.{local_in, onset_in, offset_in, daily_in, begins_in_zone}
-use Rattle.ics_components.proofs.Table.{Readings, builder_at, readings, own, parts}
+use Rattle.ics_components.proofs.Table.{Readings, builder_at, readings, own, parts, collected_of, zone_of, observance_of}
 use Rattle.ics_components.proofs.Order.{inside}
 
 -- what is made of all lines of a name, with one line more

@@ -10,7 +10,6 @@ use Rattle.std.proofs.lemmas.List.{append-nil, map-append}
 use Rattle.std.proofs.lemmas.List.Elements.{filter_map-append}
 use Rattle.std.proofs.lemmas.List.Folds.{list_any-append}
 use Rattle.std.proofs.lemmas.Simd.{map-map}
-use Rattle.ics_values.specs.Periods.{first_half, second_half}
 use Rattle.ics_values.specs.Stamps.{is_date_time_form, date_exists, time_exists, stamp_of}
 use Rattle.ics_values.specs.declared.stamp.Stamp.{Stamp}
 use Rattle.ics_values.specs.declared.stamp.StampFault.{StampFault}
@@ -173,9 +172,9 @@ and_read ls (Ok x) = ls ++ x ∷ []
 and_read ls (Err k) = ls
 
 pub read-more : {X A : Type 0} {read : DateValue → Result X FaultKind} {least_of : List DateValue → Option FaultKind} → IsReader read least_of →
-    (f : A → DateValue) (ys : List A) (y : A) {had ls : List X} {o : Option FaultKind} (r : Result X FaultKind) →
+    (f : A → DateValue) (ys : List A) (y : A) {had ls : List X} {o : Option FaultKind} {r : Result X FaultKind} →
     IsRead read least_of had (map f ys) o ls → read (f y) ≡ r → IsRead read least_of had (map f (ys ++ y ∷ [])) (least o (result_err r)) (and_read ls r)
-read-more {X = X} {read = read} {least_of = least_of} is f ys y {had} r h e =
+read-more {X = X} {read = read} {least_of = least_of} is f ys y {had} {r = r} h e =
     rw (map-append f ys (y ∷ [])) (record {
       fault = rw h.fault (sym (is.append (map f ys) (f y ∷ []) ∙ ap (least (least_of (map f ys))) (is.one (f y) ∙ ap result_err e)));
       said = ap (λ ls. and_read ls r) h.said ∙ by_result r e;

@@ -10,7 +10,6 @@ use Rattle.ics_components.specs.declared.component.Context.{Context}
 use Rattle.ics_components.specs.Components.{component_of, context_in, is_calendar_context, is_event_context, is_zone_context}
 use Rattle.ics_components.specs.Names.{name_of}
 use Rattle.ics_components.specs.PlacedLines.{Placed, Open, property_name, context_of, is_begin, component, calendar_of, begins, lines_in}
-use Rattle.ics_components.proofs.Built.{collected_of, zone_of}
 use Rattle.ics_components.specs.Builders.{event_ended, zone_ended}
 use Rattle.ics_components.proofs.NameLemmas.{context-in-outside, context-tests, tells}
 use Rattle.ics_components.proofs.BuilderLemmas.{collected_of-more, parts_at, zone_of-more, parts-same}
@@ -20,7 +19,7 @@ use Rattle.ics_components.specs.declared.deferred_check.ZoneName.{ZoneName}
 use Rattle.ics_components.specs.Faults.{first_text}
 use Rattle.ics_components.specs.Observances.{begins_zone, name_by}
 use Rattle.ics_components.proofs.Judged.{is_begin_name}
-use Rattle.ics_components.proofs.Table.{parts, marks}
+use Rattle.ics_components.proofs.Table.{parts, marks, collected_of, zone_of}
 use Rattle.ics_components.specs.declared.component.Component.TheVariants as kind
 use Rattle.ics_components.specs.declared.component.Context.TheVariants as context
 use Rattle.ics_components.specs.declared.name.Name.TheVariants as name

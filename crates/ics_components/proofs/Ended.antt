@@ -1,5 +1,5 @@
 -- What ends on the lines, in the order of the lines.
-use Rattle.std.proofs.Common.{◌≡◌, ℕ, Bool, true, false, ◌&&◌, List, [], ◌∷◌, map, refl, sym, ap, ◌∙◌, cond}
+use Rattle.std.proofs.Common.{◌≡◌, false, ◌&&◌, List, [], ◌∷◌, map, refl, cond}
 use Rattle.std.specs.Prelude.{codes, not}
 use Rattle.std.specs.Str.{bytes_eq}
 use Rattle.std.proofs.lemmas.Bool.{not-false}
@@ -11,22 +11,19 @@ use Rattle.ics_components.specs.declared.component.Context.{Context}
 use Rattle.ics_components.specs.declared.component.Context.TheVariants as context
 use Rattle.ics_components.specs.declared.name.Name.{Name}
 use Rattle.ics_components.specs.declared.name.Name.TheVariants as name
-use Rattle.ics_components.specs.declared.frame.Frame.{Frame}
 use Rattle.ics_components.specs.declared.gathered.Ended.{Ended}
 use Rattle.ics_components.specs.declared.gathered.Ended.TheVariants as ended
 use Rattle.ics_components.specs.declared.gathered.EndedEvent.{EndedEvent}
 use Rattle.ics_components.specs.declared.gathered.EndedZone.{EndedZone}
 use Rattle.ics_components.specs.Components.{component_of, is_event_context, is_zone_context}
 use Rattle.ics_components.specs.Names.{name_of}
-use Rattle.ics_components.specs.PlacedLines.{Placed, Open, context_of, calendar_of, is_end, is_closing, lines_in, begins_event}
+use Rattle.ics_components.specs.PlacedLines.{Placed, Open, context_of, calendar_of, is_end, is_closing, begins_event}
 use Rattle.ics_components.specs.Observances.{begins_zone}
-use Rattle.ics_components.proofs.Built.{collected_of, zone_of}
 use Rattle.ics_components.specs.Builders.{event_ended, zone_ended}
 use Rattle.ics_components.specs.Gathered.{zones_of_end, events_of_end}
-use Rattle.ics_components.specs.Pass.{bottom}
 use Rattle.ics_components.proofs.Judged.{ended_in, ends, is_end_name}
 use Rattle.ics_components.proofs.NameLemmas.{tells}
-use Rattle.ics_components.proofs.Table.{Readings, frame_at, parts, readings, frame_of, marks}
+use Rattle.ics_components.proofs.Table.{Readings, frame_at, parts, readings, frame_of, marks, collected_of, zone_of}
 use Rattle.ics_components.proofs.Bundles.{Bundle, open_of, opens, top_lines}
 use Rattle.ics_components.proofs.Order.{Sort, ended_as}
 use Rattle.ics_components.proofs.Frames.{frames_of, with}

@@ -61,14 +61,7 @@ finds-none round at_end before (l ∷ ls) e = by_least (finds-none round at_end 
     by_least again (Some kind) h e = cc
     by_least again None h e = let r = again e in ((h, r.0), ap at_end (sym (append_assoc before (l ∷ []) ls)) ∙ r.1)
 
--- where no fault stands on the lines, that at their end is the first
-pub found-at-end : (round : Round) (at_end : AtEnd) (before lines : List Placed) {o : Option Fault} → NoneStand round before lines →
-    at_end (before ++ lines) ≡ o → first_from round at_end before lines ≡ o
-found-at-end round at_end before [] n e = ap at_end (sym (append-nil before)) ∙ e
-found-at-end round at_end before (l ∷ ls) n e =
-    ap (λ k. found l.number k (first_from round at_end (before ++ l ∷ []) ls)) n.0
-    ∙ found-at-end round at_end (before ++ l ∷ []) ls n.1 (ap at_end (append_assoc before (l ∷ []) ls) ∙ e)
-
+-- lines on which no fault stands are passed
 passed : (round : Round) (at_end : AtEnd) (before front rest : List Placed) → NoneStand round before front →
     first_from round at_end before (front ++ rest) ≡ first_from round at_end (before ++ front) rest
 passed round at_end before [] rest n = ap (λ b. first_from round at_end b rest) (sym (append-nil before))
@@ -76,6 +69,12 @@ passed round at_end before (l ∷ ls) rest n =
     ap (λ k. found l.number k (first_from round at_end (before ++ l ∷ []) (ls ++ rest))) n.0
     ∙ passed round at_end (before ++ l ∷ []) ls rest n.1
     ∙ ap (λ b. first_from round at_end b rest) (append_assoc before (l ∷ []) ls)
+
+-- where no fault stands on the lines, that at their end is the first
+pub found-at-end : (round : Round) (at_end : AtEnd) (before lines : List Placed) {o : Option Fault} → NoneStand round before lines →
+    at_end (before ++ lines) ≡ o → first_from round at_end before lines ≡ o
+found-at-end round at_end before lines n e =
+    ap (first_from round at_end before) (sym (append-nil lines)) ∙ passed round at_end before lines [] n ∙ e
 
 -- the first fault on a line is found
 pub found-on-line : (round : Round) (at_end : AtEnd) (before lines : List Placed) (f : Fault) → IsFirst round before lines f →

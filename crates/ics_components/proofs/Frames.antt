@@ -1,7 +1,6 @@
 -- The components that are open, as the pass holds them, stand for the path before a line and the lines beside it.
 use Rattle.std.proofs.Common.{◌≡◌, ℕ, suc, true, false, List, [], ◌∷◌, ◌++◌, drop, map, refl, sym, ap, ◌∙◌, Some}
 use Rattle.std.specs.Prelude.{length, codes}
-use Rattle.std.specs.Str.{bytes_eq}
 use Rattle.std.proofs.lemmas.List.{append-nil}
 use Rattle.ics_text.specs.Bytes.{upper}
 use Rattle.ics_text.specs.Unfolded.{Line}
@@ -16,13 +15,12 @@ use Rattle.ics_components.specs.Components.{component_of, context_in}
 use Rattle.ics_components.specs.Names.{name_of}
 use Rattle.ics_components.specs.PlacedLines.{Placed, Open, context_of, property_name, is_begin, is_end, component, path_behind, calendar_of, lines_in}
 use Rattle.ics_components.specs.Builders.{fresh, observance_ended}
-use Rattle.ics_components.proofs.Built.{observance_of}
 use Rattle.ics_components.specs.Pass.{bottom}
 use Rattle.ics_components.specs.Lines.{opened, observance_note, joined}
 use Rattle.ics_components.proofs.Judged.{fault_in, fault_on, check_in, check_on, noted, closed, behind, end-inside, is_begin_name, is_end_name}
-use Rattle.ics_components.proofs.NameLemmas.{Tells, tells, equal, context-in-outside}
+use Rattle.ics_components.proofs.NameLemmas.{tells, equal, context-in-outside}
 use Rattle.ics_components.proofs.BuilderLemmas.{parts_at, observance_of-more, builder-more, builder-begun, still}
-use Rattle.ics_components.proofs.Table.{Readings, builder_at, frame_at, own, readings, frame_of, marks}
+use Rattle.ics_components.proofs.Table.{Readings, builder_at, frame_at, own, readings, frame_of, marks, observance_of}
 use Rattle.ics_components.proofs.Bundles.{Bundle, IsKept, Keeps, opens, top_lines, add_line, close, bundles_behind}
 
 -- the frames that the bundles of lines stand for, in a file of all these lines

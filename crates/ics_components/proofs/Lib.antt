@@ -2,7 +2,6 @@ pub mod NameLemmas
 pub mod DateValueLemmas
 pub mod Judged
 pub mod Table
-pub mod Built
 pub mod BuilderLemmas
 pub mod Bundles
 pub mod Frames

@@ -75,18 +75,10 @@ module _ {X : Type 0} where
   further had here more rest e = ap (λ m. (had ++ m) ++ rest) e ∙ append_assoc had here rest
 
 -- THE PASS.
--- Where the pass is: at lines behind those before them, with a bundle of lines for each component that is open.
-record IsAt (whole before : List Placed) (bundles : List Bundle) (n : ℕ) (lines : List Line) : Type 0 where
-  pub parts : whole ≡ before ++ placed_from (opens bundles) lines
-  pub kept : Keeps before [] bundles
-  pub earlier : Before (n + 1) before
-  pub inner : innermost (opens bundles) ≤ n
-  pub rises : Rises n lines
-
 abbrev pub with_content : Line → List Open → Option Parts → Placed
 with_content line path o = record { number = line.number; content = o; path = path }
 
--- the same on a line and before those behind it
+-- Where the pass is: on a line behind those before it, with a bundle of lines for each component that is open.
 record IsOn (whole before : List Placed) (bundles : List Bundle) (l : Placed) (lines : List Line) : Type 0 where
   pub parts : whole ≡ before ++ l ∷ placed_from (path_behind l) lines
   pub place : opens bundles ≡ l.path
@@ -95,35 +87,34 @@ record IsOn (whole before : List Placed) (bundles : List Bundle) (l : Placed) (l
   pub inner : innermost l.path < l.number
   pub rises : Rises l.number lines
 
+-- the same before the first of some lines
+abbrev IsAt : List Placed → List Placed → List Bundle → List Line → Type 0
+IsAt whole before bundles [] = Unit {0}
+IsAt whole before bundles (line ∷ lines) = IsOn whole before bundles (with_content line (opens bundles) (content_of line.bytes)) lines
+
 later : (m n : ℕ) (before : List Placed) → m ≤ n → Before m before → Before n before
 later m n before le = All-weaker (λ l. innermost l.path < m) (λ l. innermost l.path < n) (λ l h. omega (arith, h, le)) before
 
-on-line : (line : Line) {lines : List Line} {whole before : List Placed} {bundles : List Bundle} {n : ℕ} →
-    IsAt whole before bundles n (line ∷ lines) → IsOn whole before bundles (with_content line (opens bundles) (content_of line.bytes)) lines
-on-line line {before = before} {n = n} at = record {
-  parts = at.parts;
-  place = refl;
-  kept = at.kept;
-  earlier = later (n + 1) line.number before (omega (arith, at.rises.0)) at.earlier;
-  inner = omega (arith, at.inner, at.rises.0);
-  rises = at.rises.1;
-}
-
-at-next : {whole before : List Placed} {bundles : List Bundle} (l : Placed) {lines : List Line} → IsOn whole before bundles l lines →
-    IsAt whole (before ++ l ∷ []) (bundles_behind l bundles) l.number lines
-at-next {before = before} {bundles = bundles} l {lines} on = record {
-  parts = rw (opens-behind l bundles on.place) (on.parts ∙ sym (append_assoc before (l ∷ []) (placed_from (path_behind l) lines)));
-  kept = keeps before l bundles on.earlier on.inner on.place on.kept;
-  earlier =
-      All-push (λ k. innermost k.path < l.number + 1) before l (later l.number (l.number + 1) before (omega arith) on.earlier) (omega (arith, on.inner));
-  inner = rw (opens-behind l bundles on.place) (falls-behind l (rw on.place at (falls before [] bundles on.kept)) on.inner).1;
-  rises = on.rises;
-}
+at-next : {whole before : List Placed} {bundles : List Bundle} (l : Placed) (lines : List Line) → IsOn whole before bundles l lines →
+    IsAt whole (before ++ l ∷ []) (bundles_behind l bundles) lines
+at-next l [] on = tt
+at-next {before = before} {bundles = bundles} l (m ∷ ms) on =
+    let falls = falls-behind l (rw on.place at (falls before [] bundles on.kept)) on.inner in
+    record {
+      parts = rw (opens-behind l bundles on.place) (on.parts ∙ sym (append_assoc before (l ∷ []) (placed_from (path_behind l) (m ∷ ms))));
+      place = refl;
+      kept = keeps before l bundles on.earlier on.inner on.place on.kept;
+      earlier =
+          All-push (λ k. innermost k.path < m.number) before l (later l.number m.number before (omega (arith, on.rises.0)) on.earlier)
+          (omega (arith, on.inner, on.rises.0));
+      inner = rw (opens-behind l bundles on.place) (omega (arith, falls.1, on.rises.0));
+      rises = on.rises.1;
+    }
 
 abbrev Known : List Line → Type 0
 Known lines =
-    (whole before : List Placed) (bundles : List Bundle) (n : ℕ) (last : Option ℕ) (had : GatheredSeen) →
-    IsAt whole before bundles n lines → at_end (frames_of whole bundles) last ≡ fault_at_end before →
+    (whole before : List Placed) (bundles : List Bundle) (last : Option ℕ) (had : GatheredSeen) →
+    IsAt whole before bundles lines → at_end (frames_of whole bundles) last ≡ fault_at_end before →
     pass (frames_of whole bundles) last had lines
     ≡ unless (first_from stands fault_at_end before (placed_from (opens bundles) lines)) (gathered_from whole had before (placed_from (opens bundles) lines))
 
@@ -186,7 +177,7 @@ module _ (line : Line) {lines : List Line} (again : Known lines) (v : Parts) {wh
       let moved = opens-behind l bundles refl in
       ap (λ fs. pass fs (Some line.number) now lines)
       (sym (frames-behind whole before line v bundles on.kept (closes-here whole before l bundles lines on)))
-      ∙ (rw moved at (again whole (before ++ l ∷ []) (bundles_behind l bundles) line.number (Some line.number) now (at-next l on)
+      ∙ (rw moved at (again whole (before ++ l ∷ []) (bundles_behind l bundles) (Some line.number) now (at-next l lines on)
       (end-is-known whole before l (bundles_behind l bundles) moved)))
       ∙ ap (unless (first_from stands fault_at_end (before ++ l ∷ []) rest)) (gathered-step (nested (λ kind. stands kind (beside before l) l) e))
 
@@ -207,35 +198,36 @@ step line {lines} again (Some v) {whole} {before} {bundles} on had =
 
 -- THE PASS SAYS WHAT THE LINES ARE.
 pass-lines : (lines : List Line) → Known lines
-pass-lines [] whole before bundles n last had at e =
+pass-lines [] whole before bundles last had on e =
     ap (λ f. unless f had) e ∙ ap (unless (fault_at_end before)) (gathered-none whole had before)
-pass-lines (line ∷ lines) whole before bundles n last had at e = step line (pass-lines lines) (content_of line.bytes) (on-line line at) had
+pass-lines (line ∷ lines) whole before bundles last had on e = step line (pass-lines lines) (content_of line.bytes) on had
 
 -- THE LINES DIRECTLY IN A COMPONENT stand before the same path.
 abbrev pub AreTogether : List Placed → List Placed → Type 0
 AreTogether before [] = Unit {0}
 AreTogether before (l ∷ ls) = Together l.path (beside before l) × AreTogether (before ++ l ∷ []) ls
 
-all-together : (lines : List Line) (whole before : List Placed) (bundles : List Bundle) (n : ℕ) → IsAt whole before bundles n lines →
+all-together : (lines : List Line) (whole before : List Placed) (bundles : List Bundle) → IsAt whole before bundles lines →
     AreTogether before (placed_from (opens bundles) lines)
-all-together [] whole before bundles n at = tt
-all-together (line ∷ lines) whole before bundles n at =
+all-together [] whole before bundles on = tt
+all-together (line ∷ lines) whole before bundles on =
     let l : Placed = with_content line (opens bundles) (content_of line.bytes) in (
-      together before bundles at.kept,
-      rw (opens-behind l bundles refl) at (all-together lines whole (before ++ l ∷ []) (bundles_behind l bundles) line.number (at-next l (on-line line at))),
+      together before bundles on.kept,
+      rw (opens-behind l bundles refl) at (all-together lines whole (before ++ l ∷ []) (bundles_behind l bundles) (at-next l lines on)),
     )
 
-first-at : (lines : List Line) → Rises 0 lines → IsAt (placed_from [] lines) [] [] 0 lines
-first-at lines r = record { parts = refl; kept = tt; earlier = All-nil (λ l. innermost l.path < 1); inner = omega arith; rises = r }
+first-at : (lines : List Line) → Rises 0 lines → IsAt (placed_from [] lines) [] [] lines
+first-at [] r = tt
+first-at (line ∷ lines) r =
+    record { parts = refl; place = refl; kept = tt; earlier = All-nil (λ l. innermost l.path < line.number); inner = r.0; rises = r.1 }
 
 pub pass-whole : (lines : List Line) → Rises 0 lines →
     pass (bottom ∷ []) None nothing_gathered lines
     ≡ unless (first_fault (placed_from [] lines)) (gathered_from (placed_from [] lines) nothing_gathered [] (placed_from [] lines))
-pass-whole lines r =
-    pass-lines lines (placed_from [] lines) [] [] 0 None nothing_gathered (first-at lines r) refl
+pass-whole lines r = pass-lines lines (placed_from [] lines) [] [] None nothing_gathered (first-at lines r) refl
 
 pub together-whole : (lines : List Line) → Rises 0 lines → AreTogether [] (placed_from [] lines)
-together-whole lines r = all-together lines (placed_from [] lines) [] [] 0 (first-at lines r)
+together-whole lines r = all-together lines (placed_from [] lines) [] [] (first-at lines r)
 
 -- there is a number after that of each line
 pub fits-from_within : (n : ℕ) (lines : List Line) → n + 1 < 2 ^ 64 → Within n lines → NumbersFit lines

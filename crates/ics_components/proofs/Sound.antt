@@ -1,7 +1,7 @@
 -- What is read of a value is in order.
-use Rattle.std.proofs.Common.{◌≡◌, ap, ◌∙◌, ℕ, Bool, true, false, not, List, [], ◌∷◌, refl, sym, subst, cond, Result, Ok, Err, map, ℤ, pos, arith, ◌≢◌, ◌≤◌}
-use Rattle.std.proofs.Common.{◌+◌, ◌*◌, nat_le, neg_ℤ, ◌&&◌, IsTrue, ◌++◌, get_or, ◌==◌, length, Option, Some, None, is_some, IfSome}
-use Rattle.std.specs.List.{All, list_all, list_any}
+use Rattle.std.proofs.Common.{◌≡◌, ◌∙◌, ℕ, Bool, true, false, not, List, [], ◌∷◌, refl, sym, subst, cond, Result, Ok, Err, map, ℤ, pos, arith, ◌≢◌, ◌≤◌}
+use Rattle.std.proofs.Common.{◌+◌, ◌*◌, nat_le, ◌&&◌, ◌++◌, get_or, ◌==◌, length, Option, Some, None, is_some, IfSome}
+use Rattle.std.specs.List.{All, list_any}
 use Rattle.std.proofs.lemmas.Bool.{cond_both, and_parts, or_parts, not-false}
 use Rattle.std.proofs.lemmas.Int.{ints}
 use Rattle.std.proofs.lemmas.List.Elements.{All-nil, All-cons, All-append, All-tail, All-map, All-weaker}
@@ -9,7 +9,7 @@ use Rattle.std.proofs.lemmas.List.Sums.{list_all-from_AllPass}
 use Rattle.ics_values.specs.Durations.{duration_of}
 use Rattle.ics_values.specs.Periods.{first_half, second_half, lasts}
 use Rattle.ics_values.specs.RuleTexts.{pieces}
-use Rattle.ics_values.specs.Stamps.{is_date_time_form, is_stamp_text, is_stamp_year, year_of, stamp_said, stamp_of, stamp_day}
+use Rattle.ics_values.specs.Stamps.{is_date_time_form, is_stamp_text, is_stamp_year, year_of, stamp_said, stamp_of}
 use Rattle.ics_fields.specs.Days.{IsStampDay}
 use Rattle.ics_values.specs.Texts.{begins, is_minus, with_sign}
 use Rattle.ics_values.specs.declared.duration.Duration.{Duration}
@@ -24,7 +24,7 @@ use Rattle.ics_components.specs.DateValues.{listed_in}
 use Rattle.ics_components.specs.declared.date_list.ListedDate.TheVariants as listed
 use Rattle.ics_components.specs.Sound.{IsSoundStamp, IsSoundValue, IsSoundList, IsSoundLength, IsWhole, IsSoundObservance, IsSoundZone}
 use Rattle.ics_components.specs.Values.{stamp_in, duration_in, lasting_of, is_lasting, allowed, zone_name, is_filled, ends_badly}
-use Rattle.std.specs.Prelude.{codes, drop, take, find, filter, filter_map, flat_map, int_le, option_map, unwrap_or}
+use Rattle.std.specs.Prelude.{codes, drop, take, find, filter, filter_map, flat_map, option_map, unwrap_or}
 use Rattle.std.proofs.lemmas.Bool.Decides.{nat_tests}
 use Rattle.jiff_core.specs.Calendar.{IsWithin}
 use Rattle.ics_fields.specs.Locals.{local_at}
@@ -48,11 +48,10 @@ use Rattle.ics_components.specs.declared.dated.Dated.{Dated}
 use Rattle.ics_components.specs.declared.date_list.DateList.{DateList}
 use Rattle.ics_components.specs.declared.fault.FaultKind.{FaultKind}
 use Rattle.ics_components.specs.declared.fault.FaultKind.TheVariants.{NoObservance, MissingUid, MissingStart, BadEnd}
-use Rattle.ics_components.proofs.Built.{collected_of}
 use Rattle.ics_components.proofs.Ended.{events, zones}
 use Rattle.ics_components.proofs.Listed.{All-flat_map}
 use Rattle.ics_components.proofs.Order.{Sort, ended_as, ended_from, none-found}
-use Rattle.ics_components.proofs.Table.{own as observance_at, parts, any-part, has-first}
+use Rattle.ics_components.proofs.Table.{own as observance_at, parts, any-part, has-first, collected_of}
 use Rattle.ics_components.proofs.Bundles.{Together, together-in, zone-lines}
 use Rattle.ics_components.proofs.PassLemmas.{AreTogether}
 
@@ -165,8 +164,8 @@ observance-sound own =
     record {
       bounds = record {
         start_in =
-            by_first (λ o. IsSoundLocal (unwrap_or o (local_at (pos 0) 0))) onset_on day-zero (λ l. onset-sound (stamp_of false (value l)) (sound-stamp false (value l)))
-            (first_named (codes "DTSTART") own);
+            by_first (λ o. IsSoundLocal (unwrap_or o (local_at (pos 0) 0))) onset_on day-zero
+            (λ l. onset-sound (stamp_of false (value l)) (sound-stamp false (value l))) (first_named (codes "DTSTART") own);
         from_in = offset (codes "TZOFFSETFROM");
         to_in = offset (codes "TZOFFSETTO");
       };

@@ -1,6 +1,6 @@
 -- The table of faults and the pass find one fault on a line.
 use Rattle.std.proofs.Common.{rules, ◌≡◌, ℕ, Bool, true, false, List, [], ◌∷◌, map, refl, sym, ap, ◌∙◌, arith, cond, suc, Option, Some, None, Result, Err}
-use Rattle.std.specs.Prelude.{codes, length, find, filter, not, nat_le, ◌==◌, ◌&&◌, ◌||◌, is_some, option_map}
+use Rattle.std.specs.Prelude.{codes, length, find, filter, flat_map, not, nat_le, ◌==◌, ◌&&◌, ◌||◌, is_some, option_map}
 use Rattle.std.specs.List.{list_any}
 use Rattle.std.specs.Str.{bytes_eq}
 use Rattle.std.proofs.Math.Bool.{and-true, and_assoc, or_comm}
@@ -8,6 +8,7 @@ use Rattle.std.proofs.lemmas.Bool.{ne_eqb}
 use Rattle.ics_text.specs.Bytes.{upper}
 use Rattle.ics_text.specs.ContentLines.{Parts}
 use Rattle.ics_values.specs.Rules.{rule_of}
+use Rattle.ics_values.specs.Integers.{integer_of}
 use Rattle.ics_fields.specs.Observances.{ObservanceSaid}
 use Rattle.ics_fields.specs.RuleParts.{RuleParts}
 use Rattle.ics_values.specs.declared.rule_text.RuleFault.{RuleFault}
@@ -28,16 +29,47 @@ use Rattle.ics_components.specs.declared.name.Name.{Name}
 use Rattle.ics_components.specs.declared.name.Name.TheVariants as name
 use Rattle.ics_components.specs.Components.{component_of, component_name, is_outside_context, is_event_context, is_zone_context, is_observance_context}
 use Rattle.ics_components.specs.Names.{name_of}
-use Rattle.ics_components.specs.PlacedLines.{Placed, Open, context_of, closes, begins_observance, calendar_of, lines_in, has, is_named, first_named}
+use Rattle.ics_components.specs.PlacedLines.{Placed, Open, context_of, closes, begins_observance, calendar_of, lines_in, has, is_named, first_named, value}
 use Rattle.ics_components.specs.PlacedLines.{first_of as first_line, all_named}
-use Rattle.ics_components.specs.Values.{is_bad_rule, is_large_rule, is_fine_rule}
-use Rattle.ics_components.specs.Faults.{stands, kinds}
+use Rattle.ics_components.specs.Values.{is_bad_rule, is_large_rule, is_fine_rule, ok_or_zero, is_cancelled}
+use Rattle.ics_components.specs.Faults.{stands, kinds, first_text, first_dated, duration_on, parts_on, rdates_on, exdates_on}
 use Rattle.ics_components.specs.Lines.{first, fault_if, rule_fault_of, outside_fault, builder_fault, calendar_fault, zone_fault}
-use Rattle.ics_components.specs.Observances.{observance_by, begins_in_zone}
-use Rattle.ics_components.proofs.Built.{collected_of, zone_of, observance_of}
+use Rattle.ics_components.specs.Observances.{observance_by, begins_in_zone, onset_on, offset_on, daily_on, onsets_by}
 use Rattle.ics_components.proofs.DateValueLemmas.{first-cond}
 use Rattle.ics_components.proofs.Judged.{fault_in, is_begin_name, is_end_name}
 use Rattle.ics_components.proofs.NameLemmas.{Tells, tells, TellsComponent, tells_component, component_name-of}
+
+-- WHAT IS BUILT of the lines that stand directly in a component: an event
+abbrev pub collected_of : List Placed → EventBuilder
+collected_of lines = record {
+  uid = first_text (codes "UID") lines;
+  start = first_dated (codes "DTSTART") lines;
+  end = first_dated (codes "DTEND") lines;
+  duration = option_map duration_on (first_named (codes "DURATION") lines);
+  rule = option_map parts_on (first_named (codes "RRULE") lines);
+  rdates = map rdates_on (all_named (codes "RDATE") lines);
+  exdates = map exdates_on (all_named (codes "EXDATE") lines);
+  recurrence = first_dated (codes "RECURRENCE-ID") lines;
+  sequence = option_map (λ line. ok_or_zero (integer_of (value line))) (first_named (codes "SEQUENCE") lines);
+  title = first_text (codes "SUMMARY") lines;
+  location = first_text (codes "LOCATION") lines;
+  description = first_text (codes "DESCRIPTION") lines;
+  cancelled = option_map (λ line. is_cancelled (value line)) (first_named (codes "STATUS") lines);
+}
+
+-- a time zone whose observances are these
+abbrev pub zone_of : List ObservanceSaid → List Placed → ZoneBuilder
+zone_of observances lines = record { name = first_text (codes "TZID") lines; observances = observances }
+
+-- an observance
+abbrev pub observance_of : List Placed → ObservanceBuilder
+observance_of lines = record {
+  start = option_map onset_on (first_named (codes "DTSTART") lines);
+  from = option_map offset_on (first_named (codes "TZOFFSETFROM") lines);
+  to = option_map offset_on (first_named (codes "TZOFFSETTO") lines);
+  rule = option_map daily_on (first_named (codes "RRULE") lines);
+  rdates = flat_map onsets_by (all_named (codes "RDATE") lines);
+}
 
 -- what is collected of some lines of a calendar, read as those of an event, of a time zone and of an observance
 pub record Readings : Type 0 where
@@ -180,7 +212,8 @@ module _ (whole : List Placed) (path : List Open) (number : ℕ) (v : Parts) (ls
       (is_event_context q || is_observance_context q) ≡ false → Same n
   plain n q e k c o = by_context q c o ((marks (map upper v.name) n e).0 ∙ k.0) ((marks (map upper v.name) n e).1 ∙ k.1)
     where
-      inner : (q : Context) → builder_fault q n v (builder_at q (readings whole path ls)) ≡ fault_in n v (frame_at (top_component path) q (readings whole path ls)) (length path)
+      inner : (q : Context) →
+          builder_fault q n v (builder_at q (readings whole path ls)) ≡ fault_in n v (frame_at (top_component path) q (readings whole path ls)) (length path)
       inner q = inner-fault n v (frame_at (top_component path) q (readings whole path ls)) (length path) k
 
       by_context : (q : Context) → context_of path ≡ q → (is_event_context q || is_observance_context q) ≡ false →

@@ -1,4 +1,4 @@
-use Rattle.std.proofs.Common.{◌==◌, ◌∙◌, sym, rules, tests, Ok, Err}
+use Rattle.std.proofs.Common.{◌==◌, ◌∙◌, sym, rules, tests}
 use Rattle.std.proofs.lemmas.Iterator.Splits.{YieldsList-from_slice_split}
 use Rattle.std.proofs.lemmas.Iterator.Consumers.{YieldsList-end}
 use Rattle.ics_components.specs.Lines.{dates_fault, judged, value_of}
@@ -7,10 +7,10 @@ use Rattle.ics_components.proofs.date_list.Dates.read.Goals as goal
 
 pub values-preserved-in-Continue-1 : goal.values-preserved-in-Continue-1
 values-preserved-in-Continue-1 c =
-    rw c.in_ok-push-in-Ok.ensures.items (read-more dates-read _ c.values.yielded c.in-Some.value (Ok _) c.values.invariant (sym c.value.ensures ∙ c.in-Ok.is))
+    rw c.in_ok-push-in-Ok.ensures.items (read-more dates-read _ c.values.yielded c.in-Some.value c.values.invariant (sym c.value.ensures ∙ c.in-Ok.is))
 
 pub values-preserved : goal.values-preserved
-values-preserved c = rw c.lesser.ensures (read-more dates-read _ c.values.yielded c.in-Some.value (Err _) c.values.invariant (sym c.value.ensures ∙ c.in-Err.is))
+values-preserved c = rw c.lesser.ensures (read-more dates-read _ c.values.yielded c.in-Some.value c.values.invariant (sym c.value.ensures ∙ c.in-Err.is))
 
 pub returns-in-Some-least : goal.returns-in-Some-least
 returns-in-Some-least c =

@@ -1,4 +1,4 @@
-use Rattle.std.proofs.Common.{◌==◌, ◌++◌, ◌∙◌, sym, ap, false, rules, tests, Ok, Err}
+use Rattle.std.proofs.Common.{◌==◌, ◌++◌, ◌∙◌, sym, ap, false, rules, tests}
 use Rattle.std.proofs.lemmas.Iterator.Splits.{YieldsList-from_slice_split}
 use Rattle.std.proofs.lemmas.Iterator.Consumers.{YieldsList-end}
 use Rattle.ics_components.specs.DateValues.{rdate_of, rdates_of}
@@ -8,10 +8,10 @@ use Rattle.ics_components.proofs.observances.Locals.add.Goals as goal
 
 pub values-preserved-in-Continue-1 : goal.values-preserved-in-Continue-1
 values-preserved-in-Continue-1 c =
-    rw c.in_ok-push-in-Ok.ensures.items (read-more onsets-read _ c.values.yielded c.in-Some.value (Ok _) c.values.invariant (sym c.onset.ensures ∙ c.in-Ok.is))
+    rw c.in_ok-push-in-Ok.ensures.items (read-more onsets-read _ c.values.yielded c.in-Some.value c.values.invariant (sym c.onset.ensures ∙ c.in-Ok.is))
 
 pub values-preserved : goal.values-preserved
-values-preserved c = rw c.lesser.ensures (read-more onsets-read _ c.values.yielded c.in-Some.value (Err _) c.values.invariant (sym c.onset.ensures ∙ c.in-Err.is))
+values-preserved c = rw c.lesser.ensures (read-more onsets-read _ c.values.yielded c.in-Some.value c.values.invariant (sym c.onset.ensures ∙ c.in-Err.is))
 
 pub returns-in-Some-least : goal.returns-in-Some-least
 returns-in-Some-least c =
