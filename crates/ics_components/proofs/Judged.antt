@@ -17,8 +17,8 @@ use Rattle.ics_components.specs.declared.name.Name.{Name}
 use Rattle.ics_components.specs.declared.name.Name.TheVariants as name
 use Rattle.ics_components.specs.declared.builder.Builder.{Builder}
 use Rattle.ics_components.specs.Components.{component_of, component_name}
-use Rattle.ics_components.specs.Lines.{unless, first, fault_if, builder_fault, builder_note, builder_check, passed, fault_at_end_of, ended_as, joined}
-use Rattle.ics_components.specs.Lines.{end_check, opened, outside_fault, begin_fault, frame_fault, named_line}
+use Rattle.ics_components.specs.Lines.{first, fault_if, builder_fault, builder_note, builder_check, passed, fault_at_end_of, ended_as, joined}
+use Rattle.ics_components.specs.Lines.{end_check, opened, outside_fault}
 
 abbrev pub ended_in : Frame → Ended
 ended_in f = ended_as f.calendar f.builder
@@ -37,13 +37,6 @@ abbrev pub check_in : Name → Parts → Frame → Option DeferredCheck
 check_in name.Begin c f = None
 check_in name.End c f = end_check f.calendar f.builder
 check_in n c f = builder_check f.calendar n c f.builder
-
-abbrev pub fault_on : Name → Parts → List Frame → Option FaultKind
-fault_on name.Begin c frames = begin_fault (component_of (map upper c.value)) frames
-fault_on name.End c (f ∷ g ∷ gs) = frame_fault (map upper c.value) f
-fault_on name.End c _ = Some kind.NotCalendar
-fault_on n c [] = Some kind.NotCalendar
-fault_on n c (f ∷ fs) = builder_fault f.context n c f.builder
 
 abbrev pub check_on : Name → Parts → List Frame → Option DeferredCheck
 check_on n c [] = None
@@ -69,13 +62,6 @@ ends _ _ = ended.Nothing
 
 abbrev pub passing : Name → Parts → List Frame → Passed
 passing n c frames = passed (ends n frames) (check_on n c frames)
-
-pub line-is : (number : ℕ) (n : Name) (c : Parts) (frames : List Frame) →
-    named_line number n c frames ≡ unless (fault_on n c frames) (behind number n c frames, passing n c frames)
-line-is number name.End c (f ∷ g ∷ gs) = refl
-line-is number name.End c _ = refl
-line-is number _ c [] = refl
-line-is number _ c (f ∷ fs) = refl
 
 pub end-inside : (q : Context) (matches : Bool) (s : Builder) → q ≢ context.Outside →
     end_fault_at q matches s ≡ cond matches (fault_at_end_of s) (Some kind.BadNesting)

@@ -24,11 +24,11 @@ use Rattle.ics_components.specs.Gathered.{nothing_gathered, zones_of_end, events
 use Rattle.ics_components.specs.Lines.{unless as fine}
 use Rattle.ics_components.specs.Names.{name_of}
 use Rattle.ics_components.specs.Pass.{bottom, is_lowest, at_end, unless, on_line, on_content, pass, NumbersFit}
-use Rattle.ics_components.proofs.Judged.{fault_in, fault_on, check_in, behind, ends, passing, line-is}
+use Rattle.ics_components.proofs.Judged.{fault_in, check_in, behind, ends, passing}
 use Rattle.ics_components.proofs.Table.{parts, any-part, frame_of, IsAsked, least-same}
 use Rattle.ics_components.proofs.Bundles.{Bundle, Keeps, Together, Before, falls, open_of, opens, opens-behind, top_beside, together, together-in, zone-lines}
 use Rattle.ics_components.proofs.Bundles.{bundles_behind, keeps}
-use Rattle.ics_components.proofs.Frames.{frames_of, top_of, with, Closes, frames-behind, fault-top, check-top}
+use Rattle.ics_components.proofs.Frames.{frames_of, top_of, with, Closes, frames-behind, line-top, check-top}
 use Rattle.ics_components.proofs.Order.{last-more, Falls, falls-behind, lines_in-whole, Sort, ended_as, ended_from, nested}
 use Rattle.ics_components.proofs.Ended.{events, zones, Picks, events-picked, zones-picked, picked-same, IsMatched}
 
@@ -159,13 +159,13 @@ module _ (line : Line) {lines : List Line} (again : Known lines) (v : Parts) {wh
       (further had.checks _ _ (checks_from whole (before ++ l ∷ []) rest)
       (ap (checks_of line.number) (check-top whole before n v bundles ∙ ap (check_in n v) beside-top)))
 
-  least : fault_on n v frames ≡ find (λ kind. stands kind (beside before l) l) kinds
+  least : fault_in n v (top_of whole before bundles) (length (opens bundles)) ≡ find (λ kind. stands kind (beside before l) l) kinds
   least =
       let asked : IsAsked whole (opens bundles) (beside before l) =
       λ z. zone-lines (opens bundles) z (beside before l)
       (together-in is_zone_context (opens bundles) (beside before l) refl z (together before bundles on.kept))
       ∙ any-part whole (beside before l) in
-      fault-top whole before n v bundles ∙ ap (λ f. fault_in n v f (length (opens bundles))) beside-top
+      ap (λ f. fault_in n v f (length (opens bundles))) beside-top
       ∙ sym (least-same whole (opens bundles) line.number v (beside before l) asked)
 
   -- with its least fault, and where it has none
@@ -193,7 +193,7 @@ step line {lines} again (Some v) {whole} {before} {bundles} on had =
     let n : Name = name_of (map upper v.name) in
     let frames : List Frame = frames_of whole bundles in
     ap (λ r. on_line line.number r had (λ frames had. pass frames (Some line.number) had lines))
-    (line-is line.number n v frames ∙ ap (λ o. fine o (behind line.number n v frames, passing n v frames)) (least line again v on had))
+    (line-top whole before line.number n v bundles ∙ ap (λ o. fine o (behind line.number n v frames, passing n v frames)) (least line again v on had))
     ∙ by_first line again v on had (find (λ kind. stands kind (beside before l) l) kinds) refl
 
 -- THE PASS SAYS WHAT THE LINES ARE.
