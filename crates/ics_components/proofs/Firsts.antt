@@ -4,6 +4,7 @@ use Rattle.std.proofs.lemmas.List.{append-nil}
 use Rattle.ics_components.specs.declared.fault.FaultKind.{FaultKind}
 use Rattle.ics_components.specs.PlacedLines.{Placed}
 use Rattle.ics_components.specs.FirstFault.{Fault, Round, found, first_from, least_on, NoneStand, IsFirst}
+use Rattle.ics_components.proofs.Order.{found-none}
 
 abbrev AtEnd : Type 0
 AtEnd = List Placed → Option Fault
@@ -53,13 +54,10 @@ finds round at_end before (l ∷ ls) f e = by_least (finds round at_end (before 
 pub finds-none : (round : Round) (at_end : AtEnd) (before lines : List Placed) → first_from round at_end before lines ≡ None →
     NoneStand round before lines × (at_end (before ++ lines) ≡ None)
 finds-none round at_end before [] e = (tt, ap at_end (append-nil before) ∙ e)
-finds-none round at_end before (l ∷ ls) e = by_least (finds-none round at_end (before ++ l ∷ []) ls) (least_on round before l) refl e
-  where
-    by_least : (first_from round at_end (before ++ l ∷ []) ls ≡ None → NoneStand round (before ++ l ∷ []) ls × (at_end ((before ++ l ∷ []) ++ ls) ≡ None)) →
-        (o : Option FaultKind) → least_on round before l ≡ o → found l.number o (first_from round at_end (before ++ l ∷ []) ls) ≡ None →
-        NoneStand round before (l ∷ ls) × (at_end (before ++ l ∷ ls) ≡ None)
-    by_least again (Some kind) h e = cc
-    by_least again None h e = let r = again e in ((h, r.0), ap at_end (sym (append_assoc before (l ∷ []) ls)) ∙ r.1)
+finds-none round at_end before (l ∷ ls) e =
+    let none = found-none l.number (least_on round before l) (first_from round at_end (before ++ l ∷ []) ls) e in
+    let rest = finds-none round at_end (before ++ l ∷ []) ls none.1 in
+    ((none.0, rest.0), ap at_end (sym (append_assoc before (l ∷ []) ls)) ∙ rest.1)
 
 -- lines on which no fault stands are passed
 passed : (round : Round) (at_end : AtEnd) (before front rest : List Placed) → NoneStand round before front →
