@@ -6,5 +6,4 @@ pub mod Whole
 pub mod EventSound
 pub mod ZoneTables
 pub mod Settling
-mod FaultRows
 pub mod FileLaws
