@@ -60,8 +60,3 @@ plain_text-escaped (b ∷ bs) = by_tests (plain_text-escaped bs) (stands_for_its
     by_tests later true lf h k = rw (h, and_right (b == 92) false refl, h) (ap (λ t. b ∷ t) later)
     by_tests later false true h k = rw (h, k) (let e : b ≡ 10 = eqb-true b 10 k in rw e (ap (λ t. 10 ∷ t) later))
     by_tests later false false h k = rw (h, k) (rw (plain b h) (ap (λ t. b ∷ t) later))
-
--- worked cases
-escapes : text_of (codes "a\\,b\\\\n\\nc\\x\\") ∷ text_of (codes "\\N\\;;") ∷ escaped (codes "a,b;" ++ 10 ∷ codes "\\") ∷ []
-    ≡ (codes "a,b\\n" ++ 10 ∷ codes "c\\x\\") ∷ (10 ∷ codes ";;") ∷ codes "a\\,b\\;\\n\\\\" ∷ []
-escapes = refl
