@@ -135,16 +135,7 @@ month_day e =
     let same : month_of e - 1 + 1 ≡ month_of e = omega (arith, some) in
     let start : month_start (month_number e) ≡ days_before_year (year_of e) + days_of_months (pos (year_of e)) (month_of e - 1) = rw (year, month) refl in
     let size = rw (one, year, month, same) at (month_size (month_number e - 1)) in
-    let bounds = days_in_month_bounds (pos (year_of e)) (month_of e) in
-    let low = month_begun (month_number e) e (omega arith) in
-    let own = year_day_is e in
-    record {
-      low = low;
-      high = grind (arith, cases_lt, month_begins);
-      place = omega (arith, own, start, low);
-      size = omega (arith, start, size);
-      end = omega (arith, start, size, bounds.0, low);
-    }
+    grind (arith, cases_lt, days_in_month_bounds (pos (year_of e)) (month_of e), month_begins, month_begun (month_number e) e, year_day_is e)
 
 -- ---- what the parts list
 
