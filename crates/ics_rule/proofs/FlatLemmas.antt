@@ -70,13 +70,12 @@ module _ (q : EffectiveRule) (flat : IsFlat q) where
       let len = days_in_month (pos (i / 12)) (i % 12 + 1) in
       let size = month_size i in
       let bounds = days_in_month_bounds (pos (i / 12)) (i % 12 + 1) in
-      let whole = ap (allowed_before q) (let next : month_local (suc i) ≡ month_local i + len * 86_400 = omega (arith, size) in next) in
-      let add = count-add (month_local i) (len * 86_400) (is_allowed q) in
+      let next : month_local (suc i) ≡ month_local i + len * 86_400 = omega (arith, size) in
       let same = count-same (len * 86_400) (λ k. is_allowed q (month_local i + k)) (in_month (i % 12)) (λ k l. allowed_is i k year l) in
       let most = count_flat (28 * 86_400) (len * 86_400) (in_month (i % 12)) (omega (arith, bounds.1))
       (λ k l u. ap (λ x. x && lets_clock q k) (and_right (lets q.months (i % 12 + 1)) (contains q.month_days.front (k / 86_400 + 1))
       (flat.front (k / 86_400 + 1) (omega (arith, l))))) in
-      omega (arith, whole, add, same, most)
+      rw (next, count-add (month_local i) (len * 86_400) (is_allowed q), same, most) refl
 
   -- the first months of a year
   abbrev months_add : ℕ → ℕ

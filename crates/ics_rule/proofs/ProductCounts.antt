@@ -22,9 +22,7 @@ count-place d b t p q h =
 
 module _ (n b : ℕ) (p q : ℕ → Bool) (some : 0 < b) where
   count-at : count n (λ m. p (m / b) && q (m % b)) ≡ count (n / b) p * count b q + cond (p (n / b)) 1 0 * count (n % b) q
-  count-at = let whole = div-add-mod' n b in
-      sym (ap (λ x. count x (λ m. p (m / b) && q (m % b))) whole)
-      ∙ count-place (n / b) b (n % b) p q (let l : n % b < b = mod-lt n some in omega (arith, l))
+  count-at = let l : n % b < b = mod-lt n some in rw (div-add-mod' n b) at (count-place (n / b) b (n % b) p q (omega (arith, l)))
 
   -- where the block of n passes, and where it does not
   pub count_taken : {blocks size rest : ℕ} → p (n / b) ≡ true → blocks ≡ count (n / b) p → size ≡ count b q → rest ≡ count (n % b) q
