@@ -11,7 +11,7 @@ use Rattle.ics_components.specs.declared.component.Context.TheVariants as contex
 use Rattle.ics_components.specs.declared.frame.Frame.{Frame}
 use Rattle.ics_components.specs.declared.name.Name.{Name}
 use Rattle.ics_components.specs.declared.name.Name.TheVariants as name
-use Rattle.ics_components.specs.Components.{component_of, context_in}
+use Rattle.ics_components.specs.Components.{component_of}
 use Rattle.ics_components.specs.Names.{name_of}
 use Rattle.ics_components.specs.PlacedLines.{Placed, Open, context_of, property_name, is_begin, is_end, component, path_behind, calendar_of, lines_in}
 use Rattle.ics_components.specs.Builders.{fresh, observance_ended}
@@ -60,25 +60,10 @@ module _ (whole before : List Placed) where
   fresh-at c context.Event path = refl
   fresh-at c _ path = refl
 
-  opened-over : (f : Bundle) (c : Component) (bundles : List Bundle) →
-      record {
-        component = c;
-        context = context_in (context_of (opens bundles)) c;
-        calendar = calendar_of (opens (f ∷ bundles));
-        builder = fresh (context_in (context_of (opens bundles)) c);
-      } ∷ frames_of whole bundles
-      ≡ opened f.begin.number c (frames_of whole bundles)
-  opened-over f c [] = refl
-  opened-over f c (b ∷ []) = refl
-  opened-over f c (b ∷ d ∷ ds) = refl
-
   begun : (l : Placed) (bundles : List Bundle) →
       frames_of whole (record { begin = l; lines = [] } ∷ bundles) ≡ opened l.number (component_of (component l)) (frames_of whole bundles)
-  begun l bundles =
-      let c : Component = component_of (component l) in
-      let new : Bundle = record { begin = l; lines = [] } in
-      ap (λ (f : Frame). f ∷ frames_of whole bundles) (fresh-at c (context_in (context_of (opens bundles)) c) (opens (new ∷ bundles)))
-      ∙ opened-over new c bundles
+  begun l (b ∷ []) = ap (λ (f : Frame). f ∷ frames_of whole (b ∷ [])) (fresh-at _ _ (opens (record { begin = l; lines = [] } ∷ b ∷ [])))
+  begun l bundles = ap (λ (f : Frame). f ∷ frames_of whole bundles) (fresh-at _ _ (opens (record { begin = l; lines = [] } ∷ bundles)))
 
   -- what is collected of a component that ends, and of the one that it stands in
   closed-in : (l : Placed) (f : Bundle) {g : Bundle} {gs : List Bundle} → name_of (property_name l.content) ≡ name.End →
