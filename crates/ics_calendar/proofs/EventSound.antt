@@ -3,7 +3,7 @@ use Rattle.std.proofs.Common.{◌≡◌, ℕ, ◌≤◌, Bool, true, false, not,
 use Rattle.std.proofs.Common.{None, is_some, IfSome, int_lt, ℤ, pos, ◌+ℤ◌, ◌*ℤ◌, ◌<◌, length, get_or, sym, ap, ◌∙◌}
 use Rattle.std.specs.Prelude.{flat_map, map, option_map}
 use Rattle.std.specs.List.{All, list_any}
-use Rattle.std.proofs.lemmas.Bool.{or_parts}
+use Rattle.std.proofs.lemmas.Bool.{or_parts, false_from_ne_true}
 use Rattle.std.proofs.lemmas.Bool.Decides.{nat_tests, same_from_decides, Decides-eqb}
 use Rattle.std.proofs.lemmas.Int.{ints}
 use Rattle.std.proofs.lemmas.List.Elements.{All-nil, All-cons, All-head, All-tail, All-map}
@@ -22,7 +22,7 @@ use Rattle.ics_components.specs.declared.gathered.GivenLength.{GivenLength}
 use Rattle.ics_components.specs.declared.date_list.DateList.{DateList}
 use Rattle.ics_components.specs.declared.date_list.ListedDate.{ListedDate}
 use Rattle.ics_components.specs.declared.dated.Dated.{Dated}
-use Rattle.ics_components.specs.declared.fault.FaultKind.TheVariants.{UnknownZone, BadZoneFile, BadEnd}
+use Rattle.ics_components.specs.declared.fault.FaultKind.TheVariants.{UnknownZone, BadZoneFile}
 use Rattle.ics_components.specs.declared.deferred_check.DeferredCheck.{DeferredCheck}
 use Rattle.ics_components.specs.declared.deferred_check.ZoneName.{ZoneName}
 use Rattle.ics_event.specs.Event.{is_zoned, IsTime, longest, IsWithin, IsEnd, IsLasting, IsLength, IsRdate, IsEvent, EndsBelow, RdateBelow}
@@ -54,11 +54,6 @@ use Rattle.ics_components.specs.declared.deferred_check.Instant.TheVariants as i
 abbrev pub IsFine : KnownZones → Option DeferredCheck → Type 0
 IsFine known o = IfSome o (λ l. judged known l ≡ None)
 
-pub known-zone : (t bad : Bool) → cond t None (cond bad (Some BadZoneFile) (Some UnknownZone)) ≡ None → t ≡ true
-known-zone true bad e = refl
-known-zone false true e = cc
-known-zone false false e = cc
-
 pub out-within : (start end : ℤ) → is_out start end ≡ false → IsWithin start end
 out-within start end h =
     let parts = or_parts (int_lt end start) (int_lt (start +ℤ pos longest) end) h in
@@ -80,14 +75,19 @@ abbrev fault_by : Bool → ZoneName → Option DeferredCheck
 fault_by zoned name = cond zoned (Some (check.Zone name)) None
 
 module _ (known : KnownZones) where
-  stamp-time : (name : ZoneName) (r : Stamp) → IsSoundStamp r → IsFine known (cond (is_zoned r) (Some (check.Zone name)) None) →
-      IsTime (time_in (known.index name) r)
-  stamp-time name (Zoned l) h k = record { years = h; zone = known-zone (is_some (known.index name)) (known.is_bad name.name) k }
-  stamp-time name _ h k = record { years = h; zone = refl }
+  -- the name of a zoned stamp is known
+  index-is : (used : ZoneName) → IsFine known (Some (check.Zone used)) → (i : ℕ) × (known.index used ≡ Some i)
+  index-is used h = by_index (known.index used) (known.is_bad used.name) refl h
+    where
+      by_index : (o : Option ℕ) (bad : Bool) → known.index used ≡ o → cond (is_some o) None (cond bad (Some BadZoneFile) (Some UnknownZone)) ≡ None →
+          (i : ℕ) × (known.index used ≡ Some i)
+      by_index (Some i) bad e g = (i, e)
+      by_index None true e g = cc
+      by_index None false e g = cc
 
-  time-sound : (calendar : ℕ) (d : Dated) → IsSoundStamp d.stamp → IsFine known (used_zone calendar d) →
-      IsTime (time_on known.index calendar d)
-  time-sound calendar d h k = stamp-time (zone_used calendar d) d.stamp h k
+  stamp-time : (name : ZoneName) (r : Stamp) → IsSoundStamp r → IsFine known (fault_by (is_zoned r) name) → IsTime (time_in (known.index name) r)
+  stamp-time name (Zoned l) h k = record { years = h; zone = ap is_some (index-is name k).1 }
+  stamp-time name _ h k = record { years = h; zone = refl }
 
   not-end : (t : Bool) → IsFine known (cond t (Some check.End) None) → t ≡ false
   not-end true h = cc
@@ -105,7 +105,7 @@ module _ (known : KnownZones) where
   length-sound : (calendar : ℕ) (start : Dated) (length : GivenLength) → IsSoundLength start length →
       IsFine known (used_in calendar (end_of length)) → IsFine known (ends_in calendar (Some start) (end_of length)) →
       IsLength (time_on known.index calendar start).stamp (length_of known.index calendar length)
-  length-sound k s (given.Until d) h u l = (time-sound k d h.0 u, end-is (zone_used k s) (zone_used k d) s.stamp d.stamp h.1 l)
+  length-sound k s (given.Until d) h u l = (stamp-time (zone_used k d) d.stamp h.0 u, end-is (zone_used k s) (zone_used k d) s.stamp d.stamp h.1 l)
   length-sound k s (given.Lasting d) h u l = lasting-is d h
   length-sound k s given.Open h u l = tt
 
@@ -148,26 +148,25 @@ module _ (known : KnownZones) where
         (λ i d l. values-are (f (known.index (zone_listed calendar (get_or lists i d)))) (zone_listed calendar (get_or lists i d))
         (each (zone_listed calendar (get_or lists i d))) (get_or lists i d).values (h i d l) (k i d l))
 
-  recurrence-is : (calendar : ℕ) (o : Option Dated) → IfSome o (λ d. IsSoundStamp d.stamp) → IsFine known (used_in calendar o) →
-      IfSome (option_map (time_on known.index calendar) o) IsTime
-  recurrence-is calendar None h k = tt
-  recurrence-is calendar (Some d) h k = time-sound calendar d h k
+  -- a RECURRENCE-ID, of whose time holds what holds of each
+  recurrence-is : (P : Time → Type 0) →
+      ((name : ZoneName) (r : Stamp) → IsSoundStamp r → IsFine known (fault_by (is_zoned r) name) → P (time_in (known.index name) r)) →
+      (calendar : ℕ) (o : Option Dated) → IfSome o (λ d. IsSoundStamp d.stamp) → IsFine known (used_in calendar o) →
+      IfSome (option_map (time_on known.index calendar) o) P
+  recurrence-is P each calendar None h k = tt
+  recurrence-is P each calendar (Some d) h k = each (zone_used calendar d) d.stamp h k
 
   pub event-is : (event : EndedEvent) → IsReady known event → IsEvent (event_of known.index event)
   event-is e r = record {
     named = r.whole.named;
-    start = time-sound e.calendar e.start r.whole.start r.zones.start;
+    start = stamp-time (zone_used e.calendar e.start) e.start.stamp r.whole.start r.zones.start;
     length = length-sound e.calendar e.start e.length r.whole.length r.zones.end r.zones.length;
     rdates = lists-are IsRdate rdate_in e.calendar rdate-is e.rdates r.whole.rdates r.zones.rdates;
     exdates = lists-are IsTime exdate_in e.calendar exdate-is e.exdates r.whole.exdates r.zones.exdates;
-    recurrence = recurrence-is e.calendar e.recurrence r.whole.recurrence r.zones.recurrence;
+    recurrence = recurrence-is IsTime stamp-time e.calendar e.recurrence r.whole.recurrence r.zones.recurrence;
   }
 
 -- THE ZONES OF ITS FILE.
-fine-end : (t : Bool) → cond t (Some BadEnd) None ≡ None → t ≡ false
-fine-end true e = cc
-fine-end false e = refl
-
 abbrev named : ℕ → List ℕ → ZoneName
 named k x = record { calendar = k; name = x }
 
@@ -181,21 +180,14 @@ module _ (known : KnownZones) (table : IsTable known) where
 
   -- instants that are checked as an end and its start
   instants-within : (s t : Instant) {x y : ℤ} → moment_of known s ≡ Some x → moment_of known t ≡ Some y → IsFine known (Some (check.Ends s t)) → IsWithin x y
-  instants-within s t {x} {y} e f h = out-within x y (fine-end (is_out x y) (rw (e, f) at h))
+  instants-within s t {x} {y} e f h =
+      let fine = rw (e, f) at h in out-within x y (false_from_ne_true (is_out x y) (λ out. let never = rw out at fine in cc))
 
   abbrev time : Stamp → Option ℕ → Time
   time s o = record { stamp = s; zone = o }
 
   abbrev Within : Stamp → Option ℕ → Stamp → Option ℕ → Type 0
   Within s o t p = IsWithin (compared (is_one_zone o p) known.zones (time s o)) (compared (is_one_zone o p) known.zones (time t p))
-
-  -- the name of a zoned stamp is known
-  index-is : (used : ZoneName) → IsFine known (Some (check.Zone used)) → (i : ℕ) × (known.index used ≡ Some i)
-  index-is used h = by_index (known.index used) refl (known-zone (is_some (known.index used)) (known.is_bad used.name) h)
-    where
-      by_index : (o : Option ℕ) → known.index used ≡ o → is_some o ≡ true → (i : ℕ) × (known.index used ≡ Some i)
-      by_index (Some i) e g = (i, e)
-      by_index None e g = cc
 
   abbrev used_on : ZoneName → Stamp → Option ℕ
   used_on name r = cond (is_zoned r) (known.index name) None
@@ -227,13 +219,15 @@ module _ (known : KnownZones) (table : IsTable known) where
         IsFine known (check_between (named k x) (named k y) r q) →
         EndsWithin known.zones (time r (used_on (named k x) r)) (Until (time q (used_on (named k y) q)))
     within (Zoned a) (Zoned b) l u v h g =
-        let i = index-is (named k x) u in
-        let j = index-is (named k y) v in
+        let i = index-is known (named k x) u in
+        let j = index-is known (named k y) v in
         rw (i.1, j.1) (both-zoned a b i.1 j.1 l h)
     within (Zoned a) (Utc b) l u v h g =
-        let i = index-is (named k x) u in rw i.1 (instants-within (instant.Zoned a (named k x)) (instant.Utc b) (local-there (named k x) a i.0 i.1) refl h)
+        let i = index-is known (named k x) u in
+        rw i.1 (instants-within (instant.Zoned a (named k x)) (instant.Utc b) (local-there (named k x) a i.0 i.1) refl h)
     within (Utc a) (Zoned b) l u v h g =
-        let j = index-is (named k y) v in rw j.1 (instants-within (instant.Utc a) (instant.Zoned b (named k y)) refl (local-there (named k y) b j.0 j.1) h)
+        let j = index-is known (named k y) v in
+        rw j.1 (instants-within (instant.Utc a) (instant.Zoned b (named k y)) refl (local-there (named k y) b j.0 j.1) h)
     within (Date a) (Zoned b) l u v h g = cc
     within (Floating a) (Zoned b) l u v h g = cc
     within _ _ l u v h g = cc
@@ -253,18 +247,11 @@ module _ (known : KnownZones) (table : IsTable known) where
 
   -- in one calendar
   module _ (k : ℕ) where
-    time-below : (d : Dated) → TimeBelow (length known.zones) (time_on known.index k d)
-    time-below d = stamp-below (zone_used k d) d.stamp
-
     ends-of : (s : Dated) (l : GivenLength) → IsSoundLength s l →
         IsFine known (used_zone k s) → IsFine known (used_in k (end_of l)) → IsFine known (ends_in k (Some s) (end_of l)) →
         EndsBelow (length known.zones) (length_of known.index k l) × EndsWithin known.zones (time_on known.index k s) (length_of known.index k l)
-    ends-of s (given.Until e) h u v w = (time-below e, within k (tzid s) (tzid e) s.stamp e.stamp h.1 u v w)
+    ends-of s (given.Until e) h u v w = (stamp-below (zone_used k e) e.stamp, within k (tzid s) (tzid e) s.stamp e.stamp h.1 u v w)
     ends-of s _ h u v w = (tt, tt)
-
-    recurrence-below : (o : Option Dated) → IfSome (option_map (time_on known.index k) o) (TimeBelow (length known.zones))
-    recurrence-below None = tt
-    recurrence-below (Some d) = time-below d
 
   event-of : (e : EndedEvent) → IsReady known e → IsEventOf known.zones (event_of known.index e)
   event-of e r =
@@ -272,11 +259,12 @@ module _ (known : KnownZones) (table : IsTable known) where
       let ends = ends-of e.calendar e.start e.length r.whole.length r.zones.start r.zones.end r.zones.length in
       record {
         below = record {
-          start = time-below e.calendar e.start;
+          start = stamp-below (zone_used e.calendar e.start) e.start.stamp;
           length = ends.0;
           rdates = lists-are known (RdateBelow zones) rdate_in e.calendar (λ used v h n. rdate-below used v) e.rdates r.whole.rdates r.zones.rdates;
           exdates = lists-are known (TimeBelow zones) exdate_in e.calendar (λ used v h n. exdate-below used v) e.exdates r.whole.exdates r.zones.exdates;
-          recurrence = recurrence-below e.calendar e.recurrence;
+          recurrence =
+              recurrence-is known (TimeBelow zones) (λ used r h n. stamp-below used r) e.calendar e.recurrence r.whole.recurrence r.zones.recurrence;
         };
         short = ends.1;
       }
