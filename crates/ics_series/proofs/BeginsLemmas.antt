@@ -1,11 +1,10 @@
 -- What the merge of rising lists begins with, and what it leaves.
 use Rattle.std.specs.List.{AllByRecursion}
-use Rattle.std.proofs.Common.{◌≡◌, ℕ, zero, suc, ◌<◌, List, [], ◌∷◌, refl, sym, ◌∙◌, ap, subst, map, get_or, length, arith}
+use Rattle.std.proofs.Common.{◌≡◌, ℕ, zero, suc, ◌<◌, List, [], ◌∷◌, ◌⊎◌, inl, inr, ⊎_elim, refl, sym, ◌∙◌, ap, subst, map, get_or, length, arith, Ordering}
+use Rattle.std.proofs.Common.{Less, Equal, Greater}
 use Rattle.std.specs.Cmp.{IsTotalOrder}
 use Rattle.std.specs.Ordering.{ordering_reverse}
-use Rattle.std.proofs.lemmas.Cmp.{alike_right, tied_itself}
-use Rattle.std.specs.declared.cmp.Ordering.{Ordering}
-use Rattle.std.specs.declared.cmp.Ordering.TheVariants.{Less, Equal, Greater}
+use Rattle.std.proofs.lemmas.Cmp.{alike_right, tied_back, tied_itself}
 use Rattle.ics_series.specs.Rising.{IsBefore, Rises}
 use Rattle.ics_series.specs.Merged.{by_order, put, union, merged, cut}
 use Rattle.ics_series.specs.MergedLaws.{before-put, before-tied, before-trans}
@@ -25,19 +24,34 @@ module _ {A : Type 0} (R : A → A → Ordering) (o : IsTotalOrder R) where
   before-union x [] zs h k = k
   before-union x (y ∷ ys) zs h k = before-put R o x y (union R ys zs) h.0 (before-union x ys zs h.1 k)
 
+  pub cut-own : (s : A) (xs : List A) → cut R s (s ∷ xs) ≡ xs
+  cut-own s xs = rw (tied_itself o s) refl
+
   pub cut-before : (x : A) (ys : List A) → IsBefore R x ys → cut R x ys ≡ ys
   cut-before x [] h = refl
   cut-before x (y ∷ ys) h = ap (λ c. by_order c (y ∷ ys) ys (y ∷ ys)) h.0
 
+  -- what is not after the first of a rising list comes before all of it but for one of its key
+  pub not-after-front : (x y : A) (ys : List A) → (R x y ≡ Greater → ⊥) → Rises R (y ∷ ys) → IsBefore R x (cut R x (y ∷ ys))
+  not-after-front x y ys n r = by (R x y) refl
+    where
+      by : (c : Ordering) → R x y ≡ c → IsBefore R x (by_order c (y ∷ ys) ys (y ∷ ys))
+      by Less e = (e, before-trans R o x y ys e r.0)
+      by Equal e = before-tied R o x y ys e r.0
+      by Greater e = absurd (n e)
+
+  -- what comes before all of a list but for one of its key at the front comes before that too, or is tied with it
+  pub front-cases : (e y : A) (ys : List A) → IsBefore R e (cut R e (y ∷ ys)) → IsBefore R e (y ∷ ys) ⊎ ((R e y ≡ Equal) × IsBefore R e ys)
+  front-cases e y ys = by (R e y) refl
+    where
+      by : (c : Ordering) → R e y ≡ c → IsBefore R e (by_order c (y ∷ ys) ys (y ∷ ys)) → IsBefore R e (y ∷ ys) ⊎ ((R e y ≡ Equal) × IsBefore R e ys)
+      by Equal p h = inr (p, h)
+      by _ p h = inl h
+
   -- x, of e's key, goes to the front where e would
   pub put-front : (e x : A) (ys : List A) → R e x ≡ Equal → IsBefore R e (cut R e ys) → put R x ys ≡ x ∷ cut R e ys
   put-front e x [] t h = refl
-  put-front e x (y ∷ ys) t h = rw (sym (o.congr e x y t)) (by (R e y) refl h)
-    where
-      by : (c : Ordering) → R e y ≡ c → IsBefore R e (by_order c (y ∷ ys) ys (y ∷ ys))
-          → by_order c (x ∷ y ∷ ys) (x ∷ ys) (y ∷ put R x ys) ≡ x ∷ by_order c (y ∷ ys) ys (y ∷ ys)
-      by Greater p h = let l = h.0 in cc
-      by _ p h = refl
+  put-front e x (y ∷ ys) t h = rw (sym (o.congr e x y t)) (⊎_elim (λ l. rw l.0 refl) (λ q. rw q.0 refl) (front-cases e y ys h))
 
   -- what comes before both lists stands at the front of their union
   pub union-front : (e : A) (xs ys : List A) → IsBefore R e xs → union R xs (e ∷ ys) ≡ e ∷ union R xs ys
@@ -46,13 +60,11 @@ module _ {A : Type 0} (R : A → A → Ordering) (o : IsTotalOrder R) where
 
   pub cut-union : (e : A) (xs ys : List A) → IsBefore R e xs → IsBefore R e (cut R e ys) → cut R e (union R xs ys) ≡ union R xs (cut R e ys)
   cut-union e xs [] h k = cut-before e (union R xs []) (before-union e xs [] h tt)
-  cut-union e xs (y ∷ ys) h k = by (R e y) refl k
-    where
-      by : (c : Ordering) → R e y ≡ c → IsBefore R e (by_order c (y ∷ ys) ys (y ∷ ys))
-          → cut R e (union R xs (y ∷ ys)) ≡ union R xs (by_order c (y ∷ ys) ys (y ∷ ys))
-      by Less p k = cut-before e (union R xs (y ∷ ys)) (before-union e xs (y ∷ ys) h k)
-      by Equal p k = rw (union-front y xs ys (before-tied R o y e xs (o.antisymm y e ∙ ap ordering_reverse p) h), p) refl
-      by Greater p k = let l = k.0 in cc
+  cut-union e xs (y ∷ ys) h k =
+      ⊎_elim
+      (λ l. rw l.0 (cut-before e (union R xs (y ∷ ys)) (before-union e xs (y ∷ ys) h l)))
+      (λ q. rw (union-front y xs ys (before-tied R o y e xs (tied_back o e y q.0) h), q.0) refl)
+      (front-cases e y ys k)
 
   pub front-union : (e : A) (xs ys : List A) → IsBefore R e xs → IsBefore R e (cut R e ys) → IsBefore R e (cut R e (union R xs ys))
   front-union e xs ys h k = subst (IsBefore R e) (sym (cut-union e xs ys h k)) (before-union e xs (cut R e ys) h k)
@@ -61,13 +73,11 @@ module _ {A : Type 0} (R : A → A → Ordering) (o : IsTotalOrder R) where
   pub cut-union-both : (e : A) (xs ys : List A) → IsBefore R e (cut R e xs) → Rises R xs → IsBefore R e (cut R e ys)
       → cut R e (union R xs ys) ≡ union R (cut R e xs) (cut R e ys)
   cut-union-both e [] ys h r k = refl
-  cut-union-both e (x ∷ xs) ys h r k = by (R e x) refl h
-    where
-      by : (c : Ordering) → R e x ≡ c → IsBefore R e (by_order c (x ∷ xs) xs (x ∷ xs))
-          → cut R e (put R x (union R xs ys)) ≡ union R (by_order c (x ∷ xs) xs (x ∷ xs)) (cut R e ys)
-      by Less p h = cut-union e (x ∷ xs) ys h k
-      by Equal p h = rw (put-front e x (union R xs ys) p (front-union e xs ys h k), p) (cut-union e xs ys h k)
-      by Greater p h = let l = h.0 in cc
+  cut-union-both e (x ∷ xs) ys h r k =
+      ⊎_elim
+      (λ l. rw l.0 (cut-union e (x ∷ xs) ys l k))
+      (λ q. rw (put-front e x (union R xs ys) q.0 (front-union e xs ys q.1 k), q.0) (cut-union e xs ys q.1 k))
+      (front-cases e x xs h)
 
   -- and of several
   cut-merged : (e : A) (xss : List (List A)) → AllFront R e xss → AllRise R xss →
@@ -81,58 +91,33 @@ module _ {A : Type 0} (R : A → A → Ordering) (o : IsTotalOrder R) where
   -- from y to x, where x does not come after y
   before-front : (x y : A) (zs : List A) → R x y ≡ Less → IsBefore R y (cut R y zs) → IsBefore R x zs
   before-front x y [] l h = tt
-  before-front x y (z ∷ zs) l h = by (R y z) refl h
-    where
-      by : (c : Ordering) → R y z ≡ c → IsBefore R y (by_order c (z ∷ zs) zs (z ∷ zs)) → IsBefore R x (z ∷ zs)
-      by Less p h = before-trans R o x y (z ∷ zs) l h
-      by Equal p h = (sym (alike_right o y z x p) ∙ l, before-trans R o x y zs l h)
-      by Greater p h = let q = h.0 in cc
+  before-front x y (z ∷ zs) l h =
+      ⊎_elim (before-trans R o x y (z ∷ zs) l) (λ q. (sym (alike_right o y z x q.0) ∙ l, before-trans R o x y zs l q.1)) (front-cases y z zs h)
 
-  -- what the merge begins with, and what it leaves
-  pub record Begins (e : A) (xss : List (List A)) : Type 0 where
-    pub fronts : AllFront R e xss
-    pub is : merged R xss ≡ e ∷ merged R (map (cut R e) xss)
+  -- what the union of two lists begins with, and what it leaves, where the first of all stands in the one or in the other
+  pub begins-first : (s : A) (xs ys : List A) → Rises R (s ∷ xs) → IsBefore R s (cut R s ys) → union R (s ∷ xs) ys ≡ s ∷ union R (cut R s (s ∷ xs)) (cut R s ys)
+  begins-first s xs ys r h =
+      rw (put-front s s (union R xs ys) (tied_itself o s) (front-union s xs ys r.0 h), cut-union s xs ys r.0 h, cut-own s xs) refl
 
-  -- e stands at the front of the first list, and not after any other
-  begins-here : (e : A) (xs : List A) (xss : List (List A)) → Rises R (e ∷ xs) → AllFront R e xss → AllRise R xss → Begins e ((e ∷ xs) ∷ xss)
-  begins-here e xs xss r h rs =
-      let tied : R e e ≡ Equal = tied_itself o e in
-      let k = cut-merged e xss h rs in
-      let whole : cut R e (e ∷ xs) ≡ xs = ap (λ c. by_order c (e ∷ xs) xs (e ∷ xs)) tied in
-      record {
-        fronts = (subst (IsBefore R e) (sym whole) r.0, h);
-        is = rw (
-          put-front e e (union R xs (merged R xss)) tied (front-union e xs (merged R xss) r.0 k.0),
-          cut-union e xs (merged R xss) r.0 k.0,
-          k.1,
-          whole,
-        ) refl;
-      }
+  pub begins-second : (s : A) (xs ys : List A) → IsBefore R s xs → union R xs (s ∷ ys) ≡ s ∷ union R (cut R s xs) (cut R s (s ∷ ys))
+  begins-second s xs ys h = rw (union-front s xs ys h, cut-before s xs h, cut-own s ys) refl
 
-  -- e stands in a later list, and the first list comes after it
-  begins-later : (e : A) (xs : List A) (xss : List (List A)) → IsBefore R e xs → Begins e xss → Begins e (xs ∷ xss)
-  begins-later e xs xss h b =
-      let whole : cut R e xs ≡ xs = cut-before e xs h in
-      record {
-        fronts = (subst (IsBefore R e) (sym whole) h, b.fronts);
-        is = rw (b.is, union-front e xs (merged R (map (cut R e) xss)) h, whole) refl;
-      }
-
-  all_front : (e : A) (xss : List (List A)) → ((i : ℕ) → i < length xss → IsBefore R e (cut R e (get_or xss i []))) → AllFront R e xss
+  pub all_front : (e : A) (xss : List (List A)) → ((i : ℕ) → i < length xss → IsBefore R e (cut R e (get_or xss i []))) → AllFront R e xss
   all_front e [] h = tt
   all_front e (xs ∷ xss) h = (h 0 (omega arith), all_front e xss (λ i l. h (suc i) (omega arith)))
 
-  -- e stands at the front of a list, before all of each list in front of that one, and after nothing of those behind it
+  -- what the merge begins with, and what it leaves: e stands at the front of a list, and before all of each list in front of that one
   pub begins-at : {e : A} {xs : List A} (xss : List (List A)) (place : ℕ) → AllRise R xss → get_or xss place [] ≡ e ∷ xs
-      → ((i : ℕ) → i < place → i < length xss → IsBefore R e (get_or xss i []))
-      → ((i : ℕ) → place < i → i < length xss → IsBefore R e (cut R e (get_or xss i []))) → Begins e xss
-  begins-at [] place r is before after = cc
-  begins-at {e = e} {xs = xs} (ys ∷ yss) zero r is before after =
-      subst (λ (zs : List A). Begins e (zs ∷ yss)) (sym is)
-      (begins-here e xs yss (subst (Rises R) is r.0) (all_front e yss (λ i l. after (suc i) (omega arith) (omega arith))) r.1)
-  begins-at {e = e} (ys ∷ yss) (suc place) r is before after =
-      begins-later e ys yss (before 0 (omega arith) (omega arith))
-      (begins-at yss place r.1 is (λ i l m. before (suc i) (omega arith) (omega arith)) (λ i l m. after (suc i) (omega arith) (omega arith)))
+      → ((i : ℕ) → i < place → i < length xss → IsBefore R e (get_or xss i [])) → AllFront R e xss → merged R xss ≡ e ∷ merged R (map (cut R e) xss)
+  begins-at [] place r is before fronts = cc
+  begins-at {e = e} {xs = xs} (ys ∷ yss) zero r is before fronts =
+      let rises : Rises R (e ∷ xs) = rw is at r.0 in
+      let k = cut-merged e yss fronts.1 r.1 in
+      rw is (begins-first e xs (merged R yss) rises k.0 ∙ ap (λ zs. e ∷ union R (cut R e (e ∷ xs)) zs) k.1)
+  begins-at {e = e} (ys ∷ yss) (suc place) r is before fronts =
+      let first = before 0 (omega arith) (omega arith) in
+      let rest = begins-at yss place r.1 is (λ i l m. before (suc i) (omega arith) (omega arith)) fronts.1 in
+      rw (rest, union-front e ys (merged R (map (cut R e) yss)) first, cut-before e ys first) refl
 
   pub front-at : (x : A) (xss : List (List A)) (i : ℕ) → AllFront R x xss → IsBefore R x (cut R x (get_or xss i []))
   front-at x [] i h = tt

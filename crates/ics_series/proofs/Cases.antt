@@ -1,17 +1,16 @@
 -- Case distinctions of options, tests and orders.
 use lib.Signed.{mag}
-use Rattle.std.proofs.Common.{◌≡◌, ℕ, suc, ◌<◌, ◌≤◌, ℤ, ◌⊎◌, Bool, true, false, not, Some, refl, arith, w64, to_z, of_z}
-use Rattle.std.specs.Ordering.{int_eq, is_eq, is_gt, ordering_then}
-use Rattle.std.specs.declared.cmp.Ordering.{Ordering}
-use Rattle.std.specs.declared.cmp.Ordering.TheVariants.{Less, Equal, Greater}
+use Rattle.std.proofs.Common.{◌≡◌, ℕ, suc, ◌<◌, ◌≤◌, ℤ, ◌⊎◌, true, false, Option, Some, None, option_map, refl, sym, arith, w64, to_z, of_z, int_eq}
+use Rattle.std.proofs.Common.{is_eq, is_gt, Ordering, Less, Equal, Greater}
+use Rattle.std.specs.Ordering.{ordering_then}
 use Rattle.std.proofs.lemmas.Int.{ints}
+pub use Rattle.std.proofs.lemmas.Bool.{not-true}
+pub use Rattle.std.proofs.lemmas.Option.{same_Some as some-same}
 
-pub some-same : {X : Type 0} (x y : X) → Some x ≡ Some y → x ≡ y
-some-same x y h = cc
-
-pub not-true : (b : Bool) → not b ≡ true → b ≡ false
-not-true true e = let f : false ≡ true = e in absurd cc
-not-true false e = refl
+-- what is mapped to something is something
+pub mapped-some : {X Y : Type 0} (f : X → Y) (o : Option X) (y : Y) → option_map f o ≡ Some y → (x : X) × (o ≡ Some x) × (y ≡ f x)
+mapped-some f None y h = let g : None ≡ Some y = h in absurd cc
+mapped-some f (Some x) y h = (x, refl, some-same y (f x) (sym h))
 
 pub equal-true : (a b : ℤ) → int_eq a b ≡ true → a ≡ b
 equal-true a b e = grind (arith, ints)

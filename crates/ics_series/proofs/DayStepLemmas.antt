@@ -1,10 +1,7 @@
 -- How many periods of rules are looked at from day to day, at most.
-use Rattle.std.specs.Prelude.{◌<ℤ◌, ◌≤ℤ◌, unsigned_abs, sum_by}
-use Rattle.std.specs.Option.{option_map}
 use Rattle.std.proofs.Common.{◌≡◌, ℕ, zero, suc, ◌+◌, ◌≤◌, ℤ, pos, ◌+ℤ◌, ◌-ℤ◌, List, [], ◌∷◌, ◌++◌, map, ◌⊎◌, inl, inr, ⊎_elim, Option, Some, None, refl, sym}
-use Rattle.std.proofs.Common.{ap, subst, arith}
+use Rattle.std.proofs.Common.{ap, subst, arith, ◌<ℤ◌, ◌≤ℤ◌, unsigned_abs, sum_by, option_map}
 use Rattle.std.proofs.lemmas.Int.{int_max_is, int_min_is, ints}
-use Rattle.std.proofs.lemmas.List.Elements.{All-contains, All-from_recursion}
 use Rattle.std.proofs.lemmas.List.Sums.{sum_by-le}
 use Rattle.ics_zone.proofs.Cases.{less_or_not_z}
 use Rattle.ics_series.specs.declared.window.Window.{Window}
@@ -22,7 +19,7 @@ use Rattle.ics_series.proofs.Cases.{here-or-later}
 use Rattle.ics_series.proofs.HoldingLaws.{sum_by-map}
 use Rattle.ics_series.proofs.NearDayLemmas.{day-under}
 use Rattle.ics_series.proofs.MasterSumLemmas.{day-masters, searched-masters, sum-of-masters}
-use Rattle.ics_series.proofs.SortLemmas.{contains-in}
+use Rattle.ics_series.proofs.SortLemmas.{all-in}
 use Rattle.ics_fields.specs.Locals.{day_of_local}
 
 -- a bound with nothing to come is one whatever is to come
@@ -57,8 +54,7 @@ module _ (s : Scope) (day : ℤ) (looked : ℕ) (before : IsLookedBefore s day l
   module _ (masters : List Placed) (all : AreMasters s masters) where
     bound-of : (most : Master → ℕ) → AreDayBounds s masters day most → (m : Recurring) → IsIn m (recurring sources) → HasStepBound m coming (most (master_of m))
     bound-of most bounds m k =
-        let of = All-contains (IsDayMaster s day) (recurring sources) m (All-from_recursion (IsDayMaster s day) (recurring sources) are)
-        (contains-in m (recurring sources) k) in
+        let of = all-in (IsDayMaster s day) (recurring sources) are m k in
         let near = bounds of.by ((all.exact of.by).1 of.is) m of.searched in
         wider m coming (most (master_of m)) (subst (λ (x : Master). HasStepBound m [] (most x)) (sym of.searched.same) near)
 
@@ -132,4 +128,4 @@ pub first-masters : (s : Scope) {day : ℤ} {key : Option Rank} {coming : List E
     → ((since : ℤ) → IsFrom key since → IsFromStart s.after day since)
     → IsNearAgenda s.files s.display s.window day key coming sources ⊎ IsPastAgenda s.window day coming sources → AreDayMasters s day sources
 first-masters s {key = key} {sources = sources} from (inl a) = searched-masters s key a.near from (recurring sources) a.are.each
-first-masters s {day = day} from (inr a) = subst (λ (xs : List Source). AreDayMasters s day xs) (sym a.no_source) tt
+first-masters s from (inr a) = rw a.no_source tt

@@ -1,9 +1,8 @@
 -- Which starts EXDATEs take out.
-use Rattle.std.specs.Prelude.{◌<ℤ◌, not}
 use Rattle.std.proofs.Common.{◌≡◌, ℕ, ℤ, pos, ◌+ℤ◌, Bool, true, false, ◌||◌, List, [], ◌∷◌, length, Result, Ok, Err, is_ok, ⊎_elim, refl, sym, ◌∙◌, ap, arith}
+use Rattle.std.proofs.Common.{◌<ℤ◌, not, int_cmp, int_eq, is_eq}
 use Rattle.std.specs.List.{list_any}
 use Rattle.std.specs.List.Sorted.{IsBinarySearchResult, IsPermutation, IsSearchInRange, IsSorted}
-use Rattle.std.specs.Ordering.{int_cmp, int_eq, is_eq}
 use Rattle.std.proofs.lemmas.Cmp.{int_cmp_total}
 use Rattle.std.proofs.lemmas.Int.{ints}
 use Rattle.std.proofs.lemmas.List.Folds.{list_any-append, list_any_at, list_any_none}

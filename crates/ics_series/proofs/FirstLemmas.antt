@@ -1,11 +1,9 @@
 -- Of sorted starts the first at each instant.
-use Rattle.std.specs.Prelude.{◌<ℤ◌}
-use Rattle.std.proofs.Common.{◌≡◌, ℕ, ◌≤◌, ℤ, List, [], ◌∷◌, true, false, Option, Some, None, ◌⊎◌, inl, inr, ⊎_elim, refl, sym, ◌∙◌, ap, subst, arith}
+use Rattle.std.proofs.Common.{◌≡◌, ℕ, ◌≤◌, ℤ, List, [], ◌∷◌, true, false, Option, Some, None, ◌⊎◌, inl, inr, ⊎_elim, refl, sym, ◌∙◌, ap, subst, arith, ◌<ℤ◌}
+use Rattle.std.proofs.Common.{int_cmp, int_eq, nat_cmp, is_gt, Less, Equal}
 use Rattle.std.specs.Cmp.{IsTotalOrder, int_ranks}
 use Rattle.std.specs.List.Sorted.{IsPermutation}
-use Rattle.std.specs.Ordering.{int_cmp, int_eq, nat_cmp, is_eq, is_gt, ordering_then, MatchOrdering}
-use Rattle.std.specs.declared.cmp.Ordering.{Ordering}
-use Rattle.std.specs.declared.cmp.Ordering.TheVariants.{Less, Equal}
+use Rattle.std.specs.Ordering.{ordering_then, MatchOrdering}
 use Rattle.std.proofs.lemmas.Cmp.{int_cmp_total, nat_cmp_total, on_total, then_total, tied_itself}
 use Rattle.std.proofs.lemmas.Bool.{cond_both}
 use Rattle.std.proofs.lemmas.Bool.Decides.{nat_tests}
@@ -20,7 +18,7 @@ use Rattle.ics_series.specs.MergedLaws.{before-tied, before-trans}
 use Rattle.ics_series.specs.Rising.{IsBefore, Rises}
 use Rattle.ics_series.specs.Starts.{IsNotAfter}
 use Rattle.std.specs.Option.{option_eq}
-use Rattle.ics_series.proofs.Cases.{eq-Equal, some-same, equal-true, up-to-front}
+use Rattle.ics_series.proofs.Cases.{eq-Equal, less-by, some-same, equal-true, up-to-front}
 use Rattle.ics_series.proofs.SortLemmas.{IsUpTo, Climbs, in-permutation, up-to-in}
 
 pub source_total : IsTotalOrder source_cmp
@@ -55,10 +53,6 @@ source-order (Kept a) (Listed b) h = tt
 source-order (Listed a) (Kept b) h = let f : true ≡ false = h in absurd cc
 source-order (Listed a) (Listed b) h = nat-up-to a b h
 
-neither : (c : Ordering) → is_eq c ≡ false → is_gt c ≡ false → c ≡ Less
-neither Less e g = refl
-neither _ e g = cc
-
 -- The instants rise.
 abbrev RisesAfter : Start → List Start → Type 0
 RisesAfter x zs = IsBefore moment_cmp x zs × Rises moment_cmp zs
@@ -71,7 +65,7 @@ rises-after x (y ∷ ys) u h =
     cond_both (int_eq x.moment y.moment) firsts (y ∷ firsts) (RisesAfter x)
     (λ e. (before-tied moment_cmp moment_total x y firsts (eq-Equal (moment_cmp x y) e) rest.0, rest.1))
     (λ e.
-    let less = neither (moment_cmp x y) e (up-to-front (moment_cmp x y) (source_cmp x.source y.source) u.0) in
+    let less = less-by (moment_cmp x y) (up-to-front (moment_cmp x y) (source_cmp x.source y.source) u.0) e in
     ((less, before-trans moment_cmp moment_total x y firsts less rest.0), rest))
 
 rises-firsts : (xs : List Start) → Climbs start_cmp xs → Rises moment_cmp (firsts_after None xs)

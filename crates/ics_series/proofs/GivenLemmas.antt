@@ -1,9 +1,7 @@
 -- What the versions that count give in a window, one version after the other.
-use Rattle.std.specs.Prelude.{slice_get, IsSome}
-use Rattle.std.proofs.Common.{◌≡◌, ℕ, ℤ, ◌<◌, List, [], ◌∷◌, map, length, get_or, Option, Some, None, inl, inr, ⊎_elim, refl, sym, ◌∙◌, ap, subst}
-use Rattle.std.specs.Option.{option_and_then, option_map}
-use Rattle.std.specs.Ordering.{int_cmp, on, then_cmp}
-use Rattle.std.specs.declared.cmp.Ordering.{Ordering}
+use Rattle.std.proofs.Common.{◌≡◌, ℕ, ℤ, ◌<◌, List, [], ◌∷◌, map, length, get_or, Option, Some, None, inl, inr, ⊎_elim, refl, ◌∙◌, ap, subst, slice_get}
+use Rattle.std.proofs.Common.{IsSome, option_and_then, option_map, int_cmp, Ordering}
+use Rattle.std.specs.Ordering.{on, then_cmp}
 use Rattle.std.proofs.lemmas.List.Elements.{Contains-get_or}
 use Rattle.ics_event.specs.Event.{FileSaid}
 use Rattle.ics_event.specs.declared.event.Event.{Event}
@@ -60,12 +58,10 @@ module _ {A B : Type 0} (f : A → B) where
 pub stands : {files : List FileSaid} {display : Clock} {versions : List Version} (i : ℕ) (d : Version) → AreChosen files display versions →
     i < length versions → IsSome (event_at files (get_or versions i d).spot)
 stands {files = files} {display = display} {versions = versions} i d h l =
-    let there : IsIn (get_or versions i d) versions = in-contains (get_or versions i d) versions (Contains-get_or versions i d l) in
-    let p = in-map (label_of files display) (seen (get_or versions i d)) h.chosen
-    (subst (IsIn (seen (get_or versions i d))) h.are (map-in seen (get_or versions i d) versions there)) in
-    let e : event_at files (get_or versions i d).spot ≡ Some p.0.event = ap (λ (l : Label). event_at files l.spot) p.2
-    ∙ placed-event files p.0 ((h.listing.exact p.0).0 p.1).placed in
-    subst IsSome (sym e) refl
+    let v : Version = get_or versions i d in
+    let there = map-in seen v versions (in-contains v versions (Contains-get_or versions i d l)) in
+    let p = in-map (label_of files display) (seen v) h.chosen (subst (IsIn (seen v)) h.are there) in
+    rw (ap (λ (l : Label). event_at files l.spot) p.2 ∙ placed-event files p.0 ((h.listing.exact p.0).0 p.1).placed) refl
 
 -- what a version gives has its subject
 pub given-subject : (clocks : Clocks) (event : Event) (o : Entry) → IsGivenBy clocks event (overridden clocks event) o →

@@ -1,11 +1,7 @@
 -- What the merge of the leads' lists begins with, from the lead that goes first.
-use Rattle.std.specs.List.{AllByRecursion}
-use Rattle.std.proofs.Common.{◌≡◌, ℕ, zero, suc, ◌+◌, ◌<◌, true, false, ⊎_elim, List, [], ◌∷◌, ◌++◌, length, get_or, set, take, drop, map, sum_by, Option}
-use Rattle.std.proofs.Common.{Some, None, refl, sym, ◌∙◌, ap, subst, arith}
-use Rattle.std.specs.Option.{option_map}
-use Rattle.std.specs.Ordering.{is_eq, is_gt, nat_cmp, ordering_then}
-use Rattle.std.specs.declared.cmp.Ordering.{Ordering}
-use Rattle.std.specs.declared.cmp.Ordering.TheVariants.{Less, Equal, Greater}
+use Rattle.std.proofs.Common.{◌≡◌, ℕ, zero, suc, ◌+◌, ◌<◌, true, false, ⊎_elim, List, [], ◌∷◌, ◌++◌, length, get_or, set, take, drop, map, sum_by, Option, Some}
+use Rattle.std.proofs.Common.{None, refl, sym, ◌∙◌, ap, subst, arith, option_map, is_gt, nat_cmp, Ordering, Less, Equal, Greater}
+use Rattle.std.specs.Ordering.{ordering_then}
 use Rattle.std.proofs.lemmas.Bool.{cases_lt}
 use Rattle.std.proofs.lemmas.Bool.Decides.{nat_tests}
 use Rattle.std.proofs.lemmas.List.{get_or-map, get_or-set_other, get_or_past, length-map, map-set}
@@ -14,55 +10,48 @@ use Rattle.std.proofs.Math.Seq.{map-set_same, take-append_seam}
 use Rattle.std.proofs.lemmas.Simd.{map-map}
 use Rattle.ics_series.specs.Entry.{Entry, entry_cmp, entry_of}
 use Rattle.ics_series.specs.EntryLaws.{entry_total}
-use Rattle.ics_series.specs.Leads.{is_given, listed, past, ComeAfter, IsAhead, IsEmpty}
-use Rattle.ics_series.specs.Merged.{by_order, cut, merged, union}
+use Rattle.ics_series.specs.Leads.{is_given, listed, past, ComeAfter, IsAhead}
+use Rattle.ics_series.specs.Merged.{cut, merged, union}
 use Rattle.ics_series.specs.MergedLaws.{before-tied, before-trans}
 use Rattle.ics_series.proofs.Cases.{eq-Equal, up-to-front}
-use Rattle.ics_series.proofs.BeginsLemmas.{begins-at, cut-before, front-at, uncut, AllRise, Begins}
+use Rattle.ics_series.proofs.BeginsLemmas.{all_front, begins-at, cut-before, front-at, front-cases, not-after-front, uncut, AllFront, AllRise}
 use Rattle.ics_series.specs.Rising.{IsBefore, Rises}
 use Rattle.ics_series.specs.Tournament.{above, head_cmp, lead_cmp, winner, AreSettled, AreSettledBut}
 use Rattle.ics_series.proofs.TournamentLemmas.{settled_but, wins}
 use Rattle.ics_series.specs.declared.occurrence.Occurrence.{Occurrence}
 
--- what a lead holds is the first of its list
-abbrev IsHeaded : Option Entry → List Entry → Type 0
-IsHeaded None list = list ≡ []
-IsHeaded (Some e) list = (rest : List Entry) × ((list ≡ e ∷ rest) × IsBefore entry_cmp e rest)
+-- what stands at the front of a list
+abbrev front : List Entry → Option Entry
+front [] = None
+front (e ∷ es) = Some e
 
-no-list : (rest : List Entry) → IsEmpty rest → rest ≡ []
-no-list [] h = refl
-no-list (x ∷ xs) h = absurd h
+head-front : (o : Option Occurrence) (rest : List Entry) → IsAhead o rest → option_map entry_of o ≡ front (listed o rest)
+head-front None [] h = refl
+head-front None (e ∷ es) h = absurd h
+head-front (Some o) rest h = refl
 
-headed-one : (o : Option Occurrence) (rest : List Entry) → IsAhead o rest → IsHeaded (option_map entry_of o) (listed o rest)
-headed-one None rest h = no-list rest h
-headed-one (Some o) rest h = (rest, (refl, h))
+front-first : (e : Entry) (list : List Entry) → front list ≡ Some e → (es : List Entry) × (list ≡ e ∷ es)
+front-first e [] h = absurd cc
+front-first e (f ∷ fs) h = (fs, cc)
 
--- e comes before a list, if it comes before what heads it
-before-headed : (e : Entry) (k : Option Entry) (list : List Entry) → IsHeaded k list → head_cmp (Some e) k ≡ Less → IsBefore entry_cmp e list
-before-headed e None list h l = subst (IsBefore entry_cmp e) (sym h) tt
-before-headed e (Some f) list h l = subst (IsBefore entry_cmp e) (sym h.1.0) (l, before-trans entry_cmp entry_total e f h.0 l h.1.1)
+-- e comes before a rising list, if it comes before what stands at its front, and before all but an entry of its key, if it is not after that
+before-list : (e : Entry) (list : List Entry) → Rises entry_cmp list → head_cmp (Some e) (front list) ≡ Less → IsBefore entry_cmp e list
+before-list e [] r l = tt
+before-list e (f ∷ fs) r l = (l, before-trans entry_cmp entry_total e f fs l r.0)
 
-behind-headed : (e : Entry) (k : Option Entry) (list : List Entry) → IsHeaded k list → is_gt (head_cmp (Some e) k) ≡ false →
+behind-front : (e : Entry) (list : List Entry) → Rises entry_cmp list → is_gt (head_cmp (Some e) (front list)) ≡ false →
     IsBefore entry_cmp e (cut entry_cmp e list)
-behind-headed e None list h n = subst (λ l. IsBefore entry_cmp e (cut entry_cmp e l)) (sym h) tt
-behind-headed e (Some f) list h n =
-    subst (λ l. IsBefore entry_cmp e (cut entry_cmp e l)) (sym h.1.0) (by (entry_cmp e f) refl n)
-  where
-    by : (c : Ordering) → entry_cmp e f ≡ c → is_gt c ≡ false → IsBefore entry_cmp e (by_order c (f ∷ h.0) h.0 (f ∷ h.0))
-    by Less p n = (p, before-trans entry_cmp entry_total e f h.0 p h.1.1)
-    by Equal p n = before-tied entry_cmp entry_total e f h.0 p h.1.1
-    by Greater p n = cc
+behind-front e [] r n = tt
+behind-front e (f ∷ fs) r n = not-after-front entry_cmp entry_total e f fs (λ g. let q = rw g at n in cc) r
 
-strictly : (c d : Ordering) → d ≡ Greater → is_gt (ordering_then c d) ≡ false → c ≡ Less
-strictly Less d e h = refl
-strictly _ d e h = cc
+strictly : (c : Ordering) (a b : ℕ) → b < a → is_gt (ordering_then c (nat_cmp a b)) ≡ false → c ≡ Less
+strictly Less a b l h = refl
+strictly Equal a b l h = let g : nat_cmp a b ≡ Greater = grind (arith, nat_tests) in cc
+strictly Greater a b l h = cc
 
 nothing-after : (k : Option Entry) → is_gt (head_cmp None k) ≡ false → k ≡ None
 nothing-after None h = refl
 nothing-after (Some e) h = cc
-
-later : (a b : ℕ) → b < a → nat_cmp a b ≡ Greater
-later a b h = grind (arith, nat_tests)
 
 -- what leads hold, their lists, and what is still to come of these
 abbrev pub heads_of : {X : Type 0} → (X → Option Occurrence) → List X → List (Option Entry)
@@ -80,37 +69,41 @@ GoesFirst heads leads first = (lead : ℕ) → lead < leads → is_gt (lead_cmp 
 
 -- leads, by what they hold and what is left behind it
 module _ {X : Type 0} (head : X → Option Occurrence) (rest : X → List Entry) (ahead : (x : X) → IsAhead (head x) (rest x)) where
-  headed : (xs : List X) (i : ℕ) → IsHeaded (get_or (heads_of head xs) i None) (get_or (lists_of head rest xs) i [])
-  headed [] i = refl
-  headed (x ∷ xs) zero = headed-one (head x) (rest x) (ahead x)
-  headed (x ∷ xs) (suc i) = headed xs i
-
   rises-listed : (o : Option Occurrence) (es : List Entry) → IsAhead o es → Rises entry_cmp es → Rises entry_cmp (listed o es)
   rises-listed None es a r = r
   rises-listed (Some o) es a r = (a, r)
 
-  all_rise : ((x : X) → Rises entry_cmp (rest x)) → (xs : List X) → AllRise entry_cmp (lists_of head rest xs)
-  all_rise r [] = tt
-  all_rise r (x ∷ xs) = (rises-listed (head x) (rest x) (ahead x) (r x), all_rise r xs)
+  -- each holds the first of its list, which rises
+  module _ (rises : (x : X) → Rises entry_cmp (rest x)) where
+    all_rise : (xs : List X) → AllRise entry_cmp (lists_of head rest xs)
+    all_rise [] = tt
+    all_rise (x ∷ xs) = (rises-listed (head x) (rest x) (ahead x) (rises x), all_rise xs)
+
+    headed : (xs : List X) (i : ℕ) → (get_or (heads_of head xs) i None ≡ front (get_or (lists_of head rest xs) i []))
+        × Rises entry_cmp (get_or (lists_of head rest xs) i [])
+    headed [] i = (refl, tt)
+    headed (x ∷ xs) zero = (head-front (head x) (rest x) (ahead x), (all_rise (x ∷ xs)).0)
+    headed (x ∷ xs) (suc i) = headed xs i
 
   -- no lead holds anything
-  past-nothing : (last o : Option Occurrence) (es : List Entry) → IsAhead o es → option_map entry_of o ≡ None → past last (listed o es) ≡ []
-  past-nothing None None es a e = no-list es a
-  past-nothing (Some p) None es a e = ap (cut entry_cmp (entry_of p)) (no-list es a)
-  past-nothing last (Some o) es a e = cc
-
   merged-nothing : (last : Option Occurrence) (xs : List X) → ((i : ℕ) → i < length xs → get_or (heads_of head xs) i None ≡ None)
       → merged entry_cmp (pasts_of head rest last xs) ≡ []
   merged-nothing last [] h = refl
   merged-nothing last (x ∷ xs) h =
       ap (λ l. union entry_cmp l (merged entry_cmp (pasts_of head rest last xs))) (past-nothing last (head x) (rest x) (ahead x) (h 0 (omega arith)))
       ∙ merged-nothing last xs (λ i l. h (suc i) (omega arith))
+    where
+      past-nothing : (last o : Option Occurrence) (es : List Entry) → IsAhead o es → option_map entry_of o ≡ None → past last (listed o es) ≡ []
+      past-nothing None None [] a e = refl
+      past-nothing (Some p) None [] a e = refl
+      past-nothing last None (f ∷ fs) a e = absurd a
+      past-nothing last (Some o) es a e = cc
 
   module _ (xs : List X) (first : ℕ) (wins : GoesFirst (heads_of head xs) (length xs) first) where
     up-to-first : {k : Option Entry} (i : ℕ) → get_or (heads_of head xs) first None ≡ k → i < length xs →
         is_gt (head_cmp k (get_or (heads_of head xs) i None)) ≡ false
-    up-to-first i is l = subst (λ h. is_gt (head_cmp h (get_or (heads_of head xs) i None)) ≡ false) is
-        (up-to-front (head_cmp (get_or (heads_of head xs) first None) (get_or (heads_of head xs) i None)) (nat_cmp first i) (wins i l))
+    up-to-first i is l =
+        rw is at (up-to-front (head_cmp (get_or (heads_of head xs) first None) (get_or (heads_of head xs) i None)) (nat_cmp first i) (wins i l))
 
     -- where the first lead holds nothing, no lead does
     pub nothing-comes : (last : Option Occurrence) → get_or (heads_of head xs) first None ≡ None → merged entry_cmp (pasts_of head rest last xs) ≡ []
@@ -119,17 +112,21 @@ module _ {X : Type 0} (head : X → Option Occurrence) (rest : X → List Entry)
     within : {i : ℕ} → i < length (lists_of head rest xs) → i < length xs
     within l = omega (arith, length-map xs (λ x. listed (head x) (rest x)))
 
-    begins-first : ((x : X) → Rises entry_cmp (rest x)) → (e : Entry) → get_or (heads_of head xs) first None ≡ Some e
-        → Begins entry_cmp entry_total e (lists_of head rest xs)
+    -- what the first lead holds comes before all of each list but for one of its key at the front, and first of all
+    fronts-first : ((x : X) → Rises entry_cmp (rest x)) → (e : Entry) → get_or (heads_of head xs) first None ≡ Some e
+        → AllFront entry_cmp e (lists_of head rest xs)
+    fronts-first rises e is =
+        all_front entry_cmp entry_total e (lists_of head rest xs)
+        (λ i m. let at = headed rises xs i in behind-front e (get_or (lists_of head rest xs) i []) at.1 (rw at.0 at (up-to-first i is (within m))))
+
+    begins-first : (rises : (x : X) → Rises entry_cmp (rest x)) → (e : Entry) → get_or (heads_of head xs) first None ≡ Some e →
+        merged entry_cmp (lists_of head rest xs) ≡ e ∷ merged entry_cmp (map (cut entry_cmp e) (lists_of head rest xs))
     begins-first rises e is =
-        let heads : List (Option Entry) = heads_of head xs in
         let lists : List (List Entry) = lists_of head rest xs in
-        let found : IsHeaded (Some e) (get_or lists first []) = subst (λ h. IsHeaded h (get_or lists first [])) is (headed xs first) in
-        begins-at entry_cmp entry_total lists first (all_rise rises xs) found.1.0
-        (λ i l m. before-headed e (get_or heads i None) (get_or lists i []) (headed xs i)
-        (subst (λ h. head_cmp h (get_or heads i None) ≡ Less) is
-        (strictly (head_cmp (get_or heads first None) (get_or heads i None)) (nat_cmp first i) (later first i l) (wins i (within m)))))
-        (λ i l m. behind-headed e (get_or heads i None) (get_or lists i []) (headed xs i) (up-to-first i is (within m)))
+        let found = front-first e (get_or lists first []) (sym (headed rises xs first).0 ∙ is) in
+        begins-at entry_cmp entry_total lists first (all_rise rises xs) found.1
+        (λ i l m. before-list e (get_or lists i []) (headed rises xs i).1 (rw ((headed rises xs i).0, is) at (strictly _ first i l (wins i (within m)))))
+        (fronts-first rises e is)
 
     -- where the first of all is not given, nothing of the lists was
     pub uncut-first : ((x : X) → Rises entry_cmp (rest x)) → (last : Option Occurrence) (o : Occurrence)
@@ -138,20 +135,13 @@ module _ {X : Type 0} (head : X → Option Occurrence) (rest : X → List Entry)
     uncut-first rises None o is fresh follows = refl
     uncut-first rises (Some p) o is fresh follows =
         let one = map-map (cut entry_cmp (entry_of p)) (λ x. listed (head x) (rest x)) xs in
-        let found : IsHeaded (Some (entry_of o)) (get_or (lists_of head rest xs) first []) =
-        subst (λ h. IsHeaded h (get_or (lists_of head rest xs) first [])) is (headed xs first) in
-        let less = less-by found.0 (entry_cmp (entry_of p) (entry_of o)) refl (subst (λ h. is_given (Some p) h ≡ false) is fresh)
-        (subst (λ l. IsBefore entry_cmp (entry_of p) (cut entry_cmp (entry_of p) l)) found.1.0
-        (front-at entry_cmp entry_total (entry_of p) (lists_of head rest xs) first
-        (subst (AllByRecursion (IsBefore entry_cmp (entry_of p))) (sym one) follows))) in
-        sym one ∙ uncut entry_cmp entry_total (entry_of p) (entry_of o) (lists_of head rest xs) less (begins-first rises (entry_of o) is).fronts
-      where
+        let found = front-first (entry_of o) (get_or (lists_of head rest xs) first []) (sym (headed rises xs first).0 ∙ is) in
+        let fronts = front-at entry_cmp entry_total (entry_of p) (lists_of head rest xs) first (rw (← one) at follows) in
         -- what is not given comes after what was given last
-        less-by : (es : List Entry) (c : Ordering) → entry_cmp (entry_of p) (entry_of o) ≡ c → is_eq c ≡ false →
-            IsBefore entry_cmp (entry_of p) (by_order c (entry_of o ∷ es) es (entry_of o ∷ es)) → entry_cmp (entry_of p) (entry_of o) ≡ Less
-        less-by es Less q n h = q
-        less-by es Equal q n h = cc
-        less-by es Greater q n h = h.0
+        let less : entry_cmp (entry_of p) (entry_of o) ≡ Less =
+        ⊎_elim (λ l. l.0) (λ q. let n = rw (is, q.0) at fresh in cc)
+        (front-cases entry_cmp entry_total (entry_of p) (entry_of o) found.0 (rw found.1 at fronts)) in
+        sym one ∙ uncut entry_cmp entry_total (entry_of p) (entry_of o) (lists_of head rest xs) less (fronts-first rises (entry_of o) is)
 
     -- the first of all, where it is not given, comes next
     pub first-comes : ((x : X) → Rises entry_cmp (rest x)) → (last : Option Occurrence) (o : Occurrence)
@@ -161,10 +151,9 @@ module _ {X : Type 0} (head : X → Option Occurrence) (rest : X → List Entry)
         × ComeAfter (Some o) (pasts_of head rest (Some o) xs)
     first-comes rises last o is fresh follows =
         let same = uncut-first rises last o is fresh follows in
-        let b = begins-first rises (entry_of o) is in
         let one = map-map (cut entry_cmp (entry_of o)) (λ x. listed (head x) (rest x)) xs in (
-          ap (merged entry_cmp) same ∙ (b.is ∙ ap (λ ls. entry_of o ∷ merged entry_cmp ls) one),
-          subst (AllByRecursion (IsBefore entry_cmp (entry_of o))) one b.fronts,
+          ap (merged entry_cmp) same ∙ (begins-first rises (entry_of o) is ∙ ap (λ ls. entry_of o ∷ merged entry_cmp ls) one),
+          rw one at (fronts-first rises (entry_of o) is),
         )
 
 -- drawing what is given leaves what is still to come
@@ -215,12 +204,8 @@ module _ {X : Type 0} (head : X → Option Occurrence) (rest : X → List Entry)
       → (lead < length xs) × (is_given last (option_map entry_of (head old)) ≡ true)
   given-read last first is g =
       let within : lead < length xs =
-      omega (arith, given-within last (heads_of head xs) first g, length-map xs (λ x. option_map entry_of (head x))) in (
-        within,
-        subst (λ h. is_given last h ≡ true)
-            (ap (λ i. get_or (heads_of head xs) i None) (sym is)
-            ∙ (get_or-map (λ x. option_map entry_of (head x)) xs lead old None within ∙ sym (ap (λ x. option_map entry_of (head x)) read))) g,
-      )
+      omega (arith, given-within last (heads_of head xs) first g, length-map xs (λ x. option_map entry_of (head x))) in
+      (within, rw (← is, get_or-map (λ x. option_map entry_of (head x)) xs lead old None within, ← read) at g)
 
   to_come-set : (last : Option Occurrence) → past last (listed (head new) (rest new)) ≡ past last (listed (head old) (rest old))
       → pasts_of head rest last (set xs lead new) ≡ pasts_of head rest last xs
@@ -246,5 +231,5 @@ module _ {X : Type 0} (head : X → Option Occurrence) (rest : X → List Entry)
         let same : length (listed (head (get_or xs lead old)) (rest (get_or xs lead old))) ≡ length (listed (head old) (rest old)) =
         ap (λ x. length (listed (head x) (rest x))) (sym read) in
         let less : length (listed (head new) (rest new)) < length (listed (head old) (rest old)) =
-        subst (λ l. length l < length (listed (head old) (rest old))) (sym drawn) (shorter-drawn last (head old) (rest old) known.1) in
+        rw drawn (shorter-drawn last (head old) (rest old) known.1) in
         omega (arith, sum_by-set (λ x. length (listed (head x) (rest x))) xs lead new old known.0)

@@ -1,10 +1,7 @@
 -- How far the rules of leads' feeds have been read, and of what events they are.
 use Rattle.std.specs.List.{flat_map, AllByRecursion}
-use Rattle.std.proofs.Common.{◌≡◌, ℕ, zero, suc, true, List, [], ◌∷◌, ◌++◌, get_or, set, inr, Option, Some, None, refl, sym, ◌∙◌, ap, subst}
-use Rattle.std.specs.Option.{option_map}
-use Rattle.std.proofs.lemmas.List.Elements.{All-from_recursion, All-push, All-set, All-weaker, recursion_from_All}
-use Rattle.std.specs.declared.cmp.Ordering.{Ordering}
-use Rattle.std.specs.declared.cmp.Ordering.TheVariants.{Equal}
+use Rattle.std.proofs.Common.{◌≡◌, ℕ, zero, suc, true, List, [], ◌∷◌, ◌++◌, get_or, set, inr, Option, Some, None, refl, ◌∙◌, ap, option_map, Ordering, Equal}
+use Rattle.std.proofs.lemmas.List.Elements.{All-from_recursion, All-push, All-set, recursion_from_All}
 use Rattle.ics_series.specs.declared.occurrence.Occurrence.{Occurrence}
 use Rattle.ics_series.specs.Entry.{Entry, entry_cmp, entry_of}
 use Rattle.ics_series.specs.EntryLaws.{entry_total}
@@ -16,16 +13,14 @@ use Rattle.ics_series.proofs.BeginsLemmas.{before-union}
 use Rattle.ics_series.proofs.LeadLemmas.{lists_of, past-drawn, pasts_of}
 use Rattle.ics_series.proofs.LeftLemmas.{member-cut}
 use Rattle.ics_series.proofs.ListingLemmas.{before-in}
+use Rattle.ics_series.proofs.SortLemmas.{all-as}
 
--- what holds of all of a list, where one of it is set, or one more stands behind it, or it implies more
+-- what holds of all of a list, where one of it is set, or one more stands behind it
 pub all-set : {X : Type 0} (P : X → Type 0) (xs : List X) (i : ℕ) (x : X) → AllByRecursion P xs → P x → AllByRecursion P (set xs i x)
 all-set P xs i x h p = recursion_from_All P (set xs i x) (All-set P xs i x p (All-from_recursion P xs h))
 
 pub all-pushed : {X : Type 0} (P : X → Type 0) (xs : List X) (x : X) → AllByRecursion P xs → P x → AllByRecursion P (xs ++ x ∷ [])
 all-pushed P xs x h p = recursion_from_All P (xs ++ x ∷ []) (All-push P xs x (All-from_recursion P xs h) p)
-
-pub all-by : {X : Type 0} (P Q : X → Type 0) (xs : List X) → ((x : X) → P x → Q x) → AllByRecursion P xs → AllByRecursion Q xs
-all-by P Q xs f h = recursion_from_All Q xs (All-weaker P Q f xs (All-from_recursion P xs h))
 
 -- what each of a list gives, where one is set that gives the same as the old one
 pub flat-set : {X Y : Type 0} (f : X → List Y) (xs : List X) (i : ℕ) {old : X} (new : X) → old ≡ get_or xs i old → f new ≡ f old →
@@ -59,25 +54,22 @@ module _ {X : Type 0} (head : X → Option Occurrence) (rest : X → List Entry)
   module _ (last : Option Occurrence) (xs : List X) (i : ℕ) (old new : X) where
     pub near-drawn : listed (head new) (rest new) ≡ rest old → AreNear (N new) (rest old) → AllByRecursion (IsLeadNear last) xs
         → AllByRecursion (IsLeadNear last) (set xs i new)
-    near-drawn drawn near all = all-set (IsLeadNear last) xs i new all (λ o m. near o (past-in last o (rest old) (subst (λ l. IsIn o (past last l)) drawn m)))
+    near-drawn drawn near all = all-set (IsLeadNear last) xs i new all (λ o m. near o (past-in last o (rest old) (rw drawn at m)))
 
     pub near-kept : head new ≡ head old → rest new ≡ rest old → IsAhead (head old) (rest old) → is_given last (option_map entry_of (head old)) ≡ true
         → AreNear (N new) (rest old) → AllByRecursion (IsLeadNear last) xs → AllByRecursion (IsLeadNear last) (set xs i new)
     near-kept same left ahead given near all =
-        let is : past last (listed (head new) (rest new)) ≡ past last (rest old) =
-        rw (same, left) (sym (past-drawn last (head old) (rest old) ahead given)) in
-        all-set (IsLeadNear last) xs i new all (λ o m. near o (past-in last o (rest old) (subst (IsIn o) is m)))
-
-  same-head : {A : Type 0} (a b : A) (xs ys : List A) → a ∷ xs ≡ b ∷ ys → (a ≡ b) × (xs ≡ ys)
-  same-head a b xs ys e = (cc, cc)
+        all-set (IsLeadNear last) xs i new all
+        (λ o m. near o (past-in last o (rest old) (rw (same, left, ← past-drawn last (head old) (rest old) ahead given) at m)))
 
   -- where nothing of their lists was given
   pub near-whole : (last : Option Occurrence) (xs : List X) → pasts_of head rest last xs ≡ lists_of head rest xs →
       AllByRecursion (IsLeadNear last) xs → AllByRecursion (λ x. AreNear (N x) (listed (head x) (rest x))) xs
   near-whole last [] e h = tt
   near-whole last (x ∷ xs) e h =
-      let both = same-head (past last (listed (head x) (rest x))) (listed (head x) (rest x)) (pasts_of head rest last xs) (lists_of head rest xs) e in
-      (λ o m. h.0 o (subst (IsIn o) (sym both.0) m), near-whole last xs both.1 h.1)
+      let one : past last (listed (head x) (rest x)) ≡ listed (head x) (rest x) = cc in
+      let more : pasts_of head rest last xs ≡ lists_of head rest xs = cc in
+      (λ o m. h.0 o (rw (← one) at m), near-whole last xs more h.1)
 
   abbrev IsNear : X → Type 0
   IsNear x = AreNear (N x) (listed (head x) (rest x))
@@ -86,16 +78,16 @@ module _ {X : Type 0} (head : X → Option Occurrence) (rest : X → List Entry)
   IsNearAt o x = HasNear (N x) (listed (head x) (rest x)) o
 
   pub near-past : (last : Option Occurrence) (xs : List X) → AllByRecursion IsNear xs → AllByRecursion (IsLeadNear last) xs
-  near-past last xs = all-by IsNear (IsLeadNear last) xs (λ x h o m. h o (past-in last o (listed (head x) (rest x)) m))
+  near-past last xs = all-as IsNear (IsLeadNear last) xs (λ x h o m. h o (past-in last o (listed (head x) (rest x)) m))
 
   pub near-each : (o : Entry) (xs : List X) → AllByRecursion IsNear xs → AllByRecursion (IsNearAt o) xs
-  near-each o xs = all-by IsNear (IsNearAt o) xs (λ x h. h o)
+  near-each o xs = all-as IsNear (IsNearAt o) xs (λ x h. h o)
 
   -- where it is still to come of the merge
   pub near-to_come : (last : Option Occurrence) (o : Entry) (xs : List X) → ComeAfter last (pasts_of head rest last xs) →
       IsIn o (merged entry_cmp (pasts_of head rest last xs)) → AllByRecursion (IsLeadNear last) xs → AllByRecursion (IsNearAt o) xs
   near-to_come last o xs follows there =
-      all-by (IsLeadNear last) (IsNearAt o) xs (λ x h m. h o (uncut last follows (listed (head x) (rest x)) m))
+      all-as (IsLeadNear last) (IsNearAt o) xs (λ x h m. h o (uncut last follows (listed (head x) (rest x)) m))
     where
       -- it is not cut off a list
       uncut : (given : Option Occurrence) → ComeAfter given (pasts_of head rest last xs) → (list : List Entry) → IsIn o list → IsIn o (past given list)

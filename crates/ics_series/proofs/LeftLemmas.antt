@@ -1,10 +1,8 @@
 -- The starts still to come of a rule and of those that are known from the first, as one list.
-use Rattle.std.specs.Prelude.{int_lt, slice_get, if◌then◌else◌}
-use Rattle.std.proofs.Common.{◌≡◌, ℤ, List, [], ◌∷◌, Bool, true, false, Option, Some, None, length, inl, inr, ⊎_elim, refl, sym, ◌∙◌, ap, subst, arith}
+use Rattle.std.proofs.Common.{◌≡◌, ℤ, List, [], ◌∷◌, true, false, Option, Some, None, length, inl, inr, ⊎_elim, refl, sym, ◌∙◌, ap, subst, arith, int_lt}
+use Rattle.std.proofs.Common.{slice_get, if◌then◌else◌, Ordering, Less, Equal, Greater}
 use Rattle.std.specs.Cmp.{IsTotalOrder}
-use Rattle.std.specs.declared.cmp.Ordering.{Ordering}
-use Rattle.std.specs.declared.cmp.Ordering.TheVariants.{Less, Equal, Greater}
-use Rattle.std.proofs.lemmas.Cmp.{tied_itself}
+use Rattle.std.proofs.lemmas.Bool.{cond_both}
 use Rattle.std.proofs.lemmas.Int.{ints}
 use Rattle.ics_zone.proofs.Cases.{int_lt_true}
 use Rattle.ics_series.specs.declared.start.StartSource.{StartSource}
@@ -12,11 +10,11 @@ use Rattle.ics_series.specs.declared.start.Start.{Start}
 use Rattle.ics_series.specs.Found.{moment_cmp, HasStart}
 use Rattle.ics_series.specs.Listing.{IsIn}
 use Rattle.ics_series.specs.Merged.{by_order, cut, put, union}
-use Rattle.ics_series.specs.MergedLaws.{before-tied, before-trans}
-use Rattle.ics_series.specs.Rising.{IsBefore, Rises}
+use Rattle.ics_series.specs.MergedLaws.{before-trans}
+use Rattle.ics_series.specs.Rising.{Rises}
 use Rattle.ics_series.specs.SeriesStarts.{IsFirstOf}
 use Rattle.ics_series.specs.Starts.{IsNotAfter}
-use Rattle.ics_series.proofs.BeginsLemmas.{cut-before, cut-union, front-union, put-front, union-front}
+use Rattle.ics_series.proofs.BeginsLemmas.{begins-first, begins-second, not-after-front}
 use Rattle.ics_series.proofs.FirstLemmas.{moment_total, tied-moment}
 use Rattle.ics_series.proofs.RuleDayLemmas.{less-start}
 use Rattle.ics_series.proofs.UnionLemmas.{in-union, itself-put, member-put}
@@ -30,28 +28,6 @@ module _ {A : Type 0} (R : A → A → Ordering) (o : IsTotalOrder R) where
   pub member-cut : (s e : A) (xs : List A) → (R s e ≡ Equal → ⊥) → IsIn e xs → IsIn e (cut R s xs)
   member-cut s e [] n m = absurd m
   member-cut s e (x ∷ xs) n m = member-cut-by e x xs (R s x) (λ t is. n (ap (R s) is ∙ t)) m
-
-  cut-own : (s : A) (xs : List A) → cut R s (s ∷ xs) ≡ xs
-  cut-own s xs = ap (λ c. by_order c (s ∷ xs) xs (s ∷ xs)) (tied_itself o s)
-
-  pub begins-first : (s : A) (xs ys : List A) → Rises R (s ∷ xs) → IsBefore R s (cut R s ys) → union R (s ∷ xs) ys ≡ s ∷ union R (cut R s (s ∷ xs)) (cut R s ys)
-  begins-first s xs ys r h =
-      put-front R o s s (union R xs ys) (tied_itself o s) (front-union R o s xs ys r.0 h)
-      ∙ ap (λ zs. s ∷ zs) (cut-union R o s xs ys r.0 h ∙ ap (λ zs. union R zs (cut R s ys)) (sym (cut-own s xs)))
-
-  pub begins-second : (s : A) (xs ys : List A) → IsBefore R s xs → union R xs (s ∷ ys) ≡ s ∷ union R (cut R s xs) (cut R s (s ∷ ys))
-  begins-second s xs ys before =
-      union-front R o s xs ys before
-      ∙ ap (λ zs. s ∷ zs) (ap (λ zs. union R zs ys) (sym (cut-before R o s xs before)) ∙ ap (union R (cut R s xs)) (sym (cut-own s ys)))
-
-  -- what is not after the first of a rising list comes before all of it but for one of its key
-  pub not-after-front : (x y : A) (ys : List A) → (R x y ≡ Greater → ⊥) → Rises R (y ∷ ys) → IsBefore R x (cut R x (y ∷ ys))
-  not-after-front x y ys n r = by (R x y) refl
-    where
-      by : (c : Ordering) → R x y ≡ c → IsBefore R x (by_order c (y ∷ ys) ys (y ∷ ys))
-      by Less e = (e, before-trans R o x y ys e r.0)
-      by Equal e = before-tied R o x y ys e r.0
-      by Greater e = absurd (n e)
 
 less-by : (a b : Start) → int_lt b.moment a.moment ≡ true → moment_cmp b a ≡ Less
 less-by a b e = less-start b a (int_lt_true b.moment a.moment e)
@@ -69,12 +45,10 @@ first-of : (xs ys : List Start) → Rises moment_cmp xs → Rises moment_cmp ys 
 first-of [] [] r k = refl
 first-of [] (y ∷ ys) r k = begins-second moment_cmp moment_total y [] ys tt
 first-of (x ∷ xs) [] r k = begins-first moment_cmp moment_total x xs [] r tt
-first-of (x ∷ xs) (y ∷ ys) r k = by (int_lt y.moment x.moment) refl
-  where
-    by : (b : Bool) → int_lt y.moment x.moment ≡ b → IsFirstOf (if b then Some y else Some x) (x ∷ xs) (y ∷ ys)
-    by true t = let less = less-by x y t in
-        begins-second moment_cmp moment_total y (x ∷ xs) ys (less, before-trans moment_cmp moment_total y x xs less r.0)
-    by false f = begins-first moment_cmp moment_total x xs (y ∷ ys) r (not-after-front moment_cmp moment_total x y ys (not-greater-by x y f) k)
+first-of (x ∷ xs) (y ∷ ys) r k =
+    cond_both (int_lt y.moment x.moment) (Some y) (Some x) (λ o. IsFirstOf o (x ∷ xs) (y ∷ ys))
+    (λ t. let less = less-by x y t in begins-second moment_cmp moment_total y (x ∷ xs) ys (less, before-trans moment_cmp moment_total y x xs less r.0))
+    (λ f. begins-first moment_cmp moment_total x xs (y ∷ ys) r (not-after-front moment_cmp moment_total x y ys (not-greater-by x y f) k))
 
 -- of the first of both kinds the earlier one is the first
 module _ {ruled listed first : Option Start} (is : earlier ruled listed ≡ first) where

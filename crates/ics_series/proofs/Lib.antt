@@ -14,7 +14,6 @@ pub mod HeldMostLaws
 pub mod HeldMostLemmas
 pub mod HoldingLaws
 pub mod InstantLemmas
-pub mod KeptLemmas
 pub mod LeadLemmas
 pub mod LeadNearLemmas
 pub mod LeftLemmas
@@ -31,7 +30,6 @@ pub mod OccursLemmas
 pub mod OnDayLemmas
 pub mod OverriddenLemmas
 pub mod OverrideLemmas
-pub mod OwnRuleLemmas
 pub mod PartLemmas
 pub mod PeriodCountLemmas
 pub mod PickLemmas
@@ -42,8 +40,6 @@ pub mod RawLemmas
 pub mod RecurringLemmas
 pub mod RuleDayLemmas
 pub mod RuleLocalLemmas
-pub mod RuleReadLemmas
-pub mod RuleStartLemmas
 pub mod RuleStepLemmas
 pub mod SeriesLemmas
 pub mod SinceLemmas
@@ -51,7 +47,6 @@ pub mod SinglesLemmas
 pub mod SortLemmas
 pub mod SoughtLemmas
 pub mod SourceLemmas
-pub mod SpotLemmas
 pub mod StartLaws
 pub mod StepsLaws
 pub mod ToComeLemmas

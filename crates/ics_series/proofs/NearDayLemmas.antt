@@ -1,8 +1,7 @@
 -- Midnights before and after an instant; the days of an occurrence lie near the instants at which it meets the window.
-use Rattle.std.specs.Prelude.{◌<ℤ◌, ◌≤ℤ◌, int_le, if◌then◌else◌}
-use Rattle.std.proofs.Common.{◌≡◌, List, ℤ, pos, ◌+ℤ◌, ◌-ℤ◌, ◌⊎◌, inl, inr, ⊎_elim, true, false, refl, sym, ◌∙◌, arith, negsuc, ◌*ℤ◌}
+use Rattle.std.proofs.Common.{◌≡◌, List, ℤ, pos, ◌+ℤ◌, ◌-ℤ◌, ◌⊎◌, inl, inr, ⊎_elim, true, false, refl, sym, ◌∙◌, arith, negsuc, ◌*ℤ◌, ◌<ℤ◌, ◌≤ℤ◌, int_le}
+use Rattle.std.proofs.Common.{if◌then◌else◌, int_eq}
 use Rattle.std.specs.Int.{int_max, int_min, int_div_euclid}
-use Rattle.std.specs.Ordering.{int_eq}
 use Rattle.std.proofs.lemmas.Int.{int_max_is, int_min_is, ints}
 use Rattle.std.proofs.lemmas.Bool.{and_parts}
 use Rattle.ics_event.specs.Event.{FileSaid}
@@ -41,10 +40,10 @@ lasts-from from start finish forward l =
     ⊎_elim inl (λ past. inr (omega (arith, ints, past, l, forward, int_max_is), omega (arith, ints, past, l, forward, int_max_is)))
     (less_or_not_z from finish)
 
--- what is not past the greater of two, or past the first where there is but that, is not past the first, or not past the second, which is there
-of-last : (a b finish start day : ℤ) → start ≤ℤ finish → day ≤ℤ (if int_eq finish start then a else int_max a b)
-    → (day ≤ℤ a) ⊎ ((start <ℤ finish) × (day ≤ℤ b))
-of-last a b finish start day l h = grind (arith, ints, int_max_is)
+-- what is not past the greater of two, or the first where there is but that, is not past the first, or not past the second, which is there
+module _ (finish start day : ℤ) where
+  of-last : (a b : ℤ) → start ≤ℤ finish → day ≤ℤ (if int_eq finish start then a else int_max a b) → (day ≤ℤ a) ⊎ ((start <ℤ finish) × (day ≤ℤ b))
+  of-last a b l h = grind (arith, ints, int_max_is)
 
 module _ (clock : Clock) (near : (t : ℤ) → IsNear (clock.offset t)) where
   -- the date that a clock shows is less than two days off
@@ -55,18 +54,17 @@ module _ (clock : Clock) (near : (t : ℤ) → IsNear (clock.offset t)) where
       (omega (arith, ints, under.0, off.0, off.1), omega (arith, ints, under.1, off.0, off.1))
 
   module _ (w : Window) (o : Entry) (met : Meets w o) (forward : o.start ≤ℤ o.finish) (day : ℤ) (on : is_on clock w o day ≡ true) where
-    at-first : first_day clock w o ≤ℤ day
-    at-first = int_le_true (first_day clock w o) day (and_parts (int_le (first_day clock w o) day) (int_le day (last_day clock w o)) on).0
-
-    at-last : day ≤ℤ last_day clock w o
-    at-last = int_le_true day (last_day clock w o) (and_parts (int_le (first_day clock w o) day) (int_le day (last_day clock w o)) on).1
+    shown : (first_day clock w o ≤ℤ day) × (day ≤ℤ last_day clock w o)
+    shown =
+        let parts = and_parts (int_le (first_day clock w o) day) (int_le day (last_day clock w o)) on in
+        (int_le_true (first_day clock w o) day parts.0, int_le_true day (last_day clock w o) parts.1)
 
     -- a day is not past that of the later of its start and the window's, or of an occurrence that lasts not past that of its last second
     by-length : (day ≤ℤ first_day clock w o) ⊎ ((o.start <ℤ o.finish) × (day ≤ℤ end_day clock w o))
-    by-length = of-last (first_day clock w o) (end_day clock w o) o.finish o.start day forward at-last
+    by-length = of-last o.finish o.start day (first_day clock w o) (end_day clock w o) forward shown.1
 
     pub near-start : o.start <ℤ midnight (day +ℤ pos 3)
-    near-start = omega (arith, ints, (date-near (int_max o.start w.from)).1, at-first, int_max_is o.start w.from)
+    near-start = omega (arith, ints, (date-near (int_max o.start w.from)).1, shown.0, int_max_is o.start w.from)
 
     near-finish : (from : ℤ) → from ≡ int_max w.from (midnight (day -ℤ pos 2)) → (from <ℤ o.finish) ⊎ ((o.finish ≡ o.start) × (from ≤ℤ o.start))
     near-finish from e =
@@ -94,7 +92,7 @@ module _ (clock : Clock) (near : (t : ℤ) → IsNear (clock.offset t)) where
     pub near-first : first_near w ≤ℤ day
     near-first =
         let under = day-under w.from (day_of_local w.from) refl in
-        omega (arith, ints, (date-near (int_max o.start w.from)).1, at-first, under.0, int_max_is o.start w.from)
+        omega (arith, ints, (date-near (int_max o.start w.from)).1, shown.0, under.0, int_max_is o.start w.from)
 
     pub near-last : day ≤ℤ last_near w
     near-last =

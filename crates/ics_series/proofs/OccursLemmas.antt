@@ -1,12 +1,11 @@
 -- No two occurrences of a folder have one UID and one recurrence.
-use Rattle.std.proofs.Common.{◌≡◌, ℕ, ℤ, List, Option, Some, None, ⊎_elim, sym, ◌∙◌, ap, subst}
-use Rattle.std.specs.Option.{option_map}
+use Rattle.std.proofs.Common.{◌≡◌, ℕ, ℤ, List, Option, Some, None, inl, inr, sym, ◌∙◌, ap, subst, option_map}
 use Rattle.ics_event.specs.Event.{FileSaid}
 use Rattle.ics_event.specs.declared.event.Event.{Event}
 use Rattle.ics_series.specs.Chosen.{subject_of, SubjectSeen, IsMaster, IsOverride}
 use Rattle.ics_series.specs.Clocks.{Clock, Clocks, instant}
 use Rattle.ics_series.specs.Entry.{Entry}
-use Rattle.ics_series.specs.Occurs.{IsInstance, IsMoved, IsOf, IsOfMaster, IsOfOverride, Occurs}
+use Rattle.ics_series.specs.Occurs.{IsMoved, IsOf, IsOfMaster, IsOfOverride, Occurs}
 use Rattle.ics_series.specs.PlacedEvents.{Placed, clocks_at}
 use Rattle.ics_series.proofs.StartSourceLemmas.{one-instance}
 use Rattle.ics_series.proofs.MasterLemmas.{one-chosen, same-entry}
@@ -15,10 +14,9 @@ abbrev sub : List ℕ → Option ℤ → SubjectSeen
 sub uid recurrence = record { uid = uid; recurrence = recurrence }
 
 one-of : {clocks : Clocks} {e : Event} {o q : Entry} → IsOf clocks e o → IsOf clocks e q → o.recurrence ≡ q.recurrence → o ≡ q
-one-of {clocks = clocks} {e = e} {o = o} {q = q} h k r =
+one-of {o = o} {q = q} h k r =
     let start : o.start ≡ q.start = sym h.recurrence ∙ (r ∙ k.recurrence) in
-    let instance : IsInstance clocks e q.start o.finish = subst (λ t. IsInstance clocks e t o.finish) start h.lasts in
-    same-entry o q start (one-instance instance k.lasts) r (h.event ∙ sym k.event)
+    same-entry o q start (one-instance (rw start at h.lasts) k.lasts) r (h.event ∙ sym k.event)
 
 one-moved : {clocks : Clocks} {e : Event} {o q : Entry} → IsMoved clocks e o → IsMoved clocks e q → o.recurrence ≡ q.recurrence → o ≡ q
 one-moved {o = o} {q = q} h k r = same-entry o q (h.starts ∙ sym k.starts) (h.ends ∙ sym k.ends) r (h.event ∙ sym k.event)
@@ -56,10 +54,8 @@ module _ (files : List FileSaid) (display : Clock) where
       same = sym (ap (λ v. v.uid) k.of.event) ∙ sym u;
     })
 
-module _ (files : List FileSaid) (display : Clock) where
   pub one-recurrence : (o q : Entry) → Occurs files display o → Occurs files display q → o.event.uid ≡ q.event.uid → o.recurrence ≡ q.recurrence → o ≡ q
-  one-recurrence o q h k u r =
-      ⊎_elim
-      (λ a. ⊎_elim (λ b. both-masters files display o q u r a b) (λ b. absurd (not-both files display o q u r a b)) k)
-      (λ a. ⊎_elim (λ b. absurd (not-both files display q o (sym u) (sym r) b a)) (λ b. both-overrides files display o q u r a b) k)
-      h
+  one-recurrence o q (inl a) (inl b) u r = both-masters o q u r a b
+  one-recurrence o q (inl a) (inr b) u r = absurd (not-both o q u r a b)
+  one-recurrence o q (inr a) (inl b) u r = absurd (not-both q o (sym u) (sym r) b a)
+  one-recurrence o q (inr a) (inr b) u r = both-overrides o q u r a b

@@ -1,11 +1,8 @@
 -- Listings under each day, and what of them comes after the key of one of their entries.
-use Rattle.std.specs.Prelude.{◌<ℤ◌}
 use Rattle.std.specs.Cmp.{IsTotalOrder, int_cmp_is}
 use Rattle.std.specs.List.{filter}
-use Rattle.std.specs.Ordering.{ordering_then, is_lt}
-use Rattle.std.specs.declared.cmp.Ordering.{Ordering}
-use Rattle.std.specs.declared.cmp.Ordering.TheVariants.{Less}
-use Rattle.std.proofs.Common.{◌≡◌, ℤ, List, [], ◌∷◌, ◌++◌, map, ◌⊎◌, inl, inr, ⊎_elim, true, refl, sym, ◌∙◌, ap, subst, Some, cond}
+use Rattle.std.specs.Ordering.{ordering_then}
+use Rattle.std.proofs.Common.{◌≡◌, ℤ, List, [], ◌∷◌, ◌++◌, map, ◌⊎◌, inl, inr, ⊎_elim, true, refl, sym, ◌∙◌, ap, subst, Some, cond, ◌<ℤ◌, is_lt, Ordering, Less}
 use Rattle.std.proofs.lemmas.Cmp.{int_cmp_total, on_total, then_total, tied_itself}
 use Rattle.std.proofs.lemmas.Bool.{and_from, and_parts}
 use Rattle.ics_event.specs.Event.{FileSaid}
@@ -40,7 +37,7 @@ module _ {A : Type 0} (R : A → A → Ordering) where
   before-append x [] (y ∷ ys) h f = (f y (inl refl), before-append x [] ys tt (λ z m. f z (inr m)))
   before-append x (z ∷ xs) ys h f = (h.0, before-append x xs ys h.1 f)
 
-  rises-append : (xs ys : List A) → Rises R xs → Rises R ys → ((x y : A) → IsIn x xs → IsIn y ys → R x y ≡ Less) → Rises R (xs ++ ys)
+  pub rises-append : (xs ys : List A) → Rises R xs → Rises R ys → ((x y : A) → IsIn x xs → IsIn y ys → R x y ≡ Less) → Rises R (xs ++ ys)
   rises-append [] ys h k f = k
   rises-append (x ∷ xs) ys h k f = (before-append x xs ys h.0 (λ y m. f x y (inl refl) m), rises-append xs ys h.1 k (λ z y m n. f z y (inr m) n))
 

@@ -1,7 +1,7 @@
 -- What is to come is what the single events give and what each version gives whose event recurs.
 use Rattle.std.specs.List.{AllByRecursion}
-use Rattle.std.proofs.Common.{◌≡◌, List, [], ◌∷◌, map, inl, inr, ⊎_elim, Option, None, Bool, true, false, refl, sym, ◌∙◌, ap, subst}
-use Rattle.std.specs.Option.{option_map}
+use Rattle.std.proofs.Common.{◌≡◌, List, [], ◌∷◌, map, inl, inr, ⊎_elim, Option, None, false, ap, subst, option_map}
+use Rattle.std.proofs.lemmas.Bool.{cases_Bool}
 use Rattle.ics_event.specs.Event.{FileSaid}
 use Rattle.ics_series.specs.declared.version.Version.{Version}
 use Rattle.ics_series.specs.declared.window.Window.{Window}
@@ -20,8 +20,8 @@ use Rattle.ics_series.specs.Singles.{is_single, IsSingleToCome}
 use Rattle.ics_series.specs.Versions.{label_of, seen, AreChosen, Label}
 use Rattle.ics_series.proofs.AfterLemmas.{listing-after_key}
 use Rattle.ics_series.proofs.AgendaLemmas.{one-key}
-use Rattle.ics_series.proofs.GivenLemmas.{map-in, placed-event, IsGivenBy}
-use Rattle.ics_series.proofs.LeadNearLemmas.{all-by}
+use Rattle.ics_series.proofs.GivenLemmas.{map-in, placed-event}
+use Rattle.ics_series.proofs.SortLemmas.{all-as}
 use Rattle.ics_series.proofs.MergedMembers.{merged-listing, IsInOne}
 use Rattle.ics_series.proofs.RecurringLemmas.{recurring-master}
 use Rattle.ics_series.proofs.SinglesLemmas.{given-event, singles-whole}
@@ -47,34 +47,28 @@ module _ (files : List FileSaid) (display : Clock) (w : Window) (after : Option 
     part-come e m = ⊎_elim (λ n. ((single.exact e).0 n).0) (λ n. each-come (map seen vs) more e are.each n) m
 
     come-part : (e : Entry) → IsToCome files display w after e → InOne e (singles ∷ more)
-    come-part e t = by (is_single e.event) refl
-      where
-        by : (b : Bool) → is_single e.event ≡ b → InOne e (singles ∷ more)
-        by true s = inl ((single.exact e).1 (t, s))
-        by false s =
-            let g = (listed-given files display w vs chosen e (come-listed files display w after e t)).0 in
-            let clocks = clocks_at files display g.by.file in
-            let event : e.event ≡ g.by.event = given-event clocks g.by.event (overridden clocks g.by.event) e g.is.0 in
-            let label = label_of files display g.by in
-            let there : IsIn (label_of files display g.by) (map seen vs) =
-            subst (IsIn (label_of files display g.by)) (sym chosen.are)
-            (map-in (label_of files display) g.by chosen.chosen ((chosen.listing.exact g.by).1 g.chosen)) in
-            let none : overridden clocks g.by.event ≡ None =
-            ap (option_map (instant (clocks_at files display g.by.file))) (recurring-master g.by.event (ap is_single (sym event) ∙ s)) in
-            let recurs : Recurs files (label_of files display g.by) =
-            record { event = g.by.event; stands = placed-event files g.by g.chosen.placed; recurs = ap is_single (sym event) ∙ s } in
-            let has = are.every label there recurs in
-            inr (in-one e has.list more has.stands
-            ((has.listing.exact e).1 (record {
-              by = recurs;
-              of = subst (λ r. IsGivenBy (clocks_at files display g.by.file) g.by.event r e) none g.is.0;
-              to_come = t;
-            })))
+    come-part e t =
+        ⊎_elim
+        (λ s. inl ((single.exact e).1 (t, s)))
+        (λ s.
+        let g = (listed-given files display w vs chosen e (come-listed files display w after e t)).0 in
+        let event : e.event ≡ g.by.event =
+        given-event (clocks_at files display g.by.file) g.by.event (overridden (clocks_at files display g.by.file) g.by.event) e g.is.0 in
+        let there : IsIn (label_of files display g.by) (map seen vs) =
+        rw chosen.are (map-in (label_of files display) g.by chosen.chosen ((chosen.listing.exact g.by).1 g.chosen)) in
+        let own : is_single g.by.event ≡ false = rw event at s in
+        let none = ap (option_map (instant (clocks_at files display g.by.file))) (recurring-master g.by.event own) in
+        let recurs : Recurs files (label_of files display g.by) =
+        record { event = g.by.event; stands = placed-event files g.by g.chosen.placed; recurs = own } in
+        let has = are.every (label_of files display g.by) there recurs in
+        inr (in-one e has.list more has.stands
+        ((has.listing.exact e).1 (record { by = recurs; of = rw none at g.is.0; to_come = t }))))
+        (cases_Bool (is_single e.event))
 
     -- the merge of what they give is the listing
     pub parts-listing : IsListing entry_cmp (IsToCome files display w after) (merged entry_cmp (singles ∷ more))
     parts-listing =
-        let rise = all-by (IsOneOf files display w after (map seen vs)) (Rises entry_cmp) more (λ xs h. h.listing.rises) are.each in
+        let rise = all-as (IsOneOf files display w after (map seen vs)) (Rises entry_cmp) more (λ xs h. h.listing.rises) are.each in
         merged-listing entry_cmp entry_total (IsToCome files display w after) (singles ∷ more) (single.rises, rise) part-come come-part
         (one-key files display w after)
 
@@ -83,8 +77,7 @@ module _ (files : List FileSaid) (display : Clock) (w : Window) (after : Option 
       IsListing entry_cmp (IsSingleToCome files display w after) singles → HasLists files display w after (map seen vs) (singles ∷ []) lists
       → IsListing entry_cmp (IsToCome files display w after) (merged entry_cmp lists)
   pushed-listing {vs = vs} singles chosen single h =
-      subst (λ xss. IsListing entry_cmp (IsToCome files display w after) (merged entry_cmp xss)) (sym h.behind)
-      (parts-listing vs chosen singles single h.more h.are)
+      rw h.behind (parts-listing vs chosen singles single h.more h.are)
 
   -- and what comes is what of the whole listing stands after the key
   pub behind-key : {come : List Entry} → (list : List Entry) × IsListing entry_cmp (IsListed files display w) list

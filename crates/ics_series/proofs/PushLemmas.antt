@@ -1,7 +1,6 @@
 -- The lists of the versions whose events recur, one version after the other.
-use Rattle.std.specs.Prelude.{slice_get}
-use Rattle.std.proofs.Common.{◌≡◌, ℕ, ◌+◌, ◌≤◌, List, [], ◌∷◌, ◌++◌, map, length, get_or, take, inl, ⊎_elim, Option, Some, refl, sym, ◌∙◌, ap, subst}
-use Rattle.std.proofs.Common.{add-one}
+use Rattle.std.proofs.Common.{◌≡◌, ℕ, ◌+◌, ◌≤◌, List, [], ◌∷◌, ◌++◌, map, length, get_or, take, inl, ⊎_elim, Option, Some, refl, sym, ◌∙◌, ap, subst, add-one}
+use Rattle.std.proofs.Common.{slice_get}
 use Rattle.std.proofs.Math.Seq.{take-suc}
 use Rattle.std.proofs.lemmas.List.{append-nil, append_assoc, map-append, take_all}
 use Rattle.std.proofs.lemmas.Option.{get_or_from_slice_get, slice_get_within}
@@ -28,8 +27,8 @@ module _ {files : List FileSaid} {display : Clock} {w : Window} {after : Option 
   pub lists-none : (before : List (List Entry)) → HasLists files display w after [] before before
   lists-none before = record { more = []; are = record { each = tt; every = λ l m. absurd m }; behind = sym (append-nil before) }
 
-  wider : (labels : List Label) (l : Label) (list : List Entry) → IsOneOf files display w after labels list →
-      IsOneOf files display w after (labels ++ l ∷ []) list
+  wider : (labels : List Label) (l : Label) (list : List Entry) →
+      IsOneOf files display w after labels list → IsOneOf files display w after (labels ++ l ∷ []) list
   wider labels l list h = record { label = h.label; stands = in-append_left h.label labels (l ∷ []) h.stands; listing = h.listing }
 
   module _ (vs : List Version) (i : ℕ) where
@@ -37,16 +36,16 @@ module _ {files : List FileSaid} {display : Clock} {w : Window} {after : Option 
     pub versions-skip : {v : Version} {before now new : List (List Entry)} → slice_get vs i ≡ Some v →
         HasLists files display w after (map seen (take i vs)) before now
         → (Recurs files (seen v) → ⊥) → new ≡ now → HasLists files display w after (map seen (take (i + 1) vs)) before new
-    versions-skip {v = v} {before = before} {new = new} there h n e =
+    versions-skip {v = v} there h n e =
         let labels = map seen (take i vs) in
-        subst (λ ls. HasLists files display w after ls before new) (taken vs i there)
+        let each = all-as (IsOneOf files display w after labels) (IsOneOf files display w after (labels ++ seen v ∷ [])) h.more
+        (wider labels (seen v)) h.are.each in
+        rw (← taken vs i there)
         (record {
           more = h.more;
           are = record {
-            each = all-as (IsOneOf files display w after labels) (IsOneOf files display w after (labels ++ seen v ∷ [])) h.more (wider labels (seen v))
-                h.are.each;
-            every = λ k m r. ⊎_elim (λ a. h.are.every k a r) (⊎_elim (λ e. absurd (n (subst (Recurs files) e r))) (λ b. absurd b))
-                (in-append k labels (seen v ∷ []) m);
+            each = each;
+            every = λ k m r. ⊎_elim (λ a. h.are.every k a r) (⊎_elim (λ e. absurd (n (rw e at r))) (λ b. absurd b)) (in-append k labels (seen v ∷ []) m);
           };
           behind = e ∙ h.behind;
         })
@@ -55,24 +54,20 @@ module _ {files : List FileSaid} {display : Clock} {w : Window} {after : Option 
     pub versions-more : {v : Version} {list : List Entry} {before now new : List (List Entry)} → slice_get vs i ≡ Some v →
         HasLists files display w after (map seen (take i vs)) before now → IsListing entry_cmp (IsOfVersion files display w after (seen v)) list
         → new ≡ now ++ list ∷ [] → HasLists files display w after (map seen (take (i + 1) vs)) before new
-    versions-more {v = v} {list = list} {before = before} {new = new} there h k e =
+    versions-more {v = v} {list = list} {before = before} there h k e =
         let labels = map seen (take i vs) in
-        subst (λ ls. HasLists files display w after ls before new) (taken vs i there)
+        let each = all-as (IsOneOf files display w after labels) (IsOneOf files display w after (labels ++ seen v ∷ [])) h.more
+        (wider labels (seen v)) h.are.each in
+        rw (← taken vs i there)
         (record {
           more = h.more ++ list ∷ [];
           are = record {
-            each = all-pushed (IsOneOf files display w after (labels ++ seen v ∷ [])) h.more list
-                (all-as (IsOneOf files display w after labels) (IsOneOf files display w after (labels ++ seen v ∷ [])) h.more (wider labels (seen v))
-                h.are.each)
+            each = all-pushed (IsOneOf files display w after (labels ++ seen v ∷ [])) h.more list each
                 (record { label = seen v; stands = in-append_right (seen v) labels (seen v ∷ []) (inl refl); listing = k });
             every = λ x m r.
                 ⊎_elim
                 (λ a. let s = h.are.every x a r in record { list = s.list; stands = in-append_left s.list h.more (list ∷ []) s.stands; listing = s.listing })
-                (⊎_elim (λ q. record {
-                  list = list;
-                  stands = in-append_right list h.more (list ∷ []) (inl refl);
-                  listing = subst (λ y. IsListing entry_cmp (IsOfVersion files display w after y) list) (sym q) k;
-                }) (λ b. absurd b))
+                (⊎_elim (λ q. record { list = list; stands = in-append_right list h.more (list ∷ []) (inl refl); listing = rw q k }) (λ b. absurd b))
                 (in-append x labels (seen v ∷ []) m);
           };
           behind = e ∙ (ap (λ xs. xs ++ list ∷ []) h.behind ∙ append_assoc before h.more (list ∷ []));

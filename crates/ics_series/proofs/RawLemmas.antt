@@ -1,15 +1,11 @@
 -- What gives an event a start whose instant passes a test stands in one list, which has as many members as are counted.
-use Rattle.std.specs.Prelude.{count_by, slice_get, if◌then◌else◌}
-use Rattle.std.specs.Ordering.{is_gt}
-use Rattle.std.specs.declared.cmp.Ordering.{Ordering}
-use Rattle.std.specs.declared.cmp.Ordering.TheVariants.{Less, Greater}
 use Rattle.std.proofs.Common.{◌≡◌, ℕ, zero, suc, ◌+◌, ◌<◌, ℤ, Bool, true, false, ◌&&◌, cond, List, [], ◌∷◌, ◌++◌, length, Option, Some, None, ◌⊎◌, inl, inr}
-use Rattle.std.proofs.Common.{⊎_elim, refl, sym, ◌∙◌, ap, subst, length-append, arith}
+use Rattle.std.proofs.Common.{⊎_elim, refl, sym, ◌∙◌, ap, length-append, arith, count_by, slice_get, if◌then◌else◌, is_gt, Ordering, Less, Greater}
 use Rattle.std.proofs.lemmas.Int.{ints}
 use Rattle.std.proofs.lemmas.List.Sums.{sum_by-cons}
 use Rattle.std.proofs.lemmas.Bool.{and_from, true_from_ne_false}
-use Rattle.std.proofs.lemmas.Option.{slice_get_within}
 use Rattle.ics_rule.specs.Kept.{count, is_kept}
+use Rattle.ics_fields.specs.declared.local.Local.{Local}
 use Rattle.ics_fields.specs.Locals.{number, calendar_end}
 use Rattle.ics_rule.specs.Recurrence.{Recurrence}
 use Rattle.ics_rule.proofs.KeptLemmas.{and_true}
@@ -26,7 +22,7 @@ use Rattle.ics_series.specs.Listing.{IsListing}
 use Rattle.ics_series.specs.MergedLaws.{back}
 use Rattle.ics_series.specs.RuleStarts.{lets_until, local_numbered, moment_numbered}
 use Rattle.ics_series.specs.Starts.{given_by, local_of, recurrence_of, time_at, time_of, GivesStart, IsNotAfter, IsRuleStart}
-use Rattle.ics_series.proofs.Cases.{below-or-last}
+use Rattle.ics_series.proofs.Cases.{below-or-last, some-same}
 use Rattle.ics_series.proofs.FirstLemmas.{source-order, source_total}
 use Rattle.ics_series.proofs.StartSourceLemmas.{own-time}
 use Rattle.ics_series.proofs.OnDayLemmas.{joined, none-listed}
@@ -97,27 +93,6 @@ module _ (source : ℕ → StartSource) (rises : (k n : ℕ) → k < n → sourc
 earlier-local : (k n : ℕ) → k < n → source_cmp (Kept (local_numbered k)) (Kept (local_numbered n)) ≡ Less
 earlier-local k n l = source-before (Kept (local_numbered k)) (Kept (local_numbered n)) (λ h. omega (arith, ints, l, h, number-numbered k, number-numbered n))
 
--- A list is counted by its places.
-abbrev at_place : (Rdate → Bool) → Option Rdate → Bool
-at_place test None = false
-at_place test (Some rdate) = test rdate
-
-place-passes : (test : Rdate → Bool) (o : Option Rdate) → at_place test o ≡ true → (rdate : Rdate) × (o ≡ Some rdate) × (test rdate ≡ true)
-place-passes test None e = absurd cc
-place-passes test (Some rdate) e = (rdate, refl, e)
-
-count-first : (n : ℕ) (test : ℕ → Bool) → count (suc n) test ≡ cond (test 0) 1 0 + count n (λ k. test (suc k))
-unfolding count
-count-first zero test = omega arith
-count-first (suc n) test = omega (arith, count-first n test)
-
-by-places : (test : Rdate → Bool) (rdates : List Rdate) → count (length rdates) (λ k. at_place test (slice_get rdates k)) ≡ count_by test rdates
-unfolding count
-by-places test [] = refl
-by-places test (r ∷ rs) =
-    let first = count-first (length rs) (λ k. at_place test (slice_get (r ∷ rs) k)) in
-    omega (arith, first, by-places test rs, sum_by-cons (λ x. cond (test x) 1 0) r rs)
-
 module _ (clocks : Clocks) (event : Event) (test : ℤ → Bool) (time : IsTime event.start) where
   abbrev is_there : Rdate → Bool
   is_there rdate = test (instant clocks (time_of (given_by event.start rdate)))
@@ -137,8 +112,9 @@ module _ (clocks : Clocks) (event : Event) (test : ℤ → Bool) (time : IsTime 
 
   -- what such a local is
   abbrev IsRawKept : StartSource → Type 0
-  IsRawKept (Kept local) = ((local ≡ local_of event.start.stamp) ⊎ IsRuleStart clocks event local) × (test (instant clocks (time_at event.start local)) ≡ true)
-  IsRawKept (Listed place) = ⊥
+  IsRawKept g =
+      (local : Local) × (g ≡ Kept local) × ((local ≡ local_of event.start.stamp) ⊎ IsRuleStart clocks event local)
+      × (test (instant clocks (time_at event.start local)) ≡ true)
 
   own-instant : instant clocks (time_at event.start (local_of event.start.stamp)) ≡ instant clocks event.start
   own-instant = ap (instant clocks) (own-time event.start)
@@ -147,13 +123,10 @@ module _ (clocks : Clocks) (event : Event) (test : ℤ → Bool) (time : IsTime 
   once : recurrence_of event ≡ None → Counts IsRawKept (if test (instant clocks event.start) then 1 else 0)
   once none =
       same-count (one-or-none (test (instant clocks event.start)) (Kept (local_of event.start.stamp)))
-      (λ g p. subst IsRawKept (sym p.1) (inl refl, ap test own-instant ∙ p.0)) back
-    where
-      back : (g : StartSource) → IsRawKept g → (test (instant clocks event.start) ≡ true) × (g ≡ Kept (local_of event.start.stamp))
-      back (Kept local) p =
-          let same : local_of event.start.stamp ≡ local = ⊎_elim sym (λ r. let no : Some r.rule ≡ None = sym r.has ∙ none in absurd cc) p.0 in
-          (ap test (sym own-instant ∙ ap (λ l. instant clocks (time_at event.start l)) same) ∙ p.1, ap Kept (sym same))
-      back (Listed place) p = absurd p
+      (λ g p. (local_of event.start.stamp, p.1, inl refl, ap test own-instant ∙ p.0))
+      (λ g p.
+      let same : local_of event.start.stamp ≡ p.0 = ⊎_elim sym (λ r. let no : Some r.rule ≡ None = sym r.has ∙ none in absurd cc) p.2 in
+      (ap test (sym own-instant ∙ ap (λ l. instant clocks (time_at event.start l)) same) ∙ p.3, p.1 ∙ ap Kept (sym same)))
 
   -- and under one
   module _ (rule : Recurrence) (has : recurrence_of event ≡ Some rule) where
@@ -168,61 +141,56 @@ module _ (clocks : Clocks) (event : Event) (test : ℤ → Bool) (time : IsTime 
     raw-passing g p =
         let kept = and_true {a = is_kept rule p.at} p.passes in
         let within = and_true {a = lets_until rule p.at (moment_numbered clocks event p.at)} kept.1 in
-        subst IsRawKept (sym p.is) (numbered-raw p.at p.below kept.0 within.0, within.1)
+        (local_numbered p.at, p.is, numbered-raw p.at p.below kept.0 within.0, within.1)
 
     passing-raw : (g : StartSource) → IsRawKept g → IsPassing (λ n. Kept (local_numbered n)) (is_tested rule) calendar_end g
-    passing-raw (Kept local) p =
-        let of_day = kept-calendar clocks event local time p.0 in
-        let same = numbered-number local of_day in
-        let parts = ruled-kept clocks event rule has local p.0 in
-        let there = ap (λ l. instant clocks (time_at event.start l)) same in
+    passing-raw g p =
+        let of_day = kept-calendar clocks event p.0 time p.2 in
+        let same = numbered-number p.0 of_day in
+        let parts = ruled-kept clocks event rule has p.0 p.2 in
         record {
-          at = number local;
-          below = omega (arith, ints, of_day.0, of_day.1, local.second_in);
-          passes = and_from (is_kept rule (number local)) _ parts.0
-              (and_from (lets_until rule (number local) (moment_numbered clocks event (number local))) _
-              (ap (lets_until rule (number local)) there ∙ parts.1) (ap test there ∙ p.1));
-          is = ap Kept (sym same);
+          at = number p.0;
+          below = omega (arith, ints, of_day.0, of_day.1, p.0.second_in);
+          passes = rw (parts.0, same) (and_from _ _ parts.1 p.3);
+          is = p.1 ∙ ap Kept (sym same);
         }
-    passing-raw (Listed place) p = absurd p
 
   kept-counts : (o : Option Recurrence) → recurrence_of event ≡ o → Counts IsRawKept (kept_count o)
   kept-counts None e = once e
   kept-counts (Some rule) e =
       same-count (passing (λ n. Kept (local_numbered n)) earlier-local (is_tested rule) calendar_end) (raw-passing rule e) (passing-raw rule e)
 
+  -- and so the RDATEs from a place on that give such a start
+  abbrev IsRawFrom : ℕ → List Rdate → StartSource → Type 0
+  IsRawFrom place rdates g =
+      (k : ℕ) × (rdate : Rdate) × (slice_get rdates k ≡ Some rdate) × (is_there rdate ≡ true) × (g ≡ Listed (place + k))
+
+  listed-counts : (place : ℕ) (rdates : List Rdate) → Counts (IsRawFrom place rdates) (count_by is_there rdates)
+  listed-counts place [] = no-count (λ g p. let f : None ≡ Some p.1 = p.2 in absurd cc)
+  listed-counts place (r ∷ rs) =
+      rw (sum_by-cons (λ x. cond (is_there x) 1 0) r rs)
+      (both-count (one-or-none (is_there r) (Listed place)) (listed-counts (place + 1) rs)
+      (λ x y p q. rw (p.1, q.4) (source-before (Listed place) (Listed (place + 1 + q.0)) (λ h. omega (arith, h))))
+      (λ g. ⊎_elim (λ p. (0, r, refl, p.0, p.1 ∙ ap Listed (omega arith))) (λ q. (suc q.0, q.1, q.2, q.3, q.4 ∙ ap Listed (omega arith)))) first)
+    where
+      first : (g : StartSource) → IsRawFrom place (r ∷ rs) g → ((is_there r ≡ true) × (g ≡ Listed place)) ⊎ IsRawFrom (place + 1) rs g
+      first g (zero, x, e, t, is) = inl (ap is_there (some-same r x e) ∙ t, is ∙ ap Listed (omega arith))
+      first g (suc k, x, e, t, is) = inr (k, x, e, t, is ∙ ap Listed (omega arith))
+
   -- both kinds, the locals first
-  abbrev IsRawListed : StartSource → Type 0
-  IsRawListed g = IsPassing (λ k. Listed k) (λ k. at_place is_there (slice_get event.rdates k)) (length event.rdates) g
+  source-raw : (g : StartSource) → IsRawKept g ⊎ IsRawFrom 0 event.rdates g → IsGiving g
+  source-raw g (inl p) = rw p.1 (At (time_at event.start p.0), (p.2, refl), p.3)
+  source-raw g (inr q) = let is : g ≡ Listed q.0 = q.4 ∙ ap Listed (omega arith) in rw is (given_by event.start q.1, (q.1, q.2, refl), q.3)
 
-  kept-before : (x g : StartSource) → IsRawKept x → IsRawListed g → source_cmp x g ≡ Less
-  kept-before (Kept local) g p q = ap (source_cmp (Kept local)) q.is ∙ source-before (Kept local) (Listed q.at) (λ no. no)
-  kept-before (Listed place) g p q = absurd p
-
-  source-raw : (g : StartSource) → IsRawKept g ⊎ IsRawListed g → IsGiving g
-  source-raw (Kept local) (inl p) = (At (time_at event.start local), (p.0, refl), p.1)
-  source-raw (Listed place) (inl p) = absurd p
-  source-raw g (inr q) =
-      let k = place-passes is_there (slice_get event.rdates q.at) q.passes in
-      subst IsGiving (sym q.is) (given_by event.start k.0, (k.0, k.1, refl), k.2)
-
-  raw-source : (g : StartSource) → IsGiving g → IsRawKept g ⊎ IsRawListed g
-  raw-source (Kept local) r = inl (r.1.0, ap (λ given. test (instant clocks (time_of given))) (sym r.1.1) ∙ r.2)
+  raw-source : (g : StartSource) → IsGiving g → IsRawKept g ⊎ IsRawFrom 0 event.rdates g
+  raw-source (Kept local) r = inl (local, refl, r.1.0, ap (λ given. test (instant clocks (time_of given))) (sym r.1.1) ∙ r.2)
   raw-source (Listed place) r =
-      inr (record {
-        at = place;
-        below = slice_get_within event.rdates place r.1.0 r.1.1;
-        passes = ap (at_place is_there) r.1.1 ∙ (ap (λ given. test (instant clocks (time_of given))) (sym r.1.2) ∙ r.2);
-        is = refl;
-      })
+      inr (place, r.1.0, r.1.1, ap (λ given. test (instant clocks (time_of given))) (sym r.1.2) ∙ r.2, ap Listed (omega arith))
 
   pub giving : Counts IsGiving (kept_count (recurrence_of event) + count_by is_there event.rdates)
   giving =
-      both-count (kept-counts (recurrence_of event) refl)
-      (subst (Counts IsRawListed) (by-places is_there event.rdates)
-      (passing (λ k. Listed k) (λ k n l. source-before (Listed k) (Listed n) (λ h. omega (arith, l, h)))
-      (λ k. at_place is_there (slice_get event.rdates k)) (length event.rdates)))
-      kept-before source-raw raw-source
+      both-count (kept-counts (recurrence_of event) refl) (listed-counts 0 event.rdates)
+      (λ x g p q. rw (p.1, q.4) (source-before (Kept p.0) (Listed (0 + q.0)) (λ no. no))) source-raw raw-source
 
 kept-counted : (clocks : Clocks) (event : Event) (day : ℤ) (time : IsTime event.start) (o : Option Recurrence) →
     kept_count clocks event (is_within_days day) time o ≡ raw_by clocks event o day

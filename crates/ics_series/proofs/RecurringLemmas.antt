@@ -1,10 +1,7 @@
 -- What a master gives that recurs: of the occurrences to come those of its event.
-use Rattle.std.specs.Prelude.{◌≤ℤ◌, ◌||◌, ◌&&◌, ◌==◌, int_le, not, is_none, is_some}
-use Rattle.std.proofs.Common.{◌≡◌, ◌<ℤ◌, ℤ, List, [], map, length, Option, Some, None, Bool, true, false, refl}
-use Rattle.std.proofs.Common.{sym, ◌∙◌, ap, subst, arith}
+use Rattle.std.proofs.Common.{◌≡◌, ◌<ℤ◌, ℤ, List, [], map, length, Option, Some, None, Bool, true, false, refl, sym, ◌∙◌, ap, subst, arith, ◌≤ℤ◌, ◌||◌, ◌&&◌}
+use Rattle.std.proofs.Common.{◌==◌, int_le, not, is_none, is_some, option_map, int_eq}
 use Rattle.std.specs.List.{list_any}
-use Rattle.std.specs.Option.{option_map}
-use Rattle.std.specs.Ordering.{int_eq}
 use Rattle.std.proofs.lemmas.Int.{ints}
 use Rattle.ics_event.specs.Event.{FileSaid, IsEvent}
 use Rattle.ics_event.specs.declared.event.Event.{Event}
@@ -25,11 +22,11 @@ use Rattle.ics_series.specs.SeriesStarts.{given_of, IsSeriesMet}
 use Rattle.ics_series.specs.Singles.{is_single}
 use Rattle.ics_series.specs.Spots.{event_at}
 use Rattle.ics_series.specs.Starts.{time_of}
-use Rattle.ics_series.specs.Versions.{is_named, label_of, seen, AreChosen, Label}
+use Rattle.ics_series.specs.Versions.{label_of, seen, AreChosen, Label}
 use Rattle.ics_series.specs.FileZones.{clocks_in}
 use Rattle.ics_series.proofs.SeriesLemmas.{in-among, not-among, series-listing as listing-by}
 use Rattle.ics_series.proofs.Cases.{not-true, some-same}
-use Rattle.ics_series.proofs.GivenLemmas.{in-map, placed-event, IsGiven, IsGivenBy}
+use Rattle.ics_series.proofs.GivenLemmas.{in-map, placed-event, IsGiven}
 use Rattle.ics_series.proofs.StartSourceLemmas.{gives-value, rdate-time}
 use Rattle.ics_series.proofs.InstantLemmas.{late}
 use Rattle.ics_series.proofs.ToComeLemmas.{come-listed, is-after, listed-given, to-come}
@@ -82,18 +79,12 @@ module _ {files : List FileSaid} {display : Clock} {vs : List Version} {label : 
   pub own-subject : label.subject ≡ record { uid = event.uid; recurrence = None }
   own-subject =
       ap (λ (l : Label). l.subject) own.2
-      ∙ ((λ i. record { uid = (own-event i).uid; recurrence = option_map (instant (clocks_at files display own.0.file)) (own-event i).recurrence })
-      ∙ ap (λ (r : Option Time). record { uid = event.uid; recurrence = option_map (instant (clocks_at files display own.0.file)) r })
-      (recurring-master event r.recurs))
+      ∙ rw (own-event, ap (option_map (instant (clocks_at files display own.0.file))) (recurring-master event r.recurs)) refl
 
   module _ {zones : FileZones} {instants : List ℤ} (read : IsRead files display vs label event zones instants) (w : Window) (after : Option Rank) (since : ℤ)
       (from : IsSince after event.uid since) where
     named : (o : Entry) → o.event ≡ event → is_kept (map seen vs) o ≡ not (list_any (λ x. int_eq x o.recurrence) instants)
-    named o e =
-        ap (λ (v : Event). is_some v.recurrence || not (is_named (record { uid = v.uid; recurrence = Some o.recurrence }) (map seen vs))) e
-        ∙ (ap (λ (r : Option Time). is_some r || not (is_named (record { uid = event.uid; recurrence = Some o.recurrence }) (map seen vs)))
-        (recurring-master event r.recurs)
-        ∙ ap not (sym (read.overridden o.recurrence)))
+    named o e = rw (e, ap (λ (t : Option Time). is_some t) (recurring-master event r.recurs)) (ap not (sym (read.overridden o.recurrence)))
 
     begun : (o : Entry) → IsOf clocks event o → o.start <ℤ w.to → is_after after o ≡ int_le since o.start
     begun o of b =
@@ -107,8 +98,7 @@ module _ {files : List FileSaid} {display : Clock} {vs : List Version} {label : 
           by = own.0;
           chosen = (chosen.listing.exact own.0).0 own.1;
           is = (
-            subst (λ r. IsGivenBy (clocks_at files display own.0.file) own.0.event (option_map (instant (clocks_at files display own.0.file)) r) o)
-                (sym (ap (λ (v : Event). v.recurrence) own-event ∙ recurring-master event r.recurs)) (rw (own-event, own-clocks) of),
+            rw (own-event, ap (option_map (instant (clocks_at files display own.0.file))) (recurring-master event r.recurs), own-clocks) of,
             m.0.1,
           );
         } in
@@ -122,16 +112,15 @@ module _ {files : List FileSaid} {display : Clock} {vs : List Version} {label : 
     come-met : (o : Entry) → IsOfVersion files display w after label o → IsSeriesMet clocks event w since instants o
     come-met o h =
         let same : h.by.event ≡ event = some-same h.by.event event (sym h.by.stands ∙ r.stands) in
-        let of : IsOf clocks event o = subst (λ v. IsOf clocks v o) same h.of in
+        let of : IsOf clocks event o = rw same at h.of in
         let listed = listed-given files display w vs chosen o (come-listed files display w after o h.to_come) in
         let meets = listed.0.is.1 in
         let out : list_any (λ x. int_eq x o.start) instants ≡ false =
-        ap (λ t. list_any (λ x. int_eq x t) instants) (sym of.recurrence)
-        ∙ not-true (list_any (λ x. int_eq x o.recurrence) instants) (sym (named o of.event) ∙ listed.1) in (
+        rw of.recurrence at (not-true (list_any (λ x. int_eq x o.recurrence) instants) (sym (named o of.event) ∙ listed.1)) in (
           (of, meets),
           (
             int_le_true since o.start (sym (begun o of meets.begun) ∙ is-after files display w vs chosen after o h.to_come),
-            λ m. let f : true ≡ false = sym (in-among o.start instants m) ∙ out in cc,
+            λ m. let f = in-among o.start instants m in cc,
           ),
         )
 
@@ -139,10 +128,8 @@ module _ {files : List FileSaid} {display : Clock} {vs : List Version} {label : 
     pub series-listing : {list : List Entry} → IsListing entry_cmp (IsSeriesMet (clocks_in zones) event w since instants) list →
         IsListing entry_cmp (IsOfVersion files display w after label) list
     series-listing {list = list} l =
-        let k = subst (λ k. IsListing entry_cmp (IsSeriesMet k event w since instants) list) read.clocks l in record {
-          rises = k.rises;
-          exact = λ o. (λ m. met-come o ((k.exact o).0 m), λ h. (k.exact o).1 (come-met o h));
-        }
+        let k = rw read.clocks at l in
+        record { rises = k.rises; exact = λ o. (λ m. met-come o ((k.exact o).0 m), λ h. (k.exact o).1 (come-met o h)) }
 
 -- an event that starts once does not recur
 pub not-single : {files : List FileSaid} {u v : Version} {event : Event} → u ≡ v → event_at files u.spot ≡ Some event → is_single event ≡ true →

@@ -1,10 +1,8 @@
 -- A local and its number.
-use Rattle.std.specs.Prelude.{◌≤ℤ◌, ◌==◌, int_lt, IfSome}
-use Rattle.std.proofs.Common.{◌≡◌, ℕ, Bool, true, ◌&&◌, Some, ◌⊎◌, inl, inr, ⊎_elim, refl, sym, ◌∙◌, ap, subst, arith, w64, to_z, of_z}
+use Rattle.std.proofs.Common.{◌≡◌, ℕ, ℤ, Bool, true, ◌&&◌, Option, Some, None, ◌⊎◌, inl, inr, ⊎_elim, refl, sym, ◌∙◌, ap, subst, arith, w64, to_z, of_z, ◌≤ℤ◌}
+use Rattle.std.proofs.Common.{◌==◌, int_lt, IfSome, SFits, int_eq}
 use Rattle.std.proofs.lemmas.Bool.Decides.{nat_tests}
 use Rattle.std.proofs.lemmas.Int.{ints, to_z-of_z}
-use mir.Val.{SFits}
-use Rattle.std.specs.Ordering.{int_eq}
 use Rattle.std.proofs.lemmas.Bool.{eqb-true, eq-eqb, or_left, or_right}
 use Rattle.ics_fields.specs.Days.{IsDayNumber}
 use Rattle.ics_fields.specs.declared.local.Local.{Local}
@@ -24,7 +22,15 @@ use Rattle.ics_series.specs.RuleStarts.{gives, lets_until, local_numbered, momen
 use Rattle.ics_series.specs.Starts.{local_of, recurrence_of, time_at, IsRuleStart}
 use Rattle.ics_series.proofs.Cases.{some-same}
 use Rattle.ics_series.proofs.StartSourceLemmas.{calendar-day, number-seconds, own-day, rule-first, same-number}
-use Rattle.ics_series.proofs.KeptLemmas.{true-until, until-true}
+
+-- Whether an instant is not after UNTIL, as a test and as a fact.
+until-true : (o : Option ℤ) (t : ℤ) → IfSome o (λ last. t ≤ℤ last) → is_until o t ≡ true
+until-true None t h = refl
+until-true (Some last) t h = grind (arith, ints)
+
+true-until : (o : Option ℤ) (t : ℤ) → is_until o t ≡ true → IfSome o (λ last. t ≤ℤ last)
+true-until None t h = tt
+true-until (Some last) t h = grind (arith, ints)
 
 pub same-test : (p q : Bool) → (p ≡ true → q ≡ true) → (q ≡ true → p ≡ true) → p ≡ q
 same-test p q f h = grind arith
@@ -76,8 +82,7 @@ module _ (clocks : Clocks) (event : Event) (rule : Recurrence) (has : recurrence
         has = has;
         calendar = day;
         kept = kept;
-        until = subst (λ l. IfSome (until_moment rule) (λ last. instant clocks (time_at event.start l) ≤ℤ last)) (numbered-number local day)
-            (true-until (until_moment rule) (moment_numbered clocks event (number local)) u);
+        until = rw (numbered-number local day) at (true-until (until_moment rule) (moment_numbered clocks event (number local)) u);
       }))
       (or_true {a = number local == number rule.start} through)
 
@@ -86,15 +91,9 @@ module _ (clocks : Clocks) (event : Event) (rule : Recurrence) (has : recurrence
   ruled-kept k =
       ⊎_elim
       (λ e.
-      let first : number local ≡ number rule.start = ap (λ (l : Local). number l) (e ∙ sym (rule-first event rule has)) in (
-        ap (is_kept rule) first ∙ kept_start rule,
-        or_left (number local == number rule.start)
-            (is_until (until_moment rule) (instant clocks (time_at event.start local))) (eq-eqb (number local) (number rule.start) first),
-      ))
+      let first : number local ≡ number rule.start = ap (λ (l : Local). number l) (e ∙ sym (rule-first event rule has)) in
+      (rw first (kept_start rule), or_left _ _ (eq-eqb _ _ first)))
       (λ r.
-      let same : r.rule ≡ rule = some-same r.rule rule (sym r.has ∙ has) in (
-        rw same at r.kept,
-        or_right (number local == number rule.start) (is_until (until_moment rule) (instant clocks (time_at event.start local)))
-            (rw same at (until-true (until_moment r.rule) (instant clocks (time_at event.start local)) r.until)),
-      ))
+      let same : r.rule ≡ rule = some-same r.rule rule (sym r.has ∙ has) in
+      (rw same at r.kept, or_right _ _ (rw same at (until-true (until_moment r.rule) (instant clocks (time_at event.start local)) r.until))))
       k

@@ -1,38 +1,41 @@
 -- One step of reading the starts of a rule: a kept local more, or none up to a bound.
-use Rattle.std.specs.Prelude.{◌≤ℤ◌, ◌<ℤ◌, int_lt, not, slice_get}
-use Rattle.std.specs.declared.cmp.Ordering.{Ordering}
-use Rattle.std.specs.declared.cmp.Ordering.TheVariants.{Equal}
 use lib.Signed.{mag}
-use Rattle.std.proofs.Common.{◌≡◌, ℕ, ◌+◌, ◌<◌, ◌≤◌, w32, to_z, of_z, max, ℤ, pos, ◌+ℤ◌, ◌-ℤ◌, Bool, true, false, ◌&&◌, List, [], ◌∷◌, length, inl, ⊎_elim}
-use Rattle.std.proofs.Common.{refl, sym, ◌∙◌, ap, subst, arith}
+use Rattle.std.proofs.Common.{◌≡◌, ℕ, ◌+◌, ◌<◌, ◌≤◌, w32, to_z, of_z, max, ℤ, pos, ◌+ℤ◌, ◌-ℤ◌, Bool, true, false, ◌&&◌, List, [], ◌∷◌, length, ◌⊎◌, inl, inr}
+use Rattle.std.proofs.Common.{⊎_elim, refl, sym, ap, arith, ◌≤ℤ◌, ◌<ℤ◌, int_lt, not, slice_get, Ordering, Equal}
 use Rattle.std.proofs.lemmas.Int.{ints}
 use Rattle.ics_fields.specs.Days.{IsDayNumber}
 use Rattle.ics_fields.specs.declared.local.Local.{Local}
 use Rattle.ics_rule.specs.Cursors.{place_of}
 use Rattle.ics_fields.specs.Locals.{local_at, number, midnight, whole_days, year_seconds}
 use Rattle.ics_rule.specs.Next.{NoneKept, IsNextKept}
+use Rattle.ics_rule.specs.Recurrence.{Recurrence}
+use Rattle.ics_rule.proofs.KeptLemmas.{and_true}
+use Rattle.ics_event.specs.declared.event.Event.{Event}
 use Rattle.ics_series.specs.declared.rule_starts.RuleStarts.{RuleStarts}
 use Rattle.ics_series.specs.declared.start.Start.{Start}
+use Rattle.ics_series.specs.declared.window.Window.{Window}
+use Rattle.ics_series.specs.declared.zones.FileZones.{FileZones}
 use Rattle.ics_series.specs.Found.{moment_cmp, start_at}
 use Rattle.ics_series.specs.HeldMost.{most_in_days}
 use Rattle.ics_series.specs.Listing.{IsIn}
 use Rattle.ics_series.specs.Merged.{by_order, cut}
+use Rattle.ics_series.specs.MergedLaws.{rises-union}
 use Rattle.ics_series.specs.Rising.{Rises}
 use Rattle.ics_series.specs.RuleFeed.{starts_left}
-use Rattle.ics_series.specs.RuleStarts.{found, gives, is_behind, is_ready, midnight_number, steps_left, to_come, with_held, AreHeld, IsHeld}
+use Rattle.ics_series.specs.RuleStarts.{found, gives, is_behind, is_ready, midnight_number, moment_numbered, steps_left, to_come, with_held, AreHeld, IsHeld}
 use Rattle.ics_series.specs.Starts.{time_at}
 use Rattle.ics_series.specs.FileZones.{clocks_in, IsTimeOf}
 use Rattle.ics_series.proofs.StartSourceLemmas.{kept-time}
 use Rattle.ics_series.proofs.HeldMostLemmas.{held-in-days}
-use Rattle.ics_series.proofs.RuleDayLemmas.{found-is, given-parts, late-numbered, less-start, number-day}
+use Rattle.ics_series.proofs.RuleDayLemmas.{come-none, come-one, early-numbered, found-is, given-parts, late-numbered, less-start, number-day, rises-found}
 use Rattle.ics_series.proofs.RuleLocalLemmas.{numbered-number}
-use Rattle.ics_series.proofs.RuleReadLemmas.{held-in, held-on, is-held, rises-held}
-use Rattle.ics_series.proofs.RuleStartLemmas.{come-none, come-one, rises-found}
+use Rattle.ics_series.proofs.ListingLemmas.{before-in}
 use Rattle.ics_series.proofs.UnionLemmas.{union-in}
 use Rattle.ics_series.proofs.HeldLemmas.{before-all, put-before}
 use Rattle.ics_series.proofs.BeginsLemmas.{before-union}
-use Rattle.ics_series.proofs.FirstLemmas.{moment_total}
-use Rattle.ics_zone.proofs.Cases.{int_le_true}
+use Rattle.ics_series.proofs.FirstLemmas.{int-less, moment_total}
+use Rattle.ics_zone.proofs.Cases.{int_le_false, int_le_true, int_lt_true}
+use Rattle.ics_series.proofs.Cases.{not-true}
 use Rattle.ics_rule.specs.PeriodNumbers.{rules_end}
 
 -- a number that fits in an i32 is read back
@@ -51,6 +54,48 @@ no-member (x ∷ xs) none = absurd (none x (inl refl))
 
 ready-by : (day end : ℤ) (ready : Bool) → (int_lt day end && not ready) ≡ false → day <ℤ end → ready ≡ true
 ready-by day end ready h l = grind (arith, ints)
+
+module _ (day end : ℤ) where
+  pub behind-early : (held : List Start) → is_behind day end held ≡ true → day <ℤ end
+  behind-early held b = int_lt_true day end (and_true {a = int_lt day end} b).0
+
+  -- all that is held begins no more than three days before the next day
+  pub next-late : (held : List Start) → Rises moment_cmp held → is_behind day end held ≡ true → (s : Start) → IsIn s held →
+      (midnight (day +ℤ pos 1) -ℤ whole_days 3) ≤ℤ s.moment
+  next-late [] r b s m = absurd m
+  next-late (x ∷ held) r b s m =
+      let first = int_le_false x.moment (midnight day -ℤ whole_days 2) (not-true (is_ready day (x ∷ held)) (and_true {a = int_lt day end} b).1) in
+      ⊎_elim (λ same. rw same (omega (arith, ints, first)))
+      (λ n. let less = int-less x.moment s.moment (before-in moment_cmp moment_total x s held r.0 n) in omega (arith, ints, first, less)) m
+
+-- the starts that are held once a kept local is read
+held-in : (b : Bool) (s x : Start) (held : List Start) → IsIn x (with_held b s held) → IsIn x held ⊎ ((b ≡ true) × (x ≡ s))
+held-in true s x held m = ⊎_elim inl (λ n. ⊎_elim (λ e. inr (refl, e)) (λ f. absurd f) n.1) (union-in moment_cmp moment_total x held (s ∷ []) (tt, tt) m)
+held-in false s x held m = inl m
+
+rises-held : (b : Bool) (s : Start) (held : List Start) → Rises moment_cmp held → Rises moment_cmp (with_held b s held)
+rises-held true s held r = rises-union moment_cmp moment_total held (s ∷ []) (tt, tt)
+rises-held false s held r = r
+
+module _ (zones : FileZones) (event : Event) (rule : Recurrence) (w : Window) where
+  pub held-on : (old new : ℤ) (held : List Start) → old ≤ℤ new → ((s : Start) → IsIn s held → (midnight new -ℤ whole_days 3) ≤ℤ s.moment)
+      → AreHeld (clocks_in zones) event rule w old held → AreHeld (clocks_in zones) event rule w new held
+  held-on old new held l late are s m = let h = are s m in record { by = h.by; given = h.given; late = late s m; early = omega (arith, ints, h.early, l) }
+
+  is-held : (a : Local) → IsDayNumber a.day → IsDayNumber (a.day +ℤ pos 1) → gives (clocks_in zones) event rule w (number a) ≡ true
+      → IsHeld (clocks_in zones) event rule w (a.day +ℤ pos 1) (start_at (clocks_in zones) event a)
+  is-held a h k given =
+      let same = numbered-number a h in
+      let moment : moment_numbered (clocks_in zones) event (number a) ≡ (start_at (clocks_in zones) event a).moment =
+      ap (λ l. (start_at (clocks_in zones) event l).moment) same in
+      let late = late-numbered zones event a.day (number a) h (omega arith) in
+      let early = early-numbered zones event (a.day +ℤ pos 1) (number a) k (omega (arith, ints, h.0, k.0, a.second_in)) in
+      record {
+        by = ap (start_at (clocks_in zones) event) (sym same);
+        given = given;
+        late = omega (arith, ints, late, moment);
+        early = omega (arith, ints, early, moment);
+      }
 
 module _ (s : RuleStarts) where
   pub day-days : IsDayNumber s.day
@@ -140,43 +185,34 @@ pub record IsRead (s : RuleStarts) (day asked : ℤ) (place known : ℕ) (held :
 
 module _ (s : RuleStarts) {b : ℤ} (fits : mag b < 2_147_483_648) (later : s.day <ℤ b) (within : b ≤ℤ s.end) {at : Local}
     (is : at ≡ local_at (to_z w32 (of_z w32 b)) 0) where
-  abbrev bound : ℤ
-  bound = to_z w32 (of_z w32 b)
+  days : IsDayNumber b
+  days = (omega (arith, ints, later, s.low), omega (arith, ints, within, (end-days s).1))
 
-  range : (s.day <ℤ bound) × (bound ≤ℤ s.end)
-  range = (omega (arith, ints), omega (arith, ints))
-
-  days : IsDayNumber bound
-  days = (omega (arith, ints, range.0, s.low), omega (arith, ints, range.1, (end-days s).1))
-
-  there : number at ≡ midnight_number bound
-  there = ap (λ (l : Local). number l) is
+  there : number at ≡ midnight_number b
+  there = rw (is, signed-back b b fits refl) refl
 
   pub bound-days : IsDayNumber at.day
-  bound-days = subst (λ (l : Local). IsDayNumber l.day) (sym is) days
+  bound-days = rw (is, signed-back b b fits refl) days
 
   pub bound-early : number at ≤ rules_end
-  bound-early = omega (arith, ints, there, range.1, days.0, (end-days s).0, s.early)
-
-  own-are : AreHeld (clocks_in s.zones) s.event.now s.rule s.window b s.held.items → AreHeld (clocks_in s.zones) s.event.now s.rule s.window bound s.held.items
-  own-are = subst (λ d. AreHeld (clocks_in s.zones) s.event.now s.rule s.window d s.held.items) (sym (signed-back b b fits refl))
+  bound-early = omega (arith, ints, there, within, days.0, (end-days s).0, s.early)
 
   -- where no local is kept up to the bound
   pub none-read : {held : List Start} → held ≡ s.held.items → AreHeld (clocks_in s.zones) s.event.now s.rule s.window b s.held.items → {place : ℕ} →
-      NoneKept s.rule (place_of s.cursor) (number at) × (place ≡ max (place_of s.cursor) (number at)) → IsRead s bound bound place (number at) held
-  none-read h are {place = place} next = record {
-    rises = subst (Rises moment_cmp) (sym h) s.rises;
-    are = subst (AreHeld (clocks_in s.zones) s.event.now s.rule s.window bound) (sym h) (own-are are);
+      NoneKept s.rule (place_of s.cursor) (number at) × (place ≡ max (place_of s.cursor) (number at)) →
+      IsRead s (to_z w32 (of_z w32 b)) (to_z w32 (of_z w32 b)) place (number at) held
+  none-read h are next = rw (signed-back b b fits refl, h) (record {
+    rises = s.rises;
+    are = are;
     read = omega (arith, next.1, there);
     low = omega (arith, ints, days.0);
     on = omega (arith, ints);
     soon = omega (arith, ints);
-    end = range.1;
-    before = (omega (arith, ints, s.low, s.asked_on, s.asked_soon, range.0, days.0), omega (arith, there));
-    same = rw (h, next.1)
-        (come-none (clocks_in s.zones) s.event.now s.rule s.window s.held.items (place_of s.cursor) (number at) bound-early next.0);
-    less = omega (arith, ints, range.0, range.1, next.1, there, s.low, days.0, (end-days s).0);
-  }
+    end = within;
+    before = (omega (arith, ints, s.low, s.asked_on, s.asked_soon, later, days.0), omega (arith, there));
+    same = rw next.1 (come-none (clocks_in s.zones) s.event.now s.rule s.window s.held.items (place_of s.cursor) (number at) bound-early next.0);
+    less = omega (arith, ints, later, within, next.1, there, s.low, days.0, (end-days s).0);
+  })
 
   -- the next kept local before the bound is read
   module _ (a : Local) (own : IsDayNumber a.day) {place : ℕ}
@@ -184,7 +220,7 @@ module _ (s : RuleStarts) {b : ℤ} (fits : mag b < 2_147_483_648) (later : s.da
     pub one-time : IsTimeOf s.zones.zones.now (time_at s.event.now.start a)
     one-time = record { is_time = kept-time s.event.now a s.time.is_time s.of own next.0.kept; within = s.time.within }
 
-    on-day : (s.day ≤ℤ a.day) × ((a.day +ℤ pos 1) ≤ℤ bound)
+    on-day : (s.day ≤ℤ a.day) × ((a.day +ℤ pos 1) ≤ℤ b)
     on-day = (
       omega (arith, ints, next.0.from_place, s.read, s.low, own.0, a.second_in),
       omega (arith, ints, next.0.in_bound, there, own.0, days.0, a.second_in),
@@ -193,33 +229,24 @@ module _ (s : RuleStarts) {b : ℤ} (fits : mag b < 2_147_483_648) (later : s.da
     pub one-read : {held new : List Start} → held ≡ s.held.items → AreHeld (clocks_in s.zones) s.event.now s.rule s.window b s.held.items → new
         ≡ with_held (gives (clocks_in s.zones) s.event.now s.rule s.window (number a)) (start_at (clocks_in s.zones) s.event.now a) held →
         IsRead s (to_z w32 (of_z w32 a.day)) (to_z w32 (of_z w32 (to_z w32 (of_z w32 a.day) +ℤ pos 1))) place (number a + 1) new
-    one-read {held = held} {new = new} h are is-new =
+    one-read h are is-new =
         let clocks = clocks_in s.zones in
         let event = s.event.now in
         let given = gives (clocks_in s.zones) s.event.now s.rule s.window (number a) in
-        let day = day-back a.day own in
-        let asked = next-back a.day own in
         let kept = next.0 in
-        let put = is-new ∙ ap (with_held given (start_at clocks event a)) h in
-        let after = to_z w32 (of_z w32 (to_z w32 (of_z w32 a.day) +ℤ pos 1)) in
-        record {
-          rises = subst (Rises moment_cmp) (sym put) (rises-held s.zones event s.rule s.window given (start_at clocks event a) s.held.items s.rises);
+        rw (next-back a.day own, day-back a.day own, is-new, h, next.1) (record {
+          rises = rises-held given (start_at clocks event a) s.held.items s.rises;
           are = λ t m. ⊎_elim
-              (λ i. held-on s.zones event s.rule s.window s.asked after s.held.items (omega (arith, ints, asked, on-day.0, s.asked_soon))
-              (λ u j. let l = (own-are are u j).late in omega (arith, ints, l, asked, on-day.1)) s.are t i)
-              (λ i. subst (IsHeld clocks event s.rule s.window after) (sym i.1)
-              (is-held s.zones event s.rule s.window a after own (omega (arith, ints, asked, own.0), omega (arith, ints, asked, on-day.1, days.1)) asked i.0))
-              (held-in s.zones event s.rule s.window given (start_at clocks event a) t s.held.items (subst (IsIn t) put m));
-          read = omega (arith, ints, next.1, day, own.0);
-          low = omega (arith, ints, day, own.0);
-          on = omega (arith, ints, day, asked);
-          soon = omega (arith, ints, day, asked);
-          end = omega (arith, ints, asked, on-day.1, range.1);
-          before = (
-            omega (arith, ints, s.low, s.asked_on, s.asked_soon, on-day.0, own.0, asked),
-            omega (arith, ints, own.0, asked, a.second_in),
-          );
-          same = rw (put, next.1)
-              (rw (numbered-number a own) at (come-one clocks event s.rule s.window s.held.items s.rises bound-early kept));
-          less = omega (arith, ints, day, next.1, kept.from_place, kept.in_bound, there, on-day.0, on-day.1, range.1, s.low, own.0, days.0, (end-days s).0);
-        }
+              (held-on s.zones event s.rule s.window s.asked (a.day +ℤ pos 1) s.held.items (omega (arith, ints, on-day.0, s.asked_soon))
+              (λ u j. let l = (are u j).late in omega (arith, ints, l, on-day.1)) s.are t)
+              (λ i. rw i.1 (is-held s.zones event s.rule s.window a own (omega (arith, ints, own.0), omega (arith, ints, on-day.1, days.1)) i.0))
+              (held-in given (start_at clocks event a) t s.held.items m);
+          read = omega (arith, ints, own.0);
+          low = omega (arith, ints, own.0);
+          on = omega (arith, ints);
+          soon = omega (arith, ints);
+          end = omega (arith, ints, on-day.1, within);
+          before = (omega (arith, ints, s.low, s.asked_on, s.asked_soon, on-day.0, own.0), omega (arith, ints, own.0, a.second_in));
+          same = rw (numbered-number a own) at (come-one clocks event s.rule s.window s.held.items s.rises bound-early kept);
+          less = omega (arith, ints, kept.from_place, kept.in_bound, there, on-day.0, on-day.1, within, s.low, own.0, days.0, (end-days s).0);
+        })

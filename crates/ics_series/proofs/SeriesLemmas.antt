@@ -1,26 +1,17 @@
 -- What a series gives.
-use Rattle.std.specs.Prelude.{◌≤ℤ◌, ◌<ℤ◌, ◌&&◌, not, int_le, slice_get}
-use Rattle.std.proofs.Common.{◌≡◌, ℤ, ◌-ℤ◌, List, [], ◌∷◌, take, true, false, Option, Some, None, option_map, ◌⊎◌, inl, inr, refl}
-use Rattle.std.proofs.Common.{sym, ◌∙◌, ap, subst, arith}
+use Rattle.std.proofs.Common.{◌≡◌, ℤ, ◌-ℤ◌, List, [], ◌∷◌, take, true, false, Option, Some, None, ◌⊎◌, inl, inr, refl, sym, ◌∙◌, ap, subst, arith}
+use Rattle.std.proofs.Common.{◌≤ℤ◌, ◌<ℤ◌, slice_get, int_eq}
 use Rattle.std.proofs.lemmas.Int.{ints}
 use Rattle.std.proofs.lemmas.List.{take-append-drop}
 use Rattle.std.specs.List.{cons_option}
-use Rattle.std.specs.Cmp.Lexicographic.{slice_cmp}
-use Rattle.std.specs.Ordering.{int_cmp, int_eq, nat_cmp, on, ordering_then, then_cmp}
-use Rattle.std.specs.declared.cmp.Ordering.{Ordering}
-use Rattle.std.specs.declared.cmp.Ordering.TheVariants.{Less}
-use Rattle.std.proofs.lemmas.Bool.{and_from, false_from_ne_true}
-use Rattle.ics_fields.specs.Days.{IsDayNumber}
+use Rattle.std.proofs.lemmas.Bool.{false_from_ne_true}
 use Rattle.ics_fields.specs.declared.local.Local.{Local}
 use Rattle.ics_rule.specs.Cursors.{place_of}
-use Rattle.ics_rule.specs.Kept.{is_kept}
 use Rattle.ics_fields.specs.Locals.{number, midnight, whole_days}
 use Rattle.ics_rule.specs.Recurrence.{Recurrence}
-use Rattle.ics_rule.proofs.KeptLemmas.{and_true}
 use Rattle.ics_event.specs.Event.{IsEvent, IsTime}
 use Rattle.ics_event.specs.declared.event.Event.{Event}
 use Rattle.ics_event.specs.declared.time.Rdate.{Rdate}
-use Rattle.ics_zone.proofs.Cases.{int_le_true, true_int_le}
 use Rattle.ics_series.specs.declared.listed_starts.ListedStarts.{ListedStarts}
 use Rattle.ics_series.specs.declared.rule_starts.RuleStarts.{RuleStarts}
 use Rattle.ics_series.specs.declared.start.StartSource.{StartSource}
@@ -29,7 +20,7 @@ use Rattle.ics_series.specs.declared.start.Start.{Start}
 use Rattle.ics_series.specs.declared.window.Window.{Window}
 use Rattle.ics_series.specs.declared.zones.FileZones.{FileZones}
 use Rattle.ics_series.specs.Clocks.{Clocks}
-use Rattle.ics_series.specs.Entry.{Entry, Rank, entry_cmp, rank_of}
+use Rattle.ics_series.specs.Entry.{Entry, entry_cmp}
 use Rattle.ics_series.specs.Exclusions.{is_among}
 use Rattle.ics_series.specs.Found.{is_shown, moment_cmp, AreStartsSince, IsStart}
 use Rattle.ics_series.specs.Listing.{IsIn, IsListing}
@@ -37,20 +28,19 @@ use Rattle.ics_series.specs.Meeting.{entry_from}
 use Rattle.ics_series.specs.Merged.{cut, union}
 use Rattle.ics_series.specs.Rising.{IsBefore, Rises}
 use Rattle.ics_series.specs.RuleFeed.{starts_left}
-use Rattle.ics_series.specs.RuleStarts.{gives, lets_until, moment_numbered}
-use Rattle.ics_series.specs.SeriesStarts.{given_of, has_moment, is_wanted, listed_left, rule_asked, rule_left, wanted_by, AreKnown, HasRuled}
-use Rattle.ics_series.specs.SeriesStarts.{HasSameRule, HaveRuled, IsAskedNear, IsGivenAt, IsGivenBy, IsKnown, IsSeriesMet}
+use Rattle.ics_series.specs.SeriesStarts.{first_asked, given_of, has_moment, is_wanted, listed_left, rule_asked, rule_left, wanted_by, AreKnown}
+use Rattle.ics_series.specs.SeriesStarts.{HasOwnRule, HasRuled, HasSameRule, IsAskedNear, IsGivenAt, IsGivenBy, IsKnown, IsSeriesMet}
 use Rattle.ics_series.specs.Starts.{given_by, local_of, recurrence_of, GivesStart, IsRuleStart}
 use Rattle.ics_series.specs.FileZones.{clocks_in}
-use Rattle.ics_series.proofs.Cases.{equal-true, not-true, true-equal, some-same}
+use Rattle.ics_series.proofs.Cases.{equal-true, mapped-some, true-equal}
 use Rattle.ics_series.proofs.FirstLemmas.{int-less, moment_total, tied-moment}
 use Rattle.ics_series.proofs.StartSourceLemmas.{gives-value}
 use Rattle.ics_series.proofs.LeftLemmas.{member-cut}
 use Rattle.ics_series.proofs.ListingLemmas.{before-in, rises-end}
 use Rattle.ics_series.proofs.MeetingLemmas.{met-shown}
 use Rattle.ics_series.proofs.MetLemmas.{found-is, in-picked, is-found, listing-picked}
+use Rattle.ics_series.proofs.RuleDayLemmas.{given-parts, rises-to_come}
 use Rattle.ics_series.proofs.RuleLocalLemmas.{kept-ruled}
-use Rattle.ics_series.proofs.RuleStartLemmas.{rises-to_come}
 use Rattle.ics_series.proofs.GivenLemmas.{entry_start_cmp}
 use Rattle.ics_series.proofs.RuleStepLemmas.{left-near}
 use Rattle.ics_series.proofs.SortLemmas.{any-in, in-any}
@@ -74,7 +64,7 @@ module _ (clocks : Clocks) (w : Window) (event : Event) where
     pub known : AreKnown clocks event w all
 
   pub known-rest : (s : Start) (all rest : List Start) → all ≡ s ∷ rest → AreKnown clocks event w all → AreKnown clocks event w rest
-  known-rest s all rest e h t m = h t (subst (IsIn t) (sym e) (inr m))
+  known-rest s all rest e h t m = h t (rw e (inr m))
 
   rises-behind : (o : Option Entry) (es : List Entry) → Rises entry_cmp (cons_option o es) → Rises entry_cmp es
   rises-behind None es r = r
@@ -83,8 +73,7 @@ module _ (clocks : Clocks) (w : Window) (event : Event) where
   pub rises-rest : (since : ℤ) (overridden : List ℤ) {s : Start} {all rest : List Start} → all ≡ s ∷ rest
       → Rises entry_cmp (given_of clocks w event since overridden all) → Rises entry_cmp (given_of clocks w event since overridden rest)
   rises-rest since overridden {s = s} {rest = rest} e r =
-      rises-behind (wanted_by clocks w event since overridden s) (given_of clocks w event since overridden rest)
-      (subst (λ xs. Rises entry_cmp (given_of clocks w event since overridden xs)) e r)
+      rises-behind (wanted_by clocks w event since overridden s) (given_of clocks w event since overridden rest) (rw e at r)
 
 -- The first of both kinds goes.
 pub both-passed : {rule rule' rule'' listed' : List Start} {t : Start} (listed : List Start) → rule' ≡ rule → rule'' ≡ cut moment_cmp t rule' →
@@ -95,29 +84,17 @@ both-passed listed a b c h = rw (b, c, ← a) h
 
 -- What is known of a start makes it one of the event.
 module _ (zones : FileZones) (w : Window) (event : Event) where
-  same-or-ruled : (local : Local) (rule : Recurrence) → recurrence_of event ≡ Some rule → IsTime event.start → IsDayNumber local.day →
-      gives (clocks_in zones) event rule w (number local) ≡ true
-      → (local ≡ local_of event.start.stamp) ⊎ IsRuleStart (clocks_in zones) event local
-  unfolding gives
-  same-or-ruled local rule has time day g =
-      let kept = and_true {a = is_kept rule (number local)} g in
-      let through = and_true {a = lets_until rule (number local) (moment_numbered (clocks_in zones) event (number local))} kept.1 in
-      kept-ruled (clocks_in zones) event rule has local time day kept.0 through.0
-
   given-local : (local : Local) (o : Option Recurrence) → recurrence_of event ≡ o → IsTime event.start → IsGivenAt (clocks_in zones) event w local o
       → (local ≡ local_of event.start.stamp) ⊎ IsRuleStart (clocks_in zones) event local
-  given-local local None e time g = inl g
-  given-local local (Some rule) e time g = same-or-ruled local rule e time g.0 g.1
+  given-local local None has time g = inl g
+  given-local local (Some rule) has time g =
+      let parts = given-parts zones event rule w (number local) g.1 in
+      kept-ruled (clocks_in zones) event rule has local time g.0 parts.0 parts.1
 
   known-gives : (source : StartSource) (given : Rdate) → IsTime event.start → IsGivenBy (clocks_in zones) event w source given →
       GivesStart (clocks_in zones) event source given
   known-gives (Kept local) given time g = (given-local local (recurrence_of event) refl time g.0, g.1)
-  known-gives (Listed place) given time g = by (slice_get event.rdates place) refl g
-    where
-      by : (o : Option Rdate) → slice_get event.rdates place ≡ o → option_map (given_by event.start) o ≡ Some given
-          → (rdate : Rdate) × (slice_get event.rdates place ≡ Some rdate) × (given ≡ given_by event.start rdate)
-      by None e f = let k : None ≡ Some given = f in absurd cc
-      by (Some rdate) e f = (rdate, e, some-same given (given_by event.start rdate) (sym f))
+  known-gives (Listed place) given time g = mapped-some (given_by event.start) (slice_get event.rdates place) given g
 
   pub known-start : (s : Start) → IsEvent event → IsKnown (clocks_in zones) event w s → IsStart (clocks_in zones) event s
   known-start s sound k =
@@ -138,26 +115,16 @@ not-among t xs n = false_from_ne_true (is_among xs t) (λ e. n (among-in t xs e)
 module _ (clocks : Clocks) (w : Window) (event : Event) (since : ℤ) (overridden : List ℤ) where
   pub wanted-is : (o : Entry) → is_wanted clocks w event since overridden o ≡ true → (is_shown clocks w event o ≡ true) × (since ≤ℤ o.start)
       × (IsIn o.start overridden → ⊥)
-  wanted-is o e =
-      let parts = and_true {a = int_le since o.start && not (is_among overridden o.start)} e in
-      let own = and_true {a = int_le since o.start} parts.0 in
-      let none = not-true (is_among overridden o.start) own.1 in
-      (parts.1, int_le_true since o.start own.0, λ m. let some = in-among o.start overridden m in cc)
+  wanted-is o e = (grind arith, grind (arith, ints), λ m. let some = in-among o.start overridden m in grind arith)
 
   pub is-wanted : (o : Entry) → is_shown clocks w event o ≡ true → since ≤ℤ o.start → (IsIn o.start overridden → ⊥) →
       is_wanted clocks w event since overridden o ≡ true
   is-wanted o shown late none = let apart = not-among o.start overridden none in grind (arith, ints)
 
   -- what starts later goes later
-  later-entry : (a b : Entry) → entry_start_cmp a b ≡ Less → entry_cmp a b ≡ Less
-  later-entry a b l = ap (λ c. ordering_then c (rest_cmp a b)) l
-    where
-      rest_cmp : Entry → Entry → Ordering
-      rest_cmp a b = then_cmp (on (λ (r : Rank). r.uid) (slice_cmp nat_cmp)) (on (λ (r : Rank). r.recurrence) int_cmp) (rank_of a) (rank_of b)
-
   before-later : (a : Entry) (es : List Entry) → IsBefore entry_start_cmp a es → IsBefore entry_cmp a es
   before-later a [] h = tt
-  before-later a (e ∷ es) h = (later-entry a e h.0, before-later a es h.1)
+  before-later a (e ∷ es) h = (rw h.0 refl, before-later a es h.1)
 
   rises-later : (es : List Entry) → Rises entry_start_cmp es → Rises entry_cmp es
   rises-later [] r = tt
@@ -197,24 +164,19 @@ module _ (clocks : Clocks) (w : Window) (event : Event) (since : ℤ) (overridde
   in-behind None e es m = m
   in-behind (Some x) e es m = inr m
 
-  ruled-behind : (rules : List Start) {t : Start} {all rest : List Start} → IsFrontOf clocks w event t all rest
-      → HaveRuled clocks event rules (given_of clocks w event since overridden all) →
-      HaveRuled clocks event (cut moment_cmp t rules) (given_of clocks w event since overridden rest)
-  ruled-behind rules {t = t} {all = all} {rest = rest} front h o m local k =
-      let rises : Rises moment_cmp (t ∷ rest) = subst (Rises moment_cmp) front.is front.rises in
-      let after = begins-after t rest o rises.0 (known-rest clocks w event t all rest front.is front.known) m in
-      let there = subst (λ xs. IsIn o (given_of clocks w event since overridden xs)) (sym front.is)
-      (in-behind (wanted_by clocks w event since overridden t) o (given_of clocks w event since overridden rest) m) in
-      let x = moment-in rules o.start (h o there local k) in
-      in-moment x.0 o.start (cut moment_cmp t rules) x.2
-      (member-cut moment_cmp moment_total t x.0 rules (λ tied. let same = tied-moment t x.0 tied in let is = x.2 in omega (arith, ints, after, same, is)) x.1)
-
   pub ruled-rest : (a b : Option RuleStarts) {t : Start} {all rest : List Start} → HasSameRule a b → rule_left b ≡ cut moment_cmp t (rule_left a) →
       IsFrontOf clocks w event t all rest → HasRuled clocks event a (given_of clocks w event since overridden all)
       → HasRuled clocks event b (given_of clocks w event since overridden rest)
   ruled-rest None None same c front h = tt
-  ruled-rest (Some a) (Some b) {rest = rest} same c front h =
-      subst (λ xs. HaveRuled clocks event xs (given_of clocks w event since overridden rest)) (sym c) (ruled-behind (starts_left a) front h)
+  ruled-rest (Some a) (Some b) {t = t} {all = all} {rest = rest} same c front h = λ o m local k.
+      let rises : Rises moment_cmp (t ∷ rest) = rw front.is at front.rises in
+      let after = begins-after t rest o rises.0 (known-rest clocks w event t all rest front.is front.known) m in
+      let there : IsIn o (given_of clocks w event since overridden all) =
+      rw front.is (in-behind (wanted_by clocks w event since overridden t) o (given_of clocks w event since overridden rest) m) in
+      let x = moment-in (starts_left a) o.start (h o there local k) in
+      in-moment x.0 o.start (starts_left b) x.2
+      (rw c (member-cut moment_cmp moment_total t x.0 (starts_left a)
+      (λ tied. let same = tied-moment t x.0 tied in let is = x.2 in omega (arith, ints, after, same, is)) x.1))
   ruled-rest _ _ same c front h = absurd same
 
   -- each occurrence that the starts of an event give is of it
@@ -226,8 +188,7 @@ module _ (clocks : Clocks) (event : Event) where
   pub ruled-same : (a b : Option RuleStarts) {coming coming' : List Entry} → HasSameRule a b → rule_left b ≡ rule_left a → coming' ≡ coming →
       HasRuled clocks event a coming → HasRuled clocks event b coming'
   ruled-same None None same e f h = tt
-  ruled-same (Some a) (Some b) {coming = coming} same e f h =
-      subst (HaveRuled clocks event (starts_left b)) (sym f) (subst (λ xs. HaveRuled clocks event xs coming) (sym e) h)
+  ruled-same (Some a) (Some b) same e f h = rw (e, f) h
   ruled-same _ _ same e f h = absurd same
 
   -- A rule has been read no further than three days past an occurrence that it gives and that is still to come.
@@ -242,3 +203,22 @@ module _ (clocks : Clocks) (event : Event) where
   module _ (a b : Option RuleStarts) (same : HasSameRule a b) (left : rule_left b ≡ rule_left a) where
     pub asked-near : (coming : List Entry) → HasRuled clocks event a coming → (e : Entry) → IsIn e coming → IsAskedNear clocks event (rule_asked b) e.start
     asked-near coming ruled = rule-near b coming (ruled-same a b {coming = coming} same left refl ruled)
+
+-- The starts of a series's rule stay those of its own rule.
+module _ (zones : FileZones) (event : Event) (w : Window) where
+  pub own-rule-same : (first : ℤ) (a b : Option RuleStarts) → HasSameRule a b → HasOwnRule zones event w first a → HasOwnRule zones event w first b
+  own-rule-same first None None same h = tt
+  own-rule-same first (Some a) (Some b) same h = record {
+    zones_are = same.zones ∙ h.zones_are;
+    event_is = rw same.event h.event_is;
+    window_is = same.window ∙ h.window_is;
+    day = rw same.from h.day;
+    late = rw same.from h.late;
+  }
+  own-rule-same first _ _ same h = absurd same
+
+  -- the instant and the starts as they are kept
+  pub own-rule-as : {kept since : ℤ} {listed all : List Start} (o : Option RuleStarts) → kept ≡ since → listed ≡ all
+      → HasOwnRule zones event w (first_asked (clocks_in zones) w event since listed) o →
+      HasOwnRule zones event w (first_asked (clocks_in zones) w event kept all) o
+  own-rule-as o e f h = rw (e, ← f) h

@@ -1,14 +1,13 @@
 -- What a sort leaves: the same members, none of them after a later one.
-use Rattle.std.specs.Prelude.{⊤, ◌↔◌, zero, suc, slice_get}
-use Rattle.std.proofs.Common.{◌≡◌, ℕ, ◌<◌, ◌≤◌, List, [], ◌∷◌, map, length, get_or, set, inl, inr, ⊎_elim, Bool, true, false, Some, refl, sym, ◌∙◌, ap}
-use Rattle.std.proofs.Common.{subst, arith}
+use Rattle.std.specs.Prelude.{⊤}
+use Rattle.std.proofs.Common.{◌≡◌, ℕ, ◌<◌, ◌≤◌, List, [], ◌∷◌, map, length, get_or, set, inl, inr, ⊎_elim, Bool, true, false, Some, refl, sym, ◌∙◌, ap, subst}
+use Rattle.std.proofs.Common.{arith, ◌↔◌, zero, suc, slice_get, is_eq, is_gt, is_lt, Ordering, Less, Equal, Bor}
 use Rattle.std.specs.Cmp.{IsTotalOrder}
 use Rattle.std.specs.List.{list_any, swap, AllByRecursion, Contains, IsDistinct}
 use Rattle.std.specs.Fn.{Called}
 use Rattle.std.specs.List.Sorted.{apply_swaps, IsPermutation, IsSortedByClosure, SwapsInRange}
-use Rattle.std.specs.Ordering.{eq_by_cmp, is_eq, is_gt, is_lt, on, ordering_reverse}
-use Rattle.std.specs.declared.cmp.Ordering.{Ordering}
-use Rattle.std.specs.declared.cmp.Ordering.TheVariants.{Less, Equal, Greater}
+use Rattle.std.specs.Ordering.{eq_by_cmp, on, ordering_reverse}
+use Rattle.std.proofs.lemmas.Bool.{false_from_ne_true}
 use Rattle.std.proofs.lemmas.Cmp.{eq_by_cmp_equiv}
 use Rattle.std.proofs.lemmas.List.Elements.{recursion_from_All}
 use Rattle.std.proofs.lemmas.List.Folds.{Any-from_list_any, list_any-from_Any}
@@ -19,9 +18,9 @@ use Rattle.std.proofs.lemmas.List.{length-map, map-set}
 use Rattle.std.proofs.lemmas.Map.Keys.{IsDistinct-from_sorted, IsDistinct-head, IsDistinct-IsPermutation, IsDistinct-tail}
 use Rattle.std.proofs.lemmas.Option.{get_or_from_slice_get, slice_get_within}
 use denote.Param.Members.{Mut}
-use denote.Ref.{Bor}
 use Rattle.ics_series.specs.Rising.{IsBefore, Rises}
 use Rattle.ics_series.specs.Listing.{IsIn, IsListing}
+use Rattle.ics_series.proofs.Cases.{eq-Equal, less-by}
 use Rattle.ics_series.proofs.ListingLemmas.{strictly-sorted}
 
 -- x is not after any of the list
@@ -37,11 +36,8 @@ Climbs R (x ∷ xs) = IsUpTo R x xs × Climbs R xs
 module _ {A : Type 0} where
   pub in-contains : (x : A) (xs : List A) → Contains xs x → IsIn x xs
   in-contains x [] h = absurd (omega (arith, h.1))
-  in-contains x (y ∷ ys) h = by h.0 (in-contains x ys) h.1 h.2
-    where
-      by : (k : ℕ) → (Contains ys x → IsIn x ys) → k < length (y ∷ ys) → get_or (y ∷ ys) k x ≡ x → IsIn x (y ∷ ys)
-      by zero ih l e = inl (sym e)
-      by (suc k) ih l e = inr (ih (k, omega arith, e))
+  in-contains x (y ∷ ys) (zero, l, e) = inl (sym e)
+  in-contains x (y ∷ ys) (suc k, l, e) = inr (in-contains x ys (k, omega arith, e))
 
   pub contains-in : (x : A) (xs : List A) → IsIn x xs → Contains xs x
   contains-in x [] m = absurd m
@@ -144,12 +140,10 @@ module _ {A : Type 0} (R : A → A → Ordering) (o : IsTotalOrder R) where
     before-climbing : (x : A) (ys : List A) → P x → ((y : A) → IsIn y ys → P y) → IsUpTo S x ys → AllByRecursion (λ y. eq_by_cmp R x y ≡ false) ys →
         IsBefore S x ys
     before-climbing x [] p all h d = tt
-    before-climbing x (y ∷ ys) p all h d = (by (S x y) refl h.0, before-climbing x ys p (λ z m. all z (inr m)) h.1 d.1)
-      where
-        by : (c : Ordering) → S x y ≡ c → is_gt (S x y) ≡ false → S x y ≡ Less
-        by Less e g = e
-        by Equal e g = let f : is_eq Equal ≡ false = ap is_eq (sym (finer x y p (all y (inl refl)) e)) ∙ d.0 in absurd cc
-        by Greater e g = let f : is_gt Greater ≡ false = ap is_gt (sym e) ∙ g in absurd cc
+    before-climbing x (y ∷ ys) p all h d = (
+      less-by (S x y) h.0 (false_from_ne_true (is_eq (S x y)) (λ e. let t = finer x y p (all y (inl refl)) (eq-Equal (S x y) e) in let n = rw t at d.0 in cc)),
+      before-climbing x ys p (λ z m. all z (inr m)) h.1 d.1,
+    )
 
     rises-climbing : (xs : List A) → ((x : A) → IsIn x xs → P x) → Climbs S xs → IsDistinct (eq_by_cmp R) xs → Rises S xs
     rises-climbing [] all h d = tt

@@ -1,19 +1,15 @@
 -- The masters that recur among the versions that count, one after the other.
-use Rattle.std.specs.Prelude.{◌≤ℤ◌, count_by, slice_get}
 use Rattle.std.specs.List.{AllByRecursion}
 use Rattle.std.specs.Cmp.{IsTotalOrder}
 use Rattle.std.specs.Cmp.Lexicographic.{slice_cmp}
 use Rattle.std.specs.Int.{saturate_signed, w64}
-use Rattle.std.specs.Ordering.{nat_cmp, on, ordering_then}
-use Rattle.std.specs.declared.cmp.Ordering.{Ordering}
-use Rattle.std.specs.declared.cmp.Ordering.TheVariants.{Less, Equal}
-use Rattle.std.proofs.Common.{◌≡◌, ℕ, suc, ◌+◌, ◌≤◌, ℤ, pos, ◌+ℤ◌, false, cond, List, [], ◌∷◌, ◌++◌, map, length, drop, take, inl}
-use Rattle.std.proofs.Common.{Option, Some, None, refl, sym, ◌∙◌, ap, subst, arith}
+use Rattle.std.specs.Ordering.{on, ordering_then}
+use Rattle.std.proofs.Common.{◌≡◌, ℕ, suc, ◌+◌, ◌≤◌, ℤ, pos, ◌+ℤ◌, false, cond, List, [], ◌∷◌, ◌++◌, map, length, drop, take, inl, ⊎_elim, Option, Some, None}
+use Rattle.std.proofs.Common.{refl, sym, ◌∙◌, ap, subst, arith, ◌≤ℤ◌, count_by, slice_get, nat_cmp, Ordering, Less, Equal, SFits}
 use Rattle.std.proofs.lemmas.Cmp.{on_total}
 use Rattle.std.proofs.lemmas.Int.{ints}
 use Rattle.std.proofs.lemmas.List.{append-nil, append_assoc, map-append, take-append-drop, take_all}
 use Rattle.std.proofs.lemmas.List.Sums.{sum_by-cons}
-use mir.Val.{SFits}
 use Rattle.ics_event.specs.Event.{FileSaid}
 use Rattle.ics_event.specs.declared.event.Event.{Event}
 use Rattle.ics_series.specs.declared.version.Version.{Version}
@@ -22,7 +18,7 @@ use Rattle.ics_series.specs.Clocks.{Clock}
 use Rattle.ics_series.specs.Entry.{Rank}
 use Rattle.ics_series.specs.Listing.{IsIn}
 use Rattle.ics_series.specs.Masters.{HasSources, IsSource, IsSourceOf, Recurs}
-use Rattle.ics_series.specs.Rising.{IsBefore, Rises}
+use Rattle.ics_series.specs.Rising.{Rises}
 use Rattle.ics_series.specs.Singles.{is_single}
 use Rattle.ics_series.specs.Sources.{is_once, recurring, uid_cmp, AreSources, IsFrom, IsMasterOf, Recurring, Source}
 use Rattle.ics_series.specs.Sources.Source.{Of, Once}
@@ -34,18 +30,9 @@ use Rattle.ics_series.proofs.PlacedLemmas.{in-append_left, in-append_right}
 use Rattle.ics_series.proofs.PushLemmas.{taken}
 use Rattle.ics_series.proofs.RecurringLemmas.{own-clocks, own-event, own-subject, recurring-master, own}
 use Rattle.ics_series.proofs.GivenLemmas.{map-in}
-use Rattle.ics_series.proofs.SortLemmas.{all-as, get-in}
+use Rattle.ics_series.proofs.OnDayLemmas.{rises-append}
+use Rattle.ics_series.proofs.SortLemmas.{all-as, all-in, get-in}
 use Rattle.ics_series.proofs.VersionLemmas.{subject_total}
-
--- one more behind all of a rising list
-module _ {A : Type 0} (R : A → A → Ordering) where
-  before-more : (x : A) (xs : List A) (y : A) → IsBefore R x xs → R x y ≡ Less → IsBefore R x (xs ++ y ∷ [])
-  before-more x [] y h l = (l, tt)
-  before-more x (z ∷ zs) y h l = (h.0, before-more x zs y h.1 l)
-
-  pub rises-more : (xs : List A) (y : A) → Rises R xs → AllByRecursion (λ x. R x y ≡ Less) xs → Rises R (xs ++ y ∷ [])
-  rises-more [] y r h = (tt, tt)
-  rises-more (x ∷ xs) y r h = (before-more x xs y r.0 h.0, rises-more xs y r.1 h.1)
 
 -- those that stand before a place come before what stands there
 module _ {A B : Type 0} (R : B → B → Ordering) (o : IsTotalOrder R) (f : A → B) where
@@ -57,11 +44,6 @@ module _ {A B : Type 0} (R : B → B → Ordering) (o : IsTotalOrder R) (f : A �
 then-none : (c : Ordering) → ordering_then c Equal ≡ c
 then-none Less = refl
 then-none _ = refl
-
--- masters are ordered by their UIDs
-masters-less : (a b : List ℕ) → subject_cmp (record { uid = a; recurrence = None }) (record { uid = b; recurrence = None }) ≡ Less →
-    slice_cmp nat_cmp a b ≡ Less
-masters-less a b l = sym (then-none (slice_cmp nat_cmp a b)) ∙ l
 
 -- what comes by a key does not begin before it
 pub from-next : (key : Rank) (t : ℤ) → t ≡ saturate_signed w64 (key.start +ℤ pos 1) → SFits w64 key.start → key.start ≤ℤ t
@@ -110,27 +92,27 @@ module _ {files : List FileSaid} {display : Clock} {w : Window} {after : Option 
     earlier i {v = v} m n there h k =
         let before = before-at (on (λ (x : Label). x.subject) subject_cmp) (on_total (λ (x : Label). x.subject) subject_total) seen vs i h.label there
         (chosen-rises chosen) h.stands in
-        masters-less m.event.uid n.event.uid
-        (ap (λ s. subject_cmp s (record { uid = n.event.uid; recurrence = None })) (sym (subject-of h.label (in-taken vs i h.label h.stands) m h.is))
-        ∙ (ap (subject_cmp h.label.subject) (sym (subject-of (seen v) (map-in seen v vs (get-in v vs i there)) n k)) ∙ before))
+        let one = subject-of h.label (in-taken vs i h.label h.stands) m h.is in
+        let other = subject-of (seen v) (map-in seen v vs (get-in v vs i there)) n k in
+        -- masters are ordered by their UIDs
+        sym (then-none (slice_cmp nat_cmp m.event.uid n.event.uid)) ∙ (rw (one, other) at before)
 
     pub sources-more : (i : ℕ) {v : Version} {m : Recurring} {before now new : List Source} → slice_get vs i ≡ Some v →
         HasSources files display w after (map seen (take i vs)) before now → IsSourceOf files display w after (seen v) m
         → new ≡ now ++ Of m ∷ [] → HasSources files display w after (map seen (take (i + 1) vs)) before new
-    sources-more i {v = v} {m = m} {before = before} {new = new} there h k e =
-        subst (λ ls. HasSources files display w after ls before new) (taken vs i there)
+    sources-more i {v = v} {m = m} {before = before} there h k e =
+        let labels = map seen (take i vs) in
+        let each = all-as (IsSource files display w after labels) (IsSource files display w after (labels ++ seen v ∷ [])) h.more
+        (wider labels (seen v)) h.each in
+        rw (← taken vs i there)
         (record {
           more = h.more ++ m ∷ [];
-          each = all-pushed (IsSource files display w after (map seen (take i vs) ++ seen v ∷ [])) h.more m
-              (all-as (IsSource files display w after (map seen (take i vs))) (IsSource files display w after (map seen (take i vs) ++ seen v ∷ [])) h.more
-              (wider (map seen (take i vs)) (seen v)) h.each)
-              (record {
-                label = seen v;
-                stands = in-append_right (seen v) (map seen (take i vs)) (seen v ∷ []) (inl refl);
-                is = k;
-              });
-          rises = rises-more uid_cmp h.more m h.rises (all-as (IsSource files display w after (map seen (take i vs))) (λ x. uid_cmp x m ≡ Less) h.more
-              (λ x s. earlier i x m there s k) h.each);
+          each = all-pushed (IsSource files display w after (labels ++ seen v ∷ [])) h.more m each
+              (record { label = seen v; stands = in-append_right (seen v) labels (seen v ∷ []) (inl refl); is = k });
+          rises = rises-append uid_cmp h.more (m ∷ []) h.rises (tt, tt)
+              (λ x y s. ⊎_elim
+              (λ q. ap (uid_cmp x) q ∙ earlier i x m there (all-in (IsSource files display w after labels) h.more h.each x s) k)
+              (λ n. absurd n));
           behind = e ∙ (ap (λ xs. xs ++ Of m ∷ []) h.behind
               ∙ (append_assoc before (map Of h.more) (Of m ∷ []) ∙ ap (λ xs. before ++ xs) (sym (map-append Of h.more (m ∷ [])))));
         })
@@ -138,15 +120,12 @@ module _ {files : List FileSaid} {display : Clock} {w : Window} {after : Option 
     pub sources-skip : (i : ℕ) {v : Version} {before now new : List Source} → slice_get vs i ≡ Some v →
         HasSources files display w after (map seen (take i vs)) before now → new ≡ now →
         HasSources files display w after (map seen (take (i + 1) vs)) before new
-    sources-skip i {v = v} {before = before} {new = new} there h e =
-        subst (λ ls. HasSources files display w after ls before new) (taken vs i there)
-        (record {
-          more = h.more;
-          each = all-as (IsSource files display w after (map seen (take i vs))) (IsSource files display w after (map seen (take i vs) ++ seen v ∷ [])) h.more
-              (wider (map seen (take i vs)) (seen v)) h.each;
-          rises = h.rises;
-          behind = e ∙ h.behind;
-        })
+    sources-skip i {v = v} there h e =
+        let labels = map seen (take i vs) in
+        let each = all-as (IsSource files display w after labels) (IsSource files display w after (labels ++ seen v ∷ [])) h.more
+        (wider labels (seen v)) h.each in
+        rw (← taken vs i there)
+        (record { more = h.more; each = each; rises = h.rises; behind = e ∙ h.behind })
 
     pub sources-all : (i : ℕ) {before now : List Source} → length vs ≤ i → HasSources files display w after (map seen (take i vs)) before now →
         HasSources files display w after (map seen vs) before now

@@ -1,7 +1,6 @@
 -- Each start that something gives is that of an occurrence, unless an EXDATE takes it out: of what gives it one is the first.
-use Rattle.std.specs.Prelude.{◌≤ℤ◌, slice_get, Contains}
-use Rattle.std.proofs.Common.{◌≡◌, ℤ, List, [], ◌∷◌, true, false, Some, None, option_map, ◌⊎◌, inl, ⊎_elim, refl, sym, ◌∙◌, ap, arith}
-use Rattle.std.specs.Ordering.{int_eq, is_gt}
+use Rattle.std.proofs.Common.{◌≡◌, ℤ, List, [], ◌∷◌, true, false, Some, None, option_map, ◌⊎◌, inl, ⊎_elim, refl, sym, ◌∙◌, ap, arith, ◌≤ℤ◌, slice_get}
+use Rattle.std.proofs.Common.{Contains, int_eq, is_gt}
 use Rattle.std.proofs.lemmas.Int.{ints}
 use Rattle.std.proofs.lemmas.List.Folds.{list_any_at}
 use Rattle.ics_fields.specs.Locals.{number, local_seconds}
@@ -38,15 +37,14 @@ module _ (clocks : Clocks) (event : Event) where
   pub one-start : (start end : ℤ) → event.rule ≡ None → event.rdates ≡ [] → IsInstance clocks event start end
       → (start ≡ instant clocks event.start) × (end ≡ finish clocks event (At event.start))
   one-start start end none bare h =
-      let same = ruleless h.source h.given none bare h.gives in
-      (h.starts ∙ ap (λ x. instant clocks (time_of x)) same, h.ends ∙ ap (finish clocks event) same)
+      let same = ruleless h.source h.given none bare h.gives in (rw same at h.starts, rw same at h.ends)
 
   pub none-excluded : (exdate : Time) (start end : ℤ) → Contains event.exdates exdate → excludes clocks event.start exdate start ≡ true →
       ¬ IsInstance clocks event start end
   none-excluded exdate start end there out h =
-      let f : true ≡ false = sym (list_any_at (λ x. excludes clocks event.start x start) event.exdates there.0 exdate there.1
-      (ap (λ x. excludes clocks event.start x start) there.2 ∙ out)) ∙ h.stays in
-      absurd cc
+      let some = list_any_at (λ x. excludes clocks event.start x start) event.exdates there.0 exdate there.1
+      (ap (λ x. excludes clocks event.start x start) there.2 ∙ out) in
+      let f : true ≡ false = sym some ∙ h.stays in absurd cc
 
 module _ (clocks : Clocks) (event : Event) (time : IsTime event.start) where
   -- what the rule keeps is not before DTSTART

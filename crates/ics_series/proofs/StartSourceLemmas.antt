@@ -1,25 +1,22 @@
 -- What gives starts: the values by which it does lie in the years of stamps.
-use Rattle.std.specs.Prelude.{slice_get}
-use Rattle.std.proofs.Common.{◌≡◌, ℕ, ◌<◌, ◌≤◌, ℤ, pos, ◌+ℤ◌, ◌<ℤ◌, ◌≤ℤ◌, List, All, true, ◌⊎◌, inl, inr, ⊎_elim, Option, Some, None, is_some, option_map}
-use Rattle.std.proofs.Common.{refl, sym, ◌∙◌, ap, subst, arith}
+use Rattle.std.proofs.Common.{◌≡◌, ℕ, ◌<◌, ◌≤◌, ℤ, pos, ◌+ℤ◌, ◌<ℤ◌, ◌≤ℤ◌, List, All, true, ◌⊎◌, ⊎_elim, Option, Some, is_some, refl}
+use Rattle.std.proofs.Common.{sym, ◌∙◌, ap, subst, arith, slice_get}
 use Rattle.std.proofs.Props.{props}
 use Rattle.std.proofs.lemmas.Int.{ints}
 use Rattle.std.proofs.lemmas.Option.{get_or_from_slice_get, slice_get_within}
-use Rattle.std.proofs.lemmas.Bool.{eqb-true, ltb-true, cases_lt}
+use Rattle.std.proofs.lemmas.Bool.{cases_lt}
+use Rattle.std.proofs.lemmas.Bool.Decides.{nat_tests}
 use mathlib.Core.HLevel.{is_prop→PathP}
 use Rattle.ics_fields.specs.Days.{IsDayNumber, day_index, IsStampDay}
 use Rattle.ics_fields.specs.Locals.{local_at, number, local_seconds}
 use Rattle.ics_values.specs.Stamps.{stamp_day}
-use Rattle.ics_fields.specs.RuleParts.{RuleParts}
 use Rattle.ics_fields.specs.declared.local.Local.{Local}
 use Rattle.ics_values.specs.declared.stamp.Stamp.{Stamp}
 use Rattle.ics_values.specs.declared.stamp.Stamp.TheVariants.{Date}
 use Rattle.ics_rule.specs.Kept.{is_kept}
 use Rattle.ics_rule.specs.PeriodNumbers.{rules_end}
 use Rattle.ics_rule.specs.Recurrence.{Recurrence}
-use Rattle.ics_rule.proofs.KeptLemmas.{and_true, or_true}
-use Rattle.ics_rule.proofs.LawLemmas.{kept_in_rule}
-use Rattle.ics_rule.proofs.NextLemmas.{in_rule_earlier}
+use Rattle.ics_rule.proofs.NextLemmas.{kept_earlier}
 use Rattle.ics_event.specs.declared.time.Rdate.{Rdate}
 use Rattle.ics_event.specs.declared.time.Rdate.TheVariants.{At, Span}
 use Rattle.ics_event.specs.declared.time.Time.{Time}
@@ -32,7 +29,7 @@ use Rattle.ics_series.specs.Finish.{finish}
 use Rattle.ics_series.specs.Occurs.{IsInstance}
 use Rattle.ics_series.specs.Starts.{date_only, given_by, given_from, local_of, stamp_at, time_at, time_by, time_of, recurrence_by, recurrence_of, GivesStart}
 use Rattle.ics_series.specs.Starts.{IsNotAfter}
-use Rattle.ics_series.proofs.Cases.{some-same}
+use Rattle.ics_series.proofs.Cases.{mapped-some, some-same}
 
 -- Locals.
 pub index-is : (d : ℤ) → IsDayNumber d → pos (day_index d) ≡ d +ℤ pos 719_528
@@ -86,25 +83,15 @@ calendar-day d h = (omega (arith, ints, h.0), omega (arith, ints, h.1))
 
 -- Kept locals.
 pub kept-late : (r : Recurrence) (n : ℕ) → is_kept r n ≡ true → number r.start ≤ n
-kept-late r n h = ⊎_elim
-    (λ low. let in_rule = kept_in_rule r n h in let out = in_rule_earlier r n low in absurd cc)
-    (λ high. high)
-    (cases_lt n (number r.start))
+kept-late r n h = ⊎_elim (λ low. let out = kept_earlier r n low in absurd cc) (λ high. high) (cases_lt n (number r.start))
 
 pub kept-early : (r : Recurrence) (n : ℕ) → is_kept r n ≡ true → (n ≡ number r.start) ⊎ (n < rules_end)
 unfolding is_kept
-kept-early r n h = elim (or_true h) [
-  | inl same ↦ inl (eqb-true n (number r.start) same)
-  | inr rest ↦ inr (ltb-true n rules_end (and_true (and_true (and_true rest).0).0).0)
-]
+kept-early r n h = grind (arith, nat_tests)
 
 -- the rule of an event starts with its DTSTART
-start-is : (first : Stamp) (o : Option RuleParts) (rule : Recurrence) → option_map (recurrence_by first) o ≡ Some rule → rule.start ≡ local_of first
-start-is first (Some parts) rule e = sym (ap (λ (r : Recurrence). r.start) (some-same (recurrence_by first parts) rule e))
-start-is first None rule e = let f : None ≡ Some rule = e in absurd cc
-
 pub rule-first : (event : Event) (rule : Recurrence) → recurrence_of event ≡ Some rule → rule.start ≡ local_of event.start.stamp
-rule-first event = start-is event.start.stamp event.rule
+rule-first event rule e = ap (λ (r : Recurrence). r.start) (mapped-some (recurrence_by event.start.stamp) event.rule rule e).2
 
 -- What gives starts.
 -- what the rule keeps is a time of the years of stamps
@@ -133,11 +120,9 @@ same-source (Listed a) (Listed b) h l = ap Listed (omega (arith, h, l))
 -- it gives one value
 module _ (clocks : Clocks) (event : Event) where
   pub same-given : {g k : StartSource} (x y : Rdate) → g ≡ k → GivesStart clocks event g x → GivesStart clocks event k y → x ≡ y
-  same-given {k = k} x y e gives other = by k (subst (λ i. GivesStart clocks event i x) e gives) other
-    where
-      by : (k : StartSource) → GivesStart clocks event k x → GivesStart clocks event k y → x ≡ y
-      by (Kept local) h k = h.1 ∙ sym k.1
-      by (Listed place) h k = h.2 ∙ (ap (given_by event.start) (some-same h.0 k.0 (sym h.1 ∙ k.1)) ∙ sym k.2)
+  same-given {k = Kept local} x y e gives other = let h = rw e at gives in h.1 ∙ sym other.1
+  same-given {k = Listed place} x y e gives other =
+      let h = rw e at gives in h.2 ∙ (ap (given_by event.start) (some-same h.0 other.0 (sym h.1 ∙ other.1)) ∙ sym other.2)
 
 -- an event has one occurrence at most with a start
 pub one-instance : {clocks : Clocks} {event : Event} {start end other : ℤ} → IsInstance clocks event start end → IsInstance clocks event start other →
@@ -188,15 +173,12 @@ module _ (clocks : Clocks) (event : Event) where
   -- what gives a start of an event is a value such as RDATEs have
   pub gives-value : (g : StartSource) (given : Rdate) → IsTime event.start → All IsRdate event.rdates → GivesStart clocks event g given → IsRdate given
   gives-value (Kept local) given h all g =
-      subst IsRdate (sym g.1)
-      (⊎_elim (λ e. subst (λ l. IsTime (time_at event.start l)) (sym e) (subst IsTime (sym (own-time event.start)) h))
-      (λ r. kept-time event local h r.has r.calendar r.kept) g.0)
+      rw g.1 (⊎_elim (λ e. rw e (subst IsTime (sym (own-time event.start)) h)) (λ r. kept-time event local h r.has r.calendar r.kept) g.0)
   gives-value (Listed place) given h all g =
-      subst IsRdate (sym g.2) (given-value event.start event.start.stamp g.0 h (all-at IsRdate event.rdates place g.0 all g.1))
+      rw g.2 (given-value event.start event.start.stamp g.0 h (all-at IsRdate event.rdates place g.0 all g.1))
 
   -- whose zones are the file's
   pub gives-below : {zones : ℕ} (g : StartSource) (given : Rdate) → HasZonesBelow zones event → GivesStart clocks event g given → RdateBelow zones given
-  gives-below {zones = zones} (Kept local) given below g = subst (RdateBelow zones) (sym g.1) below.start
+  gives-below (Kept local) given below g = rw g.1 below.start
   gives-below {zones = zones} (Listed place) given below g =
-      subst (RdateBelow zones) (sym g.2) (given-zone zones event.start event.start.stamp g.0 below.start
-      (all-at (RdateBelow zones) event.rdates place g.0 below.rdates g.1))
+      rw g.2 (given-zone zones event.start event.start.stamp g.0 below.start (all-at (RdateBelow zones) event.rdates place g.0 below.rdates g.1))

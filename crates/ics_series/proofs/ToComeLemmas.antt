@@ -1,10 +1,6 @@
 -- What is left of the occurrences that are given: those for which no override stands, after a key.
-use Rattle.std.specs.Prelude.{is_some, not}
-use Rattle.std.proofs.Common.{◌≡◌, ◌||◌, List, map, inl, inr, ⊎_elim, Option, Some, None, Bool, true, false, refl, sym, ◌∙◌, ap, subst}
-use Rattle.std.specs.Option.{option_map}
-use Rattle.std.specs.Ordering.{is_lt}
-use Rattle.std.specs.declared.cmp.Ordering.{Ordering}
-use Rattle.std.specs.declared.cmp.Ordering.TheVariants.{Less}
+use Rattle.std.proofs.Common.{◌≡◌, List, map, inl, inr, ⊎_elim, Option, Some, None, Bool, true, false, refl, sym, ◌∙◌, ap, is_some, not}
+use Rattle.std.proofs.Common.{option_map, is_lt, Ordering, Less}
 use Rattle.std.proofs.lemmas.Bool.{false_from_ne_true, not_from_false, not_from_true, or_right}
 use Rattle.ics_event.specs.Event.{FileSaid}
 use Rattle.ics_event.specs.declared.event.Event.{Event}
@@ -20,6 +16,7 @@ use Rattle.ics_series.specs.After.{is_after}
 use Rattle.ics_series.specs.Occurs.{Occurs, IsOfMaster, IsOfOverride}
 use Rattle.ics_series.specs.PlacedEvents.{clocks_at}
 use Rattle.ics_series.specs.Versions.{is_named, seen, AreChosen}
+use Rattle.ics_series.proofs.Cases.{mapped-some}
 use Rattle.ics_series.proofs.OverrideLemmas.{named-overridden, overridden-named}
 use Rattle.ics_series.proofs.GivenLemmas.{IsGiven, IsGivenBy}
 
@@ -52,7 +49,7 @@ module _ (files : List FileSaid) (display : Clock) (w : Window) (vs : List Versi
       unnamed : o.event.recurrence ≡ None → IsOverridden files display o.event.uid o.recurrence → ⊥
       unnamed none v =
           let named-so = not_from_true (named o) (overridden-named files display vs h o.event.uid o.recurrence v) in
-          let f : true ≡ false = sym e ∙ (ap (λ (r : Option Time). is_some r || not (named o)) none ∙ named-so) in
+          let kept : not (named o) ≡ true = rw none at e in
           cc
 
       by : (r : Option Time) → g.by.event.recurrence ≡ r →
@@ -74,29 +71,18 @@ module _ (files : List FileSaid) (display : Clock) (w : Window) (vs : List Versi
     record {
       by = m.master;
       chosen = m.is.chosen;
-      is = (
-        subst (λ r. IsGivenBy (clocks_at files display m.master.file) m.master.event r o)
-            (sym (ap (option_map (instant (clocks_at files display m.master.file))) m.is.single)) m.of,
-        meets,
-      );
+      is = (rw (ap (option_map (instant (clocks_at files display m.master.file))) m.is.single) m.of, meets);
     },
     or_right (is_some o.event.recurrence) (not (named o)) (not_from_false (named o)
         (false_from_ne_true (named o) (λ n. m.kept (named-overridden files display vs h o.event.uid o.recurrence n)))),
   )
 
   override-given : (o : Entry) → IsOfOverride files display o → Meets w o → IsGiven files display w o × (is_kept (map seen vs) o ≡ true)
-  override-given o m meets = (
-    record {
-      by = m.override;
-      chosen = m.is.chosen;
-      is = (subst (λ r. IsGivenBy (clocks_at files display m.override.file) m.override.event r o) (sym m.is.of) (m.of, refl), meets);
-    },
-    ap (λ b. b || not (named o)) (ap (λ (v : Event). is_some v.recurrence) m.of.event ∙ some m.override.event.recurrence m.is.of),
-  )
-    where
-      some : (r : Option Time) → option_map (instant (clocks_at files display m.override.file)) r ≡ Some o.recurrence → is_some r ≡ true
-      some None e = let f : None ≡ Some o.recurrence = e in cc
-      some (Some time) e = refl
+  override-given o m meets =
+      let named-at = mapped-some (instant (clocks_at files display m.override.file)) m.override.event.recurrence o.recurrence m.is.of in (
+        record { by = m.override; chosen = m.is.chosen; is = (rw m.is.of (m.of, refl), meets) },
+        rw (m.of.event, named-at.1) refl,
+      )
 
   pub to-come : (after : Option Rank) (o : Entry) → IsGiven files display w o → is_kept (map seen vs) o ≡ true → is_after after o ≡ true →
       IsToCome files display w after o

@@ -1,9 +1,7 @@
 -- What a window lists, said plainly.
-use Rattle.std.specs.Prelude.{◌↔◌, ◌≤ℤ◌, ◌<ℤ◌}
-use Rattle.std.proofs.Common.{◌≡◌, ℤ, pos, ◌+ℤ◌, true, false, ◌⊎◌, inl, inr, ⊎_elim, List, ◌++◌, refl, sym, ◌∙◌, arith}
+use Rattle.std.proofs.Common.{◌≡◌, ℤ, pos, ◌+ℤ◌, true, false, ◌⊎◌, inl, inr, ⊎_elim, List, ◌++◌, refl, sym, ◌∙◌, arith, ◌↔◌, ◌≤ℤ◌, ◌<ℤ◌, Less}
 use Rattle.std.specs.Cmp.{int_cmp_is}
 use Rattle.std.proofs.lemmas.Int.{int_max_is, ints}
-use Rattle.std.specs.declared.cmp.Ordering.TheVariants.{Less}
 use Rattle.ics_event.specs.Event.{FileSaid}
 use Rattle.ics_zone.proofs.Cases.{less_or_not_z}
 use Rattle.ics_series.specs.declared.window.Window.{Window}

@@ -1,5 +1,5 @@
 -- The starts that the rule of an event gives before the end of a window, as one rising list.
-use Rattle.std.specs.Prelude.{◌≡◌, ◌≤ℤ◌, ◌<ℤ◌, ℕ, zero, suc, ◌+◌, ◌-◌, ◌≤◌, ℤ, pos, ◌-ℤ◌, ◌+ℤ◌, Bool, true, false, ◌&&◌, ◌||◌, ◌==◌, not, int_le, int_lt, List}
+use Rattle.std.specs.Prelude.{◌≡◌, ◌≤ℤ◌, ◌<ℤ◌, ℕ, zero, suc, ◌+◌, ◌-◌, ◌≤◌, ℤ, ◌-ℤ◌, ◌+ℤ◌, Bool, true, false, ◌&&◌, ◌||◌, ◌==◌, not, int_le, int_lt, List}
 use Rattle.std.specs.Prelude.{[], ◌∷◌}
 use Rattle.ics_fields.specs.Days.{day_index, day_numbered}
 use Rattle.ics_fields.specs.Locals.{local_at, number, midnight, whole_days}

@@ -1,8 +1,6 @@
-use Rattle.std.proofs.Common.{◌≡◌, w64, to_z, of_z, is_ok, ◌∙◌, ap, arith}
+use Rattle.std.proofs.Common.{◌≡◌, w64, to_z, of_z, is_ok, ◌∙◌, ap, arith, int_eq, SFits}
 use Rattle.std.specs.List.{list_any}
-use Rattle.std.specs.Ordering.{int_eq}
 use Rattle.std.proofs.lemmas.Int.{ints}
-use mir.Val.{SFits}
 use Rattle.ics_series.proofs.ExclusionLemmas.{found-in}
 use Rattle.ics_series.proofs.exclusion.is_among.Goals as goal
 

@@ -1,5 +1,4 @@
-use Rattle.std.specs.Prelude.{int_le}
-use Rattle.std.proofs.Common.{◌≡◌, ◌∙◌, ap, refl, pos, ◌+ℤ◌, to_z, of_z, w64, arith}
+use Rattle.std.proofs.Common.{◌≡◌, ◌∙◌, ap, refl, pos, ◌+ℤ◌, to_z, of_z, w64, arith, int_le}
 use Rattle.std.proofs.lemmas.Int.{ints}
 use Rattle.ics_event.specs.Event.{stamp_seconds}
 use Rattle.ics_fields.specs.declared.local.Local.{Local}

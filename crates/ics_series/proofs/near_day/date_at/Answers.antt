@@ -1,5 +1,4 @@
-use Rattle.std.proofs.Common.{rules, ◌≡◌, ◌+ℤ◌, ℕ, ℤ, ◌<◌, pos, arith, to_z, of_z, w32, w64}
-use Rattle.std.specs.Prelude.{◌≤ℤ◌, ◌<ℤ◌, ◌-ℤ◌, FitsSigned}
+use Rattle.std.proofs.Common.{rules, ◌≡◌, ◌+ℤ◌, ℕ, ℤ, ◌<◌, pos, arith, to_z, of_z, w32, w64, ◌≤ℤ◌, ◌<ℤ◌, ◌-ℤ◌, FitsSigned}
 use Rattle.std.proofs.lemmas.Int.{ints, to_z-of_z}
 use Rattle.ics_fields.specs.Days.{IsDayNumber}
 use Rattle.ics_zone.specs.Near.{offset_near}

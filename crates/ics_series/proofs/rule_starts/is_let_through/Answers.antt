@@ -1,7 +1,5 @@
-use Rattle.std.proofs.Common.{◌≡◌, ◌||◌, ◌&&◌, w64, to_z, of_z, sym, ◌∙◌, ap, arith}
-use Rattle.std.specs.Prelude.{◌==◌, int_lt}
+use Rattle.std.proofs.Common.{◌≡◌, ◌||◌, ◌&&◌, w64, to_z, of_z, sym, ◌∙◌, ap, arith, ◌==◌, int_lt, SFits}
 use Rattle.std.proofs.lemmas.Int.{ints}
-use mir.Val.{SFits}
 use Rattle.ics_rule.specs.Kept.{until_moment}
 use Rattle.ics_fields.specs.Locals.{number}
 use Rattle.ics_zone.specs.Observances.{is_until}

@@ -1,7 +1,5 @@
-use Rattle.std.specs.Prelude.{int_le}
-use Rattle.std.proofs.Common.{◌≡◌, ℤ, pos, ◌-ℤ◌, ◌<◌, List, [], ◌∷◌, length, get_or, rules, w32, w64, to_z, of_z, ◌∙◌, ap, arith}
+use Rattle.std.proofs.Common.{◌≡◌, ℤ, pos, ◌-ℤ◌, ◌<◌, List, [], ◌∷◌, length, get_or, rules, w32, w64, to_z, of_z, ◌∙◌, ap, arith, int_le, SFits}
 use Rattle.std.proofs.lemmas.Int.{ints}
-use mir.Val.{SFits}
 use Rattle.ics_series.specs.declared.start.Start.{Start}
 use Rattle.ics_fields.specs.declared.local.Local.{Local}
 use Rattle.ics_fields.specs.Locals.{local_seconds, midnight}

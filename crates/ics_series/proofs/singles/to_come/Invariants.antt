@@ -1,6 +1,5 @@
-use Rattle.std.proofs.Common.{◌≡◌, ◌++◌, map, drop}
+use Rattle.std.proofs.Common.{◌≡◌, ◌++◌, map, drop, option_map}
 use Rattle.std.specs.List.{filter_map}
-use Rattle.std.specs.Option.{option_map}
 use Rattle.ics_event.specs.Event.{said_by}
 use Rattle.ics_series.specs.Clocks.{display_clock}
 use Rattle.ics_series.specs.Entry.{key_rank}

@@ -1,6 +1,5 @@
-use Rattle.std.proofs.Common.{◌-ℤ◌, w64, ap, arith}
+use Rattle.std.proofs.Common.{◌-ℤ◌, w64, ap, arith, SFits}
 use Rattle.std.proofs.lemmas.Int.{ints, int_max_is}
-use mir.Val.{SFits}
 use Rattle.ics_fields.specs.declared.local.Local.{Local}
 use Rattle.ics_fields.specs.Locals.{local_seconds, whole_days}
 use Rattle.ics_series.proofs.NearDayLemmas.{day-under}

@@ -1,9 +1,8 @@
 use Rattle.std.proofs.lemmas.Grind.{common_steps}
 use Rattle.std.proofs.Common.{rules, ◌≡◌, ◌+◌, ◌<◌, ◌++◌, ◌∷◌, ℕ, ℤ, List, [], Option, Some, cond, Bool, drop, get_or, length, sym, ◌∙◌, ap, to_z, of_z, arith}
-use Rattle.std.proofs.Common.{w64}
+use Rattle.std.proofs.Common.{w64, int_eq}
 use Rattle.std.proofs.lemmas.List.{append_assoc, at_drop_more}
 use Rattle.std.specs.Option.{option_eq}
-use Rattle.std.specs.Ordering.{int_eq}
 use Rattle.ics_series.specs.declared.start.Start.{Start}
 use Rattle.ics_series.specs.Found.{firsts_after}
 use Rattle.ics_series.proofs.FirstLemmas.{at-true}

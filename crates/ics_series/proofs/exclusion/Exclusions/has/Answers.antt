@@ -1,11 +1,9 @@
-use Rattle.std.proofs.Common.{◌≡◌, ◌||◌, false, w32, w64, to_z, of_z, is_ok, sym, ◌∙◌, ap, subst, arith}
+use Rattle.std.proofs.Common.{◌≡◌, false, w32, w64, to_z, of_z, is_ok, refl, sym, ◌∙◌, ap, subst, arith, int_cmp, int_eq, SFits}
 use Rattle.std.specs.List.{list_any}
 use Rattle.std.specs.List.Sorted.{IsSorted}
-use Rattle.std.specs.Ordering.{int_cmp, int_eq}
 use Rattle.std.proofs.lemmas.Int.{ints}
-use mir.Val.{SFits}
 use Rattle.ics_series.specs.Clocks.{Clock, clock_of}
-use Rattle.ics_series.specs.Exclusions.{is_among, is_day_in, shown_day}
+use Rattle.ics_series.specs.Exclusions.{is_among, shown_day}
 use Rattle.ics_series.specs.FileZones.{clocks_in}
 use Rattle.ics_series.proofs.ExclusionLemmas.{found-in}
 use Rattle.ics_series.proofs.exclusion.Exclusions.has.Goals as goal
@@ -22,6 +20,4 @@ returns c =
     let shown : c.shown_day-day.result ≡ shown_day clock c.args.moment = c.shown_day-day.ensures ∙ ap (shown_day clock) same in
     let other : false ≡ is_among c.args.self.now.instants.items c.args.moment = sym c.if-is_among.false
     ∙ (c.is_among.ensures ∙ (ap (is_among c.deref.result.now) same ∙ ap (λ xs. is_among xs c.args.moment) c.deref.ensures.value)) in
-    c.is_ok.ensures.value ∙ (found ∙ (ap (λ x. list_any (λ y. int_eq y x) c.deref-2.result.now) (day ∙ shown)
-    ∙ (ap (λ xs. is_day_in (clock_of (clocks_in c.args.zones) c.args.first) xs c.args.moment) c.deref-2.ensures.value
-    ∙ ap (λ b. b || is_day_in (clock_of (clocks_in c.args.zones) c.args.first) c.args.self.now.days.items c.args.moment) other)))
+    rw (c.is_ok.ensures.value, found, day, shown, c.deref-2.ensures.value, ← other) refl

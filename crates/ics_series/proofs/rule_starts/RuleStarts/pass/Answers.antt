@@ -1,6 +1,5 @@
 use Rattle.std.proofs.lemmas.Grind.{common_steps}
-use Rattle.std.proofs.Common.{◌≡◌, ◌<◌, length, get_or, rules, w64, ◌∙◌, sym, ap, arith}
-use mir.Val.{SFits, of_z}
+use Rattle.std.proofs.Common.{◌≡◌, ◌<◌, length, get_or, rules, w64, ◌∙◌, sym, ap, arith, SFits, of_z}
 use Rattle.std.proofs.lemmas.Int.{ints}
 use Rattle.ics_series.proofs.RuleDayLemmas.{cut-first, uncut-first, uncut-none}
 use Rattle.ics_series.proofs.RuleStepLemmas.{passed-left}

@@ -1,8 +1,5 @@
-use Rattle.std.specs.Prelude.{slice_get}
-use Rattle.std.proofs.Common.{◌≡◌, List, [], ◌∷◌, Option, Some, None, refl, sym, ◌∙◌, ap, arith}
-use Rattle.std.specs.Option.{option_copied}
+use Rattle.std.proofs.Common.{◌≡◌, List, [], ◌∷◌, Option, Some, None, refl, sym, ◌∙◌, ap, arith, slice_get, option_copied, Bor}
 use Rattle.std.specs.Slice.{IsItemAt}
-use denote.Ref.{Bor}
 use Rattle.ics_series.specs.declared.start.Start.{Start}
 use Rattle.ics_series.proofs.RuleStepLemmas.{first-left}
 use Rattle.ics_series.proofs.rule_starts.RuleStarts.peek.Goals as goal

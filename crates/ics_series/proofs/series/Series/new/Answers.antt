@@ -1,15 +1,13 @@
-use Rattle.std.proofs.Common.{◌≡◌, refl, w64, to_z, of_z, get_or, ◌∙◌, ap, subst, arith}
+use Rattle.std.proofs.Common.{◌≡◌, refl, w64, to_z, of_z, get_or, ◌∙◌, ap, subst, arith, SFits}
 use Rattle.std.proofs.lemmas.Int.{ints}
 use Rattle.std.proofs.lemmas.List.Elements.{Contains-get_or}
-use mir.Val.{SFits}
 use Rattle.ics_series.specs.declared.start.Start.{Start}
 use Rattle.ics_series.specs.Listing.{IsIn}
 use Rattle.ics_series.specs.SeriesFeed.{source_of}
 use Rattle.ics_series.specs.SeriesStarts.{given_of, left, listed_left}
 use Rattle.ics_series.specs.FileZones.{clocks_in}
-use Rattle.ics_series.proofs.SeriesLemmas.{known-start, series-listing}
-use Rattle.ics_series.proofs.OwnRuleLemmas.{own-rule-as}
-use Rattle.ics_series.proofs.SinceLemmas.{has-ruled, known-apart, known-left, ruled-as, starts-since}
+use Rattle.ics_series.proofs.SeriesLemmas.{known-start, own-rule-as, series-listing}
+use Rattle.ics_series.proofs.SinceLemmas.{has-ruled, known-apart, known-left, starts-since}
 use Rattle.ics_series.proofs.SortLemmas.{in-contains}
 use Rattle.ics_series.proofs.series.Series.new.Goals as goal
 
@@ -31,15 +29,14 @@ invariant_of-result c =
     let since : to_z w64 (of_z w64 c.args.since) ≡ c.args.since = omega (arith, ints) in
     let sound = c.requires.own.is_event in
     let firsts = rw c.in_ok-listed.ensures at c.in_ok-new.ensures in
-    let ruled = ruled-as c.args.zones w event sound c.args.since c.starts_by_rule-rule_starts.result since
-    (c.deref.ensures.value ∙ c.in_ok-listed.ensures) c.starts_by_rule-rule_starts.ensures.from in
+    let ruled = rw (since, c.deref.ensures.value ∙ c.in_ok-listed.ensures) at c.starts_by_rule-rule_starts.ensures.from in
     let listing = series-listing clocks w event c.args.since c.args.overridden.items (left c.starts_by_rule-rule_starts.result c.in_ok-new.field-0)
-    (starts-since c.args.zones w event sound c.args.since c.starts_by_rule-rule_starts.result (listed_left c.in_ok-new.field-0) firsts ruled) in
+    (starts-since c.args.zones w event sound c.args.since (listed_left c.in_ok-new.field-0) firsts c.starts_by_rule-rule_starts.result ruled) in
     record {
       in_order = c.requires.order;
       own = c.requires.own;
       taken_out = c.in_ok-exclusions.ensures;
-      known = known-left c.args.zones w event sound c.args.since c.starts_by_rule-rule_starts.result (listed_left c.in_ok-new.field-0) firsts ruled;
+      known = known-left c.args.zones w event sound c.args.since (listed_left c.in_ok-new.field-0) firsts c.starts_by_rule-rule_starts.result ruled;
       ruled = rw since
           (has-ruled c.args.zones w event sound c.args.since c.starts_by_rule-rule_starts.result c.args.overridden.items
           (given_of clocks w event c.args.since c.args.overridden.items (left c.starts_by_rule-rule_starts.result c.in_ok-new.field-0)) ruled listing);
@@ -57,9 +54,8 @@ returns c =
     let since : to_z w64 (of_z w64 c.args.since) ≡ c.args.since = omega (arith, ints) in
     let sound = c.requires.own.is_event in
     let firsts = rw c.in_ok-listed.ensures at c.in_ok-new.ensures in
-    let ruled = ruled-as c.args.zones w event sound c.args.since c.starts_by_rule-rule_starts.result since
-    (c.deref.ensures.value ∙ c.in_ok-listed.ensures) c.starts_by_rule-rule_starts.ensures.from in
-    let starts = starts-since c.args.zones w event sound c.args.since c.starts_by_rule-rule_starts.result (listed_left c.in_ok-new.field-0) firsts ruled in
+    let ruled = rw (since, c.deref.ensures.value ∙ c.in_ok-listed.ensures) at c.starts_by_rule-rule_starts.ensures.from in
+    let starts = starts-since c.args.zones w event sound c.args.since (listed_left c.in_ok-new.field-0) firsts c.starts_by_rule-rule_starts.result ruled in
     record {
       listing = rw since
           (series-listing clocks w event c.args.since c.args.overridden.items (left c.starts_by_rule-rule_starts.result c.in_ok-new.field-0) starts);

@@ -7,12 +7,12 @@ use Rattle.ics_series.specs.Found.{moment_cmp}
 use Rattle.ics_series.specs.Listing.{IsIn}
 use Rattle.ics_series.specs.Merged.{union}
 use Rattle.ics_series.specs.SeriesFeed.{series_left, series_of}
-use Rattle.ics_series.specs.SeriesStarts.{first_of, given_of, left, listed_left, rule_asked, rule_left, HasSameRule, IsAskedNear, IsFirstOf}
+use Rattle.ics_series.specs.SeriesStarts.{first_of, given_of, left, listed_left, rule_asked, rule_left, HasSameRule, IsAskedNear}
 use Rattle.ics_series.specs.FileZones.{clocks_in}
 use Rattle.ics_series.specs.MergedLaws.{rises-union}
 use Rattle.ics_series.proofs.FirstLemmas.{moment_total}
-use Rattle.ics_series.proofs.OwnRuleLemmas.{own-rule-same}
-use Rattle.ics_series.proofs.SeriesLemmas.{asked-near, both-passed, given-own, known-rest, rises-listed, rises-rest, rises-rule, ruled-rest, ruled-same}
+use Rattle.ics_series.proofs.SeriesLemmas.{asked-near, both-passed, given-own, known-rest, own-rule-same, rises-listed, rises-rest, rises-rule, ruled-rest}
+use Rattle.ics_series.proofs.SeriesLemmas.{ruled-same}
 use Rattle.ics_series.proofs.series.Series.take.Goals as goal
 
 -- the series with its rule read on, where the starts that are left stay the same

@@ -1,7 +1,6 @@
-use Rattle.std.proofs.Common.{◌≡◌, true, map, ◌∙◌, ap, rules}
+use Rattle.std.proofs.Common.{◌≡◌, true, map, ◌∙◌, ap, rules, option_map}
 use Rattle.std.specs.Ordering.{on}
 use Rattle.std.proofs.lemmas.Cmp.{on_total}
-use Rattle.std.specs.Option.{option_map}
 use Rattle.ics_series.specs.Entry.{entry_cmp, key_rank}
 use Rattle.ics_series.specs.Singles.{is_single, single_entry}
 use Rattle.ics_series.specs.Versions.{seen}
