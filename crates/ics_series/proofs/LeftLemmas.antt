@@ -1,6 +1,6 @@
 -- The starts still to come of a rule and of those that are known from the first, as one list.
-use Rattle.std.proofs.Common.{◌≡◌, ℤ, List, [], ◌∷◌, true, false, Option, Some, None, length, inl, inr, ⊎_elim, refl, sym, ◌∙◌, ap, subst, arith, int_lt}
-use Rattle.std.proofs.Common.{slice_get, if◌then◌else◌, Ordering, Less, Equal, Greater}
+use Rattle.std.proofs.Common.{◌≡◌, ℤ, List, [], ◌∷◌, false, Option, Some, None, length, inl, inr, ⊎_elim, refl, sym, ◌∙◌, ap, subst, arith, int_lt}
+use Rattle.std.proofs.Common.{slice_get, if◌then◌else◌, Ordering, Equal, Greater}
 use Rattle.std.specs.Cmp.{IsTotalOrder}
 use Rattle.std.proofs.lemmas.Bool.{cond_both}
 use Rattle.std.proofs.lemmas.Int.{ints}
@@ -29,9 +29,6 @@ module _ {A : Type 0} (R : A → A → Ordering) (o : IsTotalOrder R) where
   member-cut s e [] n m = absurd m
   member-cut s e (x ∷ xs) n m = member-cut-by e x xs (R s x) (λ t is. n (ap (R s) is ∙ t)) m
 
-less-by : (a b : Start) → int_lt b.moment a.moment ≡ true → moment_cmp b a ≡ Less
-less-by a b e = less-start b a (int_lt_true b.moment a.moment e)
-
 not-greater-by : (a b : Start) → int_lt b.moment a.moment ≡ false → moment_cmp a b ≡ Greater → ⊥
 not-greater-by a b e g = grind (arith, ints)
 
@@ -47,7 +44,9 @@ first-of [] (y ∷ ys) r k = begins-second moment_cmp moment_total y [] ys tt
 first-of (x ∷ xs) [] r k = begins-first moment_cmp moment_total x xs [] r tt
 first-of (x ∷ xs) (y ∷ ys) r k =
     cond_both (int_lt y.moment x.moment) (Some y) (Some x) (λ o. IsFirstOf o (x ∷ xs) (y ∷ ys))
-    (λ t. let less = less-by x y t in begins-second moment_cmp moment_total y (x ∷ xs) ys (less, before-trans moment_cmp moment_total y x xs less r.0))
+    (λ t.
+    let less = less-start y x (int_lt_true y.moment x.moment t) in
+    begins-second moment_cmp moment_total y (x ∷ xs) ys (less, before-trans moment_cmp moment_total y x xs less r.0))
     (λ f. begins-first moment_cmp moment_total x xs (y ∷ ys) r (not-after-front moment_cmp moment_total x y ys (not-greater-by x y f) k))
 
 -- of the first of both kinds the earlier one is the first

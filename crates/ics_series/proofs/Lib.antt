@@ -42,7 +42,6 @@ pub mod RuleDayLemmas
 pub mod RuleLocalLemmas
 pub mod RuleStepLemmas
 pub mod SeriesLemmas
-pub mod SinceLemmas
 pub mod SinglesLemmas
 pub mod SortLemmas
 pub mod SoughtLemmas

@@ -124,11 +124,6 @@ day-written _ a = omega (arith, ints)
 pub less-start : (s t : Start) → s.moment <ℤ t.moment → moment_cmp s t ≡ Less
 less-start s t l = sym (int_cmp_is s.moment t.moment Less l)
 
--- d is the first of a list
-pub record IsFirst (d : Start) (held : List Start) : Type 0 where
-  pub some : 0 < length held
-  pub is : d ≡ get_or held 0 d
-
 module _ (zones : FileZones) (event : Event) where
   -- a local from a day's midnight on means an instant that is less than two days before it
   pub late-numbered : (day : ℤ) (n : ℕ) → IsDayNumber day → midnight_number day ≤ n →
@@ -195,16 +190,17 @@ module _ (zones : FileZones) (event : Event) where
     come-empty held place from h e = ap (λ xs. union moment_cmp xs (found (clocks_in zones) event rule w place)) h ∙ ap (found (clocks_in zones) event rule w) e
 
 -- The first of a list goes where a start is at its instant, and else nothing does.
-pub cut-first : (t : Start) {held : List Start} {d : Start} → IsFirst d held → t.moment ≡ d.moment → drop 1 held ≡ cut moment_cmp t held
-cut-first t {held = []} first e = absurd (omega (arith, first.some))
-cut-first t {held = s ∷ held} first e = rw (same-moment t s (e ∙ ap (λ (x : Start). x.moment) first.is)) refl
+pub cut-first : (t : Start) (held : List Start) {d : Start} → 0 < length held → d ≡ get_or held 0 d → t.moment ≡ d.moment →
+    drop 1 held ≡ cut moment_cmp t held
+cut-first t [] some is e = absurd (omega (arith, some))
+cut-first t (s ∷ held) some is e = rw (same-moment t s (e ∙ ap (λ (x : Start). x.moment) is)) refl
 
-pub uncut-first : (t : Start) {held : List Start} {d : Start} → IsFirst d held → (t.moment ≡ d.moment → ⊥) → held ≡ cut moment_cmp t held
-uncut-first t {held = []} first n = refl
-uncut-first t {held = s ∷ held} first n = by (moment_cmp t s) refl
+pub uncut-first : (t : Start) (held : List Start) {d : Start} → d ≡ get_or held 0 d → (t.moment ≡ d.moment → ⊥) → held ≡ cut moment_cmp t held
+uncut-first t [] is n = refl
+uncut-first t (s ∷ held) is n = by (moment_cmp t s) refl
   where
     by : (c : Ordering) → moment_cmp t s ≡ c → s ∷ held ≡ by_order c (s ∷ held) held (s ∷ held)
-    by Equal e = absurd (n (tied-moment t s e ∙ ap (λ (x : Start). x.moment) (sym first.is)))
+    by Equal e = absurd (n (tied-moment t s e ∙ ap (λ (x : Start). x.moment) (sym is)))
     by _ e = refl
 
 pub uncut-none : (t : Start) (held : List Start) → length held ≡ 0 → held ≡ cut moment_cmp t held

@@ -22,7 +22,7 @@ use Rattle.ics_series.specs.Merged.{by_order, cut}
 use Rattle.ics_series.specs.MergedLaws.{rises-union}
 use Rattle.ics_series.specs.Rising.{Rises}
 use Rattle.ics_series.specs.RuleFeed.{starts_left}
-use Rattle.ics_series.specs.RuleStarts.{found, gives, is_behind, is_ready, midnight_number, moment_numbered, steps_left, to_come, with_held, AreHeld, IsHeld}
+use Rattle.ics_series.specs.RuleStarts.{found, gives, is_behind, is_ready, midnight_number, steps_left, to_come, with_held, AreHeld, IsHeld}
 use Rattle.ics_series.specs.Starts.{time_at}
 use Rattle.ics_series.specs.FileZones.{clocks_in, IsTimeOf}
 use Rattle.ics_series.proofs.StartSourceLemmas.{kept-time}
@@ -85,16 +85,14 @@ module _ (zones : FileZones) (event : Event) (rule : Recurrence) (w : Window) wh
   is-held : (a : Local) → IsDayNumber a.day → IsDayNumber (a.day +ℤ pos 1) → gives (clocks_in zones) event rule w (number a) ≡ true
       → IsHeld (clocks_in zones) event rule w (a.day +ℤ pos 1) (start_at (clocks_in zones) event a)
   is-held a h k given =
-      let same = numbered-number a h in
-      let moment : moment_numbered (clocks_in zones) event (number a) ≡ (start_at (clocks_in zones) event a).moment =
-      ap (λ l. (start_at (clocks_in zones) event l).moment) same in
-      let late = late-numbered zones event a.day (number a) h (omega arith) in
-      let early = early-numbered zones event (a.day +ℤ pos 1) (number a) k (omega (arith, ints, h.0, k.0, a.second_in)) in
+      let late = rw (numbered-number a h) at (late-numbered zones event a.day (number a) h (omega arith)) in
+      let early = rw (numbered-number a h) at
+      (early-numbered zones event (a.day +ℤ pos 1) (number a) k (omega (arith, ints, h.0, k.0, a.second_in))) in
       record {
-        by = ap (start_at (clocks_in zones) event) (sym same);
+        by = ap (start_at (clocks_in zones) event) (sym (numbered-number a h));
         given = given;
-        late = omega (arith, ints, late, moment);
-        early = omega (arith, ints, early, moment);
+        late = omega (arith, ints, late);
+        early = omega (arith, ints, early);
       }
 
 module _ (s : RuleStarts) where

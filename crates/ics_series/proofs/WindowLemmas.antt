@@ -16,14 +16,9 @@ use Rattle.ics_series.proofs.OnDayLemmas.{joined as joined-listing}
 
 module _ (files : List FileSaid) (display : Clock) where
   starting : (w : Window) (o : Entry) → Occurs files display o → w.from ≤ℤ o.start → o.start <ℤ w.to → IsListed files display w o
-  starting w o h from to = (
-    h,
-    record {
-      begun = to;
-      lasting = lasts-from w.from o.start o.finish (occurs-forward files display o h) (omega (arith, ints, from, int_max_is));
-      started = λ _. from;
-    },
-  )
+  starting w o h from to =
+      let long = lasts-from w.from o.start o.finish (occurs-forward files display o h) (omega (arith, ints, from, int_max_is)) in
+      (h, record { begun = to; lasting = long; started = λ _. from })
 
   pub lists-starts : (w : Window) (o : Entry) → w.notstarted ≡ true
       → IsListed files display w o ↔ (Occurs files display o × (w.from ≤ℤ o.start) × (o.start <ℤ w.to))
@@ -64,9 +59,6 @@ module _ (files : List FileSaid) (display : Clock) where
       (λ m. (h.exact o).1 (((k.exact o).0 m.0).0, m.1)),
     )
 
-earlier : (o q : Entry) → o.start <ℤ q.start → entry_cmp o q ≡ Less
-earlier o q l = rw (sym (int_cmp_is o.start q.start Less l)) refl
-
 module _ (files : List FileSaid) (display : Clock) (first next whole : Window) (joined : IsJoined first next whole) where
   in_first : (o : Entry) → IsListed files display first o → IsListed files display whole o
   in_first o h =
@@ -90,5 +82,7 @@ module _ (files : List FileSaid) (display : Clock) (first next whole : Window) (
       → IsListing entry_cmp (IsListed files display whole) (xs ++ ys)
   listings-join xs ys h k =
       joined-listing entry_cmp (IsListed files display whole) h k
-      (λ o q a n. let b = (lists-starts files display next q joined.starts.1).0 n in earlier o q (omega (arith, ints, a.1.begun, b.1, joined.adjoin)))
+      (λ o q a n.
+      let b = (lists-starts files display next q joined.starts.1).0 n in
+      rw (sym (int_cmp_is o.start q.start Less (omega (arith, ints, a.1.begun, b.1, joined.adjoin)))) refl)
       (λ o. ⊎_elim (in_first o) (in_next o)) in_either

@@ -16,19 +16,11 @@ to-later w = omega (arith, ints, w.not_early, w.ordered, w.not_late)
 
 pub first_nearby-from-requires-clause-early : goal.first_nearby-from-requires-clause-early
 first_nearby-from-requires-clause-early c =
-    omega (
-      arith,
-      ints,
-      int_max_is,
-      int_min_is,
-      c.max.ensures.value,
-      c.min.ensures.value,
-      c.max.type_inv,
-      c.min.type_inv,
-      c.earliest-earliest.type_inv,
-      c.earliest-earliest.ensures.early,
-      c.args.window.not_late,
-    )
+    let max = c.max in
+    let min = c.min in
+    let e = c.earliest-earliest in
+    let w = c.args.window in
+    omega (arith, ints, int_max_is, int_min_is, max.ensures.value, min.ensures.value, max.type_inv, min.type_inv, e.type_inv, e.ensures.early, w.not_late)
 
 pub returns : goal.returns
 returns c =

@@ -13,15 +13,13 @@ returns-then-first-start-clause-left c =
     let fits2 : SFits w64 c.args.start.now.moment = search rules in
     let tied : c.args.start.now.moment ≡ c.in-Some.first.now.moment = omega (arith, ints, c.if-first-start.true) in
     passed-left c.args.self.now c.args.start.now _
-    (c.pop_front.ensures.rest ∙ cut-first c.args.start.now (record { some = some; is = first }) tied) c.requires
+    (c.pop_front.ensures.rest ∙ cut-first c.args.start.now c.args.self.now.held.items some first tied) c.requires
 
 pub returns-else-first-start-clause-left : goal.returns-else-first-start-clause-left
 returns-else-first-start-clause-left c =
-    let some : 0 < length c.args.self.now.held.items = search rules in
     let first : c.in-Some.first.now ≡ get_or c.args.self.now.held.items 0 c.in-Some.first.now = search rules in
     passed-left c.args.self.now c.args.start.now _
-    (uncut-first c.args.start.now {d = c.in-Some.first.now} (record { some = some; is = first })
-    (λ same. c.if-first-start.false (ap (λ t. of_z w64 t) (sym same)))) c.requires
+    (uncut-first c.args.start.now c.args.self.now.held.items first (λ same. c.if-first-start.false (ap (λ t. of_z w64 t) (sym same)))) c.requires
 
 pub returns-in_default-clause-left : goal.returns-in_default-clause-left
 returns-in_default-clause-left c =

@@ -1,15 +1,216 @@
-use Rattle.std.proofs.Common.{◌≡◌, refl, w64, to_z, of_z, get_or, ◌∙◌, ap, subst, arith, SFits}
-use Rattle.std.proofs.lemmas.Int.{ints}
-use Rattle.std.proofs.lemmas.List.Elements.{Contains-get_or}
+use Rattle.std.proofs.Common.{◌≡◌, ℕ, zero, suc, ◌+◌, ◌-◌, ◌<◌, ◌≤◌, ℤ, ◌-ℤ◌, List, true, Option, Some, None, option_map, ◌⊎◌, inl, inr, ⊎_elim, refl, sym, ◌∙◌}
+use Rattle.std.proofs.Common.{ap, subst, arith, ◌≤ℤ◌, int_lt, slice_get, MatchOption, w64, to_z, of_z, get_or, SFits}
+use Rattle.std.specs.Int.{int_max}
+use Rattle.std.proofs.lemmas.Int.{int_max_is, int_min_is, ints}
+use Rattle.std.proofs.lemmas.Bool.{and_from}
+use Rattle.ics_fields.specs.RuleParts.{RuleParts}
+use Rattle.ics_fields.specs.declared.local.Local.{Local}
+use Rattle.ics_rule.specs.PeriodNumbers.{rules_end}
+use Rattle.ics_fields.specs.Locals.{number, local_seconds, whole_days}
+use Rattle.ics_rule.specs.Recurrence.{Recurrence}
+use Rattle.ics_event.specs.Event.{IsEvent}
+use Rattle.ics_event.specs.declared.event.Event.{Event}
+use Rattle.ics_event.specs.declared.time.Rdate.{Rdate}
+use Rattle.ics_zone.proofs.Cases.{true_int_lt}
+use Rattle.ics_series.specs.declared.rule_starts.RuleStarts.{RuleStarts}
+use Rattle.ics_series.specs.declared.start.StartSource.{StartSource}
+use Rattle.ics_series.specs.declared.start.StartSource.TheVariants.{Kept, Listed}
 use Rattle.ics_series.specs.declared.start.Start.{Start}
-use Rattle.ics_series.specs.Listing.{IsIn}
-use Rattle.ics_series.specs.SeriesFeed.{source_of}
-use Rattle.ics_series.specs.SeriesStarts.{given_of, left, listed_left}
+use Rattle.ics_series.specs.declared.window.Window.{Window}
+use Rattle.ics_series.specs.declared.zones.FileZones.{FileZones}
+use Rattle.ics_series.specs.Clocks.{Clocks, instant}
+use Rattle.ics_series.specs.Entry.{Entry, entry_cmp}
+use Rattle.ics_series.specs.Found.{listed_from, moment_cmp, start_at, start_by, AreFirsts, AreStartsSince, HasStart, IsSought}
+use Rattle.ics_series.specs.Listing.{IsIn, IsListing}
+use Rattle.ics_series.specs.Meeting.{entry_from}
+use Rattle.ics_series.specs.Meets.{Meets}
+use Rattle.ics_series.specs.Merged.{union}
+use Rattle.ics_series.specs.MergedLaws.{rises-union}
+use Rattle.ics_series.specs.Rising.{Rises}
+use Rattle.ics_series.specs.RuleFeed.{starts_left}
+use Rattle.ics_series.specs.RuleStarts.{found, found_in, gives, lets_until, local_numbered, moment_numbered}
+use Rattle.ics_series.specs.SeriesStarts.{first_asked, listed_apart, rule_left, AreKnown, HasRuled, IsKnown, IsRuleFrom, IsSeriesMet, given_of, left}
+use Rattle.ics_series.specs.SeriesStarts.{listed_left}
+use Rattle.ics_series.specs.Starts.{given_by, local_of, recurrence_by, time_at, time_of, GivesStart, IsRuleStart}
 use Rattle.ics_series.specs.FileZones.{clocks_in}
-use Rattle.ics_series.proofs.SeriesLemmas.{known-start, own-rule-as, series-listing}
-use Rattle.ics_series.proofs.SinceLemmas.{has-ruled, known-apart, known-left, starts-since}
+use Rattle.ics_series.proofs.FirstLemmas.{moment_total}
+use Rattle.ics_series.proofs.StartSourceLemmas.{number-seconds, written-at}
+use Rattle.ics_series.proofs.InstantLemmas.{instant-near}
+use Rattle.ics_series.proofs.LeftLemmas.{has-union, put-has, union-has}
+use Rattle.ics_series.proofs.ListedLemmas.{listed-in}
+use Rattle.ics_series.proofs.MasterLemmas.{same-entry}
+use Rattle.ics_series.proofs.RuleDayLemmas.{found-is, in-rules, put-both, seconds-numbered}
+use Rattle.ics_series.proofs.RuleLocalLemmas.{kept-calendar, gives-kept, number-numbered, numbered-number, ruled-kept}
+use Rattle.ics_series.proofs.SeriesLemmas.{in-moment, known-start, rises-rule, own-rule-as, series-listing}
+use Rattle.ics_series.proofs.SoughtLemmas.{listed-there, none-else, sought-early, sought-late}
+use Rattle.ics_series.proofs.StartLaws.{kept-first}
+use Rattle.ics_series.proofs.UnionLemmas.{itself-put, union-in}
+use Rattle.ics_series.proofs.Cases.{here-or-later}
+use Rattle.std.proofs.lemmas.List.Elements.{Contains-get_or}
+use Rattle.ics_series.specs.SeriesFeed.{source_of}
 use Rattle.ics_series.proofs.SortLemmas.{in-contains}
 use Rattle.ics_series.proofs.series.Series.new.Goals as goal
+
+-- The starts of a series: all that are sought from an instant on are among them.
+-- the starts of a rule, if there is one, from what the starts that are known from the first and the instant are
+abbrev IsRuled : Clocks → Event → Window → ℤ → List Start → Option RuleStarts → Type 0
+IsRuled clocks event w since listed o = MatchOption o (event.rule ≡ None) (λ s. IsRuleFrom clocks event w since listed (starts_left s))
+
+module _ (zones : FileZones) (w : Window) (event : Event) where
+  abbrev clocks : Clocks
+  clocks = clocks_in zones
+
+  -- What is known from the first.
+  known-listed : (s : Start) → IsIn s (listed_from clocks w event.start 0 event.rdates) → IsKnown clocks event w s
+  known-listed s m =
+      let k = listed-in clocks w event.start 0 event.rdates s m in
+      rw k.is (record {
+        gives = ap (option_map (given_by event.start)) (subst (λ i. slice_get event.rdates i ≡ Some k.rdate) (omega arith) k.stands);
+        moment = refl;
+      })
+
+  known-apart : (o : Option RuleParts) (s : Start) → event.rule ≡ o → IsIn s (listed_apart clocks w event o) → IsKnown clocks event w s
+  known-apart None s none (inl e) =
+      rw e (record {
+        gives = (rw (ap (option_map (recurrence_by event.start.stamp)) none) refl, refl);
+        moment = refl;
+      })
+  known-apart None s e (inr m) = known-listed s m
+  known-apart (Some parts) s e m = known-listed s m
+
+  -- What the rule gives.
+  known-ruled : (since : ℤ) (listed starts : List Start) (s : Start) → IsRuleFrom clocks event w since listed starts → IsIn s starts →
+      IsKnown clocks event w s
+  known-ruled since listed starts s r m =
+      let f = found-is zones event r.rule w (number r.from) s (subst (IsIn s) r.gives m) in
+      let below = in-rules zones event r.rule w f.by f.given in
+      rw f.is (record {
+        gives = (
+          rw r.has ((omega (arith, ints), omega (arith, ints, below)), ap (gives clocks event r.rule w) (number-numbered f.by) ∙ f.given),
+          refl,
+        );
+        moment = refl;
+      })
+
+  -- The list has a start for each local that gives one.
+  module _ (rule : Recurrence) where
+    abbrev HasLocal : List Start → ℕ → Type 0
+    HasLocal starts k = HasStart starts (Kept (local_numbered k)) (moment_numbered clocks event k)
+
+    found_in-has : (from n k : ℕ) → from ≤ k → k < from + n → gives clocks event rule w k ≡ true → HasLocal (found_in clocks event rule w from n) k
+    found_in-has from zero k l u g = absurd (omega (arith, l, u))
+    found_in-has from (suc n) k l u g =
+        let s = start_at clocks event (local_numbered from) in
+        let rest = found_in clocks event rule w (from + 1) n in
+        ⊎_elim
+        (λ (same : from ≡ k). rw (← same, ap (gives clocks event rule w) same ∙ g)
+        (record { start = s; stands = itself-put moment_cmp moment_total s rest; same = refl; earlier = omega (arith, ints) }))
+        (λ less.
+        let later = found_in-has (from + 1) n k (omega (arith, less)) (omega (arith, u)) g in
+        put-both (gives clocks event rule w from) s rest (λ xs. HasLocal xs k)
+        (λ e. put-has s rest (Kept (local_numbered k)) (moment_numbered clocks event k)
+        (omega (arith, ints, seconds-numbered from, seconds-numbered k, less)) later)
+        (λ e. later))
+        (here-or-later from k l)
+
+    found-has : (from k : ℕ) → from ≤ k → k < rules_end → gives clocks event rule w k ≡ true → HasLocal (found clocks event rule w from) k
+    unfolding found
+    found-has from k l u g = found_in-has from (rules_end - from) k l (omega (arith, l, u)) g
+
+  module _ (sound : IsEvent event) (since : ℤ) where
+    abbrev by_rdates : List Start
+    by_rdates = listed_from clocks w event.start 0 event.rdates
+
+    -- all that is sought from the instant on has a start among these
+    abbrev HasSought : List Start → Type 0
+    HasSought starts =
+        (source : StartSource) (given : Rdate) → GivesStart clocks event source given → IsSought clocks event w (instant clocks (time_of given)) →
+        since ≤ℤ instant clocks (time_of given) → HasStart starts source (instant clocks (time_of given))
+
+    -- The rule gives a start for each that is sought.
+    module _ (starts : List Start) (r : IsRuleFrom clocks event w since by_rdates starts) where
+      abbrev moment : Local → ℤ
+      moment local = instant clocks (time_at event.start local)
+
+      ruled : (local : Local) → (local ≡ local_of event.start.stamp) ⊎ IsRuleStart clocks event local → IsSought clocks event w (moment local) →
+          since ≤ℤ moment local → HasStart starts (Kept local) (moment local)
+      ruled local own s late =
+          let early = sought-early zones w event (moment local) s in
+          let day = kept-calendar clocks event local sound.start own in
+          let near = instant-near zones (time_at event.start local) in
+          let at = written-at event.start.stamp local in
+          let first = kept-first clocks event sound.start local own in
+          let asked : int_max (local_seconds (local_of event.start.stamp)) (first_asked clocks w event since by_rdates -ℤ whole_days 6)
+          ≤ℤ local_seconds local = omega (arith, ints, int_max_is, int_min_is, sought-late zones w event (moment local) s, late, first, near.1, at.0) in
+          let from : number r.from ≤ number local = omega (arith, ints, r.low, asked, number-seconds r.from r.day, number-seconds local day) in
+          let below : number local < rules_end = omega (arith, ints, early, near.0, at.1, number-seconds local day, w.not_late) in
+          let parts = ruled-kept clocks event r.rule r.has local own in
+          let there : gives clocks event r.rule w (number local) ≡ true =
+          gives-kept clocks event r.rule w local day parts.0
+          ∙ and_from (lets_until r.rule (number local) (moment local)) (int_lt (moment local) w.to) parts.1 (true_int_lt (moment local) w.to early) in
+          rw r.gives (rw (numbered-number local day) at (found-has r.rule (number r.from) (number local) from below there))
+
+      with-ruled : (listed : List Start) → Rises moment_cmp starts → AreFirsts by_rdates listed → HasSought (union moment_cmp starts listed)
+      with-ruled listed rises firsts (Kept local) given g s late =
+          rw g.1 (has-union starts listed (Kept local) (moment local) rises (ruled local g.0 (rw g.1 at s) (rw g.1 at late)))
+      with-ruled listed rises firsts (Listed place) given g s late =
+          union-has starts listed (Listed place) (instant clocks (time_of given))
+          (λ x m. let f = found-is zones event r.rule w (number r.from) x (subst (IsIn x) r.gives m) in rw f.is tt)
+          (firsts.all (start_by clocks (Listed place) given)
+          (⊎_elim
+          (λ e. let f : Listed place ≡ Kept (local_of event.start.stamp) = ap (λ (x : Start). x.source) e in absurd cc)
+          (λ m. m)
+          (listed-there zones w event place given g (sought-early zones w event (instant clocks (time_of given)) s))))
+
+    -- Both kinds together.
+    abbrev apart : List Start
+    apart = listed_apart clocks w event event.rule
+
+    -- where the rule gives starts, the ones that are known from the first are those by RDATEs
+    apart-is : {listed starts : List Start} → IsRuleFrom clocks event w since listed starts → apart ≡ by_rdates
+    apart-is r = by event.rule refl
+      where
+        by : (parts : Option RuleParts) → event.rule ≡ parts → listed_apart clocks w event parts ≡ by_rdates
+        by None e = let f : None ≡ Some r.rule = ap (option_map (recurrence_by event.start.stamp)) (sym e) ∙ r.has in absurd cc
+        by (Some parts) e = refl
+
+    by-rdates : {starts : List Start} → IsRuleFrom clocks event w since apart starts → IsRuleFrom clocks event w since by_rdates starts
+    by-rdates {starts = starts} r = subst (λ xs. IsRuleFrom clocks event w since xs starts) (apart-is r) r
+
+    module _ (listed : List Start) (firsts : AreFirsts apart listed) where
+      known-left : (o : Option RuleStarts) → IsRuled clocks event w since apart o → AreKnown clocks event w (union moment_cmp (rule_left o) listed)
+      known-left None r s m = known-apart event.rule s refl (firsts.are s m)
+      known-left (Some starts) r s m =
+          ⊎_elim (known-ruled since apart (starts_left starts) s r)
+          (λ n. known-apart event.rule s refl (firsts.are s n.1))
+          (union-in moment_cmp moment_total s (starts_left starts) listed firsts.rises m)
+
+      all-by : (o : Option RuleStarts) → IsRuled clocks event w since apart o → HasSought (union moment_cmp (rule_left o) listed)
+      all-by None r = λ source given g s late. firsts.all (start_by clocks source given) (rw r (none-else zones w event r source given g s))
+      all-by (Some starts) r =
+          with-ruled (starts_left starts) (by-rdates r) listed (rises-rule (Some starts)) (subst (λ xs. AreFirsts xs listed) (apart-is r) firsts)
+
+      starts-since : (o : Option RuleStarts) → IsRuled clocks event w since apart o →
+          AreStartsSince clocks event w since (union moment_cmp (rule_left o) listed)
+      starts-since o r = record {
+        rises = rises-union moment_cmp moment_total (rule_left o) listed firsts.rises;
+        are = λ s m. known-start zones w event s sound (known-left o r s m);
+        all = all-by o r;
+      }
+
+    -- Where an occurrence begins at the instant of a local that DTSTART has or the rule keeps, the rule has a start there.
+    has-ruled : (o : Option RuleStarts) (overridden : List ℤ) (coming : List Entry) → IsRuled clocks event w since apart o
+        → IsListing entry_cmp (IsSeriesMet clocks event w since overridden) coming → HasRuled clocks event o coming
+    has-ruled None overridden coming r l = tt
+    has-ruled (Some starts) overridden coming r l = λ o m local k.
+        let met = (l.exact o).0 m in
+        let of = met.0.0.lasts in
+        let is : o ≡ entry_from clocks event of.given =
+        same-entry o (entry_from clocks event of.given) of.starts of.ends (met.0.0.recurrence ∙ of.starts) met.0.0.event in
+        let sought : IsSought clocks event w o.start =
+        record { source = of.source; given = of.given; gives = of.gives; starts = sym of.starts; meets = subst (Meets w) is met.0.1 } in
+        let has = ruled (starts_left starts) (by-rdates r) local k.0 (rw (← k.1) at sought) (rw (← k.1) at met.1.0) in
+        in-moment has.start o.start (starts_left starts) (has.same ∙ k.1) has.stands
 
 pub starts_by_rule-rule_starts-requires-clause-listed : goal.starts_by_rule-rule_starts-requires-clause-listed
 starts_by_rule-rule_starts-requires-clause-listed c =
