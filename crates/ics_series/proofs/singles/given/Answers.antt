@@ -1,4 +1,4 @@
-use Rattle.std.proofs.Common.{◌∙◌, None, Some, map, ap, sym, if◌then◌else◌, option_map}
+use Rattle.std.proofs.Common.{◌∙◌, None, Some, map, ap, sym, option_map}
 use Rattle.ics_event.specs.Event.{said_by}
 use Rattle.ics_series.specs.Clocks.{display_clock}
 use Rattle.ics_series.specs.Entry.{key_rank}
