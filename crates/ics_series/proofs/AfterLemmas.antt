@@ -1,16 +1,10 @@
 -- What a listing goes on with after a key, and from which instant on the occurrences of a master come after one.
-use Rattle.std.proofs.Common.{◌≡◌, List, [], ◌∷◌, ◌++◌, Option, Some, None, inl, inr, ⊎_elim, refl, sym, ◌∙◌, ap, ◌<ℤ◌, ℕ, w64, ℤ, pos, ◌+ℤ◌}
-use Rattle.std.proofs.Common.{false, arith}
-use Rattle.std.specs.List.{filter}
-use Rattle.std.specs.Ordering.{is_lt, int_cmp, nat_cmp, ordering_reverse, ordering_then, MatchOrdering}
-use Rattle.std.specs.declared.cmp.Ordering.TheVariants.{Less, Equal, Greater}
-use Rattle.std.specs.Prelude.{◌≤ℤ◌, int_le, neg_ℤ}
-use mir.Val.{SFits}
+use Rattle.std.proofs.Common.{◌≡◌, List, [], ◌∷◌, ◌++◌, Option, Some, None, inl, inr, ⊎_elim, refl, sym, ◌∙◌, ap, ◌<ℤ◌, ℕ, w64, ℤ, pos, ◌+ℤ◌, false, arith}
+use Rattle.std.proofs.Common.{filter, is_lt, int_cmp, nat_cmp, Less, Equal, Greater, ◌≤ℤ◌, int_le, neg_ℤ, SFits, Ordering}
+use Rattle.std.specs.Ordering.{ordering_reverse, ordering_then, MatchOrdering}
 use Rattle.std.specs.Cmp.{int_ranks}
 use Rattle.std.specs.Cmp.Lexicographic.{slice_cmp}
 use Rattle.std.specs.Int.{saturate_signed}
-use Rattle.std.specs.declared.cmp.Ordering.{Ordering}
-use Rattle.std.proofs.lemmas.Cmp.{int_cmp_total, nat_list_cmp_total}
 use Rattle.std.proofs.lemmas.Int.{ints}
 use Rattle.ics_event.specs.Event.{FileSaid}
 use Rattle.ics_series.specs.declared.window.Window.{Window}
@@ -25,6 +19,7 @@ use Rattle.ics_series.proofs.PickLemmas.{listing-filter}
 use Rattle.ics_series.proofs.ListingLemmas.{after-in, before-in, one-listing, rises-end}
 use Rattle.ics_series.proofs.PlacedLemmas.{in-append_right}
 use Rattle.ics_series.proofs.ToComeLemmas.{lt-Less}
+use Rattle.ics_series.proofs.VersionLemmas.{subject_total}
 
 module _ (files : List FileSaid) (display : Clock) (w : Window) where
   pub listing-after : (key : Rank) (xs ys : List Entry) → IsListing entry_cmp (IsListed files display w) xs →
@@ -53,11 +48,6 @@ module _ (files : List FileSaid) (display : Clock) (w : Window) where
         );
       })
 
--- the answers turned round
-then-turned : (a b : Ordering) → ordering_then (ordering_reverse a) (ordering_reverse b) ≡ ordering_reverse (ordering_then a b)
-then-turned Less b = refl
-then-turned _ b = refl
-
 -- what decides between a key and an occurrence of one start
 abbrev rest : Rank → Entry → Ordering
 rest key o = ordering_then (slice_cmp nat_cmp key.uid o.event.uid) (int_cmp key.recurrence o.recurrence)
@@ -70,8 +60,7 @@ rest-turned : (key : Rank) (uid : List ℕ) (o : Entry) → o.event.uid ≡ uid 
     rest key o ≡ ordering_reverse (turned key uid)
 rest-turned key uid o u r s =
     (λ i. ordering_then (slice_cmp nat_cmp key.uid (u i)) (int_cmp key.recurrence ((r ∙ sym s) i)))
-    ∙ ((λ i. ordering_then (nat_list_cmp_total.antisymm key.uid uid i) (int_cmp_total.antisymm key.recurrence key.start i))
-    ∙ then-turned (slice_cmp nat_cmp uid key.uid) (int_cmp key.start key.recurrence))
+    ∙ subject_total.antisymm (record { uid = key.uid; recurrence = Some key.recurrence }) (record { uid = uid; recurrence = Some key.start })
 
 -- by the starts, and at one start by the rest
 by-start : (a b : ℤ) (c r : Ordering) → MatchOrdering c (a <ℤ b) (a ≡ b) (b <ℤ a) → (a ≡ b → r ≡ Less) → is_lt (ordering_then c r) ≡ int_le a b

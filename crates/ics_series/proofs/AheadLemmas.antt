@@ -1,9 +1,6 @@
 -- What is still to come of a listing under each day: from day to day, and from its beginning.
-use Rattle.std.specs.Prelude.{◌<ℤ◌, ◌≤ℤ◌, ◌&&◌, ◌||◌, int_lt, unsigned_abs, Result, Ok, Err, OnErr}
-use Rattle.std.specs.List.{filter}
-use Rattle.std.specs.Ordering.{int_eq}
-use Rattle.std.proofs.Common.{◌≡◌, ℕ, zero, suc, ℤ, pos, ◌+ℤ◌, ◌-ℤ◌, List, [], ◌∷◌, ◌++◌, Option, ◌⊎◌, inl, inr, ⊎_elim, Bool, true, false}
-use Rattle.std.proofs.Common.{None, refl, sym, ◌∙◌, ap, subst, arith}
+use Rattle.std.proofs.Common.{◌≡◌, ℕ, zero, suc, ℤ, pos, ◌+ℤ◌, ◌-ℤ◌, List, [], ◌∷◌, ◌++◌, Option, ◌⊎◌, inl, inr, ⊎_elim, Bool, true, false, None, refl}
+use Rattle.std.proofs.Common.{sym, ◌∙◌, ap, subst, arith, ◌<ℤ◌, ◌≤ℤ◌, ◌&&◌, ◌||◌, int_lt, unsigned_abs, Result, Ok, Err, OnErr, filter, int_eq}
 use Rattle.std.proofs.lemmas.Int.{ints}
 use Rattle.ics_event.specs.Event.{FileSaid}
 use Rattle.ics_zone.specs.Seconds.{IsNear}
@@ -19,7 +16,7 @@ use Rattle.ics_series.specs.Listing.{IsListing}
 use Rattle.ics_series.specs.Meets.{IsListed, IsToCome, Meets}
 use Rattle.ics_series.specs.Sources.{Source}
 use Rattle.ics_series.proofs.PickLemmas.{listing-filter}
-use Rattle.ics_series.proofs.ListingLemmas.{one-listing}
+use Rattle.ics_series.proofs.ListingLemmas.{one-listing, relisted}
 use Rattle.ics_series.proofs.NearDayLemmas.{meets-near, near-first, near-last, occurs-forward}
 use Rattle.ics_series.proofs.OnDayLemmas.{day-first, joined, none-listed, on_day_total, shown-today, today-listing, today-shown}
 use Rattle.ics_series.proofs.ToComeLemmas.{after-come, come-after, come-listed}
@@ -138,16 +135,8 @@ module _ (files : List FileSaid) (display : Clock) (near : (t : ℤ) → IsNear 
     all-shown : (xs : List Entry) → IsListing entry_cmp (IsListed files display w) xs →
         (list : List OnDay) × IsListing on_day_cmp (IsOnDay files display w) list
     all-shown xs l =
-        let all = later-than xs l (first_near w -ℤ pos 1) in (
-          all.0,
-          record {
-            rises = all.1.rises;
-            exact = λ p. (
-              λ m. ((all.1.exact p).0 m).shown,
-              λ s. (all.1.exact p).1 (record { shown = s; later = let first = shown-first p s in omega (arith, ints, first) }),
-            );
-          },
-        )
+        let all = later-than xs l (first_near w -ℤ pos 1) in
+        (all.0, relisted all.1 (λ p m. m.shown) (λ p s. let first = shown-first p s in record { shown = s; later = omega (arith, ints, first) }))
 
     pub begun-ahead : (xs coming : List Entry) (sources : List Source) → IsListing entry_cmp (IsListed files display w) xs
         → IsNearAgenda files display w day key coming sources ⊎ IsPastAgenda w day coming sources

@@ -1,55 +1,41 @@
--- The starts of a rule that are held are no more than the event has in five UTC days.
-use Rattle.std.specs.Prelude.{◌<ℤ◌, ◌≤ℤ◌, int_le, int_lt, unsigned_abs}
-use Rattle.std.proofs.Common.{◌≡◌, ℕ, zero, suc, ◌<◌, ◌≤◌, ℤ, pos, neg_ℤ, ◌+ℤ◌, ◌-ℤ◌, List, [], ◌∷◌, length, Some, inl, inr, ⊎_elim, refl}
-use Rattle.std.proofs.Common.{sym, ◌∙◌, ap, subst, arith}
+-- The starts of a rule that are held are no more than the event has in five UTC days. The greatest number that it has in five days is that of
+-- five days, and no five have more.
+use Rattle.std.proofs.Common.{◌≡◌, ℕ, zero, suc, ◌<◌, ◌≤◌, ℤ, pos, neg_ℤ, ◌+ℤ◌, ◌-ℤ◌, List, [], ◌∷◌, length, Some, inl, inr, ⊎_elim, refl, sym, ◌∙◌, ap}
+use Rattle.std.proofs.Common.{subst, arith, max, ◌⊎◌, ◌<ℤ◌, ◌≤ℤ◌, int_le, int_lt, unsigned_abs, All, sum_by, Ordering}
 use Rattle.std.specs.Cmp.{IsTotalOrder}
-use Rattle.std.specs.declared.cmp.Ordering.{Ordering}
 use Rattle.std.proofs.lemmas.Int.{ints}
 use Rattle.std.proofs.lemmas.Bool.{and_from}
 use Rattle.ics_fields.specs.Locals.{midnight}
 use Rattle.ics_rule.specs.Recurrence.{Recurrence}
-use Rattle.ics_event.specs.Event.{IsTime}
+use Rattle.ics_event.specs.Event.{IsTime, IsRdate}
 use Rattle.ics_event.specs.declared.event.Event.{Event}
 use Rattle.ics_event.specs.declared.time.Rdate.TheVariants.{At}
-use Rattle.ics_zone.proofs.Cases.{true_int_lt, true_int_le}
+use Rattle.ics_zone.proofs.Cases.{true_int_lt, true_int_le, int_lt_true, int_le_true}
 use Rattle.ics_series.specs.declared.start.Start.{Start}
 use Rattle.ics_series.specs.declared.window.Window.{Window}
 use Rattle.ics_series.specs.declared.zones.FileZones.{FileZones}
-use Rattle.ics_series.specs.Clocks.{Clocks}
-use Rattle.ics_series.specs.Found.{moment_cmp, start_at}
+use Rattle.ics_series.specs.Clocks.{Clocks, instant}
+use Rattle.ics_series.specs.Found.{moment_cmp, start_at, source_cmp}
 use Rattle.ics_series.specs.HeldMost.{greatest, is_within_days, most_in_days, raw_in, IsRaw}
-use Rattle.ics_series.specs.Listing.{IsIn}
+use Rattle.ics_series.specs.Listing.{IsIn, IsListing}
 use Rattle.ics_series.specs.Rising.{Rises}
 use Rattle.ics_series.specs.RuleStarts.{local_numbered, moment_numbered, number_in, AreHeld, IsHeld}
-use Rattle.ics_series.specs.Starts.{recurrence_of, time_at}
+use Rattle.ics_series.specs.Starts.{recurrence_of, time_at, time_of}
 use Rattle.ics_series.specs.FileZones.{clocks_in}
 use Rattle.ics_series.proofs.Cases.{below-or-last}
 use Rattle.ics_series.proofs.FirstLemmas.{moment_total}
-use Rattle.ics_series.proofs.ListingLemmas.{before-in, not-less-itself}
+use Rattle.ics_series.proofs.ListingLemmas.{before-in, not-less-itself, sums-within}
 use Rattle.ics_series.proofs.RawLemmas.{numbered-raw, raw-counted}
 use Rattle.ics_series.proofs.RuleDayLemmas.{given-parts, in-rules}
+use Rattle.ics_rule.proofs.KeptLemmas.{and_true}
+use Rattle.ics_series.specs.declared.start.StartSource.{StartSource}
+use Rattle.ics_series.proofs.InstantLemmas.{early, late}
+use Rattle.ics_series.proofs.StartSourceLemmas.{gives-value, rdate-time}
+use Rattle.std.proofs.lemmas.List.Sums.{sum_by-cons}
 
--- without one of its members a list holds all others
-without : {A : Type 0} (x : A) (ys : List A) → IsIn x ys →
-    (zs : List A) × (length ys ≡ suc (length zs)) × ((y : A) → IsIn y ys → (y ≡ x → ⊥) → IsIn y zs)
-without x [] m = absurd m
-without x (y ∷ ys) m =
-    ⊎_elim
-    (λ e. (ys, refl, λ z n other. ⊎_elim (λ s. absurd (other (s ∙ sym e))) (λ k. k) n))
-    (λ k. let rest = without x ys k in (y ∷ rest.0, omega (arith, rest.1), λ z n other. ⊎_elim inl (λ j. inr (rest.2 z j other)) n))
-    m
-
--- a rising list, each of whose members is told by one of another list, is no longer than that
-module _ {A B : Type 0} (R : A → A → Ordering) (o : IsTotalOrder R) (f : A → B) (g : B → A) where
-  few : (xs : List A) (ys : List B) → Rises R xs → ((x : A) → IsIn x xs → IsIn (f x) ys × (x ≡ g (f x))) → length xs ≤ length ys
-  few [] ys r h = omega arith
-  few (x ∷ xs) ys r h =
-      let own = h x (inl refl) in
-      let rest = without (f x) ys own.0 in
-      let less = few xs rest.0 r.1 (λ y m.
-      let k = h y (inr m) in
-      (rest.2 (f y) k.0 (λ e. not-less-itself R o x (ap (R x) (own.1 ∙ (ap g (sym e) ∙ sym k.1)) ∙ before-in R o x y xs r.0 m)), k.1)) in
-      omega (arith, less, rest.1)
+ones : {A : Type 0} (xs : List A) → sum_by (λ x. 1) xs ≡ length xs
+ones [] = omega arith
+ones (x ∷ xs) = omega (arith, sum_by-cons (λ y. 1) x xs, ones xs)
 
 greatest-most : (n k : ℕ) (f : ℕ → ℕ) → k < n → f k ≤ greatest n f
 unfolding greatest
@@ -90,7 +76,48 @@ module _ (zones : FileZones) (event : Event) (rule : Recurrence) (w : Window) (t
       → AreHeld (clocks_in zones) event rule w asked starts → length starts ≤ most_in_days (clocks_in zones) event
   held-in-days {asked = asked} starts low high r are =
       let all = raw-counted (clocks_in zones) event (asked -ℤ pos 3) time in
-      let those = few moment_cmp moment_total (λ s. s.source) (λ g. start_at (clocks_in zones) event (local_numbered (number_in g))) starts all.0 r
-      (λ s m. ((all.1.exact s.source).1 (held-raw asked s (are s m)), (are s m).by)) in
+      let those = sums-within moment_cmp moment_total (λ s. s.source) (λ g. start_at (clocks_in zones) event (local_numbered (number_in g))) (λ g. 1) starts
+      all.0 r (λ s m. ((all.1.exact s.source).1 (held-raw asked s (are s m)), (are s m).by)) in
       let in_any = days-most (clocks_in zones) event (asked -ℤ pos 3) (omega (arith, ints, low)) (omega (arith, ints, high)) in
-      omega (arith, those, all.2, in_any)
+      omega (arith, those, ones starts, ones all.0, all.2, in_any)
+
+-- The greatest number is one of them.
+greatest-given : (n : ℕ) (f : ℕ → ℕ) → (at : ℕ) × (greatest (suc n) f ≡ f at)
+unfolding greatest
+greatest-given zero f = (0, omega arith)
+greatest-given (suc n) f =
+    let rest = greatest-given n f in
+    ⊎_elim (λ e. (suc n, e)) (λ e. (rest.0, e ∙ rest.1)) (sides (greatest (suc n) f) (f (suc n)))
+  where
+    sides : (a b : ℕ) → (max a b ≡ b) ⊎ (max a b ≡ a)
+    sides a b = grind arith
+
+-- five days that have as many as any
+most-of-days : (clocks : Clocks) (event : Event) → (day : ℤ) × (most_in_days clocks event ≡ raw_in clocks event day)
+unfolding most_in_days
+most-of-days clocks event = let given = greatest-given 3_652_432 (λ k. raw_in clocks event (pos k -ℤ pos 719_534)) in (pos given.0 -ℤ pos 719_534, given.1)
+
+-- no five days have more than the greatest number: what has a start has a time of the calendar
+most-in-any : (zones : FileZones) (event : Event) → IsTime event.start → All IsRdate event.rdates → (day : ℤ) →
+    raw_in (clocks_in zones) event day ≤ most_in_days (clocks_in zones) event
+most-in-any zones event first rdates day = let all = raw-counted (clocks_in zones) event day first in by all.0 all.1 all.2
+  where
+    by : (sources : List StartSource) → IsListing source_cmp (IsRaw (clocks_in zones) event day) sources → length sources ≡ raw_in (clocks_in zones) event day →
+        raw_in (clocks_in zones) event day ≤ most_in_days (clocks_in zones) event
+    by [] l e = omega (arith, e)
+    by (g ∷ gs) l e =
+        let raw = (l.exact g).0 (inl refl) in
+        let time = rdate-time raw.0 (gives-value (clocks_in zones) event g raw.0 first rdates raw.1) in
+        let t = instant (clocks_in zones) (time_of raw.0) in
+        let within = and_true {a = int_le (midnight day) t} raw.2 in
+        let from = int_le_true (midnight day) t within.0 in
+        let to = int_lt_true t (midnight (day +ℤ pos 5)) within.1 in
+        let soon = early zones (time_of raw.0) time in
+        let past = late zones (time_of raw.0) time in
+        days-most (clocks_in zones) event day (omega (arith, ints, to, past)) (omega (arith, ints, from, soon))
+
+-- so that it is the greatest
+pub most-in-days : (zones : FileZones) (event : Event) → IsTime event.start → All IsRdate event.rdates
+    → ((day : ℤ) → raw_in (clocks_in zones) event day ≤ most_in_days (clocks_in zones) event) × (day : ℤ)
+    × (most_in_days (clocks_in zones) event ≡ raw_in (clocks_in zones) event day)
+most-in-days zones event first all = let some = most-of-days (clocks_in zones) event in (most-in-any zones event first all, some.0, some.1)

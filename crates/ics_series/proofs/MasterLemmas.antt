@@ -1,12 +1,9 @@
 -- One version of a subject counts, and an event has one occurrence at most with a start.
-use Rattle.std.proofs.Common.{◌≡◌, List, refl, sym, ◌∙◌, ap}
-use Rattle.std.specs.Prelude.{slice_get}
+use Rattle.std.proofs.Common.{◌≡◌, List, refl, sym, ◌∙◌, ap, slice_get, nat_cmp, Ordering, Less, Equal, Greater}
 use Rattle.std.specs.Cmp.{IsTotalOrder}
-use Rattle.std.specs.Ordering.{nat_cmp, ordering_reverse, ordering_then}
+use Rattle.std.specs.Ordering.{ordering_reverse, ordering_then}
 use Rattle.std.proofs.lemmas.Cmp.{nat_cmp_total, on_total, then_total}
 use Rattle.std.proofs.lemmas.Map.Lookups.{exact_unsigned}
-use Rattle.std.specs.declared.cmp.Ordering.{Ordering}
-use Rattle.std.specs.declared.cmp.Ordering.TheVariants.{Less, Equal, Greater}
 use Rattle.ics_event.specs.Event.{FileSaid}
 use Rattle.ics_series.specs.Chosen.{subject_of, IsChosen}
 use Rattle.ics_series.specs.Clocks.{Clock}

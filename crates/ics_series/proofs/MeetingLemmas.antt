@@ -1,6 +1,5 @@
 -- Whether an occurrence meets a window, by the test.
-use Rattle.std.specs.Prelude.{◌<ℤ◌, ◌≤ℤ◌, int_le}
-use Rattle.std.proofs.Common.{◌≡◌, ℤ, ◌⊎◌, inl, inr, ⊎_elim, true, false, not, ap, arith}
+use Rattle.std.proofs.Common.{◌≡◌, ℤ, ◌⊎◌, inl, inr, ⊎_elim, true, false, not, ap, arith, ◌<ℤ◌, ◌≤ℤ◌, int_le}
 use Rattle.std.proofs.lemmas.Int.{ints}
 use Rattle.std.proofs.lemmas.Bool.{and_parts, and_from}
 use Rattle.ics_event.specs.declared.event.Event.{Event}

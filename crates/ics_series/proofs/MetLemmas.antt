@@ -1,12 +1,9 @@
 -- The occurrences of one event that meet a window.
-use Rattle.std.specs.Prelude.{◌&&◌, not, if◌then◌else◌}
-use Rattle.std.proofs.Common.{◌≡◌, ℤ, List, [], ◌∷◌, Option, Some, None, ⊎_elim, Bool, true, refl, sym, ◌∙◌, ap, subst, arith}
+use Rattle.std.proofs.Common.{◌≡◌, ℤ, List, [], ◌∷◌, Option, Some, None, ⊎_elim, Bool, true, refl, sym, ◌∙◌, ap, subst, arith, ◌&&◌, not, if◌then◌else◌}
+use Rattle.std.proofs.Common.{Equal, int_cmp}
 use Rattle.std.specs.List.{filter_map}
 use Rattle.std.proofs.lemmas.Bool.{cond_both}
-use Rattle.std.proofs.lemmas.Cmp.{tied_back}
 use Rattle.std.proofs.lemmas.Option.{cond_some}
-use Rattle.std.specs.declared.cmp.Ordering.TheVariants.{Equal}
-use Rattle.std.specs.Ordering.{int_cmp}
 use Rattle.ics_event.specs.declared.event.Event.{Event}
 use Rattle.ics_event.specs.declared.time.Rdate.{Rdate}
 use Rattle.ics_series.specs.declared.start.StartSource.{StartSource}
@@ -24,7 +21,7 @@ use Rattle.ics_series.specs.Starts.{time_of, GivesStart, IsNotAfter}
 use Rattle.ics_series.proofs.PickLemmas.{picked as picked-from, listing-picked as picked-listing, KeepsOrder}
 use Rattle.ics_series.proofs.FirstLemmas.{moment_total, same-moment}
 use Rattle.ics_series.proofs.StartSourceLemmas.{same-given, same-source}
-use Rattle.ics_series.proofs.ListingLemmas.{before-in}
+use Rattle.ics_series.proofs.ListingLemmas.{one-of-tied}
 use Rattle.ics_series.proofs.MasterLemmas.{same-entry}
 use Rattle.ics_series.proofs.MeetingLemmas.{shown-met}
 use Rattle.ics_series.proofs.GivenLemmas.{entry_start_cmp}
@@ -47,19 +44,6 @@ module _ (clocks : Clocks) (w : Window) (event : Event) (s : Start) where
 -- those of the occurrences with these starts that pass a test
 abbrev pub picked : Clocks → Event → (Entry → Bool) → List Start → List Entry
 picked clocks event test starts = filter_map (λ s. if test (entry_from clocks event s.given) then Some (entry_from clocks event s.given) else None) starts
-
--- of a strictly rising list two that tie are one
-module _ (x y : Start) (tied : moment_cmp x y ≡ Equal) where
-  one-of-tied : (xs : List Start) → Rises moment_cmp xs → IsIn x xs → IsIn y xs → x ≡ y
-  one-of-tied [] r m n = absurd m
-  one-of-tied (z ∷ zs) r m n =
-      ⊎_elim
-      (λ a. ⊎_elim (λ b. a ∙ sym b) (λ b. let less = ap (λ s. moment_cmp s y) a ∙ before-in moment_cmp moment_total z y zs r.0 b in absurd cc) n)
-      (λ a. ⊎_elim
-      (λ b. let less = tied_back moment_total x y tied in
-      let more = ap (λ s. moment_cmp s x) b ∙ before-in moment_cmp moment_total z x zs r.0 a in absurd cc)
-      (λ b. one-of-tied zs r.1 a b) n)
-      m
 
 module _ (clocks : Clocks) (event : Event) (test : Entry → Bool) where
   -- the occurrence with a start, which is picked if it passes
@@ -96,7 +80,7 @@ module _ (clocks : Clocks) (event : Event) (test : Entry → Bool) where
       → ((s : Start) → IsIn s ss → test (entry_from clocks event s.given) ≡ true → P (entry_from clocks event s.given)) → ((e : Entry) → P e → IsPicked ss e)
       → IsListing entry_start_cmp P (picked clocks event test ss)
   listing-picked P ss r o f g =
-      picked-listing pick moment_cmp moment_total entry_start_cmp (λ s. IsIn s ss) (picks-keep ss o) P ss
+      picked-listing pick moment_cmp entry_start_cmp (λ s. IsIn s ss) (picks-keep ss o) P ss
       (record { rises = r; exact = λ s. (λ m. m, λ m. m) })
       (λ s e m q. let is = pick-is s e q in subst P (sym is.0) (f s m (ap test (sym is.0) ∙ is.1)))
       (λ e p.
@@ -130,8 +114,8 @@ module _ (clocks : Clocks) (w : Window) (event : Event) (starts : List Start) (C
             starts = refl;
             earliest = λ other value g e.
                 let found = all other value g (subst (IsSought clocks event w) (sym e) sought) (subst Counts (sym e) counts) in
-                let same : found.start ≡ s = one-of-tied found.start s (same-moment found.start s (found.same ∙ (e ∙ sym start.moment))) starts rises
-                found.stands m in
+                let same : found.start ≡ s = one-of-tied moment_cmp moment_total starts
+                (same-moment found.start s (found.same ∙ (e ∙ sym start.moment))) rises found.stands m in
                 subst (λ x. IsNotAfter x.source other) same found.earlier;
             ends = refl;
             stays = shown.1;

@@ -1,12 +1,10 @@
 -- Files that stand among others, with which they share no UID, have the occurrences there that they have alone.
-use Rattle.std.specs.Prelude.{ℤ, zero, suc, slice_get}
-use Rattle.std.proofs.Common.{◌≡◌, ℕ, ◌+◌, List, [], ◌∷◌, ◌++◌, length, Some, None, ◌⊎◌, inl, inr, ⊎_elim, refl, sym, ◌∙◌, ap, subst, arith}
-use Rattle.std.specs.Ordering.{nat_cmp, ordering_then}
+use Rattle.std.proofs.Common.{◌≡◌, ℕ, ◌+◌, List, [], ◌∷◌, ◌++◌, length, Some, None, ◌⊎◌, inl, inr, ⊎_elim, refl, sym, ◌∙◌, ap, subst, arith, ℤ, zero, suc}
+use Rattle.std.proofs.Common.{slice_get, nat_cmp, Ordering, Equal}
+use Rattle.std.specs.Ordering.{ordering_then}
 use Rattle.std.proofs.lemmas.Cmp.{nat_cmp_total, tied_itself}
 use Rattle.std.proofs.lemmas.Bool.Decides.{nat_tests}
 use Rattle.std.proofs.lemmas.Map.Lookups.{exact_unsigned}
-use Rattle.std.specs.declared.cmp.Ordering.{Ordering}
-use Rattle.std.specs.declared.cmp.Ordering.TheVariants.{Equal}
 use Rattle.ics_event.specs.Event.{FileSaid}
 use Rattle.ics_event.specs.declared.event.Event.{Event}
 use Rattle.ics_series.specs.Chosen.{subject_by, subject_of, IsChosen, IsOverride, IsOverridden, SubjectSeen}
@@ -38,12 +36,16 @@ record IsSame (files others : List FileSaid) (display : Clock) (p x : Placed) : 
   clocks : clocks_at files display p.file ≡ clocks_at others display x.file
   event : p.event ≡ x.event
 
+-- an event that the other is matched with
+abbrev HasMatch : (Placed → Placed → Type 0) → Placed → Type 0
+HasMatch R q = (y : Placed) × R q y
+
 -- Events of files and of others that are the same: on both sides each event with the UID of one of them is one of them.
 record IsMatch (files others : List FileSaid) (display : Clock) (R : Placed → Placed → Type 0) : Type 0 where
   same : (p x : Placed) → R p x → IsSame files others display p x
-  orders : (p q x y : Placed) → R p x → R q y → subject_of files display p ≡ subject_of files display q → placed_cmp p q ≡ placed_cmp x y
-  there : (p q x : Placed) → R p x → IsPlaced files q → q.event.uid ≡ p.event.uid → (y : Placed) × R q y
-  here : (p x y : Placed) → R p x → IsPlaced others y → y.event.uid ≡ x.event.uid → (q : Placed) × R q y
+  orders : (p q x y : Placed) → R p x × R q y → subject_of files display p ≡ subject_of files display q → placed_cmp p q ≡ placed_cmp x y
+  there : (p q x : Placed) → R p x → IsPlaced files q → q.event.uid ≡ p.event.uid → HasMatch R q
+  here : (p x y : Placed) → R p x → IsPlaced others y → y.event.uid ≡ x.event.uid → HasMatch (λ z q. R q z) y
 
 -- what gives an occurrence
 abbrev giver : (files : List FileSaid) (display : Clock) (o : Entry) → Occurs files display o → Placed
@@ -61,7 +63,7 @@ module _ {files others : List FileSaid} {display : Clock} {R : Placed → Placed
   turned : IsMatch others files display (λ x p. R p x)
   turned = record {
     same = λ x p r. let s = m.same p x r in record { placed = s.there; there = s.placed; clocks = sym s.clocks; event = sym s.event };
-    orders = λ x y p q r s u. sym (m.orders p q x y r s (same-subject p x r ∙ u ∙ sym (same-subject q y s)));
+    orders = λ x y p q r u. sym (m.orders p q x y r (same-subject p x r.0 ∙ u ∙ sym (same-subject q y r.1)));
     there = λ x y p r k e. m.here p x y r k e;
     here = λ x p q r k e. m.there p q x r k e;
   }
@@ -72,7 +74,7 @@ module _ {files others : List FileSaid} {display : Clock} {R : Placed → Placed
     greatest = λ y k u l.
         let q = m.here p x y r k (ap (λ (s : SubjectSeen). s.uid) u) in
         let same = same-subject q.0 y q.1 ∙ u ∙ sym (same-subject p x r) in
-        h.greatest q.0 (m.same q.0 y q.1).placed same (m.orders p q.0 x y r q.1 (sym same) ∙ l);
+        h.greatest q.0 (m.same q.0 y q.1).placed same (m.orders p q.0 x y (r, q.1) (sym same) ∙ l);
   }
 
   override-there : (p x : Placed) (t : ℤ) → R p x → IsOverride files display p t → IsOverride others display x t
@@ -81,8 +83,8 @@ module _ {files others : List FileSaid} {display : Clock} {R : Placed → Placed
     of = ap (λ (s : SubjectSeen). s.recurrence) (sym (same-subject p x r)) ∙ h.of;
   }
 
-  overridden-there : (p x : Placed) (uid : List ℕ) (t : ℤ) → R p x → uid ≡ p.event.uid → IsOverridden files display uid t → IsOverridden others display uid t
-  overridden-there p x uid t r e h =
+  overridden-there : (p x : Placed) {uid : List ℕ} (t : ℤ) → R p x → uid ≡ p.event.uid → IsOverridden files display uid t → IsOverridden others display uid t
+  overridden-there p x t r e h =
       let y = m.there p h.by x r h.is.chosen.placed (h.same ∙ e) in
       record { by = y.0; is = override-there h.by y.0 t y.1 h.is; same = ap (λ (s : SubjectSeen). s.uid) (sym (same-subject h.by y.0 y.1)) ∙ h.same }
 
@@ -95,7 +97,7 @@ occurs-there m o (inl h) x r =
       master = x;
       is = record { chosen = chosen-there m h.master x r h.is.chosen; single = ap (λ (e : Event). e.recurrence) (sym s.event) ∙ h.is.single };
       of = rw (s.clocks, s.event) at h.of;
-      kept = λ k. h.kept (overridden-there (turned m) x h.master o.event.uid o.recurrence r (ap (λ (e : Event). e.uid) (h.of.event ∙ s.event)) k);
+      kept = λ k. h.kept (overridden-there (turned m) x h.master o.recurrence r (ap (λ (e : Event). e.uid) (h.of.event ∙ s.event)) k);
     })
 occurs-there m o (inr h) x r =
     let s = m.same h.override x r in
@@ -109,10 +111,15 @@ matched {others = others} {display = display} {to = to} m = record {
     clocks = ap (λ o. clocks_of display (zones_of o)) (r.0.within.1 ∙ sym keeps) ∙ ap (λ (q : Placed). clocks_at others display q.file) r.1;
     event = ap (λ (q : Placed). q.event) r.1;
   };
-  orders = λ p q x y r s u. m.orders p q r.0 s.0 u ∙ (λ i. placed_cmp (r.1 i) (s.1 i));
+  orders = λ p q x y r u. m.orders p q r.0.0 r.1.0 u ∙ (λ i. placed_cmp (r.0.1 i) (r.1.1 i));
   there = λ p q x r k e. (move to q, (k, refl));
   here = λ p x y r k e. m.meets p y r.0 k (e ∙ sym (ap (λ (q : Placed). q.event.uid) r.1));
 }
+
+occurs-moved : {files others : List FileSaid} {display : Clock} {to : ℕ → ℕ} → IsMove files others display to → (o : Entry) → Occurs files display o →
+    Occurs others display o
+occurs-moved {files = files} {display = display} {to = to} m o h =
+    occurs-there (matched m) o h (move to (giver files display o h)) (giver-placed files display o h, refl)
 
 module _ {A : Type 0} where
   get-left : (xs ys : List A) (k : ℕ) (x : A) → slice_get xs k ≡ Some x → slice_get (xs ++ ys) k ≡ Some x
@@ -163,30 +170,23 @@ module _ (files more : List FileSaid) (display : Clock) (apart : AreApart files 
       ⊎_elim (λ n. inl (occurs-there (turned (matched first-stay)) o h q (n, refl))) (λ s. inr (occurs-there (turned (matched others-behind)) o h s.0 s.1))
       (whose q (giver-placed (files ++ more) display o h))
 
-  occurs-both : (o : Entry) → Occurs files display o ⊎ Occurs more display o → Occurs (files ++ more) display o
-  occurs-both o (inl h) = occurs-there (matched first-stay) o h (giver files display o h) (giver-placed files display o h, refl)
-  occurs-both o (inr h) =
-      occurs-there (matched others-behind) o h (move (λ k. length files + k) (giver more display o h)) (giver-placed more display o h, refl)
-
 pub added-files : AddedFiles
 added-files files more display w apart o = (
   (λ h. ⊎_elim (λ k. inl (k, h.1)) (λ k. inr (k, h.1)) (occurs-one files more display apart o h.0)),
-  λ h. ⊎_elim (λ k. (occurs-both files more display apart o (inl k.0), k.1)) (λ k. (occurs-both files more display apart o (inr k.0), k.1)) h,
+  λ h. ⊎_elim (λ k. (occurs-moved (first-stay files more display apart) o k.0, k.1))
+      (λ k. (occurs-moved (others-behind files more display apart) o k.0, k.1)) h,
 )
 
 -- of two numbers that do not tie the rest is not asked
 by-sequence : (p q : Placed) (to : ℕ → ℕ) → (p.event.sequence ≡ q.event.sequence → p.file ≡ q.file) → placed_cmp p q ≡ placed_cmp (move to p) (move to q)
 by-sequence p q to h = by (nat_cmp p.event.sequence q.event.sequence) refl
   where
-    tied : (a b : ℕ) → a ≡ b → nat_cmp a b ≡ Equal
-    tied a b e = ap (nat_cmp a) (sym e) ∙ tied_itself nat_cmp_total a
-
     by : (c : Ordering) → nat_cmp p.event.sequence q.event.sequence ≡ c
         → ordering_then c (ordering_then (nat_cmp p.file q.file) (nat_cmp p.place q.place))
         ≡ ordering_then c (ordering_then (nat_cmp (to p.file) (to q.file)) (nat_cmp p.place q.place))
     by Equal e =
         let same = h (exact_unsigned p.event.sequence q.event.sequence e) in
-        ap (λ c. ordering_then c (nat_cmp p.place q.place)) (tied p.file q.file same ∙ sym (tied (to p.file) (to q.file) (ap to same)))
+        rw (same, tied_itself nat_cmp_total q.file, tied_itself nat_cmp_total (to q.file)) refl
     by _ e = refl
 
 module _ (files others : List FileSaid) (display : Clock) (m : AreReordered files others) where
@@ -208,9 +208,9 @@ module _ (files others : List FileSaid) (display : Clock) (m : AreReordered file
 
 pub order-of-files : OrderOfFiles
 order-of-files files others display w m apart o =
-    let by = matched (reordered-move files others display m apart) in (
-      (λ h. (occurs-there by o h.0 (move m.there (giver files display o h.0)) (giver-placed files display o h.0, refl), h.1)),
+    let by = reordered-move files others display m apart in (
+      (λ h. (occurs-moved by o h.0, h.1)),
       λ h.
           let own = own-place files others display m (giver others display o h.0) (giver-placed others display o h.0) in
-          (occurs-there (turned by) o h.0 own.0 own.1, h.1),
+          (occurs-there (turned (matched by)) o h.0 own.0 own.1, h.1),
     )

@@ -1,25 +1,22 @@
 -- A listing of those of a listing that pass a test, or of what is picked from one.
-use Rattle.std.proofs.Common.{◌≡◌, List, [], ◌∷◌, map, inl, inr, ⊎_elim, Option, Some, None, refl, sym, ◌∙◌, ap, Bool, true, false}
-use Rattle.std.specs.Cmp.{IsTotalOrder}
+use Rattle.std.proofs.Common.{◌≡◌, List, [], ◌∷◌, map, inl, inr, ⊎_elim, Option, Some, None, refl, sym, ◌∙◌, ap, Bool, true, false, filter, Ordering, Less}
 use Rattle.std.proofs.lemmas.Bool.{cond_both}
-use Rattle.std.specs.List.{cons_option, filter_map, filter}
-use Rattle.std.specs.declared.cmp.Ordering.{Ordering}
-use Rattle.std.specs.declared.cmp.Ordering.TheVariants.{Less}
+use Rattle.std.specs.List.{cons_option, filter_map}
 use Rattle.ics_series.specs.Listing.{IsIn, IsListing}
-use Rattle.ics_series.specs.Rising.{IsBefore, Rises}
+use Rattle.ics_series.specs.Rising.{Rises}
 use Rattle.ics_series.proofs.Cases.{some-same}
 use Rattle.ics_series.proofs.HeldLemmas.{before-all}
-use Rattle.ics_series.proofs.ListingLemmas.{before-in}
+use Rattle.ics_series.proofs.ListingLemmas.{before-each}
 
 module _ {A : Type 0} (test : A → Bool) where
-  filter-in : (x : A) (xs : List A) → IsIn x (filter test xs) → IsIn x xs × (test x ≡ true)
+  pub filter-in : (x : A) (xs : List A) → IsIn x (filter test xs) → IsIn x xs × (test x ≡ true)
   filter-in x [] m = absurd m
   filter-in x (y ∷ ys) m =
       cond_both (test y) (y ∷ filter test ys) (filter test ys) (λ zs. IsIn x zs → IsIn x (y ∷ ys) × (test x ≡ true))
       (λ e m. ⊎_elim (λ s. (inl s, ap test s ∙ e)) (λ n. let k = filter-in x ys n in (inr k.0, k.1)) m)
       (λ e m. let k = filter-in x ys m in (inr k.0, k.1)) m
 
-  in-filter : (x : A) (xs : List A) → test x ≡ true → IsIn x xs → IsIn x (filter test xs)
+  pub in-filter : (x : A) (xs : List A) → test x ≡ true → IsIn x xs → IsIn x (filter test xs)
   in-filter x [] t m = absurd m
   in-filter x (y ∷ ys) t m =
       cond_both (test y) (y ∷ filter test ys) (filter test ys) (IsIn x)
@@ -27,17 +24,12 @@ module _ {A : Type 0} (test : A → Bool) where
       (λ e. ⊎_elim (λ s. let f : false ≡ true = sym e ∙ (ap test (sym s) ∙ t) in absurd cc) (λ n. in-filter x ys t n) m)
 
   module _ (R : A → A → Ordering) where
-    before-filter : (x : A) (ys : List A) → IsBefore R x ys → IsBefore R x (filter test ys)
-    before-filter x [] h = tt
-    before-filter x (y ∷ ys) h =
-        let rest = before-filter x ys h.1 in
-        cond_both (test y) (y ∷ filter test ys) (filter test ys) (IsBefore R x) (λ e. (h.0, rest)) (λ e. rest)
-
     pub rises-filter : (xs : List A) → Rises R xs → Rises R (filter test xs)
     rises-filter [] h = tt
     rises-filter (x ∷ xs) h =
         let rest = rises-filter xs h.1 in
-        cond_both (test x) (x ∷ filter test xs) (filter test xs) (Rises R) (λ e. (before-filter x xs h.0, rest)) (λ e. rest)
+        cond_both (test x) (x ∷ filter test xs) (filter test xs) (Rises R)
+        (λ e. (before-all R x (filter test xs) (λ y m. before-each R x y xs h.0 (filter-in y xs m).0), rest)) (λ e. rest)
 
     pub listing-filter : (P Q : A → Type 0) (xs : List A) → IsListing R P xs → ((x : A) → P x → test x ≡ true → Q x) → ((x : A) → Q x → P x × (test x ≡ true)) →
         IsListing R Q (filter test xs)
@@ -76,7 +68,7 @@ module _ {A B : Type 0} (h : A → Option B) where
   abbrev pub KeepsOrder : (A → A → Ordering) → (B → B → Ordering) → (A → Type 0) → Type 0
   KeepsOrder R S P = (x z : A) (y v : B) → P x → P z → h x ≡ Some y → h z ≡ Some v → R x z ≡ Less → S y v ≡ Less
 
-  module _ (R : A → A → Ordering) (o : IsTotalOrder R) (S : B → B → Ordering) (P : A → Type 0) (keeps : KeepsOrder R S P) where
+  module _ (R : A → A → Ordering) (S : B → B → Ordering) (P : A → Type 0) (keeps : KeepsOrder R S P) where
     pub rises-picked : (xs : List A) → ((x : A) → IsIn x xs → P x) → Rises R xs → Rises S (filter_map h xs)
     rises-picked [] all r = tt
     rises-picked (x ∷ xs) all r = by (h x) refl (rises-picked xs (λ z m. all z (inr m)) r.1)
@@ -84,7 +76,7 @@ module _ {A B : Type 0} (h : A → Option B) where
         by : (option : Option B) → h x ≡ option → Rises S (filter_map h xs) → Rises S (cons_option option (filter_map h xs))
         by (Some y) e ih = (
           before-all S y (filter_map h xs) (λ v m. let k = picked v xs m in keeps x k.0 y v (all x (inl refl)) (all k.0 (inr k.1)) e k.2
-              (before-in R o x k.0 xs r.0 k.1)),
+              (before-each R x k.0 xs r.0 k.1)),
           ih,
         )
         by None e ih = ih

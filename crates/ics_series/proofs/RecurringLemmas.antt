@@ -138,11 +138,6 @@ not-single {files = files} {event = event} is there single r =
     let same : r.event ≡ event = some-same r.event event (sym r.stands ∙ (ap (λ (v : Version). event_at files v.spot) (sym is) ∙ there)) in
     let f : false ≡ true = sym r.recurs ∙ (ap is_single same ∙ single) in cc
 
--- a version whose event starts once has none
-pub single-none : (files : List FileSaid) (display : Clock) (w : Window) (label : Label) → (Recurs files label → ⊥) →
-    (list : List Entry) × IsListing entry_cmp (IsOfVersion files display w None label) list
-single-none files display w label n = ([], record { rises = tt; exact = λ o. (λ m. absurd m, λ h. absurd (n h.by)) })
-
 -- a version whose event recurs has a list of all its occurrences that meet the window
 pub whole-version : {files : List FileSaid} {display : Clock} {vs : List Version} {label : Label} {zones : FileZones} {instants : List ℤ}
     (chosen : AreChosen files display vs) → IsIn label (map seen vs) → (r : Recurs files label) → IsRead files display vs label r.event zones instants →

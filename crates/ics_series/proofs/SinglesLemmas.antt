@@ -1,13 +1,14 @@
 -- What an event gives at its DTSTART; what the versions that count give whose events start once, sorted by key, is their listing.
-use Rattle.std.specs.Prelude.{◌==◌, ◌&&◌, ◌||◌, not, is_none, is_some, if◌then◌else◌, int_lt}
-use Rattle.std.proofs.Common.{◌≡◌, ℤ, List, [], map, length, inl, ⊎_elim, Option, Some, None, Bool, true, false, refl, sym, ◌∙◌, ap, subst, arith}
-use Rattle.std.specs.List.{filter, filter_map, list_any}
+use Rattle.std.proofs.Common.{◌≡◌, ℤ, List, [], map, length, inl, ⊎_elim, Option, Some, None, Bool, true, false, refl, sym, ◌∙◌, ap, subst, arith, ◌==◌}
+use Rattle.std.proofs.Common.{◌&&◌, ◌||◌, not, is_none, is_some, if◌then◌else◌, int_lt, filter, option_map, int_cmp, nat_cmp, Equal}
+use Rattle.std.specs.List.{filter_map, list_any}
 use Rattle.std.specs.List.Sorted.{IsPermutation}
-use Rattle.std.specs.Option.{option_and_then, option_map}
+use Rattle.std.specs.Option.{option_and_then}
 use Rattle.std.specs.Ordering.{on, ordering_then}
 use Rattle.std.proofs.lemmas.Int.{ints}
 use Rattle.std.proofs.lemmas.List.Sorted.{IsPermutation-map}
 use Rattle.std.proofs.lemmas.Bool.{and_parts}
+use Rattle.std.proofs.lemmas.Option.{cond_some}
 use Rattle.ics_event.specs.Event.{FileSaid}
 use Rattle.ics_event.specs.declared.event.Event.{Event}
 use Rattle.ics_event.specs.declared.time.Rdate.{Rdate}
@@ -35,19 +36,40 @@ use Rattle.ics_series.specs.Singles.{entry_first, is_single, is_to_come, single_
 use Rattle.ics_series.specs.Starts.{local_of, recurrence_by, GivesStart, IsNotAfter}
 use Rattle.ics_series.specs.Versions.{by_subject, is_named, is_override, label_of, seen, subject_cmp, AreChosen, Label}
 use Rattle.ics_series.specs.Spots.{event_at}
-use Rattle.ics_series.proofs.AgendaLemmas.{given_total, tied-given}
 use Rattle.ics_series.proofs.GivenLemmas.{given-subject, placed-event, entry_start_cmp, given_cmp, subject_from, IsGiven, IsGivenBy}
-use Rattle.ics_series.proofs.MasterLemmas.{same-entry}
+use Rattle.ics_series.proofs.MasterLemmas.{same-entry, second-equal}
 use Rattle.ics_series.proofs.MeetingLemmas.{is_met-meets, meets-is_met}
 use Rattle.ics_series.proofs.OverrideLemmas.{named-overrides}
 use Rattle.ics_series.proofs.PickLemmas.{filter_map-map, listing-picked, KeepsOrder}
-use Rattle.ics_series.proofs.PutLemmas.{listing-ordered}
+use Rattle.ics_series.proofs.UnionLemmas.{listing-ordered}
 use Rattle.ics_series.proofs.SortLemmas.{listing-sorted, map-climbs, Climbs}
 use Rattle.ics_series.proofs.StartLaws.{one-start}
 use Rattle.ics_series.proofs.ToComeLemmas.{come-listed, is-after, listed-given, to-come}
-use Rattle.ics_series.proofs.VersionLemmas.{group-total}
+use Rattle.ics_series.proofs.VersionLemmas.{group-total, subject_total}
 use Rattle.ics_series.proofs.ZoneLemmas.{none-of, rule-none}
 use Rattle.ics_series.proofs.StartSourceLemmas.{own-time}
+use Rattle.std.specs.Cmp.{IsTotalOrder}
+use Rattle.std.specs.Cmp.Lexicographic.{slice_cmp}
+use Rattle.std.proofs.lemmas.Cmp.{int_cmp_total, on_total, then_total, tied_itself}
+use Rattle.std.proofs.lemmas.Map.Lookups.{exact_bytes, exact_signed}
+use Rattle.ics_series.specs.Meets.{IsToCome}
+use Rattle.ics_series.proofs.OccursLemmas.{one-recurrence}
+
+pub given_total : IsTotalOrder given_cmp
+given_total = then_total (on_total subject_from subject_total) (on_total (λ e. e.start) int_cmp_total)
+
+module _ (files : List FileSaid) (display : Clock) (w : Window) (after : Option Rank) where
+  -- occurrences of one key are one
+  pub one-key : (x y : Entry) → IsToCome files display w after x → IsToCome files display w after y → entry_cmp x y ≡ Equal → x ≡ y
+  one-key x y p q e =
+      let rest = ordering_then (slice_cmp nat_cmp x.event.uid y.event.uid) (int_cmp x.recurrence y.recurrence) in
+      let both = second-equal (int_cmp x.start y.start) rest e in
+      let ends = second-equal (slice_cmp nat_cmp x.event.uid y.event.uid) (int_cmp x.recurrence y.recurrence) both.1 in
+      one-recurrence files display x y (come-listed files display w after x p).0 (come-listed files display w after y q).0
+      (exact_bytes x.event.uid y.event.uid ends.0) (exact_signed x.recurrence y.recurrence ends.1)
+
+  pub tied-given : (x y : Entry) → IsToCome files display w after x → IsToCome files display w after y → entry_cmp x y ≡ Equal → given_cmp x y ≡ Equal
+  tied-given x y p q e = ap (given_cmp x) (sym (one-key x y p q e)) ∙ tied_itself given_total x
 
 -- DTSTART gives a start
 pub first-gives : (clocks : Clocks) (event : Event) → GivesStart clocks event (Kept (local_of event.start.stamp)) (At event.start)
@@ -165,15 +187,9 @@ module _ (files : List FileSaid) (display : Clock) (w : Window) (after : Option 
 
   given-is : (p : Placed) (o : Entry) → IsChosen files display p → given p ≡ Some o → (is_single p.event ≡ true) × (is_to_come w os after (own p) ≡ true)
       × (o ≡ own p)
-  given-is p o c e = by (is_single p.event) (is_to_come w os after (own p)) refl refl (sym (given-by p c) ∙ e)
-    where
-      by : (a b : Bool) → is_single p.event ≡ a → is_to_come w os after (own p) ≡ b → (if a && b then Some (own p) else None) ≡ Some o →
-          (is_single p.event ≡ true) × (is_to_come w os after (own p) ≡ true) × (o ≡ own p)
-      by true true s t e = (s, t, cc)
-      by _ _ s t e = let f : None ≡ Some o = e in absurd cc
-
-  is-given : (p : Placed) → IsChosen files display p → is_single p.event ≡ true → is_to_come w os after (own p) ≡ true → given p ≡ Some (own p)
-  is-given p c s t = given-by p c ∙ (λ i. if s i && t i then Some (own p) else None)
+  given-is p o c e =
+      let k = cond_some (is_single p.event && is_to_come w os after (own p)) (own p) o (sym (given-by p c) ∙ e) in
+      let both = and_parts (is_single p.event) (is_to_come w os after (own p)) k.0 in (both.0, both.1, sym k.1)
 
   -- the order of subjects is that of what is given
   subjects-keep : KeepsOrder given (by_subject files display) given_cmp (IsChosen files display)
@@ -208,11 +224,12 @@ module _ (files : List FileSaid) (display : Clock) (w : Window) (after : Option 
       let is = given-first (clocks_by p) p.event single o listed.0.is.0 in
       let comes : is_to_come w os after o ≡ true =
       (λ i. (meets-is_met w o listed.0.is.1 i && is-after files display w vs chosen after o t.0 i) && (kept-same o ∙ listed.1) i) in
-      (p, listed.0.chosen, is-given p listed.0.chosen single (ap (is_to_come w os after) (sym is) ∙ comes) ∙ ap Some (sym is))
+      let come = ap (is_to_come w os after) (sym is) ∙ comes in
+      (p, listed.0.chosen, given-by p listed.0.chosen ∙ ((λ i. if single i && come i then Some (own p) else None) ∙ ap Some (sym is)))
 
   given-listing : IsListing given_cmp (IsSingleToCome files display w after) (filter_map given chosen.chosen)
   given-listing =
-      listing-picked given (by_subject files display) (group-total files display) given_cmp (IsChosen files display) subjects-keep
+      listing-picked given (by_subject files display) given_cmp (IsChosen files display) subjects-keep
       (IsSingleToCome files display w after) chosen.chosen chosen.listing given-come come-given
 
 -- The versions that count give the listing.

@@ -1,7 +1,6 @@
 -- No point stands in a number, and the spelling of a key, or of a key under a day, gives the key back.
-use Rattle.std.proofs.Common.{◌≡◌, ℕ, suc, ◌<◌, List, [], ◌∷◌, ◌++◌, length, get_or, refl, sym, ◌∙◌, ap, subst, arith, drop}
-use Rattle.std.specs.Prelude.{ℤ, pos, negsuc, FitsSigned, ◌≢◌, codes}
-use Rattle.std.specs.Int.{w64, w32}
+use Rattle.std.proofs.Common.{◌≡◌, ℕ, suc, ◌<◌, List, [], ◌∷◌, ◌++◌, length, get_or, refl, sym, ◌∙◌, ap, subst, arith, drop, ℤ, pos, negsuc, FitsSigned}
+use Rattle.std.proofs.Common.{◌≢◌, codes, w64, w32}
 use Rattle.std.specs.Char.{digit_value}
 use Rattle.std.specs.Fmt.{decimal, signed_decimal}
 use Rattle.std.specs.Str.Parse.{AllDigits}
@@ -14,12 +13,9 @@ use Rattle.ics_series.specs.Entry.{Rank}
 use Rattle.ics_series.specs.Tokens.{spelling, IsKey, day_spelling, IsDayKey}
 use Rattle.ics_series.specs.OnDays.{DayRank}
 
-not-point : (c : ℕ) → digit_value c < 10 → c ≢ 46
-not-point c h e = let k : digit_value 46 < 10 = subst (λ x. digit_value x < 10) e h in absurd (omega arith)
-
 no-point-in : (ds : List ℕ) → AllDigits 10 ds → AllByRecursion (λ c. c ≢ 46) ds
 no-point-in [] h = tt
-no-point-in (c ∷ cs) h = (not-point c h.0, no-point-in cs h.1)
+no-point-in (c ∷ cs) h = (λ e. let k : digit_value 46 < 10 = subst (λ x. digit_value x < 10) e h.0 in absurd (omega arith), no-point-in cs h.1)
 
 pub no-point-list : (z : ℤ) → FitsSigned w64 z → AllByRecursion (λ c. c ≢ 46) (signed_decimal z)
 no-point-list (pos n) f = no-point-in (decimal n) (decimal_is_IsNumeral n (omega (arith, f.sfits))).0.1

@@ -1,18 +1,15 @@
 -- Which lead wins a tournament, and how one is put right from a lead upwards.
-use Rattle.std.specs.Prelude.{nat_lt, slice_index, slice_index_or}
-use Rattle.std.proofs.Common.{◌≡◌, ◌≢◌, ℕ, zero, suc, ◌+◌, ◌*◌, ◌/◌, ◌-◌, ◌<◌, ◌≤◌, false, cond, ◌⊎◌, inl, inr, ⊎_elim, List, length, get_or}
-use Rattle.std.proofs.Common.{replicate, set, Option, Some, None, refl, sym, ◌∙◌, ap, subst, arith, length-set, get_or-set_same}
+use Rattle.std.proofs.Common.{◌≡◌, ◌≢◌, ℕ, zero, suc, ◌+◌, ◌*◌, ◌/◌, ◌-◌, ◌<◌, ◌≤◌, false, cond, ◌⊎◌, inl, inr, ⊎_elim, List, length, get_or, replicate}
+use Rattle.std.proofs.Common.{set, Option, Some, None, refl, sym, ◌∙◌, ap, subst, arith, length-set, get_or-set_same, nat_lt, slice_index, slice_index_or}
+use Rattle.std.proofs.Common.{All, is_gt, is_lt, nat_cmp, Ordering, Less, Equal, Greater, get_or-set_other}
 use Rattle.std.specs.Cmp.{IsTotalOrder}
-use Rattle.std.specs.List.{All}
 use Rattle.std.specs.Cmp.Lexicographic.{options_total}
 use Rattle.std.specs.Option.{option_cmp}
-use Rattle.std.specs.Ordering.{is_gt, is_lt, nat_cmp, ordering_reverse, ordering_then}
-use Rattle.std.specs.declared.cmp.Ordering.{Ordering}
-use Rattle.std.specs.declared.cmp.Ordering.TheVariants.{Less, Equal, Greater}
+use Rattle.std.specs.Ordering.{ordering_reverse, ordering_then}
 use Rattle.std.proofs.lemmas.Bool.{cases_cond, cases_eq, cases_lt}
 use Rattle.std.proofs.lemmas.Bool.Decides.{nat_tests}
 use Rattle.std.proofs.lemmas.Cmp.{alike_right, nat_cmp_total, on_total, then_total, tied_itself, tied_back, upto}
-use Rattle.std.proofs.lemmas.List.{get_or-replicate, get_or-set_other, length-replicate}
+use Rattle.std.proofs.lemmas.List.{get_or-replicate, length-replicate}
 use Rattle.ics_series.specs.Entry.{Entry, entry_cmp}
 use Rattle.ics_series.specs.EntryLaws.{entry_total}
 use Rattle.ics_series.proofs.Cases.{here-or-later}
@@ -64,6 +61,9 @@ zeros-within n winners e k d l =
 pub winner-node : (winners : List ℕ) (node : ℕ) → node < length winners → winner winners node ≡ slice_index winners node
 winner-node winners node l = grind (arith, nat_tests)
 
+winner-leaf : (winners : List ℕ) (node : ℕ) → length winners ≤ node → winner winners node ≡ node - length winners
+winner-leaf winners node l = grind (arith, nat_tests)
+
 pub winner-lead : (winners : List ℕ) (lead : ℕ) → winner winners (length winners + lead) ≡ lead
 winner-lead winners lead = grind (arith, nat_tests)
 
@@ -108,11 +108,6 @@ module _ (heads : List (Option Entry)) (winners : List ℕ) (settled : AreSettle
       ap (λ k. is_gt (lead_cmp heads (winner winners 1) k)) (sym (winner-lead winners lead))
       ∙ over_all (length winners + lead) (length winners + lead) (omega arith) (omega arith) (omega arith)
 
-  leaf : (node : ℕ) → length winners ≤ node → length winners + winner winners node ≡ node
-  leaf node l =
-      let at : length winners + (node - length winners) ≡ node = omega arith in
-      ap (λ k. length winners + winner winners k) (sym at) ∙ (ap (λ k. length winners + k) (winner-lead winners (node - length winners)) ∙ at)
-
   -- the winner at a node is that at one of the two below it
   from_below : (node : ℕ) → 0 < node → node < length winners → (winner winners node ≡ winner winners (2 * node))
       ⊎ (winner winners node ≡ winner winners (2 * node + 1))
@@ -121,24 +116,21 @@ module _ (heads : List (Option Entry)) (winners : List ℕ) (settled : AreSettle
       let b = winner winners (2 * node + 1) in
       cases_cond (is_lt (lead_cmp heads a b)) a b (winner winners node) (winner-node winners node high ∙ settled node low high)
 
-  rise : (node child : ℕ) → child / 2 ≡ node → winner winners node ≡ winner winners child
-      → ((steps : ℕ) × (above steps (length winners + winner winners child) ≡ child)) →
-      (steps : ℕ) × (above steps (length winners + winner winners node) ≡ node)
-  rise node child up e p =
-      (suc p.0, above-suc p.0 (length winners + winner winners node) ∙ (ap (λ k. above p.0 (length winners + k) / 2) e ∙ (ap (λ k. k / 2) p.1 ∙ up)))
-
-  -- a node's winner stands below it
-  stands_by : (fuel node : ℕ) → 0 < node → node < 2 * length winners → 2 * length winners ≤ node + fuel →
-      (steps : ℕ) × (above steps (length winners + winner winners node) ≡ node)
-  stands_by zero node low high most = absurd (omega arith)
-  stands_by (suc fuel) node low high most =
+  -- a lead has won at no node that is not above it
+  elsewhere : {lead : ℕ} (fuel node : ℕ) → 0 < node → node < 2 * length winners → 2 * length winners ≤ node + fuel →
+      ((steps : ℕ) → above steps (length winners + lead) ≢ node) → winner winners node ≢ lead
+  elsewhere zero node low high most apart e = omega arith
+  elsewhere {lead = lead} (suc fuel) node low high most apart e =
       ⊎_elim
       (λ l. ⊎_elim
-      (λ e. rise node (2 * node) (omega arith) e (stands_by fuel (2 * node) (omega arith) (omega arith) (omega arith)))
-      (λ e. rise node (2 * node + 1) (omega arith) e (stands_by fuel (2 * node + 1) (omega arith) (omega arith) (omega arith)))
+      (λ s. elsewhere {lead = lead} fuel (2 * node) (omega arith) (omega arith) (omega arith) (below (2 * node) (omega arith)) (sym s ∙ e))
+      (λ s. elsewhere {lead = lead} fuel (2 * node + 1) (omega arith) (omega arith) (omega arith) (below (2 * node + 1) (omega arith)) (sym s ∙ e))
       (from_below node low l))
-      (λ l. (zero, leaf node l))
+      (λ l. apart 0 (omega (arith, winner-leaf winners node l, e)))
       (cases_lt node (length winners))
+    where
+      below : (child : ℕ) → child / 2 ≡ node → (steps : ℕ) → above steps (length winners + lead) ≢ child
+      below child up steps is = apart (suc steps) (above-suc steps (length winners + lead) ∙ (ap (λ k. k / 2) is ∙ up))
 
 first_of-same : (heads news : List (Option Entry)) (a b : ℕ) → slice_index_or news a None ≡ slice_index_or heads a None →
     slice_index_or news b None ≡ slice_index_or heads b None
@@ -151,10 +143,8 @@ pub settled_but : (heads news : List (Option Entry)) (winners : List ℕ) (lead 
     → AreSettled heads winners → AreSettledBut (above 1 (length winners + lead)) news winners
 settled_but heads news winners lead same settled node low high apart =
     let other : (child : ℕ) → child / 2 ≡ node → child < 2 * length winners → 0 < child → winner winners child ≢ lead =
-    λ child up within low e.
-    let p = stands_by heads winners settled (2 * length winners) child low within (omega arith) in
-    apart p.0
-    (ap (λ k. above (suc p.0) (length winners + k)) (sym e) ∙ (above-suc p.0 (length winners + winner winners child) ∙ (ap (λ k. k / 2) p.1 ∙ up))) in
+    λ child up within low. elsewhere heads winners settled {lead = lead} (2 * length winners) child low within (omega arith)
+    (λ steps is. apart steps (above-suc steps (length winners + lead) ∙ (ap (λ k. k / 2) is ∙ up))) in
     settled node low high
     ∙ sym (first_of-same heads news (winner winners (2 * node)) (winner winners (2 * node + 1))
     (same _ (other (2 * node) (omega arith) (omega arith) (omega arith)))

@@ -1,13 +1,9 @@
 -- The order of the UIDs that leads give, where their places tell it, as those of the masters' feeds do.
-use Rattle.std.specs.Prelude.{slice_get, slice_index_or}
-use Rattle.std.proofs.Common.{◌≡◌, ℕ, zero, suc, ◌<◌, ◌≤◌, inl, inr, List, [], ◌∷◌, length, get_or, set, map, Option, Some, None, sym, ◌∙◌, ap, subst, arith}
-use Rattle.std.proofs.Common.{◌++◌, drop, refl}
-use Rattle.std.specs.Option.{option_map}
-use Rattle.std.specs.declared.cmp.Ordering.{Ordering}
+use Rattle.std.proofs.Common.{◌≡◌, ℕ, zero, suc, ◌<◌, ◌≤◌, inl, inr, List, [], ◌∷◌, length, get_or, set, map, Option, Some, None, sym, ◌∙◌, ap, subst}
+use Rattle.std.proofs.Common.{arith, ◌++◌, drop, refl, slice_get, slice_index_or, option_map, Ordering, nat_cmp}
 use Rattle.std.proofs.lemmas.List.{get_or-map, get_or_past}
 use Rattle.std.specs.List.{flat_map}
 use Rattle.std.specs.Cmp.Lexicographic.{slice_cmp}
-use Rattle.std.specs.Ordering.{nat_cmp}
 use Rattle.std.proofs.lemmas.Bool.Decides.{nat_tests}
 use Rattle.std.proofs.lemmas.Cmp.{nat_list_cmp_total, on_total}
 use Rattle.ics_series.specs.declared.occurrence.Occurrence.{Occurrence}
@@ -58,7 +54,8 @@ rest-in None rest a m = m
 rest-in (Some o) rest a m = inr m
 
 module _ {X : Type 0} (head : X → Option Occurrence) (rest : X → List Entry) where
-  head-in : (xs : List X) (i : ℕ) (a : Entry) → get_or (map (λ x. option_map entry_of (head x)) xs) i None ≡ Some a →
+  -- what a lead holds stands in its list
+  pub head-in : (xs : List X) (i : ℕ) (a : Entry) → get_or (map (λ x. option_map entry_of (head x)) xs) i None ≡ Some a →
       IsIn a (get_or (map (λ x. listed (head x) (rest x)) xs) i [])
   head-in [] i a e = let no : None ≡ Some a = e in absurd cc
   head-in (x ∷ xs) zero a e = headed-in (head x) (rest x) a e
@@ -73,11 +70,6 @@ module _ {X : Type 0} (head : X → Option Occurrence) (rest : X → List Entry)
   pub heads-sorted : (from : ℕ) (xs : List X) → AreSortedFrom from (map (λ x. listed (head x) (rest x)) xs) →
       AreHeadsSorted from (map (λ x. option_map entry_of (head x)) xs)
   heads-sorted from xs h i j a b low high p q = h i a (head-in xs i a p) j b low high (head-in xs j b q)
-
-  -- what a lead holds, where it is given
-  pub given-sorted : (from i : ℕ) (xs : List X) (o : Occurrence) → get_or (map (λ x. option_map entry_of (head x)) xs) i None ≡ Some (entry_of o)
-      → AreSortedFrom from (map (λ x. listed (head x) (rest x)) xs) → IsLastSorted from i (Some o) (map (λ x. listed (head x) (rest x)) xs)
-  given-sorted from i xs o e h = h i (entry_of o) (head-in xs i (entry_of o) e)
 
   -- what the places of the last source and of a lead tell
   module _ (from i j : ℕ) (xs : List X) (last : Occurrence) where

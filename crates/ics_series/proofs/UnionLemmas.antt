@@ -1,16 +1,13 @@
--- What stands in the union of two lists and in the merge of several.
-use Rattle.std.specs.Prelude.{◌↔◌}
+-- What stands in the union of two lists and in the merge of several. A list whose members differ by an order has a listing by that order.
+use Rattle.std.proofs.Common.{◌≡◌, ◌≢◌, List, [], ◌∷◌, ◌⊎◌, inl, inr, ⊎_elim, refl, sym, ◌∙◌, ap, subst, ◌↔◌, Ordering, Less, Equal, Greater}
 use Rattle.std.specs.List.{AllByRecursion}
-use Rattle.std.proofs.Common.{◌≡◌, ◌≢◌, List, [], ◌∷◌, ◌⊎◌, inl, inr, ⊎_elim, refl, sym, ◌∙◌, ap}
 use Rattle.std.specs.Cmp.{IsTotalOrder}
 use Rattle.std.proofs.lemmas.Cmp.{alike_right, tied_back}
-use Rattle.std.specs.declared.cmp.Ordering.{Ordering}
-use Rattle.std.specs.declared.cmp.Ordering.TheVariants.{Less, Equal, Greater}
 use Rattle.ics_series.specs.Listing.{IsIn, IsListing}
 use Rattle.ics_series.specs.Merged.{by_order, put, union, merged, HasNoKey, IsFromFirst}
 use Rattle.ics_series.specs.MergedLaws.{before-tied, before-trans, rises-merged, rises-union}
 use Rattle.ics_series.specs.Rising.{Rises}
-use Rattle.ics_series.proofs.ListingLemmas.{before-in, one-rising}
+use Rattle.ics_series.proofs.ListingLemmas.{before-in, one-rising, relisted}
 
 module _ {A : Type 0} (R : A → A → Ordering) (o : IsTotalOrder R) where
   -- x takes the place of an entry of its key
@@ -114,3 +111,69 @@ module _ {A : Type 0} (R : A → A → Ordering) (o : IsTotalOrder R) where
       (λ k. inl (in-union e xs ys p (inl k)))
       (λ k. ⊎_elim (λ n. inl (in-union e xs ys p (inr (k.0, n)))) (λ n. inr ((no_key-union e xs ys).1 (k.0, n.0), n.1)) (union-in e ys zs r k.1))
       (union-in e xs (union R ys zs) (rises-union R o ys zs r) m)))
+
+-- what R ties S ties too, so that a listing by S is one by R in another order
+module _ {A : Type 0} (R : A → A → Ordering) (o : IsTotalOrder R) (S : A → A → Ordering) (s : IsTotalOrder S) (P : A → Type 0)
+    (finer : (x y : A) → P x → P y → R x y ≡ Equal → S x y ≡ Equal) where
+  stays-in : (e : A) (xs : List A) → Rises S xs → ((x : A) → IsIn x xs → P x) → IsIn e xs → IsIn e (union R xs [])
+  stays-in e [] r p m = m
+  stays-in e (x ∷ xs) r p m =
+      in-put R o e x (union R xs [])
+      (⊎_elim inl
+      (λ n. inr (
+        stays-in e xs r.1 (λ y k. p y (inr k)) n,
+        λ t.
+            let less = before-in S s x e xs r.0 n in
+            let tied = finer x e (p x (inl refl)) (p e (inr n)) t in
+            cc,
+      )) m)
+
+  pub listing-ordered : (xs : List A) → IsListing S P xs → (ys : List A) × IsListing R P ys
+  listing-ordered xs l = (
+    union R xs [],
+    record {
+      rises = rises-union R o xs [] tt;
+      exact = λ e. (
+        λ m. (l.exact e).0 (⊎_elim (λ k. k) (λ k. absurd k.1) (union-in R o e xs [] tt m)),
+        λ q. stays-in e xs l.rises (λ x m. (l.exact x).0 m) ((l.exact e).1 q),
+      );
+    },
+  )
+
+module _ {A : Type 0} (R : A → A → Ordering) (o : IsTotalOrder R) where
+  -- e stands in one of the lists
+  abbrev pub IsInOne : A → List (List A) → Type 0
+  IsInOne e [] = ⊥
+  IsInOne e (xs ∷ xss) = IsIn e xs ⊎ IsInOne e xss
+
+  pub from-one : (e : A) (xss : List (List A)) → IsFromFirst R e xss → IsInOne e xss
+  from-one e [] m = m
+  from-one e (xs ∷ xss) m = ⊎_elim inl (λ k. inr (from-one e xss k.1)) m
+
+  -- a list has an entry of e's key, or none
+  record HasKey (e : A) (xs : List A) : Type 0 where
+    entry : A
+    stands : IsIn entry xs
+    tied : R e entry ≡ Equal
+
+  key-by : (e x : A) (xs : List A) (c : Ordering) → R e x ≡ c → HasKey e xs ⊎ HasNoKey R e xs → HasKey e (x ∷ xs) ⊎ HasNoKey R e (x ∷ xs)
+  key-by e x xs Equal p ih = inl (record { entry = x; stands = inl refl; tied = p })
+  key-by e x xs _ p (inl k) = inl (record { entry = k.entry; stands = inr k.stands; tied = k.tied })
+  key-by e x xs _ p (inr n) = inr ((λ t. cc), n)
+
+  has-key : (e : A) (xs : List A) → HasKey e xs ⊎ HasNoKey R e xs
+  has-key e [] = inr tt
+  has-key e (x ∷ xs) = key-by e x xs (R e x) refl (has-key e xs)
+
+  one-from : (e : A) (xss : List (List A)) → ((x : A) → IsInOne x xss → R e x ≡ Equal → x ≡ e) → IsInOne e xss → IsFromFirst R e xss
+  one-from e [] one m = m
+  one-from e (xs ∷ xss) one (inl m) = inl m
+  one-from e (xs ∷ xss) one (inr m) =
+      ⊎_elim (λ k. inl (subst (λ x. IsIn x xs) (one k.entry (inl k.stands) k.tied) k.stands))
+      (λ n. inr (n, one-from e xss (λ x k t. one x (inr k) t) m)) (has-key e xs)
+
+  -- where entries of one key are one, the merge of rising lists is the listing of what stands in one of them
+  pub merged-listing : (P : A → Type 0) (xss : List (List A)) → AllByRecursion (Rises R) xss → ((e : A) → IsInOne e xss → P e) → ((e : A) → P e → IsInOne e xss)
+      → ((x y : A) → P x → P y → R x y ≡ Equal → x ≡ y) → IsListing R P (merged R xss)
+  merged-listing P xss h in-P P-in one =
+      relisted (merged-is R o xss h) (λ e m. in-P e (from-one e xss m)) (λ e p. one-from e xss (λ x k t. sym (one e x p (in-P x k) t)) (P-in e p))

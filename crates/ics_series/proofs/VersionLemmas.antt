@@ -1,17 +1,16 @@
--- The versions of files, one file after the other; of sorted versions the last of each subject is the one that counts.
-use Rattle.std.specs.Prelude.{slice_get}
+-- The versions of files, one file after the other. All sorted, of each subject the last is the one that counts, and there is exactly one.
 use Rattle.std.proofs.Common.{◌≡◌, ℕ, ℤ, List, [], ◌∷◌, Option, Some, None, inl, inr, ⊎_elim, Bool, true, false, cond, refl, sym, ◌∙◌, ap, subst, ◌+◌}
-use Rattle.std.proofs.Common.{add-one, ◌++◌, map, drop, option_map}
-use Rattle.std.specs.Cmp.{IsTotalOrder}
-use Rattle.std.specs.Cmp.Lexicographic.{options_total, slice_cmp}
-use Rattle.std.specs.Option.{option_cmp}
-use Rattle.std.specs.Ordering.{int_cmp, nat_cmp, is_eq, is_gt, ordering_then, ordering_reverse}
-use Rattle.std.specs.declared.cmp.Ordering.{Ordering}
-use Rattle.std.specs.declared.cmp.Ordering.TheVariants.{Less, Equal, Greater}
-use Rattle.std.proofs.lemmas.Cmp.{int_cmp_total, nat_list_cmp_total, on_total, then_total, tied_itself}
-use Rattle.std.proofs.lemmas.Map.Lookups.{exact_bytes, exact_signed}
-use Rattle.std.proofs.Math.Seq.{drop-cons}
-use Rattle.std.proofs.lemmas.List.{append_assoc, map-append}
+use Rattle.std.proofs.Common.{add-one, ◌++◌, map, drop, get_or, option_map, ◌&&◌, slice_get, ◌≢◌, int_cmp, nat_cmp, is_eq, is_gt, is_lt, int_eq, Ordering}
+use Rattle.std.proofs.Common.{Less, Equal, Greater, drop-cons, append_assoc, filter}
+use Rattle.std.specs.Cmp.{IsTotalOrder, unsigned_ties}
+use Rattle.std.specs.Cmp.Lexicographic.{options_total, slice_cmp, lists_ties}
+use Rattle.std.specs.Option.{option_cmp, option_eq}
+use Rattle.std.specs.Ordering.{ordering_then, ordering_reverse, on}
+use Rattle.std.proofs.lemmas.Cmp.{int_cmp_total, nat_list_cmp_total, on_total, then_total, tied_itself, nat_cmp_total}
+use Rattle.std.proofs.lemmas.Map.Lookups.{exact_bytes, exact_signed, exact_pairs}
+use Rattle.std.proofs.lemmas.List.{get_or_default, map-append}
+use Rattle.std.proofs.lemmas.List.Elements.{Contains-get_or}
+use Rattle.std.proofs.lemmas.List.MinMax.{IsFirstBest-from_best_of, IsStrictWeakOrder-flip, ranks_by}
 use Rattle.std.proofs.lemmas.Option.{get_or_from_slice_get, slice_get-map, slice_get_within}
 use Rattle.ics_event.specs.Event.{FileSaid, said_by}
 use Rattle.ics_event.specs.declared.event.Event.{Event}
@@ -21,12 +20,19 @@ use Rattle.ics_series.specs.Chosen.{subject_of, IsChosen, SubjectSeen}
 use Rattle.ics_series.specs.Clocks.{Clock, Clocks, clocks_of}
 use Rattle.ics_series.specs.Listing.{IsIn, IsListing}
 use Rattle.ics_series.specs.PlacedEvents.{Placed, IsPlaced, placed_cmp, clocks_at, zones_of}
-use Rattle.ics_series.specs.Versions.{by_subject, subject_cmp, version_cmp, lasts, is_followed, label_by, label_of, placed_from, placed_in, Label}
-use Rattle.ics_series.proofs.MasterLemmas.{placed_total, second-equal, same-placed}
-use Rattle.ics_series.proofs.SortLemmas.{Climbs, up-to-in}
+use Rattle.ics_series.specs.Versions.{by_subject, subject_cmp, version_cmp, lasts, is_followed, label_by, label_of, placed_from, placed_in, Label, seen}
+use Rattle.ics_series.specs.Versions.{label_cmp, is_same, AreChosen}
+use Rattle.ics_series.proofs.MasterLemmas.{placed_total, second-equal, same-placed, one-chosen}
+use Rattle.ics_series.proofs.SortLemmas.{Climbs, up-to-in, climbs-map, map-climbs, followed, contains-in, in-contains, in-permutation}
 use Rattle.ics_series.proofs.Cases.{eq-Equal, less-by, up-to-front}
 use Rattle.ics_series.proofs.HeldLemmas.{before-all}
-use Rattle.ics_series.proofs.ListingLemmas.{less-up-to, not-less-itself}
+use Rattle.ics_series.proofs.ListingLemmas.{less-up-to, not-less-itself, relisted}
+use Rattle.std.specs.List.Sorted.{IsPermutation}
+use Rattle.std.proofs.lemmas.List.Sorted.{IsPermutation-map, IsPermutation-sym}
+use Rattle.ics_series.specs.declared.version.Version.{Version}
+use Rattle.ics_series.proofs.PlacedLemmas.{placed-in, in-placed}
+use Rattle.ics_series.specs.Laws.{HasVersion}
+use Rattle.ics_series.proofs.PickLemmas.{filter-in, in-filter}
 
 module _ (files : List FileEvents) (display : Clock) where
   abbrev said : List FileSaid
@@ -66,17 +72,14 @@ subject_total = then_total (on_total (λ s. s.uid) nat_list_cmp_total) (on_total
 
 exact-option : (a b : Option ℤ) → option_cmp int_cmp a b ≡ Equal → a ≡ b
 exact-option None None e = refl
-exact-option None (Some y) e = let f : Less ≡ Equal = e in cc
-exact-option (Some x) None e = let f : Greater ≡ Equal = e in cc
 exact-option (Some x) (Some y) e = ap Some (exact_signed x y e)
+exact-option _ _ e = cc
 
 -- subjects that tie are one
 pub exact-subject : (a b : SubjectSeen) → subject_cmp a b ≡ Equal → a ≡ b
 exact-subject a b e =
-    let both = second-equal (slice_cmp nat_cmp a.uid b.uid) (option_cmp int_cmp a.recurrence b.recurrence) e in
-    let uid = exact_bytes a.uid b.uid both.0 in
-    let recurrence = exact-option a.recurrence b.recurrence both.1 in
-    λ i. record { uid = uid i; recurrence = recurrence i }
+    ap (λ (s : List ℕ × Option ℤ). record { uid = s.0; recurrence = s.1 })
+    (exact_pairs (slice_cmp nat_cmp) (option_cmp int_cmp) exact_bytes exact-option (a.uid, a.recurrence) (b.uid, b.recurrence) e)
 
 module _ (files : List FileSaid) (display : Clock) where
   abbrev group : Placed → Placed → Ordering
@@ -133,18 +136,12 @@ module _ (files : List FileSaid) (display : Clock) where
 
         by : (b : Bool) → IsFollowed b x xs → IsListing group (IsTop xs) (lasts same xs) →
             IsListing group (IsTop (x ∷ xs)) (cond b (lasts same xs) (x ∷ lasts same xs))
-        by true f l = record {
-          rises = l.rises;
-          exact = λ e. (
-            λ m. behind e ((l.exact e).0 m),
-            λ t. (l.exact e).1 (
-              ⊎_elim (λ s. subst (λ z. IsIn z xs) (sym s) (itself f.0 (order x f.0) refl f.1
-                  (λ less. let k : group x f.0 ≡ Less = subst (λ z. order z f.0 ≡ Less → group z f.0 ≡ Less) s (t.1 f.0 (inr f.1)) less in cc)))
-                  (λ n. n) t.0,
-              λ q k. t.1 q (inr k),
-            ),
-          );
-        }
+        by true f l = relisted l behind (λ e t. (
+          ⊎_elim (λ s. subst (λ z. IsIn z xs) (sym s) (itself f.0 (order x f.0) refl f.1
+              (λ less. let k : group x f.0 ≡ Less = subst (λ z. order z f.0 ≡ Less → group z f.0 ≡ Less) s (t.1 f.0 (inr f.1)) less in cc)))
+              (λ n. n) t.0,
+          λ q k. t.1 q (inr k),
+        ))
         by false f l = record {
           rises = (before-all group x (lasts same xs) (λ y m. f y ((l.exact y).0 m).0), l.rises);
           exact = λ e. (
@@ -169,14 +166,89 @@ module _ (files : List FileSaid) (display : Clock) where
     pub lasts-chosen : (xs : List Placed) → Climbs order xs → ((p : Placed) → IsIn p xs → IsPlaced files p) → ((p : Placed) → IsPlaced files p → IsIn p xs)
         → IsListing group (IsChosen files display) (lasts same xs)
     lasts-chosen xs h f g =
-        let l = lasts-listing xs h (λ p q m n t. same-placed files p q (f p m) (f q n) (second-equal (group p q) (placed_cmp p q) t).1) in record {
-          rises = l.rises;
-          exact = λ e. (
-            λ m. let t = (l.exact e).0 m in record {
-              placed = f e t.0;
-              greatest = λ q r u c. let k = t.1 q (g q r) (ap (λ o. ordering_then o (placed_cmp e q)) (tied e q u) ∙ c) in
-                  let n = tied e q u in cc;
-            },
-            λ k. (l.exact e).1 (g e k.placed, λ q n. top-by (group e q) refl k (f q n)),
-          );
-        }
+        relisted (lasts-listing xs h (λ p q m n t. same-placed files p q (f p m) (f q n) (second-equal (group p q) (placed_cmp p q) t).1))
+        (λ e t. record {
+          placed = f e t.0;
+          greatest = λ q r u c. let n = tied e q u in let k = t.1 q (g q r) (ap (λ o. ordering_then o (placed_cmp e q)) n ∙ c) in cc;
+        })
+        (λ e k. (g e k.placed, λ q n. top-by (group e q) refl k (f q n)))
+
+pub label_total : IsTotalOrder label_cmp
+label_total =
+    then_total (on_total (λ l. l.subject) subject_total)
+    (then_total (on_total (λ l. l.sequence) nat_cmp_total)
+    (then_total (on_total (λ l. l.spot.file) nat_cmp_total) (on_total (λ l. l.spot.place) nat_cmp_total)))
+
+-- Versions are the same where their subjects tie.
+option-ties : (a b : Option ℤ) → option_eq int_eq a b ≡ is_eq (option_cmp int_cmp a b)
+option-ties None None = refl
+option-ties (Some x) (Some y) = refl
+option-ties _ _ = refl
+
+pub both-tie : (c d : Ordering) → (is_eq c && is_eq d) ≡ is_eq (ordering_then c d)
+both-tie Less d = refl
+both-tie _ d = refl
+
+same-ties : (a b : Label) → is_same a b ≡ is_eq (subject_cmp a.subject b.subject)
+same-ties a b =
+    rw (lists_ties nat_cmp unsigned_ties a.subject.uid b.subject.uid, option-ties a.subject.recurrence b.subject.recurrence)
+    (both-tie (slice_cmp nat_cmp a.subject.uid b.subject.uid) (option_cmp int_cmp a.subject.recurrence b.subject.recurrence))
+
+module _ {A B : Type 0} (f : A → B) (same : B → B → Bool) where
+  lasts-map : (xs : List A) → lasts same (map f xs) ≡ map f (lasts (on f same) xs)
+  lasts-map [] = refl
+  lasts-map (x ∷ []) = refl
+  lasts-map (x ∷ y ∷ ys) = by (same (f x) (f y)) (lasts-map (y ∷ ys))
+    where
+      by : (b : Bool) → lasts same (map f (y ∷ ys)) ≡ map f (lasts (on f same) (y ∷ ys))
+          → cond b (lasts same (map f (y ∷ ys))) (f x ∷ lasts same (map f (y ∷ ys)))
+          ≡ map f (cond b (lasts (on f same) (y ∷ ys)) (x ∷ lasts (on f same) (y ∷ ys)))
+      by true h = h
+      by false h = ap (λ l. f x ∷ l) h
+
+pub found : {files : List FileSaid} {display : Clock} {vs ws last : List Version} → map seen vs ≡ map (label_of files display) (placed_in 0 files) →
+    IsPermutation vs ws → Climbs (on seen label_cmp) ws
+    → map seen last ≡ lasts is_same (map seen ws) → AreChosen files display last
+found {files = files} {display = display} {vs = vs} {ws = ws} e p s l =
+    let moved = followed (label_of files display) (placed_in 0 files) (map seen vs) (map seen ws) e (IsPermutation-map seen vs ws p) in
+    let xs = moved.0 in
+    let climbs : Climbs (on (label_of files display) label_cmp) xs =
+    climbs-map (label_of files display) label_cmp xs
+    (subst (Climbs label_cmp) (sym moved.2) (map-climbs seen label_cmp ws s)) in
+    record {
+      chosen = lasts (on (label_of files display) is_same) xs;
+      listing = lasts-chosen files display (on (label_of files display) is_same) (λ a b. same-ties (label_of files display a) (label_of files display b)) xs
+          climbs
+          (λ a m. in-placed files a (in-permutation a xs (placed_in 0 files) (IsPermutation-sym (placed_in 0 files) xs moved.1) m))
+          (λ a h. in-permutation a (placed_in 0 files) xs moved.1 (placed-in files a h));
+      are = l ∙ (ap (lasts is_same) (sym moved.2) ∙ lasts-map (label_of files display) is_same xs);
+    }
+
+-- one of a list than which none is greater
+greatest-in : {A : Type 0} {R : A → A → Ordering} (o : IsTotalOrder R) (x : A) (xs : List A) →
+    (best : A) × IsIn best (x ∷ xs) × ((y : A) → IsIn y (x ∷ xs) → is_lt (R best y) ≡ false)
+greatest-in {R = R} o x xs =
+    let b = IsFirstBest-from_best_of (IsStrictWeakOrder-flip (λ v w. is_lt (R v w)) (ranks_by o (λ v. v))) x xs in (
+      get_or (x ∷ xs) b.0 x,
+      in-contains (get_or (x ∷ xs) b.0 x) (x ∷ xs) (Contains-get_or (x ∷ xs) b.0 x b.1.0),
+      λ y m. let k = contains-in y (x ∷ xs) m in
+          ap (λ v. is_lt (R (get_or (x ∷ xs) b.0 x) v)) (sym (get_or_default (x ∷ xs) k.0 x y k.1 ∙ k.2)) ∙ b.1.1 k.0 x k.1,
+    )
+
+-- An event of the folder has exactly one version that counts: of those of its subject the greatest.
+pub one-version : (files : List FileSaid) (display : Clock) (p : Placed) → IsPlaced files p → HasVersion files display p
+one-version files display p h =
+    let subject = subject_of files display in
+    let test : Placed → Bool = λ q. is_eq (subject_cmp (subject_of files display q) (subject_of files display p)) in
+    let best = greatest-in placed_total p (filter test (placed_in 0 files)) in
+    let of : IsPlaced files best.0 × (subject_of files display best.0 ≡ subject_of files display p) =
+    ⊎_elim (λ e. (subst (IsPlaced files) (sym e) h, ap subject e)) (λ m.
+    let k = filter-in test best.0 (placed_in 0 files) m in
+    (in-placed files best.0 k.0, exact-subject (subject best.0) (subject p) (eq-Equal (subject_cmp (subject best.0) (subject p)) k.1))) best.1 in
+    let chosen : IsChosen files display best.0 = record {
+      placed = of.0;
+      greatest = λ q m u l.
+          let same = ap (λ s. is_eq (subject_cmp s (subject p))) (u ∙ of.1) ∙ ap is_eq (tied_itself subject_total (subject p)) in
+          let f : true ≡ false = ap is_lt (sym l) ∙ best.2 q (inr (in-filter test q (placed_in 0 files) same (placed-in files q m))) in absurd cc;
+    } in
+    record { version = best.0; counts = chosen; same = of.1; one = λ q k u. one-chosen k chosen (u ∙ sym of.1) }

@@ -1,6 +1,5 @@
 -- The starts of an event have a list, which has of those at one instant the first.
-use Rattle.std.proofs.Common.{ℤ, List, [], ◌∷◌, true, inl, inr, ⊎_elim, refl, sym, ap, subst}
-use Rattle.std.specs.Ordering.{is_gt}
+use Rattle.std.proofs.Common.{ℤ, List, [], ◌∷◌, true, inl, inr, ⊎_elim, refl, sym, ap, subst, is_gt}
 use Rattle.std.proofs.lemmas.Cmp.{tied_itself}
 use Rattle.ics_event.specs.Event.{IsEvent}
 use Rattle.ics_event.specs.declared.event.Event.{Event}

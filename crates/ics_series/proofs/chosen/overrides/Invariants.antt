@@ -1,5 +1,4 @@
-use Rattle.std.proofs.Common.{◌≡◌, ◌++◌, map, drop}
-use Rattle.std.specs.List.{filter}
+use Rattle.std.proofs.Common.{◌≡◌, ◌++◌, map, drop, filter}
 use Rattle.ics_series.specs.Versions.{is_override, seen}
 use Rattle.ics_series.proofs.chosen.overrides.Given as goal
 

@@ -1,6 +1,5 @@
-use Rattle.std.proofs.Common.{◌≡◌, ◌+ℤ◌, ℕ, ℤ, Option, ◌⊎◌, inl, inr, sym, ◌∙◌, ap, w64, arith}
-use Rattle.std.proofs.lemmas.Int.{ints, to_z-of_z}
-use mir.Val.{SFits}
+use Rattle.std.proofs.Common.{◌≡◌, ◌+ℤ◌, ℕ, ℤ, Option, ◌⊎◌, inl, inr, sym, ◌∙◌, ap, w64, arith, to_z-of_z, SFits}
+use Rattle.std.proofs.lemmas.Int.{ints}
 use Rattle.ics_fields.specs.declared.local.Local.{Local}
 use Rattle.ics_fields.specs.Locals.{whole_days}
 use Rattle.ics_values.specs.declared.stamp.Stamp.{Stamp}

@@ -1,6 +1,5 @@
-use Rattle.std.proofs.Common.{w64, arith}
-use Rattle.std.proofs.lemmas.Int.{ints, to_z-of_z}
-use mir.Val.{SFits}
+use Rattle.std.proofs.Common.{w64, arith, to_z-of_z, SFits}
+use Rattle.std.proofs.lemmas.Int.{ints}
 use Rattle.ics_zone.specs.Seconds.{IsNear}
 use Rattle.ics_series.proofs.InstantLemmas.{moved, near-moved}
 use Rattle.ics_series.proofs.Cases.{moment-back}

@@ -1,6 +1,5 @@
-use Rattle.std.proofs.Common.{w32, arith}
+use Rattle.std.proofs.Common.{w32, arith, SFits}
 use Rattle.std.proofs.lemmas.Int.{ints}
-use mir.Val.{SFits}
 use Rattle.ics_zone.specs.Displays.{moment_of}
 use Rattle.ics_zone.specs.JiffZones.{zone_of}
 use Rattle.ics_series.proofs.InstantLemmas.{moved, result_near}

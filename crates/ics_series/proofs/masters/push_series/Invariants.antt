@@ -1,6 +1,5 @@
-use Rattle.std.proofs.Common.{List, [], None, map, take}
+use Rattle.std.proofs.Common.{List, [], None, map, take, option_map}
 use Rattle.std.specs.List.{flat_map}
-use Rattle.std.specs.Option.{option_map}
 use Rattle.ics_event.specs.Event.{said_by}
 use Rattle.ics_series.specs.declared.window.Window.{Window}
 use Rattle.ics_series.specs.Clocks.{display_clock}

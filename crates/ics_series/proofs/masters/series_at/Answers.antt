@@ -1,5 +1,4 @@
-use Rattle.std.proofs.Common.{◌≡◌, ◌∙◌, rules, [], get_or, map, Some, None, w64, to_z, of_z, refl, sym, ap, subst}
-use Rattle.std.specs.Option.{option_map}
+use Rattle.std.proofs.Common.{◌≡◌, ◌∙◌, rules, [], get_or, map, Some, None, w64, to_z, of_z, refl, sym, ap, subst, option_map}
 use Rattle.std.proofs.lemmas.Option.{get_or_from_slice_get, slice_get-get_or}
 use Rattle.ics_event.specs.Event.{said_by, IsEventOf}
 use Rattle.ics_event.specs.declared.event.Event.{Event}
@@ -11,8 +10,8 @@ use Rattle.ics_series.specs.Sources.{IsFrom}
 use Rattle.ics_series.specs.Versions.{seen, subject_seen}
 use Rattle.ics_series.specs.FileZones.{clocks_in}
 use Rattle.ics_series.proofs.GivenLemmas.{map-in, stands}
-use Rattle.ics_series.proofs.OverriddenLemmas.{chosen-order}
-use Rattle.ics_series.proofs.RecurringLemmas.{IsRead, not-single, own-subject, series-listing, single-none, whole-version}
+use Rattle.ics_series.proofs.OverrideLemmas.{chosen-order}
+use Rattle.ics_series.proofs.RecurringLemmas.{IsRead, not-single, own-subject, series-listing, whole-version}
 use Rattle.ics_series.proofs.SortLemmas.{get-in}
 use Rattle.ics_series.proofs.ZoneLemmas.{own-event}
 use Rattle.ics_series.proofs.masters.series_at.Goals as goal
@@ -30,10 +29,17 @@ returns-then-is_single c = record {
   series = λ version there.
       not-single (get_or_from_slice_get c.args.chosen.now c.args.place version none there) c.event-event.ensures.event
       (sym c.is_single.ensures ∙ c.if-is_single.true);
-  whole = λ version there w.
-      single-none (map said_by c.args.files.now) (display_clock c.args.display.now) w (seen version)
-      (not-single (get_or_from_slice_get c.args.chosen.now c.args.place version none there) c.event-event.ensures.event
-      (sym c.is_single.ensures ∙ c.if-is_single.true));
+  whole = λ version there w. (
+    [],
+    record {
+      rises = tt;
+      exact = λ o. (
+        λ m. absurd m,
+        λ h. absurd (not-single (get_or_from_slice_get c.args.chosen.now c.args.place version none there)
+            c.event-event.ensures.event (sym c.is_single.ensures ∙ c.if-is_single.true) h.by),
+      );
+    },
+  );
 }
 
 pub overridden_instants-requires-clause-order : goal.overridden_instants-requires-clause-order

@@ -1,19 +1,17 @@
-use Rattle.std.proofs.Common.{◌≡◌, ◌+ℤ◌, ◌∙◌, ℤ, rules, pos, w64, to_z, of_z, ap, sym, arith}
+use Rattle.std.proofs.Common.{◌≡◌, ◌+ℤ◌, ◌∙◌, ℤ, rules, pos, w64, to_z, of_z, ap, sym, arith, SFits, option_map, nat_cmp}
 use Rattle.std.proofs.lemmas.Int.{ints}
-use mir.Val.{SFits}
 use Rattle.std.specs.Cmp.Lexicographic.{slice_cmp}
 use Rattle.std.specs.Int.{saturate_signed}
-use Rattle.std.specs.Option.{option_map}
-use Rattle.std.specs.Ordering.{nat_cmp, ordering_then}
+use Rattle.std.specs.Ordering.{ordering_then}
 use Rattle.ics_series.specs.Entry.{key_rank}
 use Rattle.ics_series.proofs.AfterLemmas.{since-next, since-none, since-start, turned}
-use Rattle.ics_series.proofs.SourceLemmas.{from-by, from-next, from-none}
+use Rattle.ics_series.proofs.SourceLemmas.{from-next}
 use Rattle.ics_series.proofs.masters.since_of.Goals as goal
 
 pub returns-in_default : goal.returns-in_default
 returns-in_default c =
     let none = ap (option_map (λ key. key_rank key.now)) c.in_default.is in
-    record { since = since-none _ c.args.uid.now none; from = from-none _ _ none }
+    record { since = since-none _ c.args.uid.now none; from = rw none tt }
 
 pub returns-in-Greater : goal.returns-in-Greater
 returns-in-Greater c =
@@ -24,7 +22,7 @@ returns-in-Greater c =
     c.then.ensures ∙ (λ i. ordering_then ((c.cmp.ensures ∙ ap (slice_cmp nat_cmp c.args.uid.now) c.as_slice.ensures.value) i) (c.cmp-2.ensures i)) in
     record {
       since = since-start c.args.uid.now is (sym order ∙ c.in-Greater.is) fits;
-      from = from-by _ key _ is (omega (arith, ints, fits));
+      from = rw is (omega (arith, ints, fits));
     }
 
 pub returns-in_default-then : goal.returns-in_default-then
@@ -40,5 +38,5 @@ returns-in_default-then c =
     c.then.ensures ∙ (λ i. ordering_then ((c.cmp.ensures ∙ ap (slice_cmp nat_cmp c.args.uid.now) c.as_slice.ensures.value) i) (c.cmp-2.ensures i)) in
     record {
       since = since-next c.args.uid.now is (λ g. c.in_default-then.not-Greater (order ∙ g)) next fits;
-      from = from-by _ key _ is (from-next key _ next fits);
+      from = rw is (from-next key _ next fits);
     }

@@ -1,10 +1,8 @@
-use Rattle.std.specs.Prelude.{◌&&◌, ◌≤ℤ◌, ◌<ℤ◌, int_le, if◌then◌else◌}
-use Rattle.std.proofs.Common.{◌≡◌, ℤ, pos, ◌-ℤ◌, true, false, nat_eq, rules, sym, ◌∙◌, ap, to_z, of_z, w32, w64, arith}
+use Rattle.std.proofs.Common.{◌≡◌, ℤ, pos, ◌-ℤ◌, true, false, nat_eq, rules, sym, ◌∙◌, ap, to_z, of_z, w32, w64, arith, ◌&&◌, ◌≤ℤ◌, ◌<ℤ◌, int_le}
+use Rattle.std.proofs.Common.{if◌then◌else◌, int_eq, SFits}
 use Rattle.std.specs.Int.{int_max, int_min}
-use Rattle.std.specs.Ordering.{int_eq}
 use Rattle.std.proofs.lemmas.Bool.{and_parts}
 use Rattle.std.proofs.lemmas.Int.{int_max_is, int_min_is, ints}
-use mir.Val.{SFits}
 use Rattle.ics_zone.proofs.Cases.{int_le_true}
 use Rattle.ics_series.specs.declared.window.Window.{Window}
 use Rattle.ics_series.specs.Clocks.{Clock, display_clock}

@@ -1,7 +1,7 @@
 use Rattle.std.proofs.Common.{◌≡◌, rules, ◌+◌, ◌-◌, suc, length, take, drop, add-one, List, [], ◌∷◌, ◌++◌, ℕ, None, w64, to_z, of_z, ◌∙◌, ap, sym}
 use Rattle.std.proofs.lemmas.List.{take_rest}
 use Rattle.ics_series.specs.declared.version.Version.{Version}
-use Rattle.ics_series.proofs.OverriddenLemmas.{found-ends, found-step, found-stops}
+use Rattle.ics_series.proofs.OverrideLemmas.{found-ends, found-step, found-stops}
 use Rattle.ics_series.proofs.overridden.overridden_instants.Goals as goal
 
 abbrev none : Version

@@ -1,5 +1,5 @@
 use Rattle.std.proofs.Common.{◌≡◌, ◌++◌, drop}
-use Rattle.ics_series.proofs.OverriddenLemmas.{found}
+use Rattle.ics_series.proofs.OverrideLemmas.{found}
 use Rattle.ics_series.proofs.overridden.overridden_instants.Given as goal
 
 -- with those that the versions from this one on override they are all

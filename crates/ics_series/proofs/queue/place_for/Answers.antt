@@ -1,6 +1,5 @@
 use Rattle.std.proofs.lemmas.Grind.{common_steps}
-use Rattle.std.proofs.Common.{◌≡◌, ◌<ℤ◌, ◌-◌, ◌<◌, suc, length, get_or, drop, rules, w64, sym, ◌∙◌, ap, subst, arith}
-use mir.Val.{SFits}
+use Rattle.std.proofs.Common.{◌≡◌, ◌<ℤ◌, ◌-◌, ◌<◌, suc, length, get_or, drop, rules, w64, sym, ◌∙◌, ap, subst, arith, SFits}
 use Rattle.std.proofs.lemmas.Int.{ints}
 use Rattle.std.specs.List.{insert}
 use Rattle.ics_series.specs.declared.start.Start.{Start}

@@ -1,6 +1,5 @@
 use Rattle.std.proofs.lemmas.Grind.{common_steps}
-use Rattle.std.proofs.Common.{ap, map, ◌∙◌, arith}
-use Rattle.std.specs.Option.{option_map}
+use Rattle.std.proofs.Common.{ap, map, ◌∙◌, arith, option_map}
 use Rattle.ics_series.specs.Entry.{entry_of}
 use Rattle.ics_series.proofs.TournamentLemmas.{lead-by}
 use Rattle.ics_series.proofs.UidLemmas.{head-order, held-at}

@@ -1,5 +1,4 @@
-use Rattle.std.proofs.Common.{◌<◌, All, length, map}
-use Rattle.std.specs.Option.{option_map}
+use Rattle.std.proofs.Common.{◌<◌, All, length, map, option_map}
 use Rattle.ics_series.specs.Entry.{entry_of}
 use Rattle.ics_series.specs.Tournament.{AreSettledBut}
 use Rattle.ics_series.proofs.tournament.replay.Given as goal

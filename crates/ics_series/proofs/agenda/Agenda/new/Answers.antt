@@ -1,5 +1,4 @@
-use Rattle.std.proofs.Common.{map, sym, subst}
-use Rattle.std.specs.Option.{option_map}
+use Rattle.std.proofs.Common.{map, sym, subst, option_map}
 use Rattle.ics_event.specs.Event.{said_by}
 use Rattle.ics_series.specs.Clocks.{display_clock}
 use Rattle.ics_series.specs.Entry.{key_rank}

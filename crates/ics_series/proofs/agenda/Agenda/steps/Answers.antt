@@ -1,7 +1,7 @@
 use Rattle.std.proofs.Common.{arith}
 use Rattle.ics_series.specs.Leads.{listed, past}
 use Rattle.ics_series.specs.AgendaParts.{part_coming}
-use Rattle.ics_series.proofs.StepsLaws.{steps-of-leads}
+use Rattle.ics_series.proofs.HoldingLaws.{steps-of-leads}
 use Rattle.ics_series.proofs.agenda.Agenda.steps.Goals as goal
 
 pub returns-clause-most : goal.returns-clause-most

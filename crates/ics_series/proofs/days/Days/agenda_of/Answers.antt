@@ -1,5 +1,4 @@
-use Rattle.std.specs.Prelude.{IfOk, Result, Ok, Err}
-use Rattle.std.proofs.Common.{rules, ◌≡◌, inl, to_z, of_z, w32}
+use Rattle.std.proofs.Common.{rules, ◌≡◌, inl, to_z, of_z, w32, IfOk, Result, Ok, Err}
 use Rattle.ics_series.proofs.days.Days.agenda_of.Goals as goal
 
 if-both : {T E : Type 0} {R : T → Type 0} (r : Result T E) (P Q : T → Type 0) → ((x : T) → P x → Q x → R x) → IfOk r P → IfOk r Q → IfOk r R

@@ -1,6 +1,4 @@
-use Rattle.std.specs.Prelude.{◌≤ℤ◌}
-use Rattle.std.proofs.Common.{rules, ◌≡◌, map, refl, ap, arith, to_z, of_z, w32}
-use Rattle.std.specs.Option.{option_map}
+use Rattle.std.proofs.Common.{rules, ◌≡◌, map, refl, ap, arith, to_z, of_z, w32, ◌≤ℤ◌, option_map}
 use Rattle.std.proofs.lemmas.Int.{ints}
 use Rattle.ics_event.specs.Event.{said_by}
 use Rattle.ics_zone.specs.Near.{offset_near}

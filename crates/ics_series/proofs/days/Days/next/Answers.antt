@@ -1,8 +1,6 @@
-use Rattle.std.specs.Prelude.{◌≤ℤ◌, ◌<ℤ◌}
-use Rattle.std.proofs.Common.{rules, ◌≡◌, ◌<◌, ◌∷◌, ℤ, pos, ◌+ℤ◌, map, None, sym, ◌∙◌, ap, subst, arith, to_z, of_z, w32}
+use Rattle.std.proofs.Common.{rules, ◌≡◌, ◌<◌, ◌∷◌, ℤ, pos, ◌+ℤ◌, map, None, sym, ◌∙◌, ap, subst, arith, to_z, of_z, w32, ◌≤ℤ◌, ◌<ℤ◌, SFits}
 use Rattle.std.proofs.lemmas.Int.{ints}
 use borrow.Author.Gap.{gap, gap_up, read_sfits}
-use mir.Val.{SFits}
 use Rattle.ics_event.specs.Event.{said_by}
 use Rattle.ics_zone.specs.Near.{offset_near}
 use Rattle.ics_zone.specs.JiffZones.{zone_of}

@@ -1,5 +1,4 @@
-use Rattle.std.proofs.Common.{map, get_or, None, sym, ◌∙◌, ap}
-use Rattle.std.specs.Option.{option_map}
+use Rattle.std.proofs.Common.{map, get_or, None, sym, ◌∙◌, ap, option_map}
 use Rattle.ics_series.specs.Entry.{entry_of}
 use Rattle.ics_series.specs.Tournament.{winner}
 use Rattle.ics_series.proofs.UidLemmas.{last-order}

@@ -1,11 +1,10 @@
-use Rattle.std.proofs.Common.{Some, ap, sym, subst, ◌∙◌, rules}
-use Rattle.std.specs.Option.{option_map}
+use Rattle.std.proofs.Common.{Some, ap, sym, subst, ◌∙◌, rules, option_map}
 use Rattle.ics_series.specs.Entry.{entry_of}
 use Rattle.ics_series.specs.Listing.{IsIn}
 use Rattle.ics_series.specs.Tournament.{winner}
 use Rattle.ics_series.proofs.LeadLemmas.{first-comes, nothing-comes, uncut-first, wins-leads}
 use Rattle.ics_series.proofs.LeadNearLemmas.{near-each, near-past, near-to_come, near-whole}
-use Rattle.ics_series.proofs.UidLemmas.{given-sorted}
+use Rattle.ics_series.proofs.UidLemmas.{head-in}
 use Rattle.ics_series.proofs.merge.MergeFeed.next.Goals as goal
 
 pub invariant_of-self-clause-follows : goal.invariant_of-self-clause-follows
@@ -21,8 +20,8 @@ pub invariant_of-self-clause-last_sorted : goal.invariant_of-self-clause-last_so
 invariant_of-self-clause-last_sorted g c =
     let self = c.skip_given.new.self in
     rw (c.winner-self.ensures ∙ ap (λ ws. winner ws 1) c.deref.ensures.value)
-    (given-sorted (λ x. x.head) (λ x. g.F.Coming.coming x.feed) self.sorted_from (winner self.winners.items 1) self.leads.items c.in-Some.first
-    (sym c.first.ensures ∙ ap (option_map entry_of) c.in-Some.is) self.sorted)
+    (self.sorted (winner self.winners.items 1) (entry_of c.in-Some.first) (head-in (λ x. x.head) (λ x. g.F.Coming.coming x.feed) self.leads.items
+    (winner self.winners.items 1) (entry_of c.in-Some.first) (sym c.first.ensures ∙ ap (option_map entry_of) c.in-Some.is)))
 
 pub returns-in-Some-clause-ok : goal.returns-in-Some-clause-ok
 returns-in-Some-clause-ok g c =

@@ -1,10 +1,7 @@
 use Rattle.std.proofs.lemmas.Grind.{common_steps}
-use Rattle.std.proofs.Common.{rules, ◌≡◌, Ok, true, false, sym, ◌∙◌, ap, subst, ⊎_elim, arith}
-use Rattle.std.specs.Prelude.{ℤ, FitsSigned, nat_eq}
-use Rattle.std.specs.Int.{w64}
-use mir.Val.{to_z, of_z}
-use lib.Pointwise.{pointwise}
+use Rattle.std.proofs.Common.{rules, ◌≡◌, Ok, true, false, sym, ◌∙◌, ap, subst, ⊎_elim, arith, ℤ, FitsSigned, nat_eq, w64, to_z, of_z}
 use Rattle.std.proofs.lemmas.Int.{to_z-of_z}
+use lib.Pointwise.{pointwise}
 use Rattle.std.proofs.lemmas.Cmp.{nat_list_eq_equiv}
 use Rattle.hex.specs.Hex.{decode_of, encode_lower}
 use Rattle.hex.proofs.HexLemmas.{decode_of-encode_lower, decode_of-ok}

@@ -1,6 +1,4 @@
-use Rattle.std.proofs.Common.{rules, ◌≡◌, ◌&&◌, ◌||◌, not, nat_eq, w64, to_z, of_z}
-use Rattle.std.specs.Prelude.{int_lt, int_le}
-use Rattle.std.specs.Ordering.{int_eq}
+use Rattle.std.proofs.Common.{rules, ◌≡◌, ◌&&◌, ◌||◌, not, nat_eq, w64, to_z, of_z, int_lt, int_le, int_eq}
 use Rattle.ics_series.proofs.window.Window.is_met.Goals as goal
 
 pub returns : goal.returns
