@@ -1,5 +1,5 @@
 -- What a listing goes on with after a key, and from which instant on the occurrences of a master come after one.
-use Rattle.std.proofs.Common.{◌≡◌, List, [], ◌∷◌, ◌++◌, Option, Some, None, inl, inr, ⊎_elim, refl, sym, ◌∙◌, ap, ◌<ℤ◌, ℕ, w64, ℤ, pos, ◌+ℤ◌, false, arith}
+use Rattle.std.proofs.Common.{◌≡◌, List, ◌∷◌, ◌++◌, Option, Some, None, refl, sym, ◌∙◌, ap, ◌<ℤ◌, ℕ, w64, ℤ, pos, ◌+ℤ◌, false, arith}
 use Rattle.std.proofs.Common.{filter, is_lt, int_cmp, nat_cmp, Less, Equal, Greater, ◌≤ℤ◌, int_le, neg_ℤ, SFits, Ordering}
 use Rattle.std.specs.Ordering.{ordering_reverse, ordering_then, MatchOrdering}
 use Rattle.std.specs.Cmp.{int_ranks}
@@ -12,12 +12,12 @@ use Rattle.ics_series.specs.After.{after_key, is_after}
 use Rattle.ics_series.specs.Clocks.{Clock}
 use Rattle.ics_series.specs.Entry.{Entry, Rank, entry_cmp, rank_cmp, rank_of}
 use Rattle.ics_series.specs.EntryLaws.{entry_total}
-use Rattle.ics_series.specs.Listing.{IsIn, IsListing}
+use Rattle.ics_series.specs.Listing.{IsListing}
 use Rattle.ics_series.specs.Meets.{IsListed, IsToCome}
 use Rattle.ics_series.specs.Masters.{IsSince}
 use Rattle.ics_series.proofs.PickLemmas.{listing-filter}
-use Rattle.ics_series.proofs.ListingLemmas.{after-in, before-in, one-listing, rises-end}
-use Rattle.ics_series.proofs.PlacedLemmas.{in-append_right}
+use Rattle.ics_series.proofs.ListingLemmas.{one-listing}
+use Rattle.ics_series.proofs.OnDayLemmas.{greater-behind}
 use Rattle.ics_series.proofs.ToComeLemmas.{lt-Less}
 use Rattle.ics_series.proofs.VersionLemmas.{subject_total}
 
@@ -38,15 +38,7 @@ module _ (files : List FileSaid) (display : Clock) (w : Window) where
   pub listing-behind : (front : List Entry) (o : Entry) (behind ys : List Entry) → IsListing entry_cmp (IsListed files display w) (front ++ o ∷ behind) →
       IsListing entry_cmp (IsToCome files display w (Some (rank_of o))) ys → ys ≡ behind
   listing-behind front o behind ys h k =
-      let end = rises-end entry_cmp entry_total front (o ∷ behind) h.rises in
-      one-listing entry_cmp entry_total (IsToCome files display w (Some (rank_of o))) ys behind k
-      (record {
-        rises = end.1;
-        exact = λ x. (
-          λ m. ((h.exact x).0 (in-append_right x front (o ∷ behind) (inr m)), before-in entry_cmp entry_total o x behind end.0 m),
-          λ t. after-in entry_cmp entry_total front behind h.rises ((h.exact x).1 t.0) t.1,
-        );
-      })
+      listing-after (rank_of o) (front ++ o ∷ behind) ys h k ∙ greater-behind entry_cmp entry_total front o behind h.rises
 
 -- what decides between a key and an occurrence of one start
 abbrev rest : Rank → Entry → Ordering

@@ -1,6 +1,6 @@
 -- What is still to come of a listing under each day: from day to day, and from its beginning.
 use Rattle.std.proofs.Common.{◌≡◌, ℕ, zero, suc, ℤ, pos, ◌+ℤ◌, ◌-ℤ◌, List, [], ◌∷◌, ◌++◌, Option, ◌⊎◌, inl, inr, ⊎_elim, Bool, true, false, None, refl}
-use Rattle.std.proofs.Common.{sym, ◌∙◌, ap, subst, arith, ◌<ℤ◌, ◌≤ℤ◌, ◌&&◌, ◌||◌, int_lt, unsigned_abs, Result, Ok, Err, OnErr, filter, int_eq}
+use Rattle.std.proofs.Common.{sym, ◌∙◌, ap, subst, arith, ◌<ℤ◌, ◌≤ℤ◌, ◌&&◌, ◌||◌, int_lt, unsigned_abs, Result, Ok, Err, OnErr, filter, int_eq, ◌↔◌}
 use Rattle.std.proofs.lemmas.Int.{ints}
 use Rattle.ics_event.specs.Event.{FileSaid}
 use Rattle.ics_zone.specs.Seconds.{IsNear}
@@ -117,20 +117,17 @@ module _ (files : List FileSaid) (display : Clock) (near : (t : ℤ) → IsNear 
     abbrev IsCome : OnDay → Type 0
     IsCome p = IsOnDay files display w p × (is_day_after after p ≡ true)
 
-    come-test : (a : ℤ) (r : Bool) → (day <ℤ a) ⊎ ((a ≡ day) × (r ≡ true)) → (int_lt day a || (int_eq a day && r)) ≡ true
-    come-test a r h = grind (arith, ints)
-
-    test-come : (a : ℤ) (r : Bool) → (int_lt day a || (int_eq a day && r)) ≡ true → (day <ℤ a) ⊎ ((a ≡ day) × (r ≡ true))
-    test-come a r h = grind (arith, ints)
+    come-test : (a : ℤ) (r : Bool) → ((day <ℤ a) ⊎ ((a ≡ day) × (r ≡ true))) ↔ ((int_lt day a || (int_eq a day && r)) ≡ true)
+    come-test a r = (λ h. grind (arith, ints), λ h. grind (arith, ints))
 
     begun-come : (p : OnDay) → IsBegun day key p ⊎ IsLater files display w day p → IsCome p
-    begun-come p (inl b) = (b.0.0, begins.behind p (shown-first p b.0.0) ∙ come-test p.day (is_after key p.entry) (inr (b.0.1, b.1)))
-    begun-come p (inr l) = (l.shown, begins.behind p (shown-first p l.shown) ∙ come-test p.day (is_after key p.entry) (inl l.later))
+    begun-come p (inl b) = (b.0.0, begins.behind p (shown-first p b.0.0) ∙ (come-test p.day (is_after key p.entry)).0 (inr (b.0.1, b.1)))
+    begun-come p (inr l) = (l.shown, begins.behind p (shown-first p l.shown) ∙ (come-test p.day (is_after key p.entry)).0 (inl l.later))
 
     come-begun : (p : OnDay) → IsCome p → IsBegun day key p ⊎ IsLater files display w day p
     come-begun p c =
         ⊎_elim (λ l. inr (record { shown = c.0; later = l })) (λ k. inl ((c.0, k.0), k.1))
-        (test-come p.day (is_after key p.entry) (sym (begins.behind p (shown-first p c.0)) ∙ c.1))
+        ((come-test p.day (is_after key p.entry)).1 (sym (begins.behind p (shown-first p c.0)) ∙ c.1))
 
     all-shown : (xs : List Entry) → IsListing entry_cmp (IsListed files display w) xs →
         (list : List OnDay) × IsListing on_day_cmp (IsOnDay files display w) list

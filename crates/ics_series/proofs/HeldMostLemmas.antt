@@ -1,10 +1,9 @@
 -- The starts of a rule that are held are no more than the event has in five UTC days. The greatest number that it has in five days is that of
 -- five days, and no five have more.
-use Rattle.std.proofs.Common.{◌≡◌, ℕ, zero, suc, ◌<◌, ◌≤◌, ℤ, pos, neg_ℤ, ◌+ℤ◌, ◌-ℤ◌, List, [], ◌∷◌, length, Some, inl, inr, ⊎_elim, refl, sym, ◌∙◌, ap}
-use Rattle.std.proofs.Common.{subst, arith, max, ◌⊎◌, ◌<ℤ◌, ◌≤ℤ◌, int_le, int_lt, unsigned_abs, All, sum_by, Ordering}
-use Rattle.std.specs.Cmp.{IsTotalOrder}
+use Rattle.std.proofs.Common.{◌≡◌, ℕ, zero, suc, ◌<◌, ◌≤◌, ℤ, pos, neg_ℤ, ◌+ℤ◌, ◌-ℤ◌, List, [], ◌∷◌, length, Some, inl, ⊎_elim, refl, sym, ap}
+use Rattle.std.proofs.Common.{subst, arith, ◌<ℤ◌, ◌≤ℤ◌, int_le, int_lt, unsigned_abs, All, sum_by}
 use Rattle.std.proofs.lemmas.Int.{ints}
-use Rattle.std.proofs.lemmas.Bool.{and_from}
+use Rattle.std.proofs.lemmas.Bool.{and_from, cases_lt}
 use Rattle.ics_fields.specs.Locals.{midnight}
 use Rattle.ics_rule.specs.Recurrence.{Recurrence}
 use Rattle.ics_event.specs.Event.{IsTime, IsRdate}
@@ -17,14 +16,14 @@ use Rattle.ics_series.specs.declared.zones.FileZones.{FileZones}
 use Rattle.ics_series.specs.Clocks.{Clocks, instant}
 use Rattle.ics_series.specs.Found.{moment_cmp, start_at, source_cmp}
 use Rattle.ics_series.specs.HeldMost.{greatest, is_within_days, most_in_days, raw_in, IsRaw}
-use Rattle.ics_series.specs.Listing.{IsIn, IsListing}
+use Rattle.ics_series.specs.Listing.{IsListing}
 use Rattle.ics_series.specs.Rising.{Rises}
 use Rattle.ics_series.specs.RuleStarts.{local_numbered, moment_numbered, number_in, AreHeld, IsHeld}
 use Rattle.ics_series.specs.Starts.{recurrence_of, time_at, time_of}
 use Rattle.ics_series.specs.FileZones.{clocks_in}
 use Rattle.ics_series.proofs.Cases.{below-or-last}
 use Rattle.ics_series.proofs.FirstLemmas.{moment_total}
-use Rattle.ics_series.proofs.ListingLemmas.{before-in, not-less-itself, sums-within}
+use Rattle.ics_series.proofs.ListingLemmas.{sums-within}
 use Rattle.ics_series.proofs.RawLemmas.{numbered-raw, raw-counted}
 use Rattle.ics_series.proofs.RuleDayLemmas.{given-parts, in-rules}
 use Rattle.ics_rule.proofs.KeptLemmas.{and_true}
@@ -87,15 +86,7 @@ unfolding greatest
 greatest-given zero f = (0, omega arith)
 greatest-given (suc n) f =
     let rest = greatest-given n f in
-    ⊎_elim (λ e. (suc n, e)) (λ e. (rest.0, e ∙ rest.1)) (sides (greatest (suc n) f) (f (suc n)))
-  where
-    sides : (a b : ℕ) → (max a b ≡ b) ⊎ (max a b ≡ a)
-    sides a b = grind arith
-
--- five days that have as many as any
-most-of-days : (clocks : Clocks) (event : Event) → (day : ℤ) × (most_in_days clocks event ≡ raw_in clocks event day)
-unfolding most_in_days
-most-of-days clocks event = let given = greatest-given 3_652_432 (λ k. raw_in clocks event (pos k -ℤ pos 719_534)) in (pos given.0 -ℤ pos 719_534, given.1)
+    ⊎_elim (λ l. (suc n, omega (arith, l))) (λ l. (rest.0, omega (arith, l, rest.1))) (cases_lt (greatest (suc n) f) (f (suc n)))
 
 -- no five days have more than the greatest number: what has a start has a time of the calendar
 most-in-any : (zones : FileZones) (event : Event) → IsTime event.start → All IsRdate event.rdates → (day : ℤ) →
@@ -116,8 +107,11 @@ most-in-any zones event first rdates day = let all = raw-counted (clocks_in zone
         let past = late zones (time_of raw.0) time in
         days-most (clocks_in zones) event day (omega (arith, ints, to, past)) (omega (arith, ints, from, soon))
 
--- so that it is the greatest
+-- so that it is the greatest, and it is that of some five days
 pub most-in-days : (zones : FileZones) (event : Event) → IsTime event.start → All IsRdate event.rdates
     → ((day : ℤ) → raw_in (clocks_in zones) event day ≤ most_in_days (clocks_in zones) event) × (day : ℤ)
     × (most_in_days (clocks_in zones) event ≡ raw_in (clocks_in zones) event day)
-most-in-days zones event first all = let some = most-of-days (clocks_in zones) event in (most-in-any zones event first all, some.0, some.1)
+unfolding most_in_days
+most-in-days zones event first all =
+    let given = greatest-given 3_652_432 (λ k. raw_in (clocks_in zones) event (pos k -ℤ pos 719_534)) in
+    (most-in-any zones event first all, pos given.0 -ℤ pos 719_534, given.1)

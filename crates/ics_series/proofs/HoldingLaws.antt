@@ -27,7 +27,7 @@ use Rattle.ics_series.proofs.RuleStepLemmas.{few-held, asked-number}
 use Rattle.std.specs.Cmp.Lexicographic.{slice_cmp}
 use Rattle.std.proofs.lemmas.Cmp.{nat_list_cmp_total}
 use Rattle.std.proofs.lemmas.Int.{ints}
-use Rattle.ics_rule.specs.Cursors.{looks_from, period_count, steps_of}
+use Rattle.ics_rule.specs.Cursors.{looks_from}
 use Rattle.ics_fields.specs.Locals.{number, midnight, whole_days}
 use Rattle.ics_rule.proofs.CursorLemmas.{few_steps}
 use Rattle.ics_series.specs.EntryLaws.{entry_total}
@@ -116,12 +116,6 @@ looks-earlier : (o : Option ℕ) (start a place : ℕ) → a ≤ place → looks
 looks-earlier None start a place l = l
 looks-earlier (Some c) start a place l = omega arith
 
-own-steps : (s : RuleStarts) → steps_of s.cursor ≤ period_count s.rule (looks_from s.rule.parts.count (number s.rule.start) (number s.from))
-    (midnight_number s.asked)
-own-steps s =
-    few_steps s.rule s.cursor (looks_from s.rule.parts.count (number s.rule.start) (number s.from)) (midnight_number s.asked) s.own
-    (s.looked (midnight_number s.asked) (omega arith))
-
 abbrev InOne : Entry → List (List Entry) → Type 0
 InOne e lists = IsInOne entry_cmp entry_total e lists
 
@@ -141,12 +135,10 @@ series-most s coming most near bound = by s.rule_starts s.own_rule (λ e m of. (
         (λ past. omega (arith, ints, asked-number r, end, to-is, past))
         (λ o. let close = near o.occurrence o.stands o.of o.local o.kept in omega (arith, ints, asked-number r, close, o.past)) p.to in
         let low : p.a ≤ number r.from = omega (arith, ints, p.from, own.late, number-seconds r.from own.day) in
-        omega (
-          arith,
-          own-steps r,
-          periods-within r.rule (looks-earlier r.rule.parts.count (number r.rule.start) p.a (number r.from) low) high,
-          p.count,
-        )
+        let steps = few_steps r.rule r.cursor (looks_from r.rule.parts.count (number r.rule.start) (number r.from)) (midnight_number r.asked) r.own
+        (r.looked (midnight_number r.asked) (omega arith)) in
+        let within = periods-within r.rule (looks-earlier r.rule.parts.count (number r.rule.start) p.a (number r.from) low) high in
+        omega (arith, steps, within, p.count)
 
 -- Parts, of which one at most is of the events that start once, and the masters of the others have UIDs of their own.
 abbrev IsOfPart : Part → Entry → Type 0
@@ -234,12 +226,8 @@ module _ {X : Type 0} (part : X → Part) (lists : X → List Entry) where
             → part_looked p + sum_by (λ y. part_looked (part y)) xs ≤ sum_by most (recurring (part_sources p ++ sources_in part xs))
         by (Singles s) near bound rest = omega (arith, rest bound)
         by (Series s) near bound rest =
-            omega (
-              arith,
-              series-most s.value coming (most (master_in s.value)) near bound.0,
-              sum_by-cons most (master_in s.value) (recurring (sources_in part xs)),
-              rest bound.1,
-            )
+            let own = series-most s.value coming (most (master_in s.value)) near bound.0 in
+            omega (arith, own, sum_by-cons most (master_in s.value) (recurring (sources_in part xs)), rest bound.1)
 
   -- Parts have together looked at no more periods than each of their masters may.
   pub steps-of-leads : (most : Recurring → ℕ) (xs : List X) → AreApart (sources_in part xs) → AllNear xs →

@@ -1,9 +1,9 @@
 -- One version of a subject counts, and an event has one occurrence at most with a start.
-use Rattle.std.proofs.Common.{◌≡◌, List, refl, sym, ◌∙◌, ap, slice_get, nat_cmp, Ordering, Less, Equal, Greater}
+use Rattle.std.proofs.Common.{◌≡◌, ℕ, List, refl, sym, ◌∙◌, ap, slice_get, nat_cmp, Ordering, Less, Equal, Greater}
 use Rattle.std.specs.Cmp.{IsTotalOrder}
 use Rattle.std.specs.Ordering.{ordering_reverse, ordering_then}
 use Rattle.std.proofs.lemmas.Cmp.{nat_cmp_total, on_total, then_total}
-use Rattle.std.proofs.lemmas.Map.Lookups.{exact_unsigned}
+use Rattle.std.proofs.lemmas.Map.Lookups.{exact_pairs, exact_unsigned}
 use Rattle.ics_event.specs.Event.{FileSaid}
 use Rattle.ics_series.specs.Chosen.{subject_of, IsChosen}
 use Rattle.ics_series.specs.Clocks.{Clock}
@@ -26,23 +26,17 @@ second-equal Less b h = let f : Less ≡ Equal = h in cc
 second-equal Equal b h = (refl, h)
 second-equal Greater b h = let f : Greater ≡ Equal = h in cc
 
-same-places : (p q : Placed) → placed_cmp p q ≡ Equal → (p.file ≡ q.file) × (p.place ≡ q.place)
-same-places p q h =
-    let rest = (second-equal (nat_cmp p.event.sequence q.event.sequence) (ordering_then (nat_cmp p.file q.file) (nat_cmp p.place q.place)) h).1 in
-    let both = second-equal (nat_cmp p.file q.file) (nat_cmp p.place q.place) rest in
-    (exact_unsigned p.file q.file both.0, exact_unsigned p.place q.place both.1)
-
-same-event : {files : List FileSaid} {p q : Placed} → IsPlaced files p → IsPlaced files q → p.file ≡ q.file → p.place ≡ q.place → p.event ≡ q.event
-same-event {files = files} {p = p} h k e f =
-    let file : h.within.0 ≡ k.within.0 = some-same _ _ (sym h.within.1 ∙ (ap (slice_get files) e ∙ k.within.1)) in
-    some-same _ _ (sym h.within.2 ∙ (ap (λ x. slice_get x.events p.place) file ∙ (ap (slice_get k.within.0.events) f ∙ k.within.2)))
-
 -- of one place there is one event
 pub same-placed : (files : List FileSaid) (p q : Placed) → IsPlaced files p → IsPlaced files q → placed_cmp p q ≡ Equal → p ≡ q
 same-placed files p q h k e =
-    let places = same-places p q e in
-    let event = same-event h k places.0 places.1 in
-    λ i. record { file = places.0 i; place = places.1 i; event = event i }
+    let same = exact_pairs nat_cmp (λ (x y : ℕ × ℕ). ordering_then (nat_cmp x.0 y.0) (nat_cmp x.1 y.1)) exact_unsigned
+    (exact_pairs nat_cmp nat_cmp exact_unsigned exact_unsigned) (p.event.sequence, (p.file, p.place)) (q.event.sequence, (q.file, q.place)) e in
+    let file : p.file ≡ q.file = ap (λ (x : ℕ × (ℕ × ℕ)). x.1.0) same in
+    let place : p.place ≡ q.place = ap (λ (x : ℕ × (ℕ × ℕ)). x.1.1) same in
+    let of : h.within.0 ≡ k.within.0 = some-same _ _ (sym h.within.1 ∙ (ap (slice_get files) file ∙ k.within.1)) in
+    let event : p.event ≡ q.event =
+    some-same _ _ (sym h.within.2 ∙ (ap (λ x. slice_get x.events p.place) of ∙ (ap (slice_get k.within.0.events) place ∙ k.within.2))) in
+    λ i. record { file = file i; place = place i; event = event i }
 
 -- of a subject one version counts
 pub one-chosen : {files : List FileSaid} {display : Clock} {p q : Placed} → IsChosen files display p → IsChosen files display q →

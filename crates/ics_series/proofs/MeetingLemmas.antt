@@ -1,8 +1,8 @@
 -- Whether an occurrence meets a window, by the test.
-use Rattle.std.proofs.Common.{◌≡◌, ℤ, ◌⊎◌, inl, inr, ⊎_elim, true, false, not, ap, arith, ◌<ℤ◌, ◌≤ℤ◌, int_le}
+use Rattle.std.proofs.Common.{◌≡◌, ℤ, inl, inr, ⊎_elim, true, false, arith, ◌<ℤ◌, int_le}
 use Rattle.std.proofs.lemmas.Int.{ints}
-use Rattle.std.proofs.lemmas.Bool.{and_parts, and_from}
 use Rattle.ics_event.specs.declared.event.Event.{Event}
+use Rattle.ics_zone.proofs.Cases.{less_or_not_z}
 use Rattle.ics_series.specs.declared.window.Window.{Window}
 use Rattle.ics_series.specs.Clocks.{Clocks}
 use Rattle.ics_series.specs.Entry.{Entry}
@@ -10,10 +10,6 @@ use Rattle.ics_series.specs.Exclusions.{is_excluded}
 use Rattle.ics_series.specs.Found.{is_shown}
 use Rattle.ics_series.specs.Meeting.{is_met}
 use Rattle.ics_series.specs.Meets.{Meets}
-use Rattle.ics_series.proofs.Cases.{not-true}
-
-later-or : (a b : ℤ) → (a <ℤ b) ⊎ (b ≤ℤ a)
-later-or a b = grind (arith, ints)
 
 pub less-le : (a b : ℤ) → b <ℤ a → int_le a b ≡ false
 less-le a b e = grind (arith, ints)
@@ -21,7 +17,7 @@ less-le a b e = grind (arith, ints)
 pub is_met-meets : (w : Window) (o : Entry) → is_met w o ≡ true → Meets w o
 is_met-meets w o e = record {
   begun = grind (arith, ints);
-  lasting = ⊎_elim inl (λ l. inr (grind (arith, ints), grind (arith, ints))) (later-or w.from o.finish);
+  lasting = ⊎_elim inl (λ l. inr (grind (arith, ints), grind (arith, ints))) (less_or_not_z w.from o.finish);
   started = λ n. grind (arith, ints);
 }
 

@@ -1,6 +1,6 @@
 -- The occurrences of one event that meet a window.
-use Rattle.std.proofs.Common.{◌≡◌, ℤ, List, [], ◌∷◌, Option, Some, None, ⊎_elim, Bool, true, refl, sym, ◌∙◌, ap, subst, arith, ◌&&◌, not, if◌then◌else◌}
-use Rattle.std.proofs.Common.{Equal, int_cmp}
+use Rattle.std.proofs.Common.{◌≡◌, ℤ, List, Option, Some, None, Bool, true, refl, sym, ◌∙◌, ap, subst, arith, ◌&&◌, not, if◌then◌else◌}
+use Rattle.std.proofs.Common.{int_cmp}
 use Rattle.std.specs.List.{filter_map}
 use Rattle.std.proofs.lemmas.Bool.{cond_both}
 use Rattle.std.proofs.lemmas.Option.{cond_some}

@@ -139,6 +139,11 @@ module _ (files : List FileSaid) (display : Clock) (vs : List Version) (h : AreC
       ∙ ap is_eq (tied_itself subject_total (instance uid t)))
       (map-in (label_of files display) o.by h.chosen ((h.listing.exact o.by).1 o.is.chosen))
 
+-- a version, where any serves
+abbrev pub any_version : Version
+any_version =
+    record { subject = record { uid = record { ref_ptr = (0, 0); now = [] }; recurrence = None }; sequence = 0; spot = record { file = 0; place = 0 } }
+
 -- by subject
 abbrev pub version_cmp : Version → Version → Ordering
 version_cmp = on (λ v. subject_seen v.subject) subject_cmp

@@ -7,7 +7,7 @@ use Rattle.std.specs.Option.{option_and_then}
 use Rattle.std.specs.Ordering.{on, ordering_then}
 use Rattle.std.proofs.lemmas.Int.{ints}
 use Rattle.std.proofs.lemmas.List.Sorted.{IsPermutation-map}
-use Rattle.std.proofs.lemmas.Bool.{and_parts}
+use Rattle.std.proofs.lemmas.Bool.{and_parts, cond_both}
 use Rattle.std.proofs.lemmas.Option.{cond_some}
 use Rattle.ics_event.specs.Event.{FileSaid}
 use Rattle.ics_event.specs.declared.event.Event.{Event}
@@ -45,7 +45,7 @@ use Rattle.ics_series.proofs.UnionLemmas.{listing-ordered}
 use Rattle.ics_series.proofs.SortLemmas.{listing-sorted, map-climbs, Climbs}
 use Rattle.ics_series.proofs.StartLaws.{one-start}
 use Rattle.ics_series.proofs.ToComeLemmas.{come-listed, is-after, listed-given, to-come}
-use Rattle.ics_series.proofs.VersionLemmas.{group-total, subject_total}
+use Rattle.ics_series.proofs.VersionLemmas.{subject_total}
 use Rattle.ics_series.proofs.ZoneLemmas.{none-of, rule-none}
 use Rattle.ics_series.proofs.StartSourceLemmas.{own-time}
 use Rattle.std.specs.Cmp.{IsTotalOrder}
@@ -97,16 +97,12 @@ module _ (files : List FileSaid) (display : Clock) (w : Window) (overrides : Lis
   gives-begun begun s same b =
       ap (option_and_then (λ o. if is_to_come w overrides after o then Some o else None))
       (b ∙ ap (λ clocks. begun_first clocks w event label.subject.recurrence) same)
-      ∙ (by (int_lt (instant label_clocks event.start) w.to) refl
+      ∙ (cond_both (int_lt (instant label_clocks event.start) w.to) (Some label_first) None
+      (λ o. option_and_then (λ o. if is_to_come w overrides after o then Some o else None) o
+      ≡ (if is_to_come w overrides after label_first then Some label_first else None)) (λ _. refl)
+      (λ e. sym (ap (λ b. if ((b && is_under_way w label_first.start label_first.finish) && is_after after label_first) && is_kept overrides label_first
+      then Some label_first else None) e))
       ∙ sym (at-event ∙ ap (λ b. if b && is_to_come w overrides after label_first then Some label_first else None) s))
-    where
-      by : (b : Bool) → int_lt (instant label_clocks event.start) w.to ≡ b
-          → option_and_then (λ o. if is_to_come w overrides after o then Some o else None) (if b then Some label_first else None)
-          ≡ (if is_to_come w overrides after label_first then Some label_first else None)
-      by true e = refl
-      by false e =
-          sym (ap (λ b. if ((b && is_under_way w label_first.start label_first.finish) && is_after after label_first) && is_kept overrides label_first
-          then Some label_first else None) e)
 
 -- An event that starts once, and is no override.
 module _ (clocks : Clocks) (event : Event) (rule : event.rule ≡ None) (rdates : event.rdates ≡ []) (exdates : event.exdates ≡ []) where

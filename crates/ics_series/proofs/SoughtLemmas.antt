@@ -74,20 +74,16 @@ module _ (clocks : Clocks) (w : Window) (first : Time) where
       (in-listed (place + 1) k rdates (omega (arith, a)) e p)
 
 -- From where on the rule is asked.
-earlier-most : (b : Bool) (least t : ℤ) → earlier b least t ≤ℤ least
-earlier-most true least t = omega (arith, ints, int_min_is least t)
-earlier-most false least t = omega (arith, ints)
-
-earlier-one : (b : Bool) (least t : ℤ) → b ≡ true → earlier b least t ≤ℤ t
-earlier-one true least t e = omega (arith, ints, int_min_is least t)
-earlier-one false least t e = let f : false ≡ true = e in absurd cc
+earlier-is : (b : Bool) (least t : ℤ) → (earlier b least t ≤ℤ least) × (b ≡ true → earlier b least t ≤ℤ t)
+earlier-is true least t = (omega (arith, ints, int_min_is least t), λ e. omega (arith, ints, int_min_is least t))
+earlier-is false least t = (omega (arith, ints), λ e. let f : false ≡ true = e in absurd cc)
 
 module _ (clocks : Clocks) (w : Window) (event : Event) where
   earliest-most : (least : ℤ) (xs : List Start) → earliest_from clocks w event least xs ≤ℤ least
   earliest-most least [] = omega (arith, ints)
   earliest-most least (x ∷ xs) =
       let rest = earliest-most (earlier (is_span_met clocks w event x x.given) least x.moment) xs in
-      omega (arith, ints, rest, earlier-most (is_span_met clocks w event x x.given) least x.moment)
+      omega (arith, ints, rest, (earlier-is (is_span_met clocks w event x x.given) least x.moment).0)
 
   earliest-each : (least : ℤ) (s : Start) (xs : List Start) → IsIn s xs → is_span_met clocks w event s s.given ≡ true →
       earliest_from clocks w event least xs ≤ℤ s.moment
@@ -96,7 +92,7 @@ module _ (clocks : Clocks) (w : Window) (event : Event) where
       ⊎_elim
       (λ is.
       let rest = earliest-most (earlier (is_span_met clocks w event x x.given) least x.moment) xs in
-      let one = earlier-one (is_span_met clocks w event x x.given) least x.moment (ap (λ y. is_span_met clocks w event y y.given) (sym is) ∙ e) in
+      let one = (earlier-is (is_span_met clocks w event x x.given) least x.moment).1 (ap (λ y. is_span_met clocks w event y y.given) (sym is) ∙ e) in
       let same = ap (λ y. y.moment) is in
       omega (arith, ints, rest, one, same))
       (λ n. earliest-each (earlier (is_span_met clocks w event x x.given) least x.moment) s xs n e) m
@@ -137,14 +133,8 @@ module _ (zones : FileZones) (w : Window) (event : Event) where
           Meets w (entry_from (clocks_in zones) event given)
           → (earliest (clocks_in zones) w event (front (clocks_in zones) w event) -ℤ whole_days 4) ≤ℤ t
       by source (At time) g e m =
-          omega (
-            arith,
-            ints,
-            e,
-            meets-late zones event w time m,
-            earliest-most (clocks_in zones) w event (w.from -ℤ seconds_lasting (clocks_in zones) event)
-                (front (clocks_in zones) w event),
-          )
+          let most = earliest-most (clocks_in zones) w event (w.from -ℤ seconds_lasting (clocks_in zones) event) (front (clocks_in zones) w event) in
+          omega (arith, ints, e, meets-late zones event w time m, most)
       by (Kept local) (Span start lasts) g e m = let f : Span start lasts ≡ At (time_at event.start local) = g.1 in absurd cc
       by (Listed place) (Span start lasts) g e m =
           let there = listed-there place (Span start lasts) g m.begun in

@@ -8,23 +8,16 @@ use Rattle.std.specs.Option.{option_cmp}
 use Rattle.std.specs.Ordering.{ordering_reverse, ordering_then}
 use Rattle.std.proofs.lemmas.Bool.{cases_cond, cases_eq, cases_lt}
 use Rattle.std.proofs.lemmas.Bool.Decides.{nat_tests}
-use Rattle.std.proofs.lemmas.Cmp.{alike_right, nat_cmp_total, on_total, then_total, tied_itself, tied_back, upto}
+use Rattle.std.proofs.lemmas.Cmp.{back_total, nat_cmp_total, on_total, then_total, tied_itself, tied_back, upto}
 use Rattle.std.proofs.lemmas.List.{get_or-replicate, length-replicate}
 use Rattle.ics_series.specs.Entry.{Entry, entry_cmp}
 use Rattle.ics_series.specs.EntryLaws.{entry_total}
 use Rattle.ics_series.proofs.Cases.{here-or-later}
 use Rattle.ics_series.specs.Tournament.{above, first_below, first_of, head_cmp, lead_cmp, winner, AreSettled, AreSettledBut, AreSettledWhere}
 
-turned_total : {A : Type 0} {R : A → A → Ordering} → IsTotalOrder R → IsTotalOrder (λ x y. R y x)
-turned_total o = record {
-  antisymm = λ x y. o.antisymm y x;
-  trans = λ x y z p q. o.trans z y x q p;
-  congr = λ x y z p. sym (alike_right o y x z p);
-}
-
 -- what holds nothing goes last
 pub head_total : IsTotalOrder head_cmp
-head_total = subst IsTotalOrder (λ i x y. same x y i) (turned_total (options_total (turned_total entry_total)))
+head_total = subst IsTotalOrder (λ i x y. same x y i) (back_total (options_total (back_total entry_total)))
   where
     same : (x y : Option Entry) → option_cmp (λ a b. entry_cmp b a) y x ≡ head_cmp x y
     same None None = refl

@@ -53,6 +53,11 @@ rest-in : (head : Option Occurrence) (rest : List Entry) (a : Entry) → IsIn a 
 rest-in None rest a m = m
 rest-in (Some o) rest a m = inr m
 
+-- what is held at a place
+pub held-at : {X : Type 0} (head : X → Option Occurrence) (xs : List X) (i : ℕ) (d : X) {o : Option Occurrence} → i < length xs → head (get_or xs i d) ≡ o →
+    get_or (map (λ y. option_map entry_of (head y)) xs) i None ≡ option_map entry_of o
+held-at head xs i d l e = get_or-map (λ y. option_map entry_of (head y)) xs i d None l ∙ ap (option_map entry_of) e
+
 module _ {X : Type 0} (head : X → Option Occurrence) (rest : X → List Entry) where
   -- what a lead holds stands in its list
   pub head-in : (xs : List X) (i : ℕ) (a : Entry) → get_or (map (λ x. option_map entry_of (head x)) xs) i None ≡ Some a →
@@ -60,12 +65,6 @@ module _ {X : Type 0} (head : X → Option Occurrence) (rest : X → List Entry)
   head-in [] i a e = let no : None ≡ Some a = e in absurd cc
   head-in (x ∷ xs) zero a e = headed-in (head x) (rest x) a e
   head-in (x ∷ xs) (suc i) a e = head-in xs i a e
-
-  -- what is held at a place
-  pub held-at : (xs : List X) (i : ℕ) {x : X} {o : Option Occurrence} → i < length xs → x ≡ get_or xs i x → head x ≡ o →
-      get_or (map (λ y. option_map entry_of (head y)) xs) i None ≡ option_map entry_of o
-  held-at xs i {x = x} l read e =
-      get_or-map (λ y. option_map entry_of (head y)) xs i x None l ∙ (sym (ap (λ y. option_map entry_of (head y)) read) ∙ ap (option_map entry_of) e)
 
   pub heads-sorted : (from : ℕ) (xs : List X) → AreSortedFrom from (map (λ x. listed (head x) (rest x)) xs) →
       AreHeadsSorted from (map (λ x. option_map entry_of (head x)) xs)

@@ -1,5 +1,5 @@
 use Rattle.std.proofs.lemmas.Grind.{common_steps}
-use Rattle.std.proofs.Common.{◌≡◌, [], ◌∷◌, ◌++◌, None, Vec, Global, map, get_or, refl, ap, ◌∙◌, arith, append-nil}
+use Rattle.std.proofs.Common.{◌≡◌, [], ◌∷◌, ◌++◌, Vec, Global, map, get_or, refl, ap, ◌∙◌, arith, append-nil}
 use Rattle.std.specs.List.{flat_map}
 use Rattle.std.proofs.lemmas.List.{map-append}
 use Rattle.std.proofs.lemmas.List.Concat.{flat_map-append}
@@ -7,16 +7,13 @@ use Rattle.std.proofs.lemmas.Option.{slice_get-get_or, MatchOption-at_none, Matc
 use Rattle.ics_series.specs.declared.part.Part.{Part}
 use Rattle.ics_series.specs.declared.part.Part.TheVariants as part
 use Rattle.ics_series.specs.declared.series.Series.{Series}
-use Rattle.ics_series.specs.declared.version.Version.{Version}
 use Rattle.ics_series.specs.AgendaParts.{part_coming, part_sources}
 use Rattle.ics_series.specs.SeriesFeed.{series_left, series_of, series_sources}
+use Rattle.ics_series.proofs.OverrideLemmas.{any_version}
 use Rattle.ics_series.proofs.PushLemmas.{lists-none, versions-all, versions-more, versions-skip}
 use Rattle.ics_series.proofs.SourceLemmas.{sources-all, sources-more, sources-none, sources-skip}
 use Rattle.ics_series.proofs.masters.push_series.Goals as goal
 use Rattle.ics_series.proofs.masters.push_series.Goals.{in-Some+in_ok-new+in_ok-push, in_default}
-
-abbrev none : Version
-none = record { subject = record { uid = record { ref_ptr = (0, 0); now = [] }; recurrence = None }; sequence = 0; spot = record { file = 0; place = 0 } }
 
 pub loop-place-init : goal.loop-place-init
 loop-place-init c = record {
@@ -29,8 +26,8 @@ pub loop-place-preserved : goal.loop-place-preserved
 loop-place-preserved c =
     let vs = c.args.chosen.now in
     let k = c.loop-place.place in
-    let v = get_or c.args.chosen.now c.loop-place.place none in
-    let there = slice_get-get_or vs k none c.loop-place-test.true in
+    let v = get_or c.args.chosen.now c.loop-place.place any_version in
+    let there = slice_get-get_or vs k any_version c.loop-place-test.true in
     record {
       sources =
           elim c.match-branch-2.branch [

@@ -9,36 +9,30 @@ use Rattle.ics_series.specs.Masters.{Recurs}
 use Rattle.ics_series.specs.Sources.{IsFrom}
 use Rattle.ics_series.specs.Versions.{seen, subject_seen}
 use Rattle.ics_series.specs.FileZones.{clocks_in}
+use Rattle.ics_series.specs.Entry.{entry_cmp}
+use Rattle.ics_series.proofs.OnDayLemmas.{none-listed}
 use Rattle.ics_series.proofs.GivenLemmas.{map-in, stands}
-use Rattle.ics_series.proofs.OverrideLemmas.{chosen-order}
+use Rattle.ics_series.proofs.OverrideLemmas.{any_version, chosen-order}
 use Rattle.ics_series.proofs.RecurringLemmas.{IsRead, not-single, own-subject, series-listing, whole-version}
 use Rattle.ics_series.proofs.SortLemmas.{get-in}
 use Rattle.ics_series.proofs.ZoneLemmas.{own-event}
 use Rattle.ics_series.proofs.masters.series_at.Goals as goal
 
-abbrev none : Version
-none = record { subject = record { uid = record { ref_ptr = (0, 0); now = [] }; recurrence = None }; sequence = 0; spot = record { file = 0; place = 0 } }
-
 pub event-event-requires : goal.event-event-requires
-event-event-requires c = stands c.args.place none c.requires.chosen
+event-event-requires c = stands c.args.place any_version c.requires.chosen
     c.requires.within
 
 pub returns-then-is_single : goal.returns-then-is_single
 returns-then-is_single c = record {
   sources = λ version there. tt;
   series = λ version there.
-      not-single (get_or_from_slice_get c.args.chosen.now c.args.place version none there) c.event-event.ensures.event
+      not-single (get_or_from_slice_get c.args.chosen.now c.args.place version any_version there) c.event-event.ensures.event
       (sym c.is_single.ensures ∙ c.if-is_single.true);
   whole = λ version there w. (
     [],
-    record {
-      rises = tt;
-      exact = λ o. (
-        λ m. absurd m,
-        λ h. absurd (not-single (get_or_from_slice_get c.args.chosen.now c.args.place version none there)
-            c.event-event.ensures.event (sym c.is_single.ensures ∙ c.if-is_single.true) h.by),
-      );
-    },
+    none-listed entry_cmp (λ o h.
+        not-single (get_or_from_slice_get c.args.chosen.now c.args.place version any_version there) c.event-event.ensures.event
+        (sym c.is_single.ensures ∙ c.if-is_single.true) h.by),
   );
 }
 
@@ -47,9 +41,9 @@ overridden_instants-requires-clause-order c = chosen-order c.requires.chosen
 
 pub overridden_instants-requires-clause-master : goal.overridden_instants-requires-clause-master
 overridden_instants-requires-clause-master c =
-    let v = get_or c.args.chosen.now c.args.place none in
-    let there = slice_get-get_or c.args.chosen.now c.args.place none c.requires.within in
-    let r : Recurs (map said_by c.args.files.now) (seen (get_or c.args.chosen.now c.args.place none)) =
+    let v = get_or c.args.chosen.now c.args.place any_version in
+    let there = slice_get-get_or c.args.chosen.now c.args.place any_version c.requires.within in
+    let r : Recurs (map said_by c.args.files.now) (seen (get_or c.args.chosen.now c.args.place any_version)) =
     record { event = c.event-event.result.now; stands = c.event-event.ensures.event; recurs = sym c.is_single.ensures ∙ c.if-is_single.false } in
     let uid : c.as_slice-2.result.now ≡ c.event-event.result.now.uid = c.as_slice-2.ensures ∙ ap (λ (e : Event). e.uid) c.event.view_is in
     ap (option_map (λ (v : Version). subject_seen v.subject)) there
@@ -64,24 +58,24 @@ new-requires-clause-own c =
 pub returns : goal.returns
 returns c =
     let after = option_map (λ key. key_rank key.now) c.args.after in
-    let v = get_or c.args.chosen.now c.args.place none in
+    let v = get_or c.args.chosen.now c.args.place any_version in
     let stands = map-in seen v c.args.chosen.now
-    (get-in v c.args.chosen.now c.args.place (slice_get-get_or c.args.chosen.now c.args.place none c.requires.within)) in
-    let r : Recurs (map said_by c.args.files.now) (seen (get_or c.args.chosen.now c.args.place none)) =
+    (get-in v c.args.chosen.now c.args.place (slice_get-get_or c.args.chosen.now c.args.place any_version c.requires.within)) in
+    let r : Recurs (map said_by c.args.files.now) (seen (get_or c.args.chosen.now c.args.place any_version)) =
     record { event = c.event-event.result.now; stands = c.event-event.ensures.event; recurs = sym c.is_single.ensures ∙ c.if-is_single.false } in
     let uid : c.as_slice.result.now ≡ c.event-event.result.now.uid = c.as_slice.ensures ∙ ap (λ (e : Event). e.uid) c.event.view_is in
     let uid-2 : c.as_slice-2.result.now ≡ c.event-event.result.now.uid = c.as_slice-2.ensures ∙ ap (λ (e : Event). e.uid) c.event.view_is in
     let fits : to_z w64 (of_z w64 c.since_of-since.result) ≡ c.since_of-since.result = search rules in
     let since = rw (uid, ← fits) at c.since_of-since.ensures.since in
-    let read : IsRead (map said_by c.args.files.now) (display_clock c.args.display.now) c.args.chosen.now (seen (get_or c.args.chosen.now c.args.place none))
-    c.event-event.result.now c.zones-zones.result c.in_ok-overridden.overridden.items = record {
+    let read : IsRead (map said_by c.args.files.now) (display_clock c.args.display.now) c.args.chosen.now
+    (seen (get_or c.args.chosen.now c.args.place any_version)) c.event-event.result.now c.zones-zones.result c.in_ok-overridden.overridden.items = record {
       clocks = c.zones-zones.ensures.clocks;
       is_event = search rules;
       overridden = rw (← uid-2) c.in_ok-overridden.ensures.overridden;
     } in
     record {
       series = λ version there.
-          rw (← get_or_from_slice_get c.args.chosen.now c.args.place version none there)
+          rw (← get_or_from_slice_get c.args.chosen.now c.args.place version any_version there)
           (series-listing c.requires.chosen stands r read c.args.window after (to_z w64 (of_z w64 c.since_of-since.result)) since
           c.in_ok-series.ensures.listing);
       sources = λ version there. (
@@ -91,7 +85,7 @@ returns c =
           window = c.args.window;
           since = to_z w64 (of_z w64 c.since_of-since.result);
         },
-        rw (← get_or_from_slice_get c.args.chosen.now c.args.place version none there)
+        rw (← get_or_from_slice_get c.args.chosen.now c.args.place version any_version there)
             (record {
               stands = c.event-event.ensures.event;
               recurs = r.recurs;
@@ -102,5 +96,5 @@ returns c =
         c.in_ok-series.ensures.sources,
       );
       whole = λ version there w.
-          rw (← get_or_from_slice_get c.args.chosen.now c.args.place version none there) (whole-version c.requires.chosen stands r read w);
+          rw (← get_or_from_slice_get c.args.chosen.now c.args.place version any_version there) (whole-version c.requires.chosen stands r read w);
     }

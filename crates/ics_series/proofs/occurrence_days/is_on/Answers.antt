@@ -76,17 +76,9 @@ returns-clause-on c =
     let start : c.date_at-first.result ≡ first_day (display_clock c.args.display.now) c.args.window.now (entry_of c.args.occurrence.now) = search rules in
     let first : to_z w32 (of_z w32 c.date_at-first.result) ≡ first_day clock w (entry_of o) = omega (arith, ints, c.date_at-first.type_inv, start) in
     let day : to_z w32 (of_z w32 c.args.day) ≡ c.args.day = omega (arith, ints, c.ranges.day) in
-    let greater : to_z w32 (of_z w32 c.max-last.result) ≡ int_max (first_day clock w (entry_of o)) (end_day clock w (entry_of o)) = omega (
-      arith,
-      ints,
-      int_max_is,
-      int_max_is (first_day clock w (entry_of o)) (end_day clock w (entry_of o)),
-      c.max-last.ensures.value,
-      c.max-last.type_inv,
-      first,
-      end,
-      c.date_at.type_inv,
-    ) in
+    let most = int_max_is (first_day clock w (entry_of o)) (end_day clock w (entry_of o)) in
+    let greater : to_z w32 (of_z w32 c.max-last.result) ≡ int_max (first_day clock w (entry_of o)) (end_day clock w (entry_of o)) =
+    omega (arith, ints, int_max_is, most, c.max-last.ensures.value, c.max-last.type_inv, first, end, c.date_at.type_inv) in
     let last : to_z w32 (of_z w32 c.max-last.result) ≡ last_day clock w (entry_of o) =
     greater ∙ ap (λ b. if b then first_day clock w (entry_of o) else int_max (first_day clock w (entry_of o)) (end_day clock w (entry_of o))) (sym apart) in
     λ i. int_le (first i) (day i) && int_le (day i) (last i)
@@ -98,19 +90,8 @@ returns-clause-within c = λ is.
     let parts = and_parts (int_le (to_z w32 (of_z w32 c.date_at-first.result)) (to_z w32 (of_z w32 c.args.day)))
     (int_le (to_z w32 (of_z w32 c.args.day)) (to_z w32 (of_z w32 c.max-last.result))) is in
     let low = int_le_true (to_z w32 (of_z w32 c.date_at-first.result)) (to_z w32 (of_z w32 c.args.day)) parts.0 in
-    let high = int_le_true (to_z w32 (of_z w32 c.args.day)) (to_z w32 (of_z w32 c.max-last.result)) parts.1 in (
+    let high = int_le_true (to_z w32 (of_z w32 c.args.day)) (to_z w32 (of_z w32 c.max-last.result)) parts.1 in
+    let most = c.max-last in (
       omega (arith, ints, first.0, low, c.date_at-first.type_inv, c.ranges.day),
-      omega (
-        arith,
-        ints,
-        int_max_is,
-        first.1,
-        end.1,
-        high,
-        c.max-last.ensures.value,
-        c.max-last.type_inv,
-        c.date_at-first.type_inv,
-        c.date_at.type_inv,
-        c.ranges.day,
-      ),
+      omega (arith, ints, int_max_is, first.1, end.1, high, most.ensures.value, most.type_inv, c.date_at-first.type_inv, c.date_at.type_inv, c.ranges.day),
     )

@@ -1,11 +1,8 @@
-use Rattle.std.proofs.Common.{◌≡◌, rules, ◌+◌, ◌-◌, suc, length, take, drop, add-one, List, [], ◌∷◌, ◌++◌, ℕ, None, w64, to_z, of_z, ◌∙◌, ap, sym}
+use Rattle.std.proofs.Common.{◌≡◌, rules, ◌+◌, ◌-◌, suc, length, take, drop, add-one, List, [], ◌∷◌, ◌++◌, ℕ, w64, to_z, of_z, ◌∙◌, ap, sym}
 use Rattle.std.proofs.lemmas.List.{take_rest}
 use Rattle.ics_series.specs.declared.version.Version.{Version}
-use Rattle.ics_series.proofs.OverrideLemmas.{found-ends, found-step, found-stops}
+use Rattle.ics_series.proofs.OverrideLemmas.{any_version, found-ends, found-step, found-stops}
 use Rattle.ics_series.proofs.overridden.overridden_instants.Goals as goal
-
-abbrev none : Version
-none = record { subject = record { uid = record { ref_ptr = (0, 0); now = [] }; recurrence = None }; sequence = 0; spot = record { file = 0; place = 0 } }
 
 -- the slice of what stands behind a place
 abbrev behind : List Version → ℕ → List Version
@@ -19,14 +16,14 @@ returns-in_default c =
     let versions = c.args.versions.now in
     let place = c.args.place in
     let all = found-stops c.args.uid.now versions (behind versions place) place c.requires.order c.requires.master (rest versions place)
-    c.loop-version.version-index none c.loop-version.instants.items c.loop-version-test.true c.loop-version.invariant
+    c.loop-version.version-index any_version c.loop-version.instants.items c.loop-version-test.true c.loop-version.invariant
     (sym c.instance_of.ensures ∙ c.in_default.is) in
     record { overridden = all.0; sorted = all.1 }
 
 pub loop-version-preserved : goal.loop-version-preserved
 loop-version-preserved c =
     let fits : to_z w64 (of_z w64 c.in-Some.instant) ≡ c.in-Some.instant = search rules in
-    found-step c.args.uid.now (behind c.args.versions.now c.args.place) c.loop-version.version-index none c.loop-version.instants.items
+    found-step c.args.uid.now (behind c.args.versions.now c.args.place) c.loop-version.version-index any_version c.loop-version.instants.items
     c.loop-version-test.true (sym c.instance_of.ensures ∙ c.in-Some.is) (c.in_ok-push.ensures.items
     ∙ ap (λ t. c.loop-version.instants.items ++ t ∷ []) fits) c.loop-version.invariant
 

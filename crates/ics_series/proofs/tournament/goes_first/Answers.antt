@@ -1,5 +1,5 @@
 use Rattle.std.proofs.lemmas.Grind.{common_steps}
-use Rattle.std.proofs.Common.{ap, map, ◌∙◌, arith, option_map}
+use Rattle.std.proofs.Common.{map, arith, option_map}
 use Rattle.ics_series.specs.Entry.{entry_of}
 use Rattle.ics_series.proofs.TournamentLemmas.{lead-by}
 use Rattle.ics_series.proofs.UidLemmas.{head-order, held-at}
@@ -10,10 +10,8 @@ compare-requires g c =
     let leads = c.args.leads.now in
     let arm = c.in-Some-Some in
     head-order c.args.sorted_from c.args.one c.args.other (map (λ x. option_map entry_of x.head) leads) c.order_by_place-uids.result c.requires.sorted
-    (held-at (λ x. x.head) (λ x. g.F.Coming.coming x.feed) leads c.args.one c.requires.one c.index-leads-one.is
-    (ap (λ x. x.head) c.index-leads-one.is ∙ arm.is-0))
-    (held-at (λ x. x.head) (λ x. g.F.Coming.coming x.feed) leads c.args.other c.requires.other c.index-leads-other.is
-    (ap (λ x. x.head) c.index-leads-other.is ∙ arm.is-1))
+    (held-at (λ x. x.head) leads c.args.one c.index-leads-one.result c.requires.one arm.is-0)
+    (held-at (λ x. x.head) leads c.args.other c.index-leads-other.result c.requires.other arm.is-1)
     c.order_by_place-uids.ensures
 
 pub returns-in-Some-Some : goal.returns-in-Some-Some
@@ -21,10 +19,8 @@ returns-in-Some-Some g c =
     let leads = c.args.leads.now in
     let arm = c.in-Some-Some in
     let by = lead-by (map (λ x. option_map entry_of x.head) leads) c.args.one c.args.other
-    (held-at (λ x. x.head) (λ x. g.F.Coming.coming x.feed) leads c.args.one c.requires.one c.index-leads-one.is
-    (ap (λ x. x.head) c.index-leads-one.is ∙ arm.is-0))
-    (held-at (λ x. x.head) (λ x. g.F.Coming.coming x.feed) leads c.args.other c.requires.other c.index-leads-other.is
-    (ap (λ x. x.head) c.index-leads-other.is ∙ arm.is-1)) in
+    (held-at (λ x. x.head) leads c.args.one c.index-leads-one.result c.requires.one arm.is-0)
+    (held-at (λ x. x.head) leads c.args.other c.index-leads-other.result c.requires.other arm.is-1) in
     cc (by, c.compare.ensures, c.cmp.ensures, c.then.ensures, c.is_lt.ensures)
 
 pub returns-in-None-None : goal.returns-in-None-None

@@ -77,7 +77,6 @@ replay-requires-clause-settled g c =
     let self = c.args.self.now in
     let lead = c.winner-lead.result in
     let new = c.draw.new.self in
-    let leads = set self.leads.items lead new in
     let winners = self.winners.items in
     let drawn = settled-drawn (λ x. x.head) (λ x. g.F.Coming.coming x.feed) self.leads.items lead c.index_mut.result.now new c.index_mut.ensures.value winners
     self.settled in
@@ -89,7 +88,6 @@ invariant_of-self-2 g c =
     let self = c.args.self.now in
     let lead = c.winner-lead.result in
     let new = c.draw.new.self in
-    let leads = set self.leads.items lead new in
     let replayed = c.replay.new.winners in
     let kept = c.replay.auto.winners in
     let back : take self.winners.len (replayed ++ drop (length replayed) self.winners.items) ≡ replayed =

@@ -1,4 +1,4 @@
-use Rattle.std.proofs.Common.{rules, ◌≡◌, ◌<◌, get_or, length, map, None, refl, sym, ◌∙◌, ap, arith, option_map}
+use Rattle.std.proofs.Common.{rules, ◌≡◌, ◌<◌, get_or, length, map, None, sym, ◌∙◌, ap, arith, option_map}
 use Rattle.std.proofs.lemmas.Bool.{ltb-false}
 use Rattle.std.proofs.lemmas.List.{get_or_past, length-map}
 use Rattle.ics_series.specs.Entry.{entry_of}
@@ -26,6 +26,6 @@ returns g c =
     let within : c.winner.result < length c.deref.result.now = search rules in
     let read : c.in_ok-get.field-0.now ≡ get_or c.deref.result.now c.winner.result c.in_ok-get.field-0.now = search rules in
     let lent = ap length c.deref.ensures.value in
-    sym (held-at (λ x. x.head) (λ x. g.F.Coming.coming x.feed) leads c.winner.result (omega (arith, within, lent))
-    (read ∙ ap (λ xs. get_or xs c.winner.result lead) c.deref.ensures.value) refl)
+    sym (held-at (λ x. x.head) leads c.winner.result lead (omega (arith, within, lent))
+    (ap (λ x. x.head) (sym (read ∙ ap (λ xs. get_or xs c.winner.result lead) c.deref.ensures.value))))
     ∙ ap (λ i. get_or heads i None) first

@@ -20,14 +20,8 @@ loop-lead-preserved g c =
     let items = c.deref-lead-items.ensures.value in
     let within = subst (λ xs. k < length xs) items c.loop-lead-test.true in
     let one = ap (λ x. length (listed x.head (g.F.Holding.holds x.feed))) (c.lead-item.is ∙ ap (λ xs. get_or xs k lead) items) in
-    omega (
-      arith,
-      sum_by_more (λ x. length (listed x.head (g.F.Holding.holds x.feed))) leads k lead within,
-      one,
-      c.saturating_add-held.ensures,
-      c.held.ensures,
-      c.loop-lead.invariant,
-    )
+    let more = sum_by_more (λ x. length (listed x.head (g.F.Holding.holds x.feed))) leads k lead within in
+    omega (arith, more, one, c.saturating_add-held.ensures, c.held.ensures, c.loop-lead.invariant)
 
 pub returns : goal.returns
 returns g c =
