@@ -1,9 +1,6 @@
-use Rattle.std.proofs.Common.{refl, ◌∙◌}
+use Rattle.std.proofs.Common.{◌∙◌}
 use Rattle.ics_series.proofs.prepare.prepare.Goals as goal
 use Rattle.ics_series.proofs.prepare.prepare.Goals.{then-near-window, else-near-window}
-
-pub loop-init : goal.loop-init
-loop-init c = refl
 
 pub loop-preserved : goal.loop-preserved
 loop-preserved c =

@@ -7,9 +7,6 @@ use Rattle.ics_zone.specs.ZoneSaid.{zone_said}
 use Rattle.ics_series.proofs.prepare.prepare_named.Goals as goal
 use Rattle.ics_series.proofs.prepare.prepare_named.Goals.{in-Some+in-Some-get_mut, in-Some+in_default-get_mut, in_default}
 
-pub loop-k-init : goal.loop-k-init
-loop-k-init c = c.file.view_is
-
 pub invariant_of-file : goal.invariant_of-file
 invariant_of-file c = subst (λ (f : FileEvents). AreEventsOf (map zone_said f.zones) f.events) (c.file.view_is ∙ sym c.loop-k.invariant) c.file.invariant
 
@@ -30,6 +27,3 @@ loop-k-preserved c =
       | in-Some+in_default-get_mut w ↦ ap the_view w.file-inside-is ∙ c.loop-k.invariant
       | in_default w ↦ ap the_view w.file-inside-is ∙ c.loop-k.invariant
     ]
-
-pub returns : goal.returns
-returns c = c.loop-k.invariant

@@ -11,9 +11,3 @@ returns-clause-agenda c =
     let near = rw fits at c.near_day-near.ensures in
     if-both c.new.result _ _ (λ agenda listing are. inl (record { window = c.near_day-near.result; near = near; listing = listing; are = are }))
     c.new.ensures.listing c.new.ensures.sources
-
-pub returns-then-last_near-day-clause-whole : goal.returns-then-last_near-day-clause-whole
-returns-then-last_near-day-clause-whole c = c.ended.ensures.whole
-
-pub returns-clause-whole : goal.returns-clause-whole
-returns-clause-whole c = c.new.ensures.whole
