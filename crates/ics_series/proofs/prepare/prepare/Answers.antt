@@ -9,6 +9,3 @@ loop-preserved c =
       | else-near-window w ↦ w.zone-is
           ∙ c.loop.invariant
     ]
-
-pub returns : goal.returns
-returns c = c.reach-2.ensures.same ∙ c.loop.invariant
