@@ -19,10 +19,10 @@ use Rattle.ics_series.specs.Rising.{Rises}
 use Rattle.ics_series.specs.Singles.{is_single, IsSingleToCome}
 use Rattle.ics_series.specs.Versions.{label_of, seen, AreChosen, Label}
 use Rattle.ics_series.proofs.AfterLemmas.{listing-after_key}
-use Rattle.ics_series.proofs.AgendaLemmas.{one-key}
+use Rattle.ics_series.proofs.SinglesLemmas.{one-key}
 use Rattle.ics_series.proofs.GivenLemmas.{map-in, placed-event}
 use Rattle.ics_series.proofs.SortLemmas.{all-as}
-use Rattle.ics_series.proofs.MergedMembers.{merged-listing, IsInOne}
+use Rattle.ics_series.proofs.UnionLemmas.{merged-listing, IsInOne}
 use Rattle.ics_series.proofs.RecurringLemmas.{recurring-master}
 use Rattle.ics_series.proofs.SinglesLemmas.{given-event, singles-whole}
 use Rattle.ics_series.proofs.ToComeLemmas.{come-listed, listed-given}

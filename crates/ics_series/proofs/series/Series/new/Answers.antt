@@ -37,7 +37,7 @@ use Rattle.ics_series.proofs.FirstLemmas.{moment_total}
 use Rattle.ics_series.proofs.StartSourceLemmas.{number-seconds, written-at}
 use Rattle.ics_series.proofs.InstantLemmas.{instant-near}
 use Rattle.ics_series.proofs.LeftLemmas.{has-union, put-has, union-has}
-use Rattle.ics_series.proofs.ListedLemmas.{listed-in}
+use Rattle.ics_series.proofs.SoughtLemmas.{listed-in}
 use Rattle.ics_series.proofs.MasterLemmas.{same-entry}
 use Rattle.ics_series.proofs.RuleDayLemmas.{found-is, in-rules, put-both, seconds-numbered}
 use Rattle.ics_series.proofs.RuleLocalLemmas.{kept-calendar, gives-kept, number-numbered, numbered-number, ruled-kept}
