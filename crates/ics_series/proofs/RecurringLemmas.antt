@@ -1,5 +1,5 @@
 -- What a master gives that recurs: of the occurrences to come those of its event.
-use Rattle.std.proofs.Common.{◌≡◌, ◌<ℤ◌, ℤ, List, [], map, length, Option, Some, None, Bool, true, false, refl, sym, ◌∙◌, ap, subst, arith, ◌≤ℤ◌, ◌||◌, ◌&&◌}
+use Rattle.std.proofs.Common.{◌≡◌, ◌<ℤ◌, ℤ, List, map, length, Option, Some, None, Bool, true, false, refl, sym, ◌∙◌, ap, subst, arith, ◌≤ℤ◌, ◌||◌, ◌&&◌}
 use Rattle.std.proofs.Common.{◌==◌, int_le, not, is_none, is_some, option_map, int_eq}
 use Rattle.std.specs.List.{list_any}
 use Rattle.std.proofs.lemmas.Int.{ints}

@@ -20,7 +20,7 @@ use Rattle.ics_series.specs.Listing.{IsIn}
 use Rattle.ics_series.specs.Masters.{HasSources, IsSource, IsSourceOf, Recurs}
 use Rattle.ics_series.specs.Rising.{Rises}
 use Rattle.ics_series.specs.Singles.{is_single}
-use Rattle.ics_series.specs.Sources.{is_once, recurring, uid_cmp, AreSources, IsMasterOf, Recurring, Source}
+use Rattle.ics_series.specs.Sources.{IsFrom, is_once, recurring, uid_cmp, AreSources, IsMasterOf, Recurring, Source}
 use Rattle.ics_series.specs.Sources.Source.{Of, Once}
 use Rattle.ics_series.specs.Versions.{seen, subject_cmp, AreChosen, Label}
 use Rattle.ics_series.proofs.LeadNearLemmas.{all-pushed}
