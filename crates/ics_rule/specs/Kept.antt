@@ -11,7 +11,7 @@ use Rattle.ics_rule.specs.Recurrence.{Recurrence}
 use Rattle.ics_rule.specs.PeriodNumbers.{day_of, rules_end}
 use Rattle.ics_fields.specs.Locals.{number, local_seconds, calendar_end}
 use Rattle.ics_rule.specs.EffectiveRules.{effective}
-use Rattle.ics_rule.specs.Candidates.{is_candidate, is_candidate_in, lists_wide, period_in}
+use Rattle.ics_rule.specs.Candidates.{is_candidate_in, lists_wide, period_in}
 
 -- how many numbers below n pass the test
 unfoldable pub count : ℕ → (ℕ → Bool) → ℕ

@@ -20,7 +20,7 @@ use Rattle.ics_series.specs.Listing.{IsIn}
 use Rattle.ics_series.specs.Masters.{HasSources, IsSource, IsSourceOf, Recurs}
 use Rattle.ics_series.specs.Rising.{Rises}
 use Rattle.ics_series.specs.Singles.{is_single}
-use Rattle.ics_series.specs.Sources.{IsFrom, is_once, recurring, uid_cmp, AreSources, IsMasterOf, Recurring, Source}
+use Rattle.ics_series.specs.Sources.{is_once, recurring, uid_cmp, AreSources, IsMasterOf, Recurring, Source}
 use Rattle.ics_series.specs.Sources.Source.{Of, Once}
 use Rattle.ics_series.specs.Versions.{seen, subject_cmp, AreChosen, Label}
 use Rattle.ics_series.proofs.LeadNearLemmas.{all-pushed}
@@ -52,12 +52,6 @@ from-next key t e fits = by key.start e fits
     by : (a : ℤ) → t ≡ saturate_signed w64 (a +ℤ pos 1) → SFits w64 a → a ≤ℤ t
     by (pos n) e f = grind (arith, ints)
     by _ e f = grind (arith, ints)
-
-pub from-by : (after : Option Rank) (key : Rank) (t : ℤ) → after ≡ Some key → key.start ≤ℤ t → IsFrom after t
-from-by after key t e l = subst (λ a. IsFrom a t) (sym e) l
-
-pub from-none : (after : Option Rank) (t : ℤ) → after ≡ None → IsFrom after t
-from-none after t e = subst (λ a. IsFrom a t) (sym e) tt
 
 in-taken : (vs : List Version) (i : ℕ) (l : Label) → IsIn l (map seen (take i vs)) → IsIn l (map seen vs)
 in-taken vs i l m =

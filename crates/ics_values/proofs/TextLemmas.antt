@@ -1,6 +1,6 @@
 -- What the parts of a TEXT value stand for, and its escapes.
 use Rattle.std.proofs.Common.{◌≡◌, ℕ, zero, suc, ◌+◌, ◌<◌, ◌≤◌, Bool, true, false, ◌==◌, List, [], ◌∷◌, ◌++◌, length, take, drop, get_or, refl}
-use Rattle.std.proofs.Common.{sym, ap, ◌∙◌, arith, inl, inr, add-one, drop-cons, length-drop, if◌then◌else◌, codes}
+use Rattle.std.proofs.Common.{sym, ap, ◌∙◌, arith, inl, inr, add-one, drop-cons, length-drop, if◌then◌else◌}
 use Rattle.std.proofs.lemmas.Bool.{eqb-true, and_right, false_from_ne_true}
 use Rattle.std.proofs.lemmas.Bool.Decides.{eqb_tells, nat_tests}
 use Rattle.std.proofs.lemmas.List.{take-append-drop}

@@ -4,7 +4,7 @@ use Rattle.std.proofs.Common.{Decides, int_lt}
 use Rattle.std.proofs.lemmas.Int.{ints}
 use Rattle.std.proofs.lemmas.Bool.Decides.{Decides-int_eq}
 use Rattle.jiff_core.specs.Calendar.{IsWithin}
-use Rattle.ics_zone.specs.Moments.{shown, IsMomentBy, near, if_so, first_time, first_later, moment_from, moment_by}
+use Rattle.ics_zone.specs.Moments.{shown, IsMomentBy, near, if_so, within_a_day, first_time, first_later, moment_from, moment_by}
 use Rattle.ics_zone.specs.Searches.{IsFirstGiven, NoneGiven, first_below-is, natural-is}
 use Rattle.ics_zone.specs.ZoneOffsets.{natural}
 
@@ -36,7 +36,7 @@ module _ (P : ℤ → Type 0) (local : ℤ) (test : ℤ → Bool) (means : (s : 
       let at : s ≡ near local (natural (s -ℤ local +ℤ pos 86_400)) = omega (arith, ints) in
       (natural (s -ℤ local +ℤ pos 86_400), (at, if_so-none _ _ (sym (ap test at) ∙ (means s).1 h)))
 
-  least-is : (found : Option ℤ) → MatchOption found (NoneGiven 172_801 tried) (IsFirstGiven 172_801 tried) → IsLeastOf P local found
+  least-is : (found : Option ℤ) → MatchOption found (NoneGiven within_a_day tried) (IsFirstGiven within_a_day tried) → IsLeastOf P local found
   least-is None none = λ s high h. let k = tried_at s h in k.1.1 (none k.0 (omega (arith, ints)))
   least-is (Some t) first =
       let so = if_so-some _ _ t first.gives in
@@ -47,9 +47,9 @@ module _ (offset : ℤ → ℤ) (short : (t : ℤ) → IsWithin 86_399 (offset t
   unfolding moment_by
   moment_found local = by (first_time offset local) (first_later offset local)
       (least-is (λ s. shown offset s ≡ local) local _ (λ s. Decides-int_eq (shown offset s) local) (λ s is. let bound = short s in omega (arith, ints)) _
-      (first_below-is _ 172_801))
+      (first_below-is _ within_a_day))
       (least-is (λ s. local <ℤ shown offset s) local _ (λ s. Decides-int_lt local (shown offset s)) (λ s is. let bound = short s in omega (arith, ints)) _
-      (first_below-is _ 172_801))
+      (first_below-is _ within_a_day))
     where
       by : (time later : Option ℤ) → IsLeastOf (λ s. shown offset s ≡ local) local time → IsLeastOf (λ s. local <ℤ shown offset s) local later
           → IsMomentBy offset local (moment_from offset local time later)

@@ -11,7 +11,7 @@ use std::{io, mem};
 const AMPLE: usize = 1_000_000;
 
 /// How many reads failed, and after how many bytes an output ended.
-#[derive(Clone, Copy, Debug)]
+#[derive(Clone, Copy)]
 pub struct Tried {
     runs: usize,
     reads: usize,
