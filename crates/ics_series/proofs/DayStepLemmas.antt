@@ -1,6 +1,6 @@
 -- How many periods of rules are looked at from day to day, at most.
 use Rattle.std.proofs.Common.{◌≡◌, ℕ, zero, suc, ◌+◌, ◌≤◌, ℤ, pos, ◌+ℤ◌, ◌-ℤ◌, List, [], ◌∷◌, ◌++◌, map, ◌⊎◌, inl, inr, ⊎_elim, Option, Some, None, refl, sym}
-use Rattle.std.proofs.Common.{ap, subst, arith, ◌<ℤ◌, ◌≤ℤ◌, unsigned_abs, sum_by, option_map}
+use Rattle.std.proofs.Common.{ap, subst, arith, ◌<ℤ◌, ◌≤ℤ◌, unsigned_abs, sum_by, option_map, ◌∙◌, nat_cmp, Ordering}
 use Rattle.std.proofs.lemmas.Int.{int_max_is, int_min_is, ints}
 use Rattle.std.proofs.lemmas.List.Sums.{sum_by-le}
 use Rattle.ics_zone.proofs.Cases.{less_or_not_z}
@@ -9,18 +9,95 @@ use Rattle.ics_series.specs.OnDays.{DayRank, first_near, last_near, IsBehindKey,
 use Rattle.ics_series.specs.DaySteps.{day_and_start, masters_in, AreDayMasters, AreMasters, IsDayMaster, IsFromStart, IsNearAgenda, IsPastAgenda, Scope}
 use Rattle.ics_series.specs.DaySteps.{begin_day, first_under, most_in, sum_days, AreDayBounds, HasDaysBound, IsLookedBefore}
 use Rattle.ics_series.specs.Entry.{Entry, Rank}
-use Rattle.ics_series.specs.HeldMost.{Master}
-use Rattle.ics_series.specs.Listing.{IsIn}
-use Rattle.ics_series.specs.PlacedEvents.{Placed}
+use Rattle.ics_series.specs.HeldMost.{Master, held_most, most_in_days}
+use Rattle.ics_series.specs.Listing.{IsIn, IsListing}
+use Rattle.ics_series.specs.PlacedEvents.{Placed, clocks_at}
 use Rattle.ics_series.specs.Rising.{Rises}
-use Rattle.ics_series.specs.Sources.{master_of, recurring, uid_cmp, IsFrom, Recurring, Source}
+use Rattle.ics_series.specs.Sources.{master_of, recurring, uid_cmp, IsFrom, Recurring, Source, master_at, AreSources, IsMasterOf}
 use Rattle.ics_series.specs.Steps.{HasStepBound}
 use Rattle.ics_series.proofs.Cases.{here-or-later}
 use Rattle.ics_series.proofs.HoldingLaws.{sum_by-map}
 use Rattle.ics_series.proofs.NearDayLemmas.{day-under}
-use Rattle.ics_series.proofs.MasterSumLemmas.{day-masters, searched-masters, sum-of-masters}
-use Rattle.ics_series.proofs.SortLemmas.{all-in}
+use Rattle.ics_series.proofs.SortLemmas.{all-in, all-as}
 use Rattle.ics_fields.specs.Locals.{day_of_local}
+use Rattle.std.specs.Cmp.Lexicographic.{slice_cmp}
+use Rattle.std.specs.Cmp.{IsTotalOrder}
+use Rattle.std.specs.List.{AllByRecursion}
+use Rattle.std.specs.Ordering.{on}
+use Rattle.std.proofs.lemmas.Cmp.{nat_list_cmp_total, on_total}
+use Rattle.ics_event.specs.Event.{FileSaid}
+use Rattle.ics_series.specs.Chosen.{IsMaster}
+use Rattle.ics_series.specs.Clocks.{Clock}
+use Rattle.ics_series.specs.Versions.{by_subject}
+use Rattle.ics_series.proofs.GivenLemmas.{in-map, map-in}
+use Rattle.ics_series.proofs.ListingLemmas.{sums-within}
+use Rattle.ics_series.proofs.OverrideLemmas.{rises-on}
+
+-- What the masters of a listing may hold is no more than what all masters of the folder may.
+same-master : (files : List FileSaid) (display : Clock) (m : Recurring) (by : Placed) → m.clocks ≡ clocks_at files display by.file → m.event ≡ by.event
+    → master_of m ≡ master_at files display by
+same-master files display m by clocks event = λ i. record { clocks = clocks i; event = event i }
+
+-- by the bytes of the UID
+abbrev master_cmp : Master → Master → Ordering
+master_cmp = on (λ m. m.event.uid) (slice_cmp nat_cmp)
+
+master_total : IsTotalOrder master_cmp
+master_total = on_total (λ (m : Master). m.event.uid) nat_list_cmp_total
+
+module _ (files : List FileSaid) (display : Clock) where
+  -- a master of the folder
+  pub record IsOfFolder (m : Recurring) : Type 0 where
+    by : Placed
+    is : IsMaster files display by
+    same : master_of m ≡ master_at files display by
+
+  -- A sum over some masters of the folder, each with a UID of its own, is at most that over all of them.
+  pub sum-of-masters : (f : Master → ℕ) (ms : List Recurring) (masters : List Placed) → Rises uid_cmp ms → AllByRecursion IsOfFolder ms
+      → IsListing (by_subject files display) (IsMaster files display) masters → sum_by f (map master_of ms) ≤ sum_by f (map (master_at files display) masters)
+  sum-of-masters f ms masters rise are all =
+      sums-within master_cmp master_total (λ m. m) (λ m. m) f (map master_of ms) (map (master_at files display) masters)
+      ((rises-on master_of master_cmp ms).1 rise) (λ m k.
+      let n = in-map master_of m ms k in
+      let h = all-in IsOfFolder ms are n.0 n.1 in (
+        subst (λ v. IsIn v (map (master_at files display) masters)) (sym (n.2 ∙ h.same))
+            (map-in (master_at files display) h.by masters ((all.exact h.by).1 h.is)),
+        refl,
+      ))
+
+  pub held-of-masters : (ms : List Recurring) (masters : List Placed) → Rises uid_cmp ms → AllByRecursion IsOfFolder ms
+      → IsListing (by_subject files display) (IsMaster files display) masters → held_most (map master_of ms) ≤ held_most (map (master_at files display) masters)
+  unfolding held_most
+  held-of-masters ms masters rise are all = omega (arith, sum-of-masters (λ m. 2 + most_in_days m.clocks m.event) ms masters rise are all)
+
+-- those that are searched near a day are masters of the folder
+pub day-masters : (s : Scope) (day : ℤ) (ms : List Recurring) → AllByRecursion (IsDayMaster s day) ms → AllByRecursion (IsOfFolder s.files s.display) ms
+day-masters s day ms =
+    all-as (IsDayMaster s day) (IsOfFolder s.files s.display) ms (λ m h. record { by = h.by; is = h.is; same = h.searched.same })
+
+-- those of a listing are searched in its window, from an instant on
+pub searched-masters : (s : Scope) {day : ℤ} {n : Window} (after : Option Rank) → IsNearDay s.window day n
+    → ((since : ℤ) → IsFrom after since → IsFromStart s.after day since)
+    → (ms : List Recurring) → AllByRecursion (IsMasterOf s.files s.display n after) ms → AllByRecursion (IsDayMaster s day) ms
+searched-masters s {day = day} {n = n} after near from ms =
+    all-as (IsMasterOf s.files s.display n after) (IsDayMaster s day) ms (λ m h. record {
+      by = h.by;
+      is = h.is;
+      searched = record {
+        same = same-master s.files s.display m h.by h.clocks h.event;
+        near = subst (IsNearDay s.window day) (sym h.window) near;
+        from = from m.since h.since;
+      };
+    })
+
+module _ (files : List FileSaid) (display : Clock) (w : Window) (after : Option Rank) where
+  pub most-of-masters : (sources : List Source) (masters : List Placed) → AreSources files display w after sources →
+      IsListing (by_subject files display) (IsMaster files display) masters
+      → held_most (map master_of (recurring sources)) ≤ held_most (map (master_at files display) masters)
+  most-of-masters sources masters are all =
+      held-of-masters files display (recurring sources) masters are.apart.1.1
+      (all-as (IsMasterOf files display w after) (IsOfFolder files display) (recurring sources)
+      (λ m h. record { by = h.by; is = h.is; same = same-master files display m h.by h.clocks h.event }) are.each) all
 
 -- a bound with nothing to come is one whatever is to come
 wider : (m : Recurring) (coming : List Entry) (most : ℕ) → HasStepBound m [] most → HasStepBound m coming most

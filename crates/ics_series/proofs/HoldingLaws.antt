@@ -1,6 +1,6 @@
 -- What the feeds of some masters hold together is at most what these masters may hold, and a series has looked at so many periods of its rule at most.
-use Rattle.std.proofs.Common.{◌≡◌, ℕ, ◌+◌, ◌≤◌, ℤ, List, [], ◌∷◌, ◌++◌, cond, length, map, Option, Some, None, refl, sym, ◌∙◌, ap, arith, ◌+ℤ◌, true}
-use Rattle.std.proofs.Common.{false, ⊎_elim, sum_by, ◌≤ℤ◌, sum, length-append, nat_cmp, Less}
+use Rattle.std.proofs.Common.{◌≡◌, ℕ, ◌+◌, ◌≤◌, ℤ, List, [], ◌∷◌, ◌++◌, cond, length, map, Option, Some, None, refl, sym, ◌∙◌, ap, arith, ◌+ℤ◌, true, false}
+use Rattle.std.proofs.Common.{⊎_elim, sum_by, ◌≤ℤ◌, sum, length-append, nat_cmp, Less, ◌&&◌, ◌==◌, nat_le}
 use Rattle.std.specs.List.{flat_map, AllByRecursion}
 use Rattle.std.proofs.lemmas.List.{length-map}
 use Rattle.std.proofs.lemmas.List.Sums.{sum-map, sum_by-append, sum_by-cons}
@@ -27,9 +27,9 @@ use Rattle.ics_series.proofs.RuleStepLemmas.{few-held, asked-number}
 use Rattle.std.specs.Cmp.Lexicographic.{slice_cmp}
 use Rattle.std.proofs.lemmas.Cmp.{nat_list_cmp_total}
 use Rattle.std.proofs.lemmas.Int.{ints}
-use Rattle.ics_rule.specs.Cursors.{looks_from}
-use Rattle.ics_fields.specs.Locals.{number, midnight, whole_days}
-use Rattle.ics_rule.proofs.CursorLemmas.{few_steps}
+use Rattle.ics_rule.specs.Cursors.{looks_from, is_met, period_count}
+use Rattle.ics_fields.specs.Locals.{number, midnight, whole_days, calendar_end}
+use Rattle.ics_rule.proofs.CursorLemmas.{few_steps, count_within}
 use Rattle.ics_series.specs.EntryLaws.{entry_total}
 use Rattle.ics_series.specs.Listing.{IsIn}
 use Rattle.ics_series.specs.Merged.{merged}
@@ -41,10 +41,35 @@ use Rattle.ics_series.specs.Starts.{recurrence_of}
 use Rattle.ics_series.specs.Steps.{HasStepBound}
 use Rattle.ics_series.proofs.StartSourceLemmas.{number-seconds}
 use Rattle.ics_series.proofs.ListingLemmas.{not-less-itself}
-use Rattle.ics_series.proofs.UnionLemmas.{from-one, IsInOne}
-use Rattle.ics_series.proofs.PeriodCountLemmas.{periods-within}
+use Rattle.ics_series.proofs.UnionLemmas.{from-one, IsInOne, merged-in}
 use Rattle.ics_series.proofs.SortLemmas.{all-as, in-all}
-use Rattle.ics_series.proofs.UnionLemmas.{merged-in}
+use Rattle.std.proofs.lemmas.Bool.Decides.{nat_tests}
+use Rattle.std.proofs.lemmas.Bool.{ltb-true, and_from, lt-ltb}
+use Rattle.ics_rule.specs.Candidates.{is_stepped, period_in}
+use Rattle.ics_rule.specs.EffectiveRules.{effective}
+use Rattle.ics_rule.specs.Kept.{count}
+use Rattle.ics_rule.specs.Recurrence.{Recurrence}
+use Rattle.ics_rule.proofs.Counts.{count_mono}
+use Rattle.ics_rule.proofs.KeptLemmas.{and_true}
+
+-- More locals lie in no fewer periods.
+le-down : (a b m : ℕ) → b ≤ a → nat_le a m ≡ true → nat_le b m ≡ true
+le-down a b m l e = grind (arith, nat_tests)
+
+-- the periods that hold one of these locals are no more than those that hold one of more
+pub periods-within : (r : Recurrence) {a b c d : ℕ} → c ≤ a → b ≤ d → period_count r a b ≤ period_count r c d
+unfolding period_count
+periods-within r {a = a} {b = b} {c = c} {d = d} low high =
+    count_within calendar_end (is_met (effective r) (number r.start) a b) (is_met (effective r) (number r.start) c d)
+    (λ p below met.
+    let parts = and_true {a = is_stepped (period_in (effective r) (number r.start)) (effective r).interval p} met in
+    let held = λ (from n : ℕ). nat_le from n && period_in (effective r) n == p in
+    let some = ltb-true 0 (count b (held a)) parts.1 in
+    let more = count_mono b d (held a) high in
+    let wide = count_within d (held a) (held c)
+    (λ n l e. let k = and_true {a = nat_le a n} e in and_from (nat_le c n) (period_in (effective r) n == p) (le-down a c n low k.0) k.1) in
+    and_from (is_stepped (period_in (effective r) (number r.start)) (effective r).interval p) _ parts.0
+    (lt-ltb 0 (count d (held c)) (omega (arith, some, more, wide))))
 
 rule-few : (zones : FileZones) (event : Event) (w : Window) (first : ℤ) (o : Option RuleStarts) → HasOwnRule zones event w first o →
     length (rule_held o) ≤ most_in_days (clocks_in zones) event

@@ -16,7 +16,6 @@ pub mod LeadNearLemmas
 pub mod LeftLemmas
 pub mod ListingLemmas
 pub mod MasterLemmas
-pub mod MasterSumLemmas
 pub mod MeetingLemmas
 pub mod MetLemmas
 pub mod NearDayLemmas
@@ -24,11 +23,8 @@ pub mod NearLemmas
 pub mod OccursLemmas
 pub mod OnDayLemmas
 pub mod OverrideLemmas
-pub mod PartLemmas
-pub mod PeriodCountLemmas
 pub mod PickLemmas
 pub mod PlacedLemmas
-pub mod PushLemmas
 pub mod RawLemmas
 pub mod RecurringLemmas
 pub mod RuleDayLemmas
@@ -47,6 +43,5 @@ pub mod UidLemmas
 pub mod UnionLemmas
 pub mod VersionLemmas
 pub mod MoveLemmas
-pub mod WholeLemmas
 pub mod WindowLemmas
 pub mod ZoneLemmas

@@ -22,13 +22,6 @@ move to p = record { file = to p.file; place = p.place; event = p.event }
 abbrev Moved : List FileSaid → (ℕ → ℕ) → Placed → Placed → Type 0
 Moved files to p x = IsPlaced files p × (move to p ≡ x)
 
--- Files stand among others as numbered by `to`: each is there, versions of a subject keep their order, and no other event has a UID of theirs.
-record IsMove (files others : List FileSaid) (display : Clock) (to : ℕ → ℕ) : Type 0 where
-  keeps : (k : ℕ) (f : FileSaid) → slice_get files k ≡ Some f → slice_get others (to k) ≡ Some f
-  orders : (p q : Placed) → IsPlaced files p → IsPlaced files q → subject_of files display p ≡ subject_of files display q →
-      placed_cmp p q ≡ placed_cmp (move to p) (move to q)
-  meets : (p q : Placed) → IsPlaced files p → IsPlaced others q → q.event.uid ≡ p.event.uid → (r : Placed) × Moved files to r q
-
 -- an event of files, and the same event of others
 record IsSame (files others : List FileSaid) (display : Clock) (p x : Placed) : Type 0 where
   placed : IsPlaced files p
@@ -103,23 +96,32 @@ occurs-there m o (inr h) x r =
     let s = m.same h.override x r in
     inr (record { override = x; is = override-there m h.override x o.recurrence r h.is; of = rw (s.clocks, s.event) at h.of })
 
-matched : {files others : List FileSaid} {display : Clock} {to : ℕ → ℕ} → IsMove files others display to → IsMatch files others display (Moved files to)
-matched {others = others} {display = display} {to = to} m = record {
-  same = λ p x r. let keeps = m.keeps p.file r.0.within.0 r.0.within.1 in record {
+-- Files stand among others as numbered by `to`: each is there, versions of a subject keep their order, and no other event has a UID of theirs.
+abbrev IsMove : List FileSaid → List FileSaid → Clock → (ℕ → ℕ) → Type 0
+IsMove files others display to = IsMatch files others display (Moved files to)
+
+matched : {files others : List FileSaid} {display : Clock} (to : ℕ → ℕ)
+    → ((k : ℕ) (f : FileSaid) → slice_get files k ≡ Some f → slice_get others (to k) ≡ Some f)
+    → ((p q : Placed) → IsPlaced files p → IsPlaced files q → subject_of files display p ≡ subject_of files display q →
+    placed_cmp p q ≡ placed_cmp (move to p) (move to q))
+    → ((p q : Placed) → IsPlaced files p → IsPlaced others q → q.event.uid ≡ p.event.uid → (r : Placed) × Moved files to r q)
+    → IsMove files others display to
+matched {others = others} {display = display} to keep orders meets = record {
+  same = λ p x r. let keeps = keep p.file r.0.within.0 r.0.within.1 in record {
     placed = r.0;
     there = subst (IsPlaced others) r.1 (record { within = (r.0.within.0, keeps, r.0.within.2) });
     clocks = ap (λ o. clocks_of display (zones_of o)) (r.0.within.1 ∙ sym keeps) ∙ ap (λ (q : Placed). clocks_at others display q.file) r.1;
     event = ap (λ (q : Placed). q.event) r.1;
   };
-  orders = λ p q x y r u. m.orders p q r.0.0 r.1.0 u ∙ (λ i. placed_cmp (r.0.1 i) (r.1.1 i));
+  orders = λ p q x y r u. orders p q r.0.0 r.1.0 u ∙ (λ i. placed_cmp (r.0.1 i) (r.1.1 i));
   there = λ p q x r k e. (move to q, (k, refl));
-  here = λ p x y r k e. m.meets p y r.0 k (e ∙ sym (ap (λ (q : Placed). q.event.uid) r.1));
+  here = λ p x y r k e. meets p y r.0 k (e ∙ sym (ap (λ (q : Placed). q.event.uid) r.1));
 }
 
-occurs-moved : {files others : List FileSaid} {display : Clock} {to : ℕ → ℕ} → IsMove files others display to → (o : Entry) → Occurs files display o →
+occurs-moved : {files others : List FileSaid} {display : Clock} (to : ℕ → ℕ) → IsMove files others display to → (o : Entry) → Occurs files display o →
     Occurs others display o
-occurs-moved {files = files} {display = display} {to = to} m o h =
-    occurs-there (matched m) o h (move to (giver files display o h)) (giver-placed files display o h, refl)
+occurs-moved {files = files} {display = display} to m o h =
+    occurs-there m o h (move to (giver files display o h)) (giver-placed files display o h, refl)
 
 module _ {A : Type 0} where
   get-left : (xs ys : List A) (k : ℕ) (x : A) → slice_get xs k ≡ Some x → slice_get (xs ++ ys) k ≡ Some x
@@ -150,31 +152,28 @@ module _ (files more : List FileSaid) (display : Clock) (apart : AreApart files 
       (get-split files more q.file h.within.0 h.within.1)
 
   first-stay : IsMove files (files ++ more) display (λ k. k)
-  first-stay = record {
-    keeps = λ k f e. get-left files more k f e;
-    orders = λ p q h k u. refl;
-    meets = λ p q h k u. ⊎_elim (λ n. (q, (n, refl))) (λ s. absurd (apart p s.0 h s.1.0 (sym u ∙ sym (ap (λ (x : Placed). x.event.uid) s.1.1)))) (whose q k);
-  }
+  first-stay =
+      matched (λ k. k) (get-left files more) (λ p q h k u. refl)
+      (λ p q h k u. ⊎_elim (λ n. (q, (n, refl))) (λ s. absurd (apart p s.0 h s.1.0 (sym u ∙ sym (ap (λ (x : Placed). x.event.uid) s.1.1)))) (whose q k))
 
   others-behind : IsMove more (files ++ more) display (λ k. length files + k)
-  others-behind = record {
-    keeps = λ k f e. get-right files more k ∙ e;
-    orders = λ p q h k u. ap (λ c. ordering_then (nat_cmp p.event.sequence q.event.sequence) (ordering_then c (nat_cmp p.place q.place)))
-        (cmp-behind (length files) p.file q.file);
-    meets = λ p q h k u. ⊎_elim (λ n. absurd (apart q p n h u)) (λ s. s) (whose q k);
-  }
+  others-behind =
+      matched (λ k. length files + k) (λ k f e. get-right files more k ∙ e)
+      (λ p q h k u. ap (λ c. ordering_then (nat_cmp p.event.sequence q.event.sequence) (ordering_then c (nat_cmp p.place q.place)))
+      (cmp-behind (length files) p.file q.file))
+      (λ p q h k u. ⊎_elim (λ n. absurd (apart q p n h u)) (λ s. s) (whose q k))
 
   occurs-one : (o : Entry) → Occurs (files ++ more) display o → Occurs files display o ⊎ Occurs more display o
   occurs-one o h =
       let q = giver (files ++ more) display o h in
-      ⊎_elim (λ n. inl (occurs-there (turned (matched first-stay)) o h q (n, refl))) (λ s. inr (occurs-there (turned (matched others-behind)) o h s.0 s.1))
+      ⊎_elim (λ n. inl (occurs-there (turned first-stay) o h q (n, refl))) (λ s. inr (occurs-there (turned others-behind) o h s.0 s.1))
       (whose q (giver-placed (files ++ more) display o h))
 
 pub added-files : AddedFiles
 added-files files more display w apart o = (
   (λ h. ⊎_elim (λ k. inl (k, h.1)) (λ k. inr (k, h.1)) (occurs-one files more display apart o h.0)),
-  λ h. ⊎_elim (λ k. (occurs-moved (first-stay files more display apart) o k.0, k.1))
-      (λ k. (occurs-moved (others-behind files more display apart) o k.0, k.1)) h,
+  λ h. ⊎_elim (λ k. (occurs-moved (λ k. k) (first-stay files more display apart) o k.0, k.1))
+      (λ k. (occurs-moved (λ k. length files + k) (others-behind files more display apart) o k.0, k.1)) h,
 )
 
 -- of two numbers that do not tie the rest is not asked
@@ -200,17 +199,14 @@ module _ (files others : List FileSaid) (display : Clock) (m : AreReordered file
   )
 
   reordered-move : HaveApartVersions files display → IsMove files others display m.there
-  reordered-move apart = record {
-    keeps = λ k f e. m.moved k ∙ e;
-    orders = λ p q h k u. by-sequence p q m.there (λ e. apart p q h k u e);
-    meets = λ p q h k u. own-place q k;
-  }
+  reordered-move apart =
+      matched m.there (λ k f e. m.moved k ∙ e) (λ p q h k u. by-sequence p q m.there (λ e. apart p q h k u e)) (λ p q h k u. own-place q k)
 
 pub order-of-files : OrderOfFiles
 order-of-files files others display w m apart o =
     let by = reordered-move files others display m apart in (
-      (λ h. (occurs-moved by o h.0, h.1)),
+      (λ h. (occurs-moved m.there by o h.0, h.1)),
       λ h.
           let own = own-place files others display m (giver others display o h.0) (giver-placed others display o h.0) in
-          (occurs-there (turned (matched by)) o h.0 own.0 own.1, h.1),
+          (occurs-there (turned by) o h.0 own.0 own.1, h.1),
     )

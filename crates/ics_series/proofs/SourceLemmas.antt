@@ -1,11 +1,11 @@
--- The masters that recur among the versions that count, one after the other.
+-- The versions whose events recur, one after the other: their lists, and their masters.
 use Rattle.std.specs.List.{AllByRecursion}
 use Rattle.std.specs.Cmp.{IsTotalOrder}
 use Rattle.std.specs.Cmp.Lexicographic.{slice_cmp}
 use Rattle.std.specs.Int.{saturate_signed, w64}
 use Rattle.std.specs.Ordering.{on, ordering_then}
 use Rattle.std.proofs.Common.{◌≡◌, ℕ, suc, ◌+◌, ◌≤◌, ℤ, pos, ◌+ℤ◌, false, cond, List, [], ◌∷◌, ◌++◌, map, length, drop, take, inl, ⊎_elim, Option, Some, None}
-use Rattle.std.proofs.Common.{refl, sym, ◌∙◌, ap, subst, arith, ◌≤ℤ◌, count_by, slice_get, nat_cmp, Ordering, Less, Equal, SFits}
+use Rattle.std.proofs.Common.{refl, sym, ◌∙◌, ap, subst, arith, ◌≤ℤ◌, count_by, slice_get, nat_cmp, Ordering, Less, Equal, SFits, get_or, add-one}
 use Rattle.std.proofs.lemmas.Cmp.{on_total}
 use Rattle.std.proofs.lemmas.Int.{ints}
 use Rattle.std.proofs.lemmas.List.{append-nil, append_assoc, map-append, take-append-drop, take_all}
@@ -15,9 +15,9 @@ use Rattle.ics_event.specs.declared.event.Event.{Event}
 use Rattle.ics_series.specs.declared.version.Version.{Version}
 use Rattle.ics_series.specs.declared.window.Window.{Window}
 use Rattle.ics_series.specs.Clocks.{Clock}
-use Rattle.ics_series.specs.Entry.{Rank}
-use Rattle.ics_series.specs.Listing.{IsIn}
-use Rattle.ics_series.specs.Masters.{HasSources, IsSource, IsSourceOf, Recurs}
+use Rattle.ics_series.specs.Entry.{Rank, Entry, entry_cmp}
+use Rattle.ics_series.specs.Listing.{IsIn, IsListing}
+use Rattle.ics_series.specs.Masters.{HasSources, IsSource, IsSourceOf, Recurs, HasLists, IsOfVersion, IsOneOf}
 use Rattle.ics_series.specs.Rising.{Rises}
 use Rattle.ics_series.specs.Singles.{is_single}
 use Rattle.ics_series.specs.Sources.{is_once, recurring, uid_cmp, AreSources, IsMasterOf, Recurring, Source}
@@ -26,15 +26,77 @@ use Rattle.ics_series.specs.Versions.{seen, subject_cmp, AreChosen, Label}
 use Rattle.ics_series.proofs.LeadNearLemmas.{all-pushed}
 use Rattle.ics_series.proofs.ListingLemmas.{front-before, split-at}
 use Rattle.ics_series.proofs.OverrideLemmas.{chosen-rises}
-use Rattle.ics_series.proofs.PlacedLemmas.{in-append_left, in-append_right}
-use Rattle.ics_series.proofs.PushLemmas.{taken}
+use Rattle.ics_series.proofs.PlacedLemmas.{in-append_left, in-append_right, in-append}
 use Rattle.ics_series.proofs.RecurringLemmas.{own-clocks, own-event, own-subject, recurring-master, own}
 use Rattle.ics_series.proofs.GivenLemmas.{map-in}
 use Rattle.ics_series.proofs.OnDayLemmas.{rises-append}
 use Rattle.ics_series.proofs.SortLemmas.{all-as, all-in, get-in}
 use Rattle.ics_series.proofs.VersionLemmas.{subject_total}
+use Rattle.std.proofs.Math.Seq.{take-suc}
+use Rattle.std.proofs.lemmas.Option.{get_or_from_slice_get, slice_get_within}
 
--- those that stand before a place come before what stands there
+-- The lists of the versions whose events recur, one version after the other.
+-- the first so many versions, and one more
+pub taken : (vs : List Version) (i : ℕ) {v : Version} → slice_get vs i ≡ Some v → map seen (take i vs) ++ seen v ∷ [] ≡ map seen (take (i + 1) vs)
+taken vs i {v = v} there =
+    ap (λ (x : Version). map seen (take i vs) ++ seen x ∷ []) (sym (get_or_from_slice_get vs i v v there))
+    ∙ sym (ap (λ n. map seen (take n vs)) (add-one i)
+    ∙ (ap (map seen) (take-suc vs i v (slice_get_within vs i v there)) ∙ map-append seen (take i vs) (get_or vs i v ∷ [])))
+
+module _ {files : List FileSaid} {display : Clock} {w : Window} {after : Option Rank} where
+  pub lists-none : (before : List (List Entry)) → HasLists files display w after [] before before
+  lists-none before = record { more = []; are = record { each = tt; every = λ l m. absurd m }; behind = sym (append-nil before) }
+
+  wider-list : (labels : List Label) (l : Label) (list : List Entry) →
+      IsOneOf files display w after labels list → IsOneOf files display w after (labels ++ l ∷ []) list
+  wider-list labels l list h = record { label = h.label; stands = in-append_left h.label labels (l ∷ []) h.stands; listing = h.listing }
+
+  module _ (vs : List Version) (i : ℕ) where
+    -- a version whose event does not recur has none
+    pub versions-skip : {v : Version} {before now new : List (List Entry)} → slice_get vs i ≡ Some v →
+        HasLists files display w after (map seen (take i vs)) before now
+        → (Recurs files (seen v) → ⊥) → new ≡ now → HasLists files display w after (map seen (take (i + 1) vs)) before new
+    versions-skip {v = v} there h n e =
+        let labels = map seen (take i vs) in
+        rw (← taken vs i there)
+        (record {
+          more = h.more;
+          are = record {
+            each = all-as (IsOneOf files display w after labels) (IsOneOf files display w after (labels ++ seen v ∷ [])) h.more
+                (wider-list labels (seen v)) h.are.each;
+            every = λ k m r. ⊎_elim (λ a. h.are.every k a r) (⊎_elim (λ e. absurd (n (rw e at r))) (λ b. absurd b)) (in-append k labels (seen v ∷ []) m);
+          };
+          behind = e ∙ h.behind;
+        })
+
+    -- the list of a version stands behind those of the versions before it
+    pub versions-more : {v : Version} {list : List Entry} {before now new : List (List Entry)} → slice_get vs i ≡ Some v →
+        HasLists files display w after (map seen (take i vs)) before now → IsListing entry_cmp (IsOfVersion files display w after (seen v)) list
+        → new ≡ now ++ list ∷ [] → HasLists files display w after (map seen (take (i + 1) vs)) before new
+    versions-more {v = v} {list = list} {before = before} there h k e =
+        let labels = map seen (take i vs) in
+        rw (← taken vs i there)
+        (record {
+          more = h.more ++ list ∷ [];
+          are = record {
+            each = all-pushed (IsOneOf files display w after (labels ++ seen v ∷ [])) h.more list
+                (all-as (IsOneOf files display w after labels) (IsOneOf files display w after (labels ++ seen v ∷ [])) h.more
+                (wider-list labels (seen v)) h.are.each)
+                (record { label = seen v; stands = in-append_right (seen v) labels (seen v ∷ []) (inl refl); listing = k });
+            every = λ x m r.
+                ⊎_elim
+                (λ a. let s = h.are.every x a r in record { list = s.list; stands = in-append_left s.list h.more (list ∷ []) s.stands; listing = s.listing })
+                (⊎_elim (λ q. record { list = list; stands = in-append_right list h.more (list ∷ []) (inl refl); listing = rw q k }) (λ b. absurd b))
+                (in-append x labels (seen v ∷ []) m);
+          };
+          behind = e ∙ (ap (λ xs. xs ++ list ∷ []) h.behind ∙ append_assoc before h.more (list ∷ []));
+        })
+
+    pub versions-all : {before now : List (List Entry)} → length vs ≤ i → HasLists files display w after (map seen (take i vs)) before now →
+        HasLists files display w after (map seen vs) before now
+    versions-all {before = before} {now = now} l h = subst (λ xs. HasLists files display w after (map seen xs) before now) (take_all i vs l) h
+
+-- The masters that recur among them, one after the other. Those that stand before a place come before what stands there
 module _ {A B : Type 0} (R : B → B → Ordering) (o : IsTotalOrder R) (f : A → B) where
   before-at : (xs : List A) (i : ℕ) {v : A} (y : B) → slice_get xs i ≡ Some v → Rises R (map f xs) → IsIn y (map f (take i xs)) → R y (f v) ≡ Less
   before-at xs i {v = v} y e r m =
@@ -96,12 +158,12 @@ module _ {files : List FileSaid} {display : Clock} {w : Window} {after : Option 
         → new ≡ now ++ Of m ∷ [] → HasSources files display w after (map seen (take (i + 1) vs)) before new
     sources-more i {v = v} {m = m} {before = before} there h k e =
         let labels = map seen (take i vs) in
-        let each = all-as (IsSource files display w after labels) (IsSource files display w after (labels ++ seen v ∷ [])) h.more
-        (wider labels (seen v)) h.each in
         rw (← taken vs i there)
         (record {
           more = h.more ++ m ∷ [];
-          each = all-pushed (IsSource files display w after (labels ++ seen v ∷ [])) h.more m each
+          each = all-pushed (IsSource files display w after (labels ++ seen v ∷ [])) h.more m
+              (all-as (IsSource files display w after labels) (IsSource files display w after (labels ++ seen v ∷ [])) h.more
+              (wider labels (seen v)) h.each)
               (record { label = seen v; stands = in-append_right (seen v) labels (seen v ∷ []) (inl refl); is = k });
           rises = rises-append uid_cmp h.more (m ∷ []) h.rises (tt, tt)
               (λ x y s. ⊎_elim

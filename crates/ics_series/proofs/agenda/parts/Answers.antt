@@ -5,7 +5,7 @@ use Rattle.ics_series.specs.declared.part.Part.TheVariants as part
 use Rattle.ics_series.specs.Clocks.{display_clock}
 use Rattle.ics_series.specs.Entry.{key_rank}
 use Rattle.ics_series.specs.AgendaParts.{part_coming}
-use Rattle.ics_series.proofs.PartLemmas.{pushed-listing, whole-parts}
+use Rattle.ics_series.proofs.SinglesLemmas.{pushed-listing, whole-parts}
 use Rattle.ics_series.proofs.UidLemmas.{parts-sorted}
 use Rattle.ics_series.proofs.SourceLemmas.{sources-behind}
 use Rattle.ics_series.proofs.agenda.parts.Goals as goal

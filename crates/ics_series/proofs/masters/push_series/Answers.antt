@@ -10,8 +10,7 @@ use Rattle.ics_series.specs.declared.series.Series.{Series}
 use Rattle.ics_series.specs.AgendaParts.{part_coming, part_sources}
 use Rattle.ics_series.specs.SeriesFeed.{series_left, series_of, series_sources}
 use Rattle.ics_series.proofs.OverrideLemmas.{any_version}
-use Rattle.ics_series.proofs.PushLemmas.{lists-none, versions-all, versions-more, versions-skip}
-use Rattle.ics_series.proofs.SourceLemmas.{sources-all, sources-more, sources-none, sources-skip}
+use Rattle.ics_series.proofs.SourceLemmas.{lists-none, versions-all, versions-more, versions-skip, sources-all, sources-more, sources-none, sources-skip}
 use Rattle.ics_series.proofs.masters.push_series.Goals as goal
 use Rattle.ics_series.proofs.masters.push_series.Goals.{in-Some+in_ok-new+in_ok-push, in_default}
 

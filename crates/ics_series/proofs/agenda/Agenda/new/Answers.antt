@@ -3,7 +3,7 @@ use Rattle.ics_event.specs.Event.{said_by}
 use Rattle.ics_series.specs.Clocks.{display_clock}
 use Rattle.ics_series.specs.Entry.{key_rank}
 use Rattle.ics_series.specs.Sources.{AreApart}
-use Rattle.ics_series.proofs.PartLemmas.{behind-key}
+use Rattle.ics_series.proofs.SinglesLemmas.{behind-key}
 use Rattle.ics_series.proofs.agenda.Agenda.new.Goals as goal
 
 pub returns : goal.returns
