@@ -15,8 +15,7 @@ use Rattle.ics_series.specs.EntryLaws.{entry_total}
 use Rattle.ics_series.specs.Listing.{IsListing}
 use Rattle.ics_series.specs.Meets.{IsListed, IsToCome}
 use Rattle.ics_series.specs.Masters.{IsSince}
-use Rattle.ics_series.proofs.PickLemmas.{listing-filter}
-use Rattle.ics_series.proofs.ListingLemmas.{one-listing}
+use Rattle.ics_series.proofs.ListingLemmas.{listing-filter, one-listing}
 use Rattle.ics_series.proofs.OnDayLemmas.{greater-behind}
 use Rattle.ics_series.proofs.ToComeLemmas.{lt-Less}
 use Rattle.ics_series.proofs.VersionLemmas.{subject_total}

@@ -15,8 +15,7 @@ use Rattle.ics_series.specs.Entry.{Entry, Rank, entry_cmp}
 use Rattle.ics_series.specs.Listing.{IsListing}
 use Rattle.ics_series.specs.Meets.{IsListed, IsToCome, Meets}
 use Rattle.ics_series.specs.Sources.{Source}
-use Rattle.ics_series.proofs.PickLemmas.{listing-filter}
-use Rattle.ics_series.proofs.ListingLemmas.{one-listing, relisted}
+use Rattle.ics_series.proofs.ListingLemmas.{listing-filter, one-listing, relisted}
 use Rattle.ics_series.proofs.NearDayLemmas.{meets-near, near-first, near-last, occurs-forward}
 use Rattle.ics_series.proofs.OnDayLemmas.{day-first, joined, none-listed, on_day_total, shown-today, today-listing, today-shown}
 use Rattle.ics_series.proofs.ToComeLemmas.{after-come, come-after, come-listed}

@@ -18,7 +18,7 @@ use Rattle.ics_series.specs.Steps.{HasStepBound}
 use Rattle.ics_series.proofs.Cases.{here-or-later}
 use Rattle.ics_series.proofs.HoldingLaws.{sum_by-map}
 use Rattle.ics_series.proofs.NearDayLemmas.{day-under}
-use Rattle.ics_series.proofs.SortLemmas.{all-in, all-as}
+use Rattle.ics_series.proofs.ListingLemmas.{all-in, all-as, sums-within, rises-on}
 use Rattle.ics_fields.specs.Locals.{day_of_local}
 use Rattle.std.specs.Cmp.Lexicographic.{slice_cmp}
 use Rattle.std.specs.Cmp.{IsTotalOrder}
@@ -29,9 +29,7 @@ use Rattle.ics_event.specs.Event.{FileSaid}
 use Rattle.ics_series.specs.Chosen.{IsMaster}
 use Rattle.ics_series.specs.Clocks.{Clock}
 use Rattle.ics_series.specs.Versions.{by_subject}
-use Rattle.ics_series.proofs.GivenLemmas.{in-map, map-in}
-use Rattle.ics_series.proofs.ListingLemmas.{sums-within}
-use Rattle.ics_series.proofs.OverrideLemmas.{rises-on}
+use Rattle.ics_series.proofs.VersionLemmas.{in-map, map-in}
 
 -- What the masters of a listing may hold is no more than what all masters of the folder may.
 same-master : (files : List FileSaid) (display : Clock) (m : Recurring) (by : Placed) → m.clocks ≡ clocks_at files display by.file → m.event ≡ by.event

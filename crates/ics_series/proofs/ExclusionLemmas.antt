@@ -1,13 +1,12 @@
 -- Which starts EXDATEs take out.
-use Rattle.std.proofs.Common.{◌≡◌, ℕ, ℤ, pos, ◌+ℤ◌, Bool, true, false, ◌||◌, List, [], ◌∷◌, length, Result, Ok, Err, is_ok, ⊎_elim, refl, sym, ◌∙◌, ap, arith}
-use Rattle.std.proofs.Common.{◌<ℤ◌, not, int_cmp, int_eq, is_eq}
+use Rattle.std.proofs.Common.{◌≡◌, ℕ, ℤ, ◌+ℤ◌, Bool, true, false, ◌||◌, List, [], ◌∷◌, length, Result, is_ok, refl, sym, ◌∙◌, ap, arith}
+use Rattle.std.proofs.Common.{◌<ℤ◌, not, int_cmp, int_eq}
 use Rattle.std.specs.List.{list_any}
 use Rattle.std.specs.List.Sorted.{IsBinarySearchResult, IsPermutation, IsSearchInRange, IsSorted}
 use Rattle.std.proofs.lemmas.Cmp.{int_cmp_total}
 use Rattle.std.proofs.lemmas.Int.{ints}
-use Rattle.std.proofs.lemmas.List.Folds.{list_any-append, list_any_at, list_any_none}
-use Rattle.std.proofs.lemmas.List.Sorted.{list_any-IsPermutation, searchable_from_sorted}
-use Rattle.std.proofs.lemmas.Bool.{cases_lt}
+use Rattle.std.proofs.lemmas.List.Folds.{list_any-append}
+use Rattle.std.proofs.lemmas.List.Sorted.{list_any-IsPermutation}
 use Rattle.std.proofs.Math.Bool.{or-false}
 use Rattle.ics_values.specs.declared.stamp.Stamp.{Stamp}
 use Rattle.ics_values.specs.declared.stamp.Stamp.TheVariants.{Date}
@@ -21,16 +20,12 @@ use Rattle.ics_series.specs.Exclusions.{excludes_by, excludes_time, is_day_in, t
 use Rattle.ics_series.specs.FileZones.{clocks_in, is_past}
 use Rattle.ics_series.proofs.InstantLemmas.{instant-near}
 use Rattle.ics_fields.specs.Locals.{whole_days}
+use Rattle.ics_series.proofs.ListingLemmas.{search-finds}
 
 -- Whether a search finds a number.
 pub found-in : (xs : List ℤ) (x : ℤ) (r : Result ℕ ℕ) → IsSorted int_cmp xs → IsSearchInRange r (length xs) → IsBinarySearchResult (λ y. int_cmp y x) xs r →
     is_ok r ≡ list_any (λ y. int_eq y x) xs
-found-in xs x (Ok i) s b h = sym (list_any_at (λ y. int_eq y x) xs i (pos 0) b (ap is_eq (h (pos 0))))
-found-in xs x (Err i) s b h =
-    let parts = h (searchable_from_sorted int_cmp_total (λ y. y) xs x s) in
-    sym (list_any_none (λ y. int_eq y x) xs (λ k d l.
-    ⊎_elim (λ low. ap is_eq (parts.0 k d (omega arith) low)) (λ high. ap is_eq (parts.1 k d high l))
-    (cases_lt k i)))
+found-in xs x r s b h = search-finds int_cmp_total (λ y. y) x xs r s b h
 
 -- One more instant.
 or-moved : (a b c : Bool) → ((a || (b || false)) || c) ≡ ((a || c) || b)

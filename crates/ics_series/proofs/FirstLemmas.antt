@@ -19,7 +19,7 @@ use Rattle.ics_series.specs.Rising.{IsBefore, Rises}
 use Rattle.ics_series.specs.Starts.{IsNotAfter}
 use Rattle.std.specs.Option.{option_eq}
 use Rattle.ics_series.proofs.Cases.{eq-Equal, less-by, some-same, equal-true, up-to-front}
-use Rattle.ics_series.proofs.SortLemmas.{IsUpTo, Climbs, in-permutation, up-to-in}
+use Rattle.ics_series.proofs.ListingLemmas.{IsUpTo, Climbs, in-permutation, up-to-in}
 
 pub source_total : IsTotalOrder source_cmp
 source_total = then_total (on_total part_of nat_cmp_total) (then_total (on_total day_in int_cmp_total) (on_total place_in nat_cmp_total))

@@ -40,9 +40,8 @@ use Rattle.ics_series.specs.Singles.{is_single}
 use Rattle.ics_series.specs.Starts.{recurrence_of}
 use Rattle.ics_series.specs.Steps.{HasStepBound}
 use Rattle.ics_series.proofs.StartSourceLemmas.{number-seconds}
-use Rattle.ics_series.proofs.ListingLemmas.{not-less-itself}
+use Rattle.ics_series.proofs.ListingLemmas.{not-less-itself, all-as, in-all}
 use Rattle.ics_series.proofs.UnionLemmas.{from-one, IsInOne, merged-in}
-use Rattle.ics_series.proofs.SortLemmas.{all-as, in-all}
 use Rattle.std.proofs.lemmas.Bool.Decides.{nat_tests}
 use Rattle.std.proofs.lemmas.Bool.{ltb-true, and_from, lt-ltb}
 use Rattle.ics_rule.specs.Candidates.{is_stepped, period_in}

@@ -12,8 +12,7 @@ use Rattle.ics_series.specs.Rising.{IsBefore}
 use Rattle.ics_series.proofs.BeginsLemmas.{before-union}
 use Rattle.ics_series.proofs.LeadLemmas.{lists_of, past-drawn, pasts_of}
 use Rattle.ics_series.proofs.LeftLemmas.{member-cut}
-use Rattle.ics_series.proofs.ListingLemmas.{before-in}
-use Rattle.ics_series.proofs.SortLemmas.{all-as}
+use Rattle.ics_series.proofs.ListingLemmas.{before-in, all-as}
 
 -- what holds of all of a list, where one of it is set, or one more stands behind it
 pub all-set : {X : Type 0} (P : X → Type 0) (xs : List X) (i : ℕ) (x : X) → AllByRecursion P xs → P x → AllByRecursion P (set xs i x)

@@ -8,7 +8,7 @@ use Rattle.ics_series.specs.Entry.{Entry}
 use Rattle.ics_series.specs.Occurs.{IsMoved, IsOf, IsOfMaster, IsOfOverride, Occurs}
 use Rattle.ics_series.specs.PlacedEvents.{Placed, clocks_at}
 use Rattle.ics_series.proofs.StartSourceLemmas.{one-instance}
-use Rattle.ics_series.proofs.MasterLemmas.{one-chosen, same-entry}
+use Rattle.ics_series.proofs.VersionLemmas.{one-chosen, same-entry}
 
 abbrev sub : List ℕ → Option ℤ → SubjectSeen
 sub uid recurrence = record { uid = uid; recurrence = recurrence }

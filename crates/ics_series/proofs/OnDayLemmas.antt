@@ -18,11 +18,10 @@ use Rattle.ics_series.specs.Meeting.{is_met}
 use Rattle.ics_series.specs.Occurs.{Occurs}
 use Rattle.ics_series.specs.Rising.{IsBefore, Rises}
 use Rattle.ics_series.proofs.BeginsLemmas.{over}
-use Rattle.ics_series.proofs.PickLemmas.{listing-filter}
-use Rattle.ics_series.proofs.GivenLemmas.{in-map, map-in}
+use Rattle.ics_series.proofs.ListingLemmas.{listing-filter, before-in, rises-on}
+use Rattle.ics_series.proofs.VersionLemmas.{in-map, map-in}
 use Rattle.ics_series.proofs.MeetingLemmas.{is_met-meets, meets-is_met}
 use Rattle.ics_series.proofs.PlacedLemmas.{in-append, in-append_left, in-append_right}
-use Rattle.ics_series.proofs.ListingLemmas.{before-in}
 
 pub on_day_total : IsTotalOrder on_day_cmp
 on_day_total = on_total day_rank_of (then_total (on_total (λ r. r.day) int_cmp_total) (on_total (λ r. r.key) rank_total))
@@ -55,13 +54,8 @@ module _ {A : Type 0} (R : A → A → Ordering) where
 by-key : (day : ℤ) (x y : Entry) → on_day_cmp (on_day day x) (on_day day y) ≡ entry_cmp x y
 by-key day x y = ap (λ c. ordering_then c (entry_cmp x y)) (tied_itself int_cmp_total day)
 
-before-under : (day : ℤ) (x : Entry) (ys : List Entry) → IsBefore entry_cmp x ys → IsBefore on_day_cmp (on_day day x) (map (on_day day) ys)
-before-under day x [] h = tt
-before-under day x (y ∷ ys) h = (by-key day x y ∙ h.0, before-under day x ys h.1)
-
 rises-under : (day : ℤ) (xs : List Entry) → Rises entry_cmp xs → Rises on_day_cmp (map (on_day day) xs)
-rises-under day [] h = tt
-rises-under day (x ∷ xs) h = (before-under day x xs h.0, rises-under day xs h.1)
+rises-under day xs h = (rises-on (on_day day) on_day_cmp xs).1 (subst (λ (R : Entry → Entry → Ordering). Rises R xs) (λ i x y. sym (by-key day x y) i) h)
 
 -- an earlier day goes first
 pub day-first : (p q : OnDay) → p.day <ℤ q.day → on_day_cmp p q ≡ Less

@@ -1,17 +1,15 @@
 -- The overrides among the versions that count, and what they name. Behind a master stand its overrides, in the order of their instances.
-use Rattle.std.proofs.Common.{◌≡◌, ℕ, ◌+◌, ℤ, ◌||◌, List, [], ◌∷◌, map, length, get_or, ⊎_elim, Option, Some, None, Result, Ok, Err, Bool, true, false}
-use Rattle.std.proofs.Common.{refl, sym, ◌∙◌, ap, subst, arith, add-one, suc, ◌<◌, ◌≤◌, ◌++◌, drop, take, ◌↔◌, is_ok, slice_get, if◌then◌else◌, filter}
+use Rattle.std.proofs.Common.{◌≡◌, ℕ, ◌+◌, ℤ, ◌||◌, List, [], ◌∷◌, map, length, get_or, ⊎_elim, Option, Some, None, Result, Bool, true, false}
+use Rattle.std.proofs.Common.{refl, sym, ◌∙◌, ap, subst, arith, add-one, suc, ◌<◌, ◌≤◌, ◌++◌, drop, take, is_ok, slice_get, if◌then◌else◌, filter}
 use Rattle.std.proofs.Common.{is_eq, is_lt, nat_cmp, int_cmp, int_eq, is_gt, Ordering, Less, Greater, option_map, drop_of_length-le, drop-cons, append-nil}
 use Rattle.std.proofs.Common.{append_assoc, take-append-drop}
 use Rattle.std.specs.Cmp.{IsTotalOrder}
 use Rattle.std.specs.List.{list_any, cons_option, filter_map}
-use Rattle.std.specs.List.Sorted.{IsBinarySearchResult, IsNonDecreasingBy, IsSearchInRange, IsSorted}
+use Rattle.std.specs.List.Sorted.{IsBinarySearchResult, IsSearchInRange, IsSorted}
 use Rattle.std.specs.Cmp.Lexicographic.{slice_cmp}
-use Rattle.std.specs.Ordering.{on, ordering_index, ordering_reverse, ordering_then}
+use Rattle.std.specs.Ordering.{on, ordering_reverse, ordering_then}
 use Rattle.std.proofs.lemmas.Cmp.{on_total, tied_itself, eq_by_cmp_equiv, int_cmp_total, nat_list_cmp_total}
-use Rattle.std.proofs.lemmas.List.Folds.{list_any_at, list_any_none}
-use Rattle.std.proofs.lemmas.List.Sorted.{searchable_from_sorted}
-use Rattle.std.proofs.lemmas.Bool.{cases_lt, cases_Bool}
+use Rattle.std.proofs.lemmas.Bool.{cases_Bool}
 use Rattle.std.proofs.lemmas.Map.Keys.{Less-from_sorted}
 use Rattle.ics_event.specs.Event.{FileSaid}
 use Rattle.ics_series.specs.declared.version.Version.{Version}
@@ -20,12 +18,10 @@ use Rattle.ics_series.specs.Clocks.{Clock}
 use Rattle.ics_series.specs.Rising.{IsBefore, Rises}
 use Rattle.ics_series.specs.Versions.{is_named, is_override, label_of, seen, subject_cmp, subject_seen, AreChosen, Label}
 use Rattle.ics_series.proofs.Cases.{eq-Equal, less-by, up-to-front}
-use Rattle.ics_series.proofs.GivenLemmas.{in-map, map-in}
-use Rattle.ics_series.proofs.ListingLemmas.{strictly-sorted, after-in, before-in, less-up-to, not-less-itself, rises-end, split-at}
-use Rattle.ics_series.proofs.PickLemmas.{rises-filter, listing-picked}
+use Rattle.ics_series.proofs.VersionLemmas.{in-map, map-in, exact-subject, subject_total}
+use Rattle.ics_series.proofs.ListingLemmas.{strictly-sorted, after-in, before-in, less-up-to, not-less-itself, rises-end, split-at, rises-filter}
+use Rattle.ics_series.proofs.ListingLemmas.{listing-picked, any-in, in-any, get-in, search-finds, rises-on}
 use Rattle.ics_series.proofs.OccursLemmas.{override-subject}
-use Rattle.ics_series.proofs.SortLemmas.{any-in, in-any, get-in}
-use Rattle.ics_series.proofs.VersionLemmas.{exact-subject, subject_total}
 use Rattle.std.specs.Option.{option_cmp}
 use Rattle.std.specs.Str.{bytes_eq}
 use Rattle.std.proofs.lemmas.Map.Lookups.{exact_bytes}
@@ -34,7 +30,7 @@ use Rattle.std.proofs.lemmas.Option.{slice_get-get_or}
 use Rattle.ics_series.specs.Listing.{IsIn, IsListing}
 use Rattle.ics_series.specs.Overridden.{instance_of, AreOverridden}
 use Rattle.ics_series.proofs.PlacedLemmas.{in-append_right}
-use Rattle.ics_series.proofs.RuleLocalLemmas.{same-test}
+use Rattle.ics_series.proofs.StartSourceLemmas.{same-test}
 use Rattle.ics_series.proofs.SeriesLemmas.{among-in, in-among}
 
 -- The versions that count are sorted by subject.
@@ -43,15 +39,6 @@ module _ {A : Type 0} (R : A → A → Ordering) (o : IsTotalOrder R) where
   rises-sorted xs h = λ k d a b.
       let less = Less-from_sorted R xs k (k + 1) d (strictly-sorted R o xs h) (omega arith) b in
       ap is_lt (o.antisymm (get_or xs (k + 1) d) (get_or xs k d) ∙ ap ordering_reverse less)
-
-module _ {A B : Type 0} (f : A → B) (R : B → B → Ordering) where
-  before-on : (x : A) (ys : List A) → IsBefore R (f x) (map f ys) ↔ IsBefore (on f R) x ys
-  before-on x [] = (λ h. h, λ h. h)
-  before-on x (y ∷ ys) = let k = before-on x ys in (λ h. (h.0, k.0 h.1), λ h. (h.0, k.1 h.1))
-
-  pub rises-on : (xs : List A) → Rises R (map f xs) ↔ Rises (on f R) xs
-  rises-on [] = (λ h. h, λ h. h)
-  rises-on (x ∷ xs) = let k = before-on x xs in let l = rises-on xs in (λ h. (k.0 h.0, l.0 h.1), λ h. (k.1 h.0, l.1 h.1))
 
 abbrev label_subject_cmp : Label → Label → Ordering
 label_subject_cmp = on (λ l. l.subject) subject_cmp
@@ -103,17 +90,8 @@ module _ (s : SubjectSeen) where
   pub searched : (vs : List Version) (r : Result ℕ ℕ) → IsSorted (on (λ v. subject_seen v.subject) subject_cmp) vs → IsSearchInRange r (length vs) →
       IsBinarySearchResult ranks vs r
       → is_ok r ≡ is_named s (map seen vs)
-  searched vs r sorted within found = by vs r within found (searchable_from_sorted subject_total (λ v. subject_seen v.subject) vs s sorted)
-      ∙ sym (any-map seen (λ l. is_eq (subject_cmp l.subject s)) vs)
-    where
-      by : (vs : List Version) (r : Result ℕ ℕ) → IsSearchInRange r (length vs) → IsBinarySearchResult ranks vs r →
-          IsNonDecreasingBy (λ v. ordering_index (ranks v)) vs → is_ok r ≡ list_any (λ v. is_eq (ranks v)) vs
-      by [] (Ok k) within found n = absurd (omega (arith, within))
-      by (v ∷ vs) (Ok k) within found n = sym (list_any_at (λ v. is_eq (ranks v)) (v ∷ vs) k v within (ap is_eq (found v)))
-      by vs (Err i) within parted n =
-          let halves = parted n in
-          sym (list_any_none (λ v. is_eq (ranks v)) vs (λ k d l.
-          ⊎_elim (λ less. ap is_eq (halves.0 k d (omega arith) less)) (λ more. ap is_eq (halves.1 k d more l)) (cases_lt k i)))
+  searched vs r sorted within found =
+      search-finds subject_total (λ v. subject_seen v.subject) s vs r sorted within found ∙ sym (any-map seen (λ l. is_eq (subject_cmp l.subject s)) vs)
 
 -- What is named is overridden.
 module _ (files : List FileSaid) (display : Clock) (vs : List Version) (h : AreChosen files display vs) (uid : List ℕ) (t : ℤ) where

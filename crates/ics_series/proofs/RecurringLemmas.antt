@@ -26,7 +26,7 @@ use Rattle.ics_series.specs.Versions.{label_of, seen, AreChosen, Label}
 use Rattle.ics_series.specs.FileZones.{clocks_in}
 use Rattle.ics_series.proofs.SeriesLemmas.{in-among, not-among, series-listing as listing-by}
 use Rattle.ics_series.proofs.Cases.{not-true, some-same}
-use Rattle.ics_series.proofs.GivenLemmas.{in-map, placed-event, IsGiven}
+use Rattle.ics_series.proofs.VersionLemmas.{in-map, placed-event, IsGiven}
 use Rattle.ics_series.proofs.StartSourceLemmas.{gives-value, rdate-time, same-given}
 use Rattle.ics_series.proofs.InstantLemmas.{late}
 use Rattle.ics_series.proofs.ToComeLemmas.{come-listed, is-after, listed-given, to-come}

@@ -25,14 +25,12 @@ use Rattle.ics_series.specs.RuleFeed.{starts_left}
 use Rattle.ics_series.specs.RuleStarts.{found, gives, is_behind, is_ready, midnight_number, steps_left, to_come, with_held, AreHeld, IsHeld}
 use Rattle.ics_series.specs.Starts.{time_at}
 use Rattle.ics_series.specs.FileZones.{clocks_in, IsTimeOf}
-use Rattle.ics_series.proofs.StartSourceLemmas.{kept-time}
-use Rattle.ics_series.proofs.HeldMostLemmas.{held-in-days}
+use Rattle.ics_series.proofs.StartSourceLemmas.{kept-time, numbered-number}
+use Rattle.ics_series.proofs.RawLemmas.{held-in-days}
 use Rattle.ics_series.proofs.RuleDayLemmas.{come-none, come-one, early-numbered, found-is, given-parts, late-numbered, less-start, number-day, rises-found}
-use Rattle.ics_series.proofs.RuleLocalLemmas.{numbered-number}
 use Rattle.ics_series.proofs.ListingLemmas.{before-in}
 use Rattle.ics_series.proofs.UnionLemmas.{union-in}
-use Rattle.ics_series.proofs.HeldLemmas.{before-all, put-before}
-use Rattle.ics_series.proofs.BeginsLemmas.{before-union}
+use Rattle.ics_series.proofs.BeginsLemmas.{before-all, put-before, before-union}
 use Rattle.ics_series.proofs.FirstLemmas.{int-less, moment_total}
 use Rattle.ics_zone.proofs.Cases.{int_le_false, int_le_true, int_lt_true}
 use Rattle.ics_series.proofs.Cases.{not-true}

@@ -1,10 +1,10 @@
 -- What a series gives.
-use Rattle.std.proofs.Common.{◌≡◌, ℤ, ◌-ℤ◌, List, [], ◌∷◌, take, true, false, Option, Some, None, ◌⊎◌, inl, inr, refl, sym, ◌∙◌, ap, subst, arith}
-use Rattle.std.proofs.Common.{◌≤ℤ◌, ◌<ℤ◌, slice_get, int_eq}
+use Rattle.std.proofs.Common.{◌≡◌, ℤ, ◌-ℤ◌, List, [], ◌∷◌, take, true, false, Option, Some, None, ◌⊎◌, inl, inr, refl, sym, ◌∙◌, ap, subst, arith, ◌≤ℤ◌, ◌<ℤ◌}
+use Rattle.std.proofs.Common.{slice_get, int_eq, Bool, ◌&&◌, not, if◌then◌else◌, int_cmp}
 use Rattle.std.proofs.lemmas.Int.{ints}
 use Rattle.std.proofs.lemmas.List.{take-append-drop}
-use Rattle.std.specs.List.{cons_option}
-use Rattle.std.proofs.lemmas.Bool.{false_from_ne_true}
+use Rattle.std.specs.List.{cons_option, filter_map}
+use Rattle.std.proofs.lemmas.Bool.{false_from_ne_true, cond_both}
 use Rattle.ics_fields.specs.declared.local.Local.{Local}
 use Rattle.ics_rule.specs.Cursors.{place_of}
 use Rattle.ics_fields.specs.Locals.{number, midnight, whole_days}
@@ -19,31 +19,145 @@ use Rattle.ics_series.specs.declared.start.StartSource.TheVariants.{Kept, Listed
 use Rattle.ics_series.specs.declared.start.Start.{Start}
 use Rattle.ics_series.specs.declared.window.Window.{Window}
 use Rattle.ics_series.specs.declared.zones.FileZones.{FileZones}
-use Rattle.ics_series.specs.Clocks.{Clocks}
+use Rattle.ics_series.specs.Clocks.{Clocks, instant}
 use Rattle.ics_series.specs.Entry.{Entry, entry_cmp}
-use Rattle.ics_series.specs.Exclusions.{is_among}
-use Rattle.ics_series.specs.Found.{is_shown, moment_cmp, AreStartsSince, IsStart}
+use Rattle.ics_series.specs.Exclusions.{is_among, is_excluded}
+use Rattle.ics_series.specs.Found.{is_shown, moment_cmp, AreStartsSince, IsStart, met_by, shown_by, HasStart, IsSought}
 use Rattle.ics_series.specs.Listing.{IsIn, IsListing}
-use Rattle.ics_series.specs.Meeting.{entry_from}
+use Rattle.ics_series.specs.Meeting.{entry_from, is_met}
 use Rattle.ics_series.specs.Merged.{cut, union}
 use Rattle.ics_series.specs.Rising.{IsBefore, Rises}
 use Rattle.ics_series.specs.RuleFeed.{starts_left}
-use Rattle.ics_series.specs.SeriesStarts.{first_asked, given_of, has_moment, is_wanted, listed_left, rule_asked, rule_left, wanted_by, AreKnown}
-use Rattle.ics_series.specs.SeriesStarts.{HasOwnRule, HasRuled, HasSameRule, IsAskedNear, IsGivenAt, IsGivenBy, IsKnown, IsSeriesMet}
-use Rattle.ics_series.specs.Starts.{given_by, local_of, recurrence_of, GivesStart, IsRuleStart}
+use Rattle.ics_series.specs.SeriesStarts.{first_asked, given_of, has_moment, is_wanted, listed_left, rule_asked, rule_left, wanted_by, AreKnown, HasOwnRule}
+use Rattle.ics_series.specs.SeriesStarts.{HasRuled, HasSameRule, IsAskedNear, IsGivenAt, IsGivenBy, IsKnown, IsSeriesMet}
+use Rattle.ics_series.specs.Starts.{given_by, local_of, recurrence_of, GivesStart, IsRuleStart, time_of, IsNotAfter}
 use Rattle.ics_series.specs.FileZones.{clocks_in}
 use Rattle.ics_series.proofs.Cases.{equal-true, mapped-some, true-equal}
-use Rattle.ics_series.proofs.FirstLemmas.{int-less, moment_total, tied-moment}
-use Rattle.ics_series.proofs.StartSourceLemmas.{gives-value}
+use Rattle.ics_series.proofs.FirstLemmas.{int-less, moment_total, tied-moment, same-moment}
+use Rattle.ics_series.proofs.StartSourceLemmas.{gives-value, same-given, same-source, kept-ruled}
 use Rattle.ics_series.proofs.LeftLemmas.{member-cut}
-use Rattle.ics_series.proofs.ListingLemmas.{before-in, rises-end}
-use Rattle.ics_series.proofs.MeetingLemmas.{met-shown}
-use Rattle.ics_series.proofs.MetLemmas.{found-is, in-picked, is-found, listing-picked}
+use Rattle.ics_series.proofs.ListingLemmas.{before-in, rises-end, any-in, in-any, picked as picked-from, listing-picked as picked-listing, KeepsOrder}
+use Rattle.ics_series.proofs.ListingLemmas.{one-of-tied}
+use Rattle.ics_series.proofs.MeetingLemmas.{met-shown, shown-met}
 use Rattle.ics_series.proofs.RuleDayLemmas.{given-parts, rises-to_come}
-use Rattle.ics_series.proofs.RuleLocalLemmas.{kept-ruled}
-use Rattle.ics_series.proofs.GivenLemmas.{entry_start_cmp}
+use Rattle.ics_series.proofs.VersionLemmas.{entry_start_cmp, same-entry}
 use Rattle.ics_series.proofs.RuleStepLemmas.{left-near}
-use Rattle.ics_series.proofs.SortLemmas.{any-in, in-any}
+use Rattle.std.proofs.lemmas.Option.{cond_some}
+use Rattle.ics_series.specs.Meets.{Meets, IsEventMet}
+
+-- The occurrences of one event that meet a window.
+-- Whether the occurrence with a start is shown.
+module _ (clocks : Clocks) (w : Window) (event : Event) (s : Start) where
+  abbrev from : Entry
+  from = entry_from clocks event s.given
+
+  -- it is if it meets the window, and no EXDATE takes it out
+  pub shown-by : {out : Bool} → is_excluded clocks event from.start ≡ out → shown_by clocks w event s ≡ (if out then None else met_by clocks w event s)
+  shown-by {out = out} e = ap (λ c. if is_met w from && not c then Some from else None) e ∙ by (is_met w from) out
+    where
+      by : (b c : Bool) → (if b && not c then Some from else None) ≡ (if c then None else if b then Some from else None)
+      by b c = grind arith
+
+  pub unmet : met_by clocks w event s ≡ None → shown_by clocks w event s ≡ None
+  unmet e = shown-by refl ∙ cond_both (is_excluded clocks event from.start) None (met_by clocks w event s) (λ o. o ≡ None) (λ _. refl) (λ _. e)
+
+-- those of the occurrences with these starts that pass a test
+abbrev pub picked : Clocks → Event → (Entry → Bool) → List Start → List Entry
+picked clocks event test starts = filter_map (λ s. if test (entry_from clocks event s.given) then Some (entry_from clocks event s.given) else None) starts
+
+module _ (clocks : Clocks) (event : Event) (test : Entry → Bool) where
+  -- the occurrence with a start, which is picked if it passes
+  abbrev own : Start → Entry
+  own s = entry_from clocks event s.given
+
+  abbrev pick : Start → Option Entry
+  pick s = if test (own s) then Some (own s) else None
+
+  pick-is : (s : Start) (e : Entry) → pick s ≡ Some e → (e ≡ own s) × (test e ≡ true)
+  pick-is s e q = let k = cond_some (test (own s)) (own s) e q in (sym k.1, ap test (sym k.1) ∙ k.0)
+
+  picks-keep : (ss : List Start) → ((s : Start) → IsIn s ss → IsStart clocks event s) → KeepsOrder pick moment_cmp entry_start_cmp (λ s. IsIn s ss)
+  picks-keep ss o s t x y m n d e l =
+      let one = pick-is s x d in
+      let other = pick-is t y e in
+      (λ i. entry_start_cmp (one.0 i) (other.0 i)) ∙ ((λ i. int_cmp (sym (o s m).moment i) (sym (o t n).moment i)) ∙ l)
+
+  -- The members: e has one of these starts, and passes.
+  pub record IsPicked (ss : List Start) (e : Entry) : Type 0 where
+    pub start : Start
+    pub stands : IsIn start ss
+    pub is : e ≡ entry_from clocks event start.given
+    pub passes : test e ≡ true
+
+  pub in-picked : (ss : List Start) (e : Entry) → IsIn e (picked clocks event test ss) → IsPicked ss e
+  in-picked ss e m =
+      let k = picked-from pick e ss m in
+      let is = pick-is k.0 e k.2 in
+      record { start = k.0; stands = k.1; is = is.0; passes = is.1 }
+
+  -- they are what P holds of, if it holds exactly of those that pass
+  pub listing-picked : (P : Entry → Type 0) (ss : List Start) → Rises moment_cmp ss → ((s : Start) → IsIn s ss → IsStart clocks event s)
+      → ((s : Start) → IsIn s ss → test (entry_from clocks event s.given) ≡ true → P (entry_from clocks event s.given)) → ((e : Entry) → P e → IsPicked ss e)
+      → IsListing entry_start_cmp P (picked clocks event test ss)
+  listing-picked P ss r o f g =
+      picked-listing pick moment_cmp entry_start_cmp (λ s. IsIn s ss) (picks-keep ss o) P ss
+      (record { rises = r; exact = λ s. (λ m. m, λ m. m) })
+      (λ s e m q. let is = pick-is s e q in subst P (sym is.0) (f s m (ap test (sym is.0) ∙ is.1)))
+      (λ e p.
+      let k = g e p in
+      (k.start, k.stands, ap (λ b. if b then Some (own k.start) else None) (ap test (sym k.is) ∙ k.passes) ∙ ap Some (sym k.is)))
+
+-- Found starts give the occurrences: here those that are sought at the instants that count.
+module _ (clocks : Clocks) (w : Window) (event : Event) (starts : List Start) (Counts : ℤ → Type 0) (rises : Rises moment_cmp starts) (are : (s : Start) →
+    IsIn s starts → IsStart clocks event s)
+    (all : (source : StartSource) (given : Rdate) → GivesStart clocks event source given → IsSought clocks event w (instant clocks (time_of given)) →
+    Counts (instant clocks (time_of given)) → HasStart starts source (instant clocks (time_of given))) where
+  -- a start from which the event meets the window is sought
+  own-sought : (source : StartSource) (given : Rdate) → GivesStart clocks event source given → Meets w (entry_from clocks event given) →
+      IsSought clocks event w (instant clocks (time_of given))
+  own-sought source given g m = record { source = source; given = given; gives = g; starts = refl; meets = m }
+
+  -- a start that is shown is given by the first to do so
+  pub found-is : (s : Start) → IsIn s starts → is_shown clocks w event (entry_from clocks event s.given) ≡ true → Counts (instant clocks (time_of s.given)) →
+      IsEventMet clocks event w (entry_from clocks event s.given)
+  found-is s m t counts =
+      let start = are s m in
+      let shown = shown-met clocks w event (entry_from clocks event s.given) t in
+      let sought = own-sought s.source s.given start.gives shown.0 in (
+        record {
+          event = refl;
+          recurrence = refl;
+          lasts = record {
+            source = s.source;
+            given = s.given;
+            gives = start.gives;
+            starts = refl;
+            earliest = λ other value g e.
+                let found = all other value g (subst (IsSought clocks event w) (sym e) sought) (subst Counts (sym e) counts) in
+                let same : found.start ≡ s = one-of-tied moment_cmp moment_total starts
+                (same-moment found.start s (found.same ∙ (e ∙ sym start.moment))) rises found.stands m in
+                subst (λ x. IsNotAfter x.source other) same found.earlier;
+            ends = refl;
+            stays = shown.1;
+          };
+        },
+        shown.0,
+      )
+
+  -- an occurrence that meets the window has a start that was found
+  pub is-found : (e : Entry) → IsEventMet clocks event w e → Counts e.start → (s : Start) × IsIn s starts × (e ≡ entry_from clocks event s.given)
+  is-found e o counts =
+      let of = o.0.lasts in
+      let by : e ≡ entry_from clocks event of.given = same-entry e (entry_from clocks event of.given) of.starts of.ends (o.0.recurrence
+      ∙ of.starts) o.0.event in
+      let found = all of.source of.given of.gives (own-sought of.source of.given of.gives (subst (Meets w) by o.1)) (subst Counts of.starts counts) in
+      let start = are found.start found.stands in
+      let above = of.earliest found.start.source found.start.given start.gives (sym start.moment ∙ (found.same ∙ sym of.starts)) in (
+        found.start,
+        found.stands,
+        by ∙ ap (entry_from clocks event)
+            (same-given clocks event of.given found.start.given (same-source of.source found.start.source above found.earlier) of.gives start.gives),
+      )
 
 -- Both kinds of starts rise.
 pub rises-rule : (o : Option RuleStarts) → Rises moment_cmp (rule_left o)

@@ -24,14 +24,12 @@ use Rattle.ics_series.specs.Sources.{is_once, recurring, uid_cmp, AreSources, Is
 use Rattle.ics_series.specs.Sources.Source.{Of, Once}
 use Rattle.ics_series.specs.Versions.{seen, subject_cmp, AreChosen, Label}
 use Rattle.ics_series.proofs.LeadNearLemmas.{all-pushed}
-use Rattle.ics_series.proofs.ListingLemmas.{front-before, split-at}
+use Rattle.ics_series.proofs.ListingLemmas.{front-before, split-at, all-as, all-in, get-in}
 use Rattle.ics_series.proofs.OverrideLemmas.{chosen-rises}
 use Rattle.ics_series.proofs.PlacedLemmas.{in-append_left, in-append_right, in-append}
 use Rattle.ics_series.proofs.RecurringLemmas.{own-clocks, own-event, own-subject, recurring-master, own}
-use Rattle.ics_series.proofs.GivenLemmas.{map-in}
+use Rattle.ics_series.proofs.VersionLemmas.{map-in, subject_total}
 use Rattle.ics_series.proofs.OnDayLemmas.{rises-append}
-use Rattle.ics_series.proofs.SortLemmas.{all-as, all-in, get-in}
-use Rattle.ics_series.proofs.VersionLemmas.{subject_total}
 use Rattle.std.proofs.Math.Seq.{take-suc}
 use Rattle.std.proofs.lemmas.Option.{get_or_from_slice_get, slice_get_within}
 

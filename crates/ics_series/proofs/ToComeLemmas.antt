@@ -18,7 +18,7 @@ use Rattle.ics_series.specs.PlacedEvents.{clocks_at}
 use Rattle.ics_series.specs.Versions.{is_named, seen, AreChosen}
 use Rattle.ics_series.proofs.Cases.{mapped-some}
 use Rattle.ics_series.proofs.OverrideLemmas.{named-overridden, overridden-named}
-use Rattle.ics_series.proofs.GivenLemmas.{IsGiven, IsGivenBy}
+use Rattle.ics_series.proofs.VersionLemmas.{IsGiven, IsGivenBy}
 
 pub lt-Less : (c : Ordering) → is_lt c ≡ true → c ≡ Less
 lt-Less Less e = refl

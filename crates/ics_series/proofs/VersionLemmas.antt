@@ -1,13 +1,13 @@
 -- The versions of files, one file after the other. All sorted, of each subject the last is the one that counts, and there is exactly one.
 use Rattle.std.proofs.Common.{◌≡◌, ℕ, ℤ, List, [], ◌∷◌, Option, Some, None, inl, inr, ⊎_elim, Bool, true, false, cond, refl, sym, ◌∙◌, ap, subst, ◌+◌}
-use Rattle.std.proofs.Common.{add-one, ◌++◌, map, drop, get_or, option_map, ◌&&◌, slice_get, int_cmp, nat_cmp, is_eq, is_gt, is_lt, int_eq, Ordering}
-use Rattle.std.proofs.Common.{Less, Equal, Greater, drop-cons, append_assoc, filter}
+use Rattle.std.proofs.Common.{add-one, ◌++◌, map, drop, get_or, option_map, ◌&&◌, slice_get, int_cmp, nat_cmp, is_eq, is_gt, is_lt, int_eq, Ordering, Less}
+use Rattle.std.proofs.Common.{Equal, Greater, drop-cons, append_assoc, filter, ◌<◌, length, IsSome, option_and_then}
 use Rattle.std.specs.Cmp.{IsTotalOrder, unsigned_ties}
 use Rattle.std.specs.Cmp.Lexicographic.{options_total, slice_cmp, lists_ties}
 use Rattle.std.specs.Option.{option_cmp, option_eq}
-use Rattle.std.specs.Ordering.{ordering_then, ordering_reverse, on}
+use Rattle.std.specs.Ordering.{ordering_then, ordering_reverse, on, then_cmp}
 use Rattle.std.proofs.lemmas.Cmp.{int_cmp_total, nat_list_cmp_total, on_total, then_total, tied_itself, nat_cmp_total}
-use Rattle.std.proofs.lemmas.Map.Lookups.{exact_bytes, exact_signed, exact_pairs}
+use Rattle.std.proofs.lemmas.Map.Lookups.{exact_bytes, exact_signed, exact_pairs, exact_unsigned}
 use Rattle.std.proofs.lemmas.List.{get_or_default, map-append}
 use Rattle.std.proofs.lemmas.List.Elements.{Contains-get_or}
 use Rattle.std.proofs.lemmas.List.MinMax.{IsFirstBest-from_best_of, IsStrictWeakOrder-flip, ranks_by}
@@ -16,23 +16,65 @@ use Rattle.ics_event.specs.Event.{FileSaid, said_by}
 use Rattle.ics_event.specs.declared.event.Event.{Event}
 use Rattle.ics_event.specs.declared.events.FileEvents.{FileEvents}
 use Rattle.ics_zone.specs.ZoneSaid.{zone_said}
-use Rattle.ics_series.specs.Chosen.{subject_of, IsChosen, SubjectSeen}
-use Rattle.ics_series.specs.Clocks.{Clock, Clocks, clocks_of}
+use Rattle.ics_series.specs.Chosen.{subject_of, IsChosen, SubjectSeen, overridden, subject_by}
+use Rattle.ics_series.specs.Clocks.{Clock, Clocks, clocks_of, instant}
 use Rattle.ics_series.specs.Listing.{IsIn, IsListing}
 use Rattle.ics_series.specs.PlacedEvents.{Placed, IsPlaced, placed_cmp, clocks_at, zones_of}
 use Rattle.ics_series.specs.Versions.{by_subject, subject_cmp, version_cmp, lasts, is_followed, label_by, label_of, placed_from, placed_in, Label, seen}
-use Rattle.ics_series.specs.Versions.{label_cmp, is_same, AreChosen}
-use Rattle.ics_series.proofs.MasterLemmas.{placed_total, second-equal, same-placed, one-chosen}
-use Rattle.ics_series.proofs.SortLemmas.{Climbs, up-to-in, climbs-map, map-climbs, followed, contains-in, in-contains, in-permutation}
-use Rattle.ics_series.proofs.Cases.{eq-Equal, less-by, up-to-front}
-use Rattle.ics_series.proofs.HeldLemmas.{before-all}
-use Rattle.ics_series.proofs.ListingLemmas.{less-up-to, not-less-itself, relisted}
+use Rattle.ics_series.specs.Versions.{label_cmp, is_same, AreChosen, spot_of}
+use Rattle.ics_series.proofs.ListingLemmas.{Climbs, up-to-in, climbs-map, map-climbs, followed, contains-in, in-contains, in-permutation, less-up-to}
+use Rattle.ics_series.proofs.ListingLemmas.{not-less-itself, relisted, filter-in, in-filter}
+use Rattle.ics_series.proofs.Cases.{eq-Equal, less-by, up-to-front, some-same}
+use Rattle.ics_series.proofs.BeginsLemmas.{before-all}
 use Rattle.std.specs.List.Sorted.{IsPermutation}
 use Rattle.std.proofs.lemmas.List.Sorted.{IsPermutation-map, IsPermutation-sym}
 use Rattle.ics_series.specs.declared.version.Version.{Version}
 use Rattle.ics_series.proofs.PlacedLemmas.{placed-in, in-placed}
 use Rattle.ics_series.specs.Laws.{HasVersion}
-use Rattle.ics_series.proofs.PickLemmas.{filter-in, in-filter}
+use Rattle.ics_series.specs.Entry.{Entry}
+use Rattle.ics_event.specs.declared.time.Time.{Time}
+use Rattle.ics_series.specs.declared.window.Window.{Window}
+use Rattle.ics_series.specs.Meets.{Meets}
+use Rattle.ics_series.specs.Occurs.{IsMoved, IsOf}
+use Rattle.ics_series.specs.Spots.{event_at}
+
+-- One version of a subject counts, and an event has one occurrence at most with a start.
+pub placed_total : IsTotalOrder placed_cmp
+placed_total = then_total (on_total (λ p. p.event.sequence) nat_cmp_total)
+    (then_total (on_total (λ p. p.file) nat_cmp_total) (on_total (λ p. p.place) nat_cmp_total))
+
+-- of two of which neither is less, the places are the same
+pub tied-by : (p q : Placed) (c : Ordering) → placed_cmp p q ≡ c → (placed_cmp p q ≡ Less → ⊥) → (placed_cmp q p ≡ Less → ⊥) → placed_cmp p q ≡ Equal
+tied-by p q Less e h k = absurd (h e)
+tied-by p q Equal e h k = e
+tied-by p q Greater e h k = absurd (k (placed_total.antisymm q p ∙ ap ordering_reverse e))
+
+pub second-equal : (a b : Ordering) → ordering_then a b ≡ Equal → (a ≡ Equal) × (b ≡ Equal)
+second-equal Less b h = let f : Less ≡ Equal = h in cc
+second-equal Equal b h = (refl, h)
+second-equal Greater b h = let f : Greater ≡ Equal = h in cc
+
+-- of one place there is one event
+pub same-placed : (files : List FileSaid) (p q : Placed) → IsPlaced files p → IsPlaced files q → placed_cmp p q ≡ Equal → p ≡ q
+same-placed files p q h k e =
+    let same = exact_pairs nat_cmp (λ (x y : ℕ × ℕ). ordering_then (nat_cmp x.0 y.0) (nat_cmp x.1 y.1)) exact_unsigned
+    (exact_pairs nat_cmp nat_cmp exact_unsigned exact_unsigned) (p.event.sequence, (p.file, p.place)) (q.event.sequence, (q.file, q.place)) e in
+    let file : p.file ≡ q.file = ap (λ (x : ℕ × (ℕ × ℕ)). x.1.0) same in
+    let place : p.place ≡ q.place = ap (λ (x : ℕ × (ℕ × ℕ)). x.1.1) same in
+    let of : h.within.0 ≡ k.within.0 = some-same _ _ (sym h.within.1 ∙ (ap (slice_get files) file ∙ k.within.1)) in
+    let event : p.event ≡ q.event =
+    some-same _ _ (sym h.within.2 ∙ (ap (λ x. slice_get x.events p.place) of ∙ (ap (slice_get k.within.0.events) place ∙ k.within.2))) in
+    λ i. record { file = file i; place = place i; event = event i }
+
+-- of a subject one version counts
+pub one-chosen : {files : List FileSaid} {display : Clock} {p q : Placed} → IsChosen files display p → IsChosen files display q →
+    subject_of files display p ≡ subject_of files display q → p ≡ q
+one-chosen {files = files} {p = p} {q = q} h k u =
+    same-placed files p q h.placed k.placed
+    (tied-by p q (placed_cmp p q) refl (h.greatest q k.placed (sym u)) (k.greatest p h.placed u))
+
+pub same-entry : (o q : Entry) → o.start ≡ q.start → o.finish ≡ q.finish → o.recurrence ≡ q.recurrence → o.event ≡ q.event → o ≡ q
+same-entry o q a b c d = λ i. record { start = a i; finish = b i; recurrence = c i; event = d i }
 
 module _ (files : List FileEvents) (display : Clock) where
   abbrev said : List FileSaid
@@ -252,3 +294,58 @@ one-version files display p h =
           let f : true ≡ false = ap is_lt (sym l) ∙ best.2 q (inr (in-filter test q (placed_in 0 files) same (placed-in files q m))) in absurd cc;
     } in
     record { version = best.0; counts = chosen; same = of.1; one = λ q k u. one-chosen k chosen (u ∙ sym of.1) }
+
+-- What the versions that count give in a window, one version after the other.
+-- what an event gives: a master each of its own occurrences, an override that of the instance for which it stands
+abbrev pub IsGivenBy : Clocks → Event → Option ℤ → Entry → Type 0
+IsGivenBy clocks event None o = IsOf clocks event o
+IsGivenBy clocks event (Some recurrence) o = IsMoved clocks event o × (o.recurrence ≡ recurrence)
+
+-- what a version that counts gives, and that meets the window
+pub record IsGiven (files : List FileSaid) (display : Clock) (w : Window) (o : Entry) : Type 0 where
+  pub by : Placed
+  pub chosen : IsChosen files display by
+  pub is : IsGivenBy (clocks_at files display by.file) by.event (overridden (clocks_at files display by.file) by.event) o × Meets w o
+
+-- the subject of what gave an occurrence
+abbrev pub subject_from : Entry → SubjectSeen
+subject_from o = record { uid = o.event.uid; recurrence = option_map (λ time. o.recurrence) o.event.recurrence }
+
+-- by start
+abbrev pub entry_start_cmp : Entry → Entry → Ordering
+entry_start_cmp = on (λ e. e.start) int_cmp
+
+-- by subject, then by start
+abbrev pub given_cmp : Entry → Entry → Ordering
+given_cmp = then_cmp (on subject_from subject_cmp) entry_start_cmp
+
+-- The events that stand there.
+pub placed-event : (files : List FileSaid) (p : Placed) → IsPlaced files p → event_at files (spot_of p) ≡ Some p.event
+placed-event files p h = ap (option_and_then (λ f. slice_get f.events p.place)) h.within.1 ∙ h.within.2
+
+module _ {A B : Type 0} (f : A → B) where
+  pub in-map : (y : B) (xs : List A) → IsIn y (map f xs) → (x : A) × IsIn x xs × (y ≡ f x)
+  in-map y [] m = absurd m
+  in-map y (x ∷ xs) m = ⊎_elim (λ e. (x, inl refl, e)) (λ n. let k = in-map y xs n in (k.0, inr k.1, k.2)) m
+
+  pub map-in : (x : A) (xs : List A) → IsIn x xs → IsIn (f x) (map f xs)
+  map-in x [] m = absurd m
+  map-in x (y ∷ ys) m = ⊎_elim (λ e. inl (ap f e)) (λ n. inr (map-in x ys n)) m
+
+pub stands : {files : List FileSaid} {display : Clock} {versions : List Version} (i : ℕ) (d : Version) → AreChosen files display versions →
+    i < length versions → IsSome (event_at files (get_or versions i d).spot)
+stands {files = files} {display = display} {versions = versions} i d h l =
+    let v : Version = get_or versions i d in
+    let there = map-in seen v versions (in-contains v versions (Contains-get_or versions i d l)) in
+    let p = in-map (label_of files display) (seen v) h.chosen (subst (IsIn (seen v)) h.are there) in
+    rw (ap (λ (l : Label). event_at files l.spot) p.2 ∙ placed-event files p.0 ((h.listing.exact p.0).0 p.1).placed) refl
+
+-- what a version gives has its subject
+pub given-subject : (clocks : Clocks) (event : Event) (o : Entry) → IsGivenBy clocks event (overridden clocks event) o →
+    subject_from o ≡ subject_by clocks event
+given-subject clocks event o h = by event.recurrence refl h
+  where
+    by : (r : Option Time) → event.recurrence ≡ r → IsGivenBy clocks event (option_map (instant clocks) r) o
+        → subject_from o ≡ record { uid = event.uid; recurrence = option_map (instant clocks) r }
+    by None e h = rw (h.event, e) refl
+    by (Some time) e h = rw (h.0.event, e, h.1) refl

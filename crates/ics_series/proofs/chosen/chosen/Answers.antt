@@ -6,7 +6,7 @@ use Rattle.ics_event.specs.Event.{said_by}
 use Rattle.ics_series.specs.Clocks.{display_clock}
 use Rattle.ics_series.specs.Versions.{AreChosen, is_same, label_cmp, lasts, seen}
 use Rattle.ics_series.proofs.VersionLemmas.{found, label_total}
-use Rattle.ics_series.proofs.SortLemmas.{climbs-by}
+use Rattle.ics_series.proofs.ListingLemmas.{climbs-by}
 use Rattle.ics_series.proofs.chosen.chosen.Goals as goal
 
 pub returns : goal.returns

@@ -1,4 +1,4 @@
-use Rattle.ics_series.proofs.HeldMostLemmas.{most-in-days}
+use Rattle.ics_series.proofs.RawLemmas.{most-in-days}
 use Rattle.ics_series.proofs.laws.most_in_days.Goals as goal
 
 pub returns : goal.returns

@@ -11,10 +11,10 @@ use Rattle.ics_series.specs.Versions.{seen, subject_seen}
 use Rattle.ics_series.specs.FileZones.{clocks_in}
 use Rattle.ics_series.specs.Entry.{entry_cmp}
 use Rattle.ics_series.proofs.OnDayLemmas.{none-listed}
-use Rattle.ics_series.proofs.GivenLemmas.{map-in, stands}
+use Rattle.ics_series.proofs.VersionLemmas.{map-in, stands}
 use Rattle.ics_series.proofs.OverrideLemmas.{any_version, chosen-order}
 use Rattle.ics_series.proofs.RecurringLemmas.{IsRead, not-single, own-subject, series-listing, whole-version}
-use Rattle.ics_series.proofs.SortLemmas.{get-in}
+use Rattle.ics_series.proofs.ListingLemmas.{get-in}
 use Rattle.ics_series.proofs.ZoneLemmas.{own-event}
 use Rattle.ics_series.proofs.masters.series_at.Goals as goal
 

@@ -13,7 +13,7 @@ use Rattle.ics_series.specs.Meeting.{entry_from, is_met}
 use Rattle.ics_series.specs.Starts.{time_of}
 use Rattle.ics_series.specs.FileZones.{clocks_in}
 use Rattle.ics_series.proofs.MeetingLemmas.{is_met-meets}
-use Rattle.ics_series.proofs.MetLemmas.{shown-by, unmet}
+use Rattle.ics_series.proofs.SeriesLemmas.{shown-by, unmet}
 use Rattle.ics_series.proofs.met.shown.Goals as goal
 
 -- an occurrence that meets the window

@@ -7,7 +7,7 @@ use Rattle.ics_series.specs.Found.{moment_cmp}
 use Rattle.ics_series.specs.Rising.{IsBefore}
 use Rattle.ics_series.proofs.FirstLemmas.{moment_total, same-moment}
 use Rattle.ics_series.proofs.RuleDayLemmas.{less-start}
-use Rattle.ics_series.proofs.HeldLemmas.{one-after, one-first, one-tied}
+use Rattle.ics_series.proofs.BeginsLemmas.{one-after, one-first, one-tied}
 use Rattle.ics_series.proofs.queue.place_for.Goals as goal
 
 pub returns-then-before-start : goal.returns-then-before-start

@@ -1,7 +1,6 @@
 use Rattle.std.proofs.Common.{w64, refl, rules, sym, ◌∙◌, SFits}
 use Rattle.ics_series.specs.FileZones.{clocks_in}
-use Rattle.ics_series.proofs.StartSourceLemmas.{calendar-day, own-day}
-use Rattle.ics_series.proofs.RuleLocalLemmas.{gives-by}
+use Rattle.ics_series.proofs.StartSourceLemmas.{calendar-day, own-day, gives-by}
 use Rattle.ics_series.proofs.rule_starts.hold.Goals as goal
 
 pub is_let_through-requires-clause-first : goal.is_let_through-requires-clause-first

@@ -1,6 +1,6 @@
 use Rattle.std.proofs.lemmas.Grind.{common_steps}
 use Rattle.std.proofs.Common.{arith}
-use Rattle.ics_series.proofs.GivenLemmas.{stands}
+use Rattle.ics_series.proofs.VersionLemmas.{stands}
 use Rattle.ics_series.proofs.singles.to_come.Goals as goal
 
 pub given-requires-clause-there : goal.given-requires-clause-there

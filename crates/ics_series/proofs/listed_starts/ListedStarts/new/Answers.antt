@@ -2,7 +2,7 @@ use Rattle.std.proofs.Common.{None, ◌∙◌, ap, sym, subst, rules}
 use Rattle.ics_series.specs.Found.{firsts_after, moment_cmp, start_cmp, AreFirsts}
 use Rattle.ics_series.specs.Rising.{Rises}
 use Rattle.ics_series.proofs.FirstLemmas.{firsts-of, start_total}
-use Rattle.ics_series.proofs.SortLemmas.{climbs-by}
+use Rattle.ics_series.proofs.ListingLemmas.{climbs-by}
 use Rattle.ics_series.proofs.listed_starts.ListedStarts.new.Goals as goal
 
 pub invariant_of-result : goal.invariant_of-result

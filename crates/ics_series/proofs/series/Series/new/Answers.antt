@@ -34,13 +34,12 @@ use Rattle.ics_series.specs.SeriesStarts.{listed_left}
 use Rattle.ics_series.specs.Starts.{given_by, local_of, recurrence_by, time_at, time_of, GivesStart, IsRuleStart}
 use Rattle.ics_series.specs.FileZones.{clocks_in}
 use Rattle.ics_series.proofs.FirstLemmas.{moment_total}
-use Rattle.ics_series.proofs.StartSourceLemmas.{number-seconds, written-at}
+use Rattle.ics_series.proofs.StartSourceLemmas.{number-seconds, written-at, kept-calendar, gives-kept, number-numbered, numbered-number, ruled-kept}
 use Rattle.ics_series.proofs.InstantLemmas.{instant-near}
 use Rattle.ics_series.proofs.LeftLemmas.{has-union, put-has, union-has}
 use Rattle.ics_series.proofs.SoughtLemmas.{listed-in}
-use Rattle.ics_series.proofs.MasterLemmas.{same-entry}
+use Rattle.ics_series.proofs.VersionLemmas.{same-entry}
 use Rattle.ics_series.proofs.RuleDayLemmas.{found-is, in-rules, put-both, seconds-numbered}
-use Rattle.ics_series.proofs.RuleLocalLemmas.{kept-calendar, gives-kept, number-numbered, numbered-number, ruled-kept}
 use Rattle.ics_series.proofs.SeriesLemmas.{in-moment, known-start, rises-rule, own-rule-as, series-listing}
 use Rattle.ics_series.proofs.SoughtLemmas.{listed-there, none-else, sought-early, sought-late}
 use Rattle.ics_series.proofs.StartLaws.{kept-first}
@@ -48,7 +47,7 @@ use Rattle.ics_series.proofs.UnionLemmas.{itself-put, union-in}
 use Rattle.ics_series.proofs.Cases.{here-or-later}
 use Rattle.std.proofs.lemmas.List.Elements.{Contains-get_or}
 use Rattle.ics_series.specs.SeriesFeed.{source_of}
-use Rattle.ics_series.proofs.SortLemmas.{in-contains}
+use Rattle.ics_series.proofs.ListingLemmas.{in-contains}
 use Rattle.ics_series.proofs.series.Series.new.Goals as goal
 
 -- The starts of a series: all that are sought from an instant on are among them.

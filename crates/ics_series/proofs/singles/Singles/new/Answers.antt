@@ -7,7 +7,7 @@ use Rattle.ics_series.specs.Versions.{seen}
 use Rattle.ics_series.specs.EntryLaws.{entry_total}
 use Rattle.ics_series.proofs.OverrideLemmas.{overrides-sorted}
 use Rattle.ics_series.proofs.SinglesLemmas.{singles-listing}
-use Rattle.ics_series.proofs.SortLemmas.{climbs-by, in-all}
+use Rattle.ics_series.proofs.ListingLemmas.{climbs-by, in-all}
 use Rattle.ics_series.proofs.singles.Singles.new.Goals as goal
 
 pub to_come-requires-clause-overrides : goal.to_come-requires-clause-overrides
