@@ -9,6 +9,7 @@ use Rattle.ics_series.specs.Rising.{IsBefore, Rises}
 use Rattle.ics_series.specs.Merged.{by_order, put, union, merged, cut}
 use Rattle.ics_series.specs.MergedLaws.{before-put, before-tied, before-trans}
 use Rattle.ics_series.specs.Listing.{IsIn}
+use Rattle.ics_series.proofs.Cases.{by-cases}
 
 -- x comes before each of the lists, but for an entry of its key at the front
 abbrev pub AllFront : {A : Type 0} → (A → A → Ordering) → A → List (List A) → Type 0
@@ -34,20 +35,12 @@ module _ {A : Type 0} (R : A → A → Ordering) (o : IsTotalOrder R) where
 
   -- what is not after the first of a rising list comes before all of it but for one of its key
   pub not-after-front : (x y : A) (ys : List A) → (R x y ≡ Greater → ⊥) → Rises R (y ∷ ys) → IsBefore R x (cut R x (y ∷ ys))
-  not-after-front x y ys n r = by (R x y) refl
-    where
-      by : (c : Ordering) → R x y ≡ c → IsBefore R x (by_order c (y ∷ ys) ys (y ∷ ys))
-      by Less e = (e, before-trans R o x y ys e r.0)
-      by Equal e = before-tied R o x y ys e r.0
-      by Greater e = absurd (n e)
+  not-after-front x y ys n r =
+      by-cases (R x y) (λ e. rw e (e, before-trans R o x y ys e r.0)) (λ e. rw e (before-tied R o x y ys e r.0)) (λ e. absurd (n e))
 
   -- what comes before all of a list but for one of its key at the front comes before that too, or is tied with it
   pub front-cases : (e y : A) (ys : List A) → IsBefore R e (cut R e (y ∷ ys)) → IsBefore R e (y ∷ ys) ⊎ ((R e y ≡ Equal) × IsBefore R e ys)
-  front-cases e y ys = by (R e y) refl
-    where
-      by : (c : Ordering) → R e y ≡ c → IsBefore R e (by_order c (y ∷ ys) ys (y ∷ ys)) → IsBefore R e (y ∷ ys) ⊎ ((R e y ≡ Equal) × IsBefore R e ys)
-      by Equal p h = inr (p, h)
-      by _ p h = inl h
+  front-cases e y ys h = by-cases (R e y) (λ p. inl (rw p at h)) (λ p. inr (p, rw p at h)) (λ p. inl (rw p at h))
 
   -- x, of e's key, goes to the front where e would
   pub put-front : (e x : A) (ys : List A) → R e x ≡ Equal → IsBefore R e (cut R e ys) → put R x ys ≡ x ∷ cut R e ys

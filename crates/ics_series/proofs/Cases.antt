@@ -30,6 +30,16 @@ pub less-by : (c : Ordering) → is_gt c ≡ false → is_eq c ≡ false → c �
 less-by Less g e = refl
 less-by _ g e = cc
 
+-- by what a comparison answers, and by what an option is
+pub by-cases : {P : Type 0} (c : Ordering) → (c ≡ Less → P) → (c ≡ Equal → P) → (c ≡ Greater → P) → P
+by-cases Less f g h = f refl
+by-cases Equal f g h = g refl
+by-cases Greater f g h = h refl
+
+pub option-cases : {X P : Type 0} (o : Option X) → (o ≡ None → P) → ((x : X) → o ≡ Some x → P) → P
+option-cases None f g = f refl
+option-cases (Some x) f g = g x refl
+
 pub below-or-last : (m n : ℕ) → m < suc n → (m < n) ⊎ (m ≡ n)
 below-or-last m n l = grind arith
 

@@ -1,18 +1,19 @@
 -- How far the rules of leads' feeds have been read, and of what events they are.
 use Rattle.std.specs.List.{flat_map, AllByRecursion}
-use Rattle.std.proofs.Common.{◌≡◌, ℕ, zero, suc, true, List, [], ◌∷◌, ◌++◌, get_or, set, inr, Option, Some, None, refl, ◌∙◌, ap, option_map, Ordering, Equal}
+use Rattle.std.proofs.Common.{◌≡◌, ℕ, zero, suc, true, List, [], ◌∷◌, ◌++◌, get_or, set, inr, Option, Some, None, refl, ◌∙◌, ap, option_map}
 use Rattle.std.proofs.lemmas.List.Elements.{All-from_recursion, All-push, All-set, recursion_from_All}
 use Rattle.ics_series.specs.declared.occurrence.Occurrence.{Occurrence}
 use Rattle.ics_series.specs.Entry.{Entry, entry_cmp, entry_of}
 use Rattle.ics_series.specs.EntryLaws.{entry_total}
 use Rattle.ics_series.specs.Leads.{is_given, listed, past, AreNear, ComeAfter, HasNear, IsAhead}
 use Rattle.ics_series.specs.Listing.{IsIn}
-use Rattle.ics_series.specs.Merged.{by_order, cut, merged}
+use Rattle.ics_series.specs.Merged.{cut, merged}
 use Rattle.ics_series.specs.Rising.{IsBefore}
 use Rattle.ics_series.proofs.BeginsLemmas.{before-union}
 use Rattle.ics_series.proofs.LeadLemmas.{lists_of, past-drawn, pasts_of}
 use Rattle.ics_series.proofs.LeftLemmas.{member-cut}
 use Rattle.ics_series.proofs.ListingLemmas.{before-in, all-as}
+use Rattle.ics_series.proofs.Cases.{by-cases}
 
 -- what holds of all of a list, where one of it is set, or one more stands behind it
 pub all-set : {X : Type 0} (P : X → Type 0) (xs : List X) (i : ℕ) (x : X) → AllByRecursion P xs → P x → AllByRecursion P (set xs i x)
@@ -30,11 +31,7 @@ flat-set f (x ∷ xs) (suc i) new read e = ap (λ ys. f x ++ ys) (flat-set f xs 
 
 cut-in : (p o : Entry) (list : List Entry) → IsIn o (cut entry_cmp p list) → IsIn o list
 cut-in p o [] m = m
-cut-in p o (x ∷ xs) m = by (entry_cmp p x) m
-  where
-    by : (c : Ordering) → IsIn o (by_order c (x ∷ xs) xs (x ∷ xs)) → IsIn o (x ∷ xs)
-    by Equal m = inr m
-    by _ m = m
+cut-in p o (x ∷ xs) m = by-cases (entry_cmp p x) (λ e. rw e at m) (λ e. inr (rw e at m)) (λ e. rw e at m)
 
 past-in : (last : Option Occurrence) (o : Entry) (list : List Entry) → IsIn o (past last list) → IsIn o list
 past-in None o list m = m

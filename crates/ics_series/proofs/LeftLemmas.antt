@@ -9,7 +9,7 @@ use Rattle.ics_series.specs.declared.start.StartSource.{StartSource}
 use Rattle.ics_series.specs.declared.start.Start.{Start}
 use Rattle.ics_series.specs.Found.{moment_cmp, HasStart}
 use Rattle.ics_series.specs.Listing.{IsIn}
-use Rattle.ics_series.specs.Merged.{by_order, cut, put, union}
+use Rattle.ics_series.specs.Merged.{cut, put, union}
 use Rattle.ics_series.specs.MergedLaws.{before-trans}
 use Rattle.ics_series.specs.Rising.{Rises}
 use Rattle.ics_series.specs.SeriesStarts.{IsFirstOf}
@@ -18,16 +18,14 @@ use Rattle.ics_series.proofs.BeginsLemmas.{begins-first, begins-second, not-afte
 use Rattle.ics_series.proofs.FirstLemmas.{moment_total, tied-moment}
 use Rattle.ics_series.proofs.RuleDayLemmas.{less-start}
 use Rattle.ics_series.proofs.UnionLemmas.{in-union, itself-put, member-put}
+use Rattle.ics_series.proofs.Cases.{by-cases}
 
 module _ {A : Type 0} (R : A → A → Ordering) (o : IsTotalOrder R) where
-  member-cut-by : (e x : A) (xs : List A) (c : Ordering) → (c ≡ Equal → e ≡ x → ⊥) → IsIn e (x ∷ xs) → IsIn e (by_order c (x ∷ xs) xs (x ∷ xs))
-  member-cut-by e x xs Equal n m = ⊎_elim (λ s. absurd (n refl s)) (λ k. k) m
-  member-cut-by e x xs _ n m = m
-
   -- what is not tied with what goes stays
   pub member-cut : (s e : A) (xs : List A) → (R s e ≡ Equal → ⊥) → IsIn e xs → IsIn e (cut R s xs)
   member-cut s e [] n m = absurd m
-  member-cut s e (x ∷ xs) n m = member-cut-by e x xs (R s x) (λ t is. n (ap (R s) is ∙ t)) m
+  member-cut s e (x ∷ xs) n m =
+      by-cases (R s x) (λ p. rw p m) (λ p. rw p (⊎_elim (λ is. absurd (n (ap (R s) is ∙ p))) (λ k. k) m)) (λ p. rw p m)
 
 not-greater-by : (a b : Start) → int_lt b.moment a.moment ≡ false → moment_cmp a b ≡ Greater → ⊥
 not-greater-by a b e g = grind (arith, ints)

@@ -12,7 +12,7 @@ use Rattle.std.proofs.lemmas.Map.Keys.{Less-from_sorted, IsDistinct-from_sorted,
 use Rattle.std.proofs.lemmas.Option.{get_or_from_slice_get, slice_get_within}
 use Rattle.ics_series.specs.Rising.{IsBefore, Rises}
 use Rattle.ics_series.specs.Listing.{IsIn, IsListing}
-use Rattle.ics_series.proofs.Cases.{some-same, eq-Equal, less-by}
+use Rattle.ics_series.proofs.Cases.{some-same, eq-Equal, less-by, by-cases, option-cases}
 use Rattle.ics_series.proofs.PlacedLemmas.{in-append, in-append_right}
 use Rattle.std.proofs.lemmas.Bool.{cond_both, false_from_ne_true, cases_lt}
 use Rattle.ics_series.proofs.BeginsLemmas.{before-all}
@@ -95,12 +95,7 @@ module _ {A : Type 0} (R : A → A → Ordering) (o : IsTotalOrder R) where
 
   -- what comes before y comes before what y is not after
   pub less-up-to : (x y z : A) → R x y ≡ Less → is_gt (R y z) ≡ false → R x z ≡ Less
-  less-up-to x y z l g = by (R y z) refl g
-    where
-      by : (c : Ordering) → R y z ≡ c → is_gt c ≡ false → R x z ≡ Less
-      by Less e g = o.trans x y z l e
-      by Equal e g = sym (alike_right o y z x e) ∙ l
-      by Greater e g = cc
+  less-up-to x y z l g = by-cases (R y z) (o.trans x y z l) (λ e. sym (alike_right o y z x e) ∙ l) (λ e. let f = rw e at g in cc)
 
   -- as std says it
   pub strictly-sorted : (xs : List A) → Rises R xs → IsStrictlySortedBy R xs
@@ -209,20 +204,16 @@ module _ {A B : Type 0} (h : A → Option B) where
   -- what is picked is picked from one of the list
   pub picked : (y : B) (xs : List A) → IsIn y (filter_map h xs) → (x : A) × IsIn x xs × (h x ≡ Some y)
   picked y [] m = absurd m
-  picked y (x ∷ xs) m = by (h x) refl (picked y xs) m
-    where
-      by : (o : Option B) → h x ≡ o → (IsIn y (filter_map h xs) → (z : A) × IsIn z xs × (h z ≡ Some y)) → IsIn y (cons_option o (filter_map h xs)) →
-          (z : A) × IsIn z (x ∷ xs) × (h z ≡ Some y)
-      by (Some v) e ih m = ⊎_elim (λ s. (x, inl refl, e ∙ ap Some (sym s))) (λ n. let k = ih n in (k.0, inr k.1, k.2)) m
-      by None e ih m = let k = ih m in (k.0, inr k.1, k.2)
+  picked y (x ∷ xs) m =
+      option-cases (h x) (λ e. let n = rw e at m in let k = picked y xs n in (k.0, inr k.1, k.2))
+      (λ v e. let n = rw e at m in ⊎_elim (λ s. (x, inl refl, e ∙ ap Some (sym s))) (λ l. let k = picked y xs l in (k.0, inr k.1, k.2)) n)
 
   in-picked : (x : A) (y : B) (xs : List A) → h x ≡ Some y → IsIn x xs → IsIn y (filter_map h xs)
   in-picked x y [] t m = absurd m
-  in-picked x y (z ∷ xs) t m = by (h z) refl (in-picked x y xs t) m
-    where
-      by : (o : Option B) → h z ≡ o → (IsIn x xs → IsIn y (filter_map h xs)) → IsIn x (z ∷ xs) → IsIn y (cons_option o (filter_map h xs))
-      by (Some v) e ih m = ⊎_elim (λ s. inl (some-same y v (sym t ∙ (ap h s ∙ e)))) (λ n. inr (ih n)) m
-      by None e ih m = ⊎_elim (λ s. let f : Some y ≡ None = sym t ∙ (ap h s ∙ e) in absurd cc) ih m
+  in-picked x y (z ∷ xs) t m =
+      option-cases (h z)
+      (λ e. rw e (⊎_elim (λ s. let f : Some y ≡ None = sym t ∙ (ap h s ∙ e) in absurd cc) (in-picked x y xs t) m))
+      (λ v e. rw e (⊎_elim (λ s. inl (some-same y v (sym t ∙ (ap h s ∙ e)))) (λ n. inr (in-picked x y xs t n)) m))
 
   -- S orders what is picked of those that P holds of as R orders these
   abbrev pub KeepsOrder : (A → A → Ordering) → (B → B → Ordering) → (A → Type 0) → Type 0

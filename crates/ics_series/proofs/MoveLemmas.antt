@@ -1,6 +1,6 @@
 -- Files that stand among others, with which they share no UID, have the occurrences there that they have alone.
 use Rattle.std.proofs.Common.{◌≡◌, ℕ, ◌+◌, List, [], ◌∷◌, ◌++◌, length, Some, None, ◌⊎◌, inl, inr, ⊎_elim, refl, sym, ◌∙◌, ap, subst, arith, ℤ, zero, suc}
-use Rattle.std.proofs.Common.{slice_get, nat_cmp, Ordering, Equal}
+use Rattle.std.proofs.Common.{slice_get, nat_cmp}
 use Rattle.std.specs.Ordering.{ordering_then}
 use Rattle.std.proofs.lemmas.Cmp.{nat_cmp_total, tied_itself}
 use Rattle.std.proofs.lemmas.Bool.Decides.{nat_tests}
@@ -13,6 +13,7 @@ use Rattle.ics_series.specs.Entry.{Entry}
 use Rattle.ics_series.specs.Laws.{AddedFiles, AreApart, AreReordered, HaveApartVersions, OrderOfFiles}
 use Rattle.ics_series.specs.Occurs.{Occurs}
 use Rattle.ics_series.specs.PlacedEvents.{Placed, IsPlaced, clocks_at, placed_cmp, zones_of}
+use Rattle.ics_series.proofs.Cases.{by-cases}
 
 -- the event, in the file that its own has become
 abbrev move : (ℕ → ℕ) → Placed → Placed
@@ -178,15 +179,12 @@ added-files files more display w apart o = (
 
 -- of two numbers that do not tie the rest is not asked
 by-sequence : (p q : Placed) (to : ℕ → ℕ) → (p.event.sequence ≡ q.event.sequence → p.file ≡ q.file) → placed_cmp p q ≡ placed_cmp (move to p) (move to q)
-by-sequence p q to h = by (nat_cmp p.event.sequence q.event.sequence) refl
-  where
-    by : (c : Ordering) → nat_cmp p.event.sequence q.event.sequence ≡ c
-        → ordering_then c (ordering_then (nat_cmp p.file q.file) (nat_cmp p.place q.place))
-        ≡ ordering_then c (ordering_then (nat_cmp (to p.file) (to q.file)) (nat_cmp p.place q.place))
-    by Equal e =
-        let same = h (exact_unsigned p.event.sequence q.event.sequence e) in
-        rw (same, tied_itself nat_cmp_total q.file, tied_itself nat_cmp_total (to q.file)) refl
-    by _ e = refl
+by-sequence p q to h =
+    by-cases (nat_cmp p.event.sequence q.event.sequence) (λ e. rw e refl)
+    (λ e.
+    let same = h (exact_unsigned p.event.sequence q.event.sequence e) in
+    rw (e, same, tied_itself nat_cmp_total q.file, tied_itself nat_cmp_total (to q.file)) refl)
+    (λ e. rw e refl)
 
 module _ (files others : List FileSaid) (display : Clock) (m : AreReordered files others) where
   own-place : (q : Placed) → IsPlaced others q → (r : Placed) × Moved files m.there r q

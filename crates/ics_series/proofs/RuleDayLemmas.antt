@@ -1,6 +1,6 @@
 -- The starts of a rule: what reading a local does to those still to come, and where they lie by the days of their locals.
 use Rattle.std.proofs.Common.{◌≡◌, ℕ, zero, suc, ◌+◌, ◌-◌, ◌<◌, ◌≤◌, max, ℤ, pos, ◌+ℤ◌, ◌-ℤ◌, Bool, true, false, ◌&&◌, List, [], ◌∷◌, length, get_or, drop}
-use Rattle.std.proofs.Common.{⊎_elim, refl, sym, ◌∙◌, ap, arith, add-one, ◌≤ℤ◌, ◌<ℤ◌, int_lt, Ordering, Less, Equal}
+use Rattle.std.proofs.Common.{⊎_elim, refl, sym, ◌∙◌, ap, arith, add-one, ◌≤ℤ◌, ◌<ℤ◌, int_lt, Less}
 use Rattle.std.proofs.lemmas.Bool.{cases_lt}
 use Rattle.std.proofs.lemmas.Int.{ints}
 use Rattle.std.specs.Cmp.{int_cmp_is}
@@ -23,7 +23,7 @@ use Rattle.ics_series.specs.declared.zones.FileZones.{FileZones}
 use Rattle.ics_series.specs.Found.{moment_cmp, start_at}
 use Rattle.ics_series.specs.Listing.{IsIn}
 use Rattle.ics_series.specs.Clocks.{Clocks}
-use Rattle.ics_series.specs.Merged.{by_order, cut, put, union}
+use Rattle.ics_series.specs.Merged.{cut, put, union}
 use Rattle.ics_series.specs.MergedLaws.{rises-put, rises-union}
 use Rattle.ics_series.specs.Rising.{Rises}
 use Rattle.ics_series.specs.RuleStarts.{found, found_in, gives, lets_until, local_numbered, midnight_number, moment_numbered, to_come}
@@ -33,7 +33,7 @@ use Rattle.ics_series.specs.FileZones.{clocks_in}
 use Rattle.ics_series.proofs.FirstLemmas.{moment_total, same-moment, tied-moment}
 use Rattle.ics_series.proofs.StartSourceLemmas.{written-at}
 use Rattle.ics_series.proofs.InstantLemmas.{instant-near}
-use Rattle.ics_series.proofs.Cases.{here-or-later}
+use Rattle.ics_series.proofs.Cases.{here-or-later, by-cases}
 use Rattle.ics_series.proofs.UnionLemmas.{put-in, union_assoc}
 
 -- what is so of a list and of the list with a start put in is so whatever the test
@@ -197,11 +197,8 @@ cut-first t (s ∷ held) some is e = rw (same-moment t s (e ∙ ap (λ (x : Star
 
 pub uncut-first : (t : Start) (held : List Start) {d : Start} → d ≡ get_or held 0 d → (t.moment ≡ d.moment → ⊥) → held ≡ cut moment_cmp t held
 uncut-first t [] is n = refl
-uncut-first t (s ∷ held) is n = by (moment_cmp t s) refl
-  where
-    by : (c : Ordering) → moment_cmp t s ≡ c → s ∷ held ≡ by_order c (s ∷ held) held (s ∷ held)
-    by Equal e = absurd (n (tied-moment t s e ∙ ap (λ (x : Start). x.moment) (sym is)))
-    by _ e = refl
+uncut-first t (s ∷ held) is n =
+    by-cases (moment_cmp t s) (λ e. rw e refl) (λ e. absurd (n (tied-moment t s e ∙ ap (λ (x : Start). x.moment) (sym is)))) (λ e. rw e refl)
 
 pub uncut-none : (t : Start) (held : List Start) → length held ≡ 0 → held ≡ cut moment_cmp t held
 uncut-none t [] e = refl

@@ -1,7 +1,7 @@
 -- One step of reading the starts of a rule: a kept local more, or none up to a bound.
 use lib.Signed.{mag}
 use Rattle.std.proofs.Common.{◌≡◌, ℕ, ◌+◌, ◌<◌, ◌≤◌, w32, to_z, of_z, max, ℤ, pos, ◌+ℤ◌, ◌-ℤ◌, Bool, true, false, ◌&&◌, List, [], ◌∷◌, length, ◌⊎◌, inl, inr}
-use Rattle.std.proofs.Common.{⊎_elim, refl, sym, ap, arith, ◌≤ℤ◌, ◌<ℤ◌, int_lt, not, slice_get, Ordering, Equal}
+use Rattle.std.proofs.Common.{⊎_elim, refl, sym, ap, arith, ◌≤ℤ◌, ◌<ℤ◌, int_lt, not, slice_get}
 use Rattle.std.proofs.lemmas.Int.{ints}
 use Rattle.ics_fields.specs.Days.{IsDayNumber}
 use Rattle.ics_fields.specs.declared.local.Local.{Local}
@@ -18,7 +18,7 @@ use Rattle.ics_series.specs.declared.zones.FileZones.{FileZones}
 use Rattle.ics_series.specs.Found.{moment_cmp, start_at}
 use Rattle.ics_series.specs.HeldMost.{most_in_days}
 use Rattle.ics_series.specs.Listing.{IsIn}
-use Rattle.ics_series.specs.Merged.{by_order, cut}
+use Rattle.ics_series.specs.Merged.{cut}
 use Rattle.ics_series.specs.MergedLaws.{rises-union}
 use Rattle.ics_series.specs.Rising.{Rises}
 use Rattle.ics_series.specs.RuleFeed.{starts_left}
@@ -33,7 +33,7 @@ use Rattle.ics_series.proofs.UnionLemmas.{union-in}
 use Rattle.ics_series.proofs.BeginsLemmas.{before-all, put-before, before-union}
 use Rattle.ics_series.proofs.FirstLemmas.{int-less, moment_total}
 use Rattle.ics_zone.proofs.Cases.{int_le_false, int_le_true, int_lt_true}
-use Rattle.ics_series.proofs.Cases.{not-true}
+use Rattle.ics_series.proofs.Cases.{not-true, by-cases}
 use Rattle.ics_rule.specs.PeriodNumbers.{rules_end}
 
 -- a number that fits in an i32 is read back
@@ -146,11 +146,7 @@ module _ (s : RuleStarts) where
   -- a start leaves of what is held what it leaves of all that is still to come
   passed : (t : Start) (held : List Start) → left held ≡ in_front held → left (cut moment_cmp t held) ≡ cut moment_cmp t (left held)
   passed t [] e = rw e refl
-  passed t (x ∷ xs) e = rw e (by (moment_cmp t x))
-    where
-      by : (c : Ordering) → left (by_order c (x ∷ xs) xs (x ∷ xs)) ≡ by_order c (x ∷ left xs) (left xs) (x ∷ left xs)
-      by Equal = refl
-      by _ = e
+  passed t (x ∷ xs) e = rw e (by-cases (moment_cmp t x) (λ p. rw p e) (λ p. rw p refl) (λ p. rw p e))
 
   pub passed-left : (t : Start) (new : List Start) → new ≡ cut moment_cmp t s.held.items → is_behind s.day s.end s.held.items ≡ false
       → left new ≡ cut moment_cmp t (starts_left s)

@@ -1,50 +1,42 @@
 -- What stands in the union of two lists and in the merge of several. A list whose members differ by an order has a listing by that order.
-use Rattle.std.proofs.Common.{◌≡◌, ◌≢◌, List, [], ◌∷◌, ◌⊎◌, inl, inr, ⊎_elim, refl, sym, ◌∙◌, ap, subst, ◌↔◌, Ordering, Less, Equal, Greater}
+use Rattle.std.proofs.Common.{◌≡◌, ◌≢◌, List, [], ◌∷◌, ◌⊎◌, inl, inr, ⊎_elim, refl, sym, ◌∙◌, ap, subst, ◌↔◌, Ordering, Equal}
 use Rattle.std.specs.List.{AllByRecursion}
 use Rattle.std.specs.Cmp.{IsTotalOrder}
 use Rattle.std.proofs.lemmas.Cmp.{alike_right, tied_back}
 use Rattle.ics_series.specs.Listing.{IsIn, IsListing}
-use Rattle.ics_series.specs.Merged.{by_order, put, union, merged, HasNoKey, IsFromFirst}
+use Rattle.ics_series.specs.Merged.{put, union, merged, HasNoKey, IsFromFirst}
 use Rattle.ics_series.specs.MergedLaws.{before-tied, before-trans, rises-merged, rises-union}
 use Rattle.ics_series.specs.Rising.{Rises}
 use Rattle.ics_series.proofs.ListingLemmas.{before-in, one-rising, relisted}
+use Rattle.ics_series.proofs.Cases.{by-cases}
 
 module _ {A : Type 0} (R : A → A → Ordering) (o : IsTotalOrder R) where
   -- x takes the place of an entry of its key
   pub put-in : (e x : A) (ys : List A) → Rises R ys → IsIn e (put R x ys) → (e ≡ x) ⊎ (IsIn e ys × (R x e ≢ Equal))
   put-in e x [] h m = ⊎_elim inl (λ k. absurd k) m
-  put-in e x (y ∷ ys) h m = by (R x y) refl (put-in e x ys h.1) m
-    where
-      by : (c : Ordering) → R x y ≡ c → (IsIn e (put R x ys) → (e ≡ x) ⊎ (IsIn e ys × (R x e ≢ Equal)))
-          → IsIn e (by_order c (x ∷ y ∷ ys) (x ∷ ys) (y ∷ put R x ys))
-          → (e ≡ x) ⊎ (IsIn e (y ∷ ys) × (R x e ≢ Equal))
-      by Less p ih m =
-          ⊎_elim inl (λ k. inr (k, λ t. let q = before-in R o x e (y ∷ ys) (p, before-trans R o x y ys p h.0) k in cc)) m
-      by Equal p ih m = ⊎_elim inl (λ n. inr (inr n, λ t. let q = before-in R o x e ys (before-tied R o x y ys p h.0) n in cc)) m
-      by Greater p ih m =
-          ⊎_elim (λ s. inr (inl s, λ t. let q : R x y ≡ Equal = sym (ap (R x) s) ∙ t in cc))
-          (λ n. ⊎_elim inl (λ k. inr (inr k.0, k.1)) (ih n)) m
+  put-in e x (y ∷ ys) h m =
+      by-cases (R x y)
+      (λ p. let n = rw p at m in
+      ⊎_elim inl (λ k. inr (k, λ t. let q = before-in R o x e (y ∷ ys) (p, before-trans R o x y ys p h.0) k in cc)) n)
+      (λ p. let n = rw p at m in ⊎_elim inl (λ k. inr (inr k, λ t. let q = before-in R o x e ys (before-tied R o x y ys p h.0) k in cc)) n)
+      (λ p. let n = rw p at m in
+      ⊎_elim (λ s. inr (inl s, λ t. let q : R x y ≡ Equal = sym (ap (R x) s) ∙ t in cc))
+      (λ l. ⊎_elim inl (λ k. inr (inr k.0, k.1)) (put-in e x ys h.1 l)) n)
 
   pub in-put : (e x : A) (ys : List A) → (e ≡ x) ⊎ (IsIn e ys × (R x e ≢ Equal)) → IsIn e (put R x ys)
   in-put e x [] m = ⊎_elim inl (λ k. absurd k.0) m
-  in-put e x (y ∷ ys) m = by (R x y) refl (in-put e x ys) m
-    where
-      by : (c : Ordering) → R x y ≡ c → ((e ≡ x) ⊎ (IsIn e ys × (R x e ≢ Equal)) → IsIn e (put R x ys)) → (e ≡ x) ⊎ (IsIn e (y ∷ ys) × (R x e ≢ Equal))
-          → IsIn e (by_order c (x ∷ y ∷ ys) (x ∷ ys) (y ∷ put R x ys))
-      by Less p ih m = ⊎_elim inl (λ k. inr k.0) m
-      by Equal p ih m = ⊎_elim inl (λ k. inr (⊎_elim (λ s. absurd (k.1 (ap (R x) s ∙ p))) (λ n. n) k.0)) m
-      by Greater p ih m = ⊎_elim (λ s. inr (ih (inl s))) (λ k. ⊎_elim inl (λ n. inr (ih (inr (n, k.1)))) k.0) m
+  in-put e x (y ∷ ys) m =
+      by-cases (R x y)
+      (λ p. rw p (⊎_elim inl (λ k. inr k.0) m))
+      (λ p. rw p (⊎_elim inl (λ k. inr (⊎_elim (λ s. absurd (k.1 (ap (R x) s ∙ p))) (λ n. n) k.0)) m))
+      (λ p. rw p (⊎_elim (λ s. inr (in-put e x ys (inl s))) (λ k. ⊎_elim inl (λ n. inr (in-put e x ys (inr (n, k.1)))) k.0) m))
 
   pub itself-put : (x : A) (ys : List A) → IsIn x (put R x ys)
   itself-put x ys = in-put x x ys (inl refl)
 
   -- what stands in a list stays there with one more, unless it is tied with that
   pub member-put : (e x : A) (ys : List A) → IsIn e ys → IsIn e (put R x ys) ⊎ (R x e ≡ Equal)
-  member-put e x ys m = by (R x e) refl
-    where
-      by : (c : Ordering) → R x e ≡ c → IsIn e (put R x ys) ⊎ (R x e ≡ Equal)
-      by Equal p = inr p
-      by _ p = inl (in-put e x ys (inr (m, λ t. cc)))
+  member-put e x ys m = by-cases (R x e) (λ p. inl (in-put e x ys (inr (m, λ t. cc)))) inr (λ p. inl (in-put e x ys (inr (m, λ t. cc))))
 
   not-tied-back : (x y : A) → R x y ≢ Equal → R y x ≢ Equal
   not-tied-back x y h e = h (tied_back o y x e)
@@ -81,13 +73,12 @@ module _ {A : Type 0} (R : A → A → Ordering) (o : IsTotalOrder R) where
   -- a key is that of nothing in the list with x exactly if it is not x's, and that of nothing in the list
   no_key-put : (e x : A) (ys : List A) → HasNoKey R e (put R x ys) ↔ ((R e x ≢ Equal) × HasNoKey R e ys)
   no_key-put e x [] = (λ h. h, λ h. h)
-  no_key-put e x (y ∷ ys) = by (R x y) refl (no_key-put e x ys)
-    where
-      by : (c : Ordering) → R x y ≡ c → HasNoKey R e (put R x ys) ↔ ((R e x ≢ Equal) × HasNoKey R e ys)
-          → HasNoKey R e (by_order c (x ∷ y ∷ ys) (x ∷ ys) (y ∷ put R x ys)) ↔ ((R e x ≢ Equal) × HasNoKey R e (y ∷ ys))
-      by Less p ih = (λ h. h, λ h. h)
-      by Equal p ih = (λ h. (h.0, (λ t. h.0 (alike_right o x y e p ∙ t), h.1)), λ h. (h.0, h.1.1))
-      by Greater p ih = (λ h. let k = ih.0 h.1 in (k.0, (h.0, k.1)), λ h. (h.1.0, ih.1 (h.0, h.1.1)))
+  no_key-put e x (y ∷ ys) =
+      let ih = no_key-put e x ys in
+      by-cases (R x y)
+      (λ p. rw p (λ h. h, λ h. h))
+      (λ p. rw p (λ h. (h.0, (λ t. h.0 (alike_right o x y e p ∙ t), h.1)), λ h. (h.0, h.1.1)))
+      (λ p. rw p (λ h. let k = ih.0 h.1 in (k.0, (h.0, k.1)), λ h. (h.1.0, ih.1 (h.0, h.1.1))))
 
   no_key-union : (e : A) (xs ys : List A) → HasNoKey R e (union R xs ys) ↔ (HasNoKey R e xs × HasNoKey R e ys)
   no_key-union e [] ys = (λ h. (tt, h), λ h. h.1)
