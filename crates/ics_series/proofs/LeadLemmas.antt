@@ -1,6 +1,6 @@
 -- What the merge of the leads' lists begins with, from the lead that goes first.
-use Rattle.std.proofs.Common.{◌≡◌, ℕ, zero, suc, ◌+◌, ◌<◌, true, false, ⊎_elim, List, [], ◌∷◌, ◌++◌, length, get_or, set, take, drop, map, sum_by, Option, Some}
-use Rattle.std.proofs.Common.{None, refl, sym, ◌∙◌, ap, subst, arith, option_map, is_gt, nat_cmp, Ordering, Less, Equal, Greater}
+use Rattle.std.proofs.Common.{◌≡◌, ℕ, zero, suc, ◌+◌, ◌<◌, true, false, ⊎_elim, List, [], ◌∷◌, ◌++◌, length, get_or, set, take, drop, map, sum_by, Option}
+use Rattle.std.proofs.Common.{Some, None, refl, sym, ◌∙◌, ap, subst, arith, option_map, is_gt, nat_cmp, Ordering, Less, Equal, Greater, inr}
 use Rattle.std.specs.Ordering.{ordering_then}
 use Rattle.std.proofs.lemmas.Bool.{cases_lt}
 use Rattle.std.proofs.lemmas.Bool.Decides.{nat_tests}
@@ -10,15 +10,20 @@ use Rattle.std.proofs.Math.Seq.{map-set_same, take-append_seam}
 use Rattle.std.proofs.lemmas.Simd.{map-map}
 use Rattle.ics_series.specs.Entry.{Entry, entry_cmp, entry_of}
 use Rattle.ics_series.specs.EntryLaws.{entry_total}
-use Rattle.ics_series.specs.Leads.{is_given, listed, past, ComeAfter, IsAhead}
+use Rattle.ics_series.specs.Leads.{is_given, listed, past, ComeAfter, IsAhead, AreNear, HasNear}
 use Rattle.ics_series.specs.Merged.{cut, merged, union}
 use Rattle.ics_series.specs.MergedLaws.{before-tied, before-trans}
-use Rattle.ics_series.proofs.Cases.{eq-Equal, up-to-front}
-use Rattle.ics_series.proofs.BeginsLemmas.{all_front, begins-at, cut-before, front-at, front-cases, not-after-front, uncut, AllFront, AllRise}
+use Rattle.ics_series.proofs.Cases.{eq-Equal, up-to-front, by-cases}
+use Rattle.ics_series.proofs.BeginsLemmas.{all_front, begins-at, cut-before, front-at, front-cases, not-after-front, uncut, AllFront, AllRise, before-union}
 use Rattle.ics_series.specs.Rising.{IsBefore, Rises}
 use Rattle.ics_series.specs.Tournament.{above, head_cmp, lead_cmp, winner, AreSettled, AreSettledBut}
 use Rattle.ics_series.proofs.TournamentLemmas.{settled_but, wins}
 use Rattle.ics_series.specs.declared.occurrence.Occurrence.{Occurrence}
+use Rattle.std.specs.List.{flat_map, AllByRecursion}
+use Rattle.std.proofs.lemmas.List.Elements.{All-from_recursion, All-push, All-set, recursion_from_All}
+use Rattle.ics_series.specs.Listing.{IsIn}
+use Rattle.ics_series.proofs.LeftLemmas.{member-cut}
+use Rattle.ics_series.proofs.ListingLemmas.{before-in, all-as}
 
 -- what stands at the front of a list
 abbrev front : List Entry → Option Entry
@@ -63,10 +68,6 @@ lists_of head rest xs = map (λ x. listed (head x) (rest x)) xs
 abbrev pub pasts_of : {X : Type 0} → (X → Option Occurrence) → (X → List Entry) → Option Occurrence → List X → List (List Entry)
 pasts_of head rest last xs = map (λ x. past last (listed (head x) (rest x))) xs
 
--- no lead goes before this one, by what they hold
-abbrev pub GoesFirst : List (Option Entry) → ℕ → ℕ → Type 0
-GoesFirst heads leads first = (lead : ℕ) → lead < leads → is_gt (lead_cmp heads first lead) ≡ false
-
 -- leads, by what they hold and what is left behind it
 module _ {X : Type 0} (head : X → Option Occurrence) (rest : X → List Entry) (ahead : (x : X) → IsAhead (head x) (rest x)) where
   rises-listed : (o : Option Occurrence) (es : List Entry) → IsAhead o es → Rises entry_cmp es → Rises entry_cmp (listed o es)
@@ -99,11 +100,18 @@ module _ {X : Type 0} (head : X → Option Occurrence) (rest : X → List Entry)
       past-nothing last None (f ∷ fs) a e = absurd a
       past-nothing last (Some o) es a e = cc
 
-  module _ (xs : List X) (first : ℕ) (wins : GoesFirst (heads_of head xs) (length xs) first) where
+  module _ (xs : List X) (winners : List ℕ) (long : length winners ≡ length xs) (settled : AreSettled (heads_of head xs) winners) where
+    abbrev first : ℕ
+    first = winner winners 1
+
+    -- no lead goes before the winner of all, by what they hold
+    goes-first : (lead : ℕ) → lead < length xs → is_gt (lead_cmp (heads_of head xs) first lead) ≡ false
+    goes-first lead l = wins (heads_of head xs) winners settled lead (omega arith)
+
     up-to-first : {k : Option Entry} (i : ℕ) → get_or (heads_of head xs) first None ≡ k → i < length xs →
         is_gt (head_cmp k (get_or (heads_of head xs) i None)) ≡ false
     up-to-first i is l =
-        rw is at (up-to-front (head_cmp (get_or (heads_of head xs) first None) (get_or (heads_of head xs) i None)) (nat_cmp first i) (wins i l))
+        rw is at (up-to-front (head_cmp (get_or (heads_of head xs) first None) (get_or (heads_of head xs) i None)) (nat_cmp first i) (goes-first i l))
 
     -- where the first lead holds nothing, no lead does
     pub nothing-comes : (last : Option Occurrence) → get_or (heads_of head xs) first None ≡ None → merged entry_cmp (pasts_of head rest last xs) ≡ []
@@ -125,7 +133,7 @@ module _ {X : Type 0} (head : X → Option Occurrence) (rest : X → List Entry)
         let lists : List (List Entry) = lists_of head rest xs in
         let found = front-first e (get_or lists first []) (sym (headed rises xs first).0 ∙ is) in
         begins-at entry_cmp entry_total lists first (all_rise rises xs) found.1
-        (λ i l m. before-list e (get_or lists i []) (headed rises xs i).1 (rw ((headed rises xs i).0, is) at (strictly _ first i l (wins i (within m)))))
+        (λ i l m. before-list e (get_or lists i []) (headed rises xs i).1 (rw ((headed rises xs i).0, is) at (strictly _ first i l (goes-first i (within m)))))
         (fronts-first rises e is)
 
     -- where the first of all is not given, nothing of the lists was
@@ -169,11 +177,6 @@ pub shorter-drawn : (last head : Option Occurrence) (rest : List Entry) → is_g
     length rest < length (listed head rest)
 shorter-drawn (Some p) (Some o) rest g = omega arith
 shorter-drawn _ _ rest g = cc
-
--- no lead goes before the winner of all
-pub wins-leads : {X : Type 0} (head : X → Option Occurrence) (xs : List X) (winners : List ℕ) → length winners ≡ length xs
-    → AreSettled (heads_of head xs) winners → GoesFirst (heads_of head xs) (length xs) (winner winners 1)
-wins-leads head xs winners long settled = λ lead l. wins (heads_of head xs) winners settled lead (omega arith)
 
 -- what a vector has after its elements were lent as a slice of the same length
 pub written-back : {X : Type 0} (before after : List X) (n : ℕ) → n ≡ length before → length after ≡ length before →
@@ -233,3 +236,82 @@ module _ {X : Type 0} (head : X → Option Occurrence) (rest : X → List Entry)
         let less : length (listed (head new) (rest new)) < length (listed (head old) (rest old)) =
         rw drawn (shorter-drawn last (head old) (rest old) known.1) in
         omega (arith, sum_by-set (λ x. length (listed (head x) (rest x))) xs lead new old known.0)
+
+-- How far the rules of leads' feeds have been read, and of what events they are.
+-- what holds of all of a list, where one of it is set, or one more stands behind it
+pub all-set : {X : Type 0} (P : X → Type 0) (xs : List X) (i : ℕ) (x : X) → AllByRecursion P xs → P x → AllByRecursion P (set xs i x)
+all-set P xs i x h p = recursion_from_All P (set xs i x) (All-set P xs i x p (All-from_recursion P xs h))
+
+pub all-pushed : {X : Type 0} (P : X → Type 0) (xs : List X) (x : X) → AllByRecursion P xs → P x → AllByRecursion P (xs ++ x ∷ [])
+all-pushed P xs x h p = recursion_from_All P (xs ++ x ∷ []) (All-push P xs x (All-from_recursion P xs h) p)
+
+-- what each of a list gives, where one is set that gives the same as the old one
+pub flat-set : {X Y : Type 0} (f : X → List Y) (xs : List X) (i : ℕ) {old : X} (new : X) → old ≡ get_or xs i old → f new ≡ f old →
+    flat_map f (set xs i new) ≡ flat_map f xs
+flat-set f [] i new read e = refl
+flat-set f (x ∷ xs) zero new read e = ap (λ ys. ys ++ flat_map f xs) (e ∙ ap f read)
+flat-set f (x ∷ xs) (suc i) new read e = ap (λ ys. f x ++ ys) (flat-set f xs i new read e)
+
+cut-in : (p o : Entry) (list : List Entry) → IsIn o (cut entry_cmp p list) → IsIn o list
+cut-in p o [] m = m
+cut-in p o (x ∷ xs) m = by-cases (entry_cmp p x) (λ e. rw e at m) (λ e. inr (rw e at m)) (λ e. rw e at m)
+
+past-in : (last : Option Occurrence) (o : Entry) (list : List Entry) → IsIn o (past last list) → IsIn o list
+past-in None o list m = m
+past-in (Some p) o list m = cut-in (entry_of p) o list m
+
+before-merged : (p : Entry) (lists : List (List Entry)) → AllByRecursion (IsBefore entry_cmp p) lists → IsBefore entry_cmp p (merged entry_cmp lists)
+before-merged p [] h = tt
+before-merged p (x ∷ xs) h = before-union entry_cmp entry_total p x (merged entry_cmp xs) h.0 (before-merged p xs h.1)
+
+-- leads, by what they hold, what is left behind it and how far they have been read
+module _ {X : Type 0} (head : X → Option Occurrence) (rest : X → List Entry) (N : X → Entry → Type 0) where
+  abbrev IsLeadNear : Option Occurrence → X → Type 0
+  IsLeadNear last x = AreNear (N x) (past last (listed (head x) (rest x)))
+
+  -- where one of them has drawn what was given, or could not
+  module _ (last : Option Occurrence) (xs : List X) (i : ℕ) (old new : X) where
+    pub near-drawn : listed (head new) (rest new) ≡ rest old → AreNear (N new) (rest old) → AllByRecursion (IsLeadNear last) xs
+        → AllByRecursion (IsLeadNear last) (set xs i new)
+    near-drawn drawn near all = all-set (IsLeadNear last) xs i new all (λ o m. near o (past-in last o (rest old) (rw drawn at m)))
+
+    pub near-kept : head new ≡ head old → rest new ≡ rest old → IsAhead (head old) (rest old) → is_given last (option_map entry_of (head old)) ≡ true
+        → AreNear (N new) (rest old) → AllByRecursion (IsLeadNear last) xs → AllByRecursion (IsLeadNear last) (set xs i new)
+    near-kept same left ahead given near all =
+        all-set (IsLeadNear last) xs i new all
+        (λ o m. near o (past-in last o (rest old) (rw (same, left, ← past-drawn last (head old) (rest old) ahead given) at m)))
+
+  -- where nothing of their lists was given
+  pub near-whole : (last : Option Occurrence) (xs : List X) → pasts_of head rest last xs ≡ lists_of head rest xs →
+      AllByRecursion (IsLeadNear last) xs → AllByRecursion (λ x. AreNear (N x) (listed (head x) (rest x))) xs
+  near-whole last [] e h = tt
+  near-whole last (x ∷ xs) e h =
+      let one : past last (listed (head x) (rest x)) ≡ listed (head x) (rest x) = cc in
+      let more : pasts_of head rest last xs ≡ lists_of head rest xs = cc in
+      (λ o m. h.0 o (rw (← one) at m), near-whole last xs more h.1)
+
+  abbrev IsNear : X → Type 0
+  IsNear x = AreNear (N x) (listed (head x) (rest x))
+
+  abbrev IsNearAt : Entry → X → Type 0
+  IsNearAt o x = HasNear (N x) (listed (head x) (rest x)) o
+
+  pub near-past : (last : Option Occurrence) (xs : List X) → AllByRecursion IsNear xs → AllByRecursion (IsLeadNear last) xs
+  near-past last xs = all-as IsNear (IsLeadNear last) xs (λ x h o m. h o (past-in last o (listed (head x) (rest x)) m))
+
+  pub near-each : (o : Entry) (xs : List X) → AllByRecursion IsNear xs → AllByRecursion (IsNearAt o) xs
+  near-each o xs = all-as IsNear (IsNearAt o) xs (λ x h. h o)
+
+  -- where it is still to come of the merge
+  pub near-to_come : (last : Option Occurrence) (o : Entry) (xs : List X) → ComeAfter last (pasts_of head rest last xs) →
+      IsIn o (merged entry_cmp (pasts_of head rest last xs)) → AllByRecursion (IsLeadNear last) xs → AllByRecursion (IsNearAt o) xs
+  near-to_come last o xs follows there =
+      all-as (IsLeadNear last) (IsNearAt o) xs (λ x h m. h o (uncut last follows (listed (head x) (rest x)) m))
+    where
+      -- it is not cut off a list
+      uncut : (given : Option Occurrence) → ComeAfter given (pasts_of head rest last xs) → (list : List Entry) → IsIn o list → IsIn o (past given list)
+      uncut None come list m = m
+      uncut (Some p) come list m =
+          let less = before-in entry_cmp entry_total (entry_of p) o (merged entry_cmp (pasts_of head rest last xs))
+          (before-merged (entry_of p) (pasts_of head rest last xs) come) there in
+          member-cut entry_cmp entry_total (entry_of p) o list (λ t. cc) m

@@ -9,15 +9,12 @@ pub mod StartSourceLemmas
 pub mod HoldingLaws
 pub mod InstantLemmas
 pub mod LeadLemmas
-pub mod LeadNearLemmas
 pub mod LeftLemmas
 pub mod ListingLemmas
-pub mod MeetingLemmas
 pub mod NearDayLemmas
 pub mod OccursLemmas
 pub mod OnDayLemmas
 pub mod OverrideLemmas
-pub mod PlacedLemmas
 pub mod RawLemmas
 pub mod RecurringLemmas
 pub mod RuleDayLemmas
@@ -26,7 +23,6 @@ pub mod SeriesLemmas
 pub mod SinglesLemmas
 pub mod SoughtLemmas
 pub mod SourceLemmas
-pub mod StartLaws
 pub mod ToComeLemmas
 pub mod TokenLemmas
 pub mod TournamentLemmas

@@ -13,7 +13,6 @@ use Rattle.std.proofs.lemmas.Option.{get_or_from_slice_get, slice_get_within}
 use Rattle.ics_series.specs.Rising.{IsBefore, Rises}
 use Rattle.ics_series.specs.Listing.{IsIn, IsListing}
 use Rattle.ics_series.proofs.Cases.{some-same, eq-Equal, less-by, by-cases, option-cases}
-use Rattle.ics_series.proofs.PlacedLemmas.{in-append, in-append_right}
 use Rattle.std.proofs.lemmas.Bool.{cond_both, false_from_ne_true, cases_lt}
 use Rattle.ics_series.proofs.BeginsLemmas.{before-all}
 use Rattle.std.specs.Prelude.{⊤}
@@ -46,6 +45,20 @@ without f x (y ∷ ys) (inr m) =
       sum = omega (arith, sum_by-cons f y ys, sum_by-cons f y w.rest, w.sum);
       others = λ z n. ⊎_elim (λ s. inr (inl s)) (λ k. ⊎_elim inl (λ i. inr (inr i)) (w.others z k)) n;
     }
+
+-- Members of two lists joined.
+module _ {A : Type 0} where
+  pub in-append_left : (x : A) (xs ys : List A) → IsIn x xs → IsIn x (xs ++ ys)
+  in-append_left x [] ys m = absurd m
+  in-append_left x (z ∷ zs) ys m = ⊎_elim inl (λ n. inr (in-append_left x zs ys n)) m
+
+  pub in-append_right : (x : A) (xs ys : List A) → IsIn x ys → IsIn x (xs ++ ys)
+  in-append_right x [] ys m = m
+  in-append_right x (z ∷ zs) ys m = inr (in-append_right x zs ys m)
+
+  pub in-append : (x : A) (xs ys : List A) → IsIn x (xs ++ ys) → IsIn x xs ⊎ IsIn x ys
+  in-append x [] ys m = inr m
+  in-append x (z ∷ zs) ys m = ⊎_elim (λ e. inl (inl e)) (λ n. ⊎_elim (λ a. inl (inr a)) inr (in-append x zs ys n)) m
 
 -- a list at one of its places
 pub split-at : {A : Type 0} (xs : List A) (i : ℕ) {x : A} → slice_get xs i ≡ Some x → xs ≡ take i xs ++ x ∷ drop (suc i) xs

@@ -9,11 +9,15 @@ use Rattle.ics_zone.specs.Seconds.{IsNear}
 use Rattle.ics_zone.proofs.Cases.{int_le_true, less_or_not_z}
 use Rattle.ics_fields.specs.Locals.{midnight, day_of_local}
 use Rattle.ics_series.specs.declared.window.Window.{Window}
-use Rattle.ics_series.specs.Clocks.{Clock, local_at}
+use Rattle.ics_series.specs.Clocks.{Clock, local_at, Clocks}
 use Rattle.ics_series.specs.OnDays.{date_at, end_day, first_day, is_on, last_day, first_near, last_near}
 use Rattle.ics_series.specs.Entry.{Entry}
 use Rattle.ics_series.specs.Meets.{Meets}
 use Rattle.ics_series.specs.Occurs.{Occurs}
+use Rattle.ics_event.specs.declared.event.Event.{Event}
+use Rattle.ics_series.specs.Exclusions.{is_excluded}
+use Rattle.ics_series.specs.Found.{is_shown}
+use Rattle.ics_series.specs.Meeting.{is_met}
 
 -- the day of some seconds
 pub day-under : (seconds day : ℤ) → day ≡ int_div_euclid seconds (pos 86_400) →
@@ -101,3 +105,25 @@ module _ (clock : Clock) (near : (t : ℤ) → IsNear (clock.offset t)) where
         let end = (date-near (int_min o.finish w.to -ℤ pos 1)).0 in
         ⊎_elim (λ k. omega (arith, ints, k, under.1, met.begun, w.ordered, start, int_max_is o.start w.from))
         (λ h. omega (arith, ints, h.1, under.1, end, int_min_is o.finish w.to)) by-length
+
+-- Whether an occurrence meets a window, by the test.
+pub less-le : (a b : ℤ) → b <ℤ a → int_le a b ≡ false
+less-le a b e = grind (arith, ints)
+
+pub is_met-meets : (w : Window) (o : Entry) → is_met w o ≡ true → Meets w o
+is_met-meets w o e = record {
+  begun = grind (arith, ints);
+  lasting = ⊎_elim inl (λ l. inr (grind (arith, ints), grind (arith, ints))) (less_or_not_z w.from o.finish);
+  started = λ n. grind (arith, ints);
+}
+
+pub meets-is_met : (w : Window) (o : Entry) → Meets w o → is_met w o ≡ true
+meets-is_met w o m = grind (arith, ints, m.begun, m.lasting, m.started)
+
+pub shown-met : (clocks : Clocks) (w : Window) (event : Event) (o : Entry) → is_shown clocks w event o ≡ true →
+    Meets w o × (is_excluded clocks event o.start ≡ false)
+shown-met clocks w event o e = (is_met-meets w o (grind arith), grind arith)
+
+pub met-shown : (clocks : Clocks) (w : Window) (event : Event) (o : Entry) → Meets w o → is_excluded clocks event o.start ≡ false →
+    is_shown clocks w event o ≡ true
+met-shown clocks w event o m e = grind (arith, meets-is_met w o m)

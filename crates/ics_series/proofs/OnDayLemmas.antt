@@ -18,10 +18,9 @@ use Rattle.ics_series.specs.Meeting.{is_met}
 use Rattle.ics_series.specs.Occurs.{Occurs}
 use Rattle.ics_series.specs.Rising.{IsBefore, Rises}
 use Rattle.ics_series.proofs.BeginsLemmas.{over}
-use Rattle.ics_series.proofs.ListingLemmas.{listing-filter, before-in, rises-on}
+use Rattle.ics_series.proofs.ListingLemmas.{listing-filter, before-in, rises-on, in-append, in-append_left, in-append_right}
 use Rattle.ics_series.proofs.VersionLemmas.{in-map, map-in}
-use Rattle.ics_series.proofs.MeetingLemmas.{is_met-meets, meets-is_met}
-use Rattle.ics_series.proofs.PlacedLemmas.{in-append, in-append_left, in-append_right}
+use Rattle.ics_series.proofs.NearDayLemmas.{is_met-meets, meets-is_met}
 
 pub on_day_total : IsTotalOrder on_day_cmp
 on_day_total = on_total day_rank_of (then_total (on_total (λ r. r.day) int_cmp_total) (on_total (λ r. r.key) rank_total))

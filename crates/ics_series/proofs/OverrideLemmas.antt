@@ -20,7 +20,7 @@ use Rattle.ics_series.specs.Versions.{is_named, is_override, label_of, seen, sub
 use Rattle.ics_series.proofs.Cases.{eq-Equal, less-by, up-to-front}
 use Rattle.ics_series.proofs.VersionLemmas.{in-map, map-in, exact-subject, subject_total}
 use Rattle.ics_series.proofs.ListingLemmas.{strictly-sorted, after-in, before-in, less-up-to, not-less-itself, rises-end, split-at, rises-filter}
-use Rattle.ics_series.proofs.ListingLemmas.{listing-picked, any-in, in-any, get-in, search-finds, rises-on}
+use Rattle.ics_series.proofs.ListingLemmas.{listing-picked, any-in, in-any, get-in, search-finds, rises-on, in-append_right}
 use Rattle.ics_series.proofs.OccursLemmas.{override-subject}
 use Rattle.std.specs.Option.{option_cmp}
 use Rattle.std.specs.Str.{bytes_eq}
@@ -29,7 +29,6 @@ use Rattle.std.proofs.lemmas.Map.Text.{is_eq-slice_cmp}
 use Rattle.std.proofs.lemmas.Option.{slice_get-get_or}
 use Rattle.ics_series.specs.Listing.{IsIn, IsListing}
 use Rattle.ics_series.specs.Overridden.{instance_of, AreOverridden}
-use Rattle.ics_series.proofs.PlacedLemmas.{in-append_right}
 use Rattle.ics_series.proofs.StartSourceLemmas.{same-test}
 use Rattle.ics_series.proofs.SeriesLemmas.{among-in, in-among}
 

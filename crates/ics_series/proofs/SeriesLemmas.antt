@@ -38,7 +38,7 @@ use Rattle.ics_series.proofs.StartSourceLemmas.{gives-value, same-given, same-so
 use Rattle.ics_series.proofs.LeftLemmas.{member-cut}
 use Rattle.ics_series.proofs.ListingLemmas.{before-in, rises-end, any-in, in-any, picked as picked-from, listing-picked as picked-listing, KeepsOrder}
 use Rattle.ics_series.proofs.ListingLemmas.{one-of-tied}
-use Rattle.ics_series.proofs.MeetingLemmas.{met-shown, shown-met}
+use Rattle.ics_series.proofs.NearDayLemmas.{met-shown, shown-met}
 use Rattle.ics_series.proofs.RuleDayLemmas.{given-parts, rises-to_come}
 use Rattle.ics_series.proofs.VersionLemmas.{entry_start_cmp, same-entry}
 use Rattle.ics_series.proofs.RuleStepLemmas.{left-near}

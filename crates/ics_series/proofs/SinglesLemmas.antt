@@ -38,11 +38,11 @@ use Rattle.ics_series.specs.Versions.{by_subject, is_named, is_override, label_o
 use Rattle.ics_series.specs.Spots.{event_at}
 use Rattle.ics_series.proofs.VersionLemmas.{given-subject, placed-event, entry_start_cmp, given_cmp, subject_from, IsGiven, IsGivenBy, map-in, same-entry}
 use Rattle.ics_series.proofs.VersionLemmas.{second-equal, subject_total}
-use Rattle.ics_series.proofs.MeetingLemmas.{is_met-meets, meets-is_met}
+use Rattle.ics_series.proofs.NearDayLemmas.{is_met-meets, meets-is_met}
 use Rattle.ics_series.proofs.OverrideLemmas.{named-overrides}
 use Rattle.ics_series.proofs.ListingLemmas.{filter_map-map, listing-picked, KeepsOrder, listing-sorted, map-climbs, Climbs, all-as}
 use Rattle.ics_series.proofs.UnionLemmas.{listing-ordered, merged-listing, IsInOne}
-use Rattle.ics_series.proofs.StartLaws.{one-start}
+use Rattle.ics_series.proofs.RawLemmas.{one-start}
 use Rattle.ics_series.proofs.ToComeLemmas.{come-listed, is-after, listed-given, to-come}
 use Rattle.ics_series.proofs.ZoneLemmas.{none-of, rule-none}
 use Rattle.ics_series.proofs.StartSourceLemmas.{own-time}

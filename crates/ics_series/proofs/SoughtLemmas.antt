@@ -20,7 +20,7 @@ use Rattle.ics_series.specs.Meets.{Meets}
 use Rattle.ics_series.specs.Starts.{given_by, local_of, recurrence_by, time_at, time_of, GivesStart}
 use Rattle.ics_series.specs.FileZones.{clocks_in, is_past}
 use Rattle.ics_series.proofs.InstantLemmas.{instant-near, meets-late}
-use Rattle.ics_series.proofs.MeetingLemmas.{less-le, meets-is_met}
+use Rattle.ics_series.proofs.NearDayLemmas.{less-le, meets-is_met}
 use Rattle.ics_fields.specs.Locals.{whole_days}
 use Rattle.ics_event.specs.declared.time.Time.{Time}
 use Rattle.ics_series.proofs.Cases.{some-same}

@@ -23,10 +23,9 @@ use Rattle.ics_series.specs.Singles.{is_single}
 use Rattle.ics_series.specs.Sources.{is_once, recurring, uid_cmp, AreSources, IsMasterOf, Recurring, Source}
 use Rattle.ics_series.specs.Sources.Source.{Of, Once}
 use Rattle.ics_series.specs.Versions.{seen, subject_cmp, AreChosen, Label}
-use Rattle.ics_series.proofs.LeadNearLemmas.{all-pushed}
-use Rattle.ics_series.proofs.ListingLemmas.{front-before, split-at, all-as, all-in, get-in}
+use Rattle.ics_series.proofs.LeadLemmas.{all-pushed}
+use Rattle.ics_series.proofs.ListingLemmas.{front-before, split-at, all-as, all-in, get-in, in-append_left, in-append_right, in-append}
 use Rattle.ics_series.proofs.OverrideLemmas.{chosen-rises}
-use Rattle.ics_series.proofs.PlacedLemmas.{in-append_left, in-append_right, in-append}
 use Rattle.ics_series.proofs.RecurringLemmas.{own-clocks, own-event, own-subject, recurring-master, own}
 use Rattle.ics_series.proofs.VersionLemmas.{map-in, subject_total}
 use Rattle.ics_series.proofs.OnDayLemmas.{rises-append}

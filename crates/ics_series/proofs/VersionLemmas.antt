@@ -1,7 +1,7 @@
 -- The versions of files, one file after the other. All sorted, of each subject the last is the one that counts, and there is exactly one.
 use Rattle.std.proofs.Common.{◌≡◌, ℕ, ℤ, List, [], ◌∷◌, Option, Some, None, inl, inr, ⊎_elim, Bool, true, false, cond, refl, sym, ◌∙◌, ap, subst, ◌+◌}
 use Rattle.std.proofs.Common.{add-one, ◌++◌, map, drop, get_or, option_map, ◌&&◌, slice_get, int_cmp, nat_cmp, is_eq, is_gt, is_lt, int_eq, Ordering, Less}
-use Rattle.std.proofs.Common.{Equal, Greater, drop-cons, append_assoc, filter, ◌<◌, length, IsSome, option_and_then}
+use Rattle.std.proofs.Common.{Equal, Greater, drop-cons, append_assoc, filter, ◌<◌, length, IsSome, option_and_then, ◌⊎◌, arith, zero, suc}
 use Rattle.std.specs.Cmp.{IsTotalOrder, unsigned_ties}
 use Rattle.std.specs.Cmp.Lexicographic.{options_total, slice_cmp, lists_ties}
 use Rattle.std.specs.Option.{option_cmp, option_eq}
@@ -17,26 +17,69 @@ use Rattle.ics_event.specs.declared.event.Event.{Event}
 use Rattle.ics_event.specs.declared.events.FileEvents.{FileEvents}
 use Rattle.ics_zone.specs.ZoneSaid.{zone_said}
 use Rattle.ics_series.specs.Chosen.{subject_of, IsChosen, SubjectSeen, overridden, subject_by}
-use Rattle.ics_series.specs.Clocks.{Clock, Clocks, clocks_of, instant}
+use Rattle.ics_series.specs.Clocks.{Clock, Clocks, clocks_of}
 use Rattle.ics_series.specs.Listing.{IsIn, IsListing}
 use Rattle.ics_series.specs.PlacedEvents.{Placed, IsPlaced, placed_cmp, clocks_at, zones_of}
 use Rattle.ics_series.specs.Versions.{by_subject, subject_cmp, version_cmp, lasts, is_followed, label_by, label_of, placed_from, placed_in, Label, seen}
 use Rattle.ics_series.specs.Versions.{label_cmp, is_same, AreChosen, spot_of}
 use Rattle.ics_series.proofs.ListingLemmas.{Climbs, up-to-in, climbs-map, map-climbs, followed, contains-in, in-contains, in-permutation, less-up-to}
-use Rattle.ics_series.proofs.ListingLemmas.{not-less-itself, relisted, filter-in, in-filter}
-use Rattle.ics_series.proofs.Cases.{eq-Equal, less-by, up-to-front, some-same}
+use Rattle.ics_series.proofs.ListingLemmas.{not-less-itself, relisted, filter-in, in-filter, in-append, in-append_left, in-append_right}
+use Rattle.ics_series.proofs.Cases.{eq-Equal, less-by, up-to-front, some-same, by-cases, option-cases}
 use Rattle.ics_series.proofs.BeginsLemmas.{before-all}
 use Rattle.std.specs.List.Sorted.{IsPermutation}
 use Rattle.std.proofs.lemmas.List.Sorted.{IsPermutation-map, IsPermutation-sym}
 use Rattle.ics_series.specs.declared.version.Version.{Version}
-use Rattle.ics_series.proofs.PlacedLemmas.{placed-in, in-placed}
 use Rattle.ics_series.specs.Laws.{HasVersion}
 use Rattle.ics_series.specs.Entry.{Entry}
-use Rattle.ics_event.specs.declared.time.Time.{Time}
 use Rattle.ics_series.specs.declared.window.Window.{Window}
 use Rattle.ics_series.specs.Meets.{Meets}
 use Rattle.ics_series.specs.Occurs.{IsMoved, IsOf}
 use Rattle.ics_series.specs.Spots.{event_at}
+
+-- The list of a folder's events holds each that stands there.
+-- A file's events, of which the first stands at a place.
+placed_from-in : (file place : ℕ) (events : List Event) (p : Placed) → IsIn p (placed_from file place events) →
+    (k : ℕ) × (p.file ≡ file) × (p.place ≡ place + k) × (slice_get events k ≡ Some p.event)
+placed_from-in file place [] p m = absurd m
+placed_from-in file place (e ∷ es) p (inl s) = (0, ap (λ q. q.file) s, ap (λ q. q.place) s ∙ omega arith, ap (λ q. Some q.event) (sym s))
+placed_from-in file place (e ∷ es) p (inr n) = let h = placed_from-in file (place + 1) es p n in (suc h.0, h.1, omega (arith, h.2), h.3)
+
+in-placed_from : (file place k : ℕ) (events : List Event) {event : Event} {at : ℕ} → at ≡ place + k → slice_get events k ≡ Some event →
+    IsIn (record { file = file; place = at; event = event }) (placed_from file place events)
+in-placed_from file place k [] {event = event} a e = let f : None ≡ Some event = e in cc
+in-placed_from file place zero (x ∷ xs) {event = event} a e =
+    let same = some-same event x (sym e) in
+    let here = a ∙ omega arith in
+    inl (λ i. record { file = file; place = here i; event = same i })
+in-placed_from file place (suc k) (x ∷ xs) a e = inr (in-placed_from file (place + 1) k xs (omega (arith, a)) e)
+
+-- The events of files, of which the first has a number.
+placed_in-in : (file : ℕ) (files : List FileSaid) (p : Placed) → IsIn p (placed_in file files) →
+    (k : ℕ) × (of : FileSaid) × (p.file ≡ file + k) × (slice_get files k ≡ Some of) × (slice_get of.events p.place ≡ Some p.event)
+placed_in-in file [] p m = absurd m
+placed_in-in file (f ∷ fs) p m =
+    ⊎_elim
+    (λ a. let h = placed_from-in file 0 f.events p a in (0, f, omega (arith, h.1), refl, ap (slice_get f.events) (omega (arith, h.2)) ∙ h.3))
+    (λ n. let h = placed_in-in (file + 1) fs p n in (suc h.0, h.1, omega (arith, h.2), h.3, h.4))
+    (in-append p (placed_from file 0 f.events) (placed_in (file + 1) fs) m)
+
+in-placed_in : (file : ℕ) (files : List FileSaid) (p : Placed) →
+    (k : ℕ) × (of : FileSaid) × (p.file ≡ file + k) × (slice_get files k ≡ Some of) × (slice_get of.events p.place ≡ Some p.event) →
+    IsIn p (placed_in file files)
+in-placed_in file [] p (k, of, a, h, e) = let f : None ≡ Some of = h in absurd cc
+in-placed_in file (f ∷ fs) p (zero, of, a, h, e) =
+    let same : f ≡ of = some-same f of h in
+    in-append_left p (placed_from file 0 f.events) (placed_in (file + 1) fs)
+    (subst (λ n. IsIn (record { file = n; place = p.place; event = p.event }) (placed_from file 0 f.events)) (omega (arith, a))
+    (in-placed_from file 0 p.place f.events (omega arith) (ap (λ x. slice_get x.events p.place) same ∙ e)))
+in-placed_in file (f ∷ fs) p (suc k, of, a, h, e) =
+    in-append_right p (placed_from file 0 f.events) (placed_in (file + 1) fs) (in-placed_in (file + 1) fs p (k, of, omega (arith, a), h, e))
+
+pub placed-in : (files : List FileSaid) (p : Placed) → IsPlaced files p → IsIn p (placed_in 0 files)
+placed-in files p h = in-placed_in 0 files p (p.file, h.within.0, omega arith, h.within.1, h.within.2)
+
+pub in-placed : (files : List FileSaid) (p : Placed) → IsIn p (placed_in 0 files) → IsPlaced files p
+in-placed files p m = let h = placed_in-in 0 files p m in record { within = (h.1, ap (slice_get files) (omega (arith, h.2)) ∙ h.3, h.4) }
 
 -- One version of a subject counts, and an event has one occurrence at most with a start.
 pub placed_total : IsTotalOrder placed_cmp
@@ -44,10 +87,8 @@ placed_total = then_total (on_total (λ p. p.event.sequence) nat_cmp_total)
     (then_total (on_total (λ p. p.file) nat_cmp_total) (on_total (λ p. p.place) nat_cmp_total))
 
 -- of two of which neither is less, the places are the same
-pub tied-by : (p q : Placed) (c : Ordering) → placed_cmp p q ≡ c → (placed_cmp p q ≡ Less → ⊥) → (placed_cmp q p ≡ Less → ⊥) → placed_cmp p q ≡ Equal
-tied-by p q Less e h k = absurd (h e)
-tied-by p q Equal e h k = e
-tied-by p q Greater e h k = absurd (k (placed_total.antisymm q p ∙ ap ordering_reverse e))
+tied-by : (p q : Placed) → (placed_cmp p q ≡ Less → ⊥) → (placed_cmp q p ≡ Less → ⊥) → placed_cmp p q ≡ Equal
+tied-by p q h k = by-cases (placed_cmp p q) (λ e. absurd (h e)) (λ e. e) (λ e. absurd (k (placed_total.antisymm q p ∙ ap ordering_reverse e)))
 
 pub second-equal : (a b : Ordering) → ordering_then a b ≡ Equal → (a ≡ Equal) × (b ≡ Equal)
 second-equal Less b h = let f : Less ≡ Equal = h in cc
@@ -71,7 +112,7 @@ pub one-chosen : {files : List FileSaid} {display : Clock} {p q : Placed} → Is
     subject_of files display p ≡ subject_of files display q → p ≡ q
 one-chosen {files = files} {p = p} {q = q} h k u =
     same-placed files p q h.placed k.placed
-    (tied-by p q (placed_cmp p q) refl (h.greatest q k.placed (sym u)) (k.greatest p h.placed u))
+    (tied-by p q (h.greatest q k.placed (sym u)) (k.greatest p h.placed u))
 
 pub same-entry : (o q : Entry) → o.start ≡ q.start → o.finish ≡ q.finish → o.recurrence ≡ q.recurrence → o.event ≡ q.event → o ≡ q
 same-entry o q a b c d = λ i. record { start = a i; finish = b i; recurrence = c i; event = d i }
@@ -343,9 +384,5 @@ stands {files = files} {display = display} {versions = versions} i d h l =
 -- what a version gives has its subject
 pub given-subject : (clocks : Clocks) (event : Event) (o : Entry) → IsGivenBy clocks event (overridden clocks event) o →
     subject_from o ≡ subject_by clocks event
-given-subject clocks event o h = by event.recurrence refl h
-  where
-    by : (r : Option Time) → event.recurrence ≡ r → IsGivenBy clocks event (option_map (instant clocks) r) o
-        → subject_from o ≡ record { uid = event.uid; recurrence = option_map (instant clocks) r }
-    by None e h = rw (h.event, e) refl
-    by (Some time) e h = rw (h.0.event, e, h.1) refl
+given-subject clocks event o h =
+    option-cases event.recurrence (λ e. let k = rw e at h in rw (k.event, e) refl) (λ time e. let k = rw e at h in rw (k.0.event, e, k.1) refl)

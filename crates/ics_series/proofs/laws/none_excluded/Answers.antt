@@ -1,4 +1,4 @@
-use Rattle.ics_series.proofs.StartLaws.{none-excluded}
+use Rattle.ics_series.proofs.RawLemmas.{none-excluded}
 use Rattle.ics_series.proofs.laws.none_excluded.Goals as goal
 
 pub returns : goal.returns

@@ -1,4 +1,4 @@
-use Rattle.ics_series.proofs.StartLaws.{one-start}
+use Rattle.ics_series.proofs.RawLemmas.{one-start}
 use Rattle.ics_series.proofs.laws.one_start.Goals as goal
 
 pub returns : goal.returns

@@ -12,7 +12,7 @@ use Rattle.ics_series.specs.Found.{met_by}
 use Rattle.ics_series.specs.Meeting.{entry_from, is_met}
 use Rattle.ics_series.specs.Starts.{time_of}
 use Rattle.ics_series.specs.FileZones.{clocks_in}
-use Rattle.ics_series.proofs.MeetingLemmas.{is_met-meets}
+use Rattle.ics_series.proofs.NearDayLemmas.{is_met-meets}
 use Rattle.ics_series.proofs.SeriesLemmas.{shown-by, unmet}
 use Rattle.ics_series.proofs.met.shown.Goals as goal
 

@@ -6,7 +6,7 @@ use Rattle.ics_series.specs.Merged.{merged}
 use Rattle.ics_series.specs.Tournament.{winner}
 use Rattle.ics_series.specs.Uids.{AreHeadsSorted}
 use Rattle.ics_series.proofs.LeadLemmas.{fewer-drawn, given-read, given-within, heads-kept, settled-drawn, to_come-drawn, to_come-kept, written-back}
-use Rattle.ics_series.proofs.LeadNearLemmas.{flat-set, near-drawn, near-kept}
+use Rattle.ics_series.proofs.LeadLemmas.{flat-set, near-drawn, near-kept}
 use Rattle.ics_series.proofs.UidLemmas.{fewer-drawn-in, fewer-kept-in, fewer-last, fewer-sorted, heads-sorted}
 use Rattle.ics_series.proofs.merge.Merge.draw_first.Goals as goal
 

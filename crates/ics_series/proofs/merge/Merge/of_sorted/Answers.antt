@@ -12,7 +12,7 @@ use Rattle.ics_series.specs.Listing.{IsIn}
 use Rattle.ics_series.specs.Merged.{merged}
 use Rattle.ics_series.specs.Tournament.{AreSettled}
 use Rattle.ics_series.specs.Uids.{AreHeadsSorted, AreSortedFrom}
-use Rattle.ics_series.proofs.LeadNearLemmas.{all-pushed}
+use Rattle.ics_series.proofs.LeadLemmas.{all-pushed}
 use Rattle.ics_series.proofs.UidLemmas.{heads-sorted}
 use Rattle.ics_series.proofs.merge.Merge.of_sorted.Goals as goal
 

@@ -2,8 +2,7 @@ use Rattle.std.proofs.Common.{Some, ap, sym, subst, ◌∙◌, rules, option_map
 use Rattle.ics_series.specs.Entry.{entry_of}
 use Rattle.ics_series.specs.Listing.{IsIn}
 use Rattle.ics_series.specs.Tournament.{winner}
-use Rattle.ics_series.proofs.LeadLemmas.{first-comes, nothing-comes, uncut-first, wins-leads}
-use Rattle.ics_series.proofs.LeadNearLemmas.{near-each, near-past, near-to_come, near-whole}
+use Rattle.ics_series.proofs.LeadLemmas.{first-comes, nothing-comes, uncut-first, near-each, near-past, near-to_come, near-whole}
 use Rattle.ics_series.proofs.UidLemmas.{head-in}
 use Rattle.ics_series.proofs.merge.MergeFeed.next.Goals as goal
 
@@ -11,8 +10,7 @@ pub invariant_of-self-clause-follows : goal.invariant_of-self-clause-follows
 invariant_of-self-clause-follows g c =
     let met : g.claim c.lifetimes = search rules in
     let self = c.skip_given.new.self in
-    (first-comes (λ x. x.head) (λ x. g.F.Coming.coming x.feed) (λ x. x.ahead) self.leads.items (winner self.winners.items 1)
-    (wins-leads (λ x. x.head) self.leads.items self.winners.items self.same_length self.settled)
+    (first-comes (λ x. x.head) (λ x. g.F.Coming.coming x.feed) (λ x. x.ahead) self.leads.items self.winners.items self.same_length self.settled
     (λ x. (g.met.F.Feed c.lifetimes met).rises x.feed) self.last c.in-Some.first
     (sym c.first.ensures ∙ ap (option_map entry_of) c.in-Some.is) c.in_ok-skip_given.ensures.skipped self.follows).1
 
@@ -28,8 +26,7 @@ returns-in-Some-clause-ok g c =
     let met : g.claim c.lifetimes = search rules in
     let self = c.skip_given.new.self in
     sym c.in_ok-skip_given.ensures.same
-    ∙ (first-comes (λ x. x.head) (λ x. g.F.Coming.coming x.feed) (λ x. x.ahead) self.leads.items (winner self.winners.items 1)
-    (wins-leads (λ x. x.head) self.leads.items self.winners.items self.same_length self.settled)
+    ∙ (first-comes (λ x. x.head) (λ x. g.F.Coming.coming x.feed) (λ x. x.ahead) self.leads.items self.winners.items self.same_length self.settled
     (λ x. (g.met.F.Feed c.lifetimes met).rises x.feed) self.last c.in-Some.first
     (sym c.first.ensures ∙ ap (option_map entry_of) c.in-Some.is) c.in_ok-skip_given.ensures.skipped self.follows).0
 
@@ -37,8 +34,7 @@ pub returns-in-None-clause-ok : goal.returns-in-None-clause-ok
 returns-in-None-clause-ok g c =
     let self = c.skip_given.new.self in
     let nothing =
-    nothing-comes (λ x. x.head) (λ x. g.F.Coming.coming x.feed) (λ x. x.ahead) self.leads.items (winner self.winners.items 1)
-    (wins-leads (λ x. x.head) self.leads.items self.winners.items self.same_length self.settled) self.last
+    nothing-comes (λ x. x.head) (λ x. g.F.Coming.coming x.feed) (λ x. x.ahead) self.leads.items self.winners.items self.same_length self.settled self.last
     (sym c.first.ensures ∙ ap (option_map entry_of) c.in-None.is) in
     (sym c.in_ok-skip_given.ensures.same ∙ nothing, nothing)
 
@@ -48,8 +44,7 @@ invariant_of-self-clause-near g c =
     let self = c.skip_given.new.self in
     near-past (λ x. x.head) (λ x. g.F.Coming.coming x.feed) (λ x. g.F.Coming.near x.feed) (Some c.in-Some.first) self.leads.items
     (near-whole (λ x. x.head) (λ x. g.F.Coming.coming x.feed) (λ x. g.F.Coming.near x.feed) self.last self.leads.items
-    (uncut-first (λ x. x.head) (λ x. g.F.Coming.coming x.feed) (λ x. x.ahead) self.leads.items (winner self.winners.items 1)
-    (wins-leads (λ x. x.head) self.leads.items self.winners.items self.same_length self.settled)
+    (uncut-first (λ x. x.head) (λ x. g.F.Coming.coming x.feed) (λ x. x.ahead) self.leads.items self.winners.items self.same_length self.settled
     (λ x. (g.met.F.Feed c.lifetimes met).rises x.feed) self.last c.in-Some.first
     (sym c.first.ensures ∙ ap (option_map entry_of) c.in-Some.is) c.in_ok-skip_given.ensures.skipped self.follows) self.near)
 
@@ -59,8 +54,7 @@ returns-in-Some-clause-near g c = λ o m.
     let self = c.skip_given.new.self in
     near-each (λ x. x.head) (λ x. g.F.Coming.coming x.feed) (λ x. g.F.Coming.near x.feed) o self.leads.items
     (near-whole (λ x. x.head) (λ x. g.F.Coming.coming x.feed) (λ x. g.F.Coming.near x.feed) self.last self.leads.items
-    (uncut-first (λ x. x.head) (λ x. g.F.Coming.coming x.feed) (λ x. x.ahead) self.leads.items (winner self.winners.items 1)
-    (wins-leads (λ x. x.head) self.leads.items self.winners.items self.same_length self.settled)
+    (uncut-first (λ x. x.head) (λ x. g.F.Coming.coming x.feed) (λ x. x.ahead) self.leads.items self.winners.items self.same_length self.settled
     (λ x. (g.met.F.Feed c.lifetimes met).rises x.feed) self.last c.in-Some.first
     (sym c.first.ensures ∙ ap (option_map entry_of) c.in-Some.is) c.in_ok-skip_given.ensures.skipped self.follows) self.near)
 

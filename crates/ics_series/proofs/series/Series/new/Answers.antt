@@ -42,7 +42,7 @@ use Rattle.ics_series.proofs.VersionLemmas.{same-entry}
 use Rattle.ics_series.proofs.RuleDayLemmas.{found-is, in-rules, put-both, seconds-numbered}
 use Rattle.ics_series.proofs.SeriesLemmas.{in-moment, known-start, rises-rule, own-rule-as, series-listing}
 use Rattle.ics_series.proofs.SoughtLemmas.{listed-there, none-else, sought-early, sought-late}
-use Rattle.ics_series.proofs.StartLaws.{kept-first}
+use Rattle.ics_series.proofs.RawLemmas.{kept-first}
 use Rattle.ics_series.proofs.UnionLemmas.{itself-put, union-in}
 use Rattle.ics_series.proofs.Cases.{here-or-later}
 use Rattle.std.proofs.lemmas.List.Elements.{Contains-get_or}
