@@ -33,6 +33,12 @@ module _ {A : Type 0} (R : A → A → Ordering) (o : IsTotalOrder R) where
   cut-before x [] h = refl
   cut-before x (y ∷ ys) h = ap (λ c. by_order c (y ∷ ys) ys (y ∷ ys)) h.0
 
+  -- what is not tied with what goes stays
+  pub member-cut : (s e : A) (xs : List A) → (R s e ≡ Equal → ⊥) → IsIn e xs → IsIn e (cut R s xs)
+  member-cut s e [] n m = absurd m
+  member-cut s e (x ∷ xs) n m =
+      by-cases (R s x) (λ p. rw p m) (λ p. rw p (⊎_elim (λ is. absurd (n (ap (R s) is ∙ p))) (λ k. k) m)) (λ p. rw p m)
+
   -- what is not after the first of a rising list comes before all of it but for one of its key
   pub not-after-front : (x y : A) (ys : List A) → (R x y ≡ Greater → ⊥) → Rises R (y ∷ ys) → IsBefore R x (cut R x (y ∷ ys))
   not-after-front x y ys n r =

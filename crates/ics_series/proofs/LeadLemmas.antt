@@ -22,8 +22,8 @@ use Rattle.ics_series.specs.declared.occurrence.Occurrence.{Occurrence}
 use Rattle.std.specs.List.{flat_map, AllByRecursion}
 use Rattle.std.proofs.lemmas.List.Elements.{All-from_recursion, All-push, All-set, recursion_from_All}
 use Rattle.ics_series.specs.Listing.{IsIn}
-use Rattle.ics_series.proofs.LeftLemmas.{member-cut}
 use Rattle.ics_series.proofs.ListingLemmas.{before-in, all-as}
+use Rattle.ics_series.proofs.BeginsLemmas.{member-cut}
 
 -- what stands at the front of a list
 abbrev front : List Entry → Option Entry

@@ -9,7 +9,6 @@ pub mod StartSourceLemmas
 pub mod HoldingLaws
 pub mod InstantLemmas
 pub mod LeadLemmas
-pub mod LeftLemmas
 pub mod ListingLemmas
 pub mod NearDayLemmas
 pub mod OccursLemmas

@@ -17,7 +17,7 @@ use Rattle.ics_series.specs.Chosen.{subject_of, IsOverridden, SubjectSeen}
 use Rattle.ics_series.specs.Clocks.{Clock}
 use Rattle.ics_series.specs.Rising.{IsBefore, Rises}
 use Rattle.ics_series.specs.Versions.{is_named, is_override, label_of, seen, subject_cmp, subject_seen, AreChosen, Label}
-use Rattle.ics_series.proofs.Cases.{eq-Equal, less-by, up-to-front}
+use Rattle.ics_series.proofs.Cases.{eq-Equal, less-by, up-to-front, mapped-some}
 use Rattle.ics_series.proofs.VersionLemmas.{in-map, map-in, exact-subject, subject_total}
 use Rattle.ics_series.proofs.ListingLemmas.{strictly-sorted, after-in, before-in, less-up-to, not-less-itself, rises-end, split-at, rises-filter}
 use Rattle.ics_series.proofs.ListingLemmas.{listing-picked, any-in, in-any, get-in, search-finds, rises-on, in-append_right}
@@ -213,12 +213,7 @@ module _ (uid : List ℕ) (behind : List Version) (i : ℕ) (d : Version) where
 module _ (uid : List ℕ) (versions behind : List Version) (place : ℕ) (order : Rises version_cmp versions)
     (there : option_map (λ v. subject_seen v.subject) (slice_get versions place) ≡ Some (master uid)) (rest : behind ≡ drop (suc place) versions) where
   own : (v : Version) × (slice_get versions place ≡ Some v) × (subject_seen v.subject ≡ master uid)
-  own = by (slice_get versions place) refl there
-    where
-      by : (o : Option Version) → slice_get versions place ≡ o → option_map (λ v. subject_seen v.subject) o ≡ Some (master uid) →
-          (v : Version) × (slice_get versions place ≡ Some v) × (subject_seen v.subject ≡ master uid)
-      by (Some v) e h = (v, e, cc)
-      by None e h = let f : None ≡ Some (master uid) = h in absurd cc
+  own = let k = mapped-some (λ (v : Version). subject_seen v.subject) (slice_get versions place) (master uid) there in (k.0, k.1, sym k.2)
 
   behind-master : IsBefore version_cmp own.0 behind × Rises version_cmp behind
   behind-master =

@@ -24,7 +24,7 @@ use Rattle.ics_series.specs.Spots.{event_at}
 use Rattle.ics_series.specs.Starts.{time_of, GivesStart, IsNotAfter}
 use Rattle.ics_series.specs.Versions.{label_of, seen, AreChosen, Label}
 use Rattle.ics_series.specs.FileZones.{clocks_in}
-use Rattle.ics_series.proofs.SeriesLemmas.{in-among, not-among, series-listing as listing-by}
+use Rattle.ics_series.proofs.SeriesLemmas.{in-among, not-among, series-listing as listing-by, put-has}
 use Rattle.ics_series.proofs.Cases.{not-true, some-same}
 use Rattle.ics_series.proofs.VersionLemmas.{in-map, placed-event, IsGiven}
 use Rattle.ics_series.proofs.StartSourceLemmas.{gives-value, rdate-time, same-given}
@@ -40,7 +40,6 @@ use Rattle.ics_series.specs.Merged.{put}
 use Rattle.ics_series.specs.MergedLaws.{rises-union}
 use Rattle.ics_series.specs.Rising.{Rises}
 use Rattle.ics_series.proofs.FirstLemmas.{moment_total, source-order, source_total}
-use Rattle.ics_series.proofs.LeftLemmas.{put-has}
 use Rattle.ics_series.proofs.ListingLemmas.{before-in, relisted}
 use Rattle.ics_series.proofs.RawLemmas.{giving}
 use Rattle.ics_series.proofs.UnionLemmas.{itself-put, union-in}

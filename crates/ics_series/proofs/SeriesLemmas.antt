@@ -1,6 +1,6 @@
 -- What a series gives.
 use Rattle.std.proofs.Common.{◌≡◌, ℤ, ◌-ℤ◌, List, [], ◌∷◌, take, true, false, Option, Some, None, ◌⊎◌, inl, inr, refl, sym, ◌∙◌, ap, subst, arith, ◌≤ℤ◌, ◌<ℤ◌}
-use Rattle.std.proofs.Common.{slice_get, int_eq, Bool, ◌&&◌, not, if◌then◌else◌, int_cmp}
+use Rattle.std.proofs.Common.{slice_get, int_eq, Bool, ◌&&◌, not, if◌then◌else◌, int_cmp, length, ⊎_elim, int_lt, Greater}
 use Rattle.std.proofs.lemmas.Int.{ints}
 use Rattle.std.proofs.lemmas.List.{take-append-drop}
 use Rattle.std.specs.List.{cons_option, filter_map}
@@ -25,25 +25,28 @@ use Rattle.ics_series.specs.Exclusions.{is_among, is_excluded}
 use Rattle.ics_series.specs.Found.{is_shown, moment_cmp, AreStartsSince, IsStart, met_by, shown_by, HasStart, IsSought}
 use Rattle.ics_series.specs.Listing.{IsIn, IsListing}
 use Rattle.ics_series.specs.Meeting.{entry_from, is_met}
-use Rattle.ics_series.specs.Merged.{cut, union}
+use Rattle.ics_series.specs.Merged.{cut, union, put}
 use Rattle.ics_series.specs.Rising.{IsBefore, Rises}
 use Rattle.ics_series.specs.RuleFeed.{starts_left}
 use Rattle.ics_series.specs.SeriesStarts.{first_asked, given_of, has_moment, is_wanted, listed_left, rule_asked, rule_left, wanted_by, AreKnown, HasOwnRule}
-use Rattle.ics_series.specs.SeriesStarts.{HasRuled, HasSameRule, IsAskedNear, IsGivenAt, IsGivenBy, IsKnown, IsSeriesMet}
+use Rattle.ics_series.specs.SeriesStarts.{HasRuled, HasSameRule, IsAskedNear, IsGivenAt, IsGivenBy, IsKnown, IsSeriesMet, IsFirstOf}
 use Rattle.ics_series.specs.Starts.{given_by, local_of, recurrence_of, GivesStart, IsRuleStart, time_of, IsNotAfter}
 use Rattle.ics_series.specs.FileZones.{clocks_in}
 use Rattle.ics_series.proofs.Cases.{equal-true, mapped-some, true-equal}
 use Rattle.ics_series.proofs.FirstLemmas.{int-less, moment_total, tied-moment, same-moment}
 use Rattle.ics_series.proofs.StartSourceLemmas.{gives-value, same-given, same-source, kept-ruled}
-use Rattle.ics_series.proofs.LeftLemmas.{member-cut}
 use Rattle.ics_series.proofs.ListingLemmas.{before-in, rises-end, any-in, in-any, picked as picked-from, listing-picked as picked-listing, KeepsOrder}
 use Rattle.ics_series.proofs.ListingLemmas.{one-of-tied}
 use Rattle.ics_series.proofs.NearDayLemmas.{met-shown, shown-met}
-use Rattle.ics_series.proofs.RuleDayLemmas.{given-parts, rises-to_come}
+use Rattle.ics_series.proofs.RuleDayLemmas.{given-parts, rises-to_come, less-start}
 use Rattle.ics_series.proofs.VersionLemmas.{entry_start_cmp, same-entry}
 use Rattle.ics_series.proofs.RuleStepLemmas.{left-near}
 use Rattle.std.proofs.lemmas.Option.{cond_some}
 use Rattle.ics_series.specs.Meets.{Meets, IsEventMet}
+use Rattle.ics_series.proofs.BeginsLemmas.{member-cut, begins-first, begins-second, not-after-front}
+use Rattle.ics_zone.proofs.Cases.{int_lt_true}
+use Rattle.ics_series.specs.MergedLaws.{before-trans}
+use Rattle.ics_series.proofs.UnionLemmas.{in-union, itself-put, member-put}
 
 -- The occurrences of one event that meet a window.
 -- Whether the occurrence with a start is shown.
@@ -336,3 +339,55 @@ module _ (zones : FileZones) (event : Event) (w : Window) where
       → HasOwnRule zones event w (first_asked (clocks_in zones) w event since listed) o →
       HasOwnRule zones event w (first_asked (clocks_in zones) w event kept all) o
   own-rule-as o e f h = rw (e, ← f) h
+
+-- The starts still to come of a rule and of those that are known from the first, as one list.
+not-greater-by : (a b : Start) → int_lt b.moment a.moment ≡ false → moment_cmp a b ≡ Greater → ⊥
+not-greater-by a b e g = grind (arith, ints)
+
+-- the first of two starts; if both are at one instant, the first of them
+abbrev pub earlier : Option Start → Option Start → Option Start
+earlier None listed = listed
+earlier (Some a) None = Some a
+earlier (Some a) (Some b) = if int_lt b.moment a.moment then Some b else Some a
+
+first-of : (xs ys : List Start) → Rises moment_cmp xs → Rises moment_cmp ys → IsFirstOf (earlier (slice_get xs 0) (slice_get ys 0)) xs ys
+first-of [] [] r k = refl
+first-of [] (y ∷ ys) r k = begins-second moment_cmp moment_total y [] ys tt
+first-of (x ∷ xs) [] r k = begins-first moment_cmp moment_total x xs [] r tt
+first-of (x ∷ xs) (y ∷ ys) r k =
+    cond_both (int_lt y.moment x.moment) (Some y) (Some x) (λ o. IsFirstOf o (x ∷ xs) (y ∷ ys))
+    (λ t.
+    let less = less-start y x (int_lt_true y.moment x.moment t) in
+    begins-second moment_cmp moment_total y (x ∷ xs) ys (less, before-trans moment_cmp moment_total y x xs less r.0))
+    (λ f. begins-first moment_cmp moment_total x xs (y ∷ ys) r (not-after-front moment_cmp moment_total x y ys (not-greater-by x y f) k))
+
+-- of the first of both kinds the earlier one is the first
+module _ {ruled listed first : Option Start} (is : earlier ruled listed ≡ first) where
+  pub first-by : (xs ys : List Start) → Rises moment_cmp xs → Rises moment_cmp ys → ruled ≡ slice_get xs 0 → listed ≡ slice_get ys 0 → IsFirstOf first xs ys
+  first-by xs ys r k e f = subst (λ o. IsFirstOf o xs ys) ((λ i. earlier (sym e i) (sym f i)) ∙ is) (first-of xs ys r k)
+
+pub none-in : (xs : List Start) → length xs ≡ 0 → (s : Start) → IsIn s xs → ⊥
+none-in [] e s m = m
+none-in (x ∷ xs) e s m = absurd cc
+
+-- Which lists have a start at an instant by a source or an earlier one.
+pub put-has : (x : Start) (ys : List Start) (source : StartSource) (t : ℤ) → IsNotAfter x.source source → HasStart ys source t →
+    HasStart (put moment_cmp x ys) source t
+put-has x ys source t early h =
+    ⊎_elim
+    (λ m. record { start = h.start; stands = m; same = h.same; earlier = h.earlier })
+    (λ tied. record { start = x; stands = itself-put moment_cmp moment_total x ys; same = tied-moment x h.start tied ∙ h.same; earlier = early })
+    (member-put moment_cmp moment_total h.start x ys h.stands)
+
+pub union-has : (xs ys : List Start) (source : StartSource) (t : ℤ) → ((x : Start) → IsIn x xs → IsNotAfter x.source source) → HasStart ys source t →
+    HasStart (union moment_cmp xs ys) source t
+union-has [] ys source t early h = h
+union-has (x ∷ xs) ys source t early h = put-has x (union moment_cmp xs ys) source t (early x (inl refl)) (union-has xs ys source t (λ y m. early y (inr m)) h)
+
+pub has-union : (xs ys : List Start) (source : StartSource) (t : ℤ) → Rises moment_cmp xs → HasStart xs source t → HasStart (union moment_cmp xs ys) source t
+has-union xs ys source t r h = record {
+  start = h.start;
+  stands = in-union moment_cmp moment_total h.start xs ys r (inl h.stands);
+  same = h.same;
+  earlier = h.earlier;
+}

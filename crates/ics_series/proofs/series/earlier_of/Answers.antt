@@ -1,6 +1,6 @@
 use Rattle.std.proofs.lemmas.Grind.{common_steps}
 use Rattle.std.proofs.Common.{Some, arith}
-use Rattle.ics_series.proofs.LeftLemmas.{first-by}
+use Rattle.ics_series.proofs.SeriesLemmas.{first-by}
 use Rattle.ics_series.proofs.series.earlier_of.Goals as goal
 
 pub returns-then-b-a : goal.returns-then-b-a

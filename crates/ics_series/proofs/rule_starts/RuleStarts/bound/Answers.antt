@@ -1,7 +1,7 @@
 use Rattle.std.proofs.Common.{◌≡◌, length, arith}
 use Rattle.std.proofs.lemmas.Grind.{common_steps}
 use Rattle.std.proofs.lemmas.Int.{ints}
-use Rattle.ics_series.proofs.LeftLemmas.{none-in}
+use Rattle.ics_series.proofs.SeriesLemmas.{none-in}
 use Rattle.ics_series.proofs.RuleStepLemmas.{behind-early, day-days, end-days, held-on, next-late}
 use Rattle.ics_series.proofs.rule_starts.RuleStarts.bound.Goals as goal
 

@@ -36,11 +36,10 @@ use Rattle.ics_series.specs.FileZones.{clocks_in}
 use Rattle.ics_series.proofs.FirstLemmas.{moment_total}
 use Rattle.ics_series.proofs.StartSourceLemmas.{number-seconds, written-at, kept-calendar, gives-kept, number-numbered, numbered-number, ruled-kept}
 use Rattle.ics_series.proofs.InstantLemmas.{instant-near}
-use Rattle.ics_series.proofs.LeftLemmas.{has-union, put-has, union-has}
+use Rattle.ics_series.proofs.SeriesLemmas.{has-union, put-has, union-has, in-moment, known-start, rises-rule, own-rule-as, series-listing}
 use Rattle.ics_series.proofs.SoughtLemmas.{listed-in}
 use Rattle.ics_series.proofs.VersionLemmas.{same-entry}
 use Rattle.ics_series.proofs.RuleDayLemmas.{found-is, in-rules, put-both, seconds-numbered}
-use Rattle.ics_series.proofs.SeriesLemmas.{in-moment, known-start, rises-rule, own-rule-as, series-listing}
 use Rattle.ics_series.proofs.SoughtLemmas.{listed-there, none-else, sought-early, sought-late}
 use Rattle.ics_series.proofs.RawLemmas.{kept-first}
 use Rattle.ics_series.proofs.UnionLemmas.{itself-put, union-in}
