@@ -1,7 +1,7 @@
 -- The versions of files, one file after the other. All sorted, of each subject the last is the one that counts, and there is exactly one.
 use Rattle.std.proofs.Common.{◌≡◌, ℕ, ℤ, List, [], ◌∷◌, Option, Some, None, inl, inr, ⊎_elim, Bool, true, false, cond, refl, sym, ◌∙◌, ap, subst, ◌+◌}
 use Rattle.std.proofs.Common.{add-one, ◌++◌, map, drop, get_or, option_map, ◌&&◌, slice_get, int_cmp, nat_cmp, is_eq, is_gt, is_lt, int_eq, Ordering, Less}
-use Rattle.std.proofs.Common.{Equal, Greater, drop-cons, append_assoc, filter, ◌<◌, length, IsSome, option_and_then, ◌⊎◌, arith, zero, suc}
+use Rattle.std.proofs.Common.{Equal, Greater, drop-cons, append_assoc, filter, ◌<◌, length, IsSome, option_and_then, arith, zero, suc}
 use Rattle.std.specs.Cmp.{IsTotalOrder, unsigned_ties}
 use Rattle.std.specs.Cmp.Lexicographic.{options_total, slice_cmp, lists_ties}
 use Rattle.std.specs.Option.{option_cmp, option_eq}
