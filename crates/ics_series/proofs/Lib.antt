@@ -2,7 +2,6 @@ pub mod AfterLemmas
 pub mod AheadLemmas
 pub mod BeginsLemmas
 pub mod Cases
-pub mod DayStepLemmas
 pub mod ExclusionLemmas
 pub mod FirstLemmas
 pub mod StartSourceLemmas

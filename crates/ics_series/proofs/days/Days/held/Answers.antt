@@ -5,7 +5,7 @@ use Rattle.ics_event.specs.Event.{said_by}
 use Rattle.ics_series.specs.Clocks.{display_clock}
 use Rattle.ics_series.specs.DaySteps.{agenda_sources, scope_in}
 use Rattle.ics_series.specs.Sources.{recurring}
-use Rattle.ics_series.proofs.DayStepLemmas.{day-masters, held-of-masters}
+use Rattle.ics_series.proofs.AheadLemmas.{day-masters, held-of-masters}
 use Rattle.ics_series.proofs.days.Days.held.Goals as goal
 
 pub returns-clause-most : goal.returns-clause-most

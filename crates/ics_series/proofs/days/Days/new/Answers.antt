@@ -8,8 +8,7 @@ use Rattle.ics_series.specs.Clocks.{display_clock}
 use Rattle.ics_series.specs.DaySteps.{agenda_sources, scope_in}
 use Rattle.ics_series.specs.Entry.{key_rank}
 use Rattle.ics_series.specs.OnDays.{first_near, day_key_rank}
-use Rattle.ics_series.proofs.AheadLemmas.{begun-ahead}
-use Rattle.ics_series.proofs.DayStepLemmas.{begun-by, first-masters, from-start}
+use Rattle.ics_series.proofs.AheadLemmas.{begun-ahead, begun-by, first-masters, from-start}
 use Rattle.ics_series.proofs.days.Days.new.Goals as goal
 
 pub returns : goal.returns

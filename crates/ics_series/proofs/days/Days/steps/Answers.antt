@@ -5,7 +5,7 @@ use Rattle.ics_event.specs.Event.{said_by}
 use Rattle.ics_series.specs.Ahead.{agenda_coming, is_today}
 use Rattle.ics_series.specs.Clocks.{display_clock}
 use Rattle.ics_series.specs.DaySteps.{agenda_sources, scope_in}
-use Rattle.ics_series.proofs.DayStepLemmas.{first-day, steps-most}
+use Rattle.ics_series.proofs.AheadLemmas.{first-day, steps-most}
 use Rattle.ics_series.proofs.days.Days.steps.Goals as goal
 
 pub returns-clause-most : goal.returns-clause-most

@@ -11,9 +11,8 @@ use Rattle.ics_series.specs.Clocks.{display_clock}
 use Rattle.ics_series.specs.DaySteps.{agenda_sources, scope_in}
 use Rattle.ics_series.specs.OnDays.{first_near, last_near}
 use Rattle.ics_series.specs.Sources.{recurring}
-use Rattle.ics_series.proofs.AheadLemmas.{ahead-turned}
+use Rattle.ics_series.proofs.AheadLemmas.{ahead-turned, from-later, looked-next, searched-masters}
 use Rattle.ics_series.proofs.NearDayLemmas.{day-within}
-use Rattle.ics_series.proofs.DayStepLemmas.{from-later, looked-next, searched-masters}
 use Rattle.ics_series.proofs.days.Days.turn.Goals as goal
 
 -- the next day fits
