@@ -56,12 +56,9 @@ counting_begins {q = q} {start = start} {before = before} {number = number} {sto
     }
 
 module _ {q : EffectiveRule} {start c stop number : ℕ} {before now : Cursor} (counting : IsCounting q start c stop number before now) where
-  abbrev walk : IsWalk q start (Some c) stop number before now
-  walk = counting.walk
-
   pub counting_out : AllCounted q start c number → NoneWanted q start (Some c) before.place stop
   counting_out all n l u = elim (cases_lt (period_in q n) number) [
-    | inl less ↦ walk.none n l less
+    | inl less ↦ counting.walk.none n l less
     | inr more ↦ and_right (is_chosen q start n) (is_few q start c n) (all n (begun q.frequency (monday_zero q.week_start) number n more))
   ]
 
@@ -71,15 +68,12 @@ module _ {q : EffectiveRule} {start c stop number : ℕ} {before now : Cursor} (
     abbrev taken : ℕ → Bool
     taken = is_taken q.positions (lists_none_wide q.positions) p
 
-    same_place : after.place ≡ before.place
-    same_place = at.place ∙ walk.moved.place
-
     known : CountedBy q start (Some c) after
     known = rw turned.held turned.counted
 
     within : {n : ℕ} → IsLeastFrom taken after.place n → IsLeastFrom (is_chosen_within q start number) after.place n
     within {n = n} next = next_same taken (is_chosen_within q start number) after.place (Some n)
-        (taken_within start turned.product turned.number walk.step) next
+        (taken_within start turned.product turned.number counting.walk.step) next
 
     here : {n : ℕ} → IsLeastFrom taken after.place n → (period_in q n ≡ number) × (is_chosen q start n ≡ true)
     here {n = n} next = within_facts q start number n (IsLeastFrom.passes (within next))
@@ -94,29 +88,30 @@ module _ {q : EffectiveRule} {start c stop number : ℕ} {before now : Cursor} (
 
     pub counting_finds : {n earlier : ℕ} → IsLeastFrom taken after.place n → earlier ≡ count n taken → after.counted + earlier < after.limit →
         IsLeastFrom (is_wanted q start (Some c)) before.place n
-    counting_finds {n = n} next e h = let all = count_here next e in walk_finds walk same_place (within next) (and_from (is_chosen q start n)
+    counting_finds {n = n} next e h = let all = count_here next e in
+        walk_finds counting.walk (at.place ∙ counting.walk.moved.place) (within next) (and_from (is_chosen q start n)
         (is_few q start c n) (here next).1 (are_few q start c after.limit turned.counted.most n (omega (arith, all, h))))
 
     pub counting_found : {n : ℕ} → IsLeastFrom taken after.place n → IsWalked q start (Some c) stop (Some n) before after
-    counting_found next = walk_found walk at turned.held turned.product turned.number known top (here next).0
+    counting_found next = walk_found counting.walk at turned.held turned.product turned.number known top (here next).0
 
     -- COUNT ends the rule within this period
     pub counting_stops : {n earlier : ℕ} → IsLeastFrom taken after.place n → earlier ≡ count n taken → after.limit ≤ after.counted + earlier →
         NoneWanted q start (Some c) before.place stop
     counting_stops {n = n} next e h m l u = elim (cases_lt m n) [
-      | inl less ↦ walk_until walk same_place (within next) m l less
+      | inl less ↦ walk_until counting.walk (at.place ∙ counting.walk.moved.place) (within next) m l less
       | inr more ↦ let all = count_here next e in
           and_right (is_chosen q start m) (is_few q start c m) (not_few q start c after.limit turned.counted.most n m (omega (arith, all, h)) more)
     ]
 
     pub counting_stopped : IsWalked q start (Some c) stop None before after
-    counting_stopped = walk_stopped walk at turned.held turned.product turned.number known top
+    counting_stopped = walk_stopped counting.walk at turned.held turned.product turned.number known top
 
     -- or the walk goes on
     pub counting_goes_on : {next : ℕ} → ((m : ℕ) → before.place ≤ m → is_chosen_within q start number m ≡ false)
         → IsNextOpen q (period_in q start) (number + q.interval) next → IsCounting q start c stop next before after
     counting_goes_on none is_next = record {
-      walk = walk_goes_on walk at turned.held turned.product turned.number known top none is_next;
+      walk = walk_goes_on counting.walk at turned.held turned.product turned.number known top none is_next;
       turn = rw turned.held (
         turned.product,
         (

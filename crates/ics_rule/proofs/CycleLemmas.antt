@@ -72,7 +72,7 @@ module _ (k : ℕ) where
   numbered_again f q p e = grind (arith, nth_in_month, year_size_of, year_day_again)
 
 -- the fourth day of a week is so much later too, or 400 years less where it is first taken 400 years later
-fourth_again : (w k e : ℕ) → 1 ≤ k → (j : ℕ) × (fourth_day w (e + 146_097 * k) ≡ fourth_day w e + 146_097 * j)
+pub fourth_again : (w k e : ℕ) → 1 ≤ k → (j : ℕ) × (fourth_day w (e + 146_097 * k) ≡ fourth_day w e + 146_097 * j)
 fourth_again w k e some =
     let other = fourth_late w (e + 146_097 * k) (omega (arith, some)) in
     elim (cases_lt (7 * week_of w e + w) 9) [

@@ -80,20 +80,19 @@ module _ (q : EffectiveRule) (start : ℕ) where
 
   module _ (periods : ℕ) (even : IsEven q start periods) where
     -- so many periods later a period adds as much
-    period_even : (x : ℕ) → 2 ≤ x → period_in q start ≤ x → IsEarly q (x + periods)
-        → chosen_to q start (suc x) + chosen_to q start (x + periods) ≡ chosen_to q start (suc (x + periods)) + chosen_to q start x
-    period_even x some low high =
-        let order = up {a = x} {b = x + periods} (omega (arith, low)) (omega arith) in
-        let one = adds {x = x} low (omega (arith, order, high)) in
-        let other = adds {x = x + periods} (omega (arith, low)) high in
-        rw (one, other, even.step (period_in q start) x low)
-        (as_much (is_stepped (period_in q start) q.interval x) (chosen_to q start x) (chosen_to q start (x + periods))
-        (λ step. ap (chosen_of_size q (lists_none_wide q.positions)) (even.size x some step high)))
-
     steady : {begin top : ℕ} → 2 ≤ begin → period_in q start ≤ begin → IsEarly q top → (x : ℕ) → begin ≤ x → x + periods ≤ top
         → chosen_to q start (suc x) + chosen_to q start (x + periods) ≡ chosen_to q start (suc (x + periods)) + chosen_to q start x
-    steady {top = top} some low early x l h = let order = up {a = x + periods} {b = top} (omega (arith, low, l, h)) h in
-        period_even x (omega (arith, some, l)) (omega (arith, low, l)) (omega (arith, order, early))
+    steady {top = top} some low early x l h =
+        let order = up {a = x + periods} {b = top} (omega (arith, low, l, h)) h in
+        let high : IsEarly q (x + periods) = omega (arith, order, early) in
+        let before = up {a = x} {b = x + periods} (omega (arith, low, l)) (omega arith) in
+        rw (
+          adds {x = x} (omega (arith, low, l)) (omega (arith, before, high)),
+          adds {x = x + periods} (omega (arith, low, l)) high,
+          even.step (period_in q start) x (omega (arith, low, l)),
+        )
+        (as_much (is_stepped (period_in q start) q.interval x) (chosen_to q start x) (chosen_to q start (x + periods))
+        (λ step. ap (chosen_of_size q (lists_none_wide q.positions)) (even.size x (omega (arith, some, l)) step high)))
 
     pub even_is : IsEvenRound q start periods
     even_is = record {

@@ -5,7 +5,6 @@ pub mod Counts
 pub mod Months
 pub mod PeriodLemmas
 pub mod ProductCounts
-pub mod ProductLemmas
 pub mod ScanLemmas
 pub mod RankLemmas
 pub mod StepLemmas
@@ -18,7 +17,6 @@ pub mod Samples
 pub mod KeptLemmas
 pub mod DayWalkLemmas
 pub mod LawLemmas
-pub mod IsoWeeks
 mod PassLemmas
 mod RoundLemmas
 mod PassedLemmas
@@ -31,7 +29,6 @@ mod TableExamples
 mod RunLemmas
 mod MonthDays
 mod WeekDays
-mod PlainLemmas
 mod NthLemmas
 mod TableCounts
 mod PlaceLemmas
@@ -40,4 +37,3 @@ mod SizeLemmas
 mod EvenLemmas
 mod CycleLemmas
 mod CalendarRounds
-mod OpenRounds

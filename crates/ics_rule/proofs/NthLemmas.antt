@@ -17,8 +17,8 @@ use Rattle.ics_rule.specs.RecurrencePeriods.{month_start}
 use Rattle.ics_rule.specs.PlainReading.{is_nth, is_place, is_wide_place, in_year, in_month, with_weekday, fourth_of_week, is_week}
 use Rattle.ics_rule.proofs.Counts.{count-same, count-suc, count-none, count-from, count_every}
 use Rattle.ics_rule.proofs.Months.{month_high, month_positive}
-use Rattle.ics_rule.proofs.PeriodLemmas.{month_begun, month_begins, month_size, fourth_early, fourth_late}
-use Rattle.ics_rule.proofs.CycleLemmas.{year_day_again, year_size_of}
+use Rattle.ics_rule.proofs.PeriodLemmas.{month_begun, month_begins, month_size, fourth_late}
+use Rattle.ics_rule.proofs.CycleLemmas.{year_day_again, year_size_of, fourth_again}
 use Rattle.ics_rule.proofs.RankLemmas.{count_flat}
 use Rattle.ics_rule.proofs.LawLemmas.{year_day_is}
 use Rattle.ics_fields.specs.Locals.{calendar_end}
@@ -157,13 +157,6 @@ year_weekday_listed p e small = nth_weekday_listed (in_year e) _ _ (year_stretch
 
 -- ---- weeks
 
--- the fourth day of a week, or that 400 years later
-fourth_later : (w e : ℕ) → w < 7 → (j : ℕ) × (fourth_of_week w e ≡ fourth_day w e + 146_097 * j)
-fourth_later w e small = elim (cases_lt (7 * week_of w e + w) 9) [
-  | inl early ↦ (0, let own = fourth_early w e early in omega (arith, own))
-  | inr late ↦ (1, let own = fourth_late w e late in omega (arith, own, late))
-]
-
 week_places : (d len : ℕ) → 1 ≤ d → d ≤ len → (len - d) / 7 + 1 ≡ (len - 1 - (d - 1) % 7) / 7 + 1 + 1 - ((d - 1) / 7 + 1)
 week_places d len low high = omega arith
 
@@ -171,12 +164,14 @@ pub weeks_listed : (weeks : Ordinals) (w e : ℕ) → w < 7 → e < 3_800_000
     → is_week weeks (fourth_of_week w e) ≡ lists weeks (week_number (fourth_day w e)) (weeks_of_year (fourth_day w e))
 weeks_listed weeks w e small range =
     let f = fourth_day w e in
-    let later = fourth_later w e small in
+    let again = fourth_again w 1 e (omega arith) in
+    let late = fourth_late w (e + 146_097 * 1) (omega arith) in
+    let later : fourth_of_week w e ≡ f + 146_097 * again.0 = omega (arith, late, again.1, small) in
     let d = year_day f in
     year_weekday_listed weeks (fourth_of_week w e) (omega arith)
     ∙ rw (
-      later.1,
-      year_day_again later.0 f,
-      year_size_of later.0 f,
+      later,
+      year_day_again again.0 f,
+      year_size_of again.0 f,
       week_places (year_day_of f) (days_in_year (pos (year_of f))) (omega (arith, d.place, d.low)) (omega (arith, d.place, d.size, d.low, d.high)),
     ) refl

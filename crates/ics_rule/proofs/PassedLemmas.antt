@@ -134,18 +134,16 @@ pub walk_rounds_end : {q : EffectiveRule} {start stop number : ℕ} {before now 
     stop ≤ rules_end → end < number → period_in q start ≤ begin → period_in q before.place ≤ begin
     → (end < period_in q (stop - 1) → HasRound q begin end) → IsNextWanted q start None before.place stop None
 walk_rounds_end {q = q} {start = start} {stop = stop} {number = number} {before = before} {begin = begin} {end = end} walk h past low here round =
-    elim (cases_lt end (period_in q (stop - 1))) [
-      | inl less ↦ by_round (round less)
-      | inr more ↦ walk_ends walk (omega (arith, more, past))
-    ]
-  where
-    by_round : HasRound q begin end → IsNextWanted q start None before.place stop None
-    by_round is = λ n l u. elim (cases_lt (period_in q n) number) [
+    λ n l u. elim (cases_lt (period_in q n) number) [
       | inl less ↦ walk.none n l less
-      | inr more ↦ let far = is.far in let some = is.some in
-          none_after q start is.periods (even_round is.round) {begin = begin + 1} (omega (arith, some)) (omega (arith, low)) (λ m lm um.
-          let place = before_next q.frequency (monday_zero q.week_start) (begin + 1) before.place (omega (arith, here)) in
-          let from = begun q.frequency (monday_zero q.week_start) (begin + 1) m lm in
-          walk.none m (omega (arith, place, from)) (omega (arith, um, past, far)))
-          n (omega (arith, more, past, far)) (omega (arith, u, h))
+      | inr more ↦ elim (cases_lt end (period_in q (stop - 1))) [
+        | inr most ↦ walk_ends walk (omega (arith, most, past)) n l u
+        | inl less ↦
+            let is = round less in
+            none_after q start is.periods (even_round is.round) {begin = begin + 1} (omega (arith, is.some)) (omega (arith, low)) (λ m lm um.
+            let place = before_next q.frequency (monday_zero q.week_start) (begin + 1) before.place (omega (arith, here)) in
+            let from = begun q.frequency (monday_zero q.week_start) (begin + 1) m lm in
+            walk.none m (omega (arith, place, from)) (omega (arith, um, past, is.far)))
+            n (omega (arith, more, past, is.far)) (omega (arith, u, h))
+      ]
     ]

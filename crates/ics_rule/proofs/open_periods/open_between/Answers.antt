@@ -1,10 +1,49 @@
-use Rattle.std.proofs.Common.{◌≡◌, ◌+◌, ◌-◌, ◌*◌, ◌/◌, arith}
+-- The periods of a day or less that a rule lets in repeat with the calendar.
+use Rattle.std.proofs.Common.{◌≡◌, ℕ, zero, suc, ◌+◌, ◌*◌, ◌/◌, ◌<◌, ◌≤◌, Bool, ap, ◌∙◌, arith, ◌-◌}
+use Rattle.ics_fields.specs.declared.frequency.Frequency.{Frequency}
+use Rattle.ics_rule.specs.declared.effective_rule.EffectiveRule.{EffectiveRule}
 use Rattle.ics_rule.specs.Kept.{count}
-use Rattle.ics_rule.specs.OpenPeriods.{is_open_period}
-use Rattle.ics_rule.proofs.Counts.{count_most}
-use Rattle.ics_rule.proofs.OpenRounds.{open_rounds}
-use Rattle.ics_rule.proofs.open_periods.open_between.Goals as goal
+use Rattle.ics_rule.specs.Rounds.{seconds_of, calendar_periods, IsCalendarRound}
+use Rattle.ics_rule.specs.OpenPeriods.{per_day, is_open_period}
+use Rattle.ics_rule.proofs.Counts.{count-same, count-add, count_most}
+use Rattle.ics_rule.proofs.RoundLemmas.{repeats_often}
+use Rattle.ics_rule.proofs.OpenLemmas.{own_day}
+use Rattle.ics_rule.proofs.CycleLemmas.{date_again}
+use Rattle.ics_rule.proofs.CalendarRounds.{calendar_step}
 use Rattle.ics_rule.proofs.open_periods.open_between.Goals.{After-open_by_days-rest}
+use Rattle.ics_rule.proofs.open_periods.open_between.Goals as goal
+
+day_again : (f : Frequency) (p k : ℕ) → 0 < seconds_of f → seconds_of f ≤ 86_400 → (p + k * calendar_periods f) / per_day f ≡ p / per_day f + 146_097 * k
+day_again f p k h u = grind arith
+
+second_again : (f : Frequency) (p k : ℕ) → 0 < seconds_of f → seconds_of f ≤ 86_400 →
+    (p + k * calendar_periods f) * seconds_of f ≡ p * seconds_of f + 146_097 * k * 86_400
+second_again f p k h u = grind arith
+
+-- the members of whole rounds, of a test that repeats after each
+count_rounds : (f : ℕ → Bool) {a : ℕ} (s : ℕ) → ((n : ℕ) → a ≤ n → f (n + s) ≡ f n) → (j : ℕ)
+    → count (a + j * s) f ≡ count a f + j * count s (λ k. f (a + k))
+count_rounds f {a = a} s on zero = let same : a + 0 * s ≡ a = omega arith in rw same (omega arith)
+count_rounds f {a = a} s on (suc j) =
+    let whole : a + suc j * s ≡ a + j * s + s = omega arith in
+    let same = count-same s (λ k. f (a + j * s + k)) (λ k. f (a + k)) (λ k l. ap f (let order : a + j * s + k ≡ a + k + j * s = omega arith in order)
+    ∙ repeats_often f {low = a} s on j (a + k) (omega arith)) in
+    rw (whole, count-add (a + j * s) s f, same, count_rounds f {a = a} s on j) (omega arith)
+
+module _ (q : EffectiveRule) (first periods : ℕ) (round : IsCalendarRound q periods) (fine : 0 < seconds_of q.frequency)
+    (unit : seconds_of q.frequency ≤ 86_400) where
+  open_again : (p : ℕ) → first ≤ p → is_open_period q first (p + periods) ≡ is_open_period q first p
+  open_again p l = grind (arith, calendar_step, date_again, day_again, own_day, second_again)
+
+  -- of whole rounds each has as many as the first
+  module _ (from : ℕ) (low : first ≤ from) where
+    pub open_rounds : (before rounds one rest : ℕ)
+        → one + count from (is_open_period q first) ≡ count (from + periods) (is_open_period q first)
+        → rest + count (from + rounds * periods) (is_open_period q first) ≡ count before (is_open_period q first)
+        → rounds * one + rest + count from (is_open_period q first) ≡ count before (is_open_period q first)
+    open_rounds before rounds one rest eo er =
+        let all = count_rounds (is_open_period q first) {a = from} periods (λ n l. open_again n (omega (arith, low, l))) rounds in
+        let one_is : one ≡ count periods (λ k. is_open_period q first (from + k)) = grind (arith, count-add) in rw one_is (omega (arith, all, er))
 
 -- the rounds and the rest are all of it
 all : (c : After-open_by_days-rest) → (c.args.before - c.args.from) / c.in-Some.round * c.open_by_days-one.result + c.open_by_days-rest.result
