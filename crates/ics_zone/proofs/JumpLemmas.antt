@@ -1,6 +1,6 @@
 -- The offset in force, and the instant at which a clock jumps over a local.
-use Rattle.std.proofs.Common.{◌≡◌, ◌≢◌, ℕ, zero, suc, ◌<◌, inl, inr, Bool, true, false, cond, refl, sym, ◌∙◌, arith, List, [], ◌∷◌, ◌++◌, length}
-use Rattle.std.proofs.Common.{Some, None, All, Contains, ℤ, pos, ◌+ℤ◌, ◌-ℤ◌, ◌<ℤ◌, ◌≤ℤ◌}
+use Rattle.std.proofs.Common.{◌≡◌, ◌≢◌, ℕ, zero, suc, ◌<◌, inl, inr, Bool, true, false, cond, refl, sym, ◌∙◌, arith, List, [], ◌∷◌, ◌++◌, length, Some, None}
+use Rattle.std.proofs.Common.{All, Contains, ℤ, pos, ◌+ℤ◌, ◌-ℤ◌, ◌<ℤ◌, ◌≤ℤ◌, ap}
 use Rattle.std.proofs.lemmas.Int.{ints}
 use Rattle.std.specs.List.Sorted.{IsPermutation}
 use Rattle.std.proofs.lemmas.List.Sorted.{All-permutation}
@@ -11,18 +11,31 @@ use Rattle.ics_zone.specs.declared.latest.Steady.{Steady}
 use Rattle.ics_zone.specs.declared.observance.Observance.{Observance}
 use Rattle.ics_zone.specs.declared.onsets.Onsets.{Onsets}
 use Rattle.ics_zone.specs.Observances.{ObservanceSaid, observances_said}
-use Rattle.ics_zone.specs.ZoneOffsets.{natural, IsOnset, IsInForce, IsBeforeAll, IsOffset, zone_offset}
+use Rattle.ics_zone.specs.ZoneOffsets.{natural, IsOnset, IsInForce, IsBeforeAll, IsOffset, zone_offset, IsNotLater}
 use Rattle.ics_zone.specs.Moments.{shown, IsFirstTime}
 use Rattle.ics_zone.specs.ZoneOnsets.{HaveOffsets, IsKnown, IsLatest, IsLatestOf, IsFirstOffset, IsNextPast, IsClear, IsJump, IsSteady, IsOverridden}
 use Rattle.ics_zone.specs.ZoneBounds.{zone_facts, zone_short}
-use Rattle.ics_zone.proofs.OffsetLaws.{offset_unique}
 use Rattle.ics_zone.specs.Searches.{natural-is}
 use Rattle.ics_zone.proofs.OnsetLemmas.{offset_found}
 use Rattle.ics_zone.proofs.Cases.{less_or_not_z}
 
-not_empty : (zone : List ObservanceSaid) → 0 < length zone → zone ≢ []
-not_empty [] h e = omega arith
-not_empty (p ∷ zone) h e = cc
+-- two onsets neither of which is later are one
+one_onset : {i j : ℕ} {s t : ℤ} {p q : ObservanceSaid} (zone : List ObservanceSaid) → IsOnset zone i s p → IsOnset zone j t q
+    → IsNotLater s i t j → IsNotLater t j s i → p ≡ q
+one_onset zone x y h l = grind (arith, ints)
+
+-- an onset that is not after t lies after no onset that comes before all
+not_both : (zone : List ObservanceSaid) (t : ℤ) (p q : ObservanceSaid) → IsInForce zone t p → IsBeforeAll zone t q → ⊥
+not_both zone t p q x y = let least = y.least x.place x.since p x.onset in grind (arith, ints)
+
+-- a zone has at most one offset at an instant
+pub offset_unique : (zone : List ObservanceSaid) (t a b : ℤ) → IsOffset zone t a → IsOffset zone t b → a ≡ b
+offset_unique zone t a b (inl (p, x, e)) (inl (q, y, f)) = e ∙ ap (λ p. p.offset_to) (one_onset zone x.onset y.onset
+    (y.greatest x.place x.since p x.onset x.not_after) (x.greatest y.place y.since q y.onset y.not_after)) ∙ sym f
+offset_unique zone t a b (inl x) (inr y) = absurd (not_both zone t x.0 y.0 x.1 y.1)
+offset_unique zone t a b (inr x) (inl y) = absurd (not_both zone t y.0 x.0 y.1 x.1)
+offset_unique zone t a b (inr (p, x, e)) (inr (q, y, f)) = e ∙ ap (λ p. p.offset_from) (one_onset zone x.onset y.onset
+    (x.least y.place y.first q y.onset) (y.least x.place x.first p x.onset)) ∙ sym f
 
 -- what a clock shows of a local that it skips
 module _ (offset : ℤ → ℤ) (local : ℤ) (skipped : (t : ℤ) → shown offset t ≢ local) where
@@ -41,7 +54,7 @@ module _ (observances : List Observance) (some : 0 < length (observances_said ob
   zone = observances_said observances
 
   pub is_offset : (t : ℤ) → IsOffset zone t (zone_offset zone t)
-  is_offset t = offset_found zone (zone_facts observances) t (not_empty zone some)
+  is_offset t = offset_found zone (zone_facts observances) t (λ e. let none = ap length e in omega (arith, some, none))
 
   -- what is in force, and what is before all onsets, gives the offset
   in_force_is : (t : ℤ) (p : ObservanceSaid) → IsInForce zone t p → p.offset_to ≡ zone_offset zone t

@@ -1,10 +1,6 @@
 pub mod Cases
-pub mod Readings
-pub mod FileReads
 pub mod TableLemmas
 pub mod FileLemmas
-pub mod SameZones
-pub mod OffsetLaws
 pub mod OnsetLemmas
 pub mod MomentLemmas
 pub mod LatestLemmas
@@ -14,7 +10,6 @@ pub mod MinuteLemmas
 pub mod HourLemmas
 pub mod MarkLemmas
 pub mod ListingLemmas
-pub mod OnsetsMade
 pub mod ZoneSteps
 pub mod JumpLemmas
 pub mod CandidateLemmas

@@ -3,7 +3,7 @@ use Rattle.std.proofs.Common.{◌≡◌, ℕ, zero, suc, ◌+◌, ◌<◌, ◌�
 use Rattle.std.proofs.Common.{None, slice_get, ℤ, pos, ◌+ℤ◌, ◌-ℤ◌, ◌<ℤ◌, ◌≤ℤ◌, MatchOption, false, All}
 use Rattle.std.specs.Int.{int_max}
 use Rattle.std.proofs.lemmas.Int.{ints, clamps}
-use Rattle.std.proofs.lemmas.Option.{slice_get_within}
+use Rattle.std.proofs.lemmas.Option.{slice_get_cases, slice_get_within}
 use Rattle.ics_zone.specs.declared.latest.Latest.{Latest}
 use Rattle.ics_zone.specs.declared.onsets.Onsets.{Onsets}
 use Rattle.ics_zone.specs.Observances.{ObservanceSaid}
@@ -15,9 +15,7 @@ use Rattle.ics_zone.proofs.Cases.{below_or_at, less_or_not_z}
 
 -- each place of a zone has an observance
 pub observance_there : (zone : List ObservanceSaid) (k : ℕ) → k < length zone → (p : ObservanceSaid) × (slice_get zone k ≡ Some p)
-observance_there [] k h = absurd (omega arith)
-observance_there (p ∷ zone) zero h = (p, refl)
-observance_there (p ∷ zone) (suc k) h = observance_there zone k (omega arith)
+observance_there zone k h = elim (slice_get_cases zone k).1 [ inl is ↦ (is.0, is.2) | inr past ↦ absurd (omega (arith, h, past.0)) ]
 
 -- what is kept of each observance is sound
 pub all_sound : (zone : List ObservanceSaid) (list : List Onsets) → AreOnsetsOfAll zone list → All IsSound list

@@ -17,12 +17,7 @@ use Rattle.ics_zone.specs.declared.zone.ZoneKind.TheVariants.{ByObservances, ByF
 
 -- an observance with an onset at t
 pub if_onset-some : (o : Option ObservanceSaid) (t : ℤ) (p : ObservanceSaid) → if_onset o t ≡ Some p → (o ≡ Some p) × (is_onset p t ≡ true)
-if_onset-some None t p e = absurd (cc)
-if_onset-some (Some q) t p e = by (is_onset q t) refl e
-  where
-    by : (b : Bool) → is_onset q t ≡ b → elim b [ true ↦ Some q | false ↦ None ] ≡ Some p → (Some q ≡ Some p) × (is_onset p t ≡ true)
-    by true is e = let same : q ≡ p = cc in (e, rw (← same) is)
-    by false is e = absurd (cc)
+if_onset-some o t p e = grind (arith, ints)
 
 module _ (zone : List ObservanceSaid) (facts : IsZone zone) where
   in_force-is : (t : ℤ) (p : ObservanceSaid) → in_force zone t ≡ Some p → IsObservanceSaid p

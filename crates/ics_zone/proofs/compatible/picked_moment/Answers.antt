@@ -1,13 +1,24 @@
-use Rattle.std.proofs.Common.{◌≡◌, ◌*ℤ◌, ◌-ℤ◌, ℤ, pos, ap, rules, arith}
-use Rattle.std.proofs.lemmas.Result.{IfOk-at_ok}
-use Rattle.jiff.specs.Words.{nanos_of_seconds, picked_instant, plain_zone, compatible_offset, ambiguous_at, civil_nanos}
-use Rattle.jiff.proofs.SpanFacts.{signed_arith}
+-- The offset of a local by its seconds is the one that jiff's compatible strategy takes for its `DateTime`.
+use Rattle.std.proofs.Common.{◌≡◌, ℤ, refl, ◌*ℤ◌, ◌-ℤ◌, pos, ap, rules, arith}
+use Rattle.jiff.specs.Words.{nanos_of_seconds, civil_nanos, ambiguous_at, compatible_offset, picked_instant, plain_zone}
 use Rattle.jiff_core.specs.declared.civil.datetime.DateTime.{DateTime}
 use Rattle.jiff_tz.specs.declared.timezone.TimeZone.{TimeZone}
-use Rattle.ics_zone.specs.Displays.{moment_of}
+use Rattle.jiff_tz.specs.declared.timezone.TimeZone.TheVariants.{UTC, Unknown, Fixed, Posix, Tzif}
+use Rattle.ics_zone.specs.Displays.{reading_of, moment_of}
+use Rattle.ics_zone.proofs.FileLemmas.{rule_reading_is, file_reading_is}
+use Rattle.std.proofs.lemmas.Result.{IfOk-at_ok}
+use Rattle.jiff.proofs.SpanFacts.{signed_arith}
 use Rattle.ics_fields.specs.Locals.{seconds_at}
-use Rattle.ics_zone.proofs.Readings.{reading_is}
 use Rattle.ics_zone.proofs.compatible.picked_moment.Goals as goal
+
+reading_is : (zone : TimeZone) (dt : DateTime) (local : ℤ) → civil_nanos dt ≡ nanos_of_seconds local
+    → reading_of zone local ≡ (compatible_offset (ambiguous_at zone dt)).seconds
+unfolding ambiguous_at
+reading_is UTC dt local e = refl
+reading_is Unknown dt local e = refl
+reading_is (Fixed offset) dt local e = refl
+reading_is (Posix rule) dt local e = rule_reading_is rule.std_offset rule.dst dt local e
+reading_is (Tzif table) dt local e = file_reading_is table.now dt local e
 
 -- the instant that jiff picks, in whole seconds
 picked_seconds : (zone : TimeZone) (dt : DateTime) (local : ℤ) → civil_nanos dt ≡ nanos_of_seconds local

@@ -1,4 +1,4 @@
-use Rattle.ics_zone.proofs.OffsetLaws.{offset_unique}
+use Rattle.ics_zone.proofs.JumpLemmas.{offset_unique}
 use Rattle.ics_zone.proofs.OnsetLemmas.{offset_found}
 use Rattle.ics_zone.proofs.zone_laws.one_offset.Goals as goal
 
