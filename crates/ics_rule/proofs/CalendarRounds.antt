@@ -1,5 +1,5 @@
 -- Whole rounds of the calendar are rounds of each rule.
-use Rattle.std.proofs.Common.{◌≡◌, ℕ, ◌+◌, ◌-◌, ◌*◌, ◌/◌, ◌%◌, ◌≤◌, Option, Some, None, MatchOption, sym, ap, ◌∙◌, arith}
+use Rattle.std.proofs.Common.{◌≡◌, ℕ, ◌+◌, ◌-◌, ◌*◌, ◌/◌, ◌%◌, ◌≤◌, sym, ap, ◌∙◌, arith}
 use Rattle.std.proofs.lemmas.Nat.{div-add-mod'}
 use Rattle.std.proofs.Math.Nat.{mul_comm}
 use Rattle.jiff_core.specs.Weekday.{monday_zero}
@@ -9,26 +9,19 @@ use Rattle.ics_rule.specs.declared.effective_rule.EffectiveRule.{EffectiveRule}
 use Rattle.ics_rule.specs.PeriodNumbers.{period, day_of}
 use Rattle.ics_rule.specs.Candidates.{lets_date, is_stepped, period_in}
 use Rattle.ics_rule.specs.RecurrencePeriods.{first_local}
-use Rattle.ics_rule.specs.Rounds.{calendar_periods, IsCalendarRound, IsRound, IsEvenRound}
+use Rattle.ics_rule.specs.Rounds.{calendar_periods, IsCalendarRound, IsRound}
 use Rattle.ics_rule.proofs.RoundLemmas.{clock_same, let_in_alike, step_repeats}
-use Rattle.ics_rule.proofs.EvenLemmas.{even_of_round}
 use Rattle.ics_rule.proofs.Tests.{positive}
 use Rattle.ics_rule.proofs.CycleLemmas.{years_again, months_again, year_again, month_again, date_again}
 
 period_again : (f : Frequency) (w n k : ℕ) → period f w (n + k * 12_622_780_800) ≡ period f w n + k * calendar_periods f
-period_again Monthly w n k =
-    let day : (n + k * 12_622_780_800) / 86_400 ≡ n / 86_400 + 146_097 * k = omega arith in
-    rw day (omega (arith, year_again k (n / 86_400), month_again k (n / 86_400)))
-period_again Yearly w n k =
-    let day : (n + k * 12_622_780_800) / 86_400 ≡ n / 86_400 + 146_097 * k = omega arith in rw day (omega (arith, year_again k (n / 86_400)))
+period_again Monthly w n k = grind (arith, year_again k (n / 86_400), month_again k (n / 86_400))
+period_again Yearly w n k = grind (arith, year_again k (n / 86_400))
 period_again f w n k = omega arith
 
 first_again : (f : Frequency) (w p k : ℕ) → 2 ≤ p → first_local f w (p + k * calendar_periods f) ≡ first_local f w p + k * 12_622_780_800
-first_again Monthly w p k h =
-    let year : (p + k * 4_800 - 1) / 12 ≡ (p - 1) / 12 + 400 * k = omega arith in
-    let month : (p + k * 4_800 - 1) % 12 ≡ (p - 1) % 12 = omega arith in
-    rw (year, month) (omega (arith, years_again k ((p - 1) / 12), months_again k ((p - 1) / 12) ((p - 1) % 12)))
-first_again Yearly w p k h = let order : p + k * 400 ≡ p + 400 * k = omega arith in rw order (omega (arith, years_again k p))
+first_again Monthly w p k h = grind (arith, years_again k ((p - 1) / 12), months_again k ((p - 1) / 12) ((p - 1) % 12))
+first_again Yearly w p k h = grind (arith, years_again k p)
 first_again f w p k h = omega arith
 
 some_periods : (f : Frequency) → 1 ≤ calendar_periods f
@@ -38,9 +31,7 @@ some_periods f = grind arith
 pub calendar_step : (q : EffectiveRule) (periods : ℕ) → IsCalendarRound q periods → (first p : ℕ) → first ≤ p →
     is_stepped first q.interval (p + periods) ≡ is_stepped first q.interval p
 calendar_step q periods round first p l =
-    let whole : periods ≡ q.interval * (periods / q.interval) =
-    omega (arith, div-add-mod' periods q.interval, mul_comm q.interval (periods / q.interval), round.step) in
-    rw whole (step_repeats q.interval (periods / q.interval) first p l)
+    grind (arith, div-add-mod' periods q.interval, mul_comm q.interval (periods / q.interval), step_repeats q.interval (periods / q.interval) first p)
 
 pub calendar_is : (q : EffectiveRule) (periods : ℕ) (round : IsCalendarRound q periods) → IsRound q periods (round.cycles * 12_622_780_800)
 calendar_is q periods round = record {
@@ -54,8 +45,3 @@ calendar_is q periods round = record {
       ∙ date_again q round.cycles (day_of n) round.some)
       (clock_same q (n + round.cycles * 12_622_780_800) n (omega arith) (omega arith) (omega arith));
 }
-
-pub even_of_calendar : (q : EffectiveRule) (o : Option ℕ) → MatchOption o (Unit {0}) (IsCalendarRound q) →
-    MatchOption o (Unit {0}) (λ k. (start : ℕ) → IsEvenRound q start k)
-even_of_calendar q None t = tt
-even_of_calendar q (Some k) t = λ start. even_of_round q start k (t.cycles * 12_622_780_800) (calendar_is q k t)

@@ -72,8 +72,7 @@ module _ {q : EffectiveRule} {start c stop number : ℕ} {before now : Cursor} (
     known = rw turned.held turned.counted
 
     within : {n : ℕ} → IsLeastFrom taken after.place n → IsLeastFrom (is_chosen_within q start number) after.place n
-    within {n = n} next = next_same taken (is_chosen_within q start number) after.place (Some n)
-        (taken_within start turned.product turned.number counting.walk.step) next
+    within {n = n} next = next_same _ _ after.place (Some n) (taken_within start turned.product turned.number counting.walk.step) next
 
     here : {n : ℕ} → IsLeastFrom taken after.place n → (period_in q n ≡ number) × (is_chosen q start n ≡ true)
     here {n = n} next = within_facts q start number n (IsLeastFrom.passes (within next))

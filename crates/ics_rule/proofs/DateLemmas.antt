@@ -18,7 +18,6 @@ use Rattle.ics_rule.specs.Candidates.{lets_place, lets_week, lists_nth, lets_num
 use Rattle.ics_rule.specs.DateParts.{names_weekdays_alone}
 use Rattle.ics_rule.specs.NamedWeekdays.{names_weekday}
 use Rattle.ics_rule.proofs.ScanLemmas.{in_word}
-use Rattle.ics_rule.proofs.Tests.{zero_of}
 
 -- the week of a day, by the fields of its fourth day
 pub lets_week-fields : (q : EffectiveRule) (e : ℕ) (c : Civil) → IsCivilOf c (fourth_day (monday_zero q.week_start) e) →
@@ -27,7 +26,7 @@ lets_week-fields q e c f = grind (arith, nat_tests)
 
 -- a weekday that stands neither alone nor with a number is out
 pub none_nth : (p : Ordinals) (n size : ℕ) → lists_none p ≡ true → lists_nth p n size ≡ false
-none_nth p n size h = grind (arith, nat_tests, and_parts, bit_at-zero, zero_of)
+none_nth p n size h = grind (arith, nat_tests, and_parts, bit_at-zero)
 
 pub none_numbered : (f : Frequency) (q : EffectiveRule) (p : Ordinals) (e : ℕ) → lists_none p ≡ true → lets_numbered f q p e ≡ false
 none_numbered f q p e h = grind (arith, nat_tests, none_nth)

@@ -1,14 +1,14 @@
 -- What each period of a day or less has that a rule lets in.
-use Rattle.std.proofs.Common.{◌≡◌, ℕ, zero, suc, ◌+◌, ◌*◌, ◌/◌, ◌%◌, ◌<◌, ◌≤◌, Bool, true, false, not, ◌&&◌, ◌||◌, refl, sym, ap, ◌∙◌, cond}
+use Rattle.std.proofs.Common.{◌≡◌, ℕ, zero, suc, ◌+◌, ◌*◌, ◌/◌, ◌%◌, ◌<◌, ◌≤◌, Bool, true, false, ◌&&◌, ◌||◌, refl, sym, ap, ◌∙◌, cond}
 use Rattle.std.proofs.Common.{arith}
+use Rattle.std.proofs.lemmas.Bool.{eq-eqb}
 use Rattle.std.proofs.Math.Nat.{mul-le-mul_right, mul_comm, add-mul}
 use Rattle.jiff_core.specs.Weekday.{monday_zero}
 use Rattle.ics_fields.specs.declared.frequency.Frequency.{Frequency}
 use Rattle.ics_fields.specs.declared.frequency.Frequency.TheVariants.{Secondly, Minutely, Hourly, Daily}
 use Rattle.ics_fields.specs.Ordinals.{lists_none_wide}
 use Rattle.ics_rule.specs.declared.effective_rule.EffectiveRule.{EffectiveRule}
-use Rattle.ics_rule.specs.PeriodNumbers.{period, hour_of, minute_of, second_of}
-use Rattle.ics_rule.specs.EffectiveRules.{skips_hours, skips_minutes, skips_seconds}
+use Rattle.ics_rule.specs.PeriodNumbers.{period}
 use Rattle.ics_rule.specs.Candidates.{lets, lets_date, lets_clock, is_stepped, period_in}
 use Rattle.ics_rule.specs.Kept.{count, is_chosen}
 use Rattle.ics_rule.specs.RecurrencePeriods.{first_local}
@@ -18,7 +18,7 @@ use Rattle.ics_rule.proofs.Counts.{count-same, count-suc, count-all, count-produ
 use Rattle.ics_rule.proofs.ProductCounts.{count_zero}
 use Rattle.ics_rule.proofs.SizeLemmas.{let_at, longest, counted, chosen_adds}
 use Rattle.ics_fields.specs.Locals.{calendar_end}
-use Rattle.ics_rule.proofs.Tests.{and_assoc, self_test}
+use Rattle.ics_rule.proofs.Tests.{and_assoc}
 
 -- the clock is a period's own and what is within it
 pub clock_split : (f : Frequency) (q : EffectiveRule) (n : ℕ) → lets_clock q n ≡ (lets_own f q n && lets_within f q n)
@@ -37,18 +37,10 @@ module _ (q : EffectiveRule) (p k : ℕ) where
   day_at f h u l = grind arith
 
   own_at : (f : Frequency) → 0 < seconds_of f → seconds_of f ≤ 86_400 → k < seconds_of f → lets_own f q (p * seconds_of f + k) ≡ lets_own f q (p * seconds_of f)
-  own_at f h u l = rw (
-    part_alike (skips_hours f) q.hours (hour_of (p * seconds_of f + k)) (hour_of (p * seconds_of f)) (λ fine. grind arith),
-    part_alike (skips_minutes f) q.minutes (minute_of (p * seconds_of f + k)) (minute_of (p * seconds_of f)) (λ fine. grind arith),
-    part_alike (skips_seconds f) q.seconds (second_of (p * seconds_of f + k)) (second_of (p * seconds_of f)) (λ fine. grind arith),
-  ) refl
+  own_at f h u l = grind (arith, part_alike)
 
   pub within_at : (f : Frequency) → 0 < seconds_of f → seconds_of f ≤ 86_400 → k < seconds_of f → lets_within f q (p * seconds_of f + k) ≡ lets_within f q k
-  within_at f h u l = rw (
-    part_alike (not (skips_hours f)) q.hours (hour_of (p * seconds_of f + k)) (hour_of k) (λ coarse. grind arith),
-    part_alike (not (skips_minutes f)) q.minutes (minute_of (p * seconds_of f + k)) (minute_of k) (λ coarse. grind arith),
-    part_alike (not (skips_seconds f)) q.seconds (second_of (p * seconds_of f + k)) (second_of k) (λ coarse. grind arith),
-  ) refl
+  within_at f h u l = grind (arith, part_alike)
 
 pub in_period : (f : Frequency) (w n : ℕ) → 0 < seconds_of f → seconds_of f ≤ 86_400 → (period f w n * seconds_of f ≤ n)
     × (n < period f w n * seconds_of f + seconds_of f)
@@ -105,7 +97,7 @@ module _ (q : EffectiveRule) (start : ℕ) (fine : 0 < seconds_of q.frequency) (
         clock_split q.frequency q (p * u + k),
         own_at q p k q.frequency fine unit l,
         within_at q p k q.frequency fine unit l,
-        self_test p,
+        eq-eqb p p refl,
       )
       (sym (and_assoc (lets_date q (p / per_day q.frequency)) (lets_own q.frequency q (p * u)) (within k)))
 
@@ -125,10 +117,7 @@ module _ (q : EffectiveRule) (start : ℕ) (fine : 0 < seconds_of q.frequency) (
   pub total_open : (p : ℕ) → p * u ≤ calendar_end → chosen_to q start p ≡ count p is_open * chosen_in_open q
   total_open zero top = let most = count_most (0 * u) (is_chosen q start) in
       rw (first_at q.frequency (monday_zero q.week_start) 0 fine unit) (omega (arith, most, ap (λ x. x * chosen_in_open q) (count_zero is_open)))
-  total_open (suc p) top =
-      let more = ap (λ x. x * chosen_in_open q) (count-suc p is_open) in
-      let spread = add-mul (count p is_open) (cond (is_open p) 1 0) (chosen_in_open q) in
-      omega (arith, open_adds p top, total_open p (omega (arith, top)), more, spread)
+  total_open (suc p) top = grind (arith, add-mul, count-suc p is_open, open_adds p top, total_open p)
 
   -- from one period to another
   pub total_between : {begin target counted each : ℕ} (number : ℕ) → each ≡ chosen_in_open q → number + count begin is_open ≡ count target is_open

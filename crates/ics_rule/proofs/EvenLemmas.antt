@@ -1,6 +1,6 @@
 -- Rounds of periods in which a rule allows as many locals have as many chosen locals.
 use Rattle.std.proofs.Common.{◌≡◌, ℕ, zero, suc, ◌+◌, ◌-◌, ◌*◌, ◌/◌, ◌%◌, ◌<◌, ◌≤◌, inl, inr, Bool, true, false, ◌==◌, cond, refl, sym, ap, ◌∙◌}
-use Rattle.std.proofs.Common.{arith}
+use Rattle.std.proofs.Common.{Option, Some, None, MatchOption, arith}
 use Rattle.std.proofs.lemmas.Bool.{cases_lt, false_from_ne_true}
 use Rattle.std.proofs.lemmas.Bool.Decides.{nat_tests}
 use Rattle.jiff_core.specs.Weekday.{monday_zero}
@@ -148,8 +148,10 @@ even_round {q = q} {periods = periods} {seconds = seconds} round = record {
 }
 
 -- a round of what a rule allows is one
-pub even_of_round : (q : EffectiveRule) (start periods seconds : ℕ) → IsRound q periods seconds → IsEvenRound q start periods
-even_of_round q start periods seconds round = even_is q start periods (even_round round)
+pub even_of_rounds : (q : EffectiveRule) {P : ℕ → Type 0} (o : Option ℕ) → ((k : ℕ) → P k → (seconds : ℕ) × IsRound q k seconds) →
+    MatchOption o (Unit {0}) P → MatchOption o (Unit {0}) (λ k. (start : ℕ) → IsEvenRound q start k)
+even_of_rounds q None round t = tt
+even_of_rounds q (Some k) round t = λ start. even_is q start k (even_round (round k t).1)
 
 -- so is one after which periods add as many allowed locals
 even_by : {q : EffectiveRule} {start : ℕ} (steps : ℕ) (size : ℕ → ℕ) → 1 ≤ q.interval → 1 ≤ steps

@@ -1,6 +1,6 @@
 -- The months of a rule with days that each month has.
 use Rattle.std.specs.Option.{is_some}
-use Rattle.std.proofs.Common.{Option, ◌≡◌, ℕ, zero, suc, ◌+◌, ◌-◌, ◌*◌, ◌/◌, ◌%◌, ◌<◌, ◌≤◌, Bool, false, ◌&&◌, pos, refl, ap}
+use Rattle.std.proofs.Common.{Option, ◌≡◌, ℕ, zero, suc, ◌+◌, ◌*◌, ◌/◌, ◌%◌, ◌<◌, ◌≤◌, Bool, false, ◌&&◌, pos, refl, ap}
 use Rattle.std.proofs.Common.{arith}
 use Rattle.std.proofs.lemmas.Bool.{and_right}
 use Rattle.std.proofs.lemmas.Bool.Decides.{nat_tests}
@@ -53,11 +53,9 @@ module _ (q : EffectiveRule) (flat : IsFlat q) where
       → lets_date q (month_start (suc i) + d) ≡ (lets q.months (i % 12 + 1) && contains q.month_days.front (d + 1))
   date_is i d year inside =
       let e = month_start (suc i) + d in
-      let back : suc i - 1 ≡ i = omega arith in
-      let before : i % 12 + 1 - 1 ≡ i % 12 = omega arith in
       let f = fields_at e (i / 12) (i % 12 + 1) (d + 1)
       ((omega (arith, signed_arith, year), omega (arith, signed_arith, year)), (omega arith, omega arith), (omega arith, omega (arith, inside)))
-      (rw (back, before) (omega arith)) in
+      (grind arith) in
       grind (arith, nat_tests, f.month, f.month_day, goes q flat.goes, three_parts q e flat.goes)
 
   allowed_is : (i k : ℕ) → i / 12 ≤ 9_999 → k < days_in_month (pos (i / 12)) (i % 12 + 1) * 86_400 → is_allowed q (month_local i + k) ≡ in_month (i % 12) k
@@ -90,12 +88,7 @@ module _ (q : EffectiveRule) (flat : IsFlat q) where
       rw (next, month_is (12 * y + m) (omega (arith, year, h)), months_are y m year (omega (arith, h)), own) (omega arith)
 
   year_local : (y : ℕ) → month_local (12 * y) ≡ days_before_year y * 86_400
-  year_local y =
-      let back : suc (12 * y) - 1 ≡ 12 * y = omega arith in
-      let year : 12 * y / 12 ≡ y = omega arith in
-      let rest : 12 * y % 12 ≡ 0 = omega arith in
-      let none = days_of_months-zero (pos y) in
-      ap (λ x. x * 86_400) (rw back (rw year (rw rest (omega (arith, none)))))
+  year_local y = let none = days_of_months-zero (pos y) in grind arith
 
   pub year_is : (y : ℕ) → y ≤ 9_999 → allowed_before q (days_before_year (suc y) * 86_400) ≡ allowed_before q (days_before_year y * 86_400) + months_add 12
   year_is y h =

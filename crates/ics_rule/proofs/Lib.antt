@@ -24,7 +24,6 @@ mod EachLemmas
 mod NeverLemmas
 mod OpenLemmas
 mod TableSteps
-mod TableLemmas
 mod TableExamples
 mod RunLemmas
 mod MonthDays

@@ -1,7 +1,7 @@
 -- What a rule keeps: the start, and of the later locals that it has those that UNTIL lets through.
 use Rattle.std.proofs.Common.{◌≡◌, ℕ, suc, ◌+◌, ◌-◌, ◌<◌, ◌≤◌, inl, inr, Bool, true, false, ◌&&◌, ◌||◌, ◌==◌, nat_lt, min, max, Some, None, Option}
 use Rattle.std.proofs.Common.{MatchOption, refl, sym, ap, ◌∙◌, arith}
-use Rattle.std.proofs.lemmas.Bool.{and_right, cases_lt, le-ltb, lt-ltb}
+use Rattle.std.proofs.lemmas.Bool.{and_right, cases_lt, le-ltb, lt-ltb, eq-eqb}
 use Rattle.std.proofs.lemmas.Bool.Decides.{nat_tests}
 use Rattle.ics_rule.specs.Recurrence.{Recurrence}
 use Rattle.ics_rule.specs.PeriodNumbers.{rules_end}
@@ -11,12 +11,12 @@ use Rattle.ics_rule.specs.Kept.{count, is_chosen, is_kept, is_in_rule, is_by_unt
 use Rattle.ics_rule.specs.Searches.{is_few, is_wanted, NoneWanted, IsNextBefore}
 use Rattle.ics_rule.specs.Next.{NoneKept, IsNextKept}
 use Rattle.ics_rule.proofs.Counts.{count-suc, count-none, count_between, count_mono, count_one}
-use Rattle.ics_rule.proofs.Tests.{keep_true, self_test, unequal}
+use Rattle.ics_rule.proofs.Tests.{keep_true, unequal}
 
 -- what the rule has: the start, nothing before it, and later what it chooses
 pub in_rule_start : (r : Recurrence) → is_in_rule r (number r.start) ≡ true
 unfolding is_in_rule
-in_rule_start r = rw (self_test (number r.start)) refl
+in_rule_start r = rw (eq-eqb (number r.start) (number r.start) refl) refl
 
 pub in_rule_earlier : (r : Recurrence) (n : ℕ) → n < number r.start → is_in_rule r n ≡ false
 unfolding is_in_rule
@@ -63,7 +63,7 @@ kept_earlier r n l = rw (unequal n (number r.start) (inl l), in_rule_earlier r n
 
 pub kept_start : (r : Recurrence) → is_kept r (number r.start) ≡ true
 unfolding is_kept
-kept_start r = rw (self_test (number r.start)) refl
+kept_start r = rw (eq-eqb (number r.start) (number r.start) refl) refl
 
 -- the start is the next kept
 pub next_start : (r : Recurrence) (place end : ℕ) → place ≤ number r.start → number r.start < end → IsNextKept r place end (number r.start)

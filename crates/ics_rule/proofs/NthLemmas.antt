@@ -1,5 +1,5 @@
 -- The n-th day of a month or year, and the n-th of its weekday there, by counting.
-use Rattle.std.proofs.Common.{◌≡◌, ◌≢◌, ℕ, zero, suc, ◌+◌, ◌-◌, ◌*◌, ◌/◌, ◌%◌, ◌<◌, ◌≤◌, inl, inr, Bool, true, false, ◌&&◌, ◌||◌, ◌==◌, pos, sym, ap, ◌∙◌, cond}
+use Rattle.std.proofs.Common.{◌≡◌, ◌≢◌, ℕ, zero, suc, ◌+◌, ◌-◌, ◌*◌, ◌/◌, ◌%◌, ◌<◌, ◌≤◌, Bool, true, false, ◌&&◌, ◌||◌, ◌==◌, pos, sym, ap, ◌∙◌, cond}
 use Rattle.std.proofs.Common.{refl, arith}
 use Rattle.std.proofs.lemmas.Bool.{and_right, cases_lt, eq-eqb, ne_eqb}
 use Rattle.std.proofs.lemmas.Bool.Decides.{nat_tests}
@@ -10,7 +10,7 @@ use Rattle.ics_fields.specs.declared.ordinals.WideOrdinals.{WideOrdinals}
 use Rattle.ics_fields.specs.Sets.{contains, contains_wide}
 use Rattle.ics_fields.specs.Days.{days_before_year, year_of, year_day_of, month_of, month_day_of, weekday_of}
 use Rattle.ics_fields.proofs.DayLemmas.{days_before_year-next, year_of_is, year_under_way}
-use Rattle.ics_rule.specs.PeriodNumbers.{month_number, week_of}
+use Rattle.ics_rule.specs.PeriodNumbers.{month_number}
 use Rattle.ics_rule.specs.Candidates.{lists, lists_wide, lists_nth, fourth_day, week_number, weeks_of_year}
 use Rattle.ics_rule.specs.Kept.{count}
 use Rattle.ics_rule.specs.RecurrencePeriods.{month_start}

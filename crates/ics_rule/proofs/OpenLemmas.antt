@@ -46,12 +46,7 @@ module _ {a i : ℕ} {g : ℕ → Bool} {from before number total : ℕ} (walk :
   walk_to {next = next} {b = b} e is h step later none = record {
     some = walk.some;
     step = step;
-    passed =
-        let flat = count_flat (suc number) (min next before) stepped (omega (arith, h, later)) (λ m l u. none m l (omega (arith, u))) in
-        let last = count-suc number stepped in
-        let here : ◌≡◌ {A = ℕ} (cond (stepped number) 1 0) (cond b 1 0) = rw (walk.step, e) refl in
-        let own = ap (λ x. count x stepped) (let same : min number before ≡ number = omega (arith, h) in same) in
-        omega (arith, flat, last, here, own, is, walk.passed);
+    passed = grind (arith, nat_tests, count_flat (suc number) (min next before) stepped, count-suc number stepped);
   }
 
   pub walk_on : {new : ℕ} (b : Bool) → g number ≡ b → new ≡ total + cond b 1 0 → number < before → IsStepWalk a i g from before (number + i) new

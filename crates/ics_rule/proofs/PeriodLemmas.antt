@@ -1,5 +1,5 @@
 -- A period is the locals from its first on and before the next period's first.
-use Rattle.std.proofs.Common.{◌≡◌, ℕ, zero, suc, ◌+◌, ◌-◌, ◌*◌, ◌/◌, ◌%◌, ◌<◌, ◌≤◌, inl, inr, ap, cond, arith, pos}
+use Rattle.std.proofs.Common.{◌≡◌, ℕ, zero, suc, ◌+◌, ◌-◌, ◌*◌, ◌/◌, ◌%◌, ◌<◌, ◌≤◌, ap, cond, arith, pos}
 use Rattle.std.proofs.lemmas.Bool.{cases_lt, le-ltb, lt-ltb}
 use Rattle.jiff_core.specs.declared.civil.weekday.Weekday.{Weekday}
 use Rattle.jiff_core.specs.Weekday.{monday_zero}
@@ -39,31 +39,19 @@ year_length p = let next = days_before_year-next p in let b = days_in_year_bound
 -- months
 pub month_begun : (p e : ℕ) → p ≤ month_number e → month_start p ≤ e
 month_begun zero e h = let none = days_of_months-zero (pos ((0 - 1) / 12)) in omega (arith, none)
-month_begun (suc p) e h =
-    let back : suc p - 1 ≡ p = omega arith in
-    rw back (grind (arith, cases_lt, month_past (p / 12) (p % 12) e (omega arith)))
+month_begun (suc p) e h = grind (arith, cases_lt, month_past (p / 12) (p % 12) e (omega arith))
 
 pub month_begins : (p e : ℕ) → month_start p ≤ e → p ≤ month_number e
 month_begins p e h = let past = (month_past ((p - 1) / 12) ((p - 1) % 12) e (omega arith)).1 h in omega (arith, past)
 
 pub month_size : (p : ℕ) → month_start (suc (suc p)) ≡ month_start (suc p) + days_in_month (pos (p / 12)) (p % 12 + 1)
-month_size p =
-    let one : suc p - 1 ≡ p = omega arith in
-    let two : suc (suc p) - 1 ≡ suc p = omega arith in
-    let more = days_of_months_more (pos (p / 12)) (p % 12 + 1) (omega arith) in
-    rw (one, two) (elim (cases_lt (p % 12) 11) [
-      | inl inside ↦
-          let year : suc p / 12 ≡ p / 12 = omega arith in
-          let month : suc p % 12 ≡ p % 12 + 1 = omega arith in
-          let back : p % 12 + 1 - 1 ≡ p % 12 = omega arith in
-          rw (year, month) (omega (arith, rw back at more))
-      | inr last ↦
-          let year : suc p / 12 ≡ suc (p / 12) = omega arith in
-          let month : suc p % 12 ≡ 0 = omega arith in
-          let december : p % 12 ≡ 11 = omega arith in
-          rw (year, month, december)
-          (omega (arith, rw december at more, days_before_year-next (p / 12), days_of_months_all (pos (p / 12)), days_of_months-zero (pos (suc (p / 12)))))
-    ])
+month_size p = grind (
+  arith,
+  days_before_year-next (p / 12),
+  days_of_months_all (pos (p / 12)),
+  days_of_months-zero (pos (suc (p / 12))),
+  days_of_months_more (pos (p / 12)) (p % 12 + 1) (omega arith),
+)
 
 month_length : (p : ℕ) → (month_start (suc p) < month_start (suc (suc p))) × (month_start (suc (suc p)) ≤ month_start (suc p) + 31)
 month_length p = grind (arith, days_in_month_bounds, month_size)

@@ -1,6 +1,6 @@
 -- The place of a local in a product, and the product's size, by the sizes of its sets.
-use Rattle.std.proofs.Common.{◌≡◌, ℕ, ◌+◌, ◌-◌, ◌*◌, ◌/◌, ◌%◌, ◌<◌, ◌≤◌, inl, inr, Bool, true, false, cond, ◌&&◌, nat_le, min, Option, IfSome}
-use Rattle.std.proofs.Common.{refl, sym, ap, ◌∙◌, arith}
+use Rattle.std.proofs.Common.{◌≡◌, ℕ, ◌+◌, ◌-◌, ◌*◌, ◌/◌, ◌%◌, ◌<◌, ◌≤◌, Bool, true, false, cond, ◌&&◌, nat_le, min, Option, IfSome}
+use Rattle.std.proofs.Common.{refl, ap, ◌∙◌, arith}
 use Rattle.std.proofs.lemmas.Bool.{and_right, cases_lt}
 use Rattle.std.proofs.lemmas.Bool.Decides.{nat_tests}
 use Rattle.std.proofs.lemmas.Nat.{div-mul-add, mod-mul-add, div-add-mod'}
@@ -73,10 +73,8 @@ nth_of_days p k n nth = record { passes = day_at p n ∙ nth.passes; before = da
 -- the days before one
 pub days_before : (p : RecurrencePeriod) (day skipped : ℕ) → skipped ≡ min (day - p.first_day) 384 →
     count skipped (contains_wide p.days) ≡ count day (has_day p)
-days_before p day skipped e = sym (days_from_first p skipped) ∙ elim (cases_lt day (p.first_day + skipped)) [
-  | inl early ↦ count_flat day (p.first_day + skipped) (has_day p) (omega (arith, early)) (λ m l u. day_before p m (omega (arith, e, early, l, u)))
-  | inr late ↦ sym (count_flat (p.first_day + skipped) day (has_day p) late (λ m l u. day_past p m (omega (arith, e, l, u))))
-]
+days_before p day skipped e =
+    grind (arith, cases_lt, count_flat, day_before, day_past, days_from_first p skipped)
 
 -- the k-th number of a product, by dividing by the size of a block
 pub nth-product : (b : ℕ) {s : ℕ} (k : ℕ) {hi lo : ℕ} {p q : ℕ → Bool} → s ≡ count b q → lo < b → IsNth p (k / s) hi → IsNth q (k % s) lo

@@ -63,9 +63,7 @@ repeats_often f a on (suc j) n l = ap f (let same : n + suc j * a ≡ n + j * a 
     ∙ repeats_often f a on j n l
 
 pub step_repeats : (i d first p : ℕ) → first ≤ p → is_stepped first i (p + i * d) ≡ is_stepped first i p
-step_repeats i d first p l =
-    let rest : p + i * d - first ≡ p - first + d * i = omega (arith, l, mul_comm i d) in
-    rw (rest, add-mul-mod_self_right (p - first) d i) (grind (arith, nat_tests))
+step_repeats i d first p l = grind (arith, nat_tests, add-mul-mod_self_right (p - first) d i, mul_comm i d)
 
 pub round_is : {q : EffectiveRule} {seconds unit : ℕ} → unit ≡ seconds_of q.frequency → 0 < unit → seconds % unit ≡ 0 → 1 ≤ seconds → 1 ≤ q.interval
     → ((n : ℕ) → (lets_date q (day_of (n + seconds)) && lets_clock q (n + seconds)) ≡ (lets_date q (day_of n) && lets_clock q n))

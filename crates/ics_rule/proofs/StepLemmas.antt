@@ -1,6 +1,5 @@
 -- Steps by the interval.
-use Rattle.std.proofs.Common.{◌≡◌, ℕ, ◌+◌, ◌-◌, ◌*◌, ◌/◌, ◌%◌, ◌<◌, ◌≤◌, true, false, ap, arith}
-use Rattle.std.proofs.lemmas.Bool.{false_from_ne_true}
+use Rattle.std.proofs.Common.{◌≡◌, ℕ, ◌+◌, ◌-◌, ◌*◌, ◌/◌, ◌%◌, ◌<◌, ◌≤◌, true, false, arith}
 use Rattle.std.proofs.lemmas.Bool.Decides.{nat_tests}
 use Rattle.std.proofs.lemmas.Nat.{div-mul-add, mod-mul-add, div-add-mod', le-div}
 use Rattle.std.proofs.Math.Nat.{mul-le-mul_right, mod-lt}
@@ -34,8 +33,5 @@ module _ (i : ℕ) (some : 1 ≤ i) where
   step_on first p h = grind (arith, nat_tests, div-add-mod', mod-mul-add, stepped_parts, stepped_shown)
 
   pub none_between : (first p m : ℕ) → is_stepped first i p ≡ true → p < m → m < p + i → is_stepped first i m ≡ false
-  none_between first p m h l u = false_from_ne_true (is_stepped first i m) (λ yes.
-      let a = stepped_parts first i p h in
-      let b = stepped_parts first i m yes in
-      let same : m - first ≡ (p - first) / i * i + (m - p) = (let whole = div-add-mod' (p - first) i in omega (arith, a.0, a.1, whole, l)) in
-      omega (arith, l, b.1, ap (λ x. x % i) same, mod-mul-add ((p - first) / i) i (m - p) (omega (arith, u))))
+  none_between first p m h l u =
+      grind (arith, nat_tests, div-add-mod', mod-mul-add ((p - first) / i) i (m - p), stepped_parts)

@@ -1,10 +1,10 @@
 -- What the parts of an effective rule let in, by those of the rule and by what DTSTART gives.
-use Rattle.std.proofs.Common.{◌≡◌, ℕ, suc, ◌+◌, ◌-◌, ◌*◌, ◌/◌, ◌%◌, Bool, true, false, ◌&&◌, ◌||◌, ◌==◌, if◌then◌else◌, refl, sym}
+use Rattle.std.proofs.Common.{◌≡◌, ℕ, suc, ◌+◌, ◌*◌, ◌/◌, ◌%◌, Bool, true, false, ◌&&◌, ◌||◌, ◌==◌, if◌then◌else◌, refl, sym}
 use Rattle.std.proofs.Common.{ap, ◌∙◌, arith}
 use Rattle.std.proofs.lemmas.Bool.{and_right}
 use Rattle.std.proofs.lemmas.Bool.Decides.{nat_tests}
 use Rattle.std.proofs.lemmas.Nat.{pow_pos}
-use Rattle.std.proofs.lemmas.Nat.Bits.{bit_at-zero}
+use Rattle.ics_fields.proofs.SetLemmas.{has_none}
 use Rattle.ics_fields.specs.declared.frequency.Frequency.{Frequency}
 use Rattle.ics_fields.specs.declared.frequency.Frequency.TheVariants.{Weekly}
 use Rattle.ics_fields.specs.declared.ordinals.Ordinals.{Ordinals}
@@ -29,18 +29,13 @@ use Rattle.ics_rule.proofs.ScanLemmas.{contains-only}
 none_only : (s : ℕ) → is_empty (only s) ≡ false
 none_only s = grind (arith, nat_tests, pow_pos)
 
-has_none : (n : ℕ) → contains 0 n ≡ false
-has_none n = ap (λ x. x == 1) (bit_at-zero n)
-
 -- a set, places and weekdays, or DTSTART's own alone
 only_number : (t : Bool) (s own n : ℕ) → lets (if t then only own else s) n ≡ (if t then (n == own) else lets s n)
-only_number true s own n = ap (λ x. x || contains (only own) n) (none_only own) ∙ contains-only own n
-only_number false s own n = refl
+only_number t s own n = grind (arith, contains-only, none_only)
 
 only_day : (t : Bool) (p : Ordinals) (own n size : ℕ) →
     lets_place (if t then only_place own else p) n size ≡ (if t then (n == own) else lets_place p n size)
-only_day true p own n size = rw (none_only own, has_none (size + 1 - n), contains-only own n) (grind arith)
-only_day false p own n size = refl
+only_day t p own n size = grind (arith, contains-only, has_none, none_only)
 
 no_number : (n : ℕ) → numbers_of no_weekdays n ≡ no_ordinals
 no_number (suc (suc (suc (suc (suc (suc (suc n))))))) = refl
@@ -50,8 +45,7 @@ only_this_weekday : (t : Bool) (ws : Weekdays) (own n : ℕ) (test : Ordinals �
     → (lists_no_weekday (if t then only_weekday own else ws) || contains (if t then only_weekday own else ws).plain n
     || test (numbers_of (if t then only_weekday own else ws) n))
     ≡ (if t then (n == own) else (lists_no_weekday ws || contains ws.plain n || test (numbers_of ws n)))
-only_this_weekday true ws own n test h = rw (none_only own, no_number n, h, contains-only own n) (grind arith)
-only_this_weekday false ws own n test h = refl
+only_this_weekday t ws own n test h = grind (arith, contains-only, no_number, none_only)
 
 -- a part that is absent takes DTSTART's own, or all
 pub by_absence : (absent from x own : Bool) {t y : Bool} → t ≡ (from && absent) → (absent ≡ false → x ≡ y)

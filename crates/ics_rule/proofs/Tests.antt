@@ -1,27 +1,18 @@
 -- Facts about tests and orders that several proofs cite.
-use Rattle.std.proofs.Common.{◌≡◌, ℕ, ◌*◌, ◌==◌, ◌<◌, ◌≤◌, ◌⊎◌, Bool, true, false, not, ◌&&◌, arith}
+use Rattle.std.proofs.Common.{◌≡◌, ℕ, ◌*◌, ◌==◌, ◌<◌, ◌≤◌, ◌⊎◌, Bool, true, false, ◌&&◌, arith}
 use Rattle.std.proofs.lemmas.Bool.Decides.{nat_tests}
 
 pub keep_true : (b : Bool) → (b && true) ≡ b
 keep_true b = grind arith
 
-pub not_false : (b : Bool) → not b ≡ false → b ≡ true
-not_false b h = grind arith
-
-pub zero_of : (s : ℕ) → (s == 0) ≡ true → s ≡ 0
-zero_of s h = grind (arith, nat_tests)
-
 pub positive : (a b : ℕ) → 1 ≤ a → 1 ≤ b → 1 ≤ a * b
 positive a b h l = grind (arith, nat_tests)
 
-pub three : (a b : ℕ) → (a < b) ⊎ ((a ≡ b) ⊎ (b < a))
-three a b = grind arith
+pub by_order : (a b : ℕ) → ((a < b) ⊎ (b < a)) ⊎ (a ≡ b)
+by_order a b = grind arith
 
 pub unequal : (a b : ℕ) → (a < b) ⊎ (b < a) → (a == b) ≡ false
 unequal a b h = grind (arith, nat_tests)
-
-pub self_test : (a : ℕ) → (a == a) ≡ true
-self_test a = grind (arith, nat_tests)
 
 pub iff : (a b : Bool) → (a ≡ true → b ≡ true) → (b ≡ true → a ≡ true) → a ≡ b
 iff a b p q = grind arith

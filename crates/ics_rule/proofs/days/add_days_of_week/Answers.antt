@@ -1,6 +1,6 @@
 use Rattle.std.proofs.Common.{inl, inr, ◌≡◌, ◌∙◌, ◌+◌, ◌&&◌, not, nat_lt, ap, sym, arith}
 use Rattle.std.proofs.lemmas.Bool.Decides.{nat_tests}
-use Rattle.std.proofs.lemmas.Bool.{or_parts}
+use Rattle.std.proofs.lemmas.Bool.{or_parts, not-false}
 use Rattle.ics_fields.specs.Sets.{contains_wide}
 use Rattle.ics_rule.specs.Candidates.{lets_date}
 use Rattle.ics_rule.proofs.DateLemmas.{day_of_week}
@@ -8,7 +8,6 @@ use Rattle.ics_rule.proofs.RunLemmas.{tested}
 use Rattle.ics_rule.proofs.ScanLemmas.{none_has}
 use Rattle.ics_rule.proofs.days.add_days_of_week.Goals as goal
 use Rattle.ics_rule.proofs.days.add_days_of_week.Goals.{then-contains, else-contains}
-use Rattle.ics_rule.proofs.Tests.{not_false}
 
 pub loop-k-init : goal.loop-k-init
 loop-k-init c = grind (arith, nat_tests, none_has)
@@ -18,7 +17,7 @@ loop-k-preserved c = λ m.
     let named = or_parts c.is_empty.result (not c.names_weekdays_alone.result) c.if-is_empty-names_weekdays_alone.false in
     let test = day_of_week {q = c.args.parts.now} record {
       weekly = c.requires.frequency;
-      alone = sym c.names_weekdays_alone.ensures ∙ not_false c.names_weekdays_alone.result named.1;
+      alone = sym c.names_weekdays_alone.ensures ∙ not-false c.names_weekdays_alone.result named.1;
       some = sym c.is_empty.ensures ∙ named.0;
       named = c.named-named.ensures;
     } (c.args.first + c.loop-k.k) c.weekday_at.ensures.value c.weekday_at.ensures.small c.contains.ensures in

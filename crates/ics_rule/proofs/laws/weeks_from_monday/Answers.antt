@@ -25,10 +25,10 @@ start_is y h = grind (arith, day_count-fourth, day_count_is, iso_year_start-day_
 
 -- what a rule says of the week of day e, and of the day
 record IsWeek (y n all w e : ℕ) : Type 0 where
-  pub year : year_of (fourth_day 0 e) ≡ y
-  pub number : week_number (fourth_day 0 e) ≡ n
-  pub weeks : weeks_of_year (fourth_day 0 e) ≡ all
-  pub weekday : weekday_of e ≡ w
+  pub year : y ≡ year_of (fourth_day 0 e)
+  pub number : n ≡ week_number (fourth_day 0 e)
+  pub weeks : all ≡ weeks_of_year (fourth_day 0 e)
+  pub weekday : w ≡ weekday_of e
 
 -- the Thursday f of week n in a year from a up to b, which begins on Monday s, and the next one on t
 record IsThursday (a b s t n f : ℕ) : Type 0 where
@@ -38,7 +38,7 @@ record IsThursday (a b s t n f : ℕ) : Type 0 where
   pub weeks : s + 7 * ((b - a - 1 - (f - a) % 7) / 7 + 1) ≡ t
 
 by_fourth : {y n all w s t : ℕ} (e f : ℕ) → fourth_day 0 e ≡ f → IsThursday (days_before_year y) (days_before_year (suc y)) s t n f → s + 7 * all ≡ t
-    → weekday_of e ≡ w → IsWeek y n all w e
+    → w ≡ weekday_of e → IsWeek y n all w e
 by_fourth {y = y} e f fourth own end weekday =
     let year = ap year_of fourth ∙ year_of_is f y own.low own.high in
     let day = year_day_is (fourth_day 0 e) in
@@ -46,7 +46,7 @@ by_fourth {y = y} e f fourth own end weekday =
     let size = ap (λ y. days_in_year (pos y)) year in
     let length = days_before_year-next y in
     record {
-      year = year;
+      year = sym year;
       number = omega (arith, fourth, day, before, own.place);
       weeks = omega (arith, fourth, day, before, size, length, own.weeks, end);
       weekday = weekday;
@@ -118,23 +118,11 @@ no_earlier k e range within week day =
     omega (arith, signed_arith, near.0, first, later, long.1, zero_day, ap up weeks.0, ap down weeks.0, ap up day, ap down day)
 
 -- ISO 8601 says the same of a day as a rule whose weeks start on Monday; of the first two days of 0000 a cycle earlier
-pub record IsIsoWeek (d : ISOWeekDate) (e : ℕ) : Type 0 where
-  pub year : 2 ≤ e → d.year ≡ pos (year_of (fourth_day 0 e))
-  pub cycle : e < 2 → d.year +ℤ pos 400 ≡ pos (year_of (fourth_day 0 e))
-  pub number : d.week ≡ week_number (fourth_day 0 e)
-  pub weeks : weeks_in_year d.year ≡ weeks_of_year (fourth_day 0 e)
-  pub weekday : monday_zero d.weekday ≡ weekday_of e
-
--- the week of a day in a year, with that year as ISO 8601 has it
-of_week : {d : ISOWeekDate} {e y : ℕ} {x : ℤ} → IsWeek y d.week (weeks_in_year x) (monday_zero d.weekday) e → d.year ≡ x
-    → (2 ≤ e → x ≡ pos (year_of (fourth_day 0 e))) → (e < 2 → x +ℤ pos 400 ≡ pos (year_of (fourth_day 0 e))) → IsIsoWeek d e
-of_week week is year cycle = record {
-  year = rw is year;
-  cycle = rw is cycle;
-  number = sym week.number;
-  weeks = ap weeks_in_year is ∙ sym week.weeks;
-  weekday = sym week.weekday;
-}
+record IsIsoWeek (d : ISOWeekDate) (e : ℕ) : Type 0 where
+  pub rule_year : ℕ
+  pub week : IsWeek rule_year d.week (weeks_in_year d.year) (monday_zero d.weekday) e
+  pub year : 2 ≤ e → d.year ≡ pos rule_year
+  pub cycle : e < 2 → d.year +ℤ pos 400 ≡ pos rule_year
 
 iso_week : (d : ISOWeekDate) (e : ℕ) → IsDay d e → IsIsoWeek d e
 unfolding days_from_iso
@@ -145,10 +133,10 @@ iso_week d e day = by_year d.year refl
         let range = rw is at d.year_in in
         let r = later_week y e (omega (arith, signed_arith, range)) (rw is at d.week_in) (week_small d.weekday)
         (rw is at day) in
-        of_week r.1 is (λ late. ap pos (sym r.1.year)) (λ early. absurd (omega (arith, r.0, early)))
+        record { rule_year = y; week = rw is r.1; year = λ late. is; cycle = λ early. absurd (omega (arith, r.0, early)) }
     by_year (negsuc zero) is =
         let r = early_week e d.week_in.0 (rw is at d.week_in.1) (week_small d.weekday) (rw is at day) in
-        of_week r.1 is (λ late. absurd (omega (arith, r.0, late))) (λ early. ap pos (sym r.1.year))
+        record { rule_year = 399; week = rw is r.1; year = λ late. absurd (omega (arith, r.0, late)); cycle = λ early. rw is refl }
     by_year (negsuc (suc k)) is =
         let range = rw is at d.year_in in
         absurd (no_earlier k e (omega (arith, signed_arith, range)) (rw is at d.week_in) (week_small d.weekday)
@@ -156,9 +144,9 @@ iso_week d e day = by_year d.year refl
 
 pub returns : goal.returns
 returns c = record {
-  year = λ d e day. (iso_week d e day).year;
-  cycle = λ d e day. (iso_week d e day).cycle;
-  number = λ d e day. (iso_week d e day).number;
-  weeks = λ d e day. (iso_week d e day).weeks;
-  weekday = λ d e day. (iso_week d e day).weekday;
+  year = λ d e day late. let is = iso_week d e day in is.year late ∙ ap pos is.week.year;
+  cycle = λ d e day early. let is = iso_week d e day in is.cycle early ∙ ap pos is.week.year;
+  number = λ d e day. (iso_week d e day).week.number;
+  weeks = λ d e day. (iso_week d e day).week.weeks;
+  weekday = λ d e day. (iso_week d e day).week.weekday;
 }

@@ -1,7 +1,8 @@
 -- A rule whose DTSTART fits is its plain reading.
-use Rattle.std.proofs.Common.{◌≡◌, ℕ, ◌<◌, ◌≤◌, ◌⊎◌, Bool, true, false, ◌&&◌, ◌||◌, ◌==◌, nat_lt, Option, Some, None, MatchOption, pos, refl, sym, ap, ◌∙◌}
+use Rattle.std.proofs.Common.{◌≡◌, ℕ, ◌<◌, ◌≤◌, Bool, true, false, ◌&&◌, ◌||◌, ◌==◌, nat_lt, Option, Some, None, MatchOption, pos, refl, sym, ap, ◌∙◌}
 use Rattle.std.proofs.Common.{arith, inl, inr}
-use Rattle.std.proofs.lemmas.Bool.{and_parts, le-leb, lt-leb, lt-ltb, le-ltb}
+use Rattle.std.proofs.lemmas.Bool.{and_parts, le-leb, lt-leb, lt-ltb, le-ltb, eq-eqb}
+use Rattle.std.proofs.lemmas.Bool.Decides.{nat_tests}
 use Rattle.std.proofs.lemmas.Nat.Bits.{bit_at-zero}
 use Rattle.jiff_core.specs.Calendar.{days_in_month, days_in_year}
 use Rattle.jiff_core.specs.Weekday.{monday_zero}
@@ -27,7 +28,7 @@ use Rattle.ics_rule.proofs.PeriodLemmas.{week_small, period_mono}
 use Rattle.ics_rule.proofs.ChosenLemmas.{beside_let_in, chosen_by}
 use Rattle.ics_rule.proofs.TableSteps.{by_absence, months_let_in, month_days_let_in, weekdays_let_in, clock_let_in}
 use Rattle.ics_rule.proofs.NthLemmas.{month_days_listed, year_days_listed, month_weekday_listed, year_weekday_listed, weeks_listed}
-use Rattle.ics_rule.proofs.Tests.{zero_of, self_test, and_assoc, unequal}
+use Rattle.ics_rule.proofs.Tests.{by_order, and_assoc, unequal}
 use Rattle.ics_rule.proofs.plain.plain_reading.Goals as goal
 
 weekday_taken : (f : Frequency) (r : Recurrence) → (f ≡ Weekly → is_absent r ByDay ≡ true → is_dayless r ≡ true)
@@ -42,14 +43,11 @@ left_open f r same = grind arith
 
 -- the numbers of a weekday, by counting in their unit
 place_none : (p : Ordinals) (test : ℕ → Bool) (e : ℕ) → lists_none p ≡ true → is_place p test e ≡ false
-place_none p test e h = grind (arith, and_parts, bit_at-zero, zero_of)
+place_none p test e h = grind (arith, nat_tests, and_parts, bit_at-zero)
 
 numbered : (f : Frequency) (r : Recurrence) (p : Ordinals) (n : ℕ) → day_of n < 4_000_000 → (weekday_unit r f ≡ Weekly → lists_none p ≡ true)
     → lists_nth_in (weekday_unit r f) p (instance_of r.parts n) ≡ is_place p (with_weekday (weekday_period r f) (day_of n)) (day_of n)
 numbered f r p n small none = grind (arith, month_weekday_listed, year_weekday_listed, place_none)
-
-by_order : (a b : ℕ) → ((a < b) ⊎ (b < a)) ⊎ (a ≡ b)
-by_order a b = grind arith
 
 module _ (r : Recurrence) (plain : HasPlainReading r) where
   abbrev start : ℕ
@@ -112,7 +110,7 @@ module _ (r : Recurrence) (plain : HasPlainReading r) where
   unfolding effective
   chosen n low small =
       chosen_by (effective r) start n (in_turn n) (all_apply r n) (occurs_in r (period_at r n)) (candidate n small)
-      (ap (λ x. x && all_apply r n) (self_test (period_at r n)))
+      (ap (λ x. x && all_apply r n) (eq-eqb (period_at r n) (period_at r n) refl))
       (λ step m l. beside_let_in (effective r) start n m step refl
       ∙ ap (λ x. period_at r m == period_at r n && x) (parts_apply m (omega (arith, l, small))))
       ∙ ap (λ x. x && (all_apply r n && position_applies r n)) (turns n low)
@@ -124,7 +122,7 @@ module _ (r : Recurrence) (plain : HasPlainReading r) where
     | inl (inl earlier) ↦ rw (unequal n start (inl earlier), le-ltb start n (omega (arith, earlier)), lt-leb start n earlier) refl
     | inl (inr later) ↦ rw (unequal n start (inr later), lt-ltb start n later, le-leb start n (omega (arith, later)))
         (chosen n (omega (arith, later)) (omega (arith, small)))
-    | inr same ↦ rw (same, self_test start) (sym plain.fits)
+    | inr same ↦ rw (same, eq-eqb start start refl) (sym plain.fits)
   ]
 
   counted : (o : Option ℕ) (n : ℕ) → n < rules_end → is_counted r o n ≡ is_few_members r o n
@@ -146,7 +144,7 @@ module _ (r : Recurrence) (plain : HasPlainReading r) where
   unfolding is_kept
   plainly_kept n h = elim (by_order n start) [
     | inl other ↦ rw (unequal n start other, lt-ltb n rules_end h, member n h, counted r.parts.count n h) refl
-    | inr same ↦ rw (same, self_test start) (sym start_kept)
+    | inr same ↦ rw (same, eq-eqb start start refl) (sym start_kept)
   ]
 
 pub returns : goal.returns

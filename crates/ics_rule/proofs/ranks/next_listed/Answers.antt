@@ -1,4 +1,4 @@
-use Rattle.std.proofs.Common.{◌≡◌, ℕ, ◌+◌, ◌-◌, false, ◌||◌, ◌∙◌, ap, arith}
+use Rattle.std.proofs.Common.{◌≡◌, ℕ, ◌+◌, ◌-◌, false, arith}
 use Rattle.std.proofs.lemmas.Bool.{cases_lt, or_left, or_right}
 use Rattle.ics_fields.specs.declared.ordinals.WideOrdinals.{WideOrdinals}
 use Rattle.ics_fields.specs.Sets.{contains_wide}
@@ -9,9 +9,7 @@ use Rattle.ics_rule.proofs.ranks.next_listed.Goals as goal
 -- a place is listed as little as its number from the start and that from the end
 unlisted : (positions : WideOrdinals) (size j : ℕ) → contains_wide positions.front (j + 1) ≡ false → contains_wide positions.back (size - j) ≡ false →
     is_listed positions size j ≡ false
-unlisted positions size j front back =
-    let same : size + 1 - (j + 1) ≡ size - j = omega arith in
-    ap (λ x. x || contains_wide positions.back (size + 1 - (j + 1))) front ∙ ap (contains_wide positions.back) same ∙ back
+unlisted positions size j front back = grind arith
 
 pub loop-k-init : goal.loop-k-init
 loop-k-init c = λ j low early before.

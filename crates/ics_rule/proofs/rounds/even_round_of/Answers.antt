@@ -1,14 +1,8 @@
-use Rattle.std.proofs.Common.{◌≡◌, ℕ, Option, Some, None, MatchOption, arith}
-use Rattle.ics_rule.specs.declared.effective_rule.EffectiveRule.{EffectiveRule}
-use Rattle.ics_rule.specs.Rounds.{seconds_of, IsRound, IsEvenRound}
-use Rattle.ics_rule.proofs.EvenLemmas.{even_of_round, even_months, even_years}
+use Rattle.std.proofs.Common.{◌≡◌, arith}
+use Rattle.ics_rule.specs.Rounds.{seconds_of}
+use Rattle.ics_rule.proofs.EvenLemmas.{even_of_rounds, even_months, even_years}
 use Rattle.ics_rule.proofs.rounds.even_round_of.Goals as goal
 use Rattle.ics_rule.proofs.rounds.even_round_of.Goals.{in-Yearly, in_default}
-
-by_round : (q : EffectiveRule) (o : Option ℕ) → MatchOption o (Unit {0}) (λ k. (s : ℕ) × IsRound q k s) →
-    MatchOption o (Unit {0}) (λ k. (start : ℕ) → IsEvenRound q start k)
-by_round q None t = tt
-by_round q (Some k) t = λ start. even_of_round q start k t.0 t.1
 
 pub returns : goal.returns
 returns c = λ start.
@@ -21,4 +15,4 @@ returns c = λ start.
     ]
 
 pub returns-then-seconds_of-gt0 : goal.returns-then-seconds_of-gt0
-returns-then-seconds_of-gt0 c = by_round c.args.parts.now c.round_of.result c.round_of.ensures
+returns-then-seconds_of-gt0 c = even_of_rounds c.args.parts.now c.round_of.result (λ k t. t) c.round_of.ensures
