@@ -55,19 +55,18 @@ module _ (q : EffectiveRule) where
   size_secondly = sym (count-same 1 (lets_within Secondly q) (λ k. true) (λ k l. refl) ∙ count_every 1)
 
   pub size_minutely : count 60 (lets_within Minutely q) ≡ count 60 (lets q.seconds)
-  size_minutely = count-same 60 (lets_within Minutely q) (lets q.seconds) (λ k l. ap (lets q.seconds) (let same : k % 60 ≡ k = omega (arith, l) in same))
+  size_minutely = count-same 60 (lets_within Minutely q) (lets q.seconds) (λ k l. grind arith)
 
   pub size_hourly : count 3_600 (lets_within Hourly q) ≡ count 60 (lets q.minutes) * count 60 (lets q.seconds)
   size_hourly =
       count-same 3_600 (lets_within Hourly q) (λ k. lets q.minutes (k / 60) && lets q.seconds (k % 60))
-      (λ k l. ap (λ x. lets q.minutes x && lets q.seconds (k % 60)) (let same : k / 60 % 60 ≡ k / 60 = omega (arith, l) in same))
+      (λ k l. grind arith)
       ∙ count-product 60 60 (lets q.minutes) (lets q.seconds)
 
   pub size_daily : count 86_400 (lets_within Daily q) ≡ count 24 (lets q.hours) * count 60 (lets q.minutes) * count 60 (lets q.seconds)
   size_daily =
       count-same 86_400 (lets_within Daily q) (λ k. (lets q.hours (k / 60 / 60) && lets q.minutes (k / 60 % 60)) && lets q.seconds (k % 60))
-      (λ k l. ap (λ x. (lets q.hours x && lets q.minutes (k / 60 % 60)) && lets q.seconds (k % 60))
-      (let same : k / 3_600 % 24 ≡ k / 60 / 60 = omega (arith, l) in same))
+      (λ k l. grind arith)
       ∙ count-product 1_440 60 (λ m. lets q.hours (m / 60) && lets q.minutes (m % 60)) (lets q.seconds)
       ∙ ap (λ x. x * count 60 (lets q.seconds)) (count-product 24 60 (lets q.hours) (lets q.minutes))
 

@@ -82,10 +82,7 @@ module _ (q : EffectiveRule) (flat : IsFlat q) where
 
   months_are : (y m : ℕ) → y ≤ 9_999 → m ≤ 12 → allowed_before q (month_local (12 * y + m)) ≡ allowed_before q (month_local (12 * y)) + months_add m
   months_are y zero year h = let same : 12 * y + 0 ≡ 12 * y = omega arith in rw same (omega arith)
-  months_are y (suc m) year h =
-      let next : 12 * y + suc m ≡ suc (12 * y + m) = omega arith in
-      let own : (12 * y + m) % 12 ≡ m = omega (arith, h) in
-      rw (next, month_is (12 * y + m) (omega (arith, year, h)), months_are y m year (omega (arith, h)), own) (omega arith)
+  months_are y (suc m) year h = grind (arith, month_is (12 * y + m), months_are y m)
 
   year_local : (y : ℕ) → month_local (12 * y) ≡ days_before_year y * 86_400
   year_local y = let none = days_of_months-zero (pos y) in grind arith

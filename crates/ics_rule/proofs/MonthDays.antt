@@ -194,6 +194,5 @@ span_month p first len w span weekday = grind (arith, nat_tests)
 pub period_span : (f : Frequency) (w p : ℕ) {b e : ℕ} → IsPeriodFrom f w p b e → IsSpan f p (b / 86_400) ((e + 86_399) / 86_400 - b / 86_400)
 period_span Yearly w p is = grind (arith, days_before_year-next p, days_before_year_low p)
 period_span Monthly w zero is = absurd (let some = month_positive (0 / 86_400) in omega (arith, some, is.some))
-period_span Monthly w (suc p) is =
-    let back : suc p - 1 ≡ p = omega arith in rw back (grind (arith, days_before_year_low (p / 12), month_size p))
+period_span Monthly w (suc p) is = grind (arith, days_before_year_low (p / 12), month_size p)
 period_span f w p is = tt

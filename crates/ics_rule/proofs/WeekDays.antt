@@ -1,6 +1,6 @@
 -- The days of a year that may lie in a listed week.
 use Rattle.std.proofs.Common.{◌≡◌, ℕ, ◌+◌, ◌-◌, ◌*◌, ◌/◌, ◌%◌, ◌<◌, ◌≤◌, ◌⊎◌, inl, inr, Bool, true, false, ◌==◌, ◌||◌, ◌&&◌, nat_lt, nat_le, max, min, List}
-use Rattle.std.proofs.Common.{pos, subst, ap, arith}
+use Rattle.std.proofs.Common.{pos, subst, arith}
 use Rattle.std.proofs.lemmas.Bool.{cases_lt}
 use Rattle.std.proofs.lemmas.Bool.Decides.{nat_tests}
 use Rattle.jiff_core.specs.Calendar.{days_in_year}
@@ -9,7 +9,7 @@ use Rattle.jiff_core.proofs.CalendarLemmas.{days_in_year_bounds}
 use Rattle.ics_fields.specs.declared.ordinals.Ordinals.{Ordinals}
 use Rattle.ics_fields.specs.Sets.{contains_wide, IsLeastFrom}
 use Rattle.ics_fields.specs.Ordinals.{lists_none}
-use Rattle.ics_fields.specs.Days.{days_before_year, year_of, year_day_of, weekday_of}
+use Rattle.ics_fields.specs.Days.{days_before_year, year_of, weekday_of}
 use Rattle.ics_fields.proofs.DayLemmas.{days_before_year-next, year_of_is}
 use Rattle.ics_rule.specs.declared.effective_rule.EffectiveRule.{EffectiveRule}
 use Rattle.ics_rule.specs.PeriodNumbers.{week_of}
@@ -42,11 +42,7 @@ IsFound weeks fourth len k = (k < 3) ⊎ ((len ≤ k + 3) ⊎ ((n : ℕ) × IsNe
 module _ (q : EffectiveRule) (some : lists_none q.weeks ≡ false) where
   listed_week : {f y : ℕ} (j : ℕ) → year_of f ≡ y → f ≡ days_before_year y + j → j < days_in_year (pos y)
       → lets_place q.weeks (week_number f) (weeks_of_year f) ≡ true → may_list_week q.weeks (j / 7 + 1) ≡ true
-  listed_week {f = f} {y = y} j year place inside h =
-      let day : year_day_of f - 1 ≡ j = (let d = year_day_is f in let same = ap days_before_year year in omega (arith, d, same, place)) in
-      let own = rw (day, year) at h in
-      let weeks = cases_lt ((days_in_year (pos y) - 1 - j % 7) / 7 + 1) 53 in
-      grind (arith, days_in_year_bounds (pos y))
+  listed_week {f = f} {y = y} j year place inside h = grind (arith, days_in_year_bounds (pos y), year_day_is f)
 
 -- a year of so many days from a first, of a rule with BYWEEKNO; the fourth day of the first whole week comes `fourth` days after the year's first
 pub record IsYearOfWeeks (q : EffectiveRule) (first len fourth : ℕ) : Type 0 where
