@@ -5,7 +5,7 @@ use Rattle.std.specs.Int.{int_min}
 use Rattle.std.proofs.lemmas.Int.{ints, clamps}
 use Rattle.std.proofs.lemmas.List.{get_or_default}
 use Rattle.ics_zone.specs.Moments.{shown, IsFirstTime}
-use Rattle.ics_zone.proofs.Cases.{below_or_at, less_or_not_z, not_both}
+use Rattle.ics_zone.proofs.Cases.{below_or_at, less_or_not_z}
 
 -- t shows the local, and is not later than those of the local less the first offsets that show it
 pub record IsLeastOf (offset : ℤ → ℤ) (local : ℤ) (offsets : List ℤ) (count : ℕ) (t : ℤ) : Type 0 where
@@ -30,7 +30,7 @@ module _ (offset : ℤ → ℤ) (local : ℤ) (offsets : List ℤ) (k : ℕ) (e 
   -- the instant of this offset need not be asked for where it is not earlier
   pub first_early : {r : Bool} (found : Option ℤ) → IsFirstOf offset local offsets k found → (m : ℤ) → m ≡ local -ℤ o
       → MatchOption found (r ≡ false) (λ f. r ≡ true → f ≤ℤ m) → r ≡ true → IsFirstOf offset local offsets (k + 1) found
-  first_early found h m l g f = grind (arith, ints, below_or_at, here, not_both)
+  first_early found h m l g f = grind (arith, ints, below_or_at, here)
 
   pub first_moves : {t : ℤ} (found : Option ℤ) (m : ℤ) → IsFirstOf offset local offsets k found → t ≡ local -ℤ o → offset t ≡ o
       → MatchOption found (m ≡ t) (λ f. m ≡ int_min f t) → IsLeastOf offset local offsets (k + 1) m

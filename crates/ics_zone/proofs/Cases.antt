@@ -1,5 +1,5 @@
 -- Case distinctions of orders and of tests.
-use Rattle.std.proofs.Common.{◌≡◌, ℕ, ◌<◌, ◌≤◌, ◌⊎◌, Bool, true, false, arith, ℤ, ◌<ℤ◌, ◌≤ℤ◌, int_lt, int_le}
+use Rattle.std.proofs.Common.{◌≡◌, ℕ, ◌<◌, ◌≤◌, ◌⊎◌, true, false, arith, ℤ, ◌<ℤ◌, ◌≤ℤ◌, int_lt, int_le}
 use Rattle.std.proofs.lemmas.Int.{ints}
 use Rattle.std.proofs.lemmas.Bool.Decides.{nat_tests}
 
@@ -26,6 +26,3 @@ int_le_false a b h = grind (arith, ints)
 
 pub true_int_le : (a b : ℤ) → a ≤ℤ b → int_le a b ≡ true
 true_int_le a b h = grind (arith, ints)
-
-pub not_both : (a : Bool) → a ≡ true → a ≡ false → ⊥
-not_both a e f = cc

@@ -1,5 +1,5 @@
 -- The last of a set of instants, and the next.
-use Rattle.std.proofs.Common.{◌≡◌, ℕ, ◌<◌, ◌-◌, ◌⊎◌, inl, inr, sym, arith, List, length, get_or, Contains, Option, Some, None, ℤ, ◌<ℤ◌, ◌≤ℤ◌}
+use Rattle.std.proofs.Common.{◌≡◌, ℕ, ◌<◌, ◌-◌, ◌⊎◌, sym, arith, List, length, get_or, Contains, Option, ℤ, ◌<ℤ◌, ◌≤ℤ◌}
 use Rattle.std.proofs.lemmas.Bool.{cases_lt}
 use Rattle.std.specs.Int.{int_max}
 use Rattle.std.proofs.lemmas.Int.{ints}
@@ -41,5 +41,4 @@ module _ (s : Onsets) {t : ℤ} where
   first_after x late none = grind (arith, ints)
 
 pub last_of_second : {t : ℤ} (a b : ℤ → Type 0) (second : Option ℤ) → ((u : ℤ) → a u → t <ℤ u) → IsLastOf b t second → IsLastOf (λ v. a v ⊎ b v) t second
-last_of_second a b (Some s) none x = grind (arith, ints)
-last_of_second a b None none x = λ u h. elim h [ inl p ↦ none u p | inr p ↦ x u p ]
+last_of_second a b second none x = grind (arith, ints)

@@ -1,7 +1,7 @@
 -- The marks at the onsets of an hour.
-use Rattle.std.proofs.Common.{◌≡◌, ℕ, ◌+◌, ◌<◌, ◌≤◌, ◌⊎◌, ◌*◌, ◌/◌, ◌%◌, ◌==◌, ◌&&◌, ◌||◌, inl, inr, Bool, true, false, arith}
+use Rattle.std.proofs.Common.{◌≡◌, ℕ, ◌+◌, ◌<◌, ◌≤◌, ◌⊎◌, ◌*◌, ◌/◌, ◌==◌, ◌&&◌, ◌||◌, inl, inr, Bool, true, false, arith}
 use Rattle.std.proofs.Common.{List, length, get_or, set, replicate, bit_or, ℤ, pos, ◌+ℤ◌, ◌-ℤ◌, ◌<ℤ◌, ◌≤ℤ◌, int_lt}
-use Rattle.std.proofs.lemmas.Bool.{cases_lt, cases_eq, eqb-true, eq-eqb, or_cases, or_left, or_right, and_parts}
+use Rattle.std.proofs.lemmas.Bool.{cases_lt, cases_eq, eqb-true, eq-eqb, or_cases, or_left, or_right, and_parts, both_ways}
 use Rattle.std.proofs.lemmas.Int.{ints}
 use Rattle.std.proofs.lemmas.List.{get_or-replicate, get_or_past, length-replicate}
 use Rattle.ics_fields.specs.Sets.{contains}
@@ -11,8 +11,9 @@ use Rattle.ics_zone.specs.ZoneOffsets.{natural, IsOnset}
 use Rattle.ics_zone.specs.OnsetSets.{Has}
 use Rattle.ics_zone.specs.ZoneOnsets.{AreOnsetsOfAll}
 use Rattle.ics_zone.specs.Marks.{is_marked, IsMarked, IsAsked, AreMarks, AreClear}
-use Rattle.ics_zone.proofs.Cases.{less_or_not_z, not_both, int_lt_true}
-use Rattle.ics_zone.proofs.SixtyLemmas.{contains-none, contains-or}
+use Rattle.ics_zone.proofs.Cases.{less_or_not_z, int_lt_true}
+use Rattle.ics_zone.proofs.SixtyLemmas.{contains-or}
+use Rattle.ics_fields.proofs.SetLemmas.{has_none}
 use Rattle.ics_zone.proofs.MinuteLemmas.{IsFront, front_is, marked-set_same, marked-set_other}
 use Rattle.ics_zone.specs.Searches.{natural-is}
 use Rattle.ics_zone.proofs.ZoneSteps.{observance_here, onsets_here, onsets_at}
@@ -53,10 +54,7 @@ module _ {New : ℕ → Type 0} {low : ℤ} {onsets was : List ℕ} {minute size
     pub clear_minute : ((k : ℕ) → k < minute * 60 → IsMarked onsets k → IsMarked was k)
         → ((n : ℕ) → n < bound → contains (get_or onsets minute 0) n ≡ true → contains (get_or with_minute minute 0) n ≡ true)
         → (k : ℕ) → k < minute * 60 + bound → IsMarked onsets k → IsMarked with_minute k
-    clear_minute old first k early m = elim (cases_lt k (minute * 60)) [
-      | inl less ↦ stay_minute k (old k less m)
-      | inr more ↦ (let e : k / 60 ≡ minute = omega arith in rw e (first (k % 60) (omega arith) (rw e at m)))
-    ]
+    clear_minute old first k early m = grind (arith, cases_lt, stay_minute)
 
 -- an observance past a place has an onset at an instant, which shows no later local
 abbrev IsOver : List ObservanceSaid → ℕ → ℤ → ℤ → Type 0
@@ -103,8 +101,8 @@ module _ {zone : List ObservanceSaid} {list : List Onsets} {k : ℕ} {o : Onsets
 
 -- nothing is marked at first
 pub none_marked : (size k : ℕ) → is_marked (replicate size 0) k ≡ false
-none_marked size k = grind (arith, cases_lt, contains-none, get_or-replicate, get_or_past, length-replicate)
+none_marked size k = grind (arith, cases_lt, has_none, get_or-replicate, get_or_past, length-replicate)
 
 -- of the observances past the last nothing is said
 pub overrides_none : (zone : List ObservanceSaid) (place size : ℕ) (local from : ℤ) → AreOverrides zone place local from (replicate size 0)
-overrides_none zone place size local from k i h early = absurd (not_both (is_marked (replicate size 0) k) h (none_marked size k))
+overrides_none zone place size local from k i h early = absurd (both_ways (is_marked (replicate size 0) k) (none_marked size k) h)

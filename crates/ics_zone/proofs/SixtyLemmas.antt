@@ -11,9 +11,6 @@ use Rattle.ics_fields.specs.Sets.{contains}
 use Rattle.ics_fields.proofs.SetLemmas.{contains-or_bit, contains-front, has_above}
 use Rattle.ics_zone.proofs.Cases.{less_or_not_z, true_int_lt, false_int_lt}
 
-pub contains-none : (n : ℕ) → contains 0 n ≡ false
-contains-none n = ap (λ x. x == 1) (bit_at-zero n)
-
 bit_zero : (s n : ℕ) → contains s n ≡ false → bit_at s n ≡ 0
 bit_zero s n h = let low = bit_at-lt s n in grind (arith, nat_tests)
 

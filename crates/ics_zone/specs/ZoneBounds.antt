@@ -1,5 +1,5 @@
 -- A time zone changes an instant or a local by less than two days, and one of observances by a day or less.
-use Rattle.std.proofs.Common.{◌≡◌, zero, suc, inl, inr, Bool, true, false, Option, Some, None, slice_get, List, [], ◌∷◌, length, ℤ, pos, ◌-ℤ◌, arith, refl}
+use Rattle.std.proofs.Common.{◌≡◌, zero, suc, inl, inr, true, Option, Some, None, slice_get, List, [], ◌∷◌, length, ℤ, pos, ◌-ℤ◌, arith, refl}
 use Rattle.std.proofs.lemmas.Int.{ints}
 use Rattle.jiff_core.specs.Calendar.{IsWithin}
 use Rattle.ics_zone.specs.declared.observance.Observance.{Observance}
