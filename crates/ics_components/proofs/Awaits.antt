@@ -1,5 +1,5 @@
 -- The second round checks the zones of each event's stamps, and its end against its start.
-use Rattle.std.proofs.Common.{◌≡◌, ℕ, Bool, true, false, List, [], ◌∷◌, ◌++◌, map, refl, subst, cond, Option, Some, None, IfSome, IfOk, sym, rules}
+use Rattle.std.proofs.Common.{◌≡◌, ℕ, Bool, true, List, [], ◌∷◌, ◌++◌, map, refl, subst, cond, Option, Some, None, IfSome, IfOk, sym, rules, arith}
 use Rattle.std.specs.Prelude.{codes, get_or, option_map, ◌==◌}
 use Rattle.std.specs.Str.{bytes_eq}
 use Rattle.std.specs.List.{All, Contains}
@@ -53,13 +53,10 @@ use Rattle.ics_components.proofs.Firsts.{finds-none}
 
 -- the DTEND of an event that has ended
 end-given : (o : Option Dated) (d : Option Duration) → end_of (given_length o d) ≡ o
-end-given (Some e) d = refl
-end-given None (Some d) = refl
-end-given None None = refl
+end-given o d = grind arith
 
 is-event : (q : Context) → is_event_context q ≡ true → q ≡ context.Event
-is-event context.Event e = refl
-is-event _ e = cc
+is-event q e = grind arith
 
 -- Of what the second round checks this holds.
 module _ (P : DeferredCheck → Type 0) where
@@ -188,8 +185,7 @@ ends-sound k (Some a) (Some b) h i =
 ends-sound k _ _ h i = tt
 
 zone-sound : (used : Bool) (name : ZoneName) → IfSome (cond used (Some (check.Zone name)) None) IsSoundCheck
-zone-sound true name = tt
-zone-sound false name = tt
+zone-sound used name = cond_both used (Some (check.Zone name)) None (λ o. IfSome o IsSoundCheck) (λ e. tt) (λ e. tt)
 
 abbrev pub IsSoundLine : LineCheck → Type 0
 IsSoundLine late = IsSoundCheck late.check

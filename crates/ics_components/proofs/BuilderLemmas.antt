@@ -1,5 +1,5 @@
 -- A line changes what is collected of a component as the pass notes it.
-use Rattle.std.proofs.Common.{◌≡◌, ℕ, Bool, true, false, List, [], ◌∷◌, ◌++◌, map, refl, ap, ◌∙◌, cond, Option, Some, None, sym}
+use Rattle.std.proofs.Common.{◌≡◌, ℕ, Bool, true, false, List, [], ◌∷◌, ◌++◌, map, refl, ap, ◌∙◌, cond, Option, Some, None, sym, arith}
 use Rattle.std.specs.Prelude.{codes, option_map, flat_map, filter_map}
 use Rattle.std.specs.Str.{bytes_eq}
 use Rattle.std.proofs.lemmas.List.{append-nil, map-append}
@@ -126,11 +126,10 @@ observance_of-more ls l =
 -- THE OBSERVANCES of a time zone, with one line more.
 parts-more : (whole ls : List Placed) (l : Placed) → parts whole (ls ++ l ∷ []) ≡ parts whole ls ++ cond (begins_in_zone l) (own whole l ∷ []) []
 parts-more whole ls l =
-    simp (filter-append, map-append) (ap (λ os. parts whole ls ++ os) (by_test (begins_in_zone l)))
+    simp (filter-append, map-append) (ap (λ os. parts whole ls ++ os) (part (begins_in_zone l)))
   where
-    by_test : (t : Bool) → map (own whole) (cond t (l ∷ []) []) ≡ cond t (own whole l ∷ []) []
-    by_test true = refl
-    by_test false = refl
+    part : (t : Bool) → map (own whole) (cond t (l ∷ []) []) ≡ cond t (own whole l ∷ []) []
+    part t = grind arith
 
 pub parts-same : (whole ls : List Placed) (l : Placed) → is_begin l ≡ false → parts whole (ls ++ l ∷ []) ≡ parts whole ls
 parts-same whole ls l e = rw (parts-more whole ls l, e, and-false (in_zone l)) (append-nil (parts whole ls))
@@ -141,10 +140,7 @@ observance-is l e = rw e (sym (context-tests (context_of l.path) (component l)).
 
 -- what stands in another component changes nothing but observances
 pub still : (s : Builder) (q : Context) (g : Readings) → is_zone_context q ≡ false → joined s (builder_at q g) ≡ builder_at q g
-still (builder.Observance o) context.Zone g e = cc
-still (builder.Observance o) context.Event g e = refl
-still (builder.Observance o) _ g e = refl
-still _ q g e = refl
+still s q g e = grind arith
 
 -- WHAT IS COLLECTED of a component.
 module _ (whole : List Placed) (k : List Open) (ls : List Placed) where

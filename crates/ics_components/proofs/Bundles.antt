@@ -1,5 +1,5 @@
 -- A pass that keeps, for each open component, the lines directly in it has at each line those that stand beside it.
-use Rattle.std.proofs.Common.{◌≡◌, ◌≢◌, ℕ, ◌<◌, Bool, true, false, ◌&&◌, ◌||◌, ◌==◌, List, [], ◌∷◌, ◌++◌, drop, refl, sym, ap, ◌∙◌, arith, cond}
+use Rattle.std.proofs.Common.{◌≡◌, ◌≢◌, ℕ, ◌<◌, Bool, true, false, ◌&&◌, ◌||◌, ◌==◌, List, [], ◌∷◌, ◌++◌, refl, sym, ap, ◌∙◌, arith, cond}
 use Rattle.std.specs.Prelude.{if◌then◌else◌}
 use Rattle.std.specs.List.{All, list_any}
 use Rattle.std.proofs.lemmas.Bool.{eq-eqb, ne_eqb}
@@ -108,22 +108,8 @@ bundles_behind l bundles =
     else if is_end l then close bundles
     else add_line l bundles
 
-pub opens-added : (l : Placed) (bundles : List Bundle) → opens (add_line l bundles) ≡ opens bundles
-opens-added l [] = refl
-opens-added l (f ∷ fs) = refl
-
-opens-closed : (bundles : List Bundle) → opens (close bundles) ≡ drop 1 (opens bundles)
-opens-closed [] = refl
-opens-closed (f ∷ fs) = opens-added f.begin fs
-
 pub opens-behind : (l : Placed) (bundles : List Bundle) → opens bundles ≡ l.path → opens (bundles_behind l bundles) ≡ path_behind l
-opens-behind l bundles at = by_kind (is_begin l) (is_end l)
-  where
-    by_kind : (b e : Bool) → opens (cond b (record { begin = l; lines = [] } ∷ bundles) (cond e (close bundles) (add_line l bundles)))
-        ≡ cond b (record { name = component l; begun = l.number } ∷ l.path) (cond e (drop 1 l.path) l.path)
-    by_kind true e = ap (λ path. record { name = component l; begun = l.number } ∷ path) at
-    by_kind false true = opens-closed bundles ∙ ap (drop 1) at
-    by_kind false false = opens-added l bundles ∙ at
+opens-behind l bundles at = grind arith
 
 -- a line is added to the innermost bundle
 joined : (before : List Placed) (l : Placed) (bundles : List Bundle) → opens bundles ≡ l.path → Keeps before (l ∷ []) bundles →

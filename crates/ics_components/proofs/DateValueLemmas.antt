@@ -1,10 +1,10 @@
 -- The values of RDATE and EXDATE, as they are read.
-use Rattle.std.proofs.Common.{rules, ◌≡◌, ℕ, ◌+◌, Bool, true, false, ◌==◌, ◌&&◌, ◌||◌, not, List, [], ◌∷◌, length, take, drop, refl, sym, ap, ◌∙◌, cond, arith}
+use Rattle.std.proofs.Common.{rules, ◌≡◌, ℕ, ◌+◌, Bool, ◌==◌, ◌&&◌, ◌||◌, not, List, [], ◌∷◌, length, take, drop, refl, sym, ap, ◌∙◌, cond, arith}
 use Rattle.std.proofs.Common.{map, Option, Some, None, Result, Ok, Err, append_assoc, subst, Bor}
 use Rattle.std.specs.Prelude.{nat_lt, filter_map, ◌++◌, if◌then◌else◌}
 use Rattle.std.specs.List.{list_any, position, position_or_len}
 use Rattle.std.specs.Result.{result_ok, result_err}
-use Rattle.std.proofs.lemmas.Bool.{ne_eqb}
+use Rattle.std.proofs.lemmas.Bool.{ne_eqb, cond_both}
 use Rattle.std.proofs.lemmas.Bool.Decides.{nat_tests}
 use Rattle.std.proofs.lemmas.List.{append-nil, map-append}
 use Rattle.std.proofs.lemmas.List.Elements.{filter_map-append}
@@ -14,10 +14,8 @@ use Rattle.ics_values.specs.Stamps.{is_date_time_form, date_exists, time_exists,
 use Rattle.ics_values.specs.declared.stamp.Stamp.{Stamp}
 use Rattle.ics_values.specs.declared.stamp.StampFault.{StampFault}
 use Rattle.ics_values.specs.declared.stamp.StampFault.TheVariants as stamp
-use Rattle.ics_components.specs.DateValues.{DateValue, At, Between, Lasting, date_time_of, period_of, rdate_of, listed_in, has_bad_stamp}
+use Rattle.ics_components.specs.DateValues.{DateValue, At, date_time_of, period_of, rdate_of, listed_in, has_bad_stamp}
 use Rattle.ics_components.specs.DateValues.{has_far_stamp, has_bad_duration, has_large_duration, is_not_local}
-use Rattle.ics_values.specs.declared.duration.DurationFault.TheVariants as duration_fault
-use Rattle.ics_values.specs.declared.stamp.Stamp.TheVariants.{Floating}
 use Rattle.ics_fields.specs.declared.local.Local.{Local}
 use Rattle.ics_components.specs.declared.fault.FaultKind.{FaultKind}
 use Rattle.ics_components.specs.declared.fault.FaultKind.TheVariants.{BadStamp, BadDuration, YearRange, NumberTooLarge, ObservanceField}
@@ -31,18 +29,12 @@ date_time-is zoned text other =
   where
     by_form : (f d t : Bool) (r : Result Stamp StampFault) →
         cond (not (f && d && t)) (Err stamp.BadStamp) r ≡ cond f (cond (not (f && d && t)) (Err stamp.BadStamp) r) (Err stamp.BadStamp)
-    by_form true d t r = refl
-    by_form false d t r = refl
+    by_form f d t r = grind arith
 
 -- an element passes exactly where there is a first that does
 pub any-first : (p : ℕ → Bool) (xs : List ℕ) → list_any p xs ≡ nat_lt (position_or_len p xs) (length xs)
 any-first p [] = refl
-any-first p (x ∷ xs) = by_test (p x) (any-first p xs)
-  where
-    by_test : (t : Bool) → list_any p xs ≡ nat_lt (position_or_len p xs) (length xs) →
-        (t || list_any p xs) ≡ nat_lt (cond (not t) (1 + position_or_len p xs) 0) (length (x ∷ xs))
-    by_test true h = grind (arith, nat_tests)
-    by_test false h = grind (arith, nat_tests)
+any-first p (x ∷ xs) = let again = any-first p xs in grind (arith, nat_tests)
 
 abbrev is_slash : ℕ → Bool
 is_slash b = b == 47
@@ -53,12 +45,7 @@ rdate_at zoned text (Some i) = period_of zoned (take i text) (drop (i + 1) text)
 rdate_at zoned text None = At (stamp_of zoned text)
 
 pub rdate-is : (zoned : Bool) (text : List ℕ) {o : Option ℕ} → position (λ b. b == 47) text ≡ o → rdate_at zoned text o ≡ rdate_of zoned text
-rdate-is zoned text e =
-    ap (rdate_at zoned text) (sym e) ∙ by_test (nat_lt (position_or_len is_slash text) (length text)) (any-first is_slash text)
-  where
-    by_test : (t : Bool) → list_any is_slash text ≡ t → rdate_at zoned text (cond t (Some (position_or_len is_slash text)) None) ≡ rdate_of zoned text
-    by_test true h = rw h refl
-    by_test false h = rw h refl
+rdate-is zoned text e = let any = any-first is_slash text in grind arith
 
 -- THE LESSER OF TWO FAULTS, where each may not be there
 abbrev pub least : Option FaultKind → Option FaultKind → Option FaultKind
@@ -87,18 +74,11 @@ IsRising (t ∷ ts) = AreFrom t.0 (t ∷ ts) × IsRising ts
 
 least-from : (k : FaultKind) (ts : Tests) (vs : List DateValue) → AreFrom k ts → IsFrom k (least_in ts vs)
 least-from k [] vs h = (refl, refl)
-least-from k (t ∷ ts) vs h = by_test (list_any t.1 vs) (least-from k ts vs h.1)
-  where
-    by_test : (b : Bool) → IsFrom k (least_in ts vs) → IsFrom k (cond b (Some t.0) (least_in ts vs))
-    by_test true rest = h.0
-    by_test false rest = rest
+least-from k (t ∷ ts) vs h = cond_both (list_any t.1 vs) (Some t.0) (least_in ts vs) (IsFrom k) (λ e. h.0) (λ e. least-from k ts vs h.1)
 
 least-cond : (k : FaultKind) (a b : Bool) (r s : Option FaultKind) → IsFrom k (Some k) × IsFrom k r × IsFrom k s →
     cond (a || b) (Some k) (least r s) ≡ least (cond a (Some k) r) (cond b (Some k) s)
-least-cond k true true r s h = sym h.0.0
-least-cond k true false r s h = sym h.2.0
-least-cond k false true r s h = sym h.1.1
-least-cond k false false r s h = refl
+least-cond k a b r s h = grind arith
 
 -- the least fault of the values of two lists is the lesser of theirs
 least-append : (ts : Tests) (vs ws : List DateValue) → IsRising ts → least_in ts (vs ++ ws) ≡ least (least_in ts vs) (least_in ts ws)
@@ -120,8 +100,7 @@ onsets_fault vs = first (dates_fault vs) (fault_if ObservanceField (list_any is_
 
 -- what stands behind several kinds stands behind the last of them
 pub first-cond : (t : Bool) (o p m : Option FaultKind) → first (cond t o p) m ≡ cond t (first o m) (first p m)
-first-cond true o p m = refl
-first-cond false o p m = refl
+first-cond t o p m = grind arith
 
 onsets-row : (vs : List DateValue) → least_in onset_tests vs ≡ onsets_fault vs
 onsets-row vs = simp first-cond
@@ -134,26 +113,11 @@ onsets-append vs ws = sym (onsets-row (vs ++ ws)) ∙ least-append onset_tests v
 
 -- A VALUE says something, or has a least fault.
 judged-is : (v : DateValue) → judged v ≡ unless (dates_fault (v ∷ [])) (listed_in v)
-judged-is (At (Err stamp.BadStamp)) = refl
-judged-is (At _) = refl
-judged-is (Between (Err stamp.BadStamp) (Err stamp.BadStamp)) = refl
-judged-is (Between _ (Err stamp.BadStamp)) = refl
-judged-is (Between _ _) = refl
-judged-is (Lasting (Err stamp.BadStamp) (Err duration_fault.BadDuration)) = refl
-judged-is (Lasting _ (Err duration_fault.BadDuration)) = refl
-judged-is (Lasting _ _) = refl
+judged-is v = grind arith
 
 -- a value of an RDATE of an observance; a PERIOD is no local
 onset-said : (v : DateValue) → (onsets_fault (v ∷ []) ≡ result_err (onset_judged (judged v))) × (local_in v ≡ result_ok (onset_judged (judged v)))
-onset-said (At (Ok (Floating local))) = (refl, refl)
-onset-said (At (Err stamp.BadStamp)) = (refl, refl)
-onset-said (At _) = (refl, refl)
-onset-said (Between (Err stamp.BadStamp) (Err stamp.BadStamp)) = (refl, refl)
-onset-said (Between _ (Err stamp.BadStamp)) = (refl, refl)
-onset-said (Between _ _) = (refl, refl)
-onset-said (Lasting (Err stamp.BadStamp) (Err duration_fault.BadDuration)) = (refl, refl)
-onset-said (Lasting _ (Err duration_fault.BadDuration)) = (refl, refl)
-onset-said (Lasting _ _) = (refl, refl)
+onset-said v = (grind arith, grind arith)
 
 -- WHAT IS READ of the values of a line: the least fault, and what those say that have none, behind what was there.
 pub record IsRead {X : Type 0} (read : DateValue → Result X FaultKind) (least_of : List DateValue → Option FaultKind) (had : List X) (vs : List DateValue)
@@ -196,8 +160,7 @@ read-all read least_of f ys {o = o} {had = had} {ls = ls} e h =
 
 -- of an event
 err-unless : {X : Type 0} (o : Option FaultKind) (x : X) → o ≡ result_err (unless o x)
-err-unless None x = refl
-err-unless (Some k) x = refl
+err-unless o x = grind arith
 
 pub dates-read : IsReader judged dates_fault
 dates-read = record {
@@ -206,8 +169,7 @@ dates-read = record {
 }
 
 least-none : (o p : Option FaultKind) → least o p ≡ None → (o ≡ None) × (p ≡ None)
-least-none o None e = (e, refl)
-least-none o (Some k) e = cc
+least-none o p e = (grind arith, grind arith)
 
 pub dates-said : (vs : List DateValue) → dates_fault vs ≡ None → filter_map (λ v. result_ok (judged v)) vs ≡ map listed_in vs
 dates-said [] e = refl

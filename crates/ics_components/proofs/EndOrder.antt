@@ -1,5 +1,5 @@
 -- In a file without faults the events and the time zones end in the order in which they begin.
-use Rattle.std.proofs.Common.{◌≡◌, ℕ, Bool, true, false, ◌&&◌, List, [], ◌∷◌, ◌++◌, refl, sym, ap, ◌∙◌, map, filter, cond}
+use Rattle.std.proofs.Common.{◌≡◌, ℕ, Bool, true, false, ◌&&◌, List, [], ◌∷◌, ◌++◌, refl, sym, ap, ◌∙◌, map, filter, cond, arith}
 use Rattle.std.specs.Prelude.{codes, unwrap_or}
 use Rattle.std.specs.Str.{bytes_eq}
 use Rattle.std.proofs.Math.Bool.{and_assoc, and_comm}
@@ -20,7 +20,6 @@ use Rattle.ics_components.specs.Faults.{first_text}
 use Rattle.ics_components.specs.Observances.{begins_zone, name_by}
 use Rattle.ics_components.proofs.Judged.{is_begin_name}
 use Rattle.ics_components.proofs.Table.{parts, marks, collected_of, zone_of}
-use Rattle.ics_components.specs.declared.component.Component.TheVariants as kind
 use Rattle.ics_components.specs.declared.component.Context.TheVariants as context
 use Rattle.ics_components.specs.declared.name.Name.TheVariants as name
 
@@ -31,13 +30,10 @@ event-end ls l e = collected_of-more ls l ∙ ap (λ n. event_note n (parts_at l
 
 -- only a calendar holds events, and it stands in none
 pub calendar-from : (q : Context) (c : Component) → is_calendar_context (context_in q c) ≡ true → q ≡ context.Outside
-calendar-from context.Outside c e = refl
-calendar-from _ kind.Event e = cc
-calendar-from _ _ e = cc
+calendar-from q c e = grind arith
 
 calendar-alone : (q : Context) → is_calendar_context q ≡ true → (is_event_context q ≡ false) × (is_zone_context q ≡ false)
-calendar-alone context.Calendar e = (refl, refl)
-calendar-alone _ e = cc
+calendar-alone q e = (grind arith, grind arith)
 
 -- a calendar stands in nothing
 module _ {X : Type 0} (s : Sort X) (out : (q : Context) → is_calendar_context q ≡ true → s.stands_at q ≡ false) where
@@ -83,12 +79,7 @@ zones-are whole =
 
 -- what begins directly in a calendar belongs to that
 pub calendar-inside : (l : Placed) → is_calendar_context (context_of l.path) ≡ true → calendar_of (inside l) ≡ calendar_of l.path
-calendar-inside l = by_path l.path
-  where
-    by_path : (path : List Open) → is_calendar_context (context_of path) ≡ true →
-        calendar_of (record { name = component l; begun = l.number } ∷ path) ≡ calendar_of path
-    by_path [] e = cc
-    by_path (c ∷ cs) e = refl
+calendar-inside l e = grind arith
 
 -- what is read of the components that begin on lines, where it is the same of each
 pub begun-same : {X Y : Type 0} (s : Sort X) (whole : List Placed) (f : X → Y) (g : Placed → Y) →

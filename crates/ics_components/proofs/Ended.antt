@@ -1,21 +1,18 @@
 -- What ends on the lines, in the order of the lines.
-use Rattle.std.proofs.Common.{◌≡◌, false, ◌&&◌, List, [], ◌∷◌, map, refl, cond}
+use Rattle.std.proofs.Common.{◌≡◌, false, ◌&&◌, List, [], ◌∷◌, map, refl, cond, arith}
 use Rattle.std.specs.Prelude.{codes, not}
 use Rattle.std.specs.Str.{bytes_eq}
 use Rattle.std.proofs.lemmas.Bool.{not-false}
 use Rattle.ics_text.specs.Bytes.{upper}
 use Rattle.ics_text.specs.Unfolded.{Line}
 use Rattle.ics_text.specs.ContentLines.{Parts}
-use Rattle.ics_components.specs.declared.component.Component.{Component}
-use Rattle.ics_components.specs.declared.component.Context.{Context}
-use Rattle.ics_components.specs.declared.component.Context.TheVariants as context
 use Rattle.ics_components.specs.declared.name.Name.{Name}
 use Rattle.ics_components.specs.declared.name.Name.TheVariants as name
 use Rattle.ics_components.specs.declared.gathered.Ended.{Ended}
 use Rattle.ics_components.specs.declared.gathered.Ended.TheVariants as ended
 use Rattle.ics_components.specs.declared.gathered.EndedEvent.{EndedEvent}
 use Rattle.ics_components.specs.declared.gathered.EndedZone.{EndedZone}
-use Rattle.ics_components.specs.Components.{component_of, is_event_context, is_zone_context}
+use Rattle.ics_components.specs.Components.{is_event_context, is_zone_context}
 use Rattle.ics_components.specs.Names.{name_of}
 use Rattle.ics_components.specs.PlacedLines.{Placed, Open, context_of, calendar_of, is_end, is_closing, begins_event}
 use Rattle.ics_components.specs.Observances.{begins_zone}
@@ -23,7 +20,7 @@ use Rattle.ics_components.specs.Builders.{event_ended, zone_ended}
 use Rattle.ics_components.specs.Gathered.{zones_of_end, events_of_end}
 use Rattle.ics_components.proofs.Judged.{ended_in, ends, is_end_name}
 use Rattle.ics_components.proofs.NameLemmas.{tells}
-use Rattle.ics_components.proofs.Table.{Readings, frame_at, parts, readings, frame_of, marks, collected_of, zone_of}
+use Rattle.ics_components.proofs.Table.{parts, frame_of, marks, collected_of, zone_of}
 use Rattle.ics_components.proofs.Bundles.{Bundle, open_of, opens, top_lines}
 use Rattle.ics_components.proofs.Order.{Sort, ended_as}
 use Rattle.ics_components.proofs.Frames.{frames_of, with}
@@ -42,20 +39,10 @@ pub record Picks {X : Type 0} (whole : List Placed) (s : Sort X) (pick : Ended �
       pick (ended_in (frame_of whole (c ∷ cs) ls)) ≡ cond (s.stands_at (context_of (c ∷ cs))) (s.by (c ∷ cs) ls ∷ []) []
 
 pub events-picked : (whole : List Placed) → Picks whole events events_of_end
-events-picked whole = record { nothing = refl; one = λ c cs ls. at (component_of c.name) (context_of (c ∷ cs)) (readings whole (c ∷ cs) ls) }
-  where
-    at : (k : Component) (q : Context) (g : Readings) →
-        events_of_end (ended_in (frame_at k q g)) ≡ cond (is_event_context q) (event_ended g.calendar g.event ∷ []) []
-    at k context.Event g = refl
-    at k _ g = refl
+events-picked whole = record { nothing = refl; one = λ c cs ls. grind arith }
 
 pub zones-picked : (whole : List Placed) → Picks whole (zones whole) zones_of_end
-zones-picked whole = record { nothing = refl; one = λ c cs ls. at (component_of c.name) (context_of (c ∷ cs)) (readings whole (c ∷ cs) ls) }
-  where
-    at : (k : Component) (q : Context) (g : Readings) →
-        zones_of_end (ended_in (frame_at k q g)) ≡ cond (is_zone_context q) (zone_ended g.calendar g.zone ∷ []) []
-    at k context.Zone g = refl
-    at k _ g = refl
+zones-picked whole = record { nothing = refl; one = λ c cs ls. grind arith }
 
 -- An END without a fault matches.
 abbrev pub IsMatched : Placed → Type 0

@@ -1,5 +1,5 @@
 -- What a line makes of the components that are open, told apart: the fault on it, and what stands behind it where there is none.
-use Rattle.std.proofs.Common.{◌≡◌, ◌≢◌, ℕ, Bool, true, false, List, [], ◌∷◌, map, refl, cond, Option, Some, None}
+use Rattle.std.proofs.Common.{◌≡◌, ◌≢◌, ℕ, Bool, true, false, List, [], ◌∷◌, map, cond, Option, Some, None, arith}
 use Rattle.std.specs.Prelude.{nat_le}
 use Rattle.std.specs.Str.{bytes_eq}
 use Rattle.ics_text.specs.Bytes.{upper}
@@ -65,8 +65,7 @@ passing n c frames = passed (ends n frames) (check_on n c frames)
 
 pub end-inside : (q : Context) (matches : Bool) (s : Builder) → q ≢ context.Outside →
     end_fault_at q matches s ≡ cond matches (fault_at_end_of s) (Some kind.BadNesting)
-end-inside context.Outside matches s n = absurd (n refl)
-end-inside _ matches s n = refl
+end-inside q matches s n = grind arith
 
 -- the same by whether a component begins or ends there
 abbrev pub is_begin_name : Name → Bool

@@ -1,5 +1,5 @@
 -- What a name of a property or a component stands for.
-use Rattle.std.proofs.Common.{◌≡◌, ◌≢◌, ℕ, Bool, true, false, ◌&&◌, ◌||◌, List, [], ◌∷◌, ◌++◌, refl, cond, rules}
+use Rattle.std.proofs.Common.{◌≡◌, ◌≢◌, ℕ, Bool, true, false, ◌&&◌, ◌||◌, List, [], ◌∷◌, ◌++◌, refl, cond, rules, arith}
 use Rattle.std.specs.Prelude.{codes}
 use Rattle.std.specs.List.{AllByRecursion, list_any}
 use Rattle.std.specs.Str.{bytes_eq}
@@ -72,12 +72,8 @@ components =
     ∷ (codes "DAYLIGHT", component.Daylight) ∷ []
 
 abbrev pub TellsComponent : List ℕ → Component → Type 0
-TellsComponent u component.Calendar = u ≡ codes "VCALENDAR"
-TellsComponent u component.Event = u ≡ codes "VEVENT"
-TellsComponent u component.Zone = u ≡ codes "VTIMEZONE"
-TellsComponent u component.Standard = u ≡ codes "STANDARD"
-TellsComponent u component.Daylight = u ≡ codes "DAYLIGHT"
 TellsComponent u (component.Other w) = IsUnknown components u × (w ≡ u)
+TellsComponent u c = u ≡ component_name c
 
 pub tells_component : (u : List ℕ) → TellsComponent u (component_of u)
 tells_component u = told (TellsComponent u) (component.Other u) u components (search rules) (λ none. (none, refl))
@@ -91,9 +87,7 @@ component_name-of u = named (component_of u) (tells_component u)
 
 -- no component stands outside all components
 pub context-in-outside : (q : Context) (c : Component) → context_in q c ≢ context.Outside
-context-in-outside context.Outside component.Calendar = λ e. cc
-context-in-outside _ component.Calendar = λ e. cc
-context-in-outside _ _ = λ e. cc
+context-in-outside q c e = grind arith
 
 -- a component begins where its lines are read exactly by its name
 pub context-tests : (q : Context) (w : List ℕ) →

@@ -9,7 +9,7 @@ use Rattle.ics_text.specs.Unfolded.{Line, Rises}
 use Rattle.ics_text.specs.ContentLines.{content_of}
 use Rattle.ics_components.specs.PlacedLines.{Placed, Open, is_begin, is_end, component, path_behind, placed_from, innermost, lines_in, property_name}
 use Rattle.ics_components.specs.PlacedLines.{context_of, is_closing, beside, closes}
-use Rattle.ics_components.specs.FirstFault.{last_of, Fault, found, least_on, first_from, fault_at_end, end_fault, no_open}
+use Rattle.ics_components.specs.FirstFault.{last_of, Fault, found, least_on, first_from, fault_at_end}
 use Rattle.ics_components.specs.declared.component.Context.{Context}
 use Rattle.ics_components.specs.declared.fault.FaultKind.{FaultKind}
 use Rattle.ics_components.specs.declared.fault.FaultKind.TheVariants.{BadNesting}
@@ -127,22 +127,16 @@ pub record IsSort {X : Type 0} (s : Sort X) : Type 0 where
   pub alone : (whole : List Placed) (l : Placed) → s.stands_at (context_of (inside l)) ≡ true → open_as s whole l.path ≡ []
   pub ends : (path : List Open) (ls : List Placed) (l : Placed) → name_of (property_name l.content) ≡ name.End → s.by path (ls ++ l ∷ []) ≡ s.by path ls
 
--- where no kind of fault is found, the first is not there, and none of those behind it
-skip : (b : Bool) (k : FaultKind) (rest : Option FaultKind) → cond b (Some k) rest ≡ None → (b ≡ false) × (rest ≡ None)
-skip true k rest e = cc
-skip false k rest e = (refl, e)
-
 -- no fault on a line, and thus no bad nesting
 pub none-found : (p : FaultKind → Bool) (front rest : List FaultKind) (k : FaultKind) → find p (front ++ k ∷ rest) ≡ None → p k ≡ false
-none-found p [] rest k e = (skip (p k) k (find p rest) e).0
-none-found p (j ∷ js) rest k e = none-found p js rest k (skip (p j) j (find p (js ++ k ∷ rest)) e).1
+none-found p [] rest k e = grind arith
+none-found p (j ∷ js) rest k e = let again = none-found p js rest k in grind (arith, again)
 
 pub nested : (p : FaultKind → Bool) → find p kinds ≡ None → p BadNesting ≡ false
 nested p e = none-found p (take 11 kinds) (drop 12 kinds) BadNesting e
 
 pub found-none : (number : ℕ) (kind : Option FaultKind) (later : Option Fault) → found number kind later ≡ None → (kind ≡ None) × (later ≡ None)
-found-none number (Some k) later e = cc
-found-none number None later e = (refl, e)
+found-none number kind later e = (grind arith, grind arith)
 
 begin-no-end : (u : List ℕ) → bytes_eq u (codes "BEGIN") ≡ true → bytes_eq u (codes "END") ≡ false
 begin-no-end u e = rw (equal u (codes "BEGIN") e)
@@ -152,11 +146,7 @@ end-name u e = rw (equal u (codes "END") e)
 
 -- where no fault stands at the end, nothing is open behind the last line
 last-open : (before : List Placed) (l : Placed) → fault_at_end (before ++ l ∷ []) ≡ None → path_behind l ≡ []
-last-open before l e = by_path (path_behind l) _ (sym (ap end_fault (last-more before l)) ∙ e)
-  where
-    by_path : (path : List Open) (f : Fault) → cond (no_open path) None (Some f) ≡ None → path ≡ []
-    by_path [] f e = refl
-    by_path (c ∷ cs) f e = cc
+last-open before l e = let last = last-more before l in grind arith
 
 -- Where lines stand in a file: behind those before them, in components of which each began behind those that it stands in, and before them.
 pub record IsPlaced (whole before : List Placed) (path : List Open) (n : ℕ) (lines : List Line) : Type 0 where
@@ -213,8 +203,7 @@ module _ {X : Type 0} (s : Sort X) (i : IsSort s) (whole before : List Placed) (
     where
       by_test : (t : Bool) (x : X) (more : List X) →
           cond t (x ∷ []) [] ++ (open_as s whole cs ++ more) ≡ cond t (x ∷ open_as s whole cs) (open_as s whole cs) ++ more
-      by_test true x more = refl
-      by_test false x more = refl
+      by_test t x more = grind arith
 
   step : (n : ℕ) (path : List Open) → IsPlaced whole before path n (line ∷ lines) → least_on stands before (here line path) ≡ None → Steps path
   step n path is none = by_tests (is_begin (here line path)) (is_end (here line path)) refl refl

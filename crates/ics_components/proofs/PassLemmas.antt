@@ -67,7 +67,7 @@ pub three : {zs ys : List EndedZone} {es fs : List EndedEvent} {ws vs : List Lin
 three z e w = rw (z, e, w) refl
 
 gathered-none : (whole : List Placed) (had : GatheredSeen) (before : List Placed) → had ≡ gathered_from whole had before []
-gathered-none whole had before = three (sym (append-nil had.zones)) (sym (append-nil had.events)) (sym (append-nil had.checks))
+gathered-none whole had before = simp append-nil
 
 -- what is added by a line, and then by those behind it
 module _ {X : Type 0} where

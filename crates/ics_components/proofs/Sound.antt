@@ -14,7 +14,6 @@ use Rattle.ics_fields.specs.Days.{IsStampDay}
 use Rattle.ics_values.specs.Texts.{begins, is_minus, with_sign}
 use Rattle.ics_values.specs.declared.duration.Duration.{Duration}
 use Rattle.ics_values.specs.declared.duration.DurationFault.{DurationFault}
-use Rattle.ics_values.specs.declared.duration.DurationFault.TheVariants as duration
 use Rattle.ics_values.specs.declared.stamp.Stamp.{Stamp}
 use Rattle.ics_values.specs.declared.stamp.StampFault.{StampFault}
 use Rattle.ics_values.specs.declared.stamp.StampFault.TheVariants as stamp
@@ -29,8 +28,7 @@ use Rattle.std.proofs.lemmas.Bool.Decides.{nat_tests}
 use Rattle.jiff_core.specs.Calendar.{IsWithin}
 use Rattle.ics_fields.specs.Locals.{local_at}
 use Rattle.ics_fields.specs.Observances.{ObservanceSaid, is_finer_than_daily, is_finer_rule}
-use Rattle.ics_fields.specs.RuleParts.{RuleParts, every}
-use Rattle.ics_fields.specs.declared.frequency.Frequency.TheVariants.{Daily}
+use Rattle.ics_fields.specs.RuleParts.{RuleParts}
 use Rattle.ics_fields.specs.Years.{is_stamp_local}
 use Rattle.ics_fields.specs.declared.local.Local.{Local}
 use Rattle.ics_values.specs.Offsets.{is_offset_form, is_offset_text, offset_hours, offset_minutes, offset_seconds, offset_size, offset_said, offset_of}
@@ -76,11 +74,7 @@ sound-date_time zoned text =
     cond_both (is_date_time_form text) (stamp_of zoned text) (Err stamp.BadStamp) (λ r. IsSoundStamp (stamp_in r)) (λ e. sound-stamp zoned text) (λ e. day-zero)
 
 allowed-sound : (minus : Bool) (r : Result Duration DurationFault) → is_lasting (duration_in (allowed minus r)) ≡ true
-allowed-sound minus (Ok d) =
-    cond_both (is_lasting d) (Ok d) (Err duration.BadDuration) (λ r. is_lasting (duration_in r) ≡ true) (λ e. e) (λ e. refl)
-allowed-sound minus (Err duration.BadDuration) = refl
-allowed-sound true (Err duration.NumberTooLarge) = refl
-allowed-sound false (Err duration.NumberTooLarge) = refl
+allowed-sound minus r = grind arith
 
 pub sound-lasting : (text : List ℕ) → is_lasting (duration_in (lasting_of text)) ≡ true
 sound-lasting text = allowed-sound (begins is_minus text) (duration_of text)
@@ -117,17 +111,14 @@ offset-small : (text : List ℕ) → is_offset_text text ≡ true → offset_siz
 offset-small text t = by_tests (is_offset_form text) (offset_hours text) (offset_minutes text) (offset_seconds text) t
   where
     by_tests : (f : Bool) (h m s : ℕ) → (f && nat_le h 23 && nat_le m 59 && nat_le s 59) ≡ true → 3600 * h + 60 * m + s ≤ 86_399
-    by_tests true h m s e = grind (arith, nat_tests)
-    by_tests false h m s e = cc
+    by_tests f h m s e = grind (arith, nat_tests)
 
 sign-within : (negative : Bool) (n : ℕ) → n ≤ 86_399 → IsWithin 86_399 (with_sign negative n)
-sign-within true n h = (omega (arith, ints, h), omega (arith, ints, h))
-sign-within false n h = (omega (arith, ints, h), omega (arith, ints, h))
+sign-within negative n h = (grind (arith, ints), grind (arith, ints))
 
 -- WHAT AN OBSERVANCE'S VALUES SAY.
 onset-sound : (r : Result Stamp StampFault) → IsSoundStamp (stamp_in r) → IsSoundLocal (onset_in r)
-onset-sound (Ok (Floating local)) h = h
-onset-sound _ h = day-zero
+onset-sound r h = grind (arith, day-zero)
 
 zero-within : IsWithin 86_399 (pos 0)
 zero-within = sign-within false 0 (omega arith)
@@ -138,9 +129,7 @@ offset-sound text =
     (λ t. sign-within (begins is_minus text) (offset_size text) (offset-small text t)) (λ e. zero-within)
 
 daily-sound : (r : Result RuleParts RuleFault) → is_finer_than_daily (daily_in r).frequency ≡ false
-daily-sound (Err fault) = refl
-daily-sound (Ok parts) =
-    cond_both (is_finer_than_daily parts.frequency) (every Daily) parts (λ r. is_finer_than_daily r.frequency ≡ false) (λ e. refl) (λ e. e)
+daily-sound r = grind arith
 
 locals-sound : (vs : List DateValue) → All IsSoundValue (map listed_in vs) → All IsSoundLocal (filter_map local_in vs)
 locals-sound [] h = All-nil IsSoundLocal
@@ -181,13 +170,11 @@ observance-sound own =
 
 -- what ends on a line, if it does
 pub one-ended : {X : Type 0} (P : X → Type 0) (t : Bool) (x : X) → (t ≡ true → P x) → All P (cond t (x ∷ []) [])
-one-ended P true x h = All-cons P x [] (h refl) (All-nil P)
-one-ended P false x h = All-nil P
+one-ended P t x h = cond_both t (x ∷ []) [] (All P) (λ e. All-cons P x [] (h e) (All-nil P)) (λ e. All-nil P)
 
 -- A TIME ZONE that ends has an observance.
 not-empty : (os : List ObservanceSaid) → not (length os == 0) ≡ true → os ≢ []
-not-empty [] h = cc
-not-empty (o ∷ os) h = λ e. cc
+not-empty os h e = grind arith
 
 zone-sound : (whole own : List Placed) (l : Placed) → ends_zone l ≡ true → find (λ kind. stands kind own l) kinds ≡ None → Together l.path own →
     IsSoundZone (parts whole own)
@@ -208,9 +195,7 @@ pub dated-said : (name : List ℕ) (own : List Placed) → IfSome (first_dated n
 dated-said name own = by_first (λ o. IfSome o IsSoundDated) dated_on tt (λ l. sound-stamp _ (value l)) (first_named name own)
 
 filled-not-empty : (o : Option (List ℕ)) → is_filled o ≡ true → unwrap_or o [] ≢ []
-filled-not-empty (Some (b ∷ bs)) e = λ h. cc
-filled-not-empty (Some []) e = cc
-filled-not-empty None e = cc
+filled-not-empty o h e = grind arith
 
 start-sound : (start : Option Dated) → IfSome start IsSoundDated → IsSoundDated (dated_in start)
 start-sound (Some d) h = h

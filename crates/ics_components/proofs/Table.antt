@@ -1,10 +1,10 @@
 -- The table of faults and the pass find one fault on a line.
-use Rattle.std.proofs.Common.{rules, ◌≡◌, ℕ, Bool, true, false, List, [], ◌∷◌, map, refl, sym, ap, ◌∙◌, arith, cond, suc, Option, Some, None, Result, Err}
+use Rattle.std.proofs.lemmas.Bool.Decides.{nat_tests}
+use Rattle.std.proofs.Common.{rules, ◌≡◌, ℕ, Bool, true, false, List, [], ◌∷◌, map, refl, ap, ◌∙◌, arith, cond, Option, Some, None, Result, Err}
 use Rattle.std.specs.Prelude.{codes, length, find, filter, flat_map, not, nat_le, ◌==◌, ◌&&◌, ◌||◌, is_some, option_map}
 use Rattle.std.specs.List.{list_any}
 use Rattle.std.specs.Str.{bytes_eq}
 use Rattle.std.proofs.Math.Bool.{and-true, and_assoc, or_comm}
-use Rattle.std.proofs.lemmas.Bool.{ne_eqb}
 use Rattle.ics_text.specs.Bytes.{upper}
 use Rattle.ics_text.specs.ContentLines.{Parts}
 use Rattle.ics_values.specs.Rules.{rule_of}
@@ -29,8 +29,8 @@ use Rattle.ics_components.specs.declared.name.Name.{Name}
 use Rattle.ics_components.specs.declared.name.Name.TheVariants as name
 use Rattle.ics_components.specs.Components.{component_of, component_name, is_outside_context, is_event_context, is_zone_context, is_observance_context}
 use Rattle.ics_components.specs.Names.{name_of}
-use Rattle.ics_components.specs.PlacedLines.{Placed, Open, context_of, closes, begins_observance, calendar_of, lines_in, has, is_named, first_named, value}
-use Rattle.ics_components.specs.PlacedLines.{first_of as first_line, all_named}
+use Rattle.ics_components.specs.PlacedLines.{Placed, Open, context_of, closes, begins_observance, calendar_of, lines_in, has, first_named, value}
+use Rattle.ics_components.specs.PlacedLines.{all_named}
 use Rattle.ics_components.specs.Values.{is_bad_rule, is_large_rule, is_fine_rule, ok_or_zero, is_cancelled}
 use Rattle.ics_components.specs.Faults.{stands, kinds, first_text, first_dated, duration_on, parts_on, rdates_on, exdates_on}
 use Rattle.ics_components.specs.Lines.{first, fault_if, rule_fault_of, outside_fault, builder_fault, calendar_fault, zone_fault}
@@ -97,12 +97,7 @@ parts whole ls = map (own whole) (filter begins_in_zone ls)
 
 pub any-part : (whole ls : List Placed) → list_any begins_in_zone ls ≡ not (length (parts whole ls) == 0)
 any-part whole [] = refl
-any-part whole (l ∷ ls) = by_test (begins_in_zone l) (any-part whole ls)
-  where
-    by_test : (t : Bool) → list_any begins_in_zone ls ≡ not (length (parts whole ls) == 0) →
-        (t || list_any begins_in_zone ls) ≡ not (length (map (own whole) (cond t (l ∷ filter begins_in_zone ls) (filter begins_in_zone ls))) == 0)
-    by_test true e = sym (ap not (ne_eqb (suc (length (parts whole ls))) 0 (λ e. omega (arith, e))))
-    by_test false e = e
+any-part whole (l ∷ ls) = let again = any-part whole ls in grind (arith, nat_tests)
 
 -- what is collected of some lines, where these components are open
 abbrev pub readings : List Placed → List Open → List Placed → Readings
@@ -124,21 +119,14 @@ IsAsked whole path ls = is_zone_context (context_of path) ≡ true → list_any 
 -- a line has the name exactly where the first such line says something
 pub has-first : {X : Type 0} (f : Placed → X) (n : List ℕ) (ls : List Placed) → is_some (option_map f (first_named n ls)) ≡ has n ls
 has-first f n [] = refl
-has-first f n (k ∷ ks) = by_test (is_named n k) (has-first f n ks)
-  where
-    by_test : (t : Bool) → is_some (option_map f (first_named n ks)) ≡ has n ks →
-        is_some (option_map f (first_line (cond t (k ∷ all_named n ks) (all_named n ks)))) ≡ (t || has n ks)
-    by_test true ih = refl
-    by_test false ih = ih
+has-first f n (k ∷ ks) = let again = has-first f n ks in grind arith
 
 -- FAULTS BY TESTS, the least first. What a value meets stands before what its line meets.
 or-cond : (a b : Bool) (x y : Option FaultKind) → cond (a || b) x y ≡ cond a x (cond b x y)
-or-cond true b x y = refl
-or-cond false b x y = refl
+or-cond a b x y = grind arith
 
 not-cond : (t : Bool) (x y : Option FaultKind) → cond (not t) x y ≡ cond t y x
-not-cond true x y = refl
-not-cond false x y = refl
+not-cond t x y = grind arith
 
 rule-is : (r : Result RuleParts RuleFault) → rule_fault_of r ≡ cond (is_bad_rule r) (Some BadRule) (cond (is_large_rule r) (Some NumberTooLarge) None)
 rule-is (Err rule_fault.BadRule) = refl
@@ -163,9 +151,7 @@ marks u _ e = rw e (refl, refl)
 -- a line that begins and ends none
 inner-fault : (n : Name) (v : Parts) (f : Frame) (depth : ℕ) → (is_begin_name n ≡ false) × (is_end_name n ≡ false) →
     builder_fault f.context n v f.builder ≡ fault_in n v f depth
-inner-fault name.Begin v f depth k = let no = k.0 in cc
-inner-fault name.End v f depth k = let no = k.1 in cc
-inner-fault _ v f depth k = refl
+inner-fault n v f depth k = grind arith
 
 version-row : (u : List ℕ) (v : Parts) (n : Name) → Tells u n →
     fault_if OldVersion (bytes_eq u (codes "VERSION") && bytes_eq v.value (codes "1.0")) ≡ calendar_fault n v
