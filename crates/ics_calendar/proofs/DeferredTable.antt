@@ -8,7 +8,6 @@ use Rattle.ics_text.specs.Bytes.{upper}
 use Rattle.ics_text.specs.Unfolded.{Line}
 use Rattle.ics_text.specs.ContentLines.{Parts}
 use Rattle.ics_values.specs.declared.stamp.Stamp.{Stamp}
-use Rattle.ics_values.specs.declared.stamp.Stamp.TheVariants as stamp
 use Rattle.ics_components.specs.declared.component.Context.{Context}
 use Rattle.ics_components.specs.declared.component.Context.TheVariants as context
 use Rattle.ics_components.specs.declared.dated.Dated.{Dated}
@@ -35,8 +34,7 @@ use Rattle.ics_components.proofs.Frames.{with}
 
 -- AN END against its start, as the table finds it, as it is judged, and as it asks for no time zone.
 moment-is : (known : KnownZones) (name : ZoneName) (s : Stamp) → moment_on known name s ≡ option_and_then (moment_of known) (instant_on name s)
-moment-is known name (stamp.Utc local) = refl
-moment-is known name _ = refl
+moment-is known name s = grind arith
 
 abbrev EndsAs : KnownZones → Bool → Option DeferredCheck → Type 0
 EndsAs known t check =

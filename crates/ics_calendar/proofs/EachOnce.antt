@@ -1,5 +1,5 @@
 -- A list of names with a set of the names seen so far beside it has each name once, in the order of their first places.
-use Rattle.std.proofs.Common.{◌≡◌, ℕ, Bool, true, false, ◌||◌, List, [], ◌∷◌, filter, refl, ap, cond}
+use Rattle.std.proofs.Common.{◌≡◌, ℕ, Bool, false, ◌||◌, List, [], ◌∷◌, filter, refl, ap, arith}
 use Rattle.std.specs.Prelude.{not}
 use Rattle.std.specs.Str.{bytes_eq}
 
@@ -16,12 +16,4 @@ none-unseen (name ∷ names) = ap (λ ns. name ∷ ns) (none-unseen names)
 pub unseen-without : (seen now : List ℕ → Bool) (name : List ℕ) → ((q : List ℕ) → now q ≡ (bytes_eq q name || seen q)) → (names : List (List ℕ)) →
     unseen seen (filter (λ other. not (bytes_eq other name)) names) ≡ unseen now names
 unseen-without seen now name more [] = refl
-unseen-without seen now name more (x ∷ xs) = rw more (by_test (unseen-without seen now name more xs) (bytes_eq x name))
-  where
-    without : List (List ℕ)
-    without = filter (λ other. not (bytes_eq other name)) xs
-
-    by_test : unseen seen without ≡ unseen now xs → (t : Bool) →
-        unseen seen (cond (not t) (x ∷ without) without) ≡ cond (not (t || seen x)) (x ∷ unseen now xs) (unseen now xs)
-    by_test again true = again
-    by_test again false = rw again
+unseen-without seen now name more (x ∷ xs) = let again = unseen-without seen now name more xs in rw more (grind arith)

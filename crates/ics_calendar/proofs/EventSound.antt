@@ -67,8 +67,7 @@ lasting-is : (d : Duration) → is_lasting d ≡ true → IsLasting d
 lasting-is d h = let t = by_tests d.negative (length_in_seconds d) h in record { forward = t.0; short = t.1 }
   where
     by_tests : (n : Bool) (k : ℕ) → ((not n || (k == 0)) && nat_le k longest) ≡ true → (IsTrue n → k ≡ 0) × (k ≤ longest)
-    by_tests true k h = grind (arith, nat_tests)
-    by_tests false k h = grind (arith, nat_tests)
+    by_tests n k h = grind (arith, nat_tests)
 
 -- the check of stamps that a line lists, in the zone that it names
 abbrev fault_by : Bool → ZoneName → Option DeferredCheck

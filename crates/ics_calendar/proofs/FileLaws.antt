@@ -67,8 +67,7 @@ no-second-half text h = let none = ltb-false _ _ (sym (any-first (λ b. b == 47)
 
 -- a half is a stamp with a time, or the fault that it has
 half-is : (form : Bool) (s : Result Stamp StampFault) → cond form (stamp_half s) (Err BadStamp) ≡ stamp_half (cond form s (Err stamp.BadStamp))
-half-is true s = refl
-half-is false s = refl
+half-is form s = grind arith
 
 -- by its halves, where the second is a duration or a stamp: if both accept them, they read the same
 abbrev Agree : Result Period PeriodFault → DateValue → Type 0
@@ -112,25 +111,22 @@ kind_in (Err fault) = Some fault.kind
 last-other : (o : Option Placed) → kind_of (end_fault o) ≢ Some BadZoneFile
 last-other o e = grind arith
 
+found-other : (number : ℕ) (o : Option FaultKind) (later : Option Fault) → o ≢ Some BadZoneFile → kind_of later ≢ Some BadZoneFile →
+    kind_of (found number o later) ≢ Some BadZoneFile
+found-other number o later n m e = grind arith
+
 first-other : (round : Round) (last : List Placed → Option Fault) → ((beside : List Placed) (l : Placed) → round BadZoneFile beside l ≡ false) →
     ((lines : List Placed) → kind_of (last lines) ≢ Some BadZoneFile) → (before lines : List Placed) →
     kind_of (first_from round last before lines) ≢ Some BadZoneFile
-first-other round last never end before [] e = end before e
-first-other round last never end before (l ∷ ls) e = by_least (least_on round before l) refl (first-other round last never end (before ++ l ∷ []) ls) e
-  where
-    by_least : (o : Option FaultKind) → least_on round before l ≡ o → kind_of (first_from round last (before ++ l ∷ []) ls) ≢ Some BadZoneFile →
-        kind_of (found l.number o (first_from round last (before ++ l ∷ []) ls)) ≢ Some BadZoneFile
-    by_least None h again e = again e
-    by_least (Some kind) h again e =
-        let so = found-is (λ kind. round kind (beside before l) l) kinds BadZoneFile (h ∙ e) in
-        let other : false ≡ true = sym (never (beside before l) l) ∙ so in cc
+first-other round last never end before [] = end before
+first-other round last never end before (l ∷ ls) =
+    found-other l.number (least_on round before l) (first_from round last (before ++ l ∷ []) ls) (λ e.
+    let other : false ≡ true = sym (never (beside before l) l) ∙ found-is (λ kind. round kind (beside before l) l) kinds BadZoneFile e in cc)
+    (first-other round last never end (before ++ l ∷ []) ls)
 
 decided-other : (t : Bool) (first later : Option Fault) (said : FileSaid) → kind_of first ≢ Some BadZoneFile → kind_of later ≢ Some BadZoneFile →
     kind_in (cond t (Err bad_fold) (decide first later said)) ≢ Some BadZoneFile
-decided-other true first later said n m e = cc
-decided-other false (Some f) later said n m e = n e
-decided-other false None (Some f) said n m e = m e
-decided-other false None None said n m e = cc
+decided-other t first later said n m e = grind arith
 
 pub no-bad-file : (file : List ℕ) (line : ℕ) → file_of no_files file ≢ Err (record { line = line; kind = BadZoneFile })
 no-bad-file file line e =

@@ -25,8 +25,7 @@ use Rattle.ics_calendar.specs.GivenFiles.{GivenFiles, no_files, with_file, files
 use Rattle.ics_calendar.specs.ZoneTables.{put_given}
 
 pub or-none : {X : Type 0} (o : Option X) → option_or o None ≡ o
-or-none None = refl
-or-none (Some i) = refl
+or-none o = grind arith
 
 pub same-known : (a b : KnownZones) → ((used : ZoneName) → a.index used ≡ b.index used) → a.zones ≡ b.zones →
     ((name : List ℕ) → a.is_bad name ≡ b.is_bad name) →
@@ -39,9 +38,7 @@ with-none known files = simp (append-nil, or-none, or-false)
 
 -- a place that is given where there is none, and then another
 or-placed : {X : Type 0} (k r : Option X) (t : Bool) (x : X) → option_or (option_or k (cond t (Some x) None)) r ≡ option_or k (cond t (Some x) r)
-or-placed (Some y) r t x = refl
-or-placed None r true x = refl
-or-placed None r false x = refl
+or-placed k r t x = grind arith
 
 pub with-further : (known : KnownZones) (files : GivenFiles) (n : List ℕ) (rest : List (List ℕ)) →
     with_files (with_files known files (n ∷ [])) files rest ≡ with_files known files (n ∷ rest)
@@ -129,11 +126,7 @@ table-with known files (n ∷ ns) t = rw (← with-further known files n ns) (ta
 -- ONE FILE, PAIR OR NAME MORE, in a set or a map of a table.
 -- a name more in a set
 pub seen-more : (key name other : List ℕ) (had : Bool) → key ≡ name → cond (is_eq (slice_cmp nat_cmp key other)) true had ≡ (bytes_eq other name || had)
-seen-more key name other had e = rw (e, is_eq-slice_cmp name other, nat_list_eq_equiv.symm name other) (or-is (bytes_eq other name))
-  where
-    or-is : (t : Bool) → cond t true had ≡ (t || had)
-    or-is true = refl
-    or-is false = refl
+seen-more key name other had e = rw (e, is_eq-slice_cmp name other, nat_list_eq_equiv.symm name other) (grind arith)
 
 -- a name for which a file is given that is no zone file
 pub with-bad : (known : KnownZones) (files : GivenFiles) (n : List ℕ) (bad : List ℕ → Bool) → files n ≡ Some None →
@@ -147,10 +140,7 @@ with-bad known files n bad e h =
 -- what is put for a name that has nothing, as the two words say it that leave alone what a name has
 put-new : {X : Type 0} (t : Bool) (o : Option X) (x : X) → (t ≡ true → is_some o ≡ false) →
     (cond t (Some x) o ≡ cond (t && not (is_some o)) (Some x) o) × (cond t (Some x) o ≡ option_or o (cond t (Some x) None))
-put-new true None x h = (refl, refl)
-put-new true (Some y) x h = let never = h refl in cc
-put-new false None x h = (refl, refl)
-put-new false (Some y) x h = (refl, refl)
+put-new t o x h = (grind arith, grind arith)
 
 -- a place, and a file
 pub given-new : (index : List ℕ → Option ℕ) (name : List ℕ) (place : ℕ) (used : List ℕ) → is_some (index name) ≡ false →

@@ -4,6 +4,5 @@ pub mod FilesGiven
 pub mod Settles
 pub mod Whole
 pub mod EventSound
-pub mod ZoneTables
 pub mod Settling
 pub mod FileLaws

@@ -1,5 +1,5 @@
 -- What is settled of what the pass gathers is what the file is, and what it asks for is what the file wants.
-use Rattle.std.proofs.Common.{◌≡◌, ℕ, Bool, true, false, List, [], ◌∷◌, ◌++◌, map, filter, refl, sym, ap, ◌∙◌, arith, cond, Option, Some, None}
+use Rattle.std.proofs.Common.{◌≡◌, ℕ, Bool, List, [], ◌∷◌, ◌++◌, map, filter, refl, sym, ap, ◌∙◌, arith, cond, Option, Some, None}
 use Rattle.std.specs.List.{cons_option}
 use Rattle.std.specs.Option.{option_and_then}
 use Rattle.std.proofs.lemmas.Bool.{and_parts}
@@ -38,12 +38,10 @@ module _ (known : KnownZones) where
   one-check : (number : ℕ) (o : Option DeferredCheck) (ws : List LineCheck) →
       (first_judged known (checks_of number o ++ ws) ≡ found number (option_and_then (judged known) o) (first_judged known ws))
       × (all_unknown known.index (checks_of number o ++ ws) ≡ cons_option (option_and_then (unknown_in known.index) o) (all_unknown known.index ws))
-  one-check number None ws = (refl, refl)
-  one-check number (Some l) ws = (refl, refl)
+  one-check number o ws = (grind arith, grind arith)
 
   one-name : (l : Placed) (ls : List Placed) (t : Bool) → cons_option (cond t (Some (tzid_on l)) None) (map tzid_on ls) ≡ map tzid_on (cond t (l ∷ ls) ls)
-  one-name l ls true = refl
-  one-name l ls false = refl
+  one-name l ls t = grind arith
 
   abbrev Same : List Placed → List Placed → List Placed → Type 0
   Same whole before ls =

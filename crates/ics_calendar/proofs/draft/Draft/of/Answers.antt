@@ -9,12 +9,10 @@ use Rattle.ics_calendar.proofs.draft.Draft.of.Goals as goal
 
 pub invariant_of-result : goal.invariant_of-result
 invariant_of-result c =
-    let g : GatheredSeen = record { zones = c.gathered.inside.zones.items; events = c.gathered.inside.events.items; checks = c.gathered.inside.checks.items } in
-    subst (λ (known : KnownZones). IsSoundDraft known (left_of g.events g.checks)) (sym c.in_ok-table.ensures)
-    (draft-sound g (subst IsSoundGathered (sym c.gathered.view_is) c.requires))
+    subst (λ (known : KnownZones). IsSoundDraft known (left_of c.gathered.inside.events.items c.gathered.inside.checks.items)) (sym c.in_ok-table.ensures)
+    (draft-sound _ (subst IsSoundGathered (sym c.gathered.view_is) c.requires))
 
 pub returns : goal.returns
 returns c =
-    let g : GatheredSeen = record { zones = c.gathered.inside.zones.items; events = c.gathered.inside.events.items; checks = c.gathered.inside.checks.items } in
-    ap (λ (known : KnownZones). drafted known (left_of g.events g.checks)) c.in_ok-table.ensures
+    ap (λ (known : KnownZones). drafted known (left_of c.gathered.inside.events.items c.gathered.inside.checks.items)) c.in_ok-table.ensures
     ∙ ap (λ (g : GatheredSeen). drafted (known_in g) g) c.gathered.view_is
