@@ -86,13 +86,7 @@ pub begun-same : {X Y : Type 0} (s : Sort X) (whole : List Placed) (f : X → Y)
     ((l : Placed) → s.begins l ≡ true → f (s.by (inside l) (lines_in l.number whole)) ≡ g l) → (ls : List Placed) →
     map f (begun s whole ls) ≡ map g (filter s.begins ls)
 begun-same s whole f g h [] = refl
-begun-same s whole f g h (l ∷ ls) = by_test (s.begins l) refl (begun-same s whole f g h ls)
-  where
-    by_test : (t : Bool) → s.begins l ≡ t → map f (begun s whole ls) ≡ map g (filter s.begins ls) →
-        map f (map (λ l. s.by (inside l) (lines_in l.number whole)) (cond t (l ∷ filter s.begins ls) (filter s.begins ls)))
-        ≡ map g (cond t (l ∷ filter s.begins ls) (filter s.begins ls))
-    by_test true e again = rw (h l e, again)
-    by_test false e again = again
+begun-same s whole f g h (l ∷ ls) = let again = begun-same s whole f g h ls in let here = h l in grind (arith, again, here)
 
 -- the names of the zones
 pub names-begun : (whole ls : List Placed) → map (name_by whole) (filter begins_zone ls) ≡ map (λ z. z.name) (begun (zones whole) whole ls)

@@ -1,5 +1,5 @@
 -- The components that are open, as the pass holds them, stand for the path before a line and the lines beside it.
-use Rattle.std.proofs.Common.{◌≡◌, ℕ, suc, true, false, List, [], ◌∷◌, ◌++◌, drop, map, refl, sym, ap, ◌∙◌, Some}
+use Rattle.std.proofs.Common.{arith, ◌≡◌, ℕ, suc, true, false, List, [], ◌∷◌, ◌++◌, drop, map, refl, sym, ap, ◌∙◌, Some}
 use Rattle.std.specs.Prelude.{length, codes}
 use Rattle.std.proofs.lemmas.List.{append-nil}
 use Rattle.ics_text.specs.Bytes.{upper}
@@ -57,8 +57,7 @@ module _ (whole before : List Placed) where
 
   fresh-at : (c : Component) (q : Context) (path : List Open) →
       frame_at c q (readings whole path []) ≡ record { component = c; context = q; calendar = calendar_of path; builder = fresh q }
-  fresh-at c context.Event path = refl
-  fresh-at c _ path = refl
+  fresh-at c q path = grind arith
 
   begun : (l : Placed) (bundles : List Bundle) →
       frames_of whole (record { begin = l; lines = [] } ∷ bundles) ≡ opened l.number (component_of (component l)) (frames_of whole bundles)
@@ -130,5 +129,4 @@ module _ (whole before : List Placed) where
       ap (λ m. unless (fault_in n v f m) (behind number n v (f ∷ frames_of whole bs), passing n v (f ∷ frames_of whole bs))) (length-frames bs)
 
   pub check-top : (n : Name) (v : Parts) (bundles : List Bundle) → check_on n v (frames_of whole bundles) ≡ check_in n v (top_of whole before bundles)
-  check-top n v [] = refl
-  check-top n v (b ∷ bs) = refl
+  check-top n v bundles = grind arith

@@ -82,8 +82,7 @@ pub component_name-of : (u : List ℕ) → component_name (component_of u) ≡ u
 component_name-of u = named (component_of u) (tells_component u)
   where
     named : (c : Component) → TellsComponent u c → component_name c ≡ u
-    named (component.Other w) e = e.1
-    named _ e = cc
+    named c e = grind arith
 
 -- no component stands outside all components
 pub context-in-outside : (q : Context) (c : Component) → context_in q c ≢ context.Outside
@@ -100,9 +99,4 @@ context-tests q w = by_context q (component_of w) (tells_component w)
         (is_event_context (context_in q c) ≡ (is_calendar_context q && bytes_eq w (codes "VEVENT")))
         × (is_zone_context (context_in q c) ≡ (is_calendar_context q && bytes_eq w (codes "VTIMEZONE")))
         × (is_observance_context (context_in q c) ≡ (is_zone_context q && (bytes_eq w (codes "STANDARD") || bytes_eq w (codes "DAYLIGHT"))))
-    by_context context.Outside component.Calendar e = (refl, refl, refl)
-    by_context context.Calendar (component.Other n) e = simp e.0 (refl, refl, refl)
-    by_context context.Zone (component.Other n) e = simp e.0 (refl, refl, refl)
-    by_context context.Calendar _ e = rw e (refl, refl, refl)
-    by_context context.Zone _ e = rw e (refl, refl, refl)
-    by_context _ _ e = (refl, refl, refl)
+    by_context q c e = (grind arith, grind arith, grind arith)

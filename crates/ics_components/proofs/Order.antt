@@ -1,7 +1,7 @@
 -- Where the lines of a component stand, and in which order components begin and end in a file without faults.
 use Rattle.std.proofs.Common.{◌≡◌, List, [], ◌∷◌, ◌++◌, refl, subst, Some, ◌≢◌, ℕ, ◌<◌, ◌≤◌, Bool, true, false, ◌==◌, drop, ap, ◌∙◌, arith, cond}
 use Rattle.std.proofs.Common.{◌&&◌, take, map, filter, sym, append_assoc, Option, None}
-use Rattle.std.proofs.lemmas.Bool.{eq-eqb, ne_eqb, not-false}
+use Rattle.std.proofs.lemmas.Bool.{cond_both, eq-eqb, ne_eqb, not-false}
 use Rattle.std.proofs.lemmas.List.Elements.{filter-append}
 use Rattle.std.specs.Prelude.{find, codes, not}
 use Rattle.std.specs.Str.{bytes_eq}
@@ -44,30 +44,23 @@ below b [] f h = tt
 below b (c ∷ cs) f h = (λ e. omega (arith, e, h), below b cs f.1 (omega (arith, f.0, h)))
 
 absent-behind : (b : ℕ) (l : Placed) → b < l.number → Absent b l.path → Absent b (path_behind l)
-absent-behind b l h a = by_kind (is_begin l) (is_end l)
+absent-behind b l h a =
+    cond_both (is_begin l) (inside l) (cond (is_end l) (drop 1 l.path) l.path) (Absent b) (λ t. (λ e. omega (arith, e, h), a))
+    (λ t. cond_both (is_end l) (drop 1 l.path) l.path (Absent b) (λ t. out l.path a) (λ t. a))
   where
     out : (path : List Open) → Absent b path → Absent b (drop 1 path)
     out [] a = tt
     out (c ∷ cs) a = a.1
 
-    by_kind : (t e : Bool) → Absent b (cond t (inside l) (cond e (drop 1 l.path) l.path))
-    by_kind true e = (λ e. omega (arith, e, h), a)
-    by_kind false true = out l.path a
-    by_kind false false = a
-
 -- what is open behind a line began there or before it, and falls too
 pub falls-behind : (l : Placed) → Falls l.path → innermost l.path < l.number → Falls (path_behind l) × (innermost (path_behind l) ≤ l.number)
-falls-behind l f h = by_kind (is_begin l) (is_end l)
+falls-behind l f h =
+    cond_both (is_begin l) (inside l) (cond (is_end l) (drop 1 l.path) l.path) (λ path. Falls path × (innermost path ≤ l.number)) (λ t. ((h, f), omega arith))
+    (λ t. cond_both (is_end l) (drop 1 l.path) l.path (λ path. Falls path × (innermost path ≤ l.number)) (λ t. out l.path f h) (λ t. (f, omega (arith, h))))
   where
     out : (path : List Open) → Falls path → innermost path < l.number → Falls (drop 1 path) × (innermost (drop 1 path) ≤ l.number)
     out [] f h = (tt, omega arith)
     out (c ∷ cs) f h = (f.1, omega (arith, f.0, h))
-
-    by_kind : (b e : Bool) → Falls (cond b (inside l) (cond e (drop 1 l.path) l.path))
-        × (innermost (cond b (inside l) (cond e (drop 1 l.path) l.path)) ≤ l.number)
-    by_kind true e = ((h, f), omega arith)
-    by_kind false true = out l.path f h
-    by_kind false false = (f, omega (arith, h))
 
 abbrev pub here : Line → List Open → Placed
 here line path = record { number = line.number; content = content_of line.bytes; path = path }
@@ -181,8 +174,7 @@ module _ {X : Type 0} (s : Sort X) (i : IsSort s) (whole before : List Placed) (
           cond t (s.by (inside (here line path)) (lines_in line.number whole) ∷ open_as s whole path) (open_as s whole path) ++ begun s whole rest
           ≡ open_as s whole path
           ++ map (λ l. s.by (inside l) (lines_in l.number whole)) (cond t (here line path ∷ filter s.begins rest) (filter s.begins rest))
-      by_test true alone = rw (alone refl)
-      by_test false alone = refl
+      by_test t alone = grind arith
 
   ends : (n : ℕ) (path : List Open) → IsPlaced whole before path n (line ∷ lines) → is_begin (here line path) ≡ false → is_end (here line path) ≡ true →
       closes path (component (here line path)) ≡ true → Steps path

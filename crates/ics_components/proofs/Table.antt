@@ -129,8 +129,7 @@ not-cond : (t : Bool) (x y : Option FaultKind) → cond (not t) x y ≡ cond t y
 not-cond t x y = grind arith
 
 rule-is : (r : Result RuleParts RuleFault) → rule_fault_of r ≡ cond (is_bad_rule r) (Some BadRule) (cond (is_large_rule r) (Some NumberTooLarge) None)
-rule-is (Err rule_fault.BadRule) = refl
-rule-is _ = refl
+rule-is r = grind arith
 
 ruleset by_tests = (first-cond, or-cond, not-cond, rule-is, has-first)
 
