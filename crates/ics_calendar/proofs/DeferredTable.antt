@@ -49,8 +49,7 @@ ends-as : (known : KnownZones) (calendar : ℕ) (start end : Option Dated) →
 ends-as known k (Some a) (Some b) =
     rw (moment-is known (zone_used k a) a.stamp, moment-is known (zone_used k b) b.stamp)
     (compared-as known (are_of_one_zone a b) (instant_in k a) (instant_in k b))
-ends-as known k (Some a) None = (refl, refl)
-ends-as known k None end = (refl, refl)
+ends-as known k _ _ = (refl, refl)
 
 -- THE SECOND ROUND. A time zone that is not known, as the table finds it, as it is judged, and as it is asked for.
 module _ (known : KnownZones) (zoned : Bool) (used : ZoneName) where

@@ -89,8 +89,7 @@ module _ (known : KnownZones) where
   stamp-time name _ h k = record { years = h; zone = refl }
 
   not-end : (t : Bool) → IsFine known (cond t (Some check.End) None) → t ≡ false
-  not-end true h = cc
-  not-end false h = refl
+  not-end t h = grind arith
 
   end-is : (m n : ZoneName) (a b : Stamp) → is_bad_end (bytes_eq m.name n.name) a b ≡ false → IsFine known (check_between m n a b) → IsEnd a b
   end-is m n (Date a) (Date b) e l = out-within (a *ℤ pos 86_400) (b *ℤ pos 86_400) e
