@@ -170,6 +170,5 @@ module _ (whole : List Placed) (k : List Open) (ls : List Placed) where
     where
       by_context : (p : Context) → builder.Zone (zone_of (parts whole ls ++ cond (is_observance_context p) (own whole b ∷ []) []) ls)
           ≡ joined (builder_at p g) (builder.Zone (zone_of (parts whole ls) ls))
-      by_context context.Observance = ap (λ p. builder.Zone (zone_of (parts whole ls ++ p ∷ []) ls)) o
-      by_context _ = ap (λ os. builder.Zone (zone_of os ls)) (append-nil (parts whole ls))
+      by_context p = grind (arith, append-nil, o)
   builder-begun _ b g n e o = sym (still (builder_at (context_of (inside b)) g) context.Outside g refl)

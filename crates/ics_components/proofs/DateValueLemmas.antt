@@ -146,11 +146,7 @@ read-more {X = X} {read = read} {least_of = least_of} is f ys y {had} {r = r} h 
   where
     by_result : (r : Result X FaultKind) → read (f y) ≡ r →
         and_read (had ++ filter_map (λ v. result_ok (read v)) (map f ys)) r ≡ had ++ filter_map (λ v. result_ok (read v)) (map f ys ++ f y ∷ [])
-    by_result (Ok x) e =
-        rw (filter_map-append (λ v. result_ok (read v)) (map f ys) (f y ∷ []), e)
-        (append_assoc had (filter_map (λ v. result_ok (read v)) (map f ys)) (x ∷ []))
-    by_result (Err k) e =
-        rw (filter_map-append (λ v. result_ok (read v)) (map f ys) (f y ∷ []), e, append-nil (filter_map (λ v. result_ok (read v)) (map f ys))) refl
+    by_result r e = rw (filter_map-append (λ v. result_ok (read v)) (map f ys) (f y ∷ [])) (grind (arith, append_assoc, append-nil))
 
 pub read-all : {X : Type 0} (read : DateValue → Result X FaultKind) (least_of : List DateValue → Option FaultKind) (f : List ℕ → DateValue)
     (ys : List (Bor (List ℕ))) {texts : List (List ℕ)} {o : Option FaultKind} {had ls : List X} → map (λ y. y.now) ys ≡ texts →

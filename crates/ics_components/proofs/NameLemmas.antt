@@ -3,6 +3,7 @@ use Rattle.std.proofs.Common.{◌≡◌, ◌≢◌, ℕ, Bool, true, false, ◌&
 use Rattle.std.specs.Prelude.{codes}
 use Rattle.std.specs.List.{AllByRecursion, list_any}
 use Rattle.std.specs.Str.{bytes_eq}
+use Rattle.std.proofs.lemmas.Bool.{cond_both}
 use Rattle.std.proofs.lemmas.Slice.Eq.{bytes_eq-Decides}
 use Rattle.ics_components.specs.declared.name.Name.{Name}
 use Rattle.ics_components.specs.declared.name.Name.TheVariants as name
@@ -52,15 +53,14 @@ equal xs ys e = (bytes_eq-Decides xs ys).0 e
 told : {X : Type 0} (T : X → Type 0) (other : X) (u : List ℕ) (table : List (List ℕ × X)) → AllByRecursion (λ n. u ≡ n.0 → T n.1) table →
     (IsUnknown table u → T other) → T (named_in table other u)
 told T other u [] h k = k (λ w e. cc)
-told T other u (n ∷ ns) h k = by_test (told T other u ns h.1) (bytes_eq u n.0) refl
+told T other u (n ∷ ns) h k =
+    cond_both (bytes_eq u n.0) n.1 (named_in ns other u) T (λ e. h.0 (equal u n.0 e))
+    (λ e. told T other u ns h.1 (λ g. k (λ w. by_word e g w (bytes_eq w n.0) refl)))
   where
-    by_test : ((IsUnknown ns u → T other) → T (named_in ns other u)) → (t : Bool) → bytes_eq u n.0 ≡ t → T (cond t n.1 (named_in ns other u))
-    by_test again true e = h.0 (equal u n.0 e)
-    by_test again false e = again (λ g. k (λ w. by_word g w (bytes_eq w n.0) refl))
-      where
-        by_word : IsUnknown ns u → (w : List ℕ) (t : Bool) → bytes_eq w n.0 ≡ t → (t || list_any (λ n. bytes_eq w n.0) ns) ≡ true → bytes_eq u w ≡ false
-        by_word g w true f c = rw (equal w n.0 f) e
-        by_word g w false f c = g w c
+    by_word : bytes_eq u n.0 ≡ false → IsUnknown ns u → (w : List ℕ) (t : Bool) → bytes_eq w n.0 ≡ t →
+        (t || list_any (λ n. bytes_eq w n.0) ns) ≡ true → bytes_eq u w ≡ false
+    by_word e g w true f c = rw (equal w n.0 f) e
+    by_word e g w false f c = g w c
 
 pub tells : (u : List ℕ) → Tells u (name_of u)
 tells u = told (Tells u) name.Other u words (search rules) (λ none. none)

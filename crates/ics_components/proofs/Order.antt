@@ -21,8 +21,7 @@ use Rattle.ics_components.specs.declared.name.Name.TheVariants as name
 -- The last line.
 pub last-more : (before : List Placed) (l : Placed) → last_of (before ++ l ∷ []) ≡ Some l
 last-more [] l = refl
-last-more (k ∷ []) l = refl
-last-more (k ∷ m ∷ ms) l = last-more (m ∷ ms) l
+last-more (k ∷ ms) l = let again = last-more ms l in grind (arith, again)
 
 -- Where the lines of a component stand: between its BEGIN and its END.
 -- what began later stands further in

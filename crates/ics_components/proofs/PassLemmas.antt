@@ -70,9 +70,8 @@ gathered-none : (whole : List Placed) (had : GatheredSeen) (before : List Placed
 gathered-none whole had before = simp append-nil
 
 -- what is added by a line, and then by those behind it
-module _ {X : Type 0} where
-  further : (had here more rest : List X) → more ≡ here → (had ++ more) ++ rest ≡ had ++ (here ++ rest)
-  further had here more rest e = ap (λ m. (had ++ m) ++ rest) e ∙ append_assoc had here rest
+further : {X : Type 0} (had here more rest : List X) → more ≡ here → (had ++ more) ++ rest ≡ had ++ (here ++ rest)
+further had here more rest e = ap (λ m. (had ++ m) ++ rest) e ∙ append_assoc had here rest
 
 -- THE PASS.
 abbrev pub with_content : Line → List Open → Option Parts → Placed
@@ -92,9 +91,6 @@ abbrev IsAt : List Placed → List Placed → List Bundle → List Line → Type
 IsAt whole before bundles [] = Unit {0}
 IsAt whole before bundles (line ∷ lines) = IsOn whole before bundles (with_content line (opens bundles) (content_of line.bytes)) lines
 
-later : (m n : ℕ) (before : List Placed) → m ≤ n → Before m before → Before n before
-later m n before le = All-weaker (λ l. innermost l.path < m) (λ l. innermost l.path < n) (λ l h. omega (arith, h, le)) before
-
 at-next : {whole before : List Placed} {bundles : List Bundle} (l : Placed) (lines : List Line) → IsOn whole before bundles l lines →
     IsAt whole (before ++ l ∷ []) (bundles_behind l bundles) lines
 at-next l [] on = tt
@@ -105,7 +101,8 @@ at-next {before = before} {bundles = bundles} l (m ∷ ms) on =
       place = refl;
       kept = keeps before l bundles on.earlier on.inner on.place on.kept;
       earlier =
-          All-push (λ k. innermost k.path < m.number) before l (later l.number m.number before (omega (arith, on.rises.0)) on.earlier)
+          All-push (λ k. innermost k.path < m.number) before l
+          (All-weaker (λ k. innermost k.path < l.number) (λ k. innermost k.path < m.number) (λ k h. omega (arith, h, on.rises.0)) before on.earlier)
           (omega (arith, on.inner, on.rises.0));
       inner = rw (opens-behind l bundles on.place) (omega (arith, falls.1, on.rises.0));
       rises = on.rises.1;

@@ -1,6 +1,6 @@
 -- The table of faults and the pass find one fault on a line.
 use Rattle.std.proofs.lemmas.Bool.Decides.{nat_tests}
-use Rattle.std.proofs.Common.{rules, ◌≡◌, ℕ, Bool, true, false, List, [], ◌∷◌, map, refl, ap, ◌∙◌, arith, cond, Option, Some, None, Result, Err}
+use Rattle.std.proofs.Common.{rules, ◌≡◌, ℕ, Bool, true, false, List, [], ◌∷◌, map, refl, ap, ◌∙◌, arith, cond, Option, Some, None, Result}
 use Rattle.std.specs.Prelude.{codes, length, find, filter, flat_map, not, nat_le, ◌==◌, ◌&&◌, ◌||◌, is_some, option_map}
 use Rattle.std.specs.List.{list_any}
 use Rattle.std.specs.Str.{bytes_eq}
@@ -12,7 +12,6 @@ use Rattle.ics_values.specs.Integers.{integer_of}
 use Rattle.ics_fields.specs.Observances.{ObservanceSaid}
 use Rattle.ics_fields.specs.RuleParts.{RuleParts}
 use Rattle.ics_values.specs.declared.rule_text.RuleFault.{RuleFault}
-use Rattle.ics_values.specs.declared.rule_text.RuleFault.TheVariants as rule_fault
 use Rattle.ics_components.specs.declared.builder.Builder.{Builder}
 use Rattle.ics_components.specs.declared.builder.Builder.TheVariants as builder
 use Rattle.ics_components.specs.declared.builder.ObservanceBuilder.{ObservanceBuilder}
