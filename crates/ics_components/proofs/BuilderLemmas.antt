@@ -43,8 +43,7 @@ all-more : {Y : Type 0} (made : List Placed → Y) (and_one : Y → Y) (n : List
 all-more made and_one n ls l more = ap made (filter-append (is_named n) ls (l ∷ [])) ∙ by_test (is_named n l)
   where
     by_test : (t : Bool) → made (all_named n ls ++ cond t (l ∷ []) []) ≡ cond t (and_one (made (all_named n ls))) (made (all_named n ls))
-    by_test true = more (all_named n ls)
-    by_test false = ap made (append-nil (all_named n ls))
+    by_test t = let one = more (all_named n ls) in grind (arith, append-nil, one)
 
 -- what they say, what is kept of the first, and what they list
 named-more : {X : Type 0} (f : Placed → X) (n : List ℕ) (ls : List Placed) (l : Placed) →

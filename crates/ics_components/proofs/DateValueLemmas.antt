@@ -155,14 +155,8 @@ read-all read least_of f ys {o = o} {had = had} {ls = ls} e h =
     subst (λ vs. IsRead read least_of had vs o ls) (sym (map-map f (λ y. y.now) ys) ∙ ap (map f) e) h
 
 -- of an event
-err-unless : {X : Type 0} (o : Option FaultKind) (x : X) → o ≡ result_err (unless o x)
-err-unless o x = grind arith
-
 pub dates-read : IsReader judged dates_fault
-dates-read = record {
-  one = λ v. err-unless (dates_fault (v ∷ [])) (listed_in v) ∙ ap result_err (sym (judged-is v));
-  append = dates-append;
-}
+dates-read = record { one = λ v. grind arith; append = dates-append }
 
 least-none : (o p : Option FaultKind) → least o p ≡ None → (o ≡ None) × (p ≡ None)
 least-none o p e = (grind arith, grind arith)
