@@ -32,9 +32,6 @@ pub record Adds {S : Type 0} (step : S → List ℕ → S) (sees : S → Bool) (
 or_swap : (a b c : Bool) → (a || (b || c)) ≡ ((b || a) || c)
 or_swap a b c = grind (arith, nat_tests)
 
-pub or_false : (t u : Bool) → u ≡ false → (t || u) ≡ t
-or_false t u e = grind (arith, nat_tests)
-
 pub gathered : {S : Type 0} {step : S → List ℕ → S} {sees : S → Bool} {test fits : List ℕ → Bool} {Fine : S → Type 0} → Adds step sees test fits Fine
     → (items : List (List ℕ)) → list_all fits items ≡ true → (s : S) → Fine s → sees (fold step s items) ≡ (list_any test items || sees s)
 gathered a [] h s f = refl
@@ -57,10 +54,9 @@ place_added : (side : Side) (n k : ℕ) (item : List ℕ) (p : Ordinals) → k <
 place_added side n k item p h = by_test side (begins is_minus item)
   where
     by_test : (s : Side) (b : Bool) → has_place s n (with_ordinal (cond b Back Front) k p) ≡ ((is_side s b && (n == k)) || has_place s n p)
-    by_test Front true = refl
     by_test Front false = contains-with_number p.front k n h
     by_test Back true = contains-with_number p.back k n h
-    by_test Back false = refl
+    by_test _ _ = refl
 
 pub adds_place : (high : ℕ) → high < 64 → (side : Side) (n : ℕ)
     → Adds (λ p i. with_ordinal (side_of i) (number_of (unsigned i)) p) (has_place side n) (is_place side n) (is_signed high) (λ p. Unit {0})
@@ -83,10 +79,9 @@ wide_added : (side : Side) (n k : ℕ) (item : List ℕ) {p : WideOrdinals} → 
 wide_added side n k item {p} h w = by_test side (begins is_minus item)
   where
     by_test : (s : Side) (b : Bool) → has_wide_place s n (with_wide_ordinal (cond b Back Front) k p) ≡ ((is_side s b && (n == k)) || has_wide_place s n p)
-    by_test Front true = refl
     by_test Front false = contains_wide-with_number p.front k n (let e = w.front in omega arith) h
     by_test Back true = contains_wide-with_number p.back k n (let e = w.back in omega arith) h
-    by_test Back false = refl
+    by_test _ _ = refl
 
 pub adds_wide_place : (high : ℕ) → high < 384 → (side : Side) (n : ℕ)
     → Adds (λ p i. with_wide_ordinal (side_of i) (number_of (unsigned i)) p) (has_wide_place side n) (is_place side n) (is_signed high) IsWide

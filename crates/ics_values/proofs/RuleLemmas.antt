@@ -2,6 +2,7 @@
 use Rattle.std.proofs.Common.{◌≡◌, ◌<◌, ℕ, Bool, true, false, ◌&&◌, ◌||◌, ◌==◌, List, [], ◌∷◌, map, Option, Some, None, Result, Ok, Err, refl}
 use Rattle.std.proofs.Common.{arith, inl, inr, lit<, not, fold, option_and_then, if◌then◌else◌}
 use Rattle.std.specs.List.{list_any, list_all}
+use Rattle.std.proofs.Math.Bool.{or-false}
 use Rattle.std.proofs.lemmas.Bool.{cases_Bool, or_right}
 use Rattle.std.proofs.lemmas.Bool.Decides.{nat_tests}
 use Rattle.ics_values.specs.declared.rule_text.Draft.{Draft}
@@ -129,14 +130,12 @@ told-part d (Some name) value ps rest h = elim (cases_Bool (contains d.seen (row
   ]
 ]
 
-or_none : (t : Bool) → (t || false) ≡ t
-or_none t = grind (arith, nat_tests)
-
 -- parts that are read one after another
 told-walk : (d : Draft) (texts : List (List ℕ)) → told d (map part_of texts) ≡ answer_of (walk part_taken d texts)
-told-walk d [] = simp or_none
+told-walk d [] = simp or-false
 told-walk d (text ∷ texts) = told-part d (part_of text).name (part_of text).value (map part_of texts) _ (λ e. told-walk e texts)
 
-pub rule_of-walk : (text : List ℕ) → rule_of text ≡ answer_of (walk part_taken no_parts (pieces 59 (without_last text)))
+-- a rule is the answer to the draft behind all parts
+pub rule_of-walk : (text : List ℕ) {draft : Option Draft} → draft ≡ walk part_taken no_parts (pieces 59 (without_last text)) → rule_of text ≡ answer_of draft
 unfolding rule_of
-rule_of-walk text = rw (← all_new (map part_of (pieces 59 (without_last text)))) (told-walk no_parts (pieces 59 (without_last text)))
+rule_of-walk text e = rw (← all_new (map part_of (pieces 59 (without_last text))), e) (told-walk no_parts (pieces 59 (without_last text)))

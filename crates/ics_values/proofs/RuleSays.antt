@@ -3,6 +3,7 @@ use Rattle.std.proofs.Common.{◌≡◌, ◌<◌, ℕ, length, Bool, true, false
 use Rattle.std.proofs.Common.{inl, inr, sym, ◌∙◌, lit<, arith, not, fold, min, option_map, option_and_then, unwrap_or, is_some, if◌then◌else◌}
 use Rattle.std.specs.List.{list_any, list_all}
 use Rattle.std.specs.Option.{option_map_or}
+use Rattle.std.proofs.Math.Bool.{or-false}
 use Rattle.std.proofs.lemmas.Bool.{and_parts, cases_Bool, eqb-true, false≢true, not-true}
 use Rattle.std.proofs.lemmas.Bool.Decides.{nat_tests}
 use Rattle.std.proofs.lemmas.List.Splits.{length-slice_split}
@@ -26,7 +27,7 @@ use Rattle.ics_values.specs.RuleTexts.{frequency_of, weekday_of, until_of, same_
 use Rattle.ics_values.specs.Rules.{has_large_number, rule_said, rule_of, with_item, with_value, with_named, with_part, with_day}
 use Rattle.ics_values.specs.RuleLaws.{value_of, items_of, has_place, has_wide_place, lists_nothing, Says}
 use Rattle.ics_fields.proofs.SetLemmas.{has_none, none_wide_has}
-use Rattle.ics_values.proofs.ListedLemmas.{Adds, IsWide, gathered, or_false, number_high, adds_number, adds_place, adds_wide_place, adds_weekday}
+use Rattle.ics_values.proofs.ListedLemmas.{Adds, IsWide, gathered, number_high, adds_number, adds_place, adds_wide_place, adds_weekday}
 use Rattle.ics_values.proofs.ListedLemmas.{adds_numbered, Fills, fills_number, fills_place, fills_wide_place, fills_day}
 use Rattle.ics_values.specs.Texts.{unsigned}
 use Rattle.ics_values.specs.declared.part_name.PartName.TheVariants as part
@@ -133,14 +134,6 @@ said_there of none (Some v) fit = by_value (of v) fit
     by_value None k = absurd (false≢true k)
     by_value (Some x) k = refl
 
-until_is : (o : Option (List ℕ)) → option_map_or until_of o None ≡ option_and_then until_of o
-until_is None = refl
-until_is (Some v) = refl
-
-count_is : (o : Option (List ℕ)) → option_map_or (λ v. Some (number_of v)) o None ≡ option_map number_of o
-count_is None = refl
-count_is (Some v) = refl
-
 frequency_is : (o : Option (List ℕ)) → is_some o ≡ true → option_and_then frequency_of o ≡ option_map_or frequency_of o (Some Yearly)
 frequency_is None there = cc
 frequency_is (Some v) there = refl
@@ -191,14 +184,14 @@ module _ (ps : List Part) (h : AreParts ps) where
       → Adds step sees test (fits_list list) Fine → (none : A) → Fine none → sees none ≡ false
       → sees (fold step none (items_of list ps)) ≡ list_any test (items_of list ps)
   listed list {sees = sees} {test = test} adds none fine empty =
-      gathered adds (items_of list ps) (items_fit list ps h.each) none fine ∙ or_false (list_any test (items_of list ps)) (sees none) empty
+      gathered adds (items_of list ps) (items_fit list ps h.each) none fine ∙ rw empty (or-false (list_any test (items_of list ps)))
 
   pub says : Says ps (said ps (every Yearly))
   says = record {
     frequency = frequency_is (value_of part.Freq ps) (value_there part.Freq ps ∙ h.frequency)
         ∙ sym (said_there frequency_of Yearly (value_of part.Freq ps) (value_passes part.Freq ps h.each));
-    until = until_is (value_of part.Until ps);
-    count = count_is (value_of part.Count ps);
+    until = elim (value_of part.Until ps) as (λ o. option_map_or until_of o None ≡ option_and_then until_of o) [ None ↦ refl | Some v ↦ refl ];
+    count = elim (value_of part.Count ps) as (λ o. option_map_or (λ v. Some (number_of v)) o None ≡ option_map number_of o) [ None ↦ refl | Some v ↦ refl ];
     interval = refl;
     week_start = said_there weekday_of Monday (value_of part.Wkst ps) (value_passes part.Wkst ps h.each);
     seconds = λ n. listed BySecond (adds_number (λ i. min (number_of i) 59) (fits_list BySecond) (λ i fit. let last = number_high 0 60 i fit in omega arith) n)

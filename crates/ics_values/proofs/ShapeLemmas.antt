@@ -2,7 +2,7 @@
 use Rattle.std.proofs.Common.{◌≡◌, ◌≢◌, ℕ, suc, ◌+◌, ◌-◌, ◌*◌, ◌<◌, true, false, ◌==◌, List, [], ◌∷◌, ◌++◌, length, take, drop, refl, sym, ap, ◌∙◌, fold}
 use Rattle.std.proofs.Common.{arith, inl, inr, bytes_eq}
 use Rattle.std.specs.List.{list_all, list_any}
-use Rattle.std.proofs.lemmas.Bool.{and_cases, and_left, and_right, cases_Bool, eq-eqb, false_from_ne_true, ne_eqb, true_from_ne_false}
+use Rattle.std.proofs.lemmas.Bool.{cases_Bool, eq-eqb, false_from_ne_true, ne_eqb, true_from_ne_false}
 use Rattle.std.proofs.lemmas.Bool.Decides.{nat_tests}
 use Rattle.ics_values.specs.Digits.{is_digit, upper, number_of, digit_count}
 use Rattle.ics_values.specs.Texts.{begins, begins_with}
@@ -82,22 +82,10 @@ bytes_eq-front : (front s x : List ℕ) → bytes_eq (front ++ s) (front ++ x) �
 bytes_eq-front [] s x = refl
 bytes_eq-front (f ∷ fs) s x = rw (eq-eqb f f refl) (bytes_eq-front fs s x)
 
-bytes_eq-other : (front s x : List ℕ) → begins_with front s ≡ false → bytes_eq s (front ++ x) ≡ false
-bytes_eq-other [] s x h = cc
-bytes_eq-other (f ∷ fs) [] x h = refl
-bytes_eq-other (f ∷ fs) (b ∷ bs) x h = elim (and_cases (b == f) (begins_with fs bs) h) [
-  | inl e ↦ and_left (b == f) (bytes_eq bs (fs ++ x)) e
-  | inr e ↦ and_right (b == f) (bytes_eq bs (fs ++ x)) (bytes_eq-other fs bs x e)
-]
-
--- what is asked behind a front that is there, and a front that is not
-pub any-behind : (front s : List ℕ) (shapes : List (List ℕ)) → list_any (bytes_eq (front ++ s)) (behind front shapes) ≡ list_any (bytes_eq s) shapes
+-- what is asked behind a front that is there
+any-behind : (front s : List ℕ) (shapes : List (List ℕ)) → list_any (bytes_eq (front ++ s)) (behind front shapes) ≡ list_any (bytes_eq s) shapes
 any-behind front s [] = refl
 any-behind front s (x ∷ xs) = rw (bytes_eq-front front s x, any-behind front s xs) refl
-
-pub none-behind : (front s : List ℕ) (shapes : List (List ℕ)) → begins_with front s ≡ false → list_any (bytes_eq s) (behind front shapes) ≡ false
-none-behind front s [] h = refl
-none-behind front s (x ∷ xs) h = rw (bytes_eq-other front s x h, none-behind front s xs h) refl
 
 pub has_shape-behind : (front text rest : List ℕ) (shapes : List (List ℕ)) → shape text ≡ front ++ shape rest →
     has_shape (behind front shapes) text ≡ has_shape shapes rest
