@@ -18,7 +18,7 @@ same-value : (v w : Value) → IsValue v → IsValue w → value_text v ≡ valu
 same-value v w ok_v ok_w e =
     let quoted : v.quoted ≡ w.quoted = sym (begins-value v.quoted v.bytes ok_v) ∙ ap (begins (λ b. b == 34)) e ∙ begins-value w.quoted w.bytes ok_w in
     let bytes : v.bytes ≡ w.bytes = sym (without_quotes-value v.quoted v.bytes ok_v) ∙ ap without_quotes e ∙ without_quotes-value w.quoted w.bytes ok_w in
-    ap (λ (q : Bool). record { quoted = q; bytes = v.bytes }) quoted ∙ ap (λ (b : List ℕ). record { quoted = w.quoted; bytes = b }) bytes
+    λ i. record { quoted = quoted i; bytes = bytes i }
 
 -- lists are one where their texts are, if each text has one reading
 module _ {A : Type 0} (text : A → List ℕ) (Ok : A → Type 0) (one : (x y : A) → Ok x → Ok y → text x ≡ text y → x ≡ y) where
@@ -31,12 +31,6 @@ module _ {A : Type 0} (text : A → List ℕ) (Ok : A → Type 0) (one : (x y : 
       let more = same-list xs ys ok_x.1 ok_y.1 (cc) in
       cc
 
-same-parts : (p q : Param) → p.name ≡ q.name → p.first ≡ q.first → p.others ≡ q.others → p ≡ q
-same-parts p q name first others =
-    ap (λ (n : List ℕ). record { name = n; first = p.first; others = p.others }) name
-    ∙ ap (λ (v : Value). record { name = q.name; first = v; others = p.others }) first
-    ∙ ap (λ (vs : List Value). record { name = q.name; first = q.first; others = vs }) others
-
 same-param : (p q : Param) → IsParam p → IsParam q → text_of p ≡ text_of q → p ≡ q
 same-param p q ok_p ok_q e =
     let name : p.name ≡ q.name = sym (name-part p ok_p) ∙ ap (take_while is_name_byte) e ∙ name-part q ok_q in
@@ -48,7 +42,7 @@ same-param p q ok_p ok_q e =
     same-list value_text IsValue same-value _ _ (ok_p.first, ok_p.others) (ok_q.first, ok_q.others) texts in
     let first : p.first ≡ q.first = cc in
     let others : p.others ≡ q.others = cc in
-    same-parts p q name first others
+    λ i. record { name = name i; first = first i; others = others i }
 
 pub same-params : (text : List ℕ) (ps qs : List Param) → IsParams text ps → IsParams text qs → ps ≡ qs
 same-params text ps qs p q =

@@ -71,35 +71,28 @@ abbrev Ahead : (ℕ → Move) → List ℕ → Type 0
 Ahead move [] = move 58 ≡ Value
 Ahead move (b ∷ text) = OnTo (move b) text
 
-ends-ahead : (vs : List Parameter) (ps : List Param) → Rest vs ps → Ahead ends_value (more vs ps)
-ends-ahead [] [] ok = refl
-ends-ahead [] (p ∷ ps) ok = (
+-- behind a name parameters follow, or the colon
+params-ahead : (move : ℕ → Move) → (move 58 ≡ Value) × (move 59 ≡ On BeforeParam) → (ps : List Param) → AllByRecursion IsParam ps → Ahead move (params_text ps)
+params-ahead move ends [] ok = ends.0
+params-ahead move ends (p ∷ ps) ok = (
   BeforeParam,
   tail_of p.name p.first p.others ps,
-  refl,
-  (ok.params.0.name, ok.params.0.first, record { values = ok.params.0.others; params = ok.params.1 }),
+  ends.1,
+  (ok.0.name, ok.0.first, record { values = ok.0.others; params = ok.1 }),
   ap (drop 1) (params-param p ps),
 )
-ends-ahead (v ∷ vs) ps ok =
-    (BeforeValue, tail_of [] v vs ps, refl, (ok.values.0, record { values = ok.values.1; params = ok.params }), append_assoc (value_text v) _ _)
 
--- behind a value without quotes all is as behind one with them
-plain-ahead : (vs : List Parameter) (ps : List Param) → Ahead ends_value (more vs ps) → Ahead in_value (more vs ps)
-plain-ahead [] [] h = h
-plain-ahead _ _ h = h
-
-empty-ahead : (vs : List Parameter) (ps : List Param) → Ahead ends_value (more vs ps) → Ahead (step BeforeValue) (more vs ps)
-empty-ahead [] [] h = h
-empty-ahead _ _ h = h
-
-name-ahead : (ps : List Param) → Ahead ends_value (params_text ps) → Ahead (step InName) (params_text ps)
-name-ahead [] h = h
-name-ahead (p ∷ ps) h = h
+-- and behind a value also more values
+ends-ahead : (move : ℕ → Move) → (move 58 ≡ Value) × (move 59 ≡ On BeforeParam) → move 44 ≡ On BeforeValue → (vs : List Parameter) (ps : List Param)
+    → Rest vs ps → Ahead move (more vs ps)
+ends-ahead move ends values [] ps ok = params-ahead move ends ps ok.params
+ends-ahead move ends values (v ∷ vs) ps ok =
+    (BeforeValue, tail_of [] v vs ps, values, (ok.values.0, record { values = ok.values.1; params = ok.params }), append_assoc (value_text v) _ _)
 
 value-ahead : (quoted : Bool) (bytes : List ℕ) (vs : List Parameter) (ps : List Param) → IsValue (record { quoted = quoted; bytes = bytes }) → Rest vs ps
     → Ahead (step BeforeValue) (value_text (record { quoted = quoted; bytes = bytes }) ++ more vs ps)
 value-ahead true bytes vs ps h ok = (InQuotes, tail_of bytes none vs ps, refl, (h, ok), append_assoc bytes (34 ∷ []) (more vs ps))
-value-ahead false [] vs ps h ok = empty-ahead vs ps (ends-ahead vs ps ok)
+value-ahead false [] vs ps h ok = ends-ahead (step BeforeValue) (refl, refl) refl vs ps ok
 value-ahead false (b ∷ bs) vs ps h ok =
     let parts = and_parts (is_plain_byte b) (list_all is_plain_byte bs) h in
     (InPlain, tail_of bs none vs ps, rw (parts.0, (plain-no_sign b parts.0).quote) refl, (parts.1, ok), refl)
@@ -107,26 +100,21 @@ value-ahead false (b ∷ bs) vs ps h ok =
 forth : (state : ScanState) (bytes : List ℕ) (v : Parameter) (vs : List Parameter) (ps : List Param) → TailOk state (tail_of bytes v vs ps)
     → Ahead (step state) (tail_text state (tail_of bytes v vs ps))
 forth Start [] v vs ps ok = absurd (ok.0.some refl)
-forth Start (b ∷ bs) v vs ps ok =
-    let parts = and_parts (is_name_byte b) (list_all is_name_byte bs) ok.0.bytes in (InName, tail_of bs v vs ps, rw parts.0 refl, (parts.1, ok.1), refl)
-forth InName [] v vs ps ok = name-ahead ps (ends-ahead [] ps (record { values = tt; params = ok.1 }))
-forth InName (b ∷ bs) v vs ps ok =
-    let parts = and_parts (is_name_byte b) (list_all is_name_byte bs) ok.0 in (InName, tail_of bs v vs ps, rw parts.0 refl, (parts.1, ok.1), refl)
+forth Start (b ∷ bs) v vs ps ok = let parts = and_parts (is_name_byte b) _ ok.0.bytes in (InName, tail_of bs v vs ps, rw parts.0 refl, (parts.1, ok.1), refl)
+forth InName [] v vs ps ok = params-ahead (step InName) (refl, refl) ps ok.1
+forth InName (b ∷ bs) v vs ps ok = let parts = and_parts (is_name_byte b) _ ok.0 in (InName, tail_of bs v vs ps, rw parts.0 refl, (parts.1, ok.1), refl)
 forth BeforeParam [] v vs ps ok = absurd (ok.0.some refl)
 forth BeforeParam (b ∷ bs) v vs ps ok =
-    let parts = and_parts (is_name_byte b) (list_all is_name_byte bs) ok.0.bytes in (InParam, tail_of bs v vs ps, rw parts.0 refl, (parts.1, ok.1, ok.2), refl)
+    let parts = and_parts (is_name_byte b) _ ok.0.bytes in (InParam, tail_of bs v vs ps, rw parts.0 refl, (parts.1, ok.1, ok.2), refl)
 forth InParam [] v vs ps ok = (BeforeValue, tail_of [] v vs ps, refl, (ok.1, ok.2), refl)
-forth InParam (b ∷ bs) v vs ps ok =
-    let parts = and_parts (is_name_byte b) (list_all is_name_byte bs) ok.0 in (InParam, tail_of bs v vs ps, rw parts.0 refl, (parts.1, ok.1, ok.2), refl)
+forth InParam (b ∷ bs) v vs ps ok = let parts = and_parts (is_name_byte b) _ ok.0 in (InParam, tail_of bs v vs ps, rw parts.0 refl, (parts.1, ok.1, ok.2), refl)
 forth BeforeValue bytes v vs ps ok = value-ahead v.quoted v.bytes vs ps ok.0 ok.1
-forth InPlain [] v vs ps ok = plain-ahead vs ps (ends-ahead vs ps ok.1)
-forth InPlain (b ∷ bs) v vs ps ok =
-    let parts = and_parts (is_plain_byte b) (list_all is_plain_byte bs) ok.0 in (InPlain, tail_of bs v vs ps, rw parts.0 refl, (parts.1, ok.1), refl)
+forth InPlain [] v vs ps ok = ends-ahead (step InPlain) (refl, refl) refl vs ps ok.1
+forth InPlain (b ∷ bs) v vs ps ok = let parts = and_parts (is_plain_byte b) _ ok.0 in (InPlain, tail_of bs v vs ps, rw parts.0 refl, (parts.1, ok.1), refl)
 forth InQuotes [] v vs ps ok = (AfterQuotes, tail_of [] v vs ps, refl, ok.1, refl)
 forth InQuotes (b ∷ bs) v vs ps ok =
-    let parts = and_parts (is_quoted_byte b) (list_all is_quoted_byte bs) ok.0 in
-    (InQuotes, tail_of bs v vs ps, rw (parts.0, quoted-no_quote b parts.0) refl, (parts.1, ok.1), refl)
-forth AfterQuotes bytes v vs ps ok = ends-ahead vs ps ok
+    let parts = and_parts (is_quoted_byte b) _ ok.0 in (InQuotes, tail_of bs v vs ps, rw (parts.0, quoted-no_quote b parts.0) refl, (parts.1, ok.1), refl)
+forth AfterQuotes bytes v vs ps ok = ends-ahead ends_value (refl, refl) refl vs ps ok
 
 -- a text leads from a place to the colon behind it
 leads : (rest text : List ℕ) (state : ScanState) (t : Tail) → TailOk state t → text ≡ tail_text state t
@@ -222,16 +210,13 @@ back InQuotes b q t s = on_test (Back InQuotes b t) (b == 34) AfterQuotes s
 abbrev Stops : ScanState → ℕ → Type 0
 Stops state b = (b ≡ 58) × ((t : Tail) × TailOk state t × (tail_text state t ≡ []))
 
-refused_no : Refused ≡ Value → ⊥
-refused_no e = cc
-
 -- the byte that ends the parameters passes no test before the last
 value_last : (t : Bool) (p : ScanState) (other : Move) → (if t then On p else other) ≡ Value → other ≡ Value
 value_last true p other e = cc
 value_last false p other e = e
 
 is_colon : (b : ℕ) → (if b == 58 then Value else Refused) ≡ Value → b ≡ 58
-is_colon b e = eqb-true b 58 (true_from_ne_false (b == 58) (λ not. refused_no (rw not at e)))
+is_colon b e = eqb-true b 58 (true_from_ne_false (b == 58) (λ not. let no = rw not at e in cc))
 
 ends-colon : (b : ℕ) → ends_value b ≡ Value → b ≡ 58
 ends-colon b s = is_colon b (value_last (b == 59) BeforeParam _ (value_last (b == 44) BeforeValue _ s))
@@ -246,13 +231,13 @@ no_rest : Rest [] []
 no_rest = record { values = tt; params = tt }
 
 stop : (state : ScanState) (b : ℕ) → step state b ≡ Value → Stops state b
-stop Start b s = absurd (refused_no (value_last (is_name_byte b) InName Refused s))
+stop Start b s = let no = value_last (is_name_byte b) InName Refused s in cc
 stop InName b s = (is_colon b (value_last (b == 59) BeforeParam _ (value_last (is_name_byte b) InName _ s)), (nothing, (refl, tt), refl))
-stop BeforeParam b s = absurd (refused_no (value_last (is_name_byte b) InParam Refused s))
-stop InParam b s = absurd (refused_no (value_last (b == 61) BeforeValue Refused (value_last (is_name_byte b) InParam _ s)))
+stop BeforeParam b s = let no = value_last (is_name_byte b) InParam Refused s in cc
+stop InParam b s = let no = value_last (b == 61) BeforeValue Refused (value_last (is_name_byte b) InParam _ s) in cc
 stop BeforeValue b s = (value-colon b (value_last (b == 34) InQuotes _ s), (nothing, (refl, no_rest), refl))
 stop InPlain b s = (value-colon b s, (nothing, (refl, no_rest), refl))
-stop InQuotes b s = absurd (refused_no (value_last (is_quoted_byte b) InQuotes Refused (value_last (b == 34) AfterQuotes _ s)))
+stop InQuotes b s = let no = value_last (is_quoted_byte b) InQuotes Refused (value_last (b == 34) AfterQuotes _ s) in cc
 stop AfterQuotes b s = (ends-colon b s, (nothing, no_rest, refl))
 
 pub record Found (state : ScanState) (bs : List ℕ) (k : ℕ) : Type 0 where
