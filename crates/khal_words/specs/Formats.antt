@@ -36,15 +36,7 @@ is_plain text = list_all (λ b. not (is_brace b)) text
 
 pub entry_names_plain : (field : EntryField) → is_plain (entry_name field) ≡ true
 entry_names_plain entry.Cell = refl
-entry_names_plain entry.Title = refl
-entry_names_plain entry.StartTime = refl
-entry_names_plain entry.EndTime = refl
-entry_names_plain entry.StartDate = refl
-entry_names_plain entry.EndDate = refl
-entry_names_plain entry.Location = refl
-entry_names_plain entry.Description = refl
-entry_names_plain entry.Uid = refl
-entry_names_plain entry.Cancelled = refl
+entry_names_plain field = refl
 
 pub day_names_plain : (field : DayField) → is_plain (day_name field) ≡ true
 day_names_plain day.Name = refl
