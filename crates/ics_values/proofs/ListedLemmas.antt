@@ -49,20 +49,17 @@ pub adds_number : (f : List ℕ → ℕ) (fits : List ℕ → Bool) → ((i : Li
     → Adds (λ s i. with_number (f i) s) (λ s. contains s n) (λ i. n == f i) fits (λ s. Unit {0})
 adds_number f fits small n = record { fine = λ s i h u. tt; adds = λ s i h u. contains-with_number s (f i) n (small i h) }
 
-place_added : (side : Side) (n k : ℕ) (item : List ℕ) (p : Ordinals) → k < 64 →
-    has_place side n (with_ordinal (side_of item) k p) ≡ ((is_side side (begins is_minus item) && (n == k)) || has_place side n p)
-place_added side n k item p h = by_test side (begins is_minus item)
-  where
-    by_test : (s : Side) (b : Bool) → has_place s n (with_ordinal (cond b Back Front) k p) ≡ ((is_side s b && (n == k)) || has_place s n p)
-    by_test Front false = contains-with_number p.front k n h
-    by_test Back true = contains-with_number p.back k n h
-    by_test _ _ = refl
+place_added : (side : Side) (minus : Bool) (n k : ℕ) (p : Ordinals) → k < 64 →
+    has_place side n (with_ordinal (cond minus Back Front) k p) ≡ ((is_side side minus && (n == k)) || has_place side n p)
+place_added Front false n k p h = contains-with_number p.front k n h
+place_added Back true n k p h = contains-with_number p.back k n h
+place_added _ _ n k p h = refl
 
 pub adds_place : (high : ℕ) → high < 64 → (side : Side) (n : ℕ)
     → Adds (λ p i. with_ordinal (side_of i) (number_of (unsigned i)) p) (has_place side n) (is_place side n) (is_signed high) (λ p. Unit {0})
 adds_place high small side n = record {
   fine = λ p i h u. tt;
-  adds = λ p i h u. let last = number_high 1 high (unsigned i) h in place_added side n (number_of (unsigned i)) i p (omega arith);
+  adds = λ p i h u. let last = number_high 1 high (unsigned i) h in place_added side (begins is_minus i) n (number_of (unsigned i)) p (omega arith);
 }
 
 -- a wide set has six words
@@ -74,20 +71,17 @@ wide_kept : (b : Bool) (k : ℕ) (p : WideOrdinals) → IsWide p → IsWide (wit
 wide_kept true k p w = record { front = w.front; back = length-set p.back (k / 64) _ ∙ w.back }
 wide_kept false k p w = record { front = length-set p.front (k / 64) _ ∙ w.front; back = w.back }
 
-wide_added : (side : Side) (n k : ℕ) (item : List ℕ) {p : WideOrdinals} → k < 384 → IsWide p
-    → has_wide_place side n (with_wide_ordinal (side_of item) k p) ≡ ((is_side side (begins is_minus item) && (n == k)) || has_wide_place side n p)
-wide_added side n k item {p} h w = by_test side (begins is_minus item)
-  where
-    by_test : (s : Side) (b : Bool) → has_wide_place s n (with_wide_ordinal (cond b Back Front) k p) ≡ ((is_side s b && (n == k)) || has_wide_place s n p)
-    by_test Front false = contains_wide-with_number p.front k n (let e = w.front in omega arith) h
-    by_test Back true = contains_wide-with_number p.back k n (let e = w.back in omega arith) h
-    by_test _ _ = refl
+wide_added : (side : Side) (minus : Bool) (n k : ℕ) {p : WideOrdinals} → k < 384 → IsWide p
+    → has_wide_place side n (with_wide_ordinal (cond minus Back Front) k p) ≡ ((is_side side minus && (n == k)) || has_wide_place side n p)
+wide_added Front false n k {p} h w = contains_wide-with_number p.front k n (let e = w.front in omega arith) h
+wide_added Back true n k {p} h w = contains_wide-with_number p.back k n (let e = w.back in omega arith) h
+wide_added _ _ n k h w = refl
 
 pub adds_wide_place : (high : ℕ) → high < 384 → (side : Side) (n : ℕ)
     → Adds (λ p i. with_wide_ordinal (side_of i) (number_of (unsigned i)) p) (has_wide_place side n) (is_place side n) (is_signed high) IsWide
 adds_wide_place high small side n = record {
   fine = λ p i h w. wide_kept (begins is_minus i) (number_of (unsigned i)) p w;
-  adds = λ p i h w. let last = number_high 1 high (unsigned i) h in wide_added side n (number_of (unsigned i)) i (omega arith) w;
+  adds = λ p i h w. let last = number_high 1 high (unsigned i) h in wide_added side (begins is_minus i) n (number_of (unsigned i)) (omega arith) w;
 }
 
 day_small : (d : Weekday) → monday_zero d < 64
@@ -133,7 +127,7 @@ adds_numbered d side n = record {
           let inside : monday_zero e < length w.numbered = omega arith in
           let high = number_high 1 53 (unsigned item) fits in
           rw (same, get_or-set_same, eq-eqb (monday_zero e) (monday_zero e) refl)
-          (place_added side n (number_of (unsigned item)) item (numbers_of w (monday_zero e)) (omega arith))
+          (place_added side (begins is_minus item) n (number_of (unsigned item)) (numbers_of w (monday_zero e)) (omega arith))
       | inr other ↦ rw (get_or-set_other, ne_eqb (monday_zero d) (monday_zero e) other) refl
     ]
 

@@ -47,8 +47,8 @@ pub digit_count-zero : (text : List ℕ) → digit_count text ≡ 0 → begins i
 digit_count-zero [] h = refl
 digit_count-zero (b ∷ bs) h = false_from_ne_true (is_digit b) (λ k. let e = digit_count-yes b bs k in omega arith)
 
-pub digit_count-some : (text : List ℕ) → digit_count text ≢ 0 → begins is_digit text ≡ true
-digit_count-some text h = true_from_ne_false (begins is_digit text) (λ k. h (digit_count-none text k))
+pub digit_count-some : (text : List ℕ) {n : ℕ} → n ≡ digit_count text → n ≢ 0 → begins is_digit text ≡ true
+digit_count-some text is h = true_from_ne_false (begins is_digit text) (λ k. h (is ∙ digit_count-none text k))
 
 -- they are one `0` of its shape
 pub shape-digits : (text : List ℕ) → begins is_digit text ≡ true → shape text ≡ 48 ∷ shape (drop (digit_count text) text)

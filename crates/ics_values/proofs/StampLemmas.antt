@@ -120,9 +120,7 @@ is_date_time zoned text (Date day) form said range = by_tests _ (is_stamp_year (
         (if utc then Utc (local_of text) else (if zoned then Zoned (local_of text) else Floating (local_of text))))) ≡ Ok (Date day) → ⊥
     by_tests true true false true e = cc
     by_tests _ _ _ _ e = cc
-is_date_time zoned text (Floating local) form said range = range
-is_date_time zoned text (Utc local) form said range = range
-is_date_time zoned text (Zoned local) form said range = range
+is_date_time zoned text stamp form said range = range
 
 -- a date of the years to 9999 has a number of the calendar
 pub day_in : (y m d : ℕ) → y ≤ 9999 → is_date y m d ≡ true → IsDayNumber (day_number y m d)

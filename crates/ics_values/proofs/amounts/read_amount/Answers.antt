@@ -1,4 +1,4 @@
-use Rattle.std.proofs.Common.{◌≡◌, ◌≢◌, ℕ, false, [], ◌∷◌, ap, ◌∙◌, subst, take, drop}
+use Rattle.std.proofs.Common.{◌≡◌, false, [], ◌∷◌, take, drop}
 use Rattle.ics_values.specs.Digits.{digit_count, number_of}
 use Rattle.ics_values.specs.Texts.{begins_with}
 use Rattle.ics_values.specs.Durations.{shape}
@@ -12,10 +12,9 @@ returns-then-count-eq0 c = lacks-zero c.args.unit c.args.text.now (digit_count-z
 pub returns-in_err-rest : goal.returns-in_err-rest
 returns-in_err-rest c =
     let text = c.args.text.now in
-    let some : digit_count text ≢ 0 = subst (λ (n : ℕ). n ≢ 0) c.digit_count-count.ensures.value c.if-count-eq0.false in
-    let behind = c.split_at.ensures.back ∙ ap (λ n. drop n text) c.digit_count-count.ensures.value in
-    let lacks : begins_with (c.args.unit ∷ []) (shape (drop (digit_count text) text)) ≡ false = rw behind at c.in_err-rest.ensures in
-    rw (c.from_residual.ensures, shape-digits text (digit_count-some text some)) lacks
+    let count = c.digit_count-count.ensures.value in
+    let lacks : begins_with (c.args.unit ∷ []) (shape (drop (digit_count text) text)) ≡ false = rw (c.split_at.ensures.back, count) at c.in_err-rest.ensures in
+    rw (c.from_residual.ensures, shape-digits text (digit_count-some text count c.if-count-eq0.false)) lacks
 
 pub capped_number-requires : goal.capped_number-requires
 capped_number-requires c = rw (c.split_at.ensures.front, c.digit_count-count.ensures.value) (digit_count-digits c.args.text.now)
@@ -24,9 +23,7 @@ pub returns : goal.returns
 returns c =
     let text = c.args.text.now in
     let rest = c.in_ok-rest.rest.now in
-    let some : digit_count text ≢ 0 = subst (λ (n : ℕ). n ≢ 0) c.digit_count-count.ensures.value c.if-count-eq0.false in
-    let front = c.split_at.ensures.front ∙ ap (λ n. take n text) c.digit_count-count.ensures.value in
-    let behind = c.split_at.ensures.back ∙ ap (λ n. drop n text) c.digit_count-count.ensures.value in
-    let letter : IsLetter c.args.unit (drop (digit_count text) text) rest = rw behind at c.in_ok-rest.ensures in
-    let number : c.capped_number.result ≡ capped (number_of (take (digit_count text) text)) = c.capped_number.ensures ∙ ap (λ t. capped (number_of t)) front in
-    rw number (is_amount c.args.unit text rest c.requires (digit_count-some text some) letter)
+    let count = c.digit_count-count.ensures.value in
+    let letter : IsLetter c.args.unit (drop (digit_count text) text) rest = rw (c.split_at.ensures.back, count) at c.in_ok-rest.ensures in
+    let number : c.capped_number.result ≡ capped (number_of (take (digit_count text) text)) = rw (c.split_at.ensures.front, count) at c.capped_number.ensures in
+    rw number (is_amount c.args.unit text rest c.requires (digit_count-some text count c.if-count-eq0.false) letter)
