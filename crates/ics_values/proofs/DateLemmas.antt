@@ -21,12 +21,7 @@ abbrev pub HasDay : ℕ → ℕ → ℕ → Type 0
 HasDay y m d = ((1 ≤ m) × (m ≤ 12)) × ((1 ≤ d) × (d ≤ days_in_month (pos y) m))
 
 pub parts : (y m d : ℕ) → (is_date y m d ≡ true) ↔ HasDay y m d
-parts y m d = tests 1 m 12 d (days_in_month (pos y) m)
-  where
-    tests : (one m twelve d last : ℕ) → ((nat_le one m && nat_le m twelve && nat_le one d && nat_le d last) ≡ true)
-        ↔ (((one ≤ m) × (m ≤ twelve)) × ((one ≤ d) × (d ≤ last)))
-    tests one m twelve d last =
-        ((λ h. grind (arith, nat_tests)), (λ h. let ((month_low, month_high), (day_low, day_high)) = h in grind (arith, nat_tests)))
+parts y m d = ((λ h. grind (arith, nat_tests)), (λ h. let ((month_low, month_high), (day_low, day_high)) = h in grind (arith, nat_tests)))
 
 pub day_number-days_from_civil : (y m d : ℕ) → is_date y m d ≡ true → day_number y m d ≡ days_from_civil (pos y) m d
 day_number-days_from_civil y m d h =

@@ -51,11 +51,7 @@ are_new-with_number : (seen : ℕ) (name : PartName) (ps : List Part) →
     are_new (with_number (row name) seen) ps ≡ not (list_any (λ q. is_name name q.name) ps) && are_new seen ps
 are_new-with_number seen name [] = refl
 are_new-with_number seen name (p ∷ ps) =
-    rw (is_seen-with_number seen name p.name, are_new-with_number seen name ps)
-    (by_tests (is_name name p.name) (is_seen seen p.name) (is_part p) (list_any (λ q. is_name name q.name) ps) (are_new seen ps))
-  where
-    by_tests : (n s i b c : Bool) → ((not (n || s) && i) && (not b && c)) ≡ (not (n || b) && ((not s && i) && c))
-    by_tests n s i b c = grind (arith, nat_tests)
+    rw (is_seen-with_number seen name p.name, are_new-with_number seen name ps) (grind (arith, nat_tests))
 
 all_new : (ps : List Part) → are_new 0 ps ≡ list_all is_part ps
 all_new [] = refl
@@ -72,11 +68,7 @@ given seen ps name = contains seen (row name) || has_part name ps
 given-with_number : (seen : ℕ) (name other : PartName) (ps : List Part) →
     given (with_number (row name) seen) ps other ≡ contains seen (row other) || (is_name other (Some name) || has_part other ps)
 given-with_number seen name other ps =
-    rw (contains-with_number seen (row name) (row other) (row_small name))
-    (by_tests (row other) (row name) (contains seen (row other)) (has_part other ps))
-  where
-    by_tests : (a b : ℕ) (s h : Bool) → (((a == b) || s) || h) ≡ (s || ((b == a) || h))
-    by_tests a b s h = grind (arith, nat_tests)
+    rw (contains-with_number seen (row name) (row other) (row_small name)) (grind (arith, nat_tests))
 
 -- all is in order: a part has FREQ, and not both UNTIL and COUNT stand there
 abbrev in_order : ℕ → List Part → Bool

@@ -117,22 +117,16 @@ value_passes name (p ∷ ps) a =
 
 -- the items of a list are in order
 pub items_fit : (list : ListName) (ps : List Part) → list_all is_part ps ≡ true → list_all (fits_list list) (items_of list ps) ≡ true
-items_fit list ps a = by_value (value_of (part.List list) ps) (value_passes (part.List list) ps a)
-  where
-    by_value : (o : Option (List ℕ)) → option_map_or (λ v. list_all (fits_list list) (pieces 44 v)) o true ≡ true →
-        list_all (fits_list list) (option_map_or (pieces 44) o []) ≡ true
-    by_value None k = refl
-    by_value (Some v) k = k
+items_fit list ps a =
+    elim (value_of (part.List list) ps) as (λ o. option_map_or (fits (part.List list)) o true ≡ true → list_all (fits_list list) (option_map_or (pieces 44) o []) ≡ true)
+    [ None ↦ λ k. refl | Some v ↦ λ k. k ] (value_passes (part.List list) ps a)
 
 -- a value that some text says, where it says one
 said_there : {A : Type 0} (of : List ℕ → Option A) (none : A) (o : Option (List ℕ)) → option_map_or (λ v. is_some (of v)) o true ≡ true
     → Some (option_map_or (λ v. unwrap_or (of v) none) o none) ≡ option_map_or of o (Some none)
 said_there of none None fit = refl
-said_there of none (Some v) fit = by_value (of v) fit
-  where
-    by_value : (q : Option _) → is_some q ≡ true → Some (unwrap_or q none) ≡ q
-    by_value None k = absurd (false≢true k)
-    by_value (Some x) k = refl
+said_there of none (Some v) fit =
+    elim (of v) as (λ q. is_some q ≡ true → Some (unwrap_or q none) ≡ q) [ None ↦ λ k. absurd (false≢true k) | Some x ↦ λ k. refl ] fit
 
 frequency_is : (o : Option (List ℕ)) → is_some o ≡ true → option_and_then frequency_of o ≡ option_map_or frequency_of o (Some Yearly)
 frequency_is None there = cc

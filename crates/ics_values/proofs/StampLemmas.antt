@@ -3,7 +3,7 @@ use Rattle.std.proofs.Common.{◌≡◌, ℕ, suc, Bool, true, false, ◌==◌, 
 use Rattle.std.proofs.Common.{pos, ◌+◌, ◌*◌, min, ◌<◌, ◌-ℤ◌, inl, inr, ◌∙◌, not, Ok, Err, if◌then◌else◌}
 use Rattle.std.specs.List.{list_all}
 use Rattle.std.proofs.Math.Nat.{mod-eq_of_lt}
-use Rattle.std.proofs.lemmas.Bool.{eqb-true, and_parts, or_cases, leb-true, cond_both}
+use Rattle.std.proofs.lemmas.Bool.{and_left, eqb-true, ne_eqb, and_parts, or_cases, leb-true, cond_both}
 use Rattle.std.proofs.lemmas.List.{drop-take, take-take, take-append-drop}
 use Rattle.std.proofs.lemmas.List.Folds.{list_all-append}
 use Rattle.ics_values.specs.Digits.{is_digit, are_digits, letter_at, number_at}
@@ -106,10 +106,7 @@ stamp_years y h = let near = and_parts (nat_le 1 y) (nat_le y 9899) h in (leb-tr
 
 -- a text with a time says no date alone
 pub no_date : (text : List ℕ) → is_date_time_form text ≡ true → is_date_form text ≡ false
-no_date text h = by_length (length text) (are_digits text) (date_time_digits text h).1.long
-  where
-    by_length : (n : ℕ) (digits : Bool) → 15 ≤ n → ((n == 8) && digits) ≡ false
-    by_length n digits h = grind (arith, nat_tests)
+no_date text h = let long = (date_time_digits text h).1.long in and_left (length text == 8) (are_digits text) (ne_eqb (length text) 8 (λ e. omega arith))
 
 pub is_date_time : (zoned : Bool) (text : List ℕ) (stamp : Stamp) → is_date_time_form text ≡ true → Ok stamp ≡ stamp_of zoned text →
     IsStampDay (stamp_day stamp) → IsDateTime stamp
@@ -138,11 +135,7 @@ until_in text h year =
 
 -- a time that exists is one of a day
 second_fits : (text : List ℕ) → time_exists text ≡ true → second_of text < 86_400
-second_fits text h = by_numbers (number_at text 9 11) (number_at text 11 13) (number_at text 13 15) h
-  where
-    by_numbers : (hour minute second : ℕ) → (nat_le hour 23 && nat_le minute 59 && nat_le second 60) ≡ true
-        → 3600 * hour + 60 * minute + min second 59 < 86_400
-    by_numbers hour minute second h = grind (arith, nat_tests)
+second_fits text h = grind (arith, nat_tests)
 
 pub second_kept : (text : List ℕ) → time_exists text ≡ true → (local_of text).second ≡ second_of text
 second_kept text h = mod-eq_of_lt (second_fits text h)
