@@ -29,9 +29,6 @@ pub record Adds {S : Type 0} (step : S → List ℕ → S) (sees : S → Bool) (
   pub fine : (s : S) (i : List ℕ) → fits i ≡ true → Fine s → Fine (step s i)
   pub adds : (s : S) (i : List ℕ) → fits i ≡ true → Fine s → sees (step s i) ≡ (test i || sees s)
 
-or_swap : (a b c : Bool) → (a || (b || c)) ≡ ((b || a) || c)
-or_swap a b c = grind (arith, nat_tests)
-
 pub gathered : {S : Type 0} {step : S → List ℕ → S} {sees : S → Bool} {test fits : List ℕ → Bool} {Fine : S → Type 0} → Adds step sees test fits Fine
     → (items : List (List ℕ)) → list_all fits items ≡ true → (s : S) → Fine s → sees (fold step s items) ≡ (list_any test items || sees s)
 gathered a [] h s f = refl
@@ -39,7 +36,7 @@ gathered {step = step} {sees = sees} {test = test} {fits = fits} a (i ∷ items)
     let p = and_parts (fits i) (list_all fits items) h in
     gathered a items p.1 (step s i) (a.fine s i p.0 f)
     ∙ ap (λ t. list_any test items || t) (a.adds s i p.0 f)
-    ∙ or_swap (list_any test items) (test i) (sees s)
+    ∙ grind (arith, nat_tests)
 
 -- a number that is in order is not larger than the last
 pub number_high : (low high : ℕ) (text : List ℕ) → is_number low high text ≡ true → number_of text ≤ high

@@ -157,9 +157,6 @@ parts_are ps h =
     let parts = and_parts (list_all is_part ps) (none_twice ps) front.0 in
     record { each = parts.0; once = parts.1; frequency = front.1 }
 
-turned : (a b : Bool) → not a ≡ b → a ≡ not b
-turned a b h = grind (arith, nat_tests)
-
 -- a part has one item or more
 items_there : (o : Option (List ℕ)) → list_any (λ i. true) (option_map_or (pieces 44) o []) ≡ is_some o
 items_there None = refl
@@ -206,7 +203,8 @@ module _ (ps : List Part) (h : AreParts ps) where
       → Fills step empty (fits_list list) Fine → (none : A) → Fine none → empty none ≡ true
       → empty (fold step none (items_of list ps)) ≡ not (has_part (part.List list) ps)
   filled list empty fills none fine e =
-      turned _ _ (listed list fills none fine (ap not e) ∙ items_there (value_of (part.List list) ps) ∙ value_there (part.List list) ps)
+      let there = listed list fills none fine (ap not e) ∙ items_there (value_of (part.List list) ps) ∙ value_there (part.List list) ps in
+      grind (arith, nat_tests)
 
   pub absent : (list : ListName) → lists_nothing list (said ps (every Yearly)) ≡ not (has_part (part.List list) ps)
   absent BySecond = filled BySecond is_empty (fills_number (λ i. min (number_of i) 59) (fits_list BySecond)) 0 tt refl

@@ -47,9 +47,6 @@ text_of-parts bs n {b} {behind} within here rest none =
     let pair : drop n bs ≡ 92 ∷ b ∷ behind = drop-cons bs n 0 within ∙ rw (← add-one, rest, eqb-true (get_or bs n 0) 92 here) refl in
     text_of-run bs n none ∙ ap (λ t. take n bs ++ text_of t) pair ∙ ap (λ t. take n bs ++ t) (text_of-escape b behind)
 
-plain : (b : ℕ) → stands_for_itself b ≡ false → (b == 92) ≡ false
-plain b h = grind (arith, nat_tests)
-
 -- a text comes back from its escapes
 pub plain_text-escaped : (text : List ℕ) → plain_text (escaped text) false ≡ text
 plain_text-escaped [] = refl
@@ -59,4 +56,4 @@ plain_text-escaped (b ∷ bs) = by_tests (plain_text-escaped bs) (stands_for_its
         plain_text (escaped (b ∷ bs)) false ≡ b ∷ bs
     by_tests later true lf h k = rw (h, and_right (b == 92) false refl, h) (ap (λ t. b ∷ t) later)
     by_tests later false true h k = rw (h, k) (let e : b ≡ 10 = eqb-true b 10 k in rw e (ap (λ t. 10 ∷ t) later))
-    by_tests later false false h k = rw (h, k) (rw (plain b h) (ap (λ t. b ∷ t) later))
+    by_tests later false false h k = let no : (b == 92) ≡ false = grind (arith, nat_tests) in rw (h, k) (rw no (ap (λ t. b ∷ t) later))
