@@ -29,15 +29,14 @@ one_line false bytes tail h =
     front bytes tail h.no_lf
     ∙ ap (λ line. line ∷ physical_lines tail) (without_cr-keeps bytes (h.no_cr refl))
 
-blank_no_lf : (b : ℕ) → is_blank b ≡ true → (b == 10) ≡ false
-blank_no_lf b h = grind (arith, nat_tests)
-
 no_cr-blank : (b : ℕ) (bytes : List ℕ) → is_blank b ≡ true → ((front : List ℕ) → bytes ≢ front ++ (13 ∷ [])) → (front : List ℕ) → b ∷ bytes ≢ front ++ (13 ∷ [])
 no_cr-blank b bytes blank h [] = λ e. let same : b ≡ 13 = cc in let no : is_blank 13 ≡ true = rw same at blank in cc
 no_cr-blank b bytes blank h (c ∷ front) = λ e. h front cc
 
 stands-blank : (with_cr : Bool) (b : ℕ) (bytes : List ℕ) → is_blank b ≡ true → StandsBefore with_cr bytes → StandsBefore with_cr (b ∷ bytes)
-stands-blank with_cr b bytes blank h = record { no_lf = rw (blank_no_lf b blank) h.no_lf; no_cr = λ e. no_cr-blank b bytes blank (h.no_cr e) }
+stands-blank with_cr b bytes blank h =
+    let other : (b == 10) ≡ false = grind (arith, nat_tests) in
+    record { no_lf = rw other h.no_lf; no_cr = λ e. no_cr-blank b bytes blank (h.no_cr e) }
 
 folds-blank : (b : ℕ) (bytes : List ℕ) (fs : List Fold) (with_cr : Bool) → is_blank b ≡ true → AreFolds bytes fs with_cr → AreFolds (b ∷ bytes) fs with_cr
 folds-blank b bytes [] with_cr blank h = stands-blank with_cr b bytes blank h

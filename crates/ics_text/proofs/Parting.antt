@@ -35,15 +35,11 @@ to_end (b ∷ bs) = elim (cases_Bool (is_name_byte b)) [
       subst (λ n. walked (b ∷ bs) InName n InName) none (unmoved (colon_from (b ∷ bs) InName))
 ]
 
--- a first byte of a name is walked over as a later one
-at_start : (b : ℕ) (bs : List ℕ) → is_name_byte b ≡ true → colon_from (b ∷ bs) Start ≡ colon_from (b ∷ bs) InName
-at_start b bs h = rw h refl
-
 -- behind a name the walk is within it
 pub over_name : (line : List ℕ) → 0 < prefix_len is_name_byte line → walked line Start (prefix_len is_name_byte line) InName
 over_name [] some = absurd (omega arith)
 over_name (b ∷ bs) some = elim (cases_Bool (is_name_byte b)) [
-  | inl e ↦ at_start b bs e ∙ to_end (b ∷ bs)
+  | inl e ↦ rw e (rw e at (to_end (b ∷ bs)))
   | inr e ↦ absurd (let none = rw e at some in omega (arith, none))
 ]
 
