@@ -14,11 +14,10 @@ ReadsFlag text b = (text ≡ None → b ≡ false) × (text ≡ Some (codes "tru
 flag_read : (o : Option Text) (b : Bool) → ((text : Text) → o ≡ Some text → is_flag_text text ≡ true) → ReadsFlag o b →
     b ≡ bytes_eq (unwrap_or o []) (codes "true")
 flag_read None b flag reads = reads.0 refl
-flag_read (Some text) b flag reads = by (or_cases _ _ (flag text refl))
-  where
-    by : (bytes_eq text (codes "true") ≡ true) ⊎ (bytes_eq text (codes "false") ≡ true) → b ≡ bytes_eq text (codes "true")
-    by (inl same) = let is = (bytes_eq-Decides text (codes "true")).0 same in rw is (reads.1 (ap Some is))
-    by (inr same) = let is = (bytes_eq-Decides text (codes "false")).0 same in rw is (reads.2 (ap Some is))
+flag_read (Some text) b flag reads = elim (or_cases (bytes_eq text (codes "true")) (bytes_eq text (codes "false")) (flag text refl)) [
+  | inl same ↦ let is = (bytes_eq-Decides text (codes "true")).0 same in rw is (reads.1 (ap Some is))
+  | inr same ↦ let is = (bytes_eq-Decides text (codes "false")).0 same in rw is (reads.2 (ap Some is))
+]
 
 -- what is read of the rows of a flag
 flag_is : {id : Text} (entries : Entries) (rows : List Row) (b : Bool) → IsFlag id entries → Some rows ≡ option_map (λ found. found.1) entries
