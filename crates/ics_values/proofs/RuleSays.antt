@@ -160,11 +160,9 @@ parts_are ps h =
 -- a part has one item or more
 items_there : (o : Option (List ℕ)) → list_any (λ i. true) (option_map_or (pieces 44) o []) ≡ is_some o
 items_there None = refl
-items_there (Some v) = some (pieces 44 v) (omega (arith, length-slice_split (λ b. b == 44) v))
-  where
-    some : (items : List (List ℕ)) → 0 < length items → list_any (λ i. true) items ≡ true
-    some [] l = absurd (omega arith)
-    some (i ∷ items) l = refl
+items_there (Some v) =
+    elim (pieces 44 v) as (λ items. 0 < length items → list_any (λ i. true) items ≡ true) [ [] ↦ λ l. absurd (omega arith) | i ∷ items ↦ λ l. refl ]
+    (omega (arith, length-slice_split (λ b. b == 44) v))
 
 none_is_wide : IsWide no_wide_ordinals
 none_is_wide = record { front = refl; back = refl }
