@@ -2,7 +2,7 @@
 use Rattle.std.proofs.Common.{◌≡◌, ◌≢◌, ℕ, ◌+◌, ◌<◌, ◌≤◌, Bool, true, false, ◌==◌, ◌&&◌, List, [], ◌∷◌, ◌++◌, length, take, drop, get_or, refl, ap}
 use Rattle.std.proofs.Common.{◌∙◌, arith, cond, inl, inr, not}
 use Rattle.std.specs.List.{list_all}
-use Rattle.std.proofs.lemmas.Bool.{and_parts, and_right, not-true, false_from_ne_true}
+use Rattle.std.proofs.lemmas.Bool.{and_parts, and_right, cases_Bool, not-true, false_from_ne_true}
 use Rattle.std.proofs.lemmas.Bool.Decides.{eqb_tells}
 use Rattle.std.proofs.lemmas.Grind.{common_steps}
 use Rattle.std.proofs.lemmas.List.{length-take, get_or-take}
@@ -48,14 +48,10 @@ whole [] h = refl
 whole (b ∷ bs) h =
     step b bs (begins_no_lf (b ∷ bs) h) (begins_no_lf bs (tail_no_lf b bs h)) ∙ ap (onto_first b) (whole bs (tail_no_lf b bs h))
 
-one_byte : (b : ℕ) (lines : List (List ℕ)) (t : Bool) → ◌≡◌ {A = List (List ℕ)} (cond (t && true) ([] ∷ lines) ((b ∷ []) ∷ lines)) (cond t [] (b ∷ []) ∷ lines)
-one_byte b lines true = refl
-one_byte b lines false = refl
-
 -- the first line ends before the first LF, or before the CR that stands there
 pub front : (head tail : List ℕ) → no_lf head ≡ true → physical_lines (head ++ 10 ∷ tail) ≡ without_cr head ∷ physical_lines tail
 front [] tail h = refl
-front (b ∷ []) tail h = rw (begins_no_lf (b ∷ []) h) (one_byte b (physical_lines tail) (b == 13))
+front (b ∷ []) tail h = rw (begins_no_lf (b ∷ []) h) (elim (cases_Bool (b == 13)) [ inl e ↦ rw e refl | inr e ↦ rw e refl ])
 front (b ∷ c ∷ cs) tail h =
     step b (c ∷ cs ++ 10 ∷ tail) (begins_no_lf (b ∷ c ∷ cs) h) (begins_no_lf (c ∷ cs) (tail_no_lf b (c ∷ cs) h))
     ∙ ap (onto_first b) (front (c ∷ cs) tail (tail_no_lf b (c ∷ cs) h))
