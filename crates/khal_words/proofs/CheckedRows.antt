@@ -139,11 +139,9 @@ module _ (id : Text) (parser : ValueParser) where
     settles : (p : Option (Text × List Text)) (rows : List Row) → KeepsRows (settle_fault c again (record nothing_held { rows = rows; pending = p })) rows
         (settled_rows c p rows)
     settles None rows = λ _ h. h
-    settles (Some p) rows = by_id (arg_by_id c p.0) (found Fits _ c all)
-      where
-        by_id : (o : Option Rule) → IfSome o Fits → KeepsRows (option_map_or (λ a. use_fault again a p.1 rows) o []) rows (used_by_id o p.1 rows)
-        by_id None fits = λ _ h. h
-        by_id (Some a) fits = uses a fits again p.1 rows
+    settles (Some p) rows =
+        elim (arg_by_id c p.0) as (λ o. IfSome o Fits → KeepsRows (option_map_or (λ a. use_fault again a p.1 rows) o []) rows (used_by_id o p.1 rows))
+        [ None ↦ λ fits _ h. h | Some a ↦ λ fits. uses a fits again p.1 rows ] (found Fits _ c all)
 
     module _ (a : Rule) (fits : Fits a) where
       reacts : (texts : List Text) (h : Held) → Keeps (react_fault c again a texts h) h (reacted c a texts h)

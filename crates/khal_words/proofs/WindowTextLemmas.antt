@@ -18,17 +18,13 @@ use Rattle.khal_words.specs.WindowTexts.{has_date, day_number, before_d, most_da
 pub own : IsNumeralModel (λ ds. list_all is_ascii_digit ds ≡ true) (digits_value 10)
 own = numerals_by_value _ (search rules)
 
--- digits that write a number past 0 are not none
-nonempty : (ds : List ℕ) → 1 ≤ digits_value 10 ds → 0 < length ds
-nonempty [] some = absurd (omega arith)
-nonempty (c ∷ cs) some = omega arith
-
 -- no digits, or too many, write no number of days
 pub none_said : (ds : List ℕ) → ((0 < length ds) × (digits_value 10 ds < 2 ^ 32) → ⊥) → None ≡ number_said ds
 none_said ds refuted =
     let fails = false_from_ne_true (is_number_of_days (digits_value 10 ds)) (λ fits.
     let bounds : (1 ≤ digits_value 10 ds) × (digits_value 10 ds ≤ most_days) = grind (arith, nat_tests) in
-    refuted (nonempty ds bounds.0, omega arith)) in
+    let some = elim ds as (λ ds. 1 ≤ digits_value 10 ds → 0 < length ds) [ [] ↦ λ some. absurd (omega arith) | c ∷ cs ↦ λ some. omega arith ] in
+    refuted (some bounds.0, omega arith)) in
     rw (and_right (list_all is_ascii_digit ds) _ fails) refl
 
 -- the number of parsed digits

@@ -33,12 +33,10 @@ module _ (app : App) (words : List Text) (r : Result ArgMatches Error) (is : app
   faults h = subst (λ (a : App). is_simple_and_free a ≡ true → FailsBy (fault_of a words) r) is h refl
 
   taken : IfOk r (HasMatchesOf app words) → (is_simple_and_free app ≡ true → FailsBy (fault_of app words) r) → IfOk r (λ m. AreTested (subcommand_rows_of m))
-  taken h k = go r (entries h) (faults k)
-    where
-      go : (x : Result ArgMatches Error) → IfOk x (λ m. subcommand_rows_of m ≡ subcommand_of khal_app words) → FailsBy (fault_of khal_app words) x →
-          IfOk x (λ m. AreTested (subcommand_rows_of m))
-      go (Ok m) same none = subst AreTested (sym same) (tested words none)
-      go (Err e) same none = tt
+  taken h k =
+      elim r as (λ x. IfOk x (λ m. subcommand_rows_of m ≡ subcommand_of khal_app words) → FailsBy (fault_of khal_app words) x →
+      IfOk x (λ m. AreTested (subcommand_rows_of m)))
+      [ Ok m ↦ λ same none. subst AreTested (sym same) (tested words none) | Err e ↦ λ same none. tt ] (entries h) (faults k)
 
 pub returns-clause-entries : goal.returns-clause-entries
 returns-clause-entries c = entries _ _ _ c.in_ok-command.ensures.shape c.try_get_matches_from.ensures.matches
