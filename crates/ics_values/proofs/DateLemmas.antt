@@ -1,5 +1,5 @@
 -- The dates that there are, and their day numbers, are jiff's.
-use Rattle.std.proofs.Common.{◌≡◌, ◌↔◌, ℕ, zero, suc, ◌-◌, ◌≤◌, ◌<◌, true, ◌&&◌, nat_le, Some, take, map, sym, ap, subst, arith, ℤ, pos, sum}
+use Rattle.std.proofs.Common.{◌≡◌, ◌↔◌, ℕ, zero, suc, ◌-◌, ◌≤◌, ◌<◌, true, Some, take, map, sym, ap, subst, arith, ℤ, pos, sum}
 use Rattle.std.proofs.lemmas.Int.{ints}
 use Rattle.std.proofs.lemmas.Bool.Decides.{nat_tests}
 use Rattle.jiff_core.specs.Calendar.{days_in_month, days_of_months, days_from_civil, IsCivilDate, IsDate}

@@ -87,10 +87,6 @@ any-behind : (front s : List ℕ) (shapes : List (List ℕ)) → list_any (bytes
 any-behind front s [] = refl
 any-behind front s (x ∷ xs) = rw (bytes_eq-front front s x, any-behind front s xs) refl
 
-pub has_shape-behind : (front text rest : List ℕ) (shapes : List (List ℕ)) → shape text ≡ front ++ shape rest →
-    has_shape (behind front shapes) text ≡ has_shape shapes rest
-has_shape-behind front text rest shapes h = rw h (any-behind front (shape rest) shapes)
-
 -- only the empty text has the empty shape
 pub shape-some : (text : List ℕ) → (length text == 0) ≡ false → bytes_eq (shape text) [] ≡ false
 shape-some [] h = cc
@@ -103,7 +99,8 @@ shape-some (b ∷ bs) h = elim (cases_Bool (is_digit b)) [
 pub no_shape-behind : {unit n : ℕ} {text rest : List ℕ} (shapes : List (List ℕ)) → IsAmount unit text n rest → (length rest == 0) ≡ false →
     has_shape shapes rest ≡ false → has_shape (behind (48 ∷ unit ∷ []) ([] ∷ shapes)) text ≡ false
 no_shape-behind {unit = unit} {text = text} {rest = rest} shapes a some none =
-    has_shape-behind (48 ∷ unit ∷ []) text rest ([] ∷ shapes) a.shape ∙ rw (shape-some rest some, none) refl
+    ap (λ s. list_any (bytes_eq s) (behind (48 ∷ unit ∷ []) ([] ∷ shapes))) a.shape
+    ∙ any-behind (48 ∷ unit ∷ []) (shape rest) ([] ∷ shapes) ∙ rw (shape-some rest some, none) refl
 
 -- the number before a unit
 pub is_amount : (unit : ℕ) (text rest : List ℕ) → 57 < unit → begins is_digit text ≡ true → IsLetter unit (drop (digit_count text) text) rest →

@@ -1,6 +1,6 @@
 -- The form of a stamp's text, the day and the second that it says, and the day of an UNTIL.
 use Rattle.std.proofs.Common.{◌≡◌, ℕ, suc, Bool, true, false, ◌==◌, ◌&&◌, ◌||◌, List, length, take, drop, refl, arith, ◌-◌, ◌≤◌, nat_le, sym, ap}
-use Rattle.std.proofs.Common.{pos, ◌+◌, ◌*◌, min, ◌<◌, ◌-ℤ◌, inl, inr, ◌∙◌, not, Ok, Err, if◌then◌else◌}
+use Rattle.std.proofs.Common.{pos, ◌+◌, ◌<◌, ◌-ℤ◌, inl, inr, ◌∙◌, not, Ok, Err, if◌then◌else◌}
 use Rattle.std.specs.List.{list_all}
 use Rattle.std.proofs.Math.Nat.{mod-eq_of_lt}
 use Rattle.std.proofs.lemmas.Bool.{and_left, eqb-true, ne_eqb, and_parts, or_cases, leb-true, cond_both}
