@@ -118,7 +118,8 @@ value_passes name (p ∷ ps) a =
 -- the items of a list are in order
 pub items_fit : (list : ListName) (ps : List Part) → list_all is_part ps ≡ true → list_all (fits_list list) (items_of list ps) ≡ true
 items_fit list ps a =
-    elim (value_of (part.List list) ps) as (λ o. option_map_or (fits (part.List list)) o true ≡ true → list_all (fits_list list) (option_map_or (pieces 44) o []) ≡ true)
+    elim (value_of (part.List list) ps) as (λ o.
+    option_map_or (fits (part.List list)) o true ≡ true → list_all (fits_list list) (option_map_or (pieces 44) o []) ≡ true)
     [ None ↦ λ k. refl | Some v ↦ λ k. k ] (value_passes (part.List list) ps a)
 
 -- a value that some text says, where it says one
