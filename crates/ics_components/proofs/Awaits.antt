@@ -14,6 +14,7 @@ use Rattle.ics_text.specs.ContentLines.{Parts}
 use Rattle.ics_components.specs.declared.component.Context.{Context}
 use Rattle.ics_components.specs.declared.component.Context.TheVariants as context
 use Rattle.ics_components.specs.declared.dated.Dated.{Dated}
+use Rattle.ics_components.specs.declared.date_values.Listing.TheVariants as listing
 use Rattle.ics_components.specs.declared.gathered.LineCheck.{LineCheck}
 use Rattle.ics_components.specs.declared.deferred_check.Instant.{Instant}
 use Rattle.ics_components.specs.declared.deferred_check.Instant.TheVariants as instant
@@ -25,7 +26,7 @@ use Rattle.ics_components.specs.declared.name.Name.{Name}
 use Rattle.ics_components.specs.declared.name.Name.TheVariants as name
 use Rattle.ics_components.specs.Builders.{event_ended}
 use Rattle.ics_components.specs.Components.{is_event_context}
-use Rattle.ics_components.specs.Faults.{first_dated, dated_on, rdates_on, exdates_on, stands}
+use Rattle.ics_components.specs.Faults.{first_dated, dated_on, listed_on, stands}
 use Rattle.ics_components.specs.Names.{name_of}
 use Rattle.ics_components.specs.PlacedLines.{Placed, Open, beside, innermost, calendar_of, context_of, property_name, is_named}
 use Rattle.ics_components.specs.PlacedLines.{all_named, first_of as first_line, ends_event, is_closing, is_end, placed_from}
@@ -118,8 +119,8 @@ module _ (P : DeferredCheck → Type 0) where
     event-awaited l t s h c = record {
       start = start-looked k start (first-seen k _ (named (codes "DTSTART")));
       end = rw (end-given end (collected_of own).duration) (first-seen k _ (named (codes "DTEND")));
-      rdates = All-map (λ list. IfSome (listed_zone k list) P) rdates_on (all_named (codes "RDATE") own) (named (codes "RDATE"));
-      exdates = All-map (λ list. IfSome (listed_zone k list) P) exdates_on (all_named (codes "EXDATE") own) (named (codes "EXDATE"));
+      rdates = All-map (λ list. IfSome (listed_zone k list) P) (listed_on listing.Rdate) (all_named (codes "RDATE") own) (named (codes "RDATE"));
+      exdates = All-map (λ list. IfSome (listed_zone k list) P) (listed_on listing.Exdate) (all_named (codes "EXDATE") own) (named (codes "EXDATE"));
       recurrence = first-seen k _ (named (codes "RECURRENCE-ID"));
       length =
           rw (end-given end (collected_of own).duration)

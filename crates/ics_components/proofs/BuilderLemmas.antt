@@ -1,6 +1,6 @@
 -- A line changes what is collected of a component as the pass notes it.
 use Rattle.std.proofs.Common.{◌≡◌, ℕ, Bool, true, false, List, [], ◌∷◌, ◌++◌, map, refl, ap, ◌∙◌, cond, Option, Some, None, sym, arith}
-use Rattle.std.specs.Prelude.{codes, option_map, flat_map, filter_map}
+use Rattle.std.specs.Prelude.{codes, option_map, flat_map}
 use Rattle.std.specs.Str.{bytes_eq}
 use Rattle.std.proofs.lemmas.List.{append-nil, map-append}
 use Rattle.std.proofs.lemmas.List.Elements.{filter-append}
@@ -11,7 +11,7 @@ use Rattle.ics_values.specs.Rules.{rule_of}
 use Rattle.ics_components.specs.declared.event_builder.EventBuilder.{EventBuilder}
 use Rattle.ics_components.specs.declared.name.Name.{Name}
 use Rattle.ics_components.specs.declared.name.Name.TheVariants as name
-use Rattle.ics_components.specs.DateLists.{rdate_list, exdate_list}
+use Rattle.ics_components.specs.DateLists.{list_of}
 use Rattle.ics_components.specs.Names.{name_of}
 use Rattle.ics_components.specs.PlacedLines.{Placed, property_name, value, value_of, params_of, is_named, first_named, first_of, all_named, Open, context_of}
 use Rattle.ics_components.specs.PlacedLines.{in_zone, is_begin, component}
@@ -30,9 +30,9 @@ use Rattle.ics_components.specs.declared.builder.Builder.{Builder}
 use Rattle.ics_components.specs.declared.builder.Builder.TheVariants as builder
 use Rattle.ics_components.specs.declared.builder.ZoneBuilder.{ZoneBuilder}
 use Rattle.ics_components.specs.Components.{is_zone_context, is_observance_context}
-use Rattle.ics_components.specs.DateValues.{rdates_of}
+use Rattle.ics_components.specs.declared.date_values.Listing.TheVariants as listing
 use Rattle.ics_components.specs.Builders.{observance_ended}
-use Rattle.ics_components.specs.Observances.{local_in, onset_in, offset_in, daily_in, begins_in_zone}
+use Rattle.ics_components.specs.Observances.{locals_of, onset_in, offset_in, daily_in, begins_in_zone}
 use Rattle.ics_components.proofs.Table.{Readings, builder_at, readings, own, parts, collected_of, zone_of, observance_of}
 use Rattle.ics_components.proofs.Order.{inside}
 
@@ -74,8 +74,8 @@ noted : (n : Name) (u : List ℕ) (v : Parts) (had : EventBuilder) → Tells u n
       end = cond (bytes_eq u (codes "DTEND")) (or_first had.end (dated_of v.params v.value)) had.end;
       duration = cond (bytes_eq u (codes "DURATION")) (or_first had.duration (duration_in (lasting_of v.value))) had.duration;
       rule = cond (bytes_eq u (codes "RRULE")) (or_first had.rule (rule_in (rule_of v.value))) had.rule;
-      rdates = cond (bytes_eq u (codes "RDATE")) (had.rdates ++ rdate_list v.params v.value ∷ []) had.rdates;
-      exdates = cond (bytes_eq u (codes "EXDATE")) (had.exdates ++ exdate_list v.params v.value ∷ []) had.exdates;
+      rdates = cond (bytes_eq u (codes "RDATE")) (had.rdates ++ list_of listing.Rdate v.params v.value ∷ []) had.rdates;
+      exdates = cond (bytes_eq u (codes "EXDATE")) (had.exdates ++ list_of listing.Exdate v.params v.value ∷ []) had.exdates;
       recurrence = cond (bytes_eq u (codes "RECURRENCE-ID")) (or_first had.recurrence (dated_of v.params v.value)) had.recurrence;
       sequence = cond (bytes_eq u (codes "SEQUENCE")) (or_first had.sequence (ok_or_zero (integer_of v.value))) had.sequence;
       title = cond (bytes_eq u (codes "SUMMARY")) (or_first had.title (text_of v.value)) had.title;
@@ -111,7 +111,7 @@ observance-noted : (n : Name) (u : List ℕ) (v : Parts) (had : ObservanceBuilde
       from = cond (bytes_eq u (codes "TZOFFSETFROM")) (or_first had.from (offset_in (offset_of v.value))) had.from;
       to = cond (bytes_eq u (codes "TZOFFSETTO")) (or_first had.to (offset_in (offset_of v.value))) had.to;
       rule = cond (bytes_eq u (codes "RRULE")) (or_first had.rule (daily_in (rule_of v.value))) had.rule;
-      rdates = cond (bytes_eq u (codes "RDATE")) (had.rdates ++ filter_map local_in (rdates_of false v.value)) had.rdates;
+      rdates = cond (bytes_eq u (codes "RDATE")) (had.rdates ++ locals_of v.value) had.rdates;
     } ≡ observance_note n v had
 observance-noted name.Other u v had e = simp e
 observance-noted _ u v had e = rw e refl

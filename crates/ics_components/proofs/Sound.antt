@@ -4,7 +4,7 @@ use Rattle.std.proofs.Common.{◌+◌, ◌*◌, nat_le, ◌&&◌, ◌++◌, get_
 use Rattle.std.specs.List.{All, list_any}
 use Rattle.std.proofs.lemmas.Bool.{cond_both, and_parts, or_parts, not-false}
 use Rattle.std.proofs.lemmas.Int.{ints}
-use Rattle.std.proofs.lemmas.List.Elements.{All-nil, All-cons, All-append, All-tail, All-map, All-weaker}
+use Rattle.std.proofs.lemmas.List.Elements.{All-nil, All-cons, All-append, All-head, All-tail, All-map, All-weaker}
 use Rattle.std.proofs.lemmas.List.Sums.{list_all-from_AllPass}
 use Rattle.ics_values.specs.Durations.{duration_of}
 use Rattle.ics_values.specs.Periods.{first_half, second_half, lasts}
@@ -18,11 +18,14 @@ use Rattle.ics_values.specs.declared.stamp.Stamp.{Stamp}
 use Rattle.ics_values.specs.declared.stamp.StampFault.{StampFault}
 use Rattle.ics_values.specs.declared.stamp.StampFault.TheVariants as stamp
 use Rattle.ics_values.proofs.StampLemmas.{stamp_day-said, date_of-stamp, day_number_range, stamp_years}
-use Rattle.ics_components.specs.DateValues.{DateValue, At, Between, Lasting, date_time_of, period_of, has_slash, rdate_of, exdate_of, rdates_of, exdates_of}
+use Rattle.ics_components.specs.DateValues.{At, Between, Lasting, date_time_of, period_of, has_slash, rdate_of, value_of, values_of, local_in}
 use Rattle.ics_components.specs.DateValues.{listed_in}
+use Rattle.ics_components.specs.declared.date_list.ListedDate.{ListedDate}
 use Rattle.ics_components.specs.declared.date_list.ListedDate.TheVariants as listed
+use Rattle.ics_components.specs.declared.date_values.Listing.{Listing}
+use Rattle.ics_components.specs.declared.date_values.Listing.TheVariants as listing
 use Rattle.ics_components.specs.Sound.{IsSoundStamp, IsSoundValue, IsSoundList, IsSoundLength, IsWhole, IsSoundObservance, IsSoundZone}
-use Rattle.ics_components.specs.Values.{stamp_in, duration_in, lasting_of, is_lasting, allowed, zone_name, is_filled, ends_badly}
+use Rattle.ics_components.specs.Values.{stamp_in, duration_in, lasting_of, is_lasting, allowed, is_filled, ends_badly}
 use Rattle.std.specs.Prelude.{codes, drop, take, find, filter, filter_map, flat_map, option_map, unwrap_or}
 use Rattle.std.proofs.lemmas.Bool.Decides.{nat_tests}
 use Rattle.jiff_core.specs.Calendar.{IsWithin}
@@ -36,14 +39,13 @@ use Rattle.ics_values.specs.declared.rule_text.RuleFault.{RuleFault}
 use Rattle.ics_values.specs.declared.stamp.Stamp.TheVariants.{Floating}
 use Rattle.ics_components.specs.Builders.{event_ended}
 use Rattle.ics_components.specs.Components.{is_zone_context}
-use Rattle.ics_components.specs.Faults.{stands, kinds, dated_on, duration_on, rdates_on, exdates_on, first_text, first_dated, rule_on}
+use Rattle.ics_components.specs.Faults.{stands, kinds, dated_on, duration_on, listed_on, first_text, first_dated, rule_on}
 use Rattle.ics_components.specs.FirstFault.{NoneStand}
 use Rattle.ics_components.specs.GivenTimes.{dated_in, given_length}
-use Rattle.ics_components.specs.Observances.{local_in, onset_in, offset_in, daily_in, onset_on, offset_on, daily_on, onsets_by, observance_by, begins_in_zone}
-use Rattle.ics_components.specs.PlacedLines.{Placed, context_of, value, params_of, beside, lines_in, calendar_of, has, first_named, all_named, in_zone}
+use Rattle.ics_components.specs.Observances.{onset_in, offset_in, daily_in, onset_on, offset_on, daily_on, onsets_by, observance_by, begins_in_zone}
+use Rattle.ics_components.specs.PlacedLines.{Placed, context_of, value, beside, lines_in, calendar_of, has, first_named, all_named, in_zone}
 use Rattle.ics_components.specs.PlacedLines.{ends_event, ends_zone, is_closing, begins_observance}
 use Rattle.ics_components.specs.declared.dated.Dated.{Dated}
-use Rattle.ics_components.specs.declared.date_list.DateList.{DateList}
 use Rattle.ics_components.specs.declared.fault.FaultKind.{FaultKind}
 use Rattle.ics_components.specs.declared.fault.FaultKind.TheVariants.{NoObservance, MissingUid, MissingStart, BadEnd}
 use Rattle.ics_components.proofs.Ended.{events, zones}
@@ -89,15 +91,14 @@ sound-rdate zoned text =
     cond_both (has_slash text) (period_of zoned (first_half text) (second_half text)) (At (stamp_of zoned text)) (λ v. IsSoundValue (listed_in v))
     (λ e. sound-period zoned (first_half text) (second_half text)) (λ e. sound-stamp zoned text)
 
-sound-values : (of : List ℕ → DateValue) → ((text : List ℕ) → IsSoundValue (listed_in (of text))) → (texts : List (List ℕ)) →
-    All IsSoundValue (map listed_in (map of texts))
-sound-values of each texts = All-map IsSoundValue listed_in (map of texts) (All-map (λ v. IsSoundValue (listed_in v)) of texts (λ i d lt. each _))
+sound-value : (l : Listing) (zoned : Bool) (text : List ℕ) → IsSoundValue (listed_in (value_of l zoned text))
+sound-value listing.Rdate zoned text = sound-rdate zoned text
+sound-value listing.Exdate zoned text = sound-stamp zoned text
 
-pub sound-rdates : (zoned : Bool) (text : List ℕ) → All IsSoundValue (map listed_in (rdates_of zoned text))
-sound-rdates zoned text = sound-values (rdate_of zoned) (sound-rdate zoned) (pieces 44 text)
-
-pub sound-exdates : (zoned : Bool) (text : List ℕ) → All IsSoundValue (map listed_in (exdates_of zoned text))
-sound-exdates zoned text = sound-values (exdate_of zoned) (sound-stamp zoned) (pieces 44 text)
+sound-values : (l : Listing) (zoned : Bool) (text : List ℕ) → All IsSoundValue (map listed_in (values_of l zoned text))
+sound-values l zoned text =
+    All-map IsSoundValue listed_in (values_of l zoned text)
+    (All-map (λ v. IsSoundValue (listed_in v)) (value_of l zoned) (pieces 44 text) (λ i d lt. sound-value l zoned _))
 
 -- What ends on the lines of a file is in order, by what its lines say of it.
 abbrev IsSoundLocal : Local → Type 0
@@ -131,12 +132,12 @@ offset-sound text =
 daily-sound : (r : Result RuleParts RuleFault) → is_finer_than_daily (daily_in r).frequency ≡ false
 daily-sound r = grind arith
 
-locals-sound : (vs : List DateValue) → All IsSoundValue (map listed_in vs) → All IsSoundLocal (filter_map local_in vs)
+locals-sound : (vs : List ListedDate) → All IsSoundValue vs → All IsSoundLocal (filter_map local_in vs)
 locals-sound [] h = All-nil IsSoundLocal
-locals-sound (At (Ok (Floating local)) ∷ vs) h =
-    All-cons IsSoundLocal local (filter_map local_in vs) (h 0 (listed.At (Floating local)) (omega arith))
-    (locals-sound vs (All-tail IsSoundValue (listed.At (Floating local)) (map listed_in vs) h))
-locals-sound (v ∷ vs) h = locals-sound vs (All-tail IsSoundValue (listed_in v) (map listed_in vs) h)
+locals-sound (listed.At (Floating local) ∷ vs) h =
+    All-cons IsSoundLocal local (filter_map local_in vs) (All-head IsSoundValue (listed.At (Floating local)) vs h)
+    (locals-sound vs (All-tail IsSoundValue (listed.At (Floating local)) vs h))
+locals-sound (v ∷ vs) h = locals-sound vs (All-tail IsSoundValue v vs h)
 
 -- what the first line of a name says, if there is one
 by_first : {X : Type 0} (P : Option X → Type 0) (f : Placed → X) → P None → ((l : Placed) → P (Some (f l))) → (o : Option Placed) → P (option_map f o)
@@ -161,7 +162,7 @@ observance-sound own =
       rdates =
           list_all-from_AllPass is_stamp_local (flat_map onsets_by rdates)
           (All-weaker IsSoundLocal (λ l. is_stamp_local l ≡ true) local-test (flat_map onsets_by rdates) (All-flat_map IsSoundLocal onsets_by rdates
-          (λ i d lt. locals-sound (rdates_of false (value (get_or rdates i d))) (sound-rdates false (value (get_or rdates i d))))));
+          (λ i d lt. locals-sound _ (sound-values listing.Rdate false (value (get_or rdates i d))))));
       daily = by_first (λ o. is_finer_rule o ≡ false) daily_on refl (λ l. daily-sound (rule_on l)) (first_named (codes "RRULE") own);
     }
   where
@@ -224,13 +225,13 @@ event-whole own l t e h =
             has-first dated_on (codes "DTSTART") own ∙ started,
             (or_parts _ _ (rw t at (none-found at (take 16 kinds) (drop 17 kinds) BadEnd e))).1,
           );
-      rdates = lists rdates_on (λ l. sound-rdates (is_some (zone_name (params_of l.content))) (value l)) (codes "RDATE");
-      exdates = lists exdates_on (λ l. sound-exdates (is_some (zone_name (params_of l.content))) (value l)) (codes "EXDATE");
+      rdates = lists listing.Rdate (codes "RDATE");
+      exdates = lists listing.Exdate (codes "EXDATE");
       recurrence = dated-said (codes "RECURRENCE-ID") own;
     }
   where
-    lists : (f : Placed → DateList) → ((l : Placed) → IsSoundList (f l)) → (name : List ℕ) → All IsSoundList (map f (all_named name own))
-    lists f each name = All-map IsSoundList f (all_named name own) (λ i d lt. each (get_or (all_named name own) i d))
+    lists : (k : Listing) (name : List ℕ) → All IsSoundList (map (listed_on k) (all_named name own))
+    lists k name = All-map IsSoundList (listed_on k) (all_named name own) (λ i d lt. sound-values k _ (value (get_or (all_named name own) i d)))
 
 -- WHAT ENDS on the lines is in order, where none has a fault.
 module _ {X : Type 0} (s : Sort X) (P : X → Type 0)

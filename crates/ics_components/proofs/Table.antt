@@ -21,6 +21,7 @@ use Rattle.ics_components.specs.declared.component.Component.TheVariants as comp
 use Rattle.ics_components.specs.declared.component.Context.{Context}
 use Rattle.ics_components.specs.declared.component.Context.TheVariants as context
 use Rattle.ics_components.specs.declared.event_builder.EventBuilder.{EventBuilder}
+use Rattle.ics_components.specs.declared.date_values.Listing.TheVariants as listing
 use Rattle.ics_components.specs.declared.fault.FaultKind.{FaultKind}
 use Rattle.ics_components.specs.declared.fault.FaultKind.TheVariants.{BadRule, NumberTooLarge, NotCalendar, TooDeep, ObservanceField, OldVersion}
 use Rattle.ics_components.specs.declared.frame.Frame.{Frame}
@@ -31,7 +32,7 @@ use Rattle.ics_components.specs.Names.{name_of}
 use Rattle.ics_components.specs.PlacedLines.{Placed, Open, context_of, closes, begins_observance, calendar_of, lines_in, has, first_named, value}
 use Rattle.ics_components.specs.PlacedLines.{all_named}
 use Rattle.ics_components.specs.Values.{is_bad_rule, is_large_rule, is_fine_rule, ok_or_zero, is_cancelled}
-use Rattle.ics_components.specs.Faults.{stands, kinds, first_text, first_dated, duration_on, parts_on, rdates_on, exdates_on}
+use Rattle.ics_components.specs.Faults.{stands, kinds, first_text, first_dated, duration_on, parts_on, listed_on}
 use Rattle.ics_components.specs.Lines.{first, fault_if, rule_fault_of, outside_fault, builder_fault, calendar_fault, zone_fault}
 use Rattle.ics_components.specs.Observances.{observance_by, begins_in_zone, onset_on, offset_on, daily_on, onsets_by}
 use Rattle.ics_components.proofs.DateValueLemmas.{first-cond}
@@ -46,8 +47,8 @@ collected_of lines = record {
   end = first_dated (codes "DTEND") lines;
   duration = option_map duration_on (first_named (codes "DURATION") lines);
   rule = option_map parts_on (first_named (codes "RRULE") lines);
-  rdates = map rdates_on (all_named (codes "RDATE") lines);
-  exdates = map exdates_on (all_named (codes "EXDATE") lines);
+  rdates = map (listed_on listing.Rdate) (all_named (codes "RDATE") lines);
+  exdates = map (listed_on listing.Exdate) (all_named (codes "EXDATE") lines);
   recurrence = first_dated (codes "RECURRENCE-ID") lines;
   sequence = option_map (λ line. ok_or_zero (integer_of (value line))) (first_named (codes "SEQUENCE") lines);
   title = first_text (codes "SUMMARY") lines;

@@ -1,5 +1,5 @@
 -- What the values of an RDATE or an EXDATE say (RFC 5545, sections 3.8.5.1 and 3.8.5.2).
-use Rattle.std.specs.Prelude.{◌≡◌, ℕ, Bool, true, false, ◌||◌, not, ◌==◌, List, map, Option, Some, None, Result, Ok, Err, if◌then◌else◌}
+use Rattle.std.specs.Prelude.{◌≡◌, ℕ, Bool, false, ◌||◌, ◌==◌, List, map, Option, Some, None, is_none, Result, Ok, Err, if◌then◌else◌}
 use Rattle.std.specs.List.{list_any}
 use Rattle.ics_values.specs.Periods as period
 use Rattle.ics_values.specs.Periods.{first_half, second_half, lasts}
@@ -16,6 +16,9 @@ use Rattle.ics_values.specs.declared.stamp.StampFault.{StampFault}
 use Rattle.ics_values.specs.declared.stamp.StampFault.TheVariants as stamp
 use Rattle.ics_components.specs.declared.date_list.ListedDate.{ListedDate}
 use Rattle.ics_components.specs.declared.date_list.ListedDate.TheVariants as listed
+use Rattle.ics_components.specs.declared.date_values.Listing.{Listing}
+use Rattle.ics_components.specs.declared.date_values.Listing.TheVariants as listing
+use Rattle.ics_fields.specs.declared.local.Local.{Local}
 use Rattle.ics_values.specs.Zoned.{is_zoned}
 use Rattle.ics_components.specs.Values.{stamp_in, duration_in, is_bad_stamp, is_far_stamp, lasting_of, is_bad_duration, is_large_duration}
 
@@ -42,15 +45,13 @@ has_slash text = list_any (λ b. b == 47) text
 abbrev pub rdate_of : Bool → List ℕ → DateValue
 rdate_of zoned text = if has_slash text then period_of zoned (first_half text) (second_half text) else At (stamp_of zoned text)
 
-abbrev pub exdate_of : Bool → List ℕ → DateValue
-exdate_of zoned text = At (stamp_of zoned text)
+abbrev pub value_of : Listing → Bool → List ℕ → DateValue
+value_of listing.Rdate zoned text = rdate_of zoned text
+value_of listing.Exdate zoned text = At (stamp_of zoned text)
 
 -- the values between the commas
-abbrev pub rdates_of : Bool → List ℕ → List DateValue
-rdates_of zoned text = map (rdate_of zoned) (pieces 44 text)
-
-abbrev pub exdates_of : Bool → List ℕ → List DateValue
-exdates_of zoned text = map (exdate_of zoned) (pieces 44 text)
+abbrev pub values_of : Listing → Bool → List ℕ → List DateValue
+values_of listing zoned text = map (value_of listing zoned) (pieces 44 text)
 
 -- which faults a value has
 abbrev pub has_bad_stamp : DateValue → Bool
@@ -103,10 +104,10 @@ has_zoned (listed.At stamp) = is_zoned stamp
 has_zoned (listed.Between start end) = is_zoned start || is_zoned end
 has_zoned (listed.Lasting start duration) = is_zoned start
 
--- a local stamp, read without a TZID
-abbrev pub is_local : DateValue → Bool
-is_local (At (Ok (Floating local))) = true
-is_local _ = false
+-- the local stamp, read without a TZID, that a value says, if it says one
+abbrev pub local_in : ListedDate → Option Local
+local_in (listed.At (Floating local)) = Some local
+local_in _ = None
 
 abbrev pub is_not_local : DateValue → Bool
-is_not_local value = not (is_local value)
+is_not_local value = is_none (local_in (listed_in value))

@@ -17,7 +17,9 @@ use Rattle.ics_values.specs.declared.stamp.StampFault.{StampFault}
 use Rattle.ics_components.specs.declared.component.Context.{Context}
 use Rattle.ics_components.specs.declared.component.Context.TheVariants as context
 use Rattle.ics_components.specs.declared.date_list.DateList.{DateList}
-use Rattle.ics_components.specs.DateValues.{DateValue, At, rdates_of, exdates_of, has_bad_stamp, has_far_stamp, has_bad_duration, has_large_duration}
+use Rattle.ics_components.specs.declared.date_values.Listing.{Listing}
+use Rattle.ics_components.specs.declared.date_values.Listing.TheVariants.{Rdate, Exdate}
+use Rattle.ics_components.specs.DateValues.{DateValue, At, values_of, has_bad_stamp, has_far_stamp, has_bad_duration, has_large_duration}
 use Rattle.ics_components.specs.DateValues.{is_not_local}
 use Rattle.ics_components.specs.declared.dated.Dated.{Dated}
 use Rattle.ics_components.specs.declared.fault.FaultKind.{FaultKind}
@@ -28,7 +30,7 @@ use Rattle.ics_components.specs.declared.fault.FaultKind.TheVariants.{Repeated, 
 use Rattle.ics_components.specs.PlacedLines.{Placed, context_of, property_name, value, params_of, is_named, is_one_of, param, is_begin, is_end, is_outside}
 use Rattle.ics_components.specs.PlacedLines.{in_calendar, in_event, in_observance, begins, is_closing, ends_event, ends_zone, begins_observance}
 use Rattle.ics_components.specs.PlacedLines.{has, has_all, first_named}
-use Rattle.ics_components.specs.DateLists.{rdate_list, exdate_list}
+use Rattle.ics_components.specs.DateLists.{list_of}
 use Rattle.ics_components.specs.Values.{zone_name, stamp_read, duration_in, rule_in, dated_of, is_bad_stamp, is_far_stamp, lasting_of, is_bad_duration}
 use Rattle.ics_components.specs.Values.{is_large_duration, is_bad_offset, is_bad_rule, is_large_rule, is_fine_rule, is_large_integer, is_filled, ends_badly}
 
@@ -81,17 +83,14 @@ duration_on line = duration_in (lasting_on line)
 abbrev pub parts_on : Placed → RuleParts
 parts_on line = rule_in (rule_on line)
 
--- what a line lists, read as an RDATE and as an EXDATE, and its values, if it is one of them
-abbrev pub rdates_on : Placed → DateList
-rdates_on line = rdate_list (params_of line.content) (value line)
-
-abbrev pub exdates_on : Placed → DateList
-exdates_on line = exdate_list (params_of line.content) (value line)
+-- what a line lists, read as an RDATE or as an EXDATE, and its values, if it is one of them
+abbrev pub listed_on : Listing → Placed → DateList
+listed_on listing line = list_of listing (params_of line.content) (value line)
 
 abbrev pub dates_on : Placed → List DateValue
 dates_on line =
-    if is_named (codes "RDATE") line then rdates_of (is_some (zone_name (params_of line.content))) (value line)
-    else if is_named (codes "EXDATE") line then exdates_of (is_some (zone_name (params_of line.content))) (value line)
+    if is_named (codes "RDATE") line then values_of Rdate (is_some (zone_name (params_of line.content))) (value line)
+    else if is_named (codes "EXDATE") line then values_of Exdate (is_some (zone_name (params_of line.content))) (value line)
     else []
 
 -- a property of an event with a value that passes
@@ -102,7 +101,7 @@ has_date test line = in_event line && list_any test (dates_on line)
 abbrev pub onsets_on : Placed → List DateValue
 onsets_on line =
     if is_named (codes "DTSTART") line then At (stamp_of false (value line)) ∷ []
-    else if is_named (codes "RDATE") line then rdates_of false (value line)
+    else if is_named (codes "RDATE") line then values_of Rdate false (value line)
     else []
 
 -- such a property with a value that passes

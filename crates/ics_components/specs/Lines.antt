@@ -1,9 +1,10 @@
 -- What the reader makes of a line: what it has of the components that are open, or the fault on it, which is the least that stands there.
 -- These are the words of the code alone. No public contract cites them: what a file is stands in Faults and Files, and the proofs show that they agree.
-use Rattle.std.specs.Prelude.{ℕ, Bool, false, ◌&&◌, ◌||◌, not, ◌==◌, nat_le, List, [], ◌∷◌, ◌++◌, length, map, filter_map, codes, Option, Some, None, is_some}
+use Rattle.std.specs.Prelude.{ℕ, Bool, false, ◌&&◌, ◌||◌, not, ◌==◌, nat_le, List, [], ◌∷◌, ◌++◌, length, map, codes, Option, Some, None, is_some}
 use Rattle.std.specs.Prelude.{Result, Ok, Err, ℤ, ◌≡◌, if◌then◌else◌}
 use Rattle.std.specs.List.{list_any}
 use Rattle.std.specs.Ordering.{ord_min}
+use Rattle.std.specs.Result.{result_map_both}
 use Rattle.std.specs.Str.{bytes_eq}
 use Rattle.ics_text.specs.Bytes.{upper}
 use Rattle.ics_text.specs.ContentLines.{Parts, param_of}
@@ -12,18 +13,15 @@ use Rattle.ics_values.specs.Offsets.{offset_of}
 use Rattle.ics_values.specs.Plain.{text_of}
 use Rattle.ics_fields.specs.RuleParts.{RuleParts}
 use Rattle.ics_values.specs.Rules.{rule_of}
-use Rattle.ics_values.specs.RuleTexts.{pieces}
 use Rattle.ics_values.specs.Stamps.{stamp_of}
 use Rattle.ics_values.specs.declared.duration.Duration.{Duration}
 use Rattle.ics_values.specs.declared.duration.DurationFault.{DurationFault}
 use Rattle.ics_values.specs.declared.duration.DurationFault.TheVariants as duration
 use Rattle.ics_values.specs.declared.integer.IntegerFault.{IntegerFault}
-use Rattle.ics_fields.specs.declared.local.Local.{Local}
 use Rattle.ics_values.specs.declared.offset.BadOffset.{BadOffset}
 use Rattle.ics_values.specs.declared.rule_text.RuleFault.{RuleFault}
 use Rattle.ics_values.specs.declared.rule_text.RuleFault.TheVariants as rule
 use Rattle.ics_values.specs.declared.stamp.Stamp.{Stamp}
-use Rattle.ics_values.specs.declared.stamp.Stamp.TheVariants.{Floating}
 use Rattle.ics_values.specs.declared.stamp.StampFault.{StampFault}
 use Rattle.ics_values.specs.declared.stamp.StampFault.TheVariants as stamp_fault
 use Rattle.ics_components.specs.declared.event_builder.EventBuilder.{EventBuilder}
@@ -32,10 +30,8 @@ use Rattle.ics_components.specs.declared.component.Component.TheVariants as comp
 use Rattle.ics_components.specs.declared.component.Context.{Context}
 use Rattle.ics_components.specs.declared.component.Context.TheVariants as context
 use Rattle.ics_components.specs.contracts.fault.FaultKindOrd.TheImpl as order
-use Rattle.ics_components.specs.declared.date_list.DateList.{DateList}
 use Rattle.ics_components.specs.declared.date_list.ListedDate.{ListedDate}
 use Rattle.ics_components.specs.declared.date_list.ListedDate.TheVariants as listed
-use Rattle.ics_components.specs.declared.date_values.Listing.{Listing}
 use Rattle.ics_components.specs.declared.date_values.Listing.TheVariants as listing
 use Rattle.ics_components.specs.declared.fault.FaultKind.{FaultKind}
 use Rattle.ics_components.specs.declared.fault.FaultKind.TheVariants as kind
@@ -54,13 +50,13 @@ use Rattle.ics_components.specs.declared.builder.Builder.TheVariants as builder
 use Rattle.ics_components.specs.declared.builder.ZoneBuilder.{ZoneBuilder}
 use Rattle.ics_components.specs.Builders.{event_ended, fresh, zone_ended, observance_ended}
 use Rattle.ics_components.specs.Components.{component_of, component_name, context_in}
-use Rattle.ics_components.specs.DateLists.{rdate_list, exdate_list}
-use Rattle.ics_components.specs.DateValues.{DateValue, At, Between, Lasting, rdate_of, exdate_of, rdates_of, exdates_of, listed_in, has_bad_stamp}
+use Rattle.ics_components.specs.DateLists.{list_of}
+use Rattle.ics_components.specs.DateValues.{DateValue, At, Between, Lasting, values_of, has_bad_stamp}
 use Rattle.ics_components.specs.DateValues.{has_far_stamp, has_bad_duration, has_large_duration, is_not_local}
 use Rattle.ics_components.specs.Names.{name_of, gives_dates}
 use Rattle.ics_components.specs.Values.{zone_name, stamp_read, dated_of, lasting_of, duration_in, rule_in, ok_or_zero, is_cancelled, is_fine_rule, is_filled}
 use Rattle.ics_components.specs.Values.{ends_badly, is_bad_stamp, is_far_stamp, is_bad_duration, is_large_duration, is_bad_offset, is_large_integer}
-use Rattle.ics_components.specs.Observances.{local_in, onset_in, offset_in, daily_in}
+use Rattle.ics_components.specs.Observances.{locals_of, onset_in, offset_in, daily_in}
 use Rattle.ics_components.specs.SecondRound.{used_zone, listed_zone, ends_in}
 
 -- WHAT A FUNCTION ANSWERS: a value, where no fault stands there, or the fault; nothing is said where memory is refused.
@@ -146,42 +142,18 @@ abbrev pub lesser : Option FaultKind → FaultKind → FaultKind
 lesser None kind = kind
 lesser (Some had) kind = ord_min order.ghosts.cmp had kind
 
--- both values, or the lesser fault
-abbrev pub both : {A B : Type 0} → Result A FaultKind → Result B FaultKind → Result (A × B) FaultKind
-both (Ok a) (Ok b) = Ok (a, b)
-both (Ok a) (Err kind) = Err kind
-both (Err kind) (Ok b) = Err kind
-both (Err had) (Err kind) = Err (lesser (Some had) kind)
-
-abbrev listed_at : Result Stamp FaultKind → Result ListedDate FaultKind
-listed_at (Ok stamp) = Ok (listed.At stamp)
-listed_at (Err kind) = Err kind
-
-abbrev listed_both : {A : Type 0} → (Stamp → A → ListedDate) → Result (Stamp × A) FaultKind → Result ListedDate FaultKind
-listed_both list (Ok p) = Ok (list p.0 p.1)
-listed_both list (Err kind) = Err kind
+-- what two values make, or the lesser fault
+abbrev pub both : {A B C : Type 0} → (A → B → C) → Result A FaultKind → Result B FaultKind → Result C FaultKind
+both made (Ok a) (Ok b) = Ok (made a b)
+both made (Ok a) (Err kind) = Err kind
+both made (Err kind) (Ok b) = Err kind
+both made (Err had) (Err kind) = Err (lesser (Some had) kind)
 
 -- what a value of an RDATE or an EXDATE says, or its least fault
 abbrev pub judged : DateValue → Result ListedDate FaultKind
-judged (At stamp) = listed_at (stamp_judged stamp)
-judged (Between start end) = listed_both listed.Between (both (stamp_judged start) (stamp_judged end))
-judged (Lasting start duration) = listed_both listed.Lasting (both (stamp_judged start) (duration_judged duration))
-
--- the same of an observance
-abbrev pub onset_judged : Result ListedDate FaultKind → Result Local FaultKind
-onset_judged (Ok (listed.At (Floating local))) = Ok local
-onset_judged (Ok _) = Err kind.ObservanceField
-onset_judged (Err fault) = Err fault
-
-abbrev pub value_of : Listing → Bool → List ℕ → DateValue
-value_of listing.Rdate = rdate_of
-value_of listing.Exdate = exdate_of
-
-abbrev pub values_of : Listing → Bool → List ℕ → List DateValue
-values_of listing zoned text = map (value_of listing zoned) (pieces 44 text)
-
-abbrev pub list_of : Listing → List ℕ → List ℕ → DateList
-list_of listing params value = record { values = map listed_in (values_of listing (is_some (zone_name params)) value); zone = zone_name params }
+judged (At stamp) = result_map_both listed.At (λ kind. kind) (stamp_judged stamp)
+judged (Between start end) = both listed.Between (stamp_judged start) (stamp_judged end)
+judged (Lasting start duration) = both listed.Lasting (stamp_judged start) (duration_judged duration)
 
 abbrev pub dates_fault : List DateValue → Option FaultKind
 dates_fault values =
@@ -199,16 +171,16 @@ dates_line_fault name.Dtend c had = first (stamp_fault_of (stamp_read c.params c
 dates_line_fault name.RecurrenceId c had =
     first (first (stamp_fault_of (stamp_read c.params c.value)) (fault_if kind.Repeated (is_some had.recurrence)))
     (fault_if kind.ThisAndFuture (is_some (param_of (codes "RANGE") c.params)))
-dates_line_fault name.Rdate c had = dates_fault (rdates_of (is_some (zone_name c.params)) c.value)
-dates_line_fault name.Exdate c had = dates_fault (exdates_of (is_some (zone_name c.params)) c.value)
+dates_line_fault name.Rdate c had = dates_fault (values_of listing.Rdate (is_some (zone_name c.params)) c.value)
+dates_line_fault name.Exdate c had = dates_fault (values_of listing.Exdate (is_some (zone_name c.params)) c.value)
 dates_line_fault _ c had = None
 
 abbrev pub dates_line_note : Name → Parts → EventBuilder → EventBuilder
 dates_line_note name.Dtstart c had = record had { start = or_first had.start (dated_of c.params c.value) }
 dates_line_note name.Dtend c had = record had { end = or_first had.end (dated_of c.params c.value) }
 dates_line_note name.RecurrenceId c had = record had { recurrence = or_first had.recurrence (dated_of c.params c.value) }
-dates_line_note name.Rdate c had = record had { rdates = had.rdates ++ rdate_list c.params c.value ∷ [] }
-dates_line_note name.Exdate c had = record had { exdates = had.exdates ++ exdate_list c.params c.value ∷ [] }
+dates_line_note name.Rdate c had = record had { rdates = had.rdates ++ list_of listing.Rdate c.params c.value ∷ [] }
+dates_line_note name.Exdate c had = record had { exdates = had.exdates ++ list_of listing.Exdate c.params c.value ∷ [] }
 dates_line_note _ c had = had
 
 -- a line that gives another value
@@ -241,8 +213,8 @@ abbrev pub event_check : ℕ → Name → Parts → Option DeferredCheck
 event_check k name.Dtstart c = used_zone k (dated_of c.params c.value)
 event_check k name.Dtend c = used_zone k (dated_of c.params c.value)
 event_check k name.RecurrenceId c = used_zone k (dated_of c.params c.value)
-event_check k name.Rdate c = listed_zone k (rdate_list c.params c.value)
-event_check k name.Exdate c = listed_zone k (exdate_list c.params c.value)
+event_check k name.Rdate c = listed_zone k (list_of listing.Rdate c.params c.value)
+event_check k name.Exdate c = listed_zone k (list_of listing.Exdate c.params c.value)
 event_check k _ c = None
 
 -- A LINE OF A TIME ZONE and of an observance.
@@ -256,10 +228,8 @@ zone_note _ c had = had
 
 -- the local times of an RDATE
 abbrev pub locals_fault : List ℕ → Option FaultKind
-locals_fault v = first (dates_fault (rdates_of false v)) (fault_if kind.ObservanceField (list_any is_not_local (rdates_of false v)))
-
-abbrev pub locals_of : List ℕ → List Local
-locals_of v = filter_map local_in (rdates_of false v)
+locals_fault v =
+    first (dates_fault (values_of listing.Rdate false v)) (fault_if kind.ObservanceField (list_any is_not_local (values_of listing.Rdate false v)))
 
 abbrev pub observance_fault : Name → Parts → ObservanceBuilder → Option FaultKind
 observance_fault name.Dtstart c had =

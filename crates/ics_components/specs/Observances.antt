@@ -1,5 +1,5 @@
 -- What the lines of a file say of its time zones and their observances (RFC 5545, section 3.6.5).
-use Rattle.std.specs.Prelude.{ℕ, Bool, ◌&&◌, List, [], map, filter, filter_map, flat_map, codes, unwrap_or, Option, Some, None, option_map, Result, Ok, Err, ℤ}
+use Rattle.std.specs.Prelude.{ℕ, Bool, ◌&&◌, List, [], map, filter, filter_map, flat_map, codes, unwrap_or, option_map, Result, Ok, Err, ℤ}
 use Rattle.std.specs.Prelude.{pos, false, if◌then◌else◌}
 use Rattle.ics_fields.specs.Locals.{local_at}
 use Rattle.ics_fields.specs.declared.local.Local.{Local}
@@ -13,16 +13,12 @@ use Rattle.ics_values.specs.declared.stamp.Stamp.{Stamp}
 use Rattle.ics_values.specs.declared.stamp.Stamp.TheVariants.{Floating}
 use Rattle.ics_values.specs.declared.stamp.StampFault.{StampFault}
 use Rattle.ics_fields.specs.Observances.{ObservanceSaid}
-use Rattle.ics_components.specs.DateValues.{DateValue, At, rdates_of}
+use Rattle.ics_components.specs.DateValues.{values_of, listed_in, local_in}
+use Rattle.ics_components.specs.declared.date_values.Listing.TheVariants.{Rdate}
 use Rattle.ics_components.specs.declared.deferred_check.ZoneName.{ZoneName}
 use Rattle.ics_components.specs.Faults.{first_text, rule_on}
 use Rattle.ics_components.specs.PlacedLines.{Placed, value, in_calendar, in_zone, begins, begins_observance, calendar_of, lines_in, first_named, all_named}
 use Rattle.ics_components.specs.Values.{is_fine_rule, rule_in}
-
--- the local of a value that is one
-abbrev pub local_in : DateValue → Option Local
-local_in (At (Ok (Floating local))) = Some local
-local_in _ = None
 
 -- What its lines say of an observance that no fault stands on: a local read without a TZID, an offset, a rule no finer than daily, and locals.
 abbrev pub onset_in : Result Stamp StampFault → Local
@@ -45,8 +41,12 @@ offset_on line = offset_in (offset_of (value line))
 abbrev pub daily_on : Placed → RuleParts
 daily_on line = daily_in (rule_on line)
 
+-- the locals among the values of an RDATE
+abbrev pub locals_of : List ℕ → List Local
+locals_of text = filter_map local_in (map listed_in (values_of Rdate false text))
+
 abbrev pub onsets_by : Placed → List Local
-onsets_by line = filter_map local_in (rdates_of false (value line))
+onsets_by line = locals_of (value line)
 
 -- An observance, by the lines that stand directly in it. An accepted file has its fields.
 abbrev pub observance_by : List Placed → ObservanceSaid

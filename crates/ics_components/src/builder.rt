@@ -85,7 +85,7 @@ impl ObservanceBuilder {
                 let rule = RuleValue::read_daily(alloc, value)?;
                 once(&mut self.rule, rule, FaultKind::ZoneRule)
             }
-            Name::Rdate => self.rdates.add(value),
+            Name::Rdate => self.rdates.add(alloc, value),
             _ => Ok(()),
         }
     }

@@ -1,8 +1,9 @@
 //! The values of RDATE and EXDATE with the zones that their lines name (RFC 5545, sections 3.8.5.1 and 3.8.5.2).
 ghost use Rattle.std.specs.Prelude.{◌≡◌, ◌++◌, ◌∷◌, [], is_some, IfOk};
 ghost use Rattle.std.specs.List.{list_any};
-ghost use Rattle.ics_components.specs.DateValues.{has_zoned};
-ghost use Rattle.ics_components.specs.Lines.{Notes, dates_fault, values_of, list_of};
+ghost use Rattle.ics_components.specs.DateLists.{list_of};
+ghost use Rattle.ics_components.specs.DateValues.{has_zoned, local_in, values_of};
+ghost use Rattle.ics_components.specs.Lines.{Notes, dates_fault};
 ghost use Rattle.ics_components.specs.SecondRound.{listed_zone};
 ghost use Rattle.ics_components.specs.Values.{zone_name};
 
@@ -12,7 +13,7 @@ use crate::deferred_check::{DeferredCheck, ZoneName};
 use crate::refused::Refused;
 use crate::tzid::{Tzid, Tzids};
 use ics_text::Content;
-use ics_values::{Duration, Stamp, is_zoned};
+use ics_values::{Duration, Local, Stamp, is_zoned};
 use std::alloc::{AllocError, Global};
 use std::marker::Model;
 
@@ -70,6 +71,16 @@ impl ListedDate {
             ListedDate::At(stamp) => is_zoned(stamp),
             ListedDate::Between(start, end) => is_zoned(start) || is_zoned(end),
             ListedDate::Lasting(start, _) => is_zoned(start),
+        }
+    }
+
+    /// The local without a TZID that it is, if it is one.
+    pub(crate) fn local(self) -> Option<Local>
+        ensures { result ≡ local_in self }
+    {
+        match self {
+            ListedDate::At(Stamp::Floating(local)) => Some(local),
+            _ => None,
         }
     }
 }

@@ -1,19 +1,17 @@
 //! The values of RDATE and EXDATE (RFC 5545, sections 3.8.5.1 and 3.8.5.2).
-ghost use Rattle.std.specs.Prelude.{◌≡◌, ◌==◌, ◌++◌, map, false};
+ghost use Rattle.std.specs.Prelude.{◌≡◌, ◌==◌, map};
 ghost use Rattle.std.specs.List.{position};
 ghost use Rattle.ics_values.specs.Periods.{lasts};
 ghost use Rattle.ics_values.specs.Stamps.{stamp_of};
-ghost use Rattle.ics_components.specs.DateValues.{At, date_time_of, period_of, rdate_of, listed_in};
-ghost use Rattle.ics_components.specs.Lines.{Gives, Keeps, lesser, both, stamp_judged, judged, onset_judged, value_of, values_of, dates_fault};
-ghost use Rattle.ics_components.specs.Lines.{locals_fault, locals_of};
+ghost use Rattle.ics_components.specs.DateValues.{At, date_time_of, period_of, rdate_of, value_of, values_of, listed_in};
+ghost use Rattle.ics_components.specs.Lines.{Gives, lesser, stamp_judged, judged, dates_fault};
 
 use crate::date_list::{Dates, ListedDate};
 use crate::dated::stamp;
 use crate::ends::lasting;
 use crate::fault::FaultKind;
-use crate::observances::Locals;
 use crate::refused::Refused;
-use ics_values::{Local, Stamp};
+use ics_values::Stamp;
 use std::alloc::Global;
 
 /// A property that lists dates. Only an RDATE has PERIODs.
@@ -30,20 +28,6 @@ fn lesser(had: Option<FaultKind>, kind: FaultKind) -> FaultKind
     match had {
         Some(had) => had.min(kind),
         None => kind,
-    }
-}
-
-/// Both values, or the lesser fault.
-fn both<A: Copy, B: Copy>(
-    a: Result<A, FaultKind>,
-    b: Result<B, FaultKind>,
-) -> Result<(A, B), FaultKind>
-    ensures { result ≡ both a b }
-{
-    match (a, b) {
-        (Ok(a), Ok(b)) => Ok((a, b)),
-        (Err(kind), Ok(_)) | (Ok(_), Err(kind)) => Err(kind),
-        (Err(had), Err(kind)) => Err(had.min(kind)),
     }
 }
 
@@ -68,17 +52,23 @@ fn lasts(text: &[u8]) -> bool
     }
 }
 
-/// What a PERIOD says, by its halves.
+/// What a PERIOD says, by its halves, or the lesser of their faults.
 fn period(start: &[u8], end: &[u8], zoned: bool) -> Result<ListedDate, FaultKind>
     ensures { result ≡ judged (period_of zoned start.now end.now) }
 {
     let start = date_time(start, zoned);
     if lasts(end) {
-        let (start, duration) = both(start, lasting(end))?;
-        return Ok(ListedDate::Lasting(start, duration));
+        return match (start, lasting(end)) {
+            (Ok(start), Ok(duration)) => Ok(ListedDate::Lasting(start, duration)),
+            (Err(kind), Ok(_)) | (Ok(_), Err(kind)) => Err(kind),
+            (Err(had), Err(kind)) => Err(had.min(kind)),
+        };
     }
-    let (start, end) = both(start, date_time(end, zoned))?;
-    Ok(ListedDate::Between(start, end))
+    match (start, date_time(end, zoned)) {
+        (Ok(start), Ok(end)) => Ok(ListedDate::Between(start, end)),
+        (Err(kind), Ok(_)) | (Ok(_), Err(kind)) => Err(kind),
+        (Err(had), Err(kind)) => Err(had.min(kind)),
+    }
 }
 
 fn at(text: &[u8], zoned: bool) -> Result<ListedDate, FaultKind>
@@ -101,16 +91,6 @@ fn rdate(text: &[u8], zoned: bool) -> Result<ListedDate, FaultKind>
     match slash(text) {
         Some(i) => period(&text[..i], &text[i + 1..], zoned),
         None => at(text, zoned),
-    }
-}
-
-/// The onset that a value of an RDATE of an observance is: a local without a TZID.
-fn onset(text: &[u8]) -> Result<Local, FaultKind>
-    ensures { result ≡ onset_judged (judged (rdate_of false text.now)) }
-{
-    match rdate(text, false)? {
-        ListedDate::At(Stamp::Floating(local)) => Ok(local),
-        _ => Err(FaultKind::ObservanceField),
     }
 }
 
@@ -147,25 +127,6 @@ impl Dates {
         match least {
             Some(kind) => Err(Refused::Fault(kind)),
             None => Ok(Dates { values }),
-        }
-    }
-}
-
-impl Locals {
-    /// Adds the values of an RDATE of an observance, if none of them has a fault.
-    pub(crate) fn add(&mut self, text: &[u8]) -> Result<(), Refused>
-        ensures { Keeps result self.new (locals_fault text.now) (self.old ++ locals_of text.now) }
-    {
-        let mut least = None;
-        'values: for value in text.split(|b| *b == b',') {
-            match onset(value) {
-                Ok(local) => self.locals.push(local)?,
-                Err(kind) => least = Some(lesser(least, kind)),
-            }
-        }
-        match least {
-            Some(kind) => Err(Refused::Fault(kind)),
-            None => Ok(()),
         }
     }
 }

@@ -1,6 +1,15 @@
 //! The observances of a time zone (RFC 5545, section 3.6.5).
+ghost use Rattle.std.specs.Prelude.{◌++◌};
+ghost use Rattle.ics_components.specs.Lines.{Keeps, locals_fault};
+ghost use Rattle.ics_components.specs.Observances.{locals_of};
+
+use crate::date_list::Dates;
+use crate::date_values::Listing;
+use crate::fault::FaultKind;
+use crate::refused::Refused;
 use crate::rule_value::RuleValue;
 use ics_values::Local;
+use std::alloc::Global;
 use std::marker::Model;
 
 /// An observance that has ended: DTSTART, TZOFFSETFROM and TZOFFSETTO in seconds, RRULE, and the values of its RDATEs (RFC 5545, section 3.6.5).
@@ -26,6 +35,22 @@ impl Model for Locals {
     ghost Value = { List Local };
 
     ghost view = { λ a. a.locals.items };
+}
+
+impl Locals {
+    /// Adds the values of an RDATE of an observance, which are locals without a TZID, if none of them has a fault.
+    pub(crate) fn add(&mut self, alloc: Global, text: &[u8]) -> Result<(), Refused>
+        ensures { Keeps result self.new (locals_fault text.now) (self.old ++ locals_of text.now) }
+    {
+        let dates = Dates::read(alloc, Listing::Rdate, text, false)?;
+        for value in &dates.values {
+            let Some(local) = value.local() else {
+                return Err(Refused::Fault(FaultKind::ObservanceField));
+            };
+            self.locals.push(local)?;
+        }
+        Ok(())
+    }
 }
 
 impl Model for EndedObservance {

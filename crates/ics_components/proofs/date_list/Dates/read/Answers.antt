@@ -1,27 +1,27 @@
 use Rattle.std.proofs.Common.{◌==◌, ◌∙◌, sym, rules, tests}
 use Rattle.std.proofs.lemmas.Iterator.Splits.{YieldsList-from_slice_split}
 use Rattle.std.proofs.lemmas.Iterator.Consumers.{YieldsList-end}
-use Rattle.ics_components.specs.Lines.{dates_fault, judged, value_of}
-use Rattle.ics_components.proofs.DateValueLemmas.{read-more, read-all, dates-read, dates-said}
+use Rattle.ics_components.specs.DateValues.{value_of}
+use Rattle.ics_components.proofs.DateValueLemmas.{read-more, read-all}
 use Rattle.ics_components.proofs.date_list.Dates.read.Goals as goal
 
 pub values-preserved-in-Continue-1 : goal.values-preserved-in-Continue-1
 values-preserved-in-Continue-1 c =
-    rw c.in_ok-push-in-Ok.ensures.items (read-more dates-read _ c.values.yielded c.in-Some.value c.values.invariant (sym c.value.ensures ∙ c.in-Ok.is))
+    rw c.in_ok-push-in-Ok.ensures.items (read-more _ c.values.yielded c.in-Some.value c.values.invariant (sym c.value.ensures ∙ c.in-Ok.is))
 
 pub values-preserved : goal.values-preserved
-values-preserved c = rw c.lesser.ensures (read-more dates-read _ c.values.yielded c.in-Some.value c.values.invariant (sym c.value.ensures ∙ c.in-Err.is))
+values-preserved c = rw c.lesser.ensures (read-more _ c.values.yielded c.in-Some.value c.values.invariant (sym c.value.ensures ∙ c.in-Err.is))
 
 pub returns-in-Some-least : goal.returns-in-Some-least
 returns-in-Some-least c =
     let road = YieldsList-from_slice_split _ (λ b. b == 44) c.args.text.now (cc) (cc) (cc) (λ x r q k. search (rules, tests)) in
     let last = YieldsList-end road c.values.yielded _ c.values.yielded_by _ _ c.in-None.is c.next.ensures.steps in
-    let all = read-all judged dates_fault (value_of c.args.listing c.args.zoned) c.values.yielded last.0 c.values.invariant in
-    sym all.fault ∙ c.in-Some-least.is
+    let all = read-all (value_of c.args.listing c.args.zoned) c.values.yielded last.0 c.values.invariant in
+    all.0 ∙ c.in-Some-least.is
 
 pub returns-in-None-least : goal.returns-in-None-least
 returns-in-None-least c =
     let road = YieldsList-from_slice_split _ (λ b. b == 44) c.args.text.now (cc) (cc) (cc) (λ x r q k. search (rules, tests)) in
     let last = YieldsList-end road c.values.yielded _ c.values.yielded_by _ _ c.in-None.is c.next.ensures.steps in
-    let all = read-all judged dates_fault (value_of c.args.listing c.args.zoned) c.values.yielded last.0 c.values.invariant in
-    (sym all.fault ∙ c.in-None-least.is, all.said ∙ dates-said _ (sym all.fault ∙ c.in-None-least.is))
+    let all = read-all (value_of c.args.listing c.args.zoned) c.values.yielded last.0 c.values.invariant in
+    (all.0 ∙ c.in-None-least.is, all.1 c.in-None-least.is)

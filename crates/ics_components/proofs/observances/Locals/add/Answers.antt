@@ -1,30 +1,19 @@
-use Rattle.std.proofs.Common.{◌==◌, ◌++◌, ◌∙◌, sym, ap, false, rules, tests}
-use Rattle.std.proofs.lemmas.Iterator.Splits.{YieldsList-from_slice_split}
-use Rattle.std.proofs.lemmas.Iterator.Consumers.{YieldsList-end}
-use Rattle.ics_components.specs.DateValues.{rdate_of, rdates_of}
-use Rattle.ics_components.specs.Lines.{locals_of}
-use Rattle.ics_components.proofs.DateValueLemmas.{read-more, read-all, onset_read, onsets_fault, onsets-read, locals-said}
+use Rattle.std.proofs.Common.{◌∙◌, arith}
+use Rattle.std.proofs.lemmas.Grind.{common_steps}
+use Rattle.std.proofs.lemmas.List.Elements.{filter_map-append}
+use Rattle.std.proofs.lemmas.List.Folds.{list_any_at, list_any_more}
+use Rattle.ics_components.proofs.DateValueLemmas.{is_other, locals-fault}
 use Rattle.ics_components.proofs.observances.Locals.add.Goals as goal
 
-pub values-preserved-in-Continue-1 : goal.values-preserved-in-Continue-1
-values-preserved-in-Continue-1 c =
-    rw c.in_ok-push-in-Ok.ensures.items (read-more onsets-read _ c.values.yielded c.in-Some.value c.values.invariant (sym c.onset.ensures ∙ c.in-Ok.is))
+pub returns-in_default : goal.returns-in_default
+returns-in_default c =
+    let fault = locals-fault c.args.text.now _ c.in_ok-dates.ensures.0 (c.deref-value-items.ensures.value ∙ c.dates.view_is ∙ c.in_ok-dates.ensures.1) in
+    grind (arith, common_steps, fault, list_any_at is_other c.deref-value-items.result.now c.loop-value.value-index c.value-item.result)
 
-pub values-preserved : goal.values-preserved
-values-preserved c = rw c.lesser.ensures (read-more onsets-read _ c.values.yielded c.in-Some.value c.values.invariant (sym c.onset.ensures ∙ c.in-Err.is))
+pub loop-value-preserved : goal.loop-value-preserved
+loop-value-preserved c = grind (arith, common_steps, filter_map-append, list_any_more)
 
-pub returns-in-Some-least : goal.returns-in-Some-least
-returns-in-Some-least c =
-    let road = YieldsList-from_slice_split _ (λ b. b == 44) c.args.text.now (cc) (cc) (cc) (λ x r q k. search (rules, tests)) in
-    let last = YieldsList-end road c.values.yielded _ c.values.yielded_by _ _ c.in-None.is c.next.ensures.steps in
-    let all = read-all onset_read onsets_fault (rdate_of false) c.values.yielded last.0 c.values.invariant in
-    sym all.fault ∙ c.in-Some-least.is
-
-pub returns-in-None-least : goal.returns-in-None-least
-returns-in-None-least c =
-    let road = YieldsList-from_slice_split _ (λ b. b == 44) c.args.text.now (cc) (cc) (cc) (λ x r q k. search (rules, tests)) in
-    let last = YieldsList-end road c.values.yielded _ c.values.yielded_by _ _ c.in-None.is c.next.ensures.steps in
-    let all = read-all onset_read onsets_fault (rdate_of false) c.values.yielded last.0 c.values.invariant in (
-      sym all.fault ∙ c.in-None-least.is,
-      (rw (locals-said (rdates_of false c.args.text.now)) at all.said) ∙ ap (λ had. had ++ locals_of c.args.text.now) c.self.view_is,
-    )
+pub returns : goal.returns
+returns c =
+    let fault = locals-fault c.args.text.now _ c.in_ok-dates.ensures.0 (c.deref-value-items.ensures.value ∙ c.dates.view_is ∙ c.in_ok-dates.ensures.1) in
+    grind (arith, common_steps, fault)
