@@ -78,9 +78,9 @@ abbrev pub and_read : List ListedDate → Result ListedDate FaultKind → List L
 and_read ls (Ok x) = ls ++ x ∷ []
 and_read ls (Err k) = ls
 
-one-more : (o p q : Option FaultKind) (ls ms : List ListedDate) (x : ListedDate) → unless o ls ≡ unless p ms →
+one-more : {o p : Option FaultKind} {ls ms : List ListedDate} (q : Option FaultKind) (x : ListedDate) → unless o ls ≡ unless p ms →
     unless (least o (result_err (unless q x))) (and_read ls (unless q x)) ≡ unless (least p q) (ms ++ x ∷ [])
-one-more o p q ls ms x e = grind arith
+one-more q x e = grind arith
 
 pub read-more : {A : Type 0} (f : A → DateValue) (ys : List A) (y : A) {o : Option FaultKind} {ls : List ListedDate} {r : Result ListedDate FaultKind} →
     IsRead (map f ys) o ls → judged (f y) ≡ r → IsRead (map f (ys ++ y ∷ [])) (least o (result_err r)) (and_read ls r)

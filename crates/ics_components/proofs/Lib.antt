@@ -12,4 +12,4 @@ pub mod EndOrder
 pub mod Firsts
 pub mod Sound
 pub mod Listed
-pub mod Awaits
+pub mod SoundPass

@@ -1,6 +1,6 @@
 -- Where the lines of a component stand, and in which order components begin and end in a file without faults.
 use Rattle.std.proofs.Common.{◌≡◌, List, [], ◌∷◌, ◌++◌, refl, subst, Some, ◌≢◌, ℕ, ◌<◌, ◌≤◌, Bool, true, false, ◌==◌, drop, ap, ◌∙◌, arith, cond}
-use Rattle.std.proofs.Common.{◌&&◌, take, map, filter, sym, append_assoc, Option, None}
+use Rattle.std.proofs.Common.{◌&&◌, map, filter, sym, append_assoc, Option, None}
 use Rattle.std.proofs.lemmas.Bool.{cond_both, eq-eqb, ne_eqb, not-false}
 use Rattle.std.proofs.lemmas.List.Elements.{filter-append}
 use Rattle.std.specs.Prelude.{find, codes, not}
@@ -120,12 +120,8 @@ pub record IsSort {X : Type 0} (s : Sort X) : Type 0 where
   pub ends : (path : List Open) (ls : List Placed) (l : Placed) → name_of (property_name l.content) ≡ name.End → s.by path (ls ++ l ∷ []) ≡ s.by path ls
 
 -- no fault on a line, and thus no bad nesting
-pub none-found : (p : FaultKind → Bool) (front rest : List FaultKind) (k : FaultKind) → find p (front ++ k ∷ rest) ≡ None → p k ≡ false
-none-found p [] rest k e = grind arith
-none-found p (j ∷ js) rest k e = let again = none-found p js rest k in grind (arith, again)
-
 pub nested : (p : FaultKind → Bool) → find p kinds ≡ None → p BadNesting ≡ false
-nested p e = none-found p (take 11 kinds) (drop 12 kinds) BadNesting e
+nested p e = grind arith
 
 pub found-none : (number : ℕ) (kind : Option FaultKind) (later : Option Fault) → found number kind later ≡ None → (kind ≡ None) × (later ≡ None)
 found-none number kind later e = (grind arith, grind arith)

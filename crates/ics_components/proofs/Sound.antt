@@ -1,66 +1,66 @@
--- What is read of a value is in order.
-use Rattle.std.proofs.Common.{◌≡◌, ◌∙◌, ℕ, Bool, true, false, not, List, [], ◌∷◌, refl, sym, subst, cond, Result, Ok, Err, map, ℤ, pos, arith, ◌≢◌, ◌≤◌}
-use Rattle.std.proofs.Common.{◌+◌, ◌*◌, nat_le, ◌&&◌, ◌++◌, get_or, ◌==◌, length, Option, Some, None, is_some, IfSome}
-use Rattle.std.specs.List.{All, list_any}
-use Rattle.std.proofs.lemmas.Bool.{cond_both, and_parts, or_parts, not-false}
+-- What is read of a value is in order, and so are what is collected of a component and what ends of it.
+use Rattle.std.proofs.Common.{◌≡◌, ℕ, Bool, true, false, not, List, [], ◌∷◌, refl, sym, subst, cond, Result, Ok, Err, map, ℤ, pos, arith, ◌≢◌, ◌≤◌}
+use Rattle.std.proofs.Common.{◌+◌, ◌*◌, nat_le, ◌&&◌, ◌||◌, Option, Some, None, is_some, IfSome}
+use Rattle.std.specs.Prelude.{filter_map, unwrap_or}
+use Rattle.std.specs.List.{All}
+use Rattle.std.proofs.lemmas.Bool.{cond_both}
+use Rattle.std.proofs.lemmas.Bool.Decides.{nat_tests}
 use Rattle.std.proofs.lemmas.Int.{ints}
-use Rattle.std.proofs.lemmas.List.Elements.{All-nil, All-cons, All-append, All-head, All-tail, All-map, All-weaker}
+use Rattle.std.proofs.lemmas.List.Elements.{All-nil, All-cons, All-append, All-head, All-tail, All-map, All-push, All-weaker}
 use Rattle.std.proofs.lemmas.List.Sums.{list_all-from_AllPass}
+use Rattle.std.proofs.lemmas.Option.{IfSome_then}
+use Rattle.jiff_core.specs.Calendar.{IsWithin}
+use Rattle.ics_fields.specs.Days.{IsStampDay}
+use Rattle.ics_fields.specs.Locals.{local_at}
+use Rattle.ics_fields.specs.Observances.{is_finer_than_daily, is_finer_rule}
+use Rattle.ics_fields.specs.RuleParts.{RuleParts}
+use Rattle.ics_fields.specs.Years.{is_stamp_local}
+use Rattle.ics_fields.specs.declared.local.Local.{Local}
+use Rattle.ics_text.specs.ContentLines.{Parts}
 use Rattle.ics_values.specs.Durations.{duration_of}
+use Rattle.ics_values.specs.Offsets.{is_offset_form, is_offset_text, offset_hours, offset_minutes, offset_seconds, offset_size, offset_said, offset_of}
 use Rattle.ics_values.specs.Periods.{first_half, second_half, lasts}
 use Rattle.ics_values.specs.RuleTexts.{pieces}
+use Rattle.ics_values.specs.Rules.{rule_of}
 use Rattle.ics_values.specs.Stamps.{is_date_time_form, is_stamp_text, is_stamp_year, year_of, stamp_said, stamp_of}
-use Rattle.ics_fields.specs.Days.{IsStampDay}
 use Rattle.ics_values.specs.Texts.{begins, is_minus, with_sign}
 use Rattle.ics_values.specs.declared.duration.Duration.{Duration}
 use Rattle.ics_values.specs.declared.duration.DurationFault.{DurationFault}
+use Rattle.ics_values.specs.declared.rule_text.RuleFault.{RuleFault}
 use Rattle.ics_values.specs.declared.stamp.Stamp.{Stamp}
+use Rattle.ics_values.specs.declared.stamp.Stamp.TheVariants.{Floating}
 use Rattle.ics_values.specs.declared.stamp.StampFault.{StampFault}
 use Rattle.ics_values.specs.declared.stamp.StampFault.TheVariants as stamp
 use Rattle.ics_values.proofs.StampLemmas.{stamp_day-said, date_of-stamp, day_number_range, stamp_years}
-use Rattle.ics_components.specs.DateValues.{At, Between, Lasting, date_time_of, period_of, has_slash, rdate_of, value_of, values_of, local_in}
-use Rattle.ics_components.specs.DateValues.{listed_in}
+use Rattle.ics_components.specs.Builders.{event_ended, observance_ended}
+use Rattle.ics_components.specs.DateLists.{list_of}
+use Rattle.ics_components.specs.DateValues.{At, Between, Lasting, date_time_of, period_of, has_slash, rdate_of, value_of, values_of, listed_in, local_in}
+use Rattle.ics_components.specs.GivenTimes.{dated_in, given_length}
+use Rattle.ics_components.specs.Lines.{or_first, event_check, event_note, observance_note, end_of_event, end_of_zone}
+use Rattle.ics_components.specs.Observances.{locals_of, onset_in, offset_in, daily_in}
+use Rattle.ics_components.specs.SecondRound.{used_zone, used_in, listed_zone, ends_in}
+use Rattle.ics_components.specs.Sound.{IsSoundStamp, IsSoundValue, IsSoundList, IsSoundLength, IsWhole, IsSoundObservance, IsSoundZone, EachZone, end_of}
+use Rattle.ics_components.specs.Values.{stamp_in, duration_in, lasting_of, is_lasting, allowed, is_filled, ends_badly}
+use Rattle.ics_components.specs.declared.builder.ObservanceBuilder.{ObservanceBuilder}
+use Rattle.ics_components.specs.declared.builder.ZoneBuilder.{ZoneBuilder}
+use Rattle.ics_components.specs.declared.date_list.DateList.{DateList}
 use Rattle.ics_components.specs.declared.date_list.ListedDate.{ListedDate}
 use Rattle.ics_components.specs.declared.date_list.ListedDate.TheVariants as listed
 use Rattle.ics_components.specs.declared.date_values.Listing.{Listing}
 use Rattle.ics_components.specs.declared.date_values.Listing.TheVariants as listing
-use Rattle.ics_components.specs.Sound.{IsSoundStamp, IsSoundValue, IsSoundList, IsSoundLength, IsWhole, IsSoundObservance, IsSoundZone}
-use Rattle.ics_components.specs.Values.{stamp_in, duration_in, lasting_of, is_lasting, allowed, is_filled, ends_badly}
-use Rattle.std.specs.Prelude.{codes, drop, take, find, filter, filter_map, flat_map, option_map, unwrap_or}
-use Rattle.std.proofs.lemmas.Bool.Decides.{nat_tests}
-use Rattle.jiff_core.specs.Calendar.{IsWithin}
-use Rattle.ics_fields.specs.Locals.{local_at}
-use Rattle.ics_fields.specs.Observances.{ObservanceSaid, is_finer_than_daily, is_finer_rule}
-use Rattle.ics_fields.specs.RuleParts.{RuleParts}
-use Rattle.ics_fields.specs.Years.{is_stamp_local}
-use Rattle.ics_fields.specs.declared.local.Local.{Local}
-use Rattle.ics_values.specs.Offsets.{is_offset_form, is_offset_text, offset_hours, offset_minutes, offset_seconds, offset_size, offset_said, offset_of}
-use Rattle.ics_values.specs.declared.rule_text.RuleFault.{RuleFault}
-use Rattle.ics_values.specs.declared.stamp.Stamp.TheVariants.{Floating}
-use Rattle.ics_components.specs.Builders.{event_ended}
-use Rattle.ics_components.specs.Components.{is_zone_context}
-use Rattle.ics_components.specs.Faults.{stands, kinds, dated_on, duration_on, listed_on, first_text, first_dated, rule_on}
-use Rattle.ics_components.specs.FirstFault.{NoneStand}
-use Rattle.ics_components.specs.GivenTimes.{dated_in, given_length}
-use Rattle.ics_components.specs.Observances.{onset_in, offset_in, daily_in, onset_on, offset_on, daily_on, onsets_by, observance_by, begins_in_zone}
-use Rattle.ics_components.specs.PlacedLines.{Placed, context_of, value, beside, lines_in, calendar_of, has, first_named, all_named, in_zone}
-use Rattle.ics_components.specs.PlacedLines.{ends_event, ends_zone, is_closing, begins_observance}
 use Rattle.ics_components.specs.declared.dated.Dated.{Dated}
-use Rattle.ics_components.specs.declared.fault.FaultKind.{FaultKind}
-use Rattle.ics_components.specs.declared.fault.FaultKind.TheVariants.{NoObservance, MissingUid, MissingStart, BadEnd}
-use Rattle.ics_components.proofs.Ended.{events, zones}
-use Rattle.ics_components.proofs.Listed.{All-flat_map}
-use Rattle.ics_components.proofs.Order.{Sort, ended_as, ended_from, none-found}
-use Rattle.ics_components.proofs.Table.{own as observance_at, parts, any-part, has-first, collected_of}
-use Rattle.ics_components.proofs.Bundles.{Together, together-in, zone-lines}
-use Rattle.ics_components.proofs.PassLemmas.{AreTogether}
+use Rattle.ics_components.specs.declared.deferred_check.DeferredCheck.{DeferredCheck}
+use Rattle.ics_components.specs.declared.event_builder.EventBuilder.{EventBuilder}
+use Rattle.ics_components.specs.declared.fault.FaultKind.TheVariants.{MissingUid, MissingStart, BadEnd}
+use Rattle.ics_components.specs.declared.name.Name.{Name}
+use Rattle.ics_components.specs.declared.name.Name.TheVariants as name
 
 -- WHAT A VALUE SAYS.
-pub day-zero : IsStampDay (pos 0)
+day-zero : IsStampDay (pos 0)
 day-zero = (omega (arith, ints), omega (arith, ints))
 
 -- A stamp lies in the years of stamps.
-pub sound-stamp : (zoned : Bool) (text : List ℕ) → IsSoundStamp (stamp_in (stamp_of zoned text))
+sound-stamp : (zoned : Bool) (text : List ℕ) → IsSoundStamp (stamp_in (stamp_of zoned text))
 sound-stamp zoned text = by_tests (is_stamp_text text) (is_stamp_year (year_of text)) refl refl
   where
     by_tests : (t y : Bool) → is_stamp_text text ≡ t → is_stamp_year (year_of text) ≡ y →
@@ -78,7 +78,7 @@ sound-date_time zoned text =
 allowed-sound : (minus : Bool) (r : Result Duration DurationFault) → is_lasting (duration_in (allowed minus r)) ≡ true
 allowed-sound minus r = grind arith
 
-pub sound-lasting : (text : List ℕ) → is_lasting (duration_in (lasting_of text)) ≡ true
+sound-lasting : (text : List ℕ) → is_lasting (duration_in (lasting_of text)) ≡ true
 sound-lasting text = allowed-sound (begins is_minus text) (duration_of text)
 
 sound-period : (zoned : Bool) (start end : List ℕ) → IsSoundValue (listed_in (period_of zoned start end))
@@ -100,12 +100,8 @@ sound-values l zoned text =
     All-map IsSoundValue listed_in (values_of l zoned text)
     (All-map (λ v. IsSoundValue (listed_in v)) (value_of l zoned) (pieces 44 text) (λ i d lt. sound-value l zoned _))
 
--- What ends on the lines of a file is in order, by what its lines say of it.
-abbrev IsSoundLocal : Local → Type 0
+abbrev pub IsSoundLocal : Local → Type 0
 IsSoundLocal local = IsStampDay local.day
-
-abbrev IsSoundDated : Dated → Type 0
-IsSoundDated dated = IsSoundStamp dated.stamp
 
 -- An offset is less than a day.
 offset-small : (text : List ℕ) → is_offset_text text ≡ true → offset_size text ≤ 86_399
@@ -139,114 +135,130 @@ locals-sound (listed.At (Floating local) ∷ vs) h =
     (locals-sound vs (All-tail IsSoundValue (listed.At (Floating local)) vs h))
 locals-sound (v ∷ vs) h = locals-sound vs (All-tail IsSoundValue v vs h)
 
--- what the first line of a name says, if there is one
-by_first : {X : Type 0} (P : Option X → Type 0) (f : Placed → X) → P None → ((l : Placed) → P (Some (f l))) → (o : Option Placed) → P (option_map f o)
-by_first P f none some None = none
-by_first P f none some (Some l) = some l
+-- WHAT IS COLLECTED. The first of several values is kept.
+or-first : {X : Type 0} (P : X → Type 0) (o : Option X) (x : X) → IfSome o P → P x → IfSome (or_first o x) P
+or-first P (Some y) x h p = h
+or-first P None x h p = p
+
+-- a value that is there, or one in its place
+unwrapped : {X : Type 0} (P : X → Type 0) (o : Option X) (x : X) → IfSome o P → P x → P (unwrap_or o x)
+unwrapped P (Some y) x h p = h
+unwrapped P None x h p = p
 
 -- AN OBSERVANCE is one that a time zone may have.
+abbrev IsDaily : RuleParts → Type 0
+IsDaily rule = is_finer_than_daily rule.frequency ≡ false
+
+abbrev pub IsSoundBegun : ObservanceBuilder → Type 0
+IsSoundBegun had =
+    IfSome had.start IsSoundLocal × IfSome had.from (IsWithin 86_399) × IfSome had.to (IsWithin 86_399) × IfSome had.rule IsDaily × All IsSoundLocal had.rdates
+
+pub observance-noted : (n : Name) (v : Parts) (had : ObservanceBuilder) → IsSoundBegun had → IsSoundBegun (observance_note n v had)
+observance-noted name.Dtstart v had h =
+    (or-first IsSoundLocal had.start _ h.0 (onset-sound (stamp_of false v.value) (sound-stamp false v.value)), h.1, h.2, h.3, h.4)
+observance-noted name.OffsetFrom v had h = (h.0, or-first (IsWithin 86_399) had.from _ h.1 (offset-sound v.value), h.2, h.3, h.4)
+observance-noted name.OffsetTo v had h = (h.0, h.1, or-first (IsWithin 86_399) had.to _ h.2 (offset-sound v.value), h.3, h.4)
+observance-noted name.Rrule v had h = (h.0, h.1, h.2, or-first IsDaily had.rule _ h.3 (daily-sound (rule_of v.value)), h.4)
+observance-noted name.Rdate v had h =
+    (h.0, h.1, h.2, h.3, All-append IsSoundLocal had.rdates (locals_of v.value) h.4 (locals-sound _ (sound-values listing.Rdate false v.value)))
+observance-noted _ v had h = h
+
 local-test : (local : Local) → IsSoundLocal local → is_stamp_local local ≡ true
 local-test local h = grind (arith, ints)
 
-observance-sound : (own : List Placed) → IsSoundObservance (observance_by own)
-observance-sound own =
-    let rdates : List Placed = all_named (codes "RDATE") own in
-    record {
-      bounds = record {
-        start_in =
-            by_first (λ o. IsSoundLocal (unwrap_or o (local_at (pos 0) 0))) onset_on day-zero
-            (λ l. onset-sound (stamp_of false (value l)) (sound-stamp false (value l))) (first_named (codes "DTSTART") own);
-        from_in = offset (codes "TZOFFSETFROM");
-        to_in = offset (codes "TZOFFSETTO");
-      };
-      rdates =
-          list_all-from_AllPass is_stamp_local (flat_map onsets_by rdates)
-          (All-weaker IsSoundLocal (λ l. is_stamp_local l ≡ true) local-test (flat_map onsets_by rdates) (All-flat_map IsSoundLocal onsets_by rdates
-          (λ i d lt. locals-sound _ (sound-values listing.Rdate false (value (get_or rdates i d))))));
-      daily = by_first (λ o. is_finer_rule o ≡ false) daily_on refl (λ l. daily-sound (rule_on l)) (first_named (codes "RRULE") own);
-    }
-  where
-    offset : (name : List ℕ) → IsWithin 86_399 (unwrap_or (option_map offset_on (first_named name own)) (pos 0))
-    offset name = by_first (λ o. IsWithin 86_399 (unwrap_or o (pos 0))) offset_on zero-within (λ l. offset-sound (value l)) (first_named name own)
+rule-sound : (o : Option RuleParts) → IfSome o IsDaily → is_finer_rule o ≡ false
+rule-sound (Some rule) h = h
+rule-sound None h = refl
 
--- what ends on a line, if it does
-pub one-ended : {X : Type 0} (P : X → Type 0) (t : Bool) (x : X) → (t ≡ true → P x) → All P (cond t (x ∷ []) [])
-one-ended P t x h = cond_both t (x ∷ []) [] (All P) (λ e. All-cons P x [] (h e) (All-nil P)) (λ e. All-nil P)
+pub observance-sound : (had : ObservanceBuilder) → IsSoundBegun had → IsSoundObservance (observance_ended had)
+observance-sound had h = record {
+  bounds = record {
+    start_in = unwrapped IsSoundLocal had.start (local_at (pos 0) 0) h.0 day-zero;
+    from_in = unwrapped (IsWithin 86_399) had.from (pos 0) h.1 zero-within;
+    to_in = unwrapped (IsWithin 86_399) had.to (pos 0) h.2 zero-within;
+  };
+  rdates = list_all-from_AllPass is_stamp_local had.rdates (All-weaker IsSoundLocal (λ l. is_stamp_local l ≡ true) local-test had.rdates h.4);
+  daily = rule-sound had.rule h.3;
+}
 
 -- A TIME ZONE that ends has an observance.
-not-empty : (os : List ObservanceSaid) → not (length os == 0) ≡ true → os ≢ []
-not-empty os h e = grind arith
-
-zone-sound : (whole own : List Placed) (l : Placed) → ends_zone l ≡ true → find (λ kind. stands kind own l) kinds ≡ None → Together l.path own →
-    IsSoundZone (parts whole own)
-zone-sound whole own l t e h =
-    let z : in_zone l ≡ true = (and_parts (is_closing l) (in_zone l) t).1 in
-    let some : list_any begins_observance own ≡ true =
-    not-false _ (rw t at (none-found (λ kind. stands kind own l) (take 7 kinds) (drop 8 kinds) NoObservance e)) in
-    let there : not (length (parts whole own) == 0) ≡ true =
-    sym (zone-lines l.path z own (together-in is_zone_context l.path own refl z h) ∙ any-part whole own) ∙ some in
-    let begun : List Placed = filter begins_in_zone own in
-    record {
-      filled = not-empty (parts whole own) there;
-      sound = All-map IsSoundObservance (observance_at whole) begun (λ i d lt. observance-sound (lines_in (get_or begun i d).number whole));
-    }
+pub zone-sound : (had : ZoneBuilder) → All IsSoundObservance had.observances → end_of_zone had ≡ None → IsSoundZone had.observances
+zone-sound had h n = record { filled = λ e. let never = rw e at n in cc; sound = h }
 
 -- AN EVENT is in order as far as locals say.
-pub dated-said : (name : List ℕ) (own : List Placed) → IfSome (first_dated name own) IsSoundDated
-dated-said name own = by_first (λ o. IfSome o IsSoundDated) dated_on tt (λ l. sound-stamp _ (value l)) (first_named name own)
-
 filled-not-empty : (o : Option (List ℕ)) → is_filled o ≡ true → unwrap_or o [] ≢ []
 filled-not-empty o h e = grind arith
 
-start-sound : (start : Option Dated) → IfSome start IsSoundDated → IsSoundDated (dated_in start)
-start-sound (Some d) h = h
-start-sound None h = day-zero
+no-faults : (filled started twice badly : Bool) → cond (not filled) (Some MissingUid) (cond (not started) (Some MissingStart) (cond (twice || badly) (Some BadEnd) None)) ≡ None →
+    (filled ≡ true) × (started ≡ true) × (badly ≡ false)
+no-faults filled started twice badly e = (grind arith, grind arith, grind arith)
 
-length-sound : (start end : Option Dated) (duration : Option Duration) → IfSome end IsSoundDated → IfSome duration (λ d. is_lasting d ≡ true) →
-    (is_some start ≡ true) × (ends_badly start end ≡ false) → IsSoundLength (dated_in start) (given_length end duration)
-length-sound (Some d) (Some e) duration a b f = (a, f.1)
-length-sound None (Some e) duration a b f = let some = f.0 in cc
-length-sound start None (Some e) a b f = b
-length-sound start None None a b f = tt
+-- the DTEND of an event that has ended
+end-given : (o : Option Dated) (d : Option Duration) → end_of (given_length o d) ≡ o
+end-given o d = grind arith
 
-event-whole : (own : List Placed) (l : Placed) → ends_event l ≡ true → find (λ kind. stands kind own l) kinds ≡ None → Together l.path own →
-    IsWhole (event_ended (calendar_of l.path) (collected_of own))
-event-whole own l t e h =
-    let at : FaultKind → Bool = λ kind. stands kind own l in
-    let filled : is_filled (first_text (codes "UID") own) ≡ true =
-    not-false _ (rw t at (none-found at (take 13 kinds) (drop 14 kinds) MissingUid e)) in
-    let started : has (codes "DTSTART") own ≡ true = not-false _ (rw t at (none-found at (take 14 kinds) (drop 15 kinds) MissingStart e)) in
-    record {
-      named = filled-not-empty (first_text (codes "UID") own) filled;
-      start = start-sound (first_dated (codes "DTSTART") own) (dated-said (codes "DTSTART") own);
-      length =
-          length-sound (first_dated (codes "DTSTART") own) (first_dated (codes "DTEND") own) (collected_of own).duration (dated-said (codes "DTEND") own)
-          (by_first (λ o. IfSome o (λ d. is_lasting d ≡ true)) duration_on tt (λ l. sound-lasting (value l)) (first_named (codes "DURATION") own)) (
-            has-first dated_on (codes "DTSTART") own ∙ started,
-            (or_parts _ _ (rw t at (none-found at (take 16 kinds) (drop 17 kinds) BadEnd e))).1,
-          );
-      rdates = lists listing.Rdate (codes "RDATE");
-      exdates = lists listing.Exdate (codes "EXDATE");
-      recurrence = dated-said (codes "RECURRENCE-ID") own;
-    }
-  where
-    lists : (k : Listing) (name : List ℕ) → All IsSoundList (map (listed_on k) (all_named name own))
-    lists k name = All-map IsSoundList (listed_on k) (all_named name own) (λ i d lt. sound-values k _ (value (get_or (all_named name own) i d)))
+-- What is collected is in order, and P holds of the zones that it names, in that calendar.
+module _ (P : DeferredCheck → Type 0) (k : ℕ) where
+  abbrev IsSoundDated : Dated → Type 0
+  IsSoundDated dated = IsSoundStamp dated.stamp × IfSome (used_zone k dated) P
 
--- WHAT ENDS on the lines is in order, where none has a fault.
-module _ {X : Type 0} (s : Sort X) (P : X → Type 0)
-    (each : (own : List Placed) (l : Placed) → (is_closing l && s.stands_at (context_of l.path)) ≡ true → find (λ kind. stands kind own l) kinds ≡ None →
-    Together l.path own → P (s.by l.path own)) where
-  ended-sound : (before lines : List Placed) → NoneStand stands before lines → AreTogether before lines → All P (ended_from s before lines)
-  ended-sound before [] n h = All-nil P
-  ended-sound before (l ∷ ls) n h =
-      All-append P (ended_as s (beside before l) l) (ended_from s (before ++ l ∷ []) ls)
-      (one-ended P (is_closing l && s.stands_at (context_of l.path)) (s.by l.path (beside before l)) (λ t. each (beside before l) l t n.0 h.0))
-      (ended-sound (before ++ l ∷ []) ls n.1 h.1)
+  abbrev pub IsSoundListed : DateList → Type 0
+  IsSoundListed list = IsSoundList list × IfSome (listed_zone k list) P
 
-pub zones-sound : (whole before lines : List Placed) → NoneStand stands before lines → AreTogether before lines →
-    All (λ z. IsSoundZone z.observances) (ended_from (zones whole) before lines)
-zones-sound whole = ended-sound (zones whole) (λ z. IsSoundZone z.observances) (zone-sound whole)
+  abbrev pub IsSoundStarted : EventBuilder → Type 0
+  IsSoundStarted had =
+      IfSome had.start IsSoundDated × IfSome had.end IsSoundDated × IfSome had.duration (λ d. is_lasting d ≡ true) × All IsSoundListed had.rdates
+      × All IsSoundListed had.exdates × IfSome had.recurrence IsSoundDated
 
-pub events-whole : (before lines : List Placed) → NoneStand stands before lines → AreTogether before lines → All IsWhole (ended_from events before lines)
-events-whole = ended-sound events IsWhole event-whole
+  pub event-noted : (n : Name) (v : Parts) (had : EventBuilder) → IsSoundStarted had → IfSome (event_check k n v) P → IsSoundStarted (event_note n v had)
+  event-noted name.Dtstart v had h c = (or-first IsSoundDated had.start _ h.0 (sound-stamp _ v.value, c), h.1, h.2, h.3, h.4, h.5)
+  event-noted name.Dtend v had h c = (h.0, or-first IsSoundDated had.end _ h.1 (sound-stamp _ v.value, c), h.2, h.3, h.4, h.5)
+  event-noted name.Duration v had h c = (h.0, h.1, or-first (λ d. is_lasting d ≡ true) had.duration _ h.2 (sound-lasting v.value), h.3, h.4, h.5)
+  event-noted name.Rdate v had h c =
+      (h.0, h.1, h.2, All-push IsSoundListed had.rdates (list_of listing.Rdate v.params v.value) h.3 (sound-values listing.Rdate _ v.value, c), h.4, h.5)
+  event-noted name.Exdate v had h c =
+      (h.0, h.1, h.2, h.3, All-push IsSoundListed had.exdates (list_of listing.Exdate v.params v.value) h.4 (sound-values listing.Exdate _ v.value, c), h.5)
+  event-noted name.RecurrenceId v had h c = (h.0, h.1, h.2, h.3, h.4, or-first IsSoundDated had.recurrence _ h.5 (sound-stamp _ v.value, c))
+  event-noted _ v had h c = h
+
+  start-sound : (start : Option Dated) → IfSome start IsSoundDated → IsSoundDated (dated_in start)
+  start-sound (Some d) h = h
+  start-sound None h = (day-zero, tt)
+
+  length-sound : (start end : Option Dated) (duration : Option Duration) → IfSome end IsSoundDated → IfSome duration (λ d. is_lasting d ≡ true) →
+      (is_some start ≡ true) × (ends_badly start end ≡ false) → IsSoundLength (dated_in start) (given_length end duration)
+  length-sound (Some d) (Some e) duration a b f = (a.0, f.1)
+  length-sound None (Some e) duration a b f = let some = f.0 in cc
+  length-sound start None (Some e) a b f = b
+  length-sound start None None a b f = tt
+
+  pub event-whole : (had : EventBuilder) → IsSoundStarted had → end_of_event had ≡ None → IsWhole (event_ended k had)
+  event-whole had h n =
+      let f = no-faults (is_filled had.uid) (is_some had.start) (is_some had.end && is_some had.duration) (ends_badly had.start had.end) n in
+      record {
+        named = filled-not-empty had.uid f.0;
+        start = (start-sound had.start h.0).0;
+        length = length-sound had.start had.end had.duration h.1 h.2 (f.1, f.2);
+        rdates = λ i d lt. (h.3 i d lt).0;
+        exdates = λ i d lt. (h.4 i d lt).0;
+        recurrence = IfSome_then had.recurrence h.5 (λ d s. s.0);
+      }
+
+  looked : (o : Option Dated) → IfSome o IsSoundDated → IfSome (used_in k o) P
+  looked (Some d) h = h.1
+  looked None h = tt
+
+  length-looked : (start end : Option Dated) → IfSome (ends_in k start end) P → IfSome (ends_in k (Some (dated_in start)) end) P
+  length-looked (Some s) (Some e) h = h
+  length-looked None (Some e) h = tt
+  length-looked s None h = tt
+
+  pub event-looked : (had : EventBuilder) → IsSoundStarted had → IfSome (ends_in k had.start had.end) P → EachZone P (event_ended k had)
+  event-looked had h c = record {
+    start = (start-sound had.start h.0).1;
+    end = rw (end-given had.end had.duration) (looked had.end h.1);
+    rdates = λ i d lt. (h.3 i d lt).1;
+    exdates = λ i d lt. (h.4 i d lt).1;
+    recurrence = looked had.recurrence h.5;
+    length = rw (end-given had.end had.duration) (length-looked had.start had.end c);
+  }

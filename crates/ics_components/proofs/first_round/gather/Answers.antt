@@ -1,10 +1,9 @@
 use Rattle.std.proofs.Common.{◌+◌, length, arith, sym, subst, IfOk}
 use Rattle.std.proofs.lemmas.Grind.{common_steps}
 use Rattle.std.proofs.lemmas.Result.{IfOk-weaker}
-use Rattle.ics_text.specs.Unfolded.{Rises, unfolded}
-use Rattle.ics_text.proofs.Rising.{unfolded-rises}
+use Rattle.ics_text.specs.Unfolded.{unfolded}
 use Rattle.ics_components.specs.Gathered.{IsSoundGathered}
-use Rattle.ics_components.proofs.Awaits.{sound-pass}
+use Rattle.ics_components.proofs.SoundPass.{sound-pass}
 use Rattle.ics_components.proofs.PassLemmas.{fits-from_within}
 use Rattle.ics_components.proofs.first_round.gather.Goals as goal
 
@@ -19,5 +18,4 @@ returns-clause-gathered c = grind (arith, common_steps)
 -- what is gathered is sound, unless memory is refused
 pub returns-clause-sound : goal.returns-clause-sound
 returns-clause-sound c =
-    let rises = subst (Rises 0) (sym c.in-Ok.ensures.lines) (unfolded-rises c.args.bytes.now) in
-    IfOk-weaker c.pass_lines.result _ _ (λ g e. subst (λ g. IfOk g IsSoundGathered) (sym e) (sound-pass c.in-Ok.lines rises)) c.pass_lines.ensures
+    IfOk-weaker c.pass_lines.result _ _ (λ g e. subst (λ g. IfOk g IsSoundGathered) (sym e) (sound-pass c.in-Ok.lines)) c.pass_lines.ensures

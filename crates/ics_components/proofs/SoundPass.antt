@@ -1,0 +1,239 @@
+-- What is gathered is sound, where the first round finds nothing: each line keeps what is open and what is gathered so.
+use Rattle.std.proofs.Common.{◌≡◌, ℕ, Bool, List, [], ◌∷◌, ◌++◌, map, refl, cond, Option, Some, None, IfSome, IfOk, Result, Ok, Err, rules, arith}
+use Rattle.std.specs.List.{All, Contains}
+use Rattle.std.proofs.lemmas.Bool.{cond_both}
+use Rattle.std.proofs.lemmas.List.{length-map, get_or-map}
+use Rattle.std.proofs.lemmas.List.Elements.{All-nil, All-cons, All-head, All-tail, All-push, All-append}
+use Rattle.std.proofs.lemmas.Option.{IfSome_then}
+use Rattle.std.proofs.lemmas.Result.{IfOk-weaker}
+use Rattle.ics_fields.specs.Locals.{local_seconds}
+use Rattle.ics_text.specs.Bytes.{upper}
+use Rattle.ics_text.specs.ContentLines.{Parts, content_of}
+use Rattle.ics_text.specs.Unfolded.{Line}
+use Rattle.ics_values.specs.declared.stamp.Stamp.{Stamp}
+use Rattle.ics_values.specs.declared.stamp.Stamp.TheVariants as stamp
+use Rattle.ics_components.specs.Builders.{fresh, observance_ended}
+use Rattle.ics_components.specs.Components.{component_of, context_in}
+use Rattle.ics_components.specs.FirstFault.{Fault}
+use Rattle.ics_components.specs.Gathered.{IsSoundInstant, IsSoundCheck, IsSoundGathered, nothing_gathered, zones_of_end, events_of_end, checks_of, and_passed}
+use Rattle.ics_components.specs.GatheredSeen.{GatheredSeen}
+use Rattle.ics_components.specs.Lines.{builder_fault, builder_note, builder_check, event_check, fault_at_end_of, ended_as, joined, end_check}
+use Rattle.ics_components.specs.Lines.{calendar_in, opened, begin_fault, frame_fault, named_line, line_in, unless as fine}
+use Rattle.ics_components.specs.Names.{name_of}
+use Rattle.ics_components.specs.Pass.{bottom, unless, at_end, on_line, on_content, pass}
+use Rattle.ics_components.specs.SecondRound.{instant_on, instant_in, both_compared, ends_in}
+use Rattle.ics_components.specs.Sound.{EachZone, IsWhole, IsSoundStamp, IsSoundObservance, IsSoundZone}
+use Rattle.ics_components.specs.Values.{is_out}
+use Rattle.ics_components.specs.ZoneNames.{zone_used, are_of_one_zone}
+use Rattle.ics_components.specs.declared.builder.Builder.{Builder}
+use Rattle.ics_components.specs.declared.builder.Builder.TheVariants as builder
+use Rattle.ics_components.specs.declared.component.Component.{Component}
+use Rattle.ics_components.specs.declared.component.Context.{Context}
+use Rattle.ics_components.specs.declared.component.Context.TheVariants as context
+use Rattle.ics_components.specs.declared.dated.Dated.{Dated}
+use Rattle.ics_components.specs.declared.deferred_check.DeferredCheck.{DeferredCheck}
+use Rattle.ics_components.specs.declared.deferred_check.DeferredCheck.TheVariants as check
+use Rattle.ics_components.specs.declared.deferred_check.Instant.{Instant}
+use Rattle.ics_components.specs.declared.deferred_check.Instant.TheVariants as instant
+use Rattle.ics_components.specs.declared.deferred_check.ZoneName.{ZoneName}
+use Rattle.ics_components.specs.declared.fault.FaultKind.{FaultKind}
+use Rattle.ics_components.specs.declared.fault.FaultKind.TheVariants.{BadNesting}
+use Rattle.ics_components.specs.declared.frame.Frame.{Frame}
+use Rattle.ics_components.specs.declared.gathered.Ended.{Ended}
+use Rattle.ics_components.specs.declared.gathered.Ended.TheVariants as ended
+use Rattle.ics_components.specs.declared.gathered.EndedEvent.{EndedEvent}
+use Rattle.ics_components.specs.declared.gathered.EndedZone.{EndedZone}
+use Rattle.ics_components.specs.declared.gathered.LineCheck.{LineCheck}
+use Rattle.ics_components.specs.declared.gathered.Passed.{Passed}
+use Rattle.ics_components.specs.declared.name.Name.{Name}
+use Rattle.ics_components.specs.declared.name.Name.TheVariants as name
+use Rattle.ics_components.proofs.Sound.{IsSoundLocal, IsSoundBegun, IsSoundListed, IsSoundStarted, observance-noted, observance-sound, zone-sound}
+use Rattle.ics_components.proofs.Sound.{event-noted, event-whole, event-looked}
+
+-- WHAT THE SECOND ROUND LOOKS AT lies in the years of stamps.
+instant-sound : (name : ZoneName) (r : Stamp) → IsSoundStamp r → IfSome (instant_on name r) IsSoundInstant
+instant-sound name (stamp.Zoned local) h = h
+instant-sound name _ h = tt
+
+compared-sound : (a b : Option Instant) → IfSome a IsSoundInstant → IfSome b IsSoundInstant → IfSome (both_compared a b) IsSoundCheck
+compared-sound (Some (instant.Utc a)) (Some (instant.Utc b)) h k =
+    cond_both (is_out (local_seconds a) (local_seconds b)) (Some check.End) None (λ o. IfSome o IsSoundCheck) (λ e. tt) (λ e. tt)
+compared-sound (Some _) (Some _) h k = (h, k)
+compared-sound _ _ h k = tt
+
+ends-sound : (calendar : ℕ) (start end : Option Dated) → IfSome start (λ d. IsSoundStamp d.stamp) → IfSome end (λ d. IsSoundStamp d.stamp) →
+    IfSome (ends_in calendar start end) IsSoundCheck
+ends-sound k (Some a) (Some b) h i =
+    cond_both (are_of_one_zone a b) None (both_compared (instant_in k a) (instant_in k b)) (λ o. IfSome o IsSoundCheck) (λ e. tt)
+    (λ e. compared-sound (instant_in k a) (instant_in k b) (instant-sound (zone_used k a) a.stamp h) (instant-sound (zone_used k b) b.stamp i))
+ends-sound k _ _ h i = tt
+
+zone-check : (used : Bool) (name : ZoneName) → IfSome (cond used (Some (check.Zone name)) None) IsSoundCheck
+zone-check used name = cond_both used (Some (check.Zone name)) None (λ o. IfSome o IsSoundCheck) (λ e. tt) (λ e. tt)
+
+event-check : (k : ℕ) (n : Name) (v : Parts) → IfSome (event_check k n v) IsSoundCheck
+event-check k _ v = first_of (search rules, search (rules, zone-check))
+
+-- WHAT IS OPEN, and what ends on a line, is sound, where P holds of the zones that it names.
+abbrev IsSoundBuilder : (DeferredCheck → Type 0) → ℕ → Builder → Type 0
+IsSoundBuilder P k (builder.Event had) = IsSoundStarted P k had
+IsSoundBuilder P k (builder.Zone had) = All IsSoundObservance had.observances
+IsSoundBuilder P k (builder.Observance had) = IsSoundBegun had
+IsSoundBuilder P k builder.Nothing = Unit {0}
+
+abbrev AreSound : (DeferredCheck → Type 0) → List Frame → Type 0
+AreSound P [] = Unit {0}
+AreSound P (f ∷ fs) = IsSoundBuilder P f.calendar f.builder × AreSound P fs
+
+abbrev IsSoundEnd : (DeferredCheck → Type 0) → Ended → Type 0
+IsSoundEnd P (ended.Zone zone) = IsSoundZone zone.observances
+IsSoundEnd P (ended.Event event) = IsWhole event × EachZone P event
+IsSoundEnd P ended.Nothing = Unit {0}
+
+-- the same behind a line, where P holds of its check
+abbrev IsSoundStep : (DeferredCheck → Type 0) → List Frame × Passed → Type 0
+IsSoundStep P r = IfSome r.1.check P → AreSound P r.0 × IsSoundEnd P r.1.ended × IfSome r.1.check IsSoundCheck
+
+matched : (t : Bool) (o : Option FaultKind) → cond t o (Some BadNesting) ≡ None → o ≡ None
+matched t o n = grind arith
+
+module _ (P : DeferredCheck → Type 0) where
+  fresh-sound : (k : ℕ) (q : Context) → IsSoundBuilder P k (fresh q)
+  fresh-sound k context.Event = (tt, tt, tt, All-nil (IsSoundListed P k), All-nil (IsSoundListed P k), tt)
+  fresh-sound k context.Zone = All-nil IsSoundObservance
+  fresh-sound k context.Observance = (tt, tt, tt, tt, All-nil IsSoundLocal)
+  fresh-sound k _ = tt
+
+  opened-sound : (number : ℕ) (c : Component) (frames : List Frame) → AreSound P frames → AreSound P (opened number c frames)
+  opened-sound number c [] h = tt
+  opened-sound number c (f ∷ fs) h = (fresh-sound (calendar_in number (f ∷ fs)) (context_in f.context c), h)
+
+  noted-sound : (k : ℕ) (n : Name) (v : Parts) (b : Builder) → IsSoundBuilder P k b → IfSome (builder_check k n v b) P →
+      IsSoundBuilder P k (builder_note n v b) × IfSome (builder_check k n v b) IsSoundCheck
+  noted-sound k n v (builder.Event had) h c = (event-noted P k n v had h c, event-check k n v)
+  noted-sound k name.Tzid v (builder.Zone had) h c = (h, tt)
+  noted-sound k _ v (builder.Zone had) h c = (h, tt)
+  noted-sound k n v (builder.Observance had) h c = (observance-noted n v had h, tt)
+  noted-sound k n v builder.Nothing h c = (tt, tt)
+
+  joined-sound : (k m : ℕ) (b outer : Builder) → IsSoundBuilder P k b → IsSoundBuilder P m outer → IsSoundBuilder P m (joined b outer)
+  joined-sound k m (builder.Observance had) (builder.Zone outer) h o =
+      All-push IsSoundObservance outer.observances (observance_ended had) o (observance-sound had h)
+  joined-sound k m _ _ h o = o
+
+  ended-sound : (k : ℕ) (b : Builder) → IsSoundBuilder P k b → fault_at_end_of b ≡ None → IfSome (end_check k b) P →
+      IsSoundEnd P (ended_as k b) × IfSome (end_check k b) IsSoundCheck
+  ended-sound k (builder.Event had) h n c = (
+    (event-whole P k had h n, event-looked P k had h c),
+    ends-sound k had.start had.end (IfSome_then had.start h.0 (λ d s. s.0)) (IfSome_then had.end h.1 (λ d s. s.0)),
+  )
+  ended-sound k (builder.Zone had) h n c = (zone-sound had h n, tt)
+  ended-sound k _ h n c = (tt, tt)
+
+  unless-fault : (o : Option FaultKind) (r : List Frame × Passed) → (o ≡ None → IsSoundStep P r) → IfOk (fine o r) (IsSoundStep P)
+  unless-fault None r h = h refl
+  unless-fault (Some k) r h = tt
+
+  line-sound : (number : ℕ) (n : Name) (v : Parts) (frames : List Frame) → AreSound P frames → IfOk (named_line number n v frames) (IsSoundStep P)
+  line-sound number name.Begin v frames h =
+      unless-fault (begin_fault (component_of (map upper v.value)) frames) _ (λ none c. (opened-sound number (component_of (map upper v.value)) frames h, tt, tt))
+  line-sound number name.End v (f ∷ g ∷ gs) h =
+      unless-fault (frame_fault (map upper v.value) f) _ (λ none c.
+      let end = ended-sound f.calendar f.builder h.0 (matched _ _ none) c in
+      ((joined-sound f.calendar g.calendar f.builder g.builder h.0 h.1.0, h.1.1), end.0, end.1))
+  line-sound number name.End v (f ∷ []) h = tt
+  line-sound number _ v [] h = tt
+  line-sound number n v (f ∷ fs) h =
+      unless-fault (builder_fault f.context n v f.builder) _ (λ none c.
+      let noted = noted-sound f.calendar n v f.builder h.0 c in ((noted.0, h.1), tt, noted.1))
+
+-- WHAT IS GATHERED is sound, where P holds of the zones that its events name.
+abbrev IsSoundEnded : EndedZone → Type 0
+IsSoundEnded zone = IsSoundZone zone.observances
+
+abbrev IsSoundLine : LineCheck → Type 0
+IsSoundLine late = IsSoundCheck late.check
+
+all-parts : {X : Type 0} (P : X → Type 0) (xs ys : List X) → All P (xs ++ ys) → All P xs × All P ys
+all-parts P [] ys h = (All-nil P, h)
+all-parts P (x ∷ xs) ys h =
+    let rest = all-parts P xs ys (All-tail P x (xs ++ ys) h) in (All-cons P x xs (All-head P x (xs ++ ys) h) rest.0, rest.1)
+
+one : {X : Type 0} (P : X → Type 0) (x : X) → P x → All P (x ∷ [])
+one P x h = All-cons P x [] h (All-nil P)
+
+module _ (P : DeferredCheck → Type 0) where
+  abbrev IsSoundEvent : EndedEvent → Type 0
+  IsSoundEvent event = IsWhole event × EachZone P event
+
+  abbrev Holds : LineCheck → Type 0
+  Holds late = P late.check
+
+  abbrev IsSound : GatheredSeen → Type 0
+  IsSound g = All IsSoundEnded g.zones × All IsSoundEvent g.events × All IsSoundLine g.checks
+
+  end-gathered : (e : Ended) → IsSoundEnd P e → All IsSoundEnded (zones_of_end e) × All IsSoundEvent (events_of_end e)
+  end-gathered (ended.Zone zone) h = (one IsSoundEnded zone h, All-nil IsSoundEvent)
+  end-gathered (ended.Event event) h = (All-nil IsSoundEnded, one IsSoundEvent event h)
+  end-gathered ended.Nothing h = (All-nil IsSoundEnded, All-nil IsSoundEvent)
+
+  check-gathered : (number : ℕ) (o : Option DeferredCheck) → IfSome o IsSoundCheck → All IsSoundLine (checks_of number o)
+  check-gathered number None h = All-nil IsSoundLine
+  check-gathered number (Some c) h = one IsSoundLine (record { line = number; check = c }) h
+
+  check-held : (number : ℕ) (o : Option DeferredCheck) → All Holds (checks_of number o) → IfSome o P
+  check-held number None h = tt
+  check-held number (Some c) h = All-head Holds (record { line = number; check = c }) [] h
+
+  -- from some frames on, where P holds of all checks at the end
+  abbrev Goes : List Frame → GatheredSeen → GatheredSeen → Type 0
+  Goes frames had g = All Holds g.checks → All Holds had.checks × (AreSound P frames → IsSound had → IsSound g)
+
+  passes : (lines : List Line) (frames : List Frame) (last : Option ℕ) (had : GatheredSeen) → IfOk (pass frames last had lines) (Goes frames had)
+  passes [] frames last had = by_end (at_end frames last)
+    where
+      by_end : (o : Option Fault) → IfOk (unless o had) (Goes frames had)
+      by_end (Some fault) = tt
+      by_end None = λ all. (all, λ f h. h)
+  passes (line ∷ lines) frames last had = by_content (passes lines) (content_of line.bytes)
+    where
+      Again : Type 0
+      Again = (frames : List Frame) (last : Option ℕ) (had : GatheredSeen) → IfOk (pass frames last had lines) (Goes frames had)
+
+      by_line : Again → (r : Result (List Frame × Passed) FaultKind) → (AreSound P frames → IfOk r (IsSoundStep P)) →
+          IfOk (on_line line.number r had (λ frames had. pass frames (Some line.number) had lines)) (Goes frames had)
+      by_line again (Err k) step = tt
+      by_line again (Ok r) step =
+          let end : Ended = r.1.ended in
+          let now : GatheredSeen = and_passed line.number r.1 had in
+          IfOk-weaker (pass r.0 (Some line.number) now lines) (Goes r.0 now) (Goes frames had) (λ g later all.
+          let behind = later all in
+          let checks = all-parts Holds had.checks (checks_of line.number r.1.check) behind.0 in (
+            checks.0,
+            λ f h.
+                let after = step f (check-held line.number r.1.check checks.1) in
+                let ended = end-gathered end after.1 in
+                behind.1 after.0 (
+                  All-append IsSoundEnded had.zones (zones_of_end end) h.0 ended.0,
+                  All-append IsSoundEvent had.events (events_of_end end) h.1 ended.1,
+                  All-append IsSoundLine had.checks (checks_of line.number r.1.check) h.2 (check-gathered line.number r.1.check after.2),
+                ),
+          )) (again r.0 (Some line.number) now)
+
+      by_content : Again → (o : Option Parts) →
+          IfOk (on_content line.number o frames had (λ frames had. pass frames (Some line.number) had lines)) (Goes frames had)
+      by_content again None = tt
+      by_content again (Some v) = by_line again (line_in line.number v frames) (line-sound P line.number (name_of (map upper v.name)) v frames)
+
+-- the second round makes all checks that are gathered
+pub sound-pass : (lines : List Line) → IfOk (pass (bottom ∷ []) None nothing_gathered lines) IsSoundGathered
+sound-pass lines = by_result (pass (bottom ∷ []) None nothing_gathered lines) (λ P. passes P lines (bottom ∷ []) None nothing_gathered)
+  where
+    by_result : (r : Result GatheredSeen Fault) → ((P : DeferredCheck → Type 0) → IfOk r (Goes P (bottom ∷ []) nothing_gathered)) → IfOk r IsSoundGathered
+    by_result (Err fault) goes = tt
+    by_result (Ok g) goes =
+        let Made : DeferredCheck → Type 0 = Contains (map (λ w. w.check) g.checks) in
+        let sound =
+        (goes Made (λ i d lt. (i, simp length-map lt, get_or-map (λ w. w.check) g.checks i d _ lt))).1
+        (tt, tt) (All-nil IsSoundEnded, All-nil (IsSoundEvent Made), All-nil IsSoundLine) in
+        record { zones = sound.0; whole = λ i d lt. (sound.1 i d lt).0; awaited = λ i d lt. (sound.1 i d lt).1; sound = sound.2 }
