@@ -6,8 +6,6 @@ use Rattle.std.proofs.lemmas.Bool.{eq-eqb, ne_eqb}
 use Rattle.std.proofs.lemmas.List.{append-nil}
 use Rattle.std.proofs.lemmas.List.Elements.{All-nil, All-head, All-tail, All-push, filter-append}
 use Rattle.ics_components.specs.Components.{is_zone_context}
-use Rattle.ics_components.specs.declared.component.Context.{Context}
-use Rattle.ics_components.specs.declared.component.Context.TheVariants as context
 use Rattle.ics_components.specs.PlacedLines.{Placed, Open, context_of, in_zone, is_begin, is_end, begins_observance, component, path_behind, innermost}
 use Rattle.ics_components.specs.PlacedLines.{lines_in}
 use Rattle.ics_components.specs.Observances.{begins_in_zone}
@@ -66,28 +64,19 @@ pub top_beside : (before : List Placed) (bundles : List Bundle) → Keeps before
 top_beside before [] k = refl
 top_beside before (f ∷ fs) k = sym (k.0 ∙ append-nil f.lines)
 
--- lines in a component stand before it and all around it are open
-abbrev pub Together : List Open → List Placed → Type 0
-Together [] ls = Unit {0}
-Together (c ∷ cs) ls = All (λ l. l.path ≡ c ∷ cs) ls
-
-pub together : (before : List Placed) (bundles : List Bundle) → Keeps before [] bundles → Together (opens bundles) (lines_in (innermost (opens bundles)) before)
-together before [] k = tt
-together before (f ∷ fs) k = rw (k.0, append-nil f.lines) k.1.places
-
--- the same where they stand in a component of a kind
-pub together-in : (is : Context → Bool) (path : List Open) (ls : List Placed) → is context.Outside ≡ false → is (context_of path) ≡ true → Together path ls →
-    All (λ l. l.path ≡ path) ls
-together-in is [] ls out in_kind t = cc
-together-in is (c ∷ cs) ls out in_kind t = t
-
-pub zone-lines : (path : List Open) → is_zone_context (context_of path) ≡ true → (ls : List Placed) → All (λ l. l.path ≡ path) ls →
+-- in a time zone an observance begins wherever one is named
+zone-lines : (path : List Open) → is_zone_context (context_of path) ≡ true → (ls : List Placed) → All (λ l. l.path ≡ path) ls →
     list_any begins_observance ls ≡ list_any begins_in_zone ls
 zone-lines path z [] h = refl
 zone-lines path z (l ∷ ls) h =
     let here : in_zone l ≡ true = ap (λ (p : List Open). is_zone_context (context_of p)) (All-head (λ l. l.path ≡ path) l ls h) ∙ z in
     ap (λ r. begins_observance l || r) (zone-lines path z ls (All-tail (λ l. l.path ≡ path) l ls h))
     ∙ ap (λ t. (t && begins_observance l) || list_any begins_in_zone ls) (sym here)
+
+pub zone-beside : (before : List Placed) (bundles : List Bundle) → Keeps before [] bundles → is_zone_context (context_of (opens bundles)) ≡ true →
+    list_any begins_observance (lines_in (innermost (opens bundles)) before) ≡ list_any begins_in_zone (lines_in (innermost (opens bundles)) before)
+zone-beside before [] k z = cc
+zone-beside before (f ∷ fs) k z = rw (k.0, append-nil f.lines) (zone-lines (opens (f ∷ fs)) z f.lines k.1.places)
 
 pub falls : (before up : List Placed) (bundles : List Bundle) → Keeps before up bundles → Falls (opens bundles)
 falls before up [] k = tt

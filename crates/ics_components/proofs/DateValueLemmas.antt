@@ -78,17 +78,21 @@ abbrev pub and_read : List ListedDate → Result ListedDate FaultKind → List L
 and_read ls (Ok x) = ls ++ x ∷ []
 and_read ls (Err k) = ls
 
-one-more : {o p : Option FaultKind} {ls ms : List ListedDate} (q : Option FaultKind) (x : ListedDate) → unless o ls ≡ unless p ms →
-    unless (least o (result_err (unless q x))) (and_read ls (unless q x)) ≡ unless (least p q) (ms ++ x ∷ [])
-one-more q x e = grind arith
+one-more : (v : DateValue) (o p : Option FaultKind) (ls ms : List ListedDate) → unless o ls ≡ unless p ms →
+    unless (least o (result_err (judged v))) (and_read ls (judged v)) ≡ unless (least p (dates_fault (v ∷ []))) (ms ++ listed_in v ∷ [])
+one-more v o p ls ms e = rw (judged-is v) (by_fault (dates_fault (v ∷ [])))
+  where
+    by_fault : (q : Option FaultKind) →
+        unless (least o (result_err (unless q (listed_in v)))) (and_read ls (unless q (listed_in v))) ≡ unless (least p q) (ms ++ listed_in v ∷ [])
+    by_fault q = grind arith
 
 pub read-more : {A : Type 0} (f : A → DateValue) (ys : List A) (y : A) {o : Option FaultKind} {ls : List ListedDate} {r : Result ListedDate FaultKind} →
     IsRead (map f ys) o ls → judged (f y) ≡ r → IsRead (map f (ys ++ y ∷ [])) (least o (result_err r)) (and_read ls r)
 read-more f ys y {o = o} {ls = ls} h e =
     rw (map-append f ys (y ∷ [])) (record {
       same =
-          rw (← e, judged-is (f y), dates-more (map f ys) (f y), map-append listed_in (map f ys) (f y ∷ []))
-          (one-more o (dates_fault (map f ys)) (dates_fault (f y ∷ [])) ls (map listed_in (map f ys)) (listed_in (f y)) h.same);
+          rw (← e, dates-more (map f ys) (f y), map-append listed_in (map f ys) (f y ∷ []))
+          (one-more (f y) o _ ls _ h.same);
     })
 
 told : (o p : Option FaultKind) (ls ms : List ListedDate) → unless o ls ≡ unless p ms → (p ≡ o) × (o ≡ None → ls ≡ ms)

@@ -16,7 +16,6 @@ use Rattle.ics_components.specs.declared.gathered.LineCheck.{LineCheck}
 use Rattle.ics_components.specs.declared.deferred_check.DeferredCheck.{DeferredCheck}
 use Rattle.ics_components.specs.declared.name.Name.{Name}
 use Rattle.ics_components.specs.PlacedLines.{Placed, Open, path_behind, placed_from, innermost, lines_in, beside}
-use Rattle.ics_components.specs.Components.{is_zone_context}
 use Rattle.ics_components.specs.Faults.{stands, kinds}
 use Rattle.ics_components.specs.FirstFault.{found, first_from, first_fault, fault_at_end, end_fault, no_open}
 use Rattle.ics_components.specs.GatheredSeen.{GatheredSeen}
@@ -26,7 +25,7 @@ use Rattle.ics_components.specs.Names.{name_of}
 use Rattle.ics_components.specs.Pass.{bottom, is_lowest, at_end, unless, on_line, on_content, pass, NumbersFit}
 use Rattle.ics_components.proofs.Judged.{fault_in, check_in, behind, ends, passing}
 use Rattle.ics_components.proofs.Table.{parts, any-part, frame_of, IsAsked, least-same}
-use Rattle.ics_components.proofs.Bundles.{Bundle, Keeps, Together, Before, falls, open_of, opens, opens-behind, top_beside, together, together-in, zone-lines}
+use Rattle.ics_components.proofs.Bundles.{Bundle, Keeps, Before, falls, open_of, opens, opens-behind, top_beside, zone-beside}
 use Rattle.ics_components.proofs.Bundles.{bundles_behind, keeps}
 use Rattle.ics_components.proofs.Frames.{frames_of, top_of, with, Closes, frames-behind, line-top, check-top}
 use Rattle.ics_components.proofs.Order.{last-more, Falls, falls-behind, lines_in-whole, Sort, ended_as, ended_from, nested}
@@ -159,9 +158,7 @@ module _ (line : Line) {lines : List Line} (again : Known lines) (v : Parts) {wh
   least : fault_in n v (top_of whole before bundles) (length (opens bundles)) ≡ find (λ kind. stands kind (beside before l) l) kinds
   least =
       let asked : IsAsked whole (opens bundles) (beside before l) =
-      λ z. zone-lines (opens bundles) z (beside before l)
-      (together-in is_zone_context (opens bundles) (beside before l) refl z (together before bundles on.kept))
-      ∙ any-part whole (beside before l) in
+      λ z. zone-beside before bundles on.kept z ∙ any-part whole (beside before l) in
       ap (λ f. fault_in n v f (length (opens bundles))) beside-top
       ∙ sym (least-same whole (opens bundles) line.number v (beside before l) asked)
 
@@ -199,20 +196,6 @@ pass-lines [] whole before bundles last had on e =
     ap (λ f. unless f had) e ∙ ap (unless (fault_at_end before)) (gathered-none whole had before)
 pass-lines (line ∷ lines) whole before bundles last had on e = step line (pass-lines lines) (content_of line.bytes) on had
 
--- THE LINES DIRECTLY IN A COMPONENT stand before the same path.
-abbrev pub AreTogether : List Placed → List Placed → Type 0
-AreTogether before [] = Unit {0}
-AreTogether before (l ∷ ls) = Together l.path (beside before l) × AreTogether (before ++ l ∷ []) ls
-
-all-together : (lines : List Line) (whole before : List Placed) (bundles : List Bundle) → IsAt whole before bundles lines →
-    AreTogether before (placed_from (opens bundles) lines)
-all-together [] whole before bundles on = tt
-all-together (line ∷ lines) whole before bundles on =
-    let l : Placed = with_content line (opens bundles) (content_of line.bytes) in (
-      together before bundles on.kept,
-      rw (opens-behind l bundles refl) at (all-together lines whole (before ++ l ∷ []) (bundles_behind l bundles) (at-next l lines on)),
-    )
-
 first-at : (lines : List Line) → Rises 0 lines → IsAt (placed_from [] lines) [] [] lines
 first-at [] r = tt
 first-at (line ∷ lines) r =
@@ -222,9 +205,6 @@ pub pass-whole : (lines : List Line) → Rises 0 lines →
     pass (bottom ∷ []) None nothing_gathered lines
     ≡ unless (first_fault (placed_from [] lines)) (gathered_from (placed_from [] lines) nothing_gathered [] (placed_from [] lines))
 pass-whole lines r = pass-lines lines (placed_from [] lines) [] [] None nothing_gathered (first-at lines r) refl
-
-pub together-whole : (lines : List Line) → Rises 0 lines → AreTogether [] (placed_from [] lines)
-together-whole lines r = all-together lines (placed_from [] lines) [] [] (first-at lines r)
 
 -- there is a number after that of each line
 pub fits-from_within : (n : ℕ) (lines : List Line) → n + 1 < 2 ^ 64 → Within n lines → NumbersFit lines

@@ -189,7 +189,8 @@ zone-sound had h n = record { filled = λ e. let never = rw e at n in cc; sound 
 filled-not-empty : (o : Option (List ℕ)) → is_filled o ≡ true → unwrap_or o [] ≢ []
 filled-not-empty o h e = grind arith
 
-no-faults : (filled started twice badly : Bool) → cond (not filled) (Some MissingUid) (cond (not started) (Some MissingStart) (cond (twice || badly) (Some BadEnd) None)) ≡ None →
+no-faults : (filled started twice badly : Bool) →
+    cond (not filled) (Some MissingUid) (cond (not started) (Some MissingStart) (cond (twice || badly) (Some BadEnd) None)) ≡ None →
     (filled ≡ true) × (started ≡ true) × (badly ≡ false)
 no-faults filled started twice badly e = (grind arith, grind arith, grind arith)
 
