@@ -13,7 +13,8 @@ use Rattle.ics_components.specs.PlacedLines.{Placed, placed, value, begins_event
 use Rattle.ics_calendar.specs.Times.{time_on, length_of}
 use Rattle.ics_components.specs.GivenTimes.{dated_in, given_length}
 use Rattle.ics_components.specs.Values.{ok_or_zero, is_cancelled}
-use Rattle.ics_components.specs.Faults.{first_text, first_dated, duration_on, parts_on, rdates_on, exdates_on, stands}
+use Rattle.ics_components.specs.Faults.{first_text, first_dated, duration_on, parts_on, listed_on, stands}
+use Rattle.ics_components.specs.declared.date_values.Listing.TheVariants.{Rdate, Exdate}
 use Rattle.ics_calendar.specs.LaterFaults.{stands_later}
 use Rattle.ics_components.specs.declared.fault.Fault.{Fault}
 use Rattle.ics_components.specs.FirstFault.{IsFirst, IsFirstOrLast, NoneStand, bad_fold, fault_at_end, first_from, first_fault}
@@ -28,8 +29,8 @@ event_by index calendar own = record {
   start = time_on index calendar (dated_in (first_dated (codes "DTSTART") own));
   length = length_of index calendar (given_length (first_dated (codes "DTEND") own) (option_map duration_on (first_named (codes "DURATION") own)));
   rule = option_map parts_on (first_named (codes "RRULE") own);
-  rdates = rdates_by index calendar (map rdates_on (all_named (codes "RDATE") own));
-  exdates = exdates_by index calendar (map exdates_on (all_named (codes "EXDATE") own));
+  rdates = rdates_by index calendar (map (listed_on Rdate) (all_named (codes "RDATE") own));
+  exdates = exdates_by index calendar (map (listed_on Exdate) (all_named (codes "EXDATE") own));
   recurrence = option_map (time_on index calendar) (first_dated (codes "RECURRENCE-ID") own);
   title = unwrap_or (first_text (codes "SUMMARY") own) [];
   location = unwrap_or (first_text (codes "LOCATION") own) [];
