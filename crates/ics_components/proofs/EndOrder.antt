@@ -2,7 +2,6 @@
 use Rattle.std.proofs.Common.{◌≡◌, ℕ, Bool, true, false, ◌&&◌, List, [], ◌∷◌, ◌++◌, refl, sym, ap, ◌∙◌, map, filter, arith}
 use Rattle.std.specs.Prelude.{codes, unwrap_or}
 use Rattle.std.specs.Str.{bytes_eq}
-use Rattle.std.proofs.Math.Bool.{and_assoc, and_comm}
 use Rattle.std.proofs.lemmas.Bool.{and_parts}
 use Rattle.ics_components.specs.Lines.{event_note, zone_note}
 use Rattle.ics_components.specs.declared.component.Component.{Component}
@@ -32,34 +31,32 @@ event-end ls l e = collected_of-more ls l ∙ ap (λ n. event_note n (parts_at l
 pub calendar-from : (q : Context) (c : Component) → is_calendar_context (context_in q c) ≡ true → q ≡ context.Outside
 calendar-from q c e = grind arith
 
-calendar-alone : (q : Context) → is_calendar_context q ≡ true → (is_event_context q ≡ false) × (is_zone_context q ≡ false)
-calendar-alone q e = (grind arith, grind arith)
+swap : (a b c : Bool) → (a && (b && c)) ≡ (b && (a && c))
+swap a b c = grind arith
 
--- a calendar stands in nothing
-module _ {X : Type 0} (s : Sort X) (out : (q : Context) → is_calendar_context q ≡ true → s.stands_at q ≡ false) where
+-- a kind of components with one name that begin directly in a calendar
+module _ {X : Type 0} (s : Sort X) (word : List ℕ)
+    (inside_at : (q : Context) (w : List ℕ) → s.stands_at (context_in q (component_of w)) ≡ (is_calendar_context q && bytes_eq w word)) where
+  -- a calendar stands in nothing
   calendar-holds : (whole : List Placed) (path : List Open) → is_calendar_context (context_of path) ≡ true → open_as s whole path ≡ []
   calendar-holds whole [] e = refl
-  calendar-holds whole (c ∷ []) e = rw (out (context_of (c ∷ [])) e) refl
+  calendar-holds whole (c ∷ []) e = rw (inside_at context.Outside c.name) refl
   calendar-holds whole (c ∷ d ∷ ds) e =
       absurd (context-in-outside (context_of ds) (component_of d.name) (calendar-from (context_of (d ∷ ds)) (component_of c.name) e))
 
--- a kind of components with one name that begin directly in a calendar
-in-calendar : {X : Type 0} (s : Sort X) (word : List ℕ) → ((q : Context) → is_calendar_context q ≡ true → s.stands_at q ≡ false) →
-    ((l : Placed) → s.begins l ≡ (is_calendar_context (context_of l.path) && begins word l)) →
-    ((q : Context) (w : List ℕ) → s.stands_at (context_in q (component_of w)) ≡ (is_calendar_context q && bytes_eq w word)) →
-    ((path : List Open) (ls : List Placed) (l : Placed) → name_of (property_name l.content) ≡ name.End → s.by path (ls ++ l ∷ []) ≡ s.by path ls) → IsSort s
-in-calendar s word out here inside_at at_end = record {
-  starts =
-      λ l. let here_at : Bool = is_calendar_context (context_of l.path) in let named : Bool = bytes_eq (component l) word in
-      here l ∙ sym (and_assoc here_at (is_begin l) named) ∙ ap (λ t. t && named) (and_comm here_at (is_begin l)) ∙ and_assoc (is_begin l) here_at named
-      ∙ ap (λ t. is_begin l && t) (sym (inside_at (context_of l.path) (component l)));
-  alone = λ whole l e. calendar-holds s out whole l.path (and_parts _ _ (sym (inside_at (context_of l.path) (component l)) ∙ e)).0;
-  ends = at_end;
-}
+  in-calendar : ((l : Placed) → s.begins l ≡ (is_calendar_context (context_of l.path) && begins word l)) →
+      ((path : List Open) (ls : List Placed) (l : Placed) → name_of (property_name l.content) ≡ name.End → s.by path (ls ++ l ∷ []) ≡ s.by path ls) → IsSort s
+  in-calendar here at_end = record {
+    starts =
+        λ l. here l ∙ swap (is_calendar_context (context_of l.path)) (is_begin l) (bytes_eq (component l) word)
+        ∙ ap (λ t. is_begin l && t) (sym (inside_at (context_of l.path) (component l)));
+    alone = λ whole l e. calendar-holds whole l.path (and_parts _ _ (sym (inside_at (context_of l.path) (component l)) ∙ e)).0;
+    ends = at_end;
+  }
 
 pub events-are : IsSort events
 events-are =
-    in-calendar events (codes "VEVENT") (λ q e. (calendar-alone q e).0) (λ l. refl) (λ q w. (context-tests q w).0)
+    in-calendar events (codes "VEVENT") (λ q w. (context-tests q w).0) (λ l. refl)
     (λ path ls l e. ap (event_ended (calendar_of path)) (event-end ls l e))
 
 -- In a file without faults the time zones end in the order in which they begin.
@@ -74,7 +71,7 @@ zone-end whole ls l e =
 
 pub zones-are : (whole : List Placed) → IsSort (zones whole)
 zones-are whole =
-    in-calendar (zones whole) (codes "VTIMEZONE") (λ q e. (calendar-alone q e).1) (λ l. refl) (λ q w. (context-tests q w).1)
+    in-calendar (zones whole) (codes "VTIMEZONE") (λ q w. (context-tests q w).1) (λ l. refl)
     (λ path ls l e. ap (zone_ended (calendar_of path)) (zone-end whole ls l e))
 
 -- what begins directly in a calendar belongs to that

@@ -136,7 +136,8 @@ module _ (P : DeferredCheck → Type 0) where
 
   line-sound : (number : ℕ) (n : Name) (v : Parts) (frames : List Frame) → AreSound P frames → IfOk (named_line number n v frames) (IsSoundStep P)
   line-sound number name.Begin v frames h =
-      let begun : Component = component_of (map upper v.value) in unless-fault (begin_fault begun frames) _ (λ none c. (opened-sound number begun frames h, tt, tt))
+      let begun : Component = component_of (map upper v.value) in
+      unless-fault (begin_fault begun frames) _ (λ none c. (opened-sound number begun frames h, tt, tt))
   line-sound number name.End v (f ∷ g ∷ gs) h =
       unless-fault (frame_fault (map upper v.value) f) _ (λ none c.
       let end = ended-sound f.calendar f.builder h.0 (matched _ _ none) c in
