@@ -6,7 +6,7 @@ use Rattle.std.proofs.lemmas.Bool.{and_parts}
 use Rattle.ics_components.specs.Lines.{event_note, zone_note}
 use Rattle.ics_components.specs.declared.component.Component.{Component}
 use Rattle.ics_components.specs.declared.component.Context.{Context}
-use Rattle.ics_components.specs.Components.{component_of, context_in, is_calendar_context, is_event_context, is_zone_context}
+use Rattle.ics_components.specs.Components.{component_of, context_in, is_calendar_context}
 use Rattle.ics_components.specs.Names.{name_of}
 use Rattle.ics_components.specs.PlacedLines.{Placed, Open, property_name, context_of, is_begin, component, calendar_of, begins, lines_in}
 use Rattle.ics_components.specs.Builders.{event_ended, zone_ended}

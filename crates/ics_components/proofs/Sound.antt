@@ -19,7 +19,7 @@ use Rattle.ics_fields.specs.declared.local.Local.{Local}
 use Rattle.ics_text.specs.ContentLines.{Parts}
 use Rattle.ics_values.specs.Durations.{duration_of}
 use Rattle.ics_values.specs.Offsets.{is_offset_form, is_offset_text, offset_hours, offset_minutes, offset_seconds, offset_size, offset_said, offset_of}
-use Rattle.ics_values.specs.Periods.{first_half, second_half, lasts}
+use Rattle.ics_values.specs.Periods.{first_half, second_half}
 use Rattle.ics_values.specs.RuleTexts.{pieces}
 use Rattle.ics_values.specs.Rules.{rule_of}
 use Rattle.ics_values.specs.Stamps.{is_date_time_form, is_stamp_text, is_stamp_year, year_of, stamp_said, stamp_of}
@@ -34,7 +34,7 @@ use Rattle.ics_values.specs.declared.stamp.StampFault.TheVariants as stamp
 use Rattle.ics_values.proofs.StampLemmas.{stamp_day-said, date_of-stamp, day_number_range, stamp_years}
 use Rattle.ics_components.specs.Builders.{event_ended, observance_ended}
 use Rattle.ics_components.specs.DateLists.{list_of}
-use Rattle.ics_components.specs.DateValues.{At, Between, Lasting, date_time_of, period_of, has_slash, rdate_of, value_of, values_of, listed_in, local_in}
+use Rattle.ics_components.specs.DateValues.{date_time_of, period_of, rdate_of, value_of, values_of, listed_in, local_in}
 use Rattle.ics_components.specs.GivenTimes.{dated_in, given_length}
 use Rattle.ics_components.specs.Lines.{or_first, event_check, event_note, observance_note, end_of_event, end_of_zone}
 use Rattle.ics_components.specs.Observances.{locals_of, onset_in, offset_in, daily_in}
@@ -82,14 +82,10 @@ sound-lasting : (text : List ℕ) → is_lasting (duration_in (lasting_of text))
 sound-lasting text = allowed-sound (begins is_minus text) (duration_of text)
 
 sound-period : (zoned : Bool) (start end : List ℕ) → IsSoundValue (listed_in (period_of zoned start end))
-sound-period zoned start end =
-    cond_both (lasts end) (Lasting (date_time_of zoned start) (lasting_of end)) (Between (date_time_of zoned start) (date_time_of zoned end))
-    (λ v. IsSoundValue (listed_in v)) (λ e. (sound-date_time zoned start, sound-lasting end)) (λ e. (sound-date_time zoned start, sound-date_time zoned end))
+sound-period zoned start end = grind (arith, sound-date_time zoned start, sound-date_time zoned end, sound-lasting end)
 
 sound-rdate : (zoned : Bool) (text : List ℕ) → IsSoundValue (listed_in (rdate_of zoned text))
-sound-rdate zoned text =
-    cond_both (has_slash text) (period_of zoned (first_half text) (second_half text)) (At (stamp_of zoned text)) (λ v. IsSoundValue (listed_in v))
-    (λ e. sound-period zoned (first_half text) (second_half text)) (λ e. sound-stamp zoned text)
+sound-rdate zoned text = grind (arith, sound-period zoned (first_half text) (second_half text), sound-stamp zoned text)
 
 sound-value : (l : Listing) (zoned : Bool) (text : List ℕ) → IsSoundValue (listed_in (value_of l zoned text))
 sound-value listing.Rdate zoned text = sound-rdate zoned text
@@ -233,18 +229,6 @@ module _ (P : DeferredCheck → Type 0) (k : ℕ) where
   length-sound start None (Some e) a b f = b
   length-sound start None None a b f = tt
 
-  pub event-whole : (had : EventBuilder) → IsSoundStarted had → end_of_event had ≡ None → IsWhole (event_ended k had)
-  event-whole had h n =
-      let f = no-faults (is_filled had.uid) (is_some had.start) (is_some had.end && is_some had.duration) (ends_badly had.start had.end) n in
-      record {
-        named = filled-not-empty had.uid f.0;
-        start = (start-sound had.start h.0).0;
-        length = length-sound had.start had.end had.duration h.1 h.2 (f.1, f.2);
-        rdates = λ i d lt. (h.3 i d lt).0;
-        exdates = λ i d lt. (h.4 i d lt).0;
-        recurrence = IfSome_then had.recurrence h.5 (λ d s. s.0);
-      }
-
   looked : (o : Option Dated) → IfSome o IsSoundDated → IfSome (used_in k o) P
   looked (Some d) h = h.1
   looked None h = tt
@@ -254,12 +238,25 @@ module _ (P : DeferredCheck → Type 0) (k : ℕ) where
   length-looked None (Some e) h = tt
   length-looked s None h = tt
 
-  pub event-looked : (had : EventBuilder) → IsSoundStarted had → IfSome (ends_in k had.start had.end) P → EachZone P (event_ended k had)
-  event-looked had h c = record {
-    start = (start-sound had.start h.0).1;
-    end = rw (end-given had.end had.duration) (looked had.end h.1);
-    rdates = λ i d lt. (h.3 i d lt).1;
-    exdates = λ i d lt. (h.4 i d lt).1;
-    recurrence = looked had.recurrence h.5;
-    length = rw (end-given had.end had.duration) (length-looked had.start had.end c);
-  }
+  pub event-sound : (had : EventBuilder) → IsSoundStarted had → end_of_event had ≡ None → IfSome (ends_in k had.start had.end) P →
+      IsWhole (event_ended k had) × EachZone P (event_ended k had)
+  event-sound had h n c =
+      let f = no-faults (is_filled had.uid) (is_some had.start) (is_some had.end && is_some had.duration) (ends_badly had.start had.end) n in
+      let start = start-sound had.start h.0 in (
+        record {
+          named = filled-not-empty had.uid f.0;
+          start = start.0;
+          length = length-sound had.start had.end had.duration h.1 h.2 (f.1, f.2);
+          rdates = λ i d lt. (h.3 i d lt).0;
+          exdates = λ i d lt. (h.4 i d lt).0;
+          recurrence = IfSome_then had.recurrence h.5 (λ d s. s.0);
+        },
+        record {
+          start = start.1;
+          end = rw (end-given had.end had.duration) (looked had.end h.1);
+          rdates = λ i d lt. (h.3 i d lt).1;
+          exdates = λ i d lt. (h.4 i d lt).1;
+          recurrence = looked had.recurrence h.5;
+          length = rw (end-given had.end had.duration) (length-looked had.start had.end c);
+        },
+      )

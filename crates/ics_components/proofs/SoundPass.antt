@@ -48,7 +48,7 @@ use Rattle.ics_components.specs.declared.gathered.Passed.{Passed}
 use Rattle.ics_components.specs.declared.name.Name.{Name}
 use Rattle.ics_components.specs.declared.name.Name.TheVariants as name
 use Rattle.ics_components.proofs.Sound.{IsSoundLocal, IsSoundBegun, IsSoundListed, IsSoundStarted, observance-noted, observance-sound, zone-sound}
-use Rattle.ics_components.proofs.Sound.{event-noted, event-whole, event-looked}
+use Rattle.ics_components.proofs.Sound.{event-noted, event-sound}
 
 -- WHAT THE SECOND ROUND LOOKS AT lies in the years of stamps.
 instant-sound : (name : ZoneName) (r : Stamp) → IsSoundStamp r → IfSome (instant_on name r) IsSoundInstant
@@ -124,7 +124,7 @@ module _ (P : DeferredCheck → Type 0) where
   ended-sound : (k : ℕ) (b : Builder) → IsSoundBuilder P k b → fault_at_end_of b ≡ None → IfSome (end_check k b) P →
       IsSoundEnd P (ended_as k b) × IfSome (end_check k b) IsSoundCheck
   ended-sound k (builder.Event had) h n c = (
-    (event-whole P k had h n, event-looked P k had h c),
+    event-sound P k had h n c,
     ends-sound k had.start had.end (IfSome_then had.start h.0 (λ d s. s.0)) (IfSome_then had.end h.1 (λ d s. s.0)),
   )
   ended-sound k (builder.Zone had) h n c = (zone-sound had h n, tt)
