@@ -32,7 +32,7 @@ use Rattle.ics_components.specs.PlacedLines.{all_named, first_of as first_line, 
 use Rattle.ics_fields.specs.Locals.{local_seconds}
 use Rattle.ics_components.specs.Gathered.{IsSoundInstant, IsSoundCheck, checks_of, IsSoundGathered, nothing_gathered}
 use Rattle.ics_components.specs.ZoneNames.{zone_used, are_of_one_zone}
-use Rattle.ics_components.specs.Lines.{event_check, end_check}
+use Rattle.ics_components.specs.Lines.{event_check, end_check, check_in}
 use Rattle.ics_components.specs.SecondRound.{used_zone, used_in, listed_zone, instant_on, instant_in, both_compared, ends_in}
 use Rattle.ics_components.specs.Sound.{EachZone, end_of, IsSoundStamp}
 use Rattle.ics_components.specs.GivenTimes.{dated_in, given_length}
@@ -40,7 +40,6 @@ use Rattle.ics_components.specs.Values.{is_out}
 use Rattle.ics_components.proofs.Bundles.{Together, together-in}
 use Rattle.ics_components.proofs.Ended.{events}
 use Rattle.ics_components.proofs.BuilderLemmas.{parts_at}
-use Rattle.ics_components.proofs.Judged.{check_in}
 use Rattle.ics_components.proofs.NameLemmas.{equal}
 use Rattle.ics_components.proofs.Order.{ended_as, ended_from, end-name}
 use Rattle.ics_components.proofs.PassLemmas.{AreTogether, checks_from, checks_on, later_by, gathered_from, pass-whole, together-whole}

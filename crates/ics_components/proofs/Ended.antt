@@ -18,12 +18,11 @@ use Rattle.ics_components.specs.PlacedLines.{Placed, Open, context_of, calendar_
 use Rattle.ics_components.specs.Observances.{begins_zone}
 use Rattle.ics_components.specs.Builders.{event_ended, zone_ended}
 use Rattle.ics_components.specs.Gathered.{zones_of_end, events_of_end}
-use Rattle.ics_components.proofs.Judged.{ended_in, ends, is_end_name}
+use Rattle.ics_components.specs.Lines.{end_in}
 use Rattle.ics_components.proofs.NameLemmas.{tells}
-use Rattle.ics_components.proofs.Table.{parts, frame_of, marks, collected_of, zone_of}
-use Rattle.ics_components.proofs.Bundles.{Bundle, open_of, opens, top_lines}
+use Rattle.ics_components.proofs.Table.{parts, frame_of, marks, is_end_name, collected_of, zone_of}
 use Rattle.ics_components.proofs.Order.{Sort, ended_as}
-use Rattle.ics_components.proofs.Frames.{frames_of, with}
+use Rattle.ics_components.proofs.Frames.{with}
 
 -- THE COMPONENTS that are gathered: events and time zones, in a file of all these lines.
 abbrev pub events : Sort EndedEvent
@@ -36,7 +35,7 @@ zones whole = record { stands_at = is_zone_context; begins = begins_zone; by = �
 pub record Picks {X : Type 0} (whole : List Placed) (s : Sort X) (pick : Ended → List X) : Type 0 where
   pub nothing : pick ended.Nothing ≡ []
   pub one : (c : Open) (cs : List Open) (ls : List Placed) →
-      pick (ended_in (frame_of whole (c ∷ cs) ls)) ≡ cond (s.stands_at (context_of (c ∷ cs))) (s.by (c ∷ cs) ls ∷ []) []
+      pick (end_in name.End (frame_of whole (c ∷ cs) ls)) ≡ cond (s.stands_at (context_of (c ∷ cs))) (s.by (c ∷ cs) ls ∷ []) []
 
 pub events-picked : (whole : List Placed) → Picks whole events events_of_end
 events-picked whole = record { nothing = refl; one = λ c cs ls. grind arith }
@@ -50,16 +49,12 @@ IsMatched l = (is_end l && not (is_closing l)) ≡ false
 
 -- WHAT ENDS on a line.
 module _ {X : Type 0} (whole : List Placed) (s : Sort X) (pick : Ended → List X) (picks : Picks whole s pick) (line : Line) (v : Parts) where
-  pub picked-same : (before : List Placed) (bundles : List Bundle) → IsMatched (with line (opens bundles) v) →
-      pick (ends (name_of (map upper v.name)) (frames_of whole bundles)) ≡ ended_as s (top_lines before bundles) (with line (opens bundles) v)
-  picked-same before bundles m =
-      by_name (name_of (map upper v.name)) bundles (marks (map upper v.name) (name_of (map upper v.name)) (tells (map upper v.name))).1 m
+  pub picked-same : (path : List Open) (ls : List Placed) → IsMatched (with line path v) →
+      pick (end_in (name_of (map upper v.name)) (frame_of whole path ls)) ≡ ended_as s ls (with line path v)
+  picked-same path ls m = by_name (name_of (map upper v.name)) path (marks (map upper v.name) (name_of (map upper v.name)) (tells (map upper v.name))).1 m
     where
-      by_name : (n : Name) (bundles : List Bundle) → bytes_eq (map upper v.name) (codes "END") ≡ is_end_name n → IsMatched (with line (opens bundles) v) →
-          pick (ends n (frames_of whole bundles)) ≡ ended_as s (top_lines before bundles) (with line (opens bundles) v)
+      by_name : (n : Name) (path : List Open) → bytes_eq (map upper v.name) (codes "END") ≡ is_end_name n → IsMatched (with line path v) →
+          pick (end_in n (frame_of whole path ls)) ≡ ended_as s ls (with line path v)
       by_name name.End [] e m = let never = rw e at m in cc
-      by_name name.End (b ∷ []) e m =
-          let closes = not-false _ (rw e at m) in rw (e, closes) (picks.one (open_of b) [] b.lines)
-      by_name name.End (b ∷ d ∷ ds) e m =
-          let closes = not-false _ (rw e at m) in rw (e, closes) (picks.one (open_of b) (opens (d ∷ ds)) b.lines)
-      by_name _ bundles e m = rw e picks.nothing
+      by_name name.End (c ∷ cs) e m = let closes = not-false _ (rw e at m) in rw (e, closes) (picks.one c cs ls)
+      by_name _ path e m = rw e picks.nothing

@@ -16,11 +16,10 @@ use Rattle.ics_components.specs.Names.{name_of}
 use Rattle.ics_components.specs.PlacedLines.{Placed, Open, context_of, property_name, is_begin, is_end, component, path_behind, calendar_of, lines_in}
 use Rattle.ics_components.specs.Builders.{fresh, observance_ended}
 use Rattle.ics_components.specs.Pass.{bottom}
-use Rattle.ics_components.specs.Lines.{opened, observance_note, joined, unless, named_line}
-use Rattle.ics_components.proofs.Judged.{fault_in, check_in, check_on, noted, closed, behind, passing, end-inside, is_begin_name, is_end_name}
-use Rattle.ics_components.proofs.NameLemmas.{tells, equal, context-in-outside}
+use Rattle.ics_components.specs.Lines.{opened, observance_note, joined, closed, noted, behind, fault_in, fault_on, end_in, check_in, passed, passing}
+use Rattle.ics_components.proofs.NameLemmas.{tells, equal}
 use Rattle.ics_components.proofs.BuilderLemmas.{parts_at, observance_of-more, builder-more, builder-begun, still}
-use Rattle.ics_components.proofs.Table.{Readings, builder_at, frame_at, own, readings, frame_of, marks, observance_of}
+use Rattle.ics_components.proofs.Table.{Readings, builder_at, frame_at, own, readings, frame_of, marks, is_begin_name, is_end_name, observance_of}
 use Rattle.ics_components.proofs.Bundles.{Bundle, IsKept, Keeps, opens, top_lines, add_line, close, bundles_behind}
 
 -- the frames that the bundles of lines stand for, in a file of all these lines
@@ -111,22 +110,13 @@ module _ (whole before : List Placed) where
   length-frames [] = refl
   length-frames (b ∷ bs) = ap suc (length-frames bs)
 
-  -- what a line makes of the frames, whose faults read the innermost alone
-  pub line-top : (number : ℕ) (n : Name) (v : Parts) (bundles : List Bundle) →
-      named_line number n v (frames_of whole bundles)
-      ≡ unless (fault_in n v (top_of whole before bundles) (length (opens bundles)))
-      (behind number n v (frames_of whole bundles), passing n v (frames_of whole bundles))
-  line-top number name.End v [] = refl
-  line-top number name.End v (b ∷ []) =
-      ap (λ o. unless o (behind number name.End v (frames_of whole (b ∷ [])), passing name.End v (frames_of whole (b ∷ []))))
-      (sym (end-inside _ _ _ (context-in-outside context.Outside (component_of (component b.begin)))))
-  line-top number name.End v (b ∷ d ∷ ds) =
-      ap (λ o. unless o (behind number name.End v (frames_of whole (b ∷ d ∷ ds)), passing name.End v (frames_of whole (b ∷ d ∷ ds))))
-      (sym (end-inside _ _ _ (context-in-outside (context_of (opens (d ∷ ds))) (component_of (component b.begin)))))
-  line-top number _ v [] = refl
-  line-top number n v (b ∷ bs) =
-      let f : Frame = frame_of whole (opens (b ∷ bs)) b.lines in
-      ap (λ m. unless (fault_in n v f m) (behind number n v (f ∷ frames_of whole bs), passing n v (f ∷ frames_of whole bs))) (length-frames bs)
+  -- the fault on a line and what is gathered there read the innermost component alone
+  pub fault-top : (n : Name) (v : Parts) (bundles : List Bundle) →
+      fault_on n v (frames_of whole bundles) ≡ fault_in n v (top_of whole before bundles) (length (opens bundles))
+  fault-top n v [] = refl
+  fault-top n v (b ∷ bs) = ap (fault_in n v (frame_of whole (opens (b ∷ bs)) b.lines)) (length-frames bs)
 
-  pub check-top : (n : Name) (v : Parts) (bundles : List Bundle) → check_on n v (frames_of whole bundles) ≡ check_in n v (top_of whole before bundles)
-  check-top n v bundles = grind arith
+  pub passing-top : (n : Name) (v : Parts) (bundles : List Bundle) →
+      passing n v (frames_of whole bundles) ≡ passed (end_in n (top_of whole before bundles)) (check_in n v (top_of whole before bundles))
+  passing-top n v [] = refl
+  passing-top n v (b ∷ bs) = refl

@@ -21,14 +21,13 @@ use Rattle.ics_components.specs.Faults.{stands, kinds}
 use Rattle.ics_components.specs.FirstFault.{found, first_from, first_fault, fault_at_end, end_fault, no_open}
 use Rattle.ics_components.specs.GatheredSeen.{GatheredSeen}
 use Rattle.ics_components.specs.Gathered.{nothing_gathered, zones_of_end, events_of_end, checks_of, and_passed}
-use Rattle.ics_components.specs.Lines.{unless as fine}
+use Rattle.ics_components.specs.Lines.{unless as fine, fault_in, fault_on, end_in, check_in, behind, passed, passing}
 use Rattle.ics_components.specs.Names.{name_of}
 use Rattle.ics_components.specs.Pass.{bottom, is_lowest, at_end, unless, on_line, on_content, pass, NumbersFit}
-use Rattle.ics_components.proofs.Judged.{fault_in, check_in, behind, ends, passing}
 use Rattle.ics_components.proofs.Table.{parts, any-part, frame_of, IsAsked, least-same}
 use Rattle.ics_components.proofs.Bundles.{Bundle, Keeps, Together, Before, falls, open_of, opens, opens-behind, top_beside, together, together-in, zone-lines}
 use Rattle.ics_components.proofs.Bundles.{bundles_behind, keeps}
-use Rattle.ics_components.proofs.Frames.{frames_of, top_of, with, Closes, frames-behind, line-top, check-top}
+use Rattle.ics_components.proofs.Frames.{frames_of, top_of, with, Closes, frames-behind, fault-top, passing-top}
 use Rattle.ics_components.proofs.Order.{last-more, Falls, falls-behind, lines_in-whole, Sort, ended_as, ended_from, nested}
 use Rattle.ics_components.proofs.Ended.{events, zones, Picks, events-picked, zones-picked, picked-same, IsMatched}
 
@@ -139,35 +138,42 @@ module _ (line : Line) {lines : List Line} (again : Known lines) (v : Parts) {wh
   abbrev rest : List Placed
   rest = placed_from (path_behind l) lines
 
-  abbrev now : GatheredSeen
-  now = and_passed line.number (passing n v frames) had
+  -- the innermost component
+  abbrev f : Frame
+  f = frame_of whole (opens bundles) (beside before l)
 
-  beside-top : top_of whole before bundles ≡ frame_of whole (opens bundles) (beside before l)
+  abbrev now : GatheredSeen
+  now = and_passed line.number (passed (end_in n f) (check_in n v f)) had
+
+  beside-top : top_of whole before bundles ≡ f
   beside-top = ap (frame_of whole (opens bundles)) (top_beside before bundles on.kept)
 
   -- a line adds what ends there as its component says, and what is checked there in the second round
-  ends-same : {X : Type 0} (s : Sort X) (pick : Ended → List X) → Picks whole s pick → IsMatched l → pick (ends n frames) ≡ ended_as s (beside before l) l
-  ends-same s pick picks m = picked-same whole s pick picks line v before bundles m ∙ ap (λ ls. ended_as s ls l) (top_beside before bundles on.kept)
+  ends-same : {X : Type 0} (s : Sort X) (pick : Ended → List X) → Picks whole s pick → IsMatched l → pick (end_in n f) ≡ ended_as s (beside before l) l
+  ends-same s pick picks m = picked-same whole s pick picks line v (opens bundles) (beside before l) m
 
   gathered-step : IsMatched l → gathered_from whole now (before ++ l ∷ []) rest ≡ gathered_from whole had before (l ∷ rest)
   gathered-step m =
       three (further had.zones _ _ (ended_from (zones whole) (before ++ l ∷ []) rest) (ends-same (zones whole) zones_of_end (zones-picked whole) m))
       (further had.events _ _ (ended_from events (before ++ l ∷ []) rest) (ends-same events events_of_end (events-picked whole) m))
-      (further had.checks _ _ (checks_from whole (before ++ l ∷ []) rest)
-      (ap (checks_of line.number) (check-top whole before n v bundles ∙ ap (check_in n v) beside-top)))
+      (append_assoc had.checks (checks_of line.number (check_in n v f)) (checks_from whole (before ++ l ∷ []) rest))
 
-  least : fault_in n v (top_of whole before bundles) (length (opens bundles)) ≡ find (λ kind. stands kind (beside before l) l) kinds
+  passing-same : passing n v frames ≡ passed (end_in n f) (check_in n v f)
+  passing-same = passing-top whole before n v bundles ∙ ap (λ f. passed (end_in n f) (check_in n v f)) beside-top
+
+  least : fault_on n v frames ≡ find (λ kind. stands kind (beside before l) l) kinds
   least =
       let asked : IsAsked whole (opens bundles) (beside before l) =
       λ z. zone-lines (opens bundles) z (beside before l)
       (together-in is_zone_context (opens bundles) (beside before l) refl z (together before bundles on.kept))
       ∙ any-part whole (beside before l) in
-      ap (λ f. fault_in n v f (length (opens bundles))) beside-top
+      fault-top whole before n v bundles
+      ∙ ap (λ f. fault_in n v f (length (opens bundles))) beside-top
       ∙ sym (least-same whole (opens bundles) line.number v (beside before l) asked)
 
   -- with its least fault, and where it has none
   by_first : (o : Option FaultKind) → find (λ kind. stands kind (beside before l) l) kinds ≡ o →
-      on_line line.number (fine o (behind line.number n v frames, passing n v frames)) had (λ frames had. pass frames (Some line.number) had lines)
+      on_line line.number (fine o (behind line.number n v frames, passed (end_in n f) (check_in n v f))) had (λ frames had. pass frames (Some line.number) had lines)
       ≡ unless (found line.number o (first_from stands fault_at_end (before ++ l ∷ []) rest)) (gathered_from whole had before (l ∷ rest))
   by_first (Some k) e = refl
   by_first None e =
@@ -185,13 +191,9 @@ step : (line : Line) {lines : List Line} → Known lines → (o : Option Parts) 
     ∷ placed_from (path_behind (with_content line (opens bundles) o)) lines))
     (gathered_from whole had before (with_content line (opens bundles) o ∷ placed_from (path_behind (with_content line (opens bundles) o)) lines))
 step line again None on had = refl
-step line {lines} again (Some v) {whole} {before} {bundles} on had =
-    let l : Placed = with line (opens bundles) v in
-    let n : Name = name_of (map upper v.name) in
-    let frames : List Frame = frames_of whole bundles in
-    ap (λ r. on_line line.number r had (λ frames had. pass frames (Some line.number) had lines))
-    (line-top whole before line.number n v bundles ∙ ap (λ o. fine o (behind line.number n v frames, passing n v frames)) (least line again v on had))
-    ∙ by_first line again v on had (find (λ kind. stands kind (beside before l) l) kinds) refl
+step line again (Some v) {whole} {before} {bundles} on had =
+    rw (least line again v on had, passing-same line again v on had)
+    (by_first line again v on had (find (λ kind. stands kind (beside before (with line (opens bundles) v)) (with line (opens bundles) v)) kinds) refl)
 
 -- THE PASS SAYS WHAT THE LINES ARE.
 pass-lines : (lines : List Line) → Known lines

@@ -26,16 +26,15 @@ use Rattle.ics_components.specs.declared.fault.FaultKind.TheVariants.{BadRule, N
 use Rattle.ics_components.specs.declared.frame.Frame.{Frame}
 use Rattle.ics_components.specs.declared.name.Name.{Name}
 use Rattle.ics_components.specs.declared.name.Name.TheVariants as name
-use Rattle.ics_components.specs.Components.{component_of, component_name, is_outside_context, is_event_context, is_zone_context, is_observance_context}
+use Rattle.ics_components.specs.Components.{component_of, component_name, context_in, is_outside_context, is_event_context, is_zone_context, is_observance_context}
 use Rattle.ics_components.specs.Names.{name_of}
 use Rattle.ics_components.specs.PlacedLines.{Placed, Open, context_of, closes, begins_observance, calendar_of, lines_in, has, first_named, value}
 use Rattle.ics_components.specs.PlacedLines.{all_named}
 use Rattle.ics_components.specs.Values.{is_bad_rule, is_large_rule, is_fine_rule, ok_or_zero, is_cancelled}
 use Rattle.ics_components.specs.Faults.{stands, kinds, first_text, first_dated, duration_on, parts_on, rdates_on, exdates_on}
-use Rattle.ics_components.specs.Lines.{first, fault_if, rule_fault_of, outside_fault, builder_fault, calendar_fault, zone_fault}
+use Rattle.ics_components.specs.Lines.{first, fault_if, rule_fault_of, outside_fault, builder_fault, calendar_fault, zone_fault, fault_in}
 use Rattle.ics_components.specs.Observances.{observance_by, begins_in_zone, onset_on, offset_on, daily_on, onsets_by}
 use Rattle.ics_components.proofs.DateValueLemmas.{first-cond}
-use Rattle.ics_components.proofs.Judged.{fault_in, is_begin_name, is_end_name}
 use Rattle.ics_components.proofs.NameLemmas.{Tells, tells, TellsComponent, tells_component, component_name-of}
 
 -- WHAT IS BUILT of the lines that stand directly in a component: an event
@@ -142,6 +141,14 @@ outside-first w m = by_component (component_of w) (tells_component w)
     by_component _ e = rw e
 
 -- whether a component begins or ends on a line, by its name
+abbrev pub is_begin_name : Name → Bool
+is_begin_name name.Begin = true
+is_begin_name _ = false
+
+abbrev pub is_end_name : Name → Bool
+is_end_name name.End = true
+is_end_name _ = false
+
 pub marks : (u : List ℕ) (n : Name) → Tells u n → (bytes_eq u (codes "BEGIN") ≡ is_begin_name n) × (bytes_eq u (codes "END") ≡ is_end_name n)
 marks u name.Other e = (e (codes "BEGIN") refl, e (codes "END") refl)
 marks u _ e = rw e (refl, refl)
@@ -161,6 +168,14 @@ tzid-row : (u : List ℕ) (v : Parts) (os : List ObservanceSaid) (ls : List Plac
 tzid-row u v os ls name.Other e = rw (e (codes "TZID") refl)
 tzid-row u v os ls name.Tzid e = rw e (simp has-first)
 tzid-row u v os ls _ e = rw e
+
+-- no component is open exactly outside all of them
+none-open : (path : List Open) → (length path == 0) ≡ is_outside_context (context_of path)
+none-open [] = refl
+none-open (c ∷ cs) = let out = inside-some (context_of cs) (component_of c.name) in grind (arith, nat_tests, out)
+  where
+    inside-some : (q : Context) (c : Component) → is_outside_context (context_in q c) ≡ false
+    inside-some q c = grind arith
 
 closed-by : (path : List Open) (w : List ℕ) → is_outside_context (context_of path) ≡ false →
     bytes_eq w (component_name (top_component path)) ≡ closes path w
@@ -184,12 +199,12 @@ module _ (whole : List Placed) (path : List Open) (number : ℕ) (v : Parts) (ls
 
   ended : (q : Context) (t : Bool) → context_of path ≡ q → closes path (map upper v.value) ≡ t →
       (is_outside_context q ≡ false → bytes_eq (map upper v.value) (component_name (top_component path)) ≡ t) → Reads (codes "END") name.End
-  ended context.Outside true c m s = rw (c, m)
-  ended context.Outside false c m s = rw (c, m)
-  ended context.Zone true c m s = rw (asked (ap is_zone_context c), c, m, s refl) (simp (by_tests, and-true))
-  ended context.Observance true c m s = rw (c, m, s refl) (simp (by_tests, and-true, and_assoc))
-  ended _ true c m s = rw (c, m, s refl) (first_of (simp by_tests, search rules))
-  ended _ false c m s = rw (c, m, s refl)
+  ended context.Outside true c m s = rw (none-open path, c, m)
+  ended context.Outside false c m s = rw (none-open path, c, m)
+  ended context.Zone true c m s = rw (none-open path, asked (ap is_zone_context c), c, m, s refl) (simp (by_tests, and-true))
+  ended context.Observance true c m s = rw (none-open path, c, m, s refl) (simp (by_tests, and-true, and_assoc))
+  ended _ true c m s = rw (none-open path, c, m, s refl) (first_of (simp by_tests, search rules))
+  ended _ false c m s = rw (none-open path, c, m, s refl)
 
   -- where no event and no observance is read
   plain : (n : Name) (q : Context) → Tells (map upper v.name) n → (is_begin_name n ≡ false) × (is_end_name n ≡ false) → context_of path ≡ q →

@@ -57,7 +57,7 @@ use Rattle.ics_components.specs.Components.{component_of, component_name, contex
 use Rattle.ics_components.specs.DateLists.{rdate_list, exdate_list}
 use Rattle.ics_components.specs.DateValues.{DateValue, At, Between, Lasting, rdate_of, exdate_of, rdates_of, exdates_of, listed_in, has_bad_stamp}
 use Rattle.ics_components.specs.DateValues.{has_far_stamp, has_bad_duration, has_large_duration, is_not_local}
-use Rattle.ics_components.specs.Names.{name_of, gives_dates}
+use Rattle.ics_components.specs.Names.{name_of}
 use Rattle.ics_components.specs.Values.{zone_name, stamp_read, dated_of, lasting_of, duration_in, rule_in, ok_or_zero, is_cancelled, is_fine_rule, is_filled}
 use Rattle.ics_components.specs.Values.{ends_badly, is_bad_stamp, is_far_stamp, is_bad_duration, is_large_duration, is_bad_offset, is_large_integer}
 use Rattle.ics_components.specs.Observances.{local_in, onset_in, offset_in, daily_in}
@@ -192,26 +192,7 @@ dates_fault values =
     else None
 
 -- A LINE OF AN EVENT: its fault, what is collected behind it, and its check in the second round.
--- a line that gives dates
-abbrev pub dates_line_fault : Name → Parts → EventBuilder → Option FaultKind
-dates_line_fault name.Dtstart c had = first (stamp_fault_of (stamp_read c.params c.value)) (fault_if kind.Repeated (is_some had.start))
-dates_line_fault name.Dtend c had = first (stamp_fault_of (stamp_read c.params c.value)) (fault_if kind.Repeated (is_some had.end))
-dates_line_fault name.RecurrenceId c had =
-    first (first (stamp_fault_of (stamp_read c.params c.value)) (fault_if kind.Repeated (is_some had.recurrence)))
-    (fault_if kind.ThisAndFuture (is_some (param_of (codes "RANGE") c.params)))
-dates_line_fault name.Rdate c had = dates_fault (rdates_of (is_some (zone_name c.params)) c.value)
-dates_line_fault name.Exdate c had = dates_fault (exdates_of (is_some (zone_name c.params)) c.value)
-dates_line_fault _ c had = None
-
-abbrev pub dates_line_note : Name → Parts → EventBuilder → EventBuilder
-dates_line_note name.Dtstart c had = record had { start = or_first had.start (dated_of c.params c.value) }
-dates_line_note name.Dtend c had = record had { end = or_first had.end (dated_of c.params c.value) }
-dates_line_note name.RecurrenceId c had = record had { recurrence = or_first had.recurrence (dated_of c.params c.value) }
-dates_line_note name.Rdate c had = record had { rdates = had.rdates ++ rdate_list c.params c.value ∷ [] }
-dates_line_note name.Exdate c had = record had { exdates = had.exdates ++ exdate_list c.params c.value ∷ [] }
-dates_line_note _ c had = had
-
--- a line that gives another value
+-- a value that gives no date
 abbrev pub value_fault : Name → List ℕ → EventBuilder → Option FaultKind
 value_fault name.Uid v had = fault_if kind.Repeated (is_some had.uid)
 value_fault name.Duration v had = first (duration_fault_of (lasting_of v)) (fault_if kind.Repeated (is_some had.duration))
@@ -231,11 +212,24 @@ value_note name.Description v had = record had { description = or_first had.desc
 value_note name.Status v had = record had { cancelled = or_first had.cancelled (is_cancelled v) }
 value_note _ v had = had
 
+-- any line of an event
 abbrev pub event_fault : Name → Parts → EventBuilder → Option FaultKind
-event_fault n c had = if gives_dates n then dates_line_fault n c had else value_fault n c.value had
+event_fault name.Dtstart c had = first (stamp_fault_of (stamp_read c.params c.value)) (fault_if kind.Repeated (is_some had.start))
+event_fault name.Dtend c had = first (stamp_fault_of (stamp_read c.params c.value)) (fault_if kind.Repeated (is_some had.end))
+event_fault name.RecurrenceId c had =
+    first (first (stamp_fault_of (stamp_read c.params c.value)) (fault_if kind.Repeated (is_some had.recurrence)))
+    (fault_if kind.ThisAndFuture (is_some (param_of (codes "RANGE") c.params)))
+event_fault name.Rdate c had = dates_fault (rdates_of (is_some (zone_name c.params)) c.value)
+event_fault name.Exdate c had = dates_fault (exdates_of (is_some (zone_name c.params)) c.value)
+event_fault n c had = value_fault n c.value had
 
 abbrev pub event_note : Name → Parts → EventBuilder → EventBuilder
-event_note n c had = if gives_dates n then dates_line_note n c had else value_note n c.value had
+event_note name.Dtstart c had = record had { start = or_first had.start (dated_of c.params c.value) }
+event_note name.Dtend c had = record had { end = or_first had.end (dated_of c.params c.value) }
+event_note name.RecurrenceId c had = record had { recurrence = or_first had.recurrence (dated_of c.params c.value) }
+event_note name.Rdate c had = record had { rdates = had.rdates ++ rdate_list c.params c.value ∷ [] }
+event_note name.Exdate c had = record had { exdates = had.exdates ++ exdate_list c.params c.value ∷ [] }
+event_note n c had = value_note n c.value had
 
 abbrev pub event_check : ℕ → Name → Parts → Option DeferredCheck
 event_check k name.Dtstart c = used_zone k (dated_of c.params c.value)
@@ -363,32 +357,50 @@ opened number c (f ∷ fs) =
     let q : Context = context_in f.context c in
     record { component = c; context = q; calendar = calendar_in number (f ∷ fs); builder = fresh q } ∷ f ∷ fs
 
+abbrev pub closed : List Frame → List Frame
+closed (f ∷ g ∷ gs) = record g { builder = joined f.builder g.builder } ∷ gs
+closed frames = frames
+
+abbrev pub noted : Name → Parts → List Frame → List Frame
+noted n c [] = []
+noted n c (f ∷ fs) = record f { builder = builder_note n c f.builder } ∷ fs
+
+abbrev pub behind : ℕ → Name → Parts → List Frame → List Frame
+behind number name.Begin c frames = opened number (component_of (map upper c.value)) frames
+behind number name.End c frames = closed frames
+behind number n c frames = noted n c frames
+
 abbrev pub outside_fault : Context → Component → Option FaultKind
 outside_fault context.Outside component.Calendar = None
 outside_fault context.Outside _ = Some kind.NotCalendar
 outside_fault _ c = None
 
-abbrev pub begin_fault : Component → List Frame → Option FaultKind
-begin_fault c [] = None
-begin_fault c (f ∷ fs) = first (outside_fault f.context c) (fault_if kind.TooDeep (nat_le 32 (length fs)))
+-- the fault on a line, by the innermost component and by how many are open
+abbrev pub fault_in : Name → Parts → Frame → ℕ → Option FaultKind
+fault_in name.Begin c f depth = first (outside_fault f.context (component_of (map upper c.value))) (fault_if kind.TooDeep (nat_le 32 depth))
+fault_in name.End c f depth = if depth == 0 then Some kind.NotCalendar else frame_fault (map upper c.value) f
+fault_in n c f depth = builder_fault f.context n c f.builder
 
-abbrev pub end_line : List ℕ → List Frame → Result (List Frame × Passed) FaultKind
-end_line w (f ∷ g ∷ gs) =
-    unless (frame_fault w f)
-    (record g { builder = joined f.builder g.builder } ∷ gs, passed (ended_as f.calendar f.builder) (end_check f.calendar f.builder))
-end_line w _ = Err kind.NotCalendar
+abbrev pub fault_on : Name → Parts → List Frame → Option FaultKind
+fault_on n c [] = None
+fault_on n c (f ∷ fs) = fault_in n c f (length fs)
 
-abbrev pub inner_line : Name → Parts → List Frame → Result (List Frame × Passed) FaultKind
-inner_line n c [] = Err kind.NotCalendar
-inner_line n c (f ∷ fs) =
-    unless (builder_fault f.context n c f.builder)
-    (record f { builder = builder_note n c f.builder } ∷ fs, passed ended.Nothing (builder_check f.calendar n c f.builder))
+-- what ends on the line, and its check in the second round
+abbrev pub end_in : Name → Frame → Ended
+end_in name.End f = ended_as f.calendar f.builder
+end_in _ f = ended.Nothing
+
+abbrev pub check_in : Name → Parts → Frame → Option DeferredCheck
+check_in name.Begin c f = None
+check_in name.End c f = end_check f.calendar f.builder
+check_in n c f = builder_check f.calendar n c f.builder
+
+abbrev pub passing : Name → Parts → List Frame → Passed
+passing n c [] = passed ended.Nothing None
+passing n c (f ∷ fs) = passed (end_in n f) (check_in n c f)
 
 abbrev pub named_line : ℕ → Name → Parts → List Frame → Result (List Frame × Passed) FaultKind
-named_line number name.Begin c frames =
-    unless (begin_fault (component_of (map upper c.value)) frames) (opened number (component_of (map upper c.value)) frames, passed ended.Nothing None)
-named_line number name.End c frames = end_line (map upper c.value) frames
-named_line number n c frames = inner_line n c frames
+named_line number n c frames = unless (fault_on n c frames) (behind number n c frames, passing n c frames)
 
 abbrev pub line_in : ℕ → Parts → List Frame → Result (List Frame × Passed) FaultKind
 line_in number c frames = named_line number (name_of (map upper c.name)) c frames

@@ -5,8 +5,7 @@ ghost use Rattle.ics_values.specs.Plain.{text_of};
 ghost use Rattle.ics_components.specs.declared.fault.FaultKind.TheVariants.{Repeated};
 ghost use Rattle.ics_components.specs.Builders.{nothing, event_ended};
 ghost use Rattle.ics_components.specs.Lines.{Gives, Notes, first, fault_if, or_first, stamp_fault_of, number_fault_of, event_fault, event_note, event_check};
-ghost use Rattle.ics_components.specs.Lines.{Keeps, dates_line_fault, dates_line_note, value_fault, value_note};
-ghost use Rattle.ics_components.specs.Lines.{end_of_event, passed};
+ghost use Rattle.ics_components.specs.Lines.{Keeps, value_fault, value_note, end_of_event, passed};
 ghost use Rattle.ics_components.specs.declared.gathered.Ended.TheVariants.{Event};
 ghost use Rattle.ics_components.specs.SecondRound.{used_zone, ends_in};
 ghost use Rattle.ics_components.specs.Values.{dated_of, ok_or_zero, stamp_read};
@@ -69,10 +68,7 @@ fn put_date(
 {
     let dated = Dated::read(alloc, tzids, content)?;
     let check = dated.used_zone(calendar)?;
-    if let Err(refused) = once(kept, dated, FaultKind::Repeated) {
-        drop(check);
-        return Err(refused);
-    }
+    once(kept, dated, FaultKind::Repeated)?;
     Ok(check)
 }
 
@@ -134,41 +130,6 @@ impl EventBuilder {
         }
     }
 
-    /// One line more that gives dates. A stamp in a time zone gives a check for the second round.
-    fn dates(
-        &mut self,
-        alloc: Global,
-        tzids: &mut Tzids,
-        calendar: u64,
-        name: Name,
-        content: &Content<'_>,
-    ) -> Result<Option<DeferredCheck>, Refused>
-        ensures { Notes result self.new (dates_line_fault name content.now self.old) (dates_line_note name content.now self.old)
-            (event_check calendar name content.now) }
-    {
-        match name {
-            Name::Dtstart => put_date(&mut self.start, alloc, tzids, calendar, content),
-            Name::Dtend => put_date(&mut self.end, alloc, tzids, calendar, content),
-            Name::RecurrenceId => {
-                let check = put_date(&mut self.recurrence, alloc, tzids, calendar, content)?;
-                if content.param(b"RANGE").is_some() {
-                    drop(check);
-                    return Err(Refused::Fault(FaultKind::ThisAndFuture));
-                }
-                Ok(check)
-            }
-            Name::Rdate => {
-                self.rdates
-                    .add_line(alloc, tzids, calendar, Listing::Rdate, content)
-            }
-            Name::Exdate => {
-                self.exdates
-                    .add_line(alloc, tzids, calendar, Listing::Exdate, content)
-            }
-            _ => Ok(None),
-        }
-    }
-
     /// One line more that gives no date.
     fn value(&mut self, alloc: Global, name: Name, value: &[u8]) -> Result<(), Refused>
         ensures { Keeps result self.new (value_fault name value.now self.old) (value_note name value.now self.old) }
@@ -203,11 +164,29 @@ impl EventBuilder {
         ensures { Notes result self.new (event_fault name content.now self.old) (event_note name content.now self.old)
             (event_check calendar name content.now) }
     {
-        if name.gives_dates() {
-            return self.dates(alloc, tzids, calendar, name, content);
+        match name {
+            Name::Dtstart => put_date(&mut self.start, alloc, tzids, calendar, content),
+            Name::Dtend => put_date(&mut self.end, alloc, tzids, calendar, content),
+            Name::RecurrenceId => {
+                let check = put_date(&mut self.recurrence, alloc, tzids, calendar, content)?;
+                if content.param(b"RANGE").is_some() {
+                    return Err(Refused::Fault(FaultKind::ThisAndFuture));
+                }
+                Ok(check)
+            }
+            Name::Rdate => {
+                self.rdates
+                    .add_line(alloc, tzids, calendar, Listing::Rdate, content)
+            }
+            Name::Exdate => {
+                self.exdates
+                    .add_line(alloc, tzids, calendar, Listing::Exdate, content)
+            }
+            name => {
+                self.value(alloc, name, content.value())?;
+                Ok(None)
+            }
         }
-        self.value(alloc, name, content.value())?;
-        Ok(None)
     }
 
     /// The fault on the END of the event, if one stands there.
@@ -227,73 +206,36 @@ impl EventBuilder {
         None
     }
 
-    /// The check of the end of the event, where no fault stands on its END.
-    fn check_at_end(&self, calendar: u64) -> Result<Option<DeferredCheck>, Refused>
-        ensures { Gives result (end_of_event self.now) (ends_in calendar self.now.start self.now.end) }
+    /// The event of that calendar and the check of its end, at its END.
+    pub fn end(self, alloc: Global, calendar: u64) -> Result<Passed, Refused>
+        ensures { Gives result (end_of_event self) (passed (Event (event_ended calendar self)) (ends_in calendar self.start self.end)) }
     {
         if let Some(kind) = self.fault_at_end() {
             return Err(Refused::Fault(kind));
         }
-        Ok(ends_in(calendar, &self.start, &self.end)?)
-    }
-
-    /// The event of that calendar that has that start.
-    fn started(self, alloc: Global, calendar: u64, start: Dated) -> EndedEvent
-        ensures { result ≡ event_ended calendar (record self { start = Some start }) }
-    {
-        let EventBuilder {
-            uid,
-            start: _,
-            end,
-            duration,
-            rule,
-            rdates,
-            exdates,
-            recurrence,
-            sequence,
-            title,
-            location,
-            description,
-            cancelled,
-        } = self;
-        EndedEvent {
-            calendar,
-            uid: uid.unwrap_or(Text::new(alloc)),
-            start,
-            length: given_length(end, duration),
-            rule,
-            rdates,
-            exdates,
-            recurrence,
-            sequence: sequence.unwrap_or(0),
-            title: title.unwrap_or(Text::new(alloc)),
-            location: location.unwrap_or(Text::new(alloc)),
-            description: description.unwrap_or(Text::new(alloc)),
-            cancelled: cancelled.unwrap_or(false),
-        }
-    }
-
-    /// The event of that calendar and the check of its end, at its END.
-    pub fn end(mut self, alloc: Global, calendar: u64) -> Result<Passed, Refused>
-        ensures { Gives result (end_of_event self) (passed (Event (event_ended calendar self)) (ends_in calendar self.start self.end)) }
-    {
-        let check = match self.check_at_end(calendar) {
-            Ok(check) => check,
-            Err(refused) => {
-                drop(self);
-                return Err(refused);
-            }
+        let check = ends_in(calendar, &self.start, &self.end)?;
+        let start = self.start;
+        let Some(start) = start else {
+            return Err(Refused::Fault(FaultKind::MissingStart));
         };
-        match self.start.take() {
-            Some(start) => Ok(Passed {
-                ended: Ended::Event(self.started(alloc, calendar, start)),
-                check,
-            }),
-            None => {
-                drop(self);
-                drop(check);
-                Err(Refused::Fault(FaultKind::MissingStart))
-            }
-        }
+        let event = EndedEvent {
+            calendar,
+            uid: self.uid.unwrap_or(Text::new(alloc)),
+            start,
+            length: given_length(self.end, self.duration),
+            rule: self.rule,
+            rdates: self.rdates,
+            exdates: self.exdates,
+            recurrence: self.recurrence,
+            sequence: self.sequence.unwrap_or(0),
+            title: self.title.unwrap_or(Text::new(alloc)),
+            location: self.location.unwrap_or(Text::new(alloc)),
+            description: self.description.unwrap_or(Text::new(alloc)),
+            cancelled: self.cancelled.unwrap_or(false),
+        };
+        Ok(Passed {
+            ended: Ended::Event(event),
+            check,
+        })
     }
 }
