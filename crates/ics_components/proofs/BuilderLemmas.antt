@@ -1,6 +1,7 @@
 -- A line changes what is collected of a component as the pass notes it.
 use Rattle.std.proofs.Common.{◌≡◌, ℕ, Bool, true, false, List, [], ◌∷◌, ◌++◌, map, refl, ap, ◌∙◌, cond, Option, Some, None, sym, arith}
 use Rattle.std.specs.Prelude.{codes, option_map, flat_map, filter_map}
+use Rattle.std.specs.Option.{option_or}
 use Rattle.std.specs.Str.{bytes_eq}
 use Rattle.std.proofs.lemmas.List.{append-nil, map-append}
 use Rattle.std.proofs.lemmas.List.Elements.{filter-append}
@@ -16,7 +17,7 @@ use Rattle.ics_components.specs.Names.{name_of}
 use Rattle.ics_components.specs.PlacedLines.{Placed, property_name, value, value_of, params_of, is_named, first_named, first_of, all_named, Open, context_of}
 use Rattle.ics_components.specs.PlacedLines.{in_zone, is_begin, component}
 use Rattle.ics_components.specs.Values.{dated_of, lasting_of, duration_in, rule_in, ok_or_zero, is_cancelled}
-use Rattle.ics_components.specs.Lines.{or_first, event_note, zone_note, observance_note, builder_note, joined}
+use Rattle.ics_components.specs.Lines.{event_note, zone_note, observance_note, builder_note, joined}
 use Rattle.ics_components.proofs.NameLemmas.{Tells, tells, context-tests}
 use Rattle.std.proofs.lemmas.List.Concat.{flat_map-append}
 use Rattle.std.proofs.Math.Bool.{and-false}
@@ -51,8 +52,8 @@ named-more : {X : Type 0} (f : Placed → X) (n : List ℕ) (ls : List Placed) (
 named-more f n ls l = all-more (map f) (λ xs. xs ++ f l ∷ []) n ls l (λ ks. map-append f ks (l ∷ []))
 
 kept-more : {X : Type 0} (f : Placed → X) (n : List ℕ) (ls : List Placed) (l : Placed) →
-    option_map f (first_named n (ls ++ l ∷ [])) ≡ cond (is_named n l) (or_first (option_map f (first_named n ls)) (f l)) (option_map f (first_named n ls))
-kept-more f n ls l = all-more (λ ks. option_map f (first_of ks)) (λ o. or_first o (f l)) n ls l (elim [ [] ↦ refl | k ∷ ks ↦ refl ])
+    option_map f (first_named n (ls ++ l ∷ [])) ≡ cond (is_named n l) (option_or (option_map f (first_named n ls)) (Some (f l))) (option_map f (first_named n ls))
+kept-more f n ls l = all-more (λ ks. option_map f (first_of ks)) (λ o. option_or o (Some (f l))) n ls l (elim [ [] ↦ refl | k ∷ ks ↦ refl ])
 
 listed-more : {X : Type 0} (f : Placed → List X) (n : List ℕ) (ls : List Placed) (l : Placed) →
     flat_map f (all_named n (ls ++ l ∷ [])) ≡ cond (is_named n l) (flat_map f (all_named n ls) ++ f l) (flat_map f (all_named n ls))
@@ -69,19 +70,19 @@ parts_at l = record { name = raw_name l.content; params = params_of l.content; v
 
 noted : (n : Name) (u : List ℕ) (v : Parts) (had : EventBuilder) → Tells u n →
     record {
-      uid = cond (bytes_eq u (codes "UID")) (or_first had.uid (text_of v.value)) had.uid;
-      start = cond (bytes_eq u (codes "DTSTART")) (or_first had.start (dated_of v.params v.value)) had.start;
-      end = cond (bytes_eq u (codes "DTEND")) (or_first had.end (dated_of v.params v.value)) had.end;
-      duration = cond (bytes_eq u (codes "DURATION")) (or_first had.duration (duration_in (lasting_of v.value))) had.duration;
-      rule = cond (bytes_eq u (codes "RRULE")) (or_first had.rule (rule_in (rule_of v.value))) had.rule;
+      uid = cond (bytes_eq u (codes "UID")) (option_or had.uid (Some (text_of v.value))) had.uid;
+      start = cond (bytes_eq u (codes "DTSTART")) (option_or had.start (Some (dated_of v.params v.value))) had.start;
+      end = cond (bytes_eq u (codes "DTEND")) (option_or had.end (Some (dated_of v.params v.value))) had.end;
+      duration = cond (bytes_eq u (codes "DURATION")) (option_or had.duration (Some (duration_in (lasting_of v.value)))) had.duration;
+      rule = cond (bytes_eq u (codes "RRULE")) (option_or had.rule (Some (rule_in (rule_of v.value)))) had.rule;
       rdates = cond (bytes_eq u (codes "RDATE")) (had.rdates ++ rdate_list v.params v.value ∷ []) had.rdates;
       exdates = cond (bytes_eq u (codes "EXDATE")) (had.exdates ++ exdate_list v.params v.value ∷ []) had.exdates;
-      recurrence = cond (bytes_eq u (codes "RECURRENCE-ID")) (or_first had.recurrence (dated_of v.params v.value)) had.recurrence;
-      sequence = cond (bytes_eq u (codes "SEQUENCE")) (or_first had.sequence (ok_or_zero (integer_of v.value))) had.sequence;
-      title = cond (bytes_eq u (codes "SUMMARY")) (or_first had.title (text_of v.value)) had.title;
-      location = cond (bytes_eq u (codes "LOCATION")) (or_first had.location (text_of v.value)) had.location;
-      description = cond (bytes_eq u (codes "DESCRIPTION")) (or_first had.description (text_of v.value)) had.description;
-      cancelled = cond (bytes_eq u (codes "STATUS")) (or_first had.cancelled (is_cancelled v.value)) had.cancelled;
+      recurrence = cond (bytes_eq u (codes "RECURRENCE-ID")) (option_or had.recurrence (Some (dated_of v.params v.value))) had.recurrence;
+      sequence = cond (bytes_eq u (codes "SEQUENCE")) (option_or had.sequence (Some (ok_or_zero (integer_of v.value)))) had.sequence;
+      title = cond (bytes_eq u (codes "SUMMARY")) (option_or had.title (Some (text_of v.value))) had.title;
+      location = cond (bytes_eq u (codes "LOCATION")) (option_or had.location (Some (text_of v.value))) had.location;
+      description = cond (bytes_eq u (codes "DESCRIPTION")) (option_or had.description (Some (text_of v.value))) had.description;
+      cancelled = cond (bytes_eq u (codes "STATUS")) (option_or had.cancelled (Some (is_cancelled v.value))) had.cancelled;
     } ≡ event_note n v had
 noted name.Other u v had e = simp e
 noted _ u v had e = rw e refl
@@ -95,7 +96,7 @@ collected_of-more ls l =
 
 -- A TIME ZONE, and an observance, with one line more.
 zone-noted : (n : Name) (u : List ℕ) (v : Parts) (had : ZoneBuilder) → Tells u n →
-    record had { name = cond (bytes_eq u (codes "TZID")) (or_first had.name (text_of v.value)) had.name } ≡ zone_note n v had
+    record had { name = cond (bytes_eq u (codes "TZID")) (option_or had.name (Some (text_of v.value))) had.name } ≡ zone_note n v had
 zone-noted name.Other u v had e = simp e
 zone-noted _ u v had e = rw e refl
 
@@ -107,10 +108,10 @@ zone_of-more os ls l =
 
 observance-noted : (n : Name) (u : List ℕ) (v : Parts) (had : ObservanceBuilder) → Tells u n →
     record {
-      start = cond (bytes_eq u (codes "DTSTART")) (or_first had.start (onset_in (stamp_of false v.value))) had.start;
-      from = cond (bytes_eq u (codes "TZOFFSETFROM")) (or_first had.from (offset_in (offset_of v.value))) had.from;
-      to = cond (bytes_eq u (codes "TZOFFSETTO")) (or_first had.to (offset_in (offset_of v.value))) had.to;
-      rule = cond (bytes_eq u (codes "RRULE")) (or_first had.rule (daily_in (rule_of v.value))) had.rule;
+      start = cond (bytes_eq u (codes "DTSTART")) (option_or had.start (Some (onset_in (stamp_of false v.value)))) had.start;
+      from = cond (bytes_eq u (codes "TZOFFSETFROM")) (option_or had.from (Some (offset_in (offset_of v.value)))) had.from;
+      to = cond (bytes_eq u (codes "TZOFFSETTO")) (option_or had.to (Some (offset_in (offset_of v.value)))) had.to;
+      rule = cond (bytes_eq u (codes "RRULE")) (option_or had.rule (Some (daily_in (rule_of v.value)))) had.rule;
       rdates = cond (bytes_eq u (codes "RDATE")) (had.rdates ++ filter_map local_in (rdates_of false v.value)) had.rdates;
     } ≡ observance_note n v had
 observance-noted name.Other u v had e = simp e

@@ -3,6 +3,7 @@ use Rattle.std.proofs.Common.{rules, ◌≡◌, ℕ, ◌+◌, Bool, ◌==◌, �
 use Rattle.std.proofs.Common.{map, Option, Some, None, Result, Ok, Err, append_assoc, subst, Bor}
 use Rattle.std.specs.Prelude.{nat_lt, filter_map, ◌++◌, if◌then◌else◌}
 use Rattle.std.specs.List.{list_any, position, position_or_len}
+use Rattle.std.specs.Option.{option_or as first}
 use Rattle.std.specs.Result.{result_ok, result_err}
 use Rattle.std.proofs.lemmas.Bool.{ne_eqb, cond_both}
 use Rattle.std.proofs.lemmas.Bool.Decides.{nat_tests}
@@ -19,7 +20,7 @@ use Rattle.ics_components.specs.DateValues.{has_far_stamp, has_bad_duration, has
 use Rattle.ics_fields.specs.declared.local.Local.{Local}
 use Rattle.ics_components.specs.declared.fault.FaultKind.{FaultKind}
 use Rattle.ics_components.specs.declared.fault.FaultKind.TheVariants.{BadStamp, BadDuration, YearRange, NumberTooLarge, ObservanceField}
-use Rattle.ics_components.specs.Lines.{dates_fault, first, fault_if, unless, lesser, judged, onset_judged}
+use Rattle.ics_components.specs.Lines.{dates_fault, fault_if, unless, lesser, judged, onset_judged}
 use Rattle.ics_components.specs.Observances.{local_in}
 
 -- a stamp whose text has not the length of a DATE is a DATE-TIME

@@ -79,10 +79,7 @@ pub tells_component : (u : List ℕ) → TellsComponent u (component_of u)
 tells_component u = told (TellsComponent u) (component.Other u) u components (search rules) (λ none. (none, refl))
 
 pub component_name-of : (u : List ℕ) → component_name (component_of u) ≡ u
-component_name-of u = named (component_of u) (tells_component u)
-  where
-    named : (c : Component) → TellsComponent u c → component_name c ≡ u
-    named c e = grind arith
+component_name-of u = told (λ c. component_name c ≡ u) (component.Other u) u components (search rules) (λ none. refl)
 
 -- no component stands outside all components
 pub context-in-outside : (q : Context) (c : Component) → context_in q c ≢ context.Outside

@@ -13,6 +13,7 @@ use Rattle.ics_components.specs.declared.gathered.Ended.{Ended}
 use Rattle.ics_components.specs.declared.gathered.EndedEvent.{EndedEvent}
 use Rattle.ics_components.specs.declared.gathered.EndedZone.{EndedZone}
 use Rattle.ics_components.specs.declared.gathered.LineCheck.{LineCheck}
+use Rattle.ics_components.specs.declared.gathered.Passed.{Passed}
 use Rattle.ics_components.specs.declared.deferred_check.DeferredCheck.{DeferredCheck}
 use Rattle.ics_components.specs.declared.name.Name.{Name}
 use Rattle.ics_components.specs.PlacedLines.{Placed, Open, path_behind, placed_from, innermost, lines_in, beside}
@@ -142,8 +143,11 @@ module _ (line : Line) {lines : List Line} (again : Known lines) (v : Parts) {wh
   abbrev f : Frame
   f = frame_of whole (opens bundles) (beside before l)
 
+  abbrev here : Passed
+  here = passed (end_in n f) (check_in n v f)
+
   abbrev now : GatheredSeen
-  now = and_passed line.number (passed (end_in n f) (check_in n v f)) had
+  now = and_passed line.number here had
 
   beside-top : top_of whole before bundles ≡ f
   beside-top = ap (frame_of whole (opens bundles)) (top_beside before bundles on.kept)
@@ -158,7 +162,7 @@ module _ (line : Line) {lines : List Line} (again : Known lines) (v : Parts) {wh
       (further had.events _ _ (ended_from events (before ++ l ∷ []) rest) (ends-same events events_of_end (events-picked whole) m))
       (append_assoc had.checks (checks_of line.number (check_in n v f)) (checks_from whole (before ++ l ∷ []) rest))
 
-  passing-same : passing n v frames ≡ passed (end_in n f) (check_in n v f)
+  passing-same : passing n v frames ≡ here
   passing-same = passing-top whole before n v bundles ∙ ap (λ f. passed (end_in n f) (check_in n v f)) beside-top
 
   least : fault_on n v frames ≡ find (λ kind. stands kind (beside before l) l) kinds
@@ -173,7 +177,7 @@ module _ (line : Line) {lines : List Line} (again : Known lines) (v : Parts) {wh
 
   -- with its least fault, and where it has none
   by_first : (o : Option FaultKind) → find (λ kind. stands kind (beside before l) l) kinds ≡ o →
-      on_line line.number (fine o (behind line.number n v frames, passed (end_in n f) (check_in n v f))) had (λ frames had. pass frames (Some line.number) had lines)
+      on_line line.number (fine o (behind line.number n v frames, here)) had (λ frames had. pass frames (Some line.number) had lines)
       ≡ unless (found line.number o (first_from stands fault_at_end (before ++ l ∷ []) rest)) (gathered_from whole had before (l ∷ rest))
   by_first (Some k) e = refl
   by_first None e =

@@ -3,6 +3,7 @@ use Rattle.std.proofs.lemmas.Bool.Decides.{nat_tests}
 use Rattle.std.proofs.Common.{rules, ◌≡◌, ℕ, Bool, true, false, List, [], ◌∷◌, map, refl, ap, ◌∙◌, arith, cond, Option, Some, None, Result}
 use Rattle.std.specs.Prelude.{codes, length, find, filter, flat_map, not, nat_le, ◌==◌, ◌&&◌, ◌||◌, is_some, option_map}
 use Rattle.std.specs.List.{list_any}
+use Rattle.std.specs.Option.{option_or}
 use Rattle.std.specs.Str.{bytes_eq}
 use Rattle.std.proofs.Math.Bool.{and-true, and_assoc, or_comm}
 use Rattle.ics_text.specs.Bytes.{upper}
@@ -26,13 +27,14 @@ use Rattle.ics_components.specs.declared.fault.FaultKind.TheVariants.{BadRule, N
 use Rattle.ics_components.specs.declared.frame.Frame.{Frame}
 use Rattle.ics_components.specs.declared.name.Name.{Name}
 use Rattle.ics_components.specs.declared.name.Name.TheVariants as name
-use Rattle.ics_components.specs.Components.{component_of, component_name, context_in, is_outside_context, is_event_context, is_zone_context, is_observance_context}
+use Rattle.ics_components.specs.Components.{component_of, component_name, context_in, is_outside_context, is_event_context, is_zone_context}
+use Rattle.ics_components.specs.Components.{is_observance_context}
 use Rattle.ics_components.specs.Names.{name_of}
 use Rattle.ics_components.specs.PlacedLines.{Placed, Open, context_of, closes, begins_observance, calendar_of, lines_in, has, first_named, value}
 use Rattle.ics_components.specs.PlacedLines.{all_named}
 use Rattle.ics_components.specs.Values.{is_bad_rule, is_large_rule, is_fine_rule, ok_or_zero, is_cancelled}
 use Rattle.ics_components.specs.Faults.{stands, kinds, first_text, first_dated, duration_on, parts_on, rdates_on, exdates_on}
-use Rattle.ics_components.specs.Lines.{first, fault_if, rule_fault_of, outside_fault, builder_fault, calendar_fault, zone_fault, fault_in}
+use Rattle.ics_components.specs.Lines.{fault_if, rule_fault_of, outside_fault, builder_fault, fault_in}
 use Rattle.ics_components.specs.Observances.{observance_by, begins_in_zone, onset_on, offset_on, daily_on, onsets_by}
 use Rattle.ics_components.proofs.DateValueLemmas.{first-cond}
 use Rattle.ics_components.proofs.NameLemmas.{Tells, tells, TellsComponent, tells_component, component_name-of}
@@ -133,10 +135,10 @@ ruleset by_tests = (first-cond, or-cond, not-cond, rule-is, has-first)
 
 -- only a calendar begins outside all components
 outside-first : (w : List ℕ) (m : Option FaultKind) →
-    first (outside_fault context.Outside (component_of w)) m ≡ cond (bytes_eq w (codes "VCALENDAR")) m (Some NotCalendar)
+    option_or (outside_fault context.Outside (component_of w)) m ≡ cond (bytes_eq w (codes "VCALENDAR")) m (Some NotCalendar)
 outside-first w m = by_component (component_of w) (tells_component w)
   where
-    by_component : (c : Component) → TellsComponent w c → first (outside_fault context.Outside c) m ≡ cond (bytes_eq w (codes "VCALENDAR")) m (Some NotCalendar)
+    by_component : (c : Component) → TellsComponent w c → option_or (outside_fault context.Outside c) m ≡ cond (bytes_eq w (codes "VCALENDAR")) m (Some NotCalendar)
     by_component (component.Other n) e = rw (e.0 (codes "VCALENDAR") refl)
     by_component _ e = rw e
 
@@ -159,12 +161,12 @@ inner-fault : (n : Name) (v : Parts) (f : Frame) (depth : ℕ) → (is_begin_nam
 inner-fault n v f depth k = grind arith
 
 version-row : (u : List ℕ) (v : Parts) (n : Name) → Tells u n →
-    fault_if OldVersion (bytes_eq u (codes "VERSION") && bytes_eq v.value (codes "1.0")) ≡ calendar_fault n v
+    fault_if OldVersion (bytes_eq u (codes "VERSION") && bytes_eq v.value (codes "1.0")) ≡ builder_fault context.Calendar n v builder.Nothing
 version-row u v name.Other e = rw (e (codes "VERSION") refl)
 version-row u v _ e = rw e
 
 tzid-row : (u : List ℕ) (v : Parts) (os : List ObservanceSaid) (ls : List Placed) (n : Name) → Tells u n →
-    fault_if ObservanceField ((bytes_eq u (codes "TZID") || false) && has u ls) ≡ zone_fault n v (zone_of os ls)
+    fault_if ObservanceField ((bytes_eq u (codes "TZID") || false) && has u ls) ≡ builder_fault context.Zone n v (builder.Zone (zone_of os ls))
 tzid-row u v os ls name.Other e = rw (e (codes "TZID") refl)
 tzid-row u v os ls name.Tzid e = rw e (simp has-first)
 tzid-row u v os ls _ e = rw e

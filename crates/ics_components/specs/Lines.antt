@@ -3,6 +3,7 @@
 use Rattle.std.specs.Prelude.{ℕ, Bool, false, ◌&&◌, ◌||◌, not, ◌==◌, nat_le, List, [], ◌∷◌, ◌++◌, length, map, filter_map, codes, Option, Some, None, is_some}
 use Rattle.std.specs.Prelude.{Result, Ok, Err, ℤ, ◌≡◌, if◌then◌else◌}
 use Rattle.std.specs.List.{list_any}
+use Rattle.std.specs.Option.{option_or}
 use Rattle.std.specs.Ordering.{ord_min}
 use Rattle.std.specs.Str.{bytes_eq}
 use Rattle.ics_text.specs.Bytes.{upper}
@@ -90,35 +91,19 @@ abbrev pub unless : {X : Type 0} → Option FaultKind → X → Result X FaultKi
 unless None x = Ok x
 unless (Some kind) x = Err kind
 
--- the first of several counts
-abbrev pub or_first : {X : Type 0} → Option X → X → Option X
-or_first (Some x) y = Some x
-or_first None y = Some y
-
--- the lesser fault of two, where the first is less than any second
-abbrev pub first : Option FaultKind → Option FaultKind → Option FaultKind
-first (Some kind) more = Some kind
-first None more = more
-
 abbrev pub fault_if : FaultKind → Bool → Option FaultKind
 fault_if kind bad = if bad then Some kind else None
 
--- THE FAULTS OF VALUES.
-abbrev pub stamp_kind : StampFault → FaultKind
-stamp_kind stamp_fault.BadStamp = kind.BadStamp
-stamp_kind stamp_fault.YearRange = kind.YearRange
-
+-- THE FAULTS OF VALUES. Where several may stand on a line, the first of them is the least.
 abbrev pub stamp_judged : Result Stamp StampFault → Result Stamp FaultKind
 stamp_judged (Ok s) = Ok s
-stamp_judged (Err fault) = Err (stamp_kind fault)
-
-abbrev pub duration_kind : DurationFault → FaultKind
-duration_kind duration.BadDuration = kind.BadDuration
-duration_kind duration.NumberTooLarge = kind.NumberTooLarge
+stamp_judged (Err stamp_fault.BadStamp) = Err kind.BadStamp
+stamp_judged (Err stamp_fault.YearRange) = Err kind.YearRange
 
 abbrev pub duration_judged : Result Duration DurationFault → Result Duration FaultKind
 duration_judged (Ok d) = Ok d
-duration_judged (Err fault) = Err (duration_kind fault)
+duration_judged (Err duration.BadDuration) = Err kind.BadDuration
+duration_judged (Err duration.NumberTooLarge) = Err kind.NumberTooLarge
 
 abbrev pub rule_kind : RuleFault → FaultKind
 rule_kind rule.BadRule = kind.BadRule
@@ -134,13 +119,6 @@ abbrev pub rule_fault_of : Result RuleParts RuleFault → Option FaultKind
 rule_fault_of (Ok parts) = None
 rule_fault_of (Err fault) = Some (rule_kind fault)
 
-abbrev pub offset_fault_of : Result ℤ BadOffset → Option FaultKind
-offset_fault_of o = fault_if kind.BadOffset (is_bad_offset o)
-
--- a SEQUENCE that is no number counts as 0
-abbrev pub number_fault_of : Result ℕ IntegerFault → Option FaultKind
-number_fault_of n = fault_if kind.NumberTooLarge (is_large_integer n)
-
 -- the lesser of two faults, of which the first may not be there
 abbrev pub lesser : Option FaultKind → FaultKind → FaultKind
 lesser None kind = kind
@@ -153,19 +131,15 @@ both (Ok a) (Err kind) = Err kind
 both (Err kind) (Ok b) = Err kind
 both (Err had) (Err kind) = Err (lesser (Some had) kind)
 
-abbrev listed_at : Result Stamp FaultKind → Result ListedDate FaultKind
-listed_at (Ok stamp) = Ok (listed.At stamp)
-listed_at (Err kind) = Err kind
-
-abbrev listed_both : {A : Type 0} → (Stamp → A → ListedDate) → Result (Stamp × A) FaultKind → Result ListedDate FaultKind
-listed_both list (Ok p) = Ok (list p.0 p.1)
-listed_both list (Err kind) = Err kind
+abbrev listed_as : {A : Type 0} → (A → ListedDate) → Result A FaultKind → Result ListedDate FaultKind
+listed_as list (Ok read) = Ok (list read)
+listed_as list (Err kind) = Err kind
 
 -- what a value of an RDATE or an EXDATE says, or its least fault
 abbrev pub judged : DateValue → Result ListedDate FaultKind
-judged (At stamp) = listed_at (stamp_judged stamp)
-judged (Between start end) = listed_both listed.Between (both (stamp_judged start) (stamp_judged end))
-judged (Lasting start duration) = listed_both listed.Lasting (both (stamp_judged start) (duration_judged duration))
+judged (At stamp) = listed_as listed.At (stamp_judged stamp)
+judged (Between start end) = listed_as (λ p. listed.Between p.0 p.1) (both (stamp_judged start) (stamp_judged end))
+judged (Lasting start duration) = listed_as (λ p. listed.Lasting p.0 p.1) (both (stamp_judged start) (duration_judged duration))
 
 -- the same of an observance
 abbrev pub onset_judged : Result ListedDate FaultKind → Result Local FaultKind
@@ -195,38 +169,38 @@ dates_fault values =
 -- a value that gives no date
 abbrev pub value_fault : Name → List ℕ → EventBuilder → Option FaultKind
 value_fault name.Uid v had = fault_if kind.Repeated (is_some had.uid)
-value_fault name.Duration v had = first (duration_fault_of (lasting_of v)) (fault_if kind.Repeated (is_some had.duration))
-value_fault name.Rrule v had = first (rule_fault_of (rule_of v)) (fault_if kind.Repeated (is_some had.rule))
-value_fault name.Sequence v had = first (number_fault_of (integer_of v)) (fault_if kind.Repeated (is_some had.sequence))
+value_fault name.Duration v had = option_or (duration_fault_of (lasting_of v)) (fault_if kind.Repeated (is_some had.duration))
+value_fault name.Rrule v had = option_or (rule_fault_of (rule_of v)) (fault_if kind.Repeated (is_some had.rule))
+value_fault name.Sequence v had = option_or (fault_if kind.NumberTooLarge (is_large_integer (integer_of v))) (fault_if kind.Repeated (is_some had.sequence))
 value_fault name.Exrule v had = Some kind.Exrule
 value_fault _ v had = None
 
 abbrev pub value_note : Name → List ℕ → EventBuilder → EventBuilder
-value_note name.Uid v had = record had { uid = or_first had.uid (text_of v) }
-value_note name.Duration v had = record had { duration = or_first had.duration (duration_in (lasting_of v)) }
-value_note name.Rrule v had = record had { rule = or_first had.rule (rule_in (rule_of v)) }
-value_note name.Sequence v had = record had { sequence = or_first had.sequence (ok_or_zero (integer_of v)) }
-value_note name.Summary v had = record had { title = or_first had.title (text_of v) }
-value_note name.Location v had = record had { location = or_first had.location (text_of v) }
-value_note name.Description v had = record had { description = or_first had.description (text_of v) }
-value_note name.Status v had = record had { cancelled = or_first had.cancelled (is_cancelled v) }
+value_note name.Uid v had = record had { uid = option_or had.uid (Some (text_of v)) }
+value_note name.Duration v had = record had { duration = option_or had.duration (Some (duration_in (lasting_of v))) }
+value_note name.Rrule v had = record had { rule = option_or had.rule (Some (rule_in (rule_of v))) }
+value_note name.Sequence v had = record had { sequence = option_or had.sequence (Some (ok_or_zero (integer_of v))) }
+value_note name.Summary v had = record had { title = option_or had.title (Some (text_of v)) }
+value_note name.Location v had = record had { location = option_or had.location (Some (text_of v)) }
+value_note name.Description v had = record had { description = option_or had.description (Some (text_of v)) }
+value_note name.Status v had = record had { cancelled = option_or had.cancelled (Some (is_cancelled v)) }
 value_note _ v had = had
 
 -- any line of an event
 abbrev pub event_fault : Name → Parts → EventBuilder → Option FaultKind
-event_fault name.Dtstart c had = first (stamp_fault_of (stamp_read c.params c.value)) (fault_if kind.Repeated (is_some had.start))
-event_fault name.Dtend c had = first (stamp_fault_of (stamp_read c.params c.value)) (fault_if kind.Repeated (is_some had.end))
+event_fault name.Dtstart c had = option_or (stamp_fault_of (stamp_read c.params c.value)) (fault_if kind.Repeated (is_some had.start))
+event_fault name.Dtend c had = option_or (stamp_fault_of (stamp_read c.params c.value)) (fault_if kind.Repeated (is_some had.end))
 event_fault name.RecurrenceId c had =
-    first (first (stamp_fault_of (stamp_read c.params c.value)) (fault_if kind.Repeated (is_some had.recurrence)))
+    option_or (option_or (stamp_fault_of (stamp_read c.params c.value)) (fault_if kind.Repeated (is_some had.recurrence)))
     (fault_if kind.ThisAndFuture (is_some (param_of (codes "RANGE") c.params)))
 event_fault name.Rdate c had = dates_fault (rdates_of (is_some (zone_name c.params)) c.value)
 event_fault name.Exdate c had = dates_fault (exdates_of (is_some (zone_name c.params)) c.value)
 event_fault n c had = value_fault n c.value had
 
 abbrev pub event_note : Name → Parts → EventBuilder → EventBuilder
-event_note name.Dtstart c had = record had { start = or_first had.start (dated_of c.params c.value) }
-event_note name.Dtend c had = record had { end = or_first had.end (dated_of c.params c.value) }
-event_note name.RecurrenceId c had = record had { recurrence = or_first had.recurrence (dated_of c.params c.value) }
+event_note name.Dtstart c had = record had { start = option_or had.start (Some (dated_of c.params c.value)) }
+event_note name.Dtend c had = record had { end = option_or had.end (Some (dated_of c.params c.value)) }
+event_note name.RecurrenceId c had = record had { recurrence = option_or had.recurrence (Some (dated_of c.params c.value)) }
 event_note name.Rdate c had = record had { rdates = had.rdates ++ rdate_list c.params c.value ∷ [] }
 event_note name.Exdate c had = record had { exdates = had.exdates ++ exdate_list c.params c.value ∷ [] }
 event_note n c had = value_note n c.value had
@@ -240,56 +214,45 @@ event_check k name.Exdate c = listed_zone k (exdate_list c.params c.value)
 event_check k _ c = None
 
 -- A LINE OF A TIME ZONE and of an observance.
-abbrev pub zone_fault : Name → Parts → ZoneBuilder → Option FaultKind
-zone_fault name.Tzid c had = fault_if kind.ObservanceField (is_some had.name)
-zone_fault _ c had = None
-
 abbrev pub zone_note : Name → Parts → ZoneBuilder → ZoneBuilder
-zone_note name.Tzid c had = record had { name = or_first had.name (text_of c.value) }
+zone_note name.Tzid c had = record had { name = option_or had.name (Some (text_of c.value)) }
 zone_note _ c had = had
 
 -- the local times of an RDATE
 abbrev pub locals_fault : List ℕ → Option FaultKind
-locals_fault v = first (dates_fault (rdates_of false v)) (fault_if kind.ObservanceField (list_any is_not_local (rdates_of false v)))
+locals_fault v = option_or (dates_fault (rdates_of false v)) (fault_if kind.ObservanceField (list_any is_not_local (rdates_of false v)))
 
 abbrev pub locals_of : List ℕ → List Local
 locals_of v = filter_map local_in (rdates_of false v)
 
 abbrev pub observance_fault : Name → Parts → ObservanceBuilder → Option FaultKind
 observance_fault name.Dtstart c had =
-    first (first (stamp_fault_of (stamp_of false c.value)) (fault_if kind.ObservanceField (is_not_local (At (stamp_of false c.value)))))
+    option_or (option_or (stamp_fault_of (stamp_of false c.value)) (fault_if kind.ObservanceField (is_not_local (At (stamp_of false c.value)))))
     (fault_if kind.ObservanceField (is_some had.start))
-observance_fault name.OffsetFrom c had = first (offset_fault_of (offset_of c.value)) (fault_if kind.ObservanceField (is_some had.from))
-observance_fault name.OffsetTo c had = first (offset_fault_of (offset_of c.value)) (fault_if kind.ObservanceField (is_some had.to))
+observance_fault name.OffsetFrom c had = option_or (fault_if kind.BadOffset (is_bad_offset (offset_of c.value))) (fault_if kind.ObservanceField (is_some had.from))
+observance_fault name.OffsetTo c had = option_or (fault_if kind.BadOffset (is_bad_offset (offset_of c.value))) (fault_if kind.ObservanceField (is_some had.to))
 observance_fault name.Rrule c had =
-    first (first (rule_fault_of (rule_of c.value)) (fault_if kind.ZoneRule (is_fine_rule (rule_of c.value)))) (fault_if kind.ZoneRule (is_some had.rule))
+    option_or (option_or (rule_fault_of (rule_of c.value)) (fault_if kind.ZoneRule (is_fine_rule (rule_of c.value)))) (fault_if kind.ZoneRule (is_some had.rule))
 observance_fault name.Rdate c had = locals_fault c.value
 observance_fault _ c had = None
 
 abbrev pub observance_note : Name → Parts → ObservanceBuilder → ObservanceBuilder
-observance_note name.Dtstart c had = record had { start = or_first had.start (onset_in (stamp_of false c.value)) }
-observance_note name.OffsetFrom c had = record had { from = or_first had.from (offset_in (offset_of c.value)) }
-observance_note name.OffsetTo c had = record had { to = or_first had.to (offset_in (offset_of c.value)) }
-observance_note name.Rrule c had = record had { rule = or_first had.rule (daily_in (rule_of c.value)) }
+observance_note name.Dtstart c had = record had { start = option_or had.start (Some (onset_in (stamp_of false c.value))) }
+observance_note name.OffsetFrom c had = record had { from = option_or had.from (Some (offset_in (offset_of c.value))) }
+observance_note name.OffsetTo c had = record had { to = option_or had.to (Some (offset_in (offset_of c.value))) }
+observance_note name.Rrule c had = record had { rule = option_or had.rule (Some (daily_in (rule_of c.value))) }
 observance_note name.Rdate c had = record had { rdates = had.rdates ++ locals_of c.value }
 observance_note _ c had = had
-
-abbrev pub calendar_fault : Name → Parts → Option FaultKind
-calendar_fault name.Version c = fault_if kind.OldVersion (bytes_eq c.value (codes "1.0"))
-calendar_fault _ c = None
-
--- a line of a component of which nothing is collected
-abbrev pub plain_fault : Context → Name → Parts → Option FaultKind
-plain_fault context.Outside n c = Some kind.NotCalendar
-plain_fault context.Calendar n c = calendar_fault n c
-plain_fault _ n c = None
 
 -- A LINE OF ANY COMPONENT, which begins and ends none.
 abbrev pub builder_fault : Context → Name → Parts → Builder → Option FaultKind
 builder_fault q n c (builder.Event had) = event_fault n c had
-builder_fault q n c (builder.Zone had) = zone_fault n c had
 builder_fault q n c (builder.Observance had) = observance_fault n c had
-builder_fault q n c builder.Nothing = plain_fault q n c
+builder_fault q name.Tzid c (builder.Zone had) = fault_if kind.ObservanceField (is_some had.name)
+builder_fault q n c (builder.Zone had) = None
+builder_fault context.Outside n c builder.Nothing = Some kind.NotCalendar
+builder_fault context.Calendar name.Version c builder.Nothing = fault_if kind.OldVersion (bytes_eq c.value (codes "1.0"))
+builder_fault q n c builder.Nothing = None
 
 abbrev pub builder_note : Name → Parts → Builder → Builder
 builder_note n c (builder.Event had) = builder.Event (event_note n c had)
@@ -377,7 +340,7 @@ outside_fault _ c = None
 
 -- the fault on a line, by the innermost component and by how many are open
 abbrev pub fault_in : Name → Parts → Frame → ℕ → Option FaultKind
-fault_in name.Begin c f depth = first (outside_fault f.context (component_of (map upper c.value))) (fault_if kind.TooDeep (nat_le 32 depth))
+fault_in name.Begin c f depth = option_or (outside_fault f.context (component_of (map upper c.value))) (fault_if kind.TooDeep (nat_le 32 depth))
 fault_in name.End c f depth = if depth == 0 then Some kind.NotCalendar else frame_fault (map upper c.value) f
 fault_in n c f depth = builder_fault f.context n c f.builder
 

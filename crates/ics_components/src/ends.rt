@@ -34,9 +34,7 @@ pub fn ends_badly(start: &Option<Dated>, end: &Option<Dated>) -> bool
         (Stamp::Zoned(a), Stamp::Zoned(b)) => {
             start.tzid() == end.tzid() && is_out(a.seconds(), b.seconds())
         }
-        (Stamp::Zoned(_), Stamp::Utc(_))
-        | (Stamp::Utc(_), Stamp::Zoned(_))
-        | (Stamp::Utc(_), Stamp::Utc(_)) => false,
+        (Stamp::Zoned(_) | Stamp::Utc(_), Stamp::Zoned(_) | Stamp::Utc(_)) => false,
         _ => true,
     }
 }
@@ -45,13 +43,13 @@ pub fn ends_badly(start: &Option<Dated>, end: &Option<Dated>) -> bool
 fn compared(start: Instant, end: Instant) -> Option<DeferredCheck>
     ensures { result ≡ compared start end }
 {
-    if let (Instant::Utc(a), Instant::Utc(b)) = (&start, &end) {
-        if is_out(a.seconds(), b.seconds()) {
-            return Some(DeferredCheck::End);
+    match (start, end) {
+        (Instant::Utc(a), Instant::Utc(b)) if is_out(a.seconds(), b.seconds()) => {
+            Some(DeferredCheck::End)
         }
-        return None;
+        (Instant::Utc(_), Instant::Utc(_)) => None,
+        (start, end) => Some(DeferredCheck::Ends(start, end)),
     }
-    Some(DeferredCheck::Ends(start, end))
 }
 
 /// The check that the second round makes on the END of an event of that calendar.
@@ -69,24 +67,17 @@ pub fn ends_in(
     if is_zoned(start.stamp) && is_zoned(end.stamp) && start.tzid() == end.tzid() {
         return Ok(None);
     }
-    let Some(start) = start.instant(calendar)? else {
-        return Ok(None);
-    };
-    let Some(end) = end.instant(calendar)? else {
-        return Ok(None);
-    };
-    Ok(compared(start, end))
+    Ok(match (start.instant(calendar)?, end.instant(calendar)?) {
+        (Some(start), Some(end)) => compared(start, end),
+        _ => None,
+    })
 }
 
 fn is_lasting(duration: Duration) -> bool
     ensures { result ≡ is_lasting duration }
 {
-    let Some(days) = duration.days.checked_mul(86_400) else {
-        return false;
-    };
-    let Some(seconds) = days.checked_add(duration.seconds) else {
-        return false;
-    };
+    let days = duration.days.saturating_mul(86_400);
+    let seconds = days.saturating_add(duration.seconds);
     (!duration.negative || seconds == 0) && seconds <= u64::from(LONGEST)
 }
 

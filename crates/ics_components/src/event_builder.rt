@@ -1,14 +1,15 @@
 //! An event that is being built of its lines.
 ghost use Rattle.std.specs.Prelude.{◌≡◌, Option, None, Some, is_some};
+ghost use Rattle.std.specs.Option.{option_or};
 ghost use Rattle.ics_values.specs.Integers.{integer_of};
 ghost use Rattle.ics_values.specs.Plain.{text_of};
-ghost use Rattle.ics_components.specs.declared.fault.FaultKind.TheVariants.{Repeated};
+ghost use Rattle.ics_components.specs.declared.fault.FaultKind.TheVariants.{Repeated, NumberTooLarge};
 ghost use Rattle.ics_components.specs.Builders.{nothing, event_ended};
-ghost use Rattle.ics_components.specs.Lines.{Gives, Notes, first, fault_if, or_first, stamp_fault_of, number_fault_of, event_fault, event_note, event_check};
+ghost use Rattle.ics_components.specs.Lines.{Gives, Notes, fault_if, stamp_fault_of, event_fault, event_note, event_check};
 ghost use Rattle.ics_components.specs.Lines.{Keeps, value_fault, value_note, end_of_event, passed};
 ghost use Rattle.ics_components.specs.declared.gathered.Ended.TheVariants.{Event};
 ghost use Rattle.ics_components.specs.SecondRound.{used_zone, ends_in};
-ghost use Rattle.ics_components.specs.Values.{dated_of, ok_or_zero, stamp_read};
+ghost use Rattle.ics_components.specs.Values.{dated_of, is_large_integer, ok_or_zero, stamp_read};
 ghost use Rattle.ics_components.specs.GivenTimes.{given_length};
 
 use crate::date_list::DateLists;
@@ -46,7 +47,7 @@ pub struct EventBuilder {
 
 /// Keeps the value of a property that stands only once.
 pub fn once<T: Drop>(kept: &mut Option<T>, value: T, twice: FaultKind) -> Result<(), Refused>
-    ensures { Keeps result kept.new (fault_if twice (is_some kept.old)) (or_first kept.old value) }
+    ensures { Keeps result kept.new (fault_if twice (is_some kept.old)) (option_or kept.old (Some value)) }
 {
     if kept.is_some() {
         return Err(Refused::Fault(twice));
@@ -63,8 +64,8 @@ fn put_date(
     calendar: u64,
     content: &Content<'_>,
 ) -> Result<Option<DeferredCheck>, Refused>
-    ensures { Notes result kept.new (first (stamp_fault_of (stamp_read content.now.params content.now.value)) (fault_if Repeated (is_some kept.old)))
-        (or_first kept.old (dated_of content.now.params content.now.value)) (used_zone calendar (dated_of content.now.params content.now.value)) }
+    ensures { Notes result kept.new (option_or (stamp_fault_of (stamp_read content.now.params content.now.value)) (fault_if Repeated (is_some kept.old)))
+        (option_or kept.old (Some (dated_of content.now.params content.now.value))) (used_zone calendar (dated_of content.now.params content.now.value)) }
 {
     let dated = Dated::read(alloc, tzids, content)?;
     let check = dated.used_zone(calendar)?;
@@ -74,7 +75,7 @@ fn put_date(
 
 /// Keeps the first text of several.
 fn keep_first(kept: &mut Option<Text>, alloc: Global, value: &[u8]) -> Result<(), Refused>
-    ensures { Keeps result kept.new None (or_first kept.old (text_of value.now)) }
+    ensures { Keeps result kept.new None (option_or kept.old (Some (text_of value.now))) }
 {
     if kept.is_none() {
         *kept = Some(Text::of_value(alloc, value)?);
@@ -84,7 +85,7 @@ fn keep_first(kept: &mut Option<Text>, alloc: Global, value: &[u8]) -> Result<()
 
 /// What a SEQUENCE says. One that is no number counts as 0.
 fn sequence(text: &[u8]) -> Result<u32, Refused>
-    ensures { Gives result (number_fault_of (integer_of text.now)) (ok_or_zero (integer_of text.now)) }
+    ensures { Gives result (fault_if NumberTooLarge (is_large_integer (integer_of text.now))) (ok_or_zero (integer_of text.now)) }
 {
     match read_integer(text) {
         Ok(number) => Ok(number),
