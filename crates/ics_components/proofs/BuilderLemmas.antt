@@ -138,10 +138,6 @@ parts-same whole ls l e = rw (parts-more whole ls l, e, and-false (in_zone l)) (
 observance-is : (l : Placed) → is_begin l ≡ true → begins_in_zone l ≡ is_observance_context (context_of (inside l))
 observance-is l e = rw e (sym (context-tests (context_of l.path) (component l)).2)
 
--- what stands in another component changes nothing but observances
-pub still : (s : Builder) (q : Context) (g : Readings) → is_zone_context q ≡ false → joined s (builder_at q g) ≡ builder_at q g
-still s q g e = grind arith
-
 -- WHAT IS COLLECTED of a component.
 module _ (whole : List Placed) (k : List Open) (ls : List Placed) where
   -- with one line more that begins none
@@ -156,19 +152,17 @@ module _ (whole : List Placed) (k : List Open) (ls : List Placed) where
   -- with the BEGIN line of a component that has ended in it, and is one of its observances or changes nothing
   pub builder-begun : (q : Context) (b : Placed) (g : Readings) →
       name_of (property_name b.content) ≡ name.Begin → is_begin b ≡ true → own whole b ≡ observance_ended g.observance →
-      builder_at q (readings whole k (ls ++ b ∷ [])) ≡ joined (builder_at (context_of (inside b)) g) (builder_at q (readings whole k ls))
+      builder_at q (readings whole k (ls ++ b ∷ [])) ≡ joined (builder_at q (readings whole k ls)) (builder_at (context_of (inside b)) g)
   builder-begun context.Event b g n e o =
       ap builder.Event (collected_of-more ls b ∙ ap (λ n. event_note n (parts_at b) (collected_of ls)) n)
-      ∙ sym (still (builder_at (context_of (inside b)) g) context.Event (readings whole k ls) refl)
   builder-begun context.Observance b g n e o =
       ap builder.Observance (observance_of-more ls b ∙ ap (λ n. observance_note n (parts_at b) (observance_of ls)) n)
-      ∙ sym (still (builder_at (context_of (inside b)) g) context.Observance (readings whole k ls) refl)
   builder-begun context.Zone b g n e o =
       ap builder.Zone (zone_of-more (parts whole (ls ++ b ∷ [])) ls b ∙ ap (λ n. zone_note n (parts_at b) (zone_of (parts whole (ls ++ b ∷ [])) ls)) n)
       ∙ ap (λ os. builder.Zone (zone_of os ls)) (parts-more whole ls b ∙ ap (λ t. parts whole ls ++ cond t (own whole b ∷ []) []) (observance-is b e))
       ∙ by_context (context_of (inside b))
     where
       by_context : (p : Context) → builder.Zone (zone_of (parts whole ls ++ cond (is_observance_context p) (own whole b ∷ []) []) ls)
-          ≡ joined (builder_at p g) (builder.Zone (zone_of (parts whole ls) ls))
+          ≡ joined (builder.Zone (zone_of (parts whole ls) ls)) (builder_at p g)
       by_context p = grind (arith, append-nil, o)
-  builder-begun _ b g n e o = sym (still (builder_at (context_of (inside b)) g) context.Outside g refl)
+  builder-begun _ b g n e o = refl

@@ -18,7 +18,7 @@ use Rattle.ics_components.specs.Builders.{fresh, observance_ended}
 use Rattle.ics_components.specs.Pass.{bottom}
 use Rattle.ics_components.specs.Lines.{opened, observance_note, joined, closed, noted, behind, fault_in, fault_on, end_in, check_in, passed, passing}
 use Rattle.ics_components.proofs.NameLemmas.{tells, equal}
-use Rattle.ics_components.proofs.BuilderLemmas.{parts_at, observance_of-more, builder-more, builder-begun, still}
+use Rattle.ics_components.proofs.BuilderLemmas.{parts_at, observance_of-more, builder-more, builder-begun}
 use Rattle.ics_components.proofs.Table.{Readings, builder_at, frame_at, own, readings, frame_of, marks, is_begin_name, is_end_name, observance_of}
 use Rattle.ics_components.proofs.Bundles.{Bundle, IsKept, Keeps, opens, top_lines, add_line, close, bundles_behind}
 
@@ -67,23 +67,21 @@ module _ (whole before : List Placed) where
   closed-in : (l : Placed) (f : Bundle) {g : Bundle} {gs : List Bundle} → name_of (property_name l.content) ≡ name.End →
       lines_in f.begin.number whole ≡ f.lines ++ l ∷ [] → IsKept f (g ∷ gs) →
       builder_at (context_of (opens (g ∷ gs))) (readings whole (opens (g ∷ gs)) (g.lines ++ f.begin ∷ []))
-      ≡ joined (builder_at (context_of (opens (f ∷ g ∷ gs))) (readings whole (opens (f ∷ g ∷ gs)) f.lines))
-      (builder_at (context_of (opens (g ∷ gs))) (readings whole (opens (g ∷ gs)) g.lines))
+      ≡ joined (builder_at (context_of (opens (g ∷ gs))) (readings whole (opens (g ∷ gs)) g.lines))
+      (builder_at (context_of (opens (f ∷ g ∷ gs))) (readings whole (opens (f ∷ g ∷ gs)) f.lines))
   closed-in l f {g = g} {gs = gs} n w kept =
       let outer : List Open = opens (g ∷ gs) in
       let inner : Readings = readings whole (opens (f ∷ g ∷ gs)) f.lines in
       let same : own whole f.begin ≡ observance_ended inner.observance =
       ap (λ ls. observance_ended (observance_of ls)) w ∙ ap observance_ended (observance-end f.lines l n) in
       builder-begun whole outer g.lines (context_of outer) f.begin inner (begin-named f.begin kept.begins) kept.begins same
-      ∙ ap (λ (path : List Open). joined (builder_at (context_of (record { name = component f.begin; begun = f.begin.number } ∷ path)) inner)
-      (builder_at (context_of outer) (readings whole outer g.lines))) kept.stands
+      ∙ ap (λ (path : List Open). joined (builder_at (context_of outer) (readings whole outer g.lines))
+      (builder_at (context_of (record { name = component f.begin; begun = f.begin.number } ∷ path)) inner)) kept.stands
 
   closed-over : (l : Placed) (bundles : List Bundle) → Keeps before [] bundles → name_of (property_name l.content) ≡ name.End →
       path_behind l ≡ drop 1 (opens bundles) → Closes whole before l bundles → frames_of whole (close bundles) ≡ closed (frames_of whole bundles)
   closed-over l [] k n moved w = refl
-  closed-over l (f ∷ []) k n moved w =
-      ap (λ s. record bottom { builder = s } ∷ [])
-      (sym (still (builder_at (context_of (opens (f ∷ []))) (readings whole (opens (f ∷ [])) f.lines)) context.Outside (readings whole [] []) refl))
+  closed-over l (f ∷ []) k n moved w = refl
   closed-over l (f ∷ g ∷ gs) k n moved w =
       ap (λ s. record (frame_of whole (opens (g ∷ gs)) g.lines) { builder = s } ∷ frames_of whole gs)
       (closed-in l f n (w moved ∙ ap (λ ls. ls ++ l ∷ []) (k.0 ∙ append-nil f.lines)) k.1)

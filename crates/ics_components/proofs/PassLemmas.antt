@@ -63,9 +63,6 @@ abbrev pub gathered_from : List Placed → GatheredSeen → List Placed → List
 gathered_from whole had before lines =
     lists (had.zones ++ ended_from (zones whole) before lines) (had.events ++ ended_from events before lines) (had.checks ++ checks_from whole before lines)
 
-pub three : {zs ys : List EndedZone} {es fs : List EndedEvent} {ws vs : List LineCheck} → zs ≡ ys → es ≡ fs → ws ≡ vs → lists zs es ws ≡ lists ys fs vs
-three z e w = rw (z, e, w) refl
-
 gathered-none : (whole : List Placed) (had : GatheredSeen) (before : List Placed) → had ≡ gathered_from whole had before []
 gathered-none whole had before = simp append-nil
 
@@ -158,9 +155,9 @@ module _ (line : Line) {lines : List Line} (again : Known lines) (v : Parts) {wh
 
   gathered-step : IsMatched l → gathered_from whole now (before ++ l ∷ []) rest ≡ gathered_from whole had before (l ∷ rest)
   gathered-step m =
-      three (further had.zones _ _ (ended_from (zones whole) (before ++ l ∷ []) rest) (ends-same (zones whole) zones_of_end (zones-picked whole) m))
-      (further had.events _ _ (ended_from events (before ++ l ∷ []) rest) (ends-same events events_of_end (events-picked whole) m))
-      (append_assoc had.checks (checks_of line.number (check_in n v f)) (checks_from whole (before ++ l ∷ []) rest))
+      let zs = further had.zones _ _ (ended_from (zones whole) (before ++ l ∷ []) rest) (ends-same (zones whole) zones_of_end (zones-picked whole) m) in
+      let es = further had.events _ _ (ended_from events (before ++ l ∷ []) rest) (ends-same events events_of_end (events-picked whole) m) in
+      let cs = append_assoc had.checks (checks_of line.number (check_in n v f)) (checks_from whole (before ++ l ∷ []) rest) in cc
 
   passing-same : passing n v frames ≡ here
   passing-same = passing-top whole before n v bundles ∙ ap (λ f. passed (end_in n f) (check_in n v f)) beside-top

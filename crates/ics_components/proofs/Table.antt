@@ -5,7 +5,7 @@ use Rattle.std.specs.Prelude.{codes, length, find, filter, flat_map, not, nat_le
 use Rattle.std.specs.List.{list_any}
 use Rattle.std.specs.Option.{option_or}
 use Rattle.std.specs.Str.{bytes_eq}
-use Rattle.std.proofs.Math.Bool.{and-true, and_assoc, or_comm}
+use Rattle.std.proofs.Math.Bool.{and-true, and-false, and_assoc, or_comm}
 use Rattle.ics_text.specs.Bytes.{upper}
 use Rattle.ics_text.specs.ContentLines.{Parts}
 use Rattle.ics_values.specs.Rules.{rule_of}
@@ -27,8 +27,7 @@ use Rattle.ics_components.specs.declared.fault.FaultKind.TheVariants.{BadRule, N
 use Rattle.ics_components.specs.declared.frame.Frame.{Frame}
 use Rattle.ics_components.specs.declared.name.Name.{Name}
 use Rattle.ics_components.specs.declared.name.Name.TheVariants as name
-use Rattle.ics_components.specs.Components.{component_of, component_name, context_in, is_outside_context, is_event_context, is_zone_context}
-use Rattle.ics_components.specs.Components.{is_observance_context}
+use Rattle.ics_components.specs.Components.{component_of, component_name, is_outside_context, is_event_context, is_zone_context, is_observance_context}
 use Rattle.ics_components.specs.Names.{name_of}
 use Rattle.ics_components.specs.PlacedLines.{Placed, Open, context_of, closes, begins_observance, calendar_of, lines_in, has, first_named, value}
 use Rattle.ics_components.specs.PlacedLines.{all_named}
@@ -37,7 +36,7 @@ use Rattle.ics_components.specs.Faults.{stands, kinds, first_text, first_dated, 
 use Rattle.ics_components.specs.Lines.{fault_if, rule_fault_of, outside_fault, builder_fault, fault_in}
 use Rattle.ics_components.specs.Observances.{observance_by, begins_in_zone, onset_on, offset_on, daily_on, onsets_by}
 use Rattle.ics_components.proofs.DateValueLemmas.{first-cond}
-use Rattle.ics_components.proofs.NameLemmas.{Tells, tells, TellsComponent, tells_component, component_name-of}
+use Rattle.ics_components.proofs.NameLemmas.{Tells, tells, TellsComponent, tells_component, component_name-of, context-in-outside}
 
 -- WHAT IS BUILT of the lines that stand directly in a component: an event
 abbrev pub collected_of : List Placed → EventBuilder
@@ -134,13 +133,10 @@ rule-is r = grind arith
 ruleset by_tests = (first-cond, or-cond, not-cond, rule-is, has-first)
 
 -- only a calendar begins outside all components
-outside-first : (w : List ℕ) (m : Option FaultKind) →
-    option_or (outside_fault context.Outside (component_of w)) m ≡ cond (bytes_eq w (codes "VCALENDAR")) m (Some NotCalendar)
-outside-first w m = by_component (component_of w) (tells_component w)
-  where
-    by_component : (c : Component) → TellsComponent w c → option_or (outside_fault context.Outside c) m ≡ cond (bytes_eq w (codes "VCALENDAR")) m (Some NotCalendar)
-    by_component (component.Other n) e = rw (e.0 (codes "VCALENDAR") refl)
-    by_component _ e = rw e
+outside-first : (w : List ℕ) (m : Option FaultKind) (c : Component) → TellsComponent w c →
+    option_or (outside_fault context.Outside c) m ≡ cond (bytes_eq w (codes "VCALENDAR")) m (Some NotCalendar)
+outside-first w m (component.Other n) e = rw (e.0 (codes "VCALENDAR") refl)
+outside-first w m _ e = rw e
 
 -- whether a component begins or ends on a line, by its name
 abbrev pub is_begin_name : Name → Bool
@@ -174,10 +170,7 @@ tzid-row u v os ls _ e = rw e
 -- no component is open exactly outside all of them
 none-open : (path : List Open) → (length path == 0) ≡ is_outside_context (context_of path)
 none-open [] = refl
-none-open (c ∷ cs) = let out = inside-some (context_of cs) (component_of c.name) in grind (arith, nat_tests, out)
-  where
-    inside-some : (q : Context) (c : Component) → is_outside_context (context_in q c) ≡ false
-    inside-some q c = grind arith
+none-open (c ∷ cs) = let some = context-in-outside (context_of cs) (component_of c.name) in grind (arith, nat_tests, some)
 
 closed-by : (path : List Open) (w : List ℕ) → is_outside_context (context_of path) ≡ false →
     bytes_eq w (component_name (top_component path)) ≡ closes path w
@@ -201,8 +194,7 @@ module _ (whole : List Placed) (path : List Open) (number : ℕ) (v : Parts) (ls
 
   ended : (q : Context) (t : Bool) → context_of path ≡ q → closes path (map upper v.value) ≡ t →
       (is_outside_context q ≡ false → bytes_eq (map upper v.value) (component_name (top_component path)) ≡ t) → Reads (codes "END") name.End
-  ended context.Outside true c m s = rw (none-open path, c, m)
-  ended context.Outside false c m s = rw (none-open path, c, m)
+  ended context.Outside t c m s = rw (none-open path, c, m) (simp and-false)
   ended context.Zone true c m s = rw (none-open path, asked (ap is_zone_context c), c, m, s refl) (simp (by_tests, and-true))
   ended context.Observance true c m s = rw (none-open path, c, m, s refl) (simp (by_tests, and-true, and_assoc))
   ended _ true c m s = rw (none-open path, c, m, s refl) (first_of (simp by_tests, search rules))
@@ -227,7 +219,8 @@ module _ (whole : List Placed) (path : List Open) (number : ℕ) (v : Parts) (ls
 
   same : (n : Name) (q : Context) → Tells (map upper v.name) n → context_of path ≡ q → Same n
   same name.Begin context.Outside e c =
-      read _ name.Begin e refl (rw (c, outside-first (map upper v.value) (fault_if TooDeep (nat_le 32 (length path)))) (simp by_tests))
+      let w : List ℕ = map upper v.value in
+      read _ name.Begin e refl (rw (c, outside-first w (fault_if TooDeep (nat_le 32 (length path))) (component_of w) (tells_component w)) (simp by_tests))
   same name.Begin _ e c = read _ name.Begin e refl (rw c)
   same name.End q e c =
       read _ name.End e refl (ended q (closes path (map upper v.value)) c refl (λ o. closed-by path (map upper v.value) (ap is_outside_context c ∙ o)))

@@ -50,16 +50,10 @@ event_ended calendar had = record {
   cancelled = unwrap_or had.cancelled false;
 }
 
-abbrev pub nothing_zone : ZoneBuilder
-nothing_zone = record { name = None; observances = [] }
-
-abbrev pub nothing_observance : ObservanceBuilder
-nothing_observance = record { start = None; from = None; to = None; rule = None; rdates = [] }
-
 abbrev pub fresh : Context → Builder
 fresh context.Event = builder.Event nothing
-fresh context.Zone = builder.Zone nothing_zone
-fresh context.Observance = builder.Observance nothing_observance
+fresh context.Zone = builder.Zone (record { name = None; observances = [] })
+fresh context.Observance = builder.Observance (record { start = None; from = None; to = None; rule = None; rdates = [] })
 fresh _ = builder.Nothing
 
 -- WHAT HAS ENDED, with what is collected of it. An accepted file has the fields that are asked for.

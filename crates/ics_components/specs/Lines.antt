@@ -297,8 +297,8 @@ ended_as k _ = ended.Nothing
 
 -- what becomes of the component in which it ends: a time zone keeps an observance
 abbrev pub joined : Builder → Builder → Builder
-joined (builder.Observance had) (builder.Zone outer) = builder.Zone (record outer { observances = outer.observances ++ observance_ended had ∷ [] })
-joined _ outer = outer
+joined (builder.Zone outer) (builder.Observance had) = builder.Zone (record outer { observances = outer.observances ++ observance_ended had ∷ [] })
+joined outer _ = outer
 
 abbrev pub end_check : ℕ → Builder → Option DeferredCheck
 end_check k (builder.Event had) = ends_in k had.start had.end
@@ -321,7 +321,7 @@ opened number c (f ∷ fs) =
     record { component = c; context = q; calendar = calendar_in number (f ∷ fs); builder = fresh q } ∷ f ∷ fs
 
 abbrev pub closed : List Frame → List Frame
-closed (f ∷ g ∷ gs) = record g { builder = joined f.builder g.builder } ∷ gs
+closed (f ∷ g ∷ gs) = record g { builder = joined g.builder f.builder } ∷ gs
 closed frames = frames
 
 abbrev pub noted : Name → Parts → List Frame → List Frame
@@ -362,8 +362,6 @@ abbrev pub passing : Name → Parts → List Frame → Passed
 passing n c [] = passed ended.Nothing None
 passing n c (f ∷ fs) = passed (end_in n f) (check_in n c f)
 
-abbrev pub named_line : ℕ → Name → Parts → List Frame → Result (List Frame × Passed) FaultKind
-named_line number n c frames = unless (fault_on n c frames) (behind number n c frames, passing n c frames)
-
 abbrev pub line_in : ℕ → Parts → List Frame → Result (List Frame × Passed) FaultKind
-line_in number c frames = named_line number (name_of (map upper c.name)) c frames
+line_in number c frames =
+    let n : Name = name_of (map upper c.name) in unless (fault_on n c frames) (behind number n c frames, passing n c frames)

@@ -92,7 +92,7 @@ impl ObservanceBuilder {
 
     /// Goes at its END to the time zone in which it stands.
     pub fn join(self, outer: &mut Builder) -> Result<Passed, Refused>
-        ensures { Notes result outer.new (end_of_observance self) (joined (Observance self) outer.old) (passed Nothing None) }
+        ensures { Notes result outer.new (end_of_observance self) (joined outer.old (Observance self)) (passed Nothing None) }
     {
         let (Some(start), Some(offset_from), Some(offset_to)) = (self.start, self.from, self.to)
         else {

@@ -1,7 +1,7 @@
 //! How long an event lasts: its end against its start, and its duration (RFC 5545, sections 3.8.2.2 and 3.8.2.5).
 ghost use Rattle.std.specs.Prelude.{◌≡◌, IfOk, IfErr, Ok, Some};
 ghost use Rattle.ics_components.specs.Lines.{duration_judged, duration_fault_of};
-ghost use Rattle.ics_components.specs.SecondRound.{compared, ends_in};
+ghost use Rattle.ics_components.specs.SecondRound.{ends_in};
 ghost use Rattle.ics_components.specs.Values.{is_lasting, lasting_of, is_out, ends_badly};
 
 use crate::dated::Dated;
@@ -39,19 +39,6 @@ pub fn ends_badly(start: &Option<Dated>, end: &Option<Dated>) -> bool
     }
 }
 
-/// The check that the second round makes where these are a start and its end.
-fn compared(start: Instant, end: Instant) -> Option<DeferredCheck>
-    ensures { result ≡ compared start end }
-{
-    match (start, end) {
-        (Instant::Utc(a), Instant::Utc(b)) if is_out(a.seconds(), b.seconds()) => {
-            Some(DeferredCheck::End)
-        }
-        (Instant::Utc(_), Instant::Utc(_)) => None,
-        (start, end) => Some(DeferredCheck::Ends(start, end)),
-    }
-}
-
 /// The check that the second round makes on the END of an event of that calendar.
 pub fn ends_in(
     calendar: u64,
@@ -68,7 +55,11 @@ pub fn ends_in(
         return Ok(None);
     }
     Ok(match (start.instant(calendar)?, end.instant(calendar)?) {
-        (Some(start), Some(end)) => compared(start, end),
+        (Some(Instant::Utc(a)), Some(Instant::Utc(b))) if is_out(a.seconds(), b.seconds()) => {
+            Some(DeferredCheck::End)
+        }
+        (Some(Instant::Utc(_)), Some(Instant::Utc(_))) => None,
+        (Some(start), Some(end)) => Some(DeferredCheck::Ends(start, end)),
         _ => None,
     })
 }

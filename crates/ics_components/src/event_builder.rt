@@ -10,11 +10,10 @@ ghost use Rattle.ics_components.specs.Lines.{Keeps, value_fault, value_note, end
 ghost use Rattle.ics_components.specs.declared.gathered.Ended.TheVariants.{Event};
 ghost use Rattle.ics_components.specs.SecondRound.{used_zone, ends_in};
 ghost use Rattle.ics_components.specs.Values.{dated_of, is_large_integer, ok_or_zero, stamp_read};
-ghost use Rattle.ics_components.specs.GivenTimes.{given_length};
 
 use crate::date_list::DateLists;
 use crate::date_values::Listing;
-use crate::dated::Dated;
+use crate::dated::{Dated, stamp, zone_name};
 use crate::deferred_check::DeferredCheck;
 use crate::ends::{ends_badly, ends_in, lasting};
 use crate::fault::FaultKind;
@@ -67,7 +66,9 @@ fn put_date(
     ensures { Notes result kept.new (option_or (stamp_fault_of (stamp_read content.now.params content.now.value)) (fault_if Repeated (is_some kept.old)))
         (option_or kept.old (Some (dated_of content.now.params content.now.value))) (used_zone calendar (dated_of content.now.params content.now.value)) }
 {
-    let dated = Dated::read(alloc, tzids, content)?;
+    let zone = zone_name(alloc, tzids, content)?;
+    let stamp = stamp(content.value(), zone.is_some())?;
+    let dated = Dated { stamp, zone };
     let check = dated.used_zone(calendar)?;
     once(kept, dated, FaultKind::Repeated)?;
     Ok(check)
@@ -91,17 +92,6 @@ fn sequence(text: &[u8]) -> Result<u32, Refused>
         Ok(number) => Ok(number),
         Err(IntegerFault::NotDigits) => Ok(0),
         Err(IntegerFault::NumberTooLarge) => Err(Refused::Fault(FaultKind::NumberTooLarge)),
-    }
-}
-
-/// What gives the length of an event.
-fn given_length(end: Option<Dated>, duration: Option<Duration>) -> GivenLength
-    ensures { result ≡ given_length end duration }
-{
-    match (end, duration) {
-        (Some(end), _) => GivenLength::Until(end),
-        (None, Some(duration)) => GivenLength::Lasting(duration),
-        (None, None) => GivenLength::Open,
     }
 }
 
@@ -219,11 +209,16 @@ impl EventBuilder {
         let Some(start) = start else {
             return Err(Refused::Fault(FaultKind::MissingStart));
         };
+        let length = match (self.end, self.duration) {
+            (Some(end), _) => GivenLength::Until(end),
+            (None, Some(duration)) => GivenLength::Lasting(duration),
+            (None, None) => GivenLength::Open,
+        };
         let event = EndedEvent {
             calendar,
             uid: self.uid.unwrap_or(Text::new(alloc)),
             start,
-            length: given_length(self.end, self.duration),
+            length,
             rule: self.rule,
             rdates: self.rdates,
             exdates: self.exdates,

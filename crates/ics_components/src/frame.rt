@@ -63,7 +63,7 @@ impl Frame {
 
     /// What the component is where an END has that name. An observance goes to what it stands in.
     pub fn end(self, alloc: Global, outer: &mut Builder, name: &[u8]) -> Result<Passed, Refused>
-        ensures { Notes result outer.new (frame_fault (map upper name.now) self) (joined self.builder outer.old)
+        ensures { Notes result outer.new (frame_fault (map upper name.now) self) (joined outer.old self.builder)
             (passed (ended_as self.calendar self.builder) (end_check self.calendar self.builder)) }
     {
         let Frame {

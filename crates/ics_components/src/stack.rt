@@ -81,11 +81,8 @@ impl Stack {
         if self.outer.len() >= MAX_DEPTH {
             return Err(Refused::Fault(FaultKind::TooDeep));
         }
-        let calendar = if self.outer.is_empty() {
-            number
-        } else {
-            self.top.calendar
-        };
+        let lowest = self.is_lowest();
+        let calendar = if lowest { number } else { self.top.calendar };
         let context = component.context_in(self.top.context);
         let inner = Frame {
             component,
