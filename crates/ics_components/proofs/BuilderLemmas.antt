@@ -52,7 +52,8 @@ named-more : {X : Type 0} (f : Placed → X) (n : List ℕ) (ls : List Placed) (
 named-more f n ls l = all-more (map f) (λ xs. xs ++ f l ∷ []) n ls l (λ ks. map-append f ks (l ∷ []))
 
 kept-more : {X : Type 0} (f : Placed → X) (n : List ℕ) (ls : List Placed) (l : Placed) →
-    option_map f (first_named n (ls ++ l ∷ [])) ≡ cond (is_named n l) (option_or (option_map f (first_named n ls)) (Some (f l))) (option_map f (first_named n ls))
+    option_map f (first_named n (ls ++ l ∷ []))
+    ≡ cond (is_named n l) (option_or (option_map f (first_named n ls)) (Some (f l))) (option_map f (first_named n ls))
 kept-more f n ls l = all-more (λ ks. option_map f (first_of ks)) (λ o. option_or o (Some (f l))) n ls l (elim [ [] ↦ refl | k ∷ ks ↦ refl ])
 
 listed-more : {X : Type 0} (f : Placed → List X) (n : List ℕ) (ls : List Placed) (l : Placed) →

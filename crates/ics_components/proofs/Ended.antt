@@ -31,30 +31,21 @@ events = record { stands_at = is_event_context; begins = begins_event; by = λ p
 abbrev pub zones : List Placed → Sort EndedZone
 zones whole = record { stands_at = is_zone_context; begins = begins_zone; by = λ path own. zone_ended (calendar_of path) (zone_of (parts whole own) own) }
 
--- What ends is picked as its sort says.
-pub record Picks {X : Type 0} (whole : List Placed) (s : Sort X) (pick : Ended → List X) : Type 0 where
-  pub nothing : pick ended.Nothing ≡ []
-  pub one : (c : Open) (cs : List Open) (ls : List Placed) →
-      pick (end_in name.End (frame_of whole (c ∷ cs) ls)) ≡ cond (s.stands_at (context_of (c ∷ cs))) (s.by (c ∷ cs) ls ∷ []) []
-
-pub events-picked : (whole : List Placed) → Picks whole events events_of_end
-events-picked whole = record { nothing = refl; one = λ c cs ls. grind arith }
-
-pub zones-picked : (whole : List Placed) → Picks whole (zones whole) zones_of_end
-zones-picked whole = record { nothing = refl; one = λ c cs ls. grind arith }
-
 -- An END without a fault matches.
 abbrev pub IsMatched : Placed → Type 0
 IsMatched l = (is_end l && not (is_closing l)) ≡ false
 
--- WHAT ENDS on a line.
-module _ {X : Type 0} (whole : List Placed) (s : Sort X) (pick : Ended → List X) (picks : Picks whole s pick) (line : Line) (v : Parts) where
-  pub picked-same : (path : List Open) (ls : List Placed) → IsMatched (with line path v) →
-      pick (end_in (name_of (map upper v.name)) (frame_of whole path ls)) ≡ ended_as s ls (with line path v)
-  picked-same path ls m = by_name (name_of (map upper v.name)) path (marks (map upper v.name) (name_of (map upper v.name)) (tells (map upper v.name))).1 m
+-- WHAT ENDS on a line, picked as its sort says.
+module _ (whole : List Placed) (line : Line) (v : Parts) (ls : List Placed) where
+  abbrev Picked : Name → List Open → Type 0
+  Picked n path =
+      (events_of_end (end_in n (frame_of whole path ls)) ≡ ended_as events ls (with line path v))
+      × (zones_of_end (end_in n (frame_of whole path ls)) ≡ ended_as (zones whole) ls (with line path v))
+
+  pub picked-same : (path : List Open) → IsMatched (with line path v) → Picked (name_of (map upper v.name)) path
+  picked-same path m = by_name (name_of (map upper v.name)) path (marks (map upper v.name) (name_of (map upper v.name)) (tells (map upper v.name))).1 m
     where
-      by_name : (n : Name) (path : List Open) → bytes_eq (map upper v.name) (codes "END") ≡ is_end_name n → IsMatched (with line path v) →
-          pick (end_in n (frame_of whole path ls)) ≡ ended_as s ls (with line path v)
-      by_name name.End [] e m = let never = rw e at m in cc
-      by_name name.End (c ∷ cs) e m = let closes = not-false _ (rw e at m) in rw (e, closes) (picks.one c cs ls)
-      by_name _ path e m = rw e picks.nothing
+      by_name : (n : Name) (path : List Open) → bytes_eq (map upper v.name) (codes "END") ≡ is_end_name n → IsMatched (with line path v) → Picked n path
+      by_name name.End [] e m = let never = rw e at m in absurd (cc)
+      by_name name.End (c ∷ cs) e m = let closes = not-false _ (rw e at m) in rw (e, closes) (grind arith, grind arith)
+      by_name _ path e m = rw e (refl, refl)

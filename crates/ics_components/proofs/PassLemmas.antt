@@ -30,7 +30,7 @@ use Rattle.ics_components.proofs.Bundles.{Bundle, Keeps, Together, Before, falls
 use Rattle.ics_components.proofs.Bundles.{bundles_behind, keeps}
 use Rattle.ics_components.proofs.Frames.{frames_of, top_of, with, Closes, frames-behind, fault-top, passing-top}
 use Rattle.ics_components.proofs.Order.{last-more, Falls, falls-behind, lines_in-whole, Sort, ended_as, ended_from, nested}
-use Rattle.ics_components.proofs.Ended.{events, zones, Picks, events-picked, zones-picked, picked-same, IsMatched}
+use Rattle.ics_components.proofs.Ended.{events, zones, picked-same, IsMatched}
 
 -- WHERE THE LINES END.
 lowest-is : (whole : List Placed) (bundles : List Bundle) → is_lowest (frames_of whole bundles) ≡ no_open (opens bundles)
@@ -146,31 +146,19 @@ module _ (line : Line) {lines : List Line} (again : Known lines) (v : Parts) {wh
   abbrev now : GatheredSeen
   now = and_passed line.number here had
 
-  beside-top : top_of whole before bundles ≡ f
-  beside-top = ap (frame_of whole (opens bundles)) (top_beside before bundles on.kept)
-
   -- a line adds what ends there as its component says, and what is checked there in the second round
-  ends-same : {X : Type 0} (s : Sort X) (pick : Ended → List X) → Picks whole s pick → IsMatched l → pick (end_in n f) ≡ ended_as s (beside before l) l
-  ends-same s pick picks m = picked-same whole s pick picks line v (opens bundles) (beside before l) m
-
   gathered-step : IsMatched l → gathered_from whole now (before ++ l ∷ []) rest ≡ gathered_from whole had before (l ∷ rest)
   gathered-step m =
-      let zs = further had.zones _ _ (ended_from (zones whole) (before ++ l ∷ []) rest) (ends-same (zones whole) zones_of_end (zones-picked whole) m) in
-      let es = further had.events _ _ (ended_from events (before ++ l ∷ []) rest) (ends-same events events_of_end (events-picked whole) m) in
+      let same = picked-same whole line v (beside before l) (opens bundles) m in
+      let es = further had.events _ _ (ended_from events (before ++ l ∷ []) rest) same.0 in
+      let zs = further had.zones _ _ (ended_from (zones whole) (before ++ l ∷ []) rest) same.1 in
       let cs = append_assoc had.checks (checks_of line.number (check_in n v f)) (checks_from whole (before ++ l ∷ []) rest) in cc
 
-  passing-same : passing n v frames ≡ here
-  passing-same = passing-top whole before n v bundles ∙ ap (λ f. passed (end_in n f) (check_in n v f)) beside-top
-
-  least : fault_on n v frames ≡ find (λ kind. stands kind (beside before l) l) kinds
-  least =
-      let asked : IsAsked whole (opens bundles) (beside before l) =
-      λ z. zone-lines (opens bundles) z (beside before l)
+  asked : IsAsked whole (opens bundles) (beside before l)
+  asked z =
+      zone-lines (opens bundles) z (beside before l)
       (together-in is_zone_context (opens bundles) (beside before l) refl z (together before bundles on.kept))
-      ∙ any-part whole (beside before l) in
-      fault-top whole before n v bundles
-      ∙ ap (λ f. fault_in n v f (length (opens bundles))) beside-top
-      ∙ sym (least-same whole (opens bundles) line.number v (beside before l) asked)
+      ∙ any-part whole (beside before l)
 
   -- with its least fault, and where it has none
   by_first : (o : Option FaultKind) → find (λ kind. stands kind (beside before l) l) kinds ≡ o →
@@ -193,8 +181,14 @@ step : (line : Line) {lines : List Line} → Known lines → (o : Option Parts) 
     (gathered_from whole had before (with_content line (opens bundles) o ∷ placed_from (path_behind (with_content line (opens bundles) o)) lines))
 step line again None on had = refl
 step line again (Some v) {whole} {before} {bundles} on had =
-    rw (least line again v on had, passing-same line again v on had)
-    (by_first line again v on had (find (λ kind. stands kind (beside before (with line (opens bundles) v)) (with line (opens bundles) v)) kinds) refl)
+    let l : Placed = with line (opens bundles) v in
+    let n : Name = name_of (map upper v.name) in
+    rw (
+      passing-top whole before n v bundles,
+      fault-top whole before n v bundles,
+      top_beside before bundles on.kept,
+      ← least-same whole (opens bundles) line.number v (beside before l) (asked line again v on had),
+    ) (by_first line again v on had (find (λ kind. stands kind (beside before l) l) kinds) refl)
 
 -- THE PASS SAYS WHAT THE LINES ARE.
 pass-lines : (lines : List Line) → Known lines

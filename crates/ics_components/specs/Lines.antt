@@ -229,10 +229,12 @@ abbrev pub observance_fault : Name → Parts → ObservanceBuilder → Option Fa
 observance_fault name.Dtstart c had =
     option_or (option_or (stamp_fault_of (stamp_of false c.value)) (fault_if kind.ObservanceField (is_not_local (At (stamp_of false c.value)))))
     (fault_if kind.ObservanceField (is_some had.start))
-observance_fault name.OffsetFrom c had = option_or (fault_if kind.BadOffset (is_bad_offset (offset_of c.value))) (fault_if kind.ObservanceField (is_some had.from))
+observance_fault name.OffsetFrom c had =
+    option_or (fault_if kind.BadOffset (is_bad_offset (offset_of c.value))) (fault_if kind.ObservanceField (is_some had.from))
 observance_fault name.OffsetTo c had = option_or (fault_if kind.BadOffset (is_bad_offset (offset_of c.value))) (fault_if kind.ObservanceField (is_some had.to))
 observance_fault name.Rrule c had =
-    option_or (option_or (rule_fault_of (rule_of c.value)) (fault_if kind.ZoneRule (is_fine_rule (rule_of c.value)))) (fault_if kind.ZoneRule (is_some had.rule))
+    option_or (option_or (rule_fault_of (rule_of c.value)) (fault_if kind.ZoneRule (is_fine_rule (rule_of c.value))))
+    (fault_if kind.ZoneRule (is_some had.rule))
 observance_fault name.Rdate c had = locals_fault c.value
 observance_fault _ c had = None
 
