@@ -20,7 +20,6 @@ use Rattle.ics_components.specs.declared.deferred_check.Instant.TheVariants as i
 use Rattle.ics_components.specs.declared.deferred_check.DeferredCheck.{DeferredCheck}
 use Rattle.ics_components.specs.declared.deferred_check.DeferredCheck.TheVariants as check
 use Rattle.ics_components.specs.declared.deferred_check.ZoneName.{ZoneName}
-use Rattle.ics_components.specs.declared.component.Component.{Component}
 use Rattle.ics_components.specs.declared.name.Name.{Name}
 use Rattle.ics_components.specs.declared.name.Name.TheVariants as name
 use Rattle.ics_components.specs.Builders.{event_ended}
@@ -44,7 +43,7 @@ use Rattle.ics_components.proofs.NameLemmas.{equal}
 use Rattle.ics_components.proofs.Order.{ended_as, ended_from, end-name}
 use Rattle.ics_components.proofs.PassLemmas.{AreTogether, checks_from, checks_on, later_by, gathered_from, pass-whole, together-whole}
 use Rattle.ics_components.proofs.Sound.{dated-said, one-ended, zones-sound, events-whole}
-use Rattle.ics_components.proofs.Table.{builder_at, frame_at, frame_of, readings, top_component, collected_of}
+use Rattle.ics_components.proofs.Table.{builder_at, frame_at, frame_of, parts, collected_of}
 use Rattle.ics_text.specs.Unfolded.{Line, Rises}
 use Rattle.ics_components.specs.FirstFault.{Fault, first_fault, fault_at_end}
 use Rattle.ics_components.specs.Pass.{bottom, unless, pass}
@@ -85,15 +84,15 @@ module _ (P : DeferredCheck → Type 0) where
 
   line-seen : (whole own : List Placed) (l : Placed) → IfSome (later_by l.content (frame_of whole l.path own)) P → IsSeen l
   line-seen whole own l h q =
-      by_content l.content (subst (λ q. IfSome (later_by l.content (frame_at (top_component l.path) q (readings whole l.path own))) P) q h)
+      by_content l.content (subst (λ q. IfSome (later_by l.content (frame_at whole l.path own q)) P) q h)
     where
-      by_name : (n : Name) (v : Parts) → IfSome (check_in n v (frame_at (top_component l.path) context.Event (readings whole l.path own))) P →
+      by_name : (n : Name) (v : Parts) → IfSome (check_in n v (frame_at whole l.path own context.Event)) P →
           IfSome (event_check (calendar_of l.path) n v) P
       by_name name.Begin v h = tt
       by_name name.End v h = tt
       by_name _ v h = h
 
-      by_content : (o : Option Parts) → IfSome (later_by o (frame_at (top_component l.path) context.Event (readings whole l.path own))) P →
+      by_content : (o : Option Parts) → IfSome (later_by o (frame_at whole l.path own context.Event)) P →
           Gives (calendar_of l.path) (property_name o) (record { number = l.number; content = o; path = l.path })
       by_content None h = tt
       by_content (Some v) h = by_name (name_of (map upper v.name)) v h
@@ -109,7 +108,7 @@ module _ (P : DeferredCheck → Type 0) where
         IfSome (ends_in (calendar_of path) (first_dated (codes "DTSTART") own) (first_dated (codes "DTEND") own)) P
     end-seen path None e q h = cc
     end-seen path (Some v) e q h =
-        subst (λ q. IfSome (end_check (calendar_of path) (builder_at q (readings whole path own))) P) q
+        subst (λ q. IfSome (end_check (calendar_of path) (builder_at (parts whole own) own q)) P) q
         (subst (λ n. IfSome (check_in n v (frame_of whole path own)) P) (end-name (map upper v.name) e) h)
 
     event-awaited : (l : Placed) → ends_event l ≡ true → All IsSeen own → Together l.path own →
@@ -202,19 +201,19 @@ checks-sound whole before (l ∷ ls) =
     own : List Placed
     own = beside before l
 
-    by_context : (c : Component) (q : Context) (n : Name) (v : Parts) → IfSome (check_in n v (frame_at c q (readings whole l.path own))) IsSoundCheck
-    by_context c context.Event name.End v =
+    by_context : (q : Context) (n : Name) (v : Parts) → IfSome (check_in n v (frame_at whole l.path own q)) IsSoundCheck
+    by_context context.Event name.End v =
         ends-sound (calendar_of l.path) (first_dated (codes "DTSTART") own) (first_dated (codes "DTEND") own) (dated-said (codes "DTSTART") own)
         (dated-said (codes "DTEND") own)
-    by_context c context.Event _ v = first_of (search rules, search (rules, zone-sound))
-    by_context c _ name.Begin v = tt
-    by_context c _ _ v = tt
+    by_context context.Event _ v = first_of (search rules, search (rules, zone-sound))
+    by_context _ name.Begin v = tt
+    by_context _ _ v = tt
 
     by_content : (o : Option Parts) → All IsSoundLine (checks_of l.number (later_by o (frame_of whole l.path own)))
     by_content None = All-nil IsSoundLine
     by_content (Some v) =
         one-sound l.number (check_in (name_of (map upper v.name)) v (frame_of whole l.path own))
-        (by_context _ (context_of l.path) (name_of (map upper v.name)) v)
+        (by_context (context_of l.path) (name_of (map upper v.name)) v)
 
 -- What is gathered is sound, where the first round finds nothing.
 pub sound-pass : (lines : List Line) → Rises 0 lines → IfOk (pass (bottom ∷ []) None nothing_gathered lines) IsSoundGathered

@@ -34,7 +34,7 @@ use Rattle.ics_components.specs.Components.{is_zone_context, is_observance_conte
 use Rattle.ics_components.specs.DateValues.{rdates_of}
 use Rattle.ics_components.specs.Builders.{observance_ended}
 use Rattle.ics_components.specs.Observances.{local_in, onset_in, offset_in, daily_in, begins_in_zone}
-use Rattle.ics_components.proofs.Table.{Readings, builder_at, readings, own, parts, collected_of, zone_of, observance_of}
+use Rattle.ics_components.proofs.Table.{builder_at, own, parts, collected_of, zone_of, observance_of}
 use Rattle.ics_components.proofs.Order.{inside}
 
 -- what is made of all lines of a name, with one line more
@@ -140,10 +140,10 @@ observance-is : (l : Placed) → is_begin l ≡ true → begins_in_zone l ≡ is
 observance-is l e = rw e (sym (context-tests (context_of l.path) (component l)).2)
 
 -- WHAT IS COLLECTED of a component.
-module _ (whole : List Placed) (k : List Open) (ls : List Placed) where
+module _ (whole : List Placed) (ls : List Placed) where
   -- with one line more that begins none
   pub builder-more : (q : Context) (l : Placed) → is_begin l ≡ false →
-      builder_at q (readings whole k (ls ++ l ∷ [])) ≡ builder_note (name_of (property_name l.content)) (parts_at l) (builder_at q (readings whole k ls))
+      builder_at (parts whole (ls ++ l ∷ [])) (ls ++ l ∷ []) q ≡ builder_note (name_of (property_name l.content)) (parts_at l) (builder_at (parts whole ls) ls q)
   builder-more context.Event l e = ap builder.Event (collected_of-more ls l)
   builder-more context.Zone l e =
       ap (λ os. builder.Zone (zone_of os (ls ++ l ∷ []))) (parts-same whole ls l e) ∙ ap builder.Zone (zone_of-more (parts whole ls) ls l)
@@ -151,19 +151,19 @@ module _ (whole : List Placed) (k : List Open) (ls : List Placed) where
   builder-more _ l e = refl
 
   -- with the BEGIN line of a component that has ended in it, and is one of its observances or changes nothing
-  pub builder-begun : (q : Context) (b : Placed) (g : Readings) →
-      name_of (property_name b.content) ≡ name.Begin → is_begin b ≡ true → own whole b ≡ observance_ended g.observance →
-      builder_at q (readings whole k (ls ++ b ∷ [])) ≡ joined (builder_at q (readings whole k ls)) (builder_at (context_of (inside b)) g)
-  builder-begun context.Event b g n e o =
+  pub builder-begun : (q : Context) (b : Placed) (ks : List Placed) →
+      name_of (property_name b.content) ≡ name.Begin → is_begin b ≡ true → own whole b ≡ observance_ended (observance_of ks) →
+      builder_at (parts whole (ls ++ b ∷ [])) (ls ++ b ∷ []) q ≡ joined (builder_at (parts whole ls) ls q) (builder_at (parts whole ks) ks (context_of (inside b)))
+  builder-begun context.Event b ks n e o =
       ap builder.Event (collected_of-more ls b ∙ ap (λ n. event_note n (parts_at b) (collected_of ls)) n)
-  builder-begun context.Observance b g n e o =
+  builder-begun context.Observance b ks n e o =
       ap builder.Observance (observance_of-more ls b ∙ ap (λ n. observance_note n (parts_at b) (observance_of ls)) n)
-  builder-begun context.Zone b g n e o =
+  builder-begun context.Zone b ks n e o =
       ap builder.Zone (zone_of-more (parts whole (ls ++ b ∷ [])) ls b ∙ ap (λ n. zone_note n (parts_at b) (zone_of (parts whole (ls ++ b ∷ [])) ls)) n)
       ∙ ap (λ os. builder.Zone (zone_of os ls)) (parts-more whole ls b ∙ ap (λ t. parts whole ls ++ cond t (own whole b ∷ []) []) (observance-is b e))
       ∙ by_context (context_of (inside b))
     where
       by_context : (p : Context) → builder.Zone (zone_of (parts whole ls ++ cond (is_observance_context p) (own whole b ∷ []) []) ls)
-          ≡ joined (builder.Zone (zone_of (parts whole ls) ls)) (builder_at p g)
+          ≡ joined (builder.Zone (zone_of (parts whole ls) ls)) (builder_at (parts whole ks) ks p)
       by_context p = grind (arith, append-nil, o)
-  builder-begun _ b g n e o = refl
+  builder-begun _ b ks n e o = refl

@@ -14,12 +14,12 @@ use Rattle.ics_components.specs.declared.name.Name.TheVariants as name
 use Rattle.ics_components.specs.Components.{component_of}
 use Rattle.ics_components.specs.Names.{name_of}
 use Rattle.ics_components.specs.PlacedLines.{Placed, Open, context_of, property_name, is_begin, is_end, component, path_behind, calendar_of, lines_in}
-use Rattle.ics_components.specs.Builders.{fresh, observance_ended}
+use Rattle.ics_components.specs.Builders.{observance_ended}
 use Rattle.ics_components.specs.Pass.{bottom}
 use Rattle.ics_components.specs.Lines.{opened, observance_note, joined, closed, noted, behind, fault_in, fault_on, end_in, check_in, passed, passing}
 use Rattle.ics_components.proofs.NameLemmas.{tells, equal}
 use Rattle.ics_components.proofs.BuilderLemmas.{parts_at, observance_of-more, builder-more, builder-begun}
-use Rattle.ics_components.proofs.Table.{Readings, builder_at, frame_at, own, readings, frame_of, marks, is_begin_name, is_end_name, observance_of}
+use Rattle.ics_components.proofs.Table.{builder_at, own, parts, frame_of, marks, is_begin_name, is_end_name, observance_of}
 use Rattle.ics_components.proofs.Bundles.{Bundle, IsKept, Keeps, opens, top_lines, add_line, close, bundles_behind}
 
 -- the frames that the bundles of lines stand for, in a file of all these lines
@@ -52,31 +52,27 @@ module _ (whole before : List Placed) where
   added l [] e = refl
   added l (b ∷ bs) e =
       let path : List Open = opens (b ∷ bs) in
-      ap (λ s. record (frame_of whole path b.lines) { builder = s } ∷ frames_of whole bs) (builder-more whole path b.lines (context_of path) l e)
-
-  fresh-at : (c : Component) (q : Context) (path : List Open) →
-      frame_at c q (readings whole path []) ≡ record { component = c; context = q; calendar = calendar_of path; builder = fresh q }
-  fresh-at c q path = grind arith
+      ap (λ s. record (frame_of whole path b.lines) { builder = s } ∷ frames_of whole bs) (builder-more whole b.lines (context_of path) l e)
 
   begun : (l : Placed) (bundles : List Bundle) →
       frames_of whole (record { begin = l; lines = [] } ∷ bundles) ≡ opened l.number (component_of (component l)) (frames_of whole bundles)
-  begun l (b ∷ []) = ap (λ (f : Frame). f ∷ frames_of whole (b ∷ [])) (fresh-at _ _ (opens (record { begin = l; lines = [] } ∷ b ∷ [])))
-  begun l bundles = ap (λ (f : Frame). f ∷ frames_of whole bundles) (fresh-at _ _ (opens (record { begin = l; lines = [] } ∷ bundles)))
+  begun l [] = refl
+  begun l (b ∷ []) = refl
+  begun l (b ∷ d ∷ ds) = refl
 
   -- what is collected of a component that ends, and of the one that it stands in
   closed-in : (l : Placed) (f : Bundle) {g : Bundle} {gs : List Bundle} → name_of (property_name l.content) ≡ name.End →
       lines_in f.begin.number whole ≡ f.lines ++ l ∷ [] → IsKept f (g ∷ gs) →
-      builder_at (context_of (opens (g ∷ gs))) (readings whole (opens (g ∷ gs)) (g.lines ++ f.begin ∷ []))
-      ≡ joined (builder_at (context_of (opens (g ∷ gs))) (readings whole (opens (g ∷ gs)) g.lines))
-      (builder_at (context_of (opens (f ∷ g ∷ gs))) (readings whole (opens (f ∷ g ∷ gs)) f.lines))
+      builder_at (parts whole (g.lines ++ f.begin ∷ [])) (g.lines ++ f.begin ∷ []) (context_of (opens (g ∷ gs)))
+      ≡ joined (builder_at (parts whole g.lines) g.lines (context_of (opens (g ∷ gs))))
+      (builder_at (parts whole f.lines) f.lines (context_of (opens (f ∷ g ∷ gs))))
   closed-in l f {g = g} {gs = gs} n w kept =
-      let outer : List Open = opens (g ∷ gs) in
-      let inner : Readings = readings whole (opens (f ∷ g ∷ gs)) f.lines in
-      let same : own whole f.begin ≡ observance_ended inner.observance =
+      let outer : Context = context_of (opens (g ∷ gs)) in
+      let same : own whole f.begin ≡ observance_ended (observance_of f.lines) =
       ap (λ ls. observance_ended (observance_of ls)) w ∙ ap observance_ended (observance-end f.lines l n) in
-      builder-begun whole outer g.lines (context_of outer) f.begin inner (begin-named f.begin kept.begins) kept.begins same
-      ∙ ap (λ (path : List Open). joined (builder_at (context_of outer) (readings whole outer g.lines))
-      (builder_at (context_of (record { name = component f.begin; begun = f.begin.number } ∷ path)) inner)) kept.stands
+      builder-begun whole g.lines outer f.begin f.lines (begin-named f.begin kept.begins) kept.begins same
+      ∙ ap (λ (path : List Open). joined (builder_at (parts whole g.lines) g.lines outer)
+      (builder_at (parts whole f.lines) f.lines (context_of (record { name = component f.begin; begun = f.begin.number } ∷ path)))) kept.stands
 
   closed-over : (l : Placed) (bundles : List Bundle) → Keeps before [] bundles → name_of (property_name l.content) ≡ name.End →
       path_behind l ≡ drop 1 (opens bundles) → Closes whole before l bundles → frames_of whole (close bundles) ≡ closed (frames_of whole bundles)

@@ -33,59 +33,11 @@ use Rattle.ics_components.specs.PlacedLines.{Placed, Open, context_of, closes, b
 use Rattle.ics_components.specs.PlacedLines.{all_named}
 use Rattle.ics_components.specs.Values.{is_bad_rule, is_large_rule, is_fine_rule, ok_or_zero, is_cancelled}
 use Rattle.ics_components.specs.Faults.{stands, kinds, first_text, first_dated, duration_on, parts_on, rdates_on, exdates_on}
+pub use Rattle.ics_components.specs.Builders.{collected_of, zone_of, observance_of, builder_at}
 use Rattle.ics_components.specs.Lines.{fault_if, rule_fault_of, outside_fault, builder_fault, fault_in}
 use Rattle.ics_components.specs.Observances.{observance_by, begins_in_zone, onset_on, offset_on, daily_on, onsets_by}
 use Rattle.ics_components.proofs.DateValueLemmas.{first-cond}
 use Rattle.ics_components.proofs.NameLemmas.{Tells, tells, TellsComponent, tells_component, component_name-of, context-in-outside}
-
--- WHAT IS BUILT of the lines that stand directly in a component: an event
-abbrev pub collected_of : List Placed → EventBuilder
-collected_of lines = record {
-  uid = first_text (codes "UID") lines;
-  start = first_dated (codes "DTSTART") lines;
-  end = first_dated (codes "DTEND") lines;
-  duration = option_map duration_on (first_named (codes "DURATION") lines);
-  rule = option_map parts_on (first_named (codes "RRULE") lines);
-  rdates = map rdates_on (all_named (codes "RDATE") lines);
-  exdates = map exdates_on (all_named (codes "EXDATE") lines);
-  recurrence = first_dated (codes "RECURRENCE-ID") lines;
-  sequence = option_map (λ line. ok_or_zero (integer_of (value line))) (first_named (codes "SEQUENCE") lines);
-  title = first_text (codes "SUMMARY") lines;
-  location = first_text (codes "LOCATION") lines;
-  description = first_text (codes "DESCRIPTION") lines;
-  cancelled = option_map (λ line. is_cancelled (value line)) (first_named (codes "STATUS") lines);
-}
-
--- a time zone whose observances are these
-abbrev pub zone_of : List ObservanceSaid → List Placed → ZoneBuilder
-zone_of observances lines = record { name = first_text (codes "TZID") lines; observances = observances }
-
--- an observance
-abbrev pub observance_of : List Placed → ObservanceBuilder
-observance_of lines = record {
-  start = option_map onset_on (first_named (codes "DTSTART") lines);
-  from = option_map offset_on (first_named (codes "TZOFFSETFROM") lines);
-  to = option_map offset_on (first_named (codes "TZOFFSETTO") lines);
-  rule = option_map daily_on (first_named (codes "RRULE") lines);
-  rdates = flat_map onsets_by (all_named (codes "RDATE") lines);
-}
-
--- what is collected of some lines of a calendar, read as those of an event, of a time zone and of an observance
-pub record Readings : Type 0 where
-  pub calendar : ℕ
-  pub event : EventBuilder
-  pub zone : ZoneBuilder
-  pub observance : ObservanceBuilder
-
-abbrev pub builder_at : Context → Readings → Builder
-builder_at context.Event g = builder.Event g.event
-builder_at context.Zone g = builder.Zone g.zone
-builder_at context.Observance g = builder.Observance g.observance
-builder_at _ g = builder.Nothing
-
--- the frame of a component, with what is collected of it
-abbrev pub frame_at : Component → Context → Readings → Frame
-frame_at c q g = record { component = c; context = q; calendar = g.calendar; builder = builder_at q g }
 
 -- the observances that begin on the lines, in a file of all these lines
 abbrev pub own : List Placed → Placed → ObservanceSaid
@@ -98,18 +50,17 @@ pub any-part : (whole ls : List Placed) → list_any begins_in_zone ls ≡ not (
 any-part whole [] = refl
 any-part whole (l ∷ ls) = let again = any-part whole ls in grind (arith, nat_tests)
 
--- what is collected of some lines, where these components are open
-abbrev pub readings : List Placed → List Open → List Placed → Readings
-readings whole path ls = record { calendar = calendar_of path; event = collected_of ls; zone = zone_of (parts whole ls) ls; observance = observance_of ls }
-
 -- the innermost component of a path; below all there is none
 abbrev pub top_component : List Open → Component
 top_component [] = component.Other []
 top_component (c ∷ cs) = component_of c.name
 
--- the frame that a path and the lines directly in its innermost component stand for
+-- the frame that a path and the lines directly in its innermost component stand for, by where these stand
+abbrev pub frame_at : List Placed → List Open → List Placed → Context → Frame
+frame_at whole path ls q = record { component = top_component path; context = q; calendar = calendar_of path; builder = builder_at (parts whole ls) ls q }
+
 abbrev pub frame_of : List Placed → List Open → List Placed → Frame
-frame_of whole path ls = frame_at (top_component path) (context_of path) (readings whole path ls)
+frame_of whole path ls = frame_at whole path ls (context_of path)
 
 -- the time zone on whose lines an END stands has an observance exactly where one has begun there
 abbrev pub IsAsked : List Placed → List Open → List Placed → Type 0
@@ -206,8 +157,8 @@ module _ (whole : List Placed) (path : List Open) (number : ℕ) (v : Parts) (ls
   plain n q e k c o = by_context q c o ((marks (map upper v.name) n e).0 ∙ k.0) ((marks (map upper v.name) n e).1 ∙ k.1)
     where
       inner : (q : Context) →
-          builder_fault q n v (builder_at q (readings whole path ls)) ≡ fault_in n v (frame_at (top_component path) q (readings whole path ls)) (length path)
-      inner q = inner-fault n v (frame_at (top_component path) q (readings whole path ls)) (length path) k
+          builder_fault q n v (builder_at (parts whole ls) ls q) ≡ fault_in n v (frame_at whole path ls q) (length path)
+      inner q = inner-fault n v (frame_at whole path ls q) (length path) k
 
       by_context : (q : Context) → context_of path ≡ q → (is_event_context q || is_observance_context q) ≡ false →
           bytes_eq (map upper v.name) (codes "BEGIN") ≡ false → bytes_eq (map upper v.name) (codes "END") ≡ false → Same n

@@ -53,7 +53,7 @@ use Rattle.ics_components.specs.declared.builder.ObservanceBuilder.{ObservanceBu
 use Rattle.ics_components.specs.declared.builder.Builder.{Builder}
 use Rattle.ics_components.specs.declared.builder.Builder.TheVariants as builder
 use Rattle.ics_components.specs.declared.builder.ZoneBuilder.{ZoneBuilder}
-use Rattle.ics_components.specs.Builders.{event_ended, fresh, zone_ended, observance_ended}
+use Rattle.ics_components.specs.Builders.{event_ended, builder_at, zone_ended, observance_ended}
 use Rattle.ics_components.specs.Components.{component_of, component_name, context_in}
 use Rattle.ics_components.specs.DateLists.{rdate_list, exdate_list}
 use Rattle.ics_components.specs.DateValues.{DateValue, At, Between, Lasting, rdate_of, exdate_of, rdates_of, exdates_of, listed_in, has_bad_stamp}
@@ -320,7 +320,7 @@ abbrev pub opened : ℕ → Component → List Frame → List Frame
 opened number c [] = []
 opened number c (f ∷ fs) =
     let q : Context = context_in f.context c in
-    record { component = c; context = q; calendar = calendar_in number (f ∷ fs); builder = fresh q } ∷ f ∷ fs
+    record { component = c; context = q; calendar = calendar_in number (f ∷ fs); builder = builder_at [] [] q } ∷ f ∷ fs
 
 abbrev pub closed : List Frame → List Frame
 closed (f ∷ g ∷ gs) = record g { builder = joined g.builder f.builder } ∷ gs

@@ -1,6 +1,6 @@
 //! A component that is being built of its lines.
-ghost use Rattle.std.specs.Prelude.{◌≡◌, None};
-ghost use Rattle.ics_components.specs.Builders.{fresh, zone_ended};
+ghost use Rattle.std.specs.Prelude.{◌≡◌, [], None};
+ghost use Rattle.ics_components.specs.Builders.{builder_at, zone_ended};
 ghost use Rattle.ics_components.specs.Lines.{Gives, Keeps, Notes, end_of_zone, end_of_observance, observance_fault, observance_note, joined, passed};
 ghost use Rattle.ics_components.specs.declared.builder.Builder.TheVariants.{Observance};
 ghost use Rattle.ics_components.specs.declared.gathered.Ended.TheVariants.{Zone, Nothing};
@@ -115,7 +115,7 @@ impl ObservanceBuilder {
 impl Builder {
     /// What a component has that has only begun, by where its lines stand.
     pub fn fresh(alloc: Global, context: Context) -> Builder
-        ensures { result ≡ fresh context }
+        ensures { result ≡ builder_at [] [] context }
     {
         match context {
             Context::Event => Builder::Event(EventBuilder::nothing(alloc)),

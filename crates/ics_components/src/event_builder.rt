@@ -1,10 +1,10 @@
 //! An event that is being built of its lines.
-ghost use Rattle.std.specs.Prelude.{◌≡◌, Option, None, Some, is_some};
+ghost use Rattle.std.specs.Prelude.{◌≡◌, [], Option, None, Some, is_some};
 ghost use Rattle.std.specs.Option.{option_or};
 ghost use Rattle.ics_values.specs.Integers.{integer_of};
 ghost use Rattle.ics_values.specs.Plain.{text_of};
 ghost use Rattle.ics_components.specs.declared.fault.FaultKind.TheVariants.{Repeated, NumberTooLarge};
-ghost use Rattle.ics_components.specs.Builders.{nothing, event_ended};
+ghost use Rattle.ics_components.specs.Builders.{collected_of, event_ended};
 ghost use Rattle.ics_components.specs.Lines.{Gives, Notes, fault_if, stamp_fault_of, event_fault, event_note, event_check};
 ghost use Rattle.ics_components.specs.Lines.{Keeps, value_fault, value_note, end_of_event, passed};
 ghost use Rattle.ics_components.specs.declared.gathered.Ended.TheVariants.{Event};
@@ -98,7 +98,7 @@ fn sequence(text: &[u8]) -> Result<u32, Refused>
 impl EventBuilder {
     /// What an event has that has only begun.
     pub fn nothing(alloc: Global) -> EventBuilder
-        ensures { result ≡ nothing }
+        ensures { result ≡ collected_of [] }
     {
         EventBuilder {
             uid: None,
