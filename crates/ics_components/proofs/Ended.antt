@@ -1,5 +1,5 @@
 -- What ends on the lines, in the order of the lines.
-use Rattle.std.proofs.Common.{◌≡◌, false, ◌&&◌, List, [], ◌∷◌, map, refl, cond, arith}
+use Rattle.std.proofs.Common.{◌≡◌, false, ◌&&◌, List, [], ◌∷◌, map, refl, Some, arith}
 use Rattle.std.specs.Prelude.{codes, not}
 use Rattle.std.specs.Str.{bytes_eq}
 use Rattle.std.proofs.lemmas.Bool.{not-false}
@@ -39,13 +39,13 @@ IsMatched l = (is_end l && not (is_closing l)) ≡ false
 module _ (whole : List Placed) (line : Line) (v : Parts) (ls : List Placed) where
   abbrev Picked : Name → List Open → Type 0
   Picked n path =
-      (events_of_end (end_in n (frame_of whole path ls)) ≡ ended_as events ls (with line path v))
-      × (zones_of_end (end_in n (frame_of whole path ls)) ≡ ended_as (zones whole) ls (with line path v))
+      (events_of_end (end_in n (frame_of whole path ls)) ≡ ended_as events ls (with line path (Some v)))
+      × (zones_of_end (end_in n (frame_of whole path ls)) ≡ ended_as (zones whole) ls (with line path (Some v)))
 
-  pub picked-same : (path : List Open) → IsMatched (with line path v) → Picked (name_of (map upper v.name)) path
+  pub picked-same : (path : List Open) → IsMatched (with line path (Some v)) → Picked (name_of (map upper v.name)) path
   picked-same path m = by_name (name_of (map upper v.name)) path (marks (map upper v.name) (name_of (map upper v.name)) (tells (map upper v.name))).1 m
     where
-      by_name : (n : Name) (path : List Open) → bytes_eq (map upper v.name) (codes "END") ≡ is_end_name n → IsMatched (with line path v) → Picked n path
+      by_name : (n : Name) (path : List Open) → bytes_eq (map upper v.name) (codes "END") ≡ is_end_name n → IsMatched (with line path (Some v)) → Picked n path
       by_name name.End [] e m = let never = rw e at m in absurd (cc)
       by_name name.End (c ∷ cs) e m = let closes = not-false _ (rw e at m) in rw (e, closes) (grind arith, grind arith)
       by_name _ path e m = rw e (refl, refl)

@@ -1,5 +1,5 @@
 -- The components that are open, as the pass holds them, stand for the path before a line and the lines beside it.
-use Rattle.std.proofs.Common.{arith, ◌≡◌, ℕ, suc, true, false, List, [], ◌∷◌, ◌++◌, drop, map, refl, sym, ap, ◌∙◌, Some}
+use Rattle.std.proofs.Common.{◌≡◌, ℕ, suc, true, false, List, [], ◌∷◌, ◌++◌, drop, map, refl, ap, ◌∙◌, Option, Some}
 use Rattle.std.specs.Prelude.{length, codes}
 use Rattle.std.proofs.lemmas.List.{append-nil}
 use Rattle.ics_text.specs.Bytes.{upper}
@@ -30,11 +30,8 @@ frames_of whole (b ∷ bs) = frame_of whole (opens (b ∷ bs)) b.lines ∷ frame
 begin-named : (l : Placed) → is_begin l ≡ true → name_of (property_name l.content) ≡ name.Begin
 begin-named l e = rw (equal (property_name l.content) (codes "BEGIN") e)
 
-abbrev pub top_of : List Placed → List Placed → List Bundle → Frame
-top_of whole before bundles = frame_of whole (opens bundles) (top_lines before bundles)
-
-abbrev pub with : Line → List Open → Parts → Placed
-with line path v = record { number = line.number; content = Some v; path = path }
+abbrev pub with : Line → List Open → Option Parts → Placed
+with line path content = record { number = line.number; content = content; path = path }
 
 -- an END adds nothing to what is collected of an observance
 observance-end : (ls : List Placed) (l : Placed) → name_of (property_name l.content) ≡ name.End → observance_of (ls ++ l ∷ []) ≡ observance_of ls
@@ -84,12 +81,12 @@ module _ (whole before : List Placed) where
 
   -- a line keeps the frames
   pub frames-behind : (line : Line) (v : Parts) (bundles : List Bundle) → Keeps before [] bundles →
-      Closes whole before (with line (opens bundles) v) bundles →
-      frames_of whole (bundles_behind (with line (opens bundles) v) bundles) ≡ behind line.number (name_of (map upper v.name)) v (frames_of whole bundles)
+      Closes whole before (with line (opens bundles) (Some v)) bundles →
+      frames_of whole (bundles_behind (with line (opens bundles) (Some v)) bundles) ≡ behind line.number (name_of (map upper v.name)) v (frames_of whole bundles)
   frames-behind line v bundles k w = by_name (name_of u) refl (marks u (name_of u) (tells u))
     where
       l : Placed
-      l = with line (opens bundles) v
+      l = with line (opens bundles) (Some v)
 
       u : List ℕ
       u = map upper v.name
@@ -106,11 +103,11 @@ module _ (whole before : List Placed) where
 
   -- the fault on a line and what is gathered there read the innermost component alone
   pub fault-top : (n : Name) (v : Parts) (bundles : List Bundle) →
-      fault_on n v (frames_of whole bundles) ≡ fault_in n v (top_of whole before bundles) (length (opens bundles))
+      fault_on n v (frames_of whole bundles) ≡ fault_in n v (frame_of whole (opens bundles) (top_lines before bundles)) (length (opens bundles))
   fault-top n v [] = refl
   fault-top n v (b ∷ bs) = ap (fault_in n v (frame_of whole (opens (b ∷ bs)) b.lines)) (length-frames bs)
 
   pub passing-top : (n : Name) (v : Parts) (bundles : List Bundle) →
-      passing n v (frames_of whole bundles) ≡ passed (end_in n (top_of whole before bundles)) (check_in n v (top_of whole before bundles))
+      passing n v (frames_of whole bundles) ≡ passing n v (frame_of whole (opens bundles) (top_lines before bundles) ∷ [])
   passing-top n v [] = refl
   passing-top n v (b ∷ bs) = refl

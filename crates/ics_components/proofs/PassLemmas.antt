@@ -28,7 +28,7 @@ use Rattle.ics_components.specs.Pass.{bottom, is_lowest, at_end, unless, on_line
 use Rattle.ics_components.proofs.Table.{parts, any-part, frame_of, IsAsked, least-same}
 use Rattle.ics_components.proofs.Bundles.{Bundle, Keeps, Together, Before, falls, open_of, opens, opens-behind, top_beside, together, together-in, zone-lines}
 use Rattle.ics_components.proofs.Bundles.{bundles_behind, keeps}
-use Rattle.ics_components.proofs.Frames.{frames_of, top_of, with, Closes, frames-behind, fault-top, passing-top}
+use Rattle.ics_components.proofs.Frames.{frames_of, with, Closes, frames-behind, fault-top, passing-top}
 use Rattle.ics_components.proofs.Order.{last-more, Falls, falls-behind, lines_in-whole, Sort, ended_as, ended_from, nested}
 use Rattle.ics_components.proofs.Ended.{events, zones, picked-same, IsMatched}
 
@@ -71,9 +71,6 @@ further : {X : Type 0} (had here more rest : List X) → more ≡ here → (had 
 further had here more rest e = ap (λ m. (had ++ m) ++ rest) e ∙ append_assoc had here rest
 
 -- THE PASS.
-abbrev pub with_content : Line → List Open → Option Parts → Placed
-with_content line path o = record { number = line.number; content = o; path = path }
-
 -- Where the pass is: on a line behind those before it, with a bundle of lines for each component that is open.
 record IsOn (whole before : List Placed) (bundles : List Bundle) (l : Placed) (lines : List Line) : Type 0 where
   pub parts : whole ≡ before ++ l ∷ placed_from (path_behind l) lines
@@ -86,7 +83,7 @@ record IsOn (whole before : List Placed) (bundles : List Bundle) (l : Placed) (l
 -- the same before the first of some lines
 abbrev IsAt : List Placed → List Placed → List Bundle → List Line → Type 0
 IsAt whole before bundles [] = Unit {0}
-IsAt whole before bundles (line ∷ lines) = IsOn whole before bundles (with_content line (opens bundles) (content_of line.bytes)) lines
+IsAt whole before bundles (line ∷ lines) = IsOn whole before bundles (with line (opens bundles) (content_of line.bytes)) lines
 
 at-next : {whole before : List Placed} {bundles : List Bundle} (l : Placed) (lines : List Line) → IsOn whole before bundles l lines →
     IsAt whole (before ++ l ∷ []) (bundles_behind l bundles) lines
@@ -123,9 +120,9 @@ closes-here whole before l (f ∷ fs) lines on =
 
 -- A line with parts, before lines of which it is known.
 module _ (line : Line) {lines : List Line} (again : Known lines) (v : Parts) {whole before : List Placed} {bundles : List Bundle}
-    (on : IsOn whole before bundles (with line (opens bundles) v) lines) (had : GatheredSeen) where
+    (on : IsOn whole before bundles (with line (opens bundles) (Some v)) lines) (had : GatheredSeen) where
   abbrev l : Placed
-  l = with line (opens bundles) v
+  l = with line (opens bundles) (Some v)
 
   abbrev n : Name
   n = name_of (map upper v.name)
@@ -174,14 +171,14 @@ module _ (line : Line) {lines : List Line} (again : Known lines) (v : Parts) {wh
       ∙ ap (unless (first_from stands fault_at_end (before ++ l ∷ []) rest)) (gathered-step (nested (λ kind. stands kind (beside before l) l) e))
 
 step : (line : Line) {lines : List Line} → Known lines → (o : Option Parts) {whole before : List Placed} {bundles : List Bundle} →
-    IsOn whole before bundles (with_content line (opens bundles) o) lines → (had : GatheredSeen) →
+    IsOn whole before bundles (with line (opens bundles) o) lines → (had : GatheredSeen) →
     on_content line.number o (frames_of whole bundles) had (λ frames had. pass frames (Some line.number) had lines)
-    ≡ unless (first_from stands fault_at_end before (with_content line (opens bundles) o
-    ∷ placed_from (path_behind (with_content line (opens bundles) o)) lines))
-    (gathered_from whole had before (with_content line (opens bundles) o ∷ placed_from (path_behind (with_content line (opens bundles) o)) lines))
+    ≡ unless (first_from stands fault_at_end before (with line (opens bundles) o
+    ∷ placed_from (path_behind (with line (opens bundles) o)) lines))
+    (gathered_from whole had before (with line (opens bundles) o ∷ placed_from (path_behind (with line (opens bundles) o)) lines))
 step line again None on had = refl
 step line again (Some v) {whole} {before} {bundles} on had =
-    let l : Placed = with line (opens bundles) v in
+    let l : Placed = with line (opens bundles) (Some v) in
     let n : Name = name_of (map upper v.name) in
     rw (
       passing-top whole before n v bundles,
@@ -205,7 +202,7 @@ all-together : (lines : List Line) (whole before : List Placed) (bundles : List 
     AreTogether before (placed_from (opens bundles) lines)
 all-together [] whole before bundles on = tt
 all-together (line ∷ lines) whole before bundles on =
-    let l : Placed = with_content line (opens bundles) (content_of line.bytes) in (
+    let l : Placed = with line (opens bundles) (content_of line.bytes) in (
       together before bundles on.kept,
       rw (opens-behind l bundles refl) at (all-together lines whole (before ++ l ∷ []) (bundles_behind l bundles) (at-next l lines on)),
     )

@@ -81,11 +81,6 @@ Notes (Ok x) now fault next value = (fault ≡ None) × (now ≡ next) × (x ≡
 Notes (Err Memory) now fault next value = Unit {0}
 Notes (Err (Fault kind)) now fault next value = fault ≡ Some kind
 
-abbrev pub Makes : {X Y : Type 0} → Result X Refused → Y → Result (Y × X) FaultKind → Type 0
-Makes (Ok x) now said = said ≡ Ok (now, x)
-Makes (Err Memory) now said = Unit {0}
-Makes (Err (Fault kind)) now said = said ≡ Err kind
-
 -- said unless a fault stands there
 abbrev pub unless : {X : Type 0} → Option FaultKind → X → Result X FaultKind
 unless None x = Ok x
@@ -312,9 +307,8 @@ frame_fault w f = if bytes_eq w (component_name f.component) then fault_at_end_o
 -- WHAT A LINE MAKES of the components that are open, the innermost first.
 -- the calendar of a component that begins on that line: the outermost component, or that itself
 abbrev pub calendar_in : ℕ → List Frame → ℕ
-calendar_in number [] = number
-calendar_in number (f ∷ []) = number
 calendar_in number (f ∷ g ∷ gs) = f.calendar
+calendar_in number _ = number
 
 abbrev pub opened : ℕ → Component → List Frame → List Frame
 opened number c [] = []

@@ -66,15 +66,10 @@ impl Frame {
         ensures { Notes result outer.new (frame_fault (map upper name.now) self) (joined outer.old self.builder)
             (passed (ended_as self.calendar self.builder) (end_check self.calendar self.builder)) }
     {
-        let Frame {
-            component,
-            calendar,
-            builder,
-            ..
-        } = self;
-        if !component.is_named(name) {
+        if !self.component.is_named(name) {
             return Err(Refused::Fault(FaultKind::BadNesting));
         }
+        let (calendar, builder) = (self.calendar, self.builder);
         match builder {
             Builder::Event(had) => had.end(alloc, calendar),
             Builder::Zone(had) => had.end(calendar),

@@ -1,7 +1,9 @@
 //! The components that are open.
-ghost use Rattle.std.specs.Prelude.{◌≡◌, ◌∷◌, []};
+ghost use Rattle.std.specs.Prelude.{◌≡◌, ◌∷◌, [], map};
+ghost use Rattle.ics_text.specs.Bytes.{upper};
+ghost use Rattle.ics_components.specs.Names.{name_of};
 ghost use Rattle.ics_components.specs.declared.name.Name.TheVariants.{Begin, End};
-ghost use Rattle.ics_components.specs.Lines.{Makes, Notes, fault_on, behind, closed, passing, line_in};
+ghost use Rattle.ics_components.specs.Lines.{Notes, fault_on, behind, closed, passing};
 ghost use Rattle.ics_components.specs.Pass.{bottom, is_lowest};
 
 use crate::builder::Builder;
@@ -113,7 +115,9 @@ impl Stack {
         number: u64,
         content: &Content<'_>,
     ) -> Result<Passed, Refused>
-        ensures { Makes result self.new (line_in number content.now self.old) }
+        ensures { Notes result self.new (fault_on (name_of (map upper content.now.name)) content.now self.old)
+            (behind number (name_of (map upper content.now.name)) content.now self.old)
+            (passing (name_of (map upper content.now.name)) content.now self.old) }
     {
         match name_of(content.name()) {
             Name::Begin => self.begin(alloc, number, content),
