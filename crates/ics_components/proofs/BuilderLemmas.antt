@@ -143,7 +143,8 @@ observance-is l e = rw e (sym (context-tests (context_of l.path) (component l)).
 module _ (whole : List Placed) (ls : List Placed) where
   -- with one line more that begins none
   pub builder-more : (q : Context) (l : Placed) → is_begin l ≡ false →
-      builder_at (parts whole (ls ++ l ∷ [])) (ls ++ l ∷ []) q ≡ builder_note (name_of (property_name l.content)) (parts_at l) (builder_at (parts whole ls) ls q)
+      builder_at (parts whole (ls ++ l ∷ [])) (ls ++ l ∷ []) q
+      ≡ builder_note (name_of (property_name l.content)) (parts_at l) (builder_at (parts whole ls) ls q)
   builder-more context.Event l e = ap builder.Event (collected_of-more ls l)
   builder-more context.Zone l e =
       ap (λ os. builder.Zone (zone_of os (ls ++ l ∷ []))) (parts-same whole ls l e) ∙ ap builder.Zone (zone_of-more (parts whole ls) ls l)
@@ -153,7 +154,8 @@ module _ (whole : List Placed) (ls : List Placed) where
   -- with the BEGIN line of a component that has ended in it, and is one of its observances or changes nothing
   pub builder-begun : (q : Context) (b : Placed) (ks : List Placed) →
       name_of (property_name b.content) ≡ name.Begin → is_begin b ≡ true → own whole b ≡ observance_ended (observance_of ks) →
-      builder_at (parts whole (ls ++ b ∷ [])) (ls ++ b ∷ []) q ≡ joined (builder_at (parts whole ls) ls q) (builder_at (parts whole ks) ks (context_of (inside b)))
+      builder_at (parts whole (ls ++ b ∷ [])) (ls ++ b ∷ []) q
+      ≡ joined (builder_at (parts whole ls) ls q) (builder_at (parts whole ks) ks (context_of (inside b)))
   builder-begun context.Event b ks n e o =
       ap builder.Event (collected_of-more ls b ∙ ap (λ n. event_note n (parts_at b) (collected_of ls)) n)
   builder-begun context.Observance b ks n e o =

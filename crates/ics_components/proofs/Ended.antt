@@ -45,7 +45,8 @@ module _ (whole : List Placed) (line : Line) (v : Parts) (ls : List Placed) wher
   pub picked-same : (path : List Open) → IsMatched (with line path (Some v)) → Picked (name_of (map upper v.name)) path
   picked-same path m = by_name (name_of (map upper v.name)) path (marks (map upper v.name) (name_of (map upper v.name)) (tells (map upper v.name))).1 m
     where
-      by_name : (n : Name) (path : List Open) → bytes_eq (map upper v.name) (codes "END") ≡ is_end_name n → IsMatched (with line path (Some v)) → Picked n path
+      by_name : (n : Name) (path : List Open) → bytes_eq (map upper v.name) (codes "END") ≡ is_end_name n → IsMatched (with line path (Some v)) →
+          Picked n path
       by_name name.End [] e m = let never = rw e at m in absurd (cc)
       by_name name.End (c ∷ cs) e m = let closes = not-false _ (rw e at m) in rw (e, closes) (grind arith, grind arith)
       by_name _ path e m = rw e (refl, refl)

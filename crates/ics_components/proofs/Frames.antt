@@ -20,7 +20,7 @@ use Rattle.ics_components.specs.Lines.{opened, observance_note, joined, closed, 
 use Rattle.ics_components.proofs.NameLemmas.{tells, equal}
 use Rattle.ics_components.proofs.BuilderLemmas.{parts_at, observance_of-more, builder-more, builder-begun}
 use Rattle.ics_components.proofs.Table.{builder_at, own, parts, frame_of, marks, is_begin_name, is_end_name, observance_of}
-use Rattle.ics_components.proofs.Bundles.{Bundle, IsKept, Keeps, opens, top_lines, add_line, close, bundles_behind}
+use Rattle.ics_components.proofs.Bundles.{Bundle, Keeps, open_of, opens, top_lines, add_line, close, bundles_behind}
 
 -- the frames that the bundles of lines stand for, in a file of all these lines
 abbrev pub frames_of : List Placed → List Bundle → List Frame
@@ -57,32 +57,25 @@ module _ (whole before : List Placed) where
   begun l (b ∷ []) = refl
   begun l (b ∷ d ∷ ds) = refl
 
-  -- what is collected of a component that ends, and of the one that it stands in
-  closed-in : (l : Placed) (f : Bundle) {g : Bundle} {gs : List Bundle} → name_of (property_name l.content) ≡ name.End →
-      lines_in f.begin.number whole ≡ f.lines ++ l ∷ [] → IsKept f (g ∷ gs) →
-      builder_at (parts whole (g.lines ++ f.begin ∷ [])) (g.lines ++ f.begin ∷ []) (context_of (opens (g ∷ gs)))
-      ≡ joined (builder_at (parts whole g.lines) g.lines (context_of (opens (g ∷ gs))))
-      (builder_at (parts whole f.lines) f.lines (context_of (opens (f ∷ g ∷ gs))))
-  closed-in l f {g = g} {gs = gs} n w kept =
-      let outer : Context = context_of (opens (g ∷ gs)) in
-      let same : own whole f.begin ≡ observance_ended (observance_of f.lines) =
-      ap (λ ls. observance_ended (observance_of ls)) w ∙ ap observance_ended (observance-end f.lines l n) in
-      builder-begun whole g.lines outer f.begin f.lines (begin-named f.begin kept.begins) kept.begins same
-      ∙ ap (λ (path : List Open). joined (builder_at (parts whole g.lines) g.lines outer)
-      (builder_at (parts whole f.lines) f.lines (context_of (record { name = component f.begin; begun = f.begin.number } ∷ path)))) kept.stands
-
   closed-over : (l : Placed) (bundles : List Bundle) → Keeps before [] bundles → name_of (property_name l.content) ≡ name.End →
       path_behind l ≡ drop 1 (opens bundles) → Closes whole before l bundles → frames_of whole (close bundles) ≡ closed (frames_of whole bundles)
   closed-over l [] k n moved w = refl
   closed-over l (f ∷ []) k n moved w = refl
   closed-over l (f ∷ g ∷ gs) k n moved w =
+      let outer : Context = context_of (opens (g ∷ gs)) in
+      let same : own whole f.begin ≡ observance_ended (observance_of f.lines) =
+      ap (λ ls. observance_ended (observance_of ls)) (w moved ∙ ap (λ ls. ls ++ l ∷ []) (k.0 ∙ append-nil f.lines))
+      ∙ ap observance_ended (observance-end f.lines l n) in
       ap (λ s. record (frame_of whole (opens (g ∷ gs)) g.lines) { builder = s } ∷ frames_of whole gs)
-      (closed-in l f n (w moved ∙ ap (λ ls. ls ++ l ∷ []) (k.0 ∙ append-nil f.lines)) k.1)
+      (builder-begun whole g.lines outer f.begin f.lines (begin-named f.begin k.1.begins) k.1.begins same
+      ∙ ap (λ (path : List Open). joined (builder_at (parts whole g.lines) g.lines outer)
+      (builder_at (parts whole f.lines) f.lines (context_of (open_of f ∷ path)))) k.1.stands)
 
   -- a line keeps the frames
   pub frames-behind : (line : Line) (v : Parts) (bundles : List Bundle) → Keeps before [] bundles →
       Closes whole before (with line (opens bundles) (Some v)) bundles →
-      frames_of whole (bundles_behind (with line (opens bundles) (Some v)) bundles) ≡ behind line.number (name_of (map upper v.name)) v (frames_of whole bundles)
+      frames_of whole (bundles_behind (with line (opens bundles) (Some v)) bundles)
+      ≡ behind line.number (name_of (map upper v.name)) v (frames_of whole bundles)
   frames-behind line v bundles k w = by_name (name_of u) refl (marks u (name_of u) (tells u))
     where
       l : Placed

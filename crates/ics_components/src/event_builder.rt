@@ -1,15 +1,14 @@
 //! An event that is being built of its lines.
 ghost use Rattle.std.specs.Prelude.{◌≡◌, [], Option, None, Some, is_some};
 ghost use Rattle.std.specs.Option.{option_or};
-ghost use Rattle.ics_values.specs.Integers.{integer_of};
 ghost use Rattle.ics_values.specs.Plain.{text_of};
-ghost use Rattle.ics_components.specs.declared.fault.FaultKind.TheVariants.{Repeated, NumberTooLarge};
+ghost use Rattle.ics_components.specs.declared.fault.FaultKind.TheVariants.{Repeated};
 ghost use Rattle.ics_components.specs.Builders.{collected_of, event_ended};
 ghost use Rattle.ics_components.specs.Lines.{Gives, Notes, fault_if, stamp_fault_of, event_fault, event_note, event_check};
 ghost use Rattle.ics_components.specs.Lines.{Keeps, value_fault, value_note, end_of_event, passed};
 ghost use Rattle.ics_components.specs.declared.gathered.Ended.TheVariants.{Event};
 ghost use Rattle.ics_components.specs.SecondRound.{used_zone, ends_in};
-ghost use Rattle.ics_components.specs.Values.{dated_of, is_large_integer, ok_or_zero, stamp_read};
+ghost use Rattle.ics_components.specs.Values.{dated_of, stamp_read};
 
 use crate::date_list::DateLists;
 use crate::date_values::Listing;
@@ -84,17 +83,6 @@ fn keep_first(kept: &mut Option<Text>, alloc: Global, value: &[u8]) -> Result<()
     Ok(())
 }
 
-/// What a SEQUENCE says. One that is no number counts as 0.
-fn sequence(text: &[u8]) -> Result<u32, Refused>
-    ensures { Gives result (fault_if NumberTooLarge (is_large_integer (integer_of text.now))) (ok_or_zero (integer_of text.now)) }
-{
-    match read_integer(text) {
-        Ok(number) => Ok(number),
-        Err(IntegerFault::NotDigits) => Ok(0),
-        Err(IntegerFault::NumberTooLarge) => Err(Refused::Fault(FaultKind::NumberTooLarge)),
-    }
-}
-
 impl EventBuilder {
     /// What an event has that has only begun.
     pub fn nothing(alloc: Global) -> EventBuilder
@@ -130,7 +118,12 @@ impl EventBuilder {
             Name::Uid => once(&mut self.uid, Text::of_value(alloc, value)?, again),
             Name::Duration => once(&mut self.duration, lasting(value)?, again),
             Name::Rrule => once(&mut self.rule, RuleValue::read(alloc, value)?, again),
-            Name::Sequence => once(&mut self.sequence, sequence(value)?, again),
+            // one that is no number counts as 0
+            Name::Sequence => match read_integer(value) {
+                Ok(number) => once(&mut self.sequence, number, again),
+                Err(IntegerFault::NotDigits) => once(&mut self.sequence, 0, again),
+                Err(IntegerFault::NumberTooLarge) => Err(Refused::Fault(FaultKind::NumberTooLarge)),
+            },
             Name::Exrule => Err(Refused::Fault(FaultKind::Exrule)),
             Name::Summary => keep_first(&mut self.title, alloc, value),
             Name::Location => keep_first(&mut self.location, alloc, value),
