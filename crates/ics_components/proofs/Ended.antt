@@ -8,13 +8,11 @@ use Rattle.ics_text.specs.Unfolded.{Line}
 use Rattle.ics_text.specs.ContentLines.{Parts}
 use Rattle.ics_components.specs.declared.name.Name.{Name}
 use Rattle.ics_components.specs.declared.name.Name.TheVariants as name
-use Rattle.ics_components.specs.declared.gathered.Ended.{Ended}
-use Rattle.ics_components.specs.declared.gathered.Ended.TheVariants as ended
 use Rattle.ics_components.specs.declared.gathered.EndedEvent.{EndedEvent}
 use Rattle.ics_components.specs.declared.gathered.EndedZone.{EndedZone}
 use Rattle.ics_components.specs.Components.{is_event_context, is_zone_context}
 use Rattle.ics_components.specs.Names.{name_of}
-use Rattle.ics_components.specs.PlacedLines.{Placed, Open, context_of, calendar_of, is_end, is_closing, begins_event}
+use Rattle.ics_components.specs.PlacedLines.{Placed, Open, calendar_of, is_end, is_closing, begins_event}
 use Rattle.ics_components.specs.Observances.{begins_zone}
 use Rattle.ics_components.specs.Builders.{event_ended, zone_ended}
 use Rattle.ics_components.specs.Gathered.{zones_of_end, events_of_end}

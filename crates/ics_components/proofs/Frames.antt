@@ -5,18 +5,16 @@ use Rattle.std.proofs.lemmas.List.{append-nil}
 use Rattle.ics_text.specs.Bytes.{upper}
 use Rattle.ics_text.specs.Unfolded.{Line}
 use Rattle.ics_text.specs.ContentLines.{Parts}
-use Rattle.ics_components.specs.declared.component.Component.{Component}
 use Rattle.ics_components.specs.declared.component.Context.{Context}
-use Rattle.ics_components.specs.declared.component.Context.TheVariants as context
 use Rattle.ics_components.specs.declared.frame.Frame.{Frame}
 use Rattle.ics_components.specs.declared.name.Name.{Name}
 use Rattle.ics_components.specs.declared.name.Name.TheVariants as name
 use Rattle.ics_components.specs.Components.{component_of}
 use Rattle.ics_components.specs.Names.{name_of}
-use Rattle.ics_components.specs.PlacedLines.{Placed, Open, context_of, property_name, is_begin, is_end, component, path_behind, calendar_of, lines_in}
+use Rattle.ics_components.specs.PlacedLines.{Placed, Open, context_of, property_name, is_begin, is_end, component, path_behind, lines_in}
 use Rattle.ics_components.specs.Builders.{observance_ended}
 use Rattle.ics_components.specs.Pass.{bottom}
-use Rattle.ics_components.specs.Lines.{opened, observance_note, joined, closed, noted, behind, fault_in, fault_on, end_in, check_in, passed, passing}
+use Rattle.ics_components.specs.Lines.{opened, observance_note, joined, closed, noted, behind, fault_in, fault_on, passing}
 use Rattle.ics_components.proofs.NameLemmas.{tells, equal}
 use Rattle.ics_components.proofs.BuilderLemmas.{parts_at, observance_of-more, builder-more, builder-begun}
 use Rattle.ics_components.proofs.Table.{builder_at, own, parts, frame_of, marks, is_begin_name, is_end_name, observance_of}

@@ -1,6 +1,6 @@
 -- One pass with the components that are open finds the first fault of round one, and gathers what the lines say.
 use Rattle.std.proofs.Common.{◌≡◌, ℕ, ◌+◌, ◌<◌, List, [], ◌∷◌, ◌++◌, map, refl, subst, sym, ap, ◌∙◌, append_assoc, arith, cond, Option, Some, None, ◌^◌}
-use Rattle.std.specs.Prelude.{find, length}
+use Rattle.std.specs.Prelude.{find}
 use Rattle.std.proofs.lemmas.List.{append-nil}
 use Rattle.std.proofs.lemmas.List.Elements.{All-nil, All-push, All-weaker}
 use Rattle.ics_text.specs.Bytes.{upper}
@@ -9,27 +9,26 @@ use Rattle.ics_text.specs.ContentLines.{Parts, content_of}
 use Rattle.ics_components.specs.declared.fault.FaultKind.{FaultKind}
 use Rattle.ics_components.specs.declared.fault.FaultKind.TheVariants.{BadNesting}
 use Rattle.ics_components.specs.declared.frame.Frame.{Frame}
-use Rattle.ics_components.specs.declared.gathered.Ended.{Ended}
 use Rattle.ics_components.specs.declared.gathered.EndedEvent.{EndedEvent}
 use Rattle.ics_components.specs.declared.gathered.EndedZone.{EndedZone}
 use Rattle.ics_components.specs.declared.gathered.LineCheck.{LineCheck}
 use Rattle.ics_components.specs.declared.gathered.Passed.{Passed}
 use Rattle.ics_components.specs.declared.deferred_check.DeferredCheck.{DeferredCheck}
 use Rattle.ics_components.specs.declared.name.Name.{Name}
-use Rattle.ics_components.specs.PlacedLines.{Placed, Open, path_behind, placed_from, innermost, lines_in, beside}
+use Rattle.ics_components.specs.PlacedLines.{Placed, path_behind, placed_from, innermost, lines_in, beside}
 use Rattle.ics_components.specs.Components.{is_zone_context}
 use Rattle.ics_components.specs.Faults.{stands, kinds}
 use Rattle.ics_components.specs.FirstFault.{found, first_from, first_fault, fault_at_end, end_fault, no_open}
 use Rattle.ics_components.specs.GatheredSeen.{GatheredSeen}
-use Rattle.ics_components.specs.Gathered.{nothing_gathered, zones_of_end, events_of_end, checks_of, and_passed}
-use Rattle.ics_components.specs.Lines.{unless as fine, fault_in, fault_on, end_in, check_in, behind, passed, passing}
+use Rattle.ics_components.specs.Gathered.{nothing_gathered, checks_of, and_passed}
+use Rattle.ics_components.specs.Lines.{unless as fine, end_in, check_in, behind, passed}
 use Rattle.ics_components.specs.Names.{name_of}
 use Rattle.ics_components.specs.Pass.{bottom, is_lowest, at_end, unless, on_line, on_content, pass, NumbersFit}
 use Rattle.ics_components.proofs.Table.{parts, any-part, frame_of, IsAsked, least-same}
 use Rattle.ics_components.proofs.Bundles.{Bundle, Keeps, Together, Before, falls, open_of, opens, opens-behind, top_beside, together, together-in, zone-lines}
 use Rattle.ics_components.proofs.Bundles.{bundles_behind, keeps}
 use Rattle.ics_components.proofs.Frames.{frames_of, with, Closes, frames-behind, fault-top, passing-top}
-use Rattle.ics_components.proofs.Order.{last-more, Falls, falls-behind, lines_in-whole, Sort, ended_as, ended_from, nested}
+use Rattle.ics_components.proofs.Order.{last-more, Falls, falls-behind, lines_in-whole, ended_from, nested}
 use Rattle.ics_components.proofs.Ended.{events, zones, picked-same, IsMatched}
 
 -- WHERE THE LINES END.

@@ -1,7 +1,7 @@
 -- The table of faults and the pass find one fault on a line.
 use Rattle.std.proofs.lemmas.Bool.Decides.{nat_tests}
 use Rattle.std.proofs.Common.{rules, ◌≡◌, ℕ, Bool, true, false, List, [], ◌∷◌, map, refl, ap, ◌∙◌, arith, cond, Option, Some, None, Result}
-use Rattle.std.specs.Prelude.{codes, length, find, filter, flat_map, not, nat_le, ◌==◌, ◌&&◌, ◌||◌, is_some, option_map}
+use Rattle.std.specs.Prelude.{codes, length, find, filter, not, nat_le, ◌==◌, ◌&&◌, ◌||◌, is_some, option_map}
 use Rattle.std.specs.List.{list_any}
 use Rattle.std.specs.Option.{option_or}
 use Rattle.std.specs.Str.{bytes_eq}
@@ -9,19 +9,14 @@ use Rattle.std.proofs.Math.Bool.{and-true, and-false, and_assoc, or_comm}
 use Rattle.ics_text.specs.Bytes.{upper}
 use Rattle.ics_text.specs.ContentLines.{Parts}
 use Rattle.ics_values.specs.Rules.{rule_of}
-use Rattle.ics_values.specs.Integers.{integer_of}
 use Rattle.ics_fields.specs.Observances.{ObservanceSaid}
 use Rattle.ics_fields.specs.RuleParts.{RuleParts}
 use Rattle.ics_values.specs.declared.rule_text.RuleFault.{RuleFault}
-use Rattle.ics_components.specs.declared.builder.Builder.{Builder}
 use Rattle.ics_components.specs.declared.builder.Builder.TheVariants as builder
-use Rattle.ics_components.specs.declared.builder.ObservanceBuilder.{ObservanceBuilder}
-use Rattle.ics_components.specs.declared.builder.ZoneBuilder.{ZoneBuilder}
 use Rattle.ics_components.specs.declared.component.Component.{Component}
 use Rattle.ics_components.specs.declared.component.Component.TheVariants as component
 use Rattle.ics_components.specs.declared.component.Context.{Context}
 use Rattle.ics_components.specs.declared.component.Context.TheVariants as context
-use Rattle.ics_components.specs.declared.event_builder.EventBuilder.{EventBuilder}
 use Rattle.ics_components.specs.declared.fault.FaultKind.{FaultKind}
 use Rattle.ics_components.specs.declared.fault.FaultKind.TheVariants.{BadRule, NumberTooLarge, NotCalendar, TooDeep, ObservanceField, OldVersion}
 use Rattle.ics_components.specs.declared.frame.Frame.{Frame}
@@ -29,13 +24,12 @@ use Rattle.ics_components.specs.declared.name.Name.{Name}
 use Rattle.ics_components.specs.declared.name.Name.TheVariants as name
 use Rattle.ics_components.specs.Components.{component_of, component_name, is_outside_context, is_event_context, is_zone_context, is_observance_context}
 use Rattle.ics_components.specs.Names.{name_of}
-use Rattle.ics_components.specs.PlacedLines.{Placed, Open, context_of, closes, begins_observance, calendar_of, lines_in, has, first_named, value}
-use Rattle.ics_components.specs.PlacedLines.{all_named}
-use Rattle.ics_components.specs.Values.{is_bad_rule, is_large_rule, is_fine_rule, ok_or_zero, is_cancelled}
-use Rattle.ics_components.specs.Faults.{stands, kinds, first_text, first_dated, duration_on, parts_on, rdates_on, exdates_on}
+use Rattle.ics_components.specs.PlacedLines.{Placed, Open, context_of, closes, begins_observance, calendar_of, lines_in, has, first_named}
+use Rattle.ics_components.specs.Values.{is_bad_rule, is_large_rule, is_fine_rule}
+use Rattle.ics_components.specs.Faults.{stands, kinds}
 pub use Rattle.ics_components.specs.Builders.{collected_of, zone_of, observance_of, builder_at}
 use Rattle.ics_components.specs.Lines.{fault_if, rule_fault_of, outside_fault, builder_fault, fault_in}
-use Rattle.ics_components.specs.Observances.{observance_by, begins_in_zone, onset_on, offset_on, daily_on, onsets_by}
+use Rattle.ics_components.specs.Observances.{observance_by, begins_in_zone}
 use Rattle.ics_components.proofs.DateValueLemmas.{first-cond}
 use Rattle.ics_components.proofs.NameLemmas.{Tells, tells, TellsComponent, tells_component, component_name-of, context-in-outside}
 
