@@ -24,29 +24,11 @@ use Rattle.ics_components.specs.Observances.{begins_in_zone}
 use Rattle.ics_components.proofs.Table.{builder_at, own, parts, collected_of, zone_of, observance_of}
 use Rattle.ics_components.proofs.Order.{inside}
 
--- what is made of all lines of a name, with one line more
-all-more : {Y : Type 0} (made : List Placed → Y) (and_one : Y → Y) (n : List ℕ) (ls : List Placed) (l : Placed) →
-    ((ks : List Placed) → made (ks ++ l ∷ []) ≡ and_one (made ks)) →
-    made (all_named n (ls ++ l ∷ [])) ≡ cond (is_named n l) (and_one (made (all_named n ls))) (made (all_named n ls))
-all-more made and_one n ls l more = ap made (filter-append (is_named n) ls (l ∷ [])) ∙ by_test (is_named n l)
-  where
-    by_test : (t : Bool) → made (all_named n ls ++ cond t (l ∷ []) []) ≡ cond t (and_one (made (all_named n ls))) (made (all_named n ls))
-    by_test t = let one = more (all_named n ls) in grind (arith, append-nil, one)
-
--- what they say, what is kept of the first, and what they list
-named-more : {X : Type 0} (f : Placed → X) (n : List ℕ) (ls : List Placed) (l : Placed) →
-    map f (all_named n (ls ++ l ∷ [])) ≡ cond (is_named n l) (map f (all_named n ls) ++ f l ∷ []) (map f (all_named n ls))
-named-more f n ls l = all-more (map f) (λ xs. xs ++ f l ∷ []) n ls l (λ ks. map-append f ks (l ∷ []))
-
-kept-more : {X : Type 0} (f : Placed → X) (n : List ℕ) (ls : List Placed) (l : Placed) →
-    option_map f (first_named n (ls ++ l ∷ []))
-    ≡ cond (is_named n l) (option_or (option_map f (first_named n ls)) (Some (f l))) (option_map f (first_named n ls))
-kept-more f n ls l = all-more (λ ks. option_map f (first_of ks)) (λ o. option_or o (Some (f l))) n ls l (elim [ [] ↦ refl | k ∷ ks ↦ refl ])
-
-listed-more : {X : Type 0} (f : Placed → List X) (n : List ℕ) (ls : List Placed) (l : Placed) →
-    flat_map f (all_named n (ls ++ l ∷ [])) ≡ cond (is_named n l) (flat_map f (all_named n ls) ++ f l) (flat_map f (all_named n ls))
-listed-more f n ls l =
-    all-more (flat_map f) (λ xs. xs ++ f l) n ls l (λ ks. flat_map-append f ks (l ∷ []) ∙ ap (λ xs. flat_map f ks ++ xs) (append-nil (f l)))
+-- what is kept of the first of some lines, with one line more
+kept-more : {X : Type 0} (f : Placed → X) (ls : List Placed) (l : Placed) →
+    option_map f (first_of (ls ++ l ∷ [])) ≡ option_or (option_map f (first_of ls)) (Some (f l))
+kept-more f [] l = refl
+kept-more f (k ∷ ks) l = refl
 
 abbrev pub raw_name : Option Parts → List ℕ
 raw_name None = []
@@ -62,24 +44,24 @@ pub collected_of-more : (ls : List Placed) (l : Placed) →
 collected_of-more ls l = by_name (name_of (property_name l.content)) (tells (property_name l.content))
   where
     by_name : (n : Name) → Tells (property_name l.content) n → collected_of (ls ++ l ∷ []) ≡ event_note n (parts_at l) (collected_of ls)
-    by_name name.Other e = simp (kept-more, named-more, e)
-    by_name _ e = simp (kept-more, named-more, e)
+    by_name name.Other e = simp (filter-append, map-append, append-nil, kept-more, e)
+    by_name _ e = simp (filter-append, map-append, append-nil, kept-more, e)
 
 pub zone_of-more : (os : List ObservanceSaid) (ls : List Placed) (l : Placed) →
     zone_of os (ls ++ l ∷ []) ≡ zone_note (name_of (property_name l.content)) (parts_at l) (zone_of os ls)
 zone_of-more os ls l = by_name (name_of (property_name l.content)) (tells (property_name l.content))
   where
     by_name : (n : Name) → Tells (property_name l.content) n → zone_of os (ls ++ l ∷ []) ≡ zone_note n (parts_at l) (zone_of os ls)
-    by_name name.Other e = simp (kept-more, e)
-    by_name _ e = simp (kept-more, e)
+    by_name name.Other e = simp (filter-append, append-nil, kept-more, e)
+    by_name _ e = simp (filter-append, append-nil, kept-more, e)
 
 pub observance_of-more : (ls : List Placed) (l : Placed) →
     observance_of (ls ++ l ∷ []) ≡ observance_note (name_of (property_name l.content)) (parts_at l) (observance_of ls)
 observance_of-more ls l = by_name (name_of (property_name l.content)) (tells (property_name l.content))
   where
     by_name : (n : Name) → Tells (property_name l.content) n → observance_of (ls ++ l ∷ []) ≡ observance_note n (parts_at l) (observance_of ls)
-    by_name name.Other e = simp (kept-more, listed-more, e)
-    by_name _ e = simp (kept-more, listed-more, e)
+    by_name name.Other e = simp (filter-append, flat_map-append, append-nil, kept-more, e)
+    by_name _ e = simp (filter-append, flat_map-append, append-nil, kept-more, e)
 
 -- THE OBSERVANCES of a time zone, with one line more.
 parts-more : (whole ls : List Placed) (l : Placed) → parts whole (ls ++ l ∷ []) ≡ parts whole ls ++ cond (begins_in_zone l) (own whole l ∷ []) []
