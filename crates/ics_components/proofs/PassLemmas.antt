@@ -65,10 +65,6 @@ gathered_from whole had before lines =
 gathered-none : (whole : List Placed) (had : GatheredSeen) (before : List Placed) → had ≡ gathered_from whole had before []
 gathered-none whole had before = simp append-nil
 
--- what is added by a line, and then by those behind it
-further : {X : Type 0} (had here more rest : List X) → more ≡ here → (had ++ more) ++ rest ≡ had ++ (here ++ rest)
-further had here more rest e = ap (λ m. (had ++ m) ++ rest) e ∙ append_assoc had here rest
-
 -- THE PASS.
 -- Where the pass is: on a line behind those before it, with a bundle of lines for each component that is open.
 record IsOn (whole before : List Placed) (bundles : List Bundle) (l : Placed) (lines : List Line) : Type 0 where
@@ -144,11 +140,7 @@ module _ (line : Line) {lines : List Line} (again : Known lines) (v : Parts) {wh
 
   -- a line adds what ends there as its component says, and what is checked there in the second round
   gathered-step : IsMatched l → gathered_from whole now (before ++ l ∷ []) rest ≡ gathered_from whole had before (l ∷ rest)
-  gathered-step m =
-      let same = picked-same whole line v (beside before l) (opens bundles) m in
-      let es = further had.events _ _ (ended_from events (before ++ l ∷ []) rest) same.0 in
-      let zs = further had.zones _ _ (ended_from (zones whole) (before ++ l ∷ []) rest) same.1 in
-      let cs = append_assoc had.checks (checks_of line.number (check_in n v f)) (checks_from whole (before ++ l ∷ []) rest) in cc
+  gathered-step m = let same = picked-same whole line v (beside before l) (opens bundles) m in simp (append_assoc, same.0, same.1)
 
   asked : IsAsked whole (opens bundles) (beside before l)
   asked z =
