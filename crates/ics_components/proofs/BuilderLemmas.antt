@@ -1,6 +1,6 @@
 -- A line changes what is collected of a component as the pass notes it.
 use Rattle.std.proofs.Common.{◌≡◌, ℕ, Bool, true, false, List, [], ◌∷◌, ◌++◌, map, refl, ap, ◌∙◌, cond, Option, Some, None, sym, arith}
-use Rattle.std.specs.Prelude.{option_map, flat_map}
+use Rattle.std.specs.Prelude.{option_map}
 use Rattle.std.specs.Option.{option_or}
 use Rattle.std.proofs.lemmas.List.{append-nil, map-append}
 use Rattle.std.proofs.lemmas.List.Elements.{filter-append}
@@ -8,7 +8,7 @@ use Rattle.ics_text.specs.ContentLines.{Parts}
 use Rattle.ics_components.specs.declared.name.Name.{Name}
 use Rattle.ics_components.specs.declared.name.Name.TheVariants as name
 use Rattle.ics_components.specs.Names.{name_of}
-use Rattle.ics_components.specs.PlacedLines.{Placed, property_name, value_of, params_of, is_named, first_named, first_of, all_named, context_of}
+use Rattle.ics_components.specs.PlacedLines.{Placed, property_name, value_of, params_of, first_of, context_of}
 use Rattle.ics_components.specs.PlacedLines.{in_zone, is_begin, component}
 use Rattle.ics_components.specs.Lines.{event_note, zone_note, observance_note, builder_note, joined}
 use Rattle.ics_components.proofs.NameLemmas.{Tells, tells, context-tests}

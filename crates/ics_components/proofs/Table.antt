@@ -1,7 +1,7 @@
 -- The table of faults and the pass find one fault on a line.
 use Rattle.std.proofs.lemmas.Bool.Decides.{nat_tests}
 use Rattle.std.proofs.Common.{rules, ◌≡◌, ℕ, Bool, true, false, List, [], ◌∷◌, map, refl, ap, ◌∙◌, arith, cond, Option, Some, None, Result}
-use Rattle.std.specs.Prelude.{codes, length, find, filter, not, nat_le, ◌==◌, ◌&&◌, ◌||◌, is_some, option_map}
+use Rattle.std.specs.Prelude.{codes, length, find, filter, not, nat_le, ◌==◌, ◌||◌, is_some, option_map}
 use Rattle.std.specs.List.{list_any}
 use Rattle.std.specs.Option.{option_or}
 use Rattle.std.specs.Str.{bytes_eq}
@@ -12,23 +12,22 @@ use Rattle.ics_values.specs.Rules.{rule_of}
 use Rattle.ics_fields.specs.Observances.{ObservanceSaid}
 use Rattle.ics_fields.specs.RuleParts.{RuleParts}
 use Rattle.ics_values.specs.declared.rule_text.RuleFault.{RuleFault}
-use Rattle.ics_components.specs.declared.builder.Builder.TheVariants as builder
 use Rattle.ics_components.specs.declared.component.Component.{Component}
 use Rattle.ics_components.specs.declared.component.Component.TheVariants as component
 use Rattle.ics_components.specs.declared.component.Context.{Context}
 use Rattle.ics_components.specs.declared.component.Context.TheVariants as context
 use Rattle.ics_components.specs.declared.fault.FaultKind.{FaultKind}
-use Rattle.ics_components.specs.declared.fault.FaultKind.TheVariants.{BadRule, NumberTooLarge, NotCalendar, TooDeep, ObservanceField, OldVersion}
+use Rattle.ics_components.specs.declared.fault.FaultKind.TheVariants.{BadRule, NumberTooLarge, NotCalendar, TooDeep}
 use Rattle.ics_components.specs.declared.frame.Frame.{Frame}
 use Rattle.ics_components.specs.declared.name.Name.{Name}
 use Rattle.ics_components.specs.declared.name.Name.TheVariants as name
-use Rattle.ics_components.specs.Components.{component_of, component_name, is_outside_context, is_event_context, is_zone_context, is_observance_context}
+use Rattle.ics_components.specs.Components.{component_of, component_name, is_outside_context, is_zone_context}
 use Rattle.ics_components.specs.Names.{name_of}
 use Rattle.ics_components.specs.PlacedLines.{Placed, Open, context_of, closes, begins_observance, calendar_of, lines_in, has, first_named}
 use Rattle.ics_components.specs.Values.{is_bad_rule, is_large_rule, is_fine_rule}
 use Rattle.ics_components.specs.Faults.{stands, kinds}
 pub use Rattle.ics_components.specs.Builders.{collected_of, zone_of, observance_of, builder_at}
-use Rattle.ics_components.specs.Lines.{fault_if, rule_fault_of, outside_fault, builder_fault, fault_in}
+use Rattle.ics_components.specs.Lines.{fault_if, rule_fault_of, outside_fault, fault_in}
 use Rattle.ics_components.specs.Observances.{observance_by, begins_in_zone}
 use Rattle.ics_components.proofs.DateValueLemmas.{first-cond}
 use Rattle.ics_components.proofs.NameLemmas.{Tells, tells, TellsComponent, tells_component, component_name-of, context-in-outside}
@@ -96,22 +95,6 @@ pub marks : (u : List ℕ) (n : Name) → Tells u n → (bytes_eq u (codes "BEGI
 marks u name.Other e = (e (codes "BEGIN") refl, e (codes "END") refl)
 marks u _ e = rw e (refl, refl)
 
--- a line that begins and ends none
-inner-fault : (n : Name) (v : Parts) (f : Frame) (depth : ℕ) → (is_begin_name n ≡ false) × (is_end_name n ≡ false) →
-    builder_fault f.context n v f.builder ≡ fault_in n v f depth
-inner-fault n v f depth k = grind arith
-
-version-row : (u : List ℕ) (v : Parts) (n : Name) → Tells u n →
-    fault_if OldVersion (bytes_eq u (codes "VERSION") && bytes_eq v.value (codes "1.0")) ≡ builder_fault context.Calendar n v builder.Nothing
-version-row u v name.Other e = rw (e (codes "VERSION") refl)
-version-row u v _ e = rw e
-
-tzid-row : (u : List ℕ) (v : Parts) (os : List ObservanceSaid) (ls : List Placed) (n : Name) → Tells u n →
-    fault_if ObservanceField ((bytes_eq u (codes "TZID") || false) && has u ls) ≡ builder_fault context.Zone n v (builder.Zone (zone_of os ls))
-tzid-row u v os ls name.Other e = rw (e (codes "TZID") refl)
-tzid-row u v os ls name.Tzid e = rw e (simp has-first)
-tzid-row u v os ls _ e = rw e
-
 -- no component is open exactly outside all of them
 none-open : (path : List Open) → (length path == 0) ≡ is_outside_context (context_of path)
 none-open [] = refl
@@ -145,23 +128,6 @@ module _ (whole : List Placed) (path : List Open) (number : ℕ) (v : Parts) (ls
   ended _ true c m s = rw (none-open path, c, m, s refl) (first_of (simp by_tests, search rules))
   ended _ false c m s = rw (none-open path, c, m, s refl)
 
-  -- where no event and no observance is read
-  plain : (n : Name) (q : Context) → Tells (map upper v.name) n → (is_begin_name n ≡ false) × (is_end_name n ≡ false) → context_of path ≡ q →
-      (is_event_context q || is_observance_context q) ≡ false → Same n
-  plain n q e k c o = by_context q c o ((marks (map upper v.name) n e).0 ∙ k.0) ((marks (map upper v.name) n e).1 ∙ k.1)
-    where
-      inner : (q : Context) →
-          builder_fault q n v (builder_at (parts whole ls) ls q) ≡ fault_in n v (frame_at whole path ls q) (length path)
-      inner q = inner-fault n v (frame_at whole path ls q) (length path) k
-
-      by_context : (q : Context) → context_of path ≡ q → (is_event_context q || is_observance_context q) ≡ false →
-          bytes_eq (map upper v.name) (codes "BEGIN") ≡ false → bytes_eq (map upper v.name) (codes "END") ≡ false → Same n
-      by_context context.Event c o b d = cc
-      by_context context.Observance c o b d = cc
-      by_context context.Calendar c o b d = rw (c, b, d) (version-row (map upper v.name) v n e ∙ inner context.Calendar)
-      by_context context.Zone c o b d = rw (c, b, d) (tzid-row (map upper v.name) v (parts whole ls) ls n e ∙ inner context.Zone)
-      by_context q c o b d = rw (c, b, d) (inner q)
-
   same : (n : Name) (q : Context) → Tells (map upper v.name) n → context_of path ≡ q → Same n
   same name.Begin context.Outside e c =
       let w : List ℕ = map upper v.value in
@@ -171,11 +137,12 @@ module _ (whole : List Placed) (path : List Open) (number : ℕ) (v : Parts) (ls
       read _ name.End e refl (ended q (closes path (map upper v.value)) c refl (λ o. closed-by path (map upper v.value) (ap is_outside_context c ∙ o)))
   same name.Rrule context.Observance e c =
       read _ name.Rrule e refl (rw (c, or_comm (has (codes "RRULE") ls) (is_fine_rule (rule_of v.value))) (simp by_tests))
+  same name.Tzid context.Zone e c = read _ name.Tzid e refl (rw c (simp has-first))
   same name.Other context.Event e c = rw c (simp e)
-  same name.Other context.Observance e c = rw c (simp e)
+  same name.Other _ e c = rw c (simp e)
   same n context.Event e c = read _ n e refl (rw c (first_of (simp by_tests, search rules)))
   same n context.Observance e c = read _ n e refl (rw c (first_of (simp by_tests, search rules)))
-  same n q e c = plain n q e (refl, refl) c refl
+  same n _ e c = read _ n e refl (rw c)
 
 pub least-same : (whole : List Placed) (path : List Open) (number : ℕ) (v : Parts) (ls : List Placed) → IsAsked whole path ls →
     find (λ k. stands k ls (record { number = number; content = Some v; path = path })) kinds
