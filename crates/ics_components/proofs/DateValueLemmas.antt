@@ -3,6 +3,7 @@ use Rattle.std.proofs.Common.{◌≡◌, ℕ, ◌+◌, Bool, ◌==◌, ◌&&◌,
 use Rattle.std.proofs.Common.{map, Option, Some, None, Result, Ok, Err, Bor}
 use Rattle.std.specs.Prelude.{nat_lt, is_none, ◌++◌}
 use Rattle.std.specs.List.{list_any, position, position_or_len}
+use Rattle.std.specs.Option.{option_or as first}
 use Rattle.std.specs.Result.{result_err}
 use Rattle.std.proofs.lemmas.Bool.{ne_eqb}
 use Rattle.std.proofs.lemmas.Bool.Decides.{nat_tests}
@@ -17,7 +18,7 @@ use Rattle.ics_components.specs.DateValues.{DateValue, At, date_time_of, period_
 use Rattle.ics_components.specs.DateValues.{has_far_stamp, has_bad_duration, has_large_duration, values_of, local_in, is_not_local}
 use Rattle.ics_components.specs.declared.fault.FaultKind.{FaultKind}
 use Rattle.ics_components.specs.declared.fault.FaultKind.TheVariants.{BadStamp, BadDuration, YearRange, NumberTooLarge, ObservanceField}
-use Rattle.ics_components.specs.Lines.{dates_fault, locals_fault, fault_if, first, unless, lesser, judged}
+use Rattle.ics_components.specs.Lines.{dates_fault, locals_fault, fault_if, unless, lesser, judged}
 use Rattle.ics_components.specs.declared.date_values.Listing.TheVariants.{Rdate}
 use Rattle.ics_components.specs.declared.date_list.ListedDate.{ListedDate}
 

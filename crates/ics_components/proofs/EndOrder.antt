@@ -17,8 +17,7 @@ use Rattle.ics_components.proofs.Order.{open_as, IsSort, Sort, inside, begun}
 use Rattle.ics_components.specs.declared.deferred_check.ZoneName.{ZoneName}
 use Rattle.ics_components.specs.Faults.{first_text}
 use Rattle.ics_components.specs.Observances.{begins_zone, name_by}
-use Rattle.ics_components.proofs.Judged.{is_begin_name}
-use Rattle.ics_components.proofs.Table.{parts, marks, collected_of, zone_of}
+use Rattle.ics_components.proofs.Table.{parts, marks, is_begin_name, collected_of, zone_of}
 use Rattle.ics_components.specs.declared.component.Context.TheVariants as context
 use Rattle.ics_components.specs.declared.name.Name.TheVariants as name
 

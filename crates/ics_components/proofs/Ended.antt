@@ -1,5 +1,5 @@
 -- What ends on the lines, in the order of the lines.
-use Rattle.std.proofs.Common.{◌≡◌, false, ◌&&◌, List, [], ◌∷◌, map, refl, cond, arith}
+use Rattle.std.proofs.Common.{◌≡◌, false, ◌&&◌, List, [], ◌∷◌, map, refl, Some, arith}
 use Rattle.std.specs.Prelude.{codes, not}
 use Rattle.std.specs.Str.{bytes_eq}
 use Rattle.std.proofs.lemmas.Bool.{not-false}
@@ -8,22 +8,19 @@ use Rattle.ics_text.specs.Unfolded.{Line}
 use Rattle.ics_text.specs.ContentLines.{Parts}
 use Rattle.ics_components.specs.declared.name.Name.{Name}
 use Rattle.ics_components.specs.declared.name.Name.TheVariants as name
-use Rattle.ics_components.specs.declared.gathered.Ended.{Ended}
-use Rattle.ics_components.specs.declared.gathered.Ended.TheVariants as ended
 use Rattle.ics_components.specs.declared.gathered.EndedEvent.{EndedEvent}
 use Rattle.ics_components.specs.declared.gathered.EndedZone.{EndedZone}
 use Rattle.ics_components.specs.Components.{is_event_context, is_zone_context}
 use Rattle.ics_components.specs.Names.{name_of}
-use Rattle.ics_components.specs.PlacedLines.{Placed, Open, context_of, calendar_of, is_end, is_closing, begins_event}
+use Rattle.ics_components.specs.PlacedLines.{Placed, Open, calendar_of, is_end, is_closing, begins_event}
 use Rattle.ics_components.specs.Observances.{begins_zone}
 use Rattle.ics_components.specs.Builders.{event_ended, zone_ended}
 use Rattle.ics_components.specs.Gathered.{zones_of_end, events_of_end}
-use Rattle.ics_components.proofs.Judged.{ended_in, ends, is_end_name}
+use Rattle.ics_components.specs.Lines.{end_in}
 use Rattle.ics_components.proofs.NameLemmas.{tells}
-use Rattle.ics_components.proofs.Table.{parts, frame_of, marks, collected_of, zone_of}
-use Rattle.ics_components.proofs.Bundles.{Bundle, open_of, opens, top_lines}
+use Rattle.ics_components.proofs.Table.{parts, frame_of, marks, is_end_name, collected_of, zone_of}
 use Rattle.ics_components.proofs.Order.{Sort, ended_as}
-use Rattle.ics_components.proofs.Frames.{frames_of, with}
+use Rattle.ics_components.proofs.Frames.{with}
 
 -- THE COMPONENTS that are gathered: events and time zones, in a file of all these lines.
 abbrev pub events : Sort EndedEvent
@@ -32,34 +29,22 @@ events = record { stands_at = is_event_context; begins = begins_event; by = λ p
 abbrev pub zones : List Placed → Sort EndedZone
 zones whole = record { stands_at = is_zone_context; begins = begins_zone; by = λ path own. zone_ended (calendar_of path) (zone_of (parts whole own) own) }
 
--- What ends is picked as its sort says.
-pub record Picks {X : Type 0} (whole : List Placed) (s : Sort X) (pick : Ended → List X) : Type 0 where
-  pub nothing : pick ended.Nothing ≡ []
-  pub one : (c : Open) (cs : List Open) (ls : List Placed) →
-      pick (ended_in (frame_of whole (c ∷ cs) ls)) ≡ cond (s.stands_at (context_of (c ∷ cs))) (s.by (c ∷ cs) ls ∷ []) []
-
-pub events-picked : (whole : List Placed) → Picks whole events events_of_end
-events-picked whole = record { nothing = refl; one = λ c cs ls. grind arith }
-
-pub zones-picked : (whole : List Placed) → Picks whole (zones whole) zones_of_end
-zones-picked whole = record { nothing = refl; one = λ c cs ls. grind arith }
-
 -- An END without a fault matches.
 abbrev pub IsMatched : Placed → Type 0
 IsMatched l = (is_end l && not (is_closing l)) ≡ false
 
--- WHAT ENDS on a line.
-module _ {X : Type 0} (whole : List Placed) (s : Sort X) (pick : Ended → List X) (picks : Picks whole s pick) (line : Line) (v : Parts) where
-  pub picked-same : (before : List Placed) (bundles : List Bundle) → IsMatched (with line (opens bundles) v) →
-      pick (ends (name_of (map upper v.name)) (frames_of whole bundles)) ≡ ended_as s (top_lines before bundles) (with line (opens bundles) v)
-  picked-same before bundles m =
-      by_name (name_of (map upper v.name)) bundles (marks (map upper v.name) (name_of (map upper v.name)) (tells (map upper v.name))).1 m
+-- WHAT ENDS on a line, picked as its sort says.
+module _ (whole : List Placed) (line : Line) (v : Parts) (ls : List Placed) where
+  abbrev Picked : Name → List Open → Type 0
+  Picked n path =
+      (events_of_end (end_in n (frame_of whole path ls)) ≡ ended_as events ls (with line path (Some v)))
+      × (zones_of_end (end_in n (frame_of whole path ls)) ≡ ended_as (zones whole) ls (with line path (Some v)))
+
+  pub picked-same : (path : List Open) → IsMatched (with line path (Some v)) → Picked (name_of (map upper v.name)) path
+  picked-same path m = by_name (name_of (map upper v.name)) path (marks (map upper v.name) (name_of (map upper v.name)) (tells (map upper v.name))).1 m
     where
-      by_name : (n : Name) (bundles : List Bundle) → bytes_eq (map upper v.name) (codes "END") ≡ is_end_name n → IsMatched (with line (opens bundles) v) →
-          pick (ends n (frames_of whole bundles)) ≡ ended_as s (top_lines before bundles) (with line (opens bundles) v)
-      by_name name.End [] e m = let never = rw e at m in cc
-      by_name name.End (b ∷ []) e m =
-          let closes = not-false _ (rw e at m) in rw (e, closes) (picks.one (open_of b) [] b.lines)
-      by_name name.End (b ∷ d ∷ ds) e m =
-          let closes = not-false _ (rw e at m) in rw (e, closes) (picks.one (open_of b) (opens (d ∷ ds)) b.lines)
-      by_name _ bundles e m = rw e picks.nothing
+      by_name : (n : Name) (path : List Open) → bytes_eq (map upper v.name) (codes "END") ≡ is_end_name n → IsMatched (with line path (Some v)) →
+          Picked n path
+      by_name name.End [] e m = let never = rw e at m in absurd (cc)
+      by_name name.End (c ∷ cs) e m = let closes = not-false _ (rw e at m) in rw (e, closes) (grind arith, grind arith)
+      by_name _ path e m = rw e (refl, refl)

@@ -1,27 +1,24 @@
 -- The components that are open, as the pass holds them, stand for the path before a line and the lines beside it.
-use Rattle.std.proofs.Common.{arith, ◌≡◌, ℕ, suc, true, false, List, [], ◌∷◌, ◌++◌, drop, map, refl, sym, ap, ◌∙◌, Some}
+use Rattle.std.proofs.Common.{◌≡◌, ℕ, suc, true, false, List, [], ◌∷◌, ◌++◌, drop, map, refl, ap, ◌∙◌, Option, Some}
 use Rattle.std.specs.Prelude.{length, codes}
 use Rattle.std.proofs.lemmas.List.{append-nil}
 use Rattle.ics_text.specs.Bytes.{upper}
 use Rattle.ics_text.specs.Unfolded.{Line}
 use Rattle.ics_text.specs.ContentLines.{Parts}
-use Rattle.ics_components.specs.declared.component.Component.{Component}
 use Rattle.ics_components.specs.declared.component.Context.{Context}
-use Rattle.ics_components.specs.declared.component.Context.TheVariants as context
 use Rattle.ics_components.specs.declared.frame.Frame.{Frame}
 use Rattle.ics_components.specs.declared.name.Name.{Name}
 use Rattle.ics_components.specs.declared.name.Name.TheVariants as name
 use Rattle.ics_components.specs.Components.{component_of}
 use Rattle.ics_components.specs.Names.{name_of}
-use Rattle.ics_components.specs.PlacedLines.{Placed, Open, context_of, property_name, is_begin, is_end, component, path_behind, calendar_of, lines_in}
-use Rattle.ics_components.specs.Builders.{fresh, observance_ended}
+use Rattle.ics_components.specs.PlacedLines.{Placed, Open, context_of, property_name, is_begin, is_end, component, path_behind, lines_in}
+use Rattle.ics_components.specs.Builders.{observance_ended}
 use Rattle.ics_components.specs.Pass.{bottom}
-use Rattle.ics_components.specs.Lines.{opened, observance_note, joined, unless, named_line}
-use Rattle.ics_components.proofs.Judged.{fault_in, check_in, check_on, noted, closed, behind, passing, end-inside, is_begin_name, is_end_name}
-use Rattle.ics_components.proofs.NameLemmas.{tells, equal, context-in-outside}
-use Rattle.ics_components.proofs.BuilderLemmas.{parts_at, observance_of-more, builder-more, builder-begun, still}
-use Rattle.ics_components.proofs.Table.{Readings, builder_at, frame_at, own, readings, frame_of, marks, observance_of}
-use Rattle.ics_components.proofs.Bundles.{Bundle, IsKept, Keeps, opens, top_lines, add_line, close, bundles_behind}
+use Rattle.ics_components.specs.Lines.{opened, observance_note, joined, closed, noted, behind, fault_in, fault_on, passing}
+use Rattle.ics_components.proofs.NameLemmas.{tells, equal}
+use Rattle.ics_components.proofs.BuilderLemmas.{parts_at, observance_of-more, builder-more, builder-begun}
+use Rattle.ics_components.proofs.Table.{builder_at, own, parts, frame_of, marks, is_begin_name, is_end_name, observance_of}
+use Rattle.ics_components.proofs.Bundles.{Bundle, Keeps, open_of, opens, top_lines, add_line, close, bundles_behind}
 
 -- the frames that the bundles of lines stand for, in a file of all these lines
 abbrev pub frames_of : List Placed → List Bundle → List Frame
@@ -31,11 +28,8 @@ frames_of whole (b ∷ bs) = frame_of whole (opens (b ∷ bs)) b.lines ∷ frame
 begin-named : (l : Placed) → is_begin l ≡ true → name_of (property_name l.content) ≡ name.Begin
 begin-named l e = rw (equal (property_name l.content) (codes "BEGIN") e)
 
-abbrev pub top_of : List Placed → List Placed → List Bundle → Frame
-top_of whole before bundles = frame_of whole (opens bundles) (top_lines before bundles)
-
-abbrev pub with : Line → List Open → Parts → Placed
-with line path v = record { number = line.number; content = Some v; path = path }
+abbrev pub with : Line → List Open → Option Parts → Placed
+with line path content = record { number = line.number; content = content; path = path }
 
 -- an END adds nothing to what is collected of an observance
 observance-end : (ls : List Placed) (l : Placed) → name_of (property_name l.content) ≡ name.End → observance_of (ls ++ l ∷ []) ≡ observance_of ls
@@ -53,50 +47,37 @@ module _ (whole before : List Placed) where
   added l [] e = refl
   added l (b ∷ bs) e =
       let path : List Open = opens (b ∷ bs) in
-      ap (λ s. record (frame_of whole path b.lines) { builder = s } ∷ frames_of whole bs) (builder-more whole path b.lines (context_of path) l e)
-
-  fresh-at : (c : Component) (q : Context) (path : List Open) →
-      frame_at c q (readings whole path []) ≡ record { component = c; context = q; calendar = calendar_of path; builder = fresh q }
-  fresh-at c q path = grind arith
+      ap (λ s. record (frame_of whole path b.lines) { builder = s } ∷ frames_of whole bs) (builder-more whole b.lines (context_of path) l e)
 
   begun : (l : Placed) (bundles : List Bundle) →
       frames_of whole (record { begin = l; lines = [] } ∷ bundles) ≡ opened l.number (component_of (component l)) (frames_of whole bundles)
-  begun l (b ∷ []) = ap (λ (f : Frame). f ∷ frames_of whole (b ∷ [])) (fresh-at _ _ (opens (record { begin = l; lines = [] } ∷ b ∷ [])))
-  begun l bundles = ap (λ (f : Frame). f ∷ frames_of whole bundles) (fresh-at _ _ (opens (record { begin = l; lines = [] } ∷ bundles)))
-
-  -- what is collected of a component that ends, and of the one that it stands in
-  closed-in : (l : Placed) (f : Bundle) {g : Bundle} {gs : List Bundle} → name_of (property_name l.content) ≡ name.End →
-      lines_in f.begin.number whole ≡ f.lines ++ l ∷ [] → IsKept f (g ∷ gs) →
-      builder_at (context_of (opens (g ∷ gs))) (readings whole (opens (g ∷ gs)) (g.lines ++ f.begin ∷ []))
-      ≡ joined (builder_at (context_of (opens (f ∷ g ∷ gs))) (readings whole (opens (f ∷ g ∷ gs)) f.lines))
-      (builder_at (context_of (opens (g ∷ gs))) (readings whole (opens (g ∷ gs)) g.lines))
-  closed-in l f {g = g} {gs = gs} n w kept =
-      let outer : List Open = opens (g ∷ gs) in
-      let inner : Readings = readings whole (opens (f ∷ g ∷ gs)) f.lines in
-      let same : own whole f.begin ≡ observance_ended inner.observance =
-      ap (λ ls. observance_ended (observance_of ls)) w ∙ ap observance_ended (observance-end f.lines l n) in
-      builder-begun whole outer g.lines (context_of outer) f.begin inner (begin-named f.begin kept.begins) kept.begins same
-      ∙ ap (λ (path : List Open). joined (builder_at (context_of (record { name = component f.begin; begun = f.begin.number } ∷ path)) inner)
-      (builder_at (context_of outer) (readings whole outer g.lines))) kept.stands
+  begun l [] = refl
+  begun l (b ∷ []) = refl
+  begun l (b ∷ d ∷ ds) = refl
 
   closed-over : (l : Placed) (bundles : List Bundle) → Keeps before [] bundles → name_of (property_name l.content) ≡ name.End →
       path_behind l ≡ drop 1 (opens bundles) → Closes whole before l bundles → frames_of whole (close bundles) ≡ closed (frames_of whole bundles)
   closed-over l [] k n moved w = refl
-  closed-over l (f ∷ []) k n moved w =
-      ap (λ s. record bottom { builder = s } ∷ [])
-      (sym (still (builder_at (context_of (opens (f ∷ []))) (readings whole (opens (f ∷ [])) f.lines)) context.Outside (readings whole [] []) refl))
+  closed-over l (f ∷ []) k n moved w = refl
   closed-over l (f ∷ g ∷ gs) k n moved w =
+      let outer : Context = context_of (opens (g ∷ gs)) in
+      let same : own whole f.begin ≡ observance_ended (observance_of f.lines) =
+      ap (λ ls. observance_ended (observance_of ls)) (w moved ∙ ap (λ ls. ls ++ l ∷ []) (k.0 ∙ append-nil f.lines))
+      ∙ ap observance_ended (observance-end f.lines l n) in
       ap (λ s. record (frame_of whole (opens (g ∷ gs)) g.lines) { builder = s } ∷ frames_of whole gs)
-      (closed-in l f n (w moved ∙ ap (λ ls. ls ++ l ∷ []) (k.0 ∙ append-nil f.lines)) k.1)
+      (builder-begun whole g.lines outer f.begin f.lines (begin-named f.begin k.1.begins) k.1.begins same
+      ∙ ap (λ (path : List Open). joined (builder_at (parts whole g.lines) g.lines outer)
+      (builder_at (parts whole f.lines) f.lines (context_of (open_of f ∷ path)))) k.1.stands)
 
   -- a line keeps the frames
   pub frames-behind : (line : Line) (v : Parts) (bundles : List Bundle) → Keeps before [] bundles →
-      Closes whole before (with line (opens bundles) v) bundles →
-      frames_of whole (bundles_behind (with line (opens bundles) v) bundles) ≡ behind line.number (name_of (map upper v.name)) v (frames_of whole bundles)
+      Closes whole before (with line (opens bundles) (Some v)) bundles →
+      frames_of whole (bundles_behind (with line (opens bundles) (Some v)) bundles)
+      ≡ behind line.number (name_of (map upper v.name)) v (frames_of whole bundles)
   frames-behind line v bundles k w = by_name (name_of u) refl (marks u (name_of u) (tells u))
     where
       l : Placed
-      l = with line (opens bundles) v
+      l = with line (opens bundles) (Some v)
 
       u : List ℕ
       u = map upper v.name
@@ -111,22 +92,13 @@ module _ (whole before : List Placed) where
   length-frames [] = refl
   length-frames (b ∷ bs) = ap suc (length-frames bs)
 
-  -- what a line makes of the frames, whose faults read the innermost alone
-  pub line-top : (number : ℕ) (n : Name) (v : Parts) (bundles : List Bundle) →
-      named_line number n v (frames_of whole bundles)
-      ≡ unless (fault_in n v (top_of whole before bundles) (length (opens bundles)))
-      (behind number n v (frames_of whole bundles), passing n v (frames_of whole bundles))
-  line-top number name.End v [] = refl
-  line-top number name.End v (b ∷ []) =
-      ap (λ o. unless o (behind number name.End v (frames_of whole (b ∷ [])), passing name.End v (frames_of whole (b ∷ []))))
-      (sym (end-inside _ _ _ (context-in-outside context.Outside (component_of (component b.begin)))))
-  line-top number name.End v (b ∷ d ∷ ds) =
-      ap (λ o. unless o (behind number name.End v (frames_of whole (b ∷ d ∷ ds)), passing name.End v (frames_of whole (b ∷ d ∷ ds))))
-      (sym (end-inside _ _ _ (context-in-outside (context_of (opens (d ∷ ds))) (component_of (component b.begin)))))
-  line-top number _ v [] = refl
-  line-top number n v (b ∷ bs) =
-      let f : Frame = frame_of whole (opens (b ∷ bs)) b.lines in
-      ap (λ m. unless (fault_in n v f m) (behind number n v (f ∷ frames_of whole bs), passing n v (f ∷ frames_of whole bs))) (length-frames bs)
+  -- the fault on a line and what is gathered there read the innermost component alone
+  pub fault-top : (n : Name) (v : Parts) (bundles : List Bundle) →
+      fault_on n v (frames_of whole bundles) ≡ fault_in n v (frame_of whole (opens bundles) (top_lines before bundles)) (length (opens bundles))
+  fault-top n v [] = refl
+  fault-top n v (b ∷ bs) = ap (fault_in n v (frame_of whole (opens (b ∷ bs)) b.lines)) (length-frames bs)
 
-  pub check-top : (n : Name) (v : Parts) (bundles : List Bundle) → check_on n v (frames_of whole bundles) ≡ check_in n v (top_of whole before bundles)
-  check-top n v bundles = grind arith
+  pub passing-top : (n : Name) (v : Parts) (bundles : List Bundle) →
+      passing n v (frames_of whole bundles) ≡ passing n v (frame_of whole (opens bundles) (top_lines before bundles) ∷ [])
+  passing-top n v [] = refl
+  passing-top n v (b ∷ bs) = refl

@@ -1,6 +1,5 @@
 pub mod NameLemmas
 pub mod DateValueLemmas
-pub mod Judged
 pub mod Table
 pub mod BuilderLemmas
 pub mod Bundles

@@ -79,24 +79,21 @@ pub tells_component : (u : List ℕ) → TellsComponent u (component_of u)
 tells_component u = told (TellsComponent u) (component.Other u) u components (search rules) (λ none. (none, refl))
 
 pub component_name-of : (u : List ℕ) → component_name (component_of u) ≡ u
-component_name-of u = named (component_of u) (tells_component u)
-  where
-    named : (c : Component) → TellsComponent u c → component_name c ≡ u
-    named c e = grind arith
+component_name-of u = told (λ c. component_name c ≡ u) (component.Other u) u components (search rules) (λ none. refl)
 
 -- no component stands outside all components
 pub context-in-outside : (q : Context) (c : Component) → context_in q c ≢ context.Outside
 context-in-outside q c e = grind arith
 
 -- a component begins where its lines are read exactly by its name
-pub context-tests : (q : Context) (w : List ℕ) →
-    (is_event_context (context_in q (component_of w)) ≡ (is_calendar_context q && bytes_eq w (codes "VEVENT")))
-    × (is_zone_context (context_in q (component_of w)) ≡ (is_calendar_context q && bytes_eq w (codes "VTIMEZONE")))
-    × (is_observance_context (context_in q (component_of w)) ≡ (is_zone_context q && (bytes_eq w (codes "STANDARD") || bytes_eq w (codes "DAYLIGHT"))))
-context-tests q w = by_context q (component_of w) (tells_component w)
+abbrev pub Tested : Context → List ℕ → Component → Type 0
+Tested q w c =
+    (is_event_context (context_in q c) ≡ (is_calendar_context q && bytes_eq w (codes "VEVENT")))
+    × (is_zone_context (context_in q c) ≡ (is_calendar_context q && bytes_eq w (codes "VTIMEZONE")))
+    × (is_observance_context (context_in q c) ≡ (is_zone_context q && (bytes_eq w (codes "STANDARD") || bytes_eq w (codes "DAYLIGHT"))))
+
+pub context-tests : (q : Context) (w : List ℕ) → Tested q w (component_of w)
+context-tests q w = by_component (component_of w) (tells_component w)
   where
-    by_context : (q : Context) (c : Component) → TellsComponent w c →
-        (is_event_context (context_in q c) ≡ (is_calendar_context q && bytes_eq w (codes "VEVENT")))
-        × (is_zone_context (context_in q c) ≡ (is_calendar_context q && bytes_eq w (codes "VTIMEZONE")))
-        × (is_observance_context (context_in q c) ≡ (is_zone_context q && (bytes_eq w (codes "STANDARD") || bytes_eq w (codes "DAYLIGHT"))))
-    by_context q c e = (grind arith, grind arith, grind arith)
+    by_component : (c : Component) → TellsComponent w c → Tested q w c
+    by_component c e = (grind arith, grind arith, grind arith)

@@ -1,6 +1,6 @@
 -- One pass with the components that are open finds the first fault of round one, and gathers what the lines say.
 use Rattle.std.proofs.Common.{◌≡◌, ℕ, ◌+◌, ◌<◌, List, [], ◌∷◌, ◌++◌, map, refl, subst, sym, ap, ◌∙◌, append_assoc, arith, cond, Option, Some, None, ◌^◌}
-use Rattle.std.specs.Prelude.{find, length}
+use Rattle.std.specs.Prelude.{find}
 use Rattle.std.proofs.lemmas.List.{append-nil}
 use Rattle.std.proofs.lemmas.List.Elements.{All-nil, All-push, All-weaker}
 use Rattle.ics_text.specs.Bytes.{upper}
@@ -9,27 +9,26 @@ use Rattle.ics_text.specs.ContentLines.{Parts, content_of}
 use Rattle.ics_components.specs.declared.fault.FaultKind.{FaultKind}
 use Rattle.ics_components.specs.declared.fault.FaultKind.TheVariants.{BadNesting}
 use Rattle.ics_components.specs.declared.frame.Frame.{Frame}
-use Rattle.ics_components.specs.declared.gathered.Ended.{Ended}
 use Rattle.ics_components.specs.declared.gathered.EndedEvent.{EndedEvent}
 use Rattle.ics_components.specs.declared.gathered.EndedZone.{EndedZone}
 use Rattle.ics_components.specs.declared.gathered.LineCheck.{LineCheck}
+use Rattle.ics_components.specs.declared.gathered.Passed.{Passed}
 use Rattle.ics_components.specs.declared.deferred_check.DeferredCheck.{DeferredCheck}
 use Rattle.ics_components.specs.declared.name.Name.{Name}
-use Rattle.ics_components.specs.PlacedLines.{Placed, Open, path_behind, placed_from, innermost, lines_in, beside}
+use Rattle.ics_components.specs.PlacedLines.{Placed, path_behind, placed_from, innermost, lines_in, beside}
 use Rattle.ics_components.specs.Faults.{stands, kinds}
 use Rattle.ics_components.specs.FirstFault.{found, first_from, first_fault, fault_at_end, end_fault, no_open}
 use Rattle.ics_components.specs.GatheredSeen.{GatheredSeen}
-use Rattle.ics_components.specs.Gathered.{nothing_gathered, zones_of_end, events_of_end, checks_of, and_passed}
-use Rattle.ics_components.specs.Lines.{unless as fine}
+use Rattle.ics_components.specs.Gathered.{nothing_gathered, checks_of, and_passed}
+use Rattle.ics_components.specs.Lines.{unless as fine, end_in, check_in, behind, passed}
 use Rattle.ics_components.specs.Names.{name_of}
 use Rattle.ics_components.specs.Pass.{bottom, is_lowest, at_end, unless, on_line, on_content, pass, NumbersFit}
-use Rattle.ics_components.proofs.Judged.{fault_in, check_in, behind, ends, passing}
 use Rattle.ics_components.proofs.Table.{parts, any-part, frame_of, IsAsked, least-same}
 use Rattle.ics_components.proofs.Bundles.{Bundle, Keeps, Before, falls, open_of, opens, opens-behind, top_beside, zone-beside}
 use Rattle.ics_components.proofs.Bundles.{bundles_behind, keeps}
-use Rattle.ics_components.proofs.Frames.{frames_of, top_of, with, Closes, frames-behind, line-top, check-top}
-use Rattle.ics_components.proofs.Order.{last-more, Falls, falls-behind, lines_in-whole, Sort, ended_as, ended_from, nested}
-use Rattle.ics_components.proofs.Ended.{events, zones, Picks, events-picked, zones-picked, picked-same, IsMatched}
+use Rattle.ics_components.proofs.Frames.{frames_of, with, Closes, frames-behind, fault-top, passing-top}
+use Rattle.ics_components.proofs.Order.{last-more, Falls, falls-behind, lines_in-whole, ended_from, nested}
+use Rattle.ics_components.proofs.Ended.{events, zones, picked-same, IsMatched}
 
 -- WHERE THE LINES END.
 lowest-is : (whole : List Placed) (bundles : List Bundle) → is_lowest (frames_of whole bundles) ≡ no_open (opens bundles)
@@ -62,20 +61,10 @@ abbrev pub gathered_from : List Placed → GatheredSeen → List Placed → List
 gathered_from whole had before lines =
     lists (had.zones ++ ended_from (zones whole) before lines) (had.events ++ ended_from events before lines) (had.checks ++ checks_from whole before lines)
 
-pub three : {zs ys : List EndedZone} {es fs : List EndedEvent} {ws vs : List LineCheck} → zs ≡ ys → es ≡ fs → ws ≡ vs → lists zs es ws ≡ lists ys fs vs
-three z e w = rw (z, e, w) refl
-
 gathered-none : (whole : List Placed) (had : GatheredSeen) (before : List Placed) → had ≡ gathered_from whole had before []
 gathered-none whole had before = simp append-nil
 
--- what is added by a line, and then by those behind it
-further : {X : Type 0} (had here more rest : List X) → more ≡ here → (had ++ more) ++ rest ≡ had ++ (here ++ rest)
-further had here more rest e = ap (λ m. (had ++ m) ++ rest) e ∙ append_assoc had here rest
-
 -- THE PASS.
-abbrev pub with_content : Line → List Open → Option Parts → Placed
-with_content line path o = record { number = line.number; content = o; path = path }
-
 -- Where the pass is: on a line behind those before it, with a bundle of lines for each component that is open.
 record IsOn (whole before : List Placed) (bundles : List Bundle) (l : Placed) (lines : List Line) : Type 0 where
   pub parts : whole ≡ before ++ l ∷ placed_from (path_behind l) lines
@@ -88,7 +77,7 @@ record IsOn (whole before : List Placed) (bundles : List Bundle) (l : Placed) (l
 -- the same before the first of some lines
 abbrev IsAt : List Placed → List Placed → List Bundle → List Line → Type 0
 IsAt whole before bundles [] = Unit {0}
-IsAt whole before bundles (line ∷ lines) = IsOn whole before bundles (with_content line (opens bundles) (content_of line.bytes)) lines
+IsAt whole before bundles (line ∷ lines) = IsOn whole before bundles (with line (opens bundles) (content_of line.bytes)) lines
 
 at-next : {whole before : List Placed} {bundles : List Bundle} (l : Placed) (lines : List Line) → IsOn whole before bundles l lines →
     IsAt whole (before ++ l ∷ []) (bundles_behind l bundles) lines
@@ -125,9 +114,9 @@ closes-here whole before l (f ∷ fs) lines on =
 
 -- A line with parts, before lines of which it is known.
 module _ (line : Line) {lines : List Line} (again : Known lines) (v : Parts) {whole before : List Placed} {bundles : List Bundle}
-    (on : IsOn whole before bundles (with line (opens bundles) v) lines) (had : GatheredSeen) where
+    (on : IsOn whole before bundles (with line (opens bundles) (Some v)) lines) (had : GatheredSeen) where
   abbrev l : Placed
-  l = with line (opens bundles) v
+  l = with line (opens bundles) (Some v)
 
   abbrev n : Name
   n = name_of (map upper v.name)
@@ -138,33 +127,26 @@ module _ (line : Line) {lines : List Line} (again : Known lines) (v : Parts) {wh
   abbrev rest : List Placed
   rest = placed_from (path_behind l) lines
 
-  abbrev now : GatheredSeen
-  now = and_passed line.number (passing n v frames) had
+  -- the innermost component
+  abbrev f : Frame
+  f = frame_of whole (opens bundles) (beside before l)
 
-  beside-top : top_of whole before bundles ≡ frame_of whole (opens bundles) (beside before l)
-  beside-top = ap (frame_of whole (opens bundles)) (top_beside before bundles on.kept)
+  abbrev here : Passed
+  here = passed (end_in n f) (check_in n v f)
+
+  abbrev now : GatheredSeen
+  now = and_passed line.number here had
 
   -- a line adds what ends there as its component says, and what is checked there in the second round
-  ends-same : {X : Type 0} (s : Sort X) (pick : Ended → List X) → Picks whole s pick → IsMatched l → pick (ends n frames) ≡ ended_as s (beside before l) l
-  ends-same s pick picks m = picked-same whole s pick picks line v before bundles m ∙ ap (λ ls. ended_as s ls l) (top_beside before bundles on.kept)
-
   gathered-step : IsMatched l → gathered_from whole now (before ++ l ∷ []) rest ≡ gathered_from whole had before (l ∷ rest)
-  gathered-step m =
-      three (further had.zones _ _ (ended_from (zones whole) (before ++ l ∷ []) rest) (ends-same (zones whole) zones_of_end (zones-picked whole) m))
-      (further had.events _ _ (ended_from events (before ++ l ∷ []) rest) (ends-same events events_of_end (events-picked whole) m))
-      (further had.checks _ _ (checks_from whole (before ++ l ∷ []) rest)
-      (ap (checks_of line.number) (check-top whole before n v bundles ∙ ap (check_in n v) beside-top)))
+  gathered-step m = let same = picked-same whole line v (beside before l) (opens bundles) m in simp (append_assoc, same.0, same.1)
 
-  least : fault_in n v (top_of whole before bundles) (length (opens bundles)) ≡ find (λ kind. stands kind (beside before l) l) kinds
-  least =
-      let asked : IsAsked whole (opens bundles) (beside before l) =
-      λ z. zone-beside before bundles on.kept z ∙ any-part whole (beside before l) in
-      ap (λ f. fault_in n v f (length (opens bundles))) beside-top
-      ∙ sym (least-same whole (opens bundles) line.number v (beside before l) asked)
+  asked : IsAsked whole (opens bundles) (beside before l)
+  asked z = zone-beside before bundles on.kept z ∙ any-part whole (beside before l)
 
   -- with its least fault, and where it has none
   by_first : (o : Option FaultKind) → find (λ kind. stands kind (beside before l) l) kinds ≡ o →
-      on_line line.number (fine o (behind line.number n v frames, passing n v frames)) had (λ frames had. pass frames (Some line.number) had lines)
+      on_line line.number (fine o (behind line.number n v frames, here)) had (λ frames had. pass frames (Some line.number) had lines)
       ≡ unless (found line.number o (first_from stands fault_at_end (before ++ l ∷ []) rest)) (gathered_from whole had before (l ∷ rest))
   by_first (Some k) e = refl
   by_first None e =
@@ -176,19 +158,21 @@ module _ (line : Line) {lines : List Line} (again : Known lines) (v : Parts) {wh
       ∙ ap (unless (first_from stands fault_at_end (before ++ l ∷ []) rest)) (gathered-step (nested (λ kind. stands kind (beside before l) l) e))
 
 step : (line : Line) {lines : List Line} → Known lines → (o : Option Parts) {whole before : List Placed} {bundles : List Bundle} →
-    IsOn whole before bundles (with_content line (opens bundles) o) lines → (had : GatheredSeen) →
+    IsOn whole before bundles (with line (opens bundles) o) lines → (had : GatheredSeen) →
     on_content line.number o (frames_of whole bundles) had (λ frames had. pass frames (Some line.number) had lines)
-    ≡ unless (first_from stands fault_at_end before (with_content line (opens bundles) o
-    ∷ placed_from (path_behind (with_content line (opens bundles) o)) lines))
-    (gathered_from whole had before (with_content line (opens bundles) o ∷ placed_from (path_behind (with_content line (opens bundles) o)) lines))
+    ≡ unless (first_from stands fault_at_end before (with line (opens bundles) o
+    ∷ placed_from (path_behind (with line (opens bundles) o)) lines))
+    (gathered_from whole had before (with line (opens bundles) o ∷ placed_from (path_behind (with line (opens bundles) o)) lines))
 step line again None on had = refl
-step line {lines} again (Some v) {whole} {before} {bundles} on had =
-    let l : Placed = with line (opens bundles) v in
+step line again (Some v) {whole} {before} {bundles} on had =
+    let l : Placed = with line (opens bundles) (Some v) in
     let n : Name = name_of (map upper v.name) in
-    let frames : List Frame = frames_of whole bundles in
-    ap (λ r. on_line line.number r had (λ frames had. pass frames (Some line.number) had lines))
-    (line-top whole before line.number n v bundles ∙ ap (λ o. fine o (behind line.number n v frames, passing n v frames)) (least line again v on had))
-    ∙ by_first line again v on had (find (λ kind. stands kind (beside before l) l) kinds) refl
+    rw (
+      passing-top whole before n v bundles,
+      fault-top whole before n v bundles,
+      top_beside before bundles on.kept,
+      ← least-same whole (opens bundles) line.number v (beside before l) (asked line again v on had),
+    ) (by_first line again v on had (find (λ kind. stands kind (beside before l) l) kinds) refl)
 
 -- THE PASS SAYS WHAT THE LINES ARE.
 pass-lines : (lines : List Line) → Known lines

@@ -3,6 +3,7 @@ use Rattle.std.proofs.Common.{◌≡◌, ℕ, Bool, true, false, not, List, [], 
 use Rattle.std.proofs.Common.{◌+◌, ◌*◌, nat_le, ◌&&◌, ◌||◌, Option, Some, None, is_some, IfSome}
 use Rattle.std.specs.Prelude.{filter_map, unwrap_or}
 use Rattle.std.specs.List.{All}
+use Rattle.std.specs.Option.{option_or}
 use Rattle.std.proofs.lemmas.Bool.{cond_both}
 use Rattle.std.proofs.lemmas.Bool.Decides.{nat_tests}
 use Rattle.std.proofs.lemmas.Int.{ints}
@@ -36,7 +37,7 @@ use Rattle.ics_components.specs.Builders.{event_ended, observance_ended}
 use Rattle.ics_components.specs.DateLists.{list_of}
 use Rattle.ics_components.specs.DateValues.{date_time_of, period_of, rdate_of, value_of, values_of, listed_in, local_in}
 use Rattle.ics_components.specs.GivenTimes.{dated_in, given_length}
-use Rattle.ics_components.specs.Lines.{or_first, event_check, event_note, observance_note, end_of_event, end_of_zone}
+use Rattle.ics_components.specs.Lines.{event_check, event_note, observance_note, end_of_event, end_of_zone}
 use Rattle.ics_components.specs.Observances.{locals_of, onset_in, offset_in, daily_in}
 use Rattle.ics_components.specs.SecondRound.{used_zone, used_in, listed_zone, ends_in}
 use Rattle.ics_components.specs.Sound.{IsSoundStamp, IsSoundValue, IsSoundList, IsSoundLength, IsWhole, IsSoundObservance, IsSoundZone, EachZone, end_of}
@@ -132,7 +133,7 @@ locals-sound (listed.At (Floating local) ∷ vs) h =
 locals-sound (v ∷ vs) h = locals-sound vs (All-tail IsSoundValue v vs h)
 
 -- WHAT IS COLLECTED. The first of several values is kept.
-or-first : {X : Type 0} (P : X → Type 0) (o : Option X) (x : X) → IfSome o P → P x → IfSome (or_first o x) P
+or-first : {X : Type 0} (P : X → Type 0) (o : Option X) (x : X) → IfSome o P → P x → IfSome (option_or o (Some x)) P
 or-first P (Some y) x h p = h
 or-first P None x h p = p
 

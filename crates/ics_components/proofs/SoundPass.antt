@@ -1,7 +1,9 @@
 -- What is gathered is sound, where the first round finds nothing: each line keeps what is open and what is gathered so.
-use Rattle.std.proofs.Common.{◌≡◌, ℕ, Bool, List, [], ◌∷◌, ◌++◌, map, refl, cond, Option, Some, None, IfSome, IfOk, Result, Ok, Err, rules, arith}
+use Rattle.std.proofs.Common.{◌≡◌, ℕ, suc, ◌==◌, length, Bool, List, [], ◌∷◌, ◌++◌, map, refl, cond, Option, Some, None, IfSome, IfOk, Result, Ok, Err, rules, arith}
 use Rattle.std.specs.List.{All, Contains}
+use Rattle.std.specs.Str.{bytes_eq}
 use Rattle.std.proofs.lemmas.Bool.{cond_both}
+use Rattle.std.proofs.lemmas.Bool.Decides.{nat_tests}
 use Rattle.std.proofs.lemmas.List.{length-map, get_or-map}
 use Rattle.std.proofs.lemmas.List.Elements.{All-nil, All-cons, All-head, All-tail, All-push, All-append}
 use Rattle.std.proofs.lemmas.Option.{IfSome_then}
@@ -12,13 +14,13 @@ use Rattle.ics_text.specs.ContentLines.{Parts, content_of}
 use Rattle.ics_text.specs.Unfolded.{Line}
 use Rattle.ics_values.specs.declared.stamp.Stamp.{Stamp}
 use Rattle.ics_values.specs.declared.stamp.Stamp.TheVariants as stamp
-use Rattle.ics_components.specs.Builders.{fresh, observance_ended}
-use Rattle.ics_components.specs.Components.{component_of, context_in}
+use Rattle.ics_components.specs.Builders.{builder_at, observance_ended}
+use Rattle.ics_components.specs.Components.{component_of, component_name, context_in}
 use Rattle.ics_components.specs.FirstFault.{Fault}
 use Rattle.ics_components.specs.Gathered.{IsSoundInstant, IsSoundCheck, IsSoundGathered, nothing_gathered, zones_of_end, events_of_end, checks_of, and_passed}
 use Rattle.ics_components.specs.GatheredSeen.{GatheredSeen}
-use Rattle.ics_components.specs.Lines.{builder_fault, builder_note, builder_check, event_check, fault_at_end_of, ended_as, joined, end_check}
-use Rattle.ics_components.specs.Lines.{calendar_in, opened, begin_fault, frame_fault, named_line, line_in, unless as fine}
+use Rattle.ics_components.specs.Lines.{builder_note, builder_check, event_check, fault_at_end_of, ended_as, joined, end_check}
+use Rattle.ics_components.specs.Lines.{calendar_in, fault_on, behind, passing, line_in, unless as fine}
 use Rattle.ics_components.specs.Names.{name_of}
 use Rattle.ics_components.specs.Pass.{bottom, unless, at_end, on_line, on_content, pass}
 use Rattle.ics_components.specs.SecondRound.{instant_on, instant_in, both_compared, ends_in}
@@ -27,7 +29,6 @@ use Rattle.ics_components.specs.Values.{is_out}
 use Rattle.ics_components.specs.ZoneNames.{zone_used, are_of_one_zone}
 use Rattle.ics_components.specs.declared.builder.Builder.{Builder}
 use Rattle.ics_components.specs.declared.builder.Builder.TheVariants as builder
-use Rattle.ics_components.specs.declared.component.Component.{Component}
 use Rattle.ics_components.specs.declared.component.Context.{Context}
 use Rattle.ics_components.specs.declared.component.Context.TheVariants as context
 use Rattle.ics_components.specs.declared.dated.Dated.{Dated}
@@ -37,7 +38,7 @@ use Rattle.ics_components.specs.declared.deferred_check.Instant.{Instant}
 use Rattle.ics_components.specs.declared.deferred_check.Instant.TheVariants as instant
 use Rattle.ics_components.specs.declared.deferred_check.ZoneName.{ZoneName}
 use Rattle.ics_components.specs.declared.fault.FaultKind.{FaultKind}
-use Rattle.ics_components.specs.declared.fault.FaultKind.TheVariants.{BadNesting}
+use Rattle.ics_components.specs.declared.fault.FaultKind.TheVariants.{BadNesting, NotCalendar}
 use Rattle.ics_components.specs.declared.frame.Frame.{Frame}
 use Rattle.ics_components.specs.declared.gathered.Ended.{Ended}
 use Rattle.ics_components.specs.declared.gathered.Ended.TheVariants as ended
@@ -94,19 +95,15 @@ IsSoundEnd P ended.Nothing = Unit {0}
 abbrev IsSoundStep : (DeferredCheck → Type 0) → List Frame × Passed → Type 0
 IsSoundStep P r = IfSome r.1.check P → AreSound P r.0 × IsSoundEnd P r.1.ended × IfSome r.1.check IsSoundCheck
 
-matched : (t : Bool) (o : Option FaultKind) → cond t o (Some BadNesting) ≡ None → o ≡ None
-matched t o n = grind arith
+matched : (depth : ℕ) (t : Bool) (o : Option FaultKind) → cond (suc depth == 0) (Some NotCalendar) (cond t o (Some BadNesting)) ≡ None → o ≡ None
+matched depth t o n = grind (arith, nat_tests)
 
 module _ (P : DeferredCheck → Type 0) where
-  fresh-sound : (k : ℕ) (q : Context) → IsSoundBuilder P k (fresh q)
+  fresh-sound : (k : ℕ) (q : Context) → IsSoundBuilder P k (builder_at [] [] q)
   fresh-sound k context.Event = (tt, tt, tt, All-nil (IsSoundListed P k), All-nil (IsSoundListed P k), tt)
   fresh-sound k context.Zone = All-nil IsSoundObservance
   fresh-sound k context.Observance = (tt, tt, tt, tt, All-nil IsSoundLocal)
   fresh-sound k _ = tt
-
-  opened-sound : (number : ℕ) (c : Component) (frames : List Frame) → AreSound P frames → AreSound P (opened number c frames)
-  opened-sound number c [] h = tt
-  opened-sound number c (f ∷ fs) h = (fresh-sound (calendar_in number (f ∷ fs)) (context_in f.context c), h)
 
   noted-sound : (k : ℕ) (n : Name) (v : Parts) (b : Builder) → IsSoundBuilder P k b → IfSome (builder_check k n v b) P →
       IsSoundBuilder P k (builder_note n v b) × IfSome (builder_check k n v b) IsSoundCheck
@@ -116,10 +113,10 @@ module _ (P : DeferredCheck → Type 0) where
   noted-sound k n v (builder.Observance had) h c = (observance-noted n v had h, tt)
   noted-sound k n v builder.Nothing h c = (tt, tt)
 
-  joined-sound : (k m : ℕ) (b outer : Builder) → IsSoundBuilder P k b → IsSoundBuilder P m outer → IsSoundBuilder P m (joined b outer)
-  joined-sound k m (builder.Observance had) (builder.Zone outer) h o =
+  joined-sound : (k m : ℕ) (outer b : Builder) → IsSoundBuilder P m outer → IsSoundBuilder P k b → IsSoundBuilder P m (joined outer b)
+  joined-sound k m (builder.Zone outer) (builder.Observance had) o h =
       All-push IsSoundObservance outer.observances (observance_ended had) o (observance-sound had h)
-  joined-sound k m _ _ h o = o
+  joined-sound k m _ _ o h = o
 
   ended-sound : (k : ℕ) (b : Builder) → IsSoundBuilder P k b → fault_at_end_of b ≡ None → IfSome (end_check k b) P →
       IsSoundEnd P (ended_as k b) × IfSome (end_check k b) IsSoundCheck
@@ -130,23 +127,23 @@ module _ (P : DeferredCheck → Type 0) where
   ended-sound k (builder.Zone had) h n c = (zone-sound had h n, tt)
   ended-sound k _ h n c = (tt, tt)
 
-  unless-fault : (o : Option FaultKind) (r : List Frame × Passed) → (o ≡ None → IsSoundStep P r) → IfOk (fine o r) (IsSoundStep P)
-  unless-fault None r h = h refl
-  unless-fault (Some k) r h = tt
+  step-sound : (number : ℕ) (n : Name) (v : Parts) (frames : List Frame) → AreSound P frames → fault_on n v frames ≡ None →
+      IsSoundStep P (behind number n v frames, passing n v frames)
+  step-sound number name.Begin v [] h none c = (tt, tt, tt)
+  step-sound number name.Begin v (f ∷ fs) h none c =
+      ((fresh-sound (calendar_in number (f ∷ fs)) (context_in f.context (component_of (map upper v.value))), h), tt, tt)
+  step-sound number name.End v [] h none c = (tt, tt, tt)
+  step-sound number name.End v (f ∷ []) h none c = cc
+  step-sound number name.End v (f ∷ g ∷ gs) h none c =
+      let matches : Bool = bytes_eq (map upper v.value) (component_name f.component) in
+      let end = ended-sound f.calendar f.builder h.0 (matched (length gs) matches (fault_at_end_of f.builder) none) c in
+      ((joined-sound f.calendar g.calendar g.builder f.builder h.1.0 h.0, h.1.1), end.0, end.1)
+  step-sound number _ v [] h none c = (tt, tt, tt)
+  step-sound number n v (f ∷ fs) h none c = let noted = noted-sound f.calendar n v f.builder h.0 c in ((noted.0, h.1), tt, noted.1)
 
-  line-sound : (number : ℕ) (n : Name) (v : Parts) (frames : List Frame) → AreSound P frames → IfOk (named_line number n v frames) (IsSoundStep P)
-  line-sound number name.Begin v frames h =
-      let begun : Component = component_of (map upper v.value) in
-      unless-fault (begin_fault begun frames) _ (λ none c. (opened-sound number begun frames h, tt, tt))
-  line-sound number name.End v (f ∷ g ∷ gs) h =
-      unless-fault (frame_fault (map upper v.value) f) _ (λ none c.
-      let end = ended-sound f.calendar f.builder h.0 (matched _ _ none) c in
-      ((joined-sound f.calendar g.calendar f.builder g.builder h.0 h.1.0, h.1.1), end.0, end.1))
-  line-sound number name.End v (f ∷ []) h = tt
-  line-sound number _ v [] h = tt
-  line-sound number n v (f ∷ fs) h =
-      unless-fault (builder_fault f.context n v f.builder) _ (λ none c.
-      let noted = noted-sound f.calendar n v f.builder h.0 c in ((noted.0, h.1), tt, noted.1))
+  line-sound : (o : Option FaultKind) (r : List Frame × Passed) → (o ≡ None → IsSoundStep P r) → IfOk (fine o r) (IsSoundStep P)
+  line-sound None r h = h refl
+  line-sound (Some k) r h = tt
 
 -- WHAT IS GATHERED is sound, where P holds of the zones that its events name.
 abbrev IsSoundEnded : EndedZone → Type 0
@@ -224,7 +221,9 @@ module _ (P : DeferredCheck → Type 0) where
       by_content : Again → (o : Option Parts) →
           IfOk (on_content line.number o frames had (λ frames had. pass frames (Some line.number) had lines)) (Goes frames had)
       by_content again None = tt
-      by_content again (Some v) = by_line again (line_in line.number v frames) (line-sound P line.number (name_of (map upper v.name)) v frames)
+      by_content again (Some v) =
+          let n : Name = name_of (map upper v.name) in
+          by_line again (line_in line.number v frames) (λ f. line-sound P (fault_on n v frames) _ (step-sound P line.number n v frames f))
 
 -- the second round makes all checks that are gathered
 pub sound-pass : (lines : List Line) → IfOk (pass (bottom ∷ []) None nothing_gathered lines) IsSoundGathered

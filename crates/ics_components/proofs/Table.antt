@@ -1,92 +1,36 @@
 -- The table of faults and the pass find one fault on a line.
 use Rattle.std.proofs.lemmas.Bool.Decides.{nat_tests}
 use Rattle.std.proofs.Common.{rules, ◌≡◌, ℕ, Bool, true, false, List, [], ◌∷◌, map, refl, ap, ◌∙◌, arith, cond, Option, Some, None, Result}
-use Rattle.std.specs.Prelude.{codes, length, find, filter, flat_map, not, nat_le, ◌==◌, ◌&&◌, ◌||◌, is_some, option_map}
+use Rattle.std.specs.Prelude.{codes, length, find, filter, not, nat_le, ◌==◌, ◌||◌, is_some, option_map}
 use Rattle.std.specs.List.{list_any}
+use Rattle.std.specs.Option.{option_or}
 use Rattle.std.specs.Str.{bytes_eq}
-use Rattle.std.proofs.Math.Bool.{and-true, and_assoc, or_comm}
+use Rattle.std.proofs.Math.Bool.{and-true, and-false, and_assoc, or_comm}
 use Rattle.ics_text.specs.Bytes.{upper}
 use Rattle.ics_text.specs.ContentLines.{Parts}
 use Rattle.ics_values.specs.Rules.{rule_of}
-use Rattle.ics_values.specs.Integers.{integer_of}
 use Rattle.ics_fields.specs.Observances.{ObservanceSaid}
 use Rattle.ics_fields.specs.RuleParts.{RuleParts}
 use Rattle.ics_values.specs.declared.rule_text.RuleFault.{RuleFault}
-use Rattle.ics_components.specs.declared.builder.Builder.{Builder}
-use Rattle.ics_components.specs.declared.builder.Builder.TheVariants as builder
-use Rattle.ics_components.specs.declared.builder.ObservanceBuilder.{ObservanceBuilder}
-use Rattle.ics_components.specs.declared.builder.ZoneBuilder.{ZoneBuilder}
 use Rattle.ics_components.specs.declared.component.Component.{Component}
 use Rattle.ics_components.specs.declared.component.Component.TheVariants as component
 use Rattle.ics_components.specs.declared.component.Context.{Context}
 use Rattle.ics_components.specs.declared.component.Context.TheVariants as context
-use Rattle.ics_components.specs.declared.event_builder.EventBuilder.{EventBuilder}
-use Rattle.ics_components.specs.declared.date_values.Listing.TheVariants as listing
 use Rattle.ics_components.specs.declared.fault.FaultKind.{FaultKind}
-use Rattle.ics_components.specs.declared.fault.FaultKind.TheVariants.{BadRule, NumberTooLarge, NotCalendar, TooDeep, ObservanceField, OldVersion}
+use Rattle.ics_components.specs.declared.fault.FaultKind.TheVariants.{BadRule, NumberTooLarge, NotCalendar, TooDeep}
 use Rattle.ics_components.specs.declared.frame.Frame.{Frame}
 use Rattle.ics_components.specs.declared.name.Name.{Name}
 use Rattle.ics_components.specs.declared.name.Name.TheVariants as name
-use Rattle.ics_components.specs.Components.{component_of, component_name, is_outside_context, is_event_context, is_zone_context, is_observance_context}
+use Rattle.ics_components.specs.Components.{component_of, component_name, is_outside_context, is_zone_context}
 use Rattle.ics_components.specs.Names.{name_of}
-use Rattle.ics_components.specs.PlacedLines.{Placed, Open, context_of, closes, begins_observance, calendar_of, lines_in, has, first_named, value}
-use Rattle.ics_components.specs.PlacedLines.{all_named}
-use Rattle.ics_components.specs.Values.{is_bad_rule, is_large_rule, is_fine_rule, ok_or_zero, is_cancelled}
-use Rattle.ics_components.specs.Faults.{stands, kinds, first_text, first_dated, duration_on, parts_on, listed_on}
-use Rattle.ics_components.specs.Lines.{first, fault_if, rule_fault_of, outside_fault, builder_fault, calendar_fault, zone_fault}
-use Rattle.ics_components.specs.Observances.{observance_by, begins_in_zone, onset_on, offset_on, daily_on, onsets_by}
+use Rattle.ics_components.specs.PlacedLines.{Placed, Open, context_of, closes, begins_observance, calendar_of, lines_in, has, first_named}
+use Rattle.ics_components.specs.Values.{is_bad_rule, is_large_rule, is_fine_rule}
+use Rattle.ics_components.specs.Faults.{stands, kinds}
+pub use Rattle.ics_components.specs.Builders.{collected_of, zone_of, observance_of, builder_at}
+use Rattle.ics_components.specs.Lines.{fault_if, rule_fault_of, outside_fault, fault_in}
+use Rattle.ics_components.specs.Observances.{observance_by, begins_in_zone}
 use Rattle.ics_components.proofs.DateValueLemmas.{first-cond}
-use Rattle.ics_components.proofs.Judged.{fault_in, is_begin_name, is_end_name}
-use Rattle.ics_components.proofs.NameLemmas.{Tells, tells, TellsComponent, tells_component, component_name-of}
-
--- WHAT IS BUILT of the lines that stand directly in a component: an event
-abbrev pub collected_of : List Placed → EventBuilder
-collected_of lines = record {
-  uid = first_text (codes "UID") lines;
-  start = first_dated (codes "DTSTART") lines;
-  end = first_dated (codes "DTEND") lines;
-  duration = option_map duration_on (first_named (codes "DURATION") lines);
-  rule = option_map parts_on (first_named (codes "RRULE") lines);
-  rdates = map (listed_on listing.Rdate) (all_named (codes "RDATE") lines);
-  exdates = map (listed_on listing.Exdate) (all_named (codes "EXDATE") lines);
-  recurrence = first_dated (codes "RECURRENCE-ID") lines;
-  sequence = option_map (λ line. ok_or_zero (integer_of (value line))) (first_named (codes "SEQUENCE") lines);
-  title = first_text (codes "SUMMARY") lines;
-  location = first_text (codes "LOCATION") lines;
-  description = first_text (codes "DESCRIPTION") lines;
-  cancelled = option_map (λ line. is_cancelled (value line)) (first_named (codes "STATUS") lines);
-}
-
--- a time zone whose observances are these
-abbrev pub zone_of : List ObservanceSaid → List Placed → ZoneBuilder
-zone_of observances lines = record { name = first_text (codes "TZID") lines; observances = observances }
-
--- an observance
-abbrev pub observance_of : List Placed → ObservanceBuilder
-observance_of lines = record {
-  start = option_map onset_on (first_named (codes "DTSTART") lines);
-  from = option_map offset_on (first_named (codes "TZOFFSETFROM") lines);
-  to = option_map offset_on (first_named (codes "TZOFFSETTO") lines);
-  rule = option_map daily_on (first_named (codes "RRULE") lines);
-  rdates = flat_map onsets_by (all_named (codes "RDATE") lines);
-}
-
--- what is collected of some lines of a calendar, read as those of an event, of a time zone and of an observance
-pub record Readings : Type 0 where
-  pub calendar : ℕ
-  pub event : EventBuilder
-  pub zone : ZoneBuilder
-  pub observance : ObservanceBuilder
-
-abbrev pub builder_at : Context → Readings → Builder
-builder_at context.Event g = builder.Event g.event
-builder_at context.Zone g = builder.Zone g.zone
-builder_at context.Observance g = builder.Observance g.observance
-builder_at _ g = builder.Nothing
-
--- the frame of a component, with what is collected of it
-abbrev pub frame_at : Component → Context → Readings → Frame
-frame_at c q g = record { component = c; context = q; calendar = g.calendar; builder = builder_at q g }
+use Rattle.ics_components.proofs.NameLemmas.{Tells, tells, TellsComponent, tells_component, component_name-of, context-in-outside}
 
 -- the observances that begin on the lines, in a file of all these lines
 abbrev pub own : List Placed → Placed → ObservanceSaid
@@ -99,18 +43,17 @@ pub any-part : (whole ls : List Placed) → list_any begins_in_zone ls ≡ not (
 any-part whole [] = refl
 any-part whole (l ∷ ls) = let again = any-part whole ls in grind (arith, nat_tests)
 
--- what is collected of some lines, where these components are open
-abbrev pub readings : List Placed → List Open → List Placed → Readings
-readings whole path ls = record { calendar = calendar_of path; event = collected_of ls; zone = zone_of (parts whole ls) ls; observance = observance_of ls }
-
 -- the innermost component of a path; below all there is none
 abbrev pub top_component : List Open → Component
 top_component [] = component.Other []
 top_component (c ∷ cs) = component_of c.name
 
--- the frame that a path and the lines directly in its innermost component stand for
+-- the frame that a path and the lines directly in its innermost component stand for, by where these stand
+abbrev pub frame_at : List Placed → List Open → List Placed → Context → Frame
+frame_at whole path ls q = record { component = top_component path; context = q; calendar = calendar_of path; builder = builder_at (parts whole ls) ls q }
+
 abbrev pub frame_of : List Placed → List Open → List Placed → Frame
-frame_of whole path ls = frame_at (top_component path) (context_of path) (readings whole path ls)
+frame_of whole path ls = frame_at whole path ls (context_of path)
 
 -- the time zone on whose lines an END stands has an observance exactly where one has begun there
 abbrev pub IsAsked : List Placed → List Open → List Placed → Type 0
@@ -134,34 +77,28 @@ rule-is r = grind arith
 ruleset by_tests = (first-cond, or-cond, not-cond, rule-is, has-first)
 
 -- only a calendar begins outside all components
-outside-first : (w : List ℕ) (m : Option FaultKind) →
-    first (outside_fault context.Outside (component_of w)) m ≡ cond (bytes_eq w (codes "VCALENDAR")) m (Some NotCalendar)
-outside-first w m = by_component (component_of w) (tells_component w)
-  where
-    by_component : (c : Component) → TellsComponent w c → first (outside_fault context.Outside c) m ≡ cond (bytes_eq w (codes "VCALENDAR")) m (Some NotCalendar)
-    by_component (component.Other n) e = rw (e.0 (codes "VCALENDAR") refl)
-    by_component _ e = rw e
+outside-first : (w : List ℕ) (m : Option FaultKind) (c : Component) → TellsComponent w c →
+    option_or (outside_fault context.Outside c) m ≡ cond (bytes_eq w (codes "VCALENDAR")) m (Some NotCalendar)
+outside-first w m (component.Other n) e = rw (e.0 (codes "VCALENDAR") refl)
+outside-first w m _ e = rw e
 
 -- whether a component begins or ends on a line, by its name
+abbrev pub is_begin_name : Name → Bool
+is_begin_name name.Begin = true
+is_begin_name _ = false
+
+abbrev pub is_end_name : Name → Bool
+is_end_name name.End = true
+is_end_name _ = false
+
 pub marks : (u : List ℕ) (n : Name) → Tells u n → (bytes_eq u (codes "BEGIN") ≡ is_begin_name n) × (bytes_eq u (codes "END") ≡ is_end_name n)
 marks u name.Other e = (e (codes "BEGIN") refl, e (codes "END") refl)
 marks u _ e = rw e (refl, refl)
 
--- a line that begins and ends none
-inner-fault : (n : Name) (v : Parts) (f : Frame) (depth : ℕ) → (is_begin_name n ≡ false) × (is_end_name n ≡ false) →
-    builder_fault f.context n v f.builder ≡ fault_in n v f depth
-inner-fault n v f depth k = grind arith
-
-version-row : (u : List ℕ) (v : Parts) (n : Name) → Tells u n →
-    fault_if OldVersion (bytes_eq u (codes "VERSION") && bytes_eq v.value (codes "1.0")) ≡ calendar_fault n v
-version-row u v name.Other e = rw (e (codes "VERSION") refl)
-version-row u v _ e = rw e
-
-tzid-row : (u : List ℕ) (v : Parts) (os : List ObservanceSaid) (ls : List Placed) (n : Name) → Tells u n →
-    fault_if ObservanceField ((bytes_eq u (codes "TZID") || false) && has u ls) ≡ zone_fault n v (zone_of os ls)
-tzid-row u v os ls name.Other e = rw (e (codes "TZID") refl)
-tzid-row u v os ls name.Tzid e = rw e (simp has-first)
-tzid-row u v os ls _ e = rw e
+-- no component is open exactly outside all of them
+none-open : (path : List Open) → (length path == 0) ≡ is_outside_context (context_of path)
+none-open [] = refl
+none-open (c ∷ cs) = let some = context-in-outside (context_of cs) (component_of c.name) in grind (arith, nat_tests, some)
 
 closed-by : (path : List Open) (w : List ℕ) → is_outside_context (context_of path) ≡ false →
     bytes_eq w (component_name (top_component path)) ≡ closes path w
@@ -185,43 +122,27 @@ module _ (whole : List Placed) (path : List Open) (number : ℕ) (v : Parts) (ls
 
   ended : (q : Context) (t : Bool) → context_of path ≡ q → closes path (map upper v.value) ≡ t →
       (is_outside_context q ≡ false → bytes_eq (map upper v.value) (component_name (top_component path)) ≡ t) → Reads (codes "END") name.End
-  ended context.Outside true c m s = rw (c, m)
-  ended context.Outside false c m s = rw (c, m)
-  ended context.Zone true c m s = rw (asked (ap is_zone_context c), c, m, s refl) (simp (by_tests, and-true))
-  ended context.Observance true c m s = rw (c, m, s refl) (simp (by_tests, and-true, and_assoc))
-  ended _ true c m s = rw (c, m, s refl) (first_of (simp by_tests, search rules))
-  ended _ false c m s = rw (c, m, s refl)
-
-  -- where no event and no observance is read
-  plain : (n : Name) (q : Context) → Tells (map upper v.name) n → (is_begin_name n ≡ false) × (is_end_name n ≡ false) → context_of path ≡ q →
-      (is_event_context q || is_observance_context q) ≡ false → Same n
-  plain n q e k c o = by_context q c o ((marks (map upper v.name) n e).0 ∙ k.0) ((marks (map upper v.name) n e).1 ∙ k.1)
-    where
-      inner : (q : Context) →
-          builder_fault q n v (builder_at q (readings whole path ls)) ≡ fault_in n v (frame_at (top_component path) q (readings whole path ls)) (length path)
-      inner q = inner-fault n v (frame_at (top_component path) q (readings whole path ls)) (length path) k
-
-      by_context : (q : Context) → context_of path ≡ q → (is_event_context q || is_observance_context q) ≡ false →
-          bytes_eq (map upper v.name) (codes "BEGIN") ≡ false → bytes_eq (map upper v.name) (codes "END") ≡ false → Same n
-      by_context context.Event c o b d = cc
-      by_context context.Observance c o b d = cc
-      by_context context.Calendar c o b d = rw (c, b, d) (version-row (map upper v.name) v n e ∙ inner context.Calendar)
-      by_context context.Zone c o b d = rw (c, b, d) (tzid-row (map upper v.name) v (parts whole ls) ls n e ∙ inner context.Zone)
-      by_context q c o b d = rw (c, b, d) (inner q)
+  ended context.Outside t c m s = rw (none-open path, c, m) (simp and-false)
+  ended context.Zone true c m s = rw (none-open path, asked (ap is_zone_context c), c, m, s refl) (simp (by_tests, and-true))
+  ended context.Observance true c m s = rw (none-open path, c, m, s refl) (simp (by_tests, and-true, and_assoc))
+  ended _ true c m s = rw (none-open path, c, m, s refl) (first_of (simp by_tests, search rules))
+  ended _ false c m s = rw (none-open path, c, m, s refl)
 
   same : (n : Name) (q : Context) → Tells (map upper v.name) n → context_of path ≡ q → Same n
   same name.Begin context.Outside e c =
-      read _ name.Begin e refl (rw (c, outside-first (map upper v.value) (fault_if TooDeep (nat_le 32 (length path)))) (simp by_tests))
+      let w : List ℕ = map upper v.value in
+      read _ name.Begin e refl (rw (c, outside-first w (fault_if TooDeep (nat_le 32 (length path))) (component_of w) (tells_component w)) (simp by_tests))
   same name.Begin _ e c = read _ name.Begin e refl (rw c)
   same name.End q e c =
       read _ name.End e refl (ended q (closes path (map upper v.value)) c refl (λ o. closed-by path (map upper v.value) (ap is_outside_context c ∙ o)))
   same name.Rrule context.Observance e c =
       read _ name.Rrule e refl (rw (c, or_comm (has (codes "RRULE") ls) (is_fine_rule (rule_of v.value))) (simp by_tests))
+  same name.Tzid context.Zone e c = read _ name.Tzid e refl (rw c (simp has-first))
   same name.Other context.Event e c = rw c (simp e)
-  same name.Other context.Observance e c = rw c (simp e)
+  same name.Other _ e c = rw c (simp e)
   same n context.Event e c = read _ n e refl (rw c (first_of (simp by_tests, search rules)))
   same n context.Observance e c = read _ n e refl (rw c (first_of (simp by_tests, search rules)))
-  same n q e c = plain n q e (refl, refl) c refl
+  same n _ e c = read _ n e refl (rw c)
 
 pub least-same : (whole : List Placed) (path : List Open) (number : ℕ) (v : Parts) (ls : List Placed) → IsAsked whole path ls →
     find (λ k. stands k ls (record { number = number; content = Some v; path = path })) kinds

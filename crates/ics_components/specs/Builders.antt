@@ -1,6 +1,6 @@
 -- What the reader has of an event, of a time zone and of an observance, and what each is at its END.
 -- These are the words of the code alone. No public contract cites them.
-use Rattle.std.specs.Prelude.{ℕ, false, [], None, unwrap_or, pos}
+use Rattle.std.specs.Prelude.{ℕ, false, List, [], map, flat_map, codes, unwrap_or, option_map, pos}
 use Rattle.ics_fields.specs.Locals.{local_at}
 use Rattle.ics_fields.specs.Observances.{ObservanceSaid}
 use Rattle.ics_components.specs.declared.builder.Builder.{Builder}
@@ -12,25 +12,51 @@ use Rattle.ics_components.specs.declared.component.Context.TheVariants as contex
 use Rattle.ics_components.specs.declared.event_builder.EventBuilder.{EventBuilder}
 use Rattle.ics_components.specs.declared.gathered.EndedEvent.{EndedEvent}
 use Rattle.ics_components.specs.declared.gathered.EndedZone.{EndedZone}
+use Rattle.ics_values.specs.Integers.{integer_of}
+use Rattle.ics_components.specs.Faults.{first_text, first_dated, duration_on, parts_on, listed_on}
+use Rattle.ics_components.specs.declared.date_values.Listing.TheVariants.{Rdate, Exdate}
 use Rattle.ics_components.specs.GivenTimes.{dated_in, given_length}
+use Rattle.ics_components.specs.Observances.{onset_on, offset_on, daily_on, onsets_by}
+use Rattle.ics_components.specs.PlacedLines.{Placed, first_named, value, all_named}
+use Rattle.ics_components.specs.Values.{ok_or_zero, is_cancelled}
 
-abbrev pub nothing : EventBuilder
-nothing =
-    record {
-      uid = None;
-      start = None;
-      end = None;
-      duration = None;
-      rule = None;
-      rdates = [];
-      exdates = [];
-      recurrence = None;
-      sequence = None;
-      title = None;
-      location = None;
-      description = None;
-      cancelled = None;
-    }
+-- WHAT IS COLLECTED of the lines that stand directly in a component: an event
+abbrev pub collected_of : List Placed → EventBuilder
+collected_of lines = record {
+  uid = first_text (codes "UID") lines;
+  start = first_dated (codes "DTSTART") lines;
+  end = first_dated (codes "DTEND") lines;
+  duration = option_map duration_on (first_named (codes "DURATION") lines);
+  rule = option_map parts_on (first_named (codes "RRULE") lines);
+  rdates = map (listed_on Rdate) (all_named (codes "RDATE") lines);
+  exdates = map (listed_on Exdate) (all_named (codes "EXDATE") lines);
+  recurrence = first_dated (codes "RECURRENCE-ID") lines;
+  sequence = option_map (λ line. ok_or_zero (integer_of (value line))) (first_named (codes "SEQUENCE") lines);
+  title = first_text (codes "SUMMARY") lines;
+  location = first_text (codes "LOCATION") lines;
+  description = first_text (codes "DESCRIPTION") lines;
+  cancelled = option_map (λ line. is_cancelled (value line)) (first_named (codes "STATUS") lines);
+}
+
+-- a time zone whose observances are these
+abbrev pub zone_of : List ObservanceSaid → List Placed → ZoneBuilder
+zone_of observances lines = record { name = first_text (codes "TZID") lines; observances = observances }
+
+-- an observance
+abbrev pub observance_of : List Placed → ObservanceBuilder
+observance_of lines = record {
+  start = option_map onset_on (first_named (codes "DTSTART") lines);
+  from = option_map offset_on (first_named (codes "TZOFFSETFROM") lines);
+  to = option_map offset_on (first_named (codes "TZOFFSETTO") lines);
+  rule = option_map daily_on (first_named (codes "RRULE") lines);
+  rdates = flat_map onsets_by (all_named (codes "RDATE") lines);
+}
+
+abbrev pub builder_at : List ObservanceSaid → List Placed → Context → Builder
+builder_at observances lines context.Event = builder.Event (collected_of lines)
+builder_at observances lines context.Zone = builder.Zone (zone_of observances lines)
+builder_at observances lines context.Observance = builder.Observance (observance_of lines)
+builder_at observances lines _ = builder.Nothing
 
 -- the event of a calendar that ends with what is collected; an accepted file has the fields that are asked for
 abbrev pub event_ended : ℕ → EventBuilder → EndedEvent
@@ -49,18 +75,6 @@ event_ended calendar had = record {
   description = unwrap_or had.description [];
   cancelled = unwrap_or had.cancelled false;
 }
-
-abbrev pub nothing_zone : ZoneBuilder
-nothing_zone = record { name = None; observances = [] }
-
-abbrev pub nothing_observance : ObservanceBuilder
-nothing_observance = record { start = None; from = None; to = None; rule = None; rdates = [] }
-
-abbrev pub fresh : Context → Builder
-fresh context.Event = builder.Event nothing
-fresh context.Zone = builder.Zone nothing_zone
-fresh context.Observance = builder.Observance nothing_observance
-fresh _ = builder.Nothing
 
 -- WHAT HAS ENDED, with what is collected of it. An accepted file has the fields that are asked for.
 abbrev pub zone_ended : ℕ → ZoneBuilder → EndedZone

@@ -1,8 +1,9 @@
 -- What the reader makes of a line: what it has of the components that are open, or the fault on it, which is the least that stands there.
 -- These are the words of the code alone. No public contract cites them: what a file is stands in Faults and Files, and the proofs show that they agree.
 use Rattle.std.specs.Prelude.{ℕ, Bool, false, ◌&&◌, ◌||◌, not, ◌==◌, nat_le, List, [], ◌∷◌, ◌++◌, length, map, codes, Option, Some, None, is_some}
-use Rattle.std.specs.Prelude.{Result, Ok, Err, ℤ, ◌≡◌, if◌then◌else◌}
+use Rattle.std.specs.Prelude.{Result, Ok, Err, ◌≡◌, if◌then◌else◌}
 use Rattle.std.specs.List.{list_any}
+use Rattle.std.specs.Option.{option_or}
 use Rattle.std.specs.Ordering.{ord_min}
 use Rattle.std.specs.Result.{result_map_both}
 use Rattle.std.specs.Str.{bytes_eq}
@@ -17,8 +18,6 @@ use Rattle.ics_values.specs.Stamps.{stamp_of}
 use Rattle.ics_values.specs.declared.duration.Duration.{Duration}
 use Rattle.ics_values.specs.declared.duration.DurationFault.{DurationFault}
 use Rattle.ics_values.specs.declared.duration.DurationFault.TheVariants as duration
-use Rattle.ics_values.specs.declared.integer.IntegerFault.{IntegerFault}
-use Rattle.ics_values.specs.declared.offset.BadOffset.{BadOffset}
 use Rattle.ics_values.specs.declared.rule_text.RuleFault.{RuleFault}
 use Rattle.ics_values.specs.declared.rule_text.RuleFault.TheVariants as rule
 use Rattle.ics_values.specs.declared.stamp.Stamp.{Stamp}
@@ -48,12 +47,12 @@ use Rattle.ics_components.specs.declared.builder.ObservanceBuilder.{ObservanceBu
 use Rattle.ics_components.specs.declared.builder.Builder.{Builder}
 use Rattle.ics_components.specs.declared.builder.Builder.TheVariants as builder
 use Rattle.ics_components.specs.declared.builder.ZoneBuilder.{ZoneBuilder}
-use Rattle.ics_components.specs.Builders.{event_ended, fresh, zone_ended, observance_ended}
+use Rattle.ics_components.specs.Builders.{event_ended, builder_at, zone_ended, observance_ended}
 use Rattle.ics_components.specs.Components.{component_of, component_name, context_in}
 use Rattle.ics_components.specs.DateLists.{list_of}
 use Rattle.ics_components.specs.DateValues.{DateValue, At, Between, Lasting, values_of, has_bad_stamp}
 use Rattle.ics_components.specs.DateValues.{has_far_stamp, has_bad_duration, has_large_duration, is_not_local}
-use Rattle.ics_components.specs.Names.{name_of, gives_dates}
+use Rattle.ics_components.specs.Names.{name_of}
 use Rattle.ics_components.specs.Values.{zone_name, stamp_read, dated_of, lasting_of, duration_in, rule_in, ok_or_zero, is_cancelled, is_fine_rule, is_filled}
 use Rattle.ics_components.specs.Values.{ends_badly, is_bad_stamp, is_far_stamp, is_bad_duration, is_large_duration, is_bad_offset, is_large_integer}
 use Rattle.ics_components.specs.Observances.{locals_of, onset_in, offset_in, daily_in}
@@ -76,45 +75,24 @@ Notes (Ok x) now fault next value = (fault ≡ None) × (now ≡ next) × (x ≡
 Notes (Err Memory) now fault next value = Unit {0}
 Notes (Err (Fault kind)) now fault next value = fault ≡ Some kind
 
-abbrev pub Makes : {X Y : Type 0} → Result X Refused → Y → Result (Y × X) FaultKind → Type 0
-Makes (Ok x) now said = said ≡ Ok (now, x)
-Makes (Err Memory) now said = Unit {0}
-Makes (Err (Fault kind)) now said = said ≡ Err kind
-
 -- said unless a fault stands there
 abbrev pub unless : {X : Type 0} → Option FaultKind → X → Result X FaultKind
 unless None x = Ok x
 unless (Some kind) x = Err kind
 
--- the first of several counts
-abbrev pub or_first : {X : Type 0} → Option X → X → Option X
-or_first (Some x) y = Some x
-or_first None y = Some y
-
--- the lesser fault of two, where the first is less than any second
-abbrev pub first : Option FaultKind → Option FaultKind → Option FaultKind
-first (Some kind) more = Some kind
-first None more = more
-
 abbrev pub fault_if : FaultKind → Bool → Option FaultKind
 fault_if kind bad = if bad then Some kind else None
 
--- THE FAULTS OF VALUES.
-abbrev pub stamp_kind : StampFault → FaultKind
-stamp_kind stamp_fault.BadStamp = kind.BadStamp
-stamp_kind stamp_fault.YearRange = kind.YearRange
-
+-- THE FAULTS OF VALUES. Where several may stand on a line, the first of them is the least.
 abbrev pub stamp_judged : Result Stamp StampFault → Result Stamp FaultKind
 stamp_judged (Ok s) = Ok s
-stamp_judged (Err fault) = Err (stamp_kind fault)
-
-abbrev pub duration_kind : DurationFault → FaultKind
-duration_kind duration.BadDuration = kind.BadDuration
-duration_kind duration.NumberTooLarge = kind.NumberTooLarge
+stamp_judged (Err stamp_fault.BadStamp) = Err kind.BadStamp
+stamp_judged (Err stamp_fault.YearRange) = Err kind.YearRange
 
 abbrev pub duration_judged : Result Duration DurationFault → Result Duration FaultKind
 duration_judged (Ok d) = Ok d
-duration_judged (Err fault) = Err (duration_kind fault)
+duration_judged (Err duration.BadDuration) = Err kind.BadDuration
+duration_judged (Err duration.NumberTooLarge) = Err kind.NumberTooLarge
 
 abbrev pub rule_kind : RuleFault → FaultKind
 rule_kind rule.BadRule = kind.BadRule
@@ -129,13 +107,6 @@ duration_fault_of d = if is_bad_duration d then Some kind.BadDuration else if is
 abbrev pub rule_fault_of : Result RuleParts RuleFault → Option FaultKind
 rule_fault_of (Ok parts) = None
 rule_fault_of (Err fault) = Some (rule_kind fault)
-
-abbrev pub offset_fault_of : Result ℤ BadOffset → Option FaultKind
-offset_fault_of o = fault_if kind.BadOffset (is_bad_offset o)
-
--- a SEQUENCE that is no number counts as 0
-abbrev pub number_fault_of : Result ℕ IntegerFault → Option FaultKind
-number_fault_of n = fault_if kind.NumberTooLarge (is_large_integer n)
 
 -- the lesser of two faults, of which the first may not be there
 abbrev pub lesser : Option FaultKind → FaultKind → FaultKind
@@ -164,50 +135,44 @@ dates_fault values =
     else None
 
 -- A LINE OF AN EVENT: its fault, what is collected behind it, and its check in the second round.
--- a line that gives dates
-abbrev pub dates_line_fault : Name → Parts → EventBuilder → Option FaultKind
-dates_line_fault name.Dtstart c had = first (stamp_fault_of (stamp_read c.params c.value)) (fault_if kind.Repeated (is_some had.start))
-dates_line_fault name.Dtend c had = first (stamp_fault_of (stamp_read c.params c.value)) (fault_if kind.Repeated (is_some had.end))
-dates_line_fault name.RecurrenceId c had =
-    first (first (stamp_fault_of (stamp_read c.params c.value)) (fault_if kind.Repeated (is_some had.recurrence)))
-    (fault_if kind.ThisAndFuture (is_some (param_of (codes "RANGE") c.params)))
-dates_line_fault name.Rdate c had = dates_fault (values_of listing.Rdate (is_some (zone_name c.params)) c.value)
-dates_line_fault name.Exdate c had = dates_fault (values_of listing.Exdate (is_some (zone_name c.params)) c.value)
-dates_line_fault _ c had = None
-
-abbrev pub dates_line_note : Name → Parts → EventBuilder → EventBuilder
-dates_line_note name.Dtstart c had = record had { start = or_first had.start (dated_of c.params c.value) }
-dates_line_note name.Dtend c had = record had { end = or_first had.end (dated_of c.params c.value) }
-dates_line_note name.RecurrenceId c had = record had { recurrence = or_first had.recurrence (dated_of c.params c.value) }
-dates_line_note name.Rdate c had = record had { rdates = had.rdates ++ list_of listing.Rdate c.params c.value ∷ [] }
-dates_line_note name.Exdate c had = record had { exdates = had.exdates ++ list_of listing.Exdate c.params c.value ∷ [] }
-dates_line_note _ c had = had
-
--- a line that gives another value
+-- a value that gives no date
 abbrev pub value_fault : Name → List ℕ → EventBuilder → Option FaultKind
 value_fault name.Uid v had = fault_if kind.Repeated (is_some had.uid)
-value_fault name.Duration v had = first (duration_fault_of (lasting_of v)) (fault_if kind.Repeated (is_some had.duration))
-value_fault name.Rrule v had = first (rule_fault_of (rule_of v)) (fault_if kind.Repeated (is_some had.rule))
-value_fault name.Sequence v had = first (number_fault_of (integer_of v)) (fault_if kind.Repeated (is_some had.sequence))
+value_fault name.Duration v had = option_or (duration_fault_of (lasting_of v)) (fault_if kind.Repeated (is_some had.duration))
+value_fault name.Rrule v had = option_or (rule_fault_of (rule_of v)) (fault_if kind.Repeated (is_some had.rule))
+value_fault name.Sequence v had = option_or (fault_if kind.NumberTooLarge (is_large_integer (integer_of v))) (fault_if kind.Repeated (is_some had.sequence))
 value_fault name.Exrule v had = Some kind.Exrule
 value_fault _ v had = None
 
 abbrev pub value_note : Name → List ℕ → EventBuilder → EventBuilder
-value_note name.Uid v had = record had { uid = or_first had.uid (text_of v) }
-value_note name.Duration v had = record had { duration = or_first had.duration (duration_in (lasting_of v)) }
-value_note name.Rrule v had = record had { rule = or_first had.rule (rule_in (rule_of v)) }
-value_note name.Sequence v had = record had { sequence = or_first had.sequence (ok_or_zero (integer_of v)) }
-value_note name.Summary v had = record had { title = or_first had.title (text_of v) }
-value_note name.Location v had = record had { location = or_first had.location (text_of v) }
-value_note name.Description v had = record had { description = or_first had.description (text_of v) }
-value_note name.Status v had = record had { cancelled = or_first had.cancelled (is_cancelled v) }
+value_note name.Uid v had = record had { uid = option_or had.uid (Some (text_of v)) }
+value_note name.Duration v had = record had { duration = option_or had.duration (Some (duration_in (lasting_of v))) }
+value_note name.Rrule v had = record had { rule = option_or had.rule (Some (rule_in (rule_of v))) }
+value_note name.Sequence v had = record had { sequence = option_or had.sequence (Some (ok_or_zero (integer_of v))) }
+value_note name.Summary v had = record had { title = option_or had.title (Some (text_of v)) }
+value_note name.Location v had = record had { location = option_or had.location (Some (text_of v)) }
+value_note name.Description v had = record had { description = option_or had.description (Some (text_of v)) }
+value_note name.Status v had = record had { cancelled = option_or had.cancelled (Some (is_cancelled v)) }
 value_note _ v had = had
 
+-- any line of an event
 abbrev pub event_fault : Name → Parts → EventBuilder → Option FaultKind
-event_fault n c had = if gives_dates n then dates_line_fault n c had else value_fault n c.value had
+event_fault name.Dtstart c had = option_or (stamp_fault_of (stamp_read c.params c.value)) (fault_if kind.Repeated (is_some had.start))
+event_fault name.Dtend c had = option_or (stamp_fault_of (stamp_read c.params c.value)) (fault_if kind.Repeated (is_some had.end))
+event_fault name.RecurrenceId c had =
+    option_or (option_or (stamp_fault_of (stamp_read c.params c.value)) (fault_if kind.Repeated (is_some had.recurrence)))
+    (fault_if kind.ThisAndFuture (is_some (param_of (codes "RANGE") c.params)))
+event_fault name.Rdate c had = dates_fault (values_of listing.Rdate (is_some (zone_name c.params)) c.value)
+event_fault name.Exdate c had = dates_fault (values_of listing.Exdate (is_some (zone_name c.params)) c.value)
+event_fault n c had = value_fault n c.value had
 
 abbrev pub event_note : Name → Parts → EventBuilder → EventBuilder
-event_note n c had = if gives_dates n then dates_line_note n c had else value_note n c.value had
+event_note name.Dtstart c had = record had { start = option_or had.start (Some (dated_of c.params c.value)) }
+event_note name.Dtend c had = record had { end = option_or had.end (Some (dated_of c.params c.value)) }
+event_note name.RecurrenceId c had = record had { recurrence = option_or had.recurrence (Some (dated_of c.params c.value)) }
+event_note name.Rdate c had = record had { rdates = had.rdates ++ list_of listing.Rdate c.params c.value ∷ [] }
+event_note name.Exdate c had = record had { exdates = had.exdates ++ list_of listing.Exdate c.params c.value ∷ [] }
+event_note n c had = value_note n c.value had
 
 abbrev pub event_check : ℕ → Name → Parts → Option DeferredCheck
 event_check k name.Dtstart c = used_zone k (dated_of c.params c.value)
@@ -218,54 +183,45 @@ event_check k name.Exdate c = listed_zone k (list_of listing.Exdate c.params c.v
 event_check k _ c = None
 
 -- A LINE OF A TIME ZONE and of an observance.
-abbrev pub zone_fault : Name → Parts → ZoneBuilder → Option FaultKind
-zone_fault name.Tzid c had = fault_if kind.ObservanceField (is_some had.name)
-zone_fault _ c had = None
-
 abbrev pub zone_note : Name → Parts → ZoneBuilder → ZoneBuilder
-zone_note name.Tzid c had = record had { name = or_first had.name (text_of c.value) }
+zone_note name.Tzid c had = record had { name = option_or had.name (Some (text_of c.value)) }
 zone_note _ c had = had
 
 -- the local times of an RDATE
 abbrev pub locals_fault : List ℕ → Option FaultKind
 locals_fault v =
-    first (dates_fault (values_of listing.Rdate false v)) (fault_if kind.ObservanceField (list_any is_not_local (values_of listing.Rdate false v)))
+    option_or (dates_fault (values_of listing.Rdate false v)) (fault_if kind.ObservanceField (list_any is_not_local (values_of listing.Rdate false v)))
 
 abbrev pub observance_fault : Name → Parts → ObservanceBuilder → Option FaultKind
 observance_fault name.Dtstart c had =
-    first (first (stamp_fault_of (stamp_of false c.value)) (fault_if kind.ObservanceField (is_not_local (At (stamp_of false c.value)))))
+    option_or (option_or (stamp_fault_of (stamp_of false c.value)) (fault_if kind.ObservanceField (is_not_local (At (stamp_of false c.value)))))
     (fault_if kind.ObservanceField (is_some had.start))
-observance_fault name.OffsetFrom c had = first (offset_fault_of (offset_of c.value)) (fault_if kind.ObservanceField (is_some had.from))
-observance_fault name.OffsetTo c had = first (offset_fault_of (offset_of c.value)) (fault_if kind.ObservanceField (is_some had.to))
+observance_fault name.OffsetFrom c had =
+    option_or (fault_if kind.BadOffset (is_bad_offset (offset_of c.value))) (fault_if kind.ObservanceField (is_some had.from))
+observance_fault name.OffsetTo c had = option_or (fault_if kind.BadOffset (is_bad_offset (offset_of c.value))) (fault_if kind.ObservanceField (is_some had.to))
 observance_fault name.Rrule c had =
-    first (first (rule_fault_of (rule_of c.value)) (fault_if kind.ZoneRule (is_fine_rule (rule_of c.value)))) (fault_if kind.ZoneRule (is_some had.rule))
+    option_or (option_or (rule_fault_of (rule_of c.value)) (fault_if kind.ZoneRule (is_fine_rule (rule_of c.value))))
+    (fault_if kind.ZoneRule (is_some had.rule))
 observance_fault name.Rdate c had = locals_fault c.value
 observance_fault _ c had = None
 
 abbrev pub observance_note : Name → Parts → ObservanceBuilder → ObservanceBuilder
-observance_note name.Dtstart c had = record had { start = or_first had.start (onset_in (stamp_of false c.value)) }
-observance_note name.OffsetFrom c had = record had { from = or_first had.from (offset_in (offset_of c.value)) }
-observance_note name.OffsetTo c had = record had { to = or_first had.to (offset_in (offset_of c.value)) }
-observance_note name.Rrule c had = record had { rule = or_first had.rule (daily_in (rule_of c.value)) }
+observance_note name.Dtstart c had = record had { start = option_or had.start (Some (onset_in (stamp_of false c.value))) }
+observance_note name.OffsetFrom c had = record had { from = option_or had.from (Some (offset_in (offset_of c.value))) }
+observance_note name.OffsetTo c had = record had { to = option_or had.to (Some (offset_in (offset_of c.value))) }
+observance_note name.Rrule c had = record had { rule = option_or had.rule (Some (daily_in (rule_of c.value))) }
 observance_note name.Rdate c had = record had { rdates = had.rdates ++ locals_of c.value }
 observance_note _ c had = had
-
-abbrev pub calendar_fault : Name → Parts → Option FaultKind
-calendar_fault name.Version c = fault_if kind.OldVersion (bytes_eq c.value (codes "1.0"))
-calendar_fault _ c = None
-
--- a line of a component of which nothing is collected
-abbrev pub plain_fault : Context → Name → Parts → Option FaultKind
-plain_fault context.Outside n c = Some kind.NotCalendar
-plain_fault context.Calendar n c = calendar_fault n c
-plain_fault _ n c = None
 
 -- A LINE OF ANY COMPONENT, which begins and ends none.
 abbrev pub builder_fault : Context → Name → Parts → Builder → Option FaultKind
 builder_fault q n c (builder.Event had) = event_fault n c had
-builder_fault q n c (builder.Zone had) = zone_fault n c had
 builder_fault q n c (builder.Observance had) = observance_fault n c had
-builder_fault q n c builder.Nothing = plain_fault q n c
+builder_fault q name.Tzid c (builder.Zone had) = fault_if kind.ObservanceField (is_some had.name)
+builder_fault q n c (builder.Zone had) = None
+builder_fault context.Outside n c builder.Nothing = Some kind.NotCalendar
+builder_fault context.Calendar name.Version c builder.Nothing = fault_if kind.OldVersion (bytes_eq c.value (codes "1.0"))
+builder_fault q n c builder.Nothing = None
 
 abbrev pub builder_note : Name → Parts → Builder → Builder
 builder_note n c (builder.Event had) = builder.Event (event_note n c had)
@@ -310,8 +266,8 @@ ended_as k _ = ended.Nothing
 
 -- what becomes of the component in which it ends: a time zone keeps an observance
 abbrev pub joined : Builder → Builder → Builder
-joined (builder.Observance had) (builder.Zone outer) = builder.Zone (record outer { observances = outer.observances ++ observance_ended had ∷ [] })
-joined _ outer = outer
+joined (builder.Zone outer) (builder.Observance had) = builder.Zone (record outer { observances = outer.observances ++ observance_ended had ∷ [] })
+joined outer _ = outer
 
 abbrev pub end_check : ℕ → Builder → Option DeferredCheck
 end_check k (builder.Event had) = ends_in k had.start had.end
@@ -323,42 +279,57 @@ frame_fault w f = if bytes_eq w (component_name f.component) then fault_at_end_o
 -- WHAT A LINE MAKES of the components that are open, the innermost first.
 -- the calendar of a component that begins on that line: the outermost component, or that itself
 abbrev pub calendar_in : ℕ → List Frame → ℕ
-calendar_in number [] = number
-calendar_in number (f ∷ []) = number
 calendar_in number (f ∷ g ∷ gs) = f.calendar
+calendar_in number _ = number
 
 abbrev pub opened : ℕ → Component → List Frame → List Frame
 opened number c [] = []
 opened number c (f ∷ fs) =
     let q : Context = context_in f.context c in
-    record { component = c; context = q; calendar = calendar_in number (f ∷ fs); builder = fresh q } ∷ f ∷ fs
+    record { component = c; context = q; calendar = calendar_in number (f ∷ fs); builder = builder_at [] [] q } ∷ f ∷ fs
+
+abbrev pub closed : List Frame → List Frame
+closed (f ∷ g ∷ gs) = record g { builder = joined g.builder f.builder } ∷ gs
+closed frames = frames
+
+abbrev pub noted : Name → Parts → List Frame → List Frame
+noted n c [] = []
+noted n c (f ∷ fs) = record f { builder = builder_note n c f.builder } ∷ fs
+
+abbrev pub behind : ℕ → Name → Parts → List Frame → List Frame
+behind number name.Begin c frames = opened number (component_of (map upper c.value)) frames
+behind number name.End c frames = closed frames
+behind number n c frames = noted n c frames
 
 abbrev pub outside_fault : Context → Component → Option FaultKind
 outside_fault context.Outside component.Calendar = None
 outside_fault context.Outside _ = Some kind.NotCalendar
 outside_fault _ c = None
 
-abbrev pub begin_fault : Component → List Frame → Option FaultKind
-begin_fault c [] = None
-begin_fault c (f ∷ fs) = first (outside_fault f.context c) (fault_if kind.TooDeep (nat_le 32 (length fs)))
+-- the fault on a line, by the innermost component and by how many are open
+abbrev pub fault_in : Name → Parts → Frame → ℕ → Option FaultKind
+fault_in name.Begin c f depth = option_or (outside_fault f.context (component_of (map upper c.value))) (fault_if kind.TooDeep (nat_le 32 depth))
+fault_in name.End c f depth = if depth == 0 then Some kind.NotCalendar else frame_fault (map upper c.value) f
+fault_in n c f depth = builder_fault f.context n c f.builder
 
-abbrev pub end_line : List ℕ → List Frame → Result (List Frame × Passed) FaultKind
-end_line w (f ∷ g ∷ gs) =
-    unless (frame_fault w f)
-    (record g { builder = joined f.builder g.builder } ∷ gs, passed (ended_as f.calendar f.builder) (end_check f.calendar f.builder))
-end_line w _ = Err kind.NotCalendar
+abbrev pub fault_on : Name → Parts → List Frame → Option FaultKind
+fault_on n c [] = None
+fault_on n c (f ∷ fs) = fault_in n c f (length fs)
 
-abbrev pub inner_line : Name → Parts → List Frame → Result (List Frame × Passed) FaultKind
-inner_line n c [] = Err kind.NotCalendar
-inner_line n c (f ∷ fs) =
-    unless (builder_fault f.context n c f.builder)
-    (record f { builder = builder_note n c f.builder } ∷ fs, passed ended.Nothing (builder_check f.calendar n c f.builder))
+-- what ends on the line, and its check in the second round
+abbrev pub end_in : Name → Frame → Ended
+end_in name.End f = ended_as f.calendar f.builder
+end_in _ f = ended.Nothing
 
-abbrev pub named_line : ℕ → Name → Parts → List Frame → Result (List Frame × Passed) FaultKind
-named_line number name.Begin c frames =
-    unless (begin_fault (component_of (map upper c.value)) frames) (opened number (component_of (map upper c.value)) frames, passed ended.Nothing None)
-named_line number name.End c frames = end_line (map upper c.value) frames
-named_line number n c frames = inner_line n c frames
+abbrev pub check_in : Name → Parts → Frame → Option DeferredCheck
+check_in name.Begin c f = None
+check_in name.End c f = end_check f.calendar f.builder
+check_in n c f = builder_check f.calendar n c f.builder
+
+abbrev pub passing : Name → Parts → List Frame → Passed
+passing n c [] = passed ended.Nothing None
+passing n c (f ∷ fs) = passed (end_in n f) (check_in n c f)
 
 abbrev pub line_in : ℕ → Parts → List Frame → Result (List Frame × Passed) FaultKind
-line_in number c frames = named_line number (name_of (map upper c.name)) c frames
+line_in number c frames =
+    let n : Name = name_of (map upper c.name) in unless (fault_on n c frames) (behind number n c frames, passing n c frames)

@@ -1,6 +1,6 @@
 -- The names of the properties that a file is read for (RFC 5545, section 3.8).
 -- These are the words of the code alone. No public contract cites them.
-use Rattle.std.specs.Prelude.{ℕ, Bool, true, false, List, [], ◌∷◌, ◌++◌, codes, if◌then◌else◌}
+use Rattle.std.specs.Prelude.{ℕ, List, [], ◌∷◌, ◌++◌, codes, if◌then◌else◌}
 use Rattle.std.specs.Str.{bytes_eq}
 use Rattle.ics_components.specs.declared.name.Name.{Name}
 use Rattle.ics_components.specs.declared.name.Name.TheVariants as name
@@ -29,12 +29,3 @@ other_name_of u = named_in other_words name.Other u
 
 abbrev pub name_of : List ℕ → Name
 name_of u = named_in (first_words ++ other_words) name.Other u
-
--- whether an event has dates from a property of that name
-abbrev pub gives_dates : Name → Bool
-gives_dates name.Dtstart = true
-gives_dates name.Dtend = true
-gives_dates name.RecurrenceId = true
-gives_dates name.Rdate = true
-gives_dates name.Exdate = true
-gives_dates _ = false

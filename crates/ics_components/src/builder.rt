@@ -1,14 +1,13 @@
 //! A component that is being built of its lines.
-ghost use Rattle.std.specs.Prelude.{◌≡◌, None};
-ghost use Rattle.ics_components.specs.Builders.{fresh, zone_ended, observance_ended};
-ghost use Rattle.ics_components.specs.Lines.{Gives, Keeps, Notes, end_of_zone, end_of_observance, observance_fault, observance_note};
-ghost use Rattle.ics_components.specs.Lines.{builder_fault, builder_note, builder_check, fault_at_end_of, joined, passed, ended_as, end_check};
+ghost use Rattle.std.specs.Prelude.{◌≡◌, [], None};
+ghost use Rattle.ics_components.specs.Builders.{builder_at, zone_ended};
+ghost use Rattle.ics_components.specs.Lines.{Gives, Keeps, Notes, end_of_zone, end_of_observance, observance_fault, observance_note, joined, passed};
 ghost use Rattle.ics_components.specs.declared.builder.Builder.TheVariants.{Observance};
-ghost use Rattle.ics_components.specs.declared.gathered.Ended.TheVariants.{Zone};
+ghost use Rattle.ics_components.specs.declared.gathered.Ended.TheVariants.{Zone, Nothing};
 
 use crate::component::Context;
 use crate::dated::stamp;
-use crate::deferred_check::{DeferredCheck, ZoneName};
+use crate::deferred_check::ZoneName;
 use crate::event_builder::{EventBuilder, once};
 use crate::fault::FaultKind;
 use crate::gathered::{Ended, EndedZone, Passed};
@@ -16,7 +15,7 @@ use crate::name::Name;
 use crate::observances::{EndedObservance, Locals, Observances};
 use crate::refused::Refused;
 use crate::rule_value::RuleValue;
-use crate::tzid::{Tzid, Tzids};
+use crate::tzid::Tzid;
 use ics_text::Content;
 use ics_values::{Local, Stamp, read_offset};
 use std::alloc::Global;
@@ -68,7 +67,8 @@ impl ZoneBuilder {
 }
 
 impl ObservanceBuilder {
-    fn line(&mut self, alloc: Global, name: Name, content: &Content<'_>) -> Result<(), Refused>
+    /// One line more of an observance.
+    pub fn line(&mut self, alloc: Global, name: Name, content: &Content<'_>) -> Result<(), Refused>
         ensures { Keeps result self.new (observance_fault name content.now self.old) (observance_note name content.now self.old) }
     {
         let value = content.value();
@@ -90,39 +90,32 @@ impl ObservanceBuilder {
         }
     }
 
-    /// The observance, at its END.
-    fn end(self) -> Result<EndedObservance, Refused>
-        ensures { Gives result (end_of_observance self) (observance_ended self) }
+    /// Goes at its END to the time zone in which it stands.
+    pub fn join(self, outer: &mut Builder) -> Result<Passed, Refused>
+        ensures { Notes result outer.new (end_of_observance self) (joined outer.old (Observance self)) (passed Nothing None) }
     {
         let (Some(start), Some(offset_from), Some(offset_to)) = (self.start, self.from, self.to)
         else {
             return Err(Refused::Fault(FaultKind::ObservanceField));
         };
-        Ok(EndedObservance {
+        let observance = EndedObservance {
             start,
             offset_from,
             offset_to,
             rule: self.rule,
             rdates: self.rdates,
-        })
-    }
-
-    /// Goes at its END to the time zone in which it stands.
-    pub fn join(self, outer: &mut Builder) -> Result<(), Refused>
-        ensures { Keeps result outer.new (end_of_observance self) (joined (Observance self) outer.old) }
-    {
-        let observance = self.end()?;
+        };
         if let Builder::Zone(zone) = outer {
             zone.observances.list.push(observance)?;
         }
-        Ok(())
+        Ok(Passed::nothing())
     }
 }
 
 impl Builder {
     /// What a component has that has only begun, by where its lines stand.
     pub fn fresh(alloc: Global, context: Context) -> Builder
-        ensures { result ≡ fresh context }
+        ensures { result ≡ builder_at [] [] context }
     {
         match context {
             Context::Event => Builder::Event(EventBuilder::nothing(alloc)),
@@ -142,57 +135,6 @@ impl Builder {
                 },
             }),
             _ => Builder::Nothing,
-        }
-    }
-
-    /// What the component in that calendar is at its END. An observance goes to what it stands in.
-    pub fn end(self, alloc: Global, calendar: u64, outer: &mut Builder) -> Result<Passed, Refused>
-        ensures { Notes result outer.new (fault_at_end_of self) (joined self outer.old) (passed (ended_as calendar self) (end_check calendar self)) }
-    {
-        match self {
-            Builder::Event(had) => had.end(alloc, calendar),
-            Builder::Zone(had) => had.end(calendar),
-            Builder::Observance(had) => {
-                had.join(outer)?;
-                Ok(Passed::nothing())
-            }
-            Builder::Nothing => Ok(Passed::nothing()),
-        }
-    }
-
-    /// One line more that begins and ends no component, with the check that it leaves to the second round.
-    pub fn line(
-        &mut self,
-        alloc: Global,
-        tzids: &mut Tzids,
-        calendar: u64,
-        context: Context,
-        name: Name,
-        content: &Content<'_>,
-    ) -> Result<Option<DeferredCheck>, Refused>
-        ensures { Notes result self.new (builder_fault context name content.now self.old) (builder_note name content.now self.old)
-            (builder_check calendar name content.now self.old) }
-    {
-        match self {
-            Builder::Event(had) => had.line(alloc, tzids, calendar, name, content),
-            Builder::Zone(had) => {
-                if let Name::Tzid = name {
-                    let tzid = tzids.of_value(alloc, content.value())?;
-                    once(&mut had.name, tzid, FaultKind::ObservanceField)?;
-                }
-                Ok(None)
-            }
-            Builder::Observance(had) => {
-                had.line(alloc, name, content)?;
-                Ok(None)
-            }
-            Builder::Nothing => match (context, name) {
-                (Context::Outside, _) => Err(Refused::Fault(FaultKind::NotCalendar)),
-                (Context::Calendar, Name::Version) if content.value() == b"1.0".as_slice() => {
-                    Err(Refused::Fault(FaultKind::OldVersion))
-                }
-                _ => Ok(None),
-            },
         }
     }
 }

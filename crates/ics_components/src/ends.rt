@@ -1,7 +1,7 @@
 //! How long an event lasts: its end against its start, and its duration (RFC 5545, sections 3.8.2.2 and 3.8.2.5).
 ghost use Rattle.std.specs.Prelude.{◌≡◌, IfOk, IfErr, Ok, Some};
 ghost use Rattle.ics_components.specs.Lines.{duration_judged, duration_fault_of};
-ghost use Rattle.ics_components.specs.SecondRound.{compared, ends_in};
+ghost use Rattle.ics_components.specs.SecondRound.{ends_in};
 ghost use Rattle.ics_components.specs.Values.{is_lasting, lasting_of, is_out, ends_badly};
 
 use crate::dated::Dated;
@@ -34,24 +34,9 @@ pub fn ends_badly(start: &Option<Dated>, end: &Option<Dated>) -> bool
         (Stamp::Zoned(a), Stamp::Zoned(b)) => {
             start.tzid() == end.tzid() && is_out(a.seconds(), b.seconds())
         }
-        (Stamp::Zoned(_), Stamp::Utc(_))
-        | (Stamp::Utc(_), Stamp::Zoned(_))
-        | (Stamp::Utc(_), Stamp::Utc(_)) => false,
+        (Stamp::Zoned(_) | Stamp::Utc(_), Stamp::Zoned(_) | Stamp::Utc(_)) => false,
         _ => true,
     }
-}
-
-/// The check that the second round makes where these are a start and its end.
-fn compared(start: Instant, end: Instant) -> Option<DeferredCheck>
-    ensures { result ≡ compared start end }
-{
-    if let (Instant::Utc(a), Instant::Utc(b)) = (&start, &end) {
-        if is_out(a.seconds(), b.seconds()) {
-            return Some(DeferredCheck::End);
-        }
-        return None;
-    }
-    Some(DeferredCheck::Ends(start, end))
 }
 
 /// The check that the second round makes on the END of an event of that calendar.
@@ -69,24 +54,21 @@ pub fn ends_in(
     if is_zoned(start.stamp) && is_zoned(end.stamp) && start.tzid() == end.tzid() {
         return Ok(None);
     }
-    let Some(start) = start.instant(calendar)? else {
-        return Ok(None);
-    };
-    let Some(end) = end.instant(calendar)? else {
-        return Ok(None);
-    };
-    Ok(compared(start, end))
+    Ok(match (start.instant(calendar)?, end.instant(calendar)?) {
+        (Some(Instant::Utc(a)), Some(Instant::Utc(b))) if is_out(a.seconds(), b.seconds()) => {
+            Some(DeferredCheck::End)
+        }
+        (Some(Instant::Utc(_)), Some(Instant::Utc(_))) => None,
+        (Some(start), Some(end)) => Some(DeferredCheck::Ends(start, end)),
+        _ => None,
+    })
 }
 
 fn is_lasting(duration: Duration) -> bool
     ensures { result ≡ is_lasting duration }
 {
-    let Some(days) = duration.days.checked_mul(86_400) else {
-        return false;
-    };
-    let Some(seconds) = days.checked_add(duration.seconds) else {
-        return false;
-    };
+    let days = duration.days.saturating_mul(86_400);
+    let seconds = days.saturating_add(duration.seconds);
     (!duration.negative || seconds == 0) && seconds <= u64::from(LONGEST)
 }
 

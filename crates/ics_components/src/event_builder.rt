@@ -1,20 +1,18 @@
 //! An event that is being built of its lines.
-ghost use Rattle.std.specs.Prelude.{◌≡◌, Option, None, Some, is_some};
-ghost use Rattle.ics_values.specs.Integers.{integer_of};
+ghost use Rattle.std.specs.Prelude.{◌≡◌, [], Option, None, Some, is_some};
+ghost use Rattle.std.specs.Option.{option_or};
 ghost use Rattle.ics_values.specs.Plain.{text_of};
 ghost use Rattle.ics_components.specs.declared.fault.FaultKind.TheVariants.{Repeated};
-ghost use Rattle.ics_components.specs.Builders.{nothing, event_ended};
-ghost use Rattle.ics_components.specs.Lines.{Gives, Notes, first, fault_if, or_first, stamp_fault_of, number_fault_of, event_fault, event_note, event_check};
-ghost use Rattle.ics_components.specs.Lines.{Keeps, dates_line_fault, dates_line_note, value_fault, value_note};
-ghost use Rattle.ics_components.specs.Lines.{end_of_event, passed};
+ghost use Rattle.ics_components.specs.Builders.{collected_of, event_ended};
+ghost use Rattle.ics_components.specs.Lines.{Gives, Notes, fault_if, stamp_fault_of, event_fault, event_note, event_check};
+ghost use Rattle.ics_components.specs.Lines.{Keeps, value_fault, value_note, end_of_event, passed};
 ghost use Rattle.ics_components.specs.declared.gathered.Ended.TheVariants.{Event};
 ghost use Rattle.ics_components.specs.SecondRound.{used_zone, ends_in};
-ghost use Rattle.ics_components.specs.Values.{dated_of, ok_or_zero, stamp_read};
-ghost use Rattle.ics_components.specs.GivenTimes.{given_length};
+ghost use Rattle.ics_components.specs.Values.{dated_of, stamp_read};
 
 use crate::date_list::DateLists;
 use crate::date_values::Listing;
-use crate::dated::Dated;
+use crate::dated::{Dated, stamp, zone_name};
 use crate::deferred_check::DeferredCheck;
 use crate::ends::{ends_badly, ends_in, lasting};
 use crate::fault::FaultKind;
@@ -47,7 +45,7 @@ pub struct EventBuilder {
 
 /// Keeps the value of a property that stands only once.
 pub fn once<T: Drop>(kept: &mut Option<T>, value: T, twice: FaultKind) -> Result<(), Refused>
-    ensures { Keeps result kept.new (fault_if twice (is_some kept.old)) (or_first kept.old value) }
+    ensures { Keeps result kept.new (fault_if twice (is_some kept.old)) (option_or kept.old (Some value)) }
 {
     if kept.is_some() {
         return Err(Refused::Fault(twice));
@@ -64,21 +62,20 @@ fn put_date(
     calendar: u64,
     content: &Content<'_>,
 ) -> Result<Option<DeferredCheck>, Refused>
-    ensures { Notes result kept.new (first (stamp_fault_of (stamp_read content.now.params content.now.value)) (fault_if Repeated (is_some kept.old)))
-        (or_first kept.old (dated_of content.now.params content.now.value)) (used_zone calendar (dated_of content.now.params content.now.value)) }
+    ensures { Notes result kept.new (option_or (stamp_fault_of (stamp_read content.now.params content.now.value)) (fault_if Repeated (is_some kept.old)))
+        (option_or kept.old (Some (dated_of content.now.params content.now.value))) (used_zone calendar (dated_of content.now.params content.now.value)) }
 {
-    let dated = Dated::read(alloc, tzids, content)?;
+    let zone = zone_name(alloc, tzids, content)?;
+    let stamp = stamp(content.value(), zone.is_some())?;
+    let dated = Dated { stamp, zone };
     let check = dated.used_zone(calendar)?;
-    if let Err(refused) = once(kept, dated, FaultKind::Repeated) {
-        drop(check);
-        return Err(refused);
-    }
+    once(kept, dated, FaultKind::Repeated)?;
     Ok(check)
 }
 
 /// Keeps the first text of several.
 fn keep_first(kept: &mut Option<Text>, alloc: Global, value: &[u8]) -> Result<(), Refused>
-    ensures { Keeps result kept.new None (or_first kept.old (text_of value.now)) }
+    ensures { Keeps result kept.new None (option_or kept.old (Some (text_of value.now))) }
 {
     if kept.is_none() {
         *kept = Some(Text::of_value(alloc, value)?);
@@ -86,32 +83,10 @@ fn keep_first(kept: &mut Option<Text>, alloc: Global, value: &[u8]) -> Result<()
     Ok(())
 }
 
-/// What a SEQUENCE says. One that is no number counts as 0.
-fn sequence(text: &[u8]) -> Result<u32, Refused>
-    ensures { Gives result (number_fault_of (integer_of text.now)) (ok_or_zero (integer_of text.now)) }
-{
-    match read_integer(text) {
-        Ok(number) => Ok(number),
-        Err(IntegerFault::NotDigits) => Ok(0),
-        Err(IntegerFault::NumberTooLarge) => Err(Refused::Fault(FaultKind::NumberTooLarge)),
-    }
-}
-
-/// What gives the length of an event.
-fn given_length(end: Option<Dated>, duration: Option<Duration>) -> GivenLength
-    ensures { result ≡ given_length end duration }
-{
-    match (end, duration) {
-        (Some(end), _) => GivenLength::Until(end),
-        (None, Some(duration)) => GivenLength::Lasting(duration),
-        (None, None) => GivenLength::Open,
-    }
-}
-
 impl EventBuilder {
     /// What an event has that has only begun.
     pub fn nothing(alloc: Global) -> EventBuilder
-        ensures { result ≡ nothing }
+        ensures { result ≡ collected_of [] }
     {
         EventBuilder {
             uid: None,
@@ -134,41 +109,6 @@ impl EventBuilder {
         }
     }
 
-    /// One line more that gives dates. A stamp in a time zone gives a check for the second round.
-    fn dates(
-        &mut self,
-        alloc: Global,
-        tzids: &mut Tzids,
-        calendar: u64,
-        name: Name,
-        content: &Content<'_>,
-    ) -> Result<Option<DeferredCheck>, Refused>
-        ensures { Notes result self.new (dates_line_fault name content.now self.old) (dates_line_note name content.now self.old)
-            (event_check calendar name content.now) }
-    {
-        match name {
-            Name::Dtstart => put_date(&mut self.start, alloc, tzids, calendar, content),
-            Name::Dtend => put_date(&mut self.end, alloc, tzids, calendar, content),
-            Name::RecurrenceId => {
-                let check = put_date(&mut self.recurrence, alloc, tzids, calendar, content)?;
-                if content.param(b"RANGE").is_some() {
-                    drop(check);
-                    return Err(Refused::Fault(FaultKind::ThisAndFuture));
-                }
-                Ok(check)
-            }
-            Name::Rdate => {
-                self.rdates
-                    .add_line(alloc, tzids, calendar, Listing::Rdate, content)
-            }
-            Name::Exdate => {
-                self.exdates
-                    .add_line(alloc, tzids, calendar, Listing::Exdate, content)
-            }
-            _ => Ok(None),
-        }
-    }
-
     /// One line more that gives no date.
     fn value(&mut self, alloc: Global, name: Name, value: &[u8]) -> Result<(), Refused>
         ensures { Keeps result self.new (value_fault name value.now self.old) (value_note name value.now self.old) }
@@ -178,7 +118,12 @@ impl EventBuilder {
             Name::Uid => once(&mut self.uid, Text::of_value(alloc, value)?, again),
             Name::Duration => once(&mut self.duration, lasting(value)?, again),
             Name::Rrule => once(&mut self.rule, RuleValue::read(alloc, value)?, again),
-            Name::Sequence => once(&mut self.sequence, sequence(value)?, again),
+            // one that is no number counts as 0
+            Name::Sequence => match read_integer(value) {
+                Ok(number) => once(&mut self.sequence, number, again),
+                Err(IntegerFault::NotDigits) => once(&mut self.sequence, 0, again),
+                Err(IntegerFault::NumberTooLarge) => Err(Refused::Fault(FaultKind::NumberTooLarge)),
+            },
             Name::Exrule => Err(Refused::Fault(FaultKind::Exrule)),
             Name::Summary => keep_first(&mut self.title, alloc, value),
             Name::Location => keep_first(&mut self.location, alloc, value),
@@ -203,11 +148,29 @@ impl EventBuilder {
         ensures { Notes result self.new (event_fault name content.now self.old) (event_note name content.now self.old)
             (event_check calendar name content.now) }
     {
-        if name.gives_dates() {
-            return self.dates(alloc, tzids, calendar, name, content);
+        match name {
+            Name::Dtstart => put_date(&mut self.start, alloc, tzids, calendar, content),
+            Name::Dtend => put_date(&mut self.end, alloc, tzids, calendar, content),
+            Name::RecurrenceId => {
+                let check = put_date(&mut self.recurrence, alloc, tzids, calendar, content)?;
+                if content.param(b"RANGE").is_some() {
+                    return Err(Refused::Fault(FaultKind::ThisAndFuture));
+                }
+                Ok(check)
+            }
+            Name::Rdate => {
+                self.rdates
+                    .add_line(alloc, tzids, calendar, Listing::Rdate, content)
+            }
+            Name::Exdate => {
+                self.exdates
+                    .add_line(alloc, tzids, calendar, Listing::Exdate, content)
+            }
+            name => {
+                self.value(alloc, name, content.value())?;
+                Ok(None)
+            }
         }
-        self.value(alloc, name, content.value())?;
-        Ok(None)
     }
 
     /// The fault on the END of the event, if one stands there.
@@ -227,73 +190,41 @@ impl EventBuilder {
         None
     }
 
-    /// The check of the end of the event, where no fault stands on its END.
-    fn check_at_end(&self, calendar: u64) -> Result<Option<DeferredCheck>, Refused>
-        ensures { Gives result (end_of_event self.now) (ends_in calendar self.now.start self.now.end) }
+    /// The event of that calendar and the check of its end, at its END.
+    pub fn end(self, alloc: Global, calendar: u64) -> Result<Passed, Refused>
+        ensures { Gives result (end_of_event self) (passed (Event (event_ended calendar self)) (ends_in calendar self.start self.end)) }
     {
         if let Some(kind) = self.fault_at_end() {
             return Err(Refused::Fault(kind));
         }
-        Ok(ends_in(calendar, &self.start, &self.end)?)
-    }
-
-    /// The event of that calendar that has that start.
-    fn started(self, alloc: Global, calendar: u64, start: Dated) -> EndedEvent
-        ensures { result ≡ event_ended calendar (record self { start = Some start }) }
-    {
-        let EventBuilder {
-            uid,
-            start: _,
-            end,
-            duration,
-            rule,
-            rdates,
-            exdates,
-            recurrence,
-            sequence,
-            title,
-            location,
-            description,
-            cancelled,
-        } = self;
-        EndedEvent {
-            calendar,
-            uid: uid.unwrap_or(Text::new(alloc)),
-            start,
-            length: given_length(end, duration),
-            rule,
-            rdates,
-            exdates,
-            recurrence,
-            sequence: sequence.unwrap_or(0),
-            title: title.unwrap_or(Text::new(alloc)),
-            location: location.unwrap_or(Text::new(alloc)),
-            description: description.unwrap_or(Text::new(alloc)),
-            cancelled: cancelled.unwrap_or(false),
-        }
-    }
-
-    /// The event of that calendar and the check of its end, at its END.
-    pub fn end(mut self, alloc: Global, calendar: u64) -> Result<Passed, Refused>
-        ensures { Gives result (end_of_event self) (passed (Event (event_ended calendar self)) (ends_in calendar self.start self.end)) }
-    {
-        let check = match self.check_at_end(calendar) {
-            Ok(check) => check,
-            Err(refused) => {
-                drop(self);
-                return Err(refused);
-            }
+        let check = ends_in(calendar, &self.start, &self.end)?;
+        let start = self.start;
+        let Some(start) = start else {
+            return Err(Refused::Fault(FaultKind::MissingStart));
         };
-        match self.start.take() {
-            Some(start) => Ok(Passed {
-                ended: Ended::Event(self.started(alloc, calendar, start)),
-                check,
-            }),
-            None => {
-                drop(self);
-                drop(check);
-                Err(Refused::Fault(FaultKind::MissingStart))
-            }
-        }
+        let length = match (self.end, self.duration) {
+            (Some(end), _) => GivenLength::Until(end),
+            (None, Some(duration)) => GivenLength::Lasting(duration),
+            (None, None) => GivenLength::Open,
+        };
+        let event = EndedEvent {
+            calendar,
+            uid: self.uid.unwrap_or(Text::new(alloc)),
+            start,
+            length,
+            rule: self.rule,
+            rdates: self.rdates,
+            exdates: self.exdates,
+            recurrence: self.recurrence,
+            sequence: self.sequence.unwrap_or(0),
+            title: self.title.unwrap_or(Text::new(alloc)),
+            location: self.location.unwrap_or(Text::new(alloc)),
+            description: self.description.unwrap_or(Text::new(alloc)),
+            cancelled: self.cancelled.unwrap_or(false),
+        };
+        Ok(Passed {
+            ended: Ended::Event(event),
+            check,
+        })
     }
 }

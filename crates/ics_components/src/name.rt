@@ -1,7 +1,7 @@
 //! The names of properties and components, which compare without case (RFC 5545, section 3.1).
 ghost use Rattle.std.specs.Prelude.{◌≡◌, map};
 ghost use Rattle.ics_text.specs.Bytes.{upper};
-ghost use Rattle.ics_components.specs.Names.{name_of, other_name_of, gives_dates};
+ghost use Rattle.ics_components.specs.Names.{name_of, other_name_of};
 
 use ics_values::is_word;
 
@@ -29,18 +29,6 @@ pub enum Name {
     OffsetFrom,
     OffsetTo,
     Other,
-}
-
-impl Name {
-    /// Whether an event has dates from a property of that name.
-    pub fn gives_dates(self) -> bool
-        ensures { result ≡ gives_dates self }
-    {
-        matches!(
-            self,
-            Name::Dtstart | Name::Dtend | Name::RecurrenceId | Name::Rdate | Name::Exdate
-        )
-    }
 }
 
 /// What a property is called.

@@ -1,7 +1,9 @@
 //! The components that are open.
 ghost use Rattle.std.specs.Prelude.{◌≡◌, ◌∷◌, [], map};
 ghost use Rattle.ics_text.specs.Bytes.{upper};
-ghost use Rattle.ics_components.specs.Lines.{Makes, Keeps, begin_fault, opened, end_line, line_in};
+ghost use Rattle.ics_components.specs.Names.{name_of};
+ghost use Rattle.ics_components.specs.declared.name.Name.TheVariants.{Begin, End};
+ghost use Rattle.ics_components.specs.Lines.{Notes, fault_on, behind, closed, passing};
 ghost use Rattle.ics_components.specs.Pass.{bottom, is_lowest};
 
 use crate::builder::Builder;
@@ -62,10 +64,17 @@ impl Stack {
         self.outer.is_empty()
     }
 
-    /// Opens a component on the line with that number.
-    fn begin(&mut self, alloc: Global, number: u64, component: Component) -> Result<(), Refused>
-        ensures { Keeps result self.new (begin_fault component self.old) (opened number component self.old) }
+    /// Opens the component that begins on the line with that number.
+    fn begin(
+        &mut self,
+        alloc: Global,
+        number: u64,
+        content: &Content<'_>,
+    ) -> Result<Passed, Refused>
+        ensures { Notes result self.new (fault_on Begin content.now self.old) (behind number Begin content.now self.old)
+            (passing Begin content.now self.old) }
     {
+        let component = Component::named(alloc, content.value())?;
         match (self.top.context, &component) {
             (Context::Outside, Component::Calendar) => {}
             (Context::Outside, _) => return Err(Refused::Fault(FaultKind::NotCalendar)),
@@ -74,11 +83,8 @@ impl Stack {
         if self.outer.len() >= MAX_DEPTH {
             return Err(Refused::Fault(FaultKind::TooDeep));
         }
-        let calendar = if self.outer.is_empty() {
-            number
-        } else {
-            self.top.calendar
-        };
+        let lowest = self.is_lowest();
+        let calendar = if lowest { number } else { self.top.calendar };
         let context = component.context_in(self.top.context);
         let inner = Frame {
             component,
@@ -88,18 +94,18 @@ impl Stack {
         };
         let outer = mem::replace(&mut self.top, inner);
         self.outer.push(outer)?;
-        Ok(())
+        Ok(Passed::nothing())
     }
 
-    /// Closes the innermost component by an END with that name, and gives what it is.
-    fn end(&mut self, alloc: Global, name: &[u8]) -> Result<Passed, Refused>
-        ensures { Makes result self.new (end_line (map upper name.now) self.old) }
+    /// Closes the innermost component by an END, and gives what it is.
+    fn end(&mut self, alloc: Global, content: &Content<'_>) -> Result<Passed, Refused>
+        ensures { Notes result self.new (fault_on End content.now self.old) (closed self.old) (passing End content.now self.old) }
     {
         let Some(outer) = self.outer.pop() else {
             return Err(Refused::Fault(FaultKind::NotCalendar));
         };
         let inner = mem::replace(&mut self.top, outer);
-        inner.end(alloc, &mut self.top.builder, name)
+        inner.end(alloc, &mut self.top.builder, content.value())
     }
 
     /// Goes behind the line with that number, and gives what is gathered there.
@@ -109,30 +115,17 @@ impl Stack {
         number: u64,
         content: &Content<'_>,
     ) -> Result<Passed, Refused>
-        ensures { Makes result self.new (line_in number content.now self.old) }
+        ensures { Notes result self.new (fault_on (name_of (map upper content.now.name)) content.now self.old)
+            (behind number (name_of (map upper content.now.name)) content.now self.old)
+            (passing (name_of (map upper content.now.name)) content.now self.old) }
     {
-        let check = match name_of(content.name()) {
-            Name::Begin => {
-                let component = Component::named(alloc, content.value())?;
-                self.begin(alloc, number, component)?;
-                None
-            }
-            Name::End => return self.end(alloc, content.value()),
-            name => {
-                let top = &mut self.top;
-                top.builder.line(
-                    alloc,
-                    &mut self.tzids,
-                    top.calendar,
-                    top.context,
-                    name,
-                    content,
-                )?
-            }
-        };
-        Ok(Passed {
-            ended: Ended::Nothing,
-            check,
-        })
+        match name_of(content.name()) {
+            Name::Begin => self.begin(alloc, number, content),
+            Name::End => self.end(alloc, content),
+            name => Ok(Passed {
+                ended: Ended::Nothing,
+                check: self.top.line(alloc, &mut self.tzids, name, content)?,
+            }),
+        }
     }
 }
