@@ -1,6 +1,6 @@
 -- The values of RDATE and EXDATE, as they are read.
 use Rattle.std.proofs.Common.{◌≡◌, ℕ, ◌+◌, Bool, ◌==◌, ◌&&◌, ◌||◌, not, false, List, [], ◌∷◌, length, take, drop, refl, sym, ap, ◌∙◌, cond, arith}
-use Rattle.std.proofs.Common.{map, Option, Some, None, Result, Ok, Err, Bor}
+use Rattle.std.proofs.Common.{map, Option, Some, None, Result, Ok, Err, subst, Bor}
 use Rattle.std.specs.Prelude.{nat_lt, is_none, ◌++◌}
 use Rattle.std.specs.List.{list_any, position, position_or_len}
 use Rattle.std.specs.Option.{option_or as first}
@@ -72,37 +72,30 @@ judged-is v = grind arith
 
 -- WHAT IS READ of the values of a line: the least fault, and what they say where there is none.
 pub record IsRead (vs : List DateValue) (o : Option FaultKind) (ls : List ListedDate) : Type 0 where
-  pub same : unless o ls ≡ unless (dates_fault vs) (map listed_in vs)
+  pub fault : dates_fault vs ≡ o
+  pub said : o ≡ None → ls ≡ map listed_in vs
 
 -- what is kept, with what one value more says
 abbrev pub and_read : List ListedDate → Result ListedDate FaultKind → List ListedDate
 and_read ls (Ok x) = ls ++ x ∷ []
 and_read ls (Err k) = ls
 
-one-more : (v : DateValue) (o p : Option FaultKind) (ls ms : List ListedDate) → unless o ls ≡ unless p ms →
-    unless (least o (result_err (judged v))) (and_read ls (judged v)) ≡ unless (least p (dates_fault (v ∷ []))) (ms ++ listed_in v ∷ [])
-one-more v o p ls ms e = rw (judged-is v) (by_fault (dates_fault (v ∷ [])))
-  where
-    by_fault : (q : Option FaultKind) →
-        unless (least o (result_err (unless q (listed_in v)))) (and_read ls (unless q (listed_in v))) ≡ unless (least p q) (ms ++ listed_in v ∷ [])
-    by_fault q = grind arith
+one-more : (o q : Option FaultKind) (ls ms : List ListedDate) (x : ListedDate) → (o ≡ None → ls ≡ ms) →
+    (least o q ≡ least o (result_err (unless q x))) × (least o (result_err (unless q x)) ≡ None → and_read ls (unless q x) ≡ ms ++ x ∷ [])
+one-more o q ls ms x h = (grind arith, λ n. grind arith)
 
 pub read-more : {A : Type 0} (f : A → DateValue) (ys : List A) (y : A) {o : Option FaultKind} {ls : List ListedDate} {r : Result ListedDate FaultKind} →
     IsRead (map f ys) o ls → judged (f y) ≡ r → IsRead (map f (ys ++ y ∷ [])) (least o (result_err r)) (and_read ls r)
 read-more f ys y {o = o} {ls = ls} h e =
-    rw (map-append f ys (y ∷ [])) (record {
-      same =
-          rw (← e, dates-more (map f ys) (f y), map-append listed_in (map f ys) (f y ∷ []))
-          (one-more (f y) o _ ls _ h.same);
+    let one = one-more o (dates_fault (f y ∷ [])) ls (map listed_in (map f ys)) (listed_in (f y)) h.said in
+    rw (← e, judged-is (f y), map-append f ys (y ∷ [])) (record {
+      fault = rw (dates-more (map f ys) (f y), h.fault) one.0;
+      said = rw (map-append listed_in (map f ys) (f y ∷ [])) one.1;
     })
 
-told : (o p : Option FaultKind) (ls ms : List ListedDate) → unless o ls ≡ unless p ms → (p ≡ o) × (o ≡ None → ls ≡ ms)
-told o p ls ms e = (grind arith, λ n. grind arith)
-
 pub read-all : (f : List ℕ → DateValue) (ys : List (Bor (List ℕ))) {texts : List (List ℕ)} {o : Option FaultKind} {ls : List ListedDate} →
-    map (λ y. y.now) ys ≡ texts → IsRead (map (λ y. f y.now) ys) o ls → (dates_fault (map f texts) ≡ o) × (o ≡ None → ls ≡ map listed_in (map f texts))
-read-all f ys {o = o} {ls = ls} e h =
-    told o _ ls _ (h.same ∙ ap (λ vs. unless (dates_fault vs) (map listed_in vs)) (sym (map-map f (λ y. y.now) ys) ∙ ap (map f) e))
+    map (λ y. y.now) ys ≡ texts → IsRead (map (λ y. f y.now) ys) o ls → IsRead (map f texts) o ls
+read-all f ys {o = o} {ls = ls} e h = subst (λ vs. IsRead vs o ls) (sym (map-map f (λ y. y.now) ys) ∙ ap (map f) e) h
 
 -- a value is no local exactly where it says none
 abbrev pub is_other : ListedDate → Bool

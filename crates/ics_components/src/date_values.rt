@@ -3,7 +3,7 @@ ghost use Rattle.std.specs.Prelude.{◌≡◌, ◌==◌, map};
 ghost use Rattle.std.specs.List.{position};
 ghost use Rattle.ics_values.specs.Periods.{lasts};
 ghost use Rattle.ics_values.specs.Stamps.{stamp_of};
-ghost use Rattle.ics_components.specs.DateValues.{At, date_time_of, period_of, rdate_of, value_of, values_of, listed_in};
+ghost use Rattle.ics_components.specs.DateValues.{At, date_time_of, period_of, value_of, values_of, listed_in};
 ghost use Rattle.ics_components.specs.Lines.{Gives, lesser, stamp_judged, judged, dates_fault};
 
 use crate::date_list::{Dates, ListedDate};
@@ -84,23 +84,16 @@ fn slash(text: &[u8]) -> Option<usize>
     text.iter().position(|b| *b == b'/')
 }
 
-/// What a value of an RDATE says, or its least fault: a PERIOD may have two.
-fn rdate(text: &[u8], zoned: bool) -> Result<ListedDate, FaultKind>
-    ensures { result ≡ judged (rdate_of zoned text.now) }
-{
-    match slash(text) {
-        Some(i) => period(&text[..i], &text[i + 1..], zoned),
-        None => at(text, zoned),
-    }
-}
-
 impl Listing {
-    /// What a value says, or its least fault; `zoned` says that a TZID stands beside it.
+    /// What a value says, or its least fault: a PERIOD may have two. `zoned` says that a TZID stands beside it.
     fn value(self, text: &[u8], zoned: bool) -> Result<ListedDate, FaultKind>
         ensures { result ≡ judged (value_of self zoned text.now) }
     {
         match self {
-            Listing::Rdate => rdate(text, zoned),
+            Listing::Rdate => match slash(text) {
+                Some(i) => period(&text[..i], &text[i + 1..], zoned),
+                None => at(text, zoned),
+            },
             Listing::Exdate => at(text, zoned),
         }
     }

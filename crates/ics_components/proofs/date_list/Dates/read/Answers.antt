@@ -17,11 +17,11 @@ returns-in-Some-least c =
     let road = YieldsList-from_slice_split _ (λ b. b == 44) c.args.text.now (cc) (cc) (cc) (λ x r q k. search (rules, tests)) in
     let last = YieldsList-end road c.values.yielded _ c.values.yielded_by _ _ c.in-None.is c.next.ensures.steps in
     let all = read-all (value_of c.args.listing c.args.zoned) c.values.yielded last.0 c.values.invariant in
-    all.0 ∙ c.in-Some-least.is
+    all.fault ∙ c.in-Some-least.is
 
 pub returns-in-None-least : goal.returns-in-None-least
 returns-in-None-least c =
     let road = YieldsList-from_slice_split _ (λ b. b == 44) c.args.text.now (cc) (cc) (cc) (λ x r q k. search (rules, tests)) in
     let last = YieldsList-end road c.values.yielded _ c.values.yielded_by _ _ c.in-None.is c.next.ensures.steps in
     let all = read-all (value_of c.args.listing c.args.zoned) c.values.yielded last.0 c.values.invariant in
-    (all.0 ∙ c.in-None-least.is, all.1 c.in-None-least.is)
+    (all.fault ∙ c.in-None-least.is, all.said c.in-None-least.is)

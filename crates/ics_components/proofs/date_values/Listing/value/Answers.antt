@@ -3,15 +3,15 @@ use Rattle.std.proofs.lemmas.List.{take_rest}
 use Rattle.ics_components.specs.DateValues.{period_of}
 use Rattle.ics_components.specs.Lines.{judged}
 use Rattle.ics_components.proofs.DateValueLemmas.{rdate-is}
-use Rattle.ics_components.proofs.date_values.rdate.Goals as goal
+use Rattle.ics_components.proofs.date_values.Listing.value.Goals as goal
 
 pub returns-in-Some : goal.returns-in-Some
 returns-in-Some c =
-    c.period.ensures
+    rw c.in-Rdate.is (c.period.ensures
     ∙ ap judged (
     ap (period_of c.args.zoned (take c.in-Some.i c.args.text.now)) (take_rest c.args.text.now (c.in-Some.i + 1))
     ∙ rdate-is c.args.zoned c.args.text.now (sym c.slash.ensures ∙ c.in-Some.is)
-    )
+    ))
 
 pub returns-in-None : goal.returns-in-None
-returns-in-None c = c.at.ensures ∙ ap judged (rdate-is c.args.zoned c.args.text.now (sym c.slash.ensures ∙ c.in-None.is))
+returns-in-None c = rw c.in-Rdate.is (c.at.ensures ∙ ap judged (rdate-is c.args.zoned c.args.text.now (sym c.slash.ensures ∙ c.in-None.is)))
