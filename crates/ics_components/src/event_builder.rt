@@ -22,7 +22,7 @@ use crate::refused::Refused;
 use crate::rule_value::RuleValue;
 use crate::tzid::Tzids;
 use ics_text::Content;
-use ics_values::{Duration, IntegerFault, Text, is_word, read_integer};
+use ics_values::{Duration, IntegerFault, Stamp, Text, is_word, read_integer};
 use std::alloc::Global;
 
 /// The value of each property that an event may have once, and what all its RDATEs and EXDATEs list.
@@ -195,13 +195,10 @@ impl EventBuilder {
         ensures { Gives result (end_of_event self) (passed (Event (event_ended calendar self)) (ends_in calendar self.start self.end)) }
     {
         if let Some(kind) = self.fault_at_end() {
+            drop(self);
             return Err(Refused::Fault(kind));
         }
         let check = ends_in(calendar, &self.start, &self.end)?;
-        let start = self.start;
-        let Some(start) = start else {
-            return Err(Refused::Fault(FaultKind::MissingStart));
-        };
         let length = match (self.end, self.duration) {
             (Some(end), _) => GivenLength::Until(end),
             (None, Some(duration)) => GivenLength::Lasting(duration),
@@ -210,7 +207,11 @@ impl EventBuilder {
         let event = EndedEvent {
             calendar,
             uid: self.uid.unwrap_or(Text::new(alloc)),
-            start,
+            // an event without one has a fault
+            start: self.start.unwrap_or(Dated {
+                stamp: Stamp::Date(0),
+                zone: None,
+            }),
             length,
             rule: self.rule,
             rdates: self.rdates,
