@@ -12,7 +12,7 @@ ghost use Rattle.ics_components.specs.Values.{dated_of, stamp_read};
 
 use crate::date_list::DateLists;
 use crate::date_values::Listing;
-use crate::dated::{Dated, stamp, zone_name};
+use crate::dated::Dated;
 use crate::deferred_check::DeferredCheck;
 use crate::ends::{ends_badly, ends_in, lasting};
 use crate::fault::FaultKind;
@@ -65,11 +65,12 @@ fn put_date(
     ensures { Notes result kept.new (option_or (stamp_fault_of (stamp_read content.now.params content.now.value)) (fault_if Repeated (is_some kept.old)))
         (option_or kept.old (Some (dated_of content.now.params content.now.value))) (used_zone calendar (dated_of content.now.params content.now.value)) }
 {
-    let zone = zone_name(alloc, tzids, content)?;
-    let stamp = stamp(content.value(), zone.is_some())?;
-    let dated = Dated { stamp, zone };
+    let dated = Dated::read(alloc, tzids, content)?;
     let check = dated.used_zone(calendar)?;
-    once(kept, dated, FaultKind::Repeated)?;
+    if let Err(refused) = once(kept, dated, FaultKind::Repeated) {
+        drop(check);
+        return Err(refused);
+    }
     Ok(check)
 }
 
