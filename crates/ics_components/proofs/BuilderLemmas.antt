@@ -1,5 +1,5 @@
 -- A line changes what is collected of a component as the pass notes it.
-use Rattle.std.proofs.Common.{◌≡◌, ℕ, Bool, true, false, List, [], ◌∷◌, ◌++◌, map, refl, ap, ◌∙◌, cond, Option, Some, None, sym, arith}
+use Rattle.std.proofs.Common.{◌≡◌, ℕ, Bool, true, false, List, [], ◌∷◌, ◌++◌, refl, ap, ◌∙◌, cond, Option, Some, None, sym, arith}
 use Rattle.std.specs.Prelude.{option_map}
 use Rattle.std.specs.Option.{option_or}
 use Rattle.std.proofs.lemmas.List.{append-nil, map-append}
@@ -64,15 +64,13 @@ observance_of-more ls l = by_name (name_of (property_name l.content)) (tells (pr
     by_name _ e = simp (filter-append, flat_map-append, append-nil, kept-more, e)
 
 -- THE OBSERVANCES of a time zone, with one line more.
-parts-more : (whole ls : List Placed) (l : Placed) → parts whole (ls ++ l ∷ []) ≡ parts whole ls ++ cond (begins_in_zone l) (own whole l ∷ []) []
-parts-more whole ls l =
-    simp (filter-append, map-append) (ap (λ os. parts whole ls ++ os) (part (begins_in_zone l)))
-  where
-    part : (t : Bool) → map (own whole) (cond t (l ∷ []) []) ≡ cond t (own whole l ∷ []) []
-    part t = grind arith
+parts-more : (whole ls : List Placed) (l : Placed) (t : Bool) → begins_in_zone l ≡ t →
+    parts whole (ls ++ l ∷ []) ≡ parts whole ls ++ cond t (own whole l ∷ []) []
+parts-more whole ls l true e = simp (filter-append, map-append, e)
+parts-more whole ls l false e = simp (filter-append, map-append, e)
 
 pub parts-same : (whole ls : List Placed) (l : Placed) → is_begin l ≡ false → parts whole (ls ++ l ∷ []) ≡ parts whole ls
-parts-same whole ls l e = rw (parts-more whole ls l, e, and-false (in_zone l)) (append-nil (parts whole ls))
+parts-same whole ls l e = parts-more whole ls l false (rw e (and-false (in_zone l))) ∙ append-nil (parts whole ls)
 
 -- an observance begins exactly on a STANDARD or DAYLIGHT in a time zone
 observance-is : (l : Placed) → is_begin l ≡ true → begins_in_zone l ≡ is_observance_context (context_of (inside l))
@@ -101,7 +99,7 @@ module _ (whole : List Placed) (ls : List Placed) where
       ap builder.Observance (observance_of-more ls b ∙ ap (λ n. observance_note n (parts_at b) (observance_of ls)) n)
   builder-begun context.Zone b ks n e o =
       ap builder.Zone (zone_of-more (parts whole (ls ++ b ∷ [])) ls b ∙ ap (λ n. zone_note n (parts_at b) (zone_of (parts whole (ls ++ b ∷ [])) ls)) n)
-      ∙ ap (λ os. builder.Zone (zone_of os ls)) (parts-more whole ls b ∙ ap (λ t. parts whole ls ++ cond t (own whole b ∷ []) []) (observance-is b e))
+      ∙ ap (λ os. builder.Zone (zone_of os ls)) (parts-more whole ls b _ (observance-is b e))
       ∙ by_context (context_of (inside b))
     where
       by_context : (p : Context) → builder.Zone (zone_of (parts whole ls ++ cond (is_observance_context p) (own whole b ∷ []) []) ls)

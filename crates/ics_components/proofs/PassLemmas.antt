@@ -1,5 +1,5 @@
 -- One pass with the components that are open finds the first fault of round one, and gathers what the lines say.
-use Rattle.std.proofs.Common.{◌≡◌, ℕ, ◌+◌, ◌<◌, List, [], ◌∷◌, ◌++◌, map, refl, subst, sym, ap, ◌∙◌, append_assoc, arith, cond, Option, Some, None, ◌^◌}
+use Rattle.std.proofs.Common.{◌≡◌, ℕ, ◌+◌, ◌<◌, List, [], ◌∷◌, ◌++◌, map, refl, sym, ap, ◌∙◌, append_assoc, arith, cond, Option, Some, None, ◌^◌}
 use Rattle.std.specs.Prelude.{find}
 use Rattle.std.proofs.lemmas.List.{append-nil}
 use Rattle.std.proofs.lemmas.List.Elements.{All-nil, All-push, All-weaker}
@@ -27,7 +27,7 @@ use Rattle.ics_components.proofs.Table.{parts, any-part, frame_of, IsAsked, leas
 use Rattle.ics_components.proofs.Bundles.{Bundle, Keeps, Before, falls, open_of, opens, opens-behind, top_beside, zone-beside}
 use Rattle.ics_components.proofs.Bundles.{bundles_behind, keeps}
 use Rattle.ics_components.proofs.Frames.{frames_of, with, Closes, frames-behind, fault-top, passing-top}
-use Rattle.ics_components.proofs.Order.{last-more, Falls, falls-behind, lines_in-whole, ended_from, nested}
+use Rattle.ics_components.proofs.Order.{last-more, falls-behind, lines_in-whole, ended_from, nested}
 use Rattle.ics_components.proofs.Ended.{events, zones, picked-same, IsMatched}
 
 -- WHERE THE LINES END.
@@ -66,33 +66,34 @@ gathered-none whole had before = simp append-nil
 
 -- THE PASS.
 -- Where the pass is: on a line behind those before it, with a bundle of lines for each component that is open.
-record IsOn (whole before : List Placed) (bundles : List Bundle) (l : Placed) (lines : List Line) : Type 0 where
-  pub parts : whole ≡ before ++ l ∷ placed_from (path_behind l) lines
-  pub place : opens bundles ≡ l.path
+record IsOn (whole before : List Placed) (bundles : List Bundle) (line : Line) (o : Option Parts) (lines : List Line) : Type 0 where
+  pub parts : whole ≡ before ++ with line (opens bundles) o ∷ placed_from (path_behind (with line (opens bundles) o)) lines
   pub kept : Keeps before [] bundles
-  pub earlier : Before l.number before
-  pub inner : innermost l.path < l.number
-  pub rises : Rises l.number lines
+  pub earlier : Before line.number before
+  pub inner : innermost (opens bundles) < line.number
+  pub rises : Rises line.number lines
 
 -- the same before the first of some lines
 abbrev IsAt : List Placed → List Placed → List Bundle → List Line → Type 0
 IsAt whole before bundles [] = Unit {0}
-IsAt whole before bundles (line ∷ lines) = IsOn whole before bundles (with line (opens bundles) (content_of line.bytes)) lines
+IsAt whole before bundles (line ∷ lines) = IsOn whole before bundles line (content_of line.bytes) lines
 
-at-next : {whole before : List Placed} {bundles : List Bundle} (l : Placed) (lines : List Line) → IsOn whole before bundles l lines →
-    IsAt whole (before ++ l ∷ []) (bundles_behind l bundles) lines
-at-next l [] on = tt
-at-next {before = before} {bundles = bundles} l (m ∷ ms) on =
-    let falls = falls-behind l (rw on.place at (falls before [] bundles on.kept)) on.inner in
+at-next : {whole before : List Placed} {bundles : List Bundle} (line : Line) (o : Option Parts) (lines : List Line) →
+    IsOn whole before bundles line o lines →
+    IsAt whole (before ++ with line (opens bundles) o ∷ []) (bundles_behind (with line (opens bundles) o) bundles) lines
+at-next line o [] on = tt
+at-next {before = before} {bundles = bundles} line o (m ∷ ms) on =
+    let l : Placed = with line (opens bundles) o in
+    let moved = opens-behind l bundles refl in
+    let falls = falls-behind l (falls before [] bundles on.kept) on.inner in
     record {
-      parts = rw (opens-behind l bundles on.place) (on.parts ∙ sym (append_assoc before (l ∷ []) (placed_from (path_behind l) (m ∷ ms))));
-      place = refl;
-      kept = keeps before l bundles on.earlier on.inner on.place on.kept;
+      parts = rw moved (on.parts ∙ sym (append_assoc before (l ∷ []) (placed_from (path_behind l) (m ∷ ms))));
+      kept = keeps before l bundles on.earlier on.inner refl on.kept;
       earlier =
           All-push (λ k. innermost k.path < m.number) before l
           (All-weaker (λ k. innermost k.path < l.number) (λ k. innermost k.path < m.number) (λ k h. omega (arith, h, on.rises.0)) before on.earlier)
           (omega (arith, on.inner, on.rises.0));
-      inner = rw (opens-behind l bundles on.place) (omega (arith, falls.1, on.rises.0));
+      inner = rw moved (omega (arith, falls.1, on.rises.0));
       rises = on.rises.1;
     }
 
@@ -104,17 +105,16 @@ Known lines =
     ≡ unless (first_from stands fault_at_end before (placed_from (opens bundles) lines)) (gathered_from whole had before (placed_from (opens bundles) lines))
 
 -- the lines of a component all stand before its END
-closes-here : (whole before : List Placed) (l : Placed) (bundles : List Bundle) (lines : List Line) → IsOn whole before bundles l lines →
-    Closes whole before l bundles
-closes-here whole before l [] lines on = tt
-closes-here whole before l (f ∷ fs) lines on =
+closes-here : (whole before : List Placed) (line : Line) (o : Option Parts) (bundles : List Bundle) {lines : List Line} →
+    IsOn whole before bundles line o lines → Closes whole before (with line (opens bundles) o) bundles
+closes-here whole before line o [] on = tt
+closes-here whole before line o (f ∷ fs) {lines} on =
     λ e. ap (lines_in f.begin.number) on.parts
-    ∙ lines_in-whole before l lines (sym on.place ∙ ap (λ p. open_of f ∷ p) (sym e))
-    (on.inner, subst Falls on.place (falls before [] (f ∷ fs) on.kept)) on.rises
+    ∙ lines_in-whole before (with line (opens (f ∷ fs)) o) lines (ap (λ p. open_of f ∷ p) (sym e)) (on.inner, falls before [] (f ∷ fs) on.kept) on.rises
 
 -- A line with parts, before lines of which it is known.
 module _ (line : Line) {lines : List Line} (again : Known lines) (v : Parts) {whole before : List Placed} {bundles : List Bundle}
-    (on : IsOn whole before bundles (with line (opens bundles) (Some v)) lines) (had : GatheredSeen) where
+    (on : IsOn whole before bundles line (Some v) lines) (had : GatheredSeen) where
   abbrev l : Placed
   l = with line (opens bundles) (Some v)
 
@@ -152,13 +152,13 @@ module _ (line : Line) {lines : List Line} (again : Known lines) (v : Parts) {wh
   by_first None e =
       let moved = opens-behind l bundles refl in
       ap (λ fs. pass fs (Some line.number) now lines)
-      (sym (frames-behind whole before line v bundles on.kept (closes-here whole before l bundles lines on)))
-      ∙ (rw moved at (again whole (before ++ l ∷ []) (bundles_behind l bundles) (Some line.number) now (at-next l lines on)
+      (sym (frames-behind whole before line v bundles on.kept (closes-here whole before line (Some v) bundles on)))
+      ∙ (rw moved at (again whole (before ++ l ∷ []) (bundles_behind l bundles) (Some line.number) now (at-next line (Some v) lines on)
       (end-is-known whole before l (bundles_behind l bundles) moved)))
       ∙ ap (unless (first_from stands fault_at_end (before ++ l ∷ []) rest)) (gathered-step (nested (λ kind. stands kind (beside before l) l) e))
 
 step : (line : Line) {lines : List Line} → Known lines → (o : Option Parts) {whole before : List Placed} {bundles : List Bundle} →
-    IsOn whole before bundles (with line (opens bundles) o) lines → (had : GatheredSeen) →
+    IsOn whole before bundles line o lines → (had : GatheredSeen) →
     on_content line.number o (frames_of whole bundles) had (λ frames had. pass frames (Some line.number) had lines)
     ≡ unless (first_from stands fault_at_end before (with line (opens bundles) o
     ∷ placed_from (path_behind (with line (opens bundles) o)) lines))
@@ -183,7 +183,7 @@ pass-lines (line ∷ lines) whole before bundles last had on e = step line (pass
 first-at : (lines : List Line) → Rises 0 lines → IsAt (placed_from [] lines) [] [] lines
 first-at [] r = tt
 first-at (line ∷ lines) r =
-    record { parts = refl; place = refl; kept = tt; earlier = All-nil (λ l. innermost l.path < line.number); inner = r.0; rises = r.1 }
+    record { parts = refl; kept = tt; earlier = All-nil (λ l. innermost l.path < line.number); inner = r.0; rises = r.1 }
 
 pub pass-whole : (lines : List Line) → Rises 0 lines →
     pass (bottom ∷ []) None nothing_gathered lines

@@ -23,9 +23,6 @@ other_words =
     ∷ (codes "DESCRIPTION", name.Description) ∷ (codes "STATUS", name.Status) ∷ (codes "TZID", name.Tzid) ∷ (codes "TZOFFSETFROM", name.OffsetFrom)
     ∷ (codes "TZOFFSETTO", name.OffsetTo) ∷ []
 
--- what a name in upper case stands for, if it is none of the first ones, and whatever it is
-abbrev pub other_name_of : List ℕ → Name
-other_name_of u = named_in other_words name.Other u
-
+-- what a name in upper case stands for
 abbrev pub name_of : List ℕ → Name
 name_of u = named_in (first_words ++ other_words) name.Other u

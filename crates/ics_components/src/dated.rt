@@ -1,12 +1,13 @@
 //! A stamp and the zone that its line names (RFC 5545, section 3.2.19).
 ghost use Rattle.std.specs.Prelude.{◌≡◌, IfOk, IfErr, Ok, Some};
 ghost use Rattle.ics_values.specs.Stamps.{stamp_of};
-ghost use Rattle.ics_components.specs.Lines.{stamp_judged, stamp_fault_of};
+ghost use Rattle.ics_components.specs.Lines.{Gives, stamp_judged, stamp_fault_of};
 ghost use Rattle.ics_components.specs.SecondRound.{used_zone, instant_in};
-ghost use Rattle.ics_components.specs.Values.{tzid, zone_name};
+ghost use Rattle.ics_components.specs.Values.{dated_of, stamp_read, tzid, zone_name};
 
 use crate::deferred_check::{DeferredCheck, Instant, ZoneName};
 use crate::fault::FaultKind;
+use crate::refused::Refused;
 use crate::tzid::{Tzid, Tzids};
 use ics_text::Content;
 use ics_values::{Stamp, StampFault, is_zoned, read_stamp};
@@ -48,6 +49,19 @@ pub fn zone_name(
 }
 
 impl Dated {
+    /// The stamp of a line and the zone that its TZID names.
+    pub(crate) fn read(
+        alloc: Global,
+        tzids: &mut Tzids,
+        content: &Content<'_>,
+    ) -> Result<Dated, Refused>
+        ensures { Gives result (stamp_fault_of (stamp_read content.now.params content.now.value)) (dated_of content.now.params content.now.value) }
+    {
+        let zone = zone_name(alloc, tzids, content)?;
+        let stamp = stamp(content.value(), zone.is_some())?;
+        Ok(Dated { stamp, zone })
+    }
+
     /// The time zone of the stamp, if it has one, which is to be known.
     pub(crate) fn used_zone(&self, calendar: u64) -> Result<Option<DeferredCheck>, AllocError>
         ensures { IfOk result (λ check. check ≡ used_zone calendar self.now) }

@@ -12,7 +12,7 @@ ghost use Rattle.ics_components.specs.Values.{dated_of, stamp_read};
 
 use crate::date_list::DateLists;
 use crate::date_values::Listing;
-use crate::dated::{Dated, stamp, zone_name};
+use crate::dated::Dated;
 use crate::deferred_check::DeferredCheck;
 use crate::ends::{ends_badly, ends_in, lasting};
 use crate::fault::FaultKind;
@@ -22,7 +22,7 @@ use crate::refused::Refused;
 use crate::rule_value::RuleValue;
 use crate::tzid::Tzids;
 use ics_text::Content;
-use ics_values::{Duration, IntegerFault, Text, is_word, read_integer};
+use ics_values::{Duration, IntegerFault, Stamp, Text, is_word, read_integer};
 use std::alloc::Global;
 
 /// The value of each property that an event may have once, and what all its RDATEs and EXDATEs list.
@@ -65,11 +65,12 @@ fn put_date(
     ensures { Notes result kept.new (option_or (stamp_fault_of (stamp_read content.now.params content.now.value)) (fault_if Repeated (is_some kept.old)))
         (option_or kept.old (Some (dated_of content.now.params content.now.value))) (used_zone calendar (dated_of content.now.params content.now.value)) }
 {
-    let zone = zone_name(alloc, tzids, content)?;
-    let stamp = stamp(content.value(), zone.is_some())?;
-    let dated = Dated { stamp, zone };
+    let dated = Dated::read(alloc, tzids, content)?;
     let check = dated.used_zone(calendar)?;
-    once(kept, dated, FaultKind::Repeated)?;
+    if let Err(refused) = once(kept, dated, FaultKind::Repeated) {
+        drop(check);
+        return Err(refused);
+    }
     Ok(check)
 }
 
@@ -195,13 +196,10 @@ impl EventBuilder {
         ensures { Gives result (end_of_event self) (passed (Event (event_ended calendar self)) (ends_in calendar self.start self.end)) }
     {
         if let Some(kind) = self.fault_at_end() {
+            drop(self);
             return Err(Refused::Fault(kind));
         }
         let check = ends_in(calendar, &self.start, &self.end)?;
-        let start = self.start;
-        let Some(start) = start else {
-            return Err(Refused::Fault(FaultKind::MissingStart));
-        };
         let length = match (self.end, self.duration) {
             (Some(end), _) => GivenLength::Until(end),
             (None, Some(duration)) => GivenLength::Lasting(duration),
@@ -210,7 +208,11 @@ impl EventBuilder {
         let event = EndedEvent {
             calendar,
             uid: self.uid.unwrap_or(Text::new(alloc)),
-            start,
+            // an event without one has a fault
+            start: self.start.unwrap_or(Dated {
+                stamp: Stamp::Date(0),
+                zone: None,
+            }),
             length,
             rule: self.rule,
             rdates: self.rdates,

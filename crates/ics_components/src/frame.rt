@@ -67,6 +67,7 @@ impl Frame {
             (passed (ended_as self.calendar self.builder) (end_check self.calendar self.builder)) }
     {
         if !self.component.is_named(name) {
+            drop(self);
             return Err(Refused::Fault(FaultKind::BadNesting));
         }
         let (calendar, builder) = (self.calendar, self.builder);

@@ -1,7 +1,8 @@
 //! The names of properties and components, which compare without case (RFC 5545, section 3.1).
 ghost use Rattle.std.specs.Prelude.{◌≡◌, map};
 ghost use Rattle.ics_text.specs.Bytes.{upper};
-ghost use Rattle.ics_components.specs.Names.{name_of, other_name_of};
+ghost use Rattle.ics_components.specs.Names.{name_of, named_in, other_words};
+ghost use Rattle.ics_components.specs.declared.name.Name.TheVariants.{Other};
 
 use ics_values::is_word;
 
@@ -64,7 +65,7 @@ pub fn name_of(name: &[u8]) -> Name
 
 /// What a property is called that is none of these.
 fn other_name_of(name: &[u8]) -> Name
-    ensures { result ≡ other_name_of (map upper name.now) }
+    ensures { result ≡ named_in other_words Other (map upper name.now) }
 {
     if is_word(name, b"EXRULE") {
         Name::Exrule
