@@ -7,6 +7,8 @@ use Rattle.ics_components.specs.declared.component.Component.TheVariants as comp
 use Rattle.ics_components.specs.declared.component.Context.TheVariants as context
 use Rattle.ics_components.specs.declared.fault.Fault.{Fault}
 use Rattle.ics_components.specs.declared.fault.FaultKind.{FaultKind}
+use Rattle.ics_components.specs.declared.fault.FileFault.{FileFault}
+use Rattle.ics_components.specs.declared.fault.FileFault.TheVariants.{Memory, At}
 use Rattle.ics_components.specs.declared.fault.FaultKind.TheVariants as kind
 use Rattle.ics_components.specs.declared.frame.Frame.{Frame}
 use Rattle.ics_components.specs.declared.gathered.Passed.{Passed}
@@ -76,3 +78,9 @@ GoesBehind (Ok taken) line round behind = (lines : List Line) → pass_on round 
 GoesBehind (Err refused.Memory) line round behind = Unit {0}
 GoesBehind (Err (refused.Fault kind)) line round behind = (lines : List Line) →
     pass_on round (line ∷ lines) ≡ Err (record { line = line.number; kind = kind })
+
+-- AN ANSWER, as it is seen: what is gathered, or the first fault, or that memory is refused.
+abbrev pub Says : {X Y : Type 0} → (X → Y) → Result X FileFault → Result Y Fault → Type 0
+Says seen (Ok x) said = said ≡ Ok (seen x)
+Says seen (Err Memory) said = Unit {0}
+Says seen (Err (At line kind)) said = said ≡ Err (record { line = line; kind = kind })
