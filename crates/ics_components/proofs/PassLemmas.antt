@@ -1,10 +1,10 @@
 -- One pass with the components that are open finds the first fault of round one, and gathers what the lines say.
-use Rattle.std.proofs.Common.{◌≡◌, ℕ, ◌+◌, ◌<◌, List, [], ◌∷◌, ◌++◌, map, refl, subst, sym, ap, ◌∙◌, append_assoc, arith, cond, Option, Some, None, ◌^◌}
+use Rattle.std.proofs.Common.{◌≡◌, ℕ, ◌+◌, ◌<◌, List, [], ◌∷◌, ◌++◌, map, refl, subst, sym, ap, ◌∙◌, append_assoc, arith, cond, Option, Some, None}
 use Rattle.std.specs.Prelude.{find, length}
 use Rattle.std.proofs.lemmas.List.{append-nil}
 use Rattle.std.proofs.lemmas.List.Elements.{All-nil, All-push, All-weaker}
 use Rattle.ics_text.specs.Bytes.{upper}
-use Rattle.ics_text.specs.Unfolded.{Line, Rises, Within}
+use Rattle.ics_text.specs.Unfolded.{Line, Rises}
 use Rattle.ics_text.specs.ContentLines.{Parts, content_of}
 use Rattle.ics_components.specs.declared.fault.FaultKind.{FaultKind}
 use Rattle.ics_components.specs.declared.fault.FaultKind.TheVariants.{BadNesting}
@@ -23,7 +23,7 @@ use Rattle.ics_components.specs.GatheredSeen.{GatheredSeen}
 use Rattle.ics_components.specs.Gathered.{nothing_gathered, zones_of_end, events_of_end, checks_of, and_passed}
 use Rattle.ics_components.specs.Lines.{unless as fine}
 use Rattle.ics_components.specs.Names.{name_of}
-use Rattle.ics_components.specs.Pass.{bottom, is_lowest, at_end, unless, on_line, on_content, pass, NumbersFit}
+use Rattle.ics_components.specs.Pass.{bottom, is_lowest, at_end, unless, on_line, on_content, pass}
 use Rattle.ics_components.proofs.Judged.{fault_in, check_in, behind, ends, passing}
 use Rattle.ics_components.proofs.Table.{parts, any-part, frame_of, IsAsked, least-same}
 use Rattle.ics_components.proofs.Bundles.{Bundle, Keeps, Together, Before, falls, open_of, opens, opens-behind, top_beside, together, together-in, zone-lines}
@@ -225,8 +225,3 @@ pass-whole lines r = pass-lines lines (placed_from [] lines) [] [] None nothing_
 
 pub together-whole : (lines : List Line) → Rises 0 lines → AreTogether [] (placed_from [] lines)
 together-whole lines r = all-together lines (placed_from [] lines) [] [] (first-at lines r)
-
--- there is a number after that of each line
-pub fits-from_within : (n : ℕ) (lines : List Line) → n + 1 < 2 ^ 64 → Within n lines → NumbersFit lines
-fits-from_within n [] l h = tt
-fits-from_within n (line ∷ lines) l h = (omega (arith, l, h.0), fits-from_within n lines l h.1)

@@ -1,6 +1,6 @@
 -- One pass over the lines with the components that are open, the innermost first, each with what has been read of it.
 -- These are the words of the code alone. No public contract cites them.
-use Rattle.std.specs.Prelude.{ℕ, ◌+◌, Bool, true, false, List, [], ◌∷◌, Option, Some, None, Result, Ok, Err, if◌then◌else◌, ◌≡◌, ◌<◌, ◌^◌}
+use Rattle.std.specs.Prelude.{ℕ, ◌+◌, Bool, true, false, List, [], ◌∷◌, Option, Some, None, Result, Ok, Err, if◌then◌else◌, ◌≡◌}
 use Rattle.ics_text.specs.Unfolded.{Line, unfolded, begins_with_fold}
 use Rattle.ics_text.specs.ContentLines.{Parts, content_of}
 use Rattle.ics_components.specs.declared.component.Component.TheVariants as component
@@ -58,15 +58,6 @@ pass frames last had (line ∷ lines) = on_content line.number (content_of line.
 -- What the first round gathers of a file, or its first fault.
 abbrev pub gathered_of : List ℕ → Result GatheredSeen Fault
 gathered_of file = if begins_with_fold file then Err bad_fold else pass (bottom ∷ []) None nothing_gathered (unfolded file)
-
--- there is a number after that of each line
-abbrev pub NumbersFit : List Line → Type 0
-NumbersFit [] = Unit {0}
-NumbersFit (line ∷ lines) = (line.number + 1 < 2 ^ 64) × NumbersFit lines
-
-abbrev pub LastFits : Option ℕ → Type 0
-LastFits None = Unit {0}
-LastFits (Some n) = n + 1 < 2 ^ 64
 
 -- the pass over the lines that are left
 abbrev pub pass_on : FirstRound → List Line → Result GatheredSeen Fault

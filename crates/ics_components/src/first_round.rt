@@ -1,6 +1,7 @@
 //! The first round over the lines of a file (RFC 5545, sections 3.4 and 3.6).
-ghost use Rattle.std.specs.Prelude.{◌≡◌, [], ◌≤◌, length, IfOk, Some};
-ghost use Rattle.ics_components.specs.Pass.{pass_on, GoesBehind, gathered_of, NumbersFit, LastFits, Says};
+ghost use Rattle.std.specs.Prelude.{◌≡◌, ℕ, ◌+◌, ◌<◌, ◌≤◌, ◌^◌, [], length, IfOk, Some, IfSome};
+ghost use Rattle.ics_components.specs.Pass.{pass_on, GoesBehind, gathered_of, Says};
+ghost use Rattle.ics_text.specs.Unfolded.{Within};
 ghost use Rattle.ics_components.specs.Gathered.{IsSoundGathered};
 
 use crate::fault::{FaultKind, FileFault};
@@ -36,7 +37,7 @@ impl FirstRound {
 
     /// The fault that stands where the lines end, if there is one.
     fn end(&self) -> Result<(), FileFault>
-        requires { LastFits self.now.last }
+        requires { IfSome self.now.last (λ n. n + 1 < 2 ^ 64) }
         ensures { Says (λ _. self.now.gathered) result (pass_on self.now []) }
     {
         let (line, kind) = match self.last {
@@ -49,8 +50,8 @@ impl FirstRound {
 
     /// Takes the lines up to the first that has a fault. The fault that it answers may stand where they end.
     fn lines(&mut self, alloc: Global, mut lines: Lines<'_>) -> Result<(), FileFault>
-        requires lines { NumbersFit lines }
-        requires last { LastFits self.old.last }
+        requires lines { (n : ℕ) × (n + 1 < 2 ^ 64) × Within n lines }
+        requires last { IfSome self.old.last (λ n. n + 1 < 2 ^ 64) }
         ensures { Says (λ _. self.new.gathered) result (pass_on self.old lines.entry) }
     {
         'lines: while let Some(line) = lines.next(alloc)? {

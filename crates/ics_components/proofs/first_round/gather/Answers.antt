@@ -1,16 +1,13 @@
 use Rattle.std.proofs.Common.{◌+◌, length, arith, sym, subst, IfOk}
-use Rattle.ics_text.specs.Unfolded.{Rises, unfolded}
+use Rattle.ics_text.specs.Unfolded.{Rises}
 use Rattle.ics_text.proofs.Rising.{unfolded-rises}
 use Rattle.ics_components.specs.Gathered.{IsSoundGathered}
 use Rattle.ics_components.proofs.Awaits.{sound-pass}
-use Rattle.ics_components.proofs.PassLemmas.{fits-from_within}
 use Rattle.ics_components.proofs.first_round.gather.Goals as goal
 
 pub lines-read-requires : goal.lines-read-requires
 lines-read-requires c = record {
-  lines =
-      rw c.in-Ok.ensures.lines (fits-from_within (length c.args.bytes.now + 1) (unfolded c.args.bytes.now) (omega (arith, c.requires))
-      (c.numbers_within.ensures c.args.bytes.now));
+  lines = (length c.args.bytes.now + 1, omega (arith, c.requires), rw c.in-Ok.ensures.lines (c.numbers_within.ensures c.args.bytes.now));
   last = tt;
 }
 
