@@ -1,10 +1,10 @@
 -- The laws of what a file is.
 use Rattle.std.proofs.Common.{◌≡◌, List, [], ◌∷◌, ◌++◌, inl, inr, refl, sym, ◌∙◌, ap, subst, append_assoc, ℕ, Bool, true, false, ◌==◌, Some}
-use Rattle.std.proofs.Common.{Ok, Err, Result, cond, drop_of_length-le, arith, Option, None}
+use Rattle.std.proofs.Common.{Ok, Err, Result, cond, drop_of_length-le, arith, Option}
 use Rattle.std.specs.List.{All}
 use Rattle.std.proofs.lemmas.Bool.{cases_Bool, ltb-false, and_parts}
 use Rattle.std.specs.Prelude.{◌≢◌, find}
-use Rattle.ics_text.specs.Unfolded.{Line, unfolded, begins_with_fold}
+use Rattle.ics_text.specs.Unfolded.{Line, unfolded}
 use Rattle.ics_text.specs.ContentLines.{content_of}
 use Rattle.ics_values.specs.Durations.{duration_of}
 use Rattle.ics_values.specs.Periods.{first_half, second_half, lasts, both, half_of, stamp_half, lasting_end, at_end}
@@ -20,8 +20,12 @@ use Rattle.ics_values.specs.Texts.{begins, is_minus}
 use Rattle.ics_values.specs.declared.stamp.StampFault.TheVariants as stamp
 use Rattle.ics_components.specs.Faults.{stands, kinds}
 use Rattle.ics_calendar.specs.LaterFaults.{stands_later, is_in_unknown_zone, tzid_on}
-use Rattle.ics_calendar.specs.Files.{FaultsLookBack, IsFile, file_of, decide, events_of, said_of, wanted_names, wanted_on, later_fault}
-use Rattle.ics_components.specs.FirstFault.{bad_fold, Round, IsFirst, first_fault, first_from, end_fault, last_of}
+use Rattle.ics_calendar.specs.Files.{DraftSaid, FaultsLookBack, IsFile, file_of, wanted_names}
+use Rattle.ics_calendar.specs.Settled.{known_in, settled_by}
+use Rattle.ics_components.specs.GatheredSeen.{GatheredSeen}
+use Rattle.ics_components.specs.Pass.{gathered_of}
+use Rattle.ics_text.proofs.Rising.{unfolded-rises}
+use Rattle.ics_components.specs.FirstFault.{Round, IsFirst, end_fault, last_of}
 use Rattle.ics_components.specs.declared.fault.Fault.{Fault}
 use Rattle.ics_components.specs.PlacedLines.{Open, Placed, placed, placed_from, path_behind, beside}
 use Rattle.ics_components.specs.declared.date_list.ListedDate.{ListedDate}
@@ -30,13 +34,12 @@ use Rattle.ics_components.specs.Values.{allowed}
 use Rattle.ics_components.specs.declared.fault.FaultKind.{FaultKind}
 use Rattle.ics_components.specs.declared.fault.FaultKind.TheVariants.{BadZoneFile}
 use Rattle.ics_calendar.specs.DeferredChecks.{KnownZones}
-use Rattle.ics_event.specs.Event.{FileSaid}
 use Rattle.ics_calendar.specs.GivenFiles.{GivenFiles, no_files}
 use Rattle.ics_calendar.specs.Wanted.{each_once, unknown_names, zones_with}
 use Rattle.ics_calendar.specs.Zones.{zones_on}
 use Rattle.ics_components.proofs.DateValueLemmas.{any-first}
 use Rattle.ics_calendar.proofs.FilesGiven.{with-no-files, with-agreed}
-use Rattle.ics_calendar.proofs.Whole.{is-file}
+use Rattle.ics_calendar.proofs.Whole.{is-file, draft_by, gathered}
 
 -- A fault of the first round is found without the lines behind it: they stand behind those before them, in their places.
 placed-split : (path : List Open) (xs ys : List Line) → (rest : List Placed) × (placed_from path (xs ++ ys) ≡ placed_from path xs ++ rest)
@@ -121,18 +124,12 @@ pub no-bad-file : (file : List ℕ) (line : ℕ) → file_of no_files file ≢ E
 no-bad-file file line e = never-bad file line (subst (IsFile no_files file) e (is-file no_files file))
 
 -- FILES THAT AGREE on the wanted names.
-abbrev decided_by : KnownZones → List Placed → Result FileSaid Fault
-decided_by known lines =
-    decide None (first_from (stands_later known) (λ before. None) [] lines) (record { zones = known.zones; events = events_of known.index lines })
-
 pub only-wanted : (files others : GivenFiles) (file : List ℕ) → All (λ name. files name ≡ others name) (wanted_names file) →
     file_of files file ≡ file_of others file
-only-wanted files others file = by_first (begins_with_fold file) (first_fault (placed file))
+only-wanted files others file =
+    subst (λ (d : DraftSaid). All (λ name. files name ≡ others name) d.wants → d.says files ≡ d.says others) (sym (gathered file (unfolded-rises file)))
+    (by_draft (gathered_of file))
   where
-    by_first : (t : Bool) (o : Option Fault) → All (λ name. files name ≡ others name) (cond t [] (wanted_on o (placed file))) →
-        cond t (Err bad_fold) (decide o (later_fault files (placed file)) (said_of files (placed file)))
-        ≡ cond t (Err bad_fold) (decide o (later_fault others (placed file)) (said_of others (placed file)))
-    by_first true o h = refl
-    by_first false (Some fault) h = refl
-    by_first false None h =
-        ap (λ known. decided_by known (placed file)) (with-agreed (zones_on (placed file)) files others (each_once (unknown_names (placed file))) h)
+    by_draft : (g : Result GatheredSeen Fault) → All (λ name. files name ≡ others name) (draft_by g).wants → (draft_by g).says files ≡ (draft_by g).says others
+    by_draft (Err fault) h = refl
+    by_draft (Ok g) h = ap (λ known. settled_by known g.events g.checks) (with-agreed (known_in g) files others (draft_by (Ok g)).wants h)
