@@ -1,12 +1,10 @@
 -- The laws of what a file is.
-use Rattle.std.proofs.Common.{◌≡◌, List, [], ◌∷◌, ◌++◌, inl, inr, refl, sym, ◌∙◌, ap, append_assoc, ℕ, Bool, true, false, ◌==◌, Some}
-use Rattle.std.proofs.Common.{Ok, Err, Result, cond, drop_of_length-le, arith, ◌&&◌, Option, None}
+use Rattle.std.proofs.Common.{◌≡◌, List, [], ◌∷◌, ◌++◌, inl, inr, refl, sym, ◌∙◌, ap, subst, append_assoc, ℕ, Bool, true, false, ◌==◌, Some}
+use Rattle.std.proofs.Common.{Ok, Err, Result, cond, drop_of_length-le, arith, Option}
 use Rattle.std.specs.List.{All}
-use Rattle.std.proofs.lemmas.Bool.{cases_Bool, ltb-false}
-use Rattle.std.proofs.Math.Bool.{and-false}
-use Rattle.std.specs.Option.{option_map}
+use Rattle.std.proofs.lemmas.Bool.{cases_Bool, ltb-false, and_parts}
 use Rattle.std.specs.Prelude.{◌≢◌, find}
-use Rattle.ics_text.specs.Unfolded.{Line, unfolded, begins_with_fold}
+use Rattle.ics_text.specs.Unfolded.{Line, unfolded}
 use Rattle.ics_text.specs.ContentLines.{content_of}
 use Rattle.ics_values.specs.Durations.{duration_of}
 use Rattle.ics_values.specs.Periods.{first_half, second_half, lasts, both, half_of, stamp_half, lasting_end, at_end}
@@ -22,8 +20,12 @@ use Rattle.ics_values.specs.Texts.{begins, is_minus}
 use Rattle.ics_values.specs.declared.stamp.StampFault.TheVariants as stamp
 use Rattle.ics_components.specs.Faults.{stands, kinds}
 use Rattle.ics_calendar.specs.LaterFaults.{stands_later, is_in_unknown_zone, tzid_on}
-use Rattle.ics_calendar.specs.Files.{FaultsLookBack, file_of, decide, events_of, said_of, wanted_names, wanted_on, later_fault}
-use Rattle.ics_components.specs.FirstFault.{bad_fold, found, least_on, fault_at_end, Round, IsFirst, first_fault, first_from, end_fault, last_of}
+use Rattle.ics_calendar.specs.Files.{DraftSaid, FaultsLookBack, IsFile, file_of, wanted_names}
+use Rattle.ics_calendar.specs.Settled.{known_in, settled_by}
+use Rattle.ics_components.specs.GatheredSeen.{GatheredSeen}
+use Rattle.ics_components.specs.Pass.{gathered_of}
+use Rattle.ics_text.proofs.Rising.{unfolded-rises}
+use Rattle.ics_components.specs.FirstFault.{Round, IsFirst, end_fault, last_of}
 use Rattle.ics_components.specs.declared.fault.Fault.{Fault}
 use Rattle.ics_components.specs.PlacedLines.{Open, Placed, placed, placed_from, path_behind, beside}
 use Rattle.ics_components.specs.declared.date_list.ListedDate.{ListedDate}
@@ -32,12 +34,12 @@ use Rattle.ics_components.specs.Values.{allowed}
 use Rattle.ics_components.specs.declared.fault.FaultKind.{FaultKind}
 use Rattle.ics_components.specs.declared.fault.FaultKind.TheVariants.{BadZoneFile}
 use Rattle.ics_calendar.specs.DeferredChecks.{KnownZones}
-use Rattle.ics_event.specs.Event.{FileSaid}
 use Rattle.ics_calendar.specs.GivenFiles.{GivenFiles, no_files}
 use Rattle.ics_calendar.specs.Wanted.{each_once, unknown_names, zones_with}
 use Rattle.ics_calendar.specs.Zones.{zones_on}
 use Rattle.ics_components.proofs.DateValueLemmas.{any-first}
 use Rattle.ics_calendar.proofs.FilesGiven.{with-no-files, with-agreed}
+use Rattle.ics_calendar.proofs.Whole.{is-file, draft_by, gathered}
 
 -- A fault of the first round is found without the lines behind it: they stand behind those before them, in their places.
 placed-split : (path : List Open) (xs ys : List Line) → (rest : List Placed) × (placed_from path (xs ++ ys) ≡ placed_from path xs ++ rest)
@@ -100,56 +102,34 @@ found-is : (p : FaultKind → Bool) (ks : List FaultKind) (kind : FaultKind) →
 found-is p [] kind e = cc
 found-is p (k ∷ ks) kind e = let again = found-is p ks kind in grind (arith, again)
 
--- WHERE NO FILE IS GIVEN, none is bad: a fault of a kind that a round never finds is never its first.
-abbrev kind_of : Option Fault → Option FaultKind
-kind_of o = option_map (λ (f : Fault). f.kind) o
+first-stands : (round : Round) {before lines : List Placed} {fault : Fault} (r : IsFirst round before lines fault) →
+    round fault.kind (beside (before ++ r.front) r.line) r.line ≡ true
+first-stands round {before} {lines} {fault} r =
+    found-is (λ kind. round kind (beside (before ++ r.front) r.line) r.line) kinds fault.kind r.least
 
-abbrev kind_in : Result FileSaid Fault → Option FaultKind
-kind_in (Ok said) = None
-kind_in (Err fault) = Some fault.kind
-
-last-other : (o : Option Placed) → kind_of (end_fault o) ≢ Some BadZoneFile
-last-other o e = grind arith
-
-found-other : (number : ℕ) (o : Option FaultKind) (later : Option Fault) → o ≢ Some BadZoneFile → kind_of later ≢ Some BadZoneFile →
-    kind_of (found number o later) ≢ Some BadZoneFile
-found-other number o later n m e = grind arith
-
-first-other : (round : Round) (last : List Placed → Option Fault) → ((beside : List Placed) (l : Placed) → round BadZoneFile beside l ≡ false) →
-    ((lines : List Placed) → kind_of (last lines) ≢ Some BadZoneFile) → (before lines : List Placed) →
-    kind_of (first_from round last before lines) ≢ Some BadZoneFile
-first-other round last never end before [] = end before
-first-other round last never end before (l ∷ ls) =
-    found-other l.number (least_on round before l) (first_from round last (before ++ l ∷ []) ls) (λ e.
-    let other : false ≡ true = sym (never (beside before l) l) ∙ found-is (λ kind. round kind (beside before l) l) kinds BadZoneFile e in cc)
-    (first-other round last never end (before ++ l ∷ []) ls)
-
-decided-other : (t : Bool) (first later : Option Fault) (said : FileSaid) → kind_of first ≢ Some BadZoneFile → kind_of later ≢ Some BadZoneFile →
-    kind_in (cond t (Err bad_fold) (decide first later said)) ≢ Some BadZoneFile
-decided-other t first later said n m e = grind arith
+-- WHERE NO FILE IS GIVEN, none is bad.
+never-bad : (file : List ℕ) (line : ℕ) → IsFile no_files file (Err (record { line = line; kind = BadZoneFile })) → ⊥
+never-bad file line (inl h) = let other = ap (λ (f : Fault). f.kind) h.1 in cc
+never-bad file line (inr (b, inl (inl r))) = let found = first-stands stands r in cc
+never-bad file line (inr (b, inl (inr r))) = at_end (last_of (placed file)) r.1
+  where
+    at_end : (o : Option Placed) → end_fault o ≢ Some (record { line = line; kind = BadZoneFile })
+    at_end o e = grind arith
+never-bad file line (inr (b, inr r)) =
+    let known : KnownZones = zones_with no_files (placed file) in
+    let bad = and_parts (is_in_unknown_zone known r.2.line) (known.is_bad (tzid_on r.2.line)) (first-stands (stands_later known) r.2) in
+    let other : false ≡ true = ap (λ (known : KnownZones). known.is_bad (tzid_on r.2.line)) (sym (zones-alone (placed file))) ∙ bad.1 in cc
 
 pub no-bad-file : (file : List ℕ) (line : ℕ) → file_of no_files file ≢ Err (record { line = line; kind = BadZoneFile })
-no-bad-file file line e =
-    decided-other (begins_with_fold file) (first_fault (placed file)) (later_fault no_files (placed file)) (said_of no_files (placed file))
-    (first-other stands fault_at_end (λ beside l. refl) (λ lines. last-other (last_of lines)) [] (placed file))
-    (first-other (stands_later (zones_with no_files (placed file))) (λ before. None)
-    (λ beside l. ap (λ (known : KnownZones). is_in_unknown_zone known l && known.is_bad (tzid_on l)) (zones-alone (placed file))
-    ∙ and-false (is_in_unknown_zone (zones_on (placed file)) l)) (λ lines e. cc) [] (placed file))
-    (ap kind_in e)
+no-bad-file file line e = never-bad file line (subst (IsFile no_files file) e (is-file no_files file))
 
 -- FILES THAT AGREE on the wanted names.
-abbrev decided_by : KnownZones → List Placed → Result FileSaid Fault
-decided_by known lines =
-    decide None (first_from (stands_later known) (λ before. None) [] lines) (record { zones = known.zones; events = events_of known.index lines })
-
 pub only-wanted : (files others : GivenFiles) (file : List ℕ) → All (λ name. files name ≡ others name) (wanted_names file) →
     file_of files file ≡ file_of others file
-only-wanted files others file = by_first (begins_with_fold file) (first_fault (placed file))
+only-wanted files others file =
+    subst (λ (d : DraftSaid). All (λ name. files name ≡ others name) d.wants → d.says files ≡ d.says others) (sym (gathered file (unfolded-rises file)))
+    (by_draft (gathered_of file))
   where
-    by_first : (t : Bool) (o : Option Fault) → All (λ name. files name ≡ others name) (cond t [] (wanted_on o (placed file))) →
-        cond t (Err bad_fold) (decide o (later_fault files (placed file)) (said_of files (placed file)))
-        ≡ cond t (Err bad_fold) (decide o (later_fault others (placed file)) (said_of others (placed file)))
-    by_first true o h = refl
-    by_first false (Some fault) h = refl
-    by_first false None h =
-        ap (λ known. decided_by known (placed file)) (with-agreed (zones_on (placed file)) files others (each_once (unknown_names (placed file))) h)
+    by_draft : (g : Result GatheredSeen Fault) → All (λ name. files name ≡ others name) (draft_by g).wants → (draft_by g).says files ≡ (draft_by g).says others
+    by_draft (Err fault) h = refl
+    by_draft (Ok g) h = ap (λ known. settled_by known g.events g.checks) (with-agreed (known_in g) files others (draft_by (Ok g)).wants h)

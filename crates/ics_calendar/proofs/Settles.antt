@@ -6,9 +6,6 @@ use Rattle.std.proofs.lemmas.Bool.{and_parts}
 use Rattle.std.proofs.lemmas.Simd.{map-map}
 use Rattle.ics_text.specs.Unfolded.{Line, Rises}
 use Rattle.ics_text.specs.ContentLines.{Parts, content_of}
-use Rattle.ics_zone.specs.ZoneSaid.{ZoneSaid}
-use Rattle.ics_components.specs.declared.gathered.EndedEvent.{EndedEvent}
-use Rattle.ics_components.specs.declared.gathered.EndedZone.{EndedZone}
 use Rattle.ics_components.specs.declared.gathered.LineCheck.{LineCheck}
 use Rattle.ics_components.specs.declared.deferred_check.DeferredCheck.{DeferredCheck}
 use Rattle.ics_components.specs.declared.deferred_check.ZoneName.{ZoneName}
@@ -20,17 +17,16 @@ use Rattle.ics_components.specs.PlacedLines.{begins_event, Placed, Open, path_be
 use Rattle.ics_components.specs.FirstFault.{found, least_on, first_from, first_fault, fault_at_end}
 use Rattle.ics_components.specs.Gathered.{nothing_gathered, checks_of}
 use Rattle.ics_components.specs.GatheredSeen.{GatheredSeen}
-use Rattle.ics_calendar.specs.DeferredChecks.{KnownZones, judged, unknown_in, with_files}
+use Rattle.ics_calendar.specs.DeferredChecks.{KnownZones, judged, unknown_in}
 use Rattle.ics_calendar.specs.GivenFiles.{GivenFiles}
 use Rattle.ics_calendar.specs.Wanted.{each_once, unknown_names, zones_with}
-use Rattle.ics_components.specs.Observances.{begins_zone, zone_by}
 use Rattle.ics_calendar.specs.Zones.{zones_on}
 use Rattle.ics_components.proofs.Ended.{events, zones}
 use Rattle.ics_components.proofs.EndOrder.{events-are, zones-are, names-begun, calendar-inside, begun-same}
 use Rattle.ics_components.proofs.Frames.{with}
 use Rattle.ics_calendar.proofs.DeferredTable.{same-on}
-use Rattle.ics_components.proofs.Order.{found-none, inside, begun, IsPlaced, ordered, nested}
-use Rattle.ics_components.proofs.PassLemmas.{checks_from, gathered_from, lists, three, with_content}
+use Rattle.ics_components.proofs.Order.{found-none, begun, IsPlaced, ordered, nested}
+use Rattle.ics_components.proofs.PassLemmas.{checks_from, gathered_from, with_content}
 
 -- THE DEFERRED CHECKS of lines without a fault of the first round, judged in order, give the first fault of the second round, and they ask for the time
 -- zones that the lines want.
@@ -70,13 +66,6 @@ module _ (known : KnownZones) where
             one.1 ∙ (λ i. cons_option (sym step.1 i) (more.1 i)) ∙ one-name l (filter (is_in_unknown_zone known) rest) (is_in_unknown_zone known l),
           )
 
--- THE TIME ZONES, by what is gathered.
-pub zones-begun : (whole ls : List Placed) → map (λ z. ZoneSaid.ByObservances z.observances) (begun (zones whole) whole ls)
-    ≡ map (λ l. ZoneSaid.ByObservances (zone_by whole l.number)) (filter begins_zone ls)
-zones-begun whole ls =
-    map-map (λ (z : EndedZone). ZoneSaid.ByObservances z.observances) (λ (l : Placed). (zones whole).by (inside l) (lines_in l.number whole))
-    (filter begins_zone ls)
-
 -- THE EVENTS, by what is gathered.
 events-begun : (index : ZoneName → Option ℕ) (whole ls : List Placed) →
     map (event_of index) (begun events whole ls) ≡ map (λ line. event_by index (calendar_of line.path) (lines_in line.number whole)) (filter begins_event ls)
@@ -92,36 +81,21 @@ module _ (lines : List Line) (r : Rises 0 lines) (first : first_fault (placed_fr
   abbrev gathered : GatheredSeen
   gathered = gathered_from whole nothing_gathered [] whole
 
-  abbrev zs : List EndedZone
-  zs = begun (zones whole) whole whole
-
-  abbrev es : List EndedEvent
-  es = begun events whole whole
-
-  abbrev ws : List LineCheck
-  ws = checks_from whole [] whole
-
-  -- what is gathered of them are the zones and the events that begin on them
-  gathered-is : gathered ≡ lists zs es ws
-  gathered-is =
-      let placed : IsPlaced whole [] [] 0 lines = record { parts = refl; falls = tt; inner = omega arith; rises = r } in
-      three (ordered (zones whole) (zones-are whole) lines whole [] [] 0 placed (λ e. refl) first)
-      (ordered events events-are lines whole [] [] 0 placed (λ e. refl) first) refl
-
   -- WHAT THE DRAFT SAYS: what is wanted, and what is settled with zone files.
-  pub draft-is : drafted (known_in gathered) gathered
+  pub draft-is : drafted (known_in gathered) gathered.events gathered.checks
       ≡ record { wants = each_once (unknown_names whole); says = λ files. decide None (later_fault files whole) (said_of files whole) }
   draft-is =
-      let asks = (same-checks (zones_on whole) whole lines [] [] first).1 in
-      ap (λ g. drafted (known_in g) g) gathered-is
-      ∙ rw (← names-begun whole whole, zones-begun whole whole) (λ i. record {
-        wants = each_once (asks i);
-        says = λ files. settled files asks i;
-      })
+      let placed : IsPlaced whole [] [] 0 lines = record { parts = refl; falls = tt; inner = omega arith; rises = r } in
+      rw (
+        ordered (zones whole) (zones-are whole) lines whole [] [] 0 placed (λ e. refl) first,
+        ordered events events-are lines whole [] [] 0 placed (λ e. refl) first,
+        ← names-begun whole whole,
+        map-map,
+        (same-checks (zones_on whole) whole lines [] [] first).1,
+      ) (λ i. record { wants = each_once (unknown_names whole); says = λ files. settled files i })
     where
-      settled : (files : GivenFiles) → all_unknown (zones_on whole).index ws ≡ unknown_names whole →
-          settled_by (with_files (zones_on whole) files (each_once (all_unknown (zones_on whole).index ws))) (lists zs es ws)
-          ≡ decide None (later_fault files whole) (said_of files whole)
-      settled files asks =
+      settled : (files : GivenFiles) →
+          settled_by (zones_with files whole) (begun events whole whole) (checks_from whole [] whole) ≡ decide None (later_fault files whole) (said_of files whole)
+      settled files =
           let known : KnownZones = zones_with files whole in
-          rw (asks, (same-checks known whole lines [] [] first).0, events-begun known.index whole whole)
+          rw ((same-checks known whole lines [] [] first).0, events-begun known.index whole whole)

@@ -8,6 +8,7 @@ use Rattle.std.proofs.lemmas.List.Elements.{All-nil, All-cons, All-contains}
 use Rattle.ics_zone.specs.ZoneSaid.{ZoneSaid, said_moment, zone_said}
 use Rattle.ics_zone.specs.declared.zone.ZoneKind.{ZoneKind}
 use Rattle.ics_fields.specs.declared.local.Local.{Local}
+use Rattle.ics_components.specs.declared.gathered.EndedEvent.{EndedEvent}
 use Rattle.ics_components.specs.declared.gathered.LineCheck.{LineCheck}
 use Rattle.ics_calendar.specs.Settled.{event_of, known_in, first_judged}
 use Rattle.ics_event.specs.Event.{AreEventsOf}
@@ -15,10 +16,9 @@ use Rattle.ics_fields.specs.Locals.{local_seconds}
 use Rattle.ics_components.specs.Gathered.{IsSoundGathered}
 use Rattle.ics_components.specs.GatheredSeen.{GatheredSeen}
 use Rattle.ics_calendar.specs.DeferredChecks.{KnownZones, moment_at, judged, with_files}
-use Rattle.ics_calendar.specs.Drafts.{IsSoundDraft, left_of}
+use Rattle.ics_calendar.specs.Drafts.{IsSoundDraft}
 use Rattle.ics_calendar.specs.GivenFiles.{GivenFiles}
 use Rattle.ics_calendar.specs.Ready.{IsReady}
-use Rattle.ics_components.specs.Sound.{IsSoundZone}
 use Rattle.ics_calendar.proofs.EventSound.{events-of}
 use Rattle.ics_calendar.proofs.FilesGiven.{table-known, table-with}
 use Rattle.ics_components.proofs.Listed.{each-weaker}
@@ -38,26 +38,29 @@ none-judged known (w ∷ ws) e =
     let n = found-none w.line (judged known w.check) (first_judged known ws) e in
     All-cons (λ l. judged known l ≡ None) w.check (map (λ w. w.check) ws) n.0 (none-judged known ws n.1)
 
-pub ready : (known : KnownZones) (g : GatheredSeen) → IsSoundGathered g → first_judged known g.checks ≡ None → All (IsReady known) g.events
-ready known g s n = λ i d l. record {
-  whole = s.whole i d l;
-  zones = each-weaker (Contains (map (λ w. w.check) g.checks)) (λ l. judged known l ≡ None)
-      (λ l c. All-contains (λ l. judged known l ≡ None) (map (λ w. w.check) g.checks) l (none-judged known g.checks n) c) _ (s.awaited i d l);
-}
+-- A SOUND DRAFT, in which none does: each event is ready.
+module _ (known : KnownZones) (ended : List EndedEvent) (ws : List LineCheck) (s : IsSoundDraft known ended ws) (n : first_judged known ws ≡ None) where
+  pub ready : All (IsReady known) ended
+  ready i d l = record {
+    whole = s.whole i d l;
+    zones = each-weaker (Contains (map (λ w. w.check) ws)) (λ l. judged known l ≡ None)
+        (λ l c. All-contains (λ l. judged known l ≡ None) (map (λ w. w.check) ws) l (none-judged known ws n) c) _ (s.awaited i d l);
+  }
 
-pub events-here : (known : KnownZones) (g : GatheredSeen) → IsSoundDraft known g → first_judged known g.checks ≡ None →
-    AreEventsOf known.zones (map (event_of known.index) g.events)
-events-here known g s n = events-of known s.table g.events (ready known g s.sound n)
+  pub events-here : AreEventsOf known.zones (map (event_of known.index) ended)
+  events-here = events-of known s.table ended ready
 
 -- A DRAFT is sound where what is gathered is, and stays so with zone files.
-pub draft-sound : (g : GatheredSeen) → IsSoundGathered g → IsSoundDraft (known_in g) (left_of g.events g.checks)
+pub draft-sound : (g : GatheredSeen) → IsSoundGathered g → IsSoundDraft (known_in g) g.events g.checks
 draft-sound g s = record {
   table =
       table-known (map (λ z. z.name) g.zones) (map (λ z. ZoneSaid.ByObservances z.observances) g.zones)
       (length-map g.zones (λ z. z.name) ∙ sym (length-map g.zones (λ z. ZoneSaid.ByObservances z.observances)));
-  sound = record { zones = All-nil (λ z. IsSoundZone z.observances); whole = s.whole; awaited = s.awaited; sound = s.sound };
+  whole = s.whole;
+  awaited = s.awaited;
+  sound = s.sound;
 }
 
-pub draft-with : (known : KnownZones) (g : GatheredSeen) (files : GivenFiles) (names : List (List ℕ)) → IsSoundDraft known g →
-    IsSoundDraft (with_files known files names) g
-draft-with known g files names s = record { table = table-with known files names s.table; sound = s.sound }
+pub draft-with : {known : KnownZones} {ended : List EndedEvent} {ws : List LineCheck} (files : GivenFiles) (names : List (List ℕ)) →
+    IsSoundDraft known ended ws → IsSoundDraft (with_files known files names) ended ws
+draft-with {known} files names s = record { table = table-with known files names s.table; whole = s.whole; awaited = s.awaited; sound = s.sound }

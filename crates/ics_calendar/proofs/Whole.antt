@@ -10,10 +10,11 @@ use Rattle.ics_calendar.specs.LaterFaults.{stands_later}
 use Rattle.ics_calendar.specs.GivenFiles.{GivenFiles}
 use Rattle.ics_components.specs.declared.fault.Fault.{Fault}
 use Rattle.ics_components.specs.FirstFault.{Round, first_fault, fault_at_end, bad_fold}
-use Rattle.ics_calendar.specs.Files.{later_fault, DraftSaid, IsFile, file_of, draft_of, decide, said_of, wanted_names, wanted_on, SaysFile}
-use Rattle.ics_calendar.specs.Settled.{drafted_of}
+use Rattle.ics_calendar.specs.Files.{later_fault, DraftSaid, IsFile, file_of, draft_of, decide, said_of, wanted_on, SaysFile}
+use Rattle.ics_calendar.specs.Settled.{drafted, known_in}
 use Rattle.ics_components.specs.Gathered.{nothing_gathered}
-use Rattle.ics_components.specs.Pass.{pass, bottom, gathered_of}
+use Rattle.ics_components.specs.GatheredSeen.{GatheredSeen}
+use Rattle.ics_components.specs.Pass.{pass, bottom, gathered_of, Says}
 use Rattle.ics_components.specs.PlacedLines.{Placed, placed}
 use Rattle.ics_calendar.specs.Wanted.{zones_with}
 use Rattle.ics_components.proofs.Firsts.{finds, finds-none, found-at-end, found-on-line}
@@ -21,29 +22,27 @@ use Rattle.ics_components.proofs.PassLemmas.{pass-whole}
 use Rattle.ics_calendar.proofs.Settles.{draft-is}
 
 -- THE DRAFT OF A FILE, by what its first round gathers or finds.
-abbrev pub said_as : Result DraftSaid Fault → DraftSaid
-said_as (Ok draft) = draft
-said_as (Err fault) = record { wants = []; says = λ files. Err fault }
+abbrev pub draft_by : Result GatheredSeen Fault → DraftSaid
+draft_by (Ok g) = drafted (known_in g) g.events g.checks
+draft_by (Err fault) = record { wants = []; says = λ files. Err fault }
 
-pub gathered : (file : List ℕ) → Rises 0 (unfolded file) → draft_of file ≡ said_as (drafted_of (gathered_of file))
+pub gathered : (file : List ℕ) → Rises 0 (unfolded file) → draft_of file ≡ draft_by (gathered_of file)
 gathered file r = by_first (begins_with_fold file) (first_fault (placed file)) refl
   where
     by_first : (t : Bool) (o : Option Fault) → first_fault (placed file) ≡ o →
         record {
           wants = cond t [] (wanted_on o (placed file));
           says = λ files. cond t (Err bad_fold) (decide o (later_fault files (placed file)) (said_of files (placed file)));
-        } ≡ said_as (drafted_of (cond t (Err bad_fold) (pass (bottom ∷ []) None nothing_gathered (unfolded file))))
+        } ≡ draft_by (cond t (Err bad_fold) (pass (bottom ∷ []) None nothing_gathered (unfolded file)))
     by_first true o e = refl
     by_first false (Some fault) e = rw (pass-whole (unfolded file) r, e)
     by_first false None e = rw (pass-whole (unfolded file) r, e) (sym (draft-is (unfolded file) r e))
 
-pub draft-gathered : (file : List ℕ) (draft : DraftSaid) → Rises 0 (unfolded file) → Ok draft ≡ drafted_of (gathered_of file) → draft ≡ draft_of file
-draft-gathered file draft r e = ap said_as e ∙ sym (gathered file r)
-
-pub fault-gathered : (file : List ℕ) (fault : Fault) → Rises 0 (unfolded file) → Err fault ≡ drafted_of (gathered_of file) →
-    ((files : GivenFiles) → file_of files file ≡ Err fault) × (wanted_names file ≡ [])
-fault-gathered file fault r e =
-    let d : draft_of file ≡ said_as (Err fault) = gathered file r ∙ ap said_as (sym e) in
+pub fault-gathered : (file : List ℕ) (fault : FileFault) → Rises 0 (unfolded file) → Says {X = GatheredSeen} (λ g. g) (Err fault) (gathered_of file) →
+    IsFaultOf file fault
+fault-gathered file Memory r e = tt
+fault-gathered file (At line kind) r e =
+    let d : draft_of file ≡ draft_by (Err (record { line = line; kind = kind })) = gathered file r ∙ ap draft_by e in
     (λ files. ap (λ (d : DraftSaid). d.says files) d, ap (λ (d : DraftSaid). d.wants) d)
 
 -- a fault whatever zone files are given is the answer with each

@@ -103,7 +103,3 @@ abbrev pub SaysFile : Result FileSeen FileFault → Result FileSaid Fault → Ty
 SaysFile (Ok seen) file = file ≡ Ok (said_by seen)
 SaysFile (Err Memory) file = Unit {0}
 SaysFile (Err (At line kind)) file = file ≡ Err (record { line = line; kind = kind })
-
-abbrev pub said_answer : Result FileSeen Fault → Result FileSaid Fault
-said_answer (Ok seen) = Ok (said_by seen)
-said_answer (Err fault) = Err fault

@@ -1,5 +1,5 @@
 -- What a file is by what is gathered of it, where the first round finds nothing.
-use Rattle.std.specs.Prelude.{ℕ, List, [], ◌∷◌, Option, None, map, filter_map, option_map, Result, Ok, Err}
+use Rattle.std.specs.Prelude.{ℕ, List, [], ◌∷◌, Option, None, map, filter_map, option_map, Result}
 use Rattle.ics_zone.specs.ZoneSaid.{ZoneSaid}
 use Rattle.ics_components.specs.declared.gathered.EndedEvent.{EndedEvent}
 use Rattle.ics_components.specs.declared.gathered.LineCheck.{LineCheck}
@@ -39,25 +39,16 @@ event_of index event = record {
   cancelled = event.cancelled;
 }
 
--- WHAT THE FILE IS, where the first round finds nothing.
-abbrev pub said_of_gathered : KnownZones → GatheredSeen → FileSaid
-said_of_gathered known g = record { zones = known.zones; events = map (event_of known.index) g.events }
-
-abbrev pub settled_by : KnownZones → GatheredSeen → Result FileSaid Fault
-settled_by known g = decide None (first_judged known g.checks) (said_of_gathered known g)
-
 -- What the file wants, by the same.
 abbrev pub all_unknown : (ZoneName → Option ℕ) → List LineCheck → List (List ℕ)
 all_unknown index checks = filter_map (λ w. unknown_in index w.check) checks
 
-abbrev pub wanted_by : KnownZones → GatheredSeen → List (List ℕ)
-wanted_by known g = each_once (all_unknown known.index g.checks)
+-- WHAT THE FILE IS, where the first round finds nothing.
+abbrev pub settled_by : KnownZones → List EndedEvent → List LineCheck → Result FileSaid Fault
+settled_by known events checks = decide None (first_judged known checks) (record { zones = known.zones; events = map (event_of known.index) events })
 
 -- The draft of the file, given the zones of its VTIMEZONEs: what it wants, and what it is with zone files.
-abbrev pub drafted : KnownZones → GatheredSeen → DraftSaid
-drafted known g = record { wants = wanted_by known g; says = λ files. settled_by (with_files known files (wanted_by known g)) g }
-
--- The draft, by what the first round gathers or finds.
-abbrev pub drafted_of : Result GatheredSeen Fault → Result DraftSaid Fault
-drafted_of (Ok g) = Ok (drafted (known_in g) g)
-drafted_of (Err fault) = Err fault
+abbrev pub drafted : KnownZones → List EndedEvent → List LineCheck → DraftSaid
+drafted known events checks =
+    let names : List (List ℕ) = each_once (all_unknown known.index checks) in
+    record { wants = names; says = λ files. settled_by (with_files known files names) events checks }

@@ -1,13 +1,10 @@
 //! Files in which the first round finds nothing.
 ghost use Rattle.std.specs.Prelude.{◌≡◌, ◌≤◌, length, map, IfOk, IfErr};
-ghost use Rattle.ics_calendar.specs.Drafts.{draft_said, says_draft, IsFaultOf};
-ghost use Rattle.ics_calendar.specs.Files.{draft_of, said_answer, SaysFile};
-ghost use Rattle.ics_calendar.specs.Settled.{known_in, drafted, drafted_of};
-ghost use Rattle.ics_components.specs.Gathered.{IsSoundGathered};
-ghost use Rattle.ics_components.specs.Pass.{gathered_of};
+ghost use Rattle.ics_calendar.specs.Drafts.{draft_said, IsFaultOf};
+ghost use Rattle.ics_calendar.specs.Files.{draft_of, SaysFile};
 ghost use Rattle.ics_calendar.specs.ZoneTables.{given_by};
 
-use crate::settle::settle;
+use crate::settle::{events_of, first_judged};
 use crate::unknown_zones::{copied, unknown_names};
 use crate::zone_files::ZoneFiles;
 use crate::zone_table::ZoneTable;
@@ -28,48 +25,19 @@ pub struct Draft {
 impl Model for Draft {
     ghost use Rattle.std.specs.Coded.{codes};
     ghost use Rattle.ics_calendar.specs.contracts.zone_table.ZoneTable as zone_table;
-    ghost use Rattle.ics_calendar.specs.Drafts.{DraftSeen, IsSoundDraft, left_of};
+    ghost use Rattle.ics_calendar.specs.Drafts.{DraftSeen, IsSoundDraft};
     ghost use Rattle.ics_calendar.specs.ZoneTables.{known_by};
 
     ghost Value = { DraftSeen };
 
     ghost coded = { Prim.hlevel (codes, zone_table.the_row.coded) };
 
-    ghost view = { λ a. record { table = a.table; left = left_of a.events.items a.checks.items } };
+    ghost view = { λ a. record { table = a.table; events = a.events.items; checks = a.checks.items } };
 
-    ghost invariant = { λ a. IsSoundDraft (known_by a.table) (left_of a.events.items a.checks.items) };
-}
-
-/// The draft of a file, or the first fault of the first round.
-pub fn drafted(alloc: Global, bytes: &[u8]) -> Result<Result<Draft, Fault>, AllocError>
-    requires { length bytes.now ≤ 16_777_216 }
-    ensures { IfOk result (λ answer. says_draft answer ≡ drafted_of (gathered_of bytes.now)) }
-{
-    match gather(alloc, bytes)? {
-        Ok(gathered) => Ok(Ok(Draft::of(alloc, gathered)?)),
-        Err(fault) => Ok(Err(fault)),
-    }
+    ghost invariant = { λ a. IsSoundDraft (known_by a.table) a.events.items a.checks.items };
 }
 
 impl Draft {
-    /// The draft of what is gathered.
-    fn of(alloc: Global, gathered: Gathered) -> Result<Draft, AllocError>
-        requires { IsSoundGathered gathered }
-        ensures { IfOk result (λ draft. draft_said draft ≡ drafted (known_in gathered) gathered) }
-    {
-        let Gathered {
-            zones,
-            events,
-            checks,
-        } = gathered;
-        let table = ZoneTable::new(alloc, zones)?;
-        Ok(Draft {
-            table,
-            events,
-            checks,
-        })
-    }
-
     /// Reads a file of at most 16,777,216 bytes as far as no zone files are needed. A fault is the file's first, whatever zone files are given.
     /// `Memory` if an allocation fails.
     pub fn read(alloc: Global, bytes: &[u8]) -> Result<Draft, FileFault>
@@ -78,11 +46,17 @@ impl Draft {
         ensures fault { IfErr result (IsFaultOf bytes.now) }
     {
         numbers_rise();
-        match drafted(alloc, bytes) {
-            Err(_) => Err(FileFault::Memory),
-            Ok(Ok(draft)) => Ok(draft),
-            Ok(Err(Fault { line, kind })) => Err(FileFault::At { line, kind }),
-        }
+        let Gathered {
+            zones,
+            events,
+            checks,
+        } = gather(alloc, bytes)?;
+        let table = ZoneTable::new(alloc, zones)?;
+        Ok(Draft {
+            table,
+            events,
+            checks,
+        })
     }
 
     /// The names of the time zones that it wants: see [`wanted`](crate::wanted). The error means that an allocation failed.
@@ -93,13 +67,9 @@ impl Draft {
         copied(alloc, &names)
     }
 
-    /// What the file says with these zone files, or its first fault of the second round.
-    fn settled(
-        self,
-        alloc: Global,
-        files: &ZoneFiles,
-    ) -> Result<Result<FileEvents, Fault>, AllocError>
-        ensures { IfOk result (λ answer. said_answer answer ≡ (draft_said self).says (given_by files.now)) }
+    /// The time zones and the events of the file with these zone files, or its first fault. `Memory` if an allocation fails.
+    pub fn settle(self, alloc: Global, files: &ZoneFiles) -> Result<FileEvents, FileFault>
+        ensures { SaysFile result ((draft_said self).says (given_by files.now)) }
     {
         let Draft {
             table,
@@ -108,20 +78,13 @@ impl Draft {
         } = self;
         let names = unknown_names(alloc, &table, &checks)?;
         let table = table.with_files(files, names)?;
-        settle(alloc, table, events, checks)
-    }
-
-    /// The time zones and the events of the file with these zone files, or its first fault. `Memory` if an allocation fails.
-    pub fn settle(self, alloc: Global, files: &ZoneFiles) -> Result<FileEvents, FileFault>
-        ensures { SaysFile result ((draft_said self).says (given_by files.now)) }
-    {
-        match self.settled(alloc, files) {
-            Err(_) => Err(FileFault::Memory),
-            Ok(Ok(events)) => Ok(events),
-            Ok(Err(fault)) => Err(FileFault::At {
-                line: fault.line,
-                kind: fault.kind,
-            }),
+        if let Some(Fault { line, kind }) = first_judged(&table, &checks) {
+            return Err(FileFault::At { line, kind });
         }
+        let events = events_of(alloc, &table, events)?;
+        Ok(FileEvents {
+            zones: table.into_zones(),
+            events,
+        })
     }
 }

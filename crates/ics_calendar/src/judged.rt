@@ -15,10 +15,7 @@ fn moment_of(table: &ZoneTable, instant: &Instant) -> Option<Moment>
 {
     match instant {
         Instant::Utc(local) => Some(local.seconds()),
-        Instant::Zoned(local, name) => match table.index(name) {
-            Some(index) => table.moment_at(*local, index),
-            None => None,
-        },
+        Instant::Zoned(local, name) => table.moment_at(*local, table.index(name)?),
     }
 }
 
@@ -33,9 +30,10 @@ pub fn judged(table: &ZoneTable, check: &DeferredCheck) -> Option<FaultKind>
         DeferredCheck::Zone(name) if table.is_bad(&name.name) => Some(FaultKind::BadZoneFile),
         DeferredCheck::Zone(_) => Some(FaultKind::UnknownZone),
         DeferredCheck::Ends(start, end) => {
-            match (moment_of(table, start), moment_of(table, end)) {
-                (Some(start), Some(end)) if is_out(start, end) => Some(FaultKind::BadEnd),
-                _ => None,
+            if is_out(moment_of(table, start)?, moment_of(table, end)?) {
+                Some(FaultKind::BadEnd)
+            } else {
+                None
             }
         }
     }

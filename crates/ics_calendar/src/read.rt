@@ -22,11 +22,7 @@ pub fn read_file(
     requires { length bytes.now ≤ 16_777_216 }
     ensures { SaysFile result (file_of (files_by (map (λ pair. (pair.0.items, pair.1.items)) zones.now)) bytes.now) }
 {
-    match Draft::read(alloc, bytes) {
-        Err(fault) => Err(fault),
-        Ok(draft) => match ZoneFiles::by(alloc, zones) {
-            Ok(files) => draft.settle(alloc, &files),
-            Err(_) => Err(FileFault::Memory),
-        },
-    }
+    let draft = Draft::read(alloc, bytes)?;
+    let files = ZoneFiles::by(alloc, zones)?;
+    draft.settle(alloc, &files)
 }

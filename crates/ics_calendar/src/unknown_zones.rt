@@ -9,10 +9,9 @@ ghost use Rattle.ics_calendar.specs.Files.{wanted_names};
 ghost use Rattle.ics_calendar.specs.Wanted.{each_once};
 ghost use Rattle.ics_calendar.specs.ZoneTables.{known_by};
 
-use crate::draft::drafted;
+use crate::draft::Draft;
 use crate::zone_table::ZoneTable;
-use ics_components::{DeferredCheck, LineCheck, Tzid};
-use ics_text::numbers_rise;
+use ics_components::{DeferredCheck, FileFault, LineCheck, Tzid};
 use std::alloc::{AllocError, Global};
 use std::collections::BTreeSet;
 
@@ -75,9 +74,9 @@ pub fn wanted(alloc: Global, bytes: &[u8]) -> Result<Vec<Vec<u8>>, AllocError>
     requires { length bytes.now ≤ 16_777_216 }
     ensures { IfOk result (λ names. map (λ name. name.items) names.items ≡ wanted_names bytes.now) }
 {
-    numbers_rise();
-    match drafted(alloc, bytes)? {
+    match Draft::read(alloc, bytes) {
         Ok(draft) => draft.wanted(alloc),
-        Err(_) => Ok(Vec::new(alloc)),
+        Err(FileFault::Memory) => Err(AllocError),
+        Err(FileFault::At { .. }) => Ok(Vec::new(alloc)),
     }
 }

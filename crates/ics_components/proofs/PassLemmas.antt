@@ -1,10 +1,10 @@
 -- One pass with the components that are open finds the first fault of round one, and gathers what the lines say.
-use Rattle.std.proofs.Common.{◌≡◌, ℕ, ◌+◌, ◌<◌, List, [], ◌∷◌, ◌++◌, map, refl, sym, ap, ◌∙◌, append_assoc, arith, cond, Option, Some, None, ◌^◌}
+use Rattle.std.proofs.Common.{◌≡◌, ℕ, ◌+◌, ◌<◌, List, [], ◌∷◌, ◌++◌, map, refl, sym, ap, ◌∙◌, append_assoc, arith, cond, Option, Some, None}
 use Rattle.std.specs.Prelude.{find}
 use Rattle.std.proofs.lemmas.List.{append-nil}
 use Rattle.std.proofs.lemmas.List.Elements.{All-nil, All-push, All-weaker}
 use Rattle.ics_text.specs.Bytes.{upper}
-use Rattle.ics_text.specs.Unfolded.{Line, Rises, Within}
+use Rattle.ics_text.specs.Unfolded.{Line, Rises}
 use Rattle.ics_text.specs.ContentLines.{Parts, content_of}
 use Rattle.ics_components.specs.declared.fault.FaultKind.{FaultKind}
 use Rattle.ics_components.specs.declared.fault.FaultKind.TheVariants.{BadNesting}
@@ -22,7 +22,7 @@ use Rattle.ics_components.specs.GatheredSeen.{GatheredSeen}
 use Rattle.ics_components.specs.Gathered.{nothing_gathered, checks_of, and_passed}
 use Rattle.ics_components.specs.Lines.{unless as fine, end_in, check_in, behind, passed}
 use Rattle.ics_components.specs.Names.{name_of}
-use Rattle.ics_components.specs.Pass.{bottom, is_lowest, at_end, unless, on_line, on_content, pass, NumbersFit}
+use Rattle.ics_components.specs.Pass.{bottom, is_lowest, at_end, unless, on_line, on_content, pass}
 use Rattle.ics_components.proofs.Table.{parts, any-part, frame_of, IsAsked, least-same}
 use Rattle.ics_components.proofs.Bundles.{Bundle, Keeps, Before, falls, open_of, opens, opens-behind, top_beside, zone-beside}
 use Rattle.ics_components.proofs.Bundles.{bundles_behind, keeps}
@@ -190,7 +190,3 @@ pub pass-whole : (lines : List Line) → Rises 0 lines →
     ≡ unless (first_fault (placed_from [] lines)) (gathered_from (placed_from [] lines) nothing_gathered [] (placed_from [] lines))
 pass-whole lines r = pass-lines lines (placed_from [] lines) [] [] None nothing_gathered (first-at lines r) refl
 
--- there is a number after that of each line
-pub fits-from_within : (n : ℕ) (lines : List Line) → n + 1 < 2 ^ 64 → Within n lines → NumbersFit lines
-fits-from_within n [] l h = tt
-fits-from_within n (line ∷ lines) l h = (omega (arith, l, h.0), fits-from_within n lines l h.1)

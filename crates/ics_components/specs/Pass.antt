@@ -1,12 +1,14 @@
 -- One pass over the lines with the components that are open, the innermost first, each with what has been read of it.
 -- These are the words of the code alone. No public contract cites them.
-use Rattle.std.specs.Prelude.{ℕ, ◌+◌, Bool, true, false, List, [], ◌∷◌, Option, Some, None, Result, Ok, Err, if◌then◌else◌, ◌≡◌, ◌<◌, ◌^◌}
+use Rattle.std.specs.Prelude.{ℕ, ◌+◌, Bool, true, false, List, [], ◌∷◌, Option, Some, None, Result, Ok, Err, if◌then◌else◌, ◌≡◌}
 use Rattle.ics_text.specs.Unfolded.{Line, unfolded, begins_with_fold}
 use Rattle.ics_text.specs.ContentLines.{Parts, content_of}
 use Rattle.ics_components.specs.declared.component.Component.TheVariants as component
 use Rattle.ics_components.specs.declared.component.Context.TheVariants as context
 use Rattle.ics_components.specs.declared.fault.Fault.{Fault}
 use Rattle.ics_components.specs.declared.fault.FaultKind.{FaultKind}
+use Rattle.ics_components.specs.declared.fault.FileFault.{FileFault}
+use Rattle.ics_components.specs.declared.fault.FileFault.TheVariants.{Memory, At}
 use Rattle.ics_components.specs.declared.fault.FaultKind.TheVariants as kind
 use Rattle.ics_components.specs.declared.frame.Frame.{Frame}
 use Rattle.ics_components.specs.declared.gathered.Passed.{Passed}
@@ -57,15 +59,6 @@ pass frames last had (line ∷ lines) = on_content line.number (content_of line.
 abbrev pub gathered_of : List ℕ → Result GatheredSeen Fault
 gathered_of file = if begins_with_fold file then Err bad_fold else pass (bottom ∷ []) None nothing_gathered (unfolded file)
 
--- there is a number after that of each line
-abbrev pub NumbersFit : List Line → Type 0
-NumbersFit [] = Unit {0}
-NumbersFit (line ∷ lines) = (line.number + 1 < 2 ^ 64) × NumbersFit lines
-
-abbrev pub LastFits : Option ℕ → Type 0
-LastFits None = Unit {0}
-LastFits (Some n) = n + 1 < 2 ^ 64
-
 -- the pass over the lines that are left
 abbrev pub pass_on : FirstRound → List Line → Result GatheredSeen Fault
 pass_on round lines = pass round.stack round.last round.gathered lines
@@ -76,3 +69,9 @@ GoesBehind (Ok taken) line round behind = (lines : List Line) → pass_on round 
 GoesBehind (Err refused.Memory) line round behind = Unit {0}
 GoesBehind (Err (refused.Fault kind)) line round behind = (lines : List Line) →
     pass_on round (line ∷ lines) ≡ Err (record { line = line.number; kind = kind })
+
+-- AN ANSWER, as it is seen: what is gathered, or the first fault, or that memory is refused.
+abbrev pub Says : {X Y : Type 0} → (X → Y) → Result X FileFault → Result Y Fault → Type 0
+Says seen (Ok x) said = said ≡ Ok (seen x)
+Says seen (Err Memory) said = Unit {0}
+Says seen (Err (At line kind)) said = said ≡ Err (record { line = line; kind = kind })

@@ -1,7 +1,9 @@
 //! Why a file is refused.
 ghost use Rattle.std.specs.Prelude.{◌≡◌};
 ghost use Rattle.ics_components.specs.FaultNames.{kind_name, file_fault_name};
+ghost use Rattle.ics_components.specs.declared.fault.FileFault.TheVariants.{Memory};
 
+use std::alloc::AllocError;
 use std::error::Error;
 use std::fmt;
 
@@ -64,6 +66,14 @@ pub enum FileFault {
     /// The first fault and its line, counted from 1. A file that ends too early has its fault on the line after its last one.
     #[error("line {line}: {kind}")]
     At { line: u64, kind: FaultKind },
+}
+
+impl From<AllocError> for FileFault {
+    ghost from_gives = { λ _ e. e ≡ Memory };
+
+    fn from(_error: AllocError) -> FileFault {
+        FileFault::Memory
+    }
 }
 
 /// A fault and the number of its line.

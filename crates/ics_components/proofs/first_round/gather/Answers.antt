@@ -1,21 +1,16 @@
-use Rattle.std.proofs.Common.{◌+◌, length, arith, sym, subst, IfOk}
-use Rattle.std.proofs.lemmas.Grind.{common_steps}
-use Rattle.std.proofs.lemmas.Result.{IfOk-weaker}
-use Rattle.ics_text.specs.Unfolded.{unfolded}
+use Rattle.std.proofs.Common.{◌+◌, length, arith, subst, IfOk}
 use Rattle.ics_components.specs.Gathered.{IsSoundGathered}
 use Rattle.ics_components.proofs.SoundPass.{sound-pass}
-use Rattle.ics_components.proofs.PassLemmas.{fits-from_within}
 use Rattle.ics_components.proofs.first_round.gather.Goals as goal
 
-pub pass_lines-requires : goal.pass_lines-requires
-pass_lines-requires c =
-    rw c.in-Ok.ensures.lines (fits-from_within (length c.args.bytes.now + 1) (unfolded c.args.bytes.now) (omega (arith, c.requires))
-    (c.numbers_within.ensures c.args.bytes.now))
+pub lines-read-requires : goal.lines-read-requires
+lines-read-requires c = record {
+  lines = (length c.args.bytes.now + 1, omega (arith, c.requires), rw c.in-Ok.ensures.lines (c.numbers_within.ensures c.args.bytes.now));
+  last = tt;
+}
 
-pub returns-clause-gathered : goal.returns-clause-gathered
-returns-clause-gathered c = grind (arith, common_steps)
-
--- what is gathered is sound, unless memory is refused
+-- what is gathered is sound
 pub returns-clause-sound : goal.returns-clause-sound
 returns-clause-sound c =
-    IfOk-weaker c.pass_lines.result _ _ (λ g e. subst (λ g. IfOk g IsSoundGathered) (sym e) (sound-pass c.in-Ok.lines)) c.pass_lines.ensures
+    let said = rw (c.new-2.ensures, c.new-3.ensures.items, c.new-4.ensures.items, c.new-5.ensures.items, c.in_ok-read.was) at c.lines-read.ensures in
+    subst (λ g. IfOk g IsSoundGathered) said (sound-pass c.in-Ok.lines)

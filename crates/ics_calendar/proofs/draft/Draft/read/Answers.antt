@@ -1,11 +1,26 @@
-use Rattle.ics_calendar.specs.Drafts.{draft_said}
-use Rattle.ics_calendar.proofs.Whole.{draft-gathered, fault-gathered}
+use Rattle.std.proofs.Common.{sym, ap, ◌∙◌, subst, Ok}
+use Rattle.std.proofs.lemmas.Result.{err_from_is_err_and}
+use Rattle.ics_calendar.specs.DeferredChecks.{KnownZones}
+use Rattle.ics_calendar.specs.Settled.{drafted}
+use Rattle.ics_components.specs.Gathered.{IsSoundGathered}
+use Rattle.ics_components.specs.GatheredSeen.{GatheredSeen}
+use Rattle.ics_calendar.proofs.Settling.{draft-sound}
+use Rattle.ics_calendar.proofs.Whole.{draft_by, gathered, fault-gathered}
 use Rattle.ics_calendar.proofs.draft.Draft.read.Goals as goal
 
-pub returns-in-Ok-Ok-clause-draft : goal.returns-in-Ok-Ok-clause-draft
-returns-in-Ok-Ok-clause-draft c =
-    draft-gathered c.args.bytes.now (draft_said c.in-Ok-Ok.draft) (c.numbers_rise.ensures c.args.bytes.now) (rw c.in-Ok-Ok.field-0-is at c.in-Ok-Ok.ensures)
+pub returns-in_err-zones-clause-fault : goal.returns-in_err-zones-clause-fault
+returns-in_err-zones-clause-fault c =
+    let e = err_from_is_err_and c.from_residual.result c.from_residual.ensures.1 in
+    rw (e.1, e.2) (fault-gathered c.args.bytes.now c.in_err-zones.field-0.0 (c.numbers_rise.ensures c.args.bytes.now) c.in_err-zones.ensures.gathered)
 
-pub returns-in-Ok-Err-clause-fault : goal.returns-in-Ok-Err-clause-fault
-returns-in-Ok-Err-clause-fault c =
-    fault-gathered c.args.bytes.now c.in-Ok-Err.field-0-0 (c.numbers_rise.ensures c.args.bytes.now) (rw c.in-Ok-Err.field-0-is at c.in-Ok-Err.ensures)
+pub new-requires : goal.new-requires
+new-requires c = (subst IsSoundGathered (sym c.zones.view_is) c.in_ok-zones.ensures.sound).zones
+
+pub invariant_of-result : goal.invariant_of-result
+invariant_of-result c = rw c.in_ok-table.ensures (draft-sound _ (subst IsSoundGathered (sym c.zones.view_is) c.in_ok-zones.ensures.sound))
+
+pub returns-clause-draft : goal.returns-clause-draft
+returns-clause-draft c =
+    ap (λ (known : KnownZones). drafted known c.zones.inside.events.items c.zones.inside.checks.items) c.in_ok-table.ensures
+    ∙ ap (λ (g : GatheredSeen). draft_by (Ok g)) c.zones.view_is
+    ∙ sym (gathered c.args.bytes.now (c.numbers_rise.ensures c.args.bytes.now) ∙ ap draft_by c.in_ok-zones.ensures.gathered)

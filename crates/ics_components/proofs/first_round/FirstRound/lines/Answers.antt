@@ -1,6 +1,6 @@
-use Rattle.std.proofs.Common.{◌≡◌, ℕ, List, ◌∷◌, Option, sym, ap, subst, ◌∙◌}
-use Rattle.ics_text.specs.Unfolded.{Line}
-use Rattle.ics_components.specs.Pass.{pass_on, NumbersFit, LastFits}
+use Rattle.std.proofs.Common.{◌≡◌, List, ◌∷◌, arith, sym, ap, subst, ◌∙◌}
+use Rattle.ics_text.specs.Unfolded.{Line, Within}
+use Rattle.ics_components.specs.Pass.{pass_on}
 use Rattle.ics_components.proofs.first_round.FirstRound.lines.Goals as goal
 
 -- one line further
@@ -9,9 +9,10 @@ lines-preserved c =
     let line : Line = c.in-Some.line in
     let rest : List Line = c.next.new.self in
     let taken : c.lines.lines ≡ line ∷ rest = rw c.in-Some.is at c.in_ok-line.ensures.ok in
-    let fit : NumbersFit (line ∷ rest) = subst (λ (ls : List Line). NumbersFit ls) taken c.lines.invariant.fit in
+    let fit = c.lines.invariant.fit in
+    let within : Within fit.0 (line ∷ rest) = subst (λ (ls : List Line). Within fit.0 ls) taken fit.2 in
     record {
       same = sym (c.in-Ok.ensures.behind rest) ∙ ap (pass_on c.lines.self) (sym taken) ∙ c.lines.invariant.same;
-      fit = fit.1;
-      last = subst (λ (last : Option ℕ). LastFits last) (sym c.in-Ok.ensures.last) fit.0;
+      fit = (fit.0, fit.1, within.1);
+      last = rw c.in-Ok.ensures.last (omega (arith, fit.1, within.0));
     }

@@ -1,12 +1,13 @@
-use Rattle.std.proofs.Common.{◌≡◌, length}
-use Rattle.ics_components.specs.Pass.{pass_on, NumbersFit, LastFits}
+use Rattle.std.proofs.Common.{◌≡◌, ℕ, ◌+◌, ◌<◌, ◌^◌, length, IfSome}
+use Rattle.ics_text.specs.Unfolded.{Within}
+use Rattle.ics_components.specs.Pass.{pass_on}
 use Rattle.ics_components.proofs.first_round.FirstRound.lines.Given as goal
 
 abbrev pub invariant-lines : goal.invariant-lines
 invariant-lines l = record {
   same : pass_on l.self l.lines ≡ pass_on l.fn.self l.fn.lines;
-  fit : NumbersFit l.lines;
-  last : LastFits l.self.last;
+  fit : (n : ℕ) × (n + 1 < 2 ^ 64) × Within n l.lines;
+  last : IfSome l.self.last (λ n. n + 1 < 2 ^ 64);
 }
 
 abbrev pub decreases-lines : goal.decreases-lines
