@@ -5,7 +5,7 @@ ghost use Rattle.ics_calendar.specs.Settled.{event_of};
 ghost use Rattle.ics_calendar.specs.Times.{time_on, length_of};
 ghost use Rattle.ics_calendar.specs.ZoneTables.{known_by};
 
-use crate::dates::{exdates_of, rdates_of};
+use crate::dates::listed_of;
 use crate::zone_table::ZoneTable;
 use ics_components::{Dated, EndedEvent, GivenLength, ZoneName, parts_of};
 use ics_event::{Event, Length, Time, is_zoned};
@@ -53,8 +53,8 @@ pub fn event_of(alloc: Global, table: &ZoneTable, ended: EndedEvent) -> Result<E
         start: time_on(table, calendar, ended.start),
         length: length_of(table, calendar, ended.length),
         rule: parts_of(ended.rule),
-        rdates: rdates_of(alloc, table, calendar, ended.rdates)?,
-        exdates: exdates_of(alloc, table, calendar, ended.exdates)?,
+        rdates: listed_of(alloc, table, calendar, ended.rdates)?,
+        exdates: listed_of(alloc, table, calendar, ended.exdates)?,
         recurrence: recurrence_of(table, calendar, ended.recurrence),
         uid: ended.uid,
         sequence: ended.sequence,

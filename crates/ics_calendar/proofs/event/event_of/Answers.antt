@@ -4,5 +4,5 @@ use Rattle.ics_calendar.proofs.event.event_of.Goals as goal
 
 pub invariant_of-result : goal.invariant_of-result
 invariant_of-result c =
-    rw (c.time_on.ensures, c.length_of.ensures, c.parts_of.ensures, c.in_ok-rdates_of.ensures, c.in_ok-exdates_of.ensures, c.recurrence_of.ensures)
+    rw (c.time_on.ensures, c.length_of.ensures, c.parts_of.ensures, c.in_ok-listed_of.ensures, c.in_ok-listed_of-2.ensures, c.recurrence_of.ensures)
     (event-is (known_by c.args.table.now) c.args.ended c.requires)
