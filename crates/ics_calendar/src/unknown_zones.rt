@@ -27,6 +27,7 @@ fn unknown_in<'a>(table: &ZoneTable, check: &'a DeferredCheck) -> Option<&'a Tzi
 }
 
 /// Adds a name to those that are seen, and says whether it is new.
+#[tactic(auto, using(crate::proofs::FilesGiven::ties))]
 fn see(seen: &mut BTreeSet<Tzid>, name: &Tzid) -> Result<bool, AllocError>
     ensures new { IfOk result (λ new. new ≡ not (contains (slice_cmp nat_cmp) seen.old name.now)) }
     ensures seen { OnOk result ((other : List ℕ) →
