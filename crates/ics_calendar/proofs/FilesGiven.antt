@@ -1,5 +1,5 @@
 -- Time zones with those of zone files: one name at a time, and what holds of them still.
-use Rattle.std.proofs.Common.{◌≡◌, ℕ, ◌<◌, Bool, true, List, [], ◌∷◌, length, refl, sym, ap, ◌∙◌, arith, cond, Option, Some, None}
+use Rattle.std.proofs.Common.{◌≡◌, ℕ, ◌<◌, Bool, true, ◌||◌, List, [], ◌∷◌, length, refl, sym, ap, ◌∙◌, arith, cond, Option, Some, None}
 use Rattle.std.proofs.Common.{append_assoc, IfSome, subst, ◌≤◌}
 use Rattle.std.specs.Prelude.{get_or, ◌==◌}
 use Rattle.std.specs.Cmp.Lexicographic.{bytes_decides, nat_list_eq_equiv}
@@ -38,6 +38,10 @@ same-known a b e f g = λ i. record { index = λ used. e used i; zones = f i; is
 -- the order ties what is the same
 pub ties : (key other : List ℕ) → is_eq (slice_cmp nat_cmp key other) ≡ bytes_eq other key
 ties key other = is_eq-slice_cmp key other ∙ nat_list_eq_equiv.symm key other
+
+-- a name more in a set
+pub seen-more : (key name other : List ℕ) (had : Bool) → key ≡ name → cond (is_eq (slice_cmp nat_cmp key other)) true had ≡ (bytes_eq other name || had)
+seen-more key name other had e = rw (e, ties name other) (grind arith)
 
 pub names_tie : (name used : ZoneName) → is_eq (name_cmp name used) ≡ is_same used name
 names_tie name used =
