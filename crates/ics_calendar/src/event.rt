@@ -27,10 +27,7 @@ fn time_on(table: &ZoneTable, calendar: u64, dated: Dated) -> Time
 fn recurrence_of(table: &ZoneTable, calendar: u64, recurrence: Option<Dated>) -> Option<Time>
     ensures { result ≡ option_map (time_on (known_by table.now).index calendar) recurrence }
 {
-    match recurrence {
-        Some(dated) => Some(time_on(table, calendar, dated)),
-        None => None,
-    }
+    Some(time_on(table, calendar, recurrence?))
 }
 
 fn length_of(table: &ZoneTable, calendar: u64, length: GivenLength) -> Length

@@ -107,11 +107,7 @@ impl ZoneTable {
         requires { IsStampDay local.day }
         ensures { result ≡ moment_at (known_by self.now).zones local index }
     {
-        let index = index as usize;
-        if index >= self.zones.len() {
-            return None;
-        }
-        Some(self.zones[index].moment(local))
+        Some(self.zones.get(index as usize)?.moment(local))
     }
 
     /// The zones.
