@@ -32,13 +32,13 @@ use Rattle.ics_components.specs.DateLists.{zone_listed}
 use Rattle.ics_calendar.specs.ListedTimes.{rdate_in, exdate_in, listed_by}
 use Rattle.ics_components.specs.DateValues.{has_zoned}
 use Rattle.ics_calendar.specs.DeferredChecks.{KnownZones, judged, moment_at, moment_there, moment_of}
-use Rattle.ics_components.specs.ZoneNames.{zone_used}
+use Rattle.ics_components.specs.ZoneNames.{zone_named, zone_used}
 use Rattle.ics_event.specs.declared.time.Rdate.{Rdate}
 use Rattle.ics_components.specs.SecondRound.{used_zone, used_in, listed_zone, instant_on, both_compared, ends_in}
 use Rattle.ics_calendar.specs.Ready.{IsReady}
 use Rattle.ics_components.specs.Sound.{end_of, IsSoundStamp, IsSoundLength, IsSoundValue, IsSoundList}
 use Rattle.ics_calendar.specs.Times.{time_on, length_of}
-use Rattle.ics_components.specs.Values.{is_lasting, is_out, is_bad_end, tzid}
+use Rattle.ics_components.specs.Values.{is_lasting, is_out, is_bad_end}
 use Rattle.ics_components.proofs.Listed.{All-flat_map}
 use Rattle.ics_calendar.proofs.FilesGiven.{below-here}
 use Rattle.ics_event.specs.declared.time.Length.TheVariants.{Until}
@@ -52,17 +52,13 @@ use Rattle.ics_components.specs.declared.deferred_check.Instant.TheVariants as i
 
 -- A STAMP, in the zone that it names.
 -- a check of the second round finds no fault
-abbrev pub IsFine : KnownZones → Option DeferredCheck → Type 0
+abbrev IsFine : KnownZones → Option DeferredCheck → Type 0
 IsFine known o = IfSome o (λ l. judged known l ≡ None)
 
-pub out-within : (start end : ℤ) → is_out start end ≡ false → IsWithin start end
+out-within : (start end : ℤ) → is_out start end ≡ false → IsWithin start end
 out-within start end h =
     let parts = or_parts (int_lt end start) (int_lt (start +ℤ pos longest) end) h in
     record { forward = omega (arith, ints, parts); short = omega (arith, ints, parts) }
-
--- what is checked of a start and its end
-abbrev pub check_between : ZoneName → ZoneName → Stamp → Stamp → Option DeferredCheck
-check_between m n r q = cond (is_zoned r && (is_zoned q && bytes_eq m.name n.name)) None (both_compared (instant_on m r) (instant_on n q))
 
 lasting-is : (d : Duration) → is_lasting d ≡ true → IsLasting d
 lasting-is d h = record { forward = grind (arith, nat_tests, h); short = grind (arith, nat_tests, h) }
@@ -70,12 +66,6 @@ lasting-is d h = record { forward = grind (arith, nat_tests, h); short = grind (
 -- the check of stamps that a line lists, in the zone that it names
 abbrev fault_by : Bool → ZoneName → Option DeferredCheck
 fault_by zoned name = cond zoned (Some (check.Zone name)) None
-
-abbrev named : ℕ → List ℕ → ZoneName
-named k x = record { calendar = k; name = x }
-
-abbrev time : Stamp → Option ℕ → Time
-time s o = record { stamp = s; zone = o }
 
 module _ (known : KnownZones) where
   abbrev place : ZoneName → ℕ
@@ -85,8 +75,11 @@ module _ (known : KnownZones) where
   index-is : (used : ZoneName) → IsFine known (Some (check.Zone used)) → known.index used ≡ Some (place used)
   index-is used h = grind (arith, h)
 
-  stamp-time : (name : ZoneName) (r : Stamp) → IsSoundStamp r → IsFine known (fault_by (is_zoned r) name) →
-      IsTime (time_in (known.index name) r) × (IsTable known → TimeBelow (length known.zones) (time_in (known.index name) r))
+  -- a time, and its zone in a table
+  abbrev IsTimeOf : Time → Type 0
+  IsTimeOf time = IsTime time × (IsTable known → TimeBelow (length known.zones) time)
+
+  stamp-time : (name : ZoneName) (r : Stamp) → IsSoundStamp r → IsFine known (fault_by (is_zoned r) name) → IsTimeOf (time_in (known.index name) r)
   stamp-time name (Zoned l) h k = (record { years = h; zone = ap is_some (index-is name k) }, λ table. table.below name)
   stamp-time name _ h k = (record { years = h; zone = refl }, λ table. tt)
 
@@ -101,61 +94,40 @@ module _ (known : KnownZones) where
   instants-within : (s t : Instant) {x y : ℤ} → moment_of known s ≡ Some x → moment_of known t ≡ Some y → IsFine known (Some (check.Ends s t)) → IsWithin x y
   instants-within s t {x} {y} e f h = let fine = rw (e, f) at h in out-within x y (grind (arith, fine))
 
-  not-end : (t : Bool) → IsFine known (cond t (Some check.End) None) → t ≡ false
-  not-end t h = grind arith
-
   -- AN END of an event in a calendar
   module _ (k : ℕ) where
-    -- two names
-    module _ (x y : List ℕ) where
-      abbrev Ends : Stamp → Stamp → Type 0
-      Ends a b =
-          IsEnd a b × (IsTable known → EndsWithin known.zones (time_in (known.index (named k x)) a) (Until (time_in (known.index (named k y)) b)))
+    -- two TZIDs
+    module _ (x y : Option (List ℕ)) where
+      abbrev m : ZoneName
+      m = zone_named k x
 
-      both-zoned : (a b : Local) → is_bad_end (bytes_eq x y) (Zoned a) (Zoned b) ≡ false →
-          IsFine known (Some (check.Zone (named k x))) → IsFine known (Some (check.Zone (named k y))) →
-          IsFine known (check_between (named k x) (named k y) (Zoned a) (Zoned b)) → IsTable known →
-          IsWithin (compared (place (named k x) == place (named k y)) known.zones (time (Zoned a) (Some (place (named k x)))))
-          (compared (place (named k x) == place (named k y)) known.zones (time (Zoned b) (Some (place (named k y)))))
-      both-zoned a b e u v l table = rw one (by_test (bytes_eq x y) e l)
-        where
-          one : (place (named k x) == place (named k y)) ≡ bytes_eq x y
-          one =
-              grind (
-                arith,
-                nat_tests,
-                (bytes_decides x y).0,
-                (bytes_decides x y).1,
-                index-is (named k x) u,
-                index-is (named k y) v,
-                table.single (named k x) (named k y) (place (named k x)),
-              )
+      abbrev n : ZoneName
+      n = zone_named k y
 
-          by_test : (t : Bool) → is_bad_end t (Zoned a) (Zoned b) ≡ false →
-              IsFine known (cond t None (Some (check.Ends (instant.Zoned a (named k x)) (instant.Zoned b (named k y))))) →
-              IsWithin (compared t known.zones (time (Zoned a) (Some (place (named k x))))) (compared t known.zones (time (Zoned b) (Some (place (named k y)))))
-          by_test true e l = out-within (local_seconds a) (local_seconds b) e
-          by_test false e l =
-              instants-within (instant.Zoned a (named k x)) (instant.Zoned b (named k y)) (local-there table (named k x) a u) (local-there table (named k y) b v) l
+      one-zone : IsFine known (Some (check.Zone m)) → IsFine known (Some (check.Zone n)) → IsTable known → (place m == place n) ≡ bytes_eq m.name n.name
+      one-zone u v table =
+          let both = bytes_decides m.name n.name in grind (arith, nat_tests, both.0, both.1, index-is m u, index-is n v, table.single m n (place m))
 
-      ends-are : (a b : Stamp) → is_bad_end (bytes_eq x y) a b ≡ false →
-          IsFine known (fault_by (is_zoned a) (named k x)) → IsFine known (fault_by (is_zoned b) (named k y)) →
-          IsFine known (check_between (named k x) (named k y) a b) → Ends a b
+      ends-are : (a b : Stamp) → is_bad_end (bytes_eq m.name n.name) a b ≡ false →
+          IsFine known (fault_by (is_zoned a) m) → IsFine known (fault_by (is_zoned b) n) →
+          IsFine known (cond (is_zoned a && (is_zoned b && bytes_eq m.name n.name)) None (both_compared (instant_on m a) (instant_on n b))) →
+          IsEnd a b × (IsTable known → EndsWithin known.zones (time_in (known.index m) a) (Until (time_in (known.index n) b)))
       ends-are (Date a) (Date b) e u v l = (out-within (a *ℤ pos 86_400) (b *ℤ pos 86_400) e, λ table g. cc)
       ends-are (Floating a) (Floating b) e u v l = (out-within (local_seconds a) (local_seconds b) e, λ table g. cc)
-      ends-are (Utc a) (Utc b) e u v l =
-          (out-within (local_seconds a) (local_seconds b) (not-end (is_out (local_seconds a) (local_seconds b)) l), λ table g. cc)
-      ends-are (Utc a) (Zoned b) e u v l = (
-        tt,
-        λ table g. rw (index-is (named k y) v)
-            (instants-within (instant.Utc a) (instant.Zoned b (named k y)) refl (local-there table (named k y) b v) l),
-      )
-      ends-are (Zoned a) (Utc b) e u v l = (
-        tt,
-        λ table g. rw (index-is (named k x) u)
-            (instants-within (instant.Zoned a (named k x)) (instant.Utc b) (local-there table (named k x) a u) refl l),
-      )
-      ends-are (Zoned a) (Zoned b) e u v l = (tt, λ table g. rw (index-is (named k x) u, index-is (named k y) v) (both-zoned a b e u v l table))
+      ends-are (Utc a) (Utc b) e u v l = (out-within (local_seconds a) (local_seconds b) (grind (arith, l)), λ table g. cc)
+      ends-are (Utc a) (Zoned b) e u v l =
+          (tt, λ table g. rw (index-is n v) (instants-within (instant.Utc a) (instant.Zoned b n) refl (local-there table n b v) l))
+      ends-are (Zoned a) (Utc b) e u v l =
+          (tt, λ table g. rw (index-is m u) (instants-within (instant.Zoned a m) (instant.Utc b) (local-there table m a u) refl l))
+      ends-are (Zoned a) (Zoned b) e u v l =
+          (tt, λ table g. rw (index-is m u, index-is n v, one-zone u v table) (by_test table (bytes_eq m.name n.name) e l))
+        where
+          by_test : IsTable known → (t : Bool) → is_bad_end t (Zoned a) (Zoned b) ≡ false →
+              IsFine known (cond t None (Some (check.Ends (instant.Zoned a m) (instant.Zoned b n)))) →
+              IsWithin (compared t known.zones (record { stamp = Zoned a; zone = Some (place m) }))
+              (compared t known.zones (record { stamp = Zoned b; zone = Some (place n) }))
+          by_test table true e l = out-within (local_seconds a) (local_seconds b) e
+          by_test table false e l = instants-within (instant.Zoned a m) (instant.Zoned b n) (local-there table m a u) (local-there table n b v) l
       ends-are _ _ e u v l = cc
 
     length-sound : (s : Dated) (l : GivenLength) → IsSoundLength s l →
@@ -164,7 +136,7 @@ module _ (known : KnownZones) where
         × (IsTable known → EndsBelow (length known.zones) (length_of known.index k l) × EndsWithin known.zones (time_on known.index k s) (length_of known.index k l))
     length-sound s (given.Until d) h u v w =
         let end = stamp-time (zone_used k d) d.stamp h.0 v in
-        let ends = ends-are (tzid s) (tzid d) s.stamp d.stamp h.1 u v w in ((end.0, ends.0), λ table. (end.1 table, ends.1 table))
+        let ends = ends-are s.zone d.zone s.stamp d.stamp h.1 u v w in ((end.0, ends.0), λ table. (end.1 table, ends.1 table))
     length-sound s (given.Lasting d) h u v w = (lasting-is d h, λ table. (tt, tt))
     length-sound s given.Open h u v w = (tt, λ table. (tt, tt))
 
@@ -181,9 +153,6 @@ module _ (known : KnownZones) where
 
   abbrev IsRdateOf : Rdate → Type 0
   IsRdateOf rdate = IsRdate rdate × (IsTable known → RdateBelow (length known.zones) rdate)
-
-  abbrev IsTimeOf : Time → Type 0
-  IsTimeOf time = IsTime time × (IsTable known → TimeBelow (length known.zones) time)
 
   rdate-is : (name : ZoneName) (v : ListedDate) → IsSoundValue v → IsFine known (fault_by (has_zoned v) name) → IsRdateOf (rdate_in (known.index name) v)
   rdate-is name (value.At r) h k = stamp-time name r h k

@@ -7,7 +7,6 @@ use Rattle.std.specs.List.{All}
 use Rattle.std.specs.Option.{option_or}
 use Rattle.std.specs.Str.{bytes_eq}
 use Rattle.std.proofs.Math.Bool.{or-false, or_assoc}
-use Rattle.std.proofs.lemmas.Bool.{and_parts}
 use Rattle.std.specs.Cmp.Lexicographic.{slice_cmp}
 use Rattle.std.specs.Ordering.{is_eq, nat_cmp}
 use Rattle.std.proofs.lemmas.Map.Text.{is_eq-slice_cmp}
@@ -82,9 +81,6 @@ with-no-files known [] = with-none known no_files
 with-no-files known (n ∷ ns) = with-no-files known ns
 
 -- A NAME IN A TABLE: the place of a VTIMEZONE's.
-same-text : (a b : ZoneName) → is_same a b ≡ true → a.name ≡ b.name
-same-text a b h = (bytes_decides a.name b.name).0 (and_parts (a.calendar == b.calendar) (bytes_eq a.name b.name) h).1
-
 if-some : {P : ℕ → Type 0} (o : Option ℕ) → ((i : ℕ) → o ≡ Some i → P i) → IfSome o P
 if-some None h = tt
 if-some (Some i) h = h i refl
@@ -92,9 +88,9 @@ if-some (Some i) h = h i refl
 pub table-known : (names : List ZoneName) (zones : List ZoneSaid) → length names ≡ length zones → IsTable (known_zones names zones)
 table-known names zones long = record {
   below = λ used. if-some (zone_index names used) (λ i e. subst (λ n. i < n) long (position-Some (is_same used) names i used e).0);
-  single =
-      λ a b i e f. same-text a (get_or names i a) (position-Some (is_same a) names i a e).1
-      ∙ sym (same-text b (get_or names i a) (position-Some (is_same b) names i a f).1);
+  single = λ a b i e f.
+      let at : List ℕ = (get_or names i a).name in
+      grind (arith, position-Some (is_same a) names i a, position-Some (is_same b) names i a, (bytes_decides a.name at).0, (bytes_decides b.name at).0);
 }
 
 pub below-here : (known : KnownZones) → IsTable known → (used : ZoneName) (i : ℕ) → known.index used ≡ Some i → i < length known.zones

@@ -1,7 +1,7 @@
 //! The time zones of a file, made of what is gathered of them (RFC 5545, section 3.6.5).
-ghost use Rattle.std.specs.Prelude.{◌≡◌, ◌≢◌, [], false, IfOk};
-ghost use Rattle.std.specs.List.{All, list_any};
-ghost use Rattle.ics_zone.specs.Observances.{observance_said, observances_said, has_finer_rule};
+ghost use Rattle.std.specs.Prelude.{◌≡◌, IfOk};
+ghost use Rattle.std.specs.List.{All};
+ghost use Rattle.ics_zone.specs.Observances.{observance_said, observances_said};
 ghost use Rattle.ics_zone.specs.ZoneSaid.{ZoneSaid, zone_said};
 ghost use Rattle.ics_components.specs.Sound.{IsSoundObservance, IsSoundZone};
 

@@ -1,13 +1,9 @@
 //! The time zones of a file by their names.
-ghost use Rattle.std.specs.Prelude.{◌≡◌, ◌∷◌, [], List, ℕ, map, IfOk, OnOk};
-ghost use Rattle.std.specs.BTreeMap.{get};
-ghost use Rattle.std.specs.Cmp.Lexicographic.{slice_cmp};
+ghost use Rattle.std.specs.Prelude.{◌≡◌, ◌∷◌, [], map, IfOk, OnOk};
 ghost use Rattle.std.specs.List.{All};
-ghost use Rattle.std.specs.Ordering.{nat_cmp};
 ghost use Rattle.ics_fields.specs.Days.{IsStampDay};
 ghost use Rattle.ics_zone.specs.ZoneSaid.{ZoneSaid, zone_said};
-ghost use Rattle.ics_components.specs.declared.deferred_check.ZoneName.{ZoneName};
-ghost use Rattle.ics_calendar.specs.DeferredChecks.{zone_index, moment_at, known_zones, with_files};
+ghost use Rattle.ics_calendar.specs.DeferredChecks.{moment_at, known_zones, with_files};
 ghost use Rattle.ics_components.specs.Sound.{IsSoundZone};
 ghost use Rattle.ics_calendar.specs.ZoneTables.{known_by, given_by};
 
