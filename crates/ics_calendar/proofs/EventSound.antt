@@ -2,7 +2,7 @@
 use Rattle.std.proofs.Common.{◌≡◌, ℕ, Bool, true, false, ◌&&◌, ◌||◌, ◌==◌, List, [], refl, arith, cond, Option, Some}
 use Rattle.std.proofs.Common.{None, is_some, IfSome, int_lt, ℤ, pos, ◌+ℤ◌, ◌*ℤ◌, length, get_or, ap, ◌∙◌}
 use Rattle.std.specs.Prelude.{map, option_map, unwrap_or}
-use Rattle.std.specs.List.{All, list_any}
+use Rattle.std.specs.List.{All}
 use Rattle.std.proofs.lemmas.Bool.{or_parts, or_left, or_right}
 use Rattle.std.proofs.lemmas.Bool.Decides.{nat_tests}
 use Rattle.std.proofs.lemmas.Int.{ints}
@@ -133,7 +133,8 @@ module _ (known : KnownZones) where
     length-sound : (s : Dated) (l : GivenLength) → IsSoundLength s l →
         IsFine known (used_zone k s) → IsFine known (used_in k (end_of l)) → IsFine known (ends_in k (Some s) (end_of l)) →
         IsLength s.stamp (length_of known.index k l)
-        × (IsTable known → EndsBelow (length known.zones) (length_of known.index k l) × EndsWithin known.zones (time_on known.index k s) (length_of known.index k l))
+        × (IsTable known →
+            EndsBelow (length known.zones) (length_of known.index k l) × EndsWithin known.zones (time_on known.index k s) (length_of known.index k l))
     length-sound s (given.Until d) h u v w =
         let end = stamp-time (zone_used k d) d.stamp h.0 v in
         let ends = ends-are s.zone d.zone s.stamp d.stamp h.1 u v w in ((end.0, ends.0), λ table. (end.1 table, ends.1 table))
@@ -168,16 +169,17 @@ module _ (known : KnownZones) where
   exdate-is name v h k = let rdate = rdate-is name v h k in (rdate.0.0, λ table. (rdate.1 table).0)
 
   -- each value of each list
-  lists-are : {A : Type 0} (P : A → Type 0) (f : Option ℕ → ListedDate → A) (calendar : ℕ) →
-      ((name : ZoneName) (v : ListedDate) → IsSoundValue v → IsFine known (fault_by (has_zoned v) name) → P (f (known.index name) v)) →
-      (lists : List DateList) → All IsSoundList lists → All (λ list. IsFine known (listed_zone calendar list)) lists → All P (listed_by f known.index calendar lists)
-  lists-are P f calendar each lists h k =
-      All-flat_map P _ lists (λ i d l.
-      let list = get_or lists i d in
-      let name = zone_listed calendar list in
-      All-map P (f (known.index name)) list.values (λ j v m.
-      each name (get_or list.values j v) (h i d l j v m)
-      (fine-less name (has_zoned (get_or list.values j v)) (list_any has_zoned list.values) (list_any_at has_zoned list.values j v m) (k i d l))))
+  module _ {A : Type 0} (P : A → Type 0) where
+    lists-are : (f : Option ℕ → ListedDate → A) (calendar : ℕ) →
+        ((name : ZoneName) (v : ListedDate) → IsSoundValue v → IsFine known (fault_by (has_zoned v) name) → P (f (known.index name) v)) →
+        (lists : List DateList) → All IsSoundList lists → All (λ list. IsFine known (listed_zone calendar list)) lists →
+        All P (listed_by f known.index calendar lists)
+    lists-are f calendar each lists h k =
+        All-flat_map P _ lists (λ i d l.
+        let list = get_or lists i d in
+        All-map P (f (known.index (zone_listed calendar list))) list.values (λ j v m.
+        each (zone_listed calendar list) (get_or list.values j v) (h i d l j v m)
+        (fine-less (zone_listed calendar list) _ _ (list_any_at has_zoned list.values j v m) (k i d l))))
 
   pub event-sound : (event : EndedEvent) → IsReady known event →
       IsEvent (event_of known.index event) × (IsTable known → IsEventOf known.zones (event_of known.index event))
