@@ -134,7 +134,7 @@ module _ (known : KnownZones) where
         IsFine known (used_zone k s) → IsFine known (used_in k (end_of l)) → IsFine known (ends_in k (Some s) (end_of l)) →
         IsLength s.stamp (length_of known.index k l)
         × (IsTable known →
-            EndsBelow (length known.zones) (length_of known.index k l) × EndsWithin known.zones (time_on known.index k s) (length_of known.index k l))
+        EndsBelow (length known.zones) (length_of known.index k l) × EndsWithin known.zones (time_on known.index k s) (length_of known.index k l))
     length-sound s (given.Until d) h u v w =
         let end = stamp-time (zone_used k d) d.stamp h.0 v in
         let ends = ends-are s.zone d.zone s.stamp d.stamp h.1 u v w in ((end.0, ends.0), λ table. (end.1 table, ends.1 table))

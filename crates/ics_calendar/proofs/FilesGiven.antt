@@ -1,7 +1,7 @@
 -- Time zones with those of zone files: one name at a time, and what holds of them still.
 use Rattle.std.proofs.Common.{◌≡◌, ℕ, ◌<◌, Bool, true, ◌||◌, List, [], ◌∷◌, length, refl, sym, ap, ◌∙◌, arith, cond, Option, Some, None}
 use Rattle.std.proofs.Common.{append_assoc, IfSome, subst, ◌≤◌}
-use Rattle.std.specs.Prelude.{get_or, ◌==◌}
+use Rattle.std.specs.Prelude.{get_or}
 use Rattle.std.specs.Cmp.Lexicographic.{bytes_decides, nat_list_eq_equiv}
 use Rattle.std.specs.List.{All}
 use Rattle.std.specs.Option.{option_or}
@@ -22,8 +22,7 @@ use Rattle.ics_calendar.specs.GivenFiles.{GivenFiles, no_files, given_names, giv
 use Rattle.ics_calendar.specs.ZoneTables.{name_cmp}
 use Rattle.std.proofs.Common.{◌+◌}
 use Rattle.std.specs.List.{position_from}
-use Rattle.std.specs.Cmp.{both_tied, nat_eq_equiv, unsigned_ties}
-use Rattle.std.specs.Cmp.Lexicographic.{texts_ties}
+use Rattle.std.proofs.lemmas.Bool.Decides.{nat_tests}
 
 pub or-none : {X : Type 0} (o : Option X) → option_or o None ≡ o
 or-none o = grind arith
@@ -43,10 +42,7 @@ pub seen-more : (key name other : List ℕ) (had : Bool) → key ≡ name → co
 seen-more key name other had e = rw (e, ties name other) (grind arith)
 
 pub names_tie : (name used : ZoneName) → is_eq (name_cmp name used) ≡ is_same used name
-names_tie name used =
-    sym (both_tied (used.calendar == name.calendar) (bytes_eq used.name name.name) _ _
-    (nat_eq_equiv.symm used.calendar name.calendar ∙ unsigned_ties name.calendar used.calendar)
-    (nat_list_eq_equiv.symm used.name name.name ∙ texts_ties name.name used.name))
+names_tie name used = grind (arith, nat_tests, ties name.name used.name)
 
 -- NO NAME, and one name before others.
 pub with-none : (known : KnownZones) (files : GivenFiles) → with_files known files [] ≡ known

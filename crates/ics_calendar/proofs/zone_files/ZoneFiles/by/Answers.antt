@@ -3,8 +3,5 @@ use Rattle.std.proofs.lemmas.Grind.{common_steps}
 use Rattle.ics_calendar.proofs.FilesGiven.{or-placed}
 use Rattle.ics_calendar.proofs.zone_files.ZoneFiles.by.Goals as goal
 
-pub loop-pair-init : goal.loop-pair-init
-loop-pair-init c = λ name. grind (arith, common_steps, c.new-files.ensures name)
-
 pub loop-pair-preserved : goal.loop-pair-preserved
 loop-pair-preserved c = λ name. grind (arith, common_steps, or-placed, c.loop-pair.invariant name, c.in_ok-add.ensures.added name)
