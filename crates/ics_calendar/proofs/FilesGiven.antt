@@ -1,19 +1,19 @@
 -- Time zones with those of zone files: one name at a time, and what holds of them still.
 use Rattle.std.proofs.Common.{◌≡◌, ℕ, ◌<◌, Bool, true, ◌||◌, List, [], ◌∷◌, length, refl, sym, ap, ◌∙◌, arith, cond, Option, Some, None}
-use Rattle.std.proofs.Common.{append_assoc, IfSome, subst, ◌≤◌}
+use Rattle.std.proofs.Common.{IfSome, subst, ◌≤◌}
 use Rattle.std.specs.Prelude.{get_or}
 use Rattle.std.specs.Cmp.Lexicographic.{bytes_decides, nat_list_eq_equiv}
 use Rattle.std.specs.List.{All}
 use Rattle.std.specs.Option.{option_or}
 use Rattle.std.specs.Str.{bytes_eq}
-use Rattle.std.proofs.Math.Bool.{or-false, or_assoc}
+use Rattle.std.proofs.Math.Bool.{or-false}
 use Rattle.std.specs.Cmp.Lexicographic.{slice_cmp}
 use Rattle.std.specs.Ordering.{is_eq, nat_cmp}
 use Rattle.std.proofs.lemmas.Map.Text.{is_eq-slice_cmp}
+use Rattle.std.proofs.lemmas.Grind.{common_steps}
 use Rattle.std.proofs.lemmas.List.{append-nil, length-append}
 use Rattle.std.proofs.lemmas.List.Elements.{All-head, All-tail}
 use Rattle.std.proofs.lemmas.List.Quantifiers.{position-Some}
-use Rattle.ics_zone.specs.ZoneFiles.{TzifText}
 use Rattle.ics_zone.specs.ZoneSaid.{ZoneSaid}
 use Rattle.ics_components.specs.declared.deferred_check.ZoneName.{ZoneName}
 use Rattle.ics_calendar.specs.DeferredChecks.{KnownZones, known_zones, is_same, zone_index, with_files}
@@ -54,12 +54,8 @@ or-placed k r t x = grind arith
 
 pub with-further : (known : KnownZones) (files : GivenFiles) (n : List ℕ) (rest : List (List ℕ)) →
     with_files (with_files known files (n ∷ [])) files rest ≡ with_files known files (n ∷ rest)
-with-further known files n rest = by_given (files n) refl
-  where
-    by_given : (o : Option (Option TzifText)) → files n ≡ o → with_files (with_files known files (n ∷ [])) files rest ≡ with_files known files (n ∷ rest)
-    by_given (Some (Some file)) e = rw e (simp (append_assoc, length-append, or-placed, or-false))
-    by_given (Some None) e = rw e (simp (append-nil, or-none, or-false, or_assoc))
-    by_given None e = rw e (simp (append-nil, or-none, or-false))
+with-further known files n rest =
+    same-known _ _ (λ used. grind (arith, common_steps, or-placed)) (grind (arith, common_steps)) (λ name. grind (arith, common_steps))
 
 -- FILES THAT AGREE on the names give the same, one name at a time.
 pub with-agreed : (known : KnownZones) (files others : GivenFiles) (names : List (List ℕ)) → All (λ name. files name ≡ others name) names →
