@@ -1,6 +1,6 @@
 -- An event that no fault of either round stands on is one, of the zones of its file.
 use Rattle.std.proofs.Common.{◌≡◌, ℕ, Bool, true, false, ◌&&◌, ◌||◌, ◌==◌, List, [], refl, arith, cond, Option, Some}
-use Rattle.std.proofs.Common.{None, is_some, IfSome, int_lt, ℤ, pos, ◌+ℤ◌, ◌*ℤ◌, length, get_or, ap, ◌∙◌}
+use Rattle.std.proofs.Common.{None, is_some, IfSome, int_lt, ℤ, pos, ◌+ℤ◌, ◌*ℤ◌, length, get_or, ap}
 use Rattle.std.specs.Prelude.{map, option_map, unwrap_or}
 use Rattle.std.specs.List.{All}
 use Rattle.std.proofs.lemmas.Bool.{or_parts, or_left, or_right}
@@ -8,7 +8,6 @@ use Rattle.std.proofs.lemmas.Bool.Decides.{nat_tests}
 use Rattle.std.proofs.lemmas.Int.{ints}
 use Rattle.std.proofs.lemmas.List.Elements.{All-map}
 use Rattle.std.proofs.lemmas.List.Folds.{list_any_at}
-use Rattle.std.specs.Option.{option_and_then}
 use Rattle.std.specs.Str.{bytes_eq}
 use Rattle.std.specs.Cmp.Lexicographic.{bytes_decides}
 use Rattle.std.proofs.lemmas.Option.{slice_get-get_or}
@@ -31,7 +30,7 @@ use Rattle.ics_calendar.specs.Settled.{event_of}
 use Rattle.ics_components.specs.DateLists.{zone_listed}
 use Rattle.ics_calendar.specs.ListedTimes.{rdate_in, exdate_in, listed_by}
 use Rattle.ics_components.specs.DateValues.{has_zoned}
-use Rattle.ics_calendar.specs.DeferredChecks.{KnownZones, judged, moment_at, moment_there, moment_of}
+use Rattle.ics_calendar.specs.DeferredChecks.{KnownZones, judged, moment_there, moment_of}
 use Rattle.ics_components.specs.ZoneNames.{zone_named, zone_used}
 use Rattle.ics_event.specs.declared.time.Rdate.{Rdate}
 use Rattle.ics_components.specs.SecondRound.{used_zone, used_in, listed_zone, instant_on, both_compared, ends_in}
@@ -87,8 +86,8 @@ module _ (known : KnownZones) where
   local-there : IsTable known → (used : ZoneName) (local : Local) → IsFine known (Some (check.Zone used)) →
       moment_there known used local ≡ Some (moment_in known.zones (Some (place used)) (Zoned local))
   local-there table used local h =
-      ap (option_and_then (moment_at known.zones local)) (index-is used h)
-      ∙ rw (slice_get-get_or known.zones (place used) (ZoneSaid.ByObservances []) (below-here known table used (place used) (index-is used h))) refl
+      let i = index-is used h in
+      grind (arith, i, slice_get-get_or known.zones (place used) (ZoneSaid.ByObservances []) (below-here known table used (place used) i))
 
   -- instants that are checked as an end and its start
   instants-within : (s t : Instant) {x y : ℤ} → moment_of known s ≡ Some x → moment_of known t ≡ Some y → IsFine known (Some (check.Ends s t)) → IsWithin x y

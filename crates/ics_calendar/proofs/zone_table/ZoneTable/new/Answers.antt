@@ -1,7 +1,7 @@
-use Rattle.std.proofs.Common.{rules, ◌≡◌, [], refl, sym, ◌∙◌, arith, map}
+use Rattle.std.proofs.Common.{arith, map}
 use Rattle.std.proofs.lemmas.Grind.{common_steps}
 use Rattle.std.proofs.lemmas.Iterator.Adapters.{position_from-zero}
-use Rattle.std.proofs.lemmas.List.{append-nil, nil_from_length}
+use Rattle.std.proofs.lemmas.List.{nil_from_length}
 use Rattle.ics_calendar.specs.DeferredChecks.{is_same}
 use Rattle.ics_calendar.proofs.FilesGiven.{same-known, or-placed, names_tie}
 use Rattle.ics_calendar.proofs.zone_table.ZoneTable.new.Goals as goal
@@ -20,6 +20,6 @@ loop-zone-preserved c = record {
 
 pub returns : goal.returns
 returns c =
-    let none : c.loop-zone.zone-iterator.rest.items ≡ [] = nil_from_length c.loop-zone.zone-iterator.rest.items (search rules) in
-    let all = rw none at c.loop-zone.invariant in
-    same-known _ _ (λ used. rw c.new.ensures.empty (all.places used)) (sym (append-nil _) ∙ all.zones) (λ name. rw c.new-2.ensures.empty refl)
+    let none = nil_from_length c.loop-zone.zone-iterator.rest.items in
+    same-known _ _ (λ used. grind (arith, common_steps, none, c.loop-zone.invariant.places used)) (grind (arith, common_steps, none))
+    (λ name. grind (arith, common_steps))
