@@ -7,12 +7,10 @@ use Rattle.std.proofs.lemmas.Bool.{not-false}
 use Rattle.ics_text.specs.Bytes.{upper}
 use Rattle.ics_text.specs.Unfolded.{Line}
 use Rattle.ics_text.specs.ContentLines.{Parts}
-use Rattle.ics_values.specs.declared.stamp.Stamp.{Stamp}
 use Rattle.ics_components.specs.declared.component.Context.{Context}
 use Rattle.ics_components.specs.declared.component.Context.TheVariants as context
 use Rattle.ics_components.specs.declared.dated.Dated.{Dated}
 use Rattle.ics_components.specs.declared.fault.FaultKind.TheVariants.{BadEnd, UnknownZone, BadZoneFile}
-use Rattle.ics_components.specs.declared.deferred_check.Instant.{Instant}
 use Rattle.ics_components.specs.declared.deferred_check.DeferredCheck.{DeferredCheck}
 use Rattle.ics_components.specs.declared.deferred_check.DeferredCheck.TheVariants as check
 use Rattle.ics_components.specs.declared.deferred_check.ZoneName.{ZoneName}
@@ -23,9 +21,9 @@ use Rattle.ics_components.specs.PlacedLines.{Placed, Open, context_of, closes, e
 use Rattle.ics_components.specs.Values.{dated_of}
 use Rattle.ics_components.specs.Faults.{kinds}
 use Rattle.ics_calendar.specs.LaterFaults.{is_in_zone, is_in_unknown_zone, stands_later, tzid_on}
-use Rattle.ics_calendar.specs.DeferredChecks.{KnownZones, are_out, moment_on, ends_badly_later, moment_of, judged, unknown_in}
-use Rattle.ics_components.specs.ZoneNames.{zone_used, are_of_one_zone}
-use Rattle.ics_components.specs.SecondRound.{instant_on, instant_in, both_compared, ends_in}
+use Rattle.ics_calendar.specs.DeferredChecks.{KnownZones, ends_badly_later, judged, unknown_in}
+use Rattle.ics_components.specs.ZoneNames.{zone_used}
+use Rattle.ics_components.specs.SecondRound.{ends_in}
 use Rattle.ics_components.proofs.Judged.{check_in}
 use Rattle.ics_components.proofs.Ended.{IsMatched}
 use Rattle.ics_components.proofs.NameLemmas.{Tells, tells}
@@ -33,22 +31,10 @@ use Rattle.ics_components.proofs.Table.{Readings, readings, frame_of}
 use Rattle.ics_components.proofs.Frames.{with}
 
 -- AN END against its start, as the table finds it, as it is judged, and as it asks for no time zone.
-moment-is : (known : KnownZones) (name : ZoneName) (s : Stamp) → moment_on known name s ≡ option_and_then (moment_of known) (instant_on name s)
-moment-is known name s = grind arith
-
-abbrev EndsAs : KnownZones → Bool → Option DeferredCheck → Type 0
-EndsAs known t check =
-    (cond t (Some BadEnd) None ≡ option_and_then (judged known) check) × (option_and_then (unknown_in known.index) check ≡ None)
-
-compared-as : (known : KnownZones) (one : Bool) (a b : Option Instant) →
-    EndsAs known (not one && are_out (option_and_then (moment_of known) a) (option_and_then (moment_of known) b)) (cond one None (both_compared a b))
-compared-as known one a b = (grind arith, grind arith)
-
 ends-as : (known : KnownZones) (calendar : ℕ) (start end : Option Dated) →
-    EndsAs known (ends_badly_later known calendar start end) (ends_in calendar start end)
-ends-as known k (Some a) (Some b) =
-    rw (moment-is known (zone_used k a) a.stamp, moment-is known (zone_used k b) b.stamp)
-    (compared-as known (are_of_one_zone a b) (instant_in k a) (instant_in k b))
+    (cond (ends_badly_later known calendar start end) (Some BadEnd) None ≡ option_and_then (judged known) (ends_in calendar start end))
+    × (option_and_then (unknown_in known.index) (ends_in calendar start end) ≡ None)
+ends-as known k (Some a) (Some b) = (grind arith, grind arith)
 ends-as known k _ _ = (refl, refl)
 
 -- THE SECOND ROUND. A time zone that is not known, as the table finds it, as it is judged, and as it is asked for.

@@ -1,5 +1,4 @@
 pub mod DeferredTable
-pub mod EachOnce
 pub mod FilesGiven
 pub mod Settles
 pub mod Whole

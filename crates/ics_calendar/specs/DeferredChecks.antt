@@ -79,16 +79,13 @@ abbrev pub moment_of : KnownZones → Instant → Option ℤ
 moment_of known (instant.Utc local) = Some (local_seconds local)
 moment_of known (instant.Zoned local name) = moment_there known name local
 
-abbrev pub ends_out : KnownZones → Instant → Instant → Bool
-ends_out known start end = are_out (moment_of known start) (moment_of known end)
-
 abbrev pub judged : KnownZones → DeferredCheck → Option FaultKind
 judged known check.End = Some BadEnd
 judged known (check.Zone name) =
     if is_some (known.index name) then None
     else if known.is_bad name.name then Some BadZoneFile
     else Some UnknownZone
-judged known (check.Ends start end) = if ends_out known start end then Some BadEnd else None
+judged known (check.Ends start end) = if are_out (moment_of known start) (moment_of known end) then Some BadEnd else None
 
 -- the name of a time zone that is to be known, if it is not
 abbrev pub unknown_in : (ZoneName → Option ℕ) → DeferredCheck → Option (List ℕ)

@@ -27,9 +27,12 @@ first_stamp (listed.Lasting start duration) = start
 abbrev pub exdate_in : Option ℕ → ListedDate → Time
 exdate_in zone v = time_in zone (first_stamp v)
 
--- THE VALUES of some lines of a calendar, in their order, given the index of the zone that a name stands for.
+-- THE VALUES of some lines of a calendar, in their order, given what a value says and the index of the zone that a name stands for.
+abbrev pub listed_by : {T : Type 0} → (Option ℕ → ListedDate → T) → (ZoneName → Option ℕ) → ℕ → List DateList → List T
+listed_by listed index calendar lists = flat_map (λ list. map (listed (index (zone_listed calendar list))) list.values) lists
+
 abbrev pub rdates_by : (ZoneName → Option ℕ) → ℕ → List DateList → List Rdate
-rdates_by index calendar lists = flat_map (λ list. map (rdate_in (index (zone_listed calendar list))) list.values) lists
+rdates_by = listed_by rdate_in
 
 abbrev pub exdates_by : (ZoneName → Option ℕ) → ℕ → List DateList → List Time
-exdates_by index calendar lists = flat_map (λ list. map (exdate_in (index (zone_listed calendar list))) list.values) lists
+exdates_by = listed_by exdate_in

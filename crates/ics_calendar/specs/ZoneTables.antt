@@ -1,11 +1,9 @@
 -- A table of the names of time zones (RFC 5545, section 3.8.3.1).
-use Rattle.std.specs.Prelude.{◌&&◌, ℕ, List, [], ◌∷◌, map, not, is_some, Option, Some, if◌then◌else◌}
+use Rattle.std.specs.Prelude.{map}
 use Rattle.std.specs.BTreeMap.{get}
 use Rattle.std.specs.BTreeSet.{contains}
 use Rattle.std.specs.Option.{option_or}
 use Rattle.std.specs.Cmp.Lexicographic.{slice_cmp}
-use Rattle.std.specs.Str.{bytes_eq}
-use Rattle.ics_zone.specs.ZoneFiles.{TzifText}
 use Rattle.std.specs.Ordering.{nat_cmp, on, then_cmp}
 use Rattle.std.specs.declared.cmp.Ordering.{Ordering}
 use Rattle.ics_zone.specs.ZoneSaid.{zone_said}
@@ -13,7 +11,7 @@ use Rattle.ics_components.specs.declared.deferred_check.ZoneName.{ZoneName}
 use Rattle.ics_calendar.specs.declared.zone_files.ZoneFiles.{ZoneFiles}
 use Rattle.ics_calendar.specs.declared.zone_table.ZoneTable.{ZoneTable}
 use Rattle.ics_calendar.specs.GivenFiles.{GivenFiles}
-use Rattle.ics_calendar.specs.DeferredChecks.{KnownZones, is_same, with_files}
+use Rattle.ics_calendar.specs.DeferredChecks.{KnownZones}
 
 -- by the calendar, then by the bytes of the name
 abbrev pub name_cmp : ZoneName → ZoneName → Ordering
@@ -30,15 +28,3 @@ known_by table = record {
 -- what the zone files of a caller give for a name
 abbrev pub given_by : ZoneFiles → GivenFiles
 given_by files = get (slice_cmp nat_cmp) files.files
-
--- with a zone at that place more, unless there is one of its name
-abbrev pub put_first : (ZoneName → Option ℕ) → ZoneName → ℕ → ZoneName → Option ℕ
-put_first index name place used = if is_same used name && not (is_some (index name)) then Some place else index used
-
--- the same of the names that zone files are given for
-abbrev pub put_given : (List ℕ → Option ℕ) → List ℕ → ℕ → List ℕ → Option ℕ
-put_given index name place used = if bytes_eq used name && not (is_some (index used)) then Some place else index used
-
--- with the zone of the file that is given for a name
-abbrev pub with_given : KnownZones → List ℕ → TzifText → KnownZones
-with_given known name file = with_files known (λ other. Some (Some file)) (name ∷ [])

@@ -5,7 +5,7 @@ ghost use Rattle.ics_calendar.specs.Settled.{event_of};
 ghost use Rattle.ics_calendar.specs.Times.{time_on, length_of};
 ghost use Rattle.ics_calendar.specs.ZoneTables.{known_by};
 
-use crate::dates::{exdates_of, rdates_of};
+use crate::dates::listed_of;
 use crate::zone_table::ZoneTable;
 use ics_components::{Dated, EndedEvent, GivenLength, ZoneName, parts_of};
 use ics_event::{Event, Length, Time, is_zoned};
@@ -27,10 +27,7 @@ fn time_on(table: &ZoneTable, calendar: u64, dated: Dated) -> Time
 fn recurrence_of(table: &ZoneTable, calendar: u64, recurrence: Option<Dated>) -> Option<Time>
     ensures { result ≡ option_map (time_on (known_by table.now).index calendar) recurrence }
 {
-    match recurrence {
-        Some(dated) => Some(time_on(table, calendar, dated)),
-        None => None,
-    }
+    Some(time_on(table, calendar, recurrence?))
 }
 
 fn length_of(table: &ZoneTable, calendar: u64, length: GivenLength) -> Length
@@ -53,8 +50,8 @@ pub fn event_of(alloc: Global, table: &ZoneTable, ended: EndedEvent) -> Result<E
         start: time_on(table, calendar, ended.start),
         length: length_of(table, calendar, ended.length),
         rule: parts_of(ended.rule),
-        rdates: rdates_of(alloc, table, calendar, ended.rdates)?,
-        exdates: exdates_of(alloc, table, calendar, ended.exdates)?,
+        rdates: listed_of(alloc, table, calendar, ended.rdates)?,
+        exdates: listed_of(alloc, table, calendar, ended.exdates)?,
         recurrence: recurrence_of(table, calendar, ended.recurrence),
         uid: ended.uid,
         sequence: ended.sequence,

@@ -1,8 +1,5 @@
 //! The time zones that a file wants.
-ghost use Rattle.std.specs.Prelude.{◌≡◌, ◌≤◌, ◌||◌, not, List, ℕ, length, map, option_copied, IfOk, OnOk, bytes_eq};
-ghost use Rattle.std.specs.BTreeSet.{contains};
-ghost use Rattle.std.specs.Cmp.Lexicographic.{slice_cmp};
-ghost use Rattle.std.specs.Ordering.{nat_cmp};
+ghost use Rattle.std.specs.Prelude.{◌≡◌, ◌≤◌, length, map, option_copied, IfOk};
 ghost use Rattle.ics_calendar.specs.DeferredChecks.{unknown_in};
 ghost use Rattle.ics_calendar.specs.Settled.{all_unknown};
 ghost use Rattle.ics_calendar.specs.Files.{wanted_names};
@@ -25,15 +22,6 @@ fn unknown_in<'a>(table: &ZoneTable, check: &'a DeferredCheck) -> Option<&'a Tzi
     }
 }
 
-/// Adds a name to those that are seen, and says whether it is new.
-fn see(seen: &mut BTreeSet<Tzid>, name: &Tzid) -> Result<bool, AllocError>
-    ensures new { IfOk result (λ new. new ≡ not (contains (slice_cmp nat_cmp) seen.old name.now)) }
-    ensures seen { OnOk result ((other : List ℕ) →
-        contains (slice_cmp nat_cmp) seen.new other ≡ (bytes_eq other name.now || contains (slice_cmp nat_cmp) seen.old other)) }
-{
-    Ok(seen.insert(name.shared()?)?)
-}
-
 /// The names of the time zones that are to be known and are not, each once, in the order of the checks.
 pub fn unknown_names(
     alloc: Global,
@@ -46,7 +34,7 @@ pub fn unknown_names(
     let mut names = Vec::new(alloc);
     for deferred in checks {
         if let Some(name) = unknown_in(table, &deferred.check) {
-            if see(&mut seen, name)? {
+            if seen.insert(name.shared()?)? {
                 names.push(name.shared()?)?;
             }
         }

@@ -1,7 +1,7 @@
 //! The time zones of a file, made of what is gathered of them (RFC 5545, section 3.6.5).
-ghost use Rattle.std.specs.Prelude.{◌≡◌, ◌≢◌, [], false, IfOk};
-ghost use Rattle.std.specs.List.{All, list_any};
-ghost use Rattle.ics_zone.specs.Observances.{observance_said, observances_said, has_finer_rule};
+ghost use Rattle.std.specs.Prelude.{◌≡◌, IfOk};
+ghost use Rattle.std.specs.List.{All};
+ghost use Rattle.ics_zone.specs.Observances.{observance_said, observances_said};
 ghost use Rattle.ics_zone.specs.ZoneSaid.{ZoneSaid, zone_said};
 ghost use Rattle.ics_components.specs.Sound.{IsSoundObservance, IsSoundZone};
 
@@ -35,23 +35,14 @@ fn observances_of(alloc: Global, ended: Observances) -> Result<Vec<Observance>, 
     Ok(made)
 }
 
-/// The time zone of these observances.
-fn read_zone(alloc: Global, observances: Vec<Observance>) -> Result<Zone, AllocError>
-    requires filled { observances.items ≢ [] }
-    requires daily { list_any has_finer_rule (observances_said observances.items) ≡ false }
-    ensures { IfOk result (λ zone. zone_said zone ≡ ZoneSaid.ByObservances (observances_said observances.items)) }
-{
-    match Zone::read(alloc, observances) {
-        Ok(zone) => Ok(zone),
-        Err(ZoneFault::Memory) => Err(AllocError),
-        Err(ZoneFault::NoObservance | ZoneFault::ZoneRule) => unreachable!(),
-    }
-}
-
 /// The time zone with these observances, where no fault stands on its lines.
 pub fn zone_of(alloc: Global, ended: Observances) -> Result<Zone, AllocError>
     requires { IsSoundZone ended }
     ensures { IfOk result (λ zone. zone_said zone ≡ ZoneSaid.ByObservances ended) }
 {
-    read_zone(alloc, observances_of(alloc, ended)?)
+    match Zone::read(alloc, observances_of(alloc, ended)?) {
+        Ok(zone) => Ok(zone),
+        Err(ZoneFault::Memory) => Err(AllocError),
+        Err(ZoneFault::NoObservance | ZoneFault::ZoneRule) => unreachable!(),
+    }
 }

@@ -1,5 +1,8 @@
 //! The zone files that are given for names of time zones (RFC 5545, section 3.2.19; RFC 9636).
-ghost use Rattle.std.specs.Prelude.{◌≡◌, map, ℕ, List, None, OnOk, OnErr, IfOk, option_copied};
+ghost use Rattle.std.specs.Prelude.{◌≡◌, map, ℕ, List, Some, None, OnOk, OnErr, IfOk, option_copied, if◌then◌else◌};
+ghost use Rattle.std.specs.BTreeMap.{get};
+ghost use Rattle.std.specs.Option.{option_or};
+ghost use Rattle.std.specs.Ordering.{is_eq};
 ghost use Rattle.ics_calendar.specs.GivenFiles.{with_file, files_by};
 ghost use Rattle.ics_calendar.specs.ZoneTables.{given_by};
 ghost use Rattle.ics_zone.specs.ZoneFiles.{zone_file};
@@ -13,6 +16,22 @@ use std::collections::BTreeMap;
 #[derive(Drop)]
 pub struct ZoneFiles {
     files: BTreeMap<Tzid, Option<ZoneFile>>,
+}
+
+/// Puts a value for a key, unless the map has one for it.
+pub(crate) fn put_first<K: Ord + Drop, V: Drop>(
+    map: &mut BTreeMap<K, V>,
+    key: K,
+    value: V,
+) -> Result<(), AllocError>
+    ensures put { OnOk result ((used : K) → get K.cmp map.new used
+        ≡ option_or (get K.cmp map.old used) (if is_eq (K.cmp key used) then Some value else None)) }
+    ensures same { OnErr result (get K.cmp map.new ≡ get K.cmp map.old) }
+{
+    if !map.contains_key(&key) {
+        map.insert(key, value)?;
+    }
+    Ok(())
 }
 
 /// What a file is that is given: none if it is no zone file.
@@ -37,6 +56,7 @@ impl ZoneFiles {
     }
 
     /// Gives a file for a name, unless one is given for it already. The bytes may be no zone file: then the name has a bad one.
+    #[tactic(auto, using(crate::proofs::FilesGiven::ties))]
     pub fn add(&mut self, alloc: Global, name: &[u8], bytes: &[u8]) -> Result<(), AllocError>
         ensures added { OnOk result ((other : List ℕ) → given_by self.new other ≡ with_file (given_by self.old) name.now bytes.now other) }
         ensures same { OnErr result (given_by self.new ≡ given_by self.old) }
@@ -46,8 +66,7 @@ impl ZoneFiles {
             return Ok(());
         }
         let file = read_given(alloc, bytes)?;
-        self.files.insert(name, file)?;
-        Ok(())
+        put_first(&mut self.files, name, file)
     }
 
     /// What is given for a name.

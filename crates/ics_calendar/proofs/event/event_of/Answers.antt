@@ -1,8 +1,8 @@
 use Rattle.ics_calendar.specs.ZoneTables.{known_by}
-use Rattle.ics_calendar.proofs.EventSound.{event-is}
+use Rattle.ics_calendar.proofs.EventSound.{event-sound}
 use Rattle.ics_calendar.proofs.event.event_of.Goals as goal
 
 pub invariant_of-result : goal.invariant_of-result
 invariant_of-result c =
-    rw (c.time_on.ensures, c.length_of.ensures, c.parts_of.ensures, c.in_ok-rdates_of.ensures, c.in_ok-exdates_of.ensures, c.recurrence_of.ensures)
-    (event-is (known_by c.args.table.now) c.args.ended c.requires)
+    rw (c.time_on.ensures, c.length_of.ensures, c.parts_of.ensures, c.in_ok-listed_of.ensures, c.in_ok-listed_of-2.ensures, c.recurrence_of.ensures)
+    (event-sound (known_by c.args.table.now) c.args.ended c.requires).0

@@ -1,6 +1,8 @@
-use Rattle.std.proofs.Common.{rules, arith}
-use Rattle.ics_calendar.proofs.Settling.{moment-here}
+use Rattle.std.proofs.Common.{rules, tests, refl}
+use Rattle.std.proofs.lemmas.Option.{slice_get-map, slice_get_read}
 use Rattle.ics_calendar.proofs.zone_table.ZoneTable.moment_at.Goals as goal
 
 pub returns : goal.returns
-returns c = rw (moment-here c.args.self.now.zones.items c.args.local c.args.index c.index.result.now (omega (arith, c.if-index-len.false))) (search rules)
+returns c =
+    let here = slice_get_read c.args.self.now.zones.items _ c.args.index c.in_ok-get.field-0.now refl (search (rules, tests)) (search (rules, tests)) in
+    rw (slice_get-map, here) (search rules)
