@@ -1,5 +1,5 @@
 //! The zone files that are given for names of time zones (RFC 5545, section 3.2.19; RFC 9636).
-ghost use Rattle.std.specs.Prelude.{◌≡◌, map, ℕ, List, Some, None, OnOk, OnErr, IfOk, option_copied, if◌then◌else◌};
+ghost use Rattle.std.specs.Prelude.{◌≡◌, map, ℕ, List, Some, None, OnOk, OnErr, IfOk, if◌then◌else◌};
 ghost use Rattle.std.specs.BTreeMap.{get};
 ghost use Rattle.std.specs.Option.{option_or};
 ghost use Rattle.std.specs.Ordering.{is_eq};
@@ -15,7 +15,7 @@ use std::collections::BTreeMap;
 /// Zone files, each read once and given for a name. Contracts see what is given for each name.
 #[derive(Drop)]
 pub struct ZoneFiles {
-    files: BTreeMap<Tzid, Option<ZoneFile>>,
+    pub(crate) files: BTreeMap<Tzid, Option<ZoneFile>>,
 }
 
 /// Puts a value for a key, unless the map has one for it.
@@ -67,13 +67,6 @@ impl ZoneFiles {
         }
         let file = read_given(alloc, bytes)?;
         put_first(&mut self.files, name, file)
-    }
-
-    /// What is given for a name.
-    pub(crate) fn of(&self, name: &Tzid) -> Option<&Option<ZoneFile>>
-        ensures { option_copied result ≡ given_by self.now name.now }
-    {
-        self.files.get(name)
     }
 
     /// The files of these pairs of a name and bytes.
