@@ -5,7 +5,6 @@ ghost use Rattle.std.specs.Option.{option_or};
 ghost use Rattle.std.specs.Ordering.{is_eq};
 ghost use Rattle.ics_calendar.specs.GivenFiles.{with_file, files_by};
 ghost use Rattle.ics_calendar.specs.ZoneTables.{given_by};
-ghost use Rattle.ics_zone.specs.ZoneFiles.{zone_file};
 
 use ics_components::Tzid;
 use ics_zone::{ZoneFile, ZoneFileFault};
@@ -34,17 +33,6 @@ pub(crate) fn put_first<K: Ord + Drop, V: Drop>(
     Ok(())
 }
 
-/// What a file is that is given: none if it is no zone file.
-fn read_given(alloc: Global, bytes: &[u8]) -> Result<Option<ZoneFile>, AllocError>
-    ensures { IfOk result (λ file. file ≡ zone_file bytes.now) }
-{
-    match ZoneFile::read(alloc, bytes) {
-        Ok(file) => Ok(Some(file)),
-        Err(ZoneFileFault::BadZoneFile) => Ok(None),
-        Err(ZoneFileFault::Memory) => Err(AllocError),
-    }
-}
-
 impl ZoneFiles {
     /// No file is given.
     pub fn new(alloc: Global) -> ZoneFiles
@@ -65,7 +53,11 @@ impl ZoneFiles {
         if self.files.contains_key(&name) {
             return Ok(());
         }
-        let file = read_given(alloc, bytes)?;
+        let file = match ZoneFile::read(alloc, bytes) {
+            Ok(file) => Some(file),
+            Err(ZoneFileFault::BadZoneFile) => None,
+            Err(ZoneFileFault::Memory) => return Err(AllocError),
+        };
         put_first(&mut self.files, name, file)
     }
 
