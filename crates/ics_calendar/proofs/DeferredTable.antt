@@ -39,17 +39,13 @@ ends-as known k (Some a) (Some b) = (grind arith, grind arith)
 ends-as known k _ _ = (refl, refl)
 
 -- THE SECOND ROUND. A time zone that is not known, as the table finds it, as it is judged, and as it is asked for.
-module _ (known : KnownZones) (zoned : Bool) (used : ZoneName) where
-  abbrev unknown : Bool
-  unknown = zoned && not (is_some (known.index used))
-
-  abbrev later : Option DeferredCheck
-  later = cond zoned (Some (check.Zone used)) None
-
-  zone-as : (cond (unknown && not (known.is_bad used.name)) (Some UnknownZone) (cond (unknown && known.is_bad used.name) (Some BadZoneFile) None)
-      ≡ option_and_then (judged known) later)
-      × (cond unknown (Some used.name) None ≡ option_and_then (unknown_in known.index) later)
-  zone-as = (grind arith, grind arith)
+zone-as : (known : KnownZones) (zoned : Bool) (used : ZoneName) →
+    (cond ((zoned && not (is_some (known.index used))) && not (known.is_bad used.name)) (Some UnknownZone)
+    (cond ((zoned && not (is_some (known.index used))) && known.is_bad used.name) (Some BadZoneFile) None)
+    ≡ option_and_then (judged known) (cond zoned (Some (check.Zone used)) None))
+    × (cond (zoned && not (is_some (known.index used))) (Some used.name) None
+    ≡ option_and_then (unknown_in known.index) (cond zoned (Some (check.Zone used)) None))
+zone-as known zoned used = (grind arith, grind arith)
 
 module _ (whole : List Placed) (line : Line) (parts : Parts) (ls : List Placed) (path : List Open) where
   abbrev l : Placed

@@ -1,9 +1,9 @@
 -- An event that no fault of either round stands on is one, of the zones of its file.
 use Rattle.std.proofs.Common.{◌≡◌, ℕ, Bool, true, false, ◌&&◌, ◌||◌, ◌==◌, List, [], refl, arith, cond, Option, Some}
-use Rattle.std.proofs.Common.{None, is_some, IfSome, int_lt, ℤ, pos, ◌+ℤ◌, ◌*ℤ◌, length, get_or, ap}
+use Rattle.std.proofs.Common.{None, is_some, IfSome, ℤ, pos, ◌*ℤ◌, length, get_or, ap}
 use Rattle.std.specs.Prelude.{map, option_map, unwrap_or}
 use Rattle.std.specs.List.{All}
-use Rattle.std.proofs.lemmas.Bool.{or_parts, or_left, or_right}
+use Rattle.std.proofs.lemmas.Bool.{or_left, or_right}
 use Rattle.std.proofs.lemmas.Bool.Decides.{nat_tests}
 use Rattle.std.proofs.lemmas.Int.{ints}
 use Rattle.std.proofs.lemmas.List.Elements.{All-map}
@@ -24,7 +24,7 @@ use Rattle.ics_components.specs.declared.date_list.ListedDate.{ListedDate}
 use Rattle.ics_components.specs.declared.dated.Dated.{Dated}
 use Rattle.ics_components.specs.declared.deferred_check.DeferredCheck.{DeferredCheck}
 use Rattle.ics_components.specs.declared.deferred_check.ZoneName.{ZoneName}
-use Rattle.ics_event.specs.Event.{is_zoned, IsTime, longest, IsWithin, IsEnd, IsLasting, IsLength, IsRdate, IsEvent, EndsBelow, RdateBelow}
+use Rattle.ics_event.specs.Event.{is_zoned, IsTime, IsWithin, IsEnd, IsLasting, IsLength, IsRdate, IsEvent, EndsBelow, RdateBelow}
 use Rattle.ics_event.specs.Event.{time_in, TimeBelow, EndsWithin, IsEventOf, AreEventsOf, compared, moment_in}
 use Rattle.ics_calendar.specs.Settled.{event_of}
 use Rattle.ics_components.specs.DateLists.{zone_listed}
@@ -55,9 +55,7 @@ abbrev IsFine : KnownZones → Option DeferredCheck → Type 0
 IsFine known o = IfSome o (λ l. judged known l ≡ None)
 
 out-within : (start end : ℤ) → is_out start end ≡ false → IsWithin start end
-out-within start end h =
-    let parts = or_parts (int_lt end start) (int_lt (start +ℤ pos longest) end) h in
-    record { forward = omega (arith, ints, parts); short = omega (arith, ints, parts) }
+out-within start end h = record { forward = grind (arith, ints, nat_tests, h); short = grind (arith, ints, nat_tests, h) }
 
 lasting-is : (d : Duration) → is_lasting d ≡ true → IsLasting d
 lasting-is d h = record { forward = grind (arith, nat_tests, h); short = grind (arith, nat_tests, h) }
@@ -91,7 +89,7 @@ module _ (known : KnownZones) where
 
   -- instants that are checked as an end and its start
   instants-within : (s t : Instant) {x y : ℤ} → moment_of known s ≡ Some x → moment_of known t ≡ Some y → IsFine known (Some (check.Ends s t)) → IsWithin x y
-  instants-within s t {x} {y} e f h = let fine = rw (e, f) at h in out-within x y (grind (arith, fine))
+  instants-within s t {x} {y} e f h = out-within x y (grind (arith, e, f, h))
 
   -- AN END of an event in a calendar
   module _ (k : ℕ) where

@@ -1,6 +1,5 @@
 //! The time zones that a file wants.
-ghost use Rattle.std.specs.Prelude.{◌≡◌, ◌≤◌, length, map, option_copied, IfOk};
-ghost use Rattle.ics_calendar.specs.DeferredChecks.{unknown_in};
+ghost use Rattle.std.specs.Prelude.{◌≡◌, ◌≤◌, length, map, IfOk};
 ghost use Rattle.ics_calendar.specs.Settled.{all_unknown};
 ghost use Rattle.ics_calendar.specs.Files.{wanted_names};
 ghost use Rattle.ics_calendar.specs.Wanted.{each_once};
@@ -11,16 +10,6 @@ use crate::zone_table::ZoneTable;
 use ics_components::{DeferredCheck, FileFault, LineCheck, Tzid};
 use std::alloc::{AllocError, Global};
 use std::collections::BTreeSet;
-
-/// The name of the time zone that is to be known, if it is not.
-fn unknown_in<'a>(table: &ZoneTable, check: &'a DeferredCheck) -> Option<&'a Tzid>
-    ensures { option_copied result ≡ unknown_in (known_by table.now).index check.now }
-{
-    match check {
-        DeferredCheck::Zone(name) if table.index(name).is_none() => Some(&name.name),
-        _ => None,
-    }
-}
 
 /// The names of the time zones that are to be known and are not, each once, in the order of the checks.
 pub fn unknown_names(
@@ -33,9 +22,9 @@ pub fn unknown_names(
     let mut seen = BTreeSet::new(alloc);
     let mut names = Vec::new(alloc);
     for deferred in checks {
-        if let Some(name) = unknown_in(table, &deferred.check) {
-            if seen.insert(name.shared()?)? {
-                names.push(name.shared()?)?;
+        if let DeferredCheck::Zone(used) = &deferred.check {
+            if table.index(used).is_none() && seen.insert(used.name.shared()?)? {
+                names.push(used.name.shared()?)?;
             }
         }
     }

@@ -1,11 +1,10 @@
 //! The zone files that are given for names of time zones (RFC 5545, section 3.2.19; RFC 9636).
-ghost use Rattle.std.specs.Prelude.{◌≡◌, map, ℕ, List, Some, None, OnOk, OnErr, IfOk, option_copied, if◌then◌else◌};
+ghost use Rattle.std.specs.Prelude.{◌≡◌, map, ℕ, List, Some, None, OnOk, OnErr, IfOk, if◌then◌else◌};
 ghost use Rattle.std.specs.BTreeMap.{get};
 ghost use Rattle.std.specs.Option.{option_or};
 ghost use Rattle.std.specs.Ordering.{is_eq};
 ghost use Rattle.ics_calendar.specs.GivenFiles.{with_file, files_by};
 ghost use Rattle.ics_calendar.specs.ZoneTables.{given_by};
-ghost use Rattle.ics_zone.specs.ZoneFiles.{zone_file};
 
 use ics_components::Tzid;
 use ics_zone::{ZoneFile, ZoneFileFault};
@@ -15,7 +14,7 @@ use std::collections::BTreeMap;
 /// Zone files, each read once and given for a name. Contracts see what is given for each name.
 #[derive(Drop)]
 pub struct ZoneFiles {
-    files: BTreeMap<Tzid, Option<ZoneFile>>,
+    pub(crate) files: BTreeMap<Tzid, Option<ZoneFile>>,
 }
 
 /// Puts a value for a key, unless the map has one for it.
@@ -32,17 +31,6 @@ pub(crate) fn put_first<K: Ord + Drop, V: Drop>(
         map.insert(key, value)?;
     }
     Ok(())
-}
-
-/// What a file is that is given: none if it is no zone file.
-fn read_given(alloc: Global, bytes: &[u8]) -> Result<Option<ZoneFile>, AllocError>
-    ensures { IfOk result (λ file. file ≡ zone_file bytes.now) }
-{
-    match ZoneFile::read(alloc, bytes) {
-        Ok(file) => Ok(Some(file)),
-        Err(ZoneFileFault::BadZoneFile) => Ok(None),
-        Err(ZoneFileFault::Memory) => Err(AllocError),
-    }
 }
 
 impl ZoneFiles {
@@ -65,15 +53,12 @@ impl ZoneFiles {
         if self.files.contains_key(&name) {
             return Ok(());
         }
-        let file = read_given(alloc, bytes)?;
+        let file = match ZoneFile::read(alloc, bytes) {
+            Ok(file) => Some(file),
+            Err(ZoneFileFault::BadZoneFile) => None,
+            Err(ZoneFileFault::Memory) => return Err(AllocError),
+        };
         put_first(&mut self.files, name, file)
-    }
-
-    /// What is given for a name.
-    pub(crate) fn of(&self, name: &Tzid) -> Option<&Option<ZoneFile>>
-        ensures { option_copied result ≡ given_by self.now name.now }
-    {
-        self.files.get(name)
     }
 
     /// The files of these pairs of a name and bytes.

@@ -56,7 +56,7 @@ impl ZoneTable {
     fn add(&mut self, files: &ZoneFiles, name: Tzid) -> Result<(), AllocError>
         ensures { OnOk result (known_by self.new ≡ with_files (known_by self.old) (given_by files.now) (name ∷ [])) }
     {
-        match files.of(&name) {
+        match files.files.get(&name) {
             Some(Some(file)) => {
                 put_first(&mut self.given, name, numbered(self.zones.len())?)?;
                 self.zones.push(Zone::of_file(file)?)?;
