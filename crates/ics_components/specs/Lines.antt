@@ -75,6 +75,11 @@ Notes (Ok x) now fault next value = (fault ≡ None) × (now ≡ next) × (x ≡
 Notes (Err Memory) now fault next value = Unit {0}
 Notes (Err (Fault kind)) now fault next value = fault ≡ Some kind
 
+abbrev pub Makes : {X Y : Type 0} → Result X Refused → Y → Result (Y × X) FaultKind → Type 0
+Makes (Ok x) now said = said ≡ Ok (now, x)
+Makes (Err Memory) now said = Unit {0}
+Makes (Err (Fault kind)) now said = said ≡ Err kind
+
 -- said unless a fault stands there
 abbrev pub unless : {X : Type 0} → Option FaultKind → X → Result X FaultKind
 unless None x = Ok x

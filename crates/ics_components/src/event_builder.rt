@@ -174,32 +174,34 @@ impl EventBuilder {
         }
     }
 
-    /// The fault on the END of the event, if one stands there.
-    fn fault_at_end(&self) -> Option<FaultKind>
-        ensures { result ≡ end_of_event self.now }
+    /// The check of the end of the event, if no fault stands on its END.
+    fn check_at_end(&self, calendar: u64) -> Result<Option<DeferredCheck>, Refused>
+        ensures { Gives result (end_of_event self.now) (ends_in calendar self.now.start self.now.end) }
     {
         match &self.uid {
             Some(uid) if !uid.as_slice().is_empty() => {}
-            _ => return Some(FaultKind::MissingUid),
+            _ => return Err(Refused::Fault(FaultKind::MissingUid)),
         }
         if self.start.is_none() {
-            return Some(FaultKind::MissingStart);
+            return Err(Refused::Fault(FaultKind::MissingStart));
         }
         if (self.end.is_some() && self.duration.is_some()) || ends_badly(&self.start, &self.end) {
-            return Some(FaultKind::BadEnd);
+            return Err(Refused::Fault(FaultKind::BadEnd));
         }
-        None
+        Ok(ends_in(calendar, &self.start, &self.end)?)
     }
 
     /// The event of that calendar and the check of its end, at its END.
     pub fn end(self, alloc: Global, calendar: u64) -> Result<Passed, Refused>
         ensures { Gives result (end_of_event self) (passed (Event (event_ended calendar self)) (ends_in calendar self.start self.end)) }
     {
-        if let Some(kind) = self.fault_at_end() {
-            drop(self);
-            return Err(Refused::Fault(kind));
-        }
-        let check = ends_in(calendar, &self.start, &self.end)?;
+        let check = match self.check_at_end(calendar) {
+            Ok(check) => check,
+            Err(refused) => {
+                drop(self);
+                return Err(refused);
+            }
+        };
         let length = match (self.end, self.duration) {
             (Some(end), _) => GivenLength::Until(end),
             (None, Some(duration)) => GivenLength::Lasting(duration),

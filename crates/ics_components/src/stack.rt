@@ -1,9 +1,7 @@
 //! The components that are open.
-ghost use Rattle.std.specs.Prelude.{◌≡◌, ◌∷◌, [], map};
-ghost use Rattle.ics_text.specs.Bytes.{upper};
-ghost use Rattle.ics_components.specs.Names.{name_of};
+ghost use Rattle.std.specs.Prelude.{◌≡◌, ◌∷◌, []};
 ghost use Rattle.ics_components.specs.declared.name.Name.TheVariants.{Begin, End};
-ghost use Rattle.ics_components.specs.Lines.{Notes, fault_on, behind, closed, passing};
+ghost use Rattle.ics_components.specs.Lines.{Makes, Notes, fault_on, behind, closed, passing, line_in};
 ghost use Rattle.ics_components.specs.Pass.{bottom, is_lowest};
 
 use crate::builder::Builder;
@@ -115,17 +113,18 @@ impl Stack {
         number: u64,
         content: &Content<'_>,
     ) -> Result<Passed, Refused>
-        ensures { Notes result self.new (fault_on (name_of (map upper content.now.name)) content.now self.old)
-            (behind number (name_of (map upper content.now.name)) content.now self.old)
-            (passing (name_of (map upper content.now.name)) content.now self.old) }
+        ensures { Makes result self.new (line_in number content.now self.old) }
     {
         match name_of(content.name()) {
             Name::Begin => self.begin(alloc, number, content),
             Name::End => self.end(alloc, content),
-            name => Ok(Passed {
-                ended: Ended::Nothing,
-                check: self.top.line(alloc, &mut self.tzids, name, content)?,
-            }),
+            name => {
+                let check = self.top.line(alloc, &mut self.tzids, name, content)?;
+                Ok(Passed {
+                    ended: Ended::Nothing,
+                    check,
+                })
+            }
         }
     }
 }
