@@ -71,9 +71,8 @@ impl Draft {
             events,
             checks,
         } = gather(alloc, bytes)?;
-        let table = ZoneTable::new(alloc, zones)?;
         Ok(Draft {
-            table,
+            table: ZoneTable::new(alloc, zones)?,
             events,
             checks,
         })
