@@ -15,7 +15,7 @@ use Rattle.ics_calendar.specs.Settled.{drafted, known_in}
 use Rattle.ics_components.specs.Gathered.{nothing_gathered}
 use Rattle.ics_components.specs.GatheredSeen.{GatheredSeen}
 use Rattle.ics_components.specs.Pass.{pass, bottom, gathered_of, Says}
-use Rattle.ics_components.specs.PlacedLines.{Placed, placed}
+use Rattle.ics_components.specs.PlacedLines.{placed}
 use Rattle.ics_calendar.specs.Wanted.{zones_with}
 use Rattle.ics_components.proofs.Firsts.{finds, finds-none, found-at-end, found-on-line}
 use Rattle.ics_components.proofs.PassLemmas.{pass-whole}
@@ -55,9 +55,6 @@ module _ (files : GivenFiles) (file : List ℕ) where
   abbrev later : Round
   later = stands_later (zones_with files (placed file))
 
-  abbrev none_later : List Placed → Option Fault
-  none_later before = None
-
   decided : (t : Bool) (first second : Option Fault) → begins_with_fold file ≡ t → first_fault (placed file) ≡ first →
       later_fault files (placed file) ≡ second →
       IsFile files file (cond t (Err bad_fold) (decide first second (said_of files (placed file))))
@@ -65,10 +62,10 @@ module _ (files : GivenFiles) (file : List ℕ) where
   decided false (Some f) second b e g = inr (b, inl (finds stands fault_at_end [] (placed file) f e))
   decided false None (Some f) b e g =
       let none = finds-none stands fault_at_end [] (placed file) e in
-      inr (b, inr (none.0, none.1, ⊎_elim (λ r. r) (λ r. let n : None ≡ Some f = r.1 in cc) (finds later none_later [] (placed file) f g)))
+      inr (b, inr (none.0, none.1, ⊎_elim (λ r. r) (λ r. let n : None ≡ Some f = r.1 in cc) (finds later (λ b. None) [] (placed file) f g)))
   decided false None None b e g =
       let none = finds-none stands fault_at_end [] (placed file) e in
-      (b, none.0, none.1, (finds-none later none_later [] (placed file) g).0, refl)
+      (b, none.0, none.1, (finds-none later (λ b. None) [] (placed file) g).0, refl)
 
   pub is-file : IsFile files file (file_of files file)
   is-file = decided _ _ _ refl refl refl
@@ -79,7 +76,7 @@ module _ (files : GivenFiles) (file : List ℕ) where
   file-is (Err f) (inr (b, inl (inl r))) = rw (b, found-on-line stands fault_at_end [] (placed file) f r)
   file-is (Err f) (inr (b, inl (inr r))) = rw (b, found-at-end stands fault_at_end [] (placed file) r.0 r.1)
   file-is (Err f) (inr (b, inr r)) =
-      rw (b, found-at-end stands fault_at_end [] (placed file) r.0 r.1, found-on-line later none_later [] (placed file) f r.2)
+      rw (b, found-at-end stands fault_at_end [] (placed file) r.0 r.1, found-on-line later (λ b. None) [] (placed file) f r.2)
   file-is (Ok seen) h =
-      rw (h.0, found-at-end stands fault_at_end [] (placed file) h.1 h.2, found-at-end later none_later [] (placed file) h.3 refl)
+      rw (h.0, found-at-end stands fault_at_end [] (placed file) h.1 h.2, found-at-end later (λ b. None) [] (placed file) h.3 refl)
       (ap (λ (s : FileSaid). Ok s) (sym h.4))

@@ -1,15 +1,19 @@
 //! Files in which the first round finds nothing.
 ghost use Rattle.std.specs.Prelude.{◌≡◌, ◌≤◌, length, map, IfOk, IfErr};
+ghost use Rattle.std.specs.List.{All};
 ghost use Rattle.ics_calendar.specs.Drafts.{draft_said, IsFaultOf};
 ghost use Rattle.ics_calendar.specs.Files.{draft_of, SaysFile};
-ghost use Rattle.ics_calendar.specs.ZoneTables.{given_by};
+ghost use Rattle.ics_calendar.specs.Ready.{IsReady};
+ghost use Rattle.ics_calendar.specs.Settled.{event_of};
+ghost use Rattle.ics_calendar.specs.ZoneTables.{given_by, known_by};
 
-use crate::settle::{events_of, first_judged};
+use crate::event::event_of;
+use crate::judged::first_judged;
 use crate::unknown_zones::{copied, unknown_names};
 use crate::zone_files::ZoneFiles;
 use crate::zone_table::ZoneTable;
 use ics_components::{EndedEvent, Fault, FileFault, Gathered, LineCheck, gather};
-use ics_event::FileEvents;
+use ics_event::{Event, FileEvents};
 use ics_text::numbers_rise;
 use std::alloc::{AllocError, Global};
 use std::marker::Model;
@@ -37,6 +41,22 @@ impl Model for Draft {
     ghost invariant = { λ a. IsSoundDraft (known_by a.table) a.events.items a.checks.items };
 }
 
+/// The events that have ended.
+fn events_of(
+    alloc: Global,
+    table: &ZoneTable,
+    ended: Vec<EndedEvent>,
+) -> Result<Vec<Event>, AllocError>
+    requires { All (IsReady (known_by table.now)) ended.items }
+    ensures { IfOk result (λ events. events.items ≡ map (event_of (known_by table.now).index) ended.items) }
+{
+    let mut events = Vec::with_capacity(alloc, ended.len())?;
+    for event in ended {
+        events.push(event_of(alloc, table, event)?)?;
+    }
+    Ok(events)
+}
+
 impl Draft {
     /// Reads a file of at most 16,777,216 bytes as far as no zone files are needed. A fault is the file's first, whatever zone files are given.
     /// `Memory` if an allocation fails.
@@ -51,9 +71,8 @@ impl Draft {
             events,
             checks,
         } = gather(alloc, bytes)?;
-        let table = ZoneTable::new(alloc, zones)?;
         Ok(Draft {
-            table,
+            table: ZoneTable::new(alloc, zones)?,
             events,
             checks,
         })

@@ -1,11 +1,13 @@
 //! What the deferred checks find, once the time zones of the file are known (RFC 5545, sections 3.2.19 and 3.8.2.2).
 ghost use Rattle.std.specs.Prelude.{◌≡◌};
+ghost use Rattle.std.specs.List.{All};
 ghost use Rattle.ics_components.specs.Gathered.{IsSoundInstant, IsSoundCheck};
 ghost use Rattle.ics_calendar.specs.DeferredChecks.{moment_of, judged};
+ghost use Rattle.ics_calendar.specs.Settled.{first_judged};
 ghost use Rattle.ics_calendar.specs.ZoneTables.{known_by};
 
 use crate::zone_table::ZoneTable;
-use ics_components::{DeferredCheck, FaultKind, Instant, is_out};
+use ics_components::{DeferredCheck, Fault, FaultKind, Instant, LineCheck, is_out};
 use ics_values::Moment;
 
 /// The instant of a stamp, if its zone is known.
@@ -20,7 +22,7 @@ fn moment_of(table: &ZoneTable, instant: &Instant) -> Option<Moment>
 }
 
 /// The fault that a deferred check finds, if it finds one.
-pub fn judged(table: &ZoneTable, check: &DeferredCheck) -> Option<FaultKind>
+fn judged(table: &ZoneTable, check: &DeferredCheck) -> Option<FaultKind>
     requires { IsSoundCheck check.now }
     ensures { result ≡ judged (known_by table.now) check.now }
 {
@@ -37,4 +39,20 @@ pub fn judged(table: &ZoneTable, check: &DeferredCheck) -> Option<FaultKind>
             }
         }
     }
+}
+
+/// The first of the deferred checks that finds a fault.
+pub fn first_judged(table: &ZoneTable, checks: &[LineCheck]) -> Option<Fault>
+    requires { All (λ w. IsSoundCheck w.check) checks.now }
+    ensures { result ≡ first_judged (known_by table.now) checks.now }
+{
+    for deferred in checks {
+        if let Some(kind) = judged(table, &deferred.check) {
+            return Some(Fault {
+                line: deferred.line,
+                kind,
+            });
+        }
+    }
+    None
 }

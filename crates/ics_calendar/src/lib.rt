@@ -7,7 +7,6 @@ mod event;
 mod judged;
 mod laws;
 mod read;
-mod settle;
 mod unknown_zones;
 mod zone;
 mod zone_files;

@@ -40,14 +40,12 @@ abbrev pub unless : {X : Type 0} → Option Fault → X → Result X Fault
 unless (Some fault) answer = Err fault
 unless None answer = Ok answer
 
-abbrev pub Going : Type 0
-Going = List Frame → GatheredSeen → Result GatheredSeen Fault
-
-abbrev pub on_line : ℕ → Result (List Frame × Passed) FaultKind → GatheredSeen → Going → Result GatheredSeen Fault
+abbrev pub on_line : ℕ → Result (List Frame × Passed) FaultKind → GatheredSeen → (List Frame → GatheredSeen → Result GatheredSeen Fault) →
+    Result GatheredSeen Fault
 on_line number (Ok r) had later = later r.0 (and_passed number r.1 had)
 on_line number (Err kind) had later = Err (record { line = number; kind = kind })
 
-abbrev pub on_content : ℕ → Option Parts → List Frame → GatheredSeen → Going → Result GatheredSeen Fault
+abbrev pub on_content : ℕ → Option Parts → List Frame → GatheredSeen → (List Frame → GatheredSeen → Result GatheredSeen Fault) → Result GatheredSeen Fault
 on_content number None frames had later = Err (record { line = number; kind = kind.BadLine })
 on_content number (Some parts) frames had later = on_line number (line_in number parts frames) had later
 

@@ -17,10 +17,10 @@ pub new-requires : goal.new-requires
 new-requires c = (subst IsSoundGathered (sym c.zones.view_is) c.in_ok-zones.ensures.sound).zones
 
 pub invariant_of-result : goal.invariant_of-result
-invariant_of-result c = rw c.in_ok-table.ensures (draft-sound _ (subst IsSoundGathered (sym c.zones.view_is) c.in_ok-zones.ensures.sound))
+invariant_of-result c = rw c.in_ok-new.ensures (draft-sound _ (subst IsSoundGathered (sym c.zones.view_is) c.in_ok-zones.ensures.sound))
 
 pub returns-clause-draft : goal.returns-clause-draft
 returns-clause-draft c =
-    ap (λ (known : KnownZones). drafted known c.zones.inside.events.items c.zones.inside.checks.items) c.in_ok-table.ensures
+    ap (λ (known : KnownZones). drafted known c.zones.inside.events.items c.zones.inside.checks.items) c.in_ok-new.ensures
     ∙ ap (λ (g : GatheredSeen). draft_by (Ok g)) c.zones.view_is
     ∙ sym (gathered c.args.bytes.now (c.numbers_rise.ensures c.args.bytes.now) ∙ ap draft_by c.in_ok-zones.ensures.gathered)
