@@ -189,4 +189,3 @@ pub pass-whole : (lines : List Line) → Rises 0 lines →
     pass (bottom ∷ []) None nothing_gathered lines
     ≡ unless (first_fault (placed_from [] lines)) (gathered_from (placed_from [] lines) nothing_gathered [] (placed_from [] lines))
 pass-whole lines r = pass-lines lines (placed_from [] lines) [] [] None nothing_gathered (first-at lines r) refl
-

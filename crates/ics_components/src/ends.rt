@@ -22,10 +22,10 @@ pub fn is_out(start: i64, end: i64) -> bool
 
 /// Whether the first round refuses the end: it is of another kind than its start, or out of its reach where they are dates,
 /// floating, or of one zone.
-pub fn ends_badly(start: &Option<Dated>, end: &Option<Dated>) -> bool
-    ensures { result ≡ ends_badly start.now end.now }
+pub fn ends_badly(start: &Dated, end: &Option<Dated>) -> bool
+    ensures { result ≡ ends_badly (Some start.now) end.now }
 {
-    let (Some(start), Some(end)) = (start, end) else {
+    let Some(end) = end else {
         return false;
     };
     match (start.stamp, end.stamp) {
@@ -42,12 +42,12 @@ pub fn ends_badly(start: &Option<Dated>, end: &Option<Dated>) -> bool
 /// The check that the second round makes on the END of an event of that calendar.
 pub fn ends_in(
     calendar: u64,
-    start: &Option<Dated>,
+    start: &Dated,
     end: &Option<Dated>,
 ) -> Result<Option<DeferredCheck>, AllocError>
-    ensures { IfOk result (λ check. check ≡ ends_in calendar start.now end.now) }
+    ensures { IfOk result (λ check. check ≡ ends_in calendar (Some start.now) end.now) }
 {
-    let (Some(start), Some(end)) = (start, end) else {
+    let Some(end) = end else {
         return Ok(None);
     };
     // two stamps of one zone compare as locals

@@ -4,6 +4,7 @@ ghost use Rattle.std.specs.Option.{option_or};
 ghost use Rattle.ics_values.specs.Plain.{text_of};
 ghost use Rattle.ics_components.specs.declared.fault.FaultKind.TheVariants.{Repeated};
 ghost use Rattle.ics_components.specs.Builders.{collected_of, event_ended};
+ghost use Rattle.ics_components.specs.GivenTimes.{dated_in};
 ghost use Rattle.ics_components.specs.Lines.{Gives, Notes, fault_if, stamp_fault_of, event_fault, event_note, event_check};
 ghost use Rattle.ics_components.specs.Lines.{Keeps, value_fault, value_note, end_of_event, passed};
 ghost use Rattle.ics_components.specs.declared.gathered.Ended.TheVariants.{Event};
@@ -22,7 +23,7 @@ use crate::refused::Refused;
 use crate::rule_value::RuleValue;
 use crate::tzid::Tzids;
 use ics_text::Content;
-use ics_values::{Duration, IntegerFault, Stamp, Text, is_word, read_integer};
+use ics_values::{Duration, IntegerFault, Text, is_word, read_integer};
 use std::alloc::Global;
 
 /// The value of each property that an event may have once, and what all its RDATEs and EXDATEs list.
@@ -174,29 +175,31 @@ impl EventBuilder {
         }
     }
 
-    /// The check of the end of the event, if no fault stands on its END.
-    fn check_at_end(&self, calendar: u64) -> Result<Option<DeferredCheck>, Refused>
-        ensures { Gives result (end_of_event self.now) (ends_in calendar self.now.start self.now.end) }
+    /// Takes the start of the event and the check of its end, if no fault stands on its END.
+    fn start_at_end(&mut self, calendar: u64) -> Result<(Dated, Option<DeferredCheck>), Refused>
+        ensures { Notes result self.new (end_of_event self.old) (record self.old { start = None })
+            (dated_in self.old.start, ends_in calendar self.old.start self.old.end) }
     {
         match &self.uid {
             Some(uid) if !uid.as_slice().is_empty() => {}
             _ => return Err(Refused::Fault(FaultKind::MissingUid)),
         }
-        if self.start.is_none() {
+        let Some(start) = self.start.take() else {
             return Err(Refused::Fault(FaultKind::MissingStart));
-        }
-        if (self.end.is_some() && self.duration.is_some()) || ends_badly(&self.start, &self.end) {
+        };
+        if (self.end.is_some() && self.duration.is_some()) || ends_badly(&start, &self.end) {
             return Err(Refused::Fault(FaultKind::BadEnd));
         }
-        Ok(ends_in(calendar, &self.start, &self.end)?)
+        let check = ends_in(calendar, &start, &self.end)?;
+        Ok((start, check))
     }
 
     /// The event of that calendar and the check of its end, at its END.
-    pub fn end(self, alloc: Global, calendar: u64) -> Result<Passed, Refused>
+    pub fn end(mut self, alloc: Global, calendar: u64) -> Result<Passed, Refused>
         ensures { Gives result (end_of_event self) (passed (Event (event_ended calendar self)) (ends_in calendar self.start self.end)) }
     {
-        let check = match self.check_at_end(calendar) {
-            Ok(check) => check,
+        let (start, check) = match self.start_at_end(calendar) {
+            Ok(taken) => taken,
             Err(refused) => {
                 drop(self);
                 return Err(refused);
@@ -210,11 +213,7 @@ impl EventBuilder {
         let event = EndedEvent {
             calendar,
             uid: self.uid.unwrap_or(Text::new(alloc)),
-            // an event without one has a fault
-            start: self.start.unwrap_or(Dated {
-                stamp: Stamp::Date(0),
-                zone: None,
-            }),
+            start,
             length,
             rule: self.rule,
             rdates: self.rdates,
