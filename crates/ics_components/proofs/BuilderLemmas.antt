@@ -30,6 +30,8 @@ kept-more : {X : Type 0} (f : Placed → X) (ls : List Placed) (l : Placed) →
 kept-more f [] l = refl
 kept-more f (k ∷ ks) l = refl
 
+ruleset one_more = (filter-append, map-append, flat_map-append, append-nil, kept-more)
+
 abbrev pub raw_name : Option Parts → List ℕ
 raw_name None = []
 raw_name (Some parts) = parts.name
@@ -44,24 +46,24 @@ pub collected_of-more : (ls : List Placed) (l : Placed) →
 collected_of-more ls l = by_name (name_of (property_name l.content)) (tells (property_name l.content))
   where
     by_name : (n : Name) → Tells (property_name l.content) n → collected_of (ls ++ l ∷ []) ≡ event_note n (parts_at l) (collected_of ls)
-    by_name name.Other e = simp (filter-append, map-append, append-nil, kept-more, e)
-    by_name _ e = simp (filter-append, map-append, append-nil, kept-more, e)
+    by_name name.Other e = simp (one_more, e)
+    by_name _ e = simp (one_more, e)
 
 pub zone_of-more : (os : List ObservanceSaid) (ls : List Placed) (l : Placed) →
     zone_of os (ls ++ l ∷ []) ≡ zone_note (name_of (property_name l.content)) (parts_at l) (zone_of os ls)
 zone_of-more os ls l = by_name (name_of (property_name l.content)) (tells (property_name l.content))
   where
     by_name : (n : Name) → Tells (property_name l.content) n → zone_of os (ls ++ l ∷ []) ≡ zone_note n (parts_at l) (zone_of os ls)
-    by_name name.Other e = simp (filter-append, append-nil, kept-more, e)
-    by_name _ e = simp (filter-append, append-nil, kept-more, e)
+    by_name name.Other e = simp (one_more, e)
+    by_name _ e = simp (one_more, e)
 
 pub observance_of-more : (ls : List Placed) (l : Placed) →
     observance_of (ls ++ l ∷ []) ≡ observance_note (name_of (property_name l.content)) (parts_at l) (observance_of ls)
 observance_of-more ls l = by_name (name_of (property_name l.content)) (tells (property_name l.content))
   where
     by_name : (n : Name) → Tells (property_name l.content) n → observance_of (ls ++ l ∷ []) ≡ observance_note n (parts_at l) (observance_of ls)
-    by_name name.Other e = simp (filter-append, flat_map-append, append-nil, kept-more, e)
-    by_name _ e = simp (filter-append, flat_map-append, append-nil, kept-more, e)
+    by_name name.Other e = simp (one_more, e)
+    by_name _ e = simp (one_more, e)
 
 -- THE OBSERVANCES of a time zone, with one line more.
 parts-more : (whole ls : List Placed) (l : Placed) (t : Bool) → begins_in_zone l ≡ t →
