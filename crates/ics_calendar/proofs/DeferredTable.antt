@@ -16,20 +16,21 @@ use Rattle.ics_components.specs.declared.deferred_check.Instant.{Instant}
 use Rattle.ics_components.specs.declared.deferred_check.DeferredCheck.{DeferredCheck}
 use Rattle.ics_components.specs.declared.deferred_check.DeferredCheck.TheVariants as check
 use Rattle.ics_components.specs.declared.deferred_check.ZoneName.{ZoneName}
+use Rattle.ics_components.specs.declared.event_builder.EventBuilder.{EventBuilder}
 use Rattle.ics_components.specs.declared.name.Name.{Name}
 use Rattle.ics_components.specs.declared.name.Name.TheVariants as name
 use Rattle.ics_components.specs.Names.{name_of}
-use Rattle.ics_components.specs.PlacedLines.{Placed, Open, context_of, closes, ends_event}
+use Rattle.ics_components.specs.PlacedLines.{Placed, Open, context_of, calendar_of, closes, ends_event}
 use Rattle.ics_components.specs.Values.{dated_of}
 use Rattle.ics_components.specs.Faults.{kinds}
 use Rattle.ics_calendar.specs.LaterFaults.{is_in_zone, is_in_unknown_zone, stands_later, tzid_on}
 use Rattle.ics_calendar.specs.DeferredChecks.{KnownZones, are_out, moment_on, ends_badly_later, moment_of, judged, unknown_in}
 use Rattle.ics_components.specs.ZoneNames.{zone_used, are_of_one_zone}
 use Rattle.ics_components.specs.SecondRound.{instant_on, instant_in, both_compared, ends_in}
-use Rattle.ics_components.proofs.Judged.{check_in}
+use Rattle.ics_components.specs.Lines.{check_in}
 use Rattle.ics_components.proofs.Ended.{IsMatched}
 use Rattle.ics_components.proofs.NameLemmas.{Tells, tells}
-use Rattle.ics_components.proofs.Table.{Readings, readings, frame_of}
+use Rattle.ics_components.proofs.Table.{collected_of, frame_of}
 use Rattle.ics_components.proofs.Frames.{with}
 
 -- AN END against its start, as the table finds it, as it is judged, and as it asks for no time zone.
@@ -66,14 +67,14 @@ module _ (known : KnownZones) (zoned : Bool) (used : ZoneName) where
 
 module _ (whole : List Placed) (line : Line) (parts : Parts) (ls : List Placed) (path : List Open) where
   abbrev l : Placed
-  l = with line path parts
+  l = with line path (Some parts)
 
-  abbrev g : Readings
-  g = readings whole path ls
+  abbrev had : EventBuilder
+  had = collected_of ls
 
   -- the zone that the line names, if it has a stamp in one
   abbrev used : ZoneName
-  used = zone_used g.calendar (dated_of parts.params parts.value)
+  used = zone_used (calendar_of path) (dated_of parts.params parts.value)
 
   abbrev left : Name → Option DeferredCheck
   left n = check_in n parts (frame_of whole path ls)
@@ -81,7 +82,7 @@ module _ (whole : List Placed) (line : Line) (parts : Parts) (ls : List Placed) 
   -- What the line leaves to the second round: at the END of an event its end, and on another line the time zone of its stamps, if they are in one.
   abbrev Leaves : Name → Type 0
   Leaves n =
-      ((ends_event l ≡ true) × (is_in_zone l ≡ false) × (left n ≡ ends_in g.calendar g.event.start g.event.end))
+      ((ends_event l ≡ true) × (is_in_zone l ≡ false) × (left n ≡ ends_in (calendar_of path) had.start had.end))
       ⊎ ((ends_event l ≡ false) × (left n ≡ cond (is_in_zone l) (Some (check.Zone used)) None))
 
   leaves : (n : Name) (q : Context) → Tells (map upper parts.name) n → context_of path ≡ q → IsMatched l → Leaves n
@@ -102,7 +103,7 @@ module _ (whole : List Placed) (line : Line) (parts : Parts) (ls : List Placed) 
       × (cond (is_in_unknown_zone known l) (Some (tzid_on l)) None ≡ option_and_then (unknown_in known.index) (left n))
 
   found : (known : KnownZones) (n : Name) → Leaves n → Found known n
-  found known n (inl h) = let ends = ends-as known g.calendar g.event.start g.event.end in (rw (h.0, h.1, h.2) ends.0, rw (h.1, h.2) (sym ends.1))
+  found known n (inl h) = let ends = ends-as known (calendar_of path) had.start had.end in (rw (h.0, h.1, h.2) ends.0, rw (h.1, h.2) (sym ends.1))
   found known n (inr h) = let zone = zone-as known (is_in_zone l) used in (rw (h.0, h.1) zone.0, rw h.1 zone.1)
 
   pub same-on : (known : KnownZones) → IsMatched l → Found known (name_of (map upper parts.name))

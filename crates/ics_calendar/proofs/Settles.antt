@@ -30,7 +30,7 @@ use Rattle.ics_components.proofs.EndOrder.{events-are, zones-are, names-begun, c
 use Rattle.ics_components.proofs.Frames.{with}
 use Rattle.ics_calendar.proofs.DeferredTable.{same-on}
 use Rattle.ics_components.proofs.Order.{found-none, inside, begun, IsPlaced, ordered, nested}
-use Rattle.ics_components.proofs.PassLemmas.{checks_from, gathered_from, lists, three, with_content}
+use Rattle.ics_components.proofs.PassLemmas.{checks_from, gathered_from, lists, three}
 
 -- THE DEFERRED CHECKS of lines without a fault of the first round, judged in order, give the first fault of the second round, and they ask for the time
 -- zones that the lines want.
@@ -54,13 +54,13 @@ module _ (known : KnownZones) where
   same-checks whole (line ∷ lines) before path e = by_content (same-checks whole lines) (content_of line.bytes) e
     where
       at : Option Parts → List Placed
-      at o = with_content line path o ∷ placed_from (path_behind (with_content line path o)) lines
+      at o = with line path o ∷ placed_from (path_behind (with line path o)) lines
 
       by_content : ((before : List Placed) (path : List Open) → first_from stands fault_at_end before (placed_from path lines) ≡ None →
           Same whole before (placed_from path lines)) → (o : Option Parts) → first_from stands fault_at_end before (at o) ≡ None → Same whole before (at o)
       by_content again None e = cc
       by_content again (Some v) e =
-          let l : Placed = with line path v in
+          let l : Placed = with line path (Some v) in
           let rest : List Placed = placed_from (path_behind l) lines in
           let none = found-none line.number (least_on stands before l) (first_from stands fault_at_end (before ++ l ∷ []) rest) e in
           let step = same-on whole line v (beside before l) path known (nested (λ kind. stands kind (beside before l) l) none.0) in

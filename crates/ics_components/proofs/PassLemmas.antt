@@ -62,6 +62,9 @@ abbrev pub gathered_from : List Placed → GatheredSeen → List Placed → List
 gathered_from whole had before lines =
     lists (had.zones ++ ended_from (zones whole) before lines) (had.events ++ ended_from events before lines) (had.checks ++ checks_from whole before lines)
 
+pub three : {zs ys : List EndedZone} {es fs : List EndedEvent} {ws vs : List LineCheck} → zs ≡ ys → es ≡ fs → ws ≡ vs → lists zs es ws ≡ lists ys fs vs
+three z e w = rw (z, e, w) refl
+
 gathered-none : (whole : List Placed) (had : GatheredSeen) (before : List Placed) → had ≡ gathered_from whole had before []
 gathered-none whole had before = simp append-nil
 
