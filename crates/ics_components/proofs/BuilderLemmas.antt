@@ -1,5 +1,5 @@
 -- A line changes what is collected of a component as the pass notes it.
-use Rattle.std.proofs.Common.{◌≡◌, ℕ, Bool, true, false, List, [], ◌∷◌, ◌++◌, map, refl, ap, ◌∙◌, cond, Option, Some, None, sym, arith}
+use Rattle.std.proofs.Common.{◌≡◌, ℕ, Bool, true, false, List, [], ◌∷◌, ◌++◌, refl, ap, ◌∙◌, cond, Option, Some, None, sym, arith}
 use Rattle.std.specs.Prelude.{option_map}
 use Rattle.std.specs.Option.{option_or}
 use Rattle.std.proofs.lemmas.List.{append-nil, map-append}

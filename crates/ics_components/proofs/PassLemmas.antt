@@ -1,5 +1,5 @@
 -- One pass with the components that are open finds the first fault of round one, and gathers what the lines say.
-use Rattle.std.proofs.Common.{◌≡◌, ℕ, ◌+◌, ◌<◌, List, [], ◌∷◌, ◌++◌, map, refl, subst, sym, ap, ◌∙◌, append_assoc, arith, cond, Option, Some, None, ◌^◌}
+use Rattle.std.proofs.Common.{◌≡◌, ℕ, ◌+◌, ◌<◌, List, [], ◌∷◌, ◌++◌, map, refl, sym, ap, ◌∙◌, append_assoc, arith, cond, Option, Some, None, ◌^◌}
 use Rattle.std.specs.Prelude.{find}
 use Rattle.std.proofs.lemmas.List.{append-nil}
 use Rattle.std.proofs.lemmas.List.Elements.{All-nil, All-push, All-weaker}
@@ -28,7 +28,7 @@ use Rattle.ics_components.proofs.Table.{parts, any-part, frame_of, IsAsked, leas
 use Rattle.ics_components.proofs.Bundles.{Bundle, Keeps, Together, Before, falls, open_of, opens, opens-behind, top_beside, together, together-in, zone-lines}
 use Rattle.ics_components.proofs.Bundles.{bundles_behind, keeps}
 use Rattle.ics_components.proofs.Frames.{frames_of, with, Closes, frames-behind, fault-top, passing-top}
-use Rattle.ics_components.proofs.Order.{last-more, Falls, falls-behind, lines_in-whole, ended_from, nested}
+use Rattle.ics_components.proofs.Order.{last-more, falls-behind, lines_in-whole, ended_from, nested}
 use Rattle.ics_components.proofs.Ended.{events, zones, picked-same, IsMatched}
 
 -- WHERE THE LINES END.
