@@ -95,7 +95,8 @@ module _ (lines : List Line) (r : Rises 0 lines) (first : first_fault (placed_fr
       ) (λ i. record { wants = each_once (unknown_names whole); says = λ files. settled files i })
     where
       settled : (files : GivenFiles) →
-          settled_by (zones_with files whole) (begun events whole whole) (checks_from whole [] whole) ≡ decide None (later_fault files whole) (said_of files whole)
+          settled_by (zones_with files whole) (begun events whole whole) (checks_from whole [] whole)
+          ≡ decide None (later_fault files whole) (said_of files whole)
       settled files =
           let known : KnownZones = zones_with files whole in
           rw ((same-checks known whole lines [] [] first).0, events-begun known.index whole whole)
