@@ -1,21 +1,16 @@
 -- What is gathered of a file, settled: its first fault of the second round, or what it says.
-use Rattle.std.proofs.Common.{◌≡◌, ℕ, ◌<◌, List, [], ◌∷◌, map, length, get_or, sym, ap, ◌∙◌, Some, None}
+use Rattle.std.proofs.Common.{◌≡◌, ℕ, List, [], ◌∷◌, map, sym, ◌∙◌, None}
 use Rattle.std.specs.List.{All, Contains}
-use Rattle.std.specs.Option.{option_map}
 use Rattle.std.proofs.lemmas.List.{length-map}
-use Rattle.std.proofs.lemmas.Option.{slice_get-map, slice_get-get_or}
 use Rattle.std.proofs.lemmas.List.Elements.{All-nil, All-cons, All-contains}
-use Rattle.ics_zone.specs.ZoneSaid.{ZoneSaid, said_moment, zone_said}
-use Rattle.ics_zone.specs.declared.zone.ZoneKind.{ZoneKind}
-use Rattle.ics_fields.specs.declared.local.Local.{Local}
+use Rattle.ics_zone.specs.ZoneSaid.{ZoneSaid}
 use Rattle.ics_components.specs.declared.gathered.EndedEvent.{EndedEvent}
 use Rattle.ics_components.specs.declared.gathered.LineCheck.{LineCheck}
 use Rattle.ics_calendar.specs.Settled.{event_of, known_in, first_judged}
 use Rattle.ics_event.specs.Event.{AreEventsOf}
-use Rattle.ics_fields.specs.Locals.{local_seconds}
 use Rattle.ics_components.specs.Gathered.{IsSoundGathered}
 use Rattle.ics_components.specs.GatheredSeen.{GatheredSeen}
-use Rattle.ics_calendar.specs.DeferredChecks.{KnownZones, moment_at, judged, with_files}
+use Rattle.ics_calendar.specs.DeferredChecks.{KnownZones, judged, with_files}
 use Rattle.ics_calendar.specs.Drafts.{IsSoundDraft}
 use Rattle.ics_calendar.specs.GivenFiles.{GivenFiles}
 use Rattle.ics_calendar.specs.Ready.{IsReady}
@@ -23,13 +18,6 @@ use Rattle.ics_calendar.proofs.EventSound.{events-of}
 use Rattle.ics_calendar.proofs.FilesGiven.{table-known, table-with}
 use Rattle.ics_components.proofs.Listed.{each-weaker}
 use Rattle.ics_components.proofs.Order.{found-none}
-
--- a local in the zone with an index
-pub moment-here : (zones : List ZoneKind) (local : Local) (i : ℕ) (d : ZoneKind) → i < length zones →
-    moment_at (map zone_said zones) local i ≡ Some (said_moment (zone_said (get_or zones i d)) (local_seconds local))
-moment-here zones local i d l =
-    ap (option_map (λ zone. said_moment zone (local_seconds local)))
-    (slice_get-map zone_said zones i ∙ ap (option_map zone_said) (slice_get-get_or zones i d l))
 
 -- THE DEFERRED CHECKS, where none finds a fault.
 none-judged : (known : KnownZones) (ws : List LineCheck) → first_judged known ws ≡ None → All (λ l. judged known l ≡ None) (map (λ w. w.check) ws)
