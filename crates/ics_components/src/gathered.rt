@@ -1,6 +1,6 @@
 //! What is gathered of a file, before its time zones and its events are made of it.
 ghost use Rattle.std.specs.Prelude.{◌≡◌, IfOk, None};
-ghost use Rattle.ics_components.specs.Gathered.{and_passed};
+ghost use Rattle.ics_components.specs.Gathered.{and_ended, and_passed};
 ghost use Rattle.ics_components.specs.Lines.{passed};
 ghost use Rattle.ics_components.specs.declared.gathered.Ended.TheVariants.{Nothing};
 
@@ -98,15 +98,26 @@ impl Model for Gathered {
 }
 
 impl Gathered {
+    /// Adds what ends on a line.
+    fn end(&mut self, ended: Ended) -> Result<(), AllocError>
+        ensures { IfOk result (λ _. self.new ≡ and_ended ended self.old) }
+    {
+        match ended {
+            Ended::Zone(zone) => self.zones.push(zone)?,
+            Ended::Event(event) => self.events.push(event)?,
+            Ended::Nothing => {}
+        }
+        Ok(())
+    }
+
     /// Adds what is gathered on the line with that number.
     pub(crate) fn pass(&mut self, number: u64, passed: Passed) -> Result<(), AllocError>
         ensures { IfOk result (λ _. self.new ≡ and_passed number passed self.old) }
     {
         let Passed { ended, check } = passed;
-        match ended {
-            Ended::Zone(zone) => self.zones.push(zone)?,
-            Ended::Event(event) => self.events.push(event)?,
-            Ended::Nothing => {}
+        if let Err(error) = self.end(ended) {
+            drop(check);
+            return Err(error);
         }
         if let Some(check) = check {
             self.checks.push(LineCheck {

@@ -1,7 +1,7 @@
 //! The components that are open.
 ghost use Rattle.std.specs.Prelude.{◌≡◌, ◌∷◌, []};
 ghost use Rattle.ics_components.specs.declared.name.Name.TheVariants.{Begin, End};
-ghost use Rattle.ics_components.specs.Lines.{Makes, Notes, fault_on, behind, closed, passing, line_in};
+ghost use Rattle.ics_components.specs.Lines.{Keeps, Makes, Notes, fault_on, behind, closed, passing, line_in};
 ghost use Rattle.ics_components.specs.Pass.{bottom, is_lowest};
 
 use crate::builder::Builder;
@@ -63,14 +63,8 @@ impl Stack {
     }
 
     /// Opens the component that begins on the line with that number.
-    fn begin(
-        &mut self,
-        alloc: Global,
-        number: u64,
-        content: &Content<'_>,
-    ) -> Result<Passed, Refused>
-        ensures { Notes result self.new (fault_on Begin content.now self.old) (behind number Begin content.now self.old)
-            (passing Begin content.now self.old) }
+    fn begin(&mut self, alloc: Global, number: u64, content: &Content<'_>) -> Result<(), Refused>
+        ensures { Keeps result self.new (fault_on Begin content.now self.old) (behind number Begin content.now self.old) }
     {
         let component = Component::named(alloc, content.value())?;
         match (self.top.context, &component) {
@@ -92,7 +86,7 @@ impl Stack {
         };
         let outer = mem::replace(&mut self.top, inner);
         self.outer.push(outer)?;
-        Ok(Passed::nothing())
+        Ok(())
     }
 
     /// Closes the innermost component by an END, and gives what it is.
@@ -115,16 +109,17 @@ impl Stack {
     ) -> Result<Passed, Refused>
         ensures { Makes result self.new (line_in number content.now self.old) }
     {
-        match name_of(content.name()) {
-            Name::Begin => self.begin(alloc, number, content),
-            Name::End => self.end(alloc, content),
-            name => {
-                let check = self.top.line(alloc, &mut self.tzids, name, content)?;
-                Ok(Passed {
-                    ended: Ended::Nothing,
-                    check,
-                })
+        let check = match name_of(content.name()) {
+            Name::Begin => {
+                self.begin(alloc, number, content)?;
+                None
             }
-        }
+            Name::End => return self.end(alloc, content),
+            name => self.top.line(alloc, &mut self.tzids, name, content)?,
+        };
+        Ok(Passed {
+            ended: Ended::Nothing,
+            check,
+        })
     }
 }
