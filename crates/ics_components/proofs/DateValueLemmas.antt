@@ -18,7 +18,8 @@ use Rattle.ics_components.specs.DateValues.{DateValue, At, date_time_of, period_
 use Rattle.ics_components.specs.DateValues.{has_far_stamp, has_bad_duration, has_large_duration, values_of, local_in, is_not_local}
 use Rattle.ics_components.specs.declared.fault.FaultKind.{FaultKind}
 use Rattle.ics_components.specs.declared.fault.FaultKind.TheVariants.{BadStamp, BadDuration, YearRange, NumberTooLarge, ObservanceField}
-use Rattle.ics_components.specs.Lines.{dates_fault, locals_fault, fault_if, unless, lesser, judged}
+use Rattle.ics_components.specs.Lines.{dates_fault, locals_fault, fault_if, lesser, judged}
+use Rattle.ics_components.specs.Pass.{unless}
 use Rattle.ics_components.specs.declared.date_values.Listing.TheVariants.{Rdate}
 use Rattle.ics_components.specs.declared.date_list.ListedDate.{ListedDate}
 

@@ -20,7 +20,7 @@ use Rattle.ics_components.specs.Faults.{stands, kinds}
 use Rattle.ics_components.specs.FirstFault.{found, first_from, first_fault, fault_at_end, end_fault, no_open}
 use Rattle.ics_components.specs.GatheredSeen.{GatheredSeen}
 use Rattle.ics_components.specs.Gathered.{nothing_gathered, checks_of, and_passed}
-use Rattle.ics_components.specs.Lines.{unless as fine, end_in, check_in, behind, passed}
+use Rattle.ics_components.specs.Lines.{end_in, check_in, behind, passed}
 use Rattle.ics_components.specs.Names.{name_of}
 use Rattle.ics_components.specs.Pass.{bottom, is_lowest, at_end, unless, on_line, on_content, pass}
 use Rattle.ics_components.proofs.Table.{parts, any-part, frame_of, IsAsked, least-same}
@@ -146,7 +146,7 @@ module _ (line : Line) {lines : List Line} (again : Known lines) (v : Parts) {wh
 
   -- with its least fault, and where it has none
   by_first : (o : Option FaultKind) → find (λ kind. stands kind (beside before l) l) kinds ≡ o →
-      on_line line.number (fine o (behind line.number n v frames, here)) had (λ frames had. pass frames (Some line.number) had lines)
+      on_line line.number o (pass (behind line.number n v frames) (Some line.number) now lines)
       ≡ unless (found line.number o (first_from stands fault_at_end (before ++ l ∷ []) rest)) (gathered_from whole had before (l ∷ rest))
   by_first (Some k) e = refl
   by_first None e =

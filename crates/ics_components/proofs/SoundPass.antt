@@ -21,8 +21,7 @@ use Rattle.ics_components.specs.FirstFault.{Fault}
 use Rattle.ics_components.specs.Gathered.{IsSoundInstant, IsSoundCheck, IsSoundGathered, nothing_gathered, zones_of_end, events_of_end, checks_of, and_passed}
 use Rattle.ics_components.specs.GatheredSeen.{GatheredSeen}
 use Rattle.ics_components.specs.Lines.{builder_note, builder_check, event_check, fault_at_end_of, ended_as, joined, end_check}
-use Rattle.ics_components.specs.Lines.{calendar_in, fault_on, behind, passing, line_in, unless as fine}
-use Rattle.ics_components.specs.Names.{name_of}
+use Rattle.ics_components.specs.Lines.{calendar_in, named, fault_on, behind, passing}
 use Rattle.ics_components.specs.Pass.{bottom, unless, at_end, on_line, on_content, pass}
 use Rattle.ics_components.specs.SecondRound.{instant_on, instant_in, both_compared, ends_in}
 use Rattle.ics_components.specs.Sound.{EachZone, IsWhole, IsSoundStamp, IsSoundObservance, IsSoundZone}
@@ -142,10 +141,6 @@ module _ (P : DeferredCheck → Type 0) where
   step-sound number _ v [] h none c = (tt, tt, tt)
   step-sound number n v (f ∷ fs) h none c = let noted = noted-sound f.calendar n v f.builder h.0 c in ((noted.0, h.1), tt, noted.1)
 
-  line-sound : (o : Option FaultKind) (r : List Frame × Passed) → (o ≡ None → IsSoundStep P r) → IfOk (fine o r) (IsSoundStep P)
-  line-sound None r h = h refl
-  line-sound (Some k) r h = tt
-
 -- WHAT IS GATHERED is sound, where P holds of the zones that its events name.
 abbrev IsSoundEnded : EndedZone → Type 0
 IsSoundEnded zone = IsSoundZone zone.observances
@@ -199,32 +194,31 @@ module _ (P : DeferredCheck → Type 0) where
       Again : Type 0
       Again = (frames : List Frame) (last : Option ℕ) (had : GatheredSeen) → IfOk (pass frames last had lines) (Goes frames had)
 
-      by_line : Again → (r : Result (List Frame × Passed) FaultKind) → (AreSound P frames → IfOk r (IsSoundStep P)) →
-          IfOk (on_line line.number r had (λ frames had. pass frames (Some line.number) had lines)) (Goes frames had)
-      by_line again (Err k) step = tt
-      by_line again (Ok r) step =
-          let end : Ended = r.1.ended in
-          let now : GatheredSeen = and_passed line.number r.1 had in
-          IfOk-weaker (pass r.0 (Some line.number) now lines) (Goes r.0 now) (Goes frames had) (λ g later all.
+      by_line : Again → (o : Option FaultKind) (now : List Frame) (here : Passed) → (AreSound P frames → o ≡ None → IsSoundStep P (now, here)) →
+          IfOk (on_line line.number o (pass now (Some line.number) (and_passed line.number here had) lines)) (Goes frames had)
+      by_line again (Some k) now here step = tt
+      by_line again None now here step =
+          let gathered : GatheredSeen = and_passed line.number here had in
+          IfOk-weaker (pass now (Some line.number) gathered lines) (Goes now gathered) (Goes frames had) (λ g later all.
           let behind = later all in
-          let checks = all-parts Holds had.checks (checks_of line.number r.1.check) behind.0 in (
+          let checks = all-parts Holds had.checks (checks_of line.number here.check) behind.0 in (
             checks.0,
             λ f h.
-                let after = step f (check-held line.number r.1.check checks.1) in
-                let ended = end-gathered end after.1 in
+                let after = step f refl (check-held line.number here.check checks.1) in
+                let ended = end-gathered here.ended after.1 in
                 behind.1 after.0 (
-                  All-append IsSoundEnded had.zones (zones_of_end end) h.0 ended.0,
-                  All-append IsSoundEvent had.events (events_of_end end) h.1 ended.1,
-                  All-append IsSoundLine had.checks (checks_of line.number r.1.check) h.2 (check-gathered line.number r.1.check after.2),
+                  All-append IsSoundEnded had.zones (zones_of_end here.ended) h.0 ended.0,
+                  All-append IsSoundEvent had.events (events_of_end here.ended) h.1 ended.1,
+                  All-append IsSoundLine had.checks (checks_of line.number here.check) h.2 (check-gathered line.number here.check after.2),
                 ),
-          )) (again r.0 (Some line.number) now)
+          )) (again now (Some line.number) gathered)
 
       by_content : Again → (o : Option Parts) →
           IfOk (on_content line.number o frames had (λ frames had. pass frames (Some line.number) had lines)) (Goes frames had)
       by_content again None = tt
       by_content again (Some v) =
-          let n : Name = name_of (map upper v.name) in
-          by_line again (line_in line.number v frames) (λ f. line-sound P (fault_on n v frames) _ (step-sound P line.number n v frames f))
+          let n : Name = named v in
+          by_line again (fault_on n v frames) (behind line.number n v frames) (passing n v frames) (λ f. step-sound P line.number n v frames f)
 
 -- the second round makes all checks that are gathered
 pub sound-pass : (lines : List Line) → IfOk (pass (bottom ∷ []) None nothing_gathered lines) IsSoundGathered

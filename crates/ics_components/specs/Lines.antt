@@ -75,16 +75,6 @@ Notes (Ok x) now fault next value = (fault ≡ None) × (now ≡ next) × (x ≡
 Notes (Err Memory) now fault next value = Unit {0}
 Notes (Err (Fault kind)) now fault next value = fault ≡ Some kind
 
-abbrev pub Makes : {X Y : Type 0} → Result X Refused → Y → Result (Y × X) FaultKind → Type 0
-Makes (Ok x) now said = said ≡ Ok (now, x)
-Makes (Err Memory) now said = Unit {0}
-Makes (Err (Fault kind)) now said = said ≡ Err kind
-
--- said unless a fault stands there
-abbrev pub unless : {X : Type 0} → Option FaultKind → X → Result X FaultKind
-unless None x = Ok x
-unless (Some kind) x = Err kind
-
 abbrev pub fault_if : FaultKind → Bool → Option FaultKind
 fault_if kind bad = if bad then Some kind else None
 
@@ -335,6 +325,6 @@ abbrev pub passing : Name → Parts → List Frame → Passed
 passing n c [] = passed ended.Nothing None
 passing n c (f ∷ fs) = passed (end_in n f) (check_in n c f)
 
-abbrev pub line_in : ℕ → Parts → List Frame → Result (List Frame × Passed) FaultKind
-line_in number c frames =
-    let n : Name = name_of (map upper c.name) in unless (fault_on n c frames) (behind number n c frames, passing n c frames)
+-- what the property of a line is called
+abbrev pub named : Parts → Name
+named c = name_of (map upper c.name)

@@ -11,12 +11,11 @@ use Rattle.ics_components.specs.declared.fault.FileFault.{FileFault}
 use Rattle.ics_components.specs.declared.fault.FileFault.TheVariants.{Memory, At}
 use Rattle.ics_components.specs.declared.fault.FaultKind.TheVariants as kind
 use Rattle.ics_components.specs.declared.frame.Frame.{Frame}
-use Rattle.ics_components.specs.declared.gathered.Passed.{Passed}
 use Rattle.ics_components.specs.declared.builder.Builder.TheVariants as builder
 use Rattle.ics_components.specs.GatheredSeen.{GatheredSeen}
 use Rattle.ics_components.specs.FirstFault.{bad_fold}
 use Rattle.ics_components.specs.Gathered.{nothing_gathered, and_passed}
-use Rattle.ics_components.specs.Lines.{line_in}
+use Rattle.ics_components.specs.Lines.{named, fault_on, behind, passing}
 use Rattle.ics_components.specs.declared.first_round.FirstRound.{FirstRound}
 use Rattle.ics_components.specs.declared.refused.Refused.{Refused}
 use Rattle.ics_components.specs.declared.refused.Refused.TheVariants as refused
@@ -36,18 +35,18 @@ at_end frames None = Some (record { line = 1; kind = kind.NotCalendar })
 at_end frames (Some last) = if is_lowest frames then None else Some (record { line = last + 1; kind = kind.BadNesting })
 
 -- THE PASS is the first round alone. It gathers what ends, and the checks of the second round.
-abbrev pub unless : {X : Type 0} → Option Fault → X → Result X Fault
+abbrev pub unless : {X F : Type 0} → Option F → X → Result X F
 unless (Some fault) answer = Err fault
 unless None answer = Ok answer
 
-abbrev pub on_line : ℕ → Result (List Frame × Passed) FaultKind → GatheredSeen → (List Frame → GatheredSeen → Result GatheredSeen Fault) →
-    Result GatheredSeen Fault
-on_line number (Ok r) had later = later r.0 (and_passed number r.1 had)
-on_line number (Err kind) had later = Err (record { line = number; kind = kind })
+abbrev pub on_line : ℕ → Option FaultKind → Result GatheredSeen Fault → Result GatheredSeen Fault
+on_line number None later = later
+on_line number (Some kind) later = Err (record { line = number; kind = kind })
 
 abbrev pub on_content : ℕ → Option Parts → List Frame → GatheredSeen → (List Frame → GatheredSeen → Result GatheredSeen Fault) → Result GatheredSeen Fault
 on_content number None frames had later = Err (record { line = number; kind = kind.BadLine })
-on_content number (Some parts) frames had later = on_line number (line_in number parts frames) had later
+on_content number (Some c) frames had later =
+    on_line number (fault_on (named c) c frames) (later (behind number (named c) c frames) (and_passed number (passing (named c) c frames) had))
 
 abbrev pub pass : List Frame → Option ℕ → GatheredSeen → List Line → Result GatheredSeen Fault
 pass frames last had [] = unless (at_end frames last) had

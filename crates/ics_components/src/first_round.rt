@@ -29,8 +29,7 @@ impl FirstRound {
         let Ok(parts) = content(line.bytes()) else {
             return Err(Refused::Fault(FaultKind::BadLine));
         };
-        let passed = self.stack.line(alloc, number, &parts)?;
-        self.gathered.pass(number, passed)?;
+        self.stack.line(alloc, &mut self.gathered, number, &parts)?;
         self.last = Some(number);
         Ok(())
     }

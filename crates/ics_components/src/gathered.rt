@@ -110,6 +110,23 @@ impl Gathered {
         Ok(())
     }
 
+    /// Adds the check of the line with that number, if it leaves one.
+    pub(crate) fn check(
+        &mut self,
+        number: u64,
+        check: Option<DeferredCheck>,
+    ) -> Result<(), AllocError>
+        ensures { IfOk result (λ _. self.new ≡ and_passed number (passed Nothing check) self.old) }
+    {
+        if let Some(check) = check {
+            self.checks.push(LineCheck {
+                line: number,
+                check,
+            })?;
+        }
+        Ok(())
+    }
+
     /// Adds what is gathered on the line with that number.
     pub(crate) fn pass(&mut self, number: u64, passed: Passed) -> Result<(), AllocError>
         ensures { IfOk result (λ _. self.new ≡ and_passed number passed self.old) }
@@ -119,12 +136,6 @@ impl Gathered {
             drop(check);
             return Err(error);
         }
-        if let Some(check) = check {
-            self.checks.push(LineCheck {
-                line: number,
-                check,
-            })?;
-        }
-        Ok(())
+        self.check(number, check)
     }
 }

@@ -1,14 +1,15 @@
 //! The components that are open.
-ghost use Rattle.std.specs.Prelude.{◌≡◌, ◌∷◌, []};
+ghost use Rattle.std.specs.Prelude.{◌≡◌, ◌∷◌, [], IfOk};
 ghost use Rattle.ics_components.specs.declared.name.Name.TheVariants.{Begin, End};
-ghost use Rattle.ics_components.specs.Lines.{Keeps, Makes, Notes, fault_on, behind, closed, passing, line_in};
+ghost use Rattle.ics_components.specs.Gathered.{and_passed};
+ghost use Rattle.ics_components.specs.Lines.{Keeps, Notes, named, fault_on, behind, closed, passing};
 ghost use Rattle.ics_components.specs.Pass.{bottom, is_lowest};
 
 use crate::builder::Builder;
 use crate::component::{Component, Context};
 use crate::fault::FaultKind;
 use crate::frame::Frame;
-use crate::gathered::{Ended, Passed};
+use crate::gathered::{Gathered, Passed};
 use crate::name::{Name, name_of};
 use crate::refused::Refused;
 use crate::tzid::Tzids;
@@ -100,26 +101,29 @@ impl Stack {
         inner.end(alloc, &mut self.top.builder, content.value())
     }
 
-    /// Goes behind the line with that number, and gives what is gathered there.
+    /// Goes behind the line with that number, and adds what is gathered there.
     pub fn line(
         &mut self,
         alloc: Global,
+        gathered: &mut Gathered,
         number: u64,
         content: &Content<'_>,
-    ) -> Result<Passed, Refused>
-        ensures { Makes result self.new (line_in number content.now self.old) }
+    ) -> Result<(), Refused>
+        ensures open { Keeps result self.new (fault_on (named content.now) content.now self.old) (behind number (named content.now) content.now self.old) }
+        ensures gathered { IfOk result (λ _. gathered.new ≡ and_passed number (passing (named content.now) content.now self.old) gathered.old) }
     {
-        let check = match name_of(content.name()) {
-            Name::Begin => {
-                self.begin(alloc, number, content)?;
-                None
+        match name_of(content.name()) {
+            Name::Begin => self.begin(alloc, number, content),
+            Name::End => {
+                let passed = self.end(alloc, content)?;
+                gathered.pass(number, passed)?;
+                Ok(())
             }
-            Name::End => return self.end(alloc, content),
-            name => self.top.line(alloc, &mut self.tzids, name, content)?,
-        };
-        Ok(Passed {
-            ended: Ended::Nothing,
-            check,
-        })
+            name => {
+                let check = self.top.line(alloc, &mut self.tzids, name, content)?;
+                gathered.check(number, check)?;
+                Ok(())
+            }
+        }
     }
 }
