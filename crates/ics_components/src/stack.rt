@@ -2,14 +2,14 @@
 ghost use Rattle.std.specs.Prelude.{◌≡◌, ◌∷◌, [], IfOk};
 ghost use Rattle.ics_components.specs.declared.name.Name.TheVariants.{Begin, End};
 ghost use Rattle.ics_components.specs.Gathered.{and_passed};
-ghost use Rattle.ics_components.specs.Lines.{Keeps, Notes, named, fault_on, behind, closed, passing};
+ghost use Rattle.ics_components.specs.Lines.{Keeps, named, fault_on, behind, closed, passing};
 ghost use Rattle.ics_components.specs.Pass.{bottom, is_lowest};
 
 use crate::builder::Builder;
 use crate::component::{Component, Context};
 use crate::fault::FaultKind;
 use crate::frame::Frame;
-use crate::gathered::{Gathered, Passed};
+use crate::gathered::Gathered;
 use crate::name::{Name, name_of};
 use crate::refused::Refused;
 use crate::tzid::Tzids;
@@ -64,6 +64,9 @@ impl Stack {
     }
 
     /// Opens the component that begins on the line with that number.
+    ///
+    /// What begins or ends takes much room, so this and `end` stand apart from `line`, which most lines pass without either.
+    #[inline(never)]
     fn begin(&mut self, alloc: Global, number: u64, content: &Content<'_>) -> Result<(), Refused>
         ensures { Keeps result self.new (fault_on Begin content.now self.old) (behind number Begin content.now self.old) }
     {
@@ -90,15 +93,25 @@ impl Stack {
         Ok(())
     }
 
-    /// Closes the innermost component by an END, and gives what it is.
-    fn end(&mut self, alloc: Global, content: &Content<'_>) -> Result<Passed, Refused>
-        ensures { Notes result self.new (fault_on End content.now self.old) (closed self.old) (passing End content.now self.old) }
+    /// Closes the innermost component by an END on the line with that number, and adds what it is.
+    #[inline(never)]
+    fn end(
+        &mut self,
+        alloc: Global,
+        gathered: &mut Gathered,
+        number: u64,
+        content: &Content<'_>,
+    ) -> Result<(), Refused>
+        ensures open { Keeps result self.new (fault_on End content.now self.old) (closed self.old) }
+        ensures gathered { IfOk result (λ _. gathered.new ≡ and_passed number (passing End content.now self.old) gathered.old) }
     {
         let Some(outer) = self.outer.pop() else {
             return Err(Refused::Fault(FaultKind::NotCalendar));
         };
         let inner = mem::replace(&mut self.top, outer);
-        inner.end(alloc, &mut self.top.builder, content.value())
+        let passed = inner.end(alloc, &mut self.top.builder, content.value())?;
+        gathered.pass(number, passed)?;
+        Ok(())
     }
 
     /// Goes behind the line with that number, and adds what is gathered there.
@@ -114,11 +127,7 @@ impl Stack {
     {
         match name_of(content.name()) {
             Name::Begin => self.begin(alloc, number, content),
-            Name::End => {
-                let passed = self.end(alloc, content)?;
-                gathered.pass(number, passed)?;
-                Ok(())
-            }
+            Name::End => self.end(alloc, gathered, number, content),
             name => {
                 let check = self.top.line(alloc, &mut self.tzids, name, content)?;
                 gathered.check(number, check)?;
