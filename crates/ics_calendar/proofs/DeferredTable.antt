@@ -1,6 +1,6 @@
 -- The table of the second round and the pass find one fault on a line, and ask for one time zone.
 use Rattle.std.proofs.Common.{◌≡◌, ◌⊎◌, inl, inr, ℕ, Bool, true, false, ◌&&◌, List, map, refl, sym, cond, Option, Some, None, is_some, arith}
-use Rattle.std.specs.Prelude.{find, not}
+use Rattle.std.specs.Prelude.{find, not, option_map}
 use Rattle.std.specs.Option.{option_and_then}
 use Rattle.std.proofs.Math.Bool.{or-false}
 use Rattle.std.proofs.lemmas.Bool.{not-false}
@@ -42,9 +42,9 @@ ends-as known k _ _ = (refl, refl)
 zone-as : (known : KnownZones) (zoned : Bool) (used : ZoneName) →
     (cond ((zoned && not (is_some (known.index used))) && not (known.is_bad used.name)) (Some UnknownZone)
     (cond ((zoned && not (is_some (known.index used))) && known.is_bad used.name) (Some BadZoneFile) None)
-    ≡ option_and_then (judged known) (cond zoned (Some (check.Zone used)) None))
+    ≡ option_and_then (judged known) (option_map check.Zone (cond zoned (Some used) None)))
     × (cond (zoned && not (is_some (known.index used))) (Some used.name) None
-    ≡ option_and_then (unknown_in known.index) (cond zoned (Some (check.Zone used)) None))
+    ≡ option_and_then (unknown_in known.index) (option_map check.Zone (cond zoned (Some used) None)))
 zone-as known zoned used = (grind arith, grind arith)
 
 module _ (whole : List Placed) (line : Line) (parts : Parts) (ls : List Placed) (path : List Open) where
@@ -68,7 +68,7 @@ module _ (whole : List Placed) (line : Line) (parts : Parts) (ls : List Placed) 
   abbrev Leaves : Name → Type 0
   Leaves n =
       ((ends_event l ≡ true) × (is_in_zone l ≡ false) × (left n ≡ ends_in k had.start had.end))
-      ⊎ ((ends_event l ≡ false) × (left n ≡ cond (is_in_zone l) (Some (check.Zone used)) None))
+      ⊎ ((ends_event l ≡ false) × (left n ≡ option_map check.Zone (cond (is_in_zone l) (Some used) None)))
 
   leaves : (n : Name) (q : Context) → Tells (map upper parts.name) n → context_of path ≡ q → IsMatched l → Leaves n
   leaves name.End context.Event e c m =

@@ -62,7 +62,7 @@ lasting-is d h = record { forward = grind (arith, nat_tests, h); short = grind (
 
 -- the check of stamps that a line lists, in the zone that it names
 abbrev fault_by : Bool → ZoneName → Option DeferredCheck
-fault_by zoned name = cond zoned (Some (check.Zone name)) None
+fault_by zoned name = option_map check.Zone (cond zoned (Some name) None)
 
 module _ (known : KnownZones) where
   abbrev place : ZoneName → ℕ

@@ -1,7 +1,7 @@
 -- What is read of a value is in order, and so are what is collected of a component and what ends of it.
 use Rattle.std.proofs.Common.{◌≡◌, ℕ, Bool, true, false, not, List, [], ◌∷◌, refl, sym, subst, cond, Result, Ok, Err, map, ℤ, pos, arith, ◌≢◌, ◌≤◌}
 use Rattle.std.proofs.Common.{◌+◌, ◌*◌, nat_le, ◌&&◌, ◌||◌, Option, Some, None, is_some, IfSome}
-use Rattle.std.specs.Prelude.{filter_map, unwrap_or}
+use Rattle.std.specs.Prelude.{filter_map, unwrap_or, option_map}
 use Rattle.std.specs.List.{All}
 use Rattle.std.specs.Option.{option_or}
 use Rattle.std.proofs.lemmas.Bool.{cond_both}
@@ -37,7 +37,7 @@ use Rattle.ics_components.specs.Builders.{event_ended, observance_ended}
 use Rattle.ics_components.specs.DateLists.{list_of}
 use Rattle.ics_components.specs.DateValues.{date_time_of, period_of, rdate_of, value_of, values_of, listed_in, local_in}
 use Rattle.ics_components.specs.GivenTimes.{dated_in, given_length}
-use Rattle.ics_components.specs.Lines.{event_check, event_note, observance_note, end_of_event, end_of_zone}
+use Rattle.ics_components.specs.Lines.{event_zone, event_note, observance_note, end_of_event, end_of_zone}
 use Rattle.ics_components.specs.Observances.{locals_of, onset_in, offset_in, daily_in}
 use Rattle.ics_components.specs.SecondRound.{used_zone, used_in, listed_zone, ends_in}
 use Rattle.ics_components.specs.Sound.{IsSoundStamp, IsSoundValue, IsSoundList, IsSoundLength, IsWhole, IsSoundObservance, IsSoundZone, EachZone, end_of}
@@ -51,6 +51,7 @@ use Rattle.ics_components.specs.declared.date_values.Listing.{Listing}
 use Rattle.ics_components.specs.declared.date_values.Listing.TheVariants as listing
 use Rattle.ics_components.specs.declared.dated.Dated.{Dated}
 use Rattle.ics_components.specs.declared.deferred_check.DeferredCheck.{DeferredCheck}
+use Rattle.ics_components.specs.declared.deferred_check.DeferredCheck.TheVariants.{Zone}
 use Rattle.ics_components.specs.declared.event_builder.EventBuilder.{EventBuilder}
 use Rattle.ics_components.specs.declared.fault.FaultKind.TheVariants.{MissingUid, MissingStart, BadEnd}
 use Rattle.ics_components.specs.declared.name.Name.{Name}
@@ -208,7 +209,7 @@ module _ (P : DeferredCheck → Type 0) (k : ℕ) where
       IfSome had.start IsSoundDated × IfSome had.end IsSoundDated × IfSome had.duration (λ d. is_lasting d ≡ true) × All IsSoundListed had.rdates
       × All IsSoundListed had.exdates × IfSome had.recurrence IsSoundDated
 
-  pub event-noted : (n : Name) (v : Parts) (had : EventBuilder) → IsSoundStarted had → IfSome (event_check k n v) P → IsSoundStarted (event_note n v had)
+  pub event-noted : (n : Name) (v : Parts) (had : EventBuilder) → IsSoundStarted had → IfSome (option_map Zone (event_zone k n v)) P → IsSoundStarted (event_note n v had)
   event-noted name.Dtstart v had h c = (or-first IsSoundDated had.start _ h.0 (sound-stamp _ v.value, c), h.1, h.2, h.3, h.4, h.5)
   event-noted name.Dtend v had h c = (h.0, or-first IsSoundDated had.end _ h.1 (sound-stamp _ v.value, c), h.2, h.3, h.4, h.5)
   event-noted name.Duration v had h c = (h.0, h.1, or-first (λ d. is_lasting d ≡ true) had.duration _ h.2 (sound-lasting v.value), h.3, h.4, h.5)

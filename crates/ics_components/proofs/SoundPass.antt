@@ -1,6 +1,7 @@
 -- What is gathered is sound, where the first round finds nothing: each line keeps what is open and what is gathered so.
 use Rattle.std.proofs.Common.{◌≡◌, ℕ, suc, ◌==◌, length, Bool, List, [], ◌∷◌, ◌++◌, map, refl, cond, Option, Some, None, IfSome, IfOk, Result, Ok, Err}
 use Rattle.std.proofs.Common.{rules, arith}
+use Rattle.std.specs.Prelude.{option_map}
 use Rattle.std.specs.List.{All, Contains}
 use Rattle.std.specs.Str.{bytes_eq}
 use Rattle.std.proofs.lemmas.Bool.{cond_both}
@@ -20,7 +21,7 @@ use Rattle.ics_components.specs.Components.{component_of, component_name, contex
 use Rattle.ics_components.specs.FirstFault.{Fault}
 use Rattle.ics_components.specs.Gathered.{IsSoundInstant, IsSoundCheck, IsSoundGathered, nothing_gathered, zones_of_end, events_of_end, checks_of, and_passed}
 use Rattle.ics_components.specs.GatheredSeen.{GatheredSeen}
-use Rattle.ics_components.specs.Lines.{builder_note, builder_check, event_check, fault_at_end_of, ended_as, joined, end_check}
+use Rattle.ics_components.specs.Lines.{builder_note, builder_zone, fault_at_end_of, ended_as, joined, end_check}
 use Rattle.ics_components.specs.Lines.{calendar_in, named, fault_on, behind, passing}
 use Rattle.ics_components.specs.Pass.{bottom, unless, at_end, on_line, on_content, pass}
 use Rattle.ics_components.specs.SecondRound.{instant_on, instant_in, both_compared, ends_in}
@@ -69,11 +70,9 @@ ends-sound k (Some a) (Some b) h i =
     (λ e. compared-sound (instant_in k a) (instant_in k b) (instant-sound (zone_used k a) a.stamp h) (instant-sound (zone_used k b) b.stamp i))
 ends-sound k _ _ h i = tt
 
-zone-check : (used : Bool) (name : ZoneName) → IfSome (cond used (Some (check.Zone name)) None) IsSoundCheck
-zone-check used name = cond_both used (Some (check.Zone name)) None (λ o. IfSome o IsSoundCheck) (λ e. tt) (λ e. tt)
-
-event-check : (k : ℕ) (n : Name) (v : Parts) → IfSome (event_check k n v) IsSoundCheck
-event-check k _ v = first_of (search rules, search (rules, zone-check))
+zone-check : (o : Option ZoneName) → IfSome (option_map check.Zone o) IsSoundCheck
+zone-check None = tt
+zone-check (Some name) = tt
 
 -- WHAT IS OPEN, and what ends on a line, is sound, where P holds of the zones that it names.
 abbrev IsSoundBuilder : (DeferredCheck → Type 0) → ℕ → Builder → Type 0
@@ -105,13 +104,13 @@ module _ (P : DeferredCheck → Type 0) where
   fresh-sound k context.Observance = (tt, tt, tt, tt, All-nil IsSoundLocal)
   fresh-sound k _ = tt
 
-  noted-sound : (k : ℕ) (n : Name) (v : Parts) (b : Builder) → IsSoundBuilder P k b → IfSome (builder_check k n v b) P →
-      IsSoundBuilder P k (builder_note n v b) × IfSome (builder_check k n v b) IsSoundCheck
-  noted-sound k n v (builder.Event had) h c = (event-noted P k n v had h c, event-check k n v)
-  noted-sound k name.Tzid v (builder.Zone had) h c = (h, tt)
-  noted-sound k _ v (builder.Zone had) h c = (h, tt)
-  noted-sound k n v (builder.Observance had) h c = (observance-noted n v had h, tt)
-  noted-sound k n v builder.Nothing h c = (tt, tt)
+  noted-sound : (k : ℕ) (n : Name) (v : Parts) (b : Builder) → IsSoundBuilder P k b → IfSome (option_map check.Zone (builder_zone k n v b)) P →
+      IsSoundBuilder P k (builder_note n v b)
+  noted-sound k n v (builder.Event had) h c = event-noted P k n v had h c
+  noted-sound k name.Tzid v (builder.Zone had) h c = h
+  noted-sound k _ v (builder.Zone had) h c = h
+  noted-sound k n v (builder.Observance had) h c = observance-noted n v had h
+  noted-sound k n v builder.Nothing h c = tt
 
   joined-sound : (k m : ℕ) (outer b : Builder) → IsSoundBuilder P m outer → IsSoundBuilder P k b → IsSoundBuilder P m (joined outer b)
   joined-sound k m (builder.Zone outer) (builder.Observance had) o h =
@@ -139,7 +138,7 @@ module _ (P : DeferredCheck → Type 0) where
       let end = ended-sound f.calendar f.builder h.0 (matched (length gs) matches (fault_at_end_of f.builder) none) c in
       ((joined-sound f.calendar g.calendar g.builder f.builder h.1.0 h.0, h.1.1), end.0, end.1)
   step-sound number _ v [] h none c = (tt, tt, tt)
-  step-sound number n v (f ∷ fs) h none c = let noted = noted-sound f.calendar n v f.builder h.0 c in ((noted.0, h.1), tt, noted.1)
+  step-sound number n v (f ∷ fs) h none c = ((noted-sound f.calendar n v f.builder h.0 c, h.1), tt, zone-check (builder_zone f.calendar n v f.builder))
 
 -- WHAT IS GATHERED is sound, where P holds of the zones that its events name.
 abbrev IsSoundEnded : EndedZone → Type 0

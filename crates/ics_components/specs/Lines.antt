@@ -1,6 +1,6 @@
 -- What the reader makes of a line: what it has of the components that are open, or the fault on it, which is the least that stands there.
 -- These are the words of the code alone. No public contract cites them: what a file is stands in Faults and Files, and the proofs show that they agree.
-use Rattle.std.specs.Prelude.{ℕ, Bool, false, ◌&&◌, ◌||◌, not, ◌==◌, nat_le, List, [], ◌∷◌, ◌++◌, length, map, codes, Option, Some, None, is_some}
+use Rattle.std.specs.Prelude.{ℕ, Bool, false, ◌&&◌, ◌||◌, not, ◌==◌, nat_le, List, [], ◌∷◌, ◌++◌, length, map, codes, Option, Some, None, is_some, option_map}
 use Rattle.std.specs.Prelude.{Result, Ok, Err, ◌≡◌, if◌then◌else◌}
 use Rattle.std.specs.List.{list_any}
 use Rattle.std.specs.Option.{option_or}
@@ -39,6 +39,8 @@ use Rattle.ics_components.specs.declared.gathered.Ended.{Ended}
 use Rattle.ics_components.specs.declared.gathered.Ended.TheVariants as ended
 use Rattle.ics_components.specs.declared.gathered.Passed.{Passed}
 use Rattle.ics_components.specs.declared.deferred_check.DeferredCheck.{DeferredCheck}
+use Rattle.ics_components.specs.declared.deferred_check.DeferredCheck.TheVariants.{Zone}
+use Rattle.ics_components.specs.declared.deferred_check.ZoneName.{ZoneName}
 use Rattle.ics_components.specs.declared.name.Name.{Name}
 use Rattle.ics_components.specs.declared.name.Name.TheVariants as name
 use Rattle.ics_components.specs.declared.refused.Refused.{Refused}
@@ -56,7 +58,7 @@ use Rattle.ics_components.specs.Names.{name_of}
 use Rattle.ics_components.specs.Values.{zone_name, stamp_read, dated_of, lasting_of, duration_in, rule_in, ok_or_zero, is_cancelled, is_fine_rule, is_filled}
 use Rattle.ics_components.specs.Values.{ends_badly, is_bad_stamp, is_far_stamp, is_bad_duration, is_large_duration, is_bad_offset, is_large_integer}
 use Rattle.ics_components.specs.Observances.{locals_of, onset_in, offset_in, daily_in}
-use Rattle.ics_components.specs.SecondRound.{used_zone, listed_zone, ends_in}
+use Rattle.ics_components.specs.SecondRound.{zone_in, zone_on, ends_in}
 
 -- WHAT A FUNCTION ANSWERS: a value, where no fault stands there, or the fault; nothing is said where memory is refused.
 abbrev pub Gives : {X : Type 0} → Result X Refused → Option FaultKind → X → Type 0
@@ -129,7 +131,7 @@ dates_fault values =
     else if list_any has_large_duration values then Some kind.NumberTooLarge
     else None
 
--- A LINE OF AN EVENT: its fault, what is collected behind it, and its check in the second round.
+-- A LINE OF AN EVENT: its fault, what is collected behind it, and its time zone, which is to be known.
 -- a value that gives no date
 abbrev pub value_fault : Name → List ℕ → EventBuilder → Option FaultKind
 value_fault name.Uid v had = fault_if kind.Repeated (is_some had.uid)
@@ -169,13 +171,13 @@ event_note name.Rdate c had = record had { rdates = had.rdates ++ list_of listin
 event_note name.Exdate c had = record had { exdates = had.exdates ++ list_of listing.Exdate c.params c.value ∷ [] }
 event_note n c had = value_note n c.value had
 
-abbrev pub event_check : ℕ → Name → Parts → Option DeferredCheck
-event_check k name.Dtstart c = used_zone k (dated_of c.params c.value)
-event_check k name.Dtend c = used_zone k (dated_of c.params c.value)
-event_check k name.RecurrenceId c = used_zone k (dated_of c.params c.value)
-event_check k name.Rdate c = listed_zone k (list_of listing.Rdate c.params c.value)
-event_check k name.Exdate c = listed_zone k (list_of listing.Exdate c.params c.value)
-event_check k _ c = None
+abbrev pub event_zone : ℕ → Name → Parts → Option ZoneName
+event_zone k name.Dtstart c = zone_in k (dated_of c.params c.value)
+event_zone k name.Dtend c = zone_in k (dated_of c.params c.value)
+event_zone k name.RecurrenceId c = zone_in k (dated_of c.params c.value)
+event_zone k name.Rdate c = zone_on k (list_of listing.Rdate c.params c.value)
+event_zone k name.Exdate c = zone_on k (list_of listing.Exdate c.params c.value)
+event_zone k _ c = None
 
 -- A LINE OF A TIME ZONE and of an observance.
 abbrev pub zone_note : Name → Parts → ZoneBuilder → ZoneBuilder
@@ -224,9 +226,9 @@ builder_note n c (builder.Zone had) = builder.Zone (zone_note n c had)
 builder_note n c (builder.Observance had) = builder.Observance (observance_note n c had)
 builder_note n c builder.Nothing = builder.Nothing
 
-abbrev pub builder_check : ℕ → Name → Parts → Builder → Option DeferredCheck
-builder_check k n c (builder.Event had) = event_check k n c
-builder_check k n c _ = None
+abbrev pub builder_zone : ℕ → Name → Parts → Builder → Option ZoneName
+builder_zone k n c (builder.Event had) = event_zone k n c
+builder_zone k n c _ = None
 
 -- WHAT A COMPONENT IS at its END, and its check in the second round.
 abbrev pub end_of_event : EventBuilder → Option FaultKind
@@ -319,7 +321,7 @@ end_in _ f = ended.Nothing
 abbrev pub check_in : Name → Parts → Frame → Option DeferredCheck
 check_in name.Begin c f = None
 check_in name.End c f = end_check f.calendar f.builder
-check_in n c f = builder_check f.calendar n c f.builder
+check_in n c f = option_map Zone (builder_zone f.calendar n c f.builder)
 
 abbrev pub passing : Name → Parts → List Frame → Passed
 passing n c [] = passed ended.Nothing None

@@ -1,5 +1,5 @@
 -- What the second round looks at: the time zones of stamps, and an end against its start (RFC 5545, sections 3.2.19 and 3.8.2.2).
-use Rattle.std.specs.Prelude.{ℕ, Option, Some, None, if◌then◌else◌}
+use Rattle.std.specs.Prelude.{ℕ, Option, Some, None, option_map, if◌then◌else◌}
 use Rattle.std.specs.List.{list_any}
 use Rattle.ics_values.specs.declared.stamp.Stamp.{Stamp}
 use Rattle.ics_values.specs.declared.stamp.Stamp.TheVariants as stamp
@@ -17,11 +17,19 @@ use Rattle.ics_fields.specs.Locals.{local_seconds}
 use Rattle.ics_components.specs.ZoneNames.{zone_used, are_of_one_zone}
 use Rattle.ics_components.specs.Values.{is_out}
 
+-- the time zone of a stamp, and of what a line lists, if there is one
+abbrev pub zone_in : ℕ → Dated → Option ZoneName
+zone_in calendar dated = if is_zoned dated.stamp then Some (zone_used calendar dated) else None
+
+abbrev pub zone_on : ℕ → DateList → Option ZoneName
+zone_on calendar list = if list_any has_zoned list.values then Some (zone_listed calendar list) else None
+
+-- It is to be known.
 abbrev pub used_zone : ℕ → Dated → Option DeferredCheck
-used_zone calendar dated = if is_zoned dated.stamp then Some (check.Zone (zone_used calendar dated)) else None
+used_zone calendar dated = option_map check.Zone (zone_in calendar dated)
 
 abbrev pub listed_zone : ℕ → DateList → Option DeferredCheck
-listed_zone calendar list = if list_any has_zoned list.values then Some (check.Zone (zone_listed calendar list)) else None
+listed_zone calendar list = option_map check.Zone (zone_on calendar list)
 
 abbrev pub used_in : ℕ → Option Dated → Option DeferredCheck
 used_in calendar None = None

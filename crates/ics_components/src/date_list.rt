@@ -4,12 +4,12 @@ ghost use Rattle.std.specs.List.{list_any};
 ghost use Rattle.ics_components.specs.DateLists.{list_of};
 ghost use Rattle.ics_components.specs.DateValues.{has_zoned, local_in, values_of};
 ghost use Rattle.ics_components.specs.Lines.{Notes, dates_fault};
-ghost use Rattle.ics_components.specs.SecondRound.{listed_zone};
+ghost use Rattle.ics_components.specs.SecondRound.{zone_on};
 ghost use Rattle.ics_components.specs.Values.{zone_name};
 
 use crate::date_values::Listing;
 use crate::dated::zone_name;
-use crate::deferred_check::{DeferredCheck, ZoneName};
+use crate::deferred_check::ZoneName;
 use crate::refused::Refused;
 use crate::tzid::{Tzid, Tzids};
 use ics_text::Content;
@@ -96,19 +96,18 @@ impl Dates {
 
 impl DateList {
     /// The time zone of the stamps, which is to be known.
-    fn used_zone(&self, calendar: u64) -> Result<Option<DeferredCheck>, AllocError>
-        ensures { IfOk result (λ check. check ≡ listed_zone calendar self.now) }
+    fn used_zone(&self, calendar: u64) -> Result<Option<ZoneName>, AllocError>
+        ensures { IfOk result (λ zone. zone ≡ zone_on calendar self.now) }
     {
         if !self.values.have_zoned() {
             return Ok(None);
         }
-        let name = ZoneName::shared(calendar, &self.zone)?;
-        Ok(Some(DeferredCheck::Zone(name)))
+        Ok(Some(ZoneName::shared(calendar, &self.zone)?))
     }
 }
 
 impl DateLists {
-    /// Adds what a line of that calendar lists, and gives the check of its time zone.
+    /// Adds what a line of that calendar lists, and gives the time zone of its stamps, if one has one.
     pub(crate) fn add_line(
         &mut self,
         alloc: Global,
@@ -116,19 +115,19 @@ impl DateLists {
         calendar: u64,
         listing: Listing,
         content: &Content<'_>,
-    ) -> Result<Option<DeferredCheck>, Refused>
+    ) -> Result<Option<ZoneName>, Refused>
         ensures { Notes result self.new (dates_fault (values_of listing (is_some (zone_name content.now.params)) content.now.value))
             (self.old ++ list_of listing content.now.params content.now.value ∷ [])
-            (listed_zone calendar (list_of listing content.now.params content.now.value)) }
+            (zone_on calendar (list_of listing content.now.params content.now.value)) }
     {
         let zone = zone_name(alloc, tzids, content)?;
         let values = Dates::read(alloc, listing, content.value(), zone.is_some())?;
         let list = DateList { values, zone };
-        let check = list.used_zone(calendar)?;
+        let used = list.used_zone(calendar)?;
         if let Err(error) = self.lists.push(list) {
-            drop(check);
+            drop(used);
             return Err(Refused::from(error));
         }
-        Ok(check)
+        Ok(used)
     }
 }

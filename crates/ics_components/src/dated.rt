@@ -2,10 +2,10 @@
 ghost use Rattle.std.specs.Prelude.{◌≡◌, IfOk, IfErr, Ok, Some};
 ghost use Rattle.ics_values.specs.Stamps.{stamp_of};
 ghost use Rattle.ics_components.specs.Lines.{Gives, stamp_judged, stamp_fault_of};
-ghost use Rattle.ics_components.specs.SecondRound.{used_zone, instant_in};
+ghost use Rattle.ics_components.specs.SecondRound.{zone_in, instant_in};
 ghost use Rattle.ics_components.specs.Values.{dated_of, stamp_read, tzid, zone_name};
 
-use crate::deferred_check::{DeferredCheck, Instant, ZoneName};
+use crate::deferred_check::{Instant, ZoneName};
 use crate::fault::FaultKind;
 use crate::refused::Refused;
 use crate::tzid::{Tzid, Tzids};
@@ -63,14 +63,13 @@ impl Dated {
     }
 
     /// The time zone of the stamp, if it has one, which is to be known.
-    pub(crate) fn used_zone(&self, calendar: u64) -> Result<Option<DeferredCheck>, AllocError>
-        ensures { IfOk result (λ check. check ≡ used_zone calendar self.now) }
+    pub(crate) fn used_zone(&self, calendar: u64) -> Result<Option<ZoneName>, AllocError>
+        ensures { IfOk result (λ zone. zone ≡ zone_in calendar self.now) }
     {
         if !is_zoned(self.stamp) {
             return Ok(None);
         }
-        let name = ZoneName::shared(calendar, &self.zone)?;
-        Ok(Some(DeferredCheck::Zone(name)))
+        Ok(Some(ZoneName::shared(calendar, &self.zone)?))
     }
 
     /// The name that its TZID gives.

@@ -5,16 +5,16 @@ ghost use Rattle.ics_values.specs.Plain.{text_of};
 ghost use Rattle.ics_components.specs.declared.fault.FaultKind.TheVariants.{Repeated};
 ghost use Rattle.ics_components.specs.Builders.{collected_of, event_ended};
 ghost use Rattle.ics_components.specs.GivenTimes.{dated_in};
-ghost use Rattle.ics_components.specs.Lines.{Gives, Notes, fault_if, stamp_fault_of, event_fault, event_note, event_check};
+ghost use Rattle.ics_components.specs.Lines.{Gives, Notes, fault_if, stamp_fault_of, event_fault, event_note, event_zone};
 ghost use Rattle.ics_components.specs.Lines.{Keeps, value_fault, value_note, end_of_event, passed};
 ghost use Rattle.ics_components.specs.declared.gathered.Ended.TheVariants.{Event};
-ghost use Rattle.ics_components.specs.SecondRound.{used_zone, ends_in};
+ghost use Rattle.ics_components.specs.SecondRound.{zone_in, ends_in};
 ghost use Rattle.ics_components.specs.Values.{dated_of, stamp_read};
 
 use crate::date_list::DateLists;
 use crate::date_values::Listing;
 use crate::dated::Dated;
-use crate::deferred_check::DeferredCheck;
+use crate::deferred_check::{DeferredCheck, ZoneName};
 use crate::ends::{ends_badly, ends_in, lasting};
 use crate::fault::FaultKind;
 use crate::gathered::{Ended, EndedEvent, GivenLength, Passed};
@@ -55,24 +55,24 @@ pub fn once<T: Drop>(kept: &mut Option<T>, value: T, twice: FaultKind) -> Result
     Ok(())
 }
 
-/// Puts the stamp of a property of that calendar that stands only once, and gives the check of its time zone.
+/// Puts the stamp of a property of that calendar that stands only once, and gives its time zone, if it has one.
 fn put_date(
     kept: &mut Option<Dated>,
     alloc: Global,
     tzids: &mut Tzids,
     calendar: u64,
     content: &Content<'_>,
-) -> Result<Option<DeferredCheck>, Refused>
+) -> Result<Option<ZoneName>, Refused>
     ensures { Notes result kept.new (option_or (stamp_fault_of (stamp_read content.now.params content.now.value)) (fault_if Repeated (is_some kept.old)))
-        (option_or kept.old (Some (dated_of content.now.params content.now.value))) (used_zone calendar (dated_of content.now.params content.now.value)) }
+        (option_or kept.old (Some (dated_of content.now.params content.now.value))) (zone_in calendar (dated_of content.now.params content.now.value)) }
 {
     let dated = Dated::read(alloc, tzids, content)?;
-    let check = dated.used_zone(calendar)?;
+    let zone = dated.used_zone(calendar)?;
     if let Err(refused) = once(kept, dated, FaultKind::Repeated) {
-        drop(check);
+        drop(zone);
         return Err(refused);
     }
-    Ok(check)
+    Ok(zone)
 }
 
 /// Keeps the first text of several.
@@ -138,7 +138,7 @@ impl EventBuilder {
         }
     }
 
-    /// One line more of an event in that calendar. A stamp in a time zone gives a check for the second round.
+    /// One line more of an event in that calendar, and the time zone of its stamps, if one has one.
     pub fn line(
         &mut self,
         alloc: Global,
@@ -146,19 +146,19 @@ impl EventBuilder {
         calendar: u64,
         name: Name,
         content: &Content<'_>,
-    ) -> Result<Option<DeferredCheck>, Refused>
+    ) -> Result<Option<ZoneName>, Refused>
         ensures { Notes result self.new (event_fault name content.now self.old) (event_note name content.now self.old)
-            (event_check calendar name content.now) }
+            (event_zone calendar name content.now) }
     {
         match name {
             Name::Dtstart => put_date(&mut self.start, alloc, tzids, calendar, content),
             Name::Dtend => put_date(&mut self.end, alloc, tzids, calendar, content),
             Name::RecurrenceId => {
-                let check = put_date(&mut self.recurrence, alloc, tzids, calendar, content)?;
+                let zone = put_date(&mut self.recurrence, alloc, tzids, calendar, content)?;
                 if content.param(b"RANGE").is_some() {
                     return Err(Refused::Fault(FaultKind::ThisAndFuture));
                 }
-                Ok(check)
+                Ok(zone)
             }
             Name::Rdate => {
                 self.rdates

@@ -1,11 +1,11 @@
 //! A component that is open.
 ghost use Rattle.std.specs.Prelude.{map};
 ghost use Rattle.ics_text.specs.Bytes.{upper};
-ghost use Rattle.ics_components.specs.Lines.{Notes, frame_fault, joined, passed, ended_as, end_check, builder_fault, builder_note, builder_check};
+ghost use Rattle.ics_components.specs.Lines.{Notes, frame_fault, joined, passed, ended_as, end_check, builder_fault, builder_note, builder_zone};
 
 use crate::builder::Builder;
 use crate::component::{Component, Context};
-use crate::deferred_check::DeferredCheck;
+use crate::deferred_check::ZoneName;
 use crate::event_builder::once;
 use crate::fault::FaultKind;
 use crate::gathered::Passed;
@@ -26,17 +26,17 @@ pub struct Frame {
 }
 
 impl Frame {
-    /// One line more that begins and ends no component, with the check that it leaves to the second round.
+    /// One line more that begins and ends no component, and the time zone that is to be known for it.
     pub fn line(
         &mut self,
         alloc: Global,
         tzids: &mut Tzids,
         name: Name,
         content: &Content<'_>,
-    ) -> Result<Option<DeferredCheck>, Refused>
+    ) -> Result<Option<ZoneName>, Refused>
         ensures { Notes result self.new (builder_fault self.old.context name content.now self.old.builder)
             (record self.old { builder = builder_note name content.now self.old.builder })
-            (builder_check self.old.calendar name content.now self.old.builder) }
+            (builder_zone self.old.calendar name content.now self.old.builder) }
     {
         match &mut self.builder {
             Builder::Event(had) => had.line(alloc, tzids, self.calendar, name, content),

@@ -1,7 +1,8 @@
 //! What is gathered of a file, before its time zones and its events are made of it.
-ghost use Rattle.std.specs.Prelude.{◌≡◌, IfOk, None};
+ghost use Rattle.std.specs.Prelude.{◌≡◌, IfOk, None, option_map};
 ghost use Rattle.ics_components.specs.Gathered.{and_ended, and_passed};
 ghost use Rattle.ics_components.specs.Lines.{passed};
+ghost use Rattle.ics_components.specs.declared.deferred_check.DeferredCheck.TheVariants.{Zone};
 ghost use Rattle.ics_components.specs.declared.gathered.Ended.TheVariants.{Nothing};
 
 use crate::date_list::DateLists;
@@ -110,18 +111,14 @@ impl Gathered {
         Ok(())
     }
 
-    /// Adds the check of the line with that number, if it leaves one.
-    pub(crate) fn check(
-        &mut self,
-        number: u64,
-        check: Option<DeferredCheck>,
-    ) -> Result<(), AllocError>
-        ensures { IfOk result (λ _. self.new ≡ and_passed number (passed Nothing check) self.old) }
+    /// Adds that the time zone on the line with that number is to be known, if there is one.
+    pub(crate) fn zone(&mut self, number: u64, zone: Option<ZoneName>) -> Result<(), AllocError>
+        ensures { IfOk result (λ _. self.new ≡ and_passed number (passed Nothing (option_map Zone zone)) self.old) }
     {
-        if let Some(check) = check {
+        if let Some(name) = zone {
             self.checks.push(LineCheck {
                 line: number,
-                check,
+                check: DeferredCheck::Zone(name),
             })?;
         }
         Ok(())
@@ -136,6 +133,12 @@ impl Gathered {
             drop(check);
             return Err(error);
         }
-        self.check(number, check)
+        if let Some(check) = check {
+            self.checks.push(LineCheck {
+                line: number,
+                check,
+            })?;
+        }
+        Ok(())
     }
 }

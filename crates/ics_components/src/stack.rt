@@ -129,8 +129,8 @@ impl Stack {
             Name::Begin => self.begin(alloc, number, content),
             Name::End => self.end(alloc, gathered, number, content),
             name => {
-                let check = self.top.line(alloc, &mut self.tzids, name, content)?;
-                gathered.check(number, check)?;
+                let zone = self.top.line(alloc, &mut self.tzids, name, content)?;
+                gathered.zone(number, zone)?;
                 Ok(())
             }
         }
