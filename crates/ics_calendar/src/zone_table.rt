@@ -11,7 +11,7 @@ use crate::zone::zone_of;
 use crate::zone_files::{ZoneFiles, put_first};
 use ics_components::{EndedZone, Tzid, ZoneName};
 use ics_values::{Local, Moment};
-use ics_zone::{Place, Zone, ZoneFile};
+use ics_zone::{Place, Zone};
 use std::alloc::{AllocError, Global};
 use std::collections::{BTreeMap, BTreeSet};
 

@@ -1,6 +1,6 @@
 -- What is gathered is sound, where the first round finds nothing: each line keeps what is open and what is gathered so.
 use Rattle.std.proofs.Common.{◌≡◌, ℕ, suc, ◌==◌, length, Bool, List, [], ◌∷◌, ◌++◌, map, refl, cond, Option, Some, None, IfSome, IfOk, Result, Ok, Err}
-use Rattle.std.proofs.Common.{rules, arith}
+use Rattle.std.proofs.Common.{arith}
 use Rattle.std.specs.Prelude.{option_map}
 use Rattle.std.specs.List.{All, Contains}
 use Rattle.std.specs.Str.{bytes_eq}
