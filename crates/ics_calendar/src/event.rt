@@ -1,5 +1,5 @@
 //! The events of a file, made of what is gathered of them (RFC 5545, section 3.6.1).
-ghost use Rattle.std.specs.Prelude.{◌≡◌, option_map, IfOk};
+ghost use Rattle.std.specs.Prelude.{◌≡◌, IfOk};
 ghost use Rattle.ics_calendar.specs.Ready.{IsReady};
 ghost use Rattle.ics_calendar.specs.Settled.{event_of};
 ghost use Rattle.ics_calendar.specs.Times.{time_on, length_of};
@@ -21,13 +21,6 @@ fn time_on(table: &ZoneTable, calendar: u64, dated: Dated) -> Time
     }
     let zone = table.index(&ZoneName::of(calendar, dated.zone));
     Time { stamp, zone }
-}
-
-/// The time of a RECURRENCE-ID, if there is one.
-fn recurrence_of(table: &ZoneTable, calendar: u64, recurrence: Option<Dated>) -> Option<Time>
-    ensures { result ≡ option_map (time_on (known_by table.now).index calendar) recurrence }
-{
-    Some(time_on(table, calendar, recurrence?))
 }
 
 fn length_of(table: &ZoneTable, calendar: u64, length: GivenLength) -> Length
@@ -52,7 +45,9 @@ pub fn event_of(alloc: Global, table: &ZoneTable, ended: EndedEvent) -> Result<E
         rule: parts_of(ended.rule),
         rdates: listed_of(alloc, table, calendar, ended.rdates)?,
         exdates: listed_of(alloc, table, calendar, ended.exdates)?,
-        recurrence: recurrence_of(table, calendar, ended.recurrence),
+        recurrence: ended
+            .recurrence
+            .map(|dated| time_on(table, calendar, dated)),
         uid: ended.uid,
         sequence: ended.sequence,
         title: ended.title,
