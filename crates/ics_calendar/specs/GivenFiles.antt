@@ -26,23 +26,17 @@ abbrev pub zone_in : Option (Option TzifText) → Option ZoneSaid
 zone_in (Some (Some file)) = Some (ZoneSaid.ByFile file)
 zone_in _ = None
 
-abbrev pub zone_given : GivenFiles → List ℕ → Option ZoneSaid
-zone_given files name = zone_in (files name)
-
 -- what is given is no zone file
 abbrev pub is_refused : Option (Option TzifText) → Bool
 is_refused (Some None) = true
 is_refused _ = false
 
-abbrev pub is_bad_file : GivenFiles → List ℕ → Bool
-is_bad_file files name = is_refused (files name)
-
 -- of some names, those that a file gives a zone for, these zones, and the names for which a file is given that is no zone file
 abbrev pub given_names : GivenFiles → List (List ℕ) → List (List ℕ)
-given_names files names = filter (λ name. is_some (zone_given files name)) names
+given_names files names = filter (λ name. is_some (zone_in (files name))) names
 
 abbrev pub given_zones : GivenFiles → List (List ℕ) → List ZoneSaid
-given_zones files names = filter_map (zone_given files) names
+given_zones files names = filter_map (λ name. zone_in (files name)) names
 
 abbrev pub bad_names : GivenFiles → List (List ℕ) → List (List ℕ)
-bad_names files names = filter (is_bad_file files) names
+bad_names files names = filter (λ name. is_refused (files name)) names

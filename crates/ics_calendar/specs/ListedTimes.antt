@@ -1,6 +1,5 @@
 -- What the lines of RDATE and EXDATE list, each value in the zone that its line names (RFC 5545, sections 3.8.5.1 and 3.8.5.2).
 use Rattle.std.specs.Prelude.{ℕ, List, map, flat_map, Option}
-use Rattle.ics_values.specs.declared.stamp.Stamp.{Stamp}
 use Rattle.ics_components.specs.declared.date_list.DateList.{DateList}
 use Rattle.ics_components.specs.declared.date_list.ListedDate.{ListedDate}
 use Rattle.ics_components.specs.declared.date_list.ListedDate.TheVariants as listed
@@ -18,14 +17,11 @@ rdate_in zone (listed.At stamp) = At (time_in zone stamp)
 rdate_in zone (listed.Between start end) = Span (time_in zone start) (Until (time_in zone end))
 rdate_in zone (listed.Lasting start duration) = Span (time_in zone start) (Lasting duration)
 
--- its stamp, or its first
-abbrev pub first_stamp : ListedDate → Stamp
-first_stamp (listed.At stamp) = stamp
-first_stamp (listed.Between start end) = start
-first_stamp (listed.Lasting start duration) = start
-
+-- in an EXDATE its stamp, or its first
 abbrev pub exdate_in : Option ℕ → ListedDate → Time
-exdate_in zone v = time_in zone (first_stamp v)
+exdate_in zone (listed.At stamp) = time_in zone stamp
+exdate_in zone (listed.Between start end) = time_in zone start
+exdate_in zone (listed.Lasting start duration) = time_in zone start
 
 -- THE VALUES of some lines of a calendar, in their order, given what a value says and the index of the zone that a name stands for.
 abbrev pub listed_by : {T : Type 0} → (Option ℕ → ListedDate → T) → (ZoneName → Option ℕ) → ℕ → List DateList → List T
