@@ -26,7 +26,7 @@ use Rattle.ics_components.specs.declared.deferred_check.DeferredCheck.{DeferredC
 use Rattle.ics_components.specs.declared.deferred_check.ZoneName.{ZoneName}
 use Rattle.ics_event.specs.Event.{is_zoned, IsTime, IsWithin, IsEnd, IsLasting, IsLength, IsRdate, IsEvent, EndsBelow, RdateBelow}
 use Rattle.ics_event.specs.Event.{time_in, TimeBelow, EndsWithin, IsEventOf, AreEventsOf, compared, moment_in}
-use Rattle.ics_calendar.specs.Settled.{event_of}
+use Rattle.ics_calendar.specs.Settled.{event_of, IsReady}
 use Rattle.ics_components.specs.DateLists.{zone_listed}
 use Rattle.ics_calendar.specs.ListedTimes.{rdate_in, exdate_in, listed_by}
 use Rattle.ics_components.specs.DateValues.{has_zoned}
@@ -34,7 +34,6 @@ use Rattle.ics_calendar.specs.DeferredChecks.{KnownZones, judged, moment_there, 
 use Rattle.ics_components.specs.ZoneNames.{zone_named, zone_used}
 use Rattle.ics_event.specs.declared.time.Rdate.{Rdate}
 use Rattle.ics_components.specs.SecondRound.{used_zone, used_in, listed_zone, instant_on, both_compared, ends_in}
-use Rattle.ics_calendar.specs.Ready.{IsReady}
 use Rattle.ics_components.specs.Sound.{end_of, IsSoundStamp, IsSoundLength, IsSoundValue, IsSoundList}
 use Rattle.ics_calendar.specs.Times.{time_on, length_of}
 use Rattle.ics_components.specs.Values.{is_lasting, is_out, is_bad_end}

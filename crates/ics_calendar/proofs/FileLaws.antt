@@ -132,4 +132,4 @@ only-wanted files others file =
   where
     by_draft : (g : Result GatheredSeen Fault) → All (λ name. files name ≡ others name) (draft_by g).wants → (draft_by g).says files ≡ (draft_by g).says others
     by_draft (Err fault) h = refl
-    by_draft (Ok g) h = ap (λ known. settled_by known g.events g.checks) (with-agreed (known_in g) files others (draft_by (Ok g)).wants h)
+    by_draft (Ok g) h = ap (λ known. settled_by known g.events g.checks) (with-agreed (known_in g.zones) files others (draft_by (Ok g)).wants h)

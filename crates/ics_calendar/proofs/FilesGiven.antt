@@ -16,7 +16,7 @@ use Rattle.std.proofs.lemmas.List.Elements.{All-head, All-tail}
 use Rattle.std.proofs.lemmas.List.Quantifiers.{position-Some}
 use Rattle.ics_zone.specs.ZoneSaid.{ZoneSaid}
 use Rattle.ics_components.specs.declared.deferred_check.ZoneName.{ZoneName}
-use Rattle.ics_calendar.specs.DeferredChecks.{KnownZones, known_zones, is_same, zone_index, with_files}
+use Rattle.ics_calendar.specs.DeferredChecks.{KnownZones, known_zones, is_same, with_files}
 use Rattle.ics_calendar.specs.Drafts.{IsTable}
 use Rattle.ics_calendar.specs.GivenFiles.{GivenFiles, no_files, given_names, given_zones}
 use Rattle.ics_calendar.specs.ZoneTables.{name_cmp}
@@ -79,7 +79,7 @@ if-some (Some i) h = h i refl
 
 pub table-known : (names : List ZoneName) (zones : List ZoneSaid) → length names ≡ length zones → IsTable (known_zones names zones)
 table-known names zones long = record {
-  below = λ used. if-some (zone_index names used) (λ i e. subst (λ n. i < n) long (position-Some (is_same used) names i used e).0);
+  below = λ used. if-some ((known_zones names zones).index used) (λ i e. subst (λ n. i < n) long (position-Some (is_same used) names i used e).0);
   single = λ a b i e f.
       let at : List ℕ = (get_or names i a).name in
       grind (arith, position-Some (is_same a) names i a, position-Some (is_same b) names i a, (bytes_decides a.name at).0, (bytes_decides b.name at).0);

@@ -82,7 +82,7 @@ module _ (lines : List Line) (r : Rises 0 lines) (first : first_fault (placed_fr
   gathered = gathered_from whole nothing_gathered [] whole
 
   -- WHAT THE DRAFT SAYS: what is wanted, and what is settled with zone files.
-  pub draft-is : drafted (known_in gathered) gathered.events gathered.checks
+  pub draft-is : drafted (known_in gathered.zones) gathered.events gathered.checks
       ≡ record { wants = each_once (unknown_names whole); says = λ files. decide None (later_fault files whole) (said_of files whole) }
   draft-is =
       let placed : IsPlaced whole [] [] 0 lines = record { parts = refl; falls = tt; inner = omega arith; rises = r } in

@@ -6,14 +6,13 @@ use Rattle.std.proofs.lemmas.List.Elements.{All-nil, All-cons, All-contains}
 use Rattle.ics_zone.specs.ZoneSaid.{ZoneSaid}
 use Rattle.ics_components.specs.declared.gathered.EndedEvent.{EndedEvent}
 use Rattle.ics_components.specs.declared.gathered.LineCheck.{LineCheck}
-use Rattle.ics_calendar.specs.Settled.{event_of, known_in, first_judged}
+use Rattle.ics_calendar.specs.Settled.{event_of, known_in, first_judged, IsReady}
 use Rattle.ics_event.specs.Event.{AreEventsOf}
 use Rattle.ics_components.specs.Gathered.{IsSoundGathered}
 use Rattle.ics_components.specs.GatheredSeen.{GatheredSeen}
 use Rattle.ics_calendar.specs.DeferredChecks.{KnownZones, judged, with_files}
 use Rattle.ics_calendar.specs.Drafts.{IsSoundDraft}
 use Rattle.ics_calendar.specs.GivenFiles.{GivenFiles}
-use Rattle.ics_calendar.specs.Ready.{IsReady}
 use Rattle.ics_calendar.proofs.EventSound.{events-of}
 use Rattle.ics_calendar.proofs.FilesGiven.{table-known, table-with}
 use Rattle.ics_components.proofs.Listed.{each-weaker}
@@ -39,7 +38,7 @@ module _ (known : KnownZones) (ended : List EndedEvent) (ws : List LineCheck) (s
   events-here = events-of known s.table ended ready
 
 -- A DRAFT is sound where what is gathered is, and stays so with zone files.
-pub draft-sound : (g : GatheredSeen) → IsSoundGathered g → IsSoundDraft (known_in g) g.events g.checks
+pub draft-sound : (g : GatheredSeen) → IsSoundGathered g → IsSoundDraft (known_in g.zones) g.events g.checks
 draft-sound g s = record {
   table =
       table-known (map (λ z. z.name) g.zones) (map (λ z. ZoneSaid.ByObservances z.observances) g.zones)

@@ -23,7 +23,7 @@ use Rattle.ics_calendar.proofs.Settles.{draft-is}
 
 -- THE DRAFT OF A FILE, by what its first round gathers or finds.
 abbrev pub draft_by : Result GatheredSeen Fault → DraftSaid
-draft_by (Ok g) = drafted (known_in g) g.events g.checks
+draft_by (Ok g) = drafted (known_in g.zones) g.events g.checks
 draft_by (Err fault) = record { wants = []; says = λ files. Err fault }
 
 pub gathered : (file : List ℕ) → Rises 0 (unfolded file) → draft_of file ≡ draft_by (gathered_of file)

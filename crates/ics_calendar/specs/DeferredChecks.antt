@@ -26,18 +26,15 @@ use Rattle.ics_components.specs.ZoneNames.{zone_used, are_of_one_zone}
 abbrev pub is_same : ZoneName → ZoneName → Bool
 is_same a b = a.calendar == b.calendar && bytes_eq a.name b.name
 
--- Of several zones with one TZID in one calendar the first counts.
-abbrev pub zone_index : List ZoneName → ZoneName → Option ℕ
-zone_index names used = position (is_same used) names
-
 -- The time zones of a file, the index of the one that a name stands for, and the names for which a file is given that is no zone file.
 pub record KnownZones : Type 0 where
   pub index : ZoneName → Option ℕ
   pub zones : List ZoneSaid
   pub is_bad : List ℕ → Bool
 
+-- Of several zones with one TZID in one calendar the first counts.
 abbrev pub known_zones : List ZoneName → List ZoneSaid → KnownZones
-known_zones names zones = record { index = zone_index names; zones = zones; is_bad = λ name. false }
+known_zones names zones = record { index = λ used. position (is_same used) names; zones = zones; is_bad = λ name. false }
 
 -- The time zones of a file, and behind them those of the zone files for the names that it wants. A VTIMEZONE goes first.
 abbrev pub with_files : KnownZones → GivenFiles → List (List ℕ) → KnownZones
@@ -47,12 +44,9 @@ with_files known files names = record {
   is_bad = λ name. known.is_bad name || list_any (bytes_eq name) (bad_names files names);
 }
 
--- the instant that a local means in the zone with an index, and in the one that a name stands for
-abbrev pub moment_at : List ZoneSaid → Local → ℕ → Option ℤ
-moment_at zones local index = option_map (λ zone. said_moment zone (local_seconds local)) (slice_get zones index)
-
+-- the instant that a local means in the zone that a name stands for
 abbrev pub moment_there : KnownZones → ZoneName → Local → Option ℤ
-moment_there known name local = option_and_then (moment_at known.zones local) (known.index name)
+moment_there known name local = option_map (λ zone. said_moment zone (local_seconds local)) (option_and_then (slice_get known.zones) (known.index name))
 
 -- out of reach as instants, where there are both
 abbrev pub are_out : Option ℤ → Option ℤ → Bool

@@ -19,7 +19,6 @@ pub mod Wanted
 pub mod Times
 pub mod ListedTimes
 pub mod Files
-pub mod Ready
 pub mod Settled
 pub mod ZoneTables
 pub mod Drafts

@@ -1,11 +1,12 @@
 -- What a file is by what is gathered of it, where the first round finds nothing.
-use Rattle.std.specs.Prelude.{ℕ, List, [], ◌∷◌, Option, None, map, filter_map, option_map, Result}
+use Rattle.std.specs.Prelude.{◌≡◌, ℕ, List, [], ◌∷◌, Option, None, map, filter_map, option_map, Result}
 use Rattle.ics_zone.specs.ZoneSaid.{ZoneSaid}
 use Rattle.ics_components.specs.declared.gathered.EndedEvent.{EndedEvent}
+use Rattle.ics_components.specs.declared.gathered.EndedZone.{EndedZone}
 use Rattle.ics_components.specs.declared.gathered.LineCheck.{LineCheck}
 use Rattle.ics_components.specs.declared.deferred_check.ZoneName.{ZoneName}
-use Rattle.ics_components.specs.GatheredSeen.{GatheredSeen}
 use Rattle.ics_components.specs.declared.fault.Fault.{Fault}
+use Rattle.ics_components.specs.Sound.{EachZone, IsWhole}
 use Rattle.ics_components.specs.FirstFault.{found}
 use Rattle.ics_event.specs.Event.{EventSeen, FileSaid}
 use Rattle.ics_calendar.specs.DeferredChecks.{KnownZones, known_zones, with_files, judged, unknown_in}
@@ -14,13 +15,19 @@ use Rattle.ics_calendar.specs.ListedTimes.{rdates_by, exdates_by}
 use Rattle.ics_calendar.specs.Times.{time_on, length_of}
 use Rattle.ics_calendar.specs.Wanted.{each_once}
 
-abbrev pub known_in : GatheredSeen → KnownZones
-known_in g = known_zones (map (λ z. z.name) g.zones) (map (λ z. ZoneSaid.ByObservances z.observances) g.zones)
+-- the time zones that have ended
+abbrev pub known_in : List EndedZone → KnownZones
+known_in zones = known_zones (map (λ z. z.name) zones) (map (λ z. ZoneSaid.ByObservances z.observances) zones)
 
 -- the first of the deferred checks that finds a fault
 abbrev pub first_judged : KnownZones → List LineCheck → Option Fault
 first_judged known [] = None
 first_judged known (w ∷ ws) = found w.line (judged known w.check) (first_judged known ws)
+
+-- An event that no fault of either round stands on.
+pub record IsReady (known : KnownZones) (event : EndedEvent) : Type 0 where
+  pub whole : IsWhole event
+  pub zones : EachZone (λ l. judged known l ≡ None) event
 
 -- the event, given the index of the zone that a name stands for
 abbrev pub event_of : (ZoneName → Option ℕ) → EndedEvent → EventSeen

@@ -3,8 +3,7 @@ ghost use Rattle.std.specs.Prelude.{◌≡◌, ◌≤◌, length, map, IfOk, IfE
 ghost use Rattle.std.specs.List.{All};
 ghost use Rattle.ics_calendar.specs.Drafts.{draft_said, IsFaultOf};
 ghost use Rattle.ics_calendar.specs.Files.{draft_of, SaysFile};
-ghost use Rattle.ics_calendar.specs.Ready.{IsReady};
-ghost use Rattle.ics_calendar.specs.Settled.{event_of};
+ghost use Rattle.ics_calendar.specs.Settled.{event_of, IsReady};
 ghost use Rattle.ics_calendar.specs.ZoneTables.{given_by, known_by};
 
 use crate::event::event_of;

@@ -1,7 +1,6 @@
 //! The events of a file, made of what is gathered of them (RFC 5545, section 3.6.1).
 ghost use Rattle.std.specs.Prelude.{◌≡◌, IfOk};
-ghost use Rattle.ics_calendar.specs.Ready.{IsReady};
-ghost use Rattle.ics_calendar.specs.Settled.{event_of};
+ghost use Rattle.ics_calendar.specs.Settled.{event_of, IsReady};
 ghost use Rattle.ics_calendar.specs.Times.{time_on, length_of};
 ghost use Rattle.ics_calendar.specs.ZoneTables.{known_by};
 

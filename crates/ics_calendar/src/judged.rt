@@ -17,7 +17,7 @@ fn moment_of(table: &ZoneTable, instant: &Instant) -> Option<Moment>
 {
     match instant {
         Instant::Utc(local) => Some(local.seconds()),
-        Instant::Zoned(local, name) => table.moment_at(*local, table.index(name)?),
+        Instant::Zoned(local, name) => table.moment(*local, name),
     }
 }
 

@@ -2,8 +2,9 @@
 ghost use Rattle.std.specs.Prelude.{◌≡◌, ◌∷◌, [], map, IfOk, OnOk};
 ghost use Rattle.std.specs.List.{All};
 ghost use Rattle.ics_fields.specs.Days.{IsStampDay};
-ghost use Rattle.ics_zone.specs.ZoneSaid.{ZoneSaid, zone_said};
-ghost use Rattle.ics_calendar.specs.DeferredChecks.{moment_at, known_zones, with_files};
+ghost use Rattle.ics_zone.specs.ZoneSaid.{zone_said};
+ghost use Rattle.ics_calendar.specs.DeferredChecks.{moment_there, with_files};
+ghost use Rattle.ics_calendar.specs.Settled.{known_in};
 ghost use Rattle.ics_components.specs.Sound.{IsSoundZone};
 ghost use Rattle.ics_calendar.specs.ZoneTables.{known_by, given_by};
 
@@ -35,8 +36,7 @@ impl ZoneTable {
     /// These zones, where no fault stands on their lines. Of several with one name the first counts.
     pub fn new(alloc: Global, zones: Vec<EndedZone>) -> Result<ZoneTable, AllocError>
         requires { All (λ z. IsSoundZone z.observances) zones.items }
-        ensures { IfOk result (λ table. known_by table
-            ≡ known_zones (map (λ z. z.name) zones.items) (map (λ z. ZoneSaid.ByObservances z.observances) zones.items)) }
+        ensures { IfOk result (λ table. known_by table ≡ known_in zones.items) }
     {
         let mut places = BTreeMap::new(alloc);
         let mut made = Vec::new(alloc);
@@ -98,12 +98,13 @@ impl ZoneTable {
         self.refused.contains(name)
     }
 
-    /// The instant that a local means in the zone with that index, if there is one.
-    pub fn moment_at(&self, local: Local, index: u32) -> Option<Moment>
+    /// The instant that a local means in the zone of that name, if it is known.
+    pub fn moment(&self, local: Local, name: &ZoneName) -> Option<Moment>
         requires { IsStampDay local.day }
-        ensures { result ≡ moment_at (known_by self.now).zones local index }
+        ensures { result ≡ moment_there (known_by self.now) name.now local }
     {
-        Some(self.zones.get(index as usize)?.moment(local))
+        let place = self.index(name)? as usize;
+        Some(self.zones.get(place)?.moment(local))
     }
 
     /// The zones.
