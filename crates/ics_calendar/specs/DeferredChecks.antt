@@ -6,8 +6,6 @@ use Rattle.std.specs.List.{position, position_from, list_any}
 use Rattle.std.specs.Option.{option_and_then, option_or}
 use Rattle.std.specs.Str.{bytes_eq}
 use Rattle.ics_fields.specs.declared.local.Local.{Local}
-use Rattle.ics_values.specs.declared.stamp.Stamp.{Stamp}
-use Rattle.ics_values.specs.declared.stamp.Stamp.TheVariants as stamp
 use Rattle.ics_zone.specs.ZoneSaid.{ZoneSaid, said_moment}
 use Rattle.ics_components.specs.declared.dated.Dated.{Dated}
 use Rattle.ics_components.specs.declared.fault.FaultKind.{FaultKind}
@@ -20,7 +18,8 @@ use Rattle.ics_components.specs.declared.deferred_check.ZoneName.{ZoneName}
 use Rattle.ics_fields.specs.Locals.{local_seconds}
 use Rattle.ics_calendar.specs.GivenFiles.{GivenFiles, given_names, given_zones, bad_names}
 use Rattle.ics_components.specs.Values.{is_out}
-use Rattle.ics_components.specs.ZoneNames.{zone_used, are_of_one_zone}
+use Rattle.ics_components.specs.SecondRound.{instant_in}
+use Rattle.ics_components.specs.ZoneNames.{are_of_one_zone}
 
 -- the same name in the same calendar
 abbrev pub is_same : ZoneName → ZoneName → Bool
@@ -54,13 +53,12 @@ are_out (Some start) (Some end) = is_out start end
 are_out _ _ = false
 
 -- THE STAMPS OF AN EVENT in a calendar: the instant of a stamp in UTC, or in a zone that is known.
-abbrev pub moment_on : KnownZones → ZoneName → Stamp → Option ℤ
-moment_on known name (stamp.Utc local) = Some (local_seconds local)
-moment_on known name (stamp.Zoned local) = moment_there known name local
-moment_on known name _ = None
+abbrev pub moment_of : KnownZones → Instant → Option ℤ
+moment_of known (instant.Utc local) = Some (local_seconds local)
+moment_of known (instant.Zoned local name) = moment_there known name local
 
 abbrev pub moment_in : KnownZones → ℕ → Dated → Option ℤ
-moment_in known calendar dated = moment_on known (zone_used calendar dated) dated.stamp
+moment_in known calendar dated = option_and_then (moment_of known) (instant_in calendar dated)
 
 -- Which ends are out of reach of their starts as instants.
 abbrev pub ends_badly_later : KnownZones → ℕ → Option Dated → Option Dated → Bool
@@ -69,10 +67,6 @@ ends_badly_later known calendar (Some start) (Some end) =
 ends_badly_later known calendar _ _ = false
 
 -- WHAT A CHECK FINDS.
-abbrev pub moment_of : KnownZones → Instant → Option ℤ
-moment_of known (instant.Utc local) = Some (local_seconds local)
-moment_of known (instant.Zoned local name) = moment_there known name local
-
 abbrev pub judged : KnownZones → DeferredCheck → Option FaultKind
 judged known check.End = Some BadEnd
 judged known (check.Zone name) =
