@@ -30,7 +30,7 @@ use Rattle.ics_calendar.specs.Settled.{event_of, IsReady}
 use Rattle.ics_components.specs.DateLists.{zone_listed}
 use Rattle.ics_calendar.specs.ListedTimes.{rdate_in, exdate_in, listed_by}
 use Rattle.ics_components.specs.DateValues.{has_zoned}
-use Rattle.ics_calendar.specs.DeferredChecks.{KnownZones, judged, moment_there, moment_of}
+use Rattle.ics_calendar.specs.DeferredChecks.{KnownZones, judged, moment_of}
 use Rattle.ics_components.specs.ZoneNames.{zone_named, zone_used}
 use Rattle.ics_event.specs.declared.time.Rdate.{Rdate}
 use Rattle.ics_components.specs.SecondRound.{used_zone, used_in, listed_zone, instant_on, both_compared, ends_in}
@@ -81,7 +81,7 @@ module _ (known : KnownZones) where
 
   -- the instant of a zoned local
   local-there : IsTable known → (used : ZoneName) (local : Local) → IsFine known (Some (check.Zone used)) →
-      moment_there known used local ≡ Some (moment_in known.zones (Some (place used)) (Zoned local))
+      moment_of known (instant.Zoned local used) ≡ Some (moment_in known.zones (Some (place used)) (Zoned local))
   local-there table used local h =
       let i = index-is used h in
       grind (arith, i, slice_get-get_or known.zones (place used) (ZoneSaid.ByObservances []) (below-here known table used (place used) i))

@@ -5,7 +5,6 @@ use Rattle.std.specs.Prelude.{length}
 use Rattle.std.specs.List.{position, position_from, list_any}
 use Rattle.std.specs.Option.{option_and_then, option_or}
 use Rattle.std.specs.Str.{bytes_eq}
-use Rattle.ics_fields.specs.declared.local.Local.{Local}
 use Rattle.ics_zone.specs.ZoneSaid.{ZoneSaid, said_moment}
 use Rattle.ics_components.specs.declared.dated.Dated.{Dated}
 use Rattle.ics_components.specs.declared.fault.FaultKind.{FaultKind}
@@ -43,10 +42,6 @@ with_files known files names = record {
   is_bad = λ name. known.is_bad name || list_any (bytes_eq name) (bad_names files names);
 }
 
--- the instant that a local means in the zone that a name stands for
-abbrev pub moment_there : KnownZones → ZoneName → Local → Option ℤ
-moment_there known name local = option_map (λ zone. said_moment zone (local_seconds local)) (option_and_then (slice_get known.zones) (known.index name))
-
 -- out of reach as instants, where there are both
 abbrev pub are_out : Option ℤ → Option ℤ → Bool
 are_out (Some start) (Some end) = is_out start end
@@ -55,7 +50,8 @@ are_out _ _ = false
 -- THE STAMPS OF AN EVENT in a calendar: the instant of a stamp in UTC, or in a zone that is known.
 abbrev pub moment_of : KnownZones → Instant → Option ℤ
 moment_of known (instant.Utc local) = Some (local_seconds local)
-moment_of known (instant.Zoned local name) = moment_there known name local
+moment_of known (instant.Zoned local name) =
+    option_map (λ zone. said_moment zone (local_seconds local)) (option_and_then (slice_get known.zones) (known.index name))
 
 abbrev pub moment_in : KnownZones → ℕ → Dated → Option ℤ
 moment_in known calendar dated = option_and_then (moment_of known) (instant_in calendar dated)

@@ -1,25 +1,13 @@
 //! What the deferred checks find, once the time zones of the file are known (RFC 5545, sections 3.2.19 and 3.8.2.2).
 ghost use Rattle.std.specs.Prelude.{◌≡◌};
 ghost use Rattle.std.specs.List.{All};
-ghost use Rattle.ics_components.specs.Gathered.{IsSoundInstant, IsSoundCheck};
-ghost use Rattle.ics_calendar.specs.DeferredChecks.{moment_of, judged};
+ghost use Rattle.ics_components.specs.Gathered.{IsSoundCheck};
+ghost use Rattle.ics_calendar.specs.DeferredChecks.{judged};
 ghost use Rattle.ics_calendar.specs.Settled.{first_judged};
 ghost use Rattle.ics_calendar.specs.ZoneTables.{known_by};
 
 use crate::zone_table::ZoneTable;
-use ics_components::{DeferredCheck, Fault, FaultKind, Instant, LineCheck, is_out};
-use ics_values::Moment;
-
-/// The instant of a stamp, if its zone is known.
-fn moment_of(table: &ZoneTable, instant: &Instant) -> Option<Moment>
-    requires { IsSoundInstant instant.now }
-    ensures { result ≡ moment_of (known_by table.now) instant.now }
-{
-    match instant {
-        Instant::Utc(local) => Some(local.seconds()),
-        Instant::Zoned(local, name) => table.moment(*local, name),
-    }
-}
+use ics_components::{DeferredCheck, Fault, FaultKind, LineCheck, is_out};
 
 /// The fault that a deferred check finds, if it finds one.
 fn judged(table: &ZoneTable, check: &DeferredCheck) -> Option<FaultKind>
@@ -32,7 +20,7 @@ fn judged(table: &ZoneTable, check: &DeferredCheck) -> Option<FaultKind>
         DeferredCheck::Zone(name) if table.is_bad(&name.name) => Some(FaultKind::BadZoneFile),
         DeferredCheck::Zone(_) => Some(FaultKind::UnknownZone),
         DeferredCheck::Ends(start, end) => {
-            if is_out(moment_of(table, start)?, moment_of(table, end)?) {
+            if is_out(table.moment_of(start)?, table.moment_of(end)?) {
                 Some(FaultKind::BadEnd)
             } else {
                 None

@@ -1,17 +1,17 @@
 //! The time zones of a file by their names.
 ghost use Rattle.std.specs.Prelude.{◌≡◌, ◌∷◌, [], map, IfOk, OnOk};
 ghost use Rattle.std.specs.List.{All};
-ghost use Rattle.ics_fields.specs.Days.{IsStampDay};
 ghost use Rattle.ics_zone.specs.ZoneSaid.{zone_said};
-ghost use Rattle.ics_calendar.specs.DeferredChecks.{moment_there, with_files};
+ghost use Rattle.ics_calendar.specs.DeferredChecks.{moment_of, with_files};
 ghost use Rattle.ics_calendar.specs.Settled.{known_in};
+ghost use Rattle.ics_components.specs.Gathered.{IsSoundInstant};
 ghost use Rattle.ics_components.specs.Sound.{IsSoundZone};
 ghost use Rattle.ics_calendar.specs.ZoneTables.{known_by, given_by};
 
 use crate::zone::zone_of;
 use crate::zone_files::{ZoneFiles, put_first};
-use ics_components::{EndedZone, Tzid, ZoneName};
-use ics_values::{Local, Moment};
+use ics_components::{EndedZone, Instant, Tzid, ZoneName};
+use ics_values::Moment;
 use ics_zone::{Place, Zone};
 use std::alloc::{AllocError, Global};
 use std::collections::{BTreeMap, BTreeSet};
@@ -98,13 +98,18 @@ impl ZoneTable {
         self.refused.contains(name)
     }
 
-    /// The instant that a local means in the zone of that name, if it is known.
-    pub fn moment(&self, local: Local, name: &ZoneName) -> Option<Moment>
-        requires { IsStampDay local.day }
-        ensures { result ≡ moment_there (known_by self.now) name.now local }
+    /// The instant of a stamp, if its zone is known.
+    pub fn moment_of(&self, instant: &Instant) -> Option<Moment>
+        requires { IsSoundInstant instant.now }
+        ensures { result ≡ moment_of (known_by self.now) instant.now }
     {
-        let place = self.index(name)? as usize;
-        Some(self.zones.get(place)?.moment(local))
+        match instant {
+            Instant::Utc(local) => Some(local.seconds()),
+            Instant::Zoned(local, name) => {
+                let place = self.index(name)? as usize;
+                Some(self.zones.get(place)?.moment(*local))
+            }
+        }
     }
 
     /// The zones.
