@@ -1,7 +1,7 @@
 -- Time zones with those of zone files: one name at a time, and what holds of them still.
 use Rattle.std.proofs.Common.{◌≡◌, ℕ, ◌<◌, Bool, true, ◌||◌, List, [], ◌∷◌, length, refl, sym, ap, ◌∙◌, arith, cond, Option, Some, None}
 use Rattle.std.proofs.Common.{IfSome, subst, ◌≤◌}
-use Rattle.std.specs.Prelude.{get_or}
+use Rattle.std.specs.Prelude.{get_or, map}
 use Rattle.std.specs.Cmp.Lexicographic.{bytes_decides, nat_list_eq_equiv}
 use Rattle.std.specs.List.{All}
 use Rattle.std.specs.Option.{option_or}
@@ -14,10 +14,11 @@ use Rattle.std.proofs.lemmas.Grind.{common_steps}
 use Rattle.std.proofs.lemmas.List.{append-nil, length-append}
 use Rattle.std.proofs.lemmas.List.Elements.{All-head, All-tail}
 use Rattle.std.proofs.lemmas.List.Quantifiers.{position-Some}
-use Rattle.ics_zone.specs.ZoneSaid.{ZoneSaid}
 use Rattle.ics_components.specs.declared.deferred_check.ZoneName.{ZoneName}
-use Rattle.ics_calendar.specs.DeferredChecks.{KnownZones, known_zones, is_same, with_files}
+use Rattle.ics_calendar.specs.DeferredChecks.{KnownZones, is_same, with_files}
+use Rattle.ics_components.specs.declared.gathered.EndedZone.{EndedZone}
 use Rattle.ics_calendar.specs.Drafts.{IsTable}
+use Rattle.ics_calendar.specs.Settled.{known_in}
 use Rattle.ics_calendar.specs.GivenFiles.{GivenFiles, no_files, given_names, given_zones}
 use Rattle.ics_calendar.specs.ZoneTables.{name_cmp}
 use Rattle.std.proofs.Common.{◌+◌}
@@ -77,13 +78,15 @@ if-some : {P : ℕ → Type 0} (o : Option ℕ) → ((i : ℕ) → o ≡ Some i 
 if-some None h = tt
 if-some (Some i) h = h i refl
 
-pub table-known : (names : List ZoneName) (zones : List ZoneSaid) → length names ≡ length zones → IsTable (known_zones names zones)
-table-known names zones long = record {
-  below = λ used. if-some ((known_zones names zones).index used) (λ i e. subst (λ n. i < n) long (position-Some (is_same used) names i used e).0);
-  single = λ a b i e f.
-      let at : List ℕ = (get_or names i a).name in
-      grind (arith, position-Some (is_same a) names i a, position-Some (is_same b) names i a, (bytes_decides a.name at).0, (bytes_decides b.name at).0);
-}
+pub table-known : (zones : List EndedZone) → IsTable (known_in zones)
+table-known zones =
+    let names : List ZoneName = map (λ z. z.name) zones in
+    record {
+      below = λ used. if-some ((known_in zones).index used) (λ i e. grind (arith, common_steps, position-Some (is_same used) names i used e));
+      single = λ a b i e f.
+          let at : List ℕ = (get_or names i a).name in
+          grind (arith, position-Some (is_same a) names i a, position-Some (is_same b) names i a, (bytes_decides a.name at).0, (bytes_decides b.name at).0);
+    }
 
 pub below-here : (known : KnownZones) → IsTable known → (used : ZoneName) (i : ℕ) → known.index used ≡ Some i → i < length known.zones
 below-here known table used i e = subst (λ o. IfSome o (λ i. i < length known.zones)) e (table.below used)

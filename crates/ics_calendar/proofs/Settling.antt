@@ -1,9 +1,7 @@
 -- What is gathered of a file, settled: its first fault of the second round, or what it says.
-use Rattle.std.proofs.Common.{◌≡◌, ℕ, List, [], ◌∷◌, map, sym, ◌∙◌, None}
+use Rattle.std.proofs.Common.{◌≡◌, ℕ, List, [], ◌∷◌, map, None}
 use Rattle.std.specs.List.{All, Contains}
-use Rattle.std.proofs.lemmas.List.{length-map}
 use Rattle.std.proofs.lemmas.List.Elements.{All-nil, All-cons, All-contains}
-use Rattle.ics_zone.specs.ZoneSaid.{ZoneSaid}
 use Rattle.ics_components.specs.declared.gathered.EndedEvent.{EndedEvent}
 use Rattle.ics_components.specs.declared.gathered.LineCheck.{LineCheck}
 use Rattle.ics_calendar.specs.Settled.{event_of, known_in, first_judged, IsReady}
@@ -40,9 +38,7 @@ module _ (known : KnownZones) (ended : List EndedEvent) (ws : List LineCheck) (s
 -- A DRAFT is sound where what is gathered is, and stays so with zone files.
 pub draft-sound : (g : GatheredSeen) → IsSoundGathered g → IsSoundDraft (known_in g.zones) g.events g.checks
 draft-sound g s = record {
-  table =
-      table-known (map (λ z. z.name) g.zones) (map (λ z. ZoneSaid.ByObservances z.observances) g.zones)
-      (length-map g.zones (λ z. z.name) ∙ sym (length-map g.zones (λ z. ZoneSaid.ByObservances z.observances)));
+  table = table-known g.zones;
   whole = s.whole;
   awaited = s.awaited;
   sound = s.sound;

@@ -1,9 +1,7 @@
 use Rattle.std.proofs.Common.{sym, ap, ◌∙◌, subst, Ok}
 use Rattle.std.proofs.lemmas.Result.{err_from_is_err_and}
-use Rattle.ics_calendar.specs.DeferredChecks.{KnownZones}
 use Rattle.ics_calendar.specs.Settled.{drafted}
 use Rattle.ics_components.specs.Gathered.{IsSoundGathered}
-use Rattle.ics_components.specs.GatheredSeen.{GatheredSeen}
 use Rattle.ics_calendar.proofs.Settling.{draft-sound}
 use Rattle.ics_calendar.proofs.Whole.{draft_by, gathered, fault-gathered}
 use Rattle.ics_calendar.proofs.draft.Draft.read.Goals as goal
@@ -21,6 +19,5 @@ invariant_of-result c = rw c.in_ok-new.ensures (draft-sound _ (subst IsSoundGath
 
 pub returns-clause-draft : goal.returns-clause-draft
 returns-clause-draft c =
-    ap (λ (known : KnownZones). drafted known c.zones.inside.events.items c.zones.inside.checks.items) c.in_ok-new.ensures
-    ∙ ap (λ (g : GatheredSeen). draft_by (Ok g)) c.zones.view_is
+    (λ i. drafted (c.in_ok-new.ensures i) c.zones.inside.events.items c.zones.inside.checks.items) ∙ (λ i. draft_by (Ok (c.zones.view_is i)))
     ∙ sym (gathered c.args.bytes.now (c.numbers_rise.ensures c.args.bytes.now) ∙ ap draft_by c.in_ok-zones.ensures.gathered)
