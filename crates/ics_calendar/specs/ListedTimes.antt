@@ -17,7 +17,7 @@ rdate_in zone (listed.At stamp) = At (time_in zone stamp)
 rdate_in zone (listed.Between start end) = Span (time_in zone start) (Until (time_in zone end))
 rdate_in zone (listed.Lasting start duration) = Span (time_in zone start) (Lasting duration)
 
--- in an EXDATE its stamp, or its first
+-- In an EXDATE a value is a stamp, and of a PERIOD its start.
 abbrev pub exdate_in : Option ℕ → ListedDate → Time
 exdate_in zone (listed.At stamp) = time_in zone stamp
 exdate_in zone (listed.Between start end) = time_in zone start

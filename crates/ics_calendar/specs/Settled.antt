@@ -46,7 +46,7 @@ event_of index event = record {
   cancelled = event.cancelled;
 }
 
--- What the file wants, by the same.
+-- the names of the time zones that are to be known and are not, in the order of the checks
 abbrev pub all_unknown : (ZoneName → Option ℕ) → List LineCheck → List (List ℕ)
 all_unknown index checks = filter_map (λ w. unknown_in index w.check) checks
 
