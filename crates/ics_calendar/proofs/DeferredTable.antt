@@ -16,8 +16,7 @@ use Rattle.ics_components.specs.declared.deferred_check.DeferredCheck.TheVariant
 use Rattle.ics_components.specs.declared.deferred_check.ZoneName.{ZoneName}
 use Rattle.ics_components.specs.declared.name.Name.{Name}
 use Rattle.ics_components.specs.declared.name.Name.TheVariants as name
-use Rattle.ics_components.specs.Names.{name_of}
-use Rattle.ics_components.specs.PlacedLines.{Placed, Open, context_of, calendar_of, closes, ends_event}
+use Rattle.ics_components.specs.PlacedLines.{Placed, Open, named, name_on, context_of, calendar_of, closes, ends_event}
 use Rattle.ics_components.specs.Values.{dated_of}
 use Rattle.ics_components.specs.Faults.{kinds}
 use Rattle.ics_calendar.specs.LaterFaults.{is_in_zone, is_in_unknown_zone, stands_later, tzid_on}
@@ -27,7 +26,6 @@ use Rattle.ics_components.specs.SecondRound.{ends_in}
 use Rattle.ics_components.specs.Lines.{check_in}
 use Rattle.ics_components.specs.declared.event_builder.EventBuilder.{EventBuilder}
 use Rattle.ics_components.proofs.Ended.{IsMatched}
-use Rattle.ics_components.proofs.NameLemmas.{Tells, tells}
 use Rattle.ics_components.proofs.Table.{frame_of, collected_of}
 use Rattle.ics_components.proofs.Frames.{with}
 
@@ -70,14 +68,13 @@ module _ (whole : List Placed) (line : Line) (parts : Parts) (ls : List Placed) 
       ((ends_event l ≡ true) × (is_in_zone l ≡ false) × (left n ≡ ends_in k had.start had.end))
       ⊎ ((ends_event l ≡ false) × (left n ≡ option_map check.Zone (cond (is_in_zone l) (Some used) None)))
 
-  leaves : (n : Name) (q : Context) → Tells (map upper parts.name) n → context_of path ≡ q → IsMatched l → Leaves n
+  leaves : (n : Name) (q : Context) → name_on (Some parts) ≡ n → context_of path ≡ q → IsMatched l → Leaves n
   leaves name.End context.Event e c m =
       let closed : closes path (map upper parts.value) ≡ true = not-false _ (rw e at m) in inl (rw (e, c, closed), rw (e, c), rw c)
   leaves name.End _ e c m = let closed : closes path (map upper parts.value) ≡ true = not-false _ (rw e at m) in inr (rw (e, c, closed), rw c)
-  leaves name.Rdate context.Event e c m = inr (rw e, rw (e, c) (simp or-false))
-  leaves name.Exdate context.Event e c m = inr (rw e, rw (e, c) (simp or-false))
-  leaves name.Other context.Event e c m = inr (simp e, rw c (simp e))
-  leaves name.Other _ e c m = inr (simp e, rw c)
+  leaves name.Dtstart context.Event e c m = inr (rw e, rw (e, c) (simp or-false))
+  leaves name.Dtend context.Event e c m = inr (rw e, rw (e, c) (simp or-false))
+  leaves name.RecurrenceId context.Event e c m = inr (rw e, rw (e, c) (simp or-false))
   leaves _ context.Event e c m = inr (rw e, rw (e, c))
   leaves _ _ e c m = inr (rw e, rw c)
 
@@ -91,6 +88,6 @@ module _ (whole : List Placed) (line : Line) (parts : Parts) (ls : List Placed) 
   found known n (inl h) = let ends = ends-as known k had.start had.end in (rw (h.0, h.1, h.2) ends.0, rw (h.1, h.2) (sym ends.1))
   found known n (inr h) = let zone = zone-as known (is_in_zone l) used in (rw (h.0, h.1) zone.0, rw h.1 zone.1)
 
-  pub same-on : (known : KnownZones) → IsMatched l → Found known (name_of (map upper parts.name))
-  same-on known m =
-      found known (name_of (map upper parts.name)) (leaves (name_of (map upper parts.name)) (context_of path) (tells (map upper parts.name)) refl m)
+  pub same-on : (known : KnownZones) → IsMatched l → Found known (named parts)
+  unfolding name_on
+  same-on known m = found known (named parts) (leaves (named parts) (context_of path) refl refl m)

@@ -1,9 +1,10 @@
 -- WHAT A FILE IS: its time zones and its events, or its first fault.
-use Rattle.std.specs.Prelude.{◌≡◌, ◌⊎◌, ℕ, false, IsTrue, List, [], ◌++◌, filter, map, codes, unwrap_or, Option, Some, None, option_map, Result, Ok, Err}
+use Rattle.std.specs.Prelude.{◌≡◌, ◌⊎◌, ℕ, false, IsTrue, List, [], ◌++◌, filter, map, unwrap_or, Option, Some, None, option_map, Result, Ok, Err}
 use Rattle.std.specs.Prelude.{if◌then◌else◌}
 use Rattle.ics_text.specs.Unfolded.{Line, begins_with_fold, unfolded}
 use Rattle.ics_values.specs.Integers.{integer_of}
 use Rattle.ics_components.specs.declared.deferred_check.ZoneName.{ZoneName}
+use Rattle.ics_components.specs.declared.name.Name.TheVariants as name
 use Rattle.ics_calendar.specs.ListedTimes.{rdates_by, exdates_by}
 use Rattle.ics_event.specs.Event.{EventSeen, FileSaid, FileSeen, said_by}
 use Rattle.ics_calendar.specs.DeferredChecks.{KnownZones}
@@ -24,18 +25,18 @@ use Rattle.ics_components.specs.declared.fault.FileFault.TheVariants.{Memory, At
 -- An event of a calendar, by the lines that stand directly in it, given the index of the zone that a name stands for.
 abbrev pub event_by : (ZoneName → Option ℕ) → ℕ → List Placed → EventSeen
 event_by index calendar own = record {
-  uid = unwrap_or (first_text (codes "UID") own) [];
-  sequence = unwrap_or (option_map (λ line. ok_or_zero (integer_of (value line))) (first_named (codes "SEQUENCE") own)) 0;
-  start = time_on index calendar (dated_in (first_dated (codes "DTSTART") own));
-  length = length_of index calendar (given_length (first_dated (codes "DTEND") own) (option_map duration_on (first_named (codes "DURATION") own)));
-  rule = option_map parts_on (first_named (codes "RRULE") own);
-  rdates = rdates_by index calendar (map (listed_on Rdate) (all_named (codes "RDATE") own));
-  exdates = exdates_by index calendar (map (listed_on Exdate) (all_named (codes "EXDATE") own));
-  recurrence = option_map (time_on index calendar) (first_dated (codes "RECURRENCE-ID") own);
-  title = unwrap_or (first_text (codes "SUMMARY") own) [];
-  location = unwrap_or (first_text (codes "LOCATION") own) [];
-  description = unwrap_or (first_text (codes "DESCRIPTION") own) [];
-  cancelled = unwrap_or (option_map (λ line. is_cancelled (value line)) (first_named (codes "STATUS") own)) false;
+  uid = unwrap_or (first_text name.Uid own) [];
+  sequence = unwrap_or (option_map (λ line. ok_or_zero (integer_of (value line))) (first_named name.Sequence own)) 0;
+  start = time_on index calendar (dated_in (first_dated name.Dtstart own));
+  length = length_of index calendar (given_length (first_dated name.Dtend own) (option_map duration_on (first_named name.Duration own)));
+  rule = option_map parts_on (first_named name.Rrule own);
+  rdates = rdates_by index calendar (map (listed_on Rdate) (all_named name.Rdate own));
+  exdates = exdates_by index calendar (map (listed_on Exdate) (all_named name.Exdate own));
+  recurrence = option_map (time_on index calendar) (first_dated name.RecurrenceId own);
+  title = unwrap_or (first_text name.Summary own) [];
+  location = unwrap_or (first_text name.Location own) [];
+  description = unwrap_or (first_text name.Description own) [];
+  cancelled = unwrap_or (option_map (λ line. is_cancelled (value line)) (first_named name.Status own)) false;
 }
 
 -- The events of all calendars, in the order of their BEGIN lines, given the index of the zone that a name stands for.

@@ -7,11 +7,10 @@ use Rattle.std.proofs.lemmas.List.Elements.{filter-append}
 use Rattle.ics_text.specs.ContentLines.{Parts}
 use Rattle.ics_components.specs.declared.name.Name.{Name}
 use Rattle.ics_components.specs.declared.name.Name.TheVariants as name
-use Rattle.ics_components.specs.Names.{name_of}
-use Rattle.ics_components.specs.PlacedLines.{Placed, property_name, value_of, params_of, first_of, context_of}
+use Rattle.ics_components.specs.PlacedLines.{Placed, name_on, value_of, params_of, first_of, context_of}
 use Rattle.ics_components.specs.PlacedLines.{in_zone, is_begin, component}
 use Rattle.ics_components.specs.Lines.{event_note, zone_note, observance_note, builder_note, joined}
-use Rattle.ics_components.proofs.NameLemmas.{Tells, tells, context-tests}
+use Rattle.ics_components.proofs.NameLemmas.{context-tests}
 use Rattle.std.proofs.lemmas.List.Concat.{flat_map-append}
 use Rattle.std.proofs.Math.Bool.{and-false}
 use Rattle.ics_fields.specs.Observances.{ObservanceSaid}
@@ -42,26 +41,26 @@ parts_at l = record { name = raw_name l.content; params = params_of l.content; v
 
 -- WHAT IS COLLECTED of an event, of a time zone and of an observance, with one line more.
 pub collected_of-more : (ls : List Placed) (l : Placed) →
-    collected_of (ls ++ l ∷ []) ≡ event_note (name_of (property_name l.content)) (parts_at l) (collected_of ls)
-collected_of-more ls l = by_name (name_of (property_name l.content)) (tells (property_name l.content))
+    collected_of (ls ++ l ∷ []) ≡ event_note (name_on l.content) (parts_at l) (collected_of ls)
+collected_of-more ls l = by_name (name_on l.content) refl
   where
-    by_name : (n : Name) → Tells (property_name l.content) n → collected_of (ls ++ l ∷ []) ≡ event_note n (parts_at l) (collected_of ls)
+    by_name : (n : Name) → name_on l.content ≡ n → collected_of (ls ++ l ∷ []) ≡ event_note n (parts_at l) (collected_of ls)
     by_name name.Other e = simp (one_more, e)
     by_name _ e = simp (one_more, e)
 
 pub zone_of-more : (os : List ObservanceSaid) (ls : List Placed) (l : Placed) →
-    zone_of os (ls ++ l ∷ []) ≡ zone_note (name_of (property_name l.content)) (parts_at l) (zone_of os ls)
-zone_of-more os ls l = by_name (name_of (property_name l.content)) (tells (property_name l.content))
+    zone_of os (ls ++ l ∷ []) ≡ zone_note (name_on l.content) (parts_at l) (zone_of os ls)
+zone_of-more os ls l = by_name (name_on l.content) refl
   where
-    by_name : (n : Name) → Tells (property_name l.content) n → zone_of os (ls ++ l ∷ []) ≡ zone_note n (parts_at l) (zone_of os ls)
+    by_name : (n : Name) → name_on l.content ≡ n → zone_of os (ls ++ l ∷ []) ≡ zone_note n (parts_at l) (zone_of os ls)
     by_name name.Other e = simp (one_more, e)
     by_name _ e = simp (one_more, e)
 
 pub observance_of-more : (ls : List Placed) (l : Placed) →
-    observance_of (ls ++ l ∷ []) ≡ observance_note (name_of (property_name l.content)) (parts_at l) (observance_of ls)
-observance_of-more ls l = by_name (name_of (property_name l.content)) (tells (property_name l.content))
+    observance_of (ls ++ l ∷ []) ≡ observance_note (name_on l.content) (parts_at l) (observance_of ls)
+observance_of-more ls l = by_name (name_on l.content) refl
   where
-    by_name : (n : Name) → Tells (property_name l.content) n → observance_of (ls ++ l ∷ []) ≡ observance_note n (parts_at l) (observance_of ls)
+    by_name : (n : Name) → name_on l.content ≡ n → observance_of (ls ++ l ∷ []) ≡ observance_note n (parts_at l) (observance_of ls)
     by_name name.Other e = simp (one_more, e)
     by_name _ e = simp (one_more, e)
 
@@ -83,7 +82,7 @@ module _ (whole : List Placed) (ls : List Placed) where
   -- with one line more that begins none
   pub builder-more : (q : Context) (l : Placed) → is_begin l ≡ false →
       builder_at (parts whole (ls ++ l ∷ [])) (ls ++ l ∷ []) q
-      ≡ builder_note (name_of (property_name l.content)) (parts_at l) (builder_at (parts whole ls) ls q)
+      ≡ builder_note (name_on l.content) (parts_at l) (builder_at (parts whole ls) ls q)
   builder-more context.Event l e = ap builder.Event (collected_of-more ls l)
   builder-more context.Zone l e =
       ap (λ os. builder.Zone (zone_of os (ls ++ l ∷ []))) (parts-same whole ls l e) ∙ ap builder.Zone (zone_of-more (parts whole ls) ls l)
@@ -92,7 +91,7 @@ module _ (whole : List Placed) (ls : List Placed) where
 
   -- with the BEGIN line of a component that has ended in it, and is one of its observances or changes nothing
   pub builder-begun : (q : Context) (b : Placed) (ks : List Placed) →
-      name_of (property_name b.content) ≡ name.Begin → is_begin b ≡ true → own whole b ≡ observance_ended (observance_of ks) →
+      name_on b.content ≡ name.Begin → is_begin b ≡ true → own whole b ≡ observance_ended (observance_of ks) →
       builder_at (parts whole (ls ++ b ∷ [])) (ls ++ b ∷ []) q
       ≡ joined (builder_at (parts whole ls) ls q) (builder_at (parts whole ks) ks (context_of (inside b)))
   builder-begun context.Event b ks n e o =

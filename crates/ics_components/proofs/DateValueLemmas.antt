@@ -18,7 +18,8 @@ use Rattle.ics_components.specs.DateValues.{DateValue, At, date_time_of, period_
 use Rattle.ics_components.specs.DateValues.{has_far_stamp, has_bad_duration, has_large_duration, values_of, local_in, is_not_local}
 use Rattle.ics_components.specs.declared.fault.FaultKind.{FaultKind}
 use Rattle.ics_components.specs.declared.fault.FaultKind.TheVariants.{BadStamp, BadDuration, YearRange, NumberTooLarge, ObservanceField}
-use Rattle.ics_components.specs.Lines.{dates_fault, locals_fault, fault_if, lesser, judged}
+use Rattle.ics_components.specs.Faults.{Dates}
+use Rattle.ics_components.specs.Lines.{misread, unfit, lesser, judged}
 use Rattle.ics_components.specs.Pass.{unless}
 use Rattle.ics_components.specs.declared.date_values.Listing.TheVariants.{Rdate}
 use Rattle.ics_components.specs.declared.date_list.ListedDate.{ListedDate}
@@ -51,6 +52,10 @@ rdate-is zoned text e = let any = any-first is_slash text in grind arith
 -- what stands behind several kinds stands behind the last of them
 pub first-cond : (t : Bool) (o p m : Option FaultKind) → first (cond t o p) m ≡ cond t (first o m) (first p m)
 first-cond t o p m = grind arith
+
+-- the least fault of several values
+abbrev pub dates_fault : List DateValue → Option FaultKind
+dates_fault values = misread (Dates values)
 
 -- THE LESSER OF TWO FAULTS, where each may not be there
 abbrev pub least : Option FaultKind → Option FaultKind → Option FaultKind
@@ -108,5 +113,6 @@ others-listed (v ∷ vs) = ap (λ t. is_not_local v || t) (others-listed vs)
 
 -- the fault on an RDATE of an observance, where its values have none
 pub locals-fault : (text : List ℕ) (dates : List ListedDate) → dates_fault (values_of Rdate false text) ≡ None →
-    dates ≡ map listed_in (values_of Rdate false text) → locals_fault text ≡ fault_if ObservanceField (list_any is_other dates)
+    dates ≡ map listed_in (values_of Rdate false text) →
+    unfit (Dates (values_of Rdate false text)) ≡ cond (list_any is_other dates) (Some ObservanceField) None
 locals-fault text dates none e = rw (none, e, others-listed (values_of Rdate false text))

@@ -7,23 +7,22 @@ use Rattle.ics_components.specs.Lines.{event_note, zone_note}
 use Rattle.ics_components.specs.declared.component.Component.{Component}
 use Rattle.ics_components.specs.declared.component.Context.{Context}
 use Rattle.ics_components.specs.Components.{component_of, context_in, is_calendar_context}
-use Rattle.ics_components.specs.Names.{name_of}
-use Rattle.ics_components.specs.PlacedLines.{Placed, Open, property_name, context_of, is_begin, component, calendar_of, begins, lines_in}
+use Rattle.ics_components.specs.PlacedLines.{Placed, Open, name_on, context_of, is_begin, component, calendar_of, begins, lines_in}
 use Rattle.ics_components.specs.Builders.{event_ended, zone_ended}
-use Rattle.ics_components.proofs.NameLemmas.{context-in-outside, context-tests, tells}
+use Rattle.ics_components.proofs.NameLemmas.{context-in-outside, context-tests}
 use Rattle.ics_components.proofs.BuilderLemmas.{collected_of-more, parts_at, zone_of-more, parts-same}
 use Rattle.ics_components.proofs.Ended.{events, zones}
 use Rattle.ics_components.proofs.Order.{open_as, IsSort, Sort, inside, begun}
 use Rattle.ics_components.specs.declared.deferred_check.ZoneName.{ZoneName}
 use Rattle.ics_components.specs.Faults.{first_text}
 use Rattle.ics_components.specs.Observances.{begins_zone, name_by}
-use Rattle.ics_components.proofs.Table.{parts, marks, is_begin_name, collected_of, zone_of}
+use Rattle.ics_components.proofs.Table.{parts, collected_of, zone_of}
 use Rattle.ics_components.specs.declared.component.Context.TheVariants as context
 use Rattle.ics_components.specs.declared.name.Name.TheVariants as name
 
 -- In a file without faults the events end in the order in which they begin.
 -- an END adds nothing to its event
-event-end : (ls : List Placed) (l : Placed) → name_of (property_name l.content) ≡ name.End → collected_of (ls ++ l ∷ []) ≡ collected_of ls
+event-end : (ls : List Placed) (l : Placed) → name_on l.content ≡ name.End → collected_of (ls ++ l ∷ []) ≡ collected_of ls
 event-end ls l e = collected_of-more ls l ∙ ap (λ n. event_note n (parts_at l) (collected_of ls)) e
 
 -- only a calendar holds events, and it stands in none
@@ -44,7 +43,7 @@ module _ {X : Type 0} (s : Sort X) (word : List ℕ)
       absurd (context-in-outside (context_of ds) (component_of d.name) (calendar-from (context_of (d ∷ ds)) (component_of c.name) e))
 
   in-calendar : ((l : Placed) → s.begins l ≡ (is_calendar_context (context_of l.path) && begins word l)) →
-      ((path : List Open) (ls : List Placed) (l : Placed) → name_of (property_name l.content) ≡ name.End → s.by path (ls ++ l ∷ []) ≡ s.by path ls) → IsSort s
+      ((path : List Open) (ls : List Placed) (l : Placed) → name_on l.content ≡ name.End → s.by path (ls ++ l ∷ []) ≡ s.by path ls) → IsSort s
   in-calendar here at_end = record {
     starts =
         λ l. here l ∙ swap (is_calendar_context (context_of l.path)) (is_begin l) (bytes_eq (component l) word)
@@ -60,11 +59,10 @@ events-are =
 
 -- In a file without faults the time zones end in the order in which they begin.
 -- an END adds nothing to its zone
-zone-end : (whole ls : List Placed) (l : Placed) → name_of (property_name l.content) ≡ name.End →
+zone-end : (whole ls : List Placed) (l : Placed) → name_on l.content ≡ name.End →
     zone_of (parts whole (ls ++ l ∷ [])) (ls ++ l ∷ []) ≡ zone_of (parts whole ls) ls
 zone-end whole ls l e =
-    let u : List ℕ = property_name l.content in
-    let not_begin : is_begin l ≡ false = (marks u (name_of u) (tells u)).0 ∙ ap is_begin_name e in
+    let not_begin : is_begin l ≡ false = rw e in
     ap (λ os. zone_of os (ls ++ l ∷ [])) (parts-same whole ls l not_begin) ∙ zone_of-more (parts whole ls) ls l
     ∙ ap (λ n. zone_note n (parts_at l) (zone_of (parts whole ls) ls)) e
 
@@ -88,5 +86,5 @@ begun-same s whole f g h (l ∷ ls) = let again = begun-same s whole f g h ls in
 pub names-begun : (whole ls : List Placed) → map (name_by whole) (filter begins_zone ls) ≡ map (λ z. z.name) (begun (zones whole) whole ls)
 names-begun whole ls =
     sym (begun-same (zones whole) whole (λ z. z.name) (name_by whole) (λ l e.
-    let name : ℕ → ZoneName = λ k. record { calendar = k; name = unwrap_or (first_text (codes "TZID") (lines_in l.number whole)) [] } in
+    let name : ℕ → ZoneName = λ k. record { calendar = k; name = unwrap_or (first_text name.Tzid (lines_in l.number whole)) [] } in
     ap name (calendar-inside l (and_parts _ _ e).0)) ls)

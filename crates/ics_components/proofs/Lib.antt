@@ -1,6 +1,7 @@
 pub mod NameLemmas
 pub mod DateValueLemmas
 pub mod Table
+pub mod Judgements
 pub mod BuilderLemmas
 pub mod Bundles
 pub mod Frames

@@ -9,7 +9,8 @@ use Rattle.ics_components.specs.declared.name.Name.{Name}
 use Rattle.ics_components.specs.declared.name.Name.TheVariants as name
 use Rattle.ics_components.specs.declared.component.Component.{Component}
 use Rattle.ics_components.specs.declared.component.Component.TheVariants as component
-use Rattle.ics_components.specs.Names.{named_in, first_words, other_words, name_of}
+use Rattle.ics_components.specs.Names.{named_in, same_name}
+use Rattle.ics_components.specs.Lines.{is_mark}
 use Rattle.ics_components.specs.declared.component.Context.{Context}
 use Rattle.ics_components.specs.declared.component.Context.TheVariants as context
 use Rattle.ics_components.specs.Components.{component_of, component_name, context_in, is_calendar_context, is_event_context, is_zone_context}
@@ -18,33 +19,6 @@ use Rattle.ics_components.specs.Components.{is_observance_context}
 -- the name is none of the words of a table
 abbrev pub IsUnknown : {X : Type 0} → List (List ℕ × X) → List ℕ → Type 0
 IsUnknown table u = (w : List ℕ) → list_any (λ n. bytes_eq w n.0) table ≡ true → bytes_eq u w ≡ false
-
-abbrev pub words : List (List ℕ × Name)
-words = first_words ++ other_words
-
--- the name, where it is one of them, is the word
-abbrev pub Tells : List ℕ → Name → Type 0
-Tells u name.Begin = u ≡ codes "BEGIN"
-Tells u name.End = u ≡ codes "END"
-Tells u name.Uid = u ≡ codes "UID"
-Tells u name.Dtstart = u ≡ codes "DTSTART"
-Tells u name.Dtend = u ≡ codes "DTEND"
-Tells u name.Duration = u ≡ codes "DURATION"
-Tells u name.Rrule = u ≡ codes "RRULE"
-Tells u name.RecurrenceId = u ≡ codes "RECURRENCE-ID"
-Tells u name.Sequence = u ≡ codes "SEQUENCE"
-Tells u name.Rdate = u ≡ codes "RDATE"
-Tells u name.Exdate = u ≡ codes "EXDATE"
-Tells u name.Exrule = u ≡ codes "EXRULE"
-Tells u name.Version = u ≡ codes "VERSION"
-Tells u name.Summary = u ≡ codes "SUMMARY"
-Tells u name.Location = u ≡ codes "LOCATION"
-Tells u name.Description = u ≡ codes "DESCRIPTION"
-Tells u name.Status = u ≡ codes "STATUS"
-Tells u name.Tzid = u ≡ codes "TZID"
-Tells u name.OffsetFrom = u ≡ codes "TZOFFSETFROM"
-Tells u name.OffsetTo = u ≡ codes "TZOFFSETTO"
-Tells u name.Other = IsUnknown words u
 
 pub equal : (xs ys : List ℕ) → bytes_eq xs ys ≡ true → xs ≡ ys
 equal xs ys e = (bytes_eq-Decides xs ys).0 e
@@ -62,8 +36,23 @@ told T other u (n ∷ ns) h k =
     by_word e g w true f c = rw (equal w n.0 f) e
     by_word e g w false f c = g w c
 
-pub tells : (u : List ℕ) → Tells u (name_of u)
-tells u = told (Tells u) name.Other u words (search rules) (λ none. none)
+-- a name that is the same as another is that, and begins or ends nothing where it is neither
+pub begin-is : (n : Name) → same_name n name.Begin ≡ true → n ≡ name.Begin
+begin-is name.Begin e = refl
+begin-is _ e = cc
+
+pub end-is : (n : Name) → same_name n name.End ≡ true → n ≡ name.End
+end-is name.End e = refl
+end-is _ e = cc
+
+pub begin-no-end : (n : Name) → same_name n name.Begin ≡ true → same_name n name.End ≡ false
+begin-no-end name.Begin e = refl
+begin-no-end _ e = cc
+
+pub no-mark : (n : Name) → is_mark n ≡ false → (same_name n name.Begin ≡ false) × (same_name n name.End ≡ false)
+no-mark name.Begin e = cc
+no-mark name.End e = cc
+no-mark _ e = (refl, refl)
 
 -- the components that a file is read for
 abbrev pub components : List (List ℕ × Component)

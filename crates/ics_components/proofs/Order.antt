@@ -3,19 +3,17 @@ use Rattle.std.proofs.Common.{◌≡◌, List, [], ◌∷◌, ◌++◌, refl, su
 use Rattle.std.proofs.Common.{◌&&◌, map, filter, sym, append_assoc, Option, None}
 use Rattle.std.proofs.lemmas.Bool.{cond_both, eq-eqb, ne_eqb, not-false}
 use Rattle.std.proofs.lemmas.List.Elements.{filter-append}
-use Rattle.std.specs.Prelude.{find, codes, not}
-use Rattle.std.specs.Str.{bytes_eq}
+use Rattle.std.specs.Prelude.{find, not}
 use Rattle.ics_text.specs.Unfolded.{Line, Rises}
 use Rattle.ics_text.specs.ContentLines.{content_of}
-use Rattle.ics_components.specs.PlacedLines.{Placed, Open, is_begin, is_end, component, path_behind, placed_from, innermost, lines_in, property_name}
+use Rattle.ics_components.specs.PlacedLines.{Placed, Open, is_begin, is_end, component, path_behind, placed_from, innermost, lines_in, name_on}
 use Rattle.ics_components.specs.PlacedLines.{context_of, is_closing, beside, closes}
 use Rattle.ics_components.specs.FirstFault.{last_of, Fault, found, least_on, first_from, fault_at_end}
 use Rattle.ics_components.specs.declared.component.Context.{Context}
 use Rattle.ics_components.specs.declared.fault.FaultKind.{FaultKind}
 use Rattle.ics_components.specs.declared.fault.FaultKind.TheVariants.{BadNesting}
-use Rattle.ics_components.specs.Names.{name_of}
 use Rattle.ics_components.specs.Faults.{stands, kinds}
-use Rattle.ics_components.proofs.NameLemmas.{equal}
+use Rattle.ics_components.proofs.NameLemmas.{begin-no-end, end-is}
 use Rattle.ics_components.specs.declared.name.Name.TheVariants as name
 
 -- The last line.
@@ -117,7 +115,7 @@ begun s whole lines = map (λ l. s.by (inside l) (lines_in l.number whole)) (fil
 pub record IsSort {X : Type 0} (s : Sort X) : Type 0 where
   pub starts : (l : Placed) → s.begins l ≡ (is_begin l && s.stands_at (context_of (inside l)))
   pub alone : (whole : List Placed) (l : Placed) → s.stands_at (context_of (inside l)) ≡ true → open_as s whole l.path ≡ []
-  pub ends : (path : List Open) (ls : List Placed) (l : Placed) → name_of (property_name l.content) ≡ name.End → s.by path (ls ++ l ∷ []) ≡ s.by path ls
+  pub ends : (path : List Open) (ls : List Placed) (l : Placed) → name_on l.content ≡ name.End → s.by path (ls ++ l ∷ []) ≡ s.by path ls
 
 -- no fault on a line, and thus no bad nesting
 pub nested : (p : FaultKind → Bool) → find p kinds ≡ None → p BadNesting ≡ false
@@ -125,12 +123,6 @@ nested p e = grind arith
 
 pub found-none : (number : ℕ) (kind : Option FaultKind) (later : Option Fault) → found number kind later ≡ None → (kind ≡ None) × (later ≡ None)
 found-none number kind later e = (grind arith, grind arith)
-
-begin-no-end : (u : List ℕ) → bytes_eq u (codes "BEGIN") ≡ true → bytes_eq u (codes "END") ≡ false
-begin-no-end u e = rw (equal u (codes "BEGIN") e)
-
-pub end-name : (u : List ℕ) → bytes_eq u (codes "END") ≡ true → name_of u ≡ name.End
-end-name u e = rw (equal u (codes "END") e)
 
 -- where no fault stands at the end, nothing is open behind the last line
 last-open : (before : List Placed) (l : Placed) → fault_at_end (before ++ l ∷ []) ≡ None → path_behind l ≡ []
@@ -159,7 +151,7 @@ module _ {X : Type 0} (s : Sort X) (i : IsSort s) (whole before : List Placed) (
 
   begins : (path : List Open) → is_begin (here line path) ≡ true → Steps path
   begins path b =
-      rw (i.starts (here line path), begin-no-end (property_name (content_of line.bytes)) b, b)
+      rw (i.starts (here line path), begin-no-end (name_on (content_of line.bytes)) b, b)
       (by_test (s.stands_at (context_of (inside (here line path)))) (i.alone whole (here line path)))
     where
       rest : List Placed
@@ -185,7 +177,7 @@ module _ {X : Type 0} (s : Sort X) (i : IsSort s) (whole before : List Placed) (
         b,
         m,
         e,
-        ap (s.by (c ∷ cs)) own ∙ i.ends (c ∷ cs) (beside before l) l (end-name (property_name l.content) e),
+        ap (s.by (c ∷ cs)) own ∙ i.ends (c ∷ cs) (beside before l) l (end-is (name_on l.content) e),
       ) (by_test (s.stands_at (context_of (c ∷ cs))) (s.by (c ∷ cs) (beside before l)) (begun s whole (placed_from cs lines)))
     where
       by_test : (t : Bool) (x : X) (more : List X) →
@@ -195,7 +187,7 @@ module _ {X : Type 0} (s : Sort X) (i : IsSort s) (whole before : List Placed) (
   step : (n : ℕ) (path : List Open) → IsPlaced whole before path n (line ∷ lines) → least_on stands before (here line path) ≡ None → Steps path
   step n path is none = by_tests (is_begin (here line path)) (is_end (here line path)) refl refl
     where
-      nest : (is_end (here line path) && not (is_closing (here line path))) ≡ false
+      nest : (is_end (here line path) && not (closes path (component (here line path)))) ≡ false
       nest = nested (λ kind. stands kind (beside before (here line path)) (here line path)) none
 
       by_tests : (b e : Bool) → is_begin (here line path) ≡ b → is_end (here line path) ≡ e → Steps path

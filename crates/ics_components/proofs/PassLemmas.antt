@@ -3,7 +3,6 @@ use Rattle.std.proofs.Common.{◌≡◌, ℕ, ◌+◌, ◌<◌, List, [], ◌∷
 use Rattle.std.specs.Prelude.{find}
 use Rattle.std.proofs.lemmas.List.{append-nil}
 use Rattle.std.proofs.lemmas.List.Elements.{All-nil, All-push, All-weaker}
-use Rattle.ics_text.specs.Bytes.{upper}
 use Rattle.ics_text.specs.Unfolded.{Line, Rises}
 use Rattle.ics_text.specs.ContentLines.{Parts, content_of}
 use Rattle.ics_components.specs.declared.fault.FaultKind.{FaultKind}
@@ -15,13 +14,12 @@ use Rattle.ics_components.specs.declared.gathered.LineCheck.{LineCheck}
 use Rattle.ics_components.specs.declared.gathered.Passed.{Passed}
 use Rattle.ics_components.specs.declared.deferred_check.DeferredCheck.{DeferredCheck}
 use Rattle.ics_components.specs.declared.name.Name.{Name}
-use Rattle.ics_components.specs.PlacedLines.{Placed, path_behind, placed_from, innermost, lines_in, beside}
+use Rattle.ics_components.specs.PlacedLines.{Placed, named, path_behind, placed_from, innermost, lines_in, beside}
 use Rattle.ics_components.specs.Faults.{stands, kinds}
 use Rattle.ics_components.specs.FirstFault.{found, first_from, first_fault, fault_at_end, end_fault, no_open}
 use Rattle.ics_components.specs.GatheredSeen.{GatheredSeen}
 use Rattle.ics_components.specs.Gathered.{nothing_gathered, checks_of, and_passed}
 use Rattle.ics_components.specs.Lines.{end_in, check_in, behind, passed}
-use Rattle.ics_components.specs.Names.{name_of}
 use Rattle.ics_components.specs.Pass.{bottom, is_lowest, at_end, unless, on_line, on_content, pass}
 use Rattle.ics_components.proofs.Table.{parts, any-part, frame_of, IsAsked, least-same}
 use Rattle.ics_components.proofs.Bundles.{Bundle, Keeps, Before, falls, open_of, opens, opens-behind, top_beside, zone-beside}
@@ -45,7 +43,7 @@ end-is-known whole before l bundles at =
 -- WHAT IS GATHERED of the lines, given those before.
 abbrev pub later_by : Option Parts → Frame → Option DeferredCheck
 later_by None f = None
-later_by (Some parts) f = check_in (name_of (map upper parts.name)) parts f
+later_by (Some parts) f = check_in (named parts) parts f
 
 abbrev pub checks_on : List Placed → List Placed → Placed → List LineCheck
 checks_on whole beside line = checks_of line.number (later_by line.content (frame_of whole line.path beside))
@@ -119,7 +117,7 @@ module _ (line : Line) {lines : List Line} (again : Known lines) (v : Parts) {wh
   l = with line (opens bundles) (Some v)
 
   abbrev n : Name
-  n = name_of (map upper v.name)
+  n = named v
 
   abbrev frames : List Frame
   frames = frames_of whole bundles
@@ -166,7 +164,7 @@ step : (line : Line) {lines : List Line} → Known lines → (o : Option Parts) 
 step line again None on had = refl
 step line again (Some v) {whole} {before} {bundles} on had =
     let l : Placed = with line (opens bundles) (Some v) in
-    let n : Name = name_of (map upper v.name) in
+    let n : Name = named v in
     rw (
       passing-top whole before n v bundles,
       fault-top whole before n v bundles,

@@ -1,5 +1,5 @@
 -- What is read of a value is in order, and so are what is collected of a component and what ends of it.
-use Rattle.std.proofs.Common.{◌≡◌, ℕ, Bool, true, false, not, List, [], ◌∷◌, refl, sym, subst, cond, Result, Ok, Err, map, ℤ, pos, arith, ◌≢◌, ◌≤◌}
+use Rattle.std.proofs.Common.{◌≡◌, ℕ, Bool, true, false, not, List, [], ◌∷◌, refl, sym, ◌∙◌, subst, cond, Result, Ok, Err, map, ℤ, pos, arith, ◌≢◌, ◌≤◌}
 use Rattle.std.proofs.Common.{◌+◌, ◌*◌, nat_le, ◌&&◌, ◌||◌, Option, Some, None, is_some, IfSome}
 use Rattle.std.specs.Prelude.{filter_map, unwrap_or, option_map}
 use Rattle.std.specs.List.{All}
@@ -37,12 +37,14 @@ use Rattle.ics_components.specs.Builders.{event_ended, observance_ended}
 use Rattle.ics_components.specs.DateLists.{list_of}
 use Rattle.ics_components.specs.DateValues.{date_time_of, period_of, rdate_of, value_of, values_of, listed_in, local_in}
 use Rattle.ics_components.specs.GivenTimes.{dated_in, given_length}
-use Rattle.ics_components.specs.Lines.{event_zone, event_note, observance_note, end_of_event, end_of_zone}
+use Rattle.ics_components.specs.Lines.{event_zone, event_note, observance_note, end_fault}
+use Rattle.ics_components.proofs.Judgements.{event_end, zone_end}
 use Rattle.ics_components.specs.Observances.{locals_of, onset_in, offset_in, daily_in}
 use Rattle.ics_components.specs.SecondRound.{used_zone, used_in, listed_zone, ends_in}
 use Rattle.ics_components.specs.Sound.{IsSoundStamp, IsSoundValue, IsSoundList, IsSoundLength, IsWhole, IsSoundObservance, IsSoundZone, EachZone, end_of}
 use Rattle.ics_components.specs.Values.{stamp_in, duration_in, lasting_of, is_lasting, allowed, is_filled, ends_badly}
-use Rattle.ics_components.specs.declared.builder.ObservanceBuilder.{ObservanceBuilder}
+use Rattle.ics_components.specs.declared.observance_builder.ObservanceBuilder.{ObservanceBuilder}
+use Rattle.ics_components.specs.declared.builder.Builder.TheVariants as builder
 use Rattle.ics_components.specs.declared.builder.ZoneBuilder.{ZoneBuilder}
 use Rattle.ics_components.specs.declared.date_list.DateList.{DateList}
 use Rattle.ics_components.specs.declared.date_list.ListedDate.{ListedDate}
@@ -180,8 +182,8 @@ observance-sound had h = record {
 }
 
 -- A TIME ZONE that ends has an observance.
-pub zone-sound : (had : ZoneBuilder) → All IsSoundObservance had.observances → end_of_zone had ≡ None → IsSoundZone had.observances
-zone-sound had h n = record { filled = λ e. let never = rw e at n in cc; sound = h }
+pub zone-sound : (had : ZoneBuilder) → All IsSoundObservance had.observances → end_fault true (builder.Zone had) ≡ None → IsSoundZone had.observances
+zone-sound had h n = record { filled = λ e. let never = rw e at (sym (zone_end had) ∙ n) in cc; sound = h }
 
 -- AN EVENT is in order as far as locals say.
 filled-not-empty : (o : Option (List ℕ)) → is_filled o ≡ true → unwrap_or o [] ≢ []
@@ -240,10 +242,10 @@ module _ (P : DeferredCheck → Type 0) (k : ℕ) where
   length-looked None (Some e) h = tt
   length-looked s None h = tt
 
-  pub event-sound : (had : EventBuilder) → IsSoundStarted had → end_of_event had ≡ None → IfSome (ends_in k had.start had.end) P →
+  pub event-sound : (had : EventBuilder) → IsSoundStarted had → end_fault true (builder.Event had) ≡ None → IfSome (ends_in k had.start had.end) P →
       IsWhole (event_ended k had) × EachZone P (event_ended k had)
   event-sound had h n c =
-      let f = no-faults (is_filled had.uid) (is_some had.start) (is_some had.end && is_some had.duration) (ends_badly had.start had.end) n in
+      let f = no-faults (is_filled had.uid) (is_some had.start) (is_some had.end && is_some had.duration) (ends_badly had.start had.end) (sym (event_end had) ∙ n) in
       let start = start-sound had.start h.0 in (
         record {
           named = filled-not-empty had.uid f.0;

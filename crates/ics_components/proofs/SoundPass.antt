@@ -1,11 +1,8 @@
 -- What is gathered is sound, where the first round finds nothing: each line keeps what is open and what is gathered so.
-use Rattle.std.proofs.Common.{◌≡◌, ℕ, suc, ◌==◌, length, Bool, List, [], ◌∷◌, ◌++◌, map, refl, cond, Option, Some, None, IfSome, IfOk, Result, Ok, Err}
-use Rattle.std.proofs.Common.{arith}
+use Rattle.std.proofs.Common.{◌≡◌, ℕ, Bool, true, false, List, [], ◌∷◌, ◌++◌, map, refl, sym, ◌∙◌, Option, Some, None, IfSome, IfOk, Result, Ok, Err}
 use Rattle.std.specs.Prelude.{option_map}
 use Rattle.std.specs.List.{All, Contains}
-use Rattle.std.specs.Str.{bytes_eq}
 use Rattle.std.proofs.lemmas.Bool.{cond_both}
-use Rattle.std.proofs.lemmas.Bool.Decides.{nat_tests}
 use Rattle.std.proofs.lemmas.List.{length-map, get_or-map}
 use Rattle.std.proofs.lemmas.List.Elements.{All-nil, All-cons, All-head, All-tail, All-push, All-append}
 use Rattle.std.proofs.lemmas.Option.{IfSome_then}
@@ -17,12 +14,14 @@ use Rattle.ics_text.specs.Unfolded.{Line}
 use Rattle.ics_values.specs.declared.stamp.Stamp.{Stamp}
 use Rattle.ics_values.specs.declared.stamp.Stamp.TheVariants as stamp
 use Rattle.ics_components.specs.Builders.{builder_at, observance_ended}
-use Rattle.ics_components.specs.Components.{component_of, component_name, context_in}
+use Rattle.ics_components.specs.Components.{component_of, context_in}
 use Rattle.ics_components.specs.FirstFault.{Fault}
 use Rattle.ics_components.specs.Gathered.{IsSoundInstant, IsSoundCheck, IsSoundGathered, nothing_gathered, zones_of_end, events_of_end, checks_of, and_passed}
 use Rattle.ics_components.specs.GatheredSeen.{GatheredSeen}
-use Rattle.ics_components.specs.Lines.{builder_note, builder_zone, fault_at_end_of, ended_as, joined, end_check}
-use Rattle.ics_components.specs.Lines.{calendar_in, named, fault_on, behind, passing}
+use Rattle.ics_components.specs.Lines.{builder_note, builder_zone, end_fault, is_of, ended_as, joined, end_check}
+use Rattle.ics_components.specs.Lines.{calendar_in, context_on, fault_on, behind, passing}
+use Rattle.ics_components.specs.PlacedLines.{named}
+use Rattle.ics_components.proofs.Judgements.{outside_end, unmatched_end}
 use Rattle.ics_components.specs.Pass.{bottom, unless, at_end, on_line, on_content, pass}
 use Rattle.ics_components.specs.SecondRound.{instant_on, instant_in, both_compared, ends_in}
 use Rattle.ics_components.specs.Sound.{EachZone, IsWhole, IsSoundStamp, IsSoundObservance, IsSoundZone}
@@ -39,7 +38,6 @@ use Rattle.ics_components.specs.declared.deferred_check.Instant.{Instant}
 use Rattle.ics_components.specs.declared.deferred_check.Instant.TheVariants as instant
 use Rattle.ics_components.specs.declared.deferred_check.ZoneName.{ZoneName}
 use Rattle.ics_components.specs.declared.fault.FaultKind.{FaultKind}
-use Rattle.ics_components.specs.declared.fault.FaultKind.TheVariants.{BadNesting, NotCalendar}
 use Rattle.ics_components.specs.declared.frame.Frame.{Frame}
 use Rattle.ics_components.specs.declared.gathered.Ended.{Ended}
 use Rattle.ics_components.specs.declared.gathered.Ended.TheVariants as ended
@@ -79,7 +77,7 @@ abbrev IsSoundBuilder : (DeferredCheck → Type 0) → ℕ → Builder → Type 
 IsSoundBuilder P k (builder.Event had) = IsSoundStarted P k had
 IsSoundBuilder P k (builder.Zone had) = All IsSoundObservance had.observances
 IsSoundBuilder P k (builder.Observance had) = IsSoundBegun had
-IsSoundBuilder P k builder.Nothing = Unit {0}
+IsSoundBuilder P k _ = Unit {0}
 
 abbrev AreSound : (DeferredCheck → Type 0) → List Frame → Type 0
 AreSound P [] = Unit {0}
@@ -94,8 +92,10 @@ IsSoundEnd P ended.Nothing = Unit {0}
 abbrev IsSoundStep : (DeferredCheck → Type 0) → List Frame × Passed → Type 0
 IsSoundStep P r = IfSome r.1.check P → AreSound P r.0 × IsSoundEnd P r.1.ended × IfSome r.1.check IsSoundCheck
 
-matched : (depth : ℕ) (t : Bool) (o : Option FaultKind) → cond (suc depth == 0) (Some NotCalendar) (cond t o (Some BadNesting)) ≡ None → o ≡ None
-matched depth t o n = grind (arith, nat_tests)
+-- an END without a fault matches
+matched : (b : Builder) (t : Bool) → end_fault t b ≡ None → end_fault true b ≡ None
+matched b true n = n
+matched b false n = let never = sym (unmatched_end b) ∙ n in cc
 
 module _ (P : DeferredCheck → Type 0) where
   fresh-sound : (k : ℕ) (q : Context) → IsSoundBuilder P k (builder_at [] [] q)
@@ -110,14 +110,14 @@ module _ (P : DeferredCheck → Type 0) where
   noted-sound k name.Tzid v (builder.Zone had) h c = h
   noted-sound k _ v (builder.Zone had) h c = h
   noted-sound k n v (builder.Observance had) h c = observance-noted n v had h
-  noted-sound k n v builder.Nothing h c = tt
+  noted-sound k n v _ h c = tt
 
   joined-sound : (k m : ℕ) (outer b : Builder) → IsSoundBuilder P m outer → IsSoundBuilder P k b → IsSoundBuilder P m (joined outer b)
   joined-sound k m (builder.Zone outer) (builder.Observance had) o h =
       All-push IsSoundObservance outer.observances (observance_ended had) o (observance-sound had h)
   joined-sound k m _ _ o h = o
 
-  ended-sound : (k : ℕ) (b : Builder) → IsSoundBuilder P k b → fault_at_end_of b ≡ None → IfSome (end_check k b) P →
+  ended-sound : (k : ℕ) (b : Builder) → IsSoundBuilder P k b → end_fault true b ≡ None → IfSome (end_check k b) P →
       IsSoundEnd P (ended_as k b) × IfSome (end_check k b) IsSoundCheck
   ended-sound k (builder.Event had) h n c = (
     event-sound P k had h n c,
@@ -130,12 +130,11 @@ module _ (P : DeferredCheck → Type 0) where
       IsSoundStep P (behind number n v frames, passing n v frames)
   step-sound number name.Begin v [] h none c = (tt, tt, tt)
   step-sound number name.Begin v (f ∷ fs) h none c =
-      ((fresh-sound (calendar_in number (f ∷ fs)) (context_in f.context (component_of (map upper v.value))), h), tt, tt)
+      ((fresh-sound (calendar_in number (f ∷ fs)) (context_in (context_on (f ∷ fs)) (component_of (map upper v.value))), h), tt, tt)
   step-sound number name.End v [] h none c = (tt, tt, tt)
-  step-sound number name.End v (f ∷ []) h none c = cc
+  step-sound number name.End v (f ∷ []) h none c = let never = sym (outside_end v) ∙ none in cc
   step-sound number name.End v (f ∷ g ∷ gs) h none c =
-      let matches : Bool = bytes_eq (map upper v.value) (component_name f.component) in
-      let end = ended-sound f.calendar f.builder h.0 (matched (length gs) matches (fault_at_end_of f.builder) none) c in
+      let end = ended-sound f.calendar f.builder h.0 (matched f.builder (is_of v.value f) none) c in
       ((joined-sound f.calendar g.calendar g.builder f.builder h.1.0 h.0, h.1.1), end.0, end.1)
   step-sound number _ v [] h none c = (tt, tt, tt)
   step-sound number n v (f ∷ fs) h none c = ((noted-sound f.calendar n v f.builder h.0 c, h.1), tt, zone-check (builder_zone f.calendar n v f.builder))

@@ -1,36 +1,30 @@
--- The table of faults and the pass find one fault on a line.
+-- The table of faults reads the lines beside a line as a component has them that is being built.
 use Rattle.std.proofs.lemmas.Bool.Decides.{nat_tests}
-use Rattle.std.proofs.Common.{rules, ◌≡◌, ℕ, Bool, true, false, List, [], ◌∷◌, map, refl, ap, ◌∙◌, arith, cond, Option, Some, None, Result}
-use Rattle.std.specs.Prelude.{codes, length, find, filter, not, nat_le, ◌==◌, ◌||◌, is_some, option_map}
+use Rattle.std.proofs.Common.{arith, ◌≡◌, ◌≢◌, ℕ, suc, Bool, true, false, List, [], ◌∷◌, map, refl, ap, ◌∙◌, ◌||◌, cond, Option, Some, None}
+use Rattle.std.specs.Prelude.{length, find, filter, not, ◌==◌, is_some, option_map}
 use Rattle.std.specs.List.{list_any}
-use Rattle.std.specs.Option.{option_or}
 use Rattle.std.specs.Str.{bytes_eq}
-use Rattle.std.proofs.Math.Bool.{and-true, and-false, and_assoc, or_comm}
 use Rattle.ics_text.specs.Bytes.{upper}
 use Rattle.ics_text.specs.ContentLines.{Parts}
-use Rattle.ics_values.specs.Rules.{rule_of}
 use Rattle.ics_fields.specs.Observances.{ObservanceSaid}
-use Rattle.ics_fields.specs.RuleParts.{RuleParts}
-use Rattle.ics_values.specs.declared.rule_text.RuleFault.{RuleFault}
 use Rattle.ics_components.specs.declared.component.Component.{Component}
 use Rattle.ics_components.specs.declared.component.Component.TheVariants as component
 use Rattle.ics_components.specs.declared.component.Context.{Context}
 use Rattle.ics_components.specs.declared.component.Context.TheVariants as context
 use Rattle.ics_components.specs.declared.fault.FaultKind.{FaultKind}
-use Rattle.ics_components.specs.declared.fault.FaultKind.TheVariants.{BadRule, NumberTooLarge, NotCalendar, TooDeep}
+use Rattle.ics_components.specs.declared.fault.FaultKind.TheVariants as kind
 use Rattle.ics_components.specs.declared.frame.Frame.{Frame}
 use Rattle.ics_components.specs.declared.name.Name.{Name}
 use Rattle.ics_components.specs.declared.name.Name.TheVariants as name
-use Rattle.ics_components.specs.Components.{component_of, component_name, is_outside_context, is_zone_context}
-use Rattle.ics_components.specs.Names.{name_of}
-use Rattle.ics_components.specs.PlacedLines.{Placed, Open, context_of, closes, begins_observance, calendar_of, lines_in, has, first_named}
-use Rattle.ics_components.specs.Values.{is_bad_rule, is_large_rule, is_fine_rule}
-use Rattle.ics_components.specs.Faults.{stands, kinds}
+use Rattle.ics_components.specs.Components.{component_of, component_name, is_zone_context}
+use Rattle.ics_components.specs.Names.{same_name}
+use Rattle.ics_components.specs.PlacedLines.{Placed, Open, named, context_of, closes, begins_observance, calendar_of, lines_in, is_named, has, first_of, all_named, first_named}
+use Rattle.ics_components.specs.PlacedLines.{name_on}
+use Rattle.ics_components.specs.Faults.{Plain, reading_in, Judged, Beside, faulty, beside_by, stands, kinds}
 pub use Rattle.ics_components.specs.Builders.{collected_of, zone_of, observance_of, builder_at}
-use Rattle.ics_components.specs.Lines.{fault_if, rule_fault_of, outside_fault, fault_in}
+use Rattle.ics_components.specs.Lines.{beside_in, context_at, least_fault, is_mark, fault_in}
 use Rattle.ics_components.specs.Observances.{observance_by, begins_in_zone}
-use Rattle.ics_components.proofs.DateValueLemmas.{first-cond}
-use Rattle.ics_components.proofs.NameLemmas.{Tells, tells, TellsComponent, tells_component, component_name-of, context-in-outside}
+use Rattle.ics_components.proofs.NameLemmas.{no-mark, component_name-of, context-in-outside}
 
 -- the observances that begin on the lines, in a file of all these lines
 abbrev pub own : List Placed → Placed → ObservanceSaid
@@ -41,110 +35,164 @@ parts whole ls = map (own whole) (filter begins_in_zone ls)
 
 pub any-part : (whole ls : List Placed) → list_any begins_in_zone ls ≡ not (length (parts whole ls) == 0)
 any-part whole [] = refl
-any-part whole (l ∷ ls) = let again = any-part whole ls in grind (arith, nat_tests)
+any-part whole (l ∷ ls) = by_test (any-part whole ls) (begins_in_zone l)
+  where
+    by_test : list_any begins_in_zone ls ≡ not (length (parts whole ls) == 0) → (t : Bool) →
+        t || list_any begins_in_zone ls ≡ not (length (map (own whole) (cond t (l ∷ filter begins_in_zone ls) (filter begins_in_zone ls))) == 0)
+    by_test again true = grind (arith, nat_tests)
+    by_test again false = again
 
 -- the innermost component of a path; below all there is none
 abbrev pub top_component : List Open → Component
 top_component [] = component.Other []
 top_component (c ∷ cs) = component_of c.name
 
--- the frame that a path and the lines directly in its innermost component stand for, by where these stand
-abbrev pub frame_at : List Placed → List Open → List Placed → Context → Frame
-frame_at whole path ls q = record { component = top_component path; context = q; calendar = calendar_of path; builder = builder_at (parts whole ls) ls q }
-
+-- the frame that a path and the lines directly in its innermost component stand for
 abbrev pub frame_of : List Placed → List Open → List Placed → Frame
-frame_of whole path ls = frame_at whole path ls (context_of path)
+frame_of whole path ls =
+    record { component = top_component path; calendar = calendar_of path; builder = builder_at (parts whole ls) ls (context_of path) }
 
 -- the time zone on whose lines an END stands has an observance exactly where one has begun there
 abbrev pub IsAsked : List Placed → List Open → List Placed → Type 0
 IsAsked whole path ls = is_zone_context (context_of path) ≡ true → list_any begins_observance ls ≡ not (length (parts whole ls) == 0)
 
 -- a line has the name exactly where the first such line says something
-pub has-first : {X : Type 0} (f : Placed → X) (n : List ℕ) (ls : List Placed) → is_some (option_map f (first_named n ls)) ≡ has n ls
+pub has-first : {X : Type 0} (f : Placed → X) (n : Name) (ls : List Placed) → is_some (option_map f (first_named n ls)) ≡ has n ls
 has-first f n [] = refl
-has-first f n (k ∷ ks) = let again = has-first f n ks in grind arith
+has-first f n (k ∷ ks) = by_test (has-first f n ks) (is_named n k)
+  where
+    by_test : is_some (option_map f (first_named n ks)) ≡ has n ks → (t : Bool) → is_some (option_map f (first_of (cond t (k ∷ all_named n ks) (all_named n ks)))) ≡ t || has n ks
+    by_test again true = refl
+    by_test again false = again
 
--- FAULTS BY TESTS, the least first. What a value meets stands before what its line meets.
-or-cond : (a b : Bool) (x y : Option FaultKind) → cond (a || b) x y ≡ cond a x (cond b x y)
-or-cond a b x y = grind arith
+-- where the lines of a component stand, by what is collected of it
+context-is : (os : List ObservanceSaid) (ls : List Placed) (q : Context) → q ≢ context.Outside → context_at (builder_at os ls q) ≡ q
+context-is os ls context.Outside o = absurd (o refl)
+context-is os ls _ o = refl
 
-not-cond : (t : Bool) (x y : Option FaultKind) → cond (not t) x y ≡ cond t y x
-not-cond t x y = grind arith
+pub context-at : (whole ls : List Placed) (c : Open) (cs : List Open) →
+    context_at (builder_at (parts whole ls) ls (context_of (c ∷ cs))) ≡ context_of (c ∷ cs)
+context-at whole ls c cs = context-is (parts whole ls) ls (context_of (c ∷ cs)) (context-in-outside (context_of cs) (component_of c.name))
 
-rule-is : (r : Result RuleParts RuleFault) → rule_fault_of r ≡ cond (is_bad_rule r) (Some BadRule) (cond (is_large_rule r) (Some NumberTooLarge) None)
-rule-is r = grind arith
+-- A LINE AS IT IS JUDGED, of these parts.
+abbrev judged_at : Context → Name → Parts → ℕ → Bool → Judged
+judged_at q n v depth closes = record { context = q; name = n; params = v.params; value = v.value; depth = depth; closes = closes }
 
-ruleset by_tests = (first-cond, or-cond, not-cond, rule-is, has-first)
+-- its faults are the same of the lines beside it and of what is collected of them
+module _ (whole ls : List Placed) where
+  beside-same : (k : FaultKind) (q : Context) (n : Name) (v : Parts) (depth : ℕ) (t : Bool) →
+      (is_zone_context q ≡ true → list_any begins_observance ls ≡ not (length (parts whole ls) == 0)) →
+      faulty k (beside_by ls) (judged_at q n v depth t) ≡ faulty k (beside_in (builder_at (parts whole ls) ls q)) (judged_at q n v depth t)
+  beside-same kind.NoObservance context.Zone n v depth t asked = rw (asked refl)
+  beside-same kind.ObservanceField context.Zone name.Tzid v depth t asked = simp has-first
+  beside-same kind.ObservanceField context.Zone name.End v depth t asked = simp has-first
+  beside-same kind.ObservanceField context.Observance name.Dtstart v depth t asked = simp has-first
+  beside-same kind.ObservanceField context.Observance name.OffsetFrom v depth t asked = simp has-first
+  beside-same kind.ObservanceField context.Observance name.OffsetTo v depth t asked = simp has-first
+  beside-same kind.ObservanceField context.Observance name.End v depth t asked = simp has-first
+  beside-same kind.ZoneRule context.Observance n v depth t asked = simp has-first
+  beside-same kind.MissingUid context.Event n v depth t asked = refl
+  beside-same kind.MissingStart context.Event n v depth t asked = simp has-first
+  beside-same kind.BadEnd context.Event n v depth t asked = simp has-first
+  beside-same kind.Repeated context.Event name.Uid v depth t asked = simp has-first
+  beside-same kind.Repeated context.Event name.Dtstart v depth t asked = simp has-first
+  beside-same kind.Repeated context.Event name.Dtend v depth t asked = simp has-first
+  beside-same kind.Repeated context.Event name.Duration v depth t asked = simp has-first
+  beside-same kind.Repeated context.Event name.Rrule v depth t asked = simp has-first
+  beside-same kind.Repeated context.Event name.RecurrenceId v depth t asked = simp has-first
+  beside-same kind.Repeated context.Event name.Sequence v depth t asked = simp has-first
+  beside-same kind q n v depth t asked = refl
 
--- only a calendar begins outside all components
-outside-first : (w : List ℕ) (m : Option FaultKind) (c : Component) → TellsComponent w c →
-    option_or (outside_fault context.Outside c) m ≡ cond (bytes_eq w (codes "VCALENDAR")) m (Some NotCalendar)
-outside-first w m (component.Other n) e = rw (e.0 (codes "VCALENDAR") refl)
-outside-first w m _ e = rw e
+end-reading : (q : Context) (p w : List ℕ) → reading_in q name.End p w ≡ Plain
+end-reading context.Event p w = refl
+end-reading context.Observance p w = refl
+end-reading _ p w = refl
 
--- whether a component begins or ends on a line, by its name
-abbrev pub is_begin_name : Name → Bool
-is_begin_name name.Begin = true
-is_begin_name _ = false
+-- WHAT THE TABLE ASKS of each line: of a BEGIN how many components are open, of an END whether it matches, and of any other line neither.
+module _ (k : FaultKind) (b : Beside) (q : Context) (v : Parts) (depth : ℕ) (t : Bool) where
+  begin-asks : faulty k b (judged_at q name.Begin v depth t) ≡ faulty k b (judged_at q name.Begin v depth false)
+  begin-asks = by_kind k
+    where
+      by_kind : (k : FaultKind) → faulty k b (judged_at q name.Begin v depth t) ≡ faulty k b (judged_at q name.Begin v depth false)
+      by_kind kind.BadLine = refl
+      by_kind _ = refl
 
-abbrev pub is_end_name : Name → Bool
-is_end_name name.End = true
-is_end_name _ = false
+  end-asks : faulty k b (judged_at q name.End v depth t) ≡ faulty k b (judged_at q name.End (record { name = []; params = []; value = [] }) 1 t)
+  end-asks = by_kind k
+    where
+      plain : (p w : List ℕ) → reading_in q name.End p w ≡ Plain
+      plain p w = end-reading q p w
 
-pub marks : (u : List ℕ) (n : Name) → Tells u n → (bytes_eq u (codes "BEGIN") ≡ is_begin_name n) × (bytes_eq u (codes "END") ≡ is_end_name n)
-marks u name.Other e = (e (codes "BEGIN") refl, e (codes "END") refl)
-marks u _ e = rw e (refl, refl)
+      by_kind : (k : FaultKind) →
+          faulty k b (judged_at q name.End v depth t) ≡ faulty k b (judged_at q name.End (record { name = []; params = []; value = [] }) 1 t)
+      by_kind kind.BadStamp = rw (plain v.params v.value, plain [] [])
+      by_kind kind.BadDuration = rw (plain v.params v.value, plain [] [])
+      by_kind kind.BadOffset = rw (plain v.params v.value, plain [] [])
+      by_kind kind.BadRule = rw (plain v.params v.value, plain [] [])
+      by_kind kind.YearRange = rw (plain v.params v.value, plain [] [])
+      by_kind kind.NumberTooLarge = rw (plain v.params v.value, plain [] [])
+      by_kind kind.ObservanceField = rw (plain v.params v.value, plain [] [])
+      by_kind kind.ZoneRule = rw (plain v.params v.value, plain [] [])
+      by_kind _ = refl
 
--- no component is open exactly outside all of them
-none-open : (path : List Open) → (length path == 0) ≡ is_outside_context (context_of path)
-none-open [] = refl
-none-open (c ∷ cs) = let some = context-in-outside (context_of cs) (component_of c.name) in grind (arith, nat_tests, some)
+  line-asks : (n : Name) → is_mark n ≡ false → faulty k b (judged_at q n v depth t) ≡ faulty k b (judged_at q n v 1 false)
+  line-asks n m = let mark = no-mark n m in by_kind k mark.0 mark.1
+    where
+      by_kind : (k : FaultKind) → same_name n name.Begin ≡ false → same_name n name.End ≡ false →
+          faulty k b (judged_at q n v depth t) ≡ faulty k b (judged_at q n v 1 false)
+      by_kind kind.NoObservance e f = rw f
+      by_kind kind.ObservanceField e f = rw f
+      by_kind kind.BadNesting e f = rw f
+      by_kind kind.TooDeep e f = rw e
+      by_kind kind.MissingUid e f = rw f
+      by_kind kind.MissingStart e f = rw f
+      by_kind kind.BadEnd e f = rw f
+      by_kind _ e f = refl
 
-closed-by : (path : List Open) (w : List ℕ) → is_outside_context (context_of path) ≡ false →
-    bytes_eq w (component_name (top_component path)) ≡ closes path w
-closed-by [] w e = cc
-closed-by (c ∷ cs) w e = ap (bytes_eq w) (component_name-of c.name)
+find-same : {X : Type 0} (p q : X → Bool) (ks : List X) → ((k : X) → p k ≡ q k) → find p ks ≡ find q ks
+find-same p q [] h = refl
+find-same p q (k ∷ ks) h = rw (h k, find-same p q ks h)
 
 -- THE LEAST FAULT ON A LINE, of the table and of the pass.
 module _ (whole : List Placed) (path : List Open) (number : ℕ) (v : Parts) (ls : List Placed) (asked : IsAsked whole path ls) where
-  abbrev Same : Name → Type 0
-  Same n =
-      find (λ k. stands k ls (record { number = number; content = Some v; path = path })) kinds ≡ fault_in n v (frame_of whole path ls) (length path)
+  abbrev line : Placed
+  line = record { number = number; content = Some v; path = path }
 
-  -- the same of a line with that name in upper case, which the table then computes
-  abbrev Reads : List ℕ → Name → Type 0
-  Reads w n =
-      find (λ k. stands k ls (record { number = number; content = Some (record v { name = w }); path = path })) kinds
-      ≡ fault_in n v (frame_of whole path ls) (length path)
+  abbrev closed : Bool
+  closed = closes path (map upper v.value)
 
-  read : (w : List ℕ) (n : Name) → map upper v.name ≡ w → map upper w ≡ w → Reads w n → Same n
-  read w n e i r = rw (e, ← i) r
-
-  ended : (q : Context) (t : Bool) → context_of path ≡ q → closes path (map upper v.value) ≡ t →
-      (is_outside_context q ≡ false → bytes_eq (map upper v.value) (component_name (top_component path)) ≡ t) → Reads (codes "END") name.End
-  ended context.Outside t c m s = rw (none-open path, c, m) (simp and-false)
-  ended context.Zone true c m s = rw (none-open path, asked (ap is_zone_context c), c, m, s refl) (simp (by_tests, and-true))
-  ended context.Observance true c m s = rw (none-open path, c, m, s refl) (simp (by_tests, and-true, and_assoc))
-  ended _ true c m s = rw (none-open path, c, m, s refl) (first_of (simp by_tests, search rules))
-  ended _ false c m s = rw (none-open path, c, m, s refl)
-
-  same : (n : Name) (q : Context) → Tells (map upper v.name) n → context_of path ≡ q → Same n
-  same name.Begin context.Outside e c =
-      let w : List ℕ = map upper v.value in
-      read _ name.Begin e refl (rw (c, outside-first w (fault_if TooDeep (nat_le 32 (length path))) (component_of w) (tells_component w)) (simp by_tests))
-  same name.Begin _ e c = read _ name.Begin e refl (rw c)
-  same name.End q e c =
-      read _ name.End e refl (ended q (closes path (map upper v.value)) c refl (λ o. closed-by path (map upper v.value) (ap is_outside_context c ∙ o)))
-  same name.Rrule context.Observance e c =
-      read _ name.Rrule e refl (rw (c, or_comm (has (codes "RRULE") ls) (is_fine_rule (rule_of v.value))) (simp by_tests))
-  same name.Tzid context.Zone e c = read _ name.Tzid e refl (rw c (simp has-first))
-  same name.Other context.Event e c = rw c (simp e)
-  same name.Other _ e c = rw c (simp e)
-  same n context.Event e c = read _ n e refl (rw c (first_of (simp by_tests, search rules)))
-  same n context.Observance e c = read _ n e refl (rw c (first_of (simp by_tests, search rules)))
-  same n _ e c = read _ n e refl (rw c)
+  -- what stands on the line, of what is collected of the lines beside it
+  placed-same : (k : FaultKind) →
+      stands k ls line
+      ≡ faulty k (beside_in (builder_at (parts whole ls) ls (context_of path))) (judged_at (context_of path) (named v) v (length path) closed)
+  unfolding name_on
+  placed-same kind.BadLine = refl
+  placed-same k = beside-same whole ls k (context_of path) (named v) v (length path) closed asked
 
 pub least-same : (whole : List Placed) (path : List Open) (number : ℕ) (v : Parts) (ls : List Placed) → IsAsked whole path ls →
     find (λ k. stands k ls (record { number = number; content = Some v; path = path })) kinds
-    ≡ fault_in (name_of (map upper v.name)) v (frame_of whole path ls) (length path)
-least-same whole path number v ls asked = same whole path number v ls asked (name_of (map upper v.name)) (context_of path) (tells (map upper v.name)) refl
+    ≡ fault_in (named v) v (frame_of whole path ls) (length path)
+unfolding least_fault
+least-same whole [] number v ls asked = find-same _ _ kinds (placed-same whole [] number v ls asked)
+least-same whole (c ∷ cs) number v ls asked =
+    find-same _ _ kinds (placed-same whole path number v ls asked) ∙ by_name (named v)
+  where
+    path : List Open
+    path = c ∷ cs
+
+    q : Context
+    q = context_of (c ∷ cs)
+
+    b : Beside
+    b = beside_in (builder_at (parts whole ls) ls (context_of (c ∷ cs)))
+
+    t : Bool
+    t = closes (c ∷ cs) (map upper v.value)
+
+    matches : bytes_eq (map upper v.value) (component_name (component_of c.name)) ≡ t
+    matches = ap (bytes_eq (map upper v.value)) (component_name-of c.name)
+
+    by_name : (n : Name) → find (λ k. faulty k b (judged_at q n v (suc (length cs)) t)) kinds ≡ fault_in n v (frame_of whole (c ∷ cs) ls) (suc (length cs))
+    by_name name.Begin = rw (context-at whole ls c cs) (find-same _ _ kinds (λ k. begin-asks k b q v (suc (length cs)) t))
+    by_name name.End = rw (context-at whole ls c cs, matches) (find-same _ _ kinds (λ k. end-asks k b q v (suc (length cs)) t))
+    by_name n = rw (context-at whole ls c cs) (find-same _ _ kinds (λ k. line-asks k b q v (suc (length cs)) t n refl))

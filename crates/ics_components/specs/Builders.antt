@@ -1,15 +1,16 @@
 -- What the reader has of an event, of a time zone and of an observance, and what each is at its END.
 -- These are the words of the code alone. No public contract cites them.
-use Rattle.std.specs.Prelude.{ℕ, false, List, [], map, flat_map, codes, unwrap_or, option_map, pos}
+use Rattle.std.specs.Prelude.{ℕ, false, List, [], map, flat_map, unwrap_or, option_map, pos}
 use Rattle.ics_fields.specs.Locals.{local_at}
 use Rattle.ics_fields.specs.Observances.{ObservanceSaid}
 use Rattle.ics_components.specs.declared.builder.Builder.{Builder}
 use Rattle.ics_components.specs.declared.builder.Builder.TheVariants as builder
-use Rattle.ics_components.specs.declared.builder.ObservanceBuilder.{ObservanceBuilder}
+use Rattle.ics_components.specs.declared.observance_builder.ObservanceBuilder.{ObservanceBuilder}
 use Rattle.ics_components.specs.declared.builder.ZoneBuilder.{ZoneBuilder}
 use Rattle.ics_components.specs.declared.component.Context.{Context}
 use Rattle.ics_components.specs.declared.component.Context.TheVariants as context
 use Rattle.ics_components.specs.declared.event_builder.EventBuilder.{EventBuilder}
+use Rattle.ics_components.specs.declared.name.Name.TheVariants as name
 use Rattle.ics_components.specs.declared.gathered.EndedEvent.{EndedEvent}
 use Rattle.ics_components.specs.declared.gathered.EndedZone.{EndedZone}
 use Rattle.ics_values.specs.Integers.{integer_of}
@@ -23,40 +24,41 @@ use Rattle.ics_components.specs.Values.{ok_or_zero, is_cancelled}
 -- WHAT IS COLLECTED of the lines that stand directly in a component: an event
 abbrev pub collected_of : List Placed → EventBuilder
 collected_of lines = record {
-  uid = first_text (codes "UID") lines;
-  start = first_dated (codes "DTSTART") lines;
-  end = first_dated (codes "DTEND") lines;
-  duration = option_map duration_on (first_named (codes "DURATION") lines);
-  rule = option_map parts_on (first_named (codes "RRULE") lines);
-  rdates = map (listed_on Rdate) (all_named (codes "RDATE") lines);
-  exdates = map (listed_on Exdate) (all_named (codes "EXDATE") lines);
-  recurrence = first_dated (codes "RECURRENCE-ID") lines;
-  sequence = option_map (λ line. ok_or_zero (integer_of (value line))) (first_named (codes "SEQUENCE") lines);
-  title = first_text (codes "SUMMARY") lines;
-  location = first_text (codes "LOCATION") lines;
-  description = first_text (codes "DESCRIPTION") lines;
-  cancelled = option_map (λ line. is_cancelled (value line)) (first_named (codes "STATUS") lines);
+  uid = first_text name.Uid lines;
+  start = first_dated name.Dtstart lines;
+  end = first_dated name.Dtend lines;
+  duration = option_map duration_on (first_named name.Duration lines);
+  rule = option_map parts_on (first_named name.Rrule lines);
+  rdates = map (listed_on Rdate) (all_named name.Rdate lines);
+  exdates = map (listed_on Exdate) (all_named name.Exdate lines);
+  recurrence = first_dated name.RecurrenceId lines;
+  sequence = option_map (λ line. ok_or_zero (integer_of (value line))) (first_named name.Sequence lines);
+  title = first_text name.Summary lines;
+  location = first_text name.Location lines;
+  description = first_text name.Description lines;
+  cancelled = option_map (λ line. is_cancelled (value line)) (first_named name.Status lines);
 }
 
 -- a time zone whose observances are these
 abbrev pub zone_of : List ObservanceSaid → List Placed → ZoneBuilder
-zone_of observances lines = record { name = first_text (codes "TZID") lines; observances = observances }
+zone_of observances lines = record { name = first_text name.Tzid lines; observances = observances }
 
 -- an observance
 abbrev pub observance_of : List Placed → ObservanceBuilder
 observance_of lines = record {
-  start = option_map onset_on (first_named (codes "DTSTART") lines);
-  from = option_map offset_on (first_named (codes "TZOFFSETFROM") lines);
-  to = option_map offset_on (first_named (codes "TZOFFSETTO") lines);
-  rule = option_map daily_on (first_named (codes "RRULE") lines);
-  rdates = flat_map onsets_by (all_named (codes "RDATE") lines);
+  start = option_map onset_on (first_named name.Dtstart lines);
+  from = option_map offset_on (first_named name.OffsetFrom lines);
+  to = option_map offset_on (first_named name.OffsetTo lines);
+  rule = option_map daily_on (first_named name.Rrule lines);
+  rdates = flat_map onsets_by (all_named name.Rdate lines);
 }
 
 abbrev pub builder_at : List ObservanceSaid → List Placed → Context → Builder
+builder_at observances lines context.Calendar = builder.Calendar
 builder_at observances lines context.Event = builder.Event (collected_of lines)
 builder_at observances lines context.Zone = builder.Zone (zone_of observances lines)
 builder_at observances lines context.Observance = builder.Observance (observance_of lines)
-builder_at observances lines _ = builder.Nothing
+builder_at observances lines _ = builder.Elsewhere
 
 -- the event of a calendar that ends with what is collected; an accepted file has the fields that are asked for
 abbrev pub event_ended : ℕ → EventBuilder → EndedEvent

@@ -1,18 +1,16 @@
--- What the reader makes of a line: what it has of the components that are open, or the fault on it, which is the least that stands there.
--- These are the words of the code alone. No public contract cites them: what a file is stands in Faults and Files, and the proofs show that they agree.
-use Rattle.std.specs.Prelude.{ℕ, Bool, false, ◌&&◌, ◌||◌, not, ◌==◌, nat_le, List, [], ◌∷◌, ◌++◌, length, map, codes, Option, Some, None, is_some, option_map}
+-- What the reader makes of a line: what it has of the components that are open, or the least fault on it, by the table.
+-- These are the words of the pass over the lines. What a file is stands in Faults and Files, and the proofs show that they agree.
+use Rattle.std.specs.Prelude.{ℕ, zero, suc, Bool, true, false, not, ◌==◌, List, [], ◌∷◌, ◌++◌, length, map, find, Option, Some, None, is_some, option_map}
 use Rattle.std.specs.Prelude.{Result, Ok, Err, ◌≡◌, if◌then◌else◌}
-use Rattle.std.specs.List.{list_any}
 use Rattle.std.specs.Option.{option_or}
 use Rattle.std.specs.Ordering.{ord_min}
 use Rattle.std.specs.Result.{result_map_both}
 use Rattle.std.specs.Str.{bytes_eq}
 use Rattle.ics_text.specs.Bytes.{upper}
-use Rattle.ics_text.specs.ContentLines.{Parts, param_of}
+use Rattle.ics_text.specs.ContentLines.{Parts}
 use Rattle.ics_values.specs.Integers.{integer_of}
 use Rattle.ics_values.specs.Offsets.{offset_of}
 use Rattle.ics_values.specs.Plain.{text_of}
-use Rattle.ics_fields.specs.RuleParts.{RuleParts}
 use Rattle.ics_values.specs.Rules.{rule_of}
 use Rattle.ics_values.specs.Stamps.{stamp_of}
 use Rattle.ics_values.specs.declared.duration.Duration.{Duration}
@@ -23,42 +21,44 @@ use Rattle.ics_values.specs.declared.rule_text.RuleFault.TheVariants as rule
 use Rattle.ics_values.specs.declared.stamp.Stamp.{Stamp}
 use Rattle.ics_values.specs.declared.stamp.StampFault.{StampFault}
 use Rattle.ics_values.specs.declared.stamp.StampFault.TheVariants as stamp_fault
-use Rattle.ics_components.specs.declared.event_builder.EventBuilder.{EventBuilder}
+use Rattle.ics_components.specs.contracts.fault.FaultKindOrd.TheImpl as order
+use Rattle.ics_components.specs.declared.builder.Builder.{Builder}
+use Rattle.ics_components.specs.declared.builder.Builder.TheVariants as builder
 use Rattle.ics_components.specs.declared.component.Component.{Component}
-use Rattle.ics_components.specs.declared.component.Component.TheVariants as component
 use Rattle.ics_components.specs.declared.component.Context.{Context}
 use Rattle.ics_components.specs.declared.component.Context.TheVariants as context
-use Rattle.ics_components.specs.contracts.fault.FaultKindOrd.TheImpl as order
 use Rattle.ics_components.specs.declared.date_list.ListedDate.{ListedDate}
 use Rattle.ics_components.specs.declared.date_list.ListedDate.TheVariants as listed
 use Rattle.ics_components.specs.declared.date_values.Listing.TheVariants as listing
+use Rattle.ics_components.specs.declared.deferred_check.DeferredCheck.{DeferredCheck}
+use Rattle.ics_components.specs.declared.deferred_check.DeferredCheck.TheVariants.{Zone}
+use Rattle.ics_components.specs.declared.deferred_check.ZoneName.{ZoneName}
+use Rattle.ics_components.specs.declared.event_builder.EventBuilder.{EventBuilder}
 use Rattle.ics_components.specs.declared.fault.FaultKind.{FaultKind}
 use Rattle.ics_components.specs.declared.fault.FaultKind.TheVariants as kind
 use Rattle.ics_components.specs.declared.frame.Frame.{Frame}
 use Rattle.ics_components.specs.declared.gathered.Ended.{Ended}
 use Rattle.ics_components.specs.declared.gathered.Ended.TheVariants as ended
 use Rattle.ics_components.specs.declared.gathered.Passed.{Passed}
-use Rattle.ics_components.specs.declared.deferred_check.DeferredCheck.{DeferredCheck}
-use Rattle.ics_components.specs.declared.deferred_check.DeferredCheck.TheVariants.{Zone}
-use Rattle.ics_components.specs.declared.deferred_check.ZoneName.{ZoneName}
 use Rattle.ics_components.specs.declared.name.Name.{Name}
 use Rattle.ics_components.specs.declared.name.Name.TheVariants as name
+use Rattle.ics_components.specs.declared.observance_builder.ObservanceBuilder.{ObservanceBuilder}
+use Rattle.ics_components.specs.declared.observance_builder.ObservanceProperty.{ObservanceProperty}
+use Rattle.ics_components.specs.declared.observance_builder.ObservanceProperty.TheVariants as of_observance
+use Rattle.ics_components.specs.declared.property.Property.{Property}
+use Rattle.ics_components.specs.declared.property.Property.TheVariants as property
 use Rattle.ics_components.specs.declared.refused.Refused.{Refused}
 use Rattle.ics_components.specs.declared.refused.Refused.TheVariants.{Memory, Fault}
-use Rattle.ics_components.specs.declared.builder.ObservanceBuilder.{ObservanceBuilder}
-use Rattle.ics_components.specs.declared.builder.Builder.{Builder}
-use Rattle.ics_components.specs.declared.builder.Builder.TheVariants as builder
 use Rattle.ics_components.specs.declared.builder.ZoneBuilder.{ZoneBuilder}
 use Rattle.ics_components.specs.Builders.{event_ended, builder_at, zone_ended, observance_ended}
 use Rattle.ics_components.specs.Components.{component_of, component_name, context_in}
 use Rattle.ics_components.specs.DateLists.{list_of}
-use Rattle.ics_components.specs.DateValues.{DateValue, At, Between, Lasting, values_of, has_bad_stamp}
-use Rattle.ics_components.specs.DateValues.{has_far_stamp, has_bad_duration, has_large_duration, is_not_local}
-use Rattle.ics_components.specs.Names.{name_of}
-use Rattle.ics_components.specs.Values.{zone_name, stamp_read, dated_of, lasting_of, duration_in, rule_in, ok_or_zero, is_cancelled, is_fine_rule, is_filled}
-use Rattle.ics_components.specs.Values.{ends_badly, is_bad_stamp, is_far_stamp, is_bad_duration, is_large_duration, is_bad_offset, is_large_integer}
+use Rattle.ics_components.specs.DateValues.{DateValue, At, Between, Lasting}
+use Rattle.ics_components.specs.Faults.{Reading, Beside, is_misread, is_unfit, faulty, kinds}
 use Rattle.ics_components.specs.Observances.{locals_of, onset_in, offset_in, daily_in}
+use Rattle.ics_components.specs.PlacedLines.{named}
 use Rattle.ics_components.specs.SecondRound.{zone_in, zone_on, ends_in}
+use Rattle.ics_components.specs.Values.{dated_of, lasting_of, duration_in, rule_in, ok_or_zero, is_cancelled}
 
 -- WHAT A FUNCTION ANSWERS: a value, where no fault stands there, or the fault; nothing is said where memory is refused.
 abbrev pub Gives : {X : Type 0} → Result X Refused → Option FaultKind → X → Type 0
@@ -77,10 +77,13 @@ Notes (Ok x) now fault next value = (fault ≡ None) × (now ≡ next) × (x ≡
 Notes (Err Memory) now fault next value = Unit {0}
 Notes (Err (Fault kind)) now fault next value = fault ≡ Some kind
 
-abbrev pub fault_if : FaultKind → Bool → Option FaultKind
-fault_if kind bad = if bad then Some kind else None
+-- WHAT IS WRONG WITH A VALUE: the least fault of its reading, and why an observance does not take it.
+abbrev pub misread : Reading → Option FaultKind
+misread reading = find (λ kind. is_misread kind reading) kinds
 
--- THE FAULTS OF VALUES. Where several may stand on a line, the first of them is the least.
+abbrev pub unfit : Reading → Option FaultKind
+unfit reading = option_or (misread reading) (find (λ kind. is_unfit kind reading) kinds)
+
 abbrev pub stamp_judged : Result Stamp StampFault → Result Stamp FaultKind
 stamp_judged (Ok s) = Ok s
 stamp_judged (Err stamp_fault.BadStamp) = Err kind.BadStamp
@@ -94,16 +97,6 @@ duration_judged (Err duration.NumberTooLarge) = Err kind.NumberTooLarge
 abbrev pub rule_kind : RuleFault → FaultKind
 rule_kind rule.BadRule = kind.BadRule
 rule_kind rule.NumberTooLarge = kind.NumberTooLarge
-
-abbrev pub stamp_fault_of : Result Stamp StampFault → Option FaultKind
-stamp_fault_of r = if is_bad_stamp r then Some kind.BadStamp else if is_far_stamp r then Some kind.YearRange else None
-
-abbrev pub duration_fault_of : Result Duration DurationFault → Option FaultKind
-duration_fault_of d = if is_bad_duration d then Some kind.BadDuration else if is_large_duration d then Some kind.NumberTooLarge else None
-
-abbrev pub rule_fault_of : Result RuleParts RuleFault → Option FaultKind
-rule_fault_of (Ok parts) = None
-rule_fault_of (Err fault) = Some (rule_kind fault)
 
 -- the lesser of two faults, of which the first may not be there
 abbrev pub lesser : Option FaultKind → FaultKind → FaultKind
@@ -123,138 +116,155 @@ judged (At stamp) = result_map_both listed.At (λ kind. kind) (stamp_judged stam
 judged (Between start end) = both listed.Between (stamp_judged start) (stamp_judged end)
 judged (Lasting start duration) = both listed.Lasting (stamp_judged start) (duration_judged duration)
 
-abbrev pub dates_fault : List DateValue → Option FaultKind
-dates_fault values =
-    if list_any has_bad_stamp values then Some kind.BadStamp
-    else if list_any has_bad_duration values then Some kind.BadDuration
-    else if list_any has_far_stamp values then Some kind.YearRange
-    else if list_any has_large_duration values then Some kind.NumberTooLarge
-    else None
+-- A PROPERTY of an event: what it says, what is collected with it, and the time zone of its stamps.
+abbrev pub event_property : Name → Parts → Property
+event_property name.Uid c = property.Uid (text_of c.value)
+event_property name.Dtstart c = property.Start (dated_of c.params c.value)
+event_property name.Dtend c = property.End (dated_of c.params c.value)
+event_property name.Duration c = property.Duration (duration_in (lasting_of c.value))
+event_property name.Rrule c = property.Rule (rule_in (rule_of c.value))
+event_property name.RecurrenceId c = property.Recurrence (dated_of c.params c.value)
+event_property name.Sequence c = property.Sequence (ok_or_zero (integer_of c.value))
+event_property name.Rdate c = property.Rdates (list_of listing.Rdate c.params c.value)
+event_property name.Exdate c = property.Exdates (list_of listing.Exdate c.params c.value)
+event_property name.Summary c = property.Title (text_of c.value)
+event_property name.Location c = property.Location (text_of c.value)
+event_property name.Description c = property.Description (text_of c.value)
+event_property name.Status c = property.Cancelled (is_cancelled c.value)
+event_property _ c = property.Other
 
--- A LINE OF AN EVENT: its fault, what is collected behind it, and its time zone, which is to be known.
--- a value that gives no date
-abbrev pub value_fault : Name → List ℕ → EventBuilder → Option FaultKind
-value_fault name.Uid v had = fault_if kind.Repeated (is_some had.uid)
-value_fault name.Duration v had = option_or (duration_fault_of (lasting_of v)) (fault_if kind.Repeated (is_some had.duration))
-value_fault name.Rrule v had = option_or (rule_fault_of (rule_of v)) (fault_if kind.Repeated (is_some had.rule))
-value_fault name.Sequence v had = option_or (fault_if kind.NumberTooLarge (is_large_integer (integer_of v))) (fault_if kind.Repeated (is_some had.sequence))
-value_fault name.Exrule v had = Some kind.Exrule
-value_fault _ v had = None
+-- the first of several counts
+abbrev pub with_property : Property → EventBuilder → EventBuilder
+with_property (property.Uid uid) had = record had { uid = option_or had.uid (Some uid) }
+with_property (property.Start start) had = record had { start = option_or had.start (Some start) }
+with_property (property.End end) had = record had { end = option_or had.end (Some end) }
+with_property (property.Duration duration) had = record had { duration = option_or had.duration (Some duration) }
+with_property (property.Rule rule) had = record had { rule = option_or had.rule (Some rule) }
+with_property (property.Recurrence dated) had = record had { recurrence = option_or had.recurrence (Some dated) }
+with_property (property.Sequence number) had = record had { sequence = option_or had.sequence (Some number) }
+with_property (property.Rdates list) had = record had { rdates = had.rdates ++ list ∷ [] }
+with_property (property.Exdates list) had = record had { exdates = had.exdates ++ list ∷ [] }
+with_property (property.Title text) had = record had { title = option_or had.title (Some text) }
+with_property (property.Location text) had = record had { location = option_or had.location (Some text) }
+with_property (property.Description text) had = record had { description = option_or had.description (Some text) }
+with_property (property.Cancelled cancelled) had = record had { cancelled = option_or had.cancelled (Some cancelled) }
+with_property property.Other had = had
 
-abbrev pub value_note : Name → List ℕ → EventBuilder → EventBuilder
-value_note name.Uid v had = record had { uid = option_or had.uid (Some (text_of v)) }
-value_note name.Duration v had = record had { duration = option_or had.duration (Some (duration_in (lasting_of v))) }
-value_note name.Rrule v had = record had { rule = option_or had.rule (Some (rule_in (rule_of v))) }
-value_note name.Sequence v had = record had { sequence = option_or had.sequence (Some (ok_or_zero (integer_of v))) }
-value_note name.Summary v had = record had { title = option_or had.title (Some (text_of v)) }
-value_note name.Location v had = record had { location = option_or had.location (Some (text_of v)) }
-value_note name.Description v had = record had { description = option_or had.description (Some (text_of v)) }
-value_note name.Status v had = record had { cancelled = option_or had.cancelled (Some (is_cancelled v)) }
-value_note _ v had = had
-
--- any line of an event
-abbrev pub event_fault : Name → Parts → EventBuilder → Option FaultKind
-event_fault name.Dtstart c had = option_or (stamp_fault_of (stamp_read c.params c.value)) (fault_if kind.Repeated (is_some had.start))
-event_fault name.Dtend c had = option_or (stamp_fault_of (stamp_read c.params c.value)) (fault_if kind.Repeated (is_some had.end))
-event_fault name.RecurrenceId c had =
-    option_or (option_or (stamp_fault_of (stamp_read c.params c.value)) (fault_if kind.Repeated (is_some had.recurrence)))
-    (fault_if kind.ThisAndFuture (is_some (param_of (codes "RANGE") c.params)))
-event_fault name.Rdate c had = dates_fault (values_of listing.Rdate (is_some (zone_name c.params)) c.value)
-event_fault name.Exdate c had = dates_fault (values_of listing.Exdate (is_some (zone_name c.params)) c.value)
-event_fault n c had = value_fault n c.value had
+abbrev pub property_zone : ℕ → Property → Option ZoneName
+property_zone k (property.Start dated) = zone_in k dated
+property_zone k (property.End dated) = zone_in k dated
+property_zone k (property.Recurrence dated) = zone_in k dated
+property_zone k (property.Rdates list) = zone_on k list
+property_zone k (property.Exdates list) = zone_on k list
+property_zone k _ = None
 
 abbrev pub event_note : Name → Parts → EventBuilder → EventBuilder
-event_note name.Dtstart c had = record had { start = option_or had.start (Some (dated_of c.params c.value)) }
-event_note name.Dtend c had = record had { end = option_or had.end (Some (dated_of c.params c.value)) }
-event_note name.RecurrenceId c had = record had { recurrence = option_or had.recurrence (Some (dated_of c.params c.value)) }
-event_note name.Rdate c had = record had { rdates = had.rdates ++ list_of listing.Rdate c.params c.value ∷ [] }
-event_note name.Exdate c had = record had { exdates = had.exdates ++ list_of listing.Exdate c.params c.value ∷ [] }
-event_note n c had = value_note n c.value had
+event_note n c had = with_property (event_property n c) had
 
 abbrev pub event_zone : ℕ → Name → Parts → Option ZoneName
-event_zone k name.Dtstart c = zone_in k (dated_of c.params c.value)
-event_zone k name.Dtend c = zone_in k (dated_of c.params c.value)
-event_zone k name.RecurrenceId c = zone_in k (dated_of c.params c.value)
-event_zone k name.Rdate c = zone_on k (list_of listing.Rdate c.params c.value)
-event_zone k name.Exdate c = zone_on k (list_of listing.Exdate c.params c.value)
-event_zone k _ c = None
+event_zone k n c = property_zone k (event_property n c)
 
--- A LINE OF A TIME ZONE and of an observance.
+-- A PROPERTY of an observance, and of a time zone.
+abbrev pub observance_property : Name → List ℕ → ObservanceProperty
+observance_property name.Dtstart v = of_observance.Start (onset_in (stamp_of false v))
+observance_property name.OffsetFrom v = of_observance.OffsetFrom (offset_in (offset_of v))
+observance_property name.OffsetTo v = of_observance.OffsetTo (offset_in (offset_of v))
+observance_property name.Rrule v = of_observance.Rule (daily_in (rule_of v))
+observance_property name.Rdate v = of_observance.Rdates (locals_of v)
+observance_property _ v = of_observance.Other
+
+abbrev pub with_observed : ObservanceProperty → ObservanceBuilder → ObservanceBuilder
+with_observed (of_observance.Start local) had = record had { start = option_or had.start (Some local) }
+with_observed (of_observance.OffsetFrom offset) had = record had { from = option_or had.from (Some offset) }
+with_observed (of_observance.OffsetTo offset) had = record had { to = option_or had.to (Some offset) }
+with_observed (of_observance.Rule rule) had = record had { rule = option_or had.rule (Some rule) }
+with_observed (of_observance.Rdates locals) had = record had { rdates = had.rdates ++ locals }
+with_observed of_observance.Other had = had
+
+abbrev pub observance_note : Name → Parts → ObservanceBuilder → ObservanceBuilder
+observance_note n c had = with_observed (observance_property n c.value) had
+
 abbrev pub zone_note : Name → Parts → ZoneBuilder → ZoneBuilder
 zone_note name.Tzid c had = record had { name = option_or had.name (Some (text_of c.value)) }
 zone_note _ c had = had
 
--- the local times of an RDATE
-abbrev pub locals_fault : List ℕ → Option FaultKind
-locals_fault v =
-    option_or (dates_fault (values_of listing.Rdate false v)) (fault_if kind.ObservanceField (list_any is_not_local (values_of listing.Rdate false v)))
-
-abbrev pub observance_fault : Name → Parts → ObservanceBuilder → Option FaultKind
-observance_fault name.Dtstart c had =
-    option_or (option_or (stamp_fault_of (stamp_of false c.value)) (fault_if kind.ObservanceField (is_not_local (At (stamp_of false c.value)))))
-    (fault_if kind.ObservanceField (is_some had.start))
-observance_fault name.OffsetFrom c had =
-    option_or (fault_if kind.BadOffset (is_bad_offset (offset_of c.value))) (fault_if kind.ObservanceField (is_some had.from))
-observance_fault name.OffsetTo c had = option_or (fault_if kind.BadOffset (is_bad_offset (offset_of c.value))) (fault_if kind.ObservanceField (is_some had.to))
-observance_fault name.Rrule c had =
-    option_or (option_or (rule_fault_of (rule_of c.value)) (fault_if kind.ZoneRule (is_fine_rule (rule_of c.value))))
-    (fault_if kind.ZoneRule (is_some had.rule))
-observance_fault name.Rdate c had = locals_fault c.value
-observance_fault _ c had = None
-
-abbrev pub observance_note : Name → Parts → ObservanceBuilder → ObservanceBuilder
-observance_note name.Dtstart c had = record had { start = option_or had.start (Some (onset_in (stamp_of false c.value))) }
-observance_note name.OffsetFrom c had = record had { from = option_or had.from (Some (offset_in (offset_of c.value))) }
-observance_note name.OffsetTo c had = record had { to = option_or had.to (Some (offset_in (offset_of c.value))) }
-observance_note name.Rrule c had = record had { rule = option_or had.rule (Some (daily_in (rule_of c.value))) }
-observance_note name.Rdate c had = record had { rdates = had.rdates ++ locals_of c.value }
-observance_note _ c had = had
-
--- A LINE OF ANY COMPONENT, which begins and ends none.
-abbrev pub builder_fault : Context → Name → Parts → Builder → Option FaultKind
-builder_fault q n c (builder.Event had) = event_fault n c had
-builder_fault q n c (builder.Observance had) = observance_fault n c had
-builder_fault q name.Tzid c (builder.Zone had) = fault_if kind.ObservanceField (is_some had.name)
-builder_fault q n c (builder.Zone had) = None
-builder_fault context.Outside n c builder.Nothing = Some kind.NotCalendar
-builder_fault context.Calendar name.Version c builder.Nothing = fault_if kind.OldVersion (bytes_eq c.value (codes "1.0"))
-builder_fault q n c builder.Nothing = None
-
+-- of any component
 abbrev pub builder_note : Name → Parts → Builder → Builder
 builder_note n c (builder.Event had) = builder.Event (event_note n c had)
 builder_note n c (builder.Zone had) = builder.Zone (zone_note n c had)
 builder_note n c (builder.Observance had) = builder.Observance (observance_note n c had)
-builder_note n c builder.Nothing = builder.Nothing
+builder_note n c other = other
 
 abbrev pub builder_zone : ℕ → Name → Parts → Builder → Option ZoneName
 builder_zone k n c (builder.Event had) = event_zone k n c
 builder_zone k n c _ = None
 
+-- WHAT STANDS BESIDE A LINE, as a component has it that is being built.
+abbrev pub event_has : EventBuilder → Name → Bool
+event_has had name.Uid = is_some had.uid
+event_has had name.Dtstart = is_some had.start
+event_has had name.Dtend = is_some had.end
+event_has had name.Duration = is_some had.duration
+event_has had name.Rrule = is_some had.rule
+event_has had name.RecurrenceId = is_some had.recurrence
+event_has had name.Sequence = is_some had.sequence
+event_has had _ = false
+
+abbrev pub observance_has : ObservanceBuilder → Name → Bool
+observance_has had name.Dtstart = is_some had.start
+observance_has had name.OffsetFrom = is_some had.from
+observance_has had name.OffsetTo = is_some had.to
+observance_has had name.Rrule = is_some had.rule
+observance_has had _ = false
+
+abbrev pub zone_has : ZoneBuilder → Name → Bool
+zone_has had name.Tzid = is_some had.name
+zone_has had _ = false
+
+abbrev pub nothing_beside : Beside
+nothing_beside = record { has = λ n. false; uid = None; start = None; end = None; observed = false }
+
+abbrev pub beside_in : Builder → Beside
+beside_in (builder.Event had) = record { has = event_has had; uid = had.uid; start = had.start; end = had.end; observed = false }
+beside_in (builder.Zone had) = record nothing_beside { has = zone_has had; observed = not (length had.observances == 0) }
+beside_in (builder.Observance had) = record nothing_beside { has = observance_has had }
+beside_in _ = nothing_beside
+
+-- where its lines stand
+abbrev pub context_at : Builder → Context
+context_at builder.Calendar = context.Calendar
+context_at (builder.Event had) = context.Event
+context_at (builder.Zone had) = context.Zone
+context_at (builder.Observance had) = context.Observance
+context_at builder.Elsewhere = context.Elsewhere
+
+-- THE LEAST FAULT ON A LINE, of the table: on one that stands there, where so many components are open, and the value names the innermost or not.
+unfoldable pub least_fault : Context → Beside → Name → Parts → ℕ → Bool → Option FaultKind
+least_fault q beside n c depth closes =
+    find (λ kind. faulty kind beside (record { context = q; name = n; params = c.params; value = c.value; depth = depth; closes = closes })) kinds
+
+abbrev pub outside_fault : Name → Parts → Option FaultKind
+outside_fault n c = least_fault context.Outside nothing_beside n c 0 false
+
+abbrev pub begin_fault : Parts → ℕ → Builder → Option FaultKind
+begin_fault c depth b = least_fault (context_at b) (beside_in b) name.Begin c depth false
+
+-- on an END, whatever its value is
+abbrev pub end_fault : Bool → Builder → Option FaultKind
+end_fault closes b = least_fault (context_at b) (beside_in b) name.End (record { name = []; params = []; value = [] }) 1 closes
+
+-- on a line that begins and ends no component
+abbrev pub line_fault : Name → Parts → Builder → Option FaultKind
+line_fault n c b = least_fault (context_at b) (beside_in b) n c 1 false
+
+abbrev pub is_mark : Name → Bool
+is_mark name.Begin = true
+is_mark name.End = true
+is_mark _ = false
+
 -- WHAT A COMPONENT IS at its END, and its check in the second round.
-abbrev pub end_of_event : EventBuilder → Option FaultKind
-end_of_event had =
-    if not (is_filled had.uid) then Some kind.MissingUid
-    else if not (is_some had.start) then Some kind.MissingStart
-    else if (is_some had.end && is_some had.duration) || ends_badly had.start had.end then Some kind.BadEnd
-    else None
-
-abbrev pub end_of_zone : ZoneBuilder → Option FaultKind
-end_of_zone had =
-    if length had.observances == 0 then Some kind.NoObservance
-    else if not (is_some had.name) then Some kind.ObservanceField
-    else None
-
-abbrev pub end_of_observance : ObservanceBuilder → Option FaultKind
-end_of_observance had = if is_some had.start && is_some had.from && is_some had.to then None else Some kind.ObservanceField
-
 abbrev pub passed : Ended → Option DeferredCheck → Passed
 passed end check = record { ended = end; check = check }
-
-abbrev pub fault_at_end_of : Builder → Option FaultKind
-fault_at_end_of (builder.Event had) = end_of_event had
-fault_at_end_of (builder.Zone had) = end_of_zone had
-fault_at_end_of (builder.Observance had) = end_of_observance had
-fault_at_end_of builder.Nothing = None
 
 abbrev pub ended_as : ℕ → Builder → Ended
 ended_as k (builder.Event had) = ended.Event (event_ended k had)
@@ -270,20 +280,29 @@ abbrev pub end_check : ℕ → Builder → Option DeferredCheck
 end_check k (builder.Event had) = ends_in k had.start had.end
 end_check k _ = None
 
-abbrev pub frame_fault : List ℕ → Frame → Option FaultKind
-frame_fault w f = if bytes_eq w (component_name f.component) then fault_at_end_of f.builder else Some kind.BadNesting
+-- whether that names the component in which a line stands
+abbrev pub is_of : List ℕ → Frame → Bool
+is_of value f = bytes_eq (map upper value) (component_name f.component)
 
--- WHAT A LINE MAKES of the components that are open, the innermost first.
+-- WHAT A LINE MAKES of the components that are open, the innermost first, above what is below them all.
 -- the calendar of a component that begins on that line: the outermost component, or that itself
 abbrev pub calendar_in : ℕ → List Frame → ℕ
 calendar_in number (f ∷ g ∷ gs) = f.calendar
 calendar_in number _ = number
 
+-- where the line stands
+abbrev pub context_on : List Frame → Context
+context_on (f ∷ g ∷ gs) = context_at f.builder
+context_on _ = context.Outside
+
 abbrev pub opened : ℕ → Component → List Frame → List Frame
 opened number c [] = []
 opened number c (f ∷ fs) =
-    let q : Context = context_in f.context c in
-    record { component = c; context = q; calendar = calendar_in number (f ∷ fs); builder = builder_at [] [] q } ∷ f ∷ fs
+    record {
+      component = c;
+      calendar = calendar_in number (f ∷ fs);
+      builder = builder_at [] [] (context_in (context_on (f ∷ fs)) c);
+    } ∷ f ∷ fs
 
 abbrev pub closed : List Frame → List Frame
 closed (f ∷ g ∷ gs) = record g { builder = joined g.builder f.builder } ∷ gs
@@ -298,16 +317,12 @@ behind number name.Begin c frames = opened number (component_of (map upper c.val
 behind number name.End c frames = closed frames
 behind number n c frames = noted n c frames
 
-abbrev pub outside_fault : Context → Component → Option FaultKind
-outside_fault context.Outside component.Calendar = None
-outside_fault context.Outside _ = Some kind.NotCalendar
-outside_fault _ c = None
-
 -- the fault on a line, by the innermost component and by how many are open
 abbrev pub fault_in : Name → Parts → Frame → ℕ → Option FaultKind
-fault_in name.Begin c f depth = option_or (outside_fault f.context (component_of (map upper c.value))) (fault_if kind.TooDeep (nat_le 32 depth))
-fault_in name.End c f depth = if depth == 0 then Some kind.NotCalendar else frame_fault (map upper c.value) f
-fault_in n c f depth = builder_fault f.context n c f.builder
+fault_in n c f zero = outside_fault n c
+fault_in name.Begin c f (suc depth) = begin_fault c (suc depth) f.builder
+fault_in name.End c f (suc depth) = end_fault (is_of c.value f) f.builder
+fault_in n c f (suc depth) = line_fault n c f.builder
 
 abbrev pub fault_on : Name → Parts → List Frame → Option FaultKind
 fault_on n c [] = None
@@ -326,7 +341,3 @@ check_in n c f = option_map Zone (builder_zone f.calendar n c f.builder)
 abbrev pub passing : Name → Parts → List Frame → Passed
 passing n c [] = passed ended.Nothing None
 passing n c (f ∷ fs) = passed (end_in n f) (check_in n c f)
-
--- what the property of a line is called
-abbrev pub named : Parts → Name
-named c = name_of (map upper c.name)

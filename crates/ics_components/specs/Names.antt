@@ -1,6 +1,5 @@
 -- The names of the properties that a file is read for (RFC 5545, section 3.8).
--- These are the words of the code alone. No public contract cites them.
-use Rattle.std.specs.Prelude.{ℕ, List, [], ◌∷◌, ◌++◌, codes, if◌then◌else◌}
+use Rattle.std.specs.Prelude.{ℕ, Bool, true, false, List, [], ◌∷◌, ◌++◌, codes, if◌then◌else◌}
 use Rattle.std.specs.Str.{bytes_eq}
 use Rattle.ics_components.specs.declared.name.Name.{Name}
 use Rattle.ics_components.specs.declared.name.Name.TheVariants as name
@@ -26,3 +25,27 @@ other_words =
 -- what a name in upper case stands for
 abbrev pub name_of : List ℕ → Name
 name_of u = named_in (first_words ++ other_words) name.Other u
+
+abbrev pub same_name : Name → Name → Bool
+same_name name.Begin name.Begin = true
+same_name name.End name.End = true
+same_name name.Uid name.Uid = true
+same_name name.Dtstart name.Dtstart = true
+same_name name.Dtend name.Dtend = true
+same_name name.Duration name.Duration = true
+same_name name.Rrule name.Rrule = true
+same_name name.RecurrenceId name.RecurrenceId = true
+same_name name.Sequence name.Sequence = true
+same_name name.Rdate name.Rdate = true
+same_name name.Exdate name.Exdate = true
+same_name name.Exrule name.Exrule = true
+same_name name.Version name.Version = true
+same_name name.Summary name.Summary = true
+same_name name.Location name.Location = true
+same_name name.Description name.Description = true
+same_name name.Status name.Status = true
+same_name name.Tzid name.Tzid = true
+same_name name.OffsetFrom name.OffsetFrom = true
+same_name name.OffsetTo name.OffsetTo = true
+same_name name.Other name.Other = true
+same_name _ _ = false

@@ -15,6 +15,7 @@ use Rattle.ics_values.specs.declared.stamp.StampFault.{StampFault}
 use Rattle.ics_fields.specs.Observances.{ObservanceSaid}
 use Rattle.ics_components.specs.DateValues.{values_of, listed_in, local_in}
 use Rattle.ics_components.specs.declared.date_values.Listing.TheVariants.{Rdate}
+use Rattle.ics_components.specs.declared.name.Name.TheVariants as name
 use Rattle.ics_components.specs.declared.deferred_check.ZoneName.{ZoneName}
 use Rattle.ics_components.specs.Faults.{first_text, rule_on}
 use Rattle.ics_components.specs.PlacedLines.{Placed, value, in_calendar, in_zone, begins, begins_observance, calendar_of, lines_in, first_named, all_named}
@@ -51,11 +52,11 @@ onsets_by line = locals_of (value line)
 -- An observance, by the lines that stand directly in it. An accepted file has its fields.
 abbrev pub observance_by : List Placed → ObservanceSaid
 observance_by own = record {
-  start = unwrap_or (option_map onset_on (first_named (codes "DTSTART") own)) (local_at (pos 0) 0);
-  offset_from = unwrap_or (option_map offset_on (first_named (codes "TZOFFSETFROM") own)) (pos 0);
-  offset_to = unwrap_or (option_map offset_on (first_named (codes "TZOFFSETTO") own)) (pos 0);
-  rule = option_map daily_on (first_named (codes "RRULE") own);
-  rdates = flat_map onsets_by (all_named (codes "RDATE") own);
+  start = unwrap_or (option_map onset_on (first_named name.Dtstart own)) (local_at (pos 0) 0);
+  offset_from = unwrap_or (option_map offset_on (first_named name.OffsetFrom own)) (pos 0);
+  offset_to = unwrap_or (option_map offset_on (first_named name.OffsetTo own)) (pos 0);
+  rule = option_map daily_on (first_named name.Rrule own);
+  rdates = flat_map onsets_by (all_named name.Rdate own);
 }
 
 -- a time zone begins directly in a calendar, and an observance directly in such a zone
@@ -71,7 +72,7 @@ zone_by lines begun = map (λ l. observance_by (lines_in l.number lines)) (filte
 
 -- the TZID of the zone that begins on a line, in its calendar
 abbrev pub name_by : List Placed → Placed → ZoneName
-name_by lines l = record { calendar = calendar_of l.path; name = unwrap_or (first_text (codes "TZID") (lines_in l.number lines)) [] }
+name_by lines l = record { calendar = calendar_of l.path; name = unwrap_or (first_text name.Tzid (lines_in l.number lines)) [] }
 
 abbrev pub zone_names : List Placed → List ZoneName
 zone_names lines = map (name_by lines) (filter begins_zone lines)

@@ -4,7 +4,6 @@ use Rattle.std.specs.Prelude.{ℕ, ◌+◌, Bool, true, false, List, [], ◌∷�
 use Rattle.ics_text.specs.Unfolded.{Line, unfolded, begins_with_fold}
 use Rattle.ics_text.specs.ContentLines.{Parts, content_of}
 use Rattle.ics_components.specs.declared.component.Component.TheVariants as component
-use Rattle.ics_components.specs.declared.component.Context.TheVariants as context
 use Rattle.ics_components.specs.declared.fault.Fault.{Fault}
 use Rattle.ics_components.specs.declared.fault.FaultKind.{FaultKind}
 use Rattle.ics_components.specs.declared.fault.FileFault.{FileFault}
@@ -15,14 +14,15 @@ use Rattle.ics_components.specs.declared.builder.Builder.TheVariants as builder
 use Rattle.ics_components.specs.GatheredSeen.{GatheredSeen}
 use Rattle.ics_components.specs.FirstFault.{bad_fold}
 use Rattle.ics_components.specs.Gathered.{nothing_gathered, and_passed}
-use Rattle.ics_components.specs.Lines.{named, fault_on, behind, passing}
+use Rattle.ics_components.specs.Lines.{fault_on, behind, passing}
+use Rattle.ics_components.specs.PlacedLines.{named}
 use Rattle.ics_components.specs.declared.first_round.FirstRound.{FirstRound}
 use Rattle.ics_components.specs.declared.refused.Refused.{Refused}
 use Rattle.ics_components.specs.declared.refused.Refused.TheVariants as refused
 
 -- below all components
 abbrev pub bottom : Frame
-bottom = record { component = component.Other []; context = context.Outside; calendar = 0; builder = builder.Nothing }
+bottom = record { component = component.Other []; calendar = 0; builder = builder.Elsewhere }
 
 -- WHERE THE LINES END, given the number of the last one.
 abbrev pub is_lowest : List Frame → Bool

@@ -1,10 +1,13 @@
 -- The components of a file, as the path of open components on which each line stands (RFC 5545, sections 3.4 and 3.6).
 use Rattle.std.specs.Prelude.{ℕ, Bool, false, ◌&&◌, ◌||◌, ◌==◌, List, [], ◌∷◌, drop, map, filter, codes, Option, Some, None, if◌then◌else◌}
-use Rattle.std.specs.List.{list_all, list_any}
+use Rattle.std.specs.List.{list_any}
 use Rattle.std.specs.Str.{bytes_eq}
 use Rattle.ics_text.specs.Bytes.{upper}
 use Rattle.ics_text.specs.Unfolded.{Line, unfolded}
-use Rattle.ics_text.specs.ContentLines.{Parts, content_of, param_of}
+use Rattle.ics_text.specs.ContentLines.{Parts, content_of}
+use Rattle.ics_components.specs.declared.name.Name.{Name}
+use Rattle.ics_components.specs.declared.name.Name.TheVariants as name
+use Rattle.ics_components.specs.Names.{name_of, same_name}
 use Rattle.ics_components.specs.declared.component.Context.{Context}
 use Rattle.ics_components.specs.declared.component.Context.TheVariants as context
 use Rattle.ics_components.specs.Components.{component_of, context_in, is_outside_context, is_calendar_context, is_event_context, is_zone_context}
@@ -21,10 +24,13 @@ pub record Placed : Type 0 where
   pub content : Option Parts
   pub path : List Open
 
--- the name of the line's property in upper case; no property has an empty name
-abbrev pub property_name : Option Parts → List ℕ
-property_name None = []
-property_name (Some parts) = map upper parts.name
+-- what the property of a line is called
+abbrev pub named : Parts → Name
+named parts = name_of (map upper parts.name)
+
+unfoldable pub name_on : Option Parts → Name
+name_on None = name.Other
+name_on (Some parts) = named parts
 
 abbrev pub value_of : Option Parts → List ℕ
 value_of None = []
@@ -37,20 +43,14 @@ params_of (Some parts) = parts.params
 abbrev pub value : Placed → List ℕ
 value line = value_of line.content
 
-abbrev pub is_named : List ℕ → Placed → Bool
-is_named name line = bytes_eq (property_name line.content) name
-
-abbrev pub is_one_of : List (List ℕ) → Placed → Bool
-is_one_of names line = list_any (bytes_eq (property_name line.content)) names
-
-abbrev pub param : List ℕ → Placed → Option (List ℕ)
-param name line = param_of name (params_of line.content)
+abbrev pub is_named : Name → Placed → Bool
+is_named n line = same_name (name_on line.content) n
 
 abbrev pub is_begin : Placed → Bool
-is_begin = is_named (codes "BEGIN")
+is_begin = is_named name.Begin
 
 abbrev pub is_end : Placed → Bool
-is_end = is_named (codes "END")
+is_end = is_named name.End
 
 -- the name of the component that begins or ends on the line, in upper case
 abbrev pub component : Placed → List ℕ
@@ -143,20 +143,16 @@ abbrev pub beside : List Placed → Placed → List Placed
 beside before line = lines_in (innermost line.path) before
 
 -- whether one of the lines has that name
-abbrev pub has : List ℕ → List Placed → Bool
-has name lines = list_any (is_named name) lines
-
--- whether for each of the names one has it
-abbrev pub has_all : List (List ℕ) → List Placed → Bool
-has_all names lines = list_all (λ name. has name lines) names
+abbrev pub has : Name → List Placed → Bool
+has n lines = list_any (is_named n) lines
 
 abbrev pub first_of : List Placed → Option Placed
 first_of [] = None
 first_of (l ∷ ls) = Some l
 
-abbrev pub all_named : List ℕ → List Placed → List Placed
-all_named name lines = filter (is_named name) lines
+abbrev pub all_named : Name → List Placed → List Placed
+all_named n lines = filter (is_named n) lines
 
 -- the first line of that name
-abbrev pub first_named : List ℕ → List Placed → Option Placed
-first_named name lines = first_of (all_named name lines)
+abbrev pub first_named : Name → List Placed → Option Placed
+first_named n lines = first_of (all_named n lines)

@@ -1,9 +1,10 @@
 //! The values of RDATE and EXDATE with the zones that their lines name (RFC 5545, sections 3.8.5.1 and 3.8.5.2).
-ghost use Rattle.std.specs.Prelude.{◌≡◌, ◌++◌, ◌∷◌, [], is_some, IfOk};
+ghost use Rattle.std.specs.Prelude.{◌≡◌, is_some, IfOk};
 ghost use Rattle.std.specs.List.{list_any};
 ghost use Rattle.ics_components.specs.DateLists.{list_of};
 ghost use Rattle.ics_components.specs.DateValues.{has_zoned, local_in, values_of};
-ghost use Rattle.ics_components.specs.Lines.{Notes, dates_fault};
+ghost use Rattle.ics_components.specs.Faults as reading;
+ghost use Rattle.ics_components.specs.Lines.{Gives, misread};
 ghost use Rattle.ics_components.specs.SecondRound.{zone_on};
 ghost use Rattle.ics_components.specs.Values.{zone_name};
 
@@ -95,39 +96,28 @@ impl Dates {
 }
 
 impl DateList {
+    /// What a line lists, and the zone that its TZID names, or the least fault of its values.
+    pub(crate) fn read(
+        alloc: Global,
+        tzids: &mut Tzids,
+        listing: Listing,
+        content: &Content<'_>,
+    ) -> Result<DateList, Refused>
+        ensures { Gives result (misread (reading.Dates (values_of listing (is_some (zone_name content.now.params)) content.now.value)))
+            (list_of listing content.now.params content.now.value) }
+    {
+        let zone = zone_name(alloc, tzids, content)?;
+        let values = Dates::read(alloc, listing, content.value(), zone.is_some())?;
+        Ok(DateList { values, zone })
+    }
+
     /// The time zone of the stamps, which is to be known.
-    fn used_zone(&self, calendar: u64) -> Result<Option<ZoneName>, AllocError>
+    pub(crate) fn used_zone(&self, calendar: u64) -> Result<Option<ZoneName>, AllocError>
         ensures { IfOk result (λ zone. zone ≡ zone_on calendar self.now) }
     {
         if !self.values.have_zoned() {
             return Ok(None);
         }
         Ok(Some(ZoneName::shared(calendar, &self.zone)?))
-    }
-}
-
-impl DateLists {
-    /// Adds what a line of that calendar lists, and gives the time zone of its stamps, if one has one.
-    pub(crate) fn add_line(
-        &mut self,
-        alloc: Global,
-        tzids: &mut Tzids,
-        calendar: u64,
-        listing: Listing,
-        content: &Content<'_>,
-    ) -> Result<Option<ZoneName>, Refused>
-        ensures { Notes result self.new (dates_fault (values_of listing (is_some (zone_name content.now.params)) content.now.value))
-            (self.old ++ list_of listing content.now.params content.now.value ∷ [])
-            (zone_on calendar (list_of listing content.now.params content.now.value)) }
-    {
-        let zone = zone_name(alloc, tzids, content)?;
-        let values = Dates::read(alloc, listing, content.value(), zone.is_some())?;
-        let list = DateList { values, zone };
-        let used = list.used_zone(calendar)?;
-        if let Err(error) = self.lists.push(list) {
-            drop(used);
-            return Err(Refused::from(error));
-        }
-        Ok(used)
     }
 }

@@ -4,7 +4,8 @@ ghost use Rattle.std.specs.List.{position};
 ghost use Rattle.ics_values.specs.Periods.{lasts};
 ghost use Rattle.ics_values.specs.Stamps.{stamp_of};
 ghost use Rattle.ics_components.specs.DateValues.{At, date_time_of, period_of, value_of, values_of, listed_in};
-ghost use Rattle.ics_components.specs.Lines.{Gives, lesser, stamp_judged, judged, dates_fault};
+ghost use Rattle.ics_components.specs.Faults as reading;
+ghost use Rattle.ics_components.specs.Lines.{Gives, lesser, stamp_judged, judged, misread};
 
 use crate::date_list::{Dates, ListedDate};
 use crate::dated::stamp;
@@ -107,7 +108,7 @@ impl Dates {
         text: &[u8],
         zoned: bool,
     ) -> Result<Dates, Refused>
-        ensures { Gives result (dates_fault (values_of listing zoned text.now)) (map listed_in (values_of listing zoned text.now)) }
+        ensures { Gives result (misread (reading.Dates (values_of listing zoned text.now))) (map listed_in (values_of listing zoned text.now)) }
     {
         let mut values = Vec::new(alloc);
         let mut least = None;

@@ -1,7 +1,9 @@
 //! A stamp and the zone that its line names (RFC 5545, section 3.2.19).
-ghost use Rattle.std.specs.Prelude.{◌≡◌, IfOk, IfErr, Ok, Some};
+ghost use Rattle.std.specs.Prelude.{◌≡◌, false, IfOk, IfErr, Ok, Some};
 ghost use Rattle.ics_values.specs.Stamps.{stamp_of};
-ghost use Rattle.ics_components.specs.Lines.{Gives, stamp_judged, stamp_fault_of};
+ghost use Rattle.ics_components.specs.Faults.{Stamped};
+ghost use Rattle.ics_components.specs.Lines.{Gives, stamp_judged, misread, unfit};
+ghost use Rattle.ics_components.specs.Observances.{onset_in};
 ghost use Rattle.ics_components.specs.SecondRound.{zone_in, instant_in};
 ghost use Rattle.ics_components.specs.Values.{dated_of, stamp_read, tzid, zone_name};
 
@@ -10,7 +12,7 @@ use crate::fault::FaultKind;
 use crate::refused::Refused;
 use crate::tzid::{Tzid, Tzids};
 use ics_text::Content;
-use ics_values::{Stamp, StampFault, is_zoned, read_stamp};
+use ics_values::{Local, Stamp, StampFault, is_zoned, read_stamp};
 use std::alloc::{AllocError, Global};
 
 /// The value of a DTSTART, DTEND or RECURRENCE-ID (RFC 5545, sections 3.8.2.4, 3.8.2.2 and 3.8.4.4): a stamp, which is zoned only beside a TZID, and the
@@ -25,12 +27,22 @@ pub struct Dated {
 pub fn stamp(text: &[u8], zoned: bool) -> Result<Stamp, FaultKind>
     ensures judged { result ≡ stamp_judged (stamp_of zoned text.now) }
     ensures said { IfOk result (λ stamp. stamp_of zoned text.now ≡ Ok stamp) }
-    ensures fault { IfErr result (λ kind. stamp_fault_of (stamp_of zoned text.now) ≡ Some kind) }
+    ensures fault { IfErr result (λ kind. misread (Stamped (stamp_of zoned text.now)) ≡ Some kind) }
 {
     match read_stamp(text, zoned) {
         Ok(stamp) => Ok(stamp),
         Err(StampFault::BadStamp) => Err(FaultKind::BadStamp),
         Err(StampFault::YearRange) => Err(FaultKind::YearRange),
+    }
+}
+
+/// The local of an observance: a stamp that is neither a date nor in UTC, read as if no TZID stood beside it.
+pub fn local(text: &[u8]) -> Result<Local, Refused>
+    ensures { Gives result (unfit (Stamped (stamp_of false text.now))) (onset_in (stamp_of false text.now)) }
+{
+    match stamp(text, false)? {
+        Stamp::Floating(local) => Ok(local),
+        _ => Err(Refused::Fault(FaultKind::ObservanceField)),
     }
 }
 
@@ -55,7 +67,7 @@ impl Dated {
         tzids: &mut Tzids,
         content: &Content<'_>,
     ) -> Result<Dated, Refused>
-        ensures { Gives result (stamp_fault_of (stamp_read content.now.params content.now.value)) (dated_of content.now.params content.now.value) }
+        ensures { Gives result (misread (Stamped (stamp_read content.now.params content.now.value))) (dated_of content.now.params content.now.value) }
     {
         let zone = zone_name(alloc, tzids, content)?;
         let stamp = stamp(content.value(), zone.is_some())?;

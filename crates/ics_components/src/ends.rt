@@ -1,6 +1,7 @@
 //! How long an event lasts: its end against its start, and its duration (RFC 5545, sections 3.8.2.2 and 3.8.2.5).
 ghost use Rattle.std.specs.Prelude.{◌≡◌, IfOk, IfErr, Ok, Some};
-ghost use Rattle.ics_components.specs.Lines.{duration_judged, duration_fault_of};
+ghost use Rattle.ics_components.specs.Faults.{Lasting};
+ghost use Rattle.ics_components.specs.Lines.{duration_judged, misread};
 ghost use Rattle.ics_components.specs.SecondRound.{ends_in};
 ghost use Rattle.ics_components.specs.Values.{is_lasting, lasting_of, is_out, ends_badly};
 
@@ -76,7 +77,7 @@ fn is_lasting(duration: Duration) -> bool
 pub fn lasting(text: &[u8]) -> Result<Duration, FaultKind>
     ensures judged { result ≡ duration_judged (lasting_of text.now) }
     ensures said { IfOk result (λ duration. lasting_of text.now ≡ Ok duration) }
-    ensures fault { IfErr result (λ kind. duration_fault_of (lasting_of text.now) ≡ Some kind) }
+    ensures fault { IfErr result (λ kind. misread (Lasting (lasting_of text.now)) ≡ Some kind) }
 {
     match read_duration(text) {
         Ok(duration) if is_lasting(duration) => Ok(duration),

@@ -1,30 +1,27 @@
 //! An event that is being built of its lines.
-ghost use Rattle.std.specs.Prelude.{◌≡◌, [], Option, None, Some, is_some};
+ghost use Rattle.std.specs.Prelude.{◌≡◌, [], Option, None, Some, true, false, unwrap_or, IfOk};
 ghost use Rattle.std.specs.Option.{option_or};
-ghost use Rattle.ics_values.specs.Plain.{text_of};
-ghost use Rattle.ics_components.specs.declared.fault.FaultKind.TheVariants.{Repeated};
+ghost use Rattle.ics_components.specs.declared.builder.Builder.TheVariants.{Event};
+ghost use Rattle.ics_components.specs.declared.gathered.Ended.TheVariants as ended;
 ghost use Rattle.ics_components.specs.Builders.{collected_of, event_ended};
 ghost use Rattle.ics_components.specs.GivenTimes.{dated_in};
-ghost use Rattle.ics_components.specs.Lines.{Gives, Notes, fault_if, stamp_fault_of, event_fault, event_note, event_zone};
-ghost use Rattle.ics_components.specs.Lines.{Keeps, value_fault, value_note, end_of_event, passed};
-ghost use Rattle.ics_components.specs.declared.gathered.Ended.TheVariants.{Event};
-ghost use Rattle.ics_components.specs.SecondRound.{zone_in, ends_in};
-ghost use Rattle.ics_components.specs.Values.{dated_of, stamp_read};
+ghost use Rattle.ics_components.specs.Lines.{Gives, Notes, is_mark, line_fault, end_fault, event_has, event_property, with_property, event_note, event_zone, passed};
+ghost use Rattle.ics_components.specs.SecondRound.{ends_in};
 
 use crate::date_list::DateLists;
-use crate::date_values::Listing;
 use crate::dated::Dated;
 use crate::deferred_check::{DeferredCheck, ZoneName};
-use crate::ends::{ends_badly, ends_in, lasting};
+use crate::ends::{ends_badly, ends_in};
 use crate::fault::FaultKind;
 use crate::gathered::{Ended, EndedEvent, GivenLength, Passed};
 use crate::name::Name;
+use crate::property::Property;
 use crate::refused::Refused;
 use crate::rule_value::RuleValue;
 use crate::tzid::Tzids;
 use ics_text::Content;
-use ics_values::{Duration, IntegerFault, Text, is_word, read_integer};
-use std::alloc::Global;
+use ics_values::{Duration, Text};
+use std::alloc::{AllocError, Global};
 
 /// The value of each property that an event may have once, and what all its RDATEs and EXDATEs list.
 #[derive(Drop)]
@@ -44,45 +41,13 @@ pub struct EventBuilder {
     pub cancelled: Option<bool>,
 }
 
-/// Keeps the value of a property that stands only once.
-pub fn once<T: Drop>(kept: &mut Option<T>, value: T, twice: FaultKind) -> Result<(), Refused>
-    ensures { Keeps result kept.new (fault_if twice (is_some kept.old)) (option_or kept.old (Some value)) }
-{
-    if kept.is_some() {
-        return Err(Refused::Fault(twice));
-    }
-    *kept = Some(value);
-    Ok(())
-}
-
-/// Puts the stamp of a property of that calendar that stands only once, and gives its time zone, if it has one.
-fn put_date(
-    kept: &mut Option<Dated>,
-    alloc: Global,
-    tzids: &mut Tzids,
-    calendar: u64,
-    content: &Content<'_>,
-) -> Result<Option<ZoneName>, Refused>
-    ensures { Notes result kept.new (option_or (stamp_fault_of (stamp_read content.now.params content.now.value)) (fault_if Repeated (is_some kept.old)))
-        (option_or kept.old (Some (dated_of content.now.params content.now.value))) (zone_in calendar (dated_of content.now.params content.now.value)) }
-{
-    let dated = Dated::read(alloc, tzids, content)?;
-    let zone = dated.used_zone(calendar)?;
-    if let Err(refused) = once(kept, dated, FaultKind::Repeated) {
-        drop(zone);
-        return Err(refused);
-    }
-    Ok(zone)
-}
-
-/// Keeps the first text of several.
-fn keep_first(kept: &mut Option<Text>, alloc: Global, value: &[u8]) -> Result<(), Refused>
-    ensures { Keeps result kept.new None (option_or kept.old (Some (text_of value.now))) }
+/// Keeps a value, if there is none before it.
+pub fn keep_first<T: Drop>(kept: &mut Option<T>, value: T)
+    ensures { kept.new ≡ option_or kept.old (Some value) }
 {
     if kept.is_none() {
-        *kept = Some(Text::of_value(alloc, value)?);
+        *kept = Some(value);
     }
-    Ok(())
 }
 
 impl EventBuilder {
@@ -111,34 +76,70 @@ impl EventBuilder {
         }
     }
 
-    /// One line more that gives no date.
-    fn value(&mut self, alloc: Global, name: Name, value: &[u8]) -> Result<(), Refused>
-        ensures { Keeps result self.new (value_fault name value.now self.old) (value_note name value.now self.old) }
+    /// Whether a property of that name stands before, of those that stand only once.
+    fn has(&self, name: Name) -> bool
+        ensures { result ≡ event_has self.now name }
     {
-        let again = FaultKind::Repeated;
         match name {
-            Name::Uid => once(&mut self.uid, Text::of_value(alloc, value)?, again),
-            Name::Duration => once(&mut self.duration, lasting(value)?, again),
-            Name::Rrule => once(&mut self.rule, RuleValue::read(alloc, value)?, again),
-            // one that is no number counts as 0
-            Name::Sequence => match read_integer(value) {
-                Ok(number) => once(&mut self.sequence, number, again),
-                Err(IntegerFault::NotDigits) => once(&mut self.sequence, 0, again),
-                Err(IntegerFault::NumberTooLarge) => Err(Refused::Fault(FaultKind::NumberTooLarge)),
-            },
-            Name::Exrule => Err(Refused::Fault(FaultKind::Exrule)),
-            Name::Summary => keep_first(&mut self.title, alloc, value),
-            Name::Location => keep_first(&mut self.location, alloc, value),
-            Name::Description => keep_first(&mut self.description, alloc, value),
-            Name::Status => {
-                self.cancelled = self.cancelled.or(Some(is_word(value, b"CANCELLED")));
-                Ok(())
-            }
-            _ => Ok(()),
+            Name::Uid => self.uid.is_some(),
+            Name::Dtstart => self.start.is_some(),
+            Name::Dtend => self.end.is_some(),
+            Name::Duration => self.duration.is_some(),
+            Name::Rrule => self.rule.is_some(),
+            Name::RecurrenceId => self.recurrence.is_some(),
+            Name::Sequence => self.sequence.is_some(),
+            _ => false,
         }
     }
 
-    /// One line more of an event in that calendar, and the time zone of its stamps, if one has one.
+    /// Judges a line more: what its property says, or the least fault on the line.
+    #[tactic(auto, unfolding(crate::specs::Lines::least_fault))]
+    fn property(
+        &self,
+        alloc: Global,
+        tzids: &mut Tzids,
+        name: Name,
+        content: &Content<'_>,
+    ) -> Result<Property, Refused>
+        requires { is_mark name ≡ false }
+        ensures { Gives result (line_fault name content.now (Event self.now)) (event_property name content.now) }
+    {
+        let property = Property::read(alloc, tzids, name, content)?;
+        let kind = match name {
+            _ if self.has(name) => FaultKind::Repeated,
+            Name::RecurrenceId if content.param(b"RANGE").is_some() => FaultKind::ThisAndFuture,
+            Name::Exrule => FaultKind::Exrule,
+            _ => return Ok(property),
+        };
+        drop(property);
+        Err(Refused::Fault(kind))
+    }
+
+    /// Keeps what a property says. Of several texts the first counts.
+    fn keep(&mut self, property: Property) -> Result<(), AllocError>
+        ensures { IfOk result (λ _. self.new ≡ with_property property self.old) }
+    {
+        match property {
+            Property::Uid(uid) => keep_first(&mut self.uid, uid),
+            Property::Start(start) => keep_first(&mut self.start, start),
+            Property::End(end) => keep_first(&mut self.end, end),
+            Property::Duration(duration) => keep_first(&mut self.duration, duration),
+            Property::Rule(rule) => keep_first(&mut self.rule, rule),
+            Property::Recurrence(dated) => keep_first(&mut self.recurrence, dated),
+            Property::Sequence(number) => keep_first(&mut self.sequence, number),
+            Property::Rdates(list) => self.rdates.lists.push(list)?,
+            Property::Exdates(list) => self.exdates.lists.push(list)?,
+            Property::Title(text) => keep_first(&mut self.title, text),
+            Property::Location(text) => keep_first(&mut self.location, text),
+            Property::Description(text) => keep_first(&mut self.description, text),
+            Property::Cancelled(cancelled) => keep_first(&mut self.cancelled, cancelled),
+            Property::Other => {}
+        }
+        Ok(())
+    }
+
+    /// One line more of an event in that calendar, and the time zone of its stamps, if they have one.
+    #[tactic(auto, unfolding(crate::specs::Lines::least_fault))]
     pub fn line(
         &mut self,
         alloc: Global,
@@ -147,42 +148,34 @@ impl EventBuilder {
         name: Name,
         content: &Content<'_>,
     ) -> Result<Option<ZoneName>, Refused>
-        ensures { Notes result self.new (event_fault name content.now self.old) (event_note name content.now self.old)
+        requires { is_mark name ≡ false }
+        ensures { Notes result self.new (line_fault name content.now (Event self.old)) (event_note name content.now self.old)
             (event_zone calendar name content.now) }
     {
-        match name {
-            Name::Dtstart => put_date(&mut self.start, alloc, tzids, calendar, content),
-            Name::Dtend => put_date(&mut self.end, alloc, tzids, calendar, content),
-            Name::RecurrenceId => {
-                let zone = put_date(&mut self.recurrence, alloc, tzids, calendar, content)?;
-                if content.param(b"RANGE").is_some() {
-                    return Err(Refused::Fault(FaultKind::ThisAndFuture));
-                }
-                Ok(zone)
-            }
-            Name::Rdate => {
-                self.rdates
-                    .add_line(alloc, tzids, calendar, Listing::Rdate, content)
-            }
-            Name::Exdate => {
-                self.exdates
-                    .add_line(alloc, tzids, calendar, Listing::Exdate, content)
-            }
-            name => {
-                self.value(alloc, name, content.value())?;
-                Ok(None)
-            }
+        // most lines of long files are of properties that are not read
+        if let Name::Other = name {
+            return Ok(None);
         }
+        let property = self.property(alloc, tzids, name, content)?;
+        let zone = property.used_zone(calendar)?;
+        if let Err(error) = self.keep(property) {
+            drop(zone);
+            return Err(Refused::from(error));
+        }
+        Ok(zone)
     }
 
-    /// Takes the start of the event and the check of its end, if no fault stands on its END.
-    fn start_at_end(&mut self, calendar: u64) -> Result<(Dated, Option<DeferredCheck>), Refused>
-        ensures { Notes result self.new (end_of_event self.old) (record self.old { start = None })
-            (dated_in self.old.start, ends_in calendar self.old.start self.old.end) }
+    /// Takes the UID and the start of the event, and the check of its end, if no fault stands on its END.
+    #[tactic(auto, unfolding(crate::specs::Lines::least_fault))]
+    fn required(&mut self, calendar: u64) -> Result<(Text, Dated, Option<DeferredCheck>), Refused>
+        ensures { Notes result self.new (end_fault true (Event self.old)) (record self.old { uid = None; start = None })
+            (unwrap_or self.old.uid [], dated_in self.old.start, ends_in calendar self.old.start self.old.end) }
     {
-        match &self.uid {
-            Some(uid) if !uid.as_slice().is_empty() => {}
-            _ => return Err(Refused::Fault(FaultKind::MissingUid)),
+        let Some(uid) = self.uid.take() else {
+            return Err(Refused::Fault(FaultKind::MissingUid));
+        };
+        if uid.as_slice().is_empty() {
+            return Err(Refused::Fault(FaultKind::MissingUid));
         }
         let Some(start) = self.start.take() else {
             return Err(Refused::Fault(FaultKind::MissingStart));
@@ -191,14 +184,14 @@ impl EventBuilder {
             return Err(Refused::Fault(FaultKind::BadEnd));
         }
         let check = ends_in(calendar, &start, &self.end)?;
-        Ok((start, check))
+        Ok((uid, start, check))
     }
 
     /// The event of that calendar and the check of its end, at its END.
     pub fn end(mut self, alloc: Global, calendar: u64) -> Result<Passed, Refused>
-        ensures { Gives result (end_of_event self) (passed (Event (event_ended calendar self)) (ends_in calendar self.start self.end)) }
+        ensures { Gives result (end_fault true (Event self)) (passed (ended.Event (event_ended calendar self)) (ends_in calendar self.start self.end)) }
     {
-        let (start, check) = match self.start_at_end(calendar) {
+        let (uid, start, check) = match self.required(calendar) {
             Ok(taken) => taken,
             Err(refused) => {
                 drop(self);
@@ -212,7 +205,7 @@ impl EventBuilder {
         };
         let event = EndedEvent {
             calendar,
-            uid: self.uid.unwrap_or(Text::new(alloc)),
+            uid,
             start,
             length,
             rule: self.rule,

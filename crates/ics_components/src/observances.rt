@@ -1,6 +1,9 @@
 //! The observances of a time zone (RFC 5545, section 3.6.5).
-ghost use Rattle.std.specs.Prelude.{◌++◌};
-ghost use Rattle.ics_components.specs.Lines.{Keeps, locals_fault};
+ghost use Rattle.std.specs.Prelude.{false};
+ghost use Rattle.ics_components.specs.DateValues.{values_of};
+ghost use Rattle.ics_components.specs.declared.date_values.Listing.TheVariants.{Rdate};
+ghost use Rattle.ics_components.specs.Faults as reading;
+ghost use Rattle.ics_components.specs.Lines.{Gives, unfit};
 ghost use Rattle.ics_components.specs.Observances.{locals_of};
 
 use crate::date_list::Dates;
@@ -38,18 +41,19 @@ impl Model for Locals {
 }
 
 impl Locals {
-    /// Adds the values of an RDATE of an observance, which are locals without a TZID, if none of them has a fault.
-    pub(crate) fn add(&mut self, alloc: Global, text: &[u8]) -> Result<(), Refused>
-        ensures { Keeps result self.new (locals_fault text.now) (self.old ++ locals_of text.now) }
+    /// The values of an RDATE of an observance, which are locals without a TZID, or the least fault of them.
+    pub(crate) fn read(alloc: Global, text: &[u8]) -> Result<Locals, Refused>
+        ensures { Gives result (unfit (reading.Dates (values_of Rdate false text.now))) (locals_of text.now) }
     {
         let dates = Dates::read(alloc, Listing::Rdate, text, false)?;
+        let mut locals = Vec::new(alloc);
         for value in &dates.values {
             let Some(local) = value.local() else {
                 return Err(Refused::Fault(FaultKind::ObservanceField));
             };
-            self.locals.push(local)?;
+            locals.push(local)?;
         }
-        Ok(())
+        Ok(Locals { locals })
     }
 }
 

@@ -1,10 +1,9 @@
 //! What an RRULE says (RFC 5545, section 3.8.5.3).
 ghost use Rattle.std.specs.Prelude.{◌≡◌};
-ghost use Rattle.std.specs.Option.{option_or};
 ghost use Rattle.ics_values.specs.Rules.{rule_of};
-ghost use Rattle.ics_components.specs.declared.fault.FaultKind.TheVariants.{ZoneRule};
-ghost use Rattle.ics_components.specs.Lines.{Gives, rule_fault_of, fault_if};
-ghost use Rattle.ics_components.specs.Values.{rule_in, is_fine_rule};
+ghost use Rattle.ics_components.specs.Faults.{Rule};
+ghost use Rattle.ics_components.specs.Lines.{Gives, misread, unfit};
+ghost use Rattle.ics_components.specs.Values.{rule_in};
 ghost use Rattle.ics_components.specs.Observances.{daily_in};
 
 use crate::fault::FaultKind;
@@ -31,7 +30,7 @@ impl Model for RuleValue {
 impl RuleValue {
     /// The rule that the value of an RRULE says.
     pub(crate) fn read(alloc: Global, value: &[u8]) -> Result<RuleValue, Refused>
-        ensures { Gives result (rule_fault_of (rule_of value.now)) (rule_in (rule_of value.now)) }
+        ensures { Gives result (misread (Rule (rule_of value.now))) (rule_in (rule_of value.now)) }
     {
         let parts = read_rule(value)?;
         let parts = Box::new(alloc, parts)?;
@@ -40,8 +39,7 @@ impl RuleValue {
 
     /// The same of an observance, which begins at most daily.
     pub(crate) fn read_daily(alloc: Global, value: &[u8]) -> Result<RuleValue, Refused>
-        ensures { Gives result (option_or (rule_fault_of (rule_of value.now)) (fault_if ZoneRule (is_fine_rule (rule_of value.now))))
-            (daily_in (rule_of value.now)) }
+        ensures { Gives result (unfit (Rule (rule_of value.now))) (daily_in (rule_of value.now)) }
     {
         let parts = read_rule(value)?;
         if matches!(

@@ -2,7 +2,8 @@
 ghost use Rattle.std.specs.Prelude.{◌≡◌, ◌∷◌, [], IfOk};
 ghost use Rattle.ics_components.specs.declared.name.Name.TheVariants.{Begin, End};
 ghost use Rattle.ics_components.specs.Gathered.{and_passed};
-ghost use Rattle.ics_components.specs.Lines.{Keeps, named, fault_on, behind, closed, passing};
+ghost use Rattle.ics_components.specs.Lines.{Keeps, fault_on, behind, closed, passing};
+ghost use Rattle.ics_components.specs.PlacedLines.{named};
 ghost use Rattle.ics_components.specs.Pass.{bottom, is_lowest};
 
 use crate::builder::Builder;
@@ -47,9 +48,8 @@ impl Stack {
         Stack {
             top: Frame {
                 component: Component::Other(Text::new(alloc)),
-                context: Context::Outside,
                 calendar: 0,
-                builder: Builder::Nothing,
+                builder: Builder::Elsewhere,
             },
             outer: Vec::new(alloc),
             tzids: Tzids::new(alloc),
@@ -67,11 +67,18 @@ impl Stack {
     ///
     /// What begins or ends takes much room, so this and `end` stand apart from `line`, which most lines pass without either.
     #[inline(never)]
+    #[tactic(auto, unfolding(crate::specs::Lines::least_fault))]
     fn begin(&mut self, alloc: Global, number: u64, content: &Content<'_>) -> Result<(), Refused>
         ensures { Keeps result self.new (fault_on Begin content.now self.old) (behind number Begin content.now self.old) }
     {
         let component = Component::named(alloc, content.value())?;
-        match (self.top.context, &component) {
+        let lowest = self.is_lowest();
+        let (context, calendar) = if lowest {
+            (Context::Outside, number)
+        } else {
+            (self.top.builder.context(), self.top.calendar)
+        };
+        match (context, &component) {
             (Context::Outside, Component::Calendar) => {}
             (Context::Outside, _) => return Err(Refused::Fault(FaultKind::NotCalendar)),
             _ => {}
@@ -79,14 +86,11 @@ impl Stack {
         if self.outer.len() >= MAX_DEPTH {
             return Err(Refused::Fault(FaultKind::TooDeep));
         }
-        let lowest = self.is_lowest();
-        let calendar = if lowest { number } else { self.top.calendar };
-        let context = component.context_in(self.top.context);
+        let builder = Builder::fresh(alloc, component.context_in(context));
         let inner = Frame {
             component,
-            context,
             calendar,
-            builder: Builder::fresh(alloc, context),
+            builder,
         };
         let outer = mem::replace(&mut self.top, inner);
         self.outer.push(outer)?;
@@ -95,6 +99,7 @@ impl Stack {
 
     /// Closes the innermost component by an END on the line with that number, and adds what it is.
     #[inline(never)]
+    #[tactic(auto, unfolding(crate::specs::Lines::least_fault))]
     fn end(
         &mut self,
         alloc: Global,
@@ -115,6 +120,7 @@ impl Stack {
     }
 
     /// Goes behind the line with that number, and adds what is gathered there.
+    #[tactic(auto, using(crate::proofs::Judgements::outside_line))]
     pub fn line(
         &mut self,
         alloc: Global,
@@ -128,6 +134,7 @@ impl Stack {
         match name_of(content.name()) {
             Name::Begin => self.begin(alloc, number, content),
             Name::End => self.end(alloc, gathered, number, content),
+            _ if self.is_lowest() => Err(Refused::Fault(FaultKind::NotCalendar)),
             name => {
                 let zone = self.top.line(alloc, &mut self.tzids, name, content)?;
                 gathered.zone(number, zone)?;

@@ -1,0 +1,98 @@
+-- What the table of faults says of a line by its name, as the reader judges it.
+use Rattle.std.proofs.Common.{List, [], ◌∷◌, suc, ap, Result, Ok, Err, ◌≡◌, ℕ, Bool, true, false, ◌&&◌, ◌||◌, not, ◌==◌, length, map, nat_le, refl, arith, cond, Option, Some, None, is_some}
+use Rattle.std.specs.Prelude.{codes}
+use Rattle.std.specs.Option.{option_or}
+use Rattle.std.specs.Str.{bytes_eq}
+use Rattle.ics_text.specs.Bytes.{upper}
+use Rattle.ics_text.specs.ContentLines.{Parts, param_of}
+use Rattle.ics_components.specs.declared.builder.Builder.{Builder}
+use Rattle.ics_components.specs.declared.builder.Builder.TheVariants as builder
+use Rattle.ics_components.specs.declared.builder.ZoneBuilder.{ZoneBuilder}
+use Rattle.ics_components.specs.declared.event_builder.EventBuilder.{EventBuilder}
+use Rattle.ics_components.specs.declared.observance_builder.ObservanceBuilder.{ObservanceBuilder}
+use Rattle.ics_components.specs.declared.component.Component.{Component}
+use Rattle.ics_components.specs.declared.component.Component.TheVariants as component
+use Rattle.ics_components.specs.declared.fault.FaultKind.{FaultKind}
+use Rattle.ics_components.specs.declared.fault.FaultKind.TheVariants as kind
+use Rattle.ics_components.specs.declared.component.Context.TheVariants as context
+use Rattle.ics_components.specs.declared.frame.Frame.{Frame}
+use Rattle.ics_components.specs.declared.refused.Refused.{Refused}
+use Rattle.ics_components.specs.declared.refused.Refused.TheVariants.{Memory, Fault}
+use Rattle.ics_components.specs.declared.name.Name.{Name}
+use Rattle.ics_components.specs.declared.name.Name.TheVariants as name
+use Rattle.ics_components.specs.Components.{component_of, context_in}
+use Rattle.ics_components.specs.Faults.{event_reading, observance_reading}
+use Rattle.ics_components.specs.Lines.{Gives, Notes, context_on, fault_on, opened, joined}
+use Rattle.ics_components.specs.Builders.{builder_at}
+use Rattle.ics_components.specs.Pass.{is_lowest}
+use Rattle.ics_components.specs.declared.component.Context.{Context}
+use Rattle.ics_components.specs.Lines.{misread, unfit, event_has, observance_has, least_fault, outside_fault, begin_fault, end_fault, line_fault, is_mark}
+use Rattle.ics_components.specs.Values.{is_filled, ends_badly}
+use Rattle.ics_components.proofs.DateValueLemmas.{first-cond}
+use Rattle.ics_components.proofs.NameLemmas.{TellsComponent, tells_component}
+
+-- one of two tests
+or-cond : (a b : Bool) (x y : Option FaultKind) → cond (a || b) x y ≡ cond a x (cond b x y)
+or-cond true b x y = refl
+or-cond false b x y = refl
+
+-- IN AN EVENT: the fault of the value, then a property that stands once and stands before, then what an event may not have.
+abbrev pub refused_there : Name → Parts → Option FaultKind
+refused_there name.RecurrenceId v = cond (is_some (param_of (codes "RANGE") v.params)) (Some kind.ThisAndFuture) None
+refused_there name.Exrule v = Some kind.Exrule
+refused_there _ v = None
+
+pub event_line : (n : Name) (v : Parts) (had : EventBuilder) → is_mark n ≡ false →
+    line_fault n v (builder.Event had)
+    ≡ option_or (misread (event_reading n v.params v.value)) (option_or (cond (event_has had n) (Some kind.Repeated) None) (refused_there n v))
+unfolding least_fault
+event_line name.Begin v had m = cc
+event_line name.End v had m = cc
+event_line _ v had m = simp first-cond
+
+pub event_end : (had : EventBuilder) →
+    end_fault true (builder.Event had)
+    ≡ cond (not (is_filled had.uid)) (Some kind.MissingUid) (cond (not (is_some had.start)) (Some kind.MissingStart)
+    (cond ((is_some had.end && is_some had.duration) || ends_badly had.start had.end) (Some kind.BadEnd) None))
+unfolding least_fault
+event_end had = refl
+
+-- IN AN OBSERVANCE: the fault of the value, then a property that stands once and stands before.
+abbrev pub again_there : Name → FaultKind
+again_there name.Rrule = kind.ZoneRule
+again_there _ = kind.ObservanceField
+
+pub observance_line : (n : Name) (v : Parts) (had : ObservanceBuilder) → is_mark n ≡ false →
+    line_fault n v (builder.Observance had)
+    ≡ option_or (unfit (observance_reading n v.value)) (cond (observance_has had n) (Some (again_there n)) None)
+unfolding least_fault
+observance_line name.Begin v had m = cc
+observance_line name.End v had m = cc
+observance_line _ v had m = simp (first-cond, or-cond)
+
+-- IN A TIME ZONE, at its END.
+pub zone_end : (had : ZoneBuilder) →
+    end_fault true (builder.Zone had)
+    ≡ cond (length had.observances == 0) (Some kind.NoObservance) (cond (is_some had.name) None (Some kind.ObservanceField))
+unfolding least_fault
+zone_end had = grind arith
+
+-- AN END that does not match.
+pub unmatched_end : (b : Builder) → end_fault false b ≡ Some kind.BadNesting
+unfolding least_fault
+unmatched_end builder.Calendar = refl
+unmatched_end (builder.Event had) = refl
+unmatched_end (builder.Zone had) = refl
+unmatched_end (builder.Observance had) = refl
+unmatched_end builder.Elsewhere = refl
+
+-- OUTSIDE ALL COMPONENTS only a calendar begins.
+pub outside_line : (n : Name) (v : Parts) → is_mark n ≡ false → outside_fault n v ≡ Some kind.NotCalendar
+unfolding least_fault
+outside_line name.Begin v m = cc
+outside_line name.End v m = cc
+outside_line _ v m = refl
+
+pub outside_end : (v : Parts) → outside_fault name.End v ≡ Some kind.NotCalendar
+unfolding least_fault
+outside_end v = refl

@@ -1,0 +1,98 @@
+//! The properties of an event (RFC 5545, section 3.8).
+ghost use Rattle.std.specs.Prelude.{◌≡◌, IfOk};
+ghost use Rattle.ics_values.specs.Integers.{integer_of};
+ghost use Rattle.ics_components.specs.Faults.{event_reading, Number};
+ghost use Rattle.ics_components.specs.Lines.{Gives, misread, event_property, property_zone};
+ghost use Rattle.ics_components.specs.Values.{ok_or_zero};
+
+use crate::date_list::DateList;
+use crate::date_values::Listing;
+use crate::dated::Dated;
+use crate::deferred_check::ZoneName;
+use crate::ends::lasting;
+use crate::fault::FaultKind;
+use crate::name::Name;
+use crate::refused::Refused;
+use crate::rule_value::RuleValue;
+use crate::tzid::Tzids;
+use ics_text::Content;
+use ics_values::{Duration, IntegerFault, Text, is_word, read_integer};
+use std::alloc::{AllocError, Global};
+
+/// What a line of an event says, if its value has no fault.
+#[derive(Drop)]
+pub enum Property {
+    Uid(Text),
+    Start(Dated),
+    End(Dated),
+    Duration(Duration),
+    Rule(RuleValue),
+    Recurrence(Dated),
+    Sequence(u32),
+    Rdates(DateList),
+    Exdates(DateList),
+    Title(Text),
+    Location(Text),
+    Description(Text),
+    Cancelled(bool),
+    /// One that is not read.
+    Other,
+}
+
+/// The number of a SEQUENCE. One that is no number counts as 0.
+fn sequence(value: &[u8]) -> Result<u32, Refused>
+    ensures { Gives result (misread (Number (integer_of value.now))) (ok_or_zero (integer_of value.now)) }
+{
+    match read_integer(value) {
+        Ok(number) => Ok(number),
+        Err(IntegerFault::NotDigits) => Ok(0),
+        Err(IntegerFault::NumberTooLarge) => Err(Refused::Fault(FaultKind::NumberTooLarge)),
+    }
+}
+
+impl Property {
+    /// What a line says, or the least fault of its value.
+    pub fn read(
+        alloc: Global,
+        tzids: &mut Tzids,
+        name: Name,
+        content: &Content<'_>,
+    ) -> Result<Property, Refused>
+        ensures { Gives result (misread (event_reading name content.now.params content.now.value)) (event_property name content.now) }
+    {
+        let value = content.value();
+        Ok(match name {
+            Name::Uid => Property::Uid(Text::of_value(alloc, value)?),
+            Name::Dtstart => Property::Start(Dated::read(alloc, tzids, content)?),
+            Name::Dtend => Property::End(Dated::read(alloc, tzids, content)?),
+            Name::Duration => Property::Duration(lasting(value)?),
+            Name::Rrule => Property::Rule(RuleValue::read(alloc, value)?),
+            Name::RecurrenceId => Property::Recurrence(Dated::read(alloc, tzids, content)?),
+            Name::Sequence => Property::Sequence(sequence(value)?),
+            Name::Rdate => {
+                Property::Rdates(DateList::read(alloc, tzids, Listing::Rdate, content)?)
+            }
+            Name::Exdate => {
+                Property::Exdates(DateList::read(alloc, tzids, Listing::Exdate, content)?)
+            }
+            Name::Summary => Property::Title(Text::of_value(alloc, value)?),
+            Name::Location => Property::Location(Text::of_value(alloc, value)?),
+            Name::Description => Property::Description(Text::of_value(alloc, value)?),
+            Name::Status => Property::Cancelled(is_word(value, b"CANCELLED")),
+            _ => Property::Other,
+        })
+    }
+
+    /// The time zone of its stamps in that calendar, which is to be known, if they have one.
+    pub fn used_zone(&self, calendar: u64) -> Result<Option<ZoneName>, AllocError>
+        ensures { IfOk result (λ zone. zone ≡ property_zone calendar self.now) }
+    {
+        match self {
+            Property::Start(dated) | Property::End(dated) | Property::Recurrence(dated) => {
+                dated.used_zone(calendar)
+            }
+            Property::Rdates(list) | Property::Exdates(list) => list.used_zone(calendar),
+            _ => Ok(None),
+        }
+    }
+}
