@@ -111,17 +111,21 @@ impl Gathered {
         Ok(())
     }
 
+    /// Adds the check of the line with that number, if there is one.
+    fn check(&mut self, line: u64, check: Option<DeferredCheck>) -> Result<(), AllocError>
+        ensures { IfOk result (λ _. self.new ≡ and_passed line (passed Nothing check) self.old) }
+    {
+        if let Some(check) = check {
+            self.checks.push(LineCheck { line, check })?;
+        }
+        Ok(())
+    }
+
     /// Adds that the time zone on the line with that number is to be known, if there is one.
     pub(crate) fn zone(&mut self, number: u64, zone: Option<ZoneName>) -> Result<(), AllocError>
         ensures { IfOk result (λ _. self.new ≡ and_passed number (passed Nothing (option_map Zone zone)) self.old) }
     {
-        if let Some(name) = zone {
-            self.checks.push(LineCheck {
-                line: number,
-                check: DeferredCheck::Zone(name),
-            })?;
-        }
-        Ok(())
+        self.check(number, zone.map(DeferredCheck::Zone))
     }
 
     /// Adds what is gathered on the line with that number.
@@ -133,12 +137,6 @@ impl Gathered {
             drop(check);
             return Err(error);
         }
-        if let Some(check) = check {
-            self.checks.push(LineCheck {
-                line: number,
-                check,
-            })?;
-        }
-        Ok(())
+        self.check(number, check)
     }
 }
