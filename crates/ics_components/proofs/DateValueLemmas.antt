@@ -4,6 +4,7 @@ use Rattle.std.proofs.Common.{map, Option, Some, None, Result, Ok, Err, subst, B
 use Rattle.std.specs.Prelude.{nat_lt, is_none, ◌++◌}
 use Rattle.std.specs.List.{list_any, position, position_or_len}
 use Rattle.std.specs.Option.{option_or as first}
+use Rattle.std.specs.Ordering.{ord_min}
 use Rattle.std.specs.Result.{result_err}
 use Rattle.std.proofs.lemmas.Bool.{ne_eqb}
 use Rattle.std.proofs.lemmas.Bool.Decides.{nat_tests}
@@ -16,10 +17,11 @@ use Rattle.ics_values.specs.declared.stamp.StampFault.{StampFault}
 use Rattle.ics_values.specs.declared.stamp.StampFault.TheVariants as stamp
 use Rattle.ics_components.specs.DateValues.{DateValue, At, date_time_of, period_of, rdate_of, listed_in, has_bad_stamp}
 use Rattle.ics_components.specs.DateValues.{has_far_stamp, has_bad_duration, has_large_duration, values_of, local_in, is_not_local}
+use Rattle.ics_components.specs.contracts.fault.FaultKindOrd.TheImpl as order
 use Rattle.ics_components.specs.declared.fault.FaultKind.{FaultKind}
 use Rattle.ics_components.specs.declared.fault.FaultKind.TheVariants.{BadStamp, BadDuration, YearRange, NumberTooLarge, ObservanceField}
 use Rattle.ics_components.specs.Faults.{Dates}
-use Rattle.ics_components.specs.Lines.{misread, unfit, lesser, judged}
+use Rattle.ics_components.specs.Lines.{misread, unfit, judged}
 use Rattle.ics_components.specs.Pass.{unless}
 use Rattle.ics_components.specs.declared.date_values.Listing.TheVariants.{Rdate}
 use Rattle.ics_components.specs.declared.date_list.ListedDate.{ListedDate}
@@ -60,7 +62,8 @@ dates_fault values = misread (Dates values)
 -- THE LESSER OF TWO FAULTS, where each may not be there
 abbrev pub least : Option FaultKind → Option FaultKind → Option FaultKind
 least o None = o
-least o (Some kind) = Some (lesser o kind)
+least None (Some kind) = Some kind
+least (Some had) (Some kind) = Some (ord_min order.ghosts.cmp had kind)
 
 -- the least fault of the values of a line with one more
 dates-more : (vs : List DateValue) (v : DateValue) → dates_fault (vs ++ v ∷ []) ≡ least (dates_fault vs) (dates_fault (v ∷ []))

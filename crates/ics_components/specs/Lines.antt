@@ -98,17 +98,12 @@ abbrev pub rule_kind : RuleFault → FaultKind
 rule_kind rule.BadRule = kind.BadRule
 rule_kind rule.NumberTooLarge = kind.NumberTooLarge
 
--- the lesser of two faults, of which the first may not be there
-abbrev pub lesser : Option FaultKind → FaultKind → FaultKind
-lesser None kind = kind
-lesser (Some had) kind = ord_min order.ghosts.cmp had kind
-
 -- what two values make, or the lesser fault
 abbrev pub both : {A B C : Type 0} → (A → B → C) → Result A FaultKind → Result B FaultKind → Result C FaultKind
 both made (Ok a) (Ok b) = Ok (made a b)
 both made (Ok a) (Err kind) = Err kind
 both made (Err kind) (Ok b) = Err kind
-both made (Err had) (Err kind) = Err (lesser (Some had) kind)
+both made (Err had) (Err kind) = Err (ord_min order.ghosts.cmp had kind)
 
 -- what a value of an RDATE or an EXDATE says, or its least fault
 abbrev pub judged : DateValue → Result ListedDate FaultKind

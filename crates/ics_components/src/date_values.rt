@@ -2,10 +2,9 @@
 ghost use Rattle.std.specs.Prelude.{◌≡◌, ◌==◌, map};
 ghost use Rattle.std.specs.List.{position};
 ghost use Rattle.ics_values.specs.Periods.{lasts};
-ghost use Rattle.ics_values.specs.Stamps.{stamp_of};
-ghost use Rattle.ics_components.specs.DateValues.{At, date_time_of, period_of, value_of, values_of, listed_in};
+ghost use Rattle.ics_components.specs.DateValues.{date_time_of, period_of, value_of, values_of, listed_in};
 ghost use Rattle.ics_components.specs.Faults as reading;
-ghost use Rattle.ics_components.specs.Lines.{Gives, lesser, stamp_judged, judged, misread};
+ghost use Rattle.ics_components.specs.Lines.{Gives, stamp_judged, judged, misread};
 
 use crate::date_list::{Dates, ListedDate};
 use crate::dated::stamp;
@@ -20,16 +19,6 @@ use std::alloc::Global;
 pub enum Listing {
     Rdate,
     Exdate,
-}
-
-/// The lesser of two faults, of which the first may not be there.
-fn lesser(had: Option<FaultKind>, kind: FaultKind) -> FaultKind
-    ensures { result ≡ lesser had kind }
-{
-    match had {
-        Some(had) => had.min(kind),
-        None => kind,
-    }
 }
 
 /// A half of a PERIOD that is a stamp. A DATE is none.
@@ -72,12 +61,6 @@ fn period(start: &[u8], end: &[u8], zoned: bool) -> Result<ListedDate, FaultKind
     }
 }
 
-fn at(text: &[u8], zoned: bool) -> Result<ListedDate, FaultKind>
-    ensures { result ≡ judged (At (stamp_of zoned text.now)) }
-{
-    Ok(ListedDate::At(stamp(text, zoned)?))
-}
-
 /// Where the first `/` stands.
 fn slash(text: &[u8]) -> Option<usize>
     ensures { result ≡ position (λ b. b == 47) text.now }
@@ -93,9 +76,9 @@ impl Listing {
         match self {
             Listing::Rdate => match slash(text) {
                 Some(i) => period(&text[..i], &text[i + 1..], zoned),
-                None => at(text, zoned),
+                None => stamp(text, zoned).map(ListedDate::At),
             },
-            Listing::Exdate => at(text, zoned),
+            Listing::Exdate => stamp(text, zoned).map(ListedDate::At),
         }
     }
 }
@@ -111,11 +94,12 @@ impl Dates {
         ensures { Gives result (misread (reading.Dates (values_of listing zoned text.now))) (map listed_in (values_of listing zoned text.now)) }
     {
         let mut values = Vec::new(alloc);
-        let mut least = None;
+        let mut least: Option<FaultKind> = None;
         'values: for value in text.split(|b| *b == b',') {
-            match listing.value(value, zoned) {
-                Ok(value) => values.push(value)?,
-                Err(kind) => least = Some(lesser(least, kind)),
+            match (listing.value(value, zoned), least) {
+                (Ok(value), _) => values.push(value)?,
+                (Err(kind), Some(had)) => least = Some(had.min(kind)),
+                (Err(kind), None) => least = Some(kind),
             }
         }
         match least {

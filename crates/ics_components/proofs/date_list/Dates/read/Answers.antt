@@ -7,10 +7,19 @@ use Rattle.ics_components.proofs.date_list.Dates.read.Goals as goal
 
 pub values-preserved-in-Continue-1 : goal.values-preserved-in-Continue-1
 values-preserved-in-Continue-1 c =
-    rw c.in_ok-push-in-Ok.ensures.items (read-more _ c.values.yielded c.in-Some.value c.values.invariant (sym c.value.ensures ∙ c.in-Ok.is))
+    rw c.in_ok-push-in-Ok-default.ensures.items
+    (read-more _ c.values.yielded c.in-Some.value c.values.invariant (sym c.value.ensures ∙ c.in-Ok-default.is-0))
+
+pub values-preserved-in-Err-Some : goal.values-preserved-in-Err-Some
+values-preserved-in-Err-Some c =
+    rw c.min.ensures (
+    rw c.in-Err-Some.is-1 at
+    (read-more _ c.values.yielded c.in-Some.value c.values.invariant (sym c.value.ensures ∙ c.in-Err-Some.is-0))
+    )
 
 pub values-preserved : goal.values-preserved
-values-preserved c = rw c.lesser.ensures (read-more _ c.values.yielded c.in-Some.value c.values.invariant (sym c.value.ensures ∙ c.in-Err.is))
+values-preserved c =
+    rw c.in-Err-None.is-1 at (read-more _ c.values.yielded c.in-Some.value c.values.invariant (sym c.value.ensures ∙ c.in-Err-None.is-0))
 
 pub returns-in-Some-least : goal.returns-in-Some-least
 returns-in-Some-least c =

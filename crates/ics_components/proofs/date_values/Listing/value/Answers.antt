@@ -1,4 +1,5 @@
-use Rattle.std.proofs.Common.{◌∙◌, ◌+◌, sym, ap, take}
+use Rattle.std.proofs.Common.{◌∙◌, ◌+◌, sym, ap, take, arith}
+use Rattle.std.proofs.lemmas.Grind.{common_steps}
 use Rattle.std.proofs.lemmas.List.{take_rest}
 use Rattle.ics_components.specs.DateValues.{period_of}
 use Rattle.ics_components.specs.Lines.{judged}
@@ -14,4 +15,4 @@ returns-in-Some c =
     ))
 
 pub returns-in-None : goal.returns-in-None
-returns-in-None c = rw c.in-Rdate.is (c.at.ensures ∙ ap judged (rdate-is c.args.zoned c.args.text.now (sym c.slash.ensures ∙ c.in-None.is)))
+returns-in-None c = rw (c.in-Rdate.is, ← rdate-is c.args.zoned c.args.text.now (sym c.slash.ensures ∙ c.in-None.is)) (grind (arith, common_steps))
