@@ -1,6 +1,6 @@
 -- The table of the second round and the pass find one fault on a line, and ask for one time zone.
 use Rattle.std.proofs.Common.{◌≡◌, ◌⊎◌, inl, inr, ℕ, Bool, true, false, ◌&&◌, List, map, refl, sym, cond, Option, Some, None, is_some, arith}
-use Rattle.std.specs.Prelude.{find, not, option_map}
+use Rattle.std.specs.Prelude.{find, not}
 use Rattle.std.specs.Option.{option_and_then}
 use Rattle.std.proofs.Math.Bool.{or-false}
 use Rattle.std.proofs.lemmas.Bool.{not-false}
@@ -12,17 +12,15 @@ use Rattle.ics_components.specs.declared.component.Context.TheVariants as contex
 use Rattle.ics_components.specs.declared.dated.Dated.{Dated}
 use Rattle.ics_components.specs.declared.fault.FaultKind.TheVariants.{BadEnd, UnknownZone, BadZoneFile}
 use Rattle.ics_components.specs.declared.deferred_check.DeferredCheck.{DeferredCheck}
-use Rattle.ics_components.specs.declared.deferred_check.DeferredCheck.TheVariants as check
 use Rattle.ics_components.specs.declared.deferred_check.ZoneName.{ZoneName}
 use Rattle.ics_components.specs.declared.name.Name.{Name}
 use Rattle.ics_components.specs.declared.name.Name.TheVariants as name
 use Rattle.ics_components.specs.PlacedLines.{Placed, Open, named, name_on, context_of, calendar_of, closes, ends_event}
-use Rattle.ics_components.specs.Values.{dated_of}
+use Rattle.ics_components.specs.Values.{zone_name}
 use Rattle.ics_components.specs.Faults.{kinds}
 use Rattle.ics_calendar.specs.LaterFaults.{is_in_zone, is_in_unknown_zone, stands_later, tzid_on}
 use Rattle.ics_calendar.specs.DeferredChecks.{KnownZones, ends_badly_later, judged, unknown_in}
-use Rattle.ics_components.specs.ZoneNames.{zone_used}
-use Rattle.ics_components.specs.SecondRound.{ends_in}
+use Rattle.ics_components.specs.SecondRound.{zone_named, zone_check, ends_in}
 use Rattle.ics_components.specs.Lines.{check_in}
 use Rattle.ics_components.specs.declared.event_builder.EventBuilder.{EventBuilder}
 use Rattle.ics_components.proofs.Ended.{IsMatched}
@@ -40,9 +38,9 @@ ends-as known k _ _ = (refl, refl)
 zone-as : (known : KnownZones) (zoned : Bool) (used : ZoneName) →
     (cond ((zoned && not (is_some (known.index used))) && not (known.is_bad used.name)) (Some UnknownZone)
     (cond ((zoned && not (is_some (known.index used))) && known.is_bad used.name) (Some BadZoneFile) None)
-    ≡ option_and_then (judged known) (option_map check.Zone (cond zoned (Some used) None)))
+    ≡ option_and_then (judged known) (zone_check (cond zoned (Some used) None)))
     × (cond (zoned && not (is_some (known.index used))) (Some used.name) None
-    ≡ option_and_then (unknown_in known.index) (option_map check.Zone (cond zoned (Some used) None)))
+    ≡ option_and_then (unknown_in known.index) (zone_check (cond zoned (Some used) None)))
 zone-as known zoned used = (grind arith, grind arith)
 
 module _ (whole : List Placed) (line : Line) (parts : Parts) (ls : List Placed) (path : List Open) where
@@ -57,7 +55,7 @@ module _ (whole : List Placed) (line : Line) (parts : Parts) (ls : List Placed) 
 
   -- the zone that the line names, if it has a stamp in one
   abbrev used : ZoneName
-  used = zone_used k (dated_of parts.params parts.value)
+  used = zone_named k (zone_name parts.params)
 
   abbrev left : Name → Option DeferredCheck
   left n = check_in n parts (frame_of whole path ls)
@@ -66,7 +64,7 @@ module _ (whole : List Placed) (line : Line) (parts : Parts) (ls : List Placed) 
   abbrev Leaves : Name → Type 0
   Leaves n =
       ((ends_event l ≡ true) × (is_in_zone l ≡ false) × (left n ≡ ends_in k had.start had.end))
-      ⊎ ((ends_event l ≡ false) × (left n ≡ option_map check.Zone (cond (is_in_zone l) (Some used) None)))
+      ⊎ ((ends_event l ≡ false) × (left n ≡ zone_check (cond (is_in_zone l) (Some used) None)))
 
   leaves : (n : Name) (q : Context) → name_on (Some parts) ≡ n → context_of path ≡ q → IsMatched l → Leaves n
   leaves name.End context.Event e c m =

@@ -2,6 +2,7 @@
 use Rattle.std.proofs.Common.{◌≡◌, ℕ, Bool, true, false, ◌&&◌, ◌||◌, ◌==◌, List, [], refl, arith, cond, Option, Some}
 use Rattle.std.proofs.Common.{None, is_some, IfSome, ℤ, pos, ◌*ℤ◌, length, get_or, ap}
 use Rattle.std.specs.Prelude.{map, option_map, unwrap_or}
+use Rattle.std.specs.Option.{option_and_then}
 use Rattle.std.specs.List.{All}
 use Rattle.std.proofs.lemmas.Bool.{or_left, or_right}
 use Rattle.std.proofs.lemmas.Bool.Decides.{nat_tests}
@@ -27,13 +28,11 @@ use Rattle.ics_components.specs.declared.deferred_check.ZoneName.{ZoneName}
 use Rattle.ics_event.specs.Event.{is_zoned, IsTime, IsWithin, IsEnd, IsLasting, IsLength, IsRdate, IsEvent, EndsBelow, RdateBelow}
 use Rattle.ics_event.specs.Event.{time_in, TimeBelow, EndsWithin, IsEventOf, AreEventsOf, compared, moment_in}
 use Rattle.ics_calendar.specs.Settled.{event_of, IsReady}
-use Rattle.ics_components.specs.DateLists.{zone_listed}
 use Rattle.ics_calendar.specs.ListedTimes.{rdate_in, exdate_in, listed_by}
 use Rattle.ics_components.specs.DateValues.{has_zoned}
 use Rattle.ics_calendar.specs.DeferredChecks.{KnownZones, judged, moment_of}
-use Rattle.ics_components.specs.ZoneNames.{zone_named, zone_used}
 use Rattle.ics_event.specs.declared.time.Rdate.{Rdate}
-use Rattle.ics_components.specs.SecondRound.{used_zone, used_in, listed_zone, instant_on, both_compared, ends_in}
+use Rattle.ics_components.specs.SecondRound.{zone_named, dated_zone, list_zone, zone_check, instant_on, both_compared, ends_in}
 use Rattle.ics_components.specs.Sound.{end_of, IsSoundStamp, IsSoundLength, IsSoundValue, IsSoundList}
 use Rattle.ics_calendar.specs.Times.{time_on, length_of}
 use Rattle.ics_components.specs.Values.{is_lasting, is_out, is_bad_end}
@@ -61,7 +60,7 @@ lasting-is d h = record { forward = grind (arith, nat_tests, h); short = grind (
 
 -- the check of stamps that a line lists, in the zone that it names
 abbrev fault_by : Bool → ZoneName → Option DeferredCheck
-fault_by zoned name = option_map check.Zone (cond zoned (Some name) None)
+fault_by zoned name = zone_check (cond zoned (Some name) None)
 
 module _ (known : KnownZones) where
   abbrev place : ZoneName → ℕ
@@ -127,21 +126,22 @@ module _ (known : KnownZones) where
       ends-are _ _ e u v l = cc
 
     length-sound : (s : Dated) (l : GivenLength) → IsSoundLength s l →
-        IsFine known (used_zone k s) → IsFine known (used_in k (end_of l)) → IsFine known (ends_in k (Some s) (end_of l)) →
+        IsFine known (zone_check (dated_zone k s)) → IsFine known (zone_check (option_and_then (dated_zone k) (end_of l))) →
+        IsFine known (ends_in k (Some s) (end_of l)) →
         IsLength s.stamp (length_of known.index k l)
         × (IsTable known →
         EndsBelow (length known.zones) (length_of known.index k l) × EndsWithin known.zones (time_on known.index k s) (length_of known.index k l))
     length-sound s (given.Until d) h u v w =
-        let end = stamp-time (zone_used k d) d.stamp h.0 v in
+        let end = stamp-time (zone_named k d.zone) d.stamp h.0 v in
         let ends = ends-are s.zone d.zone s.stamp d.stamp h.1 u v w in ((end.0, ends.0), λ table. (end.1 table, ends.1 table))
     length-sound s (given.Lasting d) h u v w = (lasting-is d h, λ table. (tt, tt))
     length-sound s given.Open h u v w = (tt, λ table. (tt, tt))
 
-    recurrence-is : (o : Option Dated) → IfSome o (λ d. IsSoundStamp d.stamp) → IsFine known (used_in k o) →
+    recurrence-is : (o : Option Dated) → IfSome o (λ d. IsSoundStamp d.stamp) → IsFine known (zone_check (option_and_then (dated_zone k) o)) →
         IfSome (option_map (time_on known.index k) o) IsTime
         × (IsTable known → IfSome (option_map (time_on known.index k) o) (TimeBelow (length known.zones)))
     recurrence-is None h f = (tt, λ table. tt)
-    recurrence-is (Some d) h f = stamp-time (zone_used k d) d.stamp h f
+    recurrence-is (Some d) h f = stamp-time (zone_named k d.zone) d.stamp h f
 
   -- WHAT A LINE LISTS, in the zone that it names.
   fine-less : (name : ZoneName) (a b : Bool) → (a ≡ true → b ≡ true) → IsFine known (fault_by b name) → IsFine known (fault_by a name)
@@ -168,19 +168,19 @@ module _ (known : KnownZones) where
   module _ {A : Type 0} (P : A → Type 0) where
     lists-are : (f : Option ℕ → ListedDate → A) (calendar : ℕ) →
         ((name : ZoneName) (v : ListedDate) → IsSoundValue v → IsFine known (fault_by (has_zoned v) name) → P (f (known.index name) v)) →
-        (lists : List DateList) → All IsSoundList lists → All (λ list. IsFine known (listed_zone calendar list)) lists →
+        (lists : List DateList) → All IsSoundList lists → All (λ list. IsFine known (zone_check (list_zone calendar list))) lists →
         All P (listed_by f known.index calendar lists)
     lists-are f calendar each lists h k =
         All-flat_map P _ lists (λ i d l.
         let list = get_or lists i d in
-        All-map P (f (known.index (zone_listed calendar list))) list.values (λ j v m.
-        each (zone_listed calendar list) (get_or list.values j v) (h i d l j v m)
-        (fine-less (zone_listed calendar list) _ _ (list_any_at has_zoned list.values j v m) (k i d l))))
+        All-map P (f (known.index (zone_named calendar list.zone))) list.values (λ j v m.
+        each (zone_named calendar list.zone) (get_or list.values j v) (h i d l j v m)
+        (fine-less (zone_named calendar list.zone) _ _ (list_any_at has_zoned list.values j v m) (k i d l))))
 
   pub event-sound : (event : EndedEvent) → IsReady known event →
       IsEvent (event_of known.index event) × (IsTable known → IsEventOf known.zones (event_of known.index event))
   event-sound e r =
-      let start = stamp-time (zone_used e.calendar e.start) e.start.stamp r.whole.start r.zones.start in
+      let start = stamp-time (zone_named e.calendar e.start.zone) e.start.stamp r.whole.start r.zones.start in
       let ends = length-sound e.calendar e.start e.length r.whole.length r.zones.start r.zones.end r.zones.length in
       let rdates = lists-are IsRdateOf rdate_in e.calendar rdate-is e.rdates r.whole.rdates r.zones.rdates in
       let exdates = lists-are IsTimeOf exdate_in e.calendar exdate-is e.exdates r.whole.exdates r.zones.exdates in

@@ -17,8 +17,7 @@ use Rattle.ics_components.specs.declared.deferred_check.ZoneName.{ZoneName}
 use Rattle.ics_fields.specs.Locals.{local_seconds}
 use Rattle.ics_calendar.specs.GivenFiles.{GivenFiles, given_names, given_zones, bad_names}
 use Rattle.ics_components.specs.Values.{is_out}
-use Rattle.ics_components.specs.SecondRound.{instant_in}
-use Rattle.ics_components.specs.ZoneNames.{are_of_one_zone}
+use Rattle.ics_components.specs.SecondRound.{instant_in, are_of_one_zone}
 
 -- the same name in the same calendar
 abbrev pub is_same : ZoneName → ZoneName → Bool

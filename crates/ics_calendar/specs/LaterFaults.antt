@@ -8,7 +8,7 @@ use Rattle.ics_components.specs.Faults.{dates_said, reading_on, first_dated}
 use Rattle.ics_components.specs.declared.name.Name.TheVariants as name
 use Rattle.ics_components.specs.PlacedLines.{Placed, params_of, in_event, calendar_of, ends_event}
 use Rattle.ics_components.specs.Values.{zone_name}
-use Rattle.ics_components.specs.ZoneNames.{zone_named}
+use Rattle.ics_components.specs.SecondRound.{zone_named}
 use Rattle.ics_calendar.specs.DeferredChecks.{KnownZones, ends_badly_later}
 
 -- a property of an event with a stamp in a time zone, and whether its calendar has one of the name in its TZID

@@ -5,9 +5,8 @@ pub use Rattle.ics_components.specs.Components
 pub use Rattle.ics_components.specs.PlacedLines
 pub use Rattle.ics_components.specs.Values
 pub use Rattle.ics_components.specs.DateValues
-pub use Rattle.ics_components.specs.DateLists
 pub use Rattle.ics_components.specs.GivenTimes
-pub use Rattle.ics_components.specs.ZoneNames
+pub use Rattle.ics_components.specs.SecondRound
 pub use Rattle.ics_components.specs.Observances
 pub use Rattle.ics_components.specs.Faults
 pub use Rattle.ics_components.specs.FirstFault

@@ -8,7 +8,7 @@ use Rattle.ics_event.specs.declared.time.Length.TheVariants.{Until, Lasting}
 use Rattle.ics_event.specs.declared.time.Rdate.{Rdate}
 use Rattle.ics_event.specs.declared.time.Rdate.TheVariants.{At, Span}
 use Rattle.ics_event.specs.declared.time.Time.{Time}
-use Rattle.ics_components.specs.DateLists.{zone_listed}
+use Rattle.ics_components.specs.SecondRound.{zone_named}
 use Rattle.ics_event.specs.Event.{time_in}
 
 -- A VALUE, given the index of the zone that its line names.
@@ -25,7 +25,7 @@ exdate_in zone (listed.Lasting start duration) = time_in zone start
 
 -- THE VALUES of some lines of a calendar, in their order, given what a value says and the index of the zone that a name stands for.
 abbrev pub listed_by : {T : Type 0} → (Option ℕ → ListedDate → T) → (ZoneName → Option ℕ) → ℕ → List DateList → List T
-listed_by listed index calendar lists = flat_map (λ list. map (listed (index (zone_listed calendar list))) list.values) lists
+listed_by listed index calendar lists = flat_map (λ list. map (listed (index (zone_named calendar list.zone))) list.values) lists
 
 abbrev pub rdates_by : (ZoneName → Option ℕ) → ℕ → List DateList → List Rdate
 rdates_by = listed_by rdate_in

@@ -8,11 +8,11 @@ use Rattle.ics_event.specs.declared.time.Time.{Time}
 use Rattle.ics_event.specs.declared.time.Length.{Length}
 use Rattle.ics_event.specs.declared.time.Length.TheVariants.{Open, Until, Lasting}
 use Rattle.ics_event.specs.Event.{time_in}
-use Rattle.ics_components.specs.ZoneNames.{zone_used}
+use Rattle.ics_components.specs.SecondRound.{zone_named}
 
 -- The time of a DTSTART, DTEND or RECURRENCE-ID of an event in a calendar, given the index of the zone that a name stands for.
 abbrev pub time_on : (ZoneName → Option ℕ) → ℕ → Dated → Time
-time_on index calendar dated = time_in (index (zone_used calendar dated)) dated.stamp
+time_on index calendar dated = time_in (index (zone_named calendar dated.zone)) dated.stamp
 
 abbrev pub length_of : (ZoneName → Option ℕ) → ℕ → GivenLength → Length
 length_of index calendar (given.Until end) = Until (time_on index calendar end)

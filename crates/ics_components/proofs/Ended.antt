@@ -1,5 +1,5 @@
 -- What ends on the lines, in the order of the lines.
-use Rattle.std.proofs.Common.{◌≡◌, false, ◌&&◌, List, [], ◌∷◌, map, refl, Some, arith}
+use Rattle.std.proofs.Common.{◌≡◌, false, ◌&&◌, List, [], ◌∷◌, refl, Some, arith}
 use Rattle.std.specs.Prelude.{not}
 use Rattle.std.proofs.lemmas.Bool.{not-false}
 use Rattle.ics_text.specs.Unfolded.{Line}

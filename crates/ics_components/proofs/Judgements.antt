@@ -1,35 +1,21 @@
 -- What the table of faults says of a line by its name, as the reader judges it.
-use Rattle.std.proofs.Common.{List, [], ◌∷◌, suc, ap, Result, Ok, Err, ◌≡◌, ℕ, Bool, true, false, ◌&&◌, ◌||◌, not, ◌==◌, length, map, nat_le, refl, arith, cond, Option, Some, None, is_some}
+use Rattle.std.proofs.Common.{◌≡◌, Bool, true, false, ◌&&◌, ◌||◌, not, ◌==◌, length, refl, arith, cond, Option, Some, None, is_some}
 use Rattle.std.specs.Prelude.{codes}
 use Rattle.std.specs.Option.{option_or}
-use Rattle.std.specs.Str.{bytes_eq}
-use Rattle.ics_text.specs.Bytes.{upper}
 use Rattle.ics_text.specs.ContentLines.{Parts, param_of}
 use Rattle.ics_components.specs.declared.builder.Builder.{Builder}
 use Rattle.ics_components.specs.declared.builder.Builder.TheVariants as builder
 use Rattle.ics_components.specs.declared.builder.ZoneBuilder.{ZoneBuilder}
 use Rattle.ics_components.specs.declared.event_builder.EventBuilder.{EventBuilder}
 use Rattle.ics_components.specs.declared.observance_builder.ObservanceBuilder.{ObservanceBuilder}
-use Rattle.ics_components.specs.declared.component.Component.{Component}
-use Rattle.ics_components.specs.declared.component.Component.TheVariants as component
 use Rattle.ics_components.specs.declared.fault.FaultKind.{FaultKind}
 use Rattle.ics_components.specs.declared.fault.FaultKind.TheVariants as kind
-use Rattle.ics_components.specs.declared.component.Context.TheVariants as context
-use Rattle.ics_components.specs.declared.frame.Frame.{Frame}
-use Rattle.ics_components.specs.declared.refused.Refused.{Refused}
-use Rattle.ics_components.specs.declared.refused.Refused.TheVariants.{Memory, Fault}
 use Rattle.ics_components.specs.declared.name.Name.{Name}
 use Rattle.ics_components.specs.declared.name.Name.TheVariants as name
-use Rattle.ics_components.specs.Components.{component_of, context_in}
 use Rattle.ics_components.specs.Faults.{event_reading, observance_reading}
-use Rattle.ics_components.specs.Lines.{Gives, Notes, context_on, fault_on, opened, joined}
-use Rattle.ics_components.specs.Builders.{builder_at}
-use Rattle.ics_components.specs.Pass.{is_lowest}
-use Rattle.ics_components.specs.declared.component.Context.{Context}
-use Rattle.ics_components.specs.Lines.{misread, unfit, event_has, observance_has, least_fault, outside_fault, begin_fault, end_fault, line_fault, is_mark}
+use Rattle.ics_components.specs.Lines.{misread, unfit, event_has, observance_has, least_fault, outside_fault, end_fault, line_fault, is_mark}
 use Rattle.ics_components.specs.Values.{is_filled, ends_badly}
 use Rattle.ics_components.proofs.DateValueLemmas.{first-cond}
-use Rattle.ics_components.proofs.NameLemmas.{TellsComponent, tells_component}
 
 -- one of two tests
 or-cond : (a b : Bool) (x y : Option FaultKind) → cond (a || b) x y ≡ cond a x (cond b x y)

@@ -1,9 +1,9 @@
 -- What is read of a value is in order, and so are what is collected of a component and what ends of it.
 use Rattle.std.proofs.Common.{◌≡◌, ℕ, Bool, true, false, not, List, [], ◌∷◌, refl, sym, ◌∙◌, subst, cond, Result, Ok, Err, map, ℤ, pos, arith, ◌≢◌, ◌≤◌}
 use Rattle.std.proofs.Common.{◌+◌, ◌*◌, nat_le, ◌&&◌, ◌||◌, Option, Some, None, is_some, IfSome}
-use Rattle.std.specs.Prelude.{filter_map, unwrap_or, option_map}
+use Rattle.std.specs.Prelude.{filter_map, unwrap_or}
 use Rattle.std.specs.List.{All}
-use Rattle.std.specs.Option.{option_or}
+use Rattle.std.specs.Option.{option_or, option_and_then}
 use Rattle.std.proofs.lemmas.Bool.{cond_both}
 use Rattle.std.proofs.lemmas.Bool.Decides.{nat_tests}
 use Rattle.std.proofs.lemmas.Int.{ints}
@@ -34,13 +34,12 @@ use Rattle.ics_values.specs.declared.stamp.StampFault.{StampFault}
 use Rattle.ics_values.specs.declared.stamp.StampFault.TheVariants as stamp
 use Rattle.ics_values.proofs.StampLemmas.{stamp_day-said, date_of-stamp, day_number_range, stamp_years}
 use Rattle.ics_components.specs.Builders.{event_ended, observance_ended}
-use Rattle.ics_components.specs.DateLists.{list_of}
-use Rattle.ics_components.specs.DateValues.{date_time_of, period_of, rdate_of, value_of, values_of, listed_in, local_in}
+use Rattle.ics_components.specs.DateValues.{list_of, date_time_of, period_of, rdate_of, value_of, values_of, listed_in, local_in}
 use Rattle.ics_components.specs.GivenTimes.{dated_in, given_length}
 use Rattle.ics_components.specs.Lines.{event_zone, event_note, observance_note, end_fault}
 use Rattle.ics_components.proofs.Judgements.{event_end, zone_end}
 use Rattle.ics_components.specs.Observances.{locals_of, onset_in, offset_in, daily_in}
-use Rattle.ics_components.specs.SecondRound.{used_zone, used_in, listed_zone, ends_in}
+use Rattle.ics_components.specs.SecondRound.{dated_zone, list_zone, zone_check, ends_in}
 use Rattle.ics_components.specs.Sound.{IsSoundStamp, IsSoundValue, IsSoundList, IsSoundLength, IsWhole, IsSoundObservance, IsSoundZone, EachZone, end_of}
 use Rattle.ics_components.specs.Values.{stamp_in, duration_in, lasting_of, is_lasting, allowed, is_filled, ends_badly}
 use Rattle.ics_components.specs.declared.observance_builder.ObservanceBuilder.{ObservanceBuilder}
@@ -53,7 +52,6 @@ use Rattle.ics_components.specs.declared.date_values.Listing.{Listing}
 use Rattle.ics_components.specs.declared.date_values.Listing.TheVariants as listing
 use Rattle.ics_components.specs.declared.dated.Dated.{Dated}
 use Rattle.ics_components.specs.declared.deferred_check.DeferredCheck.{DeferredCheck}
-use Rattle.ics_components.specs.declared.deferred_check.DeferredCheck.TheVariants.{Zone}
 use Rattle.ics_components.specs.declared.event_builder.EventBuilder.{EventBuilder}
 use Rattle.ics_components.specs.declared.fault.FaultKind.TheVariants.{MissingUid, MissingStart, BadEnd}
 use Rattle.ics_components.specs.declared.name.Name.{Name}
@@ -201,17 +199,18 @@ end-given o d = grind arith
 -- What is collected is in order, and P holds of the zones that it names, in that calendar.
 module _ (P : DeferredCheck → Type 0) (k : ℕ) where
   abbrev IsSoundDated : Dated → Type 0
-  IsSoundDated dated = IsSoundStamp dated.stamp × IfSome (used_zone k dated) P
+  IsSoundDated dated = IsSoundStamp dated.stamp × IfSome (zone_check (dated_zone k dated)) P
 
   abbrev pub IsSoundListed : DateList → Type 0
-  IsSoundListed list = IsSoundList list × IfSome (listed_zone k list) P
+  IsSoundListed list = IsSoundList list × IfSome (zone_check (list_zone k list)) P
 
   abbrev pub IsSoundStarted : EventBuilder → Type 0
   IsSoundStarted had =
       IfSome had.start IsSoundDated × IfSome had.end IsSoundDated × IfSome had.duration (λ d. is_lasting d ≡ true) × All IsSoundListed had.rdates
       × All IsSoundListed had.exdates × IfSome had.recurrence IsSoundDated
 
-  pub event-noted : (n : Name) (v : Parts) (had : EventBuilder) → IsSoundStarted had → IfSome (option_map Zone (event_zone k n v)) P → IsSoundStarted (event_note n v had)
+  pub event-noted : (n : Name) (v : Parts) (had : EventBuilder) → IsSoundStarted had → IfSome (zone_check (event_zone k n v)) P →
+      IsSoundStarted (event_note n v had)
   event-noted name.Dtstart v had h c = (or-first IsSoundDated had.start _ h.0 (sound-stamp _ v.value, c), h.1, h.2, h.3, h.4, h.5)
   event-noted name.Dtend v had h c = (h.0, or-first IsSoundDated had.end _ h.1 (sound-stamp _ v.value, c), h.2, h.3, h.4, h.5)
   event-noted name.Duration v had h c = (h.0, h.1, or-first (λ d. is_lasting d ≡ true) had.duration _ h.2 (sound-lasting v.value), h.3, h.4, h.5)
@@ -233,7 +232,7 @@ module _ (P : DeferredCheck → Type 0) (k : ℕ) where
   length-sound start None (Some e) a b f = b
   length-sound start None None a b f = tt
 
-  looked : (o : Option Dated) → IfSome o IsSoundDated → IfSome (used_in k o) P
+  looked : (o : Option Dated) → IfSome o IsSoundDated → IfSome (zone_check (option_and_then (dated_zone k) o)) P
   looked (Some d) h = h.1
   looked None h = tt
 
@@ -245,7 +244,7 @@ module _ (P : DeferredCheck → Type 0) (k : ℕ) where
   pub event-sound : (had : EventBuilder) → IsSoundStarted had → end_fault true (builder.Event had) ≡ None → IfSome (ends_in k had.start had.end) P →
       IsWhole (event_ended k had) × EachZone P (event_ended k had)
   event-sound had h n c =
-      let f = no-faults (is_filled had.uid) (is_some had.start) (is_some had.end && is_some had.duration) (ends_badly had.start had.end) (sym (event_end had) ∙ n) in
+      let f = no-faults (is_filled had.uid) (is_some had.start) (is_some had.end && is_some had.duration) _ (sym (event_end had) ∙ n) in
       let start = start-sound had.start h.0 in (
         record {
           named = filled-not-empty had.uid f.0;

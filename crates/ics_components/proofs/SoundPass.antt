@@ -1,6 +1,5 @@
 -- What is gathered is sound, where the first round finds nothing: each line keeps what is open and what is gathered so.
 use Rattle.std.proofs.Common.{◌≡◌, ℕ, Bool, true, false, List, [], ◌∷◌, ◌++◌, map, refl, sym, ◌∙◌, Option, Some, None, IfSome, IfOk, Result, Ok, Err}
-use Rattle.std.specs.Prelude.{option_map}
 use Rattle.std.specs.List.{All, Contains}
 use Rattle.std.proofs.lemmas.Bool.{cond_both}
 use Rattle.std.proofs.lemmas.List.{length-map, get_or-map}
@@ -23,10 +22,9 @@ use Rattle.ics_components.specs.Lines.{calendar_in, context_on, fault_on, behind
 use Rattle.ics_components.specs.PlacedLines.{named}
 use Rattle.ics_components.proofs.Judgements.{outside_end, unmatched_end}
 use Rattle.ics_components.specs.Pass.{bottom, unless, at_end, on_line, on_content, pass}
-use Rattle.ics_components.specs.SecondRound.{instant_on, instant_in, both_compared, ends_in}
+use Rattle.ics_components.specs.SecondRound.{zone_named, are_of_one_zone, zone_check, instant_on, instant_in, both_compared, ends_in}
 use Rattle.ics_components.specs.Sound.{EachZone, IsWhole, IsSoundStamp, IsSoundObservance, IsSoundZone}
 use Rattle.ics_components.specs.Values.{is_out}
-use Rattle.ics_components.specs.ZoneNames.{zone_used, are_of_one_zone}
 use Rattle.ics_components.specs.declared.builder.Builder.{Builder}
 use Rattle.ics_components.specs.declared.builder.Builder.TheVariants as builder
 use Rattle.ics_components.specs.declared.component.Context.{Context}
@@ -65,10 +63,10 @@ ends-sound : (calendar : ℕ) (start end : Option Dated) → IfSome start (λ d.
     IfSome (ends_in calendar start end) IsSoundCheck
 ends-sound k (Some a) (Some b) h i =
     cond_both (are_of_one_zone a b) None (both_compared (instant_in k a) (instant_in k b)) (λ o. IfSome o IsSoundCheck) (λ e. tt)
-    (λ e. compared-sound (instant_in k a) (instant_in k b) (instant-sound (zone_used k a) a.stamp h) (instant-sound (zone_used k b) b.stamp i))
+    (λ e. compared-sound (instant_in k a) (instant_in k b) (instant-sound (zone_named k a.zone) a.stamp h) (instant-sound (zone_named k b.zone) b.stamp i))
 ends-sound k _ _ h i = tt
 
-zone-check : (o : Option ZoneName) → IfSome (option_map check.Zone o) IsSoundCheck
+zone-check : (o : Option ZoneName) → IfSome (zone_check o) IsSoundCheck
 zone-check None = tt
 zone-check (Some name) = tt
 
@@ -104,7 +102,7 @@ module _ (P : DeferredCheck → Type 0) where
   fresh-sound k context.Observance = (tt, tt, tt, tt, All-nil IsSoundLocal)
   fresh-sound k _ = tt
 
-  noted-sound : (k : ℕ) (n : Name) (v : Parts) (b : Builder) → IsSoundBuilder P k b → IfSome (option_map check.Zone (builder_zone k n v b)) P →
+  noted-sound : (k : ℕ) (n : Name) (v : Parts) (b : Builder) → IsSoundBuilder P k b → IfSome (zone_check (builder_zone k n v b)) P →
       IsSoundBuilder P k (builder_note n v b)
   noted-sound k n v (builder.Event had) h c = event-noted P k n v had h c
   noted-sound k name.Tzid v (builder.Zone had) h c = h

@@ -19,6 +19,7 @@ use Rattle.ics_components.specs.declared.date_values.Listing.TheVariants.{Rdate,
 use Rattle.ics_components.specs.GivenTimes.{dated_in, given_length}
 use Rattle.ics_components.specs.Observances.{onset_on, offset_on, daily_on, onsets_by}
 use Rattle.ics_components.specs.PlacedLines.{Placed, first_named, value, all_named}
+use Rattle.ics_components.specs.SecondRound.{zone_named}
 use Rattle.ics_components.specs.Values.{ok_or_zero, is_cancelled}
 
 -- WHAT IS COLLECTED of the lines that stand directly in a component: an event
@@ -80,7 +81,7 @@ event_ended calendar had = record {
 
 -- WHAT HAS ENDED, with what is collected of it. An accepted file has the fields that are asked for.
 abbrev pub zone_ended : ℕ → ZoneBuilder → EndedZone
-zone_ended calendar had = record { name = record { calendar = calendar; name = unwrap_or had.name [] }; observances = had.observances }
+zone_ended calendar had = record { name = zone_named calendar had.name; observances = had.observances }
 
 abbrev pub observance_ended : ObservanceBuilder → ObservanceSaid
 observance_ended had = record {

@@ -1,5 +1,5 @@
 -- What the values of an RDATE or an EXDATE say (RFC 5545, sections 3.8.5.1 and 3.8.5.2).
-use Rattle.std.specs.Prelude.{◌≡◌, ℕ, Bool, false, ◌||◌, ◌==◌, List, map, Option, Some, None, is_none, Result, Ok, Err, if◌then◌else◌}
+use Rattle.std.specs.Prelude.{◌≡◌, ℕ, Bool, false, ◌||◌, ◌==◌, List, map, Option, Some, None, is_none, is_some, Result, Ok, Err, if◌then◌else◌}
 use Rattle.std.specs.List.{list_any}
 use Rattle.ics_values.specs.Periods as period
 use Rattle.ics_values.specs.Periods.{first_half, second_half, lasts}
@@ -14,13 +14,14 @@ use Rattle.ics_values.specs.declared.stamp.Stamp.{Stamp}
 use Rattle.ics_values.specs.declared.stamp.Stamp.TheVariants.{Floating}
 use Rattle.ics_values.specs.declared.stamp.StampFault.{StampFault}
 use Rattle.ics_values.specs.declared.stamp.StampFault.TheVariants as stamp
+use Rattle.ics_components.specs.declared.date_list.DateList.{DateList}
 use Rattle.ics_components.specs.declared.date_list.ListedDate.{ListedDate}
 use Rattle.ics_components.specs.declared.date_list.ListedDate.TheVariants as listed
 use Rattle.ics_components.specs.declared.date_values.Listing.{Listing}
 use Rattle.ics_components.specs.declared.date_values.Listing.TheVariants as listing
 use Rattle.ics_fields.specs.declared.local.Local.{Local}
 use Rattle.ics_values.specs.Zoned.{is_zoned}
-use Rattle.ics_components.specs.Values.{stamp_in, duration_in, is_bad_stamp, is_far_stamp, lasting_of, is_bad_duration, is_large_duration}
+use Rattle.ics_components.specs.Values.{zone_name, stamp_in, duration_in, is_bad_stamp, is_far_stamp, lasting_of, is_bad_duration, is_large_duration}
 
 -- A value as its text gives it: a stamp, or a PERIOD with its end or its duration.
 pub data DateValue : Type 0 where
@@ -77,6 +78,10 @@ abbrev pub listed_in : DateValue → ListedDate
 listed_in (At stamp) = listed.At (stamp_in stamp)
 listed_in (Between start end) = listed.Between (stamp_in start) (stamp_in end)
 listed_in (Lasting start duration) = listed.Lasting (stamp_in start) (duration_in duration)
+
+-- the values of a line with these parameters and this value, and the name in its TZID
+abbrev pub list_of : Listing → List ℕ → List ℕ → DateList
+list_of listing params value = record { values = map listed_in (values_of listing (is_some (zone_name params)) value); zone = zone_name params }
 
 abbrev pub listed_said : DateValue → Option ListedDate
 listed_said (At (Ok stamp)) = Some (listed.At stamp)

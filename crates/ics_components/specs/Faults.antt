@@ -32,9 +32,8 @@ use Rattle.ics_components.specs.declared.fault.FaultKind.TheVariants.{Repeated, 
 use Rattle.ics_components.specs.declared.name.Name.{Name}
 use Rattle.ics_components.specs.declared.name.Name.TheVariants as name
 use Rattle.ics_components.specs.Components.{is_outside_context, is_calendar_context, is_event_context, is_zone_context, is_observance_context}
-use Rattle.ics_components.specs.DateLists.{list_of}
 use Rattle.ics_components.specs.DateValues.{DateValue, At, values_of, has_bad_stamp, has_far_stamp, has_bad_duration, has_large_duration}
-use Rattle.ics_components.specs.DateValues.{is_not_local}
+use Rattle.ics_components.specs.DateValues.{is_not_local, list_of}
 use Rattle.ics_components.specs.Names.{same_name}
 use Rattle.ics_components.specs.PlacedLines.{Placed, context_of, name_on, value, params_of, component, closes, begins_observance, has, first_named}
 use Rattle.ics_components.specs.Values.{zone_name, stamp_read, duration_in, rule_in, dated_of, is_bad_stamp, is_far_stamp, lasting_of, is_bad_duration}

@@ -4,9 +4,7 @@ pub mod Components
 pub mod PlacedLines
 pub mod Values
 pub mod DateValues
-pub mod DateLists
 pub mod GivenTimes
-pub mod ZoneNames
 pub mod Faults
 pub mod FirstFault
 pub mod Observances

@@ -1,7 +1,7 @@
 -- What the reader makes of a line: what it has of the components that are open, or the least fault on it, by the table.
 -- These are the words of the pass over the lines. What a file is stands in Faults and Files, and the proofs show that they agree.
-use Rattle.std.specs.Prelude.{ℕ, zero, suc, Bool, true, false, not, ◌==◌, List, [], ◌∷◌, ◌++◌, length, map, find, Option, Some, None, is_some, option_map}
-use Rattle.std.specs.Prelude.{Result, Ok, Err, ◌≡◌, if◌then◌else◌}
+use Rattle.std.specs.Prelude.{ℕ, zero, suc, Bool, true, false, not, ◌==◌, List, [], ◌∷◌, ◌++◌, length, map, find, Option, Some, None, is_some}
+use Rattle.std.specs.Prelude.{Result, Ok, Err, ◌≡◌}
 use Rattle.std.specs.Option.{option_or}
 use Rattle.std.specs.Ordering.{ord_min}
 use Rattle.std.specs.Result.{result_map_both}
@@ -31,7 +31,6 @@ use Rattle.ics_components.specs.declared.date_list.ListedDate.{ListedDate}
 use Rattle.ics_components.specs.declared.date_list.ListedDate.TheVariants as listed
 use Rattle.ics_components.specs.declared.date_values.Listing.TheVariants as listing
 use Rattle.ics_components.specs.declared.deferred_check.DeferredCheck.{DeferredCheck}
-use Rattle.ics_components.specs.declared.deferred_check.DeferredCheck.TheVariants.{Zone}
 use Rattle.ics_components.specs.declared.deferred_check.ZoneName.{ZoneName}
 use Rattle.ics_components.specs.declared.event_builder.EventBuilder.{EventBuilder}
 use Rattle.ics_components.specs.declared.fault.FaultKind.{FaultKind}
@@ -52,12 +51,10 @@ use Rattle.ics_components.specs.declared.refused.Refused.TheVariants.{Memory, Fa
 use Rattle.ics_components.specs.declared.builder.ZoneBuilder.{ZoneBuilder}
 use Rattle.ics_components.specs.Builders.{event_ended, builder_at, zone_ended, observance_ended}
 use Rattle.ics_components.specs.Components.{component_of, component_name, context_in}
-use Rattle.ics_components.specs.DateLists.{list_of}
-use Rattle.ics_components.specs.DateValues.{DateValue, At, Between, Lasting}
+use Rattle.ics_components.specs.DateValues.{DateValue, At, Between, Lasting, list_of}
 use Rattle.ics_components.specs.Faults.{Reading, Beside, is_misread, is_unfit, faulty, kinds}
 use Rattle.ics_components.specs.Observances.{locals_of, onset_in, offset_in, daily_in}
-use Rattle.ics_components.specs.PlacedLines.{named}
-use Rattle.ics_components.specs.SecondRound.{zone_in, zone_on, ends_in}
+use Rattle.ics_components.specs.SecondRound.{dated_zone, list_zone, zone_check, ends_in}
 use Rattle.ics_components.specs.Values.{dated_of, lasting_of, duration_in, rule_in, ok_or_zero, is_cancelled}
 
 -- WHAT A FUNCTION ANSWERS: a value, where no fault stands there, or the fault; nothing is said where memory is refused.
@@ -146,11 +143,11 @@ with_property (property.Cancelled cancelled) had = record had { cancelled = opti
 with_property property.Other had = had
 
 abbrev pub property_zone : ℕ → Property → Option ZoneName
-property_zone k (property.Start dated) = zone_in k dated
-property_zone k (property.End dated) = zone_in k dated
-property_zone k (property.Recurrence dated) = zone_in k dated
-property_zone k (property.Rdates list) = zone_on k list
-property_zone k (property.Exdates list) = zone_on k list
+property_zone k (property.Start dated) = dated_zone k dated
+property_zone k (property.End dated) = dated_zone k dated
+property_zone k (property.Recurrence dated) = dated_zone k dated
+property_zone k (property.Rdates list) = list_zone k list
+property_zone k (property.Exdates list) = list_zone k list
 property_zone k _ = None
 
 abbrev pub event_note : Name → Parts → EventBuilder → EventBuilder
@@ -331,7 +328,7 @@ end_in _ f = ended.Nothing
 abbrev pub check_in : Name → Parts → Frame → Option DeferredCheck
 check_in name.Begin c f = None
 check_in name.End c f = end_check f.calendar f.builder
-check_in n c f = option_map Zone (builder_zone f.calendar n c f.builder)
+check_in n c f = zone_check (builder_zone f.calendar n c f.builder)
 
 abbrev pub passing : Name → Parts → List Frame → Passed
 passing n c [] = passed ended.Nothing None

@@ -1,5 +1,5 @@
 -- What the lines of a file say of its time zones and their observances (RFC 5545, section 3.6.5).
-use Rattle.std.specs.Prelude.{ℕ, Bool, ◌&&◌, List, [], map, filter, filter_map, flat_map, codes, unwrap_or, option_map, Result, Ok, Err, ℤ}
+use Rattle.std.specs.Prelude.{ℕ, Bool, ◌&&◌, List, map, filter, filter_map, flat_map, codes, unwrap_or, option_map, Result, Ok, Err, ℤ}
 use Rattle.std.specs.Prelude.{pos, false, if◌then◌else◌}
 use Rattle.ics_fields.specs.Locals.{local_at}
 use Rattle.ics_fields.specs.declared.local.Local.{Local}
@@ -19,6 +19,7 @@ use Rattle.ics_components.specs.declared.name.Name.TheVariants as name
 use Rattle.ics_components.specs.declared.deferred_check.ZoneName.{ZoneName}
 use Rattle.ics_components.specs.Faults.{first_text, rule_on}
 use Rattle.ics_components.specs.PlacedLines.{Placed, value, in_calendar, in_zone, begins, begins_observance, calendar_of, lines_in, first_named, all_named}
+use Rattle.ics_components.specs.SecondRound.{zone_named}
 use Rattle.ics_components.specs.Values.{is_fine_rule, rule_in}
 
 -- What its lines say of an observance that no fault stands on: a local read without a TZID, an offset, a rule no finer than daily, and locals.
@@ -72,7 +73,7 @@ zone_by lines begun = map (λ l. observance_by (lines_in l.number lines)) (filte
 
 -- the TZID of the zone that begins on a line, in its calendar
 abbrev pub name_by : List Placed → Placed → ZoneName
-name_by lines l = record { calendar = calendar_of l.path; name = unwrap_or (first_text name.Tzid (lines_in l.number lines)) [] }
+name_by lines l = zone_named (calendar_of l.path) (first_text name.Tzid (lines_in l.number lines))
 
 abbrev pub zone_names : List Placed → List ZoneName
 zone_names lines = map (name_by lines) (filter begins_zone lines)

@@ -1,5 +1,5 @@
 -- What the second round looks at: the time zones of stamps, and an end against its start (RFC 5545, sections 3.2.19 and 3.8.2.2).
-use Rattle.std.specs.Prelude.{ℕ, Option, Some, None, option_map, if◌then◌else◌}
+use Rattle.std.specs.Prelude.{ℕ, Bool, ◌&&◌, List, [], Option, Some, None, option_map, unwrap_or, if◌then◌else◌}
 use Rattle.std.specs.List.{list_any}
 use Rattle.ics_values.specs.declared.stamp.Stamp.{Stamp}
 use Rattle.ics_values.specs.declared.stamp.Stamp.TheVariants as stamp
@@ -10,30 +10,25 @@ use Rattle.ics_components.specs.declared.deferred_check.Instant.TheVariants as i
 use Rattle.ics_components.specs.declared.deferred_check.DeferredCheck.{DeferredCheck}
 use Rattle.ics_components.specs.declared.deferred_check.DeferredCheck.TheVariants as check
 use Rattle.ics_components.specs.declared.deferred_check.ZoneName.{ZoneName}
-use Rattle.ics_components.specs.DateLists.{zone_listed}
 use Rattle.ics_components.specs.DateValues.{has_zoned}
 use Rattle.ics_values.specs.Zoned.{is_zoned}
 use Rattle.ics_fields.specs.Locals.{local_seconds}
-use Rattle.ics_components.specs.ZoneNames.{zone_used, are_of_one_zone}
-use Rattle.ics_components.specs.Values.{is_out}
+use Rattle.ics_components.specs.Values.{is_out, same_zone}
+
+-- the time zone that a TZID names in a calendar
+abbrev pub zone_named : ℕ → Option (List ℕ) → ZoneName
+zone_named calendar zone = record { calendar = calendar; name = unwrap_or zone [] }
 
 -- the time zone of a stamp, and of what a line lists, if there is one
-abbrev pub zone_in : ℕ → Dated → Option ZoneName
-zone_in calendar dated = if is_zoned dated.stamp then Some (zone_used calendar dated) else None
+abbrev pub dated_zone : ℕ → Dated → Option ZoneName
+dated_zone calendar dated = if is_zoned dated.stamp then Some (zone_named calendar dated.zone) else None
 
-abbrev pub zone_on : ℕ → DateList → Option ZoneName
-zone_on calendar list = if list_any has_zoned list.values then Some (zone_listed calendar list) else None
+abbrev pub list_zone : ℕ → DateList → Option ZoneName
+list_zone calendar list = if list_any has_zoned list.values then Some (zone_named calendar list.zone) else None
 
 -- It is to be known.
-abbrev pub used_zone : ℕ → Dated → Option DeferredCheck
-used_zone calendar dated = option_map check.Zone (zone_in calendar dated)
-
-abbrev pub listed_zone : ℕ → DateList → Option DeferredCheck
-listed_zone calendar list = option_map check.Zone (zone_on calendar list)
-
-abbrev pub used_in : ℕ → Option Dated → Option DeferredCheck
-used_in calendar None = None
-used_in calendar (Some dated) = used_zone calendar dated
+abbrev pub zone_check : Option ZoneName → Option DeferredCheck
+zone_check zone = option_map check.Zone zone
 
 -- a stamp that is an instant: one in UTC, or in a time zone
 abbrev pub instant_on : ZoneName → Stamp → Option Instant
@@ -42,7 +37,11 @@ instant_on name (stamp.Zoned local) = Some (instant.Zoned local name)
 instant_on name _ = None
 
 abbrev pub instant_in : ℕ → Dated → Option Instant
-instant_in calendar dated = instant_on (zone_used calendar dated) dated.stamp
+instant_in calendar dated = instant_on (zone_named calendar dated.zone) dated.stamp
+
+-- two stamps beside one TZID, which the first round compares as locals
+abbrev pub are_of_one_zone : Dated → Dated → Bool
+are_of_one_zone a b = is_zoned a.stamp && (is_zoned b.stamp && same_zone a b)
 
 -- Times of UTC compare at once, and other instants when the zones are known.
 abbrev pub compared : Instant → Instant → Option DeferredCheck

@@ -1,6 +1,7 @@
 -- What holds of what has ended, where no fault stands on its lines.
 use Rattle.std.specs.Prelude.{◌≡◌, ◌≢◌, true, false, [], IfSome, List, IsTrue, Option, Some, None}
 use Rattle.std.specs.List.{All, list_all}
+use Rattle.std.specs.Option.{option_and_then}
 use Rattle.ics_values.specs.Stamps.{stamp_day}
 use Rattle.ics_fields.specs.Days.{IsStampDay}
 use Rattle.ics_values.specs.declared.stamp.Stamp.{Stamp}
@@ -15,7 +16,7 @@ use Rattle.ics_components.specs.Values.{is_lasting, is_bad_end, same_zone}
 use Rattle.ics_fields.specs.Observances.{ObservanceSaid, IsObservanceSaid, has_finer_rule}
 use Rattle.ics_fields.specs.Years.{is_stamp_local}
 use Rattle.ics_components.specs.declared.deferred_check.DeferredCheck.{DeferredCheck}
-use Rattle.ics_components.specs.SecondRound.{used_zone, used_in, listed_zone, ends_in}
+use Rattle.ics_components.specs.SecondRound.{dated_zone, list_zone, zone_check, ends_in}
 
 -- Its stamps lie in the years of stamps, and its duration and those of its PERIODs are ones that an event may have.
 abbrev pub IsSoundStamp : Stamp → Type 0
@@ -65,9 +66,9 @@ end_of _ = None
 
 -- P holds of all zones that the event's stamps name, as the second round looks at them, and of its end against its start.
 pub record EachZone (P : DeferredCheck → Type 0) (event : EndedEvent) : Type 0 where
-  pub start : IfSome (used_zone event.calendar event.start) P
-  pub end : IfSome (used_in event.calendar (end_of event.length)) P
-  pub rdates : All (λ list. IfSome (listed_zone event.calendar list) P) event.rdates
-  pub exdates : All (λ list. IfSome (listed_zone event.calendar list) P) event.exdates
-  pub recurrence : IfSome (used_in event.calendar event.recurrence) P
+  pub start : IfSome (zone_check (dated_zone event.calendar event.start)) P
+  pub end : IfSome (zone_check (option_and_then (dated_zone event.calendar) (end_of event.length))) P
+  pub rdates : All (λ list. IfSome (zone_check (list_zone event.calendar list)) P) event.rdates
+  pub exdates : All (λ list. IfSome (zone_check (list_zone event.calendar list)) P) event.exdates
+  pub recurrence : IfSome (zone_check (option_and_then (dated_zone event.calendar) event.recurrence)) P
   pub length : IfSome (ends_in event.calendar (Some event.start) (end_of event.length)) P

@@ -1,11 +1,10 @@
 //! The values of RDATE and EXDATE with the zones that their lines name (RFC 5545, sections 3.8.5.1 and 3.8.5.2).
 ghost use Rattle.std.specs.Prelude.{◌≡◌, is_some, IfOk};
 ghost use Rattle.std.specs.List.{list_any};
-ghost use Rattle.ics_components.specs.DateLists.{list_of};
-ghost use Rattle.ics_components.specs.DateValues.{has_zoned, local_in, values_of};
+ghost use Rattle.ics_components.specs.DateValues.{has_zoned, list_of, local_in, values_of};
 ghost use Rattle.ics_components.specs.Faults as reading;
 ghost use Rattle.ics_components.specs.Lines.{Gives, misread};
-ghost use Rattle.ics_components.specs.SecondRound.{zone_on};
+ghost use Rattle.ics_components.specs.SecondRound.{list_zone};
 ghost use Rattle.ics_components.specs.Values.{zone_name};
 
 use crate::date_values::Listing;
@@ -113,7 +112,7 @@ impl DateList {
 
     /// The time zone of the stamps, which is to be known.
     pub(crate) fn used_zone(&self, calendar: u64) -> Result<Option<ZoneName>, AllocError>
-        ensures { IfOk result (λ zone. zone ≡ zone_on calendar self.now) }
+        ensures { IfOk result (λ zone. zone ≡ list_zone calendar self.now) }
     {
         if !self.values.have_zoned() {
             return Ok(None);

@@ -4,7 +4,7 @@ ghost use Rattle.ics_values.specs.Stamps.{stamp_of};
 ghost use Rattle.ics_components.specs.Faults.{Stamped};
 ghost use Rattle.ics_components.specs.Lines.{Gives, stamp_judged, misread, unfit};
 ghost use Rattle.ics_components.specs.Observances.{onset_in};
-ghost use Rattle.ics_components.specs.SecondRound.{zone_in, instant_in};
+ghost use Rattle.ics_components.specs.SecondRound.{dated_zone, instant_in};
 ghost use Rattle.ics_components.specs.Values.{dated_of, stamp_read, tzid, zone_name};
 
 use crate::deferred_check::{Instant, ZoneName};
@@ -76,7 +76,7 @@ impl Dated {
 
     /// The time zone of the stamp, if it has one, which is to be known.
     pub(crate) fn used_zone(&self, calendar: u64) -> Result<Option<ZoneName>, AllocError>
-        ensures { IfOk result (λ zone. zone ≡ zone_in calendar self.now) }
+        ensures { IfOk result (λ zone. zone ≡ dated_zone calendar self.now) }
     {
         if !is_zoned(self.stamp) {
             return Ok(None);

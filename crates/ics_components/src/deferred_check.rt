@@ -1,6 +1,6 @@
 //! The checks of the second round. They need all time zones of the file, which may stand after their use.
 ghost use Rattle.std.specs.Prelude.{◌≡◌, IfOk};
-ghost use Rattle.ics_components.specs.ZoneNames.{zone_named};
+ghost use Rattle.ics_components.specs.SecondRound.{zone_named};
 
 use crate::tzid::Tzid;
 use ics_values::Local;

@@ -1,8 +1,8 @@
 //! What is gathered of a file, before its time zones and its events are made of it.
-ghost use Rattle.std.specs.Prelude.{◌≡◌, IfOk, None, option_map};
+ghost use Rattle.std.specs.Prelude.{◌≡◌, IfOk, None};
 ghost use Rattle.ics_components.specs.Gathered.{and_ended, and_passed};
 ghost use Rattle.ics_components.specs.Lines.{passed};
-ghost use Rattle.ics_components.specs.declared.deferred_check.DeferredCheck.TheVariants.{Zone};
+ghost use Rattle.ics_components.specs.SecondRound.{zone_check};
 ghost use Rattle.ics_components.specs.declared.gathered.Ended.TheVariants.{Nothing};
 
 use crate::date_list::DateLists;
@@ -123,7 +123,7 @@ impl Gathered {
 
     /// Adds that the time zone on the line with that number is to be known, if there is one.
     pub(crate) fn zone(&mut self, number: u64, zone: Option<ZoneName>) -> Result<(), AllocError>
-        ensures { IfOk result (λ _. self.new ≡ and_passed number (passed Nothing (option_map Zone zone)) self.old) }
+        ensures { IfOk result (λ _. self.new ≡ and_passed number (passed Nothing (zone_check zone)) self.old) }
     {
         self.check(number, zone.map(DeferredCheck::Zone))
     }
