@@ -23,7 +23,7 @@ use Rattle.ics_calendar.specs.DeferredChecks.{KnownZones, ends_badly_later, judg
 use Rattle.ics_components.specs.SecondRound.{zone_named, zone_check, ends_in}
 use Rattle.ics_components.specs.Lines.{check_in}
 use Rattle.ics_components.specs.declared.event_builder.EventBuilder.{EventBuilder}
-use Rattle.ics_components.proofs.Ended.{IsMatched}
+use Rattle.ics_components.proofs.EndOrder.{IsMatched}
 use Rattle.ics_components.proofs.Table.{frame_of, collected_of}
 use Rattle.ics_components.proofs.Frames.{with}
 

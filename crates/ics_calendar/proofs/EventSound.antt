@@ -36,7 +36,7 @@ use Rattle.ics_components.specs.SecondRound.{zone_named, dated_zone, list_zone, 
 use Rattle.ics_components.specs.Sound.{end_of, IsSoundStamp, IsSoundLength, IsSoundValue, IsSoundList}
 use Rattle.ics_calendar.specs.Times.{time_on, length_of}
 use Rattle.ics_components.specs.Values.{is_lasting, is_out, is_bad_end}
-use Rattle.ics_components.proofs.Listed.{All-flat_map}
+use Rattle.ics_components.proofs.Sound.{All-flat_map}
 use Rattle.ics_calendar.proofs.FilesGiven.{below-here}
 use Rattle.ics_event.specs.declared.time.Length.TheVariants.{Until}
 use Rattle.ics_event.specs.declared.time.Time.{Time}

@@ -21,7 +21,7 @@ use Rattle.ics_calendar.specs.DeferredChecks.{KnownZones, judged, unknown_in}
 use Rattle.ics_calendar.specs.GivenFiles.{GivenFiles}
 use Rattle.ics_calendar.specs.Wanted.{each_once, unknown_names, zones_with}
 use Rattle.ics_calendar.specs.Zones.{zones_on}
-use Rattle.ics_components.proofs.Ended.{events, zones}
+use Rattle.ics_components.proofs.EndOrder.{events, zones}
 use Rattle.ics_components.proofs.EndOrder.{events-are, zones-are, names-begun, calendar-inside, begun-same}
 use Rattle.ics_components.proofs.Frames.{with}
 use Rattle.ics_calendar.proofs.DeferredTable.{same-on}

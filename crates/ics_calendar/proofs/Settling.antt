@@ -13,7 +13,7 @@ use Rattle.ics_calendar.specs.Drafts.{IsSoundDraft}
 use Rattle.ics_calendar.specs.GivenFiles.{GivenFiles}
 use Rattle.ics_calendar.proofs.EventSound.{events-of}
 use Rattle.ics_calendar.proofs.FilesGiven.{table-known, table-with}
-use Rattle.ics_components.proofs.Listed.{each-weaker}
+use Rattle.ics_components.proofs.Sound.{each-weaker}
 use Rattle.ics_components.proofs.Order.{found-none}
 
 -- THE DEFERRED CHECKS, where none finds a fault.

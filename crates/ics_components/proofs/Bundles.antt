@@ -1,5 +1,5 @@
 -- A pass that keeps, for each open component, the lines directly in it has at each line those that stand beside it.
-use Rattle.std.proofs.Common.{◌≡◌, ◌≢◌, ℕ, ◌<◌, Bool, true, false, ◌&&◌, ◌||◌, ◌==◌, List, [], ◌∷◌, ◌++◌, refl, sym, ap, ◌∙◌, arith, cond}
+use Rattle.std.proofs.Common.{◌≡◌, ◌≢◌, ℕ, ◌<◌, Bool, true, false, ◌&&◌, ◌||◌, List, [], ◌∷◌, ◌++◌, refl, sym, ap, ◌∙◌, arith, cond}
 use Rattle.std.specs.Prelude.{if◌then◌else◌}
 use Rattle.std.specs.List.{All, list_any}
 use Rattle.std.proofs.lemmas.Bool.{eq-eqb, ne_eqb}
@@ -16,13 +16,6 @@ use Rattle.ics_components.proofs.Order.{Falls}
 pub record Bundle : Type 0 where
   pub begin : Placed
   pub lines : List Placed
-
-pub lines_in-here : (b : ℕ) (before : List Placed) (l : Placed) → innermost l.path ≡ b → lines_in b (before ++ l ∷ []) ≡ lines_in b before ++ l ∷ []
-lines_in-here b before l e = rw (filter-append (λ k. innermost k.path == b) before (l ∷ []), eq-eqb (innermost l.path) b e)
-
-pub lines_in-elsewhere : (b : ℕ) (before : List Placed) (l : Placed) → innermost l.path ≢ b → lines_in b (before ++ l ∷ []) ≡ lines_in b before
-lines_in-elsewhere b before l ne =
-    rw (filter-append (λ k. innermost k.path == b) before (l ∷ []), ne_eqb (innermost l.path) b ne) (append-nil (lines_in b before))
 
 -- all lines stand in components that began before line n
 abbrev pub Before : ℕ → List Placed → Type 0
@@ -116,14 +109,14 @@ module _ (before : List Placed) (l : Placed) where
   below up [] less k = tt
   below up (f ∷ fs) less k =
       let ne : innermost l.path ≢ f.begin.number = λ e. omega (arith, e, less) in
-      (lines_in-elsewhere f.begin.number before l ne ∙ k.0, k.1, below (f.begin ∷ []) fs (omega (arith, k.1.less, less)) k.2)
+      (simp (filter-append, ne_eqb (innermost l.path) f.begin.number ne, append-nil) k.0, k.1, below (f.begin ∷ []) fs (omega (arith, k.1.less, less)) k.2)
 
   -- a line is still to be added to the innermost bundle
   here : (bundles : List Bundle) → opens bundles ≡ l.path → Keeps before [] bundles → Keeps (before ++ l ∷ []) (l ∷ []) bundles
   here [] e k = tt
   here (f ∷ fs) e k =
       let at : innermost l.path ≡ f.begin.number = ap innermost (sym e) in (
-        lines_in-here f.begin.number before l at ∙ ap (λ ls. ls ++ l ∷ []) (k.0 ∙ append-nil f.lines),
+        simp (filter-append, eq-eqb (innermost l.path) f.begin.number at, k.0, append-nil),
         k.1,
         below (f.begin ∷ []) fs (omega (arith, at, k.1.less)) k.2,
       )

@@ -3,7 +3,6 @@ use Rattle.std.proofs.Common.{◌≡◌, ℕ, ◌+◌, Bool, ◌==◌, ◌&&◌,
 use Rattle.std.proofs.Common.{map, Option, Some, None, Result, Ok, Err, subst, Bor}
 use Rattle.std.specs.Prelude.{nat_lt, is_none, ◌++◌}
 use Rattle.std.specs.List.{list_any, position, position_or_len}
-use Rattle.std.specs.Option.{option_or as first}
 use Rattle.std.specs.Ordering.{ord_min}
 use Rattle.std.specs.Result.{result_err}
 use Rattle.std.proofs.lemmas.Bool.{ne_eqb}
@@ -40,20 +39,13 @@ pub any-first : (p : ℕ → Bool) (xs : List ℕ) → list_any p xs ≡ nat_lt 
 any-first p [] = refl
 any-first p (x ∷ xs) = let again = any-first p xs in grind (arith, nat_tests)
 
-abbrev is_slash : ℕ → Bool
-is_slash b = b == 47
-
 -- a value with a `/` at that place, and one without
 abbrev pub rdate_at : Bool → List ℕ → Option ℕ → DateValue
 rdate_at zoned text (Some i) = period_of zoned (take i text) (drop (i + 1) text)
 rdate_at zoned text None = At (stamp_of zoned text)
 
 pub rdate-is : (zoned : Bool) (text : List ℕ) {o : Option ℕ} → position (λ b. b == 47) text ≡ o → rdate_at zoned text o ≡ rdate_of zoned text
-rdate-is zoned text e = let any = any-first is_slash text in grind arith
-
--- what stands behind several kinds stands behind the last of them
-pub first-cond : (t : Bool) (o p m : Option FaultKind) → first (cond t o p) m ≡ cond t (first o m) (first p m)
-first-cond t o p m = grind arith
+rdate-is zoned text e = let any = any-first (λ b. b == 47) text in grind arith
 
 -- the least fault of several values
 abbrev pub dates_fault : List DateValue → Option FaultKind

@@ -15,7 +15,10 @@ use Rattle.ics_components.specs.declared.name.Name.TheVariants as name
 use Rattle.ics_components.specs.Faults.{event_reading, observance_reading}
 use Rattle.ics_components.specs.Lines.{misread, unfit, event_has, observance_has, least_fault, outside_fault, end_fault, line_fault, is_mark}
 use Rattle.ics_components.specs.Values.{is_filled, ends_badly}
-use Rattle.ics_components.proofs.DateValueLemmas.{first-cond}
+
+-- what stands behind several kinds stands behind the last of them
+first-cond : (t : Bool) (o p m : Option FaultKind) → option_or (cond t o p) m ≡ cond t (option_or o m) (option_or p m)
+first-cond t o p m = grind arith
 
 -- one of two tests
 or-cond : (a b : Bool) (x y : Option FaultKind) → cond (a || b) x y ≡ cond a x (cond b x y)
@@ -67,10 +70,7 @@ zone_end had = grind arith
 pub unmatched_end : (b : Builder) → end_fault false b ≡ Some kind.BadNesting
 unfolding least_fault
 unmatched_end builder.Calendar = refl
-unmatched_end (builder.Event had) = refl
-unmatched_end (builder.Zone had) = refl
-unmatched_end (builder.Observance had) = refl
-unmatched_end builder.Elsewhere = refl
+unmatched_end _ = refl
 
 -- OUTSIDE ALL COMPONENTS only a calendar begins.
 pub outside_line : (n : Name) (v : Parts) → is_mark n ≡ false → outside_fault n v ≡ Some kind.NotCalendar

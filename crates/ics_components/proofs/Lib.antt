@@ -2,14 +2,11 @@ pub mod NameLemmas
 pub mod DateValueLemmas
 pub mod Table
 pub mod Judgements
-pub mod BuilderLemmas
 pub mod Bundles
 pub mod Frames
 pub mod Order
-pub mod Ended
 pub mod PassLemmas
 pub mod EndOrder
 pub mod Firsts
 pub mod Sound
-pub mod Listed
 pub mod SoundPass

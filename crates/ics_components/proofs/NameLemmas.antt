@@ -10,7 +10,6 @@ use Rattle.ics_components.specs.declared.name.Name.TheVariants as name
 use Rattle.ics_components.specs.declared.component.Component.{Component}
 use Rattle.ics_components.specs.declared.component.Component.TheVariants as component
 use Rattle.ics_components.specs.Names.{named_in, same_name}
-use Rattle.ics_components.specs.Lines.{is_mark}
 use Rattle.ics_components.specs.declared.component.Context.{Context}
 use Rattle.ics_components.specs.declared.component.Context.TheVariants as context
 use Rattle.ics_components.specs.Components.{component_of, component_name, context_in, is_calendar_context, is_event_context, is_zone_context}
@@ -36,7 +35,7 @@ told T other u (n ∷ ns) h k =
     by_word e g w true f c = rw (equal w n.0 f) e
     by_word e g w false f c = g w c
 
--- a name that is the same as another is that, and begins or ends nothing where it is neither
+-- a name that is the same as another is that
 pub begin-is : (n : Name) → same_name n name.Begin ≡ true → n ≡ name.Begin
 begin-is name.Begin e = refl
 begin-is _ e = cc
@@ -44,15 +43,6 @@ begin-is _ e = cc
 pub end-is : (n : Name) → same_name n name.End ≡ true → n ≡ name.End
 end-is name.End e = refl
 end-is _ e = cc
-
-pub begin-no-end : (n : Name) → same_name n name.Begin ≡ true → same_name n name.End ≡ false
-begin-no-end name.Begin e = refl
-begin-no-end _ e = cc
-
-pub no-mark : (n : Name) → is_mark n ≡ false → (same_name n name.Begin ≡ false) × (same_name n name.End ≡ false)
-no-mark name.Begin e = cc
-no-mark name.End e = cc
-no-mark _ e = (refl, refl)
 
 -- the components that a file is read for
 abbrev pub components : List (List ℕ × Component)

@@ -13,7 +13,7 @@ use Rattle.ics_components.specs.declared.component.Context.{Context}
 use Rattle.ics_components.specs.declared.fault.FaultKind.{FaultKind}
 use Rattle.ics_components.specs.declared.fault.FaultKind.TheVariants.{BadNesting}
 use Rattle.ics_components.specs.Faults.{stands, kinds}
-use Rattle.ics_components.proofs.NameLemmas.{begin-no-end, end-is}
+use Rattle.ics_components.proofs.NameLemmas.{begin-is, end-is}
 use Rattle.ics_components.specs.declared.name.Name.TheVariants as name
 
 -- The last line.
@@ -151,17 +151,8 @@ module _ {X : Type 0} (s : Sort X) (i : IsSort s) (whole before : List Placed) (
 
   begins : (path : List Open) → is_begin (here line path) ≡ true → Steps path
   begins path b =
-      rw (i.starts (here line path), begin-no-end (name_on (content_of line.bytes)) b, b)
-      (by_test (s.stands_at (context_of (inside (here line path)))) (i.alone whole (here line path)))
-    where
-      rest : List Placed
-      rest = placed_from (inside (here line path)) lines
-
-      by_test : (t : Bool) → (t ≡ true → open_as s whole path ≡ []) →
-          cond t (s.by (inside (here line path)) (lines_in line.number whole) ∷ open_as s whole path) (open_as s whole path) ++ begun s whole rest
-          ≡ open_as s whole path
-          ++ map (λ l. s.by (inside l) (lines_in l.number whole)) (cond t (here line path ∷ filter s.begins rest) (filter s.begins rest))
-      by_test t alone = grind arith
+      let alone = i.alone whole (here line path) in
+      rw (i.starts (here line path), begin-is (name_on (content_of line.bytes)) b) (grind arith)
 
   ends : (n : ℕ) (path : List Open) → IsPlaced whole before path n (line ∷ lines) → is_begin (here line path) ≡ false → is_end (here line path) ≡ true →
       closes path (component (here line path)) ≡ true → Steps path

@@ -26,7 +26,7 @@ use Rattle.ics_components.proofs.Bundles.{Bundle, Keeps, Before, falls, open_of,
 use Rattle.ics_components.proofs.Bundles.{bundles_behind, keeps}
 use Rattle.ics_components.proofs.Frames.{frames_of, with, Closes, frames-behind, fault-top, passing-top}
 use Rattle.ics_components.proofs.Order.{last-more, falls-behind, lines_in-whole, ended_from, nested}
-use Rattle.ics_components.proofs.Ended.{events, zones, picked-same, IsMatched}
+use Rattle.ics_components.proofs.EndOrder.{events, zones, picked-same, IsMatched}
 
 -- WHERE THE LINES END.
 lowest-is : (whole : List Placed) (bundles : List Bundle) → is_lowest (frames_of whole bundles) ≡ no_open (opens bundles)
@@ -58,9 +58,6 @@ lists zs es ws = record { zones = zs; events = es; checks = ws }
 abbrev pub gathered_from : List Placed → GatheredSeen → List Placed → List Placed → GatheredSeen
 gathered_from whole had before lines =
     lists (had.zones ++ ended_from (zones whole) before lines) (had.events ++ ended_from events before lines) (had.checks ++ checks_from whole before lines)
-
-gathered-none : (whole : List Placed) (had : GatheredSeen) (before : List Placed) → had ≡ gathered_from whole had before []
-gathered-none whole had before = simp append-nil
 
 -- THE PASS.
 -- Where the pass is: on a line behind those before it, with a bundle of lines for each component that is open.
@@ -175,7 +172,7 @@ step line again (Some v) {whole} {before} {bundles} on had =
 -- THE PASS SAYS WHAT THE LINES ARE.
 pass-lines : (lines : List Line) → Known lines
 pass-lines [] whole before bundles last had on e =
-    ap (λ f. unless f had) e ∙ ap (unless (fault_at_end before)) (gathered-none whole had before)
+    simp (e, append-nil)
 pass-lines (line ∷ lines) whole before bundles last had on e = step line (pass-lines lines) (content_of line.bytes) on had
 
 first-at : (lines : List Line) → Rises 0 lines → IsAt (placed_from [] lines) [] [] lines

@@ -1,7 +1,7 @@
 -- What is read of a value is in order, and so are what is collected of a component and what ends of it.
 use Rattle.std.proofs.Common.{◌≡◌, ℕ, Bool, true, false, not, List, [], ◌∷◌, refl, sym, ◌∙◌, subst, cond, Result, Ok, Err, map, ℤ, pos, arith, ◌≢◌, ◌≤◌}
 use Rattle.std.proofs.Common.{◌+◌, ◌*◌, nat_le, ◌&&◌, ◌||◌, Option, Some, None, is_some, IfSome}
-use Rattle.std.specs.Prelude.{filter_map, unwrap_or}
+use Rattle.std.specs.Prelude.{filter_map, flat_map, unwrap_or}
 use Rattle.std.specs.List.{All}
 use Rattle.std.specs.Option.{option_or, option_and_then}
 use Rattle.std.proofs.lemmas.Bool.{cond_both}
@@ -34,7 +34,7 @@ use Rattle.ics_values.specs.declared.stamp.StampFault.{StampFault}
 use Rattle.ics_values.specs.declared.stamp.StampFault.TheVariants as stamp
 use Rattle.ics_values.proofs.StampLemmas.{stamp_day-said, date_of-stamp, day_number_range, stamp_years}
 use Rattle.ics_components.specs.Builders.{event_ended, observance_ended}
-use Rattle.ics_components.specs.DateValues.{list_of, date_time_of, period_of, rdate_of, value_of, values_of, listed_in, local_in}
+use Rattle.ics_components.specs.DateValues.{list_of, date_time_of, period_of, value_of, values_of, listed_in, local_in}
 use Rattle.ics_components.specs.GivenTimes.{dated_in, given_length}
 use Rattle.ics_components.specs.Lines.{event_zone, event_note, observance_note, end_fault}
 use Rattle.ics_components.proofs.Judgements.{event_end, zone_end}
@@ -53,6 +53,7 @@ use Rattle.ics_components.specs.declared.date_values.Listing.TheVariants as list
 use Rattle.ics_components.specs.declared.dated.Dated.{Dated}
 use Rattle.ics_components.specs.declared.deferred_check.DeferredCheck.{DeferredCheck}
 use Rattle.ics_components.specs.declared.event_builder.EventBuilder.{EventBuilder}
+use Rattle.ics_components.specs.declared.gathered.EndedEvent.{EndedEvent}
 use Rattle.ics_components.specs.declared.fault.FaultKind.TheVariants.{MissingUid, MissingStart, BadEnd}
 use Rattle.ics_components.specs.declared.name.Name.{Name}
 use Rattle.ics_components.specs.declared.name.Name.TheVariants as name
@@ -86,11 +87,8 @@ sound-lasting text = allowed-sound (begins is_minus text) (duration_of text)
 sound-period : (zoned : Bool) (start end : List ℕ) → IsSoundValue (listed_in (period_of zoned start end))
 sound-period zoned start end = grind (arith, sound-date_time zoned start, sound-date_time zoned end, sound-lasting end)
 
-sound-rdate : (zoned : Bool) (text : List ℕ) → IsSoundValue (listed_in (rdate_of zoned text))
-sound-rdate zoned text = grind (arith, sound-period zoned (first_half text) (second_half text), sound-stamp zoned text)
-
 sound-value : (l : Listing) (zoned : Bool) (text : List ℕ) → IsSoundValue (listed_in (value_of l zoned text))
-sound-value listing.Rdate zoned text = sound-rdate zoned text
+sound-value listing.Rdate zoned text = grind (arith, sound-period zoned (first_half text) (second_half text), sound-stamp zoned text)
 sound-value listing.Exdate zoned text = sound-stamp zoned text
 
 sound-values : (l : Listing) (zoned : Bool) (text : List ℕ) → All IsSoundValue (map listed_in (values_of l zoned text))
@@ -192,7 +190,11 @@ no-faults : (filled started twice badly : Bool) →
     (filled ≡ true) × (started ≡ true) × (badly ≡ false)
 no-faults filled started twice badly e = (grind arith, grind arith, grind arith)
 
--- the DTEND of an event that has ended
+-- the DTSTART of one that has one, and the DTEND of an event that has ended
+some-in : (o : Option Dated) → is_some o ≡ true → o ≡ Some (dated_in o)
+some-in (Some d) e = refl
+some-in None e = cc
+
 end-given : (o : Option Dated) (d : Option Duration) → end_of (given_length o d) ≡ o
 end-given o d = grind arith
 
@@ -221,35 +223,26 @@ module _ (P : DeferredCheck → Type 0) (k : ℕ) where
   event-noted name.RecurrenceId v had h c = (h.0, h.1, h.2, h.3, h.4, or-first IsSoundDated had.recurrence _ h.5 (sound-stamp _ v.value, c))
   event-noted _ v had h c = h
 
-  start-sound : (start : Option Dated) → IfSome start IsSoundDated → IsSoundDated (dated_in start)
-  start-sound (Some d) h = h
-  start-sound None h = (day-zero, tt)
-
-  length-sound : (start end : Option Dated) (duration : Option Duration) → IfSome end IsSoundDated → IfSome duration (λ d. is_lasting d ≡ true) →
-      (is_some start ≡ true) × (ends_badly start end ≡ false) → IsSoundLength (dated_in start) (given_length end duration)
-  length-sound (Some d) (Some e) duration a b f = (a.0, f.1)
-  length-sound None (Some e) duration a b f = let some = f.0 in cc
-  length-sound start None (Some e) a b f = b
-  length-sound start None None a b f = tt
+  length-sound : (start : Dated) (end : Option Dated) (duration : Option Duration) → IfSome end IsSoundDated →
+      IfSome duration (λ d. is_lasting d ≡ true) → ends_badly (Some start) end ≡ false → IsSoundLength start (given_length end duration)
+  length-sound d (Some e) duration a b f = (a.0, f)
+  length-sound d None (Some e) a b f = b
+  length-sound d None None a b f = tt
 
   looked : (o : Option Dated) → IfSome o IsSoundDated → IfSome (zone_check (option_and_then (dated_zone k) o)) P
   looked (Some d) h = h.1
   looked None h = tt
 
-  length-looked : (start end : Option Dated) → IfSome (ends_in k start end) P → IfSome (ends_in k (Some (dated_in start)) end) P
-  length-looked (Some s) (Some e) h = h
-  length-looked None (Some e) h = tt
-  length-looked s None h = tt
-
   pub event-sound : (had : EventBuilder) → IsSoundStarted had → end_fault true (builder.Event had) ≡ None → IfSome (ends_in k had.start had.end) P →
       IsWhole (event_ended k had) × EachZone P (event_ended k had)
   event-sound had h n c =
       let f = no-faults (is_filled had.uid) (is_some had.start) (is_some had.end && is_some had.duration) _ (sym (event_end had) ∙ n) in
-      let start = start-sound had.start h.0 in (
+      let started = some-in had.start f.1 in
+      let start : IsSoundDated (dated_in had.start) = rw started at h.0 in (
         record {
           named = filled-not-empty had.uid f.0;
           start = start.0;
-          length = length-sound had.start had.end had.duration h.1 h.2 (f.1, f.2);
+          length = length-sound (dated_in had.start) had.end had.duration h.1 h.2 (rw started at f.2);
           rdates = λ i d lt. (h.3 i d lt).0;
           exdates = λ i d lt. (h.4 i d lt).0;
           recurrence = IfSome_then had.recurrence h.5 (λ d s. s.0);
@@ -260,6 +253,22 @@ module _ (P : DeferredCheck → Type 0) (k : ℕ) where
           rdates = λ i d lt. (h.3 i d lt).1;
           exdates = λ i d lt. (h.4 i d lt).1;
           recurrence = looked had.recurrence h.5;
-          length = rw (end-given had.end had.duration) (length-looked had.start had.end c);
+          length = rw (end-given had.end had.duration) (rw started at c);
         },
       )
+
+-- What holds of all that several lines list, and of all zones that an event names.
+pub All-flat_map : {X A : Type 0} (P : A → Type 0) (f : X → List A) (xs : List X) → All (λ x. All P (f x)) xs → All P (flat_map f xs)
+All-flat_map P f [] h = All-nil P
+All-flat_map P f (x ∷ xs) h =
+    All-append P (f x) (flat_map f xs) (All-head (λ x. All P (f x)) x xs h) (All-flat_map P f xs (All-tail (λ x. All P (f x)) x xs h))
+
+pub each-weaker : (P Q : DeferredCheck → Type 0) → ((l : DeferredCheck) → P l → Q l) → (event : EndedEvent) → EachZone P event → EachZone Q event
+each-weaker P Q w e z = record {
+  start = IfSome_then _ z.start w;
+  end = IfSome_then _ z.end w;
+  rdates = λ i d lt. IfSome_then _ (z.rdates i d lt) w;
+  exdates = λ i d lt. IfSome_then _ (z.exdates i d lt) w;
+  recurrence = IfSome_then _ z.recurrence w;
+  length = IfSome_then _ z.length w;
+}

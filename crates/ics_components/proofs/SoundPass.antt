@@ -1,12 +1,11 @@
 -- What is gathered is sound, where the first round finds nothing: each line keeps what is open and what is gathered so.
-use Rattle.std.proofs.Common.{◌≡◌, ℕ, Bool, true, false, List, [], ◌∷◌, ◌++◌, map, refl, sym, ◌∙◌, Option, Some, None, IfSome, IfOk, Result, Ok, Err}
+use Rattle.std.proofs.Common.{◌≡◌, ℕ, Bool, true, false, List, [], ◌∷◌, ◌++◌, map, refl, sym, ◌∙◌, Option, Some, None, IfSome, IfOk, Result, Ok, Err, arith}
 use Rattle.std.specs.List.{All, Contains}
 use Rattle.std.proofs.lemmas.Bool.{cond_both}
 use Rattle.std.proofs.lemmas.List.{length-map, get_or-map}
 use Rattle.std.proofs.lemmas.List.Elements.{All-nil, All-cons, All-head, All-tail, All-push, All-append}
 use Rattle.std.proofs.lemmas.Option.{IfSome_then}
 use Rattle.std.proofs.lemmas.Result.{IfOk-weaker}
-use Rattle.ics_fields.specs.Locals.{local_seconds}
 use Rattle.ics_text.specs.Bytes.{upper}
 use Rattle.ics_text.specs.ContentLines.{Parts, content_of}
 use Rattle.ics_text.specs.Unfolded.{Line}
@@ -24,14 +23,12 @@ use Rattle.ics_components.proofs.Judgements.{outside_end, unmatched_end}
 use Rattle.ics_components.specs.Pass.{bottom, unless, at_end, on_line, on_content, pass}
 use Rattle.ics_components.specs.SecondRound.{zone_named, are_of_one_zone, zone_check, instant_on, instant_in, both_compared, ends_in}
 use Rattle.ics_components.specs.Sound.{EachZone, IsWhole, IsSoundStamp, IsSoundObservance, IsSoundZone}
-use Rattle.ics_components.specs.Values.{is_out}
 use Rattle.ics_components.specs.declared.builder.Builder.{Builder}
 use Rattle.ics_components.specs.declared.builder.Builder.TheVariants as builder
 use Rattle.ics_components.specs.declared.component.Context.{Context}
 use Rattle.ics_components.specs.declared.component.Context.TheVariants as context
 use Rattle.ics_components.specs.declared.dated.Dated.{Dated}
 use Rattle.ics_components.specs.declared.deferred_check.DeferredCheck.{DeferredCheck}
-use Rattle.ics_components.specs.declared.deferred_check.DeferredCheck.TheVariants as check
 use Rattle.ics_components.specs.declared.deferred_check.Instant.{Instant}
 use Rattle.ics_components.specs.declared.deferred_check.Instant.TheVariants as instant
 use Rattle.ics_components.specs.declared.deferred_check.ZoneName.{ZoneName}
@@ -54,8 +51,7 @@ instant-sound name (stamp.Zoned local) h = h
 instant-sound name _ h = tt
 
 compared-sound : (a b : Option Instant) → IfSome a IsSoundInstant → IfSome b IsSoundInstant → IfSome (both_compared a b) IsSoundCheck
-compared-sound (Some (instant.Utc a)) (Some (instant.Utc b)) h k =
-    cond_both (is_out (local_seconds a) (local_seconds b)) (Some check.End) None (λ o. IfSome o IsSoundCheck) (λ e. tt) (λ e. tt)
+compared-sound (Some (instant.Utc a)) (Some (instant.Utc b)) h k = grind arith
 compared-sound (Some _) (Some _) h k = (h, k)
 compared-sound _ _ h k = tt
 

@@ -1,9 +1,8 @@
 -- The table of faults reads the lines beside a line as a component has them that is being built.
 use Rattle.std.proofs.lemmas.Bool.Decides.{nat_tests}
-use Rattle.std.proofs.Common.{arith, ◌≡◌, ◌≢◌, ℕ, suc, Bool, true, false, List, [], ◌∷◌, map, refl, ap, ◌∙◌, ◌||◌, cond, Some}
+use Rattle.std.proofs.Common.{arith, ◌≡◌, ◌≢◌, ℕ, suc, Bool, true, false, List, [], ◌∷◌, map, refl, ◌∙◌, ◌||◌, cond, Some}
 use Rattle.std.specs.Prelude.{length, find, filter, not, ◌==◌, is_some, option_map}
 use Rattle.std.specs.List.{list_any}
-use Rattle.std.specs.Str.{bytes_eq}
 use Rattle.ics_text.specs.Bytes.{upper}
 use Rattle.ics_text.specs.ContentLines.{Parts}
 use Rattle.ics_fields.specs.Observances.{ObservanceSaid}
@@ -16,15 +15,16 @@ use Rattle.ics_components.specs.declared.fault.FaultKind.TheVariants as kind
 use Rattle.ics_components.specs.declared.frame.Frame.{Frame}
 use Rattle.ics_components.specs.declared.name.Name.{Name}
 use Rattle.ics_components.specs.declared.name.Name.TheVariants as name
-use Rattle.ics_components.specs.Components.{component_of, component_name, is_zone_context}
+use Rattle.ics_components.specs.Components.{component_of, is_zone_context}
 use Rattle.ics_components.specs.Names.{same_name}
-use Rattle.ics_components.specs.PlacedLines.{Placed, Open, named, context_of, closes, begins_observance, calendar_of, lines_in, is_named, has, first_of, all_named, first_named}
+use Rattle.ics_components.specs.PlacedLines.{Placed, Open, named, context_of, closes, begins_observance, calendar_of, lines_in, is_named, has, first_of}
+use Rattle.ics_components.specs.PlacedLines.{all_named, first_named}
 use Rattle.ics_components.specs.PlacedLines.{name_on}
 use Rattle.ics_components.specs.Faults.{Plain, reading_in, Judged, Beside, faulty, beside_by, stands, kinds}
 pub use Rattle.ics_components.specs.Builders.{collected_of, zone_of, observance_of, builder_at}
-use Rattle.ics_components.specs.Lines.{beside_in, context_at, least_fault, is_mark, fault_in}
+use Rattle.ics_components.specs.Lines.{beside_in, context_at, least_fault, fault_in}
 use Rattle.ics_components.specs.Observances.{observance_by, begins_in_zone}
-use Rattle.ics_components.proofs.NameLemmas.{no-mark, component_name-of, context-in-outside}
+use Rattle.ics_components.proofs.NameLemmas.{component_name-of, context-in-outside}
 
 -- the observances that begin on the lines, in a file of all these lines
 abbrev pub own : List Placed → Placed → ObservanceSaid
@@ -35,12 +35,7 @@ parts whole ls = map (own whole) (filter begins_in_zone ls)
 
 pub any-part : (whole ls : List Placed) → list_any begins_in_zone ls ≡ not (length (parts whole ls) == 0)
 any-part whole [] = refl
-any-part whole (l ∷ ls) = by_test (any-part whole ls) (begins_in_zone l)
-  where
-    by_test : list_any begins_in_zone ls ≡ not (length (parts whole ls) == 0) → (t : Bool) →
-        t || list_any begins_in_zone ls ≡ not (length (map (own whole) (cond t (l ∷ filter begins_in_zone ls) (filter begins_in_zone ls))) == 0)
-    by_test again true = grind (arith, nat_tests)
-    by_test again false = again
+any-part whole (l ∷ ls) = let again = any-part whole ls in grind (arith, nat_tests)
 
 -- the innermost component of a path; below all there is none
 abbrev pub top_component : List Open → Component
@@ -61,7 +56,8 @@ pub has-first : {X : Type 0} (f : Placed → X) (n : Name) (ls : List Placed) �
 has-first f n [] = refl
 has-first f n (k ∷ ks) = by_test (has-first f n ks) (is_named n k)
   where
-    by_test : is_some (option_map f (first_named n ks)) ≡ has n ks → (t : Bool) → is_some (option_map f (first_of (cond t (k ∷ all_named n ks) (all_named n ks)))) ≡ t || has n ks
+    by_test : is_some (option_map f (first_named n ks)) ≡ has n ks → (t : Bool) →
+        is_some (option_map f (first_of (cond t (k ∷ all_named n ks) (all_named n ks)))) ≡ t || has n ks
     by_test again true = refl
     by_test again false = again
 
@@ -85,22 +81,15 @@ module _ (whole ls : List Placed) where
       faulty k (beside_by ls) (judged_at q n v depth t) ≡ faulty k (beside_in (builder_at (parts whole ls) ls q)) (judged_at q n v depth t)
   beside-same kind.NoObservance context.Zone n v depth t asked = rw (asked refl)
   beside-same kind.ObservanceField context.Zone name.Tzid v depth t asked = simp has-first
-  beside-same kind.ObservanceField context.Zone name.End v depth t asked = simp has-first
+  beside-same kind.ObservanceField context.Zone _ v depth t asked = grind (arith, has-first)
   beside-same kind.ObservanceField context.Observance name.Dtstart v depth t asked = simp has-first
-  beside-same kind.ObservanceField context.Observance name.OffsetFrom v depth t asked = simp has-first
-  beside-same kind.ObservanceField context.Observance name.OffsetTo v depth t asked = simp has-first
-  beside-same kind.ObservanceField context.Observance name.End v depth t asked = simp has-first
+  beside-same kind.ObservanceField context.Observance _ v depth t asked = grind (arith, has-first)
   beside-same kind.ZoneRule context.Observance n v depth t asked = simp has-first
   beside-same kind.MissingUid context.Event n v depth t asked = refl
   beside-same kind.MissingStart context.Event n v depth t asked = simp has-first
   beside-same kind.BadEnd context.Event n v depth t asked = simp has-first
   beside-same kind.Repeated context.Event name.Uid v depth t asked = simp has-first
-  beside-same kind.Repeated context.Event name.Dtstart v depth t asked = simp has-first
-  beside-same kind.Repeated context.Event name.Dtend v depth t asked = simp has-first
-  beside-same kind.Repeated context.Event name.Duration v depth t asked = simp has-first
-  beside-same kind.Repeated context.Event name.Rrule v depth t asked = simp has-first
-  beside-same kind.Repeated context.Event name.RecurrenceId v depth t asked = simp has-first
-  beside-same kind.Repeated context.Event name.Sequence v depth t asked = simp has-first
+  beside-same kind.Repeated context.Event _ v depth t asked = grind (arith, has-first)
   beside-same kind q n v depth t asked = refl
 
 end-reading : (q : Context) (p w : List ℕ) → reading_in q name.End p w ≡ Plain
@@ -109,45 +98,20 @@ end-reading context.Observance p w = refl
 end-reading _ p w = refl
 
 -- WHAT THE TABLE ASKS of each line: of a BEGIN how many components are open, of an END whether it matches, and of any other line neither.
-module _ (k : FaultKind) (b : Beside) (q : Context) (v : Parts) (depth : ℕ) (t : Bool) where
-  begin-asks : faulty k b (judged_at q name.Begin v depth t) ≡ faulty k b (judged_at q name.Begin v depth false)
-  begin-asks = by_kind k
-    where
-      by_kind : (k : FaultKind) → faulty k b (judged_at q name.Begin v depth t) ≡ faulty k b (judged_at q name.Begin v depth false)
-      by_kind kind.BadLine = refl
-      by_kind _ = refl
+module _ (b : Beside) (q : Context) (v : Parts) (depth : ℕ) (t : Bool) where
+  begin-asks : (k : FaultKind) → faulty k b (judged_at q name.Begin v depth t) ≡ faulty k b (judged_at q name.Begin v depth false)
+  begin-asks kind.BadLine = refl
+  begin-asks _ = refl
 
-  end-asks : faulty k b (judged_at q name.End v depth t) ≡ faulty k b (judged_at q name.End (record { name = []; params = []; value = [] }) 1 t)
-  end-asks = by_kind k
-    where
-      plain : (p w : List ℕ) → reading_in q name.End p w ≡ Plain
-      plain p w = end-reading q p w
+  end-asks : (k : FaultKind) →
+      faulty k b (judged_at q name.End v depth t) ≡ faulty k b (judged_at q name.End (record { name = []; params = []; value = [] }) 1 t)
+  end-asks kind.BadLine = refl
+  end-asks _ = let here = end-reading q v.params v.value in let there = end-reading q [] [] in cc
 
-      by_kind : (k : FaultKind) →
-          faulty k b (judged_at q name.End v depth t) ≡ faulty k b (judged_at q name.End (record { name = []; params = []; value = [] }) 1 t)
-      by_kind kind.BadStamp = rw (plain v.params v.value, plain [] [])
-      by_kind kind.BadDuration = rw (plain v.params v.value, plain [] [])
-      by_kind kind.BadOffset = rw (plain v.params v.value, plain [] [])
-      by_kind kind.BadRule = rw (plain v.params v.value, plain [] [])
-      by_kind kind.YearRange = rw (plain v.params v.value, plain [] [])
-      by_kind kind.NumberTooLarge = rw (plain v.params v.value, plain [] [])
-      by_kind kind.ObservanceField = rw (plain v.params v.value, plain [] [])
-      by_kind kind.ZoneRule = rw (plain v.params v.value, plain [] [])
-      by_kind _ = refl
-
-  line-asks : (n : Name) → is_mark n ≡ false → faulty k b (judged_at q n v depth t) ≡ faulty k b (judged_at q n v 1 false)
-  line-asks n m = let mark = no-mark n m in by_kind k mark.0 mark.1
-    where
-      by_kind : (k : FaultKind) → same_name n name.Begin ≡ false → same_name n name.End ≡ false →
-          faulty k b (judged_at q n v depth t) ≡ faulty k b (judged_at q n v 1 false)
-      by_kind kind.NoObservance e f = rw f
-      by_kind kind.ObservanceField e f = rw f
-      by_kind kind.BadNesting e f = rw f
-      by_kind kind.TooDeep e f = rw e
-      by_kind kind.MissingUid e f = rw f
-      by_kind kind.MissingStart e f = rw f
-      by_kind kind.BadEnd e f = rw f
-      by_kind _ e f = refl
+  line-asks : (n : Name) → same_name n name.Begin ≡ false → same_name n name.End ≡ false → (k : FaultKind) →
+      faulty k b (judged_at q n v depth t) ≡ faulty k b (judged_at q n v 1 false)
+  line-asks n e f kind.BadLine = refl
+  line-asks n e f _ = grind arith
 
 find-same : {X : Type 0} (p q : X → Bool) (ks : List X) → ((k : X) → p k ≡ q k) → find p ks ≡ find q ks
 find-same p q [] h = refl
@@ -155,31 +119,22 @@ find-same p q (k ∷ ks) h = rw (h k, find-same p q ks h)
 
 -- THE LEAST FAULT ON A LINE, of the table and of the pass.
 module _ (whole : List Placed) (path : List Open) (number : ℕ) (v : Parts) (ls : List Placed) (asked : IsAsked whole path ls) where
-  abbrev line : Placed
-  line = record { number = number; content = Some v; path = path }
-
-  abbrev closed : Bool
-  closed = closes path (map upper v.value)
-
   -- what stands on the line, of what is collected of the lines beside it
   placed-same : (k : FaultKind) →
-      stands k ls line
-      ≡ faulty k (beside_in (builder_at (parts whole ls) ls (context_of path))) (judged_at (context_of path) (named v) v (length path) closed)
+      stands k ls (record { number = number; content = Some v; path = path })
+      ≡ faulty k (beside_in (builder_at (parts whole ls) ls (context_of path)))
+      (judged_at (context_of path) (named v) v (length path) (closes path (map upper v.value)))
   unfolding name_on
   placed-same kind.BadLine = refl
-  placed-same k = beside-same whole ls k (context_of path) (named v) v (length path) closed asked
+  placed-same k = beside-same whole ls k (context_of path) (named v) v (length path) (closes path (map upper v.value)) asked
 
 pub least-same : (whole : List Placed) (path : List Open) (number : ℕ) (v : Parts) (ls : List Placed) → IsAsked whole path ls →
     find (λ k. stands k ls (record { number = number; content = Some v; path = path })) kinds
     ≡ fault_in (named v) v (frame_of whole path ls) (length path)
 unfolding least_fault
 least-same whole [] number v ls asked = find-same _ _ kinds (placed-same whole [] number v ls asked)
-least-same whole (c ∷ cs) number v ls asked =
-    find-same _ _ kinds (placed-same whole path number v ls asked) ∙ by_name (named v)
+least-same whole (c ∷ cs) number v ls asked = find-same _ _ kinds (placed-same whole (c ∷ cs) number v ls asked) ∙ by_name (named v)
   where
-    path : List Open
-    path = c ∷ cs
-
     q : Context
     q = context_of (c ∷ cs)
 
@@ -189,10 +144,7 @@ least-same whole (c ∷ cs) number v ls asked =
     t : Bool
     t = closes (c ∷ cs) (map upper v.value)
 
-    matches : bytes_eq (map upper v.value) (component_name (component_of c.name)) ≡ t
-    matches = ap (bytes_eq (map upper v.value)) (component_name-of c.name)
-
     by_name : (n : Name) → find (λ k. faulty k b (judged_at q n v (suc (length cs)) t)) kinds ≡ fault_in n v (frame_of whole (c ∷ cs) ls) (suc (length cs))
-    by_name name.Begin = rw (context-at whole ls c cs) (find-same _ _ kinds (λ k. begin-asks k b q v (suc (length cs)) t))
-    by_name name.End = rw (context-at whole ls c cs, matches) (find-same _ _ kinds (λ k. end-asks k b q v (suc (length cs)) t))
-    by_name n = rw (context-at whole ls c cs) (find-same _ _ kinds (λ k. line-asks k b q v (suc (length cs)) t n refl))
+    by_name name.Begin = rw (context-at whole ls c cs) (find-same _ _ kinds (begin-asks b q v (suc (length cs)) t))
+    by_name name.End = rw (context-at whole ls c cs, component_name-of c.name) (find-same _ _ kinds (end-asks b q v (suc (length cs)) t))
+    by_name n = rw (context-at whole ls c cs) (find-same _ _ kinds (line-asks b q v (suc (length cs)) t n refl refl))
