@@ -19,20 +19,17 @@ use Rattle.ics_components.specs.Components.{is_observance_context}
 abbrev pub IsUnknown : {X : Type 0} → List (List ℕ × X) → List ℕ → Type 0
 IsUnknown table u = (w : List ℕ) → list_any (λ n. bytes_eq w n.0) table ≡ true → bytes_eq u w ≡ false
 
-pub equal : (xs ys : List ℕ) → bytes_eq xs ys ≡ true → xs ≡ ys
-equal xs ys e = (bytes_eq-Decides xs ys).0 e
-
 -- a name is a word of the table, or none
 told : {X : Type 0} (T : X → Type 0) (other : X) (u : List ℕ) (table : List (List ℕ × X)) → AllByRecursion (λ n. u ≡ n.0 → T n.1) table →
     (IsUnknown table u → T other) → T (named_in table other u)
 told T other u [] h k = k (λ w e. cc)
 told T other u (n ∷ ns) h k =
-    cond_both (bytes_eq u n.0) n.1 (named_in ns other u) T (λ e. h.0 (equal u n.0 e))
+    cond_both (bytes_eq u n.0) n.1 (named_in ns other u) T (λ e. h.0 ((bytes_eq-Decides u n.0).0 e))
     (λ e. told T other u ns h.1 (λ g. k (λ w. by_word e g w (bytes_eq w n.0) refl)))
   where
     by_word : bytes_eq u n.0 ≡ false → IsUnknown ns u → (w : List ℕ) (t : Bool) → bytes_eq w n.0 ≡ t →
         (t || list_any (λ n. bytes_eq w n.0) ns) ≡ true → bytes_eq u w ≡ false
-    by_word e g w true f c = rw (equal w n.0 f) e
+    by_word e g w true f c = rw ((bytes_eq-Decides w n.0).0 f) e
     by_word e g w false f c = g w c
 
 -- a name that is the same as another is that

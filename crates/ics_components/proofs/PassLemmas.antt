@@ -11,15 +11,13 @@ use Rattle.ics_components.specs.declared.frame.Frame.{Frame}
 use Rattle.ics_components.specs.declared.gathered.EndedEvent.{EndedEvent}
 use Rattle.ics_components.specs.declared.gathered.EndedZone.{EndedZone}
 use Rattle.ics_components.specs.declared.gathered.LineCheck.{LineCheck}
-use Rattle.ics_components.specs.declared.gathered.Passed.{Passed}
 use Rattle.ics_components.specs.declared.deferred_check.DeferredCheck.{DeferredCheck}
-use Rattle.ics_components.specs.declared.name.Name.{Name}
 use Rattle.ics_components.specs.PlacedLines.{Placed, named, path_behind, placed_from, innermost, lines_in, beside}
 use Rattle.ics_components.specs.Faults.{stands, kinds}
 use Rattle.ics_components.specs.FirstFault.{found, first_from, first_fault, fault_at_end, end_fault, no_open}
 use Rattle.ics_components.specs.GatheredSeen.{GatheredSeen}
 use Rattle.ics_components.specs.Gathered.{nothing_gathered, checks_of, and_passed}
-use Rattle.ics_components.specs.Lines.{end_in, check_in, behind, passed}
+use Rattle.ics_components.specs.Lines.{check_in, behind, passing}
 use Rattle.ics_components.specs.Pass.{bottom, is_lowest, at_end, unless, on_line, on_content, pass}
 use Rattle.ics_components.proofs.Table.{parts, any-part, frame_of, IsAsked, least-same}
 use Rattle.ics_components.proofs.Bundles.{Bundle, Keeps, Before, falls, open_of, opens, opens-behind, top_beside, zone-beside}
@@ -113,24 +111,11 @@ module _ (line : Line) {lines : List Line} (again : Known lines) (v : Parts) {wh
   abbrev l : Placed
   l = with line (opens bundles) (Some v)
 
-  abbrev n : Name
-  n = named v
-
-  abbrev frames : List Frame
-  frames = frames_of whole bundles
-
   abbrev rest : List Placed
   rest = placed_from (path_behind l) lines
 
-  -- the innermost component
-  abbrev f : Frame
-  f = frame_of whole (opens bundles) (beside before l)
-
-  abbrev here : Passed
-  here = passed (end_in n f) (check_in n v f)
-
   abbrev now : GatheredSeen
-  now = and_passed line.number here had
+  now = and_passed line.number (passing (named v) v (frame_of whole (opens bundles) (beside before l) ∷ [])) had
 
   -- a line adds what ends there as its component says, and what is checked there in the second round
   gathered-step : IsMatched l → gathered_from whole now (before ++ l ∷ []) rest ≡ gathered_from whole had before (l ∷ rest)
@@ -141,7 +126,7 @@ module _ (line : Line) {lines : List Line} (again : Known lines) (v : Parts) {wh
 
   -- with its least fault, and where it has none
   by_first : (o : Option FaultKind) → find (λ kind. stands kind (beside before l) l) kinds ≡ o →
-      on_line line.number o (pass (behind line.number n v frames) (Some line.number) now lines)
+      on_line line.number o (pass (behind line.number (named v) v (frames_of whole bundles)) (Some line.number) now lines)
       ≡ unless (found line.number o (first_from stands fault_at_end (before ++ l ∷ []) rest)) (gathered_from whole had before (l ∷ rest))
   by_first (Some k) e = refl
   by_first None e =
@@ -161,10 +146,9 @@ step : (line : Line) {lines : List Line} → Known lines → (o : Option Parts) 
 step line again None on had = refl
 step line again (Some v) {whole} {before} {bundles} on had =
     let l : Placed = with line (opens bundles) (Some v) in
-    let n : Name = named v in
     rw (
-      passing-top whole before n v bundles,
-      fault-top whole before n v bundles,
+      passing-top whole before (named v) v bundles,
+      fault-top whole before (named v) v bundles,
       top_beside before bundles on.kept,
       ← least-same whole (opens bundles) line.number v (beside before l) (asked line again v on had),
     ) (by_first line again v on had (find (λ kind. stands kind (beside before l) l) kinds) refl)

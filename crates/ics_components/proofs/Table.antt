@@ -75,22 +75,22 @@ abbrev judged_at : Context → Name → Parts → ℕ → Bool → Judged
 judged_at q n v depth closes = record { context = q; name = n; params = v.params; value = v.value; depth = depth; closes = closes }
 
 -- its faults are the same of the lines beside it and of what is collected of them
-module _ (whole ls : List Placed) where
-  beside-same : (k : FaultKind) (q : Context) (n : Name) (v : Parts) (depth : ℕ) (t : Bool) →
+module _ (whole ls : List Placed) (v : Parts) (depth : ℕ) (t : Bool) where
+  beside-same : (k : FaultKind) (q : Context) (n : Name) →
       (is_zone_context q ≡ true → list_any begins_observance ls ≡ not (length (parts whole ls) == 0)) →
       faulty k (beside_by ls) (judged_at q n v depth t) ≡ faulty k (beside_in (builder_at (parts whole ls) ls q)) (judged_at q n v depth t)
-  beside-same kind.NoObservance context.Zone n v depth t asked = rw (asked refl)
-  beside-same kind.ObservanceField context.Zone name.Tzid v depth t asked = simp has-first
-  beside-same kind.ObservanceField context.Zone _ v depth t asked = grind (arith, has-first)
-  beside-same kind.ObservanceField context.Observance name.Dtstart v depth t asked = simp has-first
-  beside-same kind.ObservanceField context.Observance _ v depth t asked = grind (arith, has-first)
-  beside-same kind.ZoneRule context.Observance n v depth t asked = simp has-first
-  beside-same kind.MissingUid context.Event n v depth t asked = refl
-  beside-same kind.MissingStart context.Event n v depth t asked = simp has-first
-  beside-same kind.BadEnd context.Event n v depth t asked = simp has-first
-  beside-same kind.Repeated context.Event name.Uid v depth t asked = simp has-first
-  beside-same kind.Repeated context.Event _ v depth t asked = grind (arith, has-first)
-  beside-same kind q n v depth t asked = refl
+  beside-same kind.NoObservance context.Zone n asked = rw (asked refl)
+  beside-same kind.ObservanceField context.Zone name.Tzid asked = simp has-first
+  beside-same kind.ObservanceField context.Zone _ asked = grind (arith, has-first)
+  beside-same kind.ObservanceField context.Observance name.Dtstart asked = simp has-first
+  beside-same kind.ObservanceField context.Observance _ asked = grind (arith, has-first)
+  beside-same kind.ZoneRule context.Observance n asked = simp has-first
+  beside-same kind.MissingUid context.Event n asked = refl
+  beside-same kind.MissingStart context.Event n asked = simp has-first
+  beside-same kind.BadEnd context.Event n asked = simp has-first
+  beside-same kind.Repeated context.Event name.Uid asked = simp has-first
+  beside-same kind.Repeated context.Event _ asked = grind (arith, has-first)
+  beside-same kind q n asked = refl
 
 end-reading : (q : Context) (p w : List ℕ) → reading_in q name.End p w ≡ Plain
 end-reading context.Event p w = refl
@@ -126,7 +126,7 @@ module _ (whole : List Placed) (path : List Open) (number : ℕ) (v : Parts) (ls
       (judged_at (context_of path) (named v) v (length path) (closes path (map upper v.value)))
   unfolding name_on
   placed-same kind.BadLine = refl
-  placed-same k = beside-same whole ls k (context_of path) (named v) v (length path) (closes path (map upper v.value)) asked
+  placed-same k = beside-same whole ls v (length path) (closes path (map upper v.value)) k (context_of path) (named v) asked
 
 pub least-same : (whole : List Placed) (path : List Open) (number : ℕ) (v : Parts) (ls : List Placed) → IsAsked whole path ls →
     find (λ k. stands k ls (record { number = number; content = Some v; path = path })) kinds

@@ -10,8 +10,7 @@ use Rattle.ics_components.specs.declared.name.Name.TheVariants as name
 use Rattle.ics_components.specs.Names.{name_of, same_name}
 use Rattle.ics_components.specs.declared.component.Context.{Context}
 use Rattle.ics_components.specs.declared.component.Context.TheVariants as context
-use Rattle.ics_components.specs.Components.{component_of, context_in, is_outside_context, is_calendar_context, is_event_context, is_zone_context}
-use Rattle.ics_components.specs.Components.{is_observance_context}
+use Rattle.ics_components.specs.Components.{component_of, context_in, is_calendar_context, is_event_context, is_zone_context}
 
 -- A component that is open: its name in upper case, and the number of its BEGIN line.
 pub record Open : Type 0 where
@@ -80,9 +79,6 @@ context_of [] = context.Outside
 context_of (c ∷ cs) = context_in (context_of cs) (component_of c.name)
 
 -- outside all components, directly in a calendar, directly in an event or a time zone of one, or directly in an observance of a time zone
-abbrev pub is_outside : Placed → Bool
-is_outside line = is_outside_context (context_of line.path)
-
 abbrev pub in_calendar : Placed → Bool
 in_calendar line = is_calendar_context (context_of line.path)
 
@@ -91,9 +87,6 @@ in_event line = is_event_context (context_of line.path)
 
 abbrev pub in_zone : Placed → Bool
 in_zone line = is_zone_context (context_of line.path)
-
-abbrev pub in_observance : Placed → Bool
-in_observance line = is_observance_context (context_of line.path)
 
 -- the BEGIN line of such a component
 abbrev pub begins : List ℕ → Placed → Bool
@@ -111,9 +104,6 @@ is_closing line = is_end line && closes line.path (component line)
 -- the END of an event, and that of a time zone
 abbrev pub ends_event : Placed → Bool
 ends_event line = is_closing line && in_event line
-
-abbrev pub ends_zone : Placed → Bool
-ends_zone line = is_closing line && in_zone line
 
 -- a part of a time zone begins on the line
 abbrev pub begins_observance : Placed → Bool
