@@ -63,8 +63,7 @@ zone-lines : (path : List Open) → is_zone_context (context_of path) ≡ true �
 zone-lines path z [] h = refl
 zone-lines path z (l ∷ ls) h =
     let here : in_zone l ≡ true = ap (λ (p : List Open). is_zone_context (context_of p)) (All-head (λ l. l.path ≡ path) l ls h) ∙ z in
-    ap (λ r. begins_observance l || r) (zone-lines path z ls (All-tail (λ l. l.path ≡ path) l ls h))
-    ∙ ap (λ t. (t && begins_observance l) || list_any begins_in_zone ls) (sym here)
+    rw (here, zone-lines path z ls (All-tail (λ l. l.path ≡ path) l ls h))
 
 pub zone-beside : (before : List Placed) (bundles : List Bundle) → Keeps before [] bundles → is_zone_context (context_of (opens bundles)) ≡ true →
     list_any begins_observance (lines_in (innermost (opens bundles)) before) ≡ list_any begins_in_zone (lines_in (innermost (opens bundles)) before)

@@ -50,13 +50,11 @@ builder-note : (os : List ObservanceSaid) (ls : List Placed) (q : Context) (l : 
 builder-note os ls q l = by_name q (name_on l.content) refl
   where
     by_name : (q : Context) (n : Name) → name_on l.content ≡ n → builder_at os (ls ++ l ∷ []) q ≡ builder_note n (parts_at l) (builder_at os ls q)
-    by_name context.Event name.Other e = simp (one_more, e)
-    by_name context.Event _ e = simp (one_more, e)
-    by_name context.Zone name.Other e = simp (one_more, e)
-    by_name context.Zone _ e = simp (one_more, e)
-    by_name context.Observance name.Other e = simp (one_more, e)
-    by_name context.Observance _ e = simp (one_more, e)
-    by_name _ n e = refl
+    by_name context.Outside n e = refl
+    by_name context.Calendar n e = refl
+    by_name context.Elsewhere n e = refl
+    by_name _ name.Other e = simp (one_more, e)
+    by_name _ _ e = simp (one_more, e)
 
 -- a line that begins or ends a component says nothing of the one in which it stands
 note-mark : (n : Name) (v : Parts) (b : Builder) → is_mark n ≡ true → builder_note n v b ≡ b

@@ -22,8 +22,7 @@ first-cond t o p m = grind arith
 
 -- one of two tests
 or-cond : (a b : Bool) (x y : Option FaultKind) → cond (a || b) x y ≡ cond a x (cond b x y)
-or-cond true b x y = refl
-or-cond false b x y = refl
+or-cond a b x y = grind arith
 
 -- IN AN EVENT: the fault of the value, then a property that stands once and stands before, then what an event may not have.
 abbrev pub refused_there : Name → Parts → Option FaultKind
