@@ -1,12 +1,12 @@
 -- What ends on the lines, and that in a file without faults the events and the time zones end in the order in which they begin.
-use Rattle.std.proofs.Common.{◌≡◌, ℕ, Bool, true, false, ◌&&◌, List, [], ◌∷◌, ◌++◌, refl, sym, ap, ◌∙◌, map, filter, arith, Some}
+use Rattle.std.proofs.Common.{◌≡◌, ℕ, true, false, ◌&&◌, List, [], ◌∷◌, ◌++◌, refl, sym, ap, ◌∙◌, map, filter, arith, Some}
 use Rattle.std.specs.Prelude.{codes, not}
 use Rattle.std.specs.Str.{bytes_eq}
 use Rattle.std.proofs.lemmas.Bool.{and_parts, not-false}
 use Rattle.ics_components.specs.declared.component.Component.{Component}
 use Rattle.ics_components.specs.declared.component.Context.{Context}
 use Rattle.ics_components.specs.Components.{component_of, context_in, is_calendar_context, is_event_context, is_zone_context}
-use Rattle.ics_components.specs.PlacedLines.{Placed, Open, name_on, context_of, is_begin, component, calendar_of, begins, lines_in, named, is_end, closes}
+use Rattle.ics_components.specs.PlacedLines.{Placed, Open, name_on, context_of, component, calendar_of, begins, lines_in, named, is_end, closes}
 use Rattle.ics_components.specs.PlacedLines.{begins_event}
 use Rattle.ics_components.specs.Builders.{event_ended, zone_ended}
 use Rattle.ics_components.proofs.NameLemmas.{context-in-outside, context-tests}
@@ -58,9 +58,6 @@ module _ (whole : List Placed) (line : Line) (v : Parts) (ls : List Placed) wher
 pub calendar-from : (q : Context) (c : Component) → is_calendar_context (context_in q c) ≡ true → q ≡ context.Outside
 calendar-from q c e = grind arith
 
-swap : (a b c : Bool) → (a && (b && c)) ≡ (b && (a && c))
-swap a b c = grind arith
-
 -- a kind of components with one name that begin directly in a calendar
 module _ {X : Type 0} (s : Sort X) (word : List ℕ)
     (inside_at : (q : Context) (w : List ℕ) → s.stands_at (context_in q (component_of w)) ≡ (is_calendar_context q && bytes_eq w word)) where
@@ -74,9 +71,7 @@ module _ {X : Type 0} (s : Sort X) (word : List ℕ)
   in-calendar : ((l : Placed) → s.begins l ≡ (is_calendar_context (context_of l.path) && begins word l)) →
       ((path : List Open) (ls : List Placed) (l : Placed) → name_on l.content ≡ name.End → s.by path (ls ++ l ∷ []) ≡ s.by path ls) → IsSort s
   in-calendar here at_end = record {
-    starts =
-        λ l. here l ∙ swap (is_calendar_context (context_of l.path)) (is_begin l) (bytes_eq (component l) word)
-        ∙ ap (λ t. is_begin l && t) (sym (inside_at (context_of l.path) (component l)));
+    starts = λ l. rw (here l, inside_at (context_of l.path) (component l)) (grind arith);
     alone = λ whole l e. calendar-holds whole l.path (and_parts _ _ (sym (inside_at (context_of l.path) (component l)) ∙ e)).0;
     ends = at_end;
   }

@@ -24,7 +24,6 @@ use Rattle.std.proofs.lemmas.List.Concat.{flat_map-append}
 use Rattle.std.proofs.Math.Bool.{and-false}
 use Rattle.ics_fields.specs.Observances.{ObservanceSaid}
 use Rattle.ics_components.specs.declared.builder.Builder.{Builder}
-use Rattle.ics_components.specs.declared.builder.Builder.TheVariants as builder
 use Rattle.ics_components.specs.Observances.{begins_in_zone}
 use Rattle.ics_components.proofs.Order.{inside}
 
@@ -58,10 +57,8 @@ builder-note os ls q l = by_name q (name_on l.content) refl
 
 -- a line that begins or ends a component says nothing of the one in which it stands
 note-mark : (n : Name) (v : Parts) (b : Builder) → is_mark n ≡ true → builder_note n v b ≡ b
-note-mark name.Begin v builder.Calendar m = refl
-note-mark name.Begin v _ m = refl
-note-mark name.End v builder.Calendar m = refl
-note-mark name.End v _ m = refl
+note-mark name.Begin v b m = grind arith
+note-mark name.End v b m = grind arith
 note-mark _ v b m = cc
 
 -- THE OBSERVANCES of a time zone, with one line more.
