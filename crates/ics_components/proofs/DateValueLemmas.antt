@@ -14,11 +14,11 @@ use Rattle.ics_values.specs.Stamps.{is_date_time_form, date_exists, time_exists,
 use Rattle.ics_values.specs.declared.stamp.Stamp.{Stamp}
 use Rattle.ics_values.specs.declared.stamp.StampFault.{StampFault}
 use Rattle.ics_values.specs.declared.stamp.StampFault.TheVariants as stamp
-use Rattle.ics_components.specs.DateValues.{DateValue, At, date_time_of, period_of, rdate_of, listed_in, has_bad_stamp}
-use Rattle.ics_components.specs.DateValues.{has_far_stamp, has_bad_duration, has_large_duration, values_of, local_in, is_not_local}
+use Rattle.ics_components.specs.DateValues.{DateValue, At, date_time_of, period_of, rdate_of, listed_in}
+use Rattle.ics_components.specs.DateValues.{values_of, local_in, is_not_local}
 use Rattle.ics_components.specs.contracts.fault.FaultKindOrd.TheImpl as order
 use Rattle.ics_components.specs.declared.fault.FaultKind.{FaultKind}
-use Rattle.ics_components.specs.declared.fault.FaultKind.TheVariants.{BadStamp, BadDuration, YearRange, NumberTooLarge, ObservanceField}
+use Rattle.ics_components.specs.declared.fault.FaultKind.TheVariants.{ObservanceField}
 use Rattle.ics_components.specs.Faults.{Dates}
 use Rattle.ics_components.specs.Lines.{misread, unfit, judged}
 use Rattle.ics_components.specs.Pass.{unless}
@@ -59,14 +59,7 @@ least (Some had) (Some kind) = Some (ord_min order.ghosts.cmp had kind)
 
 -- the least fault of the values of a line with one more
 dates-more : (vs : List DateValue) (v : DateValue) → dates_fault (vs ++ v ∷ []) ≡ least (dates_fault vs) (dates_fault (v ∷ []))
-dates-more vs v =
-    simp list_any-append (by_tests (list_any has_bad_stamp vs) (list_any has_bad_duration vs) (list_any has_far_stamp vs) (list_any has_large_duration vs) v)
-  where
-    by_tests : (a b c d : Bool) (v : DateValue) →
-        cond (a || (has_bad_stamp v || false)) (Some BadStamp) (cond (b || (has_bad_duration v || false)) (Some BadDuration)
-        (cond (c || (has_far_stamp v || false)) (Some YearRange) (cond (d || (has_large_duration v || false)) (Some NumberTooLarge) None)))
-        ≡ least (cond a (Some BadStamp) (cond b (Some BadDuration) (cond c (Some YearRange) (cond d (Some NumberTooLarge) None)))) (dates_fault (v ∷ []))
-    by_tests a b c d v = grind arith
+dates-more vs v = simp list_any-append (grind arith)
 
 judged-is : (v : DateValue) → judged v ≡ unless (dates_fault (v ∷ [])) (listed_in v)
 judged-is v = grind arith
