@@ -1,5 +1,4 @@
 -- One pass over the lines with the components that are open, the innermost first, each with what has been read of it.
--- These are the words of the code alone. No public contract cites them.
 use Rattle.std.specs.Prelude.{ℕ, ◌+◌, Bool, true, false, List, [], ◌∷◌, Option, Some, None, Result, Ok, Err, if◌then◌else◌, ◌≡◌}
 use Rattle.ics_text.specs.Unfolded.{Line, unfolded, begins_with_fold}
 use Rattle.ics_text.specs.ContentLines.{Parts, content_of}

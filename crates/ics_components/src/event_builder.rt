@@ -5,7 +5,8 @@ ghost use Rattle.ics_components.specs.declared.builder.Builder.TheVariants.{Even
 ghost use Rattle.ics_components.specs.declared.gathered.Ended.TheVariants as ended;
 ghost use Rattle.ics_components.specs.Builders.{collected_of, event_ended};
 ghost use Rattle.ics_components.specs.GivenTimes.{dated_in};
-ghost use Rattle.ics_components.specs.Lines.{Gives, Notes, is_mark, line_fault, end_fault, event_has, event_property, with_property, event_note, event_zone, passed};
+ghost use Rattle.ics_components.specs.Lines.{Gives, Notes, is_mark, line_fault, end_fault, passed};
+ghost use Rattle.ics_components.specs.Lines.{event_has, event_property, with_property, event_note, event_zone};
 ghost use Rattle.ics_components.specs.SecondRound.{ends_in};
 
 use crate::date_list::DateLists;
