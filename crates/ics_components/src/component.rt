@@ -4,6 +4,7 @@ ghost use Rattle.std.specs.Str.{bytes_eq};
 ghost use Rattle.ics_text.specs.Bytes.{upper};
 ghost use Rattle.ics_components.specs.Components.{component_of, component_name, context_in};
 
+use crate::name::is_called;
 use ics_values::{Text, is_word};
 use std::alloc::{AllocError, Global};
 
@@ -35,15 +36,15 @@ impl Component {
     pub fn named(alloc: Global, name: &[u8]) -> Result<Component, AllocError>
         ensures { IfOk result (λ component. component ≡ component_of (map upper name.now)) }
     {
-        if is_word(name, b"VCALENDAR") {
+        if is_called(name, b"VCALENDAR") {
             Ok(Component::Calendar)
-        } else if is_word(name, b"VEVENT") {
+        } else if is_called(name, b"VEVENT") {
             Ok(Component::Event)
-        } else if is_word(name, b"VTIMEZONE") {
+        } else if is_called(name, b"VTIMEZONE") {
             Ok(Component::Zone)
-        } else if is_word(name, b"STANDARD") {
+        } else if is_called(name, b"STANDARD") {
             Ok(Component::Standard)
-        } else if is_word(name, b"DAYLIGHT") {
+        } else if is_called(name, b"DAYLIGHT") {
             Ok(Component::Daylight)
         } else {
             Ok(Component::Other(Text::of(name.to_ascii_uppercase(alloc)?)))
@@ -55,11 +56,11 @@ impl Component {
         ensures { result ≡ bytes_eq (map upper name.now) (component_name self.now) }
     {
         match self {
-            Component::Calendar => is_word(name, b"VCALENDAR"),
-            Component::Event => is_word(name, b"VEVENT"),
-            Component::Zone => is_word(name, b"VTIMEZONE"),
-            Component::Standard => is_word(name, b"STANDARD"),
-            Component::Daylight => is_word(name, b"DAYLIGHT"),
+            Component::Calendar => is_called(name, b"VCALENDAR"),
+            Component::Event => is_called(name, b"VEVENT"),
+            Component::Zone => is_called(name, b"VTIMEZONE"),
+            Component::Standard => is_called(name, b"STANDARD"),
+            Component::Daylight => is_called(name, b"DAYLIGHT"),
             Component::Other(word) => is_word(name, word.as_slice()),
         }
     }

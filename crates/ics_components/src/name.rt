@@ -1,10 +1,9 @@
 //! The names of properties and components, which compare without case (RFC 5545, section 3.1).
 ghost use Rattle.std.specs.Prelude.{◌≡◌, map};
+ghost use Rattle.std.specs.Str.{bytes_eq};
 ghost use Rattle.ics_text.specs.Bytes.{upper};
 ghost use Rattle.ics_components.specs.Names.{name_of, named_in, other_words};
 ghost use Rattle.ics_components.specs.declared.name.Name.TheVariants.{Other};
-
-use ics_values::is_word;
 
 /// The names that a file is read for.
 #[derive(Clone, Copy)]
@@ -32,31 +31,42 @@ pub enum Name {
     Other,
 }
 
+/// Whether two names are one. They compare without case.
+pub fn is_called(name: &[u8], other: &[u8]) -> bool
+    ensures { result ≡ bytes_eq (map upper name.now) (map upper other.now) }
+{
+    // most names that are compared are not equally long
+    if name.len() != other.len() {
+        return false;
+    }
+    name.eq_ignore_ascii_case(other)
+}
+
 /// What a property is called.
 pub fn name_of(name: &[u8]) -> Name
     ensures { result ≡ name_of (map upper name.now) }
 {
-    if is_word(name, b"BEGIN") {
+    if is_called(name, b"BEGIN") {
         Name::Begin
-    } else if is_word(name, b"END") {
+    } else if is_called(name, b"END") {
         Name::End
-    } else if is_word(name, b"UID") {
+    } else if is_called(name, b"UID") {
         Name::Uid
-    } else if is_word(name, b"DTSTART") {
+    } else if is_called(name, b"DTSTART") {
         Name::Dtstart
-    } else if is_word(name, b"DTEND") {
+    } else if is_called(name, b"DTEND") {
         Name::Dtend
-    } else if is_word(name, b"DURATION") {
+    } else if is_called(name, b"DURATION") {
         Name::Duration
-    } else if is_word(name, b"RRULE") {
+    } else if is_called(name, b"RRULE") {
         Name::Rrule
-    } else if is_word(name, b"RECURRENCE-ID") {
+    } else if is_called(name, b"RECURRENCE-ID") {
         Name::RecurrenceId
-    } else if is_word(name, b"SEQUENCE") {
+    } else if is_called(name, b"SEQUENCE") {
         Name::Sequence
-    } else if is_word(name, b"RDATE") {
+    } else if is_called(name, b"RDATE") {
         Name::Rdate
-    } else if is_word(name, b"EXDATE") {
+    } else if is_called(name, b"EXDATE") {
         Name::Exdate
     } else {
         other_name_of(name)
@@ -67,23 +77,23 @@ pub fn name_of(name: &[u8]) -> Name
 fn other_name_of(name: &[u8]) -> Name
     ensures { result ≡ named_in other_words Other (map upper name.now) }
 {
-    if is_word(name, b"EXRULE") {
+    if is_called(name, b"EXRULE") {
         Name::Exrule
-    } else if is_word(name, b"VERSION") {
+    } else if is_called(name, b"VERSION") {
         Name::Version
-    } else if is_word(name, b"SUMMARY") {
+    } else if is_called(name, b"SUMMARY") {
         Name::Summary
-    } else if is_word(name, b"LOCATION") {
+    } else if is_called(name, b"LOCATION") {
         Name::Location
-    } else if is_word(name, b"DESCRIPTION") {
+    } else if is_called(name, b"DESCRIPTION") {
         Name::Description
-    } else if is_word(name, b"STATUS") {
+    } else if is_called(name, b"STATUS") {
         Name::Status
-    } else if is_word(name, b"TZID") {
+    } else if is_called(name, b"TZID") {
         Name::Tzid
-    } else if is_word(name, b"TZOFFSETFROM") {
+    } else if is_called(name, b"TZOFFSETFROM") {
         Name::OffsetFrom
-    } else if is_word(name, b"TZOFFSETTO") {
+    } else if is_called(name, b"TZOFFSETTO") {
         Name::OffsetTo
     } else {
         Name::Other
