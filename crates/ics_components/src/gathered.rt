@@ -125,7 +125,10 @@ impl Gathered {
     pub(crate) fn zone(&mut self, number: u64, zone: Option<ZoneName>) -> Result<(), AllocError>
         ensures { IfOk result (λ _. self.new ≡ and_passed number (passed Nothing (zone_check zone)) self.old) }
     {
-        self.check(number, zone.map(DeferredCheck::Zone))
+        match zone {
+            Some(zone) => self.check(number, Some(DeferredCheck::Zone(zone))),
+            None => Ok(()),
+        }
     }
 
     /// Adds what is gathered on the line with that number.

@@ -35,10 +35,6 @@ pub enum Name {
 pub fn is_called(name: &[u8], other: &[u8]) -> bool
     ensures { result ≡ bytes_eq (map upper name.now) (map upper other.now) }
 {
-    // most names that are compared are not equally long
-    if name.len() != other.len() {
-        return false;
-    }
     name.eq_ignore_ascii_case(other)
 }
 
