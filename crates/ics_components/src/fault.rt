@@ -1,5 +1,5 @@
 //! Why a file is refused.
-ghost use Rattle.std.specs.Prelude.{◌≡◌};
+ghost use Rattle.std.specs.Prelude.{◌≡◌, Some};
 ghost use Rattle.ics_components.specs.FaultNames.{kind_name, file_fault_name};
 ghost use Rattle.ics_components.specs.declared.fault.FileFault.TheVariants.{Memory};
 
@@ -117,6 +117,8 @@ impl FaultKind {
 }
 
 impl fmt::Display for FaultKind {
+    ghost output = { λ kind. Some (kind_name kind) };
+
     fn fmt<W: fmt::Write>(&self, f: &mut fmt::Formatter<W>) -> fmt::Result {
         f.write_str(self.name())
     }
