@@ -1,6 +1,6 @@
 -- What the table of faults says of a line by its name, as the reader judges it.
-use Rattle.std.proofs.Common.{◌≡◌, Bool, true, false, ◌&&◌, ◌||◌, not, ◌==◌, length, refl, arith, cond, Option, Some, None, is_some}
-use Rattle.std.specs.Prelude.{codes}
+use Rattle.std.proofs.Common.{append-nil, subst, ◌≡◌, Bool, true, false, ◌&&◌, ◌||◌, not, ◌==◌, length, refl, arith, cond, Option, Some, None, is_some}
+use Rattle.std.specs.Prelude.{codes, ℕ, List, [], ◌∷◌}
 use Rattle.std.specs.Option.{option_or}
 use Rattle.ics_text.specs.ContentLines.{Parts, param_of}
 use Rattle.ics_components.specs.declared.builder.Builder.{Builder}
@@ -10,10 +10,15 @@ use Rattle.ics_components.specs.declared.event_builder.EventBuilder.{EventBuilde
 use Rattle.ics_components.specs.declared.observance_builder.ObservanceBuilder.{ObservanceBuilder}
 use Rattle.ics_components.specs.declared.fault.FaultKind.{FaultKind}
 use Rattle.ics_components.specs.declared.fault.FaultKind.TheVariants as kind
+use Rattle.ics_components.specs.declared.frame.Frame.{Frame}
 use Rattle.ics_components.specs.declared.name.Name.{Name}
 use Rattle.ics_components.specs.declared.name.Name.TheVariants as name
 use Rattle.ics_components.specs.Faults.{event_reading, observance_reading}
 use Rattle.ics_components.specs.Lines.{misread, unfit, event_has, observance_has, least_fault, outside_fault, end_fault, line_fault, is_mark}
+use Rattle.ics_components.specs.Lines.{builder_note, builder_zone, fault_on, behind, passing}
+use Rattle.ics_components.specs.Gathered.{and_passed}
+use Rattle.ics_components.specs.GatheredSeen.{GatheredSeen}
+use Rattle.ics_components.specs.Pass.{is_lowest}
 use Rattle.ics_components.specs.Values.{is_filled, ends_badly}
 
 -- what stands behind several kinds stands behind the last of them
@@ -70,6 +75,33 @@ pub unmatched_end : (b : Builder) → end_fault false b ≡ Some kind.BadNesting
 unfolding least_fault
 unmatched_end builder.Calendar = refl
 unmatched_end _ = refl
+
+-- A LINE THAT IS NOT READ has no fault in a component, and nothing is kept of it.
+other_fault : (v : Parts) (b : Builder) → line_fault name.Other v b ≡ None
+unfolding least_fault
+other_fault v builder.Calendar = refl
+other_fault v _ = refl
+
+other_note : (v : Parts) (b : Builder) → builder_note name.Other v b ≡ b
+other_note v builder.Calendar = refl
+other_note v _ = refl
+
+other_zone : (k : ℕ) (v : Parts) (b : Builder) → builder_zone k name.Other v b ≡ None
+other_zone k v builder.Calendar = refl
+other_zone k v _ = refl
+
+abbrev IsPassed : ℕ → Parts → List Frame → Name → Type 0
+IsPassed number v frames n =
+    (fault_on n v frames ≡ None) × (frames ≡ behind number n v frames) × ((had : GatheredSeen) → had ≡ and_passed number (passing n v frames) had)
+
+other_passed : (number : ℕ) (v : Parts) (frames : List Frame) → is_lowest frames ≡ false → IsPassed number v frames name.Other
+other_passed number v [] i = cc
+other_passed number v (f ∷ []) i = cc
+other_passed number v (f ∷ g ∷ gs) i =
+    (other_fault v f.builder, rw (other_note v f.builder) refl, λ had. rw (other_zone f.calendar v f.builder) (simp append-nil))
+
+pub other_line : (number : ℕ) (v : Parts) (frames : List Frame) (n : Name) → is_lowest frames ≡ false → name.Other ≡ n → IsPassed number v frames n
+other_line number v frames n i e = subst (IsPassed number v frames) e (other_passed number v frames i)
 
 -- OUTSIDE ALL COMPONENTS only a calendar begins.
 pub outside_line : (n : Name) (v : Parts) → is_mark n ≡ false → outside_fault n v ≡ Some kind.NotCalendar

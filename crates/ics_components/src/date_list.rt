@@ -4,12 +4,12 @@ ghost use Rattle.std.specs.List.{list_any};
 ghost use Rattle.ics_components.specs.DateValues.{has_zoned, list_of, local_in, values_of};
 ghost use Rattle.ics_components.specs.Faults as reading;
 ghost use Rattle.ics_components.specs.Lines.{Gives, misread};
-ghost use Rattle.ics_components.specs.SecondRound.{list_zone};
+ghost use Rattle.ics_components.specs.SecondRound.{list_zone, zone_check};
 ghost use Rattle.ics_components.specs.Values.{zone_name};
 
 use crate::date_values::Listing;
 use crate::dated::zone_name;
-use crate::deferred_check::ZoneName;
+use crate::deferred_check::{DeferredCheck, ZoneName};
 use crate::refused::Refused;
 use crate::tzid::{Tzid, Tzids};
 use ics_text::Content;
@@ -110,13 +110,14 @@ impl DateList {
         Ok(DateList { values, zone })
     }
 
-    /// The time zone of the stamps, which is to be known.
-    pub(crate) fn used_zone(&self, calendar: u64) -> Result<Option<ZoneName>, AllocError>
-        ensures { IfOk result (λ zone. zone ≡ list_zone calendar self.now) }
+    /// The check that the time zone of the stamps is known, if they have one (RFC 5545, section 3.2.19).
+    pub(crate) fn check(&self, calendar: u64) -> Result<Option<DeferredCheck>, AllocError>
+        ensures { IfOk result (λ check. check ≡ zone_check (list_zone calendar self.now)) }
     {
         if !self.values.have_zoned() {
             return Ok(None);
         }
-        Ok(Some(ZoneName::shared(calendar, &self.zone)?))
+        let name = ZoneName::shared(calendar, &self.zone)?;
+        Ok(Some(DeferredCheck::Zone(name)))
     }
 }

@@ -4,10 +4,10 @@ ghost use Rattle.ics_values.specs.Stamps.{stamp_of};
 ghost use Rattle.ics_components.specs.Faults.{Stamped};
 ghost use Rattle.ics_components.specs.Lines.{Gives, stamp_judged, misread, unfit};
 ghost use Rattle.ics_components.specs.Observances.{onset_in};
-ghost use Rattle.ics_components.specs.SecondRound.{dated_zone, instant_in};
+ghost use Rattle.ics_components.specs.SecondRound.{dated_zone, instant_in, zone_check};
 ghost use Rattle.ics_components.specs.Values.{dated_of, stamp_read, tzid, zone_name};
 
-use crate::deferred_check::{Instant, ZoneName};
+use crate::deferred_check::{DeferredCheck, Instant, ZoneName};
 use crate::fault::FaultKind;
 use crate::refused::Refused;
 use crate::tzid::{Tzid, Tzids};
@@ -74,14 +74,15 @@ impl Dated {
         Ok(Dated { stamp, zone })
     }
 
-    /// The time zone of the stamp, if it has one, which is to be known.
-    pub(crate) fn used_zone(&self, calendar: u64) -> Result<Option<ZoneName>, AllocError>
-        ensures { IfOk result (λ zone. zone ≡ dated_zone calendar self.now) }
+    /// The check that the time zone of the stamp is known, if it has one (RFC 5545, section 3.2.19).
+    pub(crate) fn check(&self, calendar: u64) -> Result<Option<DeferredCheck>, AllocError>
+        ensures { IfOk result (λ check. check ≡ zone_check (dated_zone calendar self.now)) }
     {
         if !is_zoned(self.stamp) {
             return Ok(None);
         }
-        Ok(Some(ZoneName::shared(calendar, &self.zone)?))
+        let name = ZoneName::shared(calendar, &self.zone)?;
+        Ok(Some(DeferredCheck::Zone(name)))
     }
 
     /// The name that its TZID gives.

@@ -7,11 +7,11 @@ ghost use Rattle.ics_components.specs.Builders.{collected_of, event_ended};
 ghost use Rattle.ics_components.specs.GivenTimes.{dated_in};
 ghost use Rattle.ics_components.specs.Lines.{Gives, Notes, is_mark, line_fault, end_fault, passed};
 ghost use Rattle.ics_components.specs.Lines.{event_has, event_property, with_property, event_note, event_zone};
-ghost use Rattle.ics_components.specs.SecondRound.{ends_in};
+ghost use Rattle.ics_components.specs.SecondRound.{ends_in, zone_check};
 
 use crate::date_list::DateLists;
 use crate::dated::Dated;
-use crate::deferred_check::{DeferredCheck, ZoneName};
+use crate::deferred_check::DeferredCheck;
 use crate::ends::{ends_badly, ends_in};
 use crate::fault::FaultKind;
 use crate::gathered::{Ended, EndedEvent, GivenLength, Passed};
@@ -139,7 +139,7 @@ impl EventBuilder {
         Ok(())
     }
 
-    /// One line more of an event in that calendar, and the time zone of its stamps, if they have one.
+    /// One line more of an event in that calendar, and the check that it leaves to the second round, if there is one.
     #[tactic(auto, unfolding(crate::specs::Lines::least_fault))]
     pub fn line(
         &mut self,
@@ -148,22 +148,18 @@ impl EventBuilder {
         calendar: u64,
         name: Name,
         content: &Content<'_>,
-    ) -> Result<Option<ZoneName>, Refused>
+    ) -> Result<Option<DeferredCheck>, Refused>
         requires { is_mark name ≡ false }
         ensures { Notes result self.new (line_fault name content.now (Event self.old)) (event_note name content.now self.old)
-            (event_zone calendar name content.now) }
+            (zone_check (event_zone calendar name content.now)) }
     {
-        // most lines of long files are of properties that are not read
-        if let Name::Other = name {
-            return Ok(None);
-        }
         let property = self.property(alloc, tzids, name, content)?;
-        let zone = property.used_zone(calendar)?;
+        let check = property.check(calendar)?;
         if let Err(error) = self.keep(property) {
-            drop(zone);
+            drop(check);
             return Err(Refused::from(error));
         }
-        Ok(zone)
+        Ok(check)
     }
 
     /// Takes the UID and the start of the event, and the check of its end, if no fault stands on its END.

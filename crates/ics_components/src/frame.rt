@@ -1,12 +1,15 @@
 //! A component that is open.
-ghost use Rattle.std.specs.Prelude.{◌≡◌, false};
-ghost use Rattle.ics_components.specs.Lines.{Notes, is_mark, line_fault, end_fault, is_of, joined, passed, ended_as, end_check, builder_note, builder_zone};
+ghost use Rattle.std.specs.Prelude.{◌≡◌, false, IfOk};
+ghost use Rattle.ics_components.specs.declared.gathered.Ended.TheVariants.{Nothing};
+ghost use Rattle.ics_components.specs.Gathered.{and_passed};
+ghost use Rattle.ics_components.specs.SecondRound.{zone_check};
+ghost use Rattle.ics_components.specs.Lines.{Keeps, Notes, is_mark, line_fault, end_fault, is_of, joined, passed, ended_as, end_check};
+ghost use Rattle.ics_components.specs.Lines.{builder_note, builder_zone};
 
 use crate::builder::Builder;
 use crate::component::Component;
-use crate::deferred_check::ZoneName;
 use crate::fault::FaultKind;
-use crate::gathered::Passed;
+use crate::gathered::{Gathered, Passed};
 use crate::name::Name;
 use crate::refused::Refused;
 use crate::tzid::Tzids;
@@ -23,37 +26,42 @@ pub struct Frame {
 }
 
 impl Frame {
-    /// One line more that begins and ends no component, and the time zone that is to be known for it.
+    /// One line more that begins and ends no component. The check that it leaves to the second round is added with the number of the line.
+    ///
+    /// A check takes much room, so this stands apart from `Stack::line`, which passes without it what is not read.
+    #[inline(never)]
     #[tactic(auto, unfolding(crate::specs::Lines::least_fault))]
     pub fn line(
         &mut self,
         alloc: Global,
         tzids: &mut Tzids,
+        gathered: &mut Gathered,
+        number: u64,
         name: Name,
         content: &Content<'_>,
-    ) -> Result<Option<ZoneName>, Refused>
+    ) -> Result<(), Refused>
         requires { is_mark name ≡ false }
-        ensures { Notes result self.new (line_fault name content.now self.old.builder)
-            (record self.old { builder = builder_note name content.now self.old.builder })
-            (builder_zone self.old.calendar name content.now self.old.builder) }
+        ensures noted { Keeps result self.new (line_fault name content.now self.old.builder)
+            (record self.old { builder = builder_note name content.now self.old.builder }) }
+        ensures gathered { IfOk result (λ _. gathered.new
+            ≡ and_passed number (passed Nothing (zone_check (builder_zone self.old.calendar name content.now self.old.builder))) gathered.old) }
     {
         match &mut self.builder {
             Builder::Calendar => match name {
                 Name::Version if content.value() == b"1.0".as_slice() => {
                     Err(Refused::Fault(FaultKind::OldVersion))
                 }
-                _ => Ok(None),
+                _ => Ok(()),
             },
-            Builder::Event(had) => had.line(alloc, tzids, self.calendar, name, content),
-            Builder::Zone(had) => {
-                had.line(alloc, tzids, name, content)?;
-                Ok(None)
+            Builder::Event(had) => {
+                if let Some(check) = had.line(alloc, tzids, self.calendar, name, content)? {
+                    gathered.check(number, check)?;
+                }
+                Ok(())
             }
-            Builder::Observance(had) => {
-                had.line(alloc, name, content)?;
-                Ok(None)
-            }
-            Builder::Elsewhere => Ok(None),
+            Builder::Zone(had) => had.line(alloc, tzids, name, content),
+            Builder::Observance(had) => had.line(alloc, name, content),
+            Builder::Elsewhere => Ok(()),
         }
     }
 

@@ -1,8 +1,7 @@
 //! What is gathered of a file, before its time zones and its events are made of it.
-ghost use Rattle.std.specs.Prelude.{◌≡◌, IfOk, None};
+ghost use Rattle.std.specs.Prelude.{◌≡◌, IfOk, None, Some};
 ghost use Rattle.ics_components.specs.Gathered.{and_ended, and_passed};
 ghost use Rattle.ics_components.specs.Lines.{passed};
-ghost use Rattle.ics_components.specs.SecondRound.{zone_check};
 ghost use Rattle.ics_components.specs.declared.gathered.Ended.TheVariants.{Nothing};
 
 use crate::date_list::DateLists;
@@ -111,24 +110,12 @@ impl Gathered {
         Ok(())
     }
 
-    /// Adds the check of the line with that number, if there is one.
-    fn check(&mut self, line: u64, check: Option<DeferredCheck>) -> Result<(), AllocError>
-        ensures { IfOk result (λ _. self.new ≡ and_passed line (passed Nothing check) self.old) }
+    /// Adds the check of the line with that number.
+    pub(crate) fn check(&mut self, line: u64, check: DeferredCheck) -> Result<(), AllocError>
+        ensures { IfOk result (λ _. self.new ≡ and_passed line (passed Nothing (Some check)) self.old) }
     {
-        if let Some(check) = check {
-            self.checks.push(LineCheck { line, check })?;
-        }
+        self.checks.push(LineCheck { line, check })?;
         Ok(())
-    }
-
-    /// Adds that the time zone on the line with that number is to be known, if there is one.
-    pub(crate) fn zone(&mut self, number: u64, zone: Option<ZoneName>) -> Result<(), AllocError>
-        ensures { IfOk result (λ _. self.new ≡ and_passed number (passed Nothing (zone_check zone)) self.old) }
-    {
-        match zone {
-            Some(zone) => self.check(number, Some(DeferredCheck::Zone(zone))),
-            None => Ok(()),
-        }
     }
 
     /// Adds what is gathered on the line with that number.
@@ -140,6 +127,9 @@ impl Gathered {
             drop(check);
             return Err(error);
         }
-        self.check(number, check)
+        match check {
+            Some(check) => self.check(number, check),
+            None => Ok(()),
+        }
     }
 }

@@ -3,12 +3,13 @@ ghost use Rattle.std.specs.Prelude.{◌≡◌, IfOk};
 ghost use Rattle.ics_values.specs.Integers.{integer_of};
 ghost use Rattle.ics_components.specs.Faults.{event_reading, Number};
 ghost use Rattle.ics_components.specs.Lines.{Gives, misread, event_property, property_zone};
+ghost use Rattle.ics_components.specs.SecondRound.{zone_check};
 ghost use Rattle.ics_components.specs.Values.{ok_or_zero};
 
 use crate::date_list::DateList;
 use crate::date_values::Listing;
 use crate::dated::Dated;
-use crate::deferred_check::ZoneName;
+use crate::deferred_check::DeferredCheck;
 use crate::ends::lasting;
 use crate::fault::FaultKind;
 use crate::name::Name;
@@ -83,15 +84,15 @@ impl Property {
         })
     }
 
-    /// The time zone of its stamps in that calendar, which is to be known, if they have one.
-    pub fn used_zone(&self, calendar: u64) -> Result<Option<ZoneName>, AllocError>
-        ensures { IfOk result (λ zone. zone ≡ property_zone calendar self.now) }
+    /// The check that the time zone of its stamps is known in that calendar, if they have one.
+    pub fn check(&self, calendar: u64) -> Result<Option<DeferredCheck>, AllocError>
+        ensures { IfOk result (λ check. check ≡ zone_check (property_zone calendar self.now)) }
     {
         match self {
             Property::Start(dated) | Property::End(dated) | Property::Recurrence(dated) => {
-                dated.used_zone(calendar)
+                dated.check(calendar)
             }
-            Property::Rdates(list) | Property::Exdates(list) => list.used_zone(calendar),
+            Property::Rdates(list) | Property::Exdates(list) => list.check(calendar),
             _ => Ok(None),
         }
     }

@@ -135,10 +135,11 @@ impl Stack {
             Name::Begin => self.begin(alloc, number, content),
             Name::End => self.end(alloc, gathered, number, content),
             _ if self.is_lowest() => Err(Refused::Fault(FaultKind::NotCalendar)),
+            // most lines of long files are of properties that are not read
+            Name::Other => Ok(()),
             name => {
-                let zone = self.top.line(alloc, &mut self.tzids, name, content)?;
-                gathered.zone(number, zone)?;
-                Ok(())
+                let tzids = &mut self.tzids;
+                self.top.line(alloc, tzids, gathered, number, name, content)
             }
         }
     }
