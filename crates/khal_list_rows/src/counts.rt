@@ -3,7 +3,7 @@
 use crate::narrow::Narrow;
 use crate::requests::yes_no;
 use crate::rules::print_bounds;
-use crate::runs::{outcome, request};
+use crate::runs::{Written, outcome, print_fault, request};
 use ics_calendar::read_file;
 use ics_series::{Agenda, Feed, Folder};
 use khal_list::{MOST_BYTES, MemorySource, NoZones, Request, print};
@@ -16,16 +16,20 @@ pub fn entries(rt: HostRuntime, source: &MemorySource, line: &str, now: i64) -> 
     let (most_held, line) = line.split_once(' ').unwrap_or((line, ""));
     let (least, line) = line.split_once(' ').unwrap_or((line, ""));
     let (most, words) = line.split_once(' ').unwrap_or((line, ""));
-    let request = match request(rt.alloc(), words, now) {
-        Ok(request) => request,
-        Err(fault) => return println!(rt; "[{}]", fault.name()),
+    let drawn = match request(rt.alloc(), words, now) {
+        Ok(request) => {
+            let drawn = Drawn::of(rt.alloc(), source, &request);
+            drop(request);
+            drawn?
+        }
+        Err(fault) => return print_fault(rt, fault),
     };
-    let folder = folder_of(rt.alloc(), source, &request)?;
-    let mut agenda = folder.agenda(request.window, request.after.as_ref())?;
-    let (count, held) = drawn(&mut agenda, request.limit.unwrap_or(u32::MAX))?;
-    let is_within = yes_no(held <= most_held.parse().unwrap_or(0));
-    println!(rt; "{count} entries, at most {most_held} held: {is_within}")?;
-    print_bounds(rt, agenda.steps(), &[least, most])
+    let is_within = yes_no(drawn.held <= most_held.parse().unwrap_or(0));
+    println!(rt;
+        "{} entries, at most {most_held} held: {is_within}",
+        drawn.count
+    )?;
+    print_bounds(rt, drawn.steps, &[least, most])
 }
 
 /// Prints an agenda of some words to an output that takes no byte, and whether so many periods were
@@ -33,17 +37,32 @@ pub fn entries(rt: HostRuntime, source: &MemorySource, line: &str, now: i64) -> 
 pub fn print_none(rt: HostRuntime, source: &MemorySource, line: &str, now: i64) -> io::Result<()> {
     let (least, line) = line.split_once(' ').unwrap_or((line, ""));
     let (most, words) = line.split_once(' ').unwrap_or((line, ""));
-    let Ok(request) = request(rt.alloc(), words, now) else {
-        return println!(rt; "no request");
+    let (said, steps) = match request(rt.alloc(), words, now) {
+        Ok(request) => {
+            let came = printed(rt.alloc(), source, &request);
+            drop(request);
+            came?
+        }
+        Err(fault) => return print_fault(rt, fault),
     };
-    let folder = folder_of(rt.alloc(), source, &request)?;
+    println!(rt; "[{said}]")?;
+    print_bounds(rt, steps, &[least, most])
+}
+
+/// What comes of an agenda that is printed to an output that takes no byte, and how many periods were looked at.
+fn printed(
+    alloc: Global,
+    source: &MemorySource,
+    request: &Request,
+) -> Result<(&'static str, u64), AllocError> {
+    let folder = folder_of(alloc, source, request)?;
     let mut agenda = folder.agenda(request.window, request.after.as_ref())?;
-    let mut out = Narrow::new(rt.alloc(), 0, false);
-    match print(rt.alloc(), &mut agenda, &request, &mut out) {
-        Ok(_) => println!(rt; "[0]")?,
-        Err(fault) => println!(rt; "[{}]", fault.name())?,
-    }
-    print_bounds(rt, agenda.steps(), &[least, most])
+    let mut out = Narrow::new(alloc, 0, false);
+    let said = match print(alloc, &mut agenda, request, &mut out) {
+        Ok(_) => "0",
+        Err(fault) => fault.name(),
+    };
+    Ok((said, agenda.steps()))
 }
 
 /// The events of the files that are accepted.
@@ -63,17 +82,40 @@ fn folder_of(
     Folder::new(alloc, files, request.zone)
 }
 
-/// How many occurrences an agenda gives, up to a limit, and the most that it holds on the way.
-fn drawn(agenda: &mut Agenda<'_>, limit: u32) -> Result<(u32, usize), AllocError> {
-    let mut held = agenda.held();
-    for count in 0..limit {
-        let next = agenda.next()?;
-        held = held.max(agenda.held());
-        if next.is_none() {
-            return Ok((count, held));
-        }
+/// How many occurrences an agenda gives, the most that it holds on the way, and how many periods were looked at.
+#[derive(Clone, Copy)]
+struct Drawn {
+    count: u32,
+    held: usize,
+    steps: u64,
+}
+
+impl Drawn {
+    /// Of the agenda of a request, up to its limit.
+    fn of(alloc: Global, source: &MemorySource, request: &Request) -> Result<Drawn, AllocError> {
+        let folder = folder_of(alloc, source, request)?;
+        let mut agenda = folder.agenda(request.window, request.after.as_ref())?;
+        Drawn::by(&mut agenda, request.limit.unwrap_or(u32::MAX))
     }
-    Ok((limit, held))
+
+    /// Of an agenda, up to a limit.
+    fn by(agenda: &mut Agenda<'_>, limit: u32) -> Result<Drawn, AllocError> {
+        let mut drawn = Drawn {
+            count: limit,
+            held: agenda.held(),
+            steps: 0,
+        };
+        for count in 0..limit {
+            let is_end = agenda.next()?.is_none();
+            drawn.held = drawn.held.max(agenda.held());
+            if is_end {
+                drawn.count = count;
+                break;
+            }
+        }
+        drawn.steps = agenda.steps();
+        Ok(drawn)
+    }
 }
 
 /// Prints how many entries words list, in how many pages of a limit, each from the token of the one
@@ -111,9 +153,20 @@ fn page(
     let Ok(request) = request(alloc, words, now) else {
         return Ok(None);
     };
-    let Ok(written) = outcome(alloc, source, &mut NoZones, &request) else {
-        return Ok(None);
-    };
+    let written = outcome(alloc, source, &mut NoZones, &request);
+    drop(request);
+    match written {
+        Ok(written) => taken(alloc, &written, entries),
+        Err(_) => Ok(None),
+    }
+}
+
+/// Adds the entries of what was written, and answers its token.
+fn taken(
+    alloc: Global,
+    written: &Written,
+    entries: &mut String,
+) -> Result<Option<String>, AllocError> {
     for line in written.out.as_str().lines() {
         if line != "#" {
             entries.push_str(line)?;

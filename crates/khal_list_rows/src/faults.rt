@@ -40,23 +40,40 @@ impl Tried {
         words: &str,
         now: i64,
     ) -> io::Result<()> {
-        let Ok(request) = request(rt.alloc(), words, now) else {
-            return Ok(());
-        };
-        let Ok(whole) = outcome(rt.alloc(), source, zones, &request) else {
-            return Ok(());
-        };
-        for index in 0..source.files.len() {
-            if !lists_without(rt.alloc(), source, zones, &request, index)? {
-                println!(rt; "read {index} departs")?;
+        match request(rt.alloc(), words, now) {
+            Ok(request) => self.run_request(rt, source, zones, &request),
+            Err(fault) => {
+                drop(fault);
+                Ok(())
             }
         }
-        ends_early(rt, source, zones, &request, &whole)?;
+    }
+
+    /// The same of their request.
+    fn run_request(
+        &mut self,
+        rt: HostRuntime,
+        source: &mut MemorySource,
+        zones: &mut MemoryZones,
+        request: &Request,
+    ) -> io::Result<()> {
+        match outcome(rt.alloc(), source, zones, request) {
+            Ok(whole) => {
+                depart(rt, source, zones, request)?;
+                ends_early(rt, source, zones, request, &whole)?;
+                self.count(source, &whole);
+                Ok(())
+            }
+            Err(_) => Ok(()),
+        }
+    }
+
+    /// Counts a run.
+    fn count(&mut self, source: &MemorySource, whole: &Written) {
         self.runs = self.runs.saturating_add(1);
         self.reads = self.reads.saturating_add(source.files.len());
         self.out = self.out.saturating_add(whole.out.len());
         self.err = self.err.saturating_add(whole.err.len());
-        Ok(())
     }
 
     /// Prints how many these were.
@@ -66,6 +83,21 @@ impl Tried {
             self.runs, self.reads, self.out, self.err
         )
     }
+}
+
+/// Prints the files for which a run that does not read them is not as it must be.
+fn depart(
+    rt: HostRuntime,
+    source: &mut MemorySource,
+    zones: &mut MemoryZones,
+    request: &Request,
+) -> io::Result<()> {
+    for index in 0..source.files.len() {
+        if !lists_without(rt.alloc(), source, zones, request, index)? {
+            println!(rt; "read {index} departs")?;
+        }
+    }
+    Ok(())
 }
 
 /// Whether a run that does not read one of the files lists as one in which that file is refused, and

@@ -1,8 +1,8 @@
 //! Runs whose outputs take few bytes.
 
 use crate::row::shown_bytes;
-use crate::runs::request;
-use khal_list::{MemorySource, NoZones, Sink, SinkFault, run};
+use crate::runs::{print_fault, request};
+use khal_list::{MemorySource, NoZones, Request, Sink, SinkFault, run};
 use std::alloc::Global;
 use std::io;
 
@@ -66,23 +66,36 @@ pub fn run_narrow(
     is_err: bool,
 ) -> io::Result<()> {
     let (room, words) = line.split_once(' ').unwrap_or((line, ""));
-    let Ok(request) = request(rt.alloc(), words, now) else {
-        return Ok(());
-    };
-    let room = room.parse().unwrap_or(0);
+    match request(rt.alloc(), words, now) {
+        Ok(request) => print_narrow(rt, source, &request, room.parse().unwrap_or(0), is_err),
+        Err(fault) => print_fault(rt, fault),
+    }
+}
+
+/// The same of their request.
+fn print_narrow(
+    rt: HostRuntime,
+    source: &mut MemorySource,
+    request: &Request,
+    room: usize,
+    is_err: bool,
+) -> io::Result<()> {
     let mut out = Narrow::new(rt.alloc(), if is_err { 1_000 } else { room }, false);
     let mut err = Narrow::new(rt.alloc(), if is_err { room } else { 1_000 }, false);
     match run(
         rt.alloc(),
         source,
         &mut NoZones,
-        &request,
+        request,
         &mut out,
         &mut err,
     ) {
         Ok(status) => println!(rt; "[{}]", status.code())?,
         Err(fault) => println!(rt; "[{}]", fault.name())?,
     }
-    println!(rt; "out: {}", shown_bytes(out.bytes.as_slice()))?;
-    println!(rt; "err: {}", shown_bytes(err.bytes.as_slice()))
+    println!(rt;
+        "out: {}\nerr: {}",
+        shown_bytes(out.bytes.as_slice()),
+        shown_bytes(err.bytes.as_slice())
+    )
 }

@@ -1,6 +1,6 @@
 //! The requests of words.
 
-use crate::runs::request;
+use crate::runs::{print_fault, request};
 use crate::shown::moment_text;
 use ics_series::{DayToken, Token};
 use khal_list::{Request, RequestFault};
@@ -11,20 +11,25 @@ use std::io;
 pub fn show_request(rt: HostRuntime, words: &str, now: i64) -> io::Result<()> {
     match request(rt.alloc(), words, now) {
         Ok(request) => rt.println(request_text(rt.alloc(), &request)?),
-        Err(fault) => println!(rt; "[{}]", fault.name()),
+        Err(fault) => print_fault(rt, fault),
     }
 }
 
 /// The window as instants in UTC, the folder, and what else is set.
 fn request_text(alloc: Global, request: &Request) -> Result<String, AllocError> {
-    let window = request.window;
-    let from = moment_text(alloc, window.from)?;
-    let to = moment_text(alloc, window.to)?;
+    let from = moment_text(alloc, request.window.from)?;
+    let to = moment_text(alloc, request.window.to)?;
     let mut text = format!(in alloc; "{from} to {to} of {}", request.folder())?;
+    add_set(alloc, request, &mut text)?;
+    Ok(text)
+}
+
+/// Adds what else is set.
+fn add_set(alloc: Global, request: &Request, text: &mut String) -> Result<(), AllocError> {
     if let Some(zones) = request.zones() {
         write!(text, ", zones of {zones}")?;
     }
-    if window.notstarted {
+    if request.window.notstarted {
         text.push_str(", not started")?;
     }
     if let Some(limit) = request.limit {
@@ -39,7 +44,7 @@ fn request_text(alloc: Global, request: &Request) -> Result<String, AllocError> 
             write!(text, ", after {}", DayToken::write(alloc, key)?)?;
         }
     }
-    Ok(text)
+    Ok(())
 }
 
 /// Prints whether the text that clap gives for some words has a part: `usage PART of WORDS`.

@@ -6,7 +6,7 @@ use khal_list::{
     FolderSource, FolderZones, MemorySink, MemorySource, NoZones, Request, RequestFault, RunFault,
     Source, Status, Stream, ZoneSource, run,
 };
-use std::alloc::Global;
+use std::alloc::{AllocError, Global};
 use std::io;
 
 /// What a run wrote, and its status.
@@ -48,13 +48,21 @@ pub fn run_over<S: Source, Z: ZoneSource>(
     words: &str,
     now: i64,
 ) -> io::Result<()> {
-    match request(rt.alloc(), words, now) {
-        Ok(request) => match outcome(rt.alloc(), source, zones, &request) {
-            Ok(written) => print_written(rt, &written),
-            Err(fault) => println!(rt; "[{}]", fault.name()),
-        },
+    let request = match request(rt.alloc(), words, now) {
+        Ok(request) => request,
+        Err(fault) => return print_fault(rt, fault),
+    };
+    let written = outcome(rt.alloc(), source, zones, &request);
+    drop(request);
+    match written {
+        Ok(written) => print_written(rt, &written),
         Err(fault) => println!(rt; "[{}]", fault.name()),
     }
+}
+
+/// Prints the fault of words in brackets.
+pub fn print_fault(rt: HostRuntime, fault: RequestFault) -> io::Result<()> {
+    println!(rt; "[{}]", fault.name())
 }
 
 fn print_written(rt: HostRuntime, written: &Written) -> io::Result<()> {
@@ -65,34 +73,42 @@ fn print_written(rt: HostRuntime, written: &Written) -> io::Result<()> {
 
 /// Runs words over the folder on disk that they name, and the folder of zone files.
 pub fn run_disk(rt: HostRuntime, words: &str, now: i64) -> io::Result<()> {
-    match request(rt.alloc(), words, now) {
-        Ok(request) => {
-            let path = String::from_str(rt.alloc(), request.folder())?;
-            match FolderSource::open(rt, path) {
-                Ok(mut source) => {
-                    let zones = match request.zones() {
-                        Some(zones) => Some(String::from_str(rt.alloc(), zones)?),
-                        None => None,
-                    };
-                    let mut zones = FolderZones::below(rt, zones);
-                    run_over(rt, &mut source, &mut zones, words, now)
-                }
-                Err(_) => println!(rt; "[not listed]"),
-            }
+    let (path, zones) = match request(rt.alloc(), words, now) {
+        Ok(request) => folders_of(rt.alloc(), &request)?,
+        Err(fault) => return print_fault(rt, fault),
+    };
+    match FolderSource::open(rt, path) {
+        Ok(mut source) => {
+            let mut zones = FolderZones::below(rt, zones);
+            run_over(rt, &mut source, &mut zones, words, now)
         }
-        Err(fault) => println!(rt; "[{}]", fault.name()),
+        Err(_) => println!(rt; "[not listed]"),
+    }
+}
+
+/// The folder that a request names, and that of its zone files.
+fn folders_of(alloc: Global, request: &Request) -> Result<(String, Option<String>), AllocError> {
+    let path = String::from_str(alloc, request.folder())?;
+    match request.zones() {
+        Some(zones) => Ok((path, Some(String::from_str(alloc, zones)?))),
+        None => Ok((path, None)),
     }
 }
 
 /// Prints how the last file is refused, or that it is not, where it is cut after each of its bytes, from
 /// the last on: a line for each size down from which that is the same.
 pub fn cuts(rt: HostRuntime, source: &mut MemorySource, words: &str, now: i64) -> io::Result<()> {
-    let Ok(request) = request(rt.alloc(), words, now) else {
-        return Ok(());
-    };
+    match request(rt.alloc(), words, now) {
+        Ok(request) => print_cuts(rt, source, &request),
+        Err(fault) => print_fault(rt, fault),
+    }
+}
+
+/// The same of their request.
+fn print_cuts(rt: HostRuntime, source: &mut MemorySource, request: &Request) -> io::Result<()> {
     let mut before = String::from_str(rt.alloc(), "not run")?;
     for _ in 0..1_000 {
-        let Ok(written) = outcome(rt.alloc(), source, &mut NoZones, &request) else {
+        let Ok(written) = outcome(rt.alloc(), source, &mut NoZones, request) else {
             break;
         };
         let Some(file) = source.files.last_mut() else {
