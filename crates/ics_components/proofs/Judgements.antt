@@ -77,18 +77,11 @@ unmatched_end builder.Calendar = refl
 unmatched_end _ = refl
 
 -- A LINE THAT IS NOT READ has no fault in a component, and nothing is kept of it.
-other_fault : (v : Parts) (b : Builder) → line_fault name.Other v b ≡ None
+other_in : (v : Parts) (b : Builder) →
+    (line_fault name.Other v b ≡ None) × (builder_note name.Other v b ≡ b) × ((k : ℕ) → builder_zone k name.Other v b ≡ None)
 unfolding least_fault
-other_fault v builder.Calendar = refl
-other_fault v _ = refl
-
-other_note : (v : Parts) (b : Builder) → builder_note name.Other v b ≡ b
-other_note v builder.Calendar = refl
-other_note v _ = refl
-
-other_zone : (k : ℕ) (v : Parts) (b : Builder) → builder_zone k name.Other v b ≡ None
-other_zone k v builder.Calendar = refl
-other_zone k v _ = refl
+other_in v builder.Calendar = (refl, refl, λ k. refl)
+other_in v _ = (refl, refl, λ k. refl)
 
 abbrev IsPassed : ℕ → Parts → List Frame → Name → Type 0
 IsPassed number v frames n =
@@ -98,7 +91,7 @@ other_passed : (number : ℕ) (v : Parts) (frames : List Frame) → is_lowest fr
 other_passed number v [] i = cc
 other_passed number v (f ∷ []) i = cc
 other_passed number v (f ∷ g ∷ gs) i =
-    (other_fault v f.builder, rw (other_note v f.builder) refl, λ had. rw (other_zone f.calendar v f.builder) (simp append-nil))
+    let other = other_in v f.builder in (other.0, rw (other.1) refl, λ had. rw (other.2 f.calendar) (simp append-nil))
 
 pub other_line : (number : ℕ) (v : Parts) (frames : List Frame) (n : Name) → is_lowest frames ≡ false → name.Other ≡ n → IsPassed number v frames n
 other_line number v frames n i e = subst (IsPassed number v frames) e (other_passed number v frames i)
