@@ -72,6 +72,7 @@ impl FirstRound {
 /// The fault is the one on the least line and, if that has several, of the least kind; the faults of zones and of instants are left to the deferred
 /// checks. What is gathered is sound: its stamps are in the years 0001 to 9899, each of its time zones has an observance, no rule of which is finer than
 /// daily, and a check is deferred for each time zone that a stamp of an event names. `Memory` if an allocation fails.
+#[inline(never)]
 pub fn gather(alloc: Global, bytes: &[u8]) -> Result<Gathered, FileFault>
     requires { length bytes.now ≤ 16_777_216 }
     ensures gathered { Says (λ gathered. gathered) result (gathered_of bytes.now) }
