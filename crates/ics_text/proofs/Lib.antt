@@ -1,5 +1,6 @@
 pub mod Cuts
 pub mod Joins
+pub mod Walks
 pub mod Spelled
 pub mod Parting
 pub mod Rising

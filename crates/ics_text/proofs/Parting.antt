@@ -1,47 +1,14 @@
--- The walk to the colon of a content line, its parts as slices, and that they are what its grammar relates.
-use Rattle.std.proofs.Common.{◌≡◌, ℕ, suc, ◌+◌, ◌<◌, Bool, true, false, List, [], ◌∷◌, drop, refl, ap, ◌∙◌, arith, Option, Some, None, one-add, ◌-◌}
+-- The parts of a content line as slices, and that they are what its grammar relates.
+use Rattle.std.proofs.Common.{◌≡◌, ℕ, ◌+◌, Bool, true, false, List, [], ◌∷◌, drop, refl, ap, ◌∙◌, arith, Option, Some, None, one-add, ◌-◌}
 use Rattle.std.proofs.Common.{◌++◌, length, take, sym, append_assoc, subst, length-append, inl, inr, option_map, ◌↔◌}
 use Rattle.std.specs.List.{prefix_len, list_all}
 use Rattle.ics_text.specs.Bytes.{is_name_byte}
-use Rattle.ics_text.specs.ScanSteps.{colon_from}
-use Rattle.ics_text.specs.declared.scan_state.ScanState.{ScanState}
-use Rattle.ics_text.specs.declared.scan_state.ScanState.TheVariants.{Start, InName}
+use Rattle.ics_text.specs.ScanSteps.{Start, colon_from}
 use Rattle.std.proofs.lemmas.Bool.{and_parts, cases_Bool}
 use Rattle.std.proofs.lemmas.List.{take_rest, drop-drop}
 use Rattle.std.proofs.Math.Seq.{take-append_seam, drop-append_seam}
 use Rattle.ics_text.specs.ContentLines.{Param, params_text, IsContent, Parts, cut_at, content_of}
 use Rattle.ics_text.proofs.Spelled.{Found, found, comes}
-
--- a walk from a place that has come to byte i
-abbrev pub walked : List ℕ → ScanState → ℕ → ScanState → Type 0
-walked text from i state = colon_from text from ≡ option_map (λ n. n + i) (colon_from (drop i text) state)
-
-moved_first : (i : ℕ) (o : Option ℕ) → option_map (λ n. n + 1) (option_map (λ n. n + i) o) ≡ option_map (λ n. n + suc i) o
-moved_first i None = refl
-moved_first i (Some n) = let e : n + i + 1 ≡ n + suc i = omega arith in ap Some e
-
-unmoved : (o : Option ℕ) → o ≡ option_map (λ n. n + 0) o
-unmoved None = refl
-unmoved (Some n) = let e : n ≡ n + 0 = omega arith in ap Some e
-
--- a walk within a name comes to its end
-to_end : (bs : List ℕ) → walked bs InName (prefix_len is_name_byte bs) InName
-to_end [] = refl
-to_end (b ∷ bs) = elim (cases_Bool (is_name_byte b)) [
-  | inl e ↦ rw (e, to_end bs, one-add (prefix_len is_name_byte bs))
-      (moved_first (prefix_len is_name_byte bs) (colon_from (drop (prefix_len is_name_byte bs) bs) InName))
-  | inr e ↦
-      let none : 0 ≡ prefix_len is_name_byte (b ∷ bs) = rw e refl in
-      subst (λ n. walked (b ∷ bs) InName n InName) none (unmoved (colon_from (b ∷ bs) InName))
-]
-
--- behind a name the walk is within it
-pub over_name : (line : List ℕ) → 0 < prefix_len is_name_byte line → walked line Start (prefix_len is_name_byte line) InName
-over_name [] some = absurd (omega arith)
-over_name (b ∷ bs) some = elim (cases_Bool (is_name_byte b)) [
-  | inl e ↦ rw e (rw e at (to_end (b ∷ bs)))
-  | inr e ↦ absurd (let none = rw e at some in omega (arith, none))
-]
 
 pub no_name : (line : List ℕ) → prefix_len is_name_byte line ≡ 0 → colon_from line Start ≡ None
 no_name [] none = refl

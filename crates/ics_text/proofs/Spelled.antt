@@ -5,11 +5,8 @@ use Rattle.std.specs.List.{flat_map, AllByRecursion, list_all}
 use Rattle.std.proofs.lemmas.Bool.{eqb-true, and_parts, true_from_ne_false}
 use Rattle.ics_text.specs.Bytes.{comma, is_name_byte, is_quoted_byte, is_plain_byte}
 use Rattle.ics_text.specs.ContentLines.{Value as Parameter, Param, value_text, params_text, IsName, IsValue, IsParam}
-use Rattle.ics_text.specs.ScanSteps.{step, counted, colon_from, ends_value, in_value}
-use Rattle.ics_text.specs.declared.scan_state.ScanState.{ScanState}
-use Rattle.ics_text.specs.declared.scan_state.ScanState.TheVariants.{Start, InName, BeforeParam, InParam, BeforeValue, InPlain, InQuotes, AfterQuotes}
-use Rattle.ics_text.specs.declared.scan_state.Move.{Move}
-use Rattle.ics_text.specs.declared.scan_state.Move.TheVariants.{On, Value, Refused}
+use Rattle.ics_text.specs.ScanSteps.{ScanState, Start, InName, BeforeParam, InParam, BeforeValue, InPlain, InQuotes, AfterQuotes}
+use Rattle.ics_text.specs.ScanSteps.{Move, On, Value, Refused, step, counted, colon_from, ends_value, in_value}
 use Rattle.ics_text.proofs.BytesLemmas.{quoted-no_quote, plain-no_sign}
 
 -- what may follow a value: more values, and then parameters

@@ -2,8 +2,7 @@
 use Rattle.std.specs.Prelude.{◌≡◌, ◌≢◌, ℕ, ◌+◌, ◌-◌, Bool, true, false, ◌&&◌, not, ◌==◌, List, [], ◌∷◌, ◌++◌, length, take, drop, Option, Some, None}
 use Rattle.std.specs.Prelude.{option_map, if◌then◌else◌}
 use Rattle.std.specs.List.{flat_map, AllByRecursion, list_all, take_while, prefix_len}
-use Rattle.ics_text.specs.ScanSteps.{colon_from}
-use Rattle.ics_text.specs.declared.scan_state.ScanState.TheVariants.{Start}
+use Rattle.ics_text.specs.ScanSteps.{Start, colon_from}
 use Rattle.ics_text.specs.Unfolded.{onto_first}
 use Rattle.ics_text.specs.Bytes.{dquote, comma, colon, semicolon, equals, is_name_byte, is_quoted_byte, is_plain_byte, same_name, begins}
 

@@ -1,10 +1,23 @@
 -- Which bytes may follow each other in a content line, read from the left (RFC 5545, section 3.1).
 use Rattle.std.specs.Prelude.{ℕ, ◌+◌, ◌==◌, List, [], ◌∷◌, Option, Some, None, option_map, if◌then◌else◌}
 use Rattle.ics_text.specs.Bytes.{dquote, comma, colon, semicolon, equals, is_name_byte, is_quoted_byte, is_plain_byte}
-use Rattle.ics_text.specs.declared.scan_state.ScanState.{ScanState}
-use Rattle.ics_text.specs.declared.scan_state.ScanState.TheVariants.{Start, InName, BeforeParam, InParam, BeforeValue, InPlain, InQuotes, AfterQuotes}
-use Rattle.ics_text.specs.declared.scan_state.Move.{Move}
-use Rattle.ics_text.specs.declared.scan_state.Move.TheVariants.{On, Value, Refused}
+
+-- A state of the scanner of a content line: what was read before the next byte.
+pub data ScanState : Type 0 where
+  Start : ScanState
+  InName : ScanState
+  BeforeParam : ScanState
+  InParam : ScanState
+  BeforeValue : ScanState
+  InPlain : ScanState
+  InQuotes : ScanState
+  AfterQuotes : ScanState
+
+-- What a byte does: it leads to the next state, it is the colon before the value, or it is not allowed.
+pub data Move : Type 0 where
+  On : ScanState → Move
+  Value : Move
+  Refused : Move
 
 -- after a value of a parameter: the byte ends it, or it is not allowed
 abbrev pub ends_value : ℕ → Move

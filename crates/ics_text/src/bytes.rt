@@ -2,6 +2,16 @@ ghost use Rattle.std.specs.Prelude.{◌≡◌, ◌≤◌, drop, length};
 ghost use Rattle.std.specs.List.{prefix_len};
 ghost use Rattle.ics_text.specs.Bytes.{is_blank, is_name_byte, is_quoted_byte, is_plain_byte};
 
+pub const QUOTE: u8 = b'"';
+
+pub const COMMA: u8 = b',';
+
+pub const COLON: u8 = b':';
+
+pub const SEMICOLON: u8 = b';';
+
+pub const EQUALS: u8 = b'=';
+
 /// Whether a line that begins with the byte continues the line before it: SPACE or HTAB.
 pub fn is_blank(b: u8) -> bool
     ensures { result ≡ is_blank b }
@@ -13,30 +23,65 @@ pub fn is_blank(b: u8) -> bool
 pub fn is_name_byte(b: u8) -> bool
     ensures { result ≡ is_name_byte b }
 {
-    b.is_ascii_alphanumeric() || b == b'-' || b == b'_'
+    b.is_ascii_alphabetic() || matches!(b, b'0'..=b'9' | b'-' | b'_')
 }
 
 /// Whether a quoted value of a parameter may contain the byte.
 pub fn is_quoted_byte(b: u8) -> bool
     ensures { result ≡ is_quoted_byte b }
 {
-    b != b'"' && (b == b'\t' || (b > 31 && b != 127))
+    match b {
+        b'"' | 127 => false,
+        b'\t' => true,
+        _ => b > 31,
+    }
 }
 
 /// Whether an unquoted value of a parameter may contain the byte.
 pub fn is_plain_byte(b: u8) -> bool
     ensures { result ≡ is_plain_byte b }
 {
-    is_quoted_byte(b) && b != b';' && b != b':' && b != b','
+    is_quoted_byte(b) && !matches!(b, b';' | b':' | b',')
 }
 
+// These three are never inlined: the loop over the lines of a file has too few registers for their loops.
+
 /// The length of the longest prefix whose bytes are allowed in a name.
+#[inline(never)]
 pub fn name_len(text: &[u8]) -> usize
     ensures value { result ≡ prefix_len is_name_byte text.now }
     ensures within { result ≤ length text.now }
 {
     for (i, b) in text.iter().enumerate() {
         if !is_name_byte(*b) {
+            return i;
+        }
+    }
+    text.len()
+}
+
+/// The length of the longest prefix whose bytes are allowed in an unquoted value of a parameter.
+#[inline(never)]
+pub fn plain_len(text: &[u8]) -> usize
+    ensures value { result ≡ prefix_len is_plain_byte text.now }
+    ensures within { result ≤ length text.now }
+{
+    for (i, b) in text.iter().enumerate() {
+        if !is_plain_byte(*b) {
+            return i;
+        }
+    }
+    text.len()
+}
+
+/// The length of the longest prefix whose bytes are allowed in a quoted value of a parameter.
+#[inline(never)]
+pub fn quoted_len(text: &[u8]) -> usize
+    ensures value { result ≡ prefix_len is_quoted_byte text.now }
+    ensures within { result ≤ length text.now }
+{
+    for (i, b) in text.iter().enumerate() {
+        if !is_quoted_byte(*b) {
             return i;
         }
     }

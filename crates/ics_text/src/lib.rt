@@ -11,7 +11,6 @@ mod logical;
 mod param;
 mod parts;
 mod physical;
-mod scan_state;
 
 pub use content_line::content;
 pub use fault::{BadFold, BadLine};

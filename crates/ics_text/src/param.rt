@@ -5,13 +5,7 @@ ghost use Rattle.ics_text.specs.Bytes.{is_name_byte, same_name};
 ghost use Rattle.ics_text.specs.Pieces.{cut_from, pieces_behind};
 ghost use Rattle.ics_text.specs.ContentLines.{pieces, without_quotes, first_of_text, param_of};
 
-use crate::bytes::{name_len, without_first};
-
-const QUOTE: u8 = b'"';
-
-const COMMA: u8 = b',';
-
-const SEMICOLON: u8 = b';';
+use crate::bytes::{COMMA, QUOTE, SEMICOLON, name_len, without_first};
 
 /// The first value of the first parameter with that name, in the text of the parameters.
 pub fn param_of<'a>(params: &'a [u8], name: &[u8]) -> Option<&'a [u8]>

@@ -2,9 +2,9 @@ use Rattle.std.proofs.Common.{◌≡◌, ◌+◌, ◌<◌, Some, None, drop, tak
 use Rattle.std.specs.List.{prefix_len}
 use Rattle.ics_text.specs.Bytes.{is_name_byte}
 use Rattle.ics_text.specs.ContentLines.{content_of, cut_at}
-use Rattle.ics_text.specs.ScanSteps.{colon_from}
-use Rattle.ics_text.specs.declared.scan_state.ScanState.TheVariants.{Start}
-use Rattle.ics_text.proofs.Parting.{no_name, over_name, slices_behind, content-grammar, one_reading, refuses}
+use Rattle.ics_text.specs.ScanSteps.{Start, colon_from}
+use Rattle.ics_text.proofs.Walks.{over_name}
+use Rattle.ics_text.proofs.Parting.{no_name, slices_behind, content-grammar, one_reading, refuses}
 use Rattle.ics_text.proofs.content_line.content.Goals as goal
 
 pub returns-then-len-eq0-clause-refused : goal.returns-then-len-eq0-clause-refused
