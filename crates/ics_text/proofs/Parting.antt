@@ -1,21 +1,14 @@
 -- The parts of a content line as slices, and that they are what its grammar relates.
 use Rattle.std.proofs.Common.{◌≡◌, ℕ, ◌+◌, Bool, true, false, List, [], ◌∷◌, drop, refl, ap, ◌∙◌, arith, Option, Some, None, one-add, ◌-◌}
-use Rattle.std.proofs.Common.{◌++◌, length, take, sym, append_assoc, subst, length-append, inl, inr, option_map, ◌↔◌}
+use Rattle.std.proofs.Common.{◌++◌, length, take, sym, append_assoc, subst, length-append, option_map, ◌↔◌}
 use Rattle.std.specs.List.{prefix_len, list_all}
 use Rattle.ics_text.specs.Bytes.{is_name_byte}
 use Rattle.ics_text.specs.ScanSteps.{Start, colon_from}
-use Rattle.std.proofs.lemmas.Bool.{and_parts, cases_Bool}
+use Rattle.std.proofs.lemmas.Bool.{and_parts}
 use Rattle.std.proofs.lemmas.List.{take_rest, drop-drop}
 use Rattle.std.proofs.Math.Seq.{take-append_seam, drop-append_seam}
 use Rattle.ics_text.specs.ContentLines.{Param, params_text, IsContent, Parts, cut_at, content_of}
 use Rattle.ics_text.proofs.Spelled.{Found, found, comes}
-
-pub no_name : (line : List ℕ) → prefix_len is_name_byte line ≡ 0 → colon_from line Start ≡ None
-no_name [] none = refl
-no_name (b ∷ bs) none = elim (cases_Bool (is_name_byte b)) [
-  | inl e ↦ absurd (let some = rw e at none in omega (arith, some))
-  | inr e ↦ rw e refl
-]
 
 pub prefix_len-front : (p : ℕ → Bool) (xs : List ℕ) (y : ℕ) (ys : List ℕ) → list_all p xs ≡ true → p y ≡ false → prefix_len p (xs ++ y ∷ ys) ≡ length xs
 prefix_len-front p [] y ys h n = rw n refl

@@ -84,27 +84,44 @@ pub quoted_value : (text : List ℕ) → begins (λ b. b == 34) text ≡ true �
 quoted_value [] h = cc
 quoted_value (b ∷ bs) h = rw h (ap (option_map (λ n. n + 1)) (run _ _ is_quoted_byte in_quotes bs))
 
--- a parameter has a name
-pub no_param_name : (text : List ℕ) → prefix_len is_name_byte text ≡ 0 → colon_from text BeforeParam ≡ None
-no_param_name [] none = refl
-no_param_name (b ∷ bs) none = elim (cases_Bool (is_name_byte b)) [
+-- a name that has to be there: its first byte is read as one within it, and without it there is no colon
+record Names (before within behind : List ℕ → Option ℕ) : Type 0 where
+  at_end : before [] ≡ None
+  on : (b : ℕ) (bs : List ℕ) → is_name_byte b ≡ true → before (b ∷ bs) ≡ within (b ∷ bs)
+  off : (b : ℕ) (bs : List ℕ) → is_name_byte b ≡ false → before (b ∷ bs) ≡ None
+  runs : Runs within behind is_name_byte
+
+nameless : (before within behind : List ℕ → Option ℕ) → Names before within behind → (text : List ℕ) → prefix_len is_name_byte text ≡ 0 → before text ≡ None
+nameless before within behind n [] none = n.at_end
+nameless before within behind n (b ∷ bs) none = elim (cases_Bool (is_name_byte b)) [
   | inl e ↦ absurd (let some = rw e at none in omega (arith, some))
-  | inr e ↦ rw e refl
+  | inr e ↦ n.off b bs e
 ]
 
--- behind it stands a sign
-pub over_param_name : (text : List ℕ) → 0 < prefix_len is_name_byte text →
-    colon_from text BeforeParam ≡ past equals_first text (Some (prefix_len is_name_byte text))
-over_param_name [] some = absurd (omega arith)
-over_param_name (b ∷ bs) some = elim (cases_Bool (is_name_byte b)) [
-  | inl e ↦ rw e (rw e at (run _ _ is_name_byte in_param (b ∷ bs)))
+named : (before within behind : List ℕ → Option ℕ) → Names before within behind → (text : List ℕ) → 0 < prefix_len is_name_byte text →
+    before text ≡ past behind text (Some (prefix_len is_name_byte text))
+named before within behind n [] some = absurd (omega arith)
+named before within behind n (b ∷ bs) some = elim (cases_Bool (is_name_byte b)) [
+  | inl e ↦ n.on b bs e ∙ run within behind is_name_byte n.runs (b ∷ bs)
   | inr e ↦ absurd (let none = rw e at some in omega (arith, none))
 ]
 
--- behind the name of a property the text is read as behind a parameter
+-- a line begins with the name of its property, behind which it is read as behind a parameter
+of_line : Names (λ t. colon_from t Start) (λ t. colon_from t InName) colon_behind
+of_line = record { at_end = refl; on = λ b bs e. rw e refl; off = λ b bs e. rw e refl; runs = in_name }
+
+pub no_name : (line : List ℕ) → prefix_len is_name_byte line ≡ 0 → colon_from line Start ≡ None
+no_name = nameless _ _ _ of_line
+
 pub over_name : (line : List ℕ) → 0 < prefix_len is_name_byte line → colon_from line Start ≡ past colon_behind line (Some (prefix_len is_name_byte line))
-over_name [] some = absurd (omega arith)
-over_name (b ∷ bs) some = elim (cases_Bool (is_name_byte b)) [
-  | inl e ↦ rw e (rw e at (run _ _ is_name_byte in_name (b ∷ bs)))
-  | inr e ↦ absurd (let none = rw e at some in omega (arith, none))
-]
+over_name = named _ _ _ of_line
+
+-- a parameter begins with its name, behind which a sign stands
+of_param : Names (λ t. colon_from t BeforeParam) (λ t. colon_from t InParam) equals_first
+of_param = record { at_end = refl; on = λ b bs e. rw e refl; off = λ b bs e. rw e refl; runs = in_param }
+
+pub no_param_name : (text : List ℕ) → prefix_len is_name_byte text ≡ 0 → colon_from text BeforeParam ≡ None
+no_param_name = nameless _ _ _ of_param
+
+pub over_param_name : (text : List ℕ) (len : ℕ) → len ≡ prefix_len is_name_byte text → 0 < len → colon_from text BeforeParam ≡ past equals_first text (Some len)
+over_param_name text len is some = rw is (named _ _ _ of_param text (rw is at some))

@@ -3,8 +3,8 @@ use Rattle.std.specs.List.{prefix_len}
 use Rattle.ics_text.specs.Bytes.{is_name_byte}
 use Rattle.ics_text.specs.ContentLines.{content_of, cut_at}
 use Rattle.ics_text.specs.ScanSteps.{Start, colon_from}
-use Rattle.ics_text.proofs.Walks.{over_name}
-use Rattle.ics_text.proofs.Parting.{no_name, slices_behind, content-grammar, one_reading, refuses}
+use Rattle.ics_text.proofs.Walks.{no_name, over_name}
+use Rattle.ics_text.proofs.Parting.{slices_behind, content-grammar, one_reading, refuses}
 use Rattle.ics_text.proofs.content_line.content.Goals as goal
 
 pub returns-then-len-eq0-clause-refused : goal.returns-then-len-eq0-clause-refused
