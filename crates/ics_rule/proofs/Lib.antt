@@ -15,6 +15,7 @@ pub mod CountLemmas
 pub mod CountingLemmas
 pub mod Samples
 pub mod KeptLemmas
+pub mod UntilLemmas
 pub mod DayWalkLemmas
 pub mod LawLemmas
 mod PassLemmas

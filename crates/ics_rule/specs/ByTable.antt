@@ -17,7 +17,8 @@ use Rattle.ics_rule.specs.PeriodNumbers.{day_of, hour_of, minute_of, second_of, 
 use Rattle.ics_fields.specs.Locals.{number, calendar_end}
 use Rattle.ics_rule.specs.EffectiveRules.{skips_hours}
 use Rattle.ics_rule.specs.Candidates.{lists, lists_wide, lists_nth, fourth_day, week_number, weeks_of_year, is_stepped}
-use Rattle.ics_rule.specs.Kept.{count, is_by_until}
+use Rattle.ics_rule.specs.Kept.{count}
+use Rattle.ics_rule.specs.UntilBounds.{is_bounded}
 use Rattle.ics_rule.specs.Table.{Part, ByMonth, ByWeekNo, ByYearDay, ByMonthDay, ByDay, ByHour, ByMinute, BySecond, BySetPos, Cell, Nothing, Limit, Expand}
 use Rattle.ics_rule.specs.Table.{Note1, Note2, cell}
 
@@ -188,7 +189,7 @@ is_within_count r (Some c) n = nat_lt (count n (is_member r)) c
 abbrev pub is_kept_by_table : Recurrence → ℕ → Bool
 is_kept_by_table r n =
     n == number r.start
-    || (nat_lt n rules_end && is_member r n && is_by_until r.kind r.parts.until n && is_within_count r r.parts.count n)
+    || (nat_lt n rules_end && is_member r n && is_bounded r n && is_within_count r r.parts.count n)
 
 -- A rule that the table allows: it has no part whose cell is N/A, and a numbered weekday only under MONTHLY and under YEARLY without
 -- BYWEEKNO. For dates its frequency is not finer than DAILY and its start is at midnight.

@@ -7,6 +7,7 @@ pub mod Candidates
 pub mod IsoWeeks
 pub mod DateParts
 pub mod Kept
+pub mod UntilBounds
 pub mod RecurrencePeriods
 pub mod Next
 pub mod Calls

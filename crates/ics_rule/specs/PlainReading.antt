@@ -14,7 +14,8 @@ use Rattle.ics_rule.specs.Recurrence.{Recurrence}
 use Rattle.ics_rule.specs.PeriodNumbers.{day_of, hour_of, minute_of, second_of, period}
 use Rattle.ics_fields.specs.Locals.{number, calendar_end}
 use Rattle.ics_rule.specs.EffectiveRules.{skips_hours, skips_minutes, skips_seconds}
-use Rattle.ics_rule.specs.Kept.{count, is_by_until}
+use Rattle.ics_rule.specs.Kept.{count}
+use Rattle.ics_rule.specs.UntilBounds.{is_bounded}
 use Rattle.ics_rule.specs.Table.{Part, ByMonth, ByWeekNo, ByYearDay, ByMonthDay, ByDay, ByHour, ByMinute, BySecond, BySetPos}
 use Rattle.ics_rule.specs.ByTable.{is_absent, weekday_unit}
 
@@ -131,9 +132,9 @@ abbrev pub is_few_members : Recurrence → Option ℕ → ℕ → Bool
 is_few_members r None n = true
 is_few_members r (Some c) n = nat_lt (count n (is_plain_member r)) c
 
--- and none after UNTIL
+-- UNTIL: the last is the greatest that is less than or equal to it
 abbrev pub is_plainly_kept : Recurrence → ℕ → Bool
-is_plainly_kept r n = is_plain_member r n && is_by_until r.kind r.parts.until n && is_few_members r r.parts.count n
+is_plainly_kept r n = is_plain_member r n && is_bounded r n && is_few_members r r.parts.count n
 
 -- The rules for which the plain reading is ours. DTSTART fits the rule, since dateutil leaves it out if it does not, and UNTIL and COUNT keep
 -- it. A weekday has a number only under MONTHLY and under YEARLY without BYWEEKNO. Plainly read, DTSTART gives no weekday if the rule names a
@@ -141,7 +142,7 @@ is_plainly_kept r n = is_plain_member r n && is_by_until r.kind r.parts.until n 
 -- dateutil does not know, has a frequency not finer than DAILY and starts at midnight.
 pub record HasPlainReading (r : Recurrence) : Type 0 where
   pub fits : is_plain_member r (number r.start) ≡ true
-  pub in_until : is_by_until r.kind r.parts.until (number r.start) ≡ true
+  pub in_until : is_bounded r (number r.start) ≡ true
   pub counted : MatchOption r.parts.count (Unit {0}) (λ c. 1 ≤ c)
   pub numbers : weekday_unit r r.parts.frequency ≡ Weekly → (w : ℕ) → lists_none (numbers_of r.parts.weekdays w) ≡ true
   pub weekly : r.parts.frequency ≡ Weekly → is_absent r ByDay ≡ true → is_dayless r ≡ true

@@ -1,5 +1,5 @@
 //! What the definitions mean, in other words.
-ghost use Rattle.std.specs.Prelude.{◌≡◌, ◌≢◌, ℕ, suc, ◌+◌, ◌-◌, ◌*◌, ◌/◌, ◌%◌, ◌<◌, ◌≤◌, ◌&&◌, nat_lt, min, Some, None, true, false, pos, ◌+ℤ◌};
+ghost use Rattle.std.specs.Prelude.{◌≡◌, ◌≢◌, ℕ, suc, ◌+◌, ◌-◌, ◌*◌, ◌/◌, ◌%◌, ◌<◌, ◌≤◌, ◌&&◌, nat_lt, min, Some, None, true, false, pos, ◌+ℤ◌, ℤ, ◌||◌, ◌==◌};
 ghost use Rattle.jiff_core.specs.Calendar.{days_in_month, days_in_year};
 ghost use Rattle.jiff_core.specs.Weekday.{monday_zero};
 ghost use Rattle.jiff_core.specs.IsoWeek.{weeks_in_year};
@@ -12,7 +12,8 @@ ghost use Rattle.ics_rule.specs.PeriodNumbers.{week_of, rules_end};
 ghost use Rattle.ics_fields.specs.Locals.{number, calendar_end};
 ghost use Rattle.ics_rule.specs.Candidates.{fourth_day, week_number, weeks_of_year};
 ghost use Rattle.ics_rule.specs.IsoWeeks.{IsDay};
-ghost use Rattle.ics_rule.specs.Kept.{count, size, is_in_rule, is_kept};
+ghost use Rattle.ics_rule.specs.Kept.{count, size, is_in_rule, is_kept, until_moment};
+ghost use Rattle.ics_rule.specs.UntilBounds.{is_bounded, without_until};
 ghost use Rattle.ics_rule.specs.Ranks.{HasRank};
 ghost use Rattle.ics_rule.specs.PlainReading.{in_year, in_month, with_weekday};
 
@@ -39,6 +40,13 @@ pub fn first_of_count()
         → (n : ℕ) → n < rules_end → is_kept r n ≡ (is_in_rule r n && nat_lt (count n (is_in_rule r)) c) }
     ensures number { (r : Recurrence) (c : ℕ) → r.parts.count ≡ Some c → 1 ≤ c → r.parts.until ≡ None
         → (n : ℕ) → n ≤ rules_end → count n (is_kept r) ≡ min (count n (is_in_rule r)) c }
+{}
+
+/// UNTIL bounds a rule in an inclusive manner (RFC 5545, 3.3.10): the start is kept, and of the other locals that the rule without UNTIL keeps those
+/// up to the last that UNTIL allows, itself included. An UNTIL that bounds instants leaves out no local.
+pub fn bounded_by_until()
+    ensures kept { (r : Recurrence) (n : ℕ) → is_kept r n ≡ (n == number r.start || (is_kept (without_until r) n && is_bounded r n)) }
+    ensures instants { (r : Recurrence) (t : ℤ) → until_moment r ≡ Some t → (n : ℕ) → is_kept r n ≡ is_kept (without_until r) n }
 {}
 
 /// After any calls of `next` a cursor has looked at no more periods of its rule than hold a local earlier than the greatest bound, from its

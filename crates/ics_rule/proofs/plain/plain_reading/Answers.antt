@@ -29,6 +29,7 @@ use Rattle.ics_rule.proofs.ChosenLemmas.{beside_let_in, chosen_by}
 use Rattle.ics_rule.proofs.TableSteps.{by_absence, months_let_in, month_days_let_in, weekdays_let_in, clock_let_in}
 use Rattle.ics_rule.proofs.NthLemmas.{month_days_listed, year_days_listed, month_weekday_listed, year_weekday_listed, weeks_listed}
 use Rattle.ics_rule.proofs.Tests.{by_order, and_assoc, unequal}
+use Rattle.ics_rule.proofs.UntilLemmas.{until_bounds}
 use Rattle.ics_rule.proofs.plain.plain_reading.Goals as goal
 
 weekday_taken : (f : Frequency) (r : Recurrence) → (f ≡ Weekly → is_absent r ByDay ≡ true → is_dayless r ≡ true)
@@ -143,7 +144,7 @@ module _ (r : Recurrence) (plain : HasPlainReading r) where
   pub plainly_kept : (n : ℕ) → n < rules_end → is_kept r n ≡ is_plainly_kept r n
   unfolding is_kept
   plainly_kept n h = elim (by_order n start) [
-    | inl other ↦ rw (unequal n start other, lt-ltb n rules_end h, member n h, counted r.parts.count n h) refl
+    | inl other ↦ rw (unequal n start other, lt-ltb n rules_end h, member n h, until_bounds r n, counted r.parts.count n h) refl
     | inr same ↦ rw (same, eq-eqb start start refl) (sym start_kept)
   ]
 

@@ -22,6 +22,7 @@ use Rattle.ics_fields.specs.Locals.{number}
 use Rattle.ics_rule.specs.Kept.{is_chosen, is_in_rule, is_counted, is_kept}
 use Rattle.ics_rule.proofs.Counts.{count-same}
 use Rattle.ics_rule.proofs.ChosenLemmas.{beside_let_in, chosen_by}
+use Rattle.ics_rule.proofs.UntilLemmas.{until_bounds}
 use Rattle.ics_rule.proofs.table.rules_by_table.Goals as goal
 
 -- a field as it is, or as DTSTART gives it
@@ -234,7 +235,7 @@ module _ (r : Recurrence) (allowed : IsAllowed r) where
 
   kept_by_table : (n : ℕ) → is_kept r n ≡ is_kept_by_table r n
   unfolding is_kept
-  kept_by_table n = grind (arith, counted, members_by_table)
+  kept_by_table n = grind (arith, counted, members_by_table, until_bounds)
 
 pub returns : goal.returns
 returns c = record { candidates = candidates_by_table; members = members_by_table; kept = kept_by_table }
