@@ -47,7 +47,7 @@ impl Cursor {
                 Some(period)
             }
             Some(period) => {
-                if period.number == number {
+                if period.number() == number {
                     return Some(period);
                 }
                 let before = period.taken_before(&parts.positions, CALENDAR_END - 1);
@@ -64,7 +64,7 @@ impl Cursor {
         ensures { CountsFrom first result.0 result.1 self.now }
     {
         match &self.held {
-            Some(period) => (period.number, self.counted),
+            Some(period) => (period.number(), self.counted),
             None => (first, 0),
         }
     }

@@ -9,8 +9,8 @@ ghost use Rattle.ics_fields.specs.Locals.{calendar_end};
 
 use crate::effective_rule::EffectiveRule;
 use crate::recurrence_period::clock_set;
+use crate::recurrence_period::sizes::members_below;
 use crate::rounds::seconds_of;
-use crate::sizes::members_below;
 use ics_fields::{BitSet, Frequency, WideBitSet};
 
 /// How many values of one unit of the clock a part allows.

@@ -14,7 +14,7 @@ use crate::effective::{skips_hours, skips_minutes, skips_seconds};
 use crate::effective_rule::EffectiveRule;
 use crate::never::size_of_open;
 use crate::pass::days_of_closed_month;
-use crate::ranks::listed_below;
+use crate::recurrence_period::ranks::listed_below;
 use crate::rounds::{calendar_round, seconds_of};
 use crate::step::period_of;
 use crate::time::lets;

@@ -1,4 +1,4 @@
-//! A period of a rule, as a product of sets.
+//! A period of a rule, as a product of sets. A look at a period makes one, and no other code can.
 ghost use Rattle.std.specs.Prelude.{◌≡◌, ℕ, ◌<◌, ◌≤◌, ◌+◌, ◌-◌, ◌*◌, ◌/◌, ◌%◌, ◌^◌, ◌&&◌, ◌||◌, ◌==◌, pos, IfSome};
 ghost use Rattle.jiff_core.specs.Calendar.{days_of_months, days_in_month, days_in_year};
 ghost use Rattle.ics_fields.specs.Days.{days_before_year};
@@ -10,6 +10,9 @@ ghost use Rattle.jiff_core.specs.Weekday.{monday_zero};
 ghost use Rattle.ics_rule.specs.RecurrencePeriods.{first_local, has_minute, has_time, has_day, holds, IsPeriodOf};
 ghost use Rattle.ics_fields.specs.Locals.{calendar_end};
 
+pub(crate) mod ranks;
+pub(crate) mod sizes;
+
 use crate::days::add_days_let_in;
 use crate::effective::{skips_hours, skips_minutes, skips_seconds};
 use crate::effective_rule::EffectiveRule;
@@ -17,18 +20,19 @@ use crate::time::lets;
 use ics_fields::{BitSet, Frequency, WideBitSet};
 use jiff_core::civil::{Weekday, days_in_month, days_in_year};
 
-/// The locals of a period that its rule allows: a set of days times sets of hours, minutes and seconds.
+/// The locals of a period that its rule allows: a set of days times sets of hours, minutes and seconds. Its fields are private, so that who has one
+/// has looked at the period, and each look is counted.
 #[derive(Clone, Copy)]
 pub struct RecurrencePeriod {
     /// The number of the period.
-    pub(crate) number: u64,
+    number: u64,
     /// The first day, counted from 0000-01-01.
-    pub(crate) first_day: u32,
+    first_day: u32,
     /// The days that are allowed, counted from the first.
-    pub(crate) days: WideBitSet,
-    pub(crate) hours: BitSet,
-    pub(crate) minutes: BitSet,
-    pub(crate) seconds: BitSet,
+    days: WideBitSet,
+    hours: BitSet,
+    minutes: BitSet,
+    seconds: BitSet,
 }
 
 /// The times of the locals of a period, as sets of hours, minutes and seconds.
@@ -146,7 +150,7 @@ fn clock_of(parts: &EffectiveRule, begin: u64) -> Clock
 }
 
 impl RecurrencePeriod {
-    /// Looks at the period of a rule with this number.
+    /// Looks at the period of a rule with this number, and counts the look.
     pub(crate) fn new(parts: &EffectiveRule, number: u64, steps: &mut u64) -> RecurrencePeriod
         requires low { period_in parts.now 0 ≤ number }
         requires reach { first_local parts.now.frequency (monday_zero parts.now.week_start) number ≤ rules_end }
@@ -171,6 +175,18 @@ impl RecurrencePeriod {
             minutes: clock.minutes,
             seconds: clock.seconds,
         }
+    }
+
+    /// The number of the period.
+    pub(crate) fn number(&self) -> u64
+        ensures { result ≡ self.now.number }
+    {
+        self.number
+    }
+
+    /// The first day of the period, counted from 0000-01-01.
+    pub(crate) fn first_day(&self) -> u32 {
+        self.first_day
     }
 
     /// The first day of the product from a day on.

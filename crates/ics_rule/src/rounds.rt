@@ -185,7 +185,7 @@ impl Cursor {
     fn is_close(&self, parts: &EffectiveRule) -> bool {
         match &self.held {
             Some(period) => {
-                let end = (period.first_day as u64 + TWO_YEARS) * 86_400;
+                let end = (period.first_day() as u64 + TWO_YEARS) * 86_400;
                 seconds_of(parts.frequency) == 0 && self.place < end
             }
             None => false,

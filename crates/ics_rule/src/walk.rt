@@ -47,7 +47,7 @@ impl Cursor {
     {
         let place = self.place;
         if let Some(period) = &self.held {
-            if period.number == number {
+            if period.number() == number {
                 return period.next_taken(&parts.positions, place);
             }
         }

@@ -1,4 +1,4 @@
-use Rattle.std.proofs.Common.{◌+◌, ◌-◌, inl, inr, ap, refl, arith}
+use Rattle.std.proofs.Common.{◌+◌, ◌-◌, ◌∙◌, inl, inr, ap, refl, arith}
 use Rattle.ics_rule.specs.Searches.{IsPassed}
 use Rattle.ics_rule.proofs.CursorLemmas.{looks_none, looks_once}
 use Rattle.ics_rule.proofs.CountLemmas.{IsLeft, step_low, turned_first, turned_on, counted_out, counted_small}
@@ -19,7 +19,7 @@ left c =
       some = c.requires.interval;
       own = turn.0;
       counted = turn.1.0;
-      passed = elim turn.1.1 [ inl same ↦ absurd (c.if-period-number.false same) | inr on ↦ on ];
+      passed = elim turn.1.1 [ inl same ↦ absurd (c.if-number.false (c.number.ensures ∙ same)) | inr on ↦ on ];
       reach = omega (arith, c.requires.reach);
       taken = c.taken_before-before.ensures.value;
     }
@@ -55,8 +55,8 @@ returns-else-self-before-clause-looks c =
     looks_once (c.args.self.now.counted + c.taken_before-before.result) c.args.self.now c.look_at.result (grind arith) c.look_at.ensures.cursor
     c.look_at.ensures.number
 
-pub returns-then-period-number-clause-looks : goal.returns-then-period-number-clause-looks
-returns-then-period-number-clause-looks c = looks_none c.args.number c.args.self.now
+pub returns-then-number-clause-looks : goal.returns-then-number-clause-looks
+returns-then-number-clause-looks c = looks_none c.args.number c.args.self.now
 
 pub returns-then-self-before-clause-looks : goal.returns-then-self-before-clause-looks
 returns-then-self-before-clause-looks c = looks_none c.args.number c.args.self.now

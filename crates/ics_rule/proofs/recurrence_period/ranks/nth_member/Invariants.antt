@@ -1,7 +1,7 @@
 use Rattle.std.proofs.Common.{◌≡◌, ◌-◌, ◌≤◌}
 use Rattle.ics_fields.specs.Sets.{contains}
 use Rattle.ics_rule.specs.Kept.{count}
-use Rattle.ics_rule.proofs.ranks.nth_member.Given as goal
+use Rattle.ics_rule.proofs.recurrence_period.ranks.nth_member.Given as goal
 
 abbrev pub invariant-loop-n : goal.invariant-loop-n
 invariant-loop-n l = (l.passed ≡ count l.place (contains l.set)) × (l.passed ≤ l.k)

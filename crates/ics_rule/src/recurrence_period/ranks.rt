@@ -9,7 +9,7 @@ ghost use Rattle.ics_fields.specs.Locals.{calendar_end};
 
 use crate::part::PlacesPart;
 use crate::recurrence_period::RecurrencePeriod;
-use crate::sizes::members_below;
+use crate::recurrence_period::sizes::members_below;
 use ics_fields::{BitSet, WideBitSet, WideOrdinals};
 
 /// The `k`-th member of a set, from 0.

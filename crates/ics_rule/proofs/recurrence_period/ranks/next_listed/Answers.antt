@@ -4,7 +4,7 @@ use Rattle.ics_fields.specs.declared.ordinals.WideOrdinals.{WideOrdinals}
 use Rattle.ics_fields.specs.Sets.{contains_wide}
 use Rattle.ics_fields.proofs.SetLemmas.{wide_past}
 use Rattle.ics_rule.specs.RecurrencePeriods.{is_listed}
-use Rattle.ics_rule.proofs.ranks.next_listed.Goals as goal
+use Rattle.ics_rule.proofs.recurrence_period.ranks.next_listed.Goals as goal
 
 -- a place is listed as little as its number from the start and that from the end
 unlisted : (positions : WideOrdinals) (size j : ℕ) → contains_wide positions.front (j + 1) ≡ false → contains_wide positions.back (size - j) ≡ false →

@@ -6,8 +6,8 @@ use Rattle.ics_rule.specs.RecurrencePeriods.{IsNth}
 use Rattle.ics_rule.proofs.Counts.{count_mono}
 use Rattle.ics_rule.proofs.RankLemmas.{block_index}
 use Rattle.ics_rule.proofs.ProductCounts.{nth-product}
-use Rattle.ics_rule.proofs.ranks.nth_minute.Goals as goal
-use Rattle.ics_rule.proofs.ranks.nth_minute.Goals.{After-members_below-size}
+use Rattle.ics_rule.proofs.recurrence_period.ranks.nth_minute.Goals as goal
+use Rattle.ics_rule.proofs.recurrence_period.ranks.nth_minute.Goals.{After-members_below-size}
 
 index : (c : After-members_below-size) → (c.args.k / c.members_below-size.result < count 24 (contains c.args.hours))
     × (c.args.k % c.members_below-size.result < c.members_below-size.result)

@@ -1,7 +1,7 @@
 use Rattle.std.proofs.Common.{arith}
 use Rattle.ics_rule.proofs.ProductCounts.{count_zero}
 use Rattle.ics_rule.proofs.RankLemmas.{nth_next, count_flat}
-use Rattle.ics_rule.proofs.ranks.listed_below.Goals as goal
+use Rattle.ics_rule.proofs.recurrence_period.ranks.listed_below.Goals as goal
 
 pub loop-place-init : goal.loop-place-init
 loop-place-init c = grind (arith, count_zero)

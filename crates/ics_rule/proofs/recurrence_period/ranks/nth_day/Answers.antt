@@ -1,7 +1,7 @@
 use Rattle.std.proofs.Common.{arith}
 use Rattle.ics_rule.proofs.ProductCounts.{count_zero}
 use Rattle.ics_rule.proofs.RankLemmas.{before_next, nth_next, nth_done}
-use Rattle.ics_rule.proofs.ranks.nth_day.Goals as goal
+use Rattle.ics_rule.proofs.recurrence_period.ranks.nth_day.Goals as goal
 
 pub loop-n-init : goal.loop-n-init
 loop-n-init c = grind (arith, count_zero)

@@ -1,7 +1,7 @@
 use Rattle.std.proofs.Common.{◌≡◌, ◌-◌, ◌≤◌}
 use Rattle.ics_rule.specs.Kept.{count}
 use Rattle.ics_rule.specs.RecurrencePeriods.{is_listed}
-use Rattle.ics_rule.proofs.ranks.listed_below.Given as goal
+use Rattle.ics_rule.proofs.recurrence_period.ranks.listed_below.Given as goal
 
 abbrev pub invariant-loop-place : goal.invariant-loop-place
 invariant-loop-place l = (l.total ≡ count l.from (is_listed l.positions l.size)) × ((l.total ≤ l.from) × (l.from ≤ l.k))
