@@ -97,11 +97,10 @@ impl Cursor {
         let last = period_of(parts, place);
         let mut number = begin;
         while number < end {
-            if self.turn_to(parts, start, count, number).is_none() {
+            let Some(period) = self.turn_to(parts, start, count, number) else {
                 return false;
-            }
-            let next = number + parts.interval as u64;
-            number = end.min(next_open_step(parts, first, next, last, place + 1));
+            };
+            number = end.min(next_open_step(parts, first, &period, last, place + 1));
         }
         self.turn_to(parts, start, count, end).is_some()
     }
@@ -137,8 +136,7 @@ impl Cursor {
                 let earlier = self.counted + period.taken_before(&parts.positions, n);
                 return if earlier < self.limit { Some(n) } else { None };
             }
-            let next = number + parts.interval as u64;
-            number = next_open_step(parts, first, next, last, stop);
+            number = next_open_step(parts, first, &period, last, stop);
         }
         None
     }

@@ -145,7 +145,7 @@ fn open_by_days(parts: &EffectiveRule, first: u64, from: u64, before: u64) -> u6
 }
 
 /// How many periods are allowed from one on and before another. In each round of the calendar there are as many.
-pub(crate) fn open_between(parts: &EffectiveRule, first: u64, from: u64, before: u64) -> u64
+fn open_between(parts: &EffectiveRule, first: u64, from: u64, before: u64) -> u64
     requires interval { 1 ≤ parts.now.interval }
     requires fine { 0 < seconds_of parts.now.frequency }
     requires unit { seconds_of parts.now.frequency ≤ 86400 }
@@ -164,7 +164,7 @@ pub(crate) fn open_between(parts: &EffectiveRule, first: u64, from: u64, before:
 }
 
 /// How many locals are chosen in each period that is allowed.
-pub(crate) fn chosen_in_open(parts: &EffectiveRule) -> u64
+fn chosen_in_open(parts: &EffectiveRule) -> u64
     requires fine { 0 < seconds_of parts.now.frequency }
     requires unit { seconds_of parts.now.frequency ≤ 86400 }
     ensures { result ≡ chosen_in_open parts.now }

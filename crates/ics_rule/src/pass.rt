@@ -8,7 +8,7 @@ ghost use Rattle.ics_fields.specs.Locals.{calendar_end};
 use crate::date::{civil_at, lets_date, month_length};
 use crate::effective::skips_hours;
 use crate::effective_rule::EffectiveRule;
-use crate::recurrence_period::{clock_set, first_local, next_second};
+use crate::recurrence_period::{RecurrencePeriod, clock_set, first_local, next_second};
 use crate::step::period_of;
 use crate::time::lets;
 use crate::walk::next_step;
@@ -112,27 +112,29 @@ fn opens_every_period(parts: &EffectiveRule) -> bool {
     }
 }
 
-/// The first step from one on in whose period a rule may allow a local. None if that period is later than `last`, the period of the
-/// last local before `stop`.
+/// The first step after a period, which was looked at, in whose period a rule may allow a local. The next step if `last`, the period of the last
+/// local before `stop`, is earlier. Days are tested on the way, and no other period is looked at.
 pub(crate) fn next_open_step(
     parts: &EffectiveRule,
     first: u64,
-    number: u64,
+    period: &RecurrencePeriod,
     last: u64,
     stop: u64,
 ) -> u64
     requires interval { 1 ≤ parts.now.interval }
     requires first { first < 2 ^ 40 }
-    requires step { is_stepped first parts.now.interval number ≡ true }
+    requires step { is_stepped first parts.now.interval period.now.number ≡ true }
+    requires small { period.now.number < 2 ^ 40 }
     requires last { last ≡ period_in parts.now (stop - 1) }
     requires some { 0 < stop }
     requires stop { stop ≤ rules_end }
-    ensures { IsNextOpen parts.now first number result }
+    ensures { IsNextOpen parts.now first (period.now.number + parts.now.interval) result }
 {
-    if number > last || opens_every_period(parts) {
-        return number;
+    let next = period.number() + parts.interval as u64;
+    if next > last || opens_every_period(parts) {
+        return next;
     }
-    let begin = first_local(parts.frequency, parts.week_start, number);
+    let begin = first_local(parts.frequency, parts.week_start, next);
     let place = next_open(parts, begin, stop);
     next_step(first, parts.interval, period_of(parts, place))
 }

@@ -1,11 +1,11 @@
 //! Searching the periods of a rule without COUNT.
-ghost use Rattle.std.specs.Prelude.{◌≡◌, ◌<◌, ◌≤◌, ◌+◌, ◌*◌, ◌/◌, ◌^◌, MatchOption, IfSome, None, true};
+ghost use Rattle.std.specs.Prelude.{◌≡◌, ◌<◌, ◌≤◌, ◌+◌, ◌*◌, ◌/◌, ◌^◌, MatchOption, Some, None};
 ghost use Rattle.jiff_core.specs.Weekday.{monday_zero};
-ghost use Rattle.ics_fields.specs.Sets.{IsLeastFrom, IsNextIn};
+ghost use Rattle.ics_fields.specs.Sets.{IsLeastFrom};
 ghost use Rattle.ics_rule.specs.Candidates.{is_stepped, period_in};
 ghost use Rattle.ics_rule.specs.RecurrencePeriods.{first_local, IsPeriodOf};
 ghost use Rattle.ics_rule.specs.Cursors.{IsCursorIn};
-ghost use Rattle.ics_rule.specs.Searches.{is_chosen_within, IsNextWanted, IsWalked, LooksAt};
+ghost use Rattle.ics_rule.specs.Searches.{IsNextWanted, IsWalked, LooksAt};
 ghost use Rattle.ics_rule.specs.PeriodNumbers.{rules_end};
 ghost use Rattle.ics_fields.specs.Locals.{calendar_end};
 
@@ -13,6 +13,7 @@ use crate::cursor::Cursor;
 use crate::effective_rule::EffectiveRule;
 use crate::never::chooses_none;
 use crate::pass::next_open_step;
+use crate::recurrence_period::RecurrencePeriod;
 use crate::rounds::last_to_look_at;
 use crate::step::period_of;
 
@@ -32,27 +33,23 @@ pub(crate) fn next_step(first: u64, interval: u32, own: u64) -> u64
 }
 
 impl Cursor {
-    /// The first local from the place on that the rule chooses within a period. Looks at the period unless it is the one held.
-    fn find(&mut self, parts: &EffectiveRule, start: u64, number: u64) -> Option<u64>
-        requires step { is_stepped (period_in parts.now start) parts.now.interval number ≡ true }
+    /// Turns to the period with a number. Looks at it unless it is the one held.
+    fn turn_freely(&mut self, parts: &EffectiveRule, number: u64) -> RecurrencePeriod
         requires low { period_in parts.now 0 ≤ number }
         requires reach { first_local parts.now.frequency (monday_zero parts.now.week_start) number ≤ rules_end }
         requires held { MatchOption self.old.held (Unit {0}) (λ p. IsPeriodOf parts.now p × (p.number ≤ number)) }
-        requires place { self.old.place < calendar_end }
         requires room { self.old.steps < 2 ^ 63 }
-        ensures next { IsNextIn (is_chosen_within parts.now start number) self.old.place result }
-        ensures small { IfSome result (λ n. n < 2 ^ 63) }
-        ensures held { MatchOption self.new.held ⊥ (λ p. IsPeriodOf parts.now p × (p.number ≡ number)) }
+        ensures product { IsPeriodOf parts.now result }
+        ensures number { result.number ≡ number }
+        ensures held { self.new.held ≡ Some result }
         ensures looks { LooksAt number self.old self.new }
     {
-        let place = self.place;
         if let Some(period) = &self.held {
             if period.number() == number {
-                return period.next_taken(&parts.positions, place);
+                return *period;
             }
         }
         self.look_at(parts, number, 0)
-            .next_taken(&parts.positions, place)
     }
 
     /// The next local from the place on that the rule chooses. It is searched for in the periods up to that of the last before `stop`.
@@ -79,11 +76,11 @@ impl Cursor {
         let end = last_to_look_at(parts, first.max(own), last);
         let mut number = next_step(first, parts.interval, own);
         while number <= end {
-            if let Some(n) = self.find(parts, start, number) {
+            let period = self.turn_freely(parts, number);
+            if let Some(n) = period.next_taken(&parts.positions, self.place) {
                 return Some(n);
             }
-            let next = number + parts.interval as u64;
-            number = next_open_step(parts, first, next, last, stop);
+            number = next_open_step(parts, first, &period, last, stop);
         }
         None
     }

@@ -1,4 +1,4 @@
-use Rattle.std.proofs.Common.{arith}
+use Rattle.std.proofs.Common.{◌+◌, arith}
 use Rattle.ics_rule.proofs.PeriodLemmas.{begun}
 use Rattle.ics_rule.proofs.PassLemmas.{step_open}
 use Rattle.ics_rule.proofs.pass.next_open_step.Goals as goal
@@ -10,6 +10,6 @@ pub next_open-place-requires-clause-local : goal.next_open-place-requires-clause
 next_open-place-requires-clause-local c = grind (arith, begun)
 
 pub returns : goal.returns
-returns c = step_open
+returns c = rw c.number.ensures at (step_open {q = c.args.parts.now} {number = c.number.result + c.args.parts.now.interval}
     c.first_local-begin.ensures c.next_open-place.ensures.low c.next_open-place.ensures.none
-    (rw c.period_of.ensures.value at c.next_step.ensures)
+    (rw c.period_of.ensures.value at c.next_step.ensures))

@@ -1,5 +1,5 @@
 use Rattle.std.proofs.lemmas.Grind.{common_steps}
-use Rattle.std.proofs.Common.{◌≡◌, ◌∙◌, not, sym, ap, arith}
+use Rattle.std.proofs.Common.{◌≡◌, ◌∙◌, ◌+◌, ◌-◌, sym, arith}
 use Rattle.ics_rule.specs.Searches.{IsTurned}
 use Rattle.ics_rule.proofs.PeriodLemmas.{begun}
 use Rattle.ics_rule.proofs.StepLemmas.{step_on}
@@ -22,19 +22,19 @@ pub turn_to-requires-clause-room : goal.turn_to-requires-clause-room
 turn_to-requires-clause-room c = let few = counting_room c.loop-number.invariant.counting in grind arith
 
 pub next_open_step-requires-clause-step : goal.next_open_step-requires-clause-step
-next_open_step-requires-clause-step c = let step = c.loop-number.invariant.counting.walk.step in grind (arith, step_on)
+next_open_step-requires-clause-step c =
+    rw (c.in-Some.ensures.turned.number, c.requires.first) c.loop-number.invariant.counting.walk.step
 
 pub loop-number-preserved : goal.loop-number-preserved
 loop-number-preserved c =
     let counting = c.loop-number.invariant.counting in
-    let here = there _ (IsTurned c.args.parts.now c.args.start c.args.count c.loop-number.number c.turn_to.new.self) c.turn_to.result c.turn_to.ensures.turned
-    (c.is_none.ensures ∙ ap not c.if-is_none.false) in
+    let turned = c.in-Some.ensures.turned in
     record {
-      counting = counting_goes_on counting here.1 c.turn_to.ensures.looks
+      counting = counting_goes_on counting turned c.in-Some.ensures.looks
           (top_of c.args.parts.now c.args.self.now.place c.loop-number.number (omega (arith, c.loop-number-test.true, c.requires.end)))
           (none_within c.args.parts.now c.args.start c.args.self.now.place (omega (arith, c.loop-number-test.true, c.requires.end)))
           (rw c.min-number.ensures (not_past c.requires.interval counting.walk.step c.requires.step c.loop-number-test.true
-          (rw c.requires.first at c.next_open_step.ensures)));
+          (rw (c.requires.first, turned.number) at c.next_open_step.ensures)));
       high = omega (arith, c.min-number.ensures);
     }
 
@@ -50,10 +50,10 @@ turn_to-requires-2-clause-turn c =
     let same : c.loop-number.number ≡ c.args.end = omega (arith, c.loop-number.invariant.high, c.loop-number-test.false) in
     rw same at c.loop-number.invariant.counting.turn
 
-pub returns-then-is_none-clause-out : goal.returns-then-is_none-clause-out
-returns-then-is_none-clause-out c = λ out.
-    let same : c.turn_to.new.self ≡ c.loop-number.self = grind arith in
-    rw same (counting_passed c.loop-number.invariant.counting (omega (arith, c.loop-number-test.true, c.requires.end)) c.requires.own.inside)
+pub returns-in_default-clause-out : goal.returns-in_default-clause-out
+returns-in_default-clause-out c = λ out.
+    rw c.in_default.ensures.turned.1
+    (counting_passed c.loop-number.invariant.counting (omega (arith, c.loop-number-test.true, c.requires.end)) c.requires.own.inside)
 
 pub returns-clause-out : goal.returns-clause-out
 returns-clause-out c = λ out.
@@ -76,4 +76,5 @@ pub next_open_step-requires-clause-first : goal.next_open_step-requires-clause-f
 next_open_step-requires-clause-first c = grind (arith, common_steps)
 
 pub next_open_step-requires-clause-last : goal.next_open_step-requires-clause-last
-next_open_step-requires-clause-last c = grind (arith, common_steps)
+next_open_step-requires-clause-last c =
+    let same : c.args.self.now.place + 1 - 1 ≡ c.args.self.now.place = omega arith in rw same c.period_of-last.ensures.value

@@ -1,5 +1,4 @@
 use Rattle.std.proofs.Common.{◌∙◌, Some, sym, arith}
-use Rattle.ics_rule.proofs.StepLemmas.{step_on}
 use Rattle.ics_rule.proofs.ChosenLemmas.{taken_within}
 use Rattle.ics_rule.proofs.CursorLemmas.{walk_reach, walk_ends, walk_ended}
 use Rattle.ics_rule.proofs.CountLemmas.{counted_small}
@@ -43,7 +42,8 @@ returns-else-earlier-self-clause-walked c = counting_stopped c.loop-number.invar
     (omega (arith, c.loop-number-test.true, c.period_of-last.ensures.value))
 
 pub next_open_step-number-requires-clause-step : goal.next_open_step-number-requires-clause-step
-next_open_step-number-requires-clause-step c = let step = c.loop-number.invariant.walk.step in grind (arith, step_on)
+next_open_step-number-requires-clause-step c =
+    rw (c.in_ok-period.ensures.turned.number, c.period_of-first.ensures.value) c.loop-number.invariant.walk.step
 
 pub loop-number-preserved : goal.loop-number-preserved
 loop-number-preserved c =
@@ -53,7 +53,7 @@ loop-number-preserved c =
     (omega (arith, c.loop-number-test.true, c.period_of-last.ensures.value))
     (λ n l. sym (taken_within c.args.start turned.product turned.number walk.step n)
     ∙ c.in_default.ensures.next n (omega (arith, l, c.turn_to.ensures.looks.place, walk.moved.place)))
-    (rw c.period_of-first.ensures.value at c.next_open_step-number.ensures)
+    (rw (c.period_of-first.ensures.value, turned.number) at c.next_open_step-number.ensures)
 
 pub returns-clause-next : goal.returns-clause-next
 returns-clause-next c = walk_ends c.loop-number.invariant.walk (omega (arith, c.period_of-last.ensures.value, c.loop-number-test.false))

@@ -1,49 +1,62 @@
-use Rattle.std.proofs.Common.{◌≡◌, Option, Some, None, MatchOption, refl, arith}
-use Rattle.ics_rule.specs.declared.recurrence_period.RecurrencePeriod.{RecurrencePeriod}
-use Rattle.ics_rule.proofs.StepLemmas.{step_on}
-use Rattle.ics_rule.proofs.CursorLemmas.{within_facts, walk_begins, walk_goes_on, walk_ended, walk_finds, walk_found, walk_reach}
+use Rattle.std.proofs.Common.{◌≡◌, ◌∙◌, ℕ, ◌-◌, ◌≤◌, Some, None, sym, arith}
+use Rattle.ics_fields.specs.Sets.{IsLeastFrom}
+use Rattle.ics_fields.specs.Ordinals.{lists_none_wide}
+use Rattle.ics_rule.specs.Candidates.{period_in}
+use Rattle.ics_rule.specs.RecurrencePeriods.{is_taken}
+use Rattle.ics_rule.specs.Searches.{is_chosen_within}
+use Rattle.ics_rule.proofs.ChosenLemmas.{taken_within}
+use Rattle.ics_rule.proofs.CursorLemmas.{next_same, within_facts, walk_begins, walk_goes_on, walk_ended, walk_finds, walk_found, walk_reach}
 use Rattle.ics_rule.proofs.CountLemmas.{step_low}
 use Rattle.ics_rule.proofs.PassedLemmas.{walk_rounds_end}
 use Rattle.ics_rule.proofs.NeverLemmas.{none_wanted, none_walked}
 use Rattle.ics_rule.proofs.cursor.Cursor.walk_freely.Goals as goal
+use Rattle.ics_rule.proofs.cursor.Cursor.walk_freely.Goals.{After-turn_freely-period}
 
 pub loop-number-init : goal.loop-number-init
 loop-number-init c = walk_begins c.requires.interval
     (rw (c.period_of-first.ensures.value, c.period_of-own.ensures.value) at c.next_step-number.ensures) c.requires.place c.requires.own
 
-pub find-requires-clause-low : goal.find-requires-clause-low
-find-requires-clause-low c = step_low c.args.parts.now c.args.start c.loop-number.number c.loop-number.invariant.step
+pub turn_freely-period-requires-clause-low : goal.turn_freely-period-requires-clause-low
+turn_freely-period-requires-clause-low c = step_low c.args.parts.now c.args.start c.loop-number.number c.loop-number.invariant.step
 
-pub find-requires-clause-reach : goal.find-requires-clause-reach
-find-requires-clause-reach c = grind (arith, walk_reach)
+pub turn_freely-period-requires-clause-reach : goal.turn_freely-period-requires-clause-reach
+turn_freely-period-requires-clause-reach c = grind (arith, walk_reach)
+
+-- what the period turned to takes is chosen within it
+within : (c : After-turn_freely-period) → (n : ℕ) → is_taken c.args.parts.now.positions (lists_none_wide c.args.parts.now.positions) c.turn_freely-period.result n
+    ≡ is_chosen_within c.args.parts.now c.args.start c.loop-number.number n
+within c = taken_within c.args.start c.turn_freely-period.ensures.product c.turn_freely-period.ensures.number c.loop-number.invariant.step
+
+top : (c : After-turn_freely-period) → c.loop-number.number ≤ period_in c.args.parts.now (c.args.stop - 1)
+top c = omega (arith, c.loop-number-test.true, c.last_to_look_at-end.ensures.high, c.period_of-last.ensures.value)
 
 pub returns-in-Some-clause-next : goal.returns-in-Some-clause-next
 returns-in-Some-clause-next c =
-    let here = within_facts c.args.parts.now c.args.start c.loop-number.number c.in-Some.n c.in-Some.ensures.next.passes in
-    walk_finds c.loop-number.invariant c.loop-number.invariant.moved.place c.in-Some.ensures.next here.1
-
--- the period that a look leaves held
-held : {P : RecurrencePeriod → Type 0} (o : Option RecurrencePeriod) → MatchOption o ⊥ P → (p : RecurrencePeriod) × ((o ≡ Some p) × P p)
-held None none = absurd none
-held (Some p) is = (p, (refl, is))
+    let own = next_same _ _ c.turn_freely-period.new.self.place (Some c.in-Some.n) (within (goal.at.returns-in-Some-clause-next c).After-turn_freely-period)
+    c.in-Some.ensures.next in
+    let here = within_facts c.args.parts.now c.args.start c.loop-number.number c.in-Some.n (IsLeastFrom.passes own) in
+    walk_finds c.loop-number.invariant (c.turn_freely-period.ensures.looks.place ∙ c.loop-number.invariant.moved.place) own here.1
 
 pub returns-in-Some-clause-walked : goal.returns-in-Some-clause-walked
 returns-in-Some-clause-walked c =
-    let here = within_facts c.args.parts.now c.args.start c.loop-number.number c.in-Some.n c.in-Some.ensures.next.passes in
-    let own = held c.find.new.self.held c.find.ensures.held in
-    walk_found c.loop-number.invariant c.find.ensures.looks own.1.0 own.1.1.0 own.1.1.1 tt
-    (omega (arith, c.loop-number-test.true, c.last_to_look_at-end.ensures.high, c.period_of-last.ensures.value)) here.0
+    let turned = c.turn_freely-period.ensures in
+    let own = next_same _ _ c.turn_freely-period.new.self.place (Some c.in-Some.n) (within (goal.at.returns-in-Some-clause-walked c).After-turn_freely-period)
+    c.in-Some.ensures.next in
+    let here = within_facts c.args.parts.now c.args.start c.loop-number.number c.in-Some.n (IsLeastFrom.passes own) in
+    walk_found c.loop-number.invariant turned.looks turned.held turned.product turned.number tt
+    (top (goal.at.returns-in-Some-clause-walked c).After-turn_freely-period) here.0
 
 pub next_open_step-number-requires-clause-step : goal.next_open_step-number-requires-clause-step
-next_open_step-number-requires-clause-step c = let step = c.loop-number.invariant.step in grind (arith, step_on)
+next_open_step-number-requires-clause-step c =
+    rw (c.turn_freely-period.ensures.number, c.period_of-first.ensures.value) c.loop-number.invariant.step
 
 pub loop-number-preserved : goal.loop-number-preserved
 loop-number-preserved c =
-    let own = held c.find.new.self.held c.find.ensures.held in
-    walk_goes_on c.loop-number.invariant c.find.ensures.looks own.1.0 own.1.1.0 own.1.1.1 tt
-    (omega (arith, c.loop-number-test.true, c.last_to_look_at-end.ensures.high, c.period_of-last.ensures.value))
-    (λ n l. c.in_default.ensures.next n (omega (arith, l, c.loop-number.invariant.moved.place)))
-    (rw c.period_of-first.ensures.value at c.next_open_step-number.ensures)
+    let at = (goal.at.loop-number-preserved c).After-turn_freely-period in
+    let turned = c.turn_freely-period.ensures in
+    walk_goes_on c.loop-number.invariant turned.looks turned.held turned.product turned.number tt (top at)
+    (λ n l. sym (within at n) ∙ c.in_default.ensures.next n (omega (arith, l, turned.looks.place, c.loop-number.invariant.moved.place)))
+    (rw (c.period_of-first.ensures.value, turned.number) at c.next_open_step-number.ensures)
 
 pub returns-clause-next : goal.returns-clause-next
 returns-clause-next c = walk_rounds_end {begin = c.max.result} {end = c.last_to_look_at-end.result} c.loop-number.invariant c.requires.stop
