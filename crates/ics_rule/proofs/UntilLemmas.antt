@@ -1,17 +1,15 @@
 -- What UNTIL leaves of a rule.
-use Rattle.std.proofs.Common.{◌≡◌, ℕ, ◌+◌, ◌*◌, ◌/◌, Bool, true, false, ◌&&◌, ◌||◌, ◌==◌, nat_le, nat_lt, Option, Some, None, ℤ, refl, ap, arith}
+use Rattle.std.proofs.Common.{◌≡◌, ℕ, ◌+◌, ◌*◌, ◌/◌, Bool, true, ◌&&◌, ◌||◌, ◌==◌, nat_le, nat_lt, Option, Some, ℤ, refl, ap, arith}
 use Rattle.std.proofs.lemmas.Bool.Decides.{nat_tests}
 use Rattle.ics_fields.specs.declared.frequency.Frequency.{Frequency}
 use Rattle.ics_fields.specs.declared.until.Until.{Until}
-use Rattle.ics_fields.specs.declared.until.Until.TheVariants as until
 use Rattle.ics_fields.specs.Locals.{number}
 use Rattle.ics_rule.specs.declared.kind.Kind.{Kind}
-use Rattle.ics_rule.specs.declared.kind.Kind.TheVariants.{Date, DateTime}
 use Rattle.ics_rule.specs.Recurrence.{Recurrence}
 use Rattle.ics_rule.specs.PeriodNumbers.{rules_end}
 use Rattle.ics_rule.specs.EffectiveRules.{takes_month, takes_month_day, takes_weekday, effective}
-use Rattle.ics_rule.specs.Kept.{count, is_chosen, is_in_rule, is_by_until, is_counted, is_kept, until_moment}
-use Rattle.ics_rule.specs.UntilBounds.{last_of_day, last_local, is_up_to, is_bounded, without_until}
+use Rattle.ics_rule.specs.Kept.{is_chosen, is_in_rule, is_by_until, is_counted, is_kept, until_moment}
+use Rattle.ics_rule.specs.UntilBounds.{last_local, is_up_to, is_bounded, without_until}
 use Rattle.ics_rule.proofs.Counts.{count-same}
 
 -- a date is compared as the last local of its day is

@@ -33,6 +33,10 @@ lets_within f q n =
     (not (skips_hours f) || lets q.hours (hour_of n)) && (not (skips_minutes f) || lets q.minutes (minute_of n))
     && (not (skips_seconds f) || lets q.seconds (second_of n))
 
+-- a period is a multiple of the interval after the first, with a time that is allowed
+abbrev pub is_timely : EffectiveRule → ℕ → ℕ → Bool
+is_timely q first p = is_stepped first q.interval p && lets_own q.frequency q (p * seconds_of q.frequency)
+
 -- a period is a multiple of the interval after the first, and the rule allows a local of it
 abbrev pub is_open_period : EffectiveRule → ℕ → ℕ → Bool
 is_open_period q first p =

@@ -5,11 +5,11 @@ use Rattle.ics_fields.specs.Sets.{IsLeastFrom}
 use Rattle.ics_rule.specs.declared.effective_rule.EffectiveRule.{EffectiveRule}
 use Rattle.ics_rule.specs.declared.recurrence_period.RecurrencePeriod.{RecurrencePeriod}
 use Rattle.ics_rule.specs.declared.cursor.Cursor.{Cursor}
-use Rattle.ics_rule.specs.PeriodNumbers.{day_of}
+use Rattle.ics_rule.specs.PeriodNumbers.{day_of, rules_end}
 use Rattle.ics_rule.specs.Candidates.{is_stepped, lets_date, lets_clock, period_in}
 use Rattle.ics_rule.specs.Kept.{count, is_chosen}
 use Rattle.ics_rule.specs.RecurrencePeriods.{first_local, IsPeriodOf}
-use Rattle.ics_rule.specs.Cursors.{is_met, fresh, HasBegun, HeldBy, CountedBy, HasLookedIn, IsCounted}
+use Rattle.ics_rule.specs.Cursors.{is_met, fresh, HasBegun, HeldBy, CountedBy, HasLookedIn, IsCounted, IsCursorIn}
 
 -- the rule allows no local from one on and before another
 abbrev pub NoneLetIn : EffectiveRule → ℕ → ℕ → Type 0
@@ -79,6 +79,13 @@ pub record LooksAt (number : ℕ) (before now : Cursor) : Type 0 where
   pub looks : LooksOrStays before now
   pub begun : HasBegun before.held before.steps → HasBegun now.held now.steps
   pub steps : (met : ℕ → Bool) → met number ≡ true → before.steps ≤ count (fresh before.held) met → now.steps ≤ count (fresh now.held) met
+
+-- a cursor under COUNT c, past the start and before the end of the rules
+pub record IsUnderCount (q : EffectiveRule) (start c : ℕ) (cursor : Cursor) : Type 0 where
+  pub some : 1 ≤ c
+  pub after : start < cursor.place
+  pub early : cursor.place < rules_end
+  pub own : IsCursorIn q start (Some c) cursor
 
 -- nothing is chosen in the periods from one number on and before another
 pub record IsPassed (q : EffectiveRule) (start from before : ℕ) : Type 0 where

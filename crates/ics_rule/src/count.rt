@@ -3,16 +3,15 @@ ghost use Rattle.std.specs.Prelude.{◌≡◌, ◌<◌, ◌≤◌, ◌+◌, ◌^
 ghost use Rattle.jiff_core.specs.Weekday.{monday_zero};
 ghost use Rattle.ics_rule.specs.Candidates.{is_stepped, period_in};
 ghost use Rattle.ics_rule.specs.RecurrencePeriods.{first_local};
-ghost use Rattle.ics_rule.specs.Cursors.{IsCursorIn};
-ghost use Rattle.ics_rule.specs.Searches.{IsNextWanted, IsWalked, LooksAt, IsTurnOf, AllCounted, IsTurned};
+ghost use Rattle.ics_rule.specs.Searches.{IsNextWanted, IsWalked, LooksAt, IsTurnOf, AllCounted, IsTurned, IsUnderCount};
 ghost use Rattle.ics_rule.specs.Rounds.{IsPassedTo, CountsFrom, HasCountedTo};
 ghost use Rattle.ics_rule.specs.PeriodNumbers.{rules_end};
 
 use crate::cursor::Cursor;
-use crate::effective_rule::EffectiveRule;
 use crate::never::chooses_none;
 use crate::pass::next_open_step;
 use crate::recurrence_period::RecurrencePeriod;
+use crate::search::Search;
 use crate::step::period_of;
 
 /// 10000-01-01T00:00:00, the end of the calendar.
@@ -23,27 +22,27 @@ impl Cursor {
     /// is earlier.
     pub(crate) fn turn_to(
         &mut self,
-        parts: &EffectiveRule,
-        start: u64,
+        search: &Search<'_>,
         count: u32,
         number: u64,
     ) -> Option<RecurrencePeriod>
-        requires interval { 1 ≤ parts.now.interval }
         requires count { 1 ≤ count }
-        requires start { start < rules_end }
-        requires step { is_stepped (period_in parts.now start) parts.now.interval number ≡ true }
-        requires reach { first_local parts.now.frequency (monday_zero parts.now.week_start) number ≤ rules_end }
+        requires start { search.now.start < rules_end }
+        requires step { is_stepped (period_in search.now.parts.now search.now.start) search.now.parts.now.interval number ≡ true }
+        requires reach { first_local search.now.parts.now.frequency (monday_zero search.now.parts.now.week_start) number ≤ rules_end }
         requires room { self.old.steps < 2 ^ 63 }
-        requires turn { IsTurnOf parts.now start count number self.old }
+        requires turn { IsTurnOf search.now.parts.now search.now.start count number self.old }
         ensures looks { LooksAt number self.old self.new }
         ensures turned { MatchOption result
-            (AllCounted parts.now start count number × (self.new ≡ self.old))
-            (IsTurned parts.now start count number self.new) }
+            (AllCounted search.now.parts.now search.now.start count number × (self.new ≡ self.old))
+            (IsTurned search.now.parts.now search.now.start count number self.new) }
     {
+        let parts = search.parts;
         match self.held {
             None => {
                 let period = self.look_at(parts, number, 0);
-                self.limit = count as u64 - 1 + period.taken_before(&parts.positions, start + 1);
+                let through = period.taken_before(&parts.positions, search.start + 1);
+                self.limit = count as u64 - 1 + through;
                 Some(period)
             }
             Some(period) => {
@@ -73,70 +72,59 @@ impl Cursor {
     /// COUNT keeps is earlier.
     pub(crate) fn turn_through(
         &mut self,
-        parts: &EffectiveRule,
-        start: u64,
+        search: &Search<'_>,
         count: u32,
-        first: u64,
         begin: u64,
         end: u64,
     ) -> bool
-        requires interval { 1 ≤ parts.now.interval }
-        requires count { 1 ≤ count }
-        requires first { first ≡ period_in parts.now start }
-        requires after { start < self.old.place }
-        requires place { self.old.place < rules_end }
-        requires own { IsCursorIn parts.now start (Some count) self.old }
-        requires begin { MatchOption self.old.held (begin ≡ first) (λ p. begin ≡ p.number) }
+        requires cursor { IsUnderCount search.now.parts.now search.now.start count self.old }
+        requires begin { MatchOption self.old.held (begin ≡ search.now.first) (λ p. begin ≡ p.number) }
         requires order { begin ≤ end }
-        requires end { end ≤ period_in parts.now self.old.place }
-        requires step { is_stepped (period_in parts.now start) parts.now.interval end ≡ true }
-        ensures out { result ≡ false → IsPassedTo parts.now start count self.old self.new }
-        ensures counted { result ≡ true → HasCountedTo parts.now start count end self.old self.new }
+        requires end { end ≤ period_in search.now.parts.now self.old.place }
+        requires step { is_stepped (period_in search.now.parts.now search.now.start) search.now.parts.now.interval end ≡ true }
+        ensures out { result ≡ false → IsPassedTo search.now.parts.now search.now.start count self.old self.new }
+        ensures counted { result ≡ true → HasCountedTo search.now.parts.now search.now.start count end self.old self.new }
     {
         let place = self.place;
-        let last = period_of(parts, place);
+        let last = period_of(search.parts, place);
         let mut number = begin;
         while number < end {
-            let Some(period) = self.turn_to(parts, start, count, number) else {
+            let Some(period) = self.turn_to(search, count, number) else {
                 return false;
             };
-            number = end.min(next_open_step(parts, first, &period, last, place + 1));
+            number = end.min(next_open_step(search, &period, last, place + 1));
         }
-        self.turn_to(parts, start, count, end).is_some()
+        self.turn_to(search, count, end).is_some()
     }
 
     /// The next local from the place on that the rule chooses and COUNT keeps. It is searched for in the periods up to that of the last
     /// local before `stop`.
     pub(crate) fn walk_counting(
         &mut self,
-        parts: &EffectiveRule,
-        start: u64,
+        search: &Search<'_>,
         count: u32,
         stop: u64,
     ) -> Option<u64>
-        requires interval { 1 ≤ parts.now.interval }
-        requires count { 1 ≤ count }
-        requires after { start < self.old.place }
+        requires cursor { IsUnderCount search.now.parts.now search.now.start count self.old }
         requires place { self.old.place < stop }
         requires stop { stop ≤ rules_end }
-        requires own { IsCursorIn parts.now start (Some count) self.old }
-        ensures next { IsNextWanted parts.now start (Some count) self.old.place stop result }
-        ensures walked { IsWalked parts.now start (Some count) stop result self.old self.new }
+        ensures next { IsNextWanted search.now.parts.now search.now.start (Some count) self.old.place stop result }
+        ensures walked { IsWalked search.now.parts.now search.now.start (Some count) stop result self.old self.new }
     {
+        let parts = search.parts;
         if chooses_none(parts) {
             return None;
         }
-        let first = period_of(parts, start);
         let last = period_of(parts, stop - 1);
-        self.pass_periods(parts, start, count, first);
-        let (mut number, _) = self.counted_from(first);
+        self.pass_periods(search, count);
+        let (mut number, _) = self.counted_from(search.first);
         while number <= last {
-            let period = self.turn_to(parts, start, count, number)?;
+            let period = self.turn_to(search, count, number)?;
             if let Some(n) = period.next_taken(&parts.positions, self.place) {
                 let earlier = self.counted + period.taken_before(&parts.positions, n);
                 return if earlier < self.limit { Some(n) } else { None };
             }
-            number = next_open_step(parts, first, &period, last, stop);
+            number = next_open_step(search, &period, last, stop);
         }
         None
     }

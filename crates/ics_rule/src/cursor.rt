@@ -10,6 +10,8 @@ use crate::effective_rule::EffectiveRule;
 use crate::kind::Kind;
 use crate::recurrence_period::RecurrencePeriod;
 use crate::rule::Rule;
+use crate::search::Search;
+use crate::step::period_of;
 use ics_fields::{Local, Until};
 
 /// 9801-01-01T00:00:00, the end of the rules.
@@ -117,9 +119,14 @@ impl Cursor {
         ensures next { IsNextWanted (effective rule.now) start rule.now.parts.count self.old.place stop result }
         ensures walked { IsWalked (effective rule.now) start rule.now.parts.count stop result self.old self.new }
     {
+        let search = Search {
+            parts: &rule.whole,
+            start,
+            first: period_of(&rule.whole, start),
+        };
         match rule.parts.count() {
-            None => self.walk_freely(&rule.whole, start, stop),
-            Some(count) => self.walk_counting(&rule.whole, start, count, stop),
+            None => self.walk_freely(&search, stop),
+            Some(count) => self.walk_counting(&search, count, stop),
         }
     }
 

@@ -19,6 +19,7 @@ mod recurrence_period;
 mod rounds;
 mod rule;
 mod runs;
+mod search;
 mod step;
 mod table;
 mod time;

@@ -2,9 +2,9 @@
 ghost use Rattle.std.specs.Prelude.{◌≡◌, ◌<◌, ◌≤◌, ◌+◌, ◌-◌, ◌*◌, ◌/◌, ◌^◌, ◌&&◌, Some};
 ghost use Rattle.ics_rule.specs.Candidates.{is_stepped, lets_date, period_in};
 ghost use Rattle.ics_rule.specs.Kept.{count};
-ghost use Rattle.ics_rule.specs.Cursors.{IsCursorIn};
+ghost use Rattle.ics_rule.specs.Searches.{IsUnderCount};
 ghost use Rattle.ics_rule.specs.Rounds.{seconds_of, IsPassedTo};
-ghost use Rattle.ics_rule.specs.OpenPeriods.{per_day, lets_own, is_open_period, chosen_in_open};
+ghost use Rattle.ics_rule.specs.OpenPeriods.{per_day, lets_own, is_timely, is_open_period, chosen_in_open};
 ghost use Rattle.ics_fields.specs.Days.{days_before_year};
 ghost use Rattle.ics_rule.specs.PeriodNumbers.{day_before, rules_end};
 
@@ -16,6 +16,7 @@ use crate::never::size_of_open;
 use crate::pass::days_of_closed_month;
 use crate::recurrence_period::ranks::listed_below;
 use crate::rounds::{calendar_round, seconds_of};
+use crate::search::Search;
 use crate::step::period_of;
 use crate::time::lets;
 use crate::walk::next_step;
@@ -31,18 +32,16 @@ fn lets_own(parts: &EffectiveRule, n: u64) -> bool
 }
 
 /// How many steps from one period on and before another have an hour, minute and second that are allowed, whatever their days are.
-fn steps_let_in(parts: &EffectiveRule, first: u64, from: u64, before: u64) -> u64
-    requires interval { 1 ≤ parts.now.interval }
-    requires first { first < 2 ^ 40 }
+fn steps_let_in(search: &Search<'_>, from: u64, before: u64) -> u64
     requires order { from ≤ before }
     requires before { before < 2 ^ 40 }
-    requires unit { seconds_of parts.now.frequency ≤ 86400 }
-    ensures { result + count from (λ p. is_stepped first parts.now.interval p && lets_own parts.now.frequency parts.now (p * seconds_of parts.now.frequency))
-        ≡ count before (λ p. is_stepped first parts.now.interval p && lets_own parts.now.frequency parts.now (p * seconds_of parts.now.frequency)) }
+    requires unit { seconds_of search.now.parts.now.frequency ≤ 86400 }
+    ensures { result + count from (is_timely search.now.parts.now search.now.first) ≡ count before (is_timely search.now.parts.now search.now.first) }
 {
+    let parts = search.parts;
     let unit = seconds_of(parts.frequency);
     let mut total = 0;
-    let mut number = next_step(first, parts.interval, from);
+    let mut number = next_step(search.first, parts.interval, from);
     while number < before {
         if lets_own(parts, number * unit) {
             total += 1;
@@ -57,13 +56,13 @@ const A_SHORT_MONTH: u32 = 28;
 
 /// How many days are allowed, of those in steps of the interval from one on and before another. A month that BYMONTH does not allow is left
 /// at its end.
-fn days_let_in(parts: &EffectiveRule, from: u64, before: u64) -> u64
-    requires interval { 1 ≤ parts.now.interval }
+fn days_let_in(search: &Search<'_>, from: u64, before: u64) -> u64
     requires order { from ≤ before }
     requires before { before ≤ day_before 9_999 }
-    ensures value { result ≡ count before (λ e. is_stepped from parts.now.interval e && lets_date parts.now e) }
+    ensures value { result ≡ count before (λ e. is_stepped from search.now.parts.now.interval e && lets_date search.now.parts.now e) }
     ensures bound { result ≤ before }
 {
+    let parts = search.parts;
     let leaves_months = parts.interval < A_SHORT_MONTH && !parts.months.is_empty();
     let mut total = 0;
     let mut day = from;
@@ -82,84 +81,79 @@ fn days_let_in(parts: &EffectiveRule, from: u64, before: u64) -> u64
 }
 
 /// How many periods of whole days are allowed. Steps have the same times on days that are a multiple of the interval apart.
-fn open_of_days(parts: &EffectiveRule, first: u64, from: u64, before: u64) -> u64
-    requires interval { 1 ≤ parts.now.interval }
-    requires fine { 0 < seconds_of parts.now.frequency }
-    requires unit { seconds_of parts.now.frequency ≤ 86400 }
-    requires first { first < from * per_day parts.now.frequency }
+fn open_of_days(search: &Search<'_>, from: u64, before: u64) -> u64
+    requires fine { 0 < seconds_of search.now.parts.now.frequency }
+    requires unit { seconds_of search.now.parts.now.frequency ≤ 86400 }
+    requires first { search.now.first < from * per_day search.now.parts.now.frequency }
     requires order { from ≤ before }
     requires before { before ≤ days_before_year 9_801 + 1 }
-    ensures { result + count (from * per_day parts.now.frequency) (is_open_period parts.now first)
-        ≡ count (before * per_day parts.now.frequency) (is_open_period parts.now first) }
+    ensures { result + count (from * per_day search.now.parts.now.frequency) (is_open_period search.now.parts.now search.now.first)
+        ≡ count (before * per_day search.now.parts.now.frequency) (is_open_period search.now.parts.now search.now.first) }
 {
-    let per_day = 86_400 / seconds_of(parts.frequency);
+    let per_day = 86_400 / seconds_of(search.parts.frequency);
     let mut total = 0;
-    for j in 0..(parts.interval as u64).min(before - from) {
+    for j in 0..(search.parts.interval as u64).min(before - from) {
         let day = from + j;
-        let days = days_let_in(parts, day, before);
+        let days = days_let_in(search, day, before);
         if days > 0 {
-            total += days * steps_let_in(parts, first, day * per_day, (day + 1) * per_day);
+            total += days * steps_let_in(search, day * per_day, (day + 1) * per_day);
         }
     }
     total
 }
 
 /// How many periods of one day are allowed, from one on and before another.
-fn open_in_day(parts: &EffectiveRule, first: u64, from: u64, before: u64) -> u64
-    requires interval { 1 ≤ parts.now.interval }
-    requires fine { 0 < seconds_of parts.now.frequency }
-    requires unit { seconds_of parts.now.frequency ≤ 86400 }
-    requires first { first < 2 ^ 40 }
+fn open_in_day(search: &Search<'_>, from: u64, before: u64) -> u64
+    requires fine { 0 < seconds_of search.now.parts.now.frequency }
+    requires unit { seconds_of search.now.parts.now.frequency ≤ 86400 }
     requires order { from ≤ before }
-    requires day { before ≤ (from / per_day parts.now.frequency + 1) * per_day parts.now.frequency }
-    requires before { from / per_day parts.now.frequency ≤ days_before_year 9_801 + 1 }
-    ensures { result + count from (is_open_period parts.now first) ≡ count before (is_open_period parts.now first) }
+    requires day { before ≤ (from / per_day search.now.parts.now.frequency + 1) * per_day search.now.parts.now.frequency }
+    requires before { from / per_day search.now.parts.now.frequency ≤ days_before_year 9_801 + 1 }
+    ensures { result + count from (is_open_period search.now.parts.now search.now.first) ≡ count before (is_open_period search.now.parts.now search.now.first) }
 {
-    let per_day = 86_400 / seconds_of(parts.frequency);
-    if lets_date(parts, (from / per_day) as u32) {
-        steps_let_in(parts, first, from, before)
+    let per_day = 86_400 / seconds_of(search.parts.frequency);
+    if lets_date(search.parts, (from / per_day) as u32) {
+        steps_let_in(search, from, before)
     } else {
         0
     }
 }
 
 /// How many periods are allowed from one on and before another, counted by whole days.
-fn open_by_days(parts: &EffectiveRule, first: u64, from: u64, before: u64) -> u64
-    requires interval { 1 ≤ parts.now.interval }
-    requires fine { 0 < seconds_of parts.now.frequency }
-    requires unit { seconds_of parts.now.frequency ≤ 86400 }
-    requires first { first ≤ from }
+fn open_by_days(search: &Search<'_>, from: u64, before: u64) -> u64
+    requires fine { 0 < seconds_of search.now.parts.now.frequency }
+    requires unit { seconds_of search.now.parts.now.frequency ≤ 86400 }
+    requires first { search.now.first ≤ from }
     requires order { from ≤ before }
-    requires before { before / per_day parts.now.frequency ≤ days_before_year 9_801 + 1 }
-    ensures { result + count from (is_open_period parts.now first) ≡ count before (is_open_period parts.now first) }
+    requires before { before / per_day search.now.parts.now.frequency ≤ days_before_year 9_801 + 1 }
+    ensures { result + count from (is_open_period search.now.parts.now search.now.first) ≡ count before (is_open_period search.now.parts.now search.now.first) }
 {
-    let per_day = 86_400 / seconds_of(parts.frequency);
+    let per_day = 86_400 / seconds_of(search.parts.frequency);
     let day = from / per_day;
     let last = before / per_day;
     if day == last {
-        return open_in_day(parts, first, from, before);
+        return open_in_day(search, from, before);
     }
-    open_in_day(parts, first, from, (day + 1) * per_day)
-        + open_of_days(parts, first, day + 1, last)
-        + open_in_day(parts, first, last * per_day, before)
+    open_in_day(search, from, (day + 1) * per_day)
+        + open_of_days(search, day + 1, last)
+        + open_in_day(search, last * per_day, before)
 }
 
 /// How many periods are allowed from one on and before another. In each round of the calendar there are as many.
-fn open_between(parts: &EffectiveRule, first: u64, from: u64, before: u64) -> u64
-    requires interval { 1 ≤ parts.now.interval }
-    requires fine { 0 < seconds_of parts.now.frequency }
-    requires unit { seconds_of parts.now.frequency ≤ 86400 }
-    requires first { first ≤ from }
+fn open_between(search: &Search<'_>, from: u64, before: u64) -> u64
+    requires fine { 0 < seconds_of search.now.parts.now.frequency }
+    requires unit { seconds_of search.now.parts.now.frequency ≤ 86400 }
+    requires first { search.now.first ≤ from }
     requires order { from ≤ before }
-    requires before { before / per_day parts.now.frequency ≤ days_before_year 9_801 + 1 }
-    ensures { result + count from (is_open_period parts.now first) ≡ count before (is_open_period parts.now first) }
+    requires before { before / per_day search.now.parts.now.frequency ≤ days_before_year 9_801 + 1 }
+    ensures { result + count from (is_open_period search.now.parts.now search.now.first) ≡ count before (is_open_period search.now.parts.now search.now.first) }
 {
-    let Some(round) = calendar_round(parts, before - from) else {
-        return open_by_days(parts, first, from, before);
+    let Some(round) = calendar_round(search, before - from) else {
+        return open_by_days(search, from, before);
     };
     let rounds = (before - from) / round;
-    let one = open_by_days(parts, first, from, from + round);
-    let rest = open_by_days(parts, first, from + rounds * round, before);
+    let one = open_by_days(search, from, from + round);
+    let rest = open_by_days(search, from + rounds * round, before);
     rounds * one + rest
 }
 
@@ -183,30 +177,26 @@ const A_SHORT_WALK: u64 = 64;
 impl Cursor {
     /// Counts the periods from the one held, or from the start's, up to that of the place, if a period is a day or less, and looks at the
     /// last of them. Nothing changes if they are few.
-    pub(crate) fn pass_open(&mut self, parts: &EffectiveRule, start: u64, count: u32, first: u64)
-        requires interval { 1 ≤ parts.now.interval }
-        requires count { 1 ≤ count }
-        requires first { first ≡ period_in parts.now start }
-        requires after { start < self.old.place }
-        requires place { self.old.place < rules_end }
-        requires own { IsCursorIn parts.now start (Some count) self.old }
-        ensures { IsPassedTo parts.now start count self.old self.new }
+    pub(crate) fn pass_open(&mut self, search: &Search<'_>, count: u32)
+        requires cursor { IsUnderCount search.now.parts.now search.now.start count self.old }
+        ensures { IsPassedTo search.now.parts.now search.now.start count self.old self.new }
     {
+        let parts = search.parts;
         let unit = seconds_of(parts.frequency);
         if unit == 0 || unit > 86_400 {
             return;
         }
-        let (begin, _) = self.counted_from(first);
+        let (begin, _) = self.counted_from(search.first);
         let interval = parts.interval as u64;
         let steps = period_of(parts, self.place).saturating_sub(begin) / interval;
         if steps < A_SHORT_WALK {
             return;
         }
-        if !self.turn_through(parts, start, count, first, begin, begin) {
+        if !self.turn_through(search, count, begin, begin) {
             return;
         }
         let last = begin + steps * interval;
-        let number = open_between(parts, first, begin, last);
+        let number = open_between(search, begin, last);
         let total = self.counted + chosen_in_open(parts) * number;
         self.look_at(parts, last, total);
     }

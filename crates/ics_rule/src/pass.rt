@@ -9,6 +9,7 @@ use crate::date::{civil_at, lets_date, month_length};
 use crate::effective::skips_hours;
 use crate::effective_rule::EffectiveRule;
 use crate::recurrence_period::{RecurrencePeriod, clock_set, first_local, next_second};
+use crate::search::Search;
 use crate::step::period_of;
 use crate::time::lets;
 use crate::walk::next_step;
@@ -115,26 +116,24 @@ fn opens_every_period(parts: &EffectiveRule) -> bool {
 /// The first step after a period, which was looked at, in whose period a rule may allow a local. The next step if `last`, the period of the last
 /// local before `stop`, is earlier. Days are tested on the way, and no other period is looked at.
 pub(crate) fn next_open_step(
-    parts: &EffectiveRule,
-    first: u64,
+    search: &Search<'_>,
     period: &RecurrencePeriod,
     last: u64,
     stop: u64,
 ) -> u64
-    requires interval { 1 ≤ parts.now.interval }
-    requires first { first < 2 ^ 40 }
-    requires step { is_stepped first parts.now.interval period.now.number ≡ true }
+    requires step { is_stepped search.now.first search.now.parts.now.interval period.now.number ≡ true }
     requires small { period.now.number < 2 ^ 40 }
-    requires last { last ≡ period_in parts.now (stop - 1) }
+    requires last { last ≡ period_in search.now.parts.now (stop - 1) }
     requires some { 0 < stop }
     requires stop { stop ≤ rules_end }
-    ensures { IsNextOpen parts.now first (period.now.number + parts.now.interval) result }
+    ensures { IsNextOpen search.now.parts.now search.now.first (period.now.number + search.now.parts.now.interval) result }
 {
+    let parts = search.parts;
     let next = period.number() + parts.interval as u64;
     if next > last || opens_every_period(parts) {
         return next;
     }
     let begin = first_local(parts.frequency, parts.week_start, next);
     let place = next_open(parts, begin, stop);
-    next_step(first, parts.interval, period_of(parts, place))
+    next_step(search.first, parts.interval, period_of(parts, place))
 }

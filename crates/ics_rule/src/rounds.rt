@@ -2,7 +2,7 @@
 ghost use Rattle.std.specs.Prelude.{◌≡◌, ℕ, ◌<◌, ◌≤◌, ◌+◌, ◌*◌, ◌%◌, ◌^◌, ◌&&◌, IfSome, MatchOption, Some, true};
 ghost use Rattle.ics_rule.specs.PeriodNumbers.{day_of, rules_end};
 ghost use Rattle.ics_rule.specs.Candidates.{lets_date, lets_clock, period_in};
-ghost use Rattle.ics_rule.specs.Cursors.{IsCursorIn};
+ghost use Rattle.ics_rule.specs.Searches.{IsUnderCount};
 ghost use Rattle.ics_rule.specs.DateParts.{names_weekdays_alone};
 ghost use Rattle.ics_rule.specs.Rounds.{seconds_of, calendar_periods, IsCalendarRound, IsRound, IsFlat, IsEvenRound, HasRound, IsPassedTo};
 
@@ -10,6 +10,7 @@ use crate::cursor::Cursor;
 use crate::date::{goes_by_months, names_weekdays_alone};
 use crate::effective::skips_hours;
 use crate::effective_rule::EffectiveRule;
+use crate::search::Search;
 use crate::step::period_of;
 use ics_fields::Frequency;
 
@@ -60,10 +61,10 @@ fn repeat_seconds(parts: &EffectiveRule) -> u64
 }
 
 /// How many periods a round has, if a rule's parts restrict only times and weekdays.
-fn round_of(parts: &EffectiveRule) -> Option<u64>
-    requires interval { 1 ≤ parts.now.interval }
-    ensures { MatchOption result (Unit {0}) (λ k. (s : ℕ) × IsRound parts.now k s) }
+fn round_of(search: &Search<'_>) -> Option<u64>
+    ensures { MatchOption result (Unit {0}) (λ k. (s : ℕ) × IsRound search.now.parts.now k s) }
 {
+    let parts = search.parts;
     let unit = seconds_of(parts.frequency);
     if unit == 0 || !names_weekdays_alone(parts) {
         return None;
@@ -78,16 +79,15 @@ fn round_of(parts: &EffectiveRule) -> Option<u64>
 
 /// The period up to which a search from one on looks: one round later if the rule repeats, since it chooses nothing after a round in which it
 /// chooses nothing, and else the last.
-pub(crate) fn last_to_look_at(parts: &EffectiveRule, begin: u64, last: u64) -> u64
-    requires interval { 1 ≤ parts.now.interval }
+pub(crate) fn last_to_look_at(search: &Search<'_>, begin: u64, last: u64) -> u64
     ensures high { result ≤ last }
-    ensures round { result < last → HasRound parts.now begin result }
+    ensures round { result < last → HasRound search.now.parts.now begin result }
 {
     let left = last.saturating_sub(begin);
-    if left < A_SHORT_SEARCH || begin == 0 || skips_hours(parts.frequency) {
+    if left < A_SHORT_SEARCH || begin == 0 || skips_hours(search.parts.frequency) {
         return last;
     }
-    let Some(round) = round_of(parts) else {
+    let Some(round) = round_of(search) else {
         return last;
     };
     if round < left { begin + round } else { last }
@@ -104,12 +104,12 @@ fn is_flat(parts: &EffectiveRule) -> bool
 }
 
 /// After how many periods the number of locals that a rule chooses repeats, if that is known.
-fn even_round_of(parts: &EffectiveRule) -> Option<u64>
-    requires interval { 1 ≤ parts.now.interval }
-    ensures { MatchOption result (Unit {0}) (λ k. (start : ℕ) → IsEvenRound parts.now start k) }
+fn even_round_of(search: &Search<'_>) -> Option<u64>
+    ensures { MatchOption result (Unit {0}) (λ k. (start : ℕ) → IsEvenRound search.now.parts.now start k) }
 {
+    let parts = search.parts;
     if seconds_of(parts.frequency) > 0 {
-        return round_of(parts);
+        return round_of(search);
     }
     if !is_flat(parts) {
         return None;
@@ -140,16 +140,15 @@ fn calendar_periods(frequency: Frequency) -> u64
 
 /// The first round of the calendar's 400 years, taken once or more, that steps of the interval fill. None if it is longer than half of
 /// so many periods.
-pub(crate) fn calendar_round(parts: &EffectiveRule, periods: u64) -> Option<u64>
-    requires interval { 1 ≤ parts.now.interval }
-    requires periods { periods < 2 ^ 40 }
-    ensures round { MatchOption result (Unit {0}) (IsCalendarRound parts.now) }
+pub(crate) fn calendar_round(search: &Search<'_>, periods: u64) -> Option<u64>
+    requires { periods < 2 ^ 40 }
+    ensures round { MatchOption result (Unit {0}) (IsCalendarRound search.now.parts.now) }
     ensures twice { IfSome result (λ k. 2 * k ≤ periods) }
 {
-    let cycle = calendar_periods(parts.frequency);
+    let cycle = calendar_periods(search.parts.frequency);
     let mut round = cycle;
     while round <= periods / 2 {
-        if round % parts.interval as u64 == 0 {
+        if round % search.parts.interval as u64 == 0 {
             return Some(round);
         }
         round += cycle;
@@ -159,23 +158,20 @@ pub(crate) fn calendar_round(parts: &EffectiveRule, periods: u64) -> Option<u64>
 
 /// After how many periods the number of locals that a rule chooses repeats: by what its parts restrict, or else by the calendar, if two
 /// rounds of it fit into so many periods.
-fn round_within(parts: &EffectiveRule, periods: u64) -> Option<u64>
-    requires interval { 1 ≤ parts.now.interval }
-    requires periods { periods < 2 ^ 40 }
-    ensures { MatchOption result (Unit {0}) (λ k. (start : ℕ) → IsEvenRound parts.now start k) }
+fn round_within(search: &Search<'_>, periods: u64) -> Option<u64>
+    requires { periods < 2 ^ 40 }
+    ensures { MatchOption result (Unit {0}) (λ k. (start : ℕ) → IsEvenRound search.now.parts.now start k) }
 {
-    match even_round_of(parts) {
+    match even_round_of(search) {
         Some(round) => Some(round),
-        None => calendar_round(parts, periods),
+        None => calendar_round(search, periods),
     }
 }
 
 /// Whether what a rule allows repeats after so few periods that they are looked at one by one.
-fn repeats_soon(parts: &EffectiveRule) -> bool
-    requires interval { 1 ≤ parts.now.interval }
-{
-    match even_round_of(parts) {
-        Some(round) => round / parts.interval as u64 <= A_SHORT_ROUND,
+fn repeats_soon(search: &Search<'_>) -> bool {
+    match even_round_of(search) {
+        Some(round) => round / search.parts.interval as u64 <= A_SHORT_ROUND,
         None => false,
     }
 }
@@ -194,43 +190,33 @@ impl Cursor {
 
     /// Counts what is chosen in the periods up to that of the place, and looks at one of the last of them: by whole rounds if these are
     /// short or a period is longer than a day, and else by whole days. Nothing changes if neither can be done.
-    pub(crate) fn pass_periods(&mut self, parts: &EffectiveRule, start: u64, count: u32, first: u64)
-        requires interval { 1 ≤ parts.now.interval }
-        requires count { 1 ≤ count }
-        requires first { first ≡ period_in parts.now start }
-        requires after { start < self.old.place }
-        requires place { self.old.place < rules_end }
-        requires own { IsCursorIn parts.now start (Some count) self.old }
-        ensures { IsPassedTo parts.now start count self.old self.new }
+    pub(crate) fn pass_periods(&mut self, search: &Search<'_>, count: u32)
+        requires cursor { IsUnderCount search.now.parts.now search.now.start count self.old }
+        ensures { IsPassedTo search.now.parts.now search.now.start count self.old self.new }
     {
-        if self.is_close(parts) {
+        if self.is_close(search.parts) {
             return;
         }
-        let unit = seconds_of(parts.frequency);
-        if unit == 0 || unit > 86_400 || repeats_soon(parts) {
-            self.pass_rounds(parts, start, count, first);
+        let unit = seconds_of(search.parts.frequency);
+        if unit == 0 || unit > 86_400 || repeats_soon(search) {
+            self.pass_rounds(search, count);
         } else {
-            self.pass_open(parts, start, count, first);
+            self.pass_open(search, count);
         }
     }
 
     /// Counts the first round, from the period held or from the start's on. Then looks at the last period up to the place that is whole
     /// rounds after it. Nothing changes, or the first round is looked at, if fewer than two are left.
-    fn pass_rounds(&mut self, parts: &EffectiveRule, start: u64, count: u32, first: u64)
-        requires interval { 1 ≤ parts.now.interval }
-        requires count { 1 ≤ count }
-        requires first { first ≡ period_in parts.now start }
-        requires after { start < self.old.place }
-        requires place { self.old.place < rules_end }
-        requires own { IsCursorIn parts.now start (Some count) self.old }
-        ensures { IsPassedTo parts.now start count self.old self.new }
+    fn pass_rounds(&mut self, search: &Search<'_>, count: u32)
+        requires cursor { IsUnderCount search.now.parts.now search.now.start count self.old }
+        ensures { IsPassedTo search.now.parts.now search.now.start count self.old self.new }
     {
-        let (begin, before) = self.counted_from(first);
-        let ahead = period_of(parts, self.place).saturating_sub(begin);
+        let (begin, before) = self.counted_from(search.first);
+        let ahead = period_of(search.parts, self.place).saturating_sub(begin);
         if begin < 2 || ahead < 2 {
             return;
         }
-        let Some(round) = round_within(parts, ahead) else {
+        let Some(round) = round_within(search, ahead) else {
             return;
         };
         let rounds = ahead / round;
@@ -238,10 +224,10 @@ impl Cursor {
             return;
         }
         let end = begin + round;
-        if !self.turn_through(parts, start, count, first, begin, end) {
+        if !self.turn_through(search, count, begin, end) {
             return;
         }
         let total = before + rounds * (self.counted - before);
-        self.look_at(parts, begin + rounds * round, total);
+        self.look_at(search.parts, begin + rounds * round, total);
     }
 }

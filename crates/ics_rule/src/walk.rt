@@ -7,7 +7,6 @@ ghost use Rattle.ics_rule.specs.RecurrencePeriods.{first_local, IsPeriodOf};
 ghost use Rattle.ics_rule.specs.Cursors.{IsCursorIn};
 ghost use Rattle.ics_rule.specs.Searches.{IsNextWanted, IsWalked, LooksAt};
 ghost use Rattle.ics_rule.specs.PeriodNumbers.{rules_end};
-ghost use Rattle.ics_fields.specs.Locals.{calendar_end};
 
 use crate::cursor::Cursor;
 use crate::effective_rule::EffectiveRule;
@@ -15,6 +14,7 @@ use crate::never::chooses_none;
 use crate::pass::next_open_step;
 use crate::recurrence_period::RecurrencePeriod;
 use crate::rounds::last_to_look_at;
+use crate::search::Search;
 use crate::step::period_of;
 
 /// The least number from `own` on that is `first` or later by a multiple of the interval.
@@ -53,34 +53,27 @@ impl Cursor {
     }
 
     /// The next local from the place on that the rule chooses. It is searched for in the periods up to that of the last before `stop`.
-    pub(crate) fn walk_freely(
-        &mut self,
-        parts: &EffectiveRule,
-        start: u64,
-        stop: u64,
-    ) -> Option<u64>
-        requires interval { 1 ≤ parts.now.interval }
-        requires start { start < calendar_end }
+    pub(crate) fn walk_freely(&mut self, search: &Search<'_>, stop: u64) -> Option<u64>
         requires place { self.old.place < stop }
         requires stop { stop ≤ rules_end }
-        requires own { IsCursorIn parts.now start None self.old }
-        ensures next { IsNextWanted parts.now start None self.old.place stop result }
-        ensures walked { IsWalked parts.now start None stop result self.old self.new }
+        requires own { IsCursorIn search.now.parts.now search.now.start None self.old }
+        ensures next { IsNextWanted search.now.parts.now search.now.start None self.old.place stop result }
+        ensures walked { IsWalked search.now.parts.now search.now.start None stop result self.old self.new }
     {
+        let parts = search.parts;
         if chooses_none(parts) {
             return None;
         }
-        let first = period_of(parts, start);
         let own = period_of(parts, self.place);
         let last = period_of(parts, stop - 1);
-        let end = last_to_look_at(parts, first.max(own), last);
-        let mut number = next_step(first, parts.interval, own);
+        let end = last_to_look_at(search, search.first.max(own), last);
+        let mut number = next_step(search.first, parts.interval, own);
         while number <= end {
             let period = self.turn_freely(parts, number);
             if let Some(n) = period.next_taken(&parts.positions, self.place) {
                 return Some(n);
             }
-            number = next_open_step(parts, first, &period, last, stop);
+            number = next_open_step(search, &period, last, stop);
         }
         None
     }

@@ -6,20 +6,20 @@ use Rattle.ics_rule.proofs.OpenLemmas.{IsDayRun, day_some, placed, placed_none, 
 use Rattle.ics_rule.proofs.open_periods.open_of_days.Goals as goal
 use Rattle.ics_rule.proofs.open_periods.open_of_days.Goals.{then-days-gt0, else-days-gt0, After-min-j-end, After-steps_let_in}
 
-run : (c : After-min-j-end) → IsDayRun c.args.parts.now c.args.first c.args.from c.args.before
-run c = record { fine = c.requires.fine; unit = c.requires.unit; some = c.requires.interval; later = c.requires.first; order = c.requires.order }
+run : (c : After-min-j-end) → IsDayRun c.args.search.now.parts.now c.args.search.now.first c.args.from c.args.before
+run c = record { fine = c.requires.fine; unit = c.requires.unit; some = c.args.search.now.interval; later = c.requires.first; order = c.requires.order }
 
 pub loop-j-init : goal.loop-j-init
 loop-j-init c = placed_none (run c)
 
 -- the sum of the days so far is small
-small : (c : After-steps_let_in) → IsDayRun c.args.parts.now c.args.first c.args.from c.args.before
+small : (c : After-steps_let_in) → IsDayRun c.args.search.now.parts.now c.args.search.now.first c.args.from c.args.before
     → c.loop-j.total + c.days_let_in-days.result * c.steps_let_in.result ≤ 3_579_743 * 86_400
 small c run =
     let all = placed_more run (omega (arith, c.loop-j-test.true, c.min-j-end.ensures)) c.steps_let_in.result c.loop-j.invariant
     c.days_let_in-days.ensures.value c.seconds_of-per_day.ensures.value c.steps_let_in.ensures in
-    let most = count_most (c.args.before * per_day c.args.parts.now.frequency) (placed c.args.parts.now c.args.first c.args.from (c.loop-j.j + 1)) in
-    let high = mul-le c.args.before (per_day c.args.parts.now.frequency) 3_579_743 86_400 c.requires.before (day_some c.args.parts.now.frequency).1 in
+    let most = count_most (c.args.before * per_day c.args.search.now.parts.now.frequency) (placed c.args.search.now.parts.now c.args.search.now.first c.args.from (c.loop-j.j + 1)) in
+    let high = mul-le c.args.before (per_day c.args.search.now.parts.now.frequency) 3_579_743 86_400 c.requires.before (day_some c.args.search.now.parts.now.frequency).1 in
     omega (arith, all, most, high)
 
 pub overflow_mul-total : goal.overflow_mul-total

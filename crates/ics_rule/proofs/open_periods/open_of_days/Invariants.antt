@@ -6,4 +6,4 @@ use Rattle.ics_rule.proofs.open_periods.open_of_days.Given as goal
 
 -- the days with places before the next are counted
 abbrev pub invariant-loop-j : goal.invariant-loop-j
-invariant-loop-j l = l.total ≡ count (l.before * per_day l.parts.frequency) (placed l.parts l.first l.from l.j)
+invariant-loop-j l = l.total ≡ count (l.before * per_day l.search.parts.now.frequency) (placed l.search.parts.now l.search.first l.from l.j)

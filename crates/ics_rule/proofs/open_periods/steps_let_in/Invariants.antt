@@ -5,8 +5,8 @@ use Rattle.ics_rule.proofs.OpenLemmas.{IsStepWalk}
 use Rattle.ics_rule.proofs.open_periods.steps_let_in.Given as goal
 
 abbrev pub invariant-loop-number : goal.invariant-loop-number
-invariant-loop-number l = IsStepWalk l.first l.parts.interval
-    (λ p. lets_own l.parts.frequency l.parts (p * seconds_of l.parts.frequency)) l.from l.before l.number l.total
+invariant-loop-number l = IsStepWalk l.search.first l.search.parts.now.interval
+    (λ p. lets_own l.search.parts.now.frequency l.search.parts.now (p * seconds_of l.search.parts.now.frequency)) l.from l.before l.number l.total
 
 abbrev pub decreases-loop-number : goal.decreases-loop-number
 decreases-loop-number l = l.before - l.number

@@ -13,34 +13,34 @@ pub turn_through-requires-clause-end : goal.turn_through-requires-clause-end
 turn_through-requires-clause-end c = grind (arith, div-add-mod', mul-le-mul_right)
 
 pub turn_through-requires-clause-step : goal.turn_through-requires-clause-step
-turn_through-requires-clause-step c = first_step (c.in-Some.ensures c.args.start)
-    (counts_from c.requires.interval c.requires.own c.requires.first c.counted_from-begin.ensures)
+turn_through-requires-clause-step c = first_step (c.in-Some.ensures c.args.search.now.start)
+    (counts_from c.args.search.now.interval c.requires.cursor.own c.args.search.now.of_start c.counted_from-begin.ensures)
 
 -- what is counted up to the period that is whole rounds after the first
 ends : (c : Else-not-turn_through) → (c.counted_from-begin.result.1 ≤ c.turn_through.new.self.counted)
-    × IsCountedStep c.args.parts.now c.args.start (c.counted_from-begin.result.0 + c.in-Some.round)
+    × IsCountedStep c.args.search.now.parts.now c.args.search.now.start (c.counted_from-begin.result.0 + c.in-Some.round)
     (c.counted_from-begin.result.0 + c.saturating_sub-ahead.result / c.in-Some.round * c.in-Some.round) c.args.self.now.place
     (c.counted_from-begin.result.1 + c.saturating_sub-ahead.result / c.in-Some.round * (c.turn_through.new.self.counted - c.counted_from-begin.result.1))
 ends c =
     let turned = (c.turn_through.ensures.counted c.if-not-turn_through.false).turned in
-    rounds_end (c.in-Some.ensures c.args.start) (counts_from c.requires.interval c.requires.own c.requires.first c.counted_from-begin.ensures)
-    (c.if-begin-lt2.false, c.if-rounds-lt2.false) (grind (arith, div-add-mod')) c.requires.place (rw turned.number at turned.counted.total)
+    rounds_end (c.in-Some.ensures c.args.search.now.start) (counts_from c.args.search.now.interval c.requires.cursor.own c.args.search.now.of_start c.counted_from-begin.ensures)
+    (c.if-begin-lt2.false, c.if-rounds-lt2.false) (grind (arith, div-add-mod')) c.requires.cursor.early (rw turned.number at turned.counted.total)
 
 pub overflow_sub-total : goal.overflow_sub-total
 overflow_sub-total c = (ends c).0
 
 pub overflow_mul-total : goal.overflow_mul-total
-overflow_mul-total c = let small = total_small (ends c).1 in omega (arith, small, c.requires.place)
+overflow_mul-total c = let small = total_small (ends c).1 in omega (arith, small, c.requires.cursor.early)
 
 pub overflow_add-total : goal.overflow_add-total
-overflow_add-total c = let small = total_small (ends c).1 in omega (arith, small, c.requires.place)
+overflow_add-total c = let small = total_small (ends c).1 in omega (arith, small, c.requires.cursor.early)
 
 pub look_at-requires-clause-low : goal.look_at-requires-clause-low
-look_at-requires-clause-low c = step_low c.args.parts.now c.args.start _ (ends (goal.at.look_at-requires-clause-low c).Else-not-turn_through).1.step
+look_at-requires-clause-low c = step_low c.args.search.now.parts.now c.args.search.now.start _ (ends (goal.at.look_at-requires-clause-low c).Else-not-turn_through).1.step
 
 pub look_at-requires-clause-reach : goal.look_at-requires-clause-reach
 look_at-requires-clause-reach c = let r = counted_reach (ends (goal.at.look_at-requires-clause-reach c).Else-not-turn_through).1 in
-    omega (arith, r, c.requires.place)
+    omega (arith, r, c.requires.cursor.early)
 
 pub look_at-requires-clause-room : goal.look_at-requires-clause-room
 look_at-requires-clause-room c =
@@ -49,8 +49,8 @@ look_at-requires-clause-room c =
     omega (arith, r, end.later, end.top, c.period_of.ensures.value, c.period_of.ensures.small)
 
 pub returns : goal.returns
-returns c = passed_on (c.turn_through.ensures.counted c.if-not-turn_through.false) (ends (goal.at.returns c).Else-not-turn_through).1 c.requires.after
-    c.requires.own.inside c.look_at.ensures.cursor (c.look_at.ensures.product, c.look_at.ensures.number)
+returns c = passed_on (c.turn_through.ensures.counted c.if-not-turn_through.false) (ends (goal.at.returns c).Else-not-turn_through).1 c.requires.cursor.after
+    c.requires.cursor.own.inside c.look_at.ensures.cursor (c.look_at.ensures.product, c.look_at.ensures.number)
 
 pub nonzero_div-rounds : goal.nonzero_div-rounds
-nonzero_div-rounds c = let is = c.in-Some.ensures c.args.start in let some = is.some in omega (arith, some)
+nonzero_div-rounds c = let is = c.in-Some.ensures c.args.search.now.start in let some = is.some in omega (arith, some)

@@ -1,8 +1,6 @@
-use Rattle.std.proofs.lemmas.Grind.{common_steps}
 use Rattle.std.proofs.Common.{◌≡◌, ◌∙◌, ◌+◌, ◌-◌, sym, arith}
 use Rattle.ics_rule.specs.Searches.{IsTurned}
 use Rattle.ics_rule.proofs.PeriodLemmas.{begun}
-use Rattle.ics_rule.proofs.StepLemmas.{step_on}
 use Rattle.ics_rule.proofs.CursorLemmas.{moved_none}
 use Rattle.ics_rule.proofs.CountingLemmas.{counting_begins, counting_goes_on, counting_stopped}
 use Rattle.ics_rule.proofs.PassedLemmas.{top_of, counting_passed, counting_room, there, none_within, not_past}
@@ -10,8 +8,8 @@ use Rattle.ics_rule.proofs.cursor.Cursor.turn_through.Goals as goal
 
 pub loop-number-init : goal.loop-number-init
 loop-number-init c = record {
-  counting = counting_begins (record { own = c.requires.own; moved = moved_none _ c.requires.own }) c.requires.first c.requires.begin
-      c.requires.interval c.requires.after (omega arith);
+  counting = counting_begins (record { own = c.requires.cursor.own; moved = moved_none _ c.requires.cursor.own }) c.args.search.now.of_start c.requires.begin
+      c.args.search.now.interval c.requires.cursor.after (omega arith);
   high = c.requires.order;
 }
 
@@ -23,7 +21,7 @@ turn_to-requires-clause-room c = let few = counting_room c.loop-number.invariant
 
 pub next_open_step-requires-clause-step : goal.next_open_step-requires-clause-step
 next_open_step-requires-clause-step c =
-    rw (c.in-Some.ensures.turned.number, c.requires.first) c.loop-number.invariant.counting.walk.step
+    rw (c.in-Some.ensures.turned.number, c.args.search.now.of_start) c.loop-number.invariant.counting.walk.step
 
 pub loop-number-preserved : goal.loop-number-preserved
 loop-number-preserved c =
@@ -31,10 +29,10 @@ loop-number-preserved c =
     let turned = c.in-Some.ensures.turned in
     record {
       counting = counting_goes_on counting turned c.in-Some.ensures.looks
-          (top_of c.args.parts.now c.args.self.now.place c.loop-number.number (omega (arith, c.loop-number-test.true, c.requires.end)))
-          (none_within c.args.parts.now c.args.start c.args.self.now.place (omega (arith, c.loop-number-test.true, c.requires.end)))
-          (rw c.min-number.ensures (not_past c.requires.interval counting.walk.step c.requires.step c.loop-number-test.true
-          (rw (c.requires.first, turned.number) at c.next_open_step.ensures)));
+          (top_of c.args.search.now.parts.now c.args.self.now.place c.loop-number.number (omega (arith, c.loop-number-test.true, c.requires.end)))
+          (none_within c.args.search.now.parts.now c.args.search.now.start c.args.self.now.place (omega (arith, c.loop-number-test.true, c.requires.end)))
+          (rw c.min-number.ensures (not_past c.args.search.now.interval counting.walk.step c.requires.step c.loop-number-test.true
+          (rw (c.args.search.now.of_start, turned.number) at c.next_open_step.ensures)));
       high = omega (arith, c.min-number.ensures);
     }
 
@@ -53,27 +51,24 @@ turn_to-requires-2-clause-turn c =
 pub returns-in_default-clause-out : goal.returns-in_default-clause-out
 returns-in_default-clause-out c = λ out.
     rw c.in_default.ensures.turned.1
-    (counting_passed c.loop-number.invariant.counting (omega (arith, c.loop-number-test.true, c.requires.end)) c.requires.own.inside)
+    (counting_passed c.loop-number.invariant.counting (omega (arith, c.loop-number-test.true, c.requires.end)) c.requires.cursor.own.inside)
 
 pub returns-clause-out : goal.returns-clause-out
 returns-clause-out c = λ out.
     let same : c.turn_to-2.new.self ≡ c.loop-number.self = grind arith in
-    rw same (counting_passed c.loop-number.invariant.counting (omega (arith, c.loop-number.invariant.high, c.requires.end)) c.requires.own.inside)
+    rw same (counting_passed c.loop-number.invariant.counting (omega (arith, c.loop-number.invariant.high, c.requires.end)) c.requires.cursor.own.inside)
 
 pub returns-clause-counted : goal.returns-clause-counted
 returns-clause-counted c = λ some.
-    let here = there _ (IsTurned c.args.parts.now c.args.start c.args.count c.args.end c.turn_to-2.new.self) c.turn_to-2.result c.turn_to-2.ensures.turned
+    let here = there _ (IsTurned c.args.search.now.parts.now c.args.search.now.start c.args.count c.args.end c.turn_to-2.new.self) c.turn_to-2.result c.turn_to-2.ensures.turned
     (sym c.is_some.ensures ∙ some) in
     let same : c.loop-number.number ≡ c.args.end = omega (arith, c.loop-number.invariant.high, c.loop-number-test.false) in
     let counting = rw same at c.loop-number.invariant.counting in
     record {
       period = here.0;
       turned = here.1;
-      walked = counting_stopped counting here.1 c.turn_to-2.ensures.looks (top_of c.args.parts.now c.args.self.now.place c.args.end c.requires.end);
+      walked = counting_stopped counting here.1 c.turn_to-2.ensures.looks (top_of c.args.search.now.parts.now c.args.self.now.place c.args.end c.requires.end);
     }
-
-pub next_open_step-requires-clause-first : goal.next_open_step-requires-clause-first
-next_open_step-requires-clause-first c = grind (arith, common_steps)
 
 pub next_open_step-requires-clause-last : goal.next_open_step-requires-clause-last
 next_open_step-requires-clause-last c =

@@ -4,7 +4,7 @@ use Rattle.ics_rule.proofs.cursor.Cursor.turn_through.Given as goal
 
 abbrev pub invariant-loop-number : goal.invariant-loop-number
 invariant-loop-number l = record {
-  counting : IsCounting l.parts l.start l.count (l.fn.self.place + 1) l.number l.fn.self l.self;
+  counting : IsCounting l.search.parts.now l.search.start l.count (l.fn.self.place + 1) l.number l.fn.self l.self;
   high : l.number ≤ l.end;
 }
 

@@ -6,17 +6,17 @@ use Rattle.ics_rule.proofs.cursor.Cursor.turn_to.Goals as goal
 use Rattle.ics_rule.proofs.cursor.Cursor.turn_to.Goals.{After-taken_before-before}
 
 pub look_at-period-requires-clause-low : goal.look_at-period-requires-clause-low
-look_at-period-requires-clause-low c = step_low c.args.parts.now c.args.start c.args.number c.requires.step
+look_at-period-requires-clause-low c = step_low c.args.search.now.parts.now c.args.search.now.start c.args.number c.requires.step
 
 pub look_at-requires-clause-low : goal.look_at-requires-clause-low
-look_at-requires-clause-low c = step_low c.args.parts.now c.args.start c.args.number c.requires.step
+look_at-requires-clause-low c = step_low c.args.search.now.parts.now c.args.search.now.start c.args.number c.requires.step
 
 -- the period held is left for a later one
-left : (c : After-taken_before-before) → IsLeft c.args.parts.now c.args.start c.args.count c.args.number c.taken_before-before.result
+left : (c : After-taken_before-before) → IsLeft c.args.search.now.parts.now c.args.search.now.start c.args.count c.args.number c.taken_before-before.result
     c.args.self.now.counted c.args.self.now.limit c.in-Some.period
 left c =
     let turn = rw c.in-Some.is at c.requires.turn in record {
-      some = c.requires.interval;
+      some = c.args.search.now.interval;
       own = turn.0;
       counted = turn.1.0;
       passed = elim turn.1.1 [ inl same ↦ absurd (c.if-number.false (c.number.ensures ∙ same)) | inr on ↦ on ];
@@ -38,7 +38,7 @@ pub returns-in-None-clause-turned : goal.returns-in-None-clause-turned
 returns-in-None-clause-turned c =
     let turn = rw c.in-None.is at c.requires.turn in
     rw c.look_at-period.ensures.cursor (turned_first c.args.self.now c.requires.count turn c.requires.step
-    (c.look_at-period.ensures.product, c.look_at-period.ensures.number) (ap (λ x. c.args.count - 1 + x) c.taken_before.ensures.value))
+    (c.look_at-period.ensures.product, c.look_at-period.ensures.number) (ap (λ x. c.args.count - 1 + x) c.taken_before-through.ensures.value))
 
 pub returns-in-None-clause-looks : goal.returns-in-None-clause-looks
 returns-in-None-clause-looks c =

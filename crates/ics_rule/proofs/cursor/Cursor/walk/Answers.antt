@@ -4,8 +4,8 @@ use Rattle.ics_rule.proofs.cursor.Cursor.walk.Goals as goal
 pub walk_freely-requires-clause-own : goal.walk_freely-requires-clause-own
 walk_freely-requires-clause-own c = grind arith
 
-pub walk_counting-requires-clause-own : goal.walk_counting-requires-clause-own
-walk_counting-requires-clause-own c = grind arith
+pub walk_counting-requires-clause-cursor : goal.walk_counting-requires-clause-cursor
+walk_counting-requires-clause-cursor c = grind arith
 
 pub returns-in-None-clause-next : goal.returns-in-None-clause-next
 returns-in-None-clause-next c = grind arith

@@ -7,8 +7,8 @@ use Rattle.ics_rule.proofs.NeverLemmas.{none_wanted, none_walked}
 use Rattle.ics_rule.proofs.cursor.Cursor.walk_counting.Goals as goal
 
 pub loop-number-init : goal.loop-number-init
-loop-number-init c = counting_begins c.pass_periods.ensures c.period_of-first.ensures.value
-    c.counted_from-number.ensures.number c.requires.interval c.requires.after c.requires.place
+loop-number-init c = counting_begins c.pass_periods.ensures c.args.search.now.of_start
+    c.counted_from-number.ensures.number c.args.search.now.interval c.requires.cursor.after c.requires.place
 
 pub turn_to-requires-clause-reach : goal.turn_to-requires-clause-reach
 turn_to-requires-clause-reach c = grind (arith, walk_reach)
@@ -18,7 +18,7 @@ returns-in_err-period-clause-next c = rw c.from_residual.ensures (counting_out c
 
 pub overflow_add-earlier : goal.overflow_add-earlier
 overflow_add-earlier c =
-    let r = walk_reach c.args.parts.now c.loop-number.number c.args.stop (omega (arith, c.loop-number-test.true, c.period_of-last.ensures.value)) in
+    let r = walk_reach c.args.search.now.parts.now c.loop-number.number c.args.stop (omega (arith, c.loop-number-test.true, c.period_of-last.ensures.value)) in
     let small = counted_small c.loop-number.number c.in_ok-period.ensures.turned.counted (omega (arith, c.in_ok-period.ensures.turned.number))
     c.loop-number.invariant.walk.step (omega (arith, r, c.requires.stop)) in
     omega (arith, small, c.taken_before.ensures.bound, c.in-Some.ensures.small)
@@ -43,7 +43,7 @@ returns-else-earlier-self-clause-walked c = counting_stopped c.loop-number.invar
 
 pub next_open_step-number-requires-clause-step : goal.next_open_step-number-requires-clause-step
 next_open_step-number-requires-clause-step c =
-    rw (c.in_ok-period.ensures.turned.number, c.period_of-first.ensures.value) c.loop-number.invariant.walk.step
+    rw (c.in_ok-period.ensures.turned.number, c.args.search.now.of_start) c.loop-number.invariant.walk.step
 
 pub loop-number-preserved : goal.loop-number-preserved
 loop-number-preserved c =
@@ -51,19 +51,19 @@ loop-number-preserved c =
     let walk = c.loop-number.invariant.walk in
     counting_goes_on c.loop-number.invariant turned c.turn_to.ensures.looks
     (omega (arith, c.loop-number-test.true, c.period_of-last.ensures.value))
-    (λ n l. sym (taken_within c.args.start turned.product turned.number walk.step n)
+    (λ n l. sym (taken_within c.args.search.now.start turned.product turned.number walk.step n)
     ∙ c.in_default.ensures.next n (omega (arith, l, c.turn_to.ensures.looks.place, walk.moved.place)))
-    (rw (c.period_of-first.ensures.value, turned.number) at c.next_open_step-number.ensures)
+    (rw (c.args.search.now.of_start, turned.number) at c.next_open_step-number.ensures)
 
 pub returns-clause-next : goal.returns-clause-next
 returns-clause-next c = walk_ends c.loop-number.invariant.walk (omega (arith, c.period_of-last.ensures.value, c.loop-number-test.false))
 
 pub returns-then-chooses_none-clause-next : goal.returns-then-chooses_none-clause-next
-returns-then-chooses_none-clause-next c = none_wanted c.args.parts.now c.args.start (Some c.args.count) c.args.self.now.place c.requires.stop
-    (c.chooses_none.ensures c.if-chooses_none.true c.args.start)
+returns-then-chooses_none-clause-next c = none_wanted c.args.search.now.parts.now c.args.search.now.start (Some c.args.count) c.args.self.now.place c.requires.stop
+    (c.chooses_none.ensures c.if-chooses_none.true c.args.search.now.start)
 
 pub returns-then-chooses_none-clause-walked : goal.returns-then-chooses_none-clause-walked
-returns-then-chooses_none-clause-walked c = none_walked c.args.stop c.requires.place c.requires.own
+returns-then-chooses_none-clause-walked c = none_walked c.args.stop c.requires.place c.requires.cursor.own
 
 pub returns-clause-walked : goal.returns-clause-walked
 returns-clause-walked c = walk_ended c.loop-number.invariant.walk

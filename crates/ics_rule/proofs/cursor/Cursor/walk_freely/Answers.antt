@@ -13,28 +13,28 @@ use Rattle.ics_rule.proofs.cursor.Cursor.walk_freely.Goals as goal
 use Rattle.ics_rule.proofs.cursor.Cursor.walk_freely.Goals.{After-turn_freely-period}
 
 pub loop-number-init : goal.loop-number-init
-loop-number-init c = walk_begins c.requires.interval
-    (rw (c.period_of-first.ensures.value, c.period_of-own.ensures.value) at c.next_step-number.ensures) c.requires.place c.requires.own
+loop-number-init c = walk_begins c.args.search.now.interval
+    (rw (c.args.search.now.of_start, c.period_of-own.ensures.value) at c.next_step-number.ensures) c.requires.place c.requires.own
 
 pub turn_freely-period-requires-clause-low : goal.turn_freely-period-requires-clause-low
-turn_freely-period-requires-clause-low c = step_low c.args.parts.now c.args.start c.loop-number.number c.loop-number.invariant.step
+turn_freely-period-requires-clause-low c = step_low c.args.search.now.parts.now c.args.search.now.start c.loop-number.number c.loop-number.invariant.step
 
 pub turn_freely-period-requires-clause-reach : goal.turn_freely-period-requires-clause-reach
 turn_freely-period-requires-clause-reach c = grind (arith, walk_reach)
 
 -- what the period turned to takes is chosen within it
-within : (c : After-turn_freely-period) → (n : ℕ) → is_taken c.args.parts.now.positions (lists_none_wide c.args.parts.now.positions) c.turn_freely-period.result n
-    ≡ is_chosen_within c.args.parts.now c.args.start c.loop-number.number n
-within c = taken_within c.args.start c.turn_freely-period.ensures.product c.turn_freely-period.ensures.number c.loop-number.invariant.step
+within : (c : After-turn_freely-period) → (n : ℕ) → is_taken c.args.search.now.parts.now.positions (lists_none_wide c.args.search.now.parts.now.positions) c.turn_freely-period.result n
+    ≡ is_chosen_within c.args.search.now.parts.now c.args.search.now.start c.loop-number.number n
+within c = taken_within c.args.search.now.start c.turn_freely-period.ensures.product c.turn_freely-period.ensures.number c.loop-number.invariant.step
 
-top : (c : After-turn_freely-period) → c.loop-number.number ≤ period_in c.args.parts.now (c.args.stop - 1)
+top : (c : After-turn_freely-period) → c.loop-number.number ≤ period_in c.args.search.now.parts.now (c.args.stop - 1)
 top c = omega (arith, c.loop-number-test.true, c.last_to_look_at-end.ensures.high, c.period_of-last.ensures.value)
 
 pub returns-in-Some-clause-next : goal.returns-in-Some-clause-next
 returns-in-Some-clause-next c =
     let own = next_same _ _ c.turn_freely-period.new.self.place (Some c.in-Some.n) (within (goal.at.returns-in-Some-clause-next c).After-turn_freely-period)
     c.in-Some.ensures.next in
-    let here = within_facts c.args.parts.now c.args.start c.loop-number.number c.in-Some.n (IsLeastFrom.passes own) in
+    let here = within_facts c.args.search.now.parts.now c.args.search.now.start c.loop-number.number c.in-Some.n (IsLeastFrom.passes own) in
     walk_finds c.loop-number.invariant (c.turn_freely-period.ensures.looks.place ∙ c.loop-number.invariant.moved.place) own here.1
 
 pub returns-in-Some-clause-walked : goal.returns-in-Some-clause-walked
@@ -42,13 +42,13 @@ returns-in-Some-clause-walked c =
     let turned = c.turn_freely-period.ensures in
     let own = next_same _ _ c.turn_freely-period.new.self.place (Some c.in-Some.n) (within (goal.at.returns-in-Some-clause-walked c).After-turn_freely-period)
     c.in-Some.ensures.next in
-    let here = within_facts c.args.parts.now c.args.start c.loop-number.number c.in-Some.n (IsLeastFrom.passes own) in
+    let here = within_facts c.args.search.now.parts.now c.args.search.now.start c.loop-number.number c.in-Some.n (IsLeastFrom.passes own) in
     walk_found c.loop-number.invariant turned.looks turned.held turned.product turned.number tt
     (top (goal.at.returns-in-Some-clause-walked c).After-turn_freely-period) here.0
 
 pub next_open_step-number-requires-clause-step : goal.next_open_step-number-requires-clause-step
 next_open_step-number-requires-clause-step c =
-    rw (c.turn_freely-period.ensures.number, c.period_of-first.ensures.value) c.loop-number.invariant.step
+    rw (c.turn_freely-period.ensures.number, c.args.search.now.of_start) c.loop-number.invariant.step
 
 pub loop-number-preserved : goal.loop-number-preserved
 loop-number-preserved c =
@@ -56,11 +56,11 @@ loop-number-preserved c =
     let turned = c.turn_freely-period.ensures in
     walk_goes_on c.loop-number.invariant turned.looks turned.held turned.product turned.number tt (top at)
     (λ n l. sym (within at n) ∙ c.in_default.ensures.next n (omega (arith, l, turned.looks.place, c.loop-number.invariant.moved.place)))
-    (rw (c.period_of-first.ensures.value, turned.number) at c.next_open_step-number.ensures)
+    (rw (c.args.search.now.of_start, turned.number) at c.next_open_step-number.ensures)
 
 pub returns-clause-next : goal.returns-clause-next
 returns-clause-next c = walk_rounds_end {begin = c.max.result} {end = c.last_to_look_at-end.result} c.loop-number.invariant c.requires.stop
-    c.loop-number-test.false (omega (arith, c.max.ensures, c.period_of-first.ensures.value)) (omega (arith, c.max.ensures, c.period_of-own.ensures.value))
+    c.loop-number-test.false (omega (arith, c.max.ensures, c.args.search.now.of_start)) (omega (arith, c.max.ensures, c.period_of-own.ensures.value))
     (λ less. c.last_to_look_at-end.ensures.round (omega (arith, less, c.period_of-last.ensures.value)))
 
 pub returns-clause-walked : goal.returns-clause-walked
@@ -68,8 +68,8 @@ returns-clause-walked c = walk_ended c.loop-number.invariant
 
 pub returns-then-chooses_none-clause-next : goal.returns-then-chooses_none-clause-next
 returns-then-chooses_none-clause-next c =
-    none_wanted c.args.parts.now c.args.start None c.args.self.now.place c.requires.stop
-    (c.chooses_none.ensures c.if-chooses_none.true c.args.start)
+    none_wanted c.args.search.now.parts.now c.args.search.now.start None c.args.self.now.place c.requires.stop
+    (c.chooses_none.ensures c.if-chooses_none.true c.args.search.now.start)
 
 pub returns-then-chooses_none-clause-walked : goal.returns-then-chooses_none-clause-walked
 returns-then-chooses_none-clause-walked c = none_walked c.args.stop c.requires.place c.requires.own
