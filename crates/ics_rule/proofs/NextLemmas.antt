@@ -1,5 +1,5 @@
 -- What a rule keeps: the start, and of the later locals that it has those that UNTIL lets through.
-use Rattle.std.proofs.Common.{◌≡◌, ℕ, suc, ◌+◌, ◌-◌, ◌<◌, ◌≤◌, inl, inr, Bool, true, false, ◌&&◌, ◌||◌, ◌==◌, nat_lt, min, max, Some, None, Option}
+use Rattle.std.proofs.Common.{◌≡◌, ℕ, suc, ◌+◌, ◌-◌, ◌<◌, ◌≤◌, inl, inr, Bool, true, false, ◌&&◌, ◌||◌, ◌==◌, nat_lt, min, Some, None, Option}
 use Rattle.std.proofs.Common.{MatchOption, refl, sym, ap, ◌∙◌, arith}
 use Rattle.std.proofs.lemmas.Bool.{and_right, cases_lt, le-ltb, lt-ltb, eq-eqb}
 use Rattle.std.proofs.lemmas.Bool.Decides.{nat_tests}
@@ -8,7 +8,8 @@ use Rattle.ics_rule.specs.PeriodNumbers.{rules_end}
 use Rattle.ics_fields.specs.Locals.{number}
 use Rattle.ics_rule.specs.EffectiveRules.{effective}
 use Rattle.ics_rule.specs.Kept.{count, is_chosen, is_kept, is_in_rule, is_by_until, is_counted}
-use Rattle.ics_rule.specs.Searches.{is_few, is_wanted, NoneWanted, IsNextBefore}
+use Rattle.ics_fields.specs.Sets.{IsLeastFrom}
+use Rattle.ics_rule.specs.Searches.{is_few, is_wanted, NoneWanted, IsNextWanted}
 use Rattle.ics_rule.specs.Next.{NoneKept, IsNextKept}
 use Rattle.ics_rule.proofs.Counts.{count-suc, count-none, count_between, count_mono, count_one}
 use Rattle.ics_rule.proofs.Tests.{keep_true, unequal}
@@ -82,13 +83,11 @@ module _ (r : Recurrence) (place end until : ℕ) (after : number r.start < plac
         ∙ and_right (is_wanted (effective r) (number r.start) r.parts.count n) (is_by_until r.kind r.parts.until n) (ends n (omega arith) ∙ le-ltb n until past)
   ]
 
-  pub next_kept : (n : ℕ) → IsNextBefore (effective r) (number r.start) r.parts.count place (min end until) n → IsNextKept r place end n
-  next_kept n next = grind (arith, nat_tests, kept_later, none_at)
+  pub next_kept : (n : ℕ) → IsLeastFrom (is_wanted (effective r) (number r.start) r.parts.count) place n → n < min end until → IsNextKept r place end n
+  next_kept n next inside = grind (arith, nat_tests, kept_later, none_at)
 
-  -- the answer of a search, as one of the rule
-  pub kept_answer : (o : Option ℕ) (now : ℕ)
-      → MatchOption o (NoneWanted (effective r) (number r.start) r.parts.count place (min end until)
-      × (now ≡ max place end)) (λ n. IsNextBefore (effective r) (number r.start) r.parts.count place (min end until) n × (now ≡ n + 1))
-      → MatchOption o (NoneKept r place end × (now ≡ max place end)) (λ n. IsNextKept r place end n × (now ≡ n + 1))
-  kept_answer None now h = (none_kept h.0, h.1)
-  kept_answer (Some n) now h = (next_kept n h.0, h.1)
+  -- the answer of a search, or one past what it is for
+  pub kept_answer : (o : Option ℕ) → IsNextWanted (effective r) (number r.start) r.parts.count place (min end until) o
+      → MatchOption o (Unit {0}) (λ n. min end until ≤ n) → NoneKept r place end
+  kept_answer None none past = none_kept none
+  kept_answer (Some n) next past = none_kept (λ m l u. next.least m l (omega (arith, u, past)))

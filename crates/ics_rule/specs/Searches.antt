@@ -45,11 +45,6 @@ abbrev pub IsNextWanted : EffectiveRule → ℕ → Option ℕ → ℕ → ℕ �
 IsNextWanted q start o place stop found =
     MatchOption found (NoneWanted q start o place stop) (λ n. IsLeastFrom (is_wanted q start o) place n)
 
--- n is the next one, and earlier than a bound
-pub record IsNextBefore (q : EffectiveRule) (start : ℕ) (o : Option ℕ) (place stop n : ℕ) : Type 0 where
-  pub least : IsLeastFrom (is_wanted q start o) place n
-  pub in_bound : n < stop
-
 -- the period held is that of local n
 abbrev pub HoldsPeriodOf : EffectiveRule → Option RecurrencePeriod → ℕ → Type 0
 HoldsPeriodOf q held n = MatchOption held ⊥ (λ p. p.number ≡ period_in q n)

@@ -68,7 +68,7 @@ impl Cursor {
     ghost use Rattle.ics_rule.specs.Calls.{IsAnswer, LooksUpTo};
     ghost use Rattle.ics_rule.specs.Cursors.{known_to, period_count, place_of, steps_of, looks_from, IsCursorOf, HasCounted, HasLooked, IsCursorIn};
     ghost use Rattle.ics_rule.specs.Cursors.{HasLookedIn};
-    ghost use Rattle.ics_rule.specs.Searches.{NoneWanted, IsNextWanted, IsNextBefore, IsWalked, after_look};
+    ghost use Rattle.ics_rule.specs.Searches.{IsNextWanted, IsWalked, after_look};
 
     /// A cursor at a local of the years 0000 to 9999, whether or not the rule keeps it. It has looked at no period.
     pub fn at(_rule: &Rule, from: Local) -> Cursor
@@ -130,39 +130,6 @@ impl Cursor {
         }
     }
 
-    /// The next such local that is earlier than `stop`. If there is none, the place moves to `end`.
-    fn search(&mut self, rule: &Rule, start: u64, stop: u64, end: u64) -> Option<u64>
-        requires start { start ≡ number rule.now.start }
-        requires after { start < self.old.place }
-        requires stop { stop ≤ end }
-        requires end { end ≤ rules_end }
-        requires own { IsCursorIn (effective rule.now) start rule.now.parts.count self.old }
-        ensures next { MatchOption result
-            (NoneWanted (effective rule.now) start rule.now.parts.count self.old.place stop × (self.new.place ≡ max self.old.place end))
-            (λ n. IsNextBefore (effective rule.now) start rule.now.parts.count self.old.place stop n × (self.new.place ≡ n + 1)) }
-        ensures own { IsCursorIn (effective rule.now) start rule.now.parts.count self.new }
-        ensures rise { self.old.steps ≤ self.new.steps }
-        ensures shown { MatchOption result (Unit {0}) (λ n. start < n → 1 ≤ self.new.steps) }
-        ensures counts { MatchOption result (Unit {0})
-            (λ n. start < n → period_in (effective rule.now) self.old.place < period_in (effective rule.now) n → self.old.steps < self.new.steps) }
-        ensures looked { (a b : ℕ) → known_to result end ≤ b → HasLookedIn (effective rule.now) start rule.now.parts.count self.old a b
-            → HasLookedIn (effective rule.now) start rule.now.parts.count self.new a b }
-    {
-        let place = self.place;
-        if stop <= place {
-            self.place = place.max(end);
-            return None;
-        }
-        if let Some(n) = self.walk(rule, start, stop) {
-            if n < stop {
-                self.place = n + 1;
-                return Some(n);
-            }
-        }
-        self.place = end;
-        None
-    }
-
     /// The number of the next local that the rule keeps, from the place on and earlier than `end`.
     pub(crate) fn next_number(&mut self, rule: &Rule, start: u64, end: u64) -> Option<u64>
         requires start { start ≡ number rule.now.start }
@@ -189,7 +156,18 @@ impl Cursor {
             return None;
         }
         let stop = end.min(until_end(rule.kind, rule.parts.until()));
-        self.search(rule, start, stop, end)
+        if stop <= place {
+            self.place = place.max(end);
+            return None;
+        }
+        if let Some(n) = self.walk(rule, start, stop) {
+            if n < stop {
+                self.place = n + 1;
+                return Some(n);
+            }
+        }
+        self.place = end;
+        None
     }
 
     /// The next local that the rule keeps, from the cursor's place on and earlier than `before`, a bound up to 9801-01-01 (RFC 5545, 3.3.10).
