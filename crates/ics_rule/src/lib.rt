@@ -10,6 +10,7 @@ mod effective_rule;
 mod hour;
 mod kind;
 mod laws;
+mod members;
 mod never;
 mod open_periods;
 mod part;

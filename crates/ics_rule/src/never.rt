@@ -8,8 +8,8 @@ ghost use Rattle.ics_rule.specs.OpenPeriods.{size_of_open};
 ghost use Rattle.ics_fields.specs.Locals.{calendar_end};
 
 use crate::effective_rule::EffectiveRule;
+use crate::members::members_below;
 use crate::recurrence_period::clock_set;
-use crate::recurrence_period::sizes::members_below;
 use crate::rounds::seconds_of;
 use ics_fields::{BitSet, Frequency, WideBitSet};
 
@@ -20,7 +20,7 @@ fn readings(part: BitSet, size: u8) -> u64
     ensures value { result ≡ count size (lets part) }
     ensures bound { result ≤ 60 }
 {
-    members_below(clock_set(true, part, 0, size), size)
+    members_below(&clock_set(true, part, 0, size), size as u16)
 }
 
 /// How many locals each period has that a rule allows, if a period is a day or less.

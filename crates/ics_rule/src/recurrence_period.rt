@@ -11,7 +11,7 @@ ghost use Rattle.ics_rule.specs.RecurrencePeriods.{first_local, has_minute, has_
 ghost use Rattle.ics_fields.specs.Locals.{calendar_end};
 
 pub(crate) mod ranks;
-pub(crate) mod sizes;
+mod sizes;
 
 use crate::days::add_days_let_in;
 use crate::effective::{skips_hours, skips_minutes, skips_seconds};

@@ -1,62 +1,26 @@
 //! The members of a set by their rank, and the places that BYSETPOS lists.
 ghost use Rattle.std.specs.Prelude.{◌≡◌, ◌<◌, ◌≤◌, ◌+◌, ◌*◌, ◌/◌, ◌%◌, ◌^◌, IfSome};
-ghost use Rattle.ics_fields.specs.Sets.{contains, contains_wide, IsNextIn};
+ghost use Rattle.ics_fields.specs.Sets.{contains, IsNextIn};
 ghost use Rattle.ics_fields.specs.Ordinals.{lists_none_wide};
 ghost use Rattle.ics_rule.specs.declared.effective_rule.EffectiveRule.{EffectiveRule};
 ghost use Rattle.ics_rule.specs.Kept.{count};
 ghost use Rattle.ics_rule.specs.RecurrencePeriods.{has_minute, has_second, holds, is_listed, is_taken, IsPeriodOf, IsNth, IsNextBelow, IsFirstListed};
 ghost use Rattle.ics_fields.specs.Locals.{calendar_end};
 
+use crate::members::{members_below, nth_member};
 use crate::part::PlacesPart;
 use crate::recurrence_period::RecurrencePeriod;
-use crate::recurrence_period::sizes::members_below;
 use ics_fields::{BitSet, WideBitSet, WideOrdinals};
-
-/// The `k`-th member of a set, from 0.
-fn nth_member(set: BitSet, k: u64) -> u8
-    requires { k < count 64 (contains set) }
-    ensures nth { IsNth (contains set) k result }
-    ensures small { result < 64 }
-{
-    let mut place = 0;
-    let mut passed = 0;
-    while let Some(n) = set.next_from(place) {
-        if passed == k {
-            return n;
-        }
-        passed += 1;
-        place = n + 1;
-    }
-    0
-}
-
-/// The same for days.
-fn nth_day(set: &WideBitSet, k: u64) -> u16
-    requires { k < count 384 (contains_wide set.now) }
-    ensures nth { IsNth (contains_wide set.now) k result }
-    ensures small { result < 384 }
-{
-    let mut place = 0;
-    let mut passed = 0;
-    while let Some(n) = set.next_from(place) {
-        if passed == k {
-            return n;
-        }
-        passed += 1;
-        place = n + 1;
-    }
-    0
-}
 
 /// The `k`-th minute of a day in a set of hours times a set of minutes.
 fn nth_minute(hours: BitSet, minutes: BitSet, k: u64) -> u32
     requires set { minutes < 2 ^ 60 }
     requires index { k < count 24 (contains hours) * count 60 (contains minutes) }
     ensures nth { IsNth (has_minute hours minutes) k result }
-    ensures small { result < 4000 }
+    ensures small { result < 30000 }
 {
-    let size = members_below(minutes, 60);
-    nth_member(hours, k / size) as u32 * 60 + nth_member(minutes, k % size) as u32
+    let size = members_below(&minutes, 60);
+    nth_member(&hours, k / size) as u32 * 60 + nth_member(&minutes, k % size) as u32
 }
 
 /// The first index from `from` on at which a set lists the place after it, or `size` if there is none before that.
@@ -110,11 +74,11 @@ impl RecurrencePeriod {
         requires seconds { self.now.seconds < 2 ^ 60 }
         requires index { k < count 24 (contains self.now.hours) * count 60 (contains self.now.minutes) * count 60 (contains self.now.seconds) }
         ensures nth { IsNth (has_second self.now) k result }
-        ensures small { result < 300000 }
+        ensures small { result < 2000000 }
     {
-        let size = members_below(self.seconds, 60);
+        let size = members_below(&self.seconds, 60);
         nth_minute(self.hours, self.minutes, k / size) * 60
-            + nth_member(self.seconds, k % size) as u32
+            + nth_member(&self.seconds, k % size) as u32
     }
 
     /// The `k`-th local of the product.
@@ -125,7 +89,7 @@ impl RecurrencePeriod {
         ensures small { result < 2 ^ 63 }
     {
         let size = self.seconds_below(86_400);
-        let day = self.first_day as u64 + nth_day(&self.days, k / size) as u64;
+        let day = self.first_day as u64 + nth_member(&self.days, k / size) as u64;
         day * 86_400 + self.nth_second(k % size) as u64
     }
 

@@ -1,49 +1,14 @@
 //! How many locals of a period are earlier than a given one, by the sizes of its sets.
 ghost use Rattle.std.specs.Prelude.{◌≡◌, ◌<◌, ◌≤◌, ◌+◌, ◌*◌, ◌/◌, ◌%◌, ◌^◌};
-ghost use Rattle.ics_fields.specs.Sets.{contains, contains_wide};
+ghost use Rattle.ics_fields.specs.Sets.{contains};
 ghost use Rattle.ics_rule.specs.declared.effective_rule.EffectiveRule.{EffectiveRule};
 ghost use Rattle.ics_rule.specs.Kept.{count};
 ghost use Rattle.ics_rule.specs.RecurrencePeriods.{has_minute, has_second, has_day, holds, IsPeriodOf};
 ghost use Rattle.ics_fields.specs.Locals.{calendar_end};
 
+use crate::members::members_below;
 use crate::recurrence_period::RecurrencePeriod;
-use ics_fields::{BitSet, WideBitSet};
-
-/// How many members of a set are below `n`.
-pub(crate) fn members_below(set: BitSet, n: u8) -> u64
-    requires { n ≤ 64 }
-    ensures value { result ≡ count n (contains set) }
-    ensures bound { result ≤ n }
-{
-    let mut place = 0;
-    let mut total = 0;
-    while let Some(member) = set.next_from(place) {
-        if member >= n {
-            return total;
-        }
-        total += 1;
-        place = member + 1;
-    }
-    total
-}
-
-/// The same for days.
-fn days_below(set: &WideBitSet, n: u16) -> u64
-    requires { n ≤ 384 }
-    ensures value { result ≡ count n (contains_wide set.now) }
-    ensures bound { result ≤ n }
-{
-    let mut place = 0;
-    let mut total = 0;
-    while let Some(member) = set.next_from(place) {
-        if member >= n {
-            return total;
-        }
-        total += 1;
-        place = member + 1;
-    }
-    total
-}
+use ics_fields::BitSet;
 
 /// How many minutes of a day, before a given one, are in a set of hours times a set of minutes.
 fn minutes_below(hours: BitSet, minutes: BitSet, minute: u32) -> u64
@@ -51,9 +16,9 @@ fn minutes_below(hours: BitSet, minutes: BitSet, minute: u32) -> u64
     ensures value { result ≡ count minute (has_minute hours minutes) }
     ensures bound { result ≤ minute }
 {
-    let whole = members_below(hours, (minute / 60) as u8) * members_below(minutes, 60);
+    let whole = members_below(&hours, (minute / 60) as u16) * members_below(&minutes, 60);
     if hours.contains((minute / 60) as u8) {
-        whole + members_below(minutes, (minute % 60) as u8)
+        whole + members_below(&minutes, (minute % 60) as u16)
     } else {
         whole
     }
@@ -68,9 +33,9 @@ impl RecurrencePeriod {
     {
         let minute = second / 60;
         let whole = minutes_below(self.hours, self.minutes, minute)
-            * members_below(self.seconds, 60);
+            * members_below(&self.seconds, 60);
         if self.hours.contains((minute / 60) as u8) & self.minutes.contains((minute % 60) as u8) {
-            whole + members_below(self.seconds, (second % 60) as u8)
+            whole + members_below(&self.seconds, (second % 60) as u16)
         } else {
             whole
         }
@@ -82,7 +47,7 @@ impl RecurrencePeriod {
         ensures value { result ≡ count calendar_end (holds self.now) }
         ensures bound { result < 2 ^ 63 }
     {
-        days_below(&self.days, 384) * self.seconds_below(86_400)
+        members_below(&self.days, 384) * self.seconds_below(86_400)
     }
 
     /// How many of its locals are earlier than `n`.
@@ -94,7 +59,7 @@ impl RecurrencePeriod {
     {
         let day = (n / 86_400) as u32;
         let skipped = day.saturating_sub(self.first_day).min(384);
-        let whole = days_below(&self.days, skipped as u16) * self.seconds_below(86_400);
+        let whole = members_below(&self.days, skipped as u16) * self.seconds_below(86_400);
         if self.has_day(day) {
             whole + self.seconds_below((n % 86_400) as u32)
         } else {

@@ -16,8 +16,8 @@ index c = block_index c.args.k (count 384 (contains_wide c.args.self.now.days)) 
 pub nonzero_div-k : goal.nonzero_div-k
 nonzero_div-k c = let i = index (goal.at.nonzero_div-k c).After-seconds_below-size in omega (arith, i.1)
 
-pub nth_day-requires : goal.nth_day-requires
-nth_day-requires c = (index (goal.at.nth_day-requires c).After-seconds_below-size).0
+pub nth_member-requires : goal.nth_member-requires
+nth_member-requires c = (index (goal.at.nth_member-requires c).After-seconds_below-size).0
 
 pub nonzero_rem-k : goal.nonzero_rem-k
 nonzero_rem-k c = grind (arith, index)
@@ -28,4 +28,4 @@ nth_second-requires-clause-index c = grind (arith, clock_size, index)
 pub returns-clause-nth : goal.returns-clause-nth
 returns-clause-nth c = nth-product 86_400 c.args.k c.seconds_below-size.ensures.value
     (second_below c.args.self.now.hours c.args.self.now.minutes c.args.self.now.seconds c.nth_second.result c.requires.own.1.hours
-    (IsNth.passes c.nth_second.ensures.nth)) (nth_of_days c.args.self.now _ c.nth_day.result c.nth_day.ensures.nth) c.nth_second.ensures.nth
+    (IsNth.passes c.nth_second.ensures.nth)) (nth_of_days c.args.self.now _ c.nth_member.result c.nth_member.ensures.nth) c.nth_second.ensures.nth

@@ -7,14 +7,14 @@ use Rattle.ics_rule.proofs.recurrence_period.RecurrencePeriod.rank_before.Goals 
 pub returns-then-has_day-clause-value : goal.returns-then-has_day-clause-value
 returns-then-has_day-clause-value c = count_taken c.args.n 86_400 (has_day c.args.self.now) (has_second c.args.self.now) (omega arith)
     (sym c.has_day.ensures ∙ c.if-has_day.true)
-    (c.days_below.ensures.value ∙ days_before c.args.self.now (c.args.n / 86_400) c.min-skipped.result (c.min-skipped.ensures
+    (c.members_below.ensures.value ∙ days_before c.args.self.now (c.args.n / 86_400) c.min-skipped.result (c.min-skipped.ensures
     ∙ ap (λ x. min x 384) c.saturating_sub.ensures))
     c.seconds_below.ensures.value c.seconds_below-then-has_day.ensures.value
 
 pub returns-else-has_day-clause-value : goal.returns-else-has_day-clause-value
 returns-else-has_day-clause-value c = count_left c.args.n 86_400 (has_day c.args.self.now) (has_second c.args.self.now) (omega arith)
     (sym c.has_day.ensures ∙ c.if-has_day.false)
-    (c.days_below.ensures.value ∙ days_before c.args.self.now (c.args.n / 86_400) c.min-skipped.result (c.min-skipped.ensures
+    (c.members_below.ensures.value ∙ days_before c.args.self.now (c.args.n / 86_400) c.min-skipped.result (c.min-skipped.ensures
     ∙ ap (λ x. min x 384) c.saturating_sub.ensures))
     c.seconds_below.ensures.value
 

@@ -4,4 +4,4 @@ use Rattle.ics_rule.proofs.recurrence_period.RecurrencePeriod.size.Goals as goal
 
 pub returns-clause-value : goal.returns-clause-value
 returns-clause-value c =
-    rw (c.days_below.ensures.value, c.seconds_below.ensures.value, whole_size c.args.self.now, days_in_all c.args.self.now c.requires.1.first) refl
+    rw (c.members_below.ensures.value, c.seconds_below.ensures.value, whole_size c.args.self.now, days_in_all c.args.self.now c.requires.1.first) refl
