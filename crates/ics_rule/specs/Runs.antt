@@ -1,5 +1,5 @@
 -- Months and years as runs of days, in which days and weekdays are numbered (RFC 5545, 3.3.10).
-use Rattle.std.specs.Prelude.{◌≡◌, ℕ, ◌+◌, ◌-◌, ◌/◌, ◌%◌, ◌≤◌, Bool, true, false, not, ◌&&◌, ◌||◌, nat_le, nat_lt, if◌then◌else◌, pos}
+use Rattle.std.specs.Prelude.{◌≡◌, ℕ, ◌+◌, ◌-◌, ◌/◌, ◌%◌, ◌<◌, ◌≤◌, Bool, true, false, not, ◌&&◌, ◌||◌, nat_le, nat_lt, if◌then◌else◌, pos}
 use Rattle.jiff_core.specs.Calendar.{days_in_month, days_in_year, days_of_months}
 use Rattle.ics_fields.specs.declared.frequency.Frequency.{Frequency}
 use Rattle.ics_fields.specs.declared.frequency.Frequency.TheVariants.{Secondly, Minutely, Hourly, Daily, Weekly, Monthly, Yearly}
@@ -12,6 +12,13 @@ use Rattle.ics_rule.specs.declared.effective_rule.EffectiveRule.{EffectiveRule}
 use Rattle.ics_rule.specs.declared.runs.Run.{Run}
 use Rattle.ics_rule.specs.Candidates.{lets, lists, lists_nth}
 use Rattle.ics_rule.specs.RecurrencePeriods.{month_start}
+
+-- a month or a year, within the days of a period
+pub record IsRun (r : Run) : Type 0 where
+  pub weekday : r.weekday < 7
+  pub some : 28 ≤ r.len
+  pub most : r.len ≤ 366
+  pub within : r.start + r.len ≤ 384
 
 -- day m of a period is in a run
 abbrev pub has_run : Run → ℕ → Bool

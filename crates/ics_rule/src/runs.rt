@@ -2,7 +2,7 @@
 ghost use Rattle.std.specs.Prelude.{◌≡◌, ℕ, ◌<◌, ◌≤◌, ◌+◌, ◌-◌, ◌/◌, ◌&&◌, ◌||◌, ◌==◌, nat_le};
 ghost use Rattle.ics_fields.specs.Sets.{contains, contains_wide};
 ghost use Rattle.ics_rule.specs.Candidates.{lists, lists_nth};
-ghost use Rattle.ics_rule.specs.Runs.{has_run, weekday_in, lists_weekday, lists_in_month};
+ghost use Rattle.ics_rule.specs.Runs.{IsRun, has_run, weekday_in, lists_weekday, lists_in_month};
 
 use crate::effective_rule::EffectiveRule;
 use crate::part::WeekdaysPart;
@@ -40,7 +40,7 @@ impl Run {
     /// The first day of the run on a weekday.
     fn first_on(self, weekday: u8) -> u16
         requires weekday { weekday < 7 }
-        requires own { self.weekday < 7 }
+        requires run { IsRun self }
         ensures place { weekday_in self result ≡ weekday }
         ensures early { result < 7 }
     {
@@ -51,8 +51,7 @@ impl Run {
     /// How many days of the run have the weekday of one of its first seven.
     fn days_from(self, first: u16) -> u8
         requires first { first < 7 }
-        requires some { 28 ≤ self.len }
-        requires most { self.len ≤ 366 }
+        requires run { IsRun self }
         ensures { result ≡ (self.len - 1 - first) / 7 + 1 }
     {
         if self.len > 35 {
@@ -68,10 +67,7 @@ impl Run {
     #[inline(always)]
     fn add_each(self, weekday: u8, days: &mut WideBitSet)
         requires weekday { weekday < 7 }
-        requires own { self.weekday < 7 }
-        requires some { 28 ≤ self.len }
-        requires most { self.len ≤ 366 }
-        requires within { self.start + self.len ≤ 384 }
+        requires run { IsRun self }
         ensures { (m : ℕ) → contains_wide days.new m ≡ (contains_wide days.old m || (has_run self m && (weekday_in self (m - self.start) == weekday))) }
     {
         let mut place = self.first_on(weekday);
@@ -84,10 +80,7 @@ impl Run {
     /// Adds the days of the run on a weekday that are listed by their number.
     fn add_numbered(self, weekday: u8, numbers: &Ordinals, days: &mut WideBitSet)
         requires weekday { weekday < 7 }
-        requires own { self.weekday < 7 }
-        requires some { 28 ≤ self.len }
-        requires most { self.len ≤ 366 }
-        requires within { self.start + self.len ≤ 384 }
+        requires run { IsRun self }
         ensures { (m : ℕ) → contains_wide days.new m ≡ (contains_wide days.old m
             || (has_run self m && ((weekday_in self (m - self.start) == weekday) && lists_nth numbers.now (m - self.start + 1) self.len))) }
     {
@@ -103,10 +96,7 @@ impl Run {
     /// Adds the days of the run on a weekday, with the numbers that BYDAY lists or with any.
     fn add_weekday(self, weekdays: &Weekdays, weekday: u8, days: &mut WideBitSet)
         requires weekday { weekday < 7 }
-        requires own { self.weekday < 7 }
-        requires some { 28 ≤ self.len }
-        requires most { self.len ≤ 366 }
-        requires within { self.start + self.len ≤ 384 }
+        requires run { IsRun self }
         ensures { (m : ℕ) → contains_wide days.new m ≡ (contains_wide days.old m
             || (has_run self m && ((weekday_in self (m - self.start) == weekday) && lists_weekday weekdays.now weekday (m - self.start + 1) self.len))) }
     {
@@ -120,10 +110,7 @@ impl Run {
     /// Adds the days of the run that BYDAY lists.
     #[inline(always)]
     pub(crate) fn add_weekdays(self, weekdays: &WeekdaysPart, days: &mut WideBitSet)
-        requires own { self.weekday < 7 }
-        requires some { 28 ≤ self.len }
-        requires most { self.len ≤ 366 }
-        requires within { self.start + self.len ≤ 384 }
+        requires run { IsRun self }
         ensures { (m : ℕ) → contains_wide days.new m ≡ (contains_wide days.old m
             || (has_run self m && lists_weekday weekdays.now (weekday_in self (m - self.start)) (m - self.start + 1) self.len)) }
     {
@@ -138,8 +125,8 @@ impl Run {
     /// Adds the days of the run, a month, that BYMONTHDAY lists.
     #[inline(never)]
     fn add_month_days(self, month_days: &Ordinals, days: &mut WideBitSet)
-        requires most { self.len ≤ 31 }
-        requires within { self.start + self.len ≤ 384 }
+        requires run { IsRun self }
+        requires month { self.len ≤ 31 }
         ensures { (m : ℕ) → contains_wide days.new m ≡ (contains_wide days.old m || (has_run self m && lists month_days.now (m - self.start + 1) self.len)) }
     {
         let listed = listed(month_days, self.len as u8);
@@ -153,10 +140,8 @@ impl Run {
     /// Adds the days of the run, a month, that BYMONTHDAY lists or, if that is absent, BYDAY.
     #[inline(always)]
     pub(crate) fn add_month(self, parts: &EffectiveRule, days: &mut WideBitSet)
-        requires own { self.weekday < 7 }
-        requires some { 28 ≤ self.len }
-        requires most { self.len ≤ 31 }
-        requires within { self.start + self.len ≤ 384 }
+        requires run { IsRun self }
+        requires month { self.len ≤ 31 }
         ensures { (m : ℕ) → contains_wide days.new m ≡ (contains_wide days.old m
             || (has_run self m && lists_in_month parts.now (weekday_in self (m - self.start)) (m - self.start + 1) self.len)) }
     {

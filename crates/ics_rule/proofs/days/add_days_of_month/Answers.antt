@@ -13,14 +13,11 @@ add_days_by_day-requires-clause-size c = grind (arith, days_in_month_bounds)
 pub add_days_by_day-requires-clause-days : goal.add_days_by_day-requires-clause-days
 add_days_by_day-requires-clause-days c = grind (arith, days_in_month_bounds)
 
-pub add_month-requires-clause-some : goal.add_month-requires-clause-some
-add_month-requires-clause-some c = grind (arith, days_in_month_bounds)
+pub add_month-requires-clause-run : goal.add_month-requires-clause-run
+add_month-requires-clause-run c = grind (arith, days_in_month_bounds)
 
-pub add_month-requires-clause-most : goal.add_month-requires-clause-most
-add_month-requires-clause-most c = grind (arith, days_in_month_bounds)
-
-pub add_month-requires-clause-within : goal.add_month-requires-clause-within
-add_month-requires-clause-within c = grind (arith, days_in_month_bounds)
+pub add_month-requires-clause-month : goal.add_month-requires-clause-month
+add_month-requires-clause-month c = grind (arith, days_in_month_bounds)
 
 pub leave_let_in-requires-clause-numbers : goal.leave_let_in-requires-clause-numbers
 leave_let_in-requires-clause-numbers c = ap (counts_in_month c.args.parts.now) c.requires.frequency

@@ -21,20 +21,22 @@ small c = member_below c.open_months-months.result 13 c.in-Some.month c.open_mon
 pub month_run-requires-clause-high : goal.month_run-requires-clause-high
 month_run-requires-clause-high c = let s = small (goal.at.month_run-requires-clause-high c).In-Some in omega (arith, s)
 
-pub add_month-requires-clause-own : goal.add_month-requires-clause-own
-add_month-requires-clause-own c = omega (arith, (c.month_run.ensures.month (year_of c.args.first) c.requires.span).weekday)
+pub add_month-requires-clause-run : goal.add_month-requires-clause-run
+add_month-requires-clause-run c =
+    let year = days_in_year_bounds (pos (year_of c.args.first)) in
+    let own = c.month_run.ensures.month (year_of c.args.first) c.requires.span in
+    let month = days_in_month_bounds (pos (year_of c.args.first)) c.in-Some.month in
+    let within = c.month_run.ensures.within (year_of c.args.first) c.requires.span in record {
+      weekday = omega (arith, own.weekday);
+      some = omega (arith, month.1, own.size);
+      most = omega (arith, month.0, own.size);
+      within = omega (arith, year.0, within, c.requires.span.1.1);
+    }
 
-pub add_month-requires-clause-some : goal.add_month-requires-clause-some
-add_month-requires-clause-some c = let b = days_in_month_bounds (pos (year_of c.args.first)) c.in-Some.month in
-    omega (arith, b.1, (c.month_run.ensures.month (year_of c.args.first) c.requires.span).size)
-
-pub add_month-requires-clause-most : goal.add_month-requires-clause-most
-add_month-requires-clause-most c = let b = days_in_month_bounds (pos (year_of c.args.first)) c.in-Some.month in
+pub add_month-requires-clause-month : goal.add_month-requires-clause-month
+add_month-requires-clause-month c =
+    let b = days_in_month_bounds (pos (year_of c.args.first)) c.in-Some.month in
     omega (arith, b.0, (c.month_run.ensures.month (year_of c.args.first) c.requires.span).size)
-
-pub add_month-requires-clause-within : goal.add_month-requires-clause-within
-add_month-requires-clause-within c = let b = days_in_year_bounds (pos (year_of c.args.first)) in
-    omega (arith, b.0, c.month_run.ensures.within (year_of c.args.first) c.requires.span, c.requires.span.1.1)
 
 pub loop-month-preserved : goal.loop-month-preserved
 loop-month-preserved c = (
