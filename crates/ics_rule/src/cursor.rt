@@ -1,12 +1,10 @@
 //! A search for the locals that a rule keeps, from a place on.
 ghost use Rattle.std.specs.Prelude.{◌≡◌, ℕ, ◌<◌, ◌≤◌, ◌+◌, ◌*◌, ◌^◌, max, Some, MatchOption, IfSome, nat_lt};
-ghost use Rattle.jiff_core.specs.Weekday.{monday_zero};
 ghost use Rattle.ics_fields.specs.Days.{IsDayNumber, day_index};
 ghost use Rattle.ics_fields.specs.RuleParts.{IsUntil};
 ghost use Rattle.ics_rule.specs.Kept.{is_by_until};
 ghost use Rattle.ics_rule.specs.PeriodNumbers.{rules_end};
 
-use crate::effective_rule::EffectiveRule;
 use crate::kind::Kind;
 use crate::recurrence_period::RecurrencePeriod;
 use crate::rule::Rule;
@@ -63,12 +61,11 @@ impl Cursor {
     ghost use Rattle.ics_rule.specs.Recurrence.{Recurrence};
     ghost use Rattle.ics_rule.specs.EffectiveRules.{effective};
     ghost use Rattle.ics_rule.specs.Candidates.{period_in};
-    ghost use Rattle.ics_rule.specs.RecurrencePeriods.{first_local, IsPeriodOf};
     ghost use Rattle.ics_rule.specs.Next.{IsNextKept, NoneKept};
     ghost use Rattle.ics_rule.specs.Calls.{IsAnswer, LooksUpTo};
     ghost use Rattle.ics_rule.specs.Cursors.{known_to, period_count, place_of, steps_of, looks_from, IsCursorOf, HasCounted, HasLooked, IsCursorIn};
     ghost use Rattle.ics_rule.specs.Cursors.{HasLookedIn};
-    ghost use Rattle.ics_rule.specs.Searches.{IsNextWanted, IsWalked, after_look};
+    ghost use Rattle.ics_rule.specs.Searches.{IsNextWanted, IsWalked};
 
     /// A cursor at a local of the years 0000 to 9999, whether or not the rule keeps it. It has looked at no period.
     pub fn at(_rule: &Rule, from: Local) -> Cursor
@@ -85,28 +82,6 @@ impl Cursor {
             counted: 0,
             limit: 0,
         }
-    }
-
-    /// Looks at the period with a number that no earlier look has reached.
-    pub(crate) fn look_at(
-        &mut self,
-        parts: &EffectiveRule,
-        number: u64,
-        counted: u64,
-    ) -> RecurrencePeriod
-        requires low { period_in parts.now 0 ≤ number }
-        requires reach { first_local parts.now.frequency (monday_zero parts.now.week_start) number ≤ rules_end }
-        requires room { self.old.steps < 2 ^ 63 }
-        ensures product { IsPeriodOf parts.now result }
-        ensures number { result.number ≡ number }
-        ensures cursor { self.new ≡ after_look self.old result counted }
-    {
-        let mut steps = self.steps;
-        let looked = &RecurrencePeriod::new(parts, number, &mut steps);
-        self.steps = steps;
-        self.counted = counted;
-        self.held = Some(*looked);
-        *looked
     }
 
     /// The next local from the place on that the rule has, but for UNTIL. It is searched for in the periods up to that of the last before `stop`.

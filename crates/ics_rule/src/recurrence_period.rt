@@ -1,4 +1,4 @@
-//! A period of a rule, as a product of sets. A look at a period makes one, and no other code can.
+//! A period of a rule, as a product of sets. Only a cursor's look at a period makes one.
 ghost use Rattle.std.specs.Prelude.{◌≡◌, ℕ, ◌<◌, ◌≤◌, ◌+◌, ◌-◌, ◌*◌, ◌/◌, ◌%◌, ◌^◌, ◌&&◌, ◌||◌, ◌==◌, pos, IfSome};
 ghost use Rattle.jiff_core.specs.Calendar.{days_of_months, days_in_month, days_in_year};
 ghost use Rattle.ics_fields.specs.Days.{days_before_year};
@@ -13,6 +13,7 @@ ghost use Rattle.ics_fields.specs.Locals.{calendar_end};
 pub(crate) mod ranks;
 mod sizes;
 
+use crate::cursor::Cursor;
 use crate::days::add_days_let_in;
 use crate::effective::{skips_hours, skips_minutes, skips_seconds};
 use crate::effective_rule::EffectiveRule;
@@ -20,8 +21,8 @@ use crate::time::lets;
 use ics_fields::{BitSet, Frequency, WideBitSet};
 use jiff_core::civil::{Weekday, days_in_month, days_in_year};
 
-/// The locals of a period that its rule allows: a set of days times sets of hours, minutes and seconds. Its fields are private, so that who has one
-/// has looked at the period, and each look is counted.
+/// The locals of a period that its rule allows: a set of days times sets of hours, minutes and seconds. Its fields are private, so that only
+/// `look_at`, which counts the look, gives one.
 #[derive(Clone, Copy)]
 pub struct RecurrencePeriod {
     /// The number of the period.
@@ -150,16 +151,13 @@ fn clock_of(parts: &EffectiveRule, begin: u64) -> Clock
 }
 
 impl RecurrencePeriod {
-    /// Looks at the period of a rule with this number, and counts the look.
-    pub(crate) fn new(parts: &EffectiveRule, number: u64, steps: &mut u64) -> RecurrencePeriod
+    /// The period of a rule with this number. Only `look_at` calls it.
+    fn new(parts: &EffectiveRule, number: u64) -> RecurrencePeriod
         requires low { period_in parts.now 0 ≤ number }
         requires reach { first_local parts.now.frequency (monday_zero parts.now.week_start) number ≤ rules_end }
-        requires room { steps.old < 2 ^ 63 }
-        ensures looked { steps.new ≡ steps.old + 1 }
         ensures number { result.number ≡ number }
         ensures product { IsPeriodOf parts.now result }
     {
-        *steps += 1;
         let begin = first_local(parts.frequency, parts.week_start, number);
         let end = first_local(parts.frequency, parts.week_start, number + 1);
         let first_day = (begin / 86_400) as u32;
@@ -240,6 +238,31 @@ impl RecurrencePeriod {
             }
         }
         None
+    }
+}
+
+impl Cursor {
+    ghost use Rattle.ics_rule.specs.Searches.{after_look};
+
+    /// Looks at the period with a number that no earlier look has reached, and counts the look.
+    pub(crate) fn look_at(
+        &mut self,
+        parts: &EffectiveRule,
+        number: u64,
+        counted: u64,
+    ) -> RecurrencePeriod
+        requires low { period_in parts.now 0 ≤ number }
+        requires reach { first_local parts.now.frequency (monday_zero parts.now.week_start) number ≤ rules_end }
+        requires room { self.old.steps < 2 ^ 63 }
+        ensures product { IsPeriodOf parts.now result }
+        ensures number { result.number ≡ number }
+        ensures cursor { self.new ≡ after_look self.old result counted }
+    {
+        let looked = &RecurrencePeriod::new(parts, number);
+        self.steps += 1;
+        self.counted = counted;
+        self.held = Some(*looked);
+        *looked
     }
 }
 
