@@ -181,7 +181,9 @@ impl<'a> Days<'a> {
         ensures day { OnOk result (self.new.day ≡ self.old.day +ℤ pos 1) }
         ensures scope { scope_of self.new ≡ scope_of self.old }
         ensures window { self.new.window ≡ self.old.window }
-        ensures counted { self.old.looked ≤ self.new.looked }
+        ensures counted { OnOk result (self.new.looked ≡ min (self.old.looked + agenda_looked self.old.agenda) (2 ^ 64 - 1)) }
+        ensures kept { OnErr result (self.new.looked ≡ self.old.looked) }
+        ensures risen { self.old.looked ≤ self.new.looked }
         ensures ahead { (list : List OnDay) → IsAhead self.old list → IsAhead self.new list }
     {
         let day = self.day + 1;

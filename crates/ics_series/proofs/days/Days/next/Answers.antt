@@ -54,7 +54,7 @@ pub loop-occurrence-preserved : goal.loop-occurrence-preserved
 loop-occurrence-preserved c = record {
   scope = c.turn.ensures.scope ∙ (c.next_today.ensures.scope ∙ c.loop-occurrence.invariant.scope);
   window = c.turn.ensures.window ∙ (c.next_today.ensures.window ∙ c.loop-occurrence.invariant.window);
-  looked = omega (arith, c.turn.ensures.counted, c.next_today.ensures.looked, c.loop-occurrence.invariant.looked);
+  looked = omega (arith, c.turn.ensures.risen, c.next_today.ensures.looked, c.loop-occurrence.invariant.looked);
   ahead = λ list a.
       let none : c.in_ok-occurrence.field-0 ≡ None = search rules in
       let gives = rw none at (c.in_ok-occurrence.ensures.ok list (c.loop-occurrence.invariant.ahead list a)) in

@@ -61,6 +61,9 @@ invariant_of-drop c =
 pub returns-clause-day : goal.returns-clause-day
 returns-clause-day c = next-is c.args.self.now.window c.args.self.now.day c.args.self.now.not_before c.requires.more
 
+pub returns-clause-counted : goal.returns-clause-counted
+returns-clause-counted c = omega (arith, c.saturating_add-looked.ensures, c.steps.ensures.count)
+
 pub returns-clause-ahead : goal.returns-clause-ahead
 returns-clause-ahead c = λ list a.
     let self = c.args.self.now in
