@@ -10,16 +10,18 @@ use Rattle.ics_series.specs.declared.window.Window.{Window}
 use Rattle.ics_series.specs.After.{is_after}
 use Rattle.ics_series.specs.Ahead.{is_today, today, IsAheadOf, IsLater}
 use Rattle.ics_series.specs.Clocks.{Clock}
-use Rattle.ics_series.specs.OnDays.{DayRank, first_near, last_near, Begins, IsNearDay, after_day_key, is_day_after, on_day, on_day_cmp, IsOnDay, OnDay}
+use Rattle.ics_series.specs.OnDays.{day_rank_of, DayRank, first_near, last_near, Begins, IsNearDay, after_day_key, is_day_after, on_day, on_day_cmp, IsOnDay, OnDay}
 use Rattle.ics_series.specs.OnDays.{IsBehindKey}
 use Rattle.ics_series.specs.DaySteps.{IsNearAgenda, IsPastAgenda, day_and_start, masters_in, AreDayMasters, AreMasters, IsDayMaster, IsFromStart, Scope}
 use Rattle.ics_series.specs.DaySteps.{begin_day, first_under, most_in, sum_days, AreDayBounds, HasDaysBound, IsLookedBefore}
-use Rattle.ics_series.specs.Entry.{Entry, Rank, entry_cmp}
+use Rattle.ics_series.specs.Entry.{Entry, Rank, entry_cmp, rank_of}
 use Rattle.ics_series.specs.Listing.{IsListing, IsIn}
 use Rattle.ics_series.specs.Meets.{IsListed, IsToCome, Meets}
+use Rattle.ics_series.specs.Occurs.{Occurs}
+use Rattle.ics_series.specs.Tokens.{IsDayKey, IsKey}
 use Rattle.ics_series.specs.Sources.{Source, master_of, recurring, uid_cmp, IsFrom, Recurring, master_at, AreSources, IsMasterOf}
 use Rattle.ics_series.proofs.ListingLemmas.{listing-filter, one-listing, relisted, all-in, all-as, sums-within, rises-on}
-use Rattle.ics_series.proofs.NearDayLemmas.{meets-near, near-first, near-last, occurs-forward, day-under}
+use Rattle.ics_series.proofs.NearDayLemmas.{day-within, meets-near, near-first, near-last, occurs-forward, day-under}
 use Rattle.ics_series.proofs.OnDayLemmas.{day-first, joined, none-listed, on_day_total, shown-today, today-listing, today-shown}
 use Rattle.ics_series.proofs.ToComeLemmas.{after-come, come-after, come-listed}
 use Rattle.std.proofs.lemmas.List.Sums.{sum_by-le}
@@ -55,6 +57,12 @@ module _ (files : List FileSaid) (display : Clock) (near : (t : ℤ) → IsNear 
 
   pub shown-last : (p : OnDay) → IsOnDay files display w p → p.day ≤ℤ last_near w
   shown-last p s = near-last display near w p.entry s.listed.1 (occurs-forward files display p.entry s.listed.0) p.day s.on
+
+  -- the key under a day of what is shown has a token
+  pub day-keys : ((o : Entry) → Occurs files display o → IsKey (rank_of o)) → (p : OnDay) → IsOnDay files display w p → IsDayKey (day_rank_of p)
+  day-keys keys p s =
+      let within = day-within w p.day (shown-first p s) (shown-last p s) in
+      record { day = omega (arith, ints, within.0, within.1, w.not_early, w.not_late); is_key = keys p.entry s.listed.0 }
 
   -- those of a day that come after a key, if there is one
   abbrev IsBegun : ℤ → Option Rank → OnDay → Type 0

@@ -38,16 +38,16 @@ pub record IsNearClock (clock : Clock) : Type 0 where
   pub moment : (x : ℤ) → IsNear (clock.moment x -ℤ x)
   pub offset : (t : ℤ) → IsNear (clock.offset t)
 
-near-utc : IsNearClock utc_clock
+pub near-utc : IsNearClock utc_clock
 near-utc = record { moment = λ x. (omega (arith, ints), omega (arith, ints)); offset = λ t. (omega (arith, ints), omega (arith, ints)) }
 
 near-zone : (zone : ZoneKind) → IsNearClock (zone_clock (zone_said zone))
 near-zone zone = record { moment = said_moment_near zone; offset = said_offset_near zone }
 
-near-display : (display : Display) → IsNearClock (display_clock display)
+pub near-display : (display : Display) → IsNearClock (display_clock display)
 near-display display = record { moment = moment_near (zone_of display); offset = offset_near (zone_of display) }
 
-near-at : (zones : List ZoneKind) (zone : Option ℕ) → IsNearClock (clock_at (map zone_clock (map zone_said zones)) zone)
+pub near-at : (zones : List ZoneKind) (zone : Option ℕ) → IsNearClock (clock_at (map zone_clock (map zone_said zones)) zone)
 near-at zones None = near-utc
 near-at [] (Some zone) = near-utc
 near-at (z ∷ zones) (Some zero) = near-zone z
@@ -71,7 +71,7 @@ result_near display = near-moved (moment_of (zone_of display)) (moment_near (zon
 pub moved : (f : ℤ → ℤ) {s r l m : ℤ} → s ≡ r → r ≡ f l → l ≡ m → s ≡ f m
 moved f a e h = a ∙ (e ∙ ap f h)
 
-written : (s : Stamp) → IsStampDay (stamp_day s) → (neg_ℤ (pos 62_135_596_800) ≤ℤ stamp_seconds s) × (stamp_seconds s <ℤ pos 250_246_627_200)
+pub written : (s : Stamp) → IsStampDay (stamp_day s) → (neg_ℤ (pos 62_135_596_800) ≤ℤ stamp_seconds s) × (stamp_seconds s <ℤ pos 250_246_627_200)
 written (Date day) h = (omega (arith, ints, h.0), omega (arith, ints, h.1))
 written (Floating local) h = (omega (arith, ints, h.0), omega (arith, ints, h.1, local.second_in))
 written (Utc local) h = (omega (arith, ints, h.0), omega (arith, ints, h.1, local.second_in))

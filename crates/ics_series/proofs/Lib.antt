@@ -28,5 +28,6 @@ pub mod UidLemmas
 pub mod UnionLemmas
 pub mod VersionLemmas
 pub mod MoveLemmas
+pub mod WholeLemmas
 pub mod WindowLemmas
 pub mod ZoneLemmas

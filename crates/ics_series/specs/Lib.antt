@@ -41,6 +41,7 @@ pub mod Tokens
 pub mod Tournament
 pub mod Uids
 pub mod Versions
+pub mod Whole
 pub mod FileZones
 pub mod WindowBounds
 pub mod WindowLaws

@@ -7,7 +7,7 @@ ghost use Rattle.std.specs.Ordering.{on};
 ghost use Rattle.ics_event.specs.Event.{said_by};
 ghost use Rattle.ics_series.specs.After.{after_key, is_after};
 ghost use Rattle.ics_series.specs.Clocks.{display_clock};
-ghost use Rattle.ics_series.specs.Entry.{Entry, entry_cmp, entry_of, key_rank};
+ghost use Rattle.ics_series.specs.Entry.{Entry, entry_cmp, entry_of, key_rank, rank_of};
 ghost use Rattle.ics_series.specs.EntryLaws.{entry_total};
 ghost use Rattle.ics_series.specs.HeldMost.{held_most};
 ghost use Rattle.ics_series.specs.Holding.{part_holds, part_looked};
@@ -16,13 +16,15 @@ ghost use Rattle.ics_series.specs.Listing.{IsIn, IsListing};
 ghost use Rattle.ics_series.specs.Meets.{IsListed, IsToCome};
 ghost use Rattle.ics_series.specs.Merged.{merged};
 ghost use Rattle.ics_series.specs.MergedLaws.{rises-merged};
+ghost use Rattle.ics_series.specs.Occurs.{Occurs};
 ghost use Rattle.ics_series.specs.Overridden.{is_kept};
 ghost use Rattle.ics_series.specs.AgendaParts.{part_coming, part_sources};
 ghost use Rattle.ics_series.specs.Sources.{master_of, recurring, AreApart, AreApart-prop, AreSources, Recurring};
 ghost use Rattle.ics_series.specs.Steps.{HasStepBound};
+ghost use Rattle.ics_series.specs.Tokens.{IsKey};
 ghost use Rattle.ics_series.specs.Uids.{AreSortedFrom};
 ghost use Rattle.ics_series.specs.Versions.{seen, subject_cmp, subject_seen};
-ghost use Rattle.ics_series.specs.declared.window.Window.{Window};
+ghost use Rattle.ics_series.specs.Whole.{IsWhole};
 
 use crate::chosen::{chosen, is_named};
 use crate::feed::{Coming, Feed};
@@ -65,8 +67,9 @@ impl<'a> Agenda<'a> {
             × (⟦<Agenda<'a> as Coming>⟧.coming agenda ≡ after_key (option_map (λ key. key_rank key.now) after.entry) list)) }
         ensures sources { IfOk result (λ agenda. AreSources (map said_by files.entry.now) (display_clock display.entry.now) window
             (option_map (λ key. key_rank key.now) after.entry) (⟦<Agenda<'a> as Coming>⟧.sources agenda)) }
-        ensures whole { IfOk result (λ _. (w : Window) → (list : List Entry)
-            × IsListing entry_cmp (IsListed (map said_by files.entry.now) (display_clock display.entry.now) w) list) }
+        ensures keys { IfOk result (λ _. (o : Entry)
+            → Occurs (map said_by files.entry.now) (display_clock display.entry.now) o → IsKey (rank_of o)) }
+        ensures whole { IfOk result (λ _. IsWhole (map said_by files.entry.now) (display_clock display.entry.now)) }
     {
         let parts = parts(alloc, files, display, window, after)?;
         let merge = Merge::of_sorted(alloc, parts, 1)?;
@@ -83,8 +86,7 @@ impl<'a> Agenda<'a> {
     ) -> Result<Agenda<'a>, AllocError>
         ensures none { IfOk result (λ agenda. ⟦<Agenda<'a> as Coming>⟧.coming agenda ≡ []) }
         ensures sources { IfOk result (λ agenda. ⟦<Agenda<'a> as Coming>⟧.sources agenda ≡ []) }
-        ensures whole { IfOk result (λ _. (w : Window) → (list : List Entry)
-            × IsListing entry_cmp (IsListed (map said_by files.entry.now) (display_clock display.entry.now) w) list) }
+        ensures whole { IfOk result (λ _. IsWhole (map said_by files.entry.now) (display_clock display.entry.now)) }
     {
         let mut parts = parts(alloc, files, display, window, None)?;
         parts.clear();
@@ -132,8 +134,7 @@ fn parts<'a>(
         (merged entry_cmp (map part_coming parts.items))) }
     ensures sources { IfOk result (λ parts. AreSources (map said_by files.entry.now) (display_clock display.entry.now) window
         (option_map (λ key. key_rank key.now) after.entry) (flat_map part_sources parts.items)) }
-    ensures whole { IfOk result (λ _. (w : Window) → (list : List Entry)
-        × IsListing entry_cmp (IsListed (map said_by files.entry.now) (display_clock display.entry.now) w) list) }
+    ensures whole { IfOk result (λ _. IsWhole (map said_by files.entry.now) (display_clock display.entry.now)) }
     ensures sorted { IfOk result (λ parts. AreSortedFrom 1 (map part_coming parts.items)) }
 {
     let chosen = chosen(alloc, files, display)?;

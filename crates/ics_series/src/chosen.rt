@@ -5,6 +5,7 @@ ghost use Rattle.std.specs.Ordering.{on};
 ghost use Rattle.ics_event.specs.Event.{said_by};
 ghost use Rattle.ics_series.specs.Clocks.{display_clock};
 ghost use Rattle.ics_series.specs.Versions.{is_followed, is_named, is_override, is_same, lasts, seen, subject_cmp, subject_seen, AreChosen};
+ghost use Rattle.ics_series.specs.Whole.{AreRead};
 
 use crate::version::{Subject, Version, versions};
 use ics_event::FileEvents;
@@ -18,7 +19,8 @@ pub(crate) fn chosen<'a>(
     files: &'a [FileEvents],
     display: &Display,
 ) -> Result<Vec<Version<'a>>, AllocError>
-    ensures { IfOk result (λ chosen. AreChosen (map said_by files.entry.now) (display_clock display.now) chosen.items) }
+    ensures chosen { IfOk result (λ chosen. AreChosen (map said_by files.entry.now) (display_clock display.now) chosen.items) }
+    ensures read { IfOk result (λ _. AreRead (map said_by files.entry.now)) }
 {
     let mut versions = versions(alloc, files, display)?;
     versions.sort_unstable_by(Version::compare);

@@ -5,15 +5,15 @@ ghost use Rattle.std.specs.Option.{option_map};
 ghost use Rattle.ics_fields.specs.Days.{IsDayNumber};
 ghost use Rattle.ics_event.specs.Event.{said_by};
 ghost use Rattle.ics_series.specs.Clocks.{display_clock};
-ghost use Rattle.ics_series.specs.OnDays.{day_key_rank, first_near, last_near, Begins, IsBehindKey, after_day_key, on_day_cmp, GivesOnDay, IsOnDay, OnDay};
+ghost use Rattle.ics_series.specs.OnDays.{day_key_rank, day_rank_of, first_near, last_near, Begins, IsBehindKey, after_day_key, on_day_cmp, GivesOnDay, IsOnDay, OnDay};
 ghost use Rattle.ics_series.specs.DaySteps.{agenda_holds, agenda_looked, agenda_sources, day_and_start, masters_in, scope_by, scope_in, AreDayMasters};
 ghost use Rattle.ics_series.specs.DaySteps.{AreMasters, IsNearAgenda, IsPastAgenda, begin_day, HasDaysBound, IsLookedBefore};
-ghost use Rattle.ics_series.specs.Entry.{entry_cmp, key_rank, Entry};
+ghost use Rattle.ics_series.specs.Entry.{key_rank};
 ghost use Rattle.ics_series.specs.HeldMost.{held_most};
 ghost use Rattle.ics_series.specs.Listing.{IsListing};
-ghost use Rattle.ics_series.specs.Meets.{IsListed};
 ghost use Rattle.ics_series.specs.PlacedEvents.{Placed};
-ghost use Rattle.ics_series.specs.declared.window.Window.{Window};
+ghost use Rattle.ics_series.specs.Tokens.{IsDayKey};
+ghost use Rattle.ics_series.specs.Whole.{IsWhole};
 
 use crate::agenda::Agenda;
 use crate::day_key::DayKey;
@@ -62,11 +62,14 @@ impl<'a> Days<'a> {
         window: Window,
         after: Option<&DayKey>,
     ) -> Result<Days<'a>, AllocError>
-        ensures { IfOk result (λ days. (list : List OnDay)
+        ensures listing { IfOk result (λ days. (list : List OnDay)
             × IsListing on_day_cmp (IsOnDay (map said_by files.entry.now) (display_clock display.entry.now) window) list
             × IsAhead days (after_day_key (option_map (λ key. day_key_rank key.now) after.entry) list)
             × (scope_of days ≡ scope_by (map said_by files.entry.now) (display_clock display.entry.now) window
             (option_map (λ key. day_key_rank key.now) after.entry))) }
+        ensures masters { IfOk result (λ days. (masters : List Placed) × AreMasters (scope_of days) masters) }
+        ensures keys { IfOk result (λ _. (p : OnDay)
+            → IsOnDay (map said_by files.entry.now) (display_clock display.entry.now) window p → IsDayKey (day_rank_of p)) }
     {
         let (day, key) = begin(&window, after);
         let agenda = Days::agenda_of(alloc, files, display, &window, day, key)?;
@@ -95,8 +98,7 @@ impl<'a> Days<'a> {
         ensures agenda { IfOk result (λ agenda. IsNearAgenda (map said_by files.entry.now) (display_clock display.entry.now) window.now day
             (option_map (λ key. key_rank key.now) key.entry) (agenda_coming agenda) (agenda_sources agenda)
             ⊎ IsPastAgenda window.now day (agenda_coming agenda) (agenda_sources agenda)) }
-        ensures whole { IfOk result (λ _. (w : Window) → (list : List Entry)
-            × IsListing entry_cmp (IsListed (map said_by files.entry.now) (display_clock display.entry.now) w) list) }
+        ensures whole { IfOk result (λ _. IsWhole (map said_by files.entry.now) (display_clock display.entry.now)) }
     {
         if last_near(window) < day {
             return Agenda::ended(alloc, files, display, *window);

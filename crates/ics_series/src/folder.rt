@@ -5,12 +5,15 @@ ghost use Rattle.ics_event.specs.Event.{said_by};
 ghost use Rattle.ics_series.specs.After.{after_key};
 ghost use Rattle.ics_series.specs.Ahead.{scope_of, IsAhead};
 ghost use Rattle.ics_series.specs.Clocks.{display_clock};
-ghost use Rattle.ics_series.specs.OnDays.{day_key_rank, after_day_key, on_day_cmp, IsOnDay, OnDay};
-ghost use Rattle.ics_series.specs.DaySteps.{scope_by};
-ghost use Rattle.ics_series.specs.Entry.{Entry, entry_cmp, key_rank};
+ghost use Rattle.ics_series.specs.OnDays.{day_key_rank, day_rank_of, after_day_key, on_day_cmp, IsOnDay, OnDay};
+ghost use Rattle.ics_series.specs.DaySteps.{scope_by, AreMasters};
+ghost use Rattle.ics_series.specs.Entry.{Entry, entry_cmp, key_rank, rank_of};
 ghost use Rattle.ics_series.specs.Listing.{IsListing};
 ghost use Rattle.ics_series.specs.Meets.{IsListed, IsToCome};
+ghost use Rattle.ics_series.specs.Occurs.{Occurs};
+ghost use Rattle.ics_series.specs.PlacedEvents.{Placed};
 ghost use Rattle.ics_series.specs.Sources.{AreSources};
+ghost use Rattle.ics_series.specs.Tokens.{IsDayKey, IsKey};
 
 use crate::agenda::Agenda;
 use crate::day_key::DayKey;
@@ -80,6 +83,8 @@ impl Folder {
             × (⟦<Agenda<'a> as Coming>⟧.coming agenda ≡ after_key (option_map (λ key. key_rank key.now) after.entry) list)) }
         ensures sources { IfOk result (λ agenda. AreSources (map said_by self.entry.now.files) (display_clock self.entry.now.display) window
             (option_map (λ key. key_rank key.now) after.entry) (⟦<Agenda<'a> as Coming>⟧.sources agenda)) }
+        ensures keys { IfOk result (λ _. (o : Entry)
+            → Occurs (map said_by self.entry.now.files) (display_clock self.entry.now.display) o → IsKey (rank_of o)) }
     {
         Agenda::new(self.alloc, &self.files, &self.display, window, after)
     }
@@ -91,11 +96,14 @@ impl Folder {
         window: Window,
         after: Option<&DayKey>,
     ) -> Result<Days<'a>, AllocError>
-        ensures { IfOk result (λ days. (list : List OnDay)
+        ensures listing { IfOk result (λ days. (list : List OnDay)
             × IsListing on_day_cmp (IsOnDay (map said_by self.entry.now.files) (display_clock self.entry.now.display) window) list
             × IsAhead days (after_day_key (option_map (λ key. day_key_rank key.now) after.entry) list)
             × (scope_of days ≡ scope_by (map said_by self.entry.now.files) (display_clock self.entry.now.display) window
             (option_map (λ key. day_key_rank key.now) after.entry))) }
+        ensures masters { IfOk result (λ days. (masters : List Placed) × AreMasters (scope_of days) masters) }
+        ensures keys { IfOk result (λ _. (p : OnDay)
+            → IsOnDay (map said_by self.entry.now.files) (display_clock self.entry.now.display) window p → IsDayKey (day_rank_of p)) }
     {
         Days::new(self.alloc, &self.files, &self.display, window, after)
     }

@@ -1,9 +1,11 @@
 //! The versions of the events of a folder.
 ghost use Rattle.std.specs.Prelude.{◌≡◌, ◌++◌, map, IfOk};
+ghost use Rattle.hex.specs.Hex.{IsBytes};
 ghost use Rattle.ics_event.specs.Event.{said_by, AreEventsOf, IsEventOf};
 ghost use Rattle.ics_series.specs.Chosen.{overridden};
 ghost use Rattle.ics_series.specs.Clocks.{display_clock};
 ghost use Rattle.ics_series.specs.Versions.{label_by, label_of, placed_from, placed_in, seen};
+ghost use Rattle.ics_series.specs.Whole.{AreRead, AreReadIn};
 ghost use Rattle.ics_series.specs.FileZones.{clocks_in};
 ghost use Rattle.ics_zone.specs.ZoneSaid.{zone_said};
 
@@ -54,8 +56,9 @@ pub(crate) fn versions<'a>(
     files: &'a [FileEvents],
     display: &Display,
 ) -> Result<Vec<Version<'a>>, AllocError>
-    ensures { IfOk result (λ versions. map seen versions.items
+    ensures labels { IfOk result (λ versions. map seen versions.items
         ≡ map (label_of (map said_by files.entry.now) (display_clock display.now)) (placed_in 0 (map said_by files.entry.now))) }
+    ensures read { IfOk result (λ _. AreRead (map said_by files.entry.now)) }
 {
     let mut versions = Vec::new(alloc);
     for (number, file) in files.iter().enumerate() {
@@ -76,13 +79,16 @@ fn push_versions<'a>(
     events: &'a [Event],
 ) -> Result<(), AllocError>
     requires own { AreEventsOf (map zone_said zones.zones.now) events.now }
-    ensures { IfOk result (λ _. map seen versions.new.items
+    ensures labels { IfOk result (λ _. map seen versions.new.items
         ≡ map seen versions.old.items ++ map (label_by (clocks_in zones.entry)) (placed_from file 0 events.entry.now)) }
+    ensures read { IfOk result (λ _. AreReadIn events.entry.now) }
 {
     for (place, event) in events.iter().enumerate() {
+        let uid = event.uid.as_slice();
+        are_bytes(uid);
         let version = Version {
             subject: Subject {
-                uid: event.uid.as_slice(),
+                uid,
                 recurrence: overridden(zones, event),
             },
             sequence: event.sequence,
@@ -92,6 +98,11 @@ fn push_versions<'a>(
     }
     Ok(())
 }
+
+// What a slice of bytes holds are bytes: its type says so, and this makes it known of the list that it stands for.
+fn are_bytes(bytes: &[u8])
+    ensures { IsBytes bytes.now }
+{}
 
 // The instance of its UID that an event overrides.
 fn overridden(zones: FileZones<'_>, event: &Event) -> Option<Moment>

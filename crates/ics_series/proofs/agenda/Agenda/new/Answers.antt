@@ -13,7 +13,8 @@ returns c =
       sources = rw c.in_ok-merge.ensures.sources c.in_ok-parts.ensures.sources;
       listing = listing;
       behind = behind-key (map said_by c.args.files.now) (display_clock c.args.display.now) c.args.window (option_map (λ key. key_rank key.now) c.args.after)
-          (c.in_ok-parts.ensures.whole c.args.window) listing;
+          (c.in_ok-parts.ensures.whole.listings c.args.window) listing;
+      keys = c.in_ok-parts.ensures.whole.keys;
       whole = c.in_ok-parts.ensures.whole;
     }
 

@@ -8,7 +8,7 @@ use Rattle.ics_series.specs.Clocks.{display_clock}
 use Rattle.ics_series.specs.DaySteps.{agenda_sources, scope_in}
 use Rattle.ics_series.specs.Entry.{key_rank}
 use Rattle.ics_series.specs.OnDays.{first_near, day_key_rank}
-use Rattle.ics_series.proofs.AheadLemmas.{begun-ahead, begun-by, first-masters, from-start}
+use Rattle.ics_series.proofs.AheadLemmas.{begun-ahead, begun-by, day-keys, first-masters, from-start}
 use Rattle.ics_series.proofs.days.Days.new.Goals as goal
 
 pub returns : goal.returns
@@ -17,12 +17,22 @@ returns c =
     let display = display_clock c.args.display.now in
     let after = option_map (λ key. day_key_rank key.now) c.args.after in
     let key = option_map (λ key. key_rank key.now) c.begin-day.result.1 in
-    let xs = c.in_ok-agenda.ensures.whole c.args.window in
+    let whole = c.in_ok-agenda.ensures.whole in
+    let xs = whole.listings c.args.window in
     let fits : to_z w32 (of_z w32 c.begin-day.result.0) ≡ c.begin-day.result.0 = search rules in
     let begins = rw (← fits) at c.begin-day.ensures.begins in
     let begun = begun-ahead files display (offset_near (zone_of c.args.display.now)) c.args.window after (to_z w32 (of_z w32 c.begin-day.result.0)) key begins
     xs.0 (agenda_coming c.in_ok-agenda.agenda) (agenda_sources c.in_ok-agenda.agenda) xs.1 c.in_ok-agenda.ensures.agenda in
-    (begun.0, begun.1, begun.2, ap (scope_in (map said_by c.args.files.now) (display_clock c.args.display.now) c.args.window) c.day_and_start.ensures)
+    record {
+      listing = (
+        begun.0,
+        begun.1,
+        begun.2,
+        ap (scope_in (map said_by c.args.files.now) (display_clock c.args.display.now) c.args.window) c.day_and_start.ensures,
+      );
+      masters = whole.masters;
+      keys = day-keys files display (offset_near (zone_of c.args.display.now)) c.args.window whole.keys;
+    }
 
 pub invariant_of-result : goal.invariant_of-result
 invariant_of-result c =

@@ -5,4 +5,5 @@ returns c = record {
   listing = rw (← c.self.view_is, ← c.deref.ensures.value) c.new.ensures.listing;
   behind = rw (← c.self.view_is, ← c.deref.ensures.value) c.new.ensures.behind;
   sources = rw (← c.self.view_is, ← c.deref.ensures.value) c.new.ensures.sources;
+  keys = rw (← c.self.view_is, ← c.deref.ensures.value) c.new.ensures.keys;
 }

@@ -1,4 +1,8 @@
 use Rattle.ics_series.proofs.folder.Folder.days.Goals as goal
 
 pub returns : goal.returns
-returns c = rw (← c.self.view_is, ← c.deref.ensures.value) c.new.ensures
+returns c = record {
+  listing = rw (← c.self.view_is, ← c.deref.ensures.value) c.new.ensures.listing;
+  masters = c.new.ensures.masters;
+  keys = rw (← c.self.view_is, ← c.deref.ensures.value) c.new.ensures.keys;
+}
