@@ -1,6 +1,6 @@
 pub mod Cases
-pub mod TableLemmas
 pub mod FileLemmas
+pub mod JiffLemmas
 pub mod OnsetLemmas
 pub mod MomentLemmas
 pub mod LatestLemmas

@@ -4,14 +4,8 @@ use Rattle.std.specs.Char.{is_ascii_digit}
 use Rattle.std.specs.Str.{bytes_eq}
 use Rattle.jiff_core.specs.Sign.{signed}
 use Rattle.jiff_tz.specs.PosixReader.{read_whole}
-use Rattle.jiff_tz.specs.PosixText.{TzText, tz_view}
-use Rattle.jiff_tz.specs.declared.timezone.TimeZone.{TimeZone}
-use Rattle.jiff_tz.specs.declared.timezone.TimeZone.TheVariants.{UTC, Unknown, Fixed, Posix, Tzif}
-
--- what a text says of a zone: one offset, in seconds, or the offsets of a rule
-pub data Said : Type 0 where
-  Always : ℤ → Said
-  ByRule : TzText → Said
+use Rattle.jiff_tz.specs.PosixText.{TzText}
+use Rattle.ics_zone.specs.ZoneSaid.{ZoneSaid, Always, ByRule}
 
 -- the number that two digits spell
 abbrev pub pair_value : ℕ → ℕ → ℕ
@@ -36,21 +30,13 @@ offset_said (sign ∷ a ∷ b ∷ colon ∷ c ∷ d ∷ []) =
 offset_said text = None
 
 -- the first of two, if it is there, and else the second
-abbrev first_said : Option ℤ → Option TzText → Option Said
+abbrev first_said : Option ℤ → Option TzText → Option ZoneSaid
 first_said (Some seconds) rule = Some (Always seconds)
 first_said None rule = option_map ByRule rule
 
 -- what the text of a display zone says, if it is one
-abbrev pub display_of : List ℕ → Option Said
+abbrev pub display_of : List ℕ → Option ZoneSaid
 display_of text =
     if bytes_eq text (codes "UTC") || bytes_eq text (codes "Z")
     then Some (Always (pos 0))
     else first_said (offset_said text) (read_whole text)
-
--- what a zone of jiff's says, if a display zone may be of its kind
-abbrev pub said_by : TimeZone → Option Said
-said_by UTC = Some (Always (pos 0))
-said_by Unknown = None
-said_by (Fixed offset) = Some (Always offset.seconds)
-said_by (Posix rule) = Some (ByRule (tz_view rule))
-said_by (Tzif table) = None

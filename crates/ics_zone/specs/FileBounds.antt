@@ -24,7 +24,7 @@ pub rule_short : (standard : Offset) (dst : Option Dst) (local : ℤ) → IsOffs
 rule_short standard None local = standard.in_range
 rule_short standard (Some d) local = let own = standard.in_range in let other = d.offset.in_range in search either depth 12
 
-type_short : (rule : TimeZone) (n : ℤ) → IsOffsetSeconds (rule_type (tz_view rule) n).seconds
+pub type_short : (rule : TimeZone) (n : ℤ) → IsOffsetSeconds (rule_type (tz_view rule) n).seconds
 type_short rule n = by rule.dst
   where
     in_year : (b : Bool) (d : Dst) → IsOffsetSeconds (if b then daylight_type (dst_view d) else standard_type (tz_view rule)).seconds

@@ -1,6 +1,5 @@
 pub mod Seconds
 pub mod DisplayTexts
-pub mod Displays
 pub mod Near
 pub mod DisplayFaults
 pub mod JiffZones

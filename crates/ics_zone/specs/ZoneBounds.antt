@@ -9,11 +9,11 @@ use Rattle.ics_zone.specs.ZoneOffsets.{offset_by, zone_offset}
 use Rattle.ics_zone.specs.Moments.{IsMomentBy, zone_moment}
 use Rattle.ics_zone.specs.MomentSearch.{moment_found}
 use Rattle.ics_zone.specs.Searches.{last_below-is, first_below-is}
-use Rattle.ics_zone.specs.Near.{file_offset_near, file_moment_near}
+use Rattle.ics_zone.specs.Near.{jiff_offset_near, jiff_moment_near}
 use Rattle.ics_zone.specs.Seconds.{IsNear}
 use Rattle.ics_zone.specs.ZoneSaid.{said_offset, said_moment, zone_said}
 use Rattle.ics_zone.specs.declared.zone.ZoneKind.{ZoneKind}
-use Rattle.ics_zone.specs.declared.zone.ZoneKind.TheVariants.{ByObservances, ByFile}
+use Rattle.ics_zone.specs.declared.zone.ZoneKind.TheVariants.{ByObservances, ByJiff}
 
 -- an observance with an onset at t
 pub if_onset-some : (o : Option ObservanceSaid) (t : ℤ) (p : ObservanceSaid) → if_onset o t ≡ Some p → (o ≡ Some p) × (is_onset p t ≡ true)
@@ -69,9 +69,11 @@ zone_moment_near zone local = moment_near_by (zone_offset (observances_said zone
     (moment_found (zone_offset (observances_said zone)) (zone_short zone) local)
 
 pub said_offset_near : (zone : ZoneKind) (t : ℤ) → IsNear (said_offset (zone_said zone) t)
+unfolding said_offset
 said_offset_near (ByObservances observances) t = zone_offset_near observances t
-said_offset_near (ByFile table) t = file_offset_near table.value t
+said_offset_near (ByJiff zone) t = jiff_offset_near zone t
 
 pub said_moment_near : (zone : ZoneKind) (local : ℤ) → IsNear (said_moment (zone_said zone) local -ℤ local)
+unfolding said_moment
 said_moment_near (ByObservances observances) local = zone_moment_near observances local
-said_moment_near (ByFile table) local = file_moment_near table.value local
+said_moment_near (ByJiff zone) local = jiff_moment_near zone local

@@ -1,5 +1,5 @@
--- What a zone file says (RFC 9636): a table of transitions, and a rule for what comes after it. Definitions over what jiff reads of the file, so
--- that a zone's answers are a function of the file's bytes.
+-- What the rule of a POSIX TZ string says, and what a zone file does (RFC 9636): a table of transitions, and a rule for what comes after it.
+-- Definitions over what jiff reads of the text or the file, so that a zone's answers are a function of the bytes.
 use Rattle.std.specs.Prelude.{ℕ, ◌-◌, ◌==◌, ℤ, pos, ◌+ℤ◌, ◌-ℤ◌, ◌*ℤ◌, Bool, true, false, not, ◌&&◌, ◌||◌, nat_le, int_le, int_lt, List, length, get_or, Option}
 use Rattle.std.specs.Prelude.{Some, None, Ok, Err, if◌then◌else◌}
 use Rattle.std.specs.List.{prefix_len}

@@ -1,41 +1,32 @@
 //! The zone in which a listing is shown.
 ghost use Rattle.std.specs.Prelude.{◌≡◌, ◌↔◌, Some, None, Err, IfOk, IfErr};
 ghost use Rattle.jiff_core.specs.Calendar.{IsWithin};
-ghost use Rattle.jiff.specs.Words.{plain_zone};
-ghost use Rattle.ics_zone.specs.DisplayTexts.{Said, display_of, said_by};
-ghost use Rattle.ics_zone.specs.Displays.{IsCompatible};
-ghost use Rattle.ics_zone.specs.Seconds.{IsDay};
+ghost use Rattle.ics_zone.specs.DisplayTexts.{display_of};
+ghost use Rattle.ics_zone.specs.Seconds.{IsDay, IsMoment};
+ghost use Rattle.ics_zone.specs.ZoneSaid.{ZoneSaid, display_said};
 ghost use Rattle.ics_fields.specs.Locals.{seconds_at};
-ghost use Rattle.ics_zone.specs.JiffZones.{zone_of};
 
-use crate::compatible::{offset_at, picked_moment};
 use crate::display_text::read_offset;
-use crate::{DisplayFault, Place};
+use crate::jiff_zone::JiffZone;
+use crate::{DisplayFault, Place, ZoneFile};
 use ics_fields::{Local, Moment};
-use jiff::tz::TimeZone;
 use jiff_core::Offset;
 use jiff_tz::posix;
-use std::alloc::Global;
+use std::alloc::{AllocError, Global};
 
-/// The zone in which a listing is shown: UTC, a fixed offset, or the rule of a POSIX TZ string.
-#[derive(Clone, Copy)]
+/// The zone in which a listing is shown: UTC, a fixed offset, the rule of a POSIX TZ string, or what a zone file says.
+#[derive(Drop)]
 pub struct Display {
-    kind: Kind,
-}
-
-/// What the zone follows. It does not hold one of jiff's zones, since they may borrow a table.
-#[derive(Clone, Copy)]
-pub(crate) enum Kind {
-    Fixed(Offset),
-    Posix(posix::TimeZone),
+    zone: JiffZone,
 }
 
 impl Display {
     /// The zone that a text names: `UTC`, `Z`, a sign with `HH:MM` (hours to 23, minutes to 59), or a
     /// POSIX TZ string as jiff reads it, such as `EST5EDT,M3.2.0,M11.1.0`. `BadZone` for any other text,
     /// and no other fault. Nothing is allocated.
+    #[tactic(auto, unfolding(crate::specs::ZoneSaid::jiff_said))]
     pub fn parse(_alloc: Global, text: &str) -> Result<Display, DisplayFault>
-        ensures said { IfOk result (λ display. said_by (zone_of display) ≡ display_of text.now) }
+        ensures said { IfOk result (λ display. Some (display_said display) ≡ display_of text.now) }
         ensures refused { (result ≡ Err DisplayFault.BadZone) ↔ (display_of text.now ≡ None) }
         ensures only { IfErr result (λ fault. fault ≡ DisplayFault.BadZone) }
     {
@@ -47,58 +38,75 @@ impl Display {
         }
         match posix::TimeZone::parse(text.as_bytes()) {
             Ok(rule) => Ok(Display {
-                kind: Kind::Posix(rule),
+                zone: JiffZone::Posix(rule),
             }),
             Err(_) => Err(DisplayFault::BadZone),
         }
     }
 
-    // The zone as a zone of jiff's.
-    fn zone(&self) -> TimeZone<'static>
-        ensures { plain_zone result ≡ zone_of self.now }
+    /// The zone of a zone file that has been read, in the same memory: its table of transitions and, after the last of them, its rule.
+    pub fn of_file(file: &ZoneFile) -> Result<Display, AllocError>
+        ensures { IfOk result (λ display. display_said display ≡ ZoneSaid.ByFile file.now) }
     {
-        TimeZone::from_plain(match self.kind {
-            Kind::Fixed(offset) => jiff_tz::TimeZone::Fixed(offset),
-            Kind::Posix(rule) => jiff_tz::TimeZone::Posix(rule),
+        Ok(Display {
+            zone: JiffZone::of_file(file)?,
+        })
+    }
+}
+
+impl Clone for Display {
+    ghost is_clone = { λ display copy. copy ≡ display };
+
+    /// The same zone, in the same memory.
+    fn clone(&self) -> Result<Display, AllocError>
+        ensures same { IfOk result (λ display. display ≡ self.now) }
+    {
+        Ok(Display {
+            zone: self.zone.share()?,
         })
     }
 }
 
 // The zone with this offset, in seconds, at all times.
+#[tactic(auto, unfolding(crate::specs::ZoneSaid::jiff_said))]
 fn fixed(seconds: i32) -> Display
     requires { IsWithin 86_340 seconds }
-    ensures { said_by (zone_of result) ≡ Some (Said.Always seconds) }
+    ensures { display_said result ≡ ZoneSaid.Always seconds }
 {
     let offset = Offset::from_seconds(i64::from(seconds)).unwrap();
     Display {
-        kind: Kind::Fixed(offset),
+        zone: JiffZone::Fixed(offset),
     }
 }
 
 impl Place for Display {
-    ghost use Rattle.ics_zone.specs.Displays.{offset_of, moment_of};
+    ghost use Rattle.ics_zone.specs.JiffZones.{IsOffsetIn, IsMomentIn};
     ghost use Rattle.ics_zone.specs.Near.{offset_near, moment_near};
-    ghost use Rattle.ics_zone.specs.JiffZones.{zone_of};
+    ghost use Rattle.ics_zone.specs.ZoneSaid.{display_said, said_offset, said_moment};
 
-    ghost offset_at = { λ display moment. offset_of (zone_of display) moment };
+    ghost offset_at = { λ display moment. said_offset (display_said display) moment };
 
-    ghost moment_at = { λ display local. moment_of (zone_of display) local };
+    ghost moment_at = { λ display local. said_moment (display_said display) local };
 
     /// The offset that jiff gives at the instant, in seconds.
-    fn offset(&self, moment: Moment) -> i32 {
-        offset_at(self.zone(), moment)
+    fn offset(&self, moment: Moment) -> i32
+        requires { IsMoment moment }
+        ensures means { IsOffsetIn (display_said self.now) moment result }
+        ensures value { result ≡ said_offset (display_said self.now) moment }
+    {
+        self.zone.offset(moment)
     }
 
     /// The instant of the local by jiff's compatible strategy: the first of two, and in a gap the local read with the offset before the gap.
     fn moment(&self, local: Local) -> Moment
         requires { IsDay local.day }
-        ensures picked { IsCompatible (zone_of self.now) (seconds_at local.day local.second) result }
-        ensures value { result ≡ moment_of (zone_of self.now) (seconds_at local.day local.second) }
+        ensures means { IsMomentIn (display_said self.now) (seconds_at local.day local.second) result }
+        ensures value { result ≡ said_moment (display_said self.now) (seconds_at local.day local.second) }
     {
-        picked_moment(self.zone(), local)
+        self.zone.moment(local)
     }
 
-    ghost near = { λ display moment. offset_near (zone_of display) moment };
+    ghost near = { λ display moment. offset_near display moment };
 
-    ghost moment_near = { λ display local. moment_near (zone_of display) local };
+    ghost moment_near = { λ display local. moment_near display local };
 }

@@ -3,11 +3,11 @@
 
 mod clear;
 mod clock;
-mod compatible;
 mod display;
 mod display_fault;
 mod display_text;
 mod hours;
+mod jiff_zone;
 mod kept;
 mod latest;
 mod laws;
@@ -15,6 +15,7 @@ mod observance;
 mod observed;
 mod onsets;
 mod place;
+mod shared_table;
 mod sixty;
 mod times;
 mod zone;
@@ -25,11 +26,11 @@ mod zone_laws;
 
 pub use display::Display;
 pub use display_fault::DisplayFault;
-pub use laws::{compatible_moment, one_display};
+pub use laws::{compatible_moment, jiff_answers, one_display};
 pub use observance::Observance;
 pub use place::Place;
 pub use zone::Zone;
 pub use zone_fault::ZoneFault;
 pub use zone_file::ZoneFile;
 pub use zone_file_fault::ZoneFileFault;
-pub use zone_laws::{file_answers, one_moment, one_offset};
+pub use zone_laws::{one_moment, one_offset};

@@ -7,15 +7,12 @@ ghost use Rattle.ics_zone.specs.Observances.{observances_said, has_finer_rule};
 ghost use Rattle.ics_zone.specs.Seconds.{IsDay, IsMoment};
 ghost use Rattle.ics_fields.specs.Locals.{seconds_at};
 
-use crate::compatible::{offset_at, picked_moment};
+use crate::jiff_zone::JiffZone;
 use crate::observed::Observed;
-use crate::zone_file::ZoneFile;
-use crate::{Observance, Place, ZoneFault, ZoneFileFault};
+use crate::{Observance, Place, ZoneFault, ZoneFile, ZoneFileFault};
 use ics_fields::{Local, Moment};
-use jiff::tz::{TimeZone, Tzif};
 use std::alloc::{AllocError, Global};
 use std::marker::Model;
-use std::rc::Rc;
 
 /// A time zone: that of a VTIMEZONE (RFC 5545, section 3.6.5), or that of a zone file (RFC 9636). Contracts see its observances, or the table
 /// that jiff read from the file.
@@ -28,7 +25,7 @@ pub struct Zone {
 #[derive(Drop)]
 pub(crate) enum ZoneKind {
     ByObservances(Observed),
-    ByFile(Rc<Tzif>),
+    ByJiff(JiffZone),
 }
 
 impl Model for Zone {
@@ -79,7 +76,7 @@ impl Zone {
         ensures { IfOk result (λ zone. zone_said zone ≡ ZoneSaid.ByFile file.now) }
     {
         Ok(Zone {
-            kind: ZoneKind::ByFile(file.table.clone()?),
+            kind: ZoneKind::ByJiff(JiffZone::of_file(file)?),
         })
     }
 
@@ -91,13 +88,14 @@ impl Zone {
     {
         match &mut self.kind {
             ZoneKind::ByObservances(observed) => observed.reach(to),
-            ZoneKind::ByFile(_) => Ok(()),
+            ZoneKind::ByJiff(_) => Ok(()),
         }
     }
 }
 
 impl Place for Zone {
-    ghost use Rattle.ics_zone.specs.ZoneSaid.{IsOffsetIn, IsMomentIn, said_offset, said_moment, zone_said};
+    ghost use Rattle.ics_zone.specs.JiffZones.{IsOffsetIn, IsMomentIn};
+    ghost use Rattle.ics_zone.specs.ZoneSaid.{said_offset, said_moment, zone_said};
     ghost use Rattle.ics_zone.specs.ZoneBounds.{said_offset_near, said_moment_near};
 
     ghost offset_at = { λ zone moment. said_offset (zone_said zone) moment };
@@ -106,27 +104,29 @@ impl Place for Zone {
 
     /// The offset at an instant, in seconds. In a zone of observances it is TZOFFSETTO of the greatest onset that is not after the instant or,
     /// before all onsets, TZOFFSETFROM of the least (RFC 5545, section 3.6.5). In a zone of a file it is the one that jiff gives.
+    #[tactic(auto, unfolding(crate::specs::ZoneSaid::said_offset))]
     fn offset(&self, moment: Moment) -> i32
         requires { IsMoment moment }
-        ensures means { IsOffsetIn self.now moment result }
+        ensures means { IsOffsetIn (zone_said self.now) moment result }
         ensures value { result ≡ said_offset (zone_said self.now) moment }
     {
         match &self.kind {
             ZoneKind::ByObservances(observed) => observed.offset(moment),
-            ZoneKind::ByFile(table) => offset_at(TimeZone::tzif(table), moment),
+            ZoneKind::ByJiff(zone) => zone.offset(moment),
         }
     }
 
     /// The instant of a local. In a zone of observances it is the first at which the clock shows the local and, if there is none, the local read
     /// with the offset before the gap (RFC 5545, section 3.3.5). In a zone of a file it is that of jiff's compatible strategy.
+    #[tactic(auto, unfolding(crate::specs::ZoneSaid::said_moment))]
     fn moment(&self, local: Local) -> Moment
         requires { IsDay local.day }
-        ensures means { IsMomentIn self.now (seconds_at local.day local.second) result }
+        ensures means { IsMomentIn (zone_said self.now) (seconds_at local.day local.second) result }
         ensures value { result ≡ said_moment (zone_said self.now) (seconds_at local.day local.second) }
     {
         match &self.kind {
             ZoneKind::ByObservances(observed) => observed.moment(local),
-            ZoneKind::ByFile(table) => picked_moment(TimeZone::tzif(table), local),
+            ZoneKind::ByJiff(zone) => zone.moment(local),
         }
     }
 

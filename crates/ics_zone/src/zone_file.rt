@@ -5,11 +5,11 @@ ghost use Rattle.jiff_tz.specs.TzifReader.{read_tzif};
 ghost use Rattle.ics_zone.specs.ZoneFiles.{zone_file};
 
 use crate::ZoneFileFault;
+use crate::shared_table::SharedTable;
 use jiff::tz::Tzif;
 use jiff_core::Error;
 use std::alloc::Global;
 use std::marker::Model;
-use std::rc::Rc;
 
 /// The longest zone file, in bytes.
 const LONGEST: usize = 1_048_576;
@@ -17,7 +17,7 @@ const LONGEST: usize = 1_048_576;
 /// A zone file that has been read. Zones of it share its table. Contracts see what jiff read of it.
 #[derive(Drop)]
 pub struct ZoneFile {
-    pub(crate) table: Rc<Tzif>,
+    pub(crate) table: SharedTable,
 }
 
 impl Model for ZoneFile {
@@ -26,7 +26,7 @@ impl Model for ZoneFile {
 
     ghost Value = { TzifText };
 
-    ghost view = { λ a. tzif_view a.table.value };
+    ghost view = { λ a. tzif_view a.table };
 }
 
 impl ZoneFile {
@@ -42,7 +42,7 @@ impl ZoneFile {
             return Err(ZoneFileFault::BadZoneFile);
         }
         match Tzif::parse(alloc, None, bytes) {
-            Ok(table) => match Rc::new(alloc, table) {
+            Ok(table) => match SharedTable::new(alloc, table) {
                 Ok(table) => Ok(ZoneFile { table }),
                 Err(_) => Err(ZoneFileFault::Memory),
             },

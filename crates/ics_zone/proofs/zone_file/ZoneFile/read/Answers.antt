@@ -23,7 +23,7 @@ pub returns-in-Ok-new-clause-file : goal.returns-in-Ok-new-clause-file
 returns-in-Ok-new-clause-file c =
     let short : length c.args.bytes.now ≤ 1_048_576 = search rules in
     file_read c.args.bytes.now c.in-Ok.table short c.in-Ok.ensures.value c.in-Ok.ensures.agrees
-    ∙ ap (λ (z : Tzif). Some (tzif_view z)) (sym c.in-Ok-new.ensures.ok)
+    ∙ ap (λ (z : Tzif). Some (tzif_view z)) (sym c.in-Ok-new.ensures)
 
-pub returns-clause-bad : goal.returns-clause-bad
-returns-clause-bad c = λ same. file_refused c.args.bytes.now c.in-Err.error c.in-Err.ensures.err c.in_default.not-OutOfMemory
+pub returns-in_default-clause-bad : goal.returns-in_default-clause-bad
+returns-in_default-clause-bad c = λ same. file_refused c.args.bytes.now c.in-Err.error c.in-Err.ensures.err c.in_default.not-OutOfMemory

@@ -2,7 +2,7 @@ use Rattle.std.proofs.Common.{◌≡◌, ◌*◌, rules, arith, ◌∙◌}
 use Rattle.jiff.specs.Words.{epoch_day, time_nanos}
 use Rattle.jiff.proofs.Family.{civil_nanos-parts}
 use Rattle.jiff.proofs.SpanFacts.{signed_arith}
-use Rattle.ics_zone.proofs.compatible.datetime.Goals as goal
+use Rattle.ics_zone.proofs.jiff_zone.datetime.Goals as goal
 
 pub returns : goal.returns
 returns c =
