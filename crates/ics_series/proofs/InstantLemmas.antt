@@ -13,13 +13,11 @@ use Rattle.ics_event.specs.declared.time.Time.{Time}
 use Rattle.ics_event.specs.declared.time.Length.{Length}
 use Rattle.ics_event.specs.declared.time.Length.TheVariants.{Open, Lasting, Until}
 use Rattle.ics_event.specs.Event.{compared, is_one_zone, stamp_seconds, EndsWithin, IsEnd, IsLength, IsTime, IsWithin, is_zoned, moment_by}
-use Rattle.ics_zone.specs.Displays.{moment_of}
 use Rattle.ics_zone.specs.Near.{moment_near, offset_near}
-use Rattle.ics_zone.specs.ZoneSaid.{ZoneSaid, zone_said}
+use Rattle.ics_zone.specs.ZoneSaid.{ZoneSaid, display_said, said_moment, zone_said}
 use Rattle.ics_zone.specs.Seconds.{IsNear}
 use Rattle.ics_zone.specs.declared.zone.ZoneKind.{ZoneKind}
 use Rattle.ics_zone.specs.ZoneBounds.{said_moment_near, said_offset_near}
-use Rattle.ics_zone.specs.JiffZones.{zone_of}
 use Rattle.ics_zone.specs.declared.display.Display.{Display}
 use Rattle.ics_series.specs.declared.zones.FileZones.{FileZones}
 use Rattle.ics_series.specs.Clocks.{Clock, Clocks, clock_at, clock_by, display_clock, instant, utc_clock, zone_clock, day_of, local_at}
@@ -45,7 +43,7 @@ near-zone : (zone : ZoneKind) → IsNearClock (zone_clock (zone_said zone))
 near-zone zone = record { moment = said_moment_near zone; offset = said_offset_near zone }
 
 pub near-display : (display : Display) → IsNearClock (display_clock display)
-near-display display = record { moment = moment_near (zone_of display); offset = offset_near (zone_of display) }
+near-display display = record { moment = moment_near display; offset = offset_near display }
 
 pub near-at : (zones : List ZoneKind) (zone : Option ℕ) → IsNearClock (clock_at (map zone_clock (map zone_said zones)) zone)
 near-at zones None = near-utc
@@ -65,8 +63,8 @@ instant-near zones time = (near-clock zones time.zone time.stamp).moment (stamp_
 pub near-moved : (f : ℤ → ℤ) (near : (x : ℤ) → IsNear (f x -ℤ x)) (r l : ℤ) → r ≡ f l → IsNear (r -ℤ l)
 near-moved f near r l e = subst (λ m. IsNear (m -ℤ l)) (sym e) (near l)
 
-pub result_near : (display : Display) (r l : ℤ) → r ≡ moment_of (zone_of display) l → IsNear (r -ℤ l)
-result_near display = near-moved (moment_of (zone_of display)) (moment_near (zone_of display))
+pub result_near : (display : Display) (r l : ℤ) → r ≡ said_moment (display_said display) l → IsNear (r -ℤ l)
+result_near display = near-moved (said_moment (display_said display)) (moment_near display)
 
 pub moved : (f : ℤ → ℤ) {s r l m : ℤ} → s ≡ r → r ≡ f l → l ≡ m → s ≡ f m
 moved f a e h = a ∙ (e ∙ ap f h)
@@ -179,7 +177,7 @@ module _ (zones : FileZones) where
   end-bound : (first given : Time) (s : Stamp) (length : Length)
       → end_by (clocks_in zones) first given s length <ℤ ((instant (clocks_in zones) given +ℤ seconds_by (clocks_in zones) first s length) +ℤ whole_days 4)
   end-bound first given (Date day) length =
-      let a = moment_near (zone_of zones.display.now) (midnight (day_of given.stamp +ℤ days_lasting day length)) in
+      let a = moment_near zones.display.now (midnight (day_of given.stamp +ℤ days_lasting day length)) in
       omega (arith, ints, a.0, a.1, instant-near zones given, day-written given.stamp)
   end-bound first given _ Open = omega (arith, ints)
   end-bound first given _ (Until end) = omega (arith, ints, int_max_is (pos 0) (instant (clocks_in zones) end -ℤ instant (clocks_in zones) first))

@@ -4,9 +4,7 @@ use Rattle.std.specs.Prelude.{ℕ, ℤ, pos, ◌+ℤ◌, List, map, slice_index_
 use Rattle.ics_values.specs.declared.stamp.Stamp.{Stamp}
 use Rattle.ics_values.specs.declared.stamp.Stamp.TheVariants.{Date, Floating, Utc, Zoned}
 use Rattle.ics_event.specs.declared.time.Time.{Time}
-use Rattle.ics_zone.specs.Displays.{offset_of, moment_of}
-use Rattle.ics_zone.specs.ZoneSaid.{ZoneSaid, said_moment, said_offset}
-use Rattle.ics_zone.specs.JiffZones.{zone_of}
+use Rattle.ics_zone.specs.ZoneSaid.{ZoneSaid, display_said, said_moment, said_offset}
 use Rattle.ics_zone.specs.declared.display.Display.{Display}
 use Rattle.ics_event.specs.Event.{stamp_seconds}
 
@@ -18,11 +16,11 @@ pub record Clock : Type 0 where
 abbrev pub utc_clock : Clock
 utc_clock = record { moment = λ local. local; offset = λ t. pos 0 }
 
-abbrev pub display_clock : Display → Clock
-display_clock display = record { moment = moment_of (zone_of display); offset = offset_of (zone_of display) }
-
 abbrev pub zone_clock : ZoneSaid → Clock
 zone_clock zone = record { moment = said_moment zone; offset = said_offset zone }
+
+abbrev pub display_clock : Display → Clock
+display_clock display = zone_clock (display_said display)
 
 -- the clocks by which the times of a file are read: that of the display zone, and those of the file's own zones
 pub record Clocks : Type 0 where

@@ -1,7 +1,6 @@
 use Rattle.std.proofs.Common.{w32, arith, SFits}
 use Rattle.std.proofs.lemmas.Int.{ints}
-use Rattle.ics_zone.specs.Displays.{moment_of}
-use Rattle.ics_zone.specs.JiffZones.{zone_of}
+use Rattle.ics_zone.specs.ZoneSaid.{display_said, said_moment}
 use Rattle.ics_series.proofs.InstantLemmas.{moved, result_near}
 use Rattle.ics_series.proofs.Cases.{moment-back}
 use Rattle.ics_series.proofs.finish.midnight_after.Goals as goal
@@ -11,7 +10,7 @@ returns-clause-value c =
     let day : SFits w32 c.args.day = c.ranges.day in
     let days : SFits w32 c.args.days = c.ranges.days in
     let same = moment-back c.moment.result c.moment.type_inv in
-    moved (moment_of (zone_of c.args.display.now)) same c.moment.ensures.value (omega (arith, ints))
+    moved (said_moment (display_said c.args.display.now)) same c.moment.ensures.value (omega (arith, ints))
 
 pub returns-clause-early : goal.returns-clause-early
 returns-clause-early c =

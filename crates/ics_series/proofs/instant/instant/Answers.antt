@@ -2,8 +2,7 @@ use Rattle.std.proofs.lemmas.Grind.{common_steps}
 use Rattle.std.proofs.Common.{rules, ◌≡◌, ◌∙◌, ap, pos, ◌*ℤ◌, arith, SFits, w32, w64}
 use Rattle.std.proofs.lemmas.Int.{ints, to_z-of_z}
 use Rattle.ics_fields.specs.Locals.{midnight}
-use Rattle.ics_zone.specs.Displays.{moment_of}
-use Rattle.ics_zone.specs.JiffZones.{zone_of}
+use Rattle.ics_zone.specs.ZoneSaid.{display_said, said_moment}
 use Rattle.ics_series.proofs.instant.instant.Goals as goal
 
 pub returns-in-Date : goal.returns-in-Date
@@ -12,7 +11,7 @@ returns-in-Date c =
     let day : SFits w32 c.in-Date.day = search rules in
     let value = simp to_z-of_z at c.moment.ensures.value in
     let same : midnight c.in-Date.day ≡ c.in-Date.day *ℤ pos 86_400 = omega (arith, ints) in
-    rw (to_z-of_z w64 c.moment.result small, c.in-Date.is) (value ∙ ap (moment_of (zone_of c.args.zones.display.now)) same)
+    rw (to_z-of_z w64 c.moment.result small, c.in-Date.is) (value ∙ ap (said_moment (display_said c.args.zones.display.now)) same)
 
 pub returns-in-Floating : goal.returns-in-Floating
 returns-in-Floating c = grind (arith, ints, common_steps)

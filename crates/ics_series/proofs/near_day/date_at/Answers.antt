@@ -4,7 +4,6 @@ use Rattle.ics_fields.specs.Days.{IsDayNumber}
 use Rattle.ics_zone.specs.Near.{offset_near}
 use Rattle.ics_zone.specs.Seconds.{IsNear}
 use Rattle.ics_fields.specs.Locals.{seconds_at}
-use Rattle.ics_zone.specs.JiffZones.{zone_of}
 use Rattle.ics_series.specs.WindowBounds.{occurrence_first, occurrence_end}
 use Rattle.ics_series.proofs.near_day.date_at.Goals as goal
 
@@ -18,10 +17,10 @@ pub returns-clause-within : goal.returns-clause-within
 returns-clause-within c =
     let fits : FitsSigned w32 c.local.result.day = search rules in
     (day_within fits c.local.result.second_in (rw (to_z-of_z w64 c.args.moment c.ranges.moment) at c.local.ensures)
-    (offset_near (zone_of c.args.display.now) c.args.moment) c.requires.early c.requires.late).1
+    (offset_near c.args.display.now c.args.moment) c.requires.early c.requires.late).1
 
 pub returns-clause-before : goal.returns-clause-before
 returns-clause-before c =
     let fits : FitsSigned w32 c.local.result.day = search rules in
     (day_within fits c.local.result.second_in (rw (to_z-of_z w64 c.args.moment c.ranges.moment) at c.local.ensures)
-    (offset_near (zone_of c.args.display.now) c.args.moment) c.requires.early c.requires.late).0
+    (offset_near c.args.display.now c.args.moment) c.requires.early c.requires.late).0

@@ -2,7 +2,6 @@ use Rattle.std.proofs.Common.{rules, ◌≡◌, map, refl, ap, arith, to_z, of_z
 use Rattle.std.proofs.lemmas.Int.{ints}
 use Rattle.ics_event.specs.Event.{said_by}
 use Rattle.ics_zone.specs.Near.{offset_near}
-use Rattle.ics_zone.specs.JiffZones.{zone_of}
 use Rattle.ics_series.specs.Ahead.{agenda_coming}
 use Rattle.ics_series.specs.Clocks.{display_clock}
 use Rattle.ics_series.specs.DaySteps.{agenda_sources, scope_in}
@@ -21,7 +20,7 @@ returns c =
     let xs = whole.listings c.args.window in
     let fits : to_z w32 (of_z w32 c.begin-day.result.0) ≡ c.begin-day.result.0 = search rules in
     let begins = rw (← fits) at c.begin-day.ensures.begins in
-    let begun = begun-ahead files display (offset_near (zone_of c.args.display.now)) c.args.window after (to_z w32 (of_z w32 c.begin-day.result.0)) key begins
+    let begun = begun-ahead files display (offset_near c.args.display.now) c.args.window after (to_z w32 (of_z w32 c.begin-day.result.0)) key begins
     xs.0 (agenda_coming c.in_ok-agenda.agenda) (agenda_sources c.in_ok-agenda.agenda) xs.1 c.in_ok-agenda.ensures.agenda in
     record {
       listing = (
@@ -31,7 +30,7 @@ returns c =
         ap (scope_in (map said_by c.args.files.now) (display_clock c.args.display.now) c.args.window) c.day_and_start.ensures,
       );
       masters = whole.masters;
-      keys = day-keys files display (offset_near (zone_of c.args.display.now)) c.args.window whole.keys;
+      keys = day-keys files display (offset_near c.args.display.now) c.args.window whole.keys;
     }
 
 pub invariant_of-result : goal.invariant_of-result

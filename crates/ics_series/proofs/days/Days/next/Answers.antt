@@ -3,7 +3,6 @@ use Rattle.std.proofs.lemmas.Int.{ints}
 use borrow.Author.Gap.{gap, gap_up, read_sfits}
 use Rattle.ics_event.specs.Event.{said_by}
 use Rattle.ics_zone.specs.Near.{offset_near}
-use Rattle.ics_zone.specs.JiffZones.{zone_of}
 use Rattle.ics_zone.proofs.Cases.{true_int_lt}
 use Rattle.ics_series.specs.Ahead.{agenda_coming, IsAhead}
 use Rattle.ics_series.specs.Clocks.{display_clock}
@@ -39,7 +38,7 @@ returns-then-last-self-clause-ok c = λ list a.
     let same = ap last_near (c.next_today.ensures.window ∙ c.loop-occurrence.invariant.window) in
     let past : last_near c.next_today.new.self.window ≤ℤ c.next_today.new.self.day =
     omega (arith, ints, same, c.last_near-last.ensures, c.last_near-last.type_inv, c.if-last-self.true) in
-    let ended = ahead-ended (map said_by new.files.now) (display_clock new.display.now) (offset_near (zone_of new.display.now)) new.window new.day past
+    let ended = ahead-ended (map said_by new.files.now) (display_clock new.display.now) (offset_near new.display.now) new.window new.day past
     (agenda_coming new.agenda) (c.in_ok-occurrence.ensures.none none) gives.0 gives.1 in
     (gives.0, (gives.2 ∙ ended, ended), gives.1)
 

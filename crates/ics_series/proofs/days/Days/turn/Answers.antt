@@ -4,7 +4,6 @@ use Rattle.std.proofs.Math.Logic.{∥∥₁_elim}
 use Rattle.std.proofs.lemmas.Int.{ints}
 use Rattle.ics_event.specs.Event.{said_by}
 use Rattle.ics_zone.specs.Near.{offset_near}
-use Rattle.ics_zone.specs.JiffZones.{zone_of}
 use Rattle.ics_series.specs.declared.window.Window.{Window}
 use Rattle.ics_series.specs.Ahead.{agenda_coming}
 use Rattle.ics_series.specs.Clocks.{display_clock}
@@ -68,5 +67,5 @@ pub returns-clause-ahead : goal.returns-clause-ahead
 returns-clause-ahead c = λ list a.
     let self = c.args.self.now in
     let next = next-is self.window self.day self.not_before c.requires.more in
-    ahead-turned (map said_by self.files.now) (display_clock self.display.now) (offset_near (zone_of self.display.now)) self.window next
+    ahead-turned (map said_by self.files.now) (display_clock self.display.now) (offset_near self.display.now) self.window next
     c.near_day-near.ensures c.requires.none c.in_ok-agenda.ensures.listing a

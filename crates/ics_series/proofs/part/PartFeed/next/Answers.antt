@@ -17,4 +17,4 @@ pub returns-in-Singles-clause-ok : goal.returns-in-Singles-clause-ok
 returns-in-Singles-clause-ok c = grind (arith, common_steps)
 
 pub returns-in-Series-clause-ok : goal.returns-in-Series-clause-ok
-returns-in-Series-clause-ok c = grind (arith, common_steps)
+returns-in-Series-clause-ok c = rw (c.in-Series.is, ← c.deref_mut.ensures.value) c.next-in-Series.ensures.ok
