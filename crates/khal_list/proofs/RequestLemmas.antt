@@ -4,8 +4,8 @@ use Rattle.std.specs.Prelude.{IsErrOf, IsSome}
 use Rattle.std.specs.Result.{IsErrAnd}
 use Rattle.std.proofs.lemmas.Result.{err_from_is_err_and}
 use Rattle.clap.specs.Words.{Text}
-use Rattle.ics_zone.specs.DisplayTexts.{display_of, said_by}
-use Rattle.ics_zone.specs.JiffZones.{zone_of}
+use Rattle.ics_zone.specs.DisplayTexts.{display_of}
+use Rattle.ics_zone.specs.ZoneSaid.{display_said}
 use Rattle.ics_zone.specs.declared.display.Display.{Display}
 use Rattle.ics_series.specs.OnDays.{day_key_rank, DayRank}
 use Rattle.ics_series.specs.Entry.{key_rank, Rank}
@@ -49,7 +49,7 @@ good_token {entries = entries} zone window after None p bad = token_of (after_te
 good_token {entries = entries} zone window after (Some every_day) p bad = day_token_of zone window (after_text entries) every_day.after p.2 (bad.day_key p.0)
 
 module _ (entries : Entries) (now : ℤ) where
-  pub has_window : (display : Display) (window : Window) → said_by (zone_of display) ≡ display_of (zone_text entries)
+  pub has_window : (display : Display) (window : Window) → Some (display_said display) ≡ display_of (zone_text entries)
       → Some (window.from, window.to) ≡ ends_of display now (span_of entries) → HasWindow entries now
   has_window display window zone ends = record { display = display; zone = zone; some = subst IsSome ends refl }
 

@@ -4,8 +4,7 @@ use Rattle.std.specs.String.{string_bytes}
 use Rattle.std.specs.Option.{option_map}
 use Rattle.ics_series.specs.OnDays.{day_key_rank, DayRank}
 use Rattle.ics_series.specs.Entry.{key_rank}
-use Rattle.ics_zone.specs.DisplayTexts.{said_by}
-use Rattle.ics_zone.specs.JiffZones.{zone_of}
+use Rattle.ics_zone.specs.ZoneSaid.{display_said}
 use Rattle.khal_list.specs.declared.every_day.EveryDay.{EveryDay}
 use Rattle.khal_list.specs.declared.request.Request.{Request}
 use Rattle.khal_list.specs.declared.request_fault.RequestFault.{RequestFault}
@@ -18,7 +17,7 @@ day_after every_day = option_map day_key_rank every_day.after
 -- the folder, what the zone says, the folder of zone files, the window, the limit, the keys and the formats are the same
 pub record SameRequest (a b : Request) : Type 0 where
   pub folder : string_bytes a.folder ≡ string_bytes b.folder
-  pub zone : said_by (zone_of a.zone) ≡ said_by (zone_of b.zone)
+  pub zone : display_said a.zone ≡ display_said b.zone
   pub zones : option_map string_bytes a.zones ≡ option_map string_bytes b.zones
   pub from : a.window.from ≡ b.window.from
   pub to : a.window.to ≡ b.window.to

@@ -4,8 +4,8 @@ use Rattle.std.specs.Int.{int_max}
 use Rattle.std.specs.Option.{option_map}
 use Rattle.std.specs.String.{string_bytes}
 use Rattle.clap.specs.Words.{Text}
-use Rattle.ics_zone.specs.DisplayTexts.{display_of, said_by}
-use Rattle.ics_zone.specs.JiffZones.{zone_of}
+use Rattle.ics_zone.specs.DisplayTexts.{display_of}
+use Rattle.ics_zone.specs.ZoneSaid.{display_said}
 use Rattle.ics_zone.specs.declared.display.Display.{Display}
 use Rattle.ics_series.specs.Clocks.{display_clock}
 use Rattle.ics_series.specs.OnDays.{day_key_rank, DayRank, date_at}
@@ -88,7 +88,7 @@ pub record IsNoToken (entries : Entries) : Type 0 where
 -- the request that clap's entries and the clock make
 pub record IsRequest (entries : Entries) (now : ℤ) (request : Request) : Type 0 where
   pub folder : string_bytes request.folder ≡ entries_text (codes "folder") entries
-  pub zone : said_by (zone_of request.zone) ≡ display_of (zone_text entries)
+  pub zone : Some (display_said request.zone) ≡ display_of (zone_text entries)
   pub zones : option_map string_bytes request.zones ≡ zones_text entries
   pub window : Some (request.window.from, request.window.to) ≡ ends_of request.zone now (span_of entries)
   pub notstarted : IsTrue request.window.notstarted ↔ (entries_text (codes "notstarted") entries ≡ codes "true")
@@ -100,13 +100,13 @@ pub record IsRequest (entries : Entries) (now : ℤ) (request : Request) : Type 
 -- the words name a display zone, but no window in it
 pub record IsBadWindow (entries : Entries) (now : ℤ) : Type 0 where
   pub display : Display
-  pub zone : said_by (zone_of display) ≡ display_of (zone_text entries)
+  pub zone : Some (display_said display) ≡ display_of (zone_text entries)
   pub none : ends_of display now (span_of entries) ≡ None
 
 -- the words name a display zone and a window in it
 pub record HasWindow (entries : Entries) (now : ℤ) : Type 0 where
   pub display : Display
-  pub zone : said_by (zone_of display) ≡ display_of (zone_text entries)
+  pub zone : Some (display_said display) ≡ display_of (zone_text entries)
   pub some : IsSome (ends_of display now (span_of entries))
 
 -- they do so, and the value of `--after` is not a token

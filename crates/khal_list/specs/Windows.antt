@@ -2,9 +2,8 @@
 -- clock. Locals and instants are counted in seconds from 1970-01-01T00:00:00.
 use Rattle.std.specs.Prelude.{ℤ, pos, ◌+ℤ◌, ◌&&◌, int_le, int_lt, Option, Some, None, option_and_then, if◌then◌else◌}
 use Rattle.clap.specs.Words.{Text}
-use Rattle.ics_zone.specs.Displays.{offset_of, moment_of}
 use Rattle.ics_fields.specs.Locals.{midnight, whole_days, year_seconds, day_of_local}
-use Rattle.ics_zone.specs.JiffZones.{zone_of}
+use Rattle.ics_zone.specs.ZoneSaid.{display_said, said_moment, said_offset}
 use Rattle.ics_zone.specs.declared.display.Display.{Display}
 use Rattle.khal_words.specs.Entries.{Span}
 use Rattle.khal_words.specs.WindowTexts.{Named, named}
@@ -25,7 +24,7 @@ midnight_before local = midnight (day_of_local local)
 abbrev pub today : Display → ℤ → Option ℤ
 today zone now =
     if int_le first_start now && int_le now last_end
-    then Some (midnight_before (now +ℤ offset_of (zone_of zone) now))
+    then Some (midnight_before (now +ℤ said_offset (display_said zone) now))
     else None
 
 -- the local at which a window starts: a day's midnight, or the local that is named
@@ -56,15 +55,15 @@ start_said zone now (Some text) = option_and_then start_named (named text)
 abbrev pub between : Display → ℤ → ℤ → Option (ℤ × ℤ)
 between zone start end =
     if (int_le first_start start && int_le end last_end)
-    && int_lt (moment_of (zone_of zone) start) (moment_of (zone_of zone) end)
-    then Some (moment_of (zone_of zone) start, moment_of (zone_of zone) end)
+    && int_lt (said_moment (display_said zone) start) (said_moment (display_said zone) end)
+    then Some (said_moment (display_said zone) start, said_moment (display_said zone) end)
     else None
 
 -- the one second of a local that is within those bounds
 abbrev pub second_at : Display → ℤ → Option (ℤ × ℤ)
 second_at zone local =
     if int_le first_start local && int_le local last_end
-    then Some (moment_of (zone_of zone) local, moment_of (zone_of zone) local +ℤ pos 1)
+    then Some (said_moment (display_said zone) local, said_moment (display_said zone) local +ℤ pos 1)
     else None
 
 -- the ends of the window from a start to what END's text names

@@ -78,7 +78,7 @@ impl Request {
     {
         let zone = Display::parse(alloc, text(found, "zone"))?;
         let notstarted = is_given(found, "notstarted");
-        let Some(window) = window_of(zone, now, Span::of(found), notstarted) else {
+        let Some(window) = window_of(&zone, now, Span::of(found), notstarted) else {
             return Err(RequestFault::BadWindow);
         };
         let folder = String::from_str(alloc, text(found, "folder"))?;

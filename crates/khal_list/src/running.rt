@@ -94,7 +94,7 @@ fn list<O: Sink>(
         (O.taken out.old) (O.taken out.new)) }
     ensures cause { IsErrOf result RunFault.WriteFault → LeftByFault O.puts out.new }
 {
-    let mut folder = Folder::new(alloc, files, request.zone)?;
+    let mut folder = Folder::new(alloc, files, request.zone.clone()?)?;
     folder.prepare(&request.window);
     list_folder(alloc, &folder, request, out)
 }

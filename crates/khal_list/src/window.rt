@@ -1,10 +1,9 @@
 //! The window that the words ask for.
 ghost use Rattle.std.specs.Prelude.{◌≡◌, ◌≤◌, ◌<◌, ◌*◌, ◌-ℤ◌, ◌+ℤ◌, pos, option_map, IfSome};
 ghost use Rattle.jiff_core.specs.Calendar.{IsEpochDay};
-ghost use Rattle.ics_zone.specs.Displays.{moment_of};
 ghost use Rattle.ics_zone.specs.Seconds.{IsDay, IsNear};
 ghost use Rattle.ics_fields.specs.Locals.{local_seconds};
-ghost use Rattle.ics_zone.specs.JiffZones.{zone_of};
+ghost use Rattle.ics_zone.specs.ZoneSaid.{display_said, said_moment};
 ghost use Rattle.khal_list.specs.Windows as spec;
 ghost use Rattle.khal_words.specs.SpanTexts.{span_by};
 ghost use Rattle.khal_list.specs.WindowEnds.{ends_by};
@@ -28,12 +27,12 @@ const LAST_DAY: i32 = 2_914_999;
 
 /// The window that the texts ask for, by a display zone and a clock.
 pub(crate) fn window_of(
-    zone: Display,
+    zone: &Display,
     now: Moment,
     span: Span<'_>,
     notstarted: bool,
 ) -> Option<Window>
-    ensures ends { ends_by result ≡ spec.ends_of zone now (span_by span.entry) }
+    ensures ends { ends_by result ≡ spec.ends_of zone.now now (span_by span.entry) }
     ensures flag { IfSome result (λ w. w.notstarted ≡ notstarted) }
 {
     match span {
@@ -52,9 +51,9 @@ pub(crate) fn window_of(
 }
 
 // START's local, or today's midnight if it is left out.
-fn start_said(zone: Display, now: Moment, text: Option<&str>) -> Option<Local>
+fn start_said(zone: &Display, now: Moment, text: Option<&str>) -> Option<Local>
     ensures value { option_map (λ l. local_seconds l) result
-        ≡ spec.start_said zone now (option_map (λ t. t.now) text.entry) }
+        ≡ spec.start_said zone.now now (option_map (λ t. t.now) text.entry) }
     ensures bound { IfSome result (λ l. IsEpochDay l.day) }
 {
     let Some(text) = text else {
@@ -68,9 +67,9 @@ fn start_said(zone: Display, now: Moment, text: Option<&str>) -> Option<Local>
 }
 
 // Today's midnight, by a clock within the bounds of windows.
-fn today(zone: Display, now: Moment) -> Option<Local>
+fn today(zone: &Display, now: Moment) -> Option<Local>
     ensures value { option_map (λ l. local_seconds l) result
-        ≡ spec.today zone now }
+        ≡ spec.today zone.now now }
     ensures bound { IfSome result (λ l. IsEpochDay l.day) }
 {
     if now < FIRST_START || now > LAST_END {
@@ -100,8 +99,8 @@ fn end_local(start: Local, name: WindowText) -> Local
 }
 
 // The window between two locals.
-fn between(zone: Display, start: Local, end: Local, notstarted: bool) -> Option<Window>
-    ensures ends { ends_by result ≡ spec.between zone
+fn between(zone: &Display, start: Local, end: Local, notstarted: bool) -> Option<Window>
+    ensures ends { ends_by result ≡ spec.between zone.now
         (local_seconds start) (local_seconds end) }
     ensures flag { IfSome result (λ w. w.notstarted ≡ notstarted) }
 {
@@ -126,8 +125,8 @@ fn between(zone: Display, start: Local, end: Local, notstarted: bool) -> Option<
 }
 
 // The window of one second.
-fn second_at(zone: Display, local: Local, notstarted: bool) -> Option<Window>
-    ensures ends { ends_by result ≡ spec.second_at zone (local_seconds local) }
+fn second_at(zone: &Display, local: Local, notstarted: bool) -> Option<Window>
+    ensures ends { ends_by result ≡ spec.second_at zone.now (local_seconds local) }
     ensures flag { IfSome result (λ w. w.notstarted ≡ notstarted) }
 {
     if local.seconds() < FIRST_START || local.seconds() > LAST_END {
@@ -141,9 +140,9 @@ fn second_at(zone: Display, local: Local, notstarted: bool) -> Option<Window>
     })
 }
 
-fn instant(zone: Display, local: Local) -> Moment
+fn instant(zone: &Display, local: Local) -> Moment
     requires { IsDay local.day }
-    ensures value { result ≡ moment_of (zone_of zone) (local_seconds local) }
+    ensures value { result ≡ said_moment (display_said zone.now) (local_seconds local) }
     ensures near { IsNear (result -ℤ local_seconds local) }
 {
     zone.moment(local)

@@ -79,7 +79,7 @@ fn folder_of(
             }
         }
     }
-    Folder::new(alloc, files, request.zone)
+    Folder::new(alloc, files, request.zone.clone()?)
 }
 
 /// How many occurrences an agenda gives, the most that it holds on the way, and how many periods were looked at.

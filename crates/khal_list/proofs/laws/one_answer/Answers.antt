@@ -3,11 +3,9 @@ use Rattle.std.proofs.Common.{◌&&◌, ◌+ℤ◌, option_and_then, if◌then�
 use Rattle.std.proofs.lemmas.Bool.Decides.{same_from_decides}
 use Rattle.std.specs.Prelude.{int_le, int_lt, option_map, unwrap_or, IsSome}
 use Rattle.clap.specs.Words.{Text, IsAmong}
-use Rattle.ics_zone.specs.DisplayTexts.{display_of, said_by}
-use Rattle.ics_zone.specs.Displays.{offset_of, moment_of}
-use Rattle.ics_zone.specs.JiffZones.{zone_of, zone_by}
+use Rattle.ics_zone.specs.DisplayTexts.{display_of}
+use Rattle.ics_zone.specs.ZoneSaid.{ZoneSaid, display_said, said_moment, said_offset}
 use Rattle.ics_zone.specs.declared.display.Display.{Display}
-use Rattle.ics_zone.specs.declared.display.Kind.TheVariants.{Fixed, Posix}
 use Rattle.ics_series.specs.OnDays.{day_key_rank, DayRank}
 use Rattle.ics_series.specs.Tokens.{OneDaySpelling, OneSpelling}
 use Rattle.ics_series.specs.Entry.{key_rank, Rank}
@@ -30,8 +28,8 @@ use Rattle.khal_list.proofs.RequestLemmas.{good_token, has_window, no_both}
 use Rattle.khal_list.proofs.laws.one_answer.Goals as goal
 
 -- display zones with the same offsets and instants make the same window of the same words
-module _ (a b : Display) (now : ℤ) (offset : (t : ℤ) → offset_of (zone_of a) t ≡ offset_of (zone_of b) t)
-    (moment : (l : ℤ) → moment_of (zone_of a) l ≡ moment_of (zone_of b) l) where
+module _ (a b : Display) (now : ℤ) (offset : (t : ℤ) → said_offset (display_said a) t ≡ said_offset (display_said b) t)
+    (moment : (l : ℤ) → said_moment (display_said a) l ≡ said_moment (display_said b) l) where
   same_ends : (span : Span) → ends_of a now span ≡ ends_of b now span
   same_ends (Span.At text) = λ i. option_and_then
       (λ local. if int_le first_start local && int_le local last_end then Some (moment local i, moment local i +ℤ pos 1) else None)
@@ -83,10 +81,14 @@ module _ (one : OneSpelling) (days : OneDaySpelling) (entries : Entries) (a b : 
   same_after k l (Some c) (Some d) p q =
       (ap (option_map key_rank) (p.1 ∙ sym q.1), ap Some (same_day_after (after_text entries) c.after d.after p.2 q.2))
 
+-- zones that say what one text names say the same
+same_zone : {said : Option ZoneSaid} (a b : Display) → Some (display_said a) ≡ said → Some (display_said b) ≡ said → display_said a ≡ display_said b
+same_zone a b p q = let same : Some (display_said a) ≡ Some (display_said b) = p ∙ sym q in cc
+
 -- what the parts of a request are read as in one way
 record Readings : Type 0 where
-  offset : (a b : Display) (t : ℤ) → said_by (zone_of a) ≡ said_by (zone_of b) → offset_of (zone_of a) t ≡ offset_of (zone_of b) t
-  moment : (a b : Display) (l : ℤ) → said_by (zone_of a) ≡ said_by (zone_of b) → moment_of (zone_of a) l ≡ moment_of (zone_of b) l
+  offset : (a b : Display) (t : ℤ) → display_said a ≡ display_said b → said_offset (display_said a) t ≡ said_offset (display_said b) t
+  moment : (a b : Display) (l : ℤ) → display_said a ≡ display_said b → said_moment (display_said a) l ≡ said_moment (display_said b) l
   spelling : OneSpelling
   day_spelling : OneDaySpelling
   entries : OneFormat entry_name
@@ -94,7 +96,7 @@ record Readings : Type 0 where
 
 same_request : Readings → {entries : Entries} {now : ℤ} {a b : Request} → IsRequest entries now a → IsRequest entries now b → SameRequest a b
 same_request one {entries = entries} {now = now} {a = a} {b = b} p q =
-    let zone = p.zone ∙ sym q.zone in
+    let zone = same_zone a.zone b.zone p.zone q.zone in
     let offset = λ (t : ℤ). one.offset a.zone b.zone t zone in
     let ends = p.window ∙ (same_ends a.zone b.zone now offset (λ l. one.moment a.zone b.zone l zone) (span_of entries) ∙ sym q.window) in
     let from = ap (λ (o : Option (ℤ × ℤ)). (unwrap_or o (pos 0, pos 0)).0) ends in
@@ -123,15 +125,15 @@ module _ (one : Readings) (words : List Text) (now : ℤ) where
   taken : (help : Bool) → AreTaken words → IsRefused words help → ⊥
   taken help none refused = subst (IsAmong refused.kind) none refused.among
 
-  says : (zone : Display) → said_by (zone_of zone) ≡ display_of (zone_text entries) → display_of (zone_text entries) ≡ None → ⊥
-  says zone is none = elim zone.kind as (λ kind. said_by (zone_by kind) ≡ None → ⊥) [ Fixed offset ↦ λ fixed. cc | Posix rule ↦ λ posix. cc ] (is ∙ none)
+  says : (zone : Display) → Some (display_said zone) ≡ display_of (zone_text entries) → display_of (zone_text entries) ≡ None → ⊥
+  says zone is none = let clash : Some (display_said zone) ≡ None = is ∙ none in cc
 
   windowed : (a : Request) → IsRequest entries now a → HasWindow entries now
   windowed a p = has_window entries now a.zone a.window p.zone p.window
 
   no_window : HasWindow entries now → IsBadWindow entries now → ⊥
   no_window has bad =
-      let zone = has.zone ∙ sym bad.zone in
+      let zone = same_zone has.display bad.display has.zone bad.zone in
       let offset = λ (t : ℤ). one.offset has.display bad.display t zone in
       let same = same_ends has.display bad.display now offset (λ l. one.moment has.display bad.display l zone) (span_of entries) in
       let some : IsSome {T = ℤ × ℤ} None = subst IsSome (same ∙ bad.none) has.some in
