@@ -1,5 +1,8 @@
 -- What a source of zone files answers for a name.
-use Rattle.std.specs.Prelude.{◌≡◌, ◌≤◌, ◌<◌, ⊤, ℕ, List, [], ◌∷◌, length, Option, Some, None, IfSome, option_map, Result, Ok, Err, if◌then◌else◌}
+use Rattle.std.specs.Prelude.{◌≡◌, ◌≢◌, ◌≤◌, ◌<◌, ◌==◌, ◌&&◌, ◌||◌, not, nat_le, ⊤, ℕ, Bool, true, List, [], ◌∷◌, length, Option, Some, None, IfSome}
+use Rattle.std.specs.Prelude.{option_map, Result, Ok, Err, if◌then◌else◌}
+use Rattle.std.specs.Char.{is_ascii_alphanumeric}
+use Rattle.std.specs.List.{list_all, list_any, slice_split}
 use Rattle.std.specs.Str.{bytes_eq}
 use Rattle.std.specs.declared.vec.Vec.{Vec}
 use Rattle.khal_ports.specs.declared.fault.SourceFault.{SourceFault}
@@ -42,3 +45,20 @@ IsFind files name (Ok found) = (file_named files name ≡ found) × IfSome found
 IsFind files name (Err TooLarge) = (bytes : List ℕ) × (file_named files name ≡ Some bytes) × (most_zone_bytes < length bytes)
 IsFind files name (Err Memory) = ⊤
 IsFind files name (Err Device) = ⊥
+
+-- a letter, a digit, `_`, `-`, `+` or `/`
+abbrev pub is_path_byte : ℕ → Bool
+is_path_byte b = is_ascii_alphanumeric b || (b == 95 || (b == 45 || (b == 43 || b == 47)))
+
+-- one of the parts between slashes is empty
+abbrev pub has_empty_part : List ℕ → Bool
+has_empty_part name = list_any (λ part. length part == 0) (slice_split (λ b. b == 47) name)
+
+-- a name that is a path below a folder: at most 255 bytes, no empty part, and these bytes alone
+abbrev pub is_path : List ℕ → Bool
+is_path name = nat_le (length name) 255 && (not (has_empty_part name) && list_all is_path_byte name)
+
+-- below a folder there is no file for a name that is no such path, and without a folder there is none for any name
+abbrev pub IsFindBelow : {F : Type 0} → Option F → List ℕ → FindAnswer → Type 0
+IsFindBelow None name answer = answer ≡ Ok None
+IsFindBelow (Some folder) name answer = is_path name ≢ true → answer ≡ Ok None

@@ -1,5 +1,7 @@
 //! The zone files below a folder.
 ghost use Rattle.std.specs.Prelude.{◌≡◌};
+ghost use Rattle.std.specs.List.{list_all};
+ghost use Rattle.khal_ports.specs.Finds.{has_empty_part, is_path, is_path_byte};
 
 use crate::fault::SourceFault;
 use crate::file_bytes::read_front;
@@ -27,7 +29,8 @@ pub struct FolderZones<R> {
 impl<R: Files + Clone + Drop> FolderZones<R> {
     /// The zone files below this folder, if there is one. None of them has failed so far.
     pub fn below(rt: R, path: Option<String>) -> FolderZones<R>
-        ensures { ⟦<FolderZones<R> as ZoneSource>⟧.failed result ≡ 0 }
+        ensures path { result.path ≡ path }
+        ensures failed { ⟦<FolderZones<R> as ZoneSource>⟧.failed result ≡ 0 }
     {
         FolderZones {
             rt,
@@ -37,19 +40,39 @@ impl<R: Files + Clone + Drop> FolderZones<R> {
     }
 }
 
-fn is_path_byte(byte: u8) -> bool {
+/// Whether a byte may stand in a path.
+fn is_path_byte(byte: u8) -> bool
+    ensures { result ≡ is_path_byte byte }
+{
     byte.is_ascii_alphanumeric() || matches!(byte, b'_' | b'-' | b'+' | b'/')
 }
 
+/// Whether each byte of a name may stand in a path.
+fn has_path_bytes(name: &str) -> bool
+    ensures { result ≡ list_all is_path_byte name.now }
+{
+    name.bytes().all(is_path_byte)
+}
+
+/// Whether a part of a name between slashes is empty.
+fn has_empty_part(name: &str) -> bool
+    ensures { result ≡ has_empty_part name.now }
+{
+    name.split('/').any(|part| part.is_empty())
+}
+
 /// Whether a name may have a file: no path out of the folder does.
-fn is_path(name: &str) -> bool {
-    name.len() <= LONGEST_NAME
-        && name.bytes().all(is_path_byte)
-        && name.split('/').all(|part| !part.is_empty())
+fn is_path(name: &str) -> bool
+    ensures { result ≡ is_path name.now }
+{
+    name.len() <= LONGEST_NAME && !has_empty_part(name) && has_path_bytes(name)
 }
 
 impl<R: Files + Clone + Drop> ZoneSource for FolderZones<R> {
-    ghost finds = { λ before name answer after. Unit {0} };
+    ghost use Rattle.std.specs.Prelude.{◌≡◌};
+    ghost use Rattle.khal_ports.specs.Finds.{IsFindBelow};
+
+    ghost finds = { λ before name answer after. (after.path ≡ before.path) × IsFindBelow before.path name answer };
 
     ghost failed = { λ zones. zones.failures };
 
