@@ -65,11 +65,16 @@ impl<W: Write + Drop> Stream<BufWriter<W, Global>> {
 }
 
 impl<W: Write + Drop> Sink for Stream<W> {
+    ghost use Rattle.std.specs.Prelude.{◌≡◌, IsErrOf, OnOk};
     ghost use Rattle.std.specs.Io.KnownBytes.{WriteAppends};
+    ghost use Rattle.khal_ports.specs.Growth.{risen};
+    ghost use Rattle.khal_ports.specs.declared.fault.SinkFault.TheVariants.{Device};
 
     ghost taken = { λ stream. W.contents stream.writer };
 
-    ghost puts = { λ before bytes answer after. WriteAppends (W.contents before.writer) (W.contents after.writer) answer bytes };
+    ghost puts = { λ before bytes answer after. WriteAppends (W.contents before.writer) (W.contents after.writer) answer bytes
+        × OnOk answer (after.failures ≡ before.failures)
+        × (IsErrOf answer Device → after.failures ≡ risen before.failures) };
 
     ghost failed = { λ stream. stream.failures };
 
