@@ -9,7 +9,7 @@ use Rattle.std.proofs.lemmas.Bool.{lt-ltb}
 use Rattle.ics_series.specs.OnDays.{DayRank, day_rank_of, OnDay}
 use Rattle.khal_list.specs.Drawn.{DrewAhead}
 use Rattle.khal_ports.specs.Growth.{TookFront}
-use Rattle.khal_list.specs.Listed.{day_key_on, first_of, is_cut, last_day_key}
+use Rattle.khal_list.specs.Listed.{day_key_on, first_of, is_cut, last_by}
 use Rattle.khal_list.specs.Text.{Style, days_text, days_text_after, entry_text}
 use Rattle.khal_ports.proofs.Written.{Written, appends-both, appends-none, appends-same, written-front, written-part}
 
@@ -27,7 +27,7 @@ day-more : (before : Option ℤ) (xs : List OnDay) (e : OnDay) → last_day befo
 day-more before [] e = refl
 day-more before (x ∷ xs) e = day-more (Some x.day) xs e
 
-key-more : (xs : List OnDay) (e : OnDay) → last_day_key (xs ++ e ∷ []) ≡ Some (day_rank_of e)
+key-more : (xs : List OnDay) (e : OnDay) → last_by day_rank_of (xs ++ e ∷ []) ≡ Some (day_rank_of e)
 key-more [] e = refl
 key-more (x ∷ []) e = refl
 key-more (x ∷ y ∷ ys) e = key-more (y ∷ ys) e
@@ -45,7 +45,7 @@ pub record Printed (style : Style) (limit : Option ℕ) (all coming : List OnDay
   pub taken_is : Appends told taken (days_text style done)
   pub day_is : before ≡ last_day None done
   pub left_is : limit ≡ option_map (λ n. length done + n) left
-  pub last_is : last ≡ last_day_key done
+  pub last_is : last ≡ last_by day_rank_of done
 
 module _ {style : Style} {limit : Option ℕ} {all : List OnDay} {told : Option (List ℕ)} where
   module _ {coming : List OnDay} {taken : Option (List ℕ)} {before : Option ℤ} {left : Option ℕ} {last : Option DayRank}

@@ -6,14 +6,14 @@ use Rattle.std.specs.Option.{option_map}
 use Rattle.std.specs.Result.{IsErr}
 use Rattle.std.proofs.lemmas.List.{length-map, map-append, take-map, take_at}
 use Rattle.std.proofs.lemmas.Result.{IfOk-from_err, IfOk-weaker}
-use Rattle.ics_series.specs.OnDays.{day_key_rank, DayRank, OnDay}
+use Rattle.ics_series.specs.OnDays.{day_key_rank, day_rank_of, DayRank, OnDay}
 use Rattle.ics_series.specs.declared.day_key.DayKey.{DayKey}
-use Rattle.ics_series.specs.Entry.{Entry, key_rank}
+use Rattle.ics_series.specs.Entry.{Entry, key_rank, rank_of}
 use Rattle.khal_ports.specs.declared.fault.RunFault.{RunFault}
 use Rattle.khal_list.specs.declared.request.Request.{Request}
 use Rattle.khal_list.specs.Drawn.{DrewAhead, Puts}
 use Rattle.khal_ports.specs.Growth.{TookFront}
-use Rattle.khal_list.specs.Listed.{day_key_on, days_text_of, first_of, is_cut, key_on, last_day_key, last_key, style_of, listing_text}
+use Rattle.khal_list.specs.Listed.{day_key_on, days_text_of, first_of, is_cut, key_on, last_by, style_of, listing_text}
 use Rattle.khal_list.specs.Text.{Style, days_text, text, under}
 use Rattle.khal_ports.proofs.Written.{on_err}
 
@@ -23,7 +23,7 @@ first-under style None list = refl
 first-under style (Some n) list = take-map (under style) n list
 
 -- the key of the last of them, without its day
-last-under : (style : Style) (list : List Entry) → option_map (λ r. r.key) (last_day_key (map (under style) list)) ≡ last_key list
+last-under : (style : Style) (list : List Entry) → option_map (λ r. r.key) (last_by day_rank_of (map (under style) list)) ≡ last_by rank_of list
 last-under style [] = refl
 last-under style (e ∷ []) = refl
 last-under style (e ∷ f ∷ more) = last-under style (f ∷ more)
@@ -36,8 +36,8 @@ key-under : (style : Style) (limit : Option ℕ) (list : List Entry) → option_
 key-under style limit list =
     rw (cut-under style limit list, first-under style limit list) (chosen (is_cut limit list))
   where
-    chosen : (cut : Bool) → option_map (λ r. r.key) (if cut then last_day_key (map (under style) (first_of limit list)) else None)
-        ≡ (if cut then last_key (first_of limit list) else None)
+    chosen : (cut : Bool) → option_map (λ r. r.key) (if cut then last_by day_rank_of (map (under style) (first_of limit list)) else None)
+        ≡ (if cut then last_by rank_of (first_of limit list) else None)
     chosen true = last-under style (first_of limit list)
     chosen false = refl
 

@@ -19,24 +19,22 @@ abbrev pub is_cut : {A : Type 0} → Option ℕ → List A → Bool
 is_cut None list = false
 is_cut (Some limit) list = nat_lt limit (length list)
 
--- the key of the last entry, if there is one
-abbrev pub last_key : List Entry → Option Rank
-last_key [] = None
-last_key (e ∷ []) = Some (rank_of e)
-last_key (e ∷ f ∷ more) = last_key (f ∷ more)
+-- the key of the last of these, if there is one
+abbrev pub last_by : {A K : Type 0} → (A → K) → List A → Option K
+last_by rank [] = None
+last_by rank (x ∷ []) = Some (rank x)
+last_by rank (x ∷ y ∷ more) = last_by rank (y ∷ more)
 
--- the key from which a listing continues: that of the last of the first entries, if there are more
+-- the key from which a listing continues: that of the last of the first ones, if there are more
+abbrev pub key_by : {A K : Type 0} → (A → K) → Option ℕ → List A → Option K
+key_by rank limit list = if is_cut limit list then last_by rank (first_of limit list) else None
+
+-- of entries, and of entries under days
 abbrev pub key_on : Option ℕ → List Entry → Option Rank
-key_on limit list = if is_cut limit list then last_key (first_of limit list) else None
-
--- the same for entries under days
-abbrev pub last_day_key : List OnDay → Option DayRank
-last_day_key [] = None
-last_day_key (p ∷ []) = Some (day_rank_of p)
-last_day_key (p ∷ q ∷ more) = last_day_key (q ∷ more)
+key_on limit list = key_by rank_of limit list
 
 abbrev pub day_key_on : Option ℕ → List OnDay → Option DayRank
-day_key_on limit list = if is_cut limit list then last_day_key (first_of limit list) else None
+day_key_on limit list = key_by day_rank_of limit list
 
 -- the part of the listing of the window that comes after the request's key
 abbrev pub asked_after : Request → List Entry → List Entry

@@ -4,14 +4,14 @@ use Rattle.std.specs.Option.{option_map}
 use Rattle.clap.specs.Words.{Text}
 use Rattle.ics_event.specs.Event.{FileSaid}
 use Rattle.ics_series.specs.After.{after_key}
-use Rattle.ics_series.specs.OnDays.{day_key_rank, day_rank_of, OnDay}
+use Rattle.ics_series.specs.OnDays.{after_day_key, day_key_rank, day_rank_of, OnDay}
 use Rattle.ics_series.specs.Tokens.{day_spelling, IsDayKey, spelling, IsKey}
-use Rattle.ics_series.specs.Entry.{Entry, Rank, key_rank, rank_of}
+use Rattle.ics_series.specs.Entry.{Entry, key_rank, rank_of}
 use Rattle.khal_list.specs.declared.every_day.EveryDay.{EveryDay}
 use Rattle.khal_list.specs.declared.request.Request.{Request}
 use Rattle.khal_words.specs.Entries.{entries_of}
 use Rattle.khal_list.specs.Headline.{IsDayListingOf, IsListingOf}
-use Rattle.khal_list.specs.Listed.{asked_after, asked_after_day, first_of, is_cut, key_on}
+use Rattle.khal_list.specs.Listed.{asked_after, asked_after_day, first_of, is_cut, key_by}
 use Rattle.khal_list.specs.RequestOf.{after_text, RequestOf}
 use Rattle.khal_list.specs.Text.{Style, day_under, heading_text, text, text_after}
 
@@ -58,12 +58,12 @@ TextGoesOn = (style : Style) (e : Entry) (es : List Entry) →
     text style (e ∷ es) ≡ heading_text style (day_under style e) ++ text_after style (Some (day_under style e)) (e ∷ es)
 
 -- what listings with these limits list together, each from the key that the one before names, until one names none
-abbrev pub joined : List ℕ → Option Rank → List Entry → List Entry
-joined [] key list = []
-joined (limit ∷ limits) key list =
-    if is_cut (Some limit) (after_key key list)
-    then first_of (Some limit) (after_key key list) ++ joined limits (key_on (Some limit) (after_key key list)) list
-    else first_of (Some limit) (after_key key list)
+abbrev pub joined : {A K : Type 0} → (A → K) → (Option K → List A → List A) → List ℕ → Option K → List A → List A
+joined rank after [] key list = []
+joined rank after (limit ∷ limits) key list =
+    if is_cut (Some limit) (after key list)
+    then first_of (Some limit) (after key list) ++ joined rank after limits (key_by rank (Some limit) (after key list)) list
+    else first_of (Some limit) (after key list)
 
 abbrev pub total : List ℕ → ℕ
 total [] = 0
@@ -79,4 +79,11 @@ abbrev pub Pages : Type 0
 Pages =
     (files : List FileSaid) (request : Request) (list : List Entry) (limits : List ℕ) → IsListingOf files request list → ArePositive limits →
     length list ≤ total limits
-    → joined limits None list ≡ list
+    → joined rank_of after_key limits None list ≡ list
+
+-- the same of a listing under each day
+abbrev pub DayPages : Type 0
+DayPages =
+    (files : List FileSaid) (request : Request) (list : List OnDay) (limits : List ℕ) → IsDayListingOf files request list → ArePositive limits →
+    length list ≤ total limits
+    → joined day_rank_of after_day_key limits None list ≡ list

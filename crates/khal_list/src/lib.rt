@@ -31,5 +31,7 @@ pub use laws::one_answer;
 pub use printing::{print, print_days};
 pub use request::Request;
 pub use request_fault::RequestFault;
-pub use resuming::{day_goes_on, day_token_goes_on, goes_on, pages, text_goes_on, token_goes_on};
+pub use resuming::{
+    day_goes_on, day_pages, day_token_goes_on, goes_on, pages, text_goes_on, token_goes_on,
+};
 pub use running::run;

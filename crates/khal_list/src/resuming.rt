@@ -1,5 +1,5 @@
 //! Laws of listings that go on from a key.
-ghost use Rattle.khal_list.specs.Pages.{DayGoesOn, DayTokenGoesOn, GoesOn, Pages, TextGoesOn, TextSplits, TokenGoesOn};
+ghost use Rattle.khal_list.specs.Pages.{DayGoesOn, DayPages, DayTokenGoesOn, GoesOn, Pages, TextGoesOn, TextSplits, TokenGoesOn};
 
 use ics_series::{day_listing_behind, one_day_spelling, one_spelling};
 
@@ -44,3 +44,10 @@ pub fn text_goes_on()
 pub fn pages()
     ensures { Pages }
 {}
+
+/// The same of a listing under each day: pages with any limits join to the whole of it.
+pub fn day_pages()
+    ensures { DayPages }
+{
+    day_listing_behind();
+}
