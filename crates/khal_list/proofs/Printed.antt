@@ -1,16 +1,19 @@
 -- What of a list to come is written so far: its first entries.
 use Rattle.std.specs.Prelude.{ℤ, ◌≢◌, true}
-use Rattle.std.proofs.Common.{◌≡◌, ℕ, zero, suc, pred, ◌+◌, List, [], ◌∷◌, ◌++◌, Option, Some, None, length, refl, sym, ap, ◌∙◌, arith, append_assoc}
+use Rattle.std.proofs.Common.{◌≡◌, ℕ, zero, suc, pred, ◌+◌, ◌<◌, take, drop, List, [], ◌∷◌, ◌++◌, Option, Some, None, length, refl, sym, ap, ◌∙◌, arith, append_assoc}
 use Rattle.std.proofs.Common.{append-nil, length-append}
 use Rattle.std.specs.Io.KnownBytes.{Appends}
 use Rattle.std.specs.Option.{option_map}
 use Rattle.std.proofs.Math.Seq.{take-append-add}
 use Rattle.std.proofs.lemmas.Bool.{lt-ltb}
+use Rattle.std.proofs.lemmas.List.{length-drop, take-append-drop}
+use Rattle.ics_series.specs.Entry.{Entry}
 use Rattle.ics_series.specs.OnDays.{DayRank, day_rank_of, OnDay}
 use Rattle.khal_list.specs.Drawn.{DrewAhead}
-use Rattle.khal_ports.specs.Growth.{TookFront}
+use Rattle.khal_ports.specs.Growth.{TookFront, TookPart}
 use Rattle.khal_list.specs.Listed.{day_key_on, first_of, is_cut, last_by}
-use Rattle.khal_list.specs.Text.{Style, days_text, days_text_after, entry_text}
+use Rattle.khal_list.specs.Text.{Style, days_text, days_text_after, entry_field_text, entry_text, heading_after, line_text}
+use Rattle.khal_words.specs.Formats.{filled}
 use Rattle.khal_ports.proofs.Written.{Written, appends-both, appends-none, appends-same, written-front, written-part}
 
 -- the day that the last of some entries stands under, or the day before them
@@ -31,6 +34,15 @@ key-more : (xs : List OnDay) (e : OnDay) → last_by day_rank_of (xs ++ e ∷ []
 key-more [] e = refl
 key-more (x ∷ []) e = refl
 key-more (x ∷ y ∷ ys) e = key-more (y ∷ ys) e
+
+-- the text of an entry is not empty
+pub entry_some : (style : Style) (before : Option ℤ) (day : ℤ) (e : Entry) → 0 < length (entry_text style before day e)
+entry_some style before day e =
+    omega (
+      arith,
+      length-append (heading_after style before day) (line_text style day e),
+      length-append (filled (entry_field_text style.clock day e) style.entries) (10 ∷ []),
+    )
 
 -- a limit of which some entries take their part
 first-behind : (limit left : Option ℕ) (xs ys : List OnDay) → limit ≡ option_map (λ n. length xs + n) left → first_of limit (xs ++ ys) ≡ xs ++ first_of left ys
@@ -68,24 +80,40 @@ module _ {style : Style} {limit : Option ℕ} {all : List OnDay} {told : Option 
       shown = p.done;
       ahead = [];
       part = [];
+      left = [];
       given = p.parted;
       few = omega arith;
       taken = appends-same told taken (sym (append-nil (days_text style p.done))) p.taken_is;
+      parted = ap (days_text style) (append-nil p.done) ∙ sym (append-nil (days_text style p.done));
+      unfinished = λ some. absurd (some refl);
     }
 
     module _ {e : OnDay} {es : List OnDay} (gives : coming ≡ e ∷ es) where
-      pub drew-part : (new : Option (List ℕ)) (part : List ℕ) → Appends taken new part → DrewAhead (days_text style) all es told new
-      drew-part new part h = record {
+      text-more : days_text style p.done ++ entry_text style before e.day e.entry ≡ days_text style (p.done ++ e ∷ [])
+      text-more = rw (text-append style None p.done (e ∷ []), p.day_is, append-nil) refl
+
+      drew-part : (new : Option (List ℕ)) (part left : List ℕ) → Appends taken new part → part ++ left ≡ entry_text style before e.day e.entry
+          → 0 < length left → DrewAhead (days_text style) all es told new
+      drew-part new part left h whole some = record {
         shown = p.done;
         ahead = e ∷ [];
         part = part;
+        left = left;
         given = ap (λ l. p.done ++ l) (sym gives) ∙ p.parted;
         few = omega arith;
         taken = appends-both told taken new (days_text style p.done) part (p.taken_is, h);
+        parted = sym text-more ∙ ap (λ t. days_text style p.done ++ t) (sym whole);
+        unfinished = λ _ none. omega (arith, some, ap length none);
       }
 
       pub drew-one : DrewAhead (days_text style) all es told taken
-      drew-one = drew-part taken [] (appends-none taken)
+      drew-one = drew-part taken [] (entry_text style before e.day e.entry) (appends-none taken) refl (entry_some style before e.day e.entry)
+
+      pub drew-took : (new : Option (List ℕ)) → TookPart taken new (entry_text style before e.day e.entry) → DrewAhead (days_text style) all es told new
+      drew-took new f =
+          let whole = entry_text style before e.day e.entry in
+          drew-part new (take f.count whole) (drop f.count whole) f.taken (take-append-drop f.count whole)
+          (omega (arith, f.within, length-drop f.count whole))
 
       first-none : left ≡ Some 0 → first_of limit all ≡ p.done
       first-none none = first-is ∙ (ap (λ l. p.done ++ first_of l coming) none ∙ append-nil p.done)
@@ -121,12 +149,9 @@ module _ {style : Style} {limit : Option ℕ} {all : List OnDay} {told : Option 
         printed-more new h = record {
           done = p.done ++ e ∷ [];
           parted = append_assoc p.done (e ∷ []) es ∙ (ap (λ l. p.done ++ l) (sym gives) ∙ p.parted);
-          taken_is = appends-same told new text-is
+          taken_is = appends-same told new text-more
               (appends-both told taken new (days_text style p.done) (entry_text style before e.day e.entry) (p.taken_is, h));
           day_is = sym (day-more None p.done e);
           left_is = p.left_is ∙ (ap (option_map (λ n. length p.done + n)) lower-is ∙ left-lower lower);
           last_is = sym (key-more p.done e);
         }
-          where
-            text-is : days_text style p.done ++ entry_text style before e.day e.entry ≡ days_text style (p.done ++ e ∷ [])
-            text-is = rw (text-append style None p.done (e ∷ []), p.day_is, append-nil) refl

@@ -1,5 +1,5 @@
 -- What is written of a list to come, and of a feed whose entries are each listed once.
-use Rattle.std.proofs.Common.{◌≡◌, ℕ, List, [], ◌∷◌, ◌++◌, Option, Some, None, Result, Ok, Err, map, take, length, refl, sym, ap, ◌∙◌, subst}
+use Rattle.std.proofs.Common.{◌≡◌, ℕ, List, [], ◌∷◌, ◌++◌, Option, Some, None, Result, Ok, Err, map, take, length, refl, sym, ap, ◌∙◌, subst, append_assoc}
 use Rattle.std.specs.Prelude.{◌≤◌, Bool, true, false, IfOk, OnOk, nat_lt, if◌then◌else◌}
 use Rattle.std.specs.Io.KnownBytes.{Appends}
 use Rattle.std.specs.Option.{option_map}
@@ -67,8 +67,18 @@ drew-under style old new {rest = rest} {out = out} {out' = out'} is d = record {
   part = d.part;
   given = rw (← entries-under style new, ← is) (simp map-append at (ap entries d.given) ∙ entries-under style old);
   few = subst (λ n. n ≤ 1) (sym (length-map d.ahead (λ (p : OnDay). p.entry))) d.few;
-  taken = subst (λ (l : List OnDay). Appends out out' (days_text style l ++ d.part)) (front-under style d.shown (d.ahead ++ rest) old d.given) d.taken;
+  taken = subst (λ (l : List OnDay). Appends out out' (days_text style l ++ d.part)) front d.taken;
+  left = d.left;
+  parted = ap (text style) (sym (map-append (λ p. p.entry) d.shown d.ahead))
+      ∙ (ap (days_text style) (sym both) ∙ (d.parted ∙ ap (λ l. days_text style l ++ (d.part ++ d.left)) front));
+  unfinished = λ some. d.unfinished (λ none. some (ap entries none));
 }
+  where
+    front : d.shown ≡ map (under style) (entries d.shown)
+    front = front-under style d.shown (d.ahead ++ rest) old d.given
+
+    both : d.shown ++ d.ahead ≡ map (under style) (entries (d.shown ++ d.ahead))
+    both = front-under style (d.shown ++ d.ahead) rest old (append_assoc d.shown d.ahead rest ∙ d.given)
 
 -- what a fault leaves, and what the limit leaves
 module _ {request : Request} {coming : List OnDay → Type 0} {list rest : List OnDay} {out out' : Option (List ℕ)} (r : Result (Option DayKey) RunFault)

@@ -1,5 +1,5 @@
 -- How far a listing draws ahead of what it writes.
-use Rattle.std.specs.Prelude.{◌≡◌, ◌≤◌, ◌++◌, ℕ, List, Option, Result, length, IfOk, OnErr, OnOk}
+use Rattle.std.specs.Prelude.{◌≡◌, ◌≢◌, ◌≤◌, ◌++◌, ℕ, List, [], Option, Result, length, IfOk, OnErr, OnOk}
 use Rattle.std.specs.Io.KnownBytes.{Appends}
 use Rattle.std.specs.Option.{option_map}
 use Rattle.ics_series.specs.OnDays.{day_key_rank, OnDay}
@@ -10,14 +10,18 @@ use Rattle.khal_ports.specs.Growth.{TookFront}
 use Rattle.khal_list.specs.Listed.{day_key_on, days_text_of, style_of}
 use Rattle.khal_list.specs.Text.{days_text}
 
--- What has a list to come has given entries whose text the sink has taken, and at most one more, whose text it may have taken in part.
+-- What has a list to come has given entries whose text the sink has taken, and at most one more. Of the text of that one the sink has taken a prefix,
+-- and something of it is left; if there is none, it has taken nothing more.
 pub record DrewAhead {A : Type 0} (text : List A → List ℕ) (old new : List A) (out out' : Option (List ℕ)) : Type 0 where
   pub shown : List A
   pub ahead : List A
   pub part : List ℕ
+  pub left : List ℕ
   pub given : shown ++ (ahead ++ new) ≡ old
   pub few : length ahead ≤ 1
   pub taken : Appends out out' (text shown ++ part)
+  pub parted : text (shown ++ ahead) ≡ text shown ++ (part ++ left)
+  pub unfinished : ahead ≢ [] → left ≢ []
 
 -- Of entries under days that were to come the text of the first was written, up to the limit, or a prefix of it; and these are to come now. The
 -- key is that of the last one written, if the limit cut the list.

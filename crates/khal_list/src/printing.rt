@@ -7,7 +7,7 @@ ghost use Rattle.ics_series.specs.Ahead.{IsAhead};
 ghost use Rattle.ics_series.specs.OnDays.{day_key_rank, day_rank_of, on_day_of, OnDay};
 ghost use Rattle.ics_series.specs.Entry.{entry_of, key_rank};
 ghost use Rattle.khal_list.specs.Drawn.{DrewAhead, Puts};
-ghost use Rattle.khal_ports.specs.Growth.{TookFront, LeftByFault};
+ghost use Rattle.khal_ports.specs.Growth.{TookFront, TookPart, LeftByFault};
 ghost use Rattle.khal_list.specs.Listed.{key_on, style_of, listing_text};
 ghost use Rattle.khal_list.specs.Text.{entry_text, text};
 
@@ -108,7 +108,7 @@ fn put_entry<O: Sink>(
     requires { IsDayNumber day }
     ensures ok { OnOk result (Appends (O.taken out.old) (O.taken out.new)
         (entry_text (style_of request.now) before day (entry_of occurrence.now))) }
-    ensures err { OnErr result (TookFront (O.taken out.old) (O.taken out.new)
+    ensures err { OnErr result (TookPart (O.taken out.old) (O.taken out.new)
         (entry_text (style_of request.now) before day (entry_of occurrence.now))) }
     ensures cause { IsErrOf result RunFault.WriteFault → LeftByFault O.puts out.new }
 {

@@ -4,7 +4,7 @@ use Rattle.std.proofs.Common.{append_assoc, append-nil, length-append}
 use Rattle.std.specs.Prelude.{OnErr}
 use Rattle.std.specs.Io.KnownBytes.{Appends}
 use Rattle.std.proofs.lemmas.List.{take-append-drop, take_at}
-use Rattle.khal_ports.specs.Growth.{TookFront}
+use Rattle.khal_ports.specs.Growth.{TookFront, TookPart}
 
 pub on_err : {T E : Type 0} {P : Type 0} (result : Result T E) → P → OnErr result P
 on_err (Ok x) p = tt
@@ -30,6 +30,10 @@ appends-both told middle new first second both = absurd assumption
 
 pub appends-same : (told new : Option (List ℕ)) {first second : List ℕ} → first ≡ second → Appends told new first → Appends told new second
 appends-same told new same h = subst (Appends told new) same h
+
+-- a prefix of the text that is not all of it is a prefix of it
+pub part_front : {told new : Option (List ℕ)} {text : List ℕ} → TookPart told new text → TookFront told new text
+part_front p = record { count = p.count; within = omega (arith, p.within); taken = p.taken }
 
 pub written-front : {told new : Option (List ℕ)} {rest whole : List ℕ} → Written told new rest whole → TookFront told new whole
 written-front {told = told} {new = new} {rest = rest} w = record {

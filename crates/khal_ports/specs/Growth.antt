@@ -14,6 +14,12 @@ pub record TookFront (old new : Option (List ℕ)) (text : List ℕ) : Type 0 wh
   pub within : count ≤ length text
   pub taken : Appends old new (take count text)
 
+-- the sink has taken a prefix of the text, and not the whole text
+pub record TookPart (old new : Option (List ℕ)) (text : List ℕ) : Type 0 where
+  pub count : ℕ
+  pub within : count < length text
+  pub taken : Appends old new (take count text)
+
 -- the last call of the sink failed, or was given bytes and took none
 pub record LeftByFault {O : Type 0} (puts : O → List ℕ → Result ℕ SinkFault → O → Type 0) (left : O) : Type 0 where
   pub before : O

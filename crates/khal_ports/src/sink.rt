@@ -1,7 +1,7 @@
 //! Outputs.
 ghost use Rattle.std.specs.Prelude.{◌≡◌, ◌≤◌, IfOk, OnOk, OnErr, IsErrOf, length};
 ghost use Rattle.std.specs.Io.KnownBytes.{Appends, WriteAppends};
-ghost use Rattle.khal_ports.specs.Growth.{risen, TookFront, LeftByFault};
+ghost use Rattle.khal_ports.specs.Growth.{risen, TookPart, LeftByFault};
 
 use crate::fault::{RunFault, SinkFault};
 
@@ -32,11 +32,11 @@ pub trait Sink {
         ensures { result ≡ failed self.now };
 }
 
-/// Hands the whole text to the sink, or fails after the sink took a prefix of it: WriteFault if the
-/// device failed or the sink took no byte, Memory if an allocation failed.
+/// Hands the whole text to the sink, or fails after the sink took a prefix of it and not all of it:
+/// WriteFault if the device failed or the sink took no byte, Memory if an allocation failed.
 pub fn put_all<O: Sink>(sink: &mut O, text: &[u8]) -> Result<(), RunFault>
     ensures ok { OnOk result (Appends (O.taken sink.old) (O.taken sink.new) text.now) }
-    ensures err { OnErr result (TookFront (O.taken sink.old) (O.taken sink.new) text.now) }
+    ensures err { OnErr result (TookPart (O.taken sink.old) (O.taken sink.new) text.now) }
     ensures cause { IsErrOf result RunFault.WriteFault → LeftByFault O.puts sink.new }
 {
     let mut done = 0;

@@ -2,7 +2,8 @@ use Rattle.std.proofs.lemmas.Grind.{common_steps}
 use Rattle.std.proofs.Common.{rules, ◌≡◌, Some, refl, w32, arith}
 use Rattle.std.specs.Prelude.{FitsSigned, ◌≢◌}
 use Rattle.std.proofs.lemmas.Int.{to_z-of_z, ints}
-use Rattle.khal_list.proofs.Printed.{cut-key, cut-text, drew-none, drew-one, drew-part, printed-front, printed-more, printed-part}
+use Rattle.khal_list.proofs.Printed.{cut-key, cut-text, drew-none, drew-one, drew-took, printed-front, printed-more, printed-part}
+use Rattle.khal_ports.proofs.Written.{part_front}
 use Rattle.khal_list.proofs.PutLemmas.{puts-cut, puts-fault}
 use Rattle.khal_list.proofs.printing.put_entries.Goals as goal
 
@@ -28,8 +29,8 @@ returns-in_err-put_entry-clause-puts g c = λ list a.
     let fits : FitsSigned w32 c.in-Some.day = search rules in
     let took = rw (to_z-of_z w32 c.in-Some.day fits) at c.in_err-put_entry.ensures.err in
     puts-fault {coming = g.D.Draws.comes c.args.draws.now c.draw.new.source} c.from_residual-in_err-put_entry.result
-    (printed-part p.2 d.1 some (g.O.Sink.taken c.put_entry.new.out) took)
-    d.2 (drew-part p.2 d.1 (g.O.Sink.taken c.put_entry.new.out) _ took.taken) c.from_residual-in_err-put_entry.ensures.0
+    (printed-part p.2 d.1 some (g.O.Sink.taken c.put_entry.new.out) (part_front took))
+    d.2 (drew-took p.2 d.1 (g.O.Sink.taken c.put_entry.new.out) took) c.from_residual-in_err-put_entry.ensures.0
 
 pub loop-count-preserved : goal.loop-count-preserved
 loop-count-preserved g c = record {

@@ -1,11 +1,15 @@
-use Rattle.std.proofs.Common.{arith, w32}
+use Rattle.std.proofs.Common.{w32}
 use Rattle.std.proofs.lemmas.Int.{to_z-of_z}
 use Rattle.khal_ports.proofs.Written.{appends-none, on_err}
+use Rattle.ics_series.specs.Entry.{entry_of}
+use Rattle.khal_list.specs.Listed.{style_of}
+use Rattle.khal_list.proofs.Printed.{entry_some}
 use Rattle.khal_list.proofs.printing.put_entry.Goals as goal
 
 pub returns-in_err-add_entry-clause-err : goal.returns-in_err-add_entry-clause-err
 returns-in_err-add_entry-clause-err g c =
-    on_err c.from_residual.result (record { count = 0; within = omega arith; taken = appends-none (g.O.Sink.taken c.args.out.now) })
+    let some = entry_some (style_of c.args.request.now) c.args.before c.args.day (entry_of c.args.occurrence.now) in
+    on_err c.from_residual.result (record { count = 0; within = some; taken = appends-none (g.O.Sink.taken c.args.out.now) })
 
 pub returns-in_err-put_all-clause-err : goal.returns-in_err-put_all-clause-err
 returns-in_err-put_all-clause-err g c =

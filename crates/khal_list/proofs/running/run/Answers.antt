@@ -2,7 +2,7 @@ use Rattle.std.proofs.Common.{refl}
 use Rattle.std.specs.Option.{option_map}
 use Rattle.std.specs.String.{string_bytes}
 use Rattle.khal_list.proofs.RunLemmas.{lists, stops, stops-lines, stops-more, stops-reading}
-use Rattle.khal_ports.proofs.Written.{on_err}
+use Rattle.khal_ports.proofs.Written.{on_err, part_front}
 use Rattle.khal_list.proofs.running.run.Goals as goal
 
 pub returns-in_err-reading-clause-stops : goal.returns-in_err-reading-clause-stops
@@ -10,7 +10,7 @@ returns-in_err-reading-clause-stops g c = on_err c.from_residual.result (stops-r
 
 pub returns-in_err-put_all-clause-stops : goal.returns-in_err-put_all-clause-stops
 returns-in_err-put_all-clause-stops g c =
-    on_err c.from_residual-in_err-put_all.result (stops-lines c.in_ok-reading.ensures.all c.deref.ensures.value refl c.in_err-put_all.ensures.err)
+    on_err c.from_residual-in_err-put_all.result (stops-lines c.in_ok-reading.ensures.all c.deref.ensures.value refl (part_front c.in_err-put_all.ensures.err))
 
 pub returns-in_err-token-clause-stops : goal.returns-in_err-token-clause-stops
 returns-in_err-token-clause-stops g c =
