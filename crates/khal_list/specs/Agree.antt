@@ -1,10 +1,15 @@
 -- Two answers to the same words say the same: the same request, as its parts show it, or the same fault.
-use Rattle.std.specs.Prelude.{◌≡◌, Option, Result, Ok, Err}
+use Rattle.std.specs.Prelude.{◌≡◌, ◌≢◌, ◌⊎◌, List, Option, Result, Ok, Err}
 use Rattle.std.specs.String.{string_bytes}
 use Rattle.std.specs.Option.{option_map}
+use Rattle.clap.specs.Words.{IsAmong, Text, fault_of}
+use Rattle.clap.specs.declared.error.kind.ErrorKind.{ErrorKind}
+use Rattle.clap.specs.declared.error.kind.ErrorKind.TheVariants.{DisplayHelp}
 use Rattle.ics_series.specs.OnDays.{day_key_rank, DayRank}
 use Rattle.ics_series.specs.Entry.{key_rank}
 use Rattle.ics_zone.specs.ZoneSaid.{display_said}
+use Rattle.khal_words.specs.Commands.{khal_app}
+use Rattle.khal_words.specs.Entries.{with_name}
 use Rattle.khal_list.specs.declared.every_day.EveryDay.{EveryDay}
 use Rattle.khal_list.specs.declared.request.Request.{Request}
 use Rattle.khal_list.specs.declared.request_fault.RequestFault.{RequestFault}
@@ -28,14 +33,22 @@ pub record SameRequest (a b : Request) : Type 0 where
   pub format : a.formats.entries.pieces.items ≡ b.formats.entries.pieces.items
   pub day_format : a.formats.days.pieces.items ≡ b.formats.days.pieces.items
 
--- both are requests, and the same, or both are one fault; nothing is said if an allocation failed
-abbrev pub Agree : Result Request RequestFault → Result Request RequestFault → Type 0
-Agree (Err Memory) b = Unit {0}
-Agree a (Err Memory) = Unit {0}
-Agree (Ok a) (Ok b) = SameRequest a b
-Agree (Err BadZone) (Err BadZone) = Unit {0}
-Agree (Err BadWindow) (Err BadWindow) = Unit {0}
-Agree (Err BadToken) (Err BadToken) = Unit {0}
-Agree (Err BadFormat) (Err BadFormat) = Unit {0}
-Agree (Err (Usage text help)) (Err (Usage other asks)) = Unit {0}
-Agree a b = ⊥
+-- clap's model leaves open whether help is shown: it lets the words be refused as asking for it, and for another cause
+pub record LeavesHelpOpen (words : List Text) : Type 0 where
+  pub help : IsAmong DisplayHelp (fault_of khal_app (with_name words))
+  pub kind : ErrorKind
+  pub among : IsAmong kind (fault_of khal_app (with_name words))
+  pub other : kind ≢ DisplayHelp
+
+-- Both are requests, and the same, or both are one fault, and help is shown by both or by neither, as far as clap's model tells. Nothing is said if an
+-- allocation failed.
+abbrev pub Agree : List Text → Result Request RequestFault → Result Request RequestFault → Type 0
+Agree words (Err Memory) b = Unit {0}
+Agree words a (Err Memory) = Unit {0}
+Agree words (Ok a) (Ok b) = SameRequest a b
+Agree words (Err BadZone) (Err BadZone) = Unit {0}
+Agree words (Err BadWindow) (Err BadWindow) = Unit {0}
+Agree words (Err BadToken) (Err BadToken) = Unit {0}
+Agree words (Err BadFormat) (Err BadFormat) = Unit {0}
+Agree words (Err (Usage text help)) (Err (Usage other asks)) = (help ≡ asks) ⊎ LeavesHelpOpen words
+Agree words a b = ⊥

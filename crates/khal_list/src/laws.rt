@@ -13,7 +13,7 @@ use khal_words::one_format;
 /// Words and a clock have one answer, one request or one fault, unless an allocation fails.
 pub fn one_answer()
     ensures { (words : List Text) (now : ℤ) (a b : Result Request RequestFault)
-        → RequestOf words now a → RequestOf words now b → Agree a b }
+        → RequestOf words now a → RequestOf words now b → Agree words a b }
 {
     one_display();
     one_spelling();

@@ -1,8 +1,8 @@
-use Rattle.std.proofs.Common.{◌≡◌, ◌⊎◌, inl, inr, ℕ, ℤ, pos, Bool, true≢false, List, Some, None, Ok, Err, Result, Option}
+use Rattle.std.proofs.Common.{◌≡◌, ◌⊎◌, inl, inr, ℕ, ℤ, pos, Bool, true, false, true≢false, List, Some, None, Ok, Err, Result, Option}
 use Rattle.std.proofs.Common.{◌&&◌, ◌+ℤ◌, option_and_then, if◌then◌else◌, refl, sym, ◌∙◌, ap, subst}
 use Rattle.std.proofs.lemmas.Bool.Decides.{same_from_decides}
 use Rattle.std.specs.Prelude.{int_le, int_lt, option_map, unwrap_or, IsSome}
-use Rattle.clap.specs.Words.{Text, IsAmong}
+use Rattle.clap.specs.Words.{Text, IsAmong, fault_of}
 use Rattle.ics_zone.specs.DisplayTexts.{display_of}
 use Rattle.ics_zone.specs.ZoneSaid.{ZoneSaid, display_said, said_moment, said_offset}
 use Rattle.ics_zone.specs.declared.display.Display.{Display}
@@ -12,8 +12,9 @@ use Rattle.ics_series.specs.Entry.{key_rank, Rank}
 use Rattle.ics_series.specs.declared.day_key.DayKey.{DayKey}
 use Rattle.ics_series.specs.declared.window.Window.{Window}
 use Rattle.ics_series.specs.declared.key.Key.{Key}
-use Rattle.khal_list.specs.Agree.{Agree, SameRequest, day_after}
-use Rattle.khal_words.specs.Entries.{Entries, Span, day_format_text, entries_of, format_text, limit_text, span_of, IsRefused, AreTaken}
+use Rattle.khal_list.specs.Agree.{Agree, LeavesHelpOpen, SameRequest, day_after}
+use Rattle.khal_words.specs.Commands.{khal_app}
+use Rattle.khal_words.specs.Entries.{Entries, Span, day_format_text, entries_of, format_text, limit_text, span_of, with_name, IsRefused, AreTaken}
 use Rattle.khal_words.specs.Formats.{day_name, entry_name, IsFormat, OneFormat}
 use Rattle.khal_words.specs.Limits.{IsLimitOf}
 use Rattle.khal_list.specs.RequestOf.{RequestOf, IsAfterBy, IsDayKeyBy, IsDayKeyOf, IsRequest, IsBadWindow, IsKeyOf, HasWindow, IsNoToken}
@@ -117,6 +118,21 @@ same_request one {entries = entries} {now = now} {a = a} {b = b} p q =
       day_format = one.days _ _ (sym p.day_format ∙ q.day_format);
     }
 
+open_help : (words : List Text) → IsRefused words true → IsRefused words false → LeavesHelpOpen words
+open_help words p q = record {
+  help = subst (λ kind. IsAmong kind (fault_of khal_app (with_name words))) (p.asks.0 refl) p.among;
+  kind = q.kind;
+  among = q.among;
+  other = λ is. absurd (true≢false (sym (q.asks.1 is)));
+}
+
+-- help is shown by both of two refusals, or by neither, as far as clap's model tells
+same_help : (words : List Text) (help asks : Bool) → IsRefused words help → IsRefused words asks → (help ≡ asks) ⊎ LeavesHelpOpen words
+same_help words true true p q = inl refl
+same_help words false false p q = inl refl
+same_help words true false p q = inr (open_help words p q)
+same_help words false true p q = inr (open_help words q p)
+
 -- two answers clash unless they are the same
 module _ (one : Readings) (words : List Text) (now : ℤ) where
   abbrev entries : Entries
@@ -146,11 +162,11 @@ module _ (one : Readings) (words : List Text) (now : ℤ) where
   no_format a p (inl none) = none (a.formats.entries.pieces.items, p.format)
   no_format a p (inr none) = none (a.formats.days.pieces.items, p.day_format)
 
-  agree : (a b : Result Request RequestFault) → RequestOf words now a → RequestOf words now b → Agree a b
+  agree : (a b : Result Request RequestFault) → RequestOf words now a → RequestOf words now b → Agree words a b
   agree (Err Memory) b p q = tt
   agree a (Err Memory) p q = tt
   agree (Ok a) (Ok b) p q = same_request one p.1 q.1
-  agree (Err (Usage text help)) (Err (Usage other asks)) p q = tt
+  agree (Err (Usage text help)) (Err (Usage other asks)) p q = same_help words help asks p q
   agree (Err BadZone) (Err BadZone) p q = tt
   agree (Err BadWindow) (Err BadWindow) p q = tt
   agree (Err BadToken) (Err BadToken) p q = tt
