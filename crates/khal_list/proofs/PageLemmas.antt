@@ -64,7 +64,8 @@ module _ {A K : Type 0} (rank : A → K) (after : Option K → List A → List A
       joined rank after limits key list ≡ rest
   joined-from [] key [] at_place p l = refl
   joined-from [] key (y ∷ ys) at_place p l = absurd (omega arith)
-  joined-from (limit ∷ limits) key rest (xs, e, b) p l = rw b (joined-by _ limit rest (joined rank after limits (key_by rank (Some limit) rest) list) refl (λ cut.
+  joined-from (limit ∷ limits) key rest (xs, e, b) p l =
+      rw b (joined-by _ limit rest (joined rank after limits (key_by rank (Some limit) rest) list) refl (λ cut.
       let more : limit < length rest = ltb-true limit (length rest) cut in
       let some : 1 ≤ length (take limit rest) = omega (arith, length-take-le limit rest (omega arith), p.0) in
       let parts : list ≡ xs ++ (take limit rest ++ drop limit rest) = e ∙ ap (λ l. xs ++ l) (sym (take-append-drop limit rest)) in

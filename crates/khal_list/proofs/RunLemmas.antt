@@ -8,13 +8,14 @@ use Rattle.ics_event.specs.Event.{FileSaid}
 use Rattle.ics_zone.specs.declared.display.Display.{Display}
 use Rattle.ics_series.specs.After.{after_key}
 use Rattle.ics_series.specs.Clocks.{display_clock}
-use Rattle.ics_series.specs.OnDays.{day_key_rank, after_day_key, on_day_cmp, IsOnDay, OnDay}
-use Rattle.ics_series.specs.Tokens.{day_spelling, spelling}
-use Rattle.ics_series.specs.Entry.{Entry, entry_cmp, key_rank}
+use Rattle.ics_series.specs.OnDays.{day_key_rank, day_rank_of, after_day_key, on_day_cmp, IsOnDay, OnDay}
+use Rattle.ics_series.specs.Tokens.{day_spelling, IsDayKey, IsKey, spelling}
+use Rattle.ics_series.specs.Entry.{Entry, entry_cmp, key_rank, rank_of}
 use Rattle.ics_series.specs.declared.day_key.DayKey.{DayKey}
 use Rattle.ics_series.specs.declared.key.Key.{Key}
 use Rattle.ics_series.specs.Listing.{IsListing}
 use Rattle.ics_series.specs.Meets.{IsListed}
+use Rattle.ics_series.specs.Occurs.{Occurs}
 use Rattle.khal_list.specs.declared.every_day.EveryDay.{EveryDay}
 use Rattle.khal_list.specs.declared.request.Request.{Request}
 use Rattle.khal_reading.specs.declared.status.Status.{Status}
@@ -44,15 +45,16 @@ copied-key rank (Some k) key h = ap (option_map rank) h
 
 -- the text of what an agenda of these files has to come after the key that is lent is what the request shows once
 pub shows-once : {files : List FileSaid} {display : Display} {request : Request} (lent : Option (Bor Key)) {coming : List Entry} {token : Option (List ℕ)} →
-    display ≡ request.zone → option_copied lent ≡ request.after
+    display ≡ request.zone → option_copied lent ≡ request.after → ((o : Entry) → Occurs files (display_clock display) o → IsKey (rank_of o))
     → (list : List Entry) × IsListing entry_cmp (IsListed files (display_clock display) request.window) list
     × (coming ≡ after_key (option_map (λ k. key_rank k.now) lent) list)
     → token ≡ option_map spelling (key_on request.limit coming) → ShowsOnce files request (listing_text request coming) token
-shows-once {request = request} lent zone key whole is =
+shows-once {request = request} lent zone key keys whole is =
     let coming = whole.2 ∙ ap (λ k. after_key k whole.0) (copied-key key_rank lent request.after key) in
     record {
       list = whole.0;
       listing = rw zone at whole.1;
+      tokens = λ o m. keys o ((whole.1.exact o).0 m).0;
       shown_is = ap (listing_text request) coming;
       token_is = is ∙ ap (λ these. option_map spelling (key_on request.limit these)) coming;
     }
@@ -60,14 +62,16 @@ shows-once {request = request} lent zone key whole is =
 -- the text of what is to come under each day is what the request shows under each day
 pub shows-days : {files : List FileSaid} {display : Display} {request : Request} {every_day : EveryDay} (lent : Option (Bor DayKey)) {list : List OnDay}
     {token : Option (List ℕ)} → display ≡ request.zone → option_copied lent ≡ every_day.after
+    → ((p : OnDay) → IsOnDay files (display_clock display) request.window p → IsDayKey (day_rank_of p))
     → IsListing on_day_cmp (IsOnDay files (display_clock display) request.window) list
     → token ≡ option_map day_spelling (day_key_on request.limit (after_day_key (option_map (λ k. day_key_rank k.now) lent) list)) →
     ShowsDays files request every_day (days_text_of request (after_day_key (option_map (λ k. day_key_rank k.now) lent) list)) token
-shows-days {request = request} {every_day = every_day} lent {list = list} zone key listing is =
+shows-days {request = request} {every_day = every_day} lent {list = list} zone key keys listing is =
     let same = copied-key day_key_rank lent every_day.after key in
     record {
       list = list;
       listing = rw zone at listing;
+      tokens = λ p m. keys p ((listing.exact p).0 m);
       shown_is = ap (λ k. days_text_of request (after_day_key k list)) same;
       token_is = is ∙ ap (λ k. option_map day_spelling (day_key_on request.limit (after_day_key k list))) same;
     }

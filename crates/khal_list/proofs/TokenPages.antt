@@ -6,6 +6,7 @@ use Rattle.std.proofs.lemmas.Cmp.{int_eq_equiv}
 use Rattle.clap.specs.Words.{Text}
 use Rattle.ics_zone.specs.declared.display.Display.{Display}
 use Rattle.ics_series.specs.Clocks.{display_clock}
+use Rattle.ics_series.specs.Listing.{IsIn}
 use Rattle.ics_series.specs.OnDays.{day_key_rank, DayRank, DayListingBehind, after_day_key}
 use Rattle.ics_series.specs.Tokens.{day_spelling, IsDayKey, OneDaySpelling, OneSpelling, IsKey, spelling}
 use Rattle.ics_series.specs.Entry.{Entry, Rank, key_rank}
@@ -27,10 +28,15 @@ key-named : OneSpelling → (given : Option Text) (key : Option Key) {rank : Ran
 key-named one (Some text) (Some key) {rank = rank} h e k = ap Some (one (key_rank key) rank h.0 k (cc))
 key-named one given key h e k = absurd (first_of (assumption, cc))
 
+-- an entry is in a list in which it stands
+stands-in : {A : Type 0} (front : List A) (x : A) (behind : List A) → IsIn x (front ++ x ∷ behind)
+stands-in [] x behind = inl refl
+stands-in (y ∷ ys) x behind = inr (stands-in ys x behind)
+
 pub token-goes-on : OneSpelling → TokenGoesOn
-token-goes-on one words now files request front o behind r once given k listing =
+token-goes-on one words now files request front o behind r once given listing tokens =
     let after = subst (λ e. IsAfterBy (entries_of words) request.zone request.window request.after e) once r.1.after in
-    goes-on request front o behind listing (key-named one (after_text (entries_of words)) request.after after.1 given k)
+    goes-on request front o behind listing (key-named one (after_text (entries_of words)) request.after after.1 given (tokens o (stands-in front o behind)))
 
 pub day-goes-on : DayListingBehind → DayGoesOn
 day-goes-on behind-is files request every_day front p behind listing after =
@@ -45,10 +51,10 @@ module _ (one : OneDaySpelling) (zone : Display) (window : Window) where
   day-key-named given key h e k = absurd (first_of (assumption, cc))
 
 pub day-token-goes-on : OneDaySpelling → DayListingBehind → DayTokenGoesOn
-day-token-goes-on one behind-is words now files request every_day front p behind r some given k listing =
+day-token-goes-on one behind-is words now files request every_day front p behind r some given listing tokens =
     let after = subst (λ e. IsAfterBy (entries_of words) request.zone request.window request.after e) some r.1.after in
     day-goes-on behind-is files request every_day front p behind listing
-    (day-key-named one request.zone request.window (after_text (entries_of words)) every_day.after after.2 given k)
+    (day-key-named one request.zone request.window (after_text (entries_of words)) every_day.after after.2 given (tokens p (stands-in front p behind)))
 
 last-under : (style : Style) (before : Option ℤ) (front : List Entry) → Printed.last_day before (map (under style) front) ≡ last_day style before front
 last-under style before [] = refl

@@ -4,11 +4,11 @@ use Rattle.std.specs.Io.KnownBytes.{Appends}
 use Rattle.std.specs.Option.{option_map}
 use Rattle.ics_event.specs.Event.{FileSaid}
 use Rattle.ics_series.specs.Clocks.{display_clock}
-use Rattle.ics_series.specs.Tokens.{day_spelling, spelling}
-use Rattle.ics_series.specs.Entry.{Entry, entry_cmp}
-use Rattle.ics_series.specs.Listing.{IsListing}
+use Rattle.ics_series.specs.Tokens.{day_spelling, IsDayKey, IsKey, spelling}
+use Rattle.ics_series.specs.Entry.{Entry, entry_cmp, rank_of}
+use Rattle.ics_series.specs.Listing.{IsIn, IsListing}
 use Rattle.ics_series.specs.Meets.{IsListed}
-use Rattle.ics_series.specs.OnDays.{on_day_cmp, IsOnDay, OnDay}
+use Rattle.ics_series.specs.OnDays.{day_rank_of, on_day_cmp, IsOnDay, OnDay}
 use Rattle.khal_list.specs.declared.every_day.EveryDay.{EveryDay}
 use Rattle.khal_list.specs.declared.request.Request.{Request}
 use Rattle.khal_reading.specs.declared.status.Status.{Status}
@@ -29,11 +29,19 @@ IsListingOf files request list = IsListing entry_cmp (IsListed files (display_cl
 abbrev pub IsDayListingOf : List FileSaid → Request → List OnDay → Type 0
 IsDayListingOf files request list = IsListing on_day_cmp (IsOnDay files (display_clock request.zone) request.window) list
 
+-- the key of each entry has a token
+abbrev pub HaveTokens : List Entry → Type 0
+HaveTokens list = (o : Entry) → IsIn o list → IsKey (rank_of o)
+
+abbrev pub HaveDayTokens : List OnDay → Type 0
+HaveDayTokens list = (p : OnDay) → IsIn p list → IsDayKey (day_rank_of p)
+
 -- What a request shows of the files: the text of the first entries of their listing after its key, up to its limit, and the token of the last of
 -- them, if the limit cuts the listing.
 pub record ShowsOnce (files : List FileSaid) (request : Request) (shown : List ℕ) (token : Option (List ℕ)) : Type 0 where
   pub list : List Entry
   pub listing : IsListingOf files request list
+  pub tokens : HaveTokens list
   pub shown_is : shown ≡ listing_text request (asked_after request list)
   pub token_is : token ≡ option_map spelling (key_on request.limit (asked_after request list))
 
@@ -41,6 +49,7 @@ pub record ShowsOnce (files : List FileSaid) (request : Request) (shown : List �
 pub record ShowsDays (files : List FileSaid) (request : Request) (every_day : EveryDay) (shown : List ℕ) (token : Option (List ℕ)) : Type 0 where
   pub list : List OnDay
   pub listing : IsDayListingOf files request list
+  pub tokens : HaveDayTokens list
   pub shown_is : shown ≡ days_text_of request (asked_after_day every_day list)
   pub token_is : token ≡ option_map day_spelling (day_key_on request.limit (asked_after_day every_day list))
 

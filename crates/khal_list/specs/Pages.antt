@@ -5,12 +5,12 @@ use Rattle.clap.specs.Words.{Text}
 use Rattle.ics_event.specs.Event.{FileSaid}
 use Rattle.ics_series.specs.After.{after_key}
 use Rattle.ics_series.specs.OnDays.{after_day_key, day_key_rank, day_rank_of, OnDay}
-use Rattle.ics_series.specs.Tokens.{day_spelling, IsDayKey, spelling, IsKey}
+use Rattle.ics_series.specs.Tokens.{day_spelling, spelling}
 use Rattle.ics_series.specs.Entry.{Entry, key_rank, rank_of}
 use Rattle.khal_list.specs.declared.every_day.EveryDay.{EveryDay}
 use Rattle.khal_list.specs.declared.request.Request.{Request}
 use Rattle.khal_words.specs.Entries.{entries_of}
-use Rattle.khal_list.specs.Headline.{IsDayListingOf, IsListingOf}
+use Rattle.khal_list.specs.Headline.{HaveDayTokens, HaveTokens, IsDayListingOf, IsListingOf}
 use Rattle.khal_list.specs.Listed.{asked_after, asked_after_day, first_of, is_cut, key_by}
 use Rattle.khal_list.specs.RequestOf.{after_text, RequestOf}
 use Rattle.khal_list.specs.Text.{Style, day_under, heading_text, text, text_after}
@@ -25,8 +25,8 @@ GoesOn =
 abbrev pub TokenGoesOn : Type 0
 TokenGoesOn =
     (words : List Text) (now : ℤ) (files : List FileSaid) (request : Request) (front : List Entry) (o : Entry) (behind : List Entry)
-    → RequestOf words now (Ok request) → request.every_day ≡ None → after_text (entries_of words) ≡ Some (spelling (rank_of o)) → IsKey (rank_of o)
-    → IsListingOf files request (front ++ o ∷ behind) → asked_after request (front ++ o ∷ behind) ≡ behind
+    → RequestOf words now (Ok request) → request.every_day ≡ None → after_text (entries_of words) ≡ Some (spelling (rank_of o))
+    → IsListingOf files request (front ++ o ∷ behind) → HaveTokens (front ++ o ∷ behind) → asked_after request (front ++ o ∷ behind) ≡ behind
 
 -- the listing under each day after the key of one of its entries is that of the entries after it
 abbrev pub DayGoesOn : Type 0
@@ -39,9 +39,8 @@ DayGoesOn =
 abbrev pub DayTokenGoesOn : Type 0
 DayTokenGoesOn =
     (words : List Text) (now : ℤ) (files : List FileSaid) (request : Request) (every_day : EveryDay) (front : List OnDay) (p : OnDay) (behind : List OnDay)
-    → RequestOf words now (Ok request) → request.every_day ≡ Some every_day → after_text (entries_of words) ≡ Some (day_spelling (day_rank_of p)) →
-    IsDayKey (day_rank_of p)
-    → IsDayListingOf files request (front ++ p ∷ behind) → asked_after_day every_day (front ++ p ∷ behind) ≡ behind
+    → RequestOf words now (Ok request) → request.every_day ≡ Some every_day → after_text (entries_of words) ≡ Some (day_spelling (day_rank_of p))
+    → IsDayListingOf files request (front ++ p ∷ behind) → HaveDayTokens (front ++ p ∷ behind) → asked_after_day every_day (front ++ p ∷ behind) ≡ behind
 
 -- the day under which the last of these entries is listed, or the day before them if there are none
 abbrev pub last_day : Style → Option ℤ → List Entry → Option ℤ
