@@ -1,5 +1,6 @@
--- The command line, as clap's model sees it: `list FOLDER [START [END]] [--zone Z] [--zones DIR] [--limit N] [--after TOKEN] [--notstarted]
--- [--every-day] [--format F] [--day-format F]` and `at FOLDER MOMENT [--zone Z] [--zones DIR]`.
+-- The command line, as clap's model sees it: `list FOLDER [START [END]] [--zone Z] [--zone-file FILE] [--zones DIR] [--limit N] [--after TOKEN]
+-- [--notstarted] [--every-day] [--format F] [--day-format F]` and `at FOLDER MOMENT [--zone Z] [--zone-file FILE] [--zones DIR]`. That model has no
+-- word for options that may not stand together.
 use Rattle.std.specs.Prelude.{true, List, Some, [], ◌∷◌, codes, fold, pos}
 use Rattle.clap.specs.Words.{App, Rule, Text, new_app, new_rule, with_rule, with_subcommand}
 use Rattle.clap.specs.Simple.{on_top}
@@ -29,7 +30,10 @@ abbrev pub moment : Rule
 moment = record (place (codes "moment")) { required = true }
 
 abbrev pub zone : Rule
-zone = record (option (codes "zone")) { defaults = codes "UTC" ∷ [] }
+zone = option (codes "zone")
+
+abbrev pub zone_file : Rule
+zone_file = option (codes "zone-file")
 
 abbrev pub zones : Rule
 zones = option (codes "zones")
@@ -54,10 +58,10 @@ day_format = option (codes "day-format")
 
 abbrev pub list_rules : List Rule
 list_rules =
-    folder ∷ start ∷ end ∷ zone ∷ zones ∷ limit ∷ after ∷ notstarted ∷ every_day ∷ format ∷ day_format ∷ []
+    folder ∷ start ∷ end ∷ zone ∷ zone_file ∷ zones ∷ limit ∷ after ∷ notstarted ∷ every_day ∷ format ∷ day_format ∷ []
 
 abbrev pub at_rules : List Rule
-at_rules = folder ∷ moment ∷ zone ∷ zones ∷ []
+at_rules = folder ∷ moment ∷ zone ∷ zone_file ∷ zones ∷ []
 
 abbrev pub with_rules : App → List Rule → App
 with_rules app rules = fold with_rule app rules
@@ -68,9 +72,9 @@ list_app = with_rules (new_app (codes "list")) list_rules
 abbrev pub at_app : App
 at_app = with_rules (new_app (codes "at")) at_rules
 
--- the command alone, which requires a subcommand
+-- the command alone, which requires a subcommand; the program's name is not among its words
 abbrev pub bare_app : App
-bare_app = on_top (λ top. record top { subcommand_required = true }) (new_app (codes "khal-list"))
+bare_app = on_top (λ top. record top { subcommand_required = true; no_binary_name = true }) (new_app (codes "khal-list"))
 
 abbrev pub khal_app : App
 khal_app = with_subcommand (with_subcommand bare_app list_app.top) at_app.top

@@ -1,11 +1,13 @@
--- What the words of the command line give: clap's entries of the subcommand that they name, or clap's refusal.
-use Rattle.std.specs.Prelude.{◌≡◌, ◌↔◌, ◌||◌, Bool, IsTrue, true, false, List, [], ◌∷◌, Option, Some, codes, option_and_then, unwrap_or, if◌then◌else◌}
+-- What the words of the command line after the program's name give: clap's entries of the subcommand that they name, or a refusal.
+use Rattle.std.specs.Prelude.{◌≡◌, ◌↔◌, ◌||◌, ◌&&◌, Bool, IsTrue, true, false, List, [], ◌∷◌, Option, Some, is_some, codes, option_and_then, unwrap_or}
+use Rattle.std.specs.Prelude.{if◌then◌else◌}
 use Rattle.std.specs.Option.{option_map_or}
 use Rattle.std.specs.Str.{bytes_eq}
+use Rattle.clap.specs.Kinds.{or_else}
 use Rattle.clap.specs.Walk.{first_of, one_of}
-use Rattle.clap.specs.Words.{Text, Row, subcommand_of, IsAmong, fault_of}
+use Rattle.clap.specs.Words.{Text, Row, subcommand_of, IsAmong, Kinds, fault_of}
 use Rattle.clap.specs.declared.error.kind.ErrorKind.{ErrorKind}
-use Rattle.clap.specs.declared.error.kind.ErrorKind.TheVariants.{DisplayHelp}
+use Rattle.clap.specs.declared.error.kind.ErrorKind.TheVariants.{ArgumentConflict, DisplayHelp}
 use Rattle.khal_words.specs.Commands.{khal_app}
 use Rattle.khal_words.specs.Formats.{day_default, entry_default}
 use Rattle.khal_words.specs.Limits.{IsLimit}
@@ -14,17 +16,9 @@ use Rattle.khal_words.specs.Limits.{IsLimit}
 abbrev pub Entries : Type 0
 Entries = Option (Text × List Row)
 
--- the words with the program's name before them, as clap takes them
-abbrev pub with_name : List Text → List Text
-with_name words = codes "khal-list" ∷ words
-
--- the subcommand that these words name, with its entries; the first word is the program's name
-abbrev pub entries_in : List Text → Entries
-entries_in words = subcommand_of khal_app words
-
--- the same for the words after that name
+-- the subcommand that these words name, with its entries
 abbrev pub entries_of : List Text → Entries
-entries_of words = entries_in (with_name words)
+entries_of words = subcommand_of khal_app words
 
 -- the entry of this name
 abbrev pub entry : Text → Entries → Option Text
@@ -44,6 +38,14 @@ format_text entries = text_or (codes "format") entry_default entries
 
 abbrev pub day_format_text : Entries → Text
 day_format_text entries = text_or (codes "day-format") day_default entries
+
+-- the text of `--zone`, or UTC if it is not given
+abbrev pub zone_text : Entries → Text
+zone_text entries = text_or (codes "zone") (codes "UTC") entries
+
+-- the path of `--zone-file`, if it is given
+abbrev pub zone_file_text : Entries → Option Text
+zone_file_text entries = entry (codes "zone-file") entries
 
 -- the text of `--zones`, if it is given
 abbrev pub zones_text : Entries → Option Text
@@ -86,12 +88,24 @@ span_of entries =
     if is_at entries then At (entries_text (codes "moment") entries)
     else FromTo (entry (codes "start") entries) (entries_text (codes "end") entries)
 
--- clap accepts the words
-abbrev pub AreTaken : List Text → Type 0
-AreTaken words = fault_of khal_app (with_name words) ≡ []
+-- both options are given that name the display zone
+abbrev pub has_two_zones : Entries → Bool
+has_two_zones entries = is_some (entry (codes "zone") entries) && is_some (zone_file_text entries)
 
--- clap refuses the words, and not because an allocation failed; it shows help or not
+-- the kinds of a refusal of entries that clap takes: those two options may not stand together
+abbrev pub conflict_of : Entries → Kinds
+conflict_of entries = if has_two_zones entries then ArgumentConflict ∷ [] else []
+
+-- the kinds of a refusal of the words: those of clap's and, if clap takes the words, that one
+abbrev pub refusal_of : List Text → Kinds
+refusal_of words = or_else (fault_of khal_app words) (conflict_of (entries_of words))
+
+-- the words are not refused
+abbrev pub AreTaken : List Text → Type 0
+AreTaken words = refusal_of words ≡ []
+
+-- the words are refused, and not because an allocation failed; help is shown or not
 pub record IsRefused (words : List Text) (help : Bool) : Type 0 where
   pub kind : ErrorKind
-  pub among : IsAmong kind (fault_of khal_app (with_name words))
+  pub among : IsAmong kind (refusal_of words)
   pub asks : IsTrue help ↔ (kind ≡ DisplayHelp)

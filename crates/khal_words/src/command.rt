@@ -1,38 +1,45 @@
 //! The program's command line, as clap takes it.
 ghost use Rattle.std.specs.Prelude.{◌≡◌, IfOk, false, map};
 ghost use Rattle.std.specs.List.{AllByRecursion};
-ghost use Rattle.clap.specs.Words.{App, app_of, new_app, rule_of, with_subcommand};
+ghost use Rattle.clap.specs.Words.{App, app_of, kind_of, new_app, rule_of, with_subcommand};
 ghost use Rattle.clap.specs.declared.builder.command.Command.TheViews.{out-Command};
+ghost use Rattle.clap.specs.declared.error.kind.ErrorKind.TheVariants.{ArgumentConflict};
 ghost use Rattle.khal_words.specs.Commands as spec;
 
-use clap::{Arg, ArgAction, Command};
+use clap::error::ErrorKind;
+use clap::{Arg, ArgAction, Command, Error};
 use std::alloc::{AllocError, Global};
 
 /// The text below the help of the program.
-const EXAMPLES: &str = "Examples:
-  khal-list list ~/calendars --zone=\"$(tail -n1 /etc/localtime)\"
+const EXAMPLES: &str = "Without a time zone all times, and `today`, are in UTC.
+
+Examples:
+  khal-list list ~/calendars --zone-file /etc/localtime
       today and tomorrow, by the clock of this machine
   khal-list list ~/calendars 2024-01-01 7d
-      a week
+      a week, in UTC
   khal-list at ~/calendars 2024-01-03T14:00
-      what is on at a moment
+      what is on at a moment, in UTC
 
 `khal-list list --help` lists the options, and `man khal-list` says more.";
 
 /// The text below the help of `list`.
-const LIST_EXAMPLES: &str = "Placeholders of --format:
+const LIST_EXAMPLES: &str = "Without a time zone all times, and `today`, are in UTC.
+
+Placeholders of --format:
   {cell} {title} {start-time} {end-time} {start-date} {end-date} {location}
   {description} {uid} {cancelled}
 
 Examples:
-  khal-list list ~/calendars --zone=\"$(tail -n1 /etc/localtime)\"
-  khal-list list ~/calendars 2024-01-01 7d --zone=EST5EDT,M3.2.0,M11.1.0
+  khal-list list ~/calendars --zone-file /etc/localtime
   khal-list list ~/calendars 2024-01-01 2024-01-31 --limit 10
   khal-list list ~/calendars --format '{start-time} {title}' --day-format ''";
 
 /// The text below the help of `at`.
-const AT_EXAMPLES: &str = "Examples:
-  khal-list at ~/calendars 2024-01-03T14:00
+const AT_EXAMPLES: &str = "Without a time zone all times are in UTC.
+
+Examples:
+  khal-list at ~/calendars 2024-01-03T14:00 --zone-file /etc/localtime
   khal-list at ~/calendars 2024-01-03T14:00 --zone=-05:00";
 
 /// The heading of the options that choose entries.
@@ -49,10 +56,13 @@ const START: &str = "YYYY-MM-DD or YYYY-MM-DDTHH:MM [default: today]";
 const END: &str =
     "A date (that day is listed too), a date-time (up to it),{n}or Nd (N days from START)";
 
-const MOMENT: &str = "YYYY-MM-DDTHH:MM, by the clock of --zone";
+const MOMENT: &str = "YYYY-MM-DDTHH:MM, by the clock of the time zone";
 
 const ZONE: &str =
-    "The time zone: UTC, an offset (--zone=-05:00), or a{n}POSIX TZ rule (EST5EDT,M3.2.0,M11.1.0)";
+    "The time zone: UTC, an offset (--zone=-05:00), or a{n}POSIX TZ string, one rule for all years [default: UTC]";
+
+const ZONE_FILE: &str =
+    "The time zone by its file: /etc/localtime for one's{n}own, or e.g. /usr/share/zoneinfo/Europe/Berlin";
 
 const ZONES: &str =
     "Zone files for names that a calendar does not{n}define, e.g. /usr/share/zoneinfo";
@@ -70,14 +80,19 @@ const FORMAT: &str = "An entry's line [default: {cell} {title}]";
 
 const DAY_FORMAT: &str = "A day's heading [default: {name}, {date}]";
 
-/// The program's command: `list FOLDER [START [END]] [--zone Z] [--zones DIR] [--limit N]
-/// [--after TOKEN] [--notstarted] [--every-day] [--format F] [--day-format F]` and
-/// `at FOLDER MOMENT [--zone Z] [--zones DIR]`.
+/// What is said of words that name the display zone twice.
+const TWO_ZONES: &str = "the argument '--zone <Z>' cannot be used with '--zone-file <FILE>'";
+
+/// The program's command: `list FOLDER [START [END]] [--zone Z | --zone-file FILE] [--zones DIR]
+/// [--limit N] [--after TOKEN] [--notstarted] [--every-day] [--format F] [--day-format F]` and
+/// `at FOLDER MOMENT [--zone Z | --zone-file FILE] [--zones DIR]`. That `--zone` and `--zone-file` do
+/// not stand together is checked apart: the entries of a command with conflicts have no definition.
 pub(crate) fn command<'a>(alloc: Global) -> Result<Command<'a>, AllocError>
     ensures shape { IfOk result (λ c. app_of c ≡ spec.khal_app) }
     ensures local { IfOk result (λ c. (out-Command c).has_globals ≡ false) }
 {
-    let command = add(bare_command(alloc), list_command(alloc))?;
+    let bare = bare_command(alloc)?;
+    let command = add(bare, list_command(alloc))?;
     add(command, at_command(alloc))
 }
 
@@ -101,14 +116,16 @@ fn add<'a>(
     }
 }
 
-fn bare_command<'a>(alloc: Global) -> Command<'a>
-    ensures shape { app_of result ≡ spec.bare_app }
-    ensures local { (out-Command result).has_globals ≡ false }
+fn bare_command<'a>(alloc: Global) -> Result<Command<'a>, AllocError>
+    ensures shape { IfOk result (λ c. app_of c ≡ spec.bare_app) }
+    ensures local { IfOk result (λ c. (out-Command c).has_globals ≡ false) }
 {
     Command::new(alloc, "khal-list")
         .about("Lists the events of a folder of iCalendar files (RFC 5545)")
         .after_help(EXAMPLES)
         .subcommand_required(true)
+        .no_binary_name(true)
+        .bin_name("khal-list")
 }
 
 fn list_command<'a>(alloc: Global) -> Result<Command<'a>, AllocError>
@@ -139,6 +156,18 @@ fn at_command<'a>(alloc: Global) -> Result<Command<'a>, AllocError>
     )
 }
 
+/// The refusal of words that name the display zone twice, in the form of clap's own.
+pub(crate) fn two_zones(alloc: Global, is_moment: bool) -> Result<Error, AllocError>
+    ensures { IfOk result (λ error. kind_of error ≡ ArgumentConflict) }
+{
+    let mut command = if is_moment {
+        at_command(alloc)?.bin_name("khal-list at")?
+    } else {
+        list_command(alloc)?.bin_name("khal-list list")?
+    };
+    command.error(ErrorKind::ArgumentConflict, TWO_ZONES)
+}
+
 /// A subcommand with these arguments.
 fn subcommand<'a>(
     alloc: Global,
@@ -165,7 +194,8 @@ fn list_args<'a>(alloc: Global) -> Result<Vec<Arg<'a>>, AllocError>
         folder(alloc),
         argument(alloc, "start", "START", START),
         argument(alloc, "end", "END", END).default_value("2d"),
-        zone(alloc),
+        option(alloc, "zone", "Z", WHICH_ENTRIES, ZONE),
+        option(alloc, "zone-file", "FILE", WHICH_ENTRIES, ZONE_FILE),
         option(alloc, "zones", "DIR", WHICH_ENTRIES, ZONES),
         limit(alloc),
         option(alloc, "after", "TOKEN", WHICH_ENTRIES, AFTER),
@@ -183,7 +213,8 @@ fn at_args<'a>(alloc: Global) -> Result<Vec<Arg<'a>>, AllocError>
     Ok(vec![in alloc;
         folder(alloc),
         argument(alloc, "moment", "MOMENT", MOMENT).required(true),
-        zone(alloc),
+        option(alloc, "zone", "Z", WHICH_ENTRIES, ZONE),
+        option(alloc, "zone-file", "FILE", WHICH_ENTRIES, ZONE_FILE),
         option(alloc, "zones", "DIR", WHICH_ENTRIES, ZONES),
     ]?)
 }
@@ -229,13 +260,6 @@ fn folder<'a>(alloc: Global) -> Arg<'a>
     ensures local { result.global ≡ false }
 {
     argument(alloc, "folder", "FOLDER", FOLDER).required(true)
-}
-
-fn zone<'a>(alloc: Global) -> Arg<'a>
-    ensures rule { rule_of result ≡ spec.zone }
-    ensures local { result.global ≡ false }
-{
-    option(alloc, "zone", "Z", WHICH_ENTRIES, ZONE).default_value("UTC")
 }
 
 fn limit<'a>(alloc: Global) -> Arg<'a>

@@ -16,4 +16,4 @@ pub use format_laws::one_format;
 pub use formats::{Formats, formats_of};
 pub use span::Span;
 pub use window_text::WindowText;
-pub use words::{entry, is_given, limit_of, matches, text};
+pub use words::{entry, is_given, limit_of, matches, text, zone_file, zone_text};
