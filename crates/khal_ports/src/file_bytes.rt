@@ -17,10 +17,20 @@ pub(crate) fn read_front<R: Files>(
     let Ok(path) = format!(in alloc; "{folder}/{name}") else {
         return Err(SourceFault::Memory);
     };
-    if !is_there(rt, path.as_str())? {
+    read_path(rt, alloc, path.as_str(), most)
+}
+
+/// The same of the file with this path. Links are followed.
+pub(crate) fn read_path<R: Files>(
+    rt: &R,
+    alloc: Global,
+    path: &str,
+    most: u64,
+) -> Result<Option<Vec<u8>>, SourceFault> {
+    if !is_there(rt, path)? {
         return Ok(None);
     }
-    read_some(rt, alloc, path.as_str(), most)
+    read_some(rt, alloc, path, most)
 }
 
 /// Whether there is a file with this path. Anything else there is a fault: a pipe or a terminal would have

@@ -12,6 +12,7 @@ mod no_zones;
 mod sink;
 mod source;
 mod stream;
+mod zone_path;
 mod zone_source;
 
 pub use fault::{RunFault, SinkFault, SourceFault};
@@ -24,4 +25,5 @@ pub use no_zones::NoZones;
 pub use sink::{Sink, put_all};
 pub use source::{MOST_BYTES, Source};
 pub use stream::Stream;
+pub use zone_path::read_zone_file;
 pub use zone_source::{MOST_ZONE_BYTES, ZoneSource};
