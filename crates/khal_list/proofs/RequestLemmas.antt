@@ -4,9 +4,7 @@ use Rattle.std.specs.Prelude.{IsErrOf, IsSome}
 use Rattle.std.specs.Result.{IsErrAnd}
 use Rattle.std.proofs.lemmas.Result.{err_from_is_err_and}
 use Rattle.clap.specs.Words.{Text}
-use Rattle.ics_zone.specs.DisplayTexts.{display_of}
-use Rattle.ics_zone.specs.ZoneSaid.{display_said}
-use Rattle.ics_zone.specs.declared.display.Display.{Display}
+use Rattle.ics_zone.specs.ZoneSaid.{ZoneSaid}
 use Rattle.ics_series.specs.OnDays.{day_key_rank, DayRank}
 use Rattle.ics_series.specs.Entry.{key_rank, Rank}
 use Rattle.ics_series.specs.Tokens.{day_spelling, spelling}
@@ -18,7 +16,7 @@ use Rattle.ics_series.specs.declared.window.Window.{Window}
 use Rattle.khal_words.specs.Entries.{Entries, day_format_text, format_text, span_of}
 use Rattle.khal_words.specs.Formats.{day_name, entry_name, IsFormat}
 use Rattle.khal_list.specs.RequestFaults.{format_fault, token_fault}
-use Rattle.khal_list.specs.RequestOf.{EntriesAnswer, HasWindow, IsAfterBy, IsDayKeyOf, IsKeyOf, IsNoDayKey, IsNoKey, IsNoToken, after_text, zone_text}
+use Rattle.khal_list.specs.RequestOf.{AnswerIn, IsAfterBy, IsDayKeyOf, IsKeyOf, IsNoDayKey, IsNoKey, IsNoToken, after_text}
 use Rattle.khal_list.specs.Windows.{ends_of}
 use Rattle.khal_list.specs.declared.every_day.EveryDay.{EveryDay}
 use Rattle.khal_words.specs.declared.format.FormatFault.{FormatFault}
@@ -37,35 +35,37 @@ token_of (Some text) (Some key) p bad = bad.none (key_rank key, p.0, (cc))
 token_of given key p bad = absurd (first_of (assumption, cc bad.stands))
 
 -- and one that gives a key under a day is a token, or one of an entry under a day
-day_token_of : (zone : Display) (window : Window) (given : Option Text) (key : Option DayKey) → IsDayKeyOf zone window given key → IsNoDayKey given → ⊥
+day_token_of : (zone : ZoneSaid) (window : Window) (given : Option Text) (key : Option DayKey) → IsDayKeyOf zone window given key → IsNoDayKey given → ⊥
 day_token_of zone window (Some text) (Some key) (inl p) bad = bad.no_day (day_key_rank key, p.0, (cc))
 day_token_of zone window (Some text) (Some key) (inr p) bad = bad.none (key_rank key.key, p.0, (cc))
 day_token_of zone window given key p bad = absurd (first_of (assumption, cc bad.stands))
 
 -- what gives the keys after which a listing goes on is a token
-pub good_token : {entries : Entries} (zone : Display) (window : Window) (after : Option Key) (every_day : Option EveryDay) →
+pub good_token : {entries : Entries} (zone : ZoneSaid) (window : Window) (after : Option Key) (every_day : Option EveryDay) →
     IsAfterBy entries zone window after every_day → IsNoToken entries → ⊥
 good_token {entries = entries} zone window after None p bad = token_of (after_text entries) after p.1 bad.key
 good_token {entries = entries} zone window after (Some every_day) p bad = day_token_of zone window (after_text entries) every_day.after p.2 (bad.day_key p.0)
 
-module _ (entries : Entries) (now : ℤ) where
-  pub has_window : (display : Display) (window : Window) → Some (display_said display) ≡ display_of (zone_text entries)
-      → Some (window.from, window.to) ≡ ends_of display now (span_of entries) → HasWindow entries now
-  has_window display window zone ends = record { display = display; zone = zone; some = subst IsSome ends refl }
+module _ (entries : Entries) (zone : ZoneSaid) (now : ℤ) where
+  abbrev pub Windowed : Type 0
+  Windowed = IsSome (ends_of zone now (span_of entries))
+
+  pub has_window : (window : Window) → Some (window.from, window.to) ≡ ends_of zone now (span_of entries) → Windowed
+  has_window window ends = subst IsSome ends refl
 
   -- the fault that `?` passes on
-  passed_on : (r : Result Request RequestFault) (fault : RequestFault) → IsErrAnd r (λ f. f ≡ fault) → EntriesAnswer entries now (Err fault) →
-      EntriesAnswer entries now r
-  passed_on r fault is h = let e = err_from_is_err_and r is in subst (EntriesAnswer entries now) (sym (e.1 ∙ ap Err e.2)) h
+  passed_on : (r : Result Request RequestFault) (fault : RequestFault) → IsErrAnd r (λ f. f ≡ fault) → AnswerIn entries zone now (Err fault) →
+      AnswerIn entries zone now r
+  passed_on r fault is h = let e = err_from_is_err_and r is in subst (AnswerIn entries zone now) (sym (e.1 ∙ ap Err e.2)) h
 
   pub no_token : {T : Type 0} (r : Result Request RequestFault) (fault : TokenFault) → IsErrAnd r (λ f. f ≡ token_fault fault)
-      → HasWindow entries now → (IsErrOf {T = T} (Err fault) token.BadToken → IsNoToken entries) → EntriesAnswer entries now r
+      → Windowed → (IsErrOf {T = T} (Err fault) token.BadToken → IsNoToken entries) → AnswerIn entries zone now r
   no_token r token.BadToken gives window bad = passed_on r BadToken gives (record { window = window; token = bad refl })
   no_token r token.Memory gives window bad = passed_on r Memory gives tt
 
   pub no_format : {T : Type 0} (r : Result Request RequestFault) (fault : FormatFault) → IsErrAnd r (λ f. f ≡ format_fault fault)
-      → HasWindow entries now → (¬ IsNoToken entries)
+      → Windowed → (¬ IsNoToken entries)
       → (IsErrOf {T = T} (Err fault) format.BadFormat → (¬ IsFormat entry_name (format_text entries)) ⊎ (¬ IsFormat day_name (day_format_text entries))) →
-      EntriesAnswer entries now r
+      AnswerIn entries zone now r
   no_format r format.BadFormat gives window token bad = passed_on r BadFormat gives (record { window = window; token = token; none = bad refl })
   no_format r format.Memory gives window token bad = passed_on r Memory gives tt

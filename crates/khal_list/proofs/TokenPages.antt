@@ -4,7 +4,7 @@ use Rattle.std.specs.Option.{option_map}
 use Rattle.std.proofs.lemmas.List.{map-append}
 use Rattle.std.proofs.lemmas.Cmp.{int_eq_equiv}
 use Rattle.clap.specs.Words.{Text}
-use Rattle.ics_zone.specs.declared.display.Display.{Display}
+use Rattle.ics_zone.specs.ZoneSaid.{ZoneSaid}
 use Rattle.ics_series.specs.Clocks.{display_clock}
 use Rattle.ics_series.specs.Listing.{IsIn}
 use Rattle.ics_series.specs.OnDays.{day_key_rank, DayRank, DayListingBehind, after_day_key}
@@ -13,7 +13,6 @@ use Rattle.ics_series.specs.Entry.{Entry, Rank, key_rank}
 use Rattle.ics_series.specs.declared.day_key.DayKey.{DayKey}
 use Rattle.ics_series.specs.declared.window.Window.{Window}
 use Rattle.ics_series.specs.declared.key.Key.{Key}
-use Rattle.khal_words.specs.Entries.{entries_of}
 use Rattle.khal_list.specs.Pages.{DayGoesOn, DayTokenGoesOn, TextGoesOn, TextSplits, TokenGoesOn, last_day}
 use Rattle.khal_list.specs.RequestOf.{after_text, IsAfterBy, IsDayKeyOf, IsKeyOf}
 use Rattle.khal_list.specs.Text.{Style, day_under, heading_text, line_text, text, text_after, under}
@@ -34,16 +33,16 @@ stands-in [] x behind = inl refl
 stands-in (y ∷ ys) x behind = inr (stands-in ys x behind)
 
 pub token-goes-on : OneSpelling → TokenGoesOn
-token-goes-on one words now files request front o behind r once given listing tokens =
-    let after = subst (λ e. IsAfterBy (entries_of words) request.zone request.window request.after e) once r.1.after in
-    goes-on request front o behind listing (key-named one (after_text (entries_of words)) request.after after.1 given (tokens o (stands-in front o behind)))
+token-goes-on one entries zone now files request front o behind r once given listing tokens =
+    let after = subst (λ e. IsAfterBy entries zone request.window request.after e) once r.after in
+    goes-on request front o behind listing (key-named one (after_text entries) request.after after.1 given (tokens o (stands-in front o behind)))
 
 pub day-goes-on : DayListingBehind → DayGoesOn
 day-goes-on behind-is files request every_day front p behind listing after =
     ap (λ k. after_day_key k (front ++ p ∷ behind)) after ∙ behind-is files (display_clock request.zone) request.window front p behind listing
 
 -- the key under a day that the words name is that of the token
-module _ (one : OneDaySpelling) (zone : Display) (window : Window) where
+module _ (one : OneDaySpelling) (zone : ZoneSaid) (window : Window) where
   day-key-named : (given : Option Text) (key : Option DayKey) {rank : DayRank} → IsDayKeyOf zone window given key
       → given ≡ Some (day_spelling rank) → IsDayKey rank → option_map day_key_rank key ≡ Some rank
   day-key-named (Some text) (Some key) {rank = rank} (inl h) e k = ap Some (one (day_key_rank key) rank h.0 k (cc))
@@ -51,10 +50,10 @@ module _ (one : OneDaySpelling) (zone : Display) (window : Window) where
   day-key-named given key h e k = absurd (first_of (assumption, cc))
 
 pub day-token-goes-on : OneDaySpelling → DayListingBehind → DayTokenGoesOn
-day-token-goes-on one behind-is words now files request every_day front p behind r some given listing tokens =
-    let after = subst (λ e. IsAfterBy (entries_of words) request.zone request.window request.after e) some r.1.after in
+day-token-goes-on one behind-is entries zone now files request every_day front p behind r some given listing tokens =
+    let after = subst (λ e. IsAfterBy entries zone request.window request.after e) some r.after in
     day-goes-on behind-is files request every_day front p behind listing
-    (day-key-named one request.zone request.window (after_text (entries_of words)) every_day.after after.2 given (tokens p (stands-in front p behind)))
+    (day-key-named one zone request.window (after_text entries) every_day.after after.2 given (tokens p (stands-in front p behind)))
 
 last-under : (style : Style) (before : Option ℤ) (front : List Entry) → Printed.last_day before (map (under style) front) ≡ last_day style before front
 last-under style before [] = refl

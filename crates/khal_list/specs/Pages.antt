@@ -1,7 +1,7 @@
 -- Listings that continue from a key, and the pages that limits cut.
-use Rattle.std.specs.Prelude.{◌≡◌, ◌+◌, ◌≤◌, ⊤, ℕ, ℤ, Ok, List, [], ◌∷◌, ◌++◌, Option, Some, None, length, if◌then◌else◌}
+use Rattle.std.specs.Prelude.{◌≡◌, ◌+◌, ◌≤◌, ⊤, ℕ, ℤ, List, [], ◌∷◌, ◌++◌, Option, Some, None, length, if◌then◌else◌}
 use Rattle.std.specs.Option.{option_map}
-use Rattle.clap.specs.Words.{Text}
+use Rattle.ics_zone.specs.ZoneSaid.{ZoneSaid}
 use Rattle.ics_event.specs.Event.{FileSaid}
 use Rattle.ics_series.specs.After.{after_key}
 use Rattle.ics_series.specs.OnDays.{after_day_key, day_key_rank, day_rank_of, OnDay}
@@ -9,10 +9,10 @@ use Rattle.ics_series.specs.Tokens.{day_spelling, spelling}
 use Rattle.ics_series.specs.Entry.{Entry, key_rank, rank_of}
 use Rattle.khal_list.specs.declared.every_day.EveryDay.{EveryDay}
 use Rattle.khal_list.specs.declared.request.Request.{Request}
-use Rattle.khal_words.specs.Entries.{entries_of}
 use Rattle.khal_list.specs.Headline.{HaveDayTokens, HaveTokens, IsDayListingOf, IsListingOf}
 use Rattle.khal_list.specs.Listed.{asked_after, asked_after_day, first_of, is_cut, key_by}
-use Rattle.khal_list.specs.RequestOf.{after_text, RequestOf}
+use Rattle.khal_words.specs.Entries.{Entries}
+use Rattle.khal_list.specs.RequestOf.{after_text, IsRequest}
 use Rattle.khal_list.specs.Text.{Style, day_under, heading_text, text, text_after}
 
 -- the listing after the key of one of its entries is that of the entries after it
@@ -21,11 +21,12 @@ GoesOn =
     (files : List FileSaid) (request : Request) (front : List Entry) (o : Entry) (behind : List Entry) → IsListingOf files request (front ++ o ∷ behind)
     → option_map key_rank request.after ≡ Some (rank_of o) → asked_after request (front ++ o ∷ behind) ≡ behind
 
--- words whose `--after` has the token of an entry of the listing, and which do not have `--every-day`, ask for exactly the entries after it
+-- in each display zone, words whose `--after` has the token of an entry of the listing, and which do not have `--every-day`, ask for exactly the
+-- entries after it
 abbrev pub TokenGoesOn : Type 0
 TokenGoesOn =
-    (words : List Text) (now : ℤ) (files : List FileSaid) (request : Request) (front : List Entry) (o : Entry) (behind : List Entry)
-    → RequestOf words now (Ok request) → request.every_day ≡ None → after_text (entries_of words) ≡ Some (spelling (rank_of o))
+    (entries : Entries) (zone : ZoneSaid) (now : ℤ) (files : List FileSaid) (request : Request) (front : List Entry) (o : Entry) (behind : List Entry)
+    → IsRequest entries zone now request → request.every_day ≡ None → after_text entries ≡ Some (spelling (rank_of o))
     → IsListingOf files request (front ++ o ∷ behind) → HaveTokens (front ++ o ∷ behind) → asked_after request (front ++ o ∷ behind) ≡ behind
 
 -- the listing under each day after the key of one of its entries is that of the entries after it
@@ -35,11 +36,12 @@ DayGoesOn =
     IsDayListingOf files request (front ++ p ∷ behind)
     → option_map day_key_rank every_day.after ≡ Some (day_rank_of p) → asked_after_day every_day (front ++ p ∷ behind) ≡ behind
 
--- words with `--every-day` whose `--after` has the token of an entry under its day ask for exactly the entries after it
+-- in each display zone, words with `--every-day` whose `--after` has the token of an entry under its day ask for exactly the entries after it
 abbrev pub DayTokenGoesOn : Type 0
 DayTokenGoesOn =
-    (words : List Text) (now : ℤ) (files : List FileSaid) (request : Request) (every_day : EveryDay) (front : List OnDay) (p : OnDay) (behind : List OnDay)
-    → RequestOf words now (Ok request) → request.every_day ≡ Some every_day → after_text (entries_of words) ≡ Some (day_spelling (day_rank_of p))
+    (entries : Entries) (zone : ZoneSaid) (now : ℤ) (files : List FileSaid) (request : Request) (every_day : EveryDay)
+    (front : List OnDay) (p : OnDay) (behind : List OnDay)
+    → IsRequest entries zone now request → request.every_day ≡ Some every_day → after_text entries ≡ Some (day_spelling (day_rank_of p))
     → IsDayListingOf files request (front ++ p ∷ behind) → HaveDayTokens (front ++ p ∷ behind) → asked_after_day every_day (front ++ p ∷ behind) ≡ behind
 
 -- the day under which the last of these entries is listed, or the day before them if there are none

@@ -2,8 +2,6 @@
 use Rattle.std.specs.Prelude.{◌≡◌, ◌≢◌, ◌↔◌, ℕ, List, IsTrue, codes}
 use Rattle.clap.specs.declared.error.kind.ErrorKind.{ErrorKind}
 use Rattle.clap.specs.declared.error.kind.ErrorKind.TheVariants.{DisplayHelp, OutOfMemory}
-use Rattle.ics_zone.specs.declared.display_fault.DisplayFault.{DisplayFault}
-use Rattle.ics_zone.specs.declared.display_fault.DisplayFault.TheVariants as zone
 use Rattle.ics_series.specs.declared.token.TokenFault.{TokenFault}
 use Rattle.ics_series.specs.declared.token.TokenFault.TheVariants as token
 use Rattle.khal_words.specs.declared.format.FormatFault.{FormatFault}
@@ -27,11 +25,6 @@ IsFaultOf kind BadWindow = ⊥
 IsFaultOf kind BadToken = ⊥
 IsFaultOf kind BadFormat = ⊥
 IsFaultOf kind Memory = Unit {0}
-
--- the fault of a text that is not a display zone
-abbrev pub zone_fault : DisplayFault → RequestFault
-zone_fault zone.BadZone = BadZone
-zone_fault zone.Memory = Memory
 
 -- the fault of a text that is not a token
 abbrev pub token_fault : TokenFault → RequestFault

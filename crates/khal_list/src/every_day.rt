@@ -3,6 +3,7 @@ ghost use Rattle.std.specs.Prelude.{◌≡◌, IfOk, IsErrOf, codes, option_map}
 ghost use Rattle.clap.specs.Words.{subcommand_rows_of};
 ghost use Rattle.ics_series.specs.OnDays.{day_key_rank};
 ghost use Rattle.ics_series.specs.Tokens.{IsDayToken, IsToken};
+ghost use Rattle.ics_zone.specs.ZoneSaid.{display_said};
 ghost use Rattle.khal_words.specs.Entries.{IsFlag};
 ghost use Rattle.khal_list.specs.RequestOf as spec;
 
@@ -36,7 +37,7 @@ impl After {
         window: &Window,
     ) -> Result<After, TokenFault>
         requires { IsFlag (codes "every-day") (subcommand_rows_of found.now) }
-        ensures ok { IfOk result (λ after. spec.IsAfterBy (subcommand_rows_of found.now) zone.now window.now after.once after.every_day) }
+        ensures ok { IfOk result (λ after. spec.IsAfterBy (subcommand_rows_of found.now) (display_said zone.now) window.now after.once after.every_day) }
         ensures bad { IsErrOf result TokenFault.BadToken → spec.IsNoToken (subcommand_rows_of found.now) }
     {
         let token = entry(found, "after");
@@ -74,7 +75,7 @@ fn day_key_of(
     zone: &Display,
     window: &Window,
 ) -> Result<Option<DayKey>, TokenFault>
-    ensures ok { IfOk result (spec.IsDayKeyOf zone.now window.now (option_map (λ text. text.now) token.entry)) }
+    ensures ok { IfOk result (spec.IsDayKeyOf (display_said zone.now) window.now (option_map (λ text. text.now) token.entry)) }
     ensures bad { IsErrOf result TokenFault.BadToken → spec.IsNoDayKey (option_map (λ text. text.now) token.entry) }
 {
     match token {
@@ -90,7 +91,7 @@ fn day_key_by(
     zone: &Display,
     window: &Window,
 ) -> Result<DayKey, TokenFault>
-    ensures ok { IfOk result (λ key. spec.IsDayKeyBy zone.now window.now token.now (day_key_rank key)) }
+    ensures ok { IfOk result (λ key. spec.IsDayKeyBy (display_said zone.now) window.now token.now (day_key_rank key)) }
     ensures key { IsErrOf result TokenFault.BadToken → ¬ IsToken token.now }
     ensures day { IsErrOf result TokenFault.BadToken → ¬ IsDayToken token.now }
 {
@@ -105,7 +106,7 @@ fn day_key_by(
 
 // The day under which a listing goes on after an occurrence with this start.
 fn day_from(zone: &Display, window: &Window, start: Moment) -> i32
-    ensures { result ≡ spec.day_from zone.now window.now start }
+    ensures { result ≡ spec.day_from (display_said zone.now) window.now start }
 {
     if start < window.to {
         date_at(zone, start.max(window.from))

@@ -16,12 +16,14 @@ mod request_fault;
 mod resuming;
 mod running;
 mod window;
+mod words;
 
 pub use every_day::EveryDay;
+pub use ics_zone::Display;
 pub use khal_ports::{
     FolderSource, FolderZones, MOST_BYTES, MOST_ZONE_BYTES, MemoryFile, MemorySink, MemorySource,
     MemoryZone, MemoryZones, NoZones, RunFault, Sink, SinkFault, Source, SourceFault, Stream,
-    ZoneSource,
+    ZoneSource, read_zone_file,
 };
 pub use khal_reading::{Status, without_zones};
 pub use khal_words::{
@@ -35,3 +37,4 @@ pub use resuming::{
     day_goes_on, day_pages, day_token_goes_on, goes_on, pages, text_goes_on, token_goes_on,
 };
 pub use running::run;
+pub use words::{Words, zone_of_file};

@@ -5,7 +5,6 @@ ghost use Rattle.clap.specs.Words.{kind_of};
 use clap::Error;
 use clap::error::ErrorKind;
 use ics_series::TokenFault;
-use ics_zone::DisplayFault;
 use khal_words::FormatFault;
 use std::alloc::{AllocError, Global};
 use thiserror::Error as ErrorText;
@@ -14,10 +13,10 @@ use thiserror::Error as ErrorText;
 #[derive(Debug, Drop, ErrorText)]
 #[error("{}", self.name())]
 pub enum RequestFault {
-    /// clap refuses the words and says why in `text`. `help` is set if they ask for help.
+    /// The words are refused, and `text` says why. `help` is set if they ask for help.
     #[error("{text}")]
     Usage { text: String, help: bool },
-    /// `--zone` does not name a display zone.
+    /// `--zone` does not name a display zone, or jiff refuses the bytes of a zone file.
     BadZone,
     /// The words do not name a window, or name one that is empty or out of bounds.
     BadWindow,
@@ -69,20 +68,6 @@ impl From<AllocError> for RequestFault {
 
     fn from(_error: AllocError) -> RequestFault {
         RequestFault::Memory
-    }
-}
-
-impl From<DisplayFault> for RequestFault {
-    ghost use Rattle.std.specs.Prelude.{◌≡◌};
-    ghost use Rattle.khal_list.specs.RequestFaults.{zone_fault};
-
-    ghost from_gives = { λ display fault. fault ≡ zone_fault display };
-
-    fn from(fault: DisplayFault) -> RequestFault {
-        match fault {
-            DisplayFault::BadZone => RequestFault::BadZone,
-            DisplayFault::Memory => RequestFault::Memory,
-        }
     }
 }
 

@@ -32,7 +32,7 @@ pub(crate) fn window_of(
     span: Span<'_>,
     notstarted: bool,
 ) -> Option<Window>
-    ensures ends { ends_by result ≡ spec.ends_of zone.now now (span_by span.entry) }
+    ensures ends { ends_by result ≡ spec.ends_of (display_said zone.now) now (span_by span.entry) }
     ensures flag { IfSome result (λ w. w.notstarted ≡ notstarted) }
 {
     match span {
@@ -53,7 +53,7 @@ pub(crate) fn window_of(
 // START's local, or today's midnight if it is left out.
 fn start_said(zone: &Display, now: Moment, text: Option<&str>) -> Option<Local>
     ensures value { option_map (λ l. local_seconds l) result
-        ≡ spec.start_said zone.now now (option_map (λ t. t.now) text.entry) }
+        ≡ spec.start_said (display_said zone.now) now (option_map (λ t. t.now) text.entry) }
     ensures bound { IfSome result (λ l. IsEpochDay l.day) }
 {
     let Some(text) = text else {
@@ -69,7 +69,7 @@ fn start_said(zone: &Display, now: Moment, text: Option<&str>) -> Option<Local>
 // Today's midnight, by a clock within the bounds of windows.
 fn today(zone: &Display, now: Moment) -> Option<Local>
     ensures value { option_map (λ l. local_seconds l) result
-        ≡ spec.today zone.now now }
+        ≡ spec.today (display_said zone.now) now }
     ensures bound { IfSome result (λ l. IsEpochDay l.day) }
 {
     if now < FIRST_START || now > LAST_END {
@@ -100,7 +100,7 @@ fn end_local(start: Local, name: WindowText) -> Local
 
 // The window between two locals.
 fn between(zone: &Display, start: Local, end: Local, notstarted: bool) -> Option<Window>
-    ensures ends { ends_by result ≡ spec.between zone.now
+    ensures ends { ends_by result ≡ spec.between (display_said zone.now)
         (local_seconds start) (local_seconds end) }
     ensures flag { IfSome result (λ w. w.notstarted ≡ notstarted) }
 {
@@ -126,7 +126,7 @@ fn between(zone: &Display, start: Local, end: Local, notstarted: bool) -> Option
 
 // The window of one second.
 fn second_at(zone: &Display, local: Local, notstarted: bool) -> Option<Window>
-    ensures ends { ends_by result ≡ spec.second_at zone.now (local_seconds local) }
+    ensures ends { ends_by result ≡ spec.second_at (display_said zone.now) (local_seconds local) }
     ensures flag { IfSome result (λ w. w.notstarted ≡ notstarted) }
 {
     if local.seconds() < FIRST_START || local.seconds() > LAST_END {

@@ -12,11 +12,11 @@ use Rattle.khal_list.proofs.window.between.Goals.{then-end-lt-FIRST_DAY-via-else
 
 module _ (zone : Display) (start end : ℤ) where
   -- instants that do not rise make no window
-  falling : said_moment (display_said zone) end ≤ℤ said_moment (display_said zone) start → None ≡ between zone start end
+  falling : said_moment (display_said zone) end ≤ℤ said_moment (display_said zone) start → None ≡ between (display_said zone) start end
   falling late = grind (arith, ints)
 
   -- nor do locals of which the start is four days behind the end
-  apart : (end +ℤ whole_days 4) ≤ℤ start → None ≡ between zone start end
+  apart : (end +ℤ whole_days 4) ≤ℤ start → None ≡ between (display_said zone) start end
   apart far =
       let start_near = moment_near zone start in
       let end_near = moment_near zone end in
@@ -24,15 +24,15 @@ module _ (zone : Display) (start end : ℤ) where
 
   -- a window whose start is not too early, whose end is not too late, and whose instants rise
   rising : first_start ≤ℤ start → end ≤ℤ last_end → said_moment (display_said zone) start <ℤ said_moment (display_said zone) end
-      → Some (said_moment (display_said zone) start, said_moment (display_said zone) end) ≡ between zone start end
+      → Some (said_moment (display_said zone) start, said_moment (display_said zone) end) ≡ between (display_said zone) start end
   rising early late rise = grind (arith, ints)
 
 pub returns-then-end-lt-FIRST_DAY-clause-ends : goal.returns-then-end-lt-FIRST_DAY-clause-ends
-returns-then-end-lt-FIRST_DAY-clause-ends c = apart c.args.zone.now (local_seconds c.args.start) (local_seconds c.args.end)
-    (elim c.then-end-lt-FIRST_DAY.branch [
-  | then-end-lt-FIRST_DAY-via-then-end-lt-FIRST_DAY w ↦ omega (arith, ints)
-  | then-end-lt-FIRST_DAY-via-else-end-lt-FIRST_DAY+then-start-gt-LAST_DAY w ↦ omega (arith, ints)
-])
+returns-then-end-lt-FIRST_DAY-clause-ends c =
+    apart c.args.zone.now (local_seconds c.args.start) (local_seconds c.args.end) (elim c.then-end-lt-FIRST_DAY.branch [
+      | then-end-lt-FIRST_DAY-via-then-end-lt-FIRST_DAY w ↦ omega (arith, ints)
+      | then-end-lt-FIRST_DAY-via-else-end-lt-FIRST_DAY+then-start-gt-LAST_DAY w ↦ omega (arith, ints)
+    ])
 
 pub invariant_of-result : goal.invariant_of-result
 invariant_of-result c = record { ordered = omega (arith, ints); not_early = omega (arith, ints); not_late = omega (arith, ints) }
