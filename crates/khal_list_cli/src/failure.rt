@@ -11,7 +11,7 @@ pub enum Failure {
     Request(RequestFault),
     /// A word is not UTF-8.
     Words,
-    /// The folder was not listed, or the clock not read.
+    /// The folder was not listed, or the zone file or the clock not read.
     Read,
     /// An output failed.
     Write,

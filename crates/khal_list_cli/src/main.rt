@@ -4,12 +4,15 @@
 mod failure;
 
 use failure::Failure;
-use khal_list::{FolderSource, FolderZones, Request, RunFault, Status, Stream, run};
+use khal_list::{
+    Display, FolderSource, FolderZones, Request, RunFault, SourceFault, Status, Stream, Words,
+    read_zone_file, run, zone_of_file,
+};
 use std::alloc::Global;
 use std::env;
 use std::io::{BufWriter, Stdout};
 use std::process::ExitCode;
-use std::rt::{Clock, Env};
+use std::rt::{Clock, Env, Files};
 
 /// How many bytes of a listing are written at a time.
 const PIECE: usize = 8_192;
@@ -28,14 +31,36 @@ fn own_words<R: Env + AllocGlobal>(rt: &R) -> Result<Vec<String>, Failure> {
     words.collect(rt.alloc()).map_err(|_| Failure::Memory)
 }
 
+/// The bytes of the zone file with this path.
+fn zone_bytes<R: Files + AllocGlobal>(rt: &R, path: &str) -> Result<Vec<u8>, Failure> {
+    match read_zone_file(rt, rt.alloc(), path) {
+        Ok(bytes) => Ok(bytes),
+        Err(SourceFault::Memory) => Err(Failure::Memory),
+        Err(_) => Err(Failure::Read),
+    }
+}
+
+/// The display zone of the words: that of the zone file that they name, or else the one of `--zone`.
+fn display<R: Files + AllocGlobal>(rt: &R, words: &Words<'_>) -> Result<Display, Failure> {
+    let found = match words.zone_file() {
+        Some(path) => zone_of_file(rt.alloc(), zone_bytes(rt, path)?.as_slice()),
+        None => words.zone(rt.alloc()),
+    };
+    found.map_err(Failure::Request)
+}
+
 /// The request of the words after the program's name.
-fn request<R: Env + AllocGlobal>(rt: &R, now: i64) -> Result<Request, Failure> {
-    let words = own_words(rt)?;
+fn request<R: Env + Files + AllocGlobal>(rt: &R, now: i64) -> Result<Request, Failure> {
+    let own = own_words(rt)?;
     let mut texts = Vec::new(rt.alloc());
-    for word in words.iter().skip(1) {
+    for word in own.iter().skip(1) {
         texts.push(word.as_str())?;
     }
-    Request::of(rt.alloc(), texts.as_slice(), now).map_err(Failure::Request)
+    let words = Words::of(rt.alloc(), texts.as_slice()).map_err(Failure::Request)?;
+    let zone = display(rt, &words)?;
+    words
+        .request(rt.alloc(), &zone, now)
+        .map_err(Failure::Request)
 }
 
 /// Standard output. A listing is written in large pieces, but with a limit entry by entry, so that
