@@ -1,7 +1,7 @@
 //! Runs in which a read fails, or an output ends after some of its bytes.
 
 use crate::narrow::Narrow;
-use crate::runs::{Written, outcome, request};
+use crate::runs::{Written, outcome, request_in};
 use crate::unread::Unread;
 use khal_list::{MemoryFile, MemorySource, MemoryZones, Request, RunFault, Status, run};
 use std::alloc::{AllocError, Global};
@@ -40,7 +40,7 @@ impl Tried {
         words: &str,
         now: i64,
     ) -> io::Result<()> {
-        match request(rt.alloc(), words, now) {
+        match request_in(rt.alloc(), zones, words, now) {
             Ok(request) => self.run_request(rt, source, zones, &request),
             Err(fault) => {
                 drop(fault);

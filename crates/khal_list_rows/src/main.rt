@@ -3,7 +3,7 @@
 //! - `= NAME` begins a row, without files.
 //! - `> NAME` begins a file, whose lines follow, each ended by CRLF. `>> TEXT` adds bytes without a line
 //!   end. In both `%0a` stands for the byte 10.
-//! - `+ NAME BYTES` is a zone file, in the same spelling.
+//! - `+ NAME BYTES` is a zone file, in the same spelling, and the one that `--zone-file NAME` names.
 //! - `$ WORDS` runs the program's words over the files, and `@ WORDS` over the folder on disk that they
 //!   name. What they write is printed, then the status in brackets, and then what standard error has. The
 //!   words of `$` are then run with each read failing in turn, and with each output ending after each of

@@ -4,7 +4,7 @@ use crate::row::shown_bytes;
 use crate::words::words_of;
 use khal_list::{
     FolderSource, FolderZones, MemorySink, MemorySource, NoZones, Request, RequestFault, RunFault,
-    Source, Status, Stream, ZoneSource, run,
+    Source, Status, Stream, Words, ZoneSource, run, zone_of_file,
 };
 use std::alloc::{AllocError, Global};
 use std::io;
@@ -17,10 +17,59 @@ pub struct Written {
     pub status: Status,
 }
 
+/// Why words give no request.
+#[derive(Drop)]
+pub enum NoRequest {
+    Fault(RequestFault),
+    /// There is no such zone file.
+    Unread,
+}
+
+impl NoRequest {
+    /// The name that the program prints.
+    pub fn name(&self) -> &'static str {
+        match self {
+            NoRequest::Fault(fault) => fault.name(),
+            NoRequest::Unread => "ReadFault",
+        }
+    }
+}
+
+impl From<RequestFault> for NoRequest {
+    fn from(fault: RequestFault) -> NoRequest {
+        NoRequest::Fault(fault)
+    }
+}
+
+impl From<AllocError> for NoRequest {
+    fn from(_error: AllocError) -> NoRequest {
+        NoRequest::Fault(RequestFault::Memory)
+    }
+}
+
 /// The request of these words.
 pub fn request(alloc: Global, words: &str, now: i64) -> Result<Request, RequestFault> {
     let words = words_of(alloc, words)?;
     Request::of(alloc, words.as_slice(), now)
+}
+
+/// The same where the words may name a zone file.
+pub fn request_in<Z: ZoneSource>(
+    alloc: Global,
+    zones: &mut Z,
+    words: &str,
+    now: i64,
+) -> Result<Request, NoRequest> {
+    let texts = words_of(alloc, words)?;
+    let words = Words::of(alloc, texts.as_slice())?;
+    let zone = match words.zone_file() {
+        Some(name) => match zones.find(alloc, name.as_bytes()) {
+            Ok(Some(bytes)) => zone_of_file(alloc, bytes.as_slice())?,
+            _ => return Err(NoRequest::Unread),
+        },
+        None => words.zone(alloc)?,
+    };
+    Ok(words.request(alloc, &zone, now)?)
 }
 
 /// Runs a request over files and zone files.
@@ -48,9 +97,9 @@ pub fn run_over<S: Source, Z: ZoneSource>(
     words: &str,
     now: i64,
 ) -> io::Result<()> {
-    let request = match request(rt.alloc(), words, now) {
+    let request = match request_in(rt.alloc(), zones, words, now) {
         Ok(request) => request,
-        Err(fault) => return print_fault(rt, fault),
+        Err(fault) => return println!(rt; "[{}]", fault.name()),
     };
     let written = outcome(rt.alloc(), source, zones, &request);
     drop(request);
