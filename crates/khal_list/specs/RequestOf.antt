@@ -82,14 +82,14 @@ pub record IsNoToken (entries : Entries) : Type 0 where
   pub day_key : AsksEveryDay entries → IsNoDayKey (after_text entries)
 
 -- the request that clap's entries make in a display zone that says this, at a clock
-pub record IsRequest (entries : Entries) (zone : ZoneSaid) (now : ℤ) (request : Request) : Type 0 where
+pub record IsRequest (entries : Entries) (said : ZoneSaid) (now : ℤ) (request : Request) : Type 0 where
   pub folder : string_bytes request.folder ≡ entries_text (codes "folder") entries
-  pub zone : display_said request.zone ≡ zone
+  pub zone : display_said request.zone ≡ said
   pub zones : option_map string_bytes request.zones ≡ zones_text entries
-  pub window : Some (request.window.from, request.window.to) ≡ ends_of zone now (span_of entries)
+  pub window : Some (request.window.from, request.window.to) ≡ ends_of said now (span_of entries)
   pub notstarted : IsTrue request.window.notstarted ↔ (entries_text (codes "notstarted") entries ≡ codes "true")
   pub limit : IsLimitOf (limit_text entries) request.limit
-  pub after : IsAfterBy entries zone request.window request.after request.every_day
+  pub after : IsAfterBy entries said request.window request.after request.every_day
   pub format : format_text entries ≡ written entry_name request.formats.entries.pieces.items
   pub day_format : day_format_text entries ≡ written day_name request.formats.days.pieces.items
 

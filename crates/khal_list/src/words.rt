@@ -7,7 +7,8 @@ ghost use Rattle.jiff_core.specs.declared.error.TzifFault.{TzifFault};
 ghost use Rattle.jiff_tz.specs.TzifReader.{read_tzif};
 ghost use Rattle.ics_zone.specs.ZoneFiles.{zone_file};
 ghost use Rattle.ics_zone.specs.ZoneSaid.{ZoneSaid, display_said};
-ghost use Rattle.khal_words.specs.Entries.{zone_file_text, zones_text};
+ghost use Rattle.khal_words.specs.Entries.{zone_file_text, zones_text, AreTested};
+ghost use Rattle.khal_list.specs.RequestOf.{AnswerIn};
 
 use crate::RequestFault;
 use crate::every_day::After;
@@ -41,7 +42,7 @@ impl<'a> Model for Words<'a> {
 }
 
 impl<'a> Words<'a> {
-    ghost use Rattle.khal_list.specs.RequestOf.{AnswerIn, WordsOf, zone_named};
+    ghost use Rattle.khal_list.specs.RequestOf.{WordsOf, zone_named};
 
     /// What clap makes of the words after the program's name: `list FOLDER [START [END]] [--zone Z |
     /// --zone-file FILE] [--zones DIR] [--limit N] [--after TOKEN] [--notstarted] [--every-day]
@@ -106,25 +107,7 @@ impl<'a> Words<'a> {
     ) -> Result<Request, RequestFault>
         ensures { AnswerIn self.now (display_said zone.now) now result }
     {
-        let found = &self.found;
-        let notstarted = is_given(found, "notstarted");
-        let Some(window) = window_of(zone, now, Span::of(found), notstarted) else {
-            return Err(RequestFault::BadWindow);
-        };
-        let folder = String::from_str(alloc, text(found, "folder"))?;
-        let zones = zones_of(alloc, found)?;
-        let after = After::of(alloc, found, zone, &window)?;
-        let formats = formats_of(alloc, found)?;
-        Ok(Request {
-            folder,
-            zone: zone.clone()?,
-            zones,
-            window,
-            limit: limit_of(found),
-            after: after.once,
-            every_day: after.every_day,
-            formats,
-        })
+        request_of(alloc, &self.found, zone, now)
     }
 }
 
@@ -143,6 +126,36 @@ pub fn zone_of_file(alloc: Global, bytes: &[u8]) -> Result<Display, RequestFault
         Err(ZoneFileFault::BadZoneFile) => Err(RequestFault::BadZone),
         Err(ZoneFileFault::Memory) => Err(RequestFault::Memory),
     }
+}
+
+// The request of clap's entries, which clap has tested, in a display zone.
+fn request_of(
+    alloc: Global,
+    found: &ArgMatches<'_>,
+    zone: &Display,
+    now: Moment,
+) -> Result<Request, RequestFault>
+    requires { AreTested (subcommand_rows_of found.now) }
+    ensures { AnswerIn (subcommand_rows_of found.now) (display_said zone.now) now result }
+{
+    let notstarted = is_given(found, "notstarted");
+    let Some(window) = window_of(zone, now, Span::of(found), notstarted) else {
+        return Err(RequestFault::BadWindow);
+    };
+    let folder = String::from_str(alloc, text(found, "folder"))?;
+    let zones = zones_of(alloc, found)?;
+    let after = After::of(alloc, found, zone, &window)?;
+    let formats = formats_of(alloc, found)?;
+    Ok(Request {
+        folder,
+        zone: zone.clone()?,
+        zones,
+        window,
+        limit: limit_of(found),
+        after: after.once,
+        every_day: after.every_day,
+        formats,
+    })
 }
 
 // The text of `--zones`, if it is given.

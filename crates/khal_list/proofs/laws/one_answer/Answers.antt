@@ -151,16 +151,13 @@ module _ (one : Readings) (words : List Text) (now : ℤ) where
   taken : (help : Bool) → AreTaken words → IsRefused words help → ⊥
   taken help none refused = subst (IsAmong refused.kind) none refused.among
 
-  named : Option ZoneSaid
-  named = zone_named (entries_of words)
-
   agree : (a b : Result Request RequestFault) → RequestOf words now a → RequestOf words now b → Agree words a b
   agree (Err Memory) b p q = tt
   agree a (Err Memory) p q = tt
   agree (Err (Usage text help)) (Err (Usage other asks)) p q = same_help words help asks p q
   agree (Err (Usage text help)) b p q = absurd (taken help q.0 p)
   agree a (Err (Usage text help)) p q = absurd (taken help p.0 q)
-  agree a b p q = agree_by one words named now a b p.1 q.1
+  agree a b p q = agree_by one words (zone_named (entries_of words)) now a b p.1 q.1
 
 pub returns-clause-words : goal.returns-clause-words
 returns-clause-words c = agree (readings c.one_spelling.ensures c.one_day_spelling.ensures c.one_format.ensures.entries c.one_format.ensures.days)
