@@ -2,13 +2,15 @@
 """Measures a khal-list over folders of a generator: `bench.py PROGRAM [RUNS]`.
 
 Prints a line a folder: the least seconds and the greatest peak memory of several runs, the program's
-status and how many lines it wrote."""
+status and how many lines it wrote. Then a line for each listing by a zone file beside the same by the
+rule of its zone, in runs by turns: the least seconds of both, how many times as long the first takes,
+and how many milliseconds longer."""
 import os
 import sys
 import time
 
 from folders import ROWS, write
-from zones import ROWS as ZONES
+from zones import PAIRS, ROWS as ZONES
 
 HERE = os.path.dirname(os.path.abspath(__file__))
 
@@ -29,16 +31,30 @@ def measure(words):
     return seconds, usage.ru_maxrss / 1024, os.waitstatus_to_exitcode(status), lines
 
 
+def folder_of(name, files):
+    folder = os.path.join(HERE, 'data', name.replace(',', '').replace(' ', '-'))
+    write(folder, files())
+    return folder
+
+
 def main():
     program = os.path.abspath(sys.argv[1])
     runs = int(sys.argv[2]) if len(sys.argv) > 2 else 5
     print('%-40s %9s %9s %7s %8s' % ('folder', 'seconds', 'MiB', 'status', 'lines'))
     for name, files, words in [*ROWS, *ZONES]:
-        folder = os.path.join(HERE, 'data', name.replace(',', '').replace(' ', '-'))
-        write(folder, files())
+        folder = folder_of(name, files)
         taken = [measure([program, 'list', folder, *words]) for _ in range(runs)]
         seconds, memory = min(t[0] for t in taken), max(t[1] for t in taken)
         print('%-40s %9.4f %9.1f %7d %8d' % (name, seconds, memory, *taken[0][2:]))
+    print('%-40s %9s %9s %7s %8s %8s' % ('beside its rule', 'seconds', 'rule', 'times', 'ms more', 'lines'))
+    for name, files, words, one, other, turns in PAIRS:
+        listing = [program, 'list', folder_of(name, files), *words]
+        pairs = [(measure(listing + one), measure(listing + other)) for _ in range(turns)]
+        said = {taken[2:] for pair in pairs for taken in pair}
+        if len(said) != 1:
+            sys.exit('%s: the listings differ, by status and lines: %s' % (name, sorted(said)))
+        own, beside = (min(taken[0] for taken in column) for column in zip(*pairs))
+        print('%-40s %9.4f %9.4f %7.2f %8.3f %8d' % (name, own, beside, own / beside, (own - beside) * 1000, said.pop()[1]))
 
 
 if __name__ == '__main__':

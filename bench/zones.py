@@ -1,9 +1,9 @@
 """The folders that measure what time zones cost, those of hostile files among them."""
 import os
 import struct
-from datetime import datetime, timedelta
+from datetime import datetime, timedelta, timezone
 
-from folders import NEW_YORK, calendar, event, zoned
+from folders import NEW_YORK, calendar, event, events, recurring, zoned
 
 EACH = ','.join(str(number) for number in range(60))
 EACH_SECOND = 'FREQ=DAILY;BYHOUR=%s;BYMINUTE=%s;BYSECOND=%s' % (','.join(str(hour) for hour in range(24)), EACH, EACH)
@@ -94,17 +94,43 @@ def apart(count):
     return calendar([*own, *lines])
 
 
-ZONE_FILES = os.path.join(os.path.dirname(os.path.abspath(__file__)), 'data', 'zone-files')
+HERE = os.path.dirname(os.path.abspath(__file__))
+ZONE_FILES = os.path.join(HERE, 'data', 'zone-files')
+BERLIN = os.path.join(HERE, '..', 'examples', 'zoneinfo', 'Europe', 'Berlin')
+
+
+def zone_file(name, rule, kinds, changes=()):
+    """Writes a zone file: offset, daylight time and name of each kind of time, at which instants which kind begins, and the
+    rule that goes on. Gives the path."""
+    names = b''.join(kind[2] + b'\0' for kind in kinds)
+    types = b''.join(struct.pack('>iBB', offset, is_daylight, names.index(word + b'\0')) for offset, is_daylight, word in kinds)
+    before = b'TZif2' + bytes(15) + struct.pack('>6I', 0, 0, 0, 0, 1, len(names)) + types[:6] + names
+    table = b''.join(struct.pack('>q', at) for at, _ in changes) + bytes(kind for _, kind in changes)
+    path = os.path.join(ZONE_FILES, name)
+    os.makedirs(os.path.dirname(path), exist_ok=True)
+    with open(path, 'wb') as file:
+        file.write(before + b'TZif2' + bytes(15) + struct.pack('>6I', 0, 0, 0, len(changes), len(kinds), len(names)) + table + types + names)
+        file.write(b'\n' + rule + b'\n')
+    return path
 
 
 def zone_files():
     """A folder of zone files: that of New York, in which the last year's rule goes on."""
-    block = b'TZif2' + bytes(15) + struct.pack('>6I', 0, 0, 0, 0, 1, 4) + struct.pack('>iBB', -18_000, 0, 0) + b'EST\0'
-    path = os.path.join(ZONE_FILES, 'America', 'New_York')
-    os.makedirs(os.path.dirname(path), exist_ok=True)
-    with open(path, 'wb') as file:
-        file.write(block * 2 + b'\nEST5EDT,M3.2.0,M11.1.0\n')
+    zone_file('America/New_York', b'EST5EDT,M3.2.0,M11.1.0', [(-18_000, 0, b'EST')])
     return ZONE_FILES
+
+
+LONDON = 'GMT0BST,M3.5.0/1,M10.5.0'
+
+
+def london():
+    """A zone file of London, whose table goes from 1996 to 2037: both changes of a year are at 01:00 UTC on a last Sunday."""
+    changes = []
+    for year in range(1996, 2038):
+        for month, kind in ((3, 1), (10, 0)):
+            end = datetime(year, month, 31, 1, tzinfo=timezone.utc)
+            changes.append((int((end - timedelta(days=end.isoweekday() % 7)).timestamp()), kind))
+    return zone_file('Europe/London', LONDON.encode(), [(0, 0, b'GMT'), (3_600, 1, b'BST')], changes)
 
 
 def one_each(count, start):
@@ -133,4 +159,13 @@ ROWS = [
     ('800 locals in a gap behind 48 observances', lambda: [('a.ics', sliced(800))], ['2024-01-05', '5d']),
     ('the same, half of them with COUNT', lambda: [('a.ics', sliced(800, ';COUNT=100000'))], ['2024-01-05', '5d']),
     ('245 events ten years apart, COUNT', lambda: [('a.ics', apart(245))], ['2024-01-05', '1d']),
+]
+
+# what is measured beside another listing: a name, the files, the words after the folder, those that differ in the one and in the
+# other, and in how many runs of each
+PAIRS = [
+    ('a year of 366,027 entries, a zone file', lambda: [('a.ics', recurring(1_000, '200001%02dT%02d%02d00Z', 'FREQ=DAILY'))],
+     ['2024-01-01', '2024-12-31'], ['--zone-file', london()], ['--zone', LONDON], 10),
+    ('a small listing, a zone file', lambda: [('a.ics', events(range(3)))], ['2024-01-01', '1d'], ['--zone-file', BERLIN],
+     ['--zone', 'CET-1CEST,M3.5.0,M10.5.0/3'], 500),
 ]
