@@ -13,13 +13,18 @@ _khal_list() {
     for ((at = 1; at < COMP_CWORD; at++)); do
         case $command:${COMP_WORDS[at - 1]}:${COMP_WORDS[at]} in
         :*:list | :*:at | :*:help) command=${COMP_WORDS[at]} ;;
-        *:=:* | *:*:= | *:*:-* | *:--zone:* | *:--zones:* | *:--limit:* | *:--after:* | *:--*format:*) ;;
+        *:=:* | *:*:= | *:*:-* | *:--zone:* | *:--zone-file:* | *:--zones:* | *:--limit:* | *:--after:* | *:--*format:*) ;;
         list:* | at:*) folder=${COMP_WORDS[at]} ;;
         esac
     done
     placeholders='{cell} {title} {start-time} {end-time} {start-date} {end-date} {location} {description} {uid} {cancelled}'
     case $before in
     --zone) words='UTC' ;;
+    --zone-file)
+        compopt -o filenames 2>/dev/null
+        mapfile -t COMPREPLY < <(compgen -f -- "$word")
+        return
+        ;;
     --zones)
         compopt -o filenames 2>/dev/null
         mapfile -t COMPREPLY < <(compgen -d -- "$word")
@@ -30,8 +35,8 @@ _khal_list() {
     --day-format) words='{name} {date}' ;;
     *)
         case $command:$word in
-        list:-*) words='--zone --zones --limit --after --notstarted --every-day --format --day-format --help' ;;
-        at:-*) words='--zone --zones --help' ;;
+        list:-*) words='--zone --zone-file --zones --limit --after --notstarted --every-day --format --day-format --help' ;;
+        at:-*) words='--zone --zone-file --zones --help' ;;
         :-*) words='--help' ;;
         :*) words='list at help' ;;
         help:*) words='list at' ;;

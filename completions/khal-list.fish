@@ -7,6 +7,7 @@ complete -c khal-list -n "not __fish_seen_subcommand_from $commands" -f -a help 
 complete -c khal-list -n '__fish_seen_subcommand_from list at' -f -a '(__fish_complete_directories)'
 complete -c khal-list -n '__fish_seen_subcommand_from help' -f -a 'list at'
 complete -c khal-list -n '__fish_seen_subcommand_from list at' -l zone -x -a UTC -d 'The time zone'
+complete -c khal-list -n '__fish_seen_subcommand_from list at' -l zone-file -r -F -d 'The time zone of a zone file'
 complete -c khal-list -n '__fish_seen_subcommand_from list at' -l zones -x -a '(__fish_complete_directories)' -d 'A folder of zone files for names that a calendar does not define'
 complete -c khal-list -n '__fish_seen_subcommand_from list' -l limit -x -d 'List at most N entries'
 complete -c khal-list -n '__fish_seen_subcommand_from list' -l after -x -d 'List the entries after the one with a token'
