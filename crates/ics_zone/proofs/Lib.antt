@@ -1,4 +1,5 @@
 pub mod Cases
+pub mod UntilLemmas
 pub mod FileLemmas
 pub mod JiffLemmas
 pub mod OnsetLemmas

@@ -15,6 +15,7 @@ pub mod ZoneFileFaults
 pub mod ZoneSaid
 pub mod ZoneBounds
 pub mod Latest
+pub mod OnsetLaws
 pub mod OnsetSets
 pub mod ZoneOnsets
 pub mod Hours
