@@ -26,6 +26,7 @@ pub mod TokenLemmas
 pub mod TournamentLemmas
 pub mod UidLemmas
 pub mod UnionLemmas
+pub mod UntilLemmas
 pub mod VersionLemmas
 pub mod MoveLemmas
 pub mod WholeLemmas

@@ -1,7 +1,12 @@
 -- Laws of the occurrences of events and of folders, and of listings.
-use Rattle.std.specs.Prelude.{◌≡◌, ◌≢◌, ◌⊎◌, ◌↔◌, ◌≤◌, ℕ, ℤ, true, false, List, [], ◌∷◌, ◌++◌, Option, Some, None, All, Contains, filter, length, map}
+use Rattle.std.specs.Prelude.{◌≡◌, ◌≢◌, ◌⊎◌, ◌↔◌, ◌≤◌, ◌≤ℤ◌, ℕ, ℤ, true, false, List, [], ◌∷◌, ◌++◌, Option, Some, None, All, Contains, filter, length, map}
 use Rattle.std.specs.Prelude.{slice_get}
 use Rattle.std.specs.Ordering.{is_lt}
+use Rattle.ics_fields.specs.Locals.{local_seconds}
+use Rattle.ics_fields.specs.RuleParts.{RuleParts}
+use Rattle.ics_fields.specs.declared.local.Local.{Local}
+use Rattle.ics_fields.specs.declared.until.Until.TheVariants as until
+use Rattle.ics_rule.specs.declared.kind.Kind.TheVariants.{DateTime}
 use Rattle.ics_event.specs.Event.{FileSaid, IsRdate, IsTime}
 use Rattle.ics_event.specs.declared.event.Event.{Event}
 use Rattle.ics_event.specs.declared.time.Rdate.{Rdate}
@@ -23,9 +28,10 @@ use Rattle.ics_series.specs.Occurs.{IsInstance, Occurs}
 use Rattle.ics_series.specs.PlacedEvents.{Placed, IsPlaced}
 use Rattle.ics_series.specs.Rising.{Rises}
 use Rattle.ics_series.specs.Sources.{master_at, master_of, recurring, AreSources, Source}
-use Rattle.ics_series.specs.Starts.{time_of, GivesStart}
+use Rattle.ics_series.specs.Starts.{kind_of, local_of, time_of, GivesStart}
 use Rattle.ics_series.specs.Versions.{by_subject}
 use Rattle.ics_series.specs.declared.start.StartSource.{StartSource}
+use Rattle.ics_series.specs.declared.start.StartSource.TheVariants.{Kept}
 use Rattle.ics_series.specs.FileZones.{clocks_in}
 
 -- a window has one listing at most
@@ -105,6 +111,19 @@ abbrev pub EachStart : Type 0
 EachStart =
     (clocks : Clocks) (event : Event) (source : StartSource) (given : Rdate) → IsTime event.start → GivesStart clocks event source given
     → is_excluded clocks event (instant clocks (time_of given)) ≡ false → (end : ℤ) × IsInstance clocks event (instant clocks (time_of given)) end
+
+-- an event with this rule, but without UNTIL, in place of its own
+abbrev pub unbounded_by : Event → RuleParts → Event
+unbounded_by event parts = record event { rule = Some (record parts { until = None }) }
+
+-- The starts that an event with date-times has by a rule with an UNTIL in UTC are, but for DTSTART, exactly those by the same rule without UNTIL
+-- that are not after that instant.
+abbrev pub StartsByUntil : Type 0
+StartsByUntil =
+    (clocks : Clocks) (event : Event) (parts : RuleParts) (last local : Local) (given : Rdate) → event.rule ≡ Some parts →
+    parts.until ≡ Some (until.Utc last) → kind_of event.start.stamp ≡ DateTime → local ≢ local_of event.start.stamp
+    → GivesStart clocks event (Kept local) given
+    ↔ (GivesStart clocks (unbounded_by event parts) (Kept local) given × (instant clocks (time_of given) ≤ℤ local_seconds last))
 
 -- an event without a rule and without RDATEs occurs at its DTSTART alone
 abbrev pub OneStart : Type 0

@@ -2,7 +2,7 @@
 ghost use Rattle.std.specs.Prelude.{◌≡◌};
 ghost use Rattle.ics_series.specs.Entry.{key_rank, rank_cmp};
 ghost use Rattle.ics_series.specs.Laws.{AddedFiles, EachStart, ListingAfter, ListingBehind, ListingMerged, MostInDays, MostOfMasters, NoneExcluded, OneListing};
-ghost use Rattle.ics_series.specs.Laws.{OneRecurrence, OneStart, OneVersion, OrderOfFiles, RawCounted};
+ghost use Rattle.ics_series.specs.Laws.{OneRecurrence, OneStart, OneVersion, OrderOfFiles, RawCounted, StartsByUntil};
 ghost use Rattle.ics_series.specs.Tokens.{OneSpelling};
 ghost use Rattle.ics_series.specs.WindowLaws.{ListingWithin, ListingsJoin, ListsStarts, ListsUnderWay};
 ghost use Rattle.ics_series.specs.declared.key.Key.{Key};
@@ -57,6 +57,13 @@ pub fn one_recurrence()
 /// starts.
 pub fn each_start()
     ensures { EachStart }
+{}
+
+/// UNTIL in UTC bounds a rule in an inclusive manner (RFC 5545, section 3.3.10): of an event with date-times
+/// the starts by the rule are, but for DTSTART, exactly those by the same rule without UNTIL that are not
+/// after that instant.
+pub fn starts_by_until()
+    ensures { StartsByUntil }
 {}
 
 /// The starts of an event in five UTC days are counted as by `held_most`: each local and each RDATE, by

@@ -54,7 +54,7 @@ pub use laws::{
     added_files, each_start, keys_as_listed, listing_after, listing_behind, listing_merged,
     listing_within, listings_join, lists_starts, lists_under_way, most_in_days, most_of_masters,
     none_excluded, one_listing, one_recurrence, one_spelling, one_start, one_version,
-    order_of_files, raw_counted,
+    order_of_files, raw_counted, starts_by_until,
 };
 pub use merge::Merge;
 pub use near_day::date_at;
