@@ -40,8 +40,9 @@ use ics_event::FileEvents;
 use ics_zone::Display;
 use std::alloc::{AllocError, Global};
 
-/// The occurrences of a folder that meet a window, in the order of their keys. Each of them is found
-/// when `next` is called.
+/// The occurrences of a folder that meet a window, in the order of their keys. The events that start once
+/// are sorted when it is made. Of each master that recurs the next occurrence is held: the first from the
+/// beginning, each further one when the one before it has been given.
 #[derive(Drop)]
 pub struct Agenda<'a> {
     merge: Merge<'a, Part<'a>>,

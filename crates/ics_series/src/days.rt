@@ -29,8 +29,8 @@ use ics_zone::Display;
 use std::alloc::{AllocError, Global};
 
 /// The occurrences of a folder that meet a window, each under each of its days there, by day and then
-/// in the order of their keys. Each is found when it is asked for, and of the days only one is looked
-/// at.
+/// in the order of their keys. Of the days only one is looked at, and for each the events that start once
+/// are sorted anew.
 #[derive(Drop)]
 pub struct Days<'a> {
     alloc: Global,
