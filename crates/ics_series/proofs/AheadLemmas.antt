@@ -10,7 +10,8 @@ use Rattle.ics_series.specs.declared.window.Window.{Window}
 use Rattle.ics_series.specs.After.{is_after}
 use Rattle.ics_series.specs.Ahead.{is_today, today, IsAheadOf, IsLater}
 use Rattle.ics_series.specs.Clocks.{Clock}
-use Rattle.ics_series.specs.OnDays.{day_rank_of, DayRank, first_near, last_near, Begins, IsNearDay, after_day_key, is_day_after, on_day, on_day_cmp, IsOnDay, OnDay}
+use Rattle.ics_series.specs.OnDays.{day_rank_of, DayRank, first_near, last_near, Begins, IsNearDay, after_day_key, is_day_after, on_day, on_day_cmp}
+use Rattle.ics_series.specs.OnDays.{IsOnDay, OnDay}
 use Rattle.ics_series.specs.OnDays.{IsBehindKey}
 use Rattle.ics_series.specs.DaySteps.{IsNearAgenda, IsPastAgenda, day_and_start, masters_in, AreDayMasters, AreMasters, IsDayMaster, IsFromStart, Scope}
 use Rattle.ics_series.specs.DaySteps.{begin_day, first_under, most_in, sum_days, AreDayBounds, HasDaysBound, IsLookedBefore}

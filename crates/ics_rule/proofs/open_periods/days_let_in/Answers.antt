@@ -22,7 +22,8 @@ pub loop-day-preserved-then-leaves_months : goal.loop-day-preserved-then-leaves_
 loop-day-preserved-then-leaves_months c =
     let here = sym c.lets_date.ensures ∙ c.if-lets_date.false in
     walk_past c.loop-day.invariant here
-    (λ j h. one_out (lets_date c.args.search.now.parts.now) c.loop-day.day here c.days_of_closed_month.ensures.none j (subst (λ x. j < x) c.max-closed.ensures h))
+    (λ j h. one_out (lets_date c.args.search.now.parts.now) c.loop-day.day here c.days_of_closed_month.ensures.none j
+    (subst (λ x. j < x) c.max-closed.ensures h))
     (omega (arith, c.max-closed.ensures)) c.next_step-day.ensures c.loop-day-test.true
 
 pub loop-day-preserved : goal.loop-day-preserved

@@ -47,8 +47,10 @@ module _ (q : EffectiveRule) (first periods : ℕ) (round : IsCalendarRound q pe
 
 -- the rounds and the rest are all of it
 all : (c : After-open_by_days-rest) → (c.args.before - c.args.from) / c.in-Some.round * c.open_by_days-one.result + c.open_by_days-rest.result
-    + count c.args.from (is_open_period c.args.search.now.parts.now c.args.search.now.first) ≡ count c.args.before (is_open_period c.args.search.now.parts.now c.args.search.now.first)
-all c = open_rounds c.args.search.now.parts.now c.args.search.now.first c.in-Some.round c.in-Some.ensures.round c.requires.fine c.requires.unit c.args.from c.requires.first
+    + count c.args.from (is_open_period c.args.search.now.parts.now c.args.search.now.first)
+    ≡ count c.args.before (is_open_period c.args.search.now.parts.now c.args.search.now.first)
+all c = open_rounds c.args.search.now.parts.now c.args.search.now.first c.in-Some.round c.in-Some.ensures.round c.requires.fine c.requires.unit
+    c.args.from c.requires.first
     c.args.before ((c.args.before - c.args.from) / c.in-Some.round) c.open_by_days-one.result c.open_by_days-rest.result c.open_by_days-one.ensures
     c.open_by_days-rest.ensures
 

@@ -18,8 +18,10 @@ small : (c : After-steps_let_in) → IsDayRun c.args.search.now.parts.now c.args
 small c run =
     let all = placed_more run (omega (arith, c.loop-j-test.true, c.min-j-end.ensures)) c.steps_let_in.result c.loop-j.invariant
     c.days_let_in-days.ensures.value c.seconds_of-per_day.ensures.value c.steps_let_in.ensures in
-    let most = count_most (c.args.before * per_day c.args.search.now.parts.now.frequency) (placed c.args.search.now.parts.now c.args.search.now.first c.args.from (c.loop-j.j + 1)) in
-    let high = mul-le c.args.before (per_day c.args.search.now.parts.now.frequency) 3_579_743 86_400 c.requires.before (day_some c.args.search.now.parts.now.frequency).1 in
+    let most = count_most (c.args.before * per_day c.args.search.now.parts.now.frequency)
+    (placed c.args.search.now.parts.now c.args.search.now.first c.args.from (c.loop-j.j + 1)) in
+    let high = mul-le c.args.before (per_day c.args.search.now.parts.now.frequency) 3_579_743 86_400 c.requires.before
+    (day_some c.args.search.now.parts.now.frequency).1 in
     omega (arith, all, most, high)
 
 pub overflow_mul-total : goal.overflow_mul-total

@@ -13,7 +13,8 @@ overflow_add-total c = let small = walk_small c.loop-number.invariant in omega (
 
 pub loop-number-preserved : goal.loop-number-preserved
 loop-number-preserved c =
-    let own : lets_own c.args.search.now.parts.now.frequency c.args.search.now.parts.now (c.loop-number.number * seconds_of c.args.search.now.parts.now.frequency) ≡ c.lets_own.result
+    let own : lets_own c.args.search.now.parts.now.frequency c.args.search.now.parts.now
+    (c.loop-number.number * seconds_of c.args.search.now.parts.now.frequency) ≡ c.lets_own.result
     = ap (λ x. lets_own c.args.search.now.parts.now.frequency c.args.search.now.parts.now (c.loop-number.number * x)) (sym c.seconds_of-unit.ensures.value)
     ∙ sym c.lets_own.ensures in
     elim c.if-lets_own.branch [

@@ -10,13 +10,24 @@ pub returns-in_err-print_days-clause-err : goal.returns-in_err-print_days-clause
 returns-in_err-print_days-clause-err g c =
     let days = c.in_ok-days.ensures in
     on_err c.from_residual-in_err-print_days.result
-    (inr (_, _, shows-days c.as_ref.result c.requires c.as_ref.ensures.value days.keys days.listing.1 refl, (c.in_err-print_days.ensures.puts _ days.listing.2).front))
+    (inr (
+      _,
+      _,
+      shows-days c.as_ref.result c.requires c.as_ref.ensures.value days.keys days.listing.1 refl,
+      (c.in_err-print_days.ensures.puts _ days.listing.2).front,
+    ))
 
 pub returns-in_err-write-in-Some-clause-err : goal.returns-in_err-write-in-Some-clause-err
 returns-in_err-write-in-Some-clause-err g c =
     let days = c.in_ok-days.ensures in
     on_err c.from_residual-in_err-write-in-Some.result
-    (inr (_, _, shows-days c.as_ref.result c.requires c.as_ref.ensures.value days.keys days.listing.1 refl, whole-front (c.in_ok-print_days.ensures.puts _ days.listing.2).text))
+    (inr (
+      _,
+      _,
+      shows-days c.as_ref.result c.requires c.as_ref.ensures.value days.keys days.listing.1 refl,
+      whole-front
+          (c.in_ok-print_days.ensures.puts _ days.listing.2).text,
+    ))
 
 pub returns-in-None-clause-ok : goal.returns-in-None-clause-ok
 returns-in-None-clause-ok g c =

@@ -42,7 +42,8 @@ returns-then-stop-place-clause-next c =
 
 pub returns-then-stop-place-clause-own : goal.returns-then-stop-place-clause-own
 returns-then-stop-place-clause-own c = own_at c.max-self-then-stop-place.result
-    c.requires.own (omega (arith, c.max-self-then-stop-place.ensures)) (omega (arith, c.max-self-then-stop-place.ensures, c.requires.own.inside, c.requires.end))
+    c.requires.own (omega (arith, c.max-self-then-stop-place.ensures))
+    (omega (arith, c.max-self-then-stop-place.ensures, c.requires.own.inside, c.requires.end))
 
 pub returns-then-n-stop-clause-next : goal.returns-then-n-stop-clause-next
 returns-then-n-stop-clause-next c =

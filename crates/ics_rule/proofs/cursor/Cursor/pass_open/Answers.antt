@@ -14,7 +14,8 @@ use Rattle.ics_rule.proofs.cursor.Cursor.pass_open.Goals.{After-chosen_in_open}
 
 -- the period up to which what is chosen is counted
 ends : (c : After-chosen_in_open) → IsCountedStep c.args.search.now.parts.now c.args.search.now.start c.counted_from-begin.result.0
-    (c.counted_from-begin.result.0 + c.saturating_sub.result / c.args.search.now.parts.now.interval * c.args.search.now.parts.now.interval) c.args.self.now.place
+    (c.counted_from-begin.result.0 + c.saturating_sub.result / c.args.search.now.parts.now.interval * c.args.search.now.parts.now.interval)
+    c.args.self.now.place
     (c.turn_through.new.self.counted + c.chosen_in_open.result * c.open_between-number.result)
 ends c =
     let q = c.args.search.now.parts.now in
@@ -37,12 +38,14 @@ ends c =
       step = ap (λ x. is_stepped (period_in q start) q.interval (begin + x)) (mul_comm steps q.interval)
           ∙ step_repeats q.interval steps (period_in q start) begin (stepped_parts (period_in q start) q.interval begin step).0 ∙ step;
       top = top;
-      total = total_between q start fine unit c.open_between-number.result c.chosen_in_open.ensures (rw c.args.search.now.of_start at c.open_between-number.ensures)
+      total = total_between q start fine unit c.open_between-number.result c.chosen_in_open.ensures
+          (rw c.args.search.now.of_start at c.open_between-number.ensures)
           (omega (arith, high, own.0, c.requires.cursor.own.inside)) (omega arith) (turned.counted.total ∙ ap (chosen_to q start) turned.number);
     }
 
 pub turn_through-requires-clause-step : goal.turn_through-requires-clause-step
-turn_through-requires-clause-step c = (counts_from c.args.search.now.interval c.requires.cursor.own c.args.search.now.of_start c.counted_from-begin.ensures).step
+turn_through-requires-clause-step c =
+    (counts_from c.args.search.now.interval c.requires.cursor.own c.args.search.now.of_start c.counted_from-begin.ensures).step
 
 pub overflow_mul-total : goal.overflow_mul-total
 overflow_mul-total c = let small = total_small (ends c) in omega (arith, small, c.requires.cursor.early)
@@ -51,7 +54,8 @@ pub overflow_add-total : goal.overflow_add-total
 overflow_add-total c = let small = total_small (ends c) in omega (arith, small, c.requires.cursor.early)
 
 pub look_at-requires-clause-low : goal.look_at-requires-clause-low
-look_at-requires-clause-low c = step_low c.args.search.now.parts.now c.args.search.now.start _ (ends (goal.at.look_at-requires-clause-low c).After-chosen_in_open).step
+look_at-requires-clause-low c = step_low c.args.search.now.parts.now c.args.search.now.start _
+    (ends (goal.at.look_at-requires-clause-low c).After-chosen_in_open).step
 
 pub look_at-requires-clause-reach : goal.look_at-requires-clause-reach
 look_at-requires-clause-reach c =

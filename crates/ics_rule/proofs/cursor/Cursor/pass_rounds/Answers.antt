@@ -23,7 +23,8 @@ ends : (c : Else-not-turn_through) → (c.counted_from-begin.result.1 ≤ c.turn
     (c.counted_from-begin.result.1 + c.saturating_sub-ahead.result / c.in-Some.round * (c.turn_through.new.self.counted - c.counted_from-begin.result.1))
 ends c =
     let turned = (c.turn_through.ensures.counted c.if-not-turn_through.false).turned in
-    rounds_end (c.in-Some.ensures c.args.search.now.start) (counts_from c.args.search.now.interval c.requires.cursor.own c.args.search.now.of_start c.counted_from-begin.ensures)
+    rounds_end (c.in-Some.ensures c.args.search.now.start)
+    (counts_from c.args.search.now.interval c.requires.cursor.own c.args.search.now.of_start c.counted_from-begin.ensures)
     (c.if-begin-lt2.false, c.if-rounds-lt2.false) (grind (arith, div-add-mod')) c.requires.cursor.early (rw turned.number at turned.counted.total)
 
 pub overflow_sub-total : goal.overflow_sub-total
@@ -36,7 +37,8 @@ pub overflow_add-total : goal.overflow_add-total
 overflow_add-total c = let small = total_small (ends c).1 in omega (arith, small, c.requires.cursor.early)
 
 pub look_at-requires-clause-low : goal.look_at-requires-clause-low
-look_at-requires-clause-low c = step_low c.args.search.now.parts.now c.args.search.now.start _ (ends (goal.at.look_at-requires-clause-low c).Else-not-turn_through).1.step
+look_at-requires-clause-low c = step_low c.args.search.now.parts.now c.args.search.now.start _
+    (ends (goal.at.look_at-requires-clause-low c).Else-not-turn_through).1.step
 
 pub look_at-requires-clause-reach : goal.look_at-requires-clause-reach
 look_at-requires-clause-reach c = let r = counted_reach (ends (goal.at.look_at-requires-clause-reach c).Else-not-turn_through).1 in

@@ -60,7 +60,8 @@ returns-clause-out c = λ out.
 
 pub returns-clause-counted : goal.returns-clause-counted
 returns-clause-counted c = λ some.
-    let here = there _ (IsTurned c.args.search.now.parts.now c.args.search.now.start c.args.count c.args.end c.turn_to-2.new.self) c.turn_to-2.result c.turn_to-2.ensures.turned
+    let here = there _ (IsTurned c.args.search.now.parts.now c.args.search.now.start c.args.count c.args.end c.turn_to-2.new.self) c.turn_to-2.result
+    c.turn_to-2.ensures.turned
     (sym c.is_some.ensures ∙ some) in
     let same : c.loop-number.number ≡ c.args.end = omega (arith, c.loop-number.invariant.high, c.loop-number-test.false) in
     let counting = rw same at c.loop-number.invariant.counting in

@@ -59,7 +59,8 @@ pub returns-clause-next : goal.returns-clause-next
 returns-clause-next c = walk_ends c.loop-number.invariant.walk (omega (arith, c.period_of-last.ensures.value, c.loop-number-test.false))
 
 pub returns-then-chooses_none-clause-next : goal.returns-then-chooses_none-clause-next
-returns-then-chooses_none-clause-next c = none_wanted c.args.search.now.parts.now c.args.search.now.start (Some c.args.count) c.args.self.now.place c.requires.stop
+returns-then-chooses_none-clause-next c = none_wanted c.args.search.now.parts.now c.args.search.now.start (Some c.args.count) c.args.self.now.place
+    c.requires.stop
     (c.chooses_none.ensures c.if-chooses_none.true c.args.search.now.start)
 
 pub returns-then-chooses_none-clause-walked : goal.returns-then-chooses_none-clause-walked

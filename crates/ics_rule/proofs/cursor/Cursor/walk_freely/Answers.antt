@@ -23,7 +23,8 @@ pub turn_freely-period-requires-clause-reach : goal.turn_freely-period-requires-
 turn_freely-period-requires-clause-reach c = grind (arith, walk_reach)
 
 -- what the period turned to takes is chosen within it
-within : (c : After-turn_freely-period) → (n : ℕ) → is_taken c.args.search.now.parts.now.positions (lists_none_wide c.args.search.now.parts.now.positions) c.turn_freely-period.result n
+within : (c : After-turn_freely-period) → (n : ℕ) → is_taken c.args.search.now.parts.now.positions
+    (lists_none_wide c.args.search.now.parts.now.positions) c.turn_freely-period.result n
     ≡ is_chosen_within c.args.search.now.parts.now c.args.search.now.start c.loop-number.number n
 within c = taken_within c.args.search.now.start c.turn_freely-period.ensures.product c.turn_freely-period.ensures.number c.loop-number.invariant.step
 

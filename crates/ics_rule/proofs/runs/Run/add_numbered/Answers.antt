@@ -26,5 +26,6 @@ loop-n-preserved c = let i = inside (goal.at.loop-n-preserved c).In-Some in (
 pub returns : goal.returns
 returns c = λ m. number_done c.args.self (contains c.listed-listed.result) c.args.weekday c.first_on-first.result c.loop-n.from m
     (contains_wide c.args.days.now m) (contains_wide c.loop-n.days m) c.first_on-first.ensures.place c.first_on-first.ensures.early
-    c.args.numbers.now c.days_from.ensures (omega (arith, c.first_on-first.ensures.early, c.requires.run.some)) c.in_default.ensures.next c.listed-listed.ensures
+    c.args.numbers.now c.days_from.ensures (omega (arith, c.first_on-first.ensures.early, c.requires.run.some)) c.in_default.ensures.next
+    c.listed-listed.ensures
     (c.loop-n.invariant.0 m)
