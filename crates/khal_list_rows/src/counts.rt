@@ -32,6 +32,39 @@ pub fn entries(rt: HostRuntime, source: &MemorySource, line: &str, now: i64) -> 
     print_bounds(rt, drawn.steps, &[least, most])
 }
 
+/// Prints how many entries the listing of some words has under its days, and whether so many periods were
+/// looked at for all of these days: `days LEAST MOST WORDS`.
+pub fn days(rt: HostRuntime, source: &MemorySource, line: &str, now: i64) -> io::Result<()> {
+    let (least, line) = line.split_once(' ').unwrap_or((line, ""));
+    let (most, words) = line.split_once(' ').unwrap_or((line, ""));
+    let (count, steps) = match request(rt.alloc(), words, now) {
+        Ok(request) => {
+            let drawn = under_days(rt.alloc(), source, &request);
+            drop(request);
+            drawn?
+        }
+        Err(fault) => return print_fault(rt, fault),
+    };
+    println!(rt; "{count} entries under their days")?;
+    print_bounds(rt, steps, &[least, most])
+}
+
+/// How many entries the listing of a request has under its days, and how many periods were looked at.
+fn under_days(
+    alloc: Global,
+    source: &MemorySource,
+    request: &Request,
+) -> Result<(u32, u64), AllocError> {
+    let folder = folder_of(alloc, source, request)?;
+    let mut days = folder.days(request.window, None)?;
+    for count in 0..u32::MAX {
+        if days.next()?.is_none() {
+            return Ok((count, days.steps()));
+        }
+    }
+    Ok((u32::MAX, days.steps()))
+}
+
 /// Prints an agenda of some words to an output that takes no byte, and whether so many periods were
 /// looked at: `prints-none LEAST MOST WORDS`.
 pub fn print_none(rt: HostRuntime, source: &MemorySource, line: &str, now: i64) -> io::Result<()> {

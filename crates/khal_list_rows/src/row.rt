@@ -1,6 +1,6 @@
 //! A row: its files, its clock, and what its lines ask.
 
-use crate::counts::{entries, pages, print_none};
+use crate::counts::{days, entries, pages, print_none};
 use crate::faults::Tried;
 use crate::lines::{lines, param, parts};
 use crate::narrow::run_narrow;
@@ -130,6 +130,7 @@ impl Row {
             }
             "usage" => usage_has(rt, rest, self.now),
             "entries" => entries(rt, &self.source, rest, self.now),
+            "days" => days(rt, &self.source, rest, self.now),
             "cuts" => cuts(rt, &mut self.source, rest, self.now),
             "tried" => self.tried.print(rt),
             "unfound" => run_unfound(rt, &mut self.source, rest, self.now),
