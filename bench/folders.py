@@ -38,6 +38,11 @@ def recurring(count, start, rule, zone=(), name=''):
     return calendar(lines)
 
 
+def lasting(count, start, rule, length):
+    """The same, of another length."""
+    return recurring(count, start, rule).replace(b'DURATION:PT1H', b'DURATION:' + length.encode())
+
+
 def day_stamp(number, hour):
     """A time of a day of 2000 or later, one day after another, each month with 28."""
     return '%04d%02d%02dT%02d0000Z' % (2000 + number // 336, number // 28 % 12 + 1, number % 28 + 1, hour)
@@ -209,6 +214,15 @@ ROWS = [
     ('a secondly rule that never matches, in 9000', lambda: [('a.ics', recurring(1, '197001%02dT%02d%02d00Z',
         'FREQ=SECONDLY;BYMONTH=2;BYMONTHDAY=30;COUNT=2'))],
      ['9000-01-05', '1d']),
+    ('hours until 1997, to 9799', lambda: [('a.ics', recurring(1, '199709%02dT%02d%02d00Z',
+        'FREQ=HOURLY;INTERVAL=3;UNTIL=19970902T170000Z'))],
+     ['1997-01-05', '9799-01-05']),
+    ('seconds of the year 1, of 36,525 days', lambda: [('a.ics', lasting(1, '000101%02dT%02d%02d00Z',
+        'FREQ=SECONDLY;UNTIL=00010102T000000Z', 'P36525D'))],
+     ['2024-01-05', '1d']),
+    ('seconds of 36,525 days, not started', lambda: [('a.ics', lasting(1, '000101%02dT%02d%02d00Z',
+        'FREQ=SECONDLY', 'P36525D'))],
+     ['2024-01-05', '1d', '--notstarted', '--limit', '1']),
 ]
 
 

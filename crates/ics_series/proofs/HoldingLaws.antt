@@ -28,16 +28,16 @@ use Rattle.std.specs.Cmp.Lexicographic.{slice_cmp}
 use Rattle.std.proofs.lemmas.Cmp.{nat_list_cmp_total}
 use Rattle.std.proofs.lemmas.Int.{ints}
 use Rattle.ics_rule.specs.Cursors.{looks_from, is_met, period_count}
-use Rattle.ics_fields.specs.Locals.{number, midnight, whole_days, calendar_end}
+use Rattle.ics_fields.specs.Locals.{local_seconds, number, midnight, whole_days, calendar_end}
 use Rattle.ics_rule.proofs.CursorLemmas.{few_steps, count_within}
 use Rattle.ics_series.specs.EntryLaws.{entry_total}
 use Rattle.ics_series.specs.Listing.{IsIn}
 use Rattle.ics_series.specs.Merged.{merged}
 use Rattle.ics_series.specs.Rising.{Rises}
-use Rattle.ics_series.specs.RuleStarts.{midnight_number}
+use Rattle.ics_series.specs.RuleStarts.{ends_at, midnight_number}
 use Rattle.ics_series.specs.SeriesFeed.{series_near}
 use Rattle.ics_series.specs.Singles.{is_single}
-use Rattle.ics_series.specs.Starts.{recurrence_of}
+use Rattle.ics_series.specs.Starts.{local_of, recurrence_of}
 use Rattle.ics_series.specs.Steps.{HasStepBound}
 use Rattle.ics_series.proofs.StartSourceLemmas.{number-seconds}
 use Rattle.ics_series.proofs.ListingLemmas.{not-less-itself, all-as, in-all}
@@ -46,7 +46,7 @@ use Rattle.std.proofs.lemmas.Bool.Decides.{nat_tests}
 use Rattle.std.proofs.lemmas.Bool.{ltb-true, and_from, lt-ltb}
 use Rattle.ics_rule.specs.Candidates.{is_stepped, period_in}
 use Rattle.ics_rule.specs.EffectiveRules.{effective}
-use Rattle.ics_rule.specs.Kept.{count}
+use Rattle.ics_rule.specs.Kept.{count, until_moment}
 use Rattle.ics_rule.specs.Recurrence.{Recurrence}
 use Rattle.ics_rule.proofs.Counts.{count_mono}
 use Rattle.ics_rule.proofs.KeptLemmas.{and_true}
@@ -153,8 +153,9 @@ series-most s coming most near bound = by s.rule_starts s.own_rule (λ e m of. (
     by None own near = omega arith
     by (Some r) own near =
         let p = bound r.rule (sym (ap recurrence_of own.event_is) ∙ r.of) in
-        let end : midnight r.asked ≤ℤ (r.window.to +ℤ whole_days 4) = omega (arith, ints, r.asked_end, r.soon) in
-        let to-is : r.window.to ≡ s.window.to = ap (λ (x : Window). x.to) own.window_is in
+        let ends = λ (w : Window) (v : Event). ends_at w (until_moment r.rule) (local_seconds (local_of v.start.stamp)) in
+        let end : midnight r.asked ≤ℤ (ends r.window r.event.now +ℤ whole_days 4) = omega (arith, ints, r.asked_end, r.soon) in
+        let to-is : ends r.window r.event.now ≡ ends s.window s.event.now = λ i. ends (own.window_is i) (own.event_is i) in
         let high : midnight_number r.asked ≤ p.b = ⊎_elim
         (λ past. omega (arith, ints, asked-number r, end, to-is, past))
         (λ o. let close = near o.occurrence o.stands o.of o.local o.kept in omega (arith, ints, asked-number r, close, o.past)) p.to in

@@ -1,12 +1,15 @@
 -- One step of reading the starts of a rule: a kept local more, or none up to a bound.
 use lib.Signed.{mag}
 use Rattle.std.proofs.Common.{◌≡◌, ℕ, ◌+◌, ◌<◌, ◌≤◌, w32, to_z, of_z, max, ℤ, pos, ◌+ℤ◌, ◌-ℤ◌, Bool, true, false, ◌&&◌, List, [], ◌∷◌, length, ◌⊎◌, inl, inr}
-use Rattle.std.proofs.Common.{⊎_elim, refl, sym, ap, arith, ◌≤ℤ◌, ◌<ℤ◌, int_lt, not, slice_get}
-use Rattle.std.proofs.lemmas.Int.{ints}
+use Rattle.std.proofs.Common.{⊎_elim, refl, sym, ap, arith, ◌≤ℤ◌, ◌<ℤ◌, int_lt, not, slice_get, Option, Some, None, ◌==◌, ◌∙◌}
+use Rattle.std.proofs.lemmas.Bool.{eqb-true, or_cases}
+use Rattle.std.proofs.lemmas.Int.{int_max_is, int_min_is, ints}
+use Rattle.std.specs.Int.{int_max, int_min}
 use Rattle.ics_fields.specs.Days.{IsDayNumber}
 use Rattle.ics_fields.specs.declared.local.Local.{Local}
 use Rattle.ics_rule.specs.Cursors.{place_of}
-use Rattle.ics_fields.specs.Locals.{local_at, number, midnight, whole_days, year_seconds}
+use Rattle.ics_rule.specs.Kept.{until_moment}
+use Rattle.ics_fields.specs.Locals.{local_at, local_seconds, number, midnight, whole_days, year_seconds}
 use Rattle.ics_rule.specs.Next.{NoneKept, IsNextKept}
 use Rattle.ics_rule.specs.Recurrence.{Recurrence}
 use Rattle.ics_rule.proofs.KeptLemmas.{and_true}
@@ -22,17 +25,18 @@ use Rattle.ics_series.specs.Merged.{cut}
 use Rattle.ics_series.specs.MergedLaws.{rises-union}
 use Rattle.ics_series.specs.Rising.{Rises}
 use Rattle.ics_series.specs.RuleFeed.{starts_left}
-use Rattle.ics_series.specs.RuleStarts.{found, gives, is_behind, is_ready, midnight_number, steps_left, to_come, with_held, AreHeld, IsHeld}
-use Rattle.ics_series.specs.Starts.{time_at}
+use Rattle.ics_series.specs.RuleStarts.{ends_at, found, gives, is_behind, is_ready, midnight_number, moment_numbered, steps_left, to_come, with_held, AreHeld, IsHeld}
+use Rattle.ics_series.specs.Starts.{local_of, time_at}
+use Rattle.ics_zone.specs.Observances.{is_until}
 use Rattle.ics_series.specs.FileZones.{clocks_in, IsTimeOf}
-use Rattle.ics_series.proofs.StartSourceLemmas.{kept-time, numbered-number}
+use Rattle.ics_series.proofs.StartSourceLemmas.{calendar-day, kept-time, number-seconds, numbered-number, own-day}
 use Rattle.ics_series.proofs.RawLemmas.{held-in-days}
 use Rattle.ics_series.proofs.RuleDayLemmas.{come-none, come-one, early-numbered, found-is, given-parts, late-numbered, less-start, number-day, rises-found}
 use Rattle.ics_series.proofs.ListingLemmas.{before-in}
 use Rattle.ics_series.proofs.UnionLemmas.{union-in}
 use Rattle.ics_series.proofs.BeginsLemmas.{before-all, put-before, before-union}
 use Rattle.ics_series.proofs.FirstLemmas.{int-less, moment_total}
-use Rattle.ics_zone.proofs.Cases.{int_le_false, int_le_true, int_lt_true}
+use Rattle.ics_zone.proofs.Cases.{int_le_false, int_le_true, int_lt_true, less_or_not_z}
 use Rattle.ics_series.proofs.Cases.{not-true, by-cases}
 use Rattle.ics_rule.specs.PeriodNumbers.{rules_end}
 
@@ -93,12 +97,52 @@ module _ (zones : FileZones) (event : Event) (rule : Recurrence) (w : Window) wh
         early = omega (arith, ints, early);
       }
 
+-- Where a rule ends in a window.
+pub ends-most : (w : Window) (o : Option ℤ) (first : ℤ) → ends_at w o first ≤ℤ w.to
+ends-most w None first = omega (arith, ints)
+ends-most w (Some until) first = omega (arith, ints, int_min_is w.to (int_max until first +ℤ pos 1))
+
+-- An instant before the window's end that UNTIL allows is before it, and so is DTSTART's local, or the instant.
+within-until : (w : Window) (o : Option ℤ) (first t : ℤ) → t <ℤ w.to → is_until o t ≡ true → t <ℤ ends_at w o first
+within-until w None first t l e = l
+within-until w (Some until) first t l e =
+    omega (arith, ints, l, int_le_true t until e, int_max_is until first, int_min_is w.to (int_max until first +ℤ pos 1))
+
+within-first : (w : Window) (o : Option ℤ) (first t : ℤ) → t <ℤ w.to → (t <ℤ ends_at w o first) ⊎ (first <ℤ ends_at w o first)
+within-first w None first t l = inl l
+within-first w (Some until) first t l =
+    let least = int_min_is w.to (int_max until first +ℤ pos 1) in
+    let most = int_max_is until first in
+    ⊎_elim (λ e. inr (omega (arith, ints, e, most, least))) (λ e. inl (omega (arith, ints, l, e, least)))
+    (less_or_not_z (int_max until first +ℤ pos 1) w.to)
+
 module _ (s : RuleStarts) where
+  pub end-soon : midnight s.end <ℤ (s.window.to +ℤ whole_days 3)
+  end-soon = omega (arith, ints, s.soon, ends-most s.window (until_moment s.rule) (local_seconds (local_of s.event.now.start.stamp)))
+
   pub day-days : IsDayNumber s.day
-  day-days = (omega (arith, ints, s.low), omega (arith, ints, s.asked_on, s.asked_end, s.soon, s.window.not_late))
+  day-days = (omega (arith, ints, s.low), omega (arith, ints, s.asked_on, s.asked_end, end-soon, s.window.not_late))
 
   pub end-days : IsDayNumber s.end
-  end-days = (omega (arith, ints, s.low, s.asked_on, s.asked_end), omega (arith, ints, s.soon, s.window.not_late))
+  end-days = (omega (arith, ints, s.low, s.asked_on, s.asked_end), omega (arith, ints, end-soon, s.window.not_late))
+
+  -- a local that gives a start has a day before the end
+  given-early : (day : ℤ) (n : ℕ) → IsDayNumber day → midnight_number day ≤ n → gives (clocks_in s.zones) s.event.now s.rule s.window n ≡ true →
+      day <ℤ s.end
+  given-early day n h l g =
+      let t = moment_numbered (clocks_in s.zones) s.event.now n in
+      let until = until_moment s.rule in
+      let late = late-numbered s.zones s.event.now day n h l in
+      let parts = given-parts s.zones s.event.now s.rule s.window n g in
+      let first = local_of s.event.now.start.stamp in
+      ⊎_elim
+      (λ same.
+      let is : n ≡ number first = eqb-true n (number s.rule.start) same ∙ s.first in
+      let at = number-seconds first (calendar-day first.day (own-day s.event.now.start s.time.is_time)) in
+      ⊎_elim (λ e. omega (arith, ints, late, e, s.after)) (λ e. omega (arith, ints, e, s.after, is, at, number-day day h, l))
+      (within-first s.window until (local_seconds first) t parts.2))
+      (λ e. let early = within-until s.window until (local_seconds first) t parts.2 e in omega (arith, ints, late, early, s.after))
+      (or_cases (n == number s.rule.start) (is_until until t) parts.1)
 
   -- what is held is no more than the event has in five UTC days
   pub few-held : length s.held.items ≤ most_in_days (clocks_in s.zones) s.event.now
@@ -118,8 +162,8 @@ module _ (s : RuleStarts) where
   found-late t m =
       let f = found-is s.zones s.event.now s.rule s.window (place_of s.cursor) t m in
       let late = late-numbered s.zones s.event.now s.day f.by day-days (omega (arith, s.read, f.from_place)) in
-      let soon = (given-parts s.zones s.event.now s.rule s.window f.by f.given).2 in
-      (omega (arith, ints, late, ap (λ (x : Start). x.moment) f.is), omega (arith, ints, late, soon, s.after))
+      let early = given-early s.day f.by day-days (omega (arith, s.read, f.from_place)) f.given in
+      (omega (arith, ints, late, ap (λ (x : Start). x.moment) f.is), early)
 
   -- where no day more has to be read the first that is held is the first still to come
   abbrev in_front : List Start → List Start

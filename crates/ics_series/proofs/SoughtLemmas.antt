@@ -1,6 +1,6 @@
 -- The starts at DTSTART and by RDATEs, and that those that are sought are among those that are found.
 use Rattle.std.proofs.Common.{◌≡◌, ℕ, suc, ◌+◌, ◌<◌, ℤ, ◌+ℤ◌, ◌-ℤ◌, ◌<ℤ◌, ◌≤ℤ◌, List, [], ◌∷◌, length, get_or, drop, add-one, Bool, true, false, Some}
-use Rattle.std.proofs.Common.{None, option_map, inl, inr, ⊎_elim, sym, ◌∙◌, ap, subst, arith, zero, ◌⊎◌, refl, drop-cons, slice_get, not}
+use Rattle.std.proofs.Common.{None, option_map, inl, inr, ⊎_elim, sym, ◌∙◌, ap, subst, arith, zero, ◌⊎◌, refl, drop-cons, slice_get, not, if◌then◌else◌}
 use Rattle.std.proofs.lemmas.Int.{int_min_is, ints}
 use Rattle.ics_event.specs.declared.event.Event.{Event}
 use Rattle.ics_event.specs.declared.time.Rdate.{Rdate}
@@ -13,7 +13,7 @@ use Rattle.ics_series.specs.declared.zones.FileZones.{FileZones}
 use Rattle.ics_series.specs.Clocks.{Clocks, instant}
 use Rattle.ics_event.specs.Event.{stamp_seconds}
 use Rattle.ics_series.specs.Finish.{seconds_lasting}
-use Rattle.ics_series.specs.Found.{earlier, earliest, earliest_from, is_span_met, listed_from, start_at, start_by, IsSought, with_front}
+use Rattle.ics_series.specs.Found.{earlier, earliest, earliest_from, first_met, is_span_met, listed_from, start_at, start_by, IsSought, with_front}
 use Rattle.ics_series.specs.Listing.{IsIn}
 use Rattle.ics_series.specs.Meeting.{entry_from}
 use Rattle.ics_series.specs.Meets.{Meets}
@@ -124,6 +124,11 @@ module _ (zones : FileZones) (w : Window) (event : Event) where
   pub sought-early : (t : ℤ) → IsSought (clocks_in zones) event w t → t <ℤ w.to
   sought-early t s = omega (arith, ints, s.starts, s.meets.begun)
 
+  met-late : (time : Time) → Meets w (entry_from (clocks_in zones) event (At time)) → (b : Bool) → w.notstarted ≡ b →
+      ((if b then w.from else w.from -ℤ seconds_lasting (clocks_in zones) event) -ℤ whole_days 4) ≤ℤ instant (clocks_in zones) time
+  met-late time m true e = omega (arith, ints, m.started e)
+  met-late time m false e = meets-late zones event w time m
+
   -- what is sought begins at most four days before what counts first
   pub sought-late : (t : ℤ) → IsSought (clocks_in zones) event w t → (earliest (clocks_in zones) w event (front (clocks_in zones) w event) -ℤ whole_days 4) ≤ℤ t
   sought-late t s = by s.source s.given s.gives s.starts s.meets
@@ -132,13 +137,13 @@ module _ (zones : FileZones) (w : Window) (event : Event) where
           Meets w (entry_from (clocks_in zones) event given)
           → (earliest (clocks_in zones) w event (front (clocks_in zones) w event) -ℤ whole_days 4) ≤ℤ t
       by source (At time) g e m =
-          let most = earliest-most (clocks_in zones) w event (w.from -ℤ seconds_lasting (clocks_in zones) event) (front (clocks_in zones) w event) in
-          omega (arith, ints, e, meets-late zones event w time m, most)
+          let most = earliest-most (clocks_in zones) w event (first_met (clocks_in zones) w event) (front (clocks_in zones) w event) in
+          omega (arith, ints, e, met-late time m w.notstarted refl, most)
       by (Kept local) (Span start lasts) g e m = let f : Span start lasts ≡ At (time_at event.start local) = g.1 in absurd cc
       by (Listed place) (Span start lasts) g e m =
           let there = listed-there place (Span start lasts) g m.begun in
           let met = meets-is_met w (entry_from (clocks_in zones) event (Span start lasts)) m in
-          let each = earliest-each (clocks_in zones) w event (w.from -ℤ seconds_lasting (clocks_in zones) event)
+          let each = earliest-each (clocks_in zones) w event (first_met (clocks_in zones) w event)
           (start_by (clocks_in zones) (Listed place) (Span start lasts)) (front (clocks_in zones) w event) there met in
           omega (arith, ints, e, each)
 

@@ -142,7 +142,11 @@ earliest_from clocks w event least [] = least
 earliest_from clocks w event least (s ∷ starts) =
     earliest_from clocks w event (earlier (is_span_met clocks w event s s.given) least s.moment) starts
 
--- The instant from which on the rule is read: the first at which an event of this length can still meet the window or, if it is earlier, the
+-- The first instant at which an event of this length can start and meet the window: none before the window does if what has begun is left out.
+abbrev pub first_met : Clocks → Window → Event → ℤ
+first_met clocks w event = if w.notstarted then w.from else w.from -ℤ seconds_lasting clocks event
+
+-- The instant from which on the rule is read: the first at which an event of this length can meet the window or, if it is earlier, the
 -- earliest start by a PERIOD that meets it, since a local at that instant gives it the event's length.
 abbrev pub earliest : Clocks → Window → Event → List Start → ℤ
-earliest clocks w event starts = earliest_from clocks w event (w.from -ℤ seconds_lasting clocks event) starts
+earliest clocks w event starts = earliest_from clocks w event (first_met clocks w event) starts

@@ -1,5 +1,6 @@
 -- The starts that the rule of an event gives before the end of a window, as one rising list.
-use Rattle.std.specs.Prelude.{◌≡◌, ◌≤ℤ◌, ◌<ℤ◌, ℕ, zero, suc, ◌+◌, ◌-◌, ◌≤◌, ℤ, ◌-ℤ◌, ◌+ℤ◌, Bool, true, false, ◌&&◌, ◌||◌, ◌==◌, not, int_le, int_lt, List}
+use Rattle.std.specs.Prelude.{◌≡◌, ◌≤ℤ◌, ◌<ℤ◌, ℕ, zero, suc, ◌+◌, ◌-◌, ◌≤◌, ℤ, ◌-ℤ◌, ◌+ℤ◌, Bool, true, false, ◌&&◌, ◌||◌, ◌==◌, not, int_le, int_lt, pos, List, Option, Some, None}
+use Rattle.std.specs.Int.{int_max, int_min}
 use Rattle.std.specs.Prelude.{[], ◌∷◌}
 use Rattle.ics_fields.specs.Days.{day_index, day_numbered}
 use Rattle.ics_fields.specs.Locals.{local_at, number, midnight, whole_days}
@@ -37,6 +38,12 @@ lets_until rule n t = (n == number rule.start) || is_until (until_moment rule) t
 unfoldable pub gives : Clocks → Event → Recurrence → Window → ℕ → Bool
 gives clocks event rule w n =
     is_kept rule n && (lets_until rule n (moment_numbered clocks event n) && int_lt (moment_numbered clocks event n) w.to)
+
+-- The instant from which on a rule gives no start in a window: the window's end or, if that is earlier, the second after the later of an
+-- UNTIL in UTC and DTSTART's local.
+abbrev pub ends_at : Window → Option ℤ → ℤ → ℤ
+ends_at w None first = w.to
+ends_at w (Some until) first = int_min w.to (int_max until first +ℤ pos 1)
 
 -- the list, with a start put in its place if the test passes
 abbrev pub with_put : Bool → Start → List Start → List Start

@@ -4,9 +4,11 @@ use Rattle.std.specs.Int.{int_max}
 use Rattle.ics_fields.specs.declared.local.Local.{Local}
 use Rattle.ics_rule.specs.Cursors.{looks_from, period_count}
 use Rattle.ics_fields.specs.Locals.{number, local_seconds, whole_days, year_number}
+use Rattle.ics_rule.specs.Kept.{until_moment}
 use Rattle.ics_rule.specs.Recurrence.{Recurrence}
 use Rattle.ics_series.specs.Entry.{Entry}
 use Rattle.ics_series.specs.Listing.{IsIn}
+use Rattle.ics_series.specs.RuleStarts.{ends_at}
 use Rattle.ics_series.specs.SeriesStarts.{first_of, IsKeptAt}
 use Rattle.ics_series.specs.Sources.{Recurring}
 use Rattle.ics_series.specs.Starts.{local_of, recurrence_of}
@@ -32,9 +34,10 @@ pub record IsPastStart (m : Recurring) (coming : List Entry) (b : ℕ) : Type 0 
   pub kept : IsKeptAt m.clocks m.event local occurrence.start
   pub past : IsWeekPast occurrence.start b
 
--- it is so past the window's end or past such a start
-abbrev pub IsLookedTo : Recurring → List Entry → ℕ → Type 0
-IsLookedTo m coming b = IsWeekPast m.window.to b ⊎ IsPastStart m coming b
+-- it is so past the end of the rule in the window or past such a start
+abbrev pub IsLookedTo : Recurring → List Entry → Recurrence → ℕ → Type 0
+IsLookedTo m coming rule b =
+    IsWeekPast (ends_at m.window (until_moment rule) (local_seconds (local_of m.event.start.stamp))) b ⊎ IsPastStart m coming b
 
 -- most is two more than the number of the periods of the master's rule that hold a local among which starts are searched for; under COUNT
 -- these are the locals from DTSTART on
@@ -42,7 +45,7 @@ pub record HasPeriods (m : Recurring) (coming : List Entry) (rule : Recurrence) 
   pub a : ℕ
   pub from : IsLookedFrom m a
   pub b : ℕ
-  pub to : IsLookedTo m coming b
+  pub to : IsLookedTo m coming rule b
   pub count : most ≡ period_count rule (looks_from rule.parts.count (number rule.start) a) b + 2
 
 -- the same, or the master has no rule

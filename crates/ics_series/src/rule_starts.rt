@@ -3,12 +3,12 @@ ghost use Rattle.std.specs.Prelude.{◌≡◌, ◌<◌, ◌≤◌, ◌+◌, ◌<
 ghost use Rattle.std.specs.VecDeque.{deque_len, deque_capacity};
 ghost use Rattle.ics_fields.specs.Days.{IsDayNumber};
 ghost use Rattle.ics_rule.specs.Cursors.{place_of, IsCursorOf};
-ghost use Rattle.ics_rule.specs.Kept.{is_kept};
-ghost use Rattle.ics_fields.specs.Locals.{number, midnight, whole_days, year_seconds};
+ghost use Rattle.ics_rule.specs.Kept.{is_kept, until_moment};
+ghost use Rattle.ics_fields.specs.Locals.{local_seconds, number, midnight, whole_days, year_seconds};
 ghost use Rattle.ics_series.specs.EventLaws.{time-prop};
 ghost use Rattle.ics_series.specs.Found.{moment_cmp, start_at};
 ghost use Rattle.ics_series.specs.Rising.{Rises, Rises-prop};
-ghost use Rattle.ics_series.specs.RuleStarts.{gives, is_behind, is_ready, lets_until, midnight_number, with_held, AreHeld, HasLookedTo};
+ghost use Rattle.ics_series.specs.RuleStarts.{ends_at, gives, is_behind, is_ready, lets_until, midnight_number, with_held, AreHeld, HasLookedTo};
 ghost use Rattle.ics_series.specs.RuleStartLaws.{cursor-prop, held-prop, looked-prop, rule-prop};
 ghost use Rattle.ics_series.specs.Starts.{local_of, recurrence_of, time_at};
 ghost use Rattle.ics_series.specs.FileZones.{clocks_in, IsTimeOf};
@@ -39,7 +39,7 @@ pub(crate) struct RuleStarts<'a> {
     day: i32,
     /// No period was looked at for a local from this day on. It is `day` or, while that is read, the next.
     asked: i32,
-    /// No local from this day on has an instant before the window's end.
+    /// No local from this day on gives a start.
     end: i32,
     held: VecDeque<Start>,
     ghost of: { recurrence_of event.now ≡ Some rule } by { rule-prop (recurrence_of event.now) (Some rule) },
@@ -55,8 +55,8 @@ pub(crate) struct RuleStarts<'a> {
     ghost asked_soon: { asked ≤ℤ (day +ℤ pos 1) },
     ghost asked_end: { asked ≤ℤ end },
     ghost early: { midnight_number end ≤ rules_end },
-    ghost after: { (window.to +ℤ whole_days 2) ≤ℤ midnight end },
-    ghost soon: { midnight end <ℤ (window.to +ℤ whole_days 3) },
+    ghost after: { (ends_at window (until_moment rule) (local_seconds (local_of event.now.start.stamp)) +ℤ whole_days 2) ≤ℤ midnight end },
+    ghost soon: { midnight end <ℤ (ends_at window (until_moment rule) (local_seconds (local_of event.now.start.stamp)) +ℤ whole_days 3) },
 }
 
 // Whether the instant of a local is before the window's end and, unless the local is the first, not after UNTIL.
@@ -140,7 +140,8 @@ impl<'a> RuleStarts<'a> {
         ensures rule { result.rule ≡ rule }
         ensures from { result.from ≡ from }
     {
-        let end = end_nearby(&window);
+        let first = local_of(event.start.stamp);
+        let end = end_nearby(&window, rule.until_moment(), first);
         let day = from.day.min(end);
         RuleStarts {
             zones,

@@ -1,10 +1,11 @@
 //! The starts of an event by which it can meet a window.
-ghost use Rattle.std.specs.Prelude.{◌≡◌, ◌<ℤ◌, ◌≤ℤ◌, ◌+ℤ◌, ◌-ℤ◌, None, All, IfOk};
+ghost use Rattle.std.specs.Prelude.{◌≡◌, ◌<ℤ◌, ◌≤ℤ◌, ◌+ℤ◌, ◌-ℤ◌, pos, None, All, IfOk};
 ghost use Rattle.std.specs.Int.{int_max};
 ghost use Rattle.ics_fields.specs.Days.{IsDayNumber};
-ghost use Rattle.ics_fields.specs.Locals.{midnight, local_seconds, whole_days};
-ghost use Rattle.ics_series.specs.Found.{earliest, firsts_after, is_span_met, start_at, IsStart};
+ghost use Rattle.ics_fields.specs.Locals.{midnight, local_seconds, whole_days, year_seconds};
+ghost use Rattle.ics_series.specs.Found.{earliest, first_met, firsts_after, is_span_met, start_at, IsStart};
 ghost use Rattle.ics_zone.specs.Observances.{is_until};
+ghost use Rattle.ics_series.specs.RuleStarts.{ends_at};
 ghost use Rattle.ics_series.specs.Starts.{time_at};
 ghost use Rattle.ics_series.specs.FileZones.{clocks_in, IsOwnEvent, IsTimeOf};
 ghost use Rattle.ics_series.specs.WindowBounds.{lasts_most, occurrence_first, window_last};
@@ -32,6 +33,20 @@ pub(crate) fn start_at(zones: FileZones<'_>, event: &Event, local: Local) -> Sta
     }
 }
 
+// The first instant at which an event of this length can start and meet the window.
+fn first_met(zones: FileZones<'_>, event: &Event, window: &Window) -> Moment
+    requires { IsOwnEvent zones event.now }
+    ensures value { result ≡ first_met (clocks_in zones.entry) window.now event.now }
+    ensures late { (occurrence_first -ℤ lasts_most) ≤ℤ result }
+    ensures early { result ≤ℤ window.now.from }
+{
+    if window.notstarted {
+        window.from
+    } else {
+        window.from - seconds_lasting(zones, event)
+    }
+}
+
 // The instant from which on the rule is read: the first at which an event of this length can still
 // meet the window or, if it is earlier, the earliest start by a PERIOD that meets it, since a local at
 // that instant gives it the event's length.
@@ -47,7 +62,7 @@ pub(crate) fn earliest(
     ensures late { (occurrence_first -ℤ lasts_most) ≤ℤ result }
     ensures early { result ≤ℤ window.now.to }
 {
-    let mut earliest = window.from - seconds_lasting(zones, event);
+    let mut earliest = first_met(zones, event, window);
     for start in starts {
         if is_span_met(zones, event, *start, window) {
             earliest = earliest.min(start.moment);
@@ -97,14 +112,29 @@ pub(crate) fn first_nearby(first: Local, earliest: Moment) -> Local
     }
 }
 
-// The third day after the window's last. No local from that day on has an instant before the window's
-// end.
-pub(crate) fn end_nearby(window: &Window) -> i32
-    ensures day { IsDayNumber result }
-    ensures after { (window.now.to +ℤ whole_days 2) ≤ℤ midnight result }
-    ensures soon { midnight result <ℤ (window.now.to +ℤ whole_days 3) }
+// The last instant at which a rule with this UNTIL in UTC and this first local can give a start in a
+// window.
+fn last_given(window: &Window, until: Option<Moment>, first: Local) -> Moment
+    requires { IsDayNumber first.day }
+    ensures value { (result +ℤ pos 1) ≡ ends_at window.now until (local_seconds first) }
+    ensures low { year_seconds 0 ≤ℤ result }
+    ensures early { result <ℤ window.now.to }
 {
-    Local::of_seconds(window.to - 1).day + 3
+    match until {
+        None => window.to - 1,
+        Some(until) => until.max(first.seconds()).min(window.to - 1),
+    }
+}
+
+// The third day after that instant. No local from that day on has an instant at which the rule can give
+// a start.
+pub(crate) fn end_nearby(window: &Window, until: Option<Moment>, first: Local) -> i32
+    requires { IsDayNumber first.day }
+    ensures day { IsDayNumber result }
+    ensures after { (ends_at window.now until (local_seconds first) +ℤ whole_days 2) ≤ℤ midnight result }
+    ensures soon { midnight result <ℤ (ends_at window.now until (local_seconds first) +ℤ whole_days 3) }
+{
+    Local::of_seconds(last_given(window, until, first)).day + 3
 }
 
 // The first of each run of starts at one instant.

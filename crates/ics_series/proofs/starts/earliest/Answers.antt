@@ -1,12 +1,12 @@
 use Rattle.std.proofs.lemmas.Grind.{common_steps}
-use Rattle.std.proofs.Common.{◌≡◌, w64, to_z, of_z, ◌-ℤ◌, sym, ◌∙◌, ap, subst, arith}
+use Rattle.std.proofs.Common.{◌≡◌, w64, to_z, of_z, sym, ◌∙◌, ap, subst, arith}
 use Rattle.std.specs.Int.{int_min}
 use Rattle.std.proofs.lemmas.Int.{ints, int_min_is}
-use Rattle.ics_series.specs.Finish.{seconds_lasting}
 use Rattle.ics_series.specs.Found.{earlier, earliest_from, IsStart}
 use Rattle.ics_series.specs.Starts.{time_of}
 use Rattle.ics_series.specs.FileZones.{clocks_in}
 use Rattle.ics_series.proofs.StartSourceLemmas.{rdate-time}
+use Rattle.ics_series.proofs.Cases.{moment-back}
 use Rattle.ics_series.proofs.InstantLemmas.{early, late}
 use Rattle.ics_series.proofs.SoughtLemmas.{earliest-step}
 use Rattle.ics_series.proofs.starts.earliest.Goals as goal
@@ -17,14 +17,12 @@ loop-start-init c =
     let clocks = clocks_in c.args.zones in
     let event = c.args.event.now in
     let w = c.args.window.now in
-    let long = c.seconds_lasting in
-    let base : to_z w64 (of_z w64 (to_z w64 (of_z w64 c.args.window.now.from) -ℤ to_z w64 (of_z w64 c.seconds_lasting.result)))
-    ≡ c.args.window.now.from -ℤ seconds_lasting (clocks_in c.args.zones) c.args.event.now =
-    omega (arith, ints, long.type_inv, long.ensures.value, long.ensures.least, long.ensures.most, w.not_early, w.not_late, w.ordered) in
+    let met = c.first_met-earliest in
+    let fits = moment-back met.result met.type_inv in
     record {
-      rest = ap (λ t. earliest_from clocks w event t c.args.starts.now) base;
-      late = omega (arith, ints, base, long.ensures.value, long.ensures.most, w.not_early);
-      early = omega (arith, ints, base, long.ensures.value, long.ensures.least, w.ordered);
+      rest = ap (λ t. earliest_from clocks w event t c.args.starts.now) (fits ∙ met.ensures.value);
+      late = omega (arith, ints, fits, met.ensures.late);
+      early = omega (arith, ints, fits, met.ensures.early, w.ordered);
     }
 
 pub loop-start-preserved : goal.loop-start-preserved

@@ -6,9 +6,11 @@ use Rattle.ics_series.proofs.starts.end_nearby.Goals as goal
 pub returns : goal.returns
 returns c =
     let w = c.args.window.now in
+    let last = c.last_given.ensures in
+    let fits = c.last_given.type_inv in
     let under = day-under _ c.of_seconds.result.day c.of_seconds.ensures.day in
     record {
-      day = (omega (arith, ints, under.1, w.ordered, w.not_early), omega (arith, ints, under.0, w.not_late));
-      after = omega (arith, ints, under.0, under.1, w.ordered, w.not_early, w.not_late);
-      soon = omega (arith, ints, under.0, under.1, w.ordered, w.not_early, w.not_late);
+      day = (omega (arith, ints, under.1, last.low, last.early, w.not_late, fits), omega (arith, ints, under.0, last.low, last.early, w.not_late, fits));
+      after = omega (arith, ints, under.0, under.1, last.value, last.low, last.early, w.not_late, fits);
+      soon = omega (arith, ints, under.0, under.1, last.value, last.low, last.early, w.not_late, fits);
     }

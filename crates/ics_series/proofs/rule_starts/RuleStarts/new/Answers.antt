@@ -1,20 +1,34 @@
-use Rattle.std.proofs.Common.{refl, sym, ap, subst, arith}
+use Rattle.std.proofs.Common.{◌≡◌, ◌∙◌, refl, sym, ap, subst, arith}
 use Rattle.std.proofs.lemmas.Int.{int_min_is, ints}
 use Rattle.ics_fields.specs.declared.local.Local.{Local}
 use Rattle.ics_rule.specs.Cursors.{place_of}
-use Rattle.ics_fields.specs.Locals.{number}
+use Rattle.ics_event.specs.declared.event.Event.{Event}
+use Rattle.ics_rule.specs.Kept.{until_moment}
+use Rattle.ics_fields.specs.Locals.{local_seconds, number}
 use Rattle.ics_series.specs.Found.{moment_cmp}
 use Rattle.ics_series.specs.Listing.{IsIn}
 use Rattle.ics_series.specs.Rising.{Rises}
 use Rattle.ics_series.proofs.RuleDayLemmas.{come-empty}
-use Rattle.ics_series.proofs.StartSourceLemmas.{rule-first}
-use Rattle.ics_series.proofs.RuleStepLemmas.{day-back, signed-back}
+use Rattle.ics_series.specs.RuleStarts.{ends_at}
+use Rattle.ics_series.specs.Starts.{local_of}
+use Rattle.ics_series.proofs.StartSourceLemmas.{calendar-day, own-day, rule-first}
+use Rattle.ics_series.proofs.RuleStepLemmas.{day-back, ends-most, signed-back}
 use Rattle.ics_series.proofs.rule_starts.RuleStarts.new.Goals as goal
+
+pub end_nearby-end-requires : goal.end_nearby-end-requires
+end_nearby-end-requires c =
+    rw (c.local_of-first.ensures ∙ ap (λ (v : Event). local_of v.start.stamp) c.event.view_is)
+    (calendar-day (local_of c.args.event.now.start.stamp).day (own-day c.args.event.now.start c.requires.event.start.is_time))
 
 pub invariant_of-result : goal.invariant_of-result
 invariant_of-result c =
     let w = c.args.window in
     let e = c.end_nearby-end.ensures in
+    let ends : ends_at c.args.window c.until_moment.result (local_seconds c.local_of-first.result)
+    ≡ ends_at c.args.window (until_moment c.args.rule) (local_seconds (local_of c.args.event.now.start.stamp)) =
+    λ i. ends_at c.args.window (c.until_moment.ensures i)
+    (local_seconds ((c.local_of-first.ensures ∙ ap (λ (v : Event). local_of v.start.stamp) c.event.view_is) i)) in
+    let most = ends-most w c.until_moment.result (local_seconds c.local_of-first.result) in
     let min = c.min-day.ensures.value in
     let end = day-back c.end_nearby-end.result e.day in
     let from = day-back c.args.from.day c.requires.from in
@@ -32,9 +46,9 @@ invariant_of-result c =
       asked_on = omega (arith, ints, day);
       asked_soon = omega (arith, ints, day);
       asked_end = omega (arith, ints, day, end, from, min, int_min_is);
-      early = omega (arith, ints, end, w.not_late, e.soon, e.day.0);
-      after = omega (arith, ints, end, e.after);
-      soon = omega (arith, ints, end, e.soon);
+      early = omega (arith, ints, end, w.not_late, e.soon, most, e.day.0);
+      after = omega (arith, ints, end, e.after, ends);
+      soon = omega (arith, ints, end, e.soon, ends);
     }
 
 pub returns-clause-left : goal.returns-clause-left
