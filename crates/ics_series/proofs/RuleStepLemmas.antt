@@ -4,7 +4,7 @@ use Rattle.std.proofs.Common.{◌≡◌, ℕ, ◌+◌, ◌<◌, ◌≤◌, w32, 
 use Rattle.std.proofs.Common.{⊎_elim, refl, sym, ap, arith, ◌≤ℤ◌, ◌<ℤ◌, int_lt, not, slice_get, Option, Some, None, ◌==◌, ◌∙◌}
 use Rattle.std.proofs.lemmas.Bool.{eqb-true, or_cases}
 use Rattle.std.proofs.lemmas.Int.{int_max_is, int_min_is, ints}
-use Rattle.std.specs.Int.{int_max, int_min}
+use Rattle.std.specs.Int.{int_max}
 use Rattle.ics_fields.specs.Days.{IsDayNumber}
 use Rattle.ics_fields.specs.declared.local.Local.{Local}
 use Rattle.ics_rule.specs.Cursors.{place_of}
@@ -25,7 +25,8 @@ use Rattle.ics_series.specs.Merged.{cut}
 use Rattle.ics_series.specs.MergedLaws.{rises-union}
 use Rattle.ics_series.specs.Rising.{Rises}
 use Rattle.ics_series.specs.RuleFeed.{starts_left}
-use Rattle.ics_series.specs.RuleStarts.{ends_at, found, gives, is_behind, is_ready, midnight_number, moment_numbered, steps_left, to_come, with_held, AreHeld, IsHeld}
+use Rattle.ics_series.specs.RuleStarts.{ends_at, found, gives, is_behind, is_ready, midnight_number, moment_numbered, steps_left, to_come, with_held, AreHeld}
+use Rattle.ics_series.specs.RuleStarts.{IsHeld}
 use Rattle.ics_series.specs.Starts.{local_of, time_at}
 use Rattle.ics_zone.specs.Observances.{is_until}
 use Rattle.ics_series.specs.FileZones.{clocks_in, IsTimeOf}

@@ -1,5 +1,6 @@
 -- The starts that the rule of an event gives before the end of a window, as one rising list.
-use Rattle.std.specs.Prelude.{◌≡◌, ◌≤ℤ◌, ◌<ℤ◌, ℕ, zero, suc, ◌+◌, ◌-◌, ◌≤◌, ℤ, ◌-ℤ◌, ◌+ℤ◌, Bool, true, false, ◌&&◌, ◌||◌, ◌==◌, not, int_le, int_lt, pos, List, Option, Some, None}
+use Rattle.std.specs.Prelude.{◌≡◌, ◌≤ℤ◌, ◌<ℤ◌, ℕ, zero, suc, ◌+◌, ◌-◌, ◌≤◌, ℤ, ◌-ℤ◌, ◌+ℤ◌, Bool, true, false, ◌&&◌, ◌||◌, ◌==◌, not, int_le, int_lt, pos}
+use Rattle.std.specs.Prelude.{List, Option, Some, None}
 use Rattle.std.specs.Int.{int_max, int_min}
 use Rattle.std.specs.Prelude.{[], ◌∷◌}
 use Rattle.ics_fields.specs.Days.{day_index, day_numbered}
