@@ -2,14 +2,13 @@
 use Rattle.std.specs.Prelude.{◌≡◌, ◌≢◌, ◌⊎◌, List, Option, Result, Ok, Err}
 use Rattle.std.specs.String.{string_bytes}
 use Rattle.std.specs.Option.{option_map}
-use Rattle.clap.specs.Words.{IsAmong, Text, fault_of}
+use Rattle.clap.specs.Words.{IsAmong, Text}
 use Rattle.clap.specs.declared.error.kind.ErrorKind.{ErrorKind}
 use Rattle.clap.specs.declared.error.kind.ErrorKind.TheVariants.{DisplayHelp}
 use Rattle.ics_series.specs.OnDays.{day_key_rank, DayRank}
 use Rattle.ics_series.specs.Entry.{key_rank}
 use Rattle.ics_zone.specs.ZoneSaid.{display_said}
-use Rattle.khal_words.specs.Commands.{khal_app}
-use Rattle.khal_words.specs.Entries.{with_name}
+use Rattle.khal_words.specs.Entries.{refusal_of}
 use Rattle.khal_list.specs.declared.every_day.EveryDay.{EveryDay}
 use Rattle.khal_list.specs.declared.request.Request.{Request}
 use Rattle.khal_list.specs.declared.request_fault.RequestFault.{RequestFault}
@@ -35,9 +34,9 @@ pub record SameRequest (a b : Request) : Type 0 where
 
 -- clap's model leaves open whether help is shown: it lets the words be refused as asking for it, and for another cause
 pub record LeavesHelpOpen (words : List Text) : Type 0 where
-  pub help : IsAmong DisplayHelp (fault_of khal_app (with_name words))
+  pub help : IsAmong DisplayHelp (refusal_of words)
   pub kind : ErrorKind
-  pub among : IsAmong kind (fault_of khal_app (with_name words))
+  pub among : IsAmong kind (refusal_of words)
   pub other : kind ≢ DisplayHelp
 
 -- Both are requests, and the same, or both are one fault, and help is shown by both or by neither, as far as clap's model tells. Nothing is said if an

@@ -2,7 +2,7 @@ use Rattle.std.proofs.Common.{◌≡◌, ◌⊎◌, inl, inr, ℕ, ℤ, pos, Boo
 use Rattle.std.proofs.Common.{refl, sym, ◌∙◌, ap, subst}
 use Rattle.std.proofs.lemmas.Bool.Decides.{same_from_decides}
 use Rattle.std.specs.Prelude.{option_map, unwrap_or, IsSome}
-use Rattle.clap.specs.Words.{Text, IsAmong, fault_of}
+use Rattle.clap.specs.Words.{Text, IsAmong}
 use Rattle.ics_zone.specs.ZoneSaid.{ZoneSaid}
 use Rattle.ics_series.specs.OnDays.{day_key_rank, DayRank}
 use Rattle.ics_series.specs.Tokens.{OneDaySpelling, OneSpelling}
@@ -11,8 +11,7 @@ use Rattle.ics_series.specs.declared.day_key.DayKey.{DayKey}
 use Rattle.ics_series.specs.declared.window.Window.{Window}
 use Rattle.ics_series.specs.declared.key.Key.{Key}
 use Rattle.khal_list.specs.Agree.{Agree, LeavesHelpOpen, SameRequest, day_after}
-use Rattle.khal_words.specs.Commands.{khal_app}
-use Rattle.khal_words.specs.Entries.{Entries, day_format_text, entries_of, format_text, limit_text, span_of, with_name, IsRefused, AreTaken}
+use Rattle.khal_words.specs.Entries.{Entries, day_format_text, entries_of, format_text, limit_text, span_of, refusal_of, IsRefused, AreTaken}
 use Rattle.khal_words.specs.Formats.{day_name, entry_name, IsFormat, OneFormat}
 use Rattle.khal_words.specs.Limits.{IsLimitOf}
 use Rattle.khal_list.specs.RequestOf.{AnswerIn, EntriesAnswer, RequestOf, IsAfterBy, IsDayKeyBy, IsDayKeyOf, IsRequest, IsKeyOf, IsNoToken}
@@ -97,7 +96,7 @@ same_request one {entries = entries} {zone = zone} {now = now} {a = a} {b = b} p
 
 open_help : (words : List Text) → IsRefused words true → IsRefused words false → LeavesHelpOpen words
 open_help words p q = record {
-  help = subst (λ kind. IsAmong kind (fault_of khal_app (with_name words))) (p.asks.0 refl) p.among;
+  help = subst (λ kind. IsAmong kind (refusal_of words)) (p.asks.0 refl) p.among;
   kind = q.kind;
   among = q.among;
   other = λ is. absurd (true≢false (sym (q.asks.1 is)));
