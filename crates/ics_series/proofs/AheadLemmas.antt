@@ -43,12 +43,12 @@ use Rattle.ics_series.specs.Versions.{by_subject}
 use Rattle.ics_series.proofs.VersionLemmas.{in-map, map-in}
 
 -- an occurrence of the folder under this day
-abbrev IsUnder : List FileSaid → Clock → Window → ℤ → OnDay → Type 0
+abbrev pub IsUnder : List FileSaid → Clock → Window → ℤ → OnDay → Type 0
 IsUnder files display w day p = IsOnDay files display w p × (p.day ≡ day)
 
 module _ (files : List FileSaid) (display : Clock) (near : (t : ℤ) → IsNear (display.offset t)) (w : Window) where
   -- an occurrence meets what the window holds near a day under which it is shown, which is one that a clock can show there
-  near-under : {day : ℤ} (n : Window) → IsNearDay w day n → (p : OnDay) → IsUnder files display w day p → Meets n p.entry
+  pub near-under : {day : ℤ} (n : Window) → IsNearDay w day n → (p : OnDay) → IsUnder files display w day p → Meets n p.entry
   near-under n h p q =
       let own = subst (λ d. IsNearDay w d n) (sym q.1) h in
       meets-near display near w p.entry q.0.listed.1 (occurs-forward files display p.entry q.0.listed.0) p.day q.0.on n own.from own.to own.all
@@ -81,27 +81,31 @@ module _ (files : List FileSaid) (display : Clock) (near : (t : ℤ) → IsNear 
         subst (λ d. is_today display w d p.entry ≡ true) q.0.1 (shown-today files display near w p q.0.0),
       ))
 
-  -- those of later days begin with those of the next
-  next-day : {day next : ℤ} {today-list later-list : List OnDay} → next ≡ day +ℤ pos 1 → IsListing on_day_cmp (IsBegun next None) today-list →
+  -- nothing is shown under the days between two
+  abbrev pub NoneBetween : ℤ → ℤ → Type 0
+  NoneBetween day next = (p : OnDay) → IsOnDay files display w p → day <ℤ p.day → next ≤ℤ p.day
+
+  -- then those of later days than the first begin with those of the second
+  next-day : {day next : ℤ} {today-list later-list : List OnDay} → day <ℤ next → NoneBetween day next → IsListing on_day_cmp (IsBegun next None) today-list →
       IsListing on_day_cmp (IsLater files display w next) later-list → IsListing on_day_cmp (IsLater files display w day) (today-list ++ later-list)
-  next-day {day = day} {next = next} e h k =
+  next-day {day = day} {next = next} e none h k =
       joined on_day_cmp (IsLater files display w day) h k
       (λ p q a b. let d = a.0.1 in let l = b.later in day-first p q (omega (arith, ints, d, l)))
       (λ p. ⊎_elim (λ a. let d = a.0.1 in record { shown = a.0.0; later = omega (arith, ints, d, e) }) (λ b. let l = b.later in
       record { shown = b.shown; later = omega (arith, ints, l, e) }))
-      (λ p b. let l = b.later in
-      ⊎_elim (λ k. inr (record { shown = b.shown; later = k })) (λ k. inl ((b.shown, omega (arith, ints, k, l, e)), refl)) (less_or_not_z next p.day))
+      (λ p b. let l = none p b.shown b.later in
+      ⊎_elim (λ k. inr (record { shown = b.shown; later = k })) (λ k. inl ((b.shown, omega (arith, ints, k, l)), refl)) (less_or_not_z next p.day))
 
-  -- The next day: where nothing is to come under the day, that day's come next.
-  pub ahead-turned : {day next : ℤ} {n : Window} {none coming : List Entry} {list : List OnDay} → next ≡ day +ℤ pos 1 → IsNearDay w next n → none ≡ [] →
-      IsListing entry_cmp (IsListed files display n) coming
+  -- A later day: where nothing is to come under the day or between them, that day's come next.
+  pub ahead-turned : {day next : ℤ} {n : Window} {none coming : List Entry} {list : List OnDay} → day <ℤ next → NoneBetween day next → IsNearDay w next n
+      → none ≡ [] → IsListing entry_cmp (IsListed files display n) coming
       → IsAheadOf files display w day none list → IsAheadOf files display w next coming list
-  ahead-turned {day = day} {next = next} {n = n} {coming = coming} e h empty l a =
+  ahead-turned {day = day} {next = next} {n = n} {coming = coming} e between h empty l a =
       let later = filter (λ p. int_lt next p.day) a.later in
       let behind = listing-filter (λ p. int_lt next p.day) on_day_cmp (IsLater files display w day) (IsLater files display w next) a.later a.listing
       (λ p s t. record { shown = s.shown; later = int_lt_true next p.day t })
       (λ p s. let m = s.later in (record { shown = s.shown; later = omega (arith, ints, m, e) }, true_int_lt next p.day m)) in
-      let whole = next-day e (begun-listing next None n (near-under n h) l) behind in
+      let whole = next-day e between (begun-listing next None n (near-under n h) l) behind in
       let same : a.later ≡ today display w next coming ++ later =
       one-listing on_day_cmp on_day_total (IsLater files display w day) a.later (today display w next coming ++ later) a.listing whole in
       record {
@@ -126,7 +130,7 @@ module _ (files : List FileSaid) (display : Clock) (near : (t : ℤ) → IsNear 
   some-later xs l (suc n) day h =
       let rest = some-later xs l n (day +ℤ pos 1) (omega (arith, ints, h)) in (
         today display w (day +ℤ pos 1) xs ++ rest.0,
-        next-day refl (begun-listing (day +ℤ pos 1) None w (λ p q. q.0.listed.1) l) rest.1,
+        next-day (omega (arith, ints)) (λ p s l. omega (arith, ints, l)) (begun-listing (day +ℤ pos 1) None w (λ p q. q.0.listed.1) l) rest.1,
       )
 
   pub later-than : (xs : List Entry) → IsListing entry_cmp (IsListed files display w) xs → (day : ℤ) →
@@ -334,8 +338,8 @@ module _ (s : Scope) (day : ℤ) (looked : ℕ) (before : IsLookedBefore s day l
       let within : suc (unsigned_abs (day -ℤ begin_day s.window s.after)) ≤ n = omega (arith, ints, is, l) in
       omega (arith, so-far, today, same, sum-more f first k, sum-grows f first (suc k) n within)
 
-  -- the days before the next
-  pub looked-next : (next : ℤ) (more : ℕ) → next ≡ day +ℤ pos 1 → more ≤ looked + steps → IsLookedBefore s next more
+  -- the days before a later one
+  pub looked-next : (next : ℤ) (more : ℕ) → day <ℤ next → more ≤ looked + steps → IsLookedBefore s next more
   looked-next next more e l = λ masters most n all bounds is.
       let days = with-day masters most n all bounds (omega (arith, ints, is, e)) in
       omega (arith, days, l)
@@ -363,7 +367,7 @@ pub from-start : (after : Option DayRank) (day : ℤ) (key : Option Rank) → Is
 from-start None day key h since f = tt
 from-start (Some a) day key h since f = λ e. subst (λ k. IsFrom k since) (h.1 e) f
 
-pub from-later : (w : Window) (after : Option (ℤ × ℤ)) {day next : ℤ} → begin_day w after ≤ℤ day → next ≡ day +ℤ pos 1 → (since : ℤ)
+pub from-later : (w : Window) (after : Option (ℤ × ℤ)) {day next : ℤ} → begin_day w after ≤ℤ day → day <ℤ next → (since : ℤ)
     → IsFromStart after next since
 from-later w None low e since = tt
 from-later w (Some a) low e since = λ same. absurd (omega (arith, ints, low, e, same))

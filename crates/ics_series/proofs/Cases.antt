@@ -1,7 +1,7 @@
 -- Case distinctions of options, tests and orders.
 use lib.Signed.{mag}
 use Rattle.std.proofs.Common.{◌≡◌, ℕ, suc, ◌<◌, ◌≤◌, ℤ, ◌⊎◌, true, false, Option, Some, None, option_map, refl, sym, arith, w64, to_z, of_z, int_eq}
-use Rattle.std.proofs.Common.{is_eq, is_gt, Ordering, Less, Equal, Greater}
+use Rattle.std.proofs.Common.{is_eq, is_gt, Ordering, Less, Equal, Greater, IfOk, Result, Ok, Err}
 use Rattle.std.specs.Ordering.{ordering_then}
 use Rattle.std.proofs.lemmas.Int.{ints}
 pub use Rattle.std.proofs.lemmas.Bool.{not-true}
@@ -49,3 +49,8 @@ here-or-later from to h = grind arith
 -- An instant that fits in an i64 is read back.
 pub moment-back : (t : ℤ) → mag t < 9_223_372_036_854_775_808 → to_z w64 (of_z w64 t) ≡ t
 moment-back t l = omega (arith, ints)
+
+-- what holds of an answer in two ways
+pub if-both : {T E : Type 0} {R : T → Type 0} (r : Result T E) (P Q : T → Type 0) → ((x : T) → P x → Q x → R x) → IfOk r P → IfOk r Q → IfOk r R
+if-both (Ok x) P Q f p q = f x p q
+if-both (Err e) P Q f p q = tt

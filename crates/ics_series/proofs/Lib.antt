@@ -21,6 +21,7 @@ pub mod SeriesLemmas
 pub mod SinglesLemmas
 pub mod SoughtLemmas
 pub mod SourceLemmas
+pub mod SpanLemmas
 pub mod ToComeLemmas
 pub mod TokenLemmas
 pub mod TournamentLemmas

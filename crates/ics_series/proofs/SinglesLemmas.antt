@@ -157,7 +157,7 @@ module _ (clocks : Clocks) (event : Event) (single : is_single event ≡ true) w
       by None none = let bare = plain none in record { event = refl; recurrence = refl; lasts = first-instance clocks event bare.0 bare.1 bare.2 }
       by (Some time) some = (record { event = refl; starts = refl; ends = refl }, refl)
 
-  given-first : (o : Entry) → IsGivenBy clocks event (overridden clocks event) o → o ≡ first
+  pub given-first : (o : Entry) → IsGivenBy clocks event (overridden clocks event) o → o ≡ first
   given-first o = by event.recurrence refl
     where
       by : (r : Option Time) → event.recurrence ≡ r → IsGivenBy clocks event (option_map (instant clocks) r) o →

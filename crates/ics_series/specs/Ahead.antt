@@ -45,7 +45,7 @@ scope_of days = scope_in (map said_by days.files.now) (display_clock days.displa
 -- this list is still to come
 abbrev pub IsAhead : Days → List OnDay → Type 0
 IsAhead days list =
-    IsAheadOf (map said_by days.files.now) (display_clock days.display.now) days.window days.day (agenda_coming days.agenda) list
+    IsAheadOf (map said_by days.files.now) (display_clock days.display.now) days.window days.today.day (agenda_coming days.today.agenda) list
 
 -- what had a list to come may give this under the day, and then has the rest
 abbrev pub GivesToday : ℤ → List OnDay → Option Occurrence → List OnDay → Type 0

@@ -34,6 +34,8 @@ pub mod SeriesLaws
 pub mod SeriesStarts
 pub mod Singles
 pub mod Sources
+pub mod SpanLaws
+pub mod Spans
 pub mod Spots
 pub mod Starts
 pub mod Steps

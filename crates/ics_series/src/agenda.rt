@@ -23,8 +23,9 @@ ghost use Rattle.ics_series.specs.Sources.{master_of, recurring, AreApart, AreAp
 ghost use Rattle.ics_series.specs.Steps.{HasStepBound};
 ghost use Rattle.ics_series.specs.Tokens.{IsKey};
 ghost use Rattle.ics_series.specs.Uids.{AreSortedFrom};
-ghost use Rattle.ics_series.specs.Versions.{seen, subject_cmp, subject_seen};
-ghost use Rattle.ics_series.specs.Whole.{IsWhole};
+ghost use Rattle.ics_series.specs.Spans.{AreSpans};
+ghost use Rattle.ics_series.specs.Versions.{seen, subject_cmp, subject_seen, AreChosen};
+ghost use Rattle.ics_series.specs.declared.window.Window.{Window};
 
 use crate::chosen::{chosen, is_named};
 use crate::feed::{Coming, Feed};
@@ -34,6 +35,7 @@ use crate::merge::Merge;
 use crate::occurrence::Occurrence;
 use crate::part::Part;
 use crate::singles::Singles;
+use crate::span::Span;
 use crate::version::{Subject, Version};
 use crate::window::Window;
 use ics_event::FileEvents;
@@ -70,9 +72,34 @@ impl<'a> Agenda<'a> {
             (option_map (λ key. key_rank key.now) after.entry) (⟦<Agenda<'a> as Coming>⟧.sources agenda)) }
         ensures keys { IfOk result (λ _. (o : Entry)
             → Occurs (map said_by files.entry.now) (display_clock display.entry.now) o → IsKey (rank_of o)) }
-        ensures whole { IfOk result (λ _. IsWhole (map said_by files.entry.now) (display_clock display.entry.now)) }
     {
-        let parts = parts(alloc, files, display, window, after)?;
+        let chosen = chosen(alloc, files, display)?;
+        let spans = Vec::new(alloc);
+        Agenda::of(alloc, files, display, &chosen, &spans, window, after)
+    }
+
+    // Those of the versions that count. The spans, if there are any, say which of them need not be read.
+    pub(crate) fn of(
+        alloc: Global,
+        files: &'a [FileEvents],
+        display: &'a Display,
+        chosen: &[Version<'_>],
+        spans: &[Span],
+        window: Window,
+        after: Option<&Key>,
+    ) -> Result<Agenda<'a>, AllocError>
+        requires chosen { AreChosen (map said_by files.now) (display_clock display.now) chosen.now }
+        requires spans { AreSpans (map said_by files.now) (display_clock display.now) window (map seen chosen.now) spans.now }
+        ensures listing { IfOk result (λ agenda. IsListing entry_cmp
+            (IsToCome (map said_by files.entry.now) (display_clock display.entry.now) window
+            (option_map (λ key. key_rank key.now) after.entry))
+            (⟦<Agenda<'a> as Coming>⟧.coming agenda)) }
+        ensures sources { IfOk result (λ agenda. AreSources (map said_by files.entry.now) (display_clock display.entry.now) window
+            (option_map (λ key. key_rank key.now) after.entry) (⟦<Agenda<'a> as Coming>⟧.sources agenda)) }
+        ensures whole { IfOk result (λ _. (w : Window) → (list : List Entry)
+            × IsListing entry_cmp (IsListed (map said_by files.entry.now) (display_clock display.entry.now) w) list) }
+    {
+        let parts = parts(alloc, files, display, chosen, spans, window, after)?;
         let merge = Merge::of_sorted(alloc, parts, 1)?;
         Ok(Agenda { merge })
     }
@@ -83,13 +110,17 @@ impl<'a> Agenda<'a> {
         alloc: Global,
         files: &'a [FileEvents],
         display: &'a Display,
+        chosen: &[Version<'_>],
         window: Window,
     ) -> Result<Agenda<'a>, AllocError>
+        requires { AreChosen (map said_by files.now) (display_clock display.now) chosen.now }
         ensures none { IfOk result (λ agenda. ⟦<Agenda<'a> as Coming>⟧.coming agenda ≡ []) }
         ensures sources { IfOk result (λ agenda. ⟦<Agenda<'a> as Coming>⟧.sources agenda ≡ []) }
-        ensures whole { IfOk result (λ _. IsWhole (map said_by files.entry.now) (display_clock display.entry.now)) }
+        ensures whole { IfOk result (λ _. (w : Window) → (list : List Entry)
+            × IsListing entry_cmp (IsListed (map said_by files.entry.now) (display_clock display.entry.now) w) list) }
     {
-        let mut parts = parts(alloc, files, display, window, None)?;
+        let spans = Vec::new(alloc);
+        let mut parts = parts(alloc, files, display, chosen, &spans, window, None)?;
         parts.clear();
         let merge = Merge::new(alloc, parts)?;
         Ok(Agenda { merge })
@@ -126,23 +157,29 @@ fn parts<'a>(
     alloc: Global,
     files: &'a [FileEvents],
     display: &'a Display,
+    chosen: &[Version<'_>],
+    spans: &[Span],
     window: Window,
     after: Option<&Key>,
 ) -> Result<Vec<Part<'a>>, AllocError>
+    requires chosen { AreChosen (map said_by files.now) (display_clock display.now) chosen.now }
+    requires spans { AreSpans (map said_by files.now) (display_clock display.now) window (map seen chosen.now) spans.now }
     ensures listing { IfOk result (λ parts. IsListing entry_cmp
         (IsToCome (map said_by files.entry.now) (display_clock display.entry.now) window
         (option_map (λ key. key_rank key.now) after.entry))
         (merged entry_cmp (map part_coming parts.items))) }
     ensures sources { IfOk result (λ parts. AreSources (map said_by files.entry.now) (display_clock display.entry.now) window
         (option_map (λ key. key_rank key.now) after.entry) (flat_map part_sources parts.items)) }
-    ensures whole { IfOk result (λ _. IsWhole (map said_by files.entry.now) (display_clock display.entry.now)) }
+    ensures whole { IfOk result (λ _. (w : Window) → (list : List Entry)
+        × IsListing entry_cmp (IsListed (map said_by files.entry.now) (display_clock display.entry.now) w) list) }
     ensures sorted { IfOk result (λ parts. AreSortedFrom 1 (map part_coming parts.items)) }
 {
-    let chosen = chosen(alloc, files, display)?;
-    let singles = Singles::new(alloc, files, display, &chosen, &window, after)?;
+    let singles = Singles::new(alloc, files, display, chosen, spans, &window, after)?;
     let mut parts = Vec::new(alloc);
     parts.push(Part::Singles(singles))?;
-    push_series(alloc, &mut parts, files, display, &chosen, window, after)?;
+    push_series(
+        alloc, &mut parts, files, display, chosen, spans, window, after,
+    )?;
     Ok(parts)
 }
 

@@ -1,31 +1,41 @@
 //! The listing of a window under each day.
-ghost use Rattle.std.specs.Prelude.{◌≡◌, ◌⊎◌, ◌≤◌, ◌+◌, ◌-◌, ◌^◌, ◌≤ℤ◌, ◌<ℤ◌, ◌+ℤ◌, ℕ, pos, length, min};
+ghost use Rattle.std.specs.Prelude.{◌≡◌, ◌⊎◌, ◌≤◌, ◌+◌, ◌-◌, ◌^◌, ◌≤ℤ◌, ◌<ℤ◌, ◌+ℤ◌, ℕ, ℤ, pos, false, length, min};
 ghost use Rattle.std.specs.Prelude.{List, [], map, IfOk, IfSome, OnErr, OnOk, None};
+ghost use Rattle.std.specs.Prelude.{int_le, if◌then◌else◌};
+ghost use Rattle.std.specs.Int.{int_min};
 ghost use Rattle.std.specs.Option.{option_map};
 ghost use Rattle.ics_fields.specs.Days.{IsDayNumber};
 ghost use Rattle.ics_event.specs.Event.{said_by};
 ghost use Rattle.ics_series.specs.Clocks.{display_clock};
-ghost use Rattle.ics_series.specs.OnDays.{day_key_rank, day_rank_of, first_near, last_near, Begins, IsBehindKey, after_day_key, on_day_cmp};
+ghost use Rattle.ics_series.specs.OnDays.{day_key_rank, day_rank_of, first_near, last_near, Begins, IsBehindKey, IsNearDay, after_day_key, on_day_cmp};
 ghost use Rattle.ics_series.specs.OnDays.{GivesOnDay, IsOnDay, OnDay};
 ghost use Rattle.ics_series.specs.DaySteps.{agenda_holds, agenda_looked, agenda_sources, day_and_start, masters_in, scope_by, scope_in, AreDayMasters};
 ghost use Rattle.ics_series.specs.DaySteps.{AreMasters, IsNearAgenda, IsPastAgenda, begin_day, HasDaysBound, IsLookedBefore};
-ghost use Rattle.ics_series.specs.Entry.{key_rank};
+ghost use Rattle.ics_series.specs.Entry.{entry_cmp, key_rank, Entry};
 ghost use Rattle.ics_series.specs.HeldMost.{held_most};
-ghost use Rattle.ics_series.specs.Listing.{IsListing};
+ghost use Rattle.ics_series.specs.Listing.{IsIn, IsListing};
+ghost use Rattle.ics_series.specs.Meets.{IsListed};
 ghost use Rattle.ics_series.specs.PlacedEvents.{Placed};
+ghost use Rattle.ics_series.specs.SpanLaws.{spans-set, those-chosen-prop, AreThoseChosen};
+ghost use Rattle.ics_series.specs.Spans.{can_meet, first_of, span_at};
 ghost use Rattle.ics_series.specs.Tokens.{IsDayKey};
-ghost use Rattle.ics_series.specs.Whole.{IsWhole};
+ghost use Rattle.ics_series.specs.Versions.{seen, AreChosen};
+ghost use Rattle.ics_series.specs.declared.span.Span.{Span};
+ghost use Rattle.ics_series.specs.declared.window.Window.{Window};
 
 use crate::agenda::Agenda;
+use crate::chosen::chosen;
 use crate::day_key::DayKey;
 use crate::feed::Feed;
 use crate::key::Key;
 use crate::near_day::{first_near, last_near, near_day};
 use crate::occurrence::Occurrence;
 use crate::occurrence_days::is_on;
+use crate::span::{Span, spans};
+use crate::version::Version;
 use crate::window::Window;
 use ics_event::FileEvents;
-use ics_values::Moment;
+use ics_values::{Local, Moment};
 use ics_zone::Display;
 use std::alloc::{AllocError, Global};
 
@@ -40,16 +50,29 @@ pub struct Days<'a> {
     window: Window,
     // The day and the start in the key after which the listing begins.
     after: Option<(i32, Moment)>,
+    // The versions that count, and from when to when they are.
+    versions: Vec<Version<'a>>,
+    spans: Vec<Span>,
+    today: Today<'a>,
+    ghost chosen: { AreThoseChosen (map said_by files.now) (display_clock display.now) versions.items } by { those-chosen-prop (map said_by files.now)
+        (display_clock display.now) versions.items },
+    ghost spanned: { spans.items ≡ map (span_at (map said_by files.now) (display_clock display.now) window) (map seen versions.items) } by { spans-set
+        spans.items (map (span_at (map said_by files.now) (display_clock display.now) window) (map seen versions.items)) },
+    ghost not_before: { first_near window ≤ℤ today.day },
+    ghost begun: { begin_day window after ≤ℤ today.day },
+    ghost masters: { ∥ AreDayMasters (scope_in (map said_by files.now) (display_clock display.now) window after) today.day (agenda_sources today.agenda) ∥₁ },
+    ghost before: { IsLookedBefore (scope_in (map said_by files.now) (display_clock display.now) window after) today.day today.looked },
+    ghost past: { last_near window <ℤ today.day → today.looked ≡ 0 },
+}
+
+// A day of a listing.
+#[derive(Drop)]
+struct Today<'a> {
     day: i32,
-    // What is still to come of what meets the window near the day.
+    // What is still to come of what meets the window near it.
     agenda: Agenda<'a>,
     // How many periods of rules were looked at for the days before.
     looked: u64,
-    ghost not_before: { first_near window ≤ℤ day },
-    ghost begun: { begin_day window after ≤ℤ day },
-    ghost masters: { ∥ AreDayMasters (scope_in (map said_by files.now) (display_clock display.now) window after) day (agenda_sources agenda) ∥₁ },
-    ghost before: { IsLookedBefore (scope_in (map said_by files.now) (display_clock display.now) window after) day looked },
-    ghost past: { last_near window <ℤ day → looked ≡ 0 },
 }
 
 impl<'a> Days<'a> {
@@ -72,17 +95,23 @@ impl<'a> Days<'a> {
         ensures keys { IfOk result (λ _. (p : OnDay)
             → IsOnDay (map said_by files.entry.now) (display_clock display.entry.now) window p → IsDayKey (day_rank_of p)) }
     {
+        let versions = chosen(alloc, files, display)?;
+        let spans = spans(alloc, files, display, &versions, &window)?;
         let (day, key) = begin(&window, after);
-        let agenda = Days::agenda_of(alloc, files, display, &window, day, key)?;
+        let agenda = Days::agenda_of(alloc, files, display, &versions, &spans, &window, day, key)?;
         Ok(Days {
             alloc,
             files,
             display,
             window,
             after: day_and_start(after),
-            day,
-            agenda,
-            looked: 0,
+            versions,
+            spans,
+            today: Today {
+                day,
+                agenda,
+                looked: 0,
+            },
         })
     }
 
@@ -91,21 +120,26 @@ impl<'a> Days<'a> {
         alloc: Global,
         files: &'a [FileEvents],
         display: &'a Display,
+        versions: &[Version<'_>],
+        spans: &[Span],
         window: &Window,
         day: i32,
         key: Option<&Key>,
     ) -> Result<Agenda<'a>, AllocError>
-        requires { first_near window.now ≤ℤ day }
+        requires chosen { AreChosen (map said_by files.now) (display_clock display.now) versions.now }
+        requires spans { spans.now ≡ map (span_at (map said_by files.now) (display_clock display.now) window.now) (map seen versions.now) }
+        requires first { first_near window.now ≤ℤ day }
         ensures agenda { IfOk result (λ agenda. IsNearAgenda (map said_by files.entry.now) (display_clock display.entry.now) window.now day
             (option_map (λ key. key_rank key.now) key.entry) (agenda_coming agenda) (agenda_sources agenda)
             ⊎ IsPastAgenda window.now day (agenda_coming agenda) (agenda_sources agenda)) }
-        ensures whole { IfOk result (λ _. IsWhole (map said_by files.entry.now) (display_clock display.entry.now)) }
+        ensures whole { IfOk result (λ _. (w : Window) → (list : List Entry)
+            × IsListing entry_cmp (IsListed (map said_by files.entry.now) (display_clock display.entry.now) w) list) }
     {
         if last_near(window) < day {
-            return Agenda::ended(alloc, files, display, *window);
+            return Agenda::ended(alloc, files, display, versions, *window);
         }
         let near = near_day(window, day);
-        Agenda::new(alloc, files, display, near, key)
+        Agenda::of(alloc, files, display, versions, spans, near, key)
     }
 
     /// The first of the list still to come, with the day that it stands under, which then has the rest
@@ -116,14 +150,14 @@ impl<'a> Days<'a> {
         ensures err { (list : List OnDay) → IsAhead self.old list → OnErr result (IsAhead self.new list) }
         ensures within { IfOk result (λ given. IfSome given (λ entry. IsDayNumber entry.0)) }
         ensures scope { scope_of self.new ≡ scope_of self.old }
-        ensures looked { self.old.looked ≤ self.new.looked }
+        ensures looked { self.old.today.looked ≤ self.new.today.looked }
     {
         let last = last_near(&self.window);
         loop {
             if let Some(occurrence) = self.next_today()? {
-                return Ok(Some((self.day, occurrence)));
+                return Ok(Some((self.today.day, occurrence)));
             }
-            if last <= self.day {
+            if last <= self.today.day {
                 return Ok(None);
             }
             self.turn()?;
@@ -134,11 +168,11 @@ impl<'a> Days<'a> {
     /// the day holds. They are at most two and, for each master, two and the greatest number of starts
     /// that it has in any five days. The count stops at the greatest `usize`.
     pub fn held(&self) -> usize
-        ensures count { result ≡ min (length (agenda_holds self.now.agenda)) (2 ^ 64 - 1) }
+        ensures count { result ≡ min (length (agenda_holds self.now.today.agenda)) (2 ^ 64 - 1) }
         ensures most { (masters : List Placed) → AreMasters (scope_of self.now) masters
             → result ≤ held_most (masters_in (scope_of self.now) masters) }
     {
-        self.agenda.held()
+        self.today.agenda.held()
     }
 
     /// How many periods of rules were looked at, day by day: from the day of the key, or without one from
@@ -148,28 +182,28 @@ impl<'a> Days<'a> {
     /// key if that is later, to seven days past what the window holds near the day. The count stops at
     /// the greatest `u64`.
     pub fn steps(&self) -> u64
-        ensures count { result ≡ min (self.now.looked + agenda_looked self.now.agenda) (2 ^ 64 - 1) }
+        ensures count { result ≡ min (self.now.today.looked + agenda_looked self.now.today.agenda) (2 ^ 64 - 1) }
         ensures most { (list : List OnDay) (bound : ℕ) → IsAhead self.now list
             → HasDaysBound (scope_of self.now) list bound → result ≤ bound }
     {
-        self.looked.saturating_add(self.agenda.steps())
+        self.today.looked.saturating_add(self.today.agenda.steps())
     }
 
     // The next of the day's.
     fn next_today(&mut self) -> Result<Option<Occurrence<'a>>, AllocError>
-        ensures day { self.new.day ≡ self.old.day }
+        ensures day { self.new.today.day ≡ self.old.today.day }
         ensures scope { scope_of self.new ≡ scope_of self.old }
         ensures window { self.new.window ≡ self.old.window }
-        ensures looked { self.new.looked ≡ self.old.looked }
-        ensures within { IfOk result (λ given. IfSome given (λ occurrence. IsDayNumber self.new.day)) }
-        ensures none { IfOk result (λ given. given ≡ None → agenda_coming self.new.agenda ≡ []) }
+        ensures looked { self.new.today.looked ≡ self.old.today.looked }
+        ensures within { IfOk result (λ given. IfSome given (λ occurrence. IsDayNumber self.new.today.day)) }
+        ensures none { IfOk result (λ given. given ≡ None → agenda_coming self.new.today.agenda ≡ []) }
         ensures ok { (list : List OnDay) → IsAhead self.old list
-            → IfOk result (λ given. (rest : List OnDay) × IsAhead self.new rest × GivesToday self.new.day list given rest) }
+            → IfOk result (λ given. (rest : List OnDay) × IsAhead self.new rest × GivesToday self.new.today.day list given rest) }
         ensures err { (list : List OnDay) → IsAhead self.old list → OnErr result (IsAhead self.new list) }
     {
-        while let Some(occurrence) = self.agenda.next()? {
+        while let Some(occurrence) = self.today.agenda.next()? {
             let met = self.window.is_met(&occurrence);
-            let on = is_on(self.display, &self.window, &occurrence, self.day);
+            let on = is_on(self.display, &self.window, &occurrence, self.today.day);
             if met & on {
                 return Ok(Some(occurrence));
             }
@@ -177,33 +211,74 @@ impl<'a> Days<'a> {
         Ok(None)
     }
 
-    // Goes on to the next day.
+    // Goes on to the next day on which something can be.
     fn turn(&mut self) -> Result<(), AllocError>
-        requires more { self.old.day <ℤ last_near self.old.window }
-        requires none { agenda_coming self.old.agenda ≡ [] }
-        ensures day { OnOk result (self.new.day ≡ self.old.day +ℤ pos 1) }
+        requires more { self.old.today.day <ℤ last_near self.old.window }
+        requires none { agenda_coming self.old.today.agenda ≡ [] }
+        ensures day { OnOk result (self.old.today.day <ℤ self.new.today.day × (self.new.today.day ≤ℤ last_near self.new.window)) }
         ensures scope { scope_of self.new ≡ scope_of self.old }
         ensures window { self.new.window ≡ self.old.window }
-        ensures counted { OnOk result (self.new.looked ≡ min (self.old.looked + agenda_looked self.old.agenda) (2 ^ 64 - 1)) }
-        ensures kept { OnErr result (self.new.looked ≡ self.old.looked) }
-        ensures risen { self.old.looked ≤ self.new.looked }
+        ensures counted { OnOk result (self.new.today.looked ≡ min (self.old.today.looked + agenda_looked self.old.today.agenda) (2 ^ 64 - 1)) }
+        ensures kept { OnErr result (self.new.today.looked ≡ self.old.today.looked) }
+        ensures risen { self.old.today.looked ≤ self.new.today.looked }
         ensures ahead { (list : List OnDay) → IsAhead self.old list → IsAhead self.new list }
     {
-        let day = self.day + 1;
+        let day = next_day(&self.spans, &self.window, self.today.day);
         let near = near_day(&self.window, day);
-        let agenda = Agenda::new(self.alloc, self.files, self.display, near, None)?;
-        let looked = self.looked.saturating_add(self.agenda.steps());
-        *self = Days {
-            alloc: self.alloc,
-            files: self.files,
-            display: self.display,
-            window: self.window,
-            after: self.after,
+        let agenda = Agenda::of(
+            self.alloc,
+            self.files,
+            self.display,
+            &self.versions,
+            &self.spans,
+            near,
+            None,
+        )?;
+        let looked = self.today.looked.saturating_add(self.today.agenda.steps());
+        self.today = Today {
             day,
             agenda,
             looked,
         };
         Ok(())
+    }
+}
+
+// The next day near which something can be, or the last that a clock can show in the window.
+fn next_day(spans: &[Span], window: &Window, day: i32) -> i32
+    requires low { first_near window.now ≤ℤ day }
+    requires more { day <ℤ last_near window.now }
+    ensures later { day <ℤ result }
+    ensures last { result ≤ℤ last_near window.now }
+    ensures none { (x : ℤ) → day <ℤ x → x <ℤ result → (s : Span) → IsIn s spans.now → (n : Window) → IsNearDay window.now x n → can_meet s n ≡ false }
+{
+    let next = day + 1;
+    let from = i64::from(next - 2) * 86_400;
+    let first = first_after(spans, window.to, from).max(window.from);
+    let reached = Local::of_seconds(first).day - 2;
+    reached.max(next).min(last_near(window))
+}
+
+// The first instant at which something can begin of what has not ended before an instant, or the end if
+// that is earlier.
+fn first_after(spans: &[Span], end: Moment, from: Moment) -> Moment
+    ensures { result ≡ first_of from end spans.now }
+{
+    let mut first = end;
+    for span in spans {
+        first = sooner(first, span, from);
+    }
+    first
+}
+
+// The earlier of an instant and of the beginning of a span that has not ended before another.
+fn sooner(first: Moment, span: &Span, from: Moment) -> Moment
+    ensures { result ≡ (if int_le from span.now.last then int_min first span.now.first else first) }
+{
+    if from <= span.last {
+        first.min(span.first)
+    } else {
+        first
     }
 }
 

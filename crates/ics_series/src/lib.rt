@@ -33,6 +33,7 @@ mod rule_starts;
 mod series;
 mod single;
 mod singles;
+mod span;
 mod spot;
 mod start;
 mod starts;

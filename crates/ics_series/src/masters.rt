@@ -12,6 +12,7 @@ ghost use Rattle.ics_series.specs.SeriesFeed.{series_sources};
 ghost use Rattle.ics_series.specs.Singles.{is_single};
 ghost use Rattle.ics_series.specs.Sources.{Recurring, IsFrom};
 ghost use Rattle.ics_series.specs.Sources.Source.{Of};
+ghost use Rattle.ics_series.specs.Spans.{AreSpans};
 ghost use Rattle.ics_series.specs.Versions.{seen, AreChosen};
 ghost use Rattle.ics_series.specs.declared.window.Window.{Window};
 
@@ -21,6 +22,7 @@ use crate::overridden::overridden_instants;
 use crate::part::Part;
 use crate::series::Series;
 use crate::singles::is_single;
+use crate::span::{Span, is_out};
 use crate::version::Version;
 use crate::window::Window;
 use ics_event::FileEvents;
@@ -37,10 +39,12 @@ pub(crate) fn push_series<'a>(
     files: &'a [FileEvents],
     display: &'a Display,
     chosen: &[Version<'_>],
+    spans: &[Span],
     window: Window,
     after: Option<&Key>,
 ) -> Result<(), AllocError>
     requires chosen { AreChosen (map said_by files.now) (display_clock display.now) chosen.now }
+    requires spans { AreSpans (map said_by files.now) (display_clock display.now) window (map seen chosen.now) spans.now }
     ensures lists { IfOk result (λ _. HasLists (map said_by files.entry.now) (display_clock display.entry.now) window
         (option_map (λ key. key_rank key.now) after.entry) (map seen chosen.entry.now)
         (map part_coming parts.old.items) (map part_coming parts.new.items)) }
@@ -51,6 +55,9 @@ pub(crate) fn push_series<'a>(
         × AreLists (map said_by files.entry.now) (display_clock display.entry.now) w None (map seen chosen.entry.now) lists) }
 {
     for place in 0..chosen.len() {
+        if is_out(spans, place, &window) {
+            continue;
+        }
         if let Some(series) = series_at(alloc, files, display, chosen, place, window, after)? {
             parts.push(Part::Series(Box::new(alloc, series)?))?;
         }

@@ -11,6 +11,7 @@ ghost use Rattle.ics_series.specs.Entry.{entry_cmp, entry_of, key_rank};
 ghost use Rattle.ics_series.specs.Listing.{IsListing};
 ghost use Rattle.ics_series.specs.Rising.{Rises, Rises-prop};
 ghost use Rattle.ics_series.specs.Singles.{is_single, is_to_come, single_at, single_entry, AreSingle, AreSingle-prop, IsSingleToCome};
+ghost use Rattle.ics_series.specs.Spans.{AreSpans};
 ghost use Rattle.ics_series.specs.Spots.{event_at};
 ghost use Rattle.ics_series.specs.Versions.{seen, subject_cmp, subject_seen, AreChosen};
 
@@ -20,6 +21,7 @@ use crate::feed::{Coming, Feed};
 use crate::key::Key;
 use crate::occurrence::Occurrence;
 use crate::single::Single;
+use crate::span::{Span, is_out};
 use crate::version::Version;
 use crate::window::Window;
 use ics_event::{Event, FileEvents};
@@ -43,17 +45,21 @@ impl<'a> Singles<'a> {
         files: &'a [FileEvents],
         display: &'a Display,
         chosen: &[Version<'_>],
+        spans: &[Span],
         window: &Window,
         after: Option<&Key>,
     ) -> Result<Singles<'a>, AllocError>
-        requires { AreChosen (map said_by files.now) (display_clock display.now) chosen.now }
+        requires chosen { AreChosen (map said_by files.now) (display_clock display.now) chosen.now }
+        requires spans { AreSpans (map said_by files.now) (display_clock display.now) window.now (map seen chosen.now) spans.now }
         ensures { IfOk result (λ singles. IsListing entry_cmp
             (IsSingleToCome (map said_by files.entry.now) (display_clock display.entry.now) window.now
             (option_map (λ key. key_rank key.now) after.entry))
             (⟦<Singles<'a> as Coming>⟧.coming singles)) }
     {
         let overrides = overrides(alloc, chosen)?;
-        let mut singles = to_come(alloc, files, display, chosen, &overrides, window, after)?;
+        let mut singles = to_come(
+            alloc, files, display, chosen, spans, &overrides, window, after,
+        )?;
         singles.sort_unstable_by(Single::compare);
         Ok(Singles {
             rest: singles.into_iter(),
@@ -87,24 +93,31 @@ impl<'a> Feed<'a> for Singles<'a> {
     }
 }
 
-// Those of the versions that count, in the order of their subjects.
+// Those of the versions that count, in the order of their subjects. What cannot meet the window by its
+// span is not looked at.
 fn to_come<'a>(
     alloc: Global,
     files: &'a [FileEvents],
     display: &'a Display,
     chosen: &[Version<'_>],
+    spans: &[Span],
     overrides: &[Version<'_>],
     window: &Window,
     after: Option<&Key>,
 ) -> Result<Vec<Single<'a>>, AllocError>
     requires chosen { AreChosen (map said_by files.now) (display_clock display.now) chosen.now }
+    requires spans { AreSpans (map said_by files.now) (display_clock display.now) window.now (map seen chosen.now) spans.now }
     requires overrides { IsSorted (on (λ v. subject_seen v.subject) subject_cmp) overrides.now }
     ensures { IfOk result (λ singles. map single_entry singles.items
         ≡ filter_map (single_at (map said_by files.entry.now) (display_clock display.entry.now) window.now
         (map seen overrides.entry.now) (option_map (λ key. key_rank key.now) after.entry)) (map seen chosen.entry.now)) }
 {
     let mut singles = Vec::new(alloc);
-    for version in chosen {
+    for place in 0..chosen.len() {
+        if is_out(spans, place, window) {
+            continue;
+        }
+        let version = &chosen[place];
         let Some(single) = given(files, display, version, overrides, window, after) else {
             continue;
         };

@@ -8,7 +8,6 @@ use Rattle.ics_series.specs.AgendaParts.{part_coming}
 use Rattle.ics_series.proofs.SinglesLemmas.{pushed-listing, whole-parts}
 use Rattle.ics_series.proofs.UidLemmas.{parts-sorted}
 use Rattle.ics_series.proofs.SourceLemmas.{sources-behind}
-use Rattle.ics_series.proofs.WholeLemmas.{keys, masters-listed}
 use Rattle.ics_series.proofs.agenda.parts.Goals as goal
 
 pub returns : goal.returns
@@ -16,7 +15,7 @@ returns c =
     let files = map said_by c.args.files.now in
     let display = display_clock c.args.display.now in
     let after = option_map (λ key. key_rank key.now) c.args.after in
-    let chosen = rw (← c.deref-2.ensures.value) at c.in_ok-chosen.ensures.chosen in
+    let chosen = c.requires.chosen in
     let singles = part_coming (part.Singles c.in_ok-singles.singles) in
     let items = c.in_ok-push.ensures.items ∙ ap (λ xs. xs ++ part.Singles c.in_ok-singles.singles ∷ []) c.new-parts.ensures.items in
     let pushed = rw items at c.in_ok-push_series.ensures.lists in
@@ -24,17 +23,6 @@ returns c =
     record {
       sources = sources-behind chosen sources;
       listing = pushed-listing files display c.args.window after singles chosen c.in_ok-singles.ensures pushed;
-      whole =
-          record {
-            listings = λ w. whole-parts w chosen (c.in_ok-push_series.ensures.whole w);
-            masters = masters-listed chosen;
-            keys = keys c.args.files.now c.args.display.now c.in_ok-chosen.ensures.read;
-          };
+      whole = λ w. whole-parts w chosen (c.in_ok-push_series.ensures.whole w);
       sorted = parts-sorted c.push_series.new.parts.items sources.more sources.behind sources.rises;
     }
-
-pub new-requires : goal.new-requires
-new-requires c = grind (arith, common_steps)
-
-pub push_series-requires : goal.push_series-requires
-push_series-requires c = grind (arith, common_steps)

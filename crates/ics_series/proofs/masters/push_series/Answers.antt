@@ -1,9 +1,12 @@
 use Rattle.std.proofs.lemmas.Grind.{common_steps}
-use Rattle.std.proofs.Common.{◌≡◌, [], ◌∷◌, ◌++◌, Vec, Global, map, get_or, refl, ap, ◌∙◌, arith, append-nil}
+use Rattle.std.proofs.Common.{◌≡◌, [], ◌∷◌, ◌++◌, Vec, Global, map, get_or, option_map, refl, sym, ap, ◌∙◌, arith, append-nil}
 use Rattle.std.specs.List.{flat_map}
 use Rattle.std.proofs.lemmas.List.{map-append}
 use Rattle.std.proofs.lemmas.List.Concat.{flat_map-append}
-use Rattle.std.proofs.lemmas.Option.{slice_get-get_or, MatchOption-at_none, MatchOption-at_some}
+use Rattle.std.proofs.lemmas.Option.{slice_get-get_or, slice_get-map, MatchOption-at_none, MatchOption-at_some}
+use Rattle.ics_event.specs.Event.{said_by}
+use Rattle.ics_series.specs.Clocks.{display_clock}
+use Rattle.ics_series.specs.Versions.{seen}
 use Rattle.ics_series.specs.declared.part.Part.{Part}
 use Rattle.ics_series.specs.declared.part.Part.TheVariants as part
 use Rattle.ics_series.specs.declared.series.Series.{Series}
@@ -11,6 +14,7 @@ use Rattle.ics_series.specs.AgendaParts.{part_coming, part_sources}
 use Rattle.ics_series.specs.SeriesFeed.{series_left, series_of, series_sources}
 use Rattle.ics_series.proofs.OverrideLemmas.{any_version}
 use Rattle.ics_series.proofs.SourceLemmas.{lists-none, versions-all, versions-more, versions-skip, sources-all, sources-more, sources-none, sources-skip}
+use Rattle.ics_series.proofs.SpanLemmas.{out-at, out-once}
 use Rattle.ics_series.proofs.masters.push_series.Goals as goal
 use Rattle.ics_series.proofs.masters.push_series.Goals.{in-Some+in_ok-new+in_ok-push, in_default}
 
@@ -59,6 +63,22 @@ loop-place-preserved c =
       whole = λ w.
           let whole = c.in_ok-series.ensures.whole v there w in
           let lists = c.loop-place.invariant.whole w in (lists.0 ++ whole.0 ∷ [], versions-more vs k there lists.1 whole.1 refl);
+    }
+
+pub loop-place-preserved-then-is_out : goal.loop-place-preserved-then-is_out
+loop-place-preserved-then-is_out c =
+    let vs = c.args.chosen.now in
+    let k = c.loop-place.place in
+    let v = get_or c.args.chosen.now c.loop-place.place any_version in
+    let there = slice_get-get_or vs k any_version c.loop-place-test.true in
+    let at = slice_get-map seen vs k ∙ ap (option_map seen) there in
+    let out = out-at (map said_by c.args.files.now) (display_clock c.args.display.now) c.args.window (map seen c.args.chosen.now) c.requires.spans k at
+    (sym c.is_out.ensures ∙ c.if-is_out.true) in
+    let none = out-once out.0 c.args.window out.1 (map said_by c.args.files.now) (display_clock c.args.display.now) (seen v) out.2 in
+    record {
+      lists = versions-skip vs k there c.loop-place.invariant.lists none refl;
+      sources = sources-skip c.requires.chosen k there c.loop-place.invariant.sources refl;
+      whole = λ w. let lists = c.loop-place.invariant.whole w in (lists.0, versions-skip vs k there lists.1 none refl);
     }
 
 pub returns : goal.returns

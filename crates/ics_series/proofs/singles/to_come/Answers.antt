@@ -1,18 +1,40 @@
 use Rattle.std.proofs.lemmas.Grind.{common_steps}
-use Rattle.std.proofs.Common.{arith}
+use Rattle.std.proofs.Common.{map, get_or, option_map, sym, ◌∙◌, ap, arith}
+use Rattle.std.proofs.lemmas.Option.{slice_get-get_or, slice_get-map}
+use Rattle.ics_event.specs.Event.{said_by}
+use Rattle.ics_series.specs.Clocks.{display_clock}
+use Rattle.ics_series.specs.Entry.{key_rank}
+use Rattle.ics_series.specs.Singles.{single_at, single_entry}
+use Rattle.ics_series.specs.Versions.{seen}
+use Rattle.ics_series.proofs.OverrideLemmas.{any_version}
+use Rattle.ics_series.proofs.SpanLemmas.{out-at, out-none, picked-skip}
 use Rattle.ics_series.proofs.VersionLemmas.{stands}
 use Rattle.ics_series.proofs.singles.to_come.Goals as goal
 
 pub given-requires-clause-there : goal.given-requires-clause-there
 given-requires-clause-there c =
-    stands c.loop-version.version-index _ c.requires.chosen
-    c.loop-version-test.true
+    stands c.loop-place.place _ c.requires.chosen
+    c.loop-place-test.true
 
-pub loop-version-preserved-in_default : goal.loop-version-preserved-in_default
-loop-version-preserved-in_default c = grind (arith, common_steps)
+pub loop-place-preserved-then-is_out : goal.loop-place-preserved-then-is_out
+loop-place-preserved-then-is_out c =
+    let files = map said_by c.args.files.now in
+    let display = display_clock c.args.display.now in
+    let vs = c.args.chosen.now in
+    let k = c.loop-place.place in
+    let os = map seen c.args.overrides.now in
+    let after = option_map (λ key. key_rank key.now) c.args.after in
+    let v = get_or c.args.chosen.now c.loop-place.place any_version in
+    let there = slice_get-map seen vs k ∙ ap (option_map seen) (slice_get-get_or vs k any_version c.loop-place-test.true) in
+    let out = out-at files display c.args.window.now (map seen c.args.chosen.now) c.requires.spans k there (sym c.is_out.ensures ∙ c.if-is_out.true) in
+    picked-skip (single_at files display c.args.window.now os after) vs k any_version (map single_entry c.loop-place.singles.items) c.loop-place-test.true
+    (out-none out.0 c.args.window.now out.1 files display (seen v) out.2 os after) c.loop-place.invariant
 
-pub loop-version-preserved : goal.loop-version-preserved
-loop-version-preserved c = grind (arith, common_steps)
+pub loop-place-preserved-in_default : goal.loop-place-preserved-in_default
+loop-place-preserved-in_default c = grind (arith, common_steps)
+
+pub loop-place-preserved : goal.loop-place-preserved
+loop-place-preserved c = grind (arith, common_steps)
 
 pub returns : goal.returns
 returns c = grind (arith, common_steps)

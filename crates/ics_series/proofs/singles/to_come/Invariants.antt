@@ -7,8 +7,8 @@ use Rattle.ics_series.specs.Singles.{single_at, single_entry}
 use Rattle.ics_series.specs.Versions.{seen}
 use Rattle.ics_series.proofs.singles.to_come.Given as goal
 
--- with what the versions from this one on give it is what all give
-abbrev pub invariant-loop-version : goal.invariant-loop-version
-invariant-loop-version l =
+-- with what the versions from this place on give it is what all give
+abbrev pub invariant-loop-place : goal.invariant-loop-place
+invariant-loop-place l =
     let given = single_at (map said_by l.files) (display_clock l.display) l.window (map seen l.overrides) (option_map (λ key. key_rank key.now) l.after) in
-    map single_entry l.singles.items ++ filter_map given (map seen (drop l.version-index l.chosen)) ≡ filter_map given (map seen l.chosen)
+    map single_entry l.singles.items ++ filter_map given (map seen (drop l.place l.chosen)) ≡ filter_map given (map seen l.chosen)

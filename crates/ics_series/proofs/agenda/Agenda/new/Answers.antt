@@ -1,22 +1,25 @@
-use Rattle.std.proofs.Common.{map, sym, subst, option_map}
+use Rattle.std.proofs.Common.{map, inl, option_map, ◌∙◌}
+use Rattle.std.proofs.lemmas.Result.{IfOk-weaker}
 use Rattle.ics_event.specs.Event.{said_by}
 use Rattle.ics_series.specs.Clocks.{display_clock}
 use Rattle.ics_series.specs.Entry.{key_rank}
-use Rattle.ics_series.specs.Sources.{AreApart}
+use Rattle.ics_series.proofs.Cases.{if-both}
 use Rattle.ics_series.proofs.SinglesLemmas.{behind-key}
+use Rattle.ics_series.proofs.WholeLemmas.{keys}
 use Rattle.ics_series.proofs.agenda.Agenda.new.Goals as goal
 
-pub returns : goal.returns
-returns c =
-    let listing = rw (← c.in_ok-merge.ensures.coming) at c.in_ok-parts.ensures.listing in
-    record {
-      sources = rw c.in_ok-merge.ensures.sources c.in_ok-parts.ensures.sources;
-      listing = listing;
-      behind = behind-key (map said_by c.args.files.now) (display_clock c.args.display.now) c.args.window (option_map (λ key. key_rank key.now) c.args.after)
-          (c.in_ok-parts.ensures.whole.listings c.args.window) listing;
-      keys = c.in_ok-parts.ensures.whole.keys;
-      whole = c.in_ok-parts.ensures.whole;
-    }
+pub of-requires-clause-chosen : goal.of-requires-clause-chosen
+of-requires-clause-chosen c = rw c.deref.ensures.value c.in_ok-chosen.ensures.chosen
 
-pub invariant_of-result : goal.invariant_of-result
-invariant_of-result c = record { apart = subst AreApart (sym c.in_ok-merge.ensures.sources) c.in_ok-parts.ensures.sources.apart }
+pub of-requires-clause-spans : goal.of-requires-clause-spans
+of-requires-clause-spans c = inl (c.deref-2.ensures.value ∙ c.new-spans.ensures.items)
+
+pub returns : goal.returns
+returns c = record {
+  listing = c.of.ensures.listing;
+  behind = if-both c.of.result _ _ (λ agenda whole listing.
+      behind-key (map said_by c.args.files.now) (display_clock c.args.display.now) c.args.window (option_map (λ key. key_rank key.now) c.args.after)
+      (whole c.args.window) listing) c.of.ensures.whole c.of.ensures.listing;
+  keys = IfOk-weaker c.of.result _ _ (λ agenda listing. keys c.args.files.now c.args.display.now c.in_ok-chosen.ensures.read) c.of.ensures.listing;
+  sources = c.of.ensures.sources;
+}

@@ -8,6 +8,8 @@ use Rattle.ics_series.specs.DaySteps.{agenda_sources, scope_in}
 use Rattle.ics_series.specs.Entry.{key_rank}
 use Rattle.ics_series.specs.OnDays.{first_near, day_key_rank}
 use Rattle.ics_series.proofs.AheadLemmas.{begun-ahead, begun-by, day-keys, first-masters, from-start}
+use Rattle.ics_series.proofs.SpanLemmas.{those-chosen}
+use Rattle.ics_series.proofs.WholeLemmas.{keys, masters-listed}
 use Rattle.ics_series.proofs.days.Days.new.Goals as goal
 
 pub returns : goal.returns
@@ -16,8 +18,7 @@ returns c =
     let display = display_clock c.args.display.now in
     let after = option_map (λ key. day_key_rank key.now) c.args.after in
     let key = option_map (λ key. key_rank key.now) c.begin-day.result.1 in
-    let whole = c.in_ok-agenda.ensures.whole in
-    let xs = whole.listings c.args.window in
+    let xs = c.in_ok-agenda.ensures.whole c.args.window in
     let fits : to_z w32 (of_z w32 c.begin-day.result.0) ≡ c.begin-day.result.0 = search rules in
     let begins = rw (← fits) at c.begin-day.ensures.begins in
     let begun = begun-ahead files display (offset_near c.args.display.now) c.args.window after (to_z w32 (of_z w32 c.begin-day.result.0)) key begins
@@ -29,8 +30,10 @@ returns c =
         begun.2,
         ap (scope_in (map said_by c.args.files.now) (display_clock c.args.display.now) c.args.window) c.day_and_start.ensures,
       );
-      masters = whole.masters;
-      keys = day-keys files display (offset_near c.args.display.now) c.args.window whole.keys;
+      masters = masters-listed c.in_ok-versions.ensures.chosen;
+      keys =
+          day-keys files display (offset_near c.args.display.now) c.args.window
+          (keys c.args.files.now c.args.display.now c.in_ok-versions.ensures.read);
     }
 
 pub invariant_of-result : goal.invariant_of-result
@@ -44,6 +47,8 @@ invariant_of-result c =
     let first : first_near c.args.window ≤ℤ to_z w32 (of_z w32 c.begin-day.result.0) = omega (arith, ints, low, fits) in
     let from = rw (← c.day_and_start.ensures) at (from-start after (to_z w32 (of_z w32 c.begin-day.result.0)) key behind) in
     record {
+      chosen = those-chosen (map said_by c.args.files.now) (display_clock c.args.display.now) c.in_ok-versions.versions.items c.in_ok-versions.ensures.chosen;
+      spanned = rw c.deref.ensures.value at c.in_ok-spans.ensures;
       not_before = first;
       begun = rw c.day_and_start.ensures (begun-by c.args.window after (to_z w32 (of_z w32 c.begin-day.result.0)) key behind first);
       masters = ∣ first-masters scope from c.in_ok-agenda.ensures.agenda ∣₁;

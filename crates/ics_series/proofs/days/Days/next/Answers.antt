@@ -1,6 +1,5 @@
-use Rattle.std.proofs.Common.{rules, ◌≡◌, ◌<◌, ◌∷◌, ℤ, pos, ◌+ℤ◌, map, None, sym, ◌∙◌, ap, subst, arith, to_z, of_z, w32, ◌≤ℤ◌, ◌<ℤ◌, SFits}
+use Rattle.std.proofs.Common.{unsigned_abs, ◌-ℤ◌, rules, ◌≡◌, ◌<◌, ◌∷◌, ℤ, pos, ◌+ℤ◌, map, None, sym, ◌∙◌, ap, subst, arith, to_z, of_z, w32, ◌≤ℤ◌, ◌<ℤ◌, SFits}
 use Rattle.std.proofs.lemmas.Int.{ints}
-use borrow.Author.Gap.{gap, gap_up, read_sfits}
 use Rattle.ics_event.specs.Event.{said_by}
 use Rattle.ics_zone.specs.Near.{offset_near}
 use Rattle.ics_zone.proofs.Cases.{true_int_lt}
@@ -11,23 +10,21 @@ use Rattle.ics_series.specs.OnDays.{last_near, on_day}
 use Rattle.ics_series.proofs.AheadLemmas.{ahead-ended, on-err}
 use Rattle.ics_series.proofs.days.Days.next.Goals as goal
 
--- the next day is nearer to the last
-nearer : (day last : ℤ) {next : ℤ} → next ≡ day +ℤ pos 1 → day <ℤ last → SFits w32 day → SFits w32 last → gap next last < gap day last
-nearer day last e l f g =
-    let same : to_z w32 (of_z w32 (day +ℤ pos 1)) ≡ day +ℤ pos 1 = omega (arith, ints, l, f, g) in
-    subst (λ d. gap d last < gap day last) (same ∙ sym e) (gap_up w32 day last (true_int_lt day last l) f g)
+-- a later day is nearer to the last
+nearer : (day next last : ℤ) → day <ℤ next → next ≤ℤ last → unsigned_abs (last -ℤ next) < unsigned_abs (last -ℤ day)
+nearer day next last l m = omega (arith, ints, l, m)
 
 pub loop-occurrence-smaller : goal.loop-occurrence-smaller
 loop-occurrence-smaller c =
-    let fits : SFits w32 c.loop-occurrence.self.day = search rules in
-    nearer c.loop-occurrence.self.day (to_z w32 (of_z w32 c.last_near-last.result))
-    (c.in_ok-turn.ensures.day ∙ ap (λ d. d +ℤ pos 1) c.next_today.ensures.day) (omega (arith, ints, c.if-last-self.false, c.next_today.ensures.day)) fits
-    (read_sfits w32 (of_z w32 c.last_near-last.result))
+    let turned = c.in_ok-turn.ensures.day in
+    let same = ap last_near (c.turn.ensures.window ∙ (c.next_today.ensures.window ∙ c.loop-occurrence.invariant.window)) in
+    nearer c.loop-occurrence.self.today.day c.turn.new.self.today.day (to_z w32 (of_z w32 c.last_near-last.result))
+    (omega (arith, ints, turned.0, c.next_today.ensures.day)) (omega (arith, ints, turned.1, same, c.last_near-last.ensures, c.last_near-last.type_inv))
 
 pub returns-in-Some-clause-ok : goal.returns-in-Some-clause-ok
 returns-in-Some-clause-ok c = λ list a.
     let gives = rw c.in-Some.is at (c.in_ok-occurrence.ensures.ok list (c.loop-occurrence.invariant.ahead list a)) in
-    let fits : to_z w32 (of_z w32 c.next_today.new.self.day) ≡ c.next_today.new.self.day = search rules in
+    let fits : to_z w32 (of_z w32 c.next_today.new.self.today.day) ≡ c.next_today.new.self.today.day = search rules in
     (gives.0, gives.2 ∙ ap (λ d. on_day d (entry_of c.in-Some.occurrence) ∷ gives.0) (sym fits), gives.1)
 
 pub returns-then-last-self-clause-ok : goal.returns-then-last-self-clause-ok
@@ -36,10 +33,10 @@ returns-then-last-self-clause-ok c = λ list a.
     let none : c.in_ok-occurrence.field-0 ≡ None = search rules in
     let gives = rw none at (c.in_ok-occurrence.ensures.ok list (c.loop-occurrence.invariant.ahead list a)) in
     let same = ap last_near (c.next_today.ensures.window ∙ c.loop-occurrence.invariant.window) in
-    let past : last_near c.next_today.new.self.window ≤ℤ c.next_today.new.self.day =
+    let past : last_near c.next_today.new.self.window ≤ℤ c.next_today.new.self.today.day =
     omega (arith, ints, same, c.last_near-last.ensures, c.last_near-last.type_inv, c.if-last-self.true) in
-    let ended = ahead-ended (map said_by new.files.now) (display_clock new.display.now) (offset_near new.display.now) new.window new.day past
-    (agenda_coming new.agenda) (c.in_ok-occurrence.ensures.none none) gives.0 gives.1 in
+    let ended = ahead-ended (map said_by new.files.now) (display_clock new.display.now) (offset_near new.display.now) new.window new.today.day past
+    (agenda_coming new.today.agenda) (c.in_ok-occurrence.ensures.none none) gives.0 gives.1 in
     (gives.0, (gives.2 ∙ ended, ended), gives.1)
 
 pub returns-in_err-turn-clause-err : goal.returns-in_err-turn-clause-err

@@ -12,10 +12,10 @@ pub returns-then-met-on-clause-ok : goal.returns-then-met-on-clause-ok
 returns-then-met-on-clause-ok c = λ list a.
     let self = c.loop-occurrence.self in
     let gives = rw c.in-Some.is at c.in_ok-occurrence.ensures.ok in
-    let fits : to_z w32 (of_z w32 c.loop-occurrence.self.day) ≡ c.loop-occurrence.self.day = search rules in
+    let fits : to_z w32 (of_z w32 c.loop-occurrence.self.today.day) ≡ c.loop-occurrence.self.today.day = search rules in
     let on = rw fits at c.is_on-on.ensures.on in
-    ahead-given (map said_by self.files.now) (display_clock self.display.now) self.window self.day (entry_of c.in-Some.occurrence) (agenda_coming self.agenda)
-    (agenda_coming c.next.new.self) gives
+    ahead-given (map said_by self.files.now) (display_clock self.display.now) self.window self.today.day (entry_of c.in-Some.occurrence)
+    (agenda_coming self.today.agenda) (agenda_coming c.next.new.self) gives
     (sym (λ i. c.is_met-met.ensures i && on i) ∙ c.if-met-on.true) list (c.loop-occurrence.invariant.ahead list a)
 
 pub loop-occurrence-preserved : goal.loop-occurrence-preserved
@@ -27,14 +27,14 @@ loop-occurrence-preserved c = record {
   ahead = λ list a.
       let self = c.loop-occurrence.self in
       let gives = rw c.in-Some.is at c.in_ok-occurrence.ensures.ok in
-      let fits : to_z w32 (of_z w32 c.loop-occurrence.self.day) ≡ c.loop-occurrence.self.day = search rules in
+      let fits : to_z w32 (of_z w32 c.loop-occurrence.self.today.day) ≡ c.loop-occurrence.self.today.day = search rules in
       let on = rw fits at c.is_on-on.ensures.on in
-      ahead-skipped (map said_by self.files.now) (display_clock self.display.now) self.window self.day (entry_of c.in-Some.occurrence)
-      (agenda_coming self.agenda) (agenda_coming c.next.new.self) gives
+      ahead-skipped (map said_by self.files.now) (display_clock self.display.now) self.window self.today.day (entry_of c.in-Some.occurrence)
+      (agenda_coming self.today.agenda) (agenda_coming c.next.new.self) gives
       (sym (λ i. c.is_met-met.ensures i && on i) ∙ c.if-met-on.false) list (c.loop-occurrence.invariant.ahead list a);
 }
 
 pub returns-then-met-on-clause-within : goal.returns-then-met-on-clause-within
 returns-then-met-on-clause-within c =
-    let fits : to_z w32 (of_z w32 c.loop-occurrence.self.day) ≡ c.loop-occurrence.self.day = search rules in
+    let fits : to_z w32 (of_z w32 c.loop-occurrence.self.today.day) ≡ c.loop-occurrence.self.today.day = search rules in
     subst IsDayNumber fits (c.is_on-on.ensures.within (and_parts c.is_met-met.result c.is_on-on.result c.if-met-on.true).1)

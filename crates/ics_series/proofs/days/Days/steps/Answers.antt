@@ -13,10 +13,11 @@ returns-clause-most c = λ list bound ahead h.
     let self = c.args.self.now in
     let scope = scope_in (map said_by self.files.now) (display_clock self.display.now) self.window self.after in
     ∥∥₁_elim c.args.self.now.masters le_prop (λ are.
-    let reach = first-day self.window {day = self.day}
-    (filter (λ o. is_today (display_clock c.args.self.now.display.now) c.args.self.now.window c.args.self.now.day o) (agenda_coming self.agenda)) ahead.later
-    ahead.is
+    let reach = first-day self.window {day = self.today.day}
+    (filter (λ o. is_today (display_clock c.args.self.now.display.now) c.args.self.now.window c.args.self.now.today.day o) (agenda_coming self.today.agenda))
+    ahead.later ahead.is
     (λ p m. ((ahead.listing.exact p).0 m).later) in
-    let few = steps-most scope self.day self.looked self.before self.begun (agenda_sources self.agenda) are self.agenda.apart.1.1 (agenda_coming self.agenda)
+    let few = steps-most scope self.today.day self.today.looked self.before self.begun (agenda_sources self.today.agenda) are self.today.agenda.apart.1.1
+    (agenda_coming self.today.agenda)
     c.steps.result c.steps.ensures.most self.past list reach h in
     omega (arith, c.saturating_add.ensures, few))

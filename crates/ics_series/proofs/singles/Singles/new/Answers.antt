@@ -12,11 +12,11 @@ use Rattle.ics_series.proofs.singles.Singles.new.Goals as goal
 
 pub to_come-requires-clause-overrides : goal.to_come-requires-clause-overrides
 to_come-requires-clause-overrides c =
-    overrides-sorted c.deref.result.now c.requires (ap (map seen) c.deref.ensures.value ∙ c.in_ok-overrides.ensures)
+    overrides-sorted c.deref.result.now c.requires.chosen (ap (map seen) c.deref.ensures.value ∙ c.in_ok-overrides.ensures)
 
 pub invariant_of-result : goal.invariant_of-result
 invariant_of-result c =
-    let listing = singles-listing c.args.window.now (option_map (λ key. key_rank key.now) c.args.after) c.deref.result.now c.requires
+    let listing = singles-listing c.args.window.now (option_map (λ key. key_rank key.now) c.args.after) c.deref.result.now c.requires.chosen
     (ap (map seen) c.deref.ensures.value ∙ c.in_ok-overrides.ensures) c.in_ok-singles.ensures c.sort_unstable_by.ensures.permutation
     (climbs-by (on single_entry entry_cmp) (on_total single_entry entry_total) c.sort_unstable_by.new.self.items c.sort_unstable_by.ensures.sorted
     (λ f a r f' k. search rules)) in
@@ -28,7 +28,7 @@ invariant_of-result c =
 
 pub returns : goal.returns
 returns c =
-    let listing = singles-listing c.args.window.now (option_map (λ key. key_rank key.now) c.args.after) c.deref.result.now c.requires
+    let listing = singles-listing c.args.window.now (option_map (λ key. key_rank key.now) c.args.after) c.deref.result.now c.requires.chosen
     (ap (map seen) c.deref.ensures.value ∙ c.in_ok-overrides.ensures) c.in_ok-singles.ensures c.sort_unstable_by.ensures.permutation
     (climbs-by (on single_entry entry_cmp) (on_total single_entry entry_total) c.sort_unstable_by.new.self.items c.sort_unstable_by.ensures.sorted
     (λ f a r f' k. search rules)) in

@@ -1,0 +1,91 @@
+//! When the events of a folder that start once are.
+ghost use Rattle.std.specs.Prelude.{◌≡◌, map, IfOk, IsSome};
+ghost use Rattle.ics_event.specs.Event.{said_by};
+ghost use Rattle.ics_series.specs.Clocks.{display_clock};
+ghost use Rattle.ics_series.specs.Spans.{can_meet, is_out, span_at};
+ghost use Rattle.ics_series.specs.Spots.{event_at};
+ghost use Rattle.ics_series.specs.Versions.{seen, AreChosen};
+
+use crate::single::Single;
+use crate::singles::is_single;
+use crate::version::Version;
+use crate::window::Window;
+use ics_event::FileEvents;
+use ics_values::Moment;
+use ics_zone::Display;
+use std::alloc::{AllocError, Global};
+
+/// From when to when an event is. One that recurs may be at any time.
+#[derive(Clone, Copy)]
+pub(crate) struct Span {
+    pub(crate) first: Moment,
+    pub(crate) last: Moment,
+}
+
+impl Span {
+    // Whether what lies in it can meet a window.
+    pub(crate) fn can_meet(self, window: &Window) -> bool
+        ensures { result ≡ can_meet self window.now }
+    {
+        let begun = self.first < window.to;
+        let lasting = window.from <= self.last;
+        begun & lasting
+    }
+}
+
+/// The spans of versions, for windows that end no later than this one.
+pub(crate) fn spans(
+    alloc: Global,
+    files: &[FileEvents],
+    display: &Display,
+    chosen: &[Version<'_>],
+    window: &Window,
+) -> Result<Vec<Span>, AllocError>
+    requires { AreChosen (map said_by files.now) (display_clock display.now) chosen.now }
+    ensures { IfOk result (λ spans. spans.items
+        ≡ map (span_at (map said_by files.entry.now) (display_clock display.entry.now) window.now) (map seen chosen.entry.now)) }
+{
+    let mut spans = Vec::new(alloc);
+    for version in chosen {
+        spans.push(span_at(files, display, version, window))?;
+    }
+    Ok(spans)
+}
+
+// That of a version.
+fn span_at(files: &[FileEvents], display: &Display, version: &Version<'_>, window: &Window) -> Span
+    requires { IsSome (event_at (map said_by files.now) version.now.spot) }
+    ensures { result ≡ span_at (map said_by files.entry.now) (display_clock display.entry.now) window.now (seen version.now) }
+{
+    let zones = version.spot.zones(files, display);
+    let event = version.spot.event(files);
+    if !is_single(event) {
+        return Span {
+            first: Moment::MIN,
+            last: Moment::MAX,
+        };
+    }
+    match Single::begun(zones, event, None, window) {
+        None => Span {
+            first: window.to,
+            last: window.to,
+        },
+        Some(single) => {
+            let occurrence = single.occurrence();
+            Span {
+                first: occurrence.start,
+                last: occurrence.finish,
+            }
+        }
+    }
+}
+
+/// Whether the span at a place, if there is one there, cannot meet a window.
+pub(crate) fn is_out(spans: &[Span], place: usize, window: &Window) -> bool
+    ensures { result ≡ is_out spans.now place window.now }
+{
+    match spans.get(place) {
+        None => false,
+        Some(span) => !span.can_meet(window),
+    }
+}
