@@ -1,7 +1,7 @@
 -- Which versions cannot meet a window, known from their spans, and near which days nothing is.
 use Rattle.std.proofs.Common.{◌≡◌, ℕ, ℤ, pos, ◌+ℤ◌, ◌-ℤ◌, ◌<ℤ◌, ◌≤ℤ◌, List, [], ◌∷◌, map, inl, inr, ⊎_elim, Option, Some, None, Bool, true, false, refl, sym}
 use Rattle.std.proofs.Common.{◌∙◌, ap, suc, ◌+◌, ◌<◌, ◌++◌, length, drop, get_or, add-one, drop-cons}
-use Rattle.std.proofs.Common.{subst, arith, ◌&&◌, not, int_lt, int_le, slice_get, option_map, option_and_then, if◌then◌else◌, Equal, Ordering, ◌⊎◌}
+use Rattle.std.proofs.Common.{subst, arith, int_lt, int_le, slice_get, option_map, option_and_then, if◌then◌else◌, Ordering, ◌⊎◌}
 use Rattle.std.specs.Int.{int_max, int_min}
 use Rattle.std.specs.List.{AllByRecursion, filter_map}
 use Rattle.std.proofs.lemmas.Bool.{cases_Bool, cond_both}
@@ -15,22 +15,19 @@ use Rattle.ics_zone.specs.Seconds.{IsNear}
 use Rattle.ics_series.specs.declared.span.Span.{Span}
 use Rattle.ics_series.specs.declared.version.Version.{Version}
 use Rattle.ics_series.specs.declared.window.Window.{Window}
-use Rattle.ics_series.specs.After.{is_after}
 use Rattle.ics_series.specs.Chosen.{overridden, subject_of, IsChosen}
 use Rattle.ics_series.specs.Clocks.{Clock, Clocks, instant}
 use Rattle.ics_series.specs.Entry.{Entry, Rank}
-use Rattle.ics_series.specs.Finish.{finish}
 use Rattle.ics_series.specs.Laws.{HasVersion}
 use Rattle.ics_series.specs.Listing.{IsIn, IsListing}
 use Rattle.ics_series.specs.Masters.{Recurs}
-use Rattle.ics_series.specs.Meeting.{is_met, is_under_way}
+use Rattle.ics_series.specs.Meeting.{is_met}
 use Rattle.ics_series.specs.Meets.{IsListed}
 use Rattle.ics_series.specs.Merged.{merged}
 use Rattle.ics_series.specs.OnDays.{first_near, last_near, IsNearDay}
-use Rattle.ics_series.specs.Overridden.{is_kept}
 use Rattle.ics_series.specs.PlacedEvents.{Placed, IsPlaced, clocks_at}
 use Rattle.ics_series.specs.Rising.{Rises}
-use Rattle.ics_series.specs.Singles.{begun_first, entry_first, is_single, is_to_come, single_at, single_of}
+use Rattle.ics_series.specs.Singles.{begun_first, entry_first, is_single, single_at, single_of}
 use Rattle.ics_series.specs.SpanLaws.{AreThoseChosen}
 use Rattle.ics_series.specs.Spans.{always, can_meet, first_of, is_out, is_out_of, span_at, span_by, span_of, span_once, AreSpans}
 use Rattle.ics_series.specs.Spots.{event_at}
