@@ -1,5 +1,5 @@
 -- The starts by a rule with an UNTIL in UTC are those of the rule without it up to that instant.
-use Rattle.std.proofs.Common.{◌≡◌, ◌≤ℤ◌, ℤ, true, inl, inr, ⊎_elim, Option, Some, sym, ◌∙◌, ap, subst, option_map, IfSome}
+use Rattle.std.proofs.Common.{◌≡◌, ◌≤ℤ◌, ℤ, true, inr, ⊎_elim, Option, Some, sym, ◌∙◌, ap, subst, option_map, IfSome}
 use Rattle.ics_fields.specs.Locals.{local_seconds, number}
 use Rattle.ics_rule.specs.Kept.{is_kept, until_moment}
 use Rattle.ics_rule.specs.Recurrence.{Recurrence}
