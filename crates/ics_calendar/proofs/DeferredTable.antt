@@ -1,15 +1,14 @@
 -- The table of the second round and the pass find one fault on a line, and ask for one time zone.
-use Rattle.std.proofs.Common.{◌≡◌, ◌⊎◌, inl, inr, ℕ, Bool, true, false, ◌&&◌, List, map, refl, sym, cond, Option, Some, None, is_some, arith}
+use Rattle.std.proofs.Common.{◌≡◌, ◌⊎◌, inl, inr, ℕ, Bool, true, false, ◌&&◌, ◌||◌, List, map, refl, sym, cond, Option, Some, None, is_some, arith}
 use Rattle.std.specs.Prelude.{find, not}
 use Rattle.std.specs.Option.{option_and_then}
-use Rattle.std.proofs.Math.Bool.{or-false}
 use Rattle.std.proofs.lemmas.Bool.{not-false}
 use Rattle.ics_text.specs.Bytes.{upper}
 use Rattle.ics_text.specs.Unfolded.{Line}
 use Rattle.ics_text.specs.ContentLines.{Parts}
 use Rattle.ics_components.specs.declared.component.Context.{Context}
 use Rattle.ics_components.specs.declared.component.Context.TheVariants as context
-use Rattle.ics_components.specs.declared.dated.Dated.{Dated}
+use Rattle.ics_values.specs.declared.time.Time.{Time}
 use Rattle.ics_components.specs.declared.fault.FaultKind.TheVariants.{BadEnd, UnknownZone, BadZoneFile}
 use Rattle.ics_components.specs.declared.deferred_check.DeferredCheck.{DeferredCheck}
 use Rattle.ics_components.specs.declared.deferred_check.ZoneName.{ZoneName}
@@ -22,13 +21,13 @@ use Rattle.ics_calendar.specs.LaterFaults.{is_in_zone, is_in_unknown_zone, stand
 use Rattle.ics_calendar.specs.DeferredChecks.{KnownZones, ends_badly_later, judged, unknown_in}
 use Rattle.ics_components.specs.SecondRound.{zone_named, zone_check, ends_in}
 use Rattle.ics_components.specs.Lines.{check_in}
-use Rattle.ics_components.specs.declared.event_builder.EventBuilder.{EventBuilder}
+use Rattle.ics_components.specs.declared.event_fields.EventFields.{EventFields}
 use Rattle.ics_components.proofs.EndOrder.{IsMatched}
 use Rattle.ics_components.proofs.Table.{frame_of, collected_of}
 use Rattle.ics_components.proofs.Frames.{with}
 
 -- AN END against its start, as the table finds it, as it is judged, and as it asks for no time zone.
-ends-as : (known : KnownZones) (calendar : ℕ) (start end : Option Dated) →
+ends-as : (known : KnownZones) (calendar : ℕ) (start end : Option (Time (List ℕ))) →
     (cond (ends_badly_later known calendar start end) (Some BadEnd) None ≡ option_and_then (judged known) (ends_in calendar start end))
     × (option_and_then (unknown_in known.index) (ends_in calendar start end) ≡ None)
 ends-as known k (Some a) (Some b) = (grind arith, grind arith)
@@ -50,7 +49,7 @@ module _ (whole : List Placed) (line : Line) (parts : Parts) (ls : List Placed) 
   abbrev k : ℕ
   k = calendar_of path
 
-  abbrev had : EventBuilder
+  abbrev had : EventFields
   had = collected_of ls
 
   -- the zone that the line names, if it has a stamp in one
@@ -66,13 +65,18 @@ module _ (whole : List Placed) (line : Line) (parts : Parts) (ls : List Placed) 
       ((ends_event l ≡ true) × (is_in_zone l ≡ false) × (left n ≡ ends_in k had.start had.end))
       ⊎ ((ends_event l ≡ false) × (left n ≡ zone_check (cond (is_in_zone l) (Some used) None)))
 
+  -- a stamp and its zone
+  zone-there : (z : Bool) → zone_check (cond z (Some (zone_named k (cond z (zone_name parts.params) None))) None) ≡ zone_check (cond (z || false) (Some used) None)
+  zone-there true = refl
+  zone-there false = refl
+
   leaves : (n : Name) (q : Context) → name_on (Some parts) ≡ n → context_of path ≡ q → IsMatched l → Leaves n
   leaves name.End context.Event e c m =
       let closed : closes path (map upper parts.value) ≡ true = not-false _ (rw e at m) in inl (rw (e, c, closed), rw (e, c), rw c)
   leaves name.End _ e c m = let closed : closes path (map upper parts.value) ≡ true = not-false _ (rw e at m) in inr (rw (e, c, closed), rw c)
-  leaves name.Dtstart context.Event e c m = inr (rw e, rw (e, c) (simp or-false))
-  leaves name.Dtend context.Event e c m = inr (rw e, rw (e, c) (simp or-false))
-  leaves name.RecurrenceId context.Event e c m = inr (rw e, rw (e, c) (simp or-false))
+  leaves name.Dtstart context.Event e c m = inr (rw e, rw (e, c) (zone-there _))
+  leaves name.Dtend context.Event e c m = inr (rw e, rw (e, c) (zone-there _))
+  leaves name.RecurrenceId context.Event e c m = inr (rw e, rw (e, c) (zone-there _))
   leaves _ context.Event e c m = inr (rw e, rw (e, c))
   leaves _ _ e c m = inr (rw e, rw c)
 

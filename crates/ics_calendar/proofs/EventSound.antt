@@ -1,51 +1,46 @@
 -- An event that no fault of either round stands on is one, of the zones of its file.
-use Rattle.std.proofs.Common.{◌≡◌, ℕ, Bool, true, false, ◌&&◌, ◌||◌, ◌==◌, List, [], refl, arith, cond, Option, Some}
+use Rattle.std.proofs.Common.{◌≡◌, ◌≢◌, ℕ, Bool, true, false, ◌&&◌, ◌==◌, List, [], refl, sym, subst, arith, cond, Option, Some}
 use Rattle.std.proofs.Common.{None, is_some, IfSome, ℤ, pos, ◌*ℤ◌, length, get_or, ap}
 use Rattle.std.specs.Prelude.{map, option_map, unwrap_or}
 use Rattle.std.specs.Option.{option_and_then}
 use Rattle.std.specs.List.{All}
-use Rattle.std.proofs.lemmas.Bool.{or_left, or_right}
 use Rattle.std.proofs.lemmas.Bool.Decides.{nat_tests}
 use Rattle.std.proofs.lemmas.Int.{ints}
 use Rattle.std.proofs.lemmas.List.Elements.{All-map}
-use Rattle.std.proofs.lemmas.List.Folds.{list_any_at}
 use Rattle.std.specs.Str.{bytes_eq}
 use Rattle.std.specs.Cmp.Lexicographic.{bytes_decides}
 use Rattle.std.proofs.lemmas.Option.{slice_get-get_or}
+use Rattle.ics_values.specs.Stamps.{stamp_day}
+use Rattle.ics_fields.specs.Days.{IsStampDay}
+use Rattle.ics_values.specs.Times.{time_in, map_time, map_length, map_rdate, start_of}
 use Rattle.ics_values.specs.declared.duration.Duration.{Duration}
 use Rattle.ics_values.specs.declared.stamp.Stamp.{Stamp}
 use Rattle.ics_values.specs.declared.stamp.Stamp.TheVariants.{Date, Floating, Utc, Zoned}
+use Rattle.ics_values.specs.declared.time.Length.{Length}
+use Rattle.ics_values.specs.declared.time.Length.TheVariants.{Open, Until, Lasting}
+use Rattle.ics_values.specs.declared.time.Rdate.{Rdate}
+use Rattle.ics_values.specs.declared.time.Rdate.TheVariants.{At, Span}
+use Rattle.ics_values.specs.declared.time.Time.{Time}
 use Rattle.ics_fields.specs.Locals.{local_seconds}
 use Rattle.ics_fields.specs.declared.local.Local.{Local}
 use Rattle.ics_zone.specs.ZoneSaid.{ZoneSaid}
-use Rattle.ics_components.specs.declared.gathered.EndedEvent.{EndedEvent}
-use Rattle.ics_components.specs.declared.gathered.GivenLength.{GivenLength}
-use Rattle.ics_components.specs.declared.date_list.DateList.{DateList}
-use Rattle.ics_components.specs.declared.date_list.ListedDate.{ListedDate}
-use Rattle.ics_components.specs.declared.dated.Dated.{Dated}
+use Rattle.ics_components.specs.declared.gathered.CalendarEvent.{CalendarEvent}
+use Rattle.ics_components.specs.declared.event_fields.EventFields.{EventFields}
 use Rattle.ics_components.specs.declared.deferred_check.DeferredCheck.{DeferredCheck}
-use Rattle.ics_components.specs.declared.deferred_check.ZoneName.{ZoneName}
-use Rattle.ics_event.specs.Event.{is_zoned, IsTime, IsWithin, IsEnd, IsLasting, IsLength, IsRdate, IsEvent, EndsBelow, RdateBelow}
-use Rattle.ics_event.specs.Event.{time_in, TimeBelow, EndsWithin, IsEventOf, AreEventsOf, compared, moment_in}
-use Rattle.ics_calendar.specs.Settled.{event_of, IsReady}
-use Rattle.ics_calendar.specs.ListedTimes.{rdate_in, exdate_in, listed_by}
-use Rattle.ics_components.specs.DateValues.{has_zoned}
-use Rattle.ics_calendar.specs.DeferredChecks.{KnownZones, judged, moment_of}
-use Rattle.ics_event.specs.declared.time.Rdate.{Rdate}
-use Rattle.ics_components.specs.SecondRound.{zone_named, dated_zone, list_zone, zone_check, instant_on, both_compared, ends_in}
-use Rattle.ics_components.specs.Sound.{end_of, IsSoundStamp, IsSoundLength, IsSoundValue, IsSoundList}
-use Rattle.ics_calendar.specs.Times.{time_on, length_of}
-use Rattle.ics_components.specs.Values.{is_lasting, is_out, is_bad_end}
-use Rattle.ics_components.proofs.Sound.{All-flat_map}
-use Rattle.ics_calendar.proofs.FilesGiven.{below-here}
-use Rattle.ics_event.specs.declared.time.Length.TheVariants.{Until}
-use Rattle.ics_event.specs.declared.time.Time.{Time}
-use Rattle.ics_calendar.specs.Drafts.{IsTable}
-use Rattle.ics_components.specs.declared.gathered.GivenLength.TheVariants as given
-use Rattle.ics_components.specs.declared.date_list.ListedDate.TheVariants as value
 use Rattle.ics_components.specs.declared.deferred_check.DeferredCheck.TheVariants as check
 use Rattle.ics_components.specs.declared.deferred_check.Instant.{Instant}
 use Rattle.ics_components.specs.declared.deferred_check.Instant.TheVariants as instant
+use Rattle.ics_components.specs.declared.deferred_check.ZoneName.{ZoneName}
+use Rattle.ics_components.specs.SecondRound.{zone_named, zone_check, instant_on, both_compared, ends_in}
+use Rattle.ics_components.specs.Sound.{IsSoundTime, IsSoundRdate, HasZone, RdateHasZone}
+use Rattle.ics_components.specs.Values.{is_lasting, is_filled, is_out, is_bad_end, ends_badly}
+use Rattle.ics_event.specs.Event.{is_zoned, IsTime, IsWithin, IsEnd, IsLasting, IsLength, IsRdate, IsEvent, EndsBelow, RdateBelow}
+use Rattle.ics_event.specs.Event.{TimeBelow, EndsWithin, IsEventOf, AreEventsOf, compared, moment_in}
+use Rattle.ics_calendar.specs.DeferredChecks.{KnownZones, judged, moment_of}
+use Rattle.ics_calendar.specs.Drafts.{IsTable}
+use Rattle.ics_calendar.specs.Events.{zone_at, start_in, given_length}
+use Rattle.ics_calendar.specs.Settled.{event_in, IsReady}
+use Rattle.ics_calendar.proofs.FilesGiven.{below-here}
 
 -- A STAMP, in the zone that it names.
 -- a check of the second round finds no fault
@@ -54,6 +49,14 @@ IsFine known o = IfSome o (λ l. judged known l ≡ None)
 
 out-within : (start end : ℤ) → is_out start end ≡ false → IsWithin start end
 out-within start end h = record { forward = grind (arith, ints, nat_tests, h); short = grind (arith, ints, nat_tests, h) }
+
+filled-not-empty : (o : Option (List ℕ)) → is_filled o ≡ true → unwrap_or o [] ≢ []
+filled-not-empty o h e = grind arith
+
+-- the DTSTART of an event that has one
+some-in : (o : Option (Time (List ℕ))) → is_some o ≡ true → o ≡ Some (start_in o)
+some-in (Some start) e = refl
+some-in None e = cc
 
 lasting-is : (d : Duration) → is_lasting d ≡ true → IsLasting d
 lasting-is d h = record { forward = grind (arith, nat_tests, h); short = grind (arith, nat_tests, h) }
@@ -71,10 +74,10 @@ module _ (known : KnownZones) where
   index-is used h = grind (arith, h)
 
   -- a time, and its zone in a table
-  abbrev IsTimeOf : Time → Type 0
+  abbrev IsTimeOf : Time ℕ → Type 0
   IsTimeOf time = IsTime time × (IsTable known → TimeBelow (length known.zones) time)
 
-  stamp-time : (name : ZoneName) (r : Stamp) → IsSoundStamp r → IsFine known (fault_by (is_zoned r) name) → IsTimeOf (time_in (known.index name) r)
+  stamp-time : (name : ZoneName) (r : Stamp) → IsStampDay (stamp_day r) → IsFine known (fault_by (is_zoned r) name) → IsTimeOf (time_in (known.index name) r)
   stamp-time name (Zoned l) h k = (record { years = h; zone = ap is_some (index-is name k) }, λ table. table.below name)
   stamp-time name _ h k = (record { years = h; zone = refl }, λ table. tt)
 
@@ -125,68 +128,91 @@ module _ (known : KnownZones) where
           by_test table false e l = instants-within (instant.Zoned a m) (instant.Zoned b n) (local-there table m a u) (local-there table n b v) l
       ends-are _ _ e u v l = cc
 
-    length-sound : (s : Dated) (l : GivenLength) → IsSoundLength s l →
-        IsFine known (zone_check (dated_zone k s)) → IsFine known (zone_check (option_and_then (dated_zone k) (end_of l))) →
-        IsFine known (ends_in k (Some s) (end_of l)) →
-        IsLength s.stamp (length_of known.index k l)
-        × (IsTable known →
-        EndsBelow (length known.zones) (length_of known.index k l) × EndsWithin known.zones (time_on known.index k s) (length_of known.index k l))
-    length-sound s (given.Until d) h u v w =
-        let end = stamp-time (zone_named k d.zone) d.stamp h.0 v in
-        let ends = ends-are s.zone d.zone s.stamp d.stamp h.1 u v w in ((end.0, ends.0), λ table. (end.1 table, ends.1 table))
-    length-sound s (given.Lasting d) h u v w = (lasting-is d h, λ table. (tt, tt))
-    length-sound s given.Open h u v w = (tt, λ table. (tt, tt))
+    -- THE TIMES of such an event, with the indices of their zones.
+    abbrev at : List ℕ → Option ℕ
+    at name = zone_at known.index k name
 
-    recurrence-is : (o : Option Dated) → IfSome o (λ d. IsSoundStamp d.stamp) → IsFine known (zone_check (option_and_then (dated_zone k) o)) →
-        IfSome (option_map (time_on known.index k) o) IsTime
-        × (IsTable known → IfSome (option_map (time_on known.index k) o) (TimeBelow (length known.zones)))
+    zone-is : (o : Option (List ℕ)) (z : Bool) → is_some o ≡ z → option_and_then at o ≡ cond z (known.index (zone_named k o)) None
+    zone-is (Some name) true e = refl
+    zone-is None false e = refl
+    zone-is (Some name) false e = cc
+    zone-is None true e = cc
+
+    placed : (time : Time (List ℕ)) → IsSoundTime time → map_time at time ≡ time_in (known.index (zone_named k time.zone)) time.stamp
+    placed time h = λ i. record { stamp = time.stamp; zone = zone-is time.zone (is_zoned time.stamp) h.zone i }
+
+    abbrev IsFineTime : Time (List ℕ) → Type 0
+    IsFineTime time = HasZone (λ l. judged known l ≡ None) k time
+
+    abbrev IsFineRdate : Rdate (List ℕ) → Type 0
+    IsFineRdate rdate = RdateHasZone (λ l. judged known l ≡ None) k rdate
+
+    time-is : (time : Time (List ℕ)) → IsSoundTime time → IsFineTime time → IsTimeOf (map_time at time)
+    time-is time h f = subst IsTimeOf (sym (placed time h)) (stamp-time (zone_named k time.zone) time.stamp h.years f)
+
+    recurrence-is : (o : Option (Time (List ℕ))) → IfSome o IsSoundTime → IfSome o IsFineTime →
+        IfSome (option_map (map_time at) o) IsTime × (IsTable known → IfSome (option_map (map_time at) o) (TimeBelow (length known.zones)))
     recurrence-is None h f = (tt, λ table. tt)
-    recurrence-is (Some d) h f = stamp-time (zone_named k d.zone) d.stamp h f
+    recurrence-is (Some time) h f = time-is time h f
 
-  -- WHAT A LINE LISTS, in the zone that it names.
-  fine-less : (name : ZoneName) (a b : Bool) → (a ≡ true → b ≡ true) → IsFine known (fault_by b name) → IsFine known (fault_by a name)
-  fine-less name true b up h = rw (up refl) at h
-  fine-less name false b up h = tt
+    abbrev IsRdateOf : Rdate ℕ → Type 0
+    IsRdateOf rdate = IsRdate rdate × (IsTable known → RdateBelow (length known.zones) rdate)
 
-  abbrev IsRdateOf : Rdate → Type 0
-  IsRdateOf rdate = IsRdate rdate × (IsTable known → RdateBelow (length known.zones) rdate)
+    rdate-is : (v : Rdate (List ℕ)) → IsSoundRdate v → IsFineRdate v → IsRdateOf (map_rdate at v)
+    rdate-is (At time) h f = time-is time h f
+    rdate-is (Span start Open) h f = absurd h.1
+    rdate-is (Span start (Until end)) h f =
+        let first = time-is start h.0 f.0 in let last = time-is end h.1 f.1 in ((first.0, last.0), λ table. (first.1 table, last.1 table))
+    rdate-is (Span start (Lasting d)) h f = let first = time-is start h.0 f.0 in ((first.0, lasting-is d h.1), λ table. (first.1 table, tt))
 
-  rdate-is : (name : ZoneName) (v : ListedDate) → IsSoundValue v → IsFine known (fault_by (has_zoned v) name) → IsRdateOf (rdate_in (known.index name) v)
-  rdate-is name (value.At r) h k = stamp-time name r h k
-  rdate-is name (value.Between r q) h k =
-      let zoned = is_zoned r || is_zoned q in
-      let start = stamp-time name r h.0 (fine-less name (is_zoned r) zoned (or_left (is_zoned r) (is_zoned q)) k) in
-      let end = stamp-time name q h.1 (fine-less name (is_zoned q) zoned (or_right (is_zoned r) (is_zoned q)) k) in
-      ((start.0, end.0), λ table. (start.1 table, end.1 table))
-  rdate-is name (value.Lasting r d) h k = let start = stamp-time name r h.0 k in ((start.0, lasting-is d h.1), λ table. (start.1 table, tt))
+    exdate-is : (v : Rdate (List ℕ)) → IsSoundRdate v → IsFineRdate v → IsTimeOf (map_time at (start_of v))
+    exdate-is (At time) h f = time-is time h f
+    exdate-is (Span start length) h f = time-is start h.0 f.0
 
-  exdate-is : (name : ZoneName) (v : ListedDate) → IsSoundValue v → IsFine known (fault_by (has_zoned v) name) → IsTimeOf (exdate_in (known.index name) v)
-  exdate-is name (value.At r) h k = stamp-time name r h k
-  exdate-is name v h k = let rdate = rdate-is name v h k in (rdate.0.0, λ table. (rdate.1 table).0)
+    -- and its length
+    abbrev IsLengthOf : Time (List ℕ) → Length (List ℕ) → Type 0
+    IsLengthOf start lasts =
+        IsLength start.stamp (map_length at lasts)
+        × (IsTable known → EndsBelow (length known.zones) (map_length at lasts) × EndsWithin known.zones (map_time at start) (map_length at lasts))
 
-  -- each value of each list
-  module _ {A : Type 0} (P : A → Type 0) where
-    lists-are : (f : Option ℕ → ListedDate → A) (calendar : ℕ) →
-        ((name : ZoneName) (v : ListedDate) → IsSoundValue v → IsFine known (fault_by (has_zoned v) name) → P (f (known.index name) v)) →
-        (lists : List DateList) → All IsSoundList lists → All (λ list. IsFine known (zone_check (list_zone calendar list))) lists →
-        All P (listed_by f known.index calendar lists)
-    lists-are f calendar each lists h k =
-        All-flat_map P _ lists (λ i d l.
-        let list = get_or lists i d in
-        All-map P (f (known.index (zone_named calendar list.zone))) list.values (λ j v m.
-        each (zone_named calendar list.zone) (get_or list.values j v) (h i d l j v m)
-        (fine-less (zone_named calendar list.zone) _ _ (list_any_at has_zoned list.values j v m) (k i d l))))
+    length-is : (s : Time (List ℕ)) (end : Option (Time (List ℕ))) (duration : Option Duration) → IsSoundTime s → IfSome end IsSoundTime →
+        ends_badly (Some s) end ≡ false → IfSome duration (λ d. is_lasting d ≡ true) → IsFineTime s → IfSome end IsFineTime →
+        IsFine known (ends_in k (Some s) end) → IsLengthOf s (given_length end duration)
+    length-is s (Some e) duration h i bad lasts u v w =
+        let last = time-is e i v in
+        let ends = ends-are s.zone e.zone s.stamp e.stamp bad u v w in
+        let start : Time ℕ = time_in (known.index (zone_named k s.zone)) s.stamp in (
+          (last.0, ends.0),
+          λ table. (
+            last.1 table,
+            subst (λ (time : Time ℕ). EndsWithin known.zones time (Until (map_time at e))) (sym (placed s h))
+                (subst (λ (time : Time ℕ). EndsWithin known.zones start (Until time)) (sym (placed e i)) (ends.1 table)),
+          ),
+        )
+    length-is s None (Some d) h i bad lasts u v w = (lasting-is d lasts, λ table. (tt, tt))
+    length-is s None None h i bad lasts u v w = (tt, λ table. (tt, tt))
 
-  pub event-sound : (event : EndedEvent) → IsReady known event →
-      IsEvent (event_of known.index event) × (IsTable known → IsEventOf known.zones (event_of known.index event))
+  pub event-sound : (event : CalendarEvent) → IsReady known event →
+      IsEvent (event_in known.index event) × (IsTable known → IsEventOf known.zones (event_in known.index event))
   event-sound e r =
-      let start = stamp-time (zone_named e.calendar e.start.zone) e.start.stamp r.whole.start r.zones.start in
-      let ends = length-sound e.calendar e.start e.length r.whole.length r.zones.start r.zones.end r.zones.length in
-      let rdates = lists-are IsRdateOf rdate_in e.calendar rdate-is e.rdates r.whole.rdates r.zones.rdates in
-      let exdates = lists-are IsTimeOf exdate_in e.calendar exdate-is e.exdates r.whole.exdates r.zones.exdates in
-      let recurrence = recurrence-is e.calendar e.recurrence r.whole.recurrence r.zones.recurrence in (
+      let k : ℕ = e.calendar in
+      let had : EventFields = e.fields in
+      let whole = r.whole in
+      let zones = r.zones in
+      let started = some-in had.start whole.started in
+      let s : Time (List ℕ) = start_in had.start in
+      let there : IsSoundTime s = subst (λ o. IfSome o IsSoundTime) started whole.start in
+      let zone : IsFineTime k s = subst (λ o. IfSome o (IsFineTime k)) started zones.start in
+      let start = time-is k s there zone in
+      let ends =
+      length-is k s had.end had.duration there whole.end (subst (λ o. ends_badly o had.end ≡ false) started whole.ends) whole.lasting zone zones.end
+      (subst (λ o. IsFine known (ends_in k o had.end)) started zones.length) in
+      let rdates = All-map (IsRdateOf k) (map_rdate (at k)) had.rdates (λ i d l. rdate-is k _ (whole.rdates i d l) (zones.rdates i d l)) in
+      let exdates =
+      All-map IsTimeOf (λ exdate. map_time (at k) (start_of exdate)) had.exdates (λ i d l. exdate-is k _ (whole.exdates i d l) (zones.exdates i d l)) in
+      let recurrence = recurrence-is k had.recurrence whole.recurrence zones.recurrence in (
         record {
-          named = r.whole.named;
+          named = filled-not-empty had.uid whole.named;
           start = start.0;
           length = ends.0;
           rdates = λ i d l. (rdates i d l).0;
@@ -206,7 +232,7 @@ module _ (known : KnownZones) where
       )
 
 -- THE EVENTS of a file, of its zones.
-pub events-of : (known : KnownZones) → IsTable known → (events : List EndedEvent) → All (IsReady known) events →
-    AreEventsOf known.zones (map (event_of known.index) events)
+pub events-of : (known : KnownZones) → IsTable known → (events : List CalendarEvent) → All (IsReady known) events →
+    AreEventsOf known.zones (map (event_in known.index) events)
 events-of known table events h =
-    All-map (IsEventOf known.zones) (event_of known.index) events (λ i d l. (event-sound known (get_or events i d) (h i d l)).1 table)
+    All-map (IsEventOf known.zones) (event_in known.index) events (λ i d l. (event-sound known (get_or events i d) (h i d l)).1 table)

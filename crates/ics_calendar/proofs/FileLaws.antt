@@ -28,8 +28,7 @@ use Rattle.ics_text.proofs.Rising.{unfolded-rises}
 use Rattle.ics_components.specs.FirstFault.{Round, IsFirst, end_fault, last_of}
 use Rattle.ics_components.specs.declared.fault.Fault.{Fault}
 use Rattle.ics_components.specs.PlacedLines.{Open, Placed, placed, placed_from, path_behind, beside}
-use Rattle.ics_components.specs.declared.date_list.ListedDate.{ListedDate}
-use Rattle.ics_components.specs.DateValues.{DateValue, Between, Lasting, date_time_of, has_slash, listed_by, listed_said, OnePeriod}
+use Rattle.ics_components.specs.DateValues.{DateValue, Between, Lasting, date_time_of, has_slash, is_accepted, period_said, OnePeriod}
 use Rattle.ics_components.specs.Values.{allowed}
 use Rattle.ics_components.specs.declared.fault.FaultKind.{FaultKind}
 use Rattle.ics_components.specs.declared.fault.FaultKind.TheVariants.{BadZoneFile}
@@ -73,19 +72,19 @@ half-is form s = grind arith
 
 -- by its halves, where the second is a duration or a stamp: if both accept them, they read the same
 abbrev Agree : Result Period PeriodFault → DateValue → Type 0
-Agree period value = (p : Period) (v : ListedDate) → period ≡ Ok p → listed_said value ≡ Some v → v ≡ listed_by p
+Agree period value = (p : Period) → period ≡ Ok p → is_accepted value ≡ true → period_said value ≡ Some p
 
 halves-agree : (t minus : Bool) (a b : Result Stamp StampFault) (d : Result Duration DurationFault) →
     Agree (both (stamp_half a) (cond t (lasting_end d) (at_end (stamp_half b)))) (cond t (Lasting a (allowed minus d)) (Between a b))
-halves-agree t minus a b d p v h k = grind arith
+halves-agree t minus a b d p h k = grind arith
 
 no-period : (a : Result Stamp PeriodFault) (p : Period) → both a (Err BadStamp) ≡ Ok p → ⊥
 no-period a p h = grind arith
 
 pub one-period : OnePeriod
-one-period zoned text p v h k = elim (cases_Bool (has_slash text)) [
+one-period zoned text p h k = elim (cases_Bool (has_slash text)) [
   | inl e ↦ halves-agree (lasts (second_half text)) (begins is_minus (second_half text)) (date_time_of zoned (first_half text))
-      (date_time_of zoned (second_half text)) (duration_of (second_half text)) p v
+      (date_time_of zoned (second_half text)) (duration_of (second_half text)) p
       (rw (
         ← half-is (is_date_time_form (first_half text)) (stamp_of zoned (first_half text)),
         ← half-is (is_date_time_form (second_half text)) (stamp_of zoned (second_half text)),

@@ -9,7 +9,7 @@ use Rattle.ics_text.specs.ContentLines.{Parts, content_of}
 use Rattle.ics_components.specs.declared.gathered.LineCheck.{LineCheck}
 use Rattle.ics_components.specs.declared.deferred_check.DeferredCheck.{DeferredCheck}
 use Rattle.ics_components.specs.declared.deferred_check.ZoneName.{ZoneName}
-use Rattle.ics_calendar.specs.Settled.{event_of, first_judged, known_in, drafted, all_unknown, settled_by}
+use Rattle.ics_calendar.specs.Settled.{event_in, first_judged, known_in, drafted, all_unknown, settled_by}
 use Rattle.ics_components.specs.Faults.{stands}
 use Rattle.ics_calendar.specs.LaterFaults.{stands_later, is_in_unknown_zone, tzid_on}
 use Rattle.ics_calendar.specs.Files.{event_by, said_of, decide, later_fault}
@@ -68,9 +68,9 @@ module _ (known : KnownZones) where
 
 -- THE EVENTS, by what is gathered.
 events-begun : (index : ZoneName → Option ℕ) (whole ls : List Placed) →
-    map (event_of index) (begun events whole ls) ≡ map (λ line. event_by index (calendar_of line.path) (lines_in line.number whole)) (filter begins_event ls)
+    map (event_in index) (begun events whole ls) ≡ map (λ line. event_by index (calendar_of line.path) (lines_in line.number whole)) (filter begins_event ls)
 events-begun index whole ls =
-    begun-same events whole (event_of index) (λ line. event_by index (calendar_of line.path) (lines_in line.number whole))
+    begun-same events whole (event_in index) (λ line. event_by index (calendar_of line.path) (lines_in line.number whole))
     (λ l e. ap (λ k. event_by index k (lines_in l.number whole)) (calendar-inside l (and_parts _ _ e).0)) ls
 
 -- LINES WITHOUT A FAULT of the first round.

@@ -2,9 +2,9 @@
 use Rattle.std.proofs.Common.{◌≡◌, ℕ, List, [], ◌∷◌, map, None}
 use Rattle.std.specs.List.{All, Contains}
 use Rattle.std.proofs.lemmas.List.Elements.{All-nil, All-cons, All-contains}
-use Rattle.ics_components.specs.declared.gathered.EndedEvent.{EndedEvent}
+use Rattle.ics_components.specs.declared.gathered.CalendarEvent.{CalendarEvent}
 use Rattle.ics_components.specs.declared.gathered.LineCheck.{LineCheck}
-use Rattle.ics_calendar.specs.Settled.{event_of, known_in, first_judged, IsReady}
+use Rattle.ics_calendar.specs.Settled.{event_in, known_in, first_judged, IsReady}
 use Rattle.ics_event.specs.Event.{AreEventsOf}
 use Rattle.ics_components.specs.Gathered.{IsSoundGathered}
 use Rattle.ics_components.specs.GatheredSeen.{GatheredSeen}
@@ -24,15 +24,15 @@ none-judged known (w ∷ ws) e =
     All-cons (λ l. judged known l ≡ None) w.check (map (λ w. w.check) ws) n.0 (none-judged known ws n.1)
 
 -- A SOUND DRAFT, in which none does: each event is ready.
-module _ (known : KnownZones) (ended : List EndedEvent) (ws : List LineCheck) (s : IsSoundDraft known ended ws) (n : first_judged known ws ≡ None) where
+module _ (known : KnownZones) (ended : List CalendarEvent) (ws : List LineCheck) (s : IsSoundDraft known ended ws) (n : first_judged known ws ≡ None) where
   pub ready : All (IsReady known) ended
   ready i d l = record {
     whole = s.whole i d l;
     zones = each-weaker (Contains (map (λ w. w.check) ws)) (λ l. judged known l ≡ None)
-        (λ l c. All-contains (λ l. judged known l ≡ None) (map (λ w. w.check) ws) l (none-judged known ws n) c) _ (s.awaited i d l);
+        (λ l c. All-contains (λ l. judged known l ≡ None) (map (λ w. w.check) ws) l (none-judged known ws n) c) _ _ (s.awaited i d l);
   }
 
-  pub events-here : AreEventsOf known.zones (map (event_of known.index) ended)
+  pub events-here : AreEventsOf known.zones (map (event_in known.index) ended)
   events-here = events-of known s.table ended ready
 
 -- A DRAFT is sound where what is gathered is, and stays so with zone files.
@@ -44,6 +44,6 @@ draft-sound g s = record {
   sound = s.sound;
 }
 
-pub draft-with : {known : KnownZones} {ended : List EndedEvent} {ws : List LineCheck} (files : GivenFiles) (names : List (List ℕ)) →
+pub draft-with : {known : KnownZones} {ended : List CalendarEvent} {ws : List LineCheck} (files : GivenFiles) (names : List (List ℕ)) →
     IsSoundDraft known ended ws → IsSoundDraft (with_files known files names) ended ws
 draft-with {known} files names s = record { table = table-with known files names s.table; whole = s.whole; awaited = s.awaited; sound = s.sound }

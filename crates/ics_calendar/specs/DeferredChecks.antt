@@ -6,7 +6,7 @@ use Rattle.std.specs.List.{position, position_from, list_any}
 use Rattle.std.specs.Option.{option_and_then, option_or}
 use Rattle.std.specs.Str.{bytes_eq}
 use Rattle.ics_zone.specs.ZoneSaid.{ZoneSaid, said_moment}
-use Rattle.ics_components.specs.declared.dated.Dated.{Dated}
+use Rattle.ics_values.specs.declared.time.Time.{Time}
 use Rattle.ics_components.specs.declared.fault.FaultKind.{FaultKind}
 use Rattle.ics_components.specs.declared.fault.FaultKind.TheVariants.{BadEnd, UnknownZone, BadZoneFile}
 use Rattle.ics_components.specs.declared.deferred_check.Instant.{Instant}
@@ -52,11 +52,11 @@ moment_of known (instant.Utc local) = Some (local_seconds local)
 moment_of known (instant.Zoned local name) =
     option_map (λ zone. said_moment zone (local_seconds local)) (option_and_then (slice_get known.zones) (known.index name))
 
-abbrev pub moment_in : KnownZones → ℕ → Dated → Option ℤ
-moment_in known calendar dated = option_and_then (moment_of known) (instant_in calendar dated)
+abbrev pub moment_in : KnownZones → ℕ → Time (List ℕ) → Option ℤ
+moment_in known calendar time = option_and_then (moment_of known) (instant_in calendar time)
 
 -- Which ends are out of reach of their starts as instants.
-abbrev pub ends_badly_later : KnownZones → ℕ → Option Dated → Option Dated → Bool
+abbrev pub ends_badly_later : KnownZones → ℕ → Option (Time (List ℕ)) → Option (Time (List ℕ)) → Bool
 ends_badly_later known calendar (Some start) (Some end) =
     not (are_of_one_zone start end) && are_out (moment_in known calendar start) (moment_in known calendar end)
 ends_badly_later known calendar _ _ = false

@@ -10,7 +10,7 @@ use Rattle.ics_components.specs.Sound.{EachZone, IsWhole}
 use Rattle.ics_calendar.specs.GivenFiles.{GivenFiles}
 use Rattle.ics_calendar.specs.ZoneTables.{known_by}
 use Rattle.ics_components.specs.declared.deferred_check.ZoneName.{ZoneName}
-use Rattle.ics_components.specs.declared.gathered.EndedEvent.{EndedEvent}
+use Rattle.ics_components.specs.declared.gathered.CalendarEvent.{CalendarEvent}
 use Rattle.ics_components.specs.declared.gathered.LineCheck.{LineCheck}
 use Rattle.ics_calendar.specs.declared.zone_table.ZoneTable.{ZoneTable}
 use Rattle.ics_calendar.specs.DeferredChecks.{KnownZones}
@@ -18,7 +18,7 @@ use Rattle.ics_calendar.specs.DeferredChecks.{KnownZones}
 -- a draft: its table of time zones, its events, and the checks of the second round
 pub record DraftSeen : Type 0 where
   pub table : ZoneTable
-  pub events : List EndedEvent
+  pub events : List CalendarEvent
   pub checks : List LineCheck
 
 -- The index of a name is that of a zone, and names with one index are one name.
@@ -26,10 +26,10 @@ pub record IsTable (known : KnownZones) : Type 0 where
   pub below : (used : ZoneName) → IfSome (known.index used) (λ i. i < length known.zones)
   pub single : (a b : ZoneName) (i : ℕ) → known.index a ≡ Some i → known.index b ≡ Some i → a.name ≡ b.name
 
-pub record IsSoundDraft (known : KnownZones) (events : List EndedEvent) (checks : List LineCheck) : Type 0 where
+pub record IsSoundDraft (known : KnownZones) (events : List CalendarEvent) (checks : List LineCheck) : Type 0 where
   pub table : IsTable known
-  pub whole : All IsWhole events
-  pub awaited : All (EachZone (Contains (map (λ w. w.check) checks))) events
+  pub whole : All (λ event. IsWhole event.fields) events
+  pub awaited : All (λ event. EachZone (Contains (map (λ w. w.check) checks)) event.calendar event.fields) events
   pub sound : All (λ w. IsSoundCheck w.check) checks
 
 -- what it wants, and what the file is with zone files

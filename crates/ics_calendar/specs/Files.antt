@@ -1,21 +1,16 @@
 -- WHAT A FILE IS: its time zones and its events, or its first fault.
-use Rattle.std.specs.Prelude.{◌≡◌, ◌⊎◌, ℕ, false, IsTrue, List, [], ◌++◌, filter, map, unwrap_or, Option, Some, None, option_map, Result, Ok, Err}
+use Rattle.std.specs.Prelude.{◌≡◌, ◌⊎◌, ℕ, false, IsTrue, List, [], ◌++◌, filter, map, Option, Some, None, Result, Ok, Err}
 use Rattle.std.specs.Prelude.{if◌then◌else◌}
 use Rattle.ics_text.specs.Unfolded.{Line, begins_with_fold, unfolded}
-use Rattle.ics_values.specs.Integers.{integer_of}
 use Rattle.ics_components.specs.declared.deferred_check.ZoneName.{ZoneName}
-use Rattle.ics_components.specs.declared.name.Name.TheVariants as name
-use Rattle.ics_calendar.specs.ListedTimes.{rdates_by, exdates_by}
 use Rattle.ics_event.specs.Event.{EventSeen, FileSaid, FileSeen, said_by}
 use Rattle.ics_calendar.specs.DeferredChecks.{KnownZones}
 use Rattle.ics_calendar.specs.GivenFiles.{GivenFiles}
 use Rattle.ics_calendar.specs.Wanted.{each_once, unknown_names, zones_with}
-use Rattle.ics_components.specs.PlacedLines.{Placed, placed, value, begins_event, calendar_of, lines_in, first_named, all_named}
-use Rattle.ics_calendar.specs.Times.{time_on, length_of}
-use Rattle.ics_components.specs.GivenTimes.{dated_in, given_length}
-use Rattle.ics_components.specs.Values.{ok_or_zero, is_cancelled}
-use Rattle.ics_components.specs.Faults.{first_text, first_dated, duration_on, parts_on, listed_on, stands}
-use Rattle.ics_components.specs.declared.date_values.Listing.TheVariants.{Rdate, Exdate}
+use Rattle.ics_components.specs.PlacedLines.{Placed, placed, begins_event, calendar_of, lines_in}
+use Rattle.ics_components.specs.Builders.{collected_of}
+use Rattle.ics_components.specs.Faults.{stands}
+use Rattle.ics_calendar.specs.Events.{event_of}
 use Rattle.ics_calendar.specs.LaterFaults.{stands_later}
 use Rattle.ics_components.specs.declared.fault.Fault.{Fault}
 use Rattle.ics_components.specs.FirstFault.{IsFirst, IsFirstOrLast, NoneStand, bad_fold, fault_at_end, first_from, first_fault}
@@ -24,20 +19,7 @@ use Rattle.ics_components.specs.declared.fault.FileFault.TheVariants.{Memory, At
 
 -- An event of a calendar, by the lines that stand directly in it, given the index of the zone that a name stands for.
 abbrev pub event_by : (ZoneName → Option ℕ) → ℕ → List Placed → EventSeen
-event_by index calendar own = record {
-  uid = unwrap_or (first_text name.Uid own) [];
-  sequence = unwrap_or (option_map (λ line. ok_or_zero (integer_of (value line))) (first_named name.Sequence own)) 0;
-  start = time_on index calendar (dated_in (first_dated name.Dtstart own));
-  length = length_of index calendar (given_length (first_dated name.Dtend own) (option_map duration_on (first_named name.Duration own)));
-  rule = option_map parts_on (first_named name.Rrule own);
-  rdates = rdates_by index calendar (map (listed_on Rdate) (all_named name.Rdate own));
-  exdates = exdates_by index calendar (map (listed_on Exdate) (all_named name.Exdate own));
-  recurrence = option_map (time_on index calendar) (first_dated name.RecurrenceId own);
-  title = unwrap_or (first_text name.Summary own) [];
-  location = unwrap_or (first_text name.Location own) [];
-  description = unwrap_or (first_text name.Description own) [];
-  cancelled = unwrap_or (option_map (λ line. is_cancelled (value line)) (first_named name.Status own)) false;
-}
+event_by index calendar own = event_of index calendar (collected_of own)
 
 -- The events of all calendars, in the order of their BEGIN lines, given the index of the zone that a name stands for.
 abbrev pub events_of : (ZoneName → Option ℕ) → List Placed → List EventSeen

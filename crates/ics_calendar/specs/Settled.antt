@@ -1,7 +1,7 @@
 -- What a file is by what is gathered of it, where the first round finds nothing.
-use Rattle.std.specs.Prelude.{◌≡◌, ℕ, List, [], ◌∷◌, Option, None, map, filter_map, option_map, Result}
+use Rattle.std.specs.Prelude.{◌≡◌, ℕ, List, [], ◌∷◌, Option, None, map, filter_map, Result}
 use Rattle.ics_zone.specs.ZoneSaid.{ZoneSaid}
-use Rattle.ics_components.specs.declared.gathered.EndedEvent.{EndedEvent}
+use Rattle.ics_components.specs.declared.gathered.CalendarEvent.{CalendarEvent}
 use Rattle.ics_components.specs.declared.gathered.EndedZone.{EndedZone}
 use Rattle.ics_components.specs.declared.gathered.LineCheck.{LineCheck}
 use Rattle.ics_components.specs.declared.deferred_check.ZoneName.{ZoneName}
@@ -11,8 +11,7 @@ use Rattle.ics_components.specs.FirstFault.{found}
 use Rattle.ics_event.specs.Event.{EventSeen, FileSaid}
 use Rattle.ics_calendar.specs.DeferredChecks.{KnownZones, known_zones, with_files, judged, unknown_in}
 use Rattle.ics_calendar.specs.Files.{DraftSaid, decide}
-use Rattle.ics_calendar.specs.ListedTimes.{rdates_by, exdates_by}
-use Rattle.ics_calendar.specs.Times.{time_on, length_of}
+use Rattle.ics_calendar.specs.Events.{event_of}
 use Rattle.ics_calendar.specs.Wanted.{each_once}
 
 -- the time zones that have ended
@@ -25,37 +24,24 @@ first_judged known [] = None
 first_judged known (w ∷ ws) = found w.line (judged known w.check) (first_judged known ws)
 
 -- An event that no fault of either round stands on.
-pub record IsReady (known : KnownZones) (event : EndedEvent) : Type 0 where
-  pub whole : IsWhole event
-  pub zones : EachZone (λ l. judged known l ≡ None) event
+pub record IsReady (known : KnownZones) (event : CalendarEvent) : Type 0 where
+  pub whole : IsWhole event.fields
+  pub zones : EachZone (λ l. judged known l ≡ None) event.calendar event.fields
 
 -- the event, given the index of the zone that a name stands for
-abbrev pub event_of : (ZoneName → Option ℕ) → EndedEvent → EventSeen
-event_of index event = record {
-  uid = event.uid;
-  sequence = event.sequence;
-  start = time_on index event.calendar event.start;
-  length = length_of index event.calendar event.length;
-  rule = event.rule;
-  rdates = rdates_by index event.calendar event.rdates;
-  exdates = exdates_by index event.calendar event.exdates;
-  recurrence = option_map (time_on index event.calendar) event.recurrence;
-  title = event.title;
-  location = event.location;
-  description = event.description;
-  cancelled = event.cancelled;
-}
+abbrev pub event_in : (ZoneName → Option ℕ) → CalendarEvent → EventSeen
+event_in index event = event_of index event.calendar event.fields
 
 -- the names of the time zones that are to be known and are not, in the order of the checks
 abbrev pub all_unknown : (ZoneName → Option ℕ) → List LineCheck → List (List ℕ)
 all_unknown index checks = filter_map (λ w. unknown_in index w.check) checks
 
 -- WHAT THE FILE IS, where the first round finds nothing.
-abbrev pub settled_by : KnownZones → List EndedEvent → List LineCheck → Result FileSaid Fault
-settled_by known events checks = decide None (first_judged known checks) (record { zones = known.zones; events = map (event_of known.index) events })
+abbrev pub settled_by : KnownZones → List CalendarEvent → List LineCheck → Result FileSaid Fault
+settled_by known events checks = decide None (first_judged known checks) (record { zones = known.zones; events = map (event_in known.index) events })
 
 -- The draft of the file, given the zones of its VTIMEZONEs: what it wants, and what it is with zone files.
-abbrev pub drafted : KnownZones → List EndedEvent → List LineCheck → DraftSaid
+abbrev pub drafted : KnownZones → List CalendarEvent → List LineCheck → DraftSaid
 drafted known events checks =
     let names : List (List ℕ) = each_once (all_unknown known.index checks) in
     record { wants = names; says = λ files. settled_by (with_files known files names) events checks }

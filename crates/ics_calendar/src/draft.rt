@@ -3,7 +3,7 @@ ghost use Rattle.std.specs.Prelude.{◌≡◌, ◌≤◌, length, map, IfOk, IfE
 ghost use Rattle.std.specs.List.{All};
 ghost use Rattle.ics_calendar.specs.Drafts.{draft_said, IsFaultOf};
 ghost use Rattle.ics_calendar.specs.Files.{draft_of, SaysFile};
-ghost use Rattle.ics_calendar.specs.Settled.{event_of, IsReady};
+ghost use Rattle.ics_calendar.specs.Settled.{event_in, IsReady};
 ghost use Rattle.ics_calendar.specs.ZoneTables.{given_by, known_by};
 
 use crate::event::event_of;
@@ -11,7 +11,7 @@ use crate::judged::first_judged;
 use crate::unknown_zones::{copied, unknown_names};
 use crate::zone_files::ZoneFiles;
 use crate::zone_table::ZoneTable;
-use ics_components::{EndedEvent, Fault, FileFault, Gathered, LineCheck, gather};
+use ics_components::{CalendarEvent, Fault, FileFault, Gathered, LineCheck, gather};
 use ics_event::{Event, FileEvents};
 use ics_text::numbers_rise;
 use std::alloc::{AllocError, Global};
@@ -21,7 +21,7 @@ use std::marker::Model;
 #[derive(Drop)]
 pub struct Draft {
     table: ZoneTable,
-    events: Vec<EndedEvent>,
+    events: Vec<CalendarEvent>,
     checks: Vec<LineCheck>,
 }
 
@@ -44,10 +44,10 @@ impl Model for Draft {
 fn events_of(
     alloc: Global,
     table: &ZoneTable,
-    ended: Vec<EndedEvent>,
+    ended: Vec<CalendarEvent>,
 ) -> Result<Vec<Event>, AllocError>
     requires { All (IsReady (known_by table.now)) ended.items }
-    ensures { IfOk result (λ events. events.items ≡ map (event_of (known_by table.now).index) ended.items) }
+    ensures { IfOk result (λ events. events.items ≡ map (event_in (known_by table.now).index) ended.items) }
 {
     let mut events = Vec::with_capacity(alloc, ended.len())?;
     for event in ended {

@@ -1,57 +1,154 @@
-//! The events of a file, made of what is gathered of them (RFC 5545, section 3.6.1).
-ghost use Rattle.std.specs.Prelude.{◌≡◌, IfOk};
-ghost use Rattle.ics_calendar.specs.Settled.{event_of, IsReady};
-ghost use Rattle.ics_calendar.specs.Times.{time_on, length_of};
+//! The events of a file, made of what their lines give (RFC 5545, section 3.6.1).
+ghost use Rattle.std.specs.Prelude.{◌≡◌, [], map, unwrap_or, IfOk};
+ghost use Rattle.std.specs.Option.{option_and_then};
+ghost use Rattle.ics_values.specs.Times.{map_time, map_length, map_rdate, start_of};
+ghost use Rattle.ics_calendar.specs.Events.{given_length, start_in, zone_at};
+ghost use Rattle.ics_calendar.specs.Settled.{event_in, IsReady};
 ghost use Rattle.ics_calendar.specs.ZoneTables.{known_by};
 
-use crate::dates::listed_of;
 use crate::zone_table::ZoneTable;
-use ics_components::{Dated, EndedEvent, GivenLength, ZoneName, parts_of};
-use ics_event::{Event, Length, Time, is_zoned};
+use ics_components::{CalendarEvent, Listed, Tzid, ZoneName, parts_of};
+use ics_event::Event;
+use ics_values::{Duration, Length, Rdate, Stamp, Text, Time};
 use std::alloc::{AllocError, Global};
 
-/// The time of a stamp in that calendar.
-fn time_on(table: &ZoneTable, calendar: u64, dated: Dated) -> Time
-    ensures { result ≡ time_on (known_by table.now).index calendar dated }
+/// The index of the zone that a calendar calls by that name.
+fn index_of(table: &ZoneTable, calendar: u64, name: Option<Tzid>) -> Option<u32>
+    ensures { result ≡ option_and_then (zone_at (known_by table.now).index calendar) name }
 {
-    let stamp = dated.stamp;
-    if !is_zoned(stamp) {
-        return Time { stamp, zone: None };
-    }
-    let zone = table.index(&ZoneName::of(calendar, dated.zone));
-    Time { stamp, zone }
+    let name = name?;
+    table.index(&ZoneName { calendar, name })
 }
 
-fn length_of(table: &ZoneTable, calendar: u64, length: GivenLength) -> Length
-    ensures { result ≡ length_of (known_by table.now).index calendar length }
+/// The same time with the index of its zone.
+fn time_of(table: &ZoneTable, calendar: u64, time: Time<Tzid>) -> Time<u32>
+    ensures { result ≡ map_time (zone_at (known_by table.now).index calendar) time }
+{
+    let Time { stamp, zone } = time;
+    Time {
+        stamp,
+        zone: index_of(table, calendar, zone),
+    }
+}
+
+fn length_of(table: &ZoneTable, calendar: u64, length: Length<Tzid>) -> Length<u32>
+    ensures { result ≡ map_length (zone_at (known_by table.now).index calendar) length }
 {
     match length {
-        GivenLength::Until(end) => Length::Until(time_on(table, calendar, end)),
-        GivenLength::Lasting(duration) => Length::Lasting(duration),
-        GivenLength::Open => Length::Open,
+        Length::Open => Length::Open,
+        Length::Until(end) => Length::Until(time_of(table, calendar, end)),
+        Length::Lasting(duration) => Length::Lasting(duration),
+    }
+}
+
+fn rdate_of(table: &ZoneTable, calendar: u64, rdate: Rdate<Tzid>) -> Rdate<u32>
+    ensures { result ≡ map_rdate (zone_at (known_by table.now).index calendar) rdate }
+{
+    match rdate {
+        Rdate::At(time) => Rdate::At(time_of(table, calendar, time)),
+        Rdate::Span(start, length) => {
+            let start = time_of(table, calendar, start);
+            Rdate::Span(start, length_of(table, calendar, length))
+        }
+    }
+}
+
+fn rdates_of(
+    alloc: Global,
+    table: &ZoneTable,
+    calendar: u64,
+    rdates: Listed<Rdate<Tzid>>,
+) -> Result<Vec<Rdate<u32>>, AllocError>
+    ensures { IfOk result (λ made. made.items ≡ map (map_rdate (zone_at (known_by table.now).index calendar)) rdates) }
+{
+    let mut made = Vec::with_capacity(alloc, rdates.values.len())?;
+    for rdate in rdates.values {
+        made.push(rdate_of(table, calendar, rdate))?;
+    }
+    Ok(made)
+}
+
+/// The start of a PERIOD, or the stamp.
+fn start_of(rdate: Rdate<Tzid>) -> Time<Tzid>
+    ensures { result ≡ start_of rdate }
+{
+    match rdate {
+        Rdate::At(time) => time,
+        Rdate::Span(start, length) => {
+            drop(length);
+            start
+        }
+    }
+}
+
+/// The stamps of EXDATEs.
+fn exdates_of(
+    alloc: Global,
+    table: &ZoneTable,
+    calendar: u64,
+    exdates: Listed<Rdate<Tzid>>,
+) -> Result<Vec<Time<u32>>, AllocError>
+    ensures { IfOk result (λ made. made.items ≡ map (λ exdate. map_time (zone_at (known_by table.now).index calendar) (start_of exdate)) exdates) }
+{
+    let mut made = Vec::with_capacity(alloc, exdates.values.len())?;
+    for exdate in exdates.values {
+        made.push(time_of(table, calendar, start_of(exdate)))?;
+    }
+    Ok(made)
+}
+
+/// What gives the length of an event: its DTEND, or its DURATION, or nothing.
+fn given_length(end: Option<Time<Tzid>>, duration: Option<Duration>) -> Length<Tzid>
+    ensures { result ≡ given_length end duration }
+{
+    match (end, duration) {
+        (Some(end), _) => Length::Until(end),
+        (None, Some(duration)) => Length::Lasting(duration),
+        (None, None) => Length::Open,
+    }
+}
+
+/// The DTSTART, where there is one.
+fn start_in(start: Option<Time<Tzid>>) -> Time<Tzid>
+    ensures { result ≡ start_in start }
+{
+    match start {
+        Some(start) => start,
+        None => Time {
+            stamp: Stamp::Date(0),
+            zone: None,
+        },
+    }
+}
+
+/// The text, or none.
+fn text_in(alloc: Global, text: Option<Text>) -> Text
+    ensures { result ≡ unwrap_or text [] }
+{
+    match text {
+        Some(text) => text,
+        None => Text::new(alloc),
     }
 }
 
 /// The event, where no fault stands on its lines.
-pub fn event_of(alloc: Global, table: &ZoneTable, ended: EndedEvent) -> Result<Event, AllocError>
+pub fn event_of(alloc: Global, table: &ZoneTable, ended: CalendarEvent) -> Result<Event, AllocError>
     requires { IsReady (known_by table.now) ended }
-    ensures { IfOk result (λ event. event ≡ event_of (known_by table.now).index ended) }
+    ensures { IfOk result (λ event. event ≡ event_in (known_by table.now).index ended) }
 {
-    let calendar = ended.calendar;
+    let CalendarEvent { calendar, fields } = ended;
     Ok(Event {
-        start: time_on(table, calendar, ended.start),
-        length: length_of(table, calendar, ended.length),
-        rule: parts_of(ended.rule),
-        rdates: listed_of(alloc, table, calendar, ended.rdates)?,
-        exdates: listed_of(alloc, table, calendar, ended.exdates)?,
-        recurrence: ended
-            .recurrence
-            .map(|dated| time_on(table, calendar, dated)),
-        uid: ended.uid,
-        sequence: ended.sequence,
-        title: ended.title,
-        location: ended.location,
-        description: ended.description,
-        cancelled: ended.cancelled,
+        start: time_of(table, calendar, start_in(fields.start)),
+        length: length_of(table, calendar, given_length(fields.end, fields.duration)),
+        rule: parts_of(fields.rule),
+        rdates: rdates_of(alloc, table, calendar, fields.rdates)?,
+        exdates: exdates_of(alloc, table, calendar, fields.exdates)?,
+        recurrence: fields.recurrence.map(|time| time_of(table, calendar, time)),
+        uid: text_in(alloc, fields.uid),
+        sequence: fields.sequence.unwrap_or(0),
+        title: text_in(alloc, fields.title),
+        location: text_in(alloc, fields.location),
+        description: text_in(alloc, fields.description),
+        cancelled: fields.cancelled.unwrap_or(false),
     })
 }

@@ -3,6 +3,7 @@ ghost use Rattle.std.specs.Prelude.{◌≡◌, ◌≢◌, List, ℕ, Result, Err
 ghost use Rattle.std.specs.List.{All};
 ghost use Rattle.ics_components.specs.declared.fault.FaultKind.{FaultKind};
 ghost use Rattle.ics_components.specs.DateValues.{OnePeriod};
+ghost use Rattle.ics_components.specs.PartFaults.{IsLeastOfBoth, IsLeastOfParts, StandsAlone};
 ghost use Rattle.ics_event.specs.Event.{FileSaid};
 ghost use Rattle.ics_components.specs.declared.fault.Fault.{Fault};
 ghost use Rattle.ics_calendar.specs.GivenFiles.{GivenFiles, no_files};
@@ -21,6 +22,14 @@ pub fn files_are_one_thing()
 /// has it as its first fault.
 pub fn faults_look_back()
     ensures { FaultsLookBack }
+{}
+
+/// The first fault of a file is the least of those of its parts, or the one at its end; and a component is judged by itself: the first fault on its lines is
+/// that of its lines alone.
+pub fn parts_stand_alone()
+    ensures parts { IsLeastOfParts }
+    ensures both { IsLeastOfBoth }
+    ensures alone { StandsAlone }
 {}
 
 /// With no zone files the time zones of a file are those of its VTIMEZONEs alone, and BadZoneFile is no fault of it.

@@ -1,7 +1,6 @@
 //! The time zones and the events of an iCalendar file, or its first fault.
 #![tactic(auto)]
 
-mod dates;
 mod draft;
 mod event;
 mod judged;
@@ -16,7 +15,8 @@ pub use draft::Draft;
 pub use ics_components::{FaultKind, FileFault};
 pub use ics_event::{Event, FileEvents, Length, Rdate, Text, Time};
 pub use laws::{
-    faults_look_back, files_are_one_thing, one_period, only_wanted_files_count, without_zone_files,
+    faults_look_back, files_are_one_thing, one_period, only_wanted_files_count, parts_stand_alone,
+    without_zone_files,
 };
 pub use read::read_file;
 pub use unknown_zones::wanted;

@@ -5,7 +5,7 @@ ghost use Rattle.ics_zone.specs.Observances.{observance_said, observances_said};
 ghost use Rattle.ics_zone.specs.ZoneSaid.{ZoneSaid, zone_said};
 ghost use Rattle.ics_components.specs.Sound.{IsSoundObservance, IsSoundZone};
 
-use ics_components::{EndedObservance, Observances, parts_of};
+use ics_components::{EndedObservance, Listed, parts_of};
 use ics_zone::{Observance, Zone, ZoneFault};
 use std::alloc::{AllocError, Global};
 
@@ -19,24 +19,27 @@ fn observance_of(ended: EndedObservance) -> Observance
         offset_from: ended.offset_from,
         offset_to: ended.offset_to,
         rule: parts_of(ended.rule),
-        rdates: ended.rdates.locals,
+        rdates: ended.rdates.values,
     }
 }
 
 /// The observances, where no fault stands on their lines.
-fn observances_of(alloc: Global, ended: Observances) -> Result<Vec<Observance>, AllocError>
+fn observances_of(
+    alloc: Global,
+    ended: Listed<EndedObservance>,
+) -> Result<Vec<Observance>, AllocError>
     requires { All IsSoundObservance ended }
     ensures { IfOk result (λ made. observances_said made.items ≡ ended) }
 {
     let mut made = Vec::new(alloc);
-    for observance in ended.list {
+    for observance in ended.values {
         made.push(observance_of(observance))?;
     }
     Ok(made)
 }
 
 /// The time zone with these observances, where no fault stands on its lines.
-pub fn zone_of(alloc: Global, ended: Observances) -> Result<Zone, AllocError>
+pub fn zone_of(alloc: Global, ended: Listed<EndedObservance>) -> Result<Zone, AllocError>
     requires { IsSoundZone ended }
     ensures { IfOk result (λ zone. zone_said zone ≡ ZoneSaid.ByObservances ended) }
 {

@@ -14,7 +14,7 @@ use Rattle.ics_values.specs.Stamps.{is_date_time_form, date_exists, time_exists,
 use Rattle.ics_values.specs.declared.stamp.Stamp.{Stamp}
 use Rattle.ics_values.specs.declared.stamp.StampFault.{StampFault}
 use Rattle.ics_values.specs.declared.stamp.StampFault.TheVariants as stamp
-use Rattle.ics_components.specs.DateValues.{DateValue, At, date_time_of, period_of, rdate_of, listed_in}
+use Rattle.ics_components.specs.DateValues.{DateValue, At, date_time_of, period_of, rdate_of, rdate_in}
 use Rattle.ics_components.specs.DateValues.{values_of, local_in, is_not_local}
 use Rattle.ics_components.specs.contracts.fault.FaultKindOrd.TheImpl as order
 use Rattle.ics_components.specs.declared.fault.FaultKind.{FaultKind}
@@ -22,8 +22,8 @@ use Rattle.ics_components.specs.declared.fault.FaultKind.TheVariants.{Observance
 use Rattle.ics_components.specs.Faults.{Dates}
 use Rattle.ics_components.specs.Lines.{misread, unfit, judged}
 use Rattle.ics_components.specs.Pass.{unless}
-use Rattle.ics_components.specs.declared.date_values.Listing.TheVariants.{Rdate}
-use Rattle.ics_components.specs.declared.date_list.ListedDate.{ListedDate}
+use Rattle.ics_components.specs.declared.date_values.Listing.TheVariants as listing
+use Rattle.ics_values.specs.declared.time.Rdate.{Rdate}
 
 -- a stamp whose text has not the length of a DATE is a DATE-TIME
 pub date_time-is : (zoned : Bool) (text : List ℕ) → (length text ≡ 8 → ⊥) → stamp_of zoned text ≡ date_time_of zoned text
@@ -61,46 +61,47 @@ least (Some had) (Some kind) = Some (ord_min order.ghosts.cmp had kind)
 dates-more : (vs : List DateValue) (v : DateValue) → dates_fault (vs ++ v ∷ []) ≡ least (dates_fault vs) (dates_fault (v ∷ []))
 dates-more vs v = simp list_any-append (grind arith)
 
-judged-is : (v : DateValue) → judged v ≡ unless (dates_fault (v ∷ [])) (listed_in v)
-judged-is v = grind arith
+judged-is : (zone : Option (List ℕ)) (v : DateValue) → judged zone v ≡ unless (dates_fault (v ∷ [])) (rdate_in zone v)
+judged-is zone v = grind arith
 
 -- WHAT IS READ of the values of a line: the least fault, and what they say where there is none.
-pub record IsRead (vs : List DateValue) (o : Option FaultKind) (ls : List ListedDate) : Type 0 where
+pub record IsRead (zone : Option (List ℕ)) (vs : List DateValue) (o : Option FaultKind) (ls : List (Rdate (List ℕ))) : Type 0 where
   pub fault : dates_fault vs ≡ o
-  pub said : o ≡ None → ls ≡ map listed_in vs
+  pub said : o ≡ None → ls ≡ map (rdate_in zone) vs
 
 -- what is kept, with what one value more says
-abbrev pub and_read : List ListedDate → Result ListedDate FaultKind → List ListedDate
+abbrev pub and_read : List (Rdate (List ℕ)) → Result (Rdate (List ℕ)) FaultKind → List (Rdate (List ℕ))
 and_read ls (Ok x) = ls ++ x ∷ []
 and_read ls (Err k) = ls
 
-one-more : (o q : Option FaultKind) (ls ms : List ListedDate) (x : ListedDate) → (o ≡ None → ls ≡ ms) →
+one-more : (o q : Option FaultKind) (ls ms : List (Rdate (List ℕ))) (x : Rdate (List ℕ)) → (o ≡ None → ls ≡ ms) →
     (least o q ≡ least o (result_err (unless q x))) × (least o (result_err (unless q x)) ≡ None → and_read ls (unless q x) ≡ ms ++ x ∷ [])
 one-more o q ls ms x h = (grind arith, λ n. grind arith)
 
-pub read-more : {A : Type 0} (f : A → DateValue) (ys : List A) (y : A) {o : Option FaultKind} {ls : List ListedDate} {r : Result ListedDate FaultKind} →
-    IsRead (map f ys) o ls → judged (f y) ≡ r → IsRead (map f (ys ++ y ∷ [])) (least o (result_err r)) (and_read ls r)
-read-more f ys y {o = o} {ls = ls} h e =
-    let one = one-more o (dates_fault (f y ∷ [])) ls (map listed_in (map f ys)) (listed_in (f y)) h.said in
-    rw (← e, judged-is (f y), map-append f ys (y ∷ [])) (record {
+pub read-more : {A : Type 0} (zone : Option (List ℕ)) (f : A → DateValue) (ys : List A) (y : A) {o : Option FaultKind} {ls : List (Rdate (List ℕ))}
+    {r : Result (Rdate (List ℕ)) FaultKind} →
+    IsRead zone (map f ys) o ls → judged zone (f y) ≡ r → IsRead zone (map f (ys ++ y ∷ [])) (least o (result_err r)) (and_read ls r)
+read-more zone f ys y {o = o} {ls = ls} h e =
+    let one = one-more o (dates_fault (f y ∷ [])) ls (map (rdate_in zone) (map f ys)) (rdate_in zone (f y)) h.said in
+    rw (← e, judged-is zone (f y), map-append f ys (y ∷ [])) (record {
       fault = rw (dates-more (map f ys) (f y), h.fault) one.0;
-      said = rw (map-append listed_in (map f ys) (f y ∷ [])) one.1;
+      said = rw (map-append (rdate_in zone) (map f ys) (f y ∷ [])) one.1;
     })
 
-pub read-all : (f : List ℕ → DateValue) (ys : List (Bor (List ℕ))) {texts : List (List ℕ)} {o : Option FaultKind} {ls : List ListedDate} →
-    map (λ y. y.now) ys ≡ texts → IsRead (map (λ y. f y.now) ys) o ls → IsRead (map f texts) o ls
-read-all f ys {o = o} {ls = ls} e h = subst (λ vs. IsRead vs o ls) (sym (map-map f (λ y. y.now) ys) ∙ ap (map f) e) h
+pub read-all : (zone : Option (List ℕ)) (f : List ℕ → DateValue) (ys : List (Bor (List ℕ))) {texts : List (List ℕ)} {o : Option FaultKind}
+    {ls : List (Rdate (List ℕ))} → map (λ y. y.now) ys ≡ texts → IsRead zone (map (λ y. f y.now) ys) o ls → IsRead zone (map f texts) o ls
+read-all zone f ys {o = o} {ls = ls} e h = subst (λ vs. IsRead zone vs o ls) (sym (map-map f (λ y. y.now) ys) ∙ ap (map f) e) h
 
 -- a value is no local exactly where it says none
-abbrev pub is_other : ListedDate → Bool
+abbrev pub is_other : Rdate (List ℕ) → Bool
 is_other date = is_none (local_in date)
 
-pub others-listed : (vs : List DateValue) → list_any is_not_local vs ≡ list_any is_other (map listed_in vs)
+pub others-listed : (vs : List DateValue) → list_any is_not_local vs ≡ list_any is_other (map (rdate_in None) vs)
 others-listed [] = refl
 others-listed (v ∷ vs) = ap (λ t. is_not_local v || t) (others-listed vs)
 
 -- the fault on an RDATE of an observance, where its values have none
-pub locals-fault : (text : List ℕ) (dates : List ListedDate) → dates_fault (values_of Rdate false text) ≡ None →
-    dates ≡ map listed_in (values_of Rdate false text) →
-    unfit (Dates (values_of Rdate false text)) ≡ cond (list_any is_other dates) (Some ObservanceField) None
-locals-fault text dates none e = rw (none, e, others-listed (values_of Rdate false text))
+pub locals-fault : (text : List ℕ) (dates : List (Rdate (List ℕ))) → dates_fault (values_of listing.Rdate false text) ≡ None →
+    dates ≡ map (rdate_in None) (values_of listing.Rdate false text) →
+    unfit (Dates (values_of listing.Rdate false text)) ≡ cond (list_any is_other dates) (Some ObservanceField) None
+locals-fault text dates none e = rw (none, e, others-listed (values_of listing.Rdate false text))

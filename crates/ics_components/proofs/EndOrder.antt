@@ -8,7 +8,7 @@ use Rattle.ics_components.specs.declared.component.Context.{Context}
 use Rattle.ics_components.specs.Components.{component_of, context_in, is_calendar_context, is_event_context, is_zone_context}
 use Rattle.ics_components.specs.PlacedLines.{Placed, Open, name_on, context_of, component, calendar_of, begins, lines_in, named, is_end, closes}
 use Rattle.ics_components.specs.PlacedLines.{begins_event}
-use Rattle.ics_components.specs.Builders.{event_ended, zone_ended}
+use Rattle.ics_components.specs.Builders.{zone_ended}
 use Rattle.ics_components.proofs.NameLemmas.{context-in-outside, context-tests}
 use Rattle.ics_components.proofs.Order.{open_as, IsSort, Sort, inside, begun, ended_as}
 use Rattle.ics_components.specs.SecondRound.{zone_named}
@@ -20,15 +20,15 @@ use Rattle.ics_components.specs.declared.name.Name.TheVariants as name
 use Rattle.ics_text.specs.Unfolded.{Line}
 use Rattle.ics_text.specs.ContentLines.{Parts}
 use Rattle.ics_components.specs.declared.name.Name.{Name}
-use Rattle.ics_components.specs.declared.gathered.EndedEvent.{EndedEvent}
+use Rattle.ics_components.specs.declared.gathered.CalendarEvent.{CalendarEvent}
 use Rattle.ics_components.specs.declared.gathered.EndedZone.{EndedZone}
 use Rattle.ics_components.specs.Gathered.{zones_of_end, events_of_end}
 use Rattle.ics_components.specs.Lines.{end_in}
 use Rattle.ics_components.proofs.Frames.{with, builder-end}
 
 -- THE COMPONENTS that are gathered: events and time zones, in a file of all these lines.
-abbrev pub events : Sort EndedEvent
-events = record { stands_at = is_event_context; begins = begins_event; by = λ path own. event_ended (calendar_of path) (collected_of own) }
+abbrev pub events : Sort CalendarEvent
+events = record { stands_at = is_event_context; begins = begins_event; by = λ path own. record { calendar = calendar_of path; fields = collected_of own } }
 
 abbrev pub zones : List Placed → Sort EndedZone
 zones whole = record { stands_at = is_zone_context; begins = begins_zone; by = λ path own. zone_ended (calendar_of path) (zone_of (parts whole own) own) }

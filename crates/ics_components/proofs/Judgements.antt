@@ -6,7 +6,7 @@ use Rattle.ics_text.specs.ContentLines.{Parts, param_of}
 use Rattle.ics_components.specs.declared.builder.Builder.{Builder}
 use Rattle.ics_components.specs.declared.builder.Builder.TheVariants as builder
 use Rattle.ics_components.specs.declared.builder.ZoneBuilder.{ZoneBuilder}
-use Rattle.ics_components.specs.declared.event_builder.EventBuilder.{EventBuilder}
+use Rattle.ics_components.specs.declared.event_fields.EventFields.{EventFields}
 use Rattle.ics_components.specs.declared.observance_builder.ObservanceBuilder.{ObservanceBuilder}
 use Rattle.ics_components.specs.declared.fault.FaultKind.{FaultKind}
 use Rattle.ics_components.specs.declared.fault.FaultKind.TheVariants as kind
@@ -35,7 +35,7 @@ refused_there name.RecurrenceId v = cond (is_some (param_of (codes "RANGE") v.pa
 refused_there name.Exrule v = Some kind.Exrule
 refused_there _ v = None
 
-pub event_line : (n : Name) (v : Parts) (had : EventBuilder) → is_mark n ≡ false →
+pub event_line : (n : Name) (v : Parts) (had : EventFields) → is_mark n ≡ false →
     line_fault n v (builder.Event had)
     ≡ option_or (misread (event_reading n v.params v.value)) (option_or (cond (event_has had n) (Some kind.Repeated) None) (refused_there n v))
 unfolding least_fault
@@ -43,7 +43,7 @@ event_line name.Begin v had m = cc
 event_line name.End v had m = cc
 event_line _ v had m = simp first-cond
 
-pub event_end : (had : EventBuilder) →
+pub event_end : (had : EventFields) →
     end_fault true (builder.Event had)
     ≡ cond (not (is_filled had.uid)) (Some kind.MissingUid) (cond (not (is_some had.start)) (Some kind.MissingStart)
     (cond ((is_some had.end && is_some had.duration) || ends_badly had.start had.end) (Some kind.BadEnd) None))

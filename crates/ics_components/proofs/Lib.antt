@@ -10,3 +10,4 @@ pub mod EndOrder
 pub mod Firsts
 pub mod Sound
 pub mod SoundPass
+pub mod PartFaults

@@ -8,7 +8,7 @@ use Rattle.ics_text.specs.ContentLines.{Parts, content_of}
 use Rattle.ics_components.specs.declared.fault.FaultKind.{FaultKind}
 use Rattle.ics_components.specs.declared.fault.FaultKind.TheVariants.{BadNesting}
 use Rattle.ics_components.specs.declared.frame.Frame.{Frame}
-use Rattle.ics_components.specs.declared.gathered.EndedEvent.{EndedEvent}
+use Rattle.ics_components.specs.declared.gathered.CalendarEvent.{CalendarEvent}
 use Rattle.ics_components.specs.declared.gathered.EndedZone.{EndedZone}
 use Rattle.ics_components.specs.declared.gathered.LineCheck.{LineCheck}
 use Rattle.ics_components.specs.declared.deferred_check.DeferredCheck.{DeferredCheck}
@@ -50,7 +50,7 @@ abbrev pub checks_from : List Placed → List Placed → List Placed → List Li
 checks_from whole before [] = []
 checks_from whole before (line ∷ lines) = checks_on whole (beside before line) line ++ checks_from whole (before ++ line ∷ []) lines
 
-abbrev pub lists : List EndedZone → List EndedEvent → List LineCheck → GatheredSeen
+abbrev pub lists : List EndedZone → List CalendarEvent → List LineCheck → GatheredSeen
 lists zs es ws = record { zones = zs; events = es; checks = ws }
 
 abbrev pub gathered_from : List Placed → GatheredSeen → List Placed → List Placed → GatheredSeen
@@ -59,7 +59,7 @@ gathered_from whole had before lines =
 
 -- THE PASS.
 -- Where the pass is: on a line behind those before it, with a bundle of lines for each component that is open.
-record IsOn (whole before : List Placed) (bundles : List Bundle) (line : Line) (o : Option Parts) (lines : List Line) : Type 0 where
+pub record IsOn (whole before : List Placed) (bundles : List Bundle) (line : Line) (o : Option Parts) (lines : List Line) : Type 0 where
   pub parts : whole ≡ before ++ with line (opens bundles) o ∷ placed_from (path_behind (with line (opens bundles) o)) lines
   pub kept : Keeps before [] bundles
   pub earlier : Before line.number before
@@ -67,11 +67,11 @@ record IsOn (whole before : List Placed) (bundles : List Bundle) (line : Line) (
   pub rises : Rises line.number lines
 
 -- the same before the first of some lines
-abbrev IsAt : List Placed → List Placed → List Bundle → List Line → Type 0
+abbrev pub IsAt : List Placed → List Placed → List Bundle → List Line → Type 0
 IsAt whole before bundles [] = Unit {0}
 IsAt whole before bundles (line ∷ lines) = IsOn whole before bundles line (content_of line.bytes) lines
 
-at-next : {whole before : List Placed} {bundles : List Bundle} (line : Line) (o : Option Parts) (lines : List Line) →
+pub at-next : {whole before : List Placed} {bundles : List Bundle} (line : Line) (o : Option Parts) (lines : List Line) →
     IsOn whole before bundles line o lines →
     IsAt whole (before ++ with line (opens bundles) o ∷ []) (bundles_behind (with line (opens bundles) o) bundles) lines
 at-next line o [] on = tt
@@ -159,7 +159,7 @@ pass-lines [] whole before bundles last had on e =
     simp (e, append-nil)
 pass-lines (line ∷ lines) whole before bundles last had on e = step line (pass-lines lines) (content_of line.bytes) on had
 
-first-at : (lines : List Line) → Rises 0 lines → IsAt (placed_from [] lines) [] [] lines
+pub first-at : (lines : List Line) → Rises 0 lines → IsAt (placed_from [] lines) [] [] lines
 first-at [] r = tt
 first-at (line ∷ lines) r =
     record { parts = refl; kept = tt; earlier = All-nil (λ l. innermost l.path < line.number); inner = r.0; rises = r.1 }

@@ -22,12 +22,12 @@ use Rattle.ics_components.specs.PlacedLines.{named}
 use Rattle.ics_components.proofs.Judgements.{outside_end, unmatched_end}
 use Rattle.ics_components.specs.Pass.{bottom, unless, at_end, on_line, on_content, pass}
 use Rattle.ics_components.specs.SecondRound.{zone_named, are_of_one_zone, zone_check, instant_on, instant_in, both_compared, ends_in}
-use Rattle.ics_components.specs.Sound.{EachZone, IsWhole, IsSoundStamp, IsSoundObservance, IsSoundZone}
+use Rattle.ics_components.specs.Sound.{EachZone, IsWhole, IsSoundTime, IsSoundObservance, IsSoundZone}
 use Rattle.ics_components.specs.declared.builder.Builder.{Builder}
 use Rattle.ics_components.specs.declared.builder.Builder.TheVariants as builder
 use Rattle.ics_components.specs.declared.component.Context.{Context}
 use Rattle.ics_components.specs.declared.component.Context.TheVariants as context
-use Rattle.ics_components.specs.declared.dated.Dated.{Dated}
+use Rattle.ics_values.specs.declared.time.Time.{Time}
 use Rattle.ics_components.specs.declared.deferred_check.DeferredCheck.{DeferredCheck}
 use Rattle.ics_components.specs.declared.deferred_check.Instant.{Instant}
 use Rattle.ics_components.specs.declared.deferred_check.Instant.TheVariants as instant
@@ -36,13 +36,13 @@ use Rattle.ics_components.specs.declared.fault.FaultKind.{FaultKind}
 use Rattle.ics_components.specs.declared.frame.Frame.{Frame}
 use Rattle.ics_components.specs.declared.gathered.Ended.{Ended}
 use Rattle.ics_components.specs.declared.gathered.Ended.TheVariants as ended
-use Rattle.ics_components.specs.declared.gathered.EndedEvent.{EndedEvent}
+use Rattle.ics_components.specs.declared.gathered.CalendarEvent.{CalendarEvent}
 use Rattle.ics_components.specs.declared.gathered.EndedZone.{EndedZone}
 use Rattle.ics_components.specs.declared.gathered.LineCheck.{LineCheck}
 use Rattle.ics_components.specs.declared.gathered.Passed.{Passed}
 use Rattle.ics_components.specs.declared.name.Name.{Name}
 use Rattle.ics_components.specs.declared.name.Name.TheVariants as name
-use Rattle.ics_components.proofs.Sound.{IsSoundLocal, IsSoundBegun, IsSoundListed, IsSoundStarted, observance-noted, observance-sound, zone-sound}
+use Rattle.ics_components.proofs.Sound.{IsSoundStamp, IsSoundLocal, IsSoundBegun, IsSoundListed, IsSoundStarted, observance-noted, observance-sound, zone-sound}
 use Rattle.ics_components.proofs.Sound.{event-noted, event-sound}
 
 -- WHAT THE SECOND ROUND LOOKS AT lies in the years of stamps.
@@ -55,11 +55,12 @@ compared-sound (Some (instant.Utc a)) (Some (instant.Utc b)) h k = grind arith
 compared-sound (Some _) (Some _) h k = (h, k)
 compared-sound _ _ h k = tt
 
-ends-sound : (calendar : ℕ) (start end : Option Dated) → IfSome start (λ d. IsSoundStamp d.stamp) → IfSome end (λ d. IsSoundStamp d.stamp) →
+ends-sound : (calendar : ℕ) (start end : Option (Time (List ℕ))) → IfSome start IsSoundTime → IfSome end IsSoundTime →
     IfSome (ends_in calendar start end) IsSoundCheck
 ends-sound k (Some a) (Some b) h i =
     cond_both (are_of_one_zone a b) None (both_compared (instant_in k a) (instant_in k b)) (λ o. IfSome o IsSoundCheck) (λ e. tt)
-    (λ e. compared-sound (instant_in k a) (instant_in k b) (instant-sound (zone_named k a.zone) a.stamp h) (instant-sound (zone_named k b.zone) b.stamp i))
+    (λ e. compared-sound (instant_in k a) (instant_in k b) (instant-sound (zone_named k a.zone) a.stamp h.years)
+    (instant-sound (zone_named k b.zone) b.stamp i.years))
 ends-sound k _ _ h i = tt
 
 zone-check : (o : Option ZoneName) → IfSome (zone_check o) IsSoundCheck
@@ -79,7 +80,7 @@ AreSound P (f ∷ fs) = IsSoundBuilder P f.calendar f.builder × AreSound P fs
 
 abbrev IsSoundEnd : (DeferredCheck → Type 0) → Ended → Type 0
 IsSoundEnd P (ended.Zone zone) = IsSoundZone zone.observances
-IsSoundEnd P (ended.Event event) = IsWhole event × EachZone P event
+IsSoundEnd P (ended.Event event) = IsWhole event.fields × EachZone P event.calendar event.fields
 IsSoundEnd P ended.Nothing = Unit {0}
 
 -- the same behind a line, where P holds of its check
@@ -149,8 +150,8 @@ one : {X : Type 0} (P : X → Type 0) (x : X) → P x → All P (x ∷ [])
 one P x h = All-cons P x [] h (All-nil P)
 
 module _ (P : DeferredCheck → Type 0) where
-  abbrev IsSoundEvent : EndedEvent → Type 0
-  IsSoundEvent event = IsWhole event × EachZone P event
+  abbrev IsSoundEvent : CalendarEvent → Type 0
+  IsSoundEvent event = IsWhole event.fields × EachZone P event.calendar event.fields
 
   abbrev Holds : LineCheck → Type 0
   Holds late = P late.check

@@ -1,6 +1,6 @@
 -- What the reader has of an event, of a time zone and of an observance, and what each is at its END.
 -- These are the words of the pass over the lines.
-use Rattle.std.specs.Prelude.{ℕ, false, List, [], map, flat_map, unwrap_or, option_map, pos}
+use Rattle.std.specs.Prelude.{ℕ, List, [], flat_map, unwrap_or, option_map, pos}
 use Rattle.ics_fields.specs.Locals.{local_at}
 use Rattle.ics_fields.specs.Observances.{ObservanceSaid}
 use Rattle.ics_components.specs.declared.builder.Builder.{Builder}
@@ -9,30 +9,34 @@ use Rattle.ics_components.specs.declared.observance_builder.ObservanceBuilder.{O
 use Rattle.ics_components.specs.declared.builder.ZoneBuilder.{ZoneBuilder}
 use Rattle.ics_components.specs.declared.component.Context.{Context}
 use Rattle.ics_components.specs.declared.component.Context.TheVariants as context
-use Rattle.ics_components.specs.declared.event_builder.EventBuilder.{EventBuilder}
+use Rattle.ics_components.specs.declared.event_fields.EventFields.{EventFields}
 use Rattle.ics_components.specs.declared.name.Name.TheVariants as name
-use Rattle.ics_components.specs.declared.gathered.EndedEvent.{EndedEvent}
 use Rattle.ics_components.specs.declared.gathered.EndedZone.{EndedZone}
 use Rattle.ics_values.specs.Integers.{integer_of}
-use Rattle.ics_components.specs.Faults.{first_text, first_dated, duration_on, parts_on, listed_on}
-use Rattle.ics_components.specs.declared.date_values.Listing.TheVariants.{Rdate, Exdate}
-use Rattle.ics_components.specs.GivenTimes.{dated_in, given_length}
+use Rattle.ics_components.specs.Faults.{first_text, first_time, duration_on, parts_on, listed_on}
+use Rattle.ics_components.specs.declared.date_values.Listing.{Listing}
+use Rattle.ics_components.specs.declared.date_values.Listing.TheVariants as listing
+use Rattle.ics_values.specs.declared.time.Rdate.{Rdate}
 use Rattle.ics_components.specs.Observances.{onset_on, offset_on, daily_on, onsets_by}
 use Rattle.ics_components.specs.PlacedLines.{Placed, first_named, value, all_named}
 use Rattle.ics_components.specs.SecondRound.{zone_named}
 use Rattle.ics_components.specs.Values.{ok_or_zero, is_cancelled}
 
+-- what all values of a line list
+abbrev pub rdates_on : Listing → Placed → List (Rdate (List ℕ))
+rdates_on listing line = (listed_on listing line).values
+
 -- WHAT IS COLLECTED of the lines that stand directly in a component: an event
-abbrev pub collected_of : List Placed → EventBuilder
+abbrev pub collected_of : List Placed → EventFields
 collected_of lines = record {
   uid = first_text name.Uid lines;
-  start = first_dated name.Dtstart lines;
-  end = first_dated name.Dtend lines;
+  start = first_time name.Dtstart lines;
+  end = first_time name.Dtend lines;
   duration = option_map duration_on (first_named name.Duration lines);
   rule = option_map parts_on (first_named name.Rrule lines);
-  rdates = map (listed_on Rdate) (all_named name.Rdate lines);
-  exdates = map (listed_on Exdate) (all_named name.Exdate lines);
-  recurrence = first_dated name.RecurrenceId lines;
+  rdates = flat_map (rdates_on listing.Rdate) (all_named name.Rdate lines);
+  exdates = flat_map (rdates_on listing.Exdate) (all_named name.Exdate lines);
+  recurrence = first_time name.RecurrenceId lines;
   sequence = option_map (λ line. ok_or_zero (integer_of (value line))) (first_named name.Sequence lines);
   title = first_text name.Summary lines;
   location = first_text name.Location lines;
@@ -60,24 +64,6 @@ builder_at observances lines context.Event = builder.Event (collected_of lines)
 builder_at observances lines context.Zone = builder.Zone (zone_of observances lines)
 builder_at observances lines context.Observance = builder.Observance (observance_of lines)
 builder_at observances lines _ = builder.Elsewhere
-
--- the event of a calendar that ends with what is collected; an accepted file has the fields that are asked for
-abbrev pub event_ended : ℕ → EventBuilder → EndedEvent
-event_ended calendar had = record {
-  calendar = calendar;
-  uid = unwrap_or had.uid [];
-  start = dated_in had.start;
-  length = given_length had.end had.duration;
-  rule = had.rule;
-  rdates = had.rdates;
-  exdates = had.exdates;
-  recurrence = had.recurrence;
-  sequence = unwrap_or had.sequence 0;
-  title = unwrap_or had.title [];
-  location = unwrap_or had.location [];
-  description = unwrap_or had.description [];
-  cancelled = unwrap_or had.cancelled false;
-}
 
 -- WHAT HAS ENDED, with what is collected of it. An accepted file has the fields that are asked for.
 abbrev pub zone_ended : ℕ → ZoneBuilder → EndedZone

@@ -1,5 +1,5 @@
 -- What the values of an RDATE or an EXDATE say (RFC 5545, sections 3.8.5.1 and 3.8.5.2).
-use Rattle.std.specs.Prelude.{◌≡◌, ℕ, Bool, false, ◌||◌, ◌==◌, List, map, Option, Some, None, is_none, is_some, Result, Ok, Err, if◌then◌else◌}
+use Rattle.std.specs.Prelude.{◌≡◌, ℕ, Bool, true, false, not, ◌||◌, ◌==◌, List, map, Option, Some, None, is_none, is_some, Result, Ok, Err, if◌then◌else◌}
 use Rattle.std.specs.List.{list_any}
 use Rattle.ics_values.specs.Periods as period
 use Rattle.ics_values.specs.Periods.{first_half, second_half, lasts}
@@ -15,8 +15,10 @@ use Rattle.ics_values.specs.declared.stamp.Stamp.TheVariants.{Floating}
 use Rattle.ics_values.specs.declared.stamp.StampFault.{StampFault}
 use Rattle.ics_values.specs.declared.stamp.StampFault.TheVariants as stamp
 use Rattle.ics_components.specs.declared.date_list.DateList.{DateList}
-use Rattle.ics_components.specs.declared.date_list.ListedDate.{ListedDate}
-use Rattle.ics_components.specs.declared.date_list.ListedDate.TheVariants as listed
+use Rattle.ics_values.specs.declared.time.Length.TheVariants as length
+use Rattle.ics_values.specs.declared.time.Rdate.{Rdate}
+use Rattle.ics_values.specs.declared.time.Rdate.TheVariants as rdate
+use Rattle.ics_values.specs.Times.{time_in}
 use Rattle.ics_components.specs.declared.date_values.Listing.{Listing}
 use Rattle.ics_components.specs.declared.date_values.Listing.TheVariants as listing
 use Rattle.ics_fields.specs.declared.local.Local.{Local}
@@ -73,46 +75,45 @@ abbrev pub has_large_duration : DateValue → Bool
 has_large_duration (Lasting start duration) = is_large_duration duration
 has_large_duration _ = false
 
--- what a value says that has no fault
-abbrev pub listed_in : DateValue → ListedDate
-listed_in (At stamp) = listed.At (stamp_in stamp)
-listed_in (Between start end) = listed.Between (stamp_in start) (stamp_in end)
-listed_in (Lasting start duration) = listed.Lasting (stamp_in start) (duration_in duration)
+-- what a value says that has no fault, beside a TZID with that name
+abbrev pub rdate_in : Option (List ℕ) → DateValue → Rdate (List ℕ)
+rdate_in zone (At stamp) = rdate.At (time_in zone (stamp_in stamp))
+rdate_in zone (Between start end) = rdate.Span (time_in zone (stamp_in start)) (length.Until (time_in zone (stamp_in end)))
+rdate_in zone (Lasting start duration) = rdate.Span (time_in zone (stamp_in start)) (length.Lasting (duration_in duration))
 
 -- the values of a line with these parameters and this value, and the name in its TZID
 abbrev pub list_of : Listing → List ℕ → List ℕ → DateList
-list_of listing params value = record { values = map listed_in (values_of listing (is_some (zone_name params)) value); zone = zone_name params }
+list_of listing params value = record { values = map (rdate_in (zone_name params)) (values_of listing (is_some (zone_name params)) value); zone = zone_name params }
 
-abbrev pub listed_said : DateValue → Option ListedDate
-listed_said (At (Ok stamp)) = Some (listed.At stamp)
-listed_said (Between (Ok start) (Ok end)) = Some (listed.Between start end)
-listed_said (Lasting (Ok start) (Ok duration)) = Some (listed.Lasting start duration)
-listed_said _ = None
+-- A value of an RDATE that has no fault, as the reader of periods has it.
+abbrev pub period_said : DateValue → Option Period
+period_said (Between (Ok start) (Ok stop)) = Some (record { start = start; end = end.At stop })
+period_said (Lasting (Ok start) (Ok duration)) = Some (record { start = start; end = end.Lasting duration })
+period_said _ = None
 
--- a PERIOD as a value of an RDATE
-abbrev ended_by : Stamp → PeriodEnd → ListedDate
-ended_by start (end.At stamp) = listed.Between start stamp
-ended_by start (end.Lasting duration) = listed.Lasting start duration
-
-abbrev pub listed_by : Period → ListedDate
-listed_by p = ended_by p.start p.end
+abbrev pub is_accepted : DateValue → Bool
+is_accepted value = not (has_bad_stamp value || has_far_stamp value || has_bad_duration value || has_large_duration value)
 
 -- The reader of periods, and the reader of an RDATE's values: if both accept a text, they read the same.
 abbrev pub OnePeriod : Type 0
 OnePeriod =
-    (zoned : Bool) (text : List ℕ) (p : Period) (value : ListedDate)
-    → period.period_of zoned text ≡ Ok p → listed_said (rdate_of zoned text) ≡ Some value → value ≡ listed_by p
+    (zoned : Bool) (text : List ℕ) (p : Period) → period.period_of zoned text ≡ Ok p → is_accepted (rdate_of zoned text) ≡ true
+    → period_said (rdate_of zoned text) ≡ Some p
 
 -- a local stamp beside a TZID
-abbrev pub has_zoned : ListedDate → Bool
-has_zoned (listed.At stamp) = is_zoned stamp
-has_zoned (listed.Between start end) = is_zoned start || is_zoned end
-has_zoned (listed.Lasting start duration) = is_zoned start
+abbrev pub has_zoned : Rdate (List ℕ) → Bool
+has_zoned (rdate.At time) = is_zoned time.stamp
+has_zoned (rdate.Span start (length.Until end)) = is_zoned start.stamp || is_zoned end.stamp
+has_zoned (rdate.Span start _) = is_zoned start.stamp
 
 -- the local stamp, read without a TZID, that a value says, if it says one
-abbrev pub local_in : ListedDate → Option Local
-local_in (listed.At (Floating local)) = Some local
-local_in _ = None
+abbrev pub local_of : Stamp → Option Local
+local_of (Floating local) = Some local
+local_of _ = None
+
+abbrev pub local_in : Rdate (List ℕ) → Option Local
+local_in (rdate.At time) = local_of time.stamp
+local_in (rdate.Span start length) = None
 
 abbrev pub is_not_local : DateValue → Bool
-is_not_local value = is_none (local_in (listed_in value))
+is_not_local value = is_none (local_in (rdate_in None value))

@@ -23,7 +23,7 @@ use Rattle.ics_components.specs.declared.component.Context.TheVariants as contex
 use Rattle.ics_components.specs.declared.date_list.DateList.{DateList}
 use Rattle.ics_components.specs.declared.date_values.Listing.{Listing}
 use Rattle.ics_components.specs.declared.date_values.Listing.TheVariants.{Rdate, Exdate}
-use Rattle.ics_components.specs.declared.dated.Dated.{Dated}
+use Rattle.ics_values.specs.declared.time.Time.{Time}
 use Rattle.ics_components.specs.declared.fault.FaultKind.{FaultKind}
 use Rattle.ics_components.specs.declared.fault.FaultKind.TheVariants.{BadLine, BadStamp, BadDuration, BadOffset, BadRule, YearRange, NumberTooLarge}
 use Rattle.ics_components.specs.declared.fault.FaultKind.TheVariants.{NoObservance, ObservanceField, ZoneRule, NotCalendar, BadNesting, TooDeep, MissingUid}
@@ -36,7 +36,7 @@ use Rattle.ics_components.specs.DateValues.{DateValue, At, values_of, has_bad_st
 use Rattle.ics_components.specs.DateValues.{is_not_local, list_of}
 use Rattle.ics_components.specs.Names.{same_name}
 use Rattle.ics_components.specs.PlacedLines.{Placed, context_of, name_on, value, params_of, component, closes, begins_observance, has, first_named}
-use Rattle.ics_components.specs.Values.{zone_name, stamp_read, duration_in, rule_in, dated_of, is_bad_stamp, is_far_stamp, lasting_of, is_bad_duration}
+use Rattle.ics_components.specs.Values.{zone_name, stamp_read, duration_in, rule_in, time_of, is_bad_stamp, is_far_stamp, lasting_of, is_bad_duration}
 use Rattle.ics_components.specs.Values.{is_large_duration, is_bad_offset, is_bad_rule, is_large_rule, is_fine_rule, is_large_integer, is_filled, ends_badly}
 
 -- WHAT A VALUE IS READ AS: a stamp, the values of an RDATE or an EXDATE, a duration, an offset, a rule, a number, or a text, which has no fault.
@@ -130,8 +130,8 @@ pub record Judged : Type 0 where
 pub record Beside : Type 0 where
   pub has : Name → Bool
   pub uid : Option (List ℕ)
-  pub start : Option Dated
-  pub end : Option Dated
+  pub start : Option (Time (List ℕ))
+  pub end : Option (Time (List ℕ))
   pub observed : Bool
 
 abbrev pub reading : Judged → Reading
@@ -183,7 +183,7 @@ kinds =
     BadLine ∷ BadStamp ∷ BadDuration ∷ BadOffset ∷ BadRule ∷ YearRange ∷ NumberTooLarge ∷ NoObservance ∷ ObservanceField ∷ ZoneRule ∷ NotCalendar ∷ BadNesting
     ∷ TooDeep ∷ MissingUid ∷ MissingStart ∷ Repeated ∷ BadEnd ∷ UnknownZone ∷ ThisAndFuture ∷ Exrule ∷ OldVersion ∷ BadZoneFile ∷ []
 
--- WHAT A LINE OF A FILE SAYS in its place: what its value is read as, as a stamp with the zone in its TZID, as a duration, as a rule, and as a list of dates
+-- WHAT A LINE OF A FILE SAYS in its place: what its value is read as, as a stamp with the name of its zone, as a duration, as a rule, and as a list of dates
 abbrev pub judged_as : Placed → Judged
 judged_as line = record {
   context = context_of line.path;
@@ -197,8 +197,8 @@ judged_as line = record {
 abbrev pub reading_on : Placed → Reading
 reading_on line = reading (judged_as line)
 
-abbrev pub dated_on : Placed → Dated
-dated_on line = dated_of (params_of line.content) (value line)
+abbrev pub time_on : Placed → Time (List ℕ)
+time_on line = time_of (params_of line.content) (value line)
 
 abbrev pub duration_on : Placed → Duration
 duration_on line = duration_in (lasting_of (value line))
@@ -216,15 +216,15 @@ listed_on listing line = list_of listing (params_of line.content) (value line)
 abbrev pub first_text : Name → List Placed → Option (List ℕ)
 first_text n lines = option_map (λ line. text_of (value line)) (first_named n lines)
 
-abbrev pub first_dated : Name → List Placed → Option Dated
-first_dated n lines = option_map dated_on (first_named n lines)
+abbrev pub first_time : Name → List Placed → Option (Time (List ℕ))
+first_time n lines = option_map time_on (first_named n lines)
 
 abbrev pub beside_by : List Placed → Beside
 beside_by lines = record {
   has = λ n. has n lines;
   uid = first_text name.Uid lines;
-  start = first_dated name.Dtstart lines;
-  end = first_dated name.Dtend lines;
+  start = first_time name.Dtstart lines;
+  end = first_time name.Dtend lines;
   observed = list_any begins_observance lines;
 }
 

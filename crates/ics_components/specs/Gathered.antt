@@ -8,7 +8,7 @@ use Rattle.ics_components.specs.declared.deferred_check.Instant.{Instant}
 use Rattle.ics_components.specs.declared.deferred_check.Instant.TheVariants.{Utc, Zoned}
 use Rattle.ics_components.specs.declared.gathered.Ended.{Ended}
 use Rattle.ics_components.specs.declared.gathered.Ended.TheVariants as ended
-use Rattle.ics_components.specs.declared.gathered.EndedEvent.{EndedEvent}
+use Rattle.ics_components.specs.declared.gathered.CalendarEvent.{CalendarEvent}
 use Rattle.ics_components.specs.declared.gathered.EndedZone.{EndedZone}
 use Rattle.ics_components.specs.declared.gathered.LineCheck.{LineCheck}
 use Rattle.ics_components.specs.declared.gathered.Passed.{Passed}
@@ -23,7 +23,7 @@ abbrev pub zones_of_end : Ended → List EndedZone
 zones_of_end (ended.Zone zone) = zone ∷ []
 zones_of_end _ = []
 
-abbrev pub events_of_end : Ended → List EndedEvent
+abbrev pub events_of_end : Ended → List CalendarEvent
 events_of_end (ended.Event event) = event ∷ []
 events_of_end _ = []
 
@@ -51,6 +51,6 @@ IsSoundCheck _ = Unit {0}
 -- The second round checks the zones of each event's stamps, and its end against its start.
 pub record IsSoundGathered (g : GatheredSeen) : Type 0 where
   pub zones : All (λ z. IsSoundZone z.observances) g.zones
-  pub whole : All IsWhole g.events
-  pub awaited : All (EachZone (Contains (map (λ w. w.check) g.checks))) g.events
+  pub whole : All (λ event. IsWhole event.fields) g.events
+  pub awaited : All (λ event. EachZone (Contains (map (λ w. w.check) g.checks)) event.calendar event.fields) g.events
   pub sound : All (λ w. IsSoundCheck w.check) g.checks

@@ -4,9 +4,9 @@ pub mod Components
 pub mod PlacedLines
 pub mod Values
 pub mod DateValues
-pub mod GivenTimes
 pub mod Faults
 pub mod FirstFault
+pub mod PartFaults
 pub mod Observances
 pub mod SecondRound
 pub mod Builders

@@ -27,12 +27,15 @@ use Rattle.ics_components.specs.declared.builder.Builder.TheVariants as builder
 use Rattle.ics_components.specs.declared.component.Component.{Component}
 use Rattle.ics_components.specs.declared.component.Context.{Context}
 use Rattle.ics_components.specs.declared.component.Context.TheVariants as context
-use Rattle.ics_components.specs.declared.date_list.ListedDate.{ListedDate}
-use Rattle.ics_components.specs.declared.date_list.ListedDate.TheVariants as listed
+use Rattle.ics_values.specs.declared.time.Length.TheVariants as length_of
+use Rattle.ics_values.specs.declared.time.Rdate.{Rdate}
+use Rattle.ics_values.specs.declared.time.Rdate.TheVariants as rdate
+use Rattle.ics_values.specs.declared.time.Time.{Time}
+use Rattle.ics_values.specs.Times.{time_in}
 use Rattle.ics_components.specs.declared.date_values.Listing.TheVariants as listing
 use Rattle.ics_components.specs.declared.deferred_check.DeferredCheck.{DeferredCheck}
 use Rattle.ics_components.specs.declared.deferred_check.ZoneName.{ZoneName}
-use Rattle.ics_components.specs.declared.event_builder.EventBuilder.{EventBuilder}
+use Rattle.ics_components.specs.declared.event_fields.EventFields.{EventFields}
 use Rattle.ics_components.specs.declared.fault.FaultKind.{FaultKind}
 use Rattle.ics_components.specs.declared.fault.FaultKind.TheVariants as kind
 use Rattle.ics_components.specs.declared.frame.Frame.{Frame}
@@ -49,13 +52,13 @@ use Rattle.ics_components.specs.declared.property.Property.TheVariants as proper
 use Rattle.ics_components.specs.declared.refused.Refused.{Refused}
 use Rattle.ics_components.specs.declared.refused.Refused.TheVariants.{Memory, Fault}
 use Rattle.ics_components.specs.declared.builder.ZoneBuilder.{ZoneBuilder}
-use Rattle.ics_components.specs.Builders.{event_ended, builder_at, zone_ended, observance_ended}
+use Rattle.ics_components.specs.Builders.{builder_at, zone_ended, observance_ended}
 use Rattle.ics_components.specs.Components.{component_of, component_name, context_in}
 use Rattle.ics_components.specs.DateValues.{DateValue, At, Between, Lasting, list_of}
 use Rattle.ics_components.specs.Faults.{Reading, Beside, is_misread, is_unfit, faulty, kinds}
 use Rattle.ics_components.specs.Observances.{locals_of, onset_in, offset_in, daily_in}
-use Rattle.ics_components.specs.SecondRound.{dated_zone, list_zone, zone_check, ends_in}
-use Rattle.ics_components.specs.Values.{dated_of, lasting_of, duration_in, rule_in, ok_or_zero, is_cancelled}
+use Rattle.ics_components.specs.SecondRound.{time_zone, list_zone, zone_check, ends_in}
+use Rattle.ics_components.specs.Values.{time_of, lasting_of, duration_in, rule_in, ok_or_zero, is_cancelled}
 
 -- WHAT A FUNCTION ANSWERS: a value, where no fault stands there, or the fault; nothing is said where memory is refused.
 abbrev pub Gives : {X : Type 0} → Result X Refused → Option FaultKind → X → Type 0
@@ -102,20 +105,28 @@ both made (Ok a) (Err kind) = Err kind
 both made (Err kind) (Ok b) = Err kind
 both made (Err had) (Err kind) = Err (ord_min order.ghosts.cmp had kind)
 
--- what a value of an RDATE or an EXDATE says, or its least fault
-abbrev pub judged : DateValue → Result ListedDate FaultKind
-judged (At stamp) = result_map_both listed.At (λ kind. kind) (stamp_judged stamp)
-judged (Between start end) = both listed.Between (stamp_judged start) (stamp_judged end)
-judged (Lasting start duration) = both listed.Lasting (stamp_judged start) (duration_judged duration)
+-- what a value of an RDATE or an EXDATE says beside a TZID with that name, or its least fault
+abbrev pub judged : Option (List ℕ) → DateValue → Result (Rdate (List ℕ)) FaultKind
+judged zone (At stamp) = result_map_both (λ at. rdate.At (time_in zone at)) (λ kind. kind) (stamp_judged stamp)
+judged zone (Between start end) =
+    both (λ from to. rdate.Span (time_in zone from) (length_of.Until (time_in zone to))) (stamp_judged start) (stamp_judged end)
+judged zone (Lasting start duration) =
+    both (λ from lasts. rdate.Span (time_in zone from) (length_of.Lasting lasts)) (stamp_judged start) (duration_judged duration)
+
+-- an answer that is that result, or memory is refused
+abbrev pub Answers : {X : Type 0} → Result X Refused → Result X FaultKind → Type 0
+Answers (Ok x) result = result ≡ Ok x
+Answers (Err Memory) result = Unit {0}
+Answers (Err (Fault kind)) result = result ≡ Err kind
 
 -- A PROPERTY of an event: what it says, what is collected with it, and the time zone of its stamps.
 abbrev pub event_property : Name → Parts → Property
 event_property name.Uid c = property.Uid (text_of c.value)
-event_property name.Dtstart c = property.Start (dated_of c.params c.value)
-event_property name.Dtend c = property.End (dated_of c.params c.value)
+event_property name.Dtstart c = property.Start (time_of c.params c.value)
+event_property name.Dtend c = property.End (time_of c.params c.value)
 event_property name.Duration c = property.Duration (duration_in (lasting_of c.value))
 event_property name.Rrule c = property.Rule (rule_in (rule_of c.value))
-event_property name.RecurrenceId c = property.Recurrence (dated_of c.params c.value)
+event_property name.RecurrenceId c = property.Recurrence (time_of c.params c.value)
 event_property name.Sequence c = property.Sequence (ok_or_zero (integer_of c.value))
 event_property name.Rdate c = property.Rdates (list_of listing.Rdate c.params c.value)
 event_property name.Exdate c = property.Exdates (list_of listing.Exdate c.params c.value)
@@ -126,16 +137,16 @@ event_property name.Status c = property.Cancelled (is_cancelled c.value)
 event_property _ c = property.Other
 
 -- the first of several counts
-abbrev pub with_property : Property → EventBuilder → EventBuilder
+abbrev pub with_property : Property → EventFields → EventFields
 with_property (property.Uid uid) had = record had { uid = option_or had.uid (Some uid) }
 with_property (property.Start start) had = record had { start = option_or had.start (Some start) }
 with_property (property.End end) had = record had { end = option_or had.end (Some end) }
 with_property (property.Duration duration) had = record had { duration = option_or had.duration (Some duration) }
 with_property (property.Rule rule) had = record had { rule = option_or had.rule (Some rule) }
-with_property (property.Recurrence dated) had = record had { recurrence = option_or had.recurrence (Some dated) }
+with_property (property.Recurrence time) had = record had { recurrence = option_or had.recurrence (Some time) }
 with_property (property.Sequence number) had = record had { sequence = option_or had.sequence (Some number) }
-with_property (property.Rdates list) had = record had { rdates = had.rdates ++ list ∷ [] }
-with_property (property.Exdates list) had = record had { exdates = had.exdates ++ list ∷ [] }
+with_property (property.Rdates list) had = record had { rdates = had.rdates ++ list.values }
+with_property (property.Exdates list) had = record had { exdates = had.exdates ++ list.values }
 with_property (property.Title text) had = record had { title = option_or had.title (Some text) }
 with_property (property.Location text) had = record had { location = option_or had.location (Some text) }
 with_property (property.Description text) had = record had { description = option_or had.description (Some text) }
@@ -143,14 +154,14 @@ with_property (property.Cancelled cancelled) had = record had { cancelled = opti
 with_property property.Other had = had
 
 abbrev pub property_zone : ℕ → Property → Option ZoneName
-property_zone k (property.Start dated) = dated_zone k dated
-property_zone k (property.End dated) = dated_zone k dated
-property_zone k (property.Recurrence dated) = dated_zone k dated
+property_zone k (property.Start time) = time_zone k time
+property_zone k (property.End time) = time_zone k time
+property_zone k (property.Recurrence time) = time_zone k time
 property_zone k (property.Rdates list) = list_zone k list
 property_zone k (property.Exdates list) = list_zone k list
 property_zone k _ = None
 
-abbrev pub event_note : Name → Parts → EventBuilder → EventBuilder
+abbrev pub event_note : Name → Parts → EventFields → EventFields
 event_note n c had = with_property (event_property n c) had
 
 abbrev pub event_zone : ℕ → Name → Parts → Option ZoneName
@@ -192,7 +203,7 @@ builder_zone k n c (builder.Event had) = event_zone k n c
 builder_zone k n c _ = None
 
 -- WHAT STANDS BESIDE A LINE, as a component has it that is being built.
-abbrev pub event_has : EventBuilder → Name → Bool
+abbrev pub event_has : EventFields → Name → Bool
 event_has had name.Uid = is_some had.uid
 event_has had name.Dtstart = is_some had.start
 event_has had name.Dtend = is_some had.end
@@ -259,7 +270,7 @@ abbrev pub passed : Ended → Option DeferredCheck → Passed
 passed end check = record { ended = end; check = check }
 
 abbrev pub ended_as : ℕ → Builder → Ended
-ended_as k (builder.Event had) = ended.Event (event_ended k had)
+ended_as k (builder.Event had) = ended.Event (record { calendar = k; fields = had })
 ended_as k (builder.Zone had) = ended.Zone (zone_ended k had)
 ended_as k _ = ended.Nothing
 

@@ -1,6 +1,6 @@
 -- What the lines of a file say of its time zones and their observances (RFC 5545, section 3.6.5).
 use Rattle.std.specs.Prelude.{ℕ, Bool, ◌&&◌, List, map, filter, filter_map, flat_map, codes, unwrap_or, option_map, Result, Ok, Err, ℤ}
-use Rattle.std.specs.Prelude.{pos, false, if◌then◌else◌}
+use Rattle.std.specs.Prelude.{pos, false, None, if◌then◌else◌}
 use Rattle.ics_fields.specs.Locals.{local_at}
 use Rattle.ics_fields.specs.declared.local.Local.{Local}
 use Rattle.ics_fields.specs.declared.frequency.Frequency.TheVariants.{Daily}
@@ -13,7 +13,7 @@ use Rattle.ics_values.specs.declared.stamp.Stamp.{Stamp}
 use Rattle.ics_values.specs.declared.stamp.Stamp.TheVariants.{Floating}
 use Rattle.ics_values.specs.declared.stamp.StampFault.{StampFault}
 use Rattle.ics_fields.specs.Observances.{ObservanceSaid}
-use Rattle.ics_components.specs.DateValues.{values_of, listed_in, local_in}
+use Rattle.ics_components.specs.DateValues.{values_of, rdate_in, local_in}
 use Rattle.ics_components.specs.declared.date_values.Listing.TheVariants.{Rdate}
 use Rattle.ics_components.specs.declared.name.Name.TheVariants as name
 use Rattle.ics_components.specs.declared.deferred_check.ZoneName.{ZoneName}
@@ -45,7 +45,7 @@ daily_on line = daily_in (rule_on line)
 
 -- the locals among the values of an RDATE
 abbrev pub locals_of : List ℕ → List Local
-locals_of text = filter_map local_in (map listed_in (values_of Rdate false text))
+locals_of text = filter_map local_in (map (rdate_in None) (values_of Rdate false text))
 
 abbrev pub onsets_by : Placed → List Local
 onsets_by line = locals_of (value line)

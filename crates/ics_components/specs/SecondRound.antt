@@ -4,7 +4,7 @@ use Rattle.std.specs.List.{list_any}
 use Rattle.ics_values.specs.declared.stamp.Stamp.{Stamp}
 use Rattle.ics_values.specs.declared.stamp.Stamp.TheVariants as stamp
 use Rattle.ics_components.specs.declared.date_list.DateList.{DateList}
-use Rattle.ics_components.specs.declared.dated.Dated.{Dated}
+use Rattle.ics_values.specs.declared.time.Time.{Time}
 use Rattle.ics_components.specs.declared.deferred_check.Instant.{Instant}
 use Rattle.ics_components.specs.declared.deferred_check.Instant.TheVariants as instant
 use Rattle.ics_components.specs.declared.deferred_check.DeferredCheck.{DeferredCheck}
@@ -20,8 +20,8 @@ abbrev pub zone_named : ℕ → Option (List ℕ) → ZoneName
 zone_named calendar zone = record { calendar = calendar; name = unwrap_or zone [] }
 
 -- the time zone of a stamp, and of what a line lists, if there is one
-abbrev pub dated_zone : ℕ → Dated → Option ZoneName
-dated_zone calendar dated = if is_zoned dated.stamp then Some (zone_named calendar dated.zone) else None
+abbrev pub time_zone : ℕ → Time (List ℕ) → Option ZoneName
+time_zone calendar time = if is_zoned time.stamp then Some (zone_named calendar time.zone) else None
 
 abbrev pub list_zone : ℕ → DateList → Option ZoneName
 list_zone calendar list = if list_any has_zoned list.values then Some (zone_named calendar list.zone) else None
@@ -36,11 +36,11 @@ instant_on name (stamp.Utc local) = Some (instant.Utc local)
 instant_on name (stamp.Zoned local) = Some (instant.Zoned local name)
 instant_on name _ = None
 
-abbrev pub instant_in : ℕ → Dated → Option Instant
-instant_in calendar dated = instant_on (zone_named calendar dated.zone) dated.stamp
+abbrev pub instant_in : ℕ → Time (List ℕ) → Option Instant
+instant_in calendar time = instant_on (zone_named calendar time.zone) time.stamp
 
 -- two stamps beside one TZID, which the first round compares as locals
-abbrev pub are_of_one_zone : Dated → Dated → Bool
+abbrev pub are_of_one_zone : Time (List ℕ) → Time (List ℕ) → Bool
 are_of_one_zone a b = is_zoned a.stamp && (is_zoned b.stamp && same_zone a b)
 
 -- Times of UTC compare at once, and other instants when the zones are known.
@@ -52,6 +52,6 @@ abbrev pub both_compared : Option Instant → Option Instant → Option Deferred
 both_compared (Some a) (Some b) = compared a b
 both_compared _ _ = None
 
-abbrev pub ends_in : ℕ → Option Dated → Option Dated → Option DeferredCheck
+abbrev pub ends_in : ℕ → Option (Time (List ℕ)) → Option (Time (List ℕ)) → Option DeferredCheck
 ends_in calendar (Some start) (Some end) = if are_of_one_zone start end then None else both_compared (instant_in calendar start) (instant_in calendar end)
 ends_in calendar _ _ = None

@@ -23,7 +23,8 @@ use Rattle.ics_fields.specs.declared.frequency.Frequency.TheVariants.{Daily}
 use Rattle.ics_values.specs.declared.offset.BadOffset.{BadOffset}
 use Rattle.ics_values.specs.declared.rule_text.RuleFault.{RuleFault}
 use Rattle.ics_values.specs.declared.rule_text.RuleFault.TheVariants as rule
-use Rattle.ics_components.specs.declared.dated.Dated.{Dated}
+use Rattle.ics_values.specs.declared.time.Time.{Time}
+use Rattle.ics_values.specs.Times.{time_in}
 use Rattle.ics_values.specs.Longest.{longest}
 use Rattle.ics_fields.specs.Locals.{local_seconds}
 
@@ -45,8 +46,8 @@ duration_in duration = unwrap_or (result_ok duration) (record { negative = false
 abbrev pub rule_in : Result RuleParts RuleFault → RuleParts
 rule_in rule = unwrap_or (result_ok rule) (every Daily)
 
-abbrev pub dated_of : List ℕ → List ℕ → Dated
-dated_of params value = record { stamp = stamp_in (stamp_read params value); zone = zone_name params }
+abbrev pub time_of : List ℕ → List ℕ → Time (List ℕ)
+time_of params value = time_in (zone_name params) (stamp_in (stamp_read params value))
 
 abbrev pub is_bad_stamp : Result Stamp StampFault → Bool
 is_bad_stamp (Err stamp.BadStamp) = true
@@ -115,11 +116,11 @@ abbrev pub is_filled : Option (List ℕ) → Bool
 is_filled (Some (b ∷ bs)) = true
 is_filled _ = false
 
--- the name that a TZID gives
-abbrev pub tzid : Dated → List ℕ
-tzid dated = unwrap_or dated.zone []
+-- the name of a time's zone, or the empty one
+abbrev pub tzid : Time (List ℕ) → List ℕ
+tzid time = unwrap_or time.zone []
 
-abbrev pub same_zone : Dated → Dated → Bool
+abbrev pub same_zone : Time (List ℕ) → Time (List ℕ) → Bool
 same_zone a b = bytes_eq (tzid a) (tzid b)
 
 -- before the start, or more than the longest event after it
@@ -136,6 +137,6 @@ is_bad_end one_zone (Utc a) (Zoned b) = false
 is_bad_end one_zone (Utc a) (Utc b) = false
 is_bad_end one_zone _ _ = true
 
-abbrev pub ends_badly : Option Dated → Option Dated → Bool
+abbrev pub ends_badly : Option (Time (List ℕ)) → Option (Time (List ℕ)) → Bool
 ends_badly (Some start) (Some end) = is_bad_end (same_zone start end) start.stamp end.stamp
 ends_badly _ _ = false

@@ -7,12 +7,13 @@ ghost use Rattle.ics_components.specs.declared.gathered.Ended.TheVariants as end
 
 use crate::component::Context;
 use crate::deferred_check::ZoneName;
-use crate::event_builder::EventBuilder;
+use crate::event_fields::EventFields;
 use crate::fault::FaultKind;
 use crate::gathered::{Ended, EndedZone, Passed};
+use crate::listed::Listed;
 use crate::name::Name;
 use crate::observance_builder::ObservanceBuilder;
-use crate::observances::Observances;
+use crate::observances::EndedObservance;
 use crate::refused::Refused;
 use crate::tzid::{Tzid, Tzids};
 use ics_text::Content;
@@ -22,7 +23,7 @@ use std::alloc::Global;
 #[derive(Drop)]
 pub enum Builder {
     Calendar,
-    Event(EventBuilder),
+    Event(EventFields),
     Zone(ZoneBuilder),
     Observance(ObservanceBuilder),
     Elsewhere,
@@ -32,7 +33,7 @@ pub enum Builder {
 #[derive(Drop)]
 pub struct ZoneBuilder {
     pub name: Option<Tzid>,
-    pub observances: Observances,
+    pub observances: Listed<EndedObservance>,
 }
 
 impl ZoneBuilder {
@@ -64,7 +65,7 @@ impl ZoneBuilder {
         ensures { Gives result (end_fault true (Zone self)) (passed (ended.Zone (zone_ended calendar self)) None) }
     {
         let ZoneBuilder { name, observances } = self;
-        if observances.list.is_empty() {
+        if observances.values.is_empty() {
             return Err(Refused::Fault(FaultKind::NoObservance));
         }
         let Some(name) = name else {
@@ -98,11 +99,11 @@ impl Builder {
     {
         match context {
             Context::Calendar => Builder::Calendar,
-            Context::Event => Builder::Event(EventBuilder::nothing(alloc)),
+            Context::Event => Builder::Event(EventFields::nothing(alloc)),
             Context::Zone => Builder::Zone(ZoneBuilder {
                 name: None,
-                observances: Observances {
-                    list: Vec::new(alloc),
+                observances: Listed {
+                    values: Vec::new(alloc),
                 },
             }),
             Context::Observance => Builder::Observance(ObservanceBuilder::nothing(alloc)),

@@ -7,90 +7,44 @@ ghost use Rattle.ics_components.specs.Lines.{Gives, misread};
 ghost use Rattle.ics_components.specs.SecondRound.{list_zone, zone_check};
 ghost use Rattle.ics_components.specs.Values.{zone_name};
 
-use crate::date_values::Listing;
-use crate::dated::zone_name;
+use crate::date_values::{Listing, read_values};
 use crate::deferred_check::{DeferredCheck, ZoneName};
+use crate::listed::Listed;
 use crate::refused::Refused;
+use crate::time::zone_name;
 use crate::tzid::{Tzid, Tzids};
 use ics_text::Content;
-use ics_values::{Duration, Local, Stamp, is_zoned};
+use ics_values::{Length, Local, Rdate, Stamp, is_zoned};
 use std::alloc::{AllocError, Global};
-use std::marker::Model;
 
-/// A value of an RDATE or an EXDATE (RFC 5545, sections 3.8.5.1 and 3.8.5.2): a stamp, or a PERIOD with its end or its duration. No EXDATE has a PERIOD.
-#[derive(Clone, Copy)]
-pub enum ListedDate {
-    At(Stamp),
-    Between(Stamp, Stamp),
-    Lasting(Stamp, Duration),
-}
-
-/// The values of an RDATE or EXDATE line, in its order.
-#[derive(Drop)]
-pub struct Dates {
-    pub values: Vec<ListedDate>,
-}
-
-impl Model for Dates {
-    ghost use Rattle.std.specs.Prelude.{List};
-    ghost use Rattle.ics_components.specs.declared.date_list.ListedDate.{ListedDate};
-
-    ghost Value = { List ListedDate };
-
-    ghost view = { λ a. a.values.items };
-}
-
-/// The values of an RDATE or EXDATE line, and the name of the zone in its TZID, if it has one.
+/// The values of an RDATE or EXDATE line, in its order, and the name of the zone in its TZID, if it has one.
 #[derive(Drop)]
 pub struct DateList {
-    pub values: Dates,
+    pub values: Listed<Rdate<Tzid>>,
     pub zone: Option<Tzid>,
 }
 
-/// What several RDATE or EXDATE lines list, in their order.
-#[derive(Drop)]
-pub struct DateLists {
-    pub lists: Vec<DateList>,
-}
-
-impl Model for DateLists {
-    ghost use Rattle.std.specs.Prelude.{List};
-    ghost use Rattle.ics_components.specs.declared.date_list.DateList.{DateList};
-
-    ghost Value = { List DateList };
-
-    ghost view = { λ a. a.lists.items };
-}
-
-impl ListedDate {
-    /// Whether one of its stamps is a local one beside a TZID.
-    fn has_zoned(self) -> bool
-        ensures { result ≡ has_zoned self }
-    {
-        match self {
-            ListedDate::At(stamp) => is_zoned(stamp),
-            ListedDate::Between(start, end) => is_zoned(start) || is_zoned(end),
-            ListedDate::Lasting(start, _) => is_zoned(start),
-        }
+/// Whether one of its stamps is a local one beside a TZID.
+fn has_zoned(value: &Rdate<Tzid>) -> bool
+    ensures { result ≡ has_zoned value.now }
+{
+    match value {
+        Rdate::At(time) => is_zoned(time.stamp),
+        Rdate::Span(start, Length::Until(end)) => is_zoned(start.stamp) || is_zoned(end.stamp),
+        Rdate::Span(start, _) => is_zoned(start.stamp),
     }
+}
 
-    /// The local without a TZID that it is, if it is one.
-    pub(crate) fn local(self) -> Option<Local>
-        ensures { result ≡ local_in self }
-    {
-        match self {
-            ListedDate::At(Stamp::Floating(local)) => Some(local),
+/// The local without a TZID that a value is, if it is one.
+pub fn local_in(value: &Rdate<Tzid>) -> Option<Local>
+    ensures { result ≡ local_in value.now }
+{
+    match value {
+        Rdate::At(time) => match time.stamp {
+            Stamp::Floating(local) => Some(local),
             _ => None,
-        }
-    }
-}
-
-impl Dates {
-    /// Whether a stamp among them is a local one beside a TZID.
-    fn have_zoned(&self) -> bool
-        ensures { result ≡ list_any has_zoned self.now }
-    {
-        self.values.iter().any(|value| value.has_zoned())
+        },
+        Rdate::Span(_, _) => None,
     }
 }
 
@@ -106,15 +60,22 @@ impl DateList {
             (list_of listing content.now.params content.now.value) }
     {
         let zone = zone_name(alloc, tzids, content)?;
-        let values = Dates::read(alloc, listing, content.value(), zone.is_some())?;
+        let values = read_values(alloc, listing, content.value(), &zone)?;
         Ok(DateList { values, zone })
+    }
+
+    /// Whether a stamp among them is a local one beside a TZID.
+    fn have_zoned(&self) -> bool
+        ensures { result ≡ list_any has_zoned self.now.values }
+    {
+        self.values.values.iter().any(|value| has_zoned(value))
     }
 
     /// The check that the time zone of the stamps is known, if they have one (RFC 5545, section 3.2.19).
     pub(crate) fn check(&self, calendar: u64) -> Result<Option<DeferredCheck>, AllocError>
         ensures { IfOk result (λ check. check ≡ zone_check (list_zone calendar self.now)) }
     {
-        if !self.values.have_zoned() {
+        if !self.have_zoned() {
             return Ok(None);
         }
         let name = ZoneName::shared(calendar, &self.zone)?;

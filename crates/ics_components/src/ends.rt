@@ -5,10 +5,11 @@ ghost use Rattle.ics_components.specs.Lines.{duration_judged, misread};
 ghost use Rattle.ics_components.specs.SecondRound.{ends_in};
 ghost use Rattle.ics_components.specs.Values.{is_lasting, lasting_of, is_out, ends_badly};
 
-use crate::dated::Dated;
 use crate::deferred_check::{DeferredCheck, Instant};
 use crate::fault::FaultKind;
-use ics_values::{Duration, DurationFault, Stamp, is_zoned, read_duration};
+use crate::time::{instant, tzid};
+use crate::tzid::Tzid;
+use ics_values::{Duration, DurationFault, Stamp, Time, is_zoned, read_duration};
 use std::alloc::AllocError;
 
 /// The longest event, in seconds.
@@ -23,7 +24,7 @@ pub fn is_out(start: i64, end: i64) -> bool
 
 /// Whether the first round refuses the end: it is of another kind than its start, or out of its reach where they are dates,
 /// floating, or of one zone.
-pub fn ends_badly(start: &Dated, end: &Option<Dated>) -> bool
+pub fn ends_badly(start: &Time<Tzid>, end: &Option<Time<Tzid>>) -> bool
     ensures { result ≡ ends_badly (Some start.now) end.now }
 {
     let Some(end) = end else {
@@ -33,7 +34,7 @@ pub fn ends_badly(start: &Dated, end: &Option<Dated>) -> bool
         (Stamp::Date(a), Stamp::Date(b)) => is_out(i64::from(a) * 86_400, i64::from(b) * 86_400),
         (Stamp::Floating(a), Stamp::Floating(b)) => is_out(a.seconds(), b.seconds()),
         (Stamp::Zoned(a), Stamp::Zoned(b)) => {
-            start.tzid() == end.tzid() && is_out(a.seconds(), b.seconds())
+            tzid(start) == tzid(end) && is_out(a.seconds(), b.seconds())
         }
         (Stamp::Zoned(_) | Stamp::Utc(_), Stamp::Zoned(_) | Stamp::Utc(_)) => false,
         _ => true,
@@ -43,8 +44,8 @@ pub fn ends_badly(start: &Dated, end: &Option<Dated>) -> bool
 /// The check that the second round makes on the END of an event of that calendar.
 pub fn ends_in(
     calendar: u64,
-    start: &Dated,
-    end: &Option<Dated>,
+    start: &Time<Tzid>,
+    end: &Option<Time<Tzid>>,
 ) -> Result<Option<DeferredCheck>, AllocError>
     ensures { IfOk result (λ check. check ≡ ends_in calendar (Some start.now) end.now) }
 {
@@ -52,10 +53,10 @@ pub fn ends_in(
         return Ok(None);
     };
     // two stamps of one zone compare as locals
-    if is_zoned(start.stamp) && is_zoned(end.stamp) && start.tzid() == end.tzid() {
+    if is_zoned(start.stamp) && is_zoned(end.stamp) && tzid(start) == tzid(end) {
         return Ok(None);
     }
-    Ok(match (start.instant(calendar)?, end.instant(calendar)?) {
+    Ok(match (instant(start, calendar)?, instant(end, calendar)?) {
         (Some(Instant::Utc(a)), Some(Instant::Utc(b))) if is_out(a.seconds(), b.seconds()) => {
             Some(DeferredCheck::End)
         }

@@ -9,7 +9,7 @@ ghost use Rattle.ics_components.specs.Lines.{builder_note, builder_zone};
 use crate::builder::Builder;
 use crate::component::Component;
 use crate::fault::FaultKind;
-use crate::gathered::{Gathered, Passed};
+use crate::gathered::{CalendarEvent, Ended, Gathered, Passed};
 use crate::name::Name;
 use crate::refused::Refused;
 use crate::tzid::Tzids;
@@ -67,7 +67,7 @@ impl Frame {
 
     /// What the component is where an END has that name. An observance goes to what it stands in.
     #[tactic(auto, unfolding(crate::specs::Lines::least_fault))]
-    pub fn end(self, alloc: Global, outer: &mut Builder, name: &[u8]) -> Result<Passed, Refused>
+    pub fn end(self, outer: &mut Builder, name: &[u8]) -> Result<Passed, Refused>
         ensures { Notes result outer.new (end_fault (is_of name.now self) self.builder) (joined outer.old self.builder)
             (passed (ended_as self.calendar self.builder) (end_check self.calendar self.builder)) }
     {
@@ -77,7 +77,16 @@ impl Frame {
         }
         let (calendar, builder) = (self.calendar, self.builder);
         match builder {
-            Builder::Event(had) => had.end(alloc, calendar),
+            Builder::Event(fields) => match fields.end(calendar) {
+                Ok(check) => Ok(Passed {
+                    ended: Ended::Event(CalendarEvent { calendar, fields }),
+                    check,
+                }),
+                Err(refused) => {
+                    drop(fields);
+                    Err(refused)
+                }
+            },
             Builder::Zone(had) => had.end(calendar),
             Builder::Observance(had) => had.join(outer),
             Builder::Calendar | Builder::Elsewhere => Ok(Passed::nothing()),

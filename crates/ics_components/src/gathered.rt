@@ -4,12 +4,10 @@ ghost use Rattle.ics_components.specs.Gathered.{and_ended, and_passed};
 ghost use Rattle.ics_components.specs.Lines.{passed};
 ghost use Rattle.ics_components.specs.declared.gathered.Ended.TheVariants.{Nothing};
 
-use crate::date_list::DateLists;
-use crate::dated::Dated;
 use crate::deferred_check::{DeferredCheck, ZoneName};
-use crate::observances::Observances;
-use crate::rule_value::RuleValue;
-use ics_values::{Duration, Text};
+use crate::event_fields::EventFields;
+use crate::listed::Listed;
+use crate::observances::EndedObservance;
 use std::alloc::AllocError;
 use std::marker::Model;
 
@@ -17,41 +15,21 @@ use std::marker::Model;
 #[derive(Drop)]
 pub struct EndedZone {
     pub name: ZoneName,
-    pub observances: Observances,
+    pub observances: Listed<EndedObservance>,
 }
 
-/// What gives the length of an event (RFC 5545, section 3.6.1): its DTEND, or its DURATION, or nothing.
+/// An event that has ended, as its lines give it, and the number of the BEGIN line of its calendar.
 #[derive(Drop)]
-pub enum GivenLength {
-    Open,
-    Until(Dated),
-    Lasting(Duration),
-}
-
-/// An event that has ended (RFC 5545, section 3.6.1). Its times name their zones.
-#[derive(Drop)]
-pub struct EndedEvent {
-    /// The number of the BEGIN line of its calendar.
+pub struct CalendarEvent {
     pub calendar: u64,
-    pub uid: Text,
-    pub start: Dated,
-    pub length: GivenLength,
-    pub rule: Option<RuleValue>,
-    pub rdates: DateLists,
-    pub exdates: DateLists,
-    pub recurrence: Option<Dated>,
-    pub sequence: u32,
-    pub title: Text,
-    pub location: Text,
-    pub description: Text,
-    pub cancelled: bool,
+    pub fields: EventFields,
 }
 
 /// What ends on a line, if it is a component that is read.
 #[derive(Drop)]
 pub enum Ended {
     Zone(EndedZone),
-    Event(EndedEvent),
+    Event(CalendarEvent),
     Nothing,
 }
 
@@ -85,7 +63,7 @@ pub struct LineCheck {
 #[derive(Drop)]
 pub struct Gathered {
     pub zones: Vec<EndedZone>,
-    pub events: Vec<EndedEvent>,
+    pub events: Vec<CalendarEvent>,
     pub checks: Vec<LineCheck>,
 }
 

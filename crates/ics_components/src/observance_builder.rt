@@ -8,14 +8,15 @@ ghost use Rattle.ics_components.specs.declared.builder.Builder.TheVariants.{Obse
 ghost use Rattle.ics_components.specs.declared.gathered.Ended.TheVariants.{Nothing};
 
 use crate::builder::Builder;
-use crate::dated::local;
-use crate::event_builder::keep_first;
+use crate::event_fields::keep_first;
 use crate::fault::FaultKind;
 use crate::gathered::Passed;
+use crate::listed::Listed;
 use crate::name::Name;
-use crate::observances::{EndedObservance, Locals};
+use crate::observances::{EndedObservance, read_locals};
 use crate::refused::Refused;
 use crate::rule_value::RuleValue;
+use crate::time::local;
 use ics_text::Content;
 use ics_values::{Local, read_offset};
 use std::alloc::{AllocError, Global};
@@ -27,7 +28,7 @@ pub struct ObservanceBuilder {
     pub from: Option<i32>,
     pub to: Option<i32>,
     pub rule: Option<RuleValue>,
-    pub rdates: Locals,
+    pub rdates: Listed<Local>,
 }
 
 /// What a line of an observance says, if an observance takes its value.
@@ -37,7 +38,7 @@ pub enum ObservanceProperty {
     OffsetFrom(i32),
     OffsetTo(i32),
     Rule(RuleValue),
-    Rdates(Locals),
+    Rdates(Listed<Local>),
     /// One that is not read.
     Other,
 }
@@ -52,7 +53,7 @@ impl ObservanceProperty {
             Name::OffsetFrom => Ok(ObservanceProperty::OffsetFrom(read_offset(value)?)),
             Name::OffsetTo => Ok(ObservanceProperty::OffsetTo(read_offset(value)?)),
             Name::Rrule => Ok(ObservanceProperty::Rule(RuleValue::read_daily(alloc, value)?)),
-            Name::Rdate => Ok(ObservanceProperty::Rdates(Locals::read(alloc, value)?)),
+            Name::Rdate => Ok(ObservanceProperty::Rdates(read_locals(alloc, value)?)),
             _ => Ok(ObservanceProperty::Other),
         }
     }
@@ -68,8 +69,8 @@ impl ObservanceBuilder {
             from: None,
             to: None,
             rule: None,
-            rdates: Locals {
-                locals: Vec::new(alloc),
+            rdates: Listed {
+                values: Vec::new(alloc),
             },
         }
     }
@@ -118,7 +119,7 @@ impl ObservanceBuilder {
             ObservanceProperty::OffsetFrom(offset) => keep_first(&mut self.from, offset),
             ObservanceProperty::OffsetTo(offset) => keep_first(&mut self.to, offset),
             ObservanceProperty::Rule(rule) => keep_first(&mut self.rule, rule),
-            ObservanceProperty::Rdates(mut more) => self.rdates.locals.append(&mut more.locals)?,
+            ObservanceProperty::Rdates(mut more) => self.rdates.values.append(&mut more.values)?,
             ObservanceProperty::Other => {}
         }
         Ok(())
@@ -151,7 +152,7 @@ impl ObservanceBuilder {
             rdates: self.rdates,
         };
         if let Builder::Zone(zone) = outer {
-            zone.observances.list.push(observance)?;
+            zone.observances.values.push(observance)?;
         }
         Ok(Passed::nothing())
     }

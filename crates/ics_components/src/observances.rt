@@ -6,11 +6,13 @@ ghost use Rattle.ics_components.specs.Faults as reading;
 ghost use Rattle.ics_components.specs.Lines.{Gives, unfit};
 ghost use Rattle.ics_components.specs.Observances.{locals_of};
 
-use crate::date_list::Dates;
-use crate::date_values::Listing;
+use crate::date_list::local_in;
+use crate::date_values::{Listing, read_values};
 use crate::fault::FaultKind;
+use crate::listed::Listed;
 use crate::refused::Refused;
 use crate::rule_value::RuleValue;
+use crate::tzid::Tzid;
 use ics_values::Local;
 use std::alloc::Global;
 use std::marker::Model;
@@ -22,39 +24,7 @@ pub struct EndedObservance {
     pub offset_from: i32,
     pub offset_to: i32,
     pub rule: Option<RuleValue>,
-    pub rdates: Locals,
-}
-
-/// The locals of the RDATEs of an observance, in their order.
-#[derive(Drop)]
-pub struct Locals {
-    pub locals: Vec<Local>,
-}
-
-impl Model for Locals {
-    ghost use Rattle.std.specs.Prelude.{List};
-    ghost use Rattle.ics_fields.specs.declared.local.Local.{Local};
-
-    ghost Value = { List Local };
-
-    ghost view = { λ a. a.locals.items };
-}
-
-impl Locals {
-    /// The values of an RDATE of an observance, which are locals without a TZID, or the least fault of them.
-    pub(crate) fn read(alloc: Global, text: &[u8]) -> Result<Locals, Refused>
-        ensures { Gives result (unfit (reading.Dates (values_of Rdate false text.now))) (locals_of text.now) }
-    {
-        let dates = Dates::read(alloc, Listing::Rdate, text, false)?;
-        let mut locals = Vec::new(alloc);
-        for value in &dates.values {
-            let Some(local) = value.local() else {
-                return Err(Refused::Fault(FaultKind::ObservanceField));
-            };
-            locals.push(local)?;
-        }
-        Ok(Locals { locals })
-    }
+    pub rdates: Listed<Local>,
 }
 
 impl Model for EndedObservance {
@@ -65,17 +35,18 @@ impl Model for EndedObservance {
     ghost view = { λ a. record { start = a.start; offset_from = a.offset_from; offset_to = a.offset_to; rule = a.rule; rdates = a.rdates } };
 }
 
-/// The observances of a time zone that have ended, in their order.
-#[derive(Drop)]
-pub struct Observances {
-    pub list: Vec<EndedObservance>,
-}
-
-impl Model for Observances {
-    ghost use Rattle.std.specs.Prelude.{List};
-    ghost use Rattle.ics_fields.specs.Observances.{ObservanceSaid};
-
-    ghost Value = { List ObservanceSaid };
-
-    ghost view = { λ a. a.list.items };
+/// The values of an RDATE of an observance, which are locals without a TZID, or the least fault of them.
+pub fn read_locals(alloc: Global, text: &[u8]) -> Result<Listed<Local>, Refused>
+    ensures { Gives result (unfit (reading.Dates (values_of Rdate false text.now))) (locals_of text.now) }
+{
+    let no_zone: Option<Tzid> = None;
+    let dates = read_values(alloc, Listing::Rdate, text, &no_zone)?;
+    let mut values = Vec::new(alloc);
+    for value in &dates.values {
+        let Some(local) = local_in(value) else {
+            return Err(Refused::Fault(FaultKind::ObservanceField));
+        };
+        values.push(local)?;
+    }
+    Ok(Listed { values })
 }

@@ -8,27 +8,27 @@ ghost use Rattle.ics_components.specs.Values.{ok_or_zero};
 
 use crate::date_list::DateList;
 use crate::date_values::Listing;
-use crate::dated::Dated;
 use crate::deferred_check::DeferredCheck;
 use crate::ends::lasting;
 use crate::fault::FaultKind;
 use crate::name::Name;
 use crate::refused::Refused;
 use crate::rule_value::RuleValue;
-use crate::tzid::Tzids;
+use crate::time::{time_of, zone_check};
+use crate::tzid::{Tzid, Tzids};
 use ics_text::Content;
-use ics_values::{Duration, IntegerFault, Text, is_word, read_integer};
+use ics_values::{Duration, IntegerFault, Text, Time, is_word, read_integer};
 use std::alloc::{AllocError, Global};
 
 /// What a line of an event says, if its value has no fault.
 #[derive(Drop)]
 pub enum Property {
     Uid(Text),
-    Start(Dated),
-    End(Dated),
+    Start(Time<Tzid>),
+    End(Time<Tzid>),
     Duration(Duration),
     Rule(RuleValue),
-    Recurrence(Dated),
+    Recurrence(Time<Tzid>),
     Sequence(u32),
     Rdates(DateList),
     Exdates(DateList),
@@ -64,11 +64,11 @@ impl Property {
         let value = content.value();
         Ok(match name {
             Name::Uid => Property::Uid(Text::of_value(alloc, value)?),
-            Name::Dtstart => Property::Start(Dated::read(alloc, tzids, content)?),
-            Name::Dtend => Property::End(Dated::read(alloc, tzids, content)?),
+            Name::Dtstart => Property::Start(time_of(alloc, tzids, content)?),
+            Name::Dtend => Property::End(time_of(alloc, tzids, content)?),
             Name::Duration => Property::Duration(lasting(value)?),
             Name::Rrule => Property::Rule(RuleValue::read(alloc, value)?),
-            Name::RecurrenceId => Property::Recurrence(Dated::read(alloc, tzids, content)?),
+            Name::RecurrenceId => Property::Recurrence(time_of(alloc, tzids, content)?),
             Name::Sequence => Property::Sequence(sequence(value)?),
             Name::Rdate => {
                 Property::Rdates(DateList::read(alloc, tzids, Listing::Rdate, content)?)
@@ -89,8 +89,8 @@ impl Property {
         ensures { IfOk result (λ check. check ≡ zone_check (property_zone calendar self.now)) }
     {
         match self {
-            Property::Start(dated) | Property::End(dated) | Property::Recurrence(dated) => {
-                dated.check(calendar)
+            Property::Start(time) | Property::End(time) | Property::Recurrence(time) => {
+                zone_check(time, calendar)
             }
             Property::Rdates(list) | Property::Exdates(list) => list.check(calendar),
             _ => Ok(None),

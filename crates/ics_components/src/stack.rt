@@ -102,7 +102,6 @@ impl Stack {
     #[tactic(auto, unfolding(crate::specs::Lines::least_fault))]
     fn end(
         &mut self,
-        alloc: Global,
         gathered: &mut Gathered,
         number: u64,
         content: &Content<'_>,
@@ -114,7 +113,7 @@ impl Stack {
             return Err(Refused::Fault(FaultKind::NotCalendar));
         };
         let inner = mem::replace(&mut self.top, outer);
-        let passed = inner.end(alloc, &mut self.top.builder, content.value())?;
+        let passed = inner.end(&mut self.top.builder, content.value())?;
         gathered.pass(number, passed)?;
         Ok(())
     }
@@ -133,7 +132,7 @@ impl Stack {
     {
         match name_of(content.name()) {
             Name::Begin => self.begin(alloc, number, content),
-            Name::End => self.end(alloc, gathered, number, content),
+            Name::End => self.end(gathered, number, content),
             _ if self.is_lowest() => Err(Refused::Fault(FaultKind::NotCalendar)),
             // most lines of long files are of properties that are not read
             Name::Other => Ok(()),

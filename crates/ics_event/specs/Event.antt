@@ -1,6 +1,6 @@
 -- An event of a file, as contracts see it, and what holds of each (RFC 5545, section 3.6.1).
 use Rattle.std.specs.Prelude.{◌≡◌, ◌≢◌, ℕ, ◌+◌, ◌*◌, ◌<◌, ◌≤◌, ◌==◌, Bool, true, false, IsTrue, List, [], map, Option, Some, None, is_some, ◌||◌, length}
-use Rattle.std.specs.Prelude.{if◌then◌else◌, slice_get, IfSome, All, ℤ, pos, ◌≤ℤ◌, ◌+ℤ◌, ◌*ℤ◌}
+use Rattle.std.specs.Prelude.{slice_get, IfSome, All, ℤ, pos, ◌≤ℤ◌, ◌+ℤ◌, ◌*ℤ◌}
 use Rattle.ics_fields.specs.RuleParts.{RuleParts}
 use Rattle.ics_values.specs.Stamps.{stamp_day}
 use Rattle.ics_fields.specs.Days.{IsStampDay}
@@ -10,13 +10,14 @@ use Rattle.ics_values.specs.declared.stamp.Stamp.{Stamp}
 use Rattle.ics_values.specs.declared.stamp.Stamp.TheVariants.{Date, Floating, Utc, Zoned}
 pub use Rattle.ics_values.specs.Zoned.{is_zoned}
 pub use Rattle.ics_values.specs.Longest.{longest}
+pub use Rattle.ics_values.specs.Times.{time_in}
 use Rattle.ics_zone.specs.ZoneSaid.{ZoneSaid, said_moment, zone_said}
 use Rattle.ics_zone.specs.declared.zone.ZoneKind.{ZoneKind}
 use Rattle.ics_event.specs.declared.time.Time.{Time}
 use Rattle.ics_event.specs.declared.time.Length.{Length}
-use Rattle.ics_event.specs.declared.time.Length.TheVariants.{Open, Until, Lasting}
+use Rattle.ics_values.specs.declared.time.Length.TheVariants.{Open, Until, Lasting}
 use Rattle.ics_event.specs.declared.time.Rdate.{Rdate}
-use Rattle.ics_event.specs.declared.time.Rdate.TheVariants.{At, Span}
+use Rattle.ics_values.specs.declared.time.Rdate.TheVariants.{At, Span}
 use Rattle.ics_fields.specs.Locals.{local_seconds}
 
 -- An event.
@@ -46,10 +47,6 @@ pub record FileSeen : Type 0 where
 
 abbrev pub said_by : FileSeen → FileSaid
 said_by file = record { zones = map zone_said file.zones; events = file.events }
-
--- The time of a stamp, given the index of the zone that its TZID names.
-abbrev pub time_in : Option ℕ → Stamp → Time
-time_in zone stamp = record { stamp = stamp; zone = if is_zoned stamp then zone else None }
 
 -- A time whose stamp lies in the years 0001 to 9899, and that has a zone exactly where its stamp is a zoned one.
 pub record IsTime (time : Time) : Type 0 where

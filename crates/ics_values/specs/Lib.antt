@@ -15,6 +15,7 @@ pub mod RuleDrafts
 pub mod RuleLaws
 pub mod ValueFaultNames
 pub mod Zoned
+pub mod Times
 pub mod Longest
 pub use Rattle.ics_fields.specs.Days
 pub use Rattle.ics_fields.specs.Fields

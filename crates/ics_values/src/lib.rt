@@ -18,6 +18,7 @@ mod sign;
 mod stamp;
 mod text;
 mod text_value;
+mod time;
 mod zoned;
 
 pub use duration::{Duration, DurationFault, read_duration};
@@ -35,4 +36,5 @@ pub use rule_text::{RuleFault, read_rule};
 pub use stamp::{Stamp, StampFault, read_stamp};
 pub use text::text_bytes;
 pub use text_value::Text;
+pub use time::{Length, Rdate, Time};
 pub use zoned::is_zoned;

@@ -1,8 +1,8 @@
 use Rattle.std.proofs.Common.{◌≡◌, ◌++◌, map}
-use Rattle.ics_calendar.specs.Settled.{event_of}
+use Rattle.ics_calendar.specs.Settled.{event_in}
 use Rattle.ics_calendar.specs.ZoneTables.{known_by}
 use Rattle.ics_calendar.proofs.draft.events_of.Given as goal
 
 abbrev pub invariant-loop-event : goal.invariant-loop-event
 invariant-loop-event l =
-    l.events.items ++ map (event_of (known_by l.table).index) l.event-iterator.rest.items ≡ map (event_of (known_by l.table).index) l.fn.ended.items
+    l.events.items ++ map (event_in (known_by l.table).index) l.event-iterator.rest.items ≡ map (event_in (known_by l.table).index) l.fn.ended.items

@@ -1,40 +1,36 @@
-//! An event that is being built of its lines.
-ghost use Rattle.std.specs.Prelude.{◌≡◌, [], Option, None, Some, true, false, unwrap_or, IfOk};
+//! An event as its lines give it (RFC 5545, section 3.6.1).
+ghost use Rattle.std.specs.Prelude.{◌≡◌, [], Option, Some, true, false, IfOk};
 ghost use Rattle.std.specs.Option.{option_or};
 ghost use Rattle.ics_components.specs.declared.builder.Builder.TheVariants.{Event};
-ghost use Rattle.ics_components.specs.declared.gathered.Ended.TheVariants as ended;
-ghost use Rattle.ics_components.specs.Builders.{collected_of, event_ended};
-ghost use Rattle.ics_components.specs.GivenTimes.{dated_in};
-ghost use Rattle.ics_components.specs.Lines.{Gives, Notes, is_mark, line_fault, end_fault, passed};
+ghost use Rattle.ics_components.specs.Builders.{collected_of};
+ghost use Rattle.ics_components.specs.Lines.{Gives, Notes, is_mark, line_fault, end_fault};
 ghost use Rattle.ics_components.specs.Lines.{event_has, event_property, with_property, event_note, event_zone};
 ghost use Rattle.ics_components.specs.SecondRound.{ends_in, zone_check};
 
-use crate::date_list::DateLists;
-use crate::dated::Dated;
 use crate::deferred_check::DeferredCheck;
 use crate::ends::{ends_badly, ends_in};
 use crate::fault::FaultKind;
-use crate::gathered::{Ended, EndedEvent, GivenLength, Passed};
+use crate::listed::Listed;
 use crate::name::Name;
 use crate::property::Property;
 use crate::refused::Refused;
 use crate::rule_value::RuleValue;
-use crate::tzid::Tzids;
+use crate::tzid::{Tzid, Tzids};
 use ics_text::Content;
-use ics_values::{Duration, Text};
+use ics_values::{Duration, Rdate, Text, Time};
 use std::alloc::{AllocError, Global};
 
-/// The value of each property that an event may have once, and what all its RDATEs and EXDATEs list.
+/// The value of each property that an event may have once, if its lines give it, and what all its RDATEs and EXDATEs list. Its times name their zones.
 #[derive(Drop)]
-pub struct EventBuilder {
+pub struct EventFields {
     pub uid: Option<Text>,
-    pub start: Option<Dated>,
-    pub end: Option<Dated>,
+    pub start: Option<Time<Tzid>>,
+    pub end: Option<Time<Tzid>>,
     pub duration: Option<Duration>,
     pub rule: Option<RuleValue>,
-    pub rdates: DateLists,
-    pub exdates: DateLists,
-    pub recurrence: Option<Dated>,
+    pub rdates: Listed<Rdate<Tzid>>,
+    pub exdates: Listed<Rdate<Tzid>>,
+    pub recurrence: Option<Time<Tzid>>,
     pub sequence: Option<u32>,
     pub title: Option<Text>,
     pub location: Option<Text>,
@@ -51,22 +47,22 @@ pub fn keep_first<T: Drop>(kept: &mut Option<T>, value: T)
     }
 }
 
-impl EventBuilder {
+impl EventFields {
     /// What an event has that has only begun.
-    pub fn nothing(alloc: Global) -> EventBuilder
+    pub fn nothing(alloc: Global) -> EventFields
         ensures { result ≡ collected_of [] }
     {
-        EventBuilder {
+        EventFields {
             uid: None,
             start: None,
             end: None,
             duration: None,
             rule: None,
-            rdates: DateLists {
-                lists: Vec::new(alloc),
+            rdates: Listed {
+                values: Vec::new(alloc),
             },
-            exdates: DateLists {
-                lists: Vec::new(alloc),
+            exdates: Listed {
+                values: Vec::new(alloc),
             },
             recurrence: None,
             sequence: None,
@@ -126,10 +122,10 @@ impl EventBuilder {
             Property::End(end) => keep_first(&mut self.end, end),
             Property::Duration(duration) => keep_first(&mut self.duration, duration),
             Property::Rule(rule) => keep_first(&mut self.rule, rule),
-            Property::Recurrence(dated) => keep_first(&mut self.recurrence, dated),
+            Property::Recurrence(time) => keep_first(&mut self.recurrence, time),
             Property::Sequence(number) => keep_first(&mut self.sequence, number),
-            Property::Rdates(list) => self.rdates.lists.push(list)?,
-            Property::Exdates(list) => self.exdates.lists.push(list)?,
+            Property::Rdates(mut list) => self.rdates.values.append(&mut list.values.values)?,
+            Property::Exdates(mut list) => self.exdates.values.append(&mut list.values.values)?,
             Property::Title(text) => keep_first(&mut self.title, text),
             Property::Location(text) => keep_first(&mut self.location, text),
             Property::Description(text) => keep_first(&mut self.description, text),
@@ -162,62 +158,21 @@ impl EventBuilder {
         Ok(check)
     }
 
-    /// Takes the UID and the start of the event, and the check of its end, if no fault stands on its END.
+    /// Judges the END of the event, and answers the check that it leaves to the second round, if there is one.
     #[tactic(auto, unfolding(crate::specs::Lines::least_fault))]
-    fn required(&mut self, calendar: u64) -> Result<(Text, Dated, Option<DeferredCheck>), Refused>
-        ensures { Notes result self.new (end_fault true (Event self.old)) (record self.old { uid = None; start = None })
-            (unwrap_or self.old.uid [], dated_in self.old.start, ends_in calendar self.old.start self.old.end) }
+    pub fn end(&self, calendar: u64) -> Result<Option<DeferredCheck>, Refused>
+        ensures { Gives result (end_fault true (Event self.now)) (ends_in calendar self.now.start self.now.end) }
     {
-        let Some(uid) = self.uid.take() else {
-            return Err(Refused::Fault(FaultKind::MissingUid));
-        };
-        if uid.as_slice().is_empty() {
-            return Err(Refused::Fault(FaultKind::MissingUid));
+        match &self.uid {
+            Some(uid) if !uid.as_slice().is_empty() => {}
+            _ => return Err(Refused::Fault(FaultKind::MissingUid)),
         }
-        let Some(start) = self.start.take() else {
+        let Some(start) = &self.start else {
             return Err(Refused::Fault(FaultKind::MissingStart));
         };
-        if (self.end.is_some() && self.duration.is_some()) || ends_badly(&start, &self.end) {
+        if (self.end.is_some() && self.duration.is_some()) || ends_badly(start, &self.end) {
             return Err(Refused::Fault(FaultKind::BadEnd));
         }
-        let check = ends_in(calendar, &start, &self.end)?;
-        Ok((uid, start, check))
-    }
-
-    /// The event of that calendar and the check of its end, at its END.
-    pub fn end(mut self, alloc: Global, calendar: u64) -> Result<Passed, Refused>
-        ensures { Gives result (end_fault true (Event self)) (passed (ended.Event (event_ended calendar self)) (ends_in calendar self.start self.end)) }
-    {
-        let (uid, start, check) = match self.required(calendar) {
-            Ok(taken) => taken,
-            Err(refused) => {
-                drop(self);
-                return Err(refused);
-            }
-        };
-        let length = match (self.end, self.duration) {
-            (Some(end), _) => GivenLength::Until(end),
-            (None, Some(duration)) => GivenLength::Lasting(duration),
-            (None, None) => GivenLength::Open,
-        };
-        let event = EndedEvent {
-            calendar,
-            uid,
-            start,
-            length,
-            rule: self.rule,
-            rdates: self.rdates,
-            exdates: self.exdates,
-            recurrence: self.recurrence,
-            sequence: self.sequence.unwrap_or(0),
-            title: self.title.unwrap_or(Text::new(alloc)),
-            location: self.location.unwrap_or(Text::new(alloc)),
-            description: self.description.unwrap_or(Text::new(alloc)),
-            cancelled: self.cancelled.unwrap_or(false),
-        };
-        Ok(Passed {
-            ended: Ended::Event(event),
-            check,
-        })
+        Ok(ends_in(calendar, start, &self.end)?)
     }
 }

@@ -3,7 +3,7 @@ use Rattle.std.proofs.lemmas.Grind.{common_steps}
 use Rattle.std.proofs.lemmas.List.Elements.{filter_map-append}
 use Rattle.std.proofs.lemmas.List.Folds.{list_any_at, list_any_more}
 use Rattle.ics_components.proofs.DateValueLemmas.{is_other, locals-fault}
-use Rattle.ics_components.proofs.observances.Locals.read.Goals as goal
+use Rattle.ics_components.proofs.observances.read_locals.Goals as goal
 
 pub returns-in_default : goal.returns-in_default
 returns-in_default c =
