@@ -83,12 +83,12 @@ no-period a p h = grind arith
 
 pub one-period : OnePeriod
 one-period zoned text p h k = elim (cases_Bool (has_slash text)) [
-  | inl e ↦ halves-agree (lasts (second_half text)) (begins is_minus (second_half text)) (date_time_of zoned (first_half text))
+  | inl e ↦ rw e (halves-agree (lasts (second_half text)) (begins is_minus (second_half text)) (date_time_of zoned (first_half text))
       (date_time_of zoned (second_half text)) (duration_of (second_half text)) p
       (rw (
         ← half-is (is_date_time_form (first_half text)) (stamp_of zoned (first_half text)),
         ← half-is (is_date_time_form (second_half text)) (stamp_of zoned (second_half text)),
-      ) h) (rw e at k)
+      ) h) (rw e at k))
   | inr e ↦ absurd (no-period (half_of zoned (first_half text)) p (rw (no-second-half text e) at h))
 ]
 

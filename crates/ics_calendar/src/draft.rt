@@ -11,7 +11,7 @@ use crate::judged::first_judged;
 use crate::unknown_zones::{copied, unknown_names};
 use crate::zone_files::ZoneFiles;
 use crate::zone_table::ZoneTable;
-use ics_components::{CalendarEvent, Fault, FileFault, Gathered, LineCheck, gather};
+use ics_components::{CalendarEvent, Fault, FileFault, Gathered, LineCheck, Tzid, gather};
 use ics_event::{Event, FileEvents};
 use ics_text::numbers_rise;
 use std::alloc::{AllocError, Global};
@@ -23,12 +23,16 @@ pub struct Draft {
     table: ZoneTable,
     events: Vec<CalendarEvent>,
     checks: Vec<LineCheck>,
+    wanted: Vec<Tzid>,
 }
 
 impl Model for Draft {
     ghost use Rattle.std.specs.Coded.{codes};
+    ghost use Rattle.std.specs.Prelude.{◌≡◌};
     ghost use Rattle.ics_calendar.specs.contracts.zone_table.ZoneTable as zone_table;
     ghost use Rattle.ics_calendar.specs.Drafts.{DraftSeen, IsSoundDraft};
+    ghost use Rattle.ics_calendar.specs.Settled.{all_unknown};
+    ghost use Rattle.ics_calendar.specs.Wanted.{each_once};
     ghost use Rattle.ics_calendar.specs.ZoneTables.{known_by};
 
     ghost Value = { DraftSeen };
@@ -37,7 +41,8 @@ impl Model for Draft {
 
     ghost view = { λ a. record { table = a.table; events = a.events.items; checks = a.checks.items } };
 
-    ghost invariant = { λ a. IsSoundDraft (known_by a.table) a.events.items a.checks.items };
+    ghost invariant = { λ a. IsSoundDraft (known_by a.table) a.events.items a.checks.items
+        × (a.wanted.items ≡ each_once (all_unknown (known_by a.table).index a.checks.items)) };
 }
 
 /// The events that have ended.
@@ -70,10 +75,13 @@ impl Draft {
             events,
             checks,
         } = gather(alloc, bytes)?;
+        let table = ZoneTable::new(alloc, zones)?;
+        let wanted = unknown_names(alloc, &table, &checks)?;
         Ok(Draft {
-            table: ZoneTable::new(alloc, zones)?,
+            table,
             events,
             checks,
+            wanted,
         })
     }
 
@@ -81,8 +89,7 @@ impl Draft {
     pub fn wanted(&self, alloc: Global) -> Result<Vec<Vec<u8>>, AllocError>
         ensures { IfOk result (λ names. map (λ name. name.items) names.items ≡ (draft_said self.now).wants) }
     {
-        let names = unknown_names(alloc, &self.table, &self.checks)?;
-        copied(alloc, &names)
+        copied(alloc, &self.wanted)
     }
 
     /// The time zones and the events of the file with these zone files, or its first fault. `Memory` if an allocation fails.
@@ -93,9 +100,9 @@ impl Draft {
             table,
             events,
             checks,
+            wanted,
         } = self;
-        let names = unknown_names(alloc, &table, &checks)?;
-        let table = table.with_files(files, names)?;
+        let table = table.with_files(files, wanted)?;
         if let Some(Fault { line, kind }) = first_judged(&table, &checks) {
             return Err(FileFault::At { line, kind });
         }

@@ -1,5 +1,5 @@
 -- The first fault of a file is the least of those of its parts, and a component is judged by itself.
-use Rattle.std.proofs.Common.{◌≡◌, ℕ, ◌<◌, ◌≤◌, Bool, true, false, ◌||◌, ◌==◌, List, [], ◌∷◌, ◌++◌, refl, sym, ap, ◌∙◌, arith, cond, filter, Option, Some, None, IfSome, subst}
+use Rattle.std.proofs.Common.{◌≡◌, ℕ, ◌<◌, ◌≤◌, Bool, true, false, ◌||◌, ◌==◌, List, [], ◌∷◌, ◌++◌, refl, sym, ap, ◌∙◌, arith, cond, filter, Option, Some, None, IfSome, subst, append_assoc}
 use Rattle.std.specs.Prelude.{find, not}
 use Rattle.std.specs.Option.{option_or}
 use Rattle.std.specs.List.{All, list_any}
@@ -72,13 +72,9 @@ all-lines every h round at_end before [] = ap at_end (sym (append-nil before))
 all-lines every h round at_end before (l ∷ ls) =
     rw (h l) (
     ap (found l.number (least_on round before l))
-    (all-lines every h round at_end (before ++ l ∷ []) ls ∙ ap (λ b. option_or (first_among every round (before ++ l ∷ []) ls) (at_end b)) (append-more before l ls))
+    (all-lines every h round at_end (before ++ l ∷ []) ls ∙ ap (λ b. option_or (first_among every round (before ++ l ∷ []) ls) (at_end b)) (append_assoc before (l ∷ []) ls))
     ∙ or-found l.number (least_on round before l) (first_among every round (before ++ l ∷ []) ls) (at_end (before ++ l ∷ ls))
     )
-  where
-    append-more : (before : List Placed) (l : Placed) (ls : List Placed) → (before ++ l ∷ []) ++ ls ≡ before ++ l ∷ ls
-    append-more [] l ls = refl
-    append-more (b ∷ bs) l ls = ap (λ (xs : List Placed). b ∷ xs) (append-more bs l ls)
 
 either : (part : Placed → Bool) (l : Placed) → (part l || not (part l)) ≡ true
 either part l = grind arith

@@ -6,7 +6,7 @@ use Rattle.ics_calendar.proofs.draft.Draft.settle.Goals.{In_default}
 
 -- with its zone files the draft is sound still
 sound : (c : In_default) → IsSoundDraft (known_by c.in_ok-table.table) c.self.inside.events.items c.self.inside.checks.items
-sound c = rw c.in_ok-table.ensures (draft-with (given_by c.args.files.now) c.in_ok-names.names.items c.self.invariant)
+sound c = rw c.in_ok-table.ensures (draft-with (given_by c.args.files.now) c.self.inside.wanted.items c.self.invariant.0)
 
 pub events_of-requires : goal.events_of-requires
 events_of-requires c =
