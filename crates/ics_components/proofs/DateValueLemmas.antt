@@ -20,7 +20,9 @@ use Rattle.ics_components.specs.contracts.fault.FaultKindOrd.TheImpl as order
 use Rattle.ics_components.specs.declared.fault.FaultKind.{FaultKind}
 use Rattle.ics_components.specs.declared.fault.FaultKind.TheVariants.{ObservanceField}
 use Rattle.ics_components.specs.Faults.{Dates}
-use Rattle.ics_components.specs.Lines.{misread, unfit, judged}
+use Rattle.ics_components.specs.declared.refused.Refused.{Refused}
+use Rattle.ics_components.specs.declared.refused.Refused.TheVariants.{Fault}
+use Rattle.ics_components.specs.Lines.{Answers, misread, unfit, judged}
 use Rattle.ics_components.specs.Pass.{unless}
 use Rattle.ics_components.specs.declared.date_values.Listing.TheVariants as listing
 use Rattle.ics_values.specs.declared.time.Rdate.{Rdate}
@@ -62,7 +64,12 @@ dates-more : (vs : List DateValue) (v : DateValue) → dates_fault (vs ++ v ∷ 
 dates-more vs v = simp list_any-append (grind arith)
 
 judged-is : (zone : Option (List ℕ)) (v : DateValue) → judged zone v ≡ unless (dates_fault (v ∷ [])) (rdate_in zone v)
-judged-is zone v = grind arith
+judged-is tzid v = grind arith
+
+-- an answer that is a fault
+pub answers-fault : {X : Type 0} {result : Result X FaultKind} (refused : Refused) (kind : FaultKind) → refused ≡ Fault kind →
+    Answers {X = X} (Err refused) result → result ≡ Err kind
+answers-fault {result = result} refused kind e h = subst (λ r. Answers (Err r) result) e h
 
 -- WHAT IS READ of the values of a line: the least fault, and what they say where there is none.
 pub record IsRead (zone : Option (List ℕ)) (vs : List DateValue) (o : Option FaultKind) (ls : List (Rdate (List ℕ))) : Type 0 where

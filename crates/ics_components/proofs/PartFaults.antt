@@ -90,7 +90,7 @@ IsOnPath path l = l.path ≡ path
 
 beside-path : (before : List Placed) (bundles : List Bundle) → Keeps before [] bundles → (0 < innermost (opens bundles)) →
     All (IsOnPath (opens bundles)) (lines_in (innermost (opens bundles)) before)
-beside-path before [] k h = cc
+beside-path before [] k h = absurd (omega (arith, h))
 beside-path before (f ∷ fs) k h = rw (k.0, append-nil f.lines) k.1.places
 
 -- a test that holds of all elements keeps them

@@ -23,13 +23,13 @@ use Rattle.ics_values.specs.Offsets.{is_offset_form, is_offset_text, offset_hour
 use Rattle.ics_values.specs.Periods.{first_half, second_half, lasts}
 use Rattle.ics_values.specs.RuleTexts.{pieces}
 use Rattle.ics_values.specs.Rules.{rule_of}
-use Rattle.ics_values.specs.Stamps.{is_date_time_form, is_stamp_text, is_stamp_year, year_of, stamp_said, stamp_of}
+use Rattle.ics_values.specs.Stamps.{is_date_form, is_utc_form, is_date_time_form, is_stamp_text, is_stamp_year, year_of, stamp_said, stamp_of, stamp_day}
 use Rattle.ics_values.specs.Texts.{begins, is_minus, with_sign}
 use Rattle.ics_values.specs.declared.duration.Duration.{Duration}
 use Rattle.ics_values.specs.declared.duration.DurationFault.{DurationFault}
 use Rattle.ics_values.specs.declared.rule_text.RuleFault.{RuleFault}
 use Rattle.ics_values.specs.declared.stamp.Stamp.{Stamp}
-use Rattle.ics_values.specs.declared.stamp.Stamp.TheVariants.{Date, Floating}
+use Rattle.ics_values.specs.declared.stamp.Stamp.TheVariants.{Date, Floating, Utc}
 use Rattle.ics_values.specs.declared.stamp.StampFault.{StampFault}
 use Rattle.ics_values.specs.declared.stamp.StampFault.TheVariants as stamp
 use Rattle.ics_values.proofs.StampLemmas.{stamp_day-said, date_of-stamp, day_number_range, stamp_years}
@@ -39,7 +39,7 @@ use Rattle.ics_components.specs.DateValues.{local_in, has_zoned}
 use Rattle.ics_components.specs.Lines.{event_zone, event_note, observance_note, end_fault}
 use Rattle.ics_components.proofs.Judgements.{event_end, zone_end}
 use Rattle.ics_components.specs.Observances.{locals_of, onset_in, offset_in, daily_in}
-use Rattle.ics_components.specs.SecondRound.{zone_named, list_zone, zone_check, ends_in}
+use Rattle.ics_components.specs.SecondRound.{zone_named, time_zone, list_zone, zone_check, ends_in}
 use Rattle.ics_components.specs.Sound.{IsSoundTime, IsSoundRdate, IsWhole, IsSoundObservance, IsSoundZone, EachZone, HasZone, RdateHasZone}
 use Rattle.ics_components.specs.Values.{zone_name, stamp_in, duration_in, lasting_of, is_lasting, allowed, is_filled, ends_badly}
 use Rattle.ics_components.specs.declared.observance_builder.ObservanceBuilder.{ObservanceBuilder}
@@ -80,7 +80,16 @@ sound-stamp zoned text = by_tests (is_stamp_text text) (is_stamp_year (year_of t
 
 -- without a TZID it is no zoned one
 unzoned : (text : List ℕ) → is_zoned (stamp_in (stamp_of false text)) ≡ false
-unzoned text = grind arith
+unzoned text = by_tests (is_stamp_text text) (is_stamp_year (year_of text)) (is_date_form text) (is_utc_form text) _ _
+  where
+    by_tests : (t y d u : Bool) (day : ℤ) (local : Local) →
+        is_zoned (stamp_in (cond (not t) (Err stamp.BadStamp)
+        (cond (not y) (Err stamp.YearRange) (Ok (cond d (Date day) (cond u (Utc local) (Floating local))))))) ≡ false
+    by_tests false y d u day local = refl
+    by_tests true false d u day local = refl
+    by_tests true true true u day local = refl
+    by_tests true true false true day local = refl
+    by_tests true true false false day local = refl
 
 -- A TIME has the name of a zone where it is to have one.
 time-sound : (zone : Option (List ℕ)) (s : Stamp) → IsSoundStamp s → (zone ≡ None → is_zoned s ≡ false) → IsSoundTime (time_in zone s)
@@ -244,12 +253,12 @@ module _ (P : DeferredCheck → Type 0) (k : ℕ) where
 
   values-zones : (zone : Option (List ℕ)) (vs : List DateValue) (t : Bool) → (list_any has_zoned (map (rdate_in zone) vs) ≡ true → t ≡ true) →
       LineZone t zone → All (RdateHasZone P k) (map (rdate_in zone) vs)
-  values-zones zone [] t up c = All-nil (RdateHasZone P k)
-  values-zones zone (v ∷ vs) t up c =
-      let here = has_zoned (rdate_in zone v) in
-      let later = list_any has_zoned (map (rdate_in zone) vs) in
-      All-cons (RdateHasZone P k) (rdate_in zone v) (map (rdate_in zone) vs) (value-zones zone v t (λ h. up (or_left here later h)) c)
-      (values-zones zone vs t (λ h. up (or_right here later h)) c)
+  values-zones tz [] t up c = All-nil (RdateHasZone P k)
+  values-zones tz (v ∷ vs) t up c =
+      let here = has_zoned (rdate_in tz v) in
+      let later = list_any has_zoned (map (rdate_in tz) vs) in
+      All-cons (RdateHasZone P k) (rdate_in tz v) (map (rdate_in tz) vs) (value-zones tz v t (λ h. up (or_left here later h)) c)
+      (values-zones tz vs t (λ h. up (or_right here later h)) c)
 
   abbrev IsSoundTimed : Time (List ℕ) → Type 0
   IsSoundTimed time = IsSoundTime time × HasZone P k time
@@ -311,16 +320,19 @@ module _ (P : DeferredCheck → Type 0) (k : ℕ) where
 -- P holds of all zones that an event names, and so does what follows from it.
 module _ (P Q : DeferredCheck → Type 0) (w : (check : DeferredCheck) → P check → Q check) (k : ℕ) where
   rdate-weaker : (r : Rdate (List ℕ)) → RdateHasZone P k r → RdateHasZone Q k r
-  rdate-weaker (rdate.At time) h = IfSome_then _ h w
-  rdate-weaker (rdate.Span start (length.Until end)) h = (IfSome_then _ h.0 w, IfSome_then _ h.1 w)
-  rdate-weaker (rdate.Span start _) h = (IfSome_then _ h.0 w, tt)
+  rdate-weaker (rdate.At time) h = IfSome_then (zone_check (time_zone k time)) h w
+  rdate-weaker (rdate.Span start (length.Until end)) h = (IfSome_then (zone_check (time_zone k start)) h.0 w, IfSome_then (zone_check (time_zone k end)) h.1 w)
+  rdate-weaker (rdate.Span start _) h = (IfSome_then (zone_check (time_zone k start)) h.0 w, tt)
+
+  time-weaker : (time : Time (List ℕ)) → HasZone P k time → HasZone Q k time
+  time-weaker time h = IfSome_then (zone_check (time_zone k time)) h w
 
   pub each-weaker : (event : EventFields) → EachZone P k event → EachZone Q k event
   each-weaker e z = record {
-    start = IfSome_then _ z.start (λ t h. IfSome_then _ h w);
-    end = IfSome_then _ z.end (λ t h. IfSome_then _ h w);
+    start = IfSome_then e.start z.start time-weaker;
+    end = IfSome_then e.end z.end time-weaker;
     rdates = λ i d lt. rdate-weaker _ (z.rdates i d lt);
     exdates = λ i d lt. rdate-weaker _ (z.exdates i d lt);
-    recurrence = IfSome_then _ z.recurrence (λ t h. IfSome_then _ h w);
+    recurrence = IfSome_then e.recurrence z.recurrence time-weaker;
     length = IfSome_then _ z.length w;
   }

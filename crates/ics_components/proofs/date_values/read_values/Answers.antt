@@ -1,25 +1,30 @@
-use Rattle.std.proofs.Common.{is_some, ◌==◌, ◌∙◌, sym, rules, tests}
+use Rattle.std.proofs.Common.{is_some, ◌==◌, ◌∙◌, rules, tests}
 use Rattle.std.proofs.lemmas.Iterator.Splits.{YieldsList-from_slice_split}
 use Rattle.std.proofs.lemmas.Iterator.Consumers.{YieldsList-end}
 use Rattle.ics_components.specs.DateValues.{value_of}
-use Rattle.ics_components.proofs.DateValueLemmas.{read-more, read-all}
+use Rattle.ics_components.proofs.DateValueLemmas.{answers-fault, read-more, read-all}
 use Rattle.ics_components.proofs.date_values.read_values.Goals as goal
 
 pub values-preserved-in-Continue-1 : goal.values-preserved-in-Continue-1
 values-preserved-in-Continue-1 c =
     rw c.in_ok-push-in-Ok-default.ensures.items
-    (read-more c.args.zone.now _ c.values.yielded c.in-Some.value c.values.invariant (sym c.value.ensures ∙ c.in-Ok-default.is-0))
+    (read-more c.args.zone.now _ c.values.yielded c.in-Some.value c.values.invariant (rw c.in-Ok-default.is-0 at c.value.ensures))
 
-pub values-preserved-in-Err-Some : goal.values-preserved-in-Err-Some
-values-preserved-in-Err-Some c =
-    rw c.min.ensures (
-    rw c.in-Err-Some.is-1 at
-    (read-more c.args.zone.now _ c.values.yielded c.in-Some.value c.values.invariant (sym c.value.ensures ∙ c.in-Err-Some.is-0))
+pub values-preserved-in-Err-Fault-Some : goal.values-preserved-in-Err-Fault-Some
+values-preserved-in-Err-Fault-Some c =
+    rw (c.min.ensures, c.in-Err-Fault-Some.kind-is) (
+    rw c.in-Err-Fault-Some.is-1 at
+    (read-more c.args.zone.now _ c.values.yielded c.in-Some.value c.values.invariant
+    (answers-fault c.in-Err-Fault-Some.field-0-1 c.in-Err-Fault-Some.kind (search rules) c.in-Err-Fault-Some.ensures))
     )
 
 pub values-preserved : goal.values-preserved
 values-preserved c =
-    rw c.in-Err-None.is-1 at (read-more c.args.zone.now _ c.values.yielded c.in-Some.value c.values.invariant (sym c.value.ensures ∙ c.in-Err-None.is-0))
+    rw c.in-Err-Fault-None.kind-is (
+    rw c.in-Err-Fault-None.is-1 at
+    (read-more c.args.zone.now _ c.values.yielded c.in-Some.value c.values.invariant
+    (answers-fault c.in-Err-Fault-None.field-0-1 c.in-Err-Fault-None.kind (search rules) c.in-Err-Fault-None.ensures))
+    )
 
 pub returns-in-Some-least : goal.returns-in-Some-least
 returns-in-Some-least c =
