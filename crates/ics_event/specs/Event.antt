@@ -13,12 +13,22 @@ pub use Rattle.ics_values.specs.Longest.{longest}
 pub use Rattle.ics_values.specs.Times.{time_in}
 use Rattle.ics_zone.specs.ZoneSaid.{ZoneSaid, said_moment, zone_said}
 use Rattle.ics_zone.specs.declared.zone.ZoneKind.{ZoneKind}
-use Rattle.ics_event.specs.declared.time.Time.{Time}
-use Rattle.ics_event.specs.declared.time.Length.{Length}
+use Rattle.ics_values.specs.declared.time.Time.{Time as TimeOf}
+use Rattle.ics_values.specs.declared.time.Length.{Length as LengthOf}
 use Rattle.ics_values.specs.declared.time.Length.TheVariants.{Open, Until, Lasting}
-use Rattle.ics_event.specs.declared.time.Rdate.{Rdate}
+use Rattle.ics_values.specs.declared.time.Rdate.{Rdate as RdateOf}
 use Rattle.ics_values.specs.declared.time.Rdate.TheVariants.{At, Span}
 use Rattle.ics_fields.specs.Locals.{local_seconds}
+
+-- Times, lengths and values of RDATEs with the indices of their zones.
+abbrev pub Time : Type 0
+Time = TimeOf ℕ
+
+abbrev pub Length : Type 0
+Length = LengthOf ℕ
+
+abbrev pub Rdate : Type 0
+Rdate = RdateOf ℕ
 
 -- An event.
 pub record EventSeen : Type 0 where
