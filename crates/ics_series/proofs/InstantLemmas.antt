@@ -9,9 +9,9 @@ use Rattle.ics_values.specs.declared.stamp.Stamp.{Stamp}
 use Rattle.ics_values.specs.declared.stamp.Stamp.TheVariants.{Date, Floating, Utc, Zoned}
 use Rattle.ics_values.specs.Stamps.{stamp_day}
 use Rattle.ics_fields.specs.Days.{IsStampDay}
-use Rattle.ics_event.specs.declared.time.Time.{Time}
-use Rattle.ics_event.specs.declared.time.Length.{Length}
-use Rattle.ics_event.specs.declared.time.Length.TheVariants.{Open, Lasting, Until}
+use Rattle.ics_event.specs.Event.{Time}
+use Rattle.ics_event.specs.Event.{Length}
+use Rattle.ics_values.specs.declared.time.Length.TheVariants.{Open, Lasting, Until}
 use Rattle.ics_event.specs.Event.{compared, is_one_zone, stamp_seconds, EndsWithin, IsEnd, IsLength, IsTime, IsWithin, is_zoned, moment_by}
 use Rattle.ics_zone.specs.Near.{moment_near, offset_near}
 use Rattle.ics_zone.specs.ZoneSaid.{ZoneSaid, display_said, said_moment, zone_said}
@@ -25,7 +25,7 @@ use Rattle.ics_fields.specs.Locals.{local_seconds, whole_days, midnight}
 use Rattle.ics_series.specs.Finish.{end_by, seconds_by, days_lasting, later_by, seconds_lasting}
 use Rattle.ics_series.specs.FileZones.{clocks_in, EndsNear}
 use Rattle.ics_series.specs.WindowBounds.{occurrence_first}
-use Rattle.ics_event.specs.declared.time.Rdate.TheVariants.{At}
+use Rattle.ics_values.specs.declared.time.Rdate.TheVariants.{At}
 use Rattle.ics_event.specs.declared.event.Event.{Event}
 use Rattle.ics_series.specs.declared.window.Window.{Window}
 use Rattle.ics_series.specs.Meeting.{entry_from}

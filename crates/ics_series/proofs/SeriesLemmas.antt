@@ -11,7 +11,7 @@ use Rattle.ics_fields.specs.Locals.{number, midnight, whole_days}
 use Rattle.ics_rule.specs.Recurrence.{Recurrence}
 use Rattle.ics_event.specs.Event.{IsEvent, IsTime}
 use Rattle.ics_event.specs.declared.event.Event.{Event}
-use Rattle.ics_event.specs.declared.time.Rdate.{Rdate}
+use Rattle.ics_event.specs.Event.{Rdate}
 use Rattle.ics_series.specs.declared.listed_starts.ListedStarts.{ListedStarts}
 use Rattle.ics_series.specs.declared.rule_starts.RuleStarts.{RuleStarts}
 use Rattle.ics_series.specs.declared.start.StartSource.{StartSource}

@@ -3,8 +3,8 @@ use Rattle.std.proofs.Common.{◌≡◌, ℕ, suc, ◌+◌, ◌<◌, ℤ, ◌+�
 use Rattle.std.proofs.Common.{None, option_map, inl, inr, ⊎_elim, sym, ◌∙◌, ap, subst, arith, zero, ◌⊎◌, refl, drop-cons, slice_get, not, if◌then◌else◌}
 use Rattle.std.proofs.lemmas.Int.{int_min_is, ints}
 use Rattle.ics_event.specs.declared.event.Event.{Event}
-use Rattle.ics_event.specs.declared.time.Rdate.{Rdate}
-use Rattle.ics_event.specs.declared.time.Rdate.TheVariants.{At, Span}
+use Rattle.ics_event.specs.Event.{Rdate}
+use Rattle.ics_values.specs.declared.time.Rdate.TheVariants.{At, Span}
 use Rattle.ics_series.specs.declared.start.StartSource.{StartSource}
 use Rattle.ics_series.specs.declared.start.StartSource.TheVariants.{Kept, Listed}
 use Rattle.ics_series.specs.declared.start.Start.{Start}
@@ -22,7 +22,7 @@ use Rattle.ics_series.specs.FileZones.{clocks_in, is_past}
 use Rattle.ics_series.proofs.InstantLemmas.{instant-near, meets-late}
 use Rattle.ics_series.proofs.NearDayLemmas.{less-le, meets-is_met}
 use Rattle.ics_fields.specs.Locals.{whole_days}
-use Rattle.ics_event.specs.declared.time.Time.{Time}
+use Rattle.ics_event.specs.Event.{Time}
 use Rattle.ics_series.proofs.Cases.{some-same}
 
 -- a start of the list is by one of the RDATEs

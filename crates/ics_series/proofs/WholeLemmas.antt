@@ -11,7 +11,7 @@ use Rattle.ics_zone.specs.declared.display.Display.{Display}
 use Rattle.ics_zone.specs.declared.zone.ZoneKind.{ZoneKind}
 use Rattle.ics_event.specs.Event.{said_by, stamp_seconds, FileSaid, IsTime}
 use Rattle.ics_event.specs.declared.events.FileEvents.{FileEvents}
-use Rattle.ics_event.specs.declared.time.Time.{Time}
+use Rattle.ics_event.specs.Event.{Time}
 use Rattle.ics_series.specs.declared.version.Version.{Version}
 use Rattle.ics_series.specs.Chosen.{IsChosen, IsMaster}
 use Rattle.ics_series.specs.Clocks.{clock_by, display_clock, instant, Clock, Clocks}

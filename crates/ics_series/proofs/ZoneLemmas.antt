@@ -7,9 +7,9 @@ use Rattle.ics_fields.specs.RuleParts.{RuleParts}
 use Rattle.ics_values.specs.declared.stamp.Stamp.{Stamp}
 use Rattle.ics_event.specs.Event.{EndsBelow, HasZonesBelow, IsEvent, IsEventOf, IsLength}
 use Rattle.ics_event.specs.declared.event.Event.{Event}
-use Rattle.ics_event.specs.declared.time.Length.{Length}
-use Rattle.ics_event.specs.declared.time.Length.TheVariants.{Open, Until, Lasting}
-use Rattle.ics_event.specs.declared.time.Rdate.{Rdate}
+use Rattle.ics_event.specs.Event.{Length}
+use Rattle.ics_values.specs.declared.time.Length.TheVariants.{Open, Until, Lasting}
+use Rattle.ics_event.specs.Event.{Rdate}
 use Rattle.ics_zone.specs.ZoneSaid.{zone_said}
 use Rattle.ics_zone.specs.declared.zone.ZoneKind.{ZoneKind}
 use Rattle.ics_series.specs.declared.start.StartSource.{StartSource}

@@ -3,7 +3,7 @@
 use Rattle.std.specs.Prelude.{ℕ, ℤ, pos, ◌+ℤ◌, List, map, slice_index_or, Option, Some, None}
 use Rattle.ics_values.specs.declared.stamp.Stamp.{Stamp}
 use Rattle.ics_values.specs.declared.stamp.Stamp.TheVariants.{Date, Floating, Utc, Zoned}
-use Rattle.ics_event.specs.declared.time.Time.{Time}
+use Rattle.ics_event.specs.Event.{Time}
 use Rattle.ics_zone.specs.ZoneSaid.{ZoneSaid, display_said, said_moment, said_offset}
 use Rattle.ics_zone.specs.declared.display.Display.{Display}
 use Rattle.ics_event.specs.Event.{stamp_seconds}

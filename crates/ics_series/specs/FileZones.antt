@@ -2,9 +2,9 @@
 use Rattle.std.specs.Prelude.{◌≤ℤ◌, ◌+ℤ◌, int_le, Bool, List, length, map}
 use Rattle.ics_event.specs.Event.{EndsBelow, HasZonesBelow, IsEvent, IsTime, TimeBelow, stamp_seconds}
 use Rattle.ics_event.specs.declared.event.Event.{Event}
-use Rattle.ics_event.specs.declared.time.Time.{Time}
-use Rattle.ics_event.specs.declared.time.Length.{Length}
-use Rattle.ics_event.specs.declared.time.Length.TheVariants.{Until}
+use Rattle.ics_event.specs.Event.{Time}
+use Rattle.ics_event.specs.Event.{Length}
+use Rattle.ics_values.specs.declared.time.Length.TheVariants.{Until}
 use Rattle.ics_zone.specs.ZoneSaid.{zone_said}
 use Rattle.ics_zone.specs.declared.zone.ZoneKind.{ZoneKind}
 use Rattle.ics_series.specs.declared.window.Window.{Window}

@@ -4,11 +4,11 @@ use Rattle.std.specs.Int.{int_max}
 use Rattle.ics_values.specs.declared.duration.Duration.{Duration}
 use Rattle.ics_values.specs.declared.stamp.Stamp.{Stamp}
 use Rattle.ics_values.specs.declared.stamp.Stamp.TheVariants.{Date}
-use Rattle.ics_event.specs.declared.time.Rdate.{Rdate}
-use Rattle.ics_event.specs.declared.time.Rdate.TheVariants.{At, Span}
-use Rattle.ics_event.specs.declared.time.Time.{Time}
-use Rattle.ics_event.specs.declared.time.Length.{Length}
-use Rattle.ics_event.specs.declared.time.Length.TheVariants.{Open, Until, Lasting}
+use Rattle.ics_event.specs.Event.{Rdate}
+use Rattle.ics_values.specs.declared.time.Rdate.TheVariants.{At, Span}
+use Rattle.ics_event.specs.Event.{Time}
+use Rattle.ics_event.specs.Event.{Length}
+use Rattle.ics_values.specs.declared.time.Length.TheVariants.{Open, Until, Lasting}
 use Rattle.ics_event.specs.declared.event.Event.{Event}
 use Rattle.ics_series.specs.Clocks.{Clock, Clocks, clock_of, instant, local_at, day_of}
 use Rattle.ics_fields.specs.Locals.{midnight, whole_days}

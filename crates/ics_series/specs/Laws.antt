@@ -9,9 +9,9 @@ use Rattle.ics_fields.specs.declared.until.Until.TheVariants as until
 use Rattle.ics_rule.specs.declared.kind.Kind.TheVariants.{DateTime}
 use Rattle.ics_event.specs.Event.{FileSaid, IsRdate, IsTime}
 use Rattle.ics_event.specs.declared.event.Event.{Event}
-use Rattle.ics_event.specs.declared.time.Rdate.{Rdate}
-use Rattle.ics_event.specs.declared.time.Rdate.TheVariants.{At}
-use Rattle.ics_event.specs.declared.time.Time.{Time}
+use Rattle.ics_event.specs.Event.{Rdate}
+use Rattle.ics_values.specs.declared.time.Rdate.TheVariants.{At}
+use Rattle.ics_event.specs.Event.{Time}
 use Rattle.ics_series.specs.declared.window.Window.{Window}
 use Rattle.ics_series.specs.declared.zones.FileZones.{FileZones}
 use Rattle.ics_series.specs.Chosen.{subject_of, IsChosen, IsMaster}

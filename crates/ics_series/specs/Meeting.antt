@@ -2,7 +2,7 @@
 use Rattle.std.specs.Prelude.{ℤ, Bool, not, ◌&&◌, ◌||◌, int_lt, int_le}
 use Rattle.std.specs.Ordering.{int_eq}
 use Rattle.ics_event.specs.declared.event.Event.{Event}
-use Rattle.ics_event.specs.declared.time.Rdate.{Rdate}
+use Rattle.ics_event.specs.Event.{Rdate}
 use Rattle.ics_series.specs.declared.window.Window.{Window}
 use Rattle.ics_series.specs.Clocks.{Clocks, instant}
 use Rattle.ics_series.specs.Entry.{Entry}

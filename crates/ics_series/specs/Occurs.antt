@@ -2,8 +2,8 @@
 use Rattle.std.specs.Prelude.{◌≡◌, ◌⊎◌, ℤ, false, List}
 use Rattle.ics_event.specs.Event.{FileSaid}
 use Rattle.ics_event.specs.declared.event.Event.{Event}
-use Rattle.ics_event.specs.declared.time.Rdate.{Rdate}
-use Rattle.ics_event.specs.declared.time.Rdate.TheVariants.{At}
+use Rattle.ics_event.specs.Event.{Rdate}
+use Rattle.ics_values.specs.declared.time.Rdate.TheVariants.{At}
 use Rattle.ics_series.specs.Chosen.{IsMaster, IsOverride, IsOverridden}
 use Rattle.ics_series.specs.Clocks.{Clock, Clocks, instant}
 use Rattle.ics_series.specs.Entry.{Entry}

@@ -4,7 +4,7 @@ use Rattle.std.specs.Coded.{×_prop, Unit-prop, Π_prop, codes}
 use Rattle.std.proofs.Props.{props}
 use Rattle.ics_rule.specs.Recurrence.{Recurrence}
 use Rattle.ics_event.specs.declared.event.Event.{Event}
-use Rattle.ics_event.specs.declared.time.Rdate.{Rdate}
+use Rattle.ics_event.specs.Event.{Rdate}
 use Rattle.ics_fields.specs.declared.local.Local.{Local}
 use Rattle.ics_series.specs.declared.rule_starts.RuleStarts.{RuleStarts}
 use Rattle.ics_series.specs.declared.start.StartSource.{StartSource}

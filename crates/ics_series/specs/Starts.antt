@@ -11,9 +11,9 @@ use Rattle.ics_rule.specs.Kept.{is_kept, until_moment}
 use Rattle.ics_rule.specs.Recurrence.{Recurrence}
 use Rattle.ics_rule.specs.declared.kind.Kind.{Kind}
 use Rattle.ics_rule.specs.declared.kind.Kind.TheVariants as kind
-use Rattle.ics_event.specs.declared.time.Rdate.{Rdate}
-use Rattle.ics_event.specs.declared.time.Rdate.TheVariants.{At, Span}
-use Rattle.ics_event.specs.declared.time.Time.{Time}
+use Rattle.ics_event.specs.Event.{Rdate}
+use Rattle.ics_values.specs.declared.time.Rdate.TheVariants.{At, Span}
+use Rattle.ics_event.specs.Event.{Time}
 use Rattle.ics_event.specs.declared.event.Event.{Event}
 use Rattle.ics_series.specs.Clocks.{Clocks, day_of, instant}
 use Rattle.ics_series.specs.declared.start.StartSource.{StartSource}

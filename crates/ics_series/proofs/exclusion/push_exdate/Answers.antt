@@ -1,5 +1,5 @@
 use Rattle.std.proofs.Common.{◌||◌, sym, ◌∙◌, ap, int_eq}
-use Rattle.ics_event.specs.declared.time.Time.{Time}
+use Rattle.ics_event.specs.Event.{Time}
 use Rattle.ics_values.specs.declared.stamp.Stamp.{Stamp}
 use Rattle.ics_series.specs.Clocks.{clock_of, instant}
 use Rattle.ics_series.specs.Exclusions.{excludes_by, takes_out}

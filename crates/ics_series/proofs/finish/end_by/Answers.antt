@@ -1,6 +1,6 @@
 use Rattle.std.proofs.Common.{◌≡◌, ◌+ℤ◌, ◌-ℤ◌, ◌≤ℤ◌, ◌∙◌, ap, sym, subst, w64, to_z, of_z, arith}
 use Rattle.std.proofs.lemmas.Int.{ints}
-use Rattle.ics_event.specs.declared.time.Length.TheVariants.{Until}
+use Rattle.ics_values.specs.declared.time.Length.TheVariants.{Until}
 use Rattle.ics_event.specs.Event.{IsLength}
 use Rattle.ics_series.specs.Clocks.{instant}
 use Rattle.ics_series.specs.Finish.{end_by}

@@ -3,7 +3,7 @@ use Rattle.std.proofs.lemmas.Int.{ints}
 use Rattle.std.proofs.Common.{◌≡◌, Some, List, length, refl, sym, ◌∙◌, ap, subst, arith, slice_get}
 use Rattle.std.proofs.lemmas.Option.{slice_get_read}
 use Rattle.ics_event.specs.declared.event.Event.{Event}
-use Rattle.ics_event.specs.declared.time.Rdate.{Rdate}
+use Rattle.ics_event.specs.Event.{Rdate}
 use Rattle.ics_series.specs.declared.start.StartSource.TheVariants.{Listed}
 use Rattle.ics_series.specs.Starts.{given_by, time_of}
 use Rattle.ics_series.specs.FileZones.{IsTimeOf}

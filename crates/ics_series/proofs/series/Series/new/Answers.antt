@@ -10,7 +10,7 @@ use Rattle.ics_fields.specs.Locals.{number, local_seconds, whole_days}
 use Rattle.ics_rule.specs.Recurrence.{Recurrence}
 use Rattle.ics_event.specs.Event.{IsEvent}
 use Rattle.ics_event.specs.declared.event.Event.{Event}
-use Rattle.ics_event.specs.declared.time.Rdate.{Rdate}
+use Rattle.ics_event.specs.Event.{Rdate}
 use Rattle.ics_zone.proofs.Cases.{true_int_lt}
 use Rattle.ics_series.specs.declared.rule_starts.RuleStarts.{RuleStarts}
 use Rattle.ics_series.specs.declared.start.StartSource.{StartSource}
