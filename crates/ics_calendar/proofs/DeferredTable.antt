@@ -66,7 +66,8 @@ module _ (whole : List Placed) (line : Line) (parts : Parts) (ls : List Placed) 
       ⊎ ((ends_event l ≡ false) × (left n ≡ zone_check (cond (is_in_zone l) (Some used) None)))
 
   -- a stamp and its zone
-  zone-there : (z : Bool) → zone_check (cond z (Some (zone_named k (cond z (zone_name parts.params) None))) None) ≡ zone_check (cond (z || false) (Some used) None)
+  zone-there : (z : Bool) →
+      zone_check (cond z (Some (zone_named k (cond z (zone_name parts.params) None))) None) ≡ zone_check (cond (z || false) (Some used) None)
   zone-there true = refl
   zone-there false = refl
 

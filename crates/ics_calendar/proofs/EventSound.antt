@@ -24,7 +24,7 @@ use Rattle.ics_values.specs.declared.time.Time.{Time}
 use Rattle.ics_fields.specs.Locals.{local_seconds}
 use Rattle.ics_fields.specs.declared.local.Local.{Local}
 use Rattle.ics_zone.specs.ZoneSaid.{ZoneSaid}
-use Rattle.ics_components.specs.declared.gathered.CalendarEvent.{CalendarEvent}
+use Rattle.ics_components.specs.declared.parsed_file.CalendarEvent.{CalendarEvent}
 use Rattle.ics_components.specs.declared.event_fields.EventFields.{EventFields}
 use Rattle.ics_components.specs.declared.deferred_check.DeferredCheck.{DeferredCheck}
 use Rattle.ics_components.specs.declared.deferred_check.DeferredCheck.TheVariants as check
@@ -37,7 +37,7 @@ use Rattle.ics_components.specs.Values.{is_lasting, is_filled, is_out, is_bad_en
 use Rattle.ics_event.specs.Event.{is_zoned, IsTime, IsWithin, IsEnd, IsLasting, IsLength, IsRdate, IsEvent, EndsBelow, RdateBelow}
 use Rattle.ics_event.specs.Event.{TimeBelow, EndsWithin, IsEventOf, AreEventsOf, compared, moment_in}
 use Rattle.ics_calendar.specs.DeferredChecks.{KnownZones, judged, moment_of}
-use Rattle.ics_calendar.specs.Drafts.{IsTable}
+use Rattle.ics_calendar.specs.UnresolvedFiles.{IsTable}
 use Rattle.ics_calendar.specs.Events.{zone_at, start_in, given_length}
 use Rattle.ics_calendar.specs.Settled.{event_in, IsReady}
 use Rattle.ics_calendar.proofs.FilesGiven.{below-here}

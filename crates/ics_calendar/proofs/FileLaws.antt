@@ -20,10 +20,10 @@ use Rattle.ics_values.specs.Texts.{begins, is_minus}
 use Rattle.ics_values.specs.declared.stamp.StampFault.TheVariants as stamp
 use Rattle.ics_components.specs.Faults.{stands, kinds}
 use Rattle.ics_calendar.specs.LaterFaults.{stands_later, is_in_unknown_zone, tzid_on}
-use Rattle.ics_calendar.specs.Files.{DraftSaid, FaultsLookBack, IsFile, file_of, wanted_names}
+use Rattle.ics_calendar.specs.Files.{UnresolvedSaid, FaultsLookBack, IsFile, file_of, wanted_names}
 use Rattle.ics_calendar.specs.Settled.{known_in, settled_by}
-use Rattle.ics_components.specs.GatheredSeen.{GatheredSeen}
-use Rattle.ics_components.specs.Pass.{gathered_of}
+use Rattle.ics_components.specs.ParsedFileSeen.{ParsedFileSeen}
+use Rattle.ics_components.specs.Pass.{parsed_of}
 use Rattle.ics_text.proofs.Rising.{unfolded-rises}
 use Rattle.ics_components.specs.FirstFault.{Round, IsFirst, end_fault, last_of}
 use Rattle.ics_components.specs.declared.fault.Fault.{Fault}
@@ -38,7 +38,7 @@ use Rattle.ics_calendar.specs.Wanted.{each_once, unknown_names, zones_with}
 use Rattle.ics_calendar.specs.Zones.{zones_on}
 use Rattle.ics_components.proofs.DateValueLemmas.{any-first}
 use Rattle.ics_calendar.proofs.FilesGiven.{with-no-files, with-agreed}
-use Rattle.ics_calendar.proofs.Whole.{is-file, draft_by, gathered}
+use Rattle.ics_calendar.proofs.Whole.{is-file, unresolved_at, parsed}
 
 -- A fault of the first round is found without the lines behind it: they stand behind those before them, in their places.
 placed-split : (path : List Open) (xs ys : List Line) → (rest : List Placed) × (placed_from path (xs ++ ys) ≡ placed_from path xs ++ rest)
@@ -126,9 +126,10 @@ no-bad-file file line e = never-bad file line (subst (IsFile no_files file) e (i
 pub only-wanted : (files others : GivenFiles) (file : List ℕ) → All (λ name. files name ≡ others name) (wanted_names file) →
     file_of files file ≡ file_of others file
 only-wanted files others file =
-    subst (λ (d : DraftSaid). All (λ name. files name ≡ others name) d.wants → d.says files ≡ d.says others) (sym (gathered file (unfolded-rises file)))
-    (by_draft (gathered_of file))
+    subst (λ (d : UnresolvedSaid). All (λ name. files name ≡ others name) d.wants → d.says files ≡ d.says others) (sym (parsed file (unfolded-rises file)))
+    (by_unresolved (parsed_of file))
   where
-    by_draft : (g : Result GatheredSeen Fault) → All (λ name. files name ≡ others name) (draft_by g).wants → (draft_by g).says files ≡ (draft_by g).says others
-    by_draft (Err fault) h = refl
-    by_draft (Ok g) h = ap (λ known. settled_by known g.events g.checks) (with-agreed (known_in g.zones) files others (draft_by (Ok g)).wants h)
+    by_unresolved : (g : Result ParsedFileSeen Fault) → All (λ name. files name ≡ others name) (unresolved_at g).wants →
+        (unresolved_at g).says files ≡ (unresolved_at g).says others
+    by_unresolved (Err fault) h = refl
+    by_unresolved (Ok g) h = ap (λ known. settled_by known g.events g.checks) (with-agreed (known_in g.zones) files others (unresolved_at (Ok g)).wants h)

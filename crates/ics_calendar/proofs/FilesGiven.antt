@@ -16,8 +16,8 @@ use Rattle.std.proofs.lemmas.List.Elements.{All-head, All-tail}
 use Rattle.std.proofs.lemmas.List.Quantifiers.{position-Some}
 use Rattle.ics_components.specs.declared.deferred_check.ZoneName.{ZoneName}
 use Rattle.ics_calendar.specs.DeferredChecks.{KnownZones, is_same, with_files}
-use Rattle.ics_components.specs.declared.gathered.EndedZone.{EndedZone}
-use Rattle.ics_calendar.specs.Drafts.{IsTable}
+use Rattle.ics_components.specs.declared.parsed_file.CalendarZone.{CalendarZone}
+use Rattle.ics_calendar.specs.UnresolvedFiles.{IsTable}
 use Rattle.ics_calendar.specs.Settled.{known_in}
 use Rattle.ics_calendar.specs.GivenFiles.{GivenFiles, no_files, given_names, given_zones}
 use Rattle.ics_calendar.specs.ZoneTables.{name_cmp}
@@ -78,7 +78,7 @@ if-some : {P : ℕ → Type 0} (o : Option ℕ) → ((i : ℕ) → o ≡ Some i 
 if-some None h = tt
 if-some (Some i) h = h i refl
 
-pub table-known : (zones : List EndedZone) → IsTable (known_in zones)
+pub table-known : (zones : List CalendarZone) → IsTable (known_in zones)
 table-known zones =
     let names : List ZoneName = map (λ z. z.name) zones in
     record {

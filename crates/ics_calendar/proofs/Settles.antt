@@ -6,17 +6,17 @@ use Rattle.std.proofs.lemmas.Bool.{and_parts}
 use Rattle.std.proofs.lemmas.Simd.{map-map}
 use Rattle.ics_text.specs.Unfolded.{Line, Rises}
 use Rattle.ics_text.specs.ContentLines.{Parts, content_of}
-use Rattle.ics_components.specs.declared.gathered.LineCheck.{LineCheck}
+use Rattle.ics_components.specs.declared.parsed_file.LineCheck.{LineCheck}
 use Rattle.ics_components.specs.declared.deferred_check.DeferredCheck.{DeferredCheck}
 use Rattle.ics_components.specs.declared.deferred_check.ZoneName.{ZoneName}
-use Rattle.ics_calendar.specs.Settled.{event_in, first_judged, known_in, drafted, all_unknown, settled_by}
+use Rattle.ics_calendar.specs.Settled.{event_in, first_judged, known_in, unresolved_by, all_unknown, settled_by}
 use Rattle.ics_components.specs.Faults.{stands}
 use Rattle.ics_calendar.specs.LaterFaults.{stands_later, is_in_unknown_zone, tzid_on}
 use Rattle.ics_calendar.specs.Files.{event_by, said_of, decide, later_fault}
 use Rattle.ics_components.specs.PlacedLines.{begins_event, Placed, Open, path_behind, placed_from, beside, calendar_of, lines_in}
 use Rattle.ics_components.specs.FirstFault.{found, least_on, first_from, first_fault, fault_at_end}
-use Rattle.ics_components.specs.Gathered.{nothing_gathered, checks_of}
-use Rattle.ics_components.specs.GatheredSeen.{GatheredSeen}
+use Rattle.ics_components.specs.ParsedFiles.{nothing_parsed, checks_of}
+use Rattle.ics_components.specs.ParsedFileSeen.{ParsedFileSeen}
 use Rattle.ics_calendar.specs.DeferredChecks.{KnownZones, judged, unknown_in}
 use Rattle.ics_calendar.specs.GivenFiles.{GivenFiles}
 use Rattle.ics_calendar.specs.Wanted.{each_once, unknown_names, zones_with}
@@ -26,7 +26,7 @@ use Rattle.ics_components.proofs.EndOrder.{events-are, zones-are, names-begun, c
 use Rattle.ics_components.proofs.Frames.{with}
 use Rattle.ics_calendar.proofs.DeferredTable.{same-on}
 use Rattle.ics_components.proofs.Order.{found-none, begun, IsPlaced, ordered, nested}
-use Rattle.ics_components.proofs.PassLemmas.{checks_from, gathered_from}
+use Rattle.ics_components.proofs.PassLemmas.{checks_from, parsed_from}
 
 -- THE DEFERRED CHECKS of lines without a fault of the first round, judged in order, give the first fault of the second round, and they ask for the time
 -- zones that the lines want.
@@ -78,13 +78,13 @@ module _ (lines : List Line) (r : Rises 0 lines) (first : first_fault (placed_fr
   abbrev whole : List Placed
   whole = placed_from [] lines
 
-  abbrev gathered : GatheredSeen
-  gathered = gathered_from whole nothing_gathered [] whole
+  abbrev parsed : ParsedFileSeen
+  parsed = parsed_from whole nothing_parsed [] whole
 
-  -- WHAT THE DRAFT SAYS: what is wanted, and what is settled with zone files.
-  pub draft-is : drafted (known_in gathered.zones) gathered.events gathered.checks
+  -- WHAT THE UNRESOLVED FILE SAYS: what is wanted, and what is settled with zone files.
+  pub unresolved-is : unresolved_by (known_in parsed.zones) parsed.events parsed.checks
       ≡ record { wants = each_once (unknown_names whole); says = λ files. decide None (later_fault files whole) (said_of files whole) }
-  draft-is =
+  unresolved-is =
       let placed : IsPlaced whole [] [] 0 lines = record { parts = refl; falls = tt; inner = omega arith; rises = r } in
       rw (
         ordered (zones whole) (zones-are whole) lines whole [] [] 0 placed (λ e. refl) first,

@@ -2,14 +2,14 @@
 use Rattle.std.proofs.Common.{◌≡◌, ℕ, List, [], ◌∷◌, map, None}
 use Rattle.std.specs.List.{All, Contains}
 use Rattle.std.proofs.lemmas.List.Elements.{All-nil, All-cons, All-contains}
-use Rattle.ics_components.specs.declared.gathered.CalendarEvent.{CalendarEvent}
-use Rattle.ics_components.specs.declared.gathered.LineCheck.{LineCheck}
+use Rattle.ics_components.specs.declared.parsed_file.CalendarEvent.{CalendarEvent}
+use Rattle.ics_components.specs.declared.parsed_file.LineCheck.{LineCheck}
 use Rattle.ics_calendar.specs.Settled.{event_in, known_in, first_judged, IsReady}
 use Rattle.ics_event.specs.Event.{AreEventsOf}
-use Rattle.ics_components.specs.Gathered.{IsSoundGathered}
-use Rattle.ics_components.specs.GatheredSeen.{GatheredSeen}
+use Rattle.ics_components.specs.ParsedFiles.{IsSoundParsed}
+use Rattle.ics_components.specs.ParsedFileSeen.{ParsedFileSeen}
 use Rattle.ics_calendar.specs.DeferredChecks.{KnownZones, judged, with_files}
-use Rattle.ics_calendar.specs.Drafts.{IsSoundDraft}
+use Rattle.ics_calendar.specs.UnresolvedFiles.{IsSoundUnresolved}
 use Rattle.ics_calendar.specs.GivenFiles.{GivenFiles}
 use Rattle.ics_calendar.proofs.EventSound.{events-of}
 use Rattle.ics_calendar.proofs.FilesGiven.{table-known, table-with}
@@ -23,8 +23,8 @@ none-judged known (w ∷ ws) e =
     let n = found-none w.line (judged known w.check) (first_judged known ws) e in
     All-cons (λ l. judged known l ≡ None) w.check (map (λ w. w.check) ws) n.0 (none-judged known ws n.1)
 
--- A SOUND DRAFT, in which none does: each event is ready.
-module _ (known : KnownZones) (ended : List CalendarEvent) (ws : List LineCheck) (s : IsSoundDraft known ended ws) (n : first_judged known ws ≡ None) where
+-- AN UNRESOLVED FILE in which none does: each event is ready.
+module _ (known : KnownZones) (ended : List CalendarEvent) (ws : List LineCheck) (s : IsSoundUnresolved known ended ws) (n : first_judged known ws ≡ None) where
   pub ready : All (IsReady known) ended
   ready i d l = record {
     whole = s.whole i d l;
@@ -35,15 +35,15 @@ module _ (known : KnownZones) (ended : List CalendarEvent) (ws : List LineCheck)
   pub events-here : AreEventsOf known.zones (map (event_in known.index) ended)
   events-here = events-of known s.table ended ready
 
--- A DRAFT is sound where what is gathered is, and stays so with zone files.
-pub draft-sound : (g : GatheredSeen) → IsSoundGathered g → IsSoundDraft (known_in g.zones) g.events g.checks
-draft-sound g s = record {
+-- AN UNRESOLVED FILE is sound where what is gathered is, and stays so with zone files.
+pub unresolved-sound : (g : ParsedFileSeen) → IsSoundParsed g → IsSoundUnresolved (known_in g.zones) g.events g.checks
+unresolved-sound g s = record {
   table = table-known g.zones;
   whole = s.whole;
   awaited = s.awaited;
   sound = s.sound;
 }
 
-pub draft-with : {known : KnownZones} {ended : List CalendarEvent} {ws : List LineCheck} (files : GivenFiles) (names : List (List ℕ)) →
-    IsSoundDraft known ended ws → IsSoundDraft (with_files known files names) ended ws
-draft-with {known} files names s = record { table = table-with known files names s.table; whole = s.whole; awaited = s.awaited; sound = s.sound }
+pub unresolved-with : {known : KnownZones} {ended : List CalendarEvent} {ws : List LineCheck} (files : GivenFiles) (names : List (List ℕ)) →
+    IsSoundUnresolved known ended ws → IsSoundUnresolved (with_files known files names) ended ws
+unresolved-with {known} files names s = record { table = table-with known files names s.table; whole = s.whole; awaited = s.awaited; sound = s.sound }

@@ -3,47 +3,47 @@ use Rattle.std.proofs.Common.{⊎_elim, ◌≡◌, ℕ, Bool, true, false, List,
 use Rattle.ics_text.specs.Unfolded.{Rises, unfolded, begins_with_fold}
 use Rattle.ics_components.specs.declared.fault.FileFault.{FileFault}
 use Rattle.ics_components.specs.declared.fault.FileFault.TheVariants.{Memory, At}
-use Rattle.ics_calendar.specs.Drafts.{IsFaultOf}
+use Rattle.ics_calendar.specs.UnresolvedFiles.{IsFaultOf}
 use Rattle.ics_event.specs.Event.{FileSaid}
 use Rattle.ics_components.specs.Faults.{stands}
 use Rattle.ics_calendar.specs.LaterFaults.{stands_later}
 use Rattle.ics_calendar.specs.GivenFiles.{GivenFiles}
 use Rattle.ics_components.specs.declared.fault.Fault.{Fault}
 use Rattle.ics_components.specs.FirstFault.{Round, first_fault, fault_at_end, bad_fold}
-use Rattle.ics_calendar.specs.Files.{later_fault, DraftSaid, IsFile, file_of, draft_of, decide, said_of, wanted_on, SaysFile}
-use Rattle.ics_calendar.specs.Settled.{drafted, known_in}
-use Rattle.ics_components.specs.Gathered.{nothing_gathered}
-use Rattle.ics_components.specs.GatheredSeen.{GatheredSeen}
-use Rattle.ics_components.specs.Pass.{pass, bottom, gathered_of, Says}
+use Rattle.ics_calendar.specs.Files.{later_fault, UnresolvedSaid, IsFile, file_of, unresolved_of, decide, said_of, wanted_on, SaysFile}
+use Rattle.ics_calendar.specs.Settled.{unresolved_by, known_in}
+use Rattle.ics_components.specs.ParsedFiles.{nothing_parsed}
+use Rattle.ics_components.specs.ParsedFileSeen.{ParsedFileSeen}
+use Rattle.ics_components.specs.Pass.{pass, bottom, parsed_of, Says}
 use Rattle.ics_components.specs.PlacedLines.{placed}
 use Rattle.ics_calendar.specs.Wanted.{zones_with}
 use Rattle.ics_components.proofs.Firsts.{finds, finds-none, found-at-end, found-on-line}
 use Rattle.ics_components.proofs.PassLemmas.{pass-whole}
-use Rattle.ics_calendar.proofs.Settles.{draft-is}
+use Rattle.ics_calendar.proofs.Settles.{unresolved-is}
 
--- THE DRAFT OF A FILE, by what its first round gathers or finds.
-abbrev pub draft_by : Result GatheredSeen Fault → DraftSaid
-draft_by (Ok g) = drafted (known_in g.zones) g.events g.checks
-draft_by (Err fault) = record { wants = []; says = λ files. Err fault }
+-- THE UNRESOLVED FILE, by what its first round gathers or finds.
+abbrev pub unresolved_at : Result ParsedFileSeen Fault → UnresolvedSaid
+unresolved_at (Ok g) = unresolved_by (known_in g.zones) g.events g.checks
+unresolved_at (Err fault) = record { wants = []; says = λ files. Err fault }
 
-pub gathered : (file : List ℕ) → Rises 0 (unfolded file) → draft_of file ≡ draft_by (gathered_of file)
-gathered file r = by_first (begins_with_fold file) (first_fault (placed file)) refl
+pub parsed : (file : List ℕ) → Rises 0 (unfolded file) → unresolved_of file ≡ unresolved_at (parsed_of file)
+parsed file r = by_first (begins_with_fold file) (first_fault (placed file)) refl
   where
     by_first : (t : Bool) (o : Option Fault) → first_fault (placed file) ≡ o →
         record {
           wants = cond t [] (wanted_on o (placed file));
           says = λ files. cond t (Err bad_fold) (decide o (later_fault files (placed file)) (said_of files (placed file)));
-        } ≡ draft_by (cond t (Err bad_fold) (pass (bottom ∷ []) None nothing_gathered (unfolded file)))
+        } ≡ unresolved_at (cond t (Err bad_fold) (pass (bottom ∷ []) None nothing_parsed (unfolded file)))
     by_first true o e = refl
     by_first false (Some fault) e = rw (pass-whole (unfolded file) r, e)
-    by_first false None e = rw (pass-whole (unfolded file) r, e) (sym (draft-is (unfolded file) r e))
+    by_first false None e = rw (pass-whole (unfolded file) r, e) (sym (unresolved-is (unfolded file) r e))
 
-pub fault-gathered : (file : List ℕ) (fault : FileFault) → Rises 0 (unfolded file) → Says {X = GatheredSeen} (λ g. g) (Err fault) (gathered_of file) →
+pub fault-parsed : (file : List ℕ) (fault : FileFault) → Rises 0 (unfolded file) → Says {X = ParsedFileSeen} (λ g. g) (Err fault) (parsed_of file) →
     IsFaultOf file fault
-fault-gathered file Memory r e = tt
-fault-gathered file (At line kind) r e =
-    let d : draft_of file ≡ draft_by (Err (record { line = line; kind = kind })) = gathered file r ∙ ap draft_by e in
-    (λ files. ap (λ (d : DraftSaid). d.says files) d, ap (λ (d : DraftSaid). d.wants) d)
+fault-parsed file Memory r e = tt
+fault-parsed file (At line kind) r e =
+    let d : unresolved_of file ≡ unresolved_at (Err (record { line = line; kind = kind })) = parsed file r ∙ ap unresolved_at e in
+    (λ files. ap (λ (d : UnresolvedSaid). d.says files) d, ap (λ (d : UnresolvedSaid). d.wants) d)
 
 -- a fault whatever zone files are given is the answer with each
 pub fault-says : (file : List ℕ) (fault : FileFault) (files : GivenFiles) → IsFaultOf file fault → SaysFile (Err fault) (file_of files file)

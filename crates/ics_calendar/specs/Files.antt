@@ -68,12 +68,12 @@ abbrev pub wanted_names : List ℕ → List (List ℕ)
 wanted_names file = if begins_with_fold file then [] else wanted_on (first_fault (placed file)) (placed file)
 
 -- A file in which the first round finds nothing: what it wants, and what it is with zone files.
-pub record DraftSaid : Type 0 where
+pub record UnresolvedSaid : Type 0 where
   pub wants : List (List ℕ)
   pub says : GivenFiles → Result FileSaid Fault
 
-abbrev pub draft_of : List ℕ → DraftSaid
-draft_of file = record { wants = wanted_names file; says = λ files. file_of files file }
+abbrev pub unresolved_of : List ℕ → UnresolvedSaid
+unresolved_of file = record { wants = wanted_names file; says = λ files. file_of files file }
 
 -- A fault of the first round on a line looks back only: a longer file that begins with the same lines has it as its first.
 abbrev pub FaultsLookBack : Type 0

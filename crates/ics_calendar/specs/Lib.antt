@@ -20,4 +20,4 @@ pub mod Events
 pub mod Files
 pub mod Settled
 pub mod ZoneTables
-pub mod Drafts
+pub mod UnresolvedFiles

@@ -1,7 +1,7 @@
 //! What the deferred checks find, once the time zones of the file are known (RFC 5545, sections 3.2.19 and 3.8.2.2).
 ghost use Rattle.std.specs.Prelude.{◌≡◌};
 ghost use Rattle.std.specs.List.{All};
-ghost use Rattle.ics_components.specs.Gathered.{IsSoundCheck};
+ghost use Rattle.ics_components.specs.ParsedFiles.{IsSoundCheck};
 ghost use Rattle.ics_calendar.specs.DeferredChecks.{judged};
 ghost use Rattle.ics_calendar.specs.Settled.{first_judged};
 ghost use Rattle.ics_calendar.specs.ZoneTables.{known_by};

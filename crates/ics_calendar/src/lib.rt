@@ -1,17 +1,16 @@
 //! The time zones and the events of an iCalendar file, or its first fault.
 #![tactic(auto)]
 
-mod draft;
 mod event;
 mod judged;
 mod laws;
 mod read;
 mod unknown_zones;
+mod unresolved_file;
 mod zone;
 mod zone_files;
 mod zone_table;
 
-pub use draft::Draft;
 pub use ics_components::{FaultKind, FileFault};
 pub use ics_event::{Event, FileEvents, Length, Rdate, Text, Time};
 pub use laws::{
@@ -20,4 +19,5 @@ pub use laws::{
 };
 pub use read::read_file;
 pub use unknown_zones::wanted;
+pub use unresolved_file::UnresolvedFile;
 pub use zone_files::ZoneFiles;

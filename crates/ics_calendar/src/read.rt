@@ -3,7 +3,7 @@ ghost use Rattle.std.specs.Prelude.{◌≤◌, length, map};
 ghost use Rattle.ics_calendar.specs.Files.{file_of, SaysFile};
 ghost use Rattle.ics_calendar.specs.GivenFiles.{files_by};
 
-use crate::draft::Draft;
+use crate::unresolved_file::UnresolvedFile;
 use crate::zone_files::ZoneFiles;
 use ics_components::FileFault;
 use ics_event::FileEvents;
@@ -22,7 +22,7 @@ pub fn read_file(
     requires { length bytes.now ≤ 16_777_216 }
     ensures { SaysFile result (file_of (files_by (map (λ pair. (pair.0.items, pair.1.items)) zones.now)) bytes.now) }
 {
-    let draft = Draft::read(alloc, bytes)?;
+    let unresolved = UnresolvedFile::read(alloc, bytes)?;
     let files = ZoneFiles::by(alloc, zones)?;
-    draft.settle(alloc, &files)
+    unresolved.settle(alloc, &files)
 }

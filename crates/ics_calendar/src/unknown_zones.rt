@@ -5,7 +5,7 @@ ghost use Rattle.ics_calendar.specs.Files.{wanted_names};
 ghost use Rattle.ics_calendar.specs.Wanted.{each_once};
 ghost use Rattle.ics_calendar.specs.ZoneTables.{known_by};
 
-use crate::draft::Draft;
+use crate::unresolved_file::UnresolvedFile;
 use crate::zone_table::ZoneTable;
 use ics_components::{DeferredCheck, FileFault, LineCheck, Tzid};
 use std::alloc::{AllocError, Global};
@@ -51,8 +51,8 @@ pub fn wanted(alloc: Global, bytes: &[u8]) -> Result<Vec<Vec<u8>>, AllocError>
     requires { length bytes.now ≤ 16_777_216 }
     ensures { IfOk result (λ names. map (λ name. name.items) names.items ≡ wanted_names bytes.now) }
 {
-    match Draft::read(alloc, bytes) {
-        Ok(draft) => draft.wanted(alloc),
+    match UnresolvedFile::read(alloc, bytes) {
+        Ok(unresolved) => unresolved.wanted(alloc),
         Err(FileFault::Memory) => Err(AllocError),
         Err(FileFault::At { .. }) => Ok(Vec::new(alloc)),
     }

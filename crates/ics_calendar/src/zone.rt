@@ -5,12 +5,12 @@ ghost use Rattle.ics_zone.specs.Observances.{observance_said, observances_said};
 ghost use Rattle.ics_zone.specs.ZoneSaid.{ZoneSaid, zone_said};
 ghost use Rattle.ics_components.specs.Sound.{IsSoundObservance, IsSoundZone};
 
-use ics_components::{EndedObservance, Listed, parts_of};
+use ics_components::{ClosedObservance, Listed, parts_of};
 use ics_zone::{Observance, Zone, ZoneFault};
 use std::alloc::{AllocError, Global};
 
 /// The observance, where no fault stands on its lines.
-fn observance_of(ended: EndedObservance) -> Observance
+fn observance_of(ended: ClosedObservance) -> Observance
     requires { IsSoundObservance ended }
     ensures { observance_said result ≡ ended }
 {
@@ -26,7 +26,7 @@ fn observance_of(ended: EndedObservance) -> Observance
 /// The observances, where no fault stands on their lines.
 fn observances_of(
     alloc: Global,
-    ended: Listed<EndedObservance>,
+    ended: Listed<ClosedObservance>,
 ) -> Result<Vec<Observance>, AllocError>
     requires { All IsSoundObservance ended }
     ensures { IfOk result (λ made. observances_said made.items ≡ ended) }
@@ -39,7 +39,7 @@ fn observances_of(
 }
 
 /// The time zone with these observances, where no fault stands on its lines.
-pub fn zone_of(alloc: Global, ended: Listed<EndedObservance>) -> Result<Zone, AllocError>
+pub fn zone_of(alloc: Global, ended: Listed<ClosedObservance>) -> Result<Zone, AllocError>
     requires { IsSoundZone ended }
     ensures { IfOk result (λ zone. zone_said zone ≡ ZoneSaid.ByObservances ended) }
 {

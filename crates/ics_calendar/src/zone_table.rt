@@ -4,13 +4,13 @@ ghost use Rattle.std.specs.List.{All};
 ghost use Rattle.ics_zone.specs.ZoneSaid.{zone_said};
 ghost use Rattle.ics_calendar.specs.DeferredChecks.{moment_of, with_files};
 ghost use Rattle.ics_calendar.specs.Settled.{known_in};
-ghost use Rattle.ics_components.specs.Gathered.{IsSoundInstant};
+ghost use Rattle.ics_components.specs.ParsedFiles.{IsSoundInstant};
 ghost use Rattle.ics_components.specs.Sound.{IsSoundZone};
 ghost use Rattle.ics_calendar.specs.ZoneTables.{known_by, given_by};
 
 use crate::zone::zone_of;
 use crate::zone_files::{ZoneFiles, put_first};
-use ics_components::{EndedZone, Instant, Tzid, ZoneName};
+use ics_components::{CalendarZone, Instant, Tzid, ZoneName};
 use ics_values::Moment;
 use ics_zone::{Place, Zone};
 use std::alloc::{AllocError, Global};
@@ -34,7 +34,7 @@ fn numbered(place: usize) -> Result<u32, AllocError>
 
 impl ZoneTable {
     /// These zones, where no fault stands on their lines. Of several with one name the first counts.
-    pub fn new(alloc: Global, zones: Vec<EndedZone>) -> Result<ZoneTable, AllocError>
+    pub fn new(alloc: Global, zones: Vec<CalendarZone>) -> Result<ZoneTable, AllocError>
         requires { All (λ z. IsSoundZone z.observances) zones.items }
         ensures { IfOk result (λ table. known_by table ≡ known_in zones.items) }
     {

@@ -20,9 +20,9 @@ use Rattle.ics_components.specs.declared.name.Name.TheVariants as name
 use Rattle.ics_text.specs.Unfolded.{Line}
 use Rattle.ics_text.specs.ContentLines.{Parts}
 use Rattle.ics_components.specs.declared.name.Name.{Name}
-use Rattle.ics_components.specs.declared.gathered.CalendarEvent.{CalendarEvent}
-use Rattle.ics_components.specs.declared.gathered.EndedZone.{EndedZone}
-use Rattle.ics_components.specs.Gathered.{zones_of_end, events_of_end}
+use Rattle.ics_components.specs.declared.parsed_file.CalendarEvent.{CalendarEvent}
+use Rattle.ics_components.specs.declared.parsed_file.CalendarZone.{CalendarZone}
+use Rattle.ics_components.specs.ParsedFiles.{zones_of_end, events_of_end}
 use Rattle.ics_components.specs.Lines.{end_in}
 use Rattle.ics_components.proofs.Frames.{with, builder-end}
 
@@ -30,7 +30,7 @@ use Rattle.ics_components.proofs.Frames.{with, builder-end}
 abbrev pub events : Sort CalendarEvent
 events = record { stands_at = is_event_context; begins = begins_event; by = λ path own. record { calendar = calendar_of path; fields = collected_of own } }
 
-abbrev pub zones : List Placed → Sort EndedZone
+abbrev pub zones : List Placed → Sort CalendarZone
 zones whole = record { stands_at = is_zone_context; begins = begins_zone; by = λ path own. zone_ended (calendar_of path) (zone_of (parts whole own) own) }
 
 -- An END without a fault matches.

@@ -60,25 +60,25 @@ finds-none round at_end before (l ∷ ls) e =
     ((none.0, rest.0), ap at_end (sym (append_assoc before (l ∷ []) ls)) ∙ rest.1)
 
 -- lines on which no fault stands are passed
-passed : (round : Round) (at_end : AtEnd) (before front rest : List Placed) → NoneStand round before front →
+line_result : (round : Round) (at_end : AtEnd) (before front rest : List Placed) → NoneStand round before front →
     first_from round at_end before (front ++ rest) ≡ first_from round at_end (before ++ front) rest
-passed round at_end before [] rest n = ap (λ b. first_from round at_end b rest) (sym (append-nil before))
-passed round at_end before (l ∷ ls) rest n =
+line_result round at_end before [] rest n = ap (λ b. first_from round at_end b rest) (sym (append-nil before))
+line_result round at_end before (l ∷ ls) rest n =
     ap (λ k. found l.number k (first_from round at_end (before ++ l ∷ []) (ls ++ rest))) n.0
-    ∙ passed round at_end (before ++ l ∷ []) ls rest n.1
+    ∙ line_result round at_end (before ++ l ∷ []) ls rest n.1
     ∙ ap (λ b. first_from round at_end b rest) (append_assoc before (l ∷ []) ls)
 
 -- where no fault stands on the lines, that at their end is the first
 pub found-at-end : (round : Round) (at_end : AtEnd) (before lines : List Placed) {o : Option Fault} → NoneStand round before lines →
     at_end (before ++ lines) ≡ o → first_from round at_end before lines ≡ o
 found-at-end round at_end before lines n e =
-    ap (first_from round at_end before) (sym (append-nil lines)) ∙ passed round at_end before lines [] n ∙ e
+    ap (first_from round at_end before) (sym (append-nil lines)) ∙ line_result round at_end before lines [] n ∙ e
 
 -- the first fault on a line is found
 pub found-on-line : (round : Round) (at_end : AtEnd) (before lines : List Placed) (f : Fault) → IsFirst round before lines f →
     first_from round at_end before lines ≡ Some f
 found-on-line round at_end before lines f r =
     ap (first_from round at_end before) r.parts
-    ∙ passed round at_end before r.front (r.line ∷ r.rest) r.earlier
+    ∙ line_result round at_end before r.front (r.line ∷ r.rest) r.earlier
     ∙ ap (λ k. found r.line.number k (first_from round at_end ((before ++ r.front) ++ r.line ∷ []) r.rest)) r.least
     ∙ ap (λ n. Some (record { line = n; kind = f.kind })) (sym r.number)

@@ -16,8 +16,8 @@ use Rattle.ics_components.specs.declared.name.Name.TheVariants as name
 use Rattle.ics_components.specs.Faults.{event_reading, observance_reading}
 use Rattle.ics_components.specs.Lines.{misread, unfit, event_has, observance_has, least_fault, outside_fault, end_fault, line_fault, is_mark}
 use Rattle.ics_components.specs.Lines.{builder_note, builder_zone, fault_on, behind, passing}
-use Rattle.ics_components.specs.Gathered.{and_passed}
-use Rattle.ics_components.specs.GatheredSeen.{GatheredSeen}
+use Rattle.ics_components.specs.ParsedFiles.{and_line}
+use Rattle.ics_components.specs.ParsedFileSeen.{ParsedFileSeen}
 use Rattle.ics_components.specs.Pass.{is_lowest}
 use Rattle.ics_components.specs.Values.{is_filled, ends_badly}
 
@@ -85,7 +85,7 @@ other_in v _ = (refl, refl, λ k. refl)
 
 abbrev IsPassed : ℕ → Parts → List Frame → Name → Type 0
 IsPassed number v frames n =
-    (fault_on n v frames ≡ None) × (frames ≡ behind number n v frames) × ((had : GatheredSeen) → had ≡ and_passed number (passing n v frames) had)
+    (fault_on n v frames ≡ None) × (frames ≡ behind number n v frames) × ((had : ParsedFileSeen) → had ≡ and_line number (passing n v frames) had)
 
 other_passed : (number : ℕ) (v : Parts) (frames : List Frame) → is_lowest frames ≡ false → IsPassed number v frames name.Other
 other_passed number v [] i = cc

@@ -1,5 +1,6 @@
 -- The first fault of a file is the least of those of its parts, and a component is judged by itself.
-use Rattle.std.proofs.Common.{◌≡◌, ℕ, ◌<◌, ◌≤◌, Bool, true, false, ◌||◌, ◌==◌, List, [], ◌∷◌, ◌++◌, refl, sym, ap, ◌∙◌, arith, cond, filter, Option, Some, None, IfSome, subst, append_assoc}
+use Rattle.std.proofs.Common.{◌≡◌, ℕ, ◌<◌, ◌≤◌, Bool, true, false, ◌||◌, ◌==◌, List, [], ◌∷◌, ◌++◌, refl, sym, ap, ◌∙◌, arith, cond}
+use Rattle.std.proofs.Common.{filter, Option, Some, None, IfSome, subst, append_assoc}
 use Rattle.std.specs.Prelude.{find, not}
 use Rattle.std.specs.Option.{option_or}
 use Rattle.std.specs.List.{All, list_any}
@@ -72,7 +73,8 @@ all-lines every h round at_end before [] = ap at_end (sym (append-nil before))
 all-lines every h round at_end before (l ∷ ls) =
     rw (h l) (
     ap (found l.number (least_on round before l))
-    (all-lines every h round at_end (before ++ l ∷ []) ls ∙ ap (λ b. option_or (first_among every round (before ++ l ∷ []) ls) (at_end b)) (append_assoc before (l ∷ []) ls))
+    (all-lines every h round at_end (before ++ l ∷ []) ls
+    ∙ ap (λ b. option_or (first_among every round (before ++ l ∷ []) ls) (at_end b)) (append_assoc before (l ∷ []) ls))
     ∙ or-found l.number (least_on round before l) (first_among every round (before ++ l ∷ []) ls) (at_end (before ++ l ∷ ls))
     )
 
@@ -130,7 +132,8 @@ module _ (begun : ℕ) (some : 0 < begun) where
   abbrev Alone : List Placed → List Placed → Type 0
   Alone before ls = first_among p stands before ls ≡ first_from stands (λ b. None) (filter p before) (filter p ls)
 
-  one-line : (before : List Placed) (l : Placed) (ls : List Placed) → (p l ≡ true → beside (filter p before) l ≡ beside before l) → Alone (before ++ l ∷ []) ls →
+  one-line : (before : List Placed) (l : Placed) (ls : List Placed) → (p l ≡ true → beside (filter p before) l ≡ beside before l) →
+      Alone (before ++ l ∷ []) ls →
       Alone before (l ∷ ls)
   one-line before l ls same again = by_test (p l) refl
     where

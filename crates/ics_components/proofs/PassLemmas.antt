@@ -8,15 +8,15 @@ use Rattle.ics_text.specs.ContentLines.{Parts, content_of}
 use Rattle.ics_components.specs.declared.fault.FaultKind.{FaultKind}
 use Rattle.ics_components.specs.declared.fault.FaultKind.TheVariants.{BadNesting}
 use Rattle.ics_components.specs.declared.frame.Frame.{Frame}
-use Rattle.ics_components.specs.declared.gathered.CalendarEvent.{CalendarEvent}
-use Rattle.ics_components.specs.declared.gathered.EndedZone.{EndedZone}
-use Rattle.ics_components.specs.declared.gathered.LineCheck.{LineCheck}
+use Rattle.ics_components.specs.declared.parsed_file.CalendarEvent.{CalendarEvent}
+use Rattle.ics_components.specs.declared.parsed_file.CalendarZone.{CalendarZone}
+use Rattle.ics_components.specs.declared.parsed_file.LineCheck.{LineCheck}
 use Rattle.ics_components.specs.declared.deferred_check.DeferredCheck.{DeferredCheck}
 use Rattle.ics_components.specs.PlacedLines.{Placed, named, path_behind, placed_from, innermost, lines_in, beside}
 use Rattle.ics_components.specs.Faults.{stands, kinds}
 use Rattle.ics_components.specs.FirstFault.{found, first_from, first_fault, fault_at_end, end_fault, no_open}
-use Rattle.ics_components.specs.GatheredSeen.{GatheredSeen}
-use Rattle.ics_components.specs.Gathered.{nothing_gathered, checks_of, and_passed}
+use Rattle.ics_components.specs.ParsedFileSeen.{ParsedFileSeen}
+use Rattle.ics_components.specs.ParsedFiles.{nothing_parsed, checks_of, and_line}
 use Rattle.ics_components.specs.Lines.{check_in, behind, passing}
 use Rattle.ics_components.specs.Pass.{bottom, is_lowest, at_end, unless, on_line, on_content, pass}
 use Rattle.ics_components.proofs.Table.{parts, any-part, frame_of, IsAsked, least-same}
@@ -50,11 +50,11 @@ abbrev pub checks_from : List Placed → List Placed → List Placed → List Li
 checks_from whole before [] = []
 checks_from whole before (line ∷ lines) = checks_on whole (beside before line) line ++ checks_from whole (before ++ line ∷ []) lines
 
-abbrev pub lists : List EndedZone → List CalendarEvent → List LineCheck → GatheredSeen
+abbrev pub lists : List CalendarZone → List CalendarEvent → List LineCheck → ParsedFileSeen
 lists zs es ws = record { zones = zs; events = es; checks = ws }
 
-abbrev pub gathered_from : List Placed → GatheredSeen → List Placed → List Placed → GatheredSeen
-gathered_from whole had before lines =
+abbrev pub parsed_from : List Placed → ParsedFileSeen → List Placed → List Placed → ParsedFileSeen
+parsed_from whole had before lines =
     lists (had.zones ++ ended_from (zones whole) before lines) (had.events ++ ended_from events before lines) (had.checks ++ checks_from whole before lines)
 
 -- THE PASS.
@@ -92,10 +92,10 @@ at-next {before = before} {bundles = bundles} line o (m ∷ ms) on =
 
 abbrev Known : List Line → Type 0
 Known lines =
-    (whole before : List Placed) (bundles : List Bundle) (last : Option ℕ) (had : GatheredSeen) →
+    (whole before : List Placed) (bundles : List Bundle) (last : Option ℕ) (had : ParsedFileSeen) →
     IsAt whole before bundles lines → at_end (frames_of whole bundles) last ≡ fault_at_end before →
     pass (frames_of whole bundles) last had lines
-    ≡ unless (first_from stands fault_at_end before (placed_from (opens bundles) lines)) (gathered_from whole had before (placed_from (opens bundles) lines))
+    ≡ unless (first_from stands fault_at_end before (placed_from (opens bundles) lines)) (parsed_from whole had before (placed_from (opens bundles) lines))
 
 -- the lines of a component all stand before its END
 closes-here : (whole before : List Placed) (line : Line) (o : Option Parts) (bundles : List Bundle) {lines : List Line} →
@@ -107,19 +107,19 @@ closes-here whole before line o (f ∷ fs) {lines} on =
 
 -- A line with parts, before lines of which it is known.
 module _ (line : Line) {lines : List Line} (again : Known lines) (v : Parts) {whole before : List Placed} {bundles : List Bundle}
-    (on : IsOn whole before bundles line (Some v) lines) (had : GatheredSeen) where
+    (on : IsOn whole before bundles line (Some v) lines) (had : ParsedFileSeen) where
   abbrev l : Placed
   l = with line (opens bundles) (Some v)
 
   abbrev rest : List Placed
   rest = placed_from (path_behind l) lines
 
-  abbrev now : GatheredSeen
-  now = and_passed line.number (passing (named v) v (frame_of whole (opens bundles) (beside before l) ∷ [])) had
+  abbrev now : ParsedFileSeen
+  now = and_line line.number (passing (named v) v (frame_of whole (opens bundles) (beside before l) ∷ [])) had
 
   -- a line adds what ends there as its component says, and what is checked there in the second round
-  gathered-step : IsMatched l → gathered_from whole now (before ++ l ∷ []) rest ≡ gathered_from whole had before (l ∷ rest)
-  gathered-step m = let same = picked-same whole line v (beside before l) (opens bundles) m in simp (append_assoc, same.0, same.1)
+  parsed-step : IsMatched l → parsed_from whole now (before ++ l ∷ []) rest ≡ parsed_from whole had before (l ∷ rest)
+  parsed-step m = let same = picked-same whole line v (beside before l) (opens bundles) m in simp (append_assoc, same.0, same.1)
 
   asked : IsAsked whole (opens bundles) (beside before l)
   asked z = zone-beside before bundles on.kept z ∙ any-part whole (beside before l)
@@ -127,7 +127,7 @@ module _ (line : Line) {lines : List Line} (again : Known lines) (v : Parts) {wh
   -- with its least fault, and where it has none
   by_first : (o : Option FaultKind) → find (λ kind. stands kind (beside before l) l) kinds ≡ o →
       on_line line.number o (pass (behind line.number (named v) v (frames_of whole bundles)) (Some line.number) now lines)
-      ≡ unless (found line.number o (first_from stands fault_at_end (before ++ l ∷ []) rest)) (gathered_from whole had before (l ∷ rest))
+      ≡ unless (found line.number o (first_from stands fault_at_end (before ++ l ∷ []) rest)) (parsed_from whole had before (l ∷ rest))
   by_first (Some k) e = refl
   by_first None e =
       let moved = opens-behind l bundles refl in
@@ -135,14 +135,14 @@ module _ (line : Line) {lines : List Line} (again : Known lines) (v : Parts) {wh
       (sym (frames-behind whole before line v bundles on.kept (closes-here whole before line (Some v) bundles on)))
       ∙ (rw moved at (again whole (before ++ l ∷ []) (bundles_behind l bundles) (Some line.number) now (at-next line (Some v) lines on)
       (end-is-known whole before l (bundles_behind l bundles) moved)))
-      ∙ ap (unless (first_from stands fault_at_end (before ++ l ∷ []) rest)) (gathered-step (nested (λ kind. stands kind (beside before l) l) e))
+      ∙ ap (unless (first_from stands fault_at_end (before ++ l ∷ []) rest)) (parsed-step (nested (λ kind. stands kind (beside before l) l) e))
 
 step : (line : Line) {lines : List Line} → Known lines → (o : Option Parts) {whole before : List Placed} {bundles : List Bundle} →
-    IsOn whole before bundles line o lines → (had : GatheredSeen) →
+    IsOn whole before bundles line o lines → (had : ParsedFileSeen) →
     on_content line.number o (frames_of whole bundles) had (λ frames had. pass frames (Some line.number) had lines)
     ≡ unless (first_from stands fault_at_end before (with line (opens bundles) o
     ∷ placed_from (path_behind (with line (opens bundles) o)) lines))
-    (gathered_from whole had before (with line (opens bundles) o ∷ placed_from (path_behind (with line (opens bundles) o)) lines))
+    (parsed_from whole had before (with line (opens bundles) o ∷ placed_from (path_behind (with line (opens bundles) o)) lines))
 step line again None on had = refl
 step line again (Some v) {whole} {before} {bundles} on had =
     let l : Placed = with line (opens bundles) (Some v) in
@@ -165,6 +165,6 @@ first-at (line ∷ lines) r =
     record { parts = refl; kept = tt; earlier = All-nil (λ l. innermost l.path < line.number); inner = r.0; rises = r.1 }
 
 pub pass-whole : (lines : List Line) → Rises 0 lines →
-    pass (bottom ∷ []) None nothing_gathered lines
-    ≡ unless (first_fault (placed_from [] lines)) (gathered_from (placed_from [] lines) nothing_gathered [] (placed_from [] lines))
-pass-whole lines r = pass-lines lines (placed_from [] lines) [] [] None nothing_gathered (first-at lines r) refl
+    pass (bottom ∷ []) None nothing_parsed lines
+    ≡ unless (first_fault (placed_from [] lines)) (parsed_from (placed_from [] lines) nothing_parsed [] (placed_from [] lines))
+pass-whole lines r = pass-lines lines (placed_from [] lines) [] [] None nothing_parsed (first-at lines r) refl

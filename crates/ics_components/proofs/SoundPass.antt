@@ -14,8 +14,8 @@ use Rattle.ics_values.specs.declared.stamp.Stamp.TheVariants as stamp
 use Rattle.ics_components.specs.Builders.{builder_at, observance_ended}
 use Rattle.ics_components.specs.Components.{component_of, context_in}
 use Rattle.ics_components.specs.FirstFault.{Fault}
-use Rattle.ics_components.specs.Gathered.{IsSoundInstant, IsSoundCheck, IsSoundGathered, nothing_gathered, zones_of_end, events_of_end, checks_of, and_passed}
-use Rattle.ics_components.specs.GatheredSeen.{GatheredSeen}
+use Rattle.ics_components.specs.ParsedFiles.{IsSoundInstant, IsSoundCheck, IsSoundParsed, nothing_parsed, zones_of_end, events_of_end, checks_of, and_line}
+use Rattle.ics_components.specs.ParsedFileSeen.{ParsedFileSeen}
 use Rattle.ics_components.specs.Lines.{builder_note, builder_zone, end_fault, is_of, ended_as, joined, end_check}
 use Rattle.ics_components.specs.Lines.{calendar_in, context_on, fault_on, behind, passing}
 use Rattle.ics_components.specs.PlacedLines.{named}
@@ -34,12 +34,12 @@ use Rattle.ics_components.specs.declared.deferred_check.Instant.TheVariants as i
 use Rattle.ics_components.specs.declared.deferred_check.ZoneName.{ZoneName}
 use Rattle.ics_components.specs.declared.fault.FaultKind.{FaultKind}
 use Rattle.ics_components.specs.declared.frame.Frame.{Frame}
-use Rattle.ics_components.specs.declared.gathered.Ended.{Ended}
-use Rattle.ics_components.specs.declared.gathered.Ended.TheVariants as ended
-use Rattle.ics_components.specs.declared.gathered.CalendarEvent.{CalendarEvent}
-use Rattle.ics_components.specs.declared.gathered.EndedZone.{EndedZone}
-use Rattle.ics_components.specs.declared.gathered.LineCheck.{LineCheck}
-use Rattle.ics_components.specs.declared.gathered.Passed.{Passed}
+use Rattle.ics_components.specs.declared.parsed_file.ClosedComponent.{ClosedComponent}
+use Rattle.ics_components.specs.declared.parsed_file.ClosedComponent.TheVariants as ended
+use Rattle.ics_components.specs.declared.parsed_file.CalendarEvent.{CalendarEvent}
+use Rattle.ics_components.specs.declared.parsed_file.CalendarZone.{CalendarZone}
+use Rattle.ics_components.specs.declared.parsed_file.LineCheck.{LineCheck}
+use Rattle.ics_components.specs.declared.parsed_file.LineResult.{LineResult}
 use Rattle.ics_components.specs.declared.name.Name.{Name}
 use Rattle.ics_components.specs.declared.name.Name.TheVariants as name
 use Rattle.ics_components.proofs.Sound.{IsSoundStamp, IsSoundLocal, IsSoundBegun, IsSoundListed, IsSoundStarted, observance-noted, observance-sound, zone-sound}
@@ -78,13 +78,13 @@ abbrev AreSound : (DeferredCheck → Type 0) → List Frame → Type 0
 AreSound P [] = Unit {0}
 AreSound P (f ∷ fs) = IsSoundBuilder P f.calendar f.builder × AreSound P fs
 
-abbrev IsSoundEnd : (DeferredCheck → Type 0) → Ended → Type 0
+abbrev IsSoundEnd : (DeferredCheck → Type 0) → ClosedComponent → Type 0
 IsSoundEnd P (ended.Zone zone) = IsSoundZone zone.observances
 IsSoundEnd P (ended.Event event) = IsWhole event.fields × EachZone P event.calendar event.fields
 IsSoundEnd P ended.Nothing = Unit {0}
 
 -- the same behind a line, where P holds of its check
-abbrev IsSoundStep : (DeferredCheck → Type 0) → List Frame × Passed → Type 0
+abbrev IsSoundStep : (DeferredCheck → Type 0) → List Frame × LineResult → Type 0
 IsSoundStep P r = IfSome r.1.check P → AreSound P r.0 × IsSoundEnd P r.1.ended × IfSome r.1.check IsSoundCheck
 
 -- an END without a fault matches
@@ -135,8 +135,8 @@ module _ (P : DeferredCheck → Type 0) where
   step-sound number n v (f ∷ fs) h none c = ((noted-sound f.calendar n v f.builder h.0 c, h.1), tt, zone-check (builder_zone f.calendar n v f.builder))
 
 -- WHAT IS GATHERED is sound, where P holds of the zones that its events name.
-abbrev IsSoundEnded : EndedZone → Type 0
-IsSoundEnded zone = IsSoundZone zone.observances
+abbrev IsSoundClosed : CalendarZone → Type 0
+IsSoundClosed zone = IsSoundZone zone.observances
 
 abbrev IsSoundLine : LineCheck → Type 0
 IsSoundLine late = IsSoundCheck late.check
@@ -156,27 +156,27 @@ module _ (P : DeferredCheck → Type 0) where
   abbrev Holds : LineCheck → Type 0
   Holds late = P late.check
 
-  abbrev IsSound : GatheredSeen → Type 0
-  IsSound g = All IsSoundEnded g.zones × All IsSoundEvent g.events × All IsSoundLine g.checks
+  abbrev IsSound : ParsedFileSeen → Type 0
+  IsSound g = All IsSoundClosed g.zones × All IsSoundEvent g.events × All IsSoundLine g.checks
 
-  end-gathered : (e : Ended) → IsSoundEnd P e → All IsSoundEnded (zones_of_end e) × All IsSoundEvent (events_of_end e)
-  end-gathered (ended.Zone zone) h = (one IsSoundEnded zone h, All-nil IsSoundEvent)
-  end-gathered (ended.Event event) h = (All-nil IsSoundEnded, one IsSoundEvent event h)
-  end-gathered ended.Nothing h = (All-nil IsSoundEnded, All-nil IsSoundEvent)
+  end-parsed : (e : ClosedComponent) → IsSoundEnd P e → All IsSoundClosed (zones_of_end e) × All IsSoundEvent (events_of_end e)
+  end-parsed (ended.Zone zone) h = (one IsSoundClosed zone h, All-nil IsSoundEvent)
+  end-parsed (ended.Event event) h = (All-nil IsSoundClosed, one IsSoundEvent event h)
+  end-parsed ended.Nothing h = (All-nil IsSoundClosed, All-nil IsSoundEvent)
 
-  check-gathered : (number : ℕ) (o : Option DeferredCheck) → IfSome o IsSoundCheck → All IsSoundLine (checks_of number o)
-  check-gathered number None h = All-nil IsSoundLine
-  check-gathered number (Some c) h = one IsSoundLine (record { line = number; check = c }) h
+  check-parsed : (number : ℕ) (o : Option DeferredCheck) → IfSome o IsSoundCheck → All IsSoundLine (checks_of number o)
+  check-parsed number None h = All-nil IsSoundLine
+  check-parsed number (Some c) h = one IsSoundLine (record { line = number; check = c }) h
 
   check-held : (number : ℕ) (o : Option DeferredCheck) → All Holds (checks_of number o) → IfSome o P
   check-held number None h = tt
   check-held number (Some c) h = All-head Holds (record { line = number; check = c }) [] h
 
   -- from some frames on, where P holds of all checks at the end
-  abbrev Goes : List Frame → GatheredSeen → GatheredSeen → Type 0
+  abbrev Goes : List Frame → ParsedFileSeen → ParsedFileSeen → Type 0
   Goes frames had g = All Holds g.checks → All Holds had.checks × (AreSound P frames → IsSound had → IsSound g)
 
-  passes : (lines : List Line) (frames : List Frame) (last : Option ℕ) (had : GatheredSeen) → IfOk (pass frames last had lines) (Goes frames had)
+  passes : (lines : List Line) (frames : List Frame) (last : Option ℕ) (had : ParsedFileSeen) → IfOk (pass frames last had lines) (Goes frames had)
   passes [] frames last had = by_end (at_end frames last)
     where
       by_end : (o : Option Fault) → IfOk (unless o had) (Goes frames had)
@@ -185,26 +185,26 @@ module _ (P : DeferredCheck → Type 0) where
   passes (line ∷ lines) frames last had = by_content (passes lines) (content_of line.bytes)
     where
       Again : Type 0
-      Again = (frames : List Frame) (last : Option ℕ) (had : GatheredSeen) → IfOk (pass frames last had lines) (Goes frames had)
+      Again = (frames : List Frame) (last : Option ℕ) (had : ParsedFileSeen) → IfOk (pass frames last had lines) (Goes frames had)
 
-      by_line : Again → (o : Option FaultKind) (now : List Frame) (here : Passed) → (AreSound P frames → o ≡ None → IsSoundStep P (now, here)) →
-          IfOk (on_line line.number o (pass now (Some line.number) (and_passed line.number here had) lines)) (Goes frames had)
+      by_line : Again → (o : Option FaultKind) (now : List Frame) (here : LineResult) → (AreSound P frames → o ≡ None → IsSoundStep P (now, here)) →
+          IfOk (on_line line.number o (pass now (Some line.number) (and_line line.number here had) lines)) (Goes frames had)
       by_line again (Some k) now here step = tt
       by_line again None now here step =
-          let gathered : GatheredSeen = and_passed line.number here had in
-          IfOk-weaker (pass now (Some line.number) gathered lines) (Goes now gathered) (Goes frames had) (λ g later all.
+          let parsed : ParsedFileSeen = and_line line.number here had in
+          IfOk-weaker (pass now (Some line.number) parsed lines) (Goes now parsed) (Goes frames had) (λ g later all.
           let behind = later all in
           let checks = all-parts Holds had.checks (checks_of line.number here.check) behind.0 in (
             checks.0,
             λ f h.
                 let after = step f refl (check-held line.number here.check checks.1) in
-                let ended = end-gathered here.ended after.1 in
+                let ended = end-parsed here.ended after.1 in
                 behind.1 after.0 (
-                  All-append IsSoundEnded had.zones (zones_of_end here.ended) h.0 ended.0,
+                  All-append IsSoundClosed had.zones (zones_of_end here.ended) h.0 ended.0,
                   All-append IsSoundEvent had.events (events_of_end here.ended) h.1 ended.1,
-                  All-append IsSoundLine had.checks (checks_of line.number here.check) h.2 (check-gathered line.number here.check after.2),
+                  All-append IsSoundLine had.checks (checks_of line.number here.check) h.2 (check-parsed line.number here.check after.2),
                 ),
-          )) (again now (Some line.number) gathered)
+          )) (again now (Some line.number) parsed)
 
       by_content : Again → (o : Option Parts) →
           IfOk (on_content line.number o frames had (λ frames had. pass frames (Some line.number) had lines)) (Goes frames had)
@@ -214,14 +214,14 @@ module _ (P : DeferredCheck → Type 0) where
           by_line again (fault_on n v frames) (behind line.number n v frames) (passing n v frames) (λ f. step-sound P line.number n v frames f)
 
 -- the second round makes all checks that are gathered
-pub sound-pass : (lines : List Line) → IfOk (pass (bottom ∷ []) None nothing_gathered lines) IsSoundGathered
-sound-pass lines = by_result (pass (bottom ∷ []) None nothing_gathered lines) (λ P. passes P lines (bottom ∷ []) None nothing_gathered)
+pub sound-pass : (lines : List Line) → IfOk (pass (bottom ∷ []) None nothing_parsed lines) IsSoundParsed
+sound-pass lines = by_result (pass (bottom ∷ []) None nothing_parsed lines) (λ P. passes P lines (bottom ∷ []) None nothing_parsed)
   where
-    by_result : (r : Result GatheredSeen Fault) → ((P : DeferredCheck → Type 0) → IfOk r (Goes P (bottom ∷ []) nothing_gathered)) → IfOk r IsSoundGathered
+    by_result : (r : Result ParsedFileSeen Fault) → ((P : DeferredCheck → Type 0) → IfOk r (Goes P (bottom ∷ []) nothing_parsed)) → IfOk r IsSoundParsed
     by_result (Err fault) goes = tt
     by_result (Ok g) goes =
         let Made : DeferredCheck → Type 0 = Contains (map (λ w. w.check) g.checks) in
         let sound =
         (goes Made (λ i d lt. (i, simp length-map lt, get_or-map (λ w. w.check) g.checks i d _ lt))).1
-        (tt, tt) (All-nil IsSoundEnded, All-nil (IsSoundEvent Made), All-nil IsSoundLine) in
+        (tt, tt) (All-nil IsSoundClosed, All-nil (IsSoundEvent Made), All-nil IsSoundLine) in
         record { zones = sound.0; whole = λ i d lt. (sound.1 i d lt).0; awaited = λ i d lt. (sound.1 i d lt).1; sound = sound.2 }

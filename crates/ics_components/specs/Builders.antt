@@ -11,7 +11,7 @@ use Rattle.ics_components.specs.declared.component.Context.{Context}
 use Rattle.ics_components.specs.declared.component.Context.TheVariants as context
 use Rattle.ics_components.specs.declared.event_fields.EventFields.{EventFields}
 use Rattle.ics_components.specs.declared.name.Name.TheVariants as name
-use Rattle.ics_components.specs.declared.gathered.EndedZone.{EndedZone}
+use Rattle.ics_components.specs.declared.parsed_file.CalendarZone.{CalendarZone}
 use Rattle.ics_values.specs.Integers.{integer_of}
 use Rattle.ics_components.specs.Faults.{first_text, first_time, duration_on, parts_on, listed_on}
 use Rattle.ics_components.specs.declared.date_values.Listing.{Listing}
@@ -66,7 +66,7 @@ builder_at observances lines context.Observance = builder.Observance (observance
 builder_at observances lines _ = builder.Elsewhere
 
 -- WHAT HAS ENDED, with what is collected of it. An accepted file has the fields that are asked for.
-abbrev pub zone_ended : ℕ → ZoneBuilder → EndedZone
+abbrev pub zone_ended : ℕ → ZoneBuilder → CalendarZone
 zone_ended calendar had = record { name = zone_named calendar had.name; observances = had.observances }
 
 abbrev pub observance_ended : ObservanceBuilder → ObservanceSaid

@@ -83,7 +83,8 @@ rdate_in zone (Lasting start duration) = rdate.Span (time_in zone (stamp_in star
 
 -- the values of a line with these parameters and this value, and the name in its TZID
 abbrev pub list_of : Listing → List ℕ → List ℕ → DateList
-list_of listing params value = record { values = map (rdate_in (zone_name params)) (values_of listing (is_some (zone_name params)) value); zone = zone_name params }
+list_of listing params value =
+    let zone = zone_name params in record { values = map (rdate_in zone) (values_of listing (is_some zone) value); zone = zone }
 
 -- A value of an RDATE that has no fault, as the reader of periods has it.
 abbrev pub period_said : DateValue → Option Period

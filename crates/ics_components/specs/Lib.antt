@@ -12,6 +12,6 @@ pub mod SecondRound
 pub mod Builders
 pub mod Lines
 pub mod Sound
-pub mod GatheredSeen
-pub mod Gathered
+pub mod ParsedFileSeen
+pub mod ParsedFiles
 pub mod Pass

@@ -39,9 +39,9 @@ use Rattle.ics_components.specs.declared.event_fields.EventFields.{EventFields}
 use Rattle.ics_components.specs.declared.fault.FaultKind.{FaultKind}
 use Rattle.ics_components.specs.declared.fault.FaultKind.TheVariants as kind
 use Rattle.ics_components.specs.declared.frame.Frame.{Frame}
-use Rattle.ics_components.specs.declared.gathered.Ended.{Ended}
-use Rattle.ics_components.specs.declared.gathered.Ended.TheVariants as ended
-use Rattle.ics_components.specs.declared.gathered.Passed.{Passed}
+use Rattle.ics_components.specs.declared.parsed_file.ClosedComponent.{ClosedComponent}
+use Rattle.ics_components.specs.declared.parsed_file.ClosedComponent.TheVariants as ended
+use Rattle.ics_components.specs.declared.parsed_file.LineResult.{LineResult}
 use Rattle.ics_components.specs.declared.name.Name.{Name}
 use Rattle.ics_components.specs.declared.name.Name.TheVariants as name
 use Rattle.ics_components.specs.declared.observance_builder.ObservanceBuilder.{ObservanceBuilder}
@@ -266,10 +266,10 @@ is_mark name.End = true
 is_mark _ = false
 
 -- WHAT A COMPONENT IS at its END, and its check in the second round.
-abbrev pub passed : Ended → Option DeferredCheck → Passed
-passed end check = record { ended = end; check = check }
+abbrev pub line_result : ClosedComponent → Option DeferredCheck → LineResult
+line_result end check = record { ended = end; check = check }
 
-abbrev pub ended_as : ℕ → Builder → Ended
+abbrev pub ended_as : ℕ → Builder → ClosedComponent
 ended_as k (builder.Event had) = ended.Event (record { calendar = k; fields = had })
 ended_as k (builder.Zone had) = ended.Zone (zone_ended k had)
 ended_as k _ = ended.Nothing
@@ -332,7 +332,7 @@ fault_on n c [] = None
 fault_on n c (f ∷ fs) = fault_in n c f (length fs)
 
 -- what ends on the line, and its check in the second round
-abbrev pub end_in : Name → Frame → Ended
+abbrev pub end_in : Name → Frame → ClosedComponent
 end_in name.End f = ended_as f.calendar f.builder
 end_in _ f = ended.Nothing
 
@@ -341,6 +341,6 @@ check_in name.Begin c f = None
 check_in name.End c f = end_check f.calendar f.builder
 check_in n c f = zone_check (builder_zone f.calendar n c f.builder)
 
-abbrev pub passing : Name → Parts → List Frame → Passed
-passing n c [] = passed ended.Nothing None
-passing n c (f ∷ fs) = passed (end_in n f) (check_in n c f)
+abbrev pub passing : Name → Parts → List Frame → LineResult
+passing n c [] = line_result ended.Nothing None
+passing n c (f ∷ fs) = line_result (end_in n f) (check_in n c f)

@@ -31,7 +31,8 @@ abbrev pub IsLeastOfParts : Type 0
 IsLeastOfParts =
     (part : Placed → Bool) (file : List ℕ) →
     first_fault (placed file)
-    ≡ option_or (earlier (first_among part stands [] (placed file)) (first_among (λ line. not (part line)) stands [] (placed file))) (fault_at_end (placed file))
+    ≡ option_or (earlier (first_among part stands [] (placed file)) (first_among (λ line. not (part line)) stands [] (placed file)))
+    (fault_at_end (placed file))
 
 -- The first fault of several parts is the least of theirs.
 abbrev pub IsLeastOfBoth : Type 0

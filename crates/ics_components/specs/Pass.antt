@@ -10,9 +10,9 @@ use Rattle.ics_components.specs.declared.fault.FileFault.TheVariants.{Memory, At
 use Rattle.ics_components.specs.declared.fault.FaultKind.TheVariants as kind
 use Rattle.ics_components.specs.declared.frame.Frame.{Frame}
 use Rattle.ics_components.specs.declared.builder.Builder.TheVariants as builder
-use Rattle.ics_components.specs.GatheredSeen.{GatheredSeen}
+use Rattle.ics_components.specs.ParsedFileSeen.{ParsedFileSeen}
 use Rattle.ics_components.specs.FirstFault.{bad_fold}
-use Rattle.ics_components.specs.Gathered.{nothing_gathered, and_passed}
+use Rattle.ics_components.specs.ParsedFiles.{nothing_parsed, and_line}
 use Rattle.ics_components.specs.Lines.{fault_on, behind, passing}
 use Rattle.ics_components.specs.PlacedLines.{named}
 use Rattle.ics_components.specs.declared.first_round.FirstRound.{FirstRound}
@@ -38,26 +38,27 @@ abbrev pub unless : {X F : Type 0} → Option F → X → Result X F
 unless (Some fault) answer = Err fault
 unless None answer = Ok answer
 
-abbrev pub on_line : ℕ → Option FaultKind → Result GatheredSeen Fault → Result GatheredSeen Fault
+abbrev pub on_line : ℕ → Option FaultKind → Result ParsedFileSeen Fault → Result ParsedFileSeen Fault
 on_line number None later = later
 on_line number (Some kind) later = Err (record { line = number; kind = kind })
 
-abbrev pub on_content : ℕ → Option Parts → List Frame → GatheredSeen → (List Frame → GatheredSeen → Result GatheredSeen Fault) → Result GatheredSeen Fault
+abbrev pub on_content : ℕ → Option Parts → List Frame → ParsedFileSeen → (List Frame → ParsedFileSeen → Result ParsedFileSeen Fault) →
+    Result ParsedFileSeen Fault
 on_content number None frames had later = Err (record { line = number; kind = kind.BadLine })
 on_content number (Some c) frames had later =
-    on_line number (fault_on (named c) c frames) (later (behind number (named c) c frames) (and_passed number (passing (named c) c frames) had))
+    on_line number (fault_on (named c) c frames) (later (behind number (named c) c frames) (and_line number (passing (named c) c frames) had))
 
-abbrev pub pass : List Frame → Option ℕ → GatheredSeen → List Line → Result GatheredSeen Fault
+abbrev pub pass : List Frame → Option ℕ → ParsedFileSeen → List Line → Result ParsedFileSeen Fault
 pass frames last had [] = unless (at_end frames last) had
 pass frames last had (line ∷ lines) = on_content line.number (content_of line.bytes) frames had (λ frames had. pass frames (Some line.number) had lines)
 
 -- What the first round gathers of a file, or its first fault.
-abbrev pub gathered_of : List ℕ → Result GatheredSeen Fault
-gathered_of file = if begins_with_fold file then Err bad_fold else pass (bottom ∷ []) None nothing_gathered (unfolded file)
+abbrev pub parsed_of : List ℕ → Result ParsedFileSeen Fault
+parsed_of file = if begins_with_fold file then Err bad_fold else pass (bottom ∷ []) None nothing_parsed (unfolded file)
 
 -- the pass over the lines that are left
-abbrev pub pass_on : FirstRound → List Line → Result GatheredSeen Fault
-pass_on round lines = pass round.stack round.last round.gathered lines
+abbrev pub pass_on : FirstRound → List Line → Result ParsedFileSeen Fault
+pass_on round lines = pass round.stack round.last round.parsed lines
 
 -- ONE LINE: the pass goes on behind it, or its fault is the answer.
 abbrev pub GoesBehind : Result Unit Refused → Line → FirstRound → FirstRound → Type 0

@@ -1,19 +1,19 @@
 //! A component that is being built of its lines.
 ghost use Rattle.std.specs.Prelude.{◌≡◌, [], None, false, true};
 ghost use Rattle.ics_components.specs.Builders.{builder_at, zone_ended};
-ghost use Rattle.ics_components.specs.Lines.{Gives, Keeps, is_mark, line_fault, end_fault, zone_note, context_at, passed};
+ghost use Rattle.ics_components.specs.Lines.{Gives, Keeps, is_mark, line_fault, end_fault, zone_note, context_at, line_result};
 ghost use Rattle.ics_components.specs.declared.builder.Builder.TheVariants.{Zone};
-ghost use Rattle.ics_components.specs.declared.gathered.Ended.TheVariants as ended;
+ghost use Rattle.ics_components.specs.declared.parsed_file.ClosedComponent.TheVariants as ended;
 
 use crate::component::Context;
 use crate::deferred_check::ZoneName;
 use crate::event_fields::EventFields;
 use crate::fault::FaultKind;
-use crate::gathered::{Ended, EndedZone, Passed};
 use crate::listed::Listed;
 use crate::name::Name;
 use crate::observance_builder::ObservanceBuilder;
-use crate::observances::EndedObservance;
+use crate::observances::ClosedObservance;
+use crate::parsed_file::{CalendarZone, ClosedComponent, LineResult};
 use crate::refused::Refused;
 use crate::tzid::{Tzid, Tzids};
 use ics_text::Content;
@@ -33,7 +33,7 @@ pub enum Builder {
 #[derive(Drop)]
 pub struct ZoneBuilder {
     pub name: Option<Tzid>,
-    pub observances: Listed<EndedObservance>,
+    pub observances: Listed<ClosedObservance>,
 }
 
 impl ZoneBuilder {
@@ -61,8 +61,8 @@ impl ZoneBuilder {
 
     /// The time zone of that calendar, at its END.
     #[tactic(auto, unfolding(crate::specs::Lines::least_fault))]
-    pub fn end(self, calendar: u64) -> Result<Passed, Refused>
-        ensures { Gives result (end_fault true (Zone self)) (passed (ended.Zone (zone_ended calendar self)) None) }
+    pub fn end(self, calendar: u64) -> Result<LineResult, Refused>
+        ensures { Gives result (end_fault true (Zone self)) (line_result (ended.Zone (zone_ended calendar self)) None) }
     {
         let ZoneBuilder { name, observances } = self;
         if observances.values.is_empty() {
@@ -72,8 +72,8 @@ impl ZoneBuilder {
             return Err(Refused::Fault(FaultKind::ObservanceField));
         };
         let name = ZoneName { calendar, name };
-        Ok(Passed {
-            ended: Ended::Zone(EndedZone { name, observances }),
+        Ok(LineResult {
+            ended: ClosedComponent::Zone(CalendarZone { name, observances }),
             check: None,
         })
     }

@@ -1,11 +1,11 @@
 //! The first round over the lines of a file (RFC 5545, sections 3.4 and 3.6).
 ghost use Rattle.std.specs.Prelude.{◌≡◌, ℕ, ◌+◌, ◌<◌, ◌≤◌, ◌^◌, [], length, IfOk, Some, IfSome};
-ghost use Rattle.ics_components.specs.Pass.{pass_on, GoesBehind, gathered_of, Says};
+ghost use Rattle.ics_components.specs.Pass.{pass_on, GoesBehind, parsed_of, Says};
 ghost use Rattle.ics_text.specs.Unfolded.{Within};
-ghost use Rattle.ics_components.specs.Gathered.{IsSoundGathered};
+ghost use Rattle.ics_components.specs.ParsedFiles.{IsSoundParsed};
 
 use crate::fault::{FaultKind, FileFault};
-use crate::gathered::Gathered;
+use crate::parsed_file::ParsedFile;
 use crate::refused::Refused;
 use crate::stack::Stack;
 use ics_text::{Lines, Logical, content, numbers_within};
@@ -15,7 +15,7 @@ use std::alloc::Global;
 #[derive(Drop)]
 struct FirstRound {
     stack: Stack,
-    gathered: Gathered,
+    parsed: ParsedFile,
     last: Option<u64>,
 }
 
@@ -29,7 +29,7 @@ impl FirstRound {
         let Ok(parts) = content(line.bytes()) else {
             return Err(Refused::Fault(FaultKind::BadLine));
         };
-        self.stack.line(alloc, &mut self.gathered, number, &parts)?;
+        self.stack.line(alloc, &mut self.parsed, number, &parts)?;
         self.last = Some(number);
         Ok(())
     }
@@ -37,7 +37,7 @@ impl FirstRound {
     /// The fault that stands where the lines end, if there is one.
     fn end(&self) -> Result<(), FileFault>
         requires { IfSome self.now.last (λ n. n + 1 < 2 ^ 64) }
-        ensures { Says (λ _. self.now.gathered) result (pass_on self.now []) }
+        ensures { Says (λ _. self.now.parsed) result (pass_on self.now []) }
     {
         let (line, kind) = match self.last {
             None => (1, FaultKind::NotCalendar),
@@ -51,7 +51,7 @@ impl FirstRound {
     fn lines(&mut self, alloc: Global, mut lines: Lines<'_>) -> Result<(), FileFault>
         requires lines { (n : ℕ) × (n + 1 < 2 ^ 64) × Within n lines }
         requires last { IfSome self.old.last (λ n. n + 1 < 2 ^ 64) }
-        ensures { Says (λ _. self.new.gathered) result (pass_on self.old lines.entry) }
+        ensures { Says (λ _. self.new.parsed) result (pass_on self.old lines.entry) }
     {
         'lines: while let Some(line) = lines.next(alloc)? {
             let number = line.number();
@@ -73,10 +73,10 @@ impl FirstRound {
 /// checks. What is gathered is sound: its stamps are in the years 0001 to 9899, each of its time zones has an observance, no rule of which is finer than
 /// daily, and a check is deferred for each time zone that a stamp of an event names. `Memory` if an allocation fails.
 #[inline(never)]
-pub fn gather(alloc: Global, bytes: &[u8]) -> Result<Gathered, FileFault>
+pub fn parse_file(alloc: Global, bytes: &[u8]) -> Result<ParsedFile, FileFault>
     requires { length bytes.now ≤ 16_777_216 }
-    ensures gathered { Says (λ gathered. gathered) result (gathered_of bytes.now) }
-    ensures sound { IfOk result IsSoundGathered }
+    ensures parsed { Says (λ parsed. parsed) result (parsed_of bytes.now) }
+    ensures sound { IfOk result IsSoundParsed }
 {
     numbers_within();
     let Ok(lines) = Lines::new(bytes) else {
@@ -87,7 +87,7 @@ pub fn gather(alloc: Global, bytes: &[u8]) -> Result<Gathered, FileFault>
     };
     let mut round = FirstRound {
         stack: Stack::new(alloc),
-        gathered: Gathered {
+        parsed: ParsedFile {
             zones: Vec::new(alloc),
             events: Vec::new(alloc),
             checks: Vec::new(alloc),
@@ -95,12 +95,8 @@ pub fn gather(alloc: Global, bytes: &[u8]) -> Result<Gathered, FileFault>
         last: None,
     };
     let read = round.lines(alloc, lines);
-    let FirstRound {
-        stack,
-        gathered,
-        ..
-    } = round;
+    let FirstRound { stack, parsed, .. } = round;
     drop(stack);
     read?;
-    Ok(gathered)
+    Ok(parsed)
 }

@@ -1,16 +1,16 @@
 //! A component that is open.
 ghost use Rattle.std.specs.Prelude.{◌≡◌, false, IfOk};
-ghost use Rattle.ics_components.specs.declared.gathered.Ended.TheVariants.{Nothing};
-ghost use Rattle.ics_components.specs.Gathered.{and_passed};
+ghost use Rattle.ics_components.specs.declared.parsed_file.ClosedComponent.TheVariants.{Nothing};
+ghost use Rattle.ics_components.specs.ParsedFiles.{and_line};
 ghost use Rattle.ics_components.specs.SecondRound.{zone_check};
-ghost use Rattle.ics_components.specs.Lines.{Keeps, Notes, is_mark, line_fault, end_fault, is_of, joined, passed, ended_as, end_check};
+ghost use Rattle.ics_components.specs.Lines.{Keeps, Notes, is_mark, line_fault, end_fault, is_of, joined, line_result, ended_as, end_check};
 ghost use Rattle.ics_components.specs.Lines.{builder_note, builder_zone};
 
 use crate::builder::Builder;
 use crate::component::Component;
 use crate::fault::FaultKind;
-use crate::gathered::{CalendarEvent, Ended, Gathered, Passed};
 use crate::name::Name;
+use crate::parsed_file::{CalendarEvent, ClosedComponent, LineResult, ParsedFile};
 use crate::refused::Refused;
 use crate::tzid::Tzids;
 use ics_text::Content;
@@ -35,7 +35,7 @@ impl Frame {
         &mut self,
         alloc: Global,
         tzids: &mut Tzids,
-        gathered: &mut Gathered,
+        parsed: &mut ParsedFile,
         number: u64,
         name: Name,
         content: &Content<'_>,
@@ -43,8 +43,8 @@ impl Frame {
         requires { is_mark name ≡ false }
         ensures noted { Keeps result self.new (line_fault name content.now self.old.builder)
             (record self.old { builder = builder_note name content.now self.old.builder }) }
-        ensures gathered { IfOk result (λ _. gathered.new
-            ≡ and_passed number (passed Nothing (zone_check (builder_zone self.old.calendar name content.now self.old.builder))) gathered.old) }
+        ensures parsed { IfOk result (λ _. parsed.new
+            ≡ and_line number (line_result Nothing (zone_check (builder_zone self.old.calendar name content.now self.old.builder))) parsed.old) }
     {
         match &mut self.builder {
             Builder::Calendar => match name {
@@ -55,7 +55,7 @@ impl Frame {
             },
             Builder::Event(had) => {
                 if let Some(check) = had.line(alloc, tzids, self.calendar, name, content)? {
-                    gathered.check(number, check)?;
+                    parsed.check(number, check)?;
                 }
                 Ok(())
             }
@@ -67,9 +67,9 @@ impl Frame {
 
     /// What the component is where an END has that name. An observance goes to what it stands in.
     #[tactic(auto, unfolding(crate::specs::Lines::least_fault))]
-    pub fn end(self, outer: &mut Builder, name: &[u8]) -> Result<Passed, Refused>
+    pub fn end(self, outer: &mut Builder, name: &[u8]) -> Result<LineResult, Refused>
         ensures { Notes result outer.new (end_fault (is_of name.now self) self.builder) (joined outer.old self.builder)
-            (passed (ended_as self.calendar self.builder) (end_check self.calendar self.builder)) }
+            (line_result (ended_as self.calendar self.builder) (end_check self.calendar self.builder)) }
     {
         if !self.component.is_named(name) {
             drop(self);
@@ -78,8 +78,8 @@ impl Frame {
         let (calendar, builder) = (self.calendar, self.builder);
         match builder {
             Builder::Event(fields) => match fields.end(calendar) {
-                Ok(check) => Ok(Passed {
-                    ended: Ended::Event(CalendarEvent { calendar, fields }),
+                Ok(check) => Ok(LineResult {
+                    ended: ClosedComponent::Event(CalendarEvent { calendar, fields }),
                     check,
                 }),
                 Err(refused) => {
@@ -89,7 +89,7 @@ impl Frame {
             },
             Builder::Zone(had) => had.end(calendar),
             Builder::Observance(had) => had.join(outer),
-            Builder::Calendar | Builder::Elsewhere => Ok(Passed::nothing()),
+            Builder::Calendar | Builder::Elsewhere => Ok(LineResult::nothing()),
         }
     }
 }

@@ -3,17 +3,17 @@ ghost use Rattle.std.specs.Prelude.{◌≡◌, [], Option, None, Some, false, tr
 ghost use Rattle.ics_components.specs.Builders.{observance_of};
 ghost use Rattle.ics_components.specs.Faults.{observance_reading};
 ghost use Rattle.ics_components.specs.Lines.{Gives, Keeps, Notes, is_mark, line_fault, end_fault, unfit, observance_has, observance_property};
-ghost use Rattle.ics_components.specs.Lines.{with_observed, observance_note, joined, passed};
+ghost use Rattle.ics_components.specs.Lines.{with_observed, observance_note, joined, line_result};
 ghost use Rattle.ics_components.specs.declared.builder.Builder.TheVariants.{Observance};
-ghost use Rattle.ics_components.specs.declared.gathered.Ended.TheVariants.{Nothing};
+ghost use Rattle.ics_components.specs.declared.parsed_file.ClosedComponent.TheVariants.{Nothing};
 
 use crate::builder::Builder;
 use crate::event_fields::keep_first;
 use crate::fault::FaultKind;
-use crate::gathered::Passed;
 use crate::listed::Listed;
 use crate::name::Name;
-use crate::observances::{EndedObservance, read_locals};
+use crate::observances::{ClosedObservance, read_locals};
+use crate::parsed_file::LineResult;
 use crate::refused::Refused;
 use crate::rule_value::RuleValue;
 use crate::time::local;
@@ -137,14 +137,14 @@ impl ObservanceBuilder {
 
     /// Goes at its END to the time zone in which it stands.
     #[tactic(auto, unfolding(crate::specs::Lines::least_fault))]
-    pub fn join(self, outer: &mut Builder) -> Result<Passed, Refused>
-        ensures { Notes result outer.new (end_fault true (Observance self)) (joined outer.old (Observance self)) (passed Nothing None) }
+    pub fn join(self, outer: &mut Builder) -> Result<LineResult, Refused>
+        ensures { Notes result outer.new (end_fault true (Observance self)) (joined outer.old (Observance self)) (line_result Nothing None) }
     {
         let (Some(start), Some(offset_from), Some(offset_to)) = (self.start, self.from, self.to)
         else {
             return Err(Refused::Fault(FaultKind::ObservanceField));
         };
-        let observance = EndedObservance {
+        let observance = ClosedObservance {
             start,
             offset_from,
             offset_to,
@@ -154,6 +154,6 @@ impl ObservanceBuilder {
         if let Builder::Zone(zone) = outer {
             zone.observances.values.push(observance)?;
         }
-        Ok(Passed::nothing())
+        Ok(LineResult::nothing())
     }
 }

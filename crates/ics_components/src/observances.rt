@@ -19,7 +19,7 @@ use std::marker::Model;
 
 /// An observance that has ended: DTSTART, TZOFFSETFROM and TZOFFSETTO in seconds, RRULE, and the values of its RDATEs (RFC 5545, section 3.6.5).
 #[derive(Drop)]
-pub struct EndedObservance {
+pub struct ClosedObservance {
     pub start: Local,
     pub offset_from: i32,
     pub offset_to: i32,
@@ -27,7 +27,7 @@ pub struct EndedObservance {
     pub rdates: Listed<Local>,
 }
 
-impl Model for EndedObservance {
+impl Model for ClosedObservance {
     ghost use Rattle.ics_fields.specs.Observances.{ObservanceSaid};
 
     ghost Value = { ObservanceSaid };

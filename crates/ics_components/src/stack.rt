@@ -1,7 +1,7 @@
 //! The components that are open.
 ghost use Rattle.std.specs.Prelude.{◌≡◌, ◌∷◌, [], IfOk};
 ghost use Rattle.ics_components.specs.declared.name.Name.TheVariants.{Begin, End};
-ghost use Rattle.ics_components.specs.Gathered.{and_passed};
+ghost use Rattle.ics_components.specs.ParsedFiles.{and_line};
 ghost use Rattle.ics_components.specs.Lines.{Keeps, fault_on, behind, closed, passing};
 ghost use Rattle.ics_components.specs.PlacedLines.{named};
 ghost use Rattle.ics_components.specs.Pass.{bottom, is_lowest};
@@ -10,8 +10,8 @@ use crate::builder::Builder;
 use crate::component::{Component, Context};
 use crate::fault::FaultKind;
 use crate::frame::Frame;
-use crate::gathered::Gathered;
 use crate::name::{Name, name_of};
+use crate::parsed_file::ParsedFile;
 use crate::refused::Refused;
 use crate::tzid::Tzids;
 use ics_text::Content;
@@ -102,19 +102,19 @@ impl Stack {
     #[tactic(auto, unfolding(crate::specs::Lines::least_fault))]
     fn end(
         &mut self,
-        gathered: &mut Gathered,
+        parsed: &mut ParsedFile,
         number: u64,
         content: &Content<'_>,
     ) -> Result<(), Refused>
         ensures open { Keeps result self.new (fault_on End content.now self.old) (closed self.old) }
-        ensures gathered { IfOk result (λ _. gathered.new ≡ and_passed number (passing End content.now self.old) gathered.old) }
+        ensures parsed { IfOk result (λ _. parsed.new ≡ and_line number (passing End content.now self.old) parsed.old) }
     {
         let Some(outer) = self.outer.pop() else {
             return Err(Refused::Fault(FaultKind::NotCalendar));
         };
         let inner = mem::replace(&mut self.top, outer);
-        let passed = inner.end(&mut self.top.builder, content.value())?;
-        gathered.pass(number, passed)?;
+        let line_result = inner.end(&mut self.top.builder, content.value())?;
+        parsed.pass(number, line_result)?;
         Ok(())
     }
 
@@ -123,22 +123,22 @@ impl Stack {
     pub fn line(
         &mut self,
         alloc: Global,
-        gathered: &mut Gathered,
+        parsed: &mut ParsedFile,
         number: u64,
         content: &Content<'_>,
     ) -> Result<(), Refused>
         ensures open { Keeps result self.new (fault_on (named content.now) content.now self.old) (behind number (named content.now) content.now self.old) }
-        ensures gathered { IfOk result (λ _. gathered.new ≡ and_passed number (passing (named content.now) content.now self.old) gathered.old) }
+        ensures parsed { IfOk result (λ _. parsed.new ≡ and_line number (passing (named content.now) content.now self.old) parsed.old) }
     {
         match name_of(content.name()) {
             Name::Begin => self.begin(alloc, number, content),
-            Name::End => self.end(gathered, number, content),
+            Name::End => self.end(parsed, number, content),
             _ if self.is_lowest() => Err(Refused::Fault(FaultKind::NotCalendar)),
             // most lines of long files are of properties that are not read
             Name::Other => Ok(()),
             name => {
                 let tzids = &mut self.tzids;
-                self.top.line(alloc, tzids, gathered, number, name, content)
+                self.top.line(alloc, tzids, parsed, number, name, content)
             }
         }
     }

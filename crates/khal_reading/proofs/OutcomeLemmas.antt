@@ -6,7 +6,7 @@ use Rattle.std.specs.List.{list_any}
 use Rattle.std.specs.Ordering.{nat_cmp}
 use Rattle.std.proofs.lemmas.Map.Views.{All-from_any}
 use Rattle.ics_event.specs.Event.{FileSaid}
-use Rattle.ics_calendar.specs.Files.{draft_of, file_of, DraftSaid, wanted_names}
+use Rattle.ics_calendar.specs.Files.{unresolved_of, file_of, UnresolvedSaid, wanted_names}
 use Rattle.ics_calendar.specs.GivenFiles.{GivenFiles}
 use Rattle.ics_calendar.specs.ZoneTables.{given_by}
 use Rattle.khal_reading.specs.declared.answered.Answered.{Answered}
@@ -34,12 +34,12 @@ module _ {Z : Type 0} (finds : Z → List ℕ → FindAnswer → Z → Type 0) (
       let h : Learns finds asked (wanted_names bytes) before after answered = rw (none, ← same) (learns-none finds asked before answered k) in
       record { learns = h; outcome_is = rw none (is (given_files (asked ++ h.more))) }
 
-  -- a draft of these bytes whose names are asked for
-  pub draft-settles : OnlyWantedCount → {said : DraftSaid} → said ≡ draft_of bytes → Learns finds asked said.wants before after answered →
+  -- an unresolved file of these bytes whose names are asked for
+  pub unresolved-settles : OnlyWantedCount → {said : UnresolvedSaid} → said ≡ unresolved_of bytes → Learns finds asked said.wants before after answered →
       (unread : Bool) → unread ≡ list_any (contains (slice_cmp nat_cmp) answered.unread) said.wants
       → {outcome : Result FileSaid Refusal} → outcome ≡ file_if unread (file_or_refusal (said.says (given_by answered.files))) →
       Settles finds asked (Some bytes) before after answered outcome
-  draft-settles count d h unread l is =
+  unresolved-settles count d h unread l is =
       let learned : Learns finds asked (wanted_names bytes) before after answered = rw d at h in
       let all : List Asked = asked ++ learned.more in
       let lacks : unread ≡ list_any (is_unread all) (wanted_names bytes) =

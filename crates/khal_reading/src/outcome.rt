@@ -4,8 +4,8 @@ ghost use Rattle.std.specs.BTreeSet.{contains};
 ghost use Rattle.std.specs.Cmp.Lexicographic.{slice_cmp};
 ghost use Rattle.std.specs.List.{list_any};
 ghost use Rattle.std.specs.Ordering.{nat_cmp};
-ghost use Rattle.ics_calendar.specs.Drafts.{draft_said};
-ghost use Rattle.ics_calendar.specs.Files.{draft_of, wanted_names};
+ghost use Rattle.ics_calendar.specs.UnresolvedFiles.{unresolved_said};
+ghost use Rattle.ics_calendar.specs.Files.{unresolved_of, wanted_names};
 ghost use Rattle.ics_calendar.specs.ZoneTables.{given_by};
 ghost use Rattle.khal_ports.specs.Answers.{most_bytes, Answer};
 ghost use Rattle.khal_reading.specs.Asked.{Asked};
@@ -15,7 +15,7 @@ ghost use Rattle.khal_reading.specs.Outcomes.{seen_outcome, EndsReading, IsOutco
 
 use crate::answered::Answered;
 use crate::refusal::Refusal;
-use ics_calendar::{Draft, FileFault, ZoneFiles, only_wanted_files_count};
+use ics_calendar::{FileFault, UnresolvedFile, ZoneFiles, only_wanted_files_count};
 use ics_event::{FileEvents, Text};
 use khal_ports::{RunFault, Source, SourceFault, ZoneSource};
 use std::alloc::{AllocError, Global};
@@ -28,10 +28,10 @@ pub(crate) enum Outcome {
 }
 
 /// The names that a file wants.
-fn wanted(alloc: Global, draft: &Draft) -> Result<Vec<Text>, AllocError>
-    ensures { IfOk result (λ names. names.items ≡ (draft_said draft.now).wants) }
+fn wanted(alloc: Global, unresolved: &UnresolvedFile) -> Result<Vec<Text>, AllocError>
+    ensures { IfOk result (λ names. names.items ≡ (unresolved_said unresolved.now).wants) }
 {
-    draft
+    unresolved
         .wanted(alloc)?
         .into_iter()
         .map(Text::of)
@@ -39,12 +39,16 @@ fn wanted(alloc: Global, draft: &Draft) -> Result<Vec<Text>, AllocError>
 }
 
 /// What a file comes to with these zone files.
-fn settled(alloc: Global, draft: Draft, files: &ZoneFiles) -> Result<Outcome, RunFault>
+fn settled(
+    alloc: Global,
+    unresolved: UnresolvedFile,
+    files: &ZoneFiles,
+) -> Result<Outcome, RunFault>
     ensures ok { IfOk result (λ outcome. seen_outcome outcome
-        ≡ file_or_refusal ((draft_said draft).says (given_by files.now))) }
+        ≡ file_or_refusal ((unresolved_said unresolved).says (given_by files.now))) }
     ensures err { IfErr result (λ fault. fault ≡ RunFault.Memory) }
 {
-    match draft.settle(alloc, files) {
+    match unresolved.settle(alloc, files) {
         Ok(file) => Ok(Outcome::Accepted(file)),
         Err(FileFault::At { line, kind }) => Ok(Outcome::Refused(Refusal::At { line, kind })),
         Err(FileFault::Memory) => Err(RunFault::Memory),
@@ -56,17 +60,17 @@ fn wants_unread<Z: ZoneSource>(
     alloc: Global,
     zones: &mut Z,
     answered: &mut Answered,
-    draft: &Draft,
+    unresolved: &UnresolvedFile,
 ) -> Result<bool, RunFault>
     ensures ok { OnOk result ((asked : List Asked) → Knows asked answered.old
-        → Learns Z.finds asked (draft_said draft.now).wants zones.old zones.new answered.new) }
+        → Learns Z.finds asked (unresolved_said unresolved.now).wants zones.old zones.new answered.new) }
     ensures unread { IfOk result (λ unread. unread
-        ≡ list_any (contains (slice_cmp nat_cmp) answered.new.unread) (draft_said draft.now).wants) }
+        ≡ list_any (contains (slice_cmp nat_cmp) answered.new.unread) (unresolved_said unresolved.now).wants) }
     ensures some { OnErr result ((asked : List Asked) → Knows asked answered.old
-        → LearnsSome Z.finds asked (draft_said draft.now).wants zones.old zones.new) }
+        → LearnsSome Z.finds asked (unresolved_said unresolved.now).wants zones.old zones.new) }
     ensures err { IfErr result (λ fault. fault ≡ RunFault.Memory) }
 {
-    let wanted = wanted(alloc, draft)?;
+    let wanted = wanted(alloc, unresolved)?;
     answered.ask_all(alloc, zones, &wanted)?;
     Ok(answered.lacks(&wanted))
 }
@@ -76,24 +80,24 @@ fn outcome_with<Z: ZoneSource>(
     alloc: Global,
     zones: &mut Z,
     answered: &mut Answered,
-    draft: Draft,
+    unresolved: UnresolvedFile,
 ) -> Result<Outcome, RunFault>
-    ensures ok { IfOk result (λ outcome. (bytes : List ℕ) (asked : List Asked) → draft_said draft ≡ draft_of bytes
+    ensures ok { IfOk result (λ outcome. (bytes : List ℕ) (asked : List Asked) → unresolved_said unresolved ≡ unresolved_of bytes
         → Knows asked answered.old
         → Settles Z.finds asked (Some bytes) zones.old zones.new answered.new (seen_outcome outcome)) }
-    ensures some { OnErr result ((bytes : List ℕ) (asked : List Asked) → draft_said draft ≡ draft_of bytes
+    ensures some { OnErr result ((bytes : List ℕ) (asked : List Asked) → unresolved_said unresolved ≡ unresolved_of bytes
         → Knows asked answered.old → LearnsSome Z.finds asked (wanted_names bytes) zones.old zones.new) }
     ensures err { IfErr result (λ fault. fault ≡ RunFault.Memory) }
 {
     only_wanted_files_count();
-    match wants_unread(alloc, zones, answered, &draft) {
-        Ok(false) => settled(alloc, draft, &answered.files),
+    match wants_unread(alloc, zones, answered, &unresolved) {
+        Ok(false) => settled(alloc, unresolved, &answered.files),
         Ok(true) => {
-            drop(draft);
+            drop(unresolved);
             Ok(Outcome::Refused(Refusal::Unread))
         }
         Err(fault) => {
-            drop(draft);
+            drop(unresolved);
             Err(fault)
         }
     }
@@ -113,8 +117,8 @@ fn outcome_of<Z: ZoneSource>(
         → LearnsSome Z.finds asked (wanted_names bytes.now) zones.old zones.new) }
     ensures err { IfErr result (λ fault. fault ≡ RunFault.Memory) }
 {
-    match Draft::read(alloc, bytes) {
-        Ok(draft) => outcome_with(alloc, zones, answered, draft),
+    match UnresolvedFile::read(alloc, bytes) {
+        Ok(unresolved) => outcome_with(alloc, zones, answered, unresolved),
         Err(FileFault::At { line, kind }) => Ok(Outcome::Refused(Refusal::At { line, kind })),
         Err(FileFault::Memory) => Err(RunFault::Memory),
     }

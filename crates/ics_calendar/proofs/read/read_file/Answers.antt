@@ -5,9 +5,9 @@ use Rattle.ics_calendar.proofs.Whole.{fault-says}
 use Rattle.ics_calendar.proofs.read.read_file.Goals as goal
 
 pub returns : goal.returns
-returns c = subst (SaysFile c.settle.result) (λ i. (c.in_ok-draft.ensures.draft i).says (c.in_ok-files.ensures i)) c.settle.ensures
+returns c = subst (SaysFile c.settle.result) (λ i. (c.in_ok-unresolved.ensures.unresolved i).says (c.in_ok-files.ensures i)) c.settle.ensures
 
-pub returns-in_err-draft : goal.returns-in_err-draft
-returns-in_err-draft c =
+pub returns-in_err-unresolved : goal.returns-in_err-unresolved
+returns-in_err-unresolved c =
     let e = err_from_is_err_and c.from_residual.result c.from_residual.ensures.1 in
-    rw (e.1, e.2) (fault-says c.args.bytes.now c.in_err-draft.field-0.0 _ c.in_err-draft.ensures.fault)
+    rw (e.1, e.2) (fault-says c.args.bytes.now c.in_err-unresolved.field-0.0 _ c.in_err-unresolved.ensures.fault)

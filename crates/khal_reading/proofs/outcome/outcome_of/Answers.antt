@@ -1,5 +1,5 @@
 use Rattle.std.proofs.Common.{ℕ, refl, sym, ap, ap₂, ◌∙◌, subst, Err}
-use Rattle.ics_calendar.specs.Drafts.{IsFaultOf}
+use Rattle.ics_calendar.specs.UnresolvedFiles.{IsFaultOf}
 use Rattle.ics_calendar.specs.Files.{wanted_names}
 use Rattle.ics_components.specs.declared.fault.FaultKind.{FaultKind}
 use Rattle.khal_reading.specs.Errors.{file_or_refusal}

@@ -11,4 +11,4 @@ returns-in-Other c =
     let line : Parts = c.args.content.now in
     let other : Other ≡ named line = rw c.name.ensures at c.in-Other.ensures in
     let kept = other_line c.args.number line c.args.self.now (named line) (sym c.if-is_lowest.ensures) other in
-    record { «open» = (kept.0, kept.1); gathered = kept.2 c.args.gathered.now }
+    record { «open» = (kept.0, kept.1); parsed = kept.2 c.args.parsed.now }

@@ -1,7 +1,7 @@
 use Rattle.std.proofs.Common.{◌≡◌, ◌++◌, map}
 use Rattle.ics_calendar.specs.Settled.{event_in}
 use Rattle.ics_calendar.specs.ZoneTables.{known_by}
-use Rattle.ics_calendar.proofs.draft.events_of.Given as goal
+use Rattle.ics_calendar.proofs.unresolved_file.events_of.Given as goal
 
 abbrev pub invariant-loop-event : goal.invariant-loop-event
 invariant-loop-event l =

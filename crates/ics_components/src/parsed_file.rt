@@ -1,21 +1,21 @@
 //! What is gathered of a file, before its time zones and its events are made of it.
 ghost use Rattle.std.specs.Prelude.{◌≡◌, IfOk, None, Some};
-ghost use Rattle.ics_components.specs.Gathered.{and_ended, and_passed};
-ghost use Rattle.ics_components.specs.Lines.{passed};
-ghost use Rattle.ics_components.specs.declared.gathered.Ended.TheVariants.{Nothing};
+ghost use Rattle.ics_components.specs.ParsedFiles.{and_ended, and_line};
+ghost use Rattle.ics_components.specs.Lines.{line_result};
+ghost use Rattle.ics_components.specs.declared.parsed_file.ClosedComponent.TheVariants.{Nothing};
 
 use crate::deferred_check::{DeferredCheck, ZoneName};
 use crate::event_fields::EventFields;
 use crate::listed::Listed;
-use crate::observances::EndedObservance;
+use crate::observances::ClosedObservance;
 use std::alloc::AllocError;
 use std::marker::Model;
 
 /// A time zone that has ended (RFC 5545, section 3.6.5).
 #[derive(Drop)]
-pub struct EndedZone {
+pub struct CalendarZone {
     pub name: ZoneName,
-    pub observances: Listed<EndedObservance>,
+    pub observances: Listed<ClosedObservance>,
 }
 
 /// An event that has ended, as its lines give it, and the number of the BEGIN line of its calendar.
@@ -27,26 +27,26 @@ pub struct CalendarEvent {
 
 /// What ends on a line, if it is a component that is read.
 #[derive(Drop)]
-pub enum Ended {
-    Zone(EndedZone),
+pub enum ClosedComponent {
+    Zone(CalendarZone),
     Event(CalendarEvent),
     Nothing,
 }
 
 /// What is gathered on a line: what ends there, and the check that it leaves to the second round.
 #[derive(Drop)]
-pub struct Passed {
-    pub ended: Ended,
+pub struct LineResult {
+    pub ended: ClosedComponent,
     pub check: Option<DeferredCheck>,
 }
 
-impl Passed {
+impl LineResult {
     /// Nothing ends, and there is no check.
-    pub fn nothing() -> Passed
-        ensures { result ≡ passed Nothing None }
+    pub fn nothing() -> LineResult
+        ensures { result ≡ line_result Nothing None }
     {
-        Passed {
-            ended: Ended::Nothing,
+        LineResult {
+            ended: ClosedComponent::Nothing,
             check: None,
         }
     }
@@ -61,46 +61,46 @@ pub struct LineCheck {
 
 /// What is gathered of a file: the time zones and the events that have ended, and the checks that are deferred, each in the order of the lines.
 #[derive(Drop)]
-pub struct Gathered {
-    pub zones: Vec<EndedZone>,
+pub struct ParsedFile {
+    pub zones: Vec<CalendarZone>,
     pub events: Vec<CalendarEvent>,
     pub checks: Vec<LineCheck>,
 }
 
-impl Model for Gathered {
-    ghost use Rattle.ics_components.specs.GatheredSeen.{GatheredSeen};
+impl Model for ParsedFile {
+    ghost use Rattle.ics_components.specs.ParsedFileSeen.{ParsedFileSeen};
 
-    ghost Value = { GatheredSeen };
+    ghost Value = { ParsedFileSeen };
 
     ghost view = { λ a. record { zones = a.zones.items; events = a.events.items; checks = a.checks.items } };
 }
 
-impl Gathered {
+impl ParsedFile {
     /// Adds what ends on a line.
-    fn end(&mut self, ended: Ended) -> Result<(), AllocError>
+    fn end(&mut self, ended: ClosedComponent) -> Result<(), AllocError>
         ensures { IfOk result (λ _. self.new ≡ and_ended ended self.old) }
     {
         match ended {
-            Ended::Zone(zone) => self.zones.push(zone)?,
-            Ended::Event(event) => self.events.push(event)?,
-            Ended::Nothing => {}
+            ClosedComponent::Zone(zone) => self.zones.push(zone)?,
+            ClosedComponent::Event(event) => self.events.push(event)?,
+            ClosedComponent::Nothing => {}
         }
         Ok(())
     }
 
     /// Adds the check of the line with that number.
     pub(crate) fn check(&mut self, line: u64, check: DeferredCheck) -> Result<(), AllocError>
-        ensures { IfOk result (λ _. self.new ≡ and_passed line (passed Nothing (Some check)) self.old) }
+        ensures { IfOk result (λ _. self.new ≡ and_line line (line_result Nothing (Some check)) self.old) }
     {
         self.checks.push(LineCheck { line, check })?;
         Ok(())
     }
 
     /// Adds what is gathered on the line with that number.
-    pub(crate) fn pass(&mut self, number: u64, passed: Passed) -> Result<(), AllocError>
-        ensures { IfOk result (λ _. self.new ≡ and_passed number passed self.old) }
+    pub(crate) fn pass(&mut self, number: u64, line_result: LineResult) -> Result<(), AllocError>
+        ensures { IfOk result (λ _. self.new ≡ and_line number line_result self.old) }
     {
-        let Passed { ended, check } = passed;
+        let LineResult { ended, check } = line_result;
         if let Err(error) = self.end(ended) {
             drop(check);
             return Err(error);

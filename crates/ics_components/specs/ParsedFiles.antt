@@ -6,24 +6,24 @@ use Rattle.ics_components.specs.declared.deferred_check.DeferredCheck.{DeferredC
 use Rattle.ics_components.specs.declared.deferred_check.DeferredCheck.TheVariants.{Ends}
 use Rattle.ics_components.specs.declared.deferred_check.Instant.{Instant}
 use Rattle.ics_components.specs.declared.deferred_check.Instant.TheVariants.{Utc, Zoned}
-use Rattle.ics_components.specs.declared.gathered.Ended.{Ended}
-use Rattle.ics_components.specs.declared.gathered.Ended.TheVariants as ended
-use Rattle.ics_components.specs.declared.gathered.CalendarEvent.{CalendarEvent}
-use Rattle.ics_components.specs.declared.gathered.EndedZone.{EndedZone}
-use Rattle.ics_components.specs.declared.gathered.LineCheck.{LineCheck}
-use Rattle.ics_components.specs.declared.gathered.Passed.{Passed}
-use Rattle.ics_components.specs.GatheredSeen.{GatheredSeen}
+use Rattle.ics_components.specs.declared.parsed_file.ClosedComponent.{ClosedComponent}
+use Rattle.ics_components.specs.declared.parsed_file.ClosedComponent.TheVariants as ended
+use Rattle.ics_components.specs.declared.parsed_file.CalendarEvent.{CalendarEvent}
+use Rattle.ics_components.specs.declared.parsed_file.CalendarZone.{CalendarZone}
+use Rattle.ics_components.specs.declared.parsed_file.LineCheck.{LineCheck}
+use Rattle.ics_components.specs.declared.parsed_file.LineResult.{LineResult}
+use Rattle.ics_components.specs.ParsedFileSeen.{ParsedFileSeen}
 use Rattle.ics_components.specs.Sound.{EachZone, IsWhole, IsSoundZone}
 
-abbrev pub nothing_gathered : GatheredSeen
-nothing_gathered = record { zones = []; events = []; checks = [] }
+abbrev pub nothing_parsed : ParsedFileSeen
+nothing_parsed = record { zones = []; events = []; checks = [] }
 
 -- what ends on a line, if it is of the kind
-abbrev pub zones_of_end : Ended → List EndedZone
+abbrev pub zones_of_end : ClosedComponent → List CalendarZone
 zones_of_end (ended.Zone zone) = zone ∷ []
 zones_of_end _ = []
 
-abbrev pub events_of_end : Ended → List CalendarEvent
+abbrev pub events_of_end : ClosedComponent → List CalendarEvent
 events_of_end (ended.Event event) = event ∷ []
 events_of_end _ = []
 
@@ -33,11 +33,11 @@ checks_of number None = []
 checks_of number (Some check) = record { line = number; check = check } ∷ []
 
 -- WHAT IS GATHERED with what ends on a line more, and the check of that line.
-abbrev pub and_ended : Ended → GatheredSeen → GatheredSeen
+abbrev pub and_ended : ClosedComponent → ParsedFileSeen → ParsedFileSeen
 and_ended e had = record had { zones = had.zones ++ zones_of_end e; events = had.events ++ events_of_end e }
 
-abbrev pub and_passed : ℕ → Passed → GatheredSeen → GatheredSeen
-and_passed number p had = record (and_ended p.ended had) { checks = had.checks ++ checks_of number p.check }
+abbrev pub and_line : ℕ → LineResult → ParsedFileSeen → ParsedFileSeen
+and_line number p had = record (and_ended p.ended had) { checks = had.checks ++ checks_of number p.check }
 
 -- What is to be read in a time zone lies in the years of stamps.
 abbrev pub IsSoundInstant : Instant → Type 0
@@ -49,7 +49,7 @@ IsSoundCheck (Ends start end) = IsSoundInstant start × IsSoundInstant end
 IsSoundCheck _ = Unit {0}
 
 -- The second round checks the zones of each event's stamps, and its end against its start.
-pub record IsSoundGathered (g : GatheredSeen) : Type 0 where
+pub record IsSoundParsed (g : ParsedFileSeen) : Type 0 where
   pub zones : All (λ z. IsSoundZone z.observances) g.zones
   pub whole : All (λ event. IsWhole event.fields) g.events
   pub awaited : All (λ event. EachZone (Contains (map (λ w. w.check) g.checks)) event.calendar event.fields) g.events

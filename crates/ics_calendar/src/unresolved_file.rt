@@ -1,8 +1,8 @@
 //! Files in which the first round finds nothing.
 ghost use Rattle.std.specs.Prelude.{◌≡◌, ◌≤◌, length, map, IfOk, IfErr};
 ghost use Rattle.std.specs.List.{All};
-ghost use Rattle.ics_calendar.specs.Drafts.{draft_said, IsFaultOf};
-ghost use Rattle.ics_calendar.specs.Files.{draft_of, SaysFile};
+ghost use Rattle.ics_calendar.specs.UnresolvedFiles.{unresolved_said, IsFaultOf};
+ghost use Rattle.ics_calendar.specs.Files.{unresolved_of, SaysFile};
 ghost use Rattle.ics_calendar.specs.Settled.{event_in, IsReady};
 ghost use Rattle.ics_calendar.specs.ZoneTables.{given_by, known_by};
 
@@ -11,7 +11,7 @@ use crate::judged::first_judged;
 use crate::unknown_zones::{copied, unknown_names};
 use crate::zone_files::ZoneFiles;
 use crate::zone_table::ZoneTable;
-use ics_components::{CalendarEvent, Fault, FileFault, Gathered, LineCheck, Tzid, gather};
+use ics_components::{CalendarEvent, Fault, FileFault, LineCheck, ParsedFile, Tzid, parse_file};
 use ics_event::{Event, FileEvents};
 use ics_text::numbers_rise;
 use std::alloc::{AllocError, Global};
@@ -19,29 +19,29 @@ use std::marker::Model;
 
 /// A file in which the first round has found no fault. Contracts see the names of the time zones that it wants, and what it is with zone files.
 #[derive(Drop)]
-pub struct Draft {
+pub struct UnresolvedFile {
     table: ZoneTable,
     events: Vec<CalendarEvent>,
     checks: Vec<LineCheck>,
     wanted: Vec<Tzid>,
 }
 
-impl Model for Draft {
+impl Model for UnresolvedFile {
     ghost use Rattle.std.specs.Coded.{codes};
     ghost use Rattle.std.specs.Prelude.{◌≡◌};
     ghost use Rattle.ics_calendar.specs.contracts.zone_table.ZoneTable as zone_table;
-    ghost use Rattle.ics_calendar.specs.Drafts.{DraftSeen, IsSoundDraft};
+    ghost use Rattle.ics_calendar.specs.UnresolvedFiles.{UnresolvedSeen, IsSoundUnresolved};
     ghost use Rattle.ics_calendar.specs.Settled.{all_unknown};
     ghost use Rattle.ics_calendar.specs.Wanted.{each_once};
     ghost use Rattle.ics_calendar.specs.ZoneTables.{known_by};
 
-    ghost Value = { DraftSeen };
+    ghost Value = { UnresolvedSeen };
 
     ghost coded = { Prim.hlevel (codes, zone_table.the_row.coded) };
 
     ghost view = { λ a. record { table = a.table; events = a.events.items; checks = a.checks.items } };
 
-    ghost invariant = { λ a. IsSoundDraft (known_by a.table) a.events.items a.checks.items
+    ghost invariant = { λ a. IsSoundUnresolved (known_by a.table) a.events.items a.checks.items
         × (a.wanted.items ≡ each_once (all_unknown (known_by a.table).index a.checks.items)) };
 }
 
@@ -61,23 +61,23 @@ fn events_of(
     Ok(events)
 }
 
-impl Draft {
+impl UnresolvedFile {
     /// Reads a file of at most 16,777,216 bytes as far as no zone files are needed. A fault is the file's first, whatever zone files are given.
     /// `Memory` if an allocation fails.
-    pub fn read(alloc: Global, bytes: &[u8]) -> Result<Draft, FileFault>
+    pub fn read(alloc: Global, bytes: &[u8]) -> Result<UnresolvedFile, FileFault>
         requires { length bytes.now ≤ 16_777_216 }
-        ensures draft { IfOk result (λ draft. draft_said draft ≡ draft_of bytes.now) }
+        ensures unresolved { IfOk result (λ unresolved. unresolved_said unresolved ≡ unresolved_of bytes.now) }
         ensures fault { IfErr result (IsFaultOf bytes.now) }
     {
         numbers_rise();
-        let Gathered {
+        let ParsedFile {
             zones,
             events,
             checks,
-        } = gather(alloc, bytes)?;
+        } = parse_file(alloc, bytes)?;
         let table = ZoneTable::new(alloc, zones)?;
         let wanted = unknown_names(alloc, &table, &checks)?;
-        Ok(Draft {
+        Ok(UnresolvedFile {
             table,
             events,
             checks,
@@ -87,16 +87,16 @@ impl Draft {
 
     /// The names of the time zones that it wants: see [`wanted`](crate::wanted). The error means that an allocation failed.
     pub fn wanted(&self, alloc: Global) -> Result<Vec<Vec<u8>>, AllocError>
-        ensures { IfOk result (λ names. map (λ name. name.items) names.items ≡ (draft_said self.now).wants) }
+        ensures { IfOk result (λ names. map (λ name. name.items) names.items ≡ (unresolved_said self.now).wants) }
     {
         copied(alloc, &self.wanted)
     }
 
     /// The time zones and the events of the file with these zone files, or its first fault. `Memory` if an allocation fails.
     pub fn settle(self, alloc: Global, files: &ZoneFiles) -> Result<FileEvents, FileFault>
-        ensures { SaysFile result ((draft_said self).says (given_by files.now)) }
+        ensures { SaysFile result ((unresolved_said self).says (given_by files.now)) }
     {
-        let Draft {
+        let UnresolvedFile {
             table,
             events,
             checks,
