@@ -32,7 +32,7 @@ use Rattle.ics_components.specs.declared.deferred_check.Instant.{Instant}
 use Rattle.ics_components.specs.declared.deferred_check.Instant.TheVariants as instant
 use Rattle.ics_components.specs.declared.deferred_check.ZoneName.{ZoneName}
 use Rattle.ics_components.specs.SecondRound.{zone_named, zone_check, instant_on, both_compared, ends_in}
-use Rattle.ics_components.specs.Sound.{IsSoundTime, IsSoundRdate, HasZone, RdateHasZone}
+use Rattle.ics_components.specs.Sound.{IsSoundTime, IsSoundRdate}
 use Rattle.ics_components.specs.Values.{is_lasting, is_filled, is_out, is_bad_end, ends_badly}
 use Rattle.ics_event.specs.Event.{is_zoned, IsTime, IsWithin, IsEnd, IsLasting, IsLength, IsRdate, IsEvent, EndsBelow, RdateBelow}
 use Rattle.ics_event.specs.Event.{TimeBelow, EndsWithin, IsEventOf, AreEventsOf, compared, moment_in}
@@ -138,36 +138,37 @@ module _ (known : KnownZones) where
     zone-is (Some name) false e = cc
     zone-is None true e = cc
 
-    placed : (time : Time (List ℕ)) → IsSoundTime time → map_time at time ≡ time_in (known.index (zone_named k time.zone)) time.stamp
-    placed time h = λ i. record { stamp = time.stamp; zone = zone-is time.zone (is_zoned time.stamp) h.zone i }
-
+    -- sound, where no check finds a fault
     abbrev IsFineTime : Time (List ℕ) → Type 0
-    IsFineTime time = HasZone (λ l. judged known l ≡ None) k time
+    IsFineTime = IsSoundTime (λ l. judged known l ≡ None) k
 
     abbrev IsFineRdate : Rdate (List ℕ) → Type 0
-    IsFineRdate rdate = RdateHasZone (λ l. judged known l ≡ None) k rdate
+    IsFineRdate = IsSoundRdate (λ l. judged known l ≡ None) k
 
-    time-is : (time : Time (List ℕ)) → IsSoundTime time → IsFineTime time → IsTimeOf (map_time at time)
-    time-is time h f = subst IsTimeOf (sym (placed time h)) (stamp-time (zone_named k time.zone) time.stamp h.years f)
+    placed : (time : Time (List ℕ)) → IsFineTime time → map_time at time ≡ time_in (known.index (zone_named k time.zone)) time.stamp
+    placed time h = λ i. record { stamp = time.stamp; zone = zone-is time.zone (is_zoned time.stamp) h.zone i }
 
-    recurrence-is : (o : Option (Time (List ℕ))) → IfSome o IsSoundTime → IfSome o IsFineTime →
+    time-is : (time : Time (List ℕ)) → IsFineTime time → IsTimeOf (map_time at time)
+    time-is time h = subst IsTimeOf (sym (placed time h)) (stamp-time (zone_named k time.zone) time.stamp h.years h.known)
+
+    recurrence-is : (o : Option (Time (List ℕ))) → IfSome o IsFineTime →
         IfSome (option_map (map_time at) o) IsTime × (IsTable known → IfSome (option_map (map_time at) o) (TimeBelow (length known.zones)))
-    recurrence-is None h f = (tt, λ table. tt)
-    recurrence-is (Some time) h f = time-is time h f
+    recurrence-is None h = (tt, λ table. tt)
+    recurrence-is (Some time) h = time-is time h
 
     abbrev IsRdateOf : Rdate ℕ → Type 0
     IsRdateOf rdate = IsRdate rdate × (IsTable known → RdateBelow (length known.zones) rdate)
 
-    rdate-is : (v : Rdate (List ℕ)) → IsSoundRdate v → IsFineRdate v → IsRdateOf (map_rdate at v)
-    rdate-is (At time) h f = time-is time h f
-    rdate-is (Span start Open) h f = absurd h.1
-    rdate-is (Span start (Until end)) h f =
-        let first = time-is start h.0 f.0 in let last = time-is end h.1 f.1 in ((first.0, last.0), λ table. (first.1 table, last.1 table))
-    rdate-is (Span start (Lasting d)) h f = let first = time-is start h.0 f.0 in ((first.0, lasting-is d h.1), λ table. (first.1 table, tt))
+    rdate-is : (v : Rdate (List ℕ)) → IsFineRdate v → IsRdateOf (map_rdate at v)
+    rdate-is (At time) h = time-is time h
+    rdate-is (Span start Open) h = absurd h.1
+    rdate-is (Span start (Until end)) h =
+        let first = time-is start h.0 in let last = time-is end h.1 in ((first.0, last.0), λ table. (first.1 table, last.1 table))
+    rdate-is (Span start (Lasting d)) h = let first = time-is start h.0 in ((first.0, lasting-is d h.1), λ table. (first.1 table, tt))
 
-    exdate-is : (v : Rdate (List ℕ)) → IsSoundRdate v → IsFineRdate v → IsTimeOf (map_time at (start_of v))
-    exdate-is (At time) h f = time-is time h f
-    exdate-is (Span start length) h f = time-is start h.0 f.0
+    exdate-is : (v : Rdate (List ℕ)) → IsFineRdate v → IsTimeOf (map_time at (start_of v))
+    exdate-is (At time) h = time-is time h
+    exdate-is (Span start length) h = time-is start h.0
 
     -- and its length
     abbrev IsLengthOf : Time (List ℕ) → Length (List ℕ) → Type 0
@@ -175,12 +176,12 @@ module _ (known : KnownZones) where
         IsLength start.stamp (map_length at lasts)
         × (IsTable known → EndsBelow (length known.zones) (map_length at lasts) × EndsWithin known.zones (map_time at start) (map_length at lasts))
 
-    length-is : (s : Time (List ℕ)) (end : Option (Time (List ℕ))) (duration : Option Duration) → IsSoundTime s → IfSome end IsSoundTime →
-        ends_badly (Some s) end ≡ false → IfSome duration (λ d. is_lasting d ≡ true) → IsFineTime s → IfSome end IsFineTime →
-        IsFine known (ends_in k (Some s) end) → IsLengthOf s (given_length end duration)
-    length-is s (Some e) duration h i bad lasts u v w =
-        let last = time-is e i v in
-        let ends = ends-are s.zone e.zone s.stamp e.stamp bad u v w in
+    length-is : (s : Time (List ℕ)) (end : Option (Time (List ℕ))) (duration : Option Duration) → IsFineTime s → IfSome end IsFineTime →
+        ends_badly (Some s) end ≡ false → IfSome duration (λ d. is_lasting d ≡ true) → IsFine known (ends_in k (Some s) end) →
+        IsLengthOf s (given_length end duration)
+    length-is s (Some e) duration h i bad lasts w =
+        let last = time-is e i in
+        let ends = ends-are s.zone e.zone s.stamp e.stamp bad h.known i.known w in
         let start : Time ℕ = time_in (known.index (zone_named k s.zone)) s.stamp in (
           (last.0, ends.0),
           λ table. (
@@ -189,30 +190,26 @@ module _ (known : KnownZones) where
                 (subst (λ (time : Time ℕ). EndsWithin known.zones start (Until time)) (sym (placed e i)) (ends.1 table)),
           ),
         )
-    length-is s None (Some d) h i bad lasts u v w = (lasting-is d lasts, λ table. (tt, tt))
-    length-is s None None h i bad lasts u v w = (tt, λ table. (tt, tt))
+    length-is s None (Some d) h i bad lasts w = (lasting-is d lasts, λ table. (tt, tt))
+    length-is s None None h i bad lasts w = (tt, λ table. (tt, tt))
 
   pub event-sound : (event : CalendarEvent) → IsReady known event →
       IsEvent (event_in known.index event) × (IsTable known → IsEventOf known.zones (event_in known.index event))
   event-sound e r =
       let k : ℕ = e.calendar in
       let had : EventFields = e.fields in
-      let whole = r.whole in
-      let zones = r.zones in
-      let started = some-in had.start whole.started in
+      let started = some-in had.start r.started in
       let s : Time (List ℕ) = start_in had.start in
-      let there : IsSoundTime s = subst (λ o. IfSome o IsSoundTime) started whole.start in
-      let zone : IsFineTime k s = subst (λ o. IfSome o (IsFineTime k)) started zones.start in
-      let start = time-is k s there zone in
+      let there : IsFineTime k s = subst (λ o. IfSome o (IsFineTime k)) started r.start in
+      let start = time-is k s there in
       let ends =
-      length-is k s had.end had.duration there whole.end (subst (λ o. ends_badly o had.end ≡ false) started whole.ends) whole.lasting zone zones.end
-      (subst (λ o. IsFine known (ends_in k o had.end)) started zones.length) in
-      let rdates = All-map (IsRdateOf k) (map_rdate (at k)) had.rdates (λ i d l. rdate-is k _ (whole.rdates i d l) (zones.rdates i d l)) in
-      let exdates =
-      All-map IsTimeOf (λ exdate. map_time (at k) (start_of exdate)) had.exdates (λ i d l. exdate-is k _ (whole.exdates i d l) (zones.exdates i d l)) in
-      let recurrence = recurrence-is k had.recurrence whole.recurrence zones.recurrence in (
+      length-is k s had.end had.duration there r.end (subst (λ o. ends_badly o had.end ≡ false) started r.ends) r.lasting
+      (subst (λ o. IsFine known (ends_in k o had.end)) started r.length) in
+      let rdates = All-map (IsRdateOf k) (map_rdate (at k)) had.rdates (λ i d l. rdate-is k _ (r.rdates i d l)) in
+      let exdates = All-map IsTimeOf (λ exdate. map_time (at k) (start_of exdate)) had.exdates (λ i d l. exdate-is k _ (r.exdates i d l)) in
+      let recurrence = recurrence-is k had.recurrence r.recurrence in (
         record {
-          named = filled-not-empty had.uid whole.named;
+          named = filled-not-empty had.uid r.named;
           start = start.0;
           length = ends.0;
           rdates = λ i d l. (rdates i d l).0;

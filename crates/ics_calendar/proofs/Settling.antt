@@ -13,7 +13,7 @@ use Rattle.ics_calendar.specs.UnresolvedFiles.{IsSoundUnresolved}
 use Rattle.ics_calendar.specs.GivenFiles.{GivenFiles}
 use Rattle.ics_calendar.proofs.EventSound.{events-of}
 use Rattle.ics_calendar.proofs.FilesGiven.{table-known, table-with}
-use Rattle.ics_components.proofs.Sound.{each-weaker}
+use Rattle.ics_components.proofs.Sound.{event-weaker}
 use Rattle.ics_components.proofs.Order.{found-none}
 
 -- THE DEFERRED CHECKS, where none finds a fault.
@@ -26,24 +26,17 @@ none-judged known (w ∷ ws) e =
 -- AN UNRESOLVED FILE in which none does: each event is ready.
 module _ (known : KnownZones) (ended : List CalendarEvent) (ws : List LineCheck) (s : IsSoundUnresolved known ended ws) (n : first_judged known ws ≡ None) where
   pub ready : All (IsReady known) ended
-  ready i d l = record {
-    whole = s.whole i d l;
-    zones = each-weaker (Contains (map (λ w. w.check) ws)) (λ l. judged known l ≡ None)
-        (λ l c. All-contains (λ l. judged known l ≡ None) (map (λ w. w.check) ws) l (none-judged known ws n) c) _ _ (s.awaited i d l);
-  }
+  ready i d l =
+      event-weaker (Contains (map (λ w. w.check) ws)) (λ l. judged known l ≡ None)
+      (λ l c. All-contains (λ l. judged known l ≡ None) (map (λ w. w.check) ws) l (none-judged known ws n) c) _ _ (s.whole i d l)
 
   pub events-here : AreEventsOf known.zones (map (event_in known.index) ended)
   events-here = events-of known s.table ended ready
 
 -- AN UNRESOLVED FILE is sound where what is gathered is, and stays so with zone files.
 pub unresolved-sound : (g : ParsedFileSeen) → IsSoundParsed g → IsSoundUnresolved (known_in g.zones) g.events g.checks
-unresolved-sound g s = record {
-  table = table-known g.zones;
-  whole = s.whole;
-  awaited = s.awaited;
-  sound = s.sound;
-}
+unresolved-sound g s = record { table = table-known g.zones; whole = s.events; sound = s.sound }
 
 pub unresolved-with : {known : KnownZones} {ended : List CalendarEvent} {ws : List LineCheck} (files : GivenFiles) (names : List (List ℕ)) →
     IsSoundUnresolved known ended ws → IsSoundUnresolved (with_files known files names) ended ws
-unresolved-with {known} files names s = record { table = table-with known files names s.table; whole = s.whole; awaited = s.awaited; sound = s.sound }
+unresolved-with {known} files names s = record { table = table-with known files names s.table; whole = s.whole; sound = s.sound }

@@ -6,7 +6,7 @@ use Rattle.ics_components.specs.declared.parsed_file.CalendarZone.{CalendarZone}
 use Rattle.ics_components.specs.declared.parsed_file.LineCheck.{LineCheck}
 use Rattle.ics_components.specs.declared.deferred_check.ZoneName.{ZoneName}
 use Rattle.ics_components.specs.declared.fault.Fault.{Fault}
-use Rattle.ics_components.specs.Sound.{EachZone, IsWhole}
+use Rattle.ics_components.specs.Sound.{IsSoundEvent}
 use Rattle.ics_components.specs.FirstFault.{found}
 use Rattle.ics_event.specs.Event.{EventSeen, FileSaid}
 use Rattle.ics_calendar.specs.DeferredChecks.{KnownZones, known_zones, with_files, judged, unknown_in}
@@ -24,9 +24,8 @@ first_judged known [] = None
 first_judged known (w ∷ ws) = found w.line (judged known w.check) (first_judged known ws)
 
 -- An event that no fault of either round stands on.
-pub record IsReady (known : KnownZones) (event : CalendarEvent) : Type 0 where
-  pub whole : IsWhole event.fields
-  pub zones : EachZone (λ l. judged known l ≡ None) event.calendar event.fields
+abbrev pub IsReady : KnownZones → CalendarEvent → Type 0
+IsReady known event = IsSoundEvent (λ check. judged known check ≡ None) event.calendar event.fields
 
 -- the event, given the index of the zone that a name stands for
 abbrev pub event_in : (ZoneName → Option ℕ) → CalendarEvent → EventSeen

@@ -6,7 +6,7 @@ use Rattle.ics_components.specs.declared.fault.FileFault.TheVariants.{Memory, At
 use Rattle.ics_calendar.specs.Files.{UnresolvedSaid, file_of, wanted_names}
 use Rattle.ics_calendar.specs.Settled.{unresolved_by}
 use Rattle.ics_components.specs.ParsedFiles.{IsSoundCheck}
-use Rattle.ics_components.specs.Sound.{EachZone, IsWhole}
+use Rattle.ics_components.specs.Sound.{IsSoundEvent}
 use Rattle.ics_calendar.specs.GivenFiles.{GivenFiles}
 use Rattle.ics_calendar.specs.ZoneTables.{known_by}
 use Rattle.ics_components.specs.declared.deferred_check.ZoneName.{ZoneName}
@@ -28,8 +28,7 @@ pub record IsTable (known : KnownZones) : Type 0 where
 
 pub record IsSoundUnresolved (known : KnownZones) (events : List CalendarEvent) (checks : List LineCheck) : Type 0 where
   pub table : IsTable known
-  pub whole : All (λ event. IsWhole event.fields) events
-  pub awaited : All (λ event. EachZone (Contains (map (λ w. w.check) checks)) event.calendar event.fields) events
+  pub whole : All (λ event. IsSoundEvent (Contains (map (λ w. w.check) checks)) event.calendar event.fields) events
   pub sound : All (λ w. IsSoundCheck w.check) checks
 
 -- what it wants, and what the file is with zone files

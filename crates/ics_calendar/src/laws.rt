@@ -3,7 +3,7 @@ ghost use Rattle.std.specs.Prelude.{◌≡◌, ◌≢◌, List, ℕ, Result, Err
 ghost use Rattle.std.specs.List.{All};
 ghost use Rattle.ics_components.specs.declared.fault.FaultKind.{FaultKind};
 ghost use Rattle.ics_components.specs.DateValues.{OnePeriod};
-ghost use Rattle.ics_components.specs.PartFaults.{IsLeastOfBoth, IsLeastOfParts, StandsAlone};
+ghost use Rattle.ics_components.specs.PartFaults.{IsLeastOfBoth, IsLeastOfParts, StandsAlone, StandsApart};
 ghost use Rattle.ics_event.specs.Event.{FileSaid};
 ghost use Rattle.ics_components.specs.declared.fault.Fault.{Fault};
 ghost use Rattle.ics_calendar.specs.GivenFiles.{GivenFiles, no_files};
@@ -25,11 +25,12 @@ pub fn faults_look_back()
 {}
 
 /// The first fault of a file is the least of those of its parts, or the one at its end; and a component is judged by itself: the first fault on its lines is
-/// that of its lines alone.
+/// that of its lines alone, and the lines behind it stand where they stand without it.
 pub fn parts_stand_alone()
     ensures parts { IsLeastOfParts }
     ensures both { IsLeastOfBoth }
     ensures alone { StandsAlone }
+    ensures apart { StandsApart }
 {}
 
 /// With no zone files the time zones of a file are those of its VTIMEZONEs alone, and BadZoneFile is no fault of it.

@@ -16,6 +16,7 @@ use Rattle.ics_components.specs.PlacedLines.{Placed, Open, innermost, lines_in, 
 use Rattle.ics_components.specs.Faults.{stands, kinds}
 use Rattle.ics_components.specs.FirstFault.{Fault, Round, found, least_on, first_from, fault_at_end}
 use Rattle.ics_components.specs.PartFaults.{is_within, first_among, earlier, IsLeastOfParts, IsLeastOfBoth, StandsAlone}
+use Rattle.ics_components.specs.PartFaults.{path_after, StandsApart}
 use Rattle.ics_components.proofs.Bundles.{Bundle, Keeps, falls, opens, bundles_behind, opens-behind}
 use Rattle.ics_components.proofs.Frames.{with}
 use Rattle.ics_components.proofs.Order.{Falls}
@@ -157,3 +158,12 @@ module _ (begun : ℕ) (some : 0 < begun) where
 
 pub stands-alone : StandsAlone
 stands-alone file begun some = alone begun some (unfolded file) (placed file) [] [] (first-at (unfolded file) (unfolded-rises file))
+
+-- LINES WITHOUT A COMPONENT.
+placed-append : (path : List Open) (a b : List Line) → placed_from path (a ++ b) ≡ placed_from path a ++ placed_from (path_after path a) b
+placed-append path [] b = refl
+placed-append path (line ∷ a) b =
+    let l : Placed = with line path (content_of line.bytes) in ap (λ (ls : List Placed). l ∷ ls) (placed-append (path_behind l) a b)
+
+pub stands-apart : StandsApart
+stands-apart path block rest e = placed-append path block rest ∙ ap (λ (p : List Open). placed_from path block ++ placed_from p rest) e

@@ -40,7 +40,7 @@ use Rattle.ics_components.specs.Lines.{event_zone, event_note, observance_note, 
 use Rattle.ics_components.proofs.Judgements.{event_end, zone_end}
 use Rattle.ics_components.specs.Observances.{locals_of, onset_in, offset_in, daily_in}
 use Rattle.ics_components.specs.SecondRound.{zone_named, time_zone, list_zone, zone_check, ends_in}
-use Rattle.ics_components.specs.Sound.{IsSoundTime, IsSoundRdate, IsWhole, IsSoundObservance, IsSoundZone, EachZone, HasZone, RdateHasZone}
+use Rattle.ics_components.specs.Sound.{IsSoundTime, IsSoundRdate, IsSoundEvent, IsSoundObservance, IsSoundZone}
 use Rattle.ics_components.specs.Values.{zone_name, stamp_in, duration_in, lasting_of, is_lasting, allowed, is_filled, ends_badly}
 use Rattle.ics_components.specs.declared.observance_builder.ObservanceBuilder.{ObservanceBuilder}
 use Rattle.ics_components.specs.declared.builder.Builder.TheVariants as builder
@@ -91,42 +91,80 @@ unzoned text = by_tests (is_stamp_text text) (is_stamp_year (year_of text)) (is_
     by_tests true true false true day local = refl
     by_tests true true false false day local = refl
 
--- A TIME has the name of a zone where it is to have one.
-time-sound : (zone : Option (List ℕ)) (s : Stamp) → IsSoundStamp s → (zone ≡ None → is_zoned s ≡ false) → IsSoundTime (time_in zone s)
-time-sound None s h n = record { years = h; zone = grind (arith, n refl) }
-time-sound (Some z) s h n = record { years = h; zone = grind arith }
-
-sound-time : (zone : Option (List ℕ)) (text : List ℕ) → IsSoundTime (time_in zone (stamp_in (stamp_of (is_some zone) text)))
-sound-time None text = time-sound None _ (sound-stamp false text) (λ e. unzoned text)
-sound-time (Some z) text = time-sound (Some z) _ (sound-stamp true text) (λ e. cc)
-
-sound-date_time : (zone : Option (List ℕ)) (text : List ℕ) → IsSoundTime (time_in zone (stamp_in (date_time_of (is_some zone) text)))
-sound-date_time zone text =
-    cond_both (is_date_time_form text) (stamp_of (is_some zone) text) (Err stamp.BadStamp) (λ r. IsSoundTime (time_in zone (stamp_in r)))
-    (λ e. sound-time zone text) (λ e. time-sound zone (Date (pos 0)) day-zero (λ n. refl))
-
 allowed-sound : (minus : Bool) (r : Result Duration DurationFault) → is_lasting (duration_in (allowed minus r)) ≡ true
 allowed-sound minus r = grind arith
 
 sound-lasting : (text : List ℕ) → is_lasting (duration_in (lasting_of text)) ≡ true
 sound-lasting text = allowed-sound (begins is_minus text) (duration_of text)
 
-sound-period : (zone : Option (List ℕ)) (start end : List ℕ) → IsSoundRdate (rdate_in zone (period_of (is_some zone) start end))
-sound-period zone start end =
-    cond_both (lasts end) (Lasting (date_time_of (is_some zone) start) (lasting_of end))
-    (Between (date_time_of (is_some zone) start) (date_time_of (is_some zone) end)) (λ v. IsSoundRdate (rdate_in zone v))
-    (λ e. (sound-date_time zone start, sound-lasting end)) (λ e. (sound-date_time zone start, sound-date_time zone end))
+-- A TIME has the name of a zone where it is to have one.
+named-zone : (zone : Option (List ℕ)) (s : Stamp) → (zone ≡ None → is_zoned s ≡ false) → is_some (time_in zone s).zone ≡ is_zoned s
+named-zone None s n = grind (arith, n refl)
+named-zone (Some z) s n = grind arith
 
-sound-value : (l : Listing) (zone : Option (List ℕ)) (text : List ℕ) → IsSoundRdate (rdate_in zone (value_of l (is_some zone) text))
-sound-value listing.Rdate zone text =
-    cond_both (has_slash text) (period_of (is_some zone) (first_half text) (second_half text)) (At (stamp_of (is_some zone) text))
-    (λ v. IsSoundRdate (rdate_in zone v)) (λ e. sound-period zone (first_half text) (second_half text)) (λ e. sound-time zone text)
-sound-value listing.Exdate zone text = sound-time zone text
+-- THE TIMES of a line, and P holds of the check of the line's zone, if one of its stamps is in it.
+module _ (P : DeferredCheck → Type 0) (k : ℕ) where
+  abbrev HasZone : Time (List ℕ) → Type 0
+  HasZone time = IfSome (zone_check (time_zone k time)) P
 
-sound-values : (l : Listing) (zone : Option (List ℕ)) (text : List ℕ) → All IsSoundRdate (map (rdate_in zone) (values_of l (is_some zone) text))
-sound-values l zone text =
-    All-map IsSoundRdate (rdate_in zone) (values_of l (is_some zone) text)
-    (All-map (λ v. IsSoundRdate (rdate_in zone v)) (value_of l (is_some zone)) (pieces 44 text) (λ i d lt. sound-value l zone _))
+  sound-time : (zone : Option (List ℕ)) (text : List ℕ) → HasZone (time_in zone (stamp_in (stamp_of (is_some zone) text))) →
+      IsSoundTime P k (time_in zone (stamp_in (stamp_of (is_some zone) text)))
+  sound-time None text h = record { years = sound-stamp false text; zone = named-zone None _ (λ e. unzoned text); known = h }
+  sound-time (Some z) text h = record { years = sound-stamp true text; zone = named-zone (Some z) _ (λ e. cc); known = h }
+
+  abbrev LineZone : Bool → Option (List ℕ) → Type 0
+  LineZone t zone = IfSome (zone_check (cond t (Some (zone_named k zone)) None)) P
+
+  time-zones : (zone : Option (List ℕ)) (s : Stamp) (t : Bool) → (is_zoned s ≡ true → t ≡ true) → LineZone t zone → HasZone (time_in zone s)
+  time-zones zone s t up c = by_zoned (is_zoned s) up
+    where
+      by_zoned : (z : Bool) → (z ≡ true → t ≡ true) → IfSome (zone_check (cond z (Some (zone_named k (cond z zone None))) None)) P
+      by_zoned true up = rw (up refl) at c
+      by_zoned false up = tt
+
+  -- where a stamp of the line is in its zone if the line says so
+  module _ (zone : Option (List ℕ)) (t : Bool) (c : LineZone t zone) where
+    abbrev IsHere : DateValue → Type 0
+    IsHere value = (has_zoned (rdate_in zone value) ≡ true → t ≡ true) → IsSoundRdate P k (rdate_in zone value)
+
+    abbrev IsHereAt : Result Stamp StampFault → Type 0
+    IsHereAt stamp = (is_zoned (stamp_in stamp) ≡ true → t ≡ true) → IsSoundTime P k (time_in zone (stamp_in stamp))
+
+    sound-stamped : (text : List ℕ) → IsHereAt (stamp_of (is_some zone) text)
+    sound-stamped text up = sound-time zone text (time-zones zone _ t up c)
+
+    sound-date_time : (text : List ℕ) → IsHereAt (date_time_of (is_some zone) text)
+    sound-date_time text =
+        cond_both (is_date_time_form text) (stamp_of (is_some zone) text) (Err stamp.BadStamp) IsHereAt (λ e. sound-stamped text)
+        (λ e up. record { years = day-zero; zone = named-zone zone (Date (pos 0)) (λ n. refl); known = tt })
+
+    sound-period : (start end : List ℕ) → IsHere (period_of (is_some zone) start end)
+    sound-period start end =
+        cond_both (lasts end) (Lasting (date_time_of (is_some zone) start) (lasting_of end))
+        (Between (date_time_of (is_some zone) start) (date_time_of (is_some zone) end)) IsHere
+        (λ e up. (sound-date_time start up, sound-lasting end)) (λ e up.
+        let first = is_zoned (stamp_in (date_time_of (is_some zone) start)) in
+        let last = is_zoned (stamp_in (date_time_of (is_some zone) end)) in
+        (sound-date_time start (λ h. up (or_left first last h)), sound-date_time end (λ h. up (or_right first last h))))
+
+    sound-value : (l : Listing) (text : List ℕ) → IsHere (value_of l (is_some zone) text)
+    sound-value listing.Rdate text =
+        cond_both (has_slash text) (period_of (is_some zone) (first_half text) (second_half text)) (At (stamp_of (is_some zone) text)) IsHere
+        (λ e. sound-period (first_half text) (second_half text)) (λ e. sound-stamped text)
+    sound-value listing.Exdate text = sound-stamped text
+
+    sound-texts : (l : Listing) (texts : List (List ℕ)) → (list_any has_zoned (map (rdate_in zone) (map (value_of l (is_some zone)) texts)) ≡ true → t ≡ true) →
+        All (IsSoundRdate P k) (map (rdate_in zone) (map (value_of l (is_some zone)) texts))
+    sound-texts l [] up = All-nil (IsSoundRdate P k)
+    sound-texts l (x ∷ xs) up =
+        let value = rdate_in zone (value_of l (is_some zone) x) in
+        let values = map (rdate_in zone) (map (value_of l (is_some zone)) xs) in
+        All-cons (IsSoundRdate P k) value values (sound-value l x (λ h. up (or_left (has_zoned value) (list_any has_zoned values) h)))
+        (sound-texts l xs (λ h. up (or_right (has_zoned value) (list_any has_zoned values) h)))
+
+  sound-list : (l : Listing) (v : Parts) → IfSome (zone_check (list_zone k (list_of l v.params v.value))) P →
+      All (IsSoundRdate P k) (list_of l v.params v.value).values
+  sound-list l v c = sound-texts (zone_name v.params) _ c l (pieces 44 v.value) (λ h. h)
 
 abbrev pub IsSoundLocal : Local → Type 0
 IsSoundLocal local = IsStampDay local.day
@@ -160,7 +198,18 @@ local-sound : (s : Stamp) → IsSoundStamp s → IfSome (local_of s) IsSoundLoca
 local-sound (Floating local) h = h
 local-sound _ h = tt
 
-rdate-local : (v : Rdate (List ℕ)) → IsSoundRdate v → IfSome (local_in v) IsSoundLocal
+-- of values whose zones nobody asks for
+abbrev Anything : DeferredCheck → Type 0
+Anything check = Unit {0}
+
+abbrev IsSoundValue : Rdate (List ℕ) → Type 0
+IsSoundValue = IsSoundRdate Anything 0
+
+anything : (o : Option DeferredCheck) → IfSome o Anything
+anything None = tt
+anything (Some check) = tt
+
+rdate-local : (v : Rdate (List ℕ)) → IsSoundValue v → IfSome (local_in v) IsSoundLocal
 rdate-local (rdate.At time) h = local-sound time.stamp h.years
 rdate-local (rdate.Span start length) h = tt
 
@@ -168,10 +217,10 @@ with-local : (o : Option Local) (ls : List Local) → IfSome o IsSoundLocal → 
 with-local None ls h k = k
 with-local (Some local) ls h k = All-cons IsSoundLocal local ls h k
 
-locals-sound : (vs : List (Rdate (List ℕ))) → All IsSoundRdate vs → All IsSoundLocal (filter_map local_in vs)
+locals-sound : (vs : List (Rdate (List ℕ))) → All IsSoundValue vs → All IsSoundLocal (filter_map local_in vs)
 locals-sound [] h = All-nil IsSoundLocal
 locals-sound (v ∷ vs) h =
-    with-local (local_in v) (filter_map local_in vs) (rdate-local v (All-head IsSoundRdate v vs h)) (locals-sound vs (All-tail IsSoundRdate v vs h))
+    with-local (local_in v) (filter_map local_in vs) (rdate-local v (All-head IsSoundValue v vs h)) (locals-sound vs (All-tail IsSoundValue v vs h))
 
 -- WHAT IS COLLECTED. The first of several values is kept.
 or-first : {X : Type 0} (P : X → Type 0) (o : Option X) (x : X) → IfSome o P → P x → IfSome (option_or o (Some x)) P
@@ -198,7 +247,8 @@ observance-noted name.OffsetFrom v had h = (h.0, or-first (IsWithin 86_399) had.
 observance-noted name.OffsetTo v had h = (h.0, h.1, or-first (IsWithin 86_399) had.to _ h.2 (offset-sound v.value), h.3, h.4)
 observance-noted name.Rrule v had h = (h.0, h.1, h.2, or-first IsDaily had.rule _ h.3 (daily-sound (rule_of v.value)), h.4)
 observance-noted name.Rdate v had h =
-    (h.0, h.1, h.2, h.3, All-append IsSoundLocal had.rdates (locals_of v.value) h.4 (locals-sound _ (sound-values listing.Rdate None v.value)))
+    let values = sound-texts Anything 0 None _ (anything _) listing.Rdate (pieces 44 v.value) (λ h. h) in
+    (h.0, h.1, h.2, h.3, All-append IsSoundLocal had.rdates (locals_of v.value) h.4 (locals-sound _ values))
 observance-noted _ v had h = h
 
 local-test : (local : Local) → IsSoundLocal local → is_stamp_local local ≡ true
@@ -231,108 +281,60 @@ no-faults filled started twice badly e = (grind arith, grind arith, grind arith)
 
 -- What is collected is in order, and P holds of the zones that it names, in that calendar.
 module _ (P : DeferredCheck → Type 0) (k : ℕ) where
-  -- the check of a line's zone, if one of its stamps is in it
-  abbrev LineZone : Bool → Option (List ℕ) → Type 0
-  LineZone t zone = IfSome (zone_check (cond t (Some (zone_named k zone)) None)) P
-
-  time-zones : (zone : Option (List ℕ)) (s : Stamp) (t : Bool) → (is_zoned s ≡ true → t ≡ true) → LineZone t zone → HasZone P k (time_in zone s)
-  time-zones zone s t up c = by_zoned (is_zoned s) up
-    where
-      by_zoned : (z : Bool) → (z ≡ true → t ≡ true) → IfSome (zone_check (cond z (Some (zone_named k (cond z zone None))) None)) P
-      by_zoned true up = rw (up refl) at c
-      by_zoned false up = tt
-
-  value-zones : (zone : Option (List ℕ)) (v : DateValue) (t : Bool) → (has_zoned (rdate_in zone v) ≡ true → t ≡ true) → LineZone t zone →
-      RdateHasZone P k (rdate_in zone v)
-  value-zones zone (At s) t up c = time-zones zone (stamp_in s) t up c
-  value-zones zone (Between s e) t up c =
-      let start = is_zoned (stamp_in s) in
-      let end = is_zoned (stamp_in e) in
-      (time-zones zone (stamp_in s) t (λ h. up (or_left start end h)) c, time-zones zone (stamp_in e) t (λ h. up (or_right start end h)) c)
-  value-zones zone (Lasting s d) t up c = (time-zones zone (stamp_in s) t up c, tt)
-
-  values-zones : (zone : Option (List ℕ)) (vs : List DateValue) (t : Bool) → (list_any has_zoned (map (rdate_in zone) vs) ≡ true → t ≡ true) →
-      LineZone t zone → All (RdateHasZone P k) (map (rdate_in zone) vs)
-  values-zones tz [] t up c = All-nil (RdateHasZone P k)
-  values-zones tz (v ∷ vs) t up c =
-      let here = has_zoned (rdate_in tz v) in
-      let later = list_any has_zoned (map (rdate_in tz) vs) in
-      All-cons (RdateHasZone P k) (rdate_in tz v) (map (rdate_in tz) vs) (value-zones tz v t (λ h. up (or_left here later h)) c)
-      (values-zones tz vs t (λ h. up (or_right here later h)) c)
-
-  abbrev IsSoundTimed : Time (List ℕ) → Type 0
-  IsSoundTimed time = IsSoundTime time × HasZone P k time
-
-  abbrev pub IsSoundListed : Rdate (List ℕ) → Type 0
-  IsSoundListed rdate = IsSoundRdate rdate × RdateHasZone P k rdate
-
   abbrev pub IsSoundStarted : EventFields → Type 0
   IsSoundStarted had =
-      IfSome had.start IsSoundTimed × IfSome had.end IsSoundTimed × IfSome had.duration (λ d. is_lasting d ≡ true) × All IsSoundListed had.rdates
-      × All IsSoundListed had.exdates × IfSome had.recurrence IsSoundTimed
-
-  list-sound : (l : Listing) (v : Parts) → IfSome (zone_check (list_zone k (list_of l v.params v.value))) P →
-      All IsSoundListed (list_of l v.params v.value).values
-  list-sound l v c =
-      let zone : Option (List ℕ) = zone_name v.params in
-      let vs : List DateValue = values_of l (is_some zone) v.value in
-      let sound = sound-values l zone v.value in
-      let zones = values-zones zone vs (list_any has_zoned (map (rdate_in zone) vs)) (λ h. h) c in
-      λ i d lt. (sound i d lt, zones i d lt)
+      IfSome had.start (IsSoundTime P k) × IfSome had.end (IsSoundTime P k) × IfSome had.duration (λ d. is_lasting d ≡ true)
+      × All (IsSoundRdate P k) had.rdates × All (IsSoundRdate P k) had.exdates × IfSome had.recurrence (IsSoundTime P k)
 
   pub event-noted : (n : Name) (v : Parts) (had : EventFields) → IsSoundStarted had → IfSome (zone_check (event_zone k n v)) P →
       IsSoundStarted (event_note n v had)
-  event-noted name.Dtstart v had h c = (or-first IsSoundTimed had.start _ h.0 (sound-time _ v.value, c), h.1, h.2, h.3, h.4, h.5)
-  event-noted name.Dtend v had h c = (h.0, or-first IsSoundTimed had.end _ h.1 (sound-time _ v.value, c), h.2, h.3, h.4, h.5)
+  event-noted name.Dtstart v had h c = (or-first (IsSoundTime P k) had.start _ h.0 (sound-time P k _ v.value c), h.1, h.2, h.3, h.4, h.5)
+  event-noted name.Dtend v had h c = (h.0, or-first (IsSoundTime P k) had.end _ h.1 (sound-time P k _ v.value c), h.2, h.3, h.4, h.5)
   event-noted name.Duration v had h c = (h.0, h.1, or-first (λ d. is_lasting d ≡ true) had.duration _ h.2 (sound-lasting v.value), h.3, h.4, h.5)
   event-noted name.Rdate v had h c =
-      (h.0, h.1, h.2, All-append IsSoundListed had.rdates (list_of listing.Rdate v.params v.value).values h.3 (list-sound listing.Rdate v c), h.4, h.5)
+      (h.0, h.1, h.2, All-append (IsSoundRdate P k) had.rdates _ h.3 (sound-list P k listing.Rdate v c), h.4, h.5)
   event-noted name.Exdate v had h c =
-      (h.0, h.1, h.2, h.3, All-append IsSoundListed had.exdates (list_of listing.Exdate v.params v.value).values h.4 (list-sound listing.Exdate v c), h.5)
-  event-noted name.RecurrenceId v had h c = (h.0, h.1, h.2, h.3, h.4, or-first IsSoundTimed had.recurrence _ h.5 (sound-time _ v.value, c))
+      (h.0, h.1, h.2, h.3, All-append (IsSoundRdate P k) had.exdates _ h.4 (sound-list P k listing.Exdate v c), h.5)
+  event-noted name.RecurrenceId v had h c = (h.0, h.1, h.2, h.3, h.4, or-first (IsSoundTime P k) had.recurrence _ h.5 (sound-time P k _ v.value c))
   event-noted _ v had h c = h
 
   pub event-sound : (had : EventFields) → IsSoundStarted had → end_fault true (builder.Event had) ≡ None → IfSome (ends_in k had.start had.end) P →
-      IsWhole had × EachZone P k had
+      IsSoundEvent P k had
   event-sound had h n c =
-      let f = no-faults (is_filled had.uid) (is_some had.start) (is_some had.end && is_some had.duration) _ (sym (event_end had) ∙ n) in (
-        record {
-          named = f.0;
-          started = f.1;
-          start = IfSome_then had.start h.0 (λ t s. s.0);
-          end = IfSome_then had.end h.1 (λ t s. s.0);
-          ends = f.2;
-          lasting = h.2;
-          rdates = λ i d lt. (h.3 i d lt).0;
-          exdates = λ i d lt. (h.4 i d lt).0;
-          recurrence = IfSome_then had.recurrence h.5 (λ t s. s.0);
-        },
-        record {
-          start = IfSome_then had.start h.0 (λ t s. s.1);
-          end = IfSome_then had.end h.1 (λ t s. s.1);
-          rdates = λ i d lt. (h.3 i d lt).1;
-          exdates = λ i d lt. (h.4 i d lt).1;
-          recurrence = IfSome_then had.recurrence h.5 (λ t s. s.1);
-          length = c;
-        },
-      )
+      let f = no-faults (is_filled had.uid) (is_some had.start) (is_some had.end && is_some had.duration) _ (sym (event_end had) ∙ n) in record {
+        named = f.0;
+        started = f.1;
+        start = h.0;
+        end = h.1;
+        ends = f.2;
+        lasting = h.2;
+        rdates = h.3;
+        exdates = h.4;
+        recurrence = h.5;
+        length = c;
+      }
 
--- P holds of all zones that an event names, and so does what follows from it.
+-- P holds of all checks of an event, and so does what follows from it.
 module _ (P Q : DeferredCheck → Type 0) (w : (check : DeferredCheck) → P check → Q check) (k : ℕ) where
-  rdate-weaker : (r : Rdate (List ℕ)) → RdateHasZone P k r → RdateHasZone Q k r
-  rdate-weaker (rdate.At time) h = IfSome_then (zone_check (time_zone k time)) h w
-  rdate-weaker (rdate.Span start (length.Until end)) h = (IfSome_then (zone_check (time_zone k start)) h.0 w, IfSome_then (zone_check (time_zone k end)) h.1 w)
-  rdate-weaker (rdate.Span start _) h = (IfSome_then (zone_check (time_zone k start)) h.0 w, tt)
+  time-weaker : (time : Time (List ℕ)) → IsSoundTime P k time → IsSoundTime Q k time
+  time-weaker time h = record { years = h.years; zone = h.zone; known = IfSome_then (zone_check (time_zone k time)) h.known w }
 
-  time-weaker : (time : Time (List ℕ)) → HasZone P k time → HasZone Q k time
-  time-weaker time h = IfSome_then (zone_check (time_zone k time)) h w
+  rdate-weaker : (r : Rdate (List ℕ)) → IsSoundRdate P k r → IsSoundRdate Q k r
+  rdate-weaker (rdate.At time) h = time-weaker time h
+  rdate-weaker (rdate.Span start (length.Until end)) h = (time-weaker start h.0, time-weaker end h.1)
+  rdate-weaker (rdate.Span start (length.Lasting duration)) h = (time-weaker start h.0, h.1)
+  rdate-weaker (rdate.Span start length.Open) h = absurd h.1
 
-  pub each-weaker : (event : EventFields) → EachZone P k event → EachZone Q k event
-  each-weaker e z = record {
-    start = IfSome_then e.start z.start time-weaker;
-    end = IfSome_then e.end z.end time-weaker;
-    rdates = λ i d lt. rdate-weaker _ (z.rdates i d lt);
-    exdates = λ i d lt. rdate-weaker _ (z.exdates i d lt);
-    recurrence = IfSome_then e.recurrence z.recurrence time-weaker;
-    length = IfSome_then _ z.length w;
+  pub event-weaker : (event : EventFields) → IsSoundEvent P k event → IsSoundEvent Q k event
+  event-weaker e s = record {
+    named = s.named;
+    started = s.started;
+    start = IfSome_then e.start s.start time-weaker;
+    end = IfSome_then e.end s.end time-weaker;
+    ends = s.ends;
+    lasting = s.lasting;
+    rdates = λ i d lt. rdate-weaker _ (s.rdates i d lt);
+    exdates = λ i d lt. rdate-weaker _ (s.exdates i d lt);
+    recurrence = IfSome_then e.recurrence s.recurrence time-weaker;
+    length = IfSome_then _ s.length w;
   }

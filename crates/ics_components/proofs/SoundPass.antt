@@ -22,7 +22,7 @@ use Rattle.ics_components.specs.PlacedLines.{named}
 use Rattle.ics_components.proofs.Judgements.{outside_end, unmatched_end}
 use Rattle.ics_components.specs.Pass.{bottom, unless, at_end, on_line, on_content, pass}
 use Rattle.ics_components.specs.SecondRound.{zone_named, are_of_one_zone, zone_check, instant_on, instant_in, both_compared, ends_in}
-use Rattle.ics_components.specs.Sound.{EachZone, IsWhole, IsSoundTime, IsSoundObservance, IsSoundZone}
+use Rattle.ics_components.specs.Sound.{IsSoundTime, IsSoundRdate, IsSoundEvent, IsSoundObservance, IsSoundZone}
 use Rattle.ics_components.specs.declared.builder.Builder.{Builder}
 use Rattle.ics_components.specs.declared.builder.Builder.TheVariants as builder
 use Rattle.ics_components.specs.declared.component.Context.{Context}
@@ -42,8 +42,8 @@ use Rattle.ics_components.specs.declared.parsed_file.LineCheck.{LineCheck}
 use Rattle.ics_components.specs.declared.parsed_file.LineResult.{LineResult}
 use Rattle.ics_components.specs.declared.name.Name.{Name}
 use Rattle.ics_components.specs.declared.name.Name.TheVariants as name
-use Rattle.ics_components.proofs.Sound.{IsSoundStamp, IsSoundLocal, IsSoundBegun, IsSoundListed, IsSoundStarted, observance-noted, observance-sound, zone-sound}
-use Rattle.ics_components.proofs.Sound.{event-noted, event-sound}
+use Rattle.ics_components.proofs.Sound.{IsSoundStamp, IsSoundLocal, IsSoundBegun, IsSoundStarted, observance-noted, observance-sound, zone-sound, event-noted}
+use Rattle.ics_components.proofs.Sound.{event-sound}
 
 -- WHAT THE SECOND ROUND LOOKS AT lies in the years of stamps.
 instant-sound : (name : ZoneName) (r : Stamp) → IsSoundStamp r → IfSome (instant_on name r) IsSoundInstant
@@ -55,13 +55,13 @@ compared-sound (Some (instant.Utc a)) (Some (instant.Utc b)) h k = grind arith
 compared-sound (Some _) (Some _) h k = (h, k)
 compared-sound _ _ h k = tt
 
-ends-sound : (calendar : ℕ) (start end : Option (Time (List ℕ))) → IfSome start IsSoundTime → IfSome end IsSoundTime →
-    IfSome (ends_in calendar start end) IsSoundCheck
-ends-sound k (Some a) (Some b) h i =
+ends-sound : (P : DeferredCheck → Type 0) (k : ℕ) (start end : Option (Time (List ℕ))) → IfSome start (IsSoundTime P k) → IfSome end (IsSoundTime P k) →
+    IfSome (ends_in k start end) IsSoundCheck
+ends-sound P k (Some a) (Some b) h i =
     cond_both (are_of_one_zone a b) None (both_compared (instant_in k a) (instant_in k b)) (λ o. IfSome o IsSoundCheck) (λ e. tt)
     (λ e. compared-sound (instant_in k a) (instant_in k b) (instant-sound (zone_named k a.zone) a.stamp h.years)
     (instant-sound (zone_named k b.zone) b.stamp i.years))
-ends-sound k _ _ h i = tt
+ends-sound P k _ _ h i = tt
 
 zone-check : (o : Option ZoneName) → IfSome (zone_check o) IsSoundCheck
 zone-check None = tt
@@ -80,7 +80,7 @@ AreSound P (f ∷ fs) = IsSoundBuilder P f.calendar f.builder × AreSound P fs
 
 abbrev IsSoundEnd : (DeferredCheck → Type 0) → ClosedComponent → Type 0
 IsSoundEnd P (ended.Zone zone) = IsSoundZone zone.observances
-IsSoundEnd P (ended.Event event) = IsWhole event.fields × EachZone P event.calendar event.fields
+IsSoundEnd P (ended.Event event) = IsSoundEvent P event.calendar event.fields
 IsSoundEnd P ended.Nothing = Unit {0}
 
 -- the same behind a line, where P holds of its check
@@ -94,7 +94,7 @@ matched b false n = let never = sym (unmatched_end b) ∙ n in cc
 
 module _ (P : DeferredCheck → Type 0) where
   fresh-sound : (k : ℕ) (q : Context) → IsSoundBuilder P k (builder_at [] [] q)
-  fresh-sound k context.Event = (tt, tt, tt, All-nil (IsSoundListed P k), All-nil (IsSoundListed P k), tt)
+  fresh-sound k context.Event = (tt, tt, tt, All-nil (IsSoundRdate P k), All-nil (IsSoundRdate P k), tt)
   fresh-sound k context.Zone = All-nil IsSoundObservance
   fresh-sound k context.Observance = (tt, tt, tt, tt, All-nil IsSoundLocal)
   fresh-sound k _ = tt
@@ -114,10 +114,7 @@ module _ (P : DeferredCheck → Type 0) where
 
   ended-sound : (k : ℕ) (b : Builder) → IsSoundBuilder P k b → end_fault true b ≡ None → IfSome (end_check k b) P →
       IsSoundEnd P (ended_as k b) × IfSome (end_check k b) IsSoundCheck
-  ended-sound k (builder.Event had) h n c = (
-    event-sound P k had h n c,
-    ends-sound k had.start had.end (IfSome_then had.start h.0 (λ d s. s.0)) (IfSome_then had.end h.1 (λ d s. s.0)),
-  )
+  ended-sound k (builder.Event had) h n c = (event-sound P k had h n c, ends-sound P k had.start had.end h.0 h.1)
   ended-sound k (builder.Zone had) h n c = (zone-sound had h n, tt)
   ended-sound k _ h n c = (tt, tt)
 
@@ -150,19 +147,19 @@ one : {X : Type 0} (P : X → Type 0) (x : X) → P x → All P (x ∷ [])
 one P x h = All-cons P x [] h (All-nil P)
 
 module _ (P : DeferredCheck → Type 0) where
-  abbrev IsSoundEvent : CalendarEvent → Type 0
-  IsSoundEvent event = IsWhole event.fields × EachZone P event.calendar event.fields
+  abbrev IsSoundBehind : CalendarEvent → Type 0
+  IsSoundBehind event = IsSoundEvent P event.calendar event.fields
 
   abbrev Holds : LineCheck → Type 0
   Holds late = P late.check
 
   abbrev IsSound : ParsedFileSeen → Type 0
-  IsSound g = All IsSoundClosed g.zones × All IsSoundEvent g.events × All IsSoundLine g.checks
+  IsSound g = All IsSoundClosed g.zones × All IsSoundBehind g.events × All IsSoundLine g.checks
 
-  end-parsed : (e : ClosedComponent) → IsSoundEnd P e → All IsSoundClosed (zones_of_end e) × All IsSoundEvent (events_of_end e)
-  end-parsed (ended.Zone zone) h = (one IsSoundClosed zone h, All-nil IsSoundEvent)
-  end-parsed (ended.Event event) h = (All-nil IsSoundClosed, one IsSoundEvent event h)
-  end-parsed ended.Nothing h = (All-nil IsSoundClosed, All-nil IsSoundEvent)
+  end-parsed : (e : ClosedComponent) → IsSoundEnd P e → All IsSoundClosed (zones_of_end e) × All IsSoundBehind (events_of_end e)
+  end-parsed (ended.Zone zone) h = (one IsSoundClosed zone h, All-nil IsSoundBehind)
+  end-parsed (ended.Event event) h = (All-nil IsSoundClosed, one IsSoundBehind event h)
+  end-parsed ended.Nothing h = (All-nil IsSoundClosed, All-nil IsSoundBehind)
 
   check-parsed : (number : ℕ) (o : Option DeferredCheck) → IfSome o IsSoundCheck → All IsSoundLine (checks_of number o)
   check-parsed number None h = All-nil IsSoundLine
@@ -201,7 +198,7 @@ module _ (P : DeferredCheck → Type 0) where
                 let ended = end-parsed here.ended after.1 in
                 behind.1 after.0 (
                   All-append IsSoundClosed had.zones (zones_of_end here.ended) h.0 ended.0,
-                  All-append IsSoundEvent had.events (events_of_end here.ended) h.1 ended.1,
+                  All-append IsSoundBehind had.events (events_of_end here.ended) h.1 ended.1,
                   All-append IsSoundLine had.checks (checks_of line.number here.check) h.2 (check-parsed line.number here.check after.2),
                 ),
           )) (again now (Some line.number) parsed)
@@ -223,5 +220,5 @@ sound-pass lines = by_result (pass (bottom ∷ []) None nothing_parsed lines) (�
         let Made : DeferredCheck → Type 0 = Contains (map (λ w. w.check) g.checks) in
         let sound =
         (goes Made (λ i d lt. (i, simp length-map lt, get_or-map (λ w. w.check) g.checks i d _ lt))).1
-        (tt, tt) (All-nil IsSoundClosed, All-nil (IsSoundEvent Made), All-nil IsSoundLine) in
-        record { zones = sound.0; whole = λ i d lt. (sound.1 i d lt).0; awaited = λ i d lt. (sound.1 i d lt).1; sound = sound.2 }
+        (tt, tt) (All-nil IsSoundClosed, All-nil (IsSoundBehind Made), All-nil IsSoundLine) in
+        record { zones = sound.0; events = sound.1; sound = sound.2 }

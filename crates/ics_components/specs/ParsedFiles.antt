@@ -13,7 +13,7 @@ use Rattle.ics_components.specs.declared.parsed_file.CalendarZone.{CalendarZone}
 use Rattle.ics_components.specs.declared.parsed_file.LineCheck.{LineCheck}
 use Rattle.ics_components.specs.declared.parsed_file.LineResult.{LineResult}
 use Rattle.ics_components.specs.ParsedFileSeen.{ParsedFileSeen}
-use Rattle.ics_components.specs.Sound.{EachZone, IsWhole, IsSoundZone}
+use Rattle.ics_components.specs.Sound.{IsSoundEvent, IsSoundZone}
 
 abbrev pub nothing_parsed : ParsedFileSeen
 nothing_parsed = record { zones = []; events = []; checks = [] }
@@ -51,6 +51,5 @@ IsSoundCheck _ = Unit {0}
 -- The second round checks the zones of each event's stamps, and its end against its start.
 pub record IsSoundParsed (g : ParsedFileSeen) : Type 0 where
   pub zones : All (λ z. IsSoundZone z.observances) g.zones
-  pub whole : All (λ event. IsWhole event.fields) g.events
-  pub awaited : All (λ event. EachZone (Contains (map (λ w. w.check) g.checks)) event.calendar event.fields) g.events
+  pub events : All (λ event. IsSoundEvent (Contains (map (λ w. w.check) g.checks)) event.calendar event.fields) g.events
   pub sound : All (λ w. IsSoundCheck w.check) g.checks

@@ -1,8 +1,10 @@
--- The first fault of some of the lines of a file, and that of one of its components by itself.
+-- The first fault of some of the lines of a file, and that of one of its components by itself; and where lines stand without a component.
 use Rattle.std.specs.Prelude.{◌≡◌, ℕ, ◌<◌, Bool, true, false, not, ◌||◌, ◌==◌, nat_le, List, [], ◌∷◌, ◌++◌, filter, Option, Some, None, if◌then◌else◌}
 use Rattle.std.specs.List.{list_any}
 use Rattle.std.specs.Option.{option_or}
-use Rattle.ics_components.specs.PlacedLines.{Placed, placed}
+use Rattle.ics_text.specs.Unfolded.{Line}
+use Rattle.ics_text.specs.ContentLines.{content_of}
+use Rattle.ics_components.specs.PlacedLines.{Placed, Open, placed, placed_from, path_behind}
 use Rattle.ics_components.specs.Faults.{stands}
 use Rattle.ics_components.specs.FirstFault.{Fault, Round, found, least_on, first_from, first_fault, fault_at_end}
 
@@ -46,3 +48,15 @@ abbrev pub StandsAlone : Type 0
 StandsAlone =
     (file : List ℕ) (begun : ℕ) → 0 < begun →
     component_fault (placed file) begun ≡ first_from stands (λ before. None) [] (filter (is_within begun) (placed file))
+
+-- the path behind some lines
+abbrev pub path_after : List Open → List Line → List Open
+path_after path [] = path
+path_after path (line ∷ lines) = path_after (path_behind (record { number = line.number; content = content_of line.bytes; path = path })) lines
+
+-- Lines behind which the same components are open as before them, as those of a component from its BEGIN to its END: the others stand where they stand
+-- without them.
+abbrev pub StandsApart : Type 0
+StandsApart =
+    (path : List Open) (block rest : List Line) → path_after path block ≡ path →
+    placed_from path (block ++ rest) ≡ placed_from path block ++ placed_from path rest

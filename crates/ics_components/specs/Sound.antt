@@ -16,34 +16,7 @@ use Rattle.ics_fields.specs.Years.{is_stamp_local}
 use Rattle.ics_components.specs.declared.deferred_check.DeferredCheck.{DeferredCheck}
 use Rattle.ics_components.specs.SecondRound.{time_zone, zone_check, ends_in}
 
--- A time lies in the years of stamps, and it has the name of a zone exactly where its stamp is a zoned one.
-pub record IsSoundTime (time : Time (List ℕ)) : Type 0 where
-  pub years : IsStampDay (stamp_day time.stamp)
-  pub zone : is_some time.zone ≡ is_zoned time.stamp
-
--- The length of a PERIOD: an end, or a duration that an event may have.
-abbrev pub IsSoundSpan : Length (List ℕ) → Type 0
-IsSoundSpan Open = ⊥
-IsSoundSpan (Until end) = IsSoundTime end
-IsSoundSpan (Lasting duration) = is_lasting duration ≡ true
-
-abbrev pub IsSoundRdate : Rdate (List ℕ) → Type 0
-IsSoundRdate (At time) = IsSoundTime time
-IsSoundRdate (Span start length) = IsSoundTime start × IsSoundSpan length
-
--- An event has a UID and a start, and its end is not bad, as far as locals say.
-pub record IsWhole (event : EventFields) : Type 0 where
-  pub named : is_filled event.uid ≡ true
-  pub started : is_some event.start ≡ true
-  pub start : IfSome event.start IsSoundTime
-  pub end : IfSome event.end IsSoundTime
-  pub ends : ends_badly event.start event.end ≡ false
-  pub lasting : IfSome event.duration (λ duration. is_lasting duration ≡ true)
-  pub rdates : All IsSoundRdate event.rdates
-  pub exdates : All IsSoundRdate event.exdates
-  pub recurrence : IfSome event.recurrence IsSoundTime
-
--- WHAT IS GATHERED OF TIME ZONES (RFC 5545, section 3.6.5).
+-- A TIME ZONE (RFC 5545, section 3.6.5).
 
 -- Its DTSTART and its RDATEs are of the years 0001 to 9899, its offsets less than a day, and its rule no finer than daily.
 pub record IsSoundObservance (observance : ObservanceSaid) : Type 0 where
@@ -56,26 +29,33 @@ pub record IsSoundZone (observances : List ObservanceSaid) : Type 0 where
   pub filled : observances ≢ []
   pub sound : All IsSoundObservance observances
 
--- AN EVENT AFTER BOTH ROUNDS.
-
--- P holds of the zones that times of a calendar name, as the second round looks at them.
+-- AN EVENT of a calendar, where P holds of each check that it leaves to the second round: of the zones that its times name, and of its end against its start.
 module _ (P : DeferredCheck → Type 0) (calendar : ℕ) where
-  abbrev pub HasZone : Time (List ℕ) → Type 0
-  HasZone time = IfSome (zone_check (time_zone calendar time)) P
+  -- A time lies in the years of stamps, and it has the name of a zone exactly where its stamp is a zoned one.
+  pub record IsSoundTime (time : Time (List ℕ)) : Type 0 where
+    pub years : IsStampDay (stamp_day time.stamp)
+    pub zone : is_some time.zone ≡ is_zoned time.stamp
+    pub known : IfSome (zone_check (time_zone calendar time)) P
 
-  abbrev pub SpanHasZone : Length (List ℕ) → Type 0
-  SpanHasZone (Until end) = HasZone end
-  SpanHasZone _ = Unit {0}
+  -- The length of a PERIOD: an end, or a duration that an event may have.
+  abbrev pub IsSoundSpan : Length (List ℕ) → Type 0
+  IsSoundSpan Open = ⊥
+  IsSoundSpan (Until end) = IsSoundTime end
+  IsSoundSpan (Lasting duration) = is_lasting duration ≡ true
 
-  abbrev pub RdateHasZone : Rdate (List ℕ) → Type 0
-  RdateHasZone (At time) = HasZone time
-  RdateHasZone (Span start length) = HasZone start × SpanHasZone length
+  abbrev pub IsSoundRdate : Rdate (List ℕ) → Type 0
+  IsSoundRdate (At time) = IsSoundTime time
+  IsSoundRdate (Span start length) = IsSoundTime start × IsSoundSpan length
 
-  -- of an event, and of its end against its start
-  pub record EachZone (event : EventFields) : Type 0 where
-    pub start : IfSome event.start HasZone
-    pub end : IfSome event.end HasZone
-    pub rdates : All RdateHasZone event.rdates
-    pub exdates : All RdateHasZone event.exdates
-    pub recurrence : IfSome event.recurrence HasZone
+  -- It has a UID and a start, and its end is not bad, as far as locals say.
+  pub record IsSoundEvent (event : EventFields) : Type 0 where
+    pub named : is_filled event.uid ≡ true
+    pub started : is_some event.start ≡ true
+    pub start : IfSome event.start IsSoundTime
+    pub end : IfSome event.end IsSoundTime
+    pub ends : ends_badly event.start event.end ≡ false
+    pub lasting : IfSome event.duration (λ duration. is_lasting duration ≡ true)
+    pub rdates : All IsSoundRdate event.rdates
+    pub exdates : All IsSoundRdate event.exdates
+    pub recurrence : IfSome event.recurrence IsSoundTime
     pub length : IfSome (ends_in calendar event.start event.end) P

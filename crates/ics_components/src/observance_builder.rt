@@ -119,7 +119,7 @@ impl ObservanceBuilder {
             ObservanceProperty::OffsetFrom(offset) => keep_first(&mut self.from, offset),
             ObservanceProperty::OffsetTo(offset) => keep_first(&mut self.to, offset),
             ObservanceProperty::Rule(rule) => keep_first(&mut self.rule, rule),
-            ObservanceProperty::Rdates(mut more) => self.rdates.values.append(&mut more.values)?,
+            ObservanceProperty::Rdates(more) => self.rdates.append(more)?,
             ObservanceProperty::Other => {}
         }
         Ok(())
