@@ -20,7 +20,7 @@ use Rattle.ics_components.specs.PartFaults.{path_after, StandsApart}
 use Rattle.ics_components.proofs.Bundles.{Bundle, Keeps, falls, opens, bundles_behind, opens-behind}
 use Rattle.ics_components.proofs.Frames.{with}
 use Rattle.ics_components.proofs.Order.{Falls}
-use Rattle.ics_components.proofs.PassLemmas.{IsOn, IsAt, at-next, first-at}
+use Rattle.ics_components.proofs.PassLemmas.{IsAt, at-next, first-at}
 
 -- what is found stands behind that line
 abbrev IsBehind : ℕ → Option Fault → Type 0

@@ -1,5 +1,5 @@
 -- What is read of a value is in order, and so are what is collected of a component and what ends of it.
-use Rattle.std.proofs.Common.{◌≡◌, ℕ, Bool, true, false, not, List, [], ◌∷◌, refl, sym, ◌∙◌, subst, cond, Result, Ok, Err, map, ℤ, pos, arith, ◌≢◌, ◌≤◌}
+use Rattle.std.proofs.Common.{◌≡◌, ℕ, Bool, true, false, not, List, [], ◌∷◌, refl, sym, ◌∙◌, subst, cond, Result, Ok, Err, map, ℤ, pos, arith, ◌≤◌}
 use Rattle.std.proofs.Common.{◌+◌, ◌*◌, nat_le, ◌&&◌, ◌||◌, Option, Some, None, is_some, IfSome}
 use Rattle.std.specs.Prelude.{filter_map, unwrap_or}
 use Rattle.std.specs.List.{All, cons_option, list_any}
@@ -7,7 +7,7 @@ use Rattle.std.specs.Option.{option_or}
 use Rattle.std.proofs.lemmas.Bool.{cond_both, or_left, or_right}
 use Rattle.std.proofs.lemmas.Bool.Decides.{nat_tests}
 use Rattle.std.proofs.lemmas.Int.{ints}
-use Rattle.std.proofs.lemmas.List.Elements.{All-nil, All-cons, All-append, All-head, All-tail, All-map, All-weaker}
+use Rattle.std.proofs.lemmas.List.Elements.{All-nil, All-cons, All-append, All-head, All-tail, All-weaker}
 use Rattle.std.proofs.lemmas.List.Sums.{list_all-from_AllPass}
 use Rattle.std.proofs.lemmas.Option.{IfSome_then}
 use Rattle.jiff_core.specs.Calendar.{IsWithin}
@@ -34,14 +34,14 @@ use Rattle.ics_values.specs.declared.stamp.StampFault.{StampFault}
 use Rattle.ics_values.specs.declared.stamp.StampFault.TheVariants as stamp
 use Rattle.ics_values.proofs.StampLemmas.{stamp_day-said, date_of-stamp, day_number_range, stamp_years}
 use Rattle.ics_components.specs.Builders.{observance_ended}
-use Rattle.ics_components.specs.DateValues.{DateValue, At, Between, Lasting, list_of, date_time_of, period_of, has_slash, value_of, values_of, rdate_in, local_of}
+use Rattle.ics_components.specs.DateValues.{DateValue, At, Between, Lasting, list_of, date_time_of, period_of, has_slash, value_of, rdate_in, local_of}
 use Rattle.ics_components.specs.DateValues.{local_in, has_zoned}
 use Rattle.ics_components.specs.Lines.{event_zone, event_note, observance_note, end_fault}
 use Rattle.ics_components.proofs.Judgements.{event_end, zone_end}
 use Rattle.ics_components.specs.Observances.{locals_of, onset_in, offset_in, daily_in}
 use Rattle.ics_components.specs.SecondRound.{zone_named, time_zone, list_zone, zone_check, ends_in}
 use Rattle.ics_components.specs.Sound.{IsSoundTime, IsSoundRdate, IsSoundEvent, IsSoundObservance, IsSoundZone}
-use Rattle.ics_components.specs.Values.{zone_name, stamp_in, duration_in, lasting_of, is_lasting, allowed, is_filled, ends_badly}
+use Rattle.ics_components.specs.Values.{zone_name, stamp_in, duration_in, lasting_of, is_lasting, allowed, is_filled}
 use Rattle.ics_components.specs.declared.observance_builder.ObservanceBuilder.{ObservanceBuilder}
 use Rattle.ics_components.specs.declared.builder.Builder.TheVariants as builder
 use Rattle.ics_components.specs.declared.builder.ZoneBuilder.{ZoneBuilder}

@@ -1,6 +1,6 @@
 -- What the reader has of an event, of a time zone and of an observance, and what each is at its END.
 -- These are the words of the pass over the lines.
-use Rattle.std.specs.Prelude.{ℕ, List, [], flat_map, unwrap_or, option_map, pos}
+use Rattle.std.specs.Prelude.{ℕ, List, flat_map, unwrap_or, option_map, pos}
 use Rattle.ics_fields.specs.Locals.{local_at}
 use Rattle.ics_fields.specs.Observances.{ObservanceSaid}
 use Rattle.ics_components.specs.declared.builder.Builder.{Builder}

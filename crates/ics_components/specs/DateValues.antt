@@ -8,7 +8,6 @@ use Rattle.ics_values.specs.Stamps.{is_date_time_form, stamp_of}
 use Rattle.ics_values.specs.declared.duration.Duration.{Duration}
 use Rattle.ics_values.specs.declared.duration.DurationFault.{DurationFault}
 use Rattle.ics_values.specs.declared.period.Period.{Period}
-use Rattle.ics_values.specs.declared.period.PeriodEnd.{PeriodEnd}
 use Rattle.ics_values.specs.declared.period.PeriodEnd.TheVariants as end
 use Rattle.ics_values.specs.declared.stamp.Stamp.{Stamp}
 use Rattle.ics_values.specs.declared.stamp.Stamp.TheVariants.{Floating}

@@ -30,7 +30,6 @@ use Rattle.ics_components.specs.declared.component.Context.TheVariants as contex
 use Rattle.ics_values.specs.declared.time.Length.TheVariants as length_of
 use Rattle.ics_values.specs.declared.time.Rdate.{Rdate}
 use Rattle.ics_values.specs.declared.time.Rdate.TheVariants as rdate
-use Rattle.ics_values.specs.declared.time.Time.{Time}
 use Rattle.ics_values.specs.Times.{time_in}
 use Rattle.ics_components.specs.declared.date_values.Listing.TheVariants as listing
 use Rattle.ics_components.specs.declared.deferred_check.DeferredCheck.{DeferredCheck}

@@ -2,8 +2,8 @@
 use Rattle.std.specs.Prelude.{◌≡◌, ℕ, Bool, true, false, ◌==◌, List, [], ◌∷◌, Option, Some, None, if◌then◌else◌}
 use Rattle.ics_text.specs.Bytes.{cr}
 use Rattle.ics_text.specs.Unfolded.{Line, physical_lines, numbered, joined, is_line}
-use Rattle.ics_text.specs.declared.logical.Held.{Held}
-use Rattle.ics_text.specs.declared.logical.Held.TheVariants.{Borrowed, Owned}
+use Rattle.ics_text.specs.declared.logical.LineBytes.{LineBytes}
+use Rattle.ics_text.specs.declared.logical.LineBytes.TheVariants.{Borrowed, Owned}
 
 -- a physical line without one CR at its end
 abbrev pub without_cr : List ℕ → List ℕ
@@ -39,13 +39,13 @@ Takes old None new = (old ≡ []) × (new ≡ [])
 Takes old (Some line) new = old ≡ line ∷ new
 
 -- a line in memory: borrowed from the file unless it was folded
-abbrev pub held_bytes : Held → List ℕ
-held_bytes (Borrowed bytes) = bytes.now
-held_bytes (Owned bytes) = bytes.items
+abbrev pub line_bytes : LineBytes → List ℕ
+line_bytes (Borrowed bytes) = bytes.now
+line_bytes (Owned bytes) = bytes.items
 
-abbrev pub held_folded : Held → Bool
-held_folded (Borrowed bytes) = false
-held_folded (Owned bytes) = true
+abbrev pub is_owned : LineBytes → Bool
+is_owned (Borrowed bytes) = false
+is_owned (Owned bytes) = true
 
-abbrev pub held_line : ℕ → Held → Line
-held_line n held = line_of n (held_bytes held) (held_folded held)
+abbrev pub line_by : ℕ → LineBytes → Line
+line_by n bytes = line_of n (line_bytes bytes) (is_owned bytes)

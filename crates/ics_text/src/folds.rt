@@ -1,24 +1,24 @@
 ghost use Rattle.std.specs.Prelude.{◌≡◌, ℕ, true, false, ◌+◌, ◌<◌, ◌≤◌, length, filter, IfOk, OnErr};
 ghost use Rattle.ics_text.specs.Bytes.{begins, is_blank};
 ghost use Rattle.ics_text.specs.Unfolded.{attach, is_line, lines_from};
-ghost use Rattle.ics_text.specs.Reading.{line_of, all_from, kept, held_line, BeginsFolded};
+ghost use Rattle.ics_text.specs.Reading.{line_of, all_from, kept, line_by, BeginsFolded};
 
 use crate::bytes::without_first;
-use crate::logical::Held;
+use crate::logical::LineBytes;
 use crate::physical::{cut_line, is_continued};
 use std::alloc::{AllocError, Global};
 
 /// A line, the bytes after it, and the number of line ends before those.
 #[derive(Drop)]
 pub struct Found<'a> {
-    pub held: Held<'a>,
+    pub bytes: LineBytes<'a>,
     pub rest: &'a [u8],
     pub breaks: u64,
 }
 
 /// The first line, unfolded. Only a folded line is allocated.
 pub fn first_line<'a>(alloc: Global, bytes: &'a [u8]) -> Result<Found<'a>, AllocError>
-    ensures found { IfOk result (λ f. (n : ℕ) → lines_from n bytes.now ≡ kept (held_line n f.held) (lines_from (n + f.breaks) f.rest.now)) }
+    ensures found { IfOk result (λ f. (n : ℕ) → lines_from n bytes.now ≡ kept (line_by n f.bytes) (lines_from (n + f.breaks) f.rest.now)) }
     ensures fewer { IfOk result (λ f. f.breaks + length f.rest.now ≤ length bytes.now) }
     ensures shorter { IfOk result (λ f. 0 < length bytes.now → length f.rest.now < length bytes.now) }
     ensures err { OnErr result ((n : ℕ) → BeginsFolded (lines_from n bytes.now)) }
@@ -26,7 +26,7 @@ pub fn first_line<'a>(alloc: Global, bytes: &'a [u8]) -> Result<Found<'a>, Alloc
     let (line, behind) = cut_line(bytes);
     let Some(after) = behind else {
         return Ok(Found {
-            held: Held::Borrowed(line),
+            bytes: LineBytes::Borrowed(line),
             rest: &bytes[bytes.len()..],
             breaks: 0,
         });
@@ -35,7 +35,7 @@ pub fn first_line<'a>(alloc: Global, bytes: &'a [u8]) -> Result<Found<'a>, Alloc
         return join_folds(alloc, line, after);
     }
     Ok(Found {
-        held: Held::Borrowed(line),
+        bytes: LineBytes::Borrowed(line),
         rest: after,
         breaks: 1,
     })
@@ -45,7 +45,7 @@ pub fn first_line<'a>(alloc: Global, bytes: &'a [u8]) -> Result<Found<'a>, Alloc
 fn join_folds<'a>(alloc: Global, first: &[u8], after: &'a [u8]) -> Result<Found<'a>, AllocError>
     requires { begins is_blank after.now ≡ true }
     ensures found { IfOk result (λ f. (n : ℕ) → filter is_line (attach (line_of n first.now false) (all_from (n + 1) after.now))
-        ≡ kept (held_line n f.held) (lines_from (n + f.breaks) f.rest.now)) }
+        ≡ kept (line_by n f.bytes) (lines_from (n + f.breaks) f.rest.now)) }
     ensures fewer { IfOk result (λ f. f.breaks + length f.rest.now ≤ length after.now + 1) }
     ensures shorter { IfOk result (λ f. length f.rest.now ≤ length after.now) }
     ensures err { OnErr result ((n : ℕ) → BeginsFolded (filter is_line (attach (line_of n first.now false) (all_from (n + 1) after.now)))) }
@@ -66,7 +66,7 @@ fn join_folds<'a>(alloc: Global, first: &[u8], after: &'a [u8]) -> Result<Found<
         }
     }
     Ok(Found {
-        held: Held::Owned(bytes),
+        bytes: LineBytes::Owned(bytes),
         rest,
         breaks,
     })

@@ -51,11 +51,15 @@ impl<'a> Lines<'a> {
     {
         while !self.rest.is_empty() {
             let number = self.breaks + 1;
-            let Found { held, rest, breaks } = first_line(alloc, self.rest)?;
+            let Found {
+                bytes,
+                rest,
+                breaks,
+            } = first_line(alloc, self.rest)?;
             self.rest = rest;
             self.breaks += breaks;
-            if !held.bytes().is_empty() {
-                return Ok(Some(Logical { number, held }));
+            if !bytes.as_slice().is_empty() {
+                return Ok(Some(Logical { number, bytes }));
             }
         }
         Ok(None)

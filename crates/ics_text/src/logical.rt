@@ -1,22 +1,22 @@
 ghost use Rattle.std.specs.Prelude.{◌≡◌, ◌↔◌, false, IfSome, IsSome};
-ghost use Rattle.ics_text.specs.Reading.{held_bytes};
+ghost use Rattle.ics_text.specs.Reading.{line_bytes};
 
 use std::marker::Model;
 
 /// The bytes of a line, borrowed from the file unless the line was folded.
 #[derive(Drop)]
-pub enum Held<'a> {
+pub enum LineBytes<'a> {
     Borrowed(&'a [u8]),
     Owned(Vec<u8>),
 }
 
-impl Held<'_> {
-    pub fn bytes(&self) -> &[u8]
-        ensures { result.now ≡ held_bytes self.now }
+impl LineBytes<'_> {
+    pub fn as_slice(&self) -> &[u8]
+        ensures { result.now ≡ line_bytes self.now }
     {
         match self {
-            Held::Borrowed(bytes) => bytes,
-            Held::Owned(bytes) => bytes.as_slice(),
+            LineBytes::Borrowed(bytes) => bytes,
+            LineBytes::Owned(bytes) => bytes.as_slice(),
         }
     }
 }
@@ -25,7 +25,7 @@ impl Held<'_> {
 #[derive(Drop)]
 pub struct Logical<'a> {
     pub(crate) number: u64,
-    pub(crate) held: Held<'a>,
+    pub(crate) bytes: LineBytes<'a>,
 }
 
 impl<'a> Model for Logical<'a> {
@@ -33,16 +33,16 @@ impl<'a> Model for Logical<'a> {
 
     ghost Value = { Line };
 
-    ghost use Rattle.ics_text.specs.Reading.{held_line};
+    ghost use Rattle.ics_text.specs.Reading.{line_by};
 
-    ghost view = { λ a. held_line a.number a.held };
+    ghost view = { λ a. line_by a.number a.bytes };
 }
 
 impl<'a> Logical<'a> {
     pub fn bytes(&self) -> &[u8]
         ensures { result.now ≡ self.now.bytes }
     {
-        self.held.bytes()
+        self.bytes.as_slice()
     }
 
     /// The number of its first physical line, counted from 1.
@@ -57,9 +57,9 @@ impl<'a> Logical<'a> {
         ensures same { IfSome result (λ bytes. bytes.now ≡ self.now.bytes) }
         ensures unless_folded { IsSome result ↔ (self.now.folded ≡ false) }
     {
-        match self.held {
-            Held::Borrowed(bytes) => Some(bytes),
-            Held::Owned(_) => None,
+        match self.bytes {
+            LineBytes::Borrowed(bytes) => Some(bytes),
+            LineBytes::Owned(_) => None,
         }
     }
 }

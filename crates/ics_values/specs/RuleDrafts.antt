@@ -5,20 +5,20 @@ use Rattle.ics_fields.specs.Sets.{contains, with_number}
 use Rattle.ics_fields.specs.RuleParts.{RuleParts, every}
 use Rattle.ics_fields.specs.declared.frequency.Frequency.TheVariants.{Yearly}
 use Rattle.ics_fields.specs.declared.ordinals.Side.{Side}
-use Rattle.ics_values.specs.declared.rule_value.Amount.{Amount}
-use Rattle.ics_values.specs.declared.rule_value.Amount.TheVariants as amount
+use Rattle.ics_values.specs.declared.rule_value.RuleNumber.{RuleNumber}
+use Rattle.ics_values.specs.declared.rule_value.RuleNumber.TheVariants as number
 use Rattle.ics_values.specs.declared.rule_value.DayItem.{DayItem}
 use Rattle.ics_values.specs.declared.part_name.ListName.{ListName}
 use Rattle.ics_values.specs.declared.part_name.PartName.{PartName}
 use Rattle.ics_values.specs.declared.rule_text.Draft.{Draft}
 use Rattle.ics_values.specs.Texts.{unsigned}
-use Rattle.ics_values.specs.RuleTexts.{pieces, is_amount, is_signed, side_of, fits, fits_list, part_of, row, is_day_item, weekday_of, day_text, number_before}
+use Rattle.ics_values.specs.RuleTexts.{pieces, is_rule_number, is_signed, side_of, fits, fits_list, part_of, row, is_day_item, weekday_of, day_text, number_before}
 use Rattle.ics_values.specs.Rules.{with_item, with_value, is_large}
 
--- what reading an amount gives
-abbrev pub IsAmount : List ℕ → Amount → Type 0
-IsAmount text (amount.Number n) = (is_amount text ≡ true) × (n ≡ number_of text) × (n ≤ greatest_number)
-IsAmount text amount.TooLarge = (is_amount text ≡ true) × (greatest_number < number_of text)
+-- what reading a COUNT or an INTERVAL gives
+abbrev pub IsRuleNumber : List ℕ → RuleNumber → Type 0
+IsRuleNumber text (number.Number n) = (is_rule_number text ≡ true) × (n ≡ number_of text) × (n ≤ greatest_number)
+IsRuleNumber text number.TooLarge = (is_rule_number text ≡ true) × (greatest_number < number_of text)
 
 -- what reading a number with a sign gives
 pub record IsPlace (high : ℕ) (text : List ℕ) (place : Side × ℕ) : Type 0 where

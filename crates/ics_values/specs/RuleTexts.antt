@@ -104,8 +104,8 @@ abbrev pub until_of : List ℕ → Option Until
 until_of text = if is_stamp_text text && nat_le 1 (year_of text) then Some (until_said (stamp_said false text)) else None
 
 -- COUNT and INTERVAL: digits that spell 1 or more
-abbrev pub is_amount : List ℕ → Bool
-is_amount text = are_digits text && nat_le 1 (number_of text)
+abbrev pub is_rule_number : List ℕ → Bool
+is_rule_number text = are_digits text && nat_le 1 (number_of text)
 
 -- digits that spell a number from low to high
 abbrev pub is_number : ℕ → ℕ → List ℕ → Bool
@@ -146,8 +146,8 @@ fits_list BySetPos item = is_signed 366 item
 abbrev pub fits : PartName → List ℕ → Bool
 fits part.Freq value = is_some (frequency_of value)
 fits part.Until value = is_some (until_of value)
-fits part.Count value = is_amount value
-fits part.Interval value = is_amount value
+fits part.Count value = is_rule_number value
+fits part.Interval value = is_rule_number value
 fits (part.List list) value = list_all (fits_list list) (pieces 44 value)
 fits part.Wkst value = is_some (weekday_of value)
 

@@ -8,8 +8,8 @@ ghost use Rattle.ics_values.specs.RuleDrafts.{walk, item_taken, value_taken, par
 use crate::halves::{cut, halves};
 use crate::part_name::{ListName, PartName, part_name};
 use crate::rule_value::{
-    Amount, number_between, read_amount, read_day_item, read_frequency, read_place, read_until,
-    read_weekday,
+    RuleNumber, number_between, read_day_item, read_frequency, read_place, read_rule_number,
+    read_until, read_weekday,
 };
 use ics_fields::{BitSet, Frequency, Parts};
 use thiserror::Error;
@@ -108,13 +108,13 @@ impl Draft {
         match name {
             PartName::Freq => self.parts.set_frequency(read_frequency(value)?),
             PartName::Until => self.parts.set_until(read_until(value)?),
-            PartName::Count => match read_amount(value)? {
-                Amount::Number(n) => self.parts.set_count(n),
-                Amount::TooLarge => self.too_large = true,
+            PartName::Count => match read_rule_number(value)? {
+                RuleNumber::Number(n) => self.parts.set_count(n),
+                RuleNumber::TooLarge => self.too_large = true,
             },
-            PartName::Interval => match read_amount(value)? {
-                Amount::Number(n) => self.parts.set_interval(n),
-                Amount::TooLarge => self.too_large = true,
+            PartName::Interval => match read_rule_number(value)? {
+                RuleNumber::Number(n) => self.parts.set_interval(n),
+                RuleNumber::TooLarge => self.too_large = true,
             },
             PartName::List(list) => take_items(&mut self.parts, list, value)?,
             PartName::Wkst => self.parts.set_week_start(read_weekday(value)?),

@@ -2,9 +2,9 @@
 ghost use Rattle.std.specs.Prelude.{◌≡◌, ◌≤◌, false, MatchOption, IfSome, map};
 ghost use Rattle.ics_values.specs.Options.{IsWhere};
 ghost use Rattle.ics_fields.specs.RuleParts.{IsUntil};
-ghost use Rattle.ics_values.specs.RuleTexts.{frequency_of, weekday_of, until_said, until_of, is_amount, is_number, is_signed, is_day_item};
+ghost use Rattle.ics_values.specs.RuleTexts.{frequency_of, weekday_of, until_said, until_of, is_rule_number, is_number, is_signed, is_day_item};
 ghost use Rattle.ics_values.specs.Digits.{number_of};
-ghost use Rattle.ics_values.specs.RuleDrafts.{IsAmount, IsPlace, IsDayItem};
+ghost use Rattle.ics_values.specs.RuleDrafts.{IsRuleNumber, IsPlace, IsDayItem};
 
 use crate::digits::{are_digits, number_within};
 use crate::part_name::by_word;
@@ -15,7 +15,7 @@ use jiff_core::civil::Weekday;
 
 /// COUNT or INTERVAL.
 #[derive(Clone, Copy)]
-pub enum Amount {
+pub enum RuleNumber {
     Number(u32),
     TooLarge,
 }
@@ -80,16 +80,16 @@ pub fn read_until(text: &[u8]) -> Option<Until>
 }
 
 /// COUNT or INTERVAL.
-pub fn read_amount(text: &[u8]) -> Option<Amount>
-    ensures { MatchOption result (is_amount text.now ≡ false) (IsAmount text.now) }
+pub fn read_rule_number(text: &[u8]) -> Option<RuleNumber>
+    ensures { MatchOption result (is_rule_number text.now ≡ false) (IsRuleNumber text.now) }
 {
     if !are_digits(text) {
         return None;
     }
     match number_within(text) {
         Some(0) => None,
-        Some(n) => Some(Amount::Number(n)),
-        None => Some(Amount::TooLarge),
+        Some(n) => Some(RuleNumber::Number(n)),
+        None => Some(RuleNumber::TooLarge),
     }
 }
 

@@ -1,5 +1,4 @@
-use Rattle.std.proofs.Common.{◌∙◌, ◌+◌, sym, ap, take, arith, subst, is_some}
-use Rattle.std.proofs.lemmas.Grind.{common_steps}
+use Rattle.std.proofs.Common.{◌∙◌, ◌+◌, sym, ap, take, subst, is_some}
 use Rattle.std.proofs.lemmas.List.{take_rest}
 use Rattle.ics_components.specs.DateValues.{period_of}
 use Rattle.ics_components.specs.Lines.{Answers, judged}
