@@ -16,7 +16,7 @@ use Rattle.ics_series.specs.OnDays.{DayListingBehind, after_day_key, day_rank_of
 use Rattle.ics_series.specs.Rising.{IsBefore, Rises}
 use Rattle.khal_list.specs.declared.request.Request.{Request}
 use Rattle.khal_list.specs.Headline.{IsDayListingOf, IsListingOf}
-use Rattle.khal_list.specs.Listed.{asked_after, key_by, last_by}
+use Rattle.khal_list.specs.Listed.{asked_after, first_of, is_cut, key_by, last_by}
 use Rattle.khal_list.specs.Pages.{joined, total, ArePositive, DayPages, Pages}
 
 -- of what comes after an entry all has a greater key
@@ -39,6 +39,20 @@ pub goes-on : {files : List FileSaid} (request : Request) (front : List Entry) (
     IsListingOf files request (front ++ o ∷ behind)
     → option_map key_rank request.after ≡ Some (rank_of o) → asked_after request (front ++ o ∷ behind) ≡ behind
 goes-on request front o behind h e = ap (λ key. after_key key (front ++ o ∷ behind)) e ∙ behind-entry front o behind h.rises
+
+-- What is shown of each entry is made of its key, and so is what is shown of the last of them.
+module _ {A K : Type 0} (rank : A → K) (spell : K → List ℕ) (shows : A → List ℕ) (is : (x : A) → shows x ≡ spell (rank x)) where
+  last-shows : (list : List A) → option_map spell (last_by rank list) ≡ last_by shows list
+  last-shows [] = refl
+  last-shows (x ∷ []) = ap Some (sym (is x))
+  last-shows (x ∷ y ∷ more) = last-shows (y ∷ more)
+
+  pub key-shows : (limit : Option ℕ) (list : List A) → option_map spell (key_by rank limit list) ≡ key_by shows limit list
+  key-shows limit list = chosen (is_cut limit list)
+    where
+      chosen : (cut : Bool) → option_map spell (cond cut (last_by rank (first_of limit list)) None) ≡ cond cut (last_by shows (first_of limit list)) None
+      chosen true = last-shows (first_of limit list)
+      chosen false = refl
 
 -- a page that is cut and what the others list together, or a page that is all
 joined-by : {A : Type 0} (b : Bool) (limit : ℕ) (rest more : List A) → nat_lt limit (length rest) ≡ b → (b ≡ true → more ≡ drop limit rest) →

@@ -41,7 +41,7 @@ entry_some style before day e =
     omega (
       arith,
       length-append (heading_after style before day) (line_text style day e),
-      length-append (filled (entry_field_text style.clock day e) style.entries) (10 ∷ []),
+      length-append (filled (entry_field_text style day e) style.entries) (10 ∷ []),
     )
 
 -- a limit of which some entries take their part

@@ -1,5 +1,5 @@
 -- A listing that goes on from a token, and the text of its parts.
-use Rattle.std.proofs.Common.{◌≡◌, ℤ, List, [], ◌∷◌, ◌++◌, Option, Some, None, map, inl, inr, refl, ◌∙◌, ap, append_assoc, subst}
+use Rattle.std.proofs.Common.{◌≡◌, ℤ, true, false, List, [], ◌∷◌, ◌++◌, Option, Some, None, map, inl, inr, refl, ◌∙◌, ap, append_assoc, subst}
 use Rattle.std.specs.Option.{option_map}
 use Rattle.std.proofs.lemmas.List.{map-append}
 use Rattle.std.proofs.lemmas.Cmp.{int_eq_equiv}
@@ -7,16 +7,17 @@ use Rattle.clap.specs.Words.{Text}
 use Rattle.ics_zone.specs.ZoneSaid.{ZoneSaid}
 use Rattle.ics_series.specs.Clocks.{display_clock}
 use Rattle.ics_series.specs.Listing.{IsIn}
-use Rattle.ics_series.specs.OnDays.{day_key_rank, DayRank, DayListingBehind, after_day_key}
+use Rattle.ics_series.specs.OnDays.{day_key_rank, day_rank_of, DayRank, DayListingBehind, OnDay, after_day_key}
 use Rattle.ics_series.specs.Tokens.{day_spelling, IsDayKey, OneDaySpelling, OneSpelling, IsKey, spelling}
-use Rattle.ics_series.specs.Entry.{Entry, Rank, key_rank}
+use Rattle.ics_series.specs.Entry.{Entry, Rank, key_rank, rank_of}
 use Rattle.ics_series.specs.declared.day_key.DayKey.{DayKey}
 use Rattle.ics_series.specs.declared.window.Window.{Window}
 use Rattle.ics_series.specs.declared.key.Key.{Key}
-use Rattle.khal_list.specs.Pages.{DayGoesOn, DayTokenGoesOn, TextGoesOn, TextSplits, TokenGoesOn, last_day}
+use Rattle.khal_list.specs.Pages.{DayGoesOn, DayLineGoesOn, DayTokenGoesOn, LastDayLineShows, LastLineShows, LineGoesOn, TextGoesOn, TextSplits}
+use Rattle.khal_list.specs.Pages.{TokenGoesOn, last_day, shown_day_token, shown_token}
 use Rattle.khal_list.specs.RequestOf.{after_text, IsAfterBy, IsDayKeyOf, IsKeyOf}
 use Rattle.khal_list.specs.Text.{Style, day_under, heading_text, line_text, text, text_after, under}
-use Rattle.khal_list.proofs.PageLemmas.{goes-on}
+use Rattle.khal_list.proofs.PageLemmas.{goes-on, key-shows}
 use Rattle.khal_list.proofs.Printed.{text-append}
 use Rattle.khal_list.proofs.RequestLemmas.{no_both}
 use Rattle.khal_list.proofs.Printed as Printed
@@ -54,6 +55,27 @@ day-token-goes-on one behind-is entries zone now files request every_day front p
     let after = subst (λ e. IsAfterBy entries zone request.window request.after e) some r.after in
     day-goes-on behind-is files request every_day front p behind listing
     (day-key-named one zone request.window (after_text entries) every_day.after after.2 given (tokens p (stands-in front p behind)))
+
+-- what a line shows is the token of its entry
+shows-token : (style : Style) (o : Entry) → style.every_day ≡ false → shown_token style o ≡ spelling (rank_of o)
+shows-token style o once = rw once refl
+
+shows-day_token : (style : Style) (p : OnDay) → style.every_day ≡ true → shown_day_token style p ≡ day_spelling (day_rank_of p)
+shows-day_token style p every = rw every refl
+
+pub line-goes-on : OneSpelling → LineGoesOn
+line-goes-on one entries zone now files style request front o behind r none once given =
+    token-goes-on one entries zone now files request front o behind r none (given ∙ ap Some (shows-token style o once))
+
+pub day-line-goes-on : OneDaySpelling → DayListingBehind → DayLineGoesOn
+day-line-goes-on one behind-is entries zone now files style request every_day front p behind r some every given =
+    day-token-goes-on one behind-is entries zone now files request every_day front p behind r some (given ∙ ap Some (shows-day_token style p every))
+
+pub last-line-shows : LastLineShows
+last-line-shows style limit list once = key-shows rank_of spelling (shown_token style) (λ o. shows-token style o once) limit list
+
+pub last-day-line-shows : LastDayLineShows
+last-day-line-shows style limit list every = key-shows day_rank_of day_spelling (shown_day_token style) (λ p. shows-day_token style p every) limit list
 
 last-under : (style : Style) (before : Option ℤ) (front : List Entry) → Printed.last_day before (map (under style) front) ≡ last_day style before front
 last-under style before [] = refl

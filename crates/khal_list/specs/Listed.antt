@@ -1,5 +1,5 @@
 -- What a request shows of a list of entries, and how it is written.
-use Rattle.std.specs.Prelude.{◌∷◌, ℕ, Bool, false, List, [], Option, Some, None, length, nat_lt, take, if◌then◌else◌}
+use Rattle.std.specs.Prelude.{◌∷◌, ℕ, Bool, false, List, [], Option, Some, None, is_some, length, nat_lt, take, if◌then◌else◌}
 use Rattle.std.specs.Option.{option_map}
 use Rattle.ics_series.specs.After.{after_key}
 use Rattle.ics_series.specs.Clocks.{display_clock}
@@ -45,6 +45,7 @@ abbrev pub style_of : Request → Style
 style_of request = record {
   clock = display_clock request.zone;
   from = request.window.from;
+  every_day = is_some request.every_day;
   entries = request.formats.entries.pieces.items;
   days = request.formats.days.pieces.items;
 }

@@ -1,5 +1,5 @@
 -- Listings that continue from a key, and the pages that limits cut.
-use Rattle.std.specs.Prelude.{◌≡◌, ◌+◌, ◌≤◌, ⊤, ℕ, ℤ, List, [], ◌∷◌, ◌++◌, Option, Some, None, length, if◌then◌else◌}
+use Rattle.std.specs.Prelude.{◌≡◌, ◌+◌, ◌≤◌, ⊤, ℕ, ℤ, true, false, List, [], ◌∷◌, ◌++◌, Option, Some, None, length, if◌then◌else◌}
 use Rattle.std.specs.Option.{option_map}
 use Rattle.ics_zone.specs.ZoneSaid.{ZoneSaid}
 use Rattle.ics_event.specs.Event.{FileSaid}
@@ -10,10 +10,11 @@ use Rattle.ics_series.specs.Entry.{Entry, key_rank, rank_of}
 use Rattle.khal_list.specs.declared.every_day.EveryDay.{EveryDay}
 use Rattle.khal_list.specs.declared.request.Request.{Request}
 use Rattle.khal_list.specs.Headline.{HaveDayTokens, HaveTokens, IsDayListingOf, IsListingOf}
-use Rattle.khal_list.specs.Listed.{asked_after, asked_after_day, first_of, is_cut, key_by}
+use Rattle.khal_list.specs.Listed.{asked_after, asked_after_day, day_key_on, first_of, is_cut, key_by, key_on}
 use Rattle.khal_words.specs.Entries.{Entries}
+use Rattle.khal_words.specs.declared.field.EntryField.TheVariants.{Token}
 use Rattle.khal_list.specs.RequestOf.{after_text, IsRequest}
-use Rattle.khal_list.specs.Text.{Style, day_under, heading_text, text, text_after}
+use Rattle.khal_list.specs.Text.{Style, day_under, entry_field_text, heading_text, text, text_after}
 
 -- the listing after the key of one of its entries is that of the entries after it
 abbrev pub GoesOn : Type 0
@@ -43,6 +44,42 @@ DayTokenGoesOn =
     (front : List OnDay) (p : OnDay) (behind : List OnDay)
     → IsRequest entries zone now request → request.every_day ≡ Some every_day → after_text entries ≡ Some (day_spelling (day_rank_of p))
     → IsDayListingOf files request (front ++ p ∷ behind) → HaveDayTokens (front ++ p ∷ behind) → asked_after_day every_day (front ++ p ∷ behind) ≡ behind
+
+-- what the line of an entry shows for `{token}`, and that of an entry under its day
+abbrev pub shown_token : Style → Entry → List ℕ
+shown_token style o = entry_field_text style (day_under style o) o Token
+
+abbrev pub shown_day_token : Style → OnDay → List ℕ
+shown_day_token style p = entry_field_text style p.day p.entry Token
+
+-- in each display zone, words whose `--after` has the token that the line of an entry shows, and which do not have `--every-day`, ask for exactly
+-- the entries after that line
+abbrev pub LineGoesOn : Type 0
+LineGoesOn =
+    (entries : Entries) (zone : ZoneSaid) (now : ℤ) (files : List FileSaid) (style : Style) (request : Request)
+    (front : List Entry) (o : Entry) (behind : List Entry)
+    → IsRequest entries zone now request → request.every_day ≡ None → style.every_day ≡ false → after_text entries ≡ Some (shown_token style o)
+    → IsListingOf files request (front ++ o ∷ behind) → HaveTokens (front ++ o ∷ behind) → asked_after request (front ++ o ∷ behind) ≡ behind
+
+-- the same of words with `--every-day`, and of a line under a day
+abbrev pub DayLineGoesOn : Type 0
+DayLineGoesOn =
+    (entries : Entries) (zone : ZoneSaid) (now : ℤ) (files : List FileSaid) (style : Style) (request : Request) (every_day : EveryDay)
+    (front : List OnDay) (p : OnDay) (behind : List OnDay)
+    → IsRequest entries zone now request → request.every_day ≡ Some every_day → style.every_day ≡ true → after_text entries ≡ Some (shown_day_token style p)
+    → IsDayListingOf files request (front ++ p ∷ behind) → HaveDayTokens (front ++ p ∷ behind) → asked_after_day every_day (front ++ p ∷ behind) ≡ behind
+
+-- the token from which a listing continues, if a limit cuts it, is the one that the last of its lines shows
+abbrev pub LastLineShows : Type 0
+LastLineShows =
+    (style : Style) (limit : Option ℕ) (list : List Entry) → style.every_day ≡ false →
+    option_map spelling (key_on limit list) ≡ key_by (shown_token style) limit list
+
+-- the same under each day
+abbrev pub LastDayLineShows : Type 0
+LastDayLineShows =
+    (style : Style) (limit : Option ℕ) (list : List OnDay) → style.every_day ≡ true →
+    option_map day_spelling (day_key_on limit list) ≡ key_by (shown_day_token style) limit list
 
 -- the day under which the last of these entries is listed, or the day before them if there are none
 abbrev pub last_day : Style → Option ℤ → List Entry → Option ℤ

@@ -1,6 +1,7 @@
 -- The text of a listing: each entry on a line, under its day. The form is the program's own.
 use Rattle.std.specs.Prelude.{ℕ, ℤ, pos, ◌+◌, ◌/◌, ◌%◌, ◌==◌, ◌&&◌, ◌+ℤ◌, ◌-ℤ◌, Bool, true, false, List, [], ◌∷◌, ◌++◌, Option, Some, None, codes, map}
 use Rattle.std.specs.Prelude.{replicate, slice_get, unwrap_or, unsigned_abs, if◌then◌else◌}
+use Rattle.std.specs.Fmt.{signed_decimal}
 use Rattle.std.specs.Int.{int_rem_euclid, int_max}
 use Rattle.std.specs.Option.{option_eq}
 use Rattle.std.specs.Ordering.{int_eq}
@@ -8,10 +9,12 @@ use Rattle.ics_values.specs.declared.stamp.Stamp.{Stamp}
 use Rattle.ics_values.specs.declared.stamp.Stamp.TheVariants.{Date, Floating, Utc, Zoned}
 use Rattle.ics_fields.specs.Days.{year_of, month_of, month_day_of, weekday_of, day_index}
 use Rattle.ics_series.specs.Clocks.{Clock, local_at}
-use Rattle.ics_series.specs.Entry.{Entry}
-use Rattle.ics_series.specs.OnDays.{on_day, OnDay, date_at}
+use Rattle.ics_series.specs.Entry.{Entry, rank_of}
+use Rattle.ics_series.specs.OnDays.{on_day, OnDay, date_at, day_rank_of}
+use Rattle.ics_series.specs.Tokens.{day_spelling, spelling}
 use Rattle.khal_words.specs.declared.field.EntryField.{EntryField}
 use Rattle.khal_words.specs.declared.field.EntryField.TheVariants.{Cell, Title, StartTime, EndTime, StartDate, EndDate, Location, Description, Uid, Cancelled}
+use Rattle.khal_words.specs.declared.field.EntryField.TheVariants.{StartUnix, EndUnix, Token}
 use Rattle.khal_words.specs.declared.field.DayField.{DayField}
 use Rattle.khal_words.specs.declared.field.DayField.TheVariants as day
 use Rattle.khal_words.specs.declared.format.Piece.{Piece}
@@ -89,34 +92,42 @@ end_date clock e = if is_date e.event.start.stamp then date_at clock e.finish -�
 abbrev pub time_unless_date : Entry → ℤ → List ℕ
 time_unless_date e local = if is_date e.event.start.stamp then [] else time_text (second_of local)
 
+-- how a listing is written: by the clock of the display zone, from the window's start on, each entry once or under each of its days, and by these formats
+pub record Style : Type 0 where
+  pub clock : Clock
+  pub from : ℤ
+  pub every_day : Bool
+  pub entries : List (Piece EntryField)
+  pub days : List (Piece DayField)
+
+-- the token with which a listing continues after an entry under this day
+abbrev pub token_text : Style → ℤ → Entry → List ℕ
+token_text style day e = if style.every_day then day_spelling (day_rank_of (on_day day e)) else spelling (rank_of e)
+
 -- the value of a placeholder for an entry under this day
-abbrev pub entry_field_text : Clock → ℤ → Entry → EntryField → List ℕ
-entry_field_text clock day e Cell = cell_text clock day e
-entry_field_text clock day e Title = shown e.event.title
-entry_field_text clock day e StartTime = time_unless_date e (local_at clock e.start)
-entry_field_text clock day e EndTime = time_unless_date e (local_at clock e.finish)
-entry_field_text clock day e StartDate = date_text (start_date clock e)
-entry_field_text clock day e EndDate = date_text (end_date clock e)
-entry_field_text clock day e Location = shown e.event.location
-entry_field_text clock day e Description = shown e.event.description
-entry_field_text clock day e Uid = shown e.event.uid
-entry_field_text clock day e Cancelled = if e.event.cancelled then codes "CANCELLED " else []
+abbrev pub entry_field_text : Style → ℤ → Entry → EntryField → List ℕ
+entry_field_text style day e Cell = cell_text style.clock day e
+entry_field_text style day e Title = shown e.event.title
+entry_field_text style day e StartTime = time_unless_date e (local_at style.clock e.start)
+entry_field_text style day e EndTime = time_unless_date e (local_at style.clock e.finish)
+entry_field_text style day e StartDate = date_text (start_date style.clock e)
+entry_field_text style day e EndDate = date_text (end_date style.clock e)
+entry_field_text style day e Location = shown e.event.location
+entry_field_text style day e Description = shown e.event.description
+entry_field_text style day e Uid = shown e.event.uid
+entry_field_text style day e Cancelled = if e.event.cancelled then codes "CANCELLED " else []
+entry_field_text style day e StartUnix = signed_decimal e.start
+entry_field_text style day e EndUnix = signed_decimal e.finish
+entry_field_text style day e Token = token_text style day e
 
 -- the value of a placeholder for a day
 abbrev pub day_field_text : ℤ → DayField → List ℕ
 day_field_text number day.Name = weekday_name (weekday_of (day_index number))
 day_field_text number day.Date = date_text number
 
--- how a listing is written: by the clock of the display zone, from the window's start on, and by these formats
-pub record Style : Type 0 where
-  pub clock : Clock
-  pub from : ℤ
-  pub entries : List (Piece EntryField)
-  pub days : List (Piece DayField)
-
 -- an entry's line under this day, and LF
 abbrev pub line_text : Style → ℤ → Entry → List ℕ
-line_text style day e = filled (entry_field_text style.clock day e) style.entries ++ 10 ∷ []
+line_text style day e = filled (entry_field_text style day e) style.entries ++ 10 ∷ []
 
 -- the heading of a day, and LF
 abbrev pub heading_text : Style → ℤ → List ℕ

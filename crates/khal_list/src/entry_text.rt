@@ -1,16 +1,20 @@
 //! The values of placeholders in the line of an entry.
-ghost use Rattle.std.specs.Prelude.{◌≡◌, ◌++◌, OnOk};
+ghost use Rattle.std.specs.Prelude.{◌≡◌, ◌++◌, IfOk, OnOk};
+ghost use Rattle.std.specs.Fmt.{signed_decimal};
+ghost use Rattle.std.specs.String.{string_bytes};
 ghost use Rattle.ics_fields.specs.Days.{IsDayNumber};
 ghost use Rattle.ics_fields.specs.Locals.{local_seconds};
 ghost use Rattle.ics_series.specs.Clocks.{display_clock};
 ghost use Rattle.ics_series.specs.Entry.{entry_of};
-ghost use Rattle.khal_list.specs.Text.{cell_text, end_date, entry_field_text, is_date, time_unless_date};
+ghost use Rattle.khal_list.specs.Listed.{style_of};
+ghost use Rattle.khal_list.specs.Text.{cell_text, end_date, entry_field_text, is_date, time_unless_date, token_text};
 
 use crate::cell::{add_time, add_times};
 use crate::heading::add_date;
+use crate::request::Request;
 use ics_event::Event;
-use ics_series::{Occurrence, date_at};
-use ics_values::{Local, Stamp};
+use ics_series::{DayKey, DayToken, Key, Occurrence, Token, date_at};
+use ics_values::{Local, Moment, Stamp};
 use ics_zone::{Display, Place};
 use khal_reading::add_shown;
 use khal_words::EntryField;
@@ -68,18 +72,58 @@ fn end_day(zone: &Display, occurrence: &Occurrence<'_>) -> i32
     if dated { day - 1 } else { day }
 }
 
+/// Adds a moment as the decimal number of its seconds since 1970-01-01T00:00:00 UTC.
+fn add_moment(alloc: Global, text: &mut Vec<u8>, moment: Moment) -> Result<(), AllocError>
+    ensures { OnOk result (text.new.items ≡ text.old.items ++ signed_decimal moment) }
+{
+    let digits = format!(in alloc; "{moment}")?;
+    text.extend_from_slice(digits.as_bytes())
+}
+
+/// The token with which a listing continues after an occurrence that is listed under this day.
+fn token_of(
+    alloc: Global,
+    request: &Request,
+    day: i32,
+    occurrence: &Occurrence<'_>,
+) -> Result<String, AllocError>
+    ensures { IfOk result (λ token. string_bytes token ≡ token_text (style_of request.now) day (entry_of occurrence.now)) }
+{
+    let key = Key::of(alloc, occurrence)?;
+    match request.every_day {
+        Some(_) => DayToken::write(alloc, &DayKey { day, key }),
+        None => Token::write(alloc, &key),
+    }
+}
+
+/// Adds that token.
+fn add_token(
+    alloc: Global,
+    text: &mut Vec<u8>,
+    request: &Request,
+    day: i32,
+    occurrence: &Occurrence<'_>,
+) -> Result<(), AllocError>
+    ensures { OnOk result (text.new.items
+        ≡ text.old.items ++ token_text (style_of request.now) day (entry_of occurrence.now)) }
+{
+    let token = token_of(alloc, request, day, occurrence)?;
+    text.extend_from_slice(token.as_bytes())
+}
+
 /// Adds the value of a placeholder for an occurrence that is listed under this day.
 pub(crate) fn add_field(
     alloc: Global,
     text: &mut Vec<u8>,
-    zone: &Display,
+    request: &Request,
     day: i32,
     occurrence: &Occurrence<'_>,
     field: EntryField,
 ) -> Result<(), AllocError>
     ensures { OnOk result (text.new.items
-        ≡ text.old.items ++ entry_field_text (display_clock zone.now) day (entry_of occurrence.now) field) }
+        ≡ text.old.items ++ entry_field_text (style_of request.now) day (entry_of occurrence.now) field) }
 {
+    let zone = &request.zone;
     let event = occurrence.event;
     match field {
         EntryField::Cell => add_cell(text, zone, day, occurrence),
@@ -97,5 +141,8 @@ pub(crate) fn add_field(
         EntryField::Uid => add_shown(alloc, text, event.uid.as_slice()),
         EntryField::Cancelled if event.cancelled => text.extend_from_slice(b"CANCELLED "),
         EntryField::Cancelled => Ok(()),
+        EntryField::StartUnix => add_moment(alloc, text, occurrence.start),
+        EntryField::EndUnix => add_moment(alloc, text, occurrence.finish),
+        EntryField::Token => add_token(alloc, text, request, day, occurrence),
     }
 }

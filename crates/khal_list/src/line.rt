@@ -1,6 +1,5 @@
 //! The line of an entry.
 ghost use Rattle.std.specs.Prelude.{◌≡◌, ◌++◌, OnOk};
-ghost use Rattle.ics_series.specs.Clocks.{display_clock};
 ghost use Rattle.ics_series.specs.Entry.{entry_of};
 ghost use Rattle.khal_words.specs.Formats.{shown_piece};
 ghost use Rattle.khal_list.specs.Listed.{style_of};
@@ -9,7 +8,6 @@ ghost use Rattle.khal_list.specs.Text.{entry_field_text, line_text};
 use crate::entry_text::add_field;
 use crate::request::Request;
 use ics_series::Occurrence;
-use ics_zone::Display;
 use khal_words::{EntryField, Piece};
 use std::alloc::{AllocError, Global};
 
@@ -25,7 +23,7 @@ pub(crate) fn add_line(
         ≡ text.old.items ++ line_text (style_of request.now) day (entry_of occurrence.now)) }
 {
     for piece in &request.formats.entries.pieces {
-        add_piece(alloc, text, &request.zone, day, occurrence, *piece)?;
+        add_piece(alloc, text, request, day, occurrence, *piece)?;
     }
     text.push(b'\n')?;
     Ok(())
@@ -35,16 +33,16 @@ pub(crate) fn add_line(
 fn add_piece(
     alloc: Global,
     text: &mut Vec<u8>,
-    zone: &Display,
+    request: &Request,
     day: i32,
     occurrence: &Occurrence<'_>,
     piece: Piece<EntryField>,
 ) -> Result<(), AllocError>
     ensures { OnOk result (text.new.items
-        ≡ text.old.items ++ shown_piece (entry_field_text (display_clock zone.now) day (entry_of occurrence.now)) piece) }
+        ≡ text.old.items ++ shown_piece (entry_field_text (style_of request.now) day (entry_of occurrence.now)) piece) }
 {
     match piece {
         Piece::Byte(byte) => Ok(text.push(byte)?),
-        Piece::Field(field) => add_field(alloc, text, zone, day, occurrence, field),
+        Piece::Field(field) => add_field(alloc, text, request, day, occurrence, field),
     }
 }

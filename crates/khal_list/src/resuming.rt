@@ -1,5 +1,6 @@
 //! Laws of listings that go on from a key.
-ghost use Rattle.khal_list.specs.Pages.{DayGoesOn, DayPages, DayTokenGoesOn, GoesOn, Pages, TextGoesOn, TextSplits, TokenGoesOn};
+ghost use Rattle.khal_list.specs.Pages.{DayGoesOn, DayLineGoesOn, DayPages, DayTokenGoesOn, GoesOn, LastDayLineShows, LastLineShows, LineGoesOn};
+ghost use Rattle.khal_list.specs.Pages.{Pages, TextGoesOn, TextSplits, TokenGoesOn};
 
 use ics_series::{day_listing_behind, one_day_spelling, one_spelling};
 
@@ -32,6 +33,23 @@ pub fn day_token_goes_on()
     one_day_spelling();
     day_listing_behind();
 }
+
+/// The token that a line shows for `{token}` is that of its entry: if the words name `--after` with it,
+/// they ask for exactly the entries that follow that line, both without `--every-day` and with it.
+pub fn line_goes_on()
+    ensures once { LineGoesOn }
+    ensures days { DayLineGoesOn }
+{
+    one_spelling();
+    one_day_spelling();
+    day_listing_behind();
+}
+
+/// If a limit cuts a listing, the token from which it continues is the one that its last line shows.
+pub fn last_line_shows()
+    ensures once { LastLineShows }
+    ensures days { LastDayLineShows }
+{}
 
 /// The text of a listing is that of its first entries, and then that of the others after the last day
 /// of the first. If the others are listed alone, their text is one heading and the same lines.

@@ -22,6 +22,9 @@ entry_name entry.Location = codes "location"
 entry_name entry.Description = codes "description"
 entry_name entry.Uid = codes "uid"
 entry_name entry.Cancelled = codes "cancelled"
+entry_name entry.StartUnix = codes "start-unix"
+entry_name entry.EndUnix = codes "end-unix"
+entry_name entry.Token = codes "token"
 
 abbrev pub day_name : DayField → List ℕ
 day_name day.Name = codes "name"

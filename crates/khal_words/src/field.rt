@@ -22,6 +22,12 @@ pub enum EntryField {
     Uid,
     /// `CANCELLED ` for an event that is cancelled, and nothing for another.
     Cancelled,
+    /// Its start, in seconds since 1970-01-01T00:00:00 UTC.
+    StartUnix,
+    /// The same of its finish.
+    EndUnix,
+    /// The token with which a listing continues after it.
+    Token,
 }
 
 /// What a placeholder names of a day.
@@ -89,6 +95,15 @@ impl Placeholder for EntryField {
         }
         if is(text, "cancelled") {
             return Some(EntryField::Cancelled);
+        }
+        if is(text, "start-unix") {
+            return Some(EntryField::StartUnix);
+        }
+        if is(text, "end-unix") {
+            return Some(EntryField::EndUnix);
+        }
+        if is(text, "token") {
+            return Some(EntryField::Token);
         }
         None
     }

@@ -18,9 +18,10 @@ one_name name of back f g e = sym (back f) ∙ ap of e ∙ back g
 
 abbrev entry_fields : List EntryField
 entry_fields =
-    entry.Cell ∷ entry.Title ∷ entry.StartTime ∷ entry.EndTime ∷ entry.StartDate ∷ entry.EndDate ∷ entry.Location ∷ entry.Description ∷ entry.Uid ∷ []
+    entry.Cell ∷ entry.Title ∷ entry.StartTime ∷ entry.EndTime ∷ entry.StartDate ∷ entry.EndDate ∷ entry.Location ∷ entry.Description ∷ entry.Uid ∷ entry.Cancelled
+    ∷ entry.StartUnix ∷ entry.EndUnix ∷ []
 
-entry_back : (field : EntryField) → named entry_name entry_fields entry.Cancelled (entry_name field) ≡ field
+entry_back : (field : EntryField) → named entry_name entry_fields entry.Token (entry_name field) ≡ field
 entry_back entry.Cell = refl
 entry_back field = refl
 
@@ -29,7 +30,7 @@ day_back day.Name = refl
 day_back day.Date = refl
 
 pub returns-clause-entries : goal.returns-clause-entries
-returns-clause-entries c = one_list entry_name entry_names_plain (one_name entry_name (named entry_name entry_fields entry.Cancelled) entry_back)
+returns-clause-entries c = one_list entry_name entry_names_plain (one_name entry_name (named entry_name entry_fields entry.Token) entry_back)
 
 pub returns-clause-days : goal.returns-clause-days
 returns-clause-days c = one_list day_name day_names_plain (one_name day_name (named day_name (day.Name ∷ []) day.Date) day_back)

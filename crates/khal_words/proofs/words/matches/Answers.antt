@@ -1,6 +1,6 @@
-use Rattle.std.proofs.Common.{◌≡◌, List, [], ◌∷◌, Ok, Err, Result, inl, inr, sym, subst}
+use Rattle.std.proofs.Common.{◌≡◌, List, [], ◌∷◌, Result, inl, inr}
 use Rattle.clap.specs.Kinds.{or_else}
-use Rattle.clap.specs.Words.{Kinds, Text, FailsBy, HasKind, IsAmong, fault_of, subcommand_rows_of}
+use Rattle.clap.specs.Words.{Kinds, Text, FailsBy, HasKind, IsAmong, fault_of}
 use Rattle.clap.specs.declared.error.Error.{Error}
 use Rattle.clap.specs.declared.error.kind.ErrorKind.{ErrorKind}
 use Rattle.clap.specs.declared.parser.matches.ArgMatches.{ArgMatches}
