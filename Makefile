@@ -11,6 +11,8 @@ INSTALLED_PAGE := $(SHARE)/man/man1/khal-list.1
 INSTALLED_BASH := $(SHARE)/bash-completion/completions/khal-list
 INSTALLED_ZSH := $(SHARE)/zsh/site-functions/_khal-list
 INSTALLED_FISH := $(SHARE)/fish/vendor_completions.d/khal-list.fish
+INSTALLED_EXAMPLES := $(SHARE)/khal-list/examples
+EXAMPLES := room-plate remind-soon rota status-line room-page entries.py
 
 PROGRAM := bin/khal-list
 BUILT := crates/khal_list_cli/out/khal_list_cli
@@ -52,16 +54,18 @@ bench: $(PROGRAM)
 check-docs: $(PROGRAM)
 	@sh scripts/check-docs $(PROGRAM)
 
-# The program, its manual page, and its completions where the shells look for them.
+# The program, its manual page, its completions where the shells look for them, and the example scripts.
 install: $(PROGRAM)
 	@install -D -m 755 $(PROGRAM) $(INSTALLED_PROGRAM)
 	@install -D -m 644 docs/khal-list.1 $(INSTALLED_PAGE)
 	@install -D -m 644 completions/khal-list.bash $(INSTALLED_BASH)
 	@install -D -m 644 completions/_khal-list $(INSTALLED_ZSH)
 	@install -D -m 644 completions/khal-list.fish $(INSTALLED_FISH)
+	@for script in $(EXAMPLES); do install -D -m 755 examples/$$script $(INSTALLED_EXAMPLES)/$$script || exit 1; done
 
 uninstall:
 	@rm -f $(INSTALLED_PROGRAM) $(INSTALLED_PAGE) $(INSTALLED_BASH) $(INSTALLED_ZSH) $(INSTALLED_FISH)
+	@cd $(INSTALLED_EXAMPLES) 2>/dev/null && rm -f $(EXAMPLES) && rmdir $(INSTALLED_EXAMPLES) $(SHARE)/khal-list 2>/dev/null || :
 
 clean:
 	@rm -rf bin out bench/data crates/*/out
