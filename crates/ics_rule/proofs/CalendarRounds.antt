@@ -1,5 +1,5 @@
 -- Whole rounds of the calendar are rounds of each rule.
-use Rattle.std.proofs.Common.{◌≡◌, ℕ, ◌+◌, ◌-◌, ◌*◌, ◌/◌, ◌%◌, ◌≤◌, sym, ap, ◌∙◌, arith}
+use Rattle.std.proofs.Common.{◌≡◌, ℕ, ◌+◌, ◌-◌, ◌*◌, ◌/◌, ◌%◌, ◌≤◌, Option, Some, None, MatchOption, sym, ap, ◌∙◌, arith}
 use Rattle.std.proofs.lemmas.Nat.{div-add-mod'}
 use Rattle.std.proofs.Math.Nat.{mul_comm}
 use Rattle.jiff_core.specs.Weekday.{monday_zero}
@@ -45,3 +45,8 @@ calendar_is q periods round = record {
       ∙ date_again q round.cycles (day_of n) round.some)
       (clock_same q (n + round.cycles * 12_622_780_800) n (omega arith) (omega arith) (omega arith));
 }
+
+pub calendar_rounds : (q : EffectiveRule) (found : Option ℕ) → MatchOption found (Unit {0}) (IsCalendarRound q)
+    → MatchOption found (Unit {0}) (λ k. (s : ℕ) × IsRound q k s)
+calendar_rounds q None none = tt
+calendar_rounds q (Some k) round = (round.cycles * 12_622_780_800, calendar_is q k round)

@@ -1,5 +1,5 @@
 -- The calendar repeats after 400 years, which are 146,097 days.
-use Rattle.std.proofs.Common.{◌≡◌, ℕ, zero, suc, ◌+◌, ◌-◌, ◌*◌, ◌≤◌, inl, inr, cond, ◌||◌, ◌==◌, pos, refl, ap}
+use Rattle.std.proofs.Common.{◌≡◌, ℕ, zero, suc, ◌+◌, ◌-◌, ◌*◌, ◌/◌, ◌%◌, ◌<◌, ◌≤◌, inl, inr, false, cond, ◌||◌, ◌==◌, pos, refl, ap}
 use Rattle.std.proofs.Common.{◌∙◌, arith}
 use Rattle.std.proofs.lemmas.Bool.{cases_lt}
 use Rattle.jiff_core.specs.Calendar.{is_leap_year, days_in_year, days_in_month, days_of_months}
@@ -88,3 +88,15 @@ week_place p w k e some = let f = fourth_again w k e some in
 -- a rule allows the same dates
 pub date_again : (q : EffectiveRule) (k e : ℕ) → 1 ≤ k → lets_date q (e + 146_097 * k) ≡ lets_date q e
 date_again q k e some = grind (arith, month_again, month_day_again, numbered_again, own_month_size, year_size_of, week_place, weekday_again, year_day_again)
+
+-- no date is allowed after a round in which none is
+pub none_again : (q : EffectiveRule) {from end : ℕ} → from + 146_097 ≤ end → ((e : ℕ) → from ≤ e → e < end → lets_date q e ≡ false)
+    → (e : ℕ) → from ≤ e → lets_date q e ≡ false
+none_again q {from = from} {end = end} long none e low = elim (cases_lt e end) [
+  | inl less ↦ none e low less
+  | inr more ↦
+      let k = (e - from) / 146_097 in
+      let before = from + (e - from) % 146_097 in
+      let same : e ≡ before + 146_097 * k = omega (arith, low) in
+      ap (lets_date q) same ∙ date_again q k before (omega (arith, more, long)) ∙ none before (omega arith) (omega (arith, long))
+]

@@ -1,5 +1,5 @@
 -- What BYSETPOS can't list.
-use Rattle.std.proofs.Common.{◌≡◌, ℕ, ◌+◌, ◌-◌, ◌*◌, ◌<◌, ◌≤◌, false, ◌||◌, Option, None, sym, ap, ◌∙◌}
+use Rattle.std.proofs.Common.{◌≡◌, ℕ, ◌+◌, ◌-◌, ◌*◌, ◌<◌, ◌≤◌, false, ◌||◌, Option, None, ap, ◌∙◌}
 use Rattle.std.proofs.Common.{arith}
 use Rattle.std.proofs.lemmas.Bool.{false_from_ne_true}
 use Rattle.jiff_core.specs.Weekday.{monday_zero}
@@ -34,20 +34,31 @@ filled : (f : Frequency) (w : ℕ) → 0 < seconds_of f → seconds_of f ≤ 86_
     → (first_local f w (3_652_425 * per_day f) ≡ calendar_end) × (3_652_425 * per_day f * seconds_of f ≤ calendar_end)
 filled f w h u = grind arith
 
--- then all of them together have nothing that is chosen
+-- if all of them together have nothing that is chosen, nothing is
+module _ (q : EffectiveRule) (start : ℕ) (fine : 0 < seconds_of q.frequency) (unit : seconds_of q.frequency ≤ 86_400) where
+  none_in_all : count (3_652_425 * per_day q.frequency) (is_open_period q (period_in q start)) * chosen_in_open q ≡ 0 → (n : ℕ) → n < calendar_end
+      → is_chosen q start n ≡ false
+  none_in_all none n inside = false_from_ne_true (is_chosen q start n) (λ yes.
+      let fills = filled q.frequency (monday_zero q.week_start) fine unit in
+      let end = ap (λ x. count x (is_chosen q start)) fills.0 in
+      let total = total_open q start fine unit (3_652_425 * per_day q.frequency) fills.1 in
+      let one = count_some calendar_end n (is_chosen q start) inside yes in
+      omega (arith, end, total, none, one))
+
+  -- no period is open
+  pub never_open : ((p : ℕ) → is_open_period q (period_in q start) p ≡ false) → (n : ℕ) → n < calendar_end → is_chosen q start n ≡ false
+  never_open none = none_in_all
+      (ap (λ x. x * chosen_in_open q) (count-none (3_652_425 * per_day q.frequency) (is_open_period q (period_in q start)) (λ p l. none p))
+      ∙ omega arith)
+
 pub never_chosen : (q : EffectiveRule) → IsPast q → (start n : ℕ) → n < calendar_end → is_chosen q start n ≡ false
-never_chosen q past start n inside = false_from_ne_true (is_chosen q start n) (λ yes.
-    let periods = 3_652_425 * per_day q.frequency in
-    let fills = filled q.frequency (monday_zero q.week_start) past.fine past.unit in
-    let end = ap (λ x. count x (is_chosen q start)) fills.0 in
-    let none : 0 ≡ chosen_in_open q = sym (ap (λ b. chosen_of_size q b (size_of_open q)) past.some
+never_chosen q past start =
+    let none : chosen_in_open q ≡ 0 = ap (λ b. chosen_of_size q b (size_of_open q)) past.some
     ∙ count-none (size_of_open q) (is_listed q.positions (size_of_open q)) (λ k l.
     ap (λ x. x || contains_wide q.positions.back (size_of_open q + 1 - (k + 1))) (past.front (k + 1) (omega arith) (omega (arith, l)))
-    ∙ past.back (size_of_open q + 1 - (k + 1)) (omega (arith, l)) (omega arith))) in
-    let total = total_open q start past.fine past.unit periods fills.1 in
-    let nothing = ap (λ x. count periods (is_open_period q (period_in q start)) * x) none in
-    let one = count_some calendar_end n (is_chosen q start) inside yes in
-    omega (arith, end, total, nothing, one))
+    ∙ past.back (size_of_open q + 1 - (k + 1)) (omega (arith, l)) (omega arith)) in
+    none_in_all q start past.fine past.unit
+    (ap (λ x. count (3_652_425 * per_day q.frequency) (is_open_period q (period_in q start)) * x) none ∙ omega arith)
 
 -- so a walk finds nothing
 pub none_wanted : (q : EffectiveRule) (start : ℕ) (o : Option ℕ) (place : ℕ) {stop : ℕ} → stop ≤ rules_end →

@@ -13,6 +13,7 @@ use crate::pass::next_open_step;
 use crate::recurrence_period::RecurrencePeriod;
 use crate::search::Search;
 use crate::step::period_of;
+use crate::walk::is_vain;
 
 /// 10000-01-01T00:00:00, the end of the calendar.
 const CALENDAR_END: u64 = 315_569_520_000;
@@ -118,11 +119,16 @@ impl Cursor {
         let last = period_of(parts, stop - 1);
         self.pass_periods(search, count);
         let (mut number, _) = self.counted_from(search.first);
+        let mut looks: u64 = 0;
         while number <= last {
             let period = self.turn_to(search, count, number)?;
             if let Some(n) = period.next_taken(&parts.positions, self.place) {
                 let earlier = self.counted + period.taken_before(&parts.positions, n);
                 return if earlier < self.limit { Some(n) } else { None };
+            }
+            looks = looks.saturating_add(1);
+            if is_vain(search, looks) {
+                return None;
             }
             number = next_open_step(search, &period, last, stop);
         }

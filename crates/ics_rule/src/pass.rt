@@ -51,7 +51,10 @@ fn days_out(parts: &EffectiveRule, day: u32) -> u32
     }
 }
 
-/// The first day from one on that a rule may allow. The search ends at `end`.
+/// Days of the calendar's 400 years, after which the days that a rule allows repeat.
+const CALENDAR_ROUND: u32 = 146_097;
+
+/// The first day from one on that a rule may allow. The search ends at `end`, and after a round of the calendar without such a day.
 fn next_open_day(parts: &EffectiveRule, day: u32, end: u32) -> u32
     requires day { day ≤ end }
     requires end { end ≤ day_before 9_999 }
@@ -59,8 +62,12 @@ fn next_open_day(parts: &EffectiveRule, day: u32, end: u32) -> u32
     ensures high { result ≤ end + 32 }
     ensures none { (e : ℕ) → day ≤ e → e < result → lets_date parts.now e ≡ false }
 {
+    let round = day + CALENDAR_ROUND;
     let mut day = day;
     while day < end {
+        if day >= round {
+            return end;
+        }
         let out = days_out(parts, day);
         if out == 0 {
             return day;

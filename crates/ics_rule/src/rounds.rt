@@ -8,7 +8,6 @@ ghost use Rattle.ics_rule.specs.Rounds.{seconds_of, calendar_periods, IsCalendar
 
 use crate::cursor::Cursor;
 use crate::date::{goes_by_months, names_weekdays_alone};
-use crate::effective::skips_hours;
 use crate::effective_rule::EffectiveRule;
 use crate::search::Search;
 use crate::step::period_of;
@@ -77,17 +76,29 @@ fn round_of(search: &Search<'_>) -> Option<u64>
     }
 }
 
+/// How many periods a round has: by what a rule's parts restrict, or else by the calendar, if two rounds of it fit into so many periods.
+fn repeats_after(search: &Search<'_>, periods: u64) -> Option<u64>
+    requires { periods < 2 ^ 40 }
+    ensures { MatchOption result (Unit {0}) (λ k. (s : ℕ) × IsRound search.now.parts.now k s) }
+{
+    match round_of(search) {
+        Some(round) => Some(round),
+        None => calendar_round(search, periods),
+    }
+}
+
 /// The period up to which a search from one on looks: one round later if the rule repeats, since it chooses nothing after a round in which it
 /// chooses nothing, and else the last.
 pub(crate) fn last_to_look_at(search: &Search<'_>, begin: u64, last: u64) -> u64
+    requires { last < 2 ^ 40 }
     ensures high { result ≤ last }
     ensures round { result < last → HasRound search.now.parts.now begin result }
 {
     let left = last.saturating_sub(begin);
-    if left < A_SHORT_SEARCH || begin == 0 || skips_hours(search.parts.frequency) {
+    if left < A_SHORT_SEARCH.min(calendar_periods(search.parts.frequency)) || begin == 0 {
         return last;
     }
-    let Some(round) = round_of(search) else {
+    let Some(round) = repeats_after(search, left) else {
         return last;
     };
     if round < left { begin + round } else { last }

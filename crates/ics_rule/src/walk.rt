@@ -1,5 +1,5 @@
 //! Searching the periods of a rule without COUNT.
-ghost use Rattle.std.specs.Prelude.{◌≡◌, ◌<◌, ◌≤◌, ◌+◌, ◌*◌, ◌/◌, ◌^◌, MatchOption, Some, None};
+ghost use Rattle.std.specs.Prelude.{◌≡◌, ℕ, true, false, ◌<◌, ◌≤◌, ◌+◌, ◌*◌, ◌/◌, ◌^◌, MatchOption, Some, None};
 ghost use Rattle.jiff_core.specs.Weekday.{monday_zero};
 ghost use Rattle.ics_fields.specs.Sets.{IsLeastFrom};
 ghost use Rattle.ics_rule.specs.Candidates.{is_stepped, period_in};
@@ -7,10 +7,13 @@ ghost use Rattle.ics_rule.specs.RecurrencePeriods.{first_local, IsPeriodOf};
 ghost use Rattle.ics_rule.specs.Cursors.{IsCursorIn};
 ghost use Rattle.ics_rule.specs.Searches.{IsNextWanted, IsWalked, LooksAt};
 ghost use Rattle.ics_rule.specs.PeriodNumbers.{rules_end};
+ghost use Rattle.ics_rule.specs.Kept.{is_chosen};
+ghost use Rattle.ics_fields.specs.Locals.{calendar_end};
 
 use crate::cursor::Cursor;
 use crate::effective_rule::EffectiveRule;
 use crate::never::chooses_none;
+use crate::open_periods::has_no_time;
 use crate::pass::next_open_step;
 use crate::recurrence_period::RecurrencePeriod;
 use crate::rounds::last_to_look_at;
@@ -30,6 +33,16 @@ pub(crate) fn next_step(first: u64, interval: u32, own: u64) -> u64
     } else {
         first + (own - first + (interval - 1)) / interval * interval
     }
+}
+
+/// After this many looks in vain, a search asks whether its rule can choose anything.
+const MANY_LOOKS: u64 = 4_096;
+
+/// Whether a search that has looked in vain so often is known to find nothing.
+pub(crate) fn is_vain(search: &Search<'_>, looks: u64) -> bool
+    ensures { result ≡ true → (n : ℕ) → n < calendar_end → is_chosen search.now.parts.now search.now.start n ≡ false }
+{
+    looks == MANY_LOOKS && has_no_time(search)
 }
 
 impl Cursor {
@@ -68,10 +81,15 @@ impl Cursor {
         let last = period_of(parts, stop - 1);
         let end = last_to_look_at(search, search.first.max(own), last);
         let mut number = next_step(search.first, parts.interval, own);
+        let mut looks: u64 = 0;
         while number <= end {
             let period = self.turn_freely(parts, number);
             if let Some(n) = period.next_taken(&parts.positions, self.place) {
                 return Some(n);
+            }
+            looks = looks.saturating_add(1);
+            if is_vain(search, looks) {
+                return None;
             }
             number = next_open_step(search, &period, last, stop);
         }

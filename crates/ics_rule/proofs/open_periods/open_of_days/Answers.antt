@@ -1,10 +1,12 @@
-use Rattle.std.proofs.Common.{◌≡◌, ◌∙◌, ◌+◌, ◌*◌, ◌≤◌, arith}
+use Rattle.std.proofs.Common.{◌≡◌, ◌∙◌, ◌&&◌, ◌+◌, ◌*◌, ◌<◌, ◌≤◌, refl, arith}
 use Rattle.std.proofs.lemmas.Nat.{mul-le}
+use Rattle.ics_rule.specs.Candidates.{is_stepped, lets_date}
+use Rattle.ics_rule.specs.Kept.{count}
 use Rattle.ics_rule.specs.OpenPeriods.{per_day}
 use Rattle.ics_rule.proofs.Counts.{count_most}
-use Rattle.ics_rule.proofs.OpenLemmas.{IsDayRun, day_some, placed, placed_none, placed_more, placed_out, placed_all}
+use Rattle.ics_rule.proofs.OpenLemmas.{IsDayRun, day_some, placed, placed_none, placed_more, placed_all}
 use Rattle.ics_rule.proofs.open_periods.open_of_days.Goals as goal
-use Rattle.ics_rule.proofs.open_periods.open_of_days.Goals.{then-days-gt0, else-days-gt0, After-min-j-end, After-steps_let_in}
+use Rattle.ics_rule.proofs.open_periods.open_of_days.Goals.{then-steps-gt0, else-steps-gt0, After-min-j-end, After-days_let_in}
 
 run : (c : After-min-j-end) → IsDayRun c.args.search.now.parts.now c.args.search.now.first c.args.from c.args.before
 run c = record { fine = c.requires.fine; unit = c.requires.unit; some = c.args.search.now.interval; later = c.requires.first; order = c.requires.order }
@@ -13,11 +15,11 @@ pub loop-j-init : goal.loop-j-init
 loop-j-init c = placed_none (run c)
 
 -- the sum of the days so far is small
-small : (c : After-steps_let_in) → IsDayRun c.args.search.now.parts.now c.args.search.now.first c.args.from c.args.before
-    → c.loop-j.total + c.days_let_in-days.result * c.steps_let_in.result ≤ 3_579_743 * 86_400
+small : (c : After-days_let_in) → IsDayRun c.args.search.now.parts.now c.args.search.now.first c.args.from c.args.before
+    → c.loop-j.total + c.days_let_in.result * c.steps_let_in-steps.result ≤ 3_579_743 * 86_400
 small c run =
-    let all = placed_more run (omega (arith, c.loop-j-test.true, c.min-j-end.ensures)) c.steps_let_in.result c.loop-j.invariant
-    c.days_let_in-days.ensures.value c.seconds_of-per_day.ensures.value c.steps_let_in.ensures in
+    let all = placed_more run (omega (arith, c.loop-j-test.true, c.min-j-end.ensures)) c.steps_let_in-steps.result c.loop-j.invariant
+    c.days_let_in.ensures.value c.seconds_of-per_day.ensures.value c.steps_let_in-steps.ensures in
     let most = count_most (c.args.before * per_day c.args.search.now.parts.now.frequency)
     (placed c.args.search.now.parts.now c.args.search.now.first c.args.from (c.loop-j.j + 1)) in
     let high = mul-le c.args.before (per_day c.args.search.now.parts.now.frequency) 3_579_743 86_400 c.requires.before
@@ -32,11 +34,17 @@ overflow_add-total c = let sum = small c (run (goal.at.overflow_add-total c).Aft
 
 pub loop-j-preserved : goal.loop-j-preserved
 loop-j-preserved c =
-    let run = run (goal.at.loop-j-preserved c).After-min-j-end in elim c.if-days-gt0.branch [
-      | then-days-gt0 w ↦ w.total-is ∙ placed_more run (omega (arith, c.loop-j-test.true, c.min-j-end.ensures)) w.steps_let_in.result c.loop-j.invariant
-          c.days_let_in-days.ensures.value c.seconds_of-per_day.ensures.value w.steps_let_in.ensures
-      | else-days-gt0 w ↦ w.total-is ∙ placed_out run (omega (arith, c.loop-j-test.true, c.min-j-end.ensures)) c.loop-j.invariant
-          (let none : 0 ≡ c.days_let_in-days.result = omega (arith, w.if-days-gt0.false) in none ∙ c.days_let_in-days.ensures.value)
+    let run = run (goal.at.loop-j-preserved c).After-min-j-end in
+    let less : c.loop-j.j < c.args.search.now.parts.now.interval = omega (arith, c.loop-j-test.true, c.min-j-end.ensures) in
+    elim c.if-steps-gt0.branch [
+      | then-steps-gt0 w ↦ w.total-is ∙ placed_more run less c.steps_let_in-steps.result c.loop-j.invariant
+          w.days_let_in.ensures.value c.seconds_of-per_day.ensures.value c.steps_let_in-steps.ensures
+      | else-steps-gt0 w ↦
+          let none : c.steps_let_in-steps.result ≡ 0 = omega (arith, w.if-steps-gt0.false) in
+          let same = placed_more run less {days = count c.args.before
+          (λ e. is_stepped (c.args.from + c.loop-j.j) c.args.search.now.parts.now.interval e && lets_date c.args.search.now.parts.now e)}
+          0 c.loop-j.invariant refl c.seconds_of-per_day.ensures.value (rw none at c.steps_let_in-steps.ensures) in
+          omega (arith, w.total-is, same)
     ]
 
 pub returns : goal.returns

@@ -1,5 +1,6 @@
 use Rattle.std.proofs.Common.{arith}
 use Rattle.ics_rule.specs.Candidates.{lets_date}
+use Rattle.ics_rule.proofs.CycleLemmas.{none_again}
 use Rattle.ics_rule.proofs.PassLemmas.{out_on}
 use Rattle.ics_rule.proofs.pass.next_open_day.Goals as goal
 
@@ -9,3 +10,6 @@ loop-day-preserved c = record {
   high = omega (arith, c.loop-day-test.true, c.days_out-out.ensures.most);
   none = out_on (lets_date c.args.parts.now) c.loop-day.invariant.none c.days_out-out.ensures.none;
 }
+
+pub returns-then-day-round-clause-none : goal.returns-then-day-round-clause-none
+returns-then-day-round-clause-none c = λ e low high. none_again c.args.parts.now (omega (arith, c.if-day-round.true)) c.loop-day.invariant.none e low

@@ -72,3 +72,7 @@ returns-clause-walked c = walk_ended c.loop-number.invariant.walk
 pub returns-in_err-period-clause-walked : goal.returns-in_err-period-clause-walked
 returns-in_err-period-clause-walked c =
     rw (c.from_residual.ensures, c.in_err-period.ensures.turned.1) (walk_ended c.loop-number.invariant.walk)
+
+pub returns-then-is_vain-clause-walked : goal.returns-then-is_vain-clause-walked
+returns-then-is_vain-clause-walked c = counting_stopped c.loop-number.invariant c.in_ok-period.ensures.turned c.turn_to.ensures.looks
+    (omega (arith, c.loop-number-test.true, c.period_of-last.ensures.value))

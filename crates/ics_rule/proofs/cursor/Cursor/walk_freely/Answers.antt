@@ -5,7 +5,7 @@ use Rattle.ics_rule.specs.Candidates.{period_in}
 use Rattle.ics_rule.specs.RecurrencePeriods.{is_taken}
 use Rattle.ics_rule.specs.Searches.{is_chosen_within}
 use Rattle.ics_rule.proofs.ChosenLemmas.{taken_within}
-use Rattle.ics_rule.proofs.CursorLemmas.{next_same, within_facts, walk_begins, walk_goes_on, walk_ended, walk_finds, walk_found, walk_reach}
+use Rattle.ics_rule.proofs.CursorLemmas.{next_same, within_facts, walk_begins, walk_goes_on, walk_ended, walk_finds, walk_found, walk_stopped, walk_reach}
 use Rattle.ics_rule.proofs.CountLemmas.{step_low}
 use Rattle.ics_rule.proofs.PassedLemmas.{walk_rounds_end}
 use Rattle.ics_rule.proofs.NeverLemmas.{none_wanted, none_walked}
@@ -74,3 +74,13 @@ returns-then-chooses_none-clause-next c =
 
 pub returns-then-chooses_none-clause-walked : goal.returns-then-chooses_none-clause-walked
 returns-then-chooses_none-clause-walked c = none_walked c.args.stop c.requires.place c.requires.own
+
+pub returns-then-is_vain-clause-next : goal.returns-then-is_vain-clause-next
+returns-then-is_vain-clause-next c =
+    none_wanted c.args.search.now.parts.now c.args.search.now.start None c.args.self.now.place c.requires.stop (c.is_vain.ensures c.if-is_vain.true)
+
+pub returns-then-is_vain-clause-walked : goal.returns-then-is_vain-clause-walked
+returns-then-is_vain-clause-walked c =
+    let turned = c.turn_freely-period.ensures in
+    walk_stopped c.loop-number.invariant turned.looks turned.held turned.product turned.number tt
+    (top (goal.at.returns-then-is_vain-clause-walked c).After-turn_freely-period)
