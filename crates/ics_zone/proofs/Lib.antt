@@ -13,5 +13,6 @@ pub mod MarkLemmas
 pub mod ListingLemmas
 pub mod ZoneSteps
 pub mod JumpLemmas
+pub mod WalkLemmas
 pub mod CandidateLemmas
 pub mod ReadLemmas

@@ -19,6 +19,7 @@ mod place;
 mod shared_table;
 mod sixty;
 mod times;
+mod walk;
 mod zone;
 mod zone_fault;
 mod zone_file;

@@ -14,6 +14,7 @@ use crate::latest::{
     Steady, clear_after, first_offset, latest_of, next_onset, next_past, overrides,
 };
 use crate::onsets::Onsets;
+use crate::walk::{Told, gap_at_end, step, walk_to};
 use crate::{Observance, ZoneFault};
 use ics_fields::{Frequency, Local, Moment};
 use std::alloc::{AllocError, Global};
@@ -29,8 +30,14 @@ const LAST_HELD: Moment = 251_856_172_799;
 /// How many seconds after an instant the end of a span is searched for.
 const AHEAD: i64 = 400 * DAY;
 
+/// How many seconds after an instant spans are held.
+const HELD_AHEAD: i64 = 120 * DAY;
+
 /// The number of spans that a zone holds at most.
-const HELD: usize = 256;
+const HELD: usize = 1_024;
+
+/// How many of them are made for one instant.
+const HELD_AT_ONCE: usize = 128;
 
 /// A zone by observances (RFC 5545, section 3.6.5). It has no table of onsets: it searches the observances near each instant. Contracts see the
 /// observances alone.
@@ -40,6 +47,8 @@ pub struct Observed {
     onsets: Vec<Onsets>,
     /// How many seconds back the search for an onset goes at first.
     ago: i64,
+    /// How many spans are held for one instant.
+    at_once: usize,
     /// Every offset that the zone has at some instant.
     offsets: Vec<i32>,
     /// Spans about the instants that were given to `reach`, in order.
@@ -84,24 +93,25 @@ impl Observed {
             return Err(ZoneFault::Memory);
         };
         let ago = least_ago(&onsets);
+        let at_once = spans_at_once(&observances);
         Ok(Observed {
             observances,
             onsets,
             ago,
+            at_once,
             offsets,
             held: Vec::new(alloc),
         })
     }
 
-    /// Makes answers near an instant faster and changes none: the zone answers at every instant, before this call and after it. It holds the
-    /// spans about the instant if there is room for them and no allocation fails. The result is always `Ok`.
+    /// Makes answers near an instant faster and changes none: the zone answers at every instant, before this call and after it. It holds
+    /// spans from a day before the instant on if there is room for them and no allocation fails. The result is always `Ok`.
     pub fn reach(&mut self, to: Moment) -> Result<(), AllocError>
         ensures same { self.new ≡ self.old }
         ensures always { result ≡ Ok tt }
     {
         let near = to.clamp(FIRST_HELD, LAST_HELD);
-        self.hold(near - DAY);
-        self.hold(near + DAY);
+        self.hold_from(near - DAY, near + HELD_AHEAD);
         Ok(())
     }
 
@@ -125,9 +135,31 @@ impl Observed {
         ensures value { result ≡ zone_moment (observances_said self.now) (seconds_at local.day local.second) }
     {
         let seconds = seconds_of(local);
+        if let Some(moment) = self.held_moment(seconds) {
+            return moment;
+        }
         match self.first_time(seconds) {
             Some(moment) => moment,
             None => self.across_gap(seconds),
+        }
+    }
+
+    // Holds the spans from an instant on and up to another, some at a time.
+    fn hold_from(&mut self, from: Moment, to: Moment)
+        requires from { IsSearched from }
+        requires to { IsSearched to }
+        ensures { self.new ≡ self.old }
+    {
+        let mut at = from;
+        for _ in 0..self.at_once {
+            if at > to {
+                return;
+            }
+            self.hold(at);
+            let Some(held) = self.held_over(at, at) else {
+                return;
+            };
+            at = held.next;
         }
     }
 
@@ -163,6 +195,26 @@ impl Observed {
         } else {
             None
         }
+    }
+
+    // The instant that a local means, given by its seconds, if the spans within a day of it are held.
+    fn held_moment(&self, seconds: i64) -> Option<Moment>
+        requires bound { IsMoment seconds }
+        ensures { IfSome result (IsMomentOf (observances_said self.now) seconds) }
+    {
+        let mut walk = walk_to(seconds);
+        let begun = self.held.partition_point(|span| span.from <= walk.low);
+        for k in begun.saturating_sub(1)..self.held.len() {
+            match step(seconds, &walk, &self.held[k]) {
+                Told::Shows(moment) => return Some(moment),
+                Told::Out => return None,
+                Told::On(next) => walk = next,
+            }
+            if let Some(moment) = gap_at_end(seconds, &walk) {
+                return Some(moment);
+            }
+        }
+        None
     }
 
     // The span about an instant, from one onset to the next. None if no onset is before the instant.
@@ -403,6 +455,18 @@ fn least_ago(onsets: &[Onsets]) -> i64 {
         ago = ago.min(i64::try_from(one.ago).unwrap_or(i64::MAX));
     }
     ago
+}
+
+// How many spans are held for one instant: two, if an observance is counted.
+fn spans_at_once(observances: &[Observance]) -> usize {
+    for observance in observances {
+        if let Some(parts) = &observance.rule {
+            if parts.count().is_some() {
+                return 2;
+            }
+        }
+    }
+    HELD_AT_ONCE
 }
 
 // The offsets before and after the onsets, each of them once, the greatest first.

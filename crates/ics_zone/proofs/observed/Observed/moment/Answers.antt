@@ -16,8 +16,16 @@ is_found zone local t h = moment_unique (zone_offset (observances_said zone)) lo
 pub returns-in-Some : goal.returns-in-Some
 returns-in-Some c =
     let fits : SFits w64 c.seconds_of-seconds.result = search rules in
-    let is : IsMomentOf (observances_said c.args.self.now) c.seconds_of-seconds.result c.in-Some.moment = inl (simp to_z-of_z at c.in-Some.ensures) in
+    let is : IsMomentOf (observances_said c.args.self.now) c.seconds_of-seconds.result c.in-Some.moment = simp to_z-of_z at c.in-Some.ensures in
     rw (to_z-of_z w64 c.in-Some.moment (search rules), sym c.seconds_of-seconds.ensures)
+    (record { means = is; value = is_found c.args.self.now c.seconds_of-seconds.result _ is })
+
+pub returns-in-Some-first_time : goal.returns-in-Some-first_time
+returns-in-Some-first_time c =
+    let fits : SFits w64 c.seconds_of-seconds.result = search rules in
+    let is : IsMomentOf (observances_said c.args.self.now) c.seconds_of-seconds.result c.in-Some-first_time.moment =
+    inl (simp to_z-of_z at c.in-Some-first_time.ensures) in
+    rw (to_z-of_z w64 c.in-Some-first_time.moment (search rules), sym c.seconds_of-seconds.ensures)
     (record { means = is; value = is_found c.args.self.now c.seconds_of-seconds.result _ is })
 
 pub returns-in-None : goal.returns-in-None

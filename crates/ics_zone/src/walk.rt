@@ -1,0 +1,91 @@
+//! Walking spans with one offset each, in their order, for the instant that a local means.
+ghost use Rattle.std.specs.Prelude.{◌≡◌, ℤ, pos, ◌-ℤ◌, ◌<ℤ◌, ◌≤ℤ◌, MatchOption, IfSome};
+ghost use Rattle.ics_zone.specs.Seconds.{IsMoment};
+ghost use Rattle.ics_zone.specs.Moments.{IsInGap};
+ghost use Rattle.ics_zone.specs.ZoneOnsets.{IsSteady};
+ghost use Rattle.ics_zone.specs.Walks.{IsShort, IsWalk, IsTold, IsGapRead};
+
+use crate::latest::Steady;
+use ics_fields::Moment;
+
+const DAY: i64 = 86_400;
+
+/// What is known of the instant of a local after spans that do not show it.
+#[derive(Clone, Copy)]
+pub(crate) struct Walk {
+    /// The end of the last span.
+    pub low: Moment,
+    /// The offset just before the end.
+    pub before: i32,
+    /// The local read with the offset before the gap, if the clock has shown a later one.
+    pub gap: Option<Moment>,
+}
+
+/// What a span tells of a local.
+#[derive(Clone, Copy)]
+pub(crate) enum Told {
+    /// The first instant that shows it.
+    Shows(Moment),
+    /// Not shown.
+    On(Walk),
+    /// The span does not reach on from the last.
+    Out,
+}
+
+/// The walk for a local, given by its seconds, from a day before it on.
+pub(crate) fn walk_to(seconds: i64) -> Walk
+    requires { IsMoment seconds }
+    ensures walk { (offset : ℤ → ℤ) → IsShort offset → IsWalk offset seconds result }
+    ensures low { result.low ≡ seconds -ℤ pos 86_400 }
+{
+    Walk {
+        low: seconds - DAY,
+        before: 0,
+        gap: None,
+    }
+}
+
+// The gap, if it is known or a span begins with a later local. The span shows the local at the instant, if it reaches so far.
+fn gap_of(seconds: i64, walk: &Walk, moment: Moment) -> Option<Moment>
+    requires { IsMoment seconds }
+    ensures { MatchOption walk.now.gap
+        (MatchOption result (walk.now.low ≤ℤ moment) (λ t. (moment <ℤ walk.now.low) × (t ≡ seconds -ℤ walk.now.before)))
+        (λ g. result ≡ walk.now.gap) }
+{
+    match walk.gap {
+        None if moment < walk.low => Some(seconds - i64::from(walk.before)),
+        gap => gap,
+    }
+}
+
+/// One more span of a walk.
+pub(crate) fn step(seconds: i64, walk: &Walk, span: &Steady) -> Told
+    requires { IsMoment seconds }
+    ensures { (offset : ℤ → ℤ) → IsShort offset → IsSteady offset span.now.from span.now.next span.now.offset → IsWalk offset seconds walk.now
+        → IsTold offset seconds result }
+{
+    if span.from > walk.low || span.next <= walk.low {
+        return Told::Out;
+    }
+    let moment = seconds - i64::from(span.offset);
+    if walk.low <= moment && moment < span.next {
+        return Told::Shows(moment);
+    }
+    Told::On(Walk {
+        low: span.next,
+        before: span.offset,
+        gap: gap_of(seconds, walk, moment),
+    })
+}
+
+/// The gap of a walk that is more than a day past the local, if there is one.
+pub(crate) fn gap_at_end(seconds: i64, walk: &Walk) -> Option<Moment>
+    requires { IsMoment seconds }
+    ensures { (offset : ℤ → ℤ) → IsShort offset → IsWalk offset seconds walk.now → IfSome result (IsInGap offset seconds) }
+{
+    if walk.low > seconds + DAY {
+        walk.gap
+    } else {
+        None
+    }
+}
