@@ -1,5 +1,5 @@
 -- The onsets of one observance, as a zone holds them.
-use Rattle.std.specs.Prelude.{◌≡◌, ℕ, ◌<◌, ◌≤◌, ◌⊎◌, Bool, true, ◌||◌, ◌==◌, List, length, MatchOption, slice_index_or, int_le, ℤ, pos, ◌<ℤ◌, ◌≤ℤ◌}
+use Rattle.std.specs.Prelude.{◌≡◌, ℕ, ◌<◌, ◌≤◌, ◌⊎◌, Bool, true, ◌||◌, ◌==◌, List, length, MatchOption, slice_index_or, int_le, ℤ, ◌<ℤ◌, ◌≤ℤ◌}
 use Rattle.std.specs.List.{Contains, list_any}
 use Rattle.jiff_core.specs.Calendar.{IsWithin}
 use Rattle.ics_rule.specs.Recurrence.{Recurrence}
@@ -42,9 +42,10 @@ IsKeptAt onsets t = MatchOption onsets.rule ⊥ (λ r. IsKeptBy onsets.offset_fr
 abbrev pub Has : Onsets → ℤ → Type 0
 Has onsets t = Contains onsets.listed.items t ⊎ IsKeptAt onsets t
 
--- UNTIL allows an onset exactly if it is not after this instant
-abbrev pub IsEnd : ℤ → Recurrence → Type 0
-IsEnd end r = (t : ℤ) → t ≤ℤ pos 9_223_372_036_854_775_807 → is_until (until_moment r) t ≡ int_le t end
+-- of the locals that the rule keeps, UNTIL allows those as onsets whose instants are not after this one
+abbrev pub IsEnd : ℤ → ℤ → Recurrence → Type 0
+IsEnd from end r =
+    (n : ℕ) → n < rules_end → is_kept r n ≡ true → is_until (until_moment r) (instant_by from n) ≡ int_le (instant_by from n) end
 
 -- the onsets are listed in order, and none is earlier than the first listed one
 pub record IsSound (onsets : Onsets) : Type 0 where

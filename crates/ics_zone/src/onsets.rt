@@ -1,13 +1,16 @@
 //! The onsets of one observance near an instant.
-ghost use Rattle.std.specs.Prelude.{◌≡◌, ℤ, ◌<◌, ◌<ℤ◌, ◌≤ℤ◌, IfOk, IfSome, MatchOption};
+ghost use Rattle.std.specs.Prelude.{◌≡◌, ℤ, pos, int_le, ◌<◌, ◌<ℤ◌, ◌≤ℤ◌, IfOk, IfSome, MatchOption};
 ghost use Rattle.std.specs.List.{Contains};
 ghost use Rattle.std.specs.Option.{option_map};
-ghost use Rattle.ics_zone.specs.Observances.{observance_said, rule_from};
+ghost use Rattle.jiff_core.specs.Calendar.{IsWithin};
+ghost use Rattle.ics_fields.specs.Locals.{calendar_end, number};
+ghost use Rattle.ics_rule.specs.Kept.{until_moment};
+ghost use Rattle.ics_zone.specs.Observances.{is_until, observance_said, rule_from};
 ghost use Rattle.ics_zone.specs.Latest.{IsInOrder, IsPassed, IsLast, IsLastOf, IsLastAfter};
 ghost use Rattle.ics_zone.specs.OnsetSets.{IsShownTo, IsKeptAt, Has, IsSound, AreOnsetsOf, IsListing, IsEnd};
 
 use crate::Observance;
-use crate::clock::{instant, shown_by};
+use crate::clock::{RULES_END, instant, shown_by};
 use crate::kept::{last_between, last_kept, next_kept};
 use ics_fields::{BitSet, Frequency, Moment};
 use ics_rule::{Kind, Rule};
@@ -79,13 +82,28 @@ fn spacing(observance: &Observance) -> u64 {
     period / times.max(1)
 }
 
-// The last instant at which a rule may have an onset: UNTIL, if it is there and in UTC.
-fn end_of(rule: &Option<Rule>) -> Moment
-    ensures { IfSome rule.now (IsEnd result) }
+// UNTIL of a rule, if it is there and in UTC, and else a late instant.
+fn until_of(rule: &Rule) -> Moment
+    ensures { (t : ℤ) → t ≤ℤ pos 9_223_372_036_854_775_807 → is_until (until_moment rule.now) t ≡ int_le t result }
 {
-    match rule {
-        Some(rule) => rule.until_moment().unwrap_or(Moment::MAX),
-        None => Moment::MAX,
+    rule.until_moment().unwrap_or(Moment::MAX)
+}
+
+// The last instant at which a rule may have an onset: UNTIL, if it is there and in UTC, and DTSTART, if the rule keeps no later local.
+fn end_of(rule: &Option<Rule>, offset_from: i32, start: u64) -> Moment
+    requires offset { IsWithin 86_399 offset_from }
+    requires start { start < calendar_end }
+    ensures { IfSome rule.now (λ r. number r.start ≡ start → IsEnd offset_from result r) }
+{
+    let Some(rule) = rule else {
+        return Moment::MAX;
+    };
+    let until = until_of(rule);
+    let after = (start + 1).min(RULES_END as u64);
+    if next_kept(rule, after, RULES_END as u64).is_some() {
+        until
+    } else {
+        until.min(instant(offset_from, start))
     }
 }
 
@@ -109,7 +127,7 @@ impl Onsets {
     {
         let listed = listed(alloc, observance)?;
         let rule = rule_of(observance);
-        let until = end_of(&rule);
+        let until = end_of(&rule, observance.offset_from, observance.start.number());
         let ago = spacing(observance);
         Ok(Onsets {
             offset_from: observance.offset_from,
