@@ -20,7 +20,8 @@ module _ {offset : ℤ → ℤ} {local : ℤ} (short : IsShort offset) {walk : W
   pub gap_read : (g : Option ℤ) → walk.gap ≡ g → (local +ℤ pos 86_400) <ℤ walk.low → IfSome g (IsInGap offset local)
   gap_read None is late = tt
   gap_read (Some t) is late =
-      let read : IsGapRead offset local t = subst (λ g. MatchOption g ((t : ℤ) → t <ℤ walk.low → shown offset t <ℤ local) (IsGapRead offset local)) is walked.gap in
+      let read : IsGapRead offset local t =
+      subst (λ g. MatchOption g ((t : ℤ) → t <ℤ walk.low → shown offset t <ℤ local) (IsGapRead offset local)) is walked.gap in
       record {
         skipped = λ s e. let bound = short s in let none : (walk.low ≤ℤ s) ⊎ (s <ℤ walk.low) = grind (arith, ints) in elim none [
           | inl more ↦ omega (arith, ints)

@@ -33,10 +33,10 @@ const AHEAD: i64 = 400 * DAY;
 /// How many seconds after an instant spans are held.
 const HELD_AHEAD: i64 = 120 * DAY;
 
-/// The number of spans that a zone holds at most.
-const HELD: usize = 1_024;
+/// For so many instants a zone holds spans.
+const HELD: usize = 8;
 
-/// How many of them are made for one instant.
+/// How many spans are held for one instant, beside one for each RDATE.
 const HELD_AT_ONCE: usize = 128;
 
 /// A zone by observances (RFC 5545, section 3.6.5). It has no table of onsets: it searches the observances near each instant. Contracts see the
@@ -168,7 +168,7 @@ impl Observed {
         requires { IsSearched near }
         ensures { self.new ≡ self.old }
     {
-        if self.held.len() >= HELD || self.held_over(near, near).is_some() {
+        if self.held.len() / HELD >= self.at_once || self.held_over(near, near).is_some() {
             return;
         }
         let Some(steady) = self.steady_about(near) else {
@@ -459,14 +459,16 @@ fn least_ago(onsets: &[Onsets]) -> i64 {
 
 // How many spans are held for one instant: two, if an observance is counted.
 fn spans_at_once(observances: &[Observance]) -> usize {
+    let mut spans = HELD_AT_ONCE;
     for observance in observances {
         if let Some(parts) = &observance.rule {
             if parts.count().is_some() {
                 return 2;
             }
         }
+        spans = spans.saturating_add(observance.rdates.len());
     }
-    HELD_AT_ONCE
+    spans
 }
 
 // The offsets before and after the onsets, each of them once, the greatest first.
