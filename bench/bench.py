@@ -4,11 +4,13 @@
 Prints a line a folder: the least seconds and the greatest peak memory of several runs, the program's
 status and how many lines it wrote. Then a line for each listing by a zone file beside the same by the
 rule of its zone, in runs by turns: the least seconds of both, how many times as long the first takes,
-and how many milliseconds longer."""
+and how many milliseconds longer. Last a line for each hostile file: the processor seconds of one run, its
+peak memory, and how many loops it may take and takes. It fails if one takes more."""
 import os
 import sys
 import time
 
+import hostile
 from folders import ROWS, write
 from zones import PAIRS, ROWS as ZONES
 
@@ -55,6 +57,20 @@ def main():
             sys.exit('%s: the listings differ, by status and lines: %s' % (name, sorted(said)))
         own, beside = (min(taken[0] for taken in column) for column in zip(*pairs))
         print('%-40s %9.4f %9.4f %7.2f %8.3f %8d' % (name, own, beside, own / beside, (own - beside) * 1000, said.pop()[1]))
+    sys.exit(0 if holds(program) else 1)
+
+
+def holds(program):
+    """Measures the hostile files, each beside the loop, and tells whether each is within its limit."""
+    print('%-40s %9s %9s %7s %8s %8s' % ('hostile', 'seconds', 'MiB', 'status', 'limit', 'loops'))
+    within = True
+    for name, text, words, limit in hostile.ROWS:
+        folder = folder_of('hostile ' + name, lambda: [('a.ics', text())])
+        loop = min(hostile.loop() for _ in range(3))
+        seconds, memory, status = hostile.measure([program, 'list', folder, *words])
+        within = within and status == 0 and seconds <= limit * loop
+        print('%-40s %9.4f %9.1f %7d %8.1f %8.2f' % (name, seconds, memory, status, limit, seconds / loop))
+    return within
 
 
 if __name__ == '__main__':

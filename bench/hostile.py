@@ -1,0 +1,93 @@
+"""Small files that a stranger could send, each with the most that it may cost: so many times a loop that is measured in the same run."""
+import os
+import resource
+import time
+
+from folders import calendar
+from zones import locals_in, part, zone
+
+ODD = ','.join(str(number) for number in range(1, 60, 2))
+MONTHS = ','.join(str(month) for month in range(1, 13))
+HOURS = ','.join(str(hour) for hour in range(24))
+# The first week of a year has no day of these months.
+LATE = 'BYWEEKNO=1;BYMONTH=' + ','.join(str(month) for month in range(3, 12))
+DAY = ['2024-07-01', '1d']
+
+
+def rules(count, rule, *more):
+    """So many events since the year 0001 that recur by a rule."""
+    lines = []
+    for number in range(count):
+        lines += ['BEGIN:VEVENT', 'UID:%d@example.org' % number, 'DTSTART:00010101T%02d%02d00Z' % (number // 60, number % 60),
+                  'RRULE:' + rule, *more, 'END:VEVENT']
+    return calendar(lines)
+
+
+def in_zone(parts, start, *more):
+    """An event in a time zone of these observances."""
+    return calendar([*zone('odd', *parts), 'BEGIN:VEVENT', 'UID:0@example.org', 'DTSTART;TZID=odd:' + start, *more, 'END:VEVENT'])
+
+
+def ruled(count, rule):
+    """So many observances since the year 0001 that begin by a rule."""
+    return [part('STANDARD', '0001010%dT000000' % (number + 1), '+0000', '+0%d00' % number, 'RRULE:' + rule) for number in range(count)]
+
+
+def skipped(rule):
+    """A day that the clock skips, behind hourly onsets that another observance overrides."""
+    return [part('STANDARD', '00010101T000000', '+0000', after, 'RRULE:FREQ=DAILY;BYHOUR=%s;%s' % (HOURS, rule)) for after in ('+2359', '+0000')] + [
+        part('DAYLIGHT', '20240701T000000', '+0000', '+2359')]
+
+
+def crowd(count, onsets):
+    """So many observances with so many onsets in two days, and as many locals."""
+    times = []
+    for number in range(onsets):
+        second = number * 172_800 // onsets
+        times.append('202407%02dT%02d%02d%02d' % (1 + second // 86_400, second // 3_600 % 24, second // 60 % 60, second % 60))
+    parts = [part('STANDARD', '20240101T000000', '+0000', '%+03d%02d' % (number % 24 - 12, number // 24 % 60), 'RDATE:' + ','.join(times[number::count]))
+             for number in range(count)]
+    return calendar([*zone('crowd', *parts), *locals_in('crowd', times)])
+
+
+LONG = 'DURATION:P36525D'
+ODD_SECONDS = 'FREQ=SECONDLY;INTERVAL=2;BYSECOND=%s;BYMONTH=%s' % (ODD, MONTHS)
+SELDOM = 'FREQ=DAILY;COUNT=4294967295;INTERVAL=1009;BYWEEKNO=1'
+FAR = 'RDATE;TZID=odd:' + ','.join('%04d0701T120000' % year for year in range(2100, 8100, 150))
+
+# name, file, words, and how many loops it may take
+ROWS = [
+    ('odd seconds of even steps', lambda: rules(1, ODD_SECONDS, LONG), DAY, 1),
+    ('the same with COUNT', lambda: rules(1, ODD_SECONDS + ';COUNT=9', LONG), DAY, 1),
+    ('8 in no week of their months', lambda: rules(8, 'FREQ=DAILY;' + LATE), ['0001-01-02', '9700-01-01'], 1),
+    ('80 in no week of their months', lambda: rules(80, 'FREQ=DAILY;' + LATE), ['0001-01-02', '9700-01-01'], 8),
+    ('one in 1,009 days, COUNT, each day', lambda: rules(1, SELDOM.replace('4294967295', '9')), ['2024-01-01', '366d', '--every-day'], 1),
+    ('8 observances that never begin', lambda: in_zone(ruled(8, 'FREQ=DAILY;' + LATE), '20240101T120000', FAR), DAY, 1),
+    ('an observance with COUNT', lambda: in_zone(ruled(1, SELDOM), '20240701T120000'), DAY, 1),
+    ('the same in 9700', lambda: in_zone(ruled(1, SELDOM), '97000701T120000'), ['9700-07-01', '1d'], 1),
+    ('seconds of a day that is skipped', lambda: in_zone(skipped('UNTIL=20240630T235900Z'), '20240701T000000', 'RRULE:FREQ=SECONDLY;COUNT=86400'),
+     ['2024-06-30', '4d'], 1),
+    ('1,200 observances, 4,800 RDATEs', lambda: crowd(1_200, 4_800), ['2024-06-30', '4d'], 3),
+]
+
+
+def loop():
+    """Processor seconds of the loop."""
+    began = time.process_time()
+    total = 0
+    for number in range(4_000_000):
+        total += number & 7
+    return time.process_time() - began
+
+
+def measure(words):
+    """Runs the words once, for some time at most: processor seconds, peak memory in MiB, and status."""
+    child = os.fork()
+    if child == 0:
+        resource.setrlimit(resource.RLIMIT_CPU, (30, 30))
+        nothing = os.open(os.devnull, os.O_WRONLY)
+        os.dup2(nothing, 1)
+        os.dup2(nothing, 2)
+        os.execv(words[0], words)
+    _, status, usage = os.wait4(child, 0)
+    return usage.ru_utime + usage.ru_stime, usage.ru_maxrss / 1024, os.waitstatus_to_exitcode(status)
