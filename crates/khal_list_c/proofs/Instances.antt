@@ -4,17 +4,18 @@ use Rattle.std.proofs.lemmas.Grind.{common_steps}
 use Rattle.std.proofs.lemmas.Bool.{cases_lt}
 use Rattle.std.proofs.lemmas.Int.{ints}
 use Rattle.ics_fields.specs.Days.{IsDayNumber}
-use Rattle.ics_fields.specs.Locals.{number, local_seconds}
+use Rattle.ics_fields.specs.Locals.{number, local_seconds, year_seconds}
 use Rattle.ics_fields.specs.declared.local.Local.{Local}
 use Rattle.ics_fields.proofs.DayLemmas.{day_index_parts}
 use Rattle.ics_rule.specs.Kept.{is_kept, until_moment}
 use Rattle.ics_rule.specs.Next.{IsNextKept, NoneKept}
 use Rattle.ics_rule.specs.PeriodNumbers.{rules_end}
 use Rattle.ics_rule.specs.Recurrence.{Recurrence}
-use Rattle.ics_zone.specs.ZoneSaid.{ZoneSaid, Always, said_moment, zone_said}
+use Rattle.ics_zone.specs.ZoneSaid.{ZoneSaid, Always, said_moment, said_offset, zone_said}
 use Rattle.ics_zone.specs.declared.zone.ZoneKind.{ZoneKind}
-use Rattle.ics_zone.specs.ZoneBounds.{said_moment_near}
+use Rattle.ics_zone.specs.ZoneBounds.{said_moment_near, said_offset_near}
 use Rattle.khal_list_c.specs.Clocks.{instant_in, epoch}
+use Rattle.khal_list_c.specs.Conversions.{IsInstant}
 use Rattle.khal_list_c.specs.Times.{is_by_instant, is_instance, IsNextOf, NoneOf}
 
 pub not-kept : (r : Recurrence) (clock : Option ZoneSaid) (n : ℕ) → is_kept r n ≡ false → is_instance r clock n ≡ false
@@ -91,3 +92,8 @@ past_utc until n after = let same = instant-utc n in late until _ (omega (arith,
 pub past_zone : (zone : ZoneKind) (until : ℤ) (n : ℕ) → (until +ℤ pos 62_167_392_000) ≤ℤ pos n
     → is_by_instant (Some until) (Some (zone_said zone)) n ≡ false
 past_zone zone until n after = let near = said_moment_near zone (pos n -ℤ pos epoch) in late until _ (omega (arith, ints))
+
+-- so that the local at an instant of the years 0001 to 9800 is of the years 0000 to 9899
+pub shown_between : (zone : ZoneKind) (t seconds : ℤ) → IsInstant t → seconds ≡ t +ℤ said_offset (zone_said zone) t
+    → (year_seconds 0 ≤ℤ seconds) × (seconds ≤ℤ year_seconds 9_900)
+shown_between zone t seconds years is = let near = said_offset_near zone t in (omega (arith, ints), omega (arith, ints))

@@ -6,3 +6,4 @@ pub mod Asked
 pub mod Handed
 pub mod Refused
 pub mod Listed
+pub mod Conversions

@@ -47,9 +47,10 @@ fault_text (fault.Given f) = given_text f
 fault_text fault.Memory = codes "Memory"
 
 -- there is no listing, and the caller is told why
-pub record IsToldWhy (g : Given) (err err' : List ℕ) (answer : KhalListed) : Type 0 where
+pub record IsToldWhy (g : Given) (out out' err err' : List ℕ) (answer : KhalListed) : Type 0 where
   pub fault : ListingFault
   pub why : IsRefusal g fault
   pub status : answer.status ≡ fault_status fault
   pub none : answer.out_length ≡ 0
+  pub same : out' ≡ out
   pub told : IsHanded (fault_text fault) err err' answer.err_length

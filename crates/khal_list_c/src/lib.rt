@@ -2,6 +2,7 @@
 #![tactic(auto)]
 
 mod clock;
+mod conversions;
 mod filling;
 mod given;
 mod handing;

@@ -154,7 +154,7 @@ pub extern "C" fn khal_list(
         × RunsGiven ⟦<MemorySource as Source>⟧.names ⟦<MemorySource as Source>⟧.reads ⟦<MemoryZones as ZoneSource>⟧.finds
         held_files held_zones (given_of words.now files.now zones.now zone_file.now now) text told status
         × (result.status ≡ code_of status) × IsHanded text out.old out.new result.out_length × IsHanded told err.old err.new result.err_length }
-    ensures refused { 2 ≤ result.status → IsToldWhy (given_of words.now files.now zones.now zone_file.now now) err.old err.new result }
+    ensures refused { 2 ≤ result.status → IsToldWhy (given_of words.now files.now zones.now zone_file.now now) out.old out.new err.old err.new result }
 {
     match listed(alloc, words, files, zones, zone_file, now) {
         Ok(written) => KhalListed {
