@@ -1,29 +1,46 @@
--- What a listing of files in memory is.
-use Rattle.std.specs.Prelude.{◌≡◌, ℕ, List, [], Some, Ok}
-use Rattle.khal_list.specs.Headline.{Lists}
+-- What a request lists of the files that are handed over.
+use Rattle.std.specs.Prelude.{◌≡◌, ◌↔◌, ◌++◌, ℕ, List, [], Any, IsErr, map, length, nat_le, Option, Some, None, Ok, if◌then◌else◌}
+use Rattle.khal_list.specs.Headline.{Shows, more_line}
 use Rattle.khal_list.specs.declared.request.Request.{Request}
+use Rattle.khal_reading.specs.Asked.{Asked, all_wanted, and_names}
+use Rattle.khal_reading.specs.Errors.{accepted, error_lines, file_by}
 use Rattle.khal_reading.specs.declared.status.Status.{Status}
-use Rattle.khal_ports.specs.Answers.{Answer}
-use Rattle.khal_ports.specs.Finds.{FindAnswer}
+use Rattle.khal_reading.specs.declared.status.Status.TheVariants.{Faulty}
+use Rattle.khal_ports.specs.Answers.{Contents, most_bytes}
+use Rattle.khal_ports.specs.Finds.{Found, file_named, most_zone_bytes}
 use Rattle.khal_list_c.specs.Asked.{RequestBy}
 use Rattle.khal_list_c.specs.Given.{File, Given}
 
--- a request lists the files of a source in these two texts, with this status
-pub record ListsHeld {S Z : Type 0} (names : S → List (List ℕ)) (reads : S → ℕ → Answer → S → Type 0) (finds : Z → List ℕ → FindAnswer → Z → Type 0)
-    (source : S) (zones : Z) (request : Request) (out err : List ℕ) (status : Status) : Type 0 where
-  pub source_after : S
-  pub zones_after : Z
-  pub lists : Lists reads finds
-      (record { names = names source; source = source; source_after = source_after; zones = zones; zones_after = zones_after }) request
-      (record { out = Some []; out_after = Some out; err = Some []; err_after = Some err }) status
+-- what is read of a file: its bytes, unless they are too many
+abbrev pub contents_of : File → Contents
+contents_of file = if nat_le (length file.1) most_bytes then Some file.1 else None
 
--- these words at a clock are a request, and it lists these files, with these zone files, in these two texts
-pub record RunsGiven {S Z : Type 0} (names : S → List (List ℕ)) (reads : S → ℕ → Answer → S → Type 0) (finds : Z → List ℕ → FindAnswer → Z → Type 0)
-    (held : S → List File) (held_zones : Z → List File) (g : Given) (out err : List ℕ) (status : Status) : Type 0 where
+-- what is found for the name of a zone: the first zone file of that name, unless it has too many bytes
+abbrev pub found_by : Option (List ℕ) → Found
+found_by (Some bytes) = if nat_le (length bytes) most_zone_bytes then Found.Given bytes else Found.Unread
+found_by None = Found.Absent
+
+abbrev pub asked_for : List File → List ℕ → Asked
+asked_for zones name = (name, found_by (file_named zones name))
+
+abbrev pub contents_given : List File → List Contents
+contents_given files = map contents_of files
+
+-- the names that the files want, each once, with what is found for them
+abbrev pub asked_of : List File → List File → List Asked
+asked_of files zones = map (asked_for zones) (and_names [] (all_wanted (contents_given files)))
+
+-- A request lists files, with zone files, in two texts. The first is what it shows of the accepted files. The second has the lines of the files
+-- that are not accepted and, if the limit cuts the listing, the line with the token from which it continues. The status is Faulty exactly if a
+-- file is not accepted.
+pub record ListsFiles (files zones : List File) (request : Request) (out err : List ℕ) (status : Status) : Type 0 where
+  pub token : Option (List ℕ)
+  pub shows : Shows (accepted (asked_of files zones) (contents_given files)) request out token
+  pub told : err ≡ error_lines (map (λ file. file.0) files) (asked_of files zones) (contents_given files) ++ more_line token
+  pub faulty : (status ≡ Faulty) ↔ Any (λ given. IsErr (file_by (asked_of files zones) given)) (contents_given files)
+
+-- the words that are handed over are a request, and it lists the files so
+pub record ListsGiven (g : Given) (out err : List ℕ) (status : Status) : Type 0 where
   pub request : Request
   pub asked : RequestBy g.zone_file g.words g.now (Ok request)
-  pub source : S
-  pub holds : held source ≡ g.files
-  pub zone_source : Z
-  pub holds_zones : held_zones zone_source ≡ g.zones
-  pub lists : ListsHeld names reads finds source zone_source request out err status
+  pub lists : ListsFiles g.files g.zones request out err status

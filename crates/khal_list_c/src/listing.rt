@@ -1,7 +1,7 @@
 //! Listings.
 ghost use Rattle.std.specs.Prelude.{◌≡◌, ◌≤◌, ℕ, List, IfOk, IfErr};
 ghost use Rattle.khal_list_c.specs.Refused.{fault_status, fault_text, IsRefusal, IsToldWhy};
-ghost use Rattle.khal_list_c.specs.Listed.{ListsHeld, RunsGiven};
+ghost use Rattle.khal_list_c.specs.Listed.{ListsFiles, ListsGiven};
 ghost use Rattle.khal_list_c.specs.Handed.{IsHanded};
 ghost use Rattle.khal_reading.specs.Status.{code_of};
 ghost use Rattle.khal_reading.specs.declared.status.Status.{Status};
@@ -12,8 +12,7 @@ use crate::handing::hand_over;
 use crate::requests::request_of;
 use crate::words::{KhalWord, texts_of};
 use khal_list::{
-    MemorySink, MemorySource, MemoryZones, Request, RequestFault, RunFault, Source, Status,
-    ZoneSource, run,
+    MemorySink, MemorySource, MemoryZones, Request, RequestFault, RunFault, Status, run,
 };
 use std::alloc::Global;
 
@@ -83,8 +82,7 @@ fn run_held(
     mut zones: MemoryZones,
     request: &Request,
 ) -> Result<Written, RunFault>
-    ensures { IfOk result (λ written. ListsHeld ⟦<MemorySource as Source>⟧.names ⟦<MemorySource as Source>⟧.reads ⟦<MemoryZones as ZoneSource>⟧.finds
-        source zones request.now written.out.items written.err.items written.status) }
+    ensures { IfOk result (λ written. ListsFiles (held_files source) (held_zones zones) request.now written.out.items written.err.items written.status) }
 {
     let mut out = MemorySink::new(alloc);
     let mut err = MemorySink::new(alloc);
@@ -105,8 +103,8 @@ fn listed(
     zone_file: &[u8],
     now: i64,
 ) -> Result<Written, ListingFault>
-    ensures lists { IfOk result (λ written. RunsGiven ⟦<MemorySource as Source>⟧.names ⟦<MemorySource as Source>⟧.reads ⟦<MemoryZones as ZoneSource>⟧.finds
-        held_files held_zones (given_of words.now files.now zones.now zone_file.now now) written.out.items written.err.items written.status) }
+    ensures lists { IfOk result (λ written. ListsGiven (given_of words.now files.now zones.now zone_file.now now)
+        written.out.items written.err.items written.status) }
     ensures refused { IfErr result (λ fault. IsRefusal (given_of words.now files.now zones.now zone_file.now now) fault) }
 {
     let texts = texts_of(alloc, words)?;
@@ -151,8 +149,7 @@ pub extern "C" fn khal_list(
     err: &mut [u8],
 ) -> KhalListed
     ensures listed { result.status ≤ 1 → (text : List ℕ) × (told : List ℕ) × (status : Status)
-        × RunsGiven ⟦<MemorySource as Source>⟧.names ⟦<MemorySource as Source>⟧.reads ⟦<MemoryZones as ZoneSource>⟧.finds
-        held_files held_zones (given_of words.now files.now zones.now zone_file.now now) text told status
+        × ListsGiven (given_of words.now files.now zones.now zone_file.now now) text told status
         × (result.status ≡ code_of status) × IsHanded text out.old out.new result.out_length × IsHanded told err.old err.new result.err_length }
     ensures refused { 2 ≤ result.status → IsToldWhy (given_of words.now files.now zones.now zone_file.now now) out.old out.new err.old err.new result }
 {
