@@ -11,7 +11,7 @@ from ._library import RequestError
 from .zones import is_utc, zone_bytes
 
 _EPOCH = datetime(1970, 1, 1, tzinfo=timezone.utc)
-_FAULT = re.compile(r'khal-list: (.*): (?:line ([0-9]+): )?([A-Za-z]+)')
+_FAULT = re.compile('khal-list: (.*): (?:line ([0-9]+): ([A-Za-z]+)|ReadFault)')
 _MORE = 'more: '
 _FIELDS = ('start-unix', 'end-unix', 'token', 'start-time', 'uid', 'title', 'location', 'cancelled')
 # No value has a tab, so that it stands between two.
@@ -59,7 +59,7 @@ def _faults(told: str) -> tuple[list[CalendarFault], str | None]:
         if line.startswith(_MORE):
             more = line[len(_MORE):]
         elif match:
-            faults.append(CalendarFault(match[1], int(match[2]) if match[2] else None, match[3]))
+            faults.append(CalendarFault(match[1], int(match[2]), match[3]) if match[2] else CalendarFault(match[1], None, 'ReadFault'))
     return faults, more
 
 
