@@ -117,12 +117,6 @@ impl Failure {
     }
 }
 
-impl From<RunFault> for Failure {
-    fn from(fault: RunFault) -> Failure {
-        Failure::of_run(fault)
-    }
-}
-
 impl From<AllocError> for Failure {
     ghost use Rattle.std.specs.Prelude.{◌≡◌};
     ghost use Rattle.khal_list_cli.specs.declared.failure.Failure.TheVariants.{Memory};

@@ -99,8 +99,8 @@ fn list(rt: HostRuntime, request: &Request) -> Result<Status, Failure> {
     let mut out = Stream::new(output(rt, request)?);
     let ran = write(rt, &mut source, &mut zones, request, &mut out);
     let finished = out.finish();
-    let status = ran?;
-    finished?;
+    let status = ran.map_err(Failure::of_run)?;
+    finished.map_err(Failure::of_run)?;
     Ok(status)
 }
 
