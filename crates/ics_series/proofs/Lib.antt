@@ -9,6 +9,7 @@ pub mod HoldingLaws
 pub mod InstantLemmas
 pub mod LeadLemmas
 pub mod ListingLemmas
+pub mod MarkLemmas
 pub mod NearDayLemmas
 pub mod OccursLemmas
 pub mod OnDayLemmas

@@ -51,6 +51,10 @@ day-back day h = omega (arith, ints, h.0, h.1)
 pub next-back : (day : ℤ) → IsDayNumber day → to_z w32 (of_z w32 (to_z w32 (of_z w32 day) +ℤ pos 1)) ≡ day +ℤ pos 1
 next-back day h = omega (arith, ints, h.0, h.1)
 
+-- a local is so many seconds past its day's midnight
+pub midnight-number : (local : Local) → IsDayNumber local.day → number local ≡ midnight_number local.day + local.second
+midnight-number local h = omega (arith, ints, h.0, h.1)
+
 no-member : (xs : List Start) → ((x : Start) → IsIn x xs → ⊥) → xs ≡ []
 no-member [] none = refl
 no-member (x ∷ xs) none = absurd (none x (inl refl))

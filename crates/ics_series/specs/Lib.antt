@@ -15,6 +15,7 @@ pub mod Holding
 pub mod Laws
 pub mod Leads
 pub mod Listing
+pub mod Marks
 pub mod Masters
 pub mod Meeting
 pub mod Meets

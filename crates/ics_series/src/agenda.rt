@@ -13,6 +13,7 @@ ghost use Rattle.ics_series.specs.HeldMost.{held_most};
 ghost use Rattle.ics_series.specs.Holding.{part_holds, part_looked};
 ghost use Rattle.ics_series.specs.Leads.{listed, past};
 ghost use Rattle.ics_series.specs.Listing.{IsIn, IsListing};
+ghost use Rattle.ics_series.specs.Marks.{AreMarks};
 ghost use Rattle.ics_series.specs.Meets.{IsListed, IsToCome};
 ghost use Rattle.ics_series.specs.Merged.{merged};
 ghost use Rattle.ics_series.specs.MergedLaws.{rises-merged};
@@ -30,6 +31,7 @@ ghost use Rattle.ics_series.specs.declared.window.Window.{Window};
 use crate::chosen::{chosen, is_named};
 use crate::feed::{Coming, Feed};
 use crate::key::Key;
+use crate::mark::Mark;
 use crate::masters::push_series;
 use crate::merge::Merge;
 use crate::occurrence::Occurrence;
@@ -75,21 +77,28 @@ impl<'a> Agenda<'a> {
     {
         let chosen = chosen(alloc, files, display)?;
         let spans = Vec::new(alloc);
-        Agenda::of(alloc, files, display, &chosen, &spans, window, after)
+        let mut marks = Vec::new(alloc);
+        Agenda::of(
+            alloc, files, display, &chosen, &spans, &mut marks, window, after,
+        )
     }
 
-    // Those of the versions that count. The spans, if there are any, say which of them need not be read.
+    // Those of the versions that count. The spans, if there are any, say which of them need not be read,
+    // and the marks from where on rules under COUNT are searched.
     pub(crate) fn of(
         alloc: Global,
         files: &'a [FileEvents],
         display: &'a Display,
         chosen: &[Version<'_>],
         spans: &[Span],
+        marks: &mut Vec<Option<Mark>>,
         window: Window,
         after: Option<&Key>,
     ) -> Result<Agenda<'a>, AllocError>
         requires chosen { AreChosen (map said_by files.now) (display_clock display.now) chosen.now }
         requires spans { AreSpans (map said_by files.now) (display_clock display.now) window (map seen chosen.now) spans.now }
+        requires marks { AreMarks (map said_by files.now) (map seen chosen.now) marks.old.items }
+        ensures marks { AreMarks (map said_by files.entry.now) (map seen chosen.entry.now) marks.new.items }
         ensures listing { IfOk result (λ agenda. IsListing entry_cmp
             (IsToCome (map said_by files.entry.now) (display_clock display.entry.now) window
             (option_map (λ key. key_rank key.now) after.entry))
@@ -99,7 +108,7 @@ impl<'a> Agenda<'a> {
         ensures whole { IfOk result (λ _. (w : Window) → (list : List Entry)
             × IsListing entry_cmp (IsListed (map said_by files.entry.now) (display_clock display.entry.now) w) list) }
     {
-        let parts = parts(alloc, files, display, chosen, spans, window, after)?;
+        let parts = parts(alloc, files, display, chosen, spans, marks, window, after)?;
         let merge = Merge::of_sorted(alloc, parts, 1)?;
         Ok(Agenda { merge })
     }
@@ -120,7 +129,10 @@ impl<'a> Agenda<'a> {
             × IsListing entry_cmp (IsListed (map said_by files.entry.now) (display_clock display.entry.now) w) list) }
     {
         let spans = Vec::new(alloc);
-        let mut parts = parts(alloc, files, display, chosen, &spans, window, None)?;
+        let mut marks = Vec::new(alloc);
+        let mut parts = parts(
+            alloc, files, display, chosen, &spans, &mut marks, window, None,
+        )?;
         parts.clear();
         let merge = Merge::new(alloc, parts)?;
         Ok(Agenda { merge })
@@ -159,11 +171,14 @@ fn parts<'a>(
     display: &'a Display,
     chosen: &[Version<'_>],
     spans: &[Span],
+    marks: &mut Vec<Option<Mark>>,
     window: Window,
     after: Option<&Key>,
 ) -> Result<Vec<Part<'a>>, AllocError>
     requires chosen { AreChosen (map said_by files.now) (display_clock display.now) chosen.now }
     requires spans { AreSpans (map said_by files.now) (display_clock display.now) window (map seen chosen.now) spans.now }
+    requires marks { AreMarks (map said_by files.now) (map seen chosen.now) marks.old.items }
+    ensures marks { AreMarks (map said_by files.entry.now) (map seen chosen.entry.now) marks.new.items }
     ensures listing { IfOk result (λ parts. IsListing entry_cmp
         (IsToCome (map said_by files.entry.now) (display_clock display.entry.now) window
         (option_map (λ key. key_rank key.now) after.entry))
@@ -178,7 +193,7 @@ fn parts<'a>(
     let mut parts = Vec::new(alloc);
     parts.push(Part::Singles(singles))?;
     push_series(
-        alloc, &mut parts, files, display, chosen, spans, window, after,
+        alloc, &mut parts, files, display, chosen, spans, marks, window, after,
     )?;
     Ok(parts)
 }

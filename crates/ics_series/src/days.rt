@@ -14,6 +14,7 @@ ghost use Rattle.ics_series.specs.DaySteps.{AreMasters, IsNearAgenda, IsPastAgen
 ghost use Rattle.ics_series.specs.Entry.{entry_cmp, key_rank, Entry};
 ghost use Rattle.ics_series.specs.HeldMost.{held_most};
 ghost use Rattle.ics_series.specs.Listing.{IsIn, IsListing};
+ghost use Rattle.ics_series.specs.Marks.{marks-prop, AreMarks};
 ghost use Rattle.ics_series.specs.Meets.{IsListed};
 ghost use Rattle.ics_series.specs.PlacedEvents.{Placed};
 ghost use Rattle.ics_series.specs.SpanLaws.{spans-set, those-chosen-prop, AreThoseChosen};
@@ -28,6 +29,7 @@ use crate::chosen::chosen;
 use crate::day_key::DayKey;
 use crate::feed::Feed;
 use crate::key::Key;
+use crate::mark::{Mark, add_places};
 use crate::near_day::{first_near, last_near, near_day};
 use crate::occurrence::Occurrence;
 use crate::occurrence_days::is_on;
@@ -53,11 +55,15 @@ pub struct Days<'a> {
     // The versions that count, and from when to when they are.
     versions: Vec<Version<'a>>,
     spans: Vec<Span>,
+    // Where the searches of the rules began near the day before.
+    marks: Vec<Option<Mark>>,
     today: Today<'a>,
     ghost chosen: { AreThoseChosen (map said_by files.now) (display_clock display.now) versions.items } by { those-chosen-prop (map said_by files.now)
         (display_clock display.now) versions.items },
     ghost spanned: { spans.items ≡ map (span_at (map said_by files.now) (display_clock display.now) window) (map seen versions.items) } by { spans-set
         spans.items (map (span_at (map said_by files.now) (display_clock display.now) window) (map seen versions.items)) },
+    ghost marked: { AreMarks (map said_by files.now) (map seen versions.items) marks.items } by { marks-prop (map said_by files.now)
+        (map seen versions.items) marks.items },
     ghost not_before: { first_near window ≤ℤ today.day },
     ghost begun: { begin_day window after ≤ℤ today.day },
     ghost masters: { ∥ AreDayMasters (scope_in (map said_by files.now) (display_clock display.now) window after) today.day (agenda_sources today.agenda) ∥₁ },
@@ -97,8 +103,12 @@ impl<'a> Days<'a> {
     {
         let versions = chosen(alloc, files, display)?;
         let spans = spans(alloc, files, display, &versions, &window)?;
+        let mut marks = Vec::new(alloc);
+        add_places(&mut marks, versions.len())?;
         let (day, key) = begin(&window, after);
-        let agenda = Days::agenda_of(alloc, files, display, &versions, &spans, &window, day, key)?;
+        let agenda = Days::agenda_of(
+            alloc, files, display, &versions, &spans, &mut marks, &window, day, key,
+        )?;
         Ok(Days {
             alloc,
             files,
@@ -107,6 +117,7 @@ impl<'a> Days<'a> {
             after: day_and_start(after),
             versions,
             spans,
+            marks,
             today: Today {
                 day,
                 agenda,
@@ -122,13 +133,16 @@ impl<'a> Days<'a> {
         display: &'a Display,
         versions: &[Version<'_>],
         spans: &[Span],
+        marks: &mut Vec<Option<Mark>>,
         window: &Window,
         day: i32,
         key: Option<&Key>,
     ) -> Result<Agenda<'a>, AllocError>
         requires chosen { AreChosen (map said_by files.now) (display_clock display.now) versions.now }
         requires spans { spans.now ≡ map (span_at (map said_by files.now) (display_clock display.now) window.now) (map seen versions.now) }
+        requires marks { AreMarks (map said_by files.now) (map seen versions.now) marks.old.items }
         requires first { first_near window.now ≤ℤ day }
+        ensures marks { AreMarks (map said_by files.entry.now) (map seen versions.entry.now) marks.new.items }
         ensures agenda { IfOk result (λ agenda. IsNearAgenda (map said_by files.entry.now) (display_clock display.entry.now) window.now day
             (option_map (λ key. key_rank key.now) key.entry) (agenda_coming agenda) (agenda_sources agenda)
             ⊎ IsPastAgenda window.now day (agenda_coming agenda) (agenda_sources agenda)) }
@@ -139,7 +153,7 @@ impl<'a> Days<'a> {
             return Agenda::ended(alloc, files, display, versions, *window);
         }
         let near = near_day(window, day);
-        Agenda::of(alloc, files, display, versions, spans, near, key)
+        Agenda::of(alloc, files, display, versions, spans, marks, near, key)
     }
 
     /// The first of the list still to come, with the day that it stands under, which then has the rest
@@ -231,6 +245,7 @@ impl<'a> Days<'a> {
             self.display,
             &self.versions,
             &self.spans,
+            &mut self.marks,
             near,
             None,
         )?;

@@ -19,6 +19,7 @@ mod laws;
 mod lead;
 mod listed;
 mod listed_starts;
+mod mark;
 mod masters;
 mod merge;
 mod met;

@@ -3,9 +3,11 @@ ghost use Rattle.std.specs.Prelude.{◌≡◌, ◌<◌, [], ◌∷◌, length, m
 ghost use Rattle.std.specs.List.{flat_map};
 ghost use Rattle.std.specs.Option.{option_map};
 ghost use Rattle.ics_event.specs.Event.{said_by};
+ghost use Rattle.ics_event.specs.declared.event.Event.{Event};
 ghost use Rattle.ics_series.specs.Clocks.{display_clock};
 ghost use Rattle.ics_series.specs.Entry.{Entry, entry_cmp, key_rank};
 ghost use Rattle.ics_series.specs.Listing.{IsListing};
+ghost use Rattle.ics_series.specs.Marks.{AreMarks, IsMarkOf};
 ghost use Rattle.ics_series.specs.Masters.{AreLists, HasLists, HasSources, HasWhole, IsOfVersion, IsSince, IsSourceOf, Recurs};
 ghost use Rattle.ics_series.specs.AgendaParts.{part_coming, part_sources};
 ghost use Rattle.ics_series.specs.SeriesFeed.{series_sources};
@@ -13,11 +15,13 @@ ghost use Rattle.ics_series.specs.Singles.{is_single};
 ghost use Rattle.ics_series.specs.Sources.{Recurring, IsFrom};
 ghost use Rattle.ics_series.specs.Sources.Source.{Of};
 ghost use Rattle.ics_series.specs.Spans.{AreSpans};
+ghost use Rattle.ics_series.specs.Spots.{event_at};
 ghost use Rattle.ics_series.specs.Versions.{seen, AreChosen};
 ghost use Rattle.ics_series.specs.declared.window.Window.{Window};
 
 use crate::feed::Coming;
 use crate::key::Key;
+use crate::mark::{Mark, mark_at, put_mark};
 use crate::overridden::overridden_instants;
 use crate::part::Part;
 use crate::series::Series;
@@ -32,7 +36,8 @@ use std::alloc::{AllocError, Global};
 use std::cmp::Ordering;
 
 /// Adds a feed for each version that counts and whose event recurs: its occurrences that meet the
-/// window and, with a key, come after it.
+/// window and, with a key, come after it. The searches of rules under COUNT go on from their marks, and
+/// all leave a mark where they began.
 pub(crate) fn push_series<'a>(
     alloc: Global,
     parts: &mut Vec<Part<'a>>,
@@ -40,11 +45,14 @@ pub(crate) fn push_series<'a>(
     display: &'a Display,
     chosen: &[Version<'_>],
     spans: &[Span],
+    marks: &mut Vec<Option<Mark>>,
     window: Window,
     after: Option<&Key>,
 ) -> Result<(), AllocError>
     requires chosen { AreChosen (map said_by files.now) (display_clock display.now) chosen.now }
     requires spans { AreSpans (map said_by files.now) (display_clock display.now) window (map seen chosen.now) spans.now }
+    requires marks { AreMarks (map said_by files.now) (map seen chosen.now) marks.old.items }
+    ensures marks { AreMarks (map said_by files.entry.now) (map seen chosen.entry.now) marks.new.items }
     ensures lists { IfOk result (λ _. HasLists (map said_by files.entry.now) (display_clock display.entry.now) window
         (option_map (λ key. key_rank key.now) after.entry) (map seen chosen.entry.now)
         (map part_coming parts.old.items) (map part_coming parts.new.items)) }
@@ -58,8 +66,13 @@ pub(crate) fn push_series<'a>(
         if is_out(spans, place, &window) {
             continue;
         }
-        if let Some(series) = series_at(alloc, files, display, chosen, place, window, after)? {
+        let mark = mark_at(marks, place);
+        if let Some(series) = series_at(
+            alloc, files, display, chosen, place, mark, window, after,
+        )? {
+            let begun = series.mark();
             parts.push(Part::Series(Box::new(alloc, series)?))?;
+            put_mark(marks, place, begun);
         }
     }
     Ok(())
@@ -72,11 +85,14 @@ fn series_at<'a>(
     display: &'a Display,
     chosen: &[Version<'_>],
     place: usize,
+    mark: Option<Mark>,
     window: Window,
     after: Option<&Key>,
 ) -> Result<Option<Series<'a>>, AllocError>
     requires chosen { AreChosen (map said_by files.now) (display_clock display.now) chosen.now }
     requires within { place < length chosen.now }
+    requires mark { (version : Version) (event : Event) → slice_get chosen.now place ≡ Some version
+        → event_at (map said_by files.now) version.spot ≡ Some event → IsMarkOf event mark }
     ensures series { (version : Version) → slice_get chosen.entry.now place ≡ Some version → IfOk result (λ given. MatchOption given
         (Recurs (map said_by files.entry.now) (seen version) → ⊥)
         (λ series. IsListing entry_cmp (IsOfVersion (map said_by files.entry.now) (display_clock display.entry.now) window
@@ -95,7 +111,7 @@ fn series_at<'a>(
     let zones = version.spot.zones(files, display);
     let since = since_of(after, event.uid.as_slice());
     let overridden = overridden_instants(alloc, event.uid.as_slice(), chosen, place)?;
-    let series = Series::new(alloc, zones, event, window, since, overridden)?;
+    let series = Series::new(alloc, zones, event, window, since, overridden, mark)?;
     Ok(Some(series))
 }
 

@@ -7,6 +7,7 @@ ghost use Rattle.ics_rule.specs.Kept.{is_kept, until_moment};
 ghost use Rattle.ics_fields.specs.Locals.{local_seconds, number, midnight, whole_days, year_seconds};
 ghost use Rattle.ics_series.specs.EventLaws.{time-prop};
 ghost use Rattle.ics_series.specs.Found.{moment_cmp, start_at};
+ghost use Rattle.ics_series.specs.Marks.{begun-prop, IsBegun};
 ghost use Rattle.ics_series.specs.Rising.{Rises, Rises-prop};
 ghost use Rattle.ics_series.specs.RuleStarts.{ends_at, gives, is_behind, is_ready, lets_until, midnight_number, with_held, AreHeld, HasLookedTo};
 ghost use Rattle.ics_series.specs.RuleStartLaws.{cursor-prop, held-prop, looked-prop, rule-prop};
@@ -14,6 +15,7 @@ ghost use Rattle.ics_series.specs.Starts.{local_of, recurrence_of, time_at};
 ghost use Rattle.ics_series.specs.FileZones.{clocks_in, IsTimeOf};
 ghost use Rattle.ics_rule.specs.PeriodNumbers.{rules_end};
 
+use crate::mark::{Mark, begun};
 use crate::queue::put_in;
 use crate::start::{Start, local_of};
 use crate::starts::{end_nearby, is_until, start_at};
@@ -33,8 +35,9 @@ pub(crate) struct RuleStarts<'a> {
     event: &'a Event,
     window: Window,
     rule: Rule,
-    /// The local at which the cursor began.
+    /// The local at which the cursor began, and the cursor as it was then.
     from: Local,
+    begun: Cursor,
     cursor: Cursor,
     day: i32,
     /// No period was looked at for a local from this day on. It is `day` or, while that is read, the next.
@@ -45,6 +48,7 @@ pub(crate) struct RuleStarts<'a> {
     ghost of: { recurrence_of event.now ≡ Some rule } by { rule-prop (recurrence_of event.now) (Some rule) },
     ghost rises: { Rises moment_cmp held.items } by { Rises-prop moment_cmp held.items },
     ghost are: { AreHeld (clocks_in zones) event.now rule window asked held.items } by { held-prop (clocks_in zones) event.now rule window asked held.items },
+    ghost begins: { IsBegun rule from begun } by { begun-prop rule from begun },
     ghost own: { IsCursorOf rule cursor } by { cursor-prop rule cursor },
     ghost looked: { HasLookedTo rule from asked cursor } by { looked-prop rule from asked cursor },
     ghost time: { IsTimeOf zones.zones.now event.now.start } by { time-prop zones.zones.now event.now.start },
@@ -114,14 +118,15 @@ fn is_ready(day: i32, held: &VecDeque<Start>) -> bool
 }
 
 impl<'a> RuleStarts<'a> {
-    ghost use Rattle.std.specs.Prelude.{◌≡◌, ◌+◌, ◌-◌, ◌<◌, ◌≤ℤ◌, false, length, slice_get, IfOk, OnOk, Some};
+    ghost use Rattle.std.specs.Prelude.{◌≡◌, ◌+◌, ◌-◌, ◌<◌, ◌≤ℤ◌, false, length, slice_get, IfOk, MatchOption, OnOk, Some};
     ghost use Rattle.ics_rule.specs.Cursors.{steps_of};
     ghost use Rattle.ics_series.specs.Merged.{cut};
     ghost use Rattle.ics_series.specs.RuleFeed.{starts_left, HasSameSource};
     ghost use Rattle.ics_series.specs.RuleStarts.{found, steps_left};
     ghost use Rattle.ics_series.specs.FileZones.{IsOwnEvent};
+    ghost use Rattle.ics_series.specs.Marks.{IsCountMark};
 
-    /// The starts by the locals from a given one on.
+    /// The starts by the locals from a given one on. Under COUNT the locals before a mark are not counted again.
     pub(crate) fn new(
         alloc: Global,
         zones: FileZones<'a>,
@@ -129,10 +134,12 @@ impl<'a> RuleStarts<'a> {
         window: Window,
         rule: Rule,
         from: Local,
+        mark: Option<Mark>,
     ) -> Self
         requires event { IsOwnEvent zones event.now }
         requires rule { recurrence_of event.now ≡ Some rule }
         requires from { IsDayNumber from.day }
+        requires mark { MatchOption mark (Unit {0}) (IsCountMark rule) }
         ensures left { starts_left result ≡ found (clocks_in zones.entry) event.entry.now rule window (number from) }
         ensures zones { result.zones ≡ zones.entry }
         ensures event { result.event ≡ event.entry }
@@ -143,13 +150,16 @@ impl<'a> RuleStarts<'a> {
         let first = local_of(event.start.stamp);
         let end = end_nearby(&window, rule.until_moment(), first);
         let day = from.day.min(end);
+        let begun = begun(&rule, from, end, mark);
+        let cursor = begun;
         RuleStarts {
             zones,
             event,
             window,
             rule,
             from,
-            cursor: Cursor::at(&rule, from),
+            begun,
+            cursor,
             day,
             asked: day,
             end,
@@ -236,6 +246,16 @@ impl<'a> RuleStarts<'a> {
             if first.moment == start.moment {
                 self.held.pop_front();
             }
+        }
+    }
+
+    /// Where the search began.
+    pub(crate) fn mark(&self) -> Mark
+        ensures { IsBegun self.now.rule result.from result.cursor }
+    {
+        Mark {
+            from: self.from,
+            cursor: self.begun,
         }
     }
 

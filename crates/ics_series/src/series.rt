@@ -6,6 +6,7 @@ ghost use Rattle.ics_series.specs.Entry.{entry_cmp};
 ghost use Rattle.ics_series.specs.EventLaws.{own-event-prop};
 ghost use Rattle.ics_series.specs.Exclusions.{AreExclusions};
 ghost use Rattle.ics_series.specs.Found.{moment_cmp, IsStart};
+ghost use Rattle.ics_series.specs.Marks.{IsMarkOf};
 ghost use Rattle.ics_series.specs.Merged.{cut};
 ghost use Rattle.ics_series.specs.Rising.{Rises, Rises-prop};
 ghost use Rattle.ics_series.specs.RuleFeed.{starts_left};
@@ -19,6 +20,7 @@ use crate::exclusion::{Exclusions, is_among};
 use crate::feed::{Coming, Feed};
 use crate::listed::push_listed;
 use crate::listed_starts::ListedStarts;
+use crate::mark::{Mark, counted};
 use crate::met::shown;
 use crate::occurrence::Occurrence;
 use crate::rule_starts::RuleStarts;
@@ -88,9 +90,11 @@ fn starts_by_rule<'a>(
     window: Window,
     since: Moment,
     listed: &[Start],
+    mark: Option<Mark>,
 ) -> Option<RuleStarts<'a>>
     requires event { IsOwnEvent zones event.now }
     requires listed { All (IsStart (clocks_in zones) event.now) listed.now }
+    requires mark { IsMarkOf event.now mark }
     ensures own { HasOwnRule zones.entry event.entry.now window (first_asked (clocks_in zones.entry) window event.entry.now since listed.entry.now) result }
     ensures from { MatchOption result (event.entry.now.rule ≡ None)
         (λ starts. IsRuleFrom (clocks_in zones.entry) event.entry.now window since listed.entry.now (starts_left starts)) }
@@ -102,7 +106,8 @@ fn starts_by_rule<'a>(
     // All instants this late after the window's end are treated as one: no day is read for them.
     let late = window.to + 14 * 86_400;
     let from = first_nearby(first, earliest.max(since.min(late)));
-    Some(RuleStarts::new(alloc, zones, event, window, rule, from))
+    let mark = counted(parts, mark);
+    Some(RuleStarts::new(alloc, zones, event, window, rule, from, mark))
 }
 
 // The first of the starts that a rule still gives.
@@ -158,7 +163,7 @@ impl<'a> Series<'a> {
     ghost use Rattle.ics_series.specs.SeriesStarts.{wanted_by, IsKnown, IsSeriesMet, IsTaken};
 
     /// The occurrences of an event from an instant on, without those at the instants that overrides
-    /// name. These are in order.
+    /// name. These are in order. Under COUNT the rule is searched from a mark on.
     pub(crate) fn new(
         alloc: Global,
         zones: FileZones<'a>,
@@ -166,9 +171,11 @@ impl<'a> Series<'a> {
         window: Window,
         since: Moment,
         overridden: Vec<Moment>,
+        mark: Option<Mark>,
     ) -> Result<Series<'a>, AllocError>
         requires own { IsOwnEvent zones event.now }
         requires order { IsSorted int_cmp overridden.items }
+        requires mark { IsMarkOf event.now mark }
         ensures listing { IfOk result (λ series. IsListing entry_cmp
             (IsSeriesMet (clocks_in zones.entry) event.entry.now window since overridden.items)
             (⟦<Series<'a> as Coming>⟧.coming series)) }
@@ -176,7 +183,7 @@ impl<'a> Series<'a> {
     {
         let exclusions = Exclusions::new(alloc, zones, event, &window)?;
         let listed = listed_apart(alloc, zones, event, &window)?;
-        let rule_starts = starts_by_rule(alloc, zones, event, window, since, &listed);
+        let rule_starts = starts_by_rule(alloc, zones, event, window, since, &listed, mark);
         Ok(Series {
             zones,
             event,
@@ -239,6 +246,17 @@ impl<'a> Coming for Series<'a> {
 impl<'a> Series<'a> {
     ghost use Rattle.std.specs.Prelude.{length};
     ghost use Rattle.ics_series.specs.Holding.{rule_looked, series_holds};
+    ghost use Rattle.ics_series.specs.Marks.{IsMarkOf};
+
+    /// Where the search of its rule began.
+    pub(crate) fn mark(&self) -> Option<Mark>
+        ensures { IsMarkOf self.now.event.now result }
+    {
+        match &self.rule_starts {
+            None => None,
+            Some(starts) => Some(starts.mark()),
+        }
+    }
 
     /// How many starts of its rule are held.
     pub(crate) fn held(&self) -> usize

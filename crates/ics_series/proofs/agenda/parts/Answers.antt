@@ -23,5 +23,6 @@ returns c =
       sources = sources-behind chosen sources;
       listing = pushed-listing files display c.args.window after singles chosen c.in_ok-singles.ensures pushed;
       whole = λ w. whole-parts w chosen (c.in_ok-push_series.ensures.whole w);
+      marks = c.push_series.ensures.marks;
       sorted = parts-sorted c.push_series.new.parts.items sources.more sources.behind sources.rises;
     }

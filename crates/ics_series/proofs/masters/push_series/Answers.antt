@@ -1,5 +1,5 @@
 use Rattle.std.proofs.lemmas.Grind.{common_steps}
-use Rattle.std.proofs.Common.{◌≡◌, [], ◌∷◌, ◌++◌, Vec, Global, map, get_or, option_map, refl, sym, ap, ◌∙◌, arith, append-nil}
+use Rattle.std.proofs.Common.{◌≡◌, [], ◌∷◌, ◌++◌, Vec, Global, Option, map, get_or, option_map, refl, sym, subst, ap, ◌∙◌, arith, append-nil}
 use Rattle.std.specs.List.{flat_map}
 use Rattle.std.proofs.lemmas.List.{map-append}
 use Rattle.std.proofs.lemmas.List.Concat.{flat_map-append}
@@ -7,11 +7,14 @@ use Rattle.std.proofs.lemmas.Option.{slice_get-get_or, slice_get-map, MatchOptio
 use Rattle.ics_event.specs.Event.{said_by}
 use Rattle.ics_series.specs.Clocks.{display_clock}
 use Rattle.ics_series.specs.Versions.{seen}
+use Rattle.ics_series.specs.declared.mark.Mark.{Mark}
 use Rattle.ics_series.specs.declared.part.Part.{Part}
 use Rattle.ics_series.specs.declared.part.Part.TheVariants as part
 use Rattle.ics_series.specs.declared.series.Series.{Series}
 use Rattle.ics_series.specs.AgendaParts.{part_coming, part_sources}
+use Rattle.ics_series.specs.Marks.{AreMarks}
 use Rattle.ics_series.specs.SeriesFeed.{series_left, series_of, series_sources}
+use Rattle.ics_series.proofs.MarkLemmas.{mark-of, marks-put, own-mark}
 use Rattle.ics_series.proofs.OverrideLemmas.{any_version}
 use Rattle.ics_series.proofs.SourceLemmas.{lists-none, versions-all, versions-more, versions-skip, sources-all, sources-more, sources-none, sources-skip}
 use Rattle.ics_series.proofs.SpanLemmas.{out-at, out-once}
@@ -22,6 +25,7 @@ pub loop-place-init : goal.loop-place-init
 loop-place-init c = record {
   lists = lists-none (map part_coming c.args.parts.now.items);
   sources = sources-none (flat_map part_sources c.args.parts.now.items);
+  marks = c.requires.marks;
   whole = λ w. ([], lists-none []);
 }
 
@@ -60,6 +64,17 @@ loop-place-preserved c =
                 (MatchOption-at_none _ _ w.in_default.is (c.in_ok-series.ensures.series v there))
                 (ap (λ (p : Vec Part Global). map part_coming p.items) w.parts-is)
           ];
+      marks =
+          elim c.match-branch-2.branch [
+            | in-Some+in_ok-new+in_ok-push w ↦
+                let m = MatchOption-at_some _ _ w.in-Some.series w.in-Some.is (c.in_ok-series.ensures.sources v there) in
+                subst (AreMarks (map said_by c.args.files.now) (map seen c.args.chosen.now)) (sym (ap (λ (p : Vec (Option Mark) Global). p.items) w.marks-is))
+                (marks-put (map said_by c.args.files.now) (map seen vs) k w.mark-begun.result c.loop-place.marks.items _ c.loop-place.invariant.marks
+                w.put_mark.ensures
+                (own-mark (map said_by c.args.files.now) vs k there w.in-Some.series w.mark-begun.result m.1.stands m.2 w.mark-begun.ensures))
+            | in_default w ↦
+                subst (AreMarks (map said_by c.args.files.now) (map seen c.args.chosen.now)) (sym (ap (λ (p : Vec (Option Mark) Global). p.items) w.marks-is)) c.loop-place.invariant.marks
+          ];
       whole = λ w.
           let whole = c.in_ok-series.ensures.whole v there w in
           let lists = c.loop-place.invariant.whole w in (lists.0 ++ whole.0 ∷ [], versions-more vs k there lists.1 whole.1 refl);
@@ -78,14 +93,21 @@ loop-place-preserved-then-is_out c =
     record {
       lists = versions-skip vs k there c.loop-place.invariant.lists none refl;
       sources = sources-skip c.requires.chosen k there c.loop-place.invariant.sources refl;
+      marks = c.loop-place.invariant.marks;
       whole = λ w. let lists = c.loop-place.invariant.whole w in (lists.0, versions-skip vs k there lists.1 none refl);
     }
+
+pub series_at-requires-clause-mark : goal.series_at-requires-clause-mark
+series_at-requires-clause-mark c =
+    mark-of (map said_by c.args.files.now) (map seen c.args.chosen.now) c.args.chosen.now refl c.loop-place.place c.mark_at-mark.result c.loop-place.marks.items
+    c.loop-place.invariant.marks (rw c.deref.ensures.value at c.mark_at-mark.ensures)
 
 pub returns : goal.returns
 returns c =
     record {
       lists = versions-all c.args.chosen.now c.loop-place.place c.loop-place-test.false c.loop-place.invariant.lists;
       sources = sources-all c.requires.chosen c.loop-place.place c.loop-place-test.false c.loop-place.invariant.sources;
+      marks = c.loop-place.invariant.marks;
       whole = λ w.
           let lists = c.loop-place.invariant.whole w in
           let whole = versions-all c.args.chosen.now c.loop-place.place c.loop-place-test.false lists.1 in

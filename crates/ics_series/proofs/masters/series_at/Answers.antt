@@ -55,6 +55,11 @@ new-requires-clause-own c =
     own-event c.zones-zones.result c.event-event.result.now (search rules)
     (subst (λ zs. IsEventOf zs c.event-event.result.now) (sym c.zones-zones.ensures.zones) c.event-event.ensures.own)
 
+pub new-requires-clause-mark : goal.new-requires-clause-mark
+new-requires-clause-mark c =
+    c.requires.mark (get_or c.args.chosen.now c.args.place any_version) c.event-event.result.now
+    (slice_get-get_or c.args.chosen.now c.args.place any_version c.requires.within) c.event-event.ensures.event
+
 pub returns : goal.returns
 returns c =
     let after = option_map (λ key. key_rank key.now) c.args.after in

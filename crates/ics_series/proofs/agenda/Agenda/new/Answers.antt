@@ -1,9 +1,12 @@
-use Rattle.std.proofs.Common.{map, inl, option_map, ◌∙◌}
+use Rattle.std.proofs.Common.{map, inl, option_map, sym, subst, ◌∙◌}
 use Rattle.std.proofs.lemmas.Result.{IfOk-weaker}
 use Rattle.ics_event.specs.Event.{said_by}
 use Rattle.ics_series.specs.Clocks.{display_clock}
 use Rattle.ics_series.specs.Entry.{key_rank}
+use Rattle.ics_series.specs.Marks.{AreMarks}
+use Rattle.ics_series.specs.Versions.{seen}
 use Rattle.ics_series.proofs.Cases.{if-both}
+use Rattle.ics_series.proofs.MarkLemmas.{no-marks}
 use Rattle.ics_series.proofs.SinglesLemmas.{behind-key}
 use Rattle.ics_series.proofs.WholeLemmas.{keys}
 use Rattle.ics_series.proofs.agenda.Agenda.new.Goals as goal
@@ -13,6 +16,11 @@ of-requires-clause-chosen c = rw c.deref.ensures.value c.in_ok-chosen.ensures.ch
 
 pub of-requires-clause-spans : goal.of-requires-clause-spans
 of-requires-clause-spans c = inl (c.deref-2.ensures.value ∙ c.new-spans.ensures.items)
+
+pub of-requires-clause-marks : goal.of-requires-clause-marks
+of-requires-clause-marks c =
+    subst (AreMarks (map said_by c.args.files.now) (map seen c.deref.result.now)) (sym c.new-marks.ensures.items)
+    (no-marks (map said_by c.args.files.now) (map seen c.deref.result.now))
 
 pub returns : goal.returns
 returns c = record {

@@ -7,6 +7,7 @@ returns c = record {
   sources = rw c.in_ok-merge.ensures.sources c.in_ok-parts.ensures.sources;
   listing = rw (← c.in_ok-merge.ensures.coming) at c.in_ok-parts.ensures.listing;
   whole = c.in_ok-parts.ensures.whole;
+  marks = c.parts.ensures.marks;
 }
 
 pub invariant_of-result : goal.invariant_of-result

@@ -7,10 +7,16 @@ use Rattle.ics_series.specs.Clocks.{display_clock}
 use Rattle.ics_series.specs.DaySteps.{agenda_sources, scope_in}
 use Rattle.ics_series.specs.Entry.{key_rank}
 use Rattle.ics_series.specs.OnDays.{first_near, day_key_rank}
+use Rattle.ics_series.specs.Versions.{seen}
 use Rattle.ics_series.proofs.AheadLemmas.{begun-ahead, begun-by, day-keys, first-masters, from-start}
+use Rattle.ics_series.proofs.MarkLemmas.{marks-none}
 use Rattle.ics_series.proofs.SpanLemmas.{those-chosen}
 use Rattle.ics_series.proofs.WholeLemmas.{keys, masters-listed}
 use Rattle.ics_series.proofs.days.Days.new.Goals as goal
+
+pub agenda_of-requires-clause-marks : goal.agenda_of-requires-clause-marks
+agenda_of-requires-clause-marks c =
+    marks-none (map said_by c.args.files.now) (map seen c.deref-2.result.now) c.add_places.new.marks.items c.in_ok-add_places.ensures
 
 pub returns : goal.returns
 returns c =
@@ -49,6 +55,7 @@ invariant_of-result c =
     record {
       chosen = those-chosen (map said_by c.args.files.now) (display_clock c.args.display.now) c.in_ok-versions.versions.items c.in_ok-versions.ensures.chosen;
       spanned = rw c.deref.ensures.value at c.in_ok-spans.ensures;
+      marked = rw c.deref-2.ensures.value at c.agenda_of.ensures.marks;
       not_before = first;
       begun = rw c.day_and_start.ensures (begun-by c.args.window after (to_z w32 (of_z w32 c.begin-day.result.0)) key behind first);
       masters = ∣ first-masters scope from c.in_ok-agenda.ensures.agenda ∣₁;

@@ -32,8 +32,8 @@ of-requires-clause-spans c =
     rw (c.deref-2.ensures.value, c.deref-3.ensures.value)
     (inr (self.window, omega (arith, ints, c.near_day-near.ensures.to, int_min_is), self.spanned))
 
-pub invariant_of-self-5 : goal.invariant_of-self-5
-invariant_of-self-5 c =
+pub invariant_of-self-3 : goal.invariant_of-self-3
+invariant_of-self-3 c =
     let self = c.args.self.now in
     let next = c.next_day-day in
     let day : to_z w32 (of_z w32 c.next_day-day.result) ≡ c.next_day-day.result = omega (arith, ints, next.type_inv) in
@@ -43,6 +43,7 @@ invariant_of-self-5 c =
     record {
       chosen = self.chosen;
       spanned = self.spanned;
+      marked = rw c.deref-2.ensures.value at c.of.ensures.marks;
       not_before = omega (arith, ints, day, next.ensures.later, self.not_before);
       begun = omega (arith, ints, day, next.ensures.later, begun);
       masters =

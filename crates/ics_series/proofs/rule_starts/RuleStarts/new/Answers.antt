@@ -1,4 +1,5 @@
-use Rattle.std.proofs.Common.{◌≡◌, ◌∙◌, refl, sym, ap, subst, arith}
+use Rattle.std.proofs.Common.{◌≡◌, ◌∙◌, refl, sym, ap, subst, arith, to_z, of_z, w32}
+use Rattle.std.specs.Int.{int_min}
 use Rattle.std.proofs.lemmas.Int.{int_min_is, ints}
 use Rattle.ics_fields.specs.declared.local.Local.{Local}
 use Rattle.ics_rule.specs.Cursors.{place_of}
@@ -9,7 +10,7 @@ use Rattle.ics_series.specs.Found.{moment_cmp}
 use Rattle.ics_series.specs.Listing.{IsIn}
 use Rattle.ics_series.specs.Rising.{Rises}
 use Rattle.ics_series.proofs.RuleDayLemmas.{come-empty}
-use Rattle.ics_series.specs.RuleStarts.{ends_at}
+use Rattle.ics_series.specs.RuleStarts.{ends_at, HasLookedTo}
 use Rattle.ics_series.specs.Starts.{local_of}
 use Rattle.ics_series.proofs.StartSourceLemmas.{calendar-day, own-day, rule-first}
 use Rattle.ics_series.proofs.RuleStepLemmas.{day-back, ends-most, signed-back}
@@ -19,6 +20,12 @@ pub end_nearby-end-requires : goal.end_nearby-end-requires
 end_nearby-end-requires c =
     rw (c.local_of-first.ensures ∙ ap (λ (v : Event). local_of v.start.stamp) c.event.view_is)
     (calendar-day (local_of c.args.event.now.start.stamp).day (own-day c.args.event.now.start c.requires.event.start.is_time))
+
+pub begun-begun-requires-clause-early : goal.begun-begun-requires-clause-early
+begun-begun-requires-clause-early c =
+    let w = c.args.window in
+    let e = c.end_nearby-end.ensures in
+    omega (arith, ints, w.not_late, e.soon, ends-most w c.until_moment.result (local_seconds c.local_of-first.result), e.day.0)
 
 pub invariant_of-result : goal.invariant_of-result
 invariant_of-result c =
@@ -37,11 +44,13 @@ invariant_of-result c =
       of = c.requires.rule;
       rises = subst (Rises moment_cmp) (sym c.new.ensures.items) tt;
       are = λ s m. absurd (subst (IsIn s) c.new.ensures.items m);
-      own = c.at.ensures.own;
-      looked = λ before h. c.at.ensures.looked before;
+      begins = c.begun-begun.ensures.begun;
+      own = c.begun-begun.ensures.begun.own;
+      looked = subst (λ d. HasLookedTo c.args.rule c.args.from d c.begun-begun.result) (sym (day ∙ (min ∙ ap (λ f. int_min f (to_z w32 (of_z w32 c.end_nearby-end.result))) from)))
+          c.begun-begun.ensures.looked;
       time = c.requires.event.start;
       first = ap (λ (l : Local). number l) (rule-first c.args.event.now c.args.rule c.requires.rule);
-      read = omega (arith, ints, c.at.ensures.place, day, end, from, min, int_min_is, c.requires.from.0, c.requires.from.1, e.day.0, e.day.1);
+      read = omega (arith, ints, c.begun-begun.ensures.begun.place, day, end, from, min, int_min_is, c.requires.from.0, c.requires.from.1, e.day.0, e.day.1);
       low = omega (arith, ints, day, end, from, min, int_min_is, c.requires.from.0, e.day.0);
       asked_on = omega (arith, ints, day);
       asked_soon = omega (arith, ints, day);
@@ -52,5 +61,5 @@ invariant_of-result c =
     }
 
 pub returns-clause-left : goal.returns-clause-left
-returns-clause-left c = come-empty c.args.zones c.args.event.now c.args.rule c.args.window c.new.result.items (place_of c.at.result) (number c.args.from)
-    c.new.ensures.items c.at.ensures.place
+returns-clause-left c = come-empty c.args.zones c.args.event.now c.args.rule c.args.window c.new.result.items (place_of c.begun-begun.result) (number c.args.from)
+    c.new.ensures.items c.begun-begun.ensures.begun.place
