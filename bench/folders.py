@@ -43,6 +43,16 @@ def lasting(count, start, rule, length):
     return recurring(count, start, rule).replace(b'DURATION:PT1H', b'DURATION:' + length.encode())
 
 
+def once(count, length):
+    """Events that start once in January 2000, of one length."""
+    lines = []
+    for number in range(count):
+        lines += ['BEGIN:VEVENT', 'UID:%d@example.org' % number, 'DTSTAMP:20000101T000000Z',
+                  'DTSTART:200001%02dT%02d%02d00Z' % (number % 28 + 1, number // 28 % 24, number % 60),
+                  'DURATION:' + length, 'SUMMARY:Event %d' % number, 'END:VEVENT']
+    return calendar(lines)
+
+
 def day_stamp(number, hour):
     """A time of a day of 2000 or later, one day after another, each month with 28."""
     return '%04d%02d%02dT%02d0000Z' % (2000 + number // 336, number // 28 % 12 + 1, number % 28 + 1, hour)
@@ -223,6 +233,24 @@ ROWS = [
     ('seconds of 36,525 days, not started', lambda: [('a.ics', lasting(1, '000101%02dT%02d%02d00Z',
         'FREQ=SECONDLY', 'P36525D'))],
      ['2024-01-05', '1d', '--notstarted', '--limit', '1']),
+    ('10,000 events, each day of a year', lambda: [('a.ics', events(range(10_000)))],
+     ['2024-01-01', '366d', '--every-day']),
+    ('the same, each day of ten years', lambda: [('a.ics', events(range(10_000)))],
+     ['2024-01-01', '2033-12-31', '--every-day']),
+    ('the same, of a hundred years', lambda: [('a.ics', events(range(10_000)))],
+     ['2024-01-01', '2123-12-31', '--every-day']),
+    ('the same, of a thousand years', lambda: [('a.ics', events(range(10_000)))],
+     ['2024-01-01', '3023-12-31', '--every-day']),
+    ('a hundred years under each day', lambda: [('a.ics', once(1, 'P36525D'))],
+     ['2000-01-01', '2099-12-31', '--every-day']),
+    ('1,000 of them, under a year of days', lambda: [('a.ics', once(1_000, 'P36525D'))],
+     ['2024-01-01', '366d', '--every-day']),
+    ('200 weekly rules, each day of a year', lambda: weekly(200),
+     ['2024-01-01', '366d', '--every-day']),
+    ('the same with COUNT', lambda: [('a.ics', recurring(200, '192801%02dT%02d%02d00Z', 'FREQ=WEEKLY;COUNT=10000'))],
+     ['2024-01-01', '366d', '--every-day']),
+    ('a yearly rule, each day of 1,000 years', lambda: [('a.ics', recurring(1, '200001%02dT%02d%02d00Z', 'FREQ=YEARLY'))],
+     ['2024-01-01', '3023-12-31', '--every-day']),
 ]
 
 
