@@ -73,7 +73,8 @@ loop-place-preserved c =
                 w.put_mark.ensures
                 (own-mark (map said_by c.args.files.now) vs k there w.in-Some.series w.mark-begun.result m.1.stands m.2 w.mark-begun.ensures))
             | in_default w ↦
-                subst (AreMarks (map said_by c.args.files.now) (map seen c.args.chosen.now)) (sym (ap (λ (p : Vec (Option Mark) Global). p.items) w.marks-is)) c.loop-place.invariant.marks
+                subst (AreMarks (map said_by c.args.files.now) (map seen c.args.chosen.now)) (sym (ap (λ (p : Vec (Option Mark) Global). p.items) w.marks-is))
+                c.loop-place.invariant.marks
           ];
       whole = λ w.
           let whole = c.in_ok-series.ensures.whole v there w in

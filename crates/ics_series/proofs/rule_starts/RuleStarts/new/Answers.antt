@@ -40,14 +40,14 @@ invariant_of-result c =
     let end = day-back c.end_nearby-end.result e.day in
     let from = day-back c.args.from.day c.requires.from in
     let day = signed-back c.min-day.result c.min-day.result c.min-day.type_inv refl in
+    let asked = day ∙ (min ∙ ap (λ f. int_min f (to_z w32 (of_z w32 c.end_nearby-end.result))) from) in
     record {
       of = c.requires.rule;
       rises = subst (Rises moment_cmp) (sym c.new.ensures.items) tt;
       are = λ s m. absurd (subst (IsIn s) c.new.ensures.items m);
       begins = c.begun-begun.ensures.begun;
       own = c.begun-begun.ensures.begun.own;
-      looked = subst (λ d. HasLookedTo c.args.rule c.args.from d c.begun-begun.result) (sym (day ∙ (min ∙ ap (λ f. int_min f (to_z w32 (of_z w32 c.end_nearby-end.result))) from)))
-          c.begun-begun.ensures.looked;
+      looked = subst (λ d. HasLookedTo c.args.rule c.args.from d c.begun-begun.result) (sym asked) c.begun-begun.ensures.looked;
       time = c.requires.event.start;
       first = ap (λ (l : Local). number l) (rule-first c.args.event.now c.args.rule c.requires.rule);
       read = omega (arith, ints, c.begun-begun.ensures.begun.place, day, end, from, min, int_min_is, c.requires.from.0, c.requires.from.1, e.day.0, e.day.1);
@@ -61,5 +61,6 @@ invariant_of-result c =
     }
 
 pub returns-clause-left : goal.returns-clause-left
-returns-clause-left c = come-empty c.args.zones c.args.event.now c.args.rule c.args.window c.new.result.items (place_of c.begun-begun.result) (number c.args.from)
+returns-clause-left c =
+    come-empty c.args.zones c.args.event.now c.args.rule c.args.window c.new.result.items (place_of c.begun-begun.result) (number c.args.from)
     c.new.ensures.items c.begun-begun.ensures.begun.place
