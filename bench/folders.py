@@ -249,6 +249,12 @@ ROWS = [
      ['2024-01-01', '366d', '--every-day']),
     ('the same with COUNT', lambda: [('a.ics', recurring(200, '192801%02dT%02d%02d00Z', 'FREQ=WEEKLY;COUNT=10000'))],
      ['2024-01-01', '366d', '--every-day']),
+    ('200 monthly rules with COUNT, each day', lambda: [('a.ics', recurring(200, '192801%02dT%02d%02d00Z',
+                                                                            'FREQ=MONTHLY;BYDAY=2TU;COUNT=100000'))],
+     ['2024-01-01', '366d', '--every-day']),
+    ('200 last workdays with COUNT, each day', lambda: [('a.ics', recurring(200, '192801%02dT%02d%02d00Z',
+        'FREQ=MONTHLY;BYDAY=MO,TU,WE,TH,FR;BYSETPOS=-1;COUNT=100000'))],
+     ['2024-01-01', '366d', '--every-day']),
     ('a yearly rule, each day of 1,000 years', lambda: [('a.ics', recurring(1, '200001%02dT%02d%02d00Z', 'FREQ=YEARLY'))],
      ['2024-01-01', '3023-12-31', '--every-day']),
 ]
