@@ -12,7 +12,7 @@ ghost use Rattle.ics_zone.specs.OnsetSets.{IsShownTo, IsKeptAt, Has, IsSound, Ar
 use crate::Observance;
 use crate::clock::{RULES_END, instant, shown_by};
 use crate::kept::{last_between, last_kept, next_kept};
-use ics_fields::{BitSet, Frequency, Moment};
+use ics_fields::{BitSet, Frequency, Moment, Parts};
 use ics_rule::{Kind, Rule};
 use std::alloc::{AllocError, Global};
 
@@ -82,6 +82,16 @@ fn spacing(observance: &Observance) -> u64 {
     period / times.max(1)
 }
 
+// Whether a rule goes by years and lists no days but weekdays, as those of most zones do. Such a rule is searched soon, whether or not it
+// matches.
+fn is_plain(parts: &Parts) -> bool {
+    matches!(parts.frequency(), Frequency::Yearly)
+        & parts.weeks().is_empty()
+        & parts.month_days().is_empty()
+        & parts.year_days().is_empty()
+        & parts.positions().is_empty()
+}
+
 // UNTIL of a rule, if it is there and in UTC, and else a late instant.
 fn until_of(rule: &Rule) -> Moment
     ensures { (t : ℤ) → t ≤ℤ pos 9_223_372_036_854_775_807 → is_until (until_moment rule.now) t ≡ int_le t result }
@@ -89,8 +99,9 @@ fn until_of(rule: &Rule) -> Moment
     rule.until_moment().unwrap_or(Moment::MAX)
 }
 
-// The last instant at which a rule may have an onset: UNTIL, if it is there and in UTC, and DTSTART, if the rule keeps no later local.
-fn end_of(rule: &Option<Rule>, offset_from: i32, start: u64) -> Moment
+// The last instant at which a rule may have an onset: UNTIL, if it is there and in UTC, and DTSTART, if the rule is asked and keeps no later
+// local.
+fn end_of(rule: &Option<Rule>, is_asked: bool, offset_from: i32, start: u64) -> Moment
     requires offset { IsWithin 86_399 offset_from }
     requires start { start < calendar_end }
     ensures { IfSome rule.now (λ r. number r.start ≡ start → IsEnd offset_from result r) }
@@ -99,6 +110,9 @@ fn end_of(rule: &Option<Rule>, offset_from: i32, start: u64) -> Moment
         return Moment::MAX;
     };
     let until = until_of(rule);
+    if !is_asked {
+        return until;
+    }
     let after = (start + 1).min(RULES_END as u64);
     if next_kept(rule, after, RULES_END as u64).is_some() {
         until
@@ -127,7 +141,12 @@ impl Onsets {
     {
         let listed = listed(alloc, observance)?;
         let rule = rule_of(observance);
-        let until = end_of(&rule, observance.offset_from, observance.start.number());
+        let is_asked = match &observance.rule {
+            Some(parts) => !is_plain(parts),
+            None => false,
+        };
+        let start = observance.start.number();
+        let until = end_of(&rule, is_asked, observance.offset_from, start);
         let ago = spacing(observance);
         Ok(Onsets {
             offset_from: observance.offset_from,

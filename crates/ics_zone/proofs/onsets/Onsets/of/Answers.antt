@@ -99,10 +99,10 @@ ends : (c : After-spacing-ago) → IfSome (option_map (rule_from c.args.observan
 ends c = by c.args.observance.now.rule (rw (c.rule_of-rule.ensures, to_z-of_z w32 c.args.observance.now.offset_from (search rules)) at c.end_of-until.ensures)
   where
     by : (o : Option RuleParts) → IfSome (option_map (rule_from c.args.observance.now.start) o)
-        (λ r. number r.start ≡ c.number.result → IsEnd c.args.observance.now.offset_from c.end_of-until.result r)
+        (λ r. number r.start ≡ c.number-start.result → IsEnd c.args.observance.now.offset_from c.end_of-until.result r)
         → IfSome (option_map (rule_from c.args.observance.now.start) o) (IsEnd c.args.observance.now.offset_from c.end_of-until.result)
     by None h = tt
-    by (Some parts) h = h (sym c.number.ensures.value)
+    by (Some parts) h = h (sym c.number-start.ensures.value)
 
 pub returns : goal.returns
 returns c =
