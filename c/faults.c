@@ -116,11 +116,13 @@ static void bad_inputs(void)
     int64_t instants[2] = {7, 7}, until = 7;
     struct { const char *rule, *start; uint32_t fault; } cases[] = {
         {"", "20240101", KHAL_BAD_RULE}, {"FREQ=\xff\xfe", "20240101", KHAL_BAD_RULE}, {"FREQ=DAILY", "", KHAL_BAD_STAMP},
-        {"FREQ=DAILY", "20240230", KHAL_BAD_STAMP}, {"FREQ=DAILY", "00000101", KHAL_YEAR_RANGE}, {"FREQ=DAILY;COUNT=9999999999", "20240101", KHAL_NUMBER_TOO_LARGE}};
+        {"FREQ=DAILY", "20240230", KHAL_BAD_STAMP}, {"FREQ=DAILY", "00000101", KHAL_YEAR_RANGE},
+        {"FREQ=DAILY;COUNT=9999999999", "20240101", KHAL_NUMBER_TOO_LARGE}};
     for (size_t i = 0; i < sizeof cases / sizeof *cases; i++) {
         khal_times found = times(cases[i].rule, cases[i].start, none, 0, UINT64_MAX, locals, 2);
         expect(found.fault == cases[i].fault && found.count == 0 && locals[0] == 7, cases[i].rule);
-        expect(khal_rule_until((const uint8_t *)cases[i].rule, strlen(cases[i].rule), (const uint8_t *)cases[i].start, strlen(cases[i].start), &until) == cases[i].fault, cases[i].start);
+        khal_word rule = khal_text(cases[i].rule), start = khal_text(cases[i].start);
+        expect(khal_rule_until(rule.at, rule.length, start.at, start.length, &until) == cases[i].fault, cases[i].start);
     }
     expect(until == 7, "an UNTIL of no rule");
     expect(times("FREQ=DAILY", "20240101T090000", khal_text("\xff no zone"), 0, UINT64_MAX, locals, 2).fault == KHAL_BAD_ZONE, "bytes that are no zone");

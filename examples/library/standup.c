@@ -40,7 +40,8 @@ static void print_listing(const char *path, khal_word zone)
     FILE *file = fopen(path, "rb");
     if (!file)
         exit(1);
-    khal_file files[] = {{khal_text("team.ics"), {calendar, fread(calendar, 1, sizeof calendar, file)}}, {khal_text("cut.ics"), khal_text("BEGIN:VCALENDAR\r\n")}};
+    khal_word bytes = {calendar, fread(calendar, 1, sizeof calendar, file)};
+    khal_file files[] = {{khal_text("team.ics"), bytes}, {khal_text("cut.ics"), khal_text("BEGIN:VCALENDAR\r\n")}};
     fclose(file);
     khal_listed listed = khal_list(words, 5, files, 2, files, 0, zone.at, zone.length, 0, out, sizeof out, err, sizeof err);
     printf("status %u\n%.*s%.*s", listed.status, (int)listed.out_length, (char *)out, (int)listed.err_length, (char *)err);
