@@ -12,7 +12,8 @@ use Rattle.ics_values.specs.declared.part_name.ListName.{ListName}
 use Rattle.ics_values.specs.declared.part_name.PartName.{PartName}
 use Rattle.ics_values.specs.declared.rule_text.Draft.{Draft}
 use Rattle.ics_values.specs.Texts.{unsigned}
-use Rattle.ics_values.specs.RuleTexts.{pieces, is_rule_number, is_signed, side_of, fits, fits_list, part_of, row, is_day_item, weekday_of, day_text, number_before}
+use Rattle.ics_values.specs.RuleTexts.{pieces, is_rule_number, is_signed, side_of, fits, fits_list, part_of, row, is_day_item, weekday_of, day_text}
+use Rattle.ics_values.specs.RuleTexts.{number_before}
 use Rattle.ics_values.specs.Rules.{with_item, with_value, is_large}
 
 -- what reading a COUNT or an INTERVAL gives
