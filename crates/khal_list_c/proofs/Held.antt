@@ -1,5 +1,6 @@
 -- What a run over files in memory reads and finds.
-use Rattle.std.proofs.Common.{◌≡◌, ◌↔◌, ◌++◌, Any, IsErr, ℕ, suc, ◌+◌, List, [], ◌∷◌, length, map, slice_get, Option, Some, None, Ok, Err, string_bytes, refl, sym, ap, subst, ◌∙◌, arith}
+use Rattle.std.proofs.Common.{◌≡◌, ◌↔◌, ◌++◌, Any, IsErr, ℕ, suc, ◌+◌, List, [], ◌∷◌, length, map, slice_get, Option, Some, None, Ok, Err}
+use Rattle.std.proofs.Common.{string_bytes, refl, sym, ap, subst, ◌∙◌, arith}
 use Rattle.std.proofs.lemmas.Grind.{common_steps}
 use Rattle.khal_list.specs.Headline.{Lists, Shows, more_line}
 use Rattle.khal_list.specs.declared.request.Request.{Request}
@@ -82,7 +83,13 @@ length-held (file ∷ files) = ap (λ n. suc n) (length-held files)
 
 pub lists-files : (source source_after : MemorySource) (zones zones_after : MemoryZones) (request : Request) (out err : List ℕ) (status : Status)
     → Lists reads_held finds_held
-    (record { names = map (λ file. string_bytes file.name) source.files.items; source = source; source_after = source_after; zones = zones; zones_after = zones_after })
+    (record {
+      names = map (λ file. string_bytes file.name) source.files.items;
+      source = source;
+      source_after = source_after;
+      zones = zones;
+      zones_after = zones_after;
+    })
     request (record { out = Some []; out_after = Some out; err = Some []; err_after = Some err }) status
     → ListsFiles (held_files source) (held_zones zones) request out err status
 lists-files source source_after zones zones_after request out err status lists =

@@ -28,4 +28,5 @@ place-more from times k v room = simp unary_clauses (ap (λ n. suc n) (get_or-se
 pub Fills-more : (test : ℕ → Bool) (from before : ℕ) (times : List ℕ) (k v now : ℕ) → k < length times → now ≡ v + 1
     → AreNext test from before times k → IsNextOf test (place from times k) before v
     → (now ≡ place from (set times k v) (k + 1)) × AreNext test from before (set times k v) (k + 1)
-Fills-more test from before times k v now room after each next = (after ∙ sym (place-more from times k v room), AreNext-more test from before times k v room each next)
+Fills-more test from before times k v now room after each next =
+    (after ∙ sym (place-more from times k v room), AreNext-more test from before times k v room each next)

@@ -24,7 +24,8 @@ pub record Converts {A B : Type 0} (f : A → B) (Is : A → Type 0) (asked : Li
   pub all : count < min (length asked) (length answers) → (a : A) × (slice_get asked count ≡ Some a) × (¬ Is a)
 
 -- the bytes are of a zone that converts them so, and the fault is 4 if one is out of bounds
-pub record ConvertsBy {A B : Type 0} (f : ZoneSaid → A → B) (Is : A → Type 0) (zone : List ℕ) (asked : List A) (answers : List B) (count fault : ℕ) : Type 0 where
+pub record ConvertsBy {A B : Type 0} (f : ZoneSaid → A → B) (Is : A → Type 0) (zone : List ℕ) (asked : List A) (answers : List B) (count fault : ℕ) :
+    Type 0 where
   pub said : ZoneSaid
   pub says : zone_by zone ≡ Some said
   pub converts : Converts (f said) Is asked answers count

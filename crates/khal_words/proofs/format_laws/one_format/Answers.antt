@@ -18,7 +18,8 @@ one_name name of back f g e = sym (back f) ∙ ap of e ∙ back g
 
 abbrev entry_fields : List EntryField
 entry_fields =
-    entry.Cell ∷ entry.Title ∷ entry.StartTime ∷ entry.EndTime ∷ entry.StartDate ∷ entry.EndDate ∷ entry.Location ∷ entry.Description ∷ entry.Uid ∷ entry.Cancelled
+    entry.Cell ∷ entry.Title ∷ entry.StartTime ∷ entry.EndTime ∷ entry.StartDate ∷ entry.EndDate ∷ entry.Location ∷ entry.Description ∷ entry.Uid ∷
+    entry.Cancelled
     ∷ entry.StartUnix ∷ entry.EndUnix ∷ []
 
 entry_back : (field : EntryField) → named entry_name entry_fields entry.Token (entry_name field) ≡ field
