@@ -47,7 +47,7 @@ use Rattle.ics_components.specs.declared.builder.Builder.TheVariants as builder
 use Rattle.ics_components.specs.declared.builder.ZoneBuilder.{ZoneBuilder}
 use Rattle.ics_values.specs.Times.{time_in}
 use Rattle.ics_values.specs.Zoned.{is_zoned}
-use Rattle.ics_values.specs.declared.time.Length.TheVariants as length
+use Rattle.ics_values.specs.declared.time.Length.TheVariants as span_length
 use Rattle.ics_values.specs.declared.time.Rdate.{Rdate}
 use Rattle.ics_values.specs.declared.time.Rdate.TheVariants as rdate
 use Rattle.ics_values.specs.declared.time.Time.{Time}
@@ -321,9 +321,9 @@ module _ (P Q : DeferredCheck → Type 0) (w : (check : DeferredCheck) → P che
 
   rdate-weaker : (r : Rdate (List ℕ)) → IsSoundRdate P k r → IsSoundRdate Q k r
   rdate-weaker (rdate.At time) h = time-weaker time h
-  rdate-weaker (rdate.Span start (length.Until end)) h = (time-weaker start h.0, time-weaker end h.1)
-  rdate-weaker (rdate.Span start (length.Lasting duration)) h = (time-weaker start h.0, h.1)
-  rdate-weaker (rdate.Span start length.Open) h = absurd h.1
+  rdate-weaker (rdate.Span start (span_length.Until end)) h = (time-weaker start h.0, time-weaker end h.1)
+  rdate-weaker (rdate.Span start (span_length.Lasting duration)) h = (time-weaker start h.0, h.1)
+  rdate-weaker (rdate.Span start span_length.Open) h = absurd h.1
 
   pub event-weaker : (event : EventFields) → IsSoundEvent P k event → IsSoundEvent Q k event
   event-weaker e s = record {

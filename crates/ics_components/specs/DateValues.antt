@@ -14,7 +14,7 @@ use Rattle.ics_values.specs.declared.stamp.Stamp.TheVariants.{Floating}
 use Rattle.ics_values.specs.declared.stamp.StampFault.{StampFault}
 use Rattle.ics_values.specs.declared.stamp.StampFault.TheVariants as stamp
 use Rattle.ics_components.specs.declared.date_list.DateList.{DateList}
-use Rattle.ics_values.specs.declared.time.Length.TheVariants as length
+use Rattle.ics_values.specs.declared.time.Length.TheVariants as span_length
 use Rattle.ics_values.specs.declared.time.Rdate.{Rdate}
 use Rattle.ics_values.specs.declared.time.Rdate.TheVariants as rdate
 use Rattle.ics_values.specs.Times.{time_in}
@@ -77,8 +77,8 @@ has_large_duration _ = false
 -- what a value says that has no fault, beside a TZID with that name
 abbrev pub rdate_in : Option (List ℕ) → DateValue → Rdate (List ℕ)
 rdate_in zone (At stamp) = rdate.At (time_in zone (stamp_in stamp))
-rdate_in zone (Between start end) = rdate.Span (time_in zone (stamp_in start)) (length.Until (time_in zone (stamp_in end)))
-rdate_in zone (Lasting start duration) = rdate.Span (time_in zone (stamp_in start)) (length.Lasting (duration_in duration))
+rdate_in zone (Between start end) = rdate.Span (time_in zone (stamp_in start)) (span_length.Until (time_in zone (stamp_in end)))
+rdate_in zone (Lasting start duration) = rdate.Span (time_in zone (stamp_in start)) (span_length.Lasting (duration_in duration))
 
 -- the values of a line with these parameters and this value, and the name in its TZID
 abbrev pub list_of : Listing → List ℕ → List ℕ → DateList
@@ -103,7 +103,7 @@ OnePeriod =
 -- a local stamp beside a TZID
 abbrev pub has_zoned : Rdate (List ℕ) → Bool
 has_zoned (rdate.At time) = is_zoned time.stamp
-has_zoned (rdate.Span start (length.Until end)) = is_zoned start.stamp || is_zoned end.stamp
+has_zoned (rdate.Span start (span_length.Until end)) = is_zoned start.stamp || is_zoned end.stamp
 has_zoned (rdate.Span start _) = is_zoned start.stamp
 
 -- the local stamp, read without a TZID, that a value says, if it says one
