@@ -33,6 +33,9 @@ const AHEAD: i64 = 400 * DAY;
 /// How many seconds after an instant spans are held.
 const HELD_AHEAD: i64 = 120 * DAY;
 
+/// After a span that goes on for longer than this, spans are held for the day of an instant alone.
+const A_LONG_SPAN: i64 = 7 * DAY;
+
 /// For so many instants a zone holds spans.
 const HELD: usize = 8;
 
@@ -111,7 +114,7 @@ impl Observed {
         ensures always { result ≡ Ok tt }
     {
         let near = to.clamp(FIRST_HELD, LAST_HELD);
-        self.hold_from(near - DAY, near + HELD_AHEAD);
+        self.hold_from(near - DAY, near + DAY, near + HELD_AHEAD);
         Ok(())
     }
 
@@ -144,21 +147,26 @@ impl Observed {
         }
     }
 
-    // Holds the spans from an instant on and up to another, some at a time.
-    fn hold_from(&mut self, from: Moment, to: Moment)
+    // Holds the spans from an instant on and up to another, some at a time, but only up to an earlier one if a span is long.
+    fn hold_from(&mut self, from: Moment, soon: Moment, to: Moment)
         requires from { IsSearched from }
         requires to { IsSearched to }
+        requires soon { soon ≤ℤ to }
         ensures { self.new ≡ self.old }
     {
         let mut at = from;
+        let mut last = to;
         for _ in 0..self.at_once {
-            if at > to {
+            if at > last {
                 return;
             }
             self.hold(at);
             let Some(held) = self.held_over(at, at) else {
                 return;
             };
+            if held.next > at + A_LONG_SPAN {
+                last = soon;
+            }
             at = held.next;
         }
     }
