@@ -1,3 +1,4 @@
 mod Steps
 mod Held
 mod Instances
+mod Texts

@@ -1,5 +1,6 @@
 -- What the caller hands over, and how it is held.
-use Rattle.std.specs.Prelude.{ℕ, ℤ, List, map, string_bytes}
+use Rattle.std.specs.Prelude.{◌≡◌, ℕ, ℤ, List, map, slice_get, Some, string_bytes}
+use Rattle.std.specs.Str.{IsUtf8}
 use Rattle.khal_ports.specs.declared.memory_source.MemoryFile.{MemoryFile}
 use Rattle.khal_ports.specs.declared.memory_source.MemorySource.{MemorySource}
 use Rattle.khal_ports.specs.declared.memory_zones.MemoryZone.{MemoryZone}
@@ -33,6 +34,16 @@ given_of words files zones zone_file now = record {
   zone_file = zone_file;
   now = now;
 }
+
+abbrev pub names_of : List File → List (List ℕ)
+names_of files = map (λ file. file.0) files
+
+-- one of these texts is not UTF-8
+pub record HasNoText (texts : List (List ℕ)) : Type 0 where
+  pub text : List ℕ
+  pub index : ℕ
+  pub stands : slice_get texts index ≡ Some text
+  pub none : ¬ (IsUtf8 text)
 
 abbrev pub held_file : MemoryFile → File
 held_file file = (string_bytes file.name, file.bytes.items)

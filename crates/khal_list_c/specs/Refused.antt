@@ -1,10 +1,10 @@
 -- Why there is no listing, and what the caller is told.
-use Rattle.std.specs.Prelude.{◌≡◌, ℕ, List, Err, codes, string_bytes}
+use Rattle.std.specs.Prelude.{◌≡◌, ◌⊎◌, ℕ, List, Err, codes, string_bytes}
 use Rattle.khal_list.specs.RequestFaults.{request_fault_name}
 use Rattle.khal_list.specs.declared.request_fault.RequestFault.{RequestFault}
 use Rattle.khal_list.specs.declared.request_fault.RequestFault.TheVariants as request
 use Rattle.khal_list_c.specs.Asked.{RequestBy}
-use Rattle.khal_list_c.specs.Given.{Given}
+use Rattle.khal_list_c.specs.Given.{Given, HasNoText, names_of}
 use Rattle.khal_list_c.specs.Handed.{IsHanded}
 use Rattle.khal_list_c.specs.declared.given.GivenFault.{GivenFault}
 use Rattle.khal_list_c.specs.declared.given.GivenFault.TheVariants as given
@@ -12,10 +12,15 @@ use Rattle.khal_list_c.specs.declared.listing.KhalListed.{KhalListed}
 use Rattle.khal_list_c.specs.declared.listing.ListingFault.{ListingFault}
 use Rattle.khal_list_c.specs.declared.listing.ListingFault.TheVariants as fault
 
+-- a word or the name of a file is not UTF-8
+abbrev pub IsGivenFault : Given → GivenFault → Type 0
+IsGivenFault g given.NotText = HasNoText g.words ⊎ HasNoText (names_of g.files)
+IsGivenFault g given.Memory = Unit {0}
+
 -- a fault of the words is that of the request that they are to be
 abbrev pub IsRefusal : Given → ListingFault → Type 0
 IsRefusal g (fault.Request f) = RequestBy g.zone_file g.words g.now (Err f)
-IsRefusal g (fault.Given f) = Unit {0}
+IsRefusal g (fault.Given f) = IsGivenFault g f
 IsRefusal g fault.Memory = Unit {0}
 
 abbrev pub request_status : RequestFault → ℕ
