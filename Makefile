@@ -11,6 +11,7 @@ INSTALLED_PAGE := $(SHARE)/man/man1/khal-list.1
 INSTALLED_BASH := $(SHARE)/bash-completion/completions/khal-list
 INSTALLED_ZSH := $(SHARE)/zsh/site-functions/_khal-list
 INSTALLED_FISH := $(SHARE)/fish/vendor_completions.d/khal-list.fish
+VERSION := $(shell sed -n 's/^const VERSION: &str = "khal-list \(.*\)";$$/\1/p' crates/khal_list_cli/src/main.rt)
 INSTALLED_EXAMPLES := $(SHARE)/khal-list/examples
 EXAMPLES := room-plate remind-soon rota status-line room-page entries.py
 
@@ -26,7 +27,7 @@ LIBRARY_SOURCES := crates.txt c/khal_list.map $(shell find crates \( -name out -
 INSTALLED_LIBRARY := $(DESTDIR)$(PREFIX)/lib
 INSTALLED_HEADER := $(DESTDIR)$(PREFIX)/include/khal_list.h
 
-.PHONY: run try build lib test check-docs check-faults check-library bench install install-library uninstall clean kit
+.PHONY: run try build lib test check-docs check-faults check-library bench install install-library uninstall dist deb clean kit
 
 # Lists the sample calendars for a fixed week, or whatever ARGS says.
 run: $(PROGRAM)
@@ -75,13 +76,14 @@ bench: $(PROGRAM)
 check-docs: $(PROGRAM)
 	@sh scripts/check-docs $(PROGRAM)
 
-# The program, its manual page, and its completions where the shells look for them, and the library if it has been built.
+# The program, its manual page, its completions where the shells look for them, the example scripts, and the library if it has been built.
 install: $(PROGRAM)
 	@install -D -m 755 $(PROGRAM) $(INSTALLED_PROGRAM)
 	@install -D -m 644 docs/khal-list.1 $(INSTALLED_PAGE)
 	@install -D -m 644 completions/khal-list.bash $(INSTALLED_BASH)
 	@install -D -m 644 completions/_khal-list $(INSTALLED_ZSH)
 	@install -D -m 644 completions/khal-list.fish $(INSTALLED_FISH)
+	@for script in $(EXAMPLES); do install -D -m 755 examples/$$script $(INSTALLED_EXAMPLES)/$$script || exit 1; done
 	@[ ! -e $(LIBRARY) ] || $(MAKE) --no-print-directory install-library
 
 # The library, its header, and where pkg-config looks for it.
@@ -91,14 +93,22 @@ install-library:
 	@ln -sf libkhal_list.so.0 $(INSTALLED_LIBRARY)/libkhal_list.so
 	@install -D -m 644 c/khal_list.h $(INSTALLED_HEADER)
 	@install -d $(INSTALLED_LIBRARY)/pkgconfig
-	@sed 's|@PREFIX@|$(PREFIX)|' c/khal_list.pc.in >$(INSTALLED_LIBRARY)/pkgconfig/khal_list.pc
+	@sed 's|@PREFIX@|$(PREFIX)|; s|@VERSION@|$(VERSION)|' c/khal_list.pc.in >$(INSTALLED_LIBRARY)/pkgconfig/khal_list.pc
 
 uninstall:
 	@rm -f $(INSTALLED_PROGRAM) $(INSTALLED_PAGE) $(INSTALLED_BASH) $(INSTALLED_ZSH) $(INSTALLED_FISH)
+	@cd $(INSTALLED_EXAMPLES) 2>/dev/null && rm -f $(EXAMPLES) && rmdir $(INSTALLED_EXAMPLES) $(SHARE)/khal-list 2>/dev/null || :
 	@rm -f $(INSTALLED_LIBRARY)/libkhal_list.* $(INSTALLED_LIBRARY)/pkgconfig/khal_list.pc $(INSTALLED_HEADER)
 
+# A tarball with a program that needs no kit, and the same as a Debian package.
+dist: $(PROGRAM)
+	@sh scripts/dist tar
+
+deb: $(PROGRAM)
+	@sh scripts/dist deb
+
 clean:
-	@rm -rf bin lib out bench/data crates/*/out
+	@rm -rf bin lib dist out bench/data crates/*/out
 
 kit:
 	@command -v $(RT) >/dev/null || { echo "make: '$(RT)' is not found: install the Rattle kit that the README names and put its bin folder on PATH, or run make RT=/path/to/rt" >&2; exit 1; }

@@ -38,7 +38,7 @@ _khal_list() {
         case $command:$word in
         list:-*) words='--zone --zone-file --zones --limit --after --notstarted --every-day --format --day-format --help' ;;
         at:-*) words='--zone --zone-file --zones --help' ;;
-        :-*) words='--help' ;;
+        :-*) words='--help --version' ;;
         :*) words='list at help' ;;
         help:*) words='list at' ;;
         *)

@@ -16,3 +16,4 @@ complete -c khal-list -n '__fish_seen_subcommand_from list' -l every-day -d 'Lis
 complete -c khal-list -n '__fish_seen_subcommand_from list' -l format -x -a '{cell} {title} {start-time} {end-time} {start-date} {end-date} {location} {description} {uid} {cancelled} {start-unix} {end-unix} {token}' -d 'How an entry is written'
 complete -c khal-list -n '__fish_seen_subcommand_from list' -l day-format -x -a '{name} {date}' -d 'How a heading is written'
 complete -c khal-list -s h -l help -d 'Print help'
+complete -c khal-list -n "not __fish_seen_subcommand_from $commands" -l version -d 'Print the version'

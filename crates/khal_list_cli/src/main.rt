@@ -14,6 +14,9 @@ use std::io::{BufWriter, Stdout};
 use std::process::ExitCode;
 use std::rt::{Clock, Env, Files};
 
+/// The program's name and version, as `--version` prints them.
+const VERSION: &str = "khal-list 0.1.0";
+
 /// How many bytes of a listing are written at a time.
 const PIECE: usize = 8_192;
 
@@ -49,9 +52,21 @@ fn display<R: Files + AllocGlobal>(rt: &R, words: &Words<'_>) -> Result<Display,
     found.map_err(Failure::Request)
 }
 
+/// Whether the one word after the program's name is `--version`.
+fn is_version(own: &[String]) -> bool {
+    own.len() == 2 && own[1].as_str() == "--version"
+}
+
+/// Prints the version.
+fn say_version(rt: &impl Print) -> Result<Status, Failure> {
+    match rt.println(VERSION) {
+        Ok(()) => Ok(Status::Clean),
+        Err(_) => Err(Failure::Write),
+    }
+}
+
 /// The request of the words after the program's name.
-fn request<R: Env + Files + AllocGlobal>(rt: &R, now: i64) -> Result<Request, Failure> {
-    let own = own_words(rt)?;
+fn request<R: Files + AllocGlobal>(rt: &R, own: &[String], now: i64) -> Result<Request, Failure> {
     let mut texts = Vec::new(rt.alloc());
     for word in own.iter().skip(1) {
         texts.push(word.as_str())?;
@@ -104,10 +119,14 @@ fn list(rt: HostRuntime, request: &Request) -> Result<Status, Failure> {
     Ok(status)
 }
 
-/// Lists what the words ask for.
+/// Lists what the words ask for, or prints the version.
 fn list_by_words(rt: HostRuntime) -> Result<Status, Failure> {
+    let own = own_words(&rt)?;
+    if is_version(own.as_slice()) {
+        return say_version(&rt);
+    }
     let now = clock_now(&rt)?;
-    let request = request(&rt, now)?;
+    let request = request(&rt, own.as_slice(), now)?;
     list(rt, &request)
 }
 

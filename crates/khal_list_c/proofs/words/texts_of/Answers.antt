@@ -6,4 +6,5 @@ use Rattle.khal_list_c.proofs.words.texts_of.Goals as goal
 pub returns-in_default-clause-no_text : goal.returns-in_default-clause-no_text
 returns-in_default-clause-no_text c e =
     let low = c.loop-word-test.true in
-    no_word c.args.words.now c.loop-word.word-index _ (slice_get-get_or c.args.words.now c.loop-word.word-index _ (omega (arith, low))) c.in_default.ensures.cases.0
+    no_word c.args.words.now c.loop-word.word-index _
+      (slice_get-get_or c.args.words.now c.loop-word.word-index _ (omega (arith, low))) c.in_default.ensures.cases.0
