@@ -1,10 +1,30 @@
 # fish completion for khal-list
 
+# Whether the command has no folder yet.
+function __khal_list_lacks_folder
+    set -l words (commandline -opc)
+    set -l is_value 0
+    for word in $words[3..]
+        if test $is_value = 1
+            set is_value 0
+            continue
+        end
+        switch $word
+            case --zone --zone-file --zones --limit --after --format --day-format
+                set is_value 1
+            case '-*'
+            case '*'
+                return 1
+        end
+    end
+end
+
 set -l commands list at help
+complete -c khal-list -f
 complete -c khal-list -n "not __fish_seen_subcommand_from $commands" -f -a list -d 'List the events of a window of time'
 complete -c khal-list -n "not __fish_seen_subcommand_from $commands" -f -a at -d 'List what is on at a moment'
 complete -c khal-list -n "not __fish_seen_subcommand_from $commands" -f -a help -d 'Print help'
-complete -c khal-list -n '__fish_seen_subcommand_from list at' -f -a '(__fish_complete_directories)'
+complete -c khal-list -n '__fish_seen_subcommand_from list at; and __khal_list_lacks_folder' -f -a '(__fish_complete_directories)'
 complete -c khal-list -n '__fish_seen_subcommand_from help' -f -a 'list at'
 complete -c khal-list -n '__fish_seen_subcommand_from list at' -l zone -x -a UTC -d 'The time zone'
 complete -c khal-list -n '__fish_seen_subcommand_from list at' -l zone-file -r -F -d 'The time zone of a zone file'
