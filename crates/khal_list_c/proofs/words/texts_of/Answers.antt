@@ -7,4 +7,4 @@ pub returns-in_default-clause-no_text : goal.returns-in_default-clause-no_text
 returns-in_default-clause-no_text c e =
     let low = c.loop-word-test.true in
     no_word c.args.words.now c.loop-word.word-index _
-      (slice_get-get_or c.args.words.now c.loop-word.word-index _ (omega (arith, low))) c.in_default.ensures.cases.0
+    (slice_get-get_or c.args.words.now c.loop-word.word-index _ (omega (arith, low))) c.in_default.ensures.cases.0
