@@ -4,7 +4,7 @@ import resource
 import time
 
 from folders import calendar
-from zones import locals_in, part, zone
+from zones import part, zone
 
 ODD = ','.join(str(number) for number in range(1, 60, 2))
 MONTHS = ','.join(str(month) for month in range(1, 13))
@@ -39,17 +39,6 @@ def skipped(rule):
         part('DAYLIGHT', '20240701T000000', '+0000', '+2359')]
 
 
-def crowd(count, onsets):
-    """So many observances with so many onsets in two days, and as many locals."""
-    times = []
-    for number in range(onsets):
-        second = number * 172_800 // onsets
-        times.append('202407%02dT%02d%02d%02d' % (1 + second // 86_400, second // 3_600 % 24, second // 60 % 60, second % 60))
-    parts = [part('STANDARD', '20240101T000000', '+0000', '%+03d%02d' % (number % 24 - 12, number // 24 % 60), 'RDATE:' + ','.join(times[number::count]))
-             for number in range(count)]
-    return calendar([*zone('crowd', *parts), *locals_in('crowd', times)])
-
-
 LONG = 'DURATION:P36525D'
 ODD_SECONDS = 'FREQ=SECONDLY;INTERVAL=2;BYSECOND=%s;BYMONTH=%s' % (ODD, MONTHS)
 SELDOM = 'FREQ=DAILY;COUNT=4294967295;INTERVAL=1009;BYWEEKNO=1'
@@ -67,7 +56,6 @@ ROWS = [
     ('the same in 9700', lambda: in_zone(ruled(1, SELDOM), '97000701T120000'), ['9700-07-01', '1d'], 1),
     ('seconds of a day that is skipped', lambda: in_zone(skipped('UNTIL=20240630T235900Z'), '20240701T000000', 'RRULE:FREQ=SECONDLY;COUNT=86400'),
      ['2024-06-30', '4d'], 1),
-    ('1,200 observances, 4,800 RDATEs', lambda: crowd(1_200, 4_800), ['2024-06-30', '4d'], 3),
 ]
 
 

@@ -36,10 +36,10 @@ const HELD_AHEAD: i64 = 120 * DAY;
 /// After a span that goes on for longer than this, spans are held for the day of an instant alone.
 const A_LONG_SPAN: i64 = 7 * DAY;
 
-/// For so many instants a zone holds spans.
-const HELD: usize = 8;
+/// The number of spans that a zone holds at most.
+const HELD: usize = 1_024;
 
-/// How many spans are held for one instant, beside one for each RDATE.
+/// How many of them are made for one instant.
 const HELD_AT_ONCE: usize = 128;
 
 /// A zone by observances (RFC 5545, section 3.6.5). It has no table of onsets: it searches the observances near each instant. Contracts see the
@@ -176,7 +176,7 @@ impl Observed {
         requires { IsSearched near }
         ensures { self.new ≡ self.old }
     {
-        if self.held.len() / HELD >= self.at_once || self.held_over(near, near).is_some() {
+        if self.held.len() >= HELD || self.held_over(near, near).is_some() {
             return;
         }
         let Some(steady) = self.steady_about(near) else {
@@ -467,16 +467,14 @@ fn least_ago(onsets: &[Onsets]) -> i64 {
 
 // How many spans are held for one instant: two, if an observance is counted.
 fn spans_at_once(observances: &[Observance]) -> usize {
-    let mut spans = HELD_AT_ONCE;
     for observance in observances {
         if let Some(parts) = &observance.rule {
             if parts.count().is_some() {
                 return 2;
             }
         }
-        spans = spans.saturating_add(observance.rdates.len());
     }
-    spans
+    HELD_AT_ONCE
 }
 
 // The offsets before and after the onsets, each of them once, the greatest first.
