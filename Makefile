@@ -26,8 +26,10 @@ LIBRARY := lib/libkhal_list.so.0
 LIBRARY_SOURCES := crates.txt c/khal_list.map $(shell find crates \( -name out -o -name khal_list_rows -o -name khal_list_cli \) -prune -o $(FILES))
 INSTALLED_LIBRARY := $(DESTDIR)$(PREFIX)/lib
 INSTALLED_HEADER := $(DESTDIR)$(PREFIX)/include/khal_list.h
+INSTALLED_FOLDERS := $(dir $(INSTALLED_PROGRAM) $(INSTALLED_PAGE) $(INSTALLED_BASH) $(INSTALLED_ZSH) $(INSTALLED_FISH)) $(INSTALLED_EXAMPLES) \
+    $(INSTALLED_LIBRARY)/pkgconfig $(dir $(INSTALLED_HEADER))
 
-.PHONY: run try build lib test check-docs check-faults check-library bench install install-library uninstall dist deb clean kit
+.PHONY: run try build lib check test check-docs check-faults check-library bench install install-library uninstall dist deb clean kit
 
 # Lists the sample calendars for a fixed week, or whatever ARGS says.
 run: $(PROGRAM)
@@ -78,6 +80,7 @@ check-docs: $(PROGRAM)
 
 # The program, its manual page, its completions where the shells look for them, the example scripts, and the library if it has been built.
 install: $(PROGRAM)
+	@sh scripts/writable $(INSTALLED_FOLDERS)
 	@install -D -m 755 $(PROGRAM) $(INSTALLED_PROGRAM)
 	@install -D -m 644 docs/khal-list.1 $(INSTALLED_PAGE)
 	@install -D -m 644 completions/khal-list.bash $(INSTALLED_BASH)
@@ -88,6 +91,7 @@ install: $(PROGRAM)
 
 # The library, its header, and where pkg-config looks for it.
 install-library:
+	@sh scripts/writable $(INSTALLED_LIBRARY) $(dir $(INSTALLED_HEADER))
 	@install -D -m 644 lib/libkhal_list.a $(INSTALLED_LIBRARY)/libkhal_list.a
 	@install -D -m 755 $(LIBRARY) $(INSTALLED_LIBRARY)/libkhal_list.so.0
 	@ln -sf libkhal_list.so.0 $(INSTALLED_LIBRARY)/libkhal_list.so
@@ -96,6 +100,7 @@ install-library:
 	@sed 's|@PREFIX@|$(PREFIX)|; s|@VERSION@|$(VERSION)|' c/khal_list.pc.in >$(INSTALLED_LIBRARY)/pkgconfig/khal_list.pc
 
 uninstall:
+	@sh scripts/writable $(INSTALLED_FOLDERS)
 	@rm -f $(INSTALLED_PROGRAM) $(INSTALLED_PAGE) $(INSTALLED_BASH) $(INSTALLED_ZSH) $(INSTALLED_FISH)
 	@cd $(INSTALLED_EXAMPLES) 2>/dev/null && rm -f $(EXAMPLES) && rmdir $(INSTALLED_EXAMPLES) $(SHARE)/khal-list 2>/dev/null || :
 	@rm -f $(INSTALLED_LIBRARY)/libkhal_list.* $(INSTALLED_LIBRARY)/pkgconfig/khal_list.pc $(INSTALLED_HEADER)
