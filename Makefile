@@ -1,4 +1,4 @@
-# khal list. The commands are `make try`, `make run` and `make test`; the README says more.
+# khal list. The commands are `make try`, `make run`, `make check` and `make test`; the README says more.
 
 RT ?= rt
 PREFIX ?= /usr/local
@@ -38,6 +38,10 @@ run: $(PROGRAM)
 # The same by a program that is built with no proof.
 try: kit
 	@RT=$(RT) sh scripts/try $(ARGS)
+
+# Worked examples, faults and pages, by programs that are built with no proof.
+check: kit
+	@RT=$(RT) sh scripts/check
 
 build: $(PROGRAM)
 
