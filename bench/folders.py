@@ -121,6 +121,13 @@ def many_weekly(count):
         yield '%05d.ics' % number, text.replace(b'UID:0', b'UID:%d' % number)
 
 
+def described(files, count):
+    """So many files, each with so many events that have a DESCRIPTION, of 16 MB if it has 10,000."""
+    for number in range(files):
+        text = [line for at in range(count) for line in event(number * count + at, 'DESCRIPTION:' + 'text ' * 290)]
+        yield '%02d.ics' % number, calendar(text)
+
+
 def many_zoned(count):
     for number in range(count):
         yield '%05d.ics' % number, zoned([number])
@@ -133,6 +140,7 @@ ROWS = [
     ('the same, all listed', lambda: [('a.ics', events(range(10_000)))], ['2024-01-01', '2026-12-31']),
     ('10,000 files of one event', lambda: many(10_000), ['2024-01-05', '1d']),
     ('the same, one of ten bad', lambda: many(10_000, 10), ['2024-01-05', '1d']),
+    ('200,000 events in 320 MB', lambda: described(20, 10_000), ['2024-01-05', '1d']),
     ('16 MiB without folds', lambda: [('a.ics', filled(b'X-NOTE;X-KIND=a:' + b'text ' * 11 + b'\r\n'))],
      ['2024-01-01', '1d']),
     ('16 MiB, a fold in each line', lambda: [('a.ics', filled(b'X-NOTE;X-KIND=a:' + b'text ' * 5 + b'\r\n '
@@ -145,6 +153,11 @@ ROWS = [
     ('100 zones, a window in 2500', lambda: many_weekly(100), ['2500-01-05', '7d']),
     ('10,000 zoned events in one file', lambda: [('a.ics', zoned(range(10_000)))], ['2024-01-05', '1d']),
     ('2,000 files with a zone of their own', lambda: many_zoned(2_000), ['2024-01-05', '1d']),
+    ('2,000 files without one', lambda: many(2_000), ['2024-01-05', '1d']),
+    ('366,000 entries of 1,000 daily rules', lambda: [('a.ics', recurring(1_000, '200001%02dT%02d%02d00Z', 'FREQ=DAILY'))],
+     ['2024-01-01', '366d']),
+    ('the same, with a limit', lambda: [('a.ics', recurring(1_000, '200001%02dT%02d%02d00Z', 'FREQ=DAILY'))],
+     ['2024-01-01', '366d', '--limit', '366000']),
     ('one minutely rule since 2000', lambda: [('a.ics', recurring(1, '200001%02dT%02d%02d00Z', 'FREQ=MINUTELY'))],
      ['2024-01-05', '1d']),
     ('a minutely rule, a window in 2500', lambda: [('a.ics', recurring(1, '200001%02dT%02d%02d00Z', 'FREQ=MINUTELY'))],
