@@ -76,7 +76,7 @@ check-library: $(LIBRARY)
 # Seconds and peak memory over folders that a generator writes, and the rules of the library, if it has been built.
 bench: $(PROGRAM)
 	@python3 bench/bench.py $(PROGRAM)
-	@[ ! -e $(LIBRARY) ] || sh bench/library
+	@if [ -e $(LIBRARY) ]; then sh bench/library; else echo 'Not measured, because make lib has not built it: the library.'; fi
 
 # README, page, completions and examples against the program.
 check-docs: $(PROGRAM)

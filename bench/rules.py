@@ -49,6 +49,7 @@ def measured(make, asked):
 
 
 def main():
+    ratios = []
     print(f'{"rule":28} {"found":>6} {"khal_list":>12} {"dateutil":>12} {"ratio":>8}')
     for name, start, rule, asked in CASES:
         first = datetime.strptime(start, '%Y%m%dT%H%M%S')
@@ -57,7 +58,12 @@ def main():
         if rrulestr:
             other, theirs = measured(lambda: rrulestr(rule, dtstart=first), asked)
             row += f' {theirs:9.1f} us {theirs / ours:8.1f}' + ('' if found == other else '  other instances')
+            ratios.append(theirs / ours)
         print(row, flush=True)
+    if ratios:
+        print(f'From Python, khal_list takes these rules {min(ratios):.1f} to {max(ratios):.1f} times as fast as dateutil.')
+    else:
+        print('Not measured, because it is not installed: dateutil.')
 
 
 main()
