@@ -52,11 +52,13 @@ decide (Some fault) later said = Err fault
 decide None (Some fault) said = Err fault
 decide None None said = Ok said
 
+-- WHAT SOME LINES SAY, read as a file of their own.
+abbrev pub lines_say : GivenFiles → List Placed → Result FileSaid Fault
+lines_say files lines = decide (first_fault lines) (later_fault files lines) (said_of files lines)
+
 -- WHAT A FILE IS, as it computes.
 abbrev pub file_of : GivenFiles → List ℕ → Result FileSaid Fault
-file_of files file =
-    if begins_with_fold file then Err bad_fold
-    else decide (first_fault (placed file)) (later_fault files (placed file)) (said_of files (placed file))
+file_of files file = if begins_with_fold file then Err bad_fold else lines_say files (placed file)
 
 -- none, where a fault of the first round stands
 abbrev pub wanted_on : Option Fault → List Placed → List (List ℕ)

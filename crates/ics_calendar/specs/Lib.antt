@@ -10,6 +10,7 @@ pub use Rattle.ics_components.specs.Observances
 pub use Rattle.ics_components.specs.Faults
 pub use Rattle.ics_components.specs.FirstFault
 pub use Rattle.ics_components.specs.PartFaults
+pub use Rattle.ics_components.specs.EventLines
 pub use Rattle.ics_components.specs.Builders
 pub mod GivenFiles
 pub mod DeferredChecks
@@ -21,3 +22,4 @@ pub mod Files
 pub mod Settled
 pub mod ZoneTables
 pub mod UnresolvedFiles
+pub mod Parts

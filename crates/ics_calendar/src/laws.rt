@@ -1,5 +1,5 @@
 //! Laws of the definitions that the contract of `read_file` cites.
-ghost use Rattle.std.specs.Prelude.{◌≡◌, ◌≢◌, List, ℕ, Result, Err};
+ghost use Rattle.std.specs.Prelude.{◌≡◌, ◌≢◌, ◌∷◌, [], false, List, ℕ, Result, Ok, Err};
 ghost use Rattle.std.specs.List.{All};
 ghost use Rattle.ics_components.specs.declared.fault.FaultKind.{FaultKind};
 ghost use Rattle.ics_components.specs.DateValues.{OnePeriod};
@@ -9,6 +9,7 @@ ghost use Rattle.ics_components.specs.declared.fault.Fault.{Fault};
 ghost use Rattle.ics_calendar.specs.GivenFiles.{GivenFiles, no_files};
 ghost use Rattle.ics_calendar.specs.Files.{FaultsLookBack, IsFile, file_of, wanted_names};
 ghost use Rattle.ics_components.specs.PlacedLines.{Placed};
+ghost use Rattle.ics_calendar.specs.Parts.{file_gives, is_parted, nothing_said};
 ghost use Rattle.ics_calendar.specs.Wanted.{zones_with};
 ghost use Rattle.ics_calendar.specs.Zones.{zones_on};
 
@@ -49,4 +50,13 @@ pub fn only_wanted_files_count()
 /// PERIOD.
 pub fn one_period()
     ensures { OnePeriod }
+{}
+
+/// A file that is accepted gives all its events where a listing goes on behind faults, and no fault is named; one that is refused
+/// and has no parts gives none, and its first fault is named.
+pub fn accepted_files_give_all()
+    ensures accepted { (files : GivenFiles) (name file : List ℕ) (said : FileSaid) → file_of files file ≡ Ok said
+        → file_gives files name file ≡ record { said = said; faults = [] } }
+    ensures refused { (files : GivenFiles) (name file : List ℕ) (fault : Fault) → file_of files file ≡ Err fault → is_parted file ≡ false
+        → file_gives files name file ≡ record { said = nothing_said; faults = fault ∷ [] } }
 {}

@@ -14,8 +14,8 @@ mod zone_table;
 pub use ics_components::{FaultKind, FileFault};
 pub use ics_event::{Event, FileEvents, Length, Rdate, Text, Time};
 pub use laws::{
-    faults_look_back, files_are_one_thing, one_period, only_wanted_files_count, parts_stand_alone,
-    without_zone_files,
+    accepted_files_give_all, faults_look_back, files_are_one_thing, one_period,
+    only_wanted_files_count, parts_stand_alone, without_zone_files,
 };
 pub use read::read_file;
 pub use unknown_zones::wanted;

@@ -7,6 +7,7 @@ pub mod DateValues
 pub mod Faults
 pub mod FirstFault
 pub mod PartFaults
+pub mod EventLines
 pub mod Observances
 pub mod SecondRound
 pub mod Builders

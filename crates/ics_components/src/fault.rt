@@ -76,8 +76,8 @@ impl From<AllocError> for FileFault {
     }
 }
 
-/// A fault and the number of its line.
-#[derive(Clone, Copy)]
+/// A fault and the number of its line. Faults are ordered by their lines, and on one line by their kinds.
+#[derive(Clone, Copy, PartialEq, Eq, PartialOrd, Ord)]
 pub struct Fault {
     pub line: u64,
     pub kind: FaultKind,

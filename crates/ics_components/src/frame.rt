@@ -5,6 +5,7 @@ ghost use Rattle.ics_components.specs.ParsedFiles.{and_line};
 ghost use Rattle.ics_components.specs.SecondRound.{zone_check};
 ghost use Rattle.ics_components.specs.Lines.{Keeps, Notes, is_mark, line_fault, end_fault, is_of, joined, line_result, ended_as, end_check};
 ghost use Rattle.ics_components.specs.Lines.{builder_note, builder_zone};
+ghost use Rattle.ics_components.specs.Pass.{bottom};
 
 use crate::builder::Builder;
 use crate::component::Component;
@@ -14,6 +15,7 @@ use crate::parsed_file::{CalendarEvent, ClosedComponent, LineResult, ParsedFile}
 use crate::refused::Refused;
 use crate::tzid::Tzids;
 use ics_text::Content;
+use ics_values::Text;
 use std::alloc::Global;
 
 /// A component that is open: which one, and what has been read of it.
@@ -26,6 +28,17 @@ pub struct Frame {
 }
 
 impl Frame {
+    /// What stands below all components.
+    pub fn bottom(alloc: Global) -> Frame
+        ensures { result ≡ bottom }
+    {
+        Frame {
+            component: Component::Other(Text::new(alloc)),
+            calendar: 0,
+            builder: Builder::Elsewhere,
+        }
+    }
+
     /// One line more that begins and ends no component. The check that it leaves to the second round is added with the number of the line.
     ///
     /// A check takes much room, so this stands apart from `Stack::line`, which passes without it what is not read.

@@ -1,5 +1,5 @@
 //! The observances of a time zone (RFC 5545, section 3.6.5).
-ghost use Rattle.std.specs.Prelude.{false};
+ghost use Rattle.std.specs.Prelude.{◌≡◌, false, IfOk};
 ghost use Rattle.ics_components.specs.DateValues.{values_of};
 ghost use Rattle.ics_components.specs.declared.date_values.Listing.TheVariants.{Rdate};
 ghost use Rattle.ics_components.specs.Faults as reading;
@@ -14,7 +14,7 @@ use crate::refused::Refused;
 use crate::rule_value::RuleValue;
 use crate::tzid::Tzid;
 use ics_values::Local;
-use std::alloc::Global;
+use std::alloc::{AllocError, Global};
 use std::marker::Model;
 
 /// An observance that has ended: DTSTART, TZOFFSETFROM and TZOFFSETTO in seconds, RRULE, and the values of its RDATEs (RFC 5545, section 3.6.5).
@@ -49,4 +49,40 @@ pub fn read_locals(alloc: Global, text: &[u8]) -> Result<Listed<Local>, Refused>
         values.push(local)?;
     }
     Ok(Listed { values })
+}
+
+/// The same observances, in other memory.
+pub fn copied_observances(
+    alloc: Global,
+    observances: &Listed<ClosedObservance>,
+) -> Result<Listed<ClosedObservance>, AllocError>
+    ensures { IfOk result (λ copies. copies ≡ observances.now) }
+{
+    let mut values = Vec::with_capacity(alloc, observances.values.len())?;
+    for observance in &observances.values {
+        values.push(copied_observance(alloc, observance)?)?;
+    }
+    Ok(Listed { values })
+}
+
+fn copied_observance(
+    alloc: Global,
+    observance: &ClosedObservance,
+) -> Result<ClosedObservance, AllocError>
+    ensures { IfOk result (λ copy. copy ≡ observance.now) }
+{
+    let rule = match &observance.rule {
+        Some(rule) => Some(rule.copied(alloc)?),
+        None => None,
+    };
+    let rdates = Listed {
+        values: Vec::from_slice(alloc, &observance.rdates.values)?,
+    };
+    Ok(ClosedObservance {
+        start: observance.start,
+        offset_from: observance.offset_from,
+        offset_to: observance.offset_to,
+        rule,
+        rdates,
+    })
 }

@@ -1,5 +1,5 @@
 //! What an RRULE says (RFC 5545, section 3.8.5.3).
-ghost use Rattle.std.specs.Prelude.{◌≡◌};
+ghost use Rattle.std.specs.Prelude.{◌≡◌, IfOk};
 ghost use Rattle.ics_values.specs.Rules.{rule_of};
 ghost use Rattle.ics_components.specs.Faults.{Rule};
 ghost use Rattle.ics_components.specs.Lines.{Gives, misread, unfit};
@@ -9,7 +9,7 @@ ghost use Rattle.ics_components.specs.Observances.{daily_in};
 use crate::fault::FaultKind;
 use crate::refused::Refused;
 use ics_values::{Frequency, Parts, read_rule};
-use std::alloc::Global;
+use std::alloc::{AllocError, Global};
 use std::marker::Model;
 
 /// The rule of an RRULE. It has a place of its own in memory: a rule takes ten times the room of any other value, and
@@ -34,6 +34,14 @@ impl RuleValue {
     {
         let parts = read_rule(value)?;
         let parts = Box::new(alloc, parts)?;
+        Ok(RuleValue { parts })
+    }
+
+    /// The same rule, in other memory.
+    pub(crate) fn copied(&self, alloc: Global) -> Result<RuleValue, AllocError>
+        ensures { IfOk result (λ copy. copy ≡ self.now) }
+    {
+        let parts = Box::new(alloc, *self.parts)?;
         Ok(RuleValue { parts })
     }
 

@@ -1,5 +1,7 @@
 //! The components that are open.
 ghost use Rattle.std.specs.Prelude.{◌≡◌, ◌∷◌, [], IfOk};
+ghost use Rattle.ics_components.specs.declared.builder.Builder.TheVariants as builder;
+ghost use Rattle.ics_components.specs.declared.component.Component.TheVariants as component;
 ghost use Rattle.ics_components.specs.declared.name.Name.TheVariants.{Begin, End};
 ghost use Rattle.ics_components.specs.ParsedFiles.{and_line};
 ghost use Rattle.ics_components.specs.Lines.{Keeps, fault_on, behind, closed, passing};
@@ -15,13 +17,12 @@ use crate::parsed_file::ParsedFile;
 use crate::refused::Refused;
 use crate::tzid::Tzids;
 use ics_text::Content;
-use ics_values::Text;
-use std::alloc::Global;
+use std::alloc::{AllocError, Global};
 use std::marker::Model;
 use std::mem;
 
 /// How many components may be open.
-const MAX_DEPTH: usize = 32;
+pub const MAX_DEPTH: usize = 32;
 
 /// The components that are open, seen as a list of them with the innermost first, and a frame below them all.
 #[derive(Drop)]
@@ -46,14 +47,25 @@ impl Stack {
         ensures { result ≡ bottom ∷ [] }
     {
         Stack {
-            top: Frame {
-                component: Component::Other(Text::new(alloc)),
-                calendar: 0,
-                builder: Builder::Elsewhere,
-            },
+            top: Frame::bottom(alloc),
             outer: Vec::new(alloc),
             tzids: Tzids::new(alloc),
         }
+    }
+
+    /// A calendar is open that begins on the line with that number, and nothing in it.
+    pub fn restart(&mut self, alloc: Global, number: u64) -> Result<(), AllocError>
+        ensures { IfOk result (λ _. self.new ≡ record { component = component.Calendar; calendar = number; builder = builder.Calendar } ∷ bottom ∷ []) }
+    {
+        let mut outer = Vec::new(alloc);
+        outer.push(Frame::bottom(alloc))?;
+        self.outer = outer;
+        self.top = Frame {
+            component: Component::Calendar,
+            calendar: number,
+            builder: Builder::Calendar,
+        };
+        Ok(())
     }
 
     /// Whether no component is open.

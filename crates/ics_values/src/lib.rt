@@ -33,7 +33,7 @@ pub use part_name::is_word;
 pub use period::{Period, PeriodEnd, PeriodFault, read_period};
 pub use rule_law::{absent_is_empty, rule_says};
 pub use rule_text::{RuleFault, read_rule};
-pub use stamp::{Stamp, StampFault, read_stamp};
+pub use stamp::{Stamp, StampFault, is_local_form, read_stamp};
 pub use text::text_bytes;
 pub use text_value::Text;
 pub use time::{Length, Rdate, Time};

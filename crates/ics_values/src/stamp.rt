@@ -50,7 +50,8 @@ fn is_date_form(text: &[u8]) -> bool
     text.len() == 8 && are_digits(text)
 }
 
-fn is_local_form(text: &[u8]) -> bool
+/// Whether the text has the form of a local time.
+pub fn is_local_form(text: &[u8]) -> bool
     ensures { result ≡ is_local_form text.now }
 {
     text.len() == 15
