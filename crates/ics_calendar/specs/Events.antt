@@ -40,4 +40,5 @@ event_of index calendar had = record {
   location = unwrap_or had.location [];
   description = unwrap_or had.description [];
   cancelled = unwrap_or had.cancelled false;
+  url = unwrap_or had.url [];
 }

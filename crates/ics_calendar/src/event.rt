@@ -150,5 +150,6 @@ pub fn event_of(alloc: Global, table: &ZoneTable, ended: CalendarEvent) -> Resul
         location: text_in(alloc, fields.location),
         description: text_in(alloc, fields.description),
         cancelled: fields.cancelled.unwrap_or(false),
+        url: text_in(alloc, fields.url),
     })
 }

@@ -42,6 +42,7 @@ collected_of lines = record {
   location = first_text name.Location lines;
   description = first_text name.Description lines;
   cancelled = option_map (λ line. is_cancelled (value line)) (first_named name.Status lines);
+  url = option_map value (first_named name.Url lines);
 }
 
 -- a time zone whose observances are these

@@ -133,6 +133,7 @@ event_property name.Summary c = property.Title (text_of c.value)
 event_property name.Location c = property.Location (text_of c.value)
 event_property name.Description c = property.Description (text_of c.value)
 event_property name.Status c = property.Cancelled (is_cancelled c.value)
+event_property name.Url c = property.Url c.value
 event_property _ c = property.Other
 
 -- the first of several counts
@@ -150,6 +151,7 @@ with_property (property.Title text) had = record had { title = option_or had.tit
 with_property (property.Location text) had = record had { location = option_or had.location (Some text) }
 with_property (property.Description text) had = record had { description = option_or had.description (Some text) }
 with_property (property.Cancelled cancelled) had = record had { cancelled = option_or had.cancelled (Some cancelled) }
+with_property (property.Url url) had = record had { url = option_or had.url (Some url) }
 with_property property.Other had = had
 
 abbrev pub property_zone : ℕ → Property → Option ZoneName

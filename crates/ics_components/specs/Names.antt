@@ -19,8 +19,8 @@ first_words =
 abbrev pub other_words : List (List ℕ × Name)
 other_words =
     (codes "EXRULE", name.Exrule) ∷ (codes "VERSION", name.Version) ∷ (codes "SUMMARY", name.Summary) ∷ (codes "LOCATION", name.Location)
-    ∷ (codes "DESCRIPTION", name.Description) ∷ (codes "STATUS", name.Status) ∷ (codes "TZID", name.Tzid) ∷ (codes "TZOFFSETFROM", name.OffsetFrom)
-    ∷ (codes "TZOFFSETTO", name.OffsetTo) ∷ []
+    ∷ (codes "DESCRIPTION", name.Description) ∷ (codes "STATUS", name.Status) ∷ (codes "URL", name.Url) ∷ (codes "TZID", name.Tzid)
+    ∷ (codes "TZOFFSETFROM", name.OffsetFrom) ∷ (codes "TZOFFSETTO", name.OffsetTo) ∷ []
 
 -- what a name in upper case stands for
 abbrev pub name_of : List ℕ → Name
@@ -44,6 +44,7 @@ same_name name.Summary name.Summary = true
 same_name name.Location name.Location = true
 same_name name.Description name.Description = true
 same_name name.Status name.Status = true
+same_name name.Url name.Url = true
 same_name name.Tzid name.Tzid = true
 same_name name.OffsetFrom name.OffsetFrom = true
 same_name name.OffsetTo name.OffsetTo = true

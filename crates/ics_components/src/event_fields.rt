@@ -36,6 +36,7 @@ pub struct EventFields {
     pub location: Option<Text>,
     pub description: Option<Text>,
     pub cancelled: Option<bool>,
+    pub url: Option<Text>,
 }
 
 /// Keeps a value, if there is none before it.
@@ -70,6 +71,7 @@ impl EventFields {
             location: None,
             description: None,
             cancelled: None,
+            url: None,
         }
     }
 
@@ -130,6 +132,7 @@ impl EventFields {
             Property::Location(text) => keep_first(&mut self.location, text),
             Property::Description(text) => keep_first(&mut self.description, text),
             Property::Cancelled(cancelled) => keep_first(&mut self.cancelled, cancelled),
+            Property::Url(url) => keep_first(&mut self.url, url),
             Property::Other => {}
         }
         Ok(())

@@ -25,6 +25,7 @@ pub enum Name {
     Location,
     Description,
     Status,
+    Url,
     Tzid,
     OffsetFrom,
     OffsetTo,
@@ -85,6 +86,8 @@ fn other_name_of(name: &[u8]) -> Name
         Name::Description
     } else if is_called(name, b"STATUS") {
         Name::Status
+    } else if is_called(name, b"URL") {
+        Name::Url
     } else if is_called(name, b"TZID") {
         Name::Tzid
     } else if is_called(name, b"TZOFFSETFROM") {

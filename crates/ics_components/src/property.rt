@@ -36,6 +36,7 @@ pub enum Property {
     Location(Text),
     Description(Text),
     Cancelled(bool),
+    Url(Text),
     /// One that is not read.
     Other,
 }
@@ -49,6 +50,13 @@ fn sequence(value: &[u8]) -> Result<u32, Refused>
         Err(IntegerFault::NotDigits) => Ok(0),
         Err(IntegerFault::NumberTooLarge) => Err(Refused::Fault(FaultKind::NumberTooLarge)),
     }
+}
+
+/// A value that is no TEXT, as it stands.
+fn verbatim(alloc: Global, value: &[u8]) -> Result<Text, AllocError>
+    ensures { IfOk result (λ text. text ≡ value.now) }
+{
+    Ok(Text::of(Vec::from_slice(alloc, value)?))
 }
 
 impl Property {
@@ -80,6 +88,7 @@ impl Property {
             Name::Location => Property::Location(Text::of_value(alloc, value)?),
             Name::Description => Property::Description(Text::of_value(alloc, value)?),
             Name::Status => Property::Cancelled(is_word(value, b"CANCELLED")),
+            Name::Url => Property::Url(verbatim(alloc, value)?),
             _ => Property::Other,
         })
     }

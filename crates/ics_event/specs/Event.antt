@@ -44,6 +44,7 @@ pub record EventSeen : Type 0 where
   pub location : List ℕ
   pub description : List ℕ
   pub cancelled : Bool
+  pub url : List ℕ
 
 -- WHAT A FILE SAYS: its time zones, and its events, each in the order of their BEGIN lines.
 pub record FileSaid : Type 0 where

@@ -27,6 +27,8 @@ pub struct Event {
     pub description: Text,
     /// Whether its STATUS is `CANCELLED`.
     pub cancelled: bool,
+    /// The value of its first URL as it stands, or the empty text (RFC 5545, section 3.8.4.6).
+    pub url: Text,
 }
 
 impl Model for Event {
@@ -47,6 +49,7 @@ impl Model for Event {
       location = a.location;
       description = a.description;
       cancelled = a.cancelled;
+      url = a.url;
     } };
 
     ghost invariant = { λ a. IsEvent (record {
@@ -62,5 +65,6 @@ impl Model for Event {
       location = a.location;
       description = a.description;
       cancelled = a.cancelled;
+      url = a.url;
     }) };
 }
