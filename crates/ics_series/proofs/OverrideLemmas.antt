@@ -220,7 +220,7 @@ module _ (uid : List ℕ) (versions behind : List Version) (place : ℕ) (order 
       subst (λ vs. IsBefore version_cmp own.0 vs × Rises version_cmp vs) (sym rest) (behind-rises version_cmp version_total versions place own.0 order own.1)
 
   -- what is found of them is all that is overridden, and is sorted
-  overridden-all : (instants : List ℤ) → instants ≡ found uid behind → AreOverridden uid (map seen versions) instants
+  pub overridden-all : (instants : List ℤ) → instants ≡ found uid behind → AreOverridden uid (map seen versions) instants
   overridden-all instants e t =
       let listing = found-listing uid behind behind-master.1 in
       same-test (list_any (λ x. int_eq x t) instants) (is_named (instance uid t) (map seen versions))

@@ -311,11 +311,3 @@ module _ (files : List FileSaid) (display : Clock) (w : Window) (after : Option 
       → IsListing entry_cmp (IsToCome files display w after) come
       → (list : List Entry) × IsListing entry_cmp (IsListed files display w) list × (come ≡ after_key after list)
   behind-key {come = come} whole h = (whole.0, whole.1, listing-after_key files display w after whole.0 come whole.1 h)
-
--- there is the whole listing
-pub whole-parts : {files : List FileSaid} {display : Clock} {vs : List Version} (w : Window) → AreChosen files display vs →
-    (lists : List (List Entry)) × AreLists files display w None (map seen vs) lists
-    → (list : List Entry) × IsListing entry_cmp (IsListed files display w) list
-whole-parts {files = files} {display = display} {vs = vs} w chosen lists =
-    let singles = singles-whole files display w vs chosen in
-    (merged entry_cmp (singles.0 ∷ lists.0), parts-listing files display w None vs chosen singles.0 singles.1 lists.0 lists.1)

@@ -1,6 +1,6 @@
 -- Which versions cannot meet a window, known from their spans, and near which days nothing is.
 use Rattle.std.proofs.Common.{◌≡◌, ℕ, ℤ, pos, ◌+ℤ◌, ◌-ℤ◌, ◌<ℤ◌, ◌≤ℤ◌, List, [], ◌∷◌, map, inl, inr, ⊎_elim, Option, Some, None, Bool, true, false, refl, sym}
-use Rattle.std.proofs.Common.{◌∙◌, ap, suc, ◌+◌, ◌<◌, ◌++◌, length, drop, get_or, add-one, drop-cons}
+use Rattle.std.proofs.Common.{◌∙◌, ap, ◌+◌, ◌<◌, ◌++◌, length, drop, get_or, add-one, drop-cons}
 use Rattle.std.proofs.Common.{subst, arith, int_lt, int_le, slice_get, option_map, option_and_then, if◌then◌else◌, Ordering, ◌⊎◌}
 use Rattle.std.specs.Int.{int_max, int_min}
 use Rattle.std.specs.List.{AllByRecursion, filter_map}
@@ -249,16 +249,6 @@ module _ (from : ℤ) where
           let same = ap (λ (v : Span). v.last) e in
           let less = int_le_false from x.last t in
           inl (omega (arith, ints, less, same))
-
--- one span further on
-pub first-step : (from least : ℤ) {next : ℤ} (xs : List Span) (k : ℕ) {s : Span} → k < length xs → s ≡ get_or xs k s →
-    next ≡ (if int_le from s.last then int_min least s.first else least)
-    → first_of from next (drop (k + 1) xs) ≡ first_of from least (drop k xs)
-first-step from least xs k {s = s} l e n =
-    let front : drop k xs ≡ s ∷ drop (suc k) xs = drop-cons xs k s l ∙ ap (λ x. x ∷ drop (suc k) xs) (sym e) in
-    ap (λ t. first_of from t (drop (k + 1) xs)) n
-    ∙ (ap (λ i. first_of from (if int_le from s.last then int_min least s.first else least) (drop i xs)) (add-one k)
-    ∙ sym (ap (first_of from least) front))
 
 -- The day from which on something can be: near the days before it nothing is.
 module _ (w : Window) (spans : List Span) {day first reached next : ℤ} (low : first_near w ≤ℤ day) (most : next ≤ℤ last_near w)

@@ -1,31 +1,44 @@
 -- What is known of the files of a folder once the versions of their events are listed.
 use Rattle.std.proofs.Common.{◌≡◌, ℕ, zero, suc, ◌+◌, ◌<◌, true, false, List, [], ◌∷◌, map, filter, Option, Some, None, is_none, option_map, inl, inr, ⊎_elim}
-use Rattle.std.proofs.Common.{refl, sym, ◌∙◌, ap, subst, arith, slice_get, IfSome, FitsSigned, w64}
+use Rattle.std.proofs.Common.{refl, sym, ◌∙◌, ap, subst, arith, slice_get, IfSome, FitsSigned, w64, add-one, drop, length, take, ◌++◌, ◌≤◌}
+use Rattle.std.proofs.lemmas.Bool.{cases_Bool}
 use Rattle.std.proofs.lemmas.Int.{ints}
-use Rattle.std.proofs.lemmas.Option.{slice_get-map}
+use Rattle.std.proofs.lemmas.Option.{slice_get-get_or, slice_get-map}
 use Rattle.hex.specs.Hex.{IsBytes}
 use Rattle.ics_values.specs.declared.stamp.Stamp.{Stamp}
 use Rattle.ics_values.specs.declared.stamp.Stamp.TheVariants.{Utc, Zoned}
 use Rattle.ics_zone.specs.ZoneSaid.{zone_said}
 use Rattle.ics_zone.specs.declared.display.Display.{Display}
 use Rattle.ics_zone.specs.declared.zone.ZoneKind.{ZoneKind}
-use Rattle.ics_event.specs.Event.{said_by, stamp_seconds, FileSaid, IsTime}
+use Rattle.ics_event.specs.Event.{said_by, stamp_seconds, FileSaid, IsEvent, IsTime}
 use Rattle.ics_event.specs.declared.events.FileEvents.{FileEvents}
 use Rattle.ics_event.specs.Event.{Time}
 use Rattle.ics_series.specs.declared.version.Version.{Version}
 use Rattle.ics_series.specs.Chosen.{IsChosen, IsMaster}
-use Rattle.ics_series.specs.Clocks.{clock_by, display_clock, instant, Clock, Clocks}
-use Rattle.ics_series.specs.Entry.{rank_of, Entry}
-use Rattle.ics_series.specs.Listing.{IsListing}
+use Rattle.ics_series.specs.Clocks.{clock_by, clocks_of, display_clock, instant, Clock, Clocks}
+use Rattle.ics_series.specs.Entry.{entry_cmp, rank_of, Entry}
+use Rattle.ics_series.specs.Listing.{IsIn, IsListing}
 use Rattle.ics_series.specs.Occurs.{Occurs}
 use Rattle.ics_series.specs.PlacedEvents.{clocks_at, zones_in, IsPlaced, Placed}
 use Rattle.ics_series.specs.Starts.{time_of}
 use Rattle.ics_series.specs.Tokens.{IsKey}
-use Rattle.ics_series.specs.Versions.{by_subject, AreChosen}
+use Rattle.ics_series.specs.Versions.{by_subject, label_of, seen, subject_seen, AreChosen, Label}
+use Rattle.ics_series.specs.Masters.{HasLists, IsOfVersion, Recurs}
+use Rattle.ics_series.specs.Meets.{IsListed}
+use Rattle.ics_series.specs.Merged.{merged}
+use Rattle.ics_series.specs.Singles.{is_single}
+use Rattle.ics_series.specs.Spots.{event_at}
+use Rattle.ics_series.specs.declared.window.Window.{Window}
+use Rattle.ics_series.specs.declared.zones.FileZones.{FileZones}
 use Rattle.ics_series.specs.Whole.{AreRead, AreReadIn, IsReadEvent}
 use Rattle.ics_series.proofs.Cases.{below-or-last, mapped-some, some-same}
 use Rattle.ics_series.proofs.InstantLemmas.{near-at, near-display, near-utc, written, IsNearClock}
-use Rattle.ics_series.proofs.ListingLemmas.{listing-filter}
+use Rattle.ics_series.proofs.ListingLemmas.{get-in, listing-filter}
+use Rattle.ics_series.proofs.OverrideLemmas.{any_version, chosen-order, found, overridden-all}
+use Rattle.ics_series.proofs.RecurringLemmas.{not-single, own, own-event, own-subject, whole-version, IsRead}
+use Rattle.ics_series.proofs.SinglesLemmas.{parts-listing, singles-whole}
+use Rattle.ics_series.proofs.SourceLemmas.{lists-none, versions-all, versions-more, versions-skip}
+use Rattle.ics_series.proofs.VersionLemmas.{in-map, map-in, placed-event}
 use Rattle.ics_series.proofs.StartSourceLemmas.{gives-value, rdate-time}
 
 -- the events of one file more
@@ -91,3 +104,59 @@ module _ (files : List FileEvents) (display : Display) where
         recurrence = subst (FitsSigned w64) (sym given.2) (fits m.override.file given.0 time);
         uid = subst (λ e. IsBytes e.uid) (sym m.of.event) event.uid;
       }
+
+-- All that meets a window has a listing.
+module _ (files : List FileEvents) (display : Display) {vs : List Version} (chosen : AreChosen (map said_by files) (display_clock display) vs)
+    (read : AreRead (map said_by files)) (w : Window) where
+  abbrev said : List FileSaid
+  said = map said_by files
+
+  abbrev clock : Clock
+  clock = display_clock display
+
+  abbrev HasListsTo : ℕ → Type 0
+  HasListsTo n = (lists : List (List Entry)) × HasLists said clock w None (map seen (take n vs)) [] lists
+
+  -- a version whose event recurs has a list
+  list-of : (i : ℕ) {v : Version} → slice_get vs i ≡ Some v → Recurs said (seen v) →
+      (list : List Entry) × IsListing entry_cmp (IsOfVersion said clock w None (seen v)) list
+  list-of i {v = v} there r =
+      let stands = map-in seen v vs (get-in v vs i there) in
+      let placed = own chosen stands r in
+      let uid = r.event.uid in
+      let zones = zones-said files v.spot.file in
+      let file : FileZones = record { display = record { ref_ptr = (0, 0); now = display }; zones = record { ref_ptr = (0, 0); now = zones.0 } } in
+      let is : IsRead said clock vs (seen v) r.event file (found uid (drop (suc i) vs)) = record {
+        clocks = ap (clocks_of clock) (sym zones.1);
+        is_event = subst IsEvent (own-event chosen stands r) (read placed.0 ((chosen.listing.exact placed.0).0 placed.1).placed).is_event;
+        overridden = overridden-all uid vs (drop (suc i) vs) i (chosen-order chosen)
+            (ap (option_map (λ (x : Version). subject_seen x.subject)) there ∙ ap Some (own-subject chosen stands r)) refl
+            (found uid (drop (suc i) vs)) refl;
+      } in
+      whole-version chosen stands r is w
+
+  list-more : (i : ℕ) {v : Version} → slice_get vs i ≡ Some v → HasListsTo i → HasListsTo (i + 1)
+  list-more i {v = v} there before =
+      let placed = in-map (label_of said clock) (seen v) chosen.chosen
+      (subst (IsIn (seen v)) chosen.are (map-in seen v vs (get-in v vs i there))) in
+      let event = placed.0.event in
+      let at : event_at said v.spot ≡ Some event =
+      ap (λ (l : Label). event_at said l.spot) placed.2 ∙ placed-event said placed.0 ((chosen.listing.exact placed.0).0 placed.1).placed in
+      ⊎_elim
+      (λ once. (before.0, versions-skip vs i there before.1 (not-single {u = v} refl at once) refl))
+      (λ recurs.
+      let own = list-of i there (record { event = event; stands = at; recurs = recurs }) in
+      (before.0 ++ own.0 ∷ [], versions-more vs i there before.1 own.1 refl))
+      (cases_Bool (is_single event))
+
+  lists-to : (n : ℕ) → n ≤ length vs → HasListsTo n
+  lists-to zero l = ([], lists-none [])
+  lists-to (suc n) l =
+      subst HasListsTo (add-one n) (list-more n (slice_get-get_or vs n any_version (omega arith)) (lists-to n (omega arith)))
+
+  pub whole : (list : List Entry) × IsListing entry_cmp (IsListed said clock w) list
+  whole =
+      let singles = singles-whole said clock w vs chosen in
+      let lists = lists-to (length vs) (omega arith) in
+      let all = versions-all vs (length vs) (omega arith) lists.1 in
+      (merged entry_cmp (singles.0 ∷ all.more), parts-listing said clock w None vs chosen singles.0 singles.1 all.more all.are)

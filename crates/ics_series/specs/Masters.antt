@@ -1,5 +1,5 @@
 -- The lists of the versions that count and whose events recur, one for each.
-use Rattle.std.specs.Prelude.{◌≡◌, ◌<ℤ◌, ◌≤ℤ◌, ◌++◌, ℕ, ℤ, int_le, false, List, map, Option, Some, None}
+use Rattle.std.specs.Prelude.{◌≡◌, ◌<ℤ◌, ◌≤ℤ◌, ◌++◌, ℕ, ℤ, int_le, false, List, map, Option, Some}
 use Rattle.std.specs.List.{AllByRecursion}
 use Rattle.ics_event.specs.Event.{FileSaid}
 use Rattle.ics_event.specs.declared.event.Event.{Event}
@@ -36,10 +36,6 @@ abbrev pub IsSince : Option Rank → List ℕ → ℤ → Type 0
 IsSince after uid since =
     (o : Entry) → o.event.uid ≡ uid → o.recurrence ≡ o.start → occurrence_first ≤ℤ o.start → o.start <ℤ window_last
     → is_after after o ≡ int_le since o.start
-
--- the occurrences of a version that meet the window have a list, whatever the key
-abbrev pub HasWhole : List FileSaid → Clock → Window → Label → Type 0
-HasWhole files display w label = (list : List Entry) × IsListing entry_cmp (IsOfVersion files display w None label) list
 
 -- the list is that of the occurrences to come of one of these versions
 pub record IsOneOf (files : List FileSaid) (display : Clock) (w : Window) (after : Option Rank) (labels : List Label) (list : List Entry) : Type 0 where

@@ -26,7 +26,6 @@ ghost use Rattle.ics_series.specs.Tokens.{IsKey};
 ghost use Rattle.ics_series.specs.Uids.{AreSortedFrom};
 ghost use Rattle.ics_series.specs.Spans.{AreSpans};
 ghost use Rattle.ics_series.specs.Versions.{seen, subject_cmp, subject_seen, AreChosen};
-ghost use Rattle.ics_series.specs.declared.window.Window.{Window};
 
 use crate::chosen::{chosen, is_named};
 use crate::feed::{Coming, Feed};
@@ -105,36 +104,18 @@ impl<'a> Agenda<'a> {
             (⟦<Agenda<'a> as Coming>⟧.coming agenda)) }
         ensures sources { IfOk result (λ agenda. AreSources (map said_by files.entry.now) (display_clock display.entry.now) window
             (option_map (λ key. key_rank key.now) after.entry) (⟦<Agenda<'a> as Coming>⟧.sources agenda)) }
-        ensures whole { IfOk result (λ _. (w : Window) → (list : List Entry)
-            × IsListing entry_cmp (IsListed (map said_by files.entry.now) (display_clock display.entry.now) w) list) }
     {
         let parts = parts(alloc, files, display, chosen, spans, marks, window, after)?;
         let merge = Merge::of_sorted(alloc, parts, 1)?;
         Ok(Agenda { merge })
     }
 
-    // An agenda with nothing to come. That the files have listings is known from their feeds, none of
-    // which is read.
-    pub(crate) fn ended(
-        alloc: Global,
-        files: &'a [FileEvents],
-        display: &'a Display,
-        chosen: &[Version<'_>],
-        window: Window,
-    ) -> Result<Agenda<'a>, AllocError>
-        requires { AreChosen (map said_by files.now) (display_clock display.now) chosen.now }
+    // An agenda with nothing to come.
+    pub(crate) fn ended(alloc: Global) -> Result<Agenda<'a>, AllocError>
         ensures none { IfOk result (λ agenda. ⟦<Agenda<'a> as Coming>⟧.coming agenda ≡ []) }
         ensures sources { IfOk result (λ agenda. ⟦<Agenda<'a> as Coming>⟧.sources agenda ≡ []) }
-        ensures whole { IfOk result (λ _. (w : Window) → (list : List Entry)
-            × IsListing entry_cmp (IsListed (map said_by files.entry.now) (display_clock display.entry.now) w) list) }
     {
-        let spans = Vec::new(alloc);
-        let mut marks = Vec::new(alloc);
-        let mut parts = parts(
-            alloc, files, display, chosen, &spans, &mut marks, window, None,
-        )?;
-        parts.clear();
-        let merge = Merge::new(alloc, parts)?;
+        let merge = Merge::new(alloc, Vec::new(alloc))?;
         Ok(Agenda { merge })
     }
 
@@ -185,8 +166,6 @@ fn parts<'a>(
         (merged entry_cmp (map part_coming parts.items))) }
     ensures sources { IfOk result (λ parts. AreSources (map said_by files.entry.now) (display_clock display.entry.now) window
         (option_map (λ key. key_rank key.now) after.entry) (flat_map part_sources parts.items)) }
-    ensures whole { IfOk result (λ _. (w : Window) → (list : List Entry)
-        × IsListing entry_cmp (IsListed (map said_by files.entry.now) (display_clock display.entry.now) w) list) }
     ensures sorted { IfOk result (λ parts. AreSortedFrom 1 (map part_coming parts.items)) }
 {
     let singles = Singles::new(alloc, files, display, chosen, spans, &window, after)?;

@@ -1,5 +1,5 @@
 //! The listing of a window under each day.
-ghost use Rattle.std.specs.Prelude.{◌≡◌, ◌⊎◌, ◌≤◌, ◌+◌, ◌-◌, ◌^◌, ◌≤ℤ◌, ◌<ℤ◌, ◌+ℤ◌, ℕ, ℤ, pos, false, length, min};
+ghost use Rattle.std.specs.Prelude.{◌≡◌, ◌⊎◌, ◌≤◌, ◌+◌, ◌-◌, ◌^◌, ◌≤ℤ◌, ◌<ℤ◌, ℕ, ℤ, false, length, min};
 ghost use Rattle.std.specs.Prelude.{List, [], map, IfOk, IfSome, OnErr, OnOk, None};
 ghost use Rattle.std.specs.Prelude.{int_le, if◌then◌else◌};
 ghost use Rattle.std.specs.Int.{int_min};
@@ -11,11 +11,10 @@ ghost use Rattle.ics_series.specs.OnDays.{day_key_rank, day_rank_of, first_near,
 ghost use Rattle.ics_series.specs.OnDays.{GivesOnDay, IsOnDay, OnDay};
 ghost use Rattle.ics_series.specs.DaySteps.{agenda_holds, agenda_looked, agenda_sources, day_and_start, masters_in, scope_by, scope_in, AreDayMasters};
 ghost use Rattle.ics_series.specs.DaySteps.{AreMasters, IsNearAgenda, IsPastAgenda, begin_day, HasDaysBound, IsLookedBefore};
-ghost use Rattle.ics_series.specs.Entry.{entry_cmp, key_rank, Entry};
+ghost use Rattle.ics_series.specs.Entry.{key_rank};
 ghost use Rattle.ics_series.specs.HeldMost.{held_most};
 ghost use Rattle.ics_series.specs.Listing.{IsIn, IsListing};
 ghost use Rattle.ics_series.specs.Marks.{marks-prop, AreMarks};
-ghost use Rattle.ics_series.specs.Meets.{IsListed};
 ghost use Rattle.ics_series.specs.PlacedEvents.{Placed};
 ghost use Rattle.ics_series.specs.SpanLaws.{spans-set, those-chosen-prop, AreThoseChosen};
 ghost use Rattle.ics_series.specs.Spans.{can_meet, first_of, span_at};
@@ -146,11 +145,9 @@ impl<'a> Days<'a> {
         ensures agenda { IfOk result (λ agenda. IsNearAgenda (map said_by files.entry.now) (display_clock display.entry.now) window.now day
             (option_map (λ key. key_rank key.now) key.entry) (agenda_coming agenda) (agenda_sources agenda)
             ⊎ IsPastAgenda window.now day (agenda_coming agenda) (agenda_sources agenda)) }
-        ensures whole { IfOk result (λ _. (w : Window) → (list : List Entry)
-            × IsListing entry_cmp (IsListed (map said_by files.entry.now) (display_clock display.entry.now) w) list) }
     {
         if last_near(window) < day {
-            return Agenda::ended(alloc, files, display, versions, *window);
+            return Agenda::ended(alloc);
         }
         let near = near_day(window, day);
         Agenda::of(alloc, files, display, versions, spans, marks, near, key)

@@ -1,14 +1,14 @@
 //! The masters that recur, each of them as a feed.
-ghost use Rattle.std.specs.Prelude.{◌≡◌, ◌<◌, [], ◌∷◌, length, map, slice_get, IfOk, List, MatchOption, None, Some};
+ghost use Rattle.std.specs.Prelude.{◌≡◌, ◌<◌, [], ◌∷◌, length, map, slice_get, IfOk, MatchOption, Some};
 ghost use Rattle.std.specs.List.{flat_map};
 ghost use Rattle.std.specs.Option.{option_map};
 ghost use Rattle.ics_event.specs.Event.{said_by};
 ghost use Rattle.ics_event.specs.declared.event.Event.{Event};
 ghost use Rattle.ics_series.specs.Clocks.{display_clock};
-ghost use Rattle.ics_series.specs.Entry.{Entry, entry_cmp, key_rank};
+ghost use Rattle.ics_series.specs.Entry.{entry_cmp, key_rank};
 ghost use Rattle.ics_series.specs.Listing.{IsListing};
 ghost use Rattle.ics_series.specs.Marks.{AreMarks, IsMarkOf};
-ghost use Rattle.ics_series.specs.Masters.{AreLists, HasLists, HasSources, HasWhole, IsOfVersion, IsSince, IsSourceOf, Recurs};
+ghost use Rattle.ics_series.specs.Masters.{HasLists, HasSources, IsOfVersion, IsSince, IsSourceOf, Recurs};
 ghost use Rattle.ics_series.specs.AgendaParts.{part_coming, part_sources};
 ghost use Rattle.ics_series.specs.SeriesFeed.{series_sources};
 ghost use Rattle.ics_series.specs.Singles.{is_single};
@@ -17,7 +17,6 @@ ghost use Rattle.ics_series.specs.Sources.Source.{Of};
 ghost use Rattle.ics_series.specs.Spans.{AreSpans};
 ghost use Rattle.ics_series.specs.Spots.{event_at};
 ghost use Rattle.ics_series.specs.Versions.{seen, AreChosen};
-ghost use Rattle.ics_series.specs.declared.window.Window.{Window};
 
 use crate::feed::Coming;
 use crate::key::Key;
@@ -59,8 +58,6 @@ pub(crate) fn push_series<'a>(
     ensures sources { IfOk result (λ _. HasSources (map said_by files.entry.now) (display_clock display.entry.now) window
         (option_map (λ key. key_rank key.now) after.entry) (map seen chosen.entry.now)
         (flat_map part_sources parts.old.items) (flat_map part_sources parts.new.items)) }
-    ensures whole { IfOk result (λ _. (w : Window) → (lists : List (List Entry))
-        × AreLists (map said_by files.entry.now) (display_clock display.entry.now) w None (map seen chosen.entry.now) lists) }
 {
     for place in 0..chosen.len() {
         if is_out(spans, place, &window) {
@@ -100,8 +97,6 @@ fn series_at<'a>(
     ensures sources { (version : Version) → slice_get chosen.entry.now place ≡ Some version → IfOk result (λ given. MatchOption given (Unit {0})
         (λ series. (m : Recurring) × IsSourceOf (map said_by files.entry.now) (display_clock display.entry.now) window
         (option_map (λ key. key_rank key.now) after.entry) (seen version) m × (series_sources series ≡ Of m ∷ []))) }
-    ensures whole { (version : Version) → slice_get chosen.entry.now place ≡ Some version → IfOk result (λ _. (w : Window)
-        → HasWhole (map said_by files.entry.now) (display_clock display.entry.now) w (seen version)) }
 {
     let version = chosen[place];
     let event = version.spot.event(files);

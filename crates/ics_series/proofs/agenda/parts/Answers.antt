@@ -4,7 +4,7 @@ use Rattle.ics_series.specs.declared.part.Part.TheVariants as part
 use Rattle.ics_series.specs.Clocks.{display_clock}
 use Rattle.ics_series.specs.Entry.{key_rank}
 use Rattle.ics_series.specs.AgendaParts.{part_coming}
-use Rattle.ics_series.proofs.SinglesLemmas.{pushed-listing, whole-parts}
+use Rattle.ics_series.proofs.SinglesLemmas.{pushed-listing}
 use Rattle.ics_series.proofs.UidLemmas.{parts-sorted}
 use Rattle.ics_series.proofs.SourceLemmas.{sources-behind}
 use Rattle.ics_series.proofs.agenda.parts.Goals as goal
@@ -22,7 +22,6 @@ returns c =
     record {
       sources = sources-behind chosen sources;
       listing = pushed-listing files display c.args.window after singles chosen c.in_ok-singles.ensures pushed;
-      whole = λ w. whole-parts w chosen (c.in_ok-push_series.ensures.whole w);
       marks = c.push_series.ensures.marks;
       sorted = parts-sorted c.push_series.new.parts.items sources.more sources.behind sources.rises;
     }

@@ -26,7 +26,6 @@ loop-place-init c = record {
   lists = lists-none (map part_coming c.args.parts.now.items);
   sources = sources-none (flat_map part_sources c.args.parts.now.items);
   marks = c.requires.marks;
-  whole = λ w. ([], lists-none []);
 }
 
 pub loop-place-preserved : goal.loop-place-preserved
@@ -76,9 +75,6 @@ loop-place-preserved c =
                 subst (AreMarks (map said_by c.args.files.now) (map seen c.args.chosen.now)) (sym (ap (λ (p : Vec (Option Mark) Global). p.items) w.marks-is))
                 c.loop-place.invariant.marks
           ];
-      whole = λ w.
-          let whole = c.in_ok-series.ensures.whole v there w in
-          let lists = c.loop-place.invariant.whole w in (lists.0 ++ whole.0 ∷ [], versions-more vs k there lists.1 whole.1 refl);
     }
 
 pub loop-place-preserved-then-is_out : goal.loop-place-preserved-then-is_out
@@ -95,7 +91,6 @@ loop-place-preserved-then-is_out c =
       lists = versions-skip vs k there c.loop-place.invariant.lists none refl;
       sources = sources-skip c.requires.chosen k there c.loop-place.invariant.sources refl;
       marks = c.loop-place.invariant.marks;
-      whole = λ w. let lists = c.loop-place.invariant.whole w in (lists.0, versions-skip vs k there lists.1 none refl);
     }
 
 pub series_at-requires-clause-mark : goal.series_at-requires-clause-mark
@@ -109,10 +104,6 @@ returns c =
       lists = versions-all c.args.chosen.now c.loop-place.place c.loop-place-test.false c.loop-place.invariant.lists;
       sources = sources-all c.requires.chosen c.loop-place.place c.loop-place-test.false c.loop-place.invariant.sources;
       marks = c.loop-place.invariant.marks;
-      whole = λ w.
-          let lists = c.loop-place.invariant.whole w in
-          let whole = versions-all c.args.chosen.now c.loop-place.place c.loop-place-test.false lists.1 in
-          (whole.more, whole.are);
     }
 
 pub series_at-requires-clause-chosen : goal.series_at-requires-clause-chosen

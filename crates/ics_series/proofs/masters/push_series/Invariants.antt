@@ -1,16 +1,15 @@
-use Rattle.std.proofs.Common.{List, [], None, map, take, option_map}
+use Rattle.std.proofs.Common.{map, take, option_map}
 use Rattle.std.specs.List.{flat_map}
 use Rattle.ics_event.specs.Event.{said_by}
-use Rattle.ics_series.specs.declared.window.Window.{Window}
 use Rattle.ics_series.specs.Clocks.{display_clock}
-use Rattle.ics_series.specs.Entry.{Entry, key_rank}
+use Rattle.ics_series.specs.Entry.{key_rank}
 use Rattle.ics_series.specs.Marks.{AreMarks}
 use Rattle.ics_series.specs.Masters.{HasLists, HasSources}
 use Rattle.ics_series.specs.AgendaParts.{part_coming, part_sources}
 use Rattle.ics_series.specs.Versions.{seen}
 use Rattle.ics_series.proofs.masters.push_series.Given as goal
 
--- the lists of the versions so far have been added, their whole lists exist, and the marks are those of the versions
+-- the lists of the versions so far have been added, and the marks are those of the versions
 abbrev pub invariant-loop-place : goal.invariant-loop-place
 invariant-loop-place l = record {
   lists :
@@ -20,6 +19,4 @@ invariant-loop-place l = record {
       HasSources (map said_by l.files) (display_clock l.display) l.window (option_map (λ key. key_rank key.now) l.after) (map seen (take l.place l.chosen))
       (flat_map part_sources l.initial.parts.items) (flat_map part_sources l.parts.items);
   marks : AreMarks (map said_by l.files) (map seen l.chosen) l.marks.items;
-  whole : (w : Window) → (lists : List (List Entry))
-      × HasLists (map said_by l.files) (display_clock l.display) w None (map seen (take l.place l.chosen)) [] lists;
 }

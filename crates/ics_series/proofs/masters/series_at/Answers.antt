@@ -1,4 +1,4 @@
-use Rattle.std.proofs.Common.{◌≡◌, ◌∙◌, rules, [], get_or, map, Some, None, w64, to_z, of_z, refl, sym, ap, subst, option_map}
+use Rattle.std.proofs.Common.{◌≡◌, ◌∙◌, rules, get_or, map, Some, None, w64, to_z, of_z, refl, sym, ap, subst, option_map}
 use Rattle.std.proofs.lemmas.Option.{get_or_from_slice_get, slice_get-get_or}
 use Rattle.ics_event.specs.Event.{said_by, IsEventOf}
 use Rattle.ics_event.specs.declared.event.Event.{Event}
@@ -9,11 +9,9 @@ use Rattle.ics_series.specs.Masters.{Recurs}
 use Rattle.ics_series.specs.Sources.{IsFrom}
 use Rattle.ics_series.specs.Versions.{seen, subject_seen}
 use Rattle.ics_series.specs.FileZones.{clocks_in}
-use Rattle.ics_series.specs.Entry.{entry_cmp}
-use Rattle.ics_series.proofs.OnDayLemmas.{none-listed}
 use Rattle.ics_series.proofs.VersionLemmas.{map-in, stands}
 use Rattle.ics_series.proofs.OverrideLemmas.{any_version, chosen-order}
-use Rattle.ics_series.proofs.RecurringLemmas.{IsRead, not-single, own-subject, series-listing, whole-version}
+use Rattle.ics_series.proofs.RecurringLemmas.{IsRead, not-single, own-subject, series-listing}
 use Rattle.ics_series.proofs.ListingLemmas.{get-in}
 use Rattle.ics_series.proofs.ZoneLemmas.{own-event}
 use Rattle.ics_series.proofs.masters.series_at.Goals as goal
@@ -28,12 +26,6 @@ returns-then-is_single c = record {
   series = λ version there.
       not-single (get_or_from_slice_get c.args.chosen.now c.args.place version any_version there) c.event-event.ensures.event
       (sym c.is_single.ensures ∙ c.if-is_single.true);
-  whole = λ version there w. (
-    [],
-    none-listed entry_cmp (λ o h.
-        not-single (get_or_from_slice_get c.args.chosen.now c.args.place version any_version there) c.event-event.ensures.event
-        (sym c.is_single.ensures ∙ c.if-is_single.true) h.by),
-  );
 }
 
 pub overridden_instants-requires-clause-order : goal.overridden_instants-requires-clause-order
@@ -100,6 +92,4 @@ returns c =
             }),
         c.in_ok-series.ensures.sources,
       );
-      whole = λ version there w.
-          rw (← get_or_from_slice_get c.args.chosen.now c.args.place version any_version there) (whole-version c.requires.chosen stands r read w);
     }

@@ -5,10 +5,9 @@ use Rattle.ics_series.specs.Clocks.{display_clock}
 use Rattle.ics_series.specs.Entry.{key_rank}
 use Rattle.ics_series.specs.Marks.{AreMarks}
 use Rattle.ics_series.specs.Versions.{seen}
-use Rattle.ics_series.proofs.Cases.{if-both}
 use Rattle.ics_series.proofs.MarkLemmas.{no-marks}
 use Rattle.ics_series.proofs.SinglesLemmas.{behind-key}
-use Rattle.ics_series.proofs.WholeLemmas.{keys}
+use Rattle.ics_series.proofs.WholeLemmas.{keys, whole}
 use Rattle.ics_series.proofs.agenda.Agenda.new.Goals as goal
 
 pub of-requires-clause-chosen : goal.of-requires-clause-chosen
@@ -25,9 +24,10 @@ of-requires-clause-marks c =
 pub returns : goal.returns
 returns c = record {
   listing = c.of.ensures.listing;
-  behind = if-both c.of.result _ _ (λ agenda whole listing.
+  behind = IfOk-weaker c.of.result _ _ (λ agenda listing.
       behind-key (map said_by c.args.files.now) (display_clock c.args.display.now) c.args.window (option_map (λ key. key_rank key.now) c.args.after)
-      (whole c.args.window) listing) c.of.ensures.whole c.of.ensures.listing;
+      (whole c.args.files.now c.args.display.now c.in_ok-chosen.ensures.chosen c.in_ok-chosen.ensures.read c.args.window) listing)
+      c.of.ensures.listing;
   keys = IfOk-weaker c.of.result _ _ (λ agenda listing. keys c.args.files.now c.args.display.now c.in_ok-chosen.ensures.read) c.of.ensures.listing;
   sources = c.of.ensures.sources;
 }

@@ -6,7 +6,6 @@ pub returns : goal.returns
 returns c = record {
   sources = rw c.in_ok-merge.ensures.sources c.in_ok-parts.ensures.sources;
   listing = rw (← c.in_ok-merge.ensures.coming) at c.in_ok-parts.ensures.listing;
-  whole = c.in_ok-parts.ensures.whole;
   marks = c.parts.ensures.marks;
 }
 

@@ -11,7 +11,7 @@ use Rattle.ics_series.specs.Versions.{seen}
 use Rattle.ics_series.proofs.AheadLemmas.{begun-ahead, begun-by, day-keys, first-masters, from-start}
 use Rattle.ics_series.proofs.MarkLemmas.{marks-none}
 use Rattle.ics_series.proofs.SpanLemmas.{those-chosen}
-use Rattle.ics_series.proofs.WholeLemmas.{keys, masters-listed}
+use Rattle.ics_series.proofs.WholeLemmas.{keys, masters-listed, whole}
 use Rattle.ics_series.proofs.days.Days.new.Goals as goal
 
 pub agenda_of-requires-clause-marks : goal.agenda_of-requires-clause-marks
@@ -24,7 +24,7 @@ returns c =
     let display = display_clock c.args.display.now in
     let after = option_map (λ key. day_key_rank key.now) c.args.after in
     let key = option_map (λ key. key_rank key.now) c.begin-day.result.1 in
-    let xs = c.in_ok-agenda.ensures.whole c.args.window in
+    let xs = whole c.args.files.now c.args.display.now c.in_ok-versions.ensures.chosen c.in_ok-versions.ensures.read c.args.window in
     let fits : to_z w32 (of_z w32 c.begin-day.result.0) ≡ c.begin-day.result.0 = search rules in
     let begins = rw (← fits) at c.begin-day.ensures.begins in
     let begun = begun-ahead files display (offset_near c.args.display.now) c.args.window after (to_z w32 (of_z w32 c.begin-day.result.0)) key begins
