@@ -1,7 +1,7 @@
 -- What a run has done once every file is read and the lines of those that are not listed are written.
 use Rattle.std.proofs.Common.{◌≡◌, ◌≢◌, ◌⊎◌, inl, inr, ℕ, List, [], Option, Some, None, append-nil, refl, sym, ap, ◌∙◌, subst, arith}
 use Rattle.std.specs.Prelude.{◌↔◌}
-use Rattle.std.specs.Io.KnownBytes.{Appends}
+use Rattle.std.specs.Io.KnownBytes.{Appends, Keeps}
 use Rattle.std.specs.Option.{option_copied, option_map}
 use denote.Ref.{Bor}
 use Rattle.ics_event.specs.Event.{FileSaid}
@@ -36,6 +36,21 @@ use Rattle.khal_ports.proofs.Written.{appends-both, appends-none, appends-same, 
 -- the whole of a text is a front of it
 pub whole-front : {told new : Option (List ℕ)} {text : List ℕ} → Appends told new text → TookFront told new text
 whole-front {text = text} h = written-front (record { done = text; taken = h; whole_is = append-nil text })
+
+-- what stays as it was has what was added before
+keeps-added : (told middle new : Option (List ℕ)) (text : List ℕ) → Appends told middle text → Keeps middle new → Appends told new text
+keeps-added None middle new text h k = tt
+keeps-added (Some bytes) (Some more) (Some all) text h k = k ∙ h
+keeps-added told middle new text h k = absurd assumption
+
+-- a text that is shown is shown once the output is flushed, and in part if that fails
+module _ (shows : List ℕ → Option (List ℕ) → Type 0) (told middle new token : Option (List ℕ)) (some : Shown shows told middle token)
+    (kept : Keeps middle new) where
+  pub shown-kept : Shown shows told new token
+  shown-kept = (some.0, some.1, keeps-added told middle new some.0 some.2 kept)
+
+  pub part-kept : ShownInPart shows told new
+  part-kept = inr (some.0, token, some.1, whole-front (keeps-added told middle new some.0 some.2 kept))
 
 -- the key that is lent
 copied-key : {K R : Type 0} (rank : K → R) (lent : Option (Bor K)) (key : Option K) → option_copied lent ≡ key →

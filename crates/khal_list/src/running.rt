@@ -1,9 +1,10 @@
 //! A whole run: files, errors and the listing.
-ghost use Rattle.std.specs.Prelude.{◌≡◌, ◌⊎◌, IfOk, OnErr, IsErrOf, map};
+ghost use Rattle.std.specs.Prelude.{◌≡◌, ◌⊎◌, Ok, Err, IfOk, OnOk, OnErr, IsErrOf, map};
 ghost use Rattle.std.specs.Option.{option_map};
 ghost use Rattle.std.specs.String.{string_bytes};
 ghost use Rattle.ics_event.specs.Event.{said_by};
-ghost use Rattle.khal_ports.specs.Growth.{LeftByFault};
+ghost use Rattle.khal_ports.specs.declared.fault.SinkFault.TheVariants.{Device};
+ghost use Rattle.khal_ports.specs.Growth.{LeftByFault, LeftByFlush};
 ghost use Rattle.khal_list.specs.Headline.{Lists, Shown, ShownInPart, Shows, ShowsDays, ShowsOnce, Stops};
 
 use crate::every_day::EveryDay;
@@ -12,7 +13,7 @@ use crate::printing::{print, print_days};
 use crate::request::Request;
 use ics_event::FileEvents;
 use ics_series::{DayToken, Folder, Token};
-use khal_ports::{RunFault, Sink, Source, ZoneSource, put_all};
+use khal_ports::{RunFault, Sink, Source, ZoneSource, flush_all, put_all};
 use khal_reading::{Status, read_all};
 use std::alloc::Global;
 
@@ -99,13 +100,33 @@ fn list<O: Sink>(
     list_folder(alloc, &folder, request, out)
 }
 
+/// The same, and flushes `out` at its end.
+fn list_whole<O: Sink>(
+    alloc: Global,
+    files: Vec<FileEvents>,
+    request: &Request,
+    out: &mut O,
+) -> Result<Option<String>, RunFault>
+    ensures ok { IfOk result (λ token. Shown (Shows (map said_by files.items) request.now)
+        (O.taken out.old) (O.taken out.new) (option_map string_bytes token)) }
+    ensures flushed { OnOk result (LeftByFlush O.flushes (Ok tt) out.new) }
+    ensures err { OnErr result (ShownInPart (Shows (map said_by files.items) request.now)
+        (O.taken out.old) (O.taken out.new)) }
+    ensures cause { IsErrOf result RunFault.WriteFault
+        → LeftByFault O.puts out.new ⊎ LeftByFlush O.flushes (Err Device) out.new }
+{
+    let token = list(alloc, files, request, out)?;
+    flush_all(out)?;
+    Ok(token)
+}
+
 /// Reads each file of the source once, in order, and asks `zones` for the names that they want and no
 /// VTIMEZONE defines, for each once in a run. A file is not read if one of its zone files is not. Writes to
 /// `err` a line for each file that is not read or is refused, and then to `out` the listing of the others:
 /// each of their occurrences that meets the request's window once, in the order of start, UID and
 /// recurrence, or if the request asks for it under each of its days there, by day and then in that order;
-/// of these those after the request's key, up to its limit. If the limit cuts them, the last line on `err`
-/// says where the listing continues.
+/// of these those after the request's key, up to its limit. Behind it `out` is flushed. If the limit cuts
+/// them, then the last line on `err` says where the listing continues.
 ///
 /// WriteFault comes only if an output failed, or was given bytes and took none.
 pub fn run<S: Source, Z: ZoneSource, O: Sink, E: Sink>(
@@ -124,13 +145,14 @@ pub fn run<S: Source, Z: ZoneSource, O: Sink, E: Sink>(
         (record { names = S.names source.old; source = source.old; source_after = source.new; zones = zones.old; zones_after = zones.new })
         request.now
         (record { out = O.taken out.old; out_after = O.taken out.new; err = E.taken err.old; err_after = E.taken err.new })) }
+    ensures flushed { OnOk result (LeftByFlush O.flushes (Ok tt) out.new) }
     ensures cause { IsErrOf result RunFault.WriteFault
-        → LeftByFault O.puts out.new ⊎ LeftByFault E.puts err.new }
+        → (LeftByFault O.puts out.new ⊎ LeftByFlush O.flushes (Err Device) out.new) ⊎ LeftByFault E.puts err.new }
 {
     let reading = read_all(alloc, source, zones)?;
     put_all(err, &reading.errors)?;
     let status = reading.status();
-    let token = list(alloc, reading.files, request, out)?;
+    let token = list_whole(alloc, reading.files, request, out)?;
     put_more(alloc, err, &token)?;
     Ok(status)
 }

@@ -34,6 +34,8 @@ impl Sink for Narrow {
 
     ghost puts = { λ before bytes answer after. Unit {0} };
 
+    ghost flushes = { λ before answer after. Unit {0} };
+
     ghost failed = { λ sink. sink.failures };
 
     fn put(&mut self, bytes: &[u8]) -> Result<usize, SinkFault> {
@@ -49,6 +51,10 @@ impl Sink for Narrow {
             }
             Err(_) => Err(SinkFault::Memory),
         }
+    }
+
+    fn flush(&mut self) -> Result<(), SinkFault> {
+        Ok(())
     }
 
     fn failures(&self) -> u64 {

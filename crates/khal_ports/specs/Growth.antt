@@ -26,3 +26,8 @@ pub record LeftByFault {O : Type 0} (puts : O → List ℕ → Result ℕ SinkFa
   pub given : List ℕ
   pub some : 0 < length given
   pub answer : puts before given (Err Device) left ⊎ puts before given (Ok 0) left
+
+-- the last call of the sink was a flush with this answer
+pub record LeftByFlush {O : Type 0} (flushes : O → Result Unit SinkFault → O → Type 0) (answer : Result Unit SinkFault) (left : O) : Type 0 where
+  pub before : O
+  pub flushed : flushes before answer left

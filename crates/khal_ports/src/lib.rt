@@ -22,7 +22,7 @@ pub use memory_sink::MemorySink;
 pub use memory_source::{MemoryFile, MemorySource};
 pub use memory_zones::{MemoryZone, MemoryZones};
 pub use no_zones::NoZones;
-pub use sink::{Sink, put_all};
+pub use sink::{Sink, flush_all, put_all};
 pub use source::{MOST_BYTES, Source};
 pub use stream::Stream;
 pub use zone_path::read_zone_file;

@@ -32,6 +32,8 @@ impl Sink for MemorySink {
         ((answer ≡ Ok (length bytes)) × (after.bytes.items ≡ before.bytes.items ++ bytes))
         ⊎ ((answer ≡ Err Memory) × (after.bytes.items ≡ before.bytes.items)) };
 
+    ghost flushes = { λ before answer after. (answer ≡ Ok tt) × (after ≡ before) };
+
     ghost failed = { λ _. 0 };
 
     fn put(&mut self, bytes: &[u8]) -> Result<usize, SinkFault> {
@@ -39,6 +41,11 @@ impl Sink for MemorySink {
             Ok(()) => Ok(bytes.len()),
             Err(_) => Err(SinkFault::Memory),
         }
+    }
+
+    /// Nothing is kept back.
+    fn flush(&mut self) -> Result<(), SinkFault> {
+        Ok(())
     }
 
     /// No device fails.

@@ -1,7 +1,7 @@
 //! Outputs.
-ghost use Rattle.std.specs.Prelude.{◌≡◌, ◌≤◌, IfOk, OnOk, OnErr, IsErrOf, length};
-ghost use Rattle.std.specs.Io.KnownBytes.{Appends, WriteAppends};
-ghost use Rattle.khal_ports.specs.Growth.{risen, TookPart, LeftByFault};
+ghost use Rattle.std.specs.Prelude.{◌≡◌, ◌≤◌, Ok, Err, IfOk, OnOk, OnErr, IsErrOf, length};
+ghost use Rattle.std.specs.Io.KnownBytes.{Appends, Keeps, WriteAppends};
+ghost use Rattle.khal_ports.specs.Growth.{risen, TookPart, LeftByFault, LeftByFlush};
 
 use crate::fault::{RunFault, SinkFault};
 
@@ -16,6 +16,9 @@ pub trait Sink {
     /// From a state, a call with these bytes may give this answer and leave this state.
     ghost puts: { Self → List ℕ → Result ℕ SinkFault → Self → Type 0 };
 
+    /// From a state, a flush may give this answer and leave this state.
+    ghost flushes: { Self → Result Unit SinkFault → Self → Type 0 };
+
     /// How many calls the device has failed.
     ghost failed: { Self → ℕ };
 
@@ -25,6 +28,13 @@ pub trait Sink {
         ensures puts { puts self.old bytes.now result self.new }
         ensures bound { IfOk result (λ count. count ≤ length bytes.now) }
         ensures took { WriteAppends (taken self.old) (taken self.new) result bytes.now }
+        ensures device { IsErrOf result SinkFault.Device → failed self.new ≡ risen (failed self.old) };
+
+    /// Hands on what the sink has taken and keeps back, if it does. It takes nothing. Device comes only if
+    /// the count of failures rose by one.
+    fn flush(&mut self) -> Result<(), SinkFault>
+        ensures flushes { flushes self.old result self.new }
+        ensures kept { Keeps (taken self.old) (taken self.new) }
         ensures device { IsErrOf result SinkFault.Device → failed self.new ≡ risen (failed self.old) };
 
     /// How many calls the device has failed; the count stops at its greatest value.
@@ -49,4 +59,17 @@ pub fn put_all<O: Sink>(sink: &mut O, text: &[u8]) -> Result<(), RunFault>
         }
     }
     Ok(())
+}
+
+/// Flushes the sink, or fails: WriteFault if the device failed, Memory if an allocation failed.
+pub fn flush_all<O: Sink>(sink: &mut O) -> Result<(), RunFault>
+    ensures ok { OnOk result (LeftByFlush O.flushes (Ok tt) sink.new) }
+    ensures kept { Keeps (O.taken sink.old) (O.taken sink.new) }
+    ensures cause { IsErrOf result RunFault.WriteFault → LeftByFlush O.flushes (Err SinkFault.Device) sink.new }
+{
+    match sink.flush() {
+        Ok(()) => Ok(()),
+        Err(SinkFault::Device) => Err(RunFault::WriteFault),
+        Err(SinkFault::Memory) => Err(RunFault::Memory),
+    }
 }

@@ -66,7 +66,7 @@ impl<W: Write + Drop> Stream<BufWriter<W, Global>> {
 
 impl<W: Write + Drop> Sink for Stream<W> {
     ghost use Rattle.std.specs.Prelude.{◌≡◌, IsErrOf, OnOk};
-    ghost use Rattle.std.specs.Io.KnownBytes.{WriteAppends};
+    ghost use Rattle.std.specs.Io.KnownBytes.{Keeps, WriteAppends};
     ghost use Rattle.khal_ports.specs.Growth.{risen};
     ghost use Rattle.khal_ports.specs.declared.fault.SinkFault.TheVariants.{Device};
 
@@ -76,11 +76,25 @@ impl<W: Write + Drop> Sink for Stream<W> {
         × OnOk answer (after.failures ≡ before.failures)
         × (IsErrOf answer Device → after.failures ≡ risen before.failures) };
 
+    ghost flushes = { λ before answer after. Keeps (W.contents before.writer) (W.contents after.writer)
+        × OnOk answer (after.failures ≡ before.failures)
+        × (IsErrOf answer Device → after.failures ≡ risen before.failures) };
+
     ghost failed = { λ stream. stream.failures };
 
     fn put(&mut self, bytes: &[u8]) -> Result<usize, SinkFault> {
         match self.writer.write(bytes) {
             Ok(count) => Ok(count),
+            Err(_) => {
+                self.fail();
+                Err(SinkFault::Device)
+            }
+        }
+    }
+
+    fn flush(&mut self) -> Result<(), SinkFault> {
+        match self.writer.flush() {
+            Ok(()) => Ok(()),
             Err(_) => {
                 self.fail();
                 Err(SinkFault::Device)

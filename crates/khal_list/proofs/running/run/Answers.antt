@@ -1,4 +1,4 @@
-use Rattle.std.proofs.Common.{refl}
+use Rattle.std.proofs.Common.{rules, inl, refl}
 use Rattle.std.specs.Option.{option_map}
 use Rattle.std.specs.String.{string_bytes}
 use Rattle.khal_list.proofs.RunLemmas.{lists, stops, stops-lines, stops-more, stops-reading}
@@ -16,6 +16,9 @@ pub returns-in_err-token-clause-stops : goal.returns-in_err-token-clause-stops
 returns-in_err-token-clause-stops g c =
     on_err c.from_residual-in_err-token.result (stops c.in_ok-reading.ensures.all c.deref.ensures.value (g.E.Sink.taken c.put_all.new.sink)
     c.in_ok-put_all.ensures.ok refl c.in_err-token.ensures.err)
+
+pub returns-in_err-token-clause-cause : goal.returns-in_err-token-clause-cause
+returns-in_err-token-clause-cause g c = λ is. inl (c.in_err-token.ensures.cause (search rules))
 
 pub returns-in_err-put_more-clause-stops : goal.returns-in_err-put_more-clause-stops
 returns-in_err-put_more-clause-stops g c =
