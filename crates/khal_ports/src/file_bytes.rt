@@ -27,19 +27,24 @@ pub(crate) fn read_path<R: Files>(
     path: &str,
     most: u64,
 ) -> Result<Option<Vec<u8>>, SourceFault> {
-    if !is_there(rt, path)? {
+    let Some(length) = length_of(rt, path)? else {
         return Ok(None);
-    }
-    read_some(rt, alloc, path, most)
+    };
+    // Room for the whole file and one byte more, so that its end is found without growing.
+    let room = length.saturating_add(1).min(most) as usize;
+    let Ok(bytes) = Vec::with_capacity(alloc, room) else {
+        return Err(SourceFault::Memory);
+    };
+    read_into(rt, path, bytes, most)
 }
 
-/// Whether there is a file with this path. Anything else there is a fault: a pipe or a terminal would have
-/// to be waited for.
-fn is_there<R: Files>(rt: &R, path: &str) -> Result<bool, SourceFault> {
+/// The length of the file with this path, or None if there is none. Anything else there is a fault, and is
+/// not opened: a pipe or a terminal would have to be waited for.
+fn length_of<R: Files>(rt: &R, path: &str) -> Result<Option<u64>, SourceFault> {
     match fs::metadata(rt, path) {
-        Ok(kind) if kind.is_file() => Ok(true),
+        Ok(found) if found.is_file() => Ok(Some(found.len())),
         Ok(_) => Err(SourceFault::Device),
-        Err(error) if is_absence(&error) => Ok(false),
+        Err(error) if is_absence(&error) => Ok(None),
         Err(error) => Err(fault_of(error)),
     }
 }
@@ -49,18 +54,17 @@ fn is_absence(error: &io::Error) -> bool {
     matches!(error.kind(), ErrorKind::NotFound | ErrorKind::NotADirectory)
 }
 
-/// The first bytes of the file with this path.
-fn read_some<R: Files>(
+/// The first bytes of the file with this path, behind those that are given.
+fn read_into<R: Files>(
     rt: &R,
-    alloc: Global,
     path: &str,
+    mut bytes: Vec<u8>,
     most: u64,
 ) -> Result<Option<Vec<u8>>, SourceFault> {
     let file = match File::open(rt, path) {
         Ok(file) => file,
         Err(error) => return Err(fault_of(error)),
     };
-    let mut bytes = Vec::new(alloc);
     let mut front = file.take(most);
     match front.read_to_end(&mut bytes) {
         Ok(_) => Ok(Some(bytes)),
