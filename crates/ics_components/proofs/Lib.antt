@@ -6,8 +6,16 @@ pub mod Bundles
 pub mod Frames
 pub mod Order
 pub mod PassLemmas
+pub mod PartPaths
+pub mod Paths
+pub mod PartsLemmas
+pub mod Rounds
+pub mod Placing
+pub mod Blocks
+pub mod Returns
+pub mod MadeUids
+pub mod SoundPass
 pub mod EndOrder
 pub mod Firsts
 pub mod Sound
-pub mod SoundPass
 pub mod PartFaults

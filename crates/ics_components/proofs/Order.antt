@@ -40,7 +40,7 @@ pub below : (b : ℕ) (path : List Open) → Falls path → innermost path < b �
 below b [] f h = tt
 below b (c ∷ cs) f h = (λ e. omega (arith, e, h), below b cs f.1 (omega (arith, f.0, h)))
 
-absent-behind : (b : ℕ) (l : Placed) → b < l.number → Absent b l.path → Absent b (path_behind l)
+pub absent-behind : (b : ℕ) (l : Placed) → b < l.number → Absent b l.path → Absent b (path_behind l)
 absent-behind b l h a =
     cond_both (is_begin l) (inside l) (cond (is_end l) (drop 1 l.path) l.path) (Absent b) (λ t. (λ e. omega (arith, e, h), a))
     (λ t. cond_both (is_end l) (drop 1 l.path) l.path (Absent b) (λ t. out l.path a) (λ t. a))

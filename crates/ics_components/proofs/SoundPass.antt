@@ -1,5 +1,5 @@
 -- What is gathered is sound, where the first round finds nothing: each line keeps what is open and what is gathered so.
-use Rattle.std.proofs.Common.{◌≡◌, ℕ, Bool, true, false, List, [], ◌∷◌, ◌++◌, map, refl, sym, ◌∙◌, Option, Some, None, IfSome, IfOk, Result, Ok, Err, arith}
+use Rattle.std.proofs.Common.{◌≡◌, ℕ, Bool, true, false, List, [], ◌∷◌, ◌++◌, map, refl, sym, ◌∙◌, Option, Some, None, IfSome, IfOk, Result, Ok, Err, arith, cond, filter, ◌&&◌, not}
 use Rattle.std.specs.List.{All, Contains}
 use Rattle.std.proofs.lemmas.Bool.{cond_both}
 use Rattle.std.proofs.lemmas.List.{length-map, get_or-map}
@@ -17,7 +17,13 @@ use Rattle.ics_components.specs.ParsedFiles.{IsSoundInstant, IsSoundCheck, IsSou
 use Rattle.ics_components.specs.ParsedFileSeen.{ParsedFileSeen}
 use Rattle.ics_components.specs.Lines.{builder_note, builder_zone, end_fault, is_of, ended_as, joined, end_check}
 use Rattle.ics_components.specs.Lines.{calendar_in, context_on, fault_on, behind, passing}
-use Rattle.ics_components.specs.PlacedLines.{named}
+use Rattle.ics_components.specs.EventLines.{all_events, breaks_off, is_well_nested}
+use Rattle.ics_components.specs.Observances.{begins_zone}
+use Rattle.ics_components.specs.Parted.{IsSoundComponent, IsSoundParted, Reads, block_of, component_seen, frames_around, gathered_in, if_parted, is_sure}
+use Rattle.ics_components.specs.Parted.{parted_lines, read_behind, read_on, unless_faulty}
+use Rattle.ics_components.specs.PlacedLines.{Placed, Open, named}
+use Rattle.ics_components.specs.declared.fault.FaultKind.TheVariants.{BadLine}
+use Rattle.ics_components.proofs.Blocks.{broken-stays}
 use Rattle.ics_components.proofs.Judgements.{outside_end, unmatched_end}
 use Rattle.ics_components.specs.Pass.{bottom, unless, at_end, on_line, on_content, pass}
 use Rattle.ics_components.specs.SecondRound.{zone_named, are_of_one_zone, zone_check, instant_on, instant_in, both_compared, ends_in}
@@ -172,6 +178,24 @@ module _ (P : DeferredCheck → Type 0) where
   abbrev Goes : List Frame → ParsedFileSeen → ParsedFileSeen → Type 0
   Goes frames had g = All Holds g.checks → All Holds had.checks × (AreSound P frames → IsSound had → IsSound g)
 
+  -- the same from a line before on
+  goes-on : (number : ℕ) (frames now : List Frame) (here : LineResult) (had : ParsedFileSeen) (r : Result ParsedFileSeen Fault) →
+      (AreSound P frames → IsSoundStep P (now, here)) → IfOk r (Goes now (and_line number here had)) → IfOk r (Goes frames had)
+  goes-on number frames now here had r step =
+      IfOk-weaker r (Goes now (and_line number here had)) (Goes frames had) (λ g later all.
+      let behind = later all in
+      let checks = all-parts Holds had.checks (checks_of number here.check) behind.0 in (
+        checks.0,
+        λ f h.
+            let after = step f (check-held number here.check checks.1) in
+            let ended = end-parsed here.ended after.1 in
+            behind.1 after.0 (
+              All-append IsSoundClosed had.zones (zones_of_end here.ended) h.0 ended.0,
+              All-append IsSoundBehind had.events (events_of_end here.ended) h.1 ended.1,
+              All-append IsSoundLine had.checks (checks_of number here.check) h.2 (check-parsed number here.check after.2),
+            ),
+      ))
+
   passes : (lines : List Line) (frames : List Frame) (last : Option ℕ) (had : ParsedFileSeen) → IfOk (pass frames last had lines) (Goes frames had)
   passes [] frames last had = by_end (at_end frames last)
     where
@@ -187,20 +211,8 @@ module _ (P : DeferredCheck → Type 0) where
           IfOk (on_line line.number o (pass now (Some line.number) (and_line line.number here had) lines)) (Goes frames had)
       by_line again (Some k) now here step = tt
       by_line again None now here step =
-          let parsed : ParsedFileSeen = and_line line.number here had in
-          IfOk-weaker (pass now (Some line.number) parsed lines) (Goes now parsed) (Goes frames had) (λ g later all.
-          let behind = later all in
-          let checks = all-parts Holds had.checks (checks_of line.number here.check) behind.0 in (
-            checks.0,
-            λ f h.
-                let after = step f refl (check-held line.number here.check checks.1) in
-                let ended = end-parsed here.ended after.1 in
-                behind.1 after.0 (
-                  All-append IsSoundClosed had.zones (zones_of_end here.ended) h.0 ended.0,
-                  All-append IsSoundBehind had.events (events_of_end here.ended) h.1 ended.1,
-                  All-append IsSoundLine had.checks (checks_of line.number here.check) h.2 (check-parsed line.number here.check after.2),
-                ),
-          )) (again now (Some line.number) parsed)
+          goes-on line.number frames now here had (pass now (Some line.number) (and_line line.number here had) lines) (λ f. step f refl)
+          (again now (Some line.number) (and_line line.number here had))
 
       by_content : Again → (o : Option Parts) →
           IfOk (on_content line.number o frames had (λ frames had. pass frames (Some line.number) had lines)) (Goes frames had)
@@ -209,15 +221,61 @@ module _ (P : DeferredCheck → Type 0) where
           let n : Name = named v in
           by_line again (fault_on n v frames) (behind line.number n v frames) (passing n v frames) (λ f. step-sound P line.number n v frames f)
 
+  -- lines in their places
+  reads : (ls : List Placed) (frames : List Frame) (had : ParsedFileSeen) → IfOk (gathered_in (read_behind (Reads frames had) ls)) (Goes frames had)
+  reads [] frames had = λ all. (all, λ f h. h)
+  reads (l ∷ ls) frames had = by_content (reads ls) l.content
+    where
+      Again : Type 0
+      Again = (frames : List Frame) (had : ParsedFileSeen) → IfOk (gathered_in (read_behind (Reads frames had) ls)) (Goes frames had)
+
+      by_line : Again → (o : Option FaultKind) (now : List Frame) (here : LineResult) → (AreSound P frames → o ≡ None → IsSoundStep P (now, here)) →
+          IfOk (gathered_in (read_behind (unless_faulty l.number o (Reads now (and_line l.number here had))) ls)) (Goes frames had)
+      by_line again (Some k) now here step = rw (broken-stays ls (record { line = l.number; kind = k })) tt
+      by_line again None now here step =
+          goes-on l.number frames now here had (gathered_in (read_behind (Reads now (and_line l.number here had)) ls)) (λ f. step f refl)
+          (again now (and_line l.number here had))
+
+      by_content : Again → (o : Option Parts) → IfOk (gathered_in (read_behind (read_on l.number o (Reads frames had)) ls)) (Goes frames had)
+      by_content again None = rw (broken-stays ls (record { line = l.number; kind = BadLine })) tt
+      by_content again (Some v) =
+          let n : Name = named v in
+          by_line again (fault_on n v frames) (behind l.number n v frames) (passing n v frames) (λ f. step-sound P l.number n v frames f)
+
 -- the second round makes all checks that are gathered
+sound-whole : (frames : List Frame) → ((P : DeferredCheck → Type 0) → AreSound P frames) → (r : Result ParsedFileSeen Fault) →
+    ((P : DeferredCheck → Type 0) → IfOk r (Goes P frames nothing_parsed)) → IfOk r IsSoundParsed
+sound-whole frames open_sound (Err fault) goes = tt
+sound-whole frames open_sound (Ok g) goes =
+    let Made : DeferredCheck → Type 0 = Contains (map (λ w. w.check) g.checks) in
+    let sound =
+    (goes Made (λ i d lt. (i, simp length-map lt, get_or-map (λ w. w.check) g.checks i d _ lt))).1
+    (open_sound Made) (All-nil IsSoundClosed, All-nil (IsSoundBehind Made), All-nil IsSoundLine) in
+    record { zones = sound.0; events = sound.1; sound = sound.2 }
+
 pub sound-pass : (lines : List Line) → IfOk (pass (bottom ∷ []) None nothing_parsed lines) IsSoundParsed
-sound-pass lines = by_result (pass (bottom ∷ []) None nothing_parsed lines) (λ P. passes P lines (bottom ∷ []) None nothing_parsed)
+sound-pass lines =
+    sound-whole (bottom ∷ []) (λ P. (tt, tt)) (pass (bottom ∷ []) None nothing_parsed lines) (λ P. passes P lines (bottom ∷ []) None nothing_parsed)
+
+-- EACH COMPONENT of a file by itself.
+around-sound : (path : List Open) (P : DeferredCheck → Type 0) → AreSound P (frames_around path)
+around-sound [] P = (tt, tt)
+around-sound (c ∷ cs) P = (tt, (tt, tt))
+
+pub sound-read : (ls : List Placed) (path : List Open) →
+    IfOk (gathered_in (read_behind (Reads (frames_around path) nothing_parsed) ls)) IsSoundParsed
+sound-read ls path =
+    sound-whole (frames_around path) (around-sound path) (gathered_in (read_behind (Reads (frames_around path) nothing_parsed) ls))
+    (λ P. reads P ls (frames_around path) nothing_parsed)
+
+all-sound : (lines es : List Placed) → All IsSoundComponent (map (component_seen lines) es)
+all-sound lines [] = All-nil IsSoundComponent
+all-sound lines (e ∷ es) =
+    All-cons IsSoundComponent (component_seen lines e) (map (component_seen lines) es) (sound-read (block_of lines e) e.path) (all-sound lines es)
+
+pub sound_parts : (file : Option (List ℕ)) (lines : List Placed) → IfSome (if_parted file lines) IsSoundParted
+sound_parts file lines = by_test (is_well_nested lines && not (breaks_off lines) && is_sure file lines)
   where
-    by_result : (r : Result ParsedFileSeen Fault) → ((P : DeferredCheck → Type 0) → IfOk r (Goes P (bottom ∷ []) nothing_parsed)) → IfOk r IsSoundParsed
-    by_result (Err fault) goes = tt
-    by_result (Ok g) goes =
-        let Made : DeferredCheck → Type 0 = Contains (map (λ w. w.check) g.checks) in
-        let sound =
-        (goes Made (λ i d lt. (i, simp length-map lt, get_or-map (λ w. w.check) g.checks i d _ lt))).1
-        (tt, tt) (All-nil IsSoundClosed, All-nil (IsSoundBehind Made), All-nil IsSoundLine) in
-        record { zones = sound.0; events = sound.1; sound = sound.2 }
+    by_test : (t : Bool) → IfSome (cond t (Some (parted_lines lines)) None) IsSoundParted
+    by_test false = tt
+    by_test true = (all-sound lines (all_events lines), all-sound lines (filter begins_zone lines))

@@ -14,8 +14,8 @@ use Rattle.ics_components.specs.declared.fault.FaultKind.TheVariants.{BadNesting
 use Rattle.ics_components.specs.declared.name.Name.{Name}
 use Rattle.ics_components.specs.declared.name.Name.TheVariants as name
 use Rattle.ics_components.specs.Faults.{stands}
-use Rattle.ics_components.specs.FirstFault.{fault_at_end, no_open}
-use Rattle.ics_components.specs.PlacedLines.{Placed, Open, all_named, begins, ends_event, in_calendar, in_event, is_named, lines_in, value}
+use Rattle.ics_components.specs.FirstFault.{no_open}
+use Rattle.ics_components.specs.PlacedLines.{Placed, Open, all_named, begins, ends_event, in_calendar, in_event, is_named, lines_in, path_behind, value}
 use Rattle.ics_components.specs.Values.{zone_name}
 
 -- THE EVENTS of a file, by their BEGIN lines: the VEVENTs that are directly in a calendar, or in no component.
@@ -88,9 +88,15 @@ breaks_off (line ∷ []) = false
 breaks_off (line ∷ next ∷ lines) = (is_uid line && is_none next.content) || breaks_off (next ∷ lines)
 
 -- BEGIN and END match, and no component is too deep.
+abbrev pub path_at_end : List Open → List Placed → List Open
+path_at_end path [] = path
+path_at_end path (line ∷ lines) = path_at_end (path_behind line) lines
+
+abbrev pub nests : Placed → Bool
+nests line = not (stands BadNesting [] line || stands TooDeep [] line)
+
 abbrev pub is_well_nested : List Placed → Bool
-is_well_nested lines =
-    is_none (fault_at_end lines) && list_all (λ line. not (stands BadNesting [] line || stands TooDeep [] line)) lines
+is_well_nested lines = no_open (path_at_end [] lines) && list_all nests lines
 
 -- WHICH FILES HAVE PARTS: those in which it is certain where each event ends and whose it is.
 abbrev pub has_parts : List Placed → Bool

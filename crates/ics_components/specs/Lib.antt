@@ -16,3 +16,5 @@ pub mod Sound
 pub mod ParsedFileSeen
 pub mod ParsedFiles
 pub mod Pass
+pub mod Parted
+pub mod PartsPass

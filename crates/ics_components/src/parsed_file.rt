@@ -1,6 +1,6 @@
 //! What is gathered of a file, before its time zones and its events are made of it.
 ghost use Rattle.std.specs.Prelude.{◌≡◌, IfOk, None, Some};
-ghost use Rattle.ics_components.specs.ParsedFiles.{and_ended, and_line};
+ghost use Rattle.ics_components.specs.ParsedFiles.{and_ended, and_line, nothing_parsed};
 ghost use Rattle.ics_components.specs.Lines.{line_result};
 ghost use Rattle.ics_components.specs.declared.parsed_file.ClosedComponent.TheVariants.{Nothing};
 
@@ -8,7 +8,7 @@ use crate::deferred_check::{DeferredCheck, ZoneName};
 use crate::event_fields::EventFields;
 use crate::listed::Listed;
 use crate::observances::ClosedObservance;
-use std::alloc::AllocError;
+use std::alloc::{AllocError, Global};
 use std::marker::Model;
 
 /// A time zone that has ended (RFC 5545, section 3.6.5).
@@ -76,6 +76,17 @@ impl Model for ParsedFile {
 }
 
 impl ParsedFile {
+    /// What is gathered of no lines.
+    pub(crate) fn new(alloc: Global) -> ParsedFile
+        ensures { result ≡ nothing_parsed }
+    {
+        ParsedFile {
+            zones: Vec::new(alloc),
+            events: Vec::new(alloc),
+            checks: Vec::new(alloc),
+        }
+    }
+
     /// Adds what ends on a line.
     fn end(&mut self, ended: ClosedComponent) -> Result<(), AllocError>
         ensures { IfOk result (λ _. self.new ≡ and_ended ended self.old) }

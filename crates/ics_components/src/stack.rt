@@ -53,6 +53,14 @@ impl Stack {
         }
     }
 
+    /// No component is open.
+    pub fn clear(&mut self, alloc: Global)
+        ensures { self.new ≡ bottom ∷ [] }
+    {
+        self.outer = Vec::new(alloc);
+        self.top = Frame::bottom(alloc);
+    }
+
     /// A calendar is open that begins on the line with that number, and nothing in it.
     pub fn restart(&mut self, alloc: Global, number: u64) -> Result<(), AllocError>
         ensures { IfOk result (λ _. self.new ≡ record { component = component.Calendar; calendar = number; builder = builder.Calendar } ∷ bottom ∷ []) }

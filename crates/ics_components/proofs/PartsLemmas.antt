@@ -1,0 +1,500 @@
+-- One pass over the lines of a file gathers it event by event and time zone by time zone.
+use Rattle.std.proofs.Common.{◌≡◌, ℕ, ◌<◌, ◌≤◌, Bool, true, false, ◌&&◌, ◌||◌, not, ◌==◌, List, [], ◌∷◌, ◌++◌, refl, sym, ap, ◌∙◌, arith, cond}
+use Rattle.std.proofs.Common.{Option, Some, None, map, filter, append_assoc, drop}
+use Rattle.std.specs.Prelude.{codes, is_none, filter_map}
+use Rattle.std.specs.Str.{bytes_eq}
+use Rattle.std.proofs.lemmas.Bool.Decides.{nat_tests}
+use Rattle.std.proofs.lemmas.Slice.Eq.{bytes_eq-Decides}
+use Rattle.std.specs.List.{flat_map, list_all, list_any}
+use Rattle.std.specs.Option.{option_or, option_to_list}
+use Rattle.std.proofs.lemmas.Bool.{eq-eqb, ne_eqb}
+use Rattle.std.proofs.lemmas.List.{append-nil}
+use Rattle.ics_text.specs.Bytes.{is_empty}
+use Rattle.ics_values.specs.Plain.{text_of}
+use Rattle.ics_components.specs.declared.name.Name.{Name}
+use Rattle.ics_components.specs.declared.name.Name.TheVariants as name
+use Rattle.ics_components.specs.declared.fault.Fault.{Fault}
+use Rattle.ics_components.specs.EventLines.{all_events, breaks_off, is_certain, is_event, is_uid, is_well_nested, named_on, nests, path_at_end, texts_in}
+use Rattle.ics_components.specs.EventLines.{uids_of, zones_named}
+use Rattle.ics_components.specs.FirstFault.{no_open}
+use Rattle.ics_components.specs.Observances.{begins_zone}
+use Rattle.ics_components.specs.PartFaults.{is_within}
+use Rattle.ics_components.specs.ParsedFiles.{nothing_parsed}
+use Rattle.ics_components.specs.Names.{same_name}
+use Rattle.ics_components.specs.PlacedLines.{Placed, Open, component, in_calendar, innermost, is_begin, is_end, is_named, lines_in, name_on, path_behind, value}
+use Rattle.ics_components.specs.Parted.{AreInPlace, Reads, frames_around, PartedComponentSeen, PartedFileSeen, begins_part, component_seen, fault_there}
+use Rattle.ics_components.specs.Parted.{first_there, is_line_of, is_outside, is_part, part_in, parted_lines, read_behind, version_faults}
+use Rattle.ics_components.specs.PartsPass.{NotesSeen, PartSeen, RoundSeen, and_closed, and_outside, by_part, closes_part, goes_on, here, is_doubt, noted, noted_directly}
+use Rattle.ics_components.specs.PartsPass.{notes_begun, parted_nothing, part_begun, part_closed, part_left, round_begun, round_behind, round_over, texts_on, with_line}
+use Rattle.ics_components.proofs.Order.{Absent, Falls, below, falls-behind, absent-behind}
+use Rattle.ics_components.proofs.PartPaths.{absent-any, absent-inner, begins-by, closed-inner, closed-none, closed-part, in-part, none-begins, part-open}
+
+-- WHETHER THE FILE HAS PARTS, but for whose each event is.
+abbrev nested : List Open → Bool → List Placed → Bool
+nested path u [] = no_open path
+nested path u (l ∷ ls) = nests l && (not (u && is_none l.content) && nested (path_behind l) (is_uid l) ls)
+
+abbrev gathered : RoundSeen → List Placed → PartedFileSeen
+gathered round [] = round.parted
+gathered round (l ∷ ls) = gathered (round_behind l round) ls
+
+abbrev pub are_certain : List PartedComponentSeen → Bool
+are_certain events = list_all (λ event. event.is_certain) events
+
+one-test : {X : Type 0} (a b n : Bool) (x y : X) → cond (a && b) (cond n x y) y ≡ cond (a && (b && n)) x y
+one-test a b n x y = grind arith
+
+round-is : (ls : List Placed) (round : RoundSeen) →
+    round_over round ls ≡ cond (nested round.path round.is_behind_uid ls) (Some (gathered round ls)) None
+round-is [] round = refl
+round-is (l ∷ ls) round =
+    ap (λ o. cond (goes_on l round) o None) (round-is ls (round_behind l round))
+    ∙ one-test (nests l) (not (round.is_behind_uid && is_none l.content)) (nested (path_behind l) (is_uid l) ls) (Some (gathered (round_behind l round) ls))
+    None
+
+abbrev pub broken : Bool → List Placed → Bool
+broken u [] = false
+broken u (l ∷ ls) = (u && is_none l.content) || broken (is_uid l) ls
+
+broken-on : (l : Placed) (ls : List Placed) → broken (is_uid l) ls ≡ breaks_off (l ∷ ls)
+broken-on l [] = refl
+broken-on l (m ∷ ms) = ap (λ t. (is_uid l && is_none m.content) || t) (broken-on m ms)
+
+pub broken-off : (ls : List Placed) → broken false ls ≡ breaks_off ls
+broken-off [] = refl
+broken-off (l ∷ ls) = broken-on l ls
+
+two-tests : (n k u e a b : Bool) → n ≡ ((e && a) && not b) → (k && (not u && n)) ≡ ((e && (k && a)) && not (u || b))
+two-tests n k u e a b h = grind (arith, h)
+
+nested-is : (ls : List Placed) (path : List Open) (u : Bool) →
+    nested path u ls ≡ ((no_open (path_at_end path ls) && list_all nests ls) && not (broken u ls))
+nested-is [] path u = grind arith
+nested-is (l ∷ ls) path u =
+    two-tests (nested (path_behind l) (is_uid l) ls) (nests l) (u && is_none l.content) (no_open (path_at_end (path_behind l) ls)) (list_all nests ls)
+    (broken (is_uid l) ls) (nested-is ls (path_behind l) (is_uid l))
+
+-- WHAT IS NOTED of a component by the lines that are left.
+abbrev notes_after : NotesSeen → List Placed → NotesSeen
+notes_after notes [] = notes
+notes_after notes (l ∷ ls) = notes_after (noted_directly l notes) ls
+
+abbrev at : ℕ → Placed
+at b = here b None []
+
+abbrev notes_with : NotesSeen → List Placed → NotesSeen
+notes_with notes ls = record notes {
+  uids = notes.uids ++ uids_of ls (at notes.begun);
+  names = notes.names ++ texts_in name.Tzid ls (at notes.begun);
+  zones = notes.zones ++ zones_named ls (at notes.begun);
+  is_doubtful = notes.is_doubtful || list_any is_doubt (lines_in notes.begun ls);
+}
+
+one-text : (p : List ℕ → Bool) (n : Name) (l : Placed) (ls : List Placed) →
+    filter p (map (λ line. text_of (value line)) (filter (is_named n) (l ∷ ls)))
+    ≡ filter p (texts_on n l) ++ filter p (map (λ line. text_of (value line)) (filter (is_named n) ls))
+one-text p n l ls = grind arith
+
+one-name : (n : Name) (l : Placed) (ls : List Placed) →
+    map (λ line. text_of (value line)) (filter (is_named n) (l ∷ ls)) ≡ texts_on n l ++ map (λ line. text_of (value line)) (filter (is_named n) ls)
+one-name n l ls = grind arith
+
+one-zone : (l : Placed) (ls : List Placed) → filter_map named_on (l ∷ ls) ≡ option_to_list (named_on l) ++ filter_map named_on ls
+one-zone l ls = grind arith
+
+or-more : (a b c : Bool) → ((a || b) || c) ≡ (a || (b || c))
+or-more a b c = grind arith
+
+or-no : (t : Bool) → (t || false) ≡ t
+or-no t = grind arith
+
+notes-are : (ls : List Placed) (notes : NotesSeen) → notes_after notes ls ≡ notes_with notes ls
+notes-are [] notes = simp (append-nil, or-no)
+notes-are (l ∷ ls) notes = notes-are ls (noted_directly l notes) ∙ by_place (innermost l.path == notes.begun) refl
+  where
+    inner : List Placed
+    inner = lines_in notes.begun ls
+
+    by_place : (t : Bool) → (innermost l.path == notes.begun) ≡ t →
+        notes_with (cond t (noted l notes) notes) ls
+        ≡ record notes {
+          uids = notes.uids ++ filter (λ uid. not (is_empty uid)) (map (λ line. text_of (value line)) (filter (is_named name.Uid) (cond t (l ∷ inner) inner)));
+          names = notes.names ++ map (λ line. text_of (value line)) (filter (is_named name.Tzid) (cond t (l ∷ inner) inner));
+          zones = notes.zones ++ filter_map named_on (cond t (l ∷ inner) inner);
+          is_doubtful = notes.is_doubtful || list_any is_doubt (cond t (l ∷ inner) inner);
+        }
+    by_place true e =
+        simp (append_assoc, one-text (λ uid. not (is_empty uid)) name.Uid l inner, one-name name.Tzid l inner, one-zone l inner, or-more)
+    by_place false e = refl
+
+-- A COMPONENT that is open, with the lines that are left.
+abbrev part_after : PartSeen → List Placed → PartedComponentSeen
+part_after part ls =
+    part_closed (record { notes = notes_after part.notes ls; read = read_behind part.read (filter (is_within part.notes.begun) ls) })
+
+-- none of them stands in it
+abbrev pub AreElsewhere : ℕ → List Placed → Type 0
+AreElsewhere b [] = Unit {0}
+AreElsewhere b (l ∷ ls) = (is_within b l ≡ false) × ((innermost l.path == b) ≡ false) × AreElsewhere b ls
+
+pub elsewhere : (ls : List Placed) (b n : ℕ) (path : List Open) → 0 < b → b < n → Absent b path → AreInPlace n path ls → AreElsewhere b ls
+elsewhere [] b n path some less gone h = tt
+elsewhere (l ∷ ls) b n path some less gone h =
+    let here : Absent b l.path = rw (h.0) gone in (
+      absent-any b l.path here,
+      absent-inner b l.path some here,
+      elsewhere ls b l.number (path_behind l) some (omega (arith, less, h.1)) (absent-behind b l (omega (arith, less, h.1)) here) h.4,
+    )
+
+no-notes : (ls : List Placed) (notes : NotesSeen) → AreElsewhere notes.begun ls → notes_after notes ls ≡ notes
+no-notes [] notes h = refl
+no-notes (l ∷ ls) notes h = rw (h.1) (no-notes ls notes h.2)
+
+pub no-lines : (ls : List Placed) (b : ℕ) → AreElsewhere b ls → filter (is_within b) ls ≡ []
+no-lines [] b h = refl
+no-lines (l ∷ ls) b h = rw (h.0) (no-lines ls b h.2)
+
+ended-part : (ls : List Placed) (part : PartSeen) → AreElsewhere part.notes.begun ls → part_after part ls ≡ part_closed part
+ended-part ls part h = rw (no-notes ls part.notes h, no-lines ls part.notes.begun h) refl
+
+-- COMPONENTS BEHIND A LINE.
+abbrev pub AreBehind : ℕ → List Placed → Type 0
+AreBehind n [] = Unit {0}
+AreBehind n (e ∷ es) = (n < e.number) × AreBehind n es
+
+pub behind-all : (q : Placed → Bool) → ((l : Placed) → q l ≡ true → is_begin l ≡ true) → (ls : List Placed) (m n : ℕ) (path : List Open) → m ≤ n →
+    AreInPlace n path ls → AreBehind m (filter q ls)
+behind-all q begins [] m n path le h = tt
+behind-all q begins (l ∷ ls) m n path le h =
+    by_test (q l) refl (behind-all q begins ls m l.number (path_behind l) (omega (arith, le, h.1)) h.4)
+  where
+    by_test : (t : Bool) → q l ≡ t → AreBehind m (filter q ls) → AreBehind m (cond t (l ∷ filter q ls) (filter q ls))
+    by_test true e later = (omega (arith, le, h.2 (begins l e)), later)
+    by_test false e later = later
+
+pub apart : (l e : Placed) (ls : List Placed) → Falls l.path → innermost l.path < l.number → l.number < e.number →
+    component_seen (l ∷ ls) e ≡ component_seen ls e
+apart l e ls falls inner less =
+    let gone : Absent e.number l.path = below e.number l.path falls (omega (arith, inner, less)) in
+    rw (
+      ne_eqb l.number e.number (λ same. omega (arith, same, less)),
+      absent-any e.number l.path gone,
+      absent-inner e.number l.path (omega (arith, less)) gone,
+    ) refl
+
+pub all-apart : (l : Placed) (ls es : List Placed) → Falls l.path → innermost l.path < l.number → AreBehind l.number es →
+    map (component_seen (l ∷ ls)) es ≡ map (component_seen ls) es
+all-apart l ls [] falls inner h = refl
+all-apart l ls (e ∷ es) falls inner h =
+    let one = apart l e ls falls inner h.0 in
+    let more = all-apart l ls es falls inner h.1 in
+    λ i. one i ∷ more i
+
+-- a component that begins on the first of some lines
+own-lines : (ls : List Placed) (l : Placed) (n : ℕ) (path : List Open) → l.number < n → AreInPlace n path ls →
+    filter (is_line_of l) ls ≡ filter (is_within l.number) ls
+own-lines [] l n path less h = refl
+own-lines (m ∷ ms) l n path less h =
+    rw (ne_eqb m.number l.number (λ e. omega (arith, e, less, h.1)))
+    (ap (λ (xs : List Placed). cond (is_within l.number m) (m ∷ xs) xs) (own-lines ms l m.number (path_behind m) (omega (arith, less, h.1)) h.4))
+
+pub own-first : (ls : List Placed) (l : Placed) → innermost (path_behind l) ≡ l.number → AreInPlace l.number (path_behind l) ls →
+    filter (is_line_of l) ls ≡ filter (is_within l.number) ls
+own-first [] l inner h = refl
+own-first (m ∷ ms) l inner h =
+    let less : l.number < m.number = omega (arith, inner, h.3) in
+    rw (ne_eqb m.number l.number (λ e. omega (arith, e, less)))
+    (ap (λ (xs : List Placed). cond (is_within l.number m) (m ∷ xs) xs) (own-lines ms l m.number (path_behind m) less h.4))
+
+abbrev fresh : Placed → PartSeen
+fresh l = record { notes = notes_begun l.number (innermost l.path) (is_event l); read = Reads (frames_around l.path) nothing_parsed }
+
+begun-part : (l : Placed) (ls : List Placed) → innermost l.path < l.number → innermost (path_behind l) ≡ l.number →
+    AreInPlace l.number (path_behind l) ls → part_after (with_line l (fresh l)) ls ≡ component_seen (l ∷ ls) l
+begun-part l ls inner mine h =
+    rw (
+      ne_eqb (innermost l.path) l.number (λ e. omega (arith, e, inner)),
+      eq-eqb l.number l.number refl,
+      own-first ls l mine h,
+      notes-are ls (notes_begun l.number (innermost l.path) (is_event l)),
+    ) refl
+
+-- WHAT IS GATHERED of the lines that are left, behind the component that is open.
+abbrev and_part : Option PartSeen → List Placed → PartedFileSeen → PartedFileSeen
+and_part None ls had = had
+and_part (Some part) ls had =
+    cond part.notes.is_event (record had { events = had.events ++ part_after part ls ∷ [] })
+    (record had { zones = had.zones ++ part_after part ls ∷ [] })
+
+abbrev and_lines : PartedFileSeen → List Placed → PartedFileSeen
+and_lines had ls = record {
+  events = had.events ++ map (component_seen ls) (all_events ls);
+  zones = had.zones ++ map (component_seen ls) (filter begins_zone ls);
+  calendars = had.calendars ++ flat_map version_faults ls;
+  outside = option_or had.outside (first_there (filter is_outside ls));
+}
+
+abbrev begun_of : Option PartSeen → Option ℕ
+begun_of None = None
+begun_of (Some part) = Some part.notes.begun
+
+-- Where the round stands: the components that are open began before, and an event or a time zone among them is the one that is open.
+pub record IsThere (round : RoundSeen) (n : ℕ) : Type 0 where
+  pub falls : Falls round.path
+  pub inner : innermost round.path ≤ n
+  pub fits : part_in round.path ≡ begun_of round.part
+
+-- a line on which a component begins ends none and is no VERSION
+marks : (n : Name) → same_name n name.Begin ≡ true → (same_name n name.End ≡ false) × (same_name n name.Version ≡ false) × (same_name n name.Uid ≡ false)
+marks name.Begin e = (refl, refl, refl)
+marks _ e = cc
+
+event-begins : (l : Placed) → is_event l ≡ true → is_begin l ≡ true
+event-begins l e = grind (arith, e)
+
+zone-begins : (l : Placed) → begins_zone l ≡ true → is_begin l ≡ true
+zone-begins l e = grind (arith, e)
+
+event-no-zone : (l : Placed) → is_event l ≡ true → begins_zone l ≡ false
+event-no-zone l e = by_name (component l) (named-event (in_calendar l || no_open l.path) (is_begin l) (component l) e)
+  where
+    named-event : (a b : Bool) (name : List ℕ) → (a && (b && bytes_eq name (codes "VEVENT"))) ≡ true → bytes_eq name (codes "VEVENT") ≡ true
+    named-event a b name e = grind (arith, e)
+
+    by_name : (name : List ℕ) → bytes_eq name (codes "VEVENT") ≡ true → (in_calendar l && (is_begin l && bytes_eq name (codes "VTIMEZONE"))) ≡ false
+    by_name name e = rw ((bytes_eq-Decides name (codes "VEVENT")).0 e) (no-test (in_calendar l) (is_begin l))
+      where
+        no-test : (a b : Bool) → (a && (b && false)) ≡ false
+        no-test a b = grind arith
+
+-- nothing is outside of an event or a time zone while it is open
+or-none : (o p q : Option Fault) → option_or (option_or o p) q ≡ option_or o (option_or p q)
+or-none o p q = grind arith
+
+module _ (l : Placed) (ls : List Placed) (falls : Falls l.path) (inner : innermost l.path < l.number) (h : AreInPlace l.number (path_behind l) ls) where
+  events-apart : map (component_seen (l ∷ ls)) (all_events ls) ≡ map (component_seen ls) (all_events ls)
+  events-apart =
+      all-apart l ls (all_events ls) falls inner
+      (behind-all is_event event-begins ls l.number l.number (path_behind l) (omega arith) h)
+
+  zones-apart : map (component_seen (l ∷ ls)) (filter begins_zone ls) ≡ map (component_seen ls) (filter begins_zone ls)
+  zones-apart =
+      all-apart l ls (filter begins_zone ls) falls inner
+      (behind-all begins_zone zone-begins ls l.number l.number (path_behind l) (omega arith) h)
+
+  -- a line of no event and no time zone
+  other-line : (had : PartedFileSeen) → is_event l ≡ false → begins_zone l ≡ false → part_in l.path ≡ None →
+      and_lines (and_outside l had) ls ≡ and_lines had (l ∷ ls)
+  other-line had e z p =
+      rw (
+        e,
+        z,
+        p,
+        events-apart,
+        zones-apart,
+        append_assoc had.calendars (version_faults l) (flat_map version_faults ls),
+        or-none had.outside (fault_there l) (first_there (filter is_outside ls)),
+      ) refl
+
+  -- a line of the one that is open
+  inner-line : (had : PartedFileSeen) (b : ℕ) → is_event l ≡ false → begins_zone l ≡ false → version_faults l ≡ [] → part_in l.path ≡ Some b →
+      and_lines had ls ≡ and_lines had (l ∷ ls)
+  inner-line had b e z v p = rw (e, z, v, p, events-apart, zones-apart) refl
+
+  -- the BEGIN line of an event or of a time zone
+  begin-line : (had : PartedFileSeen) (seen : PartedComponentSeen) → seen ≡ component_seen (l ∷ ls) l → begins_part l ≡ true → version_faults l ≡ [] →
+      and_lines (cond (is_event l) (record had { events = had.events ++ seen ∷ [] }) (record had { zones = had.zones ++ seen ∷ [] })) ls
+      ≡ and_lines had (l ∷ ls)
+  begin-line had seen is begins v = by_test (is_event l) refl
+    where
+      by_test : (t : Bool) → is_event l ≡ t →
+          and_lines (cond t (record had { events = had.events ++ seen ∷ [] }) (record had { zones = had.zones ++ seen ∷ [] })) ls ≡ and_lines had (l ∷ ls)
+      by_test true e =
+          rw (e, event-no-zone l e, v, events-apart, zones-apart, is) simp append_assoc
+      by_test false e =
+          let z : begins_zone l ≡ true = sym (ap (λ t. t || begins_zone l) e) ∙ begins in
+          rw (e, z, v, events-apart, zones-apart, is) simp append_assoc
+
+abbrev round_at : List Open → Option PartSeen → Bool → PartedFileSeen → RoundSeen
+round_at path part u had = record { path = path; part = part; is_behind_uid = u; parted = had }
+
+none-open : (path : List Open) → no_open path ≡ true → part_in path ≡ None
+none-open [] e = refl
+none-open (c ∷ cs) e = cc
+
+or-empty : (o : Option Fault) → option_or o None ≡ o
+or-empty o = grind arith
+
+no-more : (had : PartedFileSeen) → had ≡ and_lines had []
+no-more had = simp (append-nil, or-empty)
+
+-- what is noted changes neither which component it is nor what it is
+begun-kept : (l : Placed) (notes : NotesSeen) → (noted_directly l notes).begun ≡ notes.begun
+begun-kept l notes = grind arith
+
+event-kept : (l : Placed) (notes : NotesSeen) → (noted_directly l notes).is_event ≡ notes.is_event
+event-kept l notes = grind arith
+
+part-line : (l : Placed) (ls : List Placed) (part : PartSeen) (had : PartedFileSeen) → is_within part.notes.begun l ≡ true →
+    and_part (Some (with_line l part)) ls had ≡ and_part (Some part) (l ∷ ls) had
+part-line l ls part had e = rw (event-kept l part.notes, begun-kept l part.notes, e) refl
+
+no-version : (a b c : Bool) (x : List (ℕ × Fault)) → b ≡ false → cond (a && (b && c)) x [] ≡ []
+no-version a b c x e = grind (arith, e)
+
+begin-no-version : (l : Placed) → is_begin l ≡ true → version_faults l ≡ []
+begin-no-version l e = no-version _ (is_named name.Version l) _ _ ((marks (name_on l.content) e).1)
+
+end-no-begin : (n : Name) → same_name n name.End ≡ true → same_name n name.Begin ≡ false
+end-no-begin name.End e = refl
+end-no-begin _ e = cc
+
+first-of : (a b : Bool) → (a && b) ≡ true → (a ≡ true) × (b ≡ true)
+first-of a b e = (grind (arith, e), grind (arith, e))
+
+neither : (a b : Bool) → (a || b) ≡ false → (a ≡ false) × (b ≡ false)
+neither a b e = (grind (arith, e), grind (arith, e))
+
+-- WHERE THE ROUND STANDS behind a line.
+behind-none : (l : Placed) → begins_part l ≡ false → part_in l.path ≡ None → part_in (path_behind l) ≡ None
+behind-none l e p = by_kind (is_begin l) (is_end l) refl
+  where
+    by_kind : (b d : Bool) → is_begin l ≡ b →
+        part_in (cond b (record { name = component l; begun = l.number } ∷ l.path) (cond d (drop 1 l.path) l.path)) ≡ None
+    by_kind true d is =
+        let no : is_part l.path (component l) ≡ false = sym (ap (λ t. t && is_part l.path (component l)) is) ∙ sym (begins-by l) ∙ e in rw (p, no) refl
+    by_kind false true is = closed-none l.path p
+    by_kind false false is = p
+
+behind-begun : (l : Placed) → is_begin l ≡ true → is_part l.path (component l) ≡ true → part_in l.path ≡ None → part_in (path_behind l) ≡ Some l.number
+behind-begun l is part p = rw (is, p, part) refl
+
+behind-inner : (l : Placed) (b : ℕ) → part_in l.path ≡ Some b → (is_end l && (innermost l.path == b)) ≡ false → part_in (path_behind l) ≡ Some b
+behind-inner l b p e = by_kind (is_begin l) (is_end l) e
+  where
+    by_kind : (t d : Bool) → (d && (innermost l.path == b)) ≡ false →
+        part_in (cond t (record { name = component l; begun = l.number } ∷ l.path) (cond d (drop 1 l.path) l.path)) ≡ Some b
+    by_kind true d e = rw p refl
+    by_kind false true e = closed-inner l.path b p e
+    by_kind false false e = p
+
+-- THE ROUND GATHERS what the lines say.
+abbrev Gathers : List Placed → Type 0
+Gathers ls =
+    (n : ℕ) (path : List Open) (part : Option PartSeen) (u : Bool) (had : PartedFileSeen) → IsThere (round_at path part u had) n →
+    AreInPlace n path ls → no_open (path_at_end path ls) ≡ true →
+    gathered (round_at path part u had) ls ≡ and_lines (and_part part ls had) ls
+
+module _ (l : Placed) (ls : List Placed) (again : Gathers ls) (falls : Falls l.path) (inner : innermost l.path < l.number)
+    (h : AreInPlace l.number (path_behind l) ls) (end : no_open (path_at_end (path_behind l) ls) ≡ true) (round : RoundSeen) where
+  abbrev had : PartedFileSeen
+  had = round.parted
+
+  next : (part : Option PartSeen) (had : PartedFileSeen) → part_in (path_behind l) ≡ begun_of part →
+      gathered (round_at (path_behind l) part (is_uid l) had) ls ≡ and_lines (and_part part ls had) ls
+  next part had fits =
+      let moved = falls-behind l falls inner in
+      again l.number (path_behind l) part (is_uid l) had (record { falls = moved.0; inner = moved.1; fits = fits }) h end
+
+  abbrev taken : Option PartSeen → RoundSeen
+  taken part = let now : RoundSeen = by_part part l round in record now { path = path_behind l; is_behind_uid = is_uid l }
+
+  -- a line of the event or the time zone that is open
+  line-of : (part : PartSeen) → part_in l.path ≡ Some part.notes.begun →
+      gathered (taken (Some part)) ls ≡ and_lines (and_part (Some part) (l ∷ ls) had) (l ∷ ls)
+  line-of part p = by_end (closes_part l part) refl
+    where
+      b : ℕ
+      b = part.notes.begun
+
+      within : is_within b l ≡ true
+      within = part-open l.path b p
+
+      more : PartedFileSeen
+      more = and_part (Some part) (l ∷ ls) had
+
+      rest : and_lines more ls ≡ and_lines more (l ∷ ls)
+      rest =
+          let none : begins_part l ≡ false = begins-by l ∙ ap (λ t. is_begin l && t) (none-begins l.path b p (component l)) ∙ never (is_begin l) in
+          let two = neither (is_event l) (begins_zone l) none in
+          inner-line l ls falls inner h more b two.0 two.1 (rw ((in-part l.path b p).0) refl) p
+        where
+          never : (t : Bool) → (t && false) ≡ false
+          never t = grind arith
+
+      by_end : (t : Bool) → closes_part l part ≡ t →
+          gathered (round_at (path_behind l) (part_left t (with_line l part)) (is_uid l) (cond t (and_closed (with_line l part) had) had)) ls
+          ≡ and_lines more (l ∷ ls)
+      by_end false e =
+          next (Some (with_line l part)) had (behind-inner l b p e ∙ ap Some (sym (begun-kept l part.notes)))
+          ∙ ap (λ m. and_lines m ls) (part-line l ls part had within) ∙ rest
+      by_end true e =
+          let ends = first-of (is_end l) (innermost l.path == b) e in
+          let out = closed-part l.path b falls p ends.1 in
+          let path : path_behind l ≡ drop 1 l.path = rw (end-no-begin (name_on l.content) ends.0, ends.0) refl in
+          let gone = elsewhere ls b l.number (path_behind l) (some b ends.1) (less b ends.1) (rw path out.1) h in
+          next None (and_closed (with_line l part) had) (ap part_in path ∙ out.0)
+          ∙ ap (λ m. and_lines m ls) (closed-now gone ∙ part-line l ls part had within) ∙ rest
+        where
+          some : (b : ℕ) → (innermost l.path == b) ≡ true → 0 < b
+          some b e = grind arith
+
+          less : (b : ℕ) → (innermost l.path == b) ≡ true → b < l.number
+          less b e = grind (arith, nat_tests, e, inner)
+
+          closed-now : AreElsewhere part.notes.begun ls → and_closed (with_line l part) had ≡ and_part (Some (with_line l part)) ls had
+          closed-now gone =
+              rw (ended-part ls (with_line l part) (rw (begun-kept l part.notes) gone)) refl
+
+  -- any other line
+  line-begun : begins_part l ≡ true → part_in l.path ≡ None → gathered (taken (Some (fresh l))) ls ≡ and_lines had (l ∷ ls)
+  line-begun begins p =
+      let both = first-of (is_begin l) (is_part l.path (component l)) (sym (begins-by l) ∙ begins) in
+      let mine : innermost (path_behind l) ≡ l.number = rw (both.0) refl in
+      let goes : closes_part l (fresh l) ≡ false = ap (λ t. t && (innermost l.path == l.number)) ((marks (name_on l.content) both.0).0) in
+      let own : PartSeen = with_line l (fresh l) in
+      ap (λ t. gathered (round_at (path_behind l) (part_left t own) (is_uid l) (cond t (and_closed own had) had)) ls) goes
+      ∙ next (Some (with_line l (fresh l))) had (behind-begun l both.0 both.1 p ∙ ap Some (sym (begun-kept l (fresh l).notes)))
+      ∙ rw (event-kept l (fresh l).notes)
+      (begin-line l ls falls inner h had (part_after (with_line l (fresh l)) ls) (begun-part l ls inner mine h) begins (begin-no-version l both.0))
+
+  line-outside : begins_part l ≡ false → part_in l.path ≡ None → gathered (taken None) ls ≡ and_lines had (l ∷ ls)
+  line-outside none p =
+      let two = neither (is_event l) (begins_zone l) none in
+      next None (and_outside l had) (behind-none l none p) ∙ other-line l ls falls inner h had two.0 two.1 p
+
+  line-free : part_in l.path ≡ None → gathered (taken (part_begun l)) ls ≡ and_lines had (l ∷ ls)
+  line-free p = by_test (begins_part l) refl
+    where
+      by_test : (t : Bool) → begins_part l ≡ t → gathered (taken (cond t (Some (fresh l)) None)) ls ≡ and_lines had (l ∷ ls)
+      by_test true e = line-begun e p
+      by_test false e = line-outside e p
+
+gathers : (ls : List Placed) → Gathers ls
+gathers [] n path None u had there h end = no-more had
+gathers [] n path (Some part) u had there h end = let none = none-open path end in let fits = there.fits in cc
+gathers (l ∷ ls) n path None u had there h end =
+    line-free l ls (gathers ls) (rw (h.0) there.falls) (rw (h.0) h.3) h.4 end (round_at path None u had) (rw (h.0) there.fits)
+gathers (l ∷ ls) n path (Some part) u had there h end =
+    line-of l ls (gathers ls) (rw (h.0) there.falls) (rw (h.0) h.3) h.4 end (round_at path (Some part) u had) part (rw (h.0) there.fits)
+
+-- THE WHOLE ROUND.
+pub all-mapped : (lines es : List Placed) → are_certain (map (component_seen lines) es) ≡ list_all (is_certain lines) es
+all-mapped lines [] = refl
+all-mapped lines (e ∷ es) = ap (λ t. is_certain lines e && t) (all-mapped lines es)
+
+pub round_whole : (ls : List Placed) → AreInPlace 0 [] ls →
+    round_over round_begun ls ≡ cond (is_well_nested ls && not (breaks_off ls)) (Some (parted_lines ls)) None
+round_whole ls h = round-is ls round_begun ∙ by_nesting (nested [] false ls) refl
+  where
+    kinds : nested [] false ls ≡ (is_well_nested ls && not (breaks_off ls))
+    kinds = nested-is ls [] false ∙ ap (λ t. is_well_nested ls && not t) (broken-off ls)
+
+    by_nesting : (t : Bool) → nested [] false ls ≡ t →
+        cond t (Some (gathered round_begun ls)) None ≡ cond (is_well_nested ls && not (breaks_off ls)) (Some (parted_lines ls)) None
+    by_nesting false e = ap (λ t. cond t (Some (parted_lines ls)) None) (sym e ∙ kinds)
+    by_nesting true e =
+        let both = first-of (is_well_nested ls) (not (breaks_off ls)) (sym kinds ∙ e) in
+        let ends = first-of (no_open (path_at_end [] ls)) (list_all nests ls) both.0 in
+        let all = gathers ls 0 [] None false parted_nothing (record { falls = tt; inner = omega arith; fits = refl }) h ends.0 in
+        ap Some all ∙ ap (λ t. cond t (Some (parted_lines ls)) None) (sym e ∙ kinds)

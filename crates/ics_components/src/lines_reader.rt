@@ -1,0 +1,104 @@
+//! What the lines of one component are read to.
+ghost use Rattle.std.specs.Prelude.{◌≡◌, ◌∷◌, [], IfOk, None, Some};
+ghost use Rattle.ics_components.specs.Parted.{Reads, frames_around, gathered_in, read_on};
+ghost use Rattle.ics_components.specs.ParsedFiles.{nothing_parsed};
+ghost use Rattle.ics_components.specs.Pass.{bottom};
+
+use crate::fault::{Fault, FaultKind};
+use crate::parsed_file::ParsedFile;
+use crate::path::Path;
+use crate::refused::Refused;
+use crate::stack::Stack;
+use ics_text::Content;
+use std::alloc::{AllocError, Global};
+use std::marker::Model;
+use std::mem;
+
+/// The first round over the lines of a component, up to its first fault.
+#[derive(Drop)]
+pub struct LinesReader {
+    stack: Stack,
+    parsed: ParsedFile,
+    fault: Option<Fault>,
+}
+
+impl Model for LinesReader {
+    ghost use Rattle.ics_components.specs.Parted.{LinesRead};
+    ghost use Rattle.ics_components.specs.PartsPass.{read_seen};
+
+    ghost Value = { LinesRead };
+
+    ghost view = { λ a. read_seen a.fault a.stack a.parsed };
+}
+
+impl LinesReader {
+    /// No line is read.
+    pub fn new(alloc: Global) -> LinesReader
+        ensures { result ≡ Reads (bottom ∷ []) nothing_parsed }
+    {
+        LinesReader {
+            stack: Stack::new(alloc),
+            parsed: ParsedFile::new(alloc),
+            fault: None,
+        }
+    }
+
+    /// No line of a component is read that begins where these are open: a calendar, or none.
+    pub fn restart(&mut self, alloc: Global, path: &Path) -> Result<(), AllocError>
+        ensures { IfOk result (λ _. self.new ≡ Reads (frames_around path.now) nothing_parsed) }
+    {
+        if path.is_empty() {
+            self.stack.clear(alloc);
+        } else {
+            self.stack.restart(alloc, path.innermost())?;
+        }
+        self.parsed = ParsedFile::new(alloc);
+        self.fault = None;
+        Ok(())
+    }
+
+    /// Reads a line more.
+    pub fn read(
+        &mut self,
+        alloc: Global,
+        number: u64,
+        content: &Content<'_>,
+    ) -> Result<(), AllocError>
+        ensures { IfOk result (λ _. self.new ≡ read_on number (Some content.now) self.old) }
+    {
+        if self.fault.is_some() {
+            return Ok(());
+        }
+        match self.stack.line(alloc, &mut self.parsed, number, content) {
+            Ok(()) => Ok(()),
+            Err(Refused::Memory) => Err(AllocError),
+            Err(Refused::Fault(kind)) => {
+                self.fault = Some(Fault { line: number, kind });
+                self.parsed = ParsedFile::new(alloc);
+                Ok(())
+            }
+        }
+    }
+
+    /// Reads a line that is no content line.
+    pub fn read_bad(&mut self, number: u64)
+        ensures { self.new ≡ read_on number None self.old }
+    {
+        if self.fault.is_none() {
+            self.fault = Some(Fault {
+                line: number,
+                kind: FaultKind::BadLine,
+            });
+        }
+    }
+
+    /// What is gathered of the lines, or their first fault.
+    pub fn take(&mut self, alloc: Global) -> Result<ParsedFile, Fault>
+        ensures { result ≡ gathered_in self.old }
+    {
+        match self.fault {
+            Some(fault) => Err(fault),
+            None => Ok(mem::replace(&mut self.parsed, ParsedFile::new(alloc))),
+        }
+    }
+}

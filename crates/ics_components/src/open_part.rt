@@ -1,0 +1,94 @@
+//! What is noted of the event or the time zone that is open.
+ghost use Rattle.std.specs.Prelude.{◌≡◌, [], IfOk, Some};
+ghost use Rattle.ics_components.specs.PartsPass.{here, noted, notes_begun, uids_on, texts_on};
+ghost use Rattle.ics_components.specs.PlacedLines.{named};
+ghost use Rattle.ics_components.specs.declared.name.Name.TheVariants as variant;
+
+use crate::local_time::named_on;
+use crate::name::Name;
+use crate::tzid::{Tzid, Tzids};
+use ics_text::Content;
+use ics_values::Text;
+use std::alloc::{AllocError, Global};
+use std::marker::Model;
+
+/// An event or a time zone that is open, and what is noted of it by the lines directly in it.
+#[derive(Drop)]
+pub struct OpenPart {
+    /// The numbers of its BEGIN line and of that of its calendar.
+    pub begun: u64,
+    pub calendar: u64,
+    pub is_event: bool,
+    pub uids: Vec<Text>,
+    /// The TZIDs that it has.
+    pub names: Vec<Tzid>,
+    /// The time zones that its local times name.
+    pub zones: Vec<Tzid>,
+    /// A line of it is no content line, or a RECURRENCE-ID.
+    pub is_doubtful: bool,
+}
+
+impl Model for OpenPart {
+    ghost use Rattle.ics_components.specs.PartsPass.{NotesSeen};
+
+    ghost Value = { NotesSeen };
+
+    ghost view = { λ a. record {
+      begun = a.begun;
+      calendar = a.calendar;
+      is_event = a.is_event;
+      uids = a.uids.items;
+      names = a.names.items;
+      zones = a.zones.items;
+      is_doubtful = a.is_doubtful;
+    } };
+}
+
+impl OpenPart {
+    /// Nothing is noted of what begins on the line with that number.
+    pub fn new(alloc: Global, begun: u64, calendar: u64, is_event: bool) -> OpenPart
+        ensures { result ≡ notes_begun begun calendar is_event }
+    {
+        OpenPart {
+            begun,
+            calendar,
+            is_event,
+            uids: Vec::new(alloc),
+            names: Vec::new(alloc),
+            zones: Vec::new(alloc),
+            is_doubtful: false,
+        }
+    }
+
+    /// Notes a line directly in it.
+    #[tactic(auto, unfolding(crate::specs::PlacedLines::name_on))]
+    pub fn note(
+        &mut self,
+        alloc: Global,
+        tzids: &mut Tzids,
+        name: Name,
+        content: &Content<'_>,
+    ) -> Result<(), AllocError>
+        requires { name ≡ named content.now }
+        ensures { IfOk result (λ _. self.new ≡ noted (here 0 (Some content.now) []) self.old) }
+    {
+        match name {
+            Name::Uid => {
+                let uid = Text::of_value(alloc, content.value())?;
+                if !uid.as_slice().is_empty() {
+                    self.uids.push(uid)?;
+                }
+            }
+            Name::Tzid => {
+                let name = tzids.of_value(alloc, content.value())?;
+                self.names.push(name)?;
+            }
+            Name::RecurrenceId => self.is_doubtful = true,
+            _ => {}
+        }
+        if let Some(name) = named_on(alloc, tzids, content)? {
+            self.zones.push(name)?;
+        }
+        Ok(())
+    }
+}
