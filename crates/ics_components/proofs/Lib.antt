@@ -19,3 +19,6 @@ pub mod EndOrder
 pub mod Firsts
 pub mod Sound
 pub mod PartFaults
+pub mod ReadLemmas
+pub mod ReadOrder
+pub mod WholeComponents

@@ -125,7 +125,7 @@ pub found-none : (number : ℕ) (kind : Option FaultKind) (later : Option Fault)
 found-none number kind later e = (grind arith, grind arith)
 
 -- where no fault stands at the end, nothing is open behind the last line
-last-open : (before : List Placed) (l : Placed) → fault_at_end (before ++ l ∷ []) ≡ None → path_behind l ≡ []
+pub last-open : (before : List Placed) (l : Placed) → fault_at_end (before ++ l ∷ []) ≡ None → path_behind l ≡ []
 last-open before l e = let last = last-more before l in grind arith
 
 -- Where lines stand in a file: behind those before them, in components of which each began behind those that it stands in, and before them.

@@ -32,7 +32,7 @@ lowest-is whole [] = refl
 lowest-is whole (b ∷ []) = refl
 lowest-is whole (b ∷ d ∷ ds) = refl
 
-end-is-known : (whole before : List Placed) (l : Placed) (bundles : List Bundle) → opens bundles ≡ path_behind l →
+pub end-is-known : (whole before : List Placed) (l : Placed) (bundles : List Bundle) → opens bundles ≡ path_behind l →
     at_end (frames_of whole bundles) (Some l.number) ≡ fault_at_end (before ++ l ∷ [])
 end-is-known whole before l bundles at =
     ap (λ t. cond t None (Some (record { line = l.number + 1; kind = BadNesting }))) (lowest-is whole bundles ∙ ap no_open at)

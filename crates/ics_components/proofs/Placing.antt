@@ -18,7 +18,7 @@ use Rattle.ics_components.proofs.PartsLemmas.{all-mapped, round_whole}
 use Rattle.ics_components.proofs.Rounds.{made_plain}
 
 -- numbers that rise from one on rise from a lesser one on
-from-less : (ls : List Placed) (m n : ℕ) (path : List Open) → m ≤ n → AreInPlace n path ls → AreInPlace m path ls
+pub from-less : (ls : List Placed) (m n : ℕ) (path : List Open) → m ≤ n → AreInPlace n path ls → AreInPlace m path ls
 from-less [] m n path le h = tt
 from-less (l ∷ ls) m n path le h = (h.0, omega (arith, le, h.1), λ b. omega (arith, le, h.2 b), h.3, h.4)
 

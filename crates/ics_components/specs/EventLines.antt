@@ -87,11 +87,12 @@ breaks_off [] = false
 breaks_off (line ∷ []) = false
 breaks_off (line ∷ next ∷ lines) = (is_uid line && is_none next.content) || breaks_off (next ∷ lines)
 
--- BEGIN and END match, and no component is too deep.
+-- what is open behind the last of some lines
 abbrev pub path_at_end : List Open → List Placed → List Open
 path_at_end path [] = path
 path_at_end path (line ∷ lines) = path_at_end (path_behind line) lines
 
+-- BEGIN and END match, and no component is too deep.
 abbrev pub nests : Placed → Bool
 nests line = not (stands BadNesting [] line || stands TooDeep [] line)
 

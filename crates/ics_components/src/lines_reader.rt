@@ -43,8 +43,8 @@ impl LinesReader {
         }
     }
 
-    /// No line of a component is read that begins where these are open: a calendar, or none.
-    pub fn restart(&mut self, alloc: Global, path: &Path) -> Result<(), AllocError>
+    /// No line of an event or a time zone is read that begins where these are open: a calendar, or none.
+    pub fn restart(&mut self, alloc: Global, path: &Path, is_event: bool) -> Result<(), AllocError>
         ensures { IfOk result (λ _. self.new ≡ Reads (frames_around path.now) nothing_parsed) }
     {
         if path.is_empty() {
@@ -52,7 +52,8 @@ impl LinesReader {
         } else {
             self.stack.restart(alloc, path.innermost())?;
         }
-        self.parsed = ParsedFile::new(alloc);
+        // a list that grows by itself takes room for several
+        self.parsed = ParsedFile::of_one(alloc, is_event)?;
         self.fault = None;
         Ok(())
     }

@@ -87,6 +87,19 @@ impl ParsedFile {
         }
     }
 
+    /// What is gathered of no lines, with room for the one event or the one time zone that is to come.
+    pub(crate) fn of_one(alloc: Global, is_event: bool) -> Result<ParsedFile, AllocError>
+        ensures { IfOk result (λ parsed. parsed ≡ nothing_parsed) }
+    {
+        let mut parsed = ParsedFile::new(alloc);
+        if is_event {
+            parsed.events = Vec::with_capacity(alloc, 1)?;
+        } else {
+            parsed.zones = Vec::with_capacity(alloc, 1)?;
+        }
+        Ok(parsed)
+    }
+
     /// Adds what ends on a line.
     fn end(&mut self, ended: ClosedComponent) -> Result<(), AllocError>
         ensures { IfOk result (λ _. self.new ≡ and_ended ended self.old) }

@@ -111,7 +111,7 @@ impl PartsRound {
         let is_event = (in_calendar || self.path.is_empty())
             && is_called(content.value(), b"VEVENT");
         if is_event || in_calendar && is_called(content.value(), b"VTIMEZONE") {
-            self.reader.restart(alloc, &self.path)?;
+            self.reader.restart(alloc, &self.path, is_event)?;
             let calendar = self.path.innermost();
             self.part = Some(OpenPart::new(alloc, number, calendar, is_event));
         }
