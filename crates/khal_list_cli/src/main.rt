@@ -78,11 +78,10 @@ fn request<R: Files + AllocGlobal>(rt: &R, own: &[String], now: i64) -> Result<R
         .map_err(Failure::Request)
 }
 
-/// Standard output. A listing is written in large pieces, but with a limit entry by entry, so that
-/// the line that says where it continues comes after it.
-fn output(rt: HostRuntime, request: &Request) -> Result<BufWriter<Stdout, Global>, Failure> {
-    let piece = if request.limit.is_some() { 0 } else { PIECE };
-    BufWriter::with_capacity(rt.alloc(), piece, rt.stdout()).map_err(|_| Failure::Memory)
+/// Standard output, in large pieces. `run` writes out the last of them before the line that says where a
+/// listing continues.
+fn output(rt: HostRuntime) -> Result<BufWriter<Stdout, Global>, Failure> {
+    BufWriter::with_capacity(rt.alloc(), PIECE, rt.stdout()).map_err(|_| Failure::Memory)
 }
 
 /// The zone files of the folder that `--zones` names, or none.
@@ -106,12 +105,14 @@ fn write(
     run(rt.alloc(), source, zones, request, out, &mut err)
 }
 
-/// Lists the folder of a request to the standard streams.
+/// Lists the folder of a request to the standard streams. It has its own room on the stack, beside that of
+/// the words, which takes the most.
+#[inline(never)]
 fn list(rt: HostRuntime, request: &Request) -> Result<Status, Failure> {
     let folder = String::from_str(rt.alloc(), request.folder())?;
     let mut source = FolderSource::open(rt, folder).map_err(Failure::of_folder)?;
     let mut zones = zones(rt, request)?;
-    let mut out = Stream::new(output(rt, request)?);
+    let mut out = Stream::new(output(rt)?);
     let ran = write(rt, &mut source, &mut zones, request, &mut out);
     let finished = out.finish();
     let status = ran.map_err(Failure::of_run)?;
