@@ -12,8 +12,9 @@ use std::rt::Files;
 /// The files of a folder whose names end in `.ics` and do not begin with `.`, sorted by bytes, and
 /// then a `?` for each name that is not UTF-8, which is never read. Folders below it are not read.
 ///
-/// A read fails as Device for every fault of the system and, at once, for anything that is no regular
-/// file, such as a pipe; as TooLarge once it has read one byte more than a file may have.
+/// A read fails as Device for every fault of the system and for anything that is no regular file, such as a
+/// pipe, which is not opened; as TooLarge once it has read one byte more than a file may have. A file that is
+/// changed for a pipe just before it is opened is waited for.
 #[derive(Drop)]
 pub struct FolderSource<R> {
     rt: R,

@@ -16,9 +16,9 @@ const LONGEST_NAME: usize = 255;
 ///
 /// A name of 1 to 255 bytes of letters, digits, `_`, `-`, `+` and `/` without an empty part has the file
 /// with that path below the folder. There is none for any other name, nor where the path leads nowhere or
-/// through a file. Asking fails as Device for every other fault of the system and, at once, for anything
-/// that is no regular file, such as a folder or a pipe; as TooLarge once it has read one byte more than a
-/// file may have.
+/// through a file. Asking fails as Device for every other fault of the system and for anything that is no
+/// regular file, such as a folder or a pipe, which is not opened; as TooLarge once it has read one byte more
+/// than a file may have. A file that is changed for a pipe just before it is opened is waited for.
 #[derive(Drop)]
 pub struct FolderZones<R> {
     rt: R,

@@ -9,8 +9,9 @@ use std::alloc::Global;
 use std::rt::Files;
 
 /// The bytes of the zone file with this path, such as `/etc/localtime`; a link is followed. Device if the
-/// path leads nowhere, for every other fault of the system and, at once, for anything that is no regular
-/// file, such as a folder or a pipe; TooLarge once one byte more is read than a zone file may have.
+/// path leads nowhere, for every other fault of the system and for anything that is no regular file, such as
+/// a folder or a pipe, which is not opened; TooLarge once one byte more is read than a zone file may have. A
+/// file that is changed for a pipe just before it is opened is waited for.
 pub fn read_zone_file<R: Files>(rt: &R, alloc: Global, path: &str) -> Result<Vec<u8>, SourceFault>
     ensures { IfOk result (λ bytes. vec_len bytes ≤ most_zone_bytes) }
 {
