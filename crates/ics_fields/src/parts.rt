@@ -248,6 +248,13 @@ impl Parts {
         self.count = Some(count);
     }
 
+    /// Takes COUNT away.
+    pub fn remove_count(&mut self)
+        ensures { self.new ≡ record self.old { count = None } }
+    {
+        self.count = None;
+    }
+
     /// Sets UNTIL. Its day is one of the years 0000 to 9999.
     pub fn set_until(&mut self, until: Until)
         requires { IsUntil until }

@@ -16,6 +16,7 @@ pub mod CountingLemmas
 pub mod Samples
 pub mod KeptLemmas
 pub mod UntilLemmas
+pub mod EndLemmas
 pub mod DayWalkLemmas
 pub mod LawLemmas
 mod PassLemmas

@@ -8,6 +8,7 @@ pub mod IsoWeeks
 pub mod DateParts
 pub mod Kept
 pub mod UntilBounds
+pub mod CountBounds
 pub mod RecurrencePeriods
 pub mod Next
 pub mod Calls

@@ -163,6 +163,18 @@ impl Cursor {
         Some(Local::numbered(n))
     }
 
+    /// Moves the place on to a local of the years 0000 to 9999, or leaves it where it is if it is past that. No period is looked at.
+    pub fn pass(&mut self, _rule: &Rule, to: Local)
+        requires day { IsDayNumber to.day }
+        requires own { IsCursorOf _rule.now self.old }
+        ensures place { place_of self.new ≡ max (place_of self.old) (number to) }
+        ensures steps { steps_of self.new ≡ steps_of self.old }
+        ensures own { IsCursorOf _rule.now self.new }
+        ensures looked { (a b : ℕ) → HasLooked _rule.now self.old a b → HasLooked _rule.now self.new a b }
+    {
+        self.place = self.place.max(to.number());
+    }
+
     /// How many periods of the rule were looked at. They are at most those that hold a local earlier than the greatest bound so far, from the
     /// first place on, or under COUNT from the start on.
     pub fn steps(&self) -> u64

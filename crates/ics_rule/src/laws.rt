@@ -14,6 +14,7 @@ ghost use Rattle.ics_rule.specs.Candidates.{fourth_day, week_number, weeks_of_ye
 ghost use Rattle.ics_rule.specs.IsoWeeks.{IsDay};
 ghost use Rattle.ics_rule.specs.Kept.{count, size, is_in_rule, is_kept, until_moment};
 ghost use Rattle.ics_rule.specs.UntilBounds.{is_bounded, without_until};
+ghost use Rattle.ics_rule.specs.CountBounds.{without_count};
 ghost use Rattle.ics_rule.specs.Ranks.{HasRank};
 ghost use Rattle.ics_rule.specs.PlainReading.{in_year, in_month, with_weekday};
 
@@ -47,6 +48,12 @@ pub fn first_of_count()
 pub fn bounded_by_until()
     ensures kept { (r : Recurrence) (n : ℕ) → is_kept r n ≡ (n == number r.start || (is_kept (without_until r) n && is_bounded r n)) }
     ensures instants { (r : Recurrence) (t : ℤ) → until_moment r ≡ Some t → (n : ℕ) → is_kept r n ≡ is_kept (without_until r) n }
+{}
+
+/// COUNT ends a rule and changes nothing before its end (RFC 5545, 3.3.10): up to each local that the rule keeps, the rule without COUNT keeps
+/// the same.
+pub fn ended_by_count()
+    ensures { (r : Recurrence) (n m : ℕ) → n ≤ m → is_kept r m ≡ true → is_kept r n ≡ is_kept (without_count r) n }
 {}
 
 /// After any calls of `next` a cursor has looked at no more periods of its rule than hold a local earlier than the greatest bound, from its

@@ -31,8 +31,8 @@ pub use cursor::Cursor;
 pub use hour::HourTimes;
 pub use kind::Kind;
 pub use laws::{
-    bounded_by_until, few_steps, first_of_count, kept_locals, numbered_weekdays, numbered_weeks,
-    ranks_are_places, weeks_from_monday, weeks_of_a_year,
+    bounded_by_until, ended_by_count, few_steps, first_of_count, kept_locals, numbered_weekdays,
+    numbered_weeks, ranks_are_places, weeks_from_monday, weeks_of_a_year,
 };
 pub use plain::plain_reading;
 pub use rule::Rule;
