@@ -4,7 +4,7 @@ import resource
 import time
 
 from folders import calendar
-from zones import part, zone
+from zones import part, stamps, zone
 
 ODD = ','.join(str(number) for number in range(1, 60, 2))
 MONTHS = ','.join(str(month) for month in range(1, 13))
@@ -39,6 +39,14 @@ def skipped(rule):
         part('DAYLIGHT', '20240701T000000', '+0000', '+2359')]
 
 
+def many(count, onsets):
+    """So many observances with an offset each and so many onsets in two days, and an event at the local of each onset."""
+    at = stamps(onsets, 172_800 // onsets)
+    parts = [part('STANDARD', '20230101T000000', '+0000', '%+03d%02d' % (number % 24 - 12, number // 24), 'RDATE:' + ','.join(at[number::count]))
+             for number in range(count)]
+    return in_zone(parts, '20231231T120000', 'RDATE;TZID=odd:' + ','.join(at))
+
+
 LONG = 'DURATION:P36525D'
 ODD_SECONDS = 'FREQ=SECONDLY;INTERVAL=2;BYSECOND=%s;BYMONTH=%s' % (ODD, MONTHS)
 SELDOM = 'FREQ=DAILY;COUNT=4294967295;INTERVAL=1009;BYWEEKNO=1'
@@ -54,6 +62,8 @@ ROWS = [
     ('8 observances that never begin', lambda: in_zone(ruled(8, 'FREQ=DAILY;' + LATE), '20240101T120000', FAR), DAY, 1),
     ('an observance with COUNT', lambda: in_zone(ruled(1, SELDOM), '20240701T120000'), DAY, 1),
     ('the same in 9700', lambda: in_zone(ruled(1, SELDOM), '97000701T120000'), ['9700-07-01', '1d'], 1),
+    ('8 observances that COUNT ends', lambda: in_zone(ruled(8, 'FREQ=DAILY;COUNT=12345;BYWEEKNO=1'), '20240701T120000'), DAY, 4),
+    ('1,200 observances, 4,800 locals', lambda: many(1_200, 4_800), ['2023-12-31', '4d'], 4),
     ('seconds of a day that is skipped', lambda: in_zone(skipped('UNTIL=20240630T235900Z'), '20240701T000000', 'RRULE:FREQ=SECONDLY;COUNT=86400'),
      ['2024-06-30', '4d'], 1),
 ]

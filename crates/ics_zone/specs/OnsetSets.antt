@@ -1,12 +1,15 @@
 -- The onsets of one observance, as a zone holds them.
-use Rattle.std.specs.Prelude.{◌≡◌, ℕ, ◌<◌, ◌≤◌, ◌⊎◌, Bool, true, ◌||◌, ◌==◌, List, length, MatchOption, slice_index_or, int_le, ℤ, ◌<ℤ◌, ◌≤ℤ◌}
+use Rattle.std.specs.Prelude.{◌≡◌, ℕ, ◌<◌, ◌≤◌, ◌⊎◌, Bool, true, ◌&&◌, ◌||◌, ◌==◌, List, length, MatchOption, slice_index_or, int_le, ℤ, ◌<ℤ◌, ◌≤ℤ◌}
 use Rattle.std.specs.List.{Contains, list_any}
 use Rattle.jiff_core.specs.Calendar.{IsWithin}
+use Rattle.ics_fields.specs.RuleParts.{RuleParts}
+use Rattle.ics_fields.specs.declared.local.Local.{Local}
 use Rattle.ics_rule.specs.Recurrence.{Recurrence}
+use Rattle.ics_rule.specs.CountBounds.{without_count}
 use Rattle.ics_rule.specs.Kept.{is_kept, until_moment}
 use Rattle.ics_fields.specs.Locals.{number}
 use Rattle.ics_zone.specs.declared.onsets.Onsets.{Onsets}
-use Rattle.ics_zone.specs.Observances.{ObservanceSaid, instant_by, is_until, is_onset}
+use Rattle.ics_zone.specs.Observances.{ObservanceSaid, instant_by, is_until, is_onset, rule_from}
 use Rattle.ics_zone.specs.Latest.{IsInOrder}
 use Rattle.ics_rule.specs.PeriodNumbers.{rules_end}
 
@@ -42,10 +45,15 @@ IsKeptAt onsets t = MatchOption onsets.rule ⊥ (λ r. IsKeptBy onsets.offset_fr
 abbrev pub Has : Onsets → ℤ → Type 0
 Has onsets t = Contains onsets.listed.items t ⊎ IsKeptAt onsets t
 
--- of the locals that the rule keeps, UNTIL allows those as onsets whose instants are not after this one
+-- the rule of an observance as a zone holds it: without COUNT
+abbrev pub held_rule : Local → RuleParts → Recurrence
+held_rule start parts = without_count (rule_from start parts)
+
+-- a local that the rule keeps is one of an onset by UNTIL exactly if the rule without COUNT keeps it and its instant is not after this one
 abbrev pub IsEnd : ℤ → ℤ → Recurrence → Type 0
 IsEnd from end r =
-    (n : ℕ) → n < rules_end → is_kept r n ≡ true → is_until (until_moment r) (instant_by from n) ≡ int_le (instant_by from n) end
+    (n : ℕ) → n < rules_end
+    → (is_kept r n && is_until (until_moment r) (instant_by from n)) ≡ (is_kept (without_count r) n && int_le (instant_by from n) end)
 
 -- the onsets are listed in order, and none is earlier than the first listed one
 pub record IsSound (onsets : Onsets) : Type 0 where

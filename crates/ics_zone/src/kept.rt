@@ -1,10 +1,12 @@
 //! The locals that a rule keeps near a place, found without counting from its start.
-ghost use Rattle.std.specs.Prelude.{◌≡◌, ℕ, ◌≤◌, ◌<◌, true, MatchOption};
+ghost use Rattle.std.specs.Prelude.{◌≡◌, ℕ, ◌≤◌, ◌<◌, ◌+◌, true, MatchOption};
+ghost use Rattle.ics_fields.specs.Locals.{calendar_end, number};
 ghost use Rattle.ics_rule.specs.Kept.{is_kept};
 ghost use Rattle.ics_rule.specs.Next.{NoneKept, IsNextKept};
 ghost use Rattle.ics_zone.specs.Latest.{IsLastKept, IsKnownLast};
 ghost use Rattle.ics_rule.specs.PeriodNumbers.{rules_end};
 
+use crate::clock::RULES_END;
 use ics_fields::Local;
 use ics_rule::{Cursor, Rule};
 
@@ -105,6 +107,42 @@ fn last_from(rule: &Rule, first: u64, second: u64, bound: u64) -> u64
         known.last = next;
         let middle = known.last + (known.end - known.last) / 2 + 1;
         known = after_look(rule, known, middle);
+    }
+    known.last
+}
+
+/// The last of all locals that a rule keeps before the end of the rules. What is not known is halved each time. The cursor is never set back, so
+/// that under COUNT it counts on from the last known local.
+pub(crate) fn last_of_all(rule: &Rule, start: u64) -> u64
+    requires start { start ≡ number rule.now.start }
+    requires inside { start < calendar_end }
+    ensures kept { is_kept rule.now result ≡ true }
+    ensures last { NoneKept rule.now (result + 1) rules_end }
+    ensures bound { result < calendar_end }
+{
+    let end = RULES_END as u64;
+    if end <= start {
+        return start;
+    }
+    let mut cursor = Cursor::at(rule, Local::numbered(start + 1));
+    let Some(second) = cursor.next(rule, Local::numbered(end)) else {
+        return start;
+    };
+    let mut known = Known {
+        last: second.number(),
+        end,
+    };
+    while known.last + 1 < known.end {
+        let middle = known.last + (known.end - known.last - 1) / 2 + 1;
+        let mut probe = cursor;
+        probe.pass(rule, Local::numbered(middle));
+        match probe.next(rule, Local::numbered(known.end)) {
+            Some(next) => {
+                known.last = next.number();
+                cursor = probe;
+            }
+            None => known.end = middle,
+        }
     }
     known.last
 }

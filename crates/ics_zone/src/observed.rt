@@ -36,11 +36,14 @@ const HELD_AHEAD: i64 = 120 * DAY;
 /// After a span that goes on for longer than this, spans are held for the day of an instant alone.
 const A_LONG_SPAN: i64 = 7 * DAY;
 
-/// The number of spans that a zone holds at most.
+/// The number of spans that a zone holds, unless it makes more for one instant.
 const HELD: usize = 1_024;
 
-/// How many of them are made for one instant.
+/// How many spans are made for one instant, unless a zone has many offsets.
 const HELD_AT_ONCE: usize = 128;
+
+/// How many observances are looked at for the spans of one instant, unless they are few.
+const LOOKED_AT: usize = 8_000_000;
 
 /// A zone by observances (RFC 5545, section 3.6.5). It has no table of onsets: it searches the observances near each instant. Contracts see the
 /// observances alone.
@@ -50,7 +53,7 @@ pub struct Observed {
     onsets: Vec<Onsets>,
     /// How many seconds back the search for an onset goes at first.
     ago: i64,
-    /// How many spans are held for one instant.
+    /// How many spans are made for one instant.
     at_once: usize,
     /// Every offset that the zone has at some instant.
     offsets: Vec<i32>,
@@ -96,7 +99,7 @@ impl Observed {
             return Err(ZoneFault::Memory);
         };
         let ago = least_ago(&onsets);
-        let at_once = spans_at_once(&observances);
+        let at_once = spans_at_once(&observances, offsets.len());
         Ok(Observed {
             observances,
             onsets,
@@ -114,7 +117,13 @@ impl Observed {
         ensures always { result ≡ Ok tt }
     {
         let near = to.clamp(FIRST_HELD, LAST_HELD);
-        self.hold_from(near - DAY, near + DAY, near + HELD_AHEAD);
+        let last = near + HELD_AHEAD;
+        let soon = if self.at_once > HELD_AT_ONCE {
+            last
+        } else {
+            near + DAY
+        };
+        self.hold_from(near - DAY, soon, last);
         Ok(())
     }
 
@@ -176,7 +185,7 @@ impl Observed {
         requires { IsSearched near }
         ensures { self.new ≡ self.old }
     {
-        if self.held.len() >= HELD || self.held_over(near, near).is_some() {
+        if self.held.len() >= HELD.max(self.at_once) || self.held_over(near, near).is_some() {
             return;
         }
         let Some(steady) = self.steady_about(near) else {
@@ -465,16 +474,16 @@ fn least_ago(onsets: &[Onsets]) -> i64 {
     ago
 }
 
-// How many spans are held for one instant: two, if an observance is counted.
-fn spans_at_once(observances: &[Observance]) -> usize {
+// How many spans are made for one instant. They are more than usual, if a zone without rules has many offsets: a local that is in no span is
+// looked for under each of them.
+fn spans_at_once(observances: &[Observance], offsets: usize) -> usize {
     for observance in observances {
-        if let Some(parts) = &observance.rule {
-            if parts.count().is_some() {
-                return 2;
-            }
+        if observance.rule.is_some() {
+            return HELD_AT_ONCE;
         }
     }
-    HELD_AT_ONCE
+    let most = LOOKED_AT / observances.len().max(1);
+    offsets.saturating_mul(4).min(most).max(HELD_AT_ONCE)
 }
 
 // The offsets before and after the onsets, each of them once, the greatest first.

@@ -3,16 +3,16 @@ ghost use Rattle.std.specs.Prelude.{◌≡◌, ℤ, pos, int_le, ◌<◌, ◌<�
 ghost use Rattle.std.specs.List.{Contains};
 ghost use Rattle.std.specs.Option.{option_map};
 ghost use Rattle.jiff_core.specs.Calendar.{IsWithin};
-ghost use Rattle.ics_fields.specs.Locals.{calendar_end, number};
+ghost use Rattle.ics_fields.specs.Days.{IsStampDay};
 ghost use Rattle.ics_rule.specs.Kept.{until_moment};
 ghost use Rattle.ics_zone.specs.Observances.{is_until, observance_said, rule_from};
 ghost use Rattle.ics_zone.specs.Latest.{IsInOrder, IsPassed, IsLast, IsLastOf, IsLastAfter};
-ghost use Rattle.ics_zone.specs.OnsetSets.{IsShownTo, IsKeptAt, Has, IsSound, AreOnsetsOf, IsListing, IsEnd};
+ghost use Rattle.ics_zone.specs.OnsetSets.{IsShownTo, IsKeptAt, Has, IsSound, AreOnsetsOf, IsListing, IsEnd, held_rule};
 
 use crate::Observance;
 use crate::clock::{RULES_END, instant, shown_by};
-use crate::kept::{last_between, last_kept, next_kept};
-use ics_fields::{BitSet, Frequency, Moment, Parts};
+use crate::kept::{last_between, last_kept, last_of_all, next_kept};
+use ics_fields::{BitSet, Frequency, Local, Moment, Parts};
 use ics_rule::{Kind, Rule};
 use std::alloc::{AllocError, Global};
 
@@ -25,7 +25,7 @@ pub(crate) struct Onsets {
     pub offset_to: i32,
     /// The instants of DTSTART and of the RDATEs, in order.
     pub listed: Vec<Moment>,
-    /// RRULE.
+    /// RRULE, but for COUNT.
     pub rule: Option<Rule>,
     /// No onset of the rule is later than this.
     pub until: Moment,
@@ -39,16 +39,6 @@ fn passed(listed: &[Moment], moment: Moment) -> usize
     ensures { IsPassed listed.now moment result }
 {
     listed.partition_point(|at| *at <= moment)
-}
-
-// The rule of an observance, from its DTSTART on.
-fn rule_of(observance: &Observance) -> Option<Rule>
-    ensures { result ≡ option_map (rule_from observance.now.start) observance.now.rule }
-{
-    match observance.rule {
-        Some(parts) => Some(Rule::new(parts, observance.start, Kind::DateTime)),
-        None => None,
-    }
 }
 
 // How many numbers a part lists, or one if it is absent.
@@ -99,26 +89,42 @@ fn until_of(rule: &Rule) -> Moment
     rule.until_moment().unwrap_or(Moment::MAX)
 }
 
-// The last instant at which a rule may have an onset: UNTIL, if it is there and in UTC, and DTSTART, if the rule is asked and keeps no later
-// local.
-fn end_of(rule: &Option<Rule>, is_asked: bool, offset_from: i32, start: u64) -> Moment
+// The last instant at which a rule may have an onset: UNTIL, if it is there and in UTC, and the last onset by COUNT. It is DTSTART at most, if
+// the rule is asked and keeps no later local.
+fn end_of(parts: &Parts, start: Local, offset_from: i32) -> Moment
     requires offset { IsWithin 86_399 offset_from }
-    requires start { start < calendar_end }
-    ensures { IfSome rule.now (λ r. number r.start ≡ start → IsEnd offset_from result r) }
+    requires start { IsStampDay start.day }
+    ensures { IsEnd offset_from result (rule_from start parts.now) }
 {
-    let Some(rule) = rule else {
-        return Moment::MAX;
-    };
-    let until = until_of(rule);
-    if !is_asked {
-        return until;
+    let rule = Rule::new(*parts, start, Kind::DateTime);
+    let until = until_of(&rule);
+    let first = start.number();
+    if parts.count().is_some() {
+        return until.min(instant(offset_from, last_of_all(&rule, first)));
     }
-    let after = (start + 1).min(RULES_END as u64);
-    if next_kept(rule, after, RULES_END as u64).is_some() {
+    let after = (first + 1).min(RULES_END as u64);
+    if is_plain(parts) || next_kept(&rule, after, RULES_END as u64).is_some() {
         until
     } else {
-        until.min(instant(offset_from, start))
+        until.min(instant(offset_from, first))
     }
+}
+
+// The rule of an observance, from its DTSTART on and without COUNT, and the last instant at which it may have an onset.
+fn rule_of(observance: &Observance) -> (Option<Rule>, Moment)
+    ensures rule { result.0 ≡ option_map (held_rule observance.now.start) observance.now.rule }
+    ensures end { IfSome (option_map (rule_from observance.now.start) observance.now.rule) (IsEnd observance.now.offset_from result.1) }
+{
+    let Some(parts) = &observance.rule else {
+        return (None, Moment::MAX);
+    };
+    let until = end_of(parts, observance.start, observance.offset_from);
+    let mut held = *parts;
+    held.remove_count();
+    (
+        Some(Rule::new(held, observance.start, Kind::DateTime)),
+        until,
+    )
 }
 
 // The instants of DTSTART and of the RDATEs, in order.
@@ -140,13 +146,7 @@ impl Onsets {
         ensures { IfOk result (AreOnsetsOf (observance_said observance.now)) }
     {
         let listed = listed(alloc, observance)?;
-        let rule = rule_of(observance);
-        let is_asked = match &observance.rule {
-            Some(parts) => !is_plain(parts),
-            None => false,
-        };
-        let start = observance.start.number();
-        let until = end_of(&rule, is_asked, observance.offset_from, start);
+        let (rule, until) = rule_of(observance);
         let ago = spacing(observance);
         Ok(Onsets {
             offset_from: observance.offset_from,

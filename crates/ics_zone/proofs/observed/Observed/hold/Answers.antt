@@ -14,8 +14,8 @@ invariant_of-self c =
     (subst (λ (z : List Observance). IsSteady (zone_offset (observances_said z)) c.in-Some.steady.from c.in-Some.steady.next c.in-Some.steady.offset)
     (sym c.self.view_is) c.in-Some.ensures))
 
-pub returns-then-len-ge-HELD : goal.returns-then-len-ge-HELD
-returns-then-len-ge-HELD c = grind (arith, common_steps)
+pub returns-then-len-max : goal.returns-then-len-max
+returns-then-len-max c = grind (arith, common_steps)
 
 pub returns-in_default : goal.returns-in_default
 returns-in_default c = grind (arith, common_steps)

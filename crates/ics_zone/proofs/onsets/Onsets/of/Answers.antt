@@ -10,19 +10,15 @@ use Rattle.ics_fields.specs.Locals.{number}
 use Rattle.ics_rule.specs.Kept.{is_kept}
 use Rattle.ics_zone.specs.declared.onsets.Onsets.{Onsets}
 use Rattle.ics_zone.specs.Observances.{ObservanceSaid, IsObservanceSaid, instant_by, rule_from, is_by_rule, is_onset, observance_said}
-use Rattle.ics_zone.specs.OnsetSets.{IsKeptBy, AreOnsetsOf, IsListing, IsEnd, is_listed}
+use Rattle.ics_zone.specs.OnsetSets.{IsKeptBy, AreOnsetsOf, IsListing, IsEnd, is_listed, held_rule}
 use Rattle.ics_zone.proofs.Cases.{int_le_true, true_int_le}
 use Rattle.ics_zone.proofs.EndLemmas.{kept_early}
 use Rattle.ics_zone.proofs.OnsetLemmas.{onset-local, local-onset}
 use Rattle.ics_rule.specs.PeriodNumbers.{rules_end}
 use Rattle.ics_zone.proofs.onsets.Onsets.of.Goals as goal
-use Rattle.ics_zone.proofs.onsets.Onsets.of.Goals.{After-spacing-ago}
 
 same_or : (a b c : Bool) → (a || (b || c)) ≡ ((a || b) || c)
 same_or a b c = grind (arith, nat_tests)
-
-in_both : (a b c : Bool) → (a ≡ true → b ≡ c) → (a && b) ≡ (a && c)
-in_both a b c h = grind (arith, nat_tests)
 
 -- an onset is listed, or by the rule
 onset_at : (p : ObservanceSaid) (t : ℤ) (n : ℕ) → t ≡ instant_by p.offset_from n → is_onset p t ≡ (is_listed p n || is_by_rule p p.rule n)
@@ -35,15 +31,14 @@ module _ (p : ObservanceSaid) (facts : IsObservanceSaid p) (s : Onsets) (from : 
 
   -- what the rule keeps, by what it is made of
   abbrev Kept : Option RuleParts → ℤ → Type 0
-  Kept o t = MatchOption (option_map (rule_from p.start) o) ⊥ (λ r. IsKeptBy s.offset_from s.until r t)
+  Kept o t = MatchOption (option_map (held_rule p.start) o) ⊥ (λ r. IsKeptBy s.offset_from s.until r t)
 
   abbrev HasEnd : Option RuleParts → Type 0
   HasEnd o = IfSome (option_map (rule_from p.start) o) (IsEnd p.offset_from s.until)
 
   by_rule_is : (parts : RuleParts) (t : ℤ) (n : ℕ) → HasEnd (Some parts) → t ≡ instant_by p.offset_from n → n < rules_end
-      → is_by_rule p (Some parts) n ≡ (is_kept (rule_from p.start parts) n && int_le t s.until)
-  by_rule_is parts t n ends at early = in_both (is_kept (rule_from p.start parts) n) _ _
-      (λ kept. ends n early kept ∙ ap (λ x. int_le x s.until) (sym at))
+      → is_by_rule p (Some parts) n ≡ (is_kept (held_rule p.start parts) n && int_le t s.until)
+  by_rule_is parts t n ends at early = ends n early ∙ ap (λ x. is_kept (held_rule p.start parts) n && int_le x s.until) (sym at)
 
   onset_kept : (o : Option RuleParts) → o ≡ p.rule → HasEnd o → (t : ℤ) → Kept o t → is_onset p t ≡ true
   onset_kept None is ends t k = absurd k
@@ -68,9 +63,9 @@ module _ (p : ObservanceSaid) (facts : IsObservanceSaid p) (s : Onsets) (from : 
       let start = start_listed in
       let low = listing.in_order 0 start.0 d (omega arith) start.1 in
       let same = get_or_default s.listed.items start.0 d (instant_by p.offset_from (number p.start)) start.1 in
-      elim (kept_early (rule_from p.start parts) k.local k.kept) [ inl first ↦ omega (arith, ints) | inr early ↦ omega (arith, ints) ]
+      elim (kept_early (held_rule p.start parts) k.local k.kept) [ inl first ↦ omega (arith, ints) | inr early ↦ omega (arith, ints) ]
 
-  pub onsets_made : s.rule ≡ option_map (rule_from p.start) p.rule → HasEnd p.rule → AreOnsetsOf p s
+  pub onsets_made : s.rule ≡ option_map (held_rule p.start) p.rule → HasEnd p.rule → AreOnsetsOf p s
   onsets_made made ends =
       record {
         sound = record {
@@ -93,24 +88,12 @@ module _ (p : ObservanceSaid) (facts : IsObservanceSaid p) (s : Onsets) (from : 
             ];
       }
 
--- the rule ends so
-ends : (c : After-spacing-ago) → IfSome (option_map (rule_from c.args.observance.now.start) c.args.observance.now.rule)
-    (IsEnd c.args.observance.now.offset_from c.end_of-until.result)
-ends c = by c.args.observance.now.rule (rw (c.rule_of-rule.ensures, to_z-of_z w32 c.args.observance.now.offset_from (search rules)) at c.end_of-until.ensures)
-  where
-    by : (o : Option RuleParts) → IfSome (option_map (rule_from c.args.observance.now.start) o)
-        (λ r. number r.start ≡ c.number-start.result → IsEnd c.args.observance.now.offset_from c.end_of-until.result r)
-        → IfSome (option_map (rule_from c.args.observance.now.start) o) (IsEnd c.args.observance.now.offset_from c.end_of-until.result)
-    by None h = tt
-    by (Some parts) h = h (sym c.number-start.ensures.value)
-
 pub returns : goal.returns
 returns c =
     let from : SFits w32 c.args.observance.now.offset_from = search rules in
     let to : SFits w32 c.args.observance.now.offset_to = search rules in
-    let until : SFits w64 c.end_of-until.result = search rules in
+    let until : SFits w64 c.rule_of-rule.result.1 = search rules in
     let o = c.args.observance.now in
-    rw (to_z-of_z w32 c.args.observance.now.offset_from from, to_z-of_z w32 c.args.observance.now.offset_to to, to_z-of_z w64 c.end_of-until.result until)
+    rw (to_z-of_z w32 c.args.observance.now.offset_from from, to_z-of_z w32 c.args.observance.now.offset_to to, to_z-of_z w64 c.rule_of-rule.result.1 until)
     (onsets_made (observance_said o) (record { start_in = o.start_in; from_in = o.from_in; to_in = o.to_in }) _ refl refl c.in_ok-listed.ensures
-    c.rule_of-rule.ensures
-    (ends (goal.at.returns c).After-spacing-ago))
+    c.rule_of-rule.ensures.rule c.rule_of-rule.ensures.end)
