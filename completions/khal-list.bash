@@ -18,7 +18,7 @@ _khal_list() {
         esac
     done
     placeholders='{cell} {title} {start-time} {end-time} {start-date} {end-date} {location} {description} {uid} {cancelled}'
-    placeholders+=' {start-unix} {end-unix} {token}'
+    placeholders+=' {start-unix} {end-unix} {token} {url}'
     case $before in
     --zone) words='UTC' ;;
     --zone-file)

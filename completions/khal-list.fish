@@ -33,7 +33,7 @@ complete -c khal-list -n '__fish_seen_subcommand_from list' -l limit -x -d 'List
 complete -c khal-list -n '__fish_seen_subcommand_from list' -l after -x -d 'List the entries after the one with a token'
 complete -c khal-list -n '__fish_seen_subcommand_from list' -l notstarted -d 'Leave out what began before the window'
 complete -c khal-list -n '__fish_seen_subcommand_from list' -l every-day -d 'List what lasts several days under each of them'
-complete -c khal-list -n '__fish_seen_subcommand_from list' -l format -x -a '{cell} {title} {start-time} {end-time} {start-date} {end-date} {location} {description} {uid} {cancelled} {start-unix} {end-unix} {token}' -d 'How an entry is written'
+complete -c khal-list -n '__fish_seen_subcommand_from list' -l format -x -a '{cell} {title} {start-time} {end-time} {start-date} {end-date} {location} {description} {uid} {cancelled} {start-unix} {end-unix} {token} {url}' -d 'How an entry is written'
 complete -c khal-list -n '__fish_seen_subcommand_from list' -l day-format -x -a '{name} {date}' -d 'How a heading is written'
 complete -c khal-list -s h -l help -d 'Print help'
 complete -c khal-list -n "not __fish_seen_subcommand_from $commands" -l version -d 'Print the version'

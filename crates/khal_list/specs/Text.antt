@@ -14,7 +14,7 @@ use Rattle.ics_series.specs.OnDays.{on_day, OnDay, date_at, day_rank_of}
 use Rattle.ics_series.specs.Tokens.{day_spelling, spelling}
 use Rattle.khal_words.specs.declared.field.EntryField.{EntryField}
 use Rattle.khal_words.specs.declared.field.EntryField.TheVariants.{Cell, Title, StartTime, EndTime, StartDate, EndDate, Location, Description, Uid, Cancelled}
-use Rattle.khal_words.specs.declared.field.EntryField.TheVariants.{StartUnix, EndUnix, Token}
+use Rattle.khal_words.specs.declared.field.EntryField.TheVariants.{StartUnix, EndUnix, Token, Url}
 use Rattle.khal_words.specs.declared.field.DayField.{DayField}
 use Rattle.khal_words.specs.declared.field.DayField.TheVariants as day
 use Rattle.khal_words.specs.declared.format.Piece.{Piece}
@@ -119,6 +119,7 @@ entry_field_text style day e Cancelled = if e.event.cancelled then codes "CANCEL
 entry_field_text style day e StartUnix = signed_decimal e.start
 entry_field_text style day e EndUnix = signed_decimal e.finish
 entry_field_text style day e Token = token_text style day e
+entry_field_text style day e Url = shown e.event.url
 
 -- the value of a placeholder for a day
 abbrev pub day_field_text : ℤ → DayField → List ℕ

@@ -144,5 +144,6 @@ pub(crate) fn add_field(
         EntryField::StartUnix => add_moment(alloc, text, occurrence.start),
         EntryField::EndUnix => add_moment(alloc, text, occurrence.finish),
         EntryField::Token => add_token(alloc, text, request, day, occurrence),
+        EntryField::Url => add_shown(alloc, text, event.url.as_slice()),
     }
 }

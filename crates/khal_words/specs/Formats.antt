@@ -25,6 +25,7 @@ entry_name entry.Cancelled = codes "cancelled"
 entry_name entry.StartUnix = codes "start-unix"
 entry_name entry.EndUnix = codes "end-unix"
 entry_name entry.Token = codes "token"
+entry_name entry.Url = codes "url"
 
 abbrev pub day_name : DayField → List ℕ
 day_name day.Name = codes "name"

@@ -28,7 +28,7 @@ const LIST_EXAMPLES: &str = "Without a time zone all times, and `today`, are in 
 
 Placeholders of --format:
   {cell} {title} {start-time} {end-time} {start-date} {end-date} {location}
-  {description} {uid} {cancelled} {start-unix} {end-unix} {token}
+  {description} {uid} {cancelled} {start-unix} {end-unix} {token} {url}
 
 Examples:
   khal-list list ~/calendars --zone-file /etc/localtime

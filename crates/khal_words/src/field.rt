@@ -28,6 +28,8 @@ pub enum EntryField {
     EndUnix,
     /// The token with which a listing continues after it.
     Token,
+    /// The value of its first URL, as it stands.
+    Url,
 }
 
 /// What a placeholder names of a day.
@@ -104,6 +106,9 @@ impl Placeholder for EntryField {
         }
         if is(text, "token") {
             return Some(EntryField::Token);
+        }
+        if is(text, "url") {
+            return Some(EntryField::Url);
         }
         None
     }

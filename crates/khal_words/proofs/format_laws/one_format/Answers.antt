@@ -20,9 +20,9 @@ abbrev entry_fields : List EntryField
 entry_fields =
     entry.Cell ∷ entry.Title ∷ entry.StartTime ∷ entry.EndTime ∷ entry.StartDate ∷ entry.EndDate ∷ entry.Location ∷ entry.Description ∷ entry.Uid ∷
     entry.Cancelled
-    ∷ entry.StartUnix ∷ entry.EndUnix ∷ []
+    ∷ entry.StartUnix ∷ entry.EndUnix ∷ entry.Token ∷ []
 
-entry_back : (field : EntryField) → named entry_name entry_fields entry.Token (entry_name field) ≡ field
+entry_back : (field : EntryField) → named entry_name entry_fields entry.Url (entry_name field) ≡ field
 entry_back entry.Cell = refl
 entry_back field = refl
 
@@ -31,7 +31,7 @@ day_back day.Name = refl
 day_back day.Date = refl
 
 pub returns-clause-entries : goal.returns-clause-entries
-returns-clause-entries c = one_list entry_name entry_names_plain (one_name entry_name (named entry_name entry_fields entry.Token) entry_back)
+returns-clause-entries c = one_list entry_name entry_names_plain (one_name entry_name (named entry_name entry_fields entry.Url) entry_back)
 
 pub returns-clause-days : goal.returns-clause-days
 returns-clause-days c = one_list day_name day_names_plain (one_name day_name (named day_name (day.Name ∷ []) day.Date) day_back)
