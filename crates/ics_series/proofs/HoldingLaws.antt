@@ -73,7 +73,10 @@ periods-within r {a = a} {b = b} {c = c} {d = d} low high =
 rule-few : (zones : FileZones) (event : Event) (w : Window) (first : ℤ) (o : Option RuleStarts) → HasOwnRule zones event w first o →
     length (rule_held o) ≤ most_in_days (clocks_in zones) event
 rule-few zones event w first None h = omega arith
-rule-few zones event w first (Some s) h = rw (h.zones_are, h.event_is) at (few-held s)
+rule-few zones event w first (Some s) h =
+    let same : most_in_days (clocks_in s.zones) s.event.now ≡ most_in_days (clocks_in zones) event =
+    λ i. most_in_days (clocks_in (h.zones_are i)) (h.event_is i) in
+    omega (arith, few-held s, same)
 
 -- a series holds no more than its event has starts in any five days
 pub series-few : (s : SeriesFeed) → length (series_holds s) ≤ most_in_days (clocks_in s.zones) s.event.now

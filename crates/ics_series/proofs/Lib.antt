@@ -14,11 +14,13 @@ pub mod NearDayLemmas
 pub mod OccursLemmas
 pub mod OnDayLemmas
 pub mod OverrideLemmas
+pub mod QueueLemmas
 pub mod RawLemmas
 pub mod RecurringLemmas
 pub mod RuleDayLemmas
 pub mod RuleStepLemmas
 pub mod SeriesLemmas
+pub mod SettledLemmas
 pub mod SinglesLemmas
 pub mod SoughtLemmas
 pub mod SourceLemmas

@@ -1,6 +1,6 @@
 -- One step of reading the starts of a rule: a kept local more, or none up to a bound.
 use lib.Signed.{mag}
-use Rattle.std.proofs.Common.{◌≡◌, ℕ, ◌+◌, ◌<◌, ◌≤◌, w32, to_z, of_z, max, ℤ, pos, ◌+ℤ◌, ◌-ℤ◌, Bool, true, false, ◌&&◌, List, [], ◌∷◌, length, ◌⊎◌, inl, inr}
+use Rattle.std.proofs.Common.{◌≡◌, ℕ, ◌+◌, ◌<◌, ◌≤◌, w32, w64, to_z, of_z, max, ℤ, pos, ◌+ℤ◌, ◌-ℤ◌, Bool, true, false, ◌&&◌, List, [], ◌∷◌, length, ◌⊎◌, inl, inr}
 use Rattle.std.proofs.Common.{⊎_elim, refl, sym, ap, arith, ◌≤ℤ◌, ◌<ℤ◌, int_lt, not, slice_get, Option, Some, None, ◌==◌, ◌∙◌}
 use Rattle.std.proofs.lemmas.Bool.{eqb-true, or_cases}
 use Rattle.std.proofs.lemmas.Int.{int_max_is, int_min_is, ints}
@@ -9,7 +9,7 @@ use Rattle.ics_fields.specs.Days.{IsDayNumber}
 use Rattle.ics_fields.specs.declared.local.Local.{Local}
 use Rattle.ics_rule.specs.Cursors.{place_of}
 use Rattle.ics_rule.specs.Kept.{until_moment}
-use Rattle.ics_fields.specs.Locals.{local_at, local_seconds, number, midnight, whole_days, year_seconds}
+use Rattle.ics_fields.specs.Locals.{local_at, local_seconds, number, midnight, whole_days, year_number, year_seconds}
 use Rattle.ics_rule.specs.Next.{NoneKept, IsNextKept}
 use Rattle.ics_rule.specs.Recurrence.{Recurrence}
 use Rattle.ics_rule.proofs.KeptLemmas.{and_true}
@@ -24,7 +24,7 @@ use Rattle.ics_series.specs.Listing.{IsIn}
 use Rattle.ics_series.specs.Merged.{cut}
 use Rattle.ics_series.specs.MergedLaws.{rises-union}
 use Rattle.ics_series.specs.Rising.{Rises}
-use Rattle.ics_series.specs.RuleFeed.{starts_left}
+use Rattle.ics_series.specs.RuleFeed.{held_in, is_unsettled, settled_in, starts_left}
 use Rattle.ics_series.specs.RuleStarts.{ends_at, found, gives, is_behind, is_ready, midnight_number, moment_numbered, steps_left, to_come, with_held, AreHeld}
 use Rattle.ics_series.specs.RuleStarts.{IsHeld}
 use Rattle.ics_series.specs.Starts.{local_of, time_at}
@@ -33,6 +33,7 @@ use Rattle.ics_series.specs.FileZones.{clocks_in, IsTimeOf}
 use Rattle.ics_series.proofs.StartSourceLemmas.{calendar-day, kept-time, number-seconds, numbered-number, own-day}
 use Rattle.ics_series.proofs.RawLemmas.{held-in-days}
 use Rattle.ics_series.proofs.RuleDayLemmas.{come-none, come-one, early-numbered, found-is, given-parts, late-numbered, less-start, number-day, rises-found}
+use Rattle.ics_series.proofs.SettledLemmas.{late-settled}
 use Rattle.ics_series.proofs.ListingLemmas.{before-in}
 use Rattle.ics_series.proofs.UnionLemmas.{union-in}
 use Rattle.ics_series.proofs.BeginsLemmas.{before-all, put-before, before-union}
@@ -62,18 +63,18 @@ no-member (x ∷ xs) none = absurd (none x (inl refl))
 ready-by : (day end : ℤ) (ready : Bool) → (int_lt day end && not ready) ≡ false → day <ℤ end → ready ≡ true
 ready-by day end ready h l = grind (arith, ints)
 
-module _ (day end : ℤ) where
-  pub behind-early : (held : List Start) → is_behind day end held ≡ true → day <ℤ end
+module _ (settled day end : ℤ) where
+  pub behind-early : (held : List Start) → is_behind settled day end held ≡ true → day <ℤ end
   behind-early held b = int_lt_true day end (and_true {a = int_lt day end} b).0
 
   -- all that is held begins no more than three days before the next day
-  pub next-late : (held : List Start) → Rises moment_cmp held → is_behind day end held ≡ true → (s : Start) → IsIn s held →
-      (midnight (day +ℤ pos 1) -ℤ whole_days 3) ≤ℤ s.moment
-  next-late [] r b s m = absurd m
-  next-late (x ∷ held) r b s m =
-      let first = int_le_false x.moment (midnight day -ℤ whole_days 2) (not-true (is_ready day (x ∷ held)) (and_true {a = int_lt day end} b).1) in
-      ⊎_elim (λ same. rw same (omega (arith, ints, first)))
-      (λ n. let less = int-less x.moment s.moment (before-in moment_cmp moment_total x s held r.0 n) in omega (arith, ints, first, less)) m
+  pub next-late : (held : List Start) → (midnight day -ℤ whole_days 2) ≤ℤ settled → Rises moment_cmp held → is_behind settled day end held ≡ true →
+      (s : Start) → IsIn s held → (midnight (day +ℤ pos 1) -ℤ whole_days 3) ≤ℤ s.moment
+  next-late [] l r b s m = absurd m
+  next-late (x ∷ held) l r b s m =
+      let first = int_le_false x.moment settled (not-true (is_ready settled (x ∷ held)) (and_true {a = int_lt day end} b).1) in
+      ⊎_elim (λ same. rw same (omega (arith, ints, first, l)))
+      (λ n. let less = int-less x.moment s.moment (before-in moment_cmp moment_total x s held r.0 n) in omega (arith, ints, first, less, l)) m
 
 -- the starts that are held once a kept local is read
 held-in : (b : Bool) (s x : Start) (held : List Start) → IsIn x (with_held b s held) → IsIn x held ⊎ ((b ≡ true) × (x ≡ s))
@@ -150,9 +151,9 @@ module _ (s : RuleStarts) where
       (or_cases (n == number s.rule.start) (is_until until t) parts.1)
 
   -- what is held is no more than the event has in five UTC days
-  pub few-held : length s.held.items ≤ most_in_days (clocks_in s.zones) s.event.now
+  pub few-held : length (held_in s) ≤ most_in_days (clocks_in s.zones) s.event.now
   few-held =
-      held-in-days s.zones s.event.now s.rule s.window s.time.is_time s.of s.held.items (omega (arith, ints, s.low, s.asked_on))
+      held-in-days s.zones s.event.now s.rule s.window s.time.is_time s.of (held_in s) (omega (arith, ints, s.low, s.asked_on))
       (omega (arith, ints, s.asked_end, end-days.1)) s.rises s.are
 
   -- what is still to come where this is held, and what the locals give that are not read yet
@@ -170,36 +171,42 @@ module _ (s : RuleStarts) where
       let early = given-early s.day f.by day-days (omega (arith, s.read, f.from_place)) f.given in
       (omega (arith, ints, late, ap (λ (x : Start). x.moment) f.is), early)
 
-  -- where no day more has to be read the first that is held is the first still to come
+  -- and after the settled instant
+  found-settled : (t : Start) → IsIn t unread → settled_in s <ℤ t.moment
+  found-settled t m =
+      let f = found-is s.zones s.event.now s.rule s.window (place_of s.cursor) t m in
+      let after =
+      late-settled s.zones s.event.now s.day s.next f.by day-days (omega (arith, s.read, f.from_place)) (omega (arith, ints, s.next_read, f.from_place)) in
+      omega (arith, ints, after, ap (λ (x : Start). x.moment) f.is)
+
+  -- where no local more has to be read the first that is held is the first still to come
   abbrev in_front : List Start → List Start
   in_front [] = []
   in_front (x ∷ xs) = x ∷ left xs
 
-  settled : (held : List Start) → Rises moment_cmp held → is_behind s.day s.end held ≡ false → left held ≡ in_front held
+  settled : (held : List Start) → Rises moment_cmp held → is_behind (settled_in s) s.day s.end held ≡ false → left held ≡ in_front held
   unfolding to_come
   settled [] r b = no-member unread (λ t m. let no : false ≡ true = ready-by s.day s.end false b (found-late t m).1 in absurd cc)
   settled (x ∷ xs) r b =
       put-before moment_cmp moment_total x (left xs) (before-union moment_cmp moment_total x xs unread r.0
       (before-all moment_cmp x unread (λ t m.
-      let late = found-late t m in
-      let ready = int_le_true x.moment (midnight s.day -ℤ whole_days 2) (ready-by s.day s.end (is_ready s.day (x ∷ xs)) b late.1) in
-      less-start x t (omega (arith, ints, late.0, ready)))))
+      let ready = int_le_true x.moment (settled_in s) (ready-by s.day s.end (is_ready (settled_in s) (x ∷ xs)) b (found-late t m).1) in
+      less-start x t (omega (arith, ints, found-settled t m, ready)))))
 
   first-of : (held : List Start) → left held ≡ in_front held → slice_get held 0 ≡ slice_get (left held) 0
   first-of [] e = rw e refl
   first-of (x ∷ xs) e = rw e refl
 
-  pub first-left : is_behind s.day s.end s.held.items ≡ false → slice_get s.held.items 0 ≡ slice_get (starts_left s) 0
-  first-left ready = first-of s.held.items (settled s.held.items s.rises ready)
+  pub first-left : is_unsettled s ≡ false → slice_get (held_in s) 0 ≡ slice_get (starts_left s) 0
+  first-left ready = first-of (held_in s) (settled (held_in s) s.rises ready)
 
   -- a start leaves of what is held what it leaves of all that is still to come
   passed : (t : Start) (held : List Start) → left held ≡ in_front held → left (cut moment_cmp t held) ≡ cut moment_cmp t (left held)
   passed t [] e = rw e refl
   passed t (x ∷ xs) e = rw e (by-cases (moment_cmp t x) (λ p. rw p e) (λ p. rw p refl) (λ p. rw p e))
 
-  pub passed-left : (t : Start) (new : List Start) → new ≡ cut moment_cmp t s.held.items → is_behind s.day s.end s.held.items ≡ false
-      → left new ≡ cut moment_cmp t (starts_left s)
-  passed-left t new is ready = rw is (passed t s.held.items (settled s.held.items s.rises ready))
+  pub passed-left : (t : Start) (new : List Start) → new ≡ cut moment_cmp t (held_in s) → is_unsettled s ≡ false → left new ≡ cut moment_cmp t (starts_left s)
+  passed-left t new is ready = rw is (passed t (held_in s) (settled (held_in s) s.rises ready))
 
   pub asked-number : pos (midnight_number s.asked) ≡ midnight s.asked +ℤ pos 62_167_219_200
   asked-number = number-day s.asked (omega (arith, ints, s.low, s.asked_on), omega (arith, ints, s.asked_end, end-days.1))
@@ -209,13 +216,15 @@ module _ (s : RuleStarts) where
   unfolding to_come
   left-near t m =
       ⊎_elim (λ n. (s.are t n).late) (λ n. let late = (found-late t n.1).0 in omega (arith, ints, late, s.asked_soon))
-      (union-in moment_cmp moment_total t s.held.items unread (rises-found (clocks_in s.zones) s.event.now s.rule s.window (place_of s.cursor)) m)
+      (union-in moment_cmp moment_total t (held_in s) unread (rises-found (clocks_in s.zones) s.event.now s.rule s.window (place_of s.cursor)) m)
 
 -- What is known of the starts once a day more is read, up to and with a local.
-pub record IsRead (s : RuleStarts) (day asked : ℤ) (place known : ℕ) (held : List Start) : Type 0 where
+pub record IsRead (s : RuleStarts) (day asked next : ℤ) (place known : ℕ) (held : List Start) : Type 0 where
   pub rises : Rises moment_cmp held
   pub are : AreHeld (clocks_in s.zones) s.event.now s.rule s.window asked held
   pub read : midnight_number day ≤ place
+  pub next_read : (next +ℤ pos (year_number 1_970)) ≤ℤ pos place
+  pub next_on : midnight day ≤ℤ next
   pub low : year_seconds 0 ≤ℤ midnight day
   pub on : day ≤ℤ asked
   pub soon : asked ≤ℤ (day +ℤ pos 1)
@@ -238,20 +247,28 @@ module _ (s : RuleStarts) {b : ℤ} (fits : mag b < 2_147_483_648) (later : s.da
   pub bound-early : number at ≤ rules_end
   bound-early = omega (arith, ints, there, within, days.0, (end-days s).0, s.early)
 
+  midnight-back : (seconds : ℤ) → seconds ≡ local_seconds at → to_z w64 (of_z w64 seconds) ≡ midnight b
+  midnight-back seconds e =
+      let there = ap (λ (l : Local). local_seconds l) is in
+      let day : to_z w32 (of_z w32 b) ≡ b = signed-back b b fits refl in
+      omega (arith, ints, e, there, day, days)
+
   -- where no local is kept up to the bound
-  pub none-read : {held : List Start} → held ≡ s.held.items → AreHeld (clocks_in s.zones) s.event.now s.rule s.window b s.held.items → {place : ℕ} →
-      NoneKept s.rule (place_of s.cursor) (number at) × (place ≡ max (place_of s.cursor) (number at)) →
-      IsRead s (to_z w32 (of_z w32 b)) (to_z w32 (of_z w32 b)) place (number at) held
-  none-read h are next = rw (signed-back b b fits refl, h) (record {
+  pub none-read : AreHeld (clocks_in s.zones) s.event.now s.rule s.window b (held_in s) → {place : ℕ} →
+      NoneKept s.rule (place_of s.cursor) (number at) × (place ≡ max (place_of s.cursor) (number at)) → {seconds : ℤ} → seconds ≡ local_seconds at →
+      IsRead s (to_z w32 (of_z w32 b)) (to_z w32 (of_z w32 b)) (to_z w64 (of_z w64 seconds)) place (number at) (held_in s)
+  none-read are next {seconds = seconds} read = let from = midnight-back seconds read in rw (signed-back b b fits refl) (record {
     rises = s.rises;
     are = are;
     read = omega (arith, next.1, there);
+    next_read = omega (arith, ints, next.1, there, from, number-day b days);
+    next_on = omega (arith, ints, from);
     low = omega (arith, ints, days.0);
     on = omega (arith, ints);
     soon = omega (arith, ints);
     end = within;
     before = (omega (arith, ints, s.low, s.asked_on, s.asked_soon, later, days.0), omega (arith, there));
-    same = rw next.1 (come-none (clocks_in s.zones) s.event.now s.rule s.window s.held.items (place_of s.cursor) (number at) bound-early next.0);
+    same = rw next.1 (come-none (clocks_in s.zones) s.event.now s.rule s.window (held_in s) (place_of s.cursor) (number at) bound-early next.0);
     less = omega (arith, ints, later, within, next.1, there, s.low, days.0, (end-days s).0);
   })
 
@@ -267,27 +284,32 @@ module _ (s : RuleStarts) {b : ℤ} (fits : mag b < 2_147_483_648) (later : s.da
       omega (arith, ints, next.0.in_bound, there, own.0, days.0, a.second_in),
     )
 
-    pub one-read : {held new : List Start} → held ≡ s.held.items → AreHeld (clocks_in s.zones) s.event.now s.rule s.window b s.held.items → new
-        ≡ with_held (gives (clocks_in s.zones) s.event.now s.rule s.window (number a)) (start_at (clocks_in s.zones) s.event.now a) held →
-        IsRead s (to_z w32 (of_z w32 a.day)) (to_z w32 (of_z w32 (to_z w32 (of_z w32 a.day) +ℤ pos 1))) place (number a + 1) new
-    one-read h are is-new =
+    pub one-read : {new : List Start} → AreHeld (clocks_in s.zones) s.event.now s.rule s.window b (held_in s) → new
+        ≡ with_held (gives (clocks_in s.zones) s.event.now s.rule s.window (number a)) (start_at (clocks_in s.zones) s.event.now a) (held_in s) →
+        {seconds : ℤ} → seconds ≡ local_seconds a →
+        IsRead s (to_z w32 (of_z w32 a.day)) (to_z w32 (of_z w32 (to_z w32 (of_z w32 a.day) +ℤ pos 1)))
+        (to_z w64 (of_z w64 (to_z w64 (of_z w64 seconds) +ℤ pos 1))) place (number a + 1) new
+    one-read are is-new {seconds = seconds} read =
+        let from : to_z w64 (of_z w64 (to_z w64 (of_z w64 seconds) +ℤ pos 1)) ≡ local_seconds a +ℤ pos 1 = omega (arith, ints, read, own, a.second_in) in
         let clocks = clocks_in s.zones in
         let event = s.event.now in
         let given = gives (clocks_in s.zones) s.event.now s.rule s.window (number a) in
         let kept = next.0 in
-        rw (next-back a.day own, day-back a.day own, is-new, h, next.1) (record {
-          rises = rises-held given (start_at clocks event a) s.held.items s.rises;
+        rw (next-back a.day own, day-back a.day own, is-new, next.1) (record {
+          rises = rises-held given (start_at clocks event a) (held_in s) s.rises;
           are = λ t m. ⊎_elim
-              (held-on s.zones event s.rule s.window s.asked (a.day +ℤ pos 1) s.held.items (omega (arith, ints, on-day.0, s.asked_soon))
+              (held-on s.zones event s.rule s.window s.asked (a.day +ℤ pos 1) (held_in s) (omega (arith, ints, on-day.0, s.asked_soon))
               (λ u j. let l = (are u j).late in omega (arith, ints, l, on-day.1)) s.are t)
               (λ i. rw i.1 (is-held s.zones event s.rule s.window a own (omega (arith, ints, own.0), omega (arith, ints, on-day.1, days.1)) i.0))
-              (held-in given (start_at clocks event a) t s.held.items m);
+              (held-in given (start_at clocks event a) t (held_in s) m);
           read = omega (arith, ints, own.0);
+          next_read = omega (arith, ints, from, number-seconds a own);
+          next_on = omega (arith, ints, from);
           low = omega (arith, ints, own.0);
           on = omega (arith, ints);
           soon = omega (arith, ints);
           end = omega (arith, ints, on-day.1, within);
           before = (omega (arith, ints, s.low, s.asked_on, s.asked_soon, on-day.0, own.0), omega (arith, ints, own.0, a.second_in));
-          same = rw (numbered-number a own) at (come-one clocks event s.rule s.window s.held.items s.rises bound-early kept);
+          same = rw (numbered-number a own) at (come-one clocks event s.rule s.window (held_in s) s.rises bound-early kept);
           less = omega (arith, ints, kept.from_place, kept.in_bound, there, on-day.0, on-day.1, within, s.low, own.0, days.0, (end-days s).0);
         })

@@ -27,7 +27,7 @@ use Rattle.ics_series.specs.Listing.{IsIn, IsListing}
 use Rattle.ics_series.specs.Meeting.{entry_from, is_met}
 use Rattle.ics_series.specs.Merged.{cut, union, put}
 use Rattle.ics_series.specs.Rising.{IsBefore, Rises}
-use Rattle.ics_series.specs.RuleFeed.{starts_left}
+use Rattle.ics_series.specs.RuleFeed.{held_in, starts_left}
 use Rattle.ics_series.specs.SeriesStarts.{first_asked, given_of, has_moment, is_wanted, listed_left, rule_asked, rule_left, wanted_by, AreKnown, HasOwnRule}
 use Rattle.ics_series.specs.SeriesStarts.{HasRuled, HasSameRule, IsAskedNear, IsGivenAt, IsGivenBy, IsKnown, IsSeriesMet, IsFirstOf}
 use Rattle.ics_series.specs.Starts.{given_by, local_of, recurrence_of, GivesStart, IsRuleStart, time_of, IsNotAfter}
@@ -165,7 +165,7 @@ module _ (clocks : Clocks) (w : Window) (event : Event) (starts : List Start) (C
 -- Both kinds of starts rise.
 pub rises-rule : (o : Option RuleStarts) → Rises moment_cmp (rule_left o)
 rises-rule None = tt
-rises-rule (Some s) = rises-to_come (clocks_in s.zones) s.event.now s.rule s.window s.held.items (place_of s.cursor)
+rises-rule (Some s) = rises-to_come (clocks_in s.zones) s.event.now s.rule s.window (held_in s) (place_of s.cursor)
 
 pub rises-listed : (s : ListedStarts) → Rises moment_cmp (listed_left s)
 rises-listed s =

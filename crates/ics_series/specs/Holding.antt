@@ -9,11 +9,12 @@ use Rattle.ics_series.specs.declared.start.Start.{Start}
 use Rattle.ics_series.specs.Entry.{Entry}
 use Rattle.ics_series.specs.Meeting.{entry_from}
 use Rattle.ics_series.specs.FileZones.{clocks_in}
+use Rattle.ics_series.specs.RuleFeed.{held_in}
 
 -- the starts of a rule that are held
 abbrev pub rule_held : Option RuleStarts → List Start
 rule_held None = []
-rule_held (Some s) = s.held.items
+rule_held (Some s) = held_in s
 
 -- how many of its periods were looked at
 abbrev pub rule_looked : Option RuleStarts → ℕ

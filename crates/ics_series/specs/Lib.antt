@@ -44,6 +44,7 @@ pub mod Tokens
 pub mod Tournament
 pub mod Uids
 pub mod Versions
+pub mod Waiting
 pub mod Whole
 pub mod FileZones
 pub mod WindowBounds

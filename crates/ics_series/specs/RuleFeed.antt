@@ -1,14 +1,27 @@
 -- What contracts see of the starts of a rule, which are read one by one.
-use Rattle.std.specs.Prelude.{◌≡◌, List}
+use Rattle.std.specs.Prelude.{◌≡◌, ℤ, Bool, List}
 use Rattle.ics_rule.specs.Cursors.{place_of}
 use Rattle.ics_series.specs.declared.rule_starts.RuleStarts.{RuleStarts}
 use Rattle.ics_series.specs.declared.start.Start.{Start}
-use Rattle.ics_series.specs.RuleStarts.{to_come}
+use Rattle.ics_series.specs.RuleStarts.{is_behind, settled_by, to_come}
 use Rattle.ics_series.specs.FileZones.{clocks_in}
+use Rattle.ics_series.specs.Waiting.{starts_in}
+
+-- the starts that are held
+abbrev pub held_in : RuleStarts → List Start
+held_in s = starts_in s.event.now.start s.held
 
 -- the starts still to come
 abbrev pub starts_left : RuleStarts → List Start
-starts_left s = to_come (clocks_in s.zones) s.event.now s.rule s.window s.held.items (place_of s.cursor)
+starts_left s = to_come (clocks_in s.zones) s.event.now s.rule s.window (held_in s) (place_of s.cursor)
+
+-- an instant that is before those of all locals to be read
+abbrev pub settled_in : RuleStarts → ℤ
+settled_in s = settled_by s.event.now.start.stamp s.day s.next
+
+-- another local has to be read before the first start still to come is known
+abbrev pub is_unsettled : RuleStarts → Bool
+is_unsettled s = is_behind (settled_in s) s.day s.end (held_in s)
 
 -- the starts are those of the same event, in the same zones and window, from the same local on
 pub record HasSameSource (old new : RuleStarts) : Type 0 where

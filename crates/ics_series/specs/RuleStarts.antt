@@ -12,6 +12,8 @@ use Rattle.ics_rule.specs.PeriodNumbers.{day_of, rules_end}
 use Rattle.ics_rule.specs.Recurrence.{Recurrence}
 use Rattle.ics_rule.specs.declared.cursor.Cursor.{Cursor}
 use Rattle.ics_event.specs.declared.event.Event.{Event}
+use Rattle.ics_values.specs.declared.stamp.Stamp.{Stamp}
+use Rattle.ics_values.specs.declared.stamp.Stamp.TheVariants.{Date, Floating, Utc, Zoned}
 use Rattle.ics_series.specs.declared.start.StartSource.{StartSource}
 use Rattle.ics_series.specs.declared.start.StartSource.TheVariants.{Kept, Listed}
 use Rattle.ics_series.specs.declared.start.Start.{Start}
@@ -89,14 +91,22 @@ pub record IsHeld (clocks : Clocks) (event : Event) (rule : Recurrence) (w : Win
 abbrev pub AreHeld : Clocks → Event → Recurrence → Window → ℤ → List Start → Type 0
 AreHeld clocks event rule w day starts = (s : Start) → IsIn s starts → IsHeld clocks event rule w day s
 
--- the first start is two days or more before a day's midnight, and so before all starts that later locals give
+-- An instant that is before those of all locals to be read: they are from a day's midnight on, and their seconds from `next` on. A date is read
+-- at its midnight, a local in UTC is its instant, and no zone moves a local by more than 93,599 seconds.
+abbrev pub settled_by : Stamp → ℤ → ℤ → ℤ
+settled_by (Date first) day next = midnight day -ℤ whole_days 2
+settled_by (Utc first) day next = next -ℤ pos 1
+settled_by (Floating first) day next = next -ℤ pos 93_600
+settled_by (Zoned first) day next = next -ℤ pos 93_600
+
+-- the first start is not after an instant
 abbrev pub is_ready : ℤ → List Start → Bool
-is_ready day [] = false
-is_ready day (s ∷ starts) = int_le s.moment (midnight day -ℤ whole_days 2)
+is_ready settled [] = false
+is_ready settled (s ∷ starts) = int_le s.moment settled
 
 -- another day has to be read before the first start still to come is known
-abbrev pub is_behind : ℤ → ℤ → List Start → Bool
-is_behind day end held = int_lt day end && not (is_ready day held)
+abbrev pub is_behind : ℤ → ℤ → ℤ → List Start → Bool
+is_behind settled day end held = int_lt day end && not (is_ready settled held)
 
 -- a cursor set at `from` has looked only at periods that hold a local before a day's midnight, from there on or, under COUNT, from DTSTART
 -- on

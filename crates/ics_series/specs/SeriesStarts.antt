@@ -28,8 +28,8 @@ use Rattle.ics_series.specs.Listing.{IsIn}
 use Rattle.ics_series.specs.Meeting.{entry_from}
 use Rattle.ics_series.specs.Merged.{cut, union}
 use Rattle.ics_series.specs.Meets.{IsEventMet}
-use Rattle.ics_series.specs.RuleFeed.{starts_left, HasSameSource}
-use Rattle.ics_series.specs.RuleStarts.{found, gives, is_behind}
+use Rattle.ics_series.specs.RuleFeed.{is_unsettled, starts_left, HasSameSource}
+use Rattle.ics_series.specs.RuleStarts.{found, gives}
 use Rattle.ics_series.specs.Starts.{given_by, local_of, recurrence_of, time_at, time_of, IsRuleStart}
 
 -- an occurrence of the event that meets the window, begins at this instant or later, and does not start at one of these
@@ -53,7 +53,7 @@ left rule listed = union moment_cmp (rule_left rule) (listed_left listed)
 -- the first start that the rule gives is known
 abbrev pub IsReady : Option RuleStarts → Type 0
 IsReady None = Unit {0}
-IsReady (Some s) = is_behind s.day s.end s.held.items ≡ false
+IsReady (Some s) = is_unsettled s ≡ false
 
 -- the starts are those of the same rule
 abbrev pub HasSameRule : Option RuleStarts → Option RuleStarts → Type 0

@@ -1,34 +1,37 @@
 //! The starts that the rule of an event gives, read one UTC day at a time.
-ghost use Rattle.std.specs.Prelude.{◌≡◌, ◌<◌, ◌≤◌, ◌+◌, ◌<ℤ◌, ◌≤ℤ◌, ◌+ℤ◌, ◌&&◌, pos, true, int_lt, Some};
-ghost use Rattle.std.specs.VecDeque.{deque_len, deque_capacity};
+ghost use Rattle.std.specs.Prelude.{◌≡◌, ◌≤◌, ◌<ℤ◌, ◌≤ℤ◌, ◌+ℤ◌, ◌&&◌, pos, true, int_lt, OnErr, OnOk, Some};
 ghost use Rattle.ics_fields.specs.Days.{IsDayNumber};
 ghost use Rattle.ics_rule.specs.Cursors.{place_of, IsCursorOf};
 ghost use Rattle.ics_rule.specs.Kept.{is_kept, until_moment};
-ghost use Rattle.ics_fields.specs.Locals.{local_seconds, number, midnight, whole_days, year_seconds};
+ghost use Rattle.ics_fields.specs.Locals.{local_seconds, number, midnight, whole_days, year_number, year_seconds};
 ghost use Rattle.ics_series.specs.EventLaws.{time-prop};
 ghost use Rattle.ics_series.specs.Found.{moment_cmp, start_at};
 ghost use Rattle.ics_series.specs.Marks.{begun-prop, IsBegun};
 ghost use Rattle.ics_series.specs.Rising.{Rises, Rises-prop};
-ghost use Rattle.ics_series.specs.RuleStarts.{ends_at, gives, is_behind, is_ready, lets_until, midnight_number, with_held, AreHeld, HasLookedTo};
+ghost use Rattle.ics_series.specs.RuleStarts.{ends_at, gives, lets_until, midnight_number, with_held, AreHeld, HasLookedTo};
 ghost use Rattle.ics_series.specs.RuleStartLaws.{cursor-prop, held-prop, looked-prop, rule-prop};
 ghost use Rattle.ics_series.specs.Starts.{local_of, recurrence_of, time_at};
 ghost use Rattle.ics_series.specs.FileZones.{clocks_in, IsTimeOf};
+ghost use Rattle.ics_series.specs.Waiting.{starts_in};
 ghost use Rattle.ics_rule.specs.PeriodNumbers.{rules_end};
 
 use crate::mark::{Mark, begun};
-use crate::queue::put_in;
+use crate::queue::{Queue, Waiting};
 use crate::start::{Start, local_of};
 use crate::starts::{end_nearby, is_until, start_at};
 use crate::window::Window;
 use crate::zones::FileZones;
 use ics_event::Event;
 use ics_rule::{Cursor, Rule};
-use ics_values::{Local, Moment};
+use ics_values::{Local, Moment, Stamp};
 use std::alloc::{AllocError, Global};
-use std::collections::VecDeque;
+
+/// The most by which a time zone changes a local, and a second more.
+const FAR: i64 = 93_600;
 
 /// The starts that a rule gives before a window's end. All locals before the midnight of `day` have
-/// been read. Those of their starts that were not given yet are held.
+/// been read, and so have those whose seconds are before `next`. Those of their starts that were not
+/// given yet are held.
 #[derive(Drop)]
 pub(crate) struct RuleStarts<'a> {
     zones: FileZones<'a>,
@@ -44,16 +47,20 @@ pub(crate) struct RuleStarts<'a> {
     asked: i32,
     /// No local from this day on gives a start.
     end: i32,
-    held: VecDeque<Start>,
+    next: Moment,
+    held: Queue,
     ghost of: { recurrence_of event.now ≡ Some rule } by { rule-prop (recurrence_of event.now) (Some rule) },
-    ghost rises: { Rises moment_cmp held.items } by { Rises-prop moment_cmp held.items },
-    ghost are: { AreHeld (clocks_in zones) event.now rule window asked held.items } by { held-prop (clocks_in zones) event.now rule window asked held.items },
+    ghost rises: { Rises moment_cmp (starts_in event.now.start held) } by { Rises-prop moment_cmp (starts_in event.now.start held) },
+    ghost are: { AreHeld (clocks_in zones) event.now rule window asked (starts_in event.now.start held) } by { held-prop (clocks_in zones) event.now rule window asked
+        (starts_in event.now.start held) },
     ghost begins: { IsBegun rule from begun } by { begun-prop rule from begun },
     ghost own: { IsCursorOf rule cursor } by { cursor-prop rule cursor },
     ghost looked: { HasLookedTo rule from asked cursor } by { looked-prop rule from asked cursor },
     ghost time: { IsTimeOf zones.zones.now event.now.start } by { time-prop zones.zones.now event.now.start },
     ghost first: { number rule.start ≡ number (local_of event.now.start.stamp) },
     ghost read: { midnight_number day ≤ place_of cursor },
+    ghost next_read: { (next +ℤ pos (year_number 1_970)) ≤ℤ pos (place_of cursor) },
+    ghost next_on: { midnight day ≤ℤ next },
     ghost low: { year_seconds 0 ≤ℤ midnight day },
     ghost asked_on: { day ≤ℤ asked },
     ghost asked_soon: { asked ≤ℤ (day +ℤ pos 1) },
@@ -78,51 +85,39 @@ fn is_let_through(rule: &Rule, window: Window, first: Local, local: Local, momen
 
 // Holds the start that a kept local gives, unless one at its instant is held already.
 fn hold(
-    held: &mut VecDeque<Start>,
+    held: &mut Queue,
     zones: FileZones<'_>,
     event: &Event,
     rule: &Rule,
     window: Window,
     local: Local,
-)
-    requires room { deque_len held.old < deque_capacity held.old }
-    requires rises { Rises moment_cmp held.old.items }
+) -> Result<(), AllocError>
+    requires rises { Rises moment_cmp (starts_in event.now.start held.old) }
     requires time { IsTimeOf zones.zones.now (time_at event.now.start local) }
     requires kept { is_kept rule.now (number local) ≡ true }
     requires day { IsDayNumber local.day }
     requires first { number rule.now.start ≡ number (local_of event.now.start.stamp) }
-    ensures { held.new.items ≡ with_held (gives (clocks_in zones.entry) event.now rule.now window (number local))
-        (start_at (clocks_in zones.entry) event.now local) held.old.items }
+    ensures held { OnOk result (starts_in event.entry.now.start held.new ≡ with_held (gives (clocks_in zones.entry) event.entry.now rule.entry.now window (number local))
+        (start_at (clocks_in zones.entry) event.entry.now local) (starts_in event.entry.now.start held.old)) }
+    ensures same { OnErr result (starts_in event.entry.now.start held.new ≡ starts_in event.entry.now.start held.old) }
 {
     let start = start_at(zones, event, local);
-    if is_let_through(
-        rule,
-        window,
-        local_of(event.start.stamp),
-        local,
-        start.moment,
-    ) {
-        put_in(held, start);
+    let first = local_of(event.start.stamp);
+    if is_let_through(rule, window, first, local, start.moment) {
+        held.put(Waiting {
+            moment: start.moment,
+            local,
+        })?;
     }
-}
-
-// Whether the first held start is two days or more before a day's midnight. If so, it is before all
-// starts that later locals give.
-fn is_ready(day: i32, held: &VecDeque<Start>) -> bool
-    ensures { result ≡ is_ready day held.now.items }
-{
-    match held.front() {
-        None => false,
-        Some(first) => first.moment <= Local::at(day, 0).seconds() - 2 * 86_400,
-    }
+    Ok(())
 }
 
 impl<'a> RuleStarts<'a> {
     ghost use Rattle.std.specs.Prelude.{◌≡◌, ◌+◌, ◌-◌, ◌<◌, ◌≤ℤ◌, false, length, slice_get, IfOk, MatchOption, OnOk, Some};
     ghost use Rattle.ics_rule.specs.Cursors.{steps_of};
     ghost use Rattle.ics_series.specs.Merged.{cut};
-    ghost use Rattle.ics_series.specs.RuleFeed.{starts_left, HasSameSource};
-    ghost use Rattle.ics_series.specs.RuleStarts.{found, steps_left};
+    ghost use Rattle.ics_series.specs.RuleFeed.{held_in, is_unsettled, settled_in, starts_left, HasSameSource};
+    ghost use Rattle.ics_series.specs.RuleStarts.{found, is_ready, steps_left};
     ghost use Rattle.ics_series.specs.FileZones.{IsOwnEvent};
     ghost use Rattle.ics_series.specs.Marks.{IsCountMark};
 
@@ -152,6 +147,7 @@ impl<'a> RuleStarts<'a> {
         let day = from.day.min(end);
         let begun = begun(&rule, from, end, mark);
         let cursor = begun;
+        let next = Local::at(day, 0).seconds();
         RuleStarts {
             zones,
             event,
@@ -163,26 +159,62 @@ impl<'a> RuleStarts<'a> {
             day,
             asked: day,
             end,
-            held: VecDeque::new(alloc),
+            next,
+            held: Queue::new(alloc),
         }
     }
 
-    // Whether another day has to be read before the first start still to come is known.
-    fn is_behind(&self) -> bool
-        ensures { result ≡ is_behind self.now.day self.now.end self.now.held.items }
+    // The first held start.
+    fn first(&self) -> Option<Start>
+        ensures { result ≡ slice_get (held_in self.now) 0 }
     {
-        self.day < self.end && !is_ready(self.day, &self.held)
+        let event = self.event;
+        match self.held.first() {
+            None => None,
+            Some(first) => Some(first.start(event.start)),
+        }
+    }
+
+    // An instant that is before those of all locals to be read. A date is read at its midnight, and a
+    // local in UTC is its instant.
+    fn settled(&self) -> Moment
+        ensures { result ≡ settled_in self.now }
+    {
+        let event = self.event;
+        match event.start.stamp {
+            Stamp::Date(_) => Local::at(self.day, 0).seconds() - 2 * 86_400,
+            Stamp::Utc(_) => self.next - 1,
+            Stamp::Floating(_) => self.next - FAR,
+            Stamp::Zoned(_) => self.next - FAR,
+        }
+    }
+
+    // Whether the first held start is before all starts that later locals give.
+    fn is_ready(&self) -> bool
+        ensures { result ≡ is_ready (settled_in self.now) (held_in self.now) }
+    {
+        match self.held.first() {
+            None => false,
+            Some(first) => first.moment <= self.settled(),
+        }
+    }
+
+    // Whether another local has to be read before the first start still to come is known.
+    fn is_behind(&self) -> bool
+        ensures { result ≡ is_unsettled self.now }
+    {
+        self.day < self.end && !self.is_ready()
     }
 
     // The day up to which the cursor searches next: the end if nothing is held, else the next day. What is
     // held belongs to the days about its midnight too.
     fn bound(&self) -> i32
-        requires { is_behind self.now.day self.now.end self.now.held.items ≡ true }
+        requires { is_unsettled self.now ≡ true }
         ensures later { self.now.day <ℤ result }
         ensures within { result ≤ℤ self.now.end }
-        ensures held { AreHeld (clocks_in self.now.zones) self.now.event.now self.now.rule self.now.window result self.now.held.items }
+        ensures held { AreHeld (clocks_in self.now.zones) self.now.event.now self.now.rule self.now.window result (held_in self.now) }
     {
-        if self.held.is_empty() {
+        if self.held.len() == 0 {
             self.end
         } else {
             self.day + 1
@@ -191,23 +223,27 @@ impl<'a> RuleStarts<'a> {
 
     // Reads up to the next kept local but, if a start is held, not past the end of the day.
     fn read_on(&mut self) -> Result<(), AllocError>
-        requires { is_behind self.old.day self.old.end self.old.held.items ≡ true }
+        requires { is_unsettled self.old ≡ true }
         ensures same { starts_left self.new ≡ starts_left self.old }
         ensures source { HasSameSource self.old self.new }
         ensures less { OnOk result (steps_left self.new.day self.new.end (place_of self.new.cursor)
             < steps_left self.old.day self.old.end (place_of self.old.cursor)) }
     {
         let bound = self.bound();
-        // Room is reserved before the cursor moves, so that no local is lost.
-        self.held.reserve(1)?;
-        match self.cursor.next(&self.rule, Local::at(bound, 0)) {
+        let to = Local::at(bound, 0);
+        // The cursor moves only once its local is held, so that none is lost.
+        let mut cursor = self.cursor;
+        match cursor.next(&self.rule, to) {
             None => {
+                let midnight = to.seconds();
+                self.cursor = cursor;
                 self.day = bound;
                 self.asked = bound;
+                self.next = midnight;
+                Ok(())
             }
             Some(local) => {
-                self.day = local.day;
-                self.asked = local.day + 1;
+                let seconds = local.seconds();
                 hold(
                     &mut self.held,
                     self.zones,
@@ -215,10 +251,14 @@ impl<'a> RuleStarts<'a> {
                     &self.rule,
                     self.window,
                     local,
-                );
+                )?;
+                self.cursor = cursor;
+                self.day = local.day;
+                self.asked = local.day + 1;
+                self.next = seconds + 1;
+                Ok(())
             }
         }
-        Ok(())
     }
 
     /// The first of the starts still to come; None if there is none.
@@ -226,25 +266,28 @@ impl<'a> RuleStarts<'a> {
         ensures same { starts_left self.new ≡ starts_left self.old }
         ensures source { HasSameSource self.old self.new }
         ensures first { IfOk result (λ given. given ≡ slice_get (starts_left self.new) 0) }
-        ensures ready { OnOk result (is_behind self.new.day self.new.end self.new.held.items ≡ false) }
+        ensures ready { OnOk result (is_unsettled self.new ≡ false) }
     {
         while self.is_behind() {
             self.read_on()?;
         }
-        Ok(self.held.front().copied())
+        Ok(self.first())
     }
 
     /// Drops the first of the starts still to come, if it is at the instant of this one. `peek` has
     /// answered before.
     pub(crate) fn pass(&mut self, start: &Start)
-        requires { is_behind self.old.day self.old.end self.old.held.items ≡ false }
+        requires { is_unsettled self.old ≡ false }
         ensures left { starts_left self.new ≡ cut moment_cmp start.now (starts_left self.old) }
         ensures source { HasSameSource self.old self.new }
         ensures asked { self.new.asked ≡ self.old.asked }
     {
-        if let Some(first) = self.held.front() {
-            if first.moment == start.moment {
-                self.held.pop_front();
+        match self.held.first() {
+            None => {}
+            Some(first) => {
+                if first.moment == start.moment {
+                    self.held.drop_first();
+                }
             }
         }
     }
@@ -261,7 +304,7 @@ impl<'a> RuleStarts<'a> {
 
     /// How many starts are held.
     pub(crate) fn held(&self) -> usize
-        ensures { result ≡ length self.now.held.items }
+        ensures { result ≡ length (held_in self.now) }
     {
         self.held.len()
     }

@@ -1,21 +1,39 @@
-use Rattle.std.proofs.Common.{w64, refl, rules, sym, ◌∙◌, SFits}
+use Rattle.std.proofs.Common.{◌≡◌, ◌∷◌, [], List, w64, to_z, of_z, arith, refl, rules, sym, ap, ◌∙◌, map, SFits}
+use Rattle.std.proofs.lemmas.Int.{ints}
 use Rattle.ics_series.specs.FileZones.{clocks_in}
+use Rattle.ics_series.specs.Found.{moment_cmp, start_at}
+use Rattle.ics_series.specs.Merged.{union}
+use Rattle.ics_series.specs.Waiting.{start_of, starts_in, waiting_in}
+use Rattle.ics_series.specs.declared.queue.Waiting.{Waiting}
+use Rattle.ics_series.specs.declared.start.Start.{Start}
+use Rattle.ics_series.proofs.QueueLemmas.{rises-waiting, start-same, union-starts}
 use Rattle.ics_series.proofs.StartSourceLemmas.{calendar-day, own-day, gives-by}
 use Rattle.ics_series.proofs.rule_starts.hold.Goals as goal
 
 pub is_let_through-requires-clause-first : goal.is_let_through-requires-clause-first
 is_let_through-requires-clause-first c =
-    rw c.local_of.ensures (calendar-day _ (own-day c.event.inside.start c.event.invariant.start))
+    rw c.local_of-first.ensures (calendar-day _ (own-day c.event.inside.start c.event.invariant.start))
 
-pub returns-then-is_let_through : goal.returns-then-is_let_through
-returns-then-is_let_through c =
+pub put-requires : goal.put-requires
+put-requires c = rises-waiting c.args.event.now.start (waiting_in c.args.held.now) c.requires.rises
+
+pub returns-in_ok-put-clause-held : goal.returns-in_ok-put-clause-held
+returns-in_ok-put-clause-held c =
     let fits : SFits w64 c.start_at-start.result.moment = search rules in
+    let back : to_z w64 (of_z w64 c.start_at-start.result.moment) ≡ c.start_at-start.result.moment = omega (arith, ints) in
     let given = gives-by (clocks_in c.args.zones) c.args.event.now c.args.rule.now c.args.window c.args.local fits c.start_at-start.ensures
     c.requires.day c.requires.kept (sym c.if-is_let_through.true ∙ c.is_let_through.ensures) in
-    rw (← given, c.put_in.ensures, c.start_at-start.ensures) refl
+    let one : start_of c.args.event.now.start (record { moment = to_z w64 (of_z w64 c.start_at-start.result.moment); local = c.args.local })
+        ≡ start_at (clocks_in c.args.zones) c.args.event.now c.args.local =
+    start-same (clocks_in c.args.zones) c.args.event.now (record { moment = to_z w64 (of_z w64 c.start_at-start.result.moment); local = c.args.local })
+    c.start_at-start.ensures back in
+    rw (← given) (◌∙◌ {A = List Start} (ap (λ (ws : List Waiting). map (start_of c.args.event.now.start) ws) c.in_ok-put.ensures.put)
+    (◌∙◌ {A = List Start} (union-starts c.args.event.now.start (waiting_in c.args.held.now)
+    (record { moment = to_z w64 (of_z w64 c.start_at-start.result.moment); local = c.args.local } ∷ []))
+    (ap (λ (s : Start). union moment_cmp (starts_in c.args.event.now.start c.args.held.now) (s ∷ [])) one)))
 
-pub returns-else-is_let_through : goal.returns-else-is_let_through
-returns-else-is_let_through c =
+pub returns-else-is_let_through-clause-held : goal.returns-else-is_let_through-clause-held
+returns-else-is_let_through-clause-held c =
     let fits : SFits w64 c.start_at-start.result.moment = search rules in
     let given = gives-by (clocks_in c.args.zones) c.args.event.now c.args.rule.now c.args.window c.args.local fits c.start_at-start.ensures
     c.requires.day c.requires.kept (sym c.if-is_let_through.false ∙ c.is_let_through.ensures) in

@@ -1,18 +1,26 @@
 use Rattle.std.proofs.Common.{◌≡◌, length, arith}
 use Rattle.std.proofs.lemmas.Grind.{common_steps}
 use Rattle.std.proofs.lemmas.Int.{ints}
+use Rattle.std.proofs.lemmas.List.{length-map}
+use Rattle.ics_series.specs.RuleFeed.{held_in, settled_in}
+use Rattle.ics_series.specs.Waiting.{start_of, waiting_in}
 use Rattle.ics_series.proofs.SeriesLemmas.{none-in}
+use Rattle.ics_series.proofs.SettledLemmas.{settled-late}
 use Rattle.ics_series.proofs.RuleStepLemmas.{behind-early, day-days, end-days, held-on, next-late}
 use Rattle.ics_series.proofs.rule_starts.RuleStarts.bound.Goals as goal
 
-pub returns-then-is_empty-clause-held : goal.returns-then-is_empty-clause-held
-returns-then-is_empty-clause-held c = λ s m.
-    let empty : length c.args.self.now.held.items ≡ 0 = grind (arith, common_steps) in
-    absurd (none-in c.args.self.now.held.items empty s m)
-
-pub returns-else-is_empty-clause-held : goal.returns-else-is_empty-clause-held
-returns-else-is_empty-clause-held c =
+pub returns-then-len-eq0-clause-held : goal.returns-then-len-eq0-clause-held
+returns-then-len-eq0-clause-held c = λ s m.
     let r = c.args.self.now in
-    let early = behind-early r.day r.end r.held.items c.requires in
-    held-on r.zones r.event.now r.rule r.window r.asked _ r.held.items (omega (arith, ints, early, r.asked_soon, day-days r, end-days r))
-    (λ s m. let late = next-late r.day r.end r.held.items r.rises c.requires s m in omega (arith, ints, late, early, day-days r, end-days r)) r.are
+    let none : length (waiting_in r.held) ≡ 0 = grind (arith, common_steps) in
+    let empty : length (held_in r) ≡ 0 = omega (arith, none, length-map (waiting_in r.held) (start_of r.event.now.start)) in
+    absurd (none-in (held_in r) empty s m)
+
+pub returns-else-len-eq0-clause-held : goal.returns-else-len-eq0-clause-held
+returns-else-len-eq0-clause-held c =
+    let r = c.args.self.now in
+    let early = behind-early (settled_in r) r.day r.end (held_in r) c.requires in
+    let soon = settled-late r.event.now.start.stamp r.day r.next r.next_on in
+    held-on r.zones r.event.now r.rule r.window r.asked _ (held_in r) (omega (arith, ints, early, r.asked_soon, day-days r, end-days r))
+    (λ s m. let late = next-late (settled_in r) r.day r.end (held_in r) soon r.rises c.requires s m in omega (arith, ints, late, early, day-days r, end-days r))
+    r.are

@@ -1,16 +1,17 @@
-use Rattle.std.proofs.Common.{◌≡◌, ◌∙◌, refl, sym, ap, subst, arith, to_z, of_z, w32}
+use Rattle.std.proofs.Common.{◌≡◌, ◌∙◌, refl, sym, ap, subst, arith, map, to_z, of_z, w32}
 use Rattle.std.specs.Int.{int_min}
 use Rattle.std.proofs.lemmas.Int.{int_min_is, ints}
 use Rattle.ics_fields.specs.declared.local.Local.{Local}
 use Rattle.ics_rule.specs.Cursors.{place_of}
 use Rattle.ics_event.specs.declared.event.Event.{Event}
 use Rattle.ics_rule.specs.Kept.{until_moment}
-use Rattle.ics_fields.specs.Locals.{local_seconds, number}
+use Rattle.ics_fields.specs.Locals.{local_seconds, midnight, number}
 use Rattle.ics_series.specs.Found.{moment_cmp}
 use Rattle.ics_series.specs.Listing.{IsIn}
 use Rattle.ics_series.specs.Rising.{Rises}
 use Rattle.ics_series.proofs.RuleDayLemmas.{come-empty}
 use Rattle.ics_series.specs.RuleStarts.{ends_at, HasLookedTo}
+use Rattle.ics_series.specs.Waiting.{start_of, starts_in}
 use Rattle.ics_series.specs.Starts.{local_of}
 use Rattle.ics_series.proofs.StartSourceLemmas.{calendar-day, own-day, rule-first}
 use Rattle.ics_series.proofs.RuleStepLemmas.{day-back, ends-most, signed-back}
@@ -41,16 +42,20 @@ invariant_of-result c =
     let from = day-back c.args.from.day c.requires.from in
     let day = signed-back c.min-day.result c.min-day.result c.min-day.type_inv refl in
     let asked = day ∙ (min ∙ ap (λ f. int_min f (to_z w32 (of_z w32 c.end_nearby-end.result))) from) in
+    let at = ap (λ (l : Local). local_seconds l) c.at.ensures in
+    let next : c.seconds-next.result ≡ midnight (to_z w32 (of_z w32 c.min-day.result)) = omega (arith, ints, c.seconds-next.ensures, at) in
     record {
       of = c.requires.rule;
-      rises = subst (Rises moment_cmp) (sym c.new.ensures.items) tt;
-      are = λ s m. absurd (subst (IsIn s) c.new.ensures.items m);
+      rises = subst (Rises moment_cmp) (sym (ap (map (start_of c.args.event.now.start)) c.new.ensures)) tt;
+      are = λ s m. absurd (subst (IsIn s) (ap (map (start_of c.args.event.now.start)) c.new.ensures) m);
       begins = c.begun-begun.ensures.begun;
       own = c.begun-begun.ensures.begun.own;
       looked = subst (λ d. HasLookedTo c.args.rule c.args.from d c.begun-begun.result) (sym asked) c.begun-begun.ensures.looked;
       time = c.requires.event.start;
       first = ap (λ (l : Local). number l) (rule-first c.args.event.now c.args.rule c.requires.rule);
       read = omega (arith, ints, c.begun-begun.ensures.begun.place, day, end, from, min, int_min_is, c.requires.from.0, c.requires.from.1, e.day.0, e.day.1);
+      next_read = omega (arith, ints, c.begun-begun.ensures.begun.place, day, end, from, min, int_min_is, c.requires.from.0, c.requires.from.1, e.day.0, e.day.1, next);
+      next_on = omega (arith, ints, next);
       low = omega (arith, ints, day, end, from, min, int_min_is, c.requires.from.0, e.day.0);
       asked_on = omega (arith, ints, day);
       asked_soon = omega (arith, ints, day);
@@ -62,5 +67,5 @@ invariant_of-result c =
 
 pub returns-clause-left : goal.returns-clause-left
 returns-clause-left c =
-    come-empty c.args.zones c.args.event.now c.args.rule c.args.window c.new.result.items (place_of c.begun-begun.result) (number c.args.from)
-    c.new.ensures.items c.begun-begun.ensures.begun.place
+    come-empty c.args.zones c.args.event.now c.args.rule c.args.window (starts_in c.args.event.now.start c.new.result) (place_of c.begun-begun.result)
+    (number c.args.from) (ap (map (start_of c.args.event.now.start)) c.new.ensures) c.begun-begun.ensures.begun.place

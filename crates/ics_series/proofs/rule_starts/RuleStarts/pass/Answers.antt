@@ -1,31 +1,61 @@
-use Rattle.std.proofs.lemmas.Grind.{common_steps}
-use Rattle.std.proofs.Common.{◌≡◌, ◌<◌, length, get_or, rules, w64, ◌∙◌, sym, ap, arith, SFits, of_z}
+use Rattle.std.proofs.Common.{◌≡◌, List, drop, map, sym, ◌∙◌, ap, subst, arith, rules, w64, of_z, SFits}
 use Rattle.std.proofs.lemmas.Int.{ints}
-use Rattle.ics_series.proofs.RuleDayLemmas.{cut-first, uncut-first, uncut-none}
+use Rattle.ics_series.specs.Found.{moment_cmp}
+use Rattle.ics_series.specs.Listing.{IsIn}
+use Rattle.ics_series.specs.Rising.{Rises}
+use Rattle.ics_series.specs.RuleFeed.{held_in}
+use Rattle.ics_series.specs.Waiting.{start_of, starts_in, waiting_in}
+use Rattle.ics_series.specs.declared.queue.Waiting.{Waiting}
+use Rattle.ics_series.proofs.QueueLemmas.{cut-waiting, drop-starts, in-drop, none-waiting, rises-drop, uncut-waiting}
 use Rattle.ics_series.proofs.RuleStepLemmas.{passed-left}
 use Rattle.ics_series.proofs.rule_starts.RuleStarts.pass.Goals as goal
 
+pub invariant_of-self : goal.invariant_of-self
+invariant_of-self c =
+    let s = c.args.self.now in
+    let e : starts_in c.args.self.now.event.now.start c.drop_first.new.self ≡ drop 1 (held_in c.args.self.now) =
+    ap (λ (ws : List Waiting). map (start_of c.args.self.now.event.now.start) ws) c.drop_first.ensures
+    ∙ drop-starts c.args.self.now.event.now.start (waiting_in c.args.self.now.held) in
+    record {
+      of = s.of;
+      rises = subst (Rises moment_cmp) (sym e) (rises-drop (held_in s) s.rises);
+      are = λ t m. s.are t (in-drop t (held_in s) (subst (IsIn t) e m));
+      begins = s.begins;
+      own = s.own;
+      looked = s.looked;
+      time = s.time;
+      first = s.first;
+      read = s.read;
+      next_read = s.next_read;
+      next_on = s.next_on;
+      low = s.low;
+      asked_on = s.asked_on;
+      asked_soon = s.asked_soon;
+      asked_end = s.asked_end;
+      early = s.early;
+      after = s.after;
+      soon = s.soon;
+    }
+
 pub returns-then-first-start-clause-left : goal.returns-then-first-start-clause-left
 returns-then-first-start-clause-left c =
-    let some : 0 < length c.args.self.now.held.items = search rules in
-    let first : c.in-Some.first.now ≡ get_or c.args.self.now.held.items 0 c.in-Some.first.now = search rules in
-    let fits : SFits w64 c.in-Some.first.now.moment = search rules in
+    let s = c.args.self.now in
+    let fits : SFits w64 c.in-Some.first.moment = search rules in
     let fits2 : SFits w64 c.args.start.now.moment = search rules in
-    let tied : c.args.start.now.moment ≡ c.in-Some.first.now.moment = omega (arith, ints, c.if-first-start.true) in
-    passed-left c.args.self.now c.args.start.now _
-    (c.pop_front.ensures.rest ∙ cut-first c.args.start.now c.args.self.now.held.items some first tied) c.requires
+    let tied : c.args.start.now.moment ≡ c.in-Some.first.moment = omega (arith, ints, c.if-first-start.true) in
+    passed-left s c.args.start.now _
+    (cut-waiting s.event.now.start c.args.start.now (waiting_in s.held) _ c.in-Some.first c.drop_first.ensures (sym c.first.ensures ∙ c.in-Some.is) tied)
+    c.requires
 
 pub returns-else-first-start-clause-left : goal.returns-else-first-start-clause-left
 returns-else-first-start-clause-left c =
-    let first : c.in-Some.first.now ≡ get_or c.args.self.now.held.items 0 c.in-Some.first.now = search rules in
-    passed-left c.args.self.now c.args.start.now _
-    (uncut-first c.args.start.now c.args.self.now.held.items first (λ same. c.if-first-start.false (ap (λ t. of_z w64 t) (sym same)))) c.requires
+    let s = c.args.self.now in
+    passed-left s c.args.start.now _
+    (uncut-waiting s.event.now.start c.args.start.now (waiting_in s.held) c.in-Some.first (sym c.first.ensures ∙ c.in-Some.is)
+    (λ same. c.if-first-start.false (ap (λ t. of_z w64 t) (sym same)))) c.requires
 
-pub returns-in_default-clause-left : goal.returns-in_default-clause-left
-returns-in_default-clause-left c =
-    let none : length c.args.self.now.held.items ≡ 0 = search rules in
-    passed-left c.args.self.now c.args.start.now _
-    (uncut-none c.args.start.now c.args.self.now.held.items none) c.requires
-
-pub invariant_of-self : goal.invariant_of-self
-invariant_of-self c = grind (arith, common_steps)
+pub returns-in-None-clause-left : goal.returns-in-None-clause-left
+returns-in-None-clause-left c =
+    let s = c.args.self.now in
+    passed-left s c.args.start.now _
+    (none-waiting s.event.now.start c.args.start.now (waiting_in s.held) (sym c.first.ensures ∙ c.in-None.is)) c.requires

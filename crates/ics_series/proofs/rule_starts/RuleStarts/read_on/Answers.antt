@@ -1,24 +1,29 @@
-use Rattle.std.proofs.Common.{refl, sym, subst, arith}
+use Rattle.std.proofs.Common.{◌≡◌, refl, sym, subst, arith, rules}
 use Rattle.ics_series.specs.Found.{moment_cmp}
 use Rattle.ics_series.specs.Rising.{Rises}
 use Rattle.ics_series.specs.RuleStarts.{AreHeld}
 use Rattle.ics_series.specs.FileZones.{clocks_in}
+use Rattle.ics_series.specs.RuleFeed.{held_in}
+use Rattle.ics_series.specs.Waiting.{starts_in}
 use Rattle.ics_series.proofs.RuleStepLemmas.{bound-days, bound-early, none-read, one-read, one-time}
 use Rattle.ics_series.proofs.rule_starts.RuleStarts.read_on.Goals as goal
 
-pub invariant_of-self : goal.invariant_of-self
-invariant_of-self c =
+pub invariant_of-self-in-Break-1 : goal.invariant_of-self-in-Break-1
+invariant_of-self-in-Break-1 c =
     let s = c.args.self.now in
+    let same : starts_in c.args.self.now.event.now.start c.hold.new.held ≡ held_in c.args.self.now = search rules in
     record {
       of = s.of;
-      rises = subst (Rises moment_cmp) (sym c.reserve.ensures.items) s.rises;
-      are = subst (AreHeld (clocks_in s.zones) s.event.now s.rule s.window s.asked) (sym c.reserve.ensures.items) s.are;
+      rises = subst (Rises moment_cmp) (sym same) s.rises;
+      are = subst (AreHeld (clocks_in s.zones) s.event.now s.rule s.window s.asked) (sym same) s.are;
       begins = s.begins;
       own = s.own;
       looked = s.looked;
       time = s.time;
       first = s.first;
       read = s.read;
+      next_read = s.next_read;
+      next_on = s.next_on;
       low = s.low;
       asked_on = s.asked_on;
       asked_soon = s.asked_soon;
@@ -31,18 +36,18 @@ invariant_of-self c =
 pub next-requires-clause-bound : goal.next-requires-clause-bound
 next-requires-clause-bound c =
     let b = c.bound-bound in
-    bound-days c.args.self.now b.type_inv b.ensures.later b.ensures.within c.at.ensures
+    bound-days c.args.self.now b.type_inv b.ensures.later b.ensures.within c.at-to.ensures
 
 pub next-requires-clause-early : goal.next-requires-clause-early
 next-requires-clause-early c =
     let b = c.bound-bound in
-    bound-early c.args.self.now b.type_inv b.ensures.later b.ensures.within c.at.ensures
+    bound-early c.args.self.now b.type_inv b.ensures.later b.ensures.within c.at-to.ensures
 
-pub invariant_of-self-in-None : goal.invariant_of-self-in-None
-invariant_of-self-in-None c =
+pub invariant_of-self : goal.invariant_of-self
+invariant_of-self c =
     let s = c.args.self.now in
     let b = c.bound-bound in
-    let r = none-read s b.type_inv b.ensures.later b.ensures.within c.at.ensures c.reserve.ensures.items b.ensures.held c.in-None.ensures.next in
+    let r = none-read s b.type_inv b.ensures.later b.ensures.within c.at-to.ensures b.ensures.held c.in-None.ensures.next c.seconds-midnight.ensures in
     record {
       of = s.of;
       rises = r.rises;
@@ -53,6 +58,8 @@ invariant_of-self-in-None c =
       time = s.time;
       first = s.first;
       read = r.read;
+      next_read = r.next_read;
+      next_on = r.next_on;
       low = r.low;
       asked_on = r.on;
       asked_soon = r.soon;
@@ -65,14 +72,14 @@ invariant_of-self-in-None c =
 pub hold-requires-clause-time : goal.hold-requires-clause-time
 hold-requires-clause-time c =
     let b = c.bound-bound in
-    one-time c.args.self.now b.type_inv b.ensures.later b.ensures.within c.at.ensures c.in-Some.local c.in-Some.ensures.day c.in-Some.ensures.next
+    one-time c.args.self.now b.type_inv b.ensures.later b.ensures.within c.at-to.ensures c.in-Some.local c.in-Some.ensures.day c.in-Some.ensures.next
 
 pub invariant_of-self-in-Some : goal.invariant_of-self-in-Some
 invariant_of-self-in-Some c =
     let s = c.args.self.now in
     let b = c.bound-bound in
-    let r = one-read s b.type_inv b.ensures.later b.ensures.within c.at.ensures c.in-Some.local c.in-Some.ensures.day
-    c.in-Some.ensures.next c.reserve.ensures.items b.ensures.held c.hold.ensures in
+    let r = one-read s b.type_inv b.ensures.later b.ensures.within c.at-to.ensures c.in-Some.local c.in-Some.ensures.day
+    c.in-Some.ensures.next b.ensures.held c.in_ok-hold-in-Some.ensures.held c.seconds-seconds.ensures in
     record {
       of = s.of;
       rises = r.rises;
@@ -83,6 +90,8 @@ invariant_of-self-in-Some c =
       time = s.time;
       first = s.first;
       read = r.read;
+      next_read = r.next_read;
+      next_on = r.next_on;
       low = r.low;
       asked_on = r.on;
       asked_soon = r.soon;
@@ -95,12 +104,12 @@ invariant_of-self-in-Some c =
 pub returns-in-None : goal.returns-in-None
 returns-in-None c =
     let b = c.bound-bound in
-    let r = none-read c.args.self.now b.type_inv b.ensures.later b.ensures.within c.at.ensures c.reserve.ensures.items b.ensures.held c.in-None.ensures.next in
+    let r = none-read c.args.self.now b.type_inv b.ensures.later b.ensures.within c.at-to.ensures b.ensures.held c.in-None.ensures.next c.seconds-midnight.ensures in
     record { same = r.same; source = record { zones = refl; event = refl; window = refl; rule = refl; from = refl; end = refl }; less = r.less }
 
-pub returns-in-Some : goal.returns-in-Some
-returns-in-Some c =
+pub returns-in_ok-hold-in-Some : goal.returns-in_ok-hold-in-Some
+returns-in_ok-hold-in-Some c =
     let b = c.bound-bound in
-    let r = one-read c.args.self.now b.type_inv b.ensures.later b.ensures.within c.at.ensures c.in-Some.local c.in-Some.ensures.day
-    c.in-Some.ensures.next c.reserve.ensures.items b.ensures.held c.hold.ensures in
+    let r = one-read c.args.self.now b.type_inv b.ensures.later b.ensures.within c.at-to.ensures c.in-Some.local c.in-Some.ensures.day
+    c.in-Some.ensures.next b.ensures.held c.in_ok-hold-in-Some.ensures.held c.seconds-seconds.ensures in
     record { same = r.same; source = record { zones = refl; event = refl; window = refl; rule = refl; from = refl; end = refl }; less = r.less }

@@ -1,0 +1,91 @@
+-- How far before a local its instant can be.
+use Rattle.std.proofs.Common.{◌≡◌, ℕ, zero, suc, ◌≤◌, inl, inr, ℤ, pos, neg_ℤ, ◌+ℤ◌, ◌-ℤ◌, ◌<ℤ◌, ◌≤ℤ◌, List, [], ◌∷◌, map, Option, Some, None, arith}
+use Rattle.std.proofs.lemmas.Int.{ints}
+use Rattle.ics_event.specs.declared.event.Event.{Event}
+use Rattle.ics_fields.specs.Days.{IsDayNumber}
+use Rattle.ics_fields.specs.Locals.{local_seconds, midnight, whole_days}
+use Rattle.ics_values.specs.declared.stamp.Stamp.{Stamp}
+use Rattle.ics_values.specs.declared.stamp.Stamp.TheVariants.{Date, Floating, Utc, Zoned}
+use Rattle.ics_event.specs.Event.{stamp_seconds}
+use Rattle.ics_zone.specs.FileBounds.{rule_short, file_reading_short}
+use Rattle.ics_zone.specs.Moments.{IsMomentBy, zone_moment}
+use Rattle.ics_zone.specs.MomentSearch.{moment_found}
+use Rattle.ics_zone.specs.Observances.{observances_said}
+use Rattle.ics_zone.specs.ZoneBounds.{zone_short}
+use Rattle.ics_zone.specs.ZoneOffsets.{zone_offset}
+use Rattle.ics_zone.specs.ZoneSaid.{jiff_said, said_moment, zone_said}
+use Rattle.ics_zone.specs.declared.jiff_zone.JiffZone.{JiffZone}
+use Rattle.ics_zone.specs.declared.jiff_zone.JiffZone.TheVariants.{Fixed, Posix, Table}
+use Rattle.ics_zone.specs.declared.zone.ZoneKind.{ZoneKind}
+use Rattle.ics_zone.specs.declared.zone.ZoneKind.TheVariants.{ByObservances, ByJiff}
+use Rattle.ics_series.specs.declared.zones.FileZones.{FileZones}
+use Rattle.ics_series.specs.Clocks.{Clock, clock_at, clock_by, utc_clock, zone_clock}
+use Rattle.ics_series.specs.FileZones.{clocks_in}
+use Rattle.ics_series.specs.RuleStarts.{local_numbered, midnight_number, moment_numbered, settled_by}
+use Rattle.ics_series.specs.Starts.{stamp_at}
+use Rattle.ics_series.proofs.InstantLemmas.{near-clock}
+use Rattle.ics_series.proofs.RuleDayLemmas.{seconds-numbered}
+
+-- an offset has no more than so many seconds
+abbrev IsShift : ℕ → ℤ → Type 0
+IsShift n offset = (neg_ℤ (pos n) ≤ℤ offset) × (offset ≤ℤ pos n)
+
+-- a clock has no instant that is more than 93,599 seconds before its local
+abbrev IsShort : Clock → Type 0
+IsShort clock = (x : ℤ) → (x -ℤ pos 93_599) ≤ℤ clock.moment x
+
+short-utc : IsShort utc_clock
+short-utc x = omega (arith, ints)
+
+short-by : (offset : ℤ → ℤ) (short : (t : ℤ) → IsShift 86_399 (offset t)) (local t : ℤ) → IsMomentBy offset local t → (local -ℤ pos 93_599) ≤ℤ t
+short-by offset short local t (inl h) = let bound = short t in omega (arith, ints)
+short-by offset short local t (inr h) = let bound = short (h.past -ℤ pos 1) in omega (arith, ints)
+
+less : (local offset : ℤ) → IsShift 93_599 offset → (local -ℤ pos 93_599) ≤ℤ (local -ℤ offset)
+less local offset bound = omega (arith, ints)
+
+short-jiff : (zone : JiffZone) → IsShort (zone_clock (jiff_said zone))
+unfolding said_moment jiff_said
+short-jiff (Fixed offset) x = less x _ offset.in_range
+short-jiff (Posix rule) x = less x _ (rule_short rule.std_offset rule.dst _)
+short-jiff (Table table) x = less x _ (file_reading_short table x)
+
+short-zone : (zone : ZoneKind) → IsShort (zone_clock (zone_said zone))
+unfolding said_moment
+short-zone (ByObservances observances) x =
+    short-by (zone_offset (observances_said observances)) (zone_short observances) x (zone_moment (observances_said observances) x)
+    (moment_found (zone_offset (observances_said observances)) (zone_short observances) x)
+short-zone (ByJiff zone) x = short-jiff zone x
+
+short-at : (zones : List ZoneKind) (zone : Option ℕ) → IsShort (clock_at (map zone_clock (map zone_said zones)) zone)
+short-at zones None = short-utc
+short-at [] (Some zone) = short-utc
+short-at (z ∷ zones) (Some zero) = short-zone z
+short-at (z ∷ zones) (Some (suc zone)) = short-at zones (Some zone)
+
+-- a local that is not read yet means an instant after the settled one
+module _ (zones : FileZones) (event : Event) (day next : ℤ) (n : ℕ) where
+  pub late-settled : IsDayNumber day → midnight_number day ≤ n → (next +ℤ pos 62_167_219_200) ≤ℤ pos n →
+      settled_by event.start.stamp day next <ℤ moment_numbered (clocks_in zones) event n
+  late-settled h l m = by event.start.stamp
+    where
+      by : (s : Stamp) → settled_by s day next
+          <ℤ (clock_by (clocks_in zones) event.start.zone (stamp_at s (local_numbered n))).moment (stamp_seconds (stamp_at s (local_numbered n)))
+      by (Date first) =
+          let wrote : stamp_seconds (stamp_at (Date first) (local_numbered n)) ≡ midnight (local_numbered n).day = omega (arith, ints) in
+          let near = (near-clock zones event.start.zone (stamp_at (Date first) (local_numbered n))).moment (stamp_seconds (stamp_at (Date first) (local_numbered n))) in
+          omega (arith, ints, near.0, wrote, h.0, l)
+      by (Utc first) = omega (arith, ints, seconds-numbered n, m)
+      by (Floating first) =
+          let near = short-jiff zones.display.now.zone (local_seconds (local_numbered n)) in
+          omega (arith, ints, near, seconds-numbered n, m)
+      by (Zoned first) =
+          let near = short-at zones.zones.now event.start.zone (local_seconds (local_numbered n)) in
+          omega (arith, ints, near, seconds-numbered n, m)
+
+-- it is no more than two days before the midnight of the day that is read
+pub settled-late : (s : Stamp) (day next : ℤ) → midnight day ≤ℤ next → (midnight day -ℤ whole_days 2) ≤ℤ settled_by s day next
+settled-late (Date first) day next l = omega (arith, ints)
+settled-late (Utc first) day next l = omega (arith, ints, l)
+settled-late (Floating first) day next l = omega (arith, ints, l)
+settled-late (Zoned first) day next l = omega (arith, ints, l)
