@@ -7,7 +7,7 @@ that only adds up the bytes of the files (`floor.c`, or `cat` where there is no 
 the listing takes. Then a line for each listing by a zone file beside the same by the
 rule of its zone, in runs by turns: the least seconds of both, how many times as long the first takes,
 and how many milliseconds longer. Last a line for each hostile file: the processor seconds of one run, its
-peak memory, and how many loops it may take and takes. It fails if one takes more."""
+peak memory, and how many MiB and loops it may take and how many loops it takes. It fails if one takes more."""
 import os
 import shutil
 import subprocess
@@ -74,14 +74,14 @@ def main():
 
 def holds(program):
     """Measures the hostile files, each beside the loop, and tells whether each is within its limit."""
-    print('%-40s %9s %9s %7s %8s %8s' % ('hostile', 'seconds', 'MiB', 'status', 'limit', 'loops'))
+    print('%-40s %9s %9s %7s %8s %8s %8s' % ('hostile', 'seconds', 'MiB', 'status', 'limit', 'limit', 'loops'))
     within = True
-    for name, text, words, limit in hostile.ROWS:
+    for name, text, words, limit, most in hostile.ROWS:
         folder = folder_of('hostile ' + name, lambda: [('a.ics', text())])
         loop = min(hostile.loop() for _ in range(3))
         seconds, memory, status = hostile.measure([program, 'list', folder, *words])
-        within = within and status == 0 and seconds <= limit * loop
-        print('%-40s %9.4f %9.1f %7d %8.1f %8.2f' % (name, seconds, memory, status, limit, seconds / loop))
+        within = within and status == 0 and seconds <= limit * loop and memory <= most
+        print('%-40s %9.4f %9.1f %7d %8d %8.1f %8.2f' % (name, seconds, memory, status, most, limit, seconds / loop))
     return within
 
 

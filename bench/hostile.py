@@ -1,4 +1,4 @@
-"""Small files that a stranger could send, each with the most that it may cost: so many times a loop that is measured in the same run."""
+"""Small files that a stranger could send, each with the most that it may cost: so many times a loop that is measured in the same run, and so many MiB."""
 import os
 import resource
 import time
@@ -47,25 +47,45 @@ def many(count, onsets):
     return in_zone(parts, '20231231T120000', 'RDATE;TZID=odd:' + ','.join(at))
 
 
+def excluded(count, end):
+    """So many events that recur each second, of which a day is taken out. Their times end so."""
+    lines = []
+    for number in range(count):
+        lines += ['BEGIN:VEVENT', 'UID:%d' % number, 'DTSTART:20240701T000000' + end, 'RRULE:FREQ=SECONDLY', 'EXDATE;VALUE=DATE:20240701',
+                  'END:VEVENT']
+    return calendar(lines)
+
+
+def forward(after):
+    """The clock goes forward to this offset, and back two days later."""
+    return [part('STANDARD', '00010101T000000', '+0000', '+0000'), part('DAYLIGHT', '20240630T000000', '+0000', after),
+            part('STANDARD', '20240702T000000', after, '+0000')]
+
+
 LONG = 'DURATION:P36525D'
 ODD_SECONDS = 'FREQ=SECONDLY;INTERVAL=2;BYSECOND=%s;BYMONTH=%s' % (ODD, MONTHS)
 SELDOM = 'FREQ=DAILY;COUNT=4294967295;INTERVAL=1009;BYWEEKNO=1'
 FAR = 'RDATE;TZID=odd:' + ','.join('%04d0701T120000' % year for year in range(2100, 8100, 150))
 
-# name, file, words, and how many loops it may take
+# name, file, words, how many loops it may take, and how many MiB
 ROWS = [
-    ('odd seconds of even steps', lambda: rules(1, ODD_SECONDS, LONG), DAY, 1),
-    ('the same with COUNT', lambda: rules(1, ODD_SECONDS + ';COUNT=9', LONG), DAY, 1),
-    ('8 in no week of their months', lambda: rules(8, 'FREQ=DAILY;' + LATE), ['0001-01-02', '9700-01-01'], 1),
-    ('80 in no week of their months', lambda: rules(80, 'FREQ=DAILY;' + LATE), ['0001-01-02', '9700-01-01'], 8),
-    ('one in 1,009 days, COUNT, each day', lambda: rules(1, SELDOM.replace('4294967295', '9')), ['2024-01-01', '366d', '--every-day'], 1),
-    ('8 observances that never begin', lambda: in_zone(ruled(8, 'FREQ=DAILY;' + LATE), '20240101T120000', FAR), DAY, 1),
-    ('an observance with COUNT', lambda: in_zone(ruled(1, SELDOM), '20240701T120000'), DAY, 1),
-    ('the same in 9700', lambda: in_zone(ruled(1, SELDOM), '97000701T120000'), ['9700-07-01', '1d'], 1),
-    ('8 observances that COUNT ends', lambda: in_zone(ruled(8, 'FREQ=DAILY;COUNT=12345;BYWEEKNO=1'), '20240701T120000'), DAY, 4),
-    ('1,200 observances, 4,800 locals', lambda: many(1_200, 4_800), ['2023-12-31', '4d'], 4),
+    ('odd seconds of even steps', lambda: rules(1, ODD_SECONDS, LONG), DAY, 1, 32),
+    ('the same with COUNT', lambda: rules(1, ODD_SECONDS + ';COUNT=9', LONG), DAY, 1, 32),
+    ('8 in no week of their months', lambda: rules(8, 'FREQ=DAILY;' + LATE), ['0001-01-02', '9700-01-01'], 1, 32),
+    ('80 in no week of their months', lambda: rules(80, 'FREQ=DAILY;' + LATE), ['0001-01-02', '9700-01-01'], 8, 32),
+    ('one in 1,009 days, COUNT, each day', lambda: rules(1, SELDOM.replace('4294967295', '9')), ['2024-01-01', '366d', '--every-day'], 1, 32),
+    ('8 observances that never begin', lambda: in_zone(ruled(8, 'FREQ=DAILY;' + LATE), '20240101T120000', FAR), DAY, 1, 32),
+    ('an observance with COUNT', lambda: in_zone(ruled(1, SELDOM), '20240701T120000'), DAY, 1, 32),
+    ('the same in 9700', lambda: in_zone(ruled(1, SELDOM), '97000701T120000'), ['9700-07-01', '1d'], 1, 32),
+    ('8 observances that COUNT ends', lambda: in_zone(ruled(8, 'FREQ=DAILY;COUNT=12345;BYWEEKNO=1'), '20240701T120000'), DAY, 4, 32),
+    ('1,200 observances, 4,800 locals', lambda: many(1_200, 4_800), ['2023-12-31', '4d'], 4, 64),
     ('seconds of a day that is skipped', lambda: in_zone(skipped('UNTIL=20240630T235900Z'), '20240701T000000', 'RRULE:FREQ=SECONDLY;COUNT=86400'),
-     ['2024-06-30', '4d'], 1),
+     ['2024-06-30', '4d'], 1, 32),
+    ('seconds beside a day that is skipped', lambda: in_zone(forward('+2359'), '20240629T000000', 'RRULE:FREQ=SECONDLY'), DAY, 8, 32),
+    ('odd seconds behind even ones', lambda: in_zone(forward('+235901'), '20240629T000000', 'RRULE:FREQ=SECONDLY;INTERVAL=2'), DAY, 8, 32),
+    ('seconds of an excluded day, 4 rules', lambda: excluded(4, 'Z'), DAY, 4, 12),
+    ('seconds of 8 rules, limit 1', lambda: excluded(8, 'Z'), ['2024-07-01', '10d', '--limit', '1'], 4, 12),
+    ('the same by the clock of New York', lambda: excluded(8, ''), ['2024-07-01', '10d', '--limit', '1', '--zone', 'EST5EDT,M3.2.0,M11.1.0'], 12, 48),
 ]
 
 
