@@ -1,4 +1,5 @@
 -- What the feeds of some masters hold together is at most what these masters may hold, and a series has looked at so many periods of its rule at most.
+use Rattle.std.proofs.Common.{inl, inr}
 use Rattle.std.proofs.Common.{◌≡◌, ℕ, ◌+◌, ◌≤◌, ℤ, List, [], ◌∷◌, ◌++◌, cond, length, map, Option, Some, None, refl, sym, ◌∙◌, ap, arith, ◌+ℤ◌, true, false}
 use Rattle.std.proofs.Common.{⊎_elim, sum_by, ◌≤ℤ◌, sum, length-append, nat_cmp, Less, ◌&&◌, ◌==◌, nat_le}
 use Rattle.std.specs.List.{flat_map, AllByRecursion}
@@ -266,3 +267,22 @@ module _ {X : Type 0} (part : X → Part) (lists : X → List Entry) where
       each-most coming most xs (λ e m.
       own-near e xs apart.1 near (from-one entry_cmp entry_total e (map lists xs) (merged-in entry_cmp entry_total e (map lists xs) m)))
       (in-all (λ m. HasStepBound m (merged entry_cmp (map lists xs)) (most m)) (recurring (sources_in part xs)) bound)
+
+-- what bounds the periods for some that is to come does so for more
+pub wider-bound : (m : Recurring) {xs ys : List Entry} {most : ℕ} → ((e : Entry) → IsIn e xs → IsIn e ys) → HasStepBound m xs most → HasStepBound m ys most
+wider-bound m f bound rule has =
+    let p = bound rule has in record {
+      a = p.a;
+      from = p.from;
+      b = p.b;
+      to = ⊎_elim inl
+          (λ q. inr (record {
+            occurrence = q.occurrence;
+            stands = f q.occurrence q.stands;
+            of = q.of;
+            local = q.local;
+            kept = q.kept;
+            past = q.past;
+          })) p.to;
+      count = p.count;
+    }

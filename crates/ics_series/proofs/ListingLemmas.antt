@@ -10,6 +10,7 @@ use Rattle.std.proofs.lemmas.Cmp.{alike_right, ranked, tied_back, tied_itself, e
 use Rattle.std.proofs.lemmas.List.Sums.{sum_by-cons}
 use Rattle.std.proofs.lemmas.Map.Keys.{Less-from_sorted, IsDistinct-from_sorted, IsDistinct-head, IsDistinct-IsPermutation, IsDistinct-tail}
 use Rattle.std.proofs.lemmas.Option.{get_or_from_slice_get, slice_get_within}
+use Rattle.ics_series.specs.MergedLaws.{rises-filter}
 use Rattle.ics_series.specs.Rising.{IsBefore, Rises}
 use Rattle.ics_series.specs.Listing.{IsIn, IsListing}
 use Rattle.ics_series.proofs.Cases.{some-same, eq-Equal, less-by, by-cases, option-cases}
@@ -140,11 +141,6 @@ module _ {A : Type 0} (R : A → A → Ordering) (o : IsTotalOrder R) where
   tail-in : {x y : A} (e : A) (ys : List A) → x ≡ y → R x e ≡ Less → IsIn e (y ∷ ys) → IsIn e ys
   tail-in {x = x} e ys s l n = ⊎_elim (λ p. absurd (not-less-itself x (ap (R x) (s ∙ sym p) ∙ l))) (λ k. k) n
 
-  -- what comes after one of a rising list stands behind it
-  pub after-in : (front behind : List A) {x y : A} → Rises R (front ++ y ∷ behind) → IsIn x (front ++ y ∷ behind) → R y x ≡ Less → IsIn x behind
-  after-in front behind {x = x} {y = y} r m l =
-      ⊎_elim (λ f. absurd (not-both-less x y (front-before front behind r f) l)) (tail-in x behind refl l) (in-append x front (y ∷ behind) m)
-
   pub one-rising : (xs ys : List A) → Rises R xs → Rises R ys → ((e : A) → IsIn e xs → IsIn e ys) → ((e : A) → IsIn e ys → IsIn e xs) → xs ≡ ys
   one-rising [] [] h k f g = refl
   one-rising [] (y ∷ ys) h k f g = absurd (g y (inl refl))
@@ -192,17 +188,10 @@ module _ {A : Type 0} (test : A → Bool) where
       (λ e. ⊎_elim (λ s. let f : false ≡ true = sym e ∙ (ap test (sym s) ∙ t) in absurd cc) (λ n. in-filter x ys t n) m)
 
   module _ (R : A → A → Ordering) where
-    pub rises-filter : (xs : List A) → Rises R xs → Rises R (filter test xs)
-    rises-filter [] h = tt
-    rises-filter (x ∷ xs) h =
-        let rest = rises-filter xs h.1 in
-        cond_both (test x) (x ∷ filter test xs) (filter test xs) (Rises R)
-        (λ e. (before-all R x (filter test xs) (λ y m. before-each R x y xs h.0 (filter-in y xs m).0), rest)) (λ e. rest)
-
     pub listing-filter : (P Q : A → Type 0) (xs : List A) → IsListing R P xs → ((x : A) → P x → test x ≡ true → Q x) → ((x : A) → Q x → P x × (test x ≡ true)) →
         IsListing R Q (filter test xs)
     listing-filter P Q xs l f g = record {
-      rises = rises-filter xs l.rises;
+      rises = rises-filter R test xs l.rises;
       exact = λ x. (
         λ m. let k = filter-in x xs m in f x ((l.exact x).0 k.0) k.1,
         λ q. let k = g x q in in-filter x xs k.1 ((l.exact x).1 k.0),

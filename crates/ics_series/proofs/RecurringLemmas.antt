@@ -1,7 +1,6 @@
 -- What a master gives that recurs: of the occurrences to come those of its event.
 use Rattle.std.proofs.Common.{◌≡◌, ◌<ℤ◌, ℤ, List, map, length, Option, Some, None, Bool, true, false, refl, sym, ◌∙◌, ap, subst, arith, ◌≤ℤ◌, ◌||◌, ◌&&◌}
-use Rattle.std.proofs.Common.{◌==◌, int_le, not, is_none, is_some, option_map, int_eq, [], ◌∷◌, inl, inr, ⊎_elim, is_gt}
-use Rattle.std.specs.List.{list_any}
+use Rattle.std.proofs.Common.{◌==◌, int_le, is_none, is_some, option_map, [], ◌∷◌, inl, inr, ⊎_elim, is_gt}
 use Rattle.std.proofs.lemmas.Int.{ints}
 use Rattle.ics_event.specs.Event.{FileSaid, IsEvent}
 use Rattle.ics_event.specs.declared.event.Event.{Event}
@@ -16,7 +15,7 @@ use Rattle.ics_series.specs.Listing.{IsIn, IsListing}
 use Rattle.ics_series.specs.Masters.{IsOfVersion, IsSince, Recurs}
 use Rattle.ics_series.specs.After.{is_after}
 use Rattle.ics_series.specs.Occurs.{IsOf}
-use Rattle.ics_series.specs.Overridden.{AreOverridden, is_kept}
+use Rattle.ics_series.specs.Overridden.{is_kept}
 use Rattle.ics_series.specs.PlacedEvents.{Placed, clocks_at}
 use Rattle.ics_series.specs.SeriesStarts.{given_of, IsSeriesMet}
 use Rattle.ics_series.specs.Singles.{is_single}
@@ -24,12 +23,13 @@ use Rattle.ics_series.specs.Spots.{event_at}
 use Rattle.ics_series.specs.Starts.{time_of, GivesStart, IsNotAfter}
 use Rattle.ics_series.specs.Versions.{label_of, seen, AreChosen, Label}
 use Rattle.ics_series.specs.FileZones.{clocks_in}
-use Rattle.ics_series.proofs.SeriesLemmas.{in-among, not-among, series-listing as listing-by, put-has}
-use Rattle.ics_series.proofs.Cases.{not-true, some-same}
+use Rattle.ics_series.proofs.SeriesLemmas.{series-listing as listing-by, put-has}
+use Rattle.ics_series.specs.Meets.{Meets, IsToCome}
+use Rattle.ics_series.proofs.Cases.{some-same}
 use Rattle.ics_series.proofs.VersionLemmas.{in-map, placed-event, IsGiven}
 use Rattle.ics_series.proofs.StartSourceLemmas.{gives-value, rdate-time, same-given}
 use Rattle.ics_series.proofs.InstantLemmas.{late}
-use Rattle.ics_series.proofs.ToComeLemmas.{come-listed, is-after, listed-given, to-come}
+use Rattle.ics_series.proofs.ToComeLemmas.{to-come}
 use Rattle.ics_series.specs.WindowBounds.{occurrence_first}
 use Rattle.std.proofs.lemmas.Cmp.{tied_itself}
 use Rattle.ics_event.specs.Event.{Rdate}
@@ -108,12 +108,10 @@ of-late zones event o e h =
     let starts = h.lasts.starts in
     omega (arith, ints, near, starts)
 
--- the zones by which a version's times are read, and the instants that the overrides of its event name
-pub record IsRead (files : List FileSaid) (display : Clock) (vs : List Version) (label : Label) (event : Event) (zones : FileZones) (instants : List ℤ) : Type
-    0 where
+-- the zones by which a version's times are read, and its event
+pub record IsRead (files : List FileSaid) (display : Clock) (label : Label) (event : Event) (zones : FileZones) : Type 0 where
   pub clocks : clocks_in zones ≡ clocks_at files display label.spot.file
   pub is_event : IsEvent event
-  pub overridden : AreOverridden event.uid (map seen vs) instants
 
 module _ {files : List FileSaid} {display : Clock} {vs : List Version} {label : Label} (chosen : AreChosen files display vs)
     (there : IsIn label (map seen vs)) (r : Recurs files label) where
@@ -140,53 +138,43 @@ module _ {files : List FileSaid} {display : Clock} {vs : List Version} {label : 
       ap (λ (l : Label). l.subject) own.2
       ∙ rw (own-event, ap (option_map (instant (clocks_at files display own.0.file))) (recurring-master event r.recurs)) refl
 
-  module _ {zones : FileZones} {instants : List ℤ} (read : IsRead files display vs label event zones instants) (w : Window) (after : Option Rank) (since : ℤ)
-      (from : IsSince after event.uid since) where
-    named : (o : Entry) → o.event ≡ event → is_kept (map seen vs) o ≡ not (list_any (λ x. int_eq x o.recurrence) instants)
-    named o e = rw (e, ap (λ (t : Option Time). is_some t) (recurring-master event r.recurs)) (ap not (sym (read.overridden o.recurrence)))
+  -- what it gives is to come where no override stands for it
+  pub version-come : (w : Window) (after : Option Rank) (o : Entry) → IsOf clocks event o → Meets w o → is_after after o ≡ true
+      → is_kept (map seen vs) o ≡ true → IsToCome files display w after o
+  version-come w after o of meets later kept =
+      let given : IsGiven files display w o = record {
+        by = own.0;
+        chosen = (chosen.listing.exact own.0).0 own.1;
+        is = (
+          rw (own-event, ap (option_map (instant (clocks_at files display own.0.file))) (recurring-master event r.recurs), own-clocks) of,
+          meets,
+        );
+      } in
+      to-come files display w vs chosen after o given kept later
 
-    begun : (o : Entry) → IsOf clocks event o → o.start <ℤ w.to → is_after after o ≡ int_le since o.start
-    begun o of b =
-        let low = of-late zones event o read.is_event (subst (λ k. IsOf k event o) (sym read.clocks) of) in
-        from o (ap (λ (v : Event). v.uid) of.event) of.recurrence (omega (arith, ints, low)) (omega (arith, ints, b, w.not_late))
+module _ {files : List FileSaid} {display : Clock} {label : Label} (r : Recurs files label) {zones : FileZones}
+    (read : IsRead files display label r.event zones) (w : Window) (after : Option Rank) (since : ℤ) (from : IsSince after r.event.uid since) where
+  abbrev by_file : Clocks
+  by_file = clocks_at files display label.spot.file
 
-    met-come : (o : Entry) → IsSeriesMet clocks event w since instants o → IsOfVersion files display w after label o
-    met-come o m =
-        let of = m.0.0 in
-        let given : IsGiven files display w o = record {
-          by = own.0;
-          chosen = (chosen.listing.exact own.0).0 own.1;
-          is = (
-            rw (own-event, ap (option_map (instant (clocks_at files display own.0.file))) (recurring-master event r.recurs), own-clocks) of,
-            m.0.1,
-          );
-        } in
-        let kept = named o of.event ∙ ap not (ap (λ t. list_any (λ x. int_eq x t) instants) of.recurrence ∙ not-among o.start instants m.1.1) in
-        record {
-          by = r;
-          of = of;
-          to_come = to-come files display w vs chosen after o given kept (begun o of m.0.1.begun ∙ true_int_le since o.start m.1.0);
-        }
+  begun : (o : Entry) → IsOf by_file r.event o → o.start <ℤ w.to → is_after after o ≡ int_le since o.start
+  begun o of b =
+      let low = of-late zones r.event o read.is_event (subst (λ k. IsOf k r.event o) (sym read.clocks) of) in
+      from o (ap (λ (v : Event). v.uid) of.event) of.recurrence (omega (arith, ints, low)) (omega (arith, ints, b, w.not_late))
 
-    come-met : (o : Entry) → IsOfVersion files display w after label o → IsSeriesMet clocks event w since instants o
-    come-met o h =
-        let same : h.by.event ≡ event = some-same h.by.event event (sym h.by.stands ∙ r.stands) in
-        let of : IsOf clocks event o = rw same at h.of in
-        let listed = listed-given files display w vs chosen o (come-listed files display w after o h.to_come) in
-        let meets = listed.0.is.1 in
-        let out : list_any (λ x. int_eq x o.start) instants ≡ false =
-        rw of.recurrence at (not-true (list_any (λ x. int_eq x o.recurrence) instants) (sym (named o of.event) ∙ listed.1)) in (
-          (of, meets),
-          (
-            int_le_true since o.start (sym (begun o of meets.begun) ∙ is-after files display w vs chosen after o h.to_come),
-            λ m. let f = in-among o.start instants m in cc,
-          ),
-        )
+  met-come : (o : Entry) → IsSeriesMet by_file r.event w since o → IsOfVersion files display w after label o
+  met-come o m = record { by = r; of = m.0.0; meets = m.0.1; later = begun o m.0.0 m.0.1.begun ∙ true_int_le since o.start m.1 }
 
-    -- what its series gives are its occurrences to come
-    pub series-listing : {list : List Entry} → IsListing entry_cmp (IsSeriesMet (clocks_in zones) event w since instants) list →
-        IsListing entry_cmp (IsOfVersion files display w after label) list
-    series-listing {list = list} l = let k = rw read.clocks at l in relisted k met-come come-met
+  come-met : (o : Entry) → IsOfVersion files display w after label o → IsSeriesMet by_file r.event w since o
+  come-met o h =
+      let same : h.by.event ≡ r.event = some-same h.by.event r.event (sym h.by.stands ∙ r.stands) in
+      let of : IsOf by_file r.event o = rw same at h.of in
+      ((of, h.meets), int_le_true since o.start (sym (begun o of h.meets.begun) ∙ h.later))
+
+  -- what its series gives are the occurrences of its event
+  pub series-listing : {list : List Entry} → IsListing entry_cmp (IsSeriesMet (clocks_in zones) r.event w since) list →
+      IsListing entry_cmp (IsOfVersion files display w after label) list
+  series-listing {list = list} l = let k = rw read.clocks at l in relisted k met-come come-met
 
 -- an event that starts once does not recur
 pub not-single : {files : List FileSaid} {u v : Version} {event : Event} → u ≡ v → event_at files u.spot ≡ Some event → is_single event ≡ true →
@@ -196,12 +184,11 @@ not-single {files = files} {event = event} is there single r =
     let f : false ≡ true = sym r.recurs ∙ (ap is_single same ∙ single) in cc
 
 -- a version whose event recurs has a list of all its occurrences that meet the window
-pub whole-version : {files : List FileSaid} {display : Clock} {vs : List Version} {label : Label} {zones : FileZones} {instants : List ℤ}
-    (chosen : AreChosen files display vs) → IsIn label (map seen vs) → (r : Recurs files label) → IsRead files display vs label r.event zones instants →
-    (w : Window) → (list : List Entry) × IsListing entry_cmp (IsOfVersion files display w None label) list
-whole-version {zones = zones} {instants = instants} chosen there r read w =
+pub whole-version : {files : List FileSaid} {display : Clock} {label : Label} {zones : FileZones} (r : Recurs files label) →
+    IsRead files display label r.event zones → (w : Window) → (list : List Entry) × IsListing entry_cmp (IsOfVersion files display w None label) list
+whole-version {zones = zones} r read w =
     let starts = whole-starts (clocks_in zones) w r.event occurrence_first read.is_event in (
-      given_of (clocks_in zones) w r.event occurrence_first instants starts.0,
-      series-listing chosen there r read w None occurrence_first (λ o u e low high. sym (true_int_le occurrence_first o.start low))
-          (listing-by (clocks_in zones) w r.event occurrence_first instants starts.0 starts.1),
+      given_of (clocks_in zones) w r.event occurrence_first starts.0,
+      series-listing r read w None occurrence_first (λ o u e low high. sym (true_int_le occurrence_first o.start low))
+          (listing-by (clocks_in zones) w r.event occurrence_first starts.0 starts.1),
     )

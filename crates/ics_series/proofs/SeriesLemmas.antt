@@ -4,7 +4,7 @@ use Rattle.std.proofs.Common.{slice_get, int_eq, Bool, ◌&&◌, not, if◌then�
 use Rattle.std.proofs.lemmas.Int.{ints}
 use Rattle.std.proofs.lemmas.List.{take-append-drop}
 use Rattle.std.specs.List.{cons_option, filter_map}
-use Rattle.std.proofs.lemmas.Bool.{false_from_ne_true, cond_both}
+use Rattle.std.proofs.lemmas.Bool.{cond_both}
 use Rattle.ics_fields.specs.declared.local.Local.{Local}
 use Rattle.ics_rule.specs.Cursors.{place_of}
 use Rattle.ics_fields.specs.Locals.{number, midnight, whole_days}
@@ -21,7 +21,7 @@ use Rattle.ics_series.specs.declared.window.Window.{Window}
 use Rattle.ics_series.specs.declared.zones.FileZones.{FileZones}
 use Rattle.ics_series.specs.Clocks.{Clocks, instant}
 use Rattle.ics_series.specs.Entry.{Entry, entry_cmp}
-use Rattle.ics_series.specs.Exclusions.{is_among, is_excluded}
+use Rattle.ics_series.specs.Exclusions.{is_excluded}
 use Rattle.ics_series.specs.Found.{is_shown, moment_cmp, AreStartsSince, IsStart, met_by, shown_by, HasStart, IsSought}
 use Rattle.ics_series.specs.Listing.{IsIn, IsListing}
 use Rattle.ics_series.specs.Meeting.{entry_from, is_met}
@@ -187,10 +187,10 @@ module _ (clocks : Clocks) (w : Window) (event : Event) where
   rises-behind None es r = r
   rises-behind (Some e) es r = r.1
 
-  pub rises-rest : (since : ℤ) (overridden : List ℤ) {s : Start} {all rest : List Start} → all ≡ s ∷ rest
-      → Rises entry_cmp (given_of clocks w event since overridden all) → Rises entry_cmp (given_of clocks w event since overridden rest)
-  rises-rest since overridden {s = s} {rest = rest} e r =
-      rises-behind (wanted_by clocks w event since overridden s) (given_of clocks w event since overridden rest) (rw e at r)
+  pub rises-rest : (since : ℤ) {s : Start} {all rest : List Start} → all ≡ s ∷ rest
+      → Rises entry_cmp (given_of clocks w event since all) → Rises entry_cmp (given_of clocks w event since rest)
+  rises-rest since {s = s} {rest = rest} e r =
+      rises-behind (wanted_by clocks w event since s) (given_of clocks w event since rest) (rw e at r)
 
 -- The first of both kinds goes.
 pub both-passed : {rule rule' rule'' listed' : List Start} {t : Start} (listed : List Start) → rule' ≡ rule → rule'' ≡ cut moment_cmp t rule' →
@@ -218,25 +218,13 @@ module _ (zones : FileZones) (w : Window) (event : Event) where
       let gives = known-gives s.source s.given sound.start k.gives in
       record { gives = gives; value = gives-value (clocks_in zones) event s.source s.given sound.start sound.rdates gives; moment = k.moment }
 
--- Whether an instant is among some.
-pub among-in : (t : ℤ) (xs : List ℤ) → is_among xs t ≡ true → IsIn t xs
-among-in t xs e = let k = any-in (λ x. int_eq x t) xs e in subst (λ x. IsIn x xs) (equal-true k.0 t k.2) k.1
+-- Wanted is what is shown from an instant on.
+module _ (clocks : Clocks) (w : Window) (event : Event) (since : ℤ) where
+  pub wanted-is : (o : Entry) → is_wanted clocks w event since o ≡ true → (is_shown clocks w event o ≡ true) × (since ≤ℤ o.start)
+  wanted-is o e = (grind arith, grind (arith, ints))
 
-pub in-among : (t : ℤ) (xs : List ℤ) → IsIn t xs → is_among xs t ≡ true
-in-among t xs m = in-any (λ x. int_eq x t) t xs (true-equal t t refl) m
-
-pub not-among : (t : ℤ) (xs : List ℤ) → (IsIn t xs → ⊥) → is_among xs t ≡ false
-not-among t xs n = false_from_ne_true (is_among xs t) (λ e. n (among-in t xs e))
-
--- Wanted is what is shown from an instant on, but for the instants of overrides.
-module _ (clocks : Clocks) (w : Window) (event : Event) (since : ℤ) (overridden : List ℤ) where
-  pub wanted-is : (o : Entry) → is_wanted clocks w event since overridden o ≡ true → (is_shown clocks w event o ≡ true) × (since ≤ℤ o.start)
-      × (IsIn o.start overridden → ⊥)
-  wanted-is o e = (grind arith, grind (arith, ints), λ m. let some = in-among o.start overridden m in grind arith)
-
-  pub is-wanted : (o : Entry) → is_shown clocks w event o ≡ true → since ≤ℤ o.start → (IsIn o.start overridden → ⊥) →
-      is_wanted clocks w event since overridden o ≡ true
-  is-wanted o shown late none = let apart = not-among o.start overridden none in grind (arith, ints)
+  pub is-wanted : (o : Entry) → is_shown clocks w event o ≡ true → since ≤ℤ o.start → is_wanted clocks w event since o ≡ true
+  is-wanted o shown late = grind (arith, ints)
 
   -- what starts later goes later
   before-later : (a : Entry) (es : List Entry) → IsBefore entry_start_cmp a es → IsBefore entry_cmp a es
@@ -249,17 +237,17 @@ module _ (clocks : Clocks) (w : Window) (event : Event) (since : ℤ) (overridde
 
   -- the starts from an instant on give what the series has
   pub series-listing : (starts : List Start) → AreStartsSince clocks event w since starts →
-      IsListing entry_cmp (IsSeriesMet clocks event w since overridden) (given_of clocks w event since overridden starts)
+      IsListing entry_cmp (IsSeriesMet clocks event w since) (given_of clocks w event since starts)
   series-listing starts h =
-      let listing : IsListing entry_start_cmp (IsSeriesMet clocks event w since overridden) (given_of clocks w event since overridden starts) =
-      listing-picked clocks event (is_wanted clocks w event since overridden) (IsSeriesMet clocks event w since overridden) starts h.rises h.are
+      let listing : IsListing entry_start_cmp (IsSeriesMet clocks event w since) (given_of clocks w event since starts) =
+      listing-picked clocks event (is_wanted clocks w event since) (IsSeriesMet clocks event w since) starts h.rises h.are
       (λ s m t.
       let is = wanted-is (entry_from clocks event s.given) t in
-      (found-is clocks w event starts (λ x. since ≤ℤ x) h.rises h.are h.all s m is.0 is.1, (is.1, is.2)))
+      (found-is clocks w event starts (λ x. since ≤ℤ x) h.rises h.are h.all s m is.0 is.1, is.1))
       (λ e o.
-      let k = is-found clocks w event starts (λ x. since ≤ℤ x) h.rises h.are h.all e o.0 o.1.0 in
-      record { start = k.0; stands = k.1; is = k.2; passes = is-wanted e (met-shown clocks w event e o.0.1 o.0.0.lasts.stays) o.1.0 o.1.1 }) in
-      record { rises = rises-later (given_of clocks w event since overridden starts) listing.rises; exact = listing.exact }
+      let k = is-found clocks w event starts (λ x. since ≤ℤ x) h.rises h.are h.all e o.0 o.1 in
+      record { start = k.0; stands = k.1; is = k.2; passes = is-wanted e (met-shown clocks w event e o.0.1 o.0.0.lasts.stays) o.1 }) in
+      record { rises = rises-later (given_of clocks w event since starts) listing.rises; exact = listing.exact }
 
 -- Starts at an instant.
 pub moment-in : (xs : List Start) (t : ℤ) → has_moment xs t ≡ true → (x : Start) × IsIn x xs × (x.moment ≡ t)
@@ -269,11 +257,11 @@ pub in-moment : (x : Start) (t : ℤ) (xs : List Start) → x.moment ≡ t → I
 in-moment x t xs is m = in-any (λ (s : Start). int_eq s.moment t) x xs (true-equal x.moment t is) m
 
 -- What goes before all that is left is not tied with what is still to come.
-module _ (clocks : Clocks) (w : Window) (event : Event) (since : ℤ) (overridden : List ℤ) where
+module _ (clocks : Clocks) (w : Window) (event : Event) (since : ℤ) where
   begins-after : (t : Start) (rest : List Start) (o : Entry) → IsBefore moment_cmp t rest → AreKnown clocks event w rest →
-      IsIn o (given_of clocks w event since overridden rest) → t.moment <ℤ o.start
+      IsIn o (given_of clocks w event since rest) → t.moment <ℤ o.start
   begins-after t rest o b known m =
-      let k = in-picked clocks event (is_wanted clocks w event since overridden) rest o m in
+      let k = in-picked clocks event (is_wanted clocks w event since) rest o m in
       let less = int-less t.moment k.start.moment (before-in moment_cmp moment_total t k.start rest b k.stands) in
       subst (λ x. t.moment <ℤ x) ((known k.start k.stands).moment ∙ ap (λ (e : Entry). e.start) (sym k.is)) less
 
@@ -282,14 +270,14 @@ module _ (clocks : Clocks) (w : Window) (event : Event) (since : ℤ) (overridde
   in-behind (Some x) e es m = inr m
 
   pub ruled-rest : (a b : Option RuleStarts) {t : Start} {all rest : List Start} → HasSameRule a b → rule_left b ≡ cut moment_cmp t (rule_left a) →
-      IsFrontOf clocks w event t all rest → HasRuled clocks event a (given_of clocks w event since overridden all)
-      → HasRuled clocks event b (given_of clocks w event since overridden rest)
+      IsFrontOf clocks w event t all rest → HasRuled clocks event a (given_of clocks w event since all)
+      → HasRuled clocks event b (given_of clocks w event since rest)
   ruled-rest None None same c front h = tt
   ruled-rest (Some a) (Some b) {t = t} {all = all} {rest = rest} same c front h = λ o m local k.
       let rises : Rises moment_cmp (t ∷ rest) = rw front.is at front.rises in
       let after = begins-after t rest o rises.0 (known-rest clocks w event t all rest front.is front.known) m in
-      let there : IsIn o (given_of clocks w event since overridden all) =
-      rw front.is (in-behind (wanted_by clocks w event since overridden t) o (given_of clocks w event since overridden rest) m) in
+      let there : IsIn o (given_of clocks w event since all) =
+      rw front.is (in-behind (wanted_by clocks w event since t) o (given_of clocks w event since rest) m) in
       let x = moment-in (starts_left a) o.start (h o there local k) in
       in-moment x.0 o.start (starts_left b) x.2
       (rw c (member-cut moment_cmp moment_total t x.0 (starts_left a)
@@ -297,8 +285,8 @@ module _ (clocks : Clocks) (w : Window) (event : Event) (since : ℤ) (overridde
   ruled-rest _ _ same c front h = absurd same
 
   -- each occurrence that the starts of an event give is of it
-  pub given-own : (starts : List Start) (e : Entry) → IsIn e (given_of clocks w event since overridden starts) → e.event ≡ event
-  given-own starts e m = ap (λ (o : Entry). o.event) (in-picked clocks event (is_wanted clocks w event since overridden) starts e m).is
+  pub given-own : (starts : List Start) (e : Entry) → IsIn e (given_of clocks w event since starts) → e.event ≡ event
+  given-own starts e m = ap (λ (o : Entry). o.event) (in-picked clocks event (is_wanted clocks w event since) starts e m).is
 
 module _ (clocks : Clocks) (event : Event) where
   -- the same of the rule's starts, where there is one

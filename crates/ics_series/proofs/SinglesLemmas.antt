@@ -40,8 +40,8 @@ use Rattle.ics_series.proofs.VersionLemmas.{given-subject, placed-event, entry_s
 use Rattle.ics_series.proofs.VersionLemmas.{second-equal, subject_total}
 use Rattle.ics_series.proofs.NearDayLemmas.{is_met-meets, meets-is_met}
 use Rattle.ics_series.proofs.OverrideLemmas.{named-overrides}
-use Rattle.ics_series.proofs.ListingLemmas.{filter_map-map, listing-picked, KeepsOrder, listing-sorted, map-climbs, Climbs, all-as}
-use Rattle.ics_series.proofs.UnionLemmas.{listing-ordered, merged-listing, IsInOne}
+use Rattle.ics_series.proofs.ListingLemmas.{filter_map-map, listing-filter, listing-picked, KeepsOrder, listing-sorted, map-climbs, Climbs, all-as}
+use Rattle.ics_series.proofs.UnionLemmas.{from-one, listing-ordered, merged-is, one-from, IsInOne}
 use Rattle.ics_series.proofs.RawLemmas.{one-start}
 use Rattle.ics_series.proofs.ToComeLemmas.{come-listed, is-after, listed-given, to-come}
 use Rattle.ics_series.proofs.ZoneLemmas.{none-of, rule-none}
@@ -53,23 +53,28 @@ use Rattle.std.proofs.lemmas.Map.Lookups.{exact_bytes, exact_signed}
 use Rattle.ics_series.specs.Meets.{IsToCome, IsListed}
 use Rattle.ics_series.proofs.OccursLemmas.{one-recurrence}
 use Rattle.ics_series.specs.Masters.{AreLists, HasLists, IsOneOf, Recurs}
-use Rattle.ics_series.specs.Merged.{merged}
+use Rattle.ics_series.specs.Merged.{merged, IsFromFirst}
 use Rattle.ics_series.specs.Rising.{Rises}
 use Rattle.ics_series.proofs.AfterLemmas.{listing-after_key}
-use Rattle.ics_series.proofs.RecurringLemmas.{recurring-master}
+use Rattle.ics_series.proofs.RecurringLemmas.{recurring-master, version-come}
 
 pub given_total : IsTotalOrder given_cmp
 given_total = then_total (on_total subject_from subject_total) (on_total (λ e. e.start) int_cmp_total)
+
+-- what has one key has one UID and one recurrence
+same-key : (x y : Entry) → entry_cmp x y ≡ Equal → (x.event.uid ≡ y.event.uid) × (x.recurrence ≡ y.recurrence)
+same-key x y e =
+    let rest = ordering_then (slice_cmp nat_cmp x.event.uid y.event.uid) (int_cmp x.recurrence y.recurrence) in
+    let both = second-equal (int_cmp x.start y.start) rest e in
+    let ends = second-equal (slice_cmp nat_cmp x.event.uid y.event.uid) (int_cmp x.recurrence y.recurrence) both.1 in
+    (exact_bytes x.event.uid y.event.uid ends.0, exact_signed x.recurrence y.recurrence ends.1)
 
 module _ (files : List FileSaid) (display : Clock) (w : Window) (after : Option Rank) where
   -- occurrences of one key are one
   pub one-key : (x y : Entry) → IsToCome files display w after x → IsToCome files display w after y → entry_cmp x y ≡ Equal → x ≡ y
   one-key x y p q e =
-      let rest = ordering_then (slice_cmp nat_cmp x.event.uid y.event.uid) (int_cmp x.recurrence y.recurrence) in
-      let both = second-equal (int_cmp x.start y.start) rest e in
-      let ends = second-equal (slice_cmp nat_cmp x.event.uid y.event.uid) (int_cmp x.recurrence y.recurrence) both.1 in
-      one-recurrence files display x y (come-listed files display w after x p).0 (come-listed files display w after y q).0
-      (exact_bytes x.event.uid y.event.uid ends.0) (exact_signed x.recurrence y.recurrence ends.1)
+      let same = same-key x y e in
+      one-recurrence files display x y (come-listed files display w after x p).0 (come-listed files display w after y q).0 same.0 same.1
 
   pub tied-given : (x y : Entry) → IsToCome files display w after x → IsToCome files display w after y → entry_cmp x y ≡ Equal → given_cmp x y ≡ Equal
   tied-given x y p q e = ap (given_cmp x) (sym (one-key x y p q e)) ∙ tied_itself given_total x
@@ -253,15 +258,10 @@ singles-whole files display w vs chosen =
     listing-ordered entry_cmp entry_total given_cmp given_total (IsSingleToCome files display w None)
     (λ x y a b e. tied-given files display w None x y a.0 b.0 e) _ (given-listing files display w None vs (filter is_override (map seen vs)) chosen refl)
 
--- What is to come is what the single events give and what each version gives whose event recurs.
+-- What is to come is what the single events give and what each version gives whose event recurs, but for what overrides replace.
 module _ (files : List FileSaid) (display : Clock) (w : Window) (after : Option Rank) where
   abbrev InOne : Entry → List (List Entry) → Type 0
   InOne e lists = IsInOne entry_cmp entry_total e lists
-
-  each-come : (labels : List Label) (lists : List (List Entry)) (e : Entry) → AllByRecursion (IsOneOf files display w after labels) lists → InOne e lists →
-      IsToCome files display w after e
-  each-come labels [] e h m = absurd m
-  each-come labels (x ∷ xs) e h m = ⊎_elim (λ n. ((h.0.listing.exact e).0 n).to_come) (λ n. each-come labels xs e h.1 n) m
 
   in-one : (e : Entry) (xs : List Entry) (lists : List (List Entry)) → IsIn xs lists → IsIn e xs → InOne e lists
   in-one e xs [] m n = absurd m
@@ -270,8 +270,25 @@ module _ (files : List FileSaid) (display : Clock) (w : Window) (after : Option 
   module _ (vs : List Version) (chosen : AreChosen files display vs) (singles : List Entry)
       (single : IsListing entry_cmp (IsSingleToCome files display w after) singles) (more : List (List Entry))
       (are : AreLists files display w after (map seen vs) more) where
-    part-come : (e : Entry) → InOne e (singles ∷ more) → IsToCome files display w after e
-    part-come e m = ⊎_elim (λ n. ((single.exact e).0 n).0) (λ n. each-come (map seen vs) more e are.each n) m
+    abbrev kept : Entry → Bool
+    kept = is_kept (map seen vs)
+
+    -- what the list of a master has is to come where no override stands for it
+    each-come : (lists : List (List Entry)) (e : Entry) → AllByRecursion (IsOneOf files display w after (map seen vs)) lists → InOne e lists →
+        (is_single e.event ≡ false) × (kept e ≡ true → IsToCome files display w after e)
+    each-come [] e h m = absurd m
+    each-come (x ∷ xs) e h m =
+        ⊎_elim
+        (λ n.
+        let v = (h.0.listing.exact e).0 n in
+        (ap is_single v.of.event ∙ v.by.recurs, version-come chosen h.0.stands v.by w after e v.of v.meets v.later))
+        (λ n. each-come xs e h.1 n) m
+
+    part-come : (e : Entry) → InOne e (singles ∷ more) → kept e ≡ true → IsToCome files display w after e
+    part-come e m k = ⊎_elim (λ n. ((single.exact e).0 n).0) (λ n. (each-come more e are.each n).1 k) m
+
+    come-kept : (e : Entry) → IsToCome files display w after e → kept e ≡ true
+    come-kept e t = (listed-given files display w vs chosen e (come-listed files display w after e t)).1
 
     come-part : (e : Entry) → IsToCome files display w after e → InOne e (singles ∷ more)
     come-part e t =
@@ -289,22 +306,54 @@ module _ (files : List FileSaid) (display : Clock) (w : Window) (after : Option 
         record { event = g.by.event; stands = placed-event files g.by g.chosen.placed; recurs = own } in
         let has = are.every (label_of files display g.by) there recurs in
         inr (in-one e has.list more has.stands
-        ((has.listing.exact e).1 (record { by = recurs; of = rw none at g.is.0; to_come = t }))))
+        ((has.listing.exact e).1 (record {
+          by = recurs;
+          of = rw none at g.is.0;
+          meets = g.is.1;
+          later = is-after files display w vs chosen after e t;
+        }))))
         (cases_Bool (is_single e.event))
 
-    -- the merge of what they give is the listing
-    pub parts-listing : IsListing entry_cmp (IsToCome files display w after) (merged entry_cmp (singles ∷ more))
+    -- masters' occurrences of one key are kept alike
+    kept-tied : (e x : Entry) → is_single e.event ≡ false → is_single x.event ≡ false → entry_cmp e x ≡ Equal → kept e ≡ kept x
+    kept-tied e x s n tied =
+        let none = recurring-master e.event s ∙ sym (recurring-master x.event n) in
+        let same = same-key e x tied in
+        λ i. is_some (none i) || not (is_named (record { uid = same.0 i; recurrence = Some (same.1 i) }) (map seen vs))
+
+    -- what has the key of an occurrence to come of a master is to come
+    tied-come : (e x : Entry) → IsToCome files display w after e → is_single e.event ≡ false → InOne x (singles ∷ more) → entry_cmp e x ≡ Equal →
+        IsToCome files display w after x
+    tied-come e x t s m tied =
+        ⊎_elim (λ n. ((single.exact x).0 n).0)
+        (λ n. let own = each-come more x are.each n in own.1 (sym (kept-tied e x s own.0 tied) ∙ come-kept e t)) m
+
+    -- so the first list that has the key has the occurrence
+    come-first : (e : Entry) → IsToCome files display w after e → IsFromFirst entry_cmp e (singles ∷ more)
+    come-first e t =
+        ⊎_elim (λ s. inl ((single.exact e).1 (t, s)))
+        (λ s.
+        one-from entry_cmp entry_total e (singles ∷ more) (λ x m tied. sym (one-key files display w after e x t (tied-come e x t s m tied) tied))
+        (come-part e t))
+        (cases_Bool (is_single e.event))
+
+    -- the merge of what they give is the listing, but for what overrides replace
+    pub parts-listing : IsListing entry_cmp (IsToCome files display w after) (filter (is_kept (map seen vs)) (merged entry_cmp (singles ∷ more)))
     parts-listing =
         let rise = all-as (IsOneOf files display w after (map seen vs)) (Rises entry_cmp) more (λ xs h. h.listing.rises) are.each in
-        merged-listing entry_cmp entry_total (IsToCome files display w after) (singles ∷ more) (single.rises, rise) part-come come-part
-        (one-key files display w after)
+        listing-filter kept entry_cmp (λ e. IsFromFirst entry_cmp e (singles ∷ more)) (IsToCome files display w after)
+        (merged entry_cmp (singles ∷ more)) (merged-is entry_cmp entry_total (singles ∷ more) (single.rises, rise))
+        (λ e m k. part-come e (from-one entry_cmp entry_total e (singles ∷ more) m) k) (λ e t. (come-first e t, come-kept e t))
 
   -- so where they were pushed behind the single events
-  pub pushed-listing : {vs : List Version} (singles : List Entry) {lists : List (List Entry)} → AreChosen files display vs →
-      IsListing entry_cmp (IsSingleToCome files display w after) singles → HasLists files display w after (map seen vs) (singles ∷ []) lists
-      → IsListing entry_cmp (IsToCome files display w after) (merged entry_cmp lists)
-  pushed-listing {vs = vs} singles chosen single h =
-      rw h.behind (parts-listing vs chosen singles single h.more h.are)
+  pub pushed-listing : {vs : List Version} (os : List Version) (singles : List Entry) {lists : List (List Entry)} → AreChosen files display vs →
+      map seen os ≡ filter is_override (map seen vs)
+      → IsListing entry_cmp (IsSingleToCome files display w after) singles → HasLists files display w after (map seen vs) (singles ∷ []) lists
+      → IsListing entry_cmp (IsToCome files display w after) (filter (is_kept (map seen os)) (merged entry_cmp lists))
+  pushed-listing {vs = vs} os singles {lists = lists} chosen overrides single h =
+      subst (λ (test : Entry → Bool). IsListing entry_cmp (IsToCome files display w after) (filter test (merged entry_cmp lists)))
+      (λ i o. sym (kept-same files display w after vs (map seen os) chosen overrides o) i)
+      (rw h.behind (parts-listing vs chosen singles single h.more h.are))
 
   -- and what comes is what of the whole listing stands after the key
   pub behind-key : {come : List Entry} → (list : List Entry) × IsListing entry_cmp (IsListed files display w) list

@@ -199,9 +199,6 @@ true-until : (o : Option ℤ) (t : ℤ) → is_until o t ≡ true → IfSome o (
 true-until None t h = tt
 true-until (Some last) t h = grind (arith, ints)
 
-pub same-test : (p q : Bool) → (p ≡ true → q ≡ true) → (q ≡ true → p ≡ true) → p ≡ q
-same-test p q f h = grind arith
-
 -- two locals are one exactly if their numbers are
 pub local-test : (a b : Local) → IsDayNumber a.day → IsDayNumber b.day → (int_eq a.day b.day && (a.second == b.second)) ≡ (number a == number b)
 local-test a b h k = grind (arith, ints, nat_tests, a.second_in, b.second_in, number-seconds a h, number-seconds b k)

@@ -156,7 +156,7 @@ module _ {A : Type 0} (R : A → A → Ordering) (o : IsTotalOrder R) where
   has-key e [] = inr tt
   has-key e (x ∷ xs) = key-by e x xs (R e x) refl (has-key e xs)
 
-  one-from : (e : A) (xss : List (List A)) → ((x : A) → IsInOne x xss → R e x ≡ Equal → x ≡ e) → IsInOne e xss → IsFromFirst R e xss
+  pub one-from : (e : A) (xss : List (List A)) → ((x : A) → IsInOne x xss → R e x ≡ Equal → x ≡ e) → IsInOne e xss → IsFromFirst R e xss
   one-from e [] one m = m
   one-from e (xs ∷ xss) one (inl m) = inl m
   one-from e (xs ∷ xss) one (inr m) =

@@ -1,6 +1,6 @@
 -- What is known of the files of a folder once the versions of their events are listed.
 use Rattle.std.proofs.Common.{◌≡◌, ℕ, zero, suc, ◌+◌, ◌<◌, true, false, List, [], ◌∷◌, map, filter, Option, Some, None, is_none, option_map, inl, inr, ⊎_elim}
-use Rattle.std.proofs.Common.{refl, sym, ◌∙◌, ap, subst, arith, slice_get, IfSome, FitsSigned, w64, add-one, drop, length, take, ◌++◌, ◌≤◌}
+use Rattle.std.proofs.Common.{refl, sym, ◌∙◌, ap, subst, arith, slice_get, IfSome, FitsSigned, w64, add-one, length, take, ◌++◌, ◌≤◌}
 use Rattle.std.proofs.lemmas.Bool.{cases_Bool}
 use Rattle.std.proofs.lemmas.Int.{ints}
 use Rattle.std.proofs.lemmas.Option.{slice_get-get_or, slice_get-map}
@@ -22,10 +22,11 @@ use Rattle.ics_series.specs.Occurs.{Occurs}
 use Rattle.ics_series.specs.PlacedEvents.{clocks_at, zones_in, IsPlaced, Placed}
 use Rattle.ics_series.specs.Starts.{time_of}
 use Rattle.ics_series.specs.Tokens.{IsKey}
-use Rattle.ics_series.specs.Versions.{by_subject, label_of, seen, subject_seen, AreChosen, Label}
+use Rattle.ics_series.specs.Versions.{by_subject, label_of, seen, AreChosen, Label}
 use Rattle.ics_series.specs.Masters.{HasLists, IsOfVersion, Recurs}
 use Rattle.ics_series.specs.Meets.{IsListed}
 use Rattle.ics_series.specs.Merged.{merged}
+use Rattle.ics_series.specs.Overridden.{is_kept}
 use Rattle.ics_series.specs.Singles.{is_single}
 use Rattle.ics_series.specs.Spots.{event_at}
 use Rattle.ics_series.specs.declared.window.Window.{Window}
@@ -34,8 +35,8 @@ use Rattle.ics_series.specs.Whole.{AreRead, AreReadIn, IsReadEvent}
 use Rattle.ics_series.proofs.Cases.{below-or-last, mapped-some, some-same}
 use Rattle.ics_series.proofs.InstantLemmas.{near-at, near-display, near-utc, written, IsNearClock}
 use Rattle.ics_series.proofs.ListingLemmas.{get-in, listing-filter}
-use Rattle.ics_series.proofs.OverrideLemmas.{any_version, chosen-order, found, overridden-all}
-use Rattle.ics_series.proofs.RecurringLemmas.{not-single, own, own-event, own-subject, whole-version, IsRead}
+use Rattle.ics_series.proofs.OverrideLemmas.{any_version}
+use Rattle.ics_series.proofs.RecurringLemmas.{not-single, own, own-event, whole-version, IsRead}
 use Rattle.ics_series.proofs.SinglesLemmas.{parts-listing, singles-whole}
 use Rattle.ics_series.proofs.SourceLemmas.{lists-none, versions-all, versions-more, versions-skip}
 use Rattle.ics_series.proofs.VersionLemmas.{in-map, map-in, placed-event}
@@ -123,17 +124,13 @@ module _ (files : List FileEvents) (display : Display) {vs : List Version} (chos
   list-of i {v = v} there r =
       let stands = map-in seen v vs (get-in v vs i there) in
       let placed = own chosen stands r in
-      let uid = r.event.uid in
       let zones = zones-said files v.spot.file in
       let file : FileZones = record { display = record { ref_ptr = (0, 0); now = display }; zones = record { ref_ptr = (0, 0); now = zones.0 } } in
-      let is : IsRead said clock vs (seen v) r.event file (found uid (drop (suc i) vs)) = record {
+      let is : IsRead said clock (seen v) r.event file = record {
         clocks = ap (clocks_of clock) (sym zones.1);
         is_event = subst IsEvent (own-event chosen stands r) (read placed.0 ((chosen.listing.exact placed.0).0 placed.1).placed).is_event;
-        overridden = overridden-all uid vs (drop (suc i) vs) i (chosen-order chosen)
-            (ap (option_map (λ (x : Version). subject_seen x.subject)) there ∙ ap Some (own-subject chosen stands r)) refl
-            (found uid (drop (suc i) vs)) refl;
       } in
-      whole-version chosen stands r is w
+      whole-version r is w
 
   list-more : (i : ℕ) {v : Version} → slice_get vs i ≡ Some v → HasListsTo i → HasListsTo (i + 1)
   list-more i {v = v} there before =
@@ -159,4 +156,5 @@ module _ (files : List FileEvents) (display : Display) {vs : List Version} (chos
       let singles = singles-whole said clock w vs chosen in
       let lists = lists-to (length vs) (omega arith) in
       let all = versions-all vs (length vs) (omega arith) lists.1 in
-      (merged entry_cmp (singles.0 ∷ all.more), parts-listing said clock w None vs chosen singles.0 singles.1 all.more all.are)
+      let list = filter (is_kept (map seen vs)) (merged entry_cmp (singles.0 ∷ all.more)) in
+      (list, parts-listing said clock w None vs chosen singles.0 singles.1 all.more all.are)

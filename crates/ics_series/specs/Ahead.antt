@@ -14,6 +14,8 @@ use Rattle.ics_series.specs.Listing.{IsListing}
 use Rattle.ics_series.specs.Meeting.{is_met}
 use Rattle.ics_series.specs.Merged.{merged}
 use Rattle.ics_series.specs.AgendaParts.{part_coming}
+use Rattle.ics_series.specs.Overridden.{is_kept}
+use Rattle.ics_series.specs.Versions.{seen}
 
 -- an occurrence meets the window and has this day there
 abbrev pub is_today : Clock → Window → ℤ → Entry → Bool
@@ -36,7 +38,9 @@ pub record IsAheadOf (files : List FileSaid) (display : Clock) (w : Window) (day
 
 -- what an agenda has to come
 abbrev pub agenda_coming : Agenda → List Entry
-agenda_coming agenda = merged entry_cmp (map (λ l. past agenda.merge.last (listed l.head (part_coming l.feed))) agenda.merge.leads.items)
+agenda_coming agenda =
+    filter (is_kept (map seen agenda.overrides.items))
+    (merged entry_cmp (map (λ l. past agenda.merge.last (listed l.head (part_coming l.feed))) agenda.merge.leads.items))
 
 -- what it is of
 abbrev pub scope_of : Days → Scope

@@ -1,5 +1,5 @@
 -- The lists of the versions that count and whose events recur, one for each.
-use Rattle.std.specs.Prelude.{◌≡◌, ◌<ℤ◌, ◌≤ℤ◌, ◌++◌, ℕ, ℤ, int_le, false, List, map, Option, Some}
+use Rattle.std.specs.Prelude.{◌≡◌, ◌<ℤ◌, ◌≤ℤ◌, ◌++◌, ℕ, ℤ, int_le, true, false, List, map, Option, Some}
 use Rattle.std.specs.List.{AllByRecursion}
 use Rattle.ics_event.specs.Event.{FileSaid}
 use Rattle.ics_event.specs.declared.event.Event.{Event}
@@ -7,7 +7,7 @@ use Rattle.ics_series.specs.declared.window.Window.{Window}
 use Rattle.ics_series.specs.Clocks.{Clock}
 use Rattle.ics_series.specs.Entry.{Entry, Rank, entry_cmp}
 use Rattle.ics_series.specs.Listing.{IsIn, IsListing}
-use Rattle.ics_series.specs.Meets.{IsToCome}
+use Rattle.ics_series.specs.Meets.{Meets}
 use Rattle.ics_series.specs.After.{is_after}
 use Rattle.ics_series.specs.Occurs.{IsOf}
 use Rattle.ics_series.specs.PlacedEvents.{clocks_at}
@@ -25,11 +25,12 @@ pub record Recurs (files : List FileSaid) (l : Label) : Type 0 where
   pub stands : event_at files l.spot ≡ Some event
   pub recurs : is_single event ≡ false
 
--- one of the occurrences to come, of the event of this version, which recurs
+-- an occurrence of the event of this version, which recurs, that meets the window and comes after the key; an override may replace it
 pub record IsOfVersion (files : List FileSaid) (display : Clock) (w : Window) (after : Option Rank) (l : Label) (o : Entry) : Type 0 where
   pub by : Recurs files l
   pub of : IsOf (clocks_at files display l.spot.file) by.event o
-  pub to_come : IsToCome files display w after o
+  pub meets : Meets w o
+  pub later : is_after after o ≡ true
 
 -- Of the occurrences of a master with this UID that can meet a window, those that begin at this instant or later come after the key.
 abbrev pub IsSince : Option Rank → List ℕ → ℤ → Type 0
@@ -37,7 +38,7 @@ IsSince after uid since =
     (o : Entry) → o.event.uid ≡ uid → o.recurrence ≡ o.start → occurrence_first ≤ℤ o.start → o.start <ℤ window_last
     → is_after after o ≡ int_le since o.start
 
--- the list is that of the occurrences to come of one of these versions
+-- the list is that of the occurrences of one of these versions
 pub record IsOneOf (files : List FileSaid) (display : Clock) (w : Window) (after : Option Rank) (labels : List Label) (list : List Entry) : Type 0 where
   pub label : Label
   pub stands : IsIn label labels
@@ -49,7 +50,7 @@ pub record HasList (files : List FileSaid) (display : Clock) (w : Window) (after
   pub stands : IsIn list lists
   pub listing : IsListing entry_cmp (IsOfVersion files display w after label) list
 
--- these lists are those of the occurrences to come of the versions whose events recur, one for each
+-- these lists are those of the occurrences of the versions whose events recur, one for each
 pub record AreLists (files : List FileSaid) (display : Clock) (w : Window) (after : Option Rank) (labels : List Label) (lists : List (List Entry)) : Type
     0 where
   pub each : AllByRecursion (IsOneOf files display w after labels) lists

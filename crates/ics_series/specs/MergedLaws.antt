@@ -1,11 +1,28 @@
--- The merge of lists rises, whatever the lists are.
-use Rattle.std.proofs.Common.{◌≡◌, List, [], ◌∷◌, refl, ◌∙◌, ap}
+-- The merge of lists rises, whatever the lists are, and so does what a test leaves of a list that rises.
+use Rattle.std.proofs.Common.{◌≡◌, List, [], ◌∷◌, Bool, true, false, cond, filter, refl, ◌∙◌, ap}
 use Rattle.std.specs.Cmp.{IsTotalOrder}
 use Rattle.std.specs.Ordering.{ordering_reverse}
 use Rattle.std.specs.declared.cmp.Ordering.{Ordering}
 use Rattle.std.specs.declared.cmp.Ordering.TheVariants.{Less, Equal, Greater}
 use Rattle.ics_series.specs.Rising.{IsBefore, Rises}
 use Rattle.ics_series.specs.Merged.{by_order, put, union, merged}
+
+module _ {A : Type 0} (R : A → A → Ordering) (test : A → Bool) where
+  before-filter : (x : A) (ys : List A) → IsBefore R x ys → IsBefore R x (filter test ys)
+  before-filter x [] h = tt
+  before-filter x (y ∷ ys) h = by (test y) (before-filter x ys h.1)
+    where
+      by : (b : Bool) → IsBefore R x (filter test ys) → IsBefore R x (cond b (y ∷ filter test ys) (filter test ys))
+      by true k = (h.0, k)
+      by false k = k
+
+  pub rises-filter : (xs : List A) → Rises R xs → Rises R (filter test xs)
+  rises-filter [] h = tt
+  rises-filter (x ∷ xs) h = by (test x) (rises-filter xs h.1)
+    where
+      by : (b : Bool) → Rises R (filter test xs) → Rises R (cond b (x ∷ filter test xs) (filter test xs))
+      by true k = (before-filter x xs h.0, k)
+      by false k = k
 
 module _ {A : Type 0} (R : A → A → Ordering) (o : IsTotalOrder R) where
   -- x comes before all that follow y, if it comes before y

@@ -20,7 +20,7 @@ series_left s = left s.rule_starts s.listed
 
 -- the occurrences that these starts give
 abbrev pub series_of : Series → List Start → List Entry
-series_of s starts = given_of (clocks_in s.zones) s.window s.event.now s.since s.overridden.items starts
+series_of s starts = given_of (clocks_in s.zones) s.window s.event.now s.since starts
 
 -- its occurrences are of its event, in its window, from an instant on
 abbrev pub source_of : Clocks → Event → Window → ℤ → List Source
@@ -47,5 +47,4 @@ pub record IsSameSeries (old new : Series) : Type 0 where
   pub event : new.event ≡ old.event
   pub window : new.window ≡ old.window
   pub since : new.since ≡ old.since
-  pub overridden : new.overridden ≡ old.overridden
   pub rule : HasSameRule old.rule_starts new.rule_starts

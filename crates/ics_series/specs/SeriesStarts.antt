@@ -1,5 +1,5 @@
 -- The starts of a series still to come, and the occurrences that they give.
-use Rattle.std.specs.Prelude.{◌≡◌, ◌≤ℤ◌, ℤ, ◌+ℤ◌, ◌-ℤ◌, Bool, true, false, ◌&&◌, not, int_le, List, [], ◌∷◌, drop, slice_get, Option, None, Some, ◌⊎◌}
+use Rattle.std.specs.Prelude.{◌≡◌, ◌≤ℤ◌, ℤ, ◌+ℤ◌, ◌-ℤ◌, Bool, true, false, ◌&&◌, int_le, List, [], ◌∷◌, drop, slice_get, Option, None, Some, ◌⊎◌}
 use Rattle.std.specs.Prelude.{if◌then◌else◌}
 use Rattle.std.specs.Int.{int_max, int_min}
 use Rattle.std.specs.List.{filter_map, list_any}
@@ -22,7 +22,6 @@ use Rattle.ics_series.specs.declared.window.Window.{Window}
 use Rattle.ics_series.specs.declared.zones.FileZones.{FileZones}
 use Rattle.ics_series.specs.Clocks.{Clocks, instant}
 use Rattle.ics_series.specs.Entry.{Entry}
-use Rattle.ics_series.specs.Exclusions.{is_among}
 use Rattle.ics_series.specs.Found.{earliest, is_shown, listed_from, moment_cmp, start_at}
 use Rattle.ics_series.specs.Listing.{IsIn}
 use Rattle.ics_series.specs.Meeting.{entry_from}
@@ -32,10 +31,9 @@ use Rattle.ics_series.specs.RuleFeed.{is_unsettled, starts_left, HasSameSource}
 use Rattle.ics_series.specs.RuleStarts.{found, gives}
 use Rattle.ics_series.specs.Starts.{given_by, local_of, recurrence_of, time_at, time_of, IsRuleStart}
 
--- an occurrence of the event that meets the window, begins at this instant or later, and does not start at one of these
-abbrev pub IsSeriesMet : Clocks → Event → Window → ℤ → List ℤ → Entry → Type 0
-IsSeriesMet clocks event w since overridden o =
-    IsEventMet clocks event w o × ((since ≤ℤ o.start) × (IsIn o.start overridden → ⊥))
+-- an occurrence of the event that meets the window and begins at this instant or later
+abbrev pub IsSeriesMet : Clocks → Event → Window → ℤ → Entry → Type 0
+IsSeriesMet clocks event w since o = IsEventMet clocks event w o × (since ≤ℤ o.start)
 
 -- the known starts that were not passed yet
 abbrev pub listed_left : ListedStarts → List Start
@@ -97,18 +95,18 @@ HasOwnRule zones event w first (Some s) = IsOwnRule zones event w first s
 abbrev pub first_of : Clocks → Window → Event → ℤ → ℤ
 first_of clocks w event since = first_asked clocks w event since (listed_apart clocks w event event.rule)
 
--- the occurrence is shown, begins at this instant or later, and does not start at one of these
-abbrev pub is_wanted : Clocks → Window → Event → ℤ → List ℤ → Entry → Bool
-is_wanted clocks w event since overridden o = (int_le since o.start && not (is_among overridden o.start)) && is_shown clocks w event o
+-- the occurrence is shown and begins at this instant or later
+abbrev pub is_wanted : Clocks → Window → Event → ℤ → Entry → Bool
+is_wanted clocks w event since o = int_le since o.start && is_shown clocks w event o
 
 -- the occurrence with this start, if it belongs to the series
-abbrev pub wanted_by : Clocks → Window → Event → ℤ → List ℤ → Start → Option Entry
-wanted_by clocks w event since overridden s =
-    if is_wanted clocks w event since overridden (entry_from clocks event s.given) then Some (entry_from clocks event s.given) else None
+abbrev pub wanted_by : Clocks → Window → Event → ℤ → Start → Option Entry
+wanted_by clocks w event since s =
+    if is_wanted clocks w event since (entry_from clocks event s.given) then Some (entry_from clocks event s.given) else None
 
 -- the occurrences that these starts give
-abbrev pub given_of : Clocks → Window → Event → ℤ → List ℤ → List Start → List Entry
-given_of clocks w event since overridden starts = filter_map (wanted_by clocks w event since overridden) starts
+abbrev pub given_of : Clocks → Window → Event → ℤ → List Start → List Entry
+given_of clocks w event since starts = filter_map (wanted_by clocks w event since) starts
 
 -- one of these starts is at an instant
 abbrev pub has_moment : List Start → ℤ → Bool

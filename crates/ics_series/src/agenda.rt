@@ -1,5 +1,5 @@
 //! The listing of a window.
-ghost use Rattle.std.specs.Prelude.{◌≡◌, ◌≤◌, ◌-◌, ◌^◌, ℕ, List, [], length, map, min, sum_by, IfOk};
+ghost use Rattle.std.specs.Prelude.{◌≡◌, ◌≤◌, ◌-◌, ◌^◌, ℕ, List, [], filter, length, map, min, sum_by, IfOk};
 ghost use Rattle.std.specs.List.{flat_map};
 ghost use Rattle.std.specs.List.Sorted.{IsSorted};
 ghost use Rattle.std.specs.Option.{option_map};
@@ -16,18 +16,17 @@ ghost use Rattle.ics_series.specs.Listing.{IsIn, IsListing};
 ghost use Rattle.ics_series.specs.Marks.{AreMarks};
 ghost use Rattle.ics_series.specs.Meets.{IsListed, IsToCome};
 ghost use Rattle.ics_series.specs.Merged.{merged};
-ghost use Rattle.ics_series.specs.MergedLaws.{rises-merged};
+ghost use Rattle.ics_series.specs.MergedLaws.{rises-filter, rises-merged};
 ghost use Rattle.ics_series.specs.Occurs.{Occurs};
 ghost use Rattle.ics_series.specs.Overridden.{is_kept};
 ghost use Rattle.ics_series.specs.AgendaParts.{part_coming, part_sources};
 ghost use Rattle.ics_series.specs.Sources.{master_of, recurring, AreApart, AreApart-prop, AreSources, Recurring};
 ghost use Rattle.ics_series.specs.Steps.{HasStepBound};
 ghost use Rattle.ics_series.specs.Tokens.{IsKey};
-ghost use Rattle.ics_series.specs.Uids.{AreSortedFrom};
 ghost use Rattle.ics_series.specs.Spans.{AreSpans};
 ghost use Rattle.ics_series.specs.Versions.{seen, subject_cmp, subject_seen, AreChosen};
 
-use crate::chosen::{chosen, is_named};
+use crate::chosen::{chosen, is_named, overrides};
 use crate::feed::{Coming, Feed};
 use crate::key::Key;
 use crate::mark::Mark;
@@ -49,6 +48,9 @@ use std::alloc::{AllocError, Global};
 #[derive(Drop)]
 pub struct Agenda<'a> {
     merge: Merge<'a, Part<'a>>,
+    // The versions that override an instance. What they replace is left out behind the merge.
+    overrides: Vec<Version<'a>>,
+    ghost in_order: { IsSorted (on (λ v. subject_seen v.subject) subject_cmp) overrides.items },
     ghost apart: { AreApart (flat_map (λ l. part_sources l.feed) merge.leads.items) } by { AreApart-prop
         (flat_map (λ l. part_sources l.feed) merge.leads.items) },
 }
@@ -88,7 +90,7 @@ impl<'a> Agenda<'a> {
         alloc: Global,
         files: &'a [FileEvents],
         display: &'a Display,
-        chosen: &[Version<'_>],
+        chosen: &[Version<'a>],
         spans: &[Span],
         marks: &mut Vec<Option<Mark>>,
         window: Window,
@@ -105,9 +107,17 @@ impl<'a> Agenda<'a> {
         ensures sources { IfOk result (λ agenda. AreSources (map said_by files.entry.now) (display_clock display.entry.now) window
             (option_map (λ key. key_rank key.now) after.entry) (⟦<Agenda<'a> as Coming>⟧.sources agenda)) }
     {
-        let parts = parts(alloc, files, display, chosen, spans, marks, window, after)?;
+        let overrides = overrides(alloc, chosen)?;
+        let singles = Singles::new(
+            alloc, files, display, chosen, spans, &overrides, &window, after,
+        )?;
+        let mut parts = Vec::new(alloc);
+        parts.push(Part::Singles(singles))?;
+        push_series(
+            alloc, &mut parts, files, display, chosen, spans, marks, window, after,
+        )?;
         let merge = Merge::of_sorted(alloc, parts, 1)?;
-        Ok(Agenda { merge })
+        Ok(Agenda { merge, overrides })
     }
 
     // An agenda with nothing to come.
@@ -116,7 +126,8 @@ impl<'a> Agenda<'a> {
         ensures sources { IfOk result (λ agenda. ⟦<Agenda<'a> as Coming>⟧.sources agenda ≡ []) }
     {
         let merge = Merge::new(alloc, Vec::new(alloc))?;
-        Ok(Agenda { merge })
+        let overrides = Vec::new(alloc);
+        Ok(Agenda { merge, overrides })
     }
 
     /// How many built occurrences are held: the one that was given last, the next one of each feed,
@@ -144,45 +155,13 @@ impl<'a> Agenda<'a> {
     }
 }
 
-// The feeds of the versions that count: one for all events that start once, and one for each master
-// that recurs, in the order of their UIDs.
-fn parts<'a>(
-    alloc: Global,
-    files: &'a [FileEvents],
-    display: &'a Display,
-    chosen: &[Version<'_>],
-    spans: &[Span],
-    marks: &mut Vec<Option<Mark>>,
-    window: Window,
-    after: Option<&Key>,
-) -> Result<Vec<Part<'a>>, AllocError>
-    requires chosen { AreChosen (map said_by files.now) (display_clock display.now) chosen.now }
-    requires spans { AreSpans (map said_by files.now) (display_clock display.now) window (map seen chosen.now) spans.now }
-    requires marks { AreMarks (map said_by files.now) (map seen chosen.now) marks.old.items }
-    ensures marks { AreMarks (map said_by files.entry.now) (map seen chosen.entry.now) marks.new.items }
-    ensures listing { IfOk result (λ parts. IsListing entry_cmp
-        (IsToCome (map said_by files.entry.now) (display_clock display.entry.now) window
-        (option_map (λ key. key_rank key.now) after.entry))
-        (merged entry_cmp (map part_coming parts.items))) }
-    ensures sources { IfOk result (λ parts. AreSources (map said_by files.entry.now) (display_clock display.entry.now) window
-        (option_map (λ key. key_rank key.now) after.entry) (flat_map part_sources parts.items)) }
-    ensures sorted { IfOk result (λ parts. AreSortedFrom 1 (map part_coming parts.items)) }
-{
-    let singles = Singles::new(alloc, files, display, chosen, spans, &window, after)?;
-    let mut parts = Vec::new(alloc);
-    parts.push(Part::Singles(singles))?;
-    push_series(
-        alloc, &mut parts, files, display, chosen, spans, marks, window, after,
-    )?;
-    Ok(parts)
-}
-
 impl<'a> Coming for Agenda<'a> {
     ghost use Rattle.std.specs.List.{AllByRecursion, AllByRecursion-prop};
     ghost use Rattle.ics_series.specs.Leads.{HasNear, HasNear-prop};
     ghost use Rattle.ics_series.specs.AgendaParts.{part_near, part_near-prop};
 
-    ghost coming = { λ agenda. merged entry_cmp (map (λ l. past agenda.merge.last (listed l.head (part_coming l.feed))) agenda.merge.leads.items) };
+    ghost coming = { λ agenda. filter (is_kept (map seen agenda.overrides.items))
+        (merged entry_cmp (map (λ l. past agenda.merge.last (listed l.head (part_coming l.feed))) agenda.merge.leads.items)) };
 
     ghost sources = { λ agenda. flat_map (λ l. part_sources l.feed) agenda.merge.leads.items };
 
@@ -193,11 +172,17 @@ impl<'a> Coming for Agenda<'a> {
 }
 
 impl<'a> Feed<'a> for Agenda<'a> {
-    ghost rises = { λ agenda. rises-merged entry_cmp entry_total
-        (map (λ l. past agenda.merge.last (listed l.head (part_coming l.feed))) agenda.merge.leads.items) };
+    ghost rises = { λ agenda. rises-filter entry_cmp (is_kept (map seen agenda.overrides.items))
+        (merged entry_cmp (map (λ l. past agenda.merge.last (listed l.head (part_coming l.feed))) agenda.merge.leads.items))
+        (rises-merged entry_cmp entry_total (map (λ l. past agenda.merge.last (listed l.head (part_coming l.feed))) agenda.merge.leads.items)) };
 
     fn next(&mut self) -> Result<Option<Occurrence<'a>>, AllocError> {
-        self.merge.next()
+        while let Some(occurrence) = self.merge.next()? {
+            if is_kept(&occurrence, &self.overrides) {
+                return Ok(Some(occurrence));
+            }
+        }
+        Ok(None)
     }
 }
 

@@ -130,7 +130,7 @@ impl<'a> Days<'a> {
         alloc: Global,
         files: &'a [FileEvents],
         display: &'a Display,
-        versions: &[Version<'_>],
+        versions: &[Version<'a>],
         spans: &[Span],
         marks: &mut Vec<Option<Mark>>,
         window: &Window,

@@ -26,7 +26,6 @@ mod met;
 mod near_day;
 mod occurrence;
 mod occurrence_days;
-mod overridden;
 mod part;
 mod prepare;
 mod queue;

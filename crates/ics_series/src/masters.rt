@@ -21,7 +21,6 @@ ghost use Rattle.ics_series.specs.Versions.{seen, AreChosen};
 use crate::feed::Coming;
 use crate::key::Key;
 use crate::mark::{Mark, mark_at, put_mark};
-use crate::overridden::overridden_instants;
 use crate::part::Part;
 use crate::series::Series;
 use crate::singles::is_single;
@@ -35,7 +34,7 @@ use std::alloc::{AllocError, Global};
 use std::cmp::Ordering;
 
 /// Adds a feed for each version that counts and whose event recurs: its occurrences that meet the
-/// window and, with a key, come after it. The searches of rules under COUNT go on from their marks, and
+/// window and, with a key, come after it, whether an override replaces them or not. The searches of rules under COUNT go on from their marks, and
 /// all leave a mark where they began.
 pub(crate) fn push_series<'a>(
     alloc: Global,
@@ -105,8 +104,7 @@ fn series_at<'a>(
     }
     let zones = version.spot.zones(files, display);
     let since = since_of(after, event.uid.as_slice());
-    let overridden = overridden_instants(alloc, event.uid.as_slice(), chosen, place)?;
-    let series = Series::new(alloc, zones, event, window, since, overridden, mark)?;
+    let series = Series::new(alloc, zones, event, window, since, mark)?;
     Ok(Some(series))
 }
 

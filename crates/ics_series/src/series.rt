@@ -1,7 +1,5 @@
 //! The occurrences of one event that meet a window, found one by one.
 ghost use Rattle.std.specs.Prelude.{◌≡◌, slice_get, All, IfOk, List, MatchOption, None, OnOk};
-ghost use Rattle.std.specs.List.Sorted.{IsSorted};
-ghost use Rattle.std.specs.Ordering.{int_cmp};
 ghost use Rattle.ics_series.specs.Entry.{entry_cmp};
 ghost use Rattle.ics_series.specs.EventLaws.{own-event-prop};
 ghost use Rattle.ics_series.specs.Exclusions.{AreExclusions};
@@ -16,7 +14,7 @@ ghost use Rattle.ics_series.specs.SeriesStarts.{HasOwnRule, HasRuled, HasSameRul
 ghost use Rattle.ics_series.specs.FileZones.{clocks_in, IsOwnEvent};
 ghost use Rattle.ics_series.specs.declared.start.Start.{Start};
 
-use crate::exclusion::{Exclusions, is_among};
+use crate::exclusion::Exclusions;
 use crate::feed::{Coming, Feed};
 use crate::listed::push_listed;
 use crate::listed_starts::ListedStarts;
@@ -33,8 +31,7 @@ use ics_rule::Rule;
 use ics_values::Moment;
 use std::alloc::{AllocError, Global};
 
-/// The occurrences of an event that meet a window and begin at an instant or later, without those that
-/// overrides name.
+/// The occurrences of an event that meet a window and begin at an instant or later.
 #[derive(Drop)]
 pub(crate) struct Series<'a> {
     zones: FileZones<'a>,
@@ -42,24 +39,21 @@ pub(crate) struct Series<'a> {
     window: Window,
     since: Moment,
     exclusions: Exclusions,
-    // The instants that overrides name, in order.
-    overridden: Vec<Moment>,
     rule_starts: Option<RuleStarts<'a>>,
     // The starts by RDATEs and, if there is no rule, the one at DTSTART.
     listed: ListedStarts,
-    ghost in_order: { IsSorted int_cmp overridden.items },
     ghost own: { IsOwnEvent zones event.now } by { own-event-prop zones event.now },
     ghost taken_out: { AreExclusions (clocks_in zones) event.now window exclusions.instants.items exclusions.days.items } by { taken-out-prop (clocks_in zones)
         event.now window exclusions.instants.items exclusions.days.items },
     ghost known: { AreKnown (clocks_in zones) event.now window (left rule_starts listed) } by { known-prop (clocks_in zones) event.now window
         (left rule_starts listed) },
     ghost ruled: { HasRuled (clocks_in zones) event.now rule_starts
-        (given_of (clocks_in zones) window event.now since overridden.items (left rule_starts listed)) } by { ruled-prop (clocks_in zones) event.now rule_starts
-            (given_of (clocks_in zones) window event.now since overridden.items (left rule_starts listed)) },
+        (given_of (clocks_in zones) window event.now since (left rule_starts listed)) } by { ruled-prop (clocks_in zones) event.now rule_starts
+            (given_of (clocks_in zones) window event.now since (left rule_starts listed)) },
     ghost own_rule: { HasOwnRule zones event.now window (first_of (clocks_in zones) window event.now since) rule_starts } by { own-rule-prop zones event.now
         window (first_of (clocks_in zones) window event.now since) rule_starts },
-    ghost rising: { Rises entry_cmp (given_of (clocks_in zones) window event.now since overridden.items (left rule_starts listed)) } by { Rises-prop entry_cmp
-        (given_of (clocks_in zones) window event.now since overridden.items (left rule_starts listed)) },
+    ghost rising: { Rises entry_cmp (given_of (clocks_in zones) window event.now since (left rule_starts listed)) } by { Rises-prop entry_cmp
+        (given_of (clocks_in zones) window event.now since (left rule_starts listed)) },
 }
 
 // The starts that are known from the beginning: those by RDATEs and, if there is no rule, the one at
@@ -162,22 +156,19 @@ impl<'a> Series<'a> {
     ghost use Rattle.ics_series.specs.SeriesFeed.{series_left, series_near, series_of, series_sources, source_of, IsSameSeries};
     ghost use Rattle.ics_series.specs.SeriesStarts.{wanted_by, IsKnown, IsSeriesMet, IsTaken};
 
-    /// The occurrences of an event from an instant on, without those at the instants that overrides
-    /// name. These are in order. Under COUNT the rule is searched from a mark on.
+    /// The occurrences of an event from an instant on. Under COUNT the rule is searched from a mark on.
     pub(crate) fn new(
         alloc: Global,
         zones: FileZones<'a>,
         event: &'a Event,
         window: Window,
         since: Moment,
-        overridden: Vec<Moment>,
         mark: Option<Mark>,
     ) -> Result<Series<'a>, AllocError>
         requires own { IsOwnEvent zones event.now }
-        requires order { IsSorted int_cmp overridden.items }
         requires mark { IsMarkOf event.now mark }
         ensures listing { IfOk result (λ series. IsListing entry_cmp
-            (IsSeriesMet (clocks_in zones.entry) event.entry.now window since overridden.items)
+            (IsSeriesMet (clocks_in zones.entry) event.entry.now window since)
             (⟦<Series<'a> as Coming>⟧.coming series)) }
         ensures sources { IfOk result (λ series. series_sources series ≡ source_of (clocks_in zones.entry) event.entry.now window since) }
     {
@@ -190,7 +181,6 @@ impl<'a> Series<'a> {
             window,
             since,
             exclusions,
-            overridden,
             rule_starts,
             listed: ListedStarts::new(alloc, listed)?,
         })
@@ -215,10 +205,10 @@ impl<'a> Series<'a> {
     // The occurrence with a start, if it belongs to the list.
     fn wanted(&self, start: Start) -> Option<Occurrence<'a>>
         requires { IsKnown (clocks_in self.now.zones) self.now.event.now self.now.window start }
-        ensures { option_map entry_of result ≡ wanted_by (clocks_in self.now.zones) self.now.window self.now.event.now self.now.since self.now.overridden.items
+        ensures { option_map entry_of result ≡ wanted_by (clocks_in self.now.zones) self.now.window self.now.event.now self.now.since
             start }
     {
-        if start.moment < self.since || is_among(&self.overridden, start.moment) {
+        if start.moment < self.since {
             return None;
         }
         shown(

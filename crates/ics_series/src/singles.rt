@@ -1,5 +1,5 @@
 //! The occurrences of the events of a folder that start once.
-ghost use Rattle.std.specs.Prelude.{◌≡◌, map, IfOk, IsSome};
+ghost use Rattle.std.specs.Prelude.{◌≡◌, filter, map, IfOk, IsSome};
 ghost use Rattle.std.specs.List.{filter_map};
 ghost use Rattle.std.specs.List.Sorted.{IsSorted};
 ghost use Rattle.std.specs.Option.{option_map};
@@ -13,10 +13,9 @@ ghost use Rattle.ics_series.specs.Rising.{Rises, Rises-prop};
 ghost use Rattle.ics_series.specs.Singles.{is_single, is_to_come, single_at, single_entry, AreSingle, AreSingle-prop, IsSingleToCome};
 ghost use Rattle.ics_series.specs.Spans.{AreSpans};
 ghost use Rattle.ics_series.specs.Spots.{event_at};
-ghost use Rattle.ics_series.specs.Versions.{seen, subject_cmp, subject_seen, AreChosen};
+ghost use Rattle.ics_series.specs.Versions.{is_override, seen, subject_cmp, subject_seen, AreChosen};
 
 use crate::agenda::{is_after, is_kept};
-use crate::chosen::overrides;
 use crate::feed::{Coming, Feed};
 use crate::key::Key;
 use crate::occurrence::Occurrence;
@@ -46,19 +45,20 @@ impl<'a> Singles<'a> {
         display: &'a Display,
         chosen: &[Version<'_>],
         spans: &[Span],
+        overrides: &[Version<'_>],
         window: &Window,
         after: Option<&Key>,
     ) -> Result<Singles<'a>, AllocError>
         requires chosen { AreChosen (map said_by files.now) (display_clock display.now) chosen.now }
         requires spans { AreSpans (map said_by files.now) (display_clock display.now) window.now (map seen chosen.now) spans.now }
+        requires overrides { map seen overrides.now ≡ filter is_override (map seen chosen.now) }
         ensures { IfOk result (λ singles. IsListing entry_cmp
             (IsSingleToCome (map said_by files.entry.now) (display_clock display.entry.now) window.now
             (option_map (λ key. key_rank key.now) after.entry))
             (⟦<Singles<'a> as Coming>⟧.coming singles)) }
     {
-        let overrides = overrides(alloc, chosen)?;
         let mut singles = to_come(
-            alloc, files, display, chosen, spans, &overrides, window, after,
+            alloc, files, display, chosen, spans, overrides, window, after,
         )?;
         singles.sort_unstable_by(Single::compare);
         Ok(Singles {

@@ -1,18 +1,16 @@
-use Rattle.std.proofs.Common.{◌≡◌, ◌∙◌, rules, get_or, map, Some, None, w64, to_z, of_z, refl, sym, ap, subst, option_map}
+use Rattle.std.proofs.Common.{◌≡◌, ◌∙◌, rules, get_or, map, w64, to_z, of_z, refl, sym, ap, subst, option_map}
 use Rattle.std.proofs.lemmas.Option.{get_or_from_slice_get, slice_get-get_or}
 use Rattle.ics_event.specs.Event.{said_by, IsEventOf}
 use Rattle.ics_event.specs.declared.event.Event.{Event}
-use Rattle.ics_series.specs.declared.version.Version.{Version}
 use Rattle.ics_series.specs.Clocks.{display_clock}
 use Rattle.ics_series.specs.Entry.{key_rank}
 use Rattle.ics_series.specs.Masters.{Recurs}
 use Rattle.ics_series.specs.Sources.{IsFrom}
-use Rattle.ics_series.specs.Versions.{seen, subject_seen}
+use Rattle.ics_series.specs.Versions.{seen}
 use Rattle.ics_series.specs.FileZones.{clocks_in}
-use Rattle.ics_series.proofs.VersionLemmas.{map-in, stands}
-use Rattle.ics_series.proofs.OverrideLemmas.{any_version, chosen-order}
-use Rattle.ics_series.proofs.RecurringLemmas.{IsRead, not-single, own-subject, series-listing}
-use Rattle.ics_series.proofs.ListingLemmas.{get-in}
+use Rattle.ics_series.proofs.VersionLemmas.{stands}
+use Rattle.ics_series.proofs.OverrideLemmas.{any_version}
+use Rattle.ics_series.proofs.RecurringLemmas.{IsRead, not-single, series-listing}
 use Rattle.ics_series.proofs.ZoneLemmas.{own-event}
 use Rattle.ics_series.proofs.masters.series_at.Goals as goal
 
@@ -28,20 +26,6 @@ returns-then-is_single c = record {
       (sym c.is_single.ensures ∙ c.if-is_single.true);
 }
 
-pub overridden_instants-requires-clause-order : goal.overridden_instants-requires-clause-order
-overridden_instants-requires-clause-order c = chosen-order c.requires.chosen
-
-pub overridden_instants-requires-clause-master : goal.overridden_instants-requires-clause-master
-overridden_instants-requires-clause-master c =
-    let v = get_or c.args.chosen.now c.args.place any_version in
-    let there = slice_get-get_or c.args.chosen.now c.args.place any_version c.requires.within in
-    let r : Recurs (map said_by c.args.files.now) (seen (get_or c.args.chosen.now c.args.place any_version)) =
-    record { event = c.event-event.result.now; stands = c.event-event.ensures.event; recurs = sym c.is_single.ensures ∙ c.if-is_single.false } in
-    let uid : c.as_slice-2.result.now ≡ c.event-event.result.now.uid = c.as_slice-2.ensures ∙ ap (λ (e : Event). e.uid) c.event.view_is in
-    ap (option_map (λ (v : Version). subject_seen v.subject)) there
-    ∙ ap Some (own-subject c.requires.chosen (map-in seen v c.args.chosen.now (get-in v c.args.chosen.now c.args.place there)) r
-    ∙ ap (λ u. record { uid = u; recurrence = None }) (sym uid))
-
 pub new-requires-clause-own : goal.new-requires-clause-own
 new-requires-clause-own c =
     own-event c.zones-zones.result c.event-event.result.now (search rules)
@@ -55,26 +39,17 @@ new-requires-clause-mark c =
 pub returns : goal.returns
 returns c =
     let after = option_map (λ key. key_rank key.now) c.args.after in
-    let v = get_or c.args.chosen.now c.args.place any_version in
-    let stands = map-in seen v c.args.chosen.now
-    (get-in v c.args.chosen.now c.args.place (slice_get-get_or c.args.chosen.now c.args.place any_version c.requires.within)) in
     let r : Recurs (map said_by c.args.files.now) (seen (get_or c.args.chosen.now c.args.place any_version)) =
     record { event = c.event-event.result.now; stands = c.event-event.ensures.event; recurs = sym c.is_single.ensures ∙ c.if-is_single.false } in
     let uid : c.as_slice.result.now ≡ c.event-event.result.now.uid = c.as_slice.ensures ∙ ap (λ (e : Event). e.uid) c.event.view_is in
-    let uid-2 : c.as_slice-2.result.now ≡ c.event-event.result.now.uid = c.as_slice-2.ensures ∙ ap (λ (e : Event). e.uid) c.event.view_is in
     let fits : to_z w64 (of_z w64 c.since_of-since.result) ≡ c.since_of-since.result = search rules in
     let since = rw (uid, ← fits) at c.since_of-since.ensures.since in
-    let read : IsRead (map said_by c.args.files.now) (display_clock c.args.display.now) c.args.chosen.now
-    (seen (get_or c.args.chosen.now c.args.place any_version)) c.event-event.result.now c.zones-zones.result c.in_ok-overridden.overridden.items = record {
-      clocks = c.zones-zones.ensures.clocks;
-      is_event = search rules;
-      overridden = rw (← uid-2) c.in_ok-overridden.ensures.overridden;
-    } in
+    let read : IsRead (map said_by c.args.files.now) (display_clock c.args.display.now) (seen (get_or c.args.chosen.now c.args.place any_version))
+    c.event-event.result.now c.zones-zones.result = record { clocks = c.zones-zones.ensures.clocks; is_event = search rules } in
     record {
       series = λ version there.
           rw (← get_or_from_slice_get c.args.chosen.now c.args.place version any_version there)
-          (series-listing c.requires.chosen stands r read c.args.window after (to_z w64 (of_z w64 c.since_of-since.result)) since
-          c.in_ok-series.ensures.listing);
+          (series-listing r read c.args.window after (to_z w64 (of_z w64 c.since_of-since.result)) since c.in_ok-series.ensures.listing);
       sources = λ version there. (
         record {
           clocks = clocks_in c.zones-zones.result;

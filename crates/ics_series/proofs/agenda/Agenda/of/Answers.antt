@@ -1,13 +1,56 @@
-use Rattle.std.proofs.Common.{sym, subst}
+use Rattle.std.proofs.Common.{◌∙◌, [], ◌∷◌, ◌++◌, List, filter, map, ap, option_map, refl, sym, subst}
+use Rattle.ics_event.specs.Event.{said_by}
+use Rattle.ics_series.specs.declared.part.Part.TheVariants as part
+use Rattle.ics_series.specs.Clocks.{display_clock}
+use Rattle.ics_series.specs.Entry.{entry_cmp, key_rank, Entry}
+use Rattle.ics_series.specs.AgendaParts.{part_coming}
+use Rattle.ics_series.specs.Listing.{IsListing}
+use Rattle.ics_series.specs.Meets.{IsToCome}
+use Rattle.ics_series.specs.Overridden.{is_kept}
 use Rattle.ics_series.specs.Sources.{AreApart}
+use Rattle.ics_series.specs.Versions.{seen}
+use Rattle.ics_series.proofs.OverrideLemmas.{overrides-sorted}
+use Rattle.ics_series.proofs.SinglesLemmas.{pushed-listing}
+use Rattle.ics_series.proofs.UidLemmas.{parts-sorted}
+use Rattle.ics_series.proofs.SourceLemmas.{sources-behind}
 use Rattle.ics_series.proofs.agenda.Agenda.of.Goals as goal
 
-pub returns : goal.returns
-returns c = record {
-  sources = rw c.in_ok-merge.ensures.sources c.in_ok-parts.ensures.sources;
-  listing = rw (← c.in_ok-merge.ensures.coming) at c.in_ok-parts.ensures.listing;
-  marks = c.parts.ensures.marks;
-}
+pub new-requires-clause-overrides : goal.new-requires-clause-overrides
+new-requires-clause-overrides c = ap (map seen) c.deref.ensures.value ∙ c.in_ok-overrides.ensures
+
+pub of_sorted-requires : goal.of_sorted-requires
+of_sorted-requires c =
+    let items = c.in_ok-push.ensures.items ∙ ap (λ xs. xs ++ part.Singles c.in_ok-singles.singles ∷ []) c.new-parts.ensures.items in
+    let sources = rw items at c.in_ok-push_series.ensures.sources in
+    λ k. ((refl, tt), parts-sorted c.push_series.new.parts.items sources.more sources.behind sources.rises)
 
 pub invariant_of-result : goal.invariant_of-result
-invariant_of-result c = record { apart = subst AreApart (sym c.in_ok-merge.ensures.sources) c.in_ok-parts.ensures.sources.apart }
+invariant_of-result c =
+    let items = c.in_ok-push.ensures.items ∙ ap (λ xs. xs ++ part.Singles c.in_ok-singles.singles ∷ []) c.new-parts.ensures.items in
+    let sources = rw items at c.in_ok-push_series.ensures.sources in
+    record {
+      in_order = overrides-sorted c.in_ok-overrides.overrides.items c.requires.chosen c.in_ok-overrides.ensures;
+      apart = subst AreApart (sym c.in_ok-merge.ensures.sources) (sources-behind c.requires.chosen sources).apart;
+    }
+
+pub returns : goal.returns
+returns c =
+    let files = map said_by c.args.files.now in
+    let display = display_clock c.args.display.now in
+    let after = option_map (λ key. key_rank key.now) c.args.after in
+    let singles = part_coming (part.Singles c.in_ok-singles.singles) in
+    let items = c.in_ok-push.ensures.items ∙ ap (λ xs. xs ++ part.Singles c.in_ok-singles.singles ∷ []) c.new-parts.ensures.items in
+    let pushed = rw items at c.in_ok-push_series.ensures.lists in
+    let sources = rw items at c.in_ok-push_series.ensures.sources in
+    record {
+      sources = rw c.in_ok-merge.ensures.sources (sources-behind c.requires.chosen sources);
+      listing =
+          subst
+          (λ (xs : List Entry). IsListing entry_cmp
+          (IsToCome (map said_by c.args.files.now) (display_clock c.args.display.now) c.args.window (option_map (λ key. key_rank key.now) c.args.after))
+          (filter (is_kept (map seen c.in_ok-overrides.overrides.items)) xs))
+          (sym c.in_ok-merge.ensures.coming)
+          (pushed-listing files display c.args.window after c.in_ok-overrides.overrides.items singles c.requires.chosen c.in_ok-overrides.ensures
+          c.in_ok-singles.ensures pushed);
+      marks = c.push_series.ensures.marks;
+    }

@@ -197,17 +197,17 @@ module _ (zones : FileZones) (w : Window) (event : Event) where
       }
 
     -- Where an occurrence begins at the instant of a local that DTSTART has or the rule keeps, the rule has a start there.
-    has-ruled : (o : Option RuleStarts) (overridden : List ℤ) (coming : List Entry) → IsRuled clocks event w since apart o
-        → IsListing entry_cmp (IsSeriesMet clocks event w since overridden) coming → HasRuled clocks event o coming
-    has-ruled None overridden coming r l = tt
-    has-ruled (Some starts) overridden coming r l = λ o m local k.
+    has-ruled : (o : Option RuleStarts) (coming : List Entry) → IsRuled clocks event w since apart o
+        → IsListing entry_cmp (IsSeriesMet clocks event w since) coming → HasRuled clocks event o coming
+    has-ruled None coming r l = tt
+    has-ruled (Some starts) coming r l = λ o m local k.
         let met = (l.exact o).0 m in
         let of = met.0.0.lasts in
         let is : o ≡ entry_from clocks event of.given =
         same-entry o (entry_from clocks event of.given) of.starts of.ends (met.0.0.recurrence ∙ of.starts) met.0.0.event in
         let sought : IsSought clocks event w o.start =
         record { source = of.source; given = of.given; gives = of.gives; starts = sym of.starts; meets = subst (Meets w) is met.0.1 } in
-        let has = ruled (starts_left starts) (by-rdates r) local k.0 (rw (← k.1) at sought) (rw (← k.1) at met.1.0) in
+        let has = ruled (starts_left starts) (by-rdates r) local k.0 (rw (← k.1) at sought) (rw (← k.1) at met.1) in
         in-moment has.start o.start (starts_left starts) (has.same ∙ k.1) has.stands
 
 pub starts_by_rule-rule_starts-requires-clause-listed : goal.starts_by_rule-rule_starts-requires-clause-listed
@@ -229,16 +229,15 @@ invariant_of-result c =
     let sound = c.requires.own.is_event in
     let firsts = rw c.in_ok-listed.ensures at c.in_ok-new.ensures in
     let ruled = rw (since, c.deref.ensures.value ∙ c.in_ok-listed.ensures) at c.starts_by_rule-rule_starts.ensures.from in
-    let listing = series-listing clocks w event c.args.since c.args.overridden.items (left c.starts_by_rule-rule_starts.result c.in_ok-new.field-0)
+    let listing = series-listing clocks w event c.args.since (left c.starts_by_rule-rule_starts.result c.in_ok-new.field-0)
     (starts-since c.args.zones w event sound c.args.since (listed_left c.in_ok-new.field-0) firsts c.starts_by_rule-rule_starts.result ruled) in
     record {
-      in_order = c.requires.order;
       own = c.requires.own;
       taken_out = c.in_ok-exclusions.ensures;
       known = known-left c.args.zones w event sound c.args.since (listed_left c.in_ok-new.field-0) firsts c.starts_by_rule-rule_starts.result ruled;
       ruled = rw since
-          (has-ruled c.args.zones w event sound c.args.since c.starts_by_rule-rule_starts.result c.args.overridden.items
-          (given_of clocks w event c.args.since c.args.overridden.items (left c.starts_by_rule-rule_starts.result c.in_ok-new.field-0)) ruled listing);
+          (has-ruled c.args.zones w event sound c.args.since c.starts_by_rule-rule_starts.result
+          (given_of clocks w event c.args.since (left c.starts_by_rule-rule_starts.result c.in_ok-new.field-0)) ruled listing);
       own_rule = own-rule-as c.args.zones event w c.starts_by_rule-rule_starts.result refl
           (c.deref.ensures.value ∙ c.in_ok-listed.ensures) c.starts_by_rule-rule_starts.ensures.own;
       rising = rw since listing.rises;
@@ -257,6 +256,6 @@ returns c =
     let starts = starts-since c.args.zones w event sound c.args.since (listed_left c.in_ok-new.field-0) firsts c.starts_by_rule-rule_starts.result ruled in
     record {
       listing = rw since
-          (series-listing clocks w event c.args.since c.args.overridden.items (left c.starts_by_rule-rule_starts.result c.in_ok-new.field-0) starts);
+          (series-listing clocks w event c.args.since (left c.starts_by_rule-rule_starts.result c.in_ok-new.field-0) starts);
       sources = ap (source_of clocks event w) since;
     }

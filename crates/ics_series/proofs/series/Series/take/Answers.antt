@@ -21,7 +21,7 @@ read s rule same left = record s {
   rule_starts = rule;
   known = rw left s.known;
   ruled = ruled-same (clocks_in s.zones) s.event.now s.rule_starts rule same left
-      (ap (λ xs. given_of (clocks_in s.zones) s.window s.event.now s.since s.overridden.items (union moment_cmp xs (listed_left s.listed))) left) s.ruled;
+      (ap (λ xs. given_of (clocks_in s.zones) s.window s.event.now s.since (union moment_cmp xs (listed_left s.listed))) left) s.ruled;
   own_rule = own-rule-same s.zones s.event.now s.window (first_of (clocks_in s.zones) s.window s.event.now s.since) s.rule_starts rule same s.own_rule;
   rising = rw left s.rising;
 }
@@ -29,7 +29,6 @@ read s rule same left = record s {
 pub invariant_of-self : goal.invariant_of-self
 invariant_of-self c =
     let s = read c.args.self.now c.peek_rule.new.rule c.peek_rule.ensures.rule c.peek_rule.ensures.same in record {
-      in_order = s.in_order;
       own = s.own;
       taken_out = s.taken_out;
       known = s.known;
@@ -46,12 +45,11 @@ invariant_of-self-in-Some c =
     let taken : left s.rule_starts s.listed ≡ c.in-Some.start ∷ left c.pass_rule.new.rule c.pass.new.self =
     both-passed (listed_left s.listed) refl c.pass_rule.ensures.left c.pass.ensures first in
     record {
-      in_order = s.in_order;
       own = s.own;
       taken_out = s.taken_out;
       known = known-rest (clocks_in s.zones) s.window s.event.now c.in-Some.start (left s.rule_starts s.listed) (left c.pass_rule.new.rule c.pass.new.self)
           taken s.known;
-      ruled = ruled-rest (clocks_in s.zones) s.window s.event.now s.since s.overridden.items c.peek_rule.new.rule c.pass_rule.new.rule
+      ruled = ruled-rest (clocks_in s.zones) s.window s.event.now s.since c.peek_rule.new.rule c.pass_rule.new.rule
           c.pass_rule.ensures.rule c.pass_rule.ensures.left (record {
             is = taken;
             rises = rises-union moment_cmp moment_total (rule_left s.rule_starts) (listed_left s.listed) (rises-listed s.listed);
@@ -60,13 +58,12 @@ invariant_of-self-in-Some c =
           s.ruled;
       own_rule = own-rule-same s.zones s.event.now s.window (first_of (clocks_in s.zones) s.window s.event.now s.since) c.peek_rule.new.rule
           c.pass_rule.new.rule c.pass_rule.ensures.rule s.own_rule;
-      rising = rises-rest (clocks_in s.zones) s.window s.event.now s.since s.overridden.items taken s.rising;
+      rising = rises-rest (clocks_in s.zones) s.window s.event.now s.since taken s.rising;
     }
 
 pub invariant_of-self-in_default : goal.invariant_of-self-in_default
 invariant_of-self-in_default c =
     let s = read c.args.self.now c.peek_rule.new.rule c.peek_rule.ensures.rule c.peek_rule.ensures.same in record {
-      in_order = s.in_order;
       own = s.own;
       taken_out = s.taken_out;
       known = s.known;
@@ -95,7 +92,7 @@ near : (s : Series) (rule : Option RuleStarts) → HasSameRule s.rule_starts rul
     → (o : Entry) → IsIn o (series_of s (series_left s))
     → (o.event ≡ s.event.now) × IsAskedNear (clocks_in s.zones) s.event.now (rule_asked rule) o.start
 near s rule same left o m = (
-  given-own (clocks_in s.zones) s.window s.event.now s.since s.overridden.items (series_left s) o m,
+  given-own (clocks_in s.zones) s.window s.event.now s.since (series_left s) o m,
   asked-near (clocks_in s.zones) s.event.now s.rule_starts rule same left (series_of s (series_left s)) s.ruled o m,
 )
 

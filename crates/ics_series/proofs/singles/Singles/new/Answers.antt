@@ -1,9 +1,8 @@
-use Rattle.std.proofs.Common.{◌≡◌, true, map, ◌∙◌, ap, rules, option_map}
+use Rattle.std.proofs.Common.{◌≡◌, true, map, rules, option_map}
 use Rattle.std.specs.Ordering.{on}
 use Rattle.std.proofs.lemmas.Cmp.{on_total}
 use Rattle.ics_series.specs.Entry.{entry_cmp, key_rank}
 use Rattle.ics_series.specs.Singles.{is_single, single_entry}
-use Rattle.ics_series.specs.Versions.{seen}
 use Rattle.ics_series.specs.EntryLaws.{entry_total}
 use Rattle.ics_series.proofs.OverrideLemmas.{overrides-sorted}
 use Rattle.ics_series.proofs.SinglesLemmas.{singles-listing}
@@ -12,12 +11,12 @@ use Rattle.ics_series.proofs.singles.Singles.new.Goals as goal
 
 pub to_come-requires-clause-overrides : goal.to_come-requires-clause-overrides
 to_come-requires-clause-overrides c =
-    overrides-sorted c.deref.result.now c.requires.chosen (ap (map seen) c.deref.ensures.value ∙ c.in_ok-overrides.ensures)
+    overrides-sorted c.args.overrides.now c.requires.chosen c.requires.overrides
 
 pub invariant_of-result : goal.invariant_of-result
 invariant_of-result c =
-    let listing = singles-listing c.args.window.now (option_map (λ key. key_rank key.now) c.args.after) c.deref.result.now c.requires.chosen
-    (ap (map seen) c.deref.ensures.value ∙ c.in_ok-overrides.ensures) c.in_ok-singles.ensures c.sort_unstable_by.ensures.permutation
+    let listing = singles-listing c.args.window.now (option_map (λ key. key_rank key.now) c.args.after) c.args.overrides.now c.requires.chosen
+    c.requires.overrides c.in_ok-singles.ensures c.sort_unstable_by.ensures.permutation
     (climbs-by (on single_entry entry_cmp) (on_total single_entry entry_total) c.sort_unstable_by.new.self.items c.sort_unstable_by.ensures.sorted
     (λ f a r f' k. search rules)) in
     record {
@@ -28,8 +27,8 @@ invariant_of-result c =
 
 pub returns : goal.returns
 returns c =
-    let listing = singles-listing c.args.window.now (option_map (λ key. key_rank key.now) c.args.after) c.deref.result.now c.requires.chosen
-    (ap (map seen) c.deref.ensures.value ∙ c.in_ok-overrides.ensures) c.in_ok-singles.ensures c.sort_unstable_by.ensures.permutation
+    let listing = singles-listing c.args.window.now (option_map (λ key. key_rank key.now) c.args.after) c.args.overrides.now c.requires.chosen
+    c.requires.overrides c.in_ok-singles.ensures c.sort_unstable_by.ensures.permutation
     (climbs-by (on single_entry entry_cmp) (on_total single_entry entry_total) c.sort_unstable_by.new.self.items c.sort_unstable_by.ensures.sorted
     (λ f a r f' k. search rules)) in
     rw c.into_iter.ensures.rest listing
