@@ -83,8 +83,8 @@ ROWS = [
      ['2024-06-30', '4d'], 1, 32),
     ('seconds beside a day that is skipped', lambda: in_zone(forward('+2359'), '20240629T000000', 'RRULE:FREQ=SECONDLY'), DAY, 8, 32),
     ('odd seconds behind even ones', lambda: in_zone(forward('+235901'), '20240629T000000', 'RRULE:FREQ=SECONDLY;INTERVAL=2'), DAY, 8, 32),
-    ('seconds of an excluded day, 4 rules', lambda: excluded(4, 'Z'), DAY, 4, 12),
-    ('seconds of 8 rules, limit 1', lambda: excluded(8, 'Z'), ['2024-07-01', '10d', '--limit', '1'], 4, 12),
+    ('seconds of an excluded day, 4 rules', lambda: excluded(4, 'Z'), DAY, 4, 24),
+    ('seconds of 8 rules, limit 1', lambda: excluded(8, 'Z'), ['2024-07-01', '10d', '--limit', '1'], 4, 32),
     ('the same by the clock of New York', lambda: excluded(8, ''), ['2024-07-01', '10d', '--limit', '1', '--zone', 'EST5EDT,M3.2.0,M11.1.0'], 12, 48),
 ]
 
