@@ -130,7 +130,7 @@ module _ (first : Time) where
       by : (c : Ordering) → map (start_of first) (put waiting_cmp w ws) ≡ put moment_cmp (start_of first w) (map (start_of first) ws) →
           map (start_of first) (by_order c (w ∷ v ∷ ws) (w ∷ ws) (v ∷ put waiting_cmp w ws))
           ≡ by_order c (start_of first w ∷ start_of first v ∷ map (start_of first) ws) (start_of first w ∷ map (start_of first) ws)
-            (start_of first v ∷ put moment_cmp (start_of first w) (map (start_of first) ws))
+          (start_of first v ∷ put moment_cmp (start_of first w) (map (start_of first) ws))
       by Less ih = refl
       by Equal ih = refl
       by Greater ih = ap (λ xs. start_of first v ∷ xs) ih

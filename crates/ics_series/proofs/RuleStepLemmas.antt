@@ -1,7 +1,7 @@
 -- One step of reading the starts of a rule: a kept local more, or none up to a bound.
 use lib.Signed.{mag}
-use Rattle.std.proofs.Common.{◌≡◌, ℕ, ◌+◌, ◌<◌, ◌≤◌, w32, w64, to_z, of_z, max, ℤ, pos, ◌+ℤ◌, ◌-ℤ◌, Bool, true, false, ◌&&◌, List, [], ◌∷◌, length, ◌⊎◌, inl, inr}
-use Rattle.std.proofs.Common.{⊎_elim, refl, sym, ap, arith, ◌≤ℤ◌, ◌<ℤ◌, int_lt, not, slice_get, Option, Some, None, ◌==◌, ◌∙◌}
+use Rattle.std.proofs.Common.{◌≡◌, ℕ, ◌+◌, ◌<◌, ◌≤◌, w32, w64, to_z, of_z, max, ℤ, pos, ◌+ℤ◌, ◌-ℤ◌, Bool, true, false, ◌&&◌, List, [], ◌∷◌, length, ◌⊎◌}
+use Rattle.std.proofs.Common.{inl, inr, ⊎_elim, refl, sym, ap, arith, ◌≤ℤ◌, ◌<ℤ◌, int_lt, not, slice_get, Option, Some, None, ◌==◌, ◌∙◌}
 use Rattle.std.proofs.lemmas.Bool.{eqb-true, or_cases}
 use Rattle.std.proofs.lemmas.Int.{int_max_is, int_min_is, ints}
 use Rattle.std.specs.Int.{int_max}

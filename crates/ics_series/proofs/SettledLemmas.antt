@@ -73,7 +73,8 @@ module _ (zones : FileZones) (event : Event) (day next : ℤ) (n : ℕ) where
           <ℤ (clock_by (clocks_in zones) event.start.zone (stamp_at s (local_numbered n))).moment (stamp_seconds (stamp_at s (local_numbered n)))
       by (Date first) =
           let wrote : stamp_seconds (stamp_at (Date first) (local_numbered n)) ≡ midnight (local_numbered n).day = omega (arith, ints) in
-          let near = (near-clock zones event.start.zone (stamp_at (Date first) (local_numbered n))).moment (stamp_seconds (stamp_at (Date first) (local_numbered n))) in
+          let near = (near-clock zones event.start.zone (stamp_at (Date first) (local_numbered n))).moment
+          (stamp_seconds (stamp_at (Date first) (local_numbered n))) in
           omega (arith, ints, near.0, wrote, h.0, l)
       by (Utc first) = omega (arith, ints, seconds-numbered n, m)
       by (Floating first) =

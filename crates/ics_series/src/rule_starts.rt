@@ -51,8 +51,8 @@ pub(crate) struct RuleStarts<'a> {
     held: Queue,
     ghost of: { recurrence_of event.now ≡ Some rule } by { rule-prop (recurrence_of event.now) (Some rule) },
     ghost rises: { Rises moment_cmp (starts_in event.now.start held) } by { Rises-prop moment_cmp (starts_in event.now.start held) },
-    ghost are: { AreHeld (clocks_in zones) event.now rule window asked (starts_in event.now.start held) } by { held-prop (clocks_in zones) event.now rule window asked
-        (starts_in event.now.start held) },
+    ghost are: { AreHeld (clocks_in zones) event.now rule window asked (starts_in event.now.start held) } by { held-prop (clocks_in zones) event.now rule
+        window asked (starts_in event.now.start held) },
     ghost begins: { IsBegun rule from begun } by { begun-prop rule from begun },
     ghost own: { IsCursorOf rule cursor } by { cursor-prop rule cursor },
     ghost looked: { HasLookedTo rule from asked cursor } by { looked-prop rule from asked cursor },
@@ -97,7 +97,8 @@ fn hold(
     requires kept { is_kept rule.now (number local) ≡ true }
     requires day { IsDayNumber local.day }
     requires first { number rule.now.start ≡ number (local_of event.now.start.stamp) }
-    ensures held { OnOk result (starts_in event.entry.now.start held.new ≡ with_held (gives (clocks_in zones.entry) event.entry.now rule.entry.now window (number local))
+    ensures held { OnOk result (starts_in event.entry.now.start held.new
+        ≡ with_held (gives (clocks_in zones.entry) event.entry.now rule.entry.now window (number local))
         (start_at (clocks_in zones.entry) event.entry.now local) (starts_in event.entry.now.start held.old)) }
     ensures same { OnErr result (starts_in event.entry.now.start held.new ≡ starts_in event.entry.now.start held.old) }
 {

@@ -24,7 +24,7 @@ returns-in_ok-put-clause-held c =
     let given = gives-by (clocks_in c.args.zones) c.args.event.now c.args.rule.now c.args.window c.args.local fits c.start_at-start.ensures
     c.requires.day c.requires.kept (sym c.if-is_let_through.true ∙ c.is_let_through.ensures) in
     let one : start_of c.args.event.now.start (record { moment = to_z w64 (of_z w64 c.start_at-start.result.moment); local = c.args.local })
-        ≡ start_at (clocks_in c.args.zones) c.args.event.now c.args.local =
+    ≡ start_at (clocks_in c.args.zones) c.args.event.now c.args.local =
     start-same (clocks_in c.args.zones) c.args.event.now (record { moment = to_z w64 (of_z w64 c.start_at-start.result.moment); local = c.args.local })
     c.start_at-start.ensures back in
     rw (← given) (◌∙◌ {A = List Start} (ap (λ (ws : List Waiting). map (start_of c.args.event.now.start) ws) c.in_ok-put.ensures.put)

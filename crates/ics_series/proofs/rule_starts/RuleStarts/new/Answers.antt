@@ -54,7 +54,21 @@ invariant_of-result c =
       time = c.requires.event.start;
       first = ap (λ (l : Local). number l) (rule-first c.args.event.now c.args.rule c.requires.rule);
       read = omega (arith, ints, c.begun-begun.ensures.begun.place, day, end, from, min, int_min_is, c.requires.from.0, c.requires.from.1, e.day.0, e.day.1);
-      next_read = omega (arith, ints, c.begun-begun.ensures.begun.place, day, end, from, min, int_min_is, c.requires.from.0, c.requires.from.1, e.day.0, e.day.1, next);
+      next_read = omega (
+        arith,
+        ints,
+        c.begun-begun.ensures.begun.place,
+        day,
+        end,
+        from,
+        min,
+        int_min_is,
+        c.requires.from.0,
+        c.requires.from.1,
+        e.day.0,
+        e.day.1,
+        next,
+      );
       next_on = omega (arith, ints, next);
       low = omega (arith, ints, day, end, from, min, int_min_is, c.requires.from.0, e.day.0);
       asked_on = omega (arith, ints, day);

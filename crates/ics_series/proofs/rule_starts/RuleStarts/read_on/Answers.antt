@@ -104,7 +104,8 @@ invariant_of-self-in-Some c =
 pub returns-in-None : goal.returns-in-None
 returns-in-None c =
     let b = c.bound-bound in
-    let r = none-read c.args.self.now b.type_inv b.ensures.later b.ensures.within c.at-to.ensures b.ensures.held c.in-None.ensures.next c.seconds-midnight.ensures in
+    let r = none-read c.args.self.now b.type_inv b.ensures.later b.ensures.within c.at-to.ensures b.ensures.held c.in-None.ensures.next
+    c.seconds-midnight.ensures in
     record { same = r.same; source = record { zones = refl; event = refl; window = refl; rule = refl; from = refl; end = refl }; less = r.less }
 
 pub returns-in_ok-hold-in-Some : goal.returns-in_ok-hold-in-Some
