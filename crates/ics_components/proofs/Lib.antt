@@ -22,3 +22,14 @@ pub mod PartFaults
 pub mod ReadLemmas
 pub mod ReadOrder
 pub mod WholeComponents
+pub mod Folds
+pub mod ChosenLines
+pub mod ItemFaults
+pub mod Opened
+pub mod RestFaults
+pub mod RestFirst
+pub mod PartLines
+pub mod RootFaults
+pub mod PlacedApart
+pub mod GatheredItems
+pub mod PartKinds

@@ -101,7 +101,7 @@ three a b c e = (grind (arith, e), grind (arith, e))
 not-true : (b : Bool) → not b ≡ true → b ≡ false
 not-true b e = grind (arith, e)
 
-together : (file : List ℕ) (ls : List Placed) → AreInPlace 0 [] ls → has_parts ls ≡ true →
+pub together : (file : List ℕ) (ls : List Placed) → AreInPlace 0 [] ls → has_parts ls ≡ true →
     (is_well_nested (lines_with (Some file) ls) && not (breaks_off (lines_with (Some file) ls))) ≡ true
 together file ls h e =
     let parts = three (is_well_nested ls) (not (breaks_off ls)) (list_all (is_certain ls) (all_events ls)) e in

@@ -19,7 +19,7 @@ use Rattle.ics_components.proofs.NameLemmas.{context-in-outside}
 use Rattle.ics_components.proofs.Order.{Absent, Falls, below}
 
 -- a calendar is in no component
-calendar-outside : (q : Context) (c : Component) → is_calendar_context (context_in q c) ≡ true → q ≡ context.Outside
+pub calendar-outside : (q : Context) (c : Component) → is_calendar_context (context_in q c) ≡ true → q ≡ context.Outside
 calendar-outside q c e = grind arith
 
 pub deep-no-calendar : (c d : Open) (ds : List Open) → is_calendar_context (context_of (c ∷ d ∷ ds)) ≡ false

@@ -23,9 +23,10 @@ use Rattle.ics_components.specs.ParsedFiles.{nothing_parsed}
 use Rattle.ics_components.specs.Names.{same_name}
 use Rattle.ics_components.specs.PlacedLines.{Placed, Open, component, in_calendar, innermost, is_begin, is_end, is_named, lines_in, name_on, path_behind, value}
 use Rattle.ics_components.specs.Parted.{AreInPlace, Reads, frames_around, PartedComponentSeen, PartedFileSeen, begins_part, component_seen, fault_there}
-use Rattle.ics_components.specs.Parted.{first_there, is_line_of, is_outside, is_part, part_in, parted_lines, read_behind, version_faults}
+use Rattle.ics_components.specs.Parted.{fault_outside, first_there, is_line_of, is_outside, is_part, part_in, parted_lines, read_behind, version_faults}
 use Rattle.ics_components.specs.PartsPass.{NotesSeen, PartSeen, RoundSeen, and_closed, and_outside, by_part, closes_part, goes_on, here, is_doubt, noted, noted_directly}
-use Rattle.ics_components.specs.PartsPass.{notes_begun, parted_nothing, part_begun, part_closed, part_left, round_begun, round_behind, round_over, texts_on, with_line}
+use Rattle.ics_components.specs.PartsPass.{ended, notes_begun, parted_nothing, part_begun, part_closed, part_left, round_begun, round_behind, round_over}
+use Rattle.ics_components.specs.PartsPass.{texts_on, with_line}
 use Rattle.ics_components.proofs.Order.{Absent, Falls, below, falls-behind, absent-behind}
 use Rattle.ics_components.proofs.PartPaths.{absent-any, absent-inner, begins-by, closed-inner, closed-none, closed-part, in-part, none-begins, part-open}
 
@@ -35,7 +36,7 @@ nested path u [] = no_open path
 nested path u (l ∷ ls) = nests l && (not (u && is_none l.content) && nested (path_behind l) (is_uid l) ls)
 
 abbrev gathered : RoundSeen → List Placed → PartedFileSeen
-gathered round [] = round.parted
+gathered round [] = ended round.has_outside round.parted
 gathered round (l ∷ ls) = gathered (round_behind l round) ls
 
 abbrev pub are_certain : List PartedComponentSeen → Bool
@@ -245,7 +246,7 @@ pub record IsThere (round : RoundSeen) (n : ℕ) : Type 0 where
   pub fits : part_in round.path ≡ begun_of round.part
 
 -- a line on which a component begins ends none and is no VERSION
-marks : (n : Name) → same_name n name.Begin ≡ true → (same_name n name.End ≡ false) × (same_name n name.Version ≡ false) × (same_name n name.Uid ≡ false)
+pub marks : (n : Name) → same_name n name.Begin ≡ true → (same_name n name.End ≡ false) × (same_name n name.Version ≡ false) × (same_name n name.Uid ≡ false)
 marks name.Begin e = (refl, refl, refl)
 marks _ e = cc
 
@@ -255,7 +256,7 @@ event-begins l e = grind (arith, e)
 zone-begins : (l : Placed) → begins_zone l ≡ true → is_begin l ≡ true
 zone-begins l e = grind (arith, e)
 
-event-no-zone : (l : Placed) → is_event l ≡ true → begins_zone l ≡ false
+pub event-no-zone : (l : Placed) → is_event l ≡ true → begins_zone l ≡ false
 event-no-zone l e = by_name (component l) (named-event (in_calendar l || no_open l.path) (is_begin l) (component l) e)
   where
     named-event : (a b : Bool) (name : List ℕ) → (a && (b && bytes_eq name (codes "VEVENT"))) ≡ true → bytes_eq name (codes "VEVENT") ≡ true
@@ -315,8 +316,8 @@ module _ (l : Placed) (ls : List Placed) (falls : Falls l.path) (inner : innermo
           let z : begins_zone l ≡ true = sym (ap (λ t. t || begins_zone l) e) ∙ begins in
           rw (e, z, v, events-apart, zones-apart, is) simp append_assoc
 
-abbrev round_at : List Open → Option PartSeen → Bool → PartedFileSeen → RoundSeen
-round_at path part u had = record { path = path; part = part; is_behind_uid = u; parted = had }
+abbrev round_at : List Open → Option PartSeen → Bool → Bool → PartedFileSeen → RoundSeen
+round_at path part u o had = record { path = path; part = part; is_behind_uid = u; has_outside = o; parted = had }
 
 none-open : (path : List Open) → no_open path ≡ true → part_in path ≡ None
 none-open [] e = refl
@@ -352,11 +353,14 @@ end-no-begin _ e = cc
 first-of : (a b : Bool) → (a && b) ≡ true → (a ≡ true) × (b ≡ true)
 first-of a b e = (grind (arith, e), grind (arith, e))
 
+never : (t : Bool) → (t && false) ≡ false
+never t = grind arith
+
 neither : (a b : Bool) → (a || b) ≡ false → (a ≡ false) × (b ≡ false)
 neither a b e = (grind (arith, e), grind (arith, e))
 
 -- WHERE THE ROUND STANDS behind a line.
-behind-none : (l : Placed) → begins_part l ≡ false → part_in l.path ≡ None → part_in (path_behind l) ≡ None
+pub behind-none : (l : Placed) → begins_part l ≡ false → part_in l.path ≡ None → part_in (path_behind l) ≡ None
 behind-none l e p = by_kind (is_begin l) (is_end l) refl
   where
     by_kind : (b d : Bool) → is_begin l ≡ b →
@@ -366,10 +370,10 @@ behind-none l e p = by_kind (is_begin l) (is_end l) refl
     by_kind false true is = closed-none l.path p
     by_kind false false is = p
 
-behind-begun : (l : Placed) → is_begin l ≡ true → is_part l.path (component l) ≡ true → part_in l.path ≡ None → part_in (path_behind l) ≡ Some l.number
+pub behind-begun : (l : Placed) → is_begin l ≡ true → is_part l.path (component l) ≡ true → part_in l.path ≡ None → part_in (path_behind l) ≡ Some l.number
 behind-begun l is part p = rw (is, p, part) refl
 
-behind-inner : (l : Placed) (b : ℕ) → part_in l.path ≡ Some b → (is_end l && (innermost l.path == b)) ≡ false → part_in (path_behind l) ≡ Some b
+pub behind-inner : (l : Placed) (b : ℕ) → part_in l.path ≡ Some b → (is_end l && (innermost l.path == b)) ≡ false → part_in (path_behind l) ≡ Some b
 behind-inner l b p e = by_kind (is_begin l) (is_end l) e
   where
     by_kind : (t d : Bool) → (d && (innermost l.path == b)) ≡ false →
@@ -378,30 +382,46 @@ behind-inner l b p e = by_kind (is_begin l) (is_end l) e
     by_kind false true e = closed-inner l.path b p e
     by_kind false false e = p
 
+-- whether one of the lines is of no event and no time zone
+abbrev outside_in : Bool → List Placed → Bool
+outside_in o [] = o
+outside_in o (l ∷ ls) = outside_in (o || is_outside l) ls
+
+abbrev all_gathered : Bool → PartedFileSeen → List Placed → PartedFileSeen
+all_gathered o had ls = ended (outside_in o ls) (and_lines had ls)
+
 -- THE ROUND GATHERS what the lines say.
 abbrev Gathers : List Placed → Type 0
 Gathers ls =
-    (n : ℕ) (path : List Open) (part : Option PartSeen) (u : Bool) (had : PartedFileSeen) → IsThere (round_at path part u had) n →
+    (n : ℕ) (path : List Open) (part : Option PartSeen) (u o : Bool) (had : PartedFileSeen) → IsThere (round_at path part u o had) n →
     AreInPlace n path ls → no_open (path_at_end path ls) ≡ true →
-    gathered (round_at path part u had) ls ≡ and_lines (and_part part ls had) ls
+    gathered (round_at path part u o had) ls ≡ all_gathered o (and_part part ls had) ls
 
 module _ (l : Placed) (ls : List Placed) (again : Gathers ls) (falls : Falls l.path) (inner : innermost l.path < l.number)
     (h : AreInPlace l.number (path_behind l) ls) (end : no_open (path_at_end (path_behind l) ls) ≡ true) (round : RoundSeen) where
   abbrev had : PartedFileSeen
   had = round.parted
 
-  next : (part : Option PartSeen) (had : PartedFileSeen) → part_in (path_behind l) ≡ begun_of part →
-      gathered (round_at (path_behind l) part (is_uid l) had) ls ≡ and_lines (and_part part ls had) ls
-  next part had fits =
+  next : (part : Option PartSeen) (o : Bool) (had : PartedFileSeen) → part_in (path_behind l) ≡ begun_of part →
+      gathered (round_at (path_behind l) part (is_uid l) o had) ls ≡ all_gathered o (and_part part ls had) ls
+  next part o had fits =
       let moved = falls-behind l falls inner in
-      again l.number (path_behind l) part (is_uid l) had (record { falls = moved.0; inner = moved.1; fits = fits }) h end
+      again l.number (path_behind l) part (is_uid l) o had (record { falls = moved.0; inner = moved.1; fits = fits }) h end
+
+  -- a line of an event or of a time zone is not outside
+  inside : (o : Bool) → is_outside l ≡ false → o ≡ (o || is_outside l)
+  inside o e = grind (arith, e)
+
+  all-inside : (one more : PartedFileSeen) → is_outside l ≡ false → and_lines one ls ≡ and_lines more (l ∷ ls) →
+      all_gathered round.has_outside one ls ≡ all_gathered round.has_outside more (l ∷ ls)
+  all-inside one more e same = λ i. ended (outside_in (inside round.has_outside e i) ls) (same i)
 
   abbrev taken : Option PartSeen → RoundSeen
   taken part = let now : RoundSeen = by_part part l round in record now { path = path_behind l; is_behind_uid = is_uid l }
 
   -- a line of the event or the time zone that is open
   line-of : (part : PartSeen) → part_in l.path ≡ Some part.notes.begun →
-      gathered (taken (Some part)) ls ≡ and_lines (and_part (Some part) (l ∷ ls) had) (l ∷ ls)
+      gathered (taken (Some part)) ls ≡ all_gathered round.has_outside (and_part (Some part) (l ∷ ls) had) (l ∷ ls)
   line-of part p = by_end (closes_part l part) refl
     where
       b : ℕ
@@ -413,28 +433,29 @@ module _ (l : Placed) (ls : List Placed) (again : Gathers ls) (falls : Falls l.p
       more : PartedFileSeen
       more = and_part (Some part) (l ∷ ls) had
 
+      within-one : is_outside l ≡ false
+      within-one = rw p (never (not (begins_part l)))
+
       rest : and_lines more ls ≡ and_lines more (l ∷ ls)
       rest =
           let none : begins_part l ≡ false = begins-by l ∙ ap (λ t. is_begin l && t) (none-begins l.path b p (component l)) ∙ never (is_begin l) in
           let two = neither (is_event l) (begins_zone l) none in
           inner-line l ls falls inner h more b two.0 two.1 (rw ((in-part l.path b p).0) refl) p
-        where
-          never : (t : Bool) → (t && false) ≡ false
-          never t = grind arith
 
       by_end : (t : Bool) → closes_part l part ≡ t →
-          gathered (round_at (path_behind l) (part_left t (with_line l part)) (is_uid l) (cond t (and_closed (with_line l part) had) had)) ls
-          ≡ and_lines more (l ∷ ls)
+          gathered (round_at (path_behind l) (part_left t (with_line l part)) (is_uid l) round.has_outside (cond t (and_closed (with_line l part) had) had)) ls
+          ≡ all_gathered round.has_outside more (l ∷ ls)
       by_end false e =
-          next (Some (with_line l part)) had (behind-inner l b p e ∙ ap Some (sym (begun-kept l part.notes)))
-          ∙ ap (λ m. and_lines m ls) (part-line l ls part had within) ∙ rest
+          next (Some (with_line l part)) round.has_outside had (behind-inner l b p e ∙ ap Some (sym (begun-kept l part.notes)))
+          ∙ all-inside (and_part (Some (with_line l part)) ls had) more within-one (ap (λ m. and_lines m ls) (part-line l ls part had within) ∙ rest)
       by_end true e =
           let ends = first-of (is_end l) (innermost l.path == b) e in
           let out = closed-part l.path b falls p ends.1 in
           let path : path_behind l ≡ drop 1 l.path = rw (end-no-begin (name_on l.content) ends.0, ends.0) refl in
           let gone = elsewhere ls b l.number (path_behind l) (some b ends.1) (less b ends.1) (rw path out.1) h in
-          next None (and_closed (with_line l part) had) (ap part_in path ∙ out.0)
-          ∙ ap (λ m. and_lines m ls) (closed-now gone ∙ part-line l ls part had within) ∙ rest
+          next None round.has_outside (and_closed (with_line l part) had) (ap part_in path ∙ out.0)
+          ∙ all-inside (and_closed (with_line l part) had) more within-one
+          (ap (λ m. and_lines m ls) (closed-now gone ∙ part-line l ls part had within) ∙ rest)
         where
           some : (b : ℕ) → (innermost l.path == b) ≡ true → 0 < b
           some b e = grind arith
@@ -447,36 +468,76 @@ module _ (l : Placed) (ls : List Placed) (again : Gathers ls) (falls : Falls l.p
               rw (ended-part ls (with_line l part) (rw (begun-kept l part.notes) gone)) refl
 
   -- any other line
-  line-begun : begins_part l ≡ true → part_in l.path ≡ None → gathered (taken (Some (fresh l))) ls ≡ and_lines had (l ∷ ls)
+  line-begun : begins_part l ≡ true → part_in l.path ≡ None → gathered (taken (Some (fresh l))) ls ≡ all_gathered round.has_outside had (l ∷ ls)
   line-begun begins p =
       let both = first-of (is_begin l) (is_part l.path (component l)) (sym (begins-by l) ∙ begins) in
       let mine : innermost (path_behind l) ≡ l.number = rw (both.0) refl in
       let goes : closes_part l (fresh l) ≡ false = ap (λ t. t && (innermost l.path == l.number)) ((marks (name_on l.content) both.0).0) in
       let own : PartSeen = with_line l (fresh l) in
-      ap (λ t. gathered (round_at (path_behind l) (part_left t own) (is_uid l) (cond t (and_closed own had) had)) ls) goes
-      ∙ next (Some (with_line l (fresh l))) had (behind-begun l both.0 both.1 p ∙ ap Some (sym (begun-kept l (fresh l).notes)))
-      ∙ rw (event-kept l (fresh l).notes)
-      (begin-line l ls falls inner h had (part_after (with_line l (fresh l)) ls) (begun-part l ls inner mine h) begins (begin-no-version l both.0))
+      ap (λ t. gathered (round_at (path_behind l) (part_left t own) (is_uid l) round.has_outside (cond t (and_closed own had) had)) ls) goes
+      ∙ next (Some own) round.has_outside had (behind-begun l both.0 both.1 p ∙ ap Some (sym (begun-kept l (fresh l).notes)))
+      ∙ all-inside (and_part (Some own) ls had) had (rw begins refl)
+      (rw (event-kept l (fresh l).notes)
+      (begin-line l ls falls inner h had (part_after (with_line l (fresh l)) ls) (begun-part l ls inner mine h) begins (begin-no-version l both.0)))
 
-  line-outside : begins_part l ≡ false → part_in l.path ≡ None → gathered (taken None) ls ≡ and_lines had (l ∷ ls)
+  outside-now : (o : Bool) → begins_part l ≡ false → part_in l.path ≡ None → true ≡ (o || is_outside l)
+  outside-now o none p = rw (none, p) (always o)
+    where
+      always : (o : Bool) → true ≡ (o || true)
+      always o = grind arith
+
+  line-outside : begins_part l ≡ false → part_in l.path ≡ None → gathered (taken None) ls ≡ all_gathered round.has_outside had (l ∷ ls)
   line-outside none p =
       let two = neither (is_event l) (begins_zone l) none in
-      next None (and_outside l had) (behind-none l none p) ∙ other-line l ls falls inner h had two.0 two.1 p
+      let same = other-line l ls falls inner h had two.0 two.1 p in
+      next None true (and_outside l had) (behind-none l none p)
+      ∙ (λ i. ended (outside_in (outside-now round.has_outside none p i) ls) (same i))
 
-  line-free : part_in l.path ≡ None → gathered (taken (part_begun l)) ls ≡ and_lines had (l ∷ ls)
+  line-free : part_in l.path ≡ None → gathered (taken (part_begun l)) ls ≡ all_gathered round.has_outside had (l ∷ ls)
   line-free p = by_test (begins_part l) refl
     where
-      by_test : (t : Bool) → begins_part l ≡ t → gathered (taken (cond t (Some (fresh l)) None)) ls ≡ and_lines had (l ∷ ls)
+      by_test : (t : Bool) → begins_part l ≡ t → gathered (taken (cond t (Some (fresh l)) None)) ls ≡ all_gathered round.has_outside had (l ∷ ls)
       by_test true e = line-begun e p
       by_test false e = line-outside e p
 
 gathers : (ls : List Placed) → Gathers ls
-gathers [] n path None u had there h end = no-more had
-gathers [] n path (Some part) u had there h end = let none = none-open path end in let fits = there.fits in cc
-gathers (l ∷ ls) n path None u had there h end =
-    line-free l ls (gathers ls) (rw (h.0) there.falls) (rw (h.0) h.3) h.4 end (round_at path None u had) (rw (h.0) there.fits)
-gathers (l ∷ ls) n path (Some part) u had there h end =
-    line-of l ls (gathers ls) (rw (h.0) there.falls) (rw (h.0) h.3) h.4 end (round_at path (Some part) u had) part (rw (h.0) there.fits)
+gathers [] n path None u o had there h end = ap (ended o) (no-more had)
+gathers [] n path (Some part) u o had there h end = let none = none-open path end in let fits = there.fits in cc
+gathers (l ∷ ls) n path None u o had there h end =
+    line-free l ls (gathers ls) (rw (h.0) there.falls) (rw (h.0) h.3) h.4 end (round_at path None u o had) (rw (h.0) there.fits)
+gathers (l ∷ ls) n path (Some part) u o had there h end =
+    line-of l ls (gathers ls) (rw (h.0) there.falls) (rw (h.0) h.3) h.4 end (round_at path (Some part) u o had) part (rw (h.0) there.fits)
+
+-- WHERE THE LINES END.
+abbrev some_line : List Placed → Bool
+some_line [] = false
+some_line (l ∷ ls) = true
+
+outside-found : (o : Bool) (ls : List Placed) → outside_in o ls ≡ (o || some_line (filter is_outside ls))
+outside-found o [] = grind arith
+outside-found o (l ∷ ls) = outside-found (o || is_outside l) ls ∙ by_test o (is_outside l) (filter is_outside ls)
+  where
+    by_test : (o t : Bool) (xs : List Placed) → ((o || t) || some_line xs) ≡ (o || some_line (cond t (l ∷ xs) xs))
+    by_test true t xs = refl
+    by_test false true xs = refl
+    by_test false false xs = refl
+
+abbrev with_these : List Placed → List Placed → Option Fault → PartedFileSeen
+with_these ls zones first = record {
+  events = map (component_seen ls) (all_events ls);
+  zones = map (component_seen ls) zones;
+  calendars = flat_map version_faults ls;
+  outside = first;
+}
+
+ended-lines : (ls : List Placed) → all_gathered false parted_nothing ls ≡ parted_lines ls
+ended-lines ls = ap (λ o. ended o (and_lines parted_nothing ls)) (outside-found false ls) ∙ by_lines (filter is_outside ls) (filter begins_zone ls)
+  where
+    by_lines : (others zones : List Placed) →
+        ended (some_line others) (with_these ls zones (first_there others)) ≡ with_these ls zones (fault_outside others zones)
+    by_lines [] [] = refl
+    by_lines [] (zone ∷ zones) = refl
+    by_lines (other ∷ others) zones = refl
 
 -- THE WHOLE ROUND.
 pub all-mapped : (lines es : List Placed) → are_certain (map (component_seen lines) es) ≡ list_all (is_certain lines) es
@@ -496,5 +557,5 @@ round_whole ls h = round-is ls round_begun ∙ by_nesting (nested [] false ls) r
     by_nesting true e =
         let both = first-of (is_well_nested ls) (not (breaks_off ls)) (sym kinds ∙ e) in
         let ends = first-of (no_open (path_at_end [] ls)) (list_all nests ls) both.0 in
-        let all = gathers ls 0 [] None false parted_nothing (record { falls = tt; inner = omega arith; fits = refl }) h ends.0 in
-        ap Some all ∙ ap (λ t. cond t (Some (parted_lines ls)) None) (sym e ∙ kinds)
+        let all = gathers ls 0 [] None false false parted_nothing (record { falls = tt; inner = omega arith; fits = refl }) h ends.0 in
+        ap Some (all ∙ ended-lines ls) ∙ ap (λ t. cond t (Some (parted_lines ls)) None) (sym e ∙ kinds)

@@ -170,7 +170,7 @@ first-line : (path : List Open) (number : ℕ) (c : Parts) → named c ≡ name.
 first-line [] number c n = rw n refl
 first-line (o ∷ os) number c n = rw n refl
 
-begins-by-name : (o : Option Parts) → same_name (name_on o) name.Begin ≡ true → (c : Parts) → o ≡ Some c → named c ≡ name.Begin
+pub begins-by-name : (o : Option Parts) → same_name (name_on o) name.Begin ≡ true → (c : Parts) → o ≡ Some c → named c ≡ name.Begin
 begins-by-name o b c e = sym (name-is o c e) ∙ begin-is (name_on o) b
 
 pub block_returns : (l : Placed) (ls : List Placed) (had : ParsedFileSeen) → is_begin l ≡ true → Falls l.path → innermost l.path < l.number →

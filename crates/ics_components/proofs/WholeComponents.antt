@@ -1,6 +1,7 @@
 -- Lines in their places of which some whole components are taken are in their places.
 use Rattle.std.proofs.Common.{◌≡◌, ℕ, Bool, true, false, ◌&&◌, List, [], ◌∷◌, drop, filter, refl, sym, ap, ◌∙◌, arith, cond, subst}
 use Rattle.std.specs.List.{list_all}
+use Rattle.ics_components.specs.EventLines.{path_at_end}
 use Rattle.ics_components.specs.Parted.{AreInPlace}
 use Rattle.ics_components.specs.PlacedLines.{Placed, Open, component, is_begin, is_end, path_behind}
 use Rattle.ics_components.proofs.Placing.{from-less}
@@ -84,3 +85,17 @@ module _ (taken : Placed → Bool) (whole : ℕ → Bool) where
 
   pub whole_in_place : (ls : List Placed) → AreInPlace 0 [] ls → AreOfWhole taken whole ls → AreInPlace 0 [] (filter taken ls)
   whole_in_place ls h w = placed-still ls 0 [] h w
+
+  -- at their end those are open that are taken of those that are open
+  ends-still : (ls : List Placed) (n : ℕ) (path : List Open) → AreInPlace n path ls → AreOfWhole taken whole ls →
+      path_at_end (kept path) (filter taken ls) ≡ kept (path_at_end path ls)
+  ends-still [] n path h w = refl
+  ends-still (l ∷ ls) n path h w = by_test (taken l) refl (ends-still ls l.number (path_behind l) h.4 w.1)
+    where
+      by_test : (t : Bool) → taken l ≡ t → path_at_end (kept (path_behind l)) (filter taken ls) ≡ kept (path_at_end (path_behind l) ls) →
+          path_at_end (kept path) (cond t (l ∷ filter taken ls) (filter taken ls)) ≡ kept (path_at_end (path_behind l) ls)
+      by_test true t later = ap (λ p. path_at_end p (filter taken ls)) (sym (kept-all (path_behind l) (behind-taken l w.0 t))) ∙ later
+      by_test false t later = ap (λ p. path_at_end p (filter taken ls)) (sym (behind-left l w.0 t ∙ ap kept h.0)) ∙ later
+
+  pub whole_ends : (ls : List Placed) → AreInPlace 0 [] ls → AreOfWhole taken whole ls → path_at_end [] ls ≡ [] → path_at_end [] (filter taken ls) ≡ []
+  whole_ends ls h w e = ends-still ls 0 [] h w ∙ ap kept e

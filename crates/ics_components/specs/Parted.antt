@@ -16,6 +16,7 @@ use Rattle.ics_components.specs.declared.frame.Frame.{Frame}
 use Rattle.ics_components.specs.declared.name.Name.TheVariants as name
 use Rattle.ics_components.specs.EventLines.{all_events, breaks_off, is_certain, is_event, is_well_nested, texts_in, uids_of, with_uid, zones_named}
 use Rattle.ics_components.specs.Faults.{stands}
+use Rattle.ics_components.specs.FirstFault.{fault_at_end}
 use Rattle.ics_components.specs.Lines.{behind, fault_on, passing}
 use Rattle.ics_components.specs.Observances.{begins_zone}
 use Rattle.ics_components.specs.ParsedFileSeen.{ParsedFileSeen}
@@ -109,6 +110,12 @@ abbrev pub first_there : List Placed → Option Fault
 first_there [] = None
 first_there (line ∷ lines) = option_or (fault_there line) (first_there lines)
 
+-- The first fault of these lines, given the time zones. A file of events alone has neither, and is no calendar without them.
+abbrev pub fault_outside : List Placed → List Placed → Option Fault
+fault_outside [] [] = fault_at_end []
+fault_outside [] (zone ∷ zones) = None
+fault_outside (line ∷ lines) zones = first_there (line ∷ lines)
+
 -- the fault on a VERSION line of a calendar, beside the line on which that begins
 abbrev pub version_faults : Placed → List (ℕ × Fault)
 version_faults line =
@@ -128,7 +135,7 @@ parted_lines lines = record {
   events = map (component_seen lines) (all_events lines);
   zones = map (component_seen lines) (filter begins_zone lines);
   calendars = flat_map version_faults lines;
-  outside = first_there (filter is_outside lines);
+  outside = fault_outside (filter is_outside lines) (filter begins_zone lines);
 }
 
 -- the lines of a file, where each event has the UID that is made for it if a name is given

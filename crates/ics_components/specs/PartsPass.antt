@@ -11,7 +11,7 @@ use Rattle.ics_components.specs.declared.fault.Fault.{Fault}
 use Rattle.ics_components.specs.declared.name.Name.{Name}
 use Rattle.ics_components.specs.declared.name.Name.TheVariants as name
 use Rattle.ics_components.specs.EventLines.{is_event, is_none_of, is_uid, named_on, nests}
-use Rattle.ics_components.specs.FirstFault.{no_open}
+use Rattle.ics_components.specs.FirstFault.{fault_at_end, no_open}
 use Rattle.ics_components.specs.ParsedFileSeen.{ParsedFileSeen}
 use Rattle.ics_components.specs.ParsedFiles.{nothing_parsed}
 use Rattle.ics_components.specs.Parted.{LinesRead, Reads, Broken, PartedComponentSeen, PartedFileSeen, begins_part, fault_there, frames_around}
@@ -105,19 +105,20 @@ and_closed part had =
 abbrev pub and_outside : Placed → PartedFileSeen → PartedFileSeen
 and_outside line had = record had { calendars = had.calendars ++ version_faults line; outside = option_or had.outside (fault_there line) }
 
--- THE ROUND BEHIND SOME LINES: the components that are open, the event or the time zone among them, whether the last line is a UID of an event, and what
--- is gathered.
+-- THE ROUND BEHIND SOME LINES: the components that are open, the event or the time zone among them, whether the last line is a UID of an event, whether one
+-- of them is of no event and no time zone, and what is gathered.
 pub record RoundSeen : Type 0 where
   pub path : List Open
   pub part : Option PartSeen
   pub is_behind_uid : Bool
+  pub has_outside : Bool
   pub parted : PartedFileSeen
 
 abbrev pub parted_nothing : PartedFileSeen
 parted_nothing = record { events = []; zones = []; calendars = []; outside = None }
 
 abbrev pub round_begun : RoundSeen
-round_begun = record { path = []; part = None; is_behind_uid = false; parted = parted_nothing }
+round_begun = record { path = []; part = None; is_behind_uid = false; has_outside = false; parted = parted_nothing }
 
 abbrev pub closed_by : Option PartSeen → RoundSeen → RoundSeen
 closed_by None round = round
@@ -136,8 +137,16 @@ abbrev pub parted_behind : Option PartSeen → Placed → PartedFileSeen → Par
 parted_behind None line had = and_outside line had
 parted_behind (Some part) line had = if closes_part line part then and_closed (with_line line part) had else had
 
+abbrev pub outside_behind : Option PartSeen → Bool → Bool
+outside_behind None had = true
+outside_behind (Some part) had = had
+
 abbrev pub by_part : Option PartSeen → Placed → RoundSeen → RoundSeen
-by_part part line round = record round { part = part_behind part line; parted = parted_behind part line round.parted }
+by_part part line round = record round {
+  part = part_behind part line;
+  has_outside = outside_behind part round.has_outside;
+  parted = parted_behind part line round.parted;
+}
 
 abbrev pub round_behind : Placed → RoundSeen → RoundSeen
 round_behind line round =
@@ -152,9 +161,17 @@ abbrev pub Steps : Bool → Placed → RoundSeen → RoundSeen → Type 0
 Steps true line round behind = (goes_on line round ≡ true) × (behind ≡ round_behind line round)
 Steps false line round behind = goes_on line round ≡ false
 
+-- WHERE THE LINES END. A file of events alone is no calendar without them.
+abbrev pub has_zones : List PartedComponentSeen → Bool
+has_zones [] = false
+has_zones (zone ∷ zones) = true
+
+abbrev pub ended : Bool → PartedFileSeen → PartedFileSeen
+ended has_outside had = if has_outside || has_zones had.zones then had else record had { outside = fault_at_end [] }
+
 -- THE ROUND over the lines that are left.
 abbrev pub round_over : RoundSeen → List Placed → Option PartedFileSeen
-round_over round [] = if no_open round.path then Some round.parted else None
+round_over round [] = if no_open round.path then Some (ended round.has_outside round.parted) else None
 round_over round (line ∷ lines) = if goes_on line round then round_over (round_behind line round) lines else None
 
 abbrev pub Ends : Bool → PartedFileSeen → Option PartedFileSeen → Type 0

@@ -35,7 +35,8 @@ pub struct PartedFile {
     pub zones: Vec<PartedComponent>,
     /// The faults on the VERSION lines of calendars, each beside the number of the BEGIN line of its calendar.
     pub calendars: Vec<(u64, Fault)>,
-    /// The first fault of the lines that are none of an event or of a time zone.
+    /// The first fault of the lines that are none of an event or of a time zone. A file of events alone is no
+    /// calendar without them.
     pub outside: Option<Fault>,
 }
 

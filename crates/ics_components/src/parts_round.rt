@@ -5,7 +5,7 @@ ghost use Rattle.ics_text.specs.ContentLines.{content_of};
 ghost use Rattle.ics_components.specs.EventLines.{as_text, is_uid, made_uid, nests, uid_line, with_uid};
 ghost use Rattle.ics_components.specs.Parted.{IsSoundParted, fault_there, lines_with, parted_of};
 ghost use Rattle.ics_components.specs.PartsPass.{Ends, GoesOver, IsUidLine, Steps, and_closed, and_outside, by_part, closed_by, here, part_begun, part_closed, round_behind};
-ghost use Rattle.ics_components.specs.PartsPass.{if_sure, round_begun, round_over};
+ghost use Rattle.ics_components.specs.PartsPass.{ended, if_sure, round_begun, round_over};
 ghost use Rattle.ics_components.specs.PlacedLines.{named, path_behind, placed_from};
 
 use crate::fault::{Fault, FaultKind};
@@ -29,6 +29,8 @@ struct PartsRound {
     tzids: Tzids,
     /// The last line is a UID of an event.
     is_behind_uid: bool,
+    /// One of the lines is of no event and no time zone.
+    has_outside: bool,
     parted: PartedFile,
 }
 
@@ -42,6 +44,7 @@ impl Model for PartsRound {
       path = a.path;
       part = option_map (λ notes. record { notes = notes; read = a.reader }) a.part;
       is_behind_uid = a.is_behind_uid;
+      has_outside = a.has_outside;
       parted = a.parted;
     } };
 }
@@ -87,6 +90,7 @@ impl PartsRound {
             reader: LinesReader::new(alloc),
             tzids: Tzids::new(alloc),
             is_behind_uid: false,
+            has_outside: false,
             parted: PartedFile::new(alloc),
         }
     }
@@ -170,8 +174,12 @@ impl PartsRound {
     fn outside(&mut self, number: u64, name: Name, content: &Content<'_>) -> Result<(), AllocError>
         requires { name ≡ named content.now }
         ensures { IfOk result (λ _. self.new
-            ≡ record self.old { parted = and_outside (here number (Some content.now) self.old.path) self.old.parted }) }
+            ≡ record self.old {
+              has_outside = true;
+              parted = and_outside (here number (Some content.now) self.old.path) self.old.parted;
+            }) }
     {
+        self.has_outside = true;
         if self.path.is_empty() {
             if !matches!(name, Name::Begin) || !is_called(content.value(), b"VCALENDAR") {
                 self.outside_fault(number, FaultKind::NotCalendar);
@@ -267,7 +275,10 @@ impl PartsRound {
                 }
                 self.reader.read_bad(number);
             }
-            None => self.outside_fault(number, FaultKind::BadLine),
+            None => {
+                self.has_outside = true;
+                self.outside_fault(number, FaultKind::BadLine);
+            }
         }
         true
     }
@@ -340,6 +351,16 @@ impl PartsRound {
         }
     }
 
+    /// Ends the lines. A file of events alone is no calendar without them.
+    fn end(&mut self)
+        ensures { self.new ≡ record self.old { parted = ended self.old.has_outside self.old.parted } }
+    {
+        if !self.has_outside && self.parted.zones.is_empty() {
+            let kind = FaultKind::NotCalendar;
+            self.parted.outside = Some(Fault { line: 1, kind });
+        }
+    }
+
     /// Takes the lines. The answer is false where the file has no parts.
     fn lines(
         &mut self,
@@ -357,6 +378,7 @@ impl PartsRound {
                 return Ok(false);
             }
         }
+        self.end();
         Ok(self.path.is_empty())
     }
 }
