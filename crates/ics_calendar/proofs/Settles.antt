@@ -31,15 +31,15 @@ use Rattle.ics_components.proofs.PassLemmas.{checks_from, parsed_from}
 -- THE DEFERRED CHECKS of lines without a fault of the first round, judged in order, give the first fault of the second round, and they ask for the time
 -- zones that the lines want.
 module _ (known : KnownZones) where
-  one-check : (number : ℕ) (o : Option DeferredCheck) (ws : List LineCheck) →
+  pub one-check : (number : ℕ) (o : Option DeferredCheck) (ws : List LineCheck) →
       (first_judged known (checks_of number o ++ ws) ≡ found number (option_and_then (judged known) o) (first_judged known ws))
       × (all_unknown known.index (checks_of number o ++ ws) ≡ cons_option (option_and_then (unknown_in known.index) o) (all_unknown known.index ws))
   one-check number o ws = (grind arith, grind arith)
 
-  one-name : (l : Placed) (ls : List Placed) (t : Bool) → cons_option (cond t (Some (tzid_on l)) None) (map tzid_on ls) ≡ map tzid_on (cond t (l ∷ ls) ls)
+  pub one-name : (l : Placed) (ls : List Placed) (t : Bool) → cons_option (cond t (Some (tzid_on l)) None) (map tzid_on ls) ≡ map tzid_on (cond t (l ∷ ls) ls)
   one-name l ls t = grind arith
 
-  abbrev Same : List Placed → List Placed → List Placed → Type 0
+  abbrev pub Same : List Placed → List Placed → List Placed → Type 0
   Same whole before ls =
       (first_judged known (checks_from whole before ls) ≡ first_from (stands_later known) (λ b. None) before ls)
       × (all_unknown known.index (checks_from whole before ls) ≡ map tzid_on (filter (is_in_unknown_zone known) ls))
@@ -67,7 +67,7 @@ module _ (known : KnownZones) where
           )
 
 -- THE EVENTS, by what is gathered.
-events-begun : (index : ZoneName → Option ℕ) (whole ls : List Placed) →
+pub events-begun : (index : ZoneName → Option ℕ) (whole ls : List Placed) →
     map (event_in index) (begun events whole ls) ≡ map (λ line. event_by index (calendar_of line.path) (lines_in line.number whole)) (filter begins_event ls)
 events-begun index whole ls =
     begun-same events whole (event_in index) (λ line. event_by index (calendar_of line.path) (lines_in line.number whole))

@@ -1,5 +1,6 @@
 -- What the pass over a file's lines says is what the file is and wants.
-use Rattle.std.proofs.Common.{⊎_elim, ◌≡◌, ℕ, Bool, true, false, List, [], ◌∷◌, refl, sym, ap, ◌∙◌, cond, Option, Some, None, Result, Ok, Err, inl, inr}
+use Rattle.std.proofs.Common.{⊎_elim, ◌≡◌, ◌⊎◌, subst, ℕ, Bool, true, false, List, [], ◌∷◌, refl, sym, ap, ◌∙◌, cond, Option, Some, None, Result, Ok, Err}
+use Rattle.std.proofs.Common.{inl, inr}
 use Rattle.ics_text.specs.Unfolded.{Rises, unfolded, begins_with_fold}
 use Rattle.ics_components.specs.declared.fault.FileFault.{FileFault}
 use Rattle.ics_components.specs.declared.fault.FileFault.TheVariants.{Memory, At}
@@ -14,7 +15,7 @@ use Rattle.ics_calendar.specs.Files.{later_fault, UnresolvedSaid, IsFile, file_o
 use Rattle.ics_calendar.specs.Settled.{unresolved_by, known_in}
 use Rattle.ics_components.specs.ParsedFiles.{nothing_parsed}
 use Rattle.ics_components.specs.ParsedFileSeen.{ParsedFileSeen}
-use Rattle.ics_components.specs.Pass.{pass, bottom, parsed_of, Says}
+use Rattle.ics_components.specs.Pass.{pass, bottom, parsed_of, unless, Says}
 use Rattle.ics_components.specs.PlacedLines.{placed}
 use Rattle.ics_calendar.specs.Wanted.{zones_with}
 use Rattle.ics_components.proofs.Firsts.{finds, finds-none, found-at-end, found-on-line}
@@ -38,17 +39,37 @@ parsed file r = by_first (begins_with_fold file) (first_fault (placed file)) ref
     by_first false (Some fault) e = rw (pass-whole (unfolded file) r, e)
     by_first false None e = rw (pass-whole (unfolded file) r, e) (sym (unresolved-is (unfolded file) r e))
 
+-- and the fault that the first round finds first, if it finds one
+abbrev Found : Bool → Option Fault → Result ParsedFileSeen Fault → Type 0
+Found t o (Ok g) = o ≡ None
+Found t o (Err fault) = (t ≡ true) ⊎ (o ≡ Some fault)
+
+found-in : (t : Bool) (o : Option Fault) (g : ParsedFileSeen) → Found t o (cond t (Err bad_fold) (unless o g))
+found-in true o g = inl refl
+found-in false None g = refl
+found-in false (Some fault) g = inr refl
+
+first-parsed : (file : List ℕ) → Rises 0 (unfolded file) → Found (begins_with_fold file) (first_fault (placed file)) (parsed_of file)
+first-parsed file r = rw (pass-whole (unfolded file) r) (found-in _ _ _)
+
+pub whole-parsed : (file : List ℕ) (g : ParsedFileSeen) → Rises 0 (unfolded file) → parsed_of file ≡ Ok g → first_fault (placed file) ≡ None
+whole-parsed file g r e = subst (Found (begins_with_fold file) (first_fault (placed file))) e (first-parsed file r)
+
 pub fault-parsed : (file : List ℕ) (fault : FileFault) → Rises 0 (unfolded file) → Says {X = ParsedFileSeen} (λ g. g) (Err fault) (parsed_of file) →
     IsFaultOf file fault
 fault-parsed file Memory r e = tt
 fault-parsed file (At line kind) r e =
     let d : unresolved_of file ≡ unresolved_at (Err (record { line = line; kind = kind })) = parsed file r ∙ ap unresolved_at e in
-    (λ files. ap (λ (d : UnresolvedSaid). d.says files) d, ap (λ (d : UnresolvedSaid). d.wants) d)
+    record {
+      refused = λ files. ap (λ (d : UnresolvedSaid). d.says files) d;
+      unasked = ap (λ (d : UnresolvedSaid). d.wants) d;
+      found = subst (Found (begins_with_fold file) (first_fault (placed file))) e (first-parsed file r);
+    }
 
 -- a fault whatever zone files are given is the answer with each
 pub fault-says : (file : List ℕ) (fault : FileFault) (files : GivenFiles) → IsFaultOf file fault → SaysFile (Err fault) (file_of files file)
 fault-says file Memory files h = tt
-fault-says file (At line kind) files h = h.0 files
+fault-says file (At line kind) files h = h.refused files
 
 -- WHAT A FILE IS, by its first faults.
 module _ (files : GivenFiles) (file : List ℕ) where

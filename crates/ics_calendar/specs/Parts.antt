@@ -1,7 +1,7 @@
 -- WHAT A FILE GIVES where a listing goes on behind faults: its sound parts, and which faults are named then.
-use Rattle.std.specs.Prelude.{ℕ, Bool, ◌&&◌, ◌||◌, not, ◌==◌, List, [], ◌∷◌, ◌++◌, filter, map, fold, is_none, is_ok, Result, Ok, Err, if◌then◌else◌}
+use Rattle.std.specs.Prelude.{◌≡◌, ◌⊎◌, ℕ, Bool, ◌&&◌, ◌||◌, not, ◌==◌, List, [], ◌∷◌, ◌++◌, filter, map, fold, is_none, is_ok, Result, Ok, Err, if◌then◌else◌}
 use Rattle.std.specs.BTreeSet.{insert_key}
-use Rattle.std.specs.List.{flat_map, list_any}
+use Rattle.std.specs.List.{Contains, flat_map, list_any}
 use Rattle.std.specs.Ordering.{nat_cmp, on, then_cmp}
 use Rattle.std.specs.Str.{bytes_eq}
 use Rattle.std.specs.declared.cmp.Ordering.{Ordering}
@@ -128,3 +128,13 @@ names_for_parts name file =
     if is_none (first_fault (placed file)) then wanted_names file
     else if is_parted file then parts_want (with_uids name (placed file))
     else []
+
+-- An event is in a part that is accepted.
+abbrev pub IsGiven : GivenFiles → List Placed → Placed → Type 0
+IsGiven files lines event = (part : Part) × Contains (accepted_parts files lines) part × Contains part event
+
+-- It is in one that is accepted, or in one whose first fault is one of these.
+abbrev pub IsGivenOrNamed : GivenFiles → List Placed → List Fault → Placed → Type 0
+IsGivenOrNamed files lines faults event =
+    (part : Part) × Contains (parts_of lines) part × Contains part event
+    × (Contains (accepted_parts files lines) part ⊎ ((fault : Fault) × (lines_say files (lines_of lines part) ≡ Err fault) × Contains faults fault))

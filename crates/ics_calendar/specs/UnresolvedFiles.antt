@@ -1,7 +1,11 @@
 -- The unresolved file of a file, in which the first round finds nothing, before zone files are given, and what it says (RFC 5545, section 3.2.19).
-use Rattle.std.specs.Prelude.{◌≡◌, ℕ, List, [], Err, ◌<◌, length, map, Some, IfSome}
+use Rattle.std.specs.Prelude.{◌≡◌, ◌⊎◌, ℕ, true, List, [], Err, ◌<◌, length, map, Some, IfSome}
 use Rattle.std.specs.List.{All, Contains}
+use Rattle.ics_text.specs.Unfolded.{begins_with_fold}
+use Rattle.ics_components.specs.declared.fault.Fault.{Fault}
 use Rattle.ics_components.specs.declared.fault.FileFault.{FileFault}
+use Rattle.ics_components.specs.FirstFault.{first_fault}
+use Rattle.ics_components.specs.PlacedLines.{placed}
 use Rattle.ics_components.specs.declared.fault.FileFault.TheVariants.{Memory, At}
 use Rattle.ics_calendar.specs.Files.{UnresolvedSaid, file_of, wanted_names}
 use Rattle.ics_calendar.specs.Settled.{unresolved_by}
@@ -35,7 +39,12 @@ pub record IsSoundUnresolved (known : KnownZones) (events : List CalendarEvent) 
 abbrev pub unresolved_said : UnresolvedSeen → UnresolvedSaid
 unresolved_said unresolved = unresolved_by (known_by unresolved.table) unresolved.events unresolved.checks
 
--- The fault is the file's first, whatever zone files are given, and the file wants none.
+-- The first round finds this fault first, whatever zone files are given, and the file wants none. A fold at its begin comes before all others.
+pub record IsFirstOf (bytes : List ℕ) (fault : Fault) : Type 0 where
+  pub refused : (files : GivenFiles) → file_of files bytes ≡ Err fault
+  pub unasked : wanted_names bytes ≡ []
+  pub found : (begins_with_fold bytes ≡ true) ⊎ (first_fault (placed bytes) ≡ Some fault)
+
 abbrev pub IsFaultOf : List ℕ → FileFault → Type 0
 IsFaultOf file Memory = Unit {0}
-IsFaultOf file (At line kind) = ((files : GivenFiles) → file_of files file ≡ Err (record { line = line; kind = kind })) × (wanted_names file ≡ [])
+IsFaultOf file (At line kind) = IsFirstOf file (record { line = line; kind = kind })

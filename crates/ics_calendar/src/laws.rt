@@ -1,6 +1,6 @@
 //! Laws of the definitions that the contract of `read_file` cites.
-ghost use Rattle.std.specs.Prelude.{◌≡◌, ◌≢◌, ◌∷◌, [], false, List, ℕ, Result, Ok, Err};
-ghost use Rattle.std.specs.List.{All};
+ghost use Rattle.std.specs.Prelude.{◌≡◌, ◌≢◌, ◌∷◌, [], true, false, List, ℕ, Result, Ok, Err};
+ghost use Rattle.std.specs.List.{All, Contains};
 ghost use Rattle.ics_components.specs.declared.fault.FaultKind.{FaultKind};
 ghost use Rattle.ics_components.specs.DateValues.{OnePeriod};
 ghost use Rattle.ics_components.specs.PartFaults.{IsLeastOfBoth, IsLeastOfParts, StandsAlone, StandsApart};
@@ -8,8 +8,9 @@ ghost use Rattle.ics_event.specs.Event.{FileSaid};
 ghost use Rattle.ics_components.specs.declared.fault.Fault.{Fault};
 ghost use Rattle.ics_calendar.specs.GivenFiles.{GivenFiles, no_files};
 ghost use Rattle.ics_calendar.specs.Files.{FaultsLookBack, IsFile, file_of, wanted_names};
-ghost use Rattle.ics_components.specs.PlacedLines.{Placed};
-ghost use Rattle.ics_calendar.specs.Parts.{file_gives, is_parted, nothing_said};
+ghost use Rattle.ics_components.specs.EventLines.{all_events, has_uid, with_uids};
+ghost use Rattle.ics_components.specs.PlacedLines.{Placed, placed};
+ghost use Rattle.ics_calendar.specs.Parts.{file_gives, is_parted, names_for_parts, nothing_said, IsGiven, IsGivenOrNamed};
 ghost use Rattle.ics_calendar.specs.Wanted.{zones_with};
 ghost use Rattle.ics_calendar.specs.Zones.{zones_on};
 
@@ -59,4 +60,30 @@ pub fn accepted_files_give_all()
         → file_gives files name file ≡ record { said = said; faults = [] } }
     ensures refused { (files : GivenFiles) (name file : List ℕ) (fault : Fault) → file_of files file ≡ Err fault → is_parted file ≡ false
         → file_gives files name file ≡ record { said = nothing_said; faults = fault ∷ [] } }
+{}
+
+/// Where a listing goes on behind faults, the first fault of each refused file is named too.
+pub fn first_faults_are_named()
+    ensures { (files : GivenFiles) (name file : List ℕ) (fault : Fault) → file_of files file ≡ Err fault → Contains (file_gives files name file).faults fault }
+{}
+
+/// Each event of a refused file that has parts lies in one that is accepted, or in one whose first fault is named.
+pub fn events_are_given_or_named()
+    ensures { (files : GivenFiles) (name file : List ℕ) (fault : Fault) → file_of files file ≡ Err fault → is_parted file ≡ true
+        → (event : Placed) → Contains (all_events (with_uids name (placed file))) event
+        → IsGivenOrNamed files (with_uids name (placed file)) (file_gives files name file).faults event }
+{}
+
+/// The events of one UID in a file are given all or not at all: if one is in a part that is accepted, so is each other.
+pub fn events_of_one_uid_stand_together()
+    ensures { (files : GivenFiles) (name file uid : List ℕ) (event other : Placed) → Contains (all_events (with_uids name (placed file))) event
+        → Contains (all_events (with_uids name (placed file))) other → has_uid (with_uids name (placed file)) uid event ≡ true
+        → has_uid (with_uids name (placed file)) uid other ≡ true → IsGiven files (with_uids name (placed file)) event
+        → IsGiven files (with_uids name (placed file)) other }
+{}
+
+/// A file gives one thing with all zone files that agree on the names that its parts want.
+pub fn only_names_for_parts_count()
+    ensures { (files others : GivenFiles) (name file : List ℕ) → All (λ n. files n ≡ others n) (names_for_parts name file)
+        → file_gives files name file ≡ file_gives others name file }
 {}

@@ -1,9 +1,12 @@
 //! Files in which the first round finds nothing.
-ghost use Rattle.std.specs.Prelude.{◌≡◌, ◌≤◌, length, map, IfOk, IfErr};
+ghost use Rattle.std.specs.Prelude.{◌≡◌, ◌≤◌, length, map, None, IfOk, IfErr, OnOk};
 ghost use Rattle.std.specs.List.{All};
 ghost use Rattle.ics_calendar.specs.UnresolvedFiles.{unresolved_said, IsFaultOf};
 ghost use Rattle.ics_calendar.specs.Files.{unresolved_of, SaysFile};
-ghost use Rattle.ics_calendar.specs.Settled.{event_in, IsReady};
+ghost use Rattle.ics_components.specs.FirstFault.{first_fault};
+ghost use Rattle.ics_components.specs.ParsedFiles.{IsSoundParsed};
+ghost use Rattle.ics_components.specs.PlacedLines.{placed};
+ghost use Rattle.ics_calendar.specs.Settled.{event_in, known_in, unresolved_by, IsReady};
 ghost use Rattle.ics_calendar.specs.ZoneTables.{given_by, known_by};
 
 use crate::event::event_of;
@@ -67,14 +70,24 @@ impl UnresolvedFile {
     pub fn read(alloc: Global, bytes: &[u8]) -> Result<UnresolvedFile, FileFault>
         requires { length bytes.now ≤ 16_777_216 }
         ensures unresolved { IfOk result (λ unresolved. unresolved_said unresolved ≡ unresolved_of bytes.now) }
+        ensures whole { OnOk result (first_fault (placed bytes.now) ≡ None) }
         ensures fault { IfErr result (IsFaultOf bytes.now) }
     {
         numbers_rise();
+        let parsed = parse_file(alloc, bytes)?;
+        Ok(UnresolvedFile::of(alloc, parsed)?)
+    }
+
+    /// What is gathered of a file, with the names that it wants.
+    pub(crate) fn of(alloc: Global, parsed: ParsedFile) -> Result<UnresolvedFile, AllocError>
+        requires { IsSoundParsed parsed }
+        ensures { IfOk result (λ unresolved. unresolved_said unresolved ≡ unresolved_by (known_in parsed.zones) parsed.events parsed.checks) }
+    {
         let ParsedFile {
             zones,
             events,
             checks,
-        } = parse_file(alloc, bytes)?;
+        } = parsed;
         let table = ZoneTable::new(alloc, zones)?;
         let wanted = unknown_names(alloc, &table, &checks)?;
         Ok(UnresolvedFile {

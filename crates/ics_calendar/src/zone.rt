@@ -5,7 +5,9 @@ ghost use Rattle.ics_zone.specs.Observances.{observance_said, observances_said};
 ghost use Rattle.ics_zone.specs.ZoneSaid.{ZoneSaid, zone_said};
 ghost use Rattle.ics_components.specs.Sound.{IsSoundObservance, IsSoundZone};
 
-use ics_components::{ClosedObservance, Listed, parts_of};
+use ics_components::{
+    CalendarZone, ClosedObservance, Listed, ZoneName, copied_observances, parts_of,
+};
 use ics_zone::{Observance, Zone, ZoneFault};
 use std::alloc::{AllocError, Global};
 
@@ -48,4 +50,17 @@ pub fn zone_of(alloc: Global, ended: Listed<ClosedObservance>) -> Result<Zone, A
         Err(ZoneFault::Memory) => Err(AllocError),
         Err(ZoneFault::NoObservance | ZoneFault::ZoneRule) => unreachable!(),
     }
+}
+
+/// The same time zone, in other memory.
+pub fn copied_zone(alloc: Global, zone: &CalendarZone) -> Result<CalendarZone, AllocError>
+    ensures { IfOk result (λ copy. copy ≡ zone.now) }
+{
+    Ok(CalendarZone {
+        name: ZoneName {
+            calendar: zone.name.calendar,
+            name: zone.name.name.shared()?,
+        },
+        observances: copied_observances(alloc, &zone.observances)?,
+    })
 }

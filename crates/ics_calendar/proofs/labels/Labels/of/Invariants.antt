@@ -1,0 +1,7 @@
+use Rattle.ics_calendar.specs.Labels.{AreLabels}
+use Rattle.ics_calendar.specs.PartsRead.{labelled}
+use Rattle.ics_calendar.specs.SharedFaults.{needed_by}
+use Rattle.ics_calendar.proofs.labels.Labels.of.Given as goal
+
+abbrev pub invariant-loop-event : goal.invariant-loop-event
+invariant-loop-event l = AreLabels (labelled (needed_by l.shared) l.yielded) l.labels

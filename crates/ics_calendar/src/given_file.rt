@@ -1,0 +1,21 @@
+//! What a file gives where a listing goes on behind faults.
+
+use ics_components::Fault;
+use ics_event::FileEvents;
+use std::marker::Model;
+
+/// The events that a file gives, and the faults that are named: by their lines, then by their kinds, each once.
+#[derive(Drop)]
+pub struct GivenFile {
+    pub file: FileEvents,
+    pub faults: Vec<Fault>,
+}
+
+impl Model for GivenFile {
+    ghost use Rattle.ics_calendar.specs.Parts.{Given};
+    ghost use Rattle.ics_event.specs.Event.{said_by};
+
+    ghost Value = { Given };
+
+    ghost view = { λ a. record { said = said_by a.file; faults = a.faults.items } };
+}

@@ -1,0 +1,176 @@
+//! The numbers of parts: each part has the place of its UID among those of all events.
+ghost use Rattle.std.specs.Prelude.{◌≡◌, ◌∷◌, [], ℕ, List, if◌then◌else◌, Some, None, map, fold, IfOk, OnOk};
+ghost use Rattle.std.specs.BTreeMap.{get};
+ghost use Rattle.std.specs.Cmp.Lexicographic.{slice_cmp};
+ghost use Rattle.std.specs.List.{list_any};
+ghost use Rattle.std.specs.Option.{option_or};
+ghost use Rattle.std.specs.Ordering.{nat_cmp};
+ghost use Rattle.std.specs.Str.{bytes_eq};
+ghost use Rattle.ics_calendar.specs.Labels.{AreLabels, AreNumbered};
+ghost use Rattle.ics_calendar.specs.PartsRead.{fault_read, labelled, least_at, nothing_labelled, numbered_with, with_event, with_key, Labelled, Numbered};
+ghost use Rattle.ics_calendar.specs.SharedFaults.{needed_by, number_by};
+
+use crate::file_parts::SoundEvent;
+use crate::shared_faults::SharedFaults;
+use crate::zone_files::put_first;
+use ics_components::{Fault, ParsedFile, PartedComponent, earlier};
+use ics_event::Text;
+use std::alloc::{AllocError, Global};
+use std::collections::BTreeMap;
+
+/// Notes a first fault of a part, which stays the least.
+fn note_least(faults: &mut Vec<Option<Fault>>, part: usize, fault: Option<Fault>)
+    ensures { faults.new.items ≡ least_at fault faults.old.items part }
+{
+    if let Some(first) = faults.get_mut(part) {
+        *first = earlier(*first, fault);
+    }
+}
+
+/// The number of the part of a UID: that of an event before, or a new one.
+fn number(by_uid: &mut BTreeMap<Text, usize>, uid: Text, place: usize) -> Result<usize, AllocError>
+    ensures number { IfOk result (λ number. number ≡ number_by by_uid.old place uid) }
+    ensures put { OnOk result ((other : List ℕ) → get (slice_cmp nat_cmp) by_uid.new other
+        ≡ option_or (get (slice_cmp nat_cmp) by_uid.old other) (if bytes_eq other uid then Some place else None)) }
+{
+    let part = match by_uid.get(&uid) {
+        Some(part) => *part,
+        None => place,
+    };
+    put_first(by_uid, uid, place)?;
+    Ok(part)
+}
+
+/// Notes a first fault of the part of a UID, which may be new, and answers its number.
+fn note_uid(
+    by_uid: &mut BTreeMap<Text, usize>,
+    faults: &mut Vec<Option<Fault>>,
+    uid: Text,
+    fault: Option<Fault>,
+) -> Result<usize, AllocError>
+    ensures kept { OnOk result ((had : Numbered) → AreNumbered had by_uid.old faults.old.items
+        → AreNumbered (with_key fault had (Some uid)) by_uid.new faults.new.items) }
+    ensures part { IfOk result (λ part. (had : Numbered) → AreNumbered had by_uid.old faults.old.items → part ≡ (with_key fault had (Some uid)).part) }
+{
+    let had = faults.as_slice();
+    let place = had.len();
+    faults.push(None)?;
+    let part = number(by_uid, uid, place)?;
+    note_least(faults, part, fault);
+    Ok(part)
+}
+
+/// Notes a first fault of the parts of an event with UIDs, and answers the number of the last.
+fn note_uids(
+    by_uid: &mut BTreeMap<Text, usize>,
+    faults: &mut Vec<Option<Fault>>,
+    uids: Vec<Text>,
+    fault: Option<Fault>,
+) -> Result<usize, AllocError>
+    ensures kept { OnOk result ((had : Numbered) → AreNumbered had by_uid.old faults.old.items
+        → AreNumbered (fold (with_key fault) had (map (λ uid. Some uid) uids.items)) by_uid.new faults.new.items) }
+    ensures part { IfOk result (λ last. (had : Numbered) → AreNumbered had by_uid.old faults.old.items → had.part ≡ 0
+        → last ≡ (fold (with_key fault) had (map (λ uid. Some uid) uids.items)).part) }
+{
+    let mut last = 0;
+    for uid in uids {
+        last = note_uid(by_uid, faults, uid, fault)?;
+    }
+    Ok(last)
+}
+
+/// Notes a first fault of the parts of an event, and answers the number of the last. Without a UID it is a part of its own.
+fn note_event(
+    by_uid: &mut BTreeMap<Text, usize>,
+    faults: &mut Vec<Option<Fault>>,
+    uids: Vec<Text>,
+    fault: Option<Fault>,
+) -> Result<usize, AllocError>
+    ensures kept { OnOk result ((had : Numbered) → AreNumbered had by_uid.old faults.old.items
+        → AreNumbered (numbered_with fault had uids.items) by_uid.new faults.new.items) }
+    ensures part { IfOk result (λ last. (had : Numbered) → AreNumbered had by_uid.old faults.old.items
+        → last ≡ (numbered_with fault had uids.items).part) }
+{
+    if uids.is_empty() {
+        let had = faults.as_slice();
+        let place = had.len();
+        faults.push(None)?;
+        note_least(faults, place, fault);
+        return Ok(place);
+    }
+    note_uids(by_uid, faults, uids, fault)
+}
+
+/// The fault that is read, if one is.
+fn fault_read(read: &Result<ParsedFile, Fault>) -> Option<Fault>
+    ensures { result ≡ fault_read read.now }
+{
+    match read {
+        Ok(_) => None,
+        Err(fault) => Some(*fault),
+    }
+}
+
+/// The sound events of a file with the numbers of their parts, and the first fault of each part.
+#[derive(Drop)]
+pub struct Labels {
+    pub by_uid: BTreeMap<Text, usize>,
+    pub faults: Vec<Option<Fault>>,
+    pub events: Vec<SoundEvent>,
+}
+
+impl Labels {
+    /// Those of no events.
+    fn new(alloc: Global) -> Labels
+        ensures { AreLabels nothing_labelled result }
+    {
+        Labels {
+            by_uid: BTreeMap::new(alloc),
+            faults: Vec::new(alloc),
+            events: Vec::new(alloc),
+        }
+    }
+
+    /// Adds an event.
+    fn add(&mut self, event: PartedComponent, shared: &SharedFaults) -> Result<(), AllocError>
+        ensures { OnOk result ((had : Labelled) → AreLabels had self.old → AreLabels (with_event (needed_by shared.now) had event) self.new) }
+    {
+        let PartedComponent {
+            calendar,
+            uids,
+            zones,
+            read,
+            ..
+        } = event;
+        let beside = shared.beside(calendar, &zones)?;
+        let fault = earlier(fault_read(&read), beside);
+        let part = note_event(&mut self.by_uid, &mut self.faults, uids, fault)?;
+        match read {
+            Ok(read) => {
+                self.events.push(SoundEvent {
+                    part,
+                    calendar,
+                    zones,
+                    read,
+                })?;
+                Ok(())
+            }
+            Err(_) => Ok(()),
+        }
+    }
+
+    /// Those of these events, in the order of the lines.
+    pub fn of(
+        alloc: Global,
+        events: Vec<PartedComponent>,
+        shared: &SharedFaults,
+    ) -> Result<Labels, AllocError>
+        ensures { IfOk result (AreLabels (labelled (needed_by shared.now) events.items)) }
+    {
+        let mut labels = Labels::new(alloc);
+        for event in events {
+            labels.add(event, shared)?;
+        }
+        Ok(labels)
+    }
+}
