@@ -1,6 +1,6 @@
--- The command line, as clap's model sees it: `list FOLDER [START [END]] [--zone Z] [--zone-file FILE] [--zones DIR] [--limit N] [--after TOKEN]
--- [--notstarted] [--every-day] [--format F] [--day-format F]` and `at FOLDER MOMENT [--zone Z] [--zone-file FILE] [--zones DIR]`. That model has no
--- word for options that may not stand together.
+-- The command line, as clap's model sees it: `list FOLDER [START [END]] [--zone Z] [--zone-file FILE] [--zones DIR] [--keep-going] [--limit N]
+-- [--after TOKEN] [--notstarted] [--every-day] [--format F] [--day-format F]` and `at FOLDER MOMENT [--zone Z] [--zone-file FILE] [--zones DIR]
+-- [--keep-going]`. That model has no word for options that may not stand together.
 use Rattle.std.specs.Prelude.{true, List, Some, [], ◌∷◌, codes, fold, pos}
 use Rattle.clap.specs.Words.{App, Rule, Text, new_app, new_rule, with_rule, with_subcommand}
 use Rattle.clap.specs.Simple.{on_top}
@@ -38,6 +38,9 @@ zone_file = option (codes "zone-file")
 abbrev pub zones : Rule
 zones = option (codes "zones")
 
+abbrev pub keep_going : Rule
+keep_going = flag (codes "keep-going")
+
 abbrev pub limit : Rule
 limit = record (option (codes "limit")) { parser = Some (Signed (pos 1) (pos 4_294_967_295)) }
 
@@ -58,10 +61,10 @@ day_format = option (codes "day-format")
 
 abbrev pub list_rules : List Rule
 list_rules =
-    folder ∷ start ∷ end ∷ zone ∷ zone_file ∷ zones ∷ limit ∷ after ∷ notstarted ∷ every_day ∷ format ∷ day_format ∷ []
+    folder ∷ start ∷ end ∷ zone ∷ zone_file ∷ zones ∷ keep_going ∷ limit ∷ after ∷ notstarted ∷ every_day ∷ format ∷ day_format ∷ []
 
 abbrev pub at_rules : List Rule
-at_rules = folder ∷ moment ∷ zone ∷ zone_file ∷ zones ∷ []
+at_rules = folder ∷ moment ∷ zone ∷ zone_file ∷ zones ∷ keep_going ∷ []
 
 abbrev pub with_rules : App → List Rule → App
 with_rules app rules = fold with_rule app rules

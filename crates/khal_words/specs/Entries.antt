@@ -73,6 +73,7 @@ pub record AreTested (entries : Entries) : Type 0 where
   pub limit : HasLimit entries
   pub notstarted : IsFlag (codes "notstarted") entries
   pub every_day : IsFlag (codes "every-day") entries
+  pub keep_going : IsFlag (codes "keep-going") entries
 
 -- the window that the entries ask for: that of a moment, or one from START, if it is given, to END
 pub data Span : Type 0 where

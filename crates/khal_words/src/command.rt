@@ -64,8 +64,9 @@ const ZONE: &str =
 const ZONE_FILE: &str =
     "The time zone by its file: /etc/localtime for one's{n}own, or e.g. /usr/share/zoneinfo/Europe/Berlin";
 
-const ZONES: &str =
-    "Zone files for names that a calendar does not{n}define, e.g. /usr/share/zoneinfo";
+const ZONES: &str = "Zone files for undefined names: /usr/share/zoneinfo";
+
+const KEEP_GOING: &str = "List the sound events of refused files too";
 
 const LIMIT: &str =
     "At most N entries. If more follow, the last line of{n}standard error is `more: TOKEN`";
@@ -84,8 +85,8 @@ const DAY_FORMAT: &str = "A day's heading [default: {name}, {date}]";
 const TWO_ZONES: &str = "the argument '--zone <Z>' cannot be used with '--zone-file <FILE>'";
 
 /// The program's command: `list FOLDER [START [END]] [--zone Z | --zone-file FILE] [--zones DIR]
-/// [--limit N] [--after TOKEN] [--notstarted] [--every-day] [--format F] [--day-format F]` and
-/// `at FOLDER MOMENT [--zone Z | --zone-file FILE] [--zones DIR]`. That `--zone` and `--zone-file` do
+/// [--keep-going] [--limit N] [--after TOKEN] [--notstarted] [--every-day] [--format F] [--day-format F]` and
+/// `at FOLDER MOMENT [--zone Z | --zone-file FILE] [--zones DIR] [--keep-going]`. That `--zone` and `--zone-file` do
 /// not stand together is checked apart: the entries of a command with conflicts have no definition.
 pub(crate) fn command<'a>(alloc: Global) -> Result<Command<'a>, AllocError>
     ensures shape { IfOk result (λ c. app_of c ≡ spec.khal_app) }
@@ -197,6 +198,7 @@ fn list_args<'a>(alloc: Global) -> Result<Vec<Arg<'a>>, AllocError>
         option(alloc, "zone", "Z", WHICH_ENTRIES, ZONE),
         option(alloc, "zone-file", "FILE", WHICH_ENTRIES, ZONE_FILE),
         option(alloc, "zones", "DIR", WHICH_ENTRIES, ZONES),
+        flag(alloc, "keep-going", WHICH_ENTRIES, KEEP_GOING),
         limit(alloc),
         option(alloc, "after", "TOKEN", WHICH_ENTRIES, AFTER),
         flag(alloc, "notstarted", WHICH_ENTRIES, NOTSTARTED),
@@ -216,6 +218,7 @@ fn at_args<'a>(alloc: Global) -> Result<Vec<Arg<'a>>, AllocError>
         option(alloc, "zone", "Z", WHICH_ENTRIES, ZONE),
         option(alloc, "zone-file", "FILE", WHICH_ENTRIES, ZONE_FILE),
         option(alloc, "zones", "DIR", WHICH_ENTRIES, ZONES),
+        flag(alloc, "keep-going", WHICH_ENTRIES, KEEP_GOING),
     ]?)
 }
 

@@ -22,6 +22,7 @@ tested words none =
       limit = has_limit entries (reads (codes "limit") limit_range khal_app words (search rules) none);
       notstarted = flag_of (codes "notstarted") entries (reads _ vp.Bool khal_app words (search rules) none);
       every_day = flag_of (codes "every-day") entries (reads _ vp.Bool khal_app words (search rules) none);
+      keep_going = flag_of (codes "keep-going") entries (reads _ vp.Bool khal_app words (search rules) none);
     }
 
 -- clap's model covers this command
