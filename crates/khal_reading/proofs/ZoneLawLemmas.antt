@@ -3,10 +3,9 @@ use Rattle.std.proofs.Common.{◌≡◌, get_or, ℕ, false, List, [], ◌∷◌
 use Rattle.std.proofs.Math.Bool.{and-false}
 use Rattle.std.proofs.lemmas.List.Folds.{list_any_none}
 use Rattle.std.specs.List.{AllByRecursion}
-use Rattle.ics_calendar.specs.Files.{file_of, wanted_names}
 use Rattle.ics_calendar.specs.GivenFiles.{no_files, GivenFiles}
 use Rattle.khal_reading.specs.Asked.{given_from, is_unread, Asked, FindsEach}
-use Rattle.khal_reading.specs.Errors.{file_by, file_or_refusal}
+use Rattle.khal_reading.specs.Gives.{FileGives, gives_with}
 use Rattle.khal_ports.specs.Finds.{found_of, FindAnswer, Found}
 
 one-absent : (answer : FindAnswer) (found : Found) → answer ≡ Ok None → found_of answer ≡ Some found → found ≡ Found.Absent
@@ -26,7 +25,7 @@ unread-absent : (asked : List Asked) → AllByRecursion (λ one. one.1 ≡ Found
 unread-absent [] h name = refl
 unread-absent ((other, found) ∷ asked) h name = rw (h.0, and-false) (unread-absent asked h.1 name)
 
-pub same-file : (asked : List Asked) → AllByRecursion (λ one. one.1 ≡ Found.Absent) asked → (bytes : List ℕ) →
-    file_by asked (Some bytes) ≡ file_or_refusal (file_of no_files bytes)
-same-file asked h bytes =
-    rw (list_any_none (is_unread asked) (wanted_names bytes) (λ i d l. unread-absent asked h (get_or (wanted_names bytes) i d)), given-absent no_files asked h)
+pub same-file : (asked : List Asked) → AllByRecursion (λ one. one.1 ≡ Found.Absent) asked → (file : FileGives) →
+    gives_with asked file ≡ file.gives no_files
+same-file asked h file =
+    rw (list_any_none (is_unread asked) file.wants (λ i d l. unread-absent asked h (get_or file.wants i d)), given-absent no_files asked h) refl

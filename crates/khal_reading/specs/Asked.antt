@@ -2,9 +2,7 @@
 use Rattle.std.specs.Prelude.{◌≡◌, ◌⊎◌, ℕ, Bool, true, false, List, [], ◌∷◌, ◌++◌, ◌&&◌, map, Some, None, Err, if◌then◌else◌}
 use Rattle.std.specs.List.{list_any}
 use Rattle.std.specs.Str.{bytes_eq}
-use Rattle.ics_calendar.specs.Files.{wanted_names}
 use Rattle.ics_calendar.specs.GivenFiles.{GivenFiles, no_files, with_file}
-use Rattle.khal_ports.specs.Answers.{Contents}
 use Rattle.khal_ports.specs.Finds.{FindAnswer, Found, found_of}
 use Rattle.khal_ports.specs.declared.fault.SourceFault.TheVariants.{Memory}
 
@@ -36,15 +34,6 @@ was_unread _ = false
 -- the zone file of this name was not read
 abbrev pub is_unread : List Asked → List ℕ → Bool
 is_unread asked name = list_any (λ one. bytes_eq name one.0 && was_unread one.1) asked
-
--- the names that the files want
-abbrev pub wanted_of : Contents → List (List ℕ)
-wanted_of (Some bytes) = wanted_names bytes
-wanted_of None = []
-
-abbrev pub all_wanted : List Contents → List (List ℕ)
-all_wanted [] = []
-all_wanted (given ∷ contents) = wanted_of given ++ all_wanted contents
 
 -- the names and one more, unless it is among them
 abbrev pub and_name : List (List ℕ) → List ℕ → List (List ℕ)

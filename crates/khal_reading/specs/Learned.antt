@@ -2,18 +2,17 @@
 use Rattle.std.specs.Prelude.{◌≡◌, ℕ, true, List, ◌++◌, Option, Some, None, Result, Ok, Err}
 use Rattle.std.specs.BTreeSet.{contains}
 use Rattle.std.specs.Cmp.Lexicographic.{slice_cmp}
-use Rattle.std.specs.List.{list_any}
+use Rattle.std.specs.List.{All, list_any}
 use Rattle.std.specs.Ordering.{nat_cmp}
 use Rattle.std.specs.Str.{bytes_eq}
-use Rattle.ics_event.specs.Event.{FileSaid}
+use Rattle.ics_calendar.specs.GivenFiles.{GivenFiles}
 use Rattle.ics_calendar.specs.ZoneTables.{given_by}
 use Rattle.khal_reading.specs.declared.answered.Answered.{Answered}
 use Rattle.khal_ports.specs.declared.fault.RunFault.{RunFault}
 use Rattle.khal_reading.specs.declared.finding.Found as code
 use Rattle.khal_reading.specs.declared.finding.Found.TheVariants.{Given, Absent, Unread}
-use Rattle.khal_ports.specs.Answers.{Contents}
-use Rattle.khal_reading.specs.Asked.{Asked, AsksAll, AsksSome, given_files, is_unread, names_of, wanted_of}
-use Rattle.khal_reading.specs.Errors.{Refusal, file_by}
+use Rattle.khal_reading.specs.Asked.{Asked, AsksAll, AsksSome, given_files, is_unread, names_of}
+use Rattle.khal_reading.specs.Gives.{FileGives, ReadGives, gives_with}
 use Rattle.khal_ports.specs.Finds.{FindAnswer, Found}
 
 abbrev pub seen_found : code.Found → Found
@@ -51,9 +50,12 @@ pub record LearnsSome {Z : Type 0} (finds : Z → List ℕ → FindAnswer → Z 
   pub more : List Asked
   pub asks : AsksSome finds asked wanted before more after
 
--- the names that a file wants are asked for, and this is its outcome
+-- the names that a file wants are asked for, and this is what it gives
 pub record Settles {Z : Type 0} (finds : Z → List ℕ → FindAnswer → Z →
-    Type 0) (asked : List Asked) (given : Contents) (before : Z) (after : Z) (answered : Answered)
-    (outcome : Result FileSaid Refusal) : Type 0 where
-  pub learns : Learns finds asked (wanted_of given) before after answered
-  pub outcome_is : outcome ≡ file_by (asked ++ learns.more) given
+    Type 0) (asked : List Asked) (file : FileGives) (before : Z) (after : Z) (answered : Answered) (outcome : ReadGives) : Type 0 where
+  pub learns : Learns finds asked file.wants before after answered
+  pub outcome_is : outcome ≡ gives_with (asked ++ learns.more) file
+
+-- zone files that agree on the names that a file wants give it one meaning
+abbrev pub WantedCount : FileGives → Type 0
+WantedCount file = (files others : GivenFiles) → All (λ name. files name ≡ others name) file.wants → file.gives files ≡ file.gives others

@@ -1,16 +1,20 @@
 -- What the code keeps of a read.
-use Rattle.std.specs.Prelude.{◌≡◌, ℕ, List, Some, None, Result, Ok, Err}
+use Rattle.std.specs.Prelude.{◌≡◌, ℕ, Bool, List, [], ◌∷◌, map, Option, Some, None, Result, Ok, Err}
+use Rattle.std.specs.Option.{option_map}
 use Rattle.ics_event.specs.Event.{FileSaid, said_by}
+use Rattle.ics_components.specs.declared.fault.Fault.{Fault}
+use Rattle.ics_calendar.specs.UnresolvedFiles.{unresolved_said}
 use Rattle.khal_reading.specs.declared.outcome.Outcome.{Outcome}
-use Rattle.khal_reading.specs.declared.outcome.Outcome.TheVariants.{Accepted, Refused}
+use Rattle.khal_reading.specs.declared.outcome.HalfRead.{HalfRead}
+use Rattle.khal_reading.specs.declared.outcome.HalfRead.TheVariants.{Whole, InParts, Faulty}
 use Rattle.khal_reading.specs.declared.refusal.Refusal as code
 use Rattle.khal_reading.specs.declared.refusal.Refusal.TheVariants.{At, Unread}
-use Rattle.ics_calendar.specs.Files.{wanted_names}
 use Rattle.khal_reading.specs.declared.answered.Answered.{Answered}
 use Rattle.khal_ports.specs.declared.fault.SourceFault.TheVariants.{Memory}
 use Rattle.khal_ports.specs.Answers.{Answer, Contents, contents_of}
 use Rattle.khal_reading.specs.Asked.{Asked}
-use Rattle.khal_reading.specs.Errors.{Refusal, accepted, error_lines}
+use Rattle.khal_reading.specs.Errors.{Refusal}
+use Rattle.khal_reading.specs.Gives.{FileGives, Read, ReadGives, error_lines, gives_in_parts, gives_of, listed_files, read_wants, whole}
 use Rattle.khal_ports.specs.Finds.{FindAnswer}
 use Rattle.khal_reading.specs.Learned.{Knows, LearnsSome, Settles}
 
@@ -18,24 +22,35 @@ abbrev pub refusal_of : code.Refusal → Refusal
 refusal_of (At line kind) = Some (record { line = line; kind = kind })
 refusal_of Unread = None
 
-abbrev pub seen_outcome : Outcome → Result FileSaid Refusal
-seen_outcome (Accepted file) = Ok (said_by file)
-seen_outcome (Refused refusal) = Err (refusal_of refusal)
+abbrev pub refusal_by : Fault → code.Refusal
+refusal_by fault = At fault.line fault.kind
 
--- A read came to something, after the names that the file wants were asked for.
-pub record IsOutcome {Z : Type 0} (finds : Z → List ℕ → FindAnswer → Z → Type 0) (answer : Answer) (before after : Z) (known known' : Answered)
-    (outcome : Result FileSaid Refusal) : Type 0 where
+abbrev pub seen_outcome : Outcome → ReadGives
+seen_outcome outcome = record { file = option_map said_by outcome.file; refusals = map refusal_of outcome.refusals.items }
+
+-- what a file gives that is read as far as no zone files are needed
+abbrev pub half_gives : HalfRead → FileGives
+half_gives (Whole unresolved) =
+    record { wants = (unresolved_said unresolved).wants; gives = λ files. whole ((unresolved_said unresolved).says files) }
+half_gives (InParts partial) = gives_in_parts partial.name partial.bytes
+half_gives (Faulty line kind) = record { wants = []; gives = λ files. whole (Err (record { line = line; kind = kind })) }
+
+-- A read came to something, after the names that it wants were asked for.
+pub record IsOutcome {Z : Type 0} (finds : Z → List ℕ → FindAnswer → Z →
+    Type 0) (keep_going : Bool) (name : List ℕ) (answer : Answer) (before after : Z) (known known' : Answered) (outcome : ReadGives) : Type 0 where
   pub given : Contents
   pub some : contents_of answer ≡ Some given
-  pub settles : (asked : List Asked) → Knows asked known → Settles finds asked given before after known' outcome
+  pub settles : (asked : List Asked) → Knows asked known → Settles finds asked (gives_of keep_going (name, given)) before after known' outcome
 
--- It came to nothing: an allocation failed in it, or after it as the names were asked for that the file wants.
-pub data EndsReading {Z : Type 0} (finds : Z → List ℕ → FindAnswer → Z → Type 0) (answer : Answer) (before after : Z) (known : Answered) : Type 0 where
-  InRead : answer ≡ Err Memory → after ≡ before → EndsReading finds answer before after known
-  AfterRead : (bytes : List ℕ) → answer ≡ Ok bytes → ((asked : List Asked) → Knows asked known → LearnsSome finds asked (wanted_names bytes) before after) →
-      EndsReading finds answer before after known
+-- It came to nothing: an allocation failed in it, or after it as the names were asked for that it wants.
+pub data EndsReading {Z : Type 0} (finds : Z → List ℕ → FindAnswer → Z →
+    Type 0) (keep_going : Bool) (name : List ℕ) (answer : Answer) (before after : Z) (known : Answered) : Type 0 where
+  InRead : answer ≡ Err Memory → after ≡ before → EndsReading finds keep_going name answer before after known
+  AfterRead : (given : Contents) → contents_of answer ≡ Some given
+      → ((asked : List Asked) → Knows asked known → LearnsSome finds asked (read_wants keep_going (name, given)) before after) →
+      EndsReading finds keep_going name answer before after known
 
--- these are the accepted files of the reads, and the lines of the others
-pub record IsReading (names : List (List ℕ)) (asked : List Asked) (contents : List Contents) (files : List FileSaid) (errors : List ℕ) : Type 0 where
-  pub files_are : files ≡ accepted asked contents
-  pub errors_are : errors ≡ error_lines names asked contents
+-- these are the files of the reads that are listed, and the lines of those that are not, or not whole
+pub record IsReading (keep_going : Bool) (asked : List Asked) (reads : List Read) (files : List FileSaid) (errors : List ℕ) : Type 0 where
+  pub files_are : files ≡ listed_files keep_going asked reads
+  pub errors_are : errors ≡ error_lines keep_going asked reads

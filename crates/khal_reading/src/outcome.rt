@@ -1,57 +1,148 @@
 //! What becomes of a file that is read.
-ghost use Rattle.std.specs.Prelude.{◌≡◌, ◌<◌, ◌≤◌, List, ℕ, Some, IfOk, IfErr, OnErr, OnOk, length};
+ghost use Rattle.std.specs.Prelude.{◌≡◌, ◌<◌, ◌≤◌, ◌∷◌, [], List, ℕ, Some, None, IfOk, IfErr, OnErr, OnOk, length, map};
 ghost use Rattle.std.specs.BTreeSet.{contains};
 ghost use Rattle.std.specs.Cmp.Lexicographic.{slice_cmp};
 ghost use Rattle.std.specs.List.{list_any};
 ghost use Rattle.std.specs.Ordering.{nat_cmp};
-ghost use Rattle.ics_calendar.specs.UnresolvedFiles.{unresolved_said};
-ghost use Rattle.ics_calendar.specs.Files.{unresolved_of, wanted_names};
+ghost use Rattle.ics_event.specs.Event.{said_by};
 ghost use Rattle.ics_calendar.specs.ZoneTables.{given_by};
 ghost use Rattle.khal_ports.specs.Answers.{most_bytes, Answer};
 ghost use Rattle.khal_reading.specs.Asked.{Asked};
-ghost use Rattle.khal_reading.specs.Errors.{file_or_refusal};
-ghost use Rattle.khal_reading.specs.Learned.{Knows, Learns, LearnsSome, Settles};
-ghost use Rattle.khal_reading.specs.Outcomes.{seen_outcome, EndsReading, IsOutcome};
+ghost use Rattle.khal_reading.specs.Gives.{given_by_file, in_parts, name_at};
+ghost use Rattle.khal_reading.specs.Learned.{Knows, Learns, LearnsSome, Settles, WantedCount};
+ghost use Rattle.khal_reading.specs.Outcomes.{half_gives, refusal_by, refusal_of, seen_outcome, EndsReading, IsOutcome};
 
 use crate::answered::Answered;
 use crate::refusal::Refusal;
-use ics_calendar::{FileFault, UnresolvedFile, ZoneFiles, only_wanted_files_count};
+use ics_calendar::{
+    Fault, FaultKind, FileFault, GivenFile, PartialFile, UnresolvedFile, ZoneFiles,
+    only_names_for_parts_count, only_wanted_files_count,
+};
 use ics_event::{FileEvents, Text};
 use khal_ports::{RunFault, Source, SourceFault, ZoneSource};
 use std::alloc::{AllocError, Global};
 
-/// What becomes of a file.
+/// What becomes of a file: its events, if it is listed, and why it is not listed, or not whole.
 #[derive(Drop)]
-pub(crate) enum Outcome {
-    Accepted(FileEvents),
-    Refused(Refusal),
+pub(crate) struct Outcome {
+    pub(crate) file: Option<FileEvents>,
+    pub(crate) refusals: Vec<Refusal>,
 }
 
-/// The names that a file wants.
-fn wanted(alloc: Global, unresolved: &UnresolvedFile) -> Result<Vec<Text>, AllocError>
-    ensures { IfOk result (λ names. names.items ≡ (unresolved_said unresolved.now).wants) }
-{
-    unresolved
-        .wanted(alloc)?
-        .into_iter()
-        .map(Text::of)
-        .collect(alloc)
+/// A file that is read as far as no zone files are needed.
+#[derive(Drop)]
+enum HalfRead<'a> {
+    /// The first round finds nothing.
+    Whole(UnresolvedFile),
+    /// Its sound parts are kept.
+    InParts(PartialFile<'a>),
+    /// Its first fault.
+    Faulty { line: u64, kind: FaultKind },
 }
 
-/// What a file comes to with these zone files.
-fn settled(
-    alloc: Global,
-    unresolved: UnresolvedFile,
-    files: &ZoneFiles,
-) -> Result<Outcome, RunFault>
-    ensures ok { IfOk result (λ outcome. seen_outcome outcome
-        ≡ file_or_refusal ((unresolved_said unresolved).says (given_by files.now))) }
-    ensures err { IfErr result (λ fault. fault ≡ RunFault.Memory) }
+/// Why a file of which these faults are named is not whole.
+fn refusals_of(alloc: Global, faults: Vec<Fault>) -> Result<Vec<Refusal>, AllocError>
+    ensures { IfOk result (λ refusals. refusals.items ≡ map refusal_by faults.items) }
 {
-    match unresolved.settle(alloc, files) {
-        Ok(file) => Ok(Outcome::Accepted(file)),
-        Err(FileFault::At { line, kind }) => Ok(Outcome::Refused(Refusal::At { line, kind })),
-        Err(FileFault::Memory) => Err(RunFault::Memory),
+    faults.into_iter().map(Refusal::of).collect(alloc)
+}
+
+impl Outcome {
+    /// A file that is accepted.
+    fn accepted(alloc: Global, file: FileEvents) -> Outcome
+        ensures { seen_outcome result ≡ record { file = Some (said_by file); refusals = [] } }
+    {
+        Outcome {
+            file: Some(file),
+            refusals: Vec::new(alloc),
+        }
+    }
+
+    /// A file that is not listed.
+    fn refused(alloc: Global, refusal: Refusal) -> Result<Outcome, AllocError>
+        ensures { IfOk result (λ outcome. seen_outcome outcome ≡ record { file = None; refusals = refusal_of refusal ∷ [] }) }
+    {
+        let mut refusals = Vec::new(alloc);
+        refusals.push(refusal)?;
+        Ok(Outcome {
+            file: None,
+            refusals,
+        })
+    }
+
+    /// A file of which the accepted parts are listed.
+    fn in_parts(alloc: Global, given: GivenFile) -> Result<Outcome, AllocError>
+        ensures { IfOk result (λ outcome. seen_outcome outcome ≡ in_parts given) }
+    {
+        let GivenFile { file, faults } = given;
+        let refusals = refusals_of(alloc, faults)?;
+        Ok(Outcome {
+            file: Some(file),
+            refusals,
+        })
+    }
+}
+
+impl<'a> HalfRead<'a> {
+    /// Reads a file of that name.
+    fn read(
+        alloc: Global,
+        name: &'a str,
+        bytes: &'a [u8],
+        keep_going: bool,
+    ) -> Result<HalfRead<'a>, RunFault>
+        requires { length bytes.now ≤ most_bytes }
+        ensures ok { IfOk result (λ half. half_gives half ≡ given_by_file keep_going name.now bytes.now) }
+        ensures err { IfErr result (λ fault. fault ≡ RunFault.Memory) }
+    {
+        if keep_going {
+            return Ok(HalfRead::InParts(PartialFile::read(alloc, name, bytes)?));
+        }
+        match UnresolvedFile::read(alloc, bytes) {
+            Ok(unresolved) => Ok(HalfRead::Whole(unresolved)),
+            Err(FileFault::At { line, kind }) => Ok(HalfRead::Faulty { line, kind }),
+            Err(FileFault::Memory) => Err(RunFault::Memory),
+        }
+    }
+
+    /// The names of the time zones that it wants, as bytes.
+    fn names(&self, alloc: Global) -> Result<Vec<Vec<u8>>, AllocError>
+        ensures { IfOk result (λ names. map (λ name. name.items) names.items ≡ (half_gives self.now).wants) }
+    {
+        match self {
+            HalfRead::Whole(unresolved) => unresolved.wanted(alloc),
+            HalfRead::InParts(partial) => partial.wanted(alloc),
+            HalfRead::Faulty { .. } => Ok(Vec::new(alloc)),
+        }
+    }
+
+    /// The names of the time zones that it wants.
+    fn wanted(&self, alloc: Global) -> Result<Vec<Text>, AllocError>
+        ensures { IfOk result (λ names. names.items ≡ (half_gives self.now).wants) }
+    {
+        self.names(alloc)?.into_iter().map(Text::of).collect(alloc)
+    }
+
+    /// What it comes to with these zone files.
+    fn settle(self, alloc: Global, files: &ZoneFiles) -> Result<Outcome, RunFault>
+        ensures ok { IfOk result (λ outcome. seen_outcome outcome ≡ (half_gives self.entry).gives (given_by files.now)) }
+        ensures err { IfErr result (λ fault. fault ≡ RunFault.Memory) }
+    {
+        match self {
+            HalfRead::Whole(unresolved) => match unresolved.settle(alloc, files) {
+                Ok(file) => Ok(Outcome::accepted(alloc, file)),
+                Err(FileFault::At { line, kind }) => {
+                    Ok(Outcome::refused(alloc, Refusal::At { line, kind })?)
+                }
+                Err(FileFault::Memory) => Err(RunFault::Memory),
+            },
+            HalfRead::InParts(partial) => {
+                Ok(Outcome::in_parts(alloc, partial.settle(alloc, files)?)?)
+            }
+            HalfRead::Faulty { line, kind } => {
+                Ok(Outcome::refused(alloc, Refusal::At { line, kind })?)
+            }
+        }
     }
 }
 
@@ -60,17 +151,17 @@ fn wants_unread<Z: ZoneSource>(
     alloc: Global,
     zones: &mut Z,
     answered: &mut Answered,
-    unresolved: &UnresolvedFile,
+    half: &HalfRead<'_>,
 ) -> Result<bool, RunFault>
     ensures ok { OnOk result ((asked : List Asked) → Knows asked answered.old
-        → Learns Z.finds asked (unresolved_said unresolved.now).wants zones.old zones.new answered.new) }
+        → Learns Z.finds asked (half_gives half.now).wants zones.old zones.new answered.new) }
     ensures unread { IfOk result (λ unread. unread
-        ≡ list_any (contains (slice_cmp nat_cmp) answered.new.unread) (unresolved_said unresolved.now).wants) }
+        ≡ list_any (contains (slice_cmp nat_cmp) answered.new.unread) (half_gives half.now).wants) }
     ensures some { OnErr result ((asked : List Asked) → Knows asked answered.old
-        → LearnsSome Z.finds asked (unresolved_said unresolved.now).wants zones.old zones.new) }
+        → LearnsSome Z.finds asked (half_gives half.now).wants zones.old zones.new) }
     ensures err { IfErr result (λ fault. fault ≡ RunFault.Memory) }
 {
-    let wanted = wanted(alloc, unresolved)?;
+    let wanted = half.wanted(alloc)?;
     answered.ask_all(alloc, zones, &wanted)?;
     Ok(answered.lacks(&wanted))
 }
@@ -80,48 +171,47 @@ fn outcome_with<Z: ZoneSource>(
     alloc: Global,
     zones: &mut Z,
     answered: &mut Answered,
-    unresolved: UnresolvedFile,
+    half: HalfRead<'_>,
 ) -> Result<Outcome, RunFault>
-    ensures ok { IfOk result (λ outcome. (bytes : List ℕ) (asked : List Asked) → unresolved_said unresolved ≡ unresolved_of bytes
-        → Knows asked answered.old
-        → Settles Z.finds asked (Some bytes) zones.old zones.new answered.new (seen_outcome outcome)) }
-    ensures some { OnErr result ((bytes : List ℕ) (asked : List Asked) → unresolved_said unresolved ≡ unresolved_of bytes
-        → Knows asked answered.old → LearnsSome Z.finds asked (wanted_names bytes) zones.old zones.new) }
+    ensures ok { IfOk result (λ outcome. (asked : List Asked) → Knows asked answered.old → WantedCount (half_gives half.entry)
+        → Settles Z.finds asked (half_gives half.entry) zones.old zones.new answered.new (seen_outcome outcome)) }
+    ensures some { OnErr result ((asked : List Asked) → Knows asked answered.old
+        → LearnsSome Z.finds asked (half_gives half.entry).wants zones.old zones.new) }
     ensures err { IfErr result (λ fault. fault ≡ RunFault.Memory) }
 {
-    only_wanted_files_count();
-    match wants_unread(alloc, zones, answered, &unresolved) {
-        Ok(false) => settled(alloc, unresolved, &answered.files),
+    match wants_unread(alloc, zones, answered, &half) {
+        Ok(false) => half.settle(alloc, &answered.files),
         Ok(true) => {
-            drop(unresolved);
-            Ok(Outcome::Refused(Refusal::Unread))
+            drop(half);
+            Ok(Outcome::refused(alloc, Refusal::Unread)?)
         }
         Err(fault) => {
-            drop(unresolved);
+            drop(half);
             Err(fault)
         }
     }
 }
 
-/// What the bytes of a file come to.
+/// What the bytes of a file of that name come to.
 fn outcome_of<Z: ZoneSource>(
     alloc: Global,
     zones: &mut Z,
     answered: &mut Answered,
+    name: &str,
     bytes: &[u8],
+    keep_going: bool,
 ) -> Result<Outcome, RunFault>
     requires { length bytes.now ≤ most_bytes }
     ensures ok { IfOk result (λ outcome. (asked : List Asked) → Knows asked answered.old
-        → Settles Z.finds asked (Some bytes.now) zones.old zones.new answered.new (seen_outcome outcome)) }
+        → Settles Z.finds asked (given_by_file keep_going name.now bytes.now) zones.old zones.new answered.new (seen_outcome outcome)) }
     ensures some { OnErr result ((asked : List Asked) → Knows asked answered.old
-        → LearnsSome Z.finds asked (wanted_names bytes.now) zones.old zones.new) }
+        → LearnsSome Z.finds asked (given_by_file keep_going name.now bytes.now).wants zones.old zones.new) }
     ensures err { IfErr result (λ fault. fault ≡ RunFault.Memory) }
 {
-    match UnresolvedFile::read(alloc, bytes) {
-        Ok(unresolved) => outcome_with(alloc, zones, answered, unresolved),
-        Err(FileFault::At { line, kind }) => Ok(Outcome::Refused(Refusal::At { line, kind })),
-        Err(FileFault::Memory) => Err(RunFault::Memory),
-    }
+    only_wanted_files_count();
+    only_names_for_parts_count();
+    let half = HalfRead::read(alloc, name, bytes, keep_going)?;
+    outcome_with(alloc, zones, answered, half)
 }
 
 /// Reads a file, and asks for the names that it wants. Only a failed allocation is a fault here; a file
@@ -132,17 +222,26 @@ pub(crate) fn read_outcome<S: Source, Z: ZoneSource>(
     zones: &mut Z,
     answered: &mut Answered,
     index: usize,
+    keep_going: bool,
 ) -> Result<Outcome, RunFault>
     requires { index < length (S.names source.old) }
     ensures names { S.names source.new ≡ S.names source.old }
     ensures read { (answer : Answer) × S.reads source.old index answer source.new
-        × IfOk result (λ outcome. IsOutcome Z.finds answer zones.old zones.new answered.old answered.new (seen_outcome outcome))
-        × OnErr result (EndsReading Z.finds answer zones.old zones.new answered.old) }
+        × IfOk result (λ outcome. IsOutcome Z.finds keep_going (name_at (S.names source.old) index) answer zones.old zones.new answered.old answered.new
+        (seen_outcome outcome))
+        × OnErr result (EndsReading Z.finds keep_going (name_at (S.names source.old) index) answer zones.old zones.new answered.old) }
     ensures err { IfErr result (λ fault. fault ≡ RunFault.Memory) }
 {
     match source.read(alloc, index) {
-        Ok(bytes) => outcome_of(alloc, zones, answered, &bytes),
+        Ok(bytes) => outcome_of(
+            alloc,
+            zones,
+            answered,
+            source.name(index),
+            &bytes,
+            keep_going,
+        ),
         Err(SourceFault::Memory) => Err(RunFault::Memory),
-        Err(_) => Ok(Outcome::Refused(Refusal::Unread)),
+        Err(_) => Ok(Outcome::refused(alloc, Refusal::Unread)?),
     }
 }

@@ -2,27 +2,28 @@
 ghost use Rattle.std.specs.Prelude.{◌≡◌, ◌≢◌, ◌↔◌, ◌++◌, List, [], IfOk, IfErr, OnOk, map};
 ghost use Rattle.ics_event.specs.Event.{said_by};
 ghost use Rattle.khal_ports.specs.Answers.{Contents};
-ghost use Rattle.khal_reading.specs.Errors.{events_first, error_line};
-ghost use Rattle.khal_reading.specs.Asked.{all_wanted, Asked, AsksAll, AsksSome};
+ghost use Rattle.khal_reading.specs.Errors.{lines_of};
+ghost use Rattle.khal_reading.specs.Asked.{Asked, AsksAll, AsksSome};
+ghost use Rattle.khal_reading.specs.Gives.{all_wanted, file_first, reads_of};
 ghost use Rattle.khal_reading.specs.Outcomes.{seen_outcome, IsReading};
 ghost use Rattle.khal_ports.specs.Reads.{ReadsAll, ReadsSome};
 
 use crate::answered::Answered;
 use crate::outcome::{Outcome, read_outcome};
-use crate::refusal::add_refusal_line;
+use crate::refusal::add_refusal_lines;
 use crate::status::Status;
-use ics_calendar::only_wanted_files_count;
+use ics_calendar::{only_names_for_parts_count, only_wanted_files_count};
 use ics_event::FileEvents;
 use khal_ports::{RunFault, Source, ZoneSource};
 use std::alloc::Global;
 
-/// What is kept from the files of a source: the events of the accepted files, and the lines of the
-/// others.
+/// What is kept from the files of a source: the events that they give, and the lines of those that are not
+/// listed, or not whole.
 #[derive(Drop)]
 pub struct Reading {
-    /// The events of the accepted files, in the order of the reads.
+    /// The files that are listed, in the order of the reads.
     pub files: Vec<FileEvents>,
-    /// A line for each file that is not listed, in the order of the reads.
+    /// The lines of the files that are not listed, or not whole, in the order of the reads.
     pub errors: Vec<u8>,
 }
 
@@ -37,24 +38,23 @@ impl Reading {
         }
     }
 
-    /// Keeps the events of the next file, or the line that says why it is not listed.
+    /// Keeps the events of the next file, and the lines that say why it is not listed, or not whole.
     fn keep(&mut self, alloc: Global, name: &str, outcome: Outcome) -> Result<(), RunFault>
         ensures files { OnOk result (map said_by self.new.files.items
-            ≡ map said_by self.old.files.items ++ events_first (seen_outcome outcome) []) }
+            ≡ map said_by self.old.files.items ++ file_first (seen_outcome outcome).file) }
         ensures errors { OnOk result (self.new.errors.items
-            ≡ self.old.errors.items ++ error_line name.now (seen_outcome outcome)) }
+            ≡ self.old.errors.items ++ lines_of name.now (seen_outcome outcome).refusals) }
         ensures err { IfErr result (λ fault. fault ≡ RunFault.Memory) }
     {
-        match outcome {
-            Outcome::Accepted(file) => self.files.push(file)?,
-            Outcome::Refused(refusal) => {
-                add_refusal_line(alloc, &mut self.errors, name, refusal)?;
-            }
+        let Outcome { file, refusals } = outcome;
+        if let Some(file) = file {
+            self.files.push(file)?;
         }
+        add_refusal_lines(alloc, &mut self.errors, name, &refusals)?;
         Ok(())
     }
 
-    /// How a run ends that reads this: Faulty if a file is not listed.
+    /// How a run ends that reads this: Faulty if a file is not listed, or not whole.
     pub fn status(&self) -> Status
         ensures { (result ≡ Status.Faulty) ↔ (self.now.errors.items ≢ []) }
     {
@@ -68,27 +68,30 @@ impl Reading {
 
 /// Reads each file of the source once, in order, and asks `zones` for each name that the files want and no
 /// VTIMEZONE defines, for each once in a run. A file that cannot be read, or one of whose zone files cannot,
-/// and a file that is refused have a line in the errors: none of them is a fault here. Memory if an allocation
+/// and a file that is refused have a line in the errors: none of them is a fault here. With `keep_going` a file
+/// gives the events of its accepted parts, and has a line for each fault that is named. Memory if an allocation
 /// failed, and then only the first of the files are read.
 pub fn read_all<S: Source, Z: ZoneSource>(
     alloc: Global,
     source: &mut S,
     zones: &mut Z,
+    keep_going: bool,
 ) -> Result<Reading, RunFault>
     ensures some { (contents : List Contents) × (asked : List Asked)
         × ReadsSome S.reads (S.names source.old) source.old contents source.new
-        × AsksSome Z.finds [] (all_wanted contents) zones.old asked zones.new }
+        × AsksSome Z.finds [] (all_wanted keep_going (reads_of (S.names source.old) contents)) zones.old asked zones.new }
     ensures all { IfOk result (λ reading. (contents : List Contents) × (asked : List Asked)
         × ReadsAll S.reads (S.names source.old) source.old contents source.new
-        × AsksAll Z.finds [] (all_wanted contents) zones.old asked zones.new
-        × IsReading (S.names source.old) asked contents (map said_by reading.files.items) reading.errors.items) }
+        × AsksAll Z.finds [] (all_wanted keep_going (reads_of (S.names source.old) contents)) zones.old asked zones.new
+        × IsReading keep_going asked (reads_of (S.names source.old) contents) (map said_by reading.files.items) reading.errors.items) }
     ensures err { IfErr result (λ fault. fault ≡ RunFault.Memory) }
 {
     only_wanted_files_count();
+    only_names_for_parts_count();
     let mut reading = Reading::new(alloc);
     let mut answered = Answered::new(alloc);
     for index in 0..source.count() {
-        let outcome = read_outcome(alloc, source, zones, &mut answered, index)?;
+        let outcome = read_outcome(alloc, source, zones, &mut answered, index, keep_going)?;
         reading.keep(alloc, source.name(index), outcome)?;
     }
     Ok(reading)

@@ -1,22 +1,23 @@
-use Rattle.std.proofs.Common.{ℕ, refl, sym, ap, ap₂, ◌∙◌, subst, Err}
-use Rattle.ics_calendar.specs.UnresolvedFiles.{IsFaultOf}
-use Rattle.ics_calendar.specs.Files.{wanted_names}
-use Rattle.ics_components.specs.declared.fault.FaultKind.{FaultKind}
-use Rattle.khal_reading.specs.Errors.{file_or_refusal}
+use Rattle.std.proofs.Common.{Some, subst, sym}
+use Rattle.std.proofs.lemmas.Result.{IfOk-weaker}
+use Rattle.khal_reading.specs.Gives.{FileGives, given_by_file}
+use Rattle.khal_reading.specs.Learned.{Settles, WantedCount}
+use Rattle.khal_reading.specs.Outcomes.{seen_outcome}
 use Rattle.khal_reading.proofs.LearnedLemmas.{learns-nothing}
-use Rattle.khal_reading.proofs.OutcomeLemmas.{settles-fault}
+use Rattle.khal_reading.proofs.OutcomeLemmas.{all-count}
+use Rattle.khal_ports.proofs.Written.{on_err}
 use Rattle.khal_reading.proofs.outcome.outcome_of.Goals as goal
 
-pub returns-in-Err-At-clause-ok : goal.returns-in-Err-At-clause-ok
-returns-in-Err-At-clause-ok g c = λ asked k.
-    let fault = subst (IsFaultOf c.args.bytes.now) c.in-Err-At.field-0-is c.in-Err-At.ensures.fault in
-    let base = settles-fault g.Z.ZoneSource.finds asked c.args.bytes.now c.args.zones.now c.args.zones.now c.args.answered.now k refl fault.1 _
-    (λ files. sym (ap file_or_refusal (fault.0 files))) in
-    record {
-      learns = base.learns;
-      outcome_is = ap₂ (λ (l : ℕ) (kind : FaultKind). file_or_refusal (Err (record { line = l; kind = kind }))) c.in-Err-At.line-is c.in-Err-At.kind-is
-          ∙ base.outcome_is;
-    }
+pub returns-in_err-half-clause-some : goal.returns-in_err-half-clause-some
+returns-in_err-half-clause-some g c =
+    on_err c.from_residual.result (λ asked k.
+    learns-nothing g.Z.ZoneSource.finds asked (given_by_file c.args.keep_going c.args.name.now c.args.bytes.now).wants c.args.zones.now)
 
-pub returns-in-Err-Memory-clause-some : goal.returns-in-Err-Memory-clause-some
-returns-in-Err-Memory-clause-some g c = λ asked k. learns-nothing g.Z.ZoneSource.finds asked (wanted_names c.args.bytes.now) c.args.zones.now
+pub returns-clause-ok : goal.returns-clause-ok
+returns-clause-ok g c =
+    let file : FileGives = given_by_file c.args.keep_going c.args.name.now c.args.bytes.now in
+    let count : WantedCount file =
+    all-count c.only_wanted_files_count.ensures c.only_names_for_parts_count.ensures c.args.keep_going (c.args.name.now, Some c.args.bytes.now) in
+    IfOk-weaker c.outcome_with.result _ _ (λ outcome settles asked k.
+    subst (λ (f : FileGives). Settles g.Z.ZoneSource.finds asked f c.args.zones.now c.outcome_with.new.zones c.outcome_with.new.answered (seen_outcome outcome))
+    c.in_ok-half.ensures.ok (settles asked k (subst WantedCount (sym c.in_ok-half.ensures.ok) count))) c.outcome_with.ensures.ok
