@@ -21,8 +21,8 @@ use Rattle.khal_list.specs.declared.request.Request.{Request}
 use Rattle.khal_reading.specs.declared.status.Status.{Status}
 use Rattle.khal_reading.specs.declared.status.Status.TheVariants.{Faulty}
 use Rattle.khal_ports.specs.Answers.{Answer, Contents}
-use Rattle.khal_reading.specs.Asked.{all_wanted, Asked, AsksAll, AsksSome}
-use Rattle.khal_reading.specs.Errors.{error_lines}
+use Rattle.khal_reading.specs.Asked.{Asked, AsksAll, AsksSome}
+use Rattle.khal_reading.specs.Gives.{all_wanted, error_lines, reads_of}
 use Rattle.khal_ports.specs.Finds.{FindAnswer}
 use Rattle.khal_ports.specs.Growth.{TookFront}
 use Rattle.khal_list.specs.Headline.{more_line, Inputs, Lists, Outputs, Shown, ShownInPart, Shows, ShowsDays, ShowsOnce, Stops}
@@ -94,7 +94,8 @@ shows-days {request = request} {every_day = every_day} lent {list = list} zone k
 module _ {S Z : Type 0} {reads : S → ℕ → Answer → S → Type 0} {finds : Z → List ℕ → FindAnswer → Z → Type 0} {i : Inputs S Z} {request : Request} where
   -- an allocation failed while files were read
   pub stops-reading : {out err : Option (List ℕ)} → (contents : List Contents) × (asked : List Asked)
-      × ReadsSome reads i.names i.source contents i.source_after × AsksSome finds [] (all_wanted contents) i.zones asked i.zones_after →
+      × ReadsSome reads i.names i.source contents i.source_after
+      × AsksSome finds [] (all_wanted request.keep_going (reads_of i.names contents)) i.zones asked i.zones_after →
       Stops reads finds i request (record { out = out; out_after = out; err = err; err_after = err })
   stops-reading {err = err} some = inl (record {
     contents = some.0;
@@ -108,7 +109,8 @@ module _ {S Z : Type 0} {reads : S → ℕ → Answer → S → Type 0} {finds :
   -- the files are read, and their lines are given to `err`
   module _ {o : Outputs} {files : List FileSaid} {errors given : List ℕ}
       (all : (contents : List Contents) × (asked : List Asked) × ReadsAll reads i.names i.source contents i.source_after
-      × AsksAll finds [] (all_wanted contents) i.zones asked i.zones_after × IsReading i.names asked contents files errors) (same : given ≡ errors) where
+      × AsksAll finds [] (all_wanted request.keep_going (reads_of i.names contents)) i.zones asked i.zones_after
+      × IsReading request.keep_going asked (reads_of i.names contents) files errors) (same : given ≡ errors) where
     -- they were not written whole
     pub stops-lines : o.out_after ≡ o.out → TookFront o.err o.err_after given → Stops reads finds i request o
     stops-lines none front = inl (record {
@@ -155,7 +157,8 @@ module _ {S Z : Type 0} {reads : S → ℕ → Answer → S → Type 0} {finds :
           token = token;
           shows = subst (λ these. Shows these request some.0 token) all.4.files_are some.1;
           text = some.2;
-          errors = appends-both o.err told o.err_after (error_lines i.names all.1 all.0) (more_line token)
+          errors = appends-both o.err told o.err_after (error_lines request.keep_going all.1 (reads_of i.names all.0)) (more_line token)
               (appends-same o.err told (same ∙ all.4.errors_are) wrote, more);
-          faulty = lines-refused all.1 i.names all.0 (status ≡ Faulty) all.2.each (subst (λ these. (status ≡ Faulty) ↔ (these ≢ [])) all.4.errors_are faulty);
+          faulty = lines-refused request.keep_going all.1 (reads_of i.names all.0) (status ≡ Faulty)
+              (subst (λ these. (status ≡ Faulty) ↔ (these ≢ [])) all.4.errors_are faulty);
         }

@@ -23,6 +23,7 @@ pub record SameRequest (a b : Request) : Type 0 where
   pub folder : string_bytes a.folder ≡ string_bytes b.folder
   pub zone : display_said a.zone ≡ display_said b.zone
   pub zones : option_map string_bytes a.zones ≡ option_map string_bytes b.zones
+  pub keep_going : a.keep_going ≡ b.keep_going
   pub from : a.window.from ≡ b.window.from
   pub to : a.window.to ≡ b.window.to
   pub notstarted : a.window.notstarted ≡ b.window.notstarted

@@ -1,5 +1,5 @@
 -- THE HEADLINE: what a run reads, lists and writes.
-use Rattle.std.specs.Prelude.{◌≡◌, ◌↔◌, ◌⊎◌, ℕ, List, [], ◌∷◌, ◌++◌, Option, Some, None, Any, IsErr, codes}
+use Rattle.std.specs.Prelude.{◌≡◌, ◌↔◌, ◌⊎◌, ℕ, List, [], ◌∷◌, ◌++◌, Option, Some, None, Any, IsTrue, codes}
 use Rattle.std.specs.Io.KnownBytes.{Appends}
 use Rattle.std.specs.Option.{option_map}
 use Rattle.ics_event.specs.Event.{FileSaid}
@@ -14,8 +14,8 @@ use Rattle.khal_list.specs.declared.request.Request.{Request}
 use Rattle.khal_reading.specs.declared.status.Status.{Status}
 use Rattle.khal_reading.specs.declared.status.Status.TheVariants.{Faulty}
 use Rattle.khal_ports.specs.Answers.{Answer, Contents}
-use Rattle.khal_reading.specs.Asked.{all_wanted, Asked, AsksAll, AsksSome}
-use Rattle.khal_reading.specs.Errors.{accepted, error_lines, file_by}
+use Rattle.khal_reading.specs.Asked.{Asked, AsksAll, AsksSome}
+use Rattle.khal_reading.specs.Gives.{Read, all_wanted, error_lines, is_faulty, listed_files, reads_of}
 use Rattle.khal_ports.specs.Finds.{FindAnswer}
 use Rattle.khal_ports.specs.Growth.{TookFront}
 use Rattle.khal_list.specs.Listed.{asked_after, asked_after_day, day_key_on, days_text_of, key_on, listing_text}
@@ -90,40 +90,41 @@ pub record Outputs : Type 0 where
   pub err_after : Option (List ℕ)
 
 -- Every file was read once, in order, and each name that the files want was asked for once, in order. `out` has gained exactly the text that the
--- request shows of the accepted files. `err` has gained exactly the lines of the files that were not read or are refused and, if the limit cut the
--- listing, the line with the token from which it continues. The status is Faulty exactly if there is a line of a file.
+-- request shows of what the files give: the events of the accepted ones and, if the request goes on behind faults, those of the accepted parts of the
+-- others. `err` has gained exactly the lines of the files that are not listed, or not whole, and, if the limit cut the listing, the line with the token
+-- from which it continues. The status is Faulty exactly if there is a line of a file.
 pub record Lists {S Z : Type 0} (reads : S → ℕ → Answer → S → Type 0) (finds : Z → List ℕ → FindAnswer → Z → Type 0) (inputs : Inputs S Z)
     (request : Request) (outputs : Outputs) (status : Status) : Type 0 where
   pub contents : List Contents
   pub read : ReadsAll reads inputs.names inputs.source contents inputs.source_after
   pub asked : List Asked
-  pub gave : AsksAll finds [] (all_wanted contents) inputs.zones asked inputs.zones_after
+  pub gave : AsksAll finds [] (all_wanted request.keep_going (reads_of inputs.names contents)) inputs.zones asked inputs.zones_after
   pub shown : List ℕ
   pub token : Option (List ℕ)
-  pub shows : Shows (accepted asked contents) request shown token
+  pub shows : Shows (listed_files request.keep_going asked (reads_of inputs.names contents)) request shown token
   pub text : Appends outputs.out outputs.out_after shown
-  pub errors : Appends outputs.err outputs.err_after (error_lines inputs.names asked contents ++ more_line token)
-  pub faulty : (status ≡ Faulty) ↔ Any (λ given. IsErr (file_by asked given)) contents
+  pub errors : Appends outputs.err outputs.err_after (error_lines request.keep_going asked (reads_of inputs.names contents) ++ more_line token)
+  pub faulty : (status ≡ Faulty) ↔ Any (λ read. IsTrue (is_faulty request.keep_going asked read)) (reads_of inputs.names contents)
 
 -- What was written if a run ends with a fault after every file is read and all their lines are in `err`, which then has taken this: a prefix of the
 -- text that the request shows in `out`, or that whole text and a prefix of the last line in `err`.
-pub record StopsListing (asked : List Asked) (contents : List Contents) (request : Request) (outputs : Outputs) (told : Option (List ℕ)) : Type 0 where
+pub record StopsListing (asked : List Asked) (reads : List Read) (request : Request) (outputs : Outputs) (told : Option (List ℕ)) : Type 0 where
   pub shown : List ℕ
   pub token : Option (List ℕ)
-  pub shows : Shows (accepted asked contents) request shown token
+  pub shows : Shows (listed_files request.keep_going asked reads) request shown token
   pub taken :
       ((outputs.err_after ≡ told) × TookFront outputs.out outputs.out_after shown)
       ⊎ (Appends outputs.out outputs.out_after shown × TookFront told outputs.err_after (more_line token))
 
 -- What was written if a run ends with a fault while it reads: nothing in `out` and, in `err`, a prefix of the lines of the files that were read.
 pub record StopsReading {S Z : Type 0} (reads : S → ℕ → Answer → S → Type 0) (finds : Z → List ℕ → FindAnswer → Z → Type 0) (inputs : Inputs S Z)
-    (outputs : Outputs) : Type 0 where
+    (request : Request) (outputs : Outputs) : Type 0 where
   pub contents : List Contents
   pub read : ReadsSome reads inputs.names inputs.source contents inputs.source_after
   pub asked : List Asked
-  pub gave : AsksSome finds [] (all_wanted contents) inputs.zones asked inputs.zones_after
+  pub gave : AsksSome finds [] (all_wanted request.keep_going (reads_of inputs.names contents)) inputs.zones asked inputs.zones_after
   pub none : outputs.out_after ≡ outputs.out
-  pub lines : TookFront outputs.err outputs.err_after (error_lines inputs.names asked contents)
+  pub lines : TookFront outputs.err outputs.err_after (error_lines request.keep_going asked (reads_of inputs.names contents))
 
 -- The same if every file is read and all their lines are in `err`.
 pub record StopsWriting {S Z : Type 0} (reads : S → ℕ → Answer → S → Type 0) (finds : Z → List ℕ → FindAnswer → Z → Type 0) (inputs : Inputs S Z)
@@ -131,11 +132,11 @@ pub record StopsWriting {S Z : Type 0} (reads : S → ℕ → Answer → S → T
   pub contents : List Contents
   pub read : ReadsAll reads inputs.names inputs.source contents inputs.source_after
   pub asked : List Asked
-  pub gave : AsksAll finds [] (all_wanted contents) inputs.zones asked inputs.zones_after
+  pub gave : AsksAll finds [] (all_wanted request.keep_going (reads_of inputs.names contents)) inputs.zones asked inputs.zones_after
   pub told : Option (List ℕ)
-  pub lines : Appends outputs.err told (error_lines inputs.names asked contents)
-  pub stops : StopsListing asked contents request outputs told
+  pub lines : Appends outputs.err told (error_lines request.keep_going asked (reads_of inputs.names contents))
+  pub stops : StopsListing asked (reads_of inputs.names contents) request outputs told
 
 -- What was written if a run ends with a fault: it ended as it read, or in the listing or the last line.
 abbrev pub Stops : {S Z : Type 0} → (S → ℕ → Answer → S → Type 0) → (Z → List ℕ → FindAnswer → Z → Type 0) → Inputs S Z → Request → Outputs → Type 0
-Stops reads finds inputs request outputs = StopsReading reads finds inputs outputs ⊎ StopsWriting reads finds inputs request outputs
+Stops reads finds inputs request outputs = StopsReading reads finds inputs request outputs ⊎ StopsWriting reads finds inputs request outputs

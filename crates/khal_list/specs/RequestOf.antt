@@ -86,6 +86,7 @@ pub record IsRequest (entries : Entries) (said : ZoneSaid) (now : ℤ) (request 
   pub folder : string_bytes request.folder ≡ entries_text (codes "folder") entries
   pub zone : display_said request.zone ≡ said
   pub zones : option_map string_bytes request.zones ≡ zones_text entries
+  pub keep_going : IsTrue request.keep_going ↔ (entries_text (codes "keep-going") entries ≡ codes "true")
   pub window : Some (request.window.from, request.window.to) ≡ ends_of said now (span_of entries)
   pub notstarted : IsTrue request.window.notstarted ↔ (entries_text (codes "notstarted") entries ≡ codes "true")
   pub limit : IsLimitOf (limit_text entries) request.limit

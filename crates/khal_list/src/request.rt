@@ -21,6 +21,8 @@ pub struct Request {
     pub zone: Display,
     /// The folder of zone files for names that a calendar does not define.
     pub zones: Option<String>,
+    /// Whether the sound events of a file that has faults are listed too.
+    pub keep_going: bool,
     pub window: Window,
     /// The most entries that are listed.
     pub limit: Option<u32>,
@@ -37,9 +39,9 @@ impl Request {
     ghost use Rattle.khal_list.specs.RequestOf.{RequestOf};
 
     /// The request of the words after the program's name, in the display zone that `--zone` names, at a
-    /// clock: `list FOLDER [START [END]] [--zone Z] [--zones DIR] [--limit N] [--after TOKEN]
-    /// [--notstarted] [--every-day] [--format F] [--day-format F]` or `at FOLDER MOMENT [--zone Z]
-    /// [--zones DIR]`.
+    /// clock: `list FOLDER [START [END]] [--zone Z] [--zones DIR] [--keep-going] [--limit N]
+    /// [--after TOKEN] [--notstarted] [--every-day] [--format F] [--day-format F]` or
+    /// `at FOLDER MOMENT [--zone Z] [--zones DIR] [--keep-going]`.
     ///
     /// Faults are reported in this order: Usage if the words are refused, BadZone if `--zone` does not name
     /// a display zone, or if the words have `--zone-file`, whose file has to be read first, and those of

@@ -122,8 +122,9 @@ fn list_whole<O: Sink>(
 
 /// Reads each file of the source once, in order, and asks `zones` for the names that they want and no
 /// VTIMEZONE defines, for each once in a run. A file is not read if one of its zone files is not. Writes to
-/// `err` a line for each file that is not read or is refused, and then to `out` the listing of the others:
-/// each of their occurrences that meets the request's window once, in the order of start, UID and
+/// `err` a line for each file that is not read or is refused, and then to `out` the listing of the others.
+/// With `keep_going` the accepted parts of refused files are listed too, and each fault that is named has a
+/// line. The listing has each occurrence that meets the request's window once, in the order of start, UID and
 /// recurrence, or if the request asks for it under each of its days there, by day and then in that order;
 /// of these those after the request's key, up to its limit. Behind it `out` is flushed. If the limit cuts
 /// them, then the last line on `err` says where the listing continues.
@@ -149,7 +150,7 @@ pub fn run<S: Source, Z: ZoneSource, O: Sink, E: Sink>(
     ensures cause { IsErrOf result RunFault.WriteFault
         → (LeftByFault O.puts out.new ⊎ LeftByFlush O.flushes (Err Device) out.new) ⊎ LeftByFault E.puts err.new }
 {
-    let reading = read_all(alloc, source, zones)?;
+    let reading = read_all(alloc, source, zones, request.keep_going)?;
     put_all(err, &reading.errors)?;
     let status = reading.status();
     let token = list_whole(alloc, reading.files, request, out)?;

@@ -45,8 +45,9 @@ impl<'a> Words<'a> {
     ghost use Rattle.khal_list.specs.RequestOf.{WordsOf, zone_named};
 
     /// What clap makes of the words after the program's name: `list FOLDER [START [END]] [--zone Z |
-    /// --zone-file FILE] [--zones DIR] [--limit N] [--after TOKEN] [--notstarted] [--every-day]
-    /// [--format F] [--day-format F]` or `at FOLDER MOMENT [--zone Z | --zone-file FILE] [--zones DIR]`.
+    /// --zone-file FILE] [--zones DIR] [--keep-going] [--limit N] [--after TOKEN] [--notstarted]
+    /// [--every-day] [--format F] [--day-format F]` or `at FOLDER MOMENT [--zone Z | --zone-file FILE]
+    /// [--zones DIR] [--keep-going]`.
     /// Usage if clap refuses them, or if they have both `--zone` and `--zone-file`.
     pub fn of(alloc: Global, words: &'a [&'a str]) -> Result<Words<'a>, RequestFault>
         ensures { WordsOf (map (λ word. word.now) words.entry.now) result }
@@ -150,6 +151,7 @@ fn request_of(
         folder,
         zone: zone.clone()?,
         zones,
+        keep_going: is_given(found, "keep-going"),
         window,
         limit: limit_of(found),
         after: after.once,

@@ -84,6 +84,7 @@ same_request one {entries = entries} {zone = zone} {now = now} {a = a} {b = b} p
       folder = p.folder ∙ sym q.folder;
       zone = p.zone ∙ sym q.zone;
       zones = p.zones ∙ sym q.zones;
+      keep_going = same_from_decides a.keep_going b.keep_going p.keep_going q.keep_going;
       from = from;
       to = to;
       notstarted = same_from_decides a.window.notstarted b.window.notstarted p.notstarted q.notstarted;
