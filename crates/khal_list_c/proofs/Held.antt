@@ -1,11 +1,11 @@
 -- What a run over files in memory reads and finds.
-use Rattle.std.proofs.Common.{◌≡◌, ◌↔◌, ◌++◌, Any, IsErr, ℕ, suc, ◌+◌, List, [], ◌∷◌, length, map, slice_get, Option, Some, None, Ok, Err}
-use Rattle.std.proofs.Common.{string_bytes, refl, sym, ap, subst, ◌∙◌, arith}
+use Rattle.std.proofs.Common.{◌≡◌, ◌↔◌, ◌++◌, Any, IsTrue, ℕ, suc, ◌+◌, List, [], ◌∷◌, length, map, slice_get, Option, Some, None, Ok, Err}
+use Rattle.std.proofs.Common.{string_bytes, refl, sym, ap, ap₂, subst, ◌∙◌, arith}
 use Rattle.std.proofs.lemmas.Grind.{common_steps}
 use Rattle.khal_list.specs.Headline.{Lists, Shows, more_line}
 use Rattle.khal_list.specs.declared.request.Request.{Request}
-use Rattle.khal_reading.specs.Asked.{Asked, FindsEach, all_wanted, and_names, names_of}
-use Rattle.khal_reading.specs.Errors.{accepted, error_lines, file_by}
+use Rattle.khal_reading.specs.Asked.{Asked, FindsEach, and_names, names_of}
+use Rattle.khal_reading.specs.Gives.{Read, all_wanted, error_lines, is_faulty, listed_files, reads_of}
 use Rattle.khal_reading.specs.declared.status.Status.{Status}
 use Rattle.khal_reading.specs.declared.status.Status.TheVariants.{Faulty}
 use Rattle.khal_ports.specs.Answers.{Answer, Contents, IsRead}
@@ -17,7 +17,7 @@ use Rattle.khal_ports.specs.declared.memory_source.MemoryFile.{MemoryFile}
 use Rattle.khal_ports.specs.declared.memory_source.MemorySource.{MemorySource}
 use Rattle.khal_ports.specs.declared.memory_zones.MemoryZones.{MemoryZones}
 use Rattle.khal_list_c.specs.Given.{File, held_file, held_files, held_zones}
-use Rattle.khal_list_c.specs.Listed.{asked_for, asked_of, contents_of, contents_given, found_by, ListsFiles}
+use Rattle.khal_list_c.specs.Listed.{asked_for, asked_of, contents_of, found_by, reads_given, ListsFiles}
 
 -- how a source in memory is read, and how one of zone files is asked
 abbrev pub reads_held : MemorySource → ℕ → Answer → MemorySource → Type 0
@@ -94,20 +94,23 @@ pub lists-files : (source source_after : MemorySource) (zones zones_after : Memo
     → ListsFiles (held_files source) (held_zones zones) request out err status
 lists-files source source_after zones zones_after request out err status lists =
     let files : List File = held_files source in
-    let contents : lists.contents ≡ contents_given files = read-all source source_after 0 lists.contents files
+    let going = request.keep_going in
+    let contents : lists.contents ≡ map contents_of files = read-all source source_after 0 lists.contents files
     (λ k. moved _ k (0 + k) _ (omega arith) (ap (λ all. slice_get all k) (bytes-held source.files.items)))
     (lists.read.each ∙ length-held source.files.items) lists.read.from_first in
-    let asked : lists.asked ≡ asked_of files (held_zones zones) =
+    let read : reads_of (map (λ file. string_bytes file.name) source.files.items) lists.contents ≡ reads_given files =
+    ap₂ reads_of (names-held source.files.items) contents in
+    let asked : lists.asked ≡ asked_of going files (held_zones zones) =
     find-all zones zones_after lists.asked lists.gave.each
-    ∙ ap (λ names. map (asked_for (held_zones zones)) names) (lists.gave.names ∙ ap (λ given. and_names [] (all_wanted given)) contents) in
+    ∙ ap (λ names. map (asked_for (held_zones zones)) names) (lists.gave.names ∙ ap (λ given. and_names [] (all_wanted going given)) read) in
     record {
       token = lists.token;
-      shows = subst (λ a. Shows (accepted a (contents_given files)) request out lists.token) asked
-          (subst (λ given. Shows (accepted lists.asked given) request out lists.token) contents
-          (subst (λ text. Shows (accepted lists.asked lists.contents) request text lists.token) (sym lists.text) lists.shows));
-      told = subst (λ a. err ≡ error_lines (map (λ file. file.0) files) a (contents_given files) ++ more_line lists.token) asked
-          (subst (λ given. err ≡ error_lines (map (λ file. file.0) files) lists.asked given ++ more_line lists.token) contents
-          (subst (λ names. err ≡ error_lines names lists.asked lists.contents ++ more_line lists.token) (names-held source.files.items) lists.errors));
-      faulty = subst (λ a. (status ≡ Faulty) ↔ Any (λ given. IsErr (file_by a given)) (contents_given files)) asked
-          (subst (λ all. (status ≡ Faulty) ↔ Any (λ given. IsErr (file_by lists.asked given)) all) contents lists.faulty);
+      shows = subst (λ a. Shows (listed_files going a (reads_given files)) request out lists.token) asked
+          (subst (λ given. Shows (listed_files going lists.asked given) request out lists.token) read
+          (subst (λ text. Shows (listed_files going lists.asked (reads_of (map (λ file. string_bytes file.name) source.files.items) lists.contents)) request
+          text lists.token) (sym lists.text) lists.shows));
+      told = subst (λ a. err ≡ error_lines going a (reads_given files) ++ more_line lists.token) asked
+          (subst (λ given. err ≡ error_lines going lists.asked given ++ more_line lists.token) read lists.errors);
+      faulty = subst (λ a. (status ≡ Faulty) ↔ Any (λ read. IsTrue (is_faulty going a read)) (reads_given files)) asked
+          (subst (λ all. (status ≡ Faulty) ↔ Any (λ read. IsTrue (is_faulty going lists.asked read)) all) read lists.faulty);
     }

@@ -65,7 +65,7 @@ impl From<RunFault> for ListingFault {
     }
 }
 
-/// How long both texts are, and the status: 0, or 1 if a file was not accepted, and otherwise a fault: 2 if the words are no request, 3 if
+/// How long both texts are, and the status: 0, or 1 if a file is not listed, or not whole, and otherwise a fault: 2 if the words are no request, 3 if
 /// memory is short, and 4 if a word or a name is not UTF-8.
 #[repr(C)]
 #[derive(Clone, Copy)]
