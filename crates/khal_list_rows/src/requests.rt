@@ -29,6 +29,9 @@ fn add_set(alloc: Global, request: &Request, text: &mut String) -> Result<(), Al
     if let Some(zones) = request.zones() {
         write!(text, ", zones of {zones}")?;
     }
+    if request.keep_going {
+        text.push_str(", keep going")?;
+    }
     if request.window.notstarted {
         text.push_str(", not started")?;
     }
