@@ -90,7 +90,7 @@ typedef struct khal_file {
 
 enum {
     KHAL_CLEAN = 0,
-    KHAL_FAULTY = 1,     /* some file was not accepted; `err` says which, and why */
+    KHAL_FAULTY = 1,     /* some file is not listed, or not whole; `err` says which, and why */
     KHAL_NO_REQUEST = 2, /* the words are none, or ask for help; `err` has what clap says of them, or BadZone, BadWindow, BadToken or BadFormat */
     KHAL_MEMORY = 3,     /* an allocation failed; `err` has Memory */
     KHAL_NOT_TEXT = 4    /* a word or the name of a file is not UTF-8; `err` has NotText */
@@ -108,9 +108,10 @@ typedef struct khal_listed {
  * instant.
  *
  * Proved: if the status is KHAL_CLEAN or KHAL_FAULTY, the words are a request, `out` begins with as much as there is room for of exactly
- * the text of its listing, and `err` of exactly one line for each file that is refused and, under --limit, the line with the token from
- * which the listing continues. Both lengths are those of the whole texts. With another status `out` is as it was, and `err` begins with the
- * text that stands beside it; with KHAL_NO_REQUEST the words are no request at this clock. */
+ * the text of its listing, and `err` of exactly one line for each file that is refused, or with --keep-going for each fault that is named,
+ * and, under --limit, the line with the token from which the listing continues. Both lengths are those of the whole texts. With another
+ * status `out` is as it was, and `err` begins with the text that stands beside it; with KHAL_NO_REQUEST the words are no request at this
+ * clock. */
 khal_listed khal_list(const khal_word *words, size_t word_count, const khal_file *files, size_t file_count, const khal_file *zones,
                       size_t zone_count, const uint8_t *zone_file, size_t zone_file_length, int64_t now, uint8_t *out, size_t out_room,
                       uint8_t *err, size_t err_room);

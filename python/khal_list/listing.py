@@ -20,7 +20,7 @@ _FORMAT = '\t'.join(f'{{{field}}}' for field in _FIELDS)
 
 @dataclasses.dataclass(frozen=True)
 class CalendarFault:
-    """A file that is not listed: its name, the number of the line, or None where the file was not read, and the kind, as BadStamp."""
+    """A file that is not listed, or not whole: its name, the number of the line, or None where the file was not read, and the kind, as BadStamp."""
 
     name: str
     line: int | None
@@ -29,7 +29,7 @@ class CalendarFault:
 
 @dataclasses.dataclass(frozen=True)
 class Listing:
-    """The text of a listing, the files that it leaves out, and the token from which it goes on if --limit cut it."""
+    """The text of a listing, the faults of files that leave something out of it, and the token from which it goes on if --limit cut it."""
 
     text: str
     faults: list[CalendarFault]
@@ -128,20 +128,25 @@ def _occurrence(line: str, zone: tzinfo) -> Occurrence:
 
 def occurrences(
         files: Iterable[tuple[str, bytes]], start: datetime | date, end: datetime | date, *, zone: tzinfo = timezone.utc,
-        zones: Iterable[tuple[str, bytes]] = (), notstarted: bool = False, faults: list[CalendarFault] | None = None) -> list[Occurrence]:
+        zones: Iterable[tuple[str, bytes]] = (), notstarted: bool = False, keep_going: bool = False,
+        faults: list[CalendarFault] | None = None) -> list[Occurrence]:
     """The occurrences of files, each a pair of a name and bytes, that meet the window from `start` on and before `end`, in the order of
     their starts.
 
     A bound without tzinfo is a local time of `zone`, and a date its midnight there. Local times without a zone and dates in the files are read
     in `zone`: UTC, a fixed offset, or one of `zoneinfo` or a `Zone` by a zone file. `zones` are zone files for names that a calendar does not
     define. `notstarted` leaves out what began before the window. Files that are not accepted are left out and added to `faults`, or
-    ValueError names the first of them if that is not given."""
+    ValueError names the first of them if that is not given. `keep_going` gives the sound events of such files too; it wants `faults`, or is a
+    ValueError."""
+    if keep_going and faults is None:
+        raise ValueError('keep_going wants a list for faults')
     low, high = _moment(start, zone), _moment(end, zone)
     words, zone_file = _zone_words(zone)
     # The words have whole minutes, and of a local that comes twice they mean the first, so that the window is an hour wider here.
     first = (low.astimezone(zone) - timedelta(hours=1)).strftime('%Y-%m-%dT%H:%M').rjust(16, '0')
     last = (high.astimezone(zone) + timedelta(hours=25)).strftime('%Y-%m-%dT%H:%M').rjust(16, '0')
-    got = listing(['list', '.', first, last, *words, '--format', _FORMAT, '--day-format', ''], files, zones, zone_file, 0)
+    going = ['--keep-going'] if keep_going else []
+    got = listing(['list', '.', first, last, *words, *going, '--format', _FORMAT, '--day-format', ''], files, zones, zone_file, 0)
     if faults is None and got.faults:
         fault = got.faults[0]
         raise ValueError(f'{fault.name}: {"" if fault.line is None else f"line {fault.line}: "}{fault.kind}')

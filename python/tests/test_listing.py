@@ -121,6 +121,17 @@ class Occurrences(unittest.TestCase):
         self.assertEqual(len(occurrences([BAD, TEAM], date(2024, 1, 2), date(2024, 1, 5), faults=faults)), 4)
         self.assertEqual(faults, [CalendarFault('bad.ics', 2, 'BadLine')])
 
+    def test_keep_going(self):
+        name, text = TEAM
+        broken = (name, text.replace(b'END:VCALENDAR', b'BEGIN:VEVENT\r\nUID:no-start\r\nEND:VEVENT\r\nEND:VCALENDAR'))
+        window = date(2024, 1, 2), date(2024, 1, 5)
+        whole, faults = occurrences([TEAM], *window), []
+        self.assertEqual(occurrences([broken], *window, keep_going=True, faults=faults), whole)
+        self.assertEqual([(fault.name, fault.kind) for fault in faults], [(name, 'MissingStart')])
+        self.assertEqual(occurrences([broken], *window, faults=faults), [])
+        with self.assertRaises(ValueError):
+            occurrences([broken], *window, keep_going=True)
+
 
 if __name__ == '__main__':
     unittest.main()
