@@ -36,8 +36,8 @@ _khal_list() {
     --day-format) words='{name} {date}' ;;
     *)
         case $command:$word in
-        list:-*) words='--zone --zone-file --zones --limit --after --notstarted --every-day --format --day-format --help' ;;
-        at:-*) words='--zone --zone-file --zones --help' ;;
+        list:-*) words='--zone --zone-file --zones --keep-going --limit --after --notstarted --every-day --format --day-format --help' ;;
+        at:-*) words='--zone --zone-file --zones --keep-going --help' ;;
         :-*) words='--help --version' ;;
         :*) words='list at help' ;;
         help:*) words='list at' ;;
