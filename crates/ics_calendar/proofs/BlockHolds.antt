@@ -97,7 +97,8 @@ module _ {b : ℕ} {Line : Placed → Type 0} {Over : List Open → List Frame �
           subst Holds (reads-are (behind l.number (named c) c frames) last (and_line l.number (passing (named c) c frames) had) more left) (now c at)
       by_end c at false t e =
           again l.number (path_behind l) (behind l.number (named c) c frames) last (and_line l.number (passing (named c) c frames) had) more
-          (falls-behind l falls inner).0 h (behind-inner l b p t) (λ m i. lines m (inr i)) (is.over l c frames at (lines l (inl refl)) apart over t) (now c at) e
+          (falls-behind l falls inner).0 h (behind-inner l b p t) (λ m i. lines m (inr i)) (is.over l c frames at (lines l (inl refl)) apart over t)
+          (now c at) e
 
       by_fault : (c : Parts) → l.content ≡ Some c → (o : Option FaultKind) →
           read_behind (unless_faulty l.number o (Reads (behind l.number (named c) c frames) (and_line l.number (passing (named c) c frames) had)))
@@ -143,7 +144,8 @@ held_block {Line} {Over} {Holds} ls e is h i begins lines first none last more r
 
     by_fault : (c : Parts) → e.content ≡ Some c → (o : Option FaultKind) →
         read_behind (unless_faulty e.number o (Reads (behind e.number name.Begin c (frames_around e.path))
-        (and_line e.number (passing name.Begin c (frames_around e.path)) nothing_parsed))) (filter (is_within e.number) from.rest) ≡ Reads last more → Holds more
+        (and_line e.number (passing name.Begin c (frames_around e.path)) nothing_parsed))) (filter (is_within e.number) from.rest) ≡ Reads last more
+        → Holds more
     by_fault c at (Some kind) left =
         let broken = sym (broken-stays (filter (is_within e.number) from.rest) (record { line = e.number; kind = kind })) ∙ left in cc
     by_fault c at None left =

@@ -27,7 +27,8 @@ use Rattle.ics_components.specs.EventLines.{is_event, is_well_nested}
 use Rattle.ics_components.specs.Lines.{behind, check_in, end_check, end_in, ended_as, fault_on, passing}
 use Rattle.ics_components.specs.ParsedFileSeen.{ParsedFileSeen}
 use Rattle.ics_components.specs.ParsedFiles.{IsSoundParsed, and_line, checks_of, events_of_end, nothing_parsed}
-use Rattle.ics_components.specs.Parted.{AreInPlace, Broken, LinesRead, Reads, block_of, block_read, component_seen, frames_around, gathered_in, read_behind, read_on}
+use Rattle.ics_components.specs.Parted.{AreInPlace, Broken, LinesRead, Reads, block_of, block_read, component_seen, frames_around, gathered_in, read_behind}
+use Rattle.ics_components.specs.Parted.{read_on}
 use Rattle.ics_components.specs.Parted.{unless_faulty}
 use Rattle.ics_components.specs.PlacedLines.{Placed, named}
 use Rattle.ics_components.specs.SecondRound.{are_of_one_zone, both_compared, compared, ends_in, instant_in, instant_on, zone_check, zone_named}

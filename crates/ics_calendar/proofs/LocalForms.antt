@@ -9,7 +9,8 @@ use Rattle.std.specs.List.{Contains, list_any, onto_first, position_or_len}
 use Rattle.ics_text.specs.Bytes.{begins}
 use Rattle.ics_values.specs.Periods.{first_half, lasts, second_half}
 use Rattle.ics_values.specs.RuleTexts.{pieces}
-use Rattle.ics_values.specs.Stamps.{date_exists, day_of, is_date_form, is_date_time_form, is_local_form, is_stamp_text, is_stamp_year, is_utc_form, local_of, stamp_of}
+use Rattle.ics_values.specs.Stamps.{date_exists, day_of, is_date_form, is_date_time_form, is_local_form, is_stamp_text, is_stamp_year, is_utc_form, local_of}
+use Rattle.ics_values.specs.Stamps.{stamp_of}
 use Rattle.ics_values.specs.Stamps.{stamp_said, time_exists, year_of}
 use Rattle.ics_values.specs.Zoned.{is_zoned}
 use Rattle.ics_values.specs.declared.stamp.Stamp.TheVariants.{Date, Floating, Utc, Zoned}

@@ -18,7 +18,8 @@ use Rattle.ics_components.specs.Observances.{begins_zone}
 use Rattle.ics_components.specs.ParsedFileSeen.{ParsedFileSeen}
 use Rattle.ics_components.specs.ParsedFiles.{nothing_parsed}
 use Rattle.ics_components.specs.PartFaults.{earlier}
-use Rattle.ics_components.specs.Parted.{AreInPlace, Broken, LinesRead, PartedComponentSeen, Reads, begins_part, block_read, component_seen, gathered_in, parted_lines}
+use Rattle.ics_components.specs.Parted.{AreInPlace, Broken, LinesRead, PartedComponentSeen, Reads, begins_part, block_read, component_seen, gathered_in}
+use Rattle.ics_components.specs.Parted.{parted_lines}
 use Rattle.ics_components.specs.Parted.{version_faults}
 use Rattle.ics_components.specs.PlacedLines.{Open, Placed, calendar_of, component, context_of, in_calendar, innermost, is_begin, is_end, is_named}
 use Rattle.ics_components.specs.PlacedLines.{path_behind, value}
@@ -29,7 +30,8 @@ use Rattle.ics_components.proofs.Folds.{item_read}
 use Rattle.ics_components.proofs.ItemFaults.{AreApart, Has, IsCovered, IsIn, Rise, faults_rise, item_fault, least, rise-has}
 use Rattle.ics_components.proofs.Opened.{AllOpened, IsFound, above, any-in, begins_taken, in-any, one-begin, opened}
 use Rattle.ics_components.proofs.Order.{inside}
-use Rattle.ics_components.proofs.PartLines.{AreRoots, IsFramed, IsRooted, IsTaken, begin-framed, framed-taken, root-of, rooted-taken, roots_chosen, taken-is, takes}
+use Rattle.ics_components.proofs.PartLines.{AreRoots, IsFramed, IsRooted, IsTaken, begin-framed, framed-taken, root-of, rooted-taken, roots_chosen, taken-is}
+use Rattle.ics_components.proofs.PartLines.{takes}
 use Rattle.ics_components.proofs.RestFaults.{IsBefore, earlier-more, either-of, filter-in, fold_least, in-filter, left-or, own-line, right-or, same-truth}
 use Rattle.ics_components.proofs.RestFaults.{two-of, zones-read}
 use Rattle.ics_components.proofs.RootFaults.{IsOfRoot, IsOfVersion, roots_least, version_fault}

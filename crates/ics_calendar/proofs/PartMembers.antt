@@ -16,7 +16,8 @@ some-events ls p (k ∷ ks) among = by_event (is_event k) refl (some-events ls p
     by_chosen true e more = ((among k (inl refl), e), more)
     by_chosen false e more = more
 
-    by_event : (t : Bool) → is_event k ≡ t → IsPart ls (filter p (filter is_event ks)) → IsPart ls (filter p (cond t (k ∷ filter is_event ks) (filter is_event ks)))
+    by_event : (t : Bool) → is_event k ≡ t → IsPart ls (filter p (filter is_event ks))
+        → IsPart ls (filter p (cond t (k ∷ filter is_event ks) (filter is_event ks)))
     by_event true e more = by_chosen (p k) e more
     by_event false e more = more
 

@@ -274,7 +274,8 @@ module _ (needed : PartedComponentSeen → Option Fault) where
         (part : Part) × Contains (parts_of lines) part × (first_of_part part ≡ Some fault)
     back-number n fault e = ⊎_elim by-uid by-lone (first-back needed events n fault e)
       where
-        by-uid : ((uid : List ℕ) × (place_from 0 numbered.keys uid ≡ Some n)) → (part : Part) × Contains (parts_of lines) part × (first_of_part part ≡ Some fault)
+        by-uid : ((uid : List ℕ) × (place_from 0 numbered.keys uid ≡ Some n)) → (part : Part) × Contains (parts_of lines) part ×
+            (first_of_part part ≡ Some fault)
         by-uid h =
             let both : Some (get_or numbered.faults n None) ≡ Some (first_of_part (of_uid h.0)) =
             sym (ap (option_map (λ n. get_or numbered.faults n None)) h.1) ∙ uid-at h.0 (place-has h.0 n h.1) in

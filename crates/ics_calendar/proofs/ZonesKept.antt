@@ -174,7 +174,8 @@ zone-kept used keep (zone ∷ zones) h = by_tests (keep zone) (is_same used zone
   where
     by_tests : (s t : Bool) → keep zone ≡ s → is_same used zone.name ≡ t → zone_named used (filter keep zones) ≡ zone_named used zones →
         zone_named used (cond s (zone ∷ filter keep zones) (filter keep zones)) ≡ cond t (Some (said_by_zone zone)) (zone_named used zones)
-    by_tests true t e is again = ap (λ t. cond t (Some (said_by_zone zone)) (zone_named used (filter keep zones))) is ∙ ap (cond t (Some (said_by_zone zone))) again
+    by_tests true t e is again = ap (λ t. cond t (Some (said_by_zone zone)) (zone_named used (filter keep zones))) is
+        ∙ ap (cond t (Some (said_by_zone zone))) again
     by_tests false true e is again = let never : true ≡ false = sym (h zone is) ∙ e in cc
     by_tests false false e is again = again
 
@@ -230,7 +231,8 @@ module _ (files : GivenFiles) (zones others : List CalendarZone) (names wanted :
       kind : Bool → Bool → Option FaultKind
       kind known bad = cond known None (cond bad (Some BadZoneFile) (Some UnknownZone))
 
-      by_zone : (o : Option ZoneSaid) → zone_named used zones ≡ o → kind (is_some (mine.index used)) (bad names) ≡ kind (is_some (theirs.index used)) (bad wanted)
+      by_zone : (o : Option ZoneSaid) → zone_named used zones ≡ o → kind (is_some (mine.index used)) (bad names) ≡ kind (is_some (theirs.index used))
+          (bad wanted)
       by_zone None e =
           let same : bad names ≡ bad wanted =
           bad-is files used.name names ∙ ap (λ t. t && is_refused (files used.name)) (h.1 e) ∙ sym (bad-is files used.name wanted) in

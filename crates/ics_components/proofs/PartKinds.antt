@@ -28,7 +28,8 @@ use Rattle.ics_components.specs.Names.{same_name}
 use Rattle.ics_components.specs.ParsedFileSeen.{ParsedFileSeen}
 use Rattle.ics_components.specs.ParsedFiles.{and_line, nothing_parsed}
 use Rattle.ics_components.specs.PartFaults.{is_within}
-use Rattle.ics_components.specs.Parted.{AreInPlace, LinesRead, Reads, begins_part, block_read, frames_around, is_part, part_in, read_behind, read_on, unless_faulty}
+use Rattle.ics_components.specs.Parted.{AreInPlace, LinesRead, Reads, begins_part, block_read, frames_around, is_part, part_in, read_behind, read_on}
+use Rattle.ics_components.specs.Parted.{unless_faulty}
 use Rattle.ics_components.specs.Observances.{begins_zone}
 use Rattle.ics_components.specs.PlacedLines.{Open, Placed, component, context_of, in_calendar, innermost, is_begin, is_end, name_on, named, path_behind}
 use Rattle.ics_components.proofs.Blocks.{broken-stays}

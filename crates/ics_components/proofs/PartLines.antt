@@ -73,7 +73,8 @@ no-zone-calendar context.Outside = refl
 no-zone-calendar context.Calendar = refl
 no-zone-calendar _ = refl
 
-part-no-calendar : (path : List Open) (word : List ℕ) → is_part path word ≡ true → is_calendar_context (context_in (context_of path) (component_of word)) ≡ false
+part-no-calendar : (path : List Open) (word : List ℕ) → is_part path word ≡ true
+    → is_calendar_context (context_in (context_of path) (component_of word)) ≡ false
 part-no-calendar path word e = by_word (named-part path e)
   where
     named-part : (path : List Open) → is_part path word ≡ true → (bytes_eq word (codes "VEVENT") ≡ true) ⊎ (bytes_eq word (codes "VTIMEZONE") ≡ true)

@@ -24,7 +24,8 @@ use Rattle.ics_components.specs.Names.{same_name}
 use Rattle.ics_components.specs.PlacedLines.{Placed, Open, component, in_calendar, innermost, is_begin, is_end, is_named, lines_in, name_on, path_behind, value}
 use Rattle.ics_components.specs.Parted.{AreInPlace, Reads, frames_around, PartedComponentSeen, PartedFileSeen, begins_part, component_seen, fault_there}
 use Rattle.ics_components.specs.Parted.{fault_outside, first_there, is_line_of, is_outside, is_part, part_in, parted_lines, read_behind, version_faults}
-use Rattle.ics_components.specs.PartsPass.{NotesSeen, PartSeen, RoundSeen, and_closed, and_outside, by_part, closes_part, goes_on, here, is_doubt, noted, noted_directly}
+use Rattle.ics_components.specs.PartsPass.{NotesSeen, PartSeen, RoundSeen, and_closed, and_outside, by_part, closes_part, goes_on, here, is_doubt, noted}
+use Rattle.ics_components.specs.PartsPass.{noted_directly}
 use Rattle.ics_components.specs.PartsPass.{ended, notes_begun, parted_nothing, part_begun, part_closed, part_left, round_begun, round_behind, round_over}
 use Rattle.ics_components.specs.PartsPass.{texts_on, with_line}
 use Rattle.ics_components.proofs.Order.{Absent, Falls, below, falls-behind, absent-behind}

@@ -42,7 +42,8 @@ made-apart file l rest n less h = by_uid (in_event l && is_named name.Uid l)
     by_uid true = apart-less rest n l.number (omega (arith, less)) h
     by_uid false = by_end (ends_event l) refl
 
-pub placed_apart : (file : Option (List ℕ)) (lines : List Line) (n : ℕ) (path : List Open) → Rises n lines → AreApart n (lines_with file (placed_from path lines))
+pub placed_apart : (file : Option (List ℕ)) (lines : List Line) (n : ℕ) (path : List Open) → Rises n lines
+    → AreApart n (lines_with file (placed_from path lines))
 placed_apart None [] n path r = tt
 placed_apart (Some file) [] n path r = tt
 placed_apart None (line ∷ lines) n path r =

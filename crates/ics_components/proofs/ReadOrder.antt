@@ -1,5 +1,6 @@
 -- Where no fault stands in lines in their places, the components of a kind end in the order in which they begin.
-use Rattle.std.proofs.Common.{◌≡◌, ℕ, ◌<◌, Bool, true, false, ◌&&◌, not, List, [], ◌∷◌, ◌++◌, refl, sym, ap, ◌∙◌, append_assoc, arith, cond, Option, None, subst}
+use Rattle.std.proofs.Common.{◌≡◌, ℕ, ◌<◌, Bool, true, false, ◌&&◌, not, List, [], ◌∷◌, ◌++◌, refl, sym, ap, ◌∙◌, append_assoc, arith, cond, Option, None}
+use Rattle.std.proofs.Common.{subst}
 use Rattle.std.proofs.lemmas.Bool.{not-false}
 use Rattle.ics_text.specs.ContentLines.{Parts}
 use Rattle.ics_components.specs.Faults.{stands}

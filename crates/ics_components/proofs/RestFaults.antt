@@ -16,12 +16,14 @@ use Rattle.ics_components.specs.Names.{same_name}
 use Rattle.ics_components.specs.Observances.{begins_zone}
 use Rattle.ics_components.specs.ParsedFiles.{nothing_parsed}
 use Rattle.ics_components.specs.PartFaults.{earlier}
-use Rattle.ics_components.specs.Parted.{AreInPlace, begins_part, component_seen, fault_there, first_there, is_line_of, is_outside, is_part, kinds_there, part_in}
+use Rattle.ics_components.specs.Parted.{AreInPlace, begins_part, component_seen, fault_there, first_there, is_line_of, is_outside, is_part, kinds_there}
+use Rattle.ics_components.specs.Parted.{part_in}
 use Rattle.ics_components.specs.Pass.{unless}
 use Rattle.ics_components.specs.PlacedLines.{Open, Placed, component, is_begin, is_end, name_on, path_behind}
 use Rattle.ics_components.proofs.ChosenLines.{AreChosen, fault_of}
 use Rattle.ics_components.proofs.ItemFaults.{Has, IsCovered, IsIn, has_item, item_fault, item_faults, item_of, least, IsItem}
-use Rattle.ics_components.proofs.Opened.{AllOpened, above, any-in, begin-taken, begins_taken, begun-outside, in-any, of_whole, one-begin, opened, takes_whole, within}
+use Rattle.ics_components.proofs.Opened.{AllOpened, above, any-in, begin-taken, begins_taken, begun-outside, in-any, of_whole, one-begin, opened}
+use Rattle.ics_components.proofs.Opened.{takes_whole, within}
 use Rattle.ics_components.proofs.Opened.{within-part, within-path}
 use Rattle.ics_components.proofs.PartPaths.{begins-by}
 use Rattle.ics_components.proofs.PartsLemmas.{event-no-zone}
@@ -352,7 +354,8 @@ module _ (ls : List Placed) (h : AreInPlace 0 [] ls) where
       e = it.item
 
       by_zone : (t : Bool) → is_event e ≡ t → begins_part e ≡ true → IsCovered (rest_faults ls h) f
-      by_zone true t b = never-both (list_any (λ event. is_line_of event e) (all_events ls)) (of-one ls h e e it.among t (own-line ls h e)) (not-true ls h _ it.chosen)
+      by_zone true t b = never-both (list_any (λ event. is_line_of event e) (all_events ls)) (of-one ls h e e it.among t (own-line ls h e))
+          (not-true ls h _ it.chosen)
       by_zone false t b =
           let zone : begins_zone e ≡ true = sym (ap (λ x. x || begins_zone e) t) ∙ b in
           record { by = f; has = inr (has_item begins_zone (item_fault ls) e ls f it.among zone it.faulty); before = omega arith }
@@ -379,7 +382,8 @@ module _ (ls : List Placed) (h : AreInPlace 0 [] ls) where
       let z = item_of begins_zone (item_fault ls) ls g m in
       has_item (is_rest ls) (item_fault ls) z.item ls g z.among (zone-rest ls h z.item z.among z.chosen) z.faulty
 
-  pub zones-read : (zs : List Placed) → map (item_fault ls) (filter begins_zone zs) ≡ map (λ zone. fault_of zone.read) (map (component_seen ls) (filter begins_zone zs))
+  pub zones-read : (zs : List Placed) → map (item_fault ls) (filter begins_zone zs) ≡ map (λ zone. fault_of zone.read)
+      (map (component_seen ls) (filter begins_zone zs))
   zones-read [] = refl
   zones-read (z ∷ zs) = by_test (begins_zone z) refl (zones-read zs)
     where

@@ -105,7 +105,8 @@ module _ (ls : List Placed) (h : AreInPlace 0 [] ls) (roots : Placed → Bool) (
   version-named : (l : Placed) (f : Fault) → version_fault l ≡ Some f → is_named name.Version l ≡ true
   version-named l f e = by_test (in_calendar l) (is_named name.Version l) e
     where
-      by_test : (a b : Bool) → cond (a && (b && bytes_eq (value l) (codes "1.0"))) (Some (record { line = l.number; kind = OldVersion })) None ≡ Some f → b ≡ true
+      by_test : (a b : Bool) → cond (a && (b && bytes_eq (value l) (codes "1.0"))) (Some (record { line = l.number; kind = OldVersion })) None
+          ≡ Some f → b ≡ true
       by_test a true e = refl
       by_test true false e = cc
       by_test false false e = cc

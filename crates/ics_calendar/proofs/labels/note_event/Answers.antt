@@ -24,12 +24,14 @@ returns-then-is_empty-clause-part c = λ had are.
     let start : Numbered = record had { part = 0 } in
     ap (λ fs. length fs) c.as_slice-had.ensures.value
     ∙ (none-more c.args.fault start c.args.by_uid.now faults (begun had c.args.by_uid.now faults are)).1
-    ∙ ap (λ keys. (fold (with_key c.args.fault) start keys).part) (sym (no-keys c.args.uids.items (ap (λ n. n == 0) (sym c.args.uids.ok.0) ∙ sym c.is_empty.ensures ∙ c.if-is_empty.true)))
+    ∙ ap (λ keys. (fold (with_key c.args.fault) start keys).part)
+    (sym (no-keys c.args.uids.items (ap (λ n. n == 0) (sym c.args.uids.ok.0) ∙ sym c.is_empty.ensures ∙ c.if-is_empty.true)))
 
 pub returns-clause-kept : goal.returns-clause-kept
 returns-clause-kept c =
     on_ok_weaker c.note_uids.result
-    (λ kept had are. subst (λ keys. AreNumbered (fold (with_key c.args.fault) (record had { part = 0 }) keys) c.note_uids.new.by_uid c.note_uids.new.faults.items)
+    (λ kept had are. subst
+    (λ keys. AreNumbered (fold (with_key c.args.fault) (record had { part = 0 }) keys) c.note_uids.new.by_uid c.note_uids.new.faults.items)
     (sym (some-keys c.args.uids.items (ap (λ n. n == 0) (sym c.args.uids.ok.0) ∙ sym c.is_empty.ensures ∙ c.if-is_empty.false)))
     (kept (record had { part = 0 }) (begun had c.args.by_uid.now c.args.faults.now.items are)))
     c.note_uids.ensures.kept

@@ -20,7 +20,8 @@ returns-clause-kept c = λ had are.
     λ other. c.in_ok-part.ensures.put other
     ∙ ap (λ n. option_or (get (slice_cmp nat_cmp) c.args.by_uid.now other) (cond (bytes_eq other c.args.uid) (Some n) None)) place in
     let first = c.note_least.ensures
-    ∙ (λ j. least_at c.args.fault (c.in_ok-push.ensures.items j) ((c.in_ok-part.ensures.number ∙ ap (λ n. number_by c.args.by_uid.now n c.args.uid) place) j)) in
+    ∙ (λ j. least_at c.args.fault (c.in_ok-push.ensures.items j)
+    ((c.in_ok-part.ensures.number ∙ ap (λ n. number_by c.args.by_uid.now n c.args.uid) place) j)) in
     subst (λ fs. AreNumbered (with_key c.args.fault had (Some c.args.uid)) c.number.new.by_uid fs) (sym first)
     (uid-more c.args.fault had c.args.by_uid.now c.number.new.by_uid faults c.args.uid are put).0
 

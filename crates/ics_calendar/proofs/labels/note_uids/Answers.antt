@@ -11,7 +11,8 @@ loop-uid-preserved c =
     let uid = c.in-Some.uid in
     let yielded = c.loop-uid.yielded in
     let behind : Numbered → Numbered = λ had. fold (with_key c.args.fault) had (map (λ uid. Some uid) yielded) in
-    let one : (had : Numbered) → fold (with_key c.args.fault) had (map (λ uid. Some uid) (yielded ++ uid ∷ [])) ≡ with_key c.args.fault (behind had) (Some uid) =
+    let one : (had : Numbered) → fold (with_key c.args.fault) had (map (λ uid. Some uid) (yielded ++ uid ∷ [])) ≡ with_key c.args.fault (behind had)
+    (Some uid) =
     λ had. ap (fold (with_key c.args.fault) had) (map-append (λ (uid : List ℕ). Some uid) yielded (uid ∷ []))
     ∙ fold-append (with_key c.args.fault) had (map (λ uid. Some uid) yielded) (Some uid ∷ []) in
     record {

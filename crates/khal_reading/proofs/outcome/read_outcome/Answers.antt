@@ -40,7 +40,8 @@ returns-in-Ok-clause-read g c =
             c.outcome_of.new.zones c.outcome_of.new.answered (seen_outcome outcome)) c.deref.ensures.value (settles asked k));
       }) c.outcome_of.ensures.ok,
       on_err_weaker c.outcome_of.result (λ learns. EndsReading.AfterRead (Some c.in-Ok.bytes.items) refl
-          (λ asked k. subst (λ (n : List ℕ). LearnsSome g.Z.ZoneSource.finds asked (given_by_file c.args.keep_going n c.in-Ok.bytes.items).wants c.args.zones.now
+          (λ asked k. subst (λ (n : List ℕ). LearnsSome g.Z.ZoneSource.finds asked (given_by_file c.args.keep_going n c.in-Ok.bytes.items).wants
+          c.args.zones.now
           c.outcome_of.new.zones) name (subst (λ (b : List ℕ). LearnsSome g.Z.ZoneSource.finds asked (given_by_file c.args.keep_going c.name.result.now b).wants
           c.args.zones.now c.outcome_of.new.zones) c.deref.ensures.value (learns asked k)))) c.outcome_of.ensures.some,
     )
