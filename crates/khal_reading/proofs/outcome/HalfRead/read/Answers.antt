@@ -22,5 +22,5 @@ returns-in-Err-At-clause-ok c =
     let faulty : ℕ → FaultKind → FileGives =
     λ line kind. record { wants = []; gives = λ files. whole (Err (record { line = line; kind = kind })) } in
     ap₂ faulty c.in-Err-At.line-is c.in-Err-At.kind-is
-    ∙ ((λ i. record { wants = sym fault.1 i; gives = λ files. whole (sym (fault.0 files) i) })
+    ∙ ((λ i. record { wants = sym fault.unasked i; gives = λ files. whole (sym (fault.refused files) i) })
     ∙ ap (λ (k : Bool). given_by_file k c.args.name.now c.args.bytes.now) (sym c.if-keep_going.false))
