@@ -9,6 +9,7 @@ pub mod PassLemmas
 pub mod PartPaths
 pub mod Paths
 pub mod PartsLemmas
+pub mod RoundWhole
 pub mod Rounds
 pub mod Placing
 pub mod Blocks

@@ -13,7 +13,7 @@ use Rattle.ics_components.specs.Parted.{AreInPlace, lines_with, parted_lines, pa
 use Rattle.ics_components.specs.PartsPass.{is_event_uid}
 use Rattle.ics_components.specs.PlacedLines.{Placed, Open, ends_event, in_event, is_end, is_named, name_on, path_behind, placed, value_of}
 use Rattle.ics_components.proofs.Paths.{any_event}
-use Rattle.ics_components.proofs.PartsLemmas.{broken, broken-off}
+use Rattle.ics_components.proofs.RoundWhole.{broken, broken-off}
 use Rattle.ics_components.proofs.Placing.{in_place}
 use Rattle.ics_components.proofs.Rounds.{end-of, uid-stays, uid_nests}
 

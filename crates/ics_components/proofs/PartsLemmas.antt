@@ -1,11 +1,10 @@
--- One pass over the lines of a file gathers it event by event and time zone by time zone.
+-- What one pass over the lines of a file notes and gathers of each event and each time zone, line by line.
 use Rattle.std.proofs.Common.{◌≡◌, ℕ, ◌<◌, ◌≤◌, Bool, true, false, ◌&&◌, ◌||◌, not, ◌==◌, List, [], ◌∷◌, ◌++◌, refl, sym, ap, ◌∙◌, arith, cond}
 use Rattle.std.proofs.Common.{Option, Some, None, map, filter, append_assoc, drop}
-use Rattle.std.specs.Prelude.{codes, is_none, filter_map}
+use Rattle.std.specs.Prelude.{codes, filter_map}
 use Rattle.std.specs.Str.{bytes_eq}
-use Rattle.std.proofs.lemmas.Bool.Decides.{nat_tests}
 use Rattle.std.proofs.lemmas.Slice.Eq.{bytes_eq-Decides}
-use Rattle.std.specs.List.{flat_map, list_all, list_any}
+use Rattle.std.specs.List.{flat_map, list_any}
 use Rattle.std.specs.Option.{option_or, option_to_list}
 use Rattle.std.proofs.lemmas.Bool.{eq-eqb, ne_eqb}
 use Rattle.std.proofs.lemmas.List.{append-nil}
@@ -14,7 +13,7 @@ use Rattle.ics_values.specs.Plain.{text_of}
 use Rattle.ics_components.specs.declared.name.Name.{Name}
 use Rattle.ics_components.specs.declared.name.Name.TheVariants as name
 use Rattle.ics_components.specs.declared.fault.Fault.{Fault}
-use Rattle.ics_components.specs.EventLines.{all_events, breaks_off, is_certain, is_event, is_uid, is_well_nested, named_on, nests, path_at_end, texts_in}
+use Rattle.ics_components.specs.EventLines.{all_events, is_event, named_on, texts_in}
 use Rattle.ics_components.specs.EventLines.{uids_of, zones_named}
 use Rattle.ics_components.specs.FirstFault.{no_open}
 use Rattle.ics_components.specs.Observances.{begins_zone}
@@ -23,58 +22,12 @@ use Rattle.ics_components.specs.ParsedFiles.{nothing_parsed}
 use Rattle.ics_components.specs.Names.{same_name}
 use Rattle.ics_components.specs.PlacedLines.{Placed, Open, component, in_calendar, innermost, is_begin, is_end, is_named, lines_in, name_on, path_behind, value}
 use Rattle.ics_components.specs.Parted.{AreInPlace, Reads, frames_around, PartedComponentSeen, PartedFileSeen, begins_part, component_seen, fault_there}
-use Rattle.ics_components.specs.Parted.{fault_outside, first_there, is_line_of, is_outside, is_part, part_in, parted_lines, read_behind, version_faults}
-use Rattle.ics_components.specs.PartsPass.{NotesSeen, PartSeen, RoundSeen, and_closed, and_outside, by_part, closes_part, goes_on, here, is_doubt, noted}
-use Rattle.ics_components.specs.PartsPass.{noted_directly}
-use Rattle.ics_components.specs.PartsPass.{ended, notes_begun, parted_nothing, part_begun, part_closed, part_left, round_begun, round_behind, round_over}
+use Rattle.ics_components.specs.Parted.{first_there, is_line_of, is_outside, is_part, part_in, read_behind, version_faults}
+use Rattle.ics_components.specs.PartsPass.{NotesSeen, PartSeen, RoundSeen, and_outside, here, is_doubt, noted, noted_directly}
+use Rattle.ics_components.specs.PartsPass.{notes_begun, part_closed}
 use Rattle.ics_components.specs.PartsPass.{texts_on, with_line}
-use Rattle.ics_components.proofs.Order.{Absent, Falls, below, falls-behind, absent-behind}
-use Rattle.ics_components.proofs.PartPaths.{absent-any, absent-inner, begins-by, closed-inner, closed-none, closed-part, in-part, none-begins, part-open}
-
--- WHETHER THE FILE HAS PARTS, but for whose each event is.
-abbrev nested : List Open → Bool → List Placed → Bool
-nested path u [] = no_open path
-nested path u (l ∷ ls) = nests l && (not (u && is_none l.content) && nested (path_behind l) (is_uid l) ls)
-
-abbrev gathered : RoundSeen → List Placed → PartedFileSeen
-gathered round [] = ended round.has_outside round.parted
-gathered round (l ∷ ls) = gathered (round_behind l round) ls
-
-abbrev pub are_certain : List PartedComponentSeen → Bool
-are_certain events = list_all (λ event. event.is_certain) events
-
-one-test : {X : Type 0} (a b n : Bool) (x y : X) → cond (a && b) (cond n x y) y ≡ cond (a && (b && n)) x y
-one-test a b n x y = grind arith
-
-round-is : (ls : List Placed) (round : RoundSeen) →
-    round_over round ls ≡ cond (nested round.path round.is_behind_uid ls) (Some (gathered round ls)) None
-round-is [] round = refl
-round-is (l ∷ ls) round =
-    ap (λ o. cond (goes_on l round) o None) (round-is ls (round_behind l round))
-    ∙ one-test (nests l) (not (round.is_behind_uid && is_none l.content)) (nested (path_behind l) (is_uid l) ls) (Some (gathered (round_behind l round) ls))
-    None
-
-abbrev pub broken : Bool → List Placed → Bool
-broken u [] = false
-broken u (l ∷ ls) = (u && is_none l.content) || broken (is_uid l) ls
-
-broken-on : (l : Placed) (ls : List Placed) → broken (is_uid l) ls ≡ breaks_off (l ∷ ls)
-broken-on l [] = refl
-broken-on l (m ∷ ms) = ap (λ t. (is_uid l && is_none m.content) || t) (broken-on m ms)
-
-pub broken-off : (ls : List Placed) → broken false ls ≡ breaks_off ls
-broken-off [] = refl
-broken-off (l ∷ ls) = broken-on l ls
-
-two-tests : (n k u e a b : Bool) → n ≡ ((e && a) && not b) → (k && (not u && n)) ≡ ((e && (k && a)) && not (u || b))
-two-tests n k u e a b h = grind (arith, h)
-
-nested-is : (ls : List Placed) (path : List Open) (u : Bool) →
-    nested path u ls ≡ ((no_open (path_at_end path ls) && list_all nests ls) && not (broken u ls))
-nested-is [] path u = grind arith
-nested-is (l ∷ ls) path u =
-    two-tests (nested (path_behind l) (is_uid l) ls) (nests l) (u && is_none l.content) (no_open (path_at_end (path_behind l) ls)) (list_all nests ls)
-    (broken (is_uid l) ls) (nested-is ls (path_behind l) (is_uid l))
+use Rattle.ics_components.proofs.Order.{Absent, Falls, below, absent-behind}
+use Rattle.ics_components.proofs.PartPaths.{absent-any, absent-inner, begins-by, closed-inner, closed-none}
 
 -- WHAT IS NOTED of a component by the lines that are left.
 abbrev notes_after : NotesSeen → List Placed → NotesSeen
@@ -130,7 +83,7 @@ notes-are (l ∷ ls) notes = notes-are ls (noted_directly l notes) ∙ by_place 
     by_place false e = refl
 
 -- A COMPONENT that is open, with the lines that are left.
-abbrev part_after : PartSeen → List Placed → PartedComponentSeen
+abbrev pub part_after : PartSeen → List Placed → PartedComponentSeen
 part_after part ls =
     part_closed (record { notes = notes_after part.notes ls; read = read_behind part.read (filter (is_within part.notes.begun) ls) })
 
@@ -156,7 +109,7 @@ pub no-lines : (ls : List Placed) (b : ℕ) → AreElsewhere b ls → filter (is
 no-lines [] b h = refl
 no-lines (l ∷ ls) b h = rw (h.0) (no-lines ls b h.2)
 
-ended-part : (ls : List Placed) (part : PartSeen) → AreElsewhere part.notes.begun ls → part_after part ls ≡ part_closed part
+pub ended-part : (ls : List Placed) (part : PartSeen) → AreElsewhere part.notes.begun ls → part_after part ls ≡ part_closed part
 ended-part ls part h = rw (no-notes ls part.notes h, no-lines ls part.notes.begun h) refl
 
 -- COMPONENTS BEHIND A LINE.
@@ -208,10 +161,10 @@ own-first (m ∷ ms) l inner h =
     rw (ne_eqb m.number l.number (λ e. omega (arith, e, less)))
     (ap (λ (xs : List Placed). cond (is_within l.number m) (m ∷ xs) xs) (own-lines ms l m.number (path_behind m) less h.4))
 
-abbrev fresh : Placed → PartSeen
+abbrev pub fresh : Placed → PartSeen
 fresh l = record { notes = notes_begun l.number (innermost l.path) (is_event l); read = Reads (frames_around l.path) nothing_parsed }
 
-begun-part : (l : Placed) (ls : List Placed) → innermost l.path < l.number → innermost (path_behind l) ≡ l.number →
+pub begun-part : (l : Placed) (ls : List Placed) → innermost l.path < l.number → innermost (path_behind l) ≡ l.number →
     AreInPlace l.number (path_behind l) ls → part_after (with_line l (fresh l)) ls ≡ component_seen (l ∷ ls) l
 begun-part l ls inner mine h =
     rw (
@@ -222,13 +175,13 @@ begun-part l ls inner mine h =
     ) refl
 
 -- WHAT IS GATHERED of the lines that are left, behind the component that is open.
-abbrev and_part : Option PartSeen → List Placed → PartedFileSeen → PartedFileSeen
+abbrev pub and_part : Option PartSeen → List Placed → PartedFileSeen → PartedFileSeen
 and_part None ls had = had
 and_part (Some part) ls had =
     cond part.notes.is_event (record had { events = had.events ++ part_after part ls ∷ [] })
     (record had { zones = had.zones ++ part_after part ls ∷ [] })
 
-abbrev and_lines : PartedFileSeen → List Placed → PartedFileSeen
+abbrev pub and_lines : PartedFileSeen → List Placed → PartedFileSeen
 and_lines had ls = record {
   events = had.events ++ map (component_seen ls) (all_events ls);
   zones = had.zones ++ map (component_seen ls) (filter begins_zone ls);
@@ -236,7 +189,7 @@ and_lines had ls = record {
   outside = option_or had.outside (first_there (filter is_outside ls));
 }
 
-abbrev begun_of : Option PartSeen → Option ℕ
+abbrev pub begun_of : Option PartSeen → Option ℕ
 begun_of None = None
 begun_of (Some part) = Some part.notes.begun
 
@@ -285,7 +238,7 @@ module _ (l : Placed) (ls : List Placed) (falls : Falls l.path) (inner : innermo
       (behind-all begins_zone zone-begins ls l.number l.number (path_behind l) (omega arith) h)
 
   -- a line of no event and no time zone
-  other-line : (had : PartedFileSeen) → is_event l ≡ false → begins_zone l ≡ false → part_in l.path ≡ None →
+  pub other-line : (had : PartedFileSeen) → is_event l ≡ false → begins_zone l ≡ false → part_in l.path ≡ None →
       and_lines (and_outside l had) ls ≡ and_lines had (l ∷ ls)
   other-line had e z p =
       rw (
@@ -299,12 +252,12 @@ module _ (l : Placed) (ls : List Placed) (falls : Falls l.path) (inner : innermo
       ) refl
 
   -- a line of the one that is open
-  inner-line : (had : PartedFileSeen) (b : ℕ) → is_event l ≡ false → begins_zone l ≡ false → version_faults l ≡ [] → part_in l.path ≡ Some b →
+  pub inner-line : (had : PartedFileSeen) (b : ℕ) → is_event l ≡ false → begins_zone l ≡ false → version_faults l ≡ [] → part_in l.path ≡ Some b →
       and_lines had ls ≡ and_lines had (l ∷ ls)
   inner-line had b e z v p = rw (e, z, v, p, events-apart, zones-apart) refl
 
   -- the BEGIN line of an event or of a time zone
-  begin-line : (had : PartedFileSeen) (seen : PartedComponentSeen) → seen ≡ component_seen (l ∷ ls) l → begins_part l ≡ true → version_faults l ≡ [] →
+  pub begin-line : (had : PartedFileSeen) (seen : PartedComponentSeen) → seen ≡ component_seen (l ∷ ls) l → begins_part l ≡ true → version_faults l ≡ [] →
       and_lines (cond (is_event l) (record had { events = had.events ++ seen ∷ [] }) (record had { zones = had.zones ++ seen ∷ [] })) ls
       ≡ and_lines had (l ∷ ls)
   begin-line had seen is begins v = by_test (is_event l) refl
@@ -317,47 +270,34 @@ module _ (l : Placed) (ls : List Placed) (falls : Falls l.path) (inner : innermo
           let z : begins_zone l ≡ true = sym (ap (λ t. t || begins_zone l) e) ∙ begins in
           rw (e, z, v, events-apart, zones-apart, is) simp append_assoc
 
-abbrev round_at : List Open → Option PartSeen → Bool → Bool → PartedFileSeen → RoundSeen
-round_at path part u o had = record { path = path; part = part; is_behind_uid = u; has_outside = o; parted = had }
-
-none-open : (path : List Open) → no_open path ≡ true → part_in path ≡ None
-none-open [] e = refl
-none-open (c ∷ cs) e = cc
-
-or-empty : (o : Option Fault) → option_or o None ≡ o
-or-empty o = grind arith
-
-no-more : (had : PartedFileSeen) → had ≡ and_lines had []
-no-more had = simp (append-nil, or-empty)
-
 -- what is noted changes neither which component it is nor what it is
-begun-kept : (l : Placed) (notes : NotesSeen) → (noted_directly l notes).begun ≡ notes.begun
+pub begun-kept : (l : Placed) (notes : NotesSeen) → (noted_directly l notes).begun ≡ notes.begun
 begun-kept l notes = grind arith
 
-event-kept : (l : Placed) (notes : NotesSeen) → (noted_directly l notes).is_event ≡ notes.is_event
+pub event-kept : (l : Placed) (notes : NotesSeen) → (noted_directly l notes).is_event ≡ notes.is_event
 event-kept l notes = grind arith
 
-part-line : (l : Placed) (ls : List Placed) (part : PartSeen) (had : PartedFileSeen) → is_within part.notes.begun l ≡ true →
+pub part-line : (l : Placed) (ls : List Placed) (part : PartSeen) (had : PartedFileSeen) → is_within part.notes.begun l ≡ true →
     and_part (Some (with_line l part)) ls had ≡ and_part (Some part) (l ∷ ls) had
 part-line l ls part had e = rw (event-kept l part.notes, begun-kept l part.notes, e) refl
 
 no-version : (a b c : Bool) (x : List (ℕ × Fault)) → b ≡ false → cond (a && (b && c)) x [] ≡ []
 no-version a b c x e = grind (arith, e)
 
-begin-no-version : (l : Placed) → is_begin l ≡ true → version_faults l ≡ []
+pub begin-no-version : (l : Placed) → is_begin l ≡ true → version_faults l ≡ []
 begin-no-version l e = no-version _ (is_named name.Version l) _ _ ((marks (name_on l.content) e).1)
 
-end-no-begin : (n : Name) → same_name n name.End ≡ true → same_name n name.Begin ≡ false
+pub end-no-begin : (n : Name) → same_name n name.End ≡ true → same_name n name.Begin ≡ false
 end-no-begin name.End e = refl
 end-no-begin _ e = cc
 
-first-of : (a b : Bool) → (a && b) ≡ true → (a ≡ true) × (b ≡ true)
+pub first-of : (a b : Bool) → (a && b) ≡ true → (a ≡ true) × (b ≡ true)
 first-of a b e = (grind (arith, e), grind (arith, e))
 
-never : (t : Bool) → (t && false) ≡ false
+pub never : (t : Bool) → (t && false) ≡ false
 never t = grind arith
 
-neither : (a b : Bool) → (a || b) ≡ false → (a ≡ false) × (b ≡ false)
+pub neither : (a b : Bool) → (a || b) ≡ false → (a ≡ false) × (b ≡ false)
 neither a b e = (grind (arith, e), grind (arith, e))
 
 -- WHERE THE ROUND STANDS behind a line.
@@ -382,181 +322,3 @@ behind-inner l b p e = by_kind (is_begin l) (is_end l) e
     by_kind true d e = rw p refl
     by_kind false true e = closed-inner l.path b p e
     by_kind false false e = p
-
--- whether one of the lines is of no event and no time zone
-abbrev outside_in : Bool → List Placed → Bool
-outside_in o [] = o
-outside_in o (l ∷ ls) = outside_in (o || is_outside l) ls
-
-abbrev all_gathered : Bool → PartedFileSeen → List Placed → PartedFileSeen
-all_gathered o had ls = ended (outside_in o ls) (and_lines had ls)
-
--- THE ROUND GATHERS what the lines say.
-abbrev Gathers : List Placed → Type 0
-Gathers ls =
-    (n : ℕ) (path : List Open) (part : Option PartSeen) (u o : Bool) (had : PartedFileSeen) → IsThere (round_at path part u o had) n →
-    AreInPlace n path ls → no_open (path_at_end path ls) ≡ true →
-    gathered (round_at path part u o had) ls ≡ all_gathered o (and_part part ls had) ls
-
-module _ (l : Placed) (ls : List Placed) (again : Gathers ls) (falls : Falls l.path) (inner : innermost l.path < l.number)
-    (h : AreInPlace l.number (path_behind l) ls) (end : no_open (path_at_end (path_behind l) ls) ≡ true) (round : RoundSeen) where
-  abbrev had : PartedFileSeen
-  had = round.parted
-
-  next : (part : Option PartSeen) (o : Bool) (had : PartedFileSeen) → part_in (path_behind l) ≡ begun_of part →
-      gathered (round_at (path_behind l) part (is_uid l) o had) ls ≡ all_gathered o (and_part part ls had) ls
-  next part o had fits =
-      let moved = falls-behind l falls inner in
-      again l.number (path_behind l) part (is_uid l) o had (record { falls = moved.0; inner = moved.1; fits = fits }) h end
-
-  -- a line of an event or of a time zone is not outside
-  inside : (o : Bool) → is_outside l ≡ false → o ≡ (o || is_outside l)
-  inside o e = grind (arith, e)
-
-  all-inside : (one more : PartedFileSeen) → is_outside l ≡ false → and_lines one ls ≡ and_lines more (l ∷ ls) →
-      all_gathered round.has_outside one ls ≡ all_gathered round.has_outside more (l ∷ ls)
-  all-inside one more e same = λ i. ended (outside_in (inside round.has_outside e i) ls) (same i)
-
-  abbrev taken : Option PartSeen → RoundSeen
-  taken part = let now : RoundSeen = by_part part l round in record now { path = path_behind l; is_behind_uid = is_uid l }
-
-  -- a line of the event or the time zone that is open
-  line-of : (part : PartSeen) → part_in l.path ≡ Some part.notes.begun →
-      gathered (taken (Some part)) ls ≡ all_gathered round.has_outside (and_part (Some part) (l ∷ ls) had) (l ∷ ls)
-  line-of part p = by_end (closes_part l part) refl
-    where
-      b : ℕ
-      b = part.notes.begun
-
-      within : is_within b l ≡ true
-      within = part-open l.path b p
-
-      more : PartedFileSeen
-      more = and_part (Some part) (l ∷ ls) had
-
-      within-one : is_outside l ≡ false
-      within-one = rw p (never (not (begins_part l)))
-
-      rest : and_lines more ls ≡ and_lines more (l ∷ ls)
-      rest =
-          let none : begins_part l ≡ false = begins-by l ∙ ap (λ t. is_begin l && t) (none-begins l.path b p (component l)) ∙ never (is_begin l) in
-          let two = neither (is_event l) (begins_zone l) none in
-          inner-line l ls falls inner h more b two.0 two.1 (rw ((in-part l.path b p).0) refl) p
-
-      by_end : (t : Bool) → closes_part l part ≡ t →
-          gathered (round_at (path_behind l) (part_left t (with_line l part)) (is_uid l) round.has_outside (cond t (and_closed (with_line l part) had) had)) ls
-          ≡ all_gathered round.has_outside more (l ∷ ls)
-      by_end false e =
-          next (Some (with_line l part)) round.has_outside had (behind-inner l b p e ∙ ap Some (sym (begun-kept l part.notes)))
-          ∙ all-inside (and_part (Some (with_line l part)) ls had) more within-one (ap (λ m. and_lines m ls) (part-line l ls part had within) ∙ rest)
-      by_end true e =
-          let ends = first-of (is_end l) (innermost l.path == b) e in
-          let out = closed-part l.path b falls p ends.1 in
-          let path : path_behind l ≡ drop 1 l.path = rw (end-no-begin (name_on l.content) ends.0, ends.0) refl in
-          let gone = elsewhere ls b l.number (path_behind l) (some b ends.1) (less b ends.1) (rw path out.1) h in
-          next None round.has_outside (and_closed (with_line l part) had) (ap part_in path ∙ out.0)
-          ∙ all-inside (and_closed (with_line l part) had) more within-one
-          (ap (λ m. and_lines m ls) (closed-now gone ∙ part-line l ls part had within) ∙ rest)
-        where
-          some : (b : ℕ) → (innermost l.path == b) ≡ true → 0 < b
-          some b e = grind arith
-
-          less : (b : ℕ) → (innermost l.path == b) ≡ true → b < l.number
-          less b e = grind (arith, nat_tests, e, inner)
-
-          closed-now : AreElsewhere part.notes.begun ls → and_closed (with_line l part) had ≡ and_part (Some (with_line l part)) ls had
-          closed-now gone =
-              rw (ended-part ls (with_line l part) (rw (begun-kept l part.notes) gone)) refl
-
-  -- any other line
-  line-begun : begins_part l ≡ true → part_in l.path ≡ None → gathered (taken (Some (fresh l))) ls ≡ all_gathered round.has_outside had (l ∷ ls)
-  line-begun begins p =
-      let both = first-of (is_begin l) (is_part l.path (component l)) (sym (begins-by l) ∙ begins) in
-      let mine : innermost (path_behind l) ≡ l.number = rw (both.0) refl in
-      let goes : closes_part l (fresh l) ≡ false = ap (λ t. t && (innermost l.path == l.number)) ((marks (name_on l.content) both.0).0) in
-      let own : PartSeen = with_line l (fresh l) in
-      ap (λ t. gathered (round_at (path_behind l) (part_left t own) (is_uid l) round.has_outside (cond t (and_closed own had) had)) ls) goes
-      ∙ next (Some own) round.has_outside had (behind-begun l both.0 both.1 p ∙ ap Some (sym (begun-kept l (fresh l).notes)))
-      ∙ all-inside (and_part (Some own) ls had) had (rw begins refl)
-      (rw (event-kept l (fresh l).notes)
-      (begin-line l ls falls inner h had (part_after (with_line l (fresh l)) ls) (begun-part l ls inner mine h) begins (begin-no-version l both.0)))
-
-  outside-now : (o : Bool) → begins_part l ≡ false → part_in l.path ≡ None → true ≡ (o || is_outside l)
-  outside-now o none p = rw (none, p) (always o)
-    where
-      always : (o : Bool) → true ≡ (o || true)
-      always o = grind arith
-
-  line-outside : begins_part l ≡ false → part_in l.path ≡ None → gathered (taken None) ls ≡ all_gathered round.has_outside had (l ∷ ls)
-  line-outside none p =
-      let two = neither (is_event l) (begins_zone l) none in
-      let same = other-line l ls falls inner h had two.0 two.1 p in
-      next None true (and_outside l had) (behind-none l none p)
-      ∙ (λ i. ended (outside_in (outside-now round.has_outside none p i) ls) (same i))
-
-  line-free : part_in l.path ≡ None → gathered (taken (part_begun l)) ls ≡ all_gathered round.has_outside had (l ∷ ls)
-  line-free p = by_test (begins_part l) refl
-    where
-      by_test : (t : Bool) → begins_part l ≡ t → gathered (taken (cond t (Some (fresh l)) None)) ls ≡ all_gathered round.has_outside had (l ∷ ls)
-      by_test true e = line-begun e p
-      by_test false e = line-outside e p
-
-gathers : (ls : List Placed) → Gathers ls
-gathers [] n path None u o had there h end = ap (ended o) (no-more had)
-gathers [] n path (Some part) u o had there h end = let none = none-open path end in let fits = there.fits in cc
-gathers (l ∷ ls) n path None u o had there h end =
-    line-free l ls (gathers ls) (rw (h.0) there.falls) (rw (h.0) h.3) h.4 end (round_at path None u o had) (rw (h.0) there.fits)
-gathers (l ∷ ls) n path (Some part) u o had there h end =
-    line-of l ls (gathers ls) (rw (h.0) there.falls) (rw (h.0) h.3) h.4 end (round_at path (Some part) u o had) part (rw (h.0) there.fits)
-
--- WHERE THE LINES END.
-abbrev some_line : List Placed → Bool
-some_line [] = false
-some_line (l ∷ ls) = true
-
-outside-found : (o : Bool) (ls : List Placed) → outside_in o ls ≡ (o || some_line (filter is_outside ls))
-outside-found o [] = grind arith
-outside-found o (l ∷ ls) = outside-found (o || is_outside l) ls ∙ by_test o (is_outside l) (filter is_outside ls)
-  where
-    by_test : (o t : Bool) (xs : List Placed) → ((o || t) || some_line xs) ≡ (o || some_line (cond t (l ∷ xs) xs))
-    by_test true t xs = refl
-    by_test false true xs = refl
-    by_test false false xs = refl
-
-abbrev with_these : List Placed → List Placed → Option Fault → PartedFileSeen
-with_these ls zones first = record {
-  events = map (component_seen ls) (all_events ls);
-  zones = map (component_seen ls) zones;
-  calendars = flat_map version_faults ls;
-  outside = first;
-}
-
-ended-lines : (ls : List Placed) → all_gathered false parted_nothing ls ≡ parted_lines ls
-ended-lines ls = ap (λ o. ended o (and_lines parted_nothing ls)) (outside-found false ls) ∙ by_lines (filter is_outside ls) (filter begins_zone ls)
-  where
-    by_lines : (others zones : List Placed) →
-        ended (some_line others) (with_these ls zones (first_there others)) ≡ with_these ls zones (fault_outside others zones)
-    by_lines [] [] = refl
-    by_lines [] (zone ∷ zones) = refl
-    by_lines (other ∷ others) zones = refl
-
--- THE WHOLE ROUND.
-pub all-mapped : (lines es : List Placed) → are_certain (map (component_seen lines) es) ≡ list_all (is_certain lines) es
-all-mapped lines [] = refl
-all-mapped lines (e ∷ es) = ap (λ t. is_certain lines e && t) (all-mapped lines es)
-
-pub round_whole : (ls : List Placed) → AreInPlace 0 [] ls →
-    round_over round_begun ls ≡ cond (is_well_nested ls && not (breaks_off ls)) (Some (parted_lines ls)) None
-round_whole ls h = round-is ls round_begun ∙ by_nesting (nested [] false ls) refl
-  where
-    kinds : nested [] false ls ≡ (is_well_nested ls && not (breaks_off ls))
-    kinds = nested-is ls [] false ∙ ap (λ t. is_well_nested ls && not t) (broken-off ls)
-
-    by_nesting : (t : Bool) → nested [] false ls ≡ t →
-        cond t (Some (gathered round_begun ls)) None ≡ cond (is_well_nested ls && not (breaks_off ls)) (Some (parted_lines ls)) None
-    by_nesting false e = ap (λ t. cond t (Some (parted_lines ls)) None) (sym e ∙ kinds)
-    by_nesting true e =
-        let both = first-of (is_well_nested ls) (not (breaks_off ls)) (sym kinds ∙ e) in
-        let ends = first-of (no_open (path_at_end [] ls)) (list_all nests ls) both.0 in
-        let all = gathers ls 0 [] None false false parted_nothing (record { falls = tt; inner = omega arith; fits = refl }) h ends.0 in
-        ap Some (all ∙ ended-lines ls) ∙ ap (λ t. cond t (Some (parted_lines ls)) None) (sym e ∙ kinds)

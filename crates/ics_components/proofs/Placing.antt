@@ -14,7 +14,7 @@ use Rattle.ics_components.specs.PartsPass.{here, if_sure, round_begun, round_ove
 use Rattle.ics_components.specs.PlacedLines.{Placed, Open, ends_event, in_event, innermost, is_closing, is_end, is_named, name_on, path_behind, placed}
 use Rattle.ics_components.specs.PlacedLines.{placed_from}
 use Rattle.ics_components.proofs.Order.{Falls, falls-behind}
-use Rattle.ics_components.proofs.PartsLemmas.{all-mapped, round_whole}
+use Rattle.ics_components.proofs.RoundWhole.{all-mapped, round_whole}
 use Rattle.ics_components.proofs.Rounds.{made_plain}
 
 -- numbers that rise from one on rise from a lesser one on
