@@ -146,6 +146,9 @@ ROWS = [
     ('16 MiB, a fold in each line', lambda: [('a.ics', filled(b'X-NOTE;X-KIND=a:' + b'text ' * 5 + b'\r\n '
                                                               + b'text ' * 5 + b'\r\n'))], ['2024-01-01', '1d']),
     ('400,000 lines of an unknown component', lambda: [('a.ics', unknown(400_000))], ['2024-01-05', '1d']),
+    ('100,000 events in one file', lambda: [('a.ics', events(range(100_000)))], ['2024-01-05', '1d']),
+    ('the same, one faulty, --keep-going', lambda: [('a.ics', events(range(100_000)).replace(b'UID:99999@', b'RRULE:x\r\nUID:99999@'))],
+     ['2024-01-05', '1d', '--keep-going']),
     ('1,000 weekly rules since 2000', lambda: weekly(1_000), ['2024-01-05', '7d']),
     ('weekly rules, a window in 2500', lambda: weekly(1_000), ['2500-01-05', '7d']),
     ('1,000 zoned weekly rules since 2000', lambda: zoned_weekly(1_000), ['2024-01-05', '7d']),

@@ -62,6 +62,11 @@ def forward(after):
             part('STANDARD', '20240702T000000', after, '+0000')]
 
 
+def faulty(count):
+    """So many events without a start."""
+    return calendar([line for number in range(count) for line in ('BEGIN:VEVENT', 'UID:%d' % number, 'END:VEVENT')])
+
+
 LONG = 'DURATION:P36525D'
 ODD_SECONDS = 'FREQ=SECONDLY;INTERVAL=2;BYSECOND=%s;BYMONTH=%s' % (ODD, MONTHS)
 SELDOM = 'FREQ=DAILY;COUNT=4294967295;INTERVAL=1009;BYWEEKNO=1'
@@ -86,6 +91,7 @@ ROWS = [
     ('seconds of an excluded day, 4 rules', lambda: excluded(4, 'Z'), DAY, 4, 24),
     ('seconds of 8 rules, limit 1', lambda: excluded(8, 'Z'), ['2024-07-01', '10d', '--limit', '1'], 4, 32),
     ('the same by the clock of New York', lambda: excluded(8, ''), ['2024-07-01', '10d', '--limit', '1', '--zone', 'EST5EDT,M3.2.0,M11.1.0'], 12, 48),
+    ('400,000 faulty events, --keep-going', lambda: faulty(400_000), [*DAY, '--keep-going'], 12, 256),
 ]
 
 
