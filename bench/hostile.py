@@ -47,6 +47,13 @@ def many(count, onsets):
     return in_zone(parts, '20231231T120000', 'RDATE;TZID=odd:' + ','.join(at))
 
 
+def yearly(count, locals_of_year):
+    """So many observances with an offset each that begin once a year, and an event at so many locals of a year."""
+    parts = [part('STANDARD', '1972' + at[4:], '+0000', '%+03d%02d' % (number % 24 - 12, number // 24), 'RRULE:FREQ=YEARLY')
+             for number, at in enumerate(stamps(count, 366 * 86_400 // count))]
+    return in_zone(parts, '20231231T120000', 'RDATE;TZID=odd:' + ','.join(stamps(locals_of_year, 366 * 86_400 // locals_of_year)))
+
+
 def excluded(count, end):
     """So many events that recur each second, of which a day is taken out. Their times end so."""
     lines = []
@@ -84,6 +91,7 @@ ROWS = [
     ('the same in 9700', lambda: in_zone(ruled(1, SELDOM), '97000701T120000'), ['9700-07-01', '1d'], 1, 32),
     ('8 observances that COUNT ends', lambda: in_zone(ruled(8, 'FREQ=DAILY;COUNT=12345;BYWEEKNO=1'), '20240701T120000'), DAY, 4, 32),
     ('1,200 observances, 4,800 locals', lambda: many(1_200, 4_800), ['2023-12-31', '4d'], 4, 64),
+    ('1,200 yearly observances, 4,800 locals', lambda: yearly(1_200, 4_800), ['2024-01-01', '366d'], 1, 32),
     ('seconds of a day that is skipped', lambda: in_zone(skipped('UNTIL=20240630T235900Z'), '20240701T000000', 'RRULE:FREQ=SECONDLY;COUNT=86400'),
      ['2024-06-30', '4d'], 1, 32),
     ('seconds beside a day that is skipped', lambda: in_zone(forward('+2359'), '20240629T000000', 'RRULE:FREQ=SECONDLY'), DAY, 8, 32),

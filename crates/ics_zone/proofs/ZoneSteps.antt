@@ -1,7 +1,8 @@
 -- The steps of the loops over the observances of a zone.
 use Rattle.std.proofs.Common.{◌≡◌, ℕ, ◌+◌, ◌<◌, ◌≤◌, ◌⊎◌, inl, inr, Bool, ap, ◌∙◌, arith, List, length, get_or, Option, Some}
-use Rattle.std.proofs.Common.{None, slice_get, ℤ, pos, ◌+ℤ◌, ◌-ℤ◌, ◌<ℤ◌, ◌≤ℤ◌, MatchOption, false, All}
+use Rattle.std.proofs.Common.{set, length-set, get_or-set_same, get_or-set_other, None, slice_get, ℤ, pos, ◌+ℤ◌, ◌-ℤ◌, ◌<ℤ◌, ◌≤ℤ◌, MatchOption, false, All}
 use Rattle.std.specs.Int.{int_max}
+use Rattle.std.proofs.lemmas.Bool.{cases_eq}
 use Rattle.std.proofs.lemmas.Int.{ints, clamps}
 use Rattle.std.proofs.lemmas.Option.{slice_get_cases, slice_get_within}
 use Rattle.ics_zone.specs.declared.latest.Latest.{Latest}
@@ -20,6 +21,17 @@ observance_there zone k h = elim (slice_get_cases zone k).1 [ inl is ↦ (is.0, 
 -- what is kept of each observance is sound
 pub all_sound : (zone : List ObservanceSaid) (list : List Onsets) → AreOnsetsOfAll zone list → All IsSound list
 all_sound zone list all k d h = let here = observance_there zone k (omega arith) in (all.each k here.0 d here.1).sound
+
+-- what is kept of one observance may be otherwise
+pub onsets_set : {zone : List ObservanceSaid} {list : List Onsets} {k : ℕ} (was now : Onsets) → AreOnsetsOfAll zone list → k < length list
+    → ((p : ObservanceSaid) → AreOnsetsOf p (get_or list k was) → AreOnsetsOf p now) → AreOnsetsOfAll zone (set list k now)
+onsets_set {zone = zone} {list = list} {k = k} was now all inside same = record {
+  same_length = length-set list k now ∙ all.same_length;
+  each = λ i p d there. elim (cases_eq i k) [
+    | inl here ↦ rw (here, get_or-set_same list k now d inside) (same p (all.each k p was (rw here at there)))
+    | inr other ↦ rw (get_or-set_other list k i now d other) (all.each i p d there)
+  ];
+}
 
 -- of the observances before a place: no onset between two instants begins an offset that shows a later local
 abbrev pub IsNextPastTo : List ObservanceSaid → ℕ → ℤ → ℤ → ℤ → Type 0

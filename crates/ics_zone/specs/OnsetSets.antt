@@ -55,12 +55,17 @@ IsEnd from end r =
     (n : ℕ) → n < rules_end
     → (is_kept r n && is_until (until_moment r) (instant_by from n)) ≡ (is_kept (without_count r) n && int_le (instant_by from n) end)
 
--- the onsets are listed in order, and none is earlier than the first listed one
+-- no onset is in the time that is known to have none
+unfoldable pub IsQuiet : Onsets → Type 0
+IsQuiet onsets = (t : ℤ) → Has onsets t → onsets.quiet_from <ℤ t → onsets.quiet_to ≤ℤ t
+
+-- the onsets are listed in order, none is earlier than the first listed one, and none is in the quiet time
 pub record IsSound (onsets : Onsets) : Type 0 where
   pub from_in : IsWithin 86_399 onsets.offset_from
   pub some : 0 < length onsets.listed.items
   pub in_order : IsInOrder onsets.listed.items
   pub first : (t d : ℤ) → IsKeptAt onsets t → slice_index_or onsets.listed.items 0 d ≤ℤ t
+  pub quiet : IsQuiet onsets
 
 -- the onsets are those of an observance
 pub record AreOnsetsOf (p : ObservanceSaid) (onsets : Onsets) : Type 0 where

@@ -65,8 +65,21 @@ fn begun(latest: Option<Latest>, after: Moment) -> Moment
     }
 }
 
-// The greatest onset that is not after an instant, by instant and then by place, if it is after another instant.
-fn latest_within(onsets: &[Onsets], after: Moment, moment: Moment) -> Option<Latest>
+/// Looks for the next onset of each observance, where it is not known that none is at or just after an instant.
+pub(crate) fn look_on(onsets: &mut [Onsets], at: Moment, limit: Moment)
+    requires sound { All IsSound onsets.old }
+    requires limit { at <ℤ limit }
+    ensures { (zone : List ObservanceSaid) → AreOnsetsOfAll zone onsets.old → AreOnsetsOfAll zone onsets.new }
+{
+    for k in 0..onsets.len() {
+        if !onsets[k].is_quiet(at, at) {
+            onsets[k].look(at, limit);
+        }
+    }
+}
+
+/// The greatest onset that is not after an instant, by instant and then by place, if it is after another instant.
+pub(crate) fn latest_within(onsets: &[Onsets], after: Moment, moment: Moment) -> Option<Latest>
     requires { All IsSound onsets.now }
     ensures { (zone : List ObservanceSaid) → AreOnsetsOfAll zone onsets.now → IsLatestWithin zone after moment (length zone) result }
 {

@@ -7,11 +7,12 @@ ghost use Rattle.ics_zone.specs.Observances.{observance_said, observances_said, 
 ghost use Rattle.ics_zone.specs.Seconds.{IsDay, IsMoment};
 ghost use Rattle.ics_fields.specs.Locals.{seconds_at};
 ghost use Rattle.ics_zone.specs.OnsetSets.{IsSearched};
-ghost use Rattle.ics_zone.specs.ZoneOnsets.{AreOnsetsOfAll, HaveOffsets};
+ghost use Rattle.ics_zone.specs.ZoneOnsets.{AreOnsetsOfAll, HaveOffsets, IsLatestOf};
 
 use crate::clock::EPOCH;
 use crate::latest::{
-    Steady, clear_after, first_offset, latest_of, next_onset, next_past, overrides,
+    Latest, Steady, clear_after, first_offset, latest_of, latest_within, look_on, next_onset,
+    next_past, overrides,
 };
 use crate::onsets::Onsets;
 use crate::walk::{Told, gap_at_end, step, walk_to};
@@ -43,7 +44,7 @@ const HELD: usize = 1_024;
 const HELD_AT_ONCE: usize = 128;
 
 /// How many observances are looked at for the spans of one instant, unless they are few.
-const LOOKED_AT: usize = 8_000_000;
+const LOOKED_AT: usize = 32_000_000;
 
 /// A zone by observances (RFC 5545, section 3.6.5). It has no table of onsets: it searches the observances near each instant. Contracts see the
 /// observances alone.
@@ -99,7 +100,7 @@ impl Observed {
             return Err(ZoneFault::Memory);
         };
         let ago = least_ago(&onsets);
-        let at_once = spans_at_once(&observances, offsets.len());
+        let at_once = spans_at_once(observances.len(), offsets.len());
         Ok(Observed {
             observances,
             onsets,
@@ -123,7 +124,8 @@ impl Observed {
         } else {
             near + DAY
         };
-        self.hold_from(near - DAY, soon, last);
+        let from = first_listed(&self.onsets).clamp(near - DAY, last);
+        self.hold_from(from, soon, last);
         Ok(())
     }
 
@@ -165,11 +167,12 @@ impl Observed {
     {
         let mut at = from;
         let mut last = to;
-        for _ in 0..self.at_once {
-            if at > last {
+        let far = from + self.first_ahead();
+        for made in 0..self.at_once {
+            if at > last || (made == HELD_AT_ONCE && at < far) {
                 return;
             }
-            self.hold(at);
+            self.hold_about(at);
             let Some(held) = self.held_over(at, at) else {
                 return;
             };
@@ -180,12 +183,24 @@ impl Observed {
         }
     }
 
+    // Holds the span about an instant, unless it is held. Each observance is asked for its next onset first, so that it is known.
+    fn hold_about(&mut self, near: Moment)
+        requires { IsSearched near }
+        ensures { self.new ≡ self.old }
+    {
+        if self.held_over(near, near).is_some() {
+            return;
+        }
+        self.look_about(near);
+        self.hold(near);
+    }
+
     // Holds the span about an instant, if there is one, there is room for it, and no allocation fails.
     fn hold(&mut self, near: Moment)
         requires { IsSearched near }
         ensures { self.new ≡ self.old }
     {
-        if self.held.len() >= HELD.max(self.at_once) || self.held_over(near, near).is_some() {
+        if self.held.len() >= HELD.max(self.at_once) {
             return;
         }
         let Some(steady) = self.steady_about(near) else {
@@ -194,6 +209,27 @@ impl Observed {
         if self.held.push(steady).is_ok() {
             self.held.sort_unstable_by_key(|span| span.from);
         }
+    }
+
+    // Looks for the next onset of each observance about an instant, so that it is known.
+    fn look_about(&mut self, near: Moment)
+        requires { IsSearched near }
+        ensures { self.new ≡ self.old }
+    {
+        look_on(&mut self.onsets, near, near + AHEAD);
+    }
+
+    // How many seconds the first spans for an instant have to reach ahead, so that more are made. Observances without rules have but few onsets.
+    fn first_ahead(&self) -> i64
+        ensures low { pos 0 ≤ℤ result }
+        ensures high { result ≤ℤ pos 86_400 }
+    {
+        for observance in &self.observances {
+            if observance.rule.is_some() {
+                return DAY;
+            }
+        }
+        0
     }
 
     // A held span that reaches from one instant to another.
@@ -239,13 +275,27 @@ impl Observed {
         requires { IsSearched near }
         ensures { IfSome result (λ s. IsSteady (zone_offset (observances_said self.now)) s.from s.next s.offset) }
     {
-        let latest = latest_of(&self.onsets, self.ago, near)?;
+        let latest = self.latest_about(near)?;
         let next = next_onset(&self.onsets, near, near + AHEAD);
         Some(Steady {
             from: latest.at,
             next,
             offset: latest.offset,
         })
+    }
+
+    // The greatest onset that is not after an instant. It is at the instant, if the span before is held and ends there.
+    fn latest_about(&self, near: Moment) -> Option<Latest>
+        requires { IsSearched near }
+        ensures { IsLatestOf (observances_said self.now) near (length (observances_said self.now)) result }
+    {
+        if self.held_over(near - 1, near - 1).is_some() {
+            let latest = latest_within(&self.onsets, near - 1, near);
+            if latest.is_some() {
+                return latest;
+            }
+        }
+        latest_of(&self.onsets, self.ago, near)
     }
 
     // The offset at an instant, by the observances. The place becomes that of the observance in force.
@@ -474,16 +524,22 @@ fn least_ago(onsets: &[Onsets]) -> i64 {
     ago
 }
 
-// How many spans are made for one instant. They are more than usual, if a zone without rules has many offsets: a local that is in no span is
-// looked for under each of them.
-fn spans_at_once(observances: &[Observance], offsets: usize) -> usize {
-    for observance in observances {
-        if observance.rule.is_some() {
-            return HELD_AT_ONCE;
+// The first onset of all, which is a listed one. Before it no span is made.
+fn first_listed(onsets: &[Onsets]) -> Moment {
+    let mut first = Moment::MAX;
+    for one in onsets {
+        if let Some(at) = one.listed.first() {
+            first = first.min(*at);
         }
     }
-    let most = LOOKED_AT / observances.len().max(1);
-    offsets.saturating_mul(4).min(most).max(HELD_AT_ONCE)
+    first
+}
+
+// How many spans are made for one instant. They are more than usual, if a zone has many offsets: a local that is in no span is looked for
+// under each of them.
+fn spans_at_once(observances: usize, offsets: usize) -> usize {
+    let most = LOOKED_AT / observances.max(1);
+    offsets.saturating_mul(8).min(most).max(HELD_AT_ONCE)
 }
 
 // The offsets before and after the onsets, each of them once, the greatest first.

@@ -1,11 +1,11 @@
 //! The onsets of one observance near an instant.
-ghost use Rattle.std.specs.Prelude.{◌≡◌, ℤ, pos, int_le, ◌<◌, ◌<ℤ◌, ◌≤ℤ◌, IfOk, IfSome, MatchOption};
+ghost use Rattle.std.specs.Prelude.{◌≡◌, ℤ, pos, true, int_le, ◌<◌, ◌<ℤ◌, ◌≤ℤ◌, IfOk, IfSome, MatchOption};
 ghost use Rattle.std.specs.List.{Contains};
 ghost use Rattle.std.specs.Option.{option_map};
 ghost use Rattle.jiff_core.specs.Calendar.{IsWithin};
 ghost use Rattle.ics_fields.specs.Days.{IsStampDay};
 ghost use Rattle.ics_rule.specs.Kept.{until_moment};
-ghost use Rattle.ics_zone.specs.Observances.{is_until, observance_said, rule_from};
+ghost use Rattle.ics_zone.specs.Observances.{ObservanceSaid, is_until, observance_said, rule_from};
 ghost use Rattle.ics_zone.specs.Latest.{IsInOrder, IsPassed, IsLast, IsLastOf, IsLastAfter};
 ghost use Rattle.ics_zone.specs.OnsetSets.{IsShownTo, IsKeptAt, Has, IsSound, AreOnsetsOf, IsListing, IsEnd, held_rule};
 
@@ -31,6 +31,9 @@ pub(crate) struct Onsets {
     pub until: Moment,
     /// How many seconds back the search for an onset of the rule goes at first.
     pub ago: u64,
+    /// After this instant and before the next there is no onset.
+    pub quiet_from: Moment,
+    pub quiet_to: Moment,
 }
 
 // How many instants of a list are not after a given one.
@@ -155,7 +158,28 @@ impl Onsets {
             rule,
             until,
             ago,
+            quiet_from: 0,
+            quiet_to: 0,
         })
+    }
+
+    /// Whether it is known that no onset is after an instant and not after another.
+    pub fn is_quiet(&self, after: Moment, moment: Moment) -> bool
+        requires { IsSound self.now }
+        ensures { result ≡ true → (t : ℤ) → Has self.now t → after <ℤ t → moment <ℤ t }
+    {
+        self.quiet_from <= after && moment < self.quiet_to
+    }
+
+    /// Looks for the first onset after an instant and before a limit, so that it is known.
+    pub fn look(&mut self, after: Moment, limit: Moment)
+        requires sound { IsSound self.old }
+        requires limit { after <ℤ limit }
+        ensures sound { IsSound self.new }
+        ensures same { (p : ObservanceSaid) → AreOnsetsOf p self.old → AreOnsetsOf p self.new }
+    {
+        self.quiet_to = self.next(after, limit);
+        self.quiet_from = after;
     }
 
     /// The first onset.
@@ -250,6 +274,9 @@ impl Onsets {
         ensures last { MatchOption result ((t : ℤ) → Has self.now t → t ≤ℤ moment → t ≤ℤ after) (IsLast (Has self.now) moment) }
         ensures after { IfSome result (λ s. after <ℤ s) }
     {
+        if self.is_quiet(after, moment) {
+            return None;
+        }
         match (
             self.last_listed_after(after, moment),
             self.last_by_rule_after(after, moment),
@@ -304,6 +331,9 @@ impl Onsets {
         ensures bound { result ≤ℤ limit }
         ensures next { (t : ℤ) → Has self.now t → after <ℤ t → result ≤ℤ t }
     {
+        if self.quiet_from <= after && after < self.quiet_to {
+            return limit.min(self.quiet_to);
+        }
         let kept = self.next_by_rule(after, limit);
         self.next_listed(after, kept)
     }

@@ -13,6 +13,7 @@ use Rattle.ics_zone.specs.Observances.{ObservanceSaid, IsObservanceSaid, instant
 use Rattle.ics_zone.specs.OnsetSets.{IsKeptBy, AreOnsetsOf, IsListing, IsEnd, is_listed, held_rule}
 use Rattle.ics_zone.proofs.Cases.{int_le_true, true_int_le}
 use Rattle.ics_zone.proofs.EndLemmas.{kept_early}
+use Rattle.ics_zone.proofs.QuietLemmas.{quiet_is}
 use Rattle.ics_zone.proofs.OnsetLemmas.{onset-local, local-onset}
 use Rattle.ics_rule.specs.PeriodNumbers.{rules_end}
 use Rattle.ics_zone.proofs.onsets.Onsets.of.Goals as goal
@@ -25,7 +26,7 @@ onset_at : (p : ObservanceSaid) (t : ℤ) (n : ℕ) → t ≡ instant_by p.offse
 onset_at p t n at = local-onset p t n at ∙ same_or (n == number p.start) _ _
 
 module _ (p : ObservanceSaid) (facts : IsObservanceSaid p) (s : Onsets) (from : s.offset_from ≡ p.offset_from) (to : s.offset_to ≡ p.offset_to)
-    (listing : IsListing p s.listed.items) where
+    (listing : IsListing p s.listed.items) (quiet : s.quiet_to ≤ℤ s.quiet_from) where
   start_listed : Contains s.listed.items (instant_by p.offset_from (number p.start))
   start_listed = listing.complete (number p.start) (or_left (number p.start == number p.start) _ ((Decides-eqb (number p.start) (number p.start)).1 refl))
 
@@ -73,6 +74,7 @@ module _ (p : ObservanceSaid) (facts : IsObservanceSaid p) (s : Onsets) (from : 
           some = let start = start_listed in omega arith;
           in_order = listing.in_order;
           first = λ t d h. first_is p.rule t d (rw made at h);
+          quiet = quiet_is s (λ t h late. omega (arith, ints, quiet, late));
         };
         from = from;
         to = to;
@@ -96,4 +98,5 @@ returns c =
     let o = c.args.observance.now in
     rw (to_z-of_z w32 c.args.observance.now.offset_from from, to_z-of_z w32 c.args.observance.now.offset_to to, to_z-of_z w64 c.rule_of-rule.result.1 until)
     (onsets_made (observance_said o) (record { start_in = o.start_in; from_in = o.from_in; to_in = o.to_in }) _ refl refl c.in_ok-listed.ensures
+    (omega (arith, ints))
     c.rule_of-rule.ensures.rule c.rule_of-rule.ensures.end)
