@@ -9,14 +9,11 @@ use Rattle.ics_zone.specs.Seconds.{IsNear}
 use Rattle.ics_zone.proofs.Cases.{int_le_true, less_or_not_z}
 use Rattle.ics_fields.specs.Locals.{midnight, day_of_local}
 use Rattle.ics_series.specs.declared.window.Window.{Window}
-use Rattle.ics_series.specs.Clocks.{Clock, local_at, Clocks}
+use Rattle.ics_series.specs.Clocks.{Clock, local_at}
 use Rattle.ics_series.specs.OnDays.{date_at, end_day, first_day, is_on, last_day, first_near, last_near}
 use Rattle.ics_series.specs.Entry.{Entry}
 use Rattle.ics_series.specs.Meets.{Meets}
 use Rattle.ics_series.specs.Occurs.{Occurs}
-use Rattle.ics_event.specs.declared.event.Event.{Event}
-use Rattle.ics_series.specs.Exclusions.{is_excluded}
-use Rattle.ics_series.specs.Found.{is_shown}
 use Rattle.ics_series.specs.Meeting.{is_met}
 
 -- the day of some seconds
@@ -119,11 +116,3 @@ is_met-meets w o e = record {
 
 pub meets-is_met : (w : Window) (o : Entry) → Meets w o → is_met w o ≡ true
 meets-is_met w o m = grind (arith, ints, m.begun, m.lasting, m.started)
-
-pub shown-met : (clocks : Clocks) (w : Window) (event : Event) (o : Entry) → is_shown clocks w event o ≡ true →
-    Meets w o × (is_excluded clocks event o.start ≡ false)
-shown-met clocks w event o e = (is_met-meets w o (grind arith), grind arith)
-
-pub met-shown : (clocks : Clocks) (w : Window) (event : Event) (o : Entry) → Meets w o → is_excluded clocks event o.start ≡ false →
-    is_shown clocks w event o ≡ true
-met-shown clocks w event o m e = grind (arith, meets-is_met w o m)

@@ -1,5 +1,5 @@
 -- Lists of starts that wait, and one more put in its place.
-use Rattle.std.proofs.Common.{◌≡◌, ℕ, suc, ◌-◌, ◌<◌, ℤ, pos, Bool, true, false, not, List, [], ◌∷◌, ◌++◌, map, length, get_or, drop, slice_get, Some, None}
+use Rattle.std.proofs.Common.{◌≡◌, suc, ◌-◌, ◌<◌, ℤ, true, false, List, [], ◌∷◌, ◌++◌, map, length, get_or, drop, slice_get, Some, None}
 use Rattle.std.proofs.Common.{append_assoc, inr, refl, sym, ◌∙◌, ap, subst, arith, ◌<ℤ◌, int_cmp, int_lt, int_le, Ordering, Less, Equal, Greater}
 use Rattle.std.specs.Cmp.{IsTotalOrder, int_cmp_is}
 use Rattle.std.proofs.lemmas.Cmp.{int_cmp_total, on_total, tied_itself}

@@ -1,10 +1,10 @@
 -- What a series gives.
 use Rattle.std.proofs.Common.{◌≡◌, ℤ, ◌-ℤ◌, List, [], ◌∷◌, take, true, false, Option, Some, None, ◌⊎◌, inl, inr, refl, sym, ◌∙◌, ap, subst, arith, ◌≤ℤ◌, ◌<ℤ◌}
-use Rattle.std.proofs.Common.{slice_get, int_eq, Bool, ◌&&◌, not, if◌then◌else◌, int_cmp, length, ⊎_elim, int_lt, Greater}
+use Rattle.std.proofs.Common.{slice_get, int_eq, Bool, ◌&&◌, not, if◌then◌else◌, int_cmp, length, ⊎_elim, int_le, int_lt, Greater}
 use Rattle.std.proofs.lemmas.Int.{ints}
 use Rattle.std.proofs.lemmas.List.{take-append-drop}
 use Rattle.std.specs.List.{cons_option, filter_map}
-use Rattle.std.proofs.lemmas.Bool.{cond_both}
+use Rattle.std.proofs.lemmas.Bool.{and_parts, cond_both}
 use Rattle.ics_fields.specs.declared.local.Local.{Local}
 use Rattle.ics_rule.specs.Cursors.{place_of}
 use Rattle.ics_fields.specs.Locals.{number, midnight, whole_days}
@@ -22,7 +22,7 @@ use Rattle.ics_series.specs.declared.zones.FileZones.{FileZones}
 use Rattle.ics_series.specs.Clocks.{Clocks, instant}
 use Rattle.ics_series.specs.Entry.{Entry, entry_cmp}
 use Rattle.ics_series.specs.Exclusions.{is_excluded}
-use Rattle.ics_series.specs.Found.{is_shown, moment_cmp, AreStartsSince, IsStart, met_by, shown_by, HasStart, IsSought}
+use Rattle.ics_series.specs.Found.{moment_cmp, AreStartsSince, IsStart, HasStart, IsSought}
 use Rattle.ics_series.specs.Listing.{IsIn, IsListing}
 use Rattle.ics_series.specs.Meeting.{entry_from, is_met}
 use Rattle.ics_series.specs.Merged.{cut, union, put}
@@ -32,38 +32,23 @@ use Rattle.ics_series.specs.SeriesStarts.{first_asked, given_of, has_moment, is_
 use Rattle.ics_series.specs.SeriesStarts.{HasRuled, HasSameRule, IsAskedNear, IsGivenAt, IsGivenBy, IsKnown, IsSeriesMet, IsFirstOf}
 use Rattle.ics_series.specs.Starts.{given_by, local_of, recurrence_of, GivesStart, IsRuleStart, time_of, IsNotAfter}
 use Rattle.ics_series.specs.FileZones.{clocks_in}
-use Rattle.ics_series.proofs.Cases.{equal-true, mapped-some, true-equal}
+use Rattle.ics_series.proofs.Cases.{equal-true, mapped-some, not-true, true-equal}
 use Rattle.ics_series.proofs.FirstLemmas.{int-less, moment_total, tied-moment, same-moment}
 use Rattle.ics_series.proofs.StartSourceLemmas.{gives-value, same-given, same-source, kept-ruled}
 use Rattle.ics_series.proofs.ListingLemmas.{before-in, rises-end, any-in, in-any, picked as picked-from, listing-picked as picked-listing, KeepsOrder}
 use Rattle.ics_series.proofs.ListingLemmas.{one-of-tied}
-use Rattle.ics_series.proofs.NearDayLemmas.{met-shown, shown-met}
+use Rattle.ics_series.proofs.NearDayLemmas.{is_met-meets, meets-is_met}
 use Rattle.ics_series.proofs.RuleDayLemmas.{given-parts, rises-to_come, less-start}
 use Rattle.ics_series.proofs.VersionLemmas.{entry_start_cmp, same-entry}
 use Rattle.ics_series.proofs.RuleStepLemmas.{left-near}
 use Rattle.std.proofs.lemmas.Option.{cond_some}
-use Rattle.ics_series.specs.Meets.{Meets, IsEventMet}
+use Rattle.ics_series.specs.Meets.{Meets}
 use Rattle.ics_series.proofs.BeginsLemmas.{member-cut, begins-first, begins-second, not-after-front}
-use Rattle.ics_zone.proofs.Cases.{int_lt_true}
+use Rattle.ics_zone.proofs.Cases.{int_le_true, int_lt_true}
 use Rattle.ics_series.specs.MergedLaws.{before-trans}
 use Rattle.ics_series.proofs.UnionLemmas.{in-union, itself-put, member-put}
 
 -- The occurrences of one event that meet a window.
--- Whether the occurrence with a start is shown.
-module _ (clocks : Clocks) (w : Window) (event : Event) (s : Start) where
-  abbrev from : Entry
-  from = entry_from clocks event s.given
-
-  -- it is if it meets the window, and no EXDATE takes it out
-  pub shown-by : {out : Bool} → is_excluded clocks event from.start ≡ out → shown_by clocks w event s ≡ (if out then None else met_by clocks w event s)
-  shown-by {out = out} e = ap (λ c. if is_met w from && not c then Some from else None) e ∙ by (is_met w from) out
-    where
-      by : (b c : Bool) → (if b && not c then Some from else None) ≡ (if c then None else if b then Some from else None)
-      by b c = grind arith
-
-  pub unmet : met_by clocks w event s ≡ None → shown_by clocks w event s ≡ None
-  unmet e = shown-by refl ∙ cond_both (is_excluded clocks event from.start) None (met_by clocks w event s) (λ o. o ≡ None) (λ _. refl) (λ _. e)
-
 -- those of the occurrences with these starts that pass a test
 abbrev pub picked : Clocks → Event → (Entry → Bool) → List Start → List Entry
 picked clocks event test starts = filter_map (λ s. if test (entry_from clocks event s.given) then Some (entry_from clocks event s.given) else None) starts
@@ -110,57 +95,79 @@ module _ (clocks : Clocks) (event : Event) (test : Entry → Bool) where
       let k = g e p in
       (k.start, k.stands, ap (λ b. if b then Some (own k.start) else None) (ap test (sym k.is) ∙ k.passes) ∙ ap Some (sym k.is)))
 
--- Found starts give the occurrences: here those that are sought at the instants that count.
-module _ (clocks : Clocks) (w : Window) (event : Event) (starts : List Start) (Counts : ℤ → Type 0) (rises : Rises moment_cmp starts) (are : (s : Start) →
-    IsIn s starts → IsStart clocks event s)
-    (all : (source : StartSource) (given : Rdate) → GivesStart clocks event source given → IsSought clocks event w (instant clocks (time_of given)) →
-    Counts (instant clocks (time_of given)) → HasStart starts source (instant clocks (time_of given))) where
+-- What is wanted of the starts from an instant on is what the series has.
+module _ (clocks : Clocks) (w : Window) (event : Event) (since : ℤ) (starts : List Start) (h : AreStartsSince clocks event w since starts) where
   -- a start from which the event meets the window is sought
   own-sought : (source : StartSource) (given : Rdate) → GivesStart clocks event source given → Meets w (entry_from clocks event given) →
       IsSought clocks event w (instant clocks (time_of given))
   own-sought source given g m = record { source = source; given = given; gives = g; starts = refl; meets = m }
 
-  -- a start that is shown is given by the first to do so
-  pub found-is : (s : Start) → IsIn s starts → is_shown clocks w event (entry_from clocks event s.given) ≡ true → Counts (instant clocks (time_of s.given)) →
-      IsEventMet clocks event w (entry_from clocks event s.given)
-  found-is s m t counts =
-      let start = are s m in
-      let shown = shown-met clocks w event (entry_from clocks event s.given) t in
-      let sought = own-sought s.source s.given start.gives shown.0 in (
-        record {
-          event = refl;
-          recurrence = refl;
-          lasts = record {
-            source = s.source;
-            given = s.given;
-            gives = start.gives;
-            starts = refl;
-            earliest = λ other value g e.
-                let found = all other value g (subst (IsSought clocks event w) (sym e) sought) (subst Counts (sym e) counts) in
-                let same : found.start ≡ s = one-of-tied moment_cmp moment_total starts
-                (same-moment found.start s (found.same ∙ (e ∙ sym start.moment))) rises found.stands m in
-                subst (λ x. IsNotAfter x.source other) same found.earlier;
-            ends = refl;
-            stays = shown.1;
-          };
-        },
-        shown.0,
+  wanted-is : (o : Entry) → is_wanted clocks w event since o ≡ true → ((since ≤ℤ o.start) × Meets w o) × (is_excluded clocks event o.start ≡ false)
+  wanted-is o e =
+      let late = and_parts (int_le since o.start) (is_met w o && not (is_excluded clocks event o.start)) e in
+      let met = and_parts (is_met w o) (not (is_excluded clocks event o.start)) late.1 in
+      ((int_le_true since o.start late.0, is_met-meets w o met.0), not-true (is_excluded clocks event o.start) met.1)
+
+  -- a start that is wanted is given by the first to do so
+  found-is : (s : Start) → IsIn s starts → is_wanted clocks w event since (entry_from clocks event s.given) ≡ true →
+      IsSeriesMet clocks event w since (entry_from clocks event s.given)
+  found-is s m t =
+      let start = h.are s m in
+      let is = wanted-is (entry_from clocks event s.given) t in
+      let sought = own-sought s.source s.given start.gives is.0.1 in (
+        (
+          record {
+            event = refl;
+            recurrence = refl;
+            lasts = record {
+              source = s.source;
+              given = s.given;
+              gives = start.gives;
+              starts = refl;
+              earliest = λ other value g e.
+                  let found = h.all other value g (subst (IsSought clocks event w) (sym e) sought) (subst (λ x. since ≤ℤ x) (sym e) is.0.0) in
+                  let same : found.start ≡ s = one-of-tied moment_cmp moment_total starts
+                  (same-moment found.start s (found.same ∙ (e ∙ sym start.moment))) h.rises found.stands m in
+                  subst (λ x. IsNotAfter x.source other) same found.earlier;
+              ends = refl;
+              stays = is.1;
+            };
+          },
+          is.0.1,
+        ),
+        is.0.0,
       )
 
-  -- an occurrence that meets the window has a start that was found
-  pub is-found : (e : Entry) → IsEventMet clocks event w e → Counts e.start → (s : Start) × IsIn s starts × (e ≡ entry_from clocks event s.given)
-  is-found e o counts =
-      let of = o.0.lasts in
-      let by : e ≡ entry_from clocks event of.given = same-entry e (entry_from clocks event of.given) of.starts of.ends (o.0.recurrence
-      ∙ of.starts) o.0.event in
-      let found = all of.source of.given of.gives (own-sought of.source of.given of.gives (subst (Meets w) by o.1)) (subst Counts of.starts counts) in
-      let start = are found.start found.stands in
-      let above = of.earliest found.start.source found.start.given start.gives (sym start.moment ∙ (found.same ∙ sym of.starts)) in (
-        found.start,
-        found.stands,
-        by ∙ ap (entry_from clocks event)
-            (same-given clocks event of.given found.start.given (same-source of.source found.start.source above found.earlier) of.gives start.gives),
-      )
+  -- an occurrence of the series has a start that was found
+  is-found : (e : Entry) → IsSeriesMet clocks event w since e → IsPicked clocks event (is_wanted clocks w event since) starts e
+  is-found e o =
+      let of = o.0.0.lasts in
+      let by : e ≡ entry_from clocks event of.given = same-entry e (entry_from clocks event of.given) of.starts of.ends (o.0.0.recurrence
+      ∙ of.starts) o.0.0.event in
+      let found = h.all of.source of.given of.gives (own-sought of.source of.given of.gives (subst (Meets w) by o.0.1))
+      (subst (λ x. since ≤ℤ x) of.starts o.1) in
+      let start = h.are found.start found.stands in
+      let above = of.earliest found.start.source found.start.given start.gives (sym start.moment ∙ (found.same ∙ sym of.starts)) in record {
+        start = found.start;
+        stands = found.stands;
+        is = by ∙ ap (entry_from clocks event)
+            (same-given clocks event of.given found.start.given (same-source of.source found.start.source above found.earlier) of.gives start.gives);
+        passes = let met = meets-is_met w e o.0.1 in let late = o.1 in let stays = of.stays in grind (arith, ints);
+      }
+
+  -- what starts later goes later
+  before-later : (a : Entry) (es : List Entry) → IsBefore entry_start_cmp a es → IsBefore entry_cmp a es
+  before-later a [] b = tt
+  before-later a (e ∷ es) b = (rw b.0 refl, before-later a es b.1)
+
+  rises-later : (es : List Entry) → Rises entry_start_cmp es → Rises entry_cmp es
+  rises-later [] r = tt
+  rises-later (e ∷ es) r = (before-later e es r.0, rises-later es r.1)
+
+  pub series-listing : IsListing entry_cmp (IsSeriesMet clocks event w since) (given_of clocks w event since starts)
+  series-listing =
+      let listing = listing-picked clocks event (is_wanted clocks w event since) (IsSeriesMet clocks event w since) starts h.rises h.are found-is is-found in
+      record { rises = rises-later (given_of clocks w event since starts) listing.rises; exact = listing.exact }
 
 -- Both kinds of starts rise.
 pub rises-rule : (o : Option RuleStarts) → Rises moment_cmp (rule_left o)
@@ -217,37 +224,6 @@ module _ (zones : FileZones) (w : Window) (event : Event) where
   known-start s sound k =
       let gives = known-gives s.source s.given sound.start k.gives in
       record { gives = gives; value = gives-value (clocks_in zones) event s.source s.given sound.start sound.rdates gives; moment = k.moment }
-
--- Wanted is what is shown from an instant on.
-module _ (clocks : Clocks) (w : Window) (event : Event) (since : ℤ) where
-  pub wanted-is : (o : Entry) → is_wanted clocks w event since o ≡ true → (is_shown clocks w event o ≡ true) × (since ≤ℤ o.start)
-  wanted-is o e = (grind arith, grind (arith, ints))
-
-  pub is-wanted : (o : Entry) → is_shown clocks w event o ≡ true → since ≤ℤ o.start → is_wanted clocks w event since o ≡ true
-  is-wanted o shown late = grind (arith, ints)
-
-  -- what starts later goes later
-  before-later : (a : Entry) (es : List Entry) → IsBefore entry_start_cmp a es → IsBefore entry_cmp a es
-  before-later a [] h = tt
-  before-later a (e ∷ es) h = (rw h.0 refl, before-later a es h.1)
-
-  rises-later : (es : List Entry) → Rises entry_start_cmp es → Rises entry_cmp es
-  rises-later [] r = tt
-  rises-later (e ∷ es) r = (before-later e es r.0, rises-later es r.1)
-
-  -- the starts from an instant on give what the series has
-  pub series-listing : (starts : List Start) → AreStartsSince clocks event w since starts →
-      IsListing entry_cmp (IsSeriesMet clocks event w since) (given_of clocks w event since starts)
-  series-listing starts h =
-      let listing : IsListing entry_start_cmp (IsSeriesMet clocks event w since) (given_of clocks w event since starts) =
-      listing-picked clocks event (is_wanted clocks w event since) (IsSeriesMet clocks event w since) starts h.rises h.are
-      (λ s m t.
-      let is = wanted-is (entry_from clocks event s.given) t in
-      (found-is clocks w event starts (λ x. since ≤ℤ x) h.rises h.are h.all s m is.0 is.1, is.1))
-      (λ e o.
-      let k = is-found clocks w event starts (λ x. since ≤ℤ x) h.rises h.are h.all e o.0 o.1 in
-      record { start = k.0; stands = k.1; is = k.2; passes = is-wanted e (met-shown clocks w event e o.0.1 o.0.0.lasts.stays) o.1 }) in
-      record { rises = rises-later (given_of clocks w event since starts) listing.rises; exact = listing.exact }
 
 -- Starts at an instant.
 pub moment-in : (xs : List Start) (t : ℤ) → has_moment xs t ≡ true → (x : Start) × IsIn x xs × (x.moment ≡ t)

@@ -1,5 +1,5 @@
 -- The starts by which an event can meet a window, as they are found.
-use Rattle.std.specs.Prelude.{◌≡◌, ◌≤ℤ◌, ◌-ℤ◌, ℕ, ◌+◌, ℤ, pos, Bool, true, false, ◌&&◌, not, List, [], ◌∷◌, Option, Some, None, if◌then◌else◌}
+use Rattle.std.specs.Prelude.{◌≡◌, ◌≤ℤ◌, ◌-ℤ◌, ℕ, ◌+◌, ℤ, pos, Bool, true, false, not, List, [], ◌∷◌, Option, Some, None, if◌then◌else◌}
 use Rattle.std.specs.Int.{int_min}
 use Rattle.std.specs.Option.{option_eq}
 use Rattle.std.specs.Ordering.{int_cmp, int_eq, nat_cmp, on, then_cmp}
@@ -16,7 +16,6 @@ use Rattle.ics_series.specs.declared.start.Start.{Start}
 use Rattle.ics_series.specs.declared.window.Window.{Window}
 use Rattle.ics_series.specs.Clocks.{Clocks, instant}
 use Rattle.ics_series.specs.Entry.{Entry}
-use Rattle.ics_series.specs.Exclusions.{is_excluded}
 use Rattle.ics_series.specs.Finish.{seconds_lasting}
 use Rattle.ics_series.specs.Listing.{IsIn}
 use Rattle.ics_series.specs.Rising.{Rises}
@@ -104,15 +103,6 @@ firsts_after last (s ∷ starts) =
 abbrev pub met_by : Clocks → Window → Event → Start → Option Entry
 met_by clocks w event s =
     if is_met w (entry_from clocks event s.given) then Some (entry_from clocks event s.given) else None
-
--- the occurrence meets the window, and no EXDATE removes it
-abbrev pub is_shown : Clocks → Window → Event → Entry → Bool
-is_shown clocks w event o = is_met w o && not (is_excluded clocks event o.start)
-
--- the occurrence with this start, if it is shown
-abbrev pub shown_by : Clocks → Window → Event → Start → Option Entry
-shown_by clocks w event s =
-    if is_shown clocks w event (entry_from clocks event s.given) then Some (entry_from clocks event s.given) else None
 
 -- the list, with a start put before it if the test passes
 abbrev pub with_front : Bool → Start → List Start → List Start

@@ -1,5 +1,5 @@
 -- The starts of a series still to come, and the occurrences that they give.
-use Rattle.std.specs.Prelude.{◌≡◌, ◌≤ℤ◌, ℤ, ◌+ℤ◌, ◌-ℤ◌, Bool, true, false, ◌&&◌, int_le, List, [], ◌∷◌, drop, slice_get, Option, None, Some, ◌⊎◌}
+use Rattle.std.specs.Prelude.{◌≡◌, ◌≤ℤ◌, ℤ, ◌+ℤ◌, ◌-ℤ◌, Bool, true, false, ◌&&◌, not, int_le, List, [], ◌∷◌, drop, slice_get, Option, None, Some, ◌⊎◌}
 use Rattle.std.specs.Prelude.{if◌then◌else◌}
 use Rattle.std.specs.Int.{int_max, int_min}
 use Rattle.std.specs.List.{filter_map, list_any}
@@ -22,9 +22,10 @@ use Rattle.ics_series.specs.declared.window.Window.{Window}
 use Rattle.ics_series.specs.declared.zones.FileZones.{FileZones}
 use Rattle.ics_series.specs.Clocks.{Clocks, instant}
 use Rattle.ics_series.specs.Entry.{Entry}
-use Rattle.ics_series.specs.Found.{earliest, is_shown, listed_from, moment_cmp, start_at}
+use Rattle.ics_series.specs.Exclusions.{is_excluded}
+use Rattle.ics_series.specs.Found.{earliest, listed_from, moment_cmp, start_at}
 use Rattle.ics_series.specs.Listing.{IsIn}
-use Rattle.ics_series.specs.Meeting.{entry_from}
+use Rattle.ics_series.specs.Meeting.{entry_from, is_met}
 use Rattle.ics_series.specs.Merged.{cut, union}
 use Rattle.ics_series.specs.Meets.{IsEventMet}
 use Rattle.ics_series.specs.RuleFeed.{is_unsettled, starts_left, HasSameSource}
@@ -95,9 +96,9 @@ HasOwnRule zones event w first (Some s) = IsOwnRule zones event w first s
 abbrev pub first_of : Clocks → Window → Event → ℤ → ℤ
 first_of clocks w event since = first_asked clocks w event since (listed_apart clocks w event event.rule)
 
--- the occurrence is shown and begins at this instant or later
+-- the occurrence begins at this instant or later and meets the window, and no EXDATE removes it
 abbrev pub is_wanted : Clocks → Window → Event → ℤ → Entry → Bool
-is_wanted clocks w event since o = int_le since o.start && is_shown clocks w event o
+is_wanted clocks w event since o = int_le since o.start && (is_met w o && not (is_excluded clocks event o.start))
 
 -- the occurrence with this start, if it belongs to the series
 abbrev pub wanted_by : Clocks → Window → Event → ℤ → Start → Option Entry

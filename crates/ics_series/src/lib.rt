@@ -22,7 +22,6 @@ mod listed_starts;
 mod mark;
 mod masters;
 mod merge;
-mod met;
 mod near_day;
 mod occurrence;
 mod occurrence_days;

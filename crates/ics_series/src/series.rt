@@ -19,7 +19,6 @@ use crate::feed::{Coming, Feed};
 use crate::listed::push_listed;
 use crate::listed_starts::ListedStarts;
 use crate::mark::{Mark, counted};
-use crate::met::shown;
 use crate::occurrence::Occurrence;
 use crate::rule_starts::RuleStarts;
 use crate::start::{Start, kind_of, local_of};
@@ -211,13 +210,13 @@ impl<'a> Series<'a> {
         if start.moment < self.since {
             return None;
         }
-        shown(
-            self.zones,
-            self.event,
-            &self.exclusions,
-            start,
-            &self.window,
-        )
+        let (zones, event) = (self.zones, self.event);
+        let occurrence = Occurrence::within(zones, event, start, &self.window)?;
+        if self.exclusions.has(zones, event.start, occurrence.start) {
+            None
+        } else {
+            Some(occurrence)
+        }
     }
 }
 

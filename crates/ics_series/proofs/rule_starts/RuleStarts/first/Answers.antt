@@ -1,4 +1,4 @@
-use Rattle.std.proofs.Common.{◌≡◌, Option, Some, None, ◌∷◌, [], List, slice_get, sym, ◌∙◌, ap}
+use Rattle.std.proofs.Common.{◌≡◌, Some, List, slice_get, sym, ◌∙◌, ap}
 use Rattle.ics_event.specs.declared.event.Event.{Event}
 use Rattle.ics_series.specs.Waiting.{start_of, waiting_in}
 use Rattle.ics_series.specs.declared.start.Start.{Start}

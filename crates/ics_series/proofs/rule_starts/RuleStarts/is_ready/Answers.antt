@@ -1,4 +1,4 @@
-use Rattle.std.proofs.Common.{◌≡◌, List, rules, w64, to_z, of_z, sym, ◌∙◌, ap, arith, int_le, ℤ, SFits}
+use Rattle.std.proofs.Common.{◌≡◌, List, rules, w64, to_z, of_z, sym, ◌∙◌, ap, arith, int_le, SFits}
 use Rattle.std.proofs.lemmas.Int.{ints}
 use Rattle.ics_series.specs.RuleFeed.{settled_in}
 use Rattle.ics_series.specs.RuleStarts.{is_ready}
