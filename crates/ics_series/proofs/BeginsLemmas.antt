@@ -1,7 +1,7 @@
 -- What the merge of rising lists begins with, and what it leaves.
-use Rattle.std.specs.List.{AllByRecursion, insert}
+use Rattle.std.specs.List.{AllByRecursion}
 use Rattle.std.proofs.Common.{◌≡◌, ℕ, zero, suc, ◌<◌, List, [], ◌∷◌, ◌⊎◌, inl, inr, ⊎_elim, refl, sym, ◌∙◌, ap, subst, map, get_or, length, arith, Ordering}
-use Rattle.std.proofs.Common.{Less, Equal, Greater, drop}
+use Rattle.std.proofs.Common.{Less, Equal, Greater}
 use Rattle.std.specs.Cmp.{IsTotalOrder}
 use Rattle.std.specs.Ordering.{ordering_reverse}
 use Rattle.std.proofs.lemmas.Cmp.{alike_right, tied_back, tied_itself}
@@ -147,27 +147,8 @@ module _ {A : Type 0} (R : A → A → Ordering) (o : IsTotalOrder R) where
   pub one-first : (s : A) (xs : List A) → Rises R xs → IsBefore R s xs → union R xs (s ∷ []) ≡ s ∷ xs
   one-first s xs r h = union-front R o s xs [] h ∙ ap (λ ws. s ∷ ws) (alone xs r)
 
-  pub before-at : (x : A) (xs : List A) (i : ℕ) (d : A) → IsBefore R x xs → i < length xs → R x (get_or xs i d) ≡ Less
-  before-at x [] i d h l = absurd (omega arith)
-  before-at x (y ∷ ys) zero d h l = h.0
-  before-at x (y ∷ ys) (suc i) d h l = before-at x ys i d h.1 (omega arith)
-
-  module _ (s d : A) where
-    -- what comes after the value at a place, and before all behind that, stands behind it
-    pub one-after : (xs : List A) (i : ℕ) → Rises R xs → i < length xs → R (get_or xs i d) s ≡ Less → IsBefore R s (drop (suc i) xs)
-        → union R xs (s ∷ []) ≡ insert xs (suc i) s
-    one-after [] i r l less h = absurd (omega arith)
-    one-after (x ∷ xs) zero r l less h = ap (put R x) (one-first s xs r.1 h) ∙ put-before x (s ∷ xs) (less, r.0)
-    one-after (x ∷ xs) (suc i) r l less h =
-        let low : i < length xs = omega arith in
-        let first : R x s ≡ Less = o.trans x (get_or xs i d) s (before-at x xs i d r.0 low) less in
-        put-before x (union R xs (s ∷ [])) (before-union R o x xs (s ∷ []) r.0 (first, tt)) ∙ ap (λ ws. x ∷ ws) (one-after xs i r.1 low less h)
-
-    -- what is tied with the value at a place changes nothing
-    pub one-tied : (xs : List A) (i : ℕ) → Rises R xs → i < length xs → R s (get_or xs i d) ≡ Equal → IsBefore R s (drop (suc i) xs)
-        → union R xs (s ∷ []) ≡ xs
-    one-tied [] i r l same h = absurd (omega arith)
-    one-tied (x ∷ xs) zero r l same h =
-        let tied : R x s ≡ Equal = o.antisymm x s ∙ ap ordering_reverse same in
-        ap (put R x) (one-first s xs r.1 h) ∙ ap (λ c. by_order c (x ∷ s ∷ xs) (x ∷ xs) (s ∷ put R x xs)) tied
-    one-tied (x ∷ xs) (suc i) r l same h = ap (put R x) (one-tied xs i r.1 (omega arith) same h) ∙ put-before x xs r.0
+  -- what is tied with the first changes nothing
+  pub one-tied : (s x : A) (xs : List A) → Rises R (x ∷ xs) → R s x ≡ Equal → IsBefore R s xs → union R (x ∷ xs) (s ∷ []) ≡ x ∷ xs
+  one-tied s x xs r same h =
+      let tied : R x s ≡ Equal = o.antisymm x s ∙ ap ordering_reverse same in
+      ap (put R x) (one-first s xs r.1 h) ∙ ap (λ c. by_order c (x ∷ s ∷ xs) (x ∷ xs) (s ∷ put R x xs)) tied

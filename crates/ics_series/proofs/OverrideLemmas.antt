@@ -44,10 +44,7 @@ overrides-sorted {vs = vs} os h e =
     ((rises-on seen label_subject_cmp os).0 (subst (Rises label_subject_cmp) (sym e)
     (rises-filter label_subject_cmp is_override (map seen vs) (chosen-rises h))))
 
--- the master of a UID, and an instance of it
-abbrev pub master : List ℕ → SubjectSeen
-master uid = record { uid = uid; recurrence = None }
-
+-- an instance of a UID
 abbrev instance : List ℕ → ℤ → SubjectSeen
 instance uid t = record { uid = uid; recurrence = Some t }
 

@@ -72,7 +72,7 @@ pub put-tied : (s : Waiting) (ws vs : List Waiting) → Rises waiting_cmp (ws ++
 put-tied s [] [] r f b = let no : true ≡ false = b in absurd cc
 put-tied s [] (v ∷ vs) r f b =
     let tied = tied-waiting s v (not-after s.moment v.moment f b) in
-    one-tied waiting_cmp waiting_total s v (v ∷ vs) 0 r (omega arith) tied (before-tied waiting_cmp waiting_total s v vs tied r.0)
+    one-tied waiting_cmp waiting_total s v vs r tied (before-tied waiting_cmp waiting_total s v vs tied r.0)
 put-tied s (w ∷ ws) vs r f b = ap (put waiting_cmp w) (put-tied s ws vs r.1 f b) ∙ put-before waiting_cmp waiting_total w (ws ++ vs) r.0
 
 -- What goes from one part of a queue to the other, and what is put between them.
@@ -102,14 +102,6 @@ pub pushed-before : (t : ℤ) (ws : List Waiting) (w : Waiting) → w.moment <�
 pushed-before t [] w l = grind (arith, ints)
 pushed-before t (v ∷ []) w l = grind (arith, ints)
 pushed-before t (v ∷ u ∷ ws) w l = pushed-before t (u ∷ ws) w l
-
-pub some-ends : (t : ℤ) (ws : List Waiting) → ends_before t ws ≡ false → length ws ≡ 0 → ⊥
-some-ends t [] e l = let no : true ≡ false = e in absurd cc
-some-ends t (w ∷ ws) e l = omega (arith, l)
-
-pub some-begins : (t : ℤ) (ws : List Waiting) → begins_from t ws ≡ false → length ws ≡ 0 → ⊥
-some-begins t [] e l = let no : true ≡ false = e in absurd cc
-some-begins t (w ∷ ws) e l = omega (arith, l)
 
 pub begins-early : (t : ℤ) (vs xs : List Waiting) (w : Waiting) → vs ≡ w ∷ xs → begins_from t vs ≡ false → w.moment <ℤ t
 begins-early t vs xs w e b = int_le_false t w.moment (sym (ap (begins_from t) e) ∙ b)

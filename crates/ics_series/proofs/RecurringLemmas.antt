@@ -60,8 +60,7 @@ module _ (clocks : Clocks) (event : Event) (sound : IsEvent event) where
       let rest = starts-of xs r.1 (λ g m. f g (inr m)) in
       let own = f x (inl refl) in
       let s = start_by clocks x own.0 in
-      let is : IsStart clocks event (start_by clocks x own.0) =
-      record { gives = own.1; value = gives-value clocks event x own.0 sound.start sound.rdates own.1; moment = refl } in
+      let is : IsStart clocks event (start_by clocks x own.0) = record { gives = own.1; moment = refl } in
       record {
         starts = put moment_cmp s rest.starts;
         rises = rises-union moment_cmp moment_total (s ∷ []) rest.starts rest.rises;

@@ -1,5 +1,5 @@
 -- The starts of a rule: what reading a local does to those still to come, and where they lie by the days of their locals.
-use Rattle.std.proofs.Common.{◌≡◌, ℕ, zero, suc, ◌+◌, ◌-◌, ◌<◌, ◌≤◌, max, ℤ, pos, ◌+ℤ◌, ◌-ℤ◌, Bool, true, false, ◌&&◌, List, [], ◌∷◌, length, get_or, drop}
+use Rattle.std.proofs.Common.{◌≡◌, ℕ, zero, suc, ◌+◌, ◌-◌, ◌<◌, ◌≤◌, max, ℤ, pos, ◌+ℤ◌, ◌-ℤ◌, Bool, true, false, ◌&&◌, List, [], ◌∷◌}
 use Rattle.std.proofs.Common.{⊎_elim, refl, sym, ◌∙◌, ap, arith, add-one, ◌≤ℤ◌, ◌<ℤ◌, int_lt, Less}
 use Rattle.std.proofs.lemmas.Bool.{cases_lt}
 use Rattle.std.proofs.lemmas.Int.{ints}
@@ -23,17 +23,17 @@ use Rattle.ics_series.specs.declared.zones.FileZones.{FileZones}
 use Rattle.ics_series.specs.Found.{moment_cmp, start_at}
 use Rattle.ics_series.specs.Listing.{IsIn}
 use Rattle.ics_series.specs.Clocks.{Clocks}
-use Rattle.ics_series.specs.Merged.{cut, put, union}
+use Rattle.ics_series.specs.Merged.{put, union}
 use Rattle.ics_series.specs.MergedLaws.{rises-put, rises-union}
 use Rattle.ics_series.specs.Rising.{Rises}
 use Rattle.ics_series.specs.RuleStarts.{found, found_in, gives, lets_until, local_numbered, midnight_number, moment_numbered, to_come}
 use Rattle.ics_series.specs.RuleStarts.{with_held, with_put}
 use Rattle.ics_series.specs.Starts.{stamp_at, time_at}
 use Rattle.ics_series.specs.FileZones.{clocks_in}
-use Rattle.ics_series.proofs.FirstLemmas.{moment_total, same-moment, tied-moment}
+use Rattle.ics_series.proofs.FirstLemmas.{moment_total}
 use Rattle.ics_series.proofs.StartSourceLemmas.{written-at}
 use Rattle.ics_series.proofs.InstantLemmas.{instant-near}
-use Rattle.ics_series.proofs.Cases.{here-or-later, by-cases}
+use Rattle.ics_series.proofs.Cases.{here-or-later}
 use Rattle.ics_series.proofs.UnionLemmas.{put-in, union_assoc}
 
 -- what is so of a list and of the list with a start put in is so whatever the test
@@ -188,18 +188,3 @@ module _ (zones : FileZones) (event : Event) where
         to_come (clocks_in zones) event rule w held place ≡ found (clocks_in zones) event rule w from
     unfolding to_come
     come-empty held place from h e = ap (λ xs. union moment_cmp xs (found (clocks_in zones) event rule w place)) h ∙ ap (found (clocks_in zones) event rule w) e
-
--- The first of a list goes where a start is at its instant, and else nothing does.
-pub cut-first : (t : Start) (held : List Start) {d : Start} → 0 < length held → d ≡ get_or held 0 d → t.moment ≡ d.moment →
-    drop 1 held ≡ cut moment_cmp t held
-cut-first t [] some is e = absurd (omega (arith, some))
-cut-first t (s ∷ held) some is e = rw (same-moment t s (e ∙ ap (λ (x : Start). x.moment) is)) refl
-
-pub uncut-first : (t : Start) (held : List Start) {d : Start} → d ≡ get_or held 0 d → (t.moment ≡ d.moment → ⊥) → held ≡ cut moment_cmp t held
-uncut-first t [] is n = refl
-uncut-first t (s ∷ held) is n =
-    by-cases (moment_cmp t s) (λ e. rw e refl) (λ e. absurd (n (tied-moment t s e ∙ ap (λ (x : Start). x.moment) (sym is)))) (λ e. rw e refl)
-
-pub uncut-none : (t : Start) (held : List Start) → length held ≡ 0 → held ≡ cut moment_cmp t held
-uncut-none t [] e = refl
-uncut-none t (s ∷ held) e = absurd (omega (arith, e))

@@ -1,21 +1,17 @@
 -- What a series gives.
-use Rattle.std.proofs.Common.{◌≡◌, ℤ, ◌-ℤ◌, List, [], ◌∷◌, take, true, false, Option, Some, None, ◌⊎◌, inl, inr, refl, sym, ◌∙◌, ap, subst, arith, ◌≤ℤ◌, ◌<ℤ◌}
+use Rattle.std.proofs.Common.{◌≡◌, ℤ, ◌-ℤ◌, List, [], ◌∷◌, take, true, false, Option, Some, None, inl, inr, refl, sym, ◌∙◌, ap, subst, arith, ◌≤ℤ◌, ◌<ℤ◌}
 use Rattle.std.proofs.Common.{slice_get, int_eq, Bool, ◌&&◌, not, if◌then◌else◌, int_cmp, length, ⊎_elim, int_le, int_lt, Greater}
 use Rattle.std.proofs.lemmas.Int.{ints}
 use Rattle.std.proofs.lemmas.List.{take-append-drop}
 use Rattle.std.specs.List.{cons_option, filter_map}
 use Rattle.std.proofs.lemmas.Bool.{and_parts, cond_both}
-use Rattle.ics_fields.specs.declared.local.Local.{Local}
 use Rattle.ics_rule.specs.Cursors.{place_of}
-use Rattle.ics_fields.specs.Locals.{number, midnight, whole_days}
-use Rattle.ics_rule.specs.Recurrence.{Recurrence}
-use Rattle.ics_event.specs.Event.{IsEvent, IsTime}
+use Rattle.ics_fields.specs.Locals.{midnight, whole_days}
 use Rattle.ics_event.specs.declared.event.Event.{Event}
 use Rattle.ics_event.specs.Event.{Rdate}
 use Rattle.ics_series.specs.declared.listed_starts.ListedStarts.{ListedStarts}
 use Rattle.ics_series.specs.declared.rule_starts.RuleStarts.{RuleStarts}
 use Rattle.ics_series.specs.declared.start.StartSource.{StartSource}
-use Rattle.ics_series.specs.declared.start.StartSource.TheVariants.{Kept, Listed}
 use Rattle.ics_series.specs.declared.start.Start.{Start}
 use Rattle.ics_series.specs.declared.window.Window.{Window}
 use Rattle.ics_series.specs.declared.zones.FileZones.{FileZones}
@@ -28,17 +24,17 @@ use Rattle.ics_series.specs.Meeting.{entry_from, is_met}
 use Rattle.ics_series.specs.Merged.{cut, union, put}
 use Rattle.ics_series.specs.Rising.{IsBefore, Rises}
 use Rattle.ics_series.specs.RuleFeed.{held_in, starts_left}
-use Rattle.ics_series.specs.SeriesStarts.{first_asked, given_of, has_moment, is_wanted, listed_left, rule_asked, rule_left, wanted_by, AreKnown, HasOwnRule}
-use Rattle.ics_series.specs.SeriesStarts.{HasRuled, HasSameRule, IsAskedNear, IsGivenAt, IsGivenBy, IsKnown, IsSeriesMet, IsFirstOf}
-use Rattle.ics_series.specs.Starts.{given_by, local_of, recurrence_of, GivesStart, IsRuleStart, time_of, IsNotAfter}
+use Rattle.ics_series.specs.SeriesStarts.{first_asked, given_of, has_moment, is_wanted, listed_left, rule_asked, rule_left, wanted_by, HasOwnRule}
+use Rattle.ics_series.specs.SeriesStarts.{HasRuled, HasSameRule, IsAskedNear, IsSeriesMet, IsFirstOf}
+use Rattle.ics_series.specs.Starts.{GivesStart, time_of, IsNotAfter}
 use Rattle.ics_series.specs.FileZones.{clocks_in}
-use Rattle.ics_series.proofs.Cases.{equal-true, mapped-some, not-true, true-equal}
+use Rattle.ics_series.proofs.Cases.{equal-true, not-true, true-equal}
 use Rattle.ics_series.proofs.FirstLemmas.{int-less, moment_total, tied-moment, same-moment}
-use Rattle.ics_series.proofs.StartSourceLemmas.{gives-value, same-given, same-source, kept-ruled}
+use Rattle.ics_series.proofs.StartSourceLemmas.{same-given, same-source}
 use Rattle.ics_series.proofs.ListingLemmas.{before-in, rises-end, any-in, in-any, picked as picked-from, listing-picked as picked-listing, KeepsOrder}
 use Rattle.ics_series.proofs.ListingLemmas.{one-of-tied}
 use Rattle.ics_series.proofs.NearDayLemmas.{is_met-meets, meets-is_met}
-use Rattle.ics_series.proofs.RuleDayLemmas.{given-parts, rises-to_come, less-start}
+use Rattle.ics_series.proofs.RuleDayLemmas.{rises-to_come, less-start}
 use Rattle.ics_series.proofs.VersionLemmas.{entry_start_cmp, same-entry}
 use Rattle.ics_series.proofs.RuleStepLemmas.{left-near}
 use Rattle.std.proofs.lemmas.Option.{cond_some}
@@ -179,16 +175,16 @@ rises-listed s =
     rises-end moment_cmp moment_total (take s.gone s.starts.items) (listed_left s)
     (subst (Rises moment_cmp) (sym (take-append-drop s.gone s.starts.items)) s.rises)
 
--- What is known of some starts and what they give, where one of them goes.
+-- What holds of some starts and what they give, where one of them goes.
+pub rest-of : {P : Start → Type 0} {s : Start} {all rest : List Start} → all ≡ s ∷ rest → ((t : Start) → IsIn t all → P t) → (t : Start) → IsIn t rest → P t
+rest-of e h t m = h t (rw e (inr m))
+
 module _ (clocks : Clocks) (w : Window) (event : Event) where
   -- a start is the first of all that is left, and the rest stands behind it
   pub record IsFrontOf (t : Start) (all rest : List Start) : Type 0 where
     pub is : all ≡ t ∷ rest
     pub rises : Rises moment_cmp all
-    pub known : AreKnown clocks event w all
-
-  pub known-rest : (s : Start) (all rest : List Start) → all ≡ s ∷ rest → AreKnown clocks event w all → AreKnown clocks event w rest
-  known-rest s all rest e h t m = h t (rw e (inr m))
+    pub timed : (s : Start) → IsIn s all → s.moment ≡ instant clocks (time_of s.given)
 
   rises-behind : (o : Option Entry) (es : List Entry) → Rises entry_cmp (cons_option o es) → Rises entry_cmp es
   rises-behind None es r = r
@@ -206,25 +202,6 @@ pub both-passed : {rule rule' rule'' listed' : List Start} {t : Start} (listed :
     → union moment_cmp rule listed ≡ t ∷ union moment_cmp rule'' listed'
 both-passed listed a b c h = rw (b, c, ← a) h
 
--- What is known of a start makes it one of the event.
-module _ (zones : FileZones) (w : Window) (event : Event) where
-  given-local : (local : Local) (o : Option Recurrence) → recurrence_of event ≡ o → IsTime event.start → IsGivenAt (clocks_in zones) event w local o
-      → (local ≡ local_of event.start.stamp) ⊎ IsRuleStart (clocks_in zones) event local
-  given-local local None has time g = inl g
-  given-local local (Some rule) has time g =
-      let parts = given-parts zones event rule w (number local) g.1 in
-      kept-ruled (clocks_in zones) event rule has local time g.0 parts.0 parts.1
-
-  known-gives : (source : StartSource) (given : Rdate) → IsTime event.start → IsGivenBy (clocks_in zones) event w source given →
-      GivesStart (clocks_in zones) event source given
-  known-gives (Kept local) given time g = (given-local local (recurrence_of event) refl time g.0, g.1)
-  known-gives (Listed place) given time g = mapped-some (given_by event.start) (slice_get event.rdates place) given g
-
-  pub known-start : (s : Start) → IsEvent event → IsKnown (clocks_in zones) event w s → IsStart (clocks_in zones) event s
-  known-start s sound k =
-      let gives = known-gives s.source s.given sound.start k.gives in
-      record { gives = gives; value = gives-value (clocks_in zones) event s.source s.given sound.start sound.rdates gives; moment = k.moment }
-
 -- Starts at an instant.
 pub moment-in : (xs : List Start) (t : ℤ) → has_moment xs t ≡ true → (x : Start) × IsIn x xs × (x.moment ≡ t)
 moment-in xs t e = let k = any-in (λ (s : Start). int_eq s.moment t) xs e in (k.0, k.1, equal-true k.0.moment t k.2)
@@ -234,12 +211,12 @@ in-moment x t xs is m = in-any (λ (s : Start). int_eq s.moment t) x xs (true-eq
 
 -- What goes before all that is left is not tied with what is still to come.
 module _ (clocks : Clocks) (w : Window) (event : Event) (since : ℤ) where
-  begins-after : (t : Start) (rest : List Start) (o : Entry) → IsBefore moment_cmp t rest → AreKnown clocks event w rest →
-      IsIn o (given_of clocks w event since rest) → t.moment <ℤ o.start
-  begins-after t rest o b known m =
+  begins-after : (t : Start) (rest : List Start) (o : Entry) → IsBefore moment_cmp t rest →
+      ((s : Start) → IsIn s rest → s.moment ≡ instant clocks (time_of s.given)) → IsIn o (given_of clocks w event since rest) → t.moment <ℤ o.start
+  begins-after t rest o b timed m =
       let k = in-picked clocks event (is_wanted clocks w event since) rest o m in
       let less = int-less t.moment k.start.moment (before-in moment_cmp moment_total t k.start rest b k.stands) in
-      subst (λ x. t.moment <ℤ x) ((known k.start k.stands).moment ∙ ap (λ (e : Entry). e.start) (sym k.is)) less
+      subst (λ x. t.moment <ℤ x) (timed k.start k.stands ∙ ap (λ (e : Entry). e.start) (sym k.is)) less
 
   in-behind : (o : Option Entry) (e : Entry) (es : List Entry) → IsIn e es → IsIn e (cons_option o es)
   in-behind None e es m = m
@@ -251,7 +228,7 @@ module _ (clocks : Clocks) (w : Window) (event : Event) (since : ℤ) where
   ruled-rest None None same c front h = tt
   ruled-rest (Some a) (Some b) {t = t} {all = all} {rest = rest} same c front h = λ o m local k.
       let rises : Rises moment_cmp (t ∷ rest) = rw front.is at front.rises in
-      let after = begins-after t rest o rises.0 (known-rest clocks w event t all rest front.is front.known) m in
+      let after = begins-after t rest o rises.0 (rest-of front.is front.timed) m in
       let there : IsIn o (given_of clocks w event since all) =
       rw front.is (in-behind (wanted_by clocks w event since t) o (given_of clocks w event since rest) m) in
       let x = moment-in (starts_left a) o.start (h o there local k) in

@@ -43,7 +43,7 @@ use Rattle.ics_series.proofs.OverrideLemmas.{named-overrides}
 use Rattle.ics_series.proofs.ListingLemmas.{filter_map-map, listing-filter, listing-picked, KeepsOrder, listing-sorted, map-climbs, Climbs, all-as}
 use Rattle.ics_series.proofs.UnionLemmas.{from-one, listing-ordered, merged-is, one-from, IsInOne}
 use Rattle.ics_series.proofs.RawLemmas.{one-start}
-use Rattle.ics_series.proofs.ToComeLemmas.{come-listed, is-after, listed-given, to-come}
+use Rattle.ics_series.proofs.ToComeLemmas.{after-come, come-listed, listed-given, to-come}
 use Rattle.ics_series.proofs.ZoneLemmas.{none-of, rule-none}
 use Rattle.ics_series.proofs.StartSourceLemmas.{own-time}
 use Rattle.std.specs.Cmp.{IsTotalOrder}
@@ -227,7 +227,7 @@ module _ (files : List FileSaid) (display : Clock) (w : Window) (after : Option 
       let single : is_single listed.0.by.event ≡ true = ap is_single (sym event) ∙ t.1 in
       let is = given-first (clocks_by p) p.event single o listed.0.is.0 in
       let comes : is_to_come w os after o ≡ true =
-      (λ i. (meets-is_met w o listed.0.is.1 i && is-after files display w vs chosen after o t.0 i) && (kept-same o ∙ listed.1) i) in
+      (λ i. (meets-is_met w o listed.0.is.1 i && after-come files display w after o t.0 i) && (kept-same o ∙ listed.1) i) in
       let come = ap (is_to_come w os after) (sym is) ∙ comes in
       (p, listed.0.chosen, given-by p listed.0.chosen ∙ ((λ i. if single i && come i then Some (own p) else None) ∙ ap Some (sym is)))
 
@@ -310,7 +310,7 @@ module _ (files : List FileSaid) (display : Clock) (w : Window) (after : Option 
           by = recurs;
           of = rw none at g.is.0;
           meets = g.is.1;
-          later = is-after files display w vs chosen after e t;
+          later = after-come files display w after e t;
         }))))
         (cases_Bool (is_single e.event))
 

@@ -88,8 +88,5 @@ module _ (files : List FileSaid) (display : Clock) (w : Window) (vs : List Versi
       IsToCome files display w after o
   to-come after o g k = come-after files display w after o (given-occurs o g k, g.is.1)
 
-  pub is-after : (after : Option Rank) (o : Entry) → IsToCome files display w after o → is_after after o ≡ true
-  is-after = after-come files display w
-
   pub listed-given : (o : Entry) → IsListed files display w o → IsGiven files display w o × (is_kept (map seen vs) o ≡ true)
   listed-given o l = ⊎_elim (λ m. master-given o m l.1) (λ m. override-given o m l.1) l.0

@@ -51,7 +51,7 @@ span-prop Open = ⊥-prop
 span-prop (Until end) = hlevel props
 span-prop (Lasting duration) = hlevel props
 
-rdate-prop : (rdate : Rdate) → IsProp (IsRdate rdate)
+pub rdate-prop : (rdate : Rdate) → IsProp (IsRdate rdate)
 rdate-prop (At time) = hlevel props
 rdate-prop (Span start length) = ×_prop (hlevel props) (span-prop length)
 
@@ -60,7 +60,7 @@ ends-below-prop zones Open = Unit-prop
 ends-below-prop zones (Until end) = hlevel props
 ends-below-prop zones (Lasting duration) = Unit-prop
 
-rdate-below-prop : (zones : ℕ) (rdate : Rdate) → IsProp (RdateBelow zones rdate)
+pub rdate-below-prop : (zones : ℕ) (rdate : Rdate) → IsProp (RdateBelow zones rdate)
 rdate-below-prop zones (At time) = hlevel props
 rdate-below-prop zones (Span start length) = ×_prop (hlevel props) (ends-below-prop zones length)
 

@@ -1,11 +1,11 @@
 -- The starts by which an event can meet a window, as they are found.
-use Rattle.std.specs.Prelude.{◌≡◌, ◌≤ℤ◌, ◌-ℤ◌, ℕ, ◌+◌, ℤ, pos, Bool, true, false, not, List, [], ◌∷◌, Option, Some, None, if◌then◌else◌}
+use Rattle.std.specs.Prelude.{◌≡◌, ◌≤ℤ◌, ◌-ℤ◌, ℕ, ◌+◌, ℤ, pos, Bool, true, false, not, List, [], ◌∷◌, length, Option, Some, None, if◌then◌else◌}
 use Rattle.std.specs.Int.{int_min}
 use Rattle.std.specs.Option.{option_eq}
 use Rattle.std.specs.Ordering.{int_cmp, int_eq, nat_cmp, on, then_cmp}
 use Rattle.std.specs.declared.cmp.Ordering.{Ordering}
 use Rattle.ics_fields.specs.declared.local.Local.{Local}
-use Rattle.ics_event.specs.Event.{IsRdate}
+use Rattle.ics_event.specs.Event.{IsRdate, RdateBelow}
 use Rattle.ics_event.specs.declared.event.Event.{Event}
 use Rattle.ics_event.specs.Event.{Rdate}
 use Rattle.ics_values.specs.declared.time.Rdate.TheVariants.{At, Span}
@@ -14,6 +14,7 @@ use Rattle.ics_series.specs.declared.start.StartSource.{StartSource}
 use Rattle.ics_series.specs.declared.start.StartSource.TheVariants.{Kept, Listed}
 use Rattle.ics_series.specs.declared.start.Start.{Start}
 use Rattle.ics_series.specs.declared.window.Window.{Window}
+use Rattle.ics_series.specs.declared.zones.FileZones.{FileZones}
 use Rattle.ics_series.specs.Clocks.{Clocks, instant}
 use Rattle.ics_series.specs.Entry.{Entry}
 use Rattle.ics_series.specs.Finish.{seconds_lasting}
@@ -22,7 +23,7 @@ use Rattle.ics_series.specs.Rising.{Rises}
 use Rattle.ics_series.specs.Meeting.{is_met, entry_from}
 use Rattle.ics_series.specs.Meets.{Meets}
 use Rattle.ics_series.specs.Starts.{given_by, time_at, time_of, GivesStart, IsNotAfter}
-use Rattle.ics_series.specs.FileZones.{is_past}
+use Rattle.ics_series.specs.FileZones.{clocks_in, is_past}
 
 -- the start that a source gives by a value
 abbrev pub start_by : Clocks → StartSource → Rdate → Start
@@ -32,11 +33,16 @@ start_by clocks source given = record { moment = instant clocks (time_of given);
 abbrev pub start_at : Clocks → Event → Local → Start
 start_at clocks event local = start_by clocks (Kept local) (At (time_at event.start local))
 
--- a start of the event: its instant, what gives it, and the value that it gives
+-- a start of the event: its instant, and what gives it
 pub record IsStart (clocks : Clocks) (event : Event) (s : Start) : Type 0 where
   pub gives : GivesStart clocks event s.source s.given
-  pub value : IsRdate s.given
   pub moment : s.moment ≡ instant clocks (time_of s.given)
+
+-- a start at the instant of its value, whose times are those of a file with these zones
+pub record IsStartIn (zones : FileZones) (s : Start) : Type 0 where
+  pub value : IsRdate s.given
+  pub below : RdateBelow (length zones.zones.now) s.given
+  pub moment : s.moment ≡ instant (clocks_in zones) (time_of s.given)
 
 -- An occurrence from this instant meets the window, by the length of one of the sources of this start, whether it is the first or not.
 pub record IsSought (clocks : Clocks) (event : Event) (w : Window) (t : ℤ) : Type 0 where

@@ -1,9 +1,8 @@
 -- The starts of a series still to come, and the occurrences that they give.
-use Rattle.std.specs.Prelude.{◌≡◌, ◌≤ℤ◌, ℤ, ◌+ℤ◌, ◌-ℤ◌, Bool, true, false, ◌&&◌, not, int_le, List, [], ◌∷◌, drop, slice_get, Option, None, Some, ◌⊎◌}
+use Rattle.std.specs.Prelude.{◌≡◌, ◌≤ℤ◌, ℤ, ◌+ℤ◌, ◌-ℤ◌, Bool, true, false, ◌&&◌, not, int_le, List, [], ◌∷◌, drop, Option, None, Some, ◌⊎◌}
 use Rattle.std.specs.Prelude.{if◌then◌else◌}
 use Rattle.std.specs.Int.{int_max, int_min}
 use Rattle.std.specs.List.{filter_map, list_any}
-use Rattle.std.specs.Option.{option_map}
 use Rattle.std.specs.Ordering.{int_eq}
 use Rattle.ics_fields.specs.Days.{IsDayNumber}
 use Rattle.ics_fields.specs.RuleParts.{RuleParts}
@@ -11,26 +10,22 @@ use Rattle.ics_fields.specs.declared.local.Local.{Local}
 use Rattle.ics_fields.specs.Locals.{number, midnight, local_seconds, whole_days}
 use Rattle.ics_rule.specs.Recurrence.{Recurrence}
 use Rattle.ics_event.specs.declared.event.Event.{Event}
-use Rattle.ics_event.specs.Event.{Rdate}
-use Rattle.ics_values.specs.declared.time.Rdate.TheVariants.{At}
 use Rattle.ics_series.specs.declared.listed_starts.ListedStarts.{ListedStarts}
 use Rattle.ics_series.specs.declared.rule_starts.RuleStarts.{RuleStarts}
-use Rattle.ics_series.specs.declared.start.StartSource.{StartSource}
-use Rattle.ics_series.specs.declared.start.StartSource.TheVariants.{Kept, Listed}
 use Rattle.ics_series.specs.declared.start.Start.{Start}
 use Rattle.ics_series.specs.declared.window.Window.{Window}
 use Rattle.ics_series.specs.declared.zones.FileZones.{FileZones}
 use Rattle.ics_series.specs.Clocks.{Clocks, instant}
 use Rattle.ics_series.specs.Entry.{Entry}
 use Rattle.ics_series.specs.Exclusions.{is_excluded}
-use Rattle.ics_series.specs.Found.{earliest, listed_from, moment_cmp, start_at}
+use Rattle.ics_series.specs.Found.{earliest, listed_from, moment_cmp, start_at, IsStartIn}
 use Rattle.ics_series.specs.Listing.{IsIn}
 use Rattle.ics_series.specs.Meeting.{entry_from, is_met}
 use Rattle.ics_series.specs.Merged.{cut, union}
 use Rattle.ics_series.specs.Meets.{IsEventMet}
 use Rattle.ics_series.specs.RuleFeed.{is_unsettled, starts_left, HasSameSource}
-use Rattle.ics_series.specs.RuleStarts.{found, gives}
-use Rattle.ics_series.specs.Starts.{given_by, local_of, recurrence_of, time_at, time_of, IsRuleStart}
+use Rattle.ics_series.specs.RuleStarts.{found}
+use Rattle.ics_series.specs.Starts.{local_of, recurrence_of, time_at, IsRuleStart}
 
 -- an occurrence of the event that meets the window and begins at this instant or later
 abbrev pub IsSeriesMet : Clocks → Event → Window → ℤ → Entry → Type 0
@@ -137,23 +132,8 @@ abbrev pub HasRuled : Clocks → Event → Option RuleStarts → List Entry → 
 HasRuled clocks event None coming = Unit {0}
 HasRuled clocks event (Some s) coming = HaveRuled clocks event (starts_left s) coming
 
--- a local gives an event a start; without a rule, only that of DTSTART does
-abbrev pub IsGivenAt : Clocks → Event → Window → Local → Option Recurrence → Type 0
-IsGivenAt clocks event w local None = local ≡ local_of event.start.stamp
-IsGivenAt clocks event w local (Some rule) = IsDayNumber local.day × (gives clocks event rule w (number local) ≡ true)
-
--- what gives an event a start before the window's end, and the value that it gives
-abbrev pub IsGivenBy : Clocks → Event → Window → StartSource → Rdate → Type 0
-IsGivenBy clocks event w (Kept local) given = IsGivenAt clocks event w local (recurrence_of event) × (given ≡ At (time_at event.start local))
-IsGivenBy clocks event w (Listed place) given = option_map (given_by event.start) (slice_get event.rdates place) ≡ Some given
-
--- a start of the event
-pub record IsKnown (clocks : Clocks) (event : Event) (w : Window) (s : Start) : Type 0 where
-  pub gives : IsGivenBy clocks event w s.source s.given
-  pub moment : s.moment ≡ instant clocks (time_of s.given)
-
-abbrev pub AreKnown : Clocks → Event → Window → List Start → Type 0
-AreKnown clocks event w starts = (s : Start) → IsIn s starts → IsKnown clocks event w s
+abbrev pub AreStartsIn : FileZones → List Start → Type 0
+AreStartsIn zones starts = (s : Start) → IsIn s starts → IsStartIn zones s
 
 -- a start is the first of two lists, which it leaves without those at its instant, or None if both are empty
 abbrev pub IsFirstOf : Option Start → List Start → List Start → Type 0

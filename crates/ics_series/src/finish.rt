@@ -4,7 +4,7 @@ ghost use Rattle.ics_event.specs.Event.{longest, IsLasting, IsLength, IsSpan};
 ghost use Rattle.ics_series.specs.Clocks.{clock_of, display_clock, instant, local_at};
 ghost use Rattle.ics_fields.specs.Locals.{midnight, whole_days, year_seconds};
 ghost use Rattle.ics_series.specs.Finish.{end_by, finish, later_by, span_end};
-ghost use Rattle.ics_series.specs.Found.{IsStart};
+ghost use Rattle.ics_series.specs.Found.{IsStartIn};
 ghost use Rattle.ics_series.specs.FileZones.{clocks_in, EndsNear, HasEndIn, IsEndOf, IsOwnEvent, IsTimeOf};
 ghost use Rattle.ics_series.specs.WindowBounds.{lasts_most, window_last, occurrence_first};
 
@@ -22,7 +22,7 @@ const DAY: i64 = 86_400;
 /// section 3.6.1).
 pub(crate) fn finish(zones: FileZones<'_>, event: &Event, start: Start) -> Moment
     requires event { IsOwnEvent zones event.now }
-    requires start { IsStart (clocks_in zones) event.now start }
+    requires start { IsStartIn zones start }
     requires early { start.moment <ℤ window_last }
     ensures value { result ≡ finish (clocks_in zones.entry) event.now start.given }
     ensures forward { start.moment ≤ℤ result }

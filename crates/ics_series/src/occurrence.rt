@@ -28,7 +28,7 @@ pub struct Occurrence<'a> {
 impl<'a> Occurrence<'a> {
     ghost use Rattle.std.specs.Option.{option_map};
     ghost use Rattle.ics_series.specs.Entry.{entry_cmp, entry_of};
-    ghost use Rattle.ics_series.specs.Found.{met_by, IsStart};
+    ghost use Rattle.ics_series.specs.Found.{met_by, IsStartIn};
     ghost use Rattle.ics_series.specs.Uids.{IsUidOrder};
     ghost use Rattle.ics_series.specs.FileZones.{clocks_in, IsOwnEvent};
 
@@ -40,7 +40,7 @@ impl<'a> Occurrence<'a> {
         window: &Window,
     ) -> Option<Occurrence<'a>>
         requires event { IsOwnEvent zones event.now }
-        requires start { IsStart (clocks_in zones) event.now start }
+        requires start { IsStartIn zones start }
         ensures { option_map entry_of result ≡ met_by (clocks_in zones.entry) window.now event.entry.now start }
     {
         if start.moment >= window.to {

@@ -3,13 +3,13 @@ ghost use Rattle.std.specs.Prelude.{◌≡◌, slice_get, All, IfOk, List, Match
 ghost use Rattle.ics_series.specs.Entry.{entry_cmp};
 ghost use Rattle.ics_series.specs.EventLaws.{own-event-prop};
 ghost use Rattle.ics_series.specs.Exclusions.{AreExclusions};
-ghost use Rattle.ics_series.specs.Found.{moment_cmp, IsStart};
+ghost use Rattle.ics_series.specs.Found.{moment_cmp, IsStartIn};
 ghost use Rattle.ics_series.specs.Marks.{IsMarkOf};
 ghost use Rattle.ics_series.specs.Merged.{cut};
 ghost use Rattle.ics_series.specs.Rising.{Rises, Rises-prop};
 ghost use Rattle.ics_series.specs.RuleFeed.{starts_left};
-ghost use Rattle.ics_series.specs.SeriesLaws.{known-prop, own-rule-prop, ruled-prop, taken-out-prop};
-ghost use Rattle.ics_series.specs.SeriesStarts.{first_asked, first_of, given_of, left, listed_apart, rule_asked, rule_left, AreKnown};
+ghost use Rattle.ics_series.specs.SeriesLaws.{own-rule-prop, ruled-prop, starts-in-prop, taken-out-prop};
+ghost use Rattle.ics_series.specs.SeriesStarts.{first_asked, first_of, given_of, left, listed_apart, rule_asked, rule_left, AreStartsIn};
 ghost use Rattle.ics_series.specs.SeriesStarts.{HasOwnRule, HasRuled, HasSameRule, IsFirstOf, IsReady, IsRuleFrom};
 ghost use Rattle.ics_series.specs.FileZones.{clocks_in, IsOwnEvent};
 ghost use Rattle.ics_series.specs.declared.start.Start.{Start};
@@ -44,8 +44,7 @@ pub(crate) struct Series<'a> {
     ghost own: { IsOwnEvent zones event.now } by { own-event-prop zones event.now },
     ghost taken_out: { AreExclusions (clocks_in zones) event.now window exclusions.instants.items exclusions.days.items } by { taken-out-prop (clocks_in zones)
         event.now window exclusions.instants.items exclusions.days.items },
-    ghost known: { AreKnown (clocks_in zones) event.now window (left rule_starts listed) } by { known-prop (clocks_in zones) event.now window
-        (left rule_starts listed) },
+    ghost known: { AreStartsIn zones (left rule_starts listed) } by { starts-in-prop zones (left rule_starts listed) },
     ghost ruled: { HasRuled (clocks_in zones) event.now rule_starts
         (given_of (clocks_in zones) window event.now since (left rule_starts listed)) } by { ruled-prop (clocks_in zones) event.now rule_starts
             (given_of (clocks_in zones) window event.now since (left rule_starts listed)) },
@@ -86,7 +85,7 @@ fn starts_by_rule<'a>(
     mark: Option<Mark>,
 ) -> Option<RuleStarts<'a>>
     requires event { IsOwnEvent zones event.now }
-    requires listed { All (IsStart (clocks_in zones) event.now) listed.now }
+    requires listed { All (IsStartIn zones) listed.now }
     requires mark { IsMarkOf event.now mark }
     ensures own { HasOwnRule zones.entry event.entry.now window (first_asked (clocks_in zones.entry) window event.entry.now since listed.entry.now) result }
     ensures from { MatchOption result (event.entry.now.rule ≡ None)
@@ -153,7 +152,7 @@ impl<'a> Series<'a> {
     ghost use Rattle.ics_series.specs.Entry.{Entry, entry_of};
     ghost use Rattle.ics_series.specs.Listing.{IsIn, IsListing};
     ghost use Rattle.ics_series.specs.SeriesFeed.{series_left, series_near, series_of, series_sources, source_of, IsSameSeries};
-    ghost use Rattle.ics_series.specs.SeriesStarts.{wanted_by, IsKnown, IsSeriesMet, IsTaken};
+    ghost use Rattle.ics_series.specs.SeriesStarts.{wanted_by, IsSeriesMet, IsTaken};
 
     /// The occurrences of an event from an instant on. Under COUNT the rule is searched from a mark on.
     pub(crate) fn new(
@@ -203,7 +202,7 @@ impl<'a> Series<'a> {
 
     // The occurrence with a start, if it belongs to the list.
     fn wanted(&self, start: Start) -> Option<Occurrence<'a>>
-        requires { IsKnown (clocks_in self.now.zones) self.now.event.now self.now.window start }
+        requires { IsStartIn self.now.zones start }
         ensures { option_map entry_of result ≡ wanted_by (clocks_in self.now.zones) self.now.window self.now.event.now self.now.since
             start }
     {

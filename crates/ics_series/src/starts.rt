@@ -3,7 +3,7 @@ ghost use Rattle.std.specs.Prelude.{◌≡◌, ◌<ℤ◌, ◌≤ℤ◌, ◌+ℤ
 ghost use Rattle.std.specs.Int.{int_max};
 ghost use Rattle.ics_fields.specs.Days.{IsDayNumber};
 ghost use Rattle.ics_fields.specs.Locals.{midnight, local_seconds, whole_days, year_seconds};
-ghost use Rattle.ics_series.specs.Found.{earliest, first_met, firsts_after, is_span_met, start_at, IsStart};
+ghost use Rattle.ics_series.specs.Found.{earliest, first_met, firsts_after, is_span_met, start_at, IsStartIn};
 ghost use Rattle.ics_zone.specs.Observances.{is_until};
 ghost use Rattle.ics_series.specs.RuleStarts.{ends_at};
 ghost use Rattle.ics_series.specs.Starts.{time_at};
@@ -57,7 +57,7 @@ pub(crate) fn earliest(
     starts: &[Start],
 ) -> Moment
     requires event { IsOwnEvent zones event.now }
-    requires starts { All (IsStart (clocks_in zones) event.now) starts.now }
+    requires starts { All (IsStartIn zones) starts.now }
     ensures value { result ≡ earliest (clocks_in zones.entry) window.now event.now starts.now }
     ensures late { (occurrence_first -ℤ lasts_most) ≤ℤ result }
     ensures early { result ≤ℤ window.now.to }
@@ -74,7 +74,7 @@ pub(crate) fn earliest(
 // Whether a start by a PERIOD meets the window by its own length.
 fn is_span_met(zones: FileZones<'_>, event: &Event, start: Start, window: &Window) -> bool
     requires event { IsOwnEvent zones event.now }
-    requires start { IsStart (clocks_in zones) event.now start }
+    requires start { IsStartIn zones start }
     ensures { result ≡ is_span_met (clocks_in zones.entry) window.now event.now start start.given }
 {
     match start.given {

@@ -2,27 +2,25 @@ use Rattle.std.proofs.Common.{length, arith, subst}
 use Rattle.std.proofs.lemmas.Int.{ints, int_max_is}
 use Rattle.ics_event.specs.Event.{RdateBelow}
 use Rattle.ics_series.specs.Starts.{time_of}
-use Rattle.ics_series.specs.FileZones.{clocks_in, IsTimeOf}
-use Rattle.ics_series.proofs.StartSourceLemmas.{gives-below}
-use Rattle.ics_series.proofs.ZoneLemmas.{given-time}
+use Rattle.ics_series.specs.declared.start.Start.{Start}
+use Rattle.ics_series.specs.declared.zones.FileZones.{FileZones}
+use Rattle.ics_series.specs.FileZones.{IsTimeOf}
+use Rattle.ics_series.specs.Found.{IsStartIn}
+use Rattle.ics_series.proofs.StartSourceLemmas.{rdate-below, rdate-time}
 use Rattle.ics_series.proofs.finish.finish.Goals as goal
 use Rattle.ics_series.proofs.finish.finish.Goals.{in-At, in-Span}
 
+given-in : {zones : FileZones} {s : Start} → IsStartIn zones s → IsTimeOf zones.zones.now (time_of s.given)
+given-in {zones = zones} {s = s} k = record { is_time = rdate-time s.given k.value; within = rdate-below (length zones.zones.now) s.given k.below }
+
 pub end_by-end-requires-clause-given : goal.end_by-end-requires-clause-given
-end_by-end-requires-clause-given c =
-    subst (λ given. IsTimeOf c.args.zones.zones.now (time_of given)) c.in-At.is
-    (given-time c.args.zones c.args.event.now c.args.start.source c.args.start.given c.requires.event c.requires.start.gives)
+end_by-end-requires-clause-given c = subst (λ given. IsTimeOf c.args.zones.zones.now (time_of given)) c.in-At.is (given-in c.requires.start)
 
 pub span_end-end-requires-clause-given : goal.span_end-end-requires-clause-given
-span_end-end-requires-clause-given c =
-    subst (λ given. IsTimeOf c.args.zones.zones.now (time_of given)) c.in-Span.is
-    (given-time c.args.zones c.args.event.now c.args.start.source c.args.start.given c.requires.event c.requires.start.gives)
+span_end-end-requires-clause-given c = subst (λ given. IsTimeOf c.args.zones.zones.now (time_of given)) c.in-Span.is (given-in c.requires.start)
 
 pub span_end-end-requires-clause-end : goal.span_end-end-requires-clause-end
-span_end-end-requires-clause-end c =
-    (subst (RdateBelow (length c.args.zones.zones.now)) c.in-Span.is
-    (gives-below (clocks_in c.args.zones) c.args.event.now c.args.start.source c.args.start.given c.requires.event.below
-    c.requires.start.gives)).1
+span_end-end-requires-clause-end c = (subst (RdateBelow (length c.args.zones.zones.now)) c.in-Span.is c.requires.start.below).1
 
 pub returns-clause-early : goal.returns-clause-early
 returns-clause-early c =

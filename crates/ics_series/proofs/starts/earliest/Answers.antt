@@ -2,7 +2,7 @@ use Rattle.std.proofs.lemmas.Grind.{common_steps}
 use Rattle.std.proofs.Common.{◌≡◌, w64, to_z, of_z, sym, ◌∙◌, ap, subst, arith}
 use Rattle.std.specs.Int.{int_min}
 use Rattle.std.proofs.lemmas.Int.{ints, int_min_is}
-use Rattle.ics_series.specs.Found.{earlier, earliest_from, IsStart}
+use Rattle.ics_series.specs.Found.{earlier, earliest_from, IsStartIn}
 use Rattle.ics_series.specs.Starts.{time_of}
 use Rattle.ics_series.specs.FileZones.{clocks_in}
 use Rattle.ics_series.proofs.StartSourceLemmas.{rdate-time}
@@ -34,7 +34,7 @@ loop-start-preserved c =
     let k = c.loop-start.start-index in
     let s = c.start-item.result in
     let least = to_z w64 c.loop-start.earliest-bits in
-    let start : IsStart clocks event s = subst (IsStart clocks event) (sym c.start-item.is) (c.requires.starts k s c.loop-start-test.true) in
+    let start : IsStartIn c.args.zones s = subst (IsStartIn c.args.zones) (sym c.start-item.is) (c.requires.starts k s c.loop-start-test.true) in
     let time = rdate-time s.given start.value in
     let fits : to_z w64 (of_z w64 c.start-item.result.moment) ≡ c.start-item.result.moment =
     omega (arith, ints, start.moment, late c.args.zones (time_of s.given) time, early c.args.zones (time_of s.given) time) in

@@ -7,8 +7,9 @@ use Rattle.ics_fields.specs.RuleParts.{RuleParts}
 use Rattle.ics_fields.specs.declared.local.Local.{Local}
 use Rattle.ics_rule.specs.PeriodNumbers.{rules_end}
 use Rattle.ics_fields.specs.Locals.{number, local_seconds, whole_days}
+use Rattle.ics_rule.specs.Kept.{is_kept}
 use Rattle.ics_rule.specs.Recurrence.{Recurrence}
-use Rattle.ics_event.specs.Event.{IsEvent}
+use Rattle.ics_event.specs.Event.{IsEvent, IsTime}
 use Rattle.ics_event.specs.declared.event.Event.{Event}
 use Rattle.ics_event.specs.Event.{Rdate}
 use Rattle.ics_zone.proofs.Cases.{true_int_lt}
@@ -20,7 +21,7 @@ use Rattle.ics_series.specs.declared.window.Window.{Window}
 use Rattle.ics_series.specs.declared.zones.FileZones.{FileZones}
 use Rattle.ics_series.specs.Clocks.{Clocks, instant}
 use Rattle.ics_series.specs.Entry.{Entry, entry_cmp}
-use Rattle.ics_series.specs.Found.{listed_from, moment_cmp, start_at, start_by, AreFirsts, AreStartsSince, HasStart, IsSought}
+use Rattle.ics_series.specs.Found.{listed_from, moment_cmp, start_at, start_by, AreFirsts, AreStartsSince, HasStart, IsSought, IsStart, IsStartIn}
 use Rattle.ics_series.specs.Listing.{IsIn, IsListing}
 use Rattle.ics_series.specs.Meeting.{entry_from}
 use Rattle.ics_series.specs.Meets.{Meets}
@@ -29,17 +30,18 @@ use Rattle.ics_series.specs.MergedLaws.{rises-union}
 use Rattle.ics_series.specs.Rising.{Rises}
 use Rattle.ics_series.specs.RuleFeed.{starts_left}
 use Rattle.ics_series.specs.RuleStarts.{found, found_in, gives, lets_until, local_numbered, moment_numbered}
-use Rattle.ics_series.specs.SeriesStarts.{first_asked, listed_apart, rule_left, AreKnown, HasRuled, IsKnown, IsRuleFrom, IsSeriesMet, given_of, left}
+use Rattle.ics_series.specs.SeriesStarts.{first_asked, listed_apart, rule_left, HasRuled, IsRuleFrom, IsSeriesMet, given_of, left}
 use Rattle.ics_series.specs.SeriesStarts.{listed_left}
-use Rattle.ics_series.specs.Starts.{given_by, local_of, recurrence_by, time_at, time_of, GivesStart, IsRuleStart}
-use Rattle.ics_series.specs.FileZones.{clocks_in}
+use Rattle.ics_series.specs.Starts.{local_of, recurrence_by, time_at, time_of, GivesStart, IsRuleStart}
+use Rattle.ics_series.specs.FileZones.{clocks_in, IsOwnEvent}
 use Rattle.ics_series.proofs.FirstLemmas.{moment_total}
-use Rattle.ics_series.proofs.StartSourceLemmas.{number-seconds, written-at, kept-calendar, gives-kept, number-numbered, numbered-number, ruled-kept}
+use Rattle.ics_series.proofs.StartSourceLemmas.{gives-below, gives-kept, gives-value, kept-calendar, kept-ruled, number-numbered, number-seconds}
+use Rattle.ics_series.proofs.StartSourceLemmas.{numbered-number, ruled-kept, written-at}
 use Rattle.ics_series.proofs.InstantLemmas.{instant-near}
-use Rattle.ics_series.proofs.SeriesLemmas.{has-union, put-has, union-has, in-moment, known-start, rises-rule, own-rule-as, series-listing}
+use Rattle.ics_series.proofs.SeriesLemmas.{has-union, put-has, union-has, in-moment, rises-rule, own-rule-as, series-listing}
 use Rattle.ics_series.proofs.SoughtLemmas.{listed-in}
 use Rattle.ics_series.proofs.VersionLemmas.{same-entry}
-use Rattle.ics_series.proofs.RuleDayLemmas.{found-is, in-rules, put-both, seconds-numbered}
+use Rattle.ics_series.proofs.RuleDayLemmas.{found-is, given-parts, in-rules, put-both, seconds-numbered}
 use Rattle.ics_series.proofs.SoughtLemmas.{listed-there, none-else, sought-early, sought-late}
 use Rattle.ics_series.proofs.RawLemmas.{kept-first}
 use Rattle.ics_series.proofs.UnionLemmas.{itself-put, union-in}
@@ -59,36 +61,40 @@ module _ (zones : FileZones) (w : Window) (event : Event) where
   clocks = clocks_in zones
 
   -- What is known from the first.
-  known-listed : (s : Start) → IsIn s (listed_from clocks w event.start 0 event.rdates) → IsKnown clocks event w s
-  known-listed s m =
+  start-listed : (s : Start) → IsIn s (listed_from clocks w event.start 0 event.rdates) → IsStart clocks event s
+  start-listed s m =
       let k = listed-in clocks w event.start 0 event.rdates s m in
-      rw k.is (record {
-        gives = ap (option_map (given_by event.start)) (subst (λ i. slice_get event.rdates i ≡ Some k.rdate) (omega arith) k.stands);
-        moment = refl;
-      })
+      rw k.is (record { gives = (k.rdate, subst (λ i. slice_get event.rdates i ≡ Some k.rdate) (omega arith) k.stands, refl); moment = refl })
 
-  known-apart : (o : Option RuleParts) (s : Start) → event.rule ≡ o → IsIn s (listed_apart clocks w event o) → IsKnown clocks event w s
-  known-apart None s none (inl e) =
-      rw e (record {
-        gives = (rw (ap (option_map (recurrence_by event.start.stamp)) none) refl, refl);
-        moment = refl;
-      })
-  known-apart None s e (inr m) = known-listed s m
-  known-apart (Some parts) s e m = known-listed s m
+  start-apart : (o : Option RuleParts) (s : Start) → IsIn s (listed_apart clocks w event o) → IsStart clocks event s
+  start-apart None s (inl e) = rw e (record { gives = (inl refl, refl); moment = refl })
+  start-apart None s (inr m) = start-listed s m
+  start-apart (Some parts) s m = start-listed s m
 
   -- What the rule gives.
-  known-ruled : (since : ℤ) (listed starts : List Start) (s : Start) → IsRuleFrom clocks event w since listed starts → IsIn s starts →
-      IsKnown clocks event w s
-  known-ruled since listed starts s r m =
+  start-ruled : {since : ℤ} {listed starts : List Start} (s : Start) → IsTime event.start → IsRuleFrom clocks event w since listed starts
+      → IsIn s starts → IsStart clocks event s
+  start-ruled s time r m =
       let f = found-is zones event r.rule w (number r.from) s (subst (IsIn s) r.gives m) in
       let below = in-rules zones event r.rule w f.by f.given in
+      let same = number-numbered f.by in
+      let parts = given-parts zones event r.rule w f.by f.given in
       rw f.is (record {
         gives = (
-          rw r.has ((omega (arith, ints), omega (arith, ints, below)), ap (gives clocks event r.rule w) (number-numbered f.by) ∙ f.given),
+          kept-ruled clocks event r.rule r.has (local_numbered f.by) time (omega (arith, ints), omega (arith, ints, below))
+              (ap (is_kept r.rule) same ∙ parts.0) (ap (λ n. lets_until r.rule n (moment_numbered clocks event n)) same ∙ parts.1),
           refl,
         );
         moment = refl;
       })
+
+  -- their times are those of the file
+  start-in : IsOwnEvent zones event → (s : Start) → IsStart clocks event s → IsStartIn zones s
+  start-in own s k = record {
+    value = gives-value clocks event s.source s.given own.is_event.start own.is_event.rdates k.gives;
+    below = gives-below clocks event s.source s.given own.below k.gives;
+    moment = k.moment;
+  }
 
   -- The list has a start for each local that gives one.
   module _ (rule : Recurrence) where
@@ -176,11 +182,12 @@ module _ (zones : FileZones) (w : Window) (event : Event) where
     by-rdates {starts = starts} r = subst (λ xs. IsRuleFrom clocks event w since xs starts) (apart-is r) r
 
     module _ (listed : List Start) (firsts : AreFirsts apart listed) where
-      known-left : (o : Option RuleStarts) → IsRuled clocks event w since apart o → AreKnown clocks event w (union moment_cmp (rule_left o) listed)
-      known-left None r s m = known-apart event.rule s refl (firsts.are s m)
-      known-left (Some starts) r s m =
-          ⊎_elim (known-ruled since apart (starts_left starts) s r)
-          (λ n. known-apart event.rule s refl (firsts.are s n.1))
+      are-starts : (o : Option RuleStarts) → IsRuled clocks event w since apart o → (s : Start) → IsIn s (union moment_cmp (rule_left o) listed) →
+          IsStart clocks event s
+      are-starts None r s m = start-apart event.rule s (firsts.are s m)
+      are-starts (Some starts) r s m =
+          ⊎_elim (start-ruled s sound.start r)
+          (λ n. start-apart event.rule s (firsts.are s n.1))
           (union-in moment_cmp moment_total s (starts_left starts) listed firsts.rises m)
 
       all-by : (o : Option RuleStarts) → IsRuled clocks event w since apart o → HasSought (union moment_cmp (rule_left o) listed)
@@ -192,7 +199,7 @@ module _ (zones : FileZones) (w : Window) (event : Event) where
           AreStartsSince clocks event w since (union moment_cmp (rule_left o) listed)
       starts-since o r = record {
         rises = rises-union moment_cmp moment_total (rule_left o) listed firsts.rises;
-        are = λ s m. known-start zones w event s sound (known-left o r s m);
+        are = are-starts o r;
         all = all-by o r;
       }
 
@@ -216,8 +223,8 @@ starts_by_rule-rule_starts-requires-clause-listed c =
     λ k d l.
     let s : Start = get_or c.deref.result.now k d in
     let there : IsIn s c.deref.result.now = in-contains s c.deref.result.now (Contains-get_or c.deref.result.now k d l) in
-    known-start c.args.zones c.args.window event s c.requires.own.is_event
-    (known-apart c.args.zones c.args.window event event.rule s refl (subst (IsIn s) (c.deref.ensures.value ∙ c.in_ok-listed.ensures) there))
+    start-in c.args.zones c.args.window event c.requires.own s
+    (start-apart c.args.zones c.args.window event event.rule s (subst (IsIn s) (c.deref.ensures.value ∙ c.in_ok-listed.ensures) there))
 
 pub invariant_of-result : goal.invariant_of-result
 invariant_of-result c =
@@ -234,7 +241,8 @@ invariant_of-result c =
     record {
       own = c.requires.own;
       taken_out = c.in_ok-exclusions.ensures;
-      known = known-left c.args.zones w event sound c.args.since (listed_left c.in_ok-new.field-0) firsts c.starts_by_rule-rule_starts.result ruled;
+      known = λ s m. start-in c.args.zones w event c.requires.own s
+          (are-starts c.args.zones w event sound c.args.since (listed_left c.in_ok-new.field-0) firsts c.starts_by_rule-rule_starts.result ruled s m);
       ruled = rw since
           (has-ruled c.args.zones w event sound c.args.since c.starts_by_rule-rule_starts.result
           (given_of clocks w event c.args.since (left c.starts_by_rule-rule_starts.result c.in_ok-new.field-0)) ruled listing);

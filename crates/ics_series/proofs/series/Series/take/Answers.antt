@@ -11,7 +11,7 @@ use Rattle.ics_series.specs.SeriesStarts.{first_of, given_of, left, listed_left,
 use Rattle.ics_series.specs.FileZones.{clocks_in}
 use Rattle.ics_series.specs.MergedLaws.{rises-union}
 use Rattle.ics_series.proofs.FirstLemmas.{moment_total}
-use Rattle.ics_series.proofs.SeriesLemmas.{asked-near, both-passed, given-own, known-rest, own-rule-same, rises-listed, rises-rest, rises-rule, ruled-rest}
+use Rattle.ics_series.proofs.SeriesLemmas.{asked-near, both-passed, given-own, own-rule-same, rest-of, rises-listed, rises-rest, rises-rule, ruled-rest}
 use Rattle.ics_series.proofs.SeriesLemmas.{ruled-same}
 use Rattle.ics_series.proofs.series.Series.take.Goals as goal
 
@@ -47,13 +47,12 @@ invariant_of-self-in-Some c =
     record {
       own = s.own;
       taken_out = s.taken_out;
-      known = known-rest (clocks_in s.zones) s.window s.event.now c.in-Some.start (left s.rule_starts s.listed) (left c.pass_rule.new.rule c.pass.new.self)
-          taken s.known;
+      known = rest-of taken s.known;
       ruled = ruled-rest (clocks_in s.zones) s.window s.event.now s.since c.peek_rule.new.rule c.pass_rule.new.rule
           c.pass_rule.ensures.rule c.pass_rule.ensures.left (record {
             is = taken;
             rises = rises-union moment_cmp moment_total (rule_left s.rule_starts) (listed_left s.listed) (rises-listed s.listed);
-            known = s.known;
+            timed = λ t m. (s.known t m).moment;
           })
           s.ruled;
       own_rule = own-rule-same s.zones s.event.now s.window (first_of (clocks_in s.zones) s.window s.event.now s.since) c.peek_rule.new.rule

@@ -1,4 +1,5 @@
-use Rattle.std.proofs.Common.{◌≡◌, ◌<ℤ◌, ◌≤ℤ◌, ℤ, Bool, ◌&&◌, not, int_le, if◌then◌else◌, List, w64, to_z, of_z, None, Some, option_map, sym, ◌∙◌, ap, subst, arith}
+use Rattle.std.proofs.Common.{◌≡◌, ◌<ℤ◌, ◌≤ℤ◌, ℤ, Bool, ◌&&◌, not, int_le, if◌then◌else◌, List, w64, to_z, of_z, None, Some, option_map, sym, ◌∙◌}
+use Rattle.std.proofs.Common.{ap, subst, arith}
 use Rattle.std.proofs.lemmas.Int.{ints}
 use Rattle.std.proofs.lemmas.Option.{cond_some}
 use Rattle.ics_event.specs.declared.event.Event.{Event}
@@ -15,7 +16,6 @@ use Rattle.ics_series.specs.Starts.{time_of}
 use Rattle.ics_series.specs.FileZones.{clocks_in}
 use Rattle.ics_series.proofs.NearDayLemmas.{is_met-meets}
 use Rattle.ics_zone.proofs.Cases.{true_int_le}
-use Rattle.ics_series.proofs.SeriesLemmas.{known-start}
 use Rattle.ics_series.proofs.series.Series.wanted.Goals as goal
 
 module _ (clocks : Clocks) (w : Window) (event : Event) (since : ℤ) (s : Start) where
@@ -52,11 +52,6 @@ module _ (clocks : Clocks) (w : Window) (event : Event) (since : ℤ) (s : Start
         let fits : to_z w64 (of_z w64 o.start) ≡ o.start = omega (arith, ints, o.not_early, o.forward, o.not_late) in
         sym (e ∙ (ap (λ (v : Event). takes_out (clock_of clocks v.start) instants days (to_z w64 (of_z w64 o.start))) same
         ∙ (ap (takes_out (clock_of clocks event.start) instants days) (fits ∙ begun.0) ∙ all from.start (subst (λ t. t <ℤ w.to) begun.0 begun.1))))
-
-pub within-requires-clause-start : goal.within-requires-clause-start
-within-requires-clause-start c =
-    let s = c.args.self.now in
-    known-start s.zones s.window s.event.now c.args.start s.own.is_event c.requires
 
 pub returns-in_err-occurrence : goal.returns-in_err-occurrence
 returns-in_err-occurrence c =
