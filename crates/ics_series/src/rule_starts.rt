@@ -185,8 +185,7 @@ impl<'a> RuleStarts<'a> {
         match event.start.stamp {
             Stamp::Date(_) => Local::at(self.day, 0).seconds() - 2 * 86_400,
             Stamp::Utc(_) => self.next - 1,
-            Stamp::Floating(_) => self.next - FAR,
-            Stamp::Zoned(_) => self.next - FAR,
+            Stamp::Floating(_) | Stamp::Zoned(_) => self.next - FAR,
         }
     }
 
