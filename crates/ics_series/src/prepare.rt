@@ -1,15 +1,29 @@
 //! Preparing zones for a listing.
 ghost use Rattle.std.specs.Prelude.{◌≡◌};
 
+use crate::singles::is_single;
+use crate::start::local_of;
 use crate::window::Window;
-use ics_event::FileEvents;
+use ics_event::{Event, FileEvents, Length};
+use ics_fields::Until;
+use ics_values::Moment;
 use ics_zone::Zone;
 
-/// The distance of the instants near which a zone is prepared. Most zones keep an offset for longer.
-const STEP: i64 = 120 * 86_400;
+const DAY: i64 = 86_400;
 
-/// The number of these instants. They span somewhat more than two and a half years.
-const STEPS: usize = 8;
+/// The distance of the instants near which a zone is prepared. Most zones keep an offset for longer.
+const STEP: i64 = 120 * DAY;
+
+/// The greatest number of these instants. They span some twenty years.
+const STEPS: usize = 64;
+
+/// Where an event asks for the offsets of its zone: near an instant, if that is before `from`, and from there on up to another.
+#[derive(Clone, Copy)]
+struct Asked {
+    near: Moment,
+    from: Moment,
+    to: Moment,
+}
 
 /// Prepares the zones that the events of these files name for a window. It makes a listing faster and changes no answer.
 pub(crate) fn prepare_each(files: &mut [FileEvents], window: &Window)
@@ -26,23 +40,83 @@ fn prepare_named(file: &mut FileEvents, window: &Window)
 {
     for k in 0..file.events.len() {
         if let Some(index) = file.events[k].start.zone {
+            let asked = asked_by(&file.events[k], window);
             if let Some(zone) = file.zones.get_mut(index as usize) {
-                prepare(zone, window);
+                prepare(zone, asked);
             }
         }
     }
 }
 
-// Prepares a zone near the window's beginning, in steps after that, and near its end.
-fn prepare(zone: &mut Zone, window: &Window)
-    ensures { zone.new ≡ zone.old }
-{
-    let mut near = window.from;
-    for _ in 0..STEPS {
-        if near < window.to {
-            zone.reach(near).ok();
-            near += STEP;
+// Where an event asks in a window. In a short one all that may be listed is near its ends. In a long one an event that starts once asks
+// near its start, and one that recurs from its start on, if that is not before the window. It also asks near DTSTART if it has DTEND, since
+// both tell how long each occurrence lasts.
+fn asked_by(event: &Event, window: &Window) -> Asked {
+    let (from, to) = (window.from, window.to);
+    if to <= from.saturating_add(STEP) {
+        return Asked {
+            near: from,
+            from,
+            to,
+        };
+    }
+    let near = local_of(event.start.stamp).seconds();
+    if is_single(event) {
+        return Asked {
+            near,
+            from: Moment::MAX,
+            to,
+        };
+    }
+    let from = from.max(near);
+    let to = to.min(recurs_to(event));
+    if matches!(event.length, Length::Until(_)) {
+        Asked { near, from, to }
+    } else {
+        Asked {
+            near: from,
+            from,
+            to,
         }
     }
-    zone.reach(window.to).ok();
+}
+
+// An instant after the starts by a rule with UNTIL: the third midnight after that day. Without UNTIL it is the last instant.
+fn recurs_to(event: &Event) -> Moment {
+    let Some(parts) = &event.rule else {
+        return Moment::MAX;
+    };
+    let day = match parts.until() {
+        None => return Moment::MAX,
+        Some(Until::Date(day)) => day,
+        Some(Until::Local(local) | Until::Utc(local)) => local.day,
+    };
+    (i64::from(day) + 3) * DAY
+}
+
+// Prepares a zone where it is asked.
+fn prepare(zone: &mut Zone, asked: Asked)
+    ensures { zone.new ≡ zone.old }
+{
+    if asked.near < asked.from {
+        zone.reach(asked.near).ok();
+    }
+    if asked.from < asked.to {
+        prepare_up_to(zone, asked.from, asked.to);
+    }
+}
+
+// Prepares a zone near an instant, in steps after that, and near another.
+fn prepare_up_to(zone: &mut Zone, from: Moment, to: Moment)
+    ensures { zone.new ≡ zone.old }
+{
+    zone.reach(to).ok();
+    let mut near = from;
+    for _ in 0..STEPS {
+        if near >= to {
+            return;
+        }
+        zone.reach(near).ok();
+        near = near.saturating_add(STEP);
+    }
 }
