@@ -32,6 +32,7 @@ use Rattle.ics_rule.specs.Cursors.{looks_from, is_met, period_count}
 use Rattle.ics_fields.specs.Locals.{local_seconds, number, midnight, whole_days, calendar_end}
 use Rattle.ics_rule.proofs.CursorLemmas.{few_steps, count_within}
 use Rattle.ics_series.specs.EntryLaws.{entry_total}
+use Rattle.ics_series.specs.Leeway.{seconds_off}
 use Rattle.ics_series.specs.Listing.{IsIn}
 use Rattle.ics_series.specs.Merged.{merged}
 use Rattle.ics_series.specs.Rising.{Rises}
@@ -158,10 +159,12 @@ series-most s coming most near bound = by s.rule_starts s.own_rule (λ e m of. (
     by (Some r) own near =
         let p = bound r.rule (sym (ap recurrence_of own.event_is) ∙ r.of) in
         let ends = λ (w : Window) (v : Event). ends_at w (until_moment r.rule) (local_seconds (local_of v.start.stamp)) in
-        let end : midnight r.asked ≤ℤ (ends r.window r.event.now +ℤ whole_days 4) = omega (arith, ints, r.asked_end, r.soon) in
+        let off = λ (v : Event). seconds_off v.start.stamp in
+        let end : midnight r.asked ≤ℤ (ends r.window r.event.now +ℤ (off r.event.now +ℤ whole_days 1)) = omega (arith, ints, r.asked_end, r.soon) in
+        let off-is : off r.event.now ≡ off s.event.now = ap off own.event_is in
         let to-is : ends r.window r.event.now ≡ ends s.window s.event.now = λ i. ends (own.window_is i) (own.event_is i) in
         let high : midnight_number r.asked ≤ p.b = ⊎_elim
-        (λ past. omega (arith, ints, asked-number r, end, to-is, past))
+        (λ past. omega (arith, ints, asked-number r, end, to-is, off-is, past))
         (λ o. let close = near o.occurrence o.stands o.of o.local o.kept in omega (arith, ints, asked-number r, close, o.past)) p.to in
         let low : p.a ≤ number r.from = omega (arith, ints, p.from, own.late, number-seconds r.from own.day) in
         let steps = few_steps r.rule r.cursor (looks_from r.rule.parts.count (number r.rule.start) (number r.from)) (midnight_number r.asked) r.own

@@ -174,7 +174,7 @@ module _ (zones : FileZones) where
       omega (arith, ints, off.0, off.1, far.0, far.1)
 
   -- the end lies less than four days past the start and the event's seconds
-  end-bound : (first given : Time) (s : Stamp) (length : Length)
+  pub end-bound : (first given : Time) (s : Stamp) (length : Length)
       → end_by (clocks_in zones) first given s length <ℤ ((instant (clocks_in zones) given +ℤ seconds_by (clocks_in zones) first s length) +ℤ whole_days 4)
   end-bound first given (Date day) length =
       let a = moment_near zones.display.now (midnight (day_of given.stamp +ℤ days_lasting day length)) in
@@ -183,7 +183,7 @@ module _ (zones : FileZones) where
   end-bound first given _ (Until end) = omega (arith, ints, int_max_is (pos 0) (instant (clocks_in zones) end -ℤ instant (clocks_in zones) first))
   end-bound first given _ (Lasting duration) = later-bound given.zone given.stamp duration (instant (clocks_in zones) given)
 
-  seconds-least : (first : Time) (s : Stamp) (length : Length) → pos 0 ≤ℤ seconds_by (clocks_in zones) first s length
+  pub seconds-least : (first : Time) (s : Stamp) (length : Length) → pos 0 ≤ℤ seconds_by (clocks_in zones) first s length
   seconds-least first (Date day) (Until end) = omega (arith, ints, int_max_is)
   seconds-least first _ (Until end) = omega (arith, ints, int_max_is)
   seconds-least first _ _ = omega (arith, ints, int_max_is)

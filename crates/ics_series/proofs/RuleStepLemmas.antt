@@ -33,6 +33,7 @@ use Rattle.ics_series.specs.FileZones.{clocks_in, IsTimeOf}
 use Rattle.ics_series.proofs.StartSourceLemmas.{calendar-day, kept-time, number-seconds, numbered-number, own-day}
 use Rattle.ics_series.proofs.RawLemmas.{held-in-days}
 use Rattle.ics_series.proofs.RuleDayLemmas.{come-none, come-one, early-numbered, found-is, given-parts, late-numbered, less-start, number-day, rises-found}
+use Rattle.ics_series.proofs.SettledLemmas.{off-numbered, off-range}
 use Rattle.ics_series.proofs.SettledLemmas.{late-settled}
 use Rattle.ics_series.proofs.ListingLemmas.{before-in}
 use Rattle.ics_series.proofs.UnionLemmas.{union-in}
@@ -124,7 +125,9 @@ within-first w (Some until) first t l =
 
 module _ (s : RuleStarts) where
   pub end-soon : midnight s.end <ℤ (s.window.to +ℤ whole_days 3)
-  end-soon = omega (arith, ints, s.soon, ends-most s.window (until_moment s.rule) (local_seconds (local_of s.event.now.start.stamp)))
+  end-soon =
+      let most = ends-most s.window (until_moment s.rule) (local_seconds (local_of s.event.now.start.stamp)) in
+      omega (arith, ints, s.soon, most, off-range s.event.now.start.stamp)
 
   pub day-days : IsDayNumber s.day
   day-days = (omega (arith, ints, s.low), omega (arith, ints, s.asked_on, s.asked_end, end-soon, s.window.not_late))
@@ -138,14 +141,15 @@ module _ (s : RuleStarts) where
   given-early day n h l g =
       let t = moment_numbered (clocks_in s.zones) s.event.now n in
       let until = until_moment s.rule in
-      let late = late-numbered s.zones s.event.now day n h l in
+      let late = off-numbered s.zones s.event.now day n h l in
+      let off = off-range s.event.now.start.stamp in
       let parts = given-parts s.zones s.event.now s.rule s.window n g in
       let first = local_of s.event.now.start.stamp in
       ⊎_elim
       (λ same.
       let is : n ≡ number first = eqb-true n (number s.rule.start) same ∙ s.first in
       let at = number-seconds first (calendar-day first.day (own-day s.event.now.start s.time.is_time)) in
-      ⊎_elim (λ e. omega (arith, ints, late, e, s.after)) (λ e. omega (arith, ints, e, s.after, is, at, number-day day h, l))
+      ⊎_elim (λ e. omega (arith, ints, late, e, s.after)) (λ e. omega (arith, ints, e, s.after, off, is, at, number-day day h, l))
       (within-first s.window until (local_seconds first) t parts.2))
       (λ e. let early = within-until s.window until (local_seconds first) t parts.2 e in omega (arith, ints, late, early, s.after))
       (or_cases (n == number s.rule.start) (is_until until t) parts.1)

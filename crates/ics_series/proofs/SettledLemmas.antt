@@ -4,6 +4,7 @@ use Rattle.std.proofs.lemmas.Int.{ints}
 use Rattle.ics_event.specs.declared.event.Event.{Event}
 use Rattle.ics_fields.specs.Days.{IsDayNumber}
 use Rattle.ics_fields.specs.Locals.{local_seconds, midnight, whole_days}
+use Rattle.ics_fields.specs.declared.local.Local.{Local}
 use Rattle.ics_values.specs.declared.stamp.Stamp.{Stamp}
 use Rattle.ics_values.specs.declared.stamp.Stamp.TheVariants.{Date, Floating, Utc, Zoned}
 use Rattle.ics_event.specs.Event.{stamp_seconds}
@@ -19,10 +20,11 @@ use Rattle.ics_zone.specs.declared.jiff_zone.JiffZone.TheVariants.{Fixed, Posix,
 use Rattle.ics_zone.specs.declared.zone.ZoneKind.{ZoneKind}
 use Rattle.ics_zone.specs.declared.zone.ZoneKind.TheVariants.{ByObservances, ByJiff}
 use Rattle.ics_series.specs.declared.zones.FileZones.{FileZones}
-use Rattle.ics_series.specs.Clocks.{Clock, clock_at, clock_by, utc_clock, zone_clock}
+use Rattle.ics_series.specs.Clocks.{Clock, clock_at, clock_by, instant, utc_clock, zone_clock}
+use Rattle.ics_series.specs.Leeway.{seconds_off}
 use Rattle.ics_series.specs.FileZones.{clocks_in}
 use Rattle.ics_series.specs.RuleStarts.{local_numbered, midnight_number, moment_numbered, settled_by}
-use Rattle.ics_series.specs.Starts.{stamp_at}
+use Rattle.ics_series.specs.Starts.{stamp_at, time_at}
 use Rattle.ics_series.proofs.InstantLemmas.{near-clock}
 use Rattle.ics_series.proofs.RuleDayLemmas.{seconds-numbered}
 
@@ -30,19 +32,23 @@ use Rattle.ics_series.proofs.RuleDayLemmas.{seconds-numbered}
 abbrev IsShift : ℕ → ℤ → Type 0
 IsShift n offset = (neg_ℤ (pos n) ≤ℤ offset) × (offset ≤ℤ pos n)
 
--- a clock has no instant that is more than 93,599 seconds before its local
+-- an instant is no more than 93,599 seconds away from its local
+abbrev IsClose : ℤ → ℤ → Type 0
+IsClose local t = ((local -ℤ pos 93_599) ≤ℤ t) × (t ≤ℤ (local +ℤ pos 93_599))
+
+-- a clock has no other
 abbrev IsShort : Clock → Type 0
-IsShort clock = (x : ℤ) → (x -ℤ pos 93_599) ≤ℤ clock.moment x
+IsShort clock = (x : ℤ) → IsClose x (clock.moment x)
 
 short-utc : IsShort utc_clock
-short-utc x = omega (arith, ints)
+short-utc x = (omega (arith, ints), omega (arith, ints))
 
-short-by : (offset : ℤ → ℤ) (short : (t : ℤ) → IsShift 86_399 (offset t)) (local t : ℤ) → IsMomentBy offset local t → (local -ℤ pos 93_599) ≤ℤ t
-short-by offset short local t (inl h) = let bound = short t in omega (arith, ints)
-short-by offset short local t (inr h) = let bound = short (h.past -ℤ pos 1) in omega (arith, ints)
+short-by : (offset : ℤ → ℤ) (short : (t : ℤ) → IsShift 86_399 (offset t)) (local t : ℤ) → IsMomentBy offset local t → IsClose local t
+short-by offset short local t (inl h) = let bound = short t in (omega (arith, ints), omega (arith, ints))
+short-by offset short local t (inr h) = let bound = short (h.past -ℤ pos 1) in (omega (arith, ints), omega (arith, ints))
 
-less : (local offset : ℤ) → IsShift 93_599 offset → (local -ℤ pos 93_599) ≤ℤ (local -ℤ offset)
-less local offset bound = omega (arith, ints)
+less : (local offset : ℤ) → IsShift 93_599 offset → IsClose local (local -ℤ offset)
+less local offset bound = (omega (arith, ints), omega (arith, ints))
 
 short-jiff : (zone : JiffZone) → IsShort (zone_clock (jiff_said zone))
 unfolding said_moment jiff_said
@@ -79,10 +85,43 @@ module _ (zones : FileZones) (event : Event) (day next : ℤ) (n : ℕ) where
       by (Utc first) = omega (arith, ints, seconds-numbered n, m)
       by (Floating first) =
           let near = short-jiff zones.display.now.zone (local_seconds (local_numbered n)) in
-          omega (arith, ints, near, seconds-numbered n, m)
+          omega (arith, ints, near.0, seconds-numbered n, m)
       by (Zoned first) =
           let near = short-at zones.zones.now event.start.zone (local_seconds (local_numbered n)) in
-          omega (arith, ints, near, seconds-numbered n, m)
+          omega (arith, ints, near.0, seconds-numbered n, m)
+
+pub off-range : (s : Stamp) → (pos 0 ≤ℤ seconds_off s) × (seconds_off s ≤ℤ pos 93_600)
+off-range (Date day) = (omega (arith, ints), omega (arith, ints))
+off-range (Floating local) = (omega (arith, ints), omega (arith, ints))
+off-range (Utc local) = (omega (arith, ints), omega (arith, ints))
+off-range (Zoned local) = (omega (arith, ints), omega (arith, ints))
+
+-- Locals and their instants.
+module _ (zones : FileZones) (event : Event) where
+  -- the instant of a local is no more past it than a local of its kind is off, and no more before the midnight of its day
+  pub off-local : (local : Local) → ((midnight local.day -ℤ seconds_off event.start.stamp) ≤ℤ instant (clocks_in zones) (time_at event.start local))
+      × (instant (clocks_in zones) (time_at event.start local) ≤ℤ (local_seconds local +ℤ seconds_off event.start.stamp))
+  off-local local = by event.start.stamp
+    where
+      by : (s : Stamp) → ((midnight local.day -ℤ seconds_off s)
+          ≤ℤ (clock_by (clocks_in zones) event.start.zone (stamp_at s local)).moment (stamp_seconds (stamp_at s local)))
+          × ((clock_by (clocks_in zones) event.start.zone (stamp_at s local)).moment (stamp_seconds (stamp_at s local))
+          ≤ℤ (local_seconds local +ℤ seconds_off s))
+      by (Date first) =
+          let wrote : stamp_seconds (stamp_at (Date first) local) ≡ midnight local.day = omega (arith, ints) in
+          let near = short-jiff zones.display.now.zone (stamp_seconds (stamp_at (Date first) local)) in
+          (omega (arith, ints, near.0, wrote), omega (arith, ints, near.1, wrote))
+      by (Floating first) = let near = short-jiff zones.display.now.zone (local_seconds local) in (omega (arith, ints, near.0), omega (arith, ints, near.1))
+      by (Utc first) = (omega (arith, ints), omega (arith, ints))
+      by (Zoned first) =
+          let near = short-at zones.zones.now event.start.zone (local_seconds local) in (omega (arith, ints, near.0), omega (arith, ints, near.1))
+
+  -- a local from a day's midnight on means an instant that is no more before it
+  pub off-numbered : (day : ℤ) (n : ℕ) → IsDayNumber day → midnight_number day ≤ n →
+      (midnight day -ℤ seconds_off event.start.stamp) ≤ℤ moment_numbered (clocks_in zones) event n
+  off-numbered day n h l =
+      let off = off-local (local_numbered n) in
+      omega (arith, ints, off.0, h.0, l)
 
 -- it is no more than two days before the midnight of the day that is read
 pub settled-late : (s : Stamp) (day next : ℤ) → midnight day ≤ℤ next → (midnight day -ℤ whole_days 2) ≤ℤ settled_by s day next

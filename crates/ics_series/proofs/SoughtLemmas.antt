@@ -1,7 +1,8 @@
 -- The starts at DTSTART and by RDATEs, and that those that are sought are among those that are found.
 use Rattle.std.proofs.Common.{◌≡◌, ℕ, suc, ◌+◌, ◌<◌, ℤ, ◌+ℤ◌, ◌-ℤ◌, ◌<ℤ◌, ◌≤ℤ◌, List, [], ◌∷◌, length, get_or, drop, add-one, Bool, true, false, Some}
+use Rattle.std.proofs.Common.{Option, pos}
 use Rattle.std.proofs.Common.{None, option_map, inl, inr, ⊎_elim, sym, ◌∙◌, ap, subst, arith, zero, ◌⊎◌, refl, drop-cons, slice_get, not, if◌then◌else◌}
-use Rattle.std.proofs.lemmas.Int.{int_min_is, ints}
+use Rattle.std.proofs.lemmas.Int.{int_max_is, int_min_is, ints}
 use Rattle.ics_event.specs.declared.event.Event.{Event}
 use Rattle.ics_event.specs.Event.{Rdate}
 use Rattle.ics_values.specs.declared.time.Rdate.TheVariants.{At, Span}
@@ -12,16 +13,23 @@ use Rattle.ics_series.specs.declared.window.Window.{Window}
 use Rattle.ics_series.specs.declared.zones.FileZones.{FileZones}
 use Rattle.ics_series.specs.Clocks.{Clocks, instant}
 use Rattle.ics_event.specs.Event.{stamp_seconds}
-use Rattle.ics_series.specs.Finish.{seconds_lasting}
+use Rattle.ics_series.specs.Finish.{end_by, seconds_by, seconds_lasting}
 use Rattle.ics_series.specs.Found.{earlier, earliest, earliest_from, first_met, is_span_met, listed_from, start_at, start_by, IsSought, with_front}
+use Rattle.ics_series.specs.Leeway.{late_by, seconds_back}
 use Rattle.ics_series.specs.Listing.{IsIn}
 use Rattle.ics_series.specs.Meeting.{entry_from}
 use Rattle.ics_series.specs.Meets.{Meets}
-use Rattle.ics_series.specs.Starts.{given_by, local_of, recurrence_by, time_at, time_of, GivesStart}
+use Rattle.ics_series.specs.Starts.{given_by, local_of, recurrence_by, stamp_at, time_at, time_of, GivesStart}
 use Rattle.ics_series.specs.FileZones.{clocks_in, is_past}
-use Rattle.ics_series.proofs.InstantLemmas.{instant-near, meets-late}
+use Rattle.ics_series.proofs.InstantLemmas.{end-bound, instant-near, meets-late, seconds-least}
+use Rattle.ics_series.proofs.SettledLemmas.{off-local}
 use Rattle.ics_series.proofs.NearDayLemmas.{less-le, meets-is_met}
-use Rattle.ics_fields.specs.Locals.{whole_days}
+use Rattle.ics_fields.specs.Locals.{local_seconds, whole_days}
+use Rattle.ics_fields.specs.declared.local.Local.{Local}
+use Rattle.ics_event.specs.Event.{Length}
+use Rattle.ics_values.specs.declared.time.Length.TheVariants.{Lasting, Open, Until}
+use Rattle.ics_values.specs.declared.stamp.Stamp.{Stamp}
+use Rattle.ics_values.specs.declared.stamp.Stamp.TheVariants.{Date, Floating, Utc, Zoned}
 use Rattle.ics_event.specs.Event.{Time}
 use Rattle.ics_series.proofs.Cases.{some-same}
 
@@ -146,6 +154,76 @@ module _ (zones : FileZones) (w : Window) (event : Event) where
           let each = earliest-each (clocks_in zones) w event (first_met (clocks_in zones) w event)
           (start_by (clocks_in zones) (Listed place) (Span start lasts)) (front (clocks_in zones) w event) there met in
           omega (arith, ints, e, each)
+
+  -- The end is no more seconds past what the event's length says than it may be late.
+  late-bound : (first : Time) (index : Option ℕ) (s : Stamp) (local : Local) (length : Length)
+      → let given : Time = record { stamp = stamp_at s local; zone = index } in end_by (clocks_in zones) first given s length
+      ≤ℤ ((instant (clocks_in zones) given +ℤ seconds_by (clocks_in zones) first s length) +ℤ late_by [] s length)
+  late-bound first index (Date day) local length =
+      omega (arith, ints, end-bound zones first (record { stamp = stamp_at (Date day) local; zone = index }) (Date day) length)
+  late-bound first index (Utc a) local (Lasting duration) = omega (arith, ints)
+  late-bound first index (Floating a) local (Lasting duration) =
+      omega (arith, ints, end-bound zones first (record { stamp = Floating local; zone = index }) (Floating a) (Lasting duration))
+  late-bound first index (Zoned a) local (Lasting duration) =
+      omega (arith, ints, end-bound zones first (record { stamp = Zoned local; zone = index }) (Zoned a) (Lasting duration))
+  late-bound first index (Utc a) local Open = omega (arith, ints)
+  late-bound first index (Floating a) local Open = omega (arith, ints)
+  late-bound first index (Zoned a) local Open = omega (arith, ints)
+  late-bound first index (Utc a) local (Until end) = omega (arith, ints, int_max_is (pos 0) (instant (clocks_in zones) end -ℤ instant (clocks_in zones) first))
+  late-bound first index (Floating a) local (Until end) =
+      omega (arith, ints, int_max_is (pos 0) (instant (clocks_in zones) end -ℤ instant (clocks_in zones) first))
+  late-bound first index (Zoned a) local (Until end) =
+      omega (arith, ints, int_max_is (pos 0) (instant (clocks_in zones) end -ℤ instant (clocks_in zones) first))
+
+  late-least : (s : Stamp) (length : Length) → pos 0 ≤ℤ late_by [] s length
+  late-least (Date day) length = omega (arith, ints)
+  late-least (Utc local) length = omega (arith, ints)
+  late-least (Floating local) Open = omega (arith, ints)
+  late-least (Floating local) (Until end) = omega (arith, ints)
+  late-least (Floating local) (Lasting duration) = omega (arith, ints)
+  late-least (Zoned local) Open = omega (arith, ints)
+  late-least (Zoned local) (Until end) = omega (arith, ints)
+  late-least (Zoned local) (Lasting duration) = omega (arith, ints)
+
+  -- what meets the window from a local begins no more before an event of this length can
+  met-from : (local : Local) → Meets w (entry_from (clocks_in zones) event (At (time_at event.start local))) → (b : Bool) → w.notstarted ≡ b →
+      ((if b then w.from else w.from -ℤ seconds_lasting (clocks_in zones) event) -ℤ late_by [] event.start.stamp event.length)
+      ≤ℤ instant (clocks_in zones) (time_at event.start local)
+  met-from local m true e = omega (arith, ints, m.started e, late-least event.start.stamp event.length)
+  met-from local m false e =
+      let end = late-bound event.start event.start.zone event.start.stamp local event.length in
+      let least = seconds-least zones event.start event.start.stamp event.length in
+      let late = late-least event.start.stamp event.length in
+      ⊎_elim (λ l. omega (arith, ints, end, least, late, l, int_max_is)) (λ r. omega (arith, ints, r.1, least, late)) m.lasting
+
+  -- nor does what is sought
+  sought-by : (rdates : List Rdate) → event.rdates ≡ rdates → (t : ℤ) → IsSought (clocks_in zones) event w t →
+      (earliest (clocks_in zones) w event (front (clocks_in zones) w event) -ℤ late_by rdates event.start.stamp event.length) ≤ℤ t
+  sought-by (rdate ∷ rdates) e t s = sought-late t s
+  sought-by [] e t s = by s.source s.given s.gives s.starts s.meets
+    where
+      by : (source : StartSource) (given : Rdate) → GivesStart (clocks_in zones) event source given → instant (clocks_in zones) (time_of given) ≡ t →
+          Meets w (entry_from (clocks_in zones) event given)
+          → (earliest (clocks_in zones) w event (front (clocks_in zones) w event) -ℤ late_by [] event.start.stamp event.length) ≤ℤ t
+      by (Kept local) given g same m =
+          let most = earliest-most (clocks_in zones) w event (first_met (clocks_in zones) w event) (front (clocks_in zones) w event) in
+          let met = subst (λ v. Meets w (entry_from (clocks_in zones) event v)) g.1 m in
+          let there = ap (λ v. instant (clocks_in zones) (time_of v)) g.1 in
+          omega (arith, ints, most, met-from local met w.notstarted refl, there, same)
+      by (Listed place) given g same m = let f : None ≡ Some g.0 = ap (λ rs. slice_get rs place) (sym e) ∙ g.1 in absurd cc
+
+  -- So a local whose start is sought is no more seconds before what counts first, nor before its own instant.
+  pub sought-back : (local : Local) → IsSought (clocks_in zones) event w (instant (clocks_in zones) (time_at event.start local)) →
+      ((earliest (clocks_in zones) w event (front (clocks_in zones) w event) -ℤ seconds_back event) ≤ℤ local_seconds local)
+      × ((instant (clocks_in zones) (time_at event.start local) -ℤ seconds_back event) ≤ℤ local_seconds local)
+  sought-back local s =
+      let t = sought-by event.rdates refl (instant (clocks_in zones) (time_at event.start local)) s in
+      let off = off-local zones event local in
+      (omega (arith, ints, t, off.1), omega (arith, ints, late-range event.rdates, off.1))
+    where
+      late-range : (rdates : List Rdate) → pos 0 ≤ℤ late_by rdates event.start.stamp event.length
+      late-range [] = late-least event.start.stamp event.length
+      late-range (rdate ∷ rdates) = omega (arith, ints)
 
   -- an event without a rule has no other starts
   pub none-else : event.rule ≡ None → (source : StartSource) (given : Rdate) → GivesStart (clocks_in zones) event source given

@@ -102,7 +102,7 @@ abbrev pub first_under : Window → List OnDay → ℤ
 first_under w [] = last_near w
 first_under w (p ∷ list) = p.day
 
--- most bounds the periods of the master's rule that are looked at near a day, up to seven days past what the window holds there
+-- most bounds the periods of the master's rule that are looked at near a day, with nothing to come there
 abbrev pub HasDayBound : Scope → ℤ → Master → ℕ → Type 0
 HasDayBound s day master most = (m : Recurring) → IsSearched s day master m → HasStepBound m [] most
 

@@ -13,6 +13,7 @@ pub mod Found
 pub mod HeldMost
 pub mod Holding
 pub mod Laws
+pub mod Leeway
 pub mod Leads
 pub mod Listing
 pub mod Marks

@@ -19,6 +19,7 @@ use Rattle.ics_series.specs.Clocks.{Clocks, instant}
 use Rattle.ics_series.specs.Entry.{Entry}
 use Rattle.ics_series.specs.Exclusions.{is_excluded}
 use Rattle.ics_series.specs.Found.{earliest, listed_from, moment_cmp, start_at, IsStartIn}
+use Rattle.ics_series.specs.Leeway.{seconds_back}
 use Rattle.ics_series.specs.Listing.{IsIn}
 use Rattle.ics_series.specs.Meeting.{entry_from, is_met}
 use Rattle.ics_series.specs.Merged.{cut, union}
@@ -64,24 +65,24 @@ listed_apart clocks w event (Some parts) = listed_from clocks w event.start 0 ev
 abbrev pub first_asked : Clocks → Window → Event → ℤ → List Start → ℤ
 first_asked clocks w event since starts = int_max (earliest clocks w event starts) (int_min since (w.to +ℤ whole_days 14))
 
--- the starts that the event's rule gives by the locals from one on, which is not past DTSTART, or is six days or more before the first
--- instant that is needed
+-- the starts that the event's rule gives by the locals from one on, which is not past DTSTART, or is so many seconds or more before the
+-- first instant that is needed
 pub record IsRuleFrom (clocks : Clocks) (event : Event) (w : Window) (since : ℤ) (listed starts : List Start) : Type 0 where
   pub rule : Recurrence
   pub has : recurrence_of event ≡ Some rule
   pub from : Local
   pub day : IsDayNumber from.day
-  pub low : local_seconds from ≤ℤ int_max (local_seconds (local_of event.start.stamp)) (first_asked clocks w event since listed -ℤ whole_days 6)
+  pub low : local_seconds from ≤ℤ int_max (local_seconds (local_of event.start.stamp)) (first_asked clocks w event since listed -ℤ seconds_back event)
   pub gives : starts ≡ found clocks event rule w (number from)
 
 -- These starts are those of this event's rule in this window. They are read from a local on that is not before DTSTART, and no more than
--- seven days before the first instant that is needed.
+-- so many seconds and a day before the first instant that is needed.
 pub record IsOwnRule (zones : FileZones) (event : Event) (w : Window) (first : ℤ) (s : RuleStarts) : Type 0 where
   pub zones_are : s.zones ≡ zones
   pub event_is : s.event.now ≡ event
   pub window_is : s.window ≡ w
   pub day : IsDayNumber s.from.day
-  pub late : int_max (local_seconds (local_of event.start.stamp)) (first -ℤ whole_days 7) ≤ℤ local_seconds s.from
+  pub late : int_max (local_seconds (local_of event.start.stamp)) (first -ℤ (seconds_back event +ℤ whole_days 1)) ≤ℤ local_seconds s.from
 
 abbrev pub HasOwnRule : FileZones → Event → Window → ℤ → Option RuleStarts → Type 0
 HasOwnRule zones event w first None = Unit {0}

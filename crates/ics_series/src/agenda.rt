@@ -143,8 +143,9 @@ impl<'a> Agenda<'a> {
     }
 
     /// How many periods of rules were looked at. For each master with a rule they are at most two more
-    /// than those that hold a local from seven days before what can meet the window to seven days past
-    /// the master's first start by its rule still to come. The count stops at the greatest `u64`.
+    /// than those that hold a local from less than seven days before what can meet the window, or one day
+    /// if the master starts in UTC and has no RDATE, to three days past its first start by its rule still
+    /// to come. The count stops at the greatest `u64`.
     pub fn steps(&self) -> u64
         ensures count { result ≡ min (sum_by (λ l. part_looked l.feed) self.now.merge.leads.items) (2 ^ 64 - 1) }
         ensures most { (most : Recurring → ℕ) → ((m : Recurring) → IsIn m (recurring (⟦<Agenda<'a> as Coming>⟧.sources self.now))

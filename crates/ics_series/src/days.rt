@@ -188,10 +188,11 @@ impl<'a> Days<'a> {
 
     /// How many periods of rules were looked at, day by day: from the day of the key, or without one from
     /// the first, to that of the first still to come, or to the last if there is none. For each of these
-    /// days and each master with a rule they are at most two more than those that hold a local from seven
-    /// days before what can meet the window near the day, or on the key's own day before the start in the
-    /// key if that is later, to seven days past what the window holds near the day. The count stops at
-    /// the greatest `u64`.
+    /// days and each master with a rule they are at most two more than those that hold a local from less
+    /// than seven days before what can meet the window near the day, or on the key's own day before the
+    /// start in the key if that is later, to less than three days past what the window holds near the day.
+    /// One day is enough for a master that starts in UTC and has no RDATE. The count stops at the greatest
+    /// `u64`.
     pub fn steps(&self) -> u64
         ensures count { result ≡ min (self.now.today.looked + agenda_looked self.now.today.agenda) (2 ^ 64 - 1) }
         ensures most { (list : List OnDay) (bound : ℕ) → IsAhead self.now list

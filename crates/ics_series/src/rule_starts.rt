@@ -6,6 +6,7 @@ ghost use Rattle.ics_rule.specs.Kept.{is_kept, until_moment};
 ghost use Rattle.ics_fields.specs.Locals.{local_seconds, number, midnight, whole_days, year_number, year_seconds};
 ghost use Rattle.ics_series.specs.EventLaws.{time-prop};
 ghost use Rattle.ics_series.specs.Found.{moment_cmp, start_at};
+ghost use Rattle.ics_series.specs.Leeway.{seconds_off};
 ghost use Rattle.ics_series.specs.Marks.{begun-prop, IsBegun};
 ghost use Rattle.ics_series.specs.Rising.{Rises, Rises-prop};
 ghost use Rattle.ics_series.specs.RuleStarts.{ends_at, gives, lets_until, midnight_number, with_held, AreHeld, HasLookedTo};
@@ -66,8 +67,10 @@ pub(crate) struct RuleStarts<'a> {
     ghost asked_soon: { asked ≤ℤ (day +ℤ pos 1) },
     ghost asked_end: { asked ≤ℤ end },
     ghost early: { midnight_number end ≤ rules_end },
-    ghost after: { (ends_at window (until_moment rule) (local_seconds (local_of event.now.start.stamp)) +ℤ whole_days 2) ≤ℤ midnight end },
-    ghost soon: { midnight end <ℤ (ends_at window (until_moment rule) (local_seconds (local_of event.now.start.stamp)) +ℤ whole_days 3) },
+    ghost after: { (ends_at window (until_moment rule) (local_seconds (local_of event.now.start.stamp)) +ℤ seconds_off event.now.start.stamp)
+        ≤ℤ midnight end },
+    ghost soon: { midnight end
+        <ℤ (ends_at window (until_moment rule) (local_seconds (local_of event.now.start.stamp)) +ℤ (seconds_off event.now.start.stamp +ℤ whole_days 1)) },
 }
 
 // Whether the instant of a local is before the window's end and, unless the local is the first, not after UNTIL.
@@ -143,8 +146,7 @@ impl<'a> RuleStarts<'a> {
         ensures rule { result.rule ≡ rule }
         ensures from { result.from ≡ from }
     {
-        let first = local_of(event.start.stamp);
-        let end = end_nearby(&window, rule.until_moment(), first);
+        let end = end_nearby(&window, rule.until_moment(), event.start.stamp);
         let day = from.day.min(end);
         let begun = begun(&rule, from, end, mark);
         let cursor = begun;

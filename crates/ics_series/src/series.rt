@@ -22,7 +22,7 @@ use crate::mark::{Mark, counted};
 use crate::occurrence::Occurrence;
 use crate::rule_starts::RuleStarts;
 use crate::start::{Start, kind_of, local_of};
-use crate::starts::{earliest, first_nearby, start_at};
+use crate::starts::{earliest, first_nearby, seconds_back, start_at};
 use crate::window::Window;
 use crate::zones::FileZones;
 use ics_event::Event;
@@ -97,7 +97,13 @@ fn starts_by_rule<'a>(
     let earliest = earliest(zones, event, &window, listed);
     // All instants this late after the window's end are treated as one: no day is read for them.
     let late = window.to + 14 * 86_400;
-    let from = first_nearby(first, earliest.max(since.min(late)));
+    // A search under COUNT goes on from the midnight where another began.
+    let from = first_nearby(
+        first,
+        seconds_back(event),
+        parts.count().is_some(),
+        earliest.max(since.min(late)),
+    );
     let mark = counted(parts, mark);
     Some(RuleStarts::new(alloc, zones, event, window, rule, from, mark))
 }

@@ -5,20 +5,23 @@ ghost use Rattle.ics_fields.specs.Days.{IsDayNumber};
 ghost use Rattle.ics_fields.specs.Locals.{midnight, local_seconds, whole_days, year_seconds};
 ghost use Rattle.ics_series.specs.Found.{earliest, first_met, firsts_after, is_span_met, start_at, IsStartIn};
 ghost use Rattle.ics_zone.specs.Observances.{is_until};
+ghost use Rattle.ics_series.specs.Leeway.{late_by, seconds_back, seconds_off};
 ghost use Rattle.ics_series.specs.RuleStarts.{ends_at};
-ghost use Rattle.ics_series.specs.Starts.{time_at};
+ghost use Rattle.ics_series.specs.Starts.{local_of, time_at};
 ghost use Rattle.ics_series.specs.FileZones.{clocks_in, IsOwnEvent, IsTimeOf};
 ghost use Rattle.ics_series.specs.WindowBounds.{lasts_most, occurrence_first, window_last};
 
 use crate::instant::instant;
 use crate::lasting::seconds_lasting;
 use crate::occurrence::Occurrence;
-use crate::start::{Start, StartSource, time_at};
+use crate::start::{Start, StartSource, local_of, time_at};
 use crate::window::Window;
 use crate::zones::FileZones;
-use ics_event::{Event, Rdate};
-use ics_values::{Local, Moment};
+use ics_event::{Event, Length, Rdate};
+use ics_values::{Local, Moment, Stamp};
 use std::alloc::{AllocError, Global};
+
+const FOUR_DAYS: i64 = 4 * 86_400;
 
 // The start at the local of DTSTART, or at one that the rule keeps.
 pub(crate) fn start_at(zones: FileZones<'_>, event: &Event, local: Local) -> Start
@@ -93,22 +96,66 @@ pub(crate) fn is_until(until: Option<Moment>, moment: Moment) -> bool
     }
 }
 
-// The local from which on a rule with this first local is read: that local or, if it is later, a
-// midnight six to seven days before the earliest instant that counts. So a rule that began long ago is
-// not read from its beginning.
-pub(crate) fn first_nearby(first: Local, earliest: Moment) -> Local
+// How many seconds a local of this kind can be away from its instant.
+fn seconds_off(start: Stamp) -> i64
+    ensures value { result ≡ seconds_off start }
+    ensures least { pos 0 ≤ℤ result }
+    ensures most { result ≤ℤ pos 93_600 }
+{
+    match start {
+        Stamp::Utc(_) => 0,
+        Stamp::Date(_) | Stamp::Floating(_) | Stamp::Zoned(_) => 93_600,
+    }
+}
+
+// How many seconds later an occurrence of an event can end than the seconds of its length say.
+fn seconds_late(event: &Event) -> i64
+    ensures value { result ≡ late_by event.now.rdates event.now.start.stamp event.now.length }
+    ensures least { pos 0 ≤ℤ result }
+    ensures most { result ≤ℤ whole_days 4 }
+{
+    if !event.rdates.is_empty() {
+        return FOUR_DAYS;
+    }
+    match event.start.stamp {
+        Stamp::Date(_) => FOUR_DAYS,
+        Stamp::Utc(_) => 0,
+        Stamp::Floating(_) | Stamp::Zoned(_) => match event.length {
+            Length::Open | Length::Until(_) => 0,
+            Length::Lasting(_) => FOUR_DAYS,
+        },
+    }
+}
+
+// How many seconds before the earliest instant that counts the locals of an event's rule have to be read.
+pub(crate) fn seconds_back(event: &Event) -> i64
+    ensures value { result ≡ seconds_back event.now }
+    ensures least { pos 0 ≤ℤ result }
+    ensures most { result ≤ℤ whole_days 6 }
+{
+    seconds_off(event.start.stamp) + seconds_late(event)
+}
+
+// The local from which on a rule with this first local is read: that local or, if it is later, the one that is so many seconds before
+// the earliest instant that counts, or the midnight of its day. So a rule that began long ago is not read from its beginning.
+pub(crate) fn first_nearby(first: Local, back: i64, at_midnight: bool, earliest: Moment) -> Local
     requires first { IsDayNumber first.day }
+    requires least { pos 0 ≤ℤ back }
+    requires most { back ≤ℤ whole_days 6 }
     requires late { (occurrence_first -ℤ lasts_most) ≤ℤ earliest }
     requires early { earliest ≤ℤ (window_last +ℤ whole_days 14) }
     ensures day { IsDayNumber result.day }
-    ensures late { int_max (local_seconds first) (earliest -ℤ whole_days 7) ≤ℤ local_seconds result }
-    ensures low { local_seconds result ≤ℤ int_max (local_seconds first) (earliest -ℤ whole_days 6) }
+    ensures late { int_max (local_seconds first) (earliest -ℤ (back +ℤ whole_days 1)) ≤ℤ local_seconds result }
+    ensures low { local_seconds result ≤ℤ int_max (local_seconds first) (earliest -ℤ back) }
 {
-    let day = Local::of_seconds(earliest).day - 6;
-    if day <= first.day {
-        first
+    let local = Local::of_seconds(earliest - back);
+    if local.day <= first.day {
+        return first;
+    }
+    if at_midnight {
+        Local::at(local.day, 0)
     } else {
-        Local::at(day, 0)
+        local
     }
 }
 
@@ -126,15 +173,15 @@ fn last_given(window: &Window, until: Option<Moment>, first: Local) -> Moment
     }
 }
 
-// The third day after that instant. No local from that day on has an instant at which the rule can give
-// a start.
-pub(crate) fn end_nearby(window: &Window, until: Option<Moment>, first: Local) -> i32
-    requires { IsDayNumber first.day }
+// The day after the last local that can have that instant. No local from that day on has an instant at which the rule can give a start.
+pub(crate) fn end_nearby(window: &Window, until: Option<Moment>, start: Stamp) -> i32
+    requires { IsDayNumber (local_of start).day }
     ensures day { IsDayNumber result }
-    ensures after { (ends_at window.now until (local_seconds first) +ℤ whole_days 2) ≤ℤ midnight result }
-    ensures soon { midnight result <ℤ (ends_at window.now until (local_seconds first) +ℤ whole_days 3) }
+    ensures after { (ends_at window.now until (local_seconds (local_of start)) +ℤ seconds_off start) ≤ℤ midnight result }
+    ensures soon { midnight result <ℤ (ends_at window.now until (local_seconds (local_of start)) +ℤ (seconds_off start +ℤ whole_days 1)) }
 {
-    Local::of_seconds(last_given(window, until, first)).day + 3
+    let last = last_given(window, until, local_of(start));
+    Local::of_seconds(last + seconds_off(start)).day + 1
 }
 
 // The first of each run of starts at one instant.

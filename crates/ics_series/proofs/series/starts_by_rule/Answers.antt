@@ -5,6 +5,7 @@ use Rattle.std.proofs.lemmas.Int.{int_max_is, int_min_is, ints}
 use Rattle.ics_event.specs.declared.event.Event.{Event}
 use Rattle.ics_fields.specs.Locals.{whole_days}
 use Rattle.ics_series.specs.declared.window.Window.{Window}
+use Rattle.ics_series.specs.Leeway.{seconds_back}
 use Rattle.ics_series.specs.SeriesStarts.{first_asked}
 use Rattle.ics_series.specs.Starts.{local_of}
 use Rattle.ics_series.specs.FileZones.{clocks_in}
@@ -36,20 +37,21 @@ returns c =
     min-fits ∙ (c.min.ensures.value ∙ (λ i. int_min (since-fits i) (to-later c.args.window i))) in
     let first : to_z w64 (of_z w64 c.max.result) ≡ first_asked clocks c.args.window event c.args.since c.args.listed.now =
     max-fits ∙ (c.max.ensures.value ∙ (λ i. int_max ((earliest-fits ∙ c.earliest-earliest.ensures.value) i) (min i))) in
+    let back : to_z w64 (of_z w64 c.seconds_back.result) ≡ seconds_back event = search rules in
     record {
       own = record {
         zones_are = c.new.ensures.zones;
         event_is = ap (λ (b : Bor Event). b.now) c.new.ensures.event;
         window_is = c.new.ensures.window;
         day = rw c.new.ensures.from c.first_nearby-from.ensures.day;
-        late = rw (c.new.ensures.from, ← first, ← local) c.first_nearby-from.ensures.late;
+        late = rw (c.new.ensures.from, ← first, ← local, ← back) c.first_nearby-from.ensures.late;
       };
       from = record {
         rule = c.new-rule.result;
         has = search rules;
         from = c.first_nearby-from.result;
         day = c.first_nearby-from.ensures.day;
-        low = rw (← first, ← local) c.first_nearby-from.ensures.low;
+        low = rw (← first, ← local, ← back) c.first_nearby-from.ensures.low;
         gives = c.new.ensures.left;
       };
     }

@@ -1,42 +1,53 @@
-use Rattle.std.proofs.Common.{◌≡◌, ◌∙◌, refl, sym, ap, subst, arith, map, to_z, of_z, w32}
+use Rattle.std.proofs.Common.{◌≡◌, ◌<ℤ◌, ◌+ℤ◌, ◌∙◌, refl, sym, ap, subst, arith, map, to_z, of_z, w32, ℤ, Option}
 use Rattle.std.specs.Int.{int_min}
 use Rattle.std.proofs.lemmas.Int.{int_min_is, ints}
 use Rattle.ics_fields.specs.declared.local.Local.{Local}
 use Rattle.ics_rule.specs.Cursors.{place_of}
 use Rattle.ics_event.specs.declared.event.Event.{Event}
-use Rattle.ics_rule.specs.Kept.{until_moment}
-use Rattle.ics_fields.specs.Locals.{local_seconds, midnight, number}
+use Rattle.ics_fields.specs.Locals.{local_seconds, midnight, number, whole_days}
 use Rattle.ics_series.specs.Found.{moment_cmp}
+use Rattle.ics_series.specs.Leeway.{seconds_off}
 use Rattle.ics_series.specs.Listing.{IsIn}
+use Rattle.ics_series.specs.declared.window.Window.{Window}
 use Rattle.ics_series.specs.Rising.{Rises}
 use Rattle.ics_series.proofs.RuleDayLemmas.{come-empty}
 use Rattle.ics_series.specs.RuleStarts.{ends_at, HasLookedTo}
 use Rattle.ics_series.specs.Waiting.{start_of, starts_in}
 use Rattle.ics_series.specs.Starts.{local_of}
 use Rattle.ics_series.proofs.StartSourceLemmas.{calendar-day, own-day, rule-first}
+use Rattle.ics_series.proofs.SettledLemmas.{off-range}
 use Rattle.ics_series.proofs.RuleStepLemmas.{day-back, ends-most, signed-back}
 use Rattle.ics_series.proofs.rule_starts.RuleStarts.new.Goals as goal
 
+-- where the rule ends is told by the event as it is seen
+ends-same : (w : Window) {o p : Option ℤ} {u v : Event} → o ≡ p → u ≡ v →
+    ends_at w o (local_seconds (local_of u.start.stamp)) ≡ ends_at w p (local_seconds (local_of v.start.stamp))
+ends-same w e f = λ i. ends_at w (e i) (local_seconds (local_of (f i).start.stamp))
+
+end-of-window : (w : Window) (o : Option ℤ) (end : ℤ) {u v : Event} → u ≡ v →
+    midnight end <ℤ (ends_at w o (local_seconds (local_of u.start.stamp)) +ℤ (seconds_off u.start.stamp +ℤ whole_days 1))
+    → midnight end <ℤ (w.to +ℤ whole_days 3)
+end-of-window w o end {u = u} f l = omega (arith, ints, l, ends-most w o (local_seconds (local_of u.start.stamp)), off-range u.start.stamp)
+
 pub end_nearby-end-requires : goal.end_nearby-end-requires
 end_nearby-end-requires c =
-    rw (c.local_of-first.ensures ∙ ap (λ (v : Event). local_of v.start.stamp) c.event.view_is)
+    rw (ap (λ (v : Event). local_of v.start.stamp) c.event.view_is)
     (calendar-day (local_of c.args.event.now.start.stamp).day (own-day c.args.event.now.start c.requires.event.start.is_time))
 
 pub begun-begun-requires-clause-early : goal.begun-begun-requires-clause-early
 begun-begun-requires-clause-early c =
     let w = c.args.window in
     let e = c.end_nearby-end.ensures in
-    omega (arith, ints, w.not_late, e.soon, ends-most w c.until_moment.result (local_seconds c.local_of-first.result), e.day.0)
+    let soon = end-of-window w c.until_moment.result c.end_nearby-end.result c.event.view_is e.soon in
+    omega (arith, ints, w.not_late, soon, e.day.0)
 
 pub invariant_of-result : goal.invariant_of-result
 invariant_of-result c =
     let w = c.args.window in
     let e = c.end_nearby-end.ensures in
-    let ends : ends_at c.args.window c.until_moment.result (local_seconds c.local_of-first.result)
-    ≡ ends_at c.args.window (until_moment c.args.rule) (local_seconds (local_of c.args.event.now.start.stamp)) =
-    λ i. ends_at c.args.window (c.until_moment.ensures i)
-    (local_seconds ((c.local_of-first.ensures ∙ ap (λ (v : Event). local_of v.start.stamp) c.event.view_is) i)) in
-    let most = ends-most w c.until_moment.result (local_seconds c.local_of-first.result) in
+    let ends = ends-same w c.until_moment.ensures c.event.view_is in
+    let off = ap (λ (v : Event). seconds_off v.start.stamp) c.event.view_is in
+    let most = end-of-window w c.until_moment.result c.end_nearby-end.result c.event.view_is e.soon in
     let min = c.min-day.ensures.value in
     let end = day-back c.end_nearby-end.result e.day in
     let from = day-back c.args.from.day c.requires.from in
@@ -74,9 +85,9 @@ invariant_of-result c =
       asked_on = omega (arith, ints, day);
       asked_soon = omega (arith, ints, day);
       asked_end = omega (arith, ints, day, end, from, min, int_min_is);
-      early = omega (arith, ints, end, w.not_late, e.soon, most, e.day.0);
-      after = omega (arith, ints, end, e.after, ends);
-      soon = omega (arith, ints, end, e.soon, ends);
+      early = omega (arith, ints, end, w.not_late, most, e.day.0);
+      after = omega (arith, ints, end, e.after, ends, off);
+      soon = omega (arith, ints, end, e.soon, ends, off);
     }
 
 pub returns-clause-left : goal.returns-clause-left

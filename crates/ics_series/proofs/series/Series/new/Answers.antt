@@ -6,7 +6,7 @@ use Rattle.std.proofs.lemmas.Bool.{and_from}
 use Rattle.ics_fields.specs.RuleParts.{RuleParts}
 use Rattle.ics_fields.specs.declared.local.Local.{Local}
 use Rattle.ics_rule.specs.PeriodNumbers.{rules_end}
-use Rattle.ics_fields.specs.Locals.{number, local_seconds, whole_days}
+use Rattle.ics_fields.specs.Locals.{number, local_seconds}
 use Rattle.ics_rule.specs.Kept.{is_kept}
 use Rattle.ics_rule.specs.Recurrence.{Recurrence}
 use Rattle.ics_event.specs.Event.{IsEvent, IsTime}
@@ -22,6 +22,7 @@ use Rattle.ics_series.specs.declared.zones.FileZones.{FileZones}
 use Rattle.ics_series.specs.Clocks.{Clocks, instant}
 use Rattle.ics_series.specs.Entry.{Entry, entry_cmp}
 use Rattle.ics_series.specs.Found.{listed_from, moment_cmp, start_at, start_by, AreFirsts, AreStartsSince, HasStart, IsSought, IsStart, IsStartIn}
+use Rattle.ics_series.specs.Leeway.{seconds_back}
 use Rattle.ics_series.specs.Listing.{IsIn, IsListing}
 use Rattle.ics_series.specs.Meeting.{entry_from}
 use Rattle.ics_series.specs.Meets.{Meets}
@@ -42,7 +43,7 @@ use Rattle.ics_series.proofs.SeriesLemmas.{has-union, put-has, union-has, in-mom
 use Rattle.ics_series.proofs.SoughtLemmas.{listed-in}
 use Rattle.ics_series.proofs.VersionLemmas.{same-entry}
 use Rattle.ics_series.proofs.RuleDayLemmas.{found-is, given-parts, in-rules, put-both, seconds-numbered}
-use Rattle.ics_series.proofs.SoughtLemmas.{listed-there, none-else, sought-early, sought-late}
+use Rattle.ics_series.proofs.SoughtLemmas.{listed-there, none-else, sought-back, sought-early}
 use Rattle.ics_series.proofs.RawLemmas.{kept-first}
 use Rattle.ics_series.proofs.UnionLemmas.{itself-put, union-in}
 use Rattle.ics_series.proofs.Cases.{here-or-later}
@@ -144,8 +145,9 @@ module _ (zones : FileZones) (w : Window) (event : Event) where
           let near = instant-near zones (time_at event.start local) in
           let at = written-at event.start.stamp local in
           let first = kept-first clocks event sound.start local own in
-          let asked : int_max (local_seconds (local_of event.start.stamp)) (first_asked clocks w event since by_rdates -ℤ whole_days 6)
-          ≤ℤ local_seconds local = omega (arith, ints, int_max_is, int_min_is, sought-late zones w event (moment local) s, late, first, near.1, at.0) in
+          let back = sought-back zones w event local s in
+          let asked : int_max (local_seconds (local_of event.start.stamp)) (first_asked clocks w event since by_rdates -ℤ seconds_back event)
+          ≤ℤ local_seconds local = omega (arith, ints, int_max_is, int_min_is, back.0, back.1, late, first) in
           let from : number r.from ≤ number local = omega (arith, ints, r.low, asked, number-seconds r.from r.day, number-seconds local day) in
           let below : number local < rules_end = omega (arith, ints, early, near.0, at.1, number-seconds local day, w.not_late) in
           let parts = ruled-kept clocks event r.rule r.has local own in
