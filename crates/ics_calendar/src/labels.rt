@@ -12,7 +12,6 @@ ghost use Rattle.ics_calendar.specs.SharedFaults.{needed_by, number_by};
 
 use crate::file_parts::SoundEvent;
 use crate::shared_faults::SharedFaults;
-use crate::zone_files::put_first;
 use ics_components::{Fault, ParsedFile, PartedComponent, earlier};
 use ics_event::Text;
 use std::alloc::{AllocError, Global};
@@ -33,12 +32,7 @@ fn number(by_uid: &mut BTreeMap<Text, usize>, uid: Text, place: usize) -> Result
     ensures put { OnOk result ((other : List ℕ) → get (slice_cmp nat_cmp) by_uid.new other
         ≡ option_or (get (slice_cmp nat_cmp) by_uid.old other) (if bytes_eq other uid then Some place else None)) }
 {
-    let part = match by_uid.get(&uid) {
-        Some(part) => *part,
-        None => place,
-    };
-    put_first(by_uid, uid, place)?;
-    Ok(part)
+    Ok(*by_uid.entry(uid)?.or_insert(place))
 }
 
 /// Notes a first fault of the part of a UID, which may be new, and answers its number.
