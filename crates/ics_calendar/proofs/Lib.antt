@@ -41,6 +41,9 @@ pub mod PartsFirst
 pub mod PartsWant
 pub mod PartsSaid
 pub mod PartsAre
+pub mod FirstOfAll
+pub mod AllGathered
+pub mod OnePass
 pub mod UnknownInParts
 pub mod FaultlessLines
 pub mod NamesForParts

@@ -709,7 +709,7 @@ part_in_place ls h nested part is =
     (chosen_in_place taken (begins_taken taken ls) ls (roots_chosen ls h (roots_of ls part) (calendars_of part) (part_roots ls h part is) nested))
 
 -- ITS EVENTS AND ITS TIME ZONES, as those of the file that are in it.
-filter-twice : (p q : Placed → Bool) (ks : List Placed) → filter p (filter q ks) ≡ filter (λ k. q k && p k) ks
+pub filter-twice : (p q : Placed → Bool) (ks : List Placed) → filter p (filter q ks) ≡ filter (λ k. q k && p k) ks
 filter-twice p q [] = refl
 filter-twice p q (k ∷ ks) = by_test (q k) (filter-twice p q ks)
   where
@@ -718,7 +718,7 @@ filter-twice p q (k ∷ ks) = by_test (q k) (filter-twice p q ks)
     by_test true more = ap (λ (xs : List Placed). cond (p k) (k ∷ xs) xs) more
     by_test false more = more
 
-some-of : {X : Type 0} (f : Placed → List X) (q : Placed → Bool) (ks : List Placed) → ((k : Placed) → IsIn k ks → q k ≡ false → f k ≡ []) →
+pub some-of : {X : Type 0} (f : Placed → List X) (q : Placed → Bool) (ks : List Placed) → ((k : Placed) → IsIn k ks → q k ≡ false → f k ≡ []) →
     flat_map f ks ≡ flat_map f (filter q ks)
 some-of f q [] none = refl
 some-of f q (k ∷ ks) none = by_test (q k) refl (some-of f q ks (λ m i. none m (inr i)))

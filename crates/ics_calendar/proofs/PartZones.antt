@@ -36,7 +36,7 @@ module _ (f : Placed → List CalendarZone) (q : Placed → Bool) (r : CalendarZ
       by_test false one more = rw (one, more) refl
 
 -- what is read of each of some time zones
-seen-each : (ls ks : List Placed) → flat_map (λ z. zones_in (component_seen ls z).read) ks ≡ sound_zones (map (component_seen ls) ks)
+pub seen-each : (ls ks : List Placed) → flat_map (λ z. zones_in (component_seen ls z).read) ks ≡ sound_zones (map (component_seen ls) ks)
 seen-each ls [] = refl
 seen-each ls (k ∷ ks) = ap (λ zs. zones_in (component_seen ls k).read ++ zs) (seen-each ls ks)
 

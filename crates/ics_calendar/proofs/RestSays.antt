@@ -30,7 +30,7 @@ use Rattle.ics_calendar.specs.SoundParts.{listed}
 use Rattle.ics_calendar.specs.Wanted.{each_once}
 use Rattle.ics_calendar.proofs.LinesSettle.{lines_settle}
 
-same-fault : (r : Result ParsedFileSeen Fault) → fault_of r ≡ fault_read r
+pub same-fault : (r : Result ParsedFileSeen Fault) → fault_of r ≡ fault_read r
 same-fault (Ok read) = refl
 same-fault (Err fault) = refl
 

@@ -178,7 +178,7 @@ zones-sound (zone ∷ zones) h =
     All-append (λ z. IsSoundZone z.observances) (zones_in zone.read) (sound_zones zones) (zones-of zone.read (All-head IsSoundRead zone zones h))
     (zones-sound zones (All-tail IsSoundRead zone zones h))
 
-event-sound : (part : ℕ) (event : PartedComponentSeen) (read : Result ParsedFileSeen Fault) → IfOk read IsSoundParsed →
+pub event-sound : (part : ℕ) (event : PartedComponentSeen) (read : Result ParsedFileSeen Fault) → IfOk read IsSoundParsed →
     All IsSoundKept (sound_in part event read)
 event-sound part event (Ok read) h =
     All-cons IsSoundKept (record { part = part; calendar = event.calendar; zones = event.zones; read = read }) [] h (All-nil IsSoundKept)

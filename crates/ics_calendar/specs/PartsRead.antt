@@ -12,7 +12,7 @@ use Rattle.ics_components.specs.PartFaults.{earlier}
 use Rattle.ics_calendar.specs.DeferredChecks.{is_same}
 use Rattle.ics_components.specs.Parted.{PartedComponentSeen, PartedFileSeen}
 use Rattle.ics_calendar.specs.Settled.{known_in}
-use Rattle.ics_calendar.specs.SoundParts.{PartsSeen, SoundEventSeen}
+use Rattle.ics_calendar.specs.SoundParts.{PartsSeen, SoundEventSeen, gathered_of}
 use Rattle.ics_calendar.specs.ZoneTables.{known_by}
 
 -- the first fault of a calendar
@@ -112,6 +112,18 @@ labelled needed events = fold (with_event needed) nothing_labelled events
 -- the first fault of the rest: of the time zones, and of the lines of no event and no time zone
 abbrev pub fault_of_rest : PartedFileSeen → Option Fault
 fault_of_rest parted = fold (λ first zone. earlier first (fault_read zone.read)) parted.outside parted.zones
+
+-- THE FIRST FAULT OF A FILE is the least of that of the rest and of those of the events, and WHAT IS GATHERED of it where it has none.
+abbrev pub first_of : PartedFileSeen → Option Fault
+first_of parted = fold (λ first event. earlier first (fault_read event.read)) (fault_of_rest parted) parted.events
+
+abbrev pub whole_of : PartedFileSeen → ParsedFileSeen
+whole_of parted = gathered_of (flat_map (λ event. sound_in 0 event event.read) parted.events) (sound_zones parted.zones)
+
+-- A fault outside on the first line may stand for lines that are not there.
+abbrev pub is_on_first : Option Fault → Bool
+is_on_first None = false
+is_on_first (Some fault) = fault.line == 1
 
 -- WHAT IS KEPT of a file: its sound time zones, its sound events with the numbers of their parts, the first fault of each part, and that of the rest.
 pub record AreRead (parted : PartedFileSeen) (parts : PartsSeen) : Type 0 where

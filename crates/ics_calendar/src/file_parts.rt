@@ -1,5 +1,5 @@
 //! The parts of a file: which of them are sound, and the first faults of the others.
-ghost use Rattle.std.specs.Prelude.{◌≡◌, ◌≤◌, ◌<◌, ℕ, ◌∷◌, ◌++◌, ◌&&◌, ◌||◌, [], ◌==◌, if◌then◌else◌, length, fold, get_or, None, IfOk, OnOk};
+ghost use Rattle.std.specs.Prelude.{◌≡◌, ◌≤◌, ◌<◌, ℕ, ◌∷◌, ◌++◌, ◌&&◌, ◌||◌, [], ◌==◌, if◌then◌else◌, length, fold, get_or, Some, None, IfOk, OnOk};
 ghost use Rattle.std.specs.Option.{option_or};
 ghost use Rattle.std.specs.BTreeSet.{contains, insert_key};
 ghost use Rattle.std.specs.List.{All, flat_map, list_all, list_any};
@@ -9,7 +9,7 @@ ghost use Rattle.ics_components.specs.ParsedFiles.{IsSoundParsed};
 ghost use Rattle.ics_event.specs.Event.{said_by};
 ghost use Rattle.ics_calendar.specs.DeferredChecks.{is_same};
 ghost use Rattle.ics_calendar.specs.Parts.{fault_cmp, in_order};
-ghost use Rattle.ics_components.specs.Parted.{IsSoundParted};
+ghost use Rattle.ics_components.specs.Parted.{IsSoundParted, parted_of};
 ghost use Rattle.ics_calendar.specs.PartialFiles.{ArePartsOf};
 ghost use Rattle.ics_calendar.specs.PartsRead.{AreRead};
 ghost use Rattle.ics_calendar.specs.SoundParts.{checks_of, faults_at, is_sound, later_of, listed, gathered_of, named_at, names_zone, of_parts, parts_said};
@@ -355,9 +355,23 @@ impl FileParts {
         requires { length bytes.now ≤ 16_777_216 }
         ensures { IfOk result (ArePartsOf name.now bytes.now) }
     {
-        let Some(parted) = parse_parts(alloc, bytes, None)? else {
-            return Ok(None);
-        };
+        match parse_parts(alloc, bytes, None)? {
+            Some(parted) => FileParts::with_uids(alloc, name, bytes, parted),
+            None => Ok(None),
+        }
+    }
+
+    /// The parts of a file of which this is gathered. Where no event has a UID, it is gathered again with made ones.
+    pub fn with_uids(
+        alloc: Global,
+        name: &str,
+        bytes: &[u8],
+        parted: PartedFile,
+    ) -> Result<Option<FileParts>, AllocError>
+        requires parted { parted_of None bytes.now ≡ Some parted }
+        requires sound { IsSoundParted parted }
+        ensures { IfOk result (ArePartsOf name.now bytes.now) }
+    {
         if !has_no_uids(&parted.events) {
             return Ok(Some(FileParts::of(alloc, parted)?));
         }
@@ -368,7 +382,7 @@ impl FileParts {
         }
     }
 
-    /// The parts of a file of which this is gathered.
+    /// What is kept of what is gathered.
     fn of(alloc: Global, parted: PartedFile) -> Result<FileParts, AllocError>
         requires { IsSoundParted parted }
         ensures { IfOk result (AreRead parted) }

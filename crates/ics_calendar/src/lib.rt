@@ -12,6 +12,7 @@ mod read;
 mod shared_faults;
 mod unknown_zones;
 mod unresolved_file;
+mod whole_file;
 mod zone;
 mod zone_files;
 mod zone_table;

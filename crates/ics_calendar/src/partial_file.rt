@@ -1,5 +1,6 @@
 //! Files of which the sound parts are kept.
-ghost use Rattle.std.specs.Prelude.{◌≡◌, ◌≤◌, ◌∷◌, [], length, map, Err, IfOk};
+ghost use Rattle.std.specs.Prelude.{◌≡◌, ◌≤◌, ◌∷◌, [], length, map, Some, None, Err, IfOk};
+ghost use Rattle.ics_components.specs.Parted.{IsSoundParted, parted_of};
 ghost use Rattle.ics_calendar.specs.Files.{file_of};
 ghost use Rattle.ics_calendar.specs.GivenFiles.{files_by};
 ghost use Rattle.ics_calendar.specs.Parts.{file_gives, names_for_parts, nothing_said};
@@ -10,8 +11,9 @@ use crate::file_parts::FileParts;
 use crate::given_file::GivenFile;
 use crate::unknown_zones::copied;
 use crate::unresolved_file::UnresolvedFile;
+use crate::whole_file::{first_of, is_on_first, unresolved};
 use crate::zone_files::ZoneFiles;
-use ics_components::{Fault, FileFault};
+use ics_components::{Fault, FileFault, PartedFile, parse_parts};
 use ics_event::FileEvents;
 use std::alloc::{AllocError, Global};
 use std::marker::Model;
@@ -89,6 +91,74 @@ impl<'a> PartialFile<'a> {
         requires { length bytes.now ≤ 16_777_216 }
         ensures { IfOk result (λ partial. partial ≡ record { name = name.now; bytes = bytes.now }) }
     {
+        match parse_parts(alloc, bytes, None)? {
+            Some(parted) => PartialFile::of(alloc, name, bytes, parted),
+            None => PartialFile::unparted(alloc, name, bytes),
+        }
+    }
+
+    /// A file that has no parts.
+    fn unparted(
+        alloc: Global,
+        name: &'a str,
+        bytes: &'a [u8],
+    ) -> Result<PartialFile<'a>, AllocError>
+        requires size { length bytes.now ≤ 16_777_216 }
+        requires none { parted_of None bytes.now ≡ None }
+        ensures { IfOk result (λ partial. partial ≡ record { name = name.now; bytes = bytes.now }) }
+    {
+        match UnresolvedFile::read(alloc, bytes) {
+            Ok(unresolved) => Ok(PartialFile {
+                name,
+                bytes,
+                state: State::Whole(unresolved),
+            }),
+            Err(FileFault::Memory) => Err(AllocError),
+            Err(FileFault::At { line, kind }) => Ok(PartialFile {
+                name,
+                bytes,
+                state: State::Refused(Fault { line, kind }),
+            }),
+        }
+    }
+
+    /// A file of which this is gathered.
+    fn of(
+        alloc: Global,
+        name: &'a str,
+        bytes: &'a [u8],
+        parted: PartedFile,
+    ) -> Result<PartialFile<'a>, AllocError>
+        requires size { length bytes.now ≤ 16_777_216 }
+        requires parted { parted_of None bytes.now ≡ Some parted }
+        requires sound { IsSoundParted parted }
+        ensures { IfOk result (λ partial. partial ≡ record { name = name.now; bytes = bytes.now }) }
+    {
+        if is_on_first(parted.outside) {
+            return PartialFile::begun(alloc, name, bytes, parted);
+        }
+        match first_of(&parted) {
+            None => Ok(PartialFile {
+                name,
+                bytes,
+                state: State::Whole(unresolved(alloc, parted)?),
+            }),
+            Some(fault) => PartialFile::in_parts(alloc, name, bytes, fault, parted),
+        }
+    }
+
+    /// A file that may be faulty where it begins: there the first round is ended.
+    fn begun(
+        alloc: Global,
+        name: &'a str,
+        bytes: &'a [u8],
+        parted: PartedFile,
+    ) -> Result<PartialFile<'a>, AllocError>
+        requires size { length bytes.now ≤ 16_777_216 }
+        requires parted { parted_of None bytes.now ≡ Some parted }
+        requires sound { IsSoundParted parted }
+        ensures { IfOk result (λ partial. partial ≡ record { name = name.now; bytes = bytes.now }) }
+    {
         match UnresolvedFile::read(alloc, bytes) {
             Ok(unresolved) => Ok(PartialFile {
                 name,
@@ -97,7 +167,7 @@ impl<'a> PartialFile<'a> {
             }),
             Err(FileFault::Memory) => Err(AllocError),
             Err(FileFault::At { line, kind }) => {
-                PartialFile::in_parts(alloc, name, bytes, Fault { line, kind })
+                PartialFile::in_parts(alloc, name, bytes, Fault { line, kind }, parted)
             }
         }
     }
@@ -108,12 +178,15 @@ impl<'a> PartialFile<'a> {
         name: &'a str,
         bytes: &'a [u8],
         fault: Fault,
+        parted: PartedFile,
     ) -> Result<PartialFile<'a>, AllocError>
         requires size { length bytes.now ≤ 16_777_216 }
         requires first { IsFirstOf bytes.now fault }
+        requires parted { parted_of None bytes.now ≡ Some parted }
+        requires sound { IsSoundParted parted }
         ensures { IfOk result (λ partial. partial ≡ record { name = name.now; bytes = bytes.now }) }
     {
-        match FileParts::read(alloc, name, bytes)? {
+        match FileParts::with_uids(alloc, name, bytes, parted)? {
             Some(parts) => Ok(PartialFile {
                 name,
                 bytes,
