@@ -44,6 +44,7 @@ pub mod PartsAre
 pub mod FirstOfAll
 pub mod AllGathered
 pub mod OnePass
+pub mod AloneParts
 pub mod UnknownInParts
 pub mod FaultlessLines
 pub mod NamesForParts

@@ -1,9 +1,11 @@
 -- WHAT IS KEPT OF THE PARTS of a file, by what is gathered of it event by event and time zone by time zone.
-use Rattle.std.specs.Prelude.{◌≡◌, ℕ, ◌+◌, Bool, false, ◌==◌, List, [], ◌∷◌, ◌++◌, get_or, length, map, set, unwrap_or, Option, Some, None, Result, Ok}
+use Rattle.std.specs.Prelude.{◌≡◌, ℕ, ◌+◌, ◌-◌, ◌*◌, nat_lt, ◌&&◌, Bool, true, false, ◌==◌, List, [], ◌∷◌, ◌++◌, get_or, length, map, set}
+use Rattle.std.specs.Prelude.{unwrap_or, Option, Some, None, Result, Ok}
 use Rattle.std.specs.Prelude.{Err, if◌then◌else◌}
 use Rattle.std.specs.List.{flat_map, fold, list_any}
 use Rattle.std.specs.Option.{option_or}
 use Rattle.std.specs.Str.{bytes_eq}
+use Rattle.ics_values.specs.Digits.{is_digit}
 use Rattle.ics_components.specs.declared.deferred_check.ZoneName.{ZoneName}
 use Rattle.ics_components.specs.declared.fault.Fault.{Fault}
 use Rattle.ics_components.specs.declared.parsed_file.CalendarZone.{CalendarZone}
@@ -108,6 +110,38 @@ with_event needed had event =
 
 abbrev pub labelled : (PartedComponentSeen → Option Fault) → List PartedComponentSeen → Labelled
 labelled needed events = fold (with_event needed) nothing_labelled events
+
+-- EVENTS EACH OF WHICH IS ALONE in its part: the first faults of the parts, and the sound events.
+pub record Alone : Type 0 where
+  pub faults : List (Option Fault)
+  pub events : List SoundEventSeen
+
+abbrev pub with_alone : (PartedComponentSeen → Option Fault) → Alone → PartedComponentSeen → Alone
+with_alone needed had event = record {
+  faults = had.faults ++ needed event ∷ [];
+  events = had.events ++ sound_in (length had.faults) event event.read;
+}
+
+abbrev pub all_alone : (PartedComponentSeen → Option Fault) → List PartedComponentSeen → Alone
+all_alone needed events = fold (with_alone needed) (record { faults = []; events = [] }) events
+
+-- They are, where each has one UID, and the numbers at the ends of these rise, as those of made ones do.
+abbrev pub number_with : ℕ → ℕ → ℕ
+number_with number byte = if is_digit byte && nat_lt number 1_000_000_000 then number * 10 + (byte - 48) else 0
+
+abbrev pub number_at_end : List ℕ → ℕ
+number_at_end text = fold number_with 0 text
+
+abbrev pub own_number : List (List ℕ) → Option ℕ
+own_number uids = if length uids == 1 then Some (number_at_end (get_or uids 0 [])) else None
+
+abbrev pub is_above : ℕ → Option ℕ → Bool
+is_above last None = false
+is_above last (Some number) = nat_lt last number
+
+abbrev pub rise_from : ℕ → List PartedComponentSeen → Bool
+rise_from last [] = true
+rise_from last (event ∷ events) = is_above last (own_number event.uids) && rise_from (unwrap_or (own_number event.uids) 0) events
 
 -- the first fault of the rest: of the time zones, and of the lines of no event and no time zone
 abbrev pub fault_of_rest : PartedFileSeen → Option Fault

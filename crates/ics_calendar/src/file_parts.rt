@@ -399,7 +399,7 @@ impl FileParts {
             events,
             faults,
             by_uid,
-        } = Labels::of(alloc, events, &shared)?;
+        } = Labels::numbered(alloc, events, &shared)?;
         drop(by_uid);
         let zones = sound_zones(alloc, zones)?;
         let copies = copied_zones(alloc, &zones)?;

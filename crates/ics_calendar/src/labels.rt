@@ -6,11 +6,13 @@ ghost use Rattle.std.specs.List.{list_any};
 ghost use Rattle.std.specs.Option.{option_or};
 ghost use Rattle.std.specs.Ordering.{nat_cmp};
 ghost use Rattle.std.specs.Str.{bytes_eq};
-ghost use Rattle.ics_calendar.specs.Labels.{AreLabels, AreNumbered};
-ghost use Rattle.ics_calendar.specs.PartsRead.{fault_read, labelled, least_at, nothing_labelled, numbered_with, with_event, with_key, Labelled, Numbered};
+ghost use Rattle.ics_calendar.specs.Labels.{AreAlone, AreLabels, AreNumbered};
+ghost use Rattle.ics_calendar.specs.PartsRead.{all_alone, fault_read, labelled, least_at, nothing_labelled, numbered_with, with_alone};
+ghost use Rattle.ics_calendar.specs.PartsRead.{with_event, with_key, Alone, Labelled, Numbered};
 ghost use Rattle.ics_calendar.specs.SharedFaults.{needed_by, number_by};
 
 use crate::file_parts::SoundEvent;
+use crate::rising::numbers_rise;
 use crate::shared_faults::SharedFaults;
 use ics_components::{Fault, ParsedFile, PartedComponent, earlier};
 use ics_event::Text;
@@ -154,7 +156,7 @@ impl Labels {
     }
 
     /// Those of these events, in the order of the lines.
-    pub fn of(
+    fn of(
         alloc: Global,
         events: Vec<PartedComponent>,
         shared: &SharedFaults,
@@ -166,5 +168,66 @@ impl Labels {
             labels.add(event, shared)?;
         }
         Ok(labels)
+    }
+
+    /// Adds an event that is alone in its part.
+    fn add_alone(&mut self, event: PartedComponent, shared: &SharedFaults) -> Result<(), AllocError>
+        ensures { OnOk result ((had : Alone) → AreAlone had self.old → AreAlone (with_alone (needed_by shared.now) had event) self.new) }
+    {
+        let PartedComponent {
+            calendar,
+            uids,
+            zones,
+            read,
+            ..
+        } = event;
+        drop(uids);
+        let beside = shared.beside(calendar, &zones)?;
+        let fault = earlier(fault_read(&read), beside);
+        let had = self.faults.as_slice();
+        let part = had.len();
+        self.faults.push(fault)?;
+        match read {
+            Ok(read) => {
+                self.events.push(SoundEvent {
+                    part,
+                    calendar,
+                    zones,
+                    read,
+                })?;
+                Ok(())
+            }
+            Err(_) => Ok(()),
+        }
+    }
+
+    /// Those of these events, each of which is alone in its part.
+    fn alone(
+        alloc: Global,
+        events: Vec<PartedComponent>,
+        shared: &SharedFaults,
+    ) -> Result<Labels, AllocError>
+        ensures { IfOk result (AreAlone (all_alone (needed_by shared.now) events.items)) }
+    {
+        let mut labels = Labels::new(alloc);
+        for event in events {
+            labels.add_alone(event, shared)?;
+        }
+        Ok(labels)
+    }
+
+    /// The same of any events. Made UIDs, of which each is of one event, are not searched for.
+    pub fn numbered(
+        alloc: Global,
+        events: Vec<PartedComponent>,
+        shared: &SharedFaults,
+    ) -> Result<Labels, AllocError>
+        ensures faults { IfOk result (λ labels. labels.faults.items ≡ (labelled (needed_by shared.now) events.items).numbered.faults) }
+        ensures events { IfOk result (λ labels. labels.events.items ≡ (labelled (needed_by shared.now) events.items).events) }
+    {
+        if numbers_rise(&events) {
+            return Labels::alone(alloc, events, shared);
+        }
+        Labels::of(alloc, events, shared)
     }
 }

@@ -9,6 +9,7 @@ mod labels;
 mod laws;
 mod partial_file;
 mod read;
+mod rising;
 mod shared_faults;
 mod unknown_zones;
 mod unresolved_file;

@@ -56,7 +56,7 @@ returns c =
     subst (λ parted. AreRead parted parts) c.parted.view_is (record {
       zones = c.in_ok-zones.ensures;
       events = c.in_ok-by_uid.ensures.events ∙ (λ i. (labelled (λ event. needed-same parted shared are event i) inside.events.items).events);
-      faults = c.in_ok-by_uid.ensures.numbered.first
+      faults = c.in_ok-by_uid.ensures.faults
           ∙ (λ i. (labelled (λ event. needed-same parted shared are event i) inside.events.items).numbered.faults);
       rest = c.fault_of_rest-rest.ensures ∙ (λ i. fold (λ first zone. earlier first (fault_read zone.read)) inside.outside (c.deref-3.ensures.value i));
       known = c.in_ok-table.ensures ∙ ap known_in (c.in_ok-copies.ensures ∙ c.deref-4.ensures.value ∙ c.in_ok-zones.ensures);
