@@ -1,5 +1,6 @@
 pub mod Days
 pub mod Fields
+pub mod Clocks
 pub mod Locals
 pub mod Sets
 pub mod Ordinals

@@ -2,6 +2,7 @@
 #![tactic(auto)]
 
 mod calendar;
+mod clock;
 mod fields;
 mod frequency;
 mod laws;
@@ -12,6 +13,7 @@ mod sets;
 mod until;
 
 pub use calendar::civil;
+pub use clock::{second_of_clock, two_digits};
 pub use fields::Civil;
 pub use frequency::Frequency;
 pub use laws::order_of_locals;

@@ -1,12 +1,13 @@
 -- The texts that name the ends of a window: `YYYY-MM-DD`, `YYYY-MM-DDTHH:MM` and `Nd`. A local is counted in
 -- seconds from 1970-01-01T00:00:00, each day having 86,400.
-use Rattle.std.specs.Prelude.{ℕ, ℤ, pos, ◌+◌, ◌-◌, ◌*◌, ◌==◌, ◌&&◌, nat_lt, nat_le, Bool, List, [], ◌∷◌, length, take, drop, slice_index, Option, Some, None}
+use Rattle.std.specs.Prelude.{ℕ, ℤ, pos, ◌+◌, ◌-◌, ◌*◌, ◌==◌, ◌&&◌, nat_le, Bool, List, [], ◌∷◌, length, take, drop, slice_index, Option, Some, None}
 use Rattle.std.specs.Prelude.{option_map, option_and_then, if◌then◌else◌}
 use Rattle.std.specs.Char.{is_ascii_digit}
 use Rattle.std.specs.List.{list_all}
 use Rattle.std.specs.Option.{option_or}
 use Rattle.std.specs.Str.Parse.{digits_value}
 use Rattle.jiff_core.specs.Calendar.{days_in_month, days_from_civil}
+use Rattle.ics_fields.specs.Clocks.{second_said, two_digits}
 use Rattle.ics_fields.specs.Locals.{seconds_at}
 
 -- what a window text names: a day, a local, or a number of days
@@ -15,15 +16,10 @@ pub data Named : Type 0 where
   Local : ℤ → Named
   Days : ℕ → Named
 
--- the number that two digits spell
-abbrev pub pair : ℕ → ℕ → Option ℕ
-pair tens ones =
-    if is_ascii_digit tens && is_ascii_digit ones then Some ((tens - 48) * 10 + (ones - 48)) else None
-
 -- the number that four digits spell
 abbrev pub quad : ℕ → ℕ → ℕ → ℕ → Option ℕ
 quad a b c d =
-    option_and_then (λ front. option_map (λ back. front * 100 + back) (pair c d)) (pair a b)
+    option_and_then (λ front. option_map (λ back. front * 100 + back) (two_digits c d)) (two_digits a b)
 
 -- the calendar has this date
 abbrev pub has_date : ℕ → ℕ → ℕ → Bool
@@ -43,26 +39,18 @@ date_named year month day =
 -- the day of `YYYY-MM-DD`
 abbrev pub day_said : List ℕ → Option ℤ
 day_said (a ∷ b ∷ c ∷ d ∷ x ∷ e ∷ f ∷ y ∷ g ∷ h ∷ []) =
-    if (x == 45) && (y == 45) then date_named (quad a b c d) (pair e f) (pair g h) else None
+    if (x == 45) && (y == 45) then date_named (quad a b c d) (two_digits e f) (two_digits g h) else None
 day_said text = None
 
--- the second of the day at these hours and minutes
-abbrev pub clock_second : ℕ → ℕ → Option ℕ
-clock_second hours minutes =
-    if nat_lt hours 24 && nat_lt minutes 60 then Some (hours * 3_600 + minutes * 60) else None
-
 -- the second of the day of `THH:MM`
-abbrev pub second_said : List ℕ → Option ℕ
-second_said (t ∷ a ∷ b ∷ colon ∷ c ∷ d ∷ []) =
-    if (t == 84) && (colon == 58)
-    then option_and_then (λ hours. option_and_then (λ minutes. clock_second hours minutes) (pair c d)) (pair a b)
-    else None
-second_said text = None
+abbrev pub time_said : List ℕ → Option ℕ
+time_said (t ∷ clock) = if t == 84 then second_said clock else None
+time_said [] = None
 
 -- the local of `YYYY-MM-DDTHH:MM`
 abbrev pub local_said : List ℕ → Option ℤ
 local_said text =
-    option_and_then (λ day. option_map (λ second. seconds_at day second) (second_said (drop 10 text)))
+    option_and_then (λ day. option_map (λ second. seconds_at day second) (time_said (drop 10 text)))
     (day_said (take 10 text))
 
 -- the text without the `d` at its end

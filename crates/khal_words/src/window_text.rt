@@ -7,7 +7,7 @@ ghost use Rattle.ics_fields.specs.Locals.{local_seconds, seconds_at};
 ghost use Rattle.khal_words.specs.WindowTexts as spec;
 ghost use Rattle.khal_words.specs.WindowTextNames.{named_by, IsInCalendar};
 
-use ics_fields::Local;
+use ics_fields::{Local, second_of_clock, two_digits};
 use jiff_core::civil::Date;
 
 // The most days of a window that is given by their number.
@@ -49,8 +49,8 @@ fn day(text: &[u8]) -> Option<i32>
         return None;
     };
     let year = quad(*a, *b, *c, *d)?;
-    let month = pair(*e, *f)?;
-    let day = pair(*g, *h)?;
+    let month = two_digits(*e, *f)?;
+    let day = two_digits(*g, *h)?;
     day_number(year, month, day)
 }
 
@@ -79,22 +79,14 @@ fn local(text: &[u8]) -> Option<Local>
 // The local of a day at `THH:MM`.
 fn at_clock(day: i32, clock: &[u8]) -> Option<Local>
     ensures value { option_map (λ l. local_seconds l) result
-        ≡ option_map (λ second. seconds_at day second) (spec.second_said clock.now) }
+        ≡ option_map (λ second. seconds_at day second) (spec.time_said clock.now) }
     ensures day { IfSome result (λ l. l.day ≡ day) }
 {
-    let [b'T', a, b, b':', c, d] = clock else {
+    let (b'T', clock) = clock.split_first()? else {
         return None;
     };
-    let hours = u32::from(pair(*a, *b)?);
-    let minutes = u32::from(pair(*c, *d)?);
-    if hours < 24 && minutes < 60 {
-        Some(Local {
-            day,
-            second: hours * 3_600 + minutes * 60,
-        })
-    } else {
-        None
-    }
+    let second = second_of_clock(clock)?;
+    Some(Local { day, second })
 }
 
 // The number that four digits write.
@@ -102,21 +94,9 @@ fn quad(a: u8, b: u8, c: u8, d: u8) -> Option<u16>
     ensures value { result ≡ spec.quad a b c d }
     ensures bound { IfSome result (λ number. number ≤ 9999) }
 {
-    let front = u16::from(pair(a, b)?);
-    let back = u16::from(pair(c, d)?);
+    let front = u16::from(two_digits(a, b)?);
+    let back = u16::from(two_digits(c, d)?);
     Some(front * 100 + back)
-}
-
-// The number that two digits write.
-fn pair(tens: u8, ones: u8) -> Option<u8>
-    ensures value { result ≡ spec.pair tens ones }
-    ensures bound { IfSome result (λ number. number < 100) }
-{
-    if tens.is_ascii_digit() && ones.is_ascii_digit() {
-        Some((tens - b'0') * 10 + (ones - b'0'))
-    } else {
-        None
-    }
 }
 
 fn days(text: &str) -> Option<u32>
