@@ -29,7 +29,7 @@ INSTALLED_HEADER := $(DESTDIR)$(PREFIX)/include/khal_list.h
 INSTALLED_FOLDERS := $(dir $(INSTALLED_PROGRAM) $(INSTALLED_PAGE) $(INSTALLED_BASH) $(INSTALLED_ZSH) $(INSTALLED_FISH)) $(INSTALLED_EXAMPLES) \
     $(INSTALLED_LIBRARY)/pkgconfig $(dir $(INSTALLED_HEADER))
 
-.PHONY: run try build lib check test check-docs check-faults check-library bench install install-library uninstall dist deb clean kit
+.PHONY: run try build lib check test check-docs check-faults check-library check-rooms bench install install-library uninstall dist deb clean kit
 
 # Lists the sample calendars for a fixed week, or whatever ARGS says.
 run: $(PROGRAM)
@@ -77,6 +77,10 @@ check-library: $(LIBRARY)
 bench: $(PROGRAM)
 	@python3 bench/bench.py $(PROGRAM)
 	@if [ -e $(LIBRARY) ]; then sh bench/library; else echo 'Not measured, because make lib has not built it: the library.'; fi
+
+# That the definitions that a reader must believe cite none of the others.
+check-rooms:
+	@python3 scripts/check-rooms
 
 # README, page, completions and examples against the program.
 check-docs: $(PROGRAM)
