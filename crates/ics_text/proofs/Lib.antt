@@ -8,3 +8,4 @@ pub mod BytesLemmas
 pub mod Parameters
 pub mod OneReading
 pub mod Foldings
+pub mod Passed

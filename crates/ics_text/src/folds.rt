@@ -1,43 +1,87 @@
 ghost use Rattle.std.specs.Prelude.{◌≡◌, ℕ, true, false, ◌+◌, ◌<◌, ◌≤◌, length, filter, IfOk, OnErr};
 ghost use Rattle.ics_text.specs.Bytes.{begins, is_blank};
+ghost use Rattle.ics_text.specs.Passing.{Begins};
 ghost use Rattle.ics_text.specs.Unfolded.{attach, is_line, lines_from};
 ghost use Rattle.ics_text.specs.Reading.{line_of, all_from, kept, line_by, BeginsFolded};
 
 use crate::bytes::without_first;
 use crate::logical::LineBytes;
+use crate::passing::{is_unread, pass_folds};
 use crate::physical::{cut_line, is_continued};
+use crate::reads::Reads;
 use std::alloc::{AllocError, Global};
 
-/// A line, the bytes after it, and the number of line ends before those.
+/// A folded line, joined, the bytes after it, and the number of line ends before those.
 #[derive(Drop)]
-pub struct Found<'a> {
-    pub bytes: LineBytes<'a>,
+struct Found<'a> {
+    bytes: LineBytes<'a>,
+    rest: &'a [u8],
+    breaks: u64,
+}
+
+/// The first line, unfolded, or none if it is passed over, the bytes after it, and the number of line ends before those.
+#[derive(Drop)]
+pub struct FirstLine<'a> {
+    pub bytes: Option<LineBytes<'a>>,
     pub rest: &'a [u8],
     pub breaks: u64,
 }
 
-/// The first line, unfolded. Only a folded line is allocated.
-pub fn first_line<'a>(alloc: Global, bytes: &'a [u8]) -> Result<Found<'a>, AllocError>
-    ensures found { IfOk result (λ f. (n : ℕ) → lines_from n bytes.now ≡ kept (line_by n f.bytes) (lines_from (n + f.breaks) f.rest.now)) }
+/// The first line. It is allocated only if it is folded, and passed over if it is folded and its property is not read.
+pub fn first_line<'a, R: Reads>(alloc: Global, bytes: &'a [u8]) -> Result<FirstLine<'a>, AllocError>
+    ensures found { IfOk result (λ f. (n : ℕ) → Begins R.reads n f.bytes (lines_from n bytes.now) (lines_from (n + f.breaks) f.rest.now)) }
     ensures fewer { IfOk result (λ f. f.breaks + length f.rest.now ≤ length bytes.now) }
     ensures shorter { IfOk result (λ f. 0 < length bytes.now → length f.rest.now < length bytes.now) }
     ensures err { OnErr result ((n : ℕ) → BeginsFolded (lines_from n bytes.now)) }
 {
     let (line, behind) = cut_line(bytes);
     let Some(after) = behind else {
-        return Ok(Found {
-            bytes: LineBytes::Borrowed(line),
+        return Ok(FirstLine {
+            bytes: Some(LineBytes::Borrowed(line)),
             rest: &bytes[bytes.len()..],
             breaks: 0,
         });
     };
     if is_continued(after) {
-        return join_folds(alloc, line, after);
+        return folded_line::<R>(alloc, line, after);
     }
-    Ok(Found {
-        bytes: LineBytes::Borrowed(line),
+    Ok(FirstLine {
+        bytes: Some(LineBytes::Borrowed(line)),
         rest: after,
         breaks: 1,
+    })
+}
+
+/// The line that begins with this physical line, which those at the start of `after` continue. `after` begins with one.
+fn folded_line<'a, R: Reads>(
+    alloc: Global,
+    first: &[u8],
+    after: &'a [u8],
+) -> Result<FirstLine<'a>, AllocError>
+    requires { begins is_blank after.now ≡ true }
+    ensures found { IfOk result (λ f. (n : ℕ) → Begins R.reads n f.bytes (filter is_line (attach (line_of n first.now false) (all_from (n + 1) after.now)))
+        (lines_from (n + f.breaks) f.rest.now)) }
+    ensures fewer { IfOk result (λ f. f.breaks + length f.rest.now ≤ length after.now + 1) }
+    ensures shorter { IfOk result (λ f. length f.rest.now ≤ length after.now) }
+    ensures err { OnErr result ((n : ℕ) → BeginsFolded (filter is_line (attach (line_of n first.now false) (all_from (n + 1) after.now)))) }
+{
+    if is_unread::<R>(first) {
+        let (rest, breaks) = pass_folds(after);
+        return Ok(FirstLine {
+            bytes: None,
+            rest,
+            breaks,
+        });
+    }
+    let Found {
+        bytes,
+        rest,
+        breaks,
+    } = join_folds(alloc, first, after)?;
+    Ok(FirstLine {
+        bytes: Some(bytes),
+        rest,
+        breaks,
     })
 }
 

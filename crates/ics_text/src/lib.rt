@@ -10,7 +10,10 @@ mod lines;
 mod logical;
 mod param;
 mod parts;
+mod passing;
 mod physical;
+mod read_line;
+mod reads;
 
 pub use content_line::content;
 pub use fault::{BadFold, BadLine};
@@ -21,3 +24,5 @@ pub use laws::{
 pub use lines::Lines;
 pub use logical::Logical;
 pub use parts::Content;
+pub use read_line::ReadLine;
+pub use reads::{Every, Reads};

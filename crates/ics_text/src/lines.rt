@@ -1,11 +1,14 @@
 ghost use Rattle.std.specs.Prelude.{◌≡◌, ◌↔◌, false, All, IfOk, OnErr, IsTrue, IsErr};
 ghost use Rattle.ics_text.specs.Unfolded.{StandsIn, unfolded, begins_with_fold};
 ghost use Rattle.ics_text.specs.Reading.{BeginsFolded, Takes};
+ghost use Rattle.ics_text.specs.ReadLines.{TakesRead};
 
 use crate::fault::BadFold;
-use crate::folds::{Found, first_line};
+use crate::folds::{FirstLine, first_line};
 use crate::logical::Logical;
 use crate::physical::{is_continued, without_mark};
+use crate::read_line::ReadLine;
+use crate::reads::{Every, Reads};
 use std::alloc::{AllocError, Global};
 use std::marker::Model;
 
@@ -49,17 +52,33 @@ impl<'a> Lines<'a> {
         ensures unchanged { OnErr result (self.new ≡ self.old) }
         ensures only_folded { OnErr result (BeginsFolded self.old) }
     {
+        match self.next_read::<Every>(alloc)? {
+            Some(ReadLine::Whole(line)) => Ok(Some(line)),
+            _ => Ok(None),
+        }
+    }
+
+    /// The next line, or None from the end on; a folded content line whose property is not read is passed over, and so not
+    /// allocated. If an allocation fails, the answer is an `AllocError` and the lines still to come are unchanged.
+    pub fn next_read<R: Reads>(&mut self, alloc: Global) -> Result<Option<ReadLine<'a>>, AllocError>
+        ensures ok { IfOk result (λ line. TakesRead R.reads self.old line self.new) }
+        ensures unchanged { OnErr result (self.new ≡ self.old) }
+        ensures only_folded { OnErr result (BeginsFolded self.old) }
+    {
         while !self.rest.is_empty() {
             let number = self.breaks + 1;
-            let Found {
+            let FirstLine {
                 bytes,
                 rest,
                 breaks,
-            } = first_line(alloc, self.rest)?;
+            } = first_line::<R>(alloc, self.rest)?;
             self.rest = rest;
             self.breaks += breaks;
+            let Some(bytes) = bytes else {
+                return Ok(Some(ReadLine::PassedOver(number)));
+            };
             if !bytes.as_slice().is_empty() {
-                return Ok(Some(Logical { number, bytes }));
+                return Ok(Some(ReadLine::Whole(Logical { number, bytes })));
             }
         }
         Ok(None)
