@@ -34,3 +34,4 @@ pub mod RootFaults
 pub mod PlacedApart
 pub mod GatheredItems
 pub mod PartKinds
+pub mod PassedLines

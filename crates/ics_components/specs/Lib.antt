@@ -18,3 +18,6 @@ pub mod ParsedFiles
 pub mod Pass
 pub mod Parted
 pub mod PartsPass
+pub mod Known
+pub mod PassedLines
+pub mod Passing

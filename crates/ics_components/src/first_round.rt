@@ -1,14 +1,19 @@
 //! The first round over the lines of a file (RFC 5545, sections 3.4 and 3.6).
-ghost use Rattle.std.specs.Prelude.{◌≡◌, ℕ, ◌+◌, ◌<◌, ◌≤◌, ◌^◌, [], length, IfOk, Some, IfSome};
+ghost use Rattle.std.specs.Prelude.{◌≡◌, ℕ, ◌+◌, ◌<◌, ◌≤◌, ◌^◌, List, [], length, IfOk, Some, IfSome};
+ghost use Rattle.ics_text.specs.Passing.{IsPassed};
+ghost use Rattle.ics_text.specs.ReadLines.{TakesRead};
+ghost use Rattle.ics_text.specs.Unfolded.{Line, Within};
+ghost use Rattle.ics_components.specs.Known.{is_known};
 ghost use Rattle.ics_components.specs.Pass.{pass_on, GoesBehind, parsed_of, Says};
-ghost use Rattle.ics_text.specs.Unfolded.{Within};
+ghost use Rattle.ics_components.specs.Passing.{GoesOn};
 ghost use Rattle.ics_components.specs.ParsedFiles.{IsSoundParsed};
 
 use crate::fault::{FaultKind, FileFault};
+use crate::known::Known;
 use crate::parsed_file::ParsedFile;
 use crate::refused::Refused;
 use crate::stack::Stack;
-use ics_text::{Lines, Logical, content, numbers_within};
+use ics_text::{Lines, Logical, ReadLine, content, numbers_within};
 use std::alloc::Global;
 
 /// The first round behind some lines: the components that are open, what is gathered, and the number of the last line.
@@ -34,6 +39,35 @@ impl FirstRound {
         Ok(())
     }
 
+    /// Passes over the line with that number, whose property is not read.
+    fn pass_over(&mut self, number: u64) -> Result<(), Refused>
+        ensures { (lines rest : List Line) → IsPassed is_known number lines rest → GoesOn result number lines rest self.old self.new }
+    {
+        match self.stack.pass_over() {
+            Ok(()) => {
+                self.last = Some(number);
+                Ok(())
+            }
+            Err(refused) => Err(refused),
+        }
+    }
+
+    /// Takes the next line, and answers its number.
+    fn take(&mut self, alloc: Global, line: ReadLine<'_>) -> (u64, Result<(), Refused>)
+        ensures { (lines rest : List Line) → TakesRead is_known lines (Some line.entry) rest
+            → GoesOn result.1 result.0 lines rest self.old self.new }
+    {
+        match line {
+            ReadLine::PassedOver(number) => (number, self.pass_over(number)),
+            ReadLine::Whole(line) => {
+                let number = line.number();
+                let taken = self.line(alloc, &line);
+                drop(line);
+                (number, taken)
+            }
+        }
+    }
+
     /// The fault that stands where the lines end, if there is one.
     fn end(&self) -> Result<(), FileFault>
         requires { IfSome self.now.last (λ n. n + 1 < 2 ^ 64) }
@@ -53,10 +87,8 @@ impl FirstRound {
         requires last { IfSome self.old.last (λ n. n + 1 < 2 ^ 64) }
         ensures { Says (λ _. self.new.parsed) result (pass_on self.old lines.entry) }
     {
-        'lines: while let Some(line) = lines.next(alloc)? {
-            let number = line.number();
-            let taken = self.line(alloc, &line);
-            drop(line);
+        'lines: while let Some(line) = lines.next_read::<Known>(alloc)? {
+            let (number, taken) = self.take(alloc, line);
             match taken {
                 Ok(()) => {}
                 Err(Refused::Memory) => return Err(FileFault::Memory),

@@ -11,6 +11,7 @@ mod event_fields;
 mod fault;
 mod first_round;
 mod frame;
+mod known;
 mod lines_reader;
 mod listed;
 mod local_time;

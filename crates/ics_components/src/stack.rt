@@ -1,12 +1,14 @@
 //! The components that are open.
-ghost use Rattle.std.specs.Prelude.{◌≡◌, ◌∷◌, [], IfOk};
+ghost use Rattle.std.specs.Prelude.{◌≡◌, ℕ, ◌∷◌, [], IfOk};
+ghost use Rattle.ics_text.specs.ContentLines.{Parts};
 ghost use Rattle.ics_components.specs.declared.builder.Builder.TheVariants as builder;
 ghost use Rattle.ics_components.specs.declared.component.Component.TheVariants as component;
-ghost use Rattle.ics_components.specs.declared.name.Name.TheVariants.{Begin, End};
+ghost use Rattle.ics_components.specs.declared.name.Name.TheVariants.{Begin, End, Other};
 ghost use Rattle.ics_components.specs.ParsedFiles.{and_line};
 ghost use Rattle.ics_components.specs.Lines.{Keeps, fault_on, behind, closed, passing};
 ghost use Rattle.ics_components.specs.PlacedLines.{named};
 ghost use Rattle.ics_components.specs.Pass.{bottom, is_lowest};
+ghost use Rattle.ics_components.specs.PassedLines.{Passes};
 
 use crate::builder::Builder;
 use crate::component::{Component, Context};
@@ -135,6 +137,16 @@ impl Stack {
         let inner = mem::replace(&mut self.top, outer);
         let line_result = inner.end(&mut self.top.builder, content.value())?;
         parsed.pass(number, line_result)?;
+        Ok(())
+    }
+
+    /// Judges a line whose property is not read.
+    pub fn pass_over(&self) -> Result<(), Refused>
+        ensures { (number : ℕ) (content : Parts) → Other ≡ named content → Passes result number content self.now }
+    {
+        if self.outer.is_empty() {
+            return Err(Refused::Fault(FaultKind::NotCalendar));
+        }
         Ok(())
     }
 

@@ -1,0 +1,16 @@
+//! The properties that a file is read for.
+use crate::name::{Name, name_of};
+use ics_text::Reads;
+
+/// Reads the properties that have a name here.
+pub struct Known;
+
+impl Reads for Known {
+    ghost use Rattle.ics_components.specs.Known.{is_known};
+
+    ghost reads = { is_known };
+
+    fn is_read(name: &[u8]) -> bool {
+        !matches!(name_of(name), Name::Other)
+    }
+}
