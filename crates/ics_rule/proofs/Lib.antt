@@ -30,6 +30,7 @@ mod TableExamples
 mod RunLemmas
 mod MonthDays
 mod WeekDays
+mod NearLemmas
 mod NthLemmas
 mod TableCounts
 mod PlaceLemmas

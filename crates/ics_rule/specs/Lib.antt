@@ -16,6 +16,7 @@ pub mod Cursors
 pub mod Searches
 pub mod Rounds
 pub mod OpenPeriods
+pub mod NearDays
 pub mod Table
 pub mod ByTable
 pub mod Runs

@@ -26,7 +26,7 @@ pub(crate) fn civil_at(index: u32) -> Civil
 }
 
 /// The number of days in the year of a date.
-fn year_length(fields: &Civil) -> u16
+pub(crate) fn year_length(fields: &Civil) -> u16
     requires { fields.now.year ≤ 9999 }
     ensures { result ≡ days_in_year (pos fields.now.year) }
 {

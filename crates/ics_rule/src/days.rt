@@ -79,7 +79,7 @@ fn those_let_in(parts: &EffectiveRule, first: u32, some: &WideBitSet) -> WideBit
 }
 
 /// The days that BYYEARDAY allows in a year of `len` days.
-fn days_by_number(parts: &EffectiveRule, len: u16) -> WideBitSet
+pub(crate) fn days_by_number(parts: &EffectiveRule, len: u16) -> WideBitSet
     requires { len ≤ 366 }
     ensures { (k : ℕ) → contains_wide result k ≡ (nat_lt k len && lets_wide_place parts.now.year_days (k + 1) len) }
 {
@@ -128,7 +128,7 @@ fn month_run(first: u32, len: u16, month: u8) -> Run
 /// Fills a set with the days of a year that are listed in its months.
 #[tactic(auto, using(jiff_core::proofs::CalendarLemmas::days_in_year_bounds))]
 #[inline(always)]
-fn add_listed_days(parts: &EffectiveRule, first: u32, len: u16, days: &mut WideBitSet)
+pub(crate) fn add_listed_days(parts: &EffectiveRule, first: u32, len: u16, days: &mut WideBitSet)
     requires span { IsSpan Yearly (year_of first) first len }
     requires days { first + 384 ≤ day_before 9_999 }
     requires empty { days.old ≡ none_wide }

@@ -11,6 +11,7 @@ mod hour;
 mod kind;
 mod laws;
 mod members;
+mod near_days;
 mod never;
 mod open_periods;
 mod part;

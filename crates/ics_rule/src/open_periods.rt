@@ -13,6 +13,7 @@ use crate::cursor::Cursor;
 use crate::date::lets_date;
 use crate::effective::{skips_hours, skips_minutes, skips_seconds};
 use crate::effective_rule::EffectiveRule;
+use crate::near_days::{NearDays, lists_days};
 use crate::never::size_of_open;
 use crate::pass::days_of_closed_month;
 use crate::recurrence_period::ranks::listed_below;
@@ -58,20 +59,23 @@ fn steps_let_in(search: &Search<'_>, from: u64, before: u64) -> u64
 /// Steps of fewer days than this fall into each month.
 const A_SHORT_MONTH: u32 = 28;
 
-/// How many days are allowed, of those in steps of the interval from one on and before another. A month that BYMONTH does not allow is left
-/// at its end.
+/// How many days are allowed, of those in steps of the interval from one on and before another. Where steps are short, only such days of a year
+/// are tested as a part lists, and else a month that BYMONTH does not allow is left at its end.
 fn days_let_in(search: &Search<'_>, from: u64, before: u64) -> u64
     requires order { from ≤ before }
-    requires before { before ≤ day_before 9_999 }
+    requires before { before ≤ days_before_year 9_801 + 1 }
     ensures value { result ≡ count before (λ e. is_stepped from search.now.parts.now.interval e && lets_date search.now.parts.now e) }
     ensures bound { result ≤ before }
 {
     let parts = search.parts;
-    let leaves_months = parts.interval < A_SHORT_MONTH && !parts.months.is_empty();
+    let is_short = parts.interval < A_SHORT_MONTH;
+    let by_year = is_short && lists_days(parts);
+    let leaves_months = is_short && !by_year && !parts.months.is_empty();
+    let mut near = NearDays::new(if by_year { 0 } else { u32::MAX });
     let mut total = 0;
     let mut day = from;
     while day < before {
-        if lets_date(parts, day as u32) {
+        if near.lets_date(parts, day as u32) {
             total += 1;
             day += parts.interval as u64;
         } else if leaves_months {

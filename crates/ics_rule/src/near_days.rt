@@ -1,0 +1,115 @@
+//! Days near those that a rule allows, so that few days of a year are tested.
+ghost use Rattle.std.specs.Prelude.{◌≡◌, ℕ, ◌<◌, ◌≤◌, ◌+◌, ◌-◌, true, false};
+ghost use Rattle.ics_fields.specs.declared.frequency.Frequency.TheVariants.{Yearly};
+ghost use Rattle.ics_fields.specs.Sets.{contains_wide};
+ghost use Rattle.ics_fields.specs.Days.{days_before_year, year_of};
+ghost use Rattle.ics_rule.specs.declared.effective_rule.EffectiveRule.{EffectiveRule};
+ghost use Rattle.ics_rule.specs.PeriodNumbers.{day_before};
+ghost use Rattle.ics_rule.specs.Candidates.{lets_date};
+ghost use Rattle.ics_rule.specs.Runs.{IsSpan};
+
+use crate::date::{civil_at, lets_date, year_length};
+use crate::days::{add_listed_days, days_by_number};
+use crate::effective_rule::EffectiveRule;
+use crate::weeks::days_near_weeks;
+use ics_fields::WideBitSet;
+
+/// Whether BYWEEKNO, BYYEARDAY or BYMONTHDAY is there, which list days of a year.
+pub(crate) fn lists_days(parts: &EffectiveRule) -> bool {
+    !(parts.weeks.is_empty() & parts.year_days.is_empty() & parts.month_days.is_empty())
+}
+
+/// Days of a year of `len` days, among them all that a rule allows: those near the weeks that BYWEEKNO lists, or those that BYMONTHDAY lists,
+/// or else BYYEARDAY.
+fn days_near(parts: &EffectiveRule, first: u32, len: u16) -> WideBitSet
+    requires span { IsSpan Yearly (year_of first) first len }
+    requires days { first + 384 ≤ day_before 9_999 }
+    ensures { (k : ℕ) → k < len → lets_date parts.now (first + k) ≡ true → contains_wide result k ≡ true }
+{
+    if !parts.weeks.is_empty() {
+        return days_near_weeks(parts, first, len);
+    }
+    if parts.month_days.is_empty() {
+        return days_by_number(parts, len);
+    }
+    let mut days = WideBitSet::new();
+    add_listed_days(parts, first, len, &mut days);
+    days
+}
+
+/// Days of one year, among them all that a rule allows.
+#[derive(Clone, Copy)]
+pub struct NearDays {
+    /// The first day of the year, counted from 0000-01-01.
+    first: u32,
+    /// The first day after the year.
+    end: u32,
+    /// The days, counted from the first.
+    days: WideBitSet,
+}
+
+impl NearDays {
+    ghost use Rattle.ics_rule.specs.NearDays.{AreNear};
+
+    /// None yet. From this day on, the days of a year are found before one of them is tested.
+    pub(crate) fn new(from: u32) -> NearDays
+        ensures { (q : EffectiveRule) → AreNear q result }
+    {
+        NearDays {
+            first: from,
+            end: from,
+            days: WideBitSet::new(),
+        }
+    }
+
+    /// Those of the year of a day.
+    fn of_year(parts: &EffectiveRule, day: u32) -> NearDays
+        requires { day ≤ days_before_year 9_801 }
+        ensures near { AreNear parts.now result }
+        ensures high { day < result.end }
+    {
+        let fields = civil_at(day);
+        let first = day + 1 - fields.year_day as u32;
+        let len = year_length(&fields);
+        NearDays {
+            first,
+            end: first + len as u32,
+            days: days_near(parts, first, len),
+        }
+    }
+
+    /// Turns to the year of a day, if that is later.
+    fn turn_to(&mut self, parts: &EffectiveRule, day: u32)
+        requires day { day ≤ days_before_year 9_801 }
+        requires near { AreNear parts.now self.old }
+        ensures near { AreNear parts.now self.new }
+        ensures high { day < self.new.end }
+    {
+        if day >= self.end {
+            *self = NearDays::of_year(parts, day);
+        }
+    }
+
+    /// Whether a day is of their year, and none of them.
+    fn leave_out(&self, day: u32) -> bool
+        requires size { self.now.end ≤ self.now.first + 384 }
+        requires high { day < self.now.end }
+        ensures { (q : EffectiveRule) → AreNear q self.now → result ≡ true → lets_date q day ≡ false }
+    {
+        day >= self.first && !self.days.contains((day - self.first) as u16)
+    }
+
+    /// Whether each part that restricts the date allows a day. It is tested only if it is among those of its year.
+    pub(crate) fn lets_date(&mut self, parts: &EffectiveRule, day: u32) -> bool
+        requires day { day ≤ days_before_year 9_801 }
+        requires near { AreNear parts.now self.old }
+        ensures value { result ≡ lets_date parts.now day }
+        ensures near { AreNear parts.now self.new }
+    {
+        self.turn_to(parts, day);
+        if self.leave_out(day) {
+            return false;
+        }
+        lets_date(parts, day)
+    }
+}
