@@ -30,7 +30,8 @@ def in_zone(parts, start, *more):
 
 def ruled(count, rule):
     """So many observances since the year 0001 that begin by a rule."""
-    return [part('STANDARD', '0001010%dT000000' % (number + 1), '+0000', '+0%d00' % number, 'RRULE:' + rule) for number in range(count)]
+    return [part('STANDARD', '0001%02d%02dT000000' % (number // 28 + 1, number % 28 + 1), '+0000', '+%02d%02d' % (number % 24, number // 24),
+                 'RRULE:' + rule) for number in range(count)]
 
 
 def skipped(rule):
@@ -90,6 +91,7 @@ ROWS = [
     ('an observance with COUNT', lambda: in_zone(ruled(1, SELDOM), '20240701T120000'), DAY, 1, 32),
     ('the same in 9700', lambda: in_zone(ruled(1, SELDOM), '97000701T120000'), ['9700-07-01', '1d'], 1, 32),
     ('8 observances that COUNT ends', lambda: in_zone(ruled(8, 'FREQ=DAILY;COUNT=12345;BYWEEKNO=1'), '20240701T120000'), DAY, 4, 32),
+    ('80 observances that COUNT ends', lambda: in_zone(ruled(80, 'FREQ=DAILY;COUNT=12345;BYWEEKNO=1'), '20240701T120000'), DAY, 8, 32),
     ('1,200 observances, 4,800 locals', lambda: many(1_200, 4_800), ['2023-12-31', '4d'], 4, 64),
     ('1,200 yearly observances, 4,800 locals', lambda: yearly(1_200, 4_800), ['2024-01-01', '366d'], 1, 32),
     ('seconds of a day that is skipped', lambda: in_zone(skipped('UNTIL=20240630T235900Z'), '20240701T000000', 'RRULE:FREQ=SECONDLY;COUNT=86400'),
