@@ -1,5 +1,5 @@
 -- The year of a day, as its fields tell, and the days of it that are worth a test.
-use Rattle.std.proofs.Common.{◌≡◌, ℕ, ◌+◌, ◌-◌, ◌<◌, ◌≤◌, Bool, not, true, false, ◌&&◌, pos, refl, sym, ap, ◌∙◌, arith}
+use Rattle.std.proofs.Common.{◌≡◌, ℕ, ◌+◌, ◌-◌, ◌<◌, ◌≤◌, Bool, true, false, ◌&&◌, pos, refl, sym, ap, ◌∙◌, arith}
 use Rattle.std.proofs.lemmas.Bool.{and_parts, false_from_ne_true}
 use Rattle.jiff_core.specs.Calendar.{days_in_month, days_in_year}
 use Rattle.ics_fields.specs.declared.frequency.Frequency.TheVariants.{Yearly}
@@ -54,9 +54,9 @@ pub month_listed : (q : EffectiveRule) (e : ℕ) → lists_none q.month_days ≡
 month_listed q e some h = let month = month_open q e h in let day = month_day_open q e h in rw (month, some) (rw some at day)
 
 -- a day of their year that is not among them is not allowed
-pub left_out : {q : EffectiveRule} {near : NearDays} {found : Bool} (e : ℕ) → AreNear q near → near.first ≤ e → e < near.end
-    → found ≡ contains_wide near.days (e - near.first) → not found ≡ true → lets_date q e ≡ false
-left_out {q = q} e are low high is none = false_from_ne_true (lets_date q e) (λ yes. let bad = rw (is ∙ are.all e low high yes) at none in cc)
+pub left_out : {q : EffectiveRule} {near : NearDays} (e : ℕ) → AreNear q near → near.first ≤ e → e < near.end
+    → contains_wide near.days (e - near.first) ≡ false → lets_date q e ≡ false
+left_out {q = q} e are low high none = false_from_ne_true (lets_date q e) (λ yes. let bad = sym none ∙ are.all e low high yes in cc)
 
 -- the days of a year, each by its place
 pub are_near : {q : EffectiveRule} {near : NearDays} (len : ℕ) → near.end ≡ near.first + len → len ≤ 366

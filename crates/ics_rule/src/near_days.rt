@@ -8,7 +8,7 @@ ghost use Rattle.ics_rule.specs.PeriodNumbers.{day_before};
 ghost use Rattle.ics_rule.specs.Candidates.{lets_date};
 ghost use Rattle.ics_rule.specs.Runs.{IsSpan};
 
-use crate::date::{civil_at, lets_date, year_length};
+use crate::date::{civil_at, year_length};
 use crate::days::{add_listed_days, days_by_number};
 use crate::effective_rule::EffectiveRule;
 use crate::weeks::days_near_weeks;
@@ -79,7 +79,7 @@ impl NearDays {
     }
 
     /// Turns to the year of a day, if that is later.
-    fn turn_to(&mut self, parts: &EffectiveRule, day: u32)
+    pub(crate) fn turn_to(&mut self, parts: &EffectiveRule, day: u32)
         requires day { day ≤ days_before_year 9_801 }
         requires near { AreNear parts.now self.old }
         ensures near { AreNear parts.now self.new }
@@ -90,26 +90,20 @@ impl NearDays {
         }
     }
 
-    /// Whether a day is of their year, and none of them.
-    fn leave_out(&self, day: u32) -> bool
+    /// How many days from one on are of their year, and none of them.
+    pub(crate) fn days_out(&self, day: u32) -> u32
+        requires day { day ≤ days_before_year 9_801 }
         requires size { self.now.end ≤ self.now.first + 384 }
         requires high { day < self.now.end }
-        ensures { (q : EffectiveRule) → AreNear q self.now → result ≡ true → lets_date q day ≡ false }
+        ensures none { (q : EffectiveRule) → AreNear q self.now → (e : ℕ) → day ≤ e → e < day + result → lets_date q e ≡ false }
+        ensures most { result ≤ 384 }
     {
-        day >= self.first && !self.days.contains((day - self.first) as u16)
-    }
-
-    /// Whether each part that restricts the date allows a day. It is tested only if it is among those of its year.
-    pub(crate) fn lets_date(&mut self, parts: &EffectiveRule, day: u32) -> bool
-        requires day { day ≤ days_before_year 9_801 }
-        requires near { AreNear parts.now self.old }
-        ensures value { result ≡ lets_date parts.now day }
-        ensures near { AreNear parts.now self.new }
-    {
-        self.turn_to(parts, day);
-        if self.leave_out(day) {
-            return false;
+        if day < self.first {
+            return 0;
         }
-        lets_date(parts, day)
+        match self.days.next_from((day - self.first) as u16) {
+            Some(place) => self.end.min(self.first + place as u32) - day,
+            None => self.end - day,
+        }
     }
 }

@@ -7,7 +7,7 @@ ghost use Rattle.ics_rule.specs.Rounds.{seconds_of, IsPassedTo};
 ghost use Rattle.ics_rule.specs.OpenPeriods.{per_day, lets_own, is_timely, is_open_period, chosen_in_open};
 ghost use Rattle.ics_fields.specs.Days.{days_before_year};
 ghost use Rattle.ics_fields.specs.Locals.{calendar_end};
-ghost use Rattle.ics_rule.specs.PeriodNumbers.{day_before, rules_end};
+ghost use Rattle.ics_rule.specs.PeriodNumbers.{rules_end};
 
 use crate::cursor::Cursor;
 use crate::date::lets_date;
@@ -75,7 +75,11 @@ fn days_let_in(search: &Search<'_>, from: u64, before: u64) -> u64
     let mut total = 0;
     let mut day = from;
     while day < before {
-        if near.lets_date(parts, day as u32) {
+        near.turn_to(parts, day as u32);
+        let out = near.days_out(day as u32);
+        if out > 0 {
+            day = next_step(from, parts.interval, day + out as u64);
+        } else if lets_date(parts, day as u32) {
             total += 1;
             day += parts.interval as u64;
         } else if leaves_months {
