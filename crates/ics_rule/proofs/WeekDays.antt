@@ -1,6 +1,6 @@
 -- The days of a year that may lie in a listed week.
 use Rattle.std.proofs.Common.{◌≡◌, ℕ, ◌+◌, ◌-◌, ◌*◌, ◌/◌, ◌%◌, ◌<◌, ◌≤◌, ◌⊎◌, inl, inr, Bool, true, false, ◌==◌, ◌||◌, ◌&&◌, nat_lt, nat_le, max, min, List}
-use Rattle.std.proofs.Common.{pos, subst, arith}
+use Rattle.std.proofs.Common.{pos, refl, sym, ap, ◌∙◌, subst, arith}
 use Rattle.std.proofs.lemmas.Bool.{cases_lt}
 use Rattle.std.proofs.lemmas.Bool.Decides.{nat_tests}
 use Rattle.jiff_core.specs.Calendar.{days_in_year}
@@ -9,7 +9,7 @@ use Rattle.jiff_core.proofs.CalendarLemmas.{days_in_year_bounds}
 use Rattle.ics_fields.specs.declared.ordinals.Ordinals.{Ordinals}
 use Rattle.ics_fields.specs.Sets.{contains_wide, IsLeastFrom}
 use Rattle.ics_fields.specs.Ordinals.{lists_none}
-use Rattle.ics_fields.specs.Days.{days_before_year, year_of, weekday_of}
+use Rattle.ics_fields.specs.Days.{days_before_year, year_of, year_day_of, weekday_of}
 use Rattle.ics_fields.proofs.DayLemmas.{days_before_year-next, year_of_is}
 use Rattle.ics_rule.specs.declared.effective_rule.EffectiveRule.{EffectiveRule}
 use Rattle.ics_rule.specs.PeriodNumbers.{week_of}
@@ -26,6 +26,27 @@ between_more low k m a l e = grind (arith, nat_tests)
 pub between_done : {low end k : ℕ} (m : ℕ) (a : Bool) {b : Bool} → low ≤ k → end ≤ k → k ≤ max low end → b ≡ (a || (nat_le low m && nat_lt m k)) →
     b ≡ (a || (nat_le low m && nat_lt m end))
 between_done m a l h most e = grind (arith, nat_tests)
+
+-- the week of a day whose fourth day is in the same year
+module _ (q : EffectiveRule) (e d : ℕ) where
+  pub week_in_year : {len : ℕ} → (e + (12 - monday_zero q.week_start)) % 7 < year_day_of e + 3
+      → d ≡ year_day_of e + 3 - (e + (12 - monday_zero q.week_start)) % 7 → d ≤ len → len ≡ days_in_year (pos (year_of e))
+      → lets_place q.weeks ((d - 1) / 7 + 1) ((len - 1 - (d - 1) % 7) / 7 + 1) ≡ lets_week q e
+  week_in_year {len = len} low is high size =
+      let w = monday_zero q.week_start in
+      let small : w < 7 = week_small q.week_start in
+      let f = 7 * week_of w e + w - 9 in
+      let place = year_day_is e in
+      let next = days_before_year-next (year_of e) in
+      let late : 9 ≤ 7 * week_of w e + w = omega (arith, small, low, place) in
+      let there : f + 1 ≡ days_before_year (year_of e) + d = omega (arith, small, low, place, is) in
+      let year : year_of f ≡ year_of e = year_of_is f (year_of e) (omega (arith, there, low, is)) (omega (arith, there, next, high, size)) in
+      let own = year_day_is f in
+      let day : year_day_of f ≡ d = (let start = ap days_before_year year in omega (arith, own, start, there)) in
+      let weeks : weeks_of_year f ≡ (len - 1 - (d - 1) % 7) / 7 + 1 = rw (day, year, sym size) refl in
+      let number : week_number f ≡ (d - 1) / 7 + 1 = rw day refl in
+      sym (ap (λ x. lets_place q.weeks (week_number x) (weeks_of_year x)) (fourth_late w e late)
+      ∙ ap (λ x. lets_place q.weeks x (weeks_of_year f)) number ∙ ap (λ x. lets_place q.weeks ((d - 1) / 7 + 1) x) weeks)
 
 -- day k of a year is near its end, or lies in week n, of which the fourth day comes `fourth` days after the year's first and n - 1 weeks later
 pub record IsNear (weeks : Ordinals) (fourth k n : ℕ) : Type 0 where

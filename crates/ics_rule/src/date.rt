@@ -1,5 +1,5 @@
 //! The parts of a rule that restrict the date (RFC 5545, 3.3.10).
-ghost use Rattle.std.specs.Prelude.{◌≡◌, ℕ, ◌<◌, ◌≤◌, ◌+◌, ◌*◌, ◌^◌, ◌&&◌, ◌||◌, pos};
+ghost use Rattle.std.specs.Prelude.{◌≡◌, ℕ, ◌<◌, ◌≤◌, ◌+◌, ◌-◌, ◌*◌, ◌/◌, ◌%◌, ◌^◌, ◌&&◌, ◌||◌, pos};
 ghost use Rattle.jiff_core.specs.Calendar.{days_in_year, days_in_month};
 ghost use Rattle.jiff_core.specs.Weekday.{monday_zero};
 ghost use Rattle.ics_fields.specs.Sets.{contains, is_empty};
@@ -8,7 +8,7 @@ ghost use Rattle.ics_fields.specs.Days.{weekday_of};
 ghost use Rattle.ics_rule.specs.PeriodNumbers.{day_before};
 ghost use Rattle.ics_fields.specs.Fields.{IsCivilOf};
 ghost use Rattle.ics_rule.specs.Runs.{goes_by_months};
-ghost use Rattle.ics_rule.specs.Candidates.{fourth_day, lets, lets_numbered, lets_weekday, lets_week, lets_date};
+ghost use Rattle.ics_rule.specs.Candidates.{fourth_day, lets, lets_place, lets_numbered, lets_weekday, lets_week, lets_date};
 ghost use Rattle.ics_rule.specs.DateParts.{names_weekdays_alone};
 
 use crate::effective_rule::EffectiveRule;
@@ -80,18 +80,35 @@ fn fourth_day(parts: &EffectiveRule, index: u32) -> u32
     if day < 9 { day + 146_088 } else { day - 9 }
 }
 
-/// Whether BYWEEKNO allows a day, counted from 0000-01-01.
-fn lets_week(parts: &EffectiveRule, index: u32) -> bool
-    requires { index ≤ day_before 9_999 }
+/// Whether BYWEEKNO allows a week, given by its fourth day, one of a year of `len` days.
+fn lets_week_at(parts: &EffectiveRule, day: u16, len: u16) -> bool
+    requires low { 1 ≤ day }
+    requires high { day ≤ len }
+    requires len { len ≤ 366 }
+    ensures { result ≡ lets_place parts.now.weeks ((day - 1) / 7 + 1) ((len - 1 - (day - 1) % 7) / 7 + 1) }
+{
+    let number = (day - 1) / 7 + 1;
+    let weeks = (len - 1 - (day - 1) % 7) / 7 + 1;
+    lets_place(&parts.weeks, number as u8, weeks as u8)
+}
+
+/// Whether BYWEEKNO allows a day, given with its fields. The fourth day of its week is at most three days away, mostly in the same year.
+fn lets_week(parts: &EffectiveRule, fields: &Civil, index: u32) -> bool
+    requires day { index ≤ day_before 9_999 }
+    requires fields { IsCivilOf fields.now index }
     ensures { result ≡ lets_week parts.now index }
 {
     if parts.weeks.is_empty() {
         return true;
     }
-    let fields = civil_at(fourth_day(parts, index));
-    let number = (fields.year_day - 1) / 7 + 1;
-    let weeks = (year_length(&fields) - 1 - (fields.year_day - 1) % 7) / 7 + 1;
-    lets_place(&parts.weeks, number as u8, weeks as u8)
+    let place = ((index + (12 - parts.week_start.index() as u32)) % 7) as u16;
+    let ahead = fields.year_day + 3;
+    let len = year_length(fields);
+    if place < ahead && ahead - place <= len {
+        return lets_week_at(parts, ahead - place, len);
+    }
+    let fourth = civil_at(fourth_day(parts, index));
+    lets_week_at(parts, fourth.year_day, year_length(&fourth))
 }
 
 /// Whether each part that restricts the date allows a day, given with its fields.
@@ -103,7 +120,7 @@ pub(crate) fn lets_fields(parts: &EffectiveRule, fields: &Civil, index: u32) -> 
     lets(parts.months, fields.month)
         && lets_place(&parts.month_days, fields.day, month_length(fields))
         && lets_wide_place(&parts.year_days, fields.year_day, year_length(fields))
-        && lets_week(parts, index)
+        && lets_week(parts, fields, index)
         && lets_weekday(parts, fields)
 }
 
