@@ -1,5 +1,6 @@
+use crate::kept_rule::KeptRule;
 use crate::time::{Length, Rdate, Time};
-use ics_values::{Parts, Text};
+use ics_values::Text;
 use std::marker::Model;
 
 /// An event of a file (RFC 5545, section 3.6.1).
@@ -14,7 +15,7 @@ pub struct Event {
     pub start: Time,
     pub length: Length,
     /// The recurrence rule that RRULE gives (RFC 5545, section 3.8.5.3).
-    pub rule: Option<Parts>,
+    pub rule: Option<KeptRule>,
     /// The values of its RDATEs, in the order of the file (RFC 5545, section 3.8.5.2).
     pub rdates: Vec<Rdate>,
     /// The values of its EXDATEs, which remove starts, in the order of the file (RFC 5545, section 3.8.5.1).

@@ -83,10 +83,10 @@ fn asked_by(event: &Event, window: &Window) -> Asked {
 
 // An instant after the starts by a rule with UNTIL: the third midnight after that day. Without UNTIL it is the last instant.
 fn recurs_to(event: &Event) -> Moment {
-    let Some(parts) = &event.rule else {
+    let Some(rule) = &event.rule else {
         return Moment::MAX;
     };
-    let day = match parts.until() {
+    let day = match rule.parts().until() {
         None => return Moment::MAX,
         Some(Until::Date(day)) => day,
         Some(Until::Local(local) | Until::Utc(local)) => local.day,

@@ -91,7 +91,7 @@ fn starts_by_rule<'a>(
     ensures from { MatchOption result (event.entry.now.rule ≡ None)
         (λ starts. IsRuleFrom (clocks_in zones.entry) event.entry.now window since listed.entry.now (starts_left starts)) }
 {
-    let parts = event.rule?;
+    let parts = *event.rule.as_ref()?.parts();
     let first = local_of(event.start.stamp);
     let rule = Rule::new(parts, first, kind_of(event.start.stamp));
     let earliest = earliest(zones, event, &window, listed);

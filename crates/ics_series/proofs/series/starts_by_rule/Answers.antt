@@ -1,4 +1,3 @@
-use Rattle.std.proofs.lemmas.Grind.{common_steps}
 use Rattle.std.proofs.Common.{◌≡◌, ◌+ℤ◌, w64, to_z, of_z, ◌∙◌, ap, rules, arith, Bor, SFits}
 use Rattle.std.specs.Int.{int_max, int_min}
 use Rattle.std.proofs.lemmas.Int.{int_max_is, int_min_is, ints}
@@ -55,9 +54,3 @@ returns c =
         gives = c.new.ensures.left;
       };
     }
-
-pub returns-in_err-parts-clause-own : goal.returns-in_err-parts-clause-own
-returns-in_err-parts-clause-own c = grind (arith, common_steps)
-
-pub returns-in_err-parts-clause-from : goal.returns-in_err-parts-clause-from
-returns-in_err-parts-clause-from c = grind (arith, common_steps)
