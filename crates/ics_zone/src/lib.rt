@@ -16,6 +16,7 @@ mod observed;
 mod onset_laws;
 mod onsets;
 mod place;
+mod shared_observed;
 mod shared_table;
 mod sixty;
 mod times;

@@ -508,7 +508,7 @@ fn earlier(first: Option<Moment>, second: Moment) -> Moment
 fn onsets_of(alloc: Global, observances: &[Observance]) -> Result<Vec<Onsets>, AllocError>
     ensures { IfOk result (λ onsets. AreOnsetsOfAll (observances_said observances.now) onsets.items) }
 {
-    let mut all = Vec::new(alloc);
+    let mut all = Vec::with_capacity(alloc, observances.len())?;
     for observance in observances {
         all.push(Onsets::of(alloc, observance)?)?;
     }

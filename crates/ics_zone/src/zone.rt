@@ -9,10 +9,17 @@ ghost use Rattle.ics_fields.specs.Locals.{seconds_at};
 
 use crate::jiff_zone::JiffZone;
 use crate::observed::Observed;
+use crate::shared_observed::SharedObserved;
 use crate::{Observance, Place, ZoneFault, ZoneFile, ZoneFileFault};
 use ics_fields::{Local, Moment};
 use std::alloc::{AllocError, Global};
 use std::marker::Model;
+
+/// The distance of the instants near which a zone is prepared. Most zones keep an offset for longer.
+const STEP: i64 = 120 * 86_400;
+
+/// The greatest number of these instants. They span some twenty years.
+const STEPS: usize = 64;
 
 /// A time zone: that of a VTIMEZONE (RFC 5545, section 3.6.5), or that of a zone file (RFC 9636). Contracts see its observances, or the table
 /// that jiff read from the file.
@@ -24,7 +31,7 @@ pub struct Zone {
 /// What a zone follows.
 #[derive(Drop)]
 pub(crate) enum ZoneKind {
-    ByObservances(Observed),
+    ByObservances(SharedObserved),
     ByJiff(JiffZone),
 }
 
@@ -47,9 +54,12 @@ impl Zone {
         ensures fine { (result ≡ Err ZoneFault.ZoneRule) ↔ IsTrue (list_any has_finer_rule (observances_said observances.items)) }
     {
         match Observed::read(alloc, observances) {
-            Ok(observed) => Ok(Zone {
-                kind: ZoneKind::ByObservances(observed),
-            }),
+            Ok(observed) => match SharedObserved::new(alloc, observed) {
+                Ok(observed) => Ok(Zone {
+                    kind: ZoneKind::ByObservances(observed),
+                }),
+                Err(_) => Err(ZoneFault::Memory),
+            },
             Err(fault) => Err(fault),
         }
     }
@@ -80,8 +90,20 @@ impl Zone {
         })
     }
 
+    /// The same zone, in the same memory.
+    pub fn share(&self) -> Result<Zone, AllocError>
+        ensures { IfOk result (λ zone. zone ≡ self.now) }
+    {
+        let kind = match &self.kind {
+            ZoneKind::ByObservances(observed) => ZoneKind::ByObservances(observed.share()?),
+            ZoneKind::ByJiff(zone) => ZoneKind::ByJiff(zone.share()?),
+        };
+        Ok(Zone { kind })
+    }
+
     /// Makes answers near an instant faster and changes none: the zone answers at every instant, before this call and after it. A zone of
-    /// observances holds the spans about the instant if there is room for them and no allocation fails. The result is always `Ok`.
+    /// observances holds the spans about the instant if it is not shared, there is room for them and no allocation fails. The result is
+    /// always `Ok`.
     pub fn reach(&mut self, to: Moment) -> Result<(), AllocError>
         ensures same { self.new ≡ self.old }
         ensures always { result ≡ Ok tt }
@@ -89,6 +111,21 @@ impl Zone {
         match &mut self.kind {
             ZoneKind::ByObservances(observed) => observed.reach(to),
             ZoneKind::ByJiff(_) => Ok(()),
+        }
+    }
+
+    /// The same near an instant, from there on in steps, and near another instant.
+    pub fn reach_between(&mut self, from: Moment, to: Moment)
+        ensures { self.new ≡ self.old }
+    {
+        self.reach(to).ok();
+        let mut near = from;
+        for _ in 0..STEPS {
+            if near >= to {
+                return;
+            }
+            self.reach(near).ok();
+            near = near.saturating_add(STEP);
         }
     }
 }
@@ -111,7 +148,7 @@ impl Place for Zone {
         ensures value { result ≡ said_offset (zone_said self.now) moment }
     {
         match &self.kind {
-            ZoneKind::ByObservances(observed) => observed.offset(moment),
+            ZoneKind::ByObservances(observed) => observed.get().offset(moment),
             ZoneKind::ByJiff(zone) => zone.offset(moment),
         }
     }
@@ -125,7 +162,7 @@ impl Place for Zone {
         ensures value { result ≡ said_moment (zone_said self.now) (seconds_at local.day local.second) }
     {
         match &self.kind {
-            ZoneKind::ByObservances(observed) => observed.moment(local),
+            ZoneKind::ByObservances(observed) => observed.get().moment(local),
             ZoneKind::ByJiff(zone) => zone.moment(local),
         }
     }
