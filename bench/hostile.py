@@ -40,19 +40,34 @@ def skipped(rule):
         part('DAYLIGHT', '20240701T000000', '+0000', '+2359')]
 
 
+def offset(number):
+    """One of some 14,400 offsets."""
+    return '%+03d%02d%02d' % (number % 24 - 12, number // 24 % 60, number // 1_440 % 10)
+
+
 def many(count, onsets):
     """So many observances with an offset each and so many onsets in two days, and an event at the local of each onset."""
     at = stamps(onsets, 172_800 // onsets)
-    parts = [part('STANDARD', '20230101T000000', '+0000', '%+03d%02d' % (number % 24 - 12, number // 24), 'RDATE:' + ','.join(at[number::count]))
-             for number in range(count)]
+    parts = [part('STANDARD', '20230101T000000', '+0000', offset(number), 'RDATE:' + ','.join(at[number::count])) for number in range(count)]
     return in_zone(parts, '20231231T120000', 'RDATE;TZID=odd:' + ','.join(at))
+
+
+def of_year(count):
+    """An event at so many local times of a year."""
+    return '20231231T120000', 'RDATE;TZID=odd:' + ','.join(stamps(count, 366 * 86_400 // count))
+
+
+def daily(count, locals_of_year):
+    """So many observances with an offset each that begin once a day, and an event at so many locals of a year."""
+    parts = [part('STANDARD', '2023' + at[4:], '+0000', offset(number), 'RRULE:FREQ=DAILY') for number, at in enumerate(stamps(count, 86_400 // count))]
+    return in_zone(parts, *of_year(locals_of_year))
 
 
 def yearly(count, locals_of_year):
     """So many observances with an offset each that begin once a year, and an event at so many locals of a year."""
-    parts = [part('STANDARD', '1972' + at[4:], '+0000', '%+03d%02d' % (number % 24 - 12, number // 24), 'RRULE:FREQ=YEARLY')
+    parts = [part('STANDARD', '1972' + at[4:], '+0000', offset(number), 'RRULE:FREQ=YEARLY')
              for number, at in enumerate(stamps(count, 366 * 86_400 // count))]
-    return in_zone(parts, '20231231T120000', 'RDATE;TZID=odd:' + ','.join(stamps(locals_of_year, 366 * 86_400 // locals_of_year)))
+    return in_zone(parts, *of_year(locals_of_year))
 
 
 def excluded(count, end):
@@ -92,7 +107,9 @@ ROWS = [
     ('the same in 9700', lambda: in_zone(ruled(1, SELDOM), '97000701T120000'), ['9700-07-01', '1d'], 1, 32),
     ('8 observances that COUNT ends', lambda: in_zone(ruled(8, 'FREQ=DAILY;COUNT=12345;BYWEEKNO=1'), '20240701T120000'), DAY, 4, 32),
     ('80 observances that COUNT ends', lambda: in_zone(ruled(80, 'FREQ=DAILY;COUNT=12345;BYWEEKNO=1'), '20240701T120000'), DAY, 8, 32),
-    ('1,200 observances, 4,800 locals', lambda: many(1_200, 4_800), ['2023-12-31', '4d'], 4, 64),
+    ('1,200 observances, 4,800 locals', lambda: many(1_200, 4_800), ['2023-12-31', '4d'], 1, 32),
+    ('4,800 observances, 19,200 locals', lambda: many(4_800, 19_200), ['2023-12-31', '4d'], 12, 32),
+    ('600 daily observances, 2,400 locals', lambda: daily(600, 2_400), ['2024-01-01', '366d'], 4, 32),
     ('1,200 yearly observances, 4,800 locals', lambda: yearly(1_200, 4_800), ['2024-01-01', '366d'], 1, 32),
     ('seconds of a day that is skipped', lambda: in_zone(skipped('UNTIL=20240630T235900Z'), '20240701T000000', 'RRULE:FREQ=SECONDLY;COUNT=86400'),
      ['2024-06-30', '4d'], 1, 32),

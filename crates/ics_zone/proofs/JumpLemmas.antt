@@ -57,7 +57,7 @@ module _ (observances : List Observance) (some : 0 < length (observances_said ob
   is_offset t = offset_found zone (zone_facts observances) t (λ e. let none = ap length e in omega (arith, some, none))
 
   -- what is in force, and what is before all onsets, gives the offset
-  in_force_is : (t : ℤ) (p : ObservanceSaid) → IsInForce zone t p → p.offset_to ≡ zone_offset zone t
+  pub in_force_is : (t : ℤ) (p : ObservanceSaid) → IsInForce zone t p → p.offset_to ≡ zone_offset zone t
   in_force_is t p f = offset_unique zone t p.offset_to (zone_offset zone t) (inl (p, f, refl)) (is_offset t)
 
   before_all_is : (t : ℤ) (p : ObservanceSaid) → IsBeforeAll zone t p → p.offset_from ≡ zone_offset zone t

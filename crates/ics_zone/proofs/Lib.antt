@@ -16,5 +16,6 @@ pub mod ListingLemmas
 pub mod ZoneSteps
 pub mod JumpLemmas
 pub mod WalkLemmas
+pub mod TableLemmas
 pub mod CandidateLemmas
 pub mod ReadLemmas

@@ -12,6 +12,7 @@ use Rattle.std.proofs.lemmas.List.Sorted.{IsPermutation-sym, Contains-permutatio
 use Rattle.ics_fields.specs.declared.local.Local.{Local}
 use Rattle.ics_fields.specs.Locals.{number}
 use Rattle.ics_zone.specs.Observances.{ObservanceSaid, instant_by}
+use Rattle.ics_zone.specs.Latest.{IsInOrder}
 use Rattle.ics_zone.specs.OnsetSets.{IsListing}
 
 abbrev pub instants_of : ObservanceSaid → List Local → List ℤ
@@ -23,6 +24,9 @@ turned m n b e = grind (arith, nat_tests)
 -- a sorted list is in order
 not_less : (s t : ℤ) → is_lt (int_cmp t s) ≡ false → s ≤ℤ t
 not_less s t e = grind (arith, ints)
+
+pub in_order : (list : List ℤ) → IsSorted int_cmp list → IsInOrder list
+in_order list up j k d l h = not_less _ _ (sorted_far (λ x y. is_lt (int_cmp x y)) (ranks_by int_cmp_total (λ x. x)) list up j k d l h)
 
 module _ (p : ObservanceSaid) where
   -- one local more
@@ -52,7 +56,7 @@ module _ (p : ObservanceSaid) where
       let list : List ℤ = instants_of p (p.start ∷ p.rdates) in
       let whole : IsPermutation list sorted = rw (take_all i p.rdates past) at moved in
       record {
-        in_order = λ j k d l h. not_less _ _ (sorted_far (λ x y. is_lt (int_cmp x y)) (ranks_by int_cmp_total (λ x. x)) sorted up j k d l h);
+        in_order = in_order sorted up;
         known = λ t h.
             let k = known (p.start ∷ p.rdates) t (Contains-permutation sorted list t (IsPermutation-sym list sorted whole) h) in
             (k.0, (k.1.0, turned (number p.start) k.0 _ k.1.1));

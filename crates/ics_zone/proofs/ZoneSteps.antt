@@ -66,7 +66,7 @@ module _ {zone : List ObservanceSaid} {list : List Onsets} {k : ℕ} {o : Onsets
   onsets_here = onsets_at observance_here.0 observance_here.1
 
   -- an onset of the observances up to here is of one before, or of this one
-  split : (i : ℕ) (s : ℤ) (p : ObservanceSaid) → IsOnset zone i s p → i < k + 1 → (i < k) ⊎ ((i ≡ k) × (Has o s × (o.offset_to ≡ p.offset_to)))
+  pub split : (i : ℕ) (s : ℤ) (p : ObservanceSaid) → IsOnset zone i s p → i < k + 1 → (i < k) ⊎ ((i ≡ k) × (Has o s × (o.offset_to ≡ p.offset_to)))
   split i s p h early = elim (below_or_at i k (omega arith)) [
     | inl less ↦ inl less
     | inr same ↦ inr (let of = onsets_at p (rw same at h.0) in (same, (of.complete s h.1, of.to)))

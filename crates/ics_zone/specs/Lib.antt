@@ -18,6 +18,7 @@ pub mod Latest
 pub mod OnsetLaws
 pub mod OnsetSets
 pub mod ZoneOnsets
+pub mod Tables
 pub mod Walks
 pub mod Hours
 pub mod Marks

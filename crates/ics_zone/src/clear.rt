@@ -61,8 +61,8 @@ impl Onsets {
         Some(hours.words(local, seconds_to(from, self.until)))
     }
 
-    // The first onset after an instant, of the listed ones and perhaps of those of the rule, or the limit if there is none before it.
-    fn next_asked(&self, with_rule: bool, after: Moment, limit: Moment) -> Moment
+    /// The first onset after an instant, of the listed ones and perhaps of those of the rule, or the limit if there is none before it.
+    pub fn next_asked(&self, with_rule: bool, after: Moment, limit: Moment) -> Moment
         requires sound { IsSound self.now }
         requires limit { after <ℤ limit }
         ensures after { after <ℤ result }

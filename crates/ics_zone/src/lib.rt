@@ -19,6 +19,7 @@ mod place;
 mod shared_observed;
 mod shared_table;
 mod sixty;
+mod table;
 mod times;
 mod walk;
 mod zone;

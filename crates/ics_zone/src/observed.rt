@@ -1,13 +1,15 @@
 //! A zone by the observances of a VTIMEZONE.
 ghost use Rattle.std.specs.Prelude.{◌≡◌, ◌≢◌, ◌↔◌, ◌<◌, length, ◌<ℤ◌, ◌≤ℤ◌, ◌+ℤ◌, ◌-ℤ◌, ℤ, pos, []};
 ghost use Rattle.std.specs.Prelude.{Err, IsTrue, IfSome, Ok, IfOk, MatchBool, MatchOption, true, false};
-ghost use Rattle.std.specs.Int.{int_min};
+ghost use Rattle.std.specs.Int.{int_max, int_min};
 ghost use Rattle.std.specs.List.{list_any};
 ghost use Rattle.ics_zone.specs.Observances.{observance_said, observances_said, has_finer_rule};
+ghost use Rattle.jiff_core.specs.Calendar.{IsWithin};
 ghost use Rattle.ics_zone.specs.Seconds.{IsDay, IsMoment};
 ghost use Rattle.ics_fields.specs.Locals.{seconds_at};
 ghost use Rattle.ics_zone.specs.OnsetSets.{IsSearched};
 ghost use Rattle.ics_zone.specs.ZoneOnsets.{AreOnsetsOfAll, HaveOffsets, IsLatestOf};
+ghost use Rattle.ics_zone.specs.Tables.{IsTable};
 
 use crate::clock::EPOCH;
 use crate::latest::{
@@ -15,6 +17,7 @@ use crate::latest::{
     next_past, overrides,
 };
 use crate::onsets::Onsets;
+use crate::table::{next_of, onset_of, table_of};
 use crate::walk::{Told, gap_at_end, step, walk_to};
 use crate::{Observance, ZoneFault};
 use ics_fields::{Frequency, Local, Moment};
@@ -46,8 +49,21 @@ const HELD_AT_ONCE: usize = 128;
 /// How many observances are looked at for the spans of one instant, unless they are few.
 const LOOKED_AT: usize = 32_000_000;
 
-/// A zone by observances (RFC 5545, section 3.6.5). It has no table of onsets: it searches the observances near each instant. Contracts see the
-/// observances alone.
+/// A zone that has more observances has its onsets listed, so that spans are made without a look at each observance for each span.
+const FEW: usize = 64;
+
+/// How many onsets a zone lists for each of its observances, but not more than `LISTED`.
+const LISTED_OF_EACH: usize = 640;
+
+const LISTED: usize = 1_500_000;
+
+/// How many seconds the onsets are listed for at a time, and how often at most near one instant.
+const BLOCK: i64 = 32 * DAY;
+
+const BLOCKS: i64 = 6;
+
+/// A zone by observances (RFC 5545, section 3.6.5). It has no table of all onsets: it searches the observances near each instant. Contracts see
+/// the observances alone.
 #[derive(Drop)]
 pub struct Observed {
     observances: Vec<Observance>,
@@ -56,6 +72,8 @@ pub struct Observed {
     ago: i64,
     /// How many spans are made for one instant.
     at_once: usize,
+    /// How many onsets may still be listed.
+    room: usize,
     /// Every offset that the zone has at some instant.
     offsets: Vec<i32>,
     /// Spans about the instants that were given to `reach`, in order.
@@ -101,11 +119,13 @@ impl Observed {
         };
         let ago = least_ago(&onsets);
         let at_once = spans_at_once(observances.len(), offsets.len());
+        let room = onsets_listed(observances.len());
         Ok(Observed {
             observances,
             onsets,
             ago,
             at_once,
+            room,
             offsets,
             held: Vec::new(alloc),
         })
@@ -124,8 +144,13 @@ impl Observed {
         } else {
             near + DAY
         };
-        let from = first_listed(&self.onsets).clamp(near - DAY, last);
-        self.hold_from(from, soon, last);
+        let first = first_listed(&self.onsets);
+        if self.room > 0 {
+            self.hold_blocks(first, near - DAY, last);
+        }
+        if self.room == 0 {
+            self.hold_from(first.clamp(near - DAY, last), soon, last);
+        }
         Ok(())
     }
 
@@ -156,6 +181,116 @@ impl Observed {
             Some(moment) => moment,
             None => self.across_gap(seconds),
         }
+    }
+
+    // Holds the spans of the blocks of days that reach from an instant to another, from the first onset of all on.
+    fn hold_blocks(&mut self, first: Moment, from: Moment, to: Moment)
+        requires from { IsWithin 270_000_000_000 from }
+        requires to { to ≤ℤ pos 270_000_000_000 }
+        ensures { self.new ≡ self.old }
+    {
+        let mut at = from - from.rem_euclid(BLOCK);
+        for _ in 0..BLOCKS {
+            if at > to || self.room == 0 {
+                return;
+            }
+            let last = at + (BLOCK - 1);
+            self.hold_block(first.clamp(at, last), last);
+            at = last + 1;
+        }
+    }
+
+    // Holds the spans from an instant on and up to another, unless the span about the first is held.
+    fn hold_block(&mut self, from: Moment, last: Moment)
+        requires from { IsSearched from }
+        requires last { IsSearched last }
+        requires order { from ≤ℤ last }
+        ensures { self.new ≡ self.old }
+    {
+        if self.held_over(from, from).is_some() {
+            return;
+        }
+        self.look_about(from);
+        self.hold_up_to(from, last);
+        self.sort_held();
+    }
+
+    // Holds the spans from an instant on and up to another, unless no onset is before the first.
+    fn hold_up_to(&mut self, from: Moment, last: Moment)
+        requires from { IsSearched from }
+        requires last { IsSearched last }
+        requires order { from ≤ℤ last }
+        ensures { self.new ≡ self.old }
+    {
+        let Some(steady) = self.steady_about(from) else {
+            return;
+        };
+        self.hold_span(clipped(steady, from, last + 1));
+        let next = steady.next.max(from);
+        if next <= last {
+            self.hold_listed(next, last);
+        }
+    }
+
+    // Holds the span from each onset, of those from an instant on and not after another.
+    fn hold_listed(&mut self, from: Moment, last: Moment)
+        requires from { IsSearched from }
+        requires last { IsSearched last }
+        requires order { from ≤ℤ last }
+        ensures { self.new ≡ self.old }
+    {
+        let alloc = *self.held.allocator();
+        let Some(table) = table_of(alloc, &self.onsets, from, last, self.room) else {
+            self.room = 0;
+            return;
+        };
+        self.room = self.room.saturating_sub(table.len());
+        self.hold_table(&table, last);
+    }
+
+    // The same, given the table of these onsets.
+    fn hold_table(&mut self, table: &[i64], last: Moment)
+        requires last { IsSearched last }
+        requires table { (from : ℤ) × IsTable (observances_said self.old) from last table.now }
+        ensures { self.new ≡ self.old }
+    {
+        for k in 0..table.len() {
+            let span = self.span_from(table, k, last);
+            if span.from < span.next {
+                self.hold_span(span);
+            }
+        }
+    }
+
+    // The span from an onset of a table of those that are not after an instant: to the next, or to the end of the table.
+    fn span_from(&self, table: &[i64], k: usize, last: Moment) -> Steady
+        requires last { IsSearched last }
+        requires inside { k < length table.now }
+        requires table { (from : ℤ) × IsTable (observances_said self.now) from last table.now }
+        ensures { IsSteady (zone_offset (observances_said self.now)) result.from result.next result.offset }
+    {
+        let (at, place) = onset_of(table[k]);
+        let next = next_of(table, k, last);
+        Steady {
+            from: at,
+            next,
+            offset: self.onsets[place].offset_to,
+        }
+    }
+
+    // Holds a span, if no allocation fails.
+    fn hold_span(&mut self, span: Steady)
+        requires { IsSteady (zone_offset (observances_said self.old)) span.from span.next span.offset }
+        ensures { self.new ≡ self.old }
+    {
+        self.held.push(span).ok();
+    }
+
+    // Puts the held spans in order.
+    fn sort_held(&mut self)
+        ensures { self.new ≡ self.old }
+    {
+        self.held.sort_unstable_by_key(|span| span.from);
     }
 
     // Holds the spans from an instant on and up to another, some at a time, but only up to an earlier one if a span is long.
@@ -206,9 +341,8 @@ impl Observed {
         let Some(steady) = self.steady_about(near) else {
             return;
         };
-        if self.held.push(steady).is_ok() {
-            self.held.sort_unstable_by_key(|span| span.from);
-        }
+        self.hold_span(steady);
+        self.sort_held();
     }
 
     // Looks for the next onset of each observance about an instant, so that it is known.
@@ -540,6 +674,28 @@ fn first_listed(onsets: &[Onsets]) -> Moment {
 fn spans_at_once(observances: usize, offsets: usize) -> usize {
     let most = LOOKED_AT / observances.max(1);
     offsets.saturating_mul(8).min(most).max(HELD_AT_ONCE)
+}
+
+// How many onsets of a zone are listed.
+fn onsets_listed(observances: usize) -> usize {
+    if observances > FEW {
+        observances.saturating_mul(LISTED_OF_EACH).min(LISTED)
+    } else {
+        0
+    }
+}
+
+// The part of a span from an instant on and before another.
+fn clipped(span: Steady, from: Moment, end: Moment) -> Steady
+    ensures from { result.from ≡ int_max span.from from }
+    ensures next { result.next ≡ int_min span.next end }
+    ensures offset { result.offset ≡ span.offset }
+{
+    Steady {
+        from: span.from.max(from),
+        next: span.next.min(end),
+        offset: span.offset,
+    }
 }
 
 // The offsets before and after the onsets, each of them once, the greatest first.
