@@ -10,13 +10,12 @@ use Rattle.std.proofs.lemmas.List.Sorted.{IsPermutation-sym, Contains-permutatio
 use Rattle.std.proofs.lemmas.Option.{slice_get_within}
 use Rattle.ics_zone.specs.declared.observance.Observance.{Observance}
 use Rattle.ics_zone.specs.declared.onsets.Onsets.{Onsets}
-use Rattle.ics_zone.specs.Latest.{IsInOrder}
 use Rattle.ics_zone.specs.Observances.{ObservanceSaid, observances_said}
 use Rattle.ics_zone.specs.OnsetSets.{Has}
 use Rattle.ics_zone.specs.Marks.{IsAsked}
 use Rattle.ics_zone.specs.ZoneOffsets.{IsNotLater, IsOnset, zone_offset}
 use Rattle.ics_zone.specs.ZoneOnsets.{AreOnsetsOfAll, IsSteady}
-use Rattle.ics_zone.specs.Tables.{onset_number, IsNumberedBy, IsNumbered, AreNumbered, IsTable, IsNextOf}
+use Rattle.ics_zone.specs.Tables.{onset_number, IsNumberedBy, AreNumbered, IsTable, IsNextOf}
 use Rattle.ics_zone.proofs.Cases.{less_or_not_z}
 use Rattle.ics_zone.proofs.ListingLemmas.{in_order}
 use Rattle.ics_zone.proofs.ZoneSteps.{observance_here, onsets_here, onsets_at, split}
@@ -64,10 +63,6 @@ module _ (o : Onsets) (place : ℕ) (from at : ℤ) {n : ℤ} (was now : List �
       | inr same ↦ (let here : t ≡ at = omega (arith, ints) in rw (is, here, ← number) (Contains-push was n))
     ]
   ]
-
--- nothing is listed at first
-pub none_numbered : (zone : List ObservanceSaid) (from last : ℤ) → AreNumbered zone 0 from last []
-none_numbered zone from last = record { known = λ n h. absurd (omega (arith, h.1)); complete = λ i s p l h late early. absurd (omega (arith, l)) }
 
 -- the onsets of one more observance are listed
 pub numbered_more : {zone : List ObservanceSaid} {list : List Onsets} {k : ℕ} {o : Onsets} {from last : ℤ} {was now : List ℤ}

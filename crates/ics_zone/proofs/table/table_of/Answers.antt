@@ -1,4 +1,4 @@
-use Rattle.std.proofs.Common.{rules, arith, w64}
+use Rattle.std.proofs.Common.{arith, w64}
 use Rattle.std.proofs.lemmas.Int.{to_z-of_z}
 use Rattle.ics_zone.proofs.TableLemmas.{numbered_more, table_of}
 use Rattle.ics_zone.proofs.table.table_of.Goals as goal
