@@ -1,5 +1,6 @@
 -- The onsets of a zone as numbers in order, and the spans between them.
-use Rattle.std.proofs.Common.{◌≡◌, ℕ, ◌+◌, ◌<◌, ◌≤◌, ◌⊎◌, inl, inr, Bool, true, false, cond, sym, ◌∙◌, arith, List, [], ◌∷◌, ◌++◌, length, get_or, Contains, ℤ, pos, ◌+ℤ◌, ◌<ℤ◌, ◌≤ℤ◌}
+use Rattle.std.proofs.Common.{◌≡◌, ℕ, ◌+◌, ◌<◌, ◌≤◌, ◌⊎◌, inl, inr, Bool, true, false, cond, sym, ◌∙◌, arith, List, [], ◌∷◌, ◌++◌}
+use Rattle.std.proofs.Common.{length, get_or, Contains, ℤ, pos, ◌+ℤ◌, ◌<ℤ◌, ◌≤ℤ◌}
 use Rattle.std.proofs.Common.{int_cmp, refl}
 use Rattle.std.specs.List.Sorted.{IsPermutation, IsSorted}
 use Rattle.std.proofs.lemmas.Bool.{cases_lt, false≢true}
