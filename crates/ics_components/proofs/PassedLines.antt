@@ -59,6 +59,7 @@ refused-there number lines rest round refused p judged = record {
 }
 
 -- outside all components only a calendar begins
-pub outside_other : (f : Frame) (fs : List Frame) (v : Parts) (n : Name) → is_lowest (f ∷ fs) ≡ true → name.Other ≡ n → fault_on n v (f ∷ fs) ≡ Some kind.NotCalendar
+pub outside_other : (f : Frame) (fs : List Frame) (v : Parts) (n : Name) → is_lowest (f ∷ fs) ≡ true → name.Other ≡ n →
+    fault_on n v (f ∷ fs) ≡ Some kind.NotCalendar
 outside_other f [] v n i e = outside_line n v (subst (λ (n : Name). is_mark n ≡ false) e refl)
 outside_other f (g ∷ gs) v n i e = cc

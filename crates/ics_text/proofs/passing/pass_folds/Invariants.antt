@@ -7,7 +7,8 @@ use Rattle.ics_text.proofs.passing.pass_folds.Given as goal
 -- what is passed over so far, and what is left, make the first line and those behind it
 abbrev pub invariant-loop-behind : goal.invariant-loop-behind
 invariant-loop-behind l = record {
-  grows : (more : List ℕ) × ((n : ℕ) (first : List ℕ) → filter is_line (attach (line_of n first false) (all_from (n + 1) l.after)) ≡ filter is_line (grown n (first ++ more) (n + l.breaks) l.rest));
+  grows : (more : List ℕ) × ((n : ℕ) (first : List ℕ) → filter is_line (attach (line_of n first false) (all_from (n + 1) l.after))
+      ≡ filter is_line (grown n (first ++ more) (n + l.breaks) l.rest));
   fewer : l.breaks + length l.rest ≤ length l.after + 1;
   some : 1 ≤ l.breaks;
 }
