@@ -1,17 +1,15 @@
--- Where each event has a UID that no other has, each is alone in its part.
-use Rattle.std.proofs.Common.{◌≡◌, ℕ, ◌+◌, ◌<◌, ◌≤◌, Bool, true, false, ◌==◌, List, [], ◌∷◌, ◌++◌, length, get_or, refl, sym, ap, ◌∙◌, arith, cond}
+-- Events each of which has a UID that no other has are kept as if they had none.
+use Rattle.std.proofs.Common.{◌≡◌, ℕ, ◌+◌, ◌<◌, ◌≤◌, Bool, true, false, ◌==◌, List, [], ◌∷◌, ◌++◌, length, map, refl, sym, ap, ◌∙◌, arith, cond}
 use Rattle.std.proofs.Common.{Option, Some, None, fold, subst, suc}
-use Rattle.std.proofs.Math.Seq.{get_or-append_seam, set-append_seam}
 use Rattle.std.specs.Prelude.{nat_lt, unwrap_or}
 use Rattle.std.proofs.lemmas.Bool.{ne_eqb}
 use Rattle.std.proofs.lemmas.Bool.Decides.{nat_tests}
 use Rattle.std.proofs.lemmas.List.{length-append}
 use Rattle.ics_components.specs.declared.fault.Fault.{Fault}
-use Rattle.ics_components.specs.PartFaults.{earlier}
 use Rattle.ics_components.specs.Parted.{PartedComponentSeen}
 use Rattle.ics_components.proofs.RestFaults.{two-of}
-use Rattle.ics_calendar.specs.PartsRead.{Alone, Labelled, Numbered, all_alone, is_above, is_key, labelled, least_at, nothing_labelled, number_at_end}
-use Rattle.ics_calendar.specs.PartsRead.{numbered_with, own_number, place_from, rise_from, sound_in, with_alone, with_event, with_key}
+use Rattle.ics_calendar.specs.PartsRead.{Labelled, Numbered, is_above, is_key, labelled, least_at, nothing_labelled, number_at_end, number_of}
+use Rattle.ics_calendar.specs.PartsRead.{numbered_with, own_number, place_from, rise_from, searched, sound_in, with_event, with_key}
 use Rattle.ics_calendar.proofs.Numbers.{Keys, key-is}
 
 -- the keys before, of which none has a number above the last
@@ -42,26 +40,11 @@ no-place : (last n : ℕ) (keys : Keys) (uid : List ℕ) → last < number_at_en
 no-place last n [] uid less h = refl
 no-place last n (key ∷ keys) uid less h = rw (not-key last uid key less h.0) (no-place last (n + 1) keys uid less h.1)
 
--- AN EVENT with a UID of its own
-least-end : (fault : Option Fault) (faults : List (Option Fault)) → least_at fault (faults ++ None ∷ []) (length faults) ≡ faults ++ fault ∷ []
-least-end fault faults =
-    set-append_seam faults None [] (earlier (get_or (faults ++ None ∷ []) (length faults) None) fault)
-    ∙ ap (λ o. faults ++ earlier o fault ∷ []) (get_or-append_seam faults None [] None)
-
-key-alone : (fault : Option Fault) (had : Numbered) (uid : List ℕ) (last : ℕ) → length had.faults ≡ length had.keys → last < number_at_end uid →
-    AreBelow last had.keys →
-    with_key fault had (Some uid) ≡ record { keys = had.keys ++ Some uid ∷ []; faults = had.faults ++ fault ∷ []; part = length had.faults }
-key-alone fault had uid last long less below =
-    let part : unwrap_or (place_from 0 had.keys uid) (length had.keys) ≡ length had.faults =
-    ap (λ o. unwrap_or o (length had.keys)) (no-place last 0 had.keys uid less below) ∙ sym long in
-    λ i. record {
-      keys = had.keys ++ Some uid ∷ [];
-      faults = (ap (least_at fault (had.faults ++ None ∷ [])) part ∙ least-end fault had.faults) i;
-      part = part i;
-    }
-
-abbrev alone_of : Labelled → Alone
-alone_of had = record { faults = had.numbered.faults; events = had.events }
+-- THE SAME IS KEPT of events that have UIDs and of others.
+pub record AreAlike (had lone : Labelled) : Type 0 where
+  pub faults : had.numbered.faults ≡ lone.numbered.faults
+  pub events : had.events ≡ lone.events
+  pub long : length had.numbered.keys ≡ length lone.numbered.keys
 
 above-is : (last n : ℕ) → nat_lt last n ≡ true → last < n
 above-is last n e = grind (arith, nat_tests, e)
@@ -73,55 +56,56 @@ one-uid last uid other more e =
     let no : false ≡ true = ap (λ t. is_above last (cond t (Some (number_at_end uid)) None)) (sym never) ∙ e in
     cc
 
-module _ (needed : PartedComponentSeen → Option Fault) where
-  abbrev IsAlone : List PartedComponentSeen → Type 0
-  IsAlone events =
-      (had : Labelled) (last : ℕ) → length had.numbered.faults ≡ length had.numbered.keys → AreBelow last had.numbered.keys → rise_from last events ≡ true →
-      alone_of (fold (with_event needed) had events) ≡ fold (with_alone needed) (alone_of had) events
+module _ (needed : PartedComponentSeen → Option Fault) (without : (event : PartedComponentSeen) → needed (searched true event) ≡ needed event) where
+  abbrev next : Labelled → PartedComponentSeen → Labelled
+  next = with_event needed
 
-  alone-from : (events : List PartedComponentSeen) → IsAlone events
-  alone-from [] had last long below e = refl
-  alone-from (event ∷ events) had last long below e =
-      let two = two-of (is_above last (own_number event.uids)) (rise_from (unwrap_or (own_number event.uids) 0) events) e in
-      by_uids (alone-from events) event.uids refl two.0 two.1
+  -- an event with a UID of its own
+  step : (had lone : Labelled) (event : PartedComponentSeen) (uid : List ℕ) (last : ℕ) → event.uids ≡ uid ∷ [] → AreAlike had lone →
+      AreBelow last had.numbered.keys → last < number_at_end uid →
+      AreAlike (next had event) (next lone (searched true event)) × AreBelow (number_at_end uid) (next had event).numbered.keys
+  step had lone event uid last is alike below less = (
+    record {
+      faults = ap (λ (n : Numbered). n.faults) numbered ∙ (λ i. least_at (sym (without event) i) (alike.faults i ++ None ∷ []) (place i));
+      events = ap (λ (n : Numbered). had.events ++ sound_in n.part event event.read) numbered ∙ (λ i. alike.events i ++ sound_in (place i) event event.read);
+      long = ap (λ (n : Numbered). length n.keys) numbered ∙ length-append had.numbered.keys (Some uid ∷ []) ∙ ap (λ n. n + 1) alike.long
+          ∙ sym (length-append lone.numbered.keys (None ∷ []));
+    },
+    subst (AreBelow (number_at_end uid)) (sym (ap (λ (n : Numbered). n.keys) numbered)) (below-more last had.numbered.keys uid less below),
+  )
     where
-      by_uids : IsAlone events → (uids : List (List ℕ)) → event.uids ≡ uids → is_above last (own_number uids) ≡ true →
+      numbered : (next had event).numbered ≡ with_key (needed event) (record had.numbered { part = 0 }) (Some uid)
+      numbered = ap (numbered_with (needed event) had.numbered) is
+
+      place : number_of had.numbered.keys (Some uid) ≡ length lone.numbered.keys
+      place = ap (λ o. unwrap_or o (length had.numbered.keys)) (no-place last 0 had.numbered.keys uid less below) ∙ alike.long
+
+  abbrev IsAlike : List PartedComponentSeen → Type 0
+  IsAlike events =
+      (had lone : Labelled) (last : ℕ) → AreAlike had lone → AreBelow last had.numbered.keys → rise_from last events ≡ true →
+      AreAlike (fold next had events) (fold next lone (map (searched true) events))
+
+  alike-from : (events : List PartedComponentSeen) → IsAlike events
+  alike-from [] had lone last alike below e = alike
+  alike-from (event ∷ events) had lone last alike below e =
+      let two = two-of (is_above last (own_number event.uids)) (rise_from (unwrap_or (own_number event.uids) 0) events) e in
+      by_uids (alike-from events) event.uids refl two.0 two.1
+    where
+      by_uids : IsAlike events → (uids : List (List ℕ)) → event.uids ≡ uids → is_above last (own_number uids) ≡ true →
           rise_from (unwrap_or (own_number uids) 0) events ≡ true →
-          alone_of (fold (with_event needed) (with_event needed had event) events)
-          ≡ fold (with_alone needed) (with_alone needed (alone_of had) event) events
+          AreAlike (fold next (next had event) events) (fold next (next lone (searched true event)) (map (searched true) events))
       by_uids again [] is above rises = cc
       by_uids again (uid ∷ other ∷ more) is above rises = absurd (one-uid last uid other more above)
-      by_uids again (uid ∷ []) is above rises = same
-        where
-          less : last < number_at_end uid
-          less = above-is last (number_at_end uid) above
+      by_uids again (uid ∷ []) is above rises =
+          let both = step had lone event uid last is alike below (above-is last (number_at_end uid) above) in
+          again (next had event) (next lone (searched true event)) (number_at_end uid) both.0 both.1 rises
 
-          numbered : with_key (needed event) (record had.numbered { part = 0 }) (Some uid)
-              ≡ record { keys = had.numbered.keys ++ Some uid ∷ []; faults = had.numbered.faults ++ needed event ∷ []; part = length had.numbered.faults }
-          numbered = key-alone (needed event) (record had.numbered { part = 0 }) uid last long less below
+  as-they-are : (events : List PartedComponentSeen) → events ≡ map (searched false) events
+  as-they-are [] = refl
+  as-they-are (event ∷ events) = let more = as-they-are events in λ i. event ∷ more i
 
-          next : Labelled
-          next = record {
-            numbered = record {
-              keys = had.numbered.keys ++ Some uid ∷ [];
-              faults = had.numbered.faults ++ needed event ∷ [];
-              part = length had.numbered.faults;
-            };
-            events = (with_alone needed (alone_of had) event).events;
-          }
-
-          step : with_event needed had event ≡ next
-          step =
-              ap (λ (n : Numbered). record { numbered = n; events = had.events ++ sound_in n.part event event.read })
-              (ap (numbered_with (needed event) had.numbered) is ∙ numbered)
-
-          same : alone_of (fold (with_event needed) (with_event needed had event) events)
-              ≡ fold (with_alone needed) (with_alone needed (alone_of had) event) events
-          same =
-              ap (λ h. alone_of (fold (with_event needed) h events)) step
-              ∙ again next (number_at_end uid)
-              (length-append had.numbered.faults (needed event ∷ []) ∙ ap (λ n. n + 1) long ∙ sym (length-append had.numbered.keys (Some uid ∷ [])))
-              (below-more last had.numbered.keys uid less below) rises
-
-  pub alone-are : (events : List PartedComponentSeen) → rise_from 0 events ≡ true → alone_of (labelled needed events) ≡ all_alone needed events
-  alone-are events e = alone-from events nothing_labelled 0 refl tt e
+  pub alike : (is_alone : Bool) (events : List PartedComponentSeen) → rise_from 0 events ≡ is_alone →
+      AreAlike (labelled needed events) (labelled needed (map (searched is_alone) events))
+  alike true events e = alike-from events nothing_labelled nothing_labelled 0 (record { faults = refl; events = refl; long = refl }) tt e
+  alike false events e =
+      subst (λ es. AreAlike (labelled needed events) (labelled needed es)) (as-they-are events) (record { faults = refl; events = refl; long = refl })

@@ -111,21 +111,11 @@ with_event needed had event =
 abbrev pub labelled : (PartedComponentSeen → Option Fault) → List PartedComponentSeen → Labelled
 labelled needed events = fold (with_event needed) nothing_labelled events
 
--- EVENTS EACH OF WHICH IS ALONE in its part: the first faults of the parts, and the sound events.
-pub record Alone : Type 0 where
-  pub faults : List (Option Fault)
-  pub events : List SoundEventSeen
+-- AN EVENT that is alone in its part is not searched for by its UIDs.
+abbrev pub searched : Bool → PartedComponentSeen → PartedComponentSeen
+searched is_alone event = record event { uids = if is_alone then [] else event.uids }
 
-abbrev pub with_alone : (PartedComponentSeen → Option Fault) → Alone → PartedComponentSeen → Alone
-with_alone needed had event = record {
-  faults = had.faults ++ needed event ∷ [];
-  events = had.events ++ sound_in (length had.faults) event event.read;
-}
-
-abbrev pub all_alone : (PartedComponentSeen → Option Fault) → List PartedComponentSeen → Alone
-all_alone needed events = fold (with_alone needed) (record { faults = []; events = [] }) events
-
--- They are, where each has one UID, and the numbers at the ends of these rise, as those of made ones do.
+-- Each is alone, where each has one UID, and the numbers at the ends of these rise, as those of made ones do.
 abbrev pub number_with : ℕ → ℕ → ℕ
 number_with number byte = if is_digit byte && nat_lt number 1_000_000_000 then number * 10 + (byte - 48) else 0
 

@@ -6,9 +6,9 @@ ghost use Rattle.std.specs.List.{list_any};
 ghost use Rattle.std.specs.Option.{option_or};
 ghost use Rattle.std.specs.Ordering.{nat_cmp};
 ghost use Rattle.std.specs.Str.{bytes_eq};
-ghost use Rattle.ics_calendar.specs.Labels.{AreAlone, AreLabels, AreNumbered};
-ghost use Rattle.ics_calendar.specs.PartsRead.{all_alone, fault_read, labelled, least_at, nothing_labelled, numbered_with, with_alone};
-ghost use Rattle.ics_calendar.specs.PartsRead.{with_event, with_key, Alone, Labelled, Numbered};
+ghost use Rattle.ics_calendar.specs.Labels.{AreLabels, AreNumbered};
+ghost use Rattle.ics_calendar.specs.PartsRead.{fault_read, labelled, least_at, nothing_labelled, numbered_with};
+ghost use Rattle.ics_calendar.specs.PartsRead.{searched, with_event, with_key, Labelled, Numbered};
 ghost use Rattle.ics_calendar.specs.SharedFaults.{needed_by, number_by};
 
 use crate::file_parts::SoundEvent;
@@ -97,6 +97,17 @@ fn note_event(
     note_uids(by_uid, faults, uids, fault)
 }
 
+/// The UIDs that an event is searched for by: none where it is alone in its part.
+fn searched(uids: Vec<Text>, is_alone: bool) -> Vec<Text>
+    ensures { result.items ≡ (if is_alone then [] else uids.items) }
+{
+    let mut searched = uids;
+    if is_alone {
+        searched.clear();
+    }
+    searched
+}
+
 /// The fault that is read, if one is.
 fn fault_read(read: &Result<ParsedFile, Fault>) -> Option<Fault>
     ensures { result ≡ fault_read read.now }
@@ -127,9 +138,15 @@ impl Labels {
         }
     }
 
-    /// Adds an event.
-    fn add(&mut self, event: PartedComponent, shared: &SharedFaults) -> Result<(), AllocError>
-        ensures { OnOk result ((had : Labelled) → AreLabels had self.old → AreLabels (with_event (needed_by shared.now) had event) self.new) }
+    /// Adds an event, which may be alone in its part.
+    fn add(
+        &mut self,
+        event: PartedComponent,
+        is_alone: bool,
+        shared: &SharedFaults,
+    ) -> Result<(), AllocError>
+        ensures { OnOk result ((had : Labelled) → AreLabels had self.old
+            → AreLabels (with_event (needed_by shared.now) had (searched is_alone event)) self.new) }
     {
         let PartedComponent {
             calendar,
@@ -140,6 +157,7 @@ impl Labels {
         } = event;
         let beside = shared.beside(calendar, &zones)?;
         let fault = earlier(fault_read(&read), beside);
+        let uids = searched(uids, is_alone);
         let part = note_event(&mut self.by_uid, &mut self.faults, uids, fault)?;
         match read {
             Ok(read) => {
@@ -155,68 +173,23 @@ impl Labels {
         }
     }
 
-    /// Those of these events, in the order of the lines.
+    /// Those of these events, each of which may be alone in its part, in the order of the lines.
     fn of(
         alloc: Global,
         events: Vec<PartedComponent>,
+        are_alone: bool,
         shared: &SharedFaults,
     ) -> Result<Labels, AllocError>
-        ensures { IfOk result (AreLabels (labelled (needed_by shared.now) events.items)) }
+        ensures { IfOk result (AreLabels (labelled (needed_by shared.now) (map (searched are_alone) events.items))) }
     {
         let mut labels = Labels::new(alloc);
         for event in events {
-            labels.add(event, shared)?;
+            labels.add(event, are_alone, shared)?;
         }
         Ok(labels)
     }
 
-    /// Adds an event that is alone in its part.
-    fn add_alone(&mut self, event: PartedComponent, shared: &SharedFaults) -> Result<(), AllocError>
-        ensures { OnOk result ((had : Alone) → AreAlone had self.old → AreAlone (with_alone (needed_by shared.now) had event) self.new) }
-    {
-        let PartedComponent {
-            calendar,
-            uids,
-            zones,
-            read,
-            ..
-        } = event;
-        drop(uids);
-        let beside = shared.beside(calendar, &zones)?;
-        let fault = earlier(fault_read(&read), beside);
-        let had = self.faults.as_slice();
-        let part = had.len();
-        self.faults.push(fault)?;
-        match read {
-            Ok(read) => {
-                self.events.push(SoundEvent {
-                    part,
-                    calendar,
-                    zones,
-                    read,
-                })?;
-                Ok(())
-            }
-            Err(_) => Ok(()),
-        }
-    }
-
-    /// Those of these events, each of which is alone in its part.
-    fn alone(
-        alloc: Global,
-        events: Vec<PartedComponent>,
-        shared: &SharedFaults,
-    ) -> Result<Labels, AllocError>
-        ensures { IfOk result (AreAlone (all_alone (needed_by shared.now) events.items)) }
-    {
-        let mut labels = Labels::new(alloc);
-        for event in events {
-            labels.add_alone(event, shared)?;
-        }
-        Ok(labels)
-    }
-
-    /// The same of any events. Made UIDs, of which each is of one event, are not searched for.
+    /// Those of any events. Made UIDs, of which each is of one event, are not searched for.
     pub fn numbered(
         alloc: Global,
         events: Vec<PartedComponent>,
@@ -225,9 +198,7 @@ impl Labels {
         ensures faults { IfOk result (λ labels. labels.faults.items ≡ (labelled (needed_by shared.now) events.items).numbered.faults) }
         ensures events { IfOk result (λ labels. labels.events.items ≡ (labelled (needed_by shared.now) events.items).events) }
     {
-        if numbers_rise(&events) {
-            return Labels::alone(alloc, events, shared);
-        }
-        Labels::of(alloc, events, shared)
+        let are_alone = numbers_rise(&events);
+        Labels::of(alloc, events, are_alone, shared)
     }
 }

@@ -5,7 +5,7 @@ use Rattle.ics_components.specs.ParsedFileSeen.{ParsedFileSeen}
 use Rattle.ics_components.specs.PartFaults.{earlier}
 use Rattle.ics_calendar.specs.Labels.{AreLabels, AreNumbered}
 use Rattle.ics_components.specs.Parted.{PartedComponentSeen}
-use Rattle.ics_calendar.specs.PartsRead.{Numbered, numbered_with, sound_in, with_event}
+use Rattle.ics_calendar.specs.PartsRead.{Numbered, numbered_with, searched, sound_in, with_event}
 use Rattle.ics_calendar.specs.SharedFaults.{needed_by, shared_beside}
 use Rattle.ics_calendar.proofs.labels.Labels.add.Goals as goal
 
@@ -13,9 +13,10 @@ pub returns-in-Ok : goal.returns-in-Ok
 returns-in-Ok c = λ had are.
     let shared = c.args.shared.now in
     let inside = c.event.inside in
+    let uids = c.searched-uids.result.items in
     let event : PartedComponentSeen = record {
       calendar = inside.calendar;
-      uids = inside.uids.items;
+      uids = uids;
       is_certain = inside.is_certain;
       names = inside.names.items;
       zones = inside.zones.items;
@@ -23,10 +24,11 @@ returns-in-Ok c = λ had are.
     } in
     let beside = c.in_ok-beside.ensures ∙ ap (shared_beside shared inside.calendar) c.deref.ensures.value in
     let fault = c.earlier-fault.ensures ∙ (λ j. earlier (c.fault_read.ensures j) (beside j)) in
-    let numbered : Option Fault → Numbered = λ fault. numbered_with fault had.numbered inside.uids.items in
+    let numbered : Option Fault → Numbered = λ fault. numbered_with fault had.numbered uids in
     let part = c.in_ok-part.ensures.part had.numbered are.numbered ∙ ap (λ fault. (numbered fault).part) fault in
     subst (λ event. AreLabels (with_event (needed_by shared) had event)
-    (record { by_uid = c.note_event.new.by_uid; faults = c.note_event.new.faults; events = c.push.new.self })) c.event.view_is (record {
+    (record { by_uid = c.note_event.new.by_uid; faults = c.note_event.new.faults; events = c.push.new.self }))
+    (ap (λ uids. record event { uids = uids }) c.searched-uids.ensures ∙ ap (searched c.args.is_alone) c.event.view_is) (record {
       numbered = subst (λ fault. AreNumbered (numbered fault) c.note_event.new.by_uid c.note_event.new.faults.items) fault
           (c.in_ok-part.ensures.kept had.numbered are.numbered);
       events = c.in_ok-push-in-Ok.ensures.items ∙ (λ j. are.events j ++ sound_in (part j) event (Ok c.in-Ok.read))
@@ -37,9 +39,10 @@ pub returns : goal.returns
 returns c = λ had are.
     let shared = c.args.shared.now in
     let inside = c.event.inside in
+    let uids = c.searched-uids.result.items in
     let event : PartedComponentSeen = record {
       calendar = inside.calendar;
-      uids = inside.uids.items;
+      uids = uids;
       is_certain = inside.is_certain;
       names = inside.names.items;
       zones = inside.zones.items;
@@ -47,9 +50,10 @@ returns c = λ had are.
     } in
     let beside = c.in_ok-beside.ensures ∙ ap (shared_beside shared inside.calendar) c.deref.ensures.value in
     let fault = c.earlier-fault.ensures ∙ (λ j. earlier (c.fault_read.ensures j) (beside j)) in
-    let numbered : Option Fault → Numbered = λ fault. numbered_with fault had.numbered inside.uids.items in
+    let numbered : Option Fault → Numbered = λ fault. numbered_with fault had.numbered uids in
     subst (λ event. AreLabels (with_event (needed_by shared) had event)
-    (record { by_uid = c.note_event.new.by_uid; faults = c.note_event.new.faults; events = c.args.self.now.events })) c.event.view_is (record {
+    (record { by_uid = c.note_event.new.by_uid; faults = c.note_event.new.faults; events = c.args.self.now.events }))
+    (ap (λ uids. record event { uids = uids }) c.searched-uids.ensures ∙ ap (searched c.args.is_alone) c.event.view_is) (record {
       numbered = subst (λ fault. AreNumbered (numbered fault) c.note_event.new.by_uid c.note_event.new.faults.items) fault
           (c.in_ok-part.ensures.kept had.numbered are.numbered);
       events = are.events ∙ sym (append-nil had.events)

@@ -1,7 +1,8 @@
+use Rattle.std.proofs.Common.{map}
 use Rattle.ics_calendar.specs.Labels.{AreLabels}
-use Rattle.ics_calendar.specs.PartsRead.{labelled}
+use Rattle.ics_calendar.specs.PartsRead.{labelled, searched}
 use Rattle.ics_calendar.specs.SharedFaults.{needed_by}
 use Rattle.ics_calendar.proofs.labels.Labels.of.Given as goal
 
 abbrev pub invariant-loop-event : goal.invariant-loop-event
-invariant-loop-event l = AreLabels (labelled (needed_by l.shared) l.yielded) l.labels
+invariant-loop-event l = AreLabels (labelled (needed_by l.shared) (map (searched l.are_alone) l.yielded)) l.labels
