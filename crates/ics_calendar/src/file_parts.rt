@@ -1,5 +1,5 @@
 //! The parts of a file: which of them are sound, and the first faults of the others.
-ghost use Rattle.std.specs.Prelude.{◌≡◌, ◌≤◌, ◌<◌, ℕ, ◌∷◌, ◌++◌, ◌&&◌, ◌||◌, [], ◌==◌, if◌then◌else◌, length, fold, get_or, Some, None, IfOk, OnOk};
+ghost use Rattle.std.specs.Prelude.{◌≡◌, ◌≤◌, ◌<◌, ℕ, ◌∷◌, ◌++◌, ◌&&◌, ◌||◌, [], ◌==◌, if◌then◌else◌, length, fold, get_or, Some, None, IfOk, IfSome, OnOk};
 ghost use Rattle.std.specs.Option.{option_or};
 ghost use Rattle.std.specs.BTreeSet.{contains, insert_key};
 ghost use Rattle.std.specs.List.{All, flat_map, list_all, list_any};
@@ -355,14 +355,29 @@ impl FileParts {
         requires { length bytes.now ≤ 16_777_216 }
         ensures { IfOk result (ArePartsOf name.now bytes.now) }
     {
-        match parse_parts(alloc, bytes, None)? {
+        let parted = parse_parts(alloc, bytes, None)?;
+        FileParts::by(alloc, name, bytes, parted)
+    }
+
+    /// The parts of a file, if this is gathered of it.
+    pub fn by(
+        alloc: Global,
+        name: &str,
+        bytes: &[u8],
+        parted: Option<PartedFile>,
+    ) -> Result<Option<FileParts>, AllocError>
+        requires parted { parted_of None bytes.now ≡ parted }
+        requires sound { IfSome parted IsSoundParted }
+        ensures { IfOk result (ArePartsOf name.now bytes.now) }
+    {
+        match parted {
             Some(parted) => FileParts::with_uids(alloc, name, bytes, parted),
             None => Ok(None),
         }
     }
 
     /// The parts of a file of which this is gathered. Where no event has a UID, it is gathered again with made ones.
-    pub fn with_uids(
+    fn with_uids(
         alloc: Global,
         name: &str,
         bytes: &[u8],

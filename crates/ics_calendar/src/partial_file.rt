@@ -1,5 +1,5 @@
 //! Files of which the sound parts are kept.
-ghost use Rattle.std.specs.Prelude.{◌≡◌, ◌≤◌, ◌∷◌, [], length, map, Some, None, Err, IfOk};
+ghost use Rattle.std.specs.Prelude.{◌≡◌, ◌≤◌, ◌∷◌, [], length, map, Some, None, Err, IfOk, IfSome};
 ghost use Rattle.ics_components.specs.Parted.{IsSoundParted, parted_of};
 ghost use Rattle.ics_calendar.specs.Files.{file_of};
 ghost use Rattle.ics_calendar.specs.GivenFiles.{files_by};
@@ -93,32 +93,7 @@ impl<'a> PartialFile<'a> {
     {
         match parse_parts(alloc, bytes, None)? {
             Some(parted) => PartialFile::of(alloc, name, bytes, parted),
-            None => PartialFile::unparted(alloc, name, bytes),
-        }
-    }
-
-    /// A file that has no parts.
-    fn unparted(
-        alloc: Global,
-        name: &'a str,
-        bytes: &'a [u8],
-    ) -> Result<PartialFile<'a>, AllocError>
-        requires size { length bytes.now ≤ 16_777_216 }
-        requires none { parted_of None bytes.now ≡ None }
-        ensures { IfOk result (λ partial. partial ≡ record { name = name.now; bytes = bytes.now }) }
-    {
-        match UnresolvedFile::read(alloc, bytes) {
-            Ok(unresolved) => Ok(PartialFile {
-                name,
-                bytes,
-                state: State::Whole(unresolved),
-            }),
-            Err(FileFault::Memory) => Err(AllocError),
-            Err(FileFault::At { line, kind }) => Ok(PartialFile {
-                name,
-                bytes,
-                state: State::Refused(Fault { line, kind }),
-            }),
+            None => PartialFile::begun(alloc, name, bytes, None),
         }
     }
 
@@ -135,7 +110,7 @@ impl<'a> PartialFile<'a> {
         ensures { IfOk result (λ partial. partial ≡ record { name = name.now; bytes = bytes.now }) }
     {
         if is_on_first(parted.outside) {
-            return PartialFile::begun(alloc, name, bytes, parted);
+            return PartialFile::begun(alloc, name, bytes, Some(parted));
         }
         match first_of(&parted) {
             None => Ok(PartialFile {
@@ -143,20 +118,20 @@ impl<'a> PartialFile<'a> {
                 bytes,
                 state: State::Whole(unresolved(alloc, parted)?),
             }),
-            Some(fault) => PartialFile::in_parts(alloc, name, bytes, fault, parted),
+            Some(fault) => PartialFile::in_parts(alloc, name, bytes, fault, Some(parted)),
         }
     }
 
-    /// A file that may be faulty where it begins: there the first round is ended.
+    /// A file that has no parts, or that may be faulty where it begins: the first round alone finds its first fault.
     fn begun(
         alloc: Global,
         name: &'a str,
         bytes: &'a [u8],
-        parted: PartedFile,
+        parted: Option<PartedFile>,
     ) -> Result<PartialFile<'a>, AllocError>
         requires size { length bytes.now ≤ 16_777_216 }
-        requires parted { parted_of None bytes.now ≡ Some parted }
-        requires sound { IsSoundParted parted }
+        requires parted { parted_of None bytes.now ≡ parted }
+        requires sound { IfSome parted IsSoundParted }
         ensures { IfOk result (λ partial. partial ≡ record { name = name.now; bytes = bytes.now }) }
     {
         match UnresolvedFile::read(alloc, bytes) {
@@ -172,21 +147,21 @@ impl<'a> PartialFile<'a> {
         }
     }
 
-    /// The parts of a file in which the first round finds a fault first.
+    /// The parts of a file, if it has any, in which the first round finds a fault first.
     fn in_parts(
         alloc: Global,
         name: &'a str,
         bytes: &'a [u8],
         fault: Fault,
-        parted: PartedFile,
+        parted: Option<PartedFile>,
     ) -> Result<PartialFile<'a>, AllocError>
         requires size { length bytes.now ≤ 16_777_216 }
         requires first { IsFirstOf bytes.now fault }
-        requires parted { parted_of None bytes.now ≡ Some parted }
-        requires sound { IsSoundParted parted }
+        requires parted { parted_of None bytes.now ≡ parted }
+        requires sound { IfSome parted IsSoundParted }
         ensures { IfOk result (λ partial. partial ≡ record { name = name.now; bytes = bytes.now }) }
     {
-        match FileParts::with_uids(alloc, name, bytes, parted)? {
+        match FileParts::by(alloc, name, bytes, parted)? {
             Some(parts) => Ok(PartialFile {
                 name,
                 bytes,
