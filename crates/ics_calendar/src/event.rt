@@ -31,6 +31,7 @@ fn time_of(table: &ZoneTable, calendar: u64, time: Time<Tzid>) -> Time<u32>
     }
 }
 
+/// The same length with the index of its zone.
 fn length_of(table: &ZoneTable, calendar: u64, length: Length<Tzid>) -> Length<u32>
     ensures { result ≡ map_length (zone_at (known_by table.now).index calendar) length }
 {
@@ -41,6 +42,7 @@ fn length_of(table: &ZoneTable, calendar: u64, length: Length<Tzid>) -> Length<u
     }
 }
 
+/// The same RDATE with the indexes of its zones.
 fn rdate_of(table: &ZoneTable, calendar: u64, rdate: Rdate<Tzid>) -> Rdate<u32>
     ensures { result ≡ map_rdate (zone_at (known_by table.now).index calendar) rdate }
 {
@@ -53,6 +55,7 @@ fn rdate_of(table: &ZoneTable, calendar: u64, rdate: Rdate<Tzid>) -> Rdate<u32>
     }
 }
 
+/// The same RDATEs with the indexes of their zones.
 fn rdates_of(
     alloc: Global,
     table: &ZoneTable,

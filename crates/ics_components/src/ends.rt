@@ -66,6 +66,7 @@ pub fn ends_in(
     })
 }
 
+/// Whether it is no negative duration, and no longer than an event may be.
 fn is_lasting(duration: Duration) -> bool
     ensures { result ≡ is_lasting duration }
 {

@@ -65,6 +65,7 @@ pub fn copied_observances(
     Ok(Listed { values })
 }
 
+/// The same observance, in other memory.
 fn copied_observance(
     alloc: Global,
     observance: &ClosedObservance,

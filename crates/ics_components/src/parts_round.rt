@@ -82,6 +82,7 @@ fn uid_parts<'a>(line: &'a [u8]) -> Option<Content<'a>>
 }
 
 impl PartsRound {
+    /// The round before the first line.
     fn new(alloc: Global) -> PartsRound
         ensures { result ≡ round_begun }
     {
