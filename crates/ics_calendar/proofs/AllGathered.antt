@@ -1,25 +1,22 @@
 -- What is gathered of a file without a fault is what is gathered of all its events and time zones, one after the other.
-use Rattle.std.proofs.Common.{◌≡◌, Bool, true, false, ◌&&◌, ◌||◌, List, [], filter, flat_map, refl, sym, ap, ◌∙◌, arith, None, Result, Ok, Err}
-use Rattle.ics_components.specs.declared.fault.Fault.{Fault}
-use Rattle.ics_components.specs.declared.frame.Frame.{Frame}
+use Rattle.std.proofs.Common.{◌≡◌, Bool, true, false, ◌&&◌, ◌||◌, List, [], filter, flat_map, refl, sym, ap, ◌∙◌, arith, None}
 use Rattle.ics_components.specs.EventLines.{all_events, is_event, is_well_nested}
 use Rattle.ics_components.specs.FirstFault.{first_fault}
 use Rattle.ics_components.specs.Observances.{begins_zone}
 use Rattle.ics_components.specs.ParsedFiles.{nothing_parsed}
 use Rattle.ics_components.specs.ParsedFileSeen.{ParsedFileSeen}
-use Rattle.ics_components.specs.Parted.{AreInPlace, Broken, LinesRead, Reads, begins_part, block_read, component_seen, gathered_in, parted_lines}
+use Rattle.ics_components.specs.Parted.{AreInPlace, begins_part, component_seen, parted_lines}
 use Rattle.ics_components.specs.PlacedLines.{Placed}
 use Rattle.ics_components.proofs.ChosenLines.{gathered_items}
 use Rattle.ics_components.proofs.Folds.{item_read}
 use Rattle.ics_components.proofs.GatheredItems.{each_parsed, items_parsed, parsed_checks, parsed_events, parsed_in, parsed_zones, parts_alone}
 use Rattle.ics_components.proofs.ItemFaults.{IsIn}
-use Rattle.ics_components.proofs.PartKinds.{event_gathers, zone_gathers}
 use Rattle.ics_components.proofs.PassLemmas.{parsed_from}
-use Rattle.ics_components.proofs.RestFaults.{in-filter, never-both, right-or}
+use Rattle.ics_components.proofs.RestFaults.{in-filter, right-or}
 use Rattle.ics_calendar.specs.PartsRead.{sound_zones, whole_of, zones_in}
-use Rattle.ics_calendar.proofs.PartChecks.{read-is}
+use Rattle.ics_calendar.proofs.PartChecks.{read-is, zones-read}
 use Rattle.ics_calendar.proofs.PartEvents.{sounds}
-use Rattle.ics_calendar.proofs.PartFirst.{filter-twice, some-of}
+use Rattle.ics_calendar.proofs.PartFirst.{event-nothing, filter-twice, some-of, zone-nothing}
 use Rattle.ics_calendar.proofs.PartZones.{seen-each}
 use Rattle.ics_calendar.proofs.PartsChosen.{all-gathers, same-flat}
 
@@ -39,37 +36,6 @@ module _ (ls : List Placed) (h : AreInPlace 0 [] ls) where
   zones-there : filter begins_zone items ≡ filter begins_zone ls
   zones-there = filter-twice begins_zone begins_part ls ∙ (λ i. filter (λ k. right-of-both (is_event k) (begins_zone k) i) ls)
 
-  -- A time zone gathers neither events nor checks, and an event no time zones.
-  zone-or-event : (k : Placed) → begins_part k ≡ true → is_event k ≡ false → begins_zone k ≡ true
-  zone-or-event k b e = sym (ap (λ t. t || begins_zone k) e) ∙ b
-
-  no-zone : (k : Placed) → begins_part k ≡ true → begins_zone k ≡ false → is_event k ≡ true
-  no-zone k b e = by_test (is_event k) refl
-    where
-      by_test : (t : Bool) → is_event k ≡ t → t ≡ true
-      by_test true x = refl
-      by_test false x = never-both (begins_zone k) (zone-or-event k b x) e
-
-  zone-nothing : (k : Placed) → IsIn k items → is_event k ≡ false →
-      ((parsed_in (item_read ls k)).events ≡ []) × ((parsed_in (item_read ls k)).checks ≡ [])
-  zone-nothing k i e =
-      let two = in-filter begins_part ls k i in rw (two.1) (by_read (block_read ls k) refl (zone_gathers ls h k two.0 (zone-or-event k two.1 e)))
-    where
-      by_read : (r : LinesRead) → block_read ls k ≡ r →
-          ((last : List Frame) (more : ParsedFileSeen) → block_read ls k ≡ Reads last more → (more.events ≡ []) × (more.checks ≡ [])) →
-          ((parsed_in (gathered_in r)).events ≡ []) × ((parsed_in (gathered_in r)).checks ≡ [])
-      by_read (Broken f) x gathers = (refl, refl)
-      by_read (Reads last more) x gathers = gathers last more x
-
-  event-nothing : (k : Placed) → IsIn k items → begins_zone k ≡ false → (parsed_in (item_read ls k)).zones ≡ []
-  event-nothing k i e =
-      let two = in-filter begins_part ls k i in rw (two.1) (by_read (block_read ls k) refl (event_gathers ls h k two.0 (no-zone k two.1 e)))
-    where
-      by_read : (r : LinesRead) → block_read ls k ≡ r → ((last : List Frame) (more : ParsedFileSeen) → block_read ls k ≡ Reads last more → more.zones ≡ []) →
-          (parsed_in (gathered_in r)).zones ≡ []
-      by_read (Broken f) x gathers = refl
-      by_read (Reads last more) x gathers = gathers last more x
-
   events-of : {X : Type 0} (f : ParsedFileSeen → List X) → f nothing_parsed ≡ [] → ((k : Placed) → IsIn k items → is_event k ≡ false →
       f (parsed_in (item_read ls k)) ≡ []) →
       flat_map (λ e. f (parsed_in (item_read ls e))) items ≡ flat_map (λ sound. f sound.read) (flat_map (sounds 0) (parted_lines ls).events)
@@ -80,16 +46,13 @@ module _ (ls : List Placed) (h : AreInPlace 0 [] ls) where
 
   zones-of : flat_map (λ z. (parsed_in (item_read ls z)).zones) items ≡ sound_zones (parted_lines ls).zones
   zones-of =
-      some-of (λ z. (parsed_in (item_read ls z)).zones) begins_zone items event-nothing
+      some-of (λ z. (parsed_in (item_read ls z)).zones) begins_zone items
+      (λ k i e. let two = in-filter begins_part ls k i in event-nothing ls h k two.0 two.1 e)
       ∙ ap (flat_map (λ z. (parsed_in (item_read ls z)).zones)) zones-there
       ∙ same-flat (λ z. (parsed_in (item_read ls z)).zones) (λ z. zones_in (component_seen ls z).read) (filter begins_zone ls)
       (λ z i. ap (λ r. (parsed_in r).zones) (read-is ls z (right-or (is_event z) (begins_zone z) (in-filter begins_zone ls z i).1))
-      ∙ by_read (component_seen ls z).read)
+      ∙ zones-read (component_seen ls z).read)
       ∙ seen-each ls (filter begins_zone ls)
-    where
-      by_read : (r : Result ParsedFileSeen Fault) → (parsed_in r).zones ≡ zones_in r
-      by_read (Ok read) = refl
-      by_read (Err fault) = refl
 
   -- WITHOUT A FAULT.
   pub all-gathered : is_well_nested ls ≡ true → first_fault ls ≡ None → whole_of (parted_lines ls) ≡ parsed_from ls nothing_parsed [] ls
@@ -104,9 +67,9 @@ module _ (ls : List Placed) (h : AreInPlace 0 [] ls) where
       events : (parsed_from ls nothing_parsed [] ls).events ≡ (whole_of (parted_lines ls)).events
       events =
           ap (λ (x : ParsedFileSeen). x.events) each ∙ parsed_events ls items
-          ∙ events-of (λ (x : ParsedFileSeen). x.events) refl (λ k i e. (zone-nothing k i e).0)
+          ∙ events-of (λ (x : ParsedFileSeen). x.events) refl (λ k i e. let two = in-filter begins_part ls k i in (zone-nothing ls h k two.0 two.1 e).0)
 
       checks : (parsed_from ls nothing_parsed [] ls).checks ≡ (whole_of (parted_lines ls)).checks
       checks =
           ap (λ (x : ParsedFileSeen). x.checks) each ∙ parsed_checks ls items
-          ∙ events-of (λ (x : ParsedFileSeen). x.checks) refl (λ k i e. (zone-nothing k i e).1)
+          ∙ events-of (λ (x : ParsedFileSeen). x.checks) refl (λ k i e. let two = in-filter begins_part ls k i in (zone-nothing ls h k two.0 two.1 e).1)

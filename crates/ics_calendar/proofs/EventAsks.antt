@@ -1,5 +1,5 @@
 -- Each time zone of the instants that an event's end is checked by is one that a line of the event is checked for.
-use Rattle.std.proofs.Common.{◌≡◌, ℕ, Bool, true, false, List, [], ◌∷◌, ◌++◌, map, refl, sym, ap, ◌∙◌, cond, subst, Option, Some, None, Ok}
+use Rattle.std.proofs.Common.{◌≡◌, ℕ, Bool, true, false, List, [], ◌∷◌, ◌++◌, map, refl, cond, subst, Option, Some, None, Ok}
 use Rattle.std.specs.Prelude.{IfOk, IfSome}
 use Rattle.std.specs.List.{All, Contains}
 use Rattle.std.proofs.lemmas.List.Elements.{All-append, All-cons, All-contains, All-nil, All-weaker, Contains-append_left, Contains-append_right}
@@ -16,26 +16,24 @@ use Rattle.ics_components.specs.declared.deferred_check.DeferredCheck.TheVariant
 use Rattle.ics_components.specs.declared.deferred_check.Instant.{Instant}
 use Rattle.ics_components.specs.declared.deferred_check.Instant.TheVariants as instant
 use Rattle.ics_components.specs.declared.deferred_check.ZoneName.{ZoneName}
-use Rattle.ics_components.specs.declared.fault.FaultKind.{FaultKind}
-use Rattle.ics_components.specs.declared.fault.FaultKind.TheVariants.{BadLine}
 use Rattle.ics_components.specs.declared.frame.Frame.{Frame}
 use Rattle.ics_components.specs.declared.name.Name.{Name}
 use Rattle.ics_components.specs.declared.name.Name.TheVariants as name
 use Rattle.ics_components.specs.declared.parsed_file.CalendarEvent.{CalendarEvent}
 use Rattle.ics_components.specs.declared.parsed_file.LineCheck.{LineCheck}
-use Rattle.ics_components.specs.EventLines.{is_event, is_well_nested}
-use Rattle.ics_components.specs.Lines.{behind, check_in, end_check, end_in, ended_as, fault_on, passing}
+use Rattle.ics_components.specs.EventLines.{is_event}
+use Rattle.ics_components.specs.Lines.{check_in, end_check, end_in, ended_as, passing}
 use Rattle.ics_components.specs.ParsedFileSeen.{ParsedFileSeen}
-use Rattle.ics_components.specs.ParsedFiles.{IsSoundParsed, and_line, checks_of, events_of_end, nothing_parsed}
-use Rattle.ics_components.specs.Parted.{AreInPlace, Broken, LinesRead, Reads, block_of, block_read, component_seen, frames_around, gathered_in, read_behind}
-use Rattle.ics_components.specs.Parted.{read_on}
-use Rattle.ics_components.specs.Parted.{unless_faulty}
+use Rattle.ics_components.specs.ParsedFiles.{IsSoundParsed, and_line, checks_of, events_of_end}
+use Rattle.ics_components.specs.Observances.{begins_zone}
+use Rattle.ics_components.specs.Parted.{AreInPlace, block_of, component_seen}
 use Rattle.ics_components.specs.PlacedLines.{Placed, named}
 use Rattle.ics_components.specs.SecondRound.{are_of_one_zone, both_compared, compared, ends_in, instant_in, instant_on, zone_check, zone_named}
 use Rattle.ics_components.specs.Sound.{IsSoundEvent, IsSoundTime}
 use Rattle.ics_components.specs.Values.{is_out}
-use Rattle.ics_components.proofs.Blocks.{broken-stays}
+use Rattle.ics_components.proofs.BlockHolds.{IsHeld, held_block}
 use Rattle.ics_components.proofs.ItemFaults.{IsIn}
+use Rattle.ics_components.proofs.RestFaults.{left-or}
 use Rattle.ics_components.proofs.SoundPass.{sound-read}
 use Rattle.ics_calendar.proofs.PartLaws.{here}
 
@@ -106,34 +104,6 @@ one-more number n c frames had are = by_frames frames
     by_frames [] = both [] [] (All-nil (λ w. IsOfEvent [] w.check))
     by_frames (f ∷ fs) = both (events_of_end (end_in n f)) (checks_of number (check_in n c f)) (on-line number n c f)
 
--- It is so of all that some lines are read to.
-abbrev Passes : List Placed → Type 0
-Passes ls =
-    (frames last : List Frame) (had more : ParsedFileSeen) → AreOfEvents had.events had.checks → read_behind (Reads frames had) ls ≡ Reads last more →
-    AreOfEvents more.events more.checks
-
-one-line : (l : Placed) (ls : List Placed) → Passes ls → Passes (l ∷ ls)
-one-line l ls again frames last had more are e = by_content l.content e
-  where
-    by_fault : (c : Parts) (o : Option FaultKind) →
-        read_behind (unless_faulty l.number o (Reads (behind l.number (named c) c frames) (and_line l.number (passing (named c) c frames) had))) ls
-        ≡ Reads last more → AreOfEvents more.events more.checks
-    by_fault c None e =
-        again (behind l.number (named c) c frames) last (and_line l.number (passing (named c) c frames) had) more
-        (one-more l.number (named c) c frames had are) e
-    by_fault c (Some kind) e = let broken = sym (broken-stays ls (record { line = l.number; kind = kind })) ∙ e in cc
-
-    by_content : (o : Option Parts) → read_behind (read_on l.number o (Reads frames had)) ls ≡ Reads last more → AreOfEvents more.events more.checks
-    by_content None e = let broken = sym (broken-stays ls (record { line = l.number; kind = BadLine })) ∙ e in cc
-    by_content (Some c) e = by_fault c (fault_on (named c) c frames) e
-
-reads-are : (fs gs : List Frame) (x y : ParsedFileSeen) → Reads fs x ≡ Reads gs y → x ≡ y
-reads-are fs gs x y e = cc
-
-passes : (ls : List Placed) → Passes ls
-passes [] frames last had more are e = subst (λ (g : ParsedFileSeen). AreOfEvents g.events g.checks) (reads-are frames last had more e) are
-passes (l ∷ ls) frames last had more are e = one-line l ls (λ f t g m a x. passes ls f t g m a x) frames last had more are e
-
 -- ITS INSTANTS are those of the event's times, of which each is checked for its time zone.
 compared-is : (x y start end : Instant) → compared x y ≡ Some (check.Ends start end) → (x ≡ start) × (y ≡ end)
 compared-is (instant.Utc a) (instant.Utc b) start end e = by_test (is_out (local_seconds a) (local_seconds b)) e
@@ -187,15 +157,22 @@ asked g sound (check.Ends start end) is =
     sound.events is.1 in
     both-asked g.checks event.calendar event.fields.start event.fields.end start end whole.start whole.end is.2
 
-pub event-asks : (ls : List Placed) → AreInPlace 0 [] ls → is_well_nested ls ≡ true → (event : Placed) → IsIn event ls → is_event event ≡ true →
-    (read : ParsedFileSeen) → (component_seen ls event).read ≡ Ok read → All (λ w. IsAsked read.checks w.check) read.checks
-event-asks ls h nested event i is read e = by_read (block_read ls event) refl e
-  where
-    by_read : (r : LinesRead) → block_read ls event ≡ r → gathered_in r ≡ Ok read → All (λ w. IsAsked read.checks w.check) read.checks
-    by_read (Broken fault) x e = cc
-    by_read (Reads last more) x e =
-        let same : more ≡ read = cc in
-        let are = passes (block_of ls event) (frames_around event.path) last nothing_parsed more (All-nil (λ w. IsOfEvent [] w.check)) x in
-        let sound : IsSoundParsed more = subst (λ r. IfOk r IsSoundParsed) (ap gathered_in x) (sound-read (block_of ls event) event.path) in
-        subst (λ (g : ParsedFileSeen). All (λ w. IsAsked g.checks w.check) g.checks) same
-        (All-weaker (λ w. IsOfEvent more.events w.check) (λ w. IsAsked more.checks w.check) (λ w. asked more sound w.check) more.checks are)
+of_events : (ls : List Placed) (b : ℕ) → IsHeld ls b (λ left f. Unit {0}) (λ g. Unit {0}) (λ g. AreOfEvents g.events g.checks)
+of_events ls b = record {
+  begins = λ left f x c. tt;
+  joins = λ left f i x. tt;
+  joins_inner = λ g i x. tt;
+  notes = λ l left c f g gs read t x. tt;
+  notes_inner = λ n c g x. tt;
+  passes = λ l left c f at t x. tt;
+  gathers = λ l left c f g gs had read t x are. one-more l.number (named c) c (f ∷ g ∷ gs) had are;
+  gathers_inner = λ number n c f g gs had x are. one-more number n c (f ∷ g ∷ gs) had are;
+}
+
+pub event-asks : (ls : List Placed) → AreInPlace 0 [] ls → (event : Placed) → IsIn event ls → is_event event ≡ true → (read : ParsedFileSeen) →
+    (component_seen ls event).read ≡ Ok read → All (λ w. IsAsked read.checks w.check) read.checks
+event-asks ls h event i is read e =
+    let are = held_block ls event (of_events ls event.number) h i (left-or (is_event event) (begins_zone event) is) (λ from c at. tt)
+    (All-nil (λ w. IsOfEvent [] w.check)) read e in
+    let sound : IsSoundParsed read = subst (λ r. IfOk r IsSoundParsed) e (sound-read (block_of ls event) event.path) in
+    All-weaker (λ w. IsOfEvent read.events w.check) (λ w. IsAsked read.checks w.check) (λ w. asked read sound w.check) read.checks are

@@ -134,9 +134,6 @@ matched e c f g = grind (arith, f, g)
 field-there : (a b c t : Bool) → (a || (b || (c && not (t && true)))) ≡ false → c ≡ true → t ≡ true
 field-there a b c t e f = grind (arith, e, f)
 
-uid-there : (c t : Bool) → (c && not t) ≡ false → c ≡ true → t ≡ true
-uid-there c t e f = grind (arith, e, f)
-
 -- WHAT AN END HAS BESIDE IT: a TZID in a time zone, and a filled UID in an event.
 module _ (before : List Placed) (line : Placed) (end : is_end line ≡ true) (free : least_on stands before line ≡ None) where
   closing : ends (judged_as line) ≡ true
@@ -153,7 +150,7 @@ module _ (before : List Placed) (line : Placed) (end : is_end line ≡ true) (fr
 
   uid-beside : is_event_context (context_of line.path) ≡ true → is_filled (first_text name.Uid (beside before line)) ≡ true
   uid-beside event =
-      uid-there (is_event_context (context_of line.path) && ends (judged_as line)) (is_filled (first_text name.Uid (beside before line)))
+      matched (is_event_context (context_of line.path) && ends (judged_as line)) (is_filled (first_text name.Uid (beside before line)))
       (uid-not (λ kind. stands kind (beside before line) line) free)
       (and_from (is_event_context (context_of line.path)) (ends (judged_as line)) event closing)
 

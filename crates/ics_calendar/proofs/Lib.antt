@@ -25,9 +25,7 @@ pub mod LinesSettle
 pub mod PartMembers
 pub mod PartWords
 pub mod ZoneNames
-pub mod ZoneCalled
 pub mod PartZones
-pub mod BlockHolds
 pub mod EventNames
 pub mod EventAsks
 pub mod RestSays
@@ -38,7 +36,6 @@ pub mod PartsJoined
 pub mod PartEach
 pub mod PartChecks
 pub mod PartsFirst
-pub mod PartsWant
 pub mod PartsSaid
 pub mod PartsAre
 pub mod FirstOfAll

@@ -1,5 +1,5 @@
 -- A stamp in a time zone is a local form that stands in its value, with neither a digit nor a Z behind it.
-use Rattle.std.proofs.Common.{◌≡◌, ◌⊎◌, inl, inr, ℕ, ◌+◌, Bool, true, false, ◌||◌, ◌&&◌, ◌==◌, List, [], ◌∷◌, ◌++◌, length, take, drop, map, refl, sym, ap, ◌∙◌}
+use Rattle.std.proofs.Common.{◌≡◌, ℕ, ◌+◌, Bool, true, false, ◌||◌, ◌&&◌, ◌==◌, List, [], ◌∷◌, ◌++◌, length, take, drop, map, refl, sym, ap, ◌∙◌}
 use Rattle.std.proofs.Common.{append_assoc, arith, cond, Option, Ok, Err, suc, ⊎_elim}
 use Rattle.std.proofs.Math.Seq.{drop-append_seam, take-append_seam}
 use Rattle.std.proofs.lemmas.Bool.Decides.{nat_tests}
@@ -21,6 +21,7 @@ use Rattle.ics_components.specs.declared.date_values.Listing.TheVariants as list
 use Rattle.ics_components.specs.EventLines.{begins_with_local, goes_on, has_local}
 use Rattle.ics_components.specs.Values.{stamp_in, stamp_read, zone_name}
 use Rattle.ics_calendar.proofs.PartLaws.{at-cons, here, no-element, there}
+use Rattle.ics_components.proofs.RestFaults.{either-of, right-or}
 
 -- A ZONED STAMP is a local form.
 shape : (d u l a b c : Bool) → ((d && a) || ((u || l) && b && c)) ≡ true → d ≡ false → u ≡ false → l ≡ true
@@ -102,11 +103,7 @@ now-has (b ∷ bs) e = ap (λ t. t || has_local bs) e
 
 then-has : (front text : List ℕ) → has_local text ≡ true → has_local (front ++ text) ≡ true
 then-has [] text e = e
-then-has (b ∷ front) text e = or-right (begins_with_local (b ∷ (front ++ text))) (then-has front text e)
-  where
-    or-right : (s : Bool) {t : Bool} → t ≡ true → (s || t) ≡ true
-    or-right true e = refl
-    or-right false e = e
+then-has (b ∷ front) text e = right-or (begins_with_local (b ∷ (front ++ text))) (has_local (front ++ text)) (then-has front text e)
 
 pub stands-has : (value text : List ℕ) → Stands value text → is_local_form text ≡ true → has_local value ≡ true
 stands-has value text s e = ap has_local s.2 ∙ then-has s.0 (text ++ s.1) (now-has (text ++ s.1) (local-begins text s.1 e s.3))
@@ -141,10 +138,6 @@ second-in text =
     let n = position_or_len (λ b. b == 47) text + 1 in
     (take n text, [], sym (take-append-drop n text) ∙ ap (λ t. take n text ++ t) (sym (append-nil (drop n text))), refl)
 
-pub or-cases : (s t : Bool) → (s || t) ≡ true → (s ≡ true) ⊎ (t ≡ true)
-or-cases true t e = inl refl
-or-cases false t e = inr e
-
 -- A VALUE of an RDATE or an EXDATE.
 rdate-has : (zone : Option (List ℕ)) (zoned : Bool) (text : List ℕ) → has_zoned (rdate_in zone (rdate_of zoned text)) ≡ true →
     (part : List ℕ) × Stands text part × (is_local_form part ≡ true)
@@ -163,7 +156,7 @@ rdate-has zone zoned text e = by_slash (has_slash text) e
     by_end true is e = start (rw is at e)
     by_end false is e =
         ⊎_elim start stop
-        (or-cases (is_zoned (stamp_in (date_time_of zoned (first_half text)))) (is_zoned (stamp_in (date_time_of zoned (second_half text)))) (rw is at e))
+        (either-of (is_zoned (stamp_in (date_time_of zoned (first_half text)))) (is_zoned (stamp_in (date_time_of zoned (second_half text)))) (rw is at e))
 
     by_slash : (t : Bool) → has_zoned (rdate_in zone (cond t (period_of zoned (first_half text) (second_half text)) (At (stamp_of zoned text)))) ≡ true → Found
     by_slash true e = by_end (lasts (second_half text)) refl e
@@ -211,7 +204,7 @@ any-piece list zone zoned [] e = let no : false ≡ true = e in cc
 any-piece list zone zoned (piece ∷ ps) e =
     ⊎_elim (λ h. (piece, here piece ps, h))
     (λ h. let more = any-piece list zone zoned ps h in (more.0, there piece ps more.0 more.1, more.2))
-    (or-cases (has_zoned (rdate_in zone (value_of list zoned piece))) (list_any has_zoned (map (rdate_in zone) (map (value_of list zoned) ps))) e)
+    (either-of (has_zoned (rdate_in zone (value_of list zoned piece))) (list_any has_zoned (map (rdate_in zone) (map (value_of list zoned) ps))) e)
 
 -- THE VALUES of a line that lists dates.
 pub list-has : (list : Listing) (zone : Option (List ℕ)) (zoned : Bool) (value : List ℕ) →

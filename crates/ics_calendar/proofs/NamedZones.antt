@@ -27,7 +27,8 @@ use Rattle.ics_components.specs.declared.frame.Frame.{Frame}
 use Rattle.ics_fields.specs.Locals.{local_seconds}
 use Rattle.ics_values.specs.declared.time.Time.{Time}
 use Rattle.ics_components.specs.Values.{is_out, stamp_in, stamp_read, time_of, zone_name}
-use Rattle.ics_calendar.proofs.LocalForms.{list-has, or-cases, stamp-has}
+use Rattle.ics_components.proofs.RestFaults.{either-of}
+use Rattle.ics_calendar.proofs.LocalForms.{list-has, stamp-has}
 
 -- WITHOUT A TZID no stamp is in a time zone.
 unzoned-said : (text : List ℕ) → is_zoned (stamp_said false text) ≡ true → ⊥
@@ -60,7 +61,7 @@ unzoned-rdate zone text e = by_slash (has_slash text) e
     by_end true is e = unzoned-half (first_half text) (rw is at e)
     by_end false is e =
         ⊎_elim (unzoned-half (first_half text)) (unzoned-half (second_half text))
-        (or-cases (is_zoned (stamp_in (date_time_of false (first_half text)))) (is_zoned (stamp_in (date_time_of false (second_half text)))) (rw is at e))
+        (either-of (is_zoned (stamp_in (date_time_of false (first_half text)))) (is_zoned (stamp_in (date_time_of false (second_half text)))) (rw is at e))
 
     by_slash : (t : Bool) → has_zoned (rdate_in zone (cond t (period_of false (first_half text) (second_half text)) (At (stamp_of false text)))) ≡ true → ⊥
     by_slash true e = by_end (lasts (second_half text)) refl e
@@ -75,7 +76,7 @@ unzoned-list : (list : Listing) (zone : Option (List ℕ)) (ps : List (List ℕ)
 unzoned-list list zone [] e = let no : false ≡ true = e in cc
 unzoned-list list zone (piece ∷ ps) e =
     ⊎_elim (unzoned-value list zone piece) (unzoned-list list zone ps)
-    (or-cases (has_zoned (rdate_in zone (value_of list false piece))) (list_any has_zoned (map (rdate_in zone) (map (value_of list false) ps))) e)
+    (either-of (has_zoned (rdate_in zone (value_of list false piece))) (list_any has_zoned (map (rdate_in zone) (map (value_of list false) ps))) e)
 
 -- A LINE NAMES a time zone in a calendar.
 abbrev pub IsNamedOn : ℕ → Parts → ZoneName → Type 0

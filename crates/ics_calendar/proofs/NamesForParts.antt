@@ -3,7 +3,7 @@ use Rattle.std.proofs.Common.{◌≡◌, inl, inr, ℕ, Bool, true, false, ◌&&
 use Rattle.std.proofs.Common.{Option, Some, None, Result, Ok, Err}
 use Rattle.std.specs.Prelude.{is_none, is_ok}
 use Rattle.std.specs.List.{All, Contains, flat_map, list_all, list_any}
-use Rattle.std.proofs.lemmas.Bool.{eq-eqb}
+use Rattle.std.proofs.lemmas.Bool.{eq-eqb, not-true}
 use Rattle.std.proofs.lemmas.List.Elements.{All-contains}
 use Rattle.ics_text.specs.Unfolded.{begins_with_fold, unfolded}
 use Rattle.ics_text.proofs.Rising.{unfolded-rises}
@@ -30,12 +30,11 @@ use Rattle.ics_calendar.proofs.FaultlessLines.{IsFaultless, uids-stay, zone-titl
 use Rattle.ics_calendar.proofs.FileLaws.{only-wanted}
 use Rattle.ics_calendar.proofs.FilesGiven.{with-agreed}
 use Rattle.ics_calendar.proofs.OneEach.{part-within}
-use Rattle.ics_calendar.proofs.OneUid.{all-by, was-flattened, was-kept, was-mapped}
+use Rattle.ics_calendar.proofs.OneUid.{all-by, contains-in, in-contains, was-flattened, was-kept, was-mapped, was-once}
 use Rattle.ics_calendar.proofs.PartFirst.{IsPart, all_lines}
 use Rattle.ics_calendar.proofs.Partly.{wants-whole}
 use Rattle.ics_calendar.proofs.PartLaws.{flattened, here, kept, once, there}
-use Rattle.ics_calendar.proofs.PartNumbers.{was-once}
-use Rattle.ics_calendar.proofs.UnknownInParts.{IsChosen, IsWider, contains-in, event-begun, in-contains, inner-within, part-wider, still-unknown}
+use Rattle.ics_calendar.proofs.UnknownInParts.{IsChosen, IsWider, event-begun, inner-within, part-wider, still-unknown}
 
 -- LISTS by functions that agree on their elements.
 module _ {X Y : Type 0} (f g : X → Y) where
@@ -84,7 +83,7 @@ rest-alike files others ls are = says-alike files others (rest_of ls) (λ none n
         let x : Placed = was.0 in
         let unknown = was-kept (is_in_unknown_zone (zones_on (rest_of ls))) (rest_of ls) x was.1 in
         let zoned = two-of (is_in_zone x) (not (has_zone (zones_on (rest_of ls)) x)) unknown.0 in
-        let left = in-filter (λ line. not (list_any (λ event. is_of event line) (all_events ls))) ls x (contains-in x (rest_of ls) unknown.1) in
+        let left = in-filter (λ line. not (list_any (λ event. is_of event line) (all_events ls))) ls x (contains-in (rest_of ls) x unknown.1) in
         let b = event-begun ls are.in_place x left.0 (two-of (in_event x) _ zoned.0).0 in
         let event : is_event b.event ≡ true = b.is in
         let within =
@@ -103,17 +102,17 @@ module _ (ls : List Placed) (are : AreParted ls) where
   IsOfPart parts e = (part : Part) × Contains parts part × Contains part e
 
   in-joined : (parts : List Part) (e : Placed) → IsIn e (joined parts) → IsOfPart parts e
-  in-joined parts e i = was-flattened (λ part. part) parts e (in-contains e (joined parts) i)
+  in-joined parts e i = was-flattened (λ part. part) parts e (in-contains (joined parts) e i)
 
   joined-in : (parts : List Part) (part : Part) (e : Placed) → Contains parts part → Contains part e → IsIn e (joined parts)
-  joined-in parts part e c k = contains-in e (joined parts) (flattened (λ part. part) parts part e c k)
+  joined-in parts part e c k = contains-in (joined parts) e (flattened (λ part. part) parts part e c k)
 
   is-part : (some : Part) → ((e : Placed) → IsIn e some → IsOfPart (parts_of ls) e) → IsPart ls some
   is-part [] each = tt
   is-part (e ∷ es) each =
       let p = each e (inl refl) in
       let event = was-kept is_event ls e (part-within ls p.0 e p.1 p.2) in
-      ((contains-in e ls event.1, event.0), is-part es (λ k i. each k (inr i)))
+      ((contains-in ls e event.1, event.0), is-part es (λ k i. each k (inr i)))
 
   -- all sound parts as one
   abbrev sound : Part
@@ -155,7 +154,7 @@ module _ (ls : List Placed) (are : AreParted ls) where
     part-alike : (part : Part) → Contains (parts_of ls) part → lines_say files (lines_of ls part) ≡ lines_say others (lines_of ls part)
     part-alike part c =
         says-alike files others (lines_of ls part)
-        (λ none. some-agree part (λ e i. is-sound part c (ap is_none none) e (in-contains e part i)))
+        (λ none. some-agree part (λ e i. is-sound part c (ap is_none none) e (in-contains part e i)))
 
     accepted-alike : accepted_parts files ls ≡ accepted_parts others ls
     accepted-alike =
@@ -224,10 +223,6 @@ module _ (files others : GivenFiles) (name file : List ℕ) where
       (λ n c. All-contains Agrees (each_once names) n (subst (All Agrees) wants all) (once names n c))
 
   -- and where it finds none
-  no-fold : (t : Bool) → not t ≡ true → t ≡ false
-  no-fold true e = cc
-  no-fold false e = refl
-
   three : (a b c : Bool) → ((a && b) && c) ≡ true → a ≡ true
   three a b c e = grind (arith, e)
 
@@ -252,7 +247,7 @@ module _ (files others : GivenFiles) (name file : List ℕ) where
       are = subst AreParted stay (are_parted name file (parted p).1)
 
       wants : wanted_names file ≡ each_once (unknown_names (placed file))
-      wants = rw (no-fold (begins_with_fold file) (parted p).0, e) refl
+      wants = rw (not-true (begins_with_fold file) (parted p).0, e) refl
 
       agree : Agree files others (unknown_names (lines_of_all (placed file) (sound_parts (placed file))))
       agree n c =

@@ -1,6 +1,6 @@
 -- The numbers of parts: an event without a UID has one of its own, and each fault at a number is that of a part.
 use Rattle.std.proofs.Common.{◌≡◌, ◌≢◌, ◌⊎◌, inl, inr, ℕ, ◌<◌, Bool, true, false, ◌==◌, List, [], ◌∷◌, ◌++◌, length, get_or, map, refl, sym, ap, ◌∙◌}
-use Rattle.std.proofs.Common.{arith, Option, Some, None, cond, zero, suc, subst, ⊎_elim}
+use Rattle.std.proofs.Common.{arith, Option, Some, None, cond, zero, suc}
 use Rattle.std.proofs.Math.Seq.{get_or-append_seam}
 use Rattle.std.specs.Prelude.{unwrap_or}
 use Rattle.std.specs.List.{Contains, fold}
@@ -12,7 +12,7 @@ use Rattle.ics_components.specs.PartFaults.{earlier}
 use Rattle.ics_components.specs.Parted.{PartedComponentSeen}
 use Rattle.ics_calendar.specs.PartsRead.{Labelled, Numbered, is_key, keys_of, labelled, least_at, nothing_labelled, number_of, place_from, with_event, with_key}
 use Rattle.ics_calendar.proofs.Numbers.{Are_long, Keys, is-itself, key-at, keys-long, longer, still-long, there-now}
-use Rattle.ics_calendar.proofs.PartLaws.{at-cons, here, no-element, there}
+use Rattle.ics_calendar.proofs.PartLaws.{here, there}
 use Rattle.ics_calendar.proofs.Shared.{place-more}
 
 padded : (faults : List (Option Fault)) (n : ℕ) → get_or (faults ++ None ∷ []) n None ≡ get_or faults n None
@@ -134,29 +134,6 @@ module _ (needed : PartedComponentSeen → Option Fault) where
   events-alone x (event ∷ events) had n is =
       events-alone x events (with_event needed had event) n
       (keys-alone x (needed event) (keys_of event.uids) (record had.numbered { part = 0 }) n (record { within = is.within; key = is.key; first = is.first }))
-
-  alone-in : (events : List PartedComponentSeen) (had : Labelled) (event : PartedComponentSeen) → Are_long had.numbered → Contains events event →
-      event.uids ≡ [] → (n : ℕ) × IsAlone (needed event) (fold (with_event needed) had events).numbered n
-  alone-in [] had event long k e = absurd (no-element event k)
-  alone-in (other ∷ events) had event long k e =
-      ⊎_elim (λ (same : other ≡ event). by_first same)
-      (λ l. alone-in events (with_event needed had other) event
-      (keys-long (needed other) (keys_of other.uids) (record had.numbered { part = 0 }) long) l e) (at-cons other events event k)
-    where
-      by_first : other ≡ event → (n : ℕ) × IsAlone (needed event) (fold (with_event needed) (with_event needed had other) events).numbered n
-      by_first same =
-          let start : Numbered = record had.numbered { part = 0 } in
-          let now : IsAlone (needed event) (fold (with_key (needed event)) start (keys_of event.uids)) (length had.numbered.keys) =
-          subst (λ uids. IsAlone (needed event) (fold (with_key (needed event)) start (keys_of uids)) (length had.numbered.keys)) (sym e)
-          (now-alone (needed event) start long) in (
-            length had.numbered.keys,
-            events-alone (needed event) events (with_event needed had other) (length had.numbered.keys)
-                (subst (λ o. IsAlone (needed event) (fold (with_key (needed o)) start (keys_of o.uids)) (length had.numbered.keys)) (sym same) now),
-          )
-
-  pub alone-first : (events : List PartedComponentSeen) (event : PartedComponentSeen) → Contains events event → event.uids ≡ [] →
-      (n : ℕ) × IsAlone (needed event) (labelled needed events).numbered n
-  alone-first events event k e = alone-in events nothing_labelled event refl k e
 
   abbrev pub IsLone : List PartedComponentSeen → Fault → Type 0
   IsLone events fault = (event : PartedComponentSeen) × Contains events event × (event.uids ≡ []) × (needed event ≡ Some fault)

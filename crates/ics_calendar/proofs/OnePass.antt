@@ -1,8 +1,9 @@
 -- What one pass over a file that has parts says of the whole: its first fault, or what it is before zone files are given.
-use Rattle.std.proofs.Common.{◌≡◌, inr, ℕ, Bool, true, false, ◌&&◌, List, [], ◌∷◌, refl, sym, ap, ◌∙◌, arith, subst, Some, None}
+use Rattle.std.proofs.Common.{◌≡◌, inr, ℕ, true, false, ◌&&◌, List, [], ◌∷◌, refl, sym, ap, ◌∙◌, arith, subst, Some, None}
 use Rattle.std.specs.Prelude.{not}
 use Rattle.std.specs.List.{All, flat_map, list_all}
 use Rattle.std.proofs.lemmas.List.Elements.{All-append, All-head, All-nil, All-tail}
+use Rattle.std.proofs.lemmas.Bool.{not-true}
 use Rattle.ics_text.specs.Unfolded.{begins_with_fold, unfolded}
 use Rattle.ics_text.proofs.Rising.{unfolded-rises}
 use Rattle.ics_components.specs.declared.fault.Fault.{Fault}
@@ -28,10 +29,6 @@ use Rattle.ics_calendar.proofs.LinesSettle.{lines_settle}
 use Rattle.ics_calendar.proofs.PartsAre.{is-parted}
 use Rattle.ics_calendar.proofs.PartsGiven.{gathered-sound}
 use Rattle.ics_calendar.proofs.Shared.{event-sound, zones-sound}
-
-not-true : (t : Bool) → not t ≡ true → t ≡ false
-not-true true e = cc
-not-true false e = refl
 
 in-places : (bytes : List ℕ) → AreInPlace 0 [] (placed bytes)
 in-places bytes = in_place None (unfolded bytes) 0 [] (unfolded-rises bytes) tt (omega arith)

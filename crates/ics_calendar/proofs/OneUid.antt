@@ -1,19 +1,18 @@
 -- The events of one UID are given all or not at all: an event of an accepted part has one UID.
-use Rattle.std.proofs.Common.{◌≡◌, ◌⊎◌, inl, inr, ℕ, ◌<◌, Bool, true, false, ◌&&◌, ◌||◌, ◌==◌, List, [], ◌∷◌, ◌++◌, drop, map, filter, refl, sym, ap, ◌∙◌}
+use Rattle.std.proofs.Common.{◌≡◌, ◌⊎◌, inl, inr, ℕ, Bool, true, false, ◌&&◌, ◌||◌, ◌==◌, List, [], ◌∷◌, ◌++◌, map, filter, refl, sym, ap, ◌∙◌}
 use Rattle.std.proofs.Common.{arith}
 use Rattle.std.proofs.Common.{append_assoc, cond, subst, ⊎_elim, None, Some, Option}
 use Rattle.std.specs.Prelude.{codes, find, is_ok, not}
 use Rattle.std.specs.List.{All, Contains, flat_map, list_all, list_any}
 use Rattle.std.specs.Str.{bytes_eq}
 use Rattle.std.specs.Cmp.Lexicographic.{bytes_decides}
-use Rattle.std.proofs.lemmas.Bool.{and_parts, cond_both}
+use Rattle.std.proofs.lemmas.Bool.{and_parts}
 use Rattle.std.proofs.lemmas.Bool.Decides.{nat_tests}
 use Rattle.std.proofs.lemmas.List.{append-nil}
-use Rattle.std.proofs.lemmas.List.Elements.{All-cons, All-contains, All-head, All-nil, All-tail, Contains-append_cases, Contains-append_right, filter-append}
+use Rattle.std.proofs.lemmas.List.Elements.{All-cons, All-head, All-nil, All-tail, Contains-append_cases, filter-append}
 use Rattle.ics_text.specs.Bytes.{is_empty}
 use Rattle.ics_values.specs.Plain.{text_of}
-use Rattle.ics_text.specs.Unfolded.{Line, Rises, unfolded}
-use Rattle.ics_text.specs.ContentLines.{content_of}
+use Rattle.ics_text.specs.Unfolded.{unfolded}
 use Rattle.ics_text.proofs.Rising.{unfolded-rises}
 use Rattle.ics_components.specs.Components.{is_event_context}
 use Rattle.ics_components.specs.declared.fault.Fault.{Fault}
@@ -21,17 +20,21 @@ use Rattle.ics_components.specs.declared.fault.FaultKind.{FaultKind}
 use Rattle.ics_components.specs.declared.fault.FaultKind.TheVariants.{NotCalendar, Repeated}
 use Rattle.ics_components.specs.declared.name.Name.{Name}
 use Rattle.ics_components.specs.declared.name.Name.TheVariants as name
-use Rattle.ics_components.specs.EventLines.{all_events, has_no_uid, has_uid, is_event, is_none_of, texts_in, uid_line, uids_of, with_uid, with_uids}
+use Rattle.ics_components.specs.EventLines.{all_events, has_no_uid, has_uid, is_event, is_none_of, texts_in, uids_of, with_uids}
 use Rattle.ics_components.specs.Faults.{kinds, stands}
 use Rattle.ics_components.specs.FirstFault.{NoneStand, fault_at_end, first_fault, least_on, no_open}
 use Rattle.ics_components.specs.Names.{same_name}
 use Rattle.ics_components.specs.PartFaults.{is_within}
-use Rattle.ics_components.specs.PlacedLines.{Open, Placed, all_named, beside, component, context_of, ends_event, has, in_calendar, in_event, innermost}
-use Rattle.ics_components.specs.PlacedLines.{is_begin, is_end, is_named, lines_in, name_on, path_behind, placed, placed_from, value}
+use Rattle.ics_components.specs.Parted.{AreInPlace, lines_with}
+use Rattle.ics_components.specs.PlacedLines.{Open, Placed, all_named, beside, component, context_of, has, in_calendar, innermost}
+use Rattle.ics_components.specs.PlacedLines.{is_begin, is_named, lines_in, name_on, placed, value}
+use Rattle.ics_components.proofs.ItemFaults.{IsIn}
+use Rattle.ics_components.proofs.Opened.{AllOpened, above, one-begin, opened}
+use Rattle.ics_components.proofs.Placing.{in_place}
 use Rattle.ics_components.proofs.Firsts.{finds-none}
-use Rattle.ics_components.proofs.Frames.{with}
 use Rattle.ics_components.proofs.NameLemmas.{context-tests}
 use Rattle.ics_components.proofs.Order.{inside}
+use Rattle.ics_components.proofs.RestFaults.{right-or}
 use Rattle.ics_event.specs.Event.{FileSaid}
 use Rattle.ics_calendar.specs.Files.{decide, later_fault, lines_say, said_of}
 use Rattle.ics_calendar.specs.GivenFiles.{GivenFiles}
@@ -110,110 +113,73 @@ module _ {X Y : Type 0} where
   one-mapped f (x ∷ []) h = tt
   one-mapped f (x ∷ y ∷ ys) h = absurd h
 
--- THE PATH of a line: what is open before it has begun on lines of the file.
-abbrev Justified : List Placed → List Open → Type 0
-Justified whole [] = Unit {0}
-Justified whole (c ∷ cs) = ((b : Placed) × Contains whole b × (is_begin b ≡ true) × ((c ∷ cs) ≡ inside b)) × Justified whole cs
+pub none-has : (us : List (List ℕ)) (uid : List ℕ) → is_none_of us ≡ true → list_any (bytes_eq uid) us ≡ true → ⊥
+none-has [] uid e f = cc
+none-has (x ∷ xs) uid e f = cc
 
-justified-behind : (whole : List Placed) (l : Placed) → Contains whole l → Justified whole l.path → Justified whole (path_behind l)
-justified-behind whole l k j =
-    cond_both (is_begin l) (inside l) (cond (is_end l) (drop 1 l.path) l.path) (Justified whole) (λ t. ((l, k, t, refl), j))
-    (λ t. cond_both (is_end l) (drop 1 l.path) l.path (Justified whole) (λ t. out l.path j) (λ t. j))
+pub was-once : (names : List (List ℕ)) (name : List ℕ) → Contains (each_once names) name → Contains names name
+was-once [] name k = k
+was-once (n ∷ ns) name k = by_case (was-once ns name) (at-cons n (filter (λ other. not (bytes_eq other n)) (each_once ns)) name k)
   where
-    out : (path : List Open) → Justified whole path → Justified whole (drop 1 path)
-    out [] j = tt
-    out (c ∷ cs) j = j.1
+    by_case : (Contains (each_once ns) name → Contains ns name) →
+        (n ≡ name) ⊎ Contains (filter (λ other. not (bytes_eq other n)) (each_once ns)) name → Contains (n ∷ ns) name
+    by_case again (inl e) = subst (λ m. Contains (m ∷ ns) name) (sym e) (here name ns)
+    by_case again (inr h) = there n ns name (again (was-kept (λ other. not (bytes_eq other n)) (each_once ns) name h).1)
 
-justified : (whole before : List Placed) (path : List Open) (lines : List Line) → whole ≡ before ++ placed_from path lines → Justified whole path →
-    All (λ l. Justified whole l.path) (placed_from path lines)
-justified whole before path [] e j = All-nil (λ (l : Placed). Justified whole l.path)
-justified whole before path (line ∷ lines) e j =
-    let l : Placed = with line path (content_of line.bytes) in
-    let rest : List Placed = placed_from (path_behind l) lines in
-    let is : Contains whole l = subst (λ w. Contains w l) (sym e) (Contains-append_right before (l ∷ rest) l (here l rest)) in
-    All-cons (λ (l : Placed). Justified whole l.path) l rest j
-    (justified whole (before ++ l ∷ []) (path_behind l) lines (e ∙ sym (append_assoc before (l ∷ []) rest)) (justified-behind whole l is j))
-
--- numbers rise, so that each is that of one line
-above : (n : ℕ) (path : List Open) (lines : List Line) → Rises n lines → (l : Placed) → Contains (placed_from path lines) l → n < l.number
-above n path [] r l k = absurd (no-element l k)
-above n path (line ∷ lines) r l k =
-    let head : Placed = with line path (content_of line.bytes) in
-    ⊎_elim (λ (e : head ≡ l). subst (λ (m : Placed). n < m.number) e r.0)
-    (λ h. let more = above line.number (path_behind head) lines r.1 l h in omega (arith, r.0, more))
-    (at-cons head (placed_from (path_behind head) lines) l k)
-
-one-line : (n : ℕ) (path : List Open) (lines : List Line) → Rises n lines → (a b : Placed) → Contains (placed_from path lines) a →
-    Contains (placed_from path lines) b → a.number ≡ b.number → a ≡ b
-one-line n path [] r a b k h e = absurd (no-element a k)
-one-line n path (line ∷ lines) r a b k h e =
-    by_cases (λ f g. one-line line.number (path_behind head) lines r.1 a b f g e) (at-cons head rest a k) (at-cons head rest b h)
+-- A PART is the events of a UID, or an event without one: what holds of these holds of each part.
+pub each-part : (lines : List Placed) (P : Part → Type 0) →
+    ((uid : List ℕ) → Contains (flat_map (uids_of lines) (all_events lines)) uid → P (filter (has_uid lines uid) (all_events lines))) →
+    ((event : Placed) → Contains (all_events lines) event → has_no_uid lines event ≡ true → P (event ∷ [])) →
+    (part : Part) → Contains (parts_of lines) part → P part
+each-part lines P by-uid by-lone part k =
+    ⊎_elim
+    (λ m. let was = was-mapped of_uid (each_once uids) part m in subst P was.2 (by-uid was.0 (was-once uids was.0 was.1)))
+    (λ m. let was = was-mapped (λ event. event ∷ []) lone part m in
+    let event = was-kept (has_no_uid lines) (all_events lines) was.0 was.1 in
+    subst P was.2 (by-lone was.0 event.1 event.0))
+    (Contains-append_cases (map of_uid (each_once uids)) (map (λ event. event ∷ []) lone) part k)
   where
-    head : Placed
-    head = with line path (content_of line.bytes)
+    of_uid : List ℕ → Part
+    of_uid uid = filter (has_uid lines uid) (all_events lines)
 
-    rest : List Placed
-    rest = placed_from (path_behind head) lines
+    uids : List (List ℕ)
+    uids = flat_map (uids_of lines) (all_events lines)
 
-    later : (l m : Placed) → head ≡ l → Contains rest m → l.number ≡ m.number → ⊥
-    later l m is k e =
-        let more = above line.number (path_behind head) lines r.1 m k in
-        let same : line.number ≡ l.number = ap (λ (p : Placed). p.number) is in omega (arith, more, same, e)
+    lone : List Placed
+    lone = filter (has_no_uid lines) (all_events lines)
 
-    by_cases : (Contains rest a → Contains rest b → a ≡ b) → (head ≡ a) ⊎ Contains rest a → (head ≡ b) ⊎ Contains rest b → a ≡ b
-    by_cases again (inl f) (inl g) = sym f ∙ g
-    by_cases again (inl f) (inr g) = absurd (later a b f g e)
-    by_cases again (inr f) (inl g) = absurd (later b a g f (sym e))
-    by_cases again (inr f) (inr g) = again f g
+-- A LINE stands in a list, in both words for it.
+pub contains-in : (ks : List Placed) (k : Placed) → Contains ks k → IsIn k ks
+contains-in [] k h = no-element k h
+contains-in (m ∷ ms) k h = ⊎_elim (λ e. inl e) (λ l. inr (contains-in ms k l)) (at-cons m ms k h)
 
--- a UID that is made begins nothing
-no-begin : (name : List ℕ) (end : Placed) → is_begin (uid_line name end) ≡ true → ⊥
-unfolding name_on
-no-begin name end e = cc
+pub in-contains : (ks : List Placed) (k : Placed) → IsIn k ks → Contains ks k
+in-contains [] k i = absurd i
+in-contains (m ∷ ms) k i =
+    ⊎_elim (λ (e : m ≡ k). subst (λ (x : Placed). Contains (x ∷ ms) k) (sym e) (here k ms)) (λ j. there m ms k (in-contains ms k j)) i
 
-module _ (file : List ℕ) where
-  numbered : (l : Placed) → Contains (placed file) l → 0 < l.number
-  numbered l k = above 0 [] (unfolded file) (unfolded-rises file) l k
+-- THE LINES of a file are in their places, also where UIDs are made.
+in-places : (title file : List ℕ) → AreInPlace 0 [] (with_uids title (placed file))
+in-places title file = by_test (list_all (has_no_uid (placed file)) (all_events (placed file)))
+  where
+    by_test : (t : Bool) → AreInPlace 0 [] (cond t (lines_with (Some title) (placed file)) (placed file))
+    by_test true = in_place (Some title) (unfolded file) 0 [] (unfolded-rises file) tt (omega arith)
+    by_test false = in_place None (unfolded file) 0 [] (unfolded-rises file) tt (omega arith)
 
-  path-is : (l begin : Placed) → Contains (placed file) l → Contains (placed file) begin → innermost l.path ≡ begin.number → l.path ≡ inside begin
-  path-is l begin k h e =
-      by_path l.path refl
-      (All-contains (λ (l : Placed). Justified (placed file) l.path) (placed file) l (justified (placed file) [] [] (unfolded file) refl tt) k)
-    where
-      by_path : (path : List Open) → l.path ≡ path → Justified (placed file) path → l.path ≡ inside begin
-      by_path [] is j = let zero : 0 ≡ begin.number = ap innermost (sym is) ∙ e in let some = numbered begin h in absurd (omega (arith, zero, some))
-      by_path (c ∷ cs) is j =
-          let b : Placed = j.0.0 in
-          let number : b.number ≡ begin.number = ap innermost (sym (is ∙ j.0.3)) ∙ e in
-          is ∙ j.0.3 ∙ ap inside (one-line 0 [] (unfolded file) (unfolded-rises file) b begin j.0.1 h number)
-
-  -- also where UIDs are made: each line is one of the file, or stands where an END of it stands
-  abbrev Stems : Placed → Type 0
-  Stems l = (m : Placed) × Contains (placed file) m × (l.path ≡ m.path) × (is_begin l ≡ true → l ≡ m)
-
-  stems : (title : List ℕ) (l : Placed) → Contains (with_uids title (placed file)) l → Stems l
-  stems title l k = by_test (list_all (has_no_uid (placed file)) (all_events (placed file))) k
-    where
-      itself : (m : Placed) → Contains (placed file) m → m ≡ l → Stems l
-      itself m k e = (m, k, ap (λ (p : Placed). p.path) (sym e), λ b. sym e)
-
-      made : (m : Placed) → Contains (placed file) m → uid_line title m ≡ l → Stems l
-      made m k e = (
-        m,
-        k,
-        ap (λ (p : Placed). p.path) (sym e),
-        λ b. let never : is_begin (uid_line title m) ≡ true = ap is_begin e ∙ b in absurd (no-begin title m never),
-      )
-
-      one : (m : Placed) (s t : Bool) → Contains (placed file) m → Contains (cond s [] (cond t (uid_line title m ∷ m ∷ []) (m ∷ []))) l → Stems l
-      one m true t k h = absurd (no-element l h)
-      one m false true k h = ⊎_elim (made m k) (λ g. itself m k (is-here m l g)) (at-cons (uid_line title m) (m ∷ []) l h)
-      one m false false k h = itself m k (is-here m l h)
-
-      by_test : (t : Bool) → Contains (cond t (flat_map (with_uid title) (placed file)) (placed file)) l → Stems l
-      by_test true h =
-          let was = was-flattened (with_uid title) (placed file) l h in one was.0 (in_event was.0 && is_named name.Uid was.0) (ends_event was.0) was.1 was.2
-      by_test false h = itself l h refl
+-- a line that stands directly in a component
+path-is : (ls : List Placed) → AreInPlace 0 [] ls → (l begin : Placed) → Contains ls l → Contains ls begin → is_begin begin ≡ true →
+    innermost l.path ≡ begin.number → l.path ≡ inside begin
+path-is ls h l begin k m b e = by_path l.path refl (opened ls h l (contains-in ls l k))
+  where
+    by_path : (path : List Open) → l.path ≡ path → AllOpened ls path → l.path ≡ inside begin
+    by_path [] is all =
+        let zero : 0 ≡ begin.number = ap innermost (sym is) ∙ e in
+        let some = (above ls 0 [] h begin (contains-in ls begin m)).2 b in
+        absurd (omega (arith, zero, some))
+    by_path (c ∷ cs) is all =
+        let o = all.0 in
+        let same : o.begin ≡ begin = one-begin ls 0 [] h begin o.begin (contains-in ls begin m) o.among b (o.number ∙ ap innermost (sym is) ∙ e) in
+        is ∙ (λ i. record { name = sym o.called i; begun = sym o.number i } ∷ sym o.path i) ∙ ap inside same
 
 -- ONE UID: of lines without a fault two cannot say the UID of one event.
 repeated-not : (p : FaultKind → Bool) → find p kinds ≡ None → p Repeated ≡ false
@@ -305,8 +271,8 @@ module _ (files : GivenFiles) (title file : List ℕ) where
     named : bytes_eq (component event) (codes "VEVENT") ≡ true
     named = (and_parts (is_begin event) (bytes_eq (component event) (codes "VEVENT")) (and_parts (in_calendar event || no_open event.path) _ is.0).1).1
 
-    placed-event : Contains (placed file) event
-    placed-event = let stem = stems file title event is.1 in subst (Contains (placed file)) (sym (stem.3 begin)) stem.1
+    places : AreInPlace 0 [] lines
+    places = in-places title file
 
     in-own : (l : Placed) → is_of event l ≡ true → is_in_part lines l part ≡ true
     in-own l e = any-of (λ event. needs lines event l) part event within
@@ -320,18 +286,14 @@ module _ (files : GivenFiles) (title file : List ℕ) where
 
     within-path : (path : List Open) → (innermost path == event.number) ≡ true → list_any (λ c. c.begun == event.number) path ≡ true
     within-path [] e =
-        let some = numbered file event placed-event in
+        let some = (above lines 0 [] places event (contains-in lines event is.1)).2 begin in
         absurd (let zero : 0 ≡ event.number = grind (arith, nat_tests, e) in omega (arith, zero, some))
     within-path (c ∷ cs) e = ap (λ t. t || list_any (λ c. c.begun == event.number) cs) e
 
     same-lines : lines_in event.number own ≡ lines_in event.number lines
     same-lines =
         kept-inside (λ l. is_in_part lines l part) (λ l. innermost l.path == event.number)
-        (λ l e. in-own l (or-right (l.number == event.number) (within-path l.path e))) lines
-      where
-        or-right : (s : Bool) {t : Bool} → t ≡ true → (s || t) ≡ true
-        or-right true e = refl
-        or-right false e = e
+        (λ l e. in-own l (right-or (l.number == event.number) (is_within event.number l) (within-path l.path e))) lines
 
     calendar : in_calendar event ≡ true
     calendar = by_test (in_calendar event) refl (event.path) refl (and_parts (in_calendar event || no_open event.path) _ is.0).0
@@ -349,8 +311,7 @@ module _ (files : GivenFiles) (title file : List ℕ) where
 
     event-at : (l : Placed) → Contains own l → EventAt event.number l
     event-at l k e =
-        let stem = stems file title l (was-kept (λ l. is_in_part lines l part) lines l k).1 in
-        let path : l.path ≡ inside event = stem.2 ∙ path-is file stem.0 event stem.1 placed-event (ap innermost (sym stem.2) ∙ e) in
+        let path = path-is lines places l event (was-kept (λ l. is_in_part lines l part) lines l k).1 is.1 begin e in
         ap (λ p. is_event_context (context_of p)) path ∙ (context-tests (context_of event.path) (component event)).0 ∙ (λ i. calendar i && named i)
 
     pub one : AtMostOne (uids_of lines event)
@@ -370,35 +331,28 @@ module _ (files : GivenFiles) (title file : List ℕ) where
       alone false e = e
   the-uid (x ∷ y ∷ ys) o u v e f = absurd o
 
-  none-has : (us : List (List ℕ)) (uid : List ℕ) → is_none_of us ≡ true → list_any (bytes_eq uid) us ≡ true → ⊥
-  none-has [] uid e f = cc
-  none-has (x ∷ xs) uid e f = cc
-
-  abbrev of_uid : List ℕ → Part
-  of_uid uid = filter (has_uid lines uid) (all_events lines)
-
   pub all-or-none : (uid : List ℕ) (event other : Placed) → Contains (all_events lines) event → Contains (all_events lines) other →
       has_uid lines uid event ≡ true → has_uid lines uid other ≡ true → IsGiven files lines event → IsGiven files lines other
   all-or-none uid event other k l e f given =
       let was = was-kept (λ part. is_ok (lines_say files (lines_of lines part))) (parts_of lines) given.0 given.1 in
-      ⊎_elim (by-uid given.0 was.0 given.2 given.1) (alone given.0 given.2)
-      (Contains-append_cases (map of_uid (each_once (flat_map (uids_of lines) (all_events lines))))
-      (map (λ event. event ∷ []) (filter (has_no_uid lines) (all_events lines))) given.0 was.1)
+      each-part lines
+      (λ part. is_ok (lines_say files (lines_of lines part)) ≡ true → Contains part event → Contains (accepted_parts files lines) part →
+      IsGiven files lines other)
+      by-uid alone given.0 was.1 was.0 given.2 given.1
     where
-      by-uid : (part : Part) → is_ok (lines_say files (lines_of lines part)) ≡ true → Contains part event → Contains (accepted_parts files lines) part →
-          Contains (map of_uid (each_once (flat_map (uids_of lines) (all_events lines)))) part → IsGiven files lines other
-      by-uid part ok inside accepted h =
-          let m = was-mapped of_uid (each_once (flat_map (uids_of lines) (all_events lines))) part h in
-          let has = (was-kept (has_uid lines m.0) (all_events lines) event (subst (λ p. Contains p event) (sym m.2) inside)).0 in
+      by-uid : (m : List ℕ) → Contains (flat_map (uids_of lines) (all_events lines)) m →
+          let part : Part = filter (has_uid lines m) (all_events lines) in
+          is_ok (lines_say files (lines_of lines part)) ≡ true → Contains part event → Contains (accepted_parts files lines) part → IsGiven files lines other
+      by-uid m u ok inside accepted =
+          let part : Part = filter (has_uid lines m) (all_events lines) in
           let own : List Placed = lines_of lines part in
           let free : first_fault own ≡ None = no-fault files own (first_fault own) (later_fault files own) (said_of files own) ok in
-          let same : m.0 ≡ uid = the-uid (uids_of lines event) (one part event inside k free) m.0 uid has e in
-          (part, accepted, subst (λ p. Contains p other) m.2 (kept (has_uid lines m.0) (all_events lines) other (rw same f) l))
+          let has = (was-kept (has_uid lines m) (all_events lines) event inside).0 in
+          let same : m ≡ uid = the-uid (uids_of lines event) (one part event inside k free) m uid has e in
+          (part, accepted, kept (has_uid lines m) (all_events lines) other (rw same f) l)
 
-      alone : (part : Part) → Contains part event → Contains (map (λ event. event ∷ []) (filter (has_no_uid lines) (all_events lines))) part →
+      alone : (own : Placed) → Contains (all_events lines) own → has_no_uid lines own ≡ true →
+          is_ok (lines_say files (lines_of lines (own ∷ []))) ≡ true → Contains (own ∷ []) event → Contains (accepted_parts files lines) (own ∷ []) →
           IsGiven files lines other
-      alone part inside h =
-          let m = was-mapped (λ event. event ∷ []) (filter (has_no_uid lines) (all_events lines)) part h in
-          let same : m.0 ≡ event = is-here m.0 event (subst (λ p. Contains p event) (sym m.2) inside) in
-          let none = (was-kept (has_no_uid lines) (all_events lines) m.0 m.1).0 in
-          absurd (none-has (uids_of lines event) uid (ap (has_no_uid lines) (sym same) ∙ none) e)
+      alone own i none ok inside accepted =
+          absurd (none-has (uids_of lines event) uid (ap (has_no_uid lines) (sym (is-here own event inside)) ∙ none) e)

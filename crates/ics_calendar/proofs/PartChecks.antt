@@ -37,13 +37,13 @@ use Rattle.ics_calendar.specs.Settled.{all_unknown, first_judged, known_in}
 use Rattle.ics_calendar.specs.Wanted.{each_once, unknown_names}
 use Rattle.ics_calendar.proofs.EventAsks.{IsAsked, IsInstantAsked, event-asks}
 use Rattle.ics_calendar.proofs.EventNames.{event-names}
-use Rattle.ics_calendar.proofs.OneUid.{all-by, was-flattened, was-mapped}
+use Rattle.ics_calendar.proofs.OneUid.{all-by, contains-in, in-contains, was-flattened, was-mapped}
 use Rattle.ics_calendar.proofs.PartEach.{of-part}
 use Rattle.ics_calendar.proofs.PartFirst.{IsPart, is_event_of, is_zone_for, part_checks, part_says, part_zones}
 use Rattle.ics_calendar.proofs.PartLaws.{flattened, mapped, no-element}
-use Rattle.ics_calendar.proofs.PartWords.{IsInstantNamed, IsNamed, names}
+use Rattle.ics_calendar.proofs.PartWords.{names}
 use Rattle.ics_calendar.proofs.PartZones.{part-zones}
-use Rattle.ics_calendar.proofs.PartsChosen.{contains-in, in-contains, same-flat}
+use Rattle.ics_calendar.proofs.PartsChosen.{same-flat}
 use Rattle.ics_calendar.proofs.ZonesKept.{CheckAlike, InstantAlike, IsAlike, zone-kept, zone_named}
 
 pub same-name : (a b : ZoneName) → is_same a b ≡ true → a ≡ b
@@ -62,6 +62,10 @@ same-later (Some f) (Some g) s t e = let same : f ≡ g = cc in ap (λ (x : Faul
 -- what an event or a time zone is read to, among all lines
 pub read-is : (ls : List Placed) (e : Placed) → begins_part e ≡ true → item_read ls e ≡ (component_seen ls e).read
 read-is ls e begins = rw begins refl
+
+pub zones-read : (r : Result ParsedFileSeen Fault) → (parsed_in r).zones ≡ zones_in r
+zones-read (Ok read) = refl
+zones-read (Err fault) = refl
 
 module _ (ls : List Placed) (h : AreInPlace 0 [] ls) (nested : is_well_nested ls ≡ true) (part : Part) (is : IsPart ls part) where
   -- the events of the part, their checks, and the time zones that they name
@@ -84,12 +88,8 @@ module _ (ls : List Placed) (h : AreInPlace 0 [] ls) (nested : is_well_nested ls
   zones-are =
       same-flat (λ z. (parsed_in (item_read ls z)).zones) (λ z. zones_in (component_seen ls z).read) (filter (is_zone_for ls part) (filter begins_zone ls))
       (λ z i. let begins = (in-filter begins_zone ls z (in-filter (is_zone_for ls part) (filter begins_zone ls) z i).0).1 in
-      ap (λ r. (parsed_in r).zones) (read-is ls z (right-or (is_event z) (begins_zone z) begins)) ∙ by_read (component_seen ls z).read)
+      ap (λ r. (parsed_in r).zones) (read-is ls z (right-or (is_event z) (begins_zone z) begins)) ∙ zones-read (component_seen ls z).read)
       ∙ part-zones ls h nested part is
-    where
-      by_read : (r : Result ParsedFileSeen Fault) → (parsed_in r).zones ≡ zones_in r
-      by_read (Ok read) = refl
-      by_read (Err fault) = refl
 
   -- WITHOUT A FAULT of the first round: what the part wants, and its fault of the second.
   module _ (none : first_fault (lines_of ls part) ≡ None) where
@@ -147,23 +147,24 @@ module _ (ls : List Placed) (h : AreInPlace 0 [] ls) (nested : is_well_nested ls
           (mapped (λ (w : LineCheck). w.check) checks was.0
           (flattened checks_on items e was.0 (in-contains items e i) (subst (λ ws. Contains ws was.0) (sym checks-there) was.1)))
 
-      zone-alike : (used : ZoneName) → names ls used e ≡ true → IsWanted used → IsAlike files some_zones all_zones some wanted used
-      zone-alike used n a = let zone = named-zone used e among n in (zone, λ none. same used a none (sym zone ∙ none))
+      zone-alike : (used : ZoneName) → Contains (map (λ w. w.check) read.checks) (check.Zone used) → IsAlike files some_zones all_zones some wanted used
+      zone-alike used k =
+          let zone = named-zone used e among (event-names ls h e there.0 there.1 read is_read used k) in
+          (zone, λ none. same used (asked used k) none (sym zone ∙ none))
 
-      instant-alike : (t : Instant) → IsInstantNamed ls e t → IsInstantAsked read.checks t → InstantAlike files some_zones all_zones some wanted t
-      instant-alike (instant.Utc local) n a = tt
-      instant-alike (instant.Zoned local used) n a = zone-alike used n (asked used a)
+      instant-alike : (t : Instant) → IsInstantAsked read.checks t → InstantAlike files some_zones all_zones some wanted t
+      instant-alike (instant.Utc local) a = tt
+      instant-alike (instant.Zoned local used) a = zone-alike used a
 
-      check-alike : (c : DeferredCheck) → Contains (map (λ w. w.check) read.checks) c → IsNamed ls e c → IsAsked read.checks c → Alike c
-      check-alike check.End k n a = tt
-      check-alike (check.Zone used) k n a = zone-alike used n (asked used k)
-      check-alike (check.Ends start end) k n a = (instant-alike start n.0 a.0, instant-alike end n.1 a.1)
+      check-alike : (c : DeferredCheck) → Contains (map (λ w. w.check) read.checks) c → IsAsked read.checks c → Alike c
+      check-alike check.End k a = tt
+      check-alike (check.Zone used) k a = zone-alike used k
+      check-alike (check.Ends start end) k a = (instant-alike start a.0, instant-alike end a.1)
 
       each-alike : (w : LineCheck) → Contains read.checks w → Alike w.check
       each-alike w k =
           check-alike w.check (mapped (λ (w : LineCheck). w.check) read.checks w k)
-          (All-contains (λ w. IsNamed ls e w.check) read.checks w (event-names ls h nested e there.0 there.1 read is_read) k)
-          (All-contains (λ w. IsAsked read.checks w.check) read.checks w (event-asks ls h nested e there.0 there.1 read is_read) k)
+          (All-contains (λ w. IsAsked read.checks w.check) read.checks w (event-asks ls h e there.0 there.1 read is_read) k)
 
     pub checks-alike : All (λ w. Alike w.check) checks
     checks-alike = all-by (λ (w : LineCheck). Alike w.check) checks each

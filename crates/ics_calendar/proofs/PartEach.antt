@@ -1,47 +1,22 @@
 -- Each part of a file is some of its events, at least one, and those that have the numbers of its events.
-use Rattle.std.proofs.Common.{◌≡◌, ◌⊎◌, inl, inr, ℕ, Bool, true, false, ◌||◌, ◌==◌, List, [], ◌∷◌, map, filter, refl, sym, ap, ◌∙◌, arith, cond, subst}
-use Rattle.std.proofs.Common.{⊎_elim}
+use Rattle.std.proofs.Common.{◌≡◌, ◌⊎◌, inl, inr, ℕ, Bool, true, false, ◌||◌, ◌==◌, List, [], ◌∷◌, filter, refl, sym, ap, ◌∙◌, arith, cond, subst}
 use Rattle.std.specs.List.{Contains, flat_map}
-use Rattle.std.proofs.lemmas.Bool.{eq-eqb, eqb-true}
-use Rattle.std.proofs.lemmas.List.Elements.{Contains-append_cases}
-use Rattle.ics_components.specs.EventLines.{all_events, has_no_uid, has_uid, is_event, uids_of}
+use Rattle.std.proofs.lemmas.Bool.{eq-eqb, eqb-true, ne_eqb}
+use Rattle.ics_components.specs.EventLines.{all_events, has_uid, is_event, uids_of}
 use Rattle.ics_components.specs.Parted.{AreInPlace}
 use Rattle.ics_components.specs.PlacedLines.{Open, Placed, path_behind}
 use Rattle.ics_components.proofs.ItemFaults.{IsIn}
 use Rattle.ics_components.proofs.Opened.{above, any-in, in-any, one-begin}
 use Rattle.ics_components.proofs.RestFaults.{filter-in, in-filter, left-or}
 use Rattle.ics_calendar.specs.Parts.{Part, parts_of}
-use Rattle.ics_calendar.specs.Wanted.{each_once}
-use Rattle.ics_calendar.proofs.OneUid.{was-flattened, was-kept, was-mapped}
-use Rattle.ics_calendar.proofs.PartFirst.{IsPart, is_event_of, part-member}
+use Rattle.ics_calendar.proofs.OneUid.{contains-in, each-part, was-flattened, was-kept}
+use Rattle.ics_calendar.proofs.PartFirst.{IsPart, event-begins, filter-same, is_event_of, part-member}
 use Rattle.ics_calendar.proofs.PartMembers.{uid_part}
-use Rattle.ics_calendar.proofs.PartNumbers.{itself-in, was-once}
-use Rattle.ics_calendar.proofs.PartsChosen.{contains-in, event-begins, same-truth}
-
--- What holds of the events of each UID and of each event alone holds of each part.
-pub each-part : (ls : List Placed) (P : Part → Type 0) →
-    ((uid : List ℕ) → Contains (flat_map (uids_of ls) (all_events ls)) uid → P (filter (has_uid ls uid) (all_events ls))) →
-    ((event : Placed) → IsIn event ls → is_event event ≡ true → P (event ∷ [])) → (part : Part) → Contains (parts_of ls) part → P part
-each-part ls P by-uid by-lone part k =
-    ⊎_elim uid lone (Contains-append_cases (map of_uid (each_once uids)) (map (λ event. event ∷ []) (filter (has_no_uid ls) (all_events ls))) part k)
-  where
-    of_uid : List ℕ → Part
-    of_uid uid = filter (has_uid ls uid) (all_events ls)
-
-    uids : List (List ℕ)
-    uids = flat_map (uids_of ls) (all_events ls)
-
-    uid : Contains (map of_uid (each_once uids)) part → P part
-    uid m = let was = was-mapped of_uid (each_once uids) part m in subst P was.2 (by-uid was.0 (was-once uids was.0 was.1))
-
-    lone : Contains (map (λ event. event ∷ []) (filter (has_no_uid ls) (all_events ls))) part → P part
-    lone m =
-        let was = was-mapped (λ event. event ∷ []) (filter (has_no_uid ls) (all_events ls)) part m in
-        let event = was-kept is_event ls was.0 (was-kept (has_no_uid ls) (all_events ls) was.0 was.1).1 in
-        subst P was.2 (by-lone was.0 (contains-in ls was.0 event.1) event.0)
+use Rattle.ics_calendar.proofs.PartNumbers.{itself-in}
+use Rattle.ics_calendar.proofs.PartsChosen.{same-truth}
 
 pub some-event : (ls : List Placed) (part : Part) → Contains (parts_of ls) part → (event : Placed) × IsIn event part
-some-event ls = each-part ls (λ part. (event : Placed) × IsIn event part) by-uid (λ event i t. (event, inl refl))
+some-event ls = each-part ls (λ part. (event : Placed) × IsIn event part) by-uid (λ event i none. (event, inl refl))
   where
     by-uid : (uid : List ℕ) → Contains (flat_map (uids_of ls) (all_events ls)) uid →
         (event : Placed) × IsIn event (filter (has_uid ls uid) (all_events ls))
@@ -50,22 +25,10 @@ some-event ls = each-part ls (λ part. (event : Placed) × IsIn event part) by-u
         (was.0, filter-in (has_uid ls uid) (all_events ls) was.0 (contains-in (all_events ls) was.0 was.1) (itself-in (uids_of ls was.0) uid was.2))
 
 -- LINES THAT ARE CHOSEN by what holds of each.
-same-filter : (p q : Placed → Bool) (ks : List Placed) → ((k : Placed) → IsIn k ks → p k ≡ q k) → filter p ks ≡ filter q ks
-same-filter p q [] each = refl
-same-filter p q (k ∷ ks) each =
-    let one = each k (inl refl) in let more = same-filter p q ks (λ l i. each l (inr i)) in λ i. cond (one i) (k ∷ more i) (more i)
-
 pub none-of : (p : Placed → Bool) (ks : List Placed) → ((k : Placed) → IsIn k ks → p k ≡ false) → filter p ks ≡ []
 none-of p [] each = refl
 none-of p (k ∷ ks) each =
     ap (λ t. cond t (k ∷ filter p ks) (filter p ks)) (each k (inl refl)) ∙ none-of p ks (λ l i. each l (inr i))
-
-unequal : (m n : ℕ) → (m ≡ n → ⊥) → (m == n) ≡ false
-unequal m n never = by_test (m == n) refl
-  where
-    by_test : (t : Bool) → (m == n) ≡ t → t ≡ false
-    by_test true e = absurd (never (eqb-true m n e))
-    by_test false e = refl
 
 -- an event of the file that has the number of one of the part is that
 pub of-part : (ls : List Placed) → AreInPlace 0 [] ls → (part : Part) → IsPart ls part → (k : Placed) →
@@ -81,7 +44,7 @@ of-part ls h part is k i =
 
 chosen-itself : (ls : List Placed) → AreInPlace 0 [] ls → (p : Placed → Bool) →
     filter (is_event_of (filter p (all_events ls))) (all_events ls) ≡ filter p (all_events ls)
-chosen-itself ls h p = same-filter (is_event_of part) p (all_events ls) (λ k i. same-truth (is_event_of part k) (p k) (into k i) (back k i))
+chosen-itself ls h p = filter-same (is_event_of part) p (all_events ls) (λ k i. same-truth (is_event_of part k) (p k) (into k i) (back k i))
   where
     part : Part
     part = filter p (all_events ls)
@@ -108,7 +71,7 @@ lone-itself n path (m ∷ ms) h e i t = by_place (λ j. lone-itself m.number (pa
         none-of mine behind
         (λ k j. let two = in-filter is_event ms k j in
         let less = (above ms m.number (path_behind m) h.4 k two.0).2 (event-begins k two.1) in
-        ap (λ t. t || false) (unequal k.number e.number (λ equal. omega (arith, less, equal, ap (λ (x : Placed). x.number) same))))
+        ap (λ t. t || false) (ne_eqb k.number e.number (λ equal. omega (arith, less, equal, ap (λ (x : Placed). x.number) same))))
 
     by_event : (t : Bool) → mine m ≡ false → filter mine (cond t (m ∷ behind) behind) ≡ filter mine behind
     by_event true other = ap (λ t. cond t (m ∷ filter mine behind) (filter mine behind)) other
@@ -123,11 +86,11 @@ lone-itself n path (m ∷ ms) h e i t = by_place (λ j. lone-itself m.number (pa
         ∙ (λ i. same i ∷ none same i)
     by_place again (inr j) =
         let less = (above ms m.number (path_behind m) h.4 e j).2 (event-begins e t) in
-        by_event (is_event m) (ap (λ t. t || false) (unequal m.number e.number (λ equal. omega (arith, less, equal)))) ∙ again j
+        by_event (is_event m) (ap (λ t. t || false) (ne_eqb m.number e.number (λ equal. omega (arith, less, equal)))) ∙ again j
 
 -- THE EVENTS OF A PART are those of the file with their numbers.
 pub part-itself : (ls : List Placed) → AreInPlace 0 [] ls → (part : Part) → Contains (parts_of ls) part →
     filter (is_event_of part) (all_events ls) ≡ part
 part-itself ls h =
     each-part ls (λ part. filter (is_event_of part) (all_events ls) ≡ part) (λ uid k. chosen-itself ls h (has_uid ls uid))
-    (λ event i t. lone-itself 0 [] ls h event i t)
+    (λ event i none. let was = was-kept is_event ls event i in lone-itself 0 [] ls h event (contains-in ls event was.1) was.0)

@@ -4,10 +4,10 @@ use Rattle.std.proofs.Common.{append_assoc, arith, Option, Some, None, Result, O
 use Rattle.std.specs.Cmp.Lexicographic.{bytes_decides}
 use Rattle.std.specs.List.{Contains, flat_map, fold}
 use Rattle.std.specs.Str.{bytes_eq}
-use Rattle.std.proofs.lemmas.Bool.Decides.{nat_tests}
 use Rattle.std.proofs.lemmas.Grind.{fold-append}
 use Rattle.std.proofs.lemmas.List.{append-nil, get_or_default}
 use Rattle.std.proofs.lemmas.List.Elements.{Contains-append_cases, filter-append}
+use Rattle.std.proofs.lemmas.Bool.{ne_eqb}
 use Rattle.ics_components.specs.declared.fault.Fault.{Fault}
 use Rattle.ics_components.specs.ParsedFileSeen.{ParsedFileSeen}
 use Rattle.ics_components.specs.Parted.{PartedComponentSeen}
@@ -17,20 +17,13 @@ use Rattle.ics_calendar.proofs.Numbers.{Are_long, Keys, events-long, has, key-at
 use Rattle.ics_calendar.proofs.NumbersBack.{IsAlone, events-alone, itself, keys-alone, not-alone, now-alone, place-now, still-alone}
 use Rattle.ics_calendar.proofs.OneUid.{any-of}
 use Rattle.ics_calendar.proofs.PartLaws.{here, no-element, there}
-use Rattle.ics_calendar.proofs.PartNumbers.{IsOf, IsPlaced, at-end, each-sound, events-kept, own-placed, sound-is}
+use Rattle.ics_calendar.proofs.PartNumbers.{IsPlaced, at-end, events-kept, own-placed, sound-is}
 
 abbrev pub under : ℕ → List SoundEventSeen → List SoundEventSeen
 under n events = of_parts (λ other. other == n) events
 
 abbrev pub sounds : ℕ → PartedComponentSeen → List SoundEventSeen
 sounds n event = sound_in n event event.read
-
-not-equal : (m n : ℕ) → m ≢ n → (m == n) ≡ false
-not-equal m n other = by_test (m == n) refl
-  where
-    by_test : (t : Bool) → (m == n) ≡ t → t ≡ false
-    by_test true is = absurd (other (grind (arith, nat_tests, is)))
-    by_test false is = refl
 
 -- a sound event of that number, and of another
 all-under : (n : ℕ) (event : PartedComponentSeen) (read : Result ParsedFileSeen Fault) → under n (sound_in n event read) ≡ sound_in n event read
@@ -42,14 +35,14 @@ all-under n event (Err fault) = refl
 none-under : (m n : ℕ) (event : PartedComponentSeen) (read : Result ParsedFileSeen Fault) → m ≢ n → under n (sound_in m event read) ≡ []
 none-under m n event (Ok read) other =
     let sound : SoundEventSeen = record { part = m; calendar = event.calendar; zones = event.zones; read = read } in
-    ap (λ t. cond t (sound ∷ []) []) (not-equal m n other)
+    ap (λ t. cond t (sound ∷ []) []) (ne_eqb m n other)
 none-under m n event (Err fault) other = refl
 
 nothing-under : (n : ℕ) (events : List SoundEventSeen) → ((sound : SoundEventSeen) → Contains events sound → sound.part ≢ n) → under n events ≡ []
 nothing-under n [] h = refl
 nothing-under n (sound ∷ events) h =
     let again = nothing-under n events (λ other k. h other (there sound events other k)) in
-    ap (λ t. cond t (sound ∷ under n events) (under n events)) (not-equal sound.part n (h sound (here sound events))) ∙ again
+    ap (λ t. cond t (sound ∷ under n events) (under n events)) (ne_eqb sound.part n (h sound (here sound events))) ∙ again
 
 module _ (needed : PartedComponentSeen → Option Fault) where
   abbrev start : Labelled → Numbered
@@ -152,13 +145,63 @@ module _ (needed : PartedComponentSeen → Option Fault) where
       (none-under (with_event needed had event).numbered.part n event event.read (other-own x (needed event) event.uids (start had) n alone))
       ∙ append-nil (under n had.events)
 
+  -- A SOUND EVENT is that of an event at some place among all.
+  abbrev pub SplitAt : List PartedComponentSeen → Labelled → SoundEventSeen → Type 0
+  SplitAt events had sound =
+      (front : List PartedComponentSeen) × (event : PartedComponentSeen) × (back : List PartedComponentSeen) × (events ≡ front ++ event ∷ back)
+      × (sound.part ≡ (with_event needed (fold (with_event needed) had front) event).numbered.part)
+
+  split-of : (events : List PartedComponentSeen) (had : Labelled) (sound : SoundEventSeen) →
+      Contains (fold (with_event needed) had events).events sound → Contains had.events sound ⊎ SplitAt events had sound
+  split-of [] had sound k = inl k
+  split-of (event ∷ events) had sound k = ⊎_elim by-now by-later (split-of events next sound k)
+    where
+      next : Labelled
+      next = with_event needed had event
+
+      by-later : SplitAt events next sound → Contains had.events sound ⊎ SplitAt (event ∷ events) had sound
+      by-later (front, other, back, e, p) = inr (event ∷ front, other, back, ap (λ (es : List PartedComponentSeen). event ∷ es) e, p)
+
+      by-now : Contains next.events sound → Contains had.events sound ⊎ SplitAt (event ∷ events) had sound
+      by-now k =
+          ⊎_elim inl
+          (λ (h : Contains (sound_in next.numbered.part event event.read) sound). inr (
+            [],
+            event,
+            events,
+            refl,
+            sound-is needed next.numbered.part event event.read sound h,
+          ))
+          (Contains-append_cases had.events (sound_in next.numbered.part event event.read) sound k)
+
+  pub sound-split : (events : List PartedComponentSeen) (sound : SoundEventSeen) → Contains (labelled needed events).events sound →
+      SplitAt events nothing_labelled sound
+  sound-split events sound k = ⊎_elim (λ h. absurd (no-element sound h)) (λ h. h) (split-of events nothing_labelled sound k)
+
+  -- the number that an event has at its place is one of its keys among all
+  pub placed-at : (front : List PartedComponentSeen) (event : PartedComponentSeen) (back : List PartedComponentSeen) →
+      IsPlaced (needed event) (labelled needed (front ++ event ∷ back)).numbered event.uids (with_event needed (labelled needed front) event).numbered.part
+  placed-at front event back =
+      let had : Labelled = labelled needed front in
+      let next : Labelled = with_event needed had event in
+      subst (λ (all : Labelled). IsPlaced (needed event) all.numbered event.uids next.numbered.part)
+      (sym (fold-append (with_event needed) nothing_labelled front (event ∷ back)))
+      (at-end needed back event next next.numbered.part (own-placed (needed event) event.uids (start had) (events-long needed front nothing_labelled refl)))
+
   below : (events : List PartedComponentSeen) (sound : SoundEventSeen) → Contains (labelled needed events).events sound →
       sound.part < length (labelled needed events).numbered.keys
-  below events sound k = by_place (each-sound needed events sound k)
+  below events sound k = by-split (sound-split events sound k)
     where
-      by_place : IsOf needed events (labelled needed events).numbered sound.part → sound.part < length (labelled needed events).numbered.keys
-      by_place (event, h, inl p) = (key-at (labelled needed events).numbered.keys p.0 sound.part p.2).0
-      by_place (event, h, inr p) = p.1.within
+      within : (x : Option Fault) (had : Numbered) (uids : List (List ℕ)) (n : ℕ) → IsPlaced x had uids n → n < length had.keys
+      within x had uids n (inl p) = (key-at had.keys p.0 n p.2).0
+      within x had uids n (inr p) = p.1.within
+
+      by-split : SplitAt events nothing_labelled sound → sound.part < length (labelled needed events).numbered.keys
+      by-split (front, event, back, e, p) =
+          let part : ℕ = (with_event needed (labelled needed front) event).numbered.part in
+          subst (λ (es : List PartedComponentSeen). sound.part < length (labelled needed es).numbered.keys) (sym e)
+          (subst (λ n. n < length (labelled needed (front ++ event ∷ back)).numbered.keys) (sym p)
+          (within (needed event) (labelled needed (front ++ event ∷ back)).numbered event.uids part (placed-at front event back)))
 
   pub kept-of-lone : (front : List PartedComponentSeen) (event : PartedComponentSeen) (back : List PartedComponentSeen) → event.uids ≡ [] →
       let n : ℕ = length (labelled needed front).numbered.keys in
@@ -196,36 +239,3 @@ module _ (needed : PartedComponentSeen → Option Fault) where
       own =
           ap (λ (some : List SoundEventSeen). some ++ under n (sound_in next.numbered.part event event.read)) empty
           ∙ ap (λ part. under n (sound_in part event event.read)) part ∙ all-under n event event.read
-
-  -- A SOUND EVENT is that of an event at some place among all.
-  abbrev pub SplitAt : List PartedComponentSeen → Labelled → SoundEventSeen → Type 0
-  SplitAt events had sound =
-      (front : List PartedComponentSeen) × (event : PartedComponentSeen) × (back : List PartedComponentSeen) × (events ≡ front ++ event ∷ back)
-      × (sound.part ≡ (with_event needed (fold (with_event needed) had front) event).numbered.part)
-
-  split-of : (events : List PartedComponentSeen) (had : Labelled) (sound : SoundEventSeen) →
-      Contains (fold (with_event needed) had events).events sound → Contains had.events sound ⊎ SplitAt events had sound
-  split-of [] had sound k = inl k
-  split-of (event ∷ events) had sound k = ⊎_elim by-now by-later (split-of events next sound k)
-    where
-      next : Labelled
-      next = with_event needed had event
-
-      by-later : SplitAt events next sound → Contains had.events sound ⊎ SplitAt (event ∷ events) had sound
-      by-later (front, other, back, e, p) = inr (event ∷ front, other, back, ap (λ (es : List PartedComponentSeen). event ∷ es) e, p)
-
-      by-now : Contains next.events sound → Contains had.events sound ⊎ SplitAt (event ∷ events) had sound
-      by-now k =
-          ⊎_elim inl
-          (λ (h : Contains (sound_in next.numbered.part event event.read) sound). inr (
-            [],
-            event,
-            events,
-            refl,
-            sound-is needed next.numbered.part event event.read sound h,
-          ))
-          (Contains-append_cases had.events (sound_in next.numbered.part event event.read) sound k)
-
-  pub sound-split : (events : List PartedComponentSeen) (sound : SoundEventSeen) → Contains (labelled needed events).events sound →
-      SplitAt events nothing_labelled sound
-  sound-split events sound k = ⊎_elim (λ h. absurd (no-element sound h)) (λ h. h) (split-of events nothing_labelled sound k)

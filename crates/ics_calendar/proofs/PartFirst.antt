@@ -33,7 +33,7 @@ use Rattle.ics_components.proofs.Order.{inside}
 use Rattle.ics_components.proofs.PartLines.{AreRoots, IsFramed, IsRooted, IsTaken, begin-framed, framed-taken, root-of, rooted-taken, roots_chosen, taken-is}
 use Rattle.ics_components.proofs.PartLines.{takes}
 use Rattle.ics_components.proofs.RestFaults.{IsBefore, earlier-more, either-of, filter-in, fold_least, in-filter, left-or, own-line, right-or, same-truth}
-use Rattle.ics_components.proofs.RestFaults.{two-of, zones-read}
+use Rattle.ics_components.proofs.RestFaults.{never-both, two-of, zones-read}
 use Rattle.ics_components.proofs.RootFaults.{IsOfRoot, IsOfVersion, roots_least, version_fault}
 use Rattle.ics_components.proofs.PartPaths.{deep-no-calendar}
 use Rattle.ics_components.proofs.PartsLemmas.{event-no-zone}
@@ -103,6 +103,16 @@ zone-parts ls event b t =
 pub zone-plain : (b : Placed) → begins_zone b ≡ true → IsPlain b.path
 zone-plain b t = inl ((two-of (in_calendar b) _ t).0)
 
+pub event-begins : (e : Placed) → is_event e ≡ true → is_begin e ≡ true
+event-begins e t = (two-of (is_begin e) _ ((two-of (in_calendar e || no_open e.path) _ t).1)).0
+
+pub filter-same : (p q : Placed → Bool) (ks : List Placed) → ((l : Placed) → IsIn l ks → p l ≡ q l) → filter p ks ≡ filter q ks
+filter-same p q [] each = refl
+filter-same p q (k ∷ ks) each =
+    let one = each k (inl refl) in
+    let more = filter-same p q ks (λ l i. each l (inr i)) in
+    λ i. cond (one i) (k ∷ more i) (more i)
+
 module _ (ls : List Placed) (h : AreInPlace 0 [] ls) (part : Part) (is : IsPart ls part) where
   abbrev roots : Placed → Bool
   roots = roots_of ls part
@@ -112,9 +122,6 @@ module _ (ls : List Placed) (h : AreInPlace 0 [] ls) (part : Part) (is : IsPart 
 
   member : (e : Placed) → IsIn e part → IsIn e ls × (is_event e ≡ true)
   member e i = part-member ls part is e i
-
-  event-begins : (e : Placed) → is_event e ≡ true → is_begin e ≡ true
-  event-begins e t = (two-of (is_begin e) _ ((two-of (in_calendar e || no_open e.path) _ t).1)).0
 
   -- a root, by the event that needs it
   pub record IsRootOf (b : Placed) : Type 0 where
@@ -248,13 +255,6 @@ module _ (ls : List Placed) (h : AreInPlace 0 [] ls) (part : Part) (is : IsPart 
       by_taken (inl r) = by_root r (root-is r.root r.among r.chosen)
       by_taken (inr (inl x)) = by_number x
       by_taken (inr (inr x)) = by_frame x
-
-  filter-same : (p q : Placed → Bool) (ks : List Placed) → ((l : Placed) → IsIn l ks → p l ≡ q l) → filter p ks ≡ filter q ks
-  filter-same p q [] each = refl
-  filter-same p q (k ∷ ks) each =
-      let one = each k (inl refl) in
-      let more = filter-same p q ks (λ l i. each l (inr i)) in
-      λ i. cond (one i) (k ∷ more i) (more i)
 
   pub part_lines : lines_of ls part ≡ filter (takes roots calendars ls) ls
   part_lines =
@@ -733,9 +733,33 @@ is_event_of part e = list_any (λ event. e.number == event.number) part
 abbrev pub is_zone_for : List Placed → Part → Placed → Bool
 is_zone_for ls part z = list_any (λ event. is_zone_of ls event z) part
 
-never-true : {X : Type 0} (t : Bool) → t ≡ true → t ≡ false → X
-never-true true e f = cc
-never-true false e f = cc
+-- A time zone gathers neither events nor checks, and an event no time zones.
+module _ (ls : List Placed) (h : AreInPlace 0 [] ls) (k : Placed) (i : IsIn k ls) (begins : begins_part k ≡ true) where
+  zone-or-event : is_event k ≡ false → begins_zone k ≡ true
+  zone-or-event e = sym (ap (λ t. t || begins_zone k) e) ∙ begins
+
+  no-zone : begins_zone k ≡ false → is_event k ≡ true
+  no-zone e = by_test (is_event k) refl
+    where
+      by_test : (t : Bool) → is_event k ≡ t → t ≡ true
+      by_test true x = refl
+      by_test false x = never-both (begins_zone k) (zone-or-event x) e
+
+  pub zone-nothing : is_event k ≡ false → ((parsed_in (item_read ls k)).events ≡ []) × ((parsed_in (item_read ls k)).checks ≡ [])
+  zone-nothing e = rw begins (by_read (block_read ls k) (zone_gathers ls h k i (zone-or-event e)))
+    where
+      by_read : (r : LinesRead) → ((last : List Frame) (more : ParsedFileSeen) → r ≡ Reads last more → (more.events ≡ []) × (more.checks ≡ [])) →
+          ((parsed_in (gathered_in r)).events ≡ []) × ((parsed_in (gathered_in r)).checks ≡ [])
+      by_read (Broken f) gathers = (refl, refl)
+      by_read (Reads last more) gathers = gathers last more refl
+
+  pub event-nothing : begins_zone k ≡ false → (parsed_in (item_read ls k)).zones ≡ []
+  event-nothing e = rw begins (by_read (block_read ls k) (event_gathers ls h k i (no-zone e)))
+    where
+      by_read : (r : LinesRead) → ((last : List Frame) (more : ParsedFileSeen) → r ≡ Reads last more → more.zones ≡ []) →
+          (parsed_in (gathered_in r)).zones ≡ []
+      by_read (Broken f) gathers = refl
+      by_read (Reads last more) gathers = gathers last more refl
 
 module _ (ls : List Placed) (h : AreInPlace 0 [] ls) (part : Part) (is : IsPart ls part) where
   pub root-there : (k : Placed) → IsIn k ls → is_in_part ls k part ≡ true → begins_part k ≡ true → IsRootOf ls h part is k
@@ -755,7 +779,7 @@ module _ (ls : List Placed) (h : AreInPlace 0 [] ls) (part : Part) (is : IsPart 
       both-true (is_event k) (is_event_of part k) one.1
       (⊎_elim (λ same.
       any-in (λ event. k.number == event.number) part r.event r.among (eq-eqb k.number r.event.number (ap (λ (x : Placed). x.number) same))) (λ z.
-      never-true (begins_zone k) (zone-parts ls r.event k z).0 (event-no-zone k one.1)) r.by)
+      never-both (begins_zone k) (zone-parts ls r.event k z).0 (event-no-zone k one.1)) r.by)
 
   there-event : (k : Placed) → IsIn k ls → (is_event k && is_event_of part k) ≡ true → ((is_in_part ls k part && begins_part k) && is_event k) ≡ true
   there-event k i t =
@@ -773,7 +797,7 @@ module _ (ls : List Placed) (h : AreInPlace 0 [] ls) (part : Part) (is : IsPart 
       let r = root-there k i two.0 two.1 in
       both-true (begins_zone k) (is_zone_for ls part k) one.1
       (⊎_elim (λ same.
-      never-true (begins_zone k) one.1 (event-no-zone k (ap is_event same ∙ (part-member ls part is r.event r.among).1))) (λ z.
+      never-both (begins_zone k) one.1 (event-no-zone k (ap is_event same ∙ (part-member ls part is r.event r.among).1))) (λ z.
       any-in (λ event. is_zone_of ls event k) part r.event r.among z) r.by)
 
   there-zone : (k : Placed) → IsIn k ls → (begins_zone k && is_zone_for ls part k) ≡ true →
@@ -789,7 +813,7 @@ module _ (ls : List Placed) (h : AreInPlace 0 [] ls) (part : Part) (is : IsPart 
   events_there =
       ap (filter is_event) (filter-twice begins_part (λ k. is_in_part ls k part) ls)
       ∙ filter-twice is_event (λ k. is_in_part ls k part && begins_part k) ls
-      ∙ filter-same ls h part is (λ k. (is_in_part ls k part && begins_part k) && is_event k) (λ k. is_event k && is_event_of part k) ls
+      ∙ filter-same (λ k. (is_in_part ls k part && begins_part k) && is_event k) (λ k. is_event k && is_event_of part k) ls
       (λ k i. same-truth ls h _ _ (event-there k i) (there-event k i))
       ∙ sym (filter-twice (is_event_of part) is_event ls)
 
@@ -797,7 +821,7 @@ module _ (ls : List Placed) (h : AreInPlace 0 [] ls) (part : Part) (is : IsPart 
   zones_there =
       ap (filter begins_zone) (filter-twice begins_part (λ k. is_in_part ls k part) ls)
       ∙ filter-twice begins_zone (λ k. is_in_part ls k part && begins_part k) ls
-      ∙ filter-same ls h part is (λ k. (is_in_part ls k part && begins_part k) && begins_zone k) (λ k. begins_zone k && is_zone_for ls part k) ls
+      ∙ filter-same (λ k. (is_in_part ls k part && begins_part k) && begins_zone k) (λ k. begins_zone k && is_zone_for ls part k) ls
       (λ k i. same-truth ls h _ _ (zone-there k i) (there-zone k i))
       ∙ sym (filter-twice (is_zone_for ls part) begins_zone ls)
 
@@ -805,38 +829,6 @@ module _ (ls : List Placed) (h : AreInPlace 0 [] ls) (part : Part) (is : IsPart 
   item-in : (k : Placed) → IsIn k (filter begins_part (lines_of ls part)) → IsIn k ls × (begins_part k ≡ true)
   item-in k i =
       let one = in-filter begins_part (lines_of ls part) k i in ((in-filter (λ l. is_in_part ls l part) ls k one.0).0, one.1)
-
-  zone-or-event : (k : Placed) → begins_part k ≡ true → is_event k ≡ false → begins_zone k ≡ true
-  zone-or-event k b e = sym (ap (λ t. t || begins_zone k) e) ∙ b
-
-  no-event-in : (k : Placed) → begins_part k ≡ true → begins_zone k ≡ false → is_event k ≡ true
-  no-event-in k b e = by_test (is_event k) refl
-    where
-      by_test : (t : Bool) → is_event k ≡ t → t ≡ true
-      by_test true x = refl
-      by_test false x = never-true (begins_zone k) (zone-or-event k b x) e
-
-  zone-nothing : (k : Placed) → IsIn k (filter begins_part (lines_of ls part)) → is_event k ≡ false →
-      ((parsed_in (item_read ls k)).events ≡ []) × ((parsed_in (item_read ls k)).checks ≡ [])
-  zone-nothing k i e =
-      let two = item-in k i in
-      rw (two.1) (by_read (block_read ls k) refl (zone_gathers ls h k two.0 (zone-or-event k two.1 e)))
-    where
-      by_read : (r : LinesRead) → block_read ls k ≡ r →
-          ((last : List Frame) (more : ParsedFileSeen) → block_read ls k ≡ Reads last more → (more.events ≡ []) × (more.checks ≡ [])) →
-          ((parsed_in (gathered_in r)).events ≡ []) × ((parsed_in (gathered_in r)).checks ≡ [])
-      by_read (Broken f) x gathers = (refl, refl)
-      by_read (Reads last more) x gathers = gathers last more x
-
-  event-nothing : (k : Placed) → IsIn k (filter begins_part (lines_of ls part)) → begins_zone k ≡ false → (parsed_in (item_read ls k)).zones ≡ []
-  event-nothing k i e =
-      let two = item-in k i in
-      rw (two.1) (by_read (block_read ls k) refl (event_gathers ls h k two.0 (no-event-in k two.1 e)))
-    where
-      by_read : (r : LinesRead) → block_read ls k ≡ r → ((last : List Frame) (more : ParsedFileSeen) → block_read ls k ≡ Reads last more → more.zones ≡ []) →
-          (parsed_in (gathered_in r)).zones ≡ []
-      by_read (Broken f) x gathers = refl
-      by_read (Reads last more) x gathers = gathers last more x
 
   -- WHAT IS GATHERED OF A PART without a fault: of its events, and of the time zones that they name.
   module _ (nested : is_well_nested ls ≡ true) (none : first_fault (lines_of ls part) ≡ None) where
@@ -850,21 +842,21 @@ module _ (ls : List Placed) (h : AreInPlace 0 [] ls) (part : Part) (is : IsPart 
     part_events =
         ap (λ (x : ParsedFileSeen). x.events) (part_parsed ls h nested part is none)
         ∙ parsed_events ls items
-        ∙ some-of (λ e. (parsed_in (item_read ls e)).events) is_event items (λ k i e. (zone-nothing k i e).0)
+        ∙ some-of (λ e. (parsed_in (item_read ls e)).events) is_event items (λ k i e. let two = item-in k i in (zone-nothing ls h k two.0 two.1 e).0)
         ∙ ap (flat_map (λ e. (parsed_in (item_read ls e)).events)) events_there
 
     pub part_checks : gathered.checks ≡ flat_map (λ e. (parsed_in (item_read ls e)).checks) (filter (is_event_of part) (all_events ls))
     part_checks =
         ap (λ (x : ParsedFileSeen). x.checks) (part_parsed ls h nested part is none)
         ∙ parsed_checks ls items
-        ∙ some-of (λ e. (parsed_in (item_read ls e)).checks) is_event items (λ k i e. (zone-nothing k i e).1)
+        ∙ some-of (λ e. (parsed_in (item_read ls e)).checks) is_event items (λ k i e. let two = item-in k i in (zone-nothing ls h k two.0 two.1 e).1)
         ∙ ap (flat_map (λ e. (parsed_in (item_read ls e)).checks)) events_there
 
     pub part_zones : gathered.zones ≡ flat_map (λ z. (parsed_in (item_read ls z)).zones) (filter (is_zone_for ls part) (filter begins_zone ls))
     part_zones =
         ap (λ (x : ParsedFileSeen). x.zones) (part_parsed ls h nested part is none)
         ∙ parsed_zones ls items
-        ∙ some-of (λ z. (parsed_in (item_read ls z)).zones) begins_zone items (λ k i e. event-nothing k i e)
+        ∙ some-of (λ z. (parsed_in (item_read ls z)).zones) begins_zone items (λ k i e. let two = item-in k i in event-nothing ls h k two.0 two.1 e)
         ∙ ap (flat_map (λ z. (parsed_in (item_read ls z)).zones)) zones_there
 
     -- WHAT THE PART SAYS with zone files is settled of that.

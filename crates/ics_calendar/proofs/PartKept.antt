@@ -4,24 +4,22 @@ use Rattle.std.proofs.Common.{length}
 use Rattle.std.specs.Cmp.Lexicographic.{bytes_decides}
 use Rattle.std.specs.List.{Contains, flat_map, fold, list_any}
 use Rattle.std.specs.Str.{bytes_eq}
-use Rattle.std.proofs.lemmas.Grind.{fold-append}
 use Rattle.std.proofs.lemmas.List.{append-nil}
-use Rattle.std.proofs.lemmas.List.Elements.{Contains-append_cases, Contains-append_right}
+use Rattle.std.proofs.lemmas.List.Elements.{Contains-append_right}
 use Rattle.ics_components.specs.declared.fault.Fault.{Fault}
-use Rattle.ics_components.specs.EventLines.{all_events, has_no_uid, has_uid, uids_of}
+use Rattle.ics_components.specs.EventLines.{all_events, has_uid, uids_of}
 use Rattle.ics_components.specs.Parted.{PartedComponentSeen, component_seen}
 use Rattle.ics_components.specs.PlacedLines.{Placed}
 use Rattle.ics_calendar.specs.Parts.{Part, parts_of}
 use Rattle.ics_calendar.specs.PartsRead.{Labelled, keys_of, labelled, nothing_labelled, place_from, with_event, with_key}
 use Rattle.ics_calendar.specs.SoundParts.{SoundEventSeen}
-use Rattle.ics_calendar.specs.Wanted.{each_once}
-use Rattle.ics_calendar.proofs.Numbers.{events-long, has}
+use Rattle.ics_calendar.proofs.Numbers.{has}
 use Rattle.ics_calendar.proofs.NumbersBack.{IsAlone}
-use Rattle.ics_calendar.proofs.OneUid.{AtMostOne, any-of, was-kept, was-mapped}
-use Rattle.ics_calendar.proofs.PartEvents.{SplitAt, kept-of-lone, kept-of-uid, sound-split, sounds, under}
+use Rattle.ics_calendar.proofs.OneUid.{AtMostOne, any-of, each-part, was-mapped}
+use Rattle.ics_calendar.proofs.PartEvents.{SplitAt, kept-of-lone, kept-of-uid, placed-at, sound-split, sounds, under}
 use Rattle.ics_calendar.proofs.PartLaws.{at-cons, here, kept, mapped, no-element}
-use Rattle.ics_calendar.proofs.PartNumbers.{HasNumber, IsPlaced, alone-at, at-end, at-place, events, filter-mapped, first_of_part, has-none, is-lone, is-part}
-use Rattle.ics_calendar.proofs.PartNumbers.{lone, long, of-place, of_uid, own-placed, place-has, uid-at, uids, was-once}
+use Rattle.ics_calendar.proofs.PartNumbers.{HasNumber, IsPlaced, alone-at, at-place, events, filter-mapped, first_of_part, has-none, is-lone, is-part}
+use Rattle.ics_calendar.proofs.PartNumbers.{long, of-place, of_uid, place-has, uid-at}
 
 -- an element stands between others
 split-at : {X : Type 0} (xs : List X) (x : X) → Contains xs x → (front : List X) × (back : List X) × (xs ≡ front ++ x ∷ back)
@@ -88,24 +86,13 @@ module _ (needed : PartedComponentSeen → Option Fault) (lines : List Placed) w
 
   -- EACH PART is kept under a number, and each sound event has that of a part.
   pub into-kept : (part : Part) → Contains (parts_of lines) part → (n : ℕ) × IsKept part n
-  into-kept part k =
-      ⊎_elim by-uid by-lone
-      (Contains-append_cases (map (of_uid needed lines) (each_once (uids needed lines))) (map (λ event. event ∷ []) (lone needed lines)) part k)
-    where
-      by-uid : Contains (map (of_uid needed lines) (each_once (uids needed lines))) part → (n : ℕ) × IsKept part n
-      by-uid h =
-          let was = was-mapped (of_uid needed lines) (each_once (uids needed lines)) part h in
-          let stands = at-place all.numbered was.0 (first_of_part needed lines (of_uid needed lines was.0)) (long needed lines)
-          (uid-at needed lines was.0 (was-once (uids needed lines) was.0 was.1)) in
-          (stands.0, subst (λ part. IsKept part stands.0) was.2 (uid-kept was.0 stands.0 stands.1))
-
-      by-lone : Contains (map (λ event. event ∷ []) (lone needed lines)) part → (n : ℕ) × IsKept part n
-      by-lone h =
-          let was = was-mapped (λ event. event ∷ []) (lone needed lines) part h in
-          let own = was-kept (has_no_uid lines) (all_events lines) was.0 was.1 in
-          let parts = split-at (events needed lines) (component_seen lines was.0) (mapped (component_seen lines) (all_events lines) was.0 own.1) in
-          let n : ℕ = length (labelled needed parts.0).numbered.keys in
-          (n, subst (λ part. IsKept part n) was.2 (lone-kept was.0 parts.0 parts.1 parts.2 (has-none (uids_of lines was.0) own.0)))
+  into-kept =
+      each-part lines (λ part. (n : ℕ) × IsKept part n)
+      (λ uid u. let stands = at-place all.numbered uid (first_of_part needed lines (of_uid needed lines uid)) (long needed lines) (uid-at needed lines uid u) in
+      (stands.0, uid-kept uid stands.0 stands.1))
+      (λ event i none.
+      let parts = split-at (events needed lines) (component_seen lines event) (mapped (component_seen lines) (all_events lines) event i) in
+      (length (labelled needed parts.0).numbered.keys, lone-kept event parts.0 parts.1 parts.2 (has-none (uids_of lines event) none)))
 
   -- the part of an event at its place, and its number there
   abbrev pub OwnKept : Placed → ℕ → Type 0
@@ -126,10 +113,7 @@ module _ (needed : PartedComponentSeen → Option Fault) (lines : List Placed) w
 
       placed-there : IsPlaced (needed one) all.numbered one.uids next.numbered.part
       placed-there =
-          subst (λ (l : Labelled). IsPlaced (needed one) l.numbered one.uids next.numbered.part)
-          (sym (ap (labelled needed) e ∙ fold-append (with_event needed) nothing_labelled front (one ∷ back)))
-          (at-end needed back one next next.numbered.part
-          (own-placed (needed one) one.uids (record had.numbered { part = 0 }) (events-long needed front nothing_labelled refl)))
+          subst (λ es. IsPlaced (needed one) (labelled needed es).numbered one.uids next.numbered.part) (sym e) (placed-at needed front one back)
 
       by-placed : IsPlaced (needed one) all.numbered one.uids next.numbered.part → OwnKept event next.numbered.part
       by-placed (inl h) = (

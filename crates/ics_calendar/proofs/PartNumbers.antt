@@ -1,12 +1,12 @@
 -- Each part of a file has a number, at which its first fault stands, and each number that is used is that of a part.
 use Rattle.std.proofs.Common.{◌≡◌, ◌⊎◌, inl, inr, ℕ, Bool, true, false, ◌||◌, List, [], ◌∷◌, ◌++◌, length, get_or, map, filter, refl, sym, ap, ◌∙◌, arith}
 use Rattle.std.proofs.Common.{Option, Some, None, Result, Ok, Err, cond, subst, ⊎_elim}
-use Rattle.std.specs.Prelude.{not, option_map, slice_get}
+use Rattle.std.specs.Prelude.{option_map, slice_get}
 use Rattle.std.specs.Cmp.Lexicographic.{bytes_decides}
 use Rattle.std.specs.List.{Contains, flat_map, fold, list_any}
 use Rattle.std.specs.Option.{option_or}
 use Rattle.std.specs.Str.{bytes_eq}
-use Rattle.std.proofs.lemmas.List.Elements.{Contains-append_cases, Contains-append_left, Contains-append_right}
+use Rattle.std.proofs.lemmas.List.Elements.{Contains-append_left, Contains-append_right}
 use Rattle.std.proofs.lemmas.Option.{slice_get-get_or}
 use Rattle.ics_components.specs.declared.fault.Fault.{Fault}
 use Rattle.ics_components.specs.EventLines.{all_events, has_no_uid, has_uid, is_none_of, uids_of}
@@ -17,22 +17,13 @@ use Rattle.ics_calendar.specs.Parts.{Part, parts_of}
 use Rattle.ics_calendar.specs.PartsRead.{Labelled, Numbered, is_key, keys_of, labelled, nothing_labelled, place_from, sound_in, with_event, with_key}
 use Rattle.ics_calendar.specs.SoundParts.{SoundEventSeen}
 use Rattle.ics_calendar.specs.Wanted.{each_once}
-use Rattle.ics_calendar.proofs.Numbers.{Are_long, Keys, at, events-at, events-long, first_of, has, key-at, keys-long, noted, uid-first}
-use Rattle.ics_calendar.proofs.NumbersBack.{IsAlone, IsLone, alone-first, first-back, keys-alone, now-alone, place-now}
-use Rattle.ics_calendar.proofs.OneUid.{any-of, was-flattened, was-kept, was-mapped}
-use Rattle.ics_calendar.proofs.PartLaws.{at-cons, flattened, here, is-here, kept, mapped, no-element, once, there}
+use Rattle.ics_calendar.proofs.Numbers.{Are_long, Keys, at, events-at, events-long, first_of, has, key-at, noted, uid-first}
+use Rattle.ics_calendar.proofs.NumbersBack.{IsAlone, IsLone, first-back, keys-alone, now-alone, place-now}
+use Rattle.ics_calendar.proofs.OneUid.{any-of, was-flattened, was-mapped}
+use Rattle.ics_calendar.proofs.PartLaws.{flattened, here, is-here, kept, mapped, no-element, once, there}
 use Rattle.ics_calendar.proofs.Shared.{place-more}
 
 -- ELEMENTS of lists.
-pub was-once : (names : List (List ℕ)) (name : List ℕ) → Contains (each_once names) name → Contains names name
-was-once [] name k = k
-was-once (n ∷ ns) name k = by_case (was-once ns name) (at-cons n (filter (λ other. not (bytes_eq other n)) (each_once ns)) name k)
-  where
-    by_case : (Contains (each_once ns) name → Contains ns name) →
-        (n ≡ name) ⊎ Contains (filter (λ other. not (bytes_eq other n)) (each_once ns)) name → Contains (n ∷ ns) name
-    by_case again (inl e) = subst (λ m. Contains (m ∷ ns) name) (sym e) (here name ns)
-    by_case again (inr h) = there n ns name (again (was-kept (λ other. not (bytes_eq other n)) (each_once ns) name h).1)
-
 module _ {X : Type 0} where
   some-of : (p : X → Bool) (xs : List X) → list_any p xs ≡ true → (x : X) × Contains xs x × (p x ≡ true)
   some-of p [] e = cc
@@ -122,10 +113,6 @@ module _ (needed : PartedComponentSeen → Option Fault) where
       events-kept events (with_event needed had event) uid n
       (keys-kept (needed event) (keys_of event.uids) (record had.numbered { part = 0 }) uid n e)
 
-  -- EACH SOUND EVENT has the number of one of its keys.
-  abbrev pub IsOf : List PartedComponentSeen → Numbered → ℕ → Type 0
-  IsOf events had n = (event : PartedComponentSeen) × Contains events event × IsPlaced (needed event) had event.uids n
-
   still-placed : (event other : PartedComponentSeen) (had : Labelled) (n : ℕ) → IsPlaced (needed other) had.numbered other.uids n →
       IsPlaced (needed other) (with_event needed had event).numbered other.uids n
   still-placed event other had n (inl h) =
@@ -148,38 +135,6 @@ module _ (needed : PartedComponentSeen → Option Fault) where
       ap (λ (s : SoundEventSeen). s.part)
       (sym (is-here (record { part = part; calendar = event.calendar; zones = event.zones; read = read }) sound k))
   sound-is part event (Err fault) sound k = absurd (no-element sound k)
-
-  sound-of : (events : List PartedComponentSeen) (had : Labelled) (sound : SoundEventSeen) → Are_long had.numbered →
-      Contains (fold (with_event needed) had events).events sound →
-      Contains had.events sound ⊎ IsOf events (fold (with_event needed) had events).numbered sound.part
-  sound-of [] had sound long k = inl k
-  sound-of (event ∷ events) had sound long k =
-      ⊎_elim by-now (λ (h : IsOf events end sound.part). inr (h.0, there event events h.0 h.1, h.2))
-      (sound-of events next sound (keys-long (needed event) (keys_of event.uids) start long) k)
-    where
-      start : Numbered
-      start = record had.numbered { part = 0 }
-
-      next : Labelled
-      next = with_event needed had event
-
-      end : Numbered
-      end = (fold (with_event needed) next events).numbered
-
-      by-now : Contains next.events sound → Contains had.events sound ⊎ IsOf (event ∷ events) end sound.part
-      by-now k =
-          ⊎_elim inl
-          (λ (h : Contains (sound_in next.numbered.part event event.read) sound). inr (
-            event,
-            here event events,
-            subst (IsPlaced (needed event) end event.uids) (sym (sound-is next.numbered.part event event.read sound h))
-                (at-end events event next next.numbered.part (own-placed (needed event) event.uids start long)),
-          ))
-          (Contains-append_cases had.events (sound_in next.numbered.part event event.read) sound k)
-
-  pub each-sound : (events : List PartedComponentSeen) (sound : SoundEventSeen) → Contains (labelled needed events).events sound →
-      IsOf events (labelled needed events).numbered sound.part
-  each-sound events sound k = ⊎_elim (λ h. absurd (no-element sound h)) (λ h. h) (sound-of events nothing_labelled sound refl k)
 
   -- EACH PART HAS A NUMBER, and each number that is used is that of a part.
   module _ (lines : List Placed) where
@@ -252,24 +207,6 @@ module _ (needed : PartedComponentSeen → Option Fault) where
         let same : stands.0 ≡ n = cc in
         subst (HasNumber (of_uid uid)) same stands.2
 
-    pub into-number : (part : Part) → Contains (parts_of lines) part → (n : ℕ) × HasNumber part n
-    into-number part k =
-        ⊎_elim by-uid by-lone (Contains-append_cases (map of_uid (each_once uids)) (map (λ event. event ∷ []) lone) part k)
-      where
-        by-uid : Contains (map of_uid (each_once uids)) part → (n : ℕ) × HasNumber part n
-        by-uid h =
-            let was = was-mapped of_uid (each_once uids) part h in
-            let stands = at-place numbered was.0 (first_of_part (of_uid was.0)) long (uid-at was.0 (was-once uids was.0 was.1)) in
-            (stands.0, subst (λ part. HasNumber part stands.0) was.2 stands.2)
-
-        by-lone : Contains (map (λ event. event ∷ []) lone) part → (n : ℕ) × HasNumber part n
-        by-lone h =
-            let was = was-mapped (λ event. event ∷ []) lone part h in
-            let own = was-kept (has_no_uid lines) (all_events lines) was.0 was.1 in
-            let alone = alone-first needed events (component_seen lines was.0) (mapped (component_seen lines) (all_events lines) was.0 own.1)
-            (has-none (uids_of lines was.0) own.0) in
-            (alone.0, subst (λ part. HasNumber part alone.0) was.2 (alone-at (needed (component_seen lines was.0)) numbered alone.0 long alone.1))
-
     pub back-number : (n : ℕ) (fault : Fault) → get_or numbered.faults n None ≡ Some fault →
         (part : Part) × Contains (parts_of lines) part × (first_of_part part ≡ Some fault)
     back-number n fault e = ⊎_elim by-uid by-lone (first-back needed events n fault e)
@@ -286,19 +223,3 @@ module _ (needed : PartedComponentSeen → Option Fault) where
         by-lone h =
             let was = was-mapped (component_seen lines) (all_events lines) h.0 h.1 in
             (was.0 ∷ [], is-lone was.0 was.1 (ap (λ (c : PartedComponentSeen). c.uids) was.2 ∙ h.2), ap needed was.2 ∙ h.3)
-
-    -- a sound event has the number of a part in which it is
-    pub sound-number : (sound : SoundEventSeen) → Contains (labelled needed events).events sound →
-        (part : Part) × Contains (parts_of lines) part × HasNumber part sound.part
-    sound-number sound k = by_event (each-sound events sound k)
-      where
-        by_place : (event : Placed) → Contains (all_events lines) event →
-            IsPlaced (needed (component_seen lines event)) numbered (uids_of lines event) sound.part →
-            (part : Part) × Contains (parts_of lines) part × HasNumber part sound.part
-        by_place event k (inl h) = (of_uid h.0, is-part h.0 (place-has h.0 sound.part h.2), of-place h.0 sound.part h.2)
-        by_place event k (inr h) = (event ∷ [], is-lone event k h.0, alone-at (needed (component_seen lines event)) numbered sound.part long h.1)
-
-        by_event : IsOf events numbered sound.part → (part : Part) × Contains (parts_of lines) part × HasNumber part sound.part
-        by_event h =
-            let was = was-mapped (component_seen lines) (all_events lines) h.0 h.1 in
-            by_place was.0 was.1 (subst (λ (c : PartedComponentSeen). IsPlaced (needed c) numbered c.uids sound.part) (sym was.2) h.2)

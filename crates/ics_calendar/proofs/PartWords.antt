@@ -1,10 +1,6 @@
 -- The words in which the parts of a file are told, between its lines and what is kept of them.
-use Rattle.std.specs.Prelude.{◌≡◌, Bool, true, List, filter}
+use Rattle.std.specs.Prelude.{Bool, List, filter}
 use Rattle.std.specs.List.{flat_map, list_any}
-use Rattle.ics_components.specs.declared.deferred_check.DeferredCheck.{DeferredCheck}
-use Rattle.ics_components.specs.declared.deferred_check.DeferredCheck.TheVariants as check
-use Rattle.ics_components.specs.declared.deferred_check.Instant.{Instant}
-use Rattle.ics_components.specs.declared.deferred_check.Instant.TheVariants as instant
 use Rattle.ics_components.specs.declared.deferred_check.ZoneName.{ZoneName}
 use Rattle.ics_components.specs.declared.parsed_file.CalendarZone.{CalendarZone}
 use Rattle.ics_components.specs.EventLines.{zones_named}
@@ -23,13 +19,3 @@ names ls used event = list_any (λ zone. is_same used (record { calendar = inner
 -- the time zones of a part
 abbrev pub own_zones : List Placed → Part → List CalendarZone
 own_zones ls part = flat_map (λ z. zones_in (component_seen ls z).read) (filter (is_zone_for ls part) (filter begins_zone ls))
-
--- the event of a check names the time zone of the check, or those of its instants
-abbrev pub IsInstantNamed : List Placed → Placed → Instant → Type 0
-IsInstantNamed ls event (instant.Utc local) = Unit {0}
-IsInstantNamed ls event (instant.Zoned local used) = names ls used event ≡ true
-
-abbrev pub IsNamed : List Placed → Placed → DeferredCheck → Type 0
-IsNamed ls event check.End = Unit {0}
-IsNamed ls event (check.Zone used) = names ls used event ≡ true
-IsNamed ls event (check.Ends start end) = IsInstantNamed ls event start × IsInstantNamed ls event end

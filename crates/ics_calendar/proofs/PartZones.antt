@@ -4,7 +4,6 @@ use Rattle.std.proofs.Common.{Result, Ok, Err, arith}
 use Rattle.std.specs.List.{list_any}
 use Rattle.std.specs.Str.{bytes_eq}
 use Rattle.std.proofs.lemmas.List.Elements.{filter-append}
-use Rattle.std.proofs.lemmas.Slice.Eq.{bytes_eq-Decides}
 use Rattle.ics_components.specs.declared.fault.Fault.{Fault}
 use Rattle.ics_components.specs.declared.name.Name.TheVariants as name
 use Rattle.ics_components.specs.declared.deferred_check.ZoneName.{ZoneName}
@@ -16,12 +15,12 @@ use Rattle.ics_components.specs.Parted.{AreInPlace, component_seen, parted_lines
 use Rattle.ics_components.specs.PlacedLines.{Placed, innermost}
 use Rattle.ics_components.proofs.ItemFaults.{IsIn}
 use Rattle.ics_components.proofs.RestFaults.{in-filter}
+use Rattle.ics_components.proofs.Paths.{bytes_eq-back}
 use Rattle.ics_calendar.specs.Parts.{Part, is_zone_of}
 use Rattle.ics_calendar.specs.PartsRead.{sound_zones, zones_in}
 use Rattle.ics_calendar.proofs.PartFirst.{IsPart, calendar-plain, event-path, is_zone_for, zone-plain}
 use Rattle.ics_calendar.proofs.PartWords.{names, own_zones}
-use Rattle.ics_calendar.proofs.ZoneCalled.{zone_called}
-use Rattle.ics_calendar.proofs.ZoneNames.{AreCalled, IsOnly}
+use Rattle.ics_calendar.proofs.ZoneNames.{AreCalled, IsOnly, zone_called}
 
 -- A CHOICE of the items of some lines, by the lines and by what is read of them.
 module _ (f : Placed → List CalendarZone) (q : Placed → Bool) (r : CalendarZone → Bool) where
@@ -48,21 +47,12 @@ all-or-none r false all k [] called each = refl
 all-or-none r true all k (z ∷ zs) called each = rw (each z called.0, all-or-none r true all k zs called.1 each) refl
 all-or-none r false all k (z ∷ zs) called each = rw (each z called.0, all-or-none r false all k zs called.1 each) refl
 
-bytes-back : (a b : List ℕ) → bytes_eq a b ≡ bytes_eq b a
-bytes-back a b = by_tests (bytes_eq a b) (bytes_eq b a) refl refl
-  where
-    by_tests : (s t : Bool) → bytes_eq a b ≡ s → bytes_eq b a ≡ t → s ≡ t
-    by_tests true true e f = refl
-    by_tests false false e f = refl
-    by_tests true false e f = let back = (bytes_eq-Decides b a).1 (sym ((bytes_eq-Decides a b).0 e)) in cc
-    by_tests false true e f = let back = (bytes_eq-Decides a b).1 (sym ((bytes_eq-Decides b a).0 f)) in cc
-
 -- AN EVENT NAMES A TIME ZONE by its one text in its calendar.
 any-named : (a : Bool) (text : List ℕ) (used : List (List ℕ)) →
     (a && list_any (λ zone. list_any (bytes_eq zone) (text ∷ [])) used) ≡ list_any (λ zone. a && bytes_eq text zone) used
 any-named true text [] = refl
 any-named false text [] = refl
-any-named true text (zone ∷ used) = let one = bytes-back zone text in let more = any-named true text used in grind (arith, one, more)
+any-named true text (zone ∷ used) = let one = bytes_eq-back zone text in let more = any-named true text used in grind (arith, one, more)
 any-named false text (zone ∷ used) = any-named false text used
 
 module _ (ls : List Placed) (z : Placed) (zone : begins_zone z ≡ true) (used : ZoneName) (only : IsOnly (texts_in name.Tzid ls z) (innermost z.path) used) where

@@ -1,7 +1,7 @@
 -- What is kept of the parts of a file wants and gives what its parts do.
 use Rattle.std.proofs.Common.{◌≡◌, ℕ, Bool, true, false, ◌&&◌, List, [], ◌∷◌, map, refl, sym, ap, ◌∙◌, cond, subst, Option, Some, None}
 use Rattle.std.specs.Prelude.{not}
-use Rattle.std.proofs.lemmas.Bool.{and_parts}
+use Rattle.std.proofs.lemmas.Bool.{and_parts, not-true}
 use Rattle.ics_components.proofs.MadeUids.{made_parts}
 use Rattle.std.specs.List.{Contains, flat_map, list_all}
 use Rattle.ics_text.specs.Unfolded.{begins_with_fold}
@@ -22,10 +22,9 @@ use Rattle.ics_calendar.specs.SoundParts.{PartsSeen, given_by_parts, parts_said,
 use Rattle.ics_calendar.proofs.FaultsNamed.{same-named}
 use Rattle.ics_calendar.proofs.OneEach.{one-each}
 use Rattle.ics_calendar.proofs.PartKept.{OneEach}
-use Rattle.ics_calendar.proofs.PartsFirst.{are-first}
+use Rattle.ics_calendar.proofs.PartsFirst.{are-first, wants}
 use Rattle.ics_calendar.proofs.PartsJudged.{AreFirst, are-judged}
 use Rattle.ics_calendar.proofs.PartsSaid.{parts-said}
-use Rattle.ics_calendar.proofs.PartsWant.{wants}
 
 -- WHAT IS KEPT, by the definition of the parts.
 module _ (name bytes : List ℕ) (parts : PartsSeen) (has : is_parted bytes ≡ true) (are : AreRead (parted_lines (with_uids name (placed bytes))) parts) where
@@ -119,14 +118,10 @@ module _ (name bytes : List ℕ) (parted : PartedFileSeen) (from : parted_of Non
         parts-are name bytes parts is.0 (subst (λ p. AreRead p parts) (is.1 ∙ ap parted_lines (sym (uids-are false e))) are),
       )
 
-  no-fold : (t : Bool) → not t ≡ true → t ≡ false
-  no-fold true e = cc
-  no-fold false e = refl
-
   made : parted_of (Some name) bytes ≡ Some (parted_lines (flat_map (with_uid name) lines))
   made =
       let parts = and_parts (not (begins_with_fold bytes)) (has_parts lines) (is-parted bytes parted from).0 in
-      made_parts name bytes (no-fold (begins_with_fold bytes) parts.0) parts.1
+      made_parts name bytes (not-true (begins_with_fold bytes) parts.0) parts.1
 
   pub read-made : (again : PartedFileSeen) (parts : PartsSeen) → all_without parted ≡ true → parted_of (Some name) bytes ≡ Some again → AreRead again parts →
       (is_parted bytes ≡ true) × (parts_said parts ≡ parts_in name bytes)

@@ -1,44 +1,33 @@
 -- THE EVENTS OF CHOSEN PARTS: those that are kept under the numbers of these parts are the events of these parts, in the order of the file.
 use Rattle.std.proofs.Common.{◌≡◌, ◌⊎◌, inl, inr, ℕ, Bool, true, false, ◌==◌, List, [], ◌∷◌, ◌++◌, map, filter, refl, sym, ap, ◌∙◌}
-use Rattle.std.proofs.Common.{Option, append_assoc, cond, subst, ⊎_elim, Result, Ok, Err}
-use Rattle.std.specs.List.{Contains, flat_map, fold, list_any}
-use Rattle.std.specs.Str.{bytes_eq}
+use Rattle.std.proofs.Common.{Option, append_assoc, cond, subst, Result, Ok, Err}
+use Rattle.std.specs.List.{Contains, flat_map, fold}
 use Rattle.std.proofs.lemmas.Bool.{eq-eqb, eqb-true}
 use Rattle.std.proofs.lemmas.Grind.{flat_map-append, fold-append}
 use Rattle.std.proofs.lemmas.List.{append-nil, map-append}
-use Rattle.std.proofs.lemmas.List.Elements.{Contains-append_cases, Contains-append_right, filter-append}
+use Rattle.std.proofs.lemmas.List.Elements.{Contains-append_right, filter-append}
+use Rattle.std.proofs.lemmas.List.Folds.{flat_map-map}
 use Rattle.ics_components.specs.declared.fault.Fault.{Fault}
-use Rattle.ics_components.specs.EventLines.{all_events, has_no_uid, has_uid, is_event, is_none_of, uids_of}
+use Rattle.ics_components.specs.EventLines.{all_events, has_no_uid, has_uid, is_event, uids_of}
 use Rattle.ics_components.specs.ParsedFiles.{nothing_parsed}
 use Rattle.ics_components.specs.ParsedFileSeen.{ParsedFileSeen}
 use Rattle.ics_components.specs.Parted.{AreInPlace, PartedComponentSeen, begins_part, component_seen}
-use Rattle.ics_components.specs.PlacedLines.{Placed, is_begin}
+use Rattle.ics_components.specs.PlacedLines.{Placed}
 use Rattle.ics_components.proofs.Folds.{item_read}
 use Rattle.ics_components.proofs.GatheredItems.{parsed_in}
 use Rattle.ics_components.proofs.ItemFaults.{IsIn}
 use Rattle.ics_components.proofs.Opened.{any-in, in-any, one-begin}
-use Rattle.ics_components.proofs.RestFaults.{in-filter, left-or, two-of}
+use Rattle.ics_components.proofs.RestFaults.{in-filter, left-or}
 use Rattle.ics_calendar.specs.Parts.{Part, parts_of}
 use Rattle.ics_calendar.specs.PartsRead.{Labelled, labelled, nothing_labelled, sound_in, with_event}
 use Rattle.ics_calendar.specs.SoundParts.{SoundEventSeen, of_parts}
-use Rattle.ics_calendar.specs.Wanted.{each_once}
 use Rattle.ics_calendar.proofs.OneEach.{part-within}
-use Rattle.ics_calendar.proofs.OneUid.{AtMostOne, was-flattened, was-kept, was-mapped}
+use Rattle.ics_calendar.proofs.OneUid.{AtMostOne, contains-in, each-part, in-contains, none-has, was-flattened, was-kept}
 use Rattle.ics_calendar.proofs.PartEvents.{sounds}
-use Rattle.ics_calendar.proofs.PartFirst.{is_event_of}
+use Rattle.ics_calendar.proofs.PartFirst.{event-begins, is_event_of}
 use Rattle.ics_calendar.proofs.PartKept.{IsKept, OneEach, OwnKept, own-kept, the-one}
-use Rattle.ics_calendar.proofs.PartLaws.{at-cons, flattened, here, is-here, kept, no-element, there}
+use Rattle.ics_calendar.proofs.PartLaws.{flattened, here, is-here, kept}
 use Rattle.ics_calendar.proofs.PartNumbers.{events}
-
--- A LINE stands in a list, in both words for it.
-pub contains-in : (ks : List Placed) (k : Placed) → Contains ks k → IsIn k ks
-contains-in [] k h = no-element k h
-contains-in (m ∷ ms) k h = ⊎_elim (λ e. inl e) (λ l. inr (contains-in ms k l)) (at-cons m ms k h)
-
-pub in-contains : (ks : List Placed) (k : Placed) → IsIn k ks → Contains ks k
-in-contains [] k i = absurd i
-in-contains (m ∷ ms) k i =
-    ⊎_elim (λ (e : m ≡ k). subst (λ (x : Placed). Contains (x ∷ ms) k) (sym e) (here k ms)) (λ j. there m ms k (in-contains ms k j)) i
 
 pub same-truth : (a b : Bool) → (a ≡ true → b ≡ true) → (b ≡ true → a ≡ true) → a ≡ b
 same-truth true b f g = sym (f refl)
@@ -53,32 +42,10 @@ module _ (lines : List Placed) (event : Placed) where
       ⊎ ((has_no_uid lines event ≡ true) × ((event ∷ []) ≡ part))
 
   part-is : (part : Part) → Contains (parts_of lines) part → Contains part event → IsPartOf part
-  part-is part k h =
-      ⊎_elim by-uid by-lone (Contains-append_cases (map of_uid (each_once uids)) (map (λ event. event ∷ []) lone) part k)
-    where
-      of_uid : List ℕ → Part
-      of_uid uid = filter (has_uid lines uid) (all_events lines)
-
-      uids : List (List ℕ)
-      uids = flat_map (uids_of lines) (all_events lines)
-
-      lone : List Placed
-      lone = filter (has_no_uid lines) (all_events lines)
-
-      by-uid : Contains (map of_uid (each_once uids)) part → IsPartOf part
-      by-uid m =
-          let was = was-mapped of_uid (each_once uids) part m in
-          inl (was.0, (was-kept (has_uid lines was.0) (all_events lines) event (subst (λ p. Contains p event) (sym was.2) h)).0, was.2)
-
-      by-lone : Contains (map (λ event. event ∷ []) lone) part → IsPartOf part
-      by-lone m =
-          let was = was-mapped (λ event. event ∷ []) lone part m in
-          let same : was.0 ≡ event = is-here was.0 event (subst (λ p. Contains p event) (sym was.2) h) in
-          inr (ap (has_no_uid lines) (sym same) ∙ (was-kept (has_no_uid lines) (all_events lines) was.0 was.1).0, ap (λ e. e ∷ []) (sym same) ∙ was.2)
-
-  none-has : (us : List (List ℕ)) (uid : List ℕ) → is_none_of us ≡ true → list_any (bytes_eq uid) us ≡ true → ⊥
-  none-has [] uid e f = cc
-  none-has (x ∷ xs) uid e f = cc
+  part-is =
+      each-part lines (λ part. Contains part event → IsPartOf part)
+      (λ uid u h. inl (uid, (was-kept (has_uid lines uid) (all_events lines) event h).0, refl))
+      (λ own i none h. let same : own ≡ event = is-here own event h in inr (ap (has_no_uid lines) (sym same) ∙ none, ap (λ e. e ∷ []) (sym same)))
 
   -- an event with at most one UID is in one part
   one-part : AtMostOne (uids_of lines event) → (a b : Part) → IsPartOf a → IsPartOf b → a ≡ b
@@ -89,9 +56,6 @@ module _ (lines : List Placed) (event : Placed) where
   one-part one a b (inl p) (inr q) = absurd (none-has (uids_of lines event) p.0 q.0 p.1)
   one-part one a b (inr p) (inl q) = absurd (none-has (uids_of lines event) q.0 p.0 q.1)
   one-part one a b (inr p) (inr q) = sym p.1 ∙ q.1
-
-pub event-begins : (e : Placed) → is_event e ≡ true → is_begin e ≡ true
-event-begins e t = (two-of (is_begin e) _ (two-of _ _ t).1).0
 
 -- a sound event, whatever its number
 abbrev pub unnumbered : SoundEventSeen → SoundEventSeen
@@ -199,10 +163,6 @@ same-flat f g [] each = refl
 same-flat f g (k ∷ ks) each =
     let one = each k (inl refl) in let more = same-flat f g ks (λ m i. each m (inr i)) in λ i. one i ++ more i
 
-flat-mapped : {X Y Z : Type 0} (g : Y → List Z) (f : X → Y) (xs : List X) → flat_map g (map f xs) ≡ flat_map (λ x. g (f x)) xs
-flat-mapped g f [] = refl
-flat-mapped g f (x ∷ xs) = ap (λ zs. g (f x) ++ zs) (flat-mapped g f xs)
-
 flat-flat : {X Y Z : Type 0} (g : Y → List Z) (f : X → List Y) (xs : List X) → flat_map g (flat_map f xs) ≡ flat_map (λ x. flat_map g (f x)) xs
 flat-flat g f [] = refl
 flat-flat g f (x ∷ xs) = flat_map-append g (f x) (flat_map f xs) ∙ ap (λ zs. flat_map g (f x) ++ zs) (flat-flat g f xs)
@@ -225,7 +185,7 @@ module _ {X : Type 0} (f : ParsedFileSeen → List X) (none : f nothing_parsed �
       flat_map (λ sound. f sound.read) (flat_map (sounds n) (map (component_seen lines) part)) ≡ flat_map (λ e. f (parsed_in (item_read lines e))) part
   all-gathers n part events =
       flat-flat (λ (sound : SoundEventSeen). f sound.read) (sounds n) (map (component_seen lines) part)
-      ∙ flat-mapped (λ c. flat_map (λ (sound : SoundEventSeen). f sound.read) (sounds n c)) (component_seen lines) part
+      ∙ flat_map-map (λ c. flat_map (λ (sound : SoundEventSeen). f sound.read) (sounds n c)) (component_seen lines) part
       ∙ same-flat (λ e. flat_map (λ (sound : SoundEventSeen). f sound.read) (sounds n (component_seen lines e))) (λ e. f (parsed_in (item_read lines e))) part
       (λ k i. sound-gathers f none n lines k (events k i))
 
@@ -234,8 +194,8 @@ module _ {X : Type 0} (f : ParsedFileSeen → List X) (none : f nothing_parsed �
       map unnumbered sound ≡ flat_map (λ e. sounds 0 (component_seen lines e)) (filter (is_event_of part) (all_events lines)) →
       flat_map (λ sound. f sound.read) sound ≡ flat_map (λ e. f (parsed_in (item_read lines e))) (filter (is_event_of part) (all_events lines))
   chosen-gathers part sound is =
-      sym (flat-mapped (λ (s : SoundEventSeen). f s.read) unnumbered sound)
-      ∙ ap (flat_map (λ (s : SoundEventSeen). f s.read)) (is ∙ sym (flat-mapped (sounds 0) (component_seen lines) chosen))
+      sym (flat_map-map (λ (s : SoundEventSeen). f s.read) unnumbered sound)
+      ∙ ap (flat_map (λ (s : SoundEventSeen). f s.read)) (is ∙ sym (flat_map-map (sounds 0) (component_seen lines) chosen))
       ∙ all-gathers 0 chosen (λ k i. (in-filter is_event lines k (in-filter (is_event_of part) (all_events lines) k i).0).1)
     where
       chosen : Part

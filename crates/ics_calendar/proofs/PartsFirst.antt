@@ -1,10 +1,11 @@
 -- What is kept of a file judges each of its parts as the definition does.
-use Rattle.std.proofs.Common.{◌≡◌, ℕ, true, false, ◌==◌, List, [], ◌∷◌, map, fold, refl, sym, ap, ◌∙◌, cond, subst, ⊎_elim}
+use Rattle.std.proofs.Common.{◌≡◌, ℕ, true, false, ◌==◌, List, [], ◌∷◌, map, refl, sym, ap, ◌∙◌, cond, subst, ⊎_elim, Bool, filter}
 use Rattle.std.proofs.Common.{Option, Some, None}
 use Rattle.std.specs.Prelude.{is_none, is_some}
 use Rattle.std.specs.List.{Contains, cons_option, filter_map, flat_map, list_any}
 use Rattle.std.specs.Str.{bytes_eq}
 use Rattle.std.proofs.lemmas.Bool.{eqb-true}
+use Rattle.std.proofs.lemmas.List.Folds.{fold-map}
 use Rattle.ics_components.specs.declared.deferred_check.DeferredCheck.TheVariants as check
 use Rattle.ics_components.specs.declared.deferred_check.ZoneName.{ZoneName}
 use Rattle.ics_components.specs.declared.fault.Fault.{Fault}
@@ -16,31 +17,28 @@ use Rattle.ics_components.specs.Parted.{PartedComponentSeen, component_seen, par
 use Rattle.ics_components.specs.PartFaults.{earlier}
 use Rattle.ics_components.specs.PlacedLines.{Placed}
 use Rattle.ics_components.proofs.PlacedApart.{AreParted}
+use Rattle.ics_components.specs.EventLines.{all_events}
 use Rattle.ics_calendar.specs.DeferredChecks.{unknown_in, with_files}
 use Rattle.ics_calendar.specs.Files.{later_fault}
-use Rattle.ics_calendar.specs.GivenFiles.{GivenFiles}
-use Rattle.ics_calendar.specs.Parts.{Part, lines_of, parts_of}
+use Rattle.ics_calendar.specs.GivenFiles.{GivenFiles, no_files}
+use Rattle.ics_calendar.specs.Parts.{Part, lines_of, parts_of, parts_want, sound_parts}
 use Rattle.ics_calendar.specs.PartsRead.{AreRead, Labelled, fault_needed, labelled, sound_zones}
 use Rattle.ics_calendar.specs.Settled.{all_unknown, first_judged, known_in}
 use Rattle.ics_calendar.specs.SoundParts.{PartsSeen, SoundEventSeen, checks_of, is_no_fault, is_sound, later_of, listed, of_parts, wanted_by}
-use Rattle.ics_calendar.specs.Wanted.{each_once}
+use Rattle.ics_calendar.specs.Wanted.{each_once, unknown_names}
 use Rattle.ics_calendar.proofs.OneUid.{was-flattened, was-kept, was-mapped}
-use Rattle.ics_calendar.proofs.PartChecks.{IsWanted, checks, checks-alike, checks_on, later-is, some_zones}
-use Rattle.ics_calendar.proofs.PartEach.{part-itself, some-event}
+use Rattle.ics_calendar.proofs.PartChecks.{IsWanted, checks, checks-alike, checks_on, later-is, some_zones, wants-are}
+use Rattle.ics_calendar.proofs.PartEach.{none-of, part-itself, some-event}
 use Rattle.ics_calendar.proofs.PartEvents.{under}
-use Rattle.ics_calendar.proofs.PartFirst.{IsPart, part-member, part_first}
+use Rattle.ics_calendar.proofs.PartFirst.{IsPart, all_lines, is_event_of, part-member, part_first}
 use Rattle.ics_calendar.proofs.PartKept.{IsKept, OneEach}
 use Rattle.ics_calendar.proofs.PartLaws.{at-cons, flattened, here, kept, mapped, no-element, once, there}
 use Rattle.ics_calendar.proofs.PartNumbers.{events, first_of_part, itself-in}
-use Rattle.ics_calendar.proofs.PartsChosen.{all-gathers}
-use Rattle.ics_calendar.proofs.PartsJoined.{part-is}
+use Rattle.ics_calendar.proofs.PartsChosen.{all-gathers, chosen-events, chosen-gathers}
+use Rattle.ics_calendar.proofs.PartsJoined.{AreAmong, AreFree, joined, joined-free, joined-is, none-is, part-is}
 use Rattle.ics_calendar.proofs.PartsJudged.{AreFirst}
 use Rattle.ics_calendar.proofs.RestSays.{rest-says}
-use Rattle.ics_calendar.proofs.ZonesKept.{first-alike, known-alone, zone_named}
-
-fold-mapped : {X Y Z : Type 0} (f : Z → Y → Z) (g : X → Y) (z : Z) (xs : List X) → fold (λ z x. f z (g x)) z xs ≡ fold f z (map g xs)
-fold-mapped f g z [] = refl
-fold-mapped f g z (x ∷ xs) = fold-mapped f g (f z (g x)) xs
+use Rattle.ics_calendar.proofs.ZonesKept.{first-alike, known-alone, unknown-alike, zone_named}
 
 module _ {X Y : Type 0} where
   kept-some : (f : X → Option Y) (xs : List X) (x : X) (y : Y) → Contains xs x → f x ≡ Some y → Contains (filter_map f xs) y
@@ -86,7 +84,7 @@ module _ (ls : List Placed) (parted : AreParted ls) (parts : PartsSeen) (are : A
   first-is part k =
       let some = some-event ls part k in
       part_first ls parted.in_place parted.apart part (part-is ls part k) parted.nested some.0 some.1
-      ∙ fold-mapped (λ first event. earlier first (needed event)) (component_seen ls) None part
+      ∙ sym (fold-map (λ first event. earlier first (needed event)) (component_seen ls) None part)
 
   -- a part is sound where its number is
   pub sound-is : (part : Part) (n : ℕ) → Contains (parts_of ls) part → IsKept needed ls part n →
@@ -155,3 +153,56 @@ module _ (ls : List Placed) (parted : AreParted ls) (parts : PartsSeen) (are : A
     later = λ part n k is none. later-first files part n k is none;
     rest = rest-says files ls parted.in_place parted.apart parted.nested ∙ ap listed (sym are.rest);
   }
+
+  -- WHAT THE PARTS WANT is what the sound ones do as one.
+  abbrev is_free : Part → Bool
+  is_free part = is_none (first_fault (lines_of ls part))
+
+  all-among : AreAmong ls (sound_parts ls)
+  all-among part k = (was-kept is_free (parts_of ls) part k).1
+
+  all-free : AreFree ls (sound_parts ls)
+  all-free part k = none-is (first_fault (lines_of ls part)) (was-kept is_free (parts_of ls) part k).0
+
+  abbrev together : Part
+  together = joined (sound_parts ls)
+
+  together-is : IsPart ls together
+  together-is = joined-is ls (sound_parts ls) all-among
+
+  abbrev together_checks : List LineCheck
+  together_checks = checks ls parted.in_place parted.nested together together-is
+
+  -- their checks
+  kept-together : checks_of (of_parts (is_sound parts.faults) parts.events) ≡ together_checks
+  kept-together =
+      (λ i. checks_of (of_parts (is_sound (are.faults i)) (are.events i)))
+      ∙ chosen-gathers (λ (read : ParsedFileSeen). read.checks) refl ls together (of_parts (is_sound all.numbered.faults) all.events)
+      (chosen-events needed ls parted.in_place (is_sound all.numbered.faults) is_free (λ part n k is. sound-is part n k is)
+      (λ part k e. one part k (none-is (first_fault (lines_of ls part)) e)))
+
+  pub wants : wanted_by (known_in zones).index parts.faults parts.events ≡ parts_want ls
+  wants =
+      ap (λ (ws : List LineCheck). each_once (all_unknown (known_in zones).index ws)) kept-together
+      ∙ by_events together refl
+      ∙ ap (λ (lines : List Placed). each_once (unknown_names lines)) (sym (all_lines ls (sound_parts ls)))
+    where
+      nothing : (lines : List Placed) → lines ≡ [] → each_once (unknown_names lines) ≡ []
+      nothing lines e = ap (λ (lines : List Placed). each_once (unknown_names lines)) e
+
+      by_events : (es : Part) → together ≡ es →
+          each_once (all_unknown (known_in zones).index together_checks) ≡ each_once (unknown_names (lines_of ls together))
+      by_events [] e =
+          let none : filter (is_event_of together) (all_events ls) ≡ [] =
+          ap (λ (es : Part). filter (is_event_of es) (all_events ls)) e ∙ none-of (is_event_of []) (all_events ls) (λ k i. refl) in
+          ap
+          (λ (items : List Placed).
+          each_once (all_unknown (known_in zones).index (flat_map (checks_on ls parted.in_place parted.nested together together-is) items)))
+          none
+          ∙ sym (nothing (lines_of ls together) (ap (lines_of ls) e ∙ none-of (λ line. false) ls (λ k i. refl)))
+      by_events (event ∷ es) e =
+          let none = joined-free ls parted (sound_parts ls) all-among all-free event (subst (λ (es : Part). Contains es event) (sym e) (here event es)) in
+          ap each_once
+          (sym (unknown-alike no_files (some_zones ls parted.in_place parted.nested together together-is) zones [] [] together_checks
+          (checks-alike ls parted.in_place parted.nested together together-is no_files [] [] (λ used k missing gone. refl))))
+          ∙ wants-are ls parted.in_place parted.nested together together-is none

@@ -1,7 +1,7 @@
 -- Several parts of a file are as one of all their events, without a fault of the first round if none of them has one.
 use Rattle.std.proofs.Common.{◌≡◌, Bool, true, false, List, [], ◌∷◌, flat_map, fold, refl, sym, ap, ◌∙◌, cond, Option, Some, None, Result, Ok, Err}
 use Rattle.std.proofs.Common.{⊎_elim}
-use Rattle.std.specs.Prelude.{nat_le}
+use Rattle.std.specs.Prelude.{is_none, nat_le}
 use Rattle.std.specs.List.{Contains}
 use Rattle.ics_components.specs.declared.fault.Fault.{Fault}
 use Rattle.ics_components.specs.EventLines.{all_events, is_event, zones_named}
@@ -14,10 +14,9 @@ use Rattle.ics_components.proofs.PlacedApart.{AreParted}
 use Rattle.ics_calendar.specs.Parts.{Part, lines_of, parts_of}
 use Rattle.ics_calendar.specs.PartsRead.{fault_beside, fault_needed, fault_read}
 use Rattle.ics_calendar.proofs.OneEach.{part-within}
-use Rattle.ics_calendar.proofs.OneUid.{was-flattened, was-kept}
+use Rattle.ics_calendar.proofs.OneUid.{contains-in, was-flattened, was-kept}
 use Rattle.ics_calendar.proofs.PartFirst.{IsPart, part_first}
-use Rattle.ics_calendar.proofs.PartLaws.{at-cons, flattened, here, no-element, there}
-use Rattle.ics_calendar.proofs.PartsChosen.{contains-in}
+use Rattle.ics_calendar.proofs.PartLaws.{at-cons, here, no-element, there}
 
 is-part-of : (ls : List Placed) (part : Part) → ((e : Placed) → Contains part e → Contains (all_events ls) e) → IsPart ls part
 is-part-of ls [] h = tt
@@ -28,6 +27,10 @@ is-part-of ls (e ∷ es) h =
 -- a part is some events of the file
 pub part-is : (ls : List Placed) (part : Part) → Contains (parts_of ls) part → IsPart ls part
 part-is ls part k = is-part-of ls part (λ e m. part-within ls part e k m)
+
+pub none-is : (o : Option Fault) → is_none o ≡ true → o ≡ None
+none-is None e = refl
+none-is (Some fault) e = cc
 
 -- THE EARLIEST of some faults is none, if and only if none is one.
 neither : (a b : Option Fault) → earlier a b ≡ None → (a ≡ None) × (b ≡ None)
@@ -66,10 +69,6 @@ AreAmong ls parts = (part : Part) → Contains parts part → Contains (parts_of
 
 abbrev pub AreFree : List Placed → List Part → Type 0
 AreFree ls parts = (part : Part) → Contains parts part → first_fault (lines_of ls part) ≡ None
-
--- an event of a part is one of all
-pub into-joined : (parts : List Part) (part : Part) (event : Placed) → Contains parts part → Contains part event → Contains (joined parts) event
-into-joined parts part event k h = flattened (λ part. part) parts part event k h
 
 pub joined-is : (ls : List Placed) (parts : List Part) → AreAmong ls parts → IsPart ls (joined parts)
 joined-is ls parts among =

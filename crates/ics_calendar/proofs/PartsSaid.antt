@@ -30,15 +30,15 @@ use Rattle.ics_calendar.specs.SoundParts.{PartsSeen, SoundEventSeen, accepted_of
 use Rattle.ics_calendar.specs.SoundParts.{names_zone, of_parts, said_with, zones_for}
 use Rattle.ics_calendar.proofs.FaultsNamed.{IsPartAt}
 use Rattle.ics_calendar.proofs.OneEach.{one-each}
-use Rattle.ics_calendar.proofs.OneUid.{was-kept}
+use Rattle.ics_calendar.proofs.OneUid.{in-contains, was-kept}
 use Rattle.ics_calendar.proofs.PartChecks.{own, zones}
 use Rattle.ics_calendar.proofs.PartEach.{of-part}
 use Rattle.ics_calendar.proofs.PartEvents.{sounds}
 use Rattle.ics_calendar.proofs.PartFirst.{IsPart, all_lines, is_event_of, part-member, part_events, part_says}
 use Rattle.ics_calendar.proofs.PartLaws.{here}
 use Rattle.ics_calendar.proofs.PartWords.{names}
-use Rattle.ics_calendar.proofs.PartsChosen.{chosen-events, chosen-gathers, in-contains, same-truth, unnumbered}
-use Rattle.ics_calendar.proofs.PartsJoined.{AreAmong, AreFree, is-read, joined, joined-free, joined-is, none-joined}
+use Rattle.ics_calendar.proofs.PartsChosen.{chosen-events, chosen-gathers, same-truth, unnumbered}
+use Rattle.ics_calendar.proofs.PartsJoined.{AreAmong, AreFree, is-read, joined, joined-free, joined-is, none-is, none-joined}
 use Rattle.ics_calendar.proofs.PartsJudged.{AreFirst, part-at}
 
 -- A PART IS ACCEPTED where neither round finds a fault.
@@ -47,17 +47,13 @@ both-none None None said = refl
 both-none None (Some f) said = refl
 both-none (Some f) later said = refl
 
-none-there : (o : Option Fault) → is_none o ≡ true → o ≡ None
-none-there None e = refl
-none-there (Some f) e = cc
-
 abbrev accepts : GivenFiles → List Placed → Part → Bool
 accepts files ls part = is_ok (lines_say files (lines_of ls part))
 
 accepted-free : (files : GivenFiles) (ls : List Placed) (part : Part) → accepts files ls part ≡ true → first_fault (lines_of ls part) ≡ None
 accepted-free files ls part e =
     let own : List Placed = lines_of ls part in
-    none-there (first_fault own)
+    none-is (first_fault own)
     (and_parts (is_none (first_fault own)) (is_none (later_fault files own))
     (sym (both-none (first_fault own) (later_fault files own) (said_of files own)) ∙ e)).0
 

@@ -1,22 +1,20 @@
 -- What the rest of a file says is its first fault, as it is kept.
-use Rattle.std.proofs.Common.{◌≡◌, inl, inr, Bool, true, false, ◌||◌, List, [], ◌∷◌, ◌++◌, filter, flat_map, fold, refl, sym, ap, ◌∙◌, Option, Some, None}
+use Rattle.std.proofs.Common.{◌≡◌, inl, inr, Bool, true, false, List, [], ◌∷◌, ◌++◌, filter, flat_map, fold, refl, sym, ap, ◌∙◌, Option, Some, None}
 use Rattle.std.proofs.Common.{Result, Ok, Err}
 use Rattle.std.specs.List.{list_any}
 use Rattle.ics_components.specs.declared.fault.Fault.{Fault}
 use Rattle.ics_components.specs.EventLines.{all_events, is_event, is_well_nested}
 use Rattle.ics_components.specs.FirstFault.{first_fault}
-use Rattle.ics_components.specs.Observances.{begins_zone}
 use Rattle.ics_components.specs.ParsedFileSeen.{ParsedFileSeen}
 use Rattle.ics_components.specs.ParsedFiles.{nothing_parsed}
 use Rattle.ics_components.specs.PartFaults.{earlier}
-use Rattle.ics_components.specs.Parted.{AreInPlace, Broken, LinesRead, Reads, begins_part, block_read, gathered_in, is_line_of, parted_lines}
+use Rattle.ics_components.specs.Parted.{AreInPlace, begins_part, is_line_of, parted_lines}
 use Rattle.ics_components.specs.PlacedLines.{Placed}
 use Rattle.ics_components.proofs.ChosenLines.{AreChosen, chosen_in_place, fault_of}
 use Rattle.ics_components.proofs.Folds.{item_read}
 use Rattle.ics_components.proofs.GatheredItems.{chosen_parsed, parsed_checks, parsed_in}
 use Rattle.ics_components.proofs.ItemFaults.{AreApart, IsIn}
 use Rattle.ics_components.proofs.Opened.{begins_taken}
-use Rattle.ics_components.proofs.PartKinds.{zone_gathers}
 use Rattle.ics_components.proofs.PassLemmas.{parsed_from}
 use Rattle.ics_components.proofs.RestFaults.{in-filter, is_rest, never-both, not-true, of-one, own-line, rest_chosen}
 use Rattle.ics_components.proofs.RestFirst.{rest_first}
@@ -29,6 +27,7 @@ use Rattle.ics_calendar.specs.Settled.{all_unknown, known_in, settled_by}
 use Rattle.ics_calendar.specs.SoundParts.{listed}
 use Rattle.ics_calendar.specs.Wanted.{each_once}
 use Rattle.ics_calendar.proofs.LinesSettle.{lines_settle}
+use Rattle.ics_calendar.proofs.PartFirst.{zone-nothing}
 
 pub same-fault : (r : Result ParsedFileSeen Fault) → fault_of r ≡ fault_read r
 same-fault (Ok read) = refl
@@ -44,7 +43,7 @@ module _ (ls : List Placed) (h : AreInPlace 0 [] ls) (nested : is_well_nested ls
 
   -- Time zones have no checks, and no event is left.
   zone-checks : (k : Placed) → IsIn k (filter begins_part (rest_of ls)) → (parsed_in (item_read ls k)).checks ≡ []
-  zone-checks k i = rw (one.1) (by_read (block_read ls k) refl)
+  zone-checks k i = (zone-nothing ls h k two.0 one.1 (no-event (is_event k) refl)).1
     where
       one : IsIn k (rest_of ls) × (begins_part k ≡ true)
       one = in-filter begins_part (rest_of ls) k i
@@ -52,14 +51,10 @@ module _ (ls : List Placed) (h : AreInPlace 0 [] ls) (nested : is_well_nested ls
       two : IsIn k ls × (is_rest ls k ≡ true)
       two = in-filter (is_rest ls) ls k one.0
 
-      zone : (t : Bool) → is_event k ≡ t → begins_zone k ≡ true
-      zone false t = sym (ap (λ x. x || begins_zone k) t) ∙ one.1
-      zone true t =
+      no-event : (t : Bool) → is_event k ≡ t → t ≡ false
+      no-event false t = refl
+      no-event true t =
           never-both (list_any (λ event. is_line_of event k) (all_events ls)) (of-one ls h k k two.0 t (own-line ls h k)) (not-true ls h _ two.1)
-
-      by_read : (r : LinesRead) → block_read ls k ≡ r → (parsed_in (gathered_in r)).checks ≡ []
-      by_read (Broken f) x = refl
-      by_read (Reads last more) x = (zone_gathers ls h k two.0 (zone (is_event k) refl) last more x).1
 
   -- So the rest has none, and no fault of the second round.
   module _ (none : first_fault (rest_of ls) ≡ None) where

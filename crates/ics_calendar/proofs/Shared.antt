@@ -40,9 +40,6 @@ pub or-cond : {X : Type 0} (o : Option X) (s t : Bool) (x : X) →
     option_or (option_or o (cond s (Some x) None)) (cond t (Some x) None) ≡ option_or o (cond (s || (t || false)) (Some x) None)
 or-cond o s t x = grind arith
 
-pub same-number : (o : Option ℕ) (t : Bool) (place : ℕ) → unwrap_or (option_or o (cond t (Some place) None)) place ≡ unwrap_or o place
-same-number o t place = grind arith
-
 pub calendar-more : (cs : List (ℕ × Fault)) (c : ℕ × Fault) (k : ℕ) →
     calendar_fault (cs ++ c ∷ []) k ≡ option_or (calendar_fault cs k) (cond (c.0 == k) (Some c.1) None)
 calendar-more [] c k = refl

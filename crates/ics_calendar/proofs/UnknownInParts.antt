@@ -1,8 +1,8 @@
 -- A name that the time zones of a part do not define is defined in no larger choice of lines: a time zone that an event names is whole in its part.
-use Rattle.std.proofs.Common.{◌≡◌, ◌⊎◌, inl, inr, ℕ, ◌<◌, Bool, true, false, ◌&&◌, ◌||◌, not, ◌==◌, List, [], ◌∷◌, map, filter, refl, sym, ap, ◌∙◌}
+use Rattle.std.proofs.Common.{◌≡◌, inl, ℕ, ◌<◌, Bool, true, false, ◌&&◌, ◌||◌, not, ◌==◌, List, [], ◌∷◌, map, filter, refl, sym, ap, ◌∙◌}
 use Rattle.std.proofs.Common.{◌+◌, Option, Some, None, arith, cond, subst, ⊎_elim}
-use Rattle.std.specs.Prelude.{codes, filter_map, is_some, option_map, unwrap_or}
-use Rattle.std.specs.List.{Contains, cons_option, list_any, position_from}
+use Rattle.std.specs.Prelude.{codes, is_some, option_map, unwrap_or}
+use Rattle.std.specs.List.{Contains, list_any, position_from}
 use Rattle.std.specs.Option.{option_and_then}
 use Rattle.std.specs.Str.{bytes_eq}
 use Rattle.std.proofs.lemmas.Bool.{and_from, eq-eqb, eqb-true}
@@ -37,39 +37,15 @@ use Rattle.ics_calendar.specs.LaterFaults.{has_zone, is_in_unknown_zone, is_in_z
 use Rattle.ics_calendar.specs.Parts.{Part, frames, is_in_part, is_of, is_zone_of, lines_of, needs}
 use Rattle.ics_calendar.specs.Wanted.{unknown_names}
 use Rattle.ics_calendar.specs.Zones.{zones_on}
+use Rattle.ics_calendar.proofs.EventNames.{any-said}
 use Rattle.ics_calendar.proofs.NamedZones.{property-named}
-use Rattle.ics_calendar.proofs.OneUid.{kept-inside, was-kept, was-mapped}
+use Rattle.ics_calendar.proofs.OneUid.{contains-in, in-contains, kept-inside, was-kept, was-mapped}
 use Rattle.ics_calendar.proofs.PartFirst.{IsPart, is_zone_for, part_in_place, root-there, zones_there}
-use Rattle.ics_calendar.proofs.PartLaws.{at-cons, here, kept, mapped, no-element, there}
-
--- ELEMENTS, by their places and one after the other.
-pub in-contains : (k : Placed) (ks : List Placed) → IsIn k ks → Contains ks k
-in-contains k [] i = absurd i
-in-contains k (m ∷ ms) i =
-    ⊎_elim (λ (same : m ≡ k). subst (λ x. Contains (x ∷ ms) k) (sym same) (here k ms)) (λ j. there m ms k (in-contains k ms j)) i
-
-pub contains-in : (k : Placed) (ks : List Placed) → Contains ks k → IsIn k ks
-contains-in k [] c = absurd (no-element k c)
-contains-in k (m ∷ ms) c = ⊎_elim (λ (same : m ≡ k). inl same) (λ d. inr (contains-in k ms d)) (at-cons m ms k c)
+use Rattle.ics_calendar.proofs.PartLaws.{kept, mapped}
 
 pub any-map : {X : Type 0} (p : X → Bool) (f : Placed → X) (ks : List Placed) → list_any p (map f ks) ≡ list_any (λ k. p (f k)) ks
 any-map p f [] = refl
 any-map p f (k ∷ ks) = ap (λ t. p (f k) || t) (any-map p f ks)
-
-any-name : (p : List ℕ → Bool) (n : List ℕ) (l : Placed) (ks : List Placed) → IsIn l ks → named_on l ≡ Some n → p n ≡ true →
-    list_any p (filter_map named_on ks) ≡ true
-any-name p n l [] i e t = absurd i
-any-name p n l (k ∷ ks) i e t = by_place (λ j. any-name p n l ks j e t) i
-  where
-    more : (o : Option (List ℕ)) → list_any p (filter_map named_on ks) ≡ true → list_any p (cons_option o (filter_map named_on ks)) ≡ true
-    more None h = h
-    more (Some m) h = right-or (p m) (list_any p (filter_map named_on ks)) h
-
-    by_place : (IsIn l ks → list_any p (filter_map named_on ks) ≡ true) → (k ≡ l) ⊎ IsIn l ks →
-        list_any p (cons_option (named_on k) (filter_map named_on ks)) ≡ true
-    by_place later (inl same) =
-        ap (λ o. list_any p (cons_option o (filter_map named_on ks))) (ap named_on same ∙ e) ∙ left-or (p n) (list_any p (filter_map named_on ks)) t
-    by_place later (inr j) = more (named_on k) (later j)
 
 first-in : (ks : List Placed) (k : Placed) → first_of ks ≡ Some k → IsIn k ks
 first-in [] k e = cc
@@ -206,7 +182,7 @@ module _ {ls : List Placed} {part : Part} (c : IsChosen ls part) where
       let there : IsIn l (lines_in e.number ls) =
       filter-in (λ m. innermost m.path == e.number) ls l (of-own l i).0 (eq-eqb (innermost l.path) e.number b.inner) in
       let names : list_any (λ zone. list_any (bytes_eq zone) (texts_in name.Tzid ls z)) (zones_named ls e) ≡ true =
-      any-name (λ zone. list_any (bytes_eq zone) (texts_in name.Tzid ls z)) (tzid_on l) l (lines_in e.number ls) there (zone-on l are.0) are.3 in
+      any-said named_on (λ zone. list_any (bytes_eq zone) (texts_in name.Tzid ls z)) (lines_in e.number ls) l (tzid_on l) there (zone-on l are.0) are.3 in
       let zone : is_zone_of ls e z ≡ true =
       and_from (begins_zone z) _ are.1
       (and_from (calendar_of z.path == calendar_of e.path) _ (eq-eqb (calendar_of z.path) (calendar_of e.path) (are.2 ∙ b.calendar)) names) in
@@ -276,7 +252,7 @@ module _ {ls : List Placed} {part : Part} (c : IsChosen ls part) where
     pub still-unknown : (n : List ℕ) → Contains (unknown_names own) n → Contains (unknown_names qs) n
     still-unknown n k =
         subst (λ m. Contains (unknown_names qs) m) was.2
-        (mapped tzid_on (filter unknown qs) x (kept unknown qs x lacks (in-contains x qs (w.more x i))))
+        (mapped tzid_on (filter unknown qs) x (kept unknown qs x lacks (in-contains qs x (w.more x i))))
       where
         unknown : Placed → Bool
         unknown = is_in_unknown_zone (zones_on qs)
@@ -291,7 +267,7 @@ module _ {ls : List Placed} {part : Part} (c : IsChosen ls part) where
         before = was-kept (is_in_unknown_zone (zones_on own)) own x was.1
 
         i : IsIn x own
-        i = contains-in x own before.1
+        i = contains-in own x before.1
 
         two : (is_in_zone x ≡ true) × (not (has_zone (zones_on own) x) ≡ true)
         two = two-of (is_in_zone x) (not (has_zone (zones_on own) x)) before.0

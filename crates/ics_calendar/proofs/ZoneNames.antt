@@ -1,6 +1,7 @@
 -- What is read of a time zone is called as its one TZID says, in its calendar.
-use Rattle.std.proofs.Common.{◌≡◌, ◌⊎◌, inl, inr, ℕ, ◌<◌, Bool, true, false, ◌&&◌, ◌==◌, List, [], ◌∷◌, ◌++◌, drop, map, filter, refl, sym, ap, ◌∙◌}
-use Rattle.std.proofs.Common.{Option, Some, None, arith, cond, is_some, subst}
+use Rattle.std.proofs.Common.{◌≡◌, ℕ, Bool, true, false, ◌&&◌, ◌||◌, ◌==◌, List, [], ◌∷◌, ◌++◌, drop, map, refl, sym, ap, ◌∙◌}
+use Rattle.std.proofs.Common.{Option, Some, None, Ok, arith, cond, is_some, subst, ⊎_elim}
+use Rattle.std.specs.Prelude.{codes, not}
 use Rattle.std.specs.Option.{option_or}
 use Rattle.std.proofs.lemmas.Bool.{ne_eqb}
 use Rattle.ics_text.specs.Bytes.{upper}
@@ -12,33 +13,32 @@ use Rattle.ics_components.specs.declared.builder.ZoneBuilder.{ZoneBuilder}
 use Rattle.ics_components.specs.declared.component.Component.{Component}
 use Rattle.ics_components.specs.declared.component.Component.TheVariants as component
 use Rattle.ics_components.specs.declared.deferred_check.ZoneName.{ZoneName}
-use Rattle.ics_components.specs.declared.fault.FaultKind.{FaultKind}
-use Rattle.ics_components.specs.declared.fault.FaultKind.TheVariants.{BadLine, NoObservance, ObservanceField}
+use Rattle.ics_components.specs.declared.fault.FaultKind.TheVariants.{NoObservance, ObservanceField}
 use Rattle.ics_components.specs.declared.frame.Frame.{Frame}
 use Rattle.ics_components.specs.declared.name.Name.{Name}
 use Rattle.ics_components.specs.declared.name.Name.TheVariants as name
 use Rattle.ics_components.specs.declared.parsed_file.CalendarZone.{CalendarZone}
 use Rattle.ics_components.specs.Builders.{builder_at}
-use Rattle.ics_components.specs.Components.{component_of, context_in}
-use Rattle.ics_components.specs.Lines.{behind, builder_note, context_at, end_fault, ended_as, fault_on, joined, least_fault, line_fault, passing}
+use Rattle.ics_components.specs.Components.{context_in, is_calendar_context}
+use Rattle.ics_components.specs.EventLines.{is_event, texts_in}
+use Rattle.ics_components.specs.Lines.{builder_note, context_at, end_fault, ended_as, fault_on, joined, least_fault, line_fault, passing}
 use Rattle.ics_components.specs.Names.{same_name}
+use Rattle.ics_components.specs.Observances.{begins_zone}
 use Rattle.ics_components.specs.ParsedFileSeen.{ParsedFileSeen}
 use Rattle.ics_components.specs.ParsedFiles.{and_line, zones_of_end}
-use Rattle.ics_components.specs.PartFaults.{is_within}
-use Rattle.ics_components.specs.Parted.{AreInPlace, Reads, part_in, read_behind, read_on, unless_faulty}
-use Rattle.ics_components.specs.PlacedLines.{Open, Placed, all_named, innermost, is_end, is_named, lines_in, name_on, named, path_behind, value}
+use Rattle.ics_components.specs.Parted.{AreInPlace, PartedComponentSeen, component_seen}
+use Rattle.ics_components.specs.PlacedLines.{Open, Placed, all_named, context_of, in_calendar, innermost, is_end, is_named, lines_in}
+use Rattle.ics_components.specs.PlacedLines.{name_on, named, path_behind, value}
 use Rattle.ics_components.specs.SecondRound.{zone_named}
-use Rattle.ics_components.proofs.Blocks.{broken-stays}
-use Rattle.ics_components.proofs.Folds.{no-more-within, part-bounds}
+use Rattle.ics_components.proofs.BlockHolds.{IsFrom, IsHeld, IsRead, begun_frame, held_block, is_property}
+use Rattle.ics_components.proofs.Folds.{part-bounds}
+use Rattle.ics_components.proofs.ItemFaults.{IsIn}
 use Rattle.ics_components.proofs.Judgements.{unmatched_end, zone_end}
-use Rattle.ics_components.proofs.Order.{Absent, Falls, falls-behind}
-use Rattle.ics_components.proofs.PartKinds.{IsFilled}
-use Rattle.ics_components.proofs.PartPaths.{closed-part, part-open}
-use Rattle.ics_components.proofs.PartsLemmas.{AreElsewhere, behind-inner, elsewhere}
-use Rattle.ics_components.proofs.RestFaults.{two-of}
-
-reads-are : (fs gs : List Frame) (x y : ParsedFileSeen) → Reads fs x ≡ Reads gs y → x ≡ y
-reads-are fs gs x y e = cc
+use Rattle.ics_components.proofs.Order.{Absent}
+use Rattle.ics_components.proofs.PartKinds.{begins-called}
+use Rattle.ics_components.proofs.PartPaths.{closed-part}
+use Rattle.ics_components.proofs.PartsLemmas.{AreElsewhere, elsewhere}
+use Rattle.ics_components.proofs.RestFaults.{right-or, two-of}
 
 -- A TZID without a fault is the first of its time zone, and a time zone that ends without one has one.
 zone-line : (c : Parts) (had : ZoneBuilder) → line_fault name.Tzid c (builder.Zone had) ≡ cond (is_some had.name) (Some ObservanceField) None
@@ -59,7 +59,7 @@ ends-named true had e = one-name _ (is_some had.name) (sym (zone_end had) ∙ e)
 ends-named false had e = let never = sym (unmatched_end (builder.Zone had)) ∙ e in cc
 
 -- WHAT THE TZID LINES of a component say, line by line.
-abbrev pub texts : ℕ → List Placed → List (List ℕ)
+abbrev texts : ℕ → List Placed → List (List ℕ)
 texts b ls = map (λ line. text_of (value line)) (all_named name.Tzid (lines_in b ls))
 
 no-text : (b : ℕ) (l : Placed) (ls : List Placed) → (is_named name.Tzid l && (innermost l.path == b)) ≡ false → texts b (l ∷ ls) ≡ texts b ls
@@ -85,6 +85,21 @@ IsInner (builder.Observance had) = Unit {0}
 IsInner builder.Elsewhere = Unit {0}
 IsInner _ = ⊥
 
+opens-inner : (g : Builder) → IsInner g → (c : Component) → IsInner (builder_at [] [] (context_in (context_at g) c))
+opens-inner (builder.Observance had) i c = tt
+opens-inner builder.Elsewhere i c = tt
+opens-inner _ i c = absurd i
+
+notes-inner : (n : Name) (c : Parts) (g : Builder) → IsInner g → IsInner (builder_note n c g)
+notes-inner n c (builder.Observance had) x = tt
+notes-inner n c builder.Elsewhere x = tt
+notes-inner n c _ x = absurd x
+
+ends-inner : (g i : Builder) → IsInner g → IsInner (joined g i)
+ends-inner (builder.Observance had) i x = tt
+ends-inner builder.Elsewhere i x = tt
+ends-inner _ i x = absurd x
+
 -- A NAME in that calendar that is the only text.
 pub record IsOnly (all : List (List ℕ)) (calendar : ℕ) (used : ZoneName) : Type 0 where
   pub text : List ℕ
@@ -100,7 +115,7 @@ both-called : (all : List (List ℕ)) (calendar : ℕ) (zs ws : List CalendarZon
 both-called all calendar [] ws a b = b
 both-called all calendar (z ∷ zs) ws a b = (a.0, both-called all calendar zs ws a.1 b)
 
--- WITHIN A TIME ZONE: its texts are that which is noted, if there is one, and those of the lines that are left.
+-- THE TIME ZONE: its texts are that which is noted, if there is one, and those of the lines that are left.
 module _ (all : List (List ℕ)) (k b : ℕ) where
   abbrev IsNoted : List (List ℕ) → Option (List ℕ) → Type 0
   IsNoted left None = all ≡ left
@@ -110,91 +125,44 @@ module _ (all : List (List ℕ)) (k b : ℕ) where
   IsOwn left (builder.Zone had) = IsNoted left had.name
   IsOwn left _ = ⊥
 
-  abbrev pub OverOwn : List (List ℕ) → List Open → List Frame → Type 0
-  OverOwn left [] frames = ⊥
-  OverOwn left (c ∷ cs) [] = ⊥
-  OverOwn left (c ∷ cs) (f ∷ fs) =
-      IsFilled fs × ((c.begun == b) ≡ true → (f.calendar ≡ k) × IsOwn left f.builder) × ((c.begun == b) ≡ false → IsInner f.builder × OverOwn left cs fs)
-
   named-as : (left : List (List ℕ)) (m : ℕ) (o : Option (List ℕ)) → is_some o ≡ true → IsNoted left o → left ≡ [] → m ≡ k → IsOnly all k (zone_named m o)
   named-as left m None s x e f = cc
   named-as left m (Some text) s x e f =
       record { text = text; called = ap (λ n. zone_named n (Some text)) f; only = x ∙ ap (λ ts. text ∷ ts) e }
 
-  module _ (left : List (List ℕ)) where
-    opens-inner : (g : Builder) → (IsOwn left g ⊎ IsInner g) → (c : Component) → IsInner (builder_at [] [] (context_in (context_at g) c))
-    opens-inner (builder.Zone had) i component.Standard = tt
-    opens-inner (builder.Zone had) i component.Daylight = tt
-    opens-inner (builder.Zone had) i _ = tt
-    opens-inner (builder.Observance had) i c = tt
-    opens-inner builder.Elsewhere i c = tt
-    opens-inner _ (inl x) c = absurd x
-    opens-inner _ (inr x) c = absurd x
+  opens-own : (left : List (List ℕ)) (g : Builder) → IsOwn left g → (c : Component) → IsInner (builder_at [] [] (context_in (context_at g) c))
+  opens-own left (builder.Zone had) x component.Standard = tt
+  opens-own left (builder.Zone had) x component.Daylight = tt
+  opens-own left (builder.Zone had) x _ = tt
+  opens-own left _ x c = absurd x
 
-    ends-own : (g i : Builder) → IsOwn left g → IsOwn left (joined g i)
-    ends-own (builder.Zone had) (builder.Observance other) x = x
-    ends-own (builder.Zone had) _ x = x
-    ends-own _ i x = absurd x
+  ends-own : (left : List (List ℕ)) (g i : Builder) → IsOwn left g → IsOwn left (joined g i)
+  ends-own left (builder.Zone had) (builder.Observance other) x = x
+  ends-own left (builder.Zone had) _ x = x
+  ends-own left _ i x = absurd x
 
-    notes-own : (n : Name) (c : Parts) (g : Builder) → same_name n name.Tzid ≡ false → IsOwn left g → IsOwn left (builder_note n c g)
-    notes-own name.Tzid c g e x = cc
-    notes-own _ c (builder.Zone had) e x = x
-    notes-own _ c _ e x = absurd x
+  -- what ends is called so
+  end-called : (left : List (List ℕ)) (c : Parts) (f g : Frame) (gs : List Frame) → fault_on name.End c (f ∷ g ∷ gs) ≡ None → f.calendar ≡ k →
+      IsOwn left f.builder → left ≡ [] → AreCalled all k (zones_of_end (ended_as f.calendar f.builder))
+  end-called left c f g gs none same x empty = by_builder f.builder none x
+    where
+      by_builder : (i : Builder) → fault_on name.End c (record f { builder = i } ∷ g ∷ gs) ≡ None → IsOwn left i →
+          AreCalled all k (zones_of_end (ended_as f.calendar i))
+      by_builder (builder.Zone had) none x = (named-as left f.calendar had.name (ends-named _ had none) x empty same, tt)
+      by_builder _ none x = absurd x
 
-    top-is : (path : List Open) (f : Frame) (fs : List Frame) → OverOwn left path (f ∷ fs) → ((f.calendar ≡ k) × IsOwn left f.builder) ⊎ IsInner f.builder
-    top-is [] f fs over = absurd over
-    top-is (c ∷ cs) f fs over = by_test (c.begun == b) refl
-      where
-        by_test : (t : Bool) → (c.begun == b) ≡ t → ((f.calendar ≡ k) × IsOwn left f.builder) ⊎ IsInner f.builder
-        by_test true t = inl (over.1 t)
-        by_test false t = inr (over.2 t).0
+  inner-called : (m : ℕ) (g : Builder) → IsInner g → AreCalled all k (zones_of_end (ended_as m g))
+  inner-called m (builder.Observance had) x = tt
+  inner-called m builder.Elsewhere x = tt
+  inner-called m _ x = absurd x
 
-    own-or-inner : (g : Builder) {A : Type 0} → (A × IsOwn left g) ⊎ IsInner g → IsOwn left g ⊎ IsInner g
-    own-or-inner g (inl x) = inl x.1
-    own-or-inner g (inr x) = inr x
-
-    -- what ends is called so
-    end-called : (c : Parts) (f g : Frame) (gs : List Frame) → fault_on name.End c (f ∷ g ∷ gs) ≡ None →
-        ((f.calendar ≡ k) × IsOwn left f.builder × (left ≡ [])) ⊎ IsInner f.builder → AreCalled all k (zones_of_end (ended_as f.calendar f.builder))
-    end-called c f g gs none x = by_builder f.builder none x
-      where
-        by_builder : (i : Builder) → fault_on name.End c (record f { builder = i } ∷ g ∷ gs) ≡ None →
-            ((f.calendar ≡ k) × IsOwn left i × (left ≡ [])) ⊎ IsInner i → AreCalled all k (zones_of_end (ended_as f.calendar i))
-        by_builder (builder.Zone had) none (inl x) = (named-as left f.calendar had.name (ends-named _ had none) x.1 x.2 x.0, tt)
-        by_builder (builder.Zone had) none (inr x) = absurd x
-        by_builder (builder.Event had) none (inl x) = absurd x.1
-        by_builder (builder.Event had) none (inr x) = absurd x
-        by_builder _ none x = tt
-
-    called-by : (number : ℕ) (c : Parts) (path : List Open) (frames : List Frame) (n : Name) (had : ParsedFileSeen) → OverOwn left path frames →
-        fault_on n c frames ≡ None → ((same_name n name.End && (innermost path == b)) ≡ true → left ≡ []) → AreCalled all k had.zones →
-        AreCalled all k (and_line number (passing n c frames) had).zones
-    called-by number c [] frames n had over none ended called = absurd over
-    called-by number c (o ∷ os) [] n had over none ended called = absurd over
-    called-by number c (o ∷ os) (f ∷ []) n had over none ended called = absurd over.0
-    called-by number c (o ∷ os) (f ∷ g ∷ gs) name.End had over none ended called =
-        both-called all k had.zones (zones_of_end (ended_as f.calendar f.builder)) called (end-called c f g gs none (by_test (o.begun == b) refl))
-      where
-        by_test : (t : Bool) → (o.begun == b) ≡ t → ((f.calendar ≡ k) × IsOwn left f.builder × (left ≡ [])) ⊎ IsInner f.builder
-        by_test true t = let own = over.1 t in inl (own.0, own.1, ended t)
-        by_test false t = inr (over.2 t).0
-    called-by number c (o ∷ os) (f ∷ g ∷ gs) _ had over none ended called = both-called all k had.zones [] called tt
-
-    line-called : (l : Placed) (c : Parts) (frames : List Frame) (had : ParsedFileSeen) → l.content ≡ Some c → OverOwn left l.path frames →
-        fault_on (named c) c frames ≡ None → ((is_end l && (innermost l.path == b)) ≡ true → left ≡ []) → AreCalled all k had.zones →
-        AreCalled all k (and_line l.number (passing (named c) c frames) had).zones
-    unfolding name_on
-    line-called l c frames had at over none ended called = called-by l.number c l.path frames (named c) had over none (rw at at ended) called
-
-  notes-inner : (n : Name) (c : Parts) (g : Builder) → IsInner g → IsInner (builder_note n c g)
-  notes-inner n c (builder.Observance had) x = tt
-  notes-inner n c builder.Elsewhere x = tt
-  notes-inner n c _ x = absurd x
-
-  ends-inner : (g i : Builder) → IsInner g → IsInner (joined g i)
-  ends-inner (builder.Observance had) i x = tt
-  ends-inner builder.Elsewhere i x = tt
-  ends-inner _ i x = absurd x
+  line-called : (number : ℕ) (n : Name) (c : Parts) (f g : Frame) (gs : List Frame) (had : ParsedFileSeen) →
+      (same_name n name.End ≡ true → fault_on name.End c (f ∷ g ∷ gs) ≡ fault_on n c (f ∷ g ∷ gs) →
+      AreCalled all k (zones_of_end (ended_as f.calendar f.builder))) →
+      AreCalled all k had.zones → AreCalled all k (and_line number (passing n c (f ∷ g ∷ gs)) had).zones
+  line-called number name.End c f g gs had ended called =
+      both-called all k had.zones (zones_of_end (ended_as f.calendar f.builder)) called (ended refl refl)
+  line-called number _ c f g gs had ended called = both-called all k had.zones [] called tt
 
   -- A LINE takes its text from those that are left, if it is a TZID of the zone.
   module _ (before after : List (List ℕ)) where
@@ -207,59 +175,15 @@ module _ (all : List (List ℕ)) (k b : ℕ) where
         by_name (Some text) e x = cc
     notes-first c _ none take x = absurd x
 
-    moved : (path : List Open) (frames : List Frame) → before ≡ after → OverOwn before path frames → OverOwn after path frames
-    moved path frames e over = subst (λ (left : List (List ℕ)). OverOwn left path frames) e over
+    notes-other : (n : Name) (c : Parts) (g : Builder) → same_name n name.Tzid ≡ false → before ≡ after → IsOwn before g → IsOwn after (builder_note n c g)
+    notes-other name.Tzid c g e same x = cc
+    notes-other _ c (builder.Zone had) e same x = subst (λ left. IsNoted left had.name) same x
+    notes-other _ c _ e same x = absurd x
 
-    over-by : (number : ℕ) (c : Parts) (path : List Open) (frames : List Frame) (n : Name) → OverOwn before path frames →
-        (same_name n name.End && (innermost path == b)) ≡ false → (number == b) ≡ false → fault_on n c frames ≡ None →
-        ((same_name n name.Tzid && (innermost path == b)) ≡ false → before ≡ after) →
-        ((same_name n name.Tzid && (innermost path == b)) ≡ true → before ≡ text_of c.value ∷ after) →
-        OverOwn after
-        (cond (same_name n name.Begin) (record { name = map upper c.value; begun = number } ∷ path) (cond (same_name n name.End) (drop 1 path) path))
-        (behind number n c frames)
-    over-by number c [] frames n over e ne none skip take = absurd over
-    over-by number c (o ∷ os) [] n over e ne none skip take = absurd over
-    over-by number c (o ∷ os) (f ∷ []) n over e ne none skip take = absurd over.0
-    over-by number c (o ∷ os) (f ∷ g ∷ gs) name.Begin over e ne none skip take =
-        let inner = opens-inner before f.builder (own-or-inner before f.builder (top-is before (o ∷ os) f (g ∷ gs) over)) (component_of (map upper c.value)) in
-        (tt, (λ t. never-both t ne), λ t. (inner, moved (o ∷ os) (f ∷ g ∷ gs) (skip refl) over))
-      where
-        never-both : {Y : Type 0} → (number == b) ≡ true → (number == b) ≡ false → Y
-        never-both x y = cc
-    over-by number c (o ∷ []) (f ∷ g ∷ gs) name.End over e ne none skip take = absurd (over.2 e).1
-    over-by number c (o ∷ p ∷ ps) (f ∷ g ∷ gs) name.End over e ne none skip take =
-        let outer = moved (p ∷ ps) (g ∷ gs) (skip refl) (over.2 e).1 in (
-          outer.0,
-          (λ t. ((outer.1 t).0, ends-own after g.builder f.builder (outer.1 t).1)),
-          λ t. (ends-inner g.builder f.builder (outer.2 t).0, (outer.2 t).1),
-        )
-    over-by number c (o ∷ os) (f ∷ g ∷ gs) name.Tzid over e ne none skip take = (
-      over.0,
-      (λ t. ((over.1 t).0, notes-first c f.builder none (take t) (over.1 t).1)),
-      λ t. (notes-inner name.Tzid c f.builder (over.2 t).0, moved os (g ∷ gs) (skip t) (over.2 t).1),
-    )
-    over-by number c (o ∷ os) (f ∷ g ∷ gs) n over e ne none skip take =
-        let same = moved (o ∷ os) (f ∷ g ∷ gs) (skip refl) over in (
-          over.0,
-          (λ t. ((same.1 t).0, notes-own after n c f.builder refl (same.1 t).1)),
-          λ t. (notes-inner n c f.builder (same.2 t).0, (same.2 t).1),
-        )
-
-    over-behind : (l : Placed) (c : Parts) (frames : List Frame) → l.content ≡ Some c → OverOwn before l.path frames →
-        (is_end l && (innermost l.path == b)) ≡ false → (l.number == b) ≡ false → fault_on (named c) c frames ≡ None →
-        ((is_named name.Tzid l && (innermost l.path == b)) ≡ false → before ≡ after) →
-        ((is_named name.Tzid l && (innermost l.path == b)) ≡ true → before ≡ text_of (value l) ∷ after) →
-        OverOwn after (path_behind l) (behind l.number (named c) c frames)
-    unfolding name_on
-    over-behind l c frames at over e ne none skip take =
-        rw at (over-by l.number c l.path frames (named c) over (rw at at e) ne none (rw at at skip) (rw at at take))
-
-  -- THE LINES of the zone behind some.
-  abbrev Keeps : List Placed → Type 0
-  Keeps ls =
-      (n : ℕ) (path : List Open) (frames last : List Frame) (had more : ParsedFileSeen) → Falls path → AreInPlace n path ls → part_in path ≡ Some b →
-      OverOwn (texts b ls) path frames → AreCalled all k had.zones → read_behind (Reads frames had) (filter (is_within b) ls) ≡ Reads last more →
-      AreCalled all k more.zones
+    notes-own : (n : Name) (c : Parts) (f g : Frame) (gs : List Frame) → fault_on n c (f ∷ g ∷ gs) ≡ None → (same_name n name.Tzid ≡ false → before ≡ after) →
+        (same_name n name.Tzid ≡ true → before ≡ text_of c.value ∷ after) → IsOwn before f.builder → IsOwn after (builder_note n c f.builder)
+    notes-own name.Tzid c f g gs none skip take x = notes-first c f.builder none (take refl) x
+    notes-own n c f g gs none skip take x = notes-other n c f.builder refl (skip refl) x
 
   end-no-text : (m : Name) → same_name m name.End ≡ true → same_name m name.Tzid ≡ false
   end-no-text name.End e = refl
@@ -269,58 +193,86 @@ module _ (all : List (List ℕ)) (k b : ℕ) where
   end-no-begin name.End e = refl
   end-no-begin _ e = cc
 
-  module _ (l : Placed) (ls : List Placed) (falls : Falls l.path) (inner : innermost l.path < l.number)
-      (h : AreInPlace l.number (path_behind l) ls) (p : part_in l.path ≡ Some b) where
-    apart-from : (l.number == b) ≡ false
-    apart-from = let bounds = part-bounds l.path b falls p in ne_eqb l.number b (λ same. omega (arith, same, bounds.1, inner))
+  not-own : (n : Name) (t : Bool) → (not (same_name n name.Begin || same_name n name.End) && t) ≡ false → (same_name n name.Tzid && t) ≡ false
+  not-own name.Tzid t e = e
+  not-own _ t e = refl
 
+  abbrev Own : List Placed → Frame → Type 0
+  Own left f = (f.calendar ≡ k) × IsOwn (texts b left) f.builder
+
+  module _ (ls : List Placed) where
     -- none of its lines is left behind its END
-    ended : (is_end l && (innermost l.path == b)) ≡ true → texts b (l ∷ ls) ≡ []
-    ended e =
-        let ends = two-of (is_end l) (innermost l.path == b) e in
-        let bounds = part-bounds l.path b falls p in
-        let path : path_behind l ≡ drop 1 l.path = rw (end-no-begin (name_on l.content) ends.0, ends.0) refl in
-        let out = closed-part l.path b falls p ends.1 in
+    ended : (l : Placed) (left : List Placed) (c : Parts) (frames : List Frame) → IsRead ls b l left c frames → is_end l ≡ true →
+        (innermost l.path == b) ≡ true → texts b (l ∷ left) ≡ []
+    ended l left c frames read e t =
+        let bounds = part-bounds l.path b read.falls read.within in
+        let path : path_behind l ≡ drop 1 l.path = rw (end-no-begin (name_on l.content) e, e) refl in
+        let out = closed-part l.path b read.falls read.within t in
         let gone : Absent b (path_behind l) = rw path out.1 in
-        no-text b l ls (rw (end-no-text (name_on l.content) ends.0) refl)
-        ∙ no-texts b ls (elsewhere ls b l.number (path_behind l) bounds.0 (omega (arith, bounds.1, inner)) gone h)
+        no-text b l left (rw (end-no-text (name_on l.content) e) refl)
+        ∙ no-texts b left (elsewhere left b l.number (path_behind l) bounds.0 (omega (arith, bounds.1, read.inner)) gone read.places)
 
-    one-line : Keeps ls → (frames last : List Frame) (had more : ParsedFileSeen) → OverOwn (texts b (l ∷ ls)) l.path frames → AreCalled all k had.zones →
-        read_behind (read_on l.number l.content (Reads frames had)) (filter (is_within b) ls) ≡ Reads last more → AreCalled all k more.zones
-    one-line again frames last had more over called e = by_content l.content refl e
-      where
-        by_end : (c : Parts) → l.content ≡ Some c → fault_on (named c) c frames ≡ None → (t : Bool) → (is_end l && (innermost l.path == b)) ≡ t →
-            read_behind (Reads (behind l.number (named c) c frames) (and_line l.number (passing (named c) c frames) had)) (filter (is_within b) ls)
-            ≡ Reads last more → AreCalled all k more.zones
-        by_end c at sound true t e =
-            let none : filter (is_within b) ls ≡ [] = no-more-within l ls b falls inner h p t in
-            let left : Reads (behind l.number (named c) c frames) (and_line l.number (passing (named c) c frames) had) ≡ Reads last more = rw none at e in
-            let same = reads-are (behind l.number (named c) c frames) last (and_line l.number (passing (named c) c frames) had) more left in
-            subst (λ (x : ParsedFileSeen). AreCalled all k x.zones) same (line-called (texts b (l ∷ ls)) l c frames had at over sound ended called)
-        by_end c at sound false t e =
-            again l.number (path_behind l) (behind l.number (named c) c frames) last (and_line l.number (passing (named c) c frames) had) more
-            (falls-behind l falls inner).0 h (behind-inner l b p t)
-            (over-behind (texts b (l ∷ ls)) (texts b ls) l c frames at over t apart-from sound (no-text b l ls) (one-text b l ls))
-            (line-called (texts b (l ∷ ls)) l c frames had at over sound ended called) e
+    gathers-own : (l : Placed) (left : List Placed) (c : Parts) (f g : Frame) (gs : List Frame) (had : ParsedFileSeen) →
+        IsRead ls b l left c (f ∷ g ∷ gs) → (innermost l.path == b) ≡ true → Own (l ∷ left) f → AreCalled all k had.zones →
+        AreCalled all k (and_line l.number (passing (named c) c (f ∷ g ∷ gs)) had).zones
+    unfolding name_on
+    gathers-own l left c f g gs had read t own called =
+        line-called l.number (named c) c f g gs had
+        (λ e same. end-called (texts b (l ∷ left)) c f g gs (same ∙ read.sound) own.0 own.1
+        (ended l left c (f ∷ g ∷ gs) read (rw (read.content) e) t)) called
 
-        by_fault : (c : Parts) → l.content ≡ Some c → (o : Option FaultKind) → fault_on (named c) c frames ≡ o →
-            read_behind (unless_faulty l.number o (Reads (behind l.number (named c) c frames) (and_line l.number (passing (named c) c frames) had)))
-            (filter (is_within b) ls) ≡ Reads last more → AreCalled all k more.zones
-        by_fault c at None sound e = by_end c at sound (is_end l && (innermost l.path == b)) refl e
-        by_fault c at (Some kind) sound e =
-            let broken = sym (broken-stays (filter (is_within b) ls) (record { line = l.number; kind = kind })) ∙ e in cc
+    skips : (l : Placed) (left : List Placed) (c : Parts) → l.content ≡ Some c → is_property b l.path (named c) ≡ false → texts b (l ∷ left) ≡ texts b left
+    unfolding name_on
+    skips l left c at t = no-text b l left (rw at (not-own (named c) (innermost l.path == b) t))
 
-        by_content : (o : Option Parts) → l.content ≡ o → read_behind (read_on l.number o (Reads frames had)) (filter (is_within b) ls) ≡ Reads last more →
-            AreCalled all k more.zones
-        by_content None at e = let broken = sym (broken-stays (filter (is_within b) ls) (record { line = l.number; kind = BadLine })) ∙ e in cc
-        by_content (Some c) at e = by_fault c at (fault_on (named c) c frames) refl e
+    notes-line : (l : Placed) (left : List Placed) (c : Parts) (f g : Frame) (gs : List Frame) → IsRead ls b l left c (f ∷ g ∷ gs) →
+        is_property b l.path (named c) ≡ true → Own (l ∷ left) f → Own left (record f { builder = builder_note (named c) c f.builder })
+    unfolding name_on
+    notes-line l left c f g gs read t own =
+        let at = read.content in
+        let direct : (innermost l.path == b) ≡ true =
+        (two-of (not (same_name (named c) name.Begin || same_name (named c) name.End)) (innermost l.path == b) t).1 in
+        let said : text_of (value l) ≡ text_of c.value = rw at refl in (
+          own.0,
+          notes-own (texts b (l ∷ left)) (texts b left) (named c) c f g gs (read.sound)
+              (λ e. no-text b l left (rw (at, e) refl))
+              (λ e. one-text b l left (rw (at, e) direct) ∙ ap (λ text. text ∷ texts b left) said) own.1,
+        )
 
-  pub called-within : (ls : List Placed) → Keeps ls
-  called-within [] n path frames last had more falls h p over called e =
-      subst (λ (x : ParsedFileSeen). AreCalled all k x.zones) (reads-are frames last had more e) called
-  called-within (l ∷ ls) n path frames last had more falls h p over called e =
-      let at : part_in l.path ≡ Some b = rw (h.0) p in
-      let inside : is_within b l ≡ true = part-open l.path b at in
-      let left : read_behind (read_on l.number l.content (Reads frames had)) (filter (is_within b) ls) ≡ Reads last more = rw inside at e in
-      one-line l ls (rw (h.0) falls) (rw (h.0) h.3) h.4 at (called-within ls) frames last had more
-      (subst (λ (q : List Open). OverOwn (texts b (l ∷ ls)) q frames) (sym h.0) over) called left
+    held : IsHeld ls b Own IsInner (λ read. AreCalled all k read.zones)
+    held = record {
+      begins = λ left f x c. ⊎_elim (λ own. opens-own (texts b left) f.builder own.1 c) (λ inner. opens-inner f.builder inner c) x;
+      joins = λ left f i own. (own.0, ends-own (texts b left) f.builder i own.1);
+      joins_inner = ends-inner;
+      notes = notes-line;
+      notes_inner = notes-inner;
+      passes = λ l left c f at t own. (own.0, subst (λ ts. IsOwn ts f.builder) (skips l left c at t) own.1);
+      gathers = gathers-own;
+      gathers_inner = λ number n c f g gs had inner called.
+          line-called number n c f g gs had (λ e same. inner-called f.calendar f.builder inner) called;
+    }
+
+-- WHAT IS READ OF A TIME ZONE is called as its one TZID says, in its calendar.
+pub zone_called : (ls : List Placed) → AreInPlace 0 [] ls → (z : Placed) → IsIn z ls → begins_zone z ≡ true → (read : ParsedFileSeen) →
+    (component_seen ls z).read ≡ Ok read → AreCalled (texts_in name.Tzid ls z) (innermost z.path) read.zones
+zone_called ls h z i t read e =
+    held_block ls z (held all k z.number ls) h i (right-or (is_event z) (begins_zone z) t)
+    (λ from c at. by_path from c (begins-called z (codes "VTIMEZONE") (two-of (in_calendar z) _ t).1 c at) z.path refl (two-of (in_calendar z) _ t).0) tt read e
+  where
+    all : List (List ℕ)
+    all = texts_in name.Tzid ls z
+
+    k : ℕ
+    k = innermost z.path
+
+    all-left : (from : IsFrom ls z) → all ≡ texts z.number from.rest
+    all-left from =
+        let inner = from.inner in
+        let own : texts_in name.Tzid (z ∷ from.rest) z ≡ texts z.number from.rest =
+        rw (ne_eqb (innermost z.path) z.number (λ same. omega (arith, same, inner))) refl in
+        ap (λ (seen : PartedComponentSeen). seen.names) from.same ∙ own
+
+    by_path : (from : IsFrom ls z) (c : Parts) → map upper c.value ≡ codes "VTIMEZONE" → (path : List Open) → z.path ≡ path →
+        is_calendar_context (context_of path) ≡ true → Own all k z.number from.rest (begun_frame z.number c path)
+    by_path from c word [] is i = cc
+    by_path from c word (o ∷ os) is i = rw word (sym (ap innermost is), all-left from)

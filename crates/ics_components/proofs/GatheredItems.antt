@@ -43,9 +43,6 @@ parts_alone lines (e ∷ es) = by_test (begins_part e) refl (parts_alone lines e
     by_test false b more =
         ap (λ had. and_parsed had (each_parsed lines es)) (nothing-in lines e b) ∙ and-nothing (each_parsed lines es) ∙ more
 
-same-had : (had more : ParsedFileSeen) → then_read (Ok had) (Ok more) ≡ Ok (and_parsed had more)
-same-had had more = refl
-
 abbrev as_ok : ParsedFileSeen → Result ParsedFileSeen Fault
 as_ok had = Ok had
 

@@ -33,5 +33,6 @@ pub mod PartLines
 pub mod RootFaults
 pub mod PlacedApart
 pub mod GatheredItems
+pub mod BlockHolds
 pub mod PartKinds
 pub mod PassedLines

@@ -59,15 +59,6 @@ not-two (c ∷ d ∷ e ∷ es) h =
 pub no_event : (os : List Open) → (length os == 2) ≡ false → is_event_context (context_of (reverse os)) ≡ false
 no_event os h = not-two (reverse os) (rw (length-reverse os) h)
 
-long : (ps : List Open) → 3 ≤ length ps → in_any_event ps ≡ false
-long [] h = refl
-long (c ∷ []) h = absurd (omega (arith, h))
-long (c ∷ d ∷ []) h = absurd (omega (arith, h))
-long (c ∷ d ∷ e ∷ es) h = refl
-
-pub no_any_event : (os : List Open) → 3 ≤ length os → in_any_event (reverse os) ≡ false
-no_any_event os h = long (reverse os) (rw (length-reverse os) h)
-
 -- an event of a calendar is an event
 flip : (a b : Bool) → (a && b) ≡ (b && a)
 flip a b = grind arith
