@@ -70,13 +70,18 @@ def yearly(count, locals_of_year):
     return in_zone(parts, *of_year(locals_of_year))
 
 
-def excluded(count, end):
-    """So many events that recur each second, of which a day is taken out. Their times end so."""
-    lines = []
+def excluded(count, end, *before):
+    """So many events that recur each second, of which a day is taken out, behind other lines. Their times end so."""
+    lines = [*before]
     for number in range(count):
         lines += ['BEGIN:VEVENT', 'UID:%d' % number, 'DTSTART:20240701T000000' + end, 'RRULE:FREQ=SECONDLY', 'EXDATE;VALUE=DATE:20240701',
                   'END:VEVENT']
     return calendar(lines)
+
+
+def once(day):
+    """Two events in the morning of a day."""
+    return [line for hour in ('09', '10') for line in ('BEGIN:VEVENT', 'UID:at ' + hour, 'DTSTART:%sT%s0000Z' % (day, hour), 'END:VEVENT')]
 
 
 def forward(after):
@@ -118,6 +123,8 @@ ROWS = [
     ('seconds of an excluded day, 4 rules', lambda: excluded(4, 'Z'), DAY, 4, 24),
     ('seconds of 8 rules, limit 1', lambda: excluded(8, 'Z'), ['2024-07-01', '10d', '--limit', '1'], 4, 32),
     ('the same by the clock of New York', lambda: excluded(8, ''), ['2024-07-01', '10d', '--limit', '1', '--zone', 'EST5EDT,M3.2.0,M11.1.0'], 12, 48),
+    ('64 rules behind what is listed, limit 1', lambda: excluded(64, '', *once('20240628')),
+     ['2024-06-28', '10d', '--limit', '1', '--zone', 'EST5EDT,M3.2.0,M11.1.0'], 1, 32),
     ('400,000 faulty events, --keep-going', lambda: faulty(400_000), [*DAY, '--keep-going'], 12, 256),
 ]
 

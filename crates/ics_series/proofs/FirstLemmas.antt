@@ -1,6 +1,6 @@
 -- Of sorted starts the first at each instant.
 use Rattle.std.proofs.Common.{◌≡◌, ℕ, ◌≤◌, ℤ, List, [], ◌∷◌, true, false, Option, Some, None, ◌⊎◌, inl, inr, ⊎_elim, refl, sym, ◌∙◌, ap, subst, arith, ◌<ℤ◌}
-use Rattle.std.proofs.Common.{int_cmp, int_eq, nat_cmp, is_gt, Less, Equal}
+use Rattle.std.proofs.Common.{◌≤ℤ◌, slice_get, int_cmp, int_eq, nat_cmp, is_gt, Less, Equal}
 use Rattle.std.specs.Cmp.{IsTotalOrder, int_ranks}
 use Rattle.std.specs.List.Sorted.{IsPermutation}
 use Rattle.std.specs.Ordering.{ordering_then, MatchOrdering}
@@ -19,7 +19,7 @@ use Rattle.ics_series.specs.Rising.{IsBefore, Rises}
 use Rattle.ics_series.specs.Starts.{IsNotAfter}
 use Rattle.std.specs.Option.{option_eq}
 use Rattle.ics_series.proofs.Cases.{eq-Equal, less-by, some-same, equal-true, up-to-front}
-use Rattle.ics_series.proofs.ListingLemmas.{IsUpTo, Climbs, in-permutation, up-to-in}
+use Rattle.ics_series.proofs.ListingLemmas.{IsUpTo, Climbs, before-in, in-permutation, up-to-in}
 
 pub source_total : IsTotalOrder source_cmp
 source_total = then_total (on_total part_of nat_cmp_total) (then_total (on_total day_in int_cmp_total) (on_total place_in nat_cmp_total))
@@ -38,6 +38,18 @@ tied-moment s t e = subst (λ o. MatchOrdering o (s.moment <ℤ t.moment) (s.mom
 
 pub int-less : (a b : ℤ) → int_cmp a b ≡ Less → a <ℤ b
 int-less a b e = subst (λ o. MatchOrdering o (a <ℤ b) (a ≡ b) (b <ℤ a)) e (int_ranks a b)
+
+-- the first of rising starts is at the least of their instants
+pub first-least : (xs : List Start) → Rises moment_cmp xs → (first : Start) → Some first ≡ slice_get xs 0 → (t : Start) → IsIn t xs → first.moment ≤ℤ t.moment
+first-least [] r first is t m = absurd m
+first-least (x ∷ xs) r first is t m =
+    let same = ap (λ (s : Start). s.moment) (some-same first x is) in
+    ⊎_elim (λ e. omega (arith, ints, same, ap (λ (s : Start). s.moment) e))
+    (λ n. omega (arith, ints, same, int-less x.moment t.moment (before-in moment_cmp moment_total x t xs r.0 n))) m
+
+pub none-first : (xs : List Start) → None ≡ slice_get xs 0 → (t : Start) → IsIn t xs → ⊥
+none-first [] is t m = m
+none-first (x ∷ xs) is t m = absurd cc
 
 nat-up-to : (a b : ℕ) → is_gt (nat_cmp a b) ≡ false → a ≤ b
 nat-up-to a b g = grind (arith, nat_tests)

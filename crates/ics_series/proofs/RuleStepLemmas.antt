@@ -222,6 +222,14 @@ module _ (s : RuleStarts) where
       ⊎_elim (λ n. (s.are t n).late) (λ n. let late = (found-late t n.1).0 in omega (arith, ints, late, s.asked_soon))
       (union-in moment_cmp moment_total t (held_in s) unread (rises-found (clocks_in s.zones) s.event.now s.rule s.window (place_of s.cursor)) m)
 
+  -- and none before an instant that is not after those of what is held, nor after the settled one
+  pub left-from : (from : ℤ) → ((t : Start) → IsIn t (held_in s) → from ≤ℤ t.moment) → from ≤ℤ settled_in s → (t : Start) → IsIn t (starts_left s) →
+      from ≤ℤ t.moment
+  unfolding to_come
+  left-from from held settled t m =
+      ⊎_elim (held t) (λ n. omega (arith, ints, settled, found-settled t n.1))
+      (union-in moment_cmp moment_total t (held_in s) unread (rises-found (clocks_in s.zones) s.event.now s.rule s.window (place_of s.cursor)) m)
+
 -- What is known of the starts once a day more is read, up to and with a local.
 pub record IsRead (s : RuleStarts) (day asked next : ℤ) (place known : ℕ) (held : List Start) : Type 0 where
   pub rises : Rises moment_cmp held

@@ -237,6 +237,16 @@ module _ (clocks : Clocks) (w : Window) (event : Event) (since : ℤ) where
       (λ tied. let same = tied-moment t x.0 tied in let is = x.2 in omega (arith, ints, after, same, is)) x.1))
   ruled-rest _ _ same c front h = absurd same
 
+  -- such an occurrence begins at the instant of one of these starts, and not before that from which on they are given
+  pub given-start : (starts : List Start) → ((s : Start) → IsIn s starts → s.moment ≡ instant clocks (time_of s.given)) → (o : Entry)
+      → IsIn o (given_of clocks w event since starts) → (since ≤ℤ o.start) × ((s : Start) × IsIn s starts × (s.moment ≡ o.start))
+  given-start starts timed o m =
+      let k = in-picked clocks event (is_wanted clocks w event since) starts o m in
+      let passes = and_parts (int_le since o.start) (is_met w o && not (is_excluded clocks event o.start)) k.passes in (
+        int_le_true since o.start passes.0,
+        (k.start, k.stands, timed k.start k.stands ∙ ap (λ (e : Entry). e.start) (sym k.is)),
+      )
+
   -- each occurrence that the starts of an event give is of it
   pub given-own : (starts : List Start) (e : Entry) → IsIn e (given_of clocks w event since starts) → e.event ≡ event
   given-own starts e m = ap (λ (o : Entry). o.event) (in-picked clocks event (is_wanted clocks w event since) starts e m).is
@@ -250,7 +260,7 @@ module _ (clocks : Clocks) (event : Event) where
   ruled-same _ _ same e f h = absurd same
 
   -- A rule has been read no further than three days past an occurrence that it gives and that is still to come.
-  rule-near : (o : Option RuleStarts) (coming : List Entry) → HasRuled clocks event o coming → (e : Entry) → IsIn e coming →
+  pub rule-near : (o : Option RuleStarts) (coming : List Entry) → HasRuled clocks event o coming → (e : Entry) → IsIn e coming →
       IsAskedNear clocks event (rule_asked o) e.start
   rule-near None coming ruled e m = tt
   rule-near (Some s) coming ruled e m = λ local k.

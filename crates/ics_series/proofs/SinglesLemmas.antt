@@ -1,6 +1,6 @@
 -- What an event gives at its DTSTART; what the versions that count give whose events start once, sorted by key, is their listing.
 use Rattle.std.proofs.Common.{◌≡◌, ℤ, List, [], map, length, inl, ⊎_elim, Option, Some, None, Bool, true, false, refl, sym, ◌∙◌, ap, subst, arith, ◌==◌, ◌&&◌}
-use Rattle.std.proofs.Common.{◌||◌, not, is_none, is_some, if◌then◌else◌, int_lt, filter, option_map, int_cmp, nat_cmp, Equal, ◌∷◌, inr}
+use Rattle.std.proofs.Common.{◌≤ℤ◌, ◌||◌, not, is_none, is_some, if◌then◌else◌, int_lt, filter, option_map, int_cmp, nat_cmp, Equal, ◌∷◌, inr}
 use Rattle.std.specs.List.{filter_map, list_any, AllByRecursion}
 use Rattle.std.specs.List.Sorted.{IsPermutation}
 use Rattle.std.specs.Option.{option_and_then}
@@ -57,6 +57,16 @@ use Rattle.ics_series.specs.Merged.{merged, IsFromFirst}
 use Rattle.ics_series.specs.Rising.{Rises}
 use Rattle.ics_series.proofs.AfterLemmas.{listing-after_key}
 use Rattle.ics_series.proofs.RecurringLemmas.{recurring-master, version-come}
+use Rattle.ics_series.specs.WindowBounds.{occurrence_first}
+use Rattle.ics_series.proofs.InstantLemmas.{late}
+
+-- none of those that start once begins before the last two days of the year 0000
+pub singles-late : (singles : List Single) (o : Entry) → IsIn o (map single_entry singles) → occurrence_first ≤ℤ o.start
+singles-late [] o m = absurd m
+singles-late (s ∷ singles) o m =
+    ⊎_elim
+    (λ e. omega (arith, ints, s.first, ap (λ (x : Entry). x.start) e, late s.zones s.event.now.start s.own.start.is_time))
+    (singles-late singles o) m
 
 pub given_total : IsTotalOrder given_cmp
 given_total = then_total (on_total subject_from subject_total) (on_total (λ e. e.start) int_cmp_total)

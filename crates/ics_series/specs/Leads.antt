@@ -1,6 +1,7 @@
 -- The lists of the leads of a merge: what was drawn from a feed, and what is left of it.
-use Rattle.std.specs.Prelude.{Bool, false, List, [], ◌∷◌, ⊤, Option, Some, None}
+use Rattle.std.specs.Prelude.{ℕ, suc, ℤ, ◌≤ℤ◌, Bool, false, List, [], ◌∷◌, length, ⊤, Option, Some, None}
 use Rattle.std.specs.Coded.{Unit-prop, Π_prop}
+use Rattle.std.proofs.Props.{props}
 use Rattle.std.specs.List.{AllByRecursion, AllByRecursion-prop}
 use Rattle.std.specs.Ordering.{is_eq}
 use Rattle.ics_series.specs.Entry.{Entry, entry_cmp, entry_of}
@@ -18,10 +19,17 @@ abbrev pub IsEmpty : List Entry → Type 0
 IsEmpty [] = ⊤
 IsEmpty (x ∷ xs) = ⊥
 
--- the rest comes after what was drawn. If nothing was drawn, nothing is left
-abbrev pub IsAhead : Option Occurrence → List Entry → Type 0
-IsAhead None rest = IsEmpty rest
-IsAhead (Some o) rest = IsBefore entry_cmp (entry_of o) rest
+-- none of these entries starts before an instant
+abbrev pub AreFrom : ℤ → List Entry → Type 0
+AreFrom from list = (o : Entry) → IsIn o list → from ≤ℤ o.start
+
+-- As long as a feed was not read, nothing was drawn, and what it gives starts no earlier than an instant. Else the rest comes after what was
+-- drawn; if nothing was, nothing is left.
+abbrev pub IsAhead : Option ℤ → Option Occurrence → List Entry → Type 0
+IsAhead (Some from) None rest = AreFrom from rest
+IsAhead (Some from) (Some o) rest = ⊥
+IsAhead None None rest = IsEmpty rest
+IsAhead None (Some o) rest = IsBefore entry_cmp (entry_of o) rest
 
 ⊥-prop : IsProp ⊥
 ⊥-prop x y = absurd x
@@ -30,9 +38,19 @@ empty-prop : (rest : List Entry) → IsProp (IsEmpty rest)
 empty-prop [] = Unit-prop
 empty-prop (x ∷ xs) = ⊥-prop
 
-pub IsAhead-prop : (head : Option Occurrence) (rest : List Entry) → IsProp (IsAhead head rest)
-IsAhead-prop None rest = empty-prop rest
-IsAhead-prop (Some o) rest = before-prop entry_cmp (entry_of o) rest
+from-prop : (from : ℤ) (rest : List Entry) → IsProp (AreFrom from rest)
+from-prop from rest = Π_prop λ o. Π_prop λ m. hlevel props
+
+pub IsAhead-prop : (unread : Option ℤ) (head : Option Occurrence) (rest : List Entry) → IsProp (IsAhead unread head rest)
+IsAhead-prop (Some from) None rest = from-prop from rest
+IsAhead-prop (Some from) (Some o) rest = ⊥-prop
+IsAhead-prop None None rest = empty-prop rest
+IsAhead-prop None (Some o) rest = before-prop entry_cmp (entry_of o) rest
+
+-- how often a lead is still to draw at most, if this is its list
+abbrev pub to_draw : Option ℤ → List Entry → ℕ
+to_draw None list = length list
+to_draw (Some from) list = suc (length list)
 
 -- what is still to come of a list after the entry that was given last
 abbrev pub past : Option Occurrence → List Entry → List Entry

@@ -43,8 +43,9 @@ use ics_zone::Display;
 use std::alloc::{AllocError, Global};
 
 /// The occurrences of a folder that meet a window, in the order of their keys. The events that start once
-/// are sorted when it is made. Of each master that recurs the next occurrence is held: the first from the
-/// beginning, each further one when the one before it has been given.
+/// are sorted when it is made. A master that recurs and begins after the window's start is not read before it
+/// can give the next occurrence. From then on its next occurrence is held; that of other masters from the
+/// beginning.
 #[derive(Drop)]
 pub struct Agenda<'a> {
     merge: Merge<'a, Part<'a>>,
@@ -116,7 +117,7 @@ impl<'a> Agenda<'a> {
         push_series(
             alloc, &mut parts, files, display, chosen, spans, marks, window, after,
         )?;
-        let merge = Merge::of_sorted(alloc, parts, 1)?;
+        let merge = Merge::of_sorted(alloc, parts, 1, window.from)?;
         Ok(Agenda { merge, overrides })
     }
 
@@ -130,8 +131,8 @@ impl<'a> Agenda<'a> {
         Ok(Agenda { merge, overrides })
     }
 
-    /// How many built occurrences are held: the one that was given last, the next one of each feed,
-    /// and those at the starts that were read of rules. They are at most two and, for each master, two
+    /// How many built occurrences are held: the one that was given last, the next one of each feed that
+    /// was read, and those at the starts that were read of rules. They are at most two and, for each master, two
     /// and the greatest number of starts that it has in any five days. The count stops at the greatest
     /// `usize`.
     pub fn held(&self) -> usize

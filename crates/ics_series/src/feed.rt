@@ -1,10 +1,11 @@
 //! Feeds, which give occurrences one by one.
-ghost use Rattle.std.specs.Prelude.{◌≡◌, List, IfOk, OnErr};
+ghost use Rattle.std.specs.Prelude.{◌≡◌, ◌≤ℤ◌, List, IfOk, OnErr};
 ghost use Rattle.ics_series.specs.Entry.{Entry, entry_cmp, Gives};
 ghost use Rattle.ics_series.specs.Listing.{IsIn};
 ghost use Rattle.ics_series.specs.Rising.{Rises};
 
 use crate::occurrence::Occurrence;
+use ics_values::Moment;
 use std::alloc::AllocError;
 
 /// What is still to come of a feed. It is a trait of its own so that a type's ghost field can cite it: a
@@ -42,4 +43,13 @@ pub trait Feed<'a>: Coming {
 
     /// The keys rise strictly.
     ghost rises: { (feed : Self) → Rises entry_cmp (Self.coming feed) };
+}
+
+/// Tells from when on a feed gives anything, so that it is not read before that.
+pub trait Begins: Coming {
+    /// No occurrence still to come starts before this instant. No rule has been read further than any of
+    /// them needs.
+    fn from(&self) -> Moment
+        ensures from { (o : Entry) → IsIn o (Self.coming self.now) → result ≤ℤ o.start }
+        ensures near { (o : Entry) → IsIn o (Self.coming self.now) → Self.near self.now o };
 }

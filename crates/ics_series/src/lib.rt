@@ -47,7 +47,7 @@ pub use day_key::DayKey;
 pub use day_laws::{day_keys_as_listed, day_listing_behind, one_day_listing, one_day_spelling};
 pub use day_token::DayToken;
 pub use days::Days;
-pub use feed::{Coming, Feed};
+pub use feed::{Begins, Coming, Feed};
 pub use folder::Folder;
 pub use key::Key;
 pub use laws::{

@@ -4,17 +4,18 @@ ghost use Rattle.std.specs.List.{flat_map, AllByRecursion, AllByRecursion-prop};
 ghost use Rattle.std.specs.Option.{option_map};
 ghost use Rattle.ics_series.specs.Entry.{entry_cmp, entry_of};
 ghost use Rattle.ics_series.specs.EntryLaws.{entry_total};
-ghost use Rattle.ics_series.specs.Leads.{is_given, listed, past, AreNear, AreNear-prop, ComeAfter, ComeAfter-prop, HasNear, HasNear-prop};
+ghost use Rattle.ics_series.specs.Leads.{listed, past, to_draw, AreNear, AreNear-prop, ComeAfter, ComeAfter-prop, HasNear, HasNear-prop};
 ghost use Rattle.ics_series.specs.Merged.{merged};
 ghost use Rattle.ics_series.specs.MergedLaws.{rises-merged};
-ghost use Rattle.ics_series.specs.Tournament.{first_held, AreSettled};
+ghost use Rattle.ics_series.specs.Tournament.{first_turn, held_by, is_unread, must_draw, turn_of, AreSettled};
 ghost use Rattle.ics_series.specs.Uids.{AreSortedFrom, AreSortedFrom-prop, IsLastSorted, IsLastSorted-prop};
 
-use crate::feed::{Coming, Feed};
+use crate::feed::{Begins, Coming, Feed};
 use crate::holding::Holding;
 use crate::lead::Lead;
 use crate::occurrence::Occurrence;
 use crate::tournament::{order_by_place, replay, winner, winners};
+use ics_values::Moment;
 use std::alloc::{AllocError, Global};
 
 /// Feeds as one feed. It gives each of their keys once; if several feeds have a key, it gives the entry
@@ -33,7 +34,7 @@ pub struct Merge<'a, F: Coming> {
     sorted_from: usize,
     ghost same_length: { length winners.items ≡ length leads.items },
     ghost within: { All (λ lead. lead < length leads.items) winners.items },
-    ghost settled: { AreSettled (map (λ l. option_map entry_of l.head) leads.items) winners.items },
+    ghost settled: { AreSettled (map (λ l. turn_of l.unread l.head) leads.items) winners.items },
     ghost follows: { ComeAfter last (map (λ l. past last (listed l.head (F.coming l.feed))) leads.items) } by { ComeAfter-prop last
         (map (λ l. past last (listed l.head (F.coming l.feed))) leads.items) },
     ghost near: { AllByRecursion (λ l. AreNear (F.near l.feed) (past last (listed l.head (F.coming l.feed)))) leads.items } by { AllByRecursion-prop
@@ -45,31 +46,34 @@ pub struct Merge<'a, F: Coming> {
         source last (map (λ l. listed l.head (F.coming l.feed)) leads.items) },
 }
 
-impl<'a, F: Feed<'a> + Drop> Merge<'a, F> {
-    /// The merge of these feeds.
+impl<'a, F: Feed<'a> + Begins + Drop> Merge<'a, F> {
+    /// The merge of these feeds. None of them is read before it can be the next to give an entry.
     pub fn new(alloc: Global, feeds: Vec<F>) -> Result<Merge<'a, F>, AllocError>
         ensures coming { IfOk result (λ merge. ⟦<Merge<'a, F> as Coming>⟧.coming merge ≡ merged entry_cmp (map F.coming feeds.items)) }
         ensures sources { IfOk result (λ merge. ⟦<Merge<'a, F> as Coming>⟧.sources merge ≡ flat_map F.sources feeds.items) }
     {
         let none = feeds.len();
-        Merge::of_sorted(alloc, feeds, none)
+        Merge::of_sorted(alloc, feeds, none, Moment::MIN)
     }
 
     // The merge of these feeds. From a place on each is of one UID, and they stand in the order of
-    // their UIDs.
+    // their UIDs. A feed that begins by an instant, and by the first start that is known, is read at once:
+    // it is to be read soon, and many are put in order faster together than one by one.
     pub(crate) fn of_sorted(
         alloc: Global,
         feeds: Vec<F>,
         sorted_from: usize,
+        mut soon: Moment,
     ) -> Result<Merge<'a, F>, AllocError>
         requires { AreSortedFrom sorted_from (map F.coming feeds.items) }
         ensures coming { IfOk result (λ merge. ⟦<Merge<'a, F> as Coming>⟧.coming merge ≡ merged entry_cmp (map F.coming feeds.items)) }
         ensures sources { IfOk result (λ merge. ⟦<Merge<'a, F> as Coming>⟧.sources merge ≡ flat_map F.sources feeds.items) }
     {
         let mut leads = Vec::with_capacity(alloc, feeds.len())?;
-        for mut feed in feeds {
-            let head = feed.next()?;
-            leads.push(Lead { feed, head })?;
+        for feed in feeds {
+            let lead = Lead::new(feed, soon)?;
+            soon = soon.min(lead.from().unwrap_or(soon));
+            leads.push(lead)?;
         }
         let winners = winners(alloc, &leads, sorted_from)?;
         Ok(Merge {
@@ -110,26 +114,26 @@ impl<'a, F: Feed<'a>> Feed<'a> for Merge<'a, F> {
 }
 
 impl<'a, F: Feed<'a>> Merge<'a, F> {
-    // Draws from the first lead as long as it holds what has been given.
+    // Draws from the first lead as long as that was not read yet, or holds what has been given.
     fn skip_given(&mut self) -> Result<(), AllocError>
         ensures same { ⟦<Merge<'a, F> as Coming>⟧.coming self.new ≡ ⟦<Merge<'a, F> as Coming>⟧.coming self.old }
         ensures sources { ⟦<Merge<'a, F> as Coming>⟧.sources self.new ≡ ⟦<Merge<'a, F> as Coming>⟧.sources self.old }
-        ensures skipped { OnOk result (is_given self.new.last (first_held (map (λ l. option_map entry_of l.head) self.new.leads.items) self.new.winners.items)
+        ensures skipped { OnOk result (must_draw self.new.last (first_turn (map (λ l. turn_of l.unread l.head) self.new.leads.items) self.new.winners.items)
             ≡ false) }
     {
-        while self.is_first_given() {
+        while self.must_draw() {
             self.draw_first()?;
         }
         Ok(())
     }
 
-    // Draws from the first lead, which holds what has been given.
+    // Draws from the first lead, which was not read yet or holds what has been given.
     fn draw_first(&mut self) -> Result<(), AllocError>
-        requires { is_given self.old.last (first_held (map (λ l. option_map entry_of l.head) self.old.leads.items) self.old.winners.items) ≡ true }
+        requires { must_draw self.old.last (first_turn (map (λ l. turn_of l.unread l.head) self.old.leads.items) self.old.winners.items) ≡ true }
         ensures same { ⟦<Merge<'a, F> as Coming>⟧.coming self.new ≡ ⟦<Merge<'a, F> as Coming>⟧.coming self.old }
         ensures sources { ⟦<Merge<'a, F> as Coming>⟧.sources self.new ≡ ⟦<Merge<'a, F> as Coming>⟧.sources self.old }
-        ensures fewer { OnOk result (sum_by (λ l. length (listed l.head (F.coming l.feed))) self.new.leads.items
-            < sum_by (λ l. length (listed l.head (F.coming l.feed))) self.old.leads.items) }
+        ensures fewer { OnOk result (sum_by (λ l. to_draw l.unread (listed l.head (F.coming l.feed))) self.new.leads.items
+            < sum_by (λ l. to_draw l.unread (listed l.head (F.coming l.feed))) self.old.leads.items) }
     {
         let lead = winner(&self.winners, 1);
         self.leads[lead].draw()?;
@@ -137,9 +141,9 @@ impl<'a, F: Feed<'a>> Merge<'a, F> {
         Ok(())
     }
 
-    // Whether what the first lead holds has been given.
-    fn is_first_given(&self) -> bool
-        ensures { result ≡ is_given self.now.last (first_held (map (λ l. option_map entry_of l.head) self.now.leads.items) self.now.winners.items) }
+    // Whether the first lead was not read yet, or what it holds has been given.
+    fn must_draw(&self) -> bool
+        ensures { result ≡ must_draw self.now.last (first_turn (map (λ l. turn_of l.unread l.head) self.now.leads.items) self.now.winners.items) }
     {
         match (self.last, self.first()) {
             (Some(last), Some(first)) => {
@@ -147,13 +151,24 @@ impl<'a, F: Feed<'a>> Merge<'a, F> {
                 let uids = order_by_place(self.sorted_from, self.source, lead);
                 Occurrence::compare(&last, &first, uids).is_eq()
             }
-            _ => false,
+            (None, Some(_)) => false,
+            (_, None) => self.is_unread(),
+        }
+    }
+
+    // Whether the first lead was not read yet.
+    fn is_unread(&self) -> bool
+        ensures { result ≡ is_unread (first_turn (map (λ l. turn_of l.unread l.head) self.now.leads.items) self.now.winners.items) }
+    {
+        match self.leads.get(winner(&self.winners, 1)) {
+            None => false,
+            Some(lead) => lead.unread.is_some(),
         }
     }
 
     // What the first lead holds.
     fn first(&self) -> Option<Occurrence<'a>>
-        ensures { option_map entry_of result ≡ first_held (map (λ l. option_map entry_of l.head) self.now.leads.items) self.now.winners.items }
+        ensures { option_map entry_of result ≡ held_by (first_turn (map (λ l. turn_of l.unread l.head) self.now.leads.items) self.now.winners.items) }
     {
         self.leads.get(winner(&self.winners, 1))?.head
     }
@@ -161,7 +176,7 @@ impl<'a, F: Feed<'a>> Merge<'a, F> {
 
 impl<'a, F: Holding> Merge<'a, F> {
     /// How many built occurrences are held: the one that was given last, the one drawn from each
-    /// feed, and those that the feeds hold. The count stops at the greatest `usize`.
+    /// feed that was read, and those that the feeds hold. The count stops at the greatest `usize`.
     pub(crate) fn held(&self) -> usize
         ensures { result ≡ min (length (listed self.now.last (flat_map (λ l. listed l.head (F.holds l.feed)) self.now.leads.items))) (2 ^ 64 - 1) }
     {

@@ -1,9 +1,10 @@
 //! The feeds that an agenda merges.
-use crate::feed::{Coming, Feed};
+use crate::feed::{Begins, Coming, Feed};
 use crate::holding::Holding;
 use crate::occurrence::Occurrence;
 use crate::series::Series;
 use crate::singles::Singles;
+use ics_values::Moment;
 use std::alloc::AllocError;
 
 /// A feed of an agenda: the occurrences of the events that start once, or those of a master that
@@ -44,6 +45,15 @@ impl<'a> Holding for Part<'a> {
         match self {
             Part::Singles(_) => 0,
             Part::Series(series) => series.steps(),
+        }
+    }
+}
+
+impl<'a> Begins for Part<'a> {
+    fn from(&self) -> Moment {
+        match self {
+            Part::Singles(singles) => singles.from(),
+            Part::Series(series) => series.from(),
         }
     }
 }

@@ -119,6 +119,7 @@ fn hold(
 impl<'a> RuleStarts<'a> {
     ghost use Rattle.std.specs.Prelude.{◌≡◌, ◌+◌, ◌-◌, ◌<◌, ◌≤ℤ◌, false, length, slice_get, IfOk, MatchOption, OnOk, Some};
     ghost use Rattle.ics_rule.specs.Cursors.{steps_of};
+    ghost use Rattle.ics_series.specs.Listing.{IsIn};
     ghost use Rattle.ics_series.specs.Merged.{cut};
     ghost use Rattle.ics_series.specs.RuleFeed.{held_in, is_unsettled, settled_in, starts_left, HasSameSource};
     ghost use Rattle.ics_series.specs.RuleStarts.{found, is_ready, steps_left};
@@ -291,6 +292,17 @@ impl<'a> RuleStarts<'a> {
                     self.held.drop_first();
                 }
             }
+        }
+    }
+
+    /// An instant before which none of the starts still to come is.
+    pub(crate) fn from(&self) -> Moment
+        ensures { (start : Start) → IsIn start (starts_left self.now) → result ≤ℤ start.moment }
+    {
+        let settled = self.settled();
+        match self.first() {
+            None => settled,
+            Some(first) => first.moment.min(settled),
         }
     }
 

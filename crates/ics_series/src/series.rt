@@ -1,21 +1,22 @@
 //! The occurrences of one event that meet a window, found one by one.
-ghost use Rattle.std.specs.Prelude.{◌≡◌, slice_get, All, IfOk, List, MatchOption, None, OnOk};
+ghost use Rattle.std.specs.Prelude.{◌≡◌, ◌≤ℤ◌, slice_get, All, IfOk, List, MatchOption, None, OnOk};
 ghost use Rattle.ics_series.specs.Entry.{entry_cmp};
 ghost use Rattle.ics_series.specs.EventLaws.{own-event-prop};
 ghost use Rattle.ics_series.specs.Exclusions.{AreExclusions};
 ghost use Rattle.ics_series.specs.Found.{moment_cmp, IsStartIn};
+ghost use Rattle.ics_series.specs.Listing.{IsIn};
 ghost use Rattle.ics_series.specs.Marks.{IsMarkOf};
 ghost use Rattle.ics_series.specs.Merged.{cut};
 ghost use Rattle.ics_series.specs.Rising.{Rises, Rises-prop};
 ghost use Rattle.ics_series.specs.RuleFeed.{starts_left};
 ghost use Rattle.ics_series.specs.SeriesLaws.{own-rule-prop, ruled-prop, starts-in-prop, taken-out-prop};
-ghost use Rattle.ics_series.specs.SeriesStarts.{first_asked, first_of, given_of, left, listed_apart, rule_asked, rule_left, AreStartsIn};
+ghost use Rattle.ics_series.specs.SeriesStarts.{first_asked, first_of, given_of, left, listed_apart, listed_left, rule_asked, rule_left, AreStartsIn};
 ghost use Rattle.ics_series.specs.SeriesStarts.{HasOwnRule, HasRuled, HasSameRule, IsFirstOf, IsReady, IsRuleFrom};
 ghost use Rattle.ics_series.specs.FileZones.{clocks_in, IsOwnEvent};
 ghost use Rattle.ics_series.specs.declared.start.Start.{Start};
 
 use crate::exclusion::Exclusions;
-use crate::feed::{Coming, Feed};
+use crate::feed::{Begins, Coming, Feed};
 use crate::listed::push_listed;
 use crate::listed_starts::ListedStarts;
 use crate::mark::{Mark, counted};
@@ -152,11 +153,31 @@ fn earlier_of(ruled: Option<Start>, listed: Option<Start>) -> Option<Start>
     }
 }
 
+// An instant before which none of the starts that a rule still gives is.
+fn rule_from(rule: &Option<RuleStarts<'_>>) -> Moment
+    ensures { (start : Start) → IsIn start (rule_left rule.now) → result ≤ℤ start.moment }
+{
+    match rule {
+        None => Moment::MAX,
+        Some(starts) => starts.from(),
+    }
+}
+
+// The same of the starts that are known.
+fn listed_from(listed: &ListedStarts) -> Moment
+    ensures { (start : Start) → IsIn start (listed_left listed.now) → result ≤ℤ start.moment }
+{
+    match listed.peek() {
+        None => Moment::MAX,
+        Some(first) => first.moment,
+    }
+}
+
 impl<'a> Series<'a> {
     ghost use Rattle.std.specs.Prelude.{IfOk, OnErr};
     ghost use Rattle.std.specs.Option.{option_map};
     ghost use Rattle.ics_series.specs.Entry.{Entry, entry_of};
-    ghost use Rattle.ics_series.specs.Listing.{IsIn, IsListing};
+    ghost use Rattle.ics_series.specs.Listing.{IsListing};
     ghost use Rattle.ics_series.specs.SeriesFeed.{series_left, series_near, series_of, series_sources, source_of, IsSameSeries};
     ghost use Rattle.ics_series.specs.SeriesStarts.{wanted_by, IsSeriesMet, IsTaken};
 
@@ -270,6 +291,13 @@ impl<'a> Series<'a> {
             None => 0,
             Some(starts) => starts.steps(),
         }
+    }
+}
+
+impl<'a> Begins for Series<'a> {
+    fn from(&self) -> Moment {
+        let starts = rule_from(&self.rule_starts).min(listed_from(&self.listed));
+        self.since.max(starts)
     }
 }
 

@@ -16,7 +16,7 @@ ghost use Rattle.ics_series.specs.Spots.{event_at};
 ghost use Rattle.ics_series.specs.Versions.{is_override, seen, subject_cmp, subject_seen, AreChosen};
 
 use crate::agenda::{is_after, is_kept};
-use crate::feed::{Coming, Feed};
+use crate::feed::{Begins, Coming, Feed};
 use crate::key::Key;
 use crate::occurrence::Occurrence;
 use crate::single::Single;
@@ -24,6 +24,7 @@ use crate::span::{Span, is_out};
 use crate::version::Version;
 use crate::window::Window;
 use ics_event::{Event, FileEvents};
+use ics_values::Moment;
 use ics_zone::Display;
 use std::alloc::{AllocError, Global};
 use std::vec::IntoIter;
@@ -79,6 +80,13 @@ impl<'a> Coming for Singles<'a> {
     ghost near = { λ singles o. is_single o.event ≡ true };
 
     ghost near_prop = { λ singles o. single-prop o };
+}
+
+impl<'a> Begins for Singles<'a> {
+    /// They are known from the beginning.
+    fn from(&self) -> Moment {
+        Moment::MIN
+    }
 }
 
 impl<'a> Feed<'a> for Singles<'a> {

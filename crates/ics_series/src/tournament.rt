@@ -3,7 +3,7 @@ ghost use Rattle.std.specs.Prelude.{◌≡◌, ◌+◌, ◌<◌, All, IfOk, leng
 ghost use Rattle.std.specs.Option.{option_map};
 ghost use Rattle.std.specs.Ordering.{is_lt};
 ghost use Rattle.ics_series.specs.Entry.{entry_of};
-ghost use Rattle.ics_series.specs.Tournament.{above, first_below, lead_cmp, winner, AreSettled, AreSettledBut};
+ghost use Rattle.ics_series.specs.Tournament.{above, first_below, head_cmp, lead_cmp, turn_of, winner, AreSettled, AreSettledBut, IsUnheld};
 ghost use Rattle.ics_series.specs.Uids.{AreHeadsSorted, IsPlaceOrder};
 
 use crate::feed::Coming;
@@ -22,7 +22,7 @@ pub(crate) fn winners<'a, F: Coming>(
     requires { AreHeadsSorted sorted_from (map (λ l. option_map entry_of l.head) leads.now) }
     ensures length { IfOk result (λ winners. length winners.items ≡ length leads.now) }
     ensures leads { IfOk result (λ winners. All (λ lead. lead < length leads.now) winners.items) }
-    ensures settled { IfOk result (λ winners. AreSettled (map (λ l. option_map entry_of l.head) leads.now) winners.items) }
+    ensures settled { IfOk result (λ winners. AreSettled (map (λ l. turn_of l.unread l.head) leads.now) winners.items) }
 {
     let mut winners = vec![in alloc; 0; leads.len()]?;
     for node in (1..leads.len()).rev() {
@@ -42,9 +42,9 @@ pub(crate) fn replay<'a, F: Coming>(
     requires lead { lead < length leads.now }
     requires length { length winners.old ≡ length leads.now }
     requires leads { All (λ lead. lead < length leads.now) winners.old }
-    requires settled { AreSettledBut (above 1 (length leads.now + lead)) (map (λ l. option_map entry_of l.head) leads.now) winners.old }
+    requires settled { AreSettledBut (above 1 (length leads.now + lead)) (map (λ l. turn_of l.unread l.head) leads.now) winners.old }
     ensures leads { All (λ lead. lead < length leads.now) winners.new }
-    ensures settled { AreSettled (map (λ l. option_map entry_of l.head) leads.now) winners.new }
+    ensures settled { AreSettled (map (λ l. turn_of l.unread l.head) leads.now) winners.new }
 {
     let mut node = (leads.len() + lead) / 2;
     while node > 0 {
@@ -87,7 +87,7 @@ fn first_below<'a, F: Coming>(
     requires length { length winners.now ≡ length leads.now }
     requires leads { All (λ lead. lead < length leads.now) winners.now }
     ensures lead { result < length leads.now }
-    ensures first { result ≡ first_below (map (λ l. option_map entry_of l.head) leads.now) winners.now node }
+    ensures first { result ≡ first_below (map (λ l. turn_of l.unread l.head) leads.now) winners.now node }
 {
     let one = winner(winners, 2 * node);
     let other = winner(winners, 2 * node + 1);
@@ -98,7 +98,7 @@ fn first_below<'a, F: Coming>(
     }
 }
 
-// Whether a lead is before another: by what they hold and, if that has one key, by their places.
+// Whether a lead is before another: by their turns and, if these are the same, by their places.
 fn goes_first<'a, F: Coming>(
     leads: &[Lead<'a, F>],
     sorted_from: usize,
@@ -108,7 +108,7 @@ fn goes_first<'a, F: Coming>(
     requires sorted { AreHeadsSorted sorted_from (map (λ l. option_map entry_of l.head) leads.now) }
     requires one { one < length leads.now }
     requires other { other < length leads.now }
-    ensures { result ≡ is_lt (lead_cmp (map (λ l. option_map entry_of l.head) leads.now) one other) }
+    ensures { result ≡ is_lt (lead_cmp (map (λ l. turn_of l.unread l.head) leads.now) one other) }
 {
     match (&leads[one].head, &leads[other].head) {
         (Some(a), Some(b)) => {
@@ -117,7 +117,24 @@ fn goes_first<'a, F: Coming>(
                 .then(one.cmp(&other))
                 .is_lt()
         }
-        (None, None) => one < other,
-        (head, _) => head.is_some(),
+        _ => compare_unheld(&leads[one], &leads[other])
+            .then(one.cmp(&other))
+            .is_lt(),
+    }
+}
+
+// The order of two leads' turns, of which one holds nothing. One that was not read yet is before those that
+// hold an occurrence from its instant on, and one that has ended is behind all.
+fn compare_unheld<'a, F: Coming>(one: &Lead<'a, F>, other: &Lead<'a, F>) -> Ordering
+    requires { IsUnheld one.now.head other.now.head }
+    ensures { result ≡ head_cmp (turn_of one.now.unread one.now.head) (turn_of other.now.unread other.now.head) }
+{
+    match (one.from(), other.from()) {
+        (Some(a), Some(b)) => a
+            .cmp(&b)
+            .then(one.head.is_some().cmp(&other.head.is_some())),
+        (Some(_), None) => Ordering::Less,
+        (None, Some(_)) => Ordering::Greater,
+        (None, None) => Ordering::Equal,
     }
 }

@@ -1,6 +1,7 @@
-use Rattle.std.proofs.lemmas.Grind.{common_steps}
-use Rattle.std.proofs.Common.{map, arith, option_map}
+use Rattle.std.proofs.Common.{map, option_map}
 use Rattle.ics_series.specs.Entry.{entry_of}
+use Rattle.ics_series.specs.Tournament.{turn_of}
+use Rattle.ics_series.proofs.LeadLemmas.{holds-cmp, turn-at}
 use Rattle.ics_series.proofs.TournamentLemmas.{lead-by}
 use Rattle.ics_series.proofs.UidLemmas.{head-order, held-at}
 use Rattle.ics_series.proofs.tournament.goes_first.Goals as goal
@@ -18,13 +19,8 @@ pub returns-in-Some-Some : goal.returns-in-Some-Some
 returns-in-Some-Some g c =
     let leads = c.args.leads.now in
     let arm = c.in-Some-Some in
-    let by = lead-by (map (λ x. option_map entry_of x.head) leads) c.args.one c.args.other
-    (held-at (λ x. x.head) leads c.args.one c.index-leads-one.result c.requires.one arm.is-0)
-    (held-at (λ x. x.head) leads c.args.other c.index-leads-other.result c.requires.other arm.is-1) in
-    cc (by, c.compare.ensures, c.cmp.ensures, c.then.ensures, c.is_lt.ensures)
-
-pub returns-in-None-None : goal.returns-in-None-None
-returns-in-None-None g c = grind (arith, common_steps)
-
-pub returns-in_default : goal.returns-in_default
-returns-in_default g c = grind (arith, common_steps)
+    let by = lead-by (map (λ x. turn_of x.unread x.head) leads) c.args.one c.args.other
+    (turn-at (λ x. x.unread) (λ x. x.head) (λ x. g.F.Coming.coming x.feed) (λ x. x.ahead) leads c.args.one c.index-leads-one.result c.requires.one arm.is-0)
+    (turn-at (λ x. x.unread) (λ x. x.head) (λ x. g.F.Coming.coming x.feed) (λ x. x.ahead) leads c.args.other c.index-leads-other.result c.requires.other
+    arm.is-1) in
+    cc (by, holds-cmp (entry_of arm.a) (entry_of arm.b), c.compare.ensures, c.cmp.ensures, c.then.ensures, c.is_lt.ensures)

@@ -1,21 +1,20 @@
 use Rattle.std.proofs.lemmas.Grind.{common_steps}
-use Rattle.std.proofs.Common.{◌≡◌, ◌<◌, length, map, ◌∙◌, ap, arith, option_map}
+use Rattle.std.proofs.Common.{◌≡◌, ◌<◌, length, map, ◌∙◌, ap, arith}
 use Rattle.std.proofs.lemmas.List.Elements.{All-set}
-use Rattle.ics_series.specs.Entry.{entry_of}
-use Rattle.ics_series.specs.Tournament.{above}
+use Rattle.ics_series.specs.Tournament.{above, turn_of}
 use Rattle.ics_series.proofs.TournamentLemmas.{above-zero, settle_up}
 use Rattle.ics_series.proofs.tournament.replay.Goals as goal
 
 pub loop-node-preserved : goal.loop-node-preserved
 loop-node-preserved g c =
-    let heads = map (λ x. option_map entry_of x.head) c.args.leads.now in
+    let turns = map (λ x. turn_of x.unread x.head) c.args.leads.now in
     record {
       node_in = omega arith;
       leads = All-set (λ lead. lead < length c.args.leads.now) c.loop-node.winners c.loop-node.node c.first_below.result c.first_below.ensures.lead
           c.loop-node.invariant.leads;
       settled =
           rw c.first_below.ensures.first
-          (settle_up heads c.loop-node.winners c.loop-node.node (omega arith) (omega arith) c.loop-node.invariant.settled);
+          (settle_up turns c.loop-node.winners c.loop-node.node (omega arith) (omega arith) c.loop-node.invariant.settled);
     }
 
 pub returns-clause-settled : goal.returns-clause-settled

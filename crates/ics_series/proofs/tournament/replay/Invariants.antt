@@ -1,13 +1,12 @@
-use Rattle.std.proofs.Common.{◌<◌, All, length, map, option_map}
-use Rattle.ics_series.specs.Entry.{entry_of}
-use Rattle.ics_series.specs.Tournament.{AreSettledBut}
+use Rattle.std.proofs.Common.{◌<◌, All, length, map}
+use Rattle.ics_series.specs.Tournament.{turn_of, AreSettledBut}
 use Rattle.ics_series.proofs.tournament.replay.Given as goal
 
 abbrev pub invariant-loop-node : goal.invariant-loop-node
 invariant-loop-node g l = record {
   node_in : l.node < length l.leads;
   leads : All (λ lead. lead < length l.leads) l.winners;
-  settled : AreSettledBut l.node (map (λ x. option_map entry_of x.head) l.leads) l.winners;
+  settled : AreSettledBut l.node (map (λ x. turn_of x.unread x.head) l.leads) l.winners;
 }
 
 abbrev pub decreases-loop-node : goal.decreases-loop-node

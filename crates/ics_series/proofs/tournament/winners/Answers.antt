@@ -1,8 +1,8 @@
 use Rattle.std.proofs.lemmas.Grind.{common_steps}
-use Rattle.std.proofs.Common.{◌≡◌, ◌-◌, ◌<◌, length, map, ap, ◌∙◌, arith, length-set, option_map}
+use Rattle.std.proofs.Common.{◌≡◌, ◌-◌, ◌<◌, length, map, ap, ◌∙◌, arith, length-set}
 use Rattle.std.proofs.lemmas.List.{length-replicate}
 use Rattle.std.proofs.lemmas.List.Elements.{All-set}
-use Rattle.ics_series.specs.Entry.{entry_of}
+use Rattle.ics_series.specs.Tournament.{turn_of}
 use Rattle.ics_series.proofs.TournamentLemmas.{settle_down, zeros-within}
 use Rattle.ics_series.proofs.tournament.winners.Goals as goal
 
@@ -18,7 +18,7 @@ loop-node-init g c =
 
 pub loop-node-preserved : goal.loop-node-preserved
 loop-node-preserved g c =
-    let heads = map (λ x. option_map entry_of x.head) c.args.leads.now in
+    let turns = map (λ x. turn_of x.unread x.head) c.args.leads.now in
     let winners = c.loop-node.winners.items in
     let node = c.loop-node.node - 1 in
     let lent = c.deref.ensures.value in
@@ -27,7 +27,7 @@ loop-node-preserved g c =
       leads = All-set (λ lead. lead < length c.args.leads.now) winners node c.first_below.result c.first_below.ensures.lead c.loop-node.invariant.leads;
       settled =
           rw (c.first_below.ensures.first, lent)
-          (settle_down heads winners node (omega arith) (omega (arith, c.loop-node.invariant.same_length))
+          (settle_down turns winners node (omega arith) (omega (arith, c.loop-node.invariant.same_length))
           (λ k low high most. c.loop-node.invariant.settled k low high (omega arith)));
     }
 

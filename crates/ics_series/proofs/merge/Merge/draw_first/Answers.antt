@@ -3,19 +3,19 @@ use Rattle.std.proofs.Common.{◌≡◌, ◌<◌, ◌++◌, All, length, map, se
 use Rattle.std.proofs.lemmas.List.{length-map}
 use Rattle.ics_series.specs.Entry.{entry_cmp, entry_of}
 use Rattle.ics_series.specs.Merged.{merged}
-use Rattle.ics_series.specs.Tournament.{winner}
+use Rattle.ics_series.specs.Tournament.{turn_of, winner}
 use Rattle.ics_series.specs.Uids.{AreHeadsSorted}
-use Rattle.ics_series.proofs.LeadLemmas.{fewer-drawn, given-read, given-within, heads-kept, settled-drawn, to_come-drawn, to_come-kept, written-back}
-use Rattle.ics_series.proofs.LeadLemmas.{flat-set, near-drawn, near-kept}
+use Rattle.ics_series.proofs.LeadLemmas.{fewer-drawn, given-read, given-within, past-drawn, settled-drawn, to_come-drawn, to_come-kept}
+use Rattle.ics_series.proofs.LeadLemmas.{flat-set, near-drawn, near-kept, turns-kept, written-back}
 use Rattle.ics_series.proofs.UidLemmas.{fewer-drawn-in, fewer-kept-in, fewer-last, fewer-sorted, heads-sorted}
 use Rattle.ics_series.proofs.merge.Merge.draw_first.Goals as goal
 
 pub index_mut-requires : goal.index_mut-requires
 index_mut-requires g c =
     let self = c.args.self.now in
-    let within = given-within self.last (map (λ x. option_map entry_of x.head) self.leads.items) (winner self.winners.items 1) c.requires in
+    let within = given-within self.last (map (λ x. turn_of x.unread x.head) self.leads.items) (winner self.winners.items 1) c.requires in
     let is = c.winner-lead.ensures ∙ ap (λ ws. winner ws 1) c.deref.ensures.value in
-    omega (arith, within, is, length-map self.leads.items (λ x. option_map entry_of x.head))
+    omega (arith, within, is, length-map self.leads.items (λ x. turn_of x.unread x.head))
 
 pub invariant_of-self : goal.invariant_of-self
 invariant_of-self g c =
@@ -30,16 +30,16 @@ invariant_of-self g c =
       same_length = self.same_length ∙ sym long;
       within = subst (λ n. All (λ l. l < n) self.winners.items) (sym long) self.within;
       settled =
-          rw (heads-kept (λ x. x.head) (λ x. g.F.Coming.coming x.feed) self.leads.items lead old new c.index_mut.ensures.value c.in_err-draw.ensures.head)
-          self.settled;
-      follows = rw (to_come-kept (λ x. x.head) (λ x. g.F.Coming.coming x.feed) self.leads.items lead old new c.index_mut.ensures.value self.last
+          rw (turns-kept (λ x. x.unread) (λ x. x.head) (λ x. g.F.Coming.coming x.feed) self.leads.items lead old new c.index_mut.ensures.value
+          c.in_err-draw.ensures.unread c.in_err-draw.ensures.head) self.settled;
+      follows = rw (to_come-kept (λ x. x.unread) (λ x. x.head) (λ x. g.F.Coming.coming x.feed) self.leads.items lead old new c.index_mut.ensures.value self.last
           c.in_err-draw.ensures.head c.in_err-draw.ensures.rest) self.follows;
       near =
           near-kept (λ x. x.head) (λ x. g.F.Coming.coming x.feed) (λ x. g.F.Coming.near x.feed) self.last self.leads.items lead old new
-          c.in_err-draw.ensures.head c.in_err-draw.ensures.rest old.ahead
-          (given-read (λ x. x.head) (λ x. g.F.Coming.coming x.feed) self.leads.items lead old new c.index_mut.ensures.value self.last
-          (winner self.winners.items 1)
-          (c.winner-lead.ensures ∙ ap (λ ws. winner ws 1) c.deref.ensures.value) c.requires).1
+          c.in_err-draw.ensures.head c.in_err-draw.ensures.rest
+          (past-drawn self.last old.unread old.head (g.F.Coming.coming old.feed) old.ahead
+          (given-read (λ x. x.unread) (λ x. x.head) (λ x. g.F.Coming.coming x.feed) self.leads.items lead old new c.index_mut.ensures.value self.last
+          (winner self.winners.items 1) (c.winner-lead.ensures ∙ ap (λ ws. winner ws 1) c.deref.ensures.value) c.requires).1)
           c.draw.ensures.near self.near;
       sorted = fewer-sorted fewer self.sorted_from self.sorted;
       last_sorted = fewer-last fewer self.sorted_from self.source self.last self.last_sorted;
@@ -48,8 +48,8 @@ invariant_of-self g c =
 pub returns-in_err-draw-clause-same : goal.returns-in_err-draw-clause-same
 returns-in_err-draw-clause-same g c =
     let self = c.args.self.now in
-    ap (merged entry_cmp) (to_come-kept (λ x. x.head) (λ x. g.F.Coming.coming x.feed) self.leads.items c.winner-lead.result c.index_mut.result.now
-    c.draw.new.self c.index_mut.ensures.value self.last c.in_err-draw.ensures.head c.in_err-draw.ensures.rest)
+    ap (merged entry_cmp) (to_come-kept (λ x. x.unread) (λ x. x.head) (λ x. g.F.Coming.coming x.feed) self.leads.items c.winner-lead.result
+    c.index_mut.result.now c.draw.new.self c.index_mut.ensures.value self.last c.in_err-draw.ensures.head c.in_err-draw.ensures.rest)
 
 pub returns-in_err-draw-clause-sources : goal.returns-in_err-draw-clause-sources
 returns-in_err-draw-clause-sources g c =
@@ -78,8 +78,8 @@ replay-requires-clause-settled g c =
     let lead = c.winner-lead.result in
     let new = c.draw.new.self in
     let winners = self.winners.items in
-    let drawn = settled-drawn (λ x. x.head) (λ x. g.F.Coming.coming x.feed) self.leads.items lead c.index_mut.result.now new c.index_mut.ensures.value winners
-    self.settled in
+    let drawn = settled-drawn (λ x. x.unread) (λ x. x.head) (λ x. g.F.Coming.coming x.feed) self.leads.items lead c.index_mut.result.now new
+    c.index_mut.ensures.value winners self.settled in
     let long = self.same_length ∙ sym (length-set self.leads.items lead new) in
     rw (c.deref_mut.ensures.value, c.deref-2.ensures.value, ← long) drawn
 
@@ -99,8 +99,8 @@ invariant_of-self-2 g c =
       within = rw (back, ← c.deref-2.ensures.value) c.replay.ensures.leads;
       settled = rw (back, ← c.deref-2.ensures.value) c.replay.ensures.settled;
       follows =
-          rw (to_come-drawn (λ x. x.head) (λ x. g.F.Coming.coming x.feed) self.leads.items lead c.index_mut.result.now new c.index_mut.ensures.value
-          c.in_ok-draw.ensures.drawn self.last (winner self.winners.items 1)
+          rw (to_come-drawn (λ x. x.unread) (λ x. x.head) (λ x. g.F.Coming.coming x.feed) self.leads.items lead c.index_mut.result.now new
+          c.index_mut.ensures.value c.in_ok-draw.ensures.drawn self.last (winner self.winners.items 1)
           (c.winner-lead.ensures ∙ ap (λ ws. winner ws 1) c.deref.ensures.value) c.requires c.index_mut.result.now.ahead) self.follows;
       near = near-drawn (λ x. x.head) (λ x. g.F.Coming.coming x.feed) (λ x. g.F.Coming.near x.feed) self.last self.leads.items lead c.index_mut.result.now new
           c.in_ok-draw.ensures.drawn c.draw.ensures.near self.near;
@@ -110,17 +110,17 @@ invariant_of-self-2 g c =
 
 pub returns-clause-same : goal.returns-clause-same
 returns-clause-same g c = ap (merged entry_cmp)
-    (to_come-drawn (λ x. x.head) (λ x. g.F.Coming.coming x.feed) c.args.self.now.leads.items c.winner-lead.result c.index_mut.result.now c.draw.new.self
-    c.index_mut.ensures.value
+    (to_come-drawn (λ x. x.unread) (λ x. x.head) (λ x. g.F.Coming.coming x.feed) c.args.self.now.leads.items c.winner-lead.result c.index_mut.result.now
+    c.draw.new.self c.index_mut.ensures.value
     c.in_ok-draw.ensures.drawn c.args.self.now.last (winner c.args.self.now.winners.items 1)
     (c.winner-lead.ensures ∙ ap (λ ws. winner ws 1) c.deref.ensures.value) c.requires c.index_mut.result.now.ahead)
 
 pub returns-clause-fewer : goal.returns-clause-fewer
 returns-clause-fewer g c =
-    fewer-drawn (λ x. x.head) (λ x. g.F.Coming.coming x.feed) c.args.self.now.leads.items c.winner-lead.result c.index_mut.result.now c.draw.new.self
-    c.index_mut.ensures.value
+    fewer-drawn (λ x. x.unread) (λ x. x.head) (λ x. g.F.Coming.coming x.feed) c.args.self.now.leads.items c.winner-lead.result c.index_mut.result.now
+    c.draw.new.self c.index_mut.ensures.value
     c.in_ok-draw.ensures.drawn c.args.self.now.last (winner c.args.self.now.winners.items 1)
-    (c.winner-lead.ensures ∙ ap (λ ws. winner ws 1) c.deref.ensures.value) c.requires
+    (c.winner-lead.ensures ∙ ap (λ ws. winner ws 1) c.deref.ensures.value) c.requires c.in_ok-draw.ensures.read
 
 pub replay-requires-clause-lead : goal.replay-requires-clause-lead
 replay-requires-clause-lead g c = grind (arith, common_steps)

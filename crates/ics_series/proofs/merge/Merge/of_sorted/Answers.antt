@@ -1,41 +1,35 @@
-use Rattle.std.proofs.lemmas.Grind.{common_steps}
-use Rattle.std.proofs.Common.{◌≡◌, ◌<◌, List, [], ◌∷◌, ◌++◌, Option, Some, None, map-id, All, length, map, sym, subst, ap, ◌∙◌, arith, option_map}
+use Rattle.std.proofs.Common.{◌≡◌, ◌<◌, [], ◌∷◌, ◌++◌, map-id, All, length, map, sym, subst, ap, ◌∙◌, option_map}
 use Rattle.std.specs.List.{flat_map, AllByRecursion}
 use Rattle.std.proofs.lemmas.Iterator.Adapters.{YieldsList-from_vec}
 use Rattle.std.proofs.lemmas.Iterator.Consumers.{YieldsList-end}
 use Rattle.std.proofs.lemmas.List.{map-append}
 use Rattle.std.proofs.lemmas.List.Concat.{flat_map-append}
-use Rattle.ics_series.specs.declared.occurrence.Occurrence.{Occurrence}
-use Rattle.ics_series.specs.Entry.{entry_cmp, entry_of, Entry, Gives}
+use Rattle.ics_series.specs.Entry.{entry_cmp, entry_of}
 use Rattle.ics_series.specs.Leads.{listed, AreNear}
 use Rattle.ics_series.specs.Listing.{IsIn}
 use Rattle.ics_series.specs.Merged.{merged}
-use Rattle.ics_series.specs.Tournament.{AreSettled}
+use Rattle.ics_series.specs.Tournament.{turn_of, AreSettled}
 use Rattle.ics_series.specs.Uids.{AreHeadsSorted, AreSortedFrom}
 use Rattle.ics_series.proofs.LeadLemmas.{all-pushed}
 use Rattle.ics_series.proofs.UidLemmas.{heads-sorted}
 use Rattle.ics_series.proofs.merge.Merge.of_sorted.Goals as goal
 
--- what was given, before what is left, is what was there
-given-listed : (old : List Entry) (head : Option Occurrence) (new : List Entry) → Gives old head new → listed head new ≡ old
-given-listed old None new h = h.1 ∙ sym h.0
-given-listed old (Some o) new h = sym h
-
 pub loop-feed-preserved : goal.loop-feed-preserved
 loop-feed-preserved g c =
     let more = c.in_ok-push.ensures.items in
-    let given = given-listed (g.F.Coming.coming c.in-Some.feed) c.in_ok-head.head (g.F.Coming.coming c.next-in-loop-feed.new.self) c.in_ok-head.ensures.ok in
+    let feed = c.in-Some.feed in
+    let made = c.in_ok-lead.ensures in
     record {
       coming = ap (map (λ x. listed x.head (g.F.Coming.coming x.feed))) more
           ∙ (map-append (λ x. listed x.head (g.F.Coming.coming x.feed)) c.loop-feed.leads.items _
-          ∙ ((λ i. c.loop-feed.invariant.coming i ++ given i ∷ []) ∙ sym (map-append g.F.Coming.coming c.loop-feed.yielded (c.in-Some.feed ∷ []))));
+          ∙ ((λ i. c.loop-feed.invariant.coming i ++ made.list i ∷ []) ∙ sym (map-append g.F.Coming.coming c.loop-feed.yielded (feed ∷ []))));
       sources = ap (flat_map (λ x. g.F.Coming.sources x.feed)) more
           ∙ (flat_map-append (λ x. g.F.Coming.sources x.feed) c.loop-feed.leads.items _
-          ∙ ((λ i. c.loop-feed.invariant.sources i ++ (c.next-in-loop-feed.ensures.sources i ++ []))
-          ∙ sym (flat_map-append g.F.Coming.sources c.loop-feed.yielded (c.in-Some.feed ∷ []))));
+          ∙ ((λ i. c.loop-feed.invariant.sources i ++ (made.sources i ++ []))
+          ∙ sym (flat_map-append g.F.Coming.sources c.loop-feed.yielded (feed ∷ []))));
       near = subst (AllByRecursion (λ x. AreNear (g.F.Coming.near x.feed) (listed x.head (g.F.Coming.coming x.feed)))) (sym more)
           (all-pushed (λ x. AreNear (g.F.Coming.near x.feed) (listed x.head (g.F.Coming.coming x.feed))) c.loop-feed.leads.items _ c.loop-feed.invariant.near
-          (λ o m. c.next-in-loop-feed.ensures.near o (subst (IsIn o) given m)));
+          (λ o m. made.near o (subst (IsIn o) made.list m)));
     }
 
 pub invariant_of-result : goal.invariant_of-result
@@ -48,7 +42,7 @@ invariant_of-result g c =
     record {
       same_length = made.length ∙ ap length lent;
       within = subst (λ leads. All (λ lead. lead < length leads) c.in_ok-winners.winners.items) lent made.leads;
-      settled = subst (λ leads. AreSettled (map (λ x. option_map entry_of x.head) leads) c.in_ok-winners.winners.items) lent made.settled;
+      settled = subst (λ leads. AreSettled (map (λ x. turn_of x.unread x.head) leads) c.in_ok-winners.winners.items) lent made.settled;
       follows = tt;
       near = c.loop-feed.invariant.near;
       sorted = subst (AreSortedFrom c.args.sorted_from) (sym (c.loop-feed.invariant.coming ∙ ap (map g.F.Coming.coming) all)) c.requires;
@@ -73,6 +67,3 @@ returns g c =
       coming = ap (merged entry_cmp) (c.loop-feed.invariant.coming ∙ ap (map g.F.Coming.coming) all);
       sources = c.loop-feed.invariant.sources ∙ ap (flat_map g.F.Coming.sources) all;
     }
-
-pub invariant_of-push : goal.invariant_of-push
-invariant_of-push g c = grind (arith, common_steps)

@@ -1,7 +1,7 @@
-use Rattle.std.proofs.Common.{◌≡◌, length, map, sum_by}
+use Rattle.std.proofs.Common.{◌≡◌, map, sum_by}
 use Rattle.std.specs.List.{flat_map}
 use Rattle.ics_series.specs.Entry.{entry_cmp}
-use Rattle.ics_series.specs.Leads.{listed, past}
+use Rattle.ics_series.specs.Leads.{listed, past, to_draw}
 use Rattle.ics_series.specs.Merged.{merged}
 use Rattle.ics_series.proofs.merge.Merge.skip_given.Given as goal
 
@@ -14,4 +14,4 @@ invariant-loop-self g l = record {
 }
 
 abbrev pub decreases-loop-self : goal.decreases-loop-self
-decreases-loop-self g l = sum_by (λ x. length (listed x.head (g.F.Coming.coming x.feed))) l.self.leads.items
+decreases-loop-self g l = sum_by (λ x. to_draw x.unread (listed x.head (g.F.Coming.coming x.feed))) l.self.leads.items
