@@ -11,11 +11,8 @@ use ics_zone::Zone;
 
 const DAY: i64 = 86_400;
 
-/// The distance of the instants near which a zone is prepared. Most zones keep an offset for longer.
-const STEP: i64 = 120 * DAY;
-
-/// The greatest number of these instants. They span some twenty years.
-const STEPS: usize = 64;
+/// The length of a short window. Most zones keep an offset for longer.
+const SHORT: i64 = 120 * DAY;
 
 /// Where an event asks for the offsets of its zone: near an instant, if that is before `from`, and from there on up to another.
 #[derive(Clone, Copy)]
@@ -53,7 +50,7 @@ fn prepare_named(file: &mut FileEvents, window: &Window)
 // both tell how long each occurrence lasts.
 fn asked_by(event: &Event, window: &Window) -> Asked {
     let (from, to) = (window.from, window.to);
-    if to <= from.saturating_add(STEP) {
+    if to <= from.saturating_add(SHORT) {
         return Asked {
             near: from,
             from,
@@ -102,21 +99,6 @@ fn prepare(zone: &mut Zone, asked: Asked)
         zone.reach(asked.near).ok();
     }
     if asked.from < asked.to {
-        prepare_up_to(zone, asked.from, asked.to);
-    }
-}
-
-// Prepares a zone near an instant, in steps after that, and near another.
-fn prepare_up_to(zone: &mut Zone, from: Moment, to: Moment)
-    ensures { zone.new ≡ zone.old }
-{
-    zone.reach(to).ok();
-    let mut near = from;
-    for _ in 0..STEPS {
-        if near >= to {
-            return;
-        }
-        zone.reach(near).ok();
-        near = near.saturating_add(STEP);
+        zone.reach_between(asked.from, asked.to);
     }
 }
