@@ -1,5 +1,5 @@
 //! The observances of a time zone (RFC 5545, section 3.6.5).
-ghost use Rattle.std.specs.Prelude.{◌≡◌, false, IfOk};
+ghost use Rattle.std.specs.Prelude.{◌≡◌, false, true, IfOk};
 ghost use Rattle.ics_components.specs.DateValues.{values_of};
 ghost use Rattle.ics_components.specs.declared.date_values.Listing.TheVariants.{Rdate};
 ghost use Rattle.ics_components.specs.Faults as reading;
@@ -11,7 +11,7 @@ use crate::date_values::{Listing, read_values};
 use crate::fault::FaultKind;
 use crate::listed::Listed;
 use crate::refused::Refused;
-use crate::rule_value::RuleValue;
+use crate::rule_value::DailyRule;
 use crate::tzid::Tzid;
 use ics_values::Local;
 use std::alloc::{AllocError, Global};
@@ -23,7 +23,7 @@ pub struct ClosedObservance {
     pub start: Local,
     pub offset_from: i32,
     pub offset_to: i32,
-    pub rule: Option<RuleValue>,
+    pub rule: Option<DailyRule>,
     pub rdates: Listed<Local>,
 }
 
@@ -86,4 +86,60 @@ fn copied_observance(
         rule,
         rdates,
     })
+}
+
+/// Whether these observances are the same. The answer may be no of rules that are the same in other words.
+pub fn are_same(observances: &Listed<ClosedObservance>, others: &Listed<ClosedObservance>) -> bool
+    ensures { result ≡ true → observances.now ≡ others.now }
+{
+    if observances.values.len() != others.values.len() {
+        return false;
+    }
+    for k in 0..observances.values.len() {
+        if !is_same(&observances.values[k], &others.values[k]) {
+            return false;
+        }
+    }
+    true
+}
+
+fn is_same(observance: &ClosedObservance, other: &ClosedObservance) -> bool
+    ensures { result ≡ true → observance.now ≡ other.now }
+{
+    if observance.offset_from != other.offset_from || observance.offset_to != other.offset_to {
+        return false;
+    }
+    is_same_local(observance.start, other.start)
+        && is_same_rule(&observance.rule, &other.rule)
+        && are_same_locals(&observance.rdates, &other.rdates)
+}
+
+fn is_same_local(local: Local, other: Local) -> bool
+    ensures { result ≡ true → local ≡ other }
+{
+    local.day == other.day && local.second == other.second
+}
+
+fn are_same_locals(locals: &Listed<Local>, others: &Listed<Local>) -> bool
+    ensures { result ≡ true → locals.now ≡ others.now }
+{
+    if locals.values.len() != others.values.len() {
+        return false;
+    }
+    for k in 0..locals.values.len() {
+        if !is_same_local(locals.values[k], others.values[k]) {
+            return false;
+        }
+    }
+    true
+}
+
+fn is_same_rule(rule: &Option<DailyRule>, other: &Option<DailyRule>) -> bool
+    ensures { result ≡ true → rule.now ≡ other.now }
+{
+    match (rule, other) {
+        (None, None) => true,
+        (Some(rule), Some(other)) => rule.is_same(other),
+        _ => false,
+    }
 }
