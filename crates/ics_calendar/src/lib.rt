@@ -11,6 +11,8 @@ mod partial_file;
 mod read;
 mod rising;
 mod shared_faults;
+mod shared_zone;
+mod shared_zones;
 mod unknown_zones;
 mod unresolved_file;
 mod whole_file;
@@ -28,6 +30,7 @@ pub use laws::{
 };
 pub use partial_file::{PartialFile, read_sound_parts};
 pub use read::read_file;
+pub use shared_zones::SharedZones;
 pub use unknown_zones::wanted;
 pub use unresolved_file::UnresolvedFile;
 pub use zone_files::ZoneFiles;

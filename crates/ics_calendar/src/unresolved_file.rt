@@ -11,6 +11,7 @@ ghost use Rattle.ics_calendar.specs.ZoneTables.{given_by, known_by};
 
 use crate::event::event_of;
 use crate::judged::first_judged;
+use crate::shared_zones::SharedZones;
 use crate::unknown_zones::{copied, unknown_names};
 use crate::zone_files::ZoneFiles;
 use crate::zone_table::ZoneTable;
@@ -73,13 +74,41 @@ impl UnresolvedFile {
         ensures whole { OnOk result (first_fault (placed bytes.now) ≡ None) }
         ensures fault { IfErr result (IsFaultOf bytes.now) }
     {
+        let mut shared = SharedZones::none(alloc);
+        UnresolvedFile::sharing(alloc, &mut shared, bytes)
+    }
+
+    /// The same. Time zones that are shared are not made again.
+    pub fn sharing(
+        alloc: Global,
+        shared: &mut SharedZones,
+        bytes: &[u8],
+    ) -> Result<UnresolvedFile, FileFault>
+        requires { length bytes.now ≤ 16_777_216 }
+        ensures unresolved { IfOk result (λ unresolved. unresolved_said unresolved ≡ unresolved_of bytes.now) }
+        ensures whole { OnOk result (first_fault (placed bytes.now) ≡ None) }
+        ensures fault { IfErr result (IsFaultOf bytes.now) }
+    {
         numbers_rise();
         let parsed = parse_file(alloc, bytes)?;
-        Ok(UnresolvedFile::of(alloc, parsed)?)
+        Ok(UnresolvedFile::of_parsed(alloc, shared, parsed)?)
     }
 
     /// What is gathered of a file, with the names that it wants.
     pub(crate) fn of(alloc: Global, parsed: ParsedFile) -> Result<UnresolvedFile, AllocError>
+        requires { IsSoundParsed parsed }
+        ensures { IfOk result (λ unresolved. unresolved_said unresolved ≡ unresolved_by (known_in parsed.zones) parsed.events parsed.checks) }
+    {
+        let mut shared = SharedZones::none(alloc);
+        UnresolvedFile::of_parsed(alloc, &mut shared, parsed)
+    }
+
+    /// The same. Time zones that are shared are not made again.
+    fn of_parsed(
+        alloc: Global,
+        shared: &mut SharedZones,
+        parsed: ParsedFile,
+    ) -> Result<UnresolvedFile, AllocError>
         requires { IsSoundParsed parsed }
         ensures { IfOk result (λ unresolved. unresolved_said unresolved ≡ unresolved_by (known_in parsed.zones) parsed.events parsed.checks) }
     {
@@ -88,7 +117,7 @@ impl UnresolvedFile {
             events,
             checks,
         } = parsed;
-        let table = ZoneTable::new(alloc, zones)?;
+        let table = ZoneTable::sharing(alloc, shared, zones)?;
         let wanted = unknown_names(alloc, &table, &checks)?;
         Ok(UnresolvedFile {
             table,

@@ -6,7 +6,7 @@ ghost use Rattle.ics_zone.specs.ZoneSaid.{ZoneSaid, zone_said};
 ghost use Rattle.ics_components.specs.Sound.{IsSoundObservance, IsSoundZone};
 
 use ics_components::{
-    CalendarZone, ClosedObservance, Listed, ZoneName, copied_observances, parts_of,
+    CalendarZone, ClosedObservance, Listed, ZoneName, copied_observances, daily_parts_of,
 };
 use ics_zone::{Observance, Zone, ZoneFault};
 use std::alloc::{AllocError, Global};
@@ -20,7 +20,7 @@ fn observance_of(ended: ClosedObservance) -> Observance
         start: ended.start,
         offset_from: ended.offset_from,
         offset_to: ended.offset_to,
-        rule: parts_of(ended.rule),
+        rule: daily_parts_of(ended.rule),
         rdates: ended.rdates.values,
     }
 }
@@ -33,7 +33,7 @@ fn observances_of(
     requires { All IsSoundObservance ended }
     ensures { IfOk result (λ made. observances_said made.items ≡ ended) }
 {
-    let mut made = Vec::new(alloc);
+    let mut made = Vec::with_capacity(alloc, ended.values.len())?;
     for observance in ended.values {
         made.push(observance_of(observance))?;
     }

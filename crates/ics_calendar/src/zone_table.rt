@@ -8,7 +8,7 @@ ghost use Rattle.ics_components.specs.ParsedFiles.{IsSoundInstant};
 ghost use Rattle.ics_components.specs.Sound.{IsSoundZone};
 ghost use Rattle.ics_calendar.specs.ZoneTables.{known_by, given_by};
 
-use crate::zone::zone_of;
+use crate::shared_zones::SharedZones;
 use crate::zone_files::{ZoneFiles, put_first};
 use ics_components::{CalendarZone, Instant, Tzid, ZoneName};
 use ics_values::Moment;
@@ -38,11 +38,24 @@ impl ZoneTable {
         requires { All (λ z. IsSoundZone z.observances) zones.items }
         ensures { IfOk result (λ table. known_by table ≡ known_in zones.items) }
     {
+        let mut shared = SharedZones::none(alloc);
+        ZoneTable::sharing(alloc, &mut shared, zones)
+    }
+
+    /// The same. Zones that are shared are not made again.
+    pub fn sharing(
+        alloc: Global,
+        shared: &mut SharedZones,
+        zones: Vec<CalendarZone>,
+    ) -> Result<ZoneTable, AllocError>
+        requires { All (λ z. IsSoundZone z.observances) zones.items }
+        ensures { IfOk result (λ table. known_by table ≡ known_in zones.items) }
+    {
         let mut places = BTreeMap::new(alloc);
-        let mut made = Vec::new(alloc);
+        let mut made = Vec::with_capacity(alloc, zones.len())?;
         for zone in zones {
             put_first(&mut places, zone.name, numbered(made.len())?)?;
-            made.push(zone_of(alloc, zone.observances)?)?;
+            made.push(shared.zone(alloc, zone.observances)?)?;
         }
         Ok(ZoneTable {
             places,

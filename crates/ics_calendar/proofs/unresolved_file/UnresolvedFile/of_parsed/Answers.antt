@@ -5,7 +5,7 @@ use Rattle.ics_calendar.specs.ZoneTables.{known_by}
 use Rattle.ics_components.specs.ParsedFileSeen.{ParsedFileSeen}
 use Rattle.ics_components.specs.ParsedFiles.{IsSoundParsed}
 use Rattle.ics_calendar.proofs.Settling.{unresolved-sound}
-use Rattle.ics_calendar.proofs.unresolved_file.UnresolvedFile.of.Goals as goal
+use Rattle.ics_calendar.proofs.unresolved_file.UnresolvedFile.of_parsed.Goals as goal
 
 pub invariant_of-result : goal.invariant_of-result
 invariant_of-result c = (

@@ -4,7 +4,7 @@ use Rattle.std.proofs.lemmas.Iterator.Adapters.{position_from-zero}
 use Rattle.std.proofs.lemmas.List.{nil_from_length}
 use Rattle.ics_calendar.specs.DeferredChecks.{is_same}
 use Rattle.ics_calendar.proofs.FilesGiven.{same-known, or-placed, names_tie}
-use Rattle.ics_calendar.proofs.zone_table.ZoneTable.new.Goals as goal
+use Rattle.ics_calendar.proofs.zone_table.ZoneTable.sharing.Goals as goal
 
 pub loop-zone-init : goal.loop-zone-init
 loop-zone-init c = record {

@@ -7,7 +7,7 @@ use Rattle.ics_components.specs.declared.deferred_check.ZoneName.{ZoneName}
 use Rattle.ics_calendar.specs.DeferredChecks.{is_same}
 use Rattle.ics_calendar.specs.Settled.{known_in}
 use Rattle.ics_calendar.specs.ZoneTables.{name_cmp}
-use Rattle.ics_calendar.proofs.zone_table.ZoneTable.new.Given as goal
+use Rattle.ics_calendar.proofs.zone_table.ZoneTable.sharing.Given as goal
 
 -- a zone is in the table, or is still to come
 abbrev pub invariant-loop-zone : goal.invariant-loop-zone

@@ -1,7 +1,7 @@
 use Rattle.std.proofs.Common.{sym, ap, ◌∙◌}
 use Rattle.std.proofs.lemmas.Result.{err_from_is_err_and}
 use Rattle.ics_calendar.proofs.Whole.{unresolved_at, parsed, fault-parsed, whole-parsed}
-use Rattle.ics_calendar.proofs.unresolved_file.UnresolvedFile.read.Goals as goal
+use Rattle.ics_calendar.proofs.unresolved_file.UnresolvedFile.sharing.Goals as goal
 
 pub returns-in_err-parsed-clause-fault : goal.returns-in_err-parsed-clause-fault
 returns-in_err-parsed-clause-fault c =
@@ -13,4 +13,4 @@ returns-clause-whole c = whole-parsed c.args.bytes.now c.in_ok-parsed.parsed (c.
 
 pub returns-clause-unresolved : goal.returns-clause-unresolved
 returns-clause-unresolved c =
-    c.in_ok-of.ensures ∙ sym (parsed c.args.bytes.now (c.numbers_rise.ensures c.args.bytes.now) ∙ ap unresolved_at c.in_ok-parsed.ensures.parsed)
+    c.in_ok-of_parsed.ensures ∙ sym (parsed c.args.bytes.now (c.numbers_rise.ensures c.args.bytes.now) ∙ ap unresolved_at c.in_ok-parsed.ensures.parsed)

@@ -1,0 +1,120 @@
+//! The time zones that files share.
+ghost use Rattle.std.specs.Prelude.{◌≡◌, IfOk, IfSome};
+ghost use Rattle.ics_zone.specs.ZoneSaid.{ZoneSaid, zone_said};
+ghost use Rattle.ics_components.specs.Sound.{IsSoundZone};
+
+use crate::shared_zone::SharedZone;
+use crate::zone::zone_of;
+use ics_components::{ClosedObservance, Listed, are_same, copied_observances};
+use ics_values::Moment;
+use ics_zone::Zone;
+use std::alloc::{AllocError, Global};
+
+/// How many time zones are looked for. A folder mostly has but few that differ.
+const MOST: usize = 64;
+
+/// Zones are prepared before the first instant too, if the second is later by more seconds than this: then events ask near DTSTART.
+const LONG: i64 = 120 * 86_400;
+
+/// How many seconds before the first instant that is.
+const BEFORE: i64 = 20 * 366 * 86_400;
+
+/// The first time zones that files have, each with other observances, and those of them that stand more than once. These are made once, and
+/// files share them. No answer depends on what is here: it makes reading faster.
+#[derive(Drop)]
+pub struct SharedZones {
+    /// The instants between which the zones are prepared.
+    from: Moment,
+    to: Moment,
+    /// How many are looked for.
+    most: usize,
+    seen: Vec<Listed<ClosedObservance>>,
+    shared: Vec<SharedZone>,
+}
+
+impl SharedZones {
+    /// None so far. Those that will be shared are prepared between these instants.
+    pub fn new(alloc: Global, from: Moment, to: Moment) -> SharedZones {
+        SharedZones {
+            from,
+            to,
+            most: MOST,
+            seen: Vec::new(alloc),
+            shared: Vec::new(alloc),
+        }
+    }
+
+    /// None, now and later.
+    pub(crate) fn none(alloc: Global) -> SharedZones {
+        SharedZones {
+            from: 0,
+            to: 0,
+            most: 0,
+            seen: Vec::new(alloc),
+            shared: Vec::new(alloc),
+        }
+    }
+
+    /// The time zone with these observances, if it is shared.
+    fn find(&self, ended: &Listed<ClosedObservance>) -> Result<Option<Zone>, AllocError>
+        ensures { IfOk result (λ found. IfSome found (λ zone. zone_said zone ≡ ZoneSaid.ByObservances ended.now)) }
+    {
+        for shared in &self.shared {
+            if let Some(zone) = shared.with(ended)? {
+                return Ok(Some(zone));
+            }
+        }
+        Ok(None)
+    }
+
+    /// Whether a time zone with these observances was made.
+    fn has_seen(&self, ended: &Listed<ClosedObservance>) -> bool {
+        self.seen.iter().any(|seen| are_same(seen, ended))
+    }
+
+    /// Prepares a zone, before it is shared.
+    fn prepare(&self, zone: &mut Zone)
+        ensures { zone.new ≡ zone.old }
+    {
+        if self.to > self.from.saturating_add(LONG) {
+            zone.reach_between(self.from.saturating_sub(BEFORE), self.from);
+        }
+        zone.reach_between(self.from, self.to);
+    }
+
+    /// The time zone with these observances, which is shared from now on.
+    fn share(&mut self, alloc: Global, ended: Listed<ClosedObservance>) -> Result<Zone, AllocError>
+        requires { IsSoundZone ended }
+        ensures { IfOk result (λ zone. zone_said zone ≡ ZoneSaid.ByObservances ended) }
+    {
+        let observances = copied_observances(alloc, &ended)?;
+        let mut zone = zone_of(alloc, ended)?;
+        self.prepare(&mut zone);
+        self.shared.push(SharedZone {
+            observances,
+            zone: zone.share()?,
+        })?;
+        Ok(zone)
+    }
+
+    /// The time zone with these observances, where no fault stands on its lines. It is made where it is not shared.
+    pub(crate) fn zone(
+        &mut self,
+        alloc: Global,
+        ended: Listed<ClosedObservance>,
+    ) -> Result<Zone, AllocError>
+        requires { IsSoundZone ended }
+        ensures { IfOk result (λ zone. zone_said zone ≡ ZoneSaid.ByObservances ended) }
+    {
+        if let Some(zone) = self.find(&ended)? {
+            return Ok(zone);
+        }
+        if self.shared.len() < self.most && self.has_seen(&ended) {
+            return self.share(alloc, ended);
+        }
+        if self.seen.len() < self.most {
+            self.seen.push(copied_observances(alloc, &ended)?)?;
+        }
+        zone_of(alloc, ended)
+    }
+}
