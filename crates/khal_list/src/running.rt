@@ -150,7 +150,15 @@ pub fn run<S: Source, Z: ZoneSource, O: Sink, E: Sink>(
     ensures cause { IsErrOf result RunFault.WriteFault
         → (LeftByFault O.puts out.new ⊎ LeftByFlush O.flushes (Err Device) out.new) ⊎ LeftByFault E.puts err.new }
 {
-    let reading = read_all(alloc, source, zones, request.keep_going)?;
+    let window = &request.window;
+    let reading = read_all(
+        alloc,
+        source,
+        zones,
+        window.from,
+        window.to,
+        request.keep_going,
+    )?;
     put_all(err, &reading.errors)?;
     let status = reading.status();
     let token = list_whole(alloc, reading.files, request, out)?;

@@ -15,7 +15,7 @@ ghost use Rattle.khal_reading.specs.Outcomes.{half_gives, refusal_by, refusal_of
 use crate::answered::Answered;
 use crate::refusal::Refusal;
 use ics_calendar::{
-    Fault, FaultKind, FileFault, GivenFile, PartialFile, UnresolvedFile, ZoneFiles,
+    Fault, FaultKind, FileFault, GivenFile, PartialFile, SharedZones, UnresolvedFile, ZoneFiles,
     only_names_for_parts_count, only_wanted_files_count,
 };
 use ics_event::{FileEvents, Text};
@@ -87,6 +87,7 @@ impl<'a> HalfRead<'a> {
     /// Reads a file of that name.
     fn read(
         alloc: Global,
+        shared: &mut SharedZones,
         name: &'a str,
         bytes: &'a [u8],
         keep_going: bool,
@@ -98,7 +99,7 @@ impl<'a> HalfRead<'a> {
         if keep_going {
             return Ok(HalfRead::InParts(PartialFile::read(alloc, name, bytes)?));
         }
-        match UnresolvedFile::read(alloc, bytes) {
+        match UnresolvedFile::sharing(alloc, shared, bytes) {
             Ok(unresolved) => Ok(HalfRead::Whole(unresolved)),
             Err(FileFault::At { line, kind }) => Ok(HalfRead::Faulty { line, kind }),
             Err(FileFault::Memory) => Err(RunFault::Memory),
@@ -197,6 +198,7 @@ fn outcome_of<Z: ZoneSource>(
     alloc: Global,
     zones: &mut Z,
     answered: &mut Answered,
+    shared: &mut SharedZones,
     name: &str,
     bytes: &[u8],
     keep_going: bool,
@@ -210,7 +212,7 @@ fn outcome_of<Z: ZoneSource>(
 {
     only_wanted_files_count();
     only_names_for_parts_count();
-    let half = HalfRead::read(alloc, name, bytes, keep_going)?;
+    let half = HalfRead::read(alloc, shared, name, bytes, keep_going)?;
     outcome_with(alloc, zones, answered, half)
 }
 
@@ -221,6 +223,7 @@ pub(crate) fn read_outcome<S: Source, Z: ZoneSource>(
     source: &mut S,
     zones: &mut Z,
     answered: &mut Answered,
+    shared: &mut SharedZones,
     index: usize,
     keep_going: bool,
 ) -> Result<Outcome, RunFault>
@@ -237,6 +240,7 @@ pub(crate) fn read_outcome<S: Source, Z: ZoneSource>(
             alloc,
             zones,
             answered,
+            shared,
             source.name(index),
             &bytes,
             keep_going,

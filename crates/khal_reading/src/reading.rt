@@ -12,7 +12,7 @@ use crate::answered::Answered;
 use crate::outcome::{Outcome, read_outcome};
 use crate::refusal::add_refusal_lines;
 use crate::status::Status;
-use ics_calendar::{only_names_for_parts_count, only_wanted_files_count};
+use ics_calendar::{SharedZones, only_names_for_parts_count, only_wanted_files_count};
 use ics_event::FileEvents;
 use khal_ports::{RunFault, Source, ZoneSource};
 use std::alloc::Global;
@@ -70,11 +70,14 @@ impl Reading {
 /// VTIMEZONE defines, for each once in a run. A file that cannot be read, or one of whose zone files cannot,
 /// and a file that is refused have a line in the errors: none of them is a fault here. With `keep_going` a file
 /// gives the events of its accepted parts, and has a line for each fault that is named. Memory if an allocation
-/// failed, and then only the first of the files are read.
+/// failed, and then only the first of the files are read. Time zones that files share are prepared between two
+/// instants, the first of which is `from`: that makes a listing there faster, and changes no answer.
 pub fn read_all<S: Source, Z: ZoneSource>(
     alloc: Global,
     source: &mut S,
     zones: &mut Z,
+    from: i64,
+    to: i64,
     keep_going: bool,
 ) -> Result<Reading, RunFault>
     ensures some { (contents : List Contents) × (asked : List Asked)
@@ -90,8 +93,17 @@ pub fn read_all<S: Source, Z: ZoneSource>(
     only_names_for_parts_count();
     let mut reading = Reading::new(alloc);
     let mut answered = Answered::new(alloc);
+    let mut shared = SharedZones::new(alloc, from, to);
     for index in 0..source.count() {
-        let outcome = read_outcome(alloc, source, zones, &mut answered, index, keep_going)?;
+        let outcome = read_outcome(
+            alloc,
+            source,
+            zones,
+            &mut answered,
+            &mut shared,
+            index,
+            keep_going,
+        )?;
         reading.keep(alloc, source.name(index), outcome)?;
     }
     Ok(reading)
