@@ -103,6 +103,7 @@ pub fn are_same(observances: &Listed<ClosedObservance>, others: &Listed<ClosedOb
     true
 }
 
+/// Whether two observances are the same, by the text of their rules.
 fn is_same(observance: &ClosedObservance, other: &ClosedObservance) -> bool
     ensures { result ≡ true → observance.now ≡ other.now }
 {
@@ -114,12 +115,14 @@ fn is_same(observance: &ClosedObservance, other: &ClosedObservance) -> bool
         && are_same_locals(&observance.rdates, &other.rdates)
 }
 
+/// Whether two locals are the same.
 fn is_same_local(local: Local, other: Local) -> bool
     ensures { result ≡ true → local ≡ other }
 {
     local.day == other.day && local.second == other.second
 }
 
+/// Whether the same locals are listed, in the same order.
 fn are_same_locals(locals: &Listed<Local>, others: &Listed<Local>) -> bool
     ensures { result ≡ true → locals.now ≡ others.now }
 {
@@ -134,6 +137,7 @@ fn are_same_locals(locals: &Listed<Local>, others: &Listed<Local>) -> bool
     true
 }
 
+/// Whether there is no rule on both sides, or the same text of a rule.
 fn is_same_rule(rule: &Option<DailyRule>, other: &Option<DailyRule>) -> bool
     ensures { result ≡ true → rule.now ≡ other.now }
 {
