@@ -370,7 +370,8 @@ impl PartsRound {
         file: Option<&str>,
         mut lines: Lines<'_>,
     ) -> Result<HasParts, AllocError>
-        ensures { IfOk result (λ has. Ends has self.new.parted (round_over self.old (lines_with (option_copied file.entry) (placed_from self.old.path lines.entry)))) }
+        ensures { IfOk result (λ has. Ends has self.new.parted
+            (round_over self.old (lines_with (option_copied file.entry) (placed_from self.old.path lines.entry)))) }
     {
         'lines: while let Some(line) = lines.next(alloc)? {
             let number = line.number();
