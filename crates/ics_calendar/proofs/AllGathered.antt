@@ -13,7 +13,7 @@ use Rattle.ics_components.proofs.GatheredItems.{each_parsed, items_parsed, parse
 use Rattle.ics_components.proofs.ItemFaults.{IsIn}
 use Rattle.ics_components.proofs.PassLemmas.{parsed_from}
 use Rattle.ics_components.proofs.RestFaults.{in-filter, right-or}
-use Rattle.ics_calendar.specs.PartsRead.{sound_zones, whole_of, zones_in}
+use Rattle.ics_calendar.specs.Inner.PartsRead.{sound_zones, whole_of, zones_in}
 use Rattle.ics_calendar.proofs.PartChecks.{read-is, zones-read}
 use Rattle.ics_calendar.proofs.PartEvents.{sounds}
 use Rattle.ics_calendar.proofs.PartFirst.{event-nothing, filter-twice, some-of, zone-nothing}

@@ -8,8 +8,8 @@ use Rattle.std.proofs.lemmas.List.{length-append}
 use Rattle.ics_components.specs.declared.fault.Fault.{Fault}
 use Rattle.ics_components.specs.Parted.{PartedComponentSeen}
 use Rattle.ics_components.proofs.RestFaults.{two-of}
-use Rattle.ics_calendar.specs.PartsRead.{Labelled, Numbered, is_above, is_key, labelled, least_at, nothing_labelled, number_at_end, number_of}
-use Rattle.ics_calendar.specs.PartsRead.{numbered_with, own_number, place_from, rise_from, searched, sound_in, with_event, with_key}
+use Rattle.ics_calendar.specs.Inner.PartsRead.{Labelled, Numbered, is_above, is_key, labelled, least_at, nothing_labelled, number_at_end, number_of}
+use Rattle.ics_calendar.specs.Inner.PartsRead.{numbered_with, own_number, place_from, rise_from, searched, sound_in, with_event, with_key}
 use Rattle.ics_calendar.proofs.Numbers.{Keys, key-is}
 
 -- the keys before, of which none has a number above the last

@@ -20,7 +20,7 @@ use Rattle.ics_components.proofs.ItemFaults.{least, least-has, least_covers}
 use Rattle.ics_components.proofs.Opened.{begun-outside, in-any, one-begin, within, within-part}
 use Rattle.ics_components.proofs.RestFaults.{either-of, fold_least, in-filter, is_rest, left-or, open-at, part-begins, rest-among, rest-covers, rest_faults}
 use Rattle.ics_components.proofs.RestFaults.{right-or}
-use Rattle.ics_calendar.specs.PartsRead.{fault_of_rest, fault_read, first_of, is_on_first}
+use Rattle.ics_calendar.specs.Inner.PartsRead.{fault_of_rest, fault_read, first_of, is_on_first}
 use Rattle.ics_calendar.proofs.FilesGiven.{or-none}
 use Rattle.ics_calendar.proofs.PartChecks.{read-is}
 use Rattle.ics_calendar.proofs.RestSays.{same-fault}

@@ -11,7 +11,8 @@ use Rattle.std.proofs.lemmas.List.{get_or-set_other, get_or-set_same, get_or_app
 use Rattle.ics_components.specs.declared.fault.Fault.{Fault}
 use Rattle.ics_components.specs.PartFaults.{earlier}
 use Rattle.ics_components.specs.Parted.{PartedComponentSeen}
-use Rattle.ics_calendar.specs.PartsRead.{Labelled, Numbered, is_key, keys_of, labelled, least_at, nothing_labelled, number_of, place_from, with_event, with_key}
+use Rattle.ics_calendar.specs.Inner.PartsRead.{Labelled, Numbered, is_key, keys_of, labelled, least_at, nothing_labelled, number_of, place_from, with_event}
+use Rattle.ics_calendar.specs.Inner.PartsRead.{with_key}
 use Rattle.ics_calendar.specs.SoundParts.{fault_there}
 use Rattle.ics_calendar.proofs.Shared.{long-more, place-more}
 

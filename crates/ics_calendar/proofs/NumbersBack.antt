@@ -10,7 +10,8 @@ use Rattle.std.proofs.lemmas.List.{get_or-set_other, get_or_append_left, get_or_
 use Rattle.ics_components.specs.declared.fault.Fault.{Fault}
 use Rattle.ics_components.specs.PartFaults.{earlier}
 use Rattle.ics_components.specs.Parted.{PartedComponentSeen}
-use Rattle.ics_calendar.specs.PartsRead.{Labelled, Numbered, is_key, keys_of, labelled, least_at, nothing_labelled, number_of, place_from, with_event, with_key}
+use Rattle.ics_calendar.specs.Inner.PartsRead.{Labelled, Numbered, is_key, keys_of, labelled, least_at, nothing_labelled, number_of, place_from, with_event}
+use Rattle.ics_calendar.specs.Inner.PartsRead.{with_key}
 use Rattle.ics_calendar.proofs.Numbers.{Are_long, Keys, is-itself, key-at, keys-long, longer, still-long, there-now}
 use Rattle.ics_calendar.proofs.PartLaws.{here, there}
 use Rattle.ics_calendar.proofs.Shared.{place-more}

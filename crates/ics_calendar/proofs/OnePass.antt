@@ -19,7 +19,7 @@ use Rattle.ics_components.proofs.Placing.{in_place}
 use Rattle.ics_components.proofs.RestFaults.{two-of}
 use Rattle.ics_calendar.specs.Files.{unresolved_of}
 use Rattle.ics_calendar.specs.Parts.{is_parted}
-use Rattle.ics_calendar.specs.PartsRead.{first_of, is_on_first, sound_in, whole_of}
+use Rattle.ics_calendar.specs.Inner.PartsRead.{first_of, is_on_first, sound_in, whole_of}
 use Rattle.ics_calendar.specs.Settled.{known_in, unresolved_by}
 use Rattle.ics_calendar.specs.SoundParts.{SoundEventSeen}
 use Rattle.ics_calendar.specs.UnresolvedFiles.{IsFirstOf}

@@ -32,7 +32,7 @@ use Rattle.ics_calendar.specs.DeferredChecks.{is_same, with_files}
 use Rattle.ics_calendar.specs.Files.{UnresolvedSaid, decide, later_fault, said_of}
 use Rattle.ics_calendar.specs.GivenFiles.{GivenFiles}
 use Rattle.ics_calendar.specs.Parts.{Part, lines_of}
-use Rattle.ics_calendar.specs.PartsRead.{sound_zones, zones_in}
+use Rattle.ics_calendar.specs.Inner.PartsRead.{sound_zones, zones_in}
 use Rattle.ics_calendar.specs.Settled.{all_unknown, first_judged, known_in}
 use Rattle.ics_calendar.specs.Wanted.{each_once, unknown_names}
 use Rattle.ics_calendar.proofs.EventAsks.{IsAsked, IsInstantAsked, event-asks}

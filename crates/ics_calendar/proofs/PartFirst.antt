@@ -43,7 +43,7 @@ use Rattle.ics_calendar.specs.Files.{lines_say}
 use Rattle.ics_calendar.specs.Settled.{known_in, unresolved_by}
 use Rattle.ics_calendar.specs.Wanted.{each_once, unknown_names}
 use Rattle.ics_calendar.proofs.LinesSettle.{lines_settle}
-use Rattle.ics_calendar.specs.PartsRead.{calendar_fault, fault_needed, fault_read, has_name, zone_fault}
+use Rattle.ics_calendar.specs.Inner.PartsRead.{calendar_fault, fault_needed, fault_read, has_name, zone_fault}
 use Rattle.ics_calendar.specs.Parts.{Part, frames, is_in_part, is_of, is_zone_of, lines_of, lines_of_all, needs}
 
 both-true : (a b : Bool) → a ≡ true → b ≡ true → (a && b) ≡ true

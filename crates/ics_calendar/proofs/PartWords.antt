@@ -9,7 +9,7 @@ use Rattle.ics_components.specs.Parted.{component_seen}
 use Rattle.ics_components.specs.PlacedLines.{Placed, innermost}
 use Rattle.ics_calendar.specs.DeferredChecks.{is_same}
 use Rattle.ics_calendar.specs.Parts.{Part}
-use Rattle.ics_calendar.specs.PartsRead.{zones_in}
+use Rattle.ics_calendar.specs.Inner.PartsRead.{zones_in}
 use Rattle.ics_calendar.proofs.PartFirst.{is_zone_for}
 
 -- an event names a time zone of its calendar

@@ -17,7 +17,7 @@ use Rattle.ics_components.proofs.ItemFaults.{IsIn}
 use Rattle.ics_components.proofs.RestFaults.{in-filter}
 use Rattle.ics_components.proofs.Paths.{bytes_eq-back}
 use Rattle.ics_calendar.specs.Parts.{Part, is_zone_of}
-use Rattle.ics_calendar.specs.PartsRead.{sound_zones, zones_in}
+use Rattle.ics_calendar.specs.Inner.PartsRead.{sound_zones, zones_in}
 use Rattle.ics_calendar.proofs.PartFirst.{IsPart, calendar-plain, event-path, is_zone_for, zone-plain}
 use Rattle.ics_calendar.proofs.PartWords.{names, own_zones}
 use Rattle.ics_calendar.proofs.ZoneNames.{AreCalled, IsOnly, zone_called}

@@ -21,7 +21,7 @@ use Rattle.ics_components.specs.Sound.{IsSoundEvent, IsSoundZone}
 use Rattle.ics_components.proofs.Sound.{event-weaker}
 use Rattle.ics_components.specs.declared.deferred_check.ZoneName.{ZoneName}
 use Rattle.ics_calendar.specs.DeferredChecks.{KnownZones, unknown_in}
-use Rattle.ics_calendar.specs.UnknownNames.{name_in}
+use Rattle.ics_calendar.specs.Inner.UnknownNames.{name_in}
 use Rattle.ics_calendar.specs.Settled.{all_unknown, first_judged}
 use Rattle.ics_calendar.specs.SoundParts.{accepted_of, checks_of, fault_there, faults_at, gathered_of, is_no_fault, is_sound, later_faults, later_named}
 use Rattle.ics_calendar.specs.SoundParts.{later_of}

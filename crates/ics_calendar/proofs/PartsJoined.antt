@@ -12,7 +12,7 @@ use Rattle.ics_components.specs.Parted.{component_seen, parted_lines}
 use Rattle.ics_components.specs.PlacedLines.{Placed, innermost}
 use Rattle.ics_components.proofs.PlacedApart.{AreParted}
 use Rattle.ics_calendar.specs.Parts.{Part, lines_of, parts_of}
-use Rattle.ics_calendar.specs.PartsRead.{fault_beside, fault_needed, fault_read}
+use Rattle.ics_calendar.specs.Inner.PartsRead.{fault_beside, fault_needed, fault_read}
 use Rattle.ics_calendar.proofs.OneEach.{part-within}
 use Rattle.ics_calendar.proofs.OneUid.{contains-in, was-flattened, was-kept}
 use Rattle.ics_calendar.proofs.PartFirst.{IsPart, part_first}

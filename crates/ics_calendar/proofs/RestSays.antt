@@ -22,7 +22,7 @@ use Rattle.ics_calendar.specs.DeferredChecks.{KnownZones, with_files}
 use Rattle.ics_calendar.specs.Files.{UnresolvedSaid, decide, later_fault, lines_say, said_of}
 use Rattle.ics_calendar.specs.GivenFiles.{GivenFiles}
 use Rattle.ics_calendar.specs.Parts.{fault_in, rest_of}
-use Rattle.ics_calendar.specs.PartsRead.{fault_of_rest, fault_read}
+use Rattle.ics_calendar.specs.Inner.PartsRead.{fault_of_rest, fault_read}
 use Rattle.ics_calendar.specs.Settled.{all_unknown, known_in, settled_by}
 use Rattle.ics_calendar.specs.SoundParts.{listed}
 use Rattle.ics_calendar.specs.Wanted.{each_once}

@@ -9,8 +9,8 @@ use Rattle.std.specs.Option.{option_or}
 use Rattle.ics_components.specs.declared.deferred_check.ZoneName.{ZoneName}
 use Rattle.ics_components.specs.declared.fault.Fault.{Fault}
 use Rattle.ics_components.specs.Parted.{PartedComponentSeen, PartedFileSeen}
-use Rattle.ics_calendar.specs.SharedFaults.{AreShared, needed_by}
-use Rattle.ics_calendar.specs.PartsRead.{fault_needed, fault_read, sound_zones, zones_in}
+use Rattle.ics_calendar.specs.Inner.SharedFaults.{AreShared, needed_by}
+use Rattle.ics_calendar.specs.Inner.PartsRead.{fault_needed, fault_read, sound_zones, zones_in}
 use Rattle.ics_calendar.specs.SoundParts.{SoundEventSeen}
 use Rattle.ics_calendar.specs.declared.shared_faults.SharedFaults.{SharedFaults}
 use Rattle.ics_components.specs.declared.parsed_file.CalendarZone.{CalendarZone}
@@ -19,10 +19,10 @@ use Rattle.ics_components.specs.ParsedFiles.{IsSoundParsed}
 use Rattle.ics_components.specs.Sound.{IsSoundZone}
 use Rattle.std.specs.List.{All}
 use Rattle.std.proofs.lemmas.List.Elements.{All-append, All-cons, All-head, All-nil, All-tail}
-use Rattle.ics_calendar.specs.Labels.{AreNumbered}
-use Rattle.ics_calendar.specs.PartsRead.{Labelled, Numbered, calendar_fault, fault_under, is_key, keys_of, least_at, number_of, numbered_with, place_from}
-use Rattle.ics_calendar.specs.PartsRead.{sound_in, with_event, with_key, zone_fault}
-use Rattle.ics_calendar.specs.SharedFaults.{number_by}
+use Rattle.ics_calendar.specs.Inner.Labels.{AreNumbered}
+use Rattle.ics_calendar.specs.Inner.PartsRead.{Labelled, Numbered, calendar_fault, fault_under, is_key, keys_of, least_at, number_of, numbered_with, place_from}
+use Rattle.ics_calendar.specs.Inner.PartsRead.{sound_in, with_event, with_key, zone_fault}
+use Rattle.ics_calendar.specs.Inner.SharedFaults.{number_by}
 use Rattle.ics_components.specs.PartFaults.{earlier}
 use Rattle.std.specs.BTreeMap.{BTreeMap, get}
 use Rattle.std.specs.Cmp.Lexicographic.{slice_cmp}

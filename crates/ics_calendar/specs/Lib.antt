@@ -23,9 +23,6 @@ pub mod Settled
 pub mod ZoneTables
 pub mod UnresolvedFiles
 pub mod Parts
-pub mod UnknownNames
 pub mod SoundParts
-pub mod PartsRead
-pub mod SharedFaults
-pub mod Labels
 pub mod PartialFiles
+pub mod Inner

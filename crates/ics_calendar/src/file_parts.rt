@@ -11,7 +11,7 @@ ghost use Rattle.ics_calendar.specs.DeferredChecks.{is_same};
 ghost use Rattle.ics_calendar.specs.Parts.{fault_cmp, in_order};
 ghost use Rattle.ics_components.specs.Parted.{IsSoundParted, parted_of};
 ghost use Rattle.ics_calendar.specs.PartialFiles.{ArePartsOf};
-ghost use Rattle.ics_calendar.specs.PartsRead.{AreRead};
+ghost use Rattle.ics_calendar.specs.Inner.PartsRead.{AreRead};
 ghost use Rattle.ics_calendar.specs.SoundParts.{checks_of, faults_at, is_sound, later_of, listed, gathered_of, named_at, names_zone, of_parts, parts_said};
 ghost use Rattle.ics_calendar.specs.SoundParts.{wanted_by, said_with, zones_for};
 ghost use Rattle.ics_calendar.specs.ZoneTables.{given_by, known_by, name_cmp};

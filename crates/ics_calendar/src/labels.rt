@@ -6,10 +6,10 @@ ghost use Rattle.std.specs.List.{list_any};
 ghost use Rattle.std.specs.Option.{option_or};
 ghost use Rattle.std.specs.Ordering.{nat_cmp};
 ghost use Rattle.std.specs.Str.{bytes_eq};
-ghost use Rattle.ics_calendar.specs.Labels.{AreLabels, AreNumbered};
-ghost use Rattle.ics_calendar.specs.PartsRead.{fault_read, labelled, least_at, nothing_labelled, numbered_with};
-ghost use Rattle.ics_calendar.specs.PartsRead.{searched, with_event, with_key, Labelled, Numbered};
-ghost use Rattle.ics_calendar.specs.SharedFaults.{needed_by, number_by};
+ghost use Rattle.ics_calendar.specs.Inner.Labels.{AreLabels, AreNumbered};
+ghost use Rattle.ics_calendar.specs.Inner.PartsRead.{fault_read, labelled, least_at, nothing_labelled, numbered_with};
+ghost use Rattle.ics_calendar.specs.Inner.PartsRead.{searched, with_event, with_key, Labelled, Numbered};
+ghost use Rattle.ics_calendar.specs.Inner.SharedFaults.{needed_by, number_by};
 
 use crate::file_parts::SoundEvent;
 use crate::rising::numbers_rise;

@@ -1,6 +1,6 @@
 //! Events each of which has one UID that no other has, as the numbers at their ends show.
 ghost use Rattle.std.specs.Prelude.{◌≡◌};
-ghost use Rattle.ics_calendar.specs.PartsRead.{is_above, number_at_end, number_with, own_number, rise_from};
+ghost use Rattle.ics_calendar.specs.Inner.PartsRead.{is_above, number_at_end, number_with, own_number, rise_from};
 
 use ics_components::PartedComponent;
 use ics_event::Text;

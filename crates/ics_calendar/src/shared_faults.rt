@@ -5,8 +5,8 @@ ghost use Rattle.std.specs.Option.{option_or};
 ghost use Rattle.std.specs.Ordering.{nat_cmp};
 ghost use Rattle.ics_components.specs.declared.deferred_check.ZoneName.{ZoneName};
 ghost use Rattle.ics_components.specs.PartFaults.{earlier};
-ghost use Rattle.ics_calendar.specs.PartsRead.{calendar_fault, fault_read, has_name, sound_zones, zone_fault};
-ghost use Rattle.ics_calendar.specs.SharedFaults.{shared_beside, AreShared};
+ghost use Rattle.ics_calendar.specs.Inner.PartsRead.{calendar_fault, fault_read, has_name, sound_zones, zone_fault};
+ghost use Rattle.ics_calendar.specs.Inner.SharedFaults.{shared_beside, AreShared};
 ghost use Rattle.ics_calendar.specs.ZoneTables.{name_cmp};
 
 use crate::zone_files::put_first;

@@ -3,7 +3,7 @@ ghost use Rattle.std.specs.Prelude.{◌≡◌, ◌≤◌, ◌∷◌, ◌++◌, �
 ghost use Rattle.ics_calendar.specs.DeferredChecks.{unknown_in};
 ghost use Rattle.ics_calendar.specs.Settled.{all_unknown};
 ghost use Rattle.ics_calendar.specs.Files.{wanted_names};
-ghost use Rattle.ics_calendar.specs.UnknownNames.{name_in, AreNames};
+ghost use Rattle.ics_calendar.specs.Inner.UnknownNames.{name_in, AreNames};
 ghost use Rattle.ics_calendar.specs.Wanted.{each_once};
 ghost use Rattle.ics_calendar.specs.ZoneTables.{known_by};
 

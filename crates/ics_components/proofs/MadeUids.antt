@@ -10,7 +10,7 @@ use Rattle.ics_components.specs.EventLines.{all_events, breaks_off, has_parts, i
 use Rattle.ics_components.specs.FirstFault.{no_open}
 use Rattle.ics_components.specs.Names.{same_name}
 use Rattle.ics_components.specs.Parted.{AreInPlace, lines_with, parted_lines, parted_of}
-use Rattle.ics_components.specs.PartsPass.{is_event_uid}
+use Rattle.ics_components.specs.Inner.PartsPass.{is_event_uid}
 use Rattle.ics_components.specs.PlacedLines.{Placed, Open, ends_event, in_event, is_end, is_named, name_on, path_behind, placed, value_of}
 use Rattle.ics_components.proofs.Paths.{any_event}
 use Rattle.ics_components.proofs.RoundWhole.{broken, broken-off}

@@ -23,9 +23,9 @@ use Rattle.ics_components.specs.Names.{same_name}
 use Rattle.ics_components.specs.PlacedLines.{Placed, Open, component, in_calendar, innermost, is_begin, is_end, is_named, lines_in, name_on, path_behind, value}
 use Rattle.ics_components.specs.Parted.{AreInPlace, Reads, frames_around, PartedComponentSeen, PartedFileSeen, begins_part, component_seen, fault_there}
 use Rattle.ics_components.specs.Parted.{first_there, is_line_of, is_outside, is_part, part_in, read_behind, version_faults}
-use Rattle.ics_components.specs.PartsPass.{NotesSeen, PartSeen, RoundSeen, and_outside, here, is_doubt, noted, noted_directly}
-use Rattle.ics_components.specs.PartsPass.{notes_begun, part_closed}
-use Rattle.ics_components.specs.PartsPass.{texts_on, with_line}
+use Rattle.ics_components.specs.Inner.PartsPass.{NotesSeen, PartSeen, RoundSeen, and_outside, here, is_doubt, noted, noted_directly}
+use Rattle.ics_components.specs.Inner.PartsPass.{notes_begun, part_closed}
+use Rattle.ics_components.specs.Inner.PartsPass.{texts_on, with_line}
 use Rattle.ics_components.proofs.Order.{Absent, Falls, below, absent-behind}
 use Rattle.ics_components.proofs.PartPaths.{absent-any, absent-inner, begins-by, closed-inner, closed-none}
 

@@ -10,12 +10,12 @@ use Rattle.ics_components.specs.declared.refused.Refused.TheVariants.{Memory, Fa
 use Rattle.ics_text.specs.ContentLines.{Parts}
 use Rattle.ics_components.specs.declared.fault.FaultKind.TheVariants as kind
 use Rattle.ics_components.specs.declared.frame.Frame.{Frame}
-use Rattle.ics_components.specs.Known.{is_known}
+use Rattle.ics_components.specs.Inner.Known.{is_known}
 use Rattle.ics_components.specs.Lines.{fault_on, is_mark}
 use Rattle.ics_components.specs.Names.{same_name}
 use Rattle.ics_components.specs.Pass.{pass_on, is_lowest, GoesBehind}
-use Rattle.ics_components.specs.PassedLines.{Passes}
-use Rattle.ics_components.specs.Passing.{GoesOn}
+use Rattle.ics_components.specs.Inner.PassedLines.{Passes}
+use Rattle.ics_components.specs.Inner.Passing.{GoesOn}
 use Rattle.ics_components.proofs.Judgements.{outside_line}
 use Rattle.ics_components.specs.PlacedLines.{named}
 

@@ -8,7 +8,7 @@ use Rattle.ics_components.specs.Components.{is_event_context, is_observance_cont
 use Rattle.ics_components.specs.declared.name.Name.TheVariants as name
 use Rattle.ics_components.specs.EventLines.{all_events, breaks_off, has_no_uid, has_parts, is_certain, is_well_nested, uid_line, with_uid, with_uids}
 use Rattle.ics_components.specs.Parted.{AreInPlace, lines_with, part_in}
-use Rattle.ics_components.specs.PartsPass.{here}
+use Rattle.ics_components.specs.Inner.PartsPass.{here}
 use Rattle.ics_components.specs.PlacedLines.{Open, Placed, context_of, ends_event, in_event, is_closing, is_named, path_behind, placed, placed_from}
 use Rattle.ics_components.proofs.Folds.{plain-there}
 use Rattle.ics_components.proofs.ItemFaults.{AreApart}

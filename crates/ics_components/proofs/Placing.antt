@@ -10,7 +10,7 @@ use Rattle.ics_components.specs.declared.name.Name.TheVariants as name
 use Rattle.ics_components.specs.EventLines.{all_events, breaks_off, is_well_nested, uid_line, with_uid}
 use Rattle.ics_components.specs.Names.{same_name}
 use Rattle.ics_components.specs.Parted.{AreInPlace, if_parted, is_sure, lines_with, parted_lines}
-use Rattle.ics_components.specs.PartsPass.{here, if_sure, round_begun, round_over}
+use Rattle.ics_components.specs.Inner.PartsPass.{here, if_sure, round_begun, round_over}
 use Rattle.ics_components.specs.PlacedLines.{Placed, Open, ends_event, in_event, innermost, is_closing, is_end, is_named, name_on, path_behind, placed}
 use Rattle.ics_components.specs.PlacedLines.{placed_from}
 use Rattle.ics_components.proofs.Order.{Falls, falls-behind}

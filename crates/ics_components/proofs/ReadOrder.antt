@@ -6,7 +6,7 @@ use Rattle.ics_text.specs.ContentLines.{Parts}
 use Rattle.ics_components.specs.Faults.{stands}
 use Rattle.ics_components.specs.FirstFault.{least_on, first_from, fault_at_end}
 use Rattle.ics_components.specs.Parted.{AreInPlace}
-use Rattle.ics_components.specs.PartsPass.{here}
+use Rattle.ics_components.specs.Inner.PartsPass.{here}
 use Rattle.ics_components.specs.PlacedLines.{Placed, Open, beside, closes, component, context_of, innermost, is_begin, is_end, lines_in, name_on, path_behind}
 use Rattle.ics_components.proofs.NameLemmas.{begin-is, end-is}
 use Rattle.ics_components.proofs.Order.{Falls, IsSort, Sort, begun, ended_as, ended_from, falls-behind, found-none, last-open, nested, open_as}

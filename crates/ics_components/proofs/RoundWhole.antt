@@ -14,9 +14,9 @@ use Rattle.ics_components.specs.PartFaults.{is_within}
 use Rattle.ics_components.specs.PlacedLines.{Placed, Open, component, innermost, is_begin, is_end, name_on, path_behind}
 use Rattle.ics_components.specs.Parted.{AreInPlace, PartedComponentSeen, PartedFileSeen, begins_part, component_seen}
 use Rattle.ics_components.specs.Parted.{fault_outside, first_there, is_outside, is_part, part_in, parted_lines, version_faults}
-use Rattle.ics_components.specs.PartsPass.{PartSeen, RoundSeen, and_closed, and_outside, by_part, closes_part, goes_on}
-use Rattle.ics_components.specs.PartsPass.{ended, parted_nothing, part_begun, part_left, round_begun, round_behind, round_over}
-use Rattle.ics_components.specs.PartsPass.{with_line}
+use Rattle.ics_components.specs.Inner.PartsPass.{PartSeen, RoundSeen, and_closed, and_outside, by_part, closes_part, goes_on}
+use Rattle.ics_components.specs.Inner.PartsPass.{ended, parted_nothing, part_begun, part_left, round_begun, round_behind, round_over}
+use Rattle.ics_components.specs.Inner.PartsPass.{with_line}
 use Rattle.ics_components.proofs.Order.{Falls, falls-behind}
 use Rattle.ics_components.proofs.PartPaths.{begins-by, closed-part, in-part, none-begins, part-open}
 use Rattle.ics_components.proofs.PartsLemmas.{AreElsewhere, IsThere, and_lines, and_part, begin-line, begin-no-version, begun-kept, begun-part}

@@ -7,7 +7,7 @@ use Rattle.ics_components.specs.declared.name.Name.TheVariants as name
 use Rattle.ics_components.specs.EventLines.{nests, uid_line}
 use Rattle.ics_components.specs.Names.{same_name}
 use Rattle.ics_components.specs.Parted.{lines_with}
-use Rattle.ics_components.specs.PartsPass.{GoesOver, RoundSeen, Steps, here, is_event_uid, round_over}
+use Rattle.ics_components.specs.Inner.PartsPass.{GoesOver, RoundSeen, Steps, here, is_event_uid, round_over}
 use Rattle.ics_components.specs.PlacedLines.{Placed, Open, ends_event, in_event, is_begin, is_end, is_named, name_on, path_behind}
 
 -- a line as it stands

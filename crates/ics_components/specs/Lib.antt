@@ -17,7 +17,4 @@ pub mod ParsedFileSeen
 pub mod ParsedFiles
 pub mod Pass
 pub mod Parted
-pub mod PartsPass
-pub mod Known
-pub mod PassedLines
-pub mod Passing
+pub mod Inner

@@ -3,9 +3,9 @@ ghost use Rattle.std.specs.Prelude.{◌≡◌, ℕ, ◌+◌, ◌<◌, ◌≤◌,
 ghost use Rattle.ics_text.specs.Passing.{IsPassed};
 ghost use Rattle.ics_text.specs.ReadLines.{TakesRead};
 ghost use Rattle.ics_text.specs.Unfolded.{Line, Within};
-ghost use Rattle.ics_components.specs.Known.{is_known};
+ghost use Rattle.ics_components.specs.Inner.Known.{is_known};
 ghost use Rattle.ics_components.specs.Pass.{pass_on, GoesBehind, parsed_of, Says};
-ghost use Rattle.ics_components.specs.Passing.{GoesOn};
+ghost use Rattle.ics_components.specs.Inner.Passing.{GoesOn};
 ghost use Rattle.ics_components.specs.ParsedFiles.{IsSoundParsed};
 
 use crate::fault::{FaultKind, FileFault};

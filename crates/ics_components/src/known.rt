@@ -6,7 +6,7 @@ use ics_text::Reads;
 pub struct Known;
 
 impl Reads for Known {
-    ghost use Rattle.ics_components.specs.Known.{is_known};
+    ghost use Rattle.ics_components.specs.Inner.Known.{is_known};
 
     ghost reads = { is_known };
 

@@ -24,7 +24,7 @@ pub struct LinesReader {
 
 impl Model for LinesReader {
     ghost use Rattle.ics_components.specs.Parted.{LinesRead};
-    ghost use Rattle.ics_components.specs.PartsPass.{read_seen};
+    ghost use Rattle.ics_components.specs.Inner.PartsPass.{read_seen};
 
     ghost Value = { LinesRead };
 

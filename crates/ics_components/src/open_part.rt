@@ -1,6 +1,6 @@
 //! What is noted of the event or the time zone that is open.
 ghost use Rattle.std.specs.Prelude.{◌≡◌, [], IfOk, Some};
-ghost use Rattle.ics_components.specs.PartsPass.{here, noted, notes_begun, uids_on, texts_on};
+ghost use Rattle.ics_components.specs.Inner.PartsPass.{here, noted, notes_begun, uids_on, texts_on};
 ghost use Rattle.ics_components.specs.PlacedLines.{named};
 ghost use Rattle.ics_components.specs.declared.name.Name.TheVariants as variant;
 
@@ -29,7 +29,7 @@ pub struct OpenPart {
 }
 
 impl Model for OpenPart {
-    ghost use Rattle.ics_components.specs.PartsPass.{NotesSeen};
+    ghost use Rattle.ics_components.specs.Inner.PartsPass.{NotesSeen};
 
     ghost Value = { NotesSeen };
 

@@ -2,7 +2,7 @@
 ghost use Rattle.std.specs.Prelude.{◌≡◌};
 ghost use Rattle.std.specs.List.{list_all};
 ghost use Rattle.ics_components.specs.PartFaults.{earlier};
-ghost use Rattle.ics_components.specs.PartsPass.{parted_nothing};
+ghost use Rattle.ics_components.specs.Inner.PartsPass.{parted_nothing};
 
 use crate::fault::Fault;
 use crate::parsed_file::ParsedFile;

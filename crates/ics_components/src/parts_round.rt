@@ -4,9 +4,9 @@ ghost use Rattle.std.specs.Option.{option_and_then, option_copied, option_or};
 ghost use Rattle.ics_text.specs.ContentLines.{content_of};
 ghost use Rattle.ics_components.specs.EventLines.{as_text, is_uid, made_uid, nests, uid_line, with_uid};
 ghost use Rattle.ics_components.specs.Parted.{IsSoundParted, fault_there, lines_with, parted_of};
-ghost use Rattle.ics_components.specs.PartsPass.{Ends, GoesOver, IsUidLine, Steps, and_closed, and_outside, by_part, closed_by, here, part_begun};
-ghost use Rattle.ics_components.specs.PartsPass.{part_closed, round_behind};
-ghost use Rattle.ics_components.specs.PartsPass.{ended, if_sure, round_begun, round_over};
+ghost use Rattle.ics_components.specs.Inner.PartsPass.{Ends, GoesOver, IsUidLine, Steps, and_closed, and_outside, by_part, closed_by, here, part_begun};
+ghost use Rattle.ics_components.specs.Inner.PartsPass.{part_closed, round_behind};
+ghost use Rattle.ics_components.specs.Inner.PartsPass.{ended, if_sure, round_begun, round_over};
 ghost use Rattle.ics_components.specs.PlacedLines.{named, path_behind, placed_from};
 
 use crate::fault::{Fault, FaultKind};
@@ -37,7 +37,7 @@ struct PartsRound {
 
 impl Model for PartsRound {
     ghost use Rattle.std.specs.Prelude.{option_map};
-    ghost use Rattle.ics_components.specs.PartsPass.{RoundSeen};
+    ghost use Rattle.ics_components.specs.Inner.PartsPass.{RoundSeen};
 
     ghost Value = { RoundSeen };
 

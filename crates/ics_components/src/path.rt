@@ -5,7 +5,7 @@ ghost use Rattle.ics_text.specs.Bytes.{upper};
 ghost use Rattle.ics_components.specs.EventLines.{in_any_event, is_uid, nests};
 ghost use Rattle.ics_components.specs.Components.{is_calendar_context, is_event_context};
 ghost use Rattle.ics_components.specs.FirstFault.{no_open};
-ghost use Rattle.ics_components.specs.PartsPass.{here, is_event_uid};
+ghost use Rattle.ics_components.specs.Inner.PartsPass.{here, is_event_uid};
 ghost use Rattle.ics_components.specs.PlacedLines.{context_of, ends_event, innermost, named, path_behind};
 
 use crate::component::Component;

@@ -8,7 +8,7 @@ ghost use Rattle.ics_components.specs.ParsedFiles.{and_line};
 ghost use Rattle.ics_components.specs.Lines.{Keeps, fault_on, behind, closed, passing};
 ghost use Rattle.ics_components.specs.PlacedLines.{named};
 ghost use Rattle.ics_components.specs.Pass.{bottom, is_lowest};
-ghost use Rattle.ics_components.specs.PassedLines.{Passes};
+ghost use Rattle.ics_components.specs.Inner.PassedLines.{Passes};
 
 use crate::builder::Builder;
 use crate::component::{Component, Context};

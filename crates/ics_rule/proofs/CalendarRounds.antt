@@ -9,7 +9,7 @@ use Rattle.ics_rule.specs.declared.effective_rule.EffectiveRule.{EffectiveRule}
 use Rattle.ics_rule.specs.PeriodNumbers.{period, day_of}
 use Rattle.ics_rule.specs.Candidates.{lets_date, is_stepped, period_in}
 use Rattle.ics_rule.specs.RecurrencePeriods.{first_local}
-use Rattle.ics_rule.specs.Rounds.{calendar_periods, IsCalendarRound, IsRound}
+use Rattle.ics_rule.specs.Inner.Rounds.{calendar_periods, IsCalendarRound, IsRound}
 use Rattle.ics_rule.proofs.RoundLemmas.{clock_same, let_in_alike, step_repeats}
 use Rattle.ics_rule.proofs.Tests.{positive}
 use Rattle.ics_rule.proofs.CycleLemmas.{years_again, months_again, year_again, month_again, date_again}

@@ -9,7 +9,7 @@ use Rattle.ics_rule.specs.PeriodNumbers.{day_of}
 use Rattle.ics_rule.specs.Candidates.{is_stepped, is_candidate_in, period_in, lets_date, lets_clock}
 use Rattle.ics_rule.specs.Kept.{count, is_beside, rank, size, is_placed, is_chosen}
 use Rattle.ics_rule.specs.RecurrencePeriods.{holds, is_let_in, IsPeriodOf, is_taken}
-use Rattle.ics_rule.specs.Searches.{is_chosen_within}
+use Rattle.ics_rule.specs.Inner.Searches.{is_chosen_within}
 use Rattle.ics_rule.specs.ByTable.{is_nth}
 use Rattle.ics_rule.proofs.Counts.{count-same, count-suc, count_one}
 use Rattle.ics_fields.specs.Locals.{calendar_end}

@@ -11,7 +11,7 @@ use Rattle.ics_rule.specs.Candidates.{is_stepped, period_in}
 use Rattle.ics_rule.specs.Kept.{count, is_chosen}
 use Rattle.ics_rule.specs.RecurrencePeriods.{first_local, IsPeriodOf, is_taken}
 use Rattle.ics_rule.specs.Cursors.{IsCounted}
-use Rattle.ics_rule.specs.Searches.{is_few, IsPassed, AllCounted, IsTurned, after_look}
+use Rattle.ics_rule.specs.Inner.Searches.{is_few, IsPassed, AllCounted, IsTurned, after_look}
 use Rattle.ics_rule.proofs.PeriodLemmas.{begun, begins, first_in, period_mono, week_small, before_first}
 use Rattle.ics_rule.proofs.Counts.{count_between, count-none, count_mono, count_most}
 use Rattle.ics_rule.proofs.RankLemmas.{count_flat}

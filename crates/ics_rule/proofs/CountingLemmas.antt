@@ -13,9 +13,9 @@ use Rattle.ics_rule.specs.Candidates.{is_stepped, period_in}
 use Rattle.ics_rule.specs.Kept.{count, is_chosen}
 use Rattle.ics_rule.specs.RecurrencePeriods.{is_taken}
 use Rattle.ics_rule.specs.Cursors.{CountedBy}
-use Rattle.ics_rule.specs.Searches.{is_chosen_within, is_few, is_wanted, NoneWanted, IsWalked, LooksAt, IsTurnOf, IsNextOpen}
-use Rattle.ics_rule.specs.Searches.{AllCounted, IsTurned}
-use Rattle.ics_rule.specs.Rounds.{IsPassedTo}
+use Rattle.ics_rule.specs.Inner.Searches.{is_chosen_within, is_few, is_wanted, NoneWanted, IsWalked, LooksAt, IsTurnOf, IsNextOpen}
+use Rattle.ics_rule.specs.Inner.Searches.{AllCounted, IsTurned}
+use Rattle.ics_rule.specs.Inner.Rounds.{IsPassedTo}
 use Rattle.ics_rule.proofs.PeriodLemmas.{begun, period_mono}
 use Rattle.ics_rule.proofs.StepLemmas.{stepped_parts, stepped_shown}
 use Rattle.ics_rule.proofs.ChosenLemmas.{not_let_in, taken_within}

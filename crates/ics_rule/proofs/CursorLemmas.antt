@@ -15,7 +15,7 @@ use Rattle.ics_rule.specs.Cursors.{is_met, fresh, HeldBy, CountedBy, IsCursorIn,
 use Rattle.ics_rule.specs.Cursors.{HasLooked}
 use Rattle.ics_rule.specs.EffectiveRules.{effective}
 use Rattle.ics_rule.specs.Recurrence.{Recurrence}
-use Rattle.ics_rule.specs.Searches.{IsNextOpen, is_chosen_within, is_wanted, NoneWanted, HasMoved, IsWalked, LooksAt, after_look}
+use Rattle.ics_rule.specs.Inner.Searches.{IsNextOpen, is_chosen_within, is_wanted, NoneWanted, HasMoved, IsWalked, LooksAt, after_look}
 use Rattle.ics_rule.proofs.PeriodLemmas.{begun, first_in, period_mono, period_small, week_small, before_next}
 use Rattle.ics_rule.proofs.Counts.{count-suc, count_some, count_mono, count_most, count_one_more, count_every}
 use Rattle.ics_rule.proofs.RankLemmas.{found}

@@ -15,8 +15,8 @@ use Rattle.ics_fields.specs.declared.fields.Civil.{Civil}
 use Rattle.ics_fields.specs.Days.{weekday_of}
 use Rattle.ics_fields.specs.Fields.{IsCivilOf}
 use Rattle.ics_rule.specs.Candidates.{lets_place, lets_week, lists_nth, lets_numbered, lets_weekday, lets_date, fourth_day}
-use Rattle.ics_rule.specs.DateParts.{names_weekdays_alone}
-use Rattle.ics_rule.specs.NamedWeekdays.{names_weekday}
+use Rattle.ics_rule.specs.Inner.DateParts.{names_weekdays_alone}
+use Rattle.ics_rule.specs.Inner.NamedWeekdays.{names_weekday}
 use Rattle.ics_rule.proofs.ScanLemmas.{in_word}
 
 -- the week of a day, by the fields of its fourth day

@@ -12,8 +12,8 @@ use Rattle.ics_rule.specs.PeriodNumbers.{period}
 use Rattle.ics_rule.specs.Candidates.{lets, lets_date, lets_clock, is_stepped, period_in}
 use Rattle.ics_rule.specs.Kept.{count, is_chosen}
 use Rattle.ics_rule.specs.RecurrencePeriods.{first_local}
-use Rattle.ics_rule.specs.Rounds.{seconds_of, chosen_to}
-use Rattle.ics_rule.specs.OpenPeriods.{per_day, lets_own, lets_within, is_open_period, size_of_open, chosen_of_size, chosen_in_open}
+use Rattle.ics_rule.specs.Inner.Rounds.{seconds_of, chosen_to}
+use Rattle.ics_rule.specs.Inner.OpenPeriods.{per_day, lets_own, lets_within, is_open_period, size_of_open, chosen_of_size, chosen_in_open}
 use Rattle.ics_rule.proofs.Counts.{count-same, count-suc, count-all, count-product, count_every, count_most}
 use Rattle.ics_rule.proofs.ProductCounts.{count_zero}
 use Rattle.ics_rule.proofs.SizeLemmas.{let_at, longest, counted, chosen_adds}

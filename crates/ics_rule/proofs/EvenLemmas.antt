@@ -12,8 +12,8 @@ use Rattle.ics_rule.specs.declared.effective_rule.EffectiveRule.{EffectiveRule}
 use Rattle.ics_rule.specs.Candidates.{is_stepped, period_in}
 use Rattle.ics_rule.specs.Kept.{count, is_chosen}
 use Rattle.ics_rule.specs.RecurrencePeriods.{first_local}
-use Rattle.ics_rule.specs.OpenPeriods.{chosen_of_size}
-use Rattle.ics_rule.specs.Rounds.{IsFlat, IsRound, IsEvenRound, chosen_to}
+use Rattle.ics_rule.specs.Inner.OpenPeriods.{chosen_of_size}
+use Rattle.ics_rule.specs.Inner.Rounds.{IsFlat, IsRound, IsEvenRound, chosen_to}
 use Rattle.ics_rule.proofs.Counts.{count-same, count_mono, count_one_more}
 use Rattle.ics_rule.proofs.RankLemmas.{count_flat}
 use Rattle.ics_rule.proofs.PeriodLemmas.{begun, begins, before_first, before_next, is_short, period_mono}

@@ -14,7 +14,7 @@ use Rattle.ics_rule.specs.PeriodNumbers.{day_of}
 use Rattle.ics_rule.specs.Candidates.{lets, lets_date, lets_clock}
 use Rattle.ics_rule.specs.Kept.{count}
 use Rattle.ics_rule.specs.RecurrencePeriods.{month_start}
-use Rattle.ics_rule.specs.Rounds.{IsFlat}
+use Rattle.ics_rule.specs.Inner.Rounds.{IsFlat}
 use Rattle.ics_rule.proofs.Counts.{count-same, count-add}
 use Rattle.ics_rule.proofs.RankLemmas.{count_flat}
 use Rattle.ics_rule.proofs.PeriodLemmas.{month_size}

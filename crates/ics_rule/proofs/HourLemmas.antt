@@ -15,7 +15,7 @@ use Rattle.ics_fields.specs.Locals.{number}
 use Rattle.ics_rule.specs.EffectiveRules.{effective, skips_hours}
 use Rattle.ics_rule.specs.Candidates.{lets, lets_clock}
 use Rattle.ics_rule.specs.Kept.{is_chosen, is_kept, is_by_until}
-use Rattle.ics_rule.specs.Searches.{is_wanted}
+use Rattle.ics_rule.specs.Inner.Searches.{is_wanted}
 use Rattle.ics_rule.specs.declared.hour.HourTimes.{HourTimes}
 use Rattle.ics_rule.specs.HoursKept.{KeepsEnds, KeepsTimes}
 use Rattle.ics_rule.specs.Next.{NoneKept}

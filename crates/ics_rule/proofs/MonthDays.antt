@@ -16,7 +16,7 @@ use Rattle.ics_fields.proofs.DayLemmas.{Fields, days_before_year-next, days_befo
 use Rattle.ics_rule.specs.declared.effective_rule.EffectiveRule.{EffectiveRule}
 use Rattle.ics_rule.specs.declared.runs.Run.{Run}
 use Rattle.ics_rule.specs.Candidates.{lets, lets_place, lets_wide_place, lets_week, lets_weekday, lets_numbered, lets_date, lists_nth}
-use Rattle.ics_rule.specs.Runs.{has_run, weekday_in, lists_weekday, lists_in_month, is_in_month, goes_by_months, counts_in_month, IsMonth, IsSpan}
+use Rattle.ics_rule.specs.Inner.Runs.{has_run, weekday_in, lists_weekday, lists_in_month, is_in_month, goes_by_months, counts_in_month, IsMonth, IsSpan}
 use Rattle.ics_rule.proofs.LawLemmas.{year_day_is}
 use Rattle.ics_rule.proofs.Months.{month_past, month_high, month_positive}
 use Rattle.ics_rule.proofs.PeriodLemmas.{month_size, IsPeriodFrom}

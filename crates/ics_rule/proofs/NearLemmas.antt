@@ -10,10 +10,10 @@ use Rattle.ics_fields.specs.Ordinals.{lists_none}
 use Rattle.ics_rule.specs.declared.effective_rule.EffectiveRule.{EffectiveRule}
 use Rattle.ics_fields.specs.Sets.{contains_wide}
 use Rattle.ics_rule.specs.declared.near_days.NearDays.{NearDays}
-use Rattle.ics_rule.specs.NearDays.{AreNear}
+use Rattle.ics_rule.specs.Inner.NearDays.{AreNear}
 use Rattle.ics_rule.specs.Candidates.{lets, lets_place, lets_date}
 use Rattle.ics_fields.proofs.DayLemmas.{days_before_year-next, days_before_year_low, year_under_way}
-use Rattle.ics_rule.specs.Runs.{IsSpan, is_in_month}
+use Rattle.ics_rule.specs.Inner.Runs.{IsSpan, is_in_month}
 use Rattle.ics_rule.proofs.LawLemmas.{year_day_is}
 use Rattle.ics_rule.proofs.MonthDays.{year_starts}
 

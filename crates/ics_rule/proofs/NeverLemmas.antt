@@ -13,10 +13,10 @@ use Rattle.ics_rule.specs.Candidates.{period_in}
 use Rattle.ics_rule.specs.Kept.{count, is_chosen}
 use Rattle.ics_rule.specs.RecurrencePeriods.{first_local, is_listed}
 use Rattle.ics_rule.specs.Cursors.{IsCursorIn}
-use Rattle.ics_rule.specs.Searches.{NoneWanted, IsWalked}
+use Rattle.ics_rule.specs.Inner.Searches.{NoneWanted, IsWalked}
 use Rattle.ics_rule.proofs.Counts.{count-none, count_some}
-use Rattle.ics_rule.specs.Rounds.{seconds_of}
-use Rattle.ics_rule.specs.OpenPeriods.{per_day, is_open_period, size_of_open, chosen_of_size, chosen_in_open}
+use Rattle.ics_rule.specs.Inner.Rounds.{seconds_of}
+use Rattle.ics_rule.specs.Inner.OpenPeriods.{per_day, is_open_period, size_of_open, chosen_of_size, chosen_in_open}
 use Rattle.ics_rule.proofs.EachLemmas.{total_open}
 use Rattle.ics_rule.proofs.CursorLemmas.{held_mono, moved_none, not_wanted}
 use Rattle.ics_fields.specs.Locals.{calendar_end}

@@ -9,7 +9,7 @@ use Rattle.ics_fields.specs.Locals.{number}
 use Rattle.ics_rule.specs.EffectiveRules.{effective}
 use Rattle.ics_rule.specs.Kept.{count, is_chosen, is_kept, is_in_rule, is_by_until, is_counted}
 use Rattle.ics_fields.specs.Sets.{IsLeastFrom}
-use Rattle.ics_rule.specs.Searches.{is_few, is_wanted, NoneWanted, IsNextWanted}
+use Rattle.ics_rule.specs.Inner.Searches.{is_few, is_wanted, NoneWanted, IsNextWanted}
 use Rattle.ics_rule.specs.Next.{NoneKept, IsNextKept}
 use Rattle.ics_rule.proofs.Counts.{count-suc, count-none, count_between, count_mono, count_one}
 use Rattle.ics_rule.proofs.Tests.{keep_true, unequal}

@@ -10,8 +10,8 @@ use Rattle.ics_fields.specs.Sets.{IsLeastFrom}
 use Rattle.ics_rule.specs.declared.effective_rule.EffectiveRule.{EffectiveRule}
 use Rattle.ics_rule.specs.Candidates.{lets_date, is_stepped}
 use Rattle.ics_rule.specs.Kept.{count}
-use Rattle.ics_rule.specs.Rounds.{seconds_of}
-use Rattle.ics_rule.specs.OpenPeriods.{per_day, lets_own, is_timely, is_open_period}
+use Rattle.ics_rule.specs.Inner.Rounds.{seconds_of}
+use Rattle.ics_rule.specs.Inner.OpenPeriods.{per_day, lets_own, is_timely, is_open_period}
 use Rattle.ics_rule.proofs.Counts.{count-same, count-suc, count-add, count-none, count-product, count_between, count_most, count_mono, count_one_more}
 use Rattle.ics_rule.proofs.RankLemmas.{count_flat}
 use Rattle.ics_rule.proofs.StepLemmas.{stepped_parts, stepped_shown, step_on, none_between}

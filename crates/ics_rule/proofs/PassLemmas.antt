@@ -6,7 +6,7 @@ use Rattle.ics_fields.specs.Sets.{contains, IsLeastFrom}
 use Rattle.ics_rule.specs.declared.effective_rule.EffectiveRule.{EffectiveRule}
 use Rattle.ics_rule.specs.Candidates.{lets, lets_date, lets_clock, is_stepped, period_in}
 use Rattle.ics_rule.specs.RecurrencePeriods.{first_local, has_time}
-use Rattle.ics_rule.specs.Searches.{NoneLetIn, IsNextOpen}
+use Rattle.ics_rule.specs.Inner.Searches.{NoneLetIn, IsNextOpen}
 use Rattle.ics_rule.proofs.ScanLemmas.{time_at}
 use Rattle.ics_rule.proofs.PeriodLemmas.{begun, begins, period_mono}
 

@@ -11,8 +11,8 @@ use Rattle.ics_rule.specs.Candidates.{is_stepped, period_in}
 use Rattle.ics_rule.specs.Kept.{count, is_chosen}
 use Rattle.ics_rule.specs.RecurrencePeriods.{first_local, IsPeriodOf}
 use Rattle.ics_rule.specs.Cursors.{fresh, IsCursorIn}
-use Rattle.ics_rule.specs.Searches.{is_chosen_within, IsNextWanted, IsNextOpen, after_look}
-use Rattle.ics_rule.specs.Rounds.{IsEvenRound, HasRound, IsPassedTo, CountsFrom, HasCountedTo}
+use Rattle.ics_rule.specs.Inner.Searches.{is_chosen_within, IsNextWanted, IsNextOpen, after_look}
+use Rattle.ics_rule.specs.Inner.Rounds.{IsEvenRound, HasRound, IsPassedTo, CountsFrom, HasCountedTo}
 use Rattle.std.proofs.Math.Nat.{mul-le-mul_right}
 use Rattle.ics_rule.proofs.PeriodLemmas.{begun, period_mono, before_next}
 use Rattle.ics_rule.proofs.Counts.{count_most}

@@ -7,7 +7,7 @@ use Rattle.std.proofs.lemmas.Bool.Decides.{nat_tests}
 use Rattle.ics_fields.specs.Sets.{IsLeastFrom}
 use Rattle.ics_rule.specs.declared.effective_rule.EffectiveRule.{EffectiveRule}
 use Rattle.ics_rule.specs.Kept.{count}
-use Rattle.ics_rule.specs.OpenPeriods.{chosen_of_size}
+use Rattle.ics_rule.specs.Inner.OpenPeriods.{chosen_of_size}
 use Rattle.ics_rule.specs.RecurrencePeriods.{IsNth, is_listed}
 use Rattle.ics_rule.specs.Candidates.{lists_wide}
 use Rattle.ics_fields.specs.declared.ordinals.WideOrdinals.{WideOrdinals}

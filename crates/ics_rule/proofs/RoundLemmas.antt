@@ -13,9 +13,9 @@ use Rattle.ics_fields.specs.Days.{weekday_of}
 use Rattle.ics_rule.specs.declared.effective_rule.EffectiveRule.{EffectiveRule}
 use Rattle.ics_rule.specs.PeriodNumbers.{period, day_of, hour_of, minute_of, second_of}
 use Rattle.ics_rule.specs.Candidates.{lets, lets_numbered, lets_date, lets_clock, is_stepped, period_in}
-use Rattle.ics_rule.specs.DateParts.{names_weekdays_alone}
+use Rattle.ics_rule.specs.Inner.DateParts.{names_weekdays_alone}
 use Rattle.ics_rule.specs.RecurrencePeriods.{first_local}
-use Rattle.ics_rule.specs.Rounds.{seconds_of, IsRound}
+use Rattle.ics_rule.specs.Inner.Rounds.{seconds_of, IsRound}
 use Rattle.ics_rule.proofs.DateLemmas.{weekdays_alone}
 use Rattle.ics_rule.proofs.Tests.{positive}
 

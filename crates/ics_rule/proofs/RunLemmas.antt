@@ -7,8 +7,8 @@ use Rattle.ics_rule.specs.declared.runs.Run.{Run}
 use Rattle.ics_fields.specs.declared.ordinals.Ordinals.{Ordinals}
 use Rattle.ics_fields.specs.declared.ordinals.Weekdays.{Weekdays}
 use Rattle.ics_rule.specs.Candidates.{lists, lists_nth}
-use Rattle.ics_rule.specs.Runs.{has_run, weekday_in, lists_weekday}
-use Rattle.ics_rule.specs.NamedWeekdays.{names_weekday}
+use Rattle.ics_rule.specs.Inner.Runs.{has_run, weekday_in, lists_weekday}
+use Rattle.ics_rule.specs.Inner.NamedWeekdays.{names_weekday}
 use Rattle.ics_rule.proofs.DateLemmas.{none_nth}
 
 -- the members found before a place, and the next

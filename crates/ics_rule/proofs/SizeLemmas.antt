@@ -8,8 +8,8 @@ use Rattle.ics_rule.specs.declared.effective_rule.EffectiveRule.{EffectiveRule}
 use Rattle.ics_rule.specs.Candidates.{is_stepped, is_candidate_in, period_in}
 use Rattle.ics_rule.specs.Kept.{count, is_placed, is_chosen}
 use Rattle.ics_rule.specs.RecurrencePeriods.{first_local, is_let_in}
-use Rattle.ics_rule.specs.Rounds.{chosen_to}
-use Rattle.ics_rule.specs.OpenPeriods.{chosen_of_size}
+use Rattle.ics_rule.specs.Inner.Rounds.{chosen_to}
+use Rattle.ics_rule.specs.Inner.OpenPeriods.{chosen_of_size}
 use Rattle.ics_rule.proofs.Counts.{count-same, count-add, count-from, count-none}
 use Rattle.ics_rule.proofs.RankLemmas.{count_flat, placed_of, size_decides}
 use Rattle.ics_rule.proofs.PeriodLemmas.{begun, begins, is_short, before_first, before_next}

@@ -14,7 +14,7 @@ use Rattle.ics_fields.proofs.DayLemmas.{days_before_year-next, year_of_is}
 use Rattle.ics_rule.specs.declared.effective_rule.EffectiveRule.{EffectiveRule}
 use Rattle.ics_rule.specs.PeriodNumbers.{week_of}
 use Rattle.ics_rule.specs.Candidates.{week_number, weeks_of_year, lets_place, lets_week}
-use Rattle.ics_rule.specs.Runs.{may_list_week}
+use Rattle.ics_rule.specs.Inner.Runs.{may_list_week}
 use Rattle.ics_rule.proofs.PeriodLemmas.{week_small, fourth_late}
 use Rattle.ics_rule.proofs.LawLemmas.{year_day_is}
 

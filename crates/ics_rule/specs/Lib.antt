@@ -2,10 +2,8 @@ pub mod Recurrence
 pub mod PeriodNumbers
 pub mod EffectiveRules
 pub mod HoursKept
-pub mod NamedWeekdays
 pub mod Candidates
 pub mod IsoWeeks
-pub mod DateParts
 pub mod Kept
 pub mod UntilBounds
 pub mod CountBounds
@@ -13,12 +11,8 @@ pub mod RecurrencePeriods
 pub mod Next
 pub mod Calls
 pub mod Cursors
-pub mod Searches
-pub mod Rounds
-pub mod OpenPeriods
-pub mod NearDays
 pub mod Table
 pub mod ByTable
-pub mod Runs
 pub mod PlainReading
 pub mod Ranks
+pub mod Inner

@@ -3,8 +3,8 @@ ghost use Rattle.std.specs.Prelude.{◌≡◌, ◌<◌, ◌≤◌, ◌+◌, ◌^
 ghost use Rattle.jiff_core.specs.Weekday.{monday_zero};
 ghost use Rattle.ics_rule.specs.Candidates.{is_stepped, period_in};
 ghost use Rattle.ics_rule.specs.RecurrencePeriods.{first_local};
-ghost use Rattle.ics_rule.specs.Searches.{IsNextWanted, IsWalked, LooksAt, IsTurnOf, AllCounted, IsTurned, IsUnderCount};
-ghost use Rattle.ics_rule.specs.Rounds.{IsPassedTo, CountsFrom, HasCountedTo};
+ghost use Rattle.ics_rule.specs.Inner.Searches.{IsNextWanted, IsWalked, LooksAt, IsTurnOf, AllCounted, IsTurned, IsUnderCount};
+ghost use Rattle.ics_rule.specs.Inner.Rounds.{IsPassedTo, CountsFrom, HasCountedTo};
 ghost use Rattle.ics_rule.specs.PeriodNumbers.{rules_end};
 
 use crate::cursor::Cursor;

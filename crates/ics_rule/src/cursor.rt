@@ -65,7 +65,7 @@ impl Cursor {
     ghost use Rattle.ics_rule.specs.Calls.{IsAnswer, LooksUpTo};
     ghost use Rattle.ics_rule.specs.Cursors.{known_to, period_count, place_of, steps_of, looks_from, IsCursorOf, HasCounted, HasLooked, IsCursorIn};
     ghost use Rattle.ics_rule.specs.Cursors.{HasLookedIn};
-    ghost use Rattle.ics_rule.specs.Searches.{IsNextWanted, IsWalked};
+    ghost use Rattle.ics_rule.specs.Inner.Searches.{IsNextWanted, IsWalked};
 
     /// A cursor at a local of the years 0000 to 9999, whether or not the rule keeps it. It has looked at no period.
     pub fn at(_rule: &Rule, from: Local) -> Cursor

@@ -7,9 +7,9 @@ ghost use Rattle.ics_fields.specs.Ordinals.{lists_no_weekday};
 ghost use Rattle.ics_fields.specs.Days.{weekday_of};
 ghost use Rattle.ics_rule.specs.PeriodNumbers.{day_before};
 ghost use Rattle.ics_fields.specs.Fields.{IsCivilOf};
-ghost use Rattle.ics_rule.specs.Runs.{goes_by_months};
+ghost use Rattle.ics_rule.specs.Inner.Runs.{goes_by_months};
 ghost use Rattle.ics_rule.specs.Candidates.{fourth_day, lets, lets_place, lets_numbered, lets_weekday, lets_week, lets_date};
-ghost use Rattle.ics_rule.specs.DateParts.{names_weekdays_alone};
+ghost use Rattle.ics_rule.specs.Inner.DateParts.{names_weekdays_alone};
 
 use crate::effective_rule::EffectiveRule;
 use crate::part::has_no_number;

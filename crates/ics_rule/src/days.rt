@@ -6,7 +6,7 @@ ghost use Rattle.ics_fields.specs.Sets.{contains_wide, none_wide};
 ghost use Rattle.ics_fields.specs.Days.{weekday_of, year_of};
 ghost use Rattle.ics_rule.specs.PeriodNumbers.{day_before};
 ghost use Rattle.ics_rule.specs.Candidates.{lets_date, lets_wide_place};
-ghost use Rattle.ics_rule.specs.Runs.{IsMonth, IsSpan, is_in_month, goes_by_months, counts_in_month};
+ghost use Rattle.ics_rule.specs.Inner.Runs.{IsMonth, IsSpan, is_in_month, goes_by_months, counts_in_month};
 
 use crate::date::{goes_by_months, lets_date, names_weekdays_alone, open_months};
 use crate::effective_rule::EffectiveRule;

@@ -6,7 +6,7 @@ ghost use Rattle.ics_fields.specs.Days.{days_before_year, year_of};
 ghost use Rattle.ics_rule.specs.declared.effective_rule.EffectiveRule.{EffectiveRule};
 ghost use Rattle.ics_rule.specs.PeriodNumbers.{day_before};
 ghost use Rattle.ics_rule.specs.Candidates.{lets_date};
-ghost use Rattle.ics_rule.specs.Runs.{IsSpan};
+ghost use Rattle.ics_rule.specs.Inner.Runs.{IsSpan};
 
 use crate::date::{civil_at, year_length};
 use crate::days::{add_listed_days, days_by_number};
@@ -49,7 +49,7 @@ pub struct NearDays {
 }
 
 impl NearDays {
-    ghost use Rattle.ics_rule.specs.NearDays.{AreNear};
+    ghost use Rattle.ics_rule.specs.Inner.NearDays.{AreNear};
 
     /// None yet. From this day on, the days of a year are found before one of them is tested.
     pub(crate) fn new(from: u32) -> NearDays

@@ -3,8 +3,8 @@ ghost use Rattle.std.specs.Prelude.{◌≡◌, ℕ, ◌<◌, ◌≤◌, true, fa
 ghost use Rattle.ics_fields.specs.Sets.{contains_wide};
 ghost use Rattle.ics_rule.specs.Kept.{count, is_chosen};
 ghost use Rattle.ics_rule.specs.Candidates.{lets};
-ghost use Rattle.ics_rule.specs.Rounds.{seconds_of};
-ghost use Rattle.ics_rule.specs.OpenPeriods.{size_of_open};
+ghost use Rattle.ics_rule.specs.Inner.Rounds.{seconds_of};
+ghost use Rattle.ics_rule.specs.Inner.OpenPeriods.{size_of_open};
 ghost use Rattle.ics_fields.specs.Locals.{calendar_end};
 
 use crate::effective_rule::EffectiveRule;

@@ -2,9 +2,9 @@
 ghost use Rattle.std.specs.Prelude.{◌≡◌, ℕ, true, false, ◌<◌, ◌≤◌, ◌+◌, ◌-◌, ◌*◌, ◌/◌, ◌^◌, ◌&&◌, Some};
 ghost use Rattle.ics_rule.specs.Candidates.{is_stepped, lets_date, period_in};
 ghost use Rattle.ics_rule.specs.Kept.{count, is_chosen};
-ghost use Rattle.ics_rule.specs.Searches.{IsUnderCount};
-ghost use Rattle.ics_rule.specs.Rounds.{seconds_of, IsPassedTo};
-ghost use Rattle.ics_rule.specs.OpenPeriods.{per_day, lets_own, is_timely, is_open_period, chosen_in_open};
+ghost use Rattle.ics_rule.specs.Inner.Searches.{IsUnderCount};
+ghost use Rattle.ics_rule.specs.Inner.Rounds.{seconds_of, IsPassedTo};
+ghost use Rattle.ics_rule.specs.Inner.OpenPeriods.{per_day, lets_own, is_timely, is_open_period, chosen_in_open};
 ghost use Rattle.ics_fields.specs.Days.{days_before_year};
 ghost use Rattle.ics_fields.specs.Locals.{calendar_end};
 ghost use Rattle.ics_rule.specs.PeriodNumbers.{rules_end};

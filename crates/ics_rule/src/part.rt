@@ -2,7 +2,7 @@
 ghost use Rattle.std.specs.Prelude.{◌≡◌, ◌<◌, ◌&&◌, ℕ, nat_lt};
 ghost use Rattle.ics_fields.specs.Sets.{contains};
 ghost use Rattle.ics_fields.specs.Ordinals.{lists_none, lists_none_wide, lists_no_weekday, numbers_of};
-ghost use Rattle.ics_rule.specs.NamedWeekdays.{names_weekday, named_below};
+ghost use Rattle.ics_rule.specs.Inner.NamedWeekdays.{names_weekday, named_below};
 
 use ics_fields::{BitSet, Weekdays, WideOrdinals};
 use std::marker::Model;
@@ -63,7 +63,7 @@ impl Model for WeekdaysPart {
 
     ghost use Rattle.std.specs.Prelude.{◌≡◌};
     ghost use Rattle.ics_fields.specs.Ordinals.{lists_no_weekday};
-    ghost use Rattle.ics_rule.specs.NamedWeekdays.{named_below};
+    ghost use Rattle.ics_rule.specs.Inner.NamedWeekdays.{named_below};
 
     ghost view = { λ p. p.list };
 

@@ -1,7 +1,7 @@
 //! Skipping the periods in which a rule allows nothing.
 ghost use Rattle.std.specs.Prelude.{◌≡◌, ℕ, ◌<◌, ◌≤◌, ◌+◌, ◌-◌, ◌*◌, ◌/◌, ◌^◌, false, true};
 ghost use Rattle.ics_rule.specs.Candidates.{is_stepped, lets_date, lets_clock, period_in};
-ghost use Rattle.ics_rule.specs.Searches.{NoneLetIn, IsNextOpen};
+ghost use Rattle.ics_rule.specs.Inner.Searches.{NoneLetIn, IsNextOpen};
 ghost use Rattle.ics_rule.specs.PeriodNumbers.{day_before, rules_end};
 ghost use Rattle.ics_fields.specs.Locals.{calendar_end};
 

@@ -242,7 +242,7 @@ impl RecurrencePeriod {
 }
 
 impl Cursor {
-    ghost use Rattle.ics_rule.specs.Searches.{after_look};
+    ghost use Rattle.ics_rule.specs.Inner.Searches.{after_look};
 
     /// Looks at the period with a number that no earlier look has reached, and counts the look.
     pub(crate) fn look_at(

@@ -2,9 +2,9 @@
 ghost use Rattle.std.specs.Prelude.{◌≡◌, ℕ, ◌<◌, ◌≤◌, ◌+◌, ◌*◌, ◌%◌, ◌^◌, ◌&&◌, IfSome, MatchOption, Some, true};
 ghost use Rattle.ics_rule.specs.PeriodNumbers.{day_of, rules_end};
 ghost use Rattle.ics_rule.specs.Candidates.{lets_date, lets_clock, period_in};
-ghost use Rattle.ics_rule.specs.Searches.{IsUnderCount};
-ghost use Rattle.ics_rule.specs.DateParts.{names_weekdays_alone};
-ghost use Rattle.ics_rule.specs.Rounds.{seconds_of, calendar_periods, IsCalendarRound, IsRound, IsFlat, IsEvenRound, HasRound, IsPassedTo};
+ghost use Rattle.ics_rule.specs.Inner.Searches.{IsUnderCount};
+ghost use Rattle.ics_rule.specs.Inner.DateParts.{names_weekdays_alone};
+ghost use Rattle.ics_rule.specs.Inner.Rounds.{seconds_of, calendar_periods, IsCalendarRound, IsRound, IsFlat, IsEvenRound, HasRound, IsPassedTo};
 
 use crate::cursor::Cursor;
 use crate::date::{goes_by_months, names_weekdays_alone};

@@ -2,7 +2,7 @@
 ghost use Rattle.std.specs.Prelude.{◌≡◌, ℕ, ◌<◌, ◌≤◌, ◌+◌, ◌-◌, ◌/◌, ◌&&◌, ◌||◌, ◌==◌, nat_le};
 ghost use Rattle.ics_fields.specs.Sets.{contains, contains_wide};
 ghost use Rattle.ics_rule.specs.Candidates.{lists, lists_nth};
-ghost use Rattle.ics_rule.specs.Runs.{IsRun, has_run, weekday_in, lists_weekday, lists_in_month};
+ghost use Rattle.ics_rule.specs.Inner.Runs.{IsRun, has_run, weekday_in, lists_weekday, lists_in_month};
 
 use crate::effective_rule::EffectiveRule;
 use crate::part::WeekdaysPart;

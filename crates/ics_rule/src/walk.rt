@@ -5,7 +5,7 @@ ghost use Rattle.ics_fields.specs.Sets.{IsLeastFrom};
 ghost use Rattle.ics_rule.specs.Candidates.{is_stepped, period_in};
 ghost use Rattle.ics_rule.specs.RecurrencePeriods.{first_local, IsPeriodOf};
 ghost use Rattle.ics_rule.specs.Cursors.{IsCursorIn};
-ghost use Rattle.ics_rule.specs.Searches.{IsNextWanted, IsWalked, LooksAt};
+ghost use Rattle.ics_rule.specs.Inner.Searches.{IsNextWanted, IsWalked, LooksAt};
 ghost use Rattle.ics_rule.specs.PeriodNumbers.{rules_end};
 ghost use Rattle.ics_rule.specs.Kept.{is_chosen};
 ghost use Rattle.ics_fields.specs.Locals.{calendar_end};

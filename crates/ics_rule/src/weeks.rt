@@ -6,7 +6,7 @@ ghost use Rattle.ics_fields.specs.Days.{days_before_year, year_of};
 ghost use Rattle.ics_rule.specs.PeriodNumbers.{day_before};
 ghost use Rattle.ics_fields.specs.Ordinals.{lists_none};
 ghost use Rattle.ics_rule.specs.Candidates.{lets_week};
-ghost use Rattle.ics_rule.specs.Runs.{may_list_week};
+ghost use Rattle.ics_rule.specs.Inner.Runs.{may_list_week};
 
 use crate::days::weekday_at;
 use crate::effective_rule::EffectiveRule;

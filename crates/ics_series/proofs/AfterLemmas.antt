@@ -11,10 +11,10 @@ use Rattle.ics_series.specs.declared.window.Window.{Window}
 use Rattle.ics_series.specs.After.{after_key, is_after}
 use Rattle.ics_series.specs.Clocks.{Clock}
 use Rattle.ics_series.specs.Entry.{Entry, Rank, entry_cmp, rank_cmp, rank_of}
-use Rattle.ics_series.specs.EntryLaws.{entry_total}
+use Rattle.ics_series.specs.Inner.EntryLaws.{entry_total}
 use Rattle.ics_series.specs.Listing.{IsListing}
 use Rattle.ics_series.specs.Meets.{IsListed, IsToCome}
-use Rattle.ics_series.specs.Masters.{IsSince}
+use Rattle.ics_series.specs.Inner.Masters.{IsSince}
 use Rattle.ics_series.proofs.ListingLemmas.{listing-filter, one-listing}
 use Rattle.ics_series.proofs.OnDayLemmas.{greater-behind}
 use Rattle.ics_series.proofs.ToComeLemmas.{lt-Less}

@@ -7,7 +7,7 @@ use Rattle.std.specs.Ordering.{ordering_reverse}
 use Rattle.std.proofs.lemmas.Cmp.{alike_right, tied_back, tied_itself}
 use Rattle.ics_series.specs.Rising.{IsBefore, Rises}
 use Rattle.ics_series.specs.Merged.{by_order, put, union, merged, cut}
-use Rattle.ics_series.specs.MergedLaws.{before-put, before-tied, before-trans}
+use Rattle.ics_series.specs.Inner.MergedLaws.{before-put, before-tied, before-trans}
 use Rattle.ics_series.specs.Listing.{IsIn}
 use Rattle.ics_series.proofs.Cases.{by-cases}
 

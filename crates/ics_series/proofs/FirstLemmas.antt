@@ -14,7 +14,7 @@ use Rattle.ics_series.specs.declared.start.StartSource.TheVariants.{Kept, Listed
 use Rattle.ics_series.specs.declared.start.Start.{Start}
 use Rattle.ics_series.specs.Found.{day_in, firsts_after, source_cmp, moment_cmp, part_of, place_in, start_cmp, AreFirsts, HasStart}
 use Rattle.ics_series.specs.Listing.{IsIn}
-use Rattle.ics_series.specs.MergedLaws.{before-tied, before-trans}
+use Rattle.ics_series.specs.Inner.MergedLaws.{before-tied, before-trans}
 use Rattle.ics_series.specs.Rising.{IsBefore, Rises}
 use Rattle.ics_series.specs.Starts.{IsNotAfter}
 use Rattle.std.specs.Option.{option_eq}

@@ -31,7 +31,7 @@ use Rattle.std.proofs.lemmas.Int.{ints}
 use Rattle.ics_rule.specs.Cursors.{looks_from, is_met, period_count}
 use Rattle.ics_fields.specs.Locals.{local_seconds, number, midnight, whole_days, calendar_end}
 use Rattle.ics_rule.proofs.CursorLemmas.{few_steps, count_within}
-use Rattle.ics_series.specs.EntryLaws.{entry_total}
+use Rattle.ics_series.specs.Inner.EntryLaws.{entry_total}
 use Rattle.ics_series.specs.Leeway.{seconds_off}
 use Rattle.ics_series.specs.Listing.{IsIn}
 use Rattle.ics_series.specs.Merged.{merged}

@@ -13,11 +13,11 @@ use Rattle.ics_event.specs.Event.{Time}
 use Rattle.ics_event.specs.Event.{Length}
 use Rattle.ics_values.specs.declared.time.Length.TheVariants.{Open, Lasting, Until}
 use Rattle.ics_event.specs.Event.{compared, is_one_zone, stamp_seconds, EndsWithin, IsEnd, IsLength, IsTime, IsWithin, is_zoned, moment_by}
-use Rattle.ics_zone.specs.Near.{moment_near, offset_near}
+use Rattle.ics_zone.specs.Inner.Near.{moment_near, offset_near}
 use Rattle.ics_zone.specs.ZoneSaid.{ZoneSaid, display_said, said_moment, zone_said}
 use Rattle.ics_zone.specs.Seconds.{IsNear}
 use Rattle.ics_zone.specs.declared.zone.ZoneKind.{ZoneKind}
-use Rattle.ics_zone.specs.ZoneBounds.{said_moment_near, said_offset_near}
+use Rattle.ics_zone.specs.Inner.ZoneBounds.{said_moment_near, said_offset_near}
 use Rattle.ics_zone.specs.declared.display.Display.{Display}
 use Rattle.ics_series.specs.declared.zones.FileZones.{FileZones}
 use Rattle.ics_series.specs.Clocks.{Clock, Clocks, clock_at, clock_by, display_clock, instant, utc_clock, zone_clock, day_of, local_at}

@@ -10,14 +10,14 @@ use Rattle.std.proofs.lemmas.List.Sums.{sum_by-set}
 use Rattle.std.proofs.Math.Seq.{map-set_same, take-append_seam}
 use Rattle.std.proofs.lemmas.Simd.{map-map}
 use Rattle.ics_series.specs.Entry.{Entry, entry_cmp, entry_of}
-use Rattle.ics_series.specs.EntryLaws.{entry_total}
+use Rattle.ics_series.specs.Inner.EntryLaws.{entry_total}
 use Rattle.ics_series.specs.Leads.{listed, past, to_draw, ComeAfter, AreFrom, IsAhead, IsEmpty, AreNear, HasNear}
 use Rattle.ics_series.specs.Merged.{cut, merged, union}
-use Rattle.ics_series.specs.MergedLaws.{before-tied, before-trans}
+use Rattle.ics_series.specs.Inner.MergedLaws.{before-tied, before-trans}
 use Rattle.ics_series.proofs.Cases.{eq-Equal, some-same, up-to-front, by-cases}
 use Rattle.ics_series.proofs.BeginsLemmas.{all_front, begins-at, cut-before, front-at, front-cases, not-after-front, uncut, AllFront, AllRise, before-union}
 use Rattle.ics_series.specs.Rising.{IsBefore, Rises}
-use Rattle.ics_series.specs.Tournament.{above, head_cmp, held_by, lead_cmp, must_draw, turn_cmp, turn_of, winner, AreSettled, AreSettledBut, Turn}
+use Rattle.ics_series.specs.Inner.Tournament.{above, head_cmp, held_by, lead_cmp, must_draw, turn_cmp, turn_of, winner, AreSettled, AreSettledBut, Turn}
 use Rattle.ics_series.proofs.TournamentLemmas.{settled_but, wins}
 use Rattle.ics_series.specs.declared.occurrence.Occurrence.{Occurrence}
 use Rattle.std.specs.List.{flat_map, AllByRecursion}

@@ -10,7 +10,7 @@ use Rattle.std.proofs.lemmas.Cmp.{alike_right, ranked, tied_back, tied_itself, e
 use Rattle.std.proofs.lemmas.List.Sums.{sum_by-cons}
 use Rattle.std.proofs.lemmas.Map.Keys.{Less-from_sorted, IsDistinct-from_sorted, IsDistinct-head, IsDistinct-IsPermutation, IsDistinct-tail}
 use Rattle.std.proofs.lemmas.Option.{get_or_from_slice_get, slice_get_within}
-use Rattle.ics_series.specs.MergedLaws.{rises-filter}
+use Rattle.ics_series.specs.Inner.MergedLaws.{rises-filter}
 use Rattle.ics_series.specs.Rising.{IsBefore, Rises}
 use Rattle.ics_series.specs.Listing.{IsIn, IsListing}
 use Rattle.ics_series.proofs.Cases.{some-same, eq-Equal, less-by, by-cases, option-cases}

@@ -9,7 +9,7 @@ use Rattle.ics_rule.specs.Cursors.{looks_from}
 use Rattle.ics_series.specs.declared.mark.Mark.{Mark}
 use Rattle.ics_series.specs.declared.series.Series.{Series}
 use Rattle.ics_series.specs.declared.version.Version.{Version}
-use Rattle.ics_series.specs.Marks.{AreMarks, HasNoMark, IsMarkOf, IsPut}
+use Rattle.ics_series.specs.Inner.Marks.{AreMarks, HasNoMark, IsMarkOf, IsPut}
 use Rattle.ics_series.specs.SeriesFeed.{series_sources}
 use Rattle.ics_series.specs.Sources.{Recurring, Source}
 use Rattle.ics_series.specs.Sources.Source.{Of, Once}

@@ -12,7 +12,7 @@ use Rattle.ics_series.specs.Ahead.{is_today, today}
 use Rattle.ics_series.specs.Clocks.{Clock}
 use Rattle.ics_series.specs.OnDays.{is_on, day_rank_of, on_day, on_day_cmp, IsOnDay, OnDay, after_day_key}
 use Rattle.ics_series.specs.Entry.{Entry, entry_cmp, rank_cmp, rank_of}
-use Rattle.ics_series.specs.EntryLaws.{rank_total}
+use Rattle.ics_series.specs.Inner.EntryLaws.{rank_total}
 use Rattle.ics_series.specs.Listing.{IsIn, IsListing}
 use Rattle.ics_series.specs.Meeting.{is_met}
 use Rattle.ics_series.specs.Occurs.{Occurs}

@@ -13,7 +13,7 @@ use Rattle.ics_event.specs.Event.{FileSaid}
 use Rattle.ics_series.specs.declared.version.Version.{Version}
 use Rattle.ics_series.specs.Chosen.{subject_of, IsOverridden, SubjectSeen}
 use Rattle.ics_series.specs.Clocks.{Clock}
-use Rattle.ics_series.specs.MergedLaws.{rises-filter}
+use Rattle.ics_series.specs.Inner.MergedLaws.{rises-filter}
 use Rattle.ics_series.specs.Rising.{Rises}
 use Rattle.ics_series.specs.Versions.{is_named, is_override, label_of, seen, subject_cmp, subject_seen, AreChosen, Label}
 use Rattle.ics_series.proofs.Cases.{eq-Equal}

@@ -16,7 +16,7 @@ use Rattle.ics_series.specs.Clocks.{Clocks}
 use Rattle.ics_series.specs.Starts.{time_at}
 use Rattle.ics_series.specs.Found.{moment_cmp, start_at}
 use Rattle.ics_series.specs.Merged.{by_order, cut, put, union}
-use Rattle.ics_series.specs.MergedLaws.{before-tied, before-trans}
+use Rattle.ics_series.specs.Inner.MergedLaws.{before-tied, before-trans}
 use Rattle.ics_series.specs.Rising.{IsBefore, Rises}
 use Rattle.ics_series.specs.Listing.{IsIn}
 use Rattle.ics_series.specs.RuleStarts.{is_ready}

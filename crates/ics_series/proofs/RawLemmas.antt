@@ -20,7 +20,7 @@ use Rattle.ics_series.specs.Clocks.{Clocks, instant}
 use Rattle.ics_series.specs.Found.{source_cmp, moment_cmp, start_at}
 use Rattle.ics_series.specs.HeldMost.{is_within_days, raw_by, raw_by_rule, raw_in, raw_listed, IsRaw, greatest, most_in_days}
 use Rattle.ics_series.specs.Listing.{IsListing, IsIn}
-use Rattle.ics_series.specs.MergedLaws.{back}
+use Rattle.ics_series.specs.Inner.MergedLaws.{back}
 use Rattle.ics_series.specs.RuleStarts.{lets_until, local_numbered, moment_numbered, number_in, AreHeld, IsHeld}
 use Rattle.ics_series.specs.Starts.{given_by, local_of, recurrence_of, time_at, time_of, GivesStart, IsNotAfter, IsRuleStart, recurrence_by}
 use Rattle.ics_series.proofs.Cases.{below-or-last, some-same, equal-true, true-equal}

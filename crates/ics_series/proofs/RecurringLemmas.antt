@@ -12,7 +12,7 @@ use Rattle.ics_series.specs.declared.zones.FileZones.{FileZones}
 use Rattle.ics_series.specs.Clocks.{Clock, Clocks, instant}
 use Rattle.ics_series.specs.Entry.{Entry, Rank, entry_cmp}
 use Rattle.ics_series.specs.Listing.{IsIn, IsListing}
-use Rattle.ics_series.specs.Masters.{IsOfVersion, IsSince, Recurs}
+use Rattle.ics_series.specs.Inner.Masters.{IsOfVersion, IsSince, Recurs}
 use Rattle.ics_series.specs.After.{is_after}
 use Rattle.ics_series.specs.Occurs.{IsOf}
 use Rattle.ics_series.specs.Overridden.{is_kept}
@@ -37,7 +37,7 @@ use Rattle.ics_series.specs.declared.start.StartSource.{StartSource}
 use Rattle.ics_series.specs.declared.start.Start.{Start}
 use Rattle.ics_series.specs.Found.{moment_cmp, source_cmp, start_by, AreStartsSince, HasStart, IsStart}
 use Rattle.ics_series.specs.Merged.{put}
-use Rattle.ics_series.specs.MergedLaws.{rises-union}
+use Rattle.ics_series.specs.Inner.MergedLaws.{rises-union}
 use Rattle.ics_series.specs.Rising.{Rises}
 use Rattle.ics_series.proofs.FirstLemmas.{moment_total, source-order, source_total}
 use Rattle.ics_series.proofs.ListingLemmas.{before-in, relisted}

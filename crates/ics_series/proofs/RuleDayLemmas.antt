@@ -24,7 +24,7 @@ use Rattle.ics_series.specs.Found.{moment_cmp, start_at}
 use Rattle.ics_series.specs.Listing.{IsIn}
 use Rattle.ics_series.specs.Clocks.{Clocks}
 use Rattle.ics_series.specs.Merged.{put, union}
-use Rattle.ics_series.specs.MergedLaws.{rises-put, rises-union}
+use Rattle.ics_series.specs.Inner.MergedLaws.{rises-put, rises-union}
 use Rattle.ics_series.specs.Rising.{Rises}
 use Rattle.ics_series.specs.RuleStarts.{found, found_in, gives, lets_until, local_numbered, midnight_number, moment_numbered, to_come}
 use Rattle.ics_series.specs.RuleStarts.{with_held, with_put}

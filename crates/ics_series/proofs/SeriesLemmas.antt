@@ -41,7 +41,7 @@ use Rattle.std.proofs.lemmas.Option.{cond_some}
 use Rattle.ics_series.specs.Meets.{Meets}
 use Rattle.ics_series.proofs.BeginsLemmas.{member-cut, begins-first, begins-second, not-after-front}
 use Rattle.ics_zone.proofs.Cases.{int_le_true, int_lt_true}
-use Rattle.ics_series.specs.MergedLaws.{before-trans}
+use Rattle.ics_series.specs.Inner.MergedLaws.{before-trans}
 use Rattle.ics_series.proofs.UnionLemmas.{in-union, itself-put, member-put}
 
 -- The occurrences of one event that meet a window.

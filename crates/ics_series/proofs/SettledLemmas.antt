@@ -8,11 +8,11 @@ use Rattle.ics_fields.specs.declared.local.Local.{Local}
 use Rattle.ics_values.specs.declared.stamp.Stamp.{Stamp}
 use Rattle.ics_values.specs.declared.stamp.Stamp.TheVariants.{Date, Floating, Utc, Zoned}
 use Rattle.ics_event.specs.Event.{stamp_seconds}
-use Rattle.ics_zone.specs.FileBounds.{rule_short, file_reading_short}
+use Rattle.ics_zone.specs.Inner.FileBounds.{rule_short, file_reading_short}
 use Rattle.ics_zone.specs.Moments.{IsMomentBy, zone_moment}
-use Rattle.ics_zone.specs.MomentSearch.{moment_found}
+use Rattle.ics_zone.specs.Inner.MomentSearch.{moment_found}
 use Rattle.ics_zone.specs.Observances.{observances_said}
-use Rattle.ics_zone.specs.ZoneBounds.{zone_short}
+use Rattle.ics_zone.specs.Inner.ZoneBounds.{zone_short}
 use Rattle.ics_zone.specs.ZoneOffsets.{zone_offset}
 use Rattle.ics_zone.specs.ZoneSaid.{jiff_said, said_moment, zone_said}
 use Rattle.ics_zone.specs.declared.jiff_zone.JiffZone.{JiffZone}

@@ -23,7 +23,7 @@ use Rattle.ics_series.specs.declared.window.Window.{Window}
 use Rattle.ics_series.specs.Chosen.{overridden, subject_of, IsChosen}
 use Rattle.ics_series.specs.Clocks.{Clock, Clocks, instant}
 use Rattle.ics_series.specs.Entry.{Entry, Rank, entry_cmp}
-use Rattle.ics_series.specs.EntryLaws.{entry_total}
+use Rattle.ics_series.specs.Inner.EntryLaws.{entry_total}
 use Rattle.ics_series.specs.Exclusions.{excludes}
 use Rattle.ics_series.specs.Finish.{finish}
 use Rattle.ics_series.specs.Listing.{IsListing, IsIn}
@@ -52,7 +52,7 @@ use Rattle.std.proofs.lemmas.Cmp.{int_cmp_total, on_total, then_total, tied_itse
 use Rattle.std.proofs.lemmas.Map.Lookups.{exact_bytes, exact_signed}
 use Rattle.ics_series.specs.Meets.{IsToCome, IsListed}
 use Rattle.ics_series.proofs.OccursLemmas.{one-recurrence}
-use Rattle.ics_series.specs.Masters.{AreLists, HasLists, IsOneOf, Recurs}
+use Rattle.ics_series.specs.Inner.Masters.{AreLists, HasLists, IsOneOf, Recurs}
 use Rattle.ics_series.specs.Merged.{merged, IsFromFirst}
 use Rattle.ics_series.specs.Rising.{Rises}
 use Rattle.ics_series.proofs.AfterLemmas.{listing-after_key}

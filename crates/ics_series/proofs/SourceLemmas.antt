@@ -17,7 +17,7 @@ use Rattle.ics_series.specs.declared.window.Window.{Window}
 use Rattle.ics_series.specs.Clocks.{Clock}
 use Rattle.ics_series.specs.Entry.{Rank, Entry, entry_cmp}
 use Rattle.ics_series.specs.Listing.{IsIn, IsListing}
-use Rattle.ics_series.specs.Masters.{HasSources, IsSource, IsSourceOf, Recurs, HasLists, IsOfVersion, IsOneOf}
+use Rattle.ics_series.specs.Inner.Masters.{HasSources, IsSource, IsSourceOf, Recurs, HasLists, IsOfVersion, IsOneOf}
 use Rattle.ics_series.specs.Rising.{Rises}
 use Rattle.ics_series.specs.Singles.{is_single}
 use Rattle.ics_series.specs.Sources.{is_once, recurring, uid_cmp, AreSources, IsMasterOf, Recurring, Source}

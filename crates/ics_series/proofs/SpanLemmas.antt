@@ -20,7 +20,7 @@ use Rattle.ics_series.specs.Clocks.{Clock, Clocks, instant}
 use Rattle.ics_series.specs.Entry.{Entry, Rank}
 use Rattle.ics_series.specs.Laws.{HasVersion}
 use Rattle.ics_series.specs.Listing.{IsIn, IsListing}
-use Rattle.ics_series.specs.Masters.{Recurs}
+use Rattle.ics_series.specs.Inner.Masters.{Recurs}
 use Rattle.ics_series.specs.Meeting.{is_met}
 use Rattle.ics_series.specs.Meets.{IsListed}
 use Rattle.ics_series.specs.Merged.{merged}
@@ -28,8 +28,8 @@ use Rattle.ics_series.specs.OnDays.{first_near, last_near, IsNearDay}
 use Rattle.ics_series.specs.PlacedEvents.{Placed, IsPlaced, clocks_at}
 use Rattle.ics_series.specs.Rising.{Rises}
 use Rattle.ics_series.specs.Singles.{begun_first, entry_first, is_single, single_at, single_of}
-use Rattle.ics_series.specs.SpanLaws.{AreThoseChosen}
-use Rattle.ics_series.specs.Spans.{always, can_meet, first_of, is_out, is_out_of, span_at, span_by, span_of, span_once, AreSpans}
+use Rattle.ics_series.specs.Inner.SpanLaws.{AreThoseChosen}
+use Rattle.ics_series.specs.Inner.Spans.{always, can_meet, first_of, is_out, is_out_of, span_at, span_by, span_of, span_once, AreSpans}
 use Rattle.ics_series.specs.Spots.{event_at}
 use Rattle.ics_series.specs.Versions.{by_subject, label_of, placed_in, seen, AreChosen, Label}
 use Rattle.ics_series.proofs.AheadLemmas.{near-under, shown-first, shown-last, NoneBetween}

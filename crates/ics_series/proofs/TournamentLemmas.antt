@@ -10,9 +10,10 @@ use Rattle.std.proofs.lemmas.Bool.{cases_cond, cases_eq, cases_lt}
 use Rattle.std.proofs.lemmas.Bool.Decides.{nat_tests}
 use Rattle.std.proofs.lemmas.Cmp.{back_total, int_cmp_total, nat_cmp_total, on_total, then_total, tied_itself, tied_back, upto}
 use Rattle.std.proofs.lemmas.List.{get_or-replicate, length-replicate}
-use Rattle.ics_series.specs.EntryLaws.{entry_total}
+use Rattle.ics_series.specs.Inner.EntryLaws.{entry_total}
 use Rattle.ics_series.proofs.Cases.{here-or-later}
-use Rattle.ics_series.specs.Tournament.{above, first_below, first_of, head_cmp, lead_cmp, turn_cmp, winner, AreSettled, AreSettledBut, AreSettledWhere, Turn}
+use Rattle.ics_series.specs.Inner.Tournament.{above, first_below, first_of, head_cmp, lead_cmp, turn_cmp, winner, AreSettled, AreSettledBut, AreSettledWhere}
+use Rattle.ics_series.specs.Inner.Tournament.{Turn}
 
 turn_total : IsTotalOrder turn_cmp
 turn_total = then_total (on_total (λ t. t.start) int_cmp_total) (on_total (λ t. t.entry) (options_total entry_total))

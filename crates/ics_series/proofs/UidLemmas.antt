@@ -10,7 +10,7 @@ use Rattle.ics_series.specs.declared.occurrence.Occurrence.{Occurrence}
 use Rattle.ics_series.specs.Entry.{Entry, entry_of}
 use Rattle.ics_series.specs.Leads.{listed}
 use Rattle.ics_series.specs.Listing.{IsIn}
-use Rattle.ics_series.specs.Uids.{AreHeadsSorted, AreSortedFrom, IsLastSorted, IsPlaceOrder, IsUidOrder}
+use Rattle.ics_series.specs.Inner.Uids.{AreHeadsSorted, AreSortedFrom, IsLastSorted, IsPlaceOrder, IsUidOrder}
 use Rattle.ics_series.specs.declared.part.Part.{Part}
 use Rattle.ics_series.specs.declared.part.Part.TheVariants.{Singles, Series}
 use Rattle.ics_series.specs.AgendaParts.{part_coming, part_sources}

@@ -5,7 +5,7 @@ use Rattle.std.specs.Cmp.{IsTotalOrder}
 use Rattle.std.proofs.lemmas.Cmp.{alike_right, tied_back}
 use Rattle.ics_series.specs.Listing.{IsIn, IsListing}
 use Rattle.ics_series.specs.Merged.{put, union, merged, HasNoKey, IsFromFirst}
-use Rattle.ics_series.specs.MergedLaws.{before-tied, before-trans, rises-merged, rises-union}
+use Rattle.ics_series.specs.Inner.MergedLaws.{before-tied, before-trans, rises-merged, rises-union}
 use Rattle.ics_series.specs.Rising.{Rises}
 use Rattle.ics_series.proofs.ListingLemmas.{before-in, one-rising, relisted}
 use Rattle.ics_series.proofs.Cases.{by-cases}

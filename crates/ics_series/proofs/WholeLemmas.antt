@@ -23,7 +23,7 @@ use Rattle.ics_series.specs.PlacedEvents.{clocks_at, zones_in, IsPlaced, Placed}
 use Rattle.ics_series.specs.Starts.{time_of}
 use Rattle.ics_series.specs.Tokens.{IsKey}
 use Rattle.ics_series.specs.Versions.{by_subject, label_of, seen, AreChosen, Label}
-use Rattle.ics_series.specs.Masters.{HasLists, IsOfVersion, Recurs}
+use Rattle.ics_series.specs.Inner.Masters.{HasLists, IsOfVersion, Recurs}
 use Rattle.ics_series.specs.Meets.{IsListed}
 use Rattle.ics_series.specs.Merged.{merged}
 use Rattle.ics_series.specs.Overridden.{is_kept}
@@ -31,7 +31,7 @@ use Rattle.ics_series.specs.Singles.{is_single}
 use Rattle.ics_series.specs.Spots.{event_at}
 use Rattle.ics_series.specs.declared.window.Window.{Window}
 use Rattle.ics_series.specs.declared.zones.FileZones.{FileZones}
-use Rattle.ics_series.specs.Whole.{AreRead, AreReadIn, IsReadEvent}
+use Rattle.ics_series.specs.Inner.Whole.{AreRead, AreReadIn, IsReadEvent}
 use Rattle.ics_series.proofs.Cases.{below-or-last, mapped-some, some-same}
 use Rattle.ics_series.proofs.InstantLemmas.{near-at, near-display, near-utc, written, IsNearClock}
 use Rattle.ics_series.proofs.ListingLemmas.{get-in, listing-filter}

@@ -5,7 +5,7 @@ ghost use Rattle.std.specs.Ordering.{on};
 ghost use Rattle.ics_event.specs.Event.{said_by};
 ghost use Rattle.ics_series.specs.Clocks.{display_clock};
 ghost use Rattle.ics_series.specs.Versions.{is_followed, is_named, is_override, is_same, lasts, seen, subject_cmp, subject_seen, AreChosen};
-ghost use Rattle.ics_series.specs.Whole.{AreRead};
+ghost use Rattle.ics_series.specs.Inner.Whole.{AreRead};
 
 use crate::version::{Subject, Version, versions};
 use ics_event::FileEvents;

@@ -14,10 +14,10 @@ ghost use Rattle.ics_series.specs.DaySteps.{AreMasters, IsNearAgenda, IsPastAgen
 ghost use Rattle.ics_series.specs.Entry.{key_rank};
 ghost use Rattle.ics_series.specs.HeldMost.{held_most};
 ghost use Rattle.ics_series.specs.Listing.{IsIn, IsListing};
-ghost use Rattle.ics_series.specs.Marks.{marks-prop, AreMarks};
+ghost use Rattle.ics_series.specs.Inner.Marks.{marks-prop, AreMarks};
 ghost use Rattle.ics_series.specs.PlacedEvents.{Placed};
-ghost use Rattle.ics_series.specs.SpanLaws.{spans-set, those-chosen-prop, AreThoseChosen};
-ghost use Rattle.ics_series.specs.Spans.{can_meet, first_of, span_at};
+ghost use Rattle.ics_series.specs.Inner.SpanLaws.{spans-set, those-chosen-prop, AreThoseChosen};
+ghost use Rattle.ics_series.specs.Inner.Spans.{can_meet, first_of, span_at};
 ghost use Rattle.ics_series.specs.Tokens.{IsDayKey};
 ghost use Rattle.ics_series.specs.Versions.{seen, AreChosen};
 ghost use Rattle.ics_series.specs.declared.span.Span.{Span};

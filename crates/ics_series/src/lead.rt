@@ -2,7 +2,7 @@
 ghost use Rattle.std.specs.Prelude.{◌≡◌, ◌-◌, ◌^◌, None, length, min, IfOk, OnErr, OnOk};
 ghost use Rattle.std.specs.Option.{option_map};
 ghost use Rattle.ics_series.specs.Leads.{listed, AreNear, IsAhead, IsAhead-prop};
-ghost use Rattle.ics_series.specs.Tournament.{turn_of};
+ghost use Rattle.ics_series.specs.Inner.Tournament.{turn_of};
 
 use crate::feed::{Begins, Coming, Feed};
 use crate::holding::Holding;

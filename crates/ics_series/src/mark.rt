@@ -4,7 +4,7 @@ ghost use Rattle.std.specs.Int.{int_min};
 ghost use Rattle.ics_fields.specs.Days.{IsDayNumber};
 ghost use Rattle.ics_fields.specs.Locals.{number};
 ghost use Rattle.ics_rule.specs.PeriodNumbers.{rules_end};
-ghost use Rattle.ics_series.specs.Marks.{HasNoMark, IsBegun, IsCountMark, IsPut};
+ghost use Rattle.ics_series.specs.Inner.Marks.{HasNoMark, IsBegun, IsCountMark, IsPut};
 ghost use Rattle.ics_series.specs.RuleStarts.{midnight_number, HasLookedTo};
 
 use ics_fields::Parts;

@@ -7,14 +7,14 @@ ghost use Rattle.ics_event.specs.declared.event.Event.{Event};
 ghost use Rattle.ics_series.specs.Clocks.{display_clock};
 ghost use Rattle.ics_series.specs.Entry.{entry_cmp, key_rank};
 ghost use Rattle.ics_series.specs.Listing.{IsListing};
-ghost use Rattle.ics_series.specs.Marks.{AreMarks, IsMarkOf};
-ghost use Rattle.ics_series.specs.Masters.{HasLists, HasSources, IsOfVersion, IsSince, IsSourceOf, Recurs};
+ghost use Rattle.ics_series.specs.Inner.Marks.{AreMarks, IsMarkOf};
+ghost use Rattle.ics_series.specs.Inner.Masters.{HasLists, HasSources, IsOfVersion, IsSince, IsSourceOf, Recurs};
 ghost use Rattle.ics_series.specs.AgendaParts.{part_coming, part_sources};
 ghost use Rattle.ics_series.specs.SeriesFeed.{series_sources};
 ghost use Rattle.ics_series.specs.Singles.{is_single};
 ghost use Rattle.ics_series.specs.Sources.{Recurring, IsFrom};
 ghost use Rattle.ics_series.specs.Sources.Source.{Of};
-ghost use Rattle.ics_series.specs.Spans.{AreSpans};
+ghost use Rattle.ics_series.specs.Inner.Spans.{AreSpans};
 ghost use Rattle.ics_series.specs.Spots.{event_at};
 ghost use Rattle.ics_series.specs.Versions.{seen, AreChosen};
 

@@ -3,12 +3,12 @@ ghost use Rattle.std.specs.Prelude.{◌≡◌, ◌<◌, ◌-◌, ◌^◌, true, 
 ghost use Rattle.std.specs.List.{flat_map, AllByRecursion, AllByRecursion-prop};
 ghost use Rattle.std.specs.Option.{option_map};
 ghost use Rattle.ics_series.specs.Entry.{entry_cmp, entry_of};
-ghost use Rattle.ics_series.specs.EntryLaws.{entry_total};
+ghost use Rattle.ics_series.specs.Inner.EntryLaws.{entry_total};
 ghost use Rattle.ics_series.specs.Leads.{listed, past, to_draw, AreNear, AreNear-prop, ComeAfter, ComeAfter-prop, HasNear, HasNear-prop};
 ghost use Rattle.ics_series.specs.Merged.{merged};
-ghost use Rattle.ics_series.specs.MergedLaws.{rises-merged};
-ghost use Rattle.ics_series.specs.Tournament.{first_turn, held_by, is_unread, must_draw, turn_of, AreSettled};
-ghost use Rattle.ics_series.specs.Uids.{AreSortedFrom, AreSortedFrom-prop, IsLastSorted, IsLastSorted-prop};
+ghost use Rattle.ics_series.specs.Inner.MergedLaws.{rises-merged};
+ghost use Rattle.ics_series.specs.Inner.Tournament.{first_turn, held_by, is_unread, must_draw, turn_of, AreSettled};
+ghost use Rattle.ics_series.specs.Inner.Uids.{AreSortedFrom, AreSortedFrom-prop, IsLastSorted, IsLastSorted-prop};
 
 use crate::feed::{Begins, Coming, Feed};
 use crate::holding::Holding;

@@ -29,7 +29,7 @@ impl<'a> Occurrence<'a> {
     ghost use Rattle.std.specs.Option.{option_map};
     ghost use Rattle.ics_series.specs.Entry.{entry_cmp, entry_of};
     ghost use Rattle.ics_series.specs.Found.{met_by, IsStartIn};
-    ghost use Rattle.ics_series.specs.Uids.{IsUidOrder};
+    ghost use Rattle.ics_series.specs.Inner.Uids.{IsUidOrder};
     ghost use Rattle.ics_series.specs.FileZones.{clocks_in, IsOwnEvent};
 
     // The occurrence with a start, if it meets the window.

@@ -7,10 +7,10 @@ ghost use Rattle.ics_fields.specs.Locals.{local_seconds, number, midnight, whole
 ghost use Rattle.ics_series.specs.EventLaws.{time-prop};
 ghost use Rattle.ics_series.specs.Found.{moment_cmp, start_at};
 ghost use Rattle.ics_series.specs.Leeway.{seconds_off};
-ghost use Rattle.ics_series.specs.Marks.{begun-prop, IsBegun};
+ghost use Rattle.ics_series.specs.Inner.Marks.{begun-prop, IsBegun};
 ghost use Rattle.ics_series.specs.Rising.{Rises, Rises-prop};
 ghost use Rattle.ics_series.specs.RuleStarts.{ends_at, gives, lets_until, midnight_number, with_held, AreHeld, HasLookedTo};
-ghost use Rattle.ics_series.specs.RuleStartLaws.{cursor-prop, held-prop, looked-prop, rule-prop};
+ghost use Rattle.ics_series.specs.Inner.RuleStartLaws.{cursor-prop, held-prop, looked-prop, rule-prop};
 ghost use Rattle.ics_series.specs.Starts.{local_of, recurrence_of, time_at};
 ghost use Rattle.ics_series.specs.FileZones.{clocks_in, IsTimeOf};
 ghost use Rattle.ics_series.specs.Waiting.{starts_in};
@@ -124,7 +124,7 @@ impl<'a> RuleStarts<'a> {
     ghost use Rattle.ics_series.specs.RuleFeed.{held_in, is_unsettled, settled_in, starts_left, HasSameSource};
     ghost use Rattle.ics_series.specs.RuleStarts.{found, is_ready, steps_left};
     ghost use Rattle.ics_series.specs.FileZones.{IsOwnEvent};
-    ghost use Rattle.ics_series.specs.Marks.{IsCountMark};
+    ghost use Rattle.ics_series.specs.Inner.Marks.{IsCountMark};
 
     /// The starts by the locals from a given one on. Under COUNT the locals before a mark are not counted again.
     pub(crate) fn new(

@@ -5,7 +5,7 @@ ghost use Rattle.ics_series.specs.EventLaws.{own-event-prop};
 ghost use Rattle.ics_series.specs.Exclusions.{AreExclusions};
 ghost use Rattle.ics_series.specs.Found.{moment_cmp, IsStartIn};
 ghost use Rattle.ics_series.specs.Listing.{IsIn};
-ghost use Rattle.ics_series.specs.Marks.{IsMarkOf};
+ghost use Rattle.ics_series.specs.Inner.Marks.{IsMarkOf};
 ghost use Rattle.ics_series.specs.Merged.{cut};
 ghost use Rattle.ics_series.specs.Rising.{Rises, Rises-prop};
 ghost use Rattle.ics_series.specs.RuleFeed.{starts_left};
@@ -261,7 +261,7 @@ impl<'a> Coming for Series<'a> {
 impl<'a> Series<'a> {
     ghost use Rattle.std.specs.Prelude.{length};
     ghost use Rattle.ics_series.specs.Holding.{rule_looked, series_holds};
-    ghost use Rattle.ics_series.specs.Marks.{IsMarkOf};
+    ghost use Rattle.ics_series.specs.Inner.Marks.{IsMarkOf};
 
     /// Where the search of its rule began.
     pub(crate) fn mark(&self) -> Option<Mark>

@@ -11,7 +11,7 @@ ghost use Rattle.ics_series.specs.Entry.{entry_cmp, entry_of, key_rank};
 ghost use Rattle.ics_series.specs.Listing.{IsListing};
 ghost use Rattle.ics_series.specs.Rising.{Rises, Rises-prop};
 ghost use Rattle.ics_series.specs.Singles.{is_single, is_to_come, single_at, single_entry, AreSingle, AreSingle-prop, IsSingleToCome};
-ghost use Rattle.ics_series.specs.Spans.{AreSpans};
+ghost use Rattle.ics_series.specs.Inner.Spans.{AreSpans};
 ghost use Rattle.ics_series.specs.Spots.{event_at};
 ghost use Rattle.ics_series.specs.Versions.{is_override, seen, subject_cmp, subject_seen, AreChosen};
 

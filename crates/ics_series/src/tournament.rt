@@ -3,8 +3,8 @@ ghost use Rattle.std.specs.Prelude.{◌≡◌, ◌+◌, ◌<◌, All, IfOk, leng
 ghost use Rattle.std.specs.Option.{option_map};
 ghost use Rattle.std.specs.Ordering.{is_lt};
 ghost use Rattle.ics_series.specs.Entry.{entry_of};
-ghost use Rattle.ics_series.specs.Tournament.{above, first_below, head_cmp, lead_cmp, turn_of, winner, AreSettled, AreSettledBut, IsUnheld};
-ghost use Rattle.ics_series.specs.Uids.{AreHeadsSorted, IsPlaceOrder};
+ghost use Rattle.ics_series.specs.Inner.Tournament.{above, first_below, head_cmp, lead_cmp, turn_of, winner, AreSettled, AreSettledBut, IsUnheld};
+ghost use Rattle.ics_series.specs.Inner.Uids.{AreHeadsSorted, IsPlaceOrder};
 
 use crate::feed::Coming;
 use crate::lead::Lead;

@@ -5,7 +5,7 @@ ghost use Rattle.ics_event.specs.Event.{said_by, AreEventsOf, IsEventOf};
 ghost use Rattle.ics_series.specs.Chosen.{overridden};
 ghost use Rattle.ics_series.specs.Clocks.{display_clock};
 ghost use Rattle.ics_series.specs.Versions.{label_by, label_of, placed_from, placed_in, seen};
-ghost use Rattle.ics_series.specs.Whole.{AreRead, AreReadIn};
+ghost use Rattle.ics_series.specs.Inner.Whole.{AreRead, AreReadIn};
 ghost use Rattle.ics_series.specs.FileZones.{clocks_in};
 ghost use Rattle.ics_zone.specs.ZoneSaid.{zone_said};
 

@@ -6,7 +6,7 @@ use Rattle.ics_text.specs.Unfolded.{onto_first}
 use Rattle.ics_text.specs.Bytes.{dquote, comma, equals, is_name_byte, is_quoted_byte, is_plain_byte}
 use Rattle.ics_text.specs.ContentLines.{pieces, turned, Value, Param, value_text, params_text, IsValue, IsParam, IsParams, first_value, without_quotes}
 use Rattle.ics_text.specs.ContentLines.{after_name, first_of_text, value_among, param_of}
-use Rattle.ics_text.specs.Pieces.{cut_from, pieces_by}
+use Rattle.ics_text.specs.Inner.Pieces.{cut_from, pieces_by}
 use Rattle.std.specs.List.{flat_map, AllByRecursion, list_all, take_while, prefix_len}
 use Rattle.std.proofs.Math.Seq.{take-append_seam, drop-append_seam}
 use Rattle.ics_text.proofs.BytesLemmas.{quoted-no_quote, plain-no_sign, name-no_quote, name-no_semicolon}

@@ -5,7 +5,7 @@ use Rattle.std.specs.List.{prefix_len}
 use Rattle.ics_text.specs.Bytes.{begins, is_name_byte, is_quoted_byte, is_plain_byte}
 use Rattle.ics_text.specs.ScanSteps.{Start, InName, BeforeParam, InParam, BeforeValue, InPlain, InQuotes, AfterQuotes}
 use Rattle.ics_text.specs.ScanSteps.{colon_from}
-use Rattle.ics_text.specs.Runs.{colon_behind, past}
+use Rattle.ics_text.specs.Inner.Runs.{colon_behind, past}
 use Rattle.ics_text.proofs.BytesLemmas.{quoted-no_quote}
 use Rattle.std.proofs.lemmas.Bool.{cases_Bool}
 

@@ -1,7 +1,7 @@
 ghost use Rattle.std.specs.Prelude.{◌≡◌, ℕ, List, ◌<◌, ◌≤◌, length, IfOk, IfSome, OnErr};
 ghost use Rattle.std.specs.Result.{result_ok};
 ghost use Rattle.ics_text.specs.ScanSteps.{BeforeParam, BeforeValue, AfterQuotes, colon_from};
-ghost use Rattle.ics_text.specs.Runs.{colon_behind, past};
+ghost use Rattle.ics_text.specs.Inner.Runs.{colon_behind, past};
 ghost use Rattle.ics_text.specs.ContentLines.{IsContent, content_of};
 
 use crate::bytes::{COLON, COMMA, EQUALS, QUOTE, SEMICOLON, name_len, plain_len, quoted_len};

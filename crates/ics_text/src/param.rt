@@ -2,7 +2,7 @@ ghost use Rattle.std.specs.Prelude.{◌≡◌, ◌≢◌, ◌<◌, ◌∷◌, fa
 ghost use Rattle.std.specs.List.{take_while};
 ghost use Rattle.std.specs.Option.{option_copied};
 ghost use Rattle.ics_text.specs.Bytes.{is_name_byte, same_name};
-ghost use Rattle.ics_text.specs.Pieces.{cut_from, pieces_behind};
+ghost use Rattle.ics_text.specs.Inner.Pieces.{cut_from, pieces_behind};
 ghost use Rattle.ics_text.specs.ContentLines.{pieces, without_quotes, first_of_text, param_of};
 
 use crate::bytes::{COMMA, QUOTE, SEMICOLON, name_len, without_first};

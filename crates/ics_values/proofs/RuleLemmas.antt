@@ -16,7 +16,7 @@ use Rattle.ics_fields.specs.Sets.{contains, with_number}
 use Rattle.ics_fields.specs.RuleParts.{RuleParts}
 use Rattle.ics_values.specs.RuleTexts.{Part, pieces, row, fits, fits_list, part_of, without_last, is_part, is_name, has_part, none_twice}
 use Rattle.ics_values.specs.Rules.{with_item, with_part, is_large, has_large_number, rule_of}
-use Rattle.ics_values.specs.RuleDrafts.{walk, item_taken, named_taken, part_taken, no_parts}
+use Rattle.ics_values.specs.Inner.RuleDrafts.{walk, item_taken, named_taken, part_taken, no_parts}
 use Rattle.ics_fields.proofs.SetLemmas.{contains-with_number, has_none}
 
 -- the items of a list are all in order, or one is not

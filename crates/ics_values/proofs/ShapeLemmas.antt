@@ -6,7 +6,7 @@ use Rattle.std.proofs.lemmas.Bool.{cases_Bool, eq-eqb, false_from_ne_true, ne_eq
 use Rattle.std.proofs.lemmas.Bool.Decides.{nat_tests}
 use Rattle.ics_values.specs.Digits.{is_digit, upper, number_of, digit_count}
 use Rattle.ics_values.specs.Texts.{begins, begins_with}
-use Rattle.ics_values.specs.Amounts.{IsLetter, IsAmount, capped}
+use Rattle.ics_values.specs.Inner.Amounts.{IsLetter, IsAmount, capped}
 use Rattle.ics_values.specs.Durations.{shape, behind, has_shape, amount_from}
 
 -- no digit is a unit, and what is no digit is no zero

@@ -1,7 +1,7 @@
 //! The numbers and units of a duration's text, by the rules of its grammar (RFC 5545, section 3.3.6).
 ghost use Rattle.std.specs.Prelude.{◌≡◌, ◌<◌, ◌∷◌, [], MatchOption};
 ghost use Rattle.ics_values.specs.Durations.{duration_shapes, week_shapes, day_shapes, time_shapes, hour_shapes, minute_shapes, second_shapes};
-ghost use Rattle.ics_values.specs.Amounts.{IsLetter, IsAmount, LacksFront, Reads, each_fits};
+ghost use Rattle.ics_values.specs.Inner.Amounts.{IsLetter, IsAmount, LacksFront, Reads, each_fits};
 
 use crate::digits::{capped_number, digit_count};
 

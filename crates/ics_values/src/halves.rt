@@ -3,7 +3,7 @@ ghost use Rattle.std.specs.Prelude.{◌≡◌, ◌==◌, ◌<◌, ◌∷◌, [],
 ghost use Rattle.std.specs.Option.{option_copied};
 ghost use Rattle.std.specs.List.{before_first, after_first};
 ghost use Rattle.ics_values.specs.RuleTexts.{pieces};
-ghost use Rattle.ics_values.specs.RuleDrafts.{pieces_behind};
+ghost use Rattle.ics_values.specs.Inner.RuleDrafts.{pieces_behind};
 
 use memchr::memchr;
 

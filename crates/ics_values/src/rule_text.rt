@@ -3,7 +3,7 @@ ghost use Rattle.std.specs.Prelude.{◌≡◌, ◌<◌, ◌-◌, List, ℕ, true
 ghost use Rattle.ics_values.specs.ValueFaultNames.{rule_fault_name};
 ghost use Rattle.ics_values.specs.RuleTexts.{without_last, pieces};
 ghost use Rattle.ics_values.specs.Rules.{rule_of};
-ghost use Rattle.ics_values.specs.RuleDrafts.{walk, item_taken, value_taken, part_taken, no_parts, Takes};
+ghost use Rattle.ics_values.specs.Inner.RuleDrafts.{walk, item_taken, value_taken, part_taken, no_parts, Takes};
 
 use crate::halves::{cut, halves};
 use crate::part_name::{ListName, PartName, part_name};

@@ -1,10 +1,10 @@
 //! The values of a rule's parts.
 ghost use Rattle.std.specs.Prelude.{◌≡◌, ◌≤◌, false, MatchOption, IfSome, map};
-ghost use Rattle.ics_values.specs.Options.{IsWhere};
+ghost use Rattle.ics_values.specs.Inner.Options.{IsWhere};
 ghost use Rattle.ics_fields.specs.RuleParts.{IsUntil};
 ghost use Rattle.ics_values.specs.RuleTexts.{frequency_of, weekday_of, until_said, until_of, is_rule_number, is_number, is_signed, is_day_item};
 ghost use Rattle.ics_values.specs.Digits.{number_of};
-ghost use Rattle.ics_values.specs.RuleDrafts.{IsRuleNumber, IsPlace, IsDayItem};
+ghost use Rattle.ics_values.specs.Inner.RuleDrafts.{IsRuleNumber, IsPlace, IsDayItem};
 
 use crate::digits::{are_digits, number_within};
 use crate::part_name::by_word;

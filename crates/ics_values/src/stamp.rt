@@ -3,7 +3,7 @@ ghost use Rattle.std.specs.Prelude.{◌≡◌, ◌+◌, ◌*◌, ◌<◌, ◌≤
 ghost use Rattle.ics_values.specs.Stamps.{is_date_form, is_local_form, is_utc_form, is_date_time_form, year_of, date_exists, day_of, time_exists, second_of};
 ghost use Rattle.ics_values.specs.Stamps.{is_stamp_text, stamp_said, is_stamp_year, stamp_of, stamp_day, IsDayOf, HasDate, HasTime};
 ghost use Rattle.ics_fields.specs.Days.{IsStampDay};
-ghost use Rattle.ics_values.specs.Options.{IsWhere};
+ghost use Rattle.ics_values.specs.Inner.Options.{IsWhere};
 ghost use Rattle.ics_values.specs.ValueFaultNames.{stamp_fault_name};
 
 use crate::date::date_day;

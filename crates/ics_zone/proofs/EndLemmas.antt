@@ -13,7 +13,7 @@ use Rattle.ics_rule.specs.PeriodNumbers.{rules_end}
 use Rattle.ics_zone.specs.Observances.{instant_by, is_until}
 use Rattle.ics_rule.specs.CountBounds.{without_count}
 use Rattle.ics_rule.proofs.EndLemmas.{kept_without_count}
-use Rattle.ics_zone.specs.OnsetSets.{IsEnd}
+use Rattle.ics_zone.specs.Inner.OnsetSets.{IsEnd}
 
 -- what is kept is the start, or earlier than the end of the rules and later than the start
 pub kept_early : (r : Recurrence) (n : ℕ) → is_kept r n ≡ true → (n ≡ number r.start) ⊎ ((n < rules_end) × (number r.start < n))

@@ -12,13 +12,13 @@ use Rattle.ics_zone.specs.declared.times.Times.{Times}
 use Rattle.ics_zone.specs.declared.onsets.Onsets.{Onsets}
 use Rattle.ics_zone.specs.Observances.{epoch, instant_by}
 use Rattle.ics_zone.specs.ZoneOffsets.{natural}
-use Rattle.ics_zone.specs.OnsetSets.{IsKeptAt}
-use Rattle.ics_zone.specs.Hours.{keeps_time, keeps, AreHoursOf, IsToldAt, IsTold}
-use Rattle.ics_zone.specs.Marks.{is_marked, IsMarked}
+use Rattle.ics_zone.specs.Inner.OnsetSets.{IsKeptAt}
+use Rattle.ics_zone.specs.Inner.Hours.{keeps_time, keeps, AreHoursOf, IsToldAt, IsTold}
+use Rattle.ics_zone.specs.Inner.Marks.{is_marked, IsMarked}
 use Rattle.ics_zone.proofs.Cases.{int_lt_true, true_int_lt}
 use Rattle.ics_zone.proofs.KeptLemmas.{to_kept, from_kept}
 use Rattle.ics_zone.proofs.MinuteLemmas.{IsFront, front_is, marked-set_same, marked-set_other}
-use Rattle.ics_zone.specs.Searches.{natural-is}
+use Rattle.ics_zone.specs.Inner.Searches.{natural-is}
 
 -- an hour and the next
 pub hours_of : (r : Recurrence) (local : ℕ) (here next : Times) → ((n : ℕ) → n / 3_600 ≡ local / 3_600 → is_kept r n ≡ keeps_time here n)

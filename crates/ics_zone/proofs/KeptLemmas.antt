@@ -7,8 +7,8 @@ use Rattle.ics_rule.specs.Kept.{is_kept}
 use Rattle.ics_rule.specs.Next.{NoneKept, IsNextKept}
 use Rattle.ics_zone.specs.declared.onsets.Onsets.{Onsets}
 use Rattle.ics_zone.specs.Observances.{instant_by}
-use Rattle.ics_zone.specs.Latest.{IsLastKept, IsLast}
-use Rattle.ics_zone.specs.OnsetSets.{IsShownBy, IsShownTo, IsKeptBy, IsKeptAt, Has}
+use Rattle.ics_zone.specs.Inner.Latest.{IsLastKept, IsLast}
+use Rattle.ics_zone.specs.Inner.OnsetSets.{IsShownBy, IsShownTo, IsKeptBy, IsKeptAt, Has}
 use Rattle.ics_zone.proofs.Cases.{less_or_not_z}
 
 -- where none is kept from a place on and before an end, a kept local before the end is before the place

@@ -5,8 +5,8 @@ use Rattle.std.specs.Int.{int_max}
 use Rattle.std.proofs.lemmas.Int.{ints}
 use Rattle.std.proofs.lemmas.List.{get_or_default}
 use Rattle.ics_zone.specs.declared.onsets.Onsets.{Onsets}
-use Rattle.ics_zone.specs.OnsetSets.{IsKeptAt, Has}
-use Rattle.ics_zone.specs.Latest.{IsInOrder, IsPassed, IsLast, IsLastOf, IsLastAfter}
+use Rattle.ics_zone.specs.Inner.OnsetSets.{IsKeptAt, Has}
+use Rattle.ics_zone.specs.Inner.Latest.{IsInOrder, IsPassed, IsLast, IsLastOf, IsLastAfter}
 use Rattle.ics_zone.proofs.Cases.{less_or_not_z}
 
 module _ (list : List ℤ) (up : IsInOrder list) (t : ℤ) (k : ℕ) (passed : IsPassed list t k) where

@@ -12,8 +12,8 @@ use Rattle.std.proofs.lemmas.List.Sorted.{IsPermutation-sym, Contains-permutatio
 use Rattle.ics_fields.specs.declared.local.Local.{Local}
 use Rattle.ics_fields.specs.Locals.{number}
 use Rattle.ics_zone.specs.Observances.{ObservanceSaid, instant_by}
-use Rattle.ics_zone.specs.Latest.{IsInOrder}
-use Rattle.ics_zone.specs.OnsetSets.{IsListing}
+use Rattle.ics_zone.specs.Inner.Latest.{IsInOrder}
+use Rattle.ics_zone.specs.Inner.OnsetSets.{IsListing}
 
 abbrev pub instants_of : ObservanceSaid → List Local → List ℤ
 instants_of p locals = map (λ l. instant_by p.offset_from (number l)) locals

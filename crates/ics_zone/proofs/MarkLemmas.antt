@@ -8,14 +8,14 @@ use Rattle.ics_fields.specs.Sets.{contains}
 use Rattle.ics_zone.specs.declared.onsets.Onsets.{Onsets}
 use Rattle.ics_zone.specs.Observances.{ObservanceSaid}
 use Rattle.ics_zone.specs.ZoneOffsets.{natural, IsOnset}
-use Rattle.ics_zone.specs.OnsetSets.{Has}
-use Rattle.ics_zone.specs.ZoneOnsets.{AreOnsetsOfAll}
-use Rattle.ics_zone.specs.Marks.{is_marked, IsMarked, IsAsked, AreMarks, AreClear}
+use Rattle.ics_zone.specs.Inner.OnsetSets.{Has}
+use Rattle.ics_zone.specs.Inner.ZoneOnsets.{AreOnsetsOfAll}
+use Rattle.ics_zone.specs.Inner.Marks.{is_marked, IsMarked, IsAsked, AreMarks, AreClear}
 use Rattle.ics_zone.proofs.Cases.{less_or_not_z, int_lt_true}
 use Rattle.ics_zone.proofs.SixtyLemmas.{contains-or}
 use Rattle.ics_fields.proofs.SetLemmas.{has_none}
 use Rattle.ics_zone.proofs.MinuteLemmas.{IsFront, front_is, marked-set_same, marked-set_other}
-use Rattle.ics_zone.specs.Searches.{natural-is}
+use Rattle.ics_zone.specs.Inner.Searches.{natural-is}
 use Rattle.ics_zone.proofs.ZoneSteps.{observance_here, onsets_here, onsets_at}
 
 -- an onset more that is marked

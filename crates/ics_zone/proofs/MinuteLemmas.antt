@@ -5,7 +5,7 @@ use Rattle.std.proofs.lemmas.Bool.{cases_eq}
 use Rattle.std.proofs.lemmas.Bool.Decides.{nat_tests}
 use Rattle.ics_fields.specs.Sets.{contains}
 use Rattle.ics_fields.proofs.SetLemmas.{contains-or_bit}
-use Rattle.ics_zone.specs.Marks.{is_marked}
+use Rattle.ics_zone.specs.Inner.Marks.{is_marked}
 
 -- one minute set anew
 module _ (marks : List ℕ) (minute word k : ℕ) where

@@ -2,7 +2,7 @@
 use Rattle.std.proofs.Common.{◌≡◌, inl, inr, sym, ap, ◌∙◌, arith, ℤ, pos, ◌-ℤ◌}
 use Rattle.std.proofs.lemmas.Int.{ints}
 use Rattle.ics_zone.specs.Moments.{IsMomentBy}
-pub use Rattle.ics_zone.specs.MomentSearch.{moment_found}
+pub use Rattle.ics_zone.specs.Inner.MomentSearch.{moment_found}
 
 pub moment_unique : (offset : ℤ → ℤ) (local s t : ℤ) → IsMomentBy offset local s → IsMomentBy offset local t → s ≡ t
 moment_unique offset local s t (inl x) (inl y) = omega (arith, ints, x.first t y.shows, y.first s x.shows)

@@ -12,8 +12,8 @@ use Rattle.ics_fields.specs.Locals.{number}
 use Rattle.ics_zone.specs.Observances.{ObservanceSaid, IsObservanceSaid, IsZone, epoch, instant_by, is_begin, test_at, is_onset}
 use Rattle.ics_zone.specs.ZoneOffsets.{IsOnset, IsInForce, IsBeforeAll, IsOffset, instant, natural, instants_to, if_onset, last_at, first_at, in_force}
 use Rattle.ics_zone.specs.ZoneOffsets.{last_midnight, earliest, offset_by, zone_offset}
-use Rattle.ics_zone.specs.ZoneBounds.{if_onset-some}
-use Rattle.ics_zone.specs.Searches.{last_below-is, first_below-is, natural-is}
+use Rattle.ics_zone.specs.Inner.ZoneBounds.{if_onset-some}
+use Rattle.ics_zone.specs.Inner.Searches.{last_below-is, first_below-is, natural-is}
 
 -- the seconds of a local from 1970-01-01 on, by its number
 pub number-seconds : (l : Local) → IsStampDay l.day → pos (number l) ≡ l.day *ℤ pos 86_400 +ℤ pos l.second +ℤ pos epoch

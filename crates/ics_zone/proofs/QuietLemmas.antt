@@ -2,7 +2,7 @@
 use Rattle.std.proofs.Common.{ℤ, ◌<ℤ◌, ◌≤ℤ◌}
 use Rattle.ics_zone.specs.declared.onsets.Onsets.{Onsets}
 use Rattle.ics_zone.specs.Observances.{ObservanceSaid}
-use Rattle.ics_zone.specs.OnsetSets.{Has, IsQuiet, IsSound, AreOnsetsOf}
+use Rattle.ics_zone.specs.Inner.OnsetSets.{Has, IsQuiet, IsSound, AreOnsetsOf}
 
 -- no onset is after one instant and before another
 abbrev pub NoneIn : Onsets → ℤ → ℤ → Type 0

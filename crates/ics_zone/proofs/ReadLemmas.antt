@@ -7,8 +7,8 @@ use Rattle.std.proofs.lemmas.Slice.Zip.{AllZip-long}
 use Rattle.ics_zone.specs.declared.observance.Observance.{Observance}
 use Rattle.ics_zone.specs.declared.onsets.Onsets.{Onsets}
 use Rattle.ics_zone.specs.Observances.{ObservanceSaid, observance_said}
-use Rattle.ics_zone.specs.OnsetSets.{AreOnsetsOf}
-use Rattle.ics_zone.specs.ZoneOnsets.{AreOnsetsOfAll, HaveOffsets}
+use Rattle.ics_zone.specs.Inner.OnsetSets.{AreOnsetsOf}
+use Rattle.ics_zone.specs.Inner.ZoneOnsets.{AreOnsetsOfAll, HaveOffsets}
 
 -- where all were read in order, those at a place are of the observance there
 module _ (p : ObservanceSaid) (d : Onsets) where

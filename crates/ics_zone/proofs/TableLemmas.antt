@@ -12,11 +12,11 @@ use Rattle.std.proofs.lemmas.Option.{slice_get_within}
 use Rattle.ics_zone.specs.declared.observance.Observance.{Observance}
 use Rattle.ics_zone.specs.declared.onsets.Onsets.{Onsets}
 use Rattle.ics_zone.specs.Observances.{ObservanceSaid, observances_said}
-use Rattle.ics_zone.specs.OnsetSets.{Has}
-use Rattle.ics_zone.specs.Marks.{IsAsked}
+use Rattle.ics_zone.specs.Inner.OnsetSets.{Has}
+use Rattle.ics_zone.specs.Inner.Marks.{IsAsked}
 use Rattle.ics_zone.specs.ZoneOffsets.{IsNotLater, IsOnset, zone_offset}
-use Rattle.ics_zone.specs.ZoneOnsets.{AreOnsetsOfAll, IsSteady}
-use Rattle.ics_zone.specs.Tables.{onset_number, IsNumberedBy, AreNumbered, IsTable, IsNextOf}
+use Rattle.ics_zone.specs.Inner.ZoneOnsets.{AreOnsetsOfAll, IsSteady}
+use Rattle.ics_zone.specs.Inner.Tables.{onset_number, IsNumberedBy, AreNumbered, IsTable, IsNextOf}
 use Rattle.ics_zone.proofs.Cases.{less_or_not_z}
 use Rattle.ics_zone.proofs.ListingLemmas.{in_order}
 use Rattle.ics_zone.proofs.ZoneSteps.{observance_here, onsets_here, onsets_at, split}

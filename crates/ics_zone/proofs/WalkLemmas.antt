@@ -3,8 +3,8 @@ use Rattle.std.proofs.Common.{◌≡◌, ◌≢◌, ◌⊎◌, inl, inr, arith, 
 use Rattle.std.proofs.lemmas.Int.{ints}
 use Rattle.ics_zone.specs.declared.walk.Walk.{Walk}
 use Rattle.ics_zone.specs.Moments.{shown, IsFirstTime, IsInGap}
-use Rattle.ics_zone.specs.ZoneOnsets.{IsSteady}
-use Rattle.ics_zone.specs.Walks.{IsShort, IsGapRead, IsWalk}
+use Rattle.ics_zone.specs.Inner.ZoneOnsets.{IsSteady}
+use Rattle.ics_zone.specs.Inner.Walks.{IsShort, IsGapRead, IsWalk}
 
 pub walk_begins : {offset : ℤ → ℤ} {local low before : ℤ} → IsShort offset → low ≡ local -ℤ pos 86_400
     → IsWalk offset local (record { low = low; before = before; gap = None })

@@ -9,9 +9,9 @@ use Rattle.ics_zone.specs.declared.latest.Latest.{Latest}
 use Rattle.ics_zone.specs.declared.onsets.Onsets.{Onsets}
 use Rattle.ics_zone.specs.Observances.{ObservanceSaid}
 use Rattle.ics_zone.specs.ZoneOffsets.{IsOnset, IsNotLater}
-use Rattle.ics_zone.specs.Latest.{IsLast}
-use Rattle.ics_zone.specs.OnsetSets.{Has, IsSound, AreOnsetsOf}
-use Rattle.ics_zone.specs.ZoneOnsets.{AreOnsetsOfAll, IsLatest, IsLatestOf, IsLatestWithin, IsFirst, IsOverridden}
+use Rattle.ics_zone.specs.Inner.Latest.{IsLast}
+use Rattle.ics_zone.specs.Inner.OnsetSets.{Has, IsSound, AreOnsetsOf}
+use Rattle.ics_zone.specs.Inner.ZoneOnsets.{AreOnsetsOfAll, IsLatest, IsLatestOf, IsLatestWithin, IsFirst, IsOverridden}
 use Rattle.ics_zone.proofs.Cases.{below_or_at, less_or_not_z}
 
 -- each place of a zone has an observance

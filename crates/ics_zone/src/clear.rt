@@ -1,8 +1,8 @@
 //! The onsets of an observance within an hour, minute by minute.
 ghost use Rattle.std.specs.Prelude.{◌≡◌, ℕ, ℤ, pos, true, ◌<◌, ◌⊎◌, ◌||◌, ◌==◌, length, IfSome, ◌<ℤ◌, ◌≤ℤ◌, ◌+ℤ◌, ◌-ℤ◌};
-ghost use Rattle.ics_zone.specs.OnsetSets.{IsSearched, IsKeptAt, Has, IsSound};
-ghost use Rattle.ics_zone.specs.Hours.{IsToldBy};
-ghost use Rattle.ics_zone.specs.Marks.{is_marked, IsMarked, IsAsked, AreMarks, AreClear};
+ghost use Rattle.ics_zone.specs.Inner.OnsetSets.{IsSearched, IsKeptAt, Has, IsSound};
+ghost use Rattle.ics_zone.specs.Inner.Hours.{IsToldBy};
+ghost use Rattle.ics_zone.specs.Inner.Marks.{is_marked, IsMarked, IsAsked, AreMarks, AreClear};
 
 use crate::clock::{EPOCH, RULES_END, shown_at};
 use crate::hours::Hours;

@@ -2,7 +2,7 @@
 ghost use Rattle.std.specs.Prelude.{◌≡◌, pos, ◌≤◌, ◌<◌, ◌^◌, ◌+ℤ◌, ◌≤ℤ◌};
 ghost use Rattle.jiff_core.specs.Calendar.{IsWithin};
 ghost use Rattle.ics_zone.specs.Observances.{epoch, instant_by};
-ghost use Rattle.ics_zone.specs.OnsetSets.{IsSearched, IsShownBy};
+ghost use Rattle.ics_zone.specs.Inner.OnsetSets.{IsSearched, IsShownBy};
 
 use ics_fields::Moment;
 

@@ -81,7 +81,7 @@ fn fixed(seconds: i32) -> Display
 
 impl Place for Display {
     ghost use Rattle.ics_zone.specs.JiffZones.{IsOffsetIn, IsMomentIn};
-    ghost use Rattle.ics_zone.specs.Near.{offset_near, moment_near};
+    ghost use Rattle.ics_zone.specs.Inner.Near.{offset_near, moment_near};
     ghost use Rattle.ics_zone.specs.ZoneSaid.{display_said, said_offset, said_moment};
 
     ghost offset_at = { λ display moment. said_offset (display_said display) moment };

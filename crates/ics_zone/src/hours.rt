@@ -1,8 +1,8 @@
 //! What a rule keeps in two hours that follow each other.
 ghost use Rattle.std.specs.Prelude.{◌≡◌, ℕ, ◌+◌, ◌*◌, ◌<◌, ◌&&◌, int_lt, pos, IfSome};
 ghost use Rattle.ics_fields.specs.Sets.{contains};
-ghost use Rattle.ics_zone.specs.Hours.{keeps, AreHoursOf};
-ghost use Rattle.ics_zone.specs.Marks.{is_marked};
+ghost use Rattle.ics_zone.specs.Inner.Hours.{keeps, AreHoursOf};
+ghost use Rattle.ics_zone.specs.Inner.Marks.{is_marked};
 ghost use Rattle.ics_rule.specs.PeriodNumbers.{rules_end};
 
 use crate::sixty::{first_of, front, shifted};

@@ -3,7 +3,7 @@ ghost use Rattle.std.specs.Prelude.{◌≡◌, ℕ, ◌≤◌, ◌<◌, ◌+◌,
 ghost use Rattle.ics_fields.specs.Locals.{calendar_end, number};
 ghost use Rattle.ics_rule.specs.Kept.{is_kept};
 ghost use Rattle.ics_rule.specs.Next.{NoneKept, IsNextKept};
-ghost use Rattle.ics_zone.specs.Latest.{IsLastKept, IsKnownLast};
+ghost use Rattle.ics_zone.specs.Inner.Latest.{IsLastKept, IsKnownLast};
 ghost use Rattle.ics_rule.specs.PeriodNumbers.{rules_end};
 
 use crate::clock::RULES_END;

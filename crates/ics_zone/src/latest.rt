@@ -2,9 +2,9 @@
 ghost use Rattle.std.specs.Prelude.{◌≡◌, ℤ, pos, ◌<◌, true, false, length, List, ◌⊎◌, ◌+ℤ◌, ◌-ℤ◌, ◌<ℤ◌, ◌≤ℤ◌, MatchOption};
 ghost use Rattle.std.specs.List.{All};
 ghost use Rattle.ics_zone.specs.Observances.{ObservanceSaid};
-ghost use Rattle.ics_zone.specs.OnsetSets.{Has, IsSound};
+ghost use Rattle.ics_zone.specs.Inner.OnsetSets.{Has, IsSound};
 ghost use Rattle.ics_zone.specs.Seconds.{IsMoment};
-ghost use Rattle.ics_zone.specs.ZoneOnsets.{AreOnsetsOfAll, IsLatestOf, IsLatestWithin, IsFirstOffset, IsNextPast, IsClear, IsOverridden, NoneBetween};
+ghost use Rattle.ics_zone.specs.Inner.ZoneOnsets.{AreOnsetsOfAll, IsLatestOf, IsLatestWithin, IsFirstOffset, IsNextPast, IsClear, IsOverridden, NoneBetween};
 
 use crate::clock::EPOCH;
 use crate::onsets::Onsets;

@@ -7,9 +7,9 @@ ghost use Rattle.ics_zone.specs.Observances.{observance_said, observances_said, 
 ghost use Rattle.jiff_core.specs.Calendar.{IsWithin};
 ghost use Rattle.ics_zone.specs.Seconds.{IsDay, IsMoment};
 ghost use Rattle.ics_fields.specs.Locals.{seconds_at};
-ghost use Rattle.ics_zone.specs.OnsetSets.{IsSearched};
-ghost use Rattle.ics_zone.specs.ZoneOnsets.{AreOnsetsOfAll, HaveOffsets, IsLatestOf};
-ghost use Rattle.ics_zone.specs.Tables.{IsTable};
+ghost use Rattle.ics_zone.specs.Inner.OnsetSets.{IsSearched};
+ghost use Rattle.ics_zone.specs.Inner.ZoneOnsets.{AreOnsetsOfAll, HaveOffsets, IsLatestOf};
+ghost use Rattle.ics_zone.specs.Inner.Tables.{IsTable};
 
 use crate::clock::EPOCH;
 use crate::latest::{
@@ -87,7 +87,7 @@ impl Model for Observed {
     ghost Value = { List Observance };
 
     ghost use Rattle.ics_zone.specs.Observances.{observances_said};
-    ghost use Rattle.ics_zone.specs.ZoneOnsets.{IsKnown};
+    ghost use Rattle.ics_zone.specs.Inner.ZoneOnsets.{IsKnown};
 
     ghost view = { λ z. z.observances.items };
 
@@ -97,7 +97,7 @@ impl Model for Observed {
 impl Observed {
     ghost use Rattle.ics_zone.specs.ZoneOffsets.{IsOffset, zone_offset};
     ghost use Rattle.ics_zone.specs.Moments.{shown, IsFirstTime, IsInGap, IsMomentOf, zone_moment};
-    ghost use Rattle.ics_zone.specs.ZoneOnsets.{IsJump, IsSteady};
+    ghost use Rattle.ics_zone.specs.Inner.ZoneOnsets.{IsJump, IsSteady};
 
     /// The zone of these observances. `NoObservance` if there is none, `ZoneRule` if one repeats more often than daily, else `Memory` if an allocation fails.
     pub fn read(alloc: Global, observances: Vec<Observance>) -> Result<Observed, ZoneFault>

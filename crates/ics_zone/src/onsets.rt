@@ -6,8 +6,8 @@ ghost use Rattle.jiff_core.specs.Calendar.{IsWithin};
 ghost use Rattle.ics_fields.specs.Days.{IsStampDay};
 ghost use Rattle.ics_rule.specs.Kept.{until_moment};
 ghost use Rattle.ics_zone.specs.Observances.{ObservanceSaid, is_until, observance_said, rule_from};
-ghost use Rattle.ics_zone.specs.Latest.{IsInOrder, IsPassed, IsLast, IsLastOf, IsLastAfter};
-ghost use Rattle.ics_zone.specs.OnsetSets.{IsShownTo, IsKeptAt, Has, IsSound, AreOnsetsOf, IsListing, IsEnd, held_rule};
+ghost use Rattle.ics_zone.specs.Inner.Latest.{IsInOrder, IsPassed, IsLast, IsLastOf, IsLastAfter};
+ghost use Rattle.ics_zone.specs.Inner.OnsetSets.{IsShownTo, IsKeptAt, Has, IsSound, AreOnsetsOf, IsListing, IsEnd, held_rule};
 
 use crate::Observance;
 use crate::clock::{RULES_END, instant, shown_by};

@@ -2,9 +2,9 @@
 ghost use Rattle.std.specs.Prelude.{◌≡◌, ℤ, pos, true, ◌<◌, ◌⊎◌, List, length, IfSome, ◌≤ℤ◌};
 ghost use Rattle.std.specs.List.{All, Contains};
 ghost use Rattle.ics_zone.specs.Observances.{ObservanceSaid};
-ghost use Rattle.ics_zone.specs.OnsetSets.{Has, IsSearched, IsSound};
-ghost use Rattle.ics_zone.specs.ZoneOnsets.{AreOnsetsOfAll};
-ghost use Rattle.ics_zone.specs.Tables.{onset_number, IsNextOf, IsNumberedBy, IsTable};
+ghost use Rattle.ics_zone.specs.Inner.OnsetSets.{Has, IsSearched, IsSound};
+ghost use Rattle.ics_zone.specs.Inner.ZoneOnsets.{AreOnsetsOfAll};
+ghost use Rattle.ics_zone.specs.Inner.Tables.{onset_number, IsNextOf, IsNumberedBy, IsTable};
 
 use crate::onsets::Onsets;
 use ics_fields::Moment;

@@ -2,8 +2,8 @@
 ghost use Rattle.std.specs.Prelude.{◌≡◌, ℤ, pos, ◌-ℤ◌, ◌<ℤ◌, ◌≤ℤ◌, MatchOption, IfSome};
 ghost use Rattle.ics_zone.specs.Seconds.{IsMoment};
 ghost use Rattle.ics_zone.specs.Moments.{IsInGap};
-ghost use Rattle.ics_zone.specs.ZoneOnsets.{IsSteady};
-ghost use Rattle.ics_zone.specs.Walks.{IsShort, IsWalk, IsTold, IsGapRead};
+ghost use Rattle.ics_zone.specs.Inner.ZoneOnsets.{IsSteady};
+ghost use Rattle.ics_zone.specs.Inner.Walks.{IsShort, IsWalk, IsTold, IsGapRead};
 
 use crate::latest::Steady;
 use ics_fields::Moment;

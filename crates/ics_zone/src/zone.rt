@@ -133,7 +133,7 @@ impl Zone {
 impl Place for Zone {
     ghost use Rattle.ics_zone.specs.JiffZones.{IsOffsetIn, IsMomentIn};
     ghost use Rattle.ics_zone.specs.ZoneSaid.{said_offset, said_moment, zone_said};
-    ghost use Rattle.ics_zone.specs.ZoneBounds.{said_offset_near, said_moment_near};
+    ghost use Rattle.ics_zone.specs.Inner.ZoneBounds.{said_offset_near, said_moment_near};
 
     ghost offset_at = { λ zone moment. said_offset (zone_said zone) moment };
 

@@ -11,7 +11,7 @@ use Rattle.ics_event.specs.Event.{FileSaid}
 use Rattle.ics_series.specs.After.{after_key}
 use Rattle.ics_series.specs.Clocks.{display_clock}
 use Rattle.ics_series.specs.Entry.{Entry, entry_cmp, key_rank, rank_cmp, rank_of}
-use Rattle.ics_series.specs.EntryLaws.{entry_total}
+use Rattle.ics_series.specs.Inner.EntryLaws.{entry_total}
 use Rattle.ics_series.specs.OnDays.{DayListingBehind, after_day_key, day_rank_of, OnDay}
 use Rattle.ics_series.specs.Rising.{IsBefore, Rises}
 use Rattle.khal_list.specs.declared.request.Request.{Request}

@@ -20,5 +20,5 @@ pub mod Pages
 pub mod RequestFaults
 pub mod RequestOf
 pub mod Text
-pub mod WindowEnds
 pub mod Windows
+pub mod Inner

@@ -6,7 +6,7 @@ ghost use Rattle.ics_fields.specs.Locals.{local_seconds};
 ghost use Rattle.ics_zone.specs.ZoneSaid.{display_said, said_moment};
 ghost use Rattle.khal_list.specs.Windows as spec;
 ghost use Rattle.khal_words.specs.SpanTexts.{span_by};
-ghost use Rattle.khal_list.specs.WindowEnds.{ends_by};
+ghost use Rattle.khal_list.specs.Inner.WindowEnds.{ends_by};
 ghost use Rattle.khal_words.specs.WindowTextNames.{named_by, IsInCalendar};
 
 use ics_fields::EPOCH_DAY;

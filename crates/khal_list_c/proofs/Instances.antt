@@ -14,7 +14,7 @@ use Rattle.ics_rule.specs.PeriodNumbers.{rules_end}
 use Rattle.ics_rule.specs.Recurrence.{Recurrence}
 use Rattle.ics_zone.specs.ZoneSaid.{ZoneSaid, Always, said_moment, said_offset, zone_said}
 use Rattle.ics_zone.specs.declared.zone.ZoneKind.{ZoneKind}
-use Rattle.ics_zone.specs.ZoneBounds.{said_moment_near, said_offset_near}
+use Rattle.ics_zone.specs.Inner.ZoneBounds.{said_moment_near, said_offset_near}
 use Rattle.khal_list_c.specs.Clocks.{instant_in, epoch}
 use Rattle.khal_list_c.specs.Conversions.{IsInstant}
 use Rattle.khal_list_c.specs.Times.{is_by_instant, is_instance, IsNextOf, NoneOf}

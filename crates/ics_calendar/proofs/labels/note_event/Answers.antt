@@ -2,8 +2,8 @@ use Rattle.std.proofs.Common.{◌≡◌, ◌∷◌, [], ◌++◌, ap, sym, ◌�
 use Rattle.std.specs.List.{fold}
 use Rattle.std.proofs.lemmas.Result.{IfOk-weaker, on_ok_weaker}
 use Rattle.ics_components.specs.declared.fault.Fault.{Fault}
-use Rattle.ics_calendar.specs.Labels.{AreNumbered}
-use Rattle.ics_calendar.specs.PartsRead.{Numbered, least_at, numbered_with, with_key}
+use Rattle.ics_calendar.specs.Inner.Labels.{AreNumbered}
+use Rattle.ics_calendar.specs.Inner.PartsRead.{Numbered, least_at, numbered_with, with_key}
 use Rattle.ics_calendar.proofs.Shared.{begun, no-keys, none-more, some-keys}
 use Rattle.ics_calendar.proofs.labels.note_event.Goals as goal
 

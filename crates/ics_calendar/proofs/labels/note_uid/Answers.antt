@@ -5,9 +5,9 @@ use Rattle.std.specs.BTreeMap.{get}
 use Rattle.std.specs.Cmp.Lexicographic.{slice_cmp}
 use Rattle.std.specs.Ordering.{nat_cmp}
 use Rattle.ics_components.specs.declared.fault.Fault.{Fault}
-use Rattle.ics_calendar.specs.Labels.{AreNumbered}
-use Rattle.ics_calendar.specs.PartsRead.{least_at, with_key}
-use Rattle.ics_calendar.specs.SharedFaults.{number_by}
+use Rattle.ics_calendar.specs.Inner.Labels.{AreNumbered}
+use Rattle.ics_calendar.specs.Inner.PartsRead.{least_at, with_key}
+use Rattle.ics_calendar.specs.Inner.SharedFaults.{number_by}
 use Rattle.ics_calendar.proofs.Shared.{uid-more}
 use Rattle.ics_calendar.proofs.labels.note_uid.Goals as goal
 

@@ -2,8 +2,8 @@ use Rattle.std.proofs.Common.{◌≡◌, sym, ap, ◌∙◌, ◌∷◌, [], ◌+
 use Rattle.std.specs.List.{fold}
 use Rattle.std.proofs.lemmas.Grind.{fold-append}
 use Rattle.std.proofs.lemmas.List.{map-append}
-use Rattle.ics_calendar.specs.Labels.{AreNumbered}
-use Rattle.ics_calendar.specs.PartsRead.{Numbered, with_key}
+use Rattle.ics_calendar.specs.Inner.Labels.{AreNumbered}
+use Rattle.ics_calendar.specs.Inner.PartsRead.{Numbered, with_key}
 use Rattle.ics_calendar.proofs.labels.note_uids.Goals as goal
 
 pub loop-uid-preserved : goal.loop-uid-preserved

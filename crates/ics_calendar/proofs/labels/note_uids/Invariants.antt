@@ -1,7 +1,7 @@
 use Rattle.std.proofs.Common.{◌≡◌, Some, map}
 use Rattle.std.specs.List.{fold}
-use Rattle.ics_calendar.specs.Labels.{AreNumbered}
-use Rattle.ics_calendar.specs.PartsRead.{Numbered, with_key}
+use Rattle.ics_calendar.specs.Inner.Labels.{AreNumbered}
+use Rattle.ics_calendar.specs.Inner.PartsRead.{Numbered, with_key}
 use Rattle.ics_calendar.proofs.labels.note_uids.Given as goal
 
 abbrev pub invariant-loop-uid : goal.invariant-loop-uid

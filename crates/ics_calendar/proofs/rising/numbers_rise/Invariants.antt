@@ -1,5 +1,5 @@
 use Rattle.std.proofs.Common.{◌≡◌, drop}
-use Rattle.ics_calendar.specs.PartsRead.{rise_from}
+use Rattle.ics_calendar.specs.Inner.PartsRead.{rise_from}
 use Rattle.ics_calendar.proofs.rising.numbers_rise.Given as goal
 
 abbrev pub invariant-loop-event : goal.invariant-loop-event

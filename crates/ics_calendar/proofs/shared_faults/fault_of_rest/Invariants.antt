@@ -1,7 +1,7 @@
 use Rattle.std.proofs.Common.{◌≡◌, take}
 use Rattle.std.specs.List.{fold}
 use Rattle.ics_components.specs.PartFaults.{earlier}
-use Rattle.ics_calendar.specs.PartsRead.{fault_read}
+use Rattle.ics_calendar.specs.Inner.PartsRead.{fault_read}
 use Rattle.ics_calendar.proofs.shared_faults.fault_of_rest.Given as goal
 
 abbrev pub invariant-loop-zone : goal.invariant-loop-zone

@@ -2,7 +2,7 @@ use Rattle.std.proofs.Common.{◌≡◌, Some, None, take, cond}
 use Rattle.std.specs.BTreeMap.{get}
 use Rattle.std.specs.Option.{option_or}
 use Rattle.ics_components.specs.declared.deferred_check.ZoneName.{ZoneName}
-use Rattle.ics_calendar.specs.PartsRead.{has_name}
+use Rattle.ics_calendar.specs.Inner.PartsRead.{has_name}
 use Rattle.ics_calendar.specs.ZoneTables.{name_cmp}
 use Rattle.ics_calendar.proofs.shared_faults.note_zone.Given as goal
 

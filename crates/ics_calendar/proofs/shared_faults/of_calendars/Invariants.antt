@@ -1,7 +1,7 @@
 use Rattle.std.proofs.Common.{◌≡◌, ℕ, take}
 use Rattle.std.specs.BTreeMap.{get}
 use Rattle.std.specs.Ordering.{nat_cmp}
-use Rattle.ics_calendar.specs.PartsRead.{calendar_fault}
+use Rattle.ics_calendar.specs.Inner.PartsRead.{calendar_fault}
 use Rattle.ics_calendar.proofs.shared_faults.of_calendars.Given as goal
 
 abbrev pub invariant-loop-pair : goal.invariant-loop-pair

@@ -2,7 +2,7 @@ use Rattle.std.proofs.Common.{sym, ap, ◌∙◌, cond, take, None, Option}
 use Rattle.ics_components.specs.declared.fault.Fault.{Fault}
 use Rattle.std.specs.BTreeMap.{get}
 use Rattle.std.specs.Option.{option_or}
-use Rattle.ics_calendar.specs.PartsRead.{fault_read, fault_under, has_name, zone_fault}
+use Rattle.ics_calendar.specs.Inner.PartsRead.{fault_read, fault_under, has_name, zone_fault}
 use Rattle.ics_calendar.specs.ZoneTables.{name_cmp}
 use Rattle.ics_calendar.proofs.FilesGiven.{or-none}
 use Rattle.ics_calendar.proofs.Shared.{none-both, zone-next}

@@ -1,5 +1,5 @@
 use Rattle.std.proofs.Common.{◌≡◌, ◌++◌}
-use Rattle.ics_calendar.specs.PartsRead.{sound_zones}
+use Rattle.ics_calendar.specs.Inner.PartsRead.{sound_zones}
 use Rattle.ics_calendar.proofs.shared_faults.sound_zones.Given as goal
 
 abbrev pub invariant-loop-zone : goal.invariant-loop-zone

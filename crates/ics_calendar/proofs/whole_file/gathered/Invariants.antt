@@ -1,6 +1,6 @@
 use Rattle.std.proofs.Common.{◌≡◌, ◌++◌}
 use Rattle.std.specs.List.{flat_map}
-use Rattle.ics_calendar.specs.PartsRead.{sound_in}
+use Rattle.ics_calendar.specs.Inner.PartsRead.{sound_in}
 use Rattle.ics_calendar.specs.SoundParts.{checks_of}
 use Rattle.ics_calendar.proofs.whole_file.gathered.Given as goal
 

@@ -2,7 +2,7 @@ use Rattle.std.proofs.Common.{◌≡◌, sym, ap, ◌∙◌, subst, IfOk}
 use Rattle.ics_components.specs.ParsedFileSeen.{ParsedFileSeen}
 use Rattle.ics_components.specs.ParsedFiles.{IsSoundParsed}
 use Rattle.ics_calendar.specs.Files.{UnresolvedSaid}
-use Rattle.ics_calendar.specs.PartsRead.{sound_in, whole_of}
+use Rattle.ics_calendar.specs.Inner.PartsRead.{sound_in, whole_of}
 use Rattle.ics_calendar.specs.Settled.{known_in, unresolved_by}
 use Rattle.ics_calendar.specs.SoundParts.{gathered_of}
 use Rattle.ics_calendar.specs.UnresolvedFiles.{unresolved_said}

@@ -2,7 +2,7 @@ use Rattle.std.proofs.Common.{◌≡◌, Option, List, ℕ, [], IfOk, IfSome, ap
 use Rattle.std.specs.Option.{option_and_then, option_copied}
 use Rattle.std.proofs.lemmas.Result.{IfOk-weaker}
 use Rattle.ics_components.specs.Parted.{IsSoundParted, if_parted, lines_with}
-use Rattle.ics_components.specs.PartsPass.{if_sure, round_begun, round_over}
+use Rattle.ics_components.specs.Inner.PartsPass.{if_sure, round_begun, round_over}
 use Rattle.ics_components.specs.PlacedLines.{placed, placed_from}
 use Rattle.ics_components.proofs.Placing.{parted_whole}
 use Rattle.ics_components.proofs.SoundPass.{sound_parts}

@@ -1,6 +1,6 @@
 use Rattle.std.proofs.Common.{sym, subst}
 use Rattle.ics_fields.specs.declared.frequency.Frequency.TheVariants.{Yearly}
-use Rattle.ics_rule.specs.Runs.{IsSpan}
+use Rattle.ics_rule.specs.Inner.Runs.{IsSpan}
 use Rattle.ics_rule.proofs.MonthDays.{year_starts}
 use Rattle.ics_rule.proofs.days.add_days_let_in.Goals as goal
 

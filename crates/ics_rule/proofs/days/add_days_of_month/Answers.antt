@@ -3,7 +3,7 @@ use Rattle.jiff_core.proofs.CalendarLemmas.{days_in_month_bounds}
 use Rattle.ics_fields.specs.Sets.{contains_wide}
 use Rattle.ics_rule.proofs.ScanLemmas.{none_has}
 use Rattle.ics_rule.proofs.MonthDays.{month_alone, span_month}
-use Rattle.ics_rule.specs.Runs.{counts_in_month}
+use Rattle.ics_rule.specs.Inner.Runs.{counts_in_month}
 use Rattle.ics_rule.proofs.days.add_days_of_month.Goals as goal
 use Rattle.ics_rule.proofs.days.add_days_of_month.Goals.{then-lets, else-lets}
 

@@ -1,7 +1,7 @@
 use Rattle.std.proofs.Common.{arith, ◌∙◌, ◌+◌, ◌&&◌, nat_lt, ap, sym}
 use Rattle.std.proofs.lemmas.Bool.{or_parts}
 use Rattle.ics_rule.specs.Candidates.{lets_date}
-use Rattle.ics_rule.specs.Runs.{is_in_month}
+use Rattle.ics_rule.specs.Inner.Runs.{is_in_month}
 use Rattle.ics_rule.proofs.MonthDays.{month_exact, month_candidate, narrowed}
 use Rattle.ics_rule.proofs.days.leave_let_in.Goals as goal
 

@@ -1,7 +1,7 @@
 use Rattle.std.proofs.Common.{◌≡◌, ℕ, ◌+◌, ◌*◌, ◌/◌, ◌<◌, ◌≤◌, false, subst, ap, ◌∙◌, arith}
 use Rattle.std.proofs.lemmas.Bool.Decides.{nat_tests}
-use Rattle.ics_rule.specs.Rounds.{seconds_of}
-use Rattle.ics_rule.specs.OpenPeriods.{is_open_period}
+use Rattle.ics_rule.specs.Inner.Rounds.{seconds_of}
+use Rattle.ics_rule.specs.Inner.OpenPeriods.{is_open_period}
 use Rattle.ics_rule.proofs.OpenLemmas.{day_seconds, none_open}
 use Rattle.ics_rule.proofs.NeverLemmas.{never_open}
 use Rattle.ics_rule.proofs.open_periods.has_no_time.Goals as goal

@@ -3,8 +3,8 @@ use Rattle.std.proofs.Common.{◌≡◌, ℕ, zero, suc, ◌+◌, ◌*◌, ◌/�
 use Rattle.ics_fields.specs.declared.frequency.Frequency.{Frequency}
 use Rattle.ics_rule.specs.declared.effective_rule.EffectiveRule.{EffectiveRule}
 use Rattle.ics_rule.specs.Kept.{count}
-use Rattle.ics_rule.specs.Rounds.{seconds_of, calendar_periods, IsCalendarRound}
-use Rattle.ics_rule.specs.OpenPeriods.{per_day, is_open_period}
+use Rattle.ics_rule.specs.Inner.Rounds.{seconds_of, calendar_periods, IsCalendarRound}
+use Rattle.ics_rule.specs.Inner.OpenPeriods.{per_day, is_open_period}
 use Rattle.ics_rule.proofs.Counts.{count-same, count-add, count_most}
 use Rattle.ics_rule.proofs.RoundLemmas.{repeats_often}
 use Rattle.ics_rule.proofs.OpenLemmas.{own_day}

@@ -1,6 +1,6 @@
 use Rattle.std.proofs.Common.{◌≡◌, ◌∙◌, ◌/◌, ap, sym}
 use Rattle.ics_rule.specs.Candidates.{lets_date}
-use Rattle.ics_rule.specs.OpenPeriods.{per_day}
+use Rattle.ics_rule.specs.Inner.OpenPeriods.{per_day}
 use Rattle.ics_rule.proofs.OpenLemmas.{day_seconds, day_in, day_out}
 use Rattle.ics_rule.proofs.open_periods.open_in_day.Goals as goal
 use Rattle.ics_rule.proofs.open_periods.open_in_day.Goals.{After-lets_date}

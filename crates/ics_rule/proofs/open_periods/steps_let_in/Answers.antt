@@ -1,6 +1,6 @@
 use Rattle.std.proofs.Common.{◌≡◌, ◌∙◌, ◌*◌, true, false, sym, ap, arith}
-use Rattle.ics_rule.specs.Rounds.{seconds_of}
-use Rattle.ics_rule.specs.OpenPeriods.{lets_own}
+use Rattle.ics_rule.specs.Inner.Rounds.{seconds_of}
+use Rattle.ics_rule.specs.Inner.OpenPeriods.{lets_own}
 use Rattle.ics_rule.proofs.OpenLemmas.{walk_first, walk_small, walk_on, walk_done}
 use Rattle.ics_rule.proofs.open_periods.steps_let_in.Goals as goal
 use Rattle.ics_rule.proofs.open_periods.steps_let_in.Goals.{then-lets_own, else-lets_own}

@@ -1,6 +1,6 @@
 use Rattle.std.proofs.Common.{◌-◌, ◌*◌}
-use Rattle.ics_rule.specs.Rounds.{seconds_of}
-use Rattle.ics_rule.specs.OpenPeriods.{lets_own}
+use Rattle.ics_rule.specs.Inner.Rounds.{seconds_of}
+use Rattle.ics_rule.specs.Inner.OpenPeriods.{lets_own}
 use Rattle.ics_rule.proofs.OpenLemmas.{IsStepWalk}
 use Rattle.ics_rule.proofs.open_periods.steps_let_in.Given as goal
 

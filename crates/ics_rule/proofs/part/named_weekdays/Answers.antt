@@ -1,7 +1,7 @@
 use Rattle.std.proofs.Common.{arith}
 use Rattle.std.proofs.lemmas.Bool.Decides.{nat_tests}
 use Rattle.ics_rule.proofs.ScanLemmas.{in_word}
-use Rattle.ics_rule.specs.NamedWeekdays.{named_below}
+use Rattle.ics_rule.specs.Inner.NamedWeekdays.{named_below}
 use Rattle.ics_rule.proofs.part.named_weekdays.Goals as goal
 
 pub loop-weekday-init : goal.loop-weekday-init

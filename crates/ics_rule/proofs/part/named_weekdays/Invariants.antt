@@ -1,5 +1,5 @@
 use Rattle.std.proofs.Common.{◌≡◌}
-use Rattle.ics_rule.specs.NamedWeekdays.{named_below}
+use Rattle.ics_rule.specs.Inner.NamedWeekdays.{named_below}
 use Rattle.ics_rule.proofs.part.named_weekdays.Given as goal
 
 abbrev pub invariant-loop-weekday : goal.invariant-loop-weekday

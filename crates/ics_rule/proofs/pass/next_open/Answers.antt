@@ -1,6 +1,6 @@
 use Rattle.std.proofs.lemmas.Grind.{common_steps}
 use Rattle.std.proofs.Common.{sym, subst, arith}
-use Rattle.ics_rule.specs.Searches.{NoneLetIn}
+use Rattle.ics_rule.specs.Inner.Searches.{NoneLetIn}
 use Rattle.ics_rule.proofs.PassLemmas.{none_on_days, none_on_clock}
 use Rattle.ics_rule.proofs.pass.next_open.Goals as goal
 

@@ -1,5 +1,5 @@
 use Rattle.std.proofs.Common.{◌≡◌, arith}
-use Rattle.ics_rule.specs.Rounds.{seconds_of}
+use Rattle.ics_rule.specs.Inner.Rounds.{seconds_of}
 use Rattle.ics_rule.proofs.EvenLemmas.{even_of_rounds, even_months, even_years}
 use Rattle.ics_rule.proofs.rounds.even_round_of.Goals as goal
 use Rattle.ics_rule.proofs.rounds.even_round_of.Goals.{in-Yearly, in_default}

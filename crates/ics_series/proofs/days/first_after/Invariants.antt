@@ -1,5 +1,5 @@
 use Rattle.std.proofs.Common.{◌≡◌, drop}
-use Rattle.ics_series.specs.Spans.{first_of}
+use Rattle.ics_series.specs.Inner.Spans.{first_of}
 use Rattle.ics_series.proofs.days.first_after.Given as goal
 
 -- with the spans from this one on it is what all give

@@ -3,7 +3,7 @@ use Rattle.std.specs.Int.{int_max, int_min}
 use Rattle.std.proofs.lemmas.Int.{int_max_is, int_min_is, ints, to_z-of_z}
 use Rattle.ics_fields.specs.Locals.{day_of_local, midnight}
 use Rattle.ics_series.specs.OnDays.{first_near, last_near}
-use Rattle.ics_series.specs.Spans.{first_of}
+use Rattle.ics_series.specs.Inner.Spans.{first_of}
 use Rattle.ics_series.specs.declared.span.Span.{Span}
 use Rattle.ics_series.specs.declared.window.Window.{Window}
 use Rattle.ics_series.proofs.NearDayLemmas.{day-under, day-within}

@@ -1,5 +1,5 @@
 use Rattle.ics_series.specs.Entry.{entry_cmp}
-use Rattle.ics_series.specs.EntryLaws.{entry_total}
+use Rattle.ics_series.specs.Inner.EntryLaws.{entry_total}
 use Rattle.ics_series.specs.Meets.{IsListed}
 use Rattle.ics_series.proofs.ListingLemmas.{one-listing}
 use Rattle.ics_series.proofs.laws.one_listing.Goals as goal

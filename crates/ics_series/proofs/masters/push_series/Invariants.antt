@@ -3,8 +3,8 @@ use Rattle.std.specs.List.{flat_map}
 use Rattle.ics_event.specs.Event.{said_by}
 use Rattle.ics_series.specs.Clocks.{display_clock}
 use Rattle.ics_series.specs.Entry.{key_rank}
-use Rattle.ics_series.specs.Marks.{AreMarks}
-use Rattle.ics_series.specs.Masters.{HasLists, HasSources}
+use Rattle.ics_series.specs.Inner.Marks.{AreMarks}
+use Rattle.ics_series.specs.Inner.Masters.{HasLists, HasSources}
 use Rattle.ics_series.specs.AgendaParts.{part_coming, part_sources}
 use Rattle.ics_series.specs.Versions.{seen}
 use Rattle.ics_series.proofs.masters.push_series.Given as goal

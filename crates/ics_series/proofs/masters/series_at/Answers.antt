@@ -4,7 +4,7 @@ use Rattle.ics_event.specs.Event.{said_by, IsEventOf}
 use Rattle.ics_event.specs.declared.event.Event.{Event}
 use Rattle.ics_series.specs.Clocks.{display_clock}
 use Rattle.ics_series.specs.Entry.{key_rank}
-use Rattle.ics_series.specs.Masters.{Recurs}
+use Rattle.ics_series.specs.Inner.Masters.{Recurs}
 use Rattle.ics_series.specs.Sources.{IsFrom}
 use Rattle.ics_series.specs.Versions.{seen}
 use Rattle.ics_series.specs.FileZones.{clocks_in}

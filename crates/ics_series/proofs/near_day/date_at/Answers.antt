@@ -1,7 +1,7 @@
 use Rattle.std.proofs.Common.{rules, ◌≡◌, ◌+ℤ◌, ℕ, ℤ, ◌<◌, pos, arith, to_z, of_z, w32, w64, ◌≤ℤ◌, ◌<ℤ◌, ◌-ℤ◌, FitsSigned}
 use Rattle.std.proofs.lemmas.Int.{ints, to_z-of_z}
 use Rattle.ics_fields.specs.Days.{IsDayNumber}
-use Rattle.ics_zone.specs.Near.{offset_near}
+use Rattle.ics_zone.specs.Inner.Near.{offset_near}
 use Rattle.ics_zone.specs.Seconds.{IsNear}
 use Rattle.ics_fields.specs.Locals.{seconds_at}
 use Rattle.ics_series.specs.WindowBounds.{occurrence_first, occurrence_end}

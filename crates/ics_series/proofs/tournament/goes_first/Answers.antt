@@ -1,6 +1,6 @@
 use Rattle.std.proofs.Common.{map, option_map}
 use Rattle.ics_series.specs.Entry.{entry_of}
-use Rattle.ics_series.specs.Tournament.{turn_of}
+use Rattle.ics_series.specs.Inner.Tournament.{turn_of}
 use Rattle.ics_series.proofs.LeadLemmas.{holds-cmp, turn-at}
 use Rattle.ics_series.proofs.TournamentLemmas.{lead-by}
 use Rattle.ics_series.proofs.UidLemmas.{head-order, held-at}

@@ -1,7 +1,7 @@
 use Rattle.std.proofs.lemmas.Grind.{common_steps}
 use Rattle.std.proofs.Common.{◌≡◌, ◌<◌, length, map, ◌∙◌, ap, arith}
 use Rattle.std.proofs.lemmas.List.Elements.{All-set}
-use Rattle.ics_series.specs.Tournament.{above, turn_of}
+use Rattle.ics_series.specs.Inner.Tournament.{above, turn_of}
 use Rattle.ics_series.proofs.TournamentLemmas.{above-zero, settle_up}
 use Rattle.ics_series.proofs.tournament.replay.Goals as goal
 

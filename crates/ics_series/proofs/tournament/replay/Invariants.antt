@@ -1,5 +1,5 @@
 use Rattle.std.proofs.Common.{◌<◌, All, length, map}
-use Rattle.ics_series.specs.Tournament.{turn_of, AreSettledBut}
+use Rattle.ics_series.specs.Inner.Tournament.{turn_of, AreSettledBut}
 use Rattle.ics_series.proofs.tournament.replay.Given as goal
 
 abbrev pub invariant-loop-node : goal.invariant-loop-node

@@ -2,7 +2,7 @@ use Rattle.std.proofs.lemmas.Grind.{common_steps}
 use Rattle.std.proofs.Common.{◌≡◌, ◌-◌, ◌<◌, length, map, ap, ◌∙◌, arith, length-set}
 use Rattle.std.proofs.lemmas.List.{length-replicate}
 use Rattle.std.proofs.lemmas.List.Elements.{All-set}
-use Rattle.ics_series.specs.Tournament.{turn_of}
+use Rattle.ics_series.specs.Inner.Tournament.{turn_of}
 use Rattle.ics_series.proofs.TournamentLemmas.{settle_down, zeros-within}
 use Rattle.ics_series.proofs.tournament.winners.Goals as goal
 

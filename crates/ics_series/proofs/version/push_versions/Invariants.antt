@@ -2,7 +2,7 @@ use Rattle.std.proofs.Common.{◌≡◌, ℕ, ◌<◌, ◌++◌, Some, map, drop
 use Rattle.ics_event.specs.declared.event.Event.{Event}
 use Rattle.ics_series.specs.Versions.{label_by, placed_from, seen}
 use Rattle.ics_series.specs.FileZones.{clocks_in}
-use Rattle.ics_series.specs.Whole.{IsReadEvent}
+use Rattle.ics_series.specs.Inner.Whole.{IsReadEvent}
 use Rattle.ics_series.proofs.version.push_versions.Given as goal
 
 abbrev pub invariant-loop-place : goal.invariant-loop-place

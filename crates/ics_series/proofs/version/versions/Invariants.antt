@@ -3,7 +3,7 @@ use Rattle.ics_event.specs.Event.{said_by}
 use Rattle.ics_series.specs.Clocks.{display_clock}
 use Rattle.ics_series.specs.PlacedEvents.{IsPlaced, Placed}
 use Rattle.ics_series.specs.Versions.{label_of, placed_in, seen}
-use Rattle.ics_series.specs.Whole.{IsReadEvent}
+use Rattle.ics_series.specs.Inner.Whole.{IsReadEvent}
 use Rattle.ics_series.proofs.version.versions.Given as goal
 
 abbrev pub invariant-loop-number : goal.invariant-loop-number

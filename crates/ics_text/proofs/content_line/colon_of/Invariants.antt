@@ -1,5 +1,5 @@
 use Rattle.std.proofs.Common.{◌≡◌, ◌≤◌, ◌-◌, length, Some}
-use Rattle.ics_text.specs.Runs.{colon_behind, past}
+use Rattle.ics_text.specs.Inner.Runs.{colon_behind, past}
 use Rattle.ics_text.proofs.content_line.colon_of.Given as goal
 
 abbrev pub invariant-loop-at : goal.invariant-loop-at

@@ -1,6 +1,6 @@
 use Rattle.std.proofs.Common.{◌≡◌, ◌≤◌, ◌-◌, length, Some}
 use Rattle.ics_text.specs.ScanSteps.{BeforeValue, AfterQuotes, colon_from}
-use Rattle.ics_text.specs.Runs.{past}
+use Rattle.ics_text.specs.Inner.Runs.{past}
 use Rattle.ics_text.proofs.content_line.values_len.Given as goal
 
 abbrev pub invariant-loop-at : goal.invariant-loop-at

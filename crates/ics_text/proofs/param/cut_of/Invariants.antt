@@ -1,5 +1,5 @@
 use Rattle.std.proofs.Common.{◌≡◌, ◌+◌, drop, false, option_map}
-use Rattle.ics_text.specs.Pieces.{cut_from}
+use Rattle.ics_text.specs.Inner.Pieces.{cut_from}
 use Rattle.ics_text.proofs.param.cut_of.Given as goal
 
 abbrev pub invariant-loop-i : goal.invariant-loop-i

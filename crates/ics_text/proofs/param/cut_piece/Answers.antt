@@ -1,6 +1,6 @@
 use Rattle.std.proofs.Common.{◌∙◌, sym, ap, false, ◌+◌}
 use Rattle.std.proofs.lemmas.List.{take_rest}
-use Rattle.ics_text.specs.Pieces.{pieces_by}
+use Rattle.ics_text.specs.Inner.Pieces.{pieces_by}
 use Rattle.ics_text.proofs.Parameters.{cut-pieces}
 use Rattle.ics_text.proofs.param.cut_piece.Goals as goal
 

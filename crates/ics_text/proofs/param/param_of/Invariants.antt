@@ -1,6 +1,6 @@
 use Rattle.std.proofs.Common.{◌≡◌, length, ℕ, ◌+◌, Option, Some, None, List, option_copied}
 use Rattle.ics_text.specs.ContentLines.{value_among, param_of}
-use Rattle.ics_text.specs.Pieces.{pieces_behind}
+use Rattle.ics_text.specs.Inner.Pieces.{pieces_behind}
 use Rattle.ics_text.proofs.param.param_of.Given as goal
 
 abbrev left : Option (List ℕ) → ℕ

@@ -2,7 +2,7 @@ use Rattle.std.proofs.Common.{◌≡◌, ◌≢◌, ◌==◌, ℕ, false, [], �
 use Rattle.std.proofs.lemmas.Bool.{ne_eqb}
 use Rattle.std.proofs.lemmas.Grind.{common_steps}
 use Rattle.ics_values.specs.Digits.{upper}
-use Rattle.ics_values.specs.Amounts.{LacksFront}
+use Rattle.ics_values.specs.Inner.Amounts.{LacksFront}
 use Rattle.ics_values.proofs.ShapeLemmas.{lacks-letter}
 use Rattle.ics_values.proofs.amounts.behind_letter.Goals as goal
 

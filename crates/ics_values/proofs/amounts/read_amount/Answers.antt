@@ -2,7 +2,7 @@ use Rattle.std.proofs.Common.{◌≡◌, false, [], ◌∷◌, take, drop}
 use Rattle.ics_values.specs.Digits.{digit_count, number_of}
 use Rattle.ics_values.specs.Texts.{begins_with}
 use Rattle.ics_values.specs.Durations.{shape}
-use Rattle.ics_values.specs.Amounts.{IsLetter, capped}
+use Rattle.ics_values.specs.Inner.Amounts.{IsLetter, capped}
 use Rattle.ics_values.proofs.ShapeLemmas.{digit_count-digits, digit_count-zero, digit_count-some, lacks-zero, shape-digits, is_amount}
 use Rattle.ics_values.proofs.amounts.read_amount.Goals as goal
 

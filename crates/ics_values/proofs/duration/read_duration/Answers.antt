@@ -6,7 +6,7 @@ use Rattle.ics_values.specs.Digits.{greatest_number}
 use Rattle.ics_values.specs.Texts.{begins, is_sign, is_minus, unsigned}
 use Rattle.ics_values.specs.Durations.{amount, weeks, days, hours, minutes, seconds, is_duration_text, amounts_fit, duration_of}
 use Rattle.ics_values.specs.declared.duration.DurationFault.TheVariants.{NumberTooLarge}
-use Rattle.ics_values.specs.Amounts.{HasAmounts, capped, each_fits}
+use Rattle.ics_values.specs.Inner.Amounts.{HasAmounts, capped, each_fits}
 use Rattle.ics_values.proofs.duration.read_duration.Goals as goal
 
 are_small : (a : Amounts) → each_fits a ≡ true → (a.weeks ≤ greatest_number) × (a.days ≤ greatest_number) × (a.hours ≤ greatest_number)

@@ -1,7 +1,7 @@
 use Rattle.std.proofs.Common.{◌≡◌, ◌+◌, length}
 use Rattle.std.specs.Option.{option_copied, option_map_or}
 use Rattle.ics_values.specs.RuleTexts.{pieces, without_last}
-use Rattle.ics_values.specs.RuleDrafts.{walk, pieces_behind, part_taken, no_parts}
+use Rattle.ics_values.specs.Inner.RuleDrafts.{walk, pieces_behind, part_taken, no_parts}
 use Rattle.ics_values.proofs.rule_text.draft_of.Given as goal
 
 abbrev pub invariant-parts : goal.invariant-parts

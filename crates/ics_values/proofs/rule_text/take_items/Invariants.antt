@@ -1,7 +1,7 @@
 use Rattle.std.proofs.Common.{◌≡◌, ◌+◌, length}
 use Rattle.std.specs.Option.{option_copied, option_map_or}
 use Rattle.ics_values.specs.RuleTexts.{pieces}
-use Rattle.ics_values.specs.RuleDrafts.{walk, pieces_behind, item_taken}
+use Rattle.ics_values.specs.Inner.RuleDrafts.{walk, pieces_behind, item_taken}
 use Rattle.ics_values.proofs.rule_text.take_items.Given as goal
 
 abbrev pub invariant-items : goal.invariant-items

@@ -4,7 +4,7 @@ use Rattle.jiff_core.specs.Calendar.{IsWithin}
 use Rattle.std.proofs.lemmas.Int.{ints, clamps, to_z-of_z}
 use Rattle.ics_zone.specs.Observances.{epoch}
 use Rattle.ics_rule.specs.PeriodNumbers.{rules_end}
-use Rattle.ics_zone.specs.OnsetSets.{IsShownBy}
+use Rattle.ics_zone.specs.Inner.OnsetSets.{IsShownBy}
 use Rattle.ics_zone.proofs.clock.shown_by.Goals as goal
 
 -- the sum that is clamped twice

@@ -1,5 +1,5 @@
 use Rattle.std.proofs.Common.{◌-◌}
-use Rattle.ics_zone.specs.Latest.{IsKnownLast}
+use Rattle.ics_zone.specs.Inner.Latest.{IsKnownLast}
 use Rattle.ics_zone.proofs.kept.last_from.Given as goal
 
 abbrev pub invariant-loop-next : goal.invariant-loop-next

@@ -1,6 +1,6 @@
 use Rattle.std.proofs.Common.{◌≡◌, List, length, pos, ◌+ℤ◌, ◌≤ℤ◌}
 use Rattle.ics_zone.specs.Observances.{ObservanceSaid}
-use Rattle.ics_zone.specs.ZoneOnsets.{AreOnsetsOfAll}
+use Rattle.ics_zone.specs.Inner.ZoneOnsets.{AreOnsetsOfAll}
 use Rattle.ics_zone.proofs.MarkLemmas.{AreOverrides, IsClearFrom}
 use Rattle.ics_zone.proofs.latest.clear_after.Given as goal
 

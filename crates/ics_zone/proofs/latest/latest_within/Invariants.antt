@@ -1,6 +1,6 @@
 use Rattle.std.proofs.Common.{List}
 use Rattle.ics_zone.specs.Observances.{ObservanceSaid}
-use Rattle.ics_zone.specs.ZoneOnsets.{AreOnsetsOfAll, IsLatestWithin}
+use Rattle.ics_zone.specs.Inner.ZoneOnsets.{AreOnsetsOfAll, IsLatestWithin}
 use Rattle.ics_zone.proofs.latest.latest_within.Given as goal
 
 abbrev pub invariant-loop-place : goal.invariant-loop-place

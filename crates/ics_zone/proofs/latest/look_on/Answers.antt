@@ -1,6 +1,6 @@
 use Rattle.std.proofs.Common.{◌∙◌, ◌<◌, arith, length, length-set}
 use Rattle.std.proofs.lemmas.List.Elements.{All-set}
-use Rattle.ics_zone.specs.OnsetSets.{IsSound}
+use Rattle.ics_zone.specs.Inner.OnsetSets.{IsSound}
 use Rattle.ics_zone.proofs.ZoneSteps.{onsets_set}
 use Rattle.ics_zone.proofs.latest.look_on.Goals as goal
 use Rattle.ics_zone.proofs.latest.look_on.Goals.{then-not-is_quiet, else-not-is_quiet}

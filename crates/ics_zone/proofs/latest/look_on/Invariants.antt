@@ -1,7 +1,7 @@
 use Rattle.std.proofs.Common.{List, All, ◌≡◌, length}
 use Rattle.ics_zone.specs.Observances.{ObservanceSaid}
-use Rattle.ics_zone.specs.OnsetSets.{IsSound}
-use Rattle.ics_zone.specs.ZoneOnsets.{AreOnsetsOfAll}
+use Rattle.ics_zone.specs.Inner.OnsetSets.{IsSound}
+use Rattle.ics_zone.specs.Inner.ZoneOnsets.{AreOnsetsOfAll}
 use Rattle.ics_zone.proofs.latest.look_on.Given as goal
 
 abbrev pub invariant-loop-k : goal.invariant-loop-k

@@ -1,6 +1,6 @@
 use Rattle.std.proofs.Common.{List, ◌<ℤ◌, ◌≤ℤ◌}
 use Rattle.ics_zone.specs.Observances.{ObservanceSaid}
-use Rattle.ics_zone.specs.ZoneOnsets.{AreOnsetsOfAll}
+use Rattle.ics_zone.specs.Inner.ZoneOnsets.{AreOnsetsOfAll}
 use Rattle.ics_zone.proofs.ZoneSteps.{NoneBetweenTo}
 use Rattle.ics_zone.proofs.latest.next_onset.Given as goal
 

@@ -2,7 +2,7 @@ use Rattle.std.proofs.Common.{rules, arith, SFits, w64, to_z, of_z, sym, subst, 
 use Rattle.std.specs.Int.{int_max}
 use Rattle.std.proofs.lemmas.Int.{ints, clamps, to_z-of_z}
 use Rattle.std.proofs.lemmas.Option.{slice_get_within}
-use Rattle.ics_zone.specs.OnsetSets.{IsSound}
+use Rattle.ics_zone.specs.Inner.OnsetSets.{IsSound}
 use Rattle.ics_zone.proofs.ZoneSteps.{past_now, past_before}
 use Rattle.ics_zone.proofs.latest.next_past.Goals as goal
 

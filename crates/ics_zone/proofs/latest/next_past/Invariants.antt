@@ -1,6 +1,6 @@
 use Rattle.std.proofs.Common.{List, pos, ◌+ℤ◌, ◌<ℤ◌, ◌≤ℤ◌}
 use Rattle.ics_zone.specs.Observances.{ObservanceSaid}
-use Rattle.ics_zone.specs.ZoneOnsets.{AreOnsetsOfAll}
+use Rattle.ics_zone.specs.Inner.ZoneOnsets.{AreOnsetsOfAll}
 use Rattle.ics_zone.proofs.ZoneSteps.{IsNextPastTo}
 use Rattle.ics_zone.proofs.latest.next_past.Given as goal
 

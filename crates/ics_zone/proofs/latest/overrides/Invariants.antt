@@ -1,6 +1,6 @@
 use Rattle.std.proofs.Common.{List}
 use Rattle.ics_zone.specs.Observances.{ObservanceSaid}
-use Rattle.ics_zone.specs.ZoneOnsets.{AreOnsetsOfAll}
+use Rattle.ics_zone.specs.Inner.ZoneOnsets.{AreOnsetsOfAll}
 use Rattle.ics_zone.proofs.ZoneSteps.{AreLessTo}
 use Rattle.ics_zone.proofs.latest.overrides.Given as goal
 

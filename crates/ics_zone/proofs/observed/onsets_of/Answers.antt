@@ -1,7 +1,7 @@
 use Rattle.std.proofs.lemmas.List.{map_more, take_all}
 use Rattle.std.proofs.lemmas.Slice.Zip.{all_zipped_more}
 use Rattle.ics_zone.specs.Observances.{observance_said}
-use Rattle.ics_zone.specs.OnsetSets.{AreOnsetsOf}
+use Rattle.ics_zone.specs.Inner.OnsetSets.{AreOnsetsOf}
 use Rattle.ics_zone.proofs.ReadLemmas.{onsets_of_all}
 use Rattle.ics_zone.proofs.observed.onsets_of.Goals as goal
 

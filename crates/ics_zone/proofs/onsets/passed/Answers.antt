@@ -2,7 +2,7 @@ use Rattle.std.proofs.Common.{List, ℤ, rules, arith, int_le}
 use Rattle.std.specs.List.Sorted.{IsPartitionedBy}
 use Rattle.std.proofs.lemmas.Int.{ints}
 use Rattle.std.proofs.lemmas.List.Sorted.{IsPartitionPoint-from_clause}
-use Rattle.ics_zone.specs.Latest.{IsInOrder}
+use Rattle.ics_zone.specs.Inner.Latest.{IsInOrder}
 use Rattle.ics_zone.proofs.Cases.{int_le_true, int_le_false, true_int_le}
 use Rattle.ics_zone.proofs.onsets.passed.Goals as goal
 

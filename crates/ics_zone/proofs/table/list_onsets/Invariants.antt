@@ -1,7 +1,7 @@
 use Rattle.std.proofs.Common.{◌⊎◌, Contains, ℤ, pos, ◌+ℤ◌, ◌-ℤ◌, ◌<ℤ◌, ◌≤ℤ◌}
 use Rattle.ics_zone.specs.ZoneOffsets.{natural}
-use Rattle.ics_zone.specs.OnsetSets.{Has}
-use Rattle.ics_zone.specs.Tables.{onset_number, IsNumberedBy}
+use Rattle.ics_zone.specs.Inner.OnsetSets.{Has}
+use Rattle.ics_zone.specs.Inner.Tables.{onset_number, IsNumberedBy}
 use Rattle.ics_zone.proofs.table.list_onsets.Given as goal
 
 abbrev pub invariant-loop-at : goal.invariant-loop-at

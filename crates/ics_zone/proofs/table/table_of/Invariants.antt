@@ -1,7 +1,7 @@
 use Rattle.std.proofs.Common.{List}
 use Rattle.ics_zone.specs.Observances.{ObservanceSaid}
-use Rattle.ics_zone.specs.ZoneOnsets.{AreOnsetsOfAll}
-use Rattle.ics_zone.specs.Tables.{AreNumbered}
+use Rattle.ics_zone.specs.Inner.ZoneOnsets.{AreOnsetsOfAll}
+use Rattle.ics_zone.specs.Inner.Tables.{AreNumbered}
 use Rattle.ics_zone.proofs.table.table_of.Given as goal
 
 abbrev pub invariant-loop-place : goal.invariant-loop-place

@@ -1,5 +1,5 @@
 use Rattle.ics_zone.specs.ZoneOffsets.{zone_offset}
-use Rattle.ics_zone.specs.ZoneBounds.{zone_offset_short}
+use Rattle.ics_zone.specs.Inner.ZoneBounds.{zone_offset_short}
 use Rattle.ics_zone.proofs.MomentLemmas.{moment_unique, moment_found}
 use Rattle.ics_zone.proofs.zone_laws.one_moment.Goals as goal
 

@@ -2,7 +2,7 @@ use Rattle.std.proofs.lemmas.Grind.{common_steps}
 use Rattle.std.proofs.Common.{◌≡◌, ◌≤ℤ◌, ◌<ℤ◌, ◌+ℤ◌, ℤ, Some, None, arith, rules, FitsSigned, w64}
 use Rattle.std.proofs.lemmas.Int.{to_z-of_z, ints}
 use Rattle.ics_fields.specs.Locals.{local_seconds, whole_days}
-use Rattle.ics_zone.specs.Near.{moment_near}
+use Rattle.ics_zone.specs.Inner.Near.{moment_near}
 use Rattle.ics_zone.specs.ZoneSaid.{display_said, said_moment}
 use Rattle.ics_zone.specs.declared.display.Display.{Display}
 use Rattle.khal_list.specs.Windows.{between, first_start, last_end}

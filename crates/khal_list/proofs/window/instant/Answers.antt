@@ -1,6 +1,6 @@
 use Rattle.std.proofs.Common.{◌-ℤ◌, arith}
 use Rattle.std.proofs.lemmas.Int.{ints}
-use Rattle.ics_zone.specs.Near.{moment_near}
+use Rattle.ics_zone.specs.Inner.Near.{moment_near}
 use Rattle.ics_zone.specs.Seconds.{IsNear}
 use Rattle.ics_fields.specs.Locals.{local_seconds}
 use Rattle.khal_list.proofs.window.instant.Goals as goal

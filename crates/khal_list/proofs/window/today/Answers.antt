@@ -1,7 +1,7 @@
 use Rattle.std.proofs.lemmas.Grind.{common_steps}
 use Rattle.std.proofs.Common.{◌≡◌, ◌+ℤ◌, arith}
 use Rattle.std.proofs.lemmas.Int.{to_z-of_z, ints}
-use Rattle.ics_zone.specs.Near.{offset_near}
+use Rattle.ics_zone.specs.Inner.Near.{offset_near}
 use Rattle.ics_fields.specs.Locals.{seconds_at}
 use Rattle.ics_zone.specs.ZoneSaid.{display_said, said_offset}
 use Rattle.khal_list.proofs.window.today.Goals as goal

@@ -4,7 +4,7 @@ use Rattle.ics_zone.specs.ZoneSaid.{display_said}
 use Rattle.clap.specs.Words.{subcommand_rows_of}
 use Rattle.khal_list.proofs.RequestLemmas.{good_token, has_window, no_format, no_token}
 use Rattle.khal_words.specs.SpanTexts.{span_by}
-use Rattle.khal_list.specs.WindowEnds.{ends_by}
+use Rattle.khal_list.specs.Inner.WindowEnds.{ends_by}
 use Rattle.khal_list.specs.Windows.{ends_of}
 use Rattle.khal_list.proofs.words.request_of.Goals as goal
 

@@ -3,10 +3,10 @@ use Rattle.std.proofs.lemmas.List.{append-nil}
 use Rattle.ics_components.specs.declared.fault.Fault.{Fault}
 use Rattle.ics_components.specs.ParsedFileSeen.{ParsedFileSeen}
 use Rattle.ics_components.specs.PartFaults.{earlier}
-use Rattle.ics_calendar.specs.Labels.{AreLabels, AreNumbered}
+use Rattle.ics_calendar.specs.Inner.Labels.{AreLabels, AreNumbered}
 use Rattle.ics_components.specs.Parted.{PartedComponentSeen}
-use Rattle.ics_calendar.specs.PartsRead.{Numbered, numbered_with, searched, sound_in, with_event}
-use Rattle.ics_calendar.specs.SharedFaults.{needed_by, shared_beside}
+use Rattle.ics_calendar.specs.Inner.PartsRead.{Numbered, numbered_with, searched, sound_in, with_event}
+use Rattle.ics_calendar.specs.Inner.SharedFaults.{needed_by, shared_beside}
 use Rattle.ics_calendar.proofs.labels.Labels.add.Goals as goal
 
 pub returns-in-Ok : goal.returns-in-Ok

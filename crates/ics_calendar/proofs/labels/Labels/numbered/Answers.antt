@@ -1,8 +1,8 @@
 use Rattle.std.proofs.Common.{◌≡◌, map, refl, sym, ap, ◌∙◌}
 use Rattle.std.proofs.lemmas.Result.{IfOk-weaker}
-use Rattle.ics_calendar.specs.Labels.{AreLabels}
-use Rattle.ics_calendar.specs.PartsRead.{labelled, rise_from, searched}
-use Rattle.ics_calendar.specs.SharedFaults.{needed_by}
+use Rattle.ics_calendar.specs.Inner.Labels.{AreLabels}
+use Rattle.ics_calendar.specs.Inner.PartsRead.{labelled, rise_from, searched}
+use Rattle.ics_calendar.specs.Inner.SharedFaults.{needed_by}
 use Rattle.ics_calendar.proofs.AloneParts.{alike}
 use Rattle.ics_calendar.proofs.labels.Labels.numbered.Goals as goal
 

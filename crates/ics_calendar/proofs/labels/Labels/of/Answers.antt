@@ -1,9 +1,9 @@
 use Rattle.std.proofs.Common.{[], ◌∷◌, map, sym, ap, ◌∙◌, subst}
 use Rattle.std.proofs.lemmas.Grind.{fold-append}
 use Rattle.std.proofs.lemmas.List.{map-append}
-use Rattle.ics_calendar.specs.Labels.{AreLabels}
-use Rattle.ics_calendar.specs.PartsRead.{labelled, nothing_labelled, searched, with_event}
-use Rattle.ics_calendar.specs.SharedFaults.{needed_by}
+use Rattle.ics_calendar.specs.Inner.Labels.{AreLabels}
+use Rattle.ics_calendar.specs.Inner.PartsRead.{labelled, nothing_labelled, searched, with_event}
+use Rattle.ics_calendar.specs.Inner.SharedFaults.{needed_by}
 use Rattle.ics_calendar.proofs.labels.Labels.of.Goals as goal
 
 pub loop-event-preserved : goal.loop-event-preserved

@@ -1,7 +1,7 @@
 use Rattle.std.proofs.Common.{map}
-use Rattle.ics_calendar.specs.Labels.{AreLabels}
-use Rattle.ics_calendar.specs.PartsRead.{labelled, searched}
-use Rattle.ics_calendar.specs.SharedFaults.{needed_by}
+use Rattle.ics_calendar.specs.Inner.Labels.{AreLabels}
+use Rattle.ics_calendar.specs.Inner.PartsRead.{labelled, searched}
+use Rattle.ics_calendar.specs.Inner.SharedFaults.{needed_by}
 use Rattle.ics_calendar.proofs.labels.Labels.of.Given as goal
 
 abbrev pub invariant-loop-event : goal.invariant-loop-event

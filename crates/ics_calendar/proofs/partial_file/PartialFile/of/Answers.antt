@@ -1,6 +1,6 @@
 use Rattle.std.proofs.Common.{◌≡◌, sym, ap, ◌∙◌, false, None}
 use Rattle.ics_components.specs.Parted.{PartedFileSeen}
-use Rattle.ics_calendar.specs.PartsRead.{first_of, is_on_first}
+use Rattle.ics_calendar.specs.Inner.PartsRead.{first_of, is_on_first}
 use Rattle.ics_calendar.proofs.OnePass.{one-pass-refuses, one-pass-says, one-pass-whole}
 use Rattle.ics_calendar.proofs.partial_file.PartialFile.of.Goals as goal
 

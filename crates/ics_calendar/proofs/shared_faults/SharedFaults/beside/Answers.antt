@@ -4,7 +4,7 @@ use Rattle.std.specs.Ordering.{nat_cmp}
 use Rattle.std.proofs.lemmas.Grind.{fold-append}
 use Rattle.ics_components.specs.declared.fault.Fault.{Fault}
 use Rattle.ics_components.specs.PartFaults.{earlier}
-use Rattle.ics_calendar.specs.SharedFaults.{shared_beside}
+use Rattle.ics_calendar.specs.Inner.SharedFaults.{shared_beside}
 use Rattle.ics_calendar.specs.ZoneTables.{name_cmp}
 use Rattle.ics_calendar.proofs.PartsGiven.{next-take}
 use Rattle.ics_calendar.proofs.shared_faults.SharedFaults.beside.Goals as goal

@@ -1,6 +1,6 @@
 use Rattle.std.proofs.Common.{subst, ◌++◌, take}
 use Rattle.ics_calendar.specs.Settled.{all_unknown}
-use Rattle.ics_calendar.specs.UnknownNames.{AreNames}
+use Rattle.ics_calendar.specs.Inner.UnknownNames.{AreNames}
 use Rattle.ics_calendar.specs.ZoneTables.{known_by}
 use Rattle.ics_calendar.proofs.PartsGiven.{unknown-more}
 use Rattle.ics_calendar.proofs.unknown_zones.UnknownNames.add.Goals as goal

@@ -1,7 +1,7 @@
 use Rattle.std.proofs.Common.{◌≡◌, length}
 use Rattle.std.specs.Option.{option_copied}
 use Rattle.ics_components.specs.Parted.{lines_with}
-use Rattle.ics_components.specs.PartsPass.{round_over}
+use Rattle.ics_components.specs.Inner.PartsPass.{round_over}
 use Rattle.ics_components.specs.PlacedLines.{placed_from}
 use Rattle.ics_components.proofs.parts_round.PartsRound.lines.Given as goal
 

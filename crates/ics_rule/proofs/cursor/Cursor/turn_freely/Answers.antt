@@ -1,6 +1,6 @@
 use Rattle.std.proofs.Common.{◌∙◌, ap, arith}
 use Rattle.ics_rule.specs.declared.cursor.Cursor.{Cursor}
-use Rattle.ics_rule.specs.Searches.{after_look}
+use Rattle.ics_rule.specs.Inner.Searches.{after_look}
 use Rattle.ics_rule.proofs.CursorLemmas.{looks_none, looks_once}
 use Rattle.ics_rule.proofs.cursor.Cursor.turn_freely.Goals as goal
 use Rattle.ics_rule.proofs.cursor.Cursor.turn_freely.Goals.{in-Some+else-number, in_default}

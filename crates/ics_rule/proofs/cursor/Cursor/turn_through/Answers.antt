@@ -1,5 +1,5 @@
 use Rattle.std.proofs.Common.{◌≡◌, ◌∙◌, ◌+◌, ◌-◌, sym, arith}
-use Rattle.ics_rule.specs.Searches.{IsTurned}
+use Rattle.ics_rule.specs.Inner.Searches.{IsTurned}
 use Rattle.ics_rule.proofs.PeriodLemmas.{begun}
 use Rattle.ics_rule.proofs.CursorLemmas.{moved_none}
 use Rattle.ics_rule.proofs.CountingLemmas.{counting_begins, counting_goes_on, counting_stopped}

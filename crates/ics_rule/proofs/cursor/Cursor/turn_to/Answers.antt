@@ -1,5 +1,5 @@
 use Rattle.std.proofs.Common.{◌+◌, ◌-◌, ◌∙◌, inl, inr, ap, refl, arith}
-use Rattle.ics_rule.specs.Searches.{IsPassed}
+use Rattle.ics_rule.specs.Inner.Searches.{IsPassed}
 use Rattle.ics_rule.proofs.CursorLemmas.{looks_none, looks_once}
 use Rattle.ics_rule.proofs.CountLemmas.{IsLeft, step_low, turned_first, turned_on, counted_out, counted_small}
 use Rattle.ics_rule.proofs.cursor.Cursor.turn_to.Goals as goal

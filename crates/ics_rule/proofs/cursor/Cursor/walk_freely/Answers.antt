@@ -3,7 +3,7 @@ use Rattle.ics_fields.specs.Sets.{IsLeastFrom}
 use Rattle.ics_fields.specs.Ordinals.{lists_none_wide}
 use Rattle.ics_rule.specs.Candidates.{period_in}
 use Rattle.ics_rule.specs.RecurrencePeriods.{is_taken}
-use Rattle.ics_rule.specs.Searches.{is_chosen_within}
+use Rattle.ics_rule.specs.Inner.Searches.{is_chosen_within}
 use Rattle.ics_rule.proofs.ChosenLemmas.{taken_within}
 use Rattle.ics_rule.proofs.CursorLemmas.{next_same, within_facts, walk_begins, walk_goes_on, walk_ended, walk_finds, walk_found, walk_stopped, walk_reach}
 use Rattle.ics_rule.proofs.CountLemmas.{step_low}

@@ -4,7 +4,7 @@ use Rattle.std.proofs.lemmas.Nat.Bits.{bit_at-zero}
 use Rattle.ics_fields.specs.declared.ordinals.Weekdays.{Weekdays}
 use Rattle.ics_fields.specs.Sets.{contains}
 use Rattle.ics_fields.proofs.SetLemmas.{contains-with_number}
-use Rattle.ics_rule.specs.NamedWeekdays.{names_weekday, named_below}
+use Rattle.ics_rule.specs.Inner.NamedWeekdays.{names_weekday, named_below}
 use Rattle.ics_rule.proofs.part.WeekdaysPart.named.Goals as goal
 
 is_named : (w : Weekdays) (n d : ℕ) → n ≤ 64 → contains (named_below w n) d ≡ (nat_lt d n && names_weekday w d)

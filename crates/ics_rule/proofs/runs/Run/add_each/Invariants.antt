@@ -1,6 +1,6 @@
 use Rattle.std.proofs.Common.{◌≡◌, ℕ, ◌-◌, ◌&&◌, ◌||◌, ◌==◌, nat_lt}
 use Rattle.ics_fields.specs.Sets.{contains_wide}
-use Rattle.ics_rule.specs.Runs.{has_run, weekday_in}
+use Rattle.ics_rule.specs.Inner.Runs.{has_run, weekday_in}
 use Rattle.ics_rule.proofs.runs.Run.add_each.Given as goal
 
 abbrev pub invariant-loop-place : goal.invariant-loop-place

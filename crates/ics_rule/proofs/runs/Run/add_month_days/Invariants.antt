@@ -1,6 +1,6 @@
 use Rattle.std.proofs.Common.{◌≡◌, ℕ, ◌+◌, ◌-◌, ◌≤◌, ◌&&◌, ◌||◌, nat_lt}
 use Rattle.ics_fields.specs.Sets.{contains, contains_wide}
-use Rattle.ics_rule.specs.Runs.{has_run}
+use Rattle.ics_rule.specs.Inner.Runs.{has_run}
 use Rattle.ics_rule.proofs.runs.Run.add_month_days.Given as goal
 
 abbrev pub invariant-loop-n : goal.invariant-loop-n

@@ -2,8 +2,8 @@ use Rattle.std.proofs.Common.{◌≡◌, ℕ, ◌+◌, ◌-◌, false, arith}
 use Rattle.std.proofs.lemmas.Bool.Decides.{nat_tests}
 use Rattle.std.proofs.Math.Nat.{mod-lt}
 use Rattle.ics_fields.specs.Sets.{contains, contains_wide}
-use Rattle.ics_rule.specs.NamedWeekdays.{names_weekday}
-use Rattle.ics_rule.specs.Runs.{has_run, weekday_in, lists_weekday}
+use Rattle.ics_rule.specs.Inner.NamedWeekdays.{names_weekday}
+use Rattle.ics_rule.specs.Inner.Runs.{has_run, weekday_in, lists_weekday}
 use Rattle.ics_rule.proofs.RunLemmas.{named_small, unnamed, weekdays_more, weekdays_done}
 use Rattle.ics_rule.proofs.runs.Run.add_weekdays.Goals as goal
 use Rattle.ics_rule.proofs.runs.Run.add_weekdays.Goals.{After-named-named}

@@ -3,7 +3,7 @@ use Rattle.std.proofs.lemmas.Result.{IfOk-weaker}
 use Rattle.ics_event.specs.Event.{said_by}
 use Rattle.ics_series.specs.Clocks.{display_clock}
 use Rattle.ics_series.specs.Entry.{key_rank}
-use Rattle.ics_series.specs.Marks.{AreMarks}
+use Rattle.ics_series.specs.Inner.Marks.{AreMarks}
 use Rattle.ics_series.specs.Versions.{seen}
 use Rattle.ics_series.proofs.MarkLemmas.{no-marks}
 use Rattle.ics_series.proofs.SinglesLemmas.{behind-key}

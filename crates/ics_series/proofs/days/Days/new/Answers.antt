@@ -1,7 +1,7 @@
 use Rattle.std.proofs.Common.{rules, ◌≡◌, map, refl, ap, arith, to_z, of_z, w32, ◌≤ℤ◌, option_map}
 use Rattle.std.proofs.lemmas.Int.{ints}
 use Rattle.ics_event.specs.Event.{said_by}
-use Rattle.ics_zone.specs.Near.{offset_near}
+use Rattle.ics_zone.specs.Inner.Near.{offset_near}
 use Rattle.ics_series.specs.Ahead.{agenda_coming}
 use Rattle.ics_series.specs.Clocks.{display_clock}
 use Rattle.ics_series.specs.DaySteps.{agenda_sources, scope_in}

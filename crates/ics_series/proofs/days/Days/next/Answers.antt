@@ -1,7 +1,7 @@
 use Rattle.std.proofs.Common.{unsigned_abs, ◌-ℤ◌, rules, ◌≡◌, ◌<◌, ◌∷◌, ℤ, map, None, sym, ◌∙◌, ap, subst, arith, to_z, of_z, w32, ◌≤ℤ◌, ◌<ℤ◌}
 use Rattle.std.proofs.lemmas.Int.{ints}
 use Rattle.ics_event.specs.Event.{said_by}
-use Rattle.ics_zone.specs.Near.{offset_near}
+use Rattle.ics_zone.specs.Inner.Near.{offset_near}
 use Rattle.ics_series.specs.Ahead.{agenda_coming, IsAhead}
 use Rattle.ics_series.specs.Clocks.{display_clock}
 use Rattle.ics_series.specs.Entry.{entry_of}

@@ -3,8 +3,8 @@ use Rattle.std.proofs.Common.{◌≡◌, ◌<◌, ◌++◌, All, length, map, se
 use Rattle.std.proofs.lemmas.List.{length-map}
 use Rattle.ics_series.specs.Entry.{entry_cmp, entry_of}
 use Rattle.ics_series.specs.Merged.{merged}
-use Rattle.ics_series.specs.Tournament.{turn_of, winner}
-use Rattle.ics_series.specs.Uids.{AreHeadsSorted}
+use Rattle.ics_series.specs.Inner.Tournament.{turn_of, winner}
+use Rattle.ics_series.specs.Inner.Uids.{AreHeadsSorted}
 use Rattle.ics_series.proofs.LeadLemmas.{fewer-drawn, given-read, given-within, past-drawn, settled-drawn, to_come-drawn, to_come-kept}
 use Rattle.ics_series.proofs.LeadLemmas.{flat-set, near-drawn, near-kept, turns-kept, written-back}
 use Rattle.ics_series.proofs.UidLemmas.{fewer-drawn-in, fewer-kept-in, fewer-last, fewer-sorted, heads-sorted}

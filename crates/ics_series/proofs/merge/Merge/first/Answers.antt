@@ -2,7 +2,7 @@ use Rattle.std.proofs.Common.{rules, ◌≡◌, ◌<◌, get_or, length, map, No
 use Rattle.std.proofs.lemmas.Bool.{ltb-false}
 use Rattle.std.proofs.lemmas.List.{get_or_past, get_or-map, length-map}
 use Rattle.ics_series.specs.Entry.{entry_of}
-use Rattle.ics_series.specs.Tournament.{held_by, turn_of, winner}
+use Rattle.ics_series.specs.Inner.Tournament.{held_by, turn_of, winner}
 use Rattle.ics_series.proofs.LeadLemmas.{turn-held}
 use Rattle.ics_series.proofs.merge.Merge.first.Goals as goal
 

@@ -1,6 +1,6 @@
 use Rattle.std.proofs.Common.{map, get_or, None, sym, ◌∙◌, ap, option_map}
 use Rattle.ics_series.specs.Entry.{entry_of}
-use Rattle.ics_series.specs.Tournament.{winner}
+use Rattle.ics_series.specs.Inner.Tournament.{winner}
 use Rattle.ics_series.proofs.LeadLemmas.{held-turn}
 use Rattle.ics_series.proofs.UidLemmas.{last-order}
 use Rattle.ics_series.proofs.merge.Merge.must_draw.Goals as goal

@@ -8,8 +8,8 @@ use Rattle.ics_series.specs.Entry.{entry_cmp, entry_of}
 use Rattle.ics_series.specs.Leads.{listed, AreNear}
 use Rattle.ics_series.specs.Listing.{IsIn}
 use Rattle.ics_series.specs.Merged.{merged}
-use Rattle.ics_series.specs.Tournament.{turn_of, AreSettled}
-use Rattle.ics_series.specs.Uids.{AreHeadsSorted, AreSortedFrom}
+use Rattle.ics_series.specs.Inner.Tournament.{turn_of, AreSettled}
+use Rattle.ics_series.specs.Inner.Uids.{AreHeadsSorted, AreSortedFrom}
 use Rattle.ics_series.proofs.LeadLemmas.{all-pushed}
 use Rattle.ics_series.proofs.UidLemmas.{heads-sorted}
 use Rattle.ics_series.proofs.merge.Merge.of_sorted.Goals as goal

@@ -1,7 +1,7 @@
 use Rattle.std.proofs.Common.{Some, ap, map, sym, subst, ◌∙◌, rules, option_map}
 use Rattle.ics_series.specs.Entry.{entry_of}
 use Rattle.ics_series.specs.Listing.{IsIn}
-use Rattle.ics_series.specs.Tournament.{first_turn, turn_of, winner}
+use Rattle.ics_series.specs.Inner.Tournament.{first_turn, turn_of, winner}
 use Rattle.ics_series.proofs.LeadLemmas.{ended, first-comes, held-turn, nothing-comes, uncut-first, near-each, near-past, near-to_come, near-whole}
 use Rattle.ics_series.proofs.UidLemmas.{head-in}
 use Rattle.ics_series.proofs.merge.MergeFeed.next.Goals as goal

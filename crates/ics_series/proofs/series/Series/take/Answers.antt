@@ -9,7 +9,7 @@ use Rattle.ics_series.specs.Merged.{union}
 use Rattle.ics_series.specs.SeriesFeed.{series_left, series_of}
 use Rattle.ics_series.specs.SeriesStarts.{first_of, given_of, left, listed_left, rule_asked, rule_left, HasSameRule, IsAskedNear}
 use Rattle.ics_series.specs.FileZones.{clocks_in}
-use Rattle.ics_series.specs.MergedLaws.{rises-union}
+use Rattle.ics_series.specs.Inner.MergedLaws.{rises-union}
 use Rattle.ics_series.proofs.FirstLemmas.{moment_total}
 use Rattle.ics_series.proofs.SeriesLemmas.{asked-near, both-passed, given-own, own-rule-same, rest-of, rises-listed, rises-rest, rises-rule, ruled-rest}
 use Rattle.ics_series.proofs.SeriesLemmas.{ruled-same}

@@ -3,7 +3,7 @@ use Rattle.std.specs.Ordering.{on}
 use Rattle.std.proofs.lemmas.Cmp.{on_total}
 use Rattle.ics_series.specs.Entry.{entry_cmp, key_rank}
 use Rattle.ics_series.specs.Singles.{is_single, single_entry}
-use Rattle.ics_series.specs.EntryLaws.{entry_total}
+use Rattle.ics_series.specs.Inner.EntryLaws.{entry_total}
 use Rattle.ics_series.proofs.OverrideLemmas.{overrides-sorted}
 use Rattle.ics_series.proofs.SinglesLemmas.{singles-listing}
 use Rattle.ics_series.proofs.ListingLemmas.{climbs-by, in-all}

@@ -5,7 +5,7 @@ use Rattle.ics_fields.specs.RuleParts.{RuleParts}
 use Rattle.ics_values.specs.declared.part_name.ListName.{ListName}
 use Rattle.ics_values.specs.declared.part_name.PartName.TheVariants as part
 use Rattle.ics_values.specs.RuleTexts.{fits_list, pieces}
-use Rattle.ics_values.specs.RuleDrafts.{walk, item_taken, value_taken}
+use Rattle.ics_values.specs.Inner.RuleDrafts.{walk, item_taken, value_taken}
 use Rattle.ics_values.specs.declared.rule_text.Draft.{Draft}
 use Rattle.ics_values.proofs.RuleLemmas.{walk-items}
 use Rattle.ics_values.proofs.rule_text.Draft.take_value.Goals as goal

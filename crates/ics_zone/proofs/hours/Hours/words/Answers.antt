@@ -1,7 +1,7 @@
 use Rattle.std.proofs.Common.{rules, arith, ◌+◌, pos, int_lt, sym, ◌∙◌, w64, to_z, of_z}
 use Rattle.std.proofs.lemmas.Int.{to_z-of_z}
 use Rattle.std.proofs.lemmas.Bool.{and_right}
-use Rattle.ics_zone.specs.Hours.{keeps}
+use Rattle.ics_zone.specs.Inner.Hours.{keeps}
 use Rattle.ics_zone.proofs.HourLemmas.{words_more, keeps_nothing}
 use Rattle.ics_zone.proofs.MinuteLemmas.{IsFront}
 use Rattle.ics_zone.proofs.MarkLemmas.{none_marked}

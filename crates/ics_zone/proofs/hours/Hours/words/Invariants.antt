@@ -1,6 +1,6 @@
 use Rattle.std.proofs.Common.{◌≡◌, ℕ, ◌+◌, ◌*◌, ◌<◌, ◌&&◌, length, pos, int_lt}
-use Rattle.ics_zone.specs.Hours.{keeps}
-use Rattle.ics_zone.specs.Marks.{is_marked}
+use Rattle.ics_zone.specs.Inner.Hours.{keeps}
+use Rattle.ics_zone.specs.Inner.Marks.{is_marked}
 use Rattle.ics_zone.proofs.hours.Hours.words.Given as goal
 
 abbrev pub invariant-loop-minute : goal.invariant-loop-minute

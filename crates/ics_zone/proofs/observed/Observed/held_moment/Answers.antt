@@ -4,8 +4,8 @@ use Rattle.std.proofs.lemmas.List.Elements.{All-get_or}
 use Rattle.ics_zone.specs.declared.latest.Steady.{Steady}
 use Rattle.ics_zone.specs.ZoneOffsets.{zone_offset}
 use Rattle.ics_zone.specs.Observances.{observances_said}
-use Rattle.ics_zone.specs.ZoneBounds.{zone_short}
-use Rattle.ics_zone.specs.ZoneOnsets.{IsSteady}
+use Rattle.ics_zone.specs.Inner.ZoneBounds.{zone_short}
+use Rattle.ics_zone.specs.Inner.ZoneOnsets.{IsSteady}
 use Rattle.ics_zone.proofs.observed.Observed.held_moment.Goals as goal
 use Rattle.ics_zone.proofs.observed.Observed.held_moment.Goals.{After-index}
 

@@ -4,7 +4,7 @@ use Rattle.ics_zone.specs.Moments.{IsMomentOf, zone_moment}
 use Rattle.ics_zone.specs.ZoneOffsets.{zone_offset}
 use Rattle.ics_zone.specs.declared.observance.Observance.{Observance}
 use Rattle.ics_zone.specs.Observances.{observances_said}
-use Rattle.ics_zone.specs.ZoneBounds.{zone_short}
+use Rattle.ics_zone.specs.Inner.ZoneBounds.{zone_short}
 use Rattle.ics_zone.proofs.MomentLemmas.{moment_unique, moment_found}
 use Rattle.ics_zone.proofs.observed.Observed.moment.Goals as goal
 

@@ -1,7 +1,7 @@
 use Rattle.std.proofs.Common.{rules, arith, w64, inl, pos, ◌+ℤ◌, ◌≤ℤ◌, ◌<◌, ◌+◌, ◌*◌}
 use Rattle.std.proofs.lemmas.Int.{ints, clamps, to_z-of_z}
 use Rattle.std.proofs.lemmas.List.{length-set}
-use Rattle.ics_zone.specs.OnsetSets.{Has}
+use Rattle.ics_zone.specs.Inner.OnsetSets.{Has}
 use Rattle.ics_zone.proofs.MarkLemmas.{IsMinute, marks_minute, clear_minute}
 use Rattle.ics_zone.proofs.onsets.Onsets.clear.Goals as goal
 use Rattle.ics_zone.proofs.onsets.Onsets.clear.Goals.{After-front}

@@ -1,5 +1,5 @@
 use Rattle.std.proofs.Common.{◌≡◌, ℕ, ◌*◌, ◌<◌, length}
-use Rattle.ics_zone.specs.Marks.{IsMarked, AreMarks}
+use Rattle.ics_zone.specs.Inner.Marks.{IsMarked, AreMarks}
 use Rattle.ics_zone.proofs.onsets.Onsets.clear.Given as goal
 
 abbrev pub invariant-loop-minute : goal.invariant-loop-minute

@@ -2,7 +2,7 @@ use Rattle.std.proofs.Common.{rules, inl, inr, ◌≤ℤ◌, ◌≡◌, ℤ, get
 use Rattle.std.proofs.lemmas.Int.{ints, to_z-of_z}
 use Rattle.std.proofs.lemmas.List.{get_or_default}
 use Rattle.ics_zone.specs.declared.onsets.Onsets.{Onsets}
-use Rattle.ics_zone.specs.OnsetSets.{Has, IsSound}
+use Rattle.ics_zone.specs.Inner.OnsetSets.{Has, IsSound}
 use Rattle.ics_zone.proofs.onsets.Onsets.first.Goals as goal
 
 first_is : (s : Onsets) → IsSound s → (f : ℤ) → f ≡ get_or s.listed.items 0 f → (t : ℤ) → Has s t → f ≤ℤ t

@@ -1,6 +1,6 @@
 use Rattle.std.proofs.Common.{rules, arith, SFits, w64, Contains}
 use Rattle.std.proofs.lemmas.Int.{ints, to_z-of_z}
-use Rattle.ics_zone.specs.OnsetSets.{IsKeptAt}
+use Rattle.ics_zone.specs.Inner.OnsetSets.{IsKeptAt}
 use Rattle.ics_zone.proofs.LatestLemmas.{last_of_both, last_of_first, last_of_second}
 use Rattle.ics_zone.proofs.onsets.Onsets.last.Goals as goal
 

@@ -1,6 +1,6 @@
 use Rattle.std.proofs.Common.{rules, SFits, w64, arith, inl, inr, Contains}
 use Rattle.std.proofs.lemmas.Int.{ints, clamps, to_z-of_z}
-use Rattle.ics_zone.specs.OnsetSets.{IsKeptAt}
+use Rattle.ics_zone.specs.Inner.OnsetSets.{IsKeptAt}
 use Rattle.ics_zone.proofs.Cases.{less_or_not_z}
 use Rattle.ics_zone.proofs.LatestLemmas.{last_of_both, first_after, second_after}
 use Rattle.ics_zone.proofs.onsets.Onsets.last_after.Goals as goal

@@ -1,8 +1,8 @@
 use Rattle.std.proofs.Common.{rules, arith, SFits, w32, w64}
 use Rattle.std.proofs.lemmas.Int.{ints, to_z-of_z}
 use Rattle.ics_zone.proofs.KeptLemmas.{last_of_rule}
-use Rattle.ics_zone.specs.OnsetSets.{IsKeptAt}
-use Rattle.ics_zone.specs.Latest.{IsLast}
+use Rattle.ics_zone.specs.Inner.OnsetSets.{IsKeptAt}
+use Rattle.ics_zone.specs.Inner.Latest.{IsLast}
 use Rattle.ics_zone.proofs.onsets.Onsets.last_by_rule_after.Goals as goal
 use Rattle.ics_zone.proofs.onsets.Onsets.last_by_rule_after.Goals.{After-instant-last}
 

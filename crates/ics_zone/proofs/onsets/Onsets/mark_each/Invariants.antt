@@ -1,7 +1,7 @@
 use Rattle.std.proofs.Common.{◌≡◌, ℕ, ◌⊎◌, length, pos, ◌+ℤ◌, ◌-ℤ◌, ◌<ℤ◌, ◌≤ℤ◌}
 use Rattle.ics_zone.specs.ZoneOffsets.{natural}
-use Rattle.ics_zone.specs.OnsetSets.{Has}
-use Rattle.ics_zone.specs.Marks.{IsMarked, IsAsked}
+use Rattle.ics_zone.specs.Inner.OnsetSets.{Has}
+use Rattle.ics_zone.specs.Inner.Marks.{IsMarked, IsAsked}
 use Rattle.ics_zone.proofs.onsets.Onsets.mark_each.Given as goal
 
 abbrev pub invariant-loop-at : goal.invariant-loop-at

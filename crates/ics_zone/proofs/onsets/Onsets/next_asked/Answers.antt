@@ -1,6 +1,6 @@
 use Rattle.std.proofs.Common.{rules, inl, inr, SFits, w64, arith}
 use Rattle.std.proofs.lemmas.Int.{ints, to_z-of_z}
-use Rattle.ics_zone.specs.OnsetSets.{Has}
+use Rattle.ics_zone.specs.Inner.OnsetSets.{Has}
 use Rattle.ics_zone.proofs.KeptLemmas.{earlier_of, is_of}
 use Rattle.ics_zone.proofs.onsets.Onsets.next_asked.Goals as goal
 

@@ -10,7 +10,7 @@ use Rattle.ics_fields.specs.Locals.{number}
 use Rattle.ics_rule.specs.Kept.{is_kept}
 use Rattle.ics_zone.specs.declared.onsets.Onsets.{Onsets}
 use Rattle.ics_zone.specs.Observances.{ObservanceSaid, IsObservanceSaid, instant_by, rule_from, is_by_rule, is_onset, observance_said}
-use Rattle.ics_zone.specs.OnsetSets.{IsKeptBy, AreOnsetsOf, IsListing, IsEnd, is_listed, held_rule}
+use Rattle.ics_zone.specs.Inner.OnsetSets.{IsKeptBy, AreOnsetsOf, IsListing, IsEnd, is_listed, held_rule}
 use Rattle.ics_zone.proofs.Cases.{int_le_true, true_int_le}
 use Rattle.ics_zone.proofs.EndLemmas.{kept_early}
 use Rattle.ics_zone.proofs.QuietLemmas.{quiet_is}

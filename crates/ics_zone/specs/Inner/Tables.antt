@@ -3,8 +3,8 @@ use Rattle.std.specs.Prelude.{◌≡◌, ℕ, ◌+◌, ◌<◌, ◌≤◌, List,
 use Rattle.std.specs.List.{Contains}
 use Rattle.ics_zone.specs.declared.onsets.Onsets.{Onsets}
 use Rattle.ics_zone.specs.Observances.{ObservanceSaid}
-use Rattle.ics_zone.specs.Latest.{IsInOrder}
-use Rattle.ics_zone.specs.OnsetSets.{Has}
+use Rattle.ics_zone.specs.Inner.Latest.{IsInOrder}
+use Rattle.ics_zone.specs.Inner.OnsetSets.{Has}
 use Rattle.ics_zone.specs.ZoneOffsets.{IsOnset}
 
 -- the number of an onset: numbers are in the order of instants, and then of places

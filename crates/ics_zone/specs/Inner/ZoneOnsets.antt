@@ -6,7 +6,7 @@ use Rattle.ics_zone.specs.declared.latest.Steady.{Steady}
 use Rattle.ics_zone.specs.declared.onsets.Onsets.{Onsets}
 use Rattle.ics_zone.specs.Observances.{ObservanceSaid}
 use Rattle.ics_zone.specs.ZoneOffsets.{IsOnset, IsNotLater, zone_offset}
-use Rattle.ics_zone.specs.OnsetSets.{AreOnsetsOf}
+use Rattle.ics_zone.specs.Inner.OnsetSets.{AreOnsetsOf}
 use Rattle.ics_zone.specs.Moments.{shown}
 
 -- the i-th onsets are those of the i-th observance

@@ -9,7 +9,7 @@ use Rattle.ics_rule.specs.EffectiveRules.{skips_hours, skips_minutes, skips_seco
 use Rattle.ics_rule.specs.Candidates.{lets, lets_date, is_stepped}
 use Rattle.ics_rule.specs.Kept.{count}
 use Rattle.ics_rule.specs.RecurrencePeriods.{is_listed}
-use Rattle.ics_rule.specs.Rounds.{seconds_of}
+use Rattle.ics_rule.specs.Inner.Rounds.{seconds_of}
 
 -- how many periods a day has
 abbrev pub per_day : Frequency → ℕ

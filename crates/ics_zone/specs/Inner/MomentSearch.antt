@@ -5,7 +5,7 @@ use Rattle.std.proofs.lemmas.Int.{ints}
 use Rattle.std.proofs.lemmas.Bool.Decides.{Decides-int_eq}
 use Rattle.jiff_core.specs.Calendar.{IsWithin}
 use Rattle.ics_zone.specs.Moments.{shown, IsMomentBy, near, if_so, within_a_day, first_time, first_later, moment_from, moment_by}
-use Rattle.ics_zone.specs.Searches.{IsFirstGiven, NoneGiven, first_below-is, natural-is}
+use Rattle.ics_zone.specs.Inner.Searches.{IsFirstGiven, NoneGiven, first_below-is, natural-is}
 use Rattle.ics_zone.specs.ZoneOffsets.{natural}
 
 if_so-some : (b : Bool) (t s : ℤ) → if_so b t ≡ Some s → (b ≡ true) × (t ≡ s)

@@ -2,7 +2,7 @@
 use Rattle.std.proofs.Common.{ℤ, arith, ◌-ℤ◌}
 use Rattle.jiff.proofs.SpanFacts.{signed_arith}
 use Rattle.jiff.specs.Words.{nanos_of_seconds, IsOffsetSeconds}
-use Rattle.ics_zone.specs.FileBounds.{type_short, rule_short, file_offset_short, file_reading_short}
+use Rattle.ics_zone.specs.Inner.FileBounds.{type_short, rule_short, file_offset_short, file_reading_short}
 use Rattle.ics_zone.specs.Seconds.{IsNear}
 use Rattle.ics_zone.specs.ZoneSaid.{jiff_said, display_said, said_offset, said_moment}
 use Rattle.ics_zone.specs.declared.display.Display.{Display}

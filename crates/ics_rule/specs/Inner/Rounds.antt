@@ -13,8 +13,8 @@ use Rattle.ics_rule.specs.Candidates.{lets_date, lets_clock, is_stepped, period_
 use Rattle.ics_rule.specs.Kept.{count, is_chosen}
 use Rattle.ics_rule.specs.RecurrencePeriods.{first_local}
 use Rattle.ics_rule.specs.Cursors.{IsCursorIn}
-use Rattle.ics_rule.specs.Searches.{HasMoved, IsWalked, IsTurned}
-use Rattle.ics_rule.specs.Runs.{goes_by_months}
+use Rattle.ics_rule.specs.Inner.Searches.{HasMoved, IsWalked, IsTurned}
+use Rattle.ics_rule.specs.Inner.Runs.{goes_by_months}
 
 -- how many seconds each period of a frequency has, or 0 if they differ
 abbrev pub seconds_of : Frequency → ℕ

@@ -5,7 +5,7 @@ use Rattle.ics_zone.specs.declared.walk.Walk.{Walk}
 use Rattle.ics_zone.specs.declared.walk.Told.{Told}
 use Rattle.ics_zone.specs.declared.walk.Told.TheVariants.{Shows, On, Out}
 use Rattle.ics_zone.specs.Moments.{shown, IsFirstTime}
-use Rattle.ics_zone.specs.ZoneOnsets.{IsJump}
+use Rattle.ics_zone.specs.Inner.ZoneOnsets.{IsJump}
 
 -- each offset is less than a day
 abbrev pub IsShort : (ℤ → ℤ) → Type 0

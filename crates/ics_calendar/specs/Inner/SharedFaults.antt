@@ -9,7 +9,7 @@ use Rattle.ics_components.specs.declared.fault.Fault.{Fault}
 use Rattle.ics_components.specs.PartFaults.{earlier}
 use Rattle.ics_calendar.specs.declared.shared_faults.SharedFaults.{SharedFaults}
 use Rattle.ics_components.specs.Parted.{PartedComponentSeen}
-use Rattle.ics_calendar.specs.PartsRead.{calendar_fault, fault_read, zone_fault}
+use Rattle.ics_calendar.specs.Inner.PartsRead.{calendar_fault, fault_read, zone_fault}
 use Rattle.ics_calendar.specs.ZoneTables.{name_cmp}
 
 -- They are those of these calendars and time zones.

@@ -3,7 +3,7 @@ use Rattle.std.specs.Prelude.{◌≡◌, ℕ, ◌/◌, ◌%◌, ◌⊎◌, Bool,
 use Rattle.std.specs.List.{Contains}
 use Rattle.ics_fields.specs.Sets.{contains}
 use Rattle.ics_zone.specs.declared.onsets.Onsets.{Onsets}
-use Rattle.ics_zone.specs.OnsetSets.{Has, IsKeptAt}
+use Rattle.ics_zone.specs.Inner.OnsetSets.{Has, IsKeptAt}
 
 -- the k-th second of an hour is marked, which has a word for each minute
 abbrev pub is_marked : List ℕ → ℕ → Bool

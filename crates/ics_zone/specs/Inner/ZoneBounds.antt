@@ -7,9 +7,9 @@ use Rattle.ics_zone.specs.Observances.{ObservanceSaid, observance_said, observan
 use Rattle.ics_zone.specs.ZoneOffsets.{instant, instants_to, if_onset, last_at, first_at, in_force, last_midnight, earliest}
 use Rattle.ics_zone.specs.ZoneOffsets.{offset_by, zone_offset}
 use Rattle.ics_zone.specs.Moments.{IsMomentBy, zone_moment}
-use Rattle.ics_zone.specs.MomentSearch.{moment_found}
-use Rattle.ics_zone.specs.Searches.{last_below-is, first_below-is}
-use Rattle.ics_zone.specs.Near.{jiff_offset_near, jiff_moment_near}
+use Rattle.ics_zone.specs.Inner.MomentSearch.{moment_found}
+use Rattle.ics_zone.specs.Inner.Searches.{last_below-is, first_below-is}
+use Rattle.ics_zone.specs.Inner.Near.{jiff_offset_near, jiff_moment_near}
 use Rattle.ics_zone.specs.Seconds.{IsNear}
 use Rattle.ics_zone.specs.ZoneSaid.{said_offset, said_moment, zone_said}
 use Rattle.ics_zone.specs.declared.zone.ZoneKind.{ZoneKind}

@@ -11,7 +11,7 @@ use Rattle.ics_fields.specs.declared.local.Local.{Local}
 use Rattle.ics_rule.specs.Cursors.{place_of, IsCursorOf}
 use Rattle.ics_rule.specs.Recurrence.{Recurrence}
 use Rattle.ics_rule.specs.declared.cursor.Cursor.{Cursor}
-use Rattle.ics_series.specs.RuleStartLaws.{cursor-prop, looked-prop}
+use Rattle.ics_series.specs.Inner.RuleStartLaws.{cursor-prop, looked-prop}
 use Rattle.ics_series.specs.RuleStarts.{HasLookedTo}
 use Rattle.ics_series.specs.Spots.{event_at}
 use Rattle.ics_series.specs.Starts.{recurrence_of}

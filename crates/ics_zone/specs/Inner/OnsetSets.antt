@@ -10,7 +10,7 @@ use Rattle.ics_rule.specs.Kept.{is_kept, until_moment}
 use Rattle.ics_fields.specs.Locals.{number}
 use Rattle.ics_zone.specs.declared.onsets.Onsets.{Onsets}
 use Rattle.ics_zone.specs.Observances.{ObservanceSaid, instant_by, is_until, is_onset, rule_from}
-use Rattle.ics_zone.specs.Latest.{IsInOrder}
+use Rattle.ics_zone.specs.Inner.Latest.{IsInOrder}
 use Rattle.ics_rule.specs.PeriodNumbers.{rules_end}
 
 -- an instant or a local about which onsets are searched for: about 9,500 years either way, so that the years 0000 to 9950 have room on both sides

@@ -1,0 +1,5 @@
+-- Words of private contracts and of proofs: no public clause reaches them.
+pub mod UnknownNames
+pub mod PartsRead
+pub mod SharedFaults
+pub mod Labels

@@ -1,0 +1,5 @@
+-- Words of private contracts and of proofs: no public clause reaches them.
+pub mod PartsPass
+pub mod Known
+pub mod PassedLines
+pub mod Passing

@@ -1,0 +1,8 @@
+-- Words of private contracts and of proofs: no public clause reaches them.
+pub mod NamedWeekdays
+pub mod DateParts
+pub mod Searches
+pub mod Rounds
+pub mod OpenPeriods
+pub mod NearDays
+pub mod Runs

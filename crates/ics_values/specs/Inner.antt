@@ -1,0 +1,4 @@
+-- Words of private contracts and of proofs: no public clause reaches them.
+pub mod Options
+pub mod Amounts
+pub mod RuleDrafts
