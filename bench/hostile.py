@@ -12,13 +12,14 @@ HOURS = ','.join(str(hour) for hour in range(24))
 # The first week of a year has no day of these months.
 LATE = 'BYWEEKNO=1;BYMONTH=' + ','.join(str(month) for month in range(3, 12))
 DAY = ['2024-07-01', '1d']
+NEW_YORK = ['--zone', 'EST5EDT,M3.2.0,M11.1.0']
 
 
-def rules(count, rule, *more):
-    """So many events since the year 0001 that recur by a rule."""
+def rules(count, rule, *more, end='Z'):
+    """So many events since the year 0001 that recur by a rule. Their times end so."""
     lines = []
     for number in range(count):
-        lines += ['BEGIN:VEVENT', 'UID:%d@example.org' % number, 'DTSTART:00010101T%02d%02d00Z' % (number // 60, number % 60),
+        lines += ['BEGIN:VEVENT', 'UID:%d@example.org' % number, 'DTSTART:00010101T%02d%02d00%s' % (number // 60, number % 60, end),
                   'RRULE:' + rule, *more, 'END:VEVENT']
     return calendar(lines)
 
@@ -70,13 +71,21 @@ def yearly(count, locals_of_year):
     return in_zone(parts, *of_year(locals_of_year))
 
 
+def seconds(count, end, *more):
+    """Lines of so many events that recur each second. Their times end so."""
+    return [line for number in range(count)
+            for line in ('BEGIN:VEVENT', 'UID:%d' % number, 'DTSTART:20240701T000000' + end, 'RRULE:FREQ=SECONDLY', *more, 'END:VEVENT')]
+
+
 def excluded(count, end, *before):
     """So many events that recur each second, of which a day is taken out, behind other lines. Their times end so."""
-    lines = [*before]
-    for number in range(count):
-        lines += ['BEGIN:VEVENT', 'UID:%d' % number, 'DTSTART:20240701T000000' + end, 'RRULE:FREQ=SECONDLY', 'EXDATE;VALUE=DATE:20240701',
-                  'END:VEVENT']
-    return calendar(lines)
+    return calendar([*before, *seconds(count, end, 'EXDATE;VALUE=DATE:20240701')])
+
+
+def hourly(count):
+    """So many observances that begin once a day, in one hour after the other."""
+    return [part('STANDARD', '000101%02dT%02d0000' % (number + 1, number), '+0000', '+%02d00' % (number % 12), 'RRULE:FREQ=DAILY')
+            for number in range(count)]
 
 
 def once(day):
@@ -96,12 +105,22 @@ def faulty(count):
 
 
 LONG = 'DURATION:P36525D'
+PAST = 'UNTIL=00010102T000000Z'
+YESTERDAY = 'RRULE:FREQ=SECONDLY;UNTIL=20240602T000000Z'
 ODD_SECONDS = 'FREQ=SECONDLY;INTERVAL=2;BYSECOND=%s;BYMONTH=%s' % (ODD, MONTHS)
 SELDOM = 'FREQ=DAILY;COUNT=4294967295;INTERVAL=1009;BYWEEKNO=1'
 FAR = 'RDATE;TZID=odd:' + ','.join('%04d0701T120000' % year for year in range(2100, 8100, 150))
 
 # name, file, words, how many loops it may take, and how many MiB
 ROWS = [
+    ('seconds of the year 1, 36,525 days long', lambda: rules(1, 'FREQ=SECONDLY;' + PAST, LONG), DAY, 1, 32),
+    ('minutes of it', lambda: rules(1, 'FREQ=MINUTELY;' + PAST, LONG), DAY, 1, 32),
+    ('seconds of it by 8 clocks of New York', lambda: rules(8, 'FREQ=SECONDLY;' + PAST, end=''), [*DAY, *NEW_YORK], 1, 32),
+    ('seconds of it, each day of a year', lambda: rules(1, 'FREQ=SECONDLY;' + PAST), ['2024-01-01', '366d', '--every-day'], 1, 32),
+    ('seconds of it beside a long PERIOD', lambda: rules(1, 'FREQ=SECONDLY;' + PAST, 'RDATE;VALUE=PERIOD:00010101T000000Z/20240801T000000Z'), DAY, 1, 32),
+    ('seconds that have not started, limit 1', lambda: rules(1, 'FREQ=SECONDLY', LONG), [*DAY, '--notstarted', '--limit', '1'], 1, 32),
+    ('two events before millions of days', lambda: calendar(once('00010102')), ['0001-01-05', '3570000d', '--every-day', '--limit', '1'], 1, 32),
+    ('two events at their end', lambda: calendar(once('97980102')), ['0001-01-05', '3570000d', '--every-day', '--limit', '1'], 1, 32),
     ('odd seconds of even steps', lambda: rules(1, ODD_SECONDS, LONG), DAY, 1, 32),
     ('the same with COUNT', lambda: rules(1, ODD_SECONDS + ';COUNT=9', LONG), DAY, 1, 32),
     ('8 in no week of their months', lambda: rules(8, 'FREQ=DAILY;' + LATE), ['0001-01-02', '9700-01-01'], 1, 32),
@@ -110,6 +129,11 @@ ROWS = [
     ('8 observances that never begin', lambda: in_zone(ruled(8, 'FREQ=DAILY;' + LATE), '20240101T120000', FAR), DAY, 1, 32),
     ('an observance with COUNT', lambda: in_zone(ruled(1, SELDOM), '20240701T120000'), DAY, 1, 32),
     ('the same in 9700', lambda: in_zone(ruled(1, SELDOM), '97000701T120000'), ['9700-07-01', '1d'], 1, 32),
+    ('minutes by it', lambda: in_zone(ruled(1, SELDOM), '20240630T120000', 'RRULE:FREQ=MINUTELY'), DAY, 1, 32),
+    ('a skipped day behind hours with COUNT', lambda: in_zone(skipped('COUNT=17737609'), '20240701T000000', 'RRULE:FREQ=MINUTELY;COUNT=60'),
+     ['2024-06-30', '4d'], 1, 32),
+    ('8 daily observances, seconds long past', lambda: in_zone(hourly(8), '20240601T000000', YESTERDAY), DAY, 1, 32),
+    ('16 daily observances, seconds long past', lambda: in_zone(hourly(16), '20240601T000000', YESTERDAY), DAY, 1, 32),
     ('8 observances that COUNT ends', lambda: in_zone(ruled(8, 'FREQ=DAILY;COUNT=12345;BYWEEKNO=1'), '20240701T120000'), DAY, 4, 32),
     ('80 observances that COUNT ends', lambda: in_zone(ruled(80, 'FREQ=DAILY;COUNT=12345;BYWEEKNO=1'), '20240701T120000'), DAY, 8, 32),
     ('1,200 observances, 4,800 locals', lambda: many(1_200, 4_800), ['2023-12-31', '4d'], 1, 32),
@@ -120,11 +144,12 @@ ROWS = [
      ['2024-06-30', '4d'], 1, 32),
     ('seconds beside a day that is skipped', lambda: in_zone(forward('+2359'), '20240629T000000', 'RRULE:FREQ=SECONDLY'), DAY, 8, 32),
     ('odd seconds behind even ones', lambda: in_zone(forward('+235901'), '20240629T000000', 'RRULE:FREQ=SECONDLY;INTERVAL=2'), DAY, 8, 32),
+    ('seconds of 2 rules, limit 1', lambda: calendar(seconds(2, 'Z')), [*DAY, '--limit', '1'], 1, 32),
     ('seconds of an excluded day, 4 rules', lambda: excluded(4, 'Z'), DAY, 4, 24),
     ('seconds of 8 rules, limit 1', lambda: excluded(8, 'Z'), ['2024-07-01', '10d', '--limit', '1'], 4, 32),
-    ('the same by the clock of New York', lambda: excluded(8, ''), ['2024-07-01', '10d', '--limit', '1', '--zone', 'EST5EDT,M3.2.0,M11.1.0'], 12, 48),
+    ('the same by the clock of New York', lambda: excluded(8, ''), ['2024-07-01', '10d', '--limit', '1', *NEW_YORK], 12, 48),
     ('64 rules behind what is listed, limit 1', lambda: excluded(64, '', *once('20240628')),
-     ['2024-06-28', '10d', '--limit', '1', '--zone', 'EST5EDT,M3.2.0,M11.1.0'], 1, 32),
+     ['2024-06-28', '10d', '--limit', '1', *NEW_YORK], 1, 32),
     ('400,000 faulty events, --keep-going', lambda: faulty(400_000), [*DAY, '--keep-going'], 12, 256),
 ]
 
