@@ -68,49 +68,23 @@ impl Placeholder for EntryField {
     ghost name = { entry_name };
 
     fn named(text: &[u8]) -> Option<EntryField> {
-        if is(text, "cell") {
-            return Some(EntryField::Cell);
+        match text {
+            _ if is(text, "cell") => Some(EntryField::Cell),
+            _ if is(text, "title") => Some(EntryField::Title),
+            _ if is(text, "start-time") => Some(EntryField::StartTime),
+            _ if is(text, "end-time") => Some(EntryField::EndTime),
+            _ if is(text, "start-date") => Some(EntryField::StartDate),
+            _ if is(text, "end-date") => Some(EntryField::EndDate),
+            _ if is(text, "location") => Some(EntryField::Location),
+            _ if is(text, "description") => Some(EntryField::Description),
+            _ if is(text, "uid") => Some(EntryField::Uid),
+            _ if is(text, "cancelled") => Some(EntryField::Cancelled),
+            _ if is(text, "start-unix") => Some(EntryField::StartUnix),
+            _ if is(text, "end-unix") => Some(EntryField::EndUnix),
+            _ if is(text, "token") => Some(EntryField::Token),
+            _ if is(text, "url") => Some(EntryField::Url),
+            _ => None,
         }
-        if is(text, "title") {
-            return Some(EntryField::Title);
-        }
-        if is(text, "start-time") {
-            return Some(EntryField::StartTime);
-        }
-        if is(text, "end-time") {
-            return Some(EntryField::EndTime);
-        }
-        if is(text, "start-date") {
-            return Some(EntryField::StartDate);
-        }
-        if is(text, "end-date") {
-            return Some(EntryField::EndDate);
-        }
-        if is(text, "location") {
-            return Some(EntryField::Location);
-        }
-        if is(text, "description") {
-            return Some(EntryField::Description);
-        }
-        if is(text, "uid") {
-            return Some(EntryField::Uid);
-        }
-        if is(text, "cancelled") {
-            return Some(EntryField::Cancelled);
-        }
-        if is(text, "start-unix") {
-            return Some(EntryField::StartUnix);
-        }
-        if is(text, "end-unix") {
-            return Some(EntryField::EndUnix);
-        }
-        if is(text, "token") {
-            return Some(EntryField::Token);
-        }
-        if is(text, "url") {
-            return Some(EntryField::Url);
-        }
-        None
     }
 
     ghost plain = { entry_names_plain };
@@ -120,13 +94,11 @@ impl Placeholder for DayField {
     ghost name = { day_name };
 
     fn named(text: &[u8]) -> Option<DayField> {
-        if is(text, "name") {
-            return Some(DayField::Name);
+        match text {
+            _ if is(text, "name") => Some(DayField::Name),
+            _ if is(text, "date") => Some(DayField::Date),
+            _ => None,
         }
-        if is(text, "date") {
-            return Some(DayField::Date);
-        }
-        None
     }
 
     ghost plain = { day_names_plain };
