@@ -7,8 +7,8 @@ ghost use Rattle.ics_calendar.specs.Settled.{event_in, IsReady};
 ghost use Rattle.ics_calendar.specs.ZoneTables.{known_by};
 
 use crate::zone_table::ZoneTable;
-use ics_components::{CalendarEvent, Listed, RuleValue, Tzid, ZoneName, parts_of};
-use ics_event::{Event, KeptRule};
+use ics_components::{CalendarEvent, Listed, Tzid, ZoneName};
+use ics_event::Event;
 use ics_values::{Duration, Length, Rdate, Stamp, Text, Time};
 use std::alloc::{AllocError, Global};
 
@@ -124,16 +124,6 @@ fn start_in(start: Option<Time<Tzid>>) -> Time<Tzid>
     }
 }
 
-/// The same rule, as an event has it.
-fn rule_of(alloc: Global, rule: Option<RuleValue>) -> Result<Option<KeptRule>, AllocError>
-    ensures { IfOk result (λ kept. kept ≡ rule) }
-{
-    match parts_of(rule) {
-        Some(parts) => Ok(Some(KeptRule::new(alloc, parts)?)),
-        None => Ok(None),
-    }
-}
-
 /// The text, or none.
 fn text_in(alloc: Global, text: Option<Text>) -> Text
     ensures { result ≡ unwrap_or text [] }
@@ -153,7 +143,7 @@ pub fn event_of(alloc: Global, table: &ZoneTable, ended: CalendarEvent) -> Resul
     Ok(Event {
         start: time_of(table, calendar, start_in(fields.start)),
         length: length_of(table, calendar, given_length(fields.end, fields.duration)),
-        rule: rule_of(alloc, fields.rule)?,
+        rule: fields.rule,
         rdates: rdates_of(alloc, table, calendar, fields.rdates)?,
         exdates: exdates_of(alloc, table, calendar, fields.exdates)?,
         recurrence: fields.recurrence.map(|time| time_of(table, calendar, time)),

@@ -5,9 +5,7 @@ ghost use Rattle.ics_zone.specs.Observances.{observance_said, observances_said};
 ghost use Rattle.ics_zone.specs.ZoneSaid.{ZoneSaid, zone_said};
 ghost use Rattle.ics_components.specs.Sound.{IsSoundObservance, IsSoundZone};
 
-use ics_components::{
-    CalendarZone, ClosedObservance, Listed, ZoneName, copied_observances, daily_parts_of,
-};
+use ics_components::{CalendarZone, ClosedObservance, Listed, ZoneName, copied_observances};
 use ics_zone::{Observance, Zone, ZoneFault};
 use std::alloc::{AllocError, Global};
 
@@ -20,7 +18,7 @@ fn observance_of(ended: ClosedObservance) -> Observance
         start: ended.start,
         offset_from: ended.offset_from,
         offset_to: ended.offset_to,
-        rule: daily_parts_of(ended.rule),
+        rule: ended.rule.map(|rule| *rule.parts()),
         rdates: ended.rdates.values,
     }
 }

@@ -14,10 +14,9 @@ use crate::listed::Listed;
 use crate::name::Name;
 use crate::property::Property;
 use crate::refused::Refused;
-use crate::rule_value::RuleValue;
 use crate::tzid::{Tzid, Tzids};
 use ics_text::Content;
-use ics_values::{Duration, Rdate, Text, Time};
+use ics_values::{Duration, KeptRule, Rdate, Text, Time};
 use std::alloc::{AllocError, Global};
 
 /// The value of each property that an event may have once, if its lines give it, and what all its RDATEs and EXDATEs list. Its times name their zones.
@@ -27,7 +26,7 @@ pub struct EventFields {
     pub start: Option<Time<Tzid>>,
     pub end: Option<Time<Tzid>>,
     pub duration: Option<Duration>,
-    pub rule: Option<RuleValue>,
+    pub rule: Option<KeptRule>,
     pub rdates: Listed<Rdate<Tzid>>,
     pub exdates: Listed<Rdate<Tzid>>,
     pub recurrence: Option<Time<Tzid>>,

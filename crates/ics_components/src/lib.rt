@@ -40,5 +40,4 @@ pub use observances::{ClosedObservance, are_same, copied_observances};
 pub use parsed_file::{CalendarEvent, CalendarZone, LineCheck, ParsedFile};
 pub use parted::{PartedComponent, PartedFile, earlier};
 pub use parts_round::parse_parts;
-pub use rule_value::{DailyRule, RuleValue, daily_parts_of, parts_of};
 pub use tzid::Tzid;

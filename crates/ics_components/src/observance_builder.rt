@@ -15,10 +15,10 @@ use crate::name::Name;
 use crate::observances::{ClosedObservance, read_locals};
 use crate::parsed_file::LineResult;
 use crate::refused::Refused;
-use crate::rule_value::DailyRule;
+use crate::rule_value::daily_in;
 use crate::time::local;
 use ics_text::Content;
-use ics_values::{Local, read_offset};
+use ics_values::{KeptRule, Local, read_offset};
 use std::alloc::{AllocError, Global};
 
 /// The value of each property that an observance has once, and the values of all its RDATEs.
@@ -27,7 +27,7 @@ pub struct ObservanceBuilder {
     pub start: Option<Local>,
     pub from: Option<i32>,
     pub to: Option<i32>,
-    pub rule: Option<DailyRule>,
+    pub rule: Option<KeptRule>,
     pub rdates: Listed<Local>,
 }
 
@@ -37,7 +37,7 @@ pub enum ObservanceProperty {
     Start(Local),
     OffsetFrom(i32),
     OffsetTo(i32),
-    Rule(DailyRule),
+    Rule(KeptRule),
     Rdates(Listed<Local>),
     /// One that is not read.
     Other,
@@ -52,7 +52,7 @@ impl ObservanceProperty {
             Name::Dtstart => Ok(ObservanceProperty::Start(local(value)?)),
             Name::OffsetFrom => Ok(ObservanceProperty::OffsetFrom(read_offset(value)?)),
             Name::OffsetTo => Ok(ObservanceProperty::OffsetTo(read_offset(value)?)),
-            Name::Rrule => Ok(ObservanceProperty::Rule(DailyRule::read(alloc, value)?)),
+            Name::Rrule => Ok(ObservanceProperty::Rule(daily_in(alloc, value)?)),
             Name::Rdate => Ok(ObservanceProperty::Rdates(read_locals(alloc, value)?)),
             _ => Ok(ObservanceProperty::Other),
         }

@@ -11,9 +11,8 @@ use crate::date_values::{Listing, read_values};
 use crate::fault::FaultKind;
 use crate::listed::Listed;
 use crate::refused::Refused;
-use crate::rule_value::DailyRule;
 use crate::tzid::Tzid;
-use ics_values::Local;
+use ics_values::{KeptRule, Local};
 use std::alloc::{AllocError, Global};
 use std::marker::Model;
 
@@ -23,7 +22,7 @@ pub struct ClosedObservance {
     pub start: Local,
     pub offset_from: i32,
     pub offset_to: i32,
-    pub rule: Option<DailyRule>,
+    pub rule: Option<KeptRule>,
     pub rdates: Listed<Local>,
 }
 
@@ -138,7 +137,7 @@ fn are_same_locals(locals: &Listed<Local>, others: &Listed<Local>) -> bool
 }
 
 /// Whether there is no rule on both sides, or the same text of a rule.
-fn is_same_rule(rule: &Option<DailyRule>, other: &Option<DailyRule>) -> bool
+fn is_same_rule(rule: &Option<KeptRule>, other: &Option<KeptRule>) -> bool
     ensures { result ≡ true → rule.now ≡ other.now }
 {
     match (rule, other) {

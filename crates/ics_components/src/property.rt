@@ -13,11 +13,11 @@ use crate::ends::lasting;
 use crate::fault::FaultKind;
 use crate::name::Name;
 use crate::refused::Refused;
-use crate::rule_value::RuleValue;
+use crate::rule_value::rule_in;
 use crate::time::{time_of, zone_check};
 use crate::tzid::{Tzid, Tzids};
 use ics_text::Content;
-use ics_values::{Duration, IntegerFault, Text, Time, is_word, read_integer};
+use ics_values::{Duration, IntegerFault, KeptRule, Text, Time, is_word, read_integer};
 use std::alloc::{AllocError, Global};
 
 /// What a line of an event says, if its value has no fault.
@@ -27,7 +27,7 @@ pub enum Property {
     Start(Time<Tzid>),
     End(Time<Tzid>),
     Duration(Duration),
-    Rule(RuleValue),
+    Rule(KeptRule),
     Recurrence(Time<Tzid>),
     Sequence(u32),
     Rdates(DateList),
@@ -75,7 +75,7 @@ impl Property {
             Name::Dtstart => Property::Start(time_of(alloc, tzids, content)?),
             Name::Dtend => Property::End(time_of(alloc, tzids, content)?),
             Name::Duration => Property::Duration(lasting(value)?),
-            Name::Rrule => Property::Rule(RuleValue::read(alloc, value)?),
+            Name::Rrule => Property::Rule(rule_in(alloc, value)?),
             Name::RecurrenceId => Property::Recurrence(time_of(alloc, tzids, content)?),
             Name::Sequence => Property::Sequence(sequence(value)?),
             Name::Rdate => {

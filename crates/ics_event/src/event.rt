@@ -1,6 +1,5 @@
-use crate::kept_rule::KeptRule;
 use crate::time::{Length, Rdate, Time};
-use ics_values::Text;
+use ics_values::{KeptRule, Text};
 use std::marker::Model;
 
 /// An event of a file (RFC 5545, section 3.6.1).

@@ -3,11 +3,9 @@
 
 mod event;
 mod events;
-mod kept_rule;
 mod time;
 
 pub use event::Event;
 pub use events::FileEvents;
-pub use ics_values::{Text, is_zoned};
-pub use kept_rule::KeptRule;
+pub use ics_values::{KeptRule, Text, is_zoned};
 pub use time::{Length, Rdate, Time};

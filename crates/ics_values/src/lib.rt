@@ -7,6 +7,7 @@ mod digits;
 mod duration;
 mod halves;
 mod integer;
+mod kept_rule;
 mod laws;
 mod offset;
 mod part_name;
@@ -27,6 +28,7 @@ pub use ics_fields::{
     WideOrdinals, civil, order_of_locals,
 };
 pub use integer::{IntegerFault, read_integer};
+pub use kept_rule::KeptRule;
 pub use laws::{dates_of_the_calendar, escapes_undone, times_of_a_day};
 pub use offset::{BadOffset, read_offset};
 pub use part_name::is_word;

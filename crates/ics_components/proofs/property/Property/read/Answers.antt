@@ -8,7 +8,7 @@ use Rattle.ics_components.specs.declared.property.Property.TheVariants as proper
 use Rattle.ics_components.proofs.property.Property.read.Goals as goal
 use Rattle.ics_components.proofs.property.Property.read.Goals.{in-Uid+in_ok-of_value-in-Uid, in-Dtstart+in_ok-time_of-in-Dtstart}
 use Rattle.ics_components.proofs.property.Property.read.Goals.{in-Dtend+in_ok-time_of-in-Dtend, in-Duration+in_ok-lasting-in-Duration}
-use Rattle.ics_components.proofs.property.Property.read.Goals.{in-Rrule+in_ok-read-in-Rrule, in-RecurrenceId+in_ok-time_of-in-RecurrenceId}
+use Rattle.ics_components.proofs.property.Property.read.Goals.{in-Rrule+in_ok-rule_in-in-Rrule, in-RecurrenceId+in_ok-time_of-in-RecurrenceId}
 use Rattle.ics_components.proofs.property.Property.read.Goals.{in-Sequence+in_ok-sequence-in-Sequence, in-Rdate+in_ok-read-in-Rdate}
 use Rattle.ics_components.proofs.property.Property.read.Goals.{in-Exdate+in_ok-read-in-Exdate, in-Summary+in_ok-of_value-in-Summary}
 use Rattle.ics_components.proofs.property.Property.read.Goals.{in-Location+in_ok-of_value-in-Location, in-Description+in_ok-of_value-in-Description}
@@ -43,7 +43,7 @@ returns c = elim c.match-name.branch [
   | in-Dtstart+in_ok-time_of-in-Dtstart w ↦ search rules
   | in-Dtend+in_ok-time_of-in-Dtend w ↦ search rules
   | in-Duration+in_ok-lasting-in-Duration w ↦ search rules
-  | in-Rrule+in_ok-read-in-Rrule w ↦ search rules
+  | in-Rrule+in_ok-rule_in-in-Rrule w ↦ search rules
   | in-RecurrenceId+in_ok-time_of-in-RecurrenceId w ↦ search rules
   | in-Sequence+in_ok-sequence-in-Sequence w ↦ search rules
   | in-Rdate+in_ok-read-in-Rdate w ↦ search rules
