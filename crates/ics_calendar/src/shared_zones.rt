@@ -5,8 +5,8 @@ ghost use Rattle.ics_components.specs.Sound.{IsSoundZone};
 
 use crate::shared_zone::SharedZone;
 use crate::zone::zone_of;
-use ics_components::{ClosedObservance, Listed, are_same, copied_observances};
-use ics_values::Moment;
+use ics_components::{Listed, are_same, copied_observances};
+use ics_values::{Moment, Observance};
 use ics_zone::Zone;
 use std::alloc::{AllocError, Global};
 
@@ -28,7 +28,7 @@ pub struct SharedZones {
     to: Moment,
     /// How many are looked for.
     most: usize,
-    seen: Vec<Listed<ClosedObservance>>,
+    seen: Vec<Listed<Observance>>,
     shared: Vec<SharedZone>,
 }
 
@@ -56,7 +56,7 @@ impl SharedZones {
     }
 
     /// The time zone with these observances, if it is shared.
-    fn find(&self, ended: &Listed<ClosedObservance>) -> Result<Option<Zone>, AllocError>
+    fn find(&self, ended: &Listed<Observance>) -> Result<Option<Zone>, AllocError>
         ensures { IfOk result (λ found. IfSome found (λ zone. zone_said zone ≡ ZoneSaid.ByObservances ended.now)) }
     {
         for shared in &self.shared {
@@ -68,7 +68,7 @@ impl SharedZones {
     }
 
     /// Whether a time zone with these observances was made.
-    fn has_seen(&self, ended: &Listed<ClosedObservance>) -> bool {
+    fn has_seen(&self, ended: &Listed<Observance>) -> bool {
         self.seen.iter().any(|seen| are_same(seen, ended))
     }
 
@@ -83,7 +83,7 @@ impl SharedZones {
     }
 
     /// The time zone with these observances, which is shared from now on.
-    fn share(&mut self, alloc: Global, ended: Listed<ClosedObservance>) -> Result<Zone, AllocError>
+    fn share(&mut self, alloc: Global, ended: Listed<Observance>) -> Result<Zone, AllocError>
         requires { IsSoundZone ended }
         ensures { IfOk result (λ zone. zone_said zone ≡ ZoneSaid.ByObservances ended) }
     {
@@ -101,7 +101,7 @@ impl SharedZones {
     pub(crate) fn zone(
         &mut self,
         alloc: Global,
-        ended: Listed<ClosedObservance>,
+        ended: Listed<Observance>,
     ) -> Result<Zone, AllocError>
         requires { IsSoundZone ended }
         ensures { IfOk result (λ zone. zone_said zone ≡ ZoneSaid.ByObservances ended) }

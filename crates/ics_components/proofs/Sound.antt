@@ -7,15 +7,13 @@ use Rattle.std.specs.Option.{option_or}
 use Rattle.std.proofs.lemmas.Bool.{cond_both, or_left, or_right}
 use Rattle.std.proofs.lemmas.Bool.Decides.{nat_tests}
 use Rattle.std.proofs.lemmas.Int.{ints}
-use Rattle.std.proofs.lemmas.List.Elements.{All-nil, All-cons, All-append, All-head, All-tail, All-weaker}
-use Rattle.std.proofs.lemmas.List.Sums.{list_all-from_AllPass}
+use Rattle.std.proofs.lemmas.List.Elements.{All-nil, All-cons, All-append, All-head, All-tail}
 use Rattle.std.proofs.lemmas.Option.{IfSome_then}
 use Rattle.jiff_core.specs.Calendar.{IsWithin}
 use Rattle.ics_fields.specs.Days.{IsStampDay}
 use Rattle.ics_fields.specs.Locals.{local_at}
 use Rattle.ics_fields.specs.Observances.{is_finer_than_daily, is_finer_rule}
 use Rattle.ics_fields.specs.RuleParts.{RuleParts}
-use Rattle.ics_fields.specs.Years.{is_stamp_local}
 use Rattle.ics_fields.specs.declared.local.Local.{Local}
 use Rattle.ics_text.specs.ContentLines.{Parts}
 use Rattle.ics_values.specs.Durations.{duration_of}
@@ -251,9 +249,6 @@ observance-noted name.Rdate v had h =
     (h.0, h.1, h.2, h.3, All-append IsSoundLocal had.rdates (locals_of v.value) h.4 (locals-sound _ values))
 observance-noted _ v had h = h
 
-local-test : (local : Local) → IsSoundLocal local → is_stamp_local local ≡ true
-local-test local h = grind (arith, ints)
-
 rule-sound : (o : Option RuleParts) → IfSome o IsDaily → is_finer_rule o ≡ false
 rule-sound (Some rule) h = h
 rule-sound None h = refl
@@ -261,11 +256,13 @@ rule-sound None h = refl
 pub observance-sound : (had : ObservanceBuilder) → IsSoundBegun had → IsSoundObservance (observance_ended had)
 observance-sound had h = record {
   bounds = record {
-    start_in = unwrapped IsSoundLocal had.start (local_at (pos 0) 0) h.0 day-zero;
-    from_in = unwrapped (IsWithin 86_399) had.from (pos 0) h.1 zero-within;
-    to_in = unwrapped (IsWithin 86_399) had.to (pos 0) h.2 zero-within;
+    bounds = record {
+      start_in = unwrapped IsSoundLocal had.start (local_at (pos 0) 0) h.0 day-zero;
+      from_in = unwrapped (IsWithin 86_399) had.from (pos 0) h.1 zero-within;
+      to_in = unwrapped (IsWithin 86_399) had.to (pos 0) h.2 zero-within;
+    };
+    rdates_in = h.4;
   };
-  rdates = list_all-from_AllPass is_stamp_local had.rdates (All-weaker IsSoundLocal (λ l. is_stamp_local l ≡ true) local-test had.rdates h.4);
   daily = rule-sound had.rule h.3;
 }
 

@@ -1,6 +1,6 @@
 -- What holds of what has ended, where no fault stands on its lines.
-use Rattle.std.specs.Prelude.{◌≡◌, ◌≢◌, ℕ, true, false, [], IfSome, List, IsTrue, is_some}
-use Rattle.std.specs.List.{All, list_all}
+use Rattle.std.specs.Prelude.{◌≡◌, ◌≢◌, ℕ, true, false, [], IfSome, List, is_some}
+use Rattle.std.specs.List.{All}
 use Rattle.ics_values.specs.Stamps.{stamp_day}
 use Rattle.ics_values.specs.Zoned.{is_zoned}
 use Rattle.ics_fields.specs.Days.{IsStampDay}
@@ -11,17 +11,15 @@ use Rattle.ics_values.specs.declared.time.Rdate.TheVariants.{At, Span}
 use Rattle.ics_values.specs.declared.time.Time.{Time}
 use Rattle.ics_components.specs.declared.event_fields.EventFields.{EventFields}
 use Rattle.ics_components.specs.Values.{is_lasting, is_filled, ends_badly}
-use Rattle.ics_fields.specs.Observances.{ObservanceSaid, IsObservanceSaid, has_finer_rule}
-use Rattle.ics_fields.specs.Years.{is_stamp_local}
+use Rattle.ics_fields.specs.Observances.{ObservanceSaid, IsObservance, has_finer_rule}
 use Rattle.ics_components.specs.declared.deferred_check.DeferredCheck.{DeferredCheck}
 use Rattle.ics_components.specs.SecondRound.{time_zone, zone_check, ends_in}
 
 -- A TIME ZONE (RFC 5545, section 3.6.5).
 
--- Its DTSTART and its RDATEs are of the years 0001 to 9899, its offsets less than a day, and its rule no finer than daily.
+-- It is within the bounds of an observance, and its rule no finer than daily.
 pub record IsSoundObservance (observance : ObservanceSaid) : Type 0 where
-  pub bounds : IsObservanceSaid observance
-  pub rdates : IsTrue (list_all is_stamp_local observance.rdates)
+  pub bounds : IsObservance observance
   pub daily : has_finer_rule observance ≡ false
 
 -- A time zone has an observance.

@@ -12,11 +12,11 @@ use crate::fault::FaultKind;
 use crate::listed::Listed;
 use crate::name::Name;
 use crate::observance_builder::ObservanceBuilder;
-use crate::observances::ClosedObservance;
 use crate::parsed_file::{CalendarZone, ClosedComponent, LineResult};
 use crate::refused::Refused;
 use crate::tzid::{Tzid, Tzids};
 use ics_text::Content;
+use ics_values::Observance;
 use std::alloc::Global;
 
 /// What has been read of a component so far, by where its lines stand.
@@ -33,7 +33,7 @@ pub enum Builder {
 #[derive(Drop)]
 pub struct ZoneBuilder {
     pub name: Option<Tzid>,
-    pub observances: Listed<ClosedObservance>,
+    pub observances: Listed<Observance>,
 }
 
 impl ZoneBuilder {

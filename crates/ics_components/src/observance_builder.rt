@@ -4,7 +4,7 @@ ghost use Rattle.ics_components.specs.Builders.{observance_of};
 ghost use Rattle.ics_components.specs.Faults.{observance_reading};
 ghost use Rattle.ics_components.specs.Lines.{Gives, Keeps, Notes, is_mark, line_fault, end_fault, unfit, observance_has, observance_property};
 ghost use Rattle.ics_components.specs.Lines.{with_observed, observance_note, joined, line_result};
-ghost use Rattle.ics_components.specs.declared.builder.Builder.TheVariants.{Observance};
+ghost use Rattle.ics_components.specs.declared.builder.Builder.TheVariants as builder;
 ghost use Rattle.ics_components.specs.declared.parsed_file.ClosedComponent.TheVariants.{Nothing};
 
 use crate::builder::Builder;
@@ -12,13 +12,13 @@ use crate::event_fields::keep_first;
 use crate::fault::FaultKind;
 use crate::listed::Listed;
 use crate::name::Name;
-use crate::observances::{ClosedObservance, read_locals};
+use crate::observances::read_locals;
 use crate::parsed_file::LineResult;
 use crate::refused::Refused;
 use crate::rule_value::daily_in;
 use crate::time::local;
 use ics_text::Content;
-use ics_values::{KeptRule, Local, read_offset};
+use ics_values::{KeptRule, Local, Observance, read_offset};
 use std::alloc::{AllocError, Global};
 
 /// The value of each property that an observance has once, and the values of all its RDATEs.
@@ -97,7 +97,7 @@ impl ObservanceBuilder {
         content: &Content<'_>,
     ) -> Result<ObservanceProperty, Refused>
         requires { is_mark name ≡ false }
-        ensures { Gives result (line_fault name content.now (Observance self.now)) (observance_property name content.now.value) }
+        ensures { Gives result (line_fault name content.now (builder.Observance self.now)) (observance_property name content.now.value) }
     {
         let property = ObservanceProperty::read(alloc, name, content.value())?;
         if !self.has(name) {
@@ -128,7 +128,7 @@ impl ObservanceBuilder {
     /// One line more of an observance.
     pub fn line(&mut self, alloc: Global, name: Name, content: &Content<'_>) -> Result<(), Refused>
         requires { is_mark name ≡ false }
-        ensures { Keeps result self.new (line_fault name content.now (Observance self.old)) (observance_note name content.now self.old) }
+        ensures { Keeps result self.new (line_fault name content.now (builder.Observance self.old)) (observance_note name content.now self.old) }
     {
         let property = self.property(alloc, name, content)?;
         self.keep(property)?;
@@ -138,18 +138,18 @@ impl ObservanceBuilder {
     /// Goes at its END to the time zone in which it stands.
     #[tactic(auto, unfolding(crate::specs::Lines::least_fault))]
     pub fn join(self, outer: &mut Builder) -> Result<LineResult, Refused>
-        ensures { Notes result outer.new (end_fault true (Observance self)) (joined outer.old (Observance self)) (line_result Nothing None) }
+        ensures { Notes result outer.new (end_fault true (builder.Observance self)) (joined outer.old (builder.Observance self)) (line_result Nothing None) }
     {
         let (Some(start), Some(offset_from), Some(offset_to)) = (self.start, self.from, self.to)
         else {
             return Err(Refused::Fault(FaultKind::ObservanceField));
         };
-        let observance = ClosedObservance {
+        let observance = Observance {
             start,
             offset_from,
             offset_to,
             rule: self.rule,
-            rdates: self.rdates,
+            rdates: self.rdates.values,
         };
         if let Builder::Zone(zone) = outer {
             zone.observances.values.push(observance)?;

@@ -7,7 +7,7 @@ ghost use Rattle.ics_components.specs.declared.parsed_file.ClosedComponent.TheVa
 use crate::deferred_check::{DeferredCheck, ZoneName};
 use crate::event_fields::EventFields;
 use crate::listed::Listed;
-use crate::observances::ClosedObservance;
+use ics_values::Observance;
 use std::alloc::{AllocError, Global};
 use std::marker::Model;
 
@@ -15,7 +15,7 @@ use std::marker::Model;
 #[derive(Drop)]
 pub struct CalendarZone {
     pub name: ZoneName,
-    pub observances: Listed<ClosedObservance>,
+    pub observances: Listed<Observance>,
 }
 
 /// An event that has ended, as its lines give it, and the number of the BEGIN line of its calendar.

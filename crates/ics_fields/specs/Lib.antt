@@ -5,5 +5,4 @@ pub mod Locals
 pub mod Sets
 pub mod Ordinals
 pub mod RuleParts
-pub mod Years
 pub mod Observances

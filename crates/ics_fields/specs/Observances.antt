@@ -1,5 +1,5 @@
 -- What an observance of a VTIMEZONE says (RFC 5545, section 3.6.5).
-use Rattle.std.specs.Prelude.{Bool, true, false, List, Option, Some, None, ℤ}
+use Rattle.std.specs.Prelude.{Bool, true, false, List, Option, Some, None, ℤ, All}
 use Rattle.jiff_core.specs.Calendar.{IsWithin}
 use Rattle.ics_fields.specs.Days.{IsStampDay}
 use Rattle.ics_fields.specs.RuleParts.{RuleParts}
@@ -20,6 +20,11 @@ pub record IsObservanceSaid (p : ObservanceSaid) : Type 0 where
   pub start_in : IsStampDay p.start.day
   pub from_in : IsWithin 86_399 p.offset_from
   pub to_in : IsWithin 86_399 p.offset_to
+
+-- the same, and its RDATEs are of these years
+pub record IsObservance (p : ObservanceSaid) : Type 0 where
+  pub bounds : IsObservanceSaid p
+  pub rdates_in : All (λ (rdate : Local). IsStampDay rdate.day) p.rdates
 
 -- the rule repeats more often than daily
 abbrev pub is_finer_than_daily : Frequency → Bool

@@ -11,7 +11,6 @@ use Rattle.ics_event.specs.Event.{stamp_seconds}
 use Rattle.ics_zone.specs.Inner.FileBounds.{rule_short, file_reading_short}
 use Rattle.ics_zone.specs.Moments.{IsMomentBy, zone_moment}
 use Rattle.ics_zone.specs.Inner.MomentSearch.{moment_found}
-use Rattle.ics_zone.specs.Observances.{observances_said}
 use Rattle.ics_zone.specs.Inner.ZoneBounds.{zone_short}
 use Rattle.ics_zone.specs.ZoneOffsets.{zone_offset}
 use Rattle.ics_zone.specs.ZoneSaid.{jiff_said, said_moment, zone_said}
@@ -59,8 +58,8 @@ short-jiff (Table table) x = less x _ (file_reading_short table x)
 short-zone : (zone : ZoneKind) → IsShort (zone_clock (zone_said zone))
 unfolding said_moment
 short-zone (ByObservances observances) x =
-    short-by (zone_offset (observances_said observances)) (zone_short observances) x (zone_moment (observances_said observances) x)
-    (moment_found (zone_offset (observances_said observances)) (zone_short observances) x)
+    short-by (zone_offset observances.said.items) (zone_short observances) x (zone_moment observances.said.items x)
+    (moment_found (zone_offset observances.said.items) (zone_short observances) x)
 short-zone (ByJiff zone) x = short-jiff zone x
 
 short-at : (zones : List ZoneKind) (zone : Option ℕ) → IsShort (clock_at (map zone_clock (map zone_said zones)) zone)

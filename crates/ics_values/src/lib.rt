@@ -9,6 +9,7 @@ mod halves;
 mod integer;
 mod kept_rule;
 mod laws;
+mod observance;
 mod offset;
 mod part_name;
 mod period;
@@ -30,6 +31,7 @@ pub use ics_fields::{
 pub use integer::{IntegerFault, read_integer};
 pub use kept_rule::KeptRule;
 pub use laws::{dates_of_the_calendar, escapes_undone, times_of_a_day};
+pub use observance::Observance;
 pub use offset::{BadOffset, read_offset};
 pub use part_name::is_word;
 pub use period::{Period, PeriodEnd, PeriodFault, read_period};

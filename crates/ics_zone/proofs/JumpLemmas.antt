@@ -8,13 +8,13 @@ use Rattle.std.proofs.lemmas.List.Elements.{All-push}
 use Rattle.std.proofs.lemmas.Option.{slice_get_within}
 use Rattle.ics_zone.specs.declared.latest.Latest.{Latest}
 use Rattle.ics_zone.specs.declared.latest.Steady.{Steady}
-use Rattle.ics_zone.specs.declared.observance.Observance.{Observance}
+use Rattle.ics_zone.specs.declared.zone_observances.ZoneObservances.{ZoneObservances}
 use Rattle.ics_zone.specs.declared.onsets.Onsets.{Onsets}
-use Rattle.ics_zone.specs.Observances.{ObservanceSaid, observances_said}
+use Rattle.ics_zone.specs.Observances.{ObservanceSaid}
 use Rattle.ics_zone.specs.ZoneOffsets.{natural, IsOnset, IsInForce, IsBeforeAll, IsOffset, zone_offset, IsNotLater}
 use Rattle.ics_zone.specs.Moments.{shown, IsFirstTime}
 use Rattle.ics_zone.specs.Inner.ZoneOnsets.{HaveOffsets, IsKnown, IsLatest, IsLatestOf, IsFirstOffset, IsNextPast, IsClear, IsJump, IsSteady, IsOverridden}
-use Rattle.ics_zone.specs.Inner.ZoneBounds.{zone_facts, zone_short}
+use Rattle.ics_zone.specs.Inner.ZoneBounds.{zone_short}
 use Rattle.ics_zone.specs.Inner.Searches.{natural-is}
 use Rattle.ics_zone.proofs.OnsetLemmas.{offset_found}
 use Rattle.ics_zone.proofs.Cases.{less_or_not_z}
@@ -49,12 +49,12 @@ module _ (offset : ℤ → ℤ) (local : ℤ) (skipped : (t : ℤ) → shown off
     pub earlier_at_next : shown offset next ≤ℤ local → (s : ℤ) → s ≤ℤ next → shown offset s <ℤ local
     earlier_at_next not_later s l = let low = before s in grind (arith, ints, less_or_not_z, unless_later)
 
-module _ (observances : List Observance) (some : 0 < length (observances_said observances)) where
+module _ (observances : ZoneObservances) (some : 0 < length observances.said.items) where
   abbrev zone : List ObservanceSaid
-  zone = observances_said observances
+  zone = observances.said.items
 
   pub is_offset : (t : ℤ) → IsOffset zone t (zone_offset zone t)
-  is_offset t = offset_found zone (zone_facts observances) t (λ e. let none = ap length e in omega (arith, some, none))
+  is_offset t = offset_found zone observances.in_bounds t (λ e. let none = ap length e in omega (arith, some, none))
 
   -- what is in force, and what is before all onsets, gives the offset
   pub in_force_is : (t : ℤ) (p : ObservanceSaid) → IsInForce zone t p → p.offset_to ≡ zone_offset zone t
@@ -147,9 +147,9 @@ pub past_clear : (zone : List ObservanceSaid) (local after next : ℤ) → IsNex
 past_clear zone local after next none i s p h late early past = absurd (let low = none i s p h late early in omega (arith, ints))
 
 -- a local is shown once where the offset holds within a day of it
-pub shown_once : {from next value : ℤ} (observances : List Observance) (local : ℤ) → IsSteady (zone_offset (observances_said observances)) from next value
+pub shown_once : {from next value : ℤ} (observances : ZoneObservances) (local : ℤ) → IsSteady (zone_offset observances.said.items) from next value
     → from ≤ℤ (local -ℤ pos 86_400) → (local +ℤ pos 86_400) <ℤ next
-    → IsFirstTime (zone_offset (observances_said observances)) local (local -ℤ value)
+    → IsFirstTime (zone_offset observances.said.items) local (local -ℤ value)
 shown_once {value = value} observances local steady low high =
     let here = steady local (omega (arith, ints)) (omega (arith, ints)) in
     let bound = zone_short observances local in

@@ -9,9 +9,9 @@ use Rattle.std.proofs.lemmas.List.{get_or_default}
 use Rattle.std.proofs.lemmas.List.Elements.{Contains-append_left, Contains-get_or, Contains-push, Contains-push_cases}
 use Rattle.std.proofs.lemmas.List.Sorted.{IsPermutation-sym, Contains-permutation}
 use Rattle.std.proofs.lemmas.Option.{slice_get_within}
-use Rattle.ics_zone.specs.declared.observance.Observance.{Observance}
+use Rattle.ics_zone.specs.declared.zone_observances.ZoneObservances.{ZoneObservances}
 use Rattle.ics_zone.specs.declared.onsets.Onsets.{Onsets}
-use Rattle.ics_zone.specs.Observances.{ObservanceSaid, observances_said}
+use Rattle.ics_zone.specs.Observances.{ObservanceSaid}
 use Rattle.ics_zone.specs.Inner.OnsetSets.{Has}
 use Rattle.ics_zone.specs.Inner.Marks.{IsAsked}
 use Rattle.ics_zone.specs.ZoneOffsets.{IsNotLater, IsOnset, zone_offset}
@@ -168,10 +168,10 @@ module _ {zone : List ObservanceSaid} {list : List ℤ} {k : ℕ} {last at next 
     place_inside = let w = slice_get_within zone place onset_there.0 onset_there.1.0.0 in let same = all.same_length in omega (arith, w, same)
 
 -- up to the onset after it its offset holds
-pub steady_from : (observances : List Observance) {list : List ℤ} {k : ℕ} {last at next : ℤ} {place : ℕ} {onsets : List Onsets} {o : Onsets}
-    → 0 < length (observances_said observances) → IsListed (observances_said observances) list k last at next place
-    → AreOnsetsOfAll (observances_said observances) onsets → o ≡ get_or onsets place o
-    → IsSteady (zone_offset (observances_said observances)) at next o.offset_to
+pub steady_from : (observances : ZoneObservances) {list : List ℤ} {k : ℕ} {last at next : ℤ} {place : ℕ} {onsets : List Onsets} {o : Onsets}
+    → 0 < length observances.said.items → IsListed observances.said.items list k last at next place
+    → AreOnsetsOfAll observances.said.items onsets → o ≡ get_or onsets place o
+    → IsSteady (zone_offset observances.said.items) at next o.offset_to
 steady_from observances {at = at} {place = place} some h all at_place u low high =
     let here = onset_there h in
     (onsets_at all (place_inside h all) at_place here.0 here.1.0.0).to ∙ in_force_is observances some u here.0 (record {

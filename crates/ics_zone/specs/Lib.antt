@@ -11,4 +11,3 @@ pub mod ZoneFileFaults
 pub mod ZoneSaid
 pub mod OnsetLaws
 pub mod Inner
-pub use Rattle.ics_fields.specs.Years

@@ -1,30 +1,23 @@
 -- When the observances of a VTIMEZONE begin (RFC 5545, section 3.6.5).
-use Rattle.std.specs.Prelude.{◌≡◌, ℕ, Bool, true, false, ◌&&◌, ◌||◌, ◌==◌, List, map, Option, Some, None, slice_get, int_le, ℤ, pos, negsuc, ◌+ℤ◌, ◌-ℤ◌}
+use Rattle.std.specs.Prelude.{◌≡◌, ℕ, Bool, true, false, ◌&&◌, ◌||◌, ◌==◌, List, Option, Some, None, slice_get, int_le, ℤ, pos, negsuc, ◌+ℤ◌, ◌-ℤ◌}
 use Rattle.std.specs.List.{list_any}
 use Rattle.ics_fields.specs.declared.local.Local.{Local}
 use Rattle.ics_fields.specs.RuleParts.{RuleParts}
-pub use Rattle.ics_fields.specs.Observances.{ObservanceSaid, IsObservanceSaid, is_finer_than_daily, is_finer_rule, has_finer_rule}
+pub use Rattle.ics_fields.specs.Observances.{ObservanceSaid, IsObservanceSaid, IsObservance, is_finer_than_daily, is_finer_rule, has_finer_rule}
 use Rattle.ics_rule.specs.declared.kind.Kind.TheVariants.{DateTime}
 use Rattle.ics_rule.specs.Recurrence.{Recurrence}
 use Rattle.ics_fields.specs.Locals.{number, year_number}
 use Rattle.ics_rule.specs.Kept.{is_kept, until_moment}
-use Rattle.ics_zone.specs.declared.observance.Observance.{Observance}
+use Rattle.std.specs.Coded.{Π_prop}
+use Rattle.std.proofs.Props.{props}
 
-abbrev pub observance_said : Observance → ObservanceSaid
-observance_said o = record {
-  start = o.start;
-  offset_from = o.offset_from;
-  offset_to = o.offset_to;
-  rule = o.rule;
-  rdates = o.rdates.items;
-}
-
--- what the observances of a zone say
-abbrev pub observances_said : List Observance → List ObservanceSaid
-observances_said observances = map observance_said observances
-
+-- each observance of a zone is within its bounds
 abbrev pub IsZone : List ObservanceSaid → Type 0
 IsZone zone = (i : ℕ) (p : ObservanceSaid) → slice_get zone i ≡ Some p → IsObservanceSaid p
+
+-- there is at most one proof of that
+pub zone-prop : (zone : List ObservanceSaid) → IsProp (IsZone zone)
+zone-prop zone = Π_prop λ i. Π_prop λ p. Π_prop λ e. hlevel props
 
 -- the seconds from 0000-01-01 to 1970-01-01
 abbrev pub epoch : ℕ

@@ -5,7 +5,7 @@ use Rattle.jiff.specs.Words.{nanos_of_seconds}
 use Rattle.jiff_tz.specs.PosixText.{TzText, tz_view}
 use Rattle.jiff_tz.specs.Tzif.{tzif_view}
 use Rattle.jiff_tz.specs.TzifReader.{TzifText}
-use Rattle.ics_zone.specs.Observances.{ObservanceSaid, observances_said}
+use Rattle.ics_zone.specs.Observances.{ObservanceSaid}
 use Rattle.ics_zone.specs.ZoneOffsets.{zone_offset}
 use Rattle.ics_zone.specs.Moments.{zone_moment}
 use Rattle.ics_zone.specs.ZoneFiles.{rule_type, rule_reading, file_offset, file_moment, zone_file}
@@ -30,7 +30,7 @@ abbrev pub display_said : Display → ZoneSaid
 display_said display = jiff_said display.zone
 
 abbrev pub zone_said : ZoneKind → ZoneSaid
-zone_said (kind.ByObservances observances) = ByObservances (observances_said observances)
+zone_said (kind.ByObservances observances) = ByObservances observances.said.items
 zone_said (kind.ByJiff zone) = jiff_said zone
 
 -- the zone says what jiff reads of these bytes

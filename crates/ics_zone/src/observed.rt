@@ -2,8 +2,8 @@
 ghost use Rattle.std.specs.Prelude.{◌≡◌, ◌≢◌, ◌↔◌, ◌<◌, length, ◌<ℤ◌, ◌≤ℤ◌, ◌+ℤ◌, ◌-ℤ◌, ℤ, pos, []};
 ghost use Rattle.std.specs.Prelude.{Err, IsTrue, IfSome, Ok, IfOk, MatchBool, MatchOption, true, false};
 ghost use Rattle.std.specs.Int.{int_max, int_min};
-ghost use Rattle.std.specs.List.{list_any};
-ghost use Rattle.ics_zone.specs.Observances.{observance_said, observances_said, has_finer_rule};
+ghost use Rattle.std.specs.List.{All, list_any};
+ghost use Rattle.ics_zone.specs.Observances.{has_finer_rule, IsObservance};
 ghost use Rattle.jiff_core.specs.Calendar.{IsWithin};
 ghost use Rattle.ics_zone.specs.Seconds.{IsDay, IsMoment};
 ghost use Rattle.ics_fields.specs.Locals.{seconds_at};
@@ -19,8 +19,10 @@ use crate::latest::{
 use crate::onsets::Onsets;
 use crate::table::{next_of, onset_of, table_of};
 use crate::walk::{Told, gap_at_end, step, walk_to};
-use crate::{Observance, ZoneFault};
+use crate::zone_fault::ZoneFault;
+use crate::zone_observances::ZoneObservances;
 use ics_fields::{Frequency, Local, Moment};
+use ics_values::Observance;
 use std::alloc::{AllocError, Global};
 use std::marker::Model;
 
@@ -66,7 +68,7 @@ const BLOCKS: i64 = 6;
 /// the observances alone.
 #[derive(Drop)]
 pub struct Observed {
-    observances: Vec<Observance>,
+    observances: ZoneObservances,
     onsets: Vec<Onsets>,
     /// How many seconds back the search for an onset goes at first.
     ago: i64,
@@ -81,17 +83,15 @@ pub struct Observed {
 }
 
 impl Model for Observed {
-    ghost use Rattle.std.specs.Prelude.{List};
-    ghost use Rattle.ics_zone.specs.declared.observance.Observance.{Observance};
+    ghost use Rattle.ics_zone.specs.declared.zone_observances.ZoneObservances.{ZoneObservances};
 
-    ghost Value = { List Observance };
+    ghost Value = { ZoneObservances };
 
-    ghost use Rattle.ics_zone.specs.Observances.{observances_said};
     ghost use Rattle.ics_zone.specs.Inner.ZoneOnsets.{IsKnown};
 
-    ghost view = { λ z. z.observances.items };
+    ghost view = { λ z. z.observances };
 
-    ghost invariant = { λ z. IsKnown (observances_said z.observances.items) z.onsets.items z.offsets.items z.held.items };
+    ghost invariant = { λ z. IsKnown z.observances.said.items z.onsets.items z.offsets.items z.held.items };
 }
 
 impl Observed {
@@ -101,9 +101,10 @@ impl Observed {
 
     /// The zone of these observances. `NoObservance` if there is none, `ZoneRule` if one repeats more often than daily, else `Memory` if an allocation fails.
     pub fn read(alloc: Global, observances: Vec<Observance>) -> Result<Observed, ZoneFault>
-        ensures observances { IfOk result (λ zone. zone ≡ observances.items) }
+        requires { All IsObservance observances.items }
+        ensures observances { IfOk result (λ zone. zone.said.items ≡ observances.items) }
         ensures none { (result ≡ Err ZoneFault.NoObservance) ↔ (observances.items ≡ []) }
-        ensures fine { (result ≡ Err ZoneFault.ZoneRule) ↔ IsTrue (list_any has_finer_rule (observances_said observances.items)) }
+        ensures fine { (result ≡ Err ZoneFault.ZoneRule) ↔ IsTrue (list_any has_finer_rule observances.items) }
     {
         if observances.is_empty() {
             return Err(ZoneFault::NoObservance);
@@ -120,8 +121,9 @@ impl Observed {
         let ago = least_ago(&onsets);
         let at_once = spans_at_once(observances.len(), offsets.len());
         let room = onsets_listed(observances.len());
+        let zone = ZoneObservances { said: observances };
         Ok(Observed {
-            observances,
+            observances: zone,
             onsets,
             ago,
             at_once,
@@ -157,8 +159,8 @@ impl Observed {
     /// The offset at an instant, in seconds: TZOFFSETTO of the greatest onset that is not after it or, before all onsets, TZOFFSETFROM of the
     /// least.
     pub fn offset(&self, moment: Moment) -> i32
-        ensures means { IsOffset (observances_said self.now) moment result }
-        ensures value { result ≡ zone_offset (observances_said self.now) moment }
+        ensures means { IsOffset self.now.said.items moment result }
+        ensures value { result ≡ zone_offset self.now.said.items moment }
     {
         let mut place = 0;
         match self.held_over(moment, moment) {
@@ -170,8 +172,8 @@ impl Observed {
     /// The first instant at which the clock shows the local. If there is none, the local read with the offset before the gap.
     pub fn moment(&self, local: Local) -> Moment
         requires { IsDay local.day }
-        ensures means { IsMomentOf (observances_said self.now) (seconds_at local.day local.second) result }
-        ensures value { result ≡ zone_moment (observances_said self.now) (seconds_at local.day local.second) }
+        ensures means { IsMomentOf self.now.said.items (seconds_at local.day local.second) result }
+        ensures value { result ≡ zone_moment self.now.said.items (seconds_at local.day local.second) }
     {
         let seconds = seconds_of(local);
         if let Some(moment) = self.held_moment(seconds) {
@@ -251,7 +253,7 @@ impl Observed {
     // The same, given the table of these onsets.
     fn hold_table(&mut self, table: &[i64], last: Moment)
         requires last { IsSearched last }
-        requires table { (from : ℤ) × IsTable (observances_said self.old) from last table.now }
+        requires table { (from : ℤ) × IsTable self.old.said.items from last table.now }
         ensures { self.new ≡ self.old }
     {
         for k in 0..table.len() {
@@ -266,8 +268,8 @@ impl Observed {
     fn span_from(&self, table: &[i64], k: usize, last: Moment) -> Steady
         requires last { IsSearched last }
         requires inside { k < length table.now }
-        requires table { (from : ℤ) × IsTable (observances_said self.now) from last table.now }
-        ensures { IsSteady (zone_offset (observances_said self.now)) result.from result.next result.offset }
+        requires table { (from : ℤ) × IsTable self.now.said.items from last table.now }
+        ensures { IsSteady (zone_offset self.now.said.items) result.from result.next result.offset }
     {
         let (at, place) = onset_of(table[k]);
         let next = next_of(table, k, last);
@@ -280,7 +282,7 @@ impl Observed {
 
     // Holds a span, if no allocation fails.
     fn hold_span(&mut self, span: Steady)
-        requires { IsSteady (zone_offset (observances_said self.old)) span.from span.next span.offset }
+        requires { IsSteady (zone_offset self.old.said.items) span.from span.next span.offset }
         ensures { self.new ≡ self.old }
     {
         self.held.push(span).ok();
@@ -358,7 +360,7 @@ impl Observed {
         ensures low { pos 0 ≤ℤ result }
         ensures high { result ≤ℤ pos 86_400 }
     {
-        for observance in &self.observances {
+        for observance in &self.observances.said {
             if observance.rule.is_some() {
                 return DAY;
             }
@@ -368,9 +370,9 @@ impl Observed {
 
     // A held span that reaches from one instant to another.
     fn held_over(&self, from: Moment, to: Moment) -> Option<Steady>
-        ensures some { 0 < length (observances_said self.now) }
+        ensures some { 0 < length self.now.said.items }
         ensures over { IfSome result (λ s. (s.from ≤ℤ from) × (to <ℤ s.next)) }
-        ensures steady { IfSome result (λ s. IsSteady (zone_offset (observances_said self.now)) s.from s.next s.offset) }
+        ensures steady { IfSome result (λ s. IsSteady (zone_offset self.now.said.items) s.from s.next s.offset) }
     {
         let begun = self.held.partition_point(|span| span.from <= from);
         if begun == 0 {
@@ -387,7 +389,7 @@ impl Observed {
     // The instant that a local means, given by its seconds, if the spans within a day of it are held.
     fn held_moment(&self, seconds: i64) -> Option<Moment>
         requires bound { IsMoment seconds }
-        ensures { IfSome result (IsMomentOf (observances_said self.now) seconds) }
+        ensures { IfSome result (IsMomentOf self.now.said.items seconds) }
     {
         let mut walk = walk_to(seconds);
         let begun = self.held.partition_point(|span| span.from <= walk.low);
@@ -407,7 +409,7 @@ impl Observed {
     // The span about an instant, from one onset to the next. None if no onset is before the instant.
     fn steady_about(&self, near: Moment) -> Option<Steady>
         requires { IsSearched near }
-        ensures { IfSome result (λ s. IsSteady (zone_offset (observances_said self.now)) s.from s.next s.offset) }
+        ensures { IfSome result (λ s. IsSteady (zone_offset self.now.said.items) s.from s.next s.offset) }
     {
         let latest = self.latest_about(near)?;
         let next = next_onset(&self.onsets, near, near + AHEAD);
@@ -421,7 +423,7 @@ impl Observed {
     // The greatest onset that is not after an instant. It is at the instant, if the span before is held and ends there.
     fn latest_about(&self, near: Moment) -> Option<Latest>
         requires { IsSearched near }
-        ensures { IsLatestOf (observances_said self.now) near (length (observances_said self.now)) result }
+        ensures { IsLatestOf self.now.said.items near (length self.now.said.items) result }
     {
         if self.held_over(near - 1, near - 1).is_some() {
             let latest = latest_within(&self.onsets, near - 1, near);
@@ -434,8 +436,8 @@ impl Observed {
 
     // The offset at an instant, by the observances. The place becomes that of the observance in force.
     fn offset_of_latest(&self, moment: Moment, place: &mut usize) -> i32
-        ensures means { IsOffset (observances_said self.now) moment result }
-        ensures value { result ≡ zone_offset (observances_said self.now) moment }
+        ensures means { IsOffset self.now.said.items moment result }
+        ensures value { result ≡ zone_offset self.now.said.items moment }
     {
         match latest_of(&self.onsets, self.ago, moment) {
             Some(latest) => {
@@ -448,7 +450,7 @@ impl Observed {
 
     // Whether the zone has an offset at an instant. The hint is the place of an observance that was in force at another instant.
     fn has_offset(&self, moment: Moment, offset: i32, hint: &mut usize) -> bool
-        ensures { MatchBool result (zone_offset (observances_said self.now) moment ≡ offset) (zone_offset (observances_said self.now) moment ≢ offset) }
+        ensures { MatchBool result (zone_offset self.now.said.items moment ≡ offset) (zone_offset self.now.said.items moment ≢ offset) }
     {
         if let Some(held) = self.held_over(moment, moment) {
             return held.offset == offset;
@@ -463,7 +465,7 @@ impl Observed {
     fn steady_to(&self, to: Moment) -> Option<Steady>
         requires { IsSearched to }
         ensures to { IfSome result (λ s. to <ℤ s.next) }
-        ensures steady { IfSome result (λ s. IsSteady (zone_offset (observances_said self.now)) s.from s.next s.offset) }
+        ensures steady { IfSome result (λ s. IsSteady (zone_offset self.now.said.items) s.from s.next s.offset) }
     {
         let latest = latest_of(&self.onsets, self.ago, to)?;
         Some(Steady {
@@ -477,7 +479,7 @@ impl Observed {
     fn steady_over(&self, from: Moment, to: Moment) -> Option<Steady>
         requires { IsSearched to }
         ensures over { IfSome result (λ s. (s.from ≤ℤ from) × (to <ℤ s.next)) }
-        ensures steady { IfSome result (λ s. IsSteady (zone_offset (observances_said self.now)) s.from s.next s.offset) }
+        ensures steady { IfSome result (λ s. IsSteady (zone_offset self.now.said.items) s.from s.next s.offset) }
     {
         if let Some(held) = self.held_over(from, to) {
             return Some(held);
@@ -493,7 +495,7 @@ impl Observed {
     // The instant of a local, if the offset does not change within a day of it.
     fn steady_time(&self, seconds: i64) -> Option<Moment>
         requires bound { IsMoment seconds }
-        ensures { IfSome result (IsFirstTime (zone_offset (observances_said self.now)) seconds) }
+        ensures { IfSome result (IsFirstTime (zone_offset self.now.said.items) seconds) }
     {
         let steady = self.steady_over(seconds - DAY, seconds + DAY)?;
         Some(seconds - i64::from(steady.offset))
@@ -503,8 +505,8 @@ impl Observed {
     fn shown_with(&self, seconds: i64, offset: i32, hint: &mut usize) -> Option<Moment>
         requires bound { IsMoment seconds }
         ensures { MatchOption result
-            (zone_offset (observances_said self.now) (seconds -ℤ offset) ≢ offset)
-            (λ t. (t ≡ seconds -ℤ offset) × (zone_offset (observances_said self.now) t ≡ offset)) }
+            (zone_offset self.now.said.items (seconds -ℤ offset) ≢ offset)
+            (λ t. (t ≡ seconds -ℤ offset) × (zone_offset self.now.said.items t ≡ offset)) }
     {
         let moment = seconds - i64::from(offset);
         if self.has_offset(moment, offset, hint) {
@@ -518,8 +520,8 @@ impl Observed {
     fn first_time(&self, seconds: i64) -> Option<Moment>
         requires { IsMoment seconds }
         ensures { MatchOption result
-            ((t : ℤ) → shown (zone_offset (observances_said self.now)) t ≢ seconds)
-            (IsFirstTime (zone_offset (observances_said self.now)) seconds) }
+            ((t : ℤ) → shown (zone_offset self.now.said.items) t ≢ seconds)
+            (IsFirstTime (zone_offset self.now.said.items) seconds) }
     {
         if let Some(moment) = self.steady_time(seconds) {
             return Some(moment);
@@ -543,8 +545,8 @@ impl Observed {
     fn is_past(&self, seconds: i64, moment: Moment) -> bool
         requires { IsSearched moment }
         ensures { MatchBool result
-            (seconds <ℤ shown (zone_offset (observances_said self.now)) moment)
-            (shown (zone_offset (observances_said self.now)) moment ≤ℤ seconds) }
+            (seconds <ℤ shown (zone_offset self.now.said.items) moment)
+            (shown (zone_offset self.now.said.items) moment ≤ℤ seconds) }
     {
         moment + i64::from(self.offset(moment)) > seconds
     }
@@ -555,11 +557,11 @@ impl Observed {
         requires bound { IsMoment seconds }
         requires low { (seconds -ℤ pos 86_400) ≤ℤ after }
         requires high { after ≤ℤ (seconds +ℤ pos 86_401) }
-        requires skipped { (t : ℤ) → shown (zone_offset (observances_said self.now)) t ≢ seconds }
-        requires earlier { (t : ℤ) → t ≤ℤ after → shown (zone_offset (observances_said self.now)) t <ℤ seconds }
+        requires skipped { (t : ℤ) → shown (zone_offset self.now.said.items) t ≢ seconds }
+        requires earlier { (t : ℤ) → t ≤ℤ after → shown (zone_offset self.now.said.items) t <ℤ seconds }
         ensures low { after ≤ℤ result }
         ensures high { result ≤ℤ (seconds +ℤ pos 86_401) }
-        ensures earlier { (t : ℤ) → t ≤ℤ result → shown (zone_offset (observances_said self.now)) t <ℤ seconds }
+        ensures earlier { (t : ℤ) → t ≤ℤ result → shown (zone_offset self.now.said.items) t <ℤ seconds }
     {
         let clear = clear_after(&self.onsets, seconds, after);
         (after + clear).min(seconds + DAY + 1)
@@ -570,11 +572,11 @@ impl Observed {
         requires bound { IsMoment seconds }
         requires low { (seconds -ℤ pos 86_400) ≤ℤ after }
         requires high { after ≤ℤ (seconds +ℤ pos 86_401) }
-        requires skipped { (t : ℤ) → shown (zone_offset (observances_said self.now)) t ≢ seconds }
-        requires earlier { (t : ℤ) → t ≤ℤ after → shown (zone_offset (observances_said self.now)) t <ℤ seconds }
+        requires skipped { (t : ℤ) → shown (zone_offset self.now.said.items) t ≢ seconds }
+        requires earlier { (t : ℤ) → t ≤ℤ after → shown (zone_offset self.now.said.items) t <ℤ seconds }
         ensures low { after ≤ℤ result }
         ensures high { result ≤ℤ (seconds +ℤ pos 86_401) }
-        ensures earlier { (t : ℤ) → t ≤ℤ result → shown (zone_offset (observances_said self.now)) t <ℤ seconds }
+        ensures earlier { (t : ℤ) → t ≤ℤ result → shown (zone_offset self.now.said.items) t <ℤ seconds }
     {
         let mut at = after;
         while at <= seconds + DAY {
@@ -590,10 +592,10 @@ impl Observed {
     // The instant at which the clock jumps over a local that it never shows: the first onset that shows a later one.
     fn jump(&self, seconds: i64) -> Moment
         requires bound { IsMoment seconds }
-        requires skipped { (t : ℤ) → shown (zone_offset (observances_said self.now)) t ≢ seconds }
+        requires skipped { (t : ℤ) → shown (zone_offset self.now.said.items) t ≢ seconds }
         ensures low { (seconds -ℤ pos 86_400) ≤ℤ result }
         ensures high { result ≤ℤ (seconds +ℤ pos 86_401) }
-        ensures jump { IsJump (zone_offset (observances_said self.now)) seconds result }
+        ensures jump { IsJump (zone_offset self.now.said.items) seconds result }
     {
         let mut after = seconds - DAY;
         while after <= seconds + DAY {
@@ -610,8 +612,8 @@ impl Observed {
     // The instant of a local that the clock skips: it is read with the offset before the gap.
     fn across_gap(&self, seconds: i64) -> Moment
         requires bound { IsMoment seconds }
-        requires skipped { (t : ℤ) → shown (zone_offset (observances_said self.now)) t ≢ seconds }
-        ensures { IsInGap (zone_offset (observances_said self.now)) seconds result }
+        requires skipped { (t : ℤ) → shown (zone_offset self.now.said.items) t ≢ seconds }
+        ensures { IsInGap (zone_offset self.now.said.items) seconds result }
     {
         let past = self.jump(seconds);
         seconds - i64::from(self.offset(past - 1))
@@ -640,7 +642,8 @@ fn earlier(first: Option<Moment>, second: Moment) -> Moment
 
 // The onsets of each observance.
 fn onsets_of(alloc: Global, observances: &[Observance]) -> Result<Vec<Onsets>, AllocError>
-    ensures { IfOk result (λ onsets. AreOnsetsOfAll (observances_said observances.now) onsets.items) }
+    requires { All IsObservance observances.now }
+    ensures { IfOk result (λ onsets. AreOnsetsOfAll observances.now onsets.items) }
 {
     let mut all = Vec::with_capacity(alloc, observances.len())?;
     for observance in observances {
@@ -700,7 +703,7 @@ fn clipped(span: Steady, from: Moment, end: Moment) -> Steady
 
 // The offsets before and after the onsets, each of them once, the greatest first.
 fn offsets_of(alloc: Global, observances: &[Observance]) -> Result<Vec<i32>, AllocError>
-    ensures { IfOk result (λ offsets. HaveOffsets offsets.items (observances_said observances.now)) }
+    ensures { IfOk result (λ offsets. HaveOffsets offsets.items observances.now) }
 {
     let mut offsets = Vec::new(alloc);
     for observance in observances {
@@ -722,7 +725,7 @@ fn seconds_of(local: Local) -> i64
 
 // Whether one of the observances repeats more often than daily.
 fn any_is_finer(observances: &[Observance]) -> bool
-    ensures { result ≡ list_any has_finer_rule (observances_said observances.now) }
+    ensures { result ≡ list_any has_finer_rule observances.now }
 {
     observances
         .iter()
@@ -731,12 +734,12 @@ fn any_is_finer(observances: &[Observance]) -> bool
 
 // Whether an observance repeats more often than daily.
 fn is_finer_than_daily(observance: &Observance) -> bool
-    ensures { result ≡ has_finer_rule (observance_said observance.now) }
+    ensures { result ≡ has_finer_rule observance.now }
 {
     match &observance.rule {
         None => false,
-        Some(parts) => matches!(
-            parts.frequency(),
+        Some(rule) => matches!(
+            rule.parts().frequency(),
             Frequency::Secondly | Frequency::Minutely | Frequency::Hourly
         ),
     }

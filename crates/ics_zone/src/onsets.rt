@@ -5,15 +5,15 @@ ghost use Rattle.std.specs.Option.{option_map};
 ghost use Rattle.jiff_core.specs.Calendar.{IsWithin};
 ghost use Rattle.ics_fields.specs.Days.{IsStampDay};
 ghost use Rattle.ics_rule.specs.Kept.{until_moment};
-ghost use Rattle.ics_zone.specs.Observances.{ObservanceSaid, is_until, observance_said, rule_from};
+ghost use Rattle.ics_zone.specs.Observances.{ObservanceSaid, IsObservance, is_until, rule_from};
 ghost use Rattle.ics_zone.specs.Inner.Latest.{IsInOrder, IsPassed, IsLast, IsLastOf, IsLastAfter};
 ghost use Rattle.ics_zone.specs.Inner.OnsetSets.{IsShownTo, IsKeptAt, Has, IsSound, AreOnsetsOf, IsListing, IsEnd, held_rule};
 
-use crate::Observance;
 use crate::clock::{RULES_END, instant, shown_by};
 use crate::kept::{last_between, last_kept, last_of_all, next_kept};
 use ics_fields::{BitSet, Frequency, Local, Moment, Parts};
 use ics_rule::{Kind, Rule};
+use ics_values::Observance;
 use std::alloc::{AllocError, Global};
 
 const DAY: u64 = 86_400;
@@ -57,9 +57,10 @@ fn size_of(part: BitSet) -> u64 {
 
 // About how many seconds are between two onsets of a rule: a period, divided by the number of times of a day that the rule lists.
 fn spacing(observance: &Observance) -> u64 {
-    let Some(parts) = &observance.rule else {
+    let Some(rule) = &observance.rule else {
         return u64::MAX;
     };
+    let parts = rule.parts();
     let days: u64 = match parts.frequency() {
         Frequency::Yearly => 366,
         Frequency::Monthly => 31,
@@ -115,14 +116,15 @@ fn end_of(parts: &Parts, start: Local, offset_from: i32) -> Moment
 
 // The rule of an observance, from its DTSTART on and without COUNT, and the last instant at which it may have an onset.
 fn rule_of(observance: &Observance) -> (Option<Rule>, Moment)
+    requires { IsObservance observance.now }
     ensures rule { result.0 ≡ option_map (held_rule observance.now.start) observance.now.rule }
     ensures end { IfSome (option_map (rule_from observance.now.start) observance.now.rule) (IsEnd observance.now.offset_from result.1) }
 {
-    let Some(parts) = &observance.rule else {
+    let Some(rule) = &observance.rule else {
         return (None, Moment::MAX);
     };
-    let until = end_of(parts, observance.start, observance.offset_from);
-    let mut held = *parts;
+    let until = end_of(rule.parts(), observance.start, observance.offset_from);
+    let mut held = *rule.parts();
     held.remove_count();
     (
         Some(Rule::new(held, observance.start, Kind::DateTime)),
@@ -132,7 +134,8 @@ fn rule_of(observance: &Observance) -> (Option<Rule>, Moment)
 
 // The instants of DTSTART and of the RDATEs, in order.
 fn listed(alloc: Global, observance: &Observance) -> Result<Vec<Moment>, AllocError>
-    ensures { IfOk result (λ listed. IsListing (observance_said observance.now) listed.items) }
+    requires { IsObservance observance.now }
+    ensures { IfOk result (λ listed. IsListing observance.now listed.items) }
 {
     let mut listed = Vec::new(alloc);
     listed.push(instant(observance.offset_from, observance.start.number()))?;
@@ -146,7 +149,8 @@ fn listed(alloc: Global, observance: &Observance) -> Result<Vec<Moment>, AllocEr
 impl Onsets {
     /// The onsets of an observance.
     pub fn of(alloc: Global, observance: &Observance) -> Result<Onsets, AllocError>
-        ensures { IfOk result (AreOnsetsOf (observance_said observance.now)) }
+        requires { IsObservance observance.now }
+        ensures { IfOk result (AreOnsetsOf observance.now) }
     {
         let listed = listed(alloc, observance)?;
         let (rule, until) = rule_of(observance);

@@ -14,10 +14,9 @@ pub(crate) struct SharedObserved {
 }
 
 impl Model for SharedObserved {
-    ghost use Rattle.std.specs.Prelude.{List};
-    ghost use Rattle.ics_zone.specs.declared.observance.Observance.{Observance};
+    ghost use Rattle.ics_zone.specs.declared.zone_observances.ZoneObservances.{ZoneObservances};
 
-    ghost Value = { List Observance };
+    ghost Value = { ZoneObservances };
 
     ghost view = { λ a. a.zone.value };
 }

@@ -1,17 +1,18 @@
 //! Time zones: those of VTIMEZONEs, and those of zone files.
 ghost use Rattle.std.specs.Prelude.{◌≡◌, ◌↔◌, ◌<◌, length, [], Err, IsTrue, Ok, IfOk, None};
-ghost use Rattle.std.specs.List.{list_any};
+ghost use Rattle.std.specs.List.{All, list_any};
 ghost use Rattle.jiff_core.specs.declared.error.TzifFault.{TzifFault};
 ghost use Rattle.jiff_tz.specs.TzifReader.{read_tzif};
-ghost use Rattle.ics_zone.specs.Observances.{observances_said, has_finer_rule};
+ghost use Rattle.ics_zone.specs.Observances.{has_finer_rule, IsObservance};
 ghost use Rattle.ics_zone.specs.Seconds.{IsDay, IsMoment};
 ghost use Rattle.ics_fields.specs.Locals.{seconds_at};
 
 use crate::jiff_zone::JiffZone;
 use crate::observed::Observed;
 use crate::shared_observed::SharedObserved;
-use crate::{Observance, Place, ZoneFault, ZoneFile, ZoneFileFault};
+use crate::{Place, ZoneFault, ZoneFile, ZoneFileFault};
 use ics_fields::{Local, Moment};
+use ics_values::Observance;
 use std::alloc::{AllocError, Global};
 use std::marker::Model;
 
@@ -47,11 +48,13 @@ impl Zone {
     ghost use Rattle.ics_zone.specs.ZoneFiles.{zone_file};
     ghost use Rattle.ics_zone.specs.ZoneSaid.{ZoneSaid, zone_said, IsZoneOf};
 
-    /// The zone of these observances. `NoObservance` if there is none, `ZoneRule` if one repeats more often than daily, else `Memory` if an allocation fails.
+    /// The zone of these observances, whose locals are in the years 0001 to 9899 and whose offsets are less than a day either way. `NoObservance` if
+    /// there is none, `ZoneRule` if one repeats more often than daily, else `Memory` if an allocation fails.
     pub fn read(alloc: Global, observances: Vec<Observance>) -> Result<Zone, ZoneFault>
-        ensures observances { IfOk result (λ zone. zone ≡ ZoneKind.ByObservances observances.items) }
+        requires { All IsObservance observances.items }
+        ensures observances { IfOk result (λ zone. zone_said zone ≡ ZoneSaid.ByObservances observances.items) }
         ensures none { (result ≡ Err ZoneFault.NoObservance) ↔ (observances.items ≡ []) }
-        ensures fine { (result ≡ Err ZoneFault.ZoneRule) ↔ IsTrue (list_any has_finer_rule (observances_said observances.items)) }
+        ensures fine { (result ≡ Err ZoneFault.ZoneRule) ↔ IsTrue (list_any has_finer_rule observances.items) }
     {
         match Observed::read(alloc, observances) {
             Ok(observed) => match SharedObserved::new(alloc, observed) {

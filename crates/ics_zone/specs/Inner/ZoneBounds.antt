@@ -1,9 +1,9 @@
 -- A time zone changes an instant or a local by less than two days, and one of observances by a day or less.
-use Rattle.std.proofs.Common.{◌≡◌, zero, suc, inl, inr, true, Option, Some, None, slice_get, List, [], ◌∷◌, length, ℤ, pos, ◌-ℤ◌, arith, refl}
+use Rattle.std.proofs.Common.{◌≡◌, inl, inr, true, Option, Some, None, slice_get, List, length, ℤ, pos, ◌-ℤ◌, arith, refl}
 use Rattle.std.proofs.lemmas.Int.{ints}
 use Rattle.jiff_core.specs.Calendar.{IsWithin}
-use Rattle.ics_zone.specs.declared.observance.Observance.{Observance}
-use Rattle.ics_zone.specs.Observances.{ObservanceSaid, observance_said, observances_said, IsObservanceSaid, IsZone, is_onset}
+use Rattle.ics_zone.specs.declared.zone_observances.ZoneObservances.{ZoneObservances}
+use Rattle.ics_zone.specs.Observances.{ObservanceSaid, IsObservanceSaid, IsZone, is_onset}
 use Rattle.ics_zone.specs.ZoneOffsets.{instant, instants_to, if_onset, last_at, first_at, in_force, last_midnight, earliest}
 use Rattle.ics_zone.specs.ZoneOffsets.{offset_by, zone_offset}
 use Rattle.ics_zone.specs.Moments.{IsMomentBy, zone_moment}
@@ -46,17 +46,11 @@ module _ (zone : List ObservanceSaid) (facts : IsZone zone) where
       by None (Some p) is least = (least p refl).from_in
       by None None is least = (omega (arith, ints), omega (arith, ints))
 
--- the observances of the program are so
-pub zone_facts : (observances : List Observance) → IsZone (observances_said observances)
-zone_facts [] i p e = absurd (cc)
-zone_facts (o ∷ observances) zero p e = let same : observance_said o ≡ p = cc in
-    rw (← same) (record { start_in = o.start_in; from_in = o.from_in; to_in = o.to_in })
-zone_facts (o ∷ observances) (suc i) p e = zone_facts observances i p e
+-- the observances of a zone are so
+pub zone_short : (zone : ZoneObservances) (t : ℤ) → IsWithin 86_399 (zone_offset zone.said.items t)
+zone_short zone = zone_offset_short zone.said.items zone.in_bounds
 
-pub zone_short : (zone : List Observance) (t : ℤ) → IsWithin 86_399 (zone_offset (observances_said zone) t)
-zone_short zone = zone_offset_short (observances_said zone) (zone_facts zone)
-
-pub zone_offset_near : (zone : List Observance) (t : ℤ) → IsNear (zone_offset (observances_said zone) t)
+pub zone_offset_near : (zone : ZoneObservances) (t : ℤ) → IsNear (zone_offset zone.said.items t)
 zone_offset_near zone t = let bound = zone_short zone t in (omega (arith, ints), omega (arith, ints))
 
 -- the instant of a local is near it
@@ -64,9 +58,9 @@ moment_near_by : (offset : ℤ → ℤ) (short : (t : ℤ) → IsWithin 86_399 (
 moment_near_by offset short local t (inl h) = let bound = short t in (omega (arith, ints), omega (arith, ints))
 moment_near_by offset short local t (inr h) = let bound = short (h.past -ℤ pos 1) in (omega (arith, ints), omega (arith, ints))
 
-pub zone_moment_near : (zone : List Observance) (local : ℤ) → IsNear (zone_moment (observances_said zone) local -ℤ local)
-zone_moment_near zone local = moment_near_by (zone_offset (observances_said zone)) (zone_short zone) local (zone_moment (observances_said zone) local)
-    (moment_found (zone_offset (observances_said zone)) (zone_short zone) local)
+pub zone_moment_near : (zone : ZoneObservances) (local : ℤ) → IsNear (zone_moment zone.said.items local -ℤ local)
+zone_moment_near zone local = moment_near_by (zone_offset zone.said.items) (zone_short zone) local (zone_moment zone.said.items local)
+    (moment_found (zone_offset zone.said.items) (zone_short zone) local)
 
 pub said_offset_near : (zone : ZoneKind) (t : ℤ) → IsNear (said_offset (zone_said zone) t)
 unfolding said_offset

@@ -1,7 +1,6 @@
 use Rattle.std.proofs.Common.{rules, arith, ◌≡◌, pos, ◌-ℤ◌, w64, to_z, of_z}
 use Rattle.std.proofs.lemmas.Int.{ints, to_z-of_z}
 use Rattle.ics_zone.specs.ZoneOffsets.{zone_offset}
-use Rattle.ics_zone.specs.Observances.{observances_said}
 use Rattle.ics_zone.specs.Inner.ZoneBounds.{zone_short}
 use Rattle.ics_zone.proofs.observed.Observed.across_gap.Goals as goal
 
@@ -9,6 +8,6 @@ pub returns : goal.returns
 returns c =
     let at : to_z w64 (of_z w64 (to_z w64 (of_z w64 c.jump-past.result) -ℤ pos 1)) ≡ c.jump-past.result -ℤ pos 1 = omega (arith, ints) in
     let short = zone_short c.args.self.now (c.jump-past.result -ℤ pos 1) in
-    let before : c.offset.result ≡ zone_offset (observances_said c.args.self.now) (c.jump-past.result -ℤ pos 1) = search (rules, at, c.offset.ensures.value) in
+    let before : c.offset.result ≡ zone_offset c.args.self.now.said.items (c.jump-past.result -ℤ pos 1) = search (rules, at, c.offset.ensures.value) in
     let jump = simp (to_z-of_z, c.ranges.seconds) at c.jump-past.ensures.jump in
     record { skipped = c.requires.skipped; past = c.jump-past.result; is_later = jump.is_later; first = jump.first; before = omega (arith, ints) }

@@ -1,5 +1,4 @@
 use Rattle.std.proofs.lemmas.Int.{to_z-of_z}
-use Rattle.ics_zone.specs.Observances.{observances_said}
 use Rattle.ics_zone.proofs.ZoneSteps.{all_sound}
 use Rattle.ics_zone.proofs.JumpLemmas.{overridden_other}
 use Rattle.ics_zone.proofs.observed.Observed.has_offset.Goals as goal
@@ -12,4 +11,4 @@ returns-then-overrides c =
     let known = rw c.self.view_is at c.self.invariant in
     let over = rw c.deref.ensures.value at (simp (to_z-of_z, c.ranges.moment, c.ranges.offset) at c.overrides.ensures) in
     overridden_other c.args.self.now known.some c.args.moment c.args.offset
-    (over c.if-overrides.true (observances_said c.args.self.now) known.asked)
+    (over c.if-overrides.true c.args.self.now.said.items known.asked)

@@ -2,7 +2,6 @@ use Rattle.std.proofs.Common.{rules, arith, ℤ, pos, ◌+ℤ◌, ◌<ℤ◌, SF
 use Rattle.std.proofs.lemmas.Int.{ints, to_z-of_z}
 use Rattle.ics_zone.specs.Moments.{shown}
 use Rattle.ics_zone.specs.ZoneOffsets.{zone_offset}
-use Rattle.ics_zone.specs.Observances.{observances_said}
 use Rattle.ics_zone.specs.Inner.ZoneBounds.{zone_short}
 use Rattle.ics_zone.proofs.ZoneSteps.{all_sound}
 use Rattle.ics_zone.proofs.JumpLemmas.{jump_at_next, earlier_at_next, earlier_before_next, past_clear, natural_less}
@@ -20,19 +19,19 @@ pub next_past-after-requires-clause-sound : goal.next_past-after-requires-clause
 next_past-after-requires-clause-sound c = rw c.deref.ensures.value (all_sound _ _ c.self.invariant.asked)
 
 -- before the next onset that shows a later local the clock shows earlier ones
-before_next : (c : After-is_past) (s : ℤ) → s <ℤ c.next_past-after.result → shown (zone_offset (observances_said c.args.self.now)) s <ℤ c.args.seconds
+before_next : (c : After-is_past) (s : ℤ) → s <ℤ c.next_past-after.result → shown (zone_offset c.args.self.now.said.items) s <ℤ c.args.seconds
 before_next c =
     let known = rw c.self.view_is at c.self.invariant in
     let none = rw c.deref.ensures.value at (simp (to_z-of_z, c.ranges.seconds) at c.next_past-after.ensures.next) in
     earlier_before_next c.args.self.now known.some c.args.seconds c.requires.skipped (to_z w64 c.loop-after.after-bits) c.next_past-after.result
     (simp (to_z-of_z, c.ranges.seconds) at c.loop-after.invariant.earlier)
-    (past_clear (observances_said c.args.self.now) c.args.seconds _ _ (none (observances_said c.args.self.now) known.asked))
+    (past_clear c.args.self.now.said.items c.args.seconds _ _ (none c.args.self.now.said.items known.asked))
 
 pub returns-then-is_past-clause-jump : goal.returns-then-is_past-clause-jump
 returns-then-is_past-clause-jump c =
     let next : SFits w64 c.next_past-after.result = search rules in
     rw (to_z-of_z w64 c.next_past-after.result next)
-    (jump_at_next (zone_offset (observances_said c.args.self.now)) c.args.seconds c.requires.skipped c.next_past-after.result
+    (jump_at_next (zone_offset c.args.self.now.said.items) c.args.seconds c.requires.skipped c.next_past-after.result
     (before_next (goal.at.returns-then-is_past-clause-jump c).After-is_past)
     (rw c.if-is_past.true at (simp (to_z-of_z, next, c.ranges.seconds) at c.is_past.ensures)))
 
@@ -49,7 +48,7 @@ pub clear_hours-after-requires-clause-earlier : goal.clear_hours-after-requires-
 clear_hours-after-requires-clause-earlier c =
     let next : SFits w64 c.next_past-after.result = search rules in
     rw (to_z-of_z w64 c.next_past-after.result next, to_z-of_z w64 c.args.seconds c.ranges.seconds)
-    (earlier_at_next (zone_offset (observances_said c.args.self.now)) c.args.seconds c.requires.skipped c.next_past-after.result
+    (earlier_at_next (zone_offset c.args.self.now.said.items) c.args.seconds c.requires.skipped c.next_past-after.result
     (before_next (goal.at.clear_hours-after-requires-clause-earlier c).After-is_past)
     (rw c.if-is_past.false at (simp (to_z-of_z, next, c.ranges.seconds) at c.is_past.ensures)))
 

@@ -1,6 +1,5 @@
 use Rattle.std.proofs.Common.{rules, refl, w32}
 use Rattle.std.proofs.lemmas.Int.{to_z-of_z}
-use Rattle.ics_zone.specs.Observances.{observances_said}
 use Rattle.ics_zone.proofs.ZoneSteps.{all_sound}
 use Rattle.ics_zone.proofs.JumpLemmas.{is_offset, latest_is, none_is}
 use Rattle.ics_zone.proofs.observed.Observed.offset_of_latest.Goals as goal
@@ -16,7 +15,7 @@ returns-in-Some c =
     let known = rw c.self.view_is at c.self.invariant in
     let found = rw c.deref.ensures.value at (simp (to_z-of_z, c.ranges.moment) at c.latest_of.ensures) in
     let value = latest_is c.args.self.now known.some c.args.moment c.in-Some.latest
-    (rw c.in-Some.is at (found (observances_said c.args.self.now) known.asked)) in
+    (rw c.in-Some.is at (found c.args.self.now.said.items known.asked)) in
     rw (to_z-of_z w32 c.in-Some.latest.offset (search rules), value)
     (record { means = is_offset c.args.self.now known.some c.args.moment; value = refl })
 
@@ -26,6 +25,6 @@ returns-in-None c =
     let found = rw c.deref.ensures.value at (simp (to_z-of_z, c.ranges.moment) at c.latest_of.ensures) in
     let first = rw c.deref-in-None.ensures.value at c.first_offset.ensures in
     let value = none_is c.args.self.now known.some c.args.moment c.first_offset.result
-    (rw c.in-None.is at (found (observances_said c.args.self.now) known.asked)) (first (observances_said c.args.self.now) known.asked) in
+    (rw c.in-None.is at (found c.args.self.now.said.items known.asked)) (first c.args.self.now.said.items known.asked) in
     rw (to_z-of_z w32 c.first_offset.result (search rules), value)
     (record { means = is_offset c.args.self.now known.some c.args.moment; value = refl })

@@ -1,13 +1,12 @@
 use Rattle.std.proofs.Common.{rules, arith, get_or, pos, w32, w64}
 use Rattle.std.proofs.lemmas.Int.{to_z-of_z}
-use Rattle.ics_zone.specs.Observances.{observances_said}
 use Rattle.ics_zone.proofs.TableLemmas.{IsListed, place_inside, steady_from}
 use Rattle.ics_zone.proofs.observed.Observed.span_from.Goals as goal
 
 pub index-requires : goal.index-requires
 index-requires c =
     let known = rw c.self.view_is at c.self.invariant in
-    let listed : IsListed (observances_said c.args.self.now) c.args.table.now c.args.k c.args.last c.onset_of-at.result.0 c.next_of-next.result
+    let listed : IsListed c.args.self.now.said.items c.args.table.now c.args.k c.args.last c.onset_of-at.result.0 c.next_of-next.result
     c.onset_of-at.result.1 = record {
       from = c.requires.table.0;
       table = c.requires.table.1;
@@ -22,7 +21,7 @@ index-requires c =
 pub returns : goal.returns
 returns c =
     let known = rw c.self.view_is at c.self.invariant in
-    let listed : IsListed (observances_said c.args.self.now) c.args.table.now c.args.k c.args.last c.onset_of-at.result.0 c.next_of-next.result
+    let listed : IsListed c.args.self.now.said.items c.args.table.now c.args.k c.args.last c.onset_of-at.result.0 c.next_of-next.result
     c.onset_of-at.result.1 = record {
       from = c.requires.table.0;
       table = c.requires.table.1;

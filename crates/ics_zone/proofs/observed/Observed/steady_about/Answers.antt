@@ -1,6 +1,5 @@
 use Rattle.std.proofs.Common.{rules, w32, w64}
 use Rattle.std.proofs.lemmas.Int.{to_z-of_z}
-use Rattle.ics_zone.specs.Observances.{observances_said}
 use Rattle.ics_zone.proofs.ZoneSteps.{all_sound}
 use Rattle.ics_zone.proofs.JumpLemmas.{steady_since}
 use Rattle.ics_zone.proofs.observed.Observed.steady_about.Goals as goal
@@ -18,5 +17,5 @@ returns c =
       to_z-of_z w64 c.in_ok-latest.latest.at (search rules),
       to_z-of_z w32 c.in_ok-latest.latest.offset (search rules),
     )
-    (steady_since c.args.self.now known.some c.args.near c.next_onset-next.result (none (observances_said c.args.self.now) known.asked)
+    (steady_since c.args.self.now known.some c.args.near c.next_onset-next.result (none c.args.self.now.said.items known.asked)
     c.in_ok-latest.latest found)

@@ -1,6 +1,5 @@
 use Rattle.std.proofs.Common.{rules, arith, ◌≡◌, pos, ◌+ℤ◌, w32, w64, to_z, of_z}
 use Rattle.std.proofs.lemmas.Int.{ints, to_z-of_z}
-use Rattle.ics_zone.specs.Observances.{observances_said}
 use Rattle.ics_zone.proofs.ZoneSteps.{all_sound}
 use Rattle.ics_zone.proofs.JumpLemmas.{steady_since}
 use Rattle.ics_zone.proofs.observed.Observed.steady_to.Goals as goal
@@ -15,4 +14,4 @@ returns-clause-steady c =
     let next : to_z w64 (of_z w64 (to_z w64 (of_z w64 c.args.to) +ℤ pos 1)) ≡ c.args.to +ℤ pos 1 = omega (arith, ints) in
     rw (next, to_z-of_z w64 c.in_ok-latest.latest.at (search rules), to_z-of_z w32 c.in_ok-latest.latest.offset (search rules))
     (steady_since c.args.self.now known.some c.args.to (c.args.to +ℤ pos 1) (λ i s p h l. omega (arith, ints))
-    c.in_ok-latest.latest (found (observances_said c.args.self.now) known.asked))
+    c.in_ok-latest.latest (found c.args.self.now.said.items known.asked))

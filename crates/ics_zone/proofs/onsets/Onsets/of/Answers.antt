@@ -9,7 +9,7 @@ use Rattle.ics_fields.specs.RuleParts.{RuleParts}
 use Rattle.ics_fields.specs.Locals.{number}
 use Rattle.ics_rule.specs.Kept.{is_kept}
 use Rattle.ics_zone.specs.declared.onsets.Onsets.{Onsets}
-use Rattle.ics_zone.specs.Observances.{ObservanceSaid, IsObservanceSaid, instant_by, rule_from, is_by_rule, is_onset, observance_said}
+use Rattle.ics_zone.specs.Observances.{ObservanceSaid, IsObservanceSaid, instant_by, rule_from, is_by_rule, is_onset}
 use Rattle.ics_zone.specs.Inner.OnsetSets.{IsKeptBy, AreOnsetsOf, IsListing, IsEnd, is_listed, held_rule}
 use Rattle.ics_zone.proofs.Cases.{int_le_true, true_int_le}
 use Rattle.ics_zone.proofs.EndLemmas.{kept_early}
@@ -92,11 +92,14 @@ module _ (p : ObservanceSaid) (facts : IsObservanceSaid p) (s : Onsets) (from : 
 
 pub returns : goal.returns
 returns c =
-    let from : SFits w32 c.args.observance.now.offset_from = search rules in
-    let to : SFits w32 c.args.observance.now.offset_to = search rules in
+    let from : SFits w32 c.observance.inside.offset_from = search rules in
+    let to : SFits w32 c.observance.inside.offset_to = search rules in
     let until : SFits w64 c.rule_of-rule.result.1 = search rules in
-    let o = c.args.observance.now in
-    rw (to_z-of_z w32 c.args.observance.now.offset_from from, to_z-of_z w32 c.args.observance.now.offset_to to, to_z-of_z w64 c.rule_of-rule.result.1 until)
-    (onsets_made (observance_said o) (record { start_in = o.start_in; from_in = o.from_in; to_in = o.to_in }) _ refl refl c.in_ok-listed.ensures
-    (omega (arith, ints))
-    c.rule_of-rule.ensures.rule c.rule_of-rule.ensures.end)
+    rw (
+      to_z-of_z w32 c.observance.inside.offset_from from,
+      to_z-of_z w32 c.observance.inside.offset_to to,
+      to_z-of_z w64 c.rule_of-rule.result.1 until,
+    )
+    (onsets_made c.args.observance.now c.requires.bounds _ (ap (λ (p : ObservanceSaid). p.offset_from) c.observance.view_is)
+    (ap (λ (p : ObservanceSaid). p.offset_to) c.observance.view_is) c.in_ok-listed.ensures (omega (arith, ints)) c.rule_of-rule.ensures.rule
+    c.rule_of-rule.ensures.end)

@@ -1,8 +1,0 @@
-use Rattle.std.proofs.Common.{arith}
-use Rattle.std.proofs.lemmas.Grind.{common_steps}
-use Rattle.std.proofs.lemmas.List.{take_more_same}
-use Rattle.ics_components.proofs.observances.are_same_locals.Goals as goal
-
-pub loop-k-preserved : goal.loop-k-preserved
-loop-k-preserved c =
-    grind (arith, common_steps, take_more_same c.locals.inside.values.items c.others.inside.values.items c.loop-k.k c.index.result.now)
