@@ -24,7 +24,7 @@ pub fn daily_in(alloc: Global, value: &[u8]) -> Result<KeptRule, Refused>
 {
     let parts = read_rule(value)?;
     if matches!(
-        parts.frequency(),
+        parts.frequency,
         Frequency::Secondly | Frequency::Minutely | Frequency::Hourly
     ) {
         return Err(Refused::Fault(FaultKind::ZoneRule));

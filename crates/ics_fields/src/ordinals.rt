@@ -42,7 +42,7 @@ impl Ordinals {
     }
 
     /// Adds the `n`-th from an end.
-    pub(crate) fn insert(&mut self, side: Side, n: u8)
+    pub fn insert(&mut self, side: Side, n: u8)
         requires { n < 64 }
         ensures { self.new ≡ with_ordinal side n self.old }
     {
@@ -64,7 +64,7 @@ impl WideOrdinals {
     ghost use Rattle.ics_fields.specs.Ordinals.{no_wide_ordinals, lists_none_wide, with_wide_ordinal};
 
     /// No number.
-    pub(crate) fn new() -> WideOrdinals
+    pub fn new() -> WideOrdinals
         ensures { result ≡ no_wide_ordinals }
     {
         WideOrdinals {
@@ -81,7 +81,7 @@ impl WideOrdinals {
     }
 
     /// Adds the `n`-th from an end.
-    pub(crate) fn insert(&mut self, side: Side, n: u16)
+    pub fn insert(&mut self, side: Side, n: u16)
         requires { n < 384 }
         ensures { self.new ≡ with_wide_ordinal side n self.old }
     {
@@ -122,14 +122,14 @@ impl Weekdays {
     }
 
     /// Adds a weekday without a number.
-    pub(crate) fn insert(&mut self, weekday: Weekday)
+    pub fn insert(&mut self, weekday: Weekday)
         ensures { self.new ≡ with_weekday weekday self.old }
     {
         self.plain.insert(weekday.index());
     }
 
     /// Adds a weekday with a number.
-    pub(crate) fn add_numbered(&mut self, weekday: Weekday, side: Side, n: u8)
+    pub fn add_numbered(&mut self, weekday: Weekday, side: Side, n: u8)
         requires { n < 64 }
         ensures { self.new ≡ with_numbered_weekday weekday side n self.old }
     {

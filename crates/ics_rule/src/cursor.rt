@@ -99,7 +99,7 @@ impl Cursor {
             start,
             first: period_of(&rule.whole, start),
         };
-        match rule.parts.count() {
+        match rule.parts.count {
             None => self.walk_freely(&search, stop),
             Some(count) => self.walk_counting(&search, count, stop),
         }
@@ -130,7 +130,8 @@ impl Cursor {
             self.place = place.max(end);
             return None;
         }
-        let stop = end.min(until_end(rule.kind, rule.parts.until()));
+        let parts = &rule.parts;
+        let stop = end.min(until_end(rule.kind, parts.until));
         if stop <= place {
             self.place = place.max(end);
             return None;

@@ -15,15 +15,15 @@ use ics_fields::{BitSet, Frequency, Ordinals, Parts, Weekdays};
 fn names_no_day(parts: &Parts) -> bool
     ensures { result ≡ names_no_day parts.now }
 {
-    parts.month_days().is_empty() & parts.year_days().is_empty() & parts.weekdays().is_empty()
+    parts.month_days.is_empty() & parts.year_days.is_empty() & parts.weekdays.is_empty()
 }
 
 /// Whether the rule takes the day of the month from the start.
 fn takes_month_day(parts: &Parts) -> bool
     ensures { result ≡ takes_month_day parts.now.frequency parts.now }
 {
-    match parts.frequency() {
-        Frequency::Yearly | Frequency::Monthly => names_no_day(parts) & parts.weeks().is_empty(),
+    match parts.frequency {
+        Frequency::Yearly | Frequency::Monthly => names_no_day(parts) & parts.weeks.is_empty(),
         _ => false,
     }
 }
@@ -32,8 +32,8 @@ fn takes_month_day(parts: &Parts) -> bool
 fn takes_month(parts: &Parts) -> bool
     ensures { result ≡ takes_month parts.now.frequency parts.now }
 {
-    match parts.frequency() {
-        Frequency::Yearly => takes_month_day(parts) & parts.months().is_empty(),
+    match parts.frequency {
+        Frequency::Yearly => takes_month_day(parts) & parts.months.is_empty(),
         _ => false,
     }
 }
@@ -42,9 +42,9 @@ fn takes_month(parts: &Parts) -> bool
 fn takes_weekday(parts: &Parts) -> bool
     ensures { result ≡ takes_weekday parts.now.frequency parts.now }
 {
-    match parts.frequency() {
-        Frequency::Yearly => names_no_day(parts) & !parts.weeks().is_empty(),
-        Frequency::Weekly => parts.weekdays().is_empty(),
+    match parts.frequency {
+        Frequency::Yearly => names_no_day(parts) & !parts.weeks.is_empty(),
+        Frequency::Weekly => parts.weekdays.is_empty(),
         _ => false,
     }
 }
@@ -95,7 +95,7 @@ fn month_days(parts: &Parts, day: u8) -> Ordinals
         places.front = BitSet::only(day);
         places
     } else {
-        parts.month_days()
+        parts.month_days
     }
 }
 
@@ -109,7 +109,7 @@ fn weekdays(parts: &Parts, weekday: u8) -> Weekdays
         weekdays.plain = BitSet::only(weekday);
         weekdays
     } else {
-        parts.weekdays()
+        parts.weekdays
     }
 }
 
@@ -123,24 +123,24 @@ pub(crate) fn fill(parts: &Parts, kind: Kind, start: u64) -> EffectiveRule
     let hour = (start / 3_600 % 24) as u8;
     let minute = (start / 60 % 60) as u8;
     let second = (start % 60) as u8;
-    let frequency = parts.frequency();
+    let frequency = parts.frequency;
     let months = if takes_month(parts) {
         BitSet::only(fields.month)
     } else {
-        parts.months()
+        parts.months
     };
     EffectiveRule {
         frequency,
-        interval: parts.interval(),
-        week_start: parts.week_start(),
+        interval: parts.interval,
+        week_start: parts.week_start,
         months,
         month_days: month_days(parts, fields.day),
-        year_days: PlacesPart::new(parts.year_days()),
-        weeks: parts.weeks(),
+        year_days: PlacesPart::new(parts.year_days),
+        weeks: parts.weeks,
         weekdays: WeekdaysPart::new(weekdays(parts, fields.weekday.index())),
-        hours: clock_part(kind, skips_hours(frequency), parts.hours(), hour),
-        minutes: clock_part(kind, skips_minutes(frequency), parts.minutes(), minute),
-        seconds: clock_part(kind, skips_seconds(frequency), parts.seconds(), second),
-        positions: PlacesPart::new(parts.positions()),
+        hours: clock_part(kind, skips_hours(frequency), parts.hours, hour),
+        minutes: clock_part(kind, skips_minutes(frequency), parts.minutes, minute),
+        seconds: clock_part(kind, skips_seconds(frequency), parts.seconds, second),
+        positions: PlacesPart::new(parts.positions),
     }
 }

@@ -81,7 +81,7 @@ impl Rule {
     {
         match self.kind {
             Kind::Date => None,
-            Kind::DateTime => match self.parts.until() {
+            Kind::DateTime => match self.parts.until {
                 Some(Until::Utc(local)) => Some(local.seconds()),
                 _ => None,
             },

@@ -43,7 +43,7 @@ impl Mark {
 pub(crate) fn counted(parts: Parts, mark: Option<Mark>) -> Option<Mark>
     ensures { MatchOption result (Unit {0}) (λ m. (mark ≡ Some m) × (is_some parts.count ≡ true)) }
 {
-    match parts.count() {
+    match parts.count {
         None => None,
         Some(_) => mark,
     }

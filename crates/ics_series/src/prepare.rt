@@ -83,7 +83,7 @@ fn recurs_to(event: &Event) -> Moment {
     let Some(rule) = &event.rule else {
         return Moment::MAX;
     };
-    let day = match rule.parts().until() {
+    let day = match rule.parts().until {
         None => return Moment::MAX,
         Some(Until::Date(day)) => day,
         Some(Until::Local(local) | Until::Utc(local)) => local.day,

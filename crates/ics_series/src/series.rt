@@ -102,7 +102,7 @@ fn starts_by_rule<'a>(
     let from = first_nearby(
         first,
         seconds_back(event),
-        parts.count().is_some(),
+        parts.count.is_some(),
         earliest.max(since.min(late)),
     );
     let mark = counted(parts, mark);

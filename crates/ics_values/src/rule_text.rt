@@ -51,26 +51,38 @@ fn take_item(parts: &mut Parts, list: ListName, item: &[u8]) -> Option<()>
     ensures { Takes (item_taken list parts.old item.now) result parts.new }
 {
     match list {
-        ListName::BySecond => parts.add_second(number_between(item, 0, 60)?.min(59) as u8),
-        ListName::ByMinute => parts.add_minute(number_between(item, 0, 59)? as u8),
-        ListName::ByHour => parts.add_hour(number_between(item, 0, 23)? as u8),
+        ListName::BySecond => {
+            let n = number_between(item, 0, 60)?;
+            parts.seconds.insert(n.min(59) as u8);
+        }
+        ListName::ByMinute => {
+            let n = number_between(item, 0, 59)?;
+            parts.minutes.insert(n as u8);
+        }
+        ListName::ByHour => {
+            let n = number_between(item, 0, 23)?;
+            parts.hours.insert(n as u8);
+        }
         ListName::ByDay => take_day(parts, item)?,
         ListName::ByMonthDay => {
             let (side, n) = read_place(item, 31)?;
-            parts.add_month_day(side, n as u8);
+            parts.month_days.insert(side, n as u8);
         }
         ListName::ByYearDay => {
             let (side, n) = read_place(item, 366)?;
-            parts.add_year_day(side, n);
+            parts.year_days.insert(side, n);
         }
         ListName::ByWeekNo => {
             let (side, n) = read_place(item, 53)?;
-            parts.add_week(side, n as u8);
+            parts.weeks.insert(side, n as u8);
         }
-        ListName::ByMonth => parts.add_month(number_between(item, 1, 12)? as u8),
+        ListName::ByMonth => {
+            let n = number_between(item, 1, 12)?;
+            parts.months.insert(n as u8);
+        }
         ListName::BySetPos => {
             let (side, n) = read_place(item, 366)?;
-            parts.add_position(side, n);
+            parts.positions.insert(side, n);
         }
     }
     Some(())
@@ -82,8 +94,8 @@ fn take_day(parts: &mut Parts, item: &[u8]) -> Option<()>
 {
     let day = read_day_item(item)?;
     match day.place {
-        None => parts.add_weekday(day.weekday),
-        Some((side, n)) => parts.add_numbered_weekday(day.weekday, side, n as u8),
+        None => parts.weekdays.insert(day.weekday),
+        Some((side, n)) => parts.weekdays.add_numbered(day.weekday, side, n as u8),
     }
     Some(())
 }
@@ -106,18 +118,18 @@ impl Draft {
         ensures { Takes (value_taken name value.now self.old) result self.new }
     {
         match name {
-            PartName::Freq => self.parts.set_frequency(read_frequency(value)?),
-            PartName::Until => self.parts.set_until(read_until(value)?),
+            PartName::Freq => self.parts.frequency = read_frequency(value)?,
+            PartName::Until => self.parts.until = Some(read_until(value)?),
             PartName::Count => match read_rule_number(value)? {
-                RuleNumber::Number(n) => self.parts.set_count(n),
+                RuleNumber::Number(n) => self.parts.count = Some(n),
                 RuleNumber::TooLarge => self.too_large = true,
             },
             PartName::Interval => match read_rule_number(value)? {
-                RuleNumber::Number(n) => self.parts.set_interval(n),
+                RuleNumber::Number(n) => self.parts.interval = n,
                 RuleNumber::TooLarge => self.too_large = true,
             },
             PartName::List(list) => take_items(&mut self.parts, list, value)?,
-            PartName::Wkst => self.parts.set_week_start(read_weekday(value)?),
+            PartName::Wkst => self.parts.week_start = read_weekday(value)?,
         }
         Some(())
     }

@@ -739,7 +739,7 @@ fn is_finer_than_daily(observance: &Observance) -> bool
     match &observance.rule {
         None => false,
         Some(rule) => matches!(
-            rule.parts().frequency(),
+            rule.parts().frequency,
             Frequency::Secondly | Frequency::Minutely | Frequency::Hourly
         ),
     }

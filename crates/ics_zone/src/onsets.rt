@@ -61,29 +61,29 @@ fn spacing(observance: &Observance) -> u64 {
         return u64::MAX;
     };
     let parts = rule.parts();
-    let days: u64 = match parts.frequency() {
+    let days: u64 = match parts.frequency {
         Frequency::Yearly => 366,
         Frequency::Monthly => 31,
         Frequency::Weekly => 7,
         _ => 1,
     };
-    let times = size_of(parts.hours())
-        .saturating_mul(size_of(parts.minutes()))
-        .saturating_mul(size_of(parts.seconds()));
+    let times = size_of(parts.hours)
+        .saturating_mul(size_of(parts.minutes))
+        .saturating_mul(size_of(parts.seconds));
     let period = days
         .saturating_mul(DAY)
-        .saturating_mul(u64::from(parts.interval()));
+        .saturating_mul(u64::from(parts.interval));
     period / times.max(1)
 }
 
 // Whether a rule goes by years and lists no days but weekdays, as those of most zones do. Such a rule is searched soon, whether or not it
 // matches.
 fn is_plain(parts: &Parts) -> bool {
-    matches!(parts.frequency(), Frequency::Yearly)
-        & parts.weeks().is_empty()
-        & parts.month_days().is_empty()
-        & parts.year_days().is_empty()
-        & parts.positions().is_empty()
+    matches!(parts.frequency, Frequency::Yearly)
+        & parts.weeks.is_empty()
+        & parts.month_days.is_empty()
+        & parts.year_days.is_empty()
+        & parts.positions.is_empty()
 }
 
 // UNTIL of a rule, if it is there and in UTC, and else a late instant.
@@ -103,7 +103,7 @@ fn end_of(parts: &Parts, start: Local, offset_from: i32) -> Moment
     let rule = Rule::new(*parts, start, Kind::DateTime);
     let until = until_of(&rule);
     let first = start.number();
-    if parts.count().is_some() {
+    if parts.count.is_some() {
         return until.min(instant(offset_from, last_of_all(&rule, first)));
     }
     let after = (first + 1).min(RULES_END as u64);
@@ -125,7 +125,7 @@ fn rule_of(observance: &Observance) -> (Option<Rule>, Moment)
     };
     let until = end_of(rule.parts(), observance.start, observance.offset_from);
     let mut held = *rule.parts();
-    held.remove_count();
+    held.count = None;
     (
         Some(Rule::new(held, observance.start, Kind::DateTime)),
         until,
